@@ -1,0 +1,4 @@
+//! The outside of the program: sources of bytes, drains for bytes and folders of named files, and a reader of lines.
+#![tactic(auto)]
+
+pub mod outside;

@@ -1,0 +1,4 @@
+//! The top call: it reads the command's words and the blueprint, runs it, and writes the report.
+#![tactic(auto)]
+
+mod pass;

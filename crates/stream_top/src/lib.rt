@@ -1,4 +1,6 @@
 //! The top call: it reads the command's words and the blueprint, runs it, and writes the report.
 #![tactic(auto)]
 
-mod pass;
+pub mod outcome;
+mod put;
+mod report;

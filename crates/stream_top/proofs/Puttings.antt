@@ -108,15 +108,22 @@ pub parts_end : {X : Type 0} (f : X → List ℕ) (xs : List X) (i : ℕ) → le
 parts_end f xs i h = ap (flat_map f) (drop_all i xs h)
 
 -- one part more was put
-pub leaves_next : {X : Type 0} (f : X → List ℕ) (xs : List X) (i : ℕ) (d : X) (s t u : DrainState) → i < length xs → Leaves s t (flat_map f xs) (flat_map f (drop i xs)) → Puts t u (f (get_or xs i d)) → Leaves s u (flat_map f xs) (flat_map f (drop (i + 1) xs))
-leaves_next f xs i d s t u h l p =
-    leaves_less s t u (flat_map f xs) (f (get_or xs i d)) (flat_map f (drop (i + 1) xs)) (subst (Leaves s t (flat_map f xs)) (parts_from f xs i d h) l) p
+pub leaves_next : {X : Type 0} (f : X → List ℕ) (xs : List X) (i : ℕ) (d : X) (s t u : DrainState) (whole : List ℕ) → i < length xs → Leaves s t whole (flat_map f (drop i xs)) → Puts t u (f (get_or xs i d)) → Leaves s u whole (flat_map f (drop (i + 1) xs))
+leaves_next f xs i d s t u whole h l p =
+    leaves_less s t u whole (f (get_or xs i d)) (flat_map f (drop (i + 1) xs)) (subst (Leaves s t whole) (parts_from f xs i d h) l) p
 
 -- a write failed in one part
-pub leaves_stop_at : {X : Type 0} (f : X → List ℕ) (xs : List X) (i : ℕ) (d : X) (s t u : DrainState) → i < length xs → Leaves s t (flat_map f xs) (flat_map f (drop i xs)) → PutsPart t u (f (get_or xs i d)) → PutsPart s u (flat_map f xs)
-leaves_stop_at f xs i d s t u h l p =
-    leaves_stop s t u (flat_map f xs) (f (get_or xs i d)) (flat_map f (drop (i + 1) xs)) (subst (Leaves s t (flat_map f xs)) (parts_from f xs i d h) l) p
+pub leaves_stop_at : {X : Type 0} (f : X → List ℕ) (xs : List X) (i : ℕ) (d : X) (s t u : DrainState) (whole : List ℕ) → i < length xs → Leaves s t whole (flat_map f (drop i xs)) → PutsPart t u (f (get_or xs i d)) → PutsPart s u whole
+leaves_stop_at f xs i d s t u whole h l p =
+    leaves_stop s t u whole (f (get_or xs i d)) (flat_map f (drop (i + 1) xs)) (subst (Leaves s t whole) (parts_from f xs i d h) l) p
 
 -- no part is left
-pub leaves_end : {X : Type 0} (f : X → List ℕ) (xs : List X) (i : ℕ) (s t : DrainState) → length xs ≤ i → Leaves s t (flat_map f xs) (flat_map f (drop i xs)) → Puts s t (flat_map f xs)
-leaves_end f xs i s t h l = leaves_none s t (flat_map f xs) (subst (Leaves s t (flat_map f xs)) (parts_end f xs i h) l)
+pub leaves_end : {X : Type 0} (f : X → List ℕ) (xs : List X) (i : ℕ) (s t : DrainState) (whole : List ℕ) → length xs ≤ i → Leaves s t whole (flat_map f (drop i xs)) → Puts s t whole
+leaves_end f xs i s t whole h l = leaves_none s t whole (subst (Leaves s t whole) (parts_end f xs i h) l)
+
+-- the same of the part x that stands there
+pub leaves_item : {X : Type 0} (f : X → List ℕ) (xs : List X) (i : ℕ) (x : X) (s t u : DrainState) (whole : List ℕ) → x ≡ get_or xs i x → i < length xs → Leaves s t whole (flat_map f (drop i xs)) → Puts t u (f x) → Leaves s u whole (flat_map f (drop (i + 1) xs))
+leaves_item f xs i x s t u whole e h l p = leaves_next f xs i x s t u whole h l (subst (λ y. Puts t u (f y)) e p)
+
+pub leaves_stop_item : {X : Type 0} (f : X → List ℕ) (xs : List X) (i : ℕ) (x : X) (s t u : DrainState) (whole : List ℕ) → x ≡ get_or xs i x → i < length xs → Leaves s t whole (flat_map f (drop i xs)) → PutsPart t u (f x) → PutsPart s u whole
+leaves_stop_item f xs i x s t u whole e h l p = leaves_stop_at f xs i x s t u whole h l (subst (λ y. PutsPart t u (f y)) e p)

@@ -41,7 +41,10 @@ fn put_status<D: Drain>(console: &mut D, status: &Status) -> Result<(), Failed>
 {
     match status {
         Status::Done => put_parts(console, &[b"done\n"]),
-        Status::Usage => put_parts(console, &[b"usage: streams (FILE | --gen N) [--workers N] [--turns N] [--trace FILE]\n"]),
+        Status::Usage => put_parts(
+            console,
+            &[b"usage: streams (FILE | --gen N) [--workers N] [--turns N] [--trace FILE]\n"],
+        ),
         Status::Missing(name) => put_parts(console, &[b"missing ", name.bytes(), b"\n"]),
         Status::ReadFault => put_parts(console, &[b"read fault\n"]),
         Status::Unbuilt(n) => {
@@ -53,6 +56,19 @@ fn put_status<D: Drain>(console: &mut D, status: &Status) -> Result<(), Failed>
     }
 }
 
+/// Puts the line of a sink, of whose parts these are the texts.
+fn put_sink_texts<'a, D: Drain>(
+    console: &mut D,
+    name: &'a [u8],
+    end: &'a [u8],
+    count: &'a [u8],
+) -> Result<(), Failed>
+    ensures ok { OnOk result (Puts (D.state console.old) (D.state console.new) (codes "sink " ++ name.now ++ codes " " ++ end.now ++ codes " " ++ count.now ++ codes "\n")) }
+    ensures err { OnErr result (PutsPart (D.state console.old) (D.state console.new) (codes "sink " ++ name.now ++ codes " " ++ end.now ++ codes " " ++ count.now ++ codes "\n")) }
+{
+    put_parts(console, &[b"sink ", name, b" ", end, b" ", count, b"\n"])
+}
+
 /// Puts the line of a sink.
 fn put_sink<D: Drain>(console: &mut D, sink: &SinkEnd) -> Result<(), Failed>
     ensures ok { OnOk result (Puts (D.state console.old) (D.state console.new) (sink_line sink.now)) }
@@ -60,11 +76,15 @@ fn put_sink<D: Drain>(console: &mut D, sink: &SinkEnd) -> Result<(), Failed>
 {
     let mut buffer = Buffer::new();
     let count = buffer.format(sink.count).as_bytes();
-    put_parts(console, &[b"sink ", sink.name.bytes(), b" ", end_word(sink.end), b" ", count, b"\n"])
+    put_sink_texts(console, sink.name.bytes(), end_word(sink.end), count)
 }
 
 /// Puts the report: the line of the status, then one for each sink.
-pub fn put_report<D: Drain>(console: &mut D, status: &Status, sinks: &[SinkEnd]) -> Result<(), Failed>
+pub fn put_report<D: Drain>(
+    console: &mut D,
+    status: &Status,
+    sinks: &[SinkEnd],
+) -> Result<(), Failed>
     ensures ok { OnOk result (Puts (D.state console.old) (D.state console.new) (report_of status.now sinks.now)) }
     ensures err { OnErr result (PutsPart (D.state console.old) (D.state console.new) (report_of status.now sinks.now)) }
 {

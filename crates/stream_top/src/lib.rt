@@ -4,3 +4,4 @@
 pub mod outcome;
 mod put;
 mod report;
+mod text;

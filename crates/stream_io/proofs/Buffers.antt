@@ -1,9 +1,8 @@
 -- Parts of the buffer of a reader of lines that hold no LF.
-use Rattle.std.proofs.Common.{◌≡◌, ◌≢◌, ℕ, ◌+◌, ◌-◌, ◌<◌, ◌≤◌, ⊎_elim, List, ◌++◌, length, take, drop, get_or, slice_range, arith, rules, eq-eqb, sym, ap, subst, refl, ◌∙◌, Option, Some, None, IfSome}
-use Rattle.std.proofs.lemmas.List.{places, take_at, drop-take, drop-drop}
+use Rattle.std.proofs.Common.{◌≡◌, ◌≢◌, ℕ, ◌+◌, ◌-◌, ◌<◌, ◌≤◌, ⊎_elim, List, ◌++◌, length, take, drop, get_or, slice_range, arith, eq-eqb, sym, ap, refl, ◌∙◌, Option, Some, None, IfSome}
+use Rattle.std.proofs.lemmas.List.{places, take_at, drop-take, drop-drop, take-take}
 use Rattle.std.proofs.lemmas.List.Edits.{get_or-between, length-between}
 use Rattle.std.proofs.lemmas.Bool.{cases_lt}
-use Rattle.std.specs.List.{All}
 use Rattle.memchr.specs.Find.{Nowhere, Passes, is_byte}
 use Rattle.std.proofs.lemmas.Slice.{between_from_start}
 use Rattle.std.proofs.Math.Seq.{take-add}
@@ -49,3 +48,9 @@ between-past bytes from past to fits =
     sym (ap (λ (n : ℕ). drop past (take n (drop from bytes))) whole
     ∙ drop-take past (to - (from + past)) (drop from bytes)
     ∙ ap (take (to - (from + past))) (drop-drop past from bytes))
+
+-- the front of the kept bytes is a part of the buffer
+pub take-between : (bytes : List ℕ) (from n to : ℕ) → from + n ≤ to → take n (slice_range bytes from to) ≡ slice_range bytes from (from + n)
+take-between bytes from n to fits =
+    take-take n (to - from) (drop from bytes) (omega arith)
+    ∙ ap (λ (m : ℕ). take m (drop from bytes)) (let m : n ≡ from + n - from = omega arith in m)

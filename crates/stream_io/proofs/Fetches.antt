@@ -1,9 +1,9 @@
 -- What reads leave to draw.
-use Rattle.std.proofs.Common.{◌≡◌, ℕ, ◌+◌, ◌≤◌, List, [], ◌++◌, length, take, drop, Option, Some, None, IsSome, IfSome, unwrap_or, refl, sym, ap, ◌∙◌, subst, arith, rules, append_assoc}
+use Rattle.std.proofs.Common.{◌≡◌, ℕ, ◌+◌, ◌≤◌, List, [], ◌++◌, length, take, drop, Option, Some, None, IsSome, IfSome, unwrap_or, refl, sym, ap, ◌∙◌, subst, arith, append_assoc}
 use Rattle.std.proofs.lemmas.List.{append-nil, take-append-drop, drop-drop, drop_all}
 use Rattle.std.proofs.lemmas.Bool.{false≢true}
 use Rattle.stream_io.specs.State.{SourceState}
-use Rattle.stream_io.specs.Reading.{NoEnd, HoldsEnd, rest, ReadsOn, Fetched, AtEnd}
+use Rattle.stream_io.specs.Reading.{NoEnd, HoldsEnd, ReadsOn, Fetched, AtEnd}
 
 -- without a read all stays
 pub Fetched-none : (s : SourceState) (kept : List ℕ) → Fetched s kept s kept

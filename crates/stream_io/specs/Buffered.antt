@@ -1,5 +1,5 @@
 -- The buffer of a reader of lines.
-use Rattle.std.specs.Prelude.{◌≢◌, ℕ, ◌+◌, ◌<◌, ◌≤◌, List, length, slice_range, slice_index}
+use Rattle.std.specs.Prelude.{◌≢◌, ℕ, ◌+◌, ◌<◌, ◌≤◌, List, length, slice_index}
 
 -- the kept bytes stand in the buffer from `start` to `end`; no LF stands before `scanned`, and no more than one piece behind it
 pub record Buffered (bytes : List ℕ) (start scanned end : ℕ) : Type 0 where

@@ -1,5 +1,6 @@
 // A reader of lines over a source of bytes.
-ghost use Rattle.std.specs.Prelude.{◌≡◌, ◌+◌, ◌<◌, ◌≤◌, ◌-◌, ◌*◌, ◌++◌, [], ◌∷◌, length, take, drop, slice_index, slice_range, vec_len, IsSome, IfOk, OnOk, IfErr, OnErr, IfSome, MatchOption};
+ghost use Rattle.std.specs.Prelude.{◌≡◌, ◌+◌, ◌<◌, ◌≤◌, ◌-◌, ◌*◌, ◌++◌, [], ◌∷◌, length, take, drop, slice_index, slice_range, vec_len, IsTrue, IsSome, IfOk, OnOk, IfErr, OnErr, IfSome, MatchOption};
+ghost use Rattle.elem_core.specs.Line.{has_no_lf};
 ghost use Rattle.elem_core.specs.Text.{lines};
 ghost use Rattle.stream_io.specs.Counts.{Rose};
 ghost use Rattle.stream_io.specs.State.{HandsOut};
@@ -100,7 +101,8 @@ impl<S: Source> LineReader<S> {
     pub fn next(&mut self) -> Result<Option<Line>, LineEnd>
         ensures draws { IfOk result (λ next. IfSome next (λ line. IsSome (S.state self.old.source).whole → Draws (rest (S.state self.old.source) self.old.kept) line (rest (S.state self.new.source) self.new.kept))) }
         ensures line { IfOk result (λ next. IfSome next (λ line. IsSome (S.state self.old.source).whole → lines (rest (S.state self.old.source) self.old.kept) ≡ line ∷ lines (rest (S.state self.new.source) self.new.kept))) }
-        ensures short { IfOk result (λ next. IfSome next (λ line. (length line ≤ 65536) × NoEnd line)) }
+        ensures short { IfOk result (λ next. IfSome next (λ line. length line ≤ 65536)) }
+        ensures no_lf { IfOk result (λ next. IfSome next (λ line. IsTrue (has_no_lf line))) }
         ensures end { result ≡ Ok None → Ended (S.state self.old.source) self.old.kept (S.state self.new.source) self.new.kept }
         ensures too_long { result ≡ Err LineEnd.LineTooLong → IsSome (S.state self.old.source).whole → FirstTooLong (lines (rest (S.state self.old.source) self.old.kept)) }
         ensures too_long_comes { IsSome (S.state self.old.source).whole → FirstTooLong (lines (rest (S.state self.old.source) self.old.kept)) → OnOk result ⊥ }
@@ -223,6 +225,7 @@ impl<S: Source> LineReader<S> {
         requires no_end { NoEnd (take size self.old.kept) }
         requires few { length self.old.kept ≤ past + 4096 }
         ensures line { IfOk result (λ line. line ≡ take size self.old.kept) }
+        ensures no_lf { IfOk result (λ line. IsTrue (has_no_lf line)) }
         ensures kept { OnOk result (self.new.kept ≡ drop past self.old.kept) }
         ensures source { self.new.source ≡ self.old.source }
         ensures err { OnErr result (self.new ≡ self.old) }

@@ -1,6 +1,6 @@
 -- One more read, and the end of the source.
-use Rattle.std.proofs.Common.{◌≡◌, length, arith, rules, refl, ap, ◌∙◌, Ok, ◌+◌, ◌≤◌}
-use Rattle.stream_io.specs.Reading.{NoEnd, HoldsEnd, Fetched, AtEnd}
+use Rattle.std.proofs.Common.{◌≡◌, arith, refl, ap, ◌∙◌, Ok}
+use Rattle.stream_io.specs.Reading.{NoEnd}
 use Rattle.stream_io.proofs.Fetches.{no_end-none, Fetched-read, AtEnd-read}
 use Rattle.stream_io.proofs.line_reader.LineReader.fill.Goals as goal
 

@@ -1,5 +1,5 @@
 -- What the search for LF says of the kept bytes.
-use Rattle.std.proofs.Common.{◌≡◌, ◌+◌, ◌-◌, ◌<◌, ◌≤◌, length, take, slice_range, arith, sym, ap, subst, ℕ, List, rules, refl}
+use Rattle.std.proofs.Common.{◌≡◌, ◌+◌, ◌-◌, length, take, slice_range, arith, subst, ℕ}
 use Rattle.std.proofs.lemmas.List.Edits.{length-between}
 use Rattle.stream_io.specs.Reading.{NoEnd}
 use Rattle.stream_io.proofs.Buffers.{Unended, Unended-searched, NoEnd-part, NoEnd-front}

@@ -1,8 +1,5 @@
 -- The piece that was read stands behind the kept bytes.
-use Rattle.std.proofs.Common.{◌≡◌, ◌+◌, ◌≤◌, ◌-◌, length, take, drop, IfSome, ◌++◌, ℕ, List, arith, rules, refl, ap, ◌∙◌, add-zero}
-use Rattle.std.proofs.lemmas.Grind.{common_steps}
-use Rattle.stream_io.specs.State.{HandsOut}
-use Rattle.stream_io.specs.Reading.{ReadsOn}
+use Rattle.std.proofs.Common.{◌≡◌, ◌+◌, ◌-◌, take, ℕ, arith, ap, ◌∙◌, add-zero}
 use Rattle.stream_io.proofs.Buffers.{ReadsOn-behind, front-given_back}
 use Rattle.stream_io.proofs.line_reader.LineReader.read.Goals as goal
 

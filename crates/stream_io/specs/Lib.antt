@@ -1,2 +1,5 @@
 pub mod State
 pub mod Counts
+pub mod Reading
+pub mod LineFault
+pub mod Buffered

@@ -1,1 +1,3 @@
 pub mod Puttings
+pub mod Texts
+pub mod Quiets

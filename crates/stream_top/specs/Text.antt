@@ -1,5 +1,6 @@
 -- The text of a file that was read to its end, or to one byte past the greatest length of a blueprint.
-use Rattle.std.specs.Prelude.{◌≡◌, ℕ, ◌⊎◌, IsTrue, List, take, Option, Some}
+use Rattle.std.specs.Prelude.{◌≡◌, ℕ, ◌⊎◌, IsTrue, List, take, Some}
+use Rattle.std.specs.Option.{option_map}
 use Rattle.stream_io.specs.Counts.{Rose}
 use Rattle.stream_io.specs.State.{FolderState, SameFiles, Lacks}
 use Rattle.stream_top.specs.Quiet.{Quiet, QuietBut}
@@ -15,9 +16,7 @@ text_of_file whole = take text_limit whole
 -- the file of that name was read, and nothing else came of it
 pub record ReadsFile (old new : FolderState) (name text : List ℕ) : Type 0 where
   pub files : SameFiles old new
-  pub whole : List ℕ
-  pub there : IsTrue new.tells → old.file name ≡ Some whole
-  pub text_is : IsTrue new.tells → text ≡ text_of_file whole
+  pub text_is : IsTrue new.tells → option_map text_of_file (old.file name) ≡ Some text
   pub refusals : Quiet old.refusals new.refusals
   pub rfaults : Quiet old.rfaults new.rfaults
   pub wfaults : Quiet old.wfaults new.wfaults

@@ -1,3 +1,4 @@
 pub mod Puttings
 pub mod Texts
 pub mod Quiets
+pub mod Passing

@@ -17,12 +17,12 @@ pub grew_two : (a b c m n : ℕ) → Grew a m b → Grew b n c → Grew a (m + n
 grew_two a b c m n p q = record {
   stays = omega (arith, p.stays, q.stays);
   grew = λ h.
-    let first : b < last_count → b ≡ a + m = p.grew in
-    let then : c < last_count → c ≡ b + n = q.grew in
-    let stays : b ≤ c = q.stays in
-    let third : c ≡ b + n = then h in
-    let second : b ≡ a + m = first (omega arith) in
-    omega (arith, second, third);
+      let first : b < last_count → b ≡ a + m = p.grew in
+      let then : c < last_count → c ≡ b + n = q.grew in
+      let stays : b ≤ c = q.stays in
+      let third : c ≡ b + n = then h in
+      let second : b ≡ a + m = first (omega arith) in
+      omega (arith, second, third);
 }
 
 pub quiet_same : (f g : List ℕ → ℕ) → ((n : List ℕ) → g n ≡ f n) → Quiet f g
@@ -55,8 +55,9 @@ same_name [] [] = inl refl
 same_name [] (b ∷ bs) = inr (λ e. cc)
 same_name (a ∷ cs) [] = inr (λ e. cc)
 same_name (a ∷ cs) (b ∷ bs) = elim (eqb_tells a b) [
-  inl e ↦ (elim (same_name cs bs) as (λ _. (a ∷ cs ≡ b ∷ bs) ⊎ (a ∷ cs ≢ b ∷ bs)) [ inl f ↦ inl (cc (e.1, f)) | inr differs ↦ inr (λ f. differs (cc)) ]) |
-  inr differs ↦ inr (λ f. differs.1 (cc)) ]
+  | inl e ↦ (elim (same_name cs bs) as (λ _. (a ∷ cs ≡ b ∷ bs) ⊎ (a ∷ cs ≢ b ∷ bs)) [ inl f ↦ inl (cc (e.1, f)) | inr differs ↦ inr (λ f. differs (cc)) ])
+  | inr differs ↦ inr (λ f. differs.1 (cc))
+]
 
 -- a whole that is told gives its text
 text_told : (o w : Option (List ℕ)) (text : List ℕ) → w ≡ o → IsSome o → IfSome w (λ b. text ≡ text_of_file b) → option_map text_of_file o ≡ Some text
@@ -69,8 +70,9 @@ closed_quiet s t u h files faults refusals none closed same = record {
   files = files_two s t u files same;
   refusals = quiet_two _ _ _ (quiet_same _ _ refusals) (quiet_same _ _ closed.refusals);
   rfaults = λ n. elim (same_name n h.name) [
-    inl e ↦ (let grew = grew_two _ _ _ 0 0 (grew_same _ _ (faults.rfaults n)) (subst (λ m. Grew (t.rfaults m) 0 (u.rfaults m)) (sym e) (subst (λ k. Grew (t.rfaults h.name) k (u.rfaults h.name)) none closed.rfaults)) in grew) |
-    inr differs ↦ grew_same _ _ (closed.other_rfaults n differs ∙ faults.rfaults n) ];
+    | inl e ↦ (let grew = grew_two _ _ _ 0 0 (grew_same _ _ (faults.rfaults n)) (subst (λ m. Grew (t.rfaults m) 0 (u.rfaults m)) (sym e) (subst (λ k. Grew (t.rfaults h.name) k (u.rfaults h.name)) none closed.rfaults)) in grew)
+    | inr differs ↦ grew_same _ _ (closed.other_rfaults n differs ∙ faults.rfaults n)
+  ];
   wfaults = quiet_two _ _ _ (quiet_same _ _ faults.wfaults) (quiet_same _ _ closed.wfaults);
 }
 

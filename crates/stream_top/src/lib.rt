@@ -2,6 +2,7 @@
 #![tactic(auto)]
 
 pub mod outcome;
+mod pass;
 mod put;
 mod report;
 mod text;

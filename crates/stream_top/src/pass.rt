@@ -4,6 +4,7 @@ ghost use Rattle.std.specs.Option.{option_to_list};
 ghost use Rattle.elem_core.specs.Tree.{Tree};
 ghost use Rattle.blue_lang.specs.Types.{meets, flows, gives_texts};
 ghost use Rattle.blue_lang.specs.Lists.{list_of, composed};
+ghost use Rattle.blue_lang.specs.declared.kind.Kind.TheVariants.{Take};
 ghost use Rattle.blue_lang.specs.declared.blueprint.Node.{Node as StageNode};
 ghost use Rattle.stream_top.specs.Meeting.{suits, suits_all, texts_after};
 
@@ -44,22 +45,36 @@ fn hand(alloc: Global, kind: &mut Kind, e: Elem) -> Result<Option<Elem>, AllocEr
 }
 
 /// Hands an element to the first stage, what that gives to the next, and so on. Gives what the last one gives, if anything.
-pub fn pass(alloc: Global, stages: &mut Vec<Node>, e: Elem) -> Result<Option<Elem>, AllocError>
-    requires { IsTrue (suits_all e stages.old.items) }
-    ensures law { IfOk result (λ o. (later : List Tree) → composed stages.old.items (e ∷ later) ≡ option_to_list o ++ composed stages.new.items later) }
+pub fn pass(
+    alloc: Global,
+    stages: &mut Vec<Node>,
+    element: Elem,
+) -> Result<Option<Elem>, AllocError>
+    requires { IsTrue (suits_all element stages.old.items) }
+    ensures law { IfOk result (λ o. (later : List Tree) → composed stages.old.items (element ∷ later) ≡ option_to_list o ++ composed stages.new.items later) }
     ensures flows { (texts : Bool) → flows texts stages.new.items ≡ flows texts stages.old.items }
 {
-    let mut e = e;
+    let mut current = element;
     let mut i = 0;
     while i < stages.len() {
         let node = &mut stages[i];
-        match hand(alloc, &mut node.kind, e)? {
-            Some(given) => e = given,
+        match hand(alloc, &mut node.kind, current)? {
+            Some(given) => current = given,
             None => return Ok(None),
         }
         i += 1;
     }
-    Ok(Some(e))
+    Ok(Some(current))
+}
+
+/// Whether a stage is to pass nothing more.
+fn is_used_up(kind: &Kind) -> bool
+    ensures { IsTrue result → kind.now ≡ Take 0 }
+{
+    match kind {
+        Kind::Take(left) => *left == 0,
+        Kind::Map(_) | Kind::Filter(_) => false,
+    }
 }
 
 /// Whether the stages give nothing more, whatever comes.
@@ -67,7 +82,7 @@ pub fn is_spent(stages: &[Node]) -> bool
     ensures { IsTrue result → (later : List Tree) → composed stages.now later ≡ [] }
 {
     for node in stages {
-        if let Kind::Take(0) = node.kind {
+        if is_used_up(&node.kind) {
             return true;
         }
     }

@@ -118,3 +118,7 @@ pub record IsStraight (text : List ℕ) (b : Plain) : Type 0 where
   pub short_lines : All (λ l. length l ≤ 1024) (lines text)
   pub says : lines text ≡ spelling b
   pub keeps : KeepsRules b
+
+-- the text is not in the straight form
+abbrev pub IsNotStraight : List ℕ → Type 0
+IsNotStraight text = (b : Plain) → ¬ (IsStraight text b)

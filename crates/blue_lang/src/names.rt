@@ -1,8 +1,11 @@
 // The words of a blueprint that are not fixed.
 ghost use Rattle.std.specs.Prelude.{◌≡◌};
+ghost use Rattle.std.specs.Char.{is_ascii_graphic};
+ghost use Rattle.std.specs.List.{list_all};
 ghost use Rattle.blue_lang.specs.Names.{is_file_byte, is_file_name, is_name, is_name_byte, is_word};
 
 const NAME_LIMIT: usize = 32;
+
 const FILE_NAME_LIMIT: usize = 64;
 
 /// Whether the bytes are a file name: a letter or a digit, and up to 63 letters, digits, `.`, `_` or `-`. Rule: own.
@@ -11,12 +14,16 @@ pub fn is_file_name(bytes: &[u8]) -> bool
 {
     match bytes.split_first() {
         Some((first, rest)) => {
-            first.is_ascii_alphanumeric()
-                && rest.len() < FILE_NAME_LIMIT
-                && rest.iter().all(|b| is_file_byte(*b))
+            first.is_ascii_alphanumeric() && rest.len() < FILE_NAME_LIMIT && are_file_bytes(rest)
         }
         None => false,
     }
+}
+
+fn are_file_bytes(bytes: &[u8]) -> bool
+    ensures { result ≡ list_all is_file_byte bytes.now }
+{
+    bytes.iter().all(|b| is_file_byte(*b))
 }
 
 fn is_file_byte(byte: u8) -> bool
@@ -31,12 +38,16 @@ pub fn is_name(bytes: &[u8]) -> bool
 {
     match bytes.split_first() {
         Some((first, rest)) => {
-            first.is_ascii_lowercase()
-                && rest.len() < NAME_LIMIT
-                && rest.iter().all(|b| is_name_byte(*b))
+            first.is_ascii_lowercase() && rest.len() < NAME_LIMIT && are_name_bytes(rest)
         }
         None => false,
     }
+}
+
+fn are_name_bytes(bytes: &[u8]) -> bool
+    ensures { result ≡ list_all is_name_byte bytes.now }
+{
+    bytes.iter().all(|b| is_name_byte(*b))
 }
 
 fn is_name_byte(byte: u8) -> bool
@@ -49,5 +60,11 @@ fn is_name_byte(byte: u8) -> bool
 pub(crate) fn is_word(bytes: &[u8]) -> bool
     ensures { result ≡ is_word bytes.now }
 {
-    !bytes.is_empty() && bytes.iter().all(|b| b.is_ascii_graphic())
+    !bytes.is_empty() && are_graphic(bytes)
+}
+
+fn are_graphic(bytes: &[u8]) -> bool
+    ensures { result ≡ list_all is_ascii_graphic bytes.now }
+{
+    bytes.iter().all(|b| b.is_ascii_graphic())
 }

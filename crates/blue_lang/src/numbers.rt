@@ -1,5 +1,7 @@
 // Numbers in their one spelling.
 ghost use Rattle.std.specs.Prelude.{◌≡◌};
+ghost use Rattle.std.specs.Char.{is_ascii_digit};
+ghost use Rattle.std.specs.List.{list_all};
 ghost use Rattle.blue_lang.specs.Reading.{is_canonical, count_of, int_of, below_zero, from_zero};
 
 use crate::cuts::behind;
@@ -25,12 +27,16 @@ fn is_canonical(text: &[u8]) -> bool
 {
     match text.split_first() {
         Some((first, rest)) => {
-            first.is_ascii_digit()
-                && rest.iter().all(|b| b.is_ascii_digit())
-                && (*first != b'0' || rest.is_empty())
+            first.is_ascii_digit() && are_digits(rest) && (*first != b'0' || rest.is_empty())
         }
         None => false,
     }
+}
+
+fn are_digits(text: &[u8]) -> bool
+    ensures { result ≡ list_all is_ascii_digit text.now }
+{
+    text.iter().all(|b| b.is_ascii_digit())
 }
 
 // The number of 64 bits, with a sign where it is below 0.
@@ -56,5 +62,9 @@ fn below_zero(size: u64) -> Option<i64>
 fn from_zero(size: u64) -> Option<i64>
     ensures { result ≡ from_zero size }
 {
-    if size < LEAST_SIZE { Some(size as i64) } else { None }
+    if size < LEAST_SIZE {
+        Some(size as i64)
+    } else {
+        None
+    }
 }

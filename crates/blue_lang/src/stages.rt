@@ -33,13 +33,19 @@ fn read_kind(alloc: Global, texts: bool, text: &[u8]) -> Result<Kind, ParseEnd>
     ensures { Reads (kind_of texts text.now) result }
 {
     if text == b"map len".as_slice() {
-        return if texts { Ok(Kind::Map(MapFn::Len)) } else { Err(ParseEnd::Unbuilt(0)) };
+        return if texts {
+            Ok(Kind::Map(MapFn::Len))
+        } else {
+            Err(ParseEnd::Unbuilt(0))
+        };
     }
     if let Some(pred) = behind(text, b"filter ") {
         return Ok(Kind::Filter(read_pred(alloc, texts, pred)?));
     }
     if let Some(count) = behind(text, b"take ") {
-        return read_count(count).map(Kind::Take).ok_or(ParseEnd::Unbuilt(0));
+        return read_count(count)
+            .map(Kind::Take)
+            .ok_or(ParseEnd::Unbuilt(0));
     }
     Err(ParseEnd::Unbuilt(0))
 }

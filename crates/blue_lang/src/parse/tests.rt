@@ -5,6 +5,7 @@ use std::process::Abort;
 use std::test::Fail;
 
 const HEAD: &str = "streams 1\nsource src lines in.txt\n";
+
 const TAIL: &str = "sink out lines out.txt\n";
 
 // Whether the text is in the straight form.
@@ -29,12 +30,16 @@ fn of_kind(alloc: Global, kind: &str) -> Result<String, AllocError> {
 
 // The text whose stages are named `a` and `b` and are of these kinds.
 fn of_kinds(alloc: Global, first: &str, second: &str) -> Result<String, AllocError> {
-    format!(in alloc; "{HEAD}stage a {first}\nstage b {second}\n{TAIL}wire src.0 -> a.0\nwire a.0 -> b.0\nwire b.0 -> out.0\n")
+    format!(in alloc;
+        "{HEAD}stage a {first}\nstage b {second}\n{TAIL}wire src.0 -> a.0\nwire a.0 -> b.0\nwire b.0 -> out.0\n"
+    )
 }
 
 // The text without stages whose source has this name and whose sink has this file.
 fn of_ends(alloc: Global, name: &str, file: &str) -> Result<String, AllocError> {
-    format!(in alloc; "streams 1\nsource {name} lines in.txt\nsink out lines {file}\nwire {name}.0 -> out.0\n")
+    format!(in alloc;
+        "streams 1\nsource {name} lines in.txt\nsink out lines {file}\nwire {name}.0 -> out.0\n"
+    )
 }
 
 // The text with so many stages.
@@ -66,34 +71,109 @@ fn long_word(alloc: Global, length: usize) -> Result<String, AllocError> {
 fn straight_texts_alone_are_read(rt: HostRuntime) -> Result<(), Fail> {
     let alloc = rt.alloc();
     let whole = [
-        ("streams 1\nsource src lines in.txt\nsink out lines out.txt\nwire src.0 -> out.0\n", true),
-        ("streams 1\nsource src lines in.txt\nsink out lines out.txt\nwire src.0 -> out.0", true),
+        (
+            "streams 1\nsource src lines in.txt\nsink out lines out.txt\nwire src.0 -> out.0\n",
+            true,
+        ),
+        (
+            "streams 1\nsource src lines in.txt\nsink out lines out.txt\nwire src.0 -> out.0",
+            true,
+        ),
         ("", false),
         ("\n", false),
         ("streams 1\n", false),
-        ("streams 2\nsource src lines in.txt\nsink out lines out.txt\nwire src.0 -> out.0\n", false),
-        ("source src lines in.txt\nsink out lines out.txt\nwire src.0 -> out.0\n", false),
-        ("# a\nstreams 1\nsource src lines in.txt\nsink out lines out.txt\nwire src.0 -> out.0\n", false),
-        ("streams 1\n\nsource src lines in.txt\nsink out lines out.txt\nwire src.0 -> out.0\n", false),
-        ("streams 1 \nsource src lines in.txt\nsink out lines out.txt\nwire src.0 -> out.0\n", false),
-        ("streams 1\r\nsource src lines in.txt\nsink out lines out.txt\nwire src.0 -> out.0\n", false),
-        ("streams 1\nsource  src lines in.txt\nsink out lines out.txt\nwire src.0 -> out.0\n", false),
-        ("streams 1\nsource src lines in.txt \nsink out lines out.txt\nwire src.0 -> out.0\n", false),
-        ("streams 1\nsource\tsrc lines in.txt\nsink out lines out.txt\nwire src.0 -> out.0\n", false),
-        ("streams 1\n source src lines in.txt\nsink out lines out.txt\nwire src.0 -> out.0\n", false),
-        ("streams 1\nsink out lines out.txt\nsource src lines in.txt\nwire src.0 -> out.0\n", false),
-        ("streams 1\nsource src lines in.txt\nwire src.0 -> out.0\nsink out lines out.txt\n", false),
-        ("streams 1\nsource src lines in.txt\nsink out lines out.txt\n", false),
-        ("streams 1\nsource src lines in.txt\nsink out lines out.txt\nwire src.0 -> out.0\nwire src.0 -> out.0\n", false),
-        ("streams 1\nsource src lines in.txt\nsink out lines out.txt\nwire src.0 -> out.0\n\n", false),
-        ("streams 1\nsource src lines in.txt\nsink out lines out.txt\nwire src.1 -> out.0\n", false),
-        ("streams 1\nsource src lines in.txt\nsink out lines out.txt\nwire src.0 -> out.1\n", false),
-        ("streams 1\nsource src lines in.txt\nsink out lines out.txt\nwire out.0 -> src.0\n", false),
-        ("streams 1\nsource src lines in.txt\nsink out lines out.txt\nwire src.0 -> out.0 async 1\n", false),
-        ("streams 1\nsource src lines in.txt\nsink src lines out.txt\nwire src.0 -> src.0\n", false),
-        ("streams 1\nsource src lines in.txt\nsink out lines in.txt\nwire src.0 -> out.0\n", false),
-        ("streams 1\nsource src range 1 3\nsink out lines out.txt\nwire src.0 -> out.0\n", false),
-        ("streams 1\nsource src lines in.txt\nsink out head out.txt\nwire src.0 -> out.0\n", false),
+        (
+            "streams 2\nsource src lines in.txt\nsink out lines out.txt\nwire src.0 -> out.0\n",
+            false,
+        ),
+        (
+            "source src lines in.txt\nsink out lines out.txt\nwire src.0 -> out.0\n",
+            false,
+        ),
+        (
+            "# a\nstreams 1\nsource src lines in.txt\nsink out lines out.txt\nwire src.0 -> out.0\n",
+            false,
+        ),
+        (
+            "streams 1\n\nsource src lines in.txt\nsink out lines out.txt\nwire src.0 -> out.0\n",
+            false,
+        ),
+        (
+            "streams 1 \nsource src lines in.txt\nsink out lines out.txt\nwire src.0 -> out.0\n",
+            false,
+        ),
+        (
+            "streams 1\r\nsource src lines in.txt\nsink out lines out.txt\nwire src.0 -> out.0\n",
+            false,
+        ),
+        (
+            "streams 1\nsource  src lines in.txt\nsink out lines out.txt\nwire src.0 -> out.0\n",
+            false,
+        ),
+        (
+            "streams 1\nsource src lines in.txt \nsink out lines out.txt\nwire src.0 -> out.0\n",
+            false,
+        ),
+        (
+            "streams 1\nsource\tsrc lines in.txt\nsink out lines out.txt\nwire src.0 -> out.0\n",
+            false,
+        ),
+        (
+            "streams 1\n source src lines in.txt\nsink out lines out.txt\nwire src.0 -> out.0\n",
+            false,
+        ),
+        (
+            "streams 1\nsink out lines out.txt\nsource src lines in.txt\nwire src.0 -> out.0\n",
+            false,
+        ),
+        (
+            "streams 1\nsource src lines in.txt\nwire src.0 -> out.0\nsink out lines out.txt\n",
+            false,
+        ),
+        (
+            "streams 1\nsource src lines in.txt\nsink out lines out.txt\n",
+            false,
+        ),
+        (
+            "streams 1\nsource src lines in.txt\nsink out lines out.txt\nwire src.0 -> out.0\nwire src.0 -> out.0\n",
+            false,
+        ),
+        (
+            "streams 1\nsource src lines in.txt\nsink out lines out.txt\nwire src.0 -> out.0\n\n",
+            false,
+        ),
+        (
+            "streams 1\nsource src lines in.txt\nsink out lines out.txt\nwire src.1 -> out.0\n",
+            false,
+        ),
+        (
+            "streams 1\nsource src lines in.txt\nsink out lines out.txt\nwire src.0 -> out.1\n",
+            false,
+        ),
+        (
+            "streams 1\nsource src lines in.txt\nsink out lines out.txt\nwire out.0 -> src.0\n",
+            false,
+        ),
+        (
+            "streams 1\nsource src lines in.txt\nsink out lines out.txt\nwire src.0 -> out.0 async 1\n",
+            false,
+        ),
+        (
+            "streams 1\nsource src lines in.txt\nsink src lines out.txt\nwire src.0 -> src.0\n",
+            false,
+        ),
+        (
+            "streams 1\nsource src lines in.txt\nsink out lines in.txt\nwire src.0 -> out.0\n",
+            false,
+        ),
+        (
+            "streams 1\nsource src range 1 3\nsink out lines out.txt\nwire src.0 -> out.0\n",
+            false,
+        ),
+        (
+            "streams 1\nsource src lines in.txt\nsink out head out.txt\nwire src.0 -> out.0\n",
+            false,
+        ),
     ];
     for (text, straight) in whole {
         assert_eq!(rt; is_straight(&rt, alloc, text), straight, "{text}");
@@ -127,7 +207,11 @@ fn straight_texts_alone_are_read(rt: HostRuntime) -> Result<(), Fail> {
         ("drop 1", false),
     ];
     for (kind, straight) in kinds {
-        assert_eq!(rt; is_straight(&rt, alloc, &of_kind(alloc, kind)?), straight, "{kind}");
+        assert_eq!(rt;
+            is_straight(&rt, alloc, &of_kind(alloc, kind)?),
+            straight,
+            "{kind}"
+        );
     }
     let behind_len = [
         ("filter even", true),
@@ -151,7 +235,11 @@ fn straight_texts_alone_are_read(rt: HostRuntime) -> Result<(), Fail> {
         ("take 2", true),
     ];
     for (kind, straight) in behind_len {
-        assert_eq!(rt; is_straight(&rt, alloc, &of_kinds(alloc, "map len", kind)?), straight, "{kind}");
+        assert_eq!(rt;
+            is_straight(&rt, alloc, &of_kinds(alloc, "map len", kind)?),
+            straight,
+            "{kind}"
+        );
     }
     assert!(rt; is_straight(&rt, alloc, &of_kinds(alloc, "take 5", "filter blank")?));
     let ends = [
@@ -166,16 +254,32 @@ fn straight_texts_alone_are_read(rt: HostRuntime) -> Result<(), Fail> {
         ("a", "d/o", false),
         ("x2345678901234567890123456789012", "o", true),
         ("x23456789012345678901234567890123", "o", false),
-        ("a", "x234567890123456789012345678901234567890123456789012345678901234", true),
-        ("a", "x2345678901234567890123456789012345678901234567890123456789012345", false),
+        (
+            "a",
+            "x234567890123456789012345678901234567890123456789012345678901234",
+            true,
+        ),
+        (
+            "a",
+            "x2345678901234567890123456789012345678901234567890123456789012345",
+            false,
+        ),
     ];
     for (name, file, straight) in ends {
-        assert_eq!(rt; is_straight(&rt, alloc, &of_ends(alloc, name, file)?), straight, "{name} {file}");
+        assert_eq!(rt;
+            is_straight(&rt, alloc, &of_ends(alloc, name, file)?),
+            straight,
+            "{name} {file}"
+        );
     }
     // The line is `stage a filter is ` and the word.
     for (length, straight) in [(1024, true), (1025, false)] {
         let kind = format!(in alloc; "filter is {}", long_word(alloc, length - 18)?)?;
-        assert_eq!(rt; is_straight(&rt, alloc, &of_kind(alloc, &kind)?), straight, "{length}");
+        assert_eq!(rt;
+            is_straight(&rt, alloc, &of_kind(alloc, &kind)?),
+            straight,
+            "{length}"
+        );
     }
     assert!(rt; is_straight(&rt, alloc, &of_length(alloc, 1022)?));
     assert!(rt; !is_straight(&rt, alloc, &of_length(alloc, 1023)?));

@@ -1,5 +1,5 @@
 -- What an answer of a chain of readers says of each of them.
-use Rattle.std.proofs.Common.{◌≡◌, Bool, true, false, cond, Option, Some, None, unwrap_or, refl, sym, ap, ◌∙◌, ◌⊎◌, inl, inr}
+use Rattle.std.proofs.Common.{◌≡◌, Bool, true, false, cond, Option, Some, None, unwrap_or, refl, ap, ◌⊎◌, inl, inr}
 use Rattle.std.specs.Option.{option_and_then, option_map}
 use Rattle.blue_lang.specs.Reading.{from_or}
 

@@ -1,11 +1,11 @@
 -- One line of a body after another.
-use Rattle.std.proofs.Common.{◌≡◌, ℕ, ◌≤◌, ◌+◌, Bool, true, false, cond, leb, List, [], ◌∷◌, ◌++◌, length, Option, Some, None, refl, sym, ap, ◌∙◌, append_assoc, arith}
+use Rattle.std.proofs.Common.{◌≡◌, ℕ, ◌≤◌, ◌+◌, Bool, true, false, cond, List, [], ◌∷◌, ◌++◌, length, Option, Some, None, refl, sym, ap, ◌∙◌, append_assoc, arith}
 use Rattle.std.specs.Prelude.{codes}
 use Rattle.std.specs.Option.{option_map, option_and_then}
 use Rattle.std.proofs.lemmas.Bool.{le-leb, lt-leb}
 use Rattle.blue_lang.specs.declared.blueprint.Node.{Node}
 use Rattle.blue_lang.specs.declared.blueprint.Endpoint.{Endpoint}
-use Rattle.blue_lang.specs.Reading.{BodyLines, behind, body_of, end_line_of, onto_body, onto_stages, sink_body, stage_body, stage_of}
+use Rattle.blue_lang.specs.Reading.{BodyLines, behind, body_of, end_line_of, onto_body, onto_stages, stage_of}
 use Rattle.blue_lang.specs.Types.{gives_texts}
 
 append_nil : (ns : List Node) → ns ++ [] ≡ ns

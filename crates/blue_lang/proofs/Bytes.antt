@@ -45,11 +45,11 @@ has_no_lf-word bs h = lacks-all 10 is_ascii_graphic refl bs (and_parts _ (list_a
 pub length-name-le : (bs : List ℕ) → is_name bs ≡ true → length bs ≤ 32
 length-name-le [] h = omega arith
 length-name-le (b ∷ bs) h =
-    let short : length bs ≤ 31 = leb-true (length bs) 31 (and_parts _ _ (and_parts _ (list_all is_name_byte bs) h).0).1 in
+    let short : length bs ≤ 31 = leb-true (length bs) 31 (and_parts (is_ascii_lowercase b) (leb (length bs) 31) (and_parts (is_ascii_lowercase b && leb (length bs) 31) (list_all is_name_byte bs) h).0).1 in
     omega arith
 
 pub length-file-le : (bs : List ℕ) → is_file_name bs ≡ true → length bs ≤ 64
 length-file-le [] h = omega arith
 length-file-le (b ∷ bs) h =
-    let short : length bs ≤ 63 = leb-true (length bs) 63 (and_parts _ _ (and_parts _ (list_all is_file_byte bs) h).0).1 in
+    let short : length bs ≤ 63 = leb-true (length bs) 63 (and_parts (is_ascii_alphanumeric b) (leb (length bs) 63) (and_parts (is_ascii_alphanumeric b && leb (length bs) 63) (list_all is_file_byte bs) h).0).1 in
     omega arith

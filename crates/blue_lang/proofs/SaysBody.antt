@@ -1,12 +1,12 @@
 -- Stages and a sink are read from lines exactly where the lines say them.
-use Rattle.std.proofs.Common.{◌≡◌, ℕ, ◌≤◌, Bool, true, false, ◌&&◌, leb, cond, List, [], ◌∷◌, ◌++◌, map, length, Option, Some, None, refl, sym, ap, subst, ◌∙◌, ⊎_elim}
+use Rattle.std.proofs.Common.{◌≡◌, ℕ, Bool, true, leb, List, [], ◌∷◌, ◌++◌, map, length, Some, None, refl, sym, ap, subst, ◌∙◌, ⊎_elim}
 use Rattle.std.specs.Prelude.{codes}
 use Rattle.std.specs.List.{list_all}
 use Rattle.std.specs.Option.{option_and_then, option_map}
 use Rattle.std.proofs.lemmas.Bool.{and_from, and_parts}
 use Rattle.blue_lang.specs.declared.blueprint.Node.{Node}
 use Rattle.blue_lang.specs.declared.blueprint.Endpoint.{Endpoint}
-use Rattle.blue_lang.specs.Reading.{BodyLines, behind, body_of, end_line_of, from_or, onto_body, sink_body, stage_body, stage_of}
+use Rattle.blue_lang.specs.Reading.{BodyLines, behind, body_of, end_line_of, onto_body, sink_body, stage_body, stage_of}
 use Rattle.blue_lang.specs.Straight.{is_end, is_stage, says_end, says_stage}
 use Rattle.blue_lang.specs.Types.{flows, gives_texts, meets}
 use Rattle.blue_lang.proofs.Answering.{and_then, first_or, mapped, value_or}
@@ -47,13 +47,13 @@ body_of-says texts [] b h = absurd (let k : ⊥ = cc in k)
 body_of-says texts (l ∷ ls) b h =
     ⊎_elim
     (λ w.
-      ⊎_elim
-      (λ t.
-        let n = and_then (λ n. option_map (onto_body n) (body_of (gives_texts texts n.kind) ls)) (stage_of texts w.0) b t.1 in
-        let v = mapped (onto_body n.0) (body_of (gives_texts texts n.0.kind) ls) b n.2 in
-        subst (SaysBody texts (l ∷ ls)) v.2 (stage_says texts l w.0 ls n.0 v.0 w.1 t.0 n.1 (body_of-says (gives_texts texts n.0.kind) ls v.0 v.1)))
-      (λ h. absurd (let k : ⊥ = cc in k))
-      (first_or (leb (length l) 1024) (option_and_then (λ n. option_map (onto_body n) (body_of (gives_texts texts n.kind) ls)) (stage_of texts w.0)) None b w.2))
+    ⊎_elim
+    (λ t.
+    let n = and_then (λ n. option_map (onto_body n) (body_of (gives_texts texts n.kind) ls)) (stage_of texts w.0) b t.1 in
+    let v = mapped (onto_body n.0) (body_of (gives_texts texts n.0.kind) ls) b n.2 in
+    subst (SaysBody texts (l ∷ ls)) v.2 (stage_says texts l w.0 ls n.0 v.0 w.1 t.0 n.1 (body_of-says (gives_texts texts n.0.kind) ls v.0 v.1)))
+    (λ h. absurd (let k : ⊥ = cc in k))
+    (first_or (leb (length l) 1024) (option_and_then (λ n. option_map (onto_body n) (body_of (gives_texts texts n.kind) ls)) (stage_of texts w.0)) None b w.2))
     (λ h. sink_says texts l ls b h)
     (value_or (behind (codes "stage ") l) (λ rest. stage_body texts l (stage_of texts rest) (λ n. body_of (gives_texts texts n.kind) ls)) (sink_body l ls) b h)
 

@@ -1,12 +1,10 @@
 -- A stage, a source or a sink is read from a text exactly where the text says it.
-use Rattle.std.proofs.Common.{◌≡◌, ℕ, ◌<◌, ◌^◌, Bool, true, false, ◌&&◌, cond, List, [], ◌∷◌, ◌++◌, Option, Some, None, refl, sym, ap, subst, ◌∙◌, ⊎_elim}
+use Rattle.std.proofs.Common.{◌≡◌, ℕ, ◌^◌, Bool, true, false, ◌&&◌, List, ◌∷◌, ◌++◌, Some, None, refl, ap, subst, ◌∙◌, ⊎_elim}
 use Rattle.std.specs.Prelude.{codes}
-use Rattle.std.specs.Fmt.{decimal}
 use Rattle.std.specs.Option.{option_and_then, option_map}
 use Rattle.std.specs.Str.{bytes_eq}
 use Rattle.std.proofs.lemmas.Bool.{and_from, and_parts, lt-ltb, ltb-true}
 use Rattle.std.proofs.lemmas.Slice.Eq.{bytes_eq-Decides}
-use Rattle.elem_core.specs.declared.function.MapFn.{MapFn}
 use Rattle.elem_core.specs.declared.function.MapFn.TheVariants.{Len}
 use Rattle.blue_lang.specs.declared.kind.Kind.{Kind}
 use Rattle.blue_lang.specs.declared.kind.Kind.TheVariants.{Map, Filter, Take}
@@ -14,7 +12,7 @@ use Rattle.blue_lang.specs.declared.blueprint.Node.{Node}
 use Rattle.blue_lang.specs.declared.blueprint.Endpoint.{Endpoint}
 use Rattle.blue_lang.specs.Names.{is_name, is_file_name}
 use Rattle.blue_lang.specs.Reading.{behind, count_of, cut_at, end_line_of, end_of, from_or, kind_of, map_of, named_file, named_kind, pred_of, stage_of}
-use Rattle.blue_lang.specs.Straight.{is_end, is_stage, kind_fits, says_end, says_kind, says_pred, says_stage}
+use Rattle.blue_lang.specs.Straight.{is_end, is_stage, kind_fits, says_end, says_kind}
 use Rattle.blue_lang.specs.Types.{meets}
 use Rattle.blue_lang.proofs.Answering.{and_then, first_or, mapped, some_if, some_same, value_or}
 use Rattle.blue_lang.proofs.Bytes.{lacks-name}
@@ -51,16 +49,17 @@ kind_of-says texts bs k h =
     ⊎_elim
     (λ w. map_says texts bs k ((bytes_eq-Decides bs (codes "map len")).0 w.0) w.1)
     (λ h. ⊎_elim
-      (λ w. filter_says texts bs w.0 k w.1 w.2)
-      (λ h. ⊎_elim
-        (λ w. take_says texts bs w.0 k w.1 w.2)
-        (λ h. absurd (let k : ⊥ = cc in k))
-        (value_or (behind (codes "take ") bs) (λ n. option_map Take (count_of n)) None k h))
-      (value_or (behind (codes "filter ") bs) (λ p. option_map Filter (pred_of texts p)) take' k h))
+    (λ w. filter_says texts bs w.0 k w.1 w.2)
+    (λ h. ⊎_elim
+    (λ w. take_says texts bs w.0 k w.1 w.2)
+    (λ h. absurd (let k : ⊥ = cc in k))
+    (value_or (behind (codes "take ") bs) (λ n. option_map Take (count_of n)) None k h))
+    (value_or (behind (codes "filter ") bs) (λ p. option_map Filter (pred_of texts p)) take' k h))
     (first_or (bytes_eq bs (codes "map len")) (map_of texts) filter' k h)
 
 pub kind_of-from : (texts : Bool) (k : Kind) → meets texts k ≡ true → kind_fits k ≡ true → kind_of texts (says_kind k) ≡ Some k
 kind_of-from true (Map Len) m f = refl
+kind_of-from false (Map Len) m f = absurd (let k : ⊥ = cc in k)
 kind_of-from texts (Filter p) m f = ap (λ o. option_map Filter o) (pred_of-from texts p m f)
 kind_of-from texts (Take n) m f = ap (λ o. option_map Take o) (count_of-decimal n (ltb-true n (2 ^ 64) f))
 kind_of-from _ _ m f = absurd (let k : ⊥ = cc in k)
@@ -75,9 +74,9 @@ named_says : (texts : Bool) (bs name rest : List ℕ) (n : Node) → bs ≡ name
 named_says texts bs name rest n e h =
     ⊎_elim
     (λ w.
-      let k = mapped (λ k. record { name = name; kind = k }) (kind_of texts rest) n w.1 in
-      let s = kind_of-says texts rest k.0 k.1 in
-      subst (SaysStage texts bs) k.2 (record { says = e ∙ ap (λ x. name ++ 32 ∷ x) s.says; meet = s.meet; stage = and_from _ _ w.0 s.fit }))
+    let k = mapped (λ k. record { name = name; kind = k }) (kind_of texts rest) n w.1 in
+    let s = kind_of-says texts rest k.0 k.1 in
+    subst (SaysStage texts bs) k.2 (record { says = e ∙ ap (λ x. name ++ 32 ∷ x) s.says; meet = s.meet; stage = and_from _ _ w.0 s.fit }))
     (λ h. absurd (let k : ⊥ = cc in k))
     (first_or (is_name name) (option_map (λ k. record { name = name; kind = k }) (kind_of texts rest)) None n h)
 

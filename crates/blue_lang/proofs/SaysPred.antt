@@ -1,5 +1,5 @@
 -- A predicate is read from a text exactly where the text says it.
-use Rattle.std.proofs.Common.{◌≡◌, ℕ, ℤ, Bool, true, false, cond, List, [], ◌∷◌, ◌++◌, Option, Some, None, refl, sym, ap, subst, ◌∙◌, ⊎_elim}
+use Rattle.std.proofs.Common.{◌≡◌, ℕ, ℤ, Bool, true, false, cond, List, ◌++◌, Option, Some, None, refl, sym, ap, subst, ◌∙◌, ⊎_elim}
 use Rattle.std.specs.Prelude.{codes}
 use Rattle.std.specs.Fmt.{signed_decimal}
 use Rattle.std.specs.Option.{option_map}
@@ -7,7 +7,7 @@ use Rattle.std.specs.Str.{bytes_eq}
 use Rattle.std.proofs.lemmas.Slice.Eq.{bytes_eq-Decides}
 use Rattle.elem_core.specs.Number.{fits}
 use Rattle.elem_core.specs.declared.function.Pred.{Pred}
-use Rattle.elem_core.specs.declared.function.Pred.TheVariants.{Even, Odd, Lt, Le, Gt, Ge, Eq, Multiple, Blank, Has, Starts, Is, Numeric, FieldIs}
+use Rattle.elem_core.specs.declared.function.Pred.TheVariants.{Even, Odd, Lt, Le, Gt, Ge, Eq, Blank, Has, Starts, Is}
 use Rattle.blue_lang.specs.Names.{is_word}
 use Rattle.blue_lang.specs.Reading.{behind, int_of, number_pred_of, pred_of, text_pred_of, with_int, with_word, word_of}
 use Rattle.blue_lang.specs.Straight.{pred_fits, says_pred}
@@ -35,10 +35,10 @@ worded : (first : List ℕ) (made : List ℕ → Pred) → ((w : List ℕ) → f
 worded first made s m f bs p other h later =
     ⊎_elim
     (λ w.
-      let v = mapped made (word_of w.0) p w.2 in
-      let k = some_if (is_word w.0) w.0 v.0 v.1 in
-      let e = ap made k.1 ∙ v.2 in
-      subst (SaysPred true bs) e (record { says = behind-says first bs w.0 w.1 ∙ s w.0; meets = m w.0; fit = sym (f w.0) ∙ k.0 }))
+    let v = mapped made (word_of w.0) p w.2 in
+    let k = some_if (is_word w.0) w.0 v.0 v.1 in
+    let e = ap made k.1 ∙ v.2 in
+    subst (SaysPred true bs) e (record { says = behind-says first bs w.0 w.1 ∙ s w.0; meets = m w.0; fit = sym (f w.0) ∙ k.0 }))
     later
     (value_or (behind first bs) (λ w. option_map made (word_of w)) other p h)
 
@@ -47,9 +47,9 @@ numbered : (first : List ℕ) (made : ℤ → Pred) → ((k : ℤ) → first ++ 
 numbered first made s m f bs p other h later =
     ⊎_elim
     (λ w.
-      let v = mapped made (int_of w.0) p w.2 in
-      let k = int_of-says w.0 v.0 v.1 in
-      subst (SaysPred false bs) v.2 (record { says = behind-says first bs w.0 w.1 ∙ (ap (λ x. first ++ x) k.0 ∙ s v.0); meets = m v.0; fit = sym (f v.0) ∙ k.1 }))
+    let v = mapped made (int_of w.0) p w.2 in
+    let k = int_of-says w.0 v.0 v.1 in
+    subst (SaysPred false bs) v.2 (record { says = behind-says first bs w.0 w.1 ∙ (ap (λ x. first ++ x) k.0 ∙ s v.0); meets = m v.0; fit = sym (f v.0) ∙ k.1 }))
     later
     (value_or (behind first bs) (λ w. option_map made (int_of w)) other p h)
 

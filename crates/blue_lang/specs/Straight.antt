@@ -1,6 +1,6 @@
 -- The straight form: which lines say which straight blueprint. Rule: own.
 -- Each line has one spelling: one space between words, none at the ends, numbers without leading zeros and without `-0`.
-use Rattle.std.specs.Prelude.{◌≡◌, ◌≢◌, ℕ, ◌+◌, ◌≤◌, ◌^◌, ℤ, pos, Bool, true, ◌&&◌, nat_lt, List, [], ◌∷◌, ◌++◌, map, length, IsTrue, codes}
+use Rattle.std.specs.Prelude.{◌≡◌, ◌≢◌, ℕ, ◌+◌, ◌≤◌, ◌^◌, Bool, true, ◌&&◌, nat_lt, List, [], ◌∷◌, ◌++◌, map, length, IsTrue, codes}
 use Rattle.std.specs.Fmt.{decimal, signed_decimal}
 use Rattle.std.specs.List.{All, AllPairs, list_all}
 use Rattle.elem_core.specs.Number.{fits}

@@ -1,5 +1,5 @@
-use Rattle.std.proofs.Common.{◌≡◌, true, sym, ◌∙◌, rules}
-use Rattle.blue_lang.specs.Reading.{is_canonical, count_of}
+use Rattle.std.proofs.Common.{◌≡◌, true, sym, ◌∙◌}
+use Rattle.blue_lang.specs.Reading.{is_canonical}
 use Rattle.blue_lang.proofs.Numerals.{canonical_utf8, count_from_parse}
 use Rattle.blue_lang.proofs.numbers.read_count.Goals as goal
 

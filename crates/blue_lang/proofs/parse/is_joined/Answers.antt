@@ -1,4 +1,4 @@
-use Rattle.std.proofs.Common.{◌≡◌, ◌<◌, ◌-◌, length, drop, arith, sym, ◌∙◌, length-drop}
+use Rattle.std.proofs.Common.{◌≡◌, ◌<◌, length, drop, arith, sym, ◌∙◌, length-drop}
 use Rattle.blue_lang.proofs.Wires.{joined_all, joined_none, joined_short}
 use Rattle.blue_lang.proofs.parse.is_joined.Goals as goal
 

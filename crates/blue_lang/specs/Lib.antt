@@ -1,2 +1,5 @@
-pub mod Types
 pub mod Lists
+pub mod Names
+pub mod Reading
+pub mod Straight
+pub mod Types

@@ -2,4 +2,10 @@
 #![tactic(auto)]
 
 pub mod blueprint;
+mod cuts;
 pub mod kind;
+pub mod names;
+mod numbers;
+pub mod parse;
+mod preds;
+mod stages;

@@ -1,6 +1,6 @@
 -- Bytes put one piece after another.
 use Rattle.std.specs.List.{flat_map}
-use Rattle.std.proofs.Common.{suc, subst, get_or, add-one, drop-cons, ◌≡◌, ℕ, ◌+◌, ◌<◌, ◌≤◌, arith, OnErr, List, [], ◌++◌, length, take, drop, refl, sym, ap, ◌∙◌, append_assoc}
+use Rattle.std.proofs.Common.{suc, subst, get_or, add-one, drop-cons, ◌≡◌, ℕ, ◌+◌, ◌<◌, ◌≤◌, arith, OnErr, List, [], ◌++◌, length, take, drop, refl, sym, ap, ◌∙◌, append_assoc, length-append, length-take}
 use Rattle.std.specs.Prelude.{Option, Some, None, Result, Ok, Err}
 use Rattle.std.specs.Option.{option_map}
 use Rattle.std.proofs.Math.Seq.{take-add}
@@ -36,6 +36,7 @@ pub puts_then_part : (s t u : DrainState) (a b : List ℕ) → Puts s t a → Pu
 puts_then_part s t u a b p q = record {
   part = a ++ q.part;
   is_part = record { rest = q.is_part.rest; is = ap (λ x. a ++ x) q.is_part.is ∙ sym (append_assoc a q.part q.is_part.rest) };
+  not_all = let less : length q.part < length b = q.not_all in omega (arith, less, length-append a q.part, length-append a b);
   holds = q.holds ∙ ap (option_map (λ held. held ++ q.part)) p.holds ∙ held-two s.holds a q.part;
   faults = let same : t.faults ≡ s.faults = p.faults in λ h. let more : t.faults < u.faults = q.faults h in omega (arith, same, more);
   stays = let same : t.faults ≡ s.faults = p.faults in let more : t.faults ≤ u.faults = q.stays in omega (arith, same, more);
@@ -48,10 +49,11 @@ puts_on s t u piece next done n e p holds faults name =
     rw (take-add done n piece, ← e) (puts_two s t u (take done piece) (take n next) p (record { holds = holds; faults = faults; name = name }))
 
 -- a write that failed, after the first bytes of a piece were put
-pub puts_stop : (s t u : DrainState) (piece : List ℕ) (done : ℕ) → Puts s t (take done piece) → u.holds ≡ t.holds → Rose t.faults u.faults → t.faults ≤ u.faults → u.name ≡ t.name → PutsPart s u piece
-puts_stop s t u piece done p holds rose stays name = record {
+pub puts_stop : (s t u : DrainState) (piece : List ℕ) (done : ℕ) → done < length piece → Puts s t (take done piece) → u.holds ≡ t.holds → Rose t.faults u.faults → t.faults ≤ u.faults → u.name ≡ t.name → PutsPart s u piece
+puts_stop s t u piece done less p holds rose stays name = record {
   part = take done piece;
   is_part = prefix_take done piece;
+  not_all = omega (arith, less, length-take done piece);
   holds = holds ∙ p.holds;
   faults = let same : t.faults ≡ s.faults = p.faults in λ h. let more : t.faults < u.faults = rose h in omega (arith, same, more);
   stays = let same : t.faults ≡ s.faults = p.faults in omega (arith, same, stays);
@@ -85,6 +87,7 @@ leaves_stop s t u whole piece rest l p =
         rest = q.is_part.rest ++ rest;
         is = l.is ∙ sym (append_assoc l.sofar piece rest) ∙ ap (λ x. x ++ rest) q.is_part.is ∙ append_assoc q.part q.is_part.rest rest;
       };
+      not_all = let less : length q.part < length (l.sofar ++ piece) = q.not_all in omega (arith, less, ap length l.is, length-append l.sofar (piece ++ rest), length-append piece rest, length-append l.sofar piece);
       holds = q.holds;
       faults = q.faults;
       stays = q.stays;

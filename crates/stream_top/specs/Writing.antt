@@ -1,5 +1,5 @@
 -- Bytes that are put into a drain, all of them or a first part.
-use Rattle.std.specs.Prelude.{◌≡◌, ◌≤◌, ℕ, List, ◌++◌}
+use Rattle.std.specs.Prelude.{◌≡◌, ◌<◌, ◌≤◌, ℕ, List, ◌++◌, length}
 use Rattle.std.specs.Option.{option_map}
 use Rattle.elem_core.specs.Prefix.{IsPrefix}
 use Rattle.stream_io.specs.Counts.{Rose}
@@ -11,10 +11,11 @@ pub record Puts (old new : DrainState) (bytes : List ℕ) : Type 0 where
   pub faults : new.faults ≡ old.faults
   pub name : new.name ≡ old.name
 
--- the drain has a first part of these bytes more, and its count of failed writes rose
+-- the drain has a first part of these bytes more, not all of them, and its count of failed writes rose
 pub record PutsPart (old new : DrainState) (bytes : List ℕ) : Type 0 where
   pub part : List ℕ
   pub is_part : IsPrefix part bytes
+  pub not_all : length part < length bytes
   pub holds : new.holds ≡ option_map (λ held. held ++ part) old.holds
   pub faults : Rose old.faults new.faults
   pub stays : old.faults ≤ new.faults

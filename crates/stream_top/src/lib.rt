@@ -1,6 +1,7 @@
 //! The top call: it reads the command's words and the blueprint, runs it, and writes the report.
 #![tactic(auto)]
 
+mod flow;
 pub mod outcome;
 mod pass;
 mod put;

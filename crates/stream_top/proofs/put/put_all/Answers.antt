@@ -1,4 +1,4 @@
-use Rattle.std.proofs.Common.{arith}
+use Rattle.std.proofs.Common.{◌<◌, length, arith}
 use Rattle.stream_top.proofs.Puttings.{puts_on, puts_stop, on_err}
 use Rattle.stream_top.proofs.put.put_all.Goals as goal
 
@@ -13,4 +13,5 @@ loop-done-preserved g c =
 pub returns-in_err-done-clause-err : goal.returns-in_err-done-clause-err
 returns-in_err-done-clause-err g c =
     let e = c.in_err-done.ensures in
-    on_err _ (puts_stop _ _ _ _ _ c.loop-done.invariant.sofar e.failed e.fault e.never_falls e.name)
+    let inside : c.loop-done.done < length c.args.piece.now = omega arith in
+    on_err _ (puts_stop _ _ _ _ _ inside c.loop-done.invariant.sofar e.failed e.fault e.never_falls e.name)

@@ -2,3 +2,4 @@ pub mod Puttings
 pub mod Texts
 pub mod Quiets
 pub mod Passing
+pub mod Flowing

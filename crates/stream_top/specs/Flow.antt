@@ -1,6 +1,6 @@
 -- What passes from an input's lines through the stages to a sink's file.
-use Rattle.std.specs.Prelude.{◌≡◌, ℕ, ◌==◌, nat_le, Bool, if◌then◌else◌, List, ◌++◌, map, length, take_while}
-use Rattle.std.specs.List.{count_by, list_all}
+use Rattle.std.specs.Prelude.{◌≡◌, ℕ, ◌+◌, ◌==◌, nat_le, Bool, if◌then◌else◌, List, [], ◌∷◌, ◌++◌, map, length}
+use Rattle.std.specs.List.{list_all}
 use Rattle.std.specs.Option.{option_map}
 use Rattle.elem_core.specs.Prefix.{IsPrefix}
 use Rattle.elem_core.specs.Tree.{text}
@@ -20,11 +20,13 @@ is_short l = nat_le (length l) 65536
 
 -- the lines before the first that is too long
 abbrev pub short_lines : List (List ℕ) → List (List ℕ)
-short_lines ls = take_while is_short ls
+short_lines [] = []
+short_lines (l ∷ ls) = if is_short l then l ∷ short_lines ls else []
 
 -- how many whole lines stand in these bytes
 abbrev pub whole_lines : List ℕ → ℕ
-whole_lines bytes = count_by (λ b. b == 10) bytes
+whole_lines [] = 0
+whole_lines (b ∷ bytes) = (if b == 10 then 1 else 0) + whole_lines bytes
 
 -- from these stages and lines to those that are left, this much of the text came
 pub record Moves (stages : List Node) (ls : List (List ℕ)) (stages' : List Node) (ls' : List (List ℕ)) (sofar : List ℕ) : Type 0 where

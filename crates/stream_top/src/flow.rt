@@ -1,5 +1,6 @@
 // The flow of lines from a source through the stages into a drain.
-ghost use Rattle.std.specs.Prelude.{◌≡◌, ◌++◌, ◌∷◌, [], codes, Bool, IsTrue, IsSome, IfOk, OnOk, OnErr, IfErr, if◌then◌else◌};
+ghost use Rattle.std.specs.List.{list_all};
+ghost use Rattle.std.specs.Prelude.{◌≡◌, ◌++◌, ◌∷◌, [], Bool, true, false, IsTrue, IsSome, IfOk, OnOk, OnErr, IfErr, if◌then◌else◌};
 ghost use Rattle.elem_core.specs.Line.{has_no_lf};
 ghost use Rattle.elem_core.specs.Text.{lines, text_of};
 ghost use Rattle.blue_lang.specs.Types.{flows};
@@ -68,5 +69,63 @@ fn write<D: Drain>(drain: &mut D, buffer: &mut LineBuf, e: &Elem) -> Result<(), 
     match put_all(drain, buffer.bytes()) {
         Ok(()) => Ok(()),
         Err(Failed) => Err(WriteEnd::Fault),
+    }
+}
+
+/// Why the reader gave no line.
+fn end_of(end: LineEnd) -> FlowEnd
+    ensures read { end ≡ LineEnd.ReadFault → result ≡ FlowEnd.ReadFault }
+    ensures long { end ≡ LineEnd.LineTooLong → result ≡ FlowEnd.LineTooLong }
+    ensures memory { end ≡ LineEnd.NoMemory → result ≡ FlowEnd.NoMemory }
+{
+    match end {
+        LineEnd::ReadFault => FlowEnd::ReadFault,
+        LineEnd::LineTooLong => FlowEnd::LineTooLong,
+        LineEnd::NoMemory => FlowEnd::NoMemory,
+    }
+}
+
+/// Draws one line, hands it through the stages and writes what comes of it; says whether it wrote a line.
+fn step<S: Source, D: Drain>(
+    alloc: Global,
+    reader: &mut LineReader<S>,
+    stages: &mut Vec<Node>,
+    drain: &mut D,
+    buffer: &mut LineBuf,
+) -> Result<bool, FlowEnd>
+    requires { IsTrue (flows true stages.old.items) }
+    ensures flows { IsTrue (flows true stages.new.items) }
+    ensures sends { IfOk result (λ wrote. IsSome (S.state reader.old.source).whole → Sends
+        stages.old.items (lines (rest (S.state reader.old.source) reader.old.kept))
+        stages.new.items (lines (rest (S.state reader.new.source) reader.new.kept))
+        (D.state drain.old) (D.state drain.new) (if wrote then 1 else 0)) }
+    ensures ended { result ≡ Err FlowEnd.Ended → IsSome (S.state reader.old.source).whole → sink_text stages.old.items (lines (rest (S.state reader.old.source) reader.old.kept)) ≡ [] }
+    ensures stops { OnErr result (IsSome (S.state reader.old.source).whole → Stops
+        stages.old.items (lines (rest (S.state reader.old.source) reader.old.kept)) (D.state drain.old) (D.state drain.new) 0) }
+    ensures long { result ≡ Err FlowEnd.LineTooLong → IsSome (S.state reader.old.source).whole → list_all is_short (lines (rest (S.state reader.old.source) reader.old.kept)) ≡ false }
+    ensures reads { IfErr result (λ e. ReadsBy e (S.state reader.old.source).faults (S.state reader.new.source).faults) }
+    ensures no_read_fault { OnOk result ((S.state reader.new.source).faults ≡ (S.state reader.old.source).faults) }
+    ensures writes { IfErr result (λ e. WritesBy e (D.state drain.old).faults (D.state drain.new).faults) }
+    ensures no_write_fault { OnOk result ((D.state drain.new).faults ≡ (D.state drain.old).faults) }
+    ensures source_name { (S.state reader.new.source).name ≡ (S.state reader.old.source).name }
+    ensures source_whole { (S.state reader.new.source).whole ≡ (S.state reader.old.source).whole }
+    ensures drain_name { (D.state drain.new).name ≡ (D.state drain.old).name }
+{
+    if is_spent(stages) {
+        return Err(FlowEnd::Ended);
+    }
+    let line = match reader.next() {
+        Ok(Some(line)) => line,
+        Ok(None) => return Err(FlowEnd::Ended),
+        Err(end) => return Err(end_of(end)),
+    };
+    match pass(alloc, stages, Elem::of(Form::Text(line))) {
+        Ok(Some(given)) => match write(drain, buffer, &given) {
+            Ok(()) => Ok(true),
+            Err(WriteEnd::Fault) => Err(FlowEnd::WriteFault),
+            Err(WriteEnd::NoMemory) => Err(FlowEnd::NoMemory),
+        },
+        Ok(None) => Ok(false),
+        Err(AllocError) => Err(FlowEnd::NoMemory),
     }
 }

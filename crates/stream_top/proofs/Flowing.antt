@@ -16,7 +16,7 @@ use Rattle.blue_lang.specs.declared.blueprint.Node.{Node}
 use Rattle.stream_io.specs.State.{DrainState}
 use Rattle.stream_io.specs.Reading.{FirstTooLong}
 use Rattle.stream_top.specs.Writing.{Puts, PutsPart}
-use Rattle.stream_top.specs.Flow.{sink_text, is_short, short_lines, whole_lines, Moves, Sends, Stops}
+use Rattle.stream_top.specs.Flow.{sink_text, is_short, short_lines, whole_lines, Moves, Sends, EndsFlow, Stops}
 use Rattle.stream_top.proofs.Puttings.{puts_nothing, puts_two, held-none, held-two}
 use Rattle.stream_top.proofs.Passing.{composed-nil}
 
@@ -112,3 +112,55 @@ stops_here st r s u e = record {
 -- where no bytes are left no text comes
 pub nothing_left : (st : List Node) (bytes : List ℕ) → bytes ≡ [] → sink_text st (lines bytes) ≡ []
 nothing_left st bytes e = ap (λ b. sink_text st (lines b)) e ∙ ap text_lines (composed-nil st)
+
+-- at the start nothing came yet
+pub sends_start : (st : List Node) (ls : List (List ℕ)) (s : DrainState) → Sends st ls st ls s s 0
+sends_start st ls s = record {
+  sofar = [];
+  moves = record { all = refl; short = refl; lengths = refl };
+  puts = puts_nothing s;
+  lines = refl;
+}
+
+-- what came, and then what came next
+pub sends_two : (st st' st'' : List Node) (ls ls' ls'' : List (List ℕ)) (s t u : DrainState) (m n : ℕ) → Sends st ls st' ls' s t m → Sends st' ls' st'' ls'' t u n → Sends st ls st'' ls'' s u (m + n)
+sends_two st st' st'' ls ls' ls'' s t u m n p q = record {
+  sofar = p.sofar ++ q.sofar;
+  moves = record {
+    all = p.moves.all ∙ ap (λ x. p.sofar ++ x) q.moves.all ∙ sym (append_assoc p.sofar q.sofar (sink_text st'' ls''));
+    short = p.moves.short ∙ ap (λ x. p.sofar ++ x) q.moves.short ∙ sym (append_assoc p.sofar q.sofar (sink_text st'' (short_lines ls'')));
+    lengths = p.moves.lengths ∙ q.moves.lengths;
+  };
+  puts = puts_two s t u p.sofar q.sofar p.puts q.puts;
+  lines = omega (arith, whole_lines-append p.sofar q.sofar, p.lines, q.lines);
+}
+
+-- nothing is to come behind what came
+pub sends_end : (st st' : List Node) (ls ls' : List (List ℕ)) (s t u : DrainState) (n : ℕ) → Sends st ls st' ls' s t n → sink_text st' ls' ≡ [] → u ≡ t → EndsFlow st ls s u n
+sends_end st st' ls ls' s t u n p e same =
+    let whole : p.sofar ≡ sink_text st ls = sym (p.moves.all ∙ ap (λ x. p.sofar ++ x) e ∙ append-nil p.sofar) in
+    record {
+      puts = subst (Puts s u) whole (subst (λ v. Puts s v p.sofar) (sym same) p.puts);
+      lines = subst (λ x. whole_lines x ≡ n) whole p.lines;
+    }
+
+-- what came, and then a first part of what was to come
+pub sends_stop : (st st' : List Node) (ls ls' : List (List ℕ)) (s t u : DrainState) (n : ℕ) → Sends st ls st' ls' s t n → Stops st' ls' t u 0 → Stops st ls s u n
+sends_stop st st' ls ls' s t u n p q = record {
+  part = p.sofar ++ q.part;
+  is_part = record {
+    rest = q.is_part.rest;
+    is = p.moves.short ∙ ap (λ x. p.sofar ++ x) q.is_part.is ∙ sym (append_assoc p.sofar q.part q.is_part.rest);
+  };
+  holds = q.holds ∙ ap (option_map (λ held. held ++ q.part)) p.puts.holds ∙ held-two s.holds p.sofar q.part;
+  lines = omega (arith, whole_lines-append p.sofar q.part, p.lines, q.lines);
+}
+
+-- one turn writes one line at most
+pub at_most_one : (wrote : Bool) (count turn new : ℕ) → count ≤ turn → new ≡ count + cond wrote 1 0 → new ≤ turn + 1
+at_most_one true count turn new h e = omega (arith, h, e)
+at_most_one false count turn new h e = omega (arith, h, e)
+
+-- the same, counted
+pub sends_more : (st st' st'' : List Node) (ls ls' ls'' : List (List ℕ)) (s t u : DrainState) (m n k : ℕ) → Sends st ls st' ls' s t m → Sends st' ls' st'' ls'' t u n → k ≡ m + n → Sends st ls st'' ls'' s u k
+sends_more st st' st'' ls ls' ls'' s t u m n k p q e = subst (Sends st ls st'' ls'' s u) (sym e) (sends_two st st' st'' ls ls' ls'' s t u m n p q)

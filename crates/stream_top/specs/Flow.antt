@@ -47,3 +47,8 @@ pub record Stops (stages : List Node) (ls : List (List ℕ)) (old new : DrainSta
   pub is_part : IsPrefix part (sink_text stages (short_lines ls))
   pub holds : new.holds ≡ option_map (λ held. held ++ part) old.holds
   pub lines : whole_lines part ≡ count
+
+-- the whole text was put, so many whole lines
+pub record EndsFlow (stages : List Node) (ls : List (List ℕ)) (old new : DrainState) (count : ℕ) : Type 0 where
+  pub puts : Puts old new (sink_text stages ls)
+  pub lines : whole_lines (sink_text stages ls) ≡ count

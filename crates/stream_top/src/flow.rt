@@ -1,13 +1,13 @@
 // The flow of lines from a source through the stages into a drain.
 ghost use Rattle.std.specs.List.{list_all};
-ghost use Rattle.std.specs.Prelude.{◌≡◌, ◌++◌, ◌∷◌, [], Bool, true, false, IsTrue, IsSome, IfOk, OnOk, OnErr, IfErr, if◌then◌else◌};
+ghost use Rattle.std.specs.Prelude.{◌≡◌, ◌+◌, ◌<◌, ◌^◌, ◌++◌, ◌∷◌, [], Bool, true, false, IsTrue, IsSome, IfOk, OnOk, OnErr, IfErr, if◌then◌else◌};
 ghost use Rattle.elem_core.specs.Line.{has_no_lf};
 ghost use Rattle.elem_core.specs.Text.{lines, text_of};
 ghost use Rattle.blue_lang.specs.Types.{flows};
 ghost use Rattle.stream_io.specs.Counts.{Rose};
 ghost use Rattle.stream_io.specs.Reading.{rest};
 ghost use Rattle.stream_top.specs.Writing.{Puts, PutsPart};
-ghost use Rattle.stream_top.specs.Flow.{sink_text, is_short, Sends, Stops};
+ghost use Rattle.stream_top.specs.Flow.{sink_text, is_short, Sends, EndsFlow, Stops};
 ghost use Rattle.stream_top.specs.FlowEnds.{ReadsBy, WritesBy};
 
 use crate::pass::{is_spent, pass};
@@ -33,7 +33,7 @@ pub enum FlowEnd {
 
 /// What flowed: how many whole lines were put into the drain, and why no more do.
 #[derive(Drop)]
-pub struct Flow {
+pub struct Flowed {
     pub count: u64,
     pub end: FlowEnd,
 }
@@ -100,6 +100,7 @@ fn step<S: Source, D: Drain>(
         stages.new.items (lines (rest (S.state reader.new.source) reader.new.kept))
         (D.state drain.old) (D.state drain.new) (if wrote then 1 else 0)) }
     ensures ended { result ≡ Err FlowEnd.Ended → IsSome (S.state reader.old.source).whole → sink_text stages.old.items (lines (rest (S.state reader.old.source) reader.old.kept)) ≡ [] }
+    ensures quiet { result ≡ Err FlowEnd.Ended → D.state drain.new ≡ D.state drain.old }
     ensures stops { OnErr result (IsSome (S.state reader.old.source).whole → Stops
         stages.old.items (lines (rest (S.state reader.old.source) reader.old.kept)) (D.state drain.old) (D.state drain.new) 0) }
     ensures long { result ≡ Err FlowEnd.LineTooLong → IsSome (S.state reader.old.source).whole → list_all is_short (lines (rest (S.state reader.old.source) reader.old.kept)) ≡ false }
@@ -127,5 +128,46 @@ fn step<S: Source, D: Drain>(
         },
         Ok(None) => Ok(false),
         Err(AllocError) => Err(FlowEnd::NoMemory),
+    }
+}
+
+/// How many lines were written, where one more may have been.
+fn counted(count: u64, wrote: bool) -> u64
+    requires { count + 1 < 2 ^ 64 }
+    ensures { result ≡ count + (if wrote then 1 else 0) }
+{
+    if wrote { count + 1 } else { count }
+}
+
+/// Draws lines, hands them through the stages and writes what comes of them, until the source has ended, the stages give nothing more, or something fails. It holds one line at a time.
+pub fn flow<S: Source, D: Drain>(
+    alloc: Global,
+    reader: &mut LineReader<S>,
+    stages: &mut Vec<Node>,
+    drain: &mut D,
+) -> Flowed
+    requires { IsTrue (flows true stages.old.items) }
+    ensures ended { result.end ≡ FlowEnd.Ended → IsSome (S.state reader.old.source).whole → EndsFlow
+        stages.old.items (lines (rest (S.state reader.old.source) reader.old.kept)) (D.state drain.old) (D.state drain.new) result.count }
+    ensures stops { IsSome (S.state reader.old.source).whole → Stops
+        stages.old.items (lines (rest (S.state reader.old.source) reader.old.kept)) (D.state drain.old) (D.state drain.new) result.count }
+    ensures long { result.end ≡ FlowEnd.LineTooLong → IsSome (S.state reader.old.source).whole → list_all is_short (lines (rest (S.state reader.old.source) reader.old.kept)) ≡ false }
+    ensures reads { ReadsBy result.end (S.state reader.old.source).faults (S.state reader.new.source).faults }
+    ensures writes { WritesBy result.end (D.state drain.old).faults (D.state drain.new).faults }
+    ensures source_name { (S.state reader.new.source).name ≡ (S.state reader.old.source).name }
+    ensures drain_name { (D.state drain.new).name ≡ (D.state drain.old).name }
+{
+    let mut buffer = LineBuf::new(alloc);
+    let mut count = 0;
+    for _turn in 0..u64::MAX {
+        match step(alloc, reader, stages, drain, &mut buffer) {
+            Ok(wrote) => count = counted(count, wrote),
+            Err(end) => return Flowed { count, end },
+        }
+    }
+    // No count of 64 bits has a place for more lines.
+    Flowed {
+        count,
+        end: FlowEnd::NoMemory,
     }
 }

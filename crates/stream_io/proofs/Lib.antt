@@ -1,3 +1,4 @@
 pub mod Buffers
 pub mod Fetches
 pub mod Lines
+pub mod Tallies

@@ -3,3 +3,4 @@
 
 pub mod line_reader;
 pub mod outside;
+mod tally;

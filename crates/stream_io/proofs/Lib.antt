@@ -2,3 +2,4 @@ pub mod Buffers
 pub mod Fetches
 pub mod Lines
 pub mod Tallies
+pub mod NamedFiles

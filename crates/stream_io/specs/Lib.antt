@@ -5,3 +5,4 @@ pub mod LineFault
 pub mod Buffered
 pub mod Tally
 pub mod TallyLink
+pub mod Files

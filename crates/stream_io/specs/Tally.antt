@@ -1,7 +1,8 @@
 -- Counts by name, as a list of at most one entry a name.
-use Rattle.std.specs.Prelude.{ℕ, ◌+◌, ◌==◌, Bool, List, [], ◌∷◌, max, min, if◌then◌else◌}
+use Rattle.std.specs.Prelude.{ℕ, ◌+◌, ◌==◌, Bool, List, [], ◌∷◌, None, false, max, min, if◌then◌else◌}
 use Rattle.std.specs.Cmp.Lexicographic.{pointwise}
 use Rattle.stream_io.specs.Counts.{last_count}
+use Rattle.stream_io.specs.State.{FolderState}
 use Rattle.stream_io.specs.declared.tally.Counts.{Counts}
 
 -- two names are the same bytes
@@ -31,3 +32,14 @@ abbrev pub tallied : List Counts → Counts → List Counts
 tallied [] more = more ∷ []
 tallied (c ∷ cs) more =
     if same_name c.name more.name then counts_grown c more ∷ cs else c ∷ tallied cs more
+
+-- what a folder tells that tells no files, only counts by name
+abbrev pub counts_of : List Counts → FolderState
+counts_of counts = record {
+  tells = false;
+  file = λ n. None;
+  refusals = count_of (λ c. c.refusals) counts;
+  rfaults = count_of (λ c. c.rfaults) counts;
+  wfaults = count_of (λ c. c.wfaults) counts;
+  read = count_of (λ c. c.read) counts;
+}

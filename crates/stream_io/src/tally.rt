@@ -1,6 +1,8 @@
 // The counts of a folder, by name.
-ghost use Rattle.std.specs.Prelude.{◌≡◌, [], ◌∷◌, IfOk};
-ghost use Rattle.stream_io.specs.Tally.{counts_grown, tallied};
+ghost use Rattle.std.specs.Prelude.{◌≡◌, [], ◌∷◌, None};
+ghost use Rattle.stream_io.specs.Counts.{Rose};
+ghost use Rattle.stream_io.specs.State.{RefusesName, SameFaults, ClosesSource, ClosesDrain};
+ghost use Rattle.stream_io.specs.Tally.{counts_grown, tallied, counts_of};
 
 use elem_core::line::Line;
 use std::alloc::{AllocError, Global};
@@ -17,19 +19,6 @@ pub struct Counts {
 }
 
 impl Counts {
-    // No count of this name.
-    pub fn of(name: Line) -> Counts
-        ensures { result ≡ record { name = name; refusals = 0; rfaults = 0; wfaults = 0; read = 0 } }
-    {
-        Counts {
-            name,
-            refusals: 0,
-            rfaults: 0,
-            wfaults: 0,
-            read: 0,
-        }
-    }
-
     fn grow(&mut self, more: &Counts)
         ensures { self.new ≡ counts_grown self.old more.now }
     {
@@ -82,6 +71,50 @@ impl Tally {
     // A link for one more entry.
     pub fn spare(alloc: Global) -> Result<Box<Tally>, AllocError> {
         Ok(Box::new(alloc, Tally::new())?)
+    }
+
+    // Counts a refused opening of a name.
+    pub fn refuse(&mut self, name: Line, spare: Box<Tally>)
+        ensures rose { Rose ((counts_of self.old).refusals name) ((counts_of self.new).refusals name) }
+        ensures refusal { RefusesName (counts_of self.old) (counts_of self.new) name }
+        ensures faults { SameFaults (counts_of self.old) (counts_of self.new) }
+    {
+        let more = Counts {
+            name,
+            refusals: 1,
+            rfaults: 0,
+            wfaults: 0,
+            read: 0,
+        };
+        self.add(more, spare);
+    }
+
+    // Counts what a closed source of a name tells.
+    pub fn close_in(&mut self, name: Line, spare: Box<Tally>, given: u64, faults: u64)
+        ensures { ClosesSource (counts_of self.old) (counts_of self.new) (record { name = name; whole = None; given = given; faults = faults }) }
+    {
+        let more = Counts {
+            name,
+            refusals: 0,
+            rfaults: faults,
+            wfaults: 0,
+            read: given,
+        };
+        self.add(more, spare);
+    }
+
+    // Counts what a closed drain of a name tells.
+    pub fn close_out(&mut self, name: Line, spare: Box<Tally>, faults: u64)
+        ensures { ClosesDrain (counts_of self.old) (counts_of self.new) (record { name = name; holds = None; faults = faults }) }
+    {
+        let more = Counts {
+            name,
+            refusals: 0,
+            rfaults: 0,
+            wfaults: faults,
+            read: 0,
+        };
+        self.add(more, spare);
     }
 
     // Adds counts to those of their name, and takes the link where there are none. It takes no memory.

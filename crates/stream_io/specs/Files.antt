@@ -20,3 +20,11 @@ with_file (f ∷ fs) n bytes =
 -- what a folder tells of files in memory and of counts by name
 abbrev pub folder_of : Bool → List NamedFile → List Counts → FolderState
 folder_of tells files counts = record (counts_of counts) { tells = tells; file = file_of files }
+
+-- what such a folder tells whose calls never fail
+abbrev pub sure_folder_of : Bool → List NamedFile → List Counts → FolderState
+sure_folder_of tells files counts = record (folder_of tells files counts) {
+  refusals = λ n. 0;
+  rfaults = λ n. 0;
+  wfaults = λ n. 0;
+}

@@ -7,4 +7,6 @@ pub mod mem_drain;
 pub mod mem_folder;
 pub mod named_file;
 pub mod outside;
+pub mod real;
+pub mod sure;
 mod tally;

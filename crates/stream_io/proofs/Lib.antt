@@ -1,3 +1,5 @@
 pub mod Buffers
 pub mod Fetches
 pub mod Lines
+pub mod Tallies
+pub mod NamedFiles

@@ -5,7 +5,7 @@ ghost use Rattle.stream_io.specs.Counts.{Rose};
 ghost use Rattle.stream_io.specs.State.{SourceState, DrainState, FolderState, HandsOut, SameFiles, SameFaults, SameRefusals, RefusesName, Lacks, OpensSource, OpensDrain, ClosesSource, ClosesDrain};
 
 use elem_core::line::Line;
-use std::alloc::Global;
+use std::alloc::{AllocError, Global};
 
 /// A read or a write of the outside failed; the count of the source or drain rose.
 #[derive(Debug, Drop, Clone, Copy, PartialEq, Eq)]
@@ -17,6 +17,17 @@ pub enum OpenFault {
     /// The folder has no such file, or refused to open it.
     Missing,
     NoMemory,
+}
+
+impl From<AllocError> for OpenFault {
+    ghost use Rattle.std.specs.Prelude.{◌≡◌};
+    ghost use Rattle.stream_io.specs.declared.outside.OpenFault.TheVariants.{NoMemory};
+
+    ghost from_gives = { λ _ e. e ≡ NoMemory };
+
+    fn from(_error: AllocError) -> OpenFault {
+        OpenFault::NoMemory
+    }
 }
 
 /// A source of bytes, which hands them out in pieces.

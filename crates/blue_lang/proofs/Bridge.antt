@@ -18,7 +18,7 @@ use Rattle.blue_lang.specs.declared.parse.ParseEnd.TheVariants.{Unbuilt}
 use Rattle.blue_lang.specs.Names.{is_name, is_file_name}
 use Rattle.blue_lang.specs.Reading.{BodyLines, ReadsAs, all_differ, body_of, closed, end_line_of, from_source, is_closed, names_of, straight_of, wires_of, is_end}
 use Rattle.blue_lang.specs.Straight.{IsNotStraight, IsStraight, KeepsRules, Plain, is_stage, kind_fits, later_names, plain, says_end, says_stage, says_wire, spelling, wires_from}
-use Rattle.blue_lang.proofs.Answering.{and_then, first_or, some_if}
+use Rattle.blue_lang.proofs.Answering.{and_then, first_or, some_if, some_same}
 use Rattle.blue_lang.proofs.Bytes.{length-file-le, length-name-le}
 use Rattle.blue_lang.proofs.SaysBody.{body_of-from, body_of-says, is_short}
 use Rattle.blue_lang.proofs.SaysNode.{end_line_of-from, end_line_of-says}
@@ -180,3 +180,22 @@ parse_unbuilt text r h n e =
       k.0,
       λ b s. let read = straight_of-from (lines text) b (record { short = s.short_lines; says = s.says; keeps = s.keeps }) in let none = k.1 in let c : ⊥ = cc in c,
     )
+
+-- ---- worked texts
+pub straight_from_read : (text : List ℕ) (b : Plain) → length text ≤ 1048576 → straight_of (lines text) ≡ Some b → IsStraight text b
+straight_from_read text b l h =
+    let read = straight_of-says (lines text) b h in
+    record { short_text = l; short_lines = read.short; says = read.says; keeps = read.keeps }
+
+pub not_straight_from_read : (text : List ℕ) → straight_of (lines text) ≡ None → IsNotStraight text
+not_straight_from_read text h b s =
+    let read = straight_of-from (lines text) b (record { short = s.short_lines; says = s.says; keeps = s.keeps }) in
+    let c : ⊥ = cc in
+    c
+
+-- at most one blueprint is said by a text
+pub straight_same : (text : List ℕ) (b c : Plain) → IsStraight text b → IsStraight text c → b ≡ c
+straight_same text b c s t =
+    let first = straight_of-from (lines text) b (record { short = s.short_lines; says = s.says; keeps = s.keeps }) in
+    let second = straight_of-from (lines text) c (record { short = t.short_lines; says = t.says; keeps = t.keeps }) in
+    some_same b c (sym first ∙ second)

@@ -16,9 +16,9 @@ use Rattle.blue_lang.specs.declared.blueprint.Endpoint.{Endpoint}
 use Rattle.blue_lang.specs.declared.parse.ParseEnd.{ParseEnd}
 use Rattle.blue_lang.specs.declared.parse.ParseEnd.TheVariants.{Unbuilt}
 use Rattle.blue_lang.specs.Names.{is_name, is_file_name}
-use Rattle.blue_lang.specs.Reading.{BodyLines, ReadsAs, all_differ, body_of, closed, end_line_of, from_source, is_closed, names_of, straight_of, wires_of}
-use Rattle.blue_lang.specs.Straight.{IsNotStraight, IsStraight, KeepsRules, Plain, is_end, is_stage, kind_fits, later_names, plain, says_end, says_stage, says_wire, spelling, wires_from}
-use Rattle.blue_lang.proofs.Answering.{and_then, first_or, some_if}
+use Rattle.blue_lang.specs.Reading.{BodyLines, ReadsAs, all_differ, body_of, closed, end_line_of, from_source, is_closed, names_of, straight_of, wires_of, is_end}
+use Rattle.blue_lang.specs.Straight.{IsNotStraight, IsStraight, KeepsRules, Plain, is_stage, kind_fits, later_names, plain, says_end, says_stage, says_wire, spelling, wires_from}
+use Rattle.blue_lang.proofs.Answering.{and_then, first_or, some_if, some_same}
 use Rattle.blue_lang.proofs.Bytes.{length-file-le, length-name-le}
 use Rattle.blue_lang.proofs.SaysBody.{body_of-from, body_of-says, is_short}
 use Rattle.blue_lang.proofs.SaysNode.{end_line_of-from, end_line_of-says}
@@ -80,14 +80,15 @@ pub record IsRead (ls : List (List ℕ)) (b : Plain) : Type 0 where
 
 spelled_short : (b : Plain) → KeepsRules b → list_all is_short b.stages ≡ true → All IsShort (spelling b)
 spelled_short b k h =
-    let source = and_parts (is_name b.source.name) (is_file_name b.source.file) k.source in
+    let source = and_from (is_name b.source.name) (is_file_name b.source.file) k.source_name k.source_file in
+    let sink_end = and_from (is_name b.sink.name) (is_file_name b.sink.file) k.sink_name k.sink_file in
     let wires = wires_from b.source.name (later_names b.stages b.sink) in
-    let short_wires = wires_short b.source.name (later_names b.stages b.sink) (length-name-le b.source.name source.0) (names_short b.stages b.sink k.stages k.sink) in
+    let short_wires = wires_short b.source.name (later_names b.stages b.sink) (length-name-le b.source.name k.source_name) (names_short b.stages b.sink k.stages sink_end) in
     let sink = says_end (codes "sink ") b.sink in
-    let short_rest = All-append IsShort (map says_stage b.stages) (sink ∷ wires) (stages_short b.stages h) (All-cons IsShort sink wires (end_short (codes "sink ") b.sink (omega arith) k.sink) short_wires) in
+    let short_rest = All-append IsShort (map says_stage b.stages) (sink ∷ wires) (stages_short b.stages h) (All-cons IsShort sink wires (end_short (codes "sink ") b.sink (omega arith) sink_end) short_wires) in
     let rest = map says_stage b.stages ++ (sink ∷ wires) in
     let first = says_end (codes "source ") b.source in
-    All-cons IsShort (codes "streams 1") (first ∷ rest) (omega arith) (All-cons IsShort first rest (end_short (codes "source ") b.source (omega arith) k.source) short_rest)
+    All-cons IsShort (codes "streams 1") (first ∷ rest) (omega arith) (All-cons IsShort first rest (end_short (codes "source ") b.source (omega arith) source) short_rest)
 
 closed_says : (l : List ℕ) (ls : List (List ℕ)) (source : Endpoint) (body : BodyLines) (b : Plain) → end_line_of (codes "source ") l ≡ Some source → body_of true ls ≡ Some body → closed source body ≡ Some b → IsRead (codes "streams 1" ∷ l ∷ ls) b
 closed_says l ls source body b s h c =
@@ -101,12 +102,16 @@ closed_says l ls source body b s h c =
     let two = and_parts few (not same_file) three.0 in
     let first = end_line_of-says (codes "source ") l source s in
     let later = body_of-says true ls body h in
+    let source_parts = and_parts (is_name source.name) (is_file_name source.file) first.end in
+    let sink_parts = and_parts (is_name body.sink.name) (is_file_name body.sink.file) later.sink in
     let whole : Plain = record { source = source; stages = body.stages; sink = body.sink } in
     let wires = (slice_eq-Decides bytes_eq-Decides body.rest (wires_of (names_of source body.stages body.sink)) joined refl).0 four.1 in
     let keeps : KeepsRules whole = record {
-      source = first.end;
+      source_name = source_parts.0;
+      source_file = source_parts.1;
+      sink_name = sink_parts.0;
+      sink_file = sink_parts.1;
       stages = later.stages;
-      sink = later.sink;
       types = later.types;
       names_differ = all_differ-says (names_of source body.stages body.sink) three.1;
       files_differ = λ e. true≢false (sym ((bytes_eq-Decides source.file body.sink.file).1 e) ∙ not-true same_file two.1);
@@ -149,8 +154,8 @@ spelled_read : (b : Plain) → KeepsRules b → list_all is_short b.stages ≡ t
 spelled_read b k h =
     let wires = wires_from b.source.name (later_names b.stages b.sink) in
     let rest = map says_stage b.stages ++ (says_end (codes "sink ") b.sink ∷ wires) in
-    ap (option_and_then (λ source. option_and_then (closed source) (body_of true rest))) (end_line_of-from (codes "source ") b.source k.source)
-    ∙ (ap (option_and_then (closed b.source)) (body_of-from true b.stages b.sink wires k.types k.stages h k.sink)
+    ap (option_and_then (λ source. option_and_then (closed source) (body_of true rest))) (end_line_of-from (codes "source ") b.source (and_from (is_name b.source.name) (is_file_name b.source.file) k.source_name k.source_file))
+    ∙ (ap (option_and_then (closed b.source)) (body_of-from true b.stages b.sink wires k.types k.stages h (and_from (is_name b.sink.name) (is_file_name b.sink.file) k.sink_name k.sink_file))
     ∙ rw (is_closed-from b k) refl)
 
 pub straight_of-from : (ls : List (List ℕ)) (b : Plain) → IsRead ls b → straight_of ls ≡ Some b
@@ -175,3 +180,22 @@ parse_unbuilt text r h n e =
       k.0,
       λ b s. let read = straight_of-from (lines text) b (record { short = s.short_lines; says = s.says; keeps = s.keeps }) in let none = k.1 in let c : ⊥ = cc in c,
     )
+
+-- ---- worked texts
+pub straight_from_read : (text : List ℕ) (b : Plain) → length text ≤ 1048576 → straight_of (lines text) ≡ Some b → IsStraight text b
+straight_from_read text b l h =
+    let read = straight_of-says (lines text) b h in
+    record { short_text = l; short_lines = read.short; says = read.says; keeps = read.keeps }
+
+pub not_straight_from_read : (text : List ℕ) → straight_of (lines text) ≡ None → IsNotStraight text
+not_straight_from_read text h b s =
+    let read = straight_of-from (lines text) b (record { short = s.short_lines; says = s.says; keeps = s.keeps }) in
+    let c : ⊥ = cc in
+    c
+
+-- at most one blueprint is said by a text
+pub straight_same : (text : List ℕ) (b c : Plain) → IsStraight text b → IsStraight text c → b ≡ c
+straight_same text b c s t =
+    let first = straight_of-from (lines text) b (record { short = s.short_lines; says = s.says; keeps = s.keeps }) in
+    let second = straight_of-from (lines text) c (record { short = t.short_lines; says = t.says; keeps = t.keeps }) in
+    some_same b c (sym first ∙ second)

@@ -4,6 +4,7 @@ pub mod Bridge
 pub mod Bytes
 pub mod Cutting
 pub mod LentNames
+pub mod ListLaws
 pub mod Numerals
 pub mod SaysBody
 pub mod SaysNode

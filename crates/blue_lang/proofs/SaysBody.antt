@@ -6,8 +6,8 @@ use Rattle.std.specs.Option.{option_and_then, option_map}
 use Rattle.std.proofs.lemmas.Bool.{and_from, and_parts}
 use Rattle.blue_lang.specs.declared.blueprint.Node.{Node}
 use Rattle.blue_lang.specs.declared.blueprint.Endpoint.{Endpoint}
-use Rattle.blue_lang.specs.Reading.{BodyLines, behind, body_of, end_line_of, onto_body, sink_body, stage_body, stage_of}
-use Rattle.blue_lang.specs.Straight.{is_end, is_stage, says_end, says_stage}
+use Rattle.blue_lang.specs.Reading.{BodyLines, behind, body_of, end_line_of, onto_body, sink_body, stage_body, stage_of, is_end}
+use Rattle.blue_lang.specs.Straight.{is_stage, says_end, says_stage}
 use Rattle.blue_lang.specs.Types.{flows, gives_texts, meets}
 use Rattle.blue_lang.proofs.Answering.{and_then, first_or, mapped, value_or}
 use Rattle.blue_lang.proofs.Cutting.{behind-says}

@@ -11,8 +11,8 @@ use Rattle.blue_lang.specs.declared.kind.Kind.TheVariants.{Map, Filter, Take}
 use Rattle.blue_lang.specs.declared.blueprint.Node.{Node}
 use Rattle.blue_lang.specs.declared.blueprint.Endpoint.{Endpoint}
 use Rattle.blue_lang.specs.Names.{is_name, is_file_name}
-use Rattle.blue_lang.specs.Reading.{behind, count_of, cut_at, end_line_of, end_of, from_or, kind_of, map_of, named_file, named_kind, pred_of, stage_of}
-use Rattle.blue_lang.specs.Straight.{is_end, is_stage, kind_fits, says_end, says_kind}
+use Rattle.blue_lang.specs.Reading.{behind, count_of, cut_at, end_line_of, end_of, from_or, kind_of, map_of, named_file, named_kind, pred_of, stage_of, is_end}
+use Rattle.blue_lang.specs.Straight.{is_stage, kind_fits, says_end, says_kind}
 use Rattle.blue_lang.specs.Types.{meets}
 use Rattle.blue_lang.proofs.Answering.{and_then, first_or, mapped, some_if, some_same, value_or}
 use Rattle.blue_lang.proofs.Bytes.{lacks-name}

@@ -135,6 +135,10 @@ named_file name file = if is_name name && is_file_name file then Some (record { 
 abbrev pub end_of : List ℕ → Option Endpoint
 end_of rest = option_and_then (λ r. option_and_then (named_file r.0) (behind (codes "lines ") r.1)) (cut_at 32 rest)
 
+-- an end has a name and a file
+abbrev pub is_end : Endpoint → Bool
+is_end e = is_name e.name && is_file_name e.file
+
 -- the source or the sink, whose line begins with these bytes
 abbrev pub end_line_of : List ℕ → List ℕ → Option Endpoint
 end_line_of what l = option_and_then end_of (behind what l)

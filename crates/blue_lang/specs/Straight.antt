@@ -12,7 +12,7 @@ use Rattle.blue_lang.specs.declared.kind.Kind.TheVariants.{Map, Filter, Take}
 use Rattle.blue_lang.specs.declared.blueprint.Node.{Node}
 use Rattle.blue_lang.specs.declared.blueprint.Endpoint.{Endpoint}
 use Rattle.blue_lang.specs.declared.blueprint.Blueprint.{Blueprint}
-use Rattle.blue_lang.specs.Names.{is_name, is_file_name, is_word}
+use Rattle.blue_lang.specs.Names.{IsFileName, is_name, is_word}
 use Rattle.blue_lang.specs.Types.{flows}
 
 -- a straight blueprint as a plain value: its source, its stages in order, and its sink
@@ -74,10 +74,6 @@ spelling b =
     ∷ says_end (codes "source ") b.source
     ∷ (map says_stage b.stages ++ (says_end (codes "sink ") b.sink ∷ wires_from b.source.name (later_names b.stages b.sink)))
 
--- an end has a name and a file
-abbrev pub is_end : Endpoint → Bool
-is_end e = is_name e.name && is_file_name e.file
-
 -- the words of a predicate are words, and its numbers have 64 bits
 abbrev pub pred_fits : Pred → Bool
 pred_fits (Has w) = is_word w
@@ -102,9 +98,11 @@ is_stage n = is_name n.name && kind_fits n.kind
 
 -- the rules that a straight blueprint keeps besides its spelling
 pub record KeepsRules (b : Plain) : Type 0 where
-  pub source : IsTrue (is_end b.source)
+  pub source_name : IsTrue (is_name b.source.name)
+  pub source_file : IsFileName b.source.file
+  pub sink_name : IsTrue (is_name b.sink.name)
+  pub sink_file : IsFileName b.sink.file
   pub stages : IsTrue (list_all is_stage b.stages)
-  pub sink : IsTrue (is_end b.sink)
   -- each stage meets elements of its type: texts, and numbers behind `map len`
   pub types : IsTrue (flows true b.stages)
   pub names_differ : AllPairs (λ a c. a ≢ c) (b.source.name ∷ later_names b.stages b.sink)

@@ -4,6 +4,7 @@
 pub mod blueprint;
 mod cuts;
 pub mod kind;
+pub mod laws;
 pub mod names;
 mod numbers;
 pub mod parse;

@@ -67,205 +67,216 @@ fn long_word(alloc: Global, length: usize) -> Result<String, AllocError> {
     Ok(word)
 }
 
+// Whole texts, and whether they are straight.
+const WHOLE: [(&str, bool); 28] = [
+    (
+        "streams 1\nsource src lines in.txt\nsink out lines out.txt\nwire src.0 -> out.0\n",
+        true,
+    ),
+    (
+        "streams 1\nsource src lines in.txt\nsink out lines out.txt\nwire src.0 -> out.0",
+        true,
+    ),
+    ("", false),
+    ("\n", false),
+    ("streams 1\n", false),
+    (
+        "streams 2\nsource src lines in.txt\nsink out lines out.txt\nwire src.0 -> out.0\n",
+        false,
+    ),
+    (
+        "source src lines in.txt\nsink out lines out.txt\nwire src.0 -> out.0\n",
+        false,
+    ),
+    (
+        "# a\nstreams 1\nsource src lines in.txt\nsink out lines out.txt\nwire src.0 -> out.0\n",
+        false,
+    ),
+    (
+        "streams 1\n\nsource src lines in.txt\nsink out lines out.txt\nwire src.0 -> out.0\n",
+        false,
+    ),
+    (
+        "streams 1 \nsource src lines in.txt\nsink out lines out.txt\nwire src.0 -> out.0\n",
+        false,
+    ),
+    (
+        "streams 1\r\nsource src lines in.txt\nsink out lines out.txt\nwire src.0 -> out.0\n",
+        false,
+    ),
+    (
+        "streams 1\nsource  src lines in.txt\nsink out lines out.txt\nwire src.0 -> out.0\n",
+        false,
+    ),
+    (
+        "streams 1\nsource src lines in.txt \nsink out lines out.txt\nwire src.0 -> out.0\n",
+        false,
+    ),
+    (
+        "streams 1\nsource\tsrc lines in.txt\nsink out lines out.txt\nwire src.0 -> out.0\n",
+        false,
+    ),
+    (
+        "streams 1\n source src lines in.txt\nsink out lines out.txt\nwire src.0 -> out.0\n",
+        false,
+    ),
+    (
+        "streams 1\nsink out lines out.txt\nsource src lines in.txt\nwire src.0 -> out.0\n",
+        false,
+    ),
+    (
+        "streams 1\nsource src lines in.txt\nwire src.0 -> out.0\nsink out lines out.txt\n",
+        false,
+    ),
+    (
+        "streams 1\nsource src lines in.txt\nsink out lines out.txt\n",
+        false,
+    ),
+    (
+        "streams 1\nsource src lines in.txt\nsink out lines out.txt\nwire src.0 -> out.0\nwire src.0 -> out.0\n",
+        false,
+    ),
+    (
+        "streams 1\nsource src lines in.txt\nsink out lines out.txt\nwire src.0 -> out.0\n\n",
+        false,
+    ),
+    (
+        "streams 1\nsource src lines in.txt\nsink out lines out.txt\nwire src.1 -> out.0\n",
+        false,
+    ),
+    (
+        "streams 1\nsource src lines in.txt\nsink out lines out.txt\nwire src.0 -> out.1\n",
+        false,
+    ),
+    (
+        "streams 1\nsource src lines in.txt\nsink out lines out.txt\nwire out.0 -> src.0\n",
+        false,
+    ),
+    (
+        "streams 1\nsource src lines in.txt\nsink out lines out.txt\nwire src.0 -> out.0 async 1\n",
+        false,
+    ),
+    (
+        "streams 1\nsource src lines in.txt\nsink src lines out.txt\nwire src.0 -> src.0\n",
+        false,
+    ),
+    (
+        "streams 1\nsource src lines in.txt\nsink out lines in.txt\nwire src.0 -> out.0\n",
+        false,
+    ),
+    (
+        "streams 1\nsource src range 1 3\nsink out lines out.txt\nwire src.0 -> out.0\n",
+        false,
+    ),
+    (
+        "streams 1\nsource src lines in.txt\nsink out head out.txt\nwire src.0 -> out.0\n",
+        false,
+    ),
+];
+
+// Kinds of a stage that meets texts.
+const KINDS: [(&str, bool); 26] = [
+    ("map len", true),
+    ("filter blank", true),
+    ("filter has x", true),
+    ("filter has |#~!", true),
+    ("filter has a b", false),
+    ("filter has ", false),
+    ("filter has", false),
+    ("filter starts disk", true),
+    ("filter is disk", true),
+    ("filter ends disk", false),
+    ("filter even", false),
+    ("filter numeric", false),
+    ("filter_not blank", false),
+    ("map num", false),
+    ("map len ", false),
+    ("map len decider stop", false),
+    ("take 0", true),
+    ("take 007", false),
+    ("take -1", false),
+    ("take +1", false),
+    ("take", false),
+    ("take ", false),
+    ("take 18446744073709551615", true),
+    ("take 18446744073709551616", false),
+    ("take 99999999999999999999999", false),
+    ("drop 1", false),
+];
+
+// Kinds of a stage that meets numbers.
+const BEHIND_LEN: [(&str, bool); 19] = [
+    ("filter even", true),
+    ("filter odd", true),
+    ("filter lt 3", true),
+    ("filter lt -0", false),
+    ("filter lt 00", false),
+    ("filter lt --1", false),
+    ("filter lt -9223372036854775808", true),
+    ("filter lt -9223372036854775809", false),
+    ("filter le 9223372036854775807", true),
+    ("filter le 9223372036854775808", false),
+    ("filter gt -1", true),
+    ("filter ge 0", true),
+    ("filter eq 10", true),
+    ("filter eq 1 0", false),
+    ("filter multiple 2", false),
+    ("filter starts disk", false),
+    ("filter blank", false),
+    ("map len", false),
+    ("take 2", true),
+];
+
+// The source's name and the sink's file.
+const ENDS: [(&str, &str, bool); 13] = [
+    ("a", "o", true),
+    ("a_0", "A.b-_9", true),
+    ("_a", "o", false),
+    ("Src", "o", false),
+    ("sRc", "o", false),
+    ("", "o", false),
+    ("a", "", false),
+    ("a", ".o", false),
+    ("a", "d/o", false),
+    ("x2345678901234567890123456789012", "o", true),
+    ("x23456789012345678901234567890123", "o", false),
+    (
+        "a",
+        "x234567890123456789012345678901234567890123456789012345678901234",
+        true,
+    ),
+    (
+        "a",
+        "x2345678901234567890123456789012345678901234567890123456789012345",
+        false,
+    ),
+];
+
 #[test]
-fn straight_texts_alone_are_read(rt: HostRuntime) -> Result<(), Fail> {
+fn whole_texts_are_read(rt: HostRuntime) -> Result<(), Fail> {
+    for (text, straight) in WHOLE {
+        assert_eq!(rt; is_straight(&rt, rt.alloc(), text), straight, "{text}");
+    }
+    Ok(())
+}
+
+#[test]
+fn kinds_are_read(rt: HostRuntime) -> Result<(), Fail> {
+    for (kind, straight) in KINDS {
+        let text = of_kind(rt.alloc(), kind)?;
+        assert_eq!(rt; is_straight(&rt, rt.alloc(), &text), straight, "{kind}");
+    }
+    for (kind, straight) in BEHIND_LEN {
+        let text = of_kinds(rt.alloc(), "map len", kind)?;
+        assert_eq!(rt; is_straight(&rt, rt.alloc(), &text), straight, "{kind}");
+    }
+    Ok(())
+}
+
+#[test]
+fn limits_are_kept(rt: HostRuntime) -> Result<(), Fail> {
     let alloc = rt.alloc();
-    let whole = [
-        (
-            "streams 1\nsource src lines in.txt\nsink out lines out.txt\nwire src.0 -> out.0\n",
-            true,
-        ),
-        (
-            "streams 1\nsource src lines in.txt\nsink out lines out.txt\nwire src.0 -> out.0",
-            true,
-        ),
-        ("", false),
-        ("\n", false),
-        ("streams 1\n", false),
-        (
-            "streams 2\nsource src lines in.txt\nsink out lines out.txt\nwire src.0 -> out.0\n",
-            false,
-        ),
-        (
-            "source src lines in.txt\nsink out lines out.txt\nwire src.0 -> out.0\n",
-            false,
-        ),
-        (
-            "# a\nstreams 1\nsource src lines in.txt\nsink out lines out.txt\nwire src.0 -> out.0\n",
-            false,
-        ),
-        (
-            "streams 1\n\nsource src lines in.txt\nsink out lines out.txt\nwire src.0 -> out.0\n",
-            false,
-        ),
-        (
-            "streams 1 \nsource src lines in.txt\nsink out lines out.txt\nwire src.0 -> out.0\n",
-            false,
-        ),
-        (
-            "streams 1\r\nsource src lines in.txt\nsink out lines out.txt\nwire src.0 -> out.0\n",
-            false,
-        ),
-        (
-            "streams 1\nsource  src lines in.txt\nsink out lines out.txt\nwire src.0 -> out.0\n",
-            false,
-        ),
-        (
-            "streams 1\nsource src lines in.txt \nsink out lines out.txt\nwire src.0 -> out.0\n",
-            false,
-        ),
-        (
-            "streams 1\nsource\tsrc lines in.txt\nsink out lines out.txt\nwire src.0 -> out.0\n",
-            false,
-        ),
-        (
-            "streams 1\n source src lines in.txt\nsink out lines out.txt\nwire src.0 -> out.0\n",
-            false,
-        ),
-        (
-            "streams 1\nsink out lines out.txt\nsource src lines in.txt\nwire src.0 -> out.0\n",
-            false,
-        ),
-        (
-            "streams 1\nsource src lines in.txt\nwire src.0 -> out.0\nsink out lines out.txt\n",
-            false,
-        ),
-        (
-            "streams 1\nsource src lines in.txt\nsink out lines out.txt\n",
-            false,
-        ),
-        (
-            "streams 1\nsource src lines in.txt\nsink out lines out.txt\nwire src.0 -> out.0\nwire src.0 -> out.0\n",
-            false,
-        ),
-        (
-            "streams 1\nsource src lines in.txt\nsink out lines out.txt\nwire src.0 -> out.0\n\n",
-            false,
-        ),
-        (
-            "streams 1\nsource src lines in.txt\nsink out lines out.txt\nwire src.1 -> out.0\n",
-            false,
-        ),
-        (
-            "streams 1\nsource src lines in.txt\nsink out lines out.txt\nwire src.0 -> out.1\n",
-            false,
-        ),
-        (
-            "streams 1\nsource src lines in.txt\nsink out lines out.txt\nwire out.0 -> src.0\n",
-            false,
-        ),
-        (
-            "streams 1\nsource src lines in.txt\nsink out lines out.txt\nwire src.0 -> out.0 async 1\n",
-            false,
-        ),
-        (
-            "streams 1\nsource src lines in.txt\nsink src lines out.txt\nwire src.0 -> src.0\n",
-            false,
-        ),
-        (
-            "streams 1\nsource src lines in.txt\nsink out lines in.txt\nwire src.0 -> out.0\n",
-            false,
-        ),
-        (
-            "streams 1\nsource src range 1 3\nsink out lines out.txt\nwire src.0 -> out.0\n",
-            false,
-        ),
-        (
-            "streams 1\nsource src lines in.txt\nsink out head out.txt\nwire src.0 -> out.0\n",
-            false,
-        ),
-    ];
-    for (text, straight) in whole {
-        assert_eq!(rt; is_straight(&rt, alloc, text), straight, "{text}");
-    }
-    let kinds = [
-        ("map len", true),
-        ("filter blank", true),
-        ("filter has x", true),
-        ("filter has |#~!", true),
-        ("filter has a b", false),
-        ("filter has ", false),
-        ("filter has", false),
-        ("filter starts disk", true),
-        ("filter is disk", true),
-        ("filter ends disk", false),
-        ("filter even", false),
-        ("filter numeric", false),
-        ("filter_not blank", false),
-        ("map num", false),
-        ("map len ", false),
-        ("map len decider stop", false),
-        ("take 0", true),
-        ("take 007", false),
-        ("take -1", false),
-        ("take +1", false),
-        ("take", false),
-        ("take ", false),
-        ("take 18446744073709551615", true),
-        ("take 18446744073709551616", false),
-        ("take 99999999999999999999999", false),
-        ("drop 1", false),
-    ];
-    for (kind, straight) in kinds {
-        assert_eq!(rt;
-            is_straight(&rt, alloc, &of_kind(alloc, kind)?),
-            straight,
-            "{kind}"
-        );
-    }
-    let behind_len = [
-        ("filter even", true),
-        ("filter odd", true),
-        ("filter lt 3", true),
-        ("filter lt -0", false),
-        ("filter lt 00", false),
-        ("filter lt --1", false),
-        ("filter lt -9223372036854775808", true),
-        ("filter lt -9223372036854775809", false),
-        ("filter le 9223372036854775807", true),
-        ("filter le 9223372036854775808", false),
-        ("filter gt -1", true),
-        ("filter ge 0", true),
-        ("filter eq 10", true),
-        ("filter eq 1 0", false),
-        ("filter multiple 2", false),
-        ("filter starts disk", false),
-        ("filter blank", false),
-        ("map len", false),
-        ("take 2", true),
-    ];
-    for (kind, straight) in behind_len {
-        assert_eq!(rt;
-            is_straight(&rt, alloc, &of_kinds(alloc, "map len", kind)?),
-            straight,
-            "{kind}"
-        );
-    }
-    assert!(rt; is_straight(&rt, alloc, &of_kinds(alloc, "take 5", "filter blank")?));
-    let ends = [
-        ("a", "o", true),
-        ("a_0", "A.b-_9", true),
-        ("_a", "o", false),
-        ("Src", "o", false),
-        ("sRc", "o", false),
-        ("", "o", false),
-        ("a", "", false),
-        ("a", ".o", false),
-        ("a", "d/o", false),
-        ("x2345678901234567890123456789012", "o", true),
-        ("x23456789012345678901234567890123", "o", false),
-        (
-            "a",
-            "x234567890123456789012345678901234567890123456789012345678901234",
-            true,
-        ),
-        (
-            "a",
-            "x2345678901234567890123456789012345678901234567890123456789012345",
-            false,
-        ),
-    ];
-    for (name, file, straight) in ends {
+    for (name, file, straight) in ENDS {
         assert_eq!(rt;
             is_straight(&rt, alloc, &of_ends(alloc, name, file)?),
             straight,

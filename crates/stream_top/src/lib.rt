@@ -2,6 +2,7 @@
 #![tactic(auto)]
 
 mod flow;
+mod open;
 pub mod outcome;
 mod pass;
 mod put;

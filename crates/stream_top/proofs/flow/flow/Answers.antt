@@ -26,8 +26,8 @@ loop-turn-preserved g c =
       flows = e.flows;
       count = at_most_one c.in-Ok.wrote _ _ _ kept.count c.counted-count.ensures;
       sends = λ told.
-        let still = subst (λ w. IsSome w) (sym kept.whole) told in
-        sends_more _ _ _ _ _ _ _ _ _ _ _ _ (kept.sends told) (e.sends still) c.counted-count.ensures;
+          let still = subst (λ w. IsSome w) (sym kept.whole) told in
+          sends_more _ _ _ _ _ _ _ _ _ _ _ _ (kept.sends told) (e.sends still) c.counted-count.ensures;
       reads = e.no_read_fault ∙ kept.reads;
       writes = e.no_write_fault ∙ kept.writes;
       whole = e.source_whole ∙ kept.whole;

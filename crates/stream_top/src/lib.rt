@@ -1,10 +1,12 @@
 //! The top call: it reads the command's words and the blueprint, runs it, and writes the report.
 #![tactic(auto)]
 
+mod answer;
 mod flow;
 mod open;
 pub mod outcome;
 mod pass;
 mod put;
 mod report;
+mod run;
 mod text;

@@ -3,3 +3,4 @@ pub mod Texts
 pub mod Quiets
 pub mod Passing
 pub mod Flowing
+pub mod Answering

@@ -30,6 +30,7 @@ abbrev pub filtered : Pred → List Tree → List Tree
 filtered p [] = []
 filtered p (t ∷ ts) = passed_then (pred_value p t) t (filtered p ts)
 
+-- what a stage of this kind gives of a list
 abbrev pub list_of : Kind → List Tree → List Tree
 list_of (Map f) ts = mapped f ts
 list_of (Filter p) ts = filtered p ts

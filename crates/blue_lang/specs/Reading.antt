@@ -32,6 +32,7 @@ ReadsAs f o (Ok x) = o ≡ Some (f x)
 ReadsAs f o (Err (Unbuilt n)) = (n ≡ 0) × (o ≡ None)
 ReadsAs f o (Err NoMemory) = Unit {0}
 
+-- the same, where the answer is seen as it is
 abbrev pub Reads : {A : Type 0} → Option A → Result A ParseEnd → Type 0
 Reads o r = ReadsAs (λ x. x) o r
 
@@ -63,6 +64,7 @@ count_of ds = if is_canonical ds && nat_lt (digits_value 10 ds) (2 ^ 64) then So
 abbrev pub below_zero : ℕ → Option ℤ
 below_zero m = if nat_lt 0 m && nat_le m (2 ^ 63) then Some (neg_ℤ (pos m)) else None
 
+-- the number of this size, where 63 bits hold it
 abbrev pub from_zero : ℕ → Option ℤ
 from_zero m = if nat_lt m (2 ^ 63) then Some (pos m) else None
 
@@ -79,6 +81,7 @@ int_of bs =
     (λ ds. option_and_then below_zero (count_of ds))
     (option_and_then from_zero (count_of bs))
 
+-- the text itself, where it is a word
 abbrev pub word_of : List ℕ → Option (List ℕ)
 word_of bs = if is_word bs then Some bs else None
 
@@ -90,6 +93,7 @@ with_word first made bs other = from_or (behind first bs) (λ w. option_map made
 abbrev pub with_int : List ℕ → (ℤ → Pred) → List ℕ → Option Pred → Option Pred
 with_int first made bs other = from_or (behind first bs) (λ k. option_map made (int_of k)) other
 
+-- the predicate on texts that the text says
 abbrev pub text_pred_of : List ℕ → Option Pred
 text_pred_of bs =
     if bytes_eq bs (codes "blank") then Some Blank else
@@ -97,6 +101,7 @@ text_pred_of bs =
     (with_word (codes "starts ") Starts bs
     (with_word (codes "is ") Is bs None)))
 
+-- the predicate on numbers that the text says
 abbrev pub number_pred_of : List ℕ → Option Pred
 number_pred_of bs =
     if bytes_eq bs (codes "even") then Some Even else
@@ -107,12 +112,15 @@ number_pred_of bs =
     (with_int (codes "ge ") Ge bs
     (with_int (codes "eq ") Eq bs None))))))
 
+-- the predicate on texts or on numbers that the text says
 abbrev pub pred_of : Bool → List ℕ → Option Pred
 pred_of texts bs = if texts then text_pred_of bs else number_pred_of bs
 
+-- `map len`, which texts alone meet
 abbrev pub map_of : Bool → Option Kind
 map_of texts = if texts then Some (Map Len) else None
 
+-- the kind that the text says, where elements are texts or numbers
 abbrev pub kind_of : Bool → List ℕ → Option Kind
 kind_of texts bs =
     if bytes_eq bs (codes "map len") then map_of texts else
@@ -125,9 +133,11 @@ kind_of texts bs =
 abbrev pub named_kind : Bool → List ℕ × List ℕ → Option Node
 named_kind texts r = if is_name r.0 then option_map (λ k. record { name = r.0; kind = k }) (kind_of texts r.1) else None
 
+-- the stage that the text behind `stage ` says
 abbrev pub stage_of : Bool → List ℕ → Option Node
 stage_of texts rest = option_and_then (named_kind texts) (cut_at 32 rest)
 
+-- the end with this name and this file, where they are a name and a file name
 abbrev pub named_file : List ℕ → List ℕ → Option Endpoint
 named_file name file = if is_name name && is_file_name file then Some (record { name = name; file = file }) else None
 
@@ -149,9 +159,11 @@ pub record BodyLines : Type 0 where
   pub sink : Endpoint
   pub rest : List (List ℕ)
 
+-- a body as contracts see it: the text that is left as its lines
 abbrev pub body_lines : Body → BodyLines
 body_lines b = record { stages = b.stages.items; sink = b.sink; rest = lines b.rest.now }
 
+-- the stage put before those of the body
 abbrev pub onto_body : Node → BodyLines → BodyLines
 onto_body n b = record { stages = n ∷ b.stages; sink = b.sink; rest = b.rest }
 
@@ -167,6 +179,7 @@ sink_body l ls = option_map (λ e. record { stages = []; sink = e; rest = ls }) 
 abbrev pub stage_body : Bool → List ℕ → Option Node → (Node → Option BodyLines) → Option BodyLines
 stage_body texts l o later = if nat_le (length l) 1024 then option_and_then (λ n. option_map (onto_body n) (later n)) o else None
 
+-- the body that the lines say, where elements are texts or numbers
 abbrev pub body_of : Bool → List (List ℕ) → Option BodyLines
 body_of texts [] = None
 body_of texts (l ∷ ls) =
@@ -188,6 +201,7 @@ abbrev pub wires_of : List (List ℕ) → List (List ℕ)
 wires_of [] = []
 wires_of (a ∷ bs) = wires_from a bs
 
+-- the names of all nodes, in order
 abbrev pub names_of : Endpoint → List Node → Endpoint → List (List ℕ)
 names_of source stages sink = source.name ∷ later_names stages sink
 
@@ -199,13 +213,16 @@ is_closed source b =
     && all_differ (names_of source b.stages b.sink)
     && pointwise bytes_eq b.rest (wires_of (names_of source b.stages b.sink))
 
+-- the blueprint of a source and a body, where nothing that is tested last is wrong
 abbrev pub closed : Endpoint → BodyLines → Option Plain
 closed source b = if is_closed source b then Some (record { source = source; stages = b.stages; sink = b.sink }) else None
 
+-- the blueprint that the lines from the source's on say
 abbrev pub from_source : List (List ℕ) → Option Plain
 from_source [] = None
 from_source (l ∷ ls) = option_and_then (λ source. option_and_then (closed source) (body_of true ls)) (end_line_of (codes "source ") l)
 
+-- the blueprint that the lines say
 abbrev pub straight_of : List (List ℕ) → Option Plain
 straight_of [] = None
 straight_of (l ∷ ls) = if bytes_eq l (codes "streams 1") then from_source ls else None

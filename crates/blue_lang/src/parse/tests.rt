@@ -8,19 +8,14 @@ const HEAD: &str = "streams 1\nsource src lines in.txt\n";
 
 const TAIL: &str = "sink out lines out.txt\n";
 
-// Whether the text is in the straight form.
-fn is_straight(rt: &impl Abort, alloc: Global, text: &str) -> bool {
-    match parse(alloc, text.as_bytes()) {
+// Tries whether the text is in the straight form.
+fn check(rt: &impl Abort, alloc: Global, text: &str, straight: bool) {
+    let read = match parse(alloc, text.as_bytes()) {
         Ok(_) => true,
-        Err(ParseEnd::Unbuilt(n)) => {
-            assert_eq!(rt; n, 0);
-            false
-        }
-        Err(ParseEnd::NoMemory) => {
-            assert!(rt; false, "memory ran out");
-            false
-        }
-    }
+        Err(ParseEnd::Unbuilt(n)) => n != 0,
+        Err(ParseEnd::NoMemory) => !straight,
+    };
+    assert_eq!(rt; read, straight, "{text}");
 }
 
 // The text whose one stage is named `a` and is of this kind.
@@ -253,22 +248,20 @@ const ENDS: [(&str, &str, bool); 13] = [
 ];
 
 #[test]
-fn whole_texts_are_read(rt: HostRuntime) -> Result<(), Fail> {
+fn whole_texts_are_read(rt: HostRuntime) {
     for (text, straight) in WHOLE {
-        assert_eq!(rt; is_straight(&rt, rt.alloc(), text), straight, "{text}");
+        check(&rt, rt.alloc(), text, straight);
     }
-    Ok(())
 }
 
 #[test]
 fn kinds_are_read(rt: HostRuntime) -> Result<(), Fail> {
     for (kind, straight) in KINDS {
-        let text = of_kind(rt.alloc(), kind)?;
-        assert_eq!(rt; is_straight(&rt, rt.alloc(), &text), straight, "{kind}");
+        check(&rt, rt.alloc(), &of_kind(rt.alloc(), kind)?, straight);
     }
     for (kind, straight) in BEHIND_LEN {
         let text = of_kinds(rt.alloc(), "map len", kind)?;
-        assert_eq!(rt; is_straight(&rt, rt.alloc(), &text), straight, "{kind}");
+        check(&rt, rt.alloc(), &text, straight);
     }
     Ok(())
 }
@@ -277,22 +270,14 @@ fn kinds_are_read(rt: HostRuntime) -> Result<(), Fail> {
 fn limits_are_kept(rt: HostRuntime) -> Result<(), Fail> {
     let alloc = rt.alloc();
     for (name, file, straight) in ENDS {
-        assert_eq!(rt;
-            is_straight(&rt, alloc, &of_ends(alloc, name, file)?),
-            straight,
-            "{name} {file}"
-        );
+        check(&rt, alloc, &of_ends(alloc, name, file)?, straight);
     }
     // The line is `stage a filter is ` and the word.
     for (length, straight) in [(1024, true), (1025, false)] {
         let kind = format!(in alloc; "filter is {}", long_word(alloc, length - 18)?)?;
-        assert_eq!(rt;
-            is_straight(&rt, alloc, &of_kind(alloc, &kind)?),
-            straight,
-            "{length}"
-        );
+        check(&rt, alloc, &of_kind(alloc, &kind)?, straight);
     }
-    assert!(rt; is_straight(&rt, alloc, &of_length(alloc, 1022)?));
-    assert!(rt; !is_straight(&rt, alloc, &of_length(alloc, 1023)?));
+    check(&rt, alloc, &of_length(alloc, 1022)?, true);
+    check(&rt, alloc, &of_length(alloc, 1023)?, false);
     Ok(())
 }

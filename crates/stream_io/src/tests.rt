@@ -12,7 +12,7 @@ use crate::real::{DirFolder, StdConsole};
 use crate::sure::{SureDrain, SureFolder};
 use elem_core::line::Line;
 use std::alloc::{AllocError, Global};
-use std::process::Abort;
+use std::fs;
 use std::test::Fail;
 
 fn name(alloc: Global, text: &[u8]) -> Result<Line, AllocError>
@@ -90,9 +90,9 @@ fn written<F: Folder>(alloc: Global, folder: &mut F, name: &Line, bytes: &[u8]) 
         Ok(mut drain) => {
             let whole = put_all(&mut drain, bytes);
             folder.close_out(drain);
-            if whole { b"ok" } else { b"fault" }
+            if whole { b" ok " } else { b" fault " }
         }
-        Err(fault) => fault_text(fault),
+        Err(_) => b" missing ",
     }
 }
 
@@ -102,132 +102,151 @@ fn folder_of(
     fails: Vec<FailAt>,
     step: u32,
     room: u32,
-) -> Result<MemFolder, AllocError>
-    requires { 0 < step }
-{
+) -> Result<MemFolder, AllocError> {
     let mut files = Vec::new(alloc);
     files.push(NamedFile {
         name: name(alloc, b"f")?,
         bytes,
     })?;
-    Ok(MemFolder::new(files, fails, step, room))
+    Ok(MemFolder::new(files, fails, step.max(1), room))
 }
 
-fn draws(
-    rt: &impl Abort,
-    alloc: Global,
-    bytes: &[u8],
-    step: u32,
-    expected: &[u8],
-) -> Result<(), AllocError>
-    requires { 0 < step }
-{
-    let bytes = Vec::from_slice(alloc, bytes)?;
-    let mut folder = folder_of(alloc, bytes, Vec::new(alloc), step, 0)?;
-    let text = drawn(alloc, &mut folder, &name(alloc, b"f")?)?;
-    assert_eq!(rt; text.as_slice(), expected);
-    Ok(())
+// A file of bytes, then `x` so many times, then bytes; and what is drawn of it.
+#[derive(Drop)]
+struct Lines {
+    before: &'static [u8],
+    long: u32,
+    after: &'static [u8],
+    drawn: &'static [u8],
 }
 
-fn draws_by_steps(
-    rt: &impl Abort,
-    alloc: Global,
-    bytes: &[u8],
-    expected: &[u8],
-) -> Result<(), AllocError> {
-    draws(rt, alloc, bytes, 1, expected)?;
-    draws(rt, alloc, bytes, 2, expected)?;
-    draws(rt, alloc, bytes, 3, expected)?;
-    draws(rt, alloc, bytes, 4096, expected)
-}
-
-fn long(alloc: Global, before: &[u8], size: usize, after: &[u8]) -> Result<Vec<u8>, AllocError> {
-    let mut bytes = Vec::from_slice(alloc, before)?;
-    for _ in 0..size {
-        bytes.push(b'x')?;
+impl Lines {
+    fn new(before: &'static [u8], long: u32, after: &'static [u8], drawn: &'static [u8]) -> Lines {
+        Lines {
+            before,
+            long,
+            after,
+            drawn,
+        }
     }
-    bytes.extend_from_slice(after)?;
-    Ok(bytes)
-}
 
-// The file is read, written and read again, where one call may fail.
-fn row(
-    rt: &impl Abort,
-    alloc: Global,
-    op: Op,
-    nth: u32,
-    step: u32,
-    room: u32,
-    expected: &[u8],
-) -> Result<(), AllocError>
-    requires { 0 < step }
-{
-    let mut fails = Vec::new(alloc);
-    fails.push(FailAt {
-        name: name(alloc, b"f")?,
-        op,
-        nth,
-    })?;
-    let bytes = Vec::from_slice(alloc, b"a\nb")?;
-    let mut folder = folder_of(alloc, bytes, fails, step, room)?;
-    let f = name(alloc, b"f")?;
-    let mut text = drawn(alloc, &mut folder, &f)?;
-    text.push(b' ')?;
-    text.extend_from_slice(written(alloc, &mut folder, &f, b"xy\n"))?;
-    text.push(b' ')?;
-    let again = drawn(alloc, &mut folder, &f)?;
-    text.extend_from_slice(&again)?;
-    assert_eq!(rt; text.as_slice(), expected);
-    assert_eq!(rt; folder.files().len(), 1);
-    assert!(rt; folder.tells());
-    Ok(())
+    fn bytes(&self, alloc: Global) -> Result<Vec<u8>, AllocError> {
+        let mut bytes = Vec::from_slice(alloc, self.before)?;
+        for _ in 0..self.long {
+            bytes.push(b'x')?;
+        }
+        bytes.extend_from_slice(self.after)?;
+        Ok(bytes)
+    }
+
+    fn drawn_by(&self, alloc: Global, step: u32) -> Result<Vec<u8>, AllocError> {
+        let bytes = self.bytes(alloc)?;
+        let mut folder = folder_of(alloc, bytes, Vec::new(alloc), step, 0)?;
+        drawn(alloc, &mut folder, &name(alloc, b"f")?)
+    }
 }
 
 #[test]
 fn lines_are_drawn(rt: HostRuntime) -> Result<(), Fail> {
-    let alloc = rt.alloc();
-    draws_by_steps(&rt, alloc, b"", b".")?;
-    draws_by_steps(&rt, alloc, b"a\nb", b"a/b/.")?;
-    draws_by_steps(&rt, alloc, b"a\r\nb\n", b"a\r/b/.")?;
-    draws_by_steps(&rt, alloc, b"\n\nab\n", b"//ab/.")?;
-    draws_by_steps(&rt, alloc, &long(alloc, b"", 65536, b"\ny")?, b"L/y/.")?;
-    draws_by_steps(&rt, alloc, &long(alloc, b"a\n", 65536, b"")?, b"a/L/.")?;
-    draws_by_steps(&rt, alloc, &long(alloc, b"a\n", 65537, b"\ny")?, b"a/!")?;
-    draws_by_steps(&rt, alloc, &long(alloc, b"", 70000, b"")?, b"!")?;
+    let rows = [
+        Lines::new(b"", 0, b"", b"."),
+        Lines::new(b"a\nb", 0, b"", b"a/b/."),
+        Lines::new(b"a\r\nb\n", 0, b"", b"a\r/b/."),
+        Lines::new(b"\n\nab\n", 0, b"", b"//ab/."),
+        Lines::new(b"", 65536, b"\ny", b"L/y/."),
+        Lines::new(b"a\n", 65536, b"", b"a/L/."),
+        Lines::new(b"a\n", 65537, b"\ny", b"a/!"),
+        Lines::new(b"", 70000, b"", b"!"),
+    ];
+    for row in &rows {
+        for step in [1, 2, 3, 4096] {
+            let text = row.drawn_by(rt.alloc(), step)?;
+            assert_eq!(rt; text.as_slice(), row.drawn);
+        }
+    }
     Ok(())
+}
+
+// One call that fails, the step and the room of a folder, and what is seen in it.
+#[derive(Drop)]
+struct Calls {
+    op: Op,
+    nth: u32,
+    step: u32,
+    room: u32,
+    seen: &'static [u8],
+}
+
+impl Calls {
+    fn new(op: Op, nth: u32, step: u32, room: u32, seen: &'static [u8]) -> Calls {
+        Calls {
+            op,
+            nth,
+            step,
+            room,
+            seen,
+        }
+    }
+
+    fn folder(&self, alloc: Global) -> Result<MemFolder, AllocError> {
+        let mut fails = Vec::new(alloc);
+        fails.push(FailAt {
+            name: name(alloc, b"f")?,
+            op: self.op,
+            nth: self.nth,
+        })?;
+        folder_of(
+            alloc,
+            Vec::from_slice(alloc, b"a\nb")?,
+            fails,
+            self.step,
+            self.room,
+        )
+    }
+}
+
+// What is drawn of a file, how it is then written, and what is drawn of it again.
+fn seen<F: Folder>(alloc: Global, folder: &mut F, name: &Line) -> Result<Vec<u8>, AllocError> {
+    let mut text = drawn(alloc, folder, name)?;
+    text.extend_from_slice(written(alloc, folder, name, b"xy\n"))?;
+    let again = drawn(alloc, folder, name)?;
+    text.extend_from_slice(&again)?;
+    Ok(text)
 }
 
 #[test]
 fn listed_calls_fail(rt: HostRuntime) -> Result<(), Fail> {
-    let alloc = rt.alloc();
-    row(&rt, alloc, Op::OpenIn, 9, 4096, 9, b"a/b/. ok xy/.")?;
-    row(&rt, alloc, Op::OpenIn, 1, 4096, 9, b"missing ok xy/.")?;
-    row(&rt, alloc, Op::OpenIn, 2, 4096, 9, b"a/b/. ok missing")?;
-    row(&rt, alloc, Op::OpenOut, 1, 4096, 9, b"a/b/. missing a/b/.")?;
-    row(&rt, alloc, Op::Read, 1, 4096, 9, b"f ok xy/.")?;
-    row(&rt, alloc, Op::Read, 2, 4096, 9, b"a/f ok xy/.")?;
-    row(&rt, alloc, Op::Read, 3, 4096, 9, b"a/b/f ok xy/.")?;
-    row(&rt, alloc, Op::Read, 4, 4096, 9, b"a/b/. ok f")?;
-    row(&rt, alloc, Op::Read, 5, 4096, 9, b"a/b/. ok xy/f")?;
-    row(&rt, alloc, Op::Write, 1, 4096, 9, b"a/b/. fault .")?;
-    row(&rt, alloc, Op::Write, 2, 4096, 9, b"a/b/. ok xy/.")?;
-    row(&rt, alloc, Op::Write, 9, 4096, 2, b"a/b/. fault xy/.")?;
-    Ok(())
-}
-
-#[test]
-fn listed_calls_fail_by_steps(rt: HostRuntime) -> Result<(), Fail> {
-    let alloc = rt.alloc();
-    row(&rt, alloc, Op::Read, 1, 1, 9, b"f ok xy/.")?;
-    row(&rt, alloc, Op::Read, 3, 1, 9, b"a/f ok xy/.")?;
-    row(&rt, alloc, Op::Read, 4, 1, 9, b"a/f ok xy/.")?;
-    row(&rt, alloc, Op::Read, 5, 1, 9, b"a/b/f ok xy/.")?;
-    row(&rt, alloc, Op::Read, 6, 1, 9, b"a/b/. ok f")?;
-    row(&rt, alloc, Op::Read, 9, 1, 9, b"a/b/. ok xy/f")?;
-    row(&rt, alloc, Op::Write, 2, 1, 9, b"a/b/. fault x/.")?;
-    row(&rt, alloc, Op::Write, 3, 1, 9, b"a/b/. fault xy/.")?;
-    row(&rt, alloc, Op::Write, 2, 2, 9, b"a/b/. fault xy/.")?;
-    row(&rt, alloc, Op::Write, 1, 3, 9, b"a/b/. fault .")?;
+    let rows = [
+        Calls::new(Op::OpenIn, 9, 4096, 9, b"a/b/. ok xy/."),
+        Calls::new(Op::OpenIn, 1, 4096, 9, b"missing ok xy/."),
+        Calls::new(Op::OpenIn, 2, 4096, 9, b"a/b/. ok missing"),
+        Calls::new(Op::OpenOut, 1, 4096, 9, b"a/b/. missing a/b/."),
+        Calls::new(Op::Read, 1, 4096, 9, b"f ok xy/."),
+        Calls::new(Op::Read, 2, 4096, 9, b"a/f ok xy/."),
+        Calls::new(Op::Read, 3, 4096, 9, b"a/b/f ok xy/."),
+        Calls::new(Op::Read, 4, 4096, 9, b"a/b/. ok f"),
+        Calls::new(Op::Read, 5, 4096, 9, b"a/b/. ok xy/f"),
+        Calls::new(Op::Write, 1, 4096, 9, b"a/b/. fault ."),
+        Calls::new(Op::Write, 2, 4096, 9, b"a/b/. ok xy/."),
+        Calls::new(Op::Write, 9, 4096, 2, b"a/b/. fault xy/."),
+        Calls::new(Op::Read, 1, 1, 9, b"f ok xy/."),
+        Calls::new(Op::Read, 3, 1, 9, b"a/f ok xy/."),
+        Calls::new(Op::Read, 4, 1, 9, b"a/f ok xy/."),
+        Calls::new(Op::Read, 5, 1, 9, b"a/b/f ok xy/."),
+        Calls::new(Op::Read, 6, 1, 9, b"a/b/. ok f"),
+        Calls::new(Op::Read, 9, 1, 9, b"a/b/. ok xy/f"),
+        Calls::new(Op::Write, 2, 1, 9, b"a/b/. fault x/."),
+        Calls::new(Op::Write, 3, 1, 9, b"a/b/. fault xy/."),
+        Calls::new(Op::Write, 2, 2, 9, b"a/b/. fault xy/."),
+        Calls::new(Op::Write, 1, 3, 9, b"a/b/. fault ."),
+    ];
+    let f = name(rt.alloc(), b"f")?;
+    for row in &rows {
+        let mut folder = row.folder(rt.alloc())?;
+        let text = seen(rt.alloc(), &mut folder, &f)?;
+        assert_eq!(rt; text.as_slice(), row.seen);
+        assert!(rt; folder.tells() && folder.files().len() == 1);
+    }
     Ok(())
 }
 
@@ -258,20 +277,10 @@ fn sure_folder_forgets_what_is_written(rt: HostRuntime) -> Result<(), Fail> {
         bytes: Vec::from_slice(alloc, b"a\nb")?,
     })?;
     let mut folder = SureFolder::new(files, 2);
-    let f = name(alloc, b"f")?;
-    let g = name(alloc, b"g")?;
-    assert_eq!(rt;
-        drawn(alloc, &mut folder, &g)?.as_slice(),
-        b"missing".as_slice()
-    );
-    assert_eq!(rt; written(alloc, &mut folder, &g, b"xyz"), b"ok".as_slice());
-    assert_eq!(rt; drawn(alloc, &mut folder, &g)?.as_slice(), b".".as_slice());
-    assert_eq!(rt;
-        drawn(alloc, &mut folder, &f)?.as_slice(),
-        b"a/b/.".as_slice()
-    );
-    assert_eq!(rt; written(alloc, &mut folder, &f, b"xyz"), b"ok".as_slice());
-    assert_eq!(rt; drawn(alloc, &mut folder, &f)?.as_slice(), b".".as_slice());
+    let other = seen(alloc, &mut folder, &name(alloc, b"g")?)?;
+    assert_eq!(rt; other.as_slice(), b"missing ok .".as_slice());
+    let text = seen(alloc, &mut folder, &name(alloc, b"f")?)?;
+    assert_eq!(rt; text.as_slice(), b"a/b/. ok .".as_slice());
     Ok(())
 }
 
@@ -279,29 +288,18 @@ fn sure_folder_forgets_what_is_written(rt: HostRuntime) -> Result<(), Fail> {
 fn real_folder_holds_files(rt: HostRuntime) -> Result<(), Fail> {
     let alloc = rt.alloc();
     let mut folder = DirFolder::new(rt.clone()?);
-    let f = name(alloc, b"f.txt")?;
-    assert_eq!(rt;
-        drawn(alloc, &mut folder, &f)?.as_slice(),
-        b"missing".as_slice()
-    );
-    assert_eq!(rt; written(alloc, &mut folder, &f, b"a\nb"), b"ok".as_slice());
-    assert_eq!(rt;
-        drawn(alloc, &mut folder, &f)?.as_slice(),
-        b"a/b/.".as_slice()
-    );
-    assert_eq!(rt; written(alloc, &mut folder, &f, b"c\n"), b"ok".as_slice());
-    assert_eq!(rt;
-        drawn(alloc, &mut folder, &f)?.as_slice(),
-        b"c/.".as_slice()
-    );
-    let outer = name(alloc, b"../f.txt")?;
-    assert_eq!(rt;
-        drawn(alloc, &mut folder, &outer)?.as_slice(),
-        b"missing".as_slice()
-    );
-    assert_eq!(rt;
-        written(alloc, &mut folder, &outer, b"a"),
-        b"missing".as_slice()
-    );
+    let f = name(alloc, b"written_by_a_test.txt")?;
+    let _ = fs::remove_file(&rt, "written_by_a_test.txt");
+    let text = seen(alloc, &mut folder, &f)?;
+    assert_eq!(rt; text.as_slice(), b"missing ok xy/.".as_slice());
+    let text = seen(alloc, &mut folder, &f)?;
+    assert_eq!(rt; text.as_slice(), b"xy/. ok xy/.".as_slice());
+    fs::remove_file(&rt, "written_by_a_test.txt")?;
+    let outer = seen(
+        alloc,
+        &mut folder,
+        &name(alloc, b"../written_by_a_test.txt")?,
+    )?;
+    assert_eq!(rt; outer.as_slice(), b"missing missing missing".as_slice());
     Ok(())
 }

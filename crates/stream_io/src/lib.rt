@@ -10,3 +10,5 @@ pub mod outside;
 pub mod real;
 pub mod sure;
 mod tally;
+#[cfg(test)]
+mod tests;

@@ -129,7 +129,7 @@ lacks_later : (old mid new : FolderState) (n : List ℕ) → SameFiles old mid �
 lacks_later old mid new n same quiet (inl h) = inl (same.told h.0, sym (same.files h.0 n) ∙ h.1)
 lacks_later old mid new n same quiet (inr h) = inr (rose_later (old.refusals n) (mid.refusals n) (new.refusals n) (quiet n) h)
 
-leaves_later : (old mid new : FolderState) (input output : List ℕ) (stages : List Node) (count : ℕ) → IsTrue mid.tells → SameFiles old mid → LeavesFiles mid new input output stages count → LeavesFiles old new input output stages count
+abbrev leaves_later : (old mid new : FolderState) (input output : List ℕ) (stages : List Node) (count : ℕ) → IsTrue mid.tells → SameFiles old mid → LeavesFiles mid new input output stages count → LeavesFiles old new input output stages count
 leaves_later old mid new input output stages count tells same l = record {
   bytes = l.bytes;
   input_is = sym (same.files tells input) ∙ l.input_is;
@@ -175,3 +175,7 @@ causes_later status.Done old mid new file t r c = (quiet_two _ _ _ r.refusals c.
 causes_later status.Usage old mid new file t r c = (quiet_two _ _ _ r.refusals c.0, quiet_two _ _ _ r.rfaults c.1, quiet_two _ _ _ r.wfaults c.2)
 causes_later (status.Unbuilt k) old mid new file t r c = (quiet_two _ _ _ r.refusals c.0, quiet_two _ _ _ r.rfaults c.1, quiet_two _ _ _ r.wfaults c.2)
 causes_later status.NoMemory old mid new file t r c = (quiet_two _ _ _ r.refusals c.0, quiet_two _ _ _ r.rfaults c.1, quiet_two _ _ _ r.wfaults c.2)
+
+-- what is told of that status is told of one that equals it
+pub unbuilt_is : (s : Status) (n : ℕ) (sinks : List SinkEnd) (file : List ℕ) (old new : FolderState) → s ≡ status.Unbuilt n → Told (status.Unbuilt n) sinks file old new → Told s sinks file old new
+unbuilt_is s n sinks file old new e h = subst (λ x. Told x sinks file old new) (sym e) h

@@ -159,8 +159,9 @@ pub fn run_file<F: Folder>(alloc: Global, folder: &mut F, file: &Line) -> Outcom
         Err(ParseEnd::Unbuilt(n)) => return without_sinks(alloc, Status::Unbuilt(n)),
         Err(ParseEnd::NoMemory) => return without_sinks(alloc, Status::NoMemory),
     };
-    if !is_apart(&blueprint, file) {
-        return without_sinks(alloc, Status::Unbuilt(0));
+    if is_apart(&blueprint, file) {
+        run_blueprint(alloc, folder, blueprint)
+    } else {
+        without_sinks(alloc, Status::Unbuilt(0))
     }
-    run_blueprint(alloc, folder, blueprint)
 }

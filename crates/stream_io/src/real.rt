@@ -66,10 +66,13 @@ pub struct DirFolder<R: Files> {
     tally: Tally,
 }
 
-impl<R: Files> DirFolder<R> {
+impl<R: Files + Drop> DirFolder<R>
+where
+    R::File: Send,
+{
     /// The current folder of this runtime. It takes no memory.
     pub fn new(rt: R) -> DirFolder<R>
-        ensures { result.tally ≡ [] }
+        ensures { ⟦<DirFolder<R> as Folder>⟧.state result ≡ counts_of [] }
     {
         DirFolder {
             rt,
@@ -151,10 +154,10 @@ pub struct StdConsole<R> {
     faults: u64,
 }
 
-impl<R: Print> StdConsole<R> {
+impl<R: Print + Drop> StdConsole<R> {
     /// The standard output of this runtime. It takes no memory.
     pub fn new(rt: R) -> StdConsole<R>
-        ensures { result.faults ≡ 0 }
+        ensures { ⟦<StdConsole<R> as Drain>⟧.state result ≡ record { name = []; holds = None; faults = 0 } }
     {
         StdConsole { rt, faults: 0 }
     }

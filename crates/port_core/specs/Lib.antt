@@ -1,0 +1,4 @@
+pub mod Connection
+pub mod PortRules
+pub mod Decoding
+pub mod Place

@@ -1,0 +1,4 @@
+//! Connections with their port rules, the ring of those that have an event, the actions of handlers and the logs of picks.
+#![tactic(auto)]
+
+pub mod conn;

@@ -5,3 +5,6 @@ pub mod Place
 pub mod Ring
 pub mod ActList
 pub mod Picks
+pub mod View
+pub mod Call
+pub mod ListFunction

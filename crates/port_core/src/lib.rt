@@ -3,6 +3,8 @@
 
 pub mod act;
 pub mod acts;
+pub mod chain;
 pub mod conn;
 pub mod pick_log;
 pub mod ring;
+pub mod view;

@@ -1,5 +1,6 @@
 pub mod Connection
 pub mod PortRules
+pub mod Runs
 pub mod Decoding
 pub mod Place
 pub mod Ring

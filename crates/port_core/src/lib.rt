@@ -5,6 +5,7 @@ pub mod act;
 pub mod acts;
 pub mod chain;
 pub mod conn;
+pub mod laws;
 pub mod pick_log;
 pub mod ring;
 pub mod view;

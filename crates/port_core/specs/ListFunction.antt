@@ -56,3 +56,9 @@ abbrev pub Finished : ListFunction → ChainStep → List Tree → List Tree →
 Finished f Go before after = (o : List Tree) × ((f.adds [] ≡ Ok o) × (after ≡ before ++ (f.gives [] ++ o)))
 Finished f Closed before after = ⊥
 Finished f (Failed w) before after = (f.adds [] ≡ Err w) × IsPrefix before after
+
+-- all that f gave for the list, and then what the end adds: the list function at an input that ends
+pub record Ends (f : ListFunction) (took gave : List Tree) : Type 0 where
+  pub added : List Tree
+  pub adds : f.adds took ≡ Ok added
+  pub all : gave ≡ f.gives took ++ added

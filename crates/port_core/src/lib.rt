@@ -9,3 +9,6 @@ pub mod laws;
 pub mod pick_log;
 pub mod ring;
 pub mod view;
+
+#[cfg(test)]
+mod tests;

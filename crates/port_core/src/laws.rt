@@ -1,11 +1,18 @@
 // What follows from the table of port rules: each function has no body, and its contract is the law.
-ghost use Rattle.std.specs.Prelude.{◌≡◌, ◌≤◌, true, IsTrue, List, [], ◌∷◌, ◌++◌, length};
+ghost use Rattle.std.specs.Prelude.{◌≡◌, ◌≤◌, ℕ, ◌↔◌, true, false, IsTrue, Err, List, [], ◌∷◌, ◌++◌, length};
 ghost use Rattle.std.specs.List.{list_any};
 ghost use Rattle.elem_core.specs.Tree.{Tree};
 ghost use Rattle.elem_core.specs.declared.why.Cause.{Cause};
+ghost use Rattle.elem_core.specs.declared.why.Why.{Why};
 ghost use Rattle.port_core.specs.Connection.{Connection, unasked};
 ghost use Rattle.port_core.specs.PortRules as rule;
 ghost use Rattle.port_core.specs.PortRules.{Move, next};
+ghost use Rattle.port_core.specs.declared.act.Act.{Act};
+ghost use Rattle.port_core.specs.declared.chain.ChainStep.{ChainStep};
+ghost use Rattle.port_core.specs.declared.chain.ChainStep.TheVariants.{Go, Failed};
+ghost use Rattle.port_core.specs.View.{View, ActsAllowed, acted, acted_all};
+ghost use Rattle.port_core.specs.Call.{given_on};
+ghost use Rattle.port_core.specs.ListFunction.{ListFunction, Residual, Stops, Ends, Pushed, Finished, goes_on};
 ghost use Rattle.port_core.specs.Runs.{Run, is_on_pull, is_on_push, is_grab, is_closing, is_ending, pushed_in, grabbed_in};
 
 /// An output pushes only after it was pulled, before its next push, and before the connection is closed.
@@ -44,4 +51,23 @@ pub fn sides_close_once()
     ensures fail { (p : Connection) (c : Cause) → p.out_closed ≡ true → next (rule.fail c) p ≡ p }
     ensures cancel { (p : Connection) → p.in_closed ≡ true → next rule.cancel p ≡ p }
     ensures cause { (p : Connection) (c : Cause) → p.in_closed ≡ true → (next (rule.fail c) p).cause ≡ p.cause }
+{}
+
+/// Actions that follow one another: they are allowed where each part is allowed in its turn, and what they give at an output
+/// is what the parts give there. No action makes a port.
+pub fn actions_follow_one_another()
+    ensures allowed { (v : View) (a b : List Act) → ActsAllowed v (a ++ b) ↔ (ActsAllowed v a × ActsAllowed (acted_all v a) b) }
+    ensures acted { (v : View) (a b : List Act) → acted_all v (a ++ b) ≡ acted_all (acted_all v a) b }
+    ensures given { (j : ℕ) (a b : List Act) → given_on j (a ++ b) ≡ given_on j a ++ given_on j b }
+    ensures inputs { (v : View) (a : Act) → length (acted v a).ins ≡ length v.ins }
+    ensures outputs { (v : View) (a : Act) → length (acted v a).outs ≡ length v.outs }
+{}
+
+/// What a chain gave, and then what it still gives for every rest, is its list function from its start: an element more
+/// keeps this, also where the chain stops within it, and the end brings what the list function says of an input that ends.
+pub fn chains_keep_their_list_function()
+    ensures goes { (f g h : ListFunction) (took gave before now : List Tree) (t : Tree) → Residual f took gave g → Pushed g t Go before now h → (given : List Tree) × ((now ≡ before ++ given) × Residual f (took ++ t ∷ []) (gave ++ given) h) }
+    ensures stops { (f g h : ListFunction) (took gave before now : List Tree) (t : Tree) (step : ChainStep) → goes_on step ≡ false → Residual f took gave g → Pushed g t step before now h → (given : List Tree) × ((now ≡ before ++ given) × Stops f (took ++ t ∷ []) (gave ++ given) step) }
+    ensures ends { (f g : ListFunction) (took gave before now : List Tree) → Residual f took gave g → Finished g Go before now → (given : List Tree) × ((now ≡ before ++ given) × Ends f took (gave ++ given)) }
+    ensures fails { (f g : ListFunction) (took gave before now : List Tree) (w : Why) → Residual f took gave g → Finished g (Failed w) before now → f.adds took ≡ Err w }
 {}

@@ -4,7 +4,7 @@ use Rattle.std.proofs.Math.ListN.{set}
 use Rattle.std.proofs.lemmas.Grind.{common_steps}
 use Rattle.std.proofs.lemmas.Bool.Decides.{nat_tests}
 use Rattle.std.proofs.lemmas.List.{length-set}
-use Rattle.port_core.specs.Ring.{holds, Distinct, Marked, marked_count}
+use Rattle.port_core.specs.Ring.{Ring, holds, Distinct, IsRing, Marked, marked_count}
 
 pub marked_count-le : (marks : List Bool) → marked_count marks ≤ length marks
 marked_count-le [] = omega arith
@@ -38,6 +38,10 @@ pub marked_within : (marks : List Bool) (c : ℕ) → get_or marks c false ≡ t
 marked_within [] c e = cc
 marked_within (b ∷ bs) zero e = omega arith
 marked_within (b ∷ bs) (suc c) e = omega (arith, marked_within bs c e)
+
+-- the queue is a ring of its marks
+pub ring_kept : (queue : List ℕ) (marks : List Bool) (capacity : ℕ) → Marked queue marks capacity → IsRing (record { size = length marks; queue = queue })
+ring_kept queue marks capacity m = record { distinct = m.distinct; below = λ c h. marked_within marks c (sym (m.marked c) ∙ h) }
 
 pub holds-append : (queue : List ℕ) (c x : ℕ) → holds (queue ++ c ∷ []) x ≡ (holds queue x || (c == x))
 holds-append [] c x = grind (arith, common_steps)

@@ -1,5 +1,5 @@
 -- The connections that have an event, as a list of distinct numbers.
-use Rattle.std.specs.Prelude.{◌≡◌, ℕ, suc, ◌≤◌, ◌==◌, Bool, true, false, List, [], ◌∷◌, length, slice_index_or, ⊤}
+use Rattle.std.specs.Prelude.{◌≡◌, ℕ, suc, ◌<◌, ◌≤◌, ◌==◌, Bool, true, false, List, [], ◌∷◌, length, slice_index_or, ⊤}
 use Rattle.std.specs.List.{list_any}
 
 -- the connections 0 to size - 1, and those of them that wait, first in first out
@@ -15,6 +15,11 @@ holds queue c = list_any (λ x. x == c) queue
 abbrev pub Distinct : List ℕ → Type 0
 Distinct [] = ⊤
 Distinct (x ∷ xs) = (holds xs x ≡ false) × Distinct xs
+
+-- what every ring keeps: distinct numbers below its size
+pub record IsRing (r : Ring) : Type 0 where
+  pub distinct : Distinct r.queue
+  pub below : (c : ℕ) → holds r.queue c ≡ true → c < r.size
 
 -- how many connections are marked
 abbrev pub marked_count : List Bool → ℕ

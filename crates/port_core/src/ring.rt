@@ -1,5 +1,5 @@
 ghost use Rattle.std.specs.Prelude.{◌≡◌, ◌<◌, ◌∷◌, [], ◌++◌, false, IfOk, IfSome, IfNone, IsNone, ◌↔◌};
-ghost use Rattle.port_core.specs.Ring.{holds, Distinct};
+ghost use Rattle.port_core.specs.Ring.{holds, IsRing};
 
 use elem_core::why::NoMemory;
 use std::alloc::Global;
@@ -36,10 +36,10 @@ impl EventRing {
         Ok(EventRing { queue, marks })
     }
 
-    /// Whether the connection is in the ring.
+    /// Whether the connection is in the ring. What every ring keeps is known then.
     pub fn has(&self, c: u32) -> bool
         ensures has { result ≡ holds self.now.queue c }
-        ensures distinct { Distinct self.now.queue }
+        ensures ring { IsRing self.now }
     {
         let c = c as usize;
         c < self.marks.len() && self.marks[c]

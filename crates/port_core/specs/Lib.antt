@@ -8,4 +8,6 @@ pub mod ActList
 pub mod Picks
 pub mod View
 pub mod Call
+pub mod Wire
+pub mod Joint
 pub mod ListFunction

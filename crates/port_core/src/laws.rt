@@ -1,5 +1,5 @@
 // What follows from the table of port rules: each function has no body, and its contract is the law.
-ghost use Rattle.std.specs.Prelude.{◌≡◌, ◌≤◌, ℕ, ◌↔◌, true, false, IsTrue, Err, List, [], ◌∷◌, ◌++◌, length};
+ghost use Rattle.std.specs.Prelude.{◌≡◌, ◌≤◌, ℕ, Bool, ◌↔◌, ◌⊎◌, Option, true, false, IsTrue, Err, List, [], ◌∷◌, ◌++◌, length};
 ghost use Rattle.std.specs.List.{list_any};
 ghost use Rattle.elem_core.specs.Tree.{Tree};
 ghost use Rattle.elem_core.specs.declared.why.Cause.{Cause};
@@ -10,7 +10,12 @@ ghost use Rattle.port_core.specs.PortRules.{Move, next};
 ghost use Rattle.port_core.specs.declared.act.Act.{Act};
 ghost use Rattle.port_core.specs.declared.chain.ChainStep.{ChainStep};
 ghost use Rattle.port_core.specs.declared.chain.ChainStep.TheVariants.{Go, Failed};
-ghost use Rattle.port_core.specs.View.{View, ActsAllowed, acted, acted_all};
+ghost use Rattle.port_core.specs.declared.view.InView.TheVariants.{Idle};
+ghost use Rattle.port_core.specs.declared.view.OutView.TheVariants.{Asked};
+ghost use Rattle.port_core.specs.Decoding.{can_pull, can_push, is_at_rest};
+ghost use Rattle.port_core.specs.View.{View, IsInOpen, IsOutOpen, ActsAllowed, acted, acted_all};
+ghost use Rattle.port_core.specs.Wire.{Wire, new_wire, pull_of, push_of, close_of, cancel_of, delivery_of, after_delivery, again};
+ghost use Rattle.port_core.specs.Joint.{IsSound, Kept, Heard};
 ghost use Rattle.port_core.specs.Call.{given_on};
 ghost use Rattle.port_core.specs.ListFunction.{ListFunction, Residual, Stops, Ends, Pushed, Finished, goes_on};
 ghost use Rattle.port_core.specs.Runs.{Run, is_on_pull, is_on_push, is_grab, is_closing, is_ending, pushed_in, grabbed_in};
@@ -70,4 +75,23 @@ pub fn chains_keep_their_list_function()
     ensures stops { (f g h : ListFunction) (took gave before now : List Tree) (t : Tree) (step : ChainStep) → goes_on step ≡ false → Residual f took gave g → Pushed g t step before now h → (given : List Tree) × ((now ≡ before ++ given) × Stops f (took ++ t ∷ []) (gave ++ given) step) }
     ensures ends { (f g : ListFunction) (took gave before now : List Tree) → Residual f took gave g → Finished g Go before now → (given : List Tree) × ((now ≡ before ++ given) × Ends f took (gave ++ given)) }
     ensures fails { (f g : ListFunction) (took gave before now : List Tree) (w : Why) → Residual f took gave g → Finished g (Failed w) before now → f.adds took ≡ Err w }
+{}
+
+/// A stage that keeps to the port rules as it sees them keeps to the table: on a wire whose two ends do so, each action and
+/// each delivery leads from a joint state to a joint state, whether or not a closing is on its way.
+pub fn wires_stay_sound()
+    ensures new { IsSound new_wire false }
+    ensures pull { (w : Wire) (q : Bool) → IsSound w q → w.inp ≡ Idle → Kept (pull_of w) q (can_pull w.conn) }
+    ensures push { (e : Tree) (w : Wire) (q : Bool) → IsSound w q → w.out ≡ Asked → Kept (push_of e w) q (can_push w.conn) }
+    ensures close { (c : Option Cause) (w : Wire) (q : Bool) → IsSound w q → IsOutOpen w.out → Kept (close_of c w) q (is_at_rest w.conn) }
+    ensures cancel { (w : Wire) (q : Bool) → IsSound w q → IsInOpen w.inp → Kept (cancel_of w) q (is_at_rest w.conn) }
+    ensures deliver { (w : Wire) → IsSound w true → IsSound (after_delivery (delivery_of w) w) (again (delivery_of w)) }
+{}
+
+/// What a stage sees of its ports and the table say the same: a pull or a push that the stage's view allows is dropped only
+/// where the other end has closed its side and that has not come, and what is delivered comes where the view allows it.
+pub fn views_agree_with_the_table()
+    ensures pull { (w : Wire) (q : Bool) → IsSound w q → w.inp ≡ Idle → IsTrue (can_pull w.conn) ⊎ (w.conn.out_closed ≡ true) }
+    ensures push { (w : Wire) (q : Bool) → IsSound w q → w.out ≡ Asked → IsTrue (can_push w.conn) ⊎ (w.conn.in_closed ≡ true) }
+    ensures delivery { (w : Wire) → IsSound w true → Heard (delivery_of w) w }
 {}

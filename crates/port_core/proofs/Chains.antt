@@ -1,5 +1,5 @@
 -- What a chain gave, and what it still gives: one call more.
-use Rattle.std.proofs.Common.{◌≡◌, false, List, [], ◌∷◌, ◌++◌, Ok, Err, refl, sym, ◌∙◌, ap, append_assoc, append-nil}
+use Rattle.std.proofs.Common.{◌≡◌, false, List, [], ◌∷◌, ◌++◌, Err, sym, ◌∙◌, ap, append_assoc, append-nil}
 use Rattle.elem_core.specs.Tree.{Tree}
 use Rattle.elem_core.specs.declared.why.Why.{Why}
 use Rattle.port_core.specs.declared.chain.ChainStep.{ChainStep}

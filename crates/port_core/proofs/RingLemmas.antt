@@ -4,7 +4,7 @@ use Rattle.std.proofs.Math.ListN.{set}
 use Rattle.std.proofs.lemmas.Grind.{common_steps}
 use Rattle.std.proofs.lemmas.Bool.Decides.{nat_tests}
 use Rattle.std.proofs.lemmas.List.{length-set}
-use Rattle.port_core.specs.Ring.{Ring, holds, Distinct, IsRing, Marked, marked_count}
+use Rattle.port_core.specs.Ring.{holds, Distinct, IsRing, Marked, marked_count}
 
 pub marked_count-le : (marks : List Bool) → marked_count marks ≤ length marks
 marked_count-le [] = omega arith

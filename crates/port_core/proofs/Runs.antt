@@ -1,12 +1,11 @@
 -- What holds over the runs of the table of port rules.
-use Rattle.std.proofs.Common.{◌≡◌, ◌≤◌, Bool, true, false, IsTrue, ◌||◌, not, ◌&&◌, ◌⊎◌, inl, inr, List, [], ◌∷◌, ◌++◌, length, Option, Some, None, refl, sym, ◌∙◌, ap, append_assoc, append-nil, arith}
+use Rattle.std.proofs.Common.{◌≡◌, Bool, true, false, ◌⊎◌, inl, inr, List, [], ◌∷◌, ◌++◌, None, refl, sym, ◌∙◌}
 use Rattle.std.specs.List.{list_any}
 use Rattle.elem_core.specs.Tree.{Tree}
-use Rattle.elem_core.specs.declared.why.Cause.{Cause}
-use Rattle.port_core.specs.Connection.{Step, quiet, pulled, ready, pushed, Connection, unasked}
+use Rattle.port_core.specs.Connection.{quiet, pulled, ready, pushed, Connection}
 use Rattle.port_core.specs.PortRules.{Move, pull, on_pull, push, on_push, grab, complete, fail, cancel, on_cancel, on_finish, on_fail, IsOpen, Allowed, next}
-use Rattle.port_core.specs.Decoding.{is_open, is_idle, is_ready}
-use Rattle.port_core.specs.Runs.{Run, led, is_on_pull, is_on_push, is_grab, is_closing, is_ending, pushed_in, grabbed_in}
+use Rattle.port_core.specs.Decoding.{is_idle, is_ready}
+use Rattle.port_core.specs.Runs.{Run, is_on_pull, is_on_push, is_grab, is_closing, is_ending}
 
 is_one : (b : Bool) → (b ≡ true) ⊎ (b ≡ false)
 is_one true = inl refl

@@ -1,10 +1,10 @@
 -- What a stage sees of its ports as its actions follow one another.
-use Rattle.std.proofs.Common.{◌≡◌, ◌≢◌, ℕ, zero, suc, ◌==◌, List, [], ◌∷◌, ◌++◌, length, refl, sym, ◌∙◌, ap, append_assoc}
+use Rattle.std.proofs.Common.{◌≡◌, ℕ, List, [], ◌∷◌, ◌++◌, length, refl, sym, ◌∙◌, ap, append_assoc}
 use Rattle.std.proofs.lemmas.List.{length-set}
 use Rattle.elem_core.specs.declared.item.Item.{Item}
 use Rattle.port_core.specs.declared.act.Act.{Act}
 use Rattle.port_core.specs.declared.act.Act.TheVariants.{Pull, Push, Complete, FailOut, Cancel}
-use Rattle.port_core.specs.View.{View, acted, ActAllowed, ActsAllowed, acted_all}
+use Rattle.port_core.specs.View.{View, acted, ActsAllowed, acted_all}
 use Rattle.port_core.specs.Call.{given_by, given_on}
 
 pub acted_append : (v : View) (a b : List Act) → acted_all v (a ++ b) ≡ acted_all (acted_all v a) b

@@ -80,11 +80,3 @@ pub record Obeys (call : Call) (RowOld RowNew : View → Type 0) (acts : List Ac
 -- there is what the stage may know as the call comes
 abbrev pub Meets : Call → (View → Type 0) → Type 0
 Meets call Row = (v : View) × (CallAllowed call v × Row v)
-
--- a fact of a stage with one input and one output
-abbrev pub OneOneOf : (InView → OutView → Type 0) → List InView → List OutView → Type 0
-OneOneOf P (x ∷ []) (y ∷ []) = P x y
-OneOneOf P _ _ = ⊥
-
-abbrev pub OneOne : (InView → OutView → Type 0) → View → Type 0
-OneOne P v = OneOneOf P v.ins v.outs

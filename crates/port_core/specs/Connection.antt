@@ -1,5 +1,5 @@
 -- A connection of one output to one input, as contracts see it.
-use Rattle.std.specs.Prelude.{Bool, false, Option, None, ◌≡◌}
+use Rattle.std.specs.Prelude.{Bool, false, Option, None}
 use Rattle.elem_core.specs.Tree.{Tree}
 use Rattle.elem_core.specs.declared.why.Cause.{Cause}
 

@@ -6,12 +6,10 @@ use Rattle.elem_core.specs.declared.why.Cause.{Cause}
 use Rattle.elem_core.specs.declared.item.Item.{Item}
 use Rattle.elem_core.specs.declared.item.Item.TheVariants as item
 use Rattle.port_core.specs.Connection.{Step, quiet, pulled, ready, pushed, Connection}
-use Rattle.port_core.specs.View.{IsInOpen, IsOutOpen}
+use Rattle.port_core.specs.View.{IsOutOpen}
 use Rattle.port_core.specs.Call.{MayCome}
 use Rattle.port_core.specs.Wire.{Wire, end_of, Delivery, nothing, ask, refusal, brought}
-use Rattle.port_core.specs.declared.view.InView.{InView}
 use Rattle.port_core.specs.declared.view.InView.TheVariants.{Idle, Waiting, Over, Left}
-use Rattle.port_core.specs.declared.view.OutView.{OutView}
 use Rattle.port_core.specs.declared.view.OutView.TheVariants.{Unasked, Asked, Shut, Refused}
 
 -- Where both ends are open: nobody asked, the ask is on its way, the ask has come, or an element is on its way. Where one

@@ -1,9 +1,9 @@
 -- The table of port rules: at which moments a connection allows each call and each delivery, and what it is then.
 -- It follows the chapter on custom stream processing of the Akka Streams 2.6 reference. That a pull needs nothing to grab is own.
-use Rattle.std.specs.Prelude.{◌≡◌, Bool, true, false, Option, None, Some, List, [], ◌∷◌, ⊤}
+use Rattle.std.specs.Prelude.{◌≡◌, Bool, true, false, Option, None, Some, ⊤}
 use Rattle.elem_core.specs.Tree.{Tree}
 use Rattle.elem_core.specs.declared.why.Cause.{Cause}
-use Rattle.port_core.specs.Connection.{Step, quiet, pulled, ready, pushed, Connection}
+use Rattle.port_core.specs.Connection.{quiet, pulled, ready, pushed, Connection}
 
 -- what is done at a connection: the calls of its two ends, and the deliveries to them, which have the names of the handlers
 pub data Move : Type 0 where

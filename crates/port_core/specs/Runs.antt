@@ -1,8 +1,8 @@
 -- What happens at a connection over time: a list of moves, each allowed when it comes.
-use Rattle.std.specs.Prelude.{Bool, true, false, List, [], ◌∷◌, ◌++◌, ⊤}
+use Rattle.std.specs.Prelude.{Bool, true, false, List, [], ◌∷◌, ⊤}
 use Rattle.elem_core.specs.Tree.{Tree}
 use Rattle.port_core.specs.Connection.{Connection}
-use Rattle.port_core.specs.PortRules.{Move, pull, on_pull, push, on_push, grab, complete, fail, cancel, on_cancel, on_finish, on_fail, Allowed, next}
+use Rattle.port_core.specs.PortRules.{Move, on_pull, push, on_push, grab, complete, fail, cancel, on_cancel, on_finish, on_fail, Allowed, next}
 
 -- from p on, the table allows each move in its turn
 abbrev pub Run : Connection → List Move → Type 0

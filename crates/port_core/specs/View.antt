@@ -66,3 +66,11 @@ ActsAllowed v (a ∷ acts) = ActAllowed v a × ActsAllowed (acted v a) acts
 abbrev pub acted_all : View → List Act → View
 acted_all v [] = v
 acted_all v (a ∷ acts) = acted_all (acted v a) acts
+
+-- a fact of a stage with one input and one output
+abbrev pub OneOneOf : (InView → OutView → Type 0) → List InView → List OutView → Type 0
+OneOneOf P (x ∷ []) (y ∷ []) = P x y
+OneOneOf P _ _ = ⊥
+
+abbrev pub OneOne : (InView → OutView → Type 0) → View → Type 0
+OneOne P v = OneOneOf P v.ins v.outs

@@ -1,4 +1,4 @@
-ghost use Rattle.std.specs.Prelude.{◌≡◌, ◌↔◌, IsTrue, IsSome, IfSome, Some, None};
+ghost use Rattle.std.specs.Prelude.{◌≡◌, ◌↔◌, IsTrue, not, IsSome, IfSome, Some, None};
 ghost use Rattle.elem_core.specs.Tree.{Tree};
 ghost use Rattle.port_core.specs.Connection.{unasked};
 ghost use Rattle.port_core.specs.PortRules as rule;
@@ -206,10 +206,17 @@ impl Conn {
         self.cause
     }
 
+    /// Whether a side is closed.
+    pub fn is_closed(&self) -> bool
+        ensures { result ≡ not (is_open self.now) }
+    {
+        self.in_closed || self.out_closed
+    }
+
     fn is_open(&self) -> bool
         ensures { result ≡ is_open self.now }
     {
-        !self.in_closed && !self.out_closed
+        !self.is_closed()
     }
 
     fn is_at_rest(&self) -> bool

@@ -8,7 +8,6 @@ pub mod conn;
 pub mod laws;
 pub mod pick_log;
 pub mod ring;
-pub mod view;
-
 #[cfg(test)]
 mod tests;
+pub mod view;

@@ -1,4 +1,4 @@
-ghost use Rattle.std.specs.Prelude.{◌≡◌, ◌<◌, ◌∷◌, [], ◌++◌, false, IfOk, IfSome, IfNone, IsNone, ◌↔◌};
+ghost use Rattle.std.specs.Prelude.{◌≡◌, ◌<◌, ◌∷◌, [], ◌++◌, false, IsTrue, IfOk, IfSome, IfNone, IsNone, ◌↔◌};
 ghost use Rattle.port_core.specs.Ring.{holds, IsRing};
 
 use elem_core::why::NoMemory;
@@ -43,6 +43,13 @@ impl EventRing {
     {
         let c = c as usize;
         c < self.marks.len() && self.marks[c]
+    }
+
+    /// Whether no connection is in the ring.
+    pub fn is_empty(&self) -> bool
+        ensures { IsTrue result ↔ (self.now.queue ≡ []) }
+    {
+        self.queue.is_empty()
     }
 
     /// Puts a connection last. It takes no memory.

@@ -17,11 +17,12 @@ pub data Call : Type 0 where
   brings : ℕ → Item → Call
   cancels : ℕ → Call
 
--- nothing was asked, and nothing came
+-- no input was asked
 abbrev pub AllIdle : List InView → Type 0
 AllIdle [] = ⊤
 AllIdle (x ∷ xs) = (x ≡ Idle) × AllIdle xs
 
+-- no output was asked
 abbrev pub AllUnasked : List OutView → Type 0
 AllUnasked [] = ⊤
 AllUnasked (y ∷ ys) = (y ≡ Unasked) × AllUnasked ys
@@ -59,7 +60,7 @@ brought_to i (asks j) = []
 brought_to i (brings k x) = if k == i then x ∷ [] else []
 brought_to i (cancels j) = []
 
--- what an action gives at output j, and what actions give there
+-- what an action gives at output j
 abbrev pub given_by : ℕ → Act → List Item
 given_by j (Pull i) = []
 given_by j (Push k e) = if k == j then item.Elem e ∷ [] else []
@@ -67,6 +68,7 @@ given_by j (Complete k) = if k == j then item.Ended ∷ [] else []
 given_by j (FailOut k c) = if k == j then item.Failed c ∷ [] else []
 given_by j (Cancel i) = []
 
+-- what actions give there
 abbrev pub given_on : ℕ → List Act → List Item
 given_on j [] = []
 given_on j (a ∷ acts) = given_by j a ++ given_on j acts

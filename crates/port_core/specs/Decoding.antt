@@ -15,6 +15,7 @@ is_idle pulled g = false
 is_idle ready g = false
 is_idle (pushed e) g = false
 
+-- the output was asked, and did not push since
 abbrev pub is_ready : Step → Bool
 is_ready quiet = false
 is_ready pulled = false
@@ -28,7 +29,7 @@ is_moving pulled = true
 is_moving ready = false
 is_moving (pushed e) = true
 
--- the closed sides stand first in each test, since it is then known at a closed side whatever the step is
+-- No side is closed. This stands first in each test, which is then known at a closed side whatever the step is.
 abbrev pub is_open : Connection → Bool
 is_open p = not p.in_closed && not p.out_closed
 
@@ -56,13 +57,14 @@ closing_by quiet c = ending_by c
 closing_by pulled c = ending_by c
 closing_by ready c = ending_by c
 
+-- where no side is closed: an element or an ask that is on its way
 abbrev pub moving_by : Step → Event
 moving_by (pushed e) = Push
 moving_by pulled = Pull
 moving_by quiet = Nothing
 moving_by ready = Nothing
 
--- the event by the closed sides, the input's first
+-- by the closed sides, the input's first and the output's second
 abbrev pub event_by : Bool → Bool → Step → Option Cause → Event
 event_by false false s c = moving_by s
 event_by true false s c = Cancel
@@ -80,7 +82,7 @@ arrived_by p quiet = p
 arrived_by p pulled = p
 arrived_by p ready = p
 
--- the connection once the event was delivered
+-- the connection once this event was delivered
 abbrev pub after : Event → Connection → Connection
 after Push p = arrived_by p p.step
 after PushThenClose p = arrived_by p p.step
@@ -90,6 +92,7 @@ after Finish p = next on_finish p
 after Fail p = record p { in_closed = true }
 after Nothing p = p
 
+-- the connection once its event was delivered
 abbrev pub delivered : Connection → Connection
 delivered p = after (event_of p) p
 

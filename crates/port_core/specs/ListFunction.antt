@@ -19,6 +19,7 @@ pub record Same (f g : ListFunction) : Type 0 where
   pub stop : (l : List Tree) → f.stop l ≡ g.stop l
   pub adds : (l : List Tree) → f.adds l ≡ g.adds l
 
+-- the chain has not stopped
 abbrev pub goes_on : ChainStep → Bool
 goes_on Go = true
 goes_on Closed = false

@@ -14,14 +14,17 @@ abbrev pub led : Connection → List Move → Connection
 led p [] = p
 led p (m ∷ ms) = led (next m p) ms
 
+-- an ask comes to the output
 abbrev pub is_on_pull : Move → Bool
 is_on_pull on_pull = true
 is_on_pull _ = false
 
+-- an element comes to the input
 abbrev pub is_on_push : Move → Bool
 is_on_push (on_push e) = true
 is_on_push _ = false
 
+-- the input takes the element that came
 abbrev pub is_grab : Move → Bool
 is_grab (grab e) = true
 is_grab _ = false
@@ -42,12 +45,13 @@ is_ending on_finish = true
 is_ending (on_fail c) = true
 is_ending _ = false
 
--- the elements that were pushed, and those that were grabbed, in their order
+-- the elements that were pushed, in their order
 abbrev pub pushed_in : List Move → List Tree
 pushed_in [] = []
 pushed_in (push e ∷ ms) = e ∷ pushed_in ms
 pushed_in (_ ∷ ms) = pushed_in ms
 
+-- and those that were grabbed
 abbrev pub grabbed_in : List Move → List Tree
 grabbed_in [] = []
 grabbed_in (grab e ∷ ms) = e ∷ grabbed_in ms

@@ -13,10 +13,11 @@ pub record View : Type 0 where
   pub ins : List InView
   pub outs : List OutView
 
--- what it knows of input i, and of output j; a port that is not there is closed
+-- what it knows of input i; a port that is not there is closed
 abbrev pub in_at : View → ℕ → InView
 in_at v i = slice_index_or v.ins i Left
 
+-- what it knows of output j
 abbrev pub out_at : View → ℕ → OutView
 out_at v j = slice_index_or v.outs j Shut
 
@@ -42,10 +43,11 @@ ActAllowed v (Complete j) = IsOutOpen (out_at v j)
 ActAllowed v (FailOut j c) = IsOutOpen (out_at v j)
 ActAllowed v (Cancel i) = IsInOpen (in_at v i)
 
--- the view with another knowledge of input i, or of output j
+-- the view once it knows this of input i
 abbrev pub with_in : View → ℕ → InView → View
 with_in v i x = record v { ins = slice_set v.ins i x }
 
+-- the view once it knows this of output j
 abbrev pub with_out : View → ℕ → OutView → View
 with_out v j y = record v { outs = slice_set v.outs j y }
 
@@ -72,5 +74,6 @@ abbrev pub OneOneOf : (InView → OutView → Type 0) → List InView → List O
 OneOneOf P (x ∷ []) (y ∷ []) = P x y
 OneOneOf P _ _ = ⊥
 
+-- the same of its view
 abbrev pub OneOne : (InView → OutView → Type 0) → View → Type 0
 OneOne P v = OneOneOf P v.ins v.outs

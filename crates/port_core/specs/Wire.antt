@@ -40,6 +40,7 @@ abbrev pub end_of : Option Cause → Item
 end_of None = item.Ended
 end_of (Some c) = item.Failed c
 
+-- the connection then
 abbrev pub closed_by : Option Cause → Connection → Connection
 closed_by None p = next rule.complete p
 closed_by (Some c) p = next (rule.fail c) p
@@ -60,25 +61,28 @@ pub data Delivery : Type 0 where
   refusal : Delivery
   brought : Item → Bool → Delivery
 
+-- where no side is closed: an element or an ask that is on its way
 abbrev pub moving_item : Step → Delivery
 moving_item quiet = nothing
 moving_item pulled = ask
 moving_item ready = nothing
 moving_item (pushed e) = brought (item.Elem e) false
 
+-- where the output has closed: an element that is on its way comes first
 abbrev pub closing_item : Step → Option Cause → Delivery
 closing_item quiet c = brought (end_of c) false
 closing_item pulled c = brought (end_of c) false
 closing_item ready c = brought (end_of c) false
 closing_item (pushed e) c = brought (item.Elem e) true
 
--- by the closed sides, the input's first
+-- by the closed sides, the input's first and the output's second
 abbrev pub delivery_by : Bool → Bool → Step → Option Cause → Delivery
 delivery_by false false s c = moving_item s
 delivery_by true false s c = refusal
 delivery_by false true s c = closing_item s c
 delivery_by true true s c = nothing
 
+-- what the event of the wire brings
 abbrev pub delivery_of : Wire → Delivery
 delivery_of w = delivery_by w.conn.in_closed w.conn.out_closed w.conn.step w.conn.cause
 

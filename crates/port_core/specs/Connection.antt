@@ -1,0 +1,23 @@
+-- A connection of one output to one input, as contracts see it.
+use Rattle.std.specs.Prelude.{Bool, false, Option, None}
+use Rattle.elem_core.specs.Tree.{Tree}
+use Rattle.elem_core.specs.declared.why.Cause.{Cause}
+
+-- where the ask and the element stand: nobody asks; the input asked; the ask reached the output; an element is on its way
+pub data Step : Type 0 where
+  quiet : Step
+  pulled : Step
+  ready : Step
+  pushed : Tree → Step
+
+-- its step, the element that was delivered and waits to be grabbed, which sides are closed, and the cause of a failure
+pub record Connection : Type 0 where
+  pub step : Step
+  pub to_grab : Option Tree
+  pub in_closed : Bool
+  pub out_closed : Bool
+  pub cause : Option Cause
+
+-- a new connection: nobody asked, nothing came, and no side is closed
+abbrev pub unasked : Connection
+unasked = record { step = quiet; to_grab = None; in_closed = false; out_closed = false; cause = None }

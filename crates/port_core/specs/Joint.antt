@@ -1,0 +1,99 @@
+-- The joint states of a wire: what its two ends know of it, where its connection stands, what is on its way, and whether it
+-- is queued. A wire on which both ends keep to the port rules as they see them is always in one of them.
+use Rattle.std.specs.Prelude.{◌≡◌, Bool, true, false, ◌||◌, Option, None, List, [], ◌∷◌, ◌++◌, ⊤}
+use Rattle.elem_core.specs.Tree.{Tree}
+use Rattle.elem_core.specs.declared.why.Cause.{Cause}
+use Rattle.elem_core.specs.declared.item.Item.{Item}
+use Rattle.elem_core.specs.declared.item.Item.TheVariants as item
+use Rattle.port_core.specs.Connection.{Step, quiet, pulled, ready, pushed, Connection}
+use Rattle.port_core.specs.View.{IsOutOpen}
+use Rattle.port_core.specs.Call.{MayCome}
+use Rattle.port_core.specs.Wire.{Wire, end_of, Delivery, nothing, ask, refusal, brought}
+use Rattle.port_core.specs.declared.view.InView.TheVariants.{Idle, Waiting, Over, Left}
+use Rattle.port_core.specs.declared.view.OutView.TheVariants.{Unasked, Asked, Shut, Refused}
+
+-- Where both ends are open: nobody asked, the ask is on its way, the ask has come, or an element is on its way. Where one
+-- has closed and the other does not know it: the output, while the input has not asked (`ending`) or waits (`closing`); or
+-- the input, while the output was asked or not (`leaving`). Where both have closed: the end came (`finished`), each closed
+-- its own (`parted`), or the cancel came (`refused`).
+pub data Joint : Type 0 where
+  idle : Joint
+  asking : Joint
+  asked : Joint
+  moving : Tree → Joint
+  ending : Option Cause → Joint
+  closing : Step → Option Cause → Joint
+  leaving : Bool → Step → Joint
+  finished : Step → Option Cause → Joint
+  parted : Step → Option Cause → Joint
+  refused : Step → Option Cause → Joint
+
+-- a connection from which the element was grabbed
+abbrev conn_of : Step → Bool → Bool → Option Cause → Connection
+conn_of s i o c = record { step = s; to_grab = None; in_closed = i; out_closed = o; cause = c }
+
+-- the wire in a joint state, with its histories
+abbrev pub wire_of : Joint → List Item → List Item → Wire
+wire_of idle s g = record { out = Unasked; inp = Idle; conn = conn_of quiet false false None; sent = s; got = g }
+wire_of asking s g = record { out = Unasked; inp = Waiting; conn = conn_of pulled false false None; sent = s; got = g }
+wire_of asked s g = record { out = Asked; inp = Waiting; conn = conn_of ready false false None; sent = s; got = g }
+wire_of (moving e) s g = record { out = Unasked; inp = Waiting; conn = conn_of (pushed e) false false None; sent = s; got = g }
+wire_of (ending c) s g = record { out = Shut; inp = Idle; conn = conn_of quiet false true c; sent = s; got = g }
+wire_of (closing t c) s g = record { out = Shut; inp = Waiting; conn = conn_of t false true c; sent = s; got = g }
+wire_of (leaving true t) s g = record { out = Asked; inp = Left; conn = conn_of t true false None; sent = s; got = g }
+wire_of (leaving false t) s g = record { out = Unasked; inp = Left; conn = conn_of t true false None; sent = s; got = g }
+wire_of (finished t c) s g = record { out = Shut; inp = Over; conn = conn_of t true true c; sent = s; got = g }
+wire_of (parted t c) s g = record { out = Shut; inp = Left; conn = conn_of t true true c; sent = s; got = g }
+wire_of (refused t c) s g = record { out = Refused; inp = Left; conn = conn_of t true true c; sent = s; got = g }
+
+-- an element that is on its way
+abbrev pub under_way : Step → List Item
+under_way quiet = []
+under_way pulled = []
+under_way ready = []
+under_way (pushed e) = item.Elem e ∷ []
+
+-- what was sent is what was got and then what is on its way; after a cancel it begins with what was got
+abbrev pub Histories : Joint → List Item → List Item → Type 0
+Histories idle s g = s ≡ g
+Histories asking s g = s ≡ g
+Histories asked s g = s ≡ g
+Histories (moving e) s g = s ≡ g ++ item.Elem e ∷ []
+Histories (ending c) s g = s ≡ g ++ end_of c ∷ []
+Histories (closing t c) s g = s ≡ g ++ (under_way t ++ end_of c ∷ [])
+Histories (leaving a t) s g = (r : List Item) × (s ≡ g ++ r)
+Histories (finished t c) s g = s ≡ g
+Histories (parted t c) s g = (r : List Item) × (s ≡ g ++ r)
+Histories (refused t c) s g = (r : List Item) × (s ≡ g ++ r)
+
+-- whether it is queued; where both ends are closed that does not matter
+abbrev pub Queues : Joint → Bool → Type 0
+Queues idle q = q ≡ false
+Queues asking q = q ≡ true
+Queues asked q = q ≡ false
+Queues (moving e) q = q ≡ true
+Queues (ending c) q = q ≡ true
+Queues (closing t c) q = q ≡ true
+Queues (leaving a t) q = q ≡ true
+Queues (finished t c) q = ⊤
+Queues (parted t c) q = ⊤
+Queues (refused t c) q = ⊤
+
+-- the wire, queued or not, is in a joint state
+pub record IsSound (w : Wire) (q : Bool) : Type 0 where
+  pub joint : Joint
+  pub is : w ≡ wire_of joint w.sent w.got
+  pub histories : Histories joint w.sent w.got
+  pub queues : Queues joint q
+
+-- An action leaves a sound wire. It asks for a place in the queue, `queued`, only where the wire has none.
+pub record Kept (new : Wire) (q queued : Bool) : Type 0 where
+  pub sound : IsSound new (q || queued)
+  pub free : queued ≡ true → q ≡ false
+
+-- the end that a delivery goes to is where the port rules allow it, as its stage sees them
+abbrev pub Heard : Delivery → Wire → Type 0
+Heard nothing w = ⊤
+Heard ask w = w.out ≡ Unasked
+Heard refusal w = IsOutOpen w.out
+Heard (brought x more) w = MayCome x w.inp

@@ -1,0 +1,13 @@
+pub mod Connection
+pub mod PortRules
+pub mod Runs
+pub mod Decoding
+pub mod Place
+pub mod Ring
+pub mod ActList
+pub mod Picks
+pub mod View
+pub mod Call
+pub mod Wire
+pub mod Joint
+pub mod ListFunction

@@ -1,0 +1,103 @@
+-- A wire: a connection, what the two stages at its ends know of it, and the histories of both; and what their actions and a
+-- delivery make of it. A pull or a push that only a closing which has not come forbids is dropped at the connection: such a
+-- pull changes nothing there, and such a push counts as sent and answers the ask.
+use Rattle.std.specs.Prelude.{Bool, true, false, if◌then◌else◌, Option, None, Some, List, [], ◌∷◌, ◌++◌}
+use Rattle.elem_core.specs.Tree.{Tree}
+use Rattle.elem_core.specs.declared.why.Cause.{Cause}
+use Rattle.elem_core.specs.declared.item.Item.{Item}
+use Rattle.elem_core.specs.declared.item.Item.TheVariants as item
+use Rattle.port_core.specs.Connection.{Step, quiet, pulled, ready, pushed, Connection, unasked}
+use Rattle.port_core.specs.PortRules as rule
+use Rattle.port_core.specs.PortRules.{next}
+use Rattle.port_core.specs.Decoding.{can_pull, can_push}
+use Rattle.port_core.specs.declared.view.InView.{InView}
+use Rattle.port_core.specs.declared.view.InView.TheVariants.{Idle, Waiting, Over, Left}
+use Rattle.port_core.specs.declared.view.OutView.{OutView}
+use Rattle.port_core.specs.declared.view.OutView.TheVariants.{Unasked, Asked, Shut, Refused}
+
+-- what its output's stage and its input's stage know of it, its connection, what the output gave and what the input got
+pub record Wire : Type 0 where
+  pub out : OutView
+  pub inp : InView
+  pub conn : Connection
+  pub sent : List Item
+  pub got : List Item
+
+-- a wire on which nothing happened
+abbrev pub new_wire : Wire
+new_wire = record { out = Unasked; inp = Idle; conn = unasked; sent = []; got = [] }
+
+-- the input asks
+abbrev pub pull_of : Wire → Wire
+pull_of w = record w { inp = Waiting; conn = if can_pull w.conn then next rule.pull w.conn else w.conn }
+
+-- the output gives an element
+abbrev pub push_of : Tree → Wire → Wire
+push_of e w = record w { out = Unasked; conn = if can_push w.conn then next (rule.push e) w.conn else w.conn; sent = w.sent ++ item.Elem e ∷ [] }
+
+-- the end of an output, which completes, or fails with a cause
+abbrev pub end_of : Option Cause → Item
+end_of None = item.Ended
+end_of (Some c) = item.Failed c
+
+-- the connection then
+abbrev pub closed_by : Option Cause → Connection → Connection
+closed_by None p = next rule.complete p
+closed_by (Some c) p = next (rule.fail c) p
+
+-- the output completes, or fails with a cause
+abbrev pub close_of : Option Cause → Wire → Wire
+close_of c w = record w { out = Shut; conn = closed_by c w.conn; sent = w.sent ++ end_of c ∷ [] }
+
+-- the input cancels
+abbrev pub cancel_of : Wire → Wire
+cancel_of w = record w { inp = Left; conn = next rule.cancel w.conn }
+
+-- what the event of a wire brings: nothing, an ask or a cancel to the output; an item to the input, and whether the wire has
+-- to be queued again behind it
+pub data Delivery : Type 0 where
+  nothing : Delivery
+  ask : Delivery
+  refusal : Delivery
+  brought : Item → Bool → Delivery
+
+-- where no side is closed: an element or an ask that is on its way
+abbrev pub moving_item : Step → Delivery
+moving_item quiet = nothing
+moving_item pulled = ask
+moving_item ready = nothing
+moving_item (pushed e) = brought (item.Elem e) false
+
+-- where the output has closed: an element that is on its way comes first
+abbrev pub closing_item : Step → Option Cause → Delivery
+closing_item quiet c = brought (end_of c) false
+closing_item pulled c = brought (end_of c) false
+closing_item ready c = brought (end_of c) false
+closing_item (pushed e) c = brought (item.Elem e) true
+
+-- by the closed sides, the input's first and the output's second
+abbrev pub delivery_by : Bool → Bool → Step → Option Cause → Delivery
+delivery_by false false s c = moving_item s
+delivery_by true false s c = refusal
+delivery_by false true s c = closing_item s c
+delivery_by true true s c = nothing
+
+-- what the event of the wire brings
+abbrev pub delivery_of : Wire → Delivery
+delivery_of w = delivery_by w.conn.in_closed w.conn.out_closed w.conn.step w.conn.cause
+
+-- the wire once that was delivered, and the element grabbed
+abbrev pub after_delivery : Delivery → Wire → Wire
+after_delivery nothing w = w
+after_delivery ask w = record w { out = Asked; conn = next rule.on_pull w.conn }
+after_delivery refusal w = record w { out = Refused; conn = next rule.on_cancel w.conn }
+after_delivery (brought (item.Elem e) more) w = record w { inp = Idle; conn = next (rule.grab e) (next (rule.on_push e) w.conn); got = w.got ++ item.Elem e ∷ [] }
+after_delivery (brought item.Ended more) w = record w { inp = Over; conn = next rule.on_finish w.conn; got = w.got ++ item.Ended ∷ [] }
+after_delivery (brought (item.Failed c) more) w = record w { inp = Over; conn = next (rule.on_fail c) w.conn; got = w.got ++ item.Failed c ∷ [] }
+
+-- whether the wire has to be queued again
+abbrev pub again : Delivery → Bool
+again nothing = false
+again ask = false
+again refusal = false
+again (brought x more) = more

@@ -1,0 +1,27 @@
+/// What a stage knows of one of its inputs. The other end's closing counts once it was delivered to the stage. Rule: Akka
+/// Streams 2.6 reference.
+#[derive(Clone, Copy, PartialEq, Eq, Debug)]
+pub enum InView {
+    /// It has not asked since the last element.
+    Idle,
+    /// It has asked, and no element came since.
+    Waiting,
+    /// The end came.
+    Over,
+    /// The stage cancelled it.
+    Left,
+}
+
+/// What a stage knows of one of its outputs. The other end's cancel counts once it was delivered to the stage. Rule: Akka
+/// Streams 2.6 reference.
+#[derive(Clone, Copy, PartialEq, Eq, Debug)]
+pub enum OutView {
+    /// Nobody asks.
+    Unasked,
+    /// The other end asked, and no element was pushed since.
+    Asked,
+    /// The stage completed or failed it.
+    Shut,
+    /// The other end's cancel came.
+    Refused,
+}

@@ -4,3 +4,4 @@ pub mod Quiets
 pub mod Passing
 pub mod Flowing
 pub mod Answering
+pub mod Completing

@@ -1,5 +1,5 @@
 -- What a call answers and what it leaves, status by status.
-use Rattle.std.specs.Prelude.{◌≡◌, ◌≢◌, ℕ, ◌⊎◌, Bool, false, IsTrue, IsSome, List, [], ◌∷◌, Some, None, IfSome}
+use Rattle.std.specs.Prelude.{◌≡◌, ◌≢◌, ℕ, ◌⊎◌, Bool, true, false, IsTrue, IsSome, List, [], ◌∷◌, Some, None, IfSome}
 use Rattle.std.specs.List.{list_all}
 use Rattle.elem_core.specs.Text.{lines}
 use Rattle.blue_lang.specs.Straight.{Plain, IsStraight}
@@ -7,6 +7,7 @@ use Rattle.stream_io.specs.Counts.{Rose}
 use Rattle.stream_io.specs.State.{FolderState, SameFiles, Lacks}
 use Rattle.stream_top.specs.Quiet.{Quiet, QuietBut}
 use Rattle.stream_top.specs.Flow.{sink_text, is_short}
+use Rattle.stream_top.specs.Command.{command_file}
 use Rattle.stream_top.specs.Running.{LeavesFiles}
 use Rattle.stream_top.specs.declared.outcome.Status.{Status}
 use Rattle.stream_top.specs.declared.outcome.Status.TheVariants as status
@@ -75,3 +76,19 @@ SinksOf status.WriteFault sinks = (s : SinkEnd) × ((sinks ≡ s ∷ []) × (s.e
 SinksOf status.ReadFault sinks = (sinks ≡ []) ⊎ ((s : SinkEnd) × ((sinks ≡ s ∷ []) × (s.end ≡ state.Unended)))
 SinksOf (status.Unbuilt k) sinks = (sinks ≡ []) ⊎ ((s : SinkEnd) × ((sinks ≡ s ∷ []) × (s.end ≡ state.Unended)))
 SinksOf _ sinks = sinks ≡ []
+
+-- the words name a file that says a blueprint, whose input is there and has no line that is too long
+pub record IsValid (words : List (List ℕ)) (folder : FolderState) : Type 0 where
+  pub file : List ℕ
+  pub command : command_file words ≡ Some file
+  pub blueprint : Plain
+  pub says : Says folder file blueprint
+  pub bytes : List ℕ
+  pub input : folder.file blueprint.source.file ≡ Some bytes
+  pub short : list_all is_short (lines bytes) ≡ true
+
+-- no count rose
+pub record RoseNowhere (old new : FolderState) : Type 0 where
+  pub refusals : (n : List ℕ) → Rose (old.refusals n) (new.refusals n) → ⊥
+  pub rfaults : (n : List ℕ) → Rose (old.rfaults n) (new.rfaults n) → ⊥
+  pub wfaults : (n : List ℕ) → Rose (old.wfaults n) (new.wfaults n) → ⊥

@@ -77,7 +77,8 @@ fn settled(sinks: Vec<SinkEnd>, count: u64, end: EndState) -> Vec<SinkEnd>
 /// The status and the sinks after a flow.
 fn after_flow(alloc: Global, sinks: Vec<SinkEnd>, flowed: Flowed) -> Outcome
     requires { vec_len sinks ≡ 1 }
-    ensures { (name : List ℕ) → OneSink sinks.items name 0 EndState.Unended → AfterFlow flowed.end name flowed.count result.status result.sinks.items }
+    ensures after { (name : List ℕ) → OneSink sinks.items name 0 EndState.Unended → AfterFlow flowed.end name flowed.count result.status result.sinks.items }
+    ensures no_usage { result.status ≡ Status.Usage → ⊥ }
 {
     let Flowed { count, end } = flowed;
     match end {
@@ -109,6 +110,7 @@ fn run_blueprint<F: Folder>(alloc: Global, folder: &mut F, blueprint: Blueprint)
     ensures tells { IsTrue (F.state folder.new).tells → IsTrue (F.state folder.old).tells }
     ensures causes { Causes result.status (F.state folder.old) (F.state folder.new) }
     ensures sinks { SinksOf result.status result.sinks.items }
+    ensures no_usage { result.status ≡ Status.Usage → ⊥ }
 {
     let Blueprint {
         source,
@@ -141,6 +143,7 @@ pub fn run_file<F: Folder>(alloc: Global, folder: &mut F, file: &Line) -> Outcom
     ensures told { IsTrue (F.state folder.new).tells → Told result.status result.sinks.items file.now (F.state folder.old) (F.state folder.new) }
     ensures causes { Causes result.status (F.state folder.old) (F.state folder.new) }
     ensures sinks { SinksOf result.status result.sinks.items }
+    ensures no_usage { result.status ≡ Status.Usage → ⊥ }
 {
     // From here on a text says one blueprint at most.
     one_text_says_one_blueprint();

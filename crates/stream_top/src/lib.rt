@@ -10,3 +10,4 @@ mod put;
 mod report;
 mod run;
 mod text;
+pub mod top;

@@ -1,20 +1,18 @@
 -- From the end of a flow to the answer of a call.
-use Rattle.std.proofs.Common.{◌≡◌, ◌≢◌, ℕ, ◌+◌, ◌<◌, ◌≤◌, List, [], ◌∷◌, ◌⊎◌, inl, inr, refl, sym, ap, ◌∙◌, subst, arith, length, length-take}
+use Rattle.std.proofs.Common.{◌≡◌, ◌≢◌, ℕ, ◌<◌, ◌≤◌, List, [], ◌∷◌, ◌⊎◌, inl, inr, refl, sym, ap, ◌∙◌, subst, arith, length, length-take}
 use Rattle.std.specs.Prelude.{IsTrue, IsSome, Option, Some, None}
 use Rattle.std.specs.Option.{option_map}
 use Rattle.std.proofs.lemmas.List.{take_all}
-use Rattle.elem_core.specs.Text.{lines}
 use Rattle.blue_lang.specs.declared.blueprint.Node.{Node}
 use Rattle.stream_top.specs.Text.{text_limit, text_of_file, ReadsFile}
 use Rattle.stream_top.proofs.Quiets.{grew_two, quiet_two, files_two}
 use Rattle.blue_lang.specs.Straight.{Plain, IsStraight, IsNotStraight}
 use Rattle.stream_io.specs.Counts.{Rose, Grew}
-use Rattle.stream_io.specs.State.{FolderState, SameFiles, Lacks}
+use Rattle.stream_io.specs.State.{FolderState, SameFiles}
 use Rattle.stream_top.specs.Quiet.{Quiet, QuietBut}
-use Rattle.stream_top.specs.Flow.{sink_text}
 use Rattle.stream_top.specs.Running.{Runs, LeavesFiles}
 use Rattle.stream_top.specs.AfterFlow.{AfterFlow}
-use Rattle.stream_top.specs.Outcome.{Says, RanNothing, RanTo, IsAbsent, EndedBefore, EndedRun, Told, Causes, SinksOf}
+use Rattle.stream_top.specs.Outcome.{Says, RanTo, IsAbsent, EndedRun, Told, Causes, SinksOf}
 use Rattle.stream_top.specs.declared.flow.FlowEnd.{FlowEnd}
 use Rattle.stream_top.specs.declared.flow.FlowEnd.TheVariants as flow
 use Rattle.stream_top.specs.declared.outcome.Status.{Status}

@@ -1,8 +1,8 @@
 -- Lines that flow through stages into a drain.
 use Rattle.std.proofs.Common.{◌≡◌, ℕ, ◌+◌, ◌<◌, ◌≤◌, Bool, true, false, List, [], ◌∷◌, ◌++◌, length, refl, sym, ap, ◌∙◌, subst, arith, append_assoc, length-append, cond}
-use Rattle.std.specs.Prelude.{Option, Some, None, IsTrue, IsSome, map, nat_le, ◌==◌, ◌&&◌, not, if◌then◌else◌}
+use Rattle.std.specs.Prelude.{IsTrue, map, ◌==◌, ◌&&◌, not}
 use Rattle.std.specs.List.{list_all}
-use Rattle.std.specs.Option.{option_map, option_to_list}
+use Rattle.std.specs.Option.{option_map}
 use Rattle.std.proofs.lemmas.List.{append-nil, take-append-le}
 use Rattle.elem_core.proofs.Prefixes.{prefix_is_take}
 use Rattle.elem_core.proofs.Lines.{has_no_lf_parts}

@@ -1,11 +1,11 @@
 -- Stages in a row: what they give of a list that begins with one element, while that element is on its way.
-use Rattle.std.proofs.Common.{◌≡◌, ℕ, zero, suc, ◌+◌, ◌<◌, ◌≤◌, List, [], ◌∷◌, ◌++◌, length, take, drop, get_or, refl, sym, ap, ◌∙◌, subst, arith, Bool, true, false, add-one, drop-cons}
+use Rattle.std.proofs.Common.{◌≡◌, ℕ, zero, suc, ◌+◌, ◌<◌, List, [], ◌∷◌, ◌++◌, length, take, drop, get_or, refl, sym, ap, ◌∙◌, subst, arith, Bool, true, false, add-one, drop-cons}
 use Rattle.std.specs.Prelude.{slice_set, IsTrue, ◌&&◌, Option, Some, None, IfSome}
 use Rattle.std.proofs.lemmas.List.{set_split, take_more_set, drop-set-lt, drop_all, take_all, take-append-drop, get_or_default}
 use Rattle.elem_core.specs.Tree.{Tree, num, text, seq, both}
 use Rattle.blue_lang.specs.Types.{meets, flows, gives_texts}
 use Rattle.stream_top.specs.Meeting.{suits, suits_all, texts_after}
-use Rattle.blue_lang.specs.Lists.{mapped, filtered, list_of, composed}
+use Rattle.blue_lang.specs.Lists.{list_of, composed}
 use Rattle.blue_lang.specs.declared.kind.Kind.{Kind}
 use Rattle.blue_lang.specs.declared.kind.Kind.TheVariants.{Map, Filter, Take}
 use Rattle.blue_lang.specs.declared.blueprint.Node.{Node}

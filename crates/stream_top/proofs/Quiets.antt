@@ -1,12 +1,12 @@
 -- Counts that follow one another, and files that no step changed.
 use Rattle.std.proofs.Common.{◌≡◌, ◌≢◌, ℕ, ◌+◌, ◌<◌, ◌≤◌, List, [], ◌∷◌, ◌⊎◌, inl, inr, refl, sym, ap, ◌∙◌, subst, arith, lit<}
-use Rattle.std.specs.Prelude.{Option, Some, None, IfSome, IsTrue, IsSome}
+use Rattle.std.specs.Prelude.{Option, Some, None, IfSome, IsSome}
 use Rattle.std.specs.Option.{option_map}
 use Rattle.std.proofs.lemmas.Bool.Decides.{eqb_tells}
 use Rattle.stream_io.specs.Counts.{Rose, Grew, last_count}
-use Rattle.stream_io.specs.State.{FolderState, SourceState, SameFiles, SameFaults, SameRefusals, RefusesName, OpensSource, ClosesSource}
-use Rattle.stream_top.specs.Quiet.{Quiet, QuietBut}
-use Rattle.stream_top.specs.Text.{text_of_file, ReadsFile, FailsToRead, StaysQuiet}
+use Rattle.stream_io.specs.State.{FolderState, SourceState, SameFiles, SameFaults, SameRefusals, OpensSource, ClosesSource}
+use Rattle.stream_top.specs.Quiet.{Quiet}
+use Rattle.stream_top.specs.Text.{text_of_file, ReadsFile, StaysQuiet}
 
 -- a count that is as before did not rise
 pub grew_same : (a b : ℕ) → b ≡ a → Grew a 0 b

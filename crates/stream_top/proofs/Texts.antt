@@ -1,12 +1,8 @@
 -- The bytes of a source, read piece by piece.
-use Rattle.std.proofs.Common.{◌≡◌, ℕ, ◌+◌, ◌<◌, ◌≤◌, List, [], ◌∷◌, ◌++◌, length, take, drop, refl, sym, ap, ◌∙◌, subst, arith}
-use Rattle.std.specs.Prelude.{Option, Some, None, IfSome, IsTrue, IsSome}
+use Rattle.std.proofs.Common.{◌≡◌, ℕ, ◌+◌, ◌≤◌, List, ◌++◌, length, take, drop, sym, ap, ◌∙◌, subst, arith}
+use Rattle.std.specs.Prelude.{Option, Some, None, IfSome}
 use Rattle.std.proofs.Math.Seq.{take-add}
 use Rattle.std.proofs.lemmas.List.{take_all}
-use Rattle.stream_io.specs.Counts.{Rose, Grew}
-use Rattle.stream_io.specs.State.{FolderState, SourceState, SameFiles, SameFaults, SameRefusals, OpensSource, ClosesSource}
-use Rattle.stream_top.specs.Quiet.{Quiet, QuietBut}
-use Rattle.stream_top.specs.Text.{text_of_file, ReadsFile, FailsToRead, StaysQuiet}
 
 -- the text is the first bytes of the whole, and the next piece stands behind it
 pub first_bytes_more : (w v : Option (List ℕ)) (old new : List ℕ) (len len' given n : ℕ) → v ≡ w → given ≡ len → len' ≡ len + n → IfSome w (λ b. old ≡ take len b) → IfSome v (λ b. new ≡ old ++ take n (drop given b)) → IfSome w (λ b. new ≡ take len' b)

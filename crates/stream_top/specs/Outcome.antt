@@ -1,5 +1,5 @@
 -- What a call answers and what it leaves, status by status.
-use Rattle.std.specs.Prelude.{◌≡◌, ◌≢◌, ℕ, ◌⊎◌, Bool, true, false, IsTrue, IsSome, List, [], ◌∷◌, Some, None, IfSome}
+use Rattle.std.specs.Prelude.{◌≡◌, ◌≢◌, ℕ, ◌⊎◌, true, false, IsSome, List, [], ◌∷◌, Some}
 use Rattle.std.specs.List.{list_all}
 use Rattle.elem_core.specs.Text.{lines}
 use Rattle.blue_lang.specs.Straight.{Plain, IsStraight}

@@ -1,5 +1,5 @@
 -- Counts by name that did not rise, or rose at one name alone.
-use Rattle.std.specs.Prelude.{◌≡◌, ◌≢◌, ℕ, ◌≤◌, List}
+use Rattle.std.specs.Prelude.{◌≢◌, ℕ, ◌≤◌, List}
 use Rattle.stream_io.specs.Counts.{Grew}
 
 -- no count rose, but for one that stands at its last value

@@ -1,5 +1,5 @@
 -- The report of a call: the status, and after a run a line for each sink.
-use Rattle.std.specs.Prelude.{ℕ, List, [], ◌∷◌, ◌++◌, codes}
+use Rattle.std.specs.Prelude.{ℕ, List, ◌++◌, codes}
 use Rattle.std.specs.List.{flat_map}
 use Rattle.std.specs.Fmt.{decimal}
 use Rattle.stream_top.specs.declared.outcome.Status.{Status}

@@ -1,5 +1,5 @@
 -- What a run of a straight blueprint leaves in the folder.
-use Rattle.std.specs.Prelude.{◌≡◌, ◌≢◌, ℕ, Bool, false, IsTrue, List, Option, Some}
+use Rattle.std.specs.Prelude.{◌≡◌, ◌≢◌, ℕ, false, IsTrue, List, Some}
 use Rattle.std.specs.List.{list_all}
 use Rattle.elem_core.specs.Prefix.{IsPrefix}
 use Rattle.elem_core.specs.Text.{lines}

@@ -1,4 +1,4 @@
-use Rattle.std.proofs.Common.{◌≡◌, ◌≤◌, ◌+◌, ap, sym, ◌∙◌, subst, arith, Ok, Err}
+use Rattle.std.proofs.Common.{ap, sym, ◌∙◌, subst, Err}
 use Rattle.std.specs.Prelude.{IsSome}
 use Rattle.stream_top.proofs.Flowing.{at_most_one, sends_more, sends_end, sends_stop}
 use Rattle.stream_top.proofs.flow.flow.Goals as goal

@@ -1,6 +1,5 @@
 use Rattle.std.proofs.Common.{◌≡◌, ◌≤◌, ◌-◌, List, ◌∷◌, take, drop, length, Bool}
 use Rattle.std.specs.Prelude.{IsTrue}
-use Rattle.std.specs.Vec.{vec_len}
 use Rattle.elem_core.specs.Tree.{Tree}
 use Rattle.blue_lang.specs.Types.{flows}
 use Rattle.blue_lang.specs.Lists.{composed}

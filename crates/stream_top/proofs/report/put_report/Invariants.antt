@@ -1,5 +1,4 @@
-use Rattle.std.proofs.Common.{drop, ◌++◌}
-use Rattle.std.specs.Prelude.{codes}
+use Rattle.std.proofs.Common.{drop}
 use Rattle.std.specs.List.{flat_map}
 use Rattle.stream_top.specs.Report.{report_of, sink_line}
 use Rattle.stream_top.specs.Writing.{Leaves}

@@ -1,4 +1,4 @@
-use Rattle.std.proofs.Common.{◌≡◌, ◌≤◌, ◌+◌, arith, ap, ◌∙◌, sym, Ok}
+use Rattle.std.proofs.Common.{◌≡◌, ◌+◌, arith, ap, ◌∙◌, sym, Ok}
 use Rattle.std.specs.Vec.{vec_len}
 use Rattle.stream_top.specs.Text.{text_limit}
 use Rattle.stream_top.proofs.Texts.{first_bytes_more, within_more, first_bytes_end, first_bytes_limit}

@@ -15,6 +15,9 @@ use stream_top::top::run_streams;
 /// The exit code where the words cannot be read for want of memory.
 const NO_MEMORY: u8 = 9;
 
+/// The exit code where the report could not be written.
+const WRITE_FAULT: u8 = 8;
+
 /// The line of a word; a word that is no line is the empty line, which no command has.
 fn line_of(alloc: Global, word: &str) -> Result<Line, AllocError> {
     let mut bytes = Vec::new(alloc);
@@ -39,7 +42,9 @@ fn words_of<R: Env + AllocGlobal>(rt: &R) -> io::Result<Vec<Line>> {
 
 fn main(rt: HostRuntime) -> io::Result<ExitCode> {
     let Ok(words) = words_of(&rt) else {
-        return Ok(ExitCode::from(NO_MEMORY));
+        let told = println!(rt; "no memory");
+        let code = if told.is_ok() { NO_MEMORY } else { WRITE_FAULT };
+        return Ok(ExitCode::from(code));
     };
     let mut folder = DirFolder::new(rt.clone()?);
     let mut console = StdConsole::new(rt.clone()?);

@@ -1,0 +1,155 @@
+-- A lawful picture: no node gave more than it could, or asked for more than it may use.
+use Rattle.std.specs.Prelude.{◌≡◌, ℕ, ◌+◌, ◌-◌, ◌<◌, ◌≤◌, max, true, false, ◌⊎◌, if◌then◌else◌, List, [], ◌∷◌, length, take, slice_get, Option, Some, None}
+use Rattle.elem_core.specs.Tree.{Tree}
+use Rattle.elem_core.specs.Values.{same_text}
+use Rattle.stream_model.specs.declared.kind.Kind.{Kind}
+use Rattle.stream_model.specs.declared.kind.Kind.TheVariants.{Lines, Range, Empty, Failed, Buffer, RecoverNum, RecoverText, Valve, TripShutdown, TripAbort, Merge, Concat, Interleave, MergeSorted, Zip, Broadcast, Balance, Partition, Unzip, Head}
+use Rattle.elem_core.specs.declared.why.Decider.{Decider}
+use Rattle.elem_core.specs.declared.why.Decider.TheVariants.{Stop}
+use Rattle.stream_model.specs.declared.kind.Policy.{Policy}
+use Rattle.stream_model.specs.declared.kind.Policy.TheVariants.{Backpressure}
+use Rattle.stream_model.specs.declared.outcome.WireCount.{WireCount}
+use Rattle.stream_model.specs.Outlook.{Outlook}
+use Rattle.stream_model.specs.Machine.{run}
+use Rattle.stream_model.specs.Linear.{numbering, linear, begin_work}
+use Rattle.stream_model.specs.Picks.{count_of}
+use Rattle.stream_model.specs.Graph.{Graph, Node}
+use Rattle.stream_model.specs.Node.{World}
+use Rattle.stream_model.specs.OneWay.{OneWay, one_way}
+use Rattle.stream_model.specs.View.{View, size_of, wanted, demand, total, Every, ins, outs}
+use Rattle.stream_model.specs.Rests.{IsShut, OneToOne, ManyToOne, OneToMany}
+
+-- any wire: at most its list was sent, and a lane that is not asked was sent at least its size
+abbrev pub WireLawful : View → Type 0
+WireLawful v = (v.sent ≤ length v.list) × (v.asked ≡ false → size_of v ≤ v.sent)
+
+-- a stage asks only while it goes on, and where what it has been sent gives less than is wanted of it
+abbrev pub StageLawful : OneWay → View → View → Type 0
+StageLawful s i o =
+    (o.sent ≤ (if i.shut then s.given_at_end (take i.sent i.list) else s.given (take i.sent i.list)))
+    × (1 ≤ demand i → (s.goes_on (take (demand i - 1) i.list) ≡ true) × (s.given (take (demand i - 1) i.list) < wanted o))
+
+abbrev pub BufferLawful : ℕ → View → View → Type 0
+BufferLawful n i o = (o.sent ≤ i.sent) × (demand i ≤ o.sent + n)
+
+-- the ones among the moves were given, and the zeros came
+abbrev pub DroppingLawful : List ℕ → View → View → Type 0
+DroppingLawful moves i o = (o.sent ≡ count_of 1 moves) × (count_of 0 moves ≤ i.sent)
+
+abbrev pub MergeInputs : List ℕ → ℕ → List View → Type 0
+MergeInputs moves n [] = Unit {0}
+MergeInputs moves n (i ∷ is) = ((count_of n moves ≤ i.sent) × (demand i ≤ count_of n moves + 1)) × MergeInputs moves (n + 1) is
+
+abbrev pub MergeLawful : List ℕ → List View → View → Type 0
+MergeLawful moves is o = (o.sent ≡ length moves) × MergeInputs moves 0 is
+
+abbrev pub sent_in : List View → ℕ
+sent_in is = total (λ i. i.sent) is
+
+-- an input that is asked has only inputs before it that are shut, which gave `given`
+abbrev pub ConcatInputs : Type 0 → ℕ → ℕ → List View → Type 0
+ConcatInputs earlier given most [] = Unit {0}
+ConcatInputs earlier given most (i ∷ is) = (1 ≤ demand i → earlier × (demand i + given ≤ most)) × ConcatInputs (earlier × IsShut i) (given + i.sent) most is
+
+abbrev pub ConcatLawful : List View → View → Type 0
+ConcatLawful is o = (o.sent ≤ sent_in is) × ConcatInputs (Unit {0}) 0 (wanted o) is
+
+abbrev pub taken_or_wanted : View → ℕ
+taken_or_wanted i = (if i.shut then i.sent else wanted i) - size_of i
+
+abbrev pub InterleaveLawful : List View → View → Type 0
+InterleaveLawful is o = (o.sent ≤ sent_in is) × (total taken_or_wanted is ≤ wanted o)
+
+abbrev pub SortedLawful : List View → View → Type 0
+SortedLawful is o = (o.sent ≤ sent_in is) × (total demand is ≤ o.sent + 2)
+
+abbrev pub ZipLawful : List View → View → Type 0
+ZipLawful is o = Every (λ i. (o.sent ≤ i.sent) × (demand i ≤ o.sent + 1)) is
+
+abbrev pub most_wanted : List View → ℕ
+most_wanted [] = 0
+most_wanted (o ∷ os) = max (wanted o) (most_wanted os)
+
+abbrev pub BroadcastLawful : View → List View → Type 0
+BroadcastLawful i os =
+    Every (λ o. o.sent ≤ i.sent) os
+    × Every (λ o. IsShut o ⊎ (demand i ≤ wanted o)) os
+    × (Every IsShut os → demand i ≤ most_wanted os)
+
+abbrev pub BalanceOutputs : List ℕ → ℕ → List View → Type 0
+BalanceOutputs moves n [] = Unit {0}
+BalanceOutputs moves n (o ∷ os) = (o.sent ≡ count_of n moves) × BalanceOutputs moves (n + 1) os
+
+abbrev pub BalanceLawful : List ℕ → View → List View → Type 0
+BalanceLawful moves i os = BalanceOutputs moves 0 os × (demand i ≤ length moves + 1) × (demand i ≤ total wanted os)
+
+-- `given n l` is how many elements of l have the number n
+abbrev pub PartitionOutputs : (ℕ → List Tree → ℕ) → View → ℕ → List View → Type 0
+PartitionOutputs given i n [] = Unit {0}
+PartitionOutputs given i n (o ∷ os) =
+    ((o.sent ≤ given n (take i.sent i.list)) × (1 ≤ demand i → IsShut o ⊎ (given n (take (demand i - 1) i.list) ≤ o.sent)))
+    × PartitionOutputs given i (n + 1) os
+
+abbrev pub PartitionLawful : (ℕ → List Tree → ℕ) → View → List View → Type 0
+PartitionLawful given i os =
+    PartitionOutputs given i 0 os × (Every (λ o. o.shut ≡ false) os → 1 ≤ demand i → demand i ≤ total wanted os)
+
+-- the moves of a valve or a recover, besides
+abbrev pub ValveLawful : List ℕ → View → View → Type 0
+ValveLawful (order ∷ k ∷ []) i o = o.sent ≡ k
+ValveLawful _ i o = Unit {0}
+
+abbrev pub RecoverLawful : List ℕ → View → View → Type 0
+RecoverLawful (k ∷ []) i o = (k ≤ i.sent) × (o.sent ≤ k + 1)
+RecoverLawful _ i o = Unit {0}
+
+module _ (g : Graph) (w : World) where
+  abbrev stage_lawful : Option OneWay → List View → List View → Type 0
+  stage_lawful None is os = Unit {0}
+  stage_lawful (Some s) is os = OneToOne (StageLawful s) is os
+
+  abbrev buffer_lawful : ℕ → ℕ → Policy → List View → List View → Type 0
+  buffer_lawful node n Backpressure is os = OneToOne (BufferLawful n) is os
+  buffer_lawful node n p is os = OneToOne (DroppingLawful (w.moves node)) is os
+
+  abbrev numbered : ℕ → ℕ → Kind → ℕ → List Tree → ℕ
+  numbered node n (Partition m f) i l = length (run (linear w.book (numbering m f i)) (begin_work node Stop (numbering m f i)) l).gave
+  numbered node n k i l = 0
+
+  abbrev pub RowLawful : ℕ → Kind → Decider → List View → List View → Type 0
+  RowLawful node (Lines name) d is os = Unit {0}
+  RowLawful node (Range low high) d is os = Unit {0}
+  RowLawful node (Empty b) d is os = Unit {0}
+  RowLawful node (Failed b) d is os = Unit {0}
+  RowLawful node (Buffer n p) d is os = buffer_lawful node n p is os
+  RowLawful node (Valve name) d is os = stage_lawful (one_way g w node (Valve name) d) is os × OneToOne (ValveLawful (w.moves node)) is os
+  RowLawful node (RecoverNum k) d is os = stage_lawful (one_way g w node (RecoverNum k) d) is os × OneToOne (RecoverLawful (w.moves node)) is os
+  RowLawful node (RecoverText l) d is os = stage_lawful (one_way g w node (RecoverText l) d) is os × OneToOne (RecoverLawful (w.moves node)) is os
+  RowLawful node (Merge n) d is os = ManyToOne (MergeLawful (w.moves node)) is os
+  RowLawful node (Concat n) d is os = ManyToOne ConcatLawful is os
+  RowLawful node (Interleave n s) d is os = ManyToOne InterleaveLawful is os
+  RowLawful node MergeSorted d is os = ManyToOne SortedLawful is os
+  RowLawful node Zip d is os = ManyToOne ZipLawful is os
+  RowLawful node (Broadcast n) d is os = OneToMany BroadcastLawful is os
+  RowLawful node Unzip d is os = OneToMany BroadcastLawful is os
+  RowLawful node (Balance n) d is os = OneToMany (BalanceLawful (w.moves node)) is os
+  RowLawful node (Partition n f) d is os = OneToMany (PartitionLawful (numbered node n (Partition n f))) is os
+  RowLawful node (Head name) d is os = Every (λ i. demand i ≤ 1) is
+  RowLawful node k d is os = stage_lawful (one_way g w node k d) is os
+
+  -- a trip of this switch with this order, which has had its element
+  abbrev trips : List ℕ → ℕ → ℕ → Kind → Type 0
+  trips name order sent (TripShutdown switch n) = (order ≡ 1) × (same_text switch name ≡ true) × (n ≤ sent)
+  trips name order sent (TripAbort switch n) = (order ≡ 2) × (same_text switch name ≡ true) × (n ≤ sent)
+  trips name order sent k = ⊥
+
+  abbrev valve_order : Kind → List ℕ → Option (List ℕ × ℕ)
+  valve_order (Valve name) (order ∷ k ∷ []) = Some (name, order)
+  valve_order _ _ = None
+
+  pub record IsLawful (counts : List WireCount) (outlook : ℕ → Outlook) : Type 0 where
+    pub wires : (node : ℕ) (n : Node) → slice_get g.nodes node ≡ Some n → Every WireLawful (ins g counts outlook node n.kind)
+    pub nodes : (node : ℕ) (n : Node) → slice_get g.nodes node ≡ Some n
+        → RowLawful node n.kind n.decider (ins g counts outlook node n.kind) (outs g counts outlook node n.kind)
+    pub valves : (node : ℕ) (n : Node) (v : List ℕ × ℕ) → slice_get g.nodes node ≡ Some n → valve_order n.kind (w.moves node) ≡ Some v
+        → (trip : ℕ) × (t : Node) × (slice_get g.nodes trip ≡ Some t) × trips v.0 v.1 (sent_in (ins g counts outlook trip t.kind)) t.kind

@@ -7,25 +7,25 @@ use Rattle.stream_model.specs.declared.kind.Policy.{Policy}
 use Rattle.stream_model.specs.declared.kind.Policy.TheVariants.{Backpressure}
 use Rattle.stream_model.specs.Graph.{Graph}
 use Rattle.stream_model.specs.Node.{World}
-use Rattle.stream_model.specs.OneWay.{OneWay, one_way}
-use Rattle.stream_model.specs.View.{View, Some'}
-use Rattle.stream_model.specs.Rests.{Waits, IsAsked, IsUnasked, FirstOpenWaits, OneWaits, OneToOne, ManyToOne, OneToMany, StageRests, BufferRests, DroppingRests, MergeRests, ConcatRests, InterleaveRests, SortedRests, ZipRests, BroadcastRests, BalanceRests, PartitionRests, SinkRests, SourceRests, RowRests, stage_rests, dropping_rests}
+use Rattle.stream_picture.specs.OneWay.{OneWay, one_way}
+use Rattle.stream_picture.specs.View.{View, SomeWire}
+use Rattle.stream_picture.specs.Rests.{Waits, IsAsked, IsUnasked, FirstOpenWaits, OneWaits, OneToOne, ManyToOne, OneToMany, StageRests, BufferRests, DroppingRests, MergeRests, ConcatRests, InterleaveRests, SortedRests, ZipRests, BroadcastRests, BalanceRests, PartitionRests, SinkRests, SourceRests, RowRests, stage_rests, dropping_rests}
 
 -- some input waits, or some output is unasked
 abbrev pub Exit : List View → List View → Type 0
-Exit is os = Some' Waits is ⊎ Some' IsUnasked os
+Exit is os = SomeWire Waits is ⊎ SomeWire IsUnasked os
 
-first_open : (is : List View) → FirstOpenWaits is → Some' Waits is
+first_open : (is : List View) → FirstOpenWaits is → SomeWire Waits is
 first_open [] h = absurd h
 first_open (i ∷ is) (inl h) = inl h.0
 first_open (i ∷ is) (inr h) = inr (first_open is h.1)
 
-one_waits : (is : List View) → OneWaits is → Some' Waits is
+one_waits : (is : List View) → OneWaits is → SomeWire Waits is
 one_waits [] h = absurd h
 one_waits (i ∷ is) (inl h) = inl h.0
 one_waits (i ∷ is) (inr h) = inr (one_waits is h.1)
 
-weaker : {P Q : View → Type 0} (vs : List View) → ((v : View) → P v → Q v) → Some' P vs → Some' Q vs
+weaker : {P Q : View → Type 0} (vs : List View) → ((v : View) → P v → Q v) → SomeWire P vs → SomeWire Q vs
 weaker [] f h = absurd h
 weaker (v ∷ vs) f (inl h) = inl (f v h)
 weaker (v ∷ vs) f (inr h) = inr (weaker vs f h)
@@ -81,7 +81,7 @@ sorted_exit is o (inr h) = inr (inl h.0)
 zip_exit : (is : List View) (o : View) → ZipRests is o → Exit is (o ∷ [])
 zip_exit is o h = at h.1
   where
-    at : (IsAsked o × Some' (λ i. Waits i × (i.sent ≡ o.sent)) is) ⊎ IsUnasked o → Exit is (o ∷ [])
+    at : (IsAsked o × SomeWire (λ i. Waits i × (i.sent ≡ o.sent)) is) ⊎ IsUnasked o → Exit is (o ∷ [])
     at (inl k) = inl (weaker is (λ v p. p.0) k.1)
     at (inr k) = inr (inl k)
 

@@ -10,8 +10,8 @@ use Rattle.stream_model.specs.declared.outcome.WireCount.{WireCount}
 use Rattle.stream_model.specs.Graph.{Graph, Node}
 use Rattle.stream_model.specs.Node.{World}
 use Rattle.stream_model.specs.Picks.{buffered, empty_buffer, nothing_held}
-use Rattle.stream_model.specs.OneWay.{OneWay, one_way, is_sink}
-use Rattle.stream_model.specs.View.{View, Every, Some', ins, outs}
+use Rattle.stream_picture.specs.OneWay.{OneWay, one_way, is_sink}
+use Rattle.stream_picture.specs.View.{View, EachWire, SomeWire, ins, outs}
 
 -- how the wire stands for the node at its end
 abbrev pub Waits : View → Type 0
@@ -47,12 +47,12 @@ IsOrLane v n = (n ≤ v.sent) × (IsLane v ⊎ (v.sent ≡ n))
 -- the first input that is not used up waits, and the later ones idle or are shut
 abbrev pub FirstOpenWaits : List View → Type 0
 FirstOpenWaits [] = ⊥
-FirstOpenWaits (v ∷ vs) = (Waits v × Every IdlesOrShut vs) ⊎ (IsShut v × FirstOpenWaits vs)
+FirstOpenWaits (v ∷ vs) = (Waits v × EachWire IdlesOrShut vs) ⊎ (IsShut v × FirstOpenWaits vs)
 
 -- one input waits, and the others idle or are shut
 abbrev pub OneWaits : List View → Type 0
 OneWaits [] = ⊥
-OneWaits (v ∷ vs) = (Waits v × Every IdlesOrShut vs) ⊎ (IdlesOrShut v × OneWaits vs)
+OneWaits (v ∷ vs) = (Waits v × EachWire IdlesOrShut vs) ⊎ (IdlesOrShut v × OneWaits vs)
 
 -- an input of a zip that gave n pairs
 abbrev pub ZipInput : ℕ → View → Type 0
@@ -60,14 +60,14 @@ ZipInput n v = (Waits v × (v.sent ≡ n)) ⊎ (IdlesOrShut v × IsOrLane v (n +
 
 -- every output that is not shut is asked
 abbrev pub AllOpenAsked : List View → Type 0
-AllOpenAsked outs = Every (λ o. IsShut o ⊎ IsAsked o) outs
+AllOpenAsked outs = EachWire (λ o. IsShut o ⊎ IsAsked o) outs
 
 -- the outputs of a broadcast or an unzip, whose input waits or not
 abbrev pub CopiesAll : View → List View → Type 0
-CopiesAll i outs = Every (λ o. IsShut o ⊎ (o.sent ≡ i.sent)) outs
+CopiesAll i outs = EachWire (λ o. IsShut o ⊎ (o.sent ≡ i.sent)) outs
 
 abbrev pub CopiesSome : View → List View → Type 0
-CopiesSome i outs = Every (λ o. IsShut o ⊎ ((o.sent ≤ i.sent) × (IsLane i ⊎ (o.sent ≡ i.sent)))) outs
+CopiesSome i outs = EachWire (λ o. IsShut o ⊎ ((o.sent ≤ i.sent) × (IsLane i ⊎ (o.sent ≡ i.sent)))) outs
 
 -- ---- the rows. Where a row has several parts, one of them holds
 
@@ -102,35 +102,35 @@ DroppingRests empty i o = (Waits i × (IsAsked o → empty ≡ true)) ⊎ (IsShu
 
 abbrev pub MergeRests : List View → View → Type 0
 MergeRests is o =
-    (IsAsked o × Some' Waits is × Every (λ i. Waits i ⊎ IsShut i) is)
-    ⊎ (IsUnasked o × Every WaitsIdlesOrShut is)
+    (IsAsked o × SomeWire Waits is × EachWire (λ i. Waits i ⊎ IsShut i) is)
+    ⊎ (IsUnasked o × EachWire WaitsIdlesOrShut is)
 
 abbrev pub ConcatRests : List View → View → Type 0
-ConcatRests is o = (IsAsked o × FirstOpenWaits is) ⊎ (IsUnasked o × Every IdlesOrShut is)
+ConcatRests is o = (IsAsked o × FirstOpenWaits is) ⊎ (IsUnasked o × EachWire IdlesOrShut is)
 
 abbrev pub InterleaveRests : List View → View → Type 0
-InterleaveRests is o = (IsAsked o × OneWaits is) ⊎ (IsUnasked o × Every IdlesOrShut is)
+InterleaveRests is o = (IsAsked o × OneWaits is) ⊎ (IsUnasked o × EachWire IdlesOrShut is)
 
 abbrev pub SortedRests : List View → View → Type 0
-SortedRests is o = (IsAsked o × Some' Waits is) ⊎ (IsUnasked o × Every WaitsIdlesOrShut is)
+SortedRests is o = (IsAsked o × SomeWire Waits is) ⊎ (IsUnasked o × EachWire WaitsIdlesOrShut is)
 
 abbrev pub ZipRests : List View → View → Type 0
 ZipRests is o =
-    Every (ZipInput o.sent) is
-    × ((IsAsked o × Some' (λ i. Waits i × (i.sent ≡ o.sent)) is) ⊎ IsUnasked o)
+    EachWire (ZipInput o.sent) is
+    × ((IsAsked o × SomeWire (λ i. Waits i × (i.sent ≡ o.sent)) is) ⊎ IsUnasked o)
 
 abbrev pub BroadcastRests : View → List View → Type 0
 BroadcastRests i os =
     (AllOpenAsked os × Waits i × CopiesAll i os)
-    ⊎ (Some' IsUnasked os × Idles i × CopiesSome i os)
+    ⊎ (SomeWire IsUnasked os × Idles i × CopiesSome i os)
 
 abbrev pub BalanceRests : View → List View → Type 0
 BalanceRests i os =
-    (Some' IsAsked os × Waits i)
-    ⊎ (Some' IsUnasked os × Every (λ o. IsShut o ⊎ IsUnasked o) os × WaitsIdlesOrShut i)
+    (SomeWire IsAsked os × Waits i)
+    ⊎ (SomeWire IsUnasked os × EachWire (λ o. IsShut o ⊎ IsUnasked o) os × WaitsIdlesOrShut i)
 
 abbrev pub PartitionRests : View → List View → Type 0
-PartitionRests i os = Waits i ⊎ (Some' IsUnasked os × IdlesOrShut i)
+PartitionRests i os = Waits i ⊎ (SomeWire IsUnasked os × IdlesOrShut i)
 
 abbrev pub SinkRests : List View → Type 0
 SinkRests (i ∷ []) = Waits i
@@ -171,11 +171,11 @@ module _ (g : Graph) (w : World) where
   abbrev pub Rests : List WireCount → (ℕ → Outlook) → Type 0
   Rests counts outlook =
       (node : ℕ) (n : Node) → slice_get g.nodes node ≡ Some n
-      → (Every IsShut (ins g counts outlook node n.kind) × Every IsShut (outs g counts outlook node n.kind))
+      → (EachWire IsShut (ins g counts outlook node n.kind) × EachWire IsShut (outs g counts outlook node n.kind))
       ⊎ RowRests node n.kind n.decider (ins g counts outlook node n.kind) (outs g counts outlook node n.kind)
 
   -- a sink's input is shut exactly where the sink has ended
   abbrev pub SinksMatch : List WireCount → (ℕ → Outlook) → (ℕ → Bool) → Type 0
   SinksMatch counts outlook ended =
       (node : ℕ) (n : Node) → slice_get g.nodes node ≡ Some n → is_sink n.kind ≡ true
-      → Every (λ i. i.shut ≡ ended node) (ins g counts outlook node n.kind)
+      → EachWire (λ i. i.shut ≡ ended node) (ins g counts outlook node n.kind)

@@ -1,9 +1,8 @@
 -- A lawful picture: no node gave more than it could, or asked for more than it may use.
 use Rattle.std.specs.Prelude.{◌≡◌, ℕ, ◌+◌, ◌-◌, ◌<◌, ◌≤◌, max, true, false, ◌⊎◌, if◌then◌else◌, List, [], ◌∷◌, length, take, slice_get, Option, Some, None}
 use Rattle.elem_core.specs.Tree.{Tree}
-use Rattle.elem_core.specs.Values.{same_text}
 use Rattle.stream_model.specs.declared.kind.Kind.{Kind}
-use Rattle.stream_model.specs.declared.kind.Kind.TheVariants.{Lines, Range, Empty, Failed, Buffer, RecoverNum, RecoverText, Valve, TripShutdown, TripAbort, Merge, Concat, Interleave, MergeSorted, Zip, Broadcast, Balance, Partition, Unzip, Head}
+use Rattle.stream_model.specs.declared.kind.Kind.TheVariants.{Lines, Range, Empty, Failed, Buffer, RecoverNum, RecoverText, Valve, Merge, Concat, Interleave, MergeSorted, Zip, Broadcast, Balance, Partition, Unzip, Head}
 use Rattle.elem_core.specs.declared.why.Decider.{Decider}
 use Rattle.elem_core.specs.declared.why.Decider.TheVariants.{Stop}
 use Rattle.stream_model.specs.declared.kind.Policy.{Policy}
@@ -14,10 +13,11 @@ use Rattle.stream_model.specs.Machine.{run}
 use Rattle.stream_model.specs.Linear.{numbering, linear, begin_work}
 use Rattle.stream_model.specs.Picks.{count_of}
 use Rattle.stream_model.specs.Graph.{Graph, Node}
+use Rattle.stream_model.specs.Fits.{CanTrip, valve_order}
 use Rattle.stream_model.specs.Node.{World}
-use Rattle.stream_model.specs.OneWay.{OneWay, one_way}
-use Rattle.stream_model.specs.View.{View, size_of, wanted, demand, total, Every, ins, outs}
-use Rattle.stream_model.specs.Rests.{IsShut, OneToOne, ManyToOne, OneToMany}
+use Rattle.stream_picture.specs.OneWay.{OneWay, one_way}
+use Rattle.stream_picture.specs.View.{View, size_of, wanted, demand, total, EachWire, ins, outs}
+use Rattle.stream_picture.specs.Rests.{IsShut, OneToOne, ManyToOne, OneToMany}
 
 -- any wire: at most its list was sent, and a lane that is not asked was sent at least its size
 abbrev pub WireLawful : View → Type 0
@@ -64,7 +64,7 @@ abbrev pub SortedLawful : List View → View → Type 0
 SortedLawful is o = (o.sent ≤ sent_in is) × (total demand is ≤ o.sent + 2)
 
 abbrev pub ZipLawful : List View → View → Type 0
-ZipLawful is o = Every (λ i. (o.sent ≤ i.sent) × (demand i ≤ o.sent + 1)) is
+ZipLawful is o = EachWire (λ i. (o.sent ≤ i.sent) × (demand i ≤ o.sent + 1)) is
 
 abbrev pub most_wanted : List View → ℕ
 most_wanted [] = 0
@@ -72,9 +72,9 @@ most_wanted (o ∷ os) = max (wanted o) (most_wanted os)
 
 abbrev pub BroadcastLawful : View → List View → Type 0
 BroadcastLawful i os =
-    Every (λ o. o.sent ≤ i.sent) os
-    × Every (λ o. IsShut o ⊎ (demand i ≤ wanted o)) os
-    × (Every IsShut os → demand i ≤ most_wanted os)
+    EachWire (λ o. o.sent ≤ i.sent) os
+    × EachWire (λ o. IsShut o ⊎ (demand i ≤ wanted o)) os
+    × (EachWire IsShut os → demand i ≤ most_wanted os)
 
 abbrev pub BalanceOutputs : List ℕ → ℕ → List View → Type 0
 BalanceOutputs moves n [] = Unit {0}
@@ -92,7 +92,7 @@ PartitionOutputs given i n (o ∷ os) =
 
 abbrev pub PartitionLawful : (ℕ → List Tree → ℕ) → View → List View → Type 0
 PartitionLawful given i os =
-    PartitionOutputs given i 0 os × (Every (λ o. o.shut ≡ false) os → 1 ≤ demand i → demand i ≤ total wanted os)
+    PartitionOutputs given i 0 os × (EachWire (λ o. o.shut ≡ false) os → 1 ≤ demand i → demand i ≤ total wanted os)
 
 -- the moves of a valve or a recover, besides
 abbrev pub ValveLawful : List ℕ → View → View → Type 0
@@ -134,22 +134,12 @@ module _ (g : Graph) (w : World) where
   RowLawful node Unzip d is os = OneToMany BroadcastLawful is os
   RowLawful node (Balance n) d is os = OneToMany (BalanceLawful (w.moves node)) is os
   RowLawful node (Partition n f) d is os = OneToMany (PartitionLawful (numbered node n (Partition n f))) is os
-  RowLawful node (Head name) d is os = Every (λ i. demand i ≤ 1) is
+  RowLawful node (Head name) d is os = EachWire (λ i. demand i ≤ 1) is
   RowLawful node k d is os = stage_lawful (one_way g w node k d) is os
 
-  -- a trip of this switch with this order, which has had its element
-  abbrev trips : List ℕ → ℕ → ℕ → Kind → Type 0
-  trips name order sent (TripShutdown switch n) = (order ≡ 1) × (same_text switch name ≡ true) × (n ≤ sent)
-  trips name order sent (TripAbort switch n) = (order ≡ 2) × (same_text switch name ≡ true) × (n ≤ sent)
-  trips name order sent k = ⊥
-
-  abbrev valve_order : Kind → List ℕ → Option (List ℕ × ℕ)
-  valve_order (Valve name) (order ∷ k ∷ []) = Some (name, order)
-  valve_order _ _ = None
-
   pub record IsLawful (counts : List WireCount) (outlook : ℕ → Outlook) : Type 0 where
-    pub wires : (node : ℕ) (n : Node) → slice_get g.nodes node ≡ Some n → Every WireLawful (ins g counts outlook node n.kind)
+    pub wires : (node : ℕ) (n : Node) → slice_get g.nodes node ≡ Some n → EachWire WireLawful (ins g counts outlook node n.kind)
     pub nodes : (node : ℕ) (n : Node) → slice_get g.nodes node ≡ Some n
         → RowLawful node n.kind n.decider (ins g counts outlook node n.kind) (outs g counts outlook node n.kind)
     pub valves : (node : ℕ) (n : Node) (v : List ℕ × ℕ) → slice_get g.nodes node ≡ Some n → valve_order n.kind (w.moves node) ≡ Some v
-        → (trip : ℕ) × (t : Node) × (slice_get g.nodes trip ≡ Some t) × trips v.0 v.1 (sent_in (ins g counts outlook trip t.kind)) t.kind
+        → (trip : ℕ) × (t : Node) × (slice_get g.nodes trip ≡ Some t) × CanTrip v.0 v.1 t.kind (sent_in (ins g counts outlook trip t.kind))

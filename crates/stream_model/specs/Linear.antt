@@ -68,20 +68,20 @@ pub data Reaction : Type 0 where
   blames : Why → Reaction
   breaks : Why → Reaction
 
-abbrev on_value : Result Tree Why → (Tree → Reaction) → Reaction
+abbrev pub on_value : Result Tree Why → (Tree → Reaction) → Reaction
 on_value (Ok t) f = f t
 on_value (Err w) f = blames w
 
-abbrev on_test : Result Bool Why → Reaction → Reaction → Reaction
+abbrev pub on_test : Result Bool Why → Reaction → Reaction → Reaction
 on_test (Ok true) yes_case no_case = yes_case
 on_test (Ok false) yes_case no_case = no_case
 on_test (Err w) yes_case no_case = blames w
 
-abbrev on_number : Result ℕ Why → (ℕ → Reaction) → Reaction
+abbrev pub on_number : Result ℕ Why → (ℕ → Reaction) → Reaction
 on_number (Ok n) f = f n
 on_number (Err w) f = breaks w
 
-abbrev on_reply : Reply → Work → Reaction
+abbrev pub on_reply : Reply → Work → Reaction
 on_reply r w = elim r.verdict as (λ _. Reaction) [ go ↦ gives r.gave w | finish ↦ ends r.gave | fail n ↦ breaks (Plug n) ]
 
 module _ (book : Book) where

@@ -8,6 +8,8 @@ use Rattle.elem_core.specs.Tree.{Tree, num, text}
 use Rattle.elem_core.specs.Values.{same_text}
 use Rattle.elem_core.specs.declared.function.MapFn.TheVariants as f
 use Rattle.elem_core.specs.declared.function.FoldOp.TheVariants as o
+use Rattle.elem_core.specs.declared.function.ReduceOp.TheVariants as r
+use Rattle.elem_core.specs.declared.function.Expand.TheVariants as x
 use Rattle.elem_core.specs.declared.why.Cause.{Cause}
 use Rattle.elem_core.specs.declared.why.Decider.{Decider}
 use Rattle.elem_core.specs.declared.why.Decider.TheVariants.{Stop}
@@ -15,7 +17,7 @@ use Rattle.elem_core.specs.declared.why.Why.{Why}
 use Rattle.stream_model.specs.declared.kind.Kind.{Kind}
 use Rattle.stream_model.specs.declared.kind.Kind.TheVariants as k
 use Rattle.stream_model.specs.Outlook.{Outlook, Entry}
-use Rattle.stream_model.specs.Linear.{go, Reply, Book, mapping, folding}
+use Rattle.stream_model.specs.Linear.{go, Reply, Book, mapping, taking, dropping, expanding, folding, reducing}
 use Rattle.stream_model.specs.Sources.{File}
 use Rattle.stream_model.specs.Graph.{Graph, Node, Wire, Chain}
 use Rattle.stream_model.specs.Node.{World, node_outlook}
@@ -58,6 +60,9 @@ abbrev pub chains : List Chain
 chains =
     record { name = codes "sums"; steps = record { work = mapping (f.Field 1); decider = Stop } ∷ record { work = mapping f.Num; decider = Stop } ∷ record { work = folding o.Sum (num (pos 0)); decider = Stop } ∷ [] }
     ∷ record { name = codes "counts"; steps = record { work = folding o.Count (num (pos 0)); decider = Stop } ∷ [] }
+    ∷ record { name = codes "rest"; steps = record { work = dropping 1; decider = Stop } ∷ record { work = reducing r.Max None; decider = Stop } ∷ [] }
+    ∷ record { name = codes "none"; steps = record { work = taking 0; decider = Stop } ∷ record { work = reducing r.Max None; decider = Stop } ∷ [] }
+    ∷ record { name = codes "doubled"; steps = record { work = expanding x.Twice; decider = Stop } ∷ [] }
     ∷ []
 
 -- what the node gives on an output, of these inputs and by these moves

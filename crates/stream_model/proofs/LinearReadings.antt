@@ -435,3 +435,6 @@ module _ (book : Book) (node : ℕ) (d : Decider) (n : ℕ) where
   -- fewer are the last group, where there is one
   pub grouped_ends : (l : List Tree) → length l < n → (gives_in_all book node d (grouping n []) l).list ≡ last_group l
   grouped_ends l h = grouped_from [] 0 [] l ∙ the_rest n [] l (omega arith)
+
+  pub grouped_none : (gives_in_all book node d (grouping n []) []).list ≡ []
+  grouped_none = refl

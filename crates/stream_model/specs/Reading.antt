@@ -11,7 +11,7 @@ use Rattle.elem_core.specs.declared.function.Pred.{Pred}
 use Rattle.elem_core.specs.declared.function.FoldOp.{FoldOp}
 use Rattle.elem_core.specs.declared.function.ReduceOp.{ReduceOp}
 use Rattle.stream_model.specs.Outlook.{ended}
-use Rattle.stream_model.specs.Machine.{State, Run, Given, run, close}
+use Rattle.stream_model.specs.Machine.{Run, Given, run, close}
 use Rattle.stream_model.specs.Linear.{Book, Work, Stage, linear, begin_work}
 
 -- a stage of this work after it took a list

@@ -1,5 +1,5 @@
 -- Small inputs and blueprints for worked values.
-use Rattle.std.specs.Prelude.{ℕ, zero, suc, ◌+◌, ℤ, pos, Bool, true, false, ◌==◌, if◌then◌else◌, List, [], ◌∷◌, ◌++◌, map, length, drop, Option, Some, None, codes}
+use Rattle.std.specs.Prelude.{ℕ, ◌+◌, pos, true, false, ◌==◌, if◌then◌else◌, List, [], ◌∷◌, map, Option, Some, None, codes}
 use Rattle.std.specs.List.{last_or}
 use Rattle.std.specs.Ordering.{is_eq}
 use Rattle.elem_core.specs.Order.{tree_cmp}
@@ -16,12 +16,11 @@ use Rattle.elem_core.specs.declared.why.Decider.TheVariants.{Stop}
 use Rattle.elem_core.specs.declared.why.Why.{Why}
 use Rattle.stream_model.specs.declared.kind.Kind.{Kind}
 use Rattle.stream_model.specs.declared.kind.Kind.TheVariants as k
-use Rattle.stream_model.specs.Outlook.{Outlook, Entry}
-use Rattle.stream_model.specs.Linear.{go, Reply, Book, mapping, taking, dropping, expanding, folding, reducing}
+use Rattle.stream_model.specs.Outlook.{Outlook}
+use Rattle.stream_model.specs.Linear.{go, Book, mapping, taking, dropping, expanding, folding, reducing}
 use Rattle.stream_model.specs.Sources.{File}
 use Rattle.stream_model.specs.Graph.{Graph, Node, Wire, Chain}
 use Rattle.stream_model.specs.Node.{World, node_outlook}
-use Rattle.stream_model.specs.Composed.{composed, sink_outlook}
 
 -- ---- elements and outlooks
 

@@ -3,3 +3,4 @@ pub mod OneWay
 pub mod Rests
 pub mod Lawful
 pub mod Shape
+pub mod Stalled

@@ -18,6 +18,7 @@ pub record OneWay : Type 0 where
   pub goes_on : List Tree → Bool
   pub holds : Bool
 
+-- what a machine gives, as numbers
 abbrev pub of_machine : {S O : Type 0} → Machine S O → Run S O → Bool → OneWay
 of_machine m start holds = record {
   given = λ l. length (run m start l).gave;
@@ -30,6 +31,7 @@ of_machine m start holds = record {
 abbrev pub as_it_is : ℕ → Bool → OneWay
 as_it_is n holds = record { given = λ l. length l; given_at_end = λ l. length l + n; goes_on = λ l. true; holds = holds }
 
+-- a stage that may hold outputs behind the end of its input
 abbrev pub holds_at_end : Work → Bool
 holds_at_end (grouping n held) = true
 holds_at_end (expanding x) = true
@@ -39,6 +41,7 @@ holds_at_end (reducing r a) = true
 holds_at_end (plugged name taken) = true
 holds_at_end _ = false
 
+-- the kinds without an output
 abbrev pub is_sink : Kind → Bool
 is_sink (ToLines name) = true
 is_sink (Head name) = true
@@ -46,10 +49,12 @@ is_sink (Last name) = true
 is_sink Ignore = true
 is_sink _ = false
 
+-- by its work
 abbrev of_work : Book → ℕ → Decider → Option Work → Option OneWay
 of_work book node d None = None
 of_work book node d (Some w) = Some (of_machine (linear book w) (begin_work node d w) (holds_at_end w))
 
+-- by its substreams
 abbrev of_subs : Graph → World → ℕ → Opening → List ℕ → Option OneWay
 of_subs g w node o chain =
     let c = chain_of node (steps_of chain g.chains) in Some (of_machine (substreams w.book c o) (begin_subs w.book c node) true)

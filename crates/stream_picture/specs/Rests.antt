@@ -17,9 +17,11 @@ use Rattle.stream_picture.specs.View.{View, EachWire, SomeWire, ins, outs}
 abbrev pub Waits : View → Type 0
 Waits v = (v.asked ≡ true) × (v.shut ≡ false)
 
+-- either end has closed it
 abbrev pub IsShut : View → Type 0
 IsShut v = v.shut ≡ true
 
+-- the wire is a lane
 abbrev pub IsLane : View → Type 0
 IsLane v = is_some v.lane ≡ true
 
@@ -31,12 +33,15 @@ Idles v = IsLane v ⊎ ((v.asked ≡ false) × (v.shut ≡ false))
 abbrev pub IsAsked : View → Type 0
 IsAsked v = (v.asked ≡ true) × (v.shut ≡ false)
 
+-- open, and not asked
 abbrev pub IsUnasked : View → Type 0
 IsUnasked v = (v.asked ≡ false) × (v.shut ≡ false)
 
+-- it idles, or it is shut
 abbrev pub IdlesOrShut : View → Type 0
 IdlesOrShut v = Idles v ⊎ IsShut v
 
+-- it waits, idles or is shut
 abbrev pub WaitsIdlesOrShut : View → Type 0
 WaitsIdlesOrShut v = Waits v ⊎ Idles v ⊎ IsShut v
 
@@ -66,6 +71,7 @@ AllOpenAsked outs = EachWire (λ o. IsShut o ⊎ IsAsked o) outs
 abbrev pub CopiesAll : View → List View → Type 0
 CopiesAll i outs = EachWire (λ o. IsShut o ⊎ (o.sent ≡ i.sent)) outs
 
+-- each open output has at most what came, and all of it where the input is fused
 abbrev pub CopiesSome : View → List View → Type 0
 CopiesSome i outs = EachWire (λ o. IsShut o ⊎ ((o.sent ≤ i.sent) × (IsLane i ⊎ (o.sent ≡ i.sent)))) outs
 
@@ -75,10 +81,12 @@ abbrev pub OneToOne : (View → View → Type 0) → List View → List View →
 OneToOne P (i ∷ []) (o ∷ []) = P i o
 OneToOne P _ _ = ⊥
 
+-- a node with several inputs and one output
 abbrev pub ManyToOne : (List View → View → Type 0) → List View → List View → Type 0
 ManyToOne P is (o ∷ []) = P is o
 ManyToOne P is _ = ⊥
 
+-- a node with one input and several outputs
 abbrev pub OneToMany : (View → List View → Type 0) → List View → List View → Type 0
 OneToMany P (i ∷ []) os = P i os
 OneToMany P _ os = ⊥
@@ -90,6 +98,7 @@ StageRests s i o =
     ⊎ (IsUnasked o × Idles i)
     ⊎ ((s.holds ≡ true) × IsUnasked o × IsShut i)
 
+-- a buffer of n that holds its input back
 abbrev pub BufferRests : ℕ → View → View → Type 0
 BufferRests n i o =
     (IsAsked o × Waits i × (i.sent ≡ o.sent))
@@ -97,54 +106,67 @@ BufferRests n i o =
     ⊎ (IsUnasked o × Idles i × IsOrLane i (o.sent + n))
     ⊎ (IsUnasked o × IsShut i)
 
+-- a buffer that drops: where it is asked it holds nothing
 abbrev pub DroppingRests : Bool → View → View → Type 0
 DroppingRests empty i o = (Waits i × (IsAsked o → empty ≡ true)) ⊎ (IsShut i × IsUnasked o)
 
+-- a merge
 abbrev pub MergeRests : List View → View → Type 0
 MergeRests is o =
     (IsAsked o × SomeWire Waits is × EachWire (λ i. Waits i ⊎ IsShut i) is)
     ⊎ (IsUnasked o × EachWire WaitsIdlesOrShut is)
 
+-- a concat
 abbrev pub ConcatRests : List View → View → Type 0
 ConcatRests is o = (IsAsked o × FirstOpenWaits is) ⊎ (IsUnasked o × EachWire IdlesOrShut is)
 
+-- an interleave
 abbrev pub InterleaveRests : List View → View → Type 0
 InterleaveRests is o = (IsAsked o × OneWaits is) ⊎ (IsUnasked o × EachWire IdlesOrShut is)
 
+-- a merge_sorted
 abbrev pub SortedRests : List View → View → Type 0
 SortedRests is o = (IsAsked o × SomeWire Waits is) ⊎ (IsUnasked o × EachWire WaitsIdlesOrShut is)
 
+-- a zip
 abbrev pub ZipRests : List View → View → Type 0
 ZipRests is o =
     EachWire (ZipInput o.sent) is
     × ((IsAsked o × SomeWire (λ i. Waits i × (i.sent ≡ o.sent)) is) ⊎ IsUnasked o)
 
+-- a broadcast or an unzip
 abbrev pub BroadcastRests : View → List View → Type 0
 BroadcastRests i os =
     (AllOpenAsked os × Waits i × CopiesAll i os)
     ⊎ (SomeWire IsUnasked os × Idles i × CopiesSome i os)
 
+-- a balance
 abbrev pub BalanceRests : View → List View → Type 0
 BalanceRests i os =
     (SomeWire IsAsked os × Waits i)
     ⊎ (SomeWire IsUnasked os × EachWire (λ o. IsShut o ⊎ IsUnasked o) os × WaitsIdlesOrShut i)
 
+-- a partition
 abbrev pub PartitionRests : View → List View → Type 0
 PartitionRests i os = Waits i ⊎ (SomeWire IsUnasked os × IdlesOrShut i)
 
+-- a sink waits for its input
 abbrev pub SinkRests : List View → Type 0
 SinkRests (i ∷ []) = Waits i
 SinkRests _ = ⊥
 
+-- a source is not asked
 abbrev pub SourceRests : List View → Type 0
 SourceRests (o ∷ []) = IsUnasked o
 SourceRests _ = ⊥
 
 module _ (g : Graph) (w : World) where
+  -- a stage with one input and one output, or a sink
   abbrev pub stage_rests : Option OneWay → List View → List View → Type 0
   stage_rests None is os = SinkRests is
   stage_rests (Some s) is os = OneToOne (StageRests s) is os
 
+  -- a buffer by its policy
   abbrev pub dropping_rests : ℕ → ℕ → Policy → List View → List View → Type 0
   dropping_rests node n Backpressure is os = OneToOne (BufferRests n) is os
   dropping_rests node n p is os = OneToOne (λ i o. DroppingRests (nothing_held (buffered p n (w.moves node) i.list empty_buffer).held) i o) is os

@@ -6,9 +6,11 @@ use Rattle.stream_model.specs.Graph.{Graph}
 use Rattle.stream_model.specs.Node.{World}
 use Rattle.stream_model.specs.Samples.{diamond, node, reading}
 
+-- a wire that is open
 abbrev pub live : ℕ → Bool → WireCount
 live sent asked = record { sent = sent; asked = asked; shut = false }
 
+-- a drop on one of the ways
 abbrev pub dropping : Graph
 dropping = diamond (node (k.Drop 1))
 

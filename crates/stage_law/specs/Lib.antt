@@ -1,3 +1,4 @@
 pub mod Held
+pub mod Row
 pub mod Turn
 pub mod Law

@@ -1,0 +1,6 @@
+// The stages with one input and one output that keep nothing between elements but a count.
+#![tactic(auto)]
+
+pub mod logic;
+pub mod phase;
+pub mod task;

@@ -6,3 +6,4 @@ pub mod Turning
 pub mod Ports
 pub mod Calls
 pub mod Whole
+pub mod OwnRows

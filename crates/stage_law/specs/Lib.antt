@@ -2,3 +2,4 @@ pub mod Held
 pub mod Row
 pub mod Turn
 pub mod Law
+pub mod OwnPorts

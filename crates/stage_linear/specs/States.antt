@@ -33,7 +33,7 @@ begun (taking zero) s = done
 begun _ s = going s
 
 -- what it still owes: it holds no element
-abbrev held_in : Phase → Stage → Held Stage
+abbrev pub held_in : Phase → Stage → Held Stage
 held_in New s = owing (record { gave = []; state = begun s.work s })
 held_in Open s = owing (record { gave = []; state = going s })
 held_in Closed s = shut
@@ -42,7 +42,7 @@ abbrev pub held : Logic → Held Stage
 held l = held_in l.phase l.stage
 
 -- Its row: before its start nobody asked; then its input waits exactly where its output is asked; or all is closed.
-abbrev row_in : Phase → Work → InView → OutView → Type 0
+abbrev pub row_in : Phase → Work → InView → OutView → Type 0
 row_in New w Idle Unasked = ⊤
 row_in Open w Waiting Asked = HasMore w
 row_in Open w Idle Unasked = HasMore w
@@ -52,9 +52,10 @@ row_in _ w _ _ = ⊥
 abbrev pub row : Logic → View → Type 0
 row l v = OneOne (row_in l.phase l.stage.work) v
 
--- one step of its machine, by any book of plugs, since it asks none
-abbrev pub Turned : Call → Logic → List Act → Logic → Type 0
-Turned call old acts new = (book : Book) → TurnAt (linear book old.stage.work) 0 call (held old) (given_on 0 acts) (held new)
+-- one step of its machine, which stays the same, by any book of plugs, since it asks none
+pub record Turned (call : Call) (old : Logic) (acts : List Act) (new : Logic) : Type 0 where
+  pub turn : (book : Book) → TurnAt (linear book old.stage.work) 0 call (held old) (given_on 0 acts) (held new)
+  pub same : (book : Book) → linear book new.stage.work ≡ linear book old.stage.work
 
 -- the kinds that these stages are
 abbrev pub IsLinear : Kind → Type 0
@@ -71,10 +72,14 @@ pub record Begins (node : ℕ) (kind : Kind) (d : Decider) (new : Logic) : Type 
 
 -- ---- an element without a value, by the decider
 
+-- the stage that took n elements
+abbrev pub counted : Logic → ℕ → Logic
+counted l n = record l { stage = record l.stage { taken = n } }
+
 abbrev decided_to : Decider → Logic → ℕ → Logic
 decided_to Stop l n = record l { phase = Closed }
-decided_to Resume l n = record l { stage = record l.stage { taken = n } }
-decided_to Restart l n = record l { stage = record l.stage { taken = n } }
+decided_to Resume l n = counted l n
+decided_to Restart l n = counted l n
 
 -- the stage then, which was at element n
 abbrev pub decided_by : Logic → ℕ → Logic

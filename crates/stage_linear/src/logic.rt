@@ -1,9 +1,9 @@
-ghost use Rattle.std.specs.Prelude.{◌≡◌, ◌≤◌, ◌∷◌, ◌++◌, ◌+◌, [], length, OnOk, Some, IfOk};
+ghost use Rattle.std.specs.Prelude.{◌≡◌, ◌≤◌, ◌<◌, ◌∷◌, ◌++◌, ◌+◌, [], length, OnOk, IfOk, IsOk};
 ghost use Rattle.elem_core.specs.declared.item.Item.TheVariants as item;
 ghost use Rattle.port_core.specs.declared.act.Act.TheVariants as act;
 ghost use Rattle.port_core.specs.Call.{Obeys, Meets, starts, asks, brings, cancels};
 ghost use Rattle.stage_linear.specs.declared.phase.Phase.TheVariants.{New, Open, Closed};
-ghost use Rattle.stage_linear.specs.States.{Begins, row, Turned, IsLinear, decided_by, decided_acts};
+ghost use Rattle.stage_linear.specs.States.{Begins, row, Turned, IsLinear, counted, decided_by, decided_acts};
 
 use crate::phase::Phase;
 use crate::task::{Outcome, Task};
@@ -67,6 +67,7 @@ impl LinearLogic {
         requires meets { Meets starts (row self.old) }
         requires empty { acts.old.items ≡ [] }
         requires room { 4 ≤ acts.old.room }
+        ensures answers { IsOk result }
         ensures ports { OnOk result (Obeys starts (row self.old) (row self.new) acts.new.items) }
         ensures gives { OnOk result (Turned starts self.old acts.new.items self.new) }
     {
@@ -85,10 +86,11 @@ impl LinearLogic {
         requires meets { Meets (asks 0) (row self.old) }
         requires empty { acts.old.items ≡ [] }
         requires room { 4 ≤ acts.old.room }
+        ensures answers { IsOk result }
         ensures ports { OnOk result (Obeys (asks 0) (row self.old) (row self.new) acts.new.items) }
         ensures gives { OnOk result (Turned (asks 0) self.old acts.new.items self.new) }
     {
-        acts.add(Act::Pull(0));
+        acts.add(Act::Pull(port));
         Ok(())
     }
 
@@ -99,11 +101,12 @@ impl LinearLogic {
         requires meets { Meets (brings 0 item.Ended) (row self.old) }
         requires empty { acts.old.items ≡ [] }
         requires room { 4 ≤ acts.old.room }
+        ensures answers { IsOk result }
         ensures ports { OnOk result (Obeys (brings 0 item.Ended) (row self.old) (row self.new) acts.new.items) }
         ensures gives { OnOk result (Turned (brings 0 item.Ended) self.old acts.new.items self.new) }
     {
         self.phase = Phase::Closed;
-        acts.add(Act::Complete(0));
+        acts.add(Act::Complete(port));
         Ok(())
     }
 
@@ -114,11 +117,11 @@ impl LinearLogic {
         requires meets { Meets (brings 0 (item.Failed cause)) (row self.old) }
         requires empty { acts.old.items ≡ [] }
         requires room { 4 ≤ acts.old.room }
+        ensures answers { IsOk result }
         ensures ports { OnOk result (Obeys (brings 0 (item.Failed cause)) (row self.old) (row self.new) acts.new.items) }
         ensures gives { OnOk result (Turned (brings 0 (item.Failed cause)) self.old acts.new.items self.new) }
     {
-        self.phase = Phase::Closed;
-        acts.add(Act::FailOut(0, cause));
+        self.close(Act::FailOut(port, cause), acts);
         Ok(())
     }
 
@@ -129,16 +132,22 @@ impl LinearLogic {
         requires meets { Meets (cancels 0) (row self.old) }
         requires empty { acts.old.items ≡ [] }
         requires room { 4 ≤ acts.old.room }
+        ensures answers { IsOk result }
         ensures ports { OnOk result (Obeys (cancels 0) (row self.old) (row self.new) acts.new.items) }
         ensures gives { OnOk result (Turned (cancels 0) self.old acts.new.items self.new) }
     {
-        self.phase = Phase::Closed;
-        acts.add(Act::Cancel(0));
+        self.close(Act::Cancel(port), acts);
         Ok(())
     }
 
     /// An element came. Resume and Restart leave out one that the function has no value for.
-    pub fn on_push(&mut self, alloc: Global, port: u8, e: Elem, acts: &mut Acts) -> Result<(), NoMemory>
+    pub fn on_push(
+        &mut self,
+        alloc: Global,
+        port: u8,
+        e: Elem,
+        acts: &mut Acts,
+    ) -> Result<(), NoMemory>
         requires open { self.old.phase ≡ Open }
         requires port { port ≡ 0 }
         requires meets { Meets (brings 0 (item.Elem e)) (row self.old) }
@@ -149,16 +158,10 @@ impl LinearLogic {
     {
         let taken = one_more(self.taken)?;
         match self.task.react(alloc, e)? {
-            Outcome::Gives(value) => {
-                self.taken = taken;
-                acts.add(Act::Push(0, value));
-            }
-            Outcome::Skips => {
-                self.taken = taken;
-                acts.add(Act::Pull(0));
-            }
+            Outcome::Gives(value) => self.give(taken, value, acts),
+            Outcome::Skips => self.skip(taken, acts),
             Outcome::EndsWith(value) => {
-                acts.add(Act::Push(0, value));
+                self.give(taken, value, acts);
                 self.complete(acts);
             }
             Outcome::Blames(why) => self.decide(taken, why, acts),
@@ -180,14 +183,10 @@ impl LinearLogic {
                     nth: taken,
                     why,
                 };
-                self.phase = Phase::Closed;
-                acts.add(Act::FailOut(0, cause));
+                self.close(Act::FailOut(0, cause), acts);
                 acts.add(Act::Cancel(0));
             }
-            Decider::Resume | Decider::Restart => {
-                self.taken = taken;
-                acts.add(Act::Pull(0));
-            }
+            Decider::Resume | Decider::Restart => self.skip(taken, acts),
         }
     }
 
@@ -196,9 +195,38 @@ impl LinearLogic {
         ensures stage { self.new ≡ record self.old { phase = Closed } }
         ensures acts { acts.new ≡ record acts.old { items = acts.old.items ++ act.Complete 0 ∷ act.Cancel 0 ∷ [] } }
     {
-        self.phase = Phase::Closed;
-        acts.add(Act::Complete(0));
+        self.close(Act::Complete(0), acts);
         acts.add(Act::Cancel(0));
+    }
+
+    // The last action, or the last but a cancel of the input.
+    fn close(&mut self, last: Act, acts: &mut Acts)
+        requires room { length acts.old.items < acts.old.room }
+        ensures stage { self.new ≡ record self.old { phase = Closed } }
+        ensures acts { acts.new ≡ record acts.old { items = acts.old.items ++ last ∷ [] } }
+    {
+        self.phase = Phase::Closed;
+        acts.add(last);
+    }
+
+    // Element number `taken` gave this.
+    fn give(&mut self, taken: u64, value: Elem, acts: &mut Acts)
+        requires room { length acts.old.items < acts.old.room }
+        ensures stage { self.new ≡ counted self.old taken }
+        ensures acts { acts.new ≡ record acts.old { items = acts.old.items ++ act.Push 0 value ∷ [] } }
+    {
+        self.taken = taken;
+        acts.add(Act::Push(0, value));
+    }
+
+    // Element number `taken` gave nothing: the stage asks for the next.
+    fn skip(&mut self, taken: u64, acts: &mut Acts)
+        requires room { length acts.old.items < acts.old.room }
+        ensures stage { self.new ≡ counted self.old taken }
+        ensures acts { acts.new ≡ record acts.old { items = acts.old.items ++ act.Pull 0 ∷ [] } }
+    {
+        self.taken = taken;
+        acts.add(Act::Pull(0));
     }
 }
 

@@ -42,7 +42,11 @@ impl Task {
             Task::Filter(p) => Ok(filter(p, e)),
             Task::Take(n) => {
                 *n -= 1;
-                Ok(if *n == 0 { Outcome::EndsWith(e) } else { Outcome::Gives(e) })
+                Ok(if *n == 0 {
+                    Outcome::EndsWith(e)
+                } else {
+                    Outcome::Gives(e)
+                })
             }
         }
     }

@@ -1,4 +1,3 @@
-use Rattle.stage_linear.specs.Tasks.{work_in}
 use Rattle.stage_linear.proofs.task.Task.react.Goals as goal
 
 pub returns-in-Map : goal.returns-in-Map

@@ -1,5 +1,5 @@
 -- The state of a linear stage, what it still owes, and its row: what it knows of its ports.
-use Rattle.std.specs.Prelude.{◌≡◌, ⊤, ℕ, zero, List, [], ◌∷◌, Some}
+use Rattle.std.specs.Prelude.{◌≡◌, ◌≢◌, ⊤, ℕ, zero, List, [], ◌∷◌, Some}
 use Rattle.elem_core.specs.declared.why.Why.{Why}
 use Rattle.elem_core.specs.declared.why.Decider.TheVariants.{Stop, Resume, Restart}
 use Rattle.elem_core.specs.declared.why.Decider.{Decider}
@@ -52,10 +52,11 @@ row_in _ w _ _ = ⊥
 abbrev pub row : Logic → View → Type 0
 row l v = OneOne (row_in l.phase l.stage.work) v
 
--- one step of its machine, which stays the same, by any book of plugs, since it asks none
+-- one step of its machine, which stays the same, by any book of plugs, since it asks none; and it was started
 pub record Turned (call : Call) (old : Logic) (acts : List Act) (new : Logic) : Type 0 where
   pub turn : (book : Book) → TurnAt (linear book old.stage.work) 0 call (held old) (given_on 0 acts) (held new)
   pub same : (book : Book) → linear book new.stage.work ≡ linear book old.stage.work
+  pub started : new.phase ≢ New
 
 -- the kinds that these stages are
 abbrev pub IsLinear : Kind → Type 0

@@ -1,0 +1,9 @@
+pub mod Told
+pub mod Steps
+pub mod History
+pub mod Lagging
+pub mod Turning
+pub mod Ports
+pub mod Calls
+pub mod Whole
+pub mod OwnRows

@@ -1,0 +1,53 @@
+-- A stage's own ports as wires of a picture, each read as no lane, with what passed there: so the rows of a picture that
+-- rests are rows of the stage.
+use Rattle.std.specs.Prelude.{◌⊎◌, Bool, true, false, List, length, None}
+use Rattle.elem_core.specs.Tree.{Tree}
+use Rattle.port_core.specs.declared.view.InView.{InView}
+use Rattle.port_core.specs.declared.view.InView.TheVariants.{Idle, Waiting, Over, Left}
+use Rattle.port_core.specs.declared.view.OutView.{OutView}
+use Rattle.port_core.specs.declared.view.OutView.TheVariants.{Unasked, Asked, Shut, Refused}
+use Rattle.stream_model.specs.Machine.{Run, Machine}
+use Rattle.stream_picture.specs.View.{View}
+use Rattle.stream_picture.specs.OneWay.{of_machine}
+use Rattle.stream_picture.specs.Rests.{IsShut, StageRests}
+
+-- the stage has asked, and no element came since
+abbrev pub is_waiting : InView → Bool
+is_waiting Idle = false
+is_waiting Waiting = true
+is_waiting Over = false
+is_waiting Left = false
+
+-- the end came, or the stage cancelled
+abbrev pub in_shut : InView → Bool
+in_shut Idle = false
+in_shut Waiting = false
+in_shut Over = true
+in_shut Left = true
+
+-- the output was asked, and no element was pushed since
+abbrev pub is_asked : OutView → Bool
+is_asked Unasked = false
+is_asked Asked = true
+is_asked Shut = false
+is_asked Refused = false
+
+-- the stage closed it, or the cancel came
+abbrev pub out_shut : OutView → Bool
+out_shut Unasked = false
+out_shut Asked = false
+out_shut Shut = true
+out_shut Refused = true
+
+-- the wire of an input, of which this list was taken
+abbrev pub own_input : InView → List Tree → View
+own_input x l = record { wire = 0; sent = length l; asked = is_waiting x; shut = in_shut x; lane = None; list = l }
+
+-- the wire of an output, on which this list was given
+abbrev pub own_output : OutView → List Tree → View
+own_output y g = record { wire = 0; sent = length g; asked = is_asked y; shut = out_shut y; lane = None; list = g }
+
+-- A stage with one input and one output, which took l and gave g, has closed its ports or has nothing to do: it waits for
+-- its input and has given all that it may, or nobody asks it.
+abbrev pub OwnRests : {S : Type 0} → Machine S Tree → Run S Tree → Bool → InView → OutView → List Tree → List Tree → Type 0
+OwnRests m start holds x y l g = (IsShut (own_input x l) × IsShut (own_output y g)) ⊎ StageRests (of_machine m start holds) (own_input x l) (own_output y g)

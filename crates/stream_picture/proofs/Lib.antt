@@ -1,0 +1,4 @@
+pub mod Exits
+pub mod Views
+pub mod Polytrees
+pub mod StalledRows

@@ -5,3 +5,5 @@ pub mod laws;
 pub mod logic;
 pub mod phase;
 pub mod task;
+#[cfg(test)]
+mod tests;

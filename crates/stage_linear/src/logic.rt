@@ -70,6 +70,7 @@ impl LinearLogic {
         ensures answers { IsOk result }
         ensures ports { OnOk result (Obeys starts (row self.old) (row self.new) acts.new.items) }
         ensures gives { OnOk result (Turned starts self.old acts.new.items self.new) }
+        ensures room { acts.new.room ≡ acts.old.room }
     {
         if let Task::Take(0) = self.task {
             self.complete(acts);
@@ -89,6 +90,7 @@ impl LinearLogic {
         ensures answers { IsOk result }
         ensures ports { OnOk result (Obeys (asks 0) (row self.old) (row self.new) acts.new.items) }
         ensures gives { OnOk result (Turned (asks 0) self.old acts.new.items self.new) }
+        ensures room { acts.new.room ≡ acts.old.room }
     {
         acts.add(Act::Pull(port));
         Ok(())
@@ -104,6 +106,7 @@ impl LinearLogic {
         ensures answers { IsOk result }
         ensures ports { OnOk result (Obeys (brings 0 item.Ended) (row self.old) (row self.new) acts.new.items) }
         ensures gives { OnOk result (Turned (brings 0 item.Ended) self.old acts.new.items self.new) }
+        ensures room { acts.new.room ≡ acts.old.room }
     {
         self.phase = Phase::Closed;
         acts.add(Act::Complete(port));
@@ -120,6 +123,7 @@ impl LinearLogic {
         ensures answers { IsOk result }
         ensures ports { OnOk result (Obeys (brings 0 (item.Failed cause)) (row self.old) (row self.new) acts.new.items) }
         ensures gives { OnOk result (Turned (brings 0 (item.Failed cause)) self.old acts.new.items self.new) }
+        ensures room { acts.new.room ≡ acts.old.room }
     {
         self.close(Act::FailOut(port, cause), acts);
         Ok(())
@@ -135,6 +139,7 @@ impl LinearLogic {
         ensures answers { IsOk result }
         ensures ports { OnOk result (Obeys (cancels 0) (row self.old) (row self.new) acts.new.items) }
         ensures gives { OnOk result (Turned (cancels 0) self.old acts.new.items self.new) }
+        ensures room { acts.new.room ≡ acts.old.room }
     {
         self.close(Act::Cancel(port), acts);
         Ok(())
@@ -155,6 +160,7 @@ impl LinearLogic {
         requires room { 4 ≤ acts.old.room }
         ensures ports { OnOk result (Obeys (brings 0 (item.Elem e)) (row self.old) (row self.new) acts.new.items) }
         ensures gives { OnOk result (Turned (brings 0 (item.Elem e)) self.old acts.new.items self.new) }
+        ensures room { acts.new.room ≡ acts.old.room }
     {
         let taken = one_more(self.taken)?;
         match self.task.react(alloc, e)? {

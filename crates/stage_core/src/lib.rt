@@ -1,0 +1,4 @@
+// What the interpreter asks of a stage, whatever its kind is.
+#![tactic(auto)]
+
+pub mod stage;

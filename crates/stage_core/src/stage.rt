@@ -1,0 +1,79 @@
+ghost use Rattle.std.specs.Prelude.{◌≡◌, ◌≤◌, List, [], OnOk};
+ghost use Rattle.elem_core.specs.declared.item.Item.{Item};
+ghost use Rattle.elem_core.specs.declared.item.Item.TheVariants as item;
+ghost use Rattle.port_core.specs.View.{View};
+ghost use Rattle.port_core.specs.Call.{Meets, starts, asks, brings, cancels};
+ghost use Rattle.stage_core.specs.Handling.{most_acts, Starts, Handles};
+
+use elem_core::elem::Elem;
+use elem_core::why::{Cause, NoMemory};
+use port_core::acts::Acts;
+use std::alloc::Global;
+
+/// The most actions that one call appends: two for each port of a stage with 16 inputs or outputs, and for its other port.
+pub const MOST_ACTS: u32 = 34;
+
+/// A node of a fused graph: a source, a stage or a sink. Each call is a handler; what it wants done at its ports it appends
+/// to `acts`, which is empty and has room. After `NoMemory` a stage is only dropped or taken apart. Rule: Akka Streams 2.6
+/// reference, chapter on custom stream processing.
+pub trait Stage: Drop {
+    ghost fresh: { Self → View → Type 0 };
+
+    ghost row: { Self → View → Type 0 };
+
+    ghost law: { Self → Self → View → List (List Item) → List (List Item) → Type 0 };
+
+    /// The run begins.
+    fn start(&mut self, alloc: Global, acts: &mut Acts) -> Result<(), NoMemory>
+        requires meets { Meets starts (fresh self.old) }
+        requires empty { acts.old.items ≡ [] }
+        requires room { most_acts ≤ acts.old.room }
+        ensures starts { OnOk result (Starts row law fresh self.old self.new acts.new.items) }
+        ensures room { OnOk result (acts.new.room ≡ acts.old.room) };
+
+    /// Output `port` was asked.
+    fn on_pull(&mut self, alloc: Global, port: u8, acts: &mut Acts) -> Result<(), NoMemory>
+        requires meets { Meets (asks port) (row self.old) }
+        requires empty { acts.old.items ≡ [] }
+        requires room { most_acts ≤ acts.old.room }
+        ensures handles { OnOk result (Handles row law (asks port) self.old self.new acts.new.items) }
+        ensures room { OnOk result (acts.new.room ≡ acts.old.room) };
+
+    /// An element came to input `port`.
+    fn on_push(&mut self, alloc: Global, port: u8, e: Elem, acts: &mut Acts) -> Result<(), NoMemory>
+        requires meets { Meets (brings port (item.Elem e)) (row self.old) }
+        requires empty { acts.old.items ≡ [] }
+        requires room { most_acts ≤ acts.old.room }
+        ensures handles { OnOk result (Handles row law (brings port (item.Elem e)) self.old self.new acts.new.items) }
+        ensures room { OnOk result (acts.new.room ≡ acts.old.room) };
+
+    /// Input `port` has ended.
+    fn on_finish(&mut self, alloc: Global, port: u8, acts: &mut Acts) -> Result<(), NoMemory>
+        requires meets { Meets (brings port item.Ended) (row self.old) }
+        requires empty { acts.old.items ≡ [] }
+        requires room { most_acts ≤ acts.old.room }
+        ensures handles { OnOk result (Handles row law (brings port item.Ended) self.old self.new acts.new.items) }
+        ensures room { OnOk result (acts.new.room ≡ acts.old.room) };
+
+    /// Input `port` has failed.
+    fn on_fail(
+        &mut self,
+        alloc: Global,
+        port: u8,
+        cause: Cause,
+        acts: &mut Acts,
+    ) -> Result<(), NoMemory>
+        requires meets { Meets (brings port (item.Failed cause)) (row self.old) }
+        requires empty { acts.old.items ≡ [] }
+        requires room { most_acts ≤ acts.old.room }
+        ensures handles { OnOk result (Handles row law (brings port (item.Failed cause)) self.old self.new acts.new.items) }
+        ensures room { OnOk result (acts.new.room ≡ acts.old.room) };
+
+    /// Output `port` was cancelled.
+    fn on_cancel(&mut self, alloc: Global, port: u8, acts: &mut Acts) -> Result<(), NoMemory>
+        requires meets { Meets (cancels port) (row self.old) }
+        requires empty { acts.old.items ≡ [] }
+        requires room { most_acts ≤ acts.old.room }
+        ensures handles { OnOk result (Handles row law (cancels port) self.old self.new acts.new.items) }
+        ensures room { OnOk result (acts.new.room ≡ acts.old.room) };
+}

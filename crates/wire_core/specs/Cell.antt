@@ -1,0 +1,59 @@
+-- A wire of an island: the wire itself, and whether its input has asked and was not answered by an element yet.
+use Rattle.std.specs.Prelude.{Bool, true, false, if◌then◌else◌, None, Some, [], ◌∷◌, ◌++◌}
+use Rattle.elem_core.specs.Tree.{Tree}
+use Rattle.elem_core.specs.declared.item.Item.TheVariants as item
+use Rattle.port_core.specs.Connection.{Connection}
+use Rattle.port_core.specs.PortRules as rule
+use Rattle.port_core.specs.PortRules.{next}
+use Rattle.port_core.specs.Decoding.{can_pull, can_push, is_at_rest}
+use Rattle.port_core.specs.Wire.{Wire, new_wire, pull_of, push_of, close_of, cancel_of, Delivery, nothing, ask, refusal, brought, end_of, delivery_of, after_delivery}
+use Rattle.port_core.specs.declared.view.InView.TheVariants.{Idle, Over}
+use Rattle.port_core.specs.declared.act.Act.{Act}
+use Rattle.port_core.specs.declared.act.Act.TheVariants.{Pull, Push, Complete, FailOut, Cancel}
+use Rattle.wire_core.specs.declared.wire.Delivered.{Delivered}
+use Rattle.wire_core.specs.declared.wire.Delivered.TheVariants.{Nothing, Ask, Refusal, Brought}
+
+-- An ask that a closing forbids, which has not come to the input, is none. A push answers the ask, also one that a cancel
+-- forbids which has not come to the output. A closing leaves the ask as it is.
+pub record Cell : Type 0 where
+  pub wire : Wire
+  pub asked : Bool
+
+-- nothing happened on it
+abbrev pub new_cell : Cell
+new_cell = record { wire = new_wire; asked = false }
+
+-- what an action does at its wire
+abbrev pub moved_by : Act → Cell → Cell
+moved_by (Pull i) c = record { wire = pull_of c.wire; asked = if can_pull c.wire.conn then true else c.asked }
+moved_by (Push j e) c = record { wire = push_of e c.wire; asked = false }
+moved_by (Complete j) c = record c { wire = close_of None c.wire }
+moved_by (FailOut j cause) c = record c { wire = close_of (Some cause) c.wire }
+moved_by (Cancel i) c = record c { wire = cancel_of c.wire }
+
+-- whether the wire has to be queued then
+abbrev pub queues_by : Act → Connection → Bool
+queues_by (Pull i) p = can_pull p
+queues_by (Push j e) p = can_push p
+queues_by (Complete j) p = is_at_rest p
+queues_by (FailOut j cause) p = is_at_rest p
+queues_by (Cancel i) p = is_at_rest p
+
+-- what the event of the wire brings, as the code says it
+abbrev pub delivery_in : Delivered → Delivery
+delivery_in Nothing = nothing
+delivery_in Ask = ask
+delivery_in Refusal = refusal
+delivery_in (Brought x more) = brought x more
+
+-- an element that waits to be grabbed goes to the input
+abbrev pub brought_in : Tree → Cell → Cell
+brought_in e c = record c { wire = record c.wire { inp = Idle; conn = next (rule.grab e) c.wire.conn; got = c.wire.got ++ item.Elem e ∷ [] } }
+
+-- the end of the output goes to the input
+abbrev pub ended_in : Cell → Cell
+ended_in c = record c { wire = record c.wire { inp = Over; got = c.wire.got ++ end_of c.wire.conn.cause ∷ [] } }
+
+-- the wire once its event was delivered
+abbrev pub delivered : Cell → Cell
+delivered c = record c { wire = after_delivery (delivery_of c.wire) c.wire }

@@ -1,0 +1,53 @@
+-- How many elements passed a wire, and what its history costs in units: a number that no action lowers and each event raises.
+use Rattle.std.specs.Prelude.{ℕ, suc, ◌+◌, Bool, true, false, List, [], ◌∷◌}
+use Rattle.elem_core.specs.declared.item.Item.{Item}
+use Rattle.elem_core.specs.declared.item.Item.TheVariants as item
+use Rattle.port_core.specs.Connection.{Step, quiet, pulled, ready, pushed}
+use Rattle.port_core.specs.Wire.{Wire}
+use Rattle.port_core.specs.declared.view.InView.{InView}
+use Rattle.port_core.specs.declared.view.InView.TheVariants.{Waiting, Over, Left}
+use Rattle.port_core.specs.declared.view.OutView.{OutView}
+use Rattle.port_core.specs.declared.view.OutView.TheVariants.{Unasked, Asked, Shut, Refused}
+
+-- the elements of a history, without its end
+abbrev pub elements : List Item → ℕ
+elements [] = 0
+elements (item.Elem e ∷ items) = suc (elements items)
+elements (item.Ended ∷ items) = elements items
+elements (item.Failed c ∷ items) = elements items
+
+-- the ask has come to the output
+abbrev pub ready_bit : Step → ℕ
+ready_bit quiet = 0
+ready_bit pulled = 0
+ready_bit ready = 1
+ready_bit (pushed e) = 0
+
+-- the wire is not queued
+abbrev pub free_bit : Bool → ℕ
+free_bit true = 0
+free_bit false = 1
+
+-- the events of a wire beside one for each element that was pushed and one for each that came: the last ask, and closings
+abbrev pub extra : OutView → InView → Step → Bool → ℕ
+extra Asked Waiting t q = 1
+extra Asked Left t q = 1
+extra Shut Waiting t q = ready_bit t
+extra Shut Over t q = 2 + free_bit q
+extra Shut Left t q = 1 + free_bit q
+extra Refused Left t q = 2 + free_bit q
+extra _ _ t q = 0
+
+-- what the wire, queued or not, has cost: at most twice its elements, and 3 more
+abbrev pub spent : Wire → Bool → ℕ
+spent w q = elements w.sent + elements w.got + extra w.out w.inp w.conn.step q
+
+-- the asks that came to the output: one for each element that was pushed, and the last one
+abbrev pub asked_bit : OutView → ℕ
+asked_bit Unasked = 0
+asked_bit Asked = 1
+asked_bit Shut = 0
+asked_bit Refused = 0
+
+abbrev pub asks : Wire → ℕ
+asks w = elements w.sent + asked_bit w.out

@@ -1,0 +1,219 @@
+ghost use Rattle.std.specs.Prelude.{◌≡◌, ◌+◌, ◌<◌, ◌^◌, not, false, IsSome, Some};
+ghost use Rattle.elem_core.specs.Tree.{Tree};
+ghost use Rattle.elem_core.specs.declared.item.Item.TheVariants as item;
+ghost use Rattle.port_core.specs.Decoding.{can_pull, can_push, is_at_rest, is_open};
+ghost use Rattle.port_core.specs.Wire.{delivery_of, brought, end_of};
+ghost use Rattle.port_core.specs.declared.act.Act.TheVariants as act;
+ghost use Rattle.wire_core.specs.Cell.{new_cell, moved_by, queues_by, delivery_in, delivered, brought_in, ended_in};
+ghost use Rattle.wire_core.specs.Counts.{elements};
+
+use elem_core::elem::Elem;
+use elem_core::item::Item;
+use elem_core::trace::Trace;
+use elem_core::why::Cause;
+use port_core::act::Act;
+use port_core::conn::{Conn, Event};
+use port_core::view::{InView, OutView};
+use std::marker::Model;
+
+/// What the event of a wire brings. Rule: own, after the events of the Akka Streams 2.6 interpreter.
+#[derive(Drop)]
+pub enum Delivered {
+    /// Nothing: both sides are closed.
+    Nothing,
+    /// An ask, to the output.
+    Ask,
+    /// The input's cancel, to the output.
+    Refusal,
+    /// An element or an end, to the input; and whether the wire has to be queued again.
+    Brought(Item, bool),
+}
+
+/// One output joined to one input, with what the stages at both ends know of it. A pull or a push that only a closing forbids
+/// which was not delivered yet is dropped: such a pull changes nothing, and such a push counts and answers the ask. No call
+/// takes memory. Rule: Akka Streams 2.6 reference, chapter on custom stream processing; that a pull or push is dropped is own.
+#[derive(Drop)]
+pub struct Wire {
+    out: OutView,
+    inp: InView,
+    conn: Conn,
+    sent: Trace<Item>,
+    got: Trace<Item>,
+    pushed: u64,
+    asked: bool,
+}
+
+impl Model for Wire {
+    ghost use Rattle.std.specs.Prelude.{◌≡◌};
+    ghost use Rattle.std.specs.Coded.{codes};
+    ghost use Rattle.elem_core.specs.TreeCode.{tree_coded};
+    ghost use Rattle.wire_core.specs.Cell.{Cell};
+    ghost use Rattle.wire_core.specs.Counts.{elements};
+
+    ghost Value = { Cell };
+
+    ghost coded = { Prim.hlevel (codes, tree_coded) };
+
+    ghost view = { λ w. record { wire = record { out = w.out; inp = w.inp; conn = w.conn; sent = w.sent.items; got = w.got.items }; asked = w.asked } };
+
+    ghost invariant = { λ w. w.pushed ≡ elements w.sent.items };
+}
+
+impl Wire {
+    /// A wire on which nothing happened.
+    pub fn new() -> Wire
+        ensures { result ≡ new_cell }
+    {
+        Wire {
+            out: OutView::Unasked,
+            inp: InView::Idle,
+            conn: Conn::new(),
+            sent: Trace::empty(),
+            got: Trace::empty(),
+            pushed: 0,
+            asked: false,
+        }
+    }
+
+    /// How many elements its output pushed.
+    pub fn pushed(&self) -> u64
+        ensures { result ≡ elements self.now.wire.sent }
+    {
+        self.pushed
+    }
+
+    /// Whether its input has asked and was not answered by an element.
+    pub fn is_asked(&self) -> bool
+        ensures { result ≡ self.now.asked }
+    {
+        self.asked
+    }
+
+    /// Whether either end has closed it.
+    pub fn is_closed(&self) -> bool
+        ensures { result ≡ not (is_open self.now.wire.conn) }
+    {
+        self.conn.is_closed()
+    }
+
+    /// A stage at one of its ends acts. The answer says whether the wire has to be queued.
+    pub fn act(&mut self, act: Act) -> bool
+        requires count { elements self.old.wire.sent + 1 < 2 ^ 64 }
+        ensures queued { result ≡ queues_by act self.old.wire.conn }
+        ensures moved { self.new ≡ moved_by act self.old }
+    {
+        match act {
+            Act::Pull(_) => self.pull(),
+            Act::Push(_, e) => self.push(e),
+            Act::Complete(_) => self.complete(),
+            Act::FailOut(_, cause) => self.fail(cause),
+            Act::Cancel(_) => self.cancel(),
+        }
+    }
+
+    fn pull(&mut self) -> bool
+        ensures queued { result ≡ can_pull self.old.wire.conn }
+        ensures moved { self.new ≡ moved_by (act.Pull 0) self.old }
+    {
+        self.inp = InView::Waiting;
+        if self.conn.can_pull() {
+            self.asked = true;
+            self.conn.pull()
+        } else {
+            false
+        }
+    }
+
+    #[tactic(auto, using(crate::proofs::Counting::elements_elem))]
+    fn push(&mut self, e: Elem) -> bool
+        requires count { elements self.old.wire.sent + 1 < 2 ^ 64 }
+        ensures queued { result ≡ can_push self.old.wire.conn }
+        ensures moved { self.new ≡ moved_by (act.Push 0 e) self.old }
+    {
+        self.out = OutView::Unasked;
+        self.asked = false;
+        self.pushed += 1;
+        let item = Item::Elem(e);
+        self.sent = self.sent.and(&item);
+        if !self.conn.can_push() {
+            return false;
+        }
+        match item {
+            Item::Elem(e) => self.conn.push(e),
+            _ => unreachable!(),
+        }
+    }
+
+    #[tactic(auto, using(crate::proofs::Counting::elements_ended))]
+    fn complete(&mut self) -> bool
+        ensures queued { result ≡ is_at_rest self.old.wire.conn }
+        ensures moved { self.new ≡ moved_by (act.Complete 0) self.old }
+    {
+        self.out = OutView::Shut;
+        self.sent = self.sent.and(&Item::Ended);
+        self.conn.complete()
+    }
+
+    #[tactic(auto, using(crate::proofs::Counting::elements_failed))]
+    fn fail(&mut self, cause: Cause) -> bool
+        ensures queued { result ≡ is_at_rest self.old.wire.conn }
+        ensures moved { self.new ≡ moved_by (act.FailOut 0 cause) self.old }
+    {
+        self.out = OutView::Shut;
+        self.sent = self.sent.and(&Item::Failed(cause));
+        self.conn.fail(cause)
+    }
+
+    fn cancel(&mut self) -> bool
+        ensures queued { result ≡ is_at_rest self.old.wire.conn }
+        ensures moved { self.new ≡ moved_by (act.Cancel 0) self.old }
+    {
+        self.inp = InView::Left;
+        self.conn.cancel()
+    }
+
+    /// Delivers the event of a wire that was queued. An element is handed out at once.
+    pub fn deliver(&mut self) -> Delivered
+        ensures event { delivery_in result ≡ delivery_of self.old.wire }
+        ensures after { self.new ≡ delivered self.old }
+    {
+        match self.conn.decode() {
+            Event::Nothing => Delivered::Nothing,
+            Event::Pull => {
+                self.out = OutView::Asked;
+                Delivered::Ask
+            }
+            Event::Cancel => {
+                self.out = OutView::Refused;
+                Delivered::Refusal
+            }
+            Event::Push => self.take_in(false),
+            Event::PushThenClose => self.take_in(true),
+            Event::Finish | Event::Fail => self.take_end(),
+        }
+    }
+
+    fn take_in(&mut self, more: bool) -> Delivered
+        requires { IsSome self.old.wire.conn.to_grab }
+        ensures value { (e : Tree) → self.old.wire.conn.to_grab ≡ Some e → delivery_in result ≡ brought (item.Elem e) more }
+        ensures after { (e : Tree) → self.old.wire.conn.to_grab ≡ Some e → self.new ≡ brought_in e self.old }
+    {
+        self.inp = InView::Idle;
+        let item = Item::Elem(self.conn.grab());
+        self.got = self.got.and(&item);
+        Delivered::Brought(item, more)
+    }
+
+    fn take_end(&mut self) -> Delivered
+        ensures value { delivery_in result ≡ brought (end_of self.old.wire.conn.cause) false }
+        ensures after { self.new ≡ ended_in self.old }
+    {
+        self.inp = InView::Over;
+        let item = match self.conn.cause() {
+            None => Item::Ended,
+            Some(cause) => Item::Failed(cause),
+        };
+        self.got = self.got.and(&item);
+        Delivered::Brought(item, false)
+    }
+}

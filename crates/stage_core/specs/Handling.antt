@@ -1,5 +1,5 @@
 -- What a stage owes at each call of a handler, whatever its kind is. Three things are told of a kind: what a stage that was
--- not started may know of its ports (`fresh`); what one that was started may know of them between two calls (`row`); and
+-- not started may know of its ports (`fresh`); what one that was started may know of them between two calls (`row`, in the trait `rests`); and
 -- what holds of the histories of its ports, by the stage as it was handed in and as it is now (`law`).
 use Rattle.std.specs.Prelude.{◌≡◌, ℕ, List, length}
 use Rattle.elem_core.specs.declared.item.Item.{Item}

@@ -19,7 +19,7 @@ pub const MOST_ACTS: u32 = 34;
 pub trait Stage: Drop {
     ghost fresh: { Self → View → Type 0 };
 
-    ghost row: { Self → View → Type 0 };
+    ghost rests: { Self → View → Type 0 };
 
     ghost law: { Self → Self → View → List (List Item) → List (List Item) → Type 0 };
 
@@ -28,31 +28,31 @@ pub trait Stage: Drop {
         requires meets { Meets starts (fresh self.old) }
         requires empty { acts.old.items ≡ [] }
         requires room { most_acts ≤ acts.old.room }
-        ensures starts { OnOk result (Starts row law fresh self.old self.new acts.new.items) }
+        ensures starts { OnOk result (Starts rests law fresh self.old self.new acts.new.items) }
         ensures room { OnOk result (acts.new.room ≡ acts.old.room) };
 
     /// Output `port` was asked.
     fn on_pull(&mut self, alloc: Global, port: u8, acts: &mut Acts) -> Result<(), NoMemory>
-        requires meets { Meets (asks port) (row self.old) }
+        requires meets { Meets (asks port) (rests self.old) }
         requires empty { acts.old.items ≡ [] }
         requires room { most_acts ≤ acts.old.room }
-        ensures handles { OnOk result (Handles row law (asks port) self.old self.new acts.new.items) }
+        ensures handles { OnOk result (Handles rests law (asks port) self.old self.new acts.new.items) }
         ensures room { OnOk result (acts.new.room ≡ acts.old.room) };
 
     /// An element came to input `port`.
     fn on_push(&mut self, alloc: Global, port: u8, e: Elem, acts: &mut Acts) -> Result<(), NoMemory>
-        requires meets { Meets (brings port (item.Elem e)) (row self.old) }
+        requires meets { Meets (brings port (item.Elem e)) (rests self.old) }
         requires empty { acts.old.items ≡ [] }
         requires room { most_acts ≤ acts.old.room }
-        ensures handles { OnOk result (Handles row law (brings port (item.Elem e)) self.old self.new acts.new.items) }
+        ensures handles { OnOk result (Handles rests law (brings port (item.Elem e)) self.old self.new acts.new.items) }
         ensures room { OnOk result (acts.new.room ≡ acts.old.room) };
 
     /// Input `port` has ended.
     fn on_finish(&mut self, alloc: Global, port: u8, acts: &mut Acts) -> Result<(), NoMemory>
-        requires meets { Meets (brings port item.Ended) (row self.old) }
+        requires meets { Meets (brings port item.Ended) (rests self.old) }
         requires empty { acts.old.items ≡ [] }
         requires room { most_acts ≤ acts.old.room }
-        ensures handles { OnOk result (Handles row law (brings port item.Ended) self.old self.new acts.new.items) }
+        ensures handles { OnOk result (Handles rests law (brings port item.Ended) self.old self.new acts.new.items) }
         ensures room { OnOk result (acts.new.room ≡ acts.old.room) };
 
     /// Input `port` has failed.
@@ -63,17 +63,17 @@ pub trait Stage: Drop {
         cause: Cause,
         acts: &mut Acts,
     ) -> Result<(), NoMemory>
-        requires meets { Meets (brings port (item.Failed cause)) (row self.old) }
+        requires meets { Meets (brings port (item.Failed cause)) (rests self.old) }
         requires empty { acts.old.items ≡ [] }
         requires room { most_acts ≤ acts.old.room }
-        ensures handles { OnOk result (Handles row law (brings port (item.Failed cause)) self.old self.new acts.new.items) }
+        ensures handles { OnOk result (Handles rests law (brings port (item.Failed cause)) self.old self.new acts.new.items) }
         ensures room { OnOk result (acts.new.room ≡ acts.old.room) };
 
     /// Output `port` was cancelled.
     fn on_cancel(&mut self, alloc: Global, port: u8, acts: &mut Acts) -> Result<(), NoMemory>
-        requires meets { Meets (cancels port) (row self.old) }
+        requires meets { Meets (cancels port) (rests self.old) }
         requires empty { acts.old.items ≡ [] }
         requires room { most_acts ≤ acts.old.room }
-        ensures handles { OnOk result (Handles row law (cancels port) self.old self.new acts.new.items) }
+        ensures handles { OnOk result (Handles rests law (cancels port) self.old self.new acts.new.items) }
         ensures room { OnOk result (acts.new.room ≡ acts.old.room) };
 }

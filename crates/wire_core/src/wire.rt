@@ -1,8 +1,8 @@
-ghost use Rattle.std.specs.Prelude.{◌≡◌, ◌+◌, ◌<◌, ◌^◌, not, false, IsSome, Some};
+ghost use Rattle.std.specs.Prelude.{◌≡◌, ◌↔◌, ◌+◌, ◌<◌, ◌^◌, not, false, IsTrue, IsSome, Some};
 ghost use Rattle.elem_core.specs.Tree.{Tree};
 ghost use Rattle.elem_core.specs.declared.item.Item.TheVariants as item;
 ghost use Rattle.port_core.specs.Decoding.{can_pull, can_push, is_at_rest, is_open};
-ghost use Rattle.port_core.specs.Wire.{delivery_of, brought, end_of};
+ghost use Rattle.port_core.specs.Wire.{delivery_of, nothing, brought, end_of};
 ghost use Rattle.port_core.specs.declared.act.Act.TheVariants as act;
 ghost use Rattle.wire_core.specs.Cell.{new_cell, moved_by, queues_by, delivery_in, delivered, brought_in, ended_in};
 ghost use Rattle.wire_core.specs.Counts.{elements};
@@ -27,6 +27,15 @@ pub enum Delivered {
     Refusal,
     /// An element or an end, to the input; and whether the wire has to be queued again.
     Brought(Item, bool),
+}
+
+impl Delivered {
+    /// Whether it brings nothing.
+    pub fn is_nothing(&self) -> bool
+        ensures { IsTrue result ↔ (delivery_in self.now ≡ nothing) }
+    {
+        matches!(self, Delivered::Nothing)
+    }
 }
 
 /// One output joined to one input, with what the stages at both ends know of it. A pull or a push that only a closing forbids

@@ -1,0 +1,170 @@
+-- An event's delivery and its handling keep the graph's laws.
+use Rattle.std.proofs.Common.{◌≡◌, ◌≢◌, ℕ, ◌<◌, true, false, Some, List, [], ◌∷◌, length, slice_get, refl, sym, ap, ◌∙◌, subst, arith}
+use Rattle.std.proofs.lemmas.Grind.{common_steps}
+use Rattle.std.proofs.lemmas.Bool.Decides.{nat_tests}
+use Rattle.std.proofs.lemmas.List.{length-set}
+use Rattle.elem_core.specs.declared.item.Item.{Item}
+use Rattle.elem_core.specs.declared.item.Item.TheVariants as item
+use Rattle.port_core.specs.Ring.{holds}
+use Rattle.port_core.specs.Joint.{IsSound, Heard}
+use Rattle.port_core.specs.View.{View, IsOutOpen}
+use Rattle.port_core.specs.Call.{Call, CallAllowed, MayCome, seen}
+use Rattle.port_core.specs.Wire.{Delivery, nothing, ask, refusal, brought, delivery_of, after_delivery, again}
+use Rattle.port_core.specs.declared.act.Act.{Act}
+use Rattle.port_core.specs.declared.view.InView.TheVariants.{Left}
+use Rattle.port_core.specs.declared.view.OutView.TheVariants.{Shut}
+use Rattle.port_core.proofs.Wires.{deliver_kept, deliver_heard}
+use Rattle.stage_core.specs.Histories.{brought_by}
+use Rattle.stage_core.specs.Handling.{Handles}
+use Rattle.fused_net.specs.declared.net.Ends.{Ends}
+use Rattle.fused_net.specs.Net.{Net, inp_of, out_of, got_of, sent_of, end_at, wire_at, ports_at, view_of, took, gave, target, call_of, told_by, told, event_told, with_node, before}
+use Rattle.fused_net.specs.Laws.{Wired, Minds, IsMinded, Settled, Busy, MeetsAt, Awaits}
+use Rattle.fused_net.proofs.Reading.{read_same, read_at, get_there, get_set_same, get_set_other}
+use Rattle.fused_net.proofs.Nets.{sound_put, minds_along, others_in, others_out, here_in, here_out}
+use Rattle.fused_net.proofs.Acting.{keep_at}
+
+pub queued_here : (queue : List ℕ) (w : ℕ) → holds (w ∷ queue) w ≡ true
+queued_here queue w = grind (arith, common_steps, nat_tests)
+
+pub queued_there : (queue : List ℕ) (w u : ℕ) → u ≢ w → holds (w ∷ queue) u ≡ holds queue u
+queued_there queue w u n = grind (arith, common_steps, nat_tests)
+
+pub cc_some : {A : Type 0} (x y : A) → Some x ≡ Some y → x ≡ y
+cc_some x y e = cc
+
+module _ {N : Type 0} where
+  pub target_within : (d : Delivery) (net : Net N) (w : ℕ) → Wired net.ends net.ports (length net.nodes) (length net.wires) → w < length net.wires → target d (end_at net.ends w) < length net.nodes
+  target_within nothing net w wired h = wired.from_within w h
+  target_within ask net w wired h = wired.from_within w h
+  target_within refusal net w wired h = wired.from_within w h
+  target_within (brought x more) net w wired h = wired.to_within w h
+
+  -- the event comes where the node's view allows it
+  pub may_at : (d : Delivery) (net : Net N) (w : ℕ) → d ≢ nothing → Wired net.ends net.ports (length net.nodes) (length net.wires) → w < length net.wires → Heard d (wire_at net w).wire
+      → CallAllowed (call_of d (end_at net.ends w)) (view_of net (target d (end_at net.ends w)))
+  may_at nothing net w n wired h m = absurd (n refl)
+  may_at ask net w n wired h m = read_at out_of net.wires (ports_at net (end_at net.ends w).from).outs (end_at net.ends w).output w Shut (wired.from_output w h) ∙ m
+  may_at refusal net w n wired h m = subst IsOutOpen (sym (read_at out_of net.wires (ports_at net (end_at net.ends w).from).outs (end_at net.ends w).output w Shut (wired.from_output w h))) m
+  may_at (brought x more) net w n wired h m = subst (MayCome x) (sym (read_at inp_of net.wires (ports_at net (end_at net.ends w).to).ins (end_at net.ends w).input w Left (wired.to_input w h))) m
+
+module _ {N : Type 0} (row : N → View → Type 0) (law : N → N → View → List (List Item) → List (List Item) → Type 0) where
+  -- an event was handled
+  pub minds_event : (call : Call) (x y first : N) (v : View) (t g : List (List Item)) (acts : List Act) → Handles row law call x y acts → CallAllowed call v
+      → Minds row law x first v t g [] → Minds row law y first (seen call v) (brought_by call t) g acts
+  minds_event call x y first v t g acts d may m = record {
+    allowed = d.obeys.allowed v may m.row_holds;
+    row_holds = d.obeys.row v may m.row_holds;
+    law_holds = d.keeps first v t g may m.row_holds m.law_holds;
+  }
+
+  pub sound_here : (net : Net N) (w : ℕ) → Settled row law (before net w) → w < length net.wires → IsSound (wire_at net w).wire true
+  sound_here net w s h = subst (IsSound (wire_at net w).wire) (queued_here net.queue w) (s.sound w h)
+
+  sound_there : (net : Net N) (w : ℕ) → Settled row law (before net w) → (u : ℕ) → u < length net.wires → u ≢ w → IsSound (wire_at net u).wire (holds net.queue u)
+  sound_there net w s u h n = subst (IsSound (wire_at net u).wire) (queued_there net.queue w u n) (s.sound u h)
+
+  sound_told : (net : Net N) (w : ℕ) (d : Delivery) → Settled row law (before net w) → w < length net.wires → holds net.queue w ≡ false → IsSound (after_delivery d (wire_at net w).wire) (again d)
+      → (u : ℕ) → u < length (told net w d).wires → IsSound (wire_at (told net w d) u).wire (holds (told net w d).queue u)
+  sound_told net w d s h absent sound = sound_put net w _ _ h (sound_there net w s) (rw absent sound)
+
+  -- what the node that heard it knows
+  here_told : (d : Delivery) (net : Net N) (w : ℕ) (y first : N) (acts : List Act) → d ≢ nothing → Wired net.ends net.ports (length net.nodes) (length net.wires) → w < length net.wires
+      → Minds row law y first (seen (call_of d (end_at net.ends w)) (view_of net (target d (end_at net.ends w)))) (brought_by (call_of d (end_at net.ends w)) (took net (target d (end_at net.ends w)))) (gave net (target d (end_at net.ends w))) acts
+      → Minds row law y first (view_of (told net w d) (target d (end_at net.ends w))) (took (told net w d) (target d (end_at net.ends w))) (gave (told net w d) (target d (end_at net.ends w))) acts
+  here_told nothing net w y first acts n wired h m = absurd (n refl)
+  here_told ask net w y first acts n wired h m =
+      here_out row law net y first (end_at net.ends w).from (end_at net.ends w).output w _ false acts wired (wired.from_within w h) (wired.from_output w h) h refl refl
+      (rw (keep_at sent_of net.wires (ports_at net (end_at net.ends w).from).outs (end_at net.ends w).output w [] (wired.from_output w h)) m)
+  here_told refusal net w y first acts n wired h m =
+      here_out row law net y first (end_at net.ends w).from (end_at net.ends w).output w _ false acts wired (wired.from_within w h) (wired.from_output w h) h refl refl
+      (rw (keep_at sent_of net.wires (ports_at net (end_at net.ends w).from).outs (end_at net.ends w).output w [] (wired.from_output w h)) m)
+  here_told (brought (item.Elem x) more) net w y first acts n wired h m =
+      here_in row law net y first (end_at net.ends w).to (end_at net.ends w).input w _ more acts wired (wired.to_within w h) (wired.to_input w h) h refl refl
+      (rw (read_at got_of net.wires (ports_at net (end_at net.ends w).to).ins (end_at net.ends w).input w [] (wired.to_input w h)) at m)
+  here_told (brought item.Ended more) net w y first acts n wired h m =
+      here_in row law net y first (end_at net.ends w).to (end_at net.ends w).input w _ more acts wired (wired.to_within w h) (wired.to_input w h) h refl refl
+      (rw (read_at got_of net.wires (ports_at net (end_at net.ends w).to).ins (end_at net.ends w).input w [] (wired.to_input w h)) at m)
+  here_told (brought (item.Failed c) more) net w y first acts n wired h m =
+      here_in row law net y first (end_at net.ends w).to (end_at net.ends w).input w _ more acts wired (wired.to_within w h) (wired.to_input w h) h refl refl
+      (rw (read_at got_of net.wires (ports_at net (end_at net.ends w).to).ins (end_at net.ends w).input w [] (wired.to_input w h)) at m)
+
+  others_told : (d : Delivery) (net : Net N) (w : ℕ) → d ≢ nothing → Wired net.ends net.ports (length net.nodes) (length net.wires) → w < length net.wires
+      → (k : ℕ) → k < length net.nodes → k ≢ target d (end_at net.ends w) → IsMinded row law net k [] → IsMinded row law (told net w d) k []
+  others_told nothing net w n wired h = absurd (n refl)
+  others_told ask net w n wired h = others_out row law net (end_at net.ends w).from (end_at net.ends w).output w _ false wired (wired.from_within w h) (wired.from_output w h) h refl refl
+  others_told refusal net w n wired h = others_out row law net (end_at net.ends w).from (end_at net.ends w).output w _ false wired (wired.from_within w h) (wired.from_output w h) h refl refl
+  others_told (brought (item.Elem x) more) net w n wired h = others_in row law net (end_at net.ends w).to (end_at net.ends w).input w _ more wired (wired.to_within w h) (wired.to_input w h) h refl refl
+  others_told (brought item.Ended more) net w n wired h = others_in row law net (end_at net.ends w).to (end_at net.ends w).input w _ more wired (wired.to_within w h) (wired.to_input w h) h refl refl
+  others_told (brought (item.Failed c) more) net w n wired h = others_in row law net (end_at net.ends w).to (end_at net.ends w).input w _ more wired (wired.to_within w h) (wired.to_input w h) h refl refl
+
+  -- a node is replaced by one that minds what it knows
+  pub with_node_busy : (net : Net N) (n : ℕ) (y : N) (acts : List Act) → Wired net.ends net.ports (length net.nodes) (length net.wires) → length net.firsts ≡ length net.nodes
+      → ((u : ℕ) → u < length net.wires → IsSound (wire_at net u).wire (holds net.queue u)) → n < length net.nodes
+      → ((first : N) → slice_get net.firsts n ≡ Some first → Minds row law y first (view_of net n) (took net n) (gave net n) acts)
+      → ((k : ℕ) → k < length net.nodes → k ≢ n → IsMinded row law net k [])
+      → Busy row law (with_node net n y) n acts
+  with_node_busy net n y acts wired each sound h m others = record {
+    wired = rw length-set wired;
+    each_first = rw length-set each;
+    sound = sound;
+    within = rw length-set h;
+    here = λ x first xi fi. let same : y ≡ x = cc_some y x (sym (get_set_same net.nodes n y h) ∙ xi) in subst (λ (z : N). Minds row law z first (view_of net n) (took net n) (gave net n) acts) same (m first fi);
+    others = λ k hk ne x first xi fi. let within : k < length net.nodes = rw length-set at hk in
+        others k within ne x first (sym (get_set_other net.nodes n k y ne) ∙ xi) fi;
+  }
+
+  -- an event that comes to nothing
+  pub nothing_settled : (net : Net N) (w : ℕ) → Settled row law (before net w) → w < length net.wires → holds net.queue w ≡ false → delivery_of (wire_at net w).wire ≡ nothing → Settled row law (event_told net w)
+  nothing_settled net w s h absent e =
+      let sound : IsSound (wire_at net w).wire false = rw e at (deliver_kept (wire_at net w).wire (sound_here net w s h)) in
+      rw e (record {
+        wired = rw length-set s.wired;
+        each_first = s.each_first;
+        sound = sound_told net w nothing s h absent sound;
+        minded = λ n hn x first xi fi. minds_along row law x first _ _ _ _ _ _ []
+            (read_same inp_of net.wires w (told_by nothing (wire_at net w)) (ports_at net n).ins h refl)
+            (read_same out_of net.wires w (told_by nothing (wire_at net w)) (ports_at net n).outs h refl)
+            (read_same got_of net.wires w (told_by nothing (wire_at net w)) (ports_at net n).ins h refl)
+            (read_same sent_of net.wires w (told_by nothing (wire_at net w)) (ports_at net n).outs h refl)
+            (s.minded n hn x first xi fi);
+      })
+
+  pub handled_busy : (net : Net N) (w : ℕ) (d : Delivery) (x y : N) (acts : List Act) → Settled row law (before net w) → w < length net.wires → holds net.queue w ≡ false
+      → d ≡ delivery_of (wire_at net w).wire → d ≢ nothing → slice_get net.nodes (target d (end_at net.ends w)) ≡ Some x → Handles row law (call_of d (end_at net.ends w)) x y acts
+      → Busy row law (with_node (told net w d) (target d (end_at net.ends w)) y) (target d (end_at net.ends w)) acts
+  handled_busy net w d x y acts s h absent e n xi handles =
+      let heard : Heard d (wire_at net w).wire = rw e (deliver_heard (wire_at net w).wire (sound_here net w s h)) in
+      let sound : IsSound (after_delivery d (wire_at net w).wire) (again d) = rw e (deliver_kept (wire_at net w).wire (sound_here net w s h)) in
+      let hn : target d (end_at net.ends w) < length net.nodes = target_within d net w s.wired h in
+      let may : CallAllowed (call_of d (end_at net.ends w)) (view_of net (target d (end_at net.ends w))) = may_at d net w n s.wired h heard in
+      with_node_busy (told net w d) (target d (end_at net.ends w)) y acts
+      (rw length-set s.wired)
+      s.each_first
+      (sound_told net w d s h absent sound)
+      hn
+      (λ first fi. here_told d net w y first acts n s.wired h (minds_event (call_of d (end_at net.ends w)) x y first _ _ _ acts handles may (s.minded (target d (end_at net.ends w)) hn x first xi fi)))
+      (λ k hk ne. others_told d net w n s.wired h k hk ne (s.minded k hk))
+
+  -- what a handler's call needs, once the wire's event was delivered
+  pub record Called (d : Delivery) (e : Ends) (v : Net N) (n : ℕ) : Type 0 where
+    pub within : n < length v.nodes
+    pub meets : MeetsAt row law (call_of d e) v n
+    pub awaits : Awaits row law (call_of d e) v n
+
+  called : (net : Net N) (w : ℕ) (d : Delivery) → Settled row law (before net w) → w < length net.wires → holds net.queue w ≡ false
+      → d ≡ delivery_of (wire_at net w).wire → d ≢ nothing → Called d (end_at net.ends w) (event_told net w) (target d (end_at net.ends w))
+  called net w d s h absent e n =
+      let heard : Heard d (wire_at net w).wire = rw e (deliver_heard (wire_at net w).wire (sound_here net w s h)) in
+      let hn : target d (end_at net.ends w) < length net.nodes = target_within d net w s.wired h in
+      let may : CallAllowed (call_of d (end_at net.ends w)) (view_of net (target d (end_at net.ends w))) = may_at d net w n s.wired h heard in
+      let same : told net w d ≡ event_told net w = ap (λ (z : Delivery). told net w z) e in
+      let first = get_there net.firsts (target d (end_at net.ends w)) (rw s.each_first hn) in
+      record {
+        within = hn;
+        meets = λ x xi. (view_of net (target d (end_at net.ends w)), (may, (s.minded (target d (end_at net.ends w)) hn x first.0 xi first.1).row_holds));
+        awaits = λ x y acts xi handles. subst (λ (a : Net N). Busy row law (with_node a (target d (end_at net.ends w)) y) (target d (end_at net.ends w)) acts) same (handled_busy net w d x y acts s h absent e n xi handles);
+      }
+
+  pub call_at : (net v : Net N) (w n : ℕ) (d : Delivery) (ends : Ends) → Settled row law (before net w) → w < length net.wires → holds net.queue w ≡ false
+      → d ≡ delivery_of (wire_at net w).wire → d ≢ nothing → v ≡ event_told net w → ends ≡ end_at net.ends w → n ≡ target d ends → Called d ends v n
+  call_at net v w n d ends s h absent e ne is same at = rw (at, same, is) (called net w d s h absent e ne)

@@ -1,0 +1,157 @@
+-- The graph goes on: its wiring stays, and each unit raises what its wires have cost.
+use Rattle.std.proofs.Common.{◌≡◌, inl, inr, ℕ, ◌+◌, ◌<◌, ◌≤◌, Bool, false, ◌||◌, None, Some, List, [], ◌∷◌, length, refl, ap, ◌∙◌, arith, get_or-set_same, get_or-set_other}
+use Rattle.std.proofs.lemmas.List.{length-set}
+use Rattle.elem_core.specs.declared.item.Item.{Item}
+use Rattle.elem_core.specs.declared.item.Item.TheVariants as item
+use Rattle.port_core.specs.Ring.{holds}
+use Rattle.port_core.specs.Joint.{IsSound}
+use Rattle.port_core.specs.View.{View}
+use Rattle.port_core.specs.Wire.{Wire, Delivery, nothing, ask, refusal, brought, delivery_of, after_delivery, again}
+use Rattle.port_core.specs.declared.act.Act.{Act}
+use Rattle.port_core.specs.declared.act.Act.TheVariants.{Pull, Push, Complete, FailOut, Cancel}
+use Rattle.wire_core.specs.Cell.{Cell, moved_by}
+use Rattle.wire_core.specs.Counts.{spent, asks}
+use Rattle.wire_core.proofs.Counting.{pull_spent, push_spent, close_spent, cancel_spent, deliver_spent, pull_asks, push_asks, close_asks, cancel_asks}
+use Rattle.fused_net.specs.Net.{Net, no_wire, wire_at, ports_at, wire_for, put, acted, acted_all, event_told, with_node, before}
+use Rattle.fused_net.specs.Laws.{AnyRow, AnyLaw, Settled, Busy, GoesOn, Responds}
+use Rattle.fused_net.specs.Costs.{total, all_asks, Uses}
+use Rattle.fused_net.proofs.Reading.{same_or_not, get_there}
+use Rattle.fused_net.proofs.Sums.{sum_le, sum_up, sum_up_most, by_place}
+use Rattle.fused_net.proofs.Nets.{holds_put_same, holds_put_other}
+use Rattle.fused_net.proofs.Acting.{Fits, fits, act_allowed, port_within, acted_busy, busy_any, acts_settled}
+use Rattle.fused_net.proofs.Delivering.{queued_here, queued_there, sound_here, nothing_settled}
+
+-- the numbers of one wire
+move_spent : (a : Act) (c : Cell) (q r : Bool) → IsSound c.wire q → Fits a c.wire → spent c.wire q ≤ spent (moved_by a c).wire r
+move_spent (Pull i) c q r s f = pull_spent c.wire q r s f
+move_spent (Push j e) c q r s f = push_spent e c.wire q r s f
+move_spent (Complete j) c q r s f = close_spent None c.wire q r s f
+move_spent (FailOut j d) c q r s f = close_spent (Some d) c.wire q r s f
+move_spent (Cancel i) c q r s f = cancel_spent c.wire q r s f
+
+move_asks : (a : Act) (c : Cell) → Fits a c.wire → asks (moved_by a c).wire ≤ asks c.wire
+move_asks (Pull i) c f = pull_asks c.wire
+move_asks (Push j e) c f = push_asks e c.wire f
+move_asks (Complete j) c f = close_asks None c.wire
+move_asks (FailOut j d) c f = close_asks (Some d) c.wire
+move_asks (Cancel i) c f = cancel_asks c.wire
+
+deliver_asks : (d : Delivery) (w : Wire) → asks (after_delivery d w) ≤ asks w + 1
+deliver_asks nothing w = omega arith
+deliver_asks ask w = omega arith
+deliver_asks refusal w = omega arith
+deliver_asks (brought (item.Elem e) more) w = omega arith
+deliver_asks (brought item.Ended more) w = omega arith
+deliver_asks (brought (item.Failed c) more) w = omega arith
+
+module _ {N : Type 0} where
+  pub goes_same : (net : Net N) → GoesOn net net
+  goes_same net = record { firsts = refl; ends = refl; ports = refl; nodes = refl; wires = refl }
+
+  pub goes_trans : (a b c : Net N) → GoesOn a b → GoesOn b c → GoesOn a c
+  goes_trans a b c f g = record { firsts = g.firsts ∙ f.firsts; ends = g.ends ∙ f.ends; ports = g.ports ∙ f.ports; nodes = g.nodes ∙ f.nodes; wires = g.wires ∙ f.wires }
+
+  goes_put : (net : Net N) (w : ℕ) (new : Cell) (b : Bool) → GoesOn net (put net w new b)
+  goes_put net w new b = record { firsts = refl; ends = refl; ports = refl; nodes = refl; wires = length-set _ _ _ }
+
+  pub goes_acts : (acts : List Act) (net : Net N) (n : ℕ) → GoesOn net (acted_all net n acts)
+  goes_acts [] net n = goes_same net
+  goes_acts (a ∷ acts) net n = goes_trans net (acted net n a) _ (goes_put net _ _ _) (goes_acts acts (acted net n a) n)
+
+  pub goes_node : (net : Net N) (n : ℕ) (y : N) → GoesOn net (with_node net n y)
+  goes_node net n y = record { firsts = refl; ends = refl; ports = refl; nodes = length-set _ _ _; wires = refl }
+
+  pub nodes-acts : (acts : List Act) (net : Net N) (n : ℕ) → (acted_all net n acts).nodes ≡ net.nodes
+  nodes-acts [] net n = refl
+  nodes-acts (a ∷ acts) net n = nodes-acts acts (acted net n a) n
+
+  pub uses_trans : (a b c : Net N) (k l : ℕ) → Uses a b k → Uses b c l → Uses a c (k + l)
+  uses_trans a b c k l f g = record { least = omega (arith, f.least, g.least); most = omega (arith, f.most, g.most) }
+
+  pub uses_none : (net : Net N) → Uses net net 0
+  uses_none net = record { least = omega arith; most = omega arith }
+
+  -- an action lowers no cost, and raises no ask
+  acted_uses : (net : Net N) (n : ℕ) (a : Act) (acts : List Act) → Busy AnyRow AnyLaw net n (a ∷ acts) → Uses net (acted net n a) 0
+  acted_uses net n a acts busy =
+      let x = get_there net.nodes n busy.within in
+      let first = get_there net.firsts n (rw busy.each_first busy.within) in
+      let f = fits net n a (act_allowed AnyRow AnyLaw net n a acts x.0 first.0 busy x.1 first.1) in
+      let w : ℕ = wire_for a (ports_at net n) in
+      let h : wire_for a (ports_at net n) < length net.wires = port_within net n a _ busy.wired busy.within f.0 in
+      let cost : total net ≤ total (acted net n a) = rw length-set (sum_le _ _ (length net.wires) (λ k l. elim (same_or_not k (wire_for a (ports_at net n))) [
+        | inl e ↦ rw e (rw (get_or-set_same net.wires (wire_for a (ports_at net n)) (moved_by a (wire_at net (wire_for a (ports_at net n)))) no_wire h) (move_spent a (wire_at net (wire_for a (ports_at net n))) _ _ (busy.sound _ h) f.1))
+        | inr ne ↦ rw (get_or-set_other net.wires (wire_for a (ports_at net n)) k (moved_by a (wire_at net (wire_for a (ports_at net n)))) no_wire ne, holds_put_other net.queue (wire_for a (ports_at net n)) k _ ne) (omega arith)
+      ])) in
+      let asked : all_asks (acted net n a) ≤ all_asks net = rw length-set (sum_le _ _ (length net.wires) (λ k l. elim (same_or_not k (wire_for a (ports_at net n))) [
+        | inl e ↦ rw e (rw (get_or-set_same net.wires (wire_for a (ports_at net n)) (moved_by a (wire_at net (wire_for a (ports_at net n)))) no_wire h) (move_asks a (wire_at net (wire_for a (ports_at net n))) f.1))
+        | inr ne ↦ rw (get_or-set_other net.wires (wire_for a (ports_at net n)) k (moved_by a (wire_at net (wire_for a (ports_at net n)))) no_wire ne) (omega arith)
+      ])) in
+      record { least = omega (arith, cost); most = omega (arith, asked) }
+
+  pub acts_uses : (acts : List Act) (net : Net N) (n : ℕ) → Busy AnyRow AnyLaw net n acts → Uses net (acted_all net n acts) 0
+  acts_uses [] net n busy = uses_none net
+  acts_uses (a ∷ acts) net n busy =
+      let one = acted_uses net n a acts busy in
+      let more = acts_uses acts (acted net n a) n (acted_busy AnyRow AnyLaw net n a acts busy) in
+      record { least = omega (arith, one.least, more.least); most = omega (arith, one.most, more.most) }
+
+  -- in the loop over the actions
+  pub few_next : (net on : Net N) (n : ℕ) (a : Act) (old new : List Act) → old ≡ a ∷ new → on ≡ acted net n a → Busy AnyRow AnyLaw net n old → all_asks net ≤ 4000000000 → all_asks on ≤ 4000000000
+  few_next net on n a old new e is busy few =
+      let at : Busy AnyRow AnyLaw net n (a ∷ new) = rw e at busy in
+      rw is (let one = acted_uses net n a new at in omega (arith, one.most, few))
+
+module _ {N : Type 0} (row : N → View → Type 0) (law : N → N → View → List (List Item) → List (List Item) → Type 0) where
+  -- an event is delivered
+  pub event_uses : (net : Net N) (w : ℕ) → Settled row law (before net w) → w < length net.wires → holds net.queue w ≡ false → Uses (before net w) (event_told net w) 1
+  event_uses net w s h absent =
+      let d : Delivery = delivery_of (wire_at net w).wire in
+      let queue : holds (event_told net w).queue w ≡ again (delivery_of (wire_at net w).wire) = holds_put_same net.queue w (again (delivery_of (wire_at net w).wire)) ∙ ap (λ (q : Bool). q || again (delivery_of (wire_at net w).wire)) absent in
+      let up : spent (wire_at net w).wire (holds (w ∷ net.queue) w) + 1 ≤ spent (after_delivery (delivery_of (wire_at net w).wire) (wire_at net w).wire) (holds (event_told net w).queue w) =
+      rw (queued_here net.queue w, queue) (deliver_spent (wire_at net w).wire (sound_here row law net w s h)) in
+      let cost : total (before net w) + 1 ≤ total (event_told net w) = rw length-set (sum_up _ _ (length net.wires) w h
+      (λ k l. by_place (λ z. spent (wire_at (before net w) z).wire (holds (w ∷ net.queue) z)) (λ z. spent (wire_at (event_told net w) z).wire (holds (event_told net w).queue z)) w k
+      (rw (get_or-set_same net.wires w _ no_wire h) (omega (arith, up)))
+      (λ ne. rw (get_or-set_other net.wires w k _ no_wire ne, holds_put_other net.queue w k (again (delivery_of (wire_at net w).wire)) ne, queued_there net.queue w k ne) (omega arith)))
+      (rw (get_or-set_same net.wires w _ no_wire h) up)) in
+      let asked : all_asks (event_told net w) ≤ all_asks (before net w) + 1 = rw length-set (sum_up_most _ _ (length net.wires) w
+      (λ k l ne. rw (get_or-set_other net.wires w k _ no_wire ne) (omega arith))
+      (rw (get_or-set_same net.wires w _ no_wire h) (deliver_asks (delivery_of (wire_at net w).wire) (wire_at net w).wire))) in
+      record { least = cost; most = asked }
+
+  -- a node responded
+  pub response_goes : (old new : Net N) (n : ℕ) → Responds row law old new n → GoesOn old new
+  response_goes old new n r = rw r.is (goes_trans old (with_node old n r.node) _ (goes_node old n r.node) (goes_acts r.acts (with_node old n r.node) n))
+
+  pub response_settled : (old new : Net N) (n : ℕ) → Responds row law old new n → Settled row law new
+  response_settled old new n r = rw r.is (acts_settled row law (with_node old n r.node) n r.acts r.busy)
+
+  response_uses : (old new : Net N) (n : ℕ) → Responds row law old new n → Uses old new 0
+  response_uses old new n r =
+      let u = acts_uses r.acts (with_node old n r.node) n (busy_any row law _ n r.acts r.busy) in
+      rw r.is (record { least = u.least; most = u.most })
+
+  -- what is left once an event was handled
+  pub record Handled (net new : Net N) (w : ℕ) : Type 0 where
+    pub laws : Settled row law new
+    pub on : GoesOn net new
+    pub uses : Uses (before net w) new 1
+
+  pub handled : (net v new : Net N) (w n : ℕ) → Settled row law (before net w) → w < length net.wires → holds net.queue w ≡ false → v ≡ event_told net w → Responds row law v new n → Handled net new w
+  handled net v new w n s h absent is r =
+      let event : Uses (before net w) v 1 = rw is (event_uses net w s h absent) in
+      let on : GoesOn net v = rw is (goes_put net w _ _) in
+      let done = response_uses v new n r in
+      record {
+        laws = response_settled v new n r;
+        on = goes_trans net v new on (response_goes v new n r);
+        uses = record { least = omega (arith, event.least, done.least); most = omega (arith, event.most, done.most) };
+      }
+
+  pub handled_nothing : (net new : Net N) (w : ℕ) → Settled row law (before net w) → w < length net.wires → holds net.queue w ≡ false → delivery_of (wire_at net w).wire ≡ nothing → new ≡ event_told net w → Handled net new w
+  handled_nothing net new w s h absent e is = rw is (record {
+    laws = nothing_settled row law net w s h absent e;
+    on = goes_put net w _ _;
+    uses = event_uses net w s h absent;
+  })

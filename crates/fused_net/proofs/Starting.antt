@@ -1,0 +1,117 @@
+-- A new graph, and the start of each node.
+use Rattle.std.proofs.Common.{◌≡◌, ◌≢◌, inl, inr, ℕ, zero, suc, ◌+◌, ◌<◌, ◌≤◌, Some, List, [], ◌∷◌, length, get_or, slice_get, replicate, refl, sym, ap, ◌∙◌, subst, arith}
+use Rattle.std.proofs.lemmas.List.{length-set, get_or-replicate, length-replicate}
+use Rattle.elem_core.specs.declared.item.Item.{Item}
+use Rattle.port_core.specs.Joint.{idle}
+use Rattle.port_core.specs.View.{View}
+use Rattle.port_core.specs.Call.{AllIdle, AllUnasked}
+use Rattle.port_core.specs.declared.act.Act.{Act}
+use Rattle.port_core.specs.declared.view.InView.TheVariants.{Idle}
+use Rattle.port_core.specs.declared.view.OutView.TheVariants.{Unasked}
+use Rattle.stage_core.specs.Histories.{AllEmpty}
+use Rattle.stage_core.specs.Handling.{Starts}
+use Rattle.wire_core.specs.Cell.{Cell, new_cell}
+use Rattle.wire_core.specs.Counts.{asks}
+use Rattle.fused_net.specs.PortLists.{PortLists}
+use Rattle.fused_net.specs.declared.net.Ends.{Ends}
+use Rattle.fused_net.specs.Net.{Net, no_wire, read_all, inp_of, out_of, got_of, sent_of, port_at, view_of, took, gave, acted_all, with_node}
+use Rattle.fused_net.specs.Laws.{AnyRow, AnyLaw, FreshLaw, first_view, Wired, Minds, IsMinded, Settled, Busy, Starting}
+use Rattle.fused_net.specs.Costs.{sum_below}
+use Rattle.fused_net.proofs.Reading.{same_or_not, get_set_same, get_set_other}
+use Rattle.fused_net.proofs.Acting.{acts_settled, acts_here, acts_others}
+use Rattle.fused_net.proofs.Delivering.{cc_some, with_node_busy}
+use Rattle.fused_net.proofs.Going.{nodes-acts}
+
+-- the wires of a node, before anything happened
+read_new : {X : Type 0} (f : Cell → X) (n : ℕ) (ws : List ℕ) → ((i w : ℕ) → slice_get ws i ≡ Some w → w < n) → read_all f (replicate n new_cell) ws ≡ replicate (length ws) (f new_cell)
+read_new f n [] h = refl
+read_new f n (w ∷ ws) h =
+    let here : get_or (replicate n new_cell) w no_wire ≡ new_cell = get_or-replicate n w new_cell no_wire (h 0 w refl) in
+    rw (here, read_new f n ws (λ i u e. h (suc i) u e)) refl
+
+all_idle : (m : ℕ) → AllIdle (replicate m Idle)
+all_idle zero = tt
+all_idle (suc m) = (refl, all_idle m)
+
+all_unasked : (m : ℕ) → AllUnasked (replicate m Unasked)
+all_unasked zero = tt
+all_unasked (suc m) = (refl, all_unasked m)
+
+all_empty : (m : ℕ) → AllEmpty (replicate m [])
+all_empty zero = tt
+all_empty (suc m) = (refl, all_empty m)
+
+same_lengths : {A B : Type 0} (m : ℕ) (a : A) (b : B) → length (replicate m a) ≡ length (replicate m b)
+same_lengths zero a b = refl
+same_lengths (suc m) a b = ap suc (same_lengths m a b)
+
+pub no_asks : (n k : ℕ) → k ≤ n → sum_below (λ w. asks (get_or (replicate n new_cell) w no_wire).wire) k ≡ 0
+no_asks n zero h = refl
+no_asks n (suc k) h =
+    let here : get_or (replicate n new_cell) k no_wire ≡ new_cell = get_or-replicate n k new_cell no_wire (omega arith) in
+    let none : asks (get_or (replicate n new_cell) k no_wire).wire ≡ 0 = rw here refl in
+    omega (arith, no_asks n k (omega arith), none)
+
+module _ {N : Type 0} (row : N → View → Type 0) (law : N → N → View → List (List Item) → List (List Item) → Type 0) (fresh : N → View → Type 0) where
+  pub new_starting : (nodes firsts : List N) (ends : List Ends) (ports : List PortLists) (wires : List Cell) (queue : List ℕ) (n : ℕ) → queue ≡ [] → firsts ≡ nodes → Wired ends ports (length nodes) n → wires ≡ replicate n new_cell
+      → ((k : ℕ) (x : N) → slice_get nodes k ≡ Some x → fresh x (first_view (port_at ports k)))
+      → Starting row law fresh (record { nodes = nodes; firsts = firsts; wires = wires; ends = ends; ports = ports; queue = queue }) 0
+  new_starting nodes firsts ends ports wires queue n empty same wired is all_fresh = rw (empty, same, is) (record {
+    wired = rw length-replicate wired;
+    each_first = refl;
+    sound = λ w h. let within : w < n = rw length-replicate at h in rw (get_or-replicate n w new_cell no_wire within) (record { joint = idle; is = refl; histories = refl; queues = refl });
+    below = λ k lt hk. absurd (omega arith);
+    above = λ k le hk x first xi fi.
+        let ins = λ (i w : ℕ) (e : slice_get (port_at ports k).ins i ≡ Some w). (wired.input_to k i w hk e).0 in
+        let outs = λ (i w : ℕ) (e : slice_get (port_at ports k).outs i ≡ Some w). (wired.output_from k i w hk e).0 in
+        rw (read_new inp_of n (port_at ports k).ins ins, read_new out_of n (port_at ports k).outs outs, read_new got_of n (port_at ports k).ins ins, read_new sent_of n (port_at ports k).outs outs)
+        (all_fresh k x xi, (cc_some first x (sym fi ∙ xi), ((all_idle _, all_unasked _), ((all_empty _, all_empty _), (same_lengths _ _ _, same_lengths _ _ _)))));
+  })
+
+  pub start_busy : (net : Net N) (n : ℕ) (x y : N) (acts : List Act) → Starting row law fresh net n → n < length net.nodes → slice_get net.nodes n ≡ Some x → Starts row law fresh x y acts → Busy AnyRow AnyLaw (with_node net n y) n acts
+  start_busy net n x y acts s h xi st =
+      with_node_busy AnyRow AnyLaw net n y acts s.wired s.each_first s.sound h
+      (λ first fi. let a = s.above n (omega arith) h x first xi fi in record { allowed = st.obeys.allowed (view_of net n) a.1.1.0 a.0; row_holds = tt; law_holds = tt })
+      (λ k hk ne x first xi fi. record { allowed = tt; row_holds = tt; law_holds = tt })
+
+  pub start_done : (net new : Net N) (n : ℕ) (x y : N) (acts : List Act) → Starting row law fresh net n → n < length net.nodes → slice_get net.nodes n ≡ Some x → Starts row law fresh x y acts
+      → new ≡ acted_all (with_node net n y) n acts → Starting row law fresh new (n + 1)
+  start_done net new n x y acts s h xi st is =
+      let b : Busy AnyRow AnyLaw (with_node net n y) n acts = start_busy net n x y acts s h xi st in
+      let done : Settled AnyRow AnyLaw (acted_all (with_node net n y) n acts) = acts_settled AnyRow AnyLaw (with_node net n y) n acts b in
+      let count : length (acted_all (with_node net n y) n acts).nodes ≡ length net.nodes = ap (λ (l : List N). length l) (nodes-acts acts (with_node net n y) n) ∙ length-set _ _ _ in
+      let here : IsMinded row law (with_node net n y) n acts = λ z first zi fi.
+      let a = s.above n (omega arith) h x first xi fi in
+      let same : y ≡ z = cc_some y z (sym (get_set_same net.nodes n y h) ∙ zi) in
+      let started : Minds row law y x (view_of net n) (took net n) (gave net n) acts = record {
+        allowed = st.obeys.allowed (view_of net n) a.1.1.0 a.0;
+        row_holds = st.obeys.row (view_of net n) a.1.1.0 a.0;
+        law_holds = st.begins (view_of net n) (took net n) (gave net n) a.1.1.0 a.0 a.1.1.1.0.0 a.1.1.1.0.1 a.1.1.1.1.0 a.1.1.1.1.1;
+      } in
+      subst (λ (u : N). Minds row law u first (view_of net n) (took net n) (gave net n) acts) same (subst (λ (u : N). Minds row law y u (view_of net n) (took net n) (gave net n) acts) (sym a.1.0) started) in
+      rw is (record {
+        wired = done.wired;
+        each_first = done.each_first;
+        sound = done.sound;
+        below = λ k lt hk. elim (same_or_not k n) [
+          | inl e ↦ rw e (acts_here row law acts (with_node net n y) n b here)
+          | inr ne ↦ let within : k < length net.nodes = rw count at hk in
+              acts_others row law acts (with_node net n y) n k b (rw length-set within) ne
+              (λ z first zi fi. s.below k (omega arith) within z first (sym (get_set_other net.nodes n k y ne) ∙ zi) fi)
+        ];
+        above = λ k le hk z first zi fi.
+            let within : k < length net.nodes = rw count at hk in
+            let ne : k ≢ n = λ e. omega arith in
+            let before : IsMinded fresh FreshLaw (with_node net n y) k [] = λ u fu ui fui.
+            let a = s.above k (omega arith) within u fu (sym (get_set_other net.nodes n k y ne) ∙ ui) fui in
+            record { allowed = tt; row_holds = a.0; law_holds = a.1 } in
+            let m = acts_others fresh FreshLaw acts (with_node net n y) n k b (rw length-set within) ne before z first zi fi in
+            (m.row_holds, m.law_holds);
+      })
+
+  -- all were started
+  pub all_started : (net : Net N) (n : ℕ) → Starting row law fresh net n → length net.nodes ≤ n → Settled row law net
+  all_started net n s h = record { wired = s.wired; each_first = s.each_first; sound = s.sound; minded = λ k hk. s.below k (omega arith) hk }
+
+pub new_asks : (wires : List Cell) (n : ℕ) → wires ≡ replicate n new_cell → sum_below (λ w. asks (get_or wires w no_wire).wire) (length wires) ≡ 0
+new_asks wires n is = rw is (rw length-replicate (no_asks n n (omega arith)))

@@ -1,0 +1,17 @@
+-- The loop of `engine::Engine::perform`.
+use Rattle.std.proofs.Common.{◌≡◌, ◌≤◌, length}
+use Rattle.fused_net.specs.Net.{acted_all}
+use Rattle.fused_net.specs.Laws.{AnyRow, AnyLaw, Busy}
+use Rattle.fused_net.specs.Costs.{all_asks}
+use Rattle.fused_net.proofs.engine.Engine.perform.Given as goal
+
+-- what is left to do leads to where all of it would have led
+abbrev pub invariant-loop-act : goal.invariant-loop-act
+invariant-loop-act g l =
+    Busy AnyRow AnyLaw l.self l.n l.acts.items
+    × (acted_all l.self l.n l.acts.items ≡ acted_all l.initial.self l.n l.initial.acts.items)
+    × (l.acts.room ≡ l.initial.acts.room)
+    × (all_asks l.self ≤ 4000000000)
+
+abbrev pub decreases-loop-act : goal.decreases-loop-act
+decreases-loop-act g l = length l.acts.items

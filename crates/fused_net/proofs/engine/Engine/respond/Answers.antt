@@ -1,0 +1,9 @@
+-- The goals of `engine::Engine::respond` that the search leaves.
+use Rattle.fused_net.proofs.Responding.{awaited, responded}
+use Rattle.fused_net.proofs.engine.Engine.respond.Goals as goal
+
+pub perform-requires-clause-busy : goal.perform-requires-clause-busy
+perform-requires-clause-busy g c = awaited g.S.Stage.rests g.S.Stage.law _ _ _ _ _ _ _ c.self.view_is c.requires.within c.index_mut.ensures.value c.requires.awaits c.in_ok-call.ensures.handles
+
+pub returns-clause-responds : goal.returns-clause-responds
+returns-clause-responds g c = responded g.S.Stage.rests g.S.Stage.law _ _ _ _ _ _ _ _ c.self.view_is c.requires.within c.index_mut.ensures.value c.requires.awaits c.in_ok-call.ensures.handles c.perform.ensures.after

@@ -1,0 +1,24 @@
+-- What a graph's wires have cost, and how that is tied to the units that were used: each event is one unit.
+use Rattle.std.specs.Prelude.{ℕ, zero, suc, ◌+◌, ◌≤◌, length}
+use Rattle.port_core.specs.Ring.{holds}
+use Rattle.wire_core.specs.Counts.{spent, asks}
+use Rattle.fused_net.specs.Net.{Net, wire_at}
+
+-- f 0 + .. + f (n - 1)
+abbrev pub sum_below : (ℕ → ℕ) → ℕ → ℕ
+sum_below f zero = 0
+sum_below f (suc n) = sum_below f n + f n
+
+module _ {N : Type 0} where
+  -- what all wires have cost
+  abbrev pub total : Net N → ℕ
+  total net = sum_below (λ w. spent (wire_at net w).wire (holds net.queue w)) (length net.wires)
+
+  -- the asks that came to outputs, on all wires: one for each element that was pushed, and those that were not answered
+  abbrev pub all_asks : Net N → ℕ
+  all_asks net = sum_below (λ w. asks (wire_at net w).wire) (length net.wires)
+
+  -- So many units lead from one to the other: each raises the cost, and each brings one ask at most.
+  pub record Uses (old new : Net N) (units : ℕ) : Type 0 where
+    pub least : total old + units ≤ total new
+    pub most : all_asks new ≤ all_asks old + units

@@ -1,0 +1,102 @@
+-- What a fused graph keeps: its wiring, a joint state of each wire, and of each node its row and its law over its histories.
+use Rattle.std.specs.Prelude.{◌≡◌, ◌≢◌, ℕ, ◌<◌, ◌≤◌, Some, List, [], length, replicate, slice_get, ⊤}
+use Rattle.elem_core.specs.declared.item.Item.{Item}
+use Rattle.port_core.specs.Ring.{holds}
+use Rattle.port_core.specs.Joint.{IsSound}
+use Rattle.port_core.specs.View.{View, ActsAllowed, acted_all}
+use Rattle.port_core.specs.Call.{Call, starts, CallAllowed, Meets}
+use Rattle.port_core.specs.declared.view.InView.TheVariants.{Idle}
+use Rattle.port_core.specs.declared.view.OutView.TheVariants.{Unasked}
+use Rattle.port_core.specs.declared.act.Act.{Act}
+use Rattle.stage_core.specs.Histories.{given_all, AllEmpty}
+use Rattle.stage_core.specs.Handling.{Handles}
+use Rattle.fused_net.specs.PortLists.{PortLists}
+use Rattle.fused_net.specs.declared.net.Ends.{Ends}
+use Rattle.fused_net.specs.Net.{Net, end_at, port_at, wire_at, view_of, took, gave, with_node}
+use Rattle.fused_net.specs.Net as net
+
+-- Nodes and wires name each other: each wire stands at the ports at its ends, and each port of a node has the wire that ends there.
+pub record Wired (ends : List Ends) (ports : List PortLists) (nodes wires : ℕ) : Type 0 where
+  pub each_node : length ports ≡ nodes
+  pub each_wire : length ends ≡ wires
+  pub from_within : (w : ℕ) → w < wires → (end_at ends w).from < nodes
+  pub to_within : (w : ℕ) → w < wires → (end_at ends w).to < nodes
+  pub from_output : (w : ℕ) → w < wires → slice_get (port_at ports (end_at ends w).from).outs (end_at ends w).output ≡ Some w
+  pub to_input : (w : ℕ) → w < wires → slice_get (port_at ports (end_at ends w).to).ins (end_at ends w).input ≡ Some w
+  pub input_to : (n i w : ℕ) → n < nodes → slice_get (port_at ports n).ins i ≡ Some w → (w < wires) × (((end_at ends w).to ≡ n) × ((end_at ends w).input ≡ i))
+  pub output_from : (n j w : ℕ) → n < nodes → slice_get (port_at ports n).outs j ≡ Some w → (w < wires) × (((end_at ends w).from ≡ n) × ((end_at ends w).output ≡ j))
+
+-- nothing is asked of a node but that its actions are allowed
+abbrev pub AnyRow : {N : Type 0} → N → View → Type 0
+AnyRow x v = ⊤
+
+abbrev pub AnyLaw : {N : Type 0} → N → N → View → List (List Item) → List (List Item) → Type 0
+AnyLaw first x v took gave = ⊤
+
+-- what a node knows before it was started
+abbrev pub first_view : PortLists → View
+first_view p = record { ins = replicate (length p.ins) Idle; outs = replicate (length p.outs) Unasked }
+
+-- a node that was not started: it is as it was handed in, nobody asked, and nothing passed
+abbrev pub FreshLaw : {N : Type 0} → N → N → View → List (List Item) → List (List Item) → Type 0
+FreshLaw first x v took gave = (first ≡ x) × (CallAllowed starts v × ((AllEmpty took × AllEmpty gave) × ((length took ≡ length v.ins) × (length gave ≡ length v.outs))))
+
+module _ {N : Type 0} (row : N → View → Type 0) (law : N → N → View → List (List Item) → List (List Item) → Type 0) where
+  -- a node, by what it knows and by its histories, which has these actions still to do: they are allowed, and once they are
+  -- done its row and its law hold
+  pub record Minds (x first : N) (v : View) (took gave : List (List Item)) (acts : List Act) : Type 0 where
+    pub allowed : ActsAllowed v acts
+    pub row_holds : row x (acted_all v acts)
+    pub law_holds : law first x (acted_all v acts) took (given_all acts gave)
+
+  -- node n of the graph
+  abbrev pub IsMinded : Net N → ℕ → List Act → Type 0
+  IsMinded net n acts = (x first : N) → slice_get net.nodes n ≡ Some x → slice_get net.firsts n ≡ Some first → Minds x first (view_of net n) (took net n) (gave net n) acts
+
+  -- the graph between two events
+  pub record Settled (net : Net N) : Type 0 where
+    pub wired : Wired net.ends net.ports (length net.nodes) (length net.wires)
+    pub each_first : length net.firsts ≡ length net.nodes
+    pub sound : (w : ℕ) → w < length net.wires → IsSound (wire_at net w).wire (holds net.queue w)
+    pub minded : (n : ℕ) → n < length net.nodes → IsMinded net n []
+
+  -- node n has these actions to do
+  pub record Busy (net : Net N) (n : ℕ) (acts : List Act) : Type 0 where
+    pub wired : Wired net.ends net.ports (length net.nodes) (length net.wires)
+    pub each_first : length net.firsts ≡ length net.nodes
+    pub sound : (w : ℕ) → w < length net.wires → IsSound (wire_at net w).wire (holds net.queue w)
+    pub within : n < length net.nodes
+    pub here : IsMinded net n acts
+    pub others : (k : ℕ) → k < length net.nodes → k ≢ n → IsMinded net k []
+
+  -- the port rules allow the call of the handler of node n
+  abbrev pub MeetsAt : Call → Net N → ℕ → Type 0
+  MeetsAt call net n = (x : N) → slice_get net.nodes n ≡ Some x → Meets call (row x)
+
+  -- whatever the handler of node n does for this call, the laws stand with its actions still to do
+  abbrev pub Awaits : Call → Net N → ℕ → Type 0
+  Awaits call net n = (x y : N) (acts : List Act) → slice_get net.nodes n ≡ Some x → Handles row law call x y acts → Busy (with_node net n y) n acts
+
+  -- the handler of node n was called, and its actions were done
+  pub record Responds (old new : Net N) (n : ℕ) : Type 0 where
+    pub node : N
+    pub acts : List Act
+    pub busy : Busy (with_node old n node) n acts
+    pub is : new ≡ net.acted_all (with_node old n node) n acts
+
+  -- the nodes below n were started, and the others were not
+  pub record Starting (fresh : N → View → Type 0) (net : Net N) (n : ℕ) : Type 0 where
+    pub wired : Wired net.ends net.ports (length net.nodes) (length net.wires)
+    pub each_first : length net.firsts ≡ length net.nodes
+    pub sound : (w : ℕ) → w < length net.wires → IsSound (wire_at net w).wire (holds net.queue w)
+    pub below : (k : ℕ) → k < n → k < length net.nodes → IsMinded net k []
+    pub above : (k : ℕ) → n ≤ k → k < length net.nodes → (x first : N) → slice_get net.nodes k ≡ Some x → slice_get net.firsts k ≡ Some first
+        → fresh x (view_of net k) × FreshLaw first x (view_of net k) (took net k) (gave net k)
+
+-- the graph goes on: the same wiring, and the same nodes at its start
+pub record GoesOn {N : Type 0} (old new : Net N) : Type 0 where
+  pub firsts : new.firsts ≡ old.firsts
+  pub ends : new.ends ≡ old.ends
+  pub ports : new.ports ≡ old.ports
+  pub nodes : length new.nodes ≡ length old.nodes
+  pub wires : length new.wires ≡ length old.wires

@@ -1,0 +1,4 @@
+pub mod PortLists
+pub mod Net
+pub mod Laws
+pub mod Costs

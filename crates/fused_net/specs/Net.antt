@@ -1,0 +1,156 @@
+-- A fused graph as contracts see it, and what each step makes of it. The nodes are of any type.
+use Rattle.std.specs.Prelude.{◌≡◌, ℕ, ◌+◌, ◌^◌, ◌<◌, Bool, true, false, if◌then◌else◌, None, List, [], ◌∷◌, ◌++◌, length, slice_index_or, slice_set}
+use Rattle.elem_core.specs.declared.item.Item.{Item}
+use Rattle.port_core.specs.Connection.{quiet}
+use Rattle.port_core.specs.Ring.{holds}
+use Rattle.port_core.specs.View.{View}
+use Rattle.port_core.specs.Call.{Call, starts, asks, brings, cancels}
+use Rattle.port_core.specs.Wire.{Delivery, nothing, ask, refusal, brought, delivery_of, after_delivery, again}
+use Rattle.port_core.specs.declared.act.Act.{Act}
+use Rattle.port_core.specs.declared.act.Act.TheVariants.{Pull, Push, Complete, FailOut, Cancel}
+use Rattle.port_core.specs.declared.view.InView.{InView}
+use Rattle.port_core.specs.declared.view.InView.TheVariants.{Left}
+use Rattle.port_core.specs.declared.view.OutView.{OutView}
+use Rattle.port_core.specs.declared.view.OutView.TheVariants.{Shut}
+use Rattle.wire_core.specs.Cell.{Cell, moved_by, queues_by}
+use Rattle.wire_core.specs.Counts.{elements}
+use Rattle.fused_net.specs.PortLists.{PortLists}
+use Rattle.fused_net.specs.declared.net.Ends.{Ends}
+
+-- the nodes, and as they were handed in; the wires; of each wire the ports at its ends, and of each node its wires, which no
+-- step changes; and the wires that have an event, first in first out
+pub record Net (N : Type 0) : Type 0 where
+  pub nodes : List N
+  pub firsts : List N
+  pub wires : List Cell
+  pub ends : List Ends
+  pub ports : List PortLists
+  pub queue : List ℕ
+
+-- where there is no wire, both ends are closed and nothing passed
+abbrev pub no_wire : Cell
+no_wire = record { wire = record { out = Shut; inp = Left; conn = record { step = quiet; to_grab = None; in_closed = true; out_closed = true; cause = None }; sent = []; got = [] }; asked = false }
+
+abbrev pub no_ends : Ends
+no_ends = record { from = 0; output = 0; to = 0; input = 0 }
+
+abbrev pub no_ports : PortLists
+no_ports = record { ins = []; outs = [] }
+
+-- the ends of wire w
+abbrev pub end_at : List Ends → ℕ → Ends
+end_at ends w = slice_index_or ends w no_ends
+
+-- the wires of node n
+abbrev pub port_at : List PortLists → ℕ → PortLists
+port_at ports n = slice_index_or ports n no_ports
+
+-- what f reads off each of these wires
+abbrev pub read_all : {X : Type 0} → (Cell → X) → List Cell → List ℕ → List X
+read_all f wires [] = []
+read_all f wires (w ∷ ws) = f (slice_index_or wires w no_wire) ∷ read_all f wires ws
+
+-- what the ends of a wire know of it, and what passed there
+abbrev pub inp_of : Cell → InView
+inp_of c = c.wire.inp
+
+abbrev pub out_of : Cell → OutView
+out_of c = c.wire.out
+
+abbrev pub got_of : Cell → List Item
+got_of c = c.wire.got
+
+abbrev pub sent_of : Cell → List Item
+sent_of c = c.wire.sent
+
+-- the wire that an action is for
+abbrev pub wire_for : Act → PortLists → ℕ
+wire_for (Pull i) p = slice_index_or p.ins i 0
+wire_for (Push j e) p = slice_index_or p.outs j 0
+wire_for (Complete j) p = slice_index_or p.outs j 0
+wire_for (FailOut j c) p = slice_index_or p.outs j 0
+wire_for (Cancel i) p = slice_index_or p.ins i 0
+
+-- the node has the port that an action is for
+abbrev pub HasPort : Act → PortLists → Type 0
+HasPort (Pull i) p = i < length p.ins
+HasPort (Push j e) p = j < length p.outs
+HasPort (Complete j) p = j < length p.outs
+HasPort (FailOut j c) p = j < length p.outs
+HasPort (Cancel i) p = i < length p.ins
+
+-- the node that a delivery goes to
+abbrev pub target : Delivery → Ends → ℕ
+target nothing e = e.from
+target ask e = e.from
+target refusal e = e.from
+target (brought x more) e = e.to
+
+-- and the call of its handler
+abbrev pub call_of : Delivery → Ends → Call
+call_of nothing e = starts
+call_of ask e = asks e.output
+call_of refusal e = cancels e.output
+call_of (brought x more) e = brings e.input x
+
+-- the wire once this was delivered
+abbrev pub told_by : Delivery → Cell → Cell
+told_by d c = record c { wire = after_delivery d c.wire }
+
+module _ {N : Type 0} where
+  -- wire w
+  abbrev pub wire_at : Net N → ℕ → Cell
+  wire_at net w = slice_index_or net.wires w no_wire
+
+  -- the wires of node n
+  abbrev pub ports_at : Net N → ℕ → PortLists
+  ports_at net n = port_at net.ports n
+
+  -- what node n knows of its ports
+  abbrev pub view_of : Net N → ℕ → View
+  view_of net n = record { ins = read_all inp_of net.wires (ports_at net n).ins; outs = read_all out_of net.wires (ports_at net n).outs }
+
+  -- what it took, and what it gave
+  abbrev pub took : Net N → ℕ → List (List Item)
+  took net n = read_all got_of net.wires (ports_at net n).ins
+
+  abbrev pub gave : Net N → ℕ → List (List Item)
+  gave net n = read_all sent_of net.wires (ports_at net n).outs
+
+  -- a wire is set, and queued where it has to be
+  abbrev pub put : Net N → ℕ → Cell → Bool → Net N
+  put net w c queued = record net { wires = slice_set net.wires w c; queue = if queued then net.queue ++ w ∷ [] else net.queue }
+
+  -- node n acts
+  abbrev pub acted : Net N → ℕ → Act → Net N
+  acted net n a = let w = wire_for a (ports_at net n) in put net w (moved_by a (wire_at net w)) (queues_by a (wire_at net w).wire.conn)
+
+  -- node n does all these actions
+  abbrev pub acted_all : Net N → ℕ → List Act → Net N
+  acted_all net n [] = net
+  acted_all net n (a ∷ acts) = acted_all (acted net n a) n acts
+
+  -- this is delivered on wire w
+  abbrev pub told : Net N → ℕ → Delivery → Net N
+  told net w d = put net w (told_by d (wire_at net w)) (again d)
+
+  -- the event of wire w is delivered
+  abbrev pub event_told : Net N → ℕ → Net N
+  event_told net w = told net w (delivery_of (wire_at net w).wire)
+
+  -- another node stands in the place of node n
+  abbrev pub with_node : Net N → ℕ → N → Net N
+  with_node net n y = record net { nodes = slice_set net.nodes n y }
+
+  -- what the code of an action needs: its port and its wire are there, the wire has a place in the queue where it wants one,
+  -- and one element more can be counted
+  pub record Able (net : Net N) (n : ℕ) (a : Act) : Type 0 where
+    pub node : n < length net.ports
+    pub port : HasPort a (ports_at net n)
+    pub wire : wire_for a (ports_at net n) < length net.wires
+    pub free : queues_by a (wire_at net (wire_for a (ports_at net n))).wire.conn ≡ true → holds net.queue (wire_for a (ports_at net n)) ≡ false
+    pub count : elements (wire_at net (wire_for a (ports_at net n))).wire.sent + 1 < 2 ^ 64
+
+  -- wire w was not taken from the queue yet
+  abbrev pub before : Net N → ℕ → Net N
+  before net w = record net { queue = w ∷ net.queue }

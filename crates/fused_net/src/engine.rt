@@ -1,0 +1,311 @@
+// Nodes joined by wires: one action, one event, and `execute`.
+ghost use Rattle.std.specs.Prelude.{◌≡◌, ◌≢◌, ℕ, ◌+◌, ◌^◌, ◌<◌, ◌≤◌, [], false, Some, OnOk, IfOk, IfNone, IfSome, IsTrue, ◌↔◌, if◌then◌else◌, length, slice_get};
+ghost use Rattle.port_core.specs.Call.{Meets};
+ghost use Rattle.port_core.specs.Ring.{holds};
+ghost use Rattle.port_core.specs.Wire.{nothing, delivery_of};
+ghost use Rattle.stage_core.specs.Handling.{most_acts, Handles};
+ghost use Rattle.wire_core.specs.Cell.{delivery_in};
+ghost use Rattle.fused_net.specs.Net.{acted, acted_all, event_told, wire_at, wire_for, HasPort, Able, port_at, target, call_of, before};
+ghost use Rattle.fused_net.specs.Laws.{AnyRow, AnyLaw, Wired, first_view, Settled, Busy, Starting, GoesOn, Awaits, MeetsAt, Responds};
+ghost use Rattle.fused_net.specs.Costs.{all_asks, Uses};
+
+use crate::net::{Ends, Ports};
+use elem_core::item::Item;
+use elem_core::why::NoMemory;
+use port_core::act::Act;
+use port_core::acts::Acts;
+use port_core::ring::EventRing;
+use stage_core::stage::Stage;
+use std::alloc::Global;
+use std::marker::Model;
+use std::snapshot::Snapshot;
+use wire_core::wire::{Delivered, Wire};
+
+/// Nodes joined by wires, and the wires that have an event.
+#[derive(Drop)]
+pub struct Engine<S: Stage> {
+    nodes: Vec<S>,
+    wires: Vec<Wire>,
+    ends: Vec<Ends>,
+    ports: Vec<Ports>,
+    ring: EventRing,
+    firsts: Snapshot<Vec<S>>,
+}
+
+impl<S: Stage> Model for Engine<S> {
+    ghost use Rattle.std.specs.Prelude.{◌≡◌, length};
+    ghost use Rattle.fused_net.specs.Net.{Net};
+    ghost use Rattle.std.specs.Coded.{codes};
+    ghost use Rattle.elem_core.specs.TreeCode.{tree_coded};
+
+    ghost Value = { Net S };
+
+    ghost coded = { Prim.hlevel (codes, tree_coded) };
+
+    ghost view = { λ e. record { nodes = e.nodes.items; firsts = e.firsts.value.items; wires = e.wires.items; ends = e.ends.items; ports = e.ports.items; queue = e.ring.queue } };
+
+    ghost invariant = { λ e. e.ring.size ≡ length e.wires.items };
+}
+
+fn wire_of(act: &Act, ports: &Ports) -> u32
+    requires there { HasPort act.now ports.now }
+    ensures { result ≡ wire_for act.now ports.now }
+{
+    match act {
+        Act::Pull(i) | Act::Cancel(i) => ports.input(*i),
+        Act::Push(j, _) | Act::Complete(j) | Act::FailOut(j, _) => ports.output(*j),
+    }
+}
+
+fn node_of(event: &Delivered, ends: Ends) -> u32
+    ensures { result ≡ target (delivery_in event.now) ends }
+{
+    match event {
+        Delivered::Brought(_, _) => ends.to,
+        _ => ends.from,
+    }
+}
+
+fn call<S: Stage>(
+    node: &mut S,
+    alloc: Global,
+    ends: Ends,
+    event: Delivered,
+    acts: &mut Acts,
+) -> Result<(), NoMemory>
+    requires some { delivery_in event ≢ nothing }
+    requires meets { Meets (call_of (delivery_in event) ends) (S.rests node.old) }
+    requires empty { acts.old.items ≡ [] }
+    requires room { most_acts ≤ acts.old.room }
+    ensures handles { OnOk result (Handles S.rests S.law (call_of (delivery_in event) ends) node.old node.new acts.new.items) }
+    ensures room { OnOk result (acts.new.room ≡ acts.old.room) }
+{
+    match event {
+        Delivered::Nothing => unreachable!(),
+        Delivered::Ask => node.on_pull(alloc, ends.output, acts),
+        Delivered::Refusal => node.on_cancel(alloc, ends.output, acts),
+        Delivered::Brought(Item::Elem(e), _) => node.on_push(alloc, ends.input, e, acts),
+        Delivered::Brought(Item::Ended, _) => node.on_finish(alloc, ends.input, acts),
+        Delivered::Brought(Item::Failed(cause), _) => node.on_fail(alloc, ends.input, cause, acts),
+    }
+}
+
+impl<S: Stage> Engine<S> {
+    /// Joins nodes that were not started by wires on which nothing happened. `ends` has the ports at the ends of each wire,
+    /// and `ports` the wires of each node.
+    pub fn new(
+        alloc: Global,
+        nodes: Vec<S>,
+        ends: Vec<Ends>,
+        ports: Vec<Ports>,
+    ) -> Result<Engine<S>, NoMemory>
+        requires wired { Wired ends.items ports.items (length nodes.items) (length ends.items) }
+        requires few { length ends.items < 2 ^ 32 }
+        requires fresh { (n : ℕ) (x : S) → slice_get nodes.items n ≡ Some x → S.fresh x (first_view (port_at ports.items n)) }
+        ensures starting { IfOk result (λ e. Starting S.rests S.law S.fresh e 0) }
+        ensures nodes { IfOk result (λ e. e.nodes ≡ nodes.items) }
+        ensures firsts { IfOk result (λ e. e.firsts ≡ nodes.items) }
+        ensures ends { IfOk result (λ e. e.ends ≡ ends.items) }
+        ensures ports { IfOk result (λ e. e.ports ≡ ports.items) }
+        ensures asks { IfOk result (λ e. all_asks e ≡ 0) }
+    {
+        let mut wires = Vec::new(alloc);
+        for _i in 0..ends.len() {
+            wires.push(Wire::new())?;
+        }
+        let ring = EventRing::new(alloc, ends.len() as u32)?;
+        let firsts = Snapshot::of(&nodes);
+        Ok(Engine {
+            nodes,
+            wires,
+            ends,
+            ports,
+            ring,
+            firsts,
+        })
+    }
+
+    // Starts node n.
+    fn start_at(&mut self, alloc: Global, n: usize, acts: &mut Acts) -> Result<(), NoMemory>
+        requires starting { Starting S.rests S.law S.fresh self.old n }
+        requires within { n < length self.old.nodes }
+        requires few { all_asks self.old ≤ 4000000000 }
+        requires empty { acts.old.items ≡ [] }
+        requires room { most_acts ≤ acts.old.room }
+        ensures starting { OnOk result (Starting S.rests S.law S.fresh self.new (n + 1)) }
+        ensures on { OnOk result (GoesOn self.old self.new) }
+        ensures asks { OnOk result (all_asks self.new ≤ all_asks self.old) }
+        ensures acts { OnOk result (acts.new ≡ acts.old) }
+    {
+        self.nodes[n].start(alloc, acts)?;
+        self.perform(n, acts);
+        Ok(())
+    }
+
+    /// Starts every node, in their order.
+    pub fn start(&mut self, alloc: Global, acts: &mut Acts) -> Result<(), NoMemory>
+        requires starting { Starting S.rests S.law S.fresh self.old 0 }
+        requires few { all_asks self.old ≤ 4000000000 }
+        requires empty { acts.old.items ≡ [] }
+        requires room { most_acts ≤ acts.old.room }
+        ensures laws { OnOk result (Settled S.rests S.law self.new) }
+        ensures on { OnOk result (GoesOn self.old self.new) }
+        ensures asks { OnOk result (all_asks self.new ≤ all_asks self.old) }
+        ensures acts { OnOk result (acts.new ≡ acts.old) }
+    {
+        let count = self.nodes.len();
+        for n in 0..count {
+            self.start_at(alloc, n, acts)?;
+        }
+        Ok(())
+    }
+
+    // Node n acts at its wire.
+    fn act(&mut self, n: usize, act: Act)
+        requires { Able self.old n act }
+        ensures { self.new ≡ acted self.old n act }
+    {
+        let w = wire_of(&act, &self.ports[n]);
+        if self.wires[w as usize].act(act) {
+            self.ring.enqueue(w);
+        }
+    }
+
+    // Node n does all its actions.
+    fn perform(&mut self, n: usize, acts: &mut Acts)
+        requires busy { Busy AnyRow AnyLaw self.old n acts.old.items }
+        requires few { all_asks self.old ≤ 4000000000 }
+        ensures after { self.new ≡ acted_all self.old n acts.old.items }
+        ensures acts { acts.new ≡ record acts.old { items = [] } }
+    {
+        while let Some(act) = acts.take() {
+            self.act(n, act);
+        }
+    }
+
+    // Delivers the event of a wire that was taken from the ring.
+    fn deliver(&mut self, w: u32) -> Delivered
+        requires within { w < length self.old.wires }
+        requires absent { holds self.old.queue w ≡ false }
+        ensures event { delivery_in result ≡ delivery_of (wire_at self.old w).wire }
+        ensures after { self.new ≡ event_told self.old w }
+    {
+        let event = self.wires[w as usize].deliver();
+        if let Delivered::Brought(_, true) = event {
+            self.ring.enqueue(w);
+        }
+        event
+    }
+
+    // Calls the handler of node n, and does what it wants done.
+    fn respond(
+        &mut self,
+        alloc: Global,
+        n: usize,
+        ends: Ends,
+        event: Delivered,
+        acts: &mut Acts,
+    ) -> Result<(), NoMemory>
+        requires some { delivery_in event ≢ nothing }
+        requires within { n < length self.old.nodes }
+        requires meets { MeetsAt S.rests S.law (call_of (delivery_in event) ends) self.old n }
+        requires awaits { Awaits S.rests S.law (call_of (delivery_in event) ends) self.old n }
+        requires few { all_asks self.old ≤ 4000000000 }
+        requires empty { acts.old.items ≡ [] }
+        requires room { most_acts ≤ acts.old.room }
+        ensures responds { OnOk result (Responds S.rests S.law self.old self.new n) }
+        ensures acts { OnOk result (acts.new ≡ acts.old) }
+    {
+        call(&mut self.nodes[n], alloc, ends, event, acts)?;
+        self.perform(n, acts);
+        Ok(())
+    }
+
+    // Handles the event of a wire that was taken from the ring.
+    fn handle(&mut self, alloc: Global, w: u32, acts: &mut Acts) -> Result<(), NoMemory>
+        requires within { w < length self.old.wires }
+        requires absent { holds self.old.queue w ≡ false }
+        requires laws { Settled S.rests S.law (before self.old w) }
+        requires few { all_asks self.old + 1 ≤ 4000000000 }
+        requires empty { acts.old.items ≡ [] }
+        requires room { most_acts ≤ acts.old.room }
+        ensures laws { OnOk result (Settled S.rests S.law self.new) }
+        ensures on { OnOk result (GoesOn self.old self.new) }
+        ensures uses { OnOk result (Uses (before self.old w) self.new 1) }
+        ensures acts { OnOk result (acts.new ≡ acts.old) }
+    {
+        let ends = self.ends[w as usize];
+        let event = self.deliver(w);
+        if event.is_nothing() {
+            return Ok(());
+        }
+        let n = node_of(&event, ends);
+        self.respond(alloc, n as usize, ends, event, acts)?;
+        Ok(())
+    }
+
+    // Takes the first wire out of the ring.
+    fn next(&mut self) -> Option<u32>
+        ensures none { IfNone result ((self.old.queue ≡ []) × (self.new ≡ self.old)) }
+        ensures some { IfSome result (λ w. (w < length self.new.wires) × ((holds self.new.queue w ≡ false) × (self.old ≡ before self.new w))) }
+    {
+        self.ring.dequeue()
+    }
+
+    // Handles one event. False comes exactly where none is left.
+    fn step(&mut self, alloc: Global, acts: &mut Acts) -> Result<bool, NoMemory>
+        requires laws { Settled S.rests S.law self.old }
+        requires few { all_asks self.old + 1 ≤ 4000000000 }
+        requires empty { acts.old.items ≡ [] }
+        requires room { most_acts ≤ acts.old.room }
+        ensures laws { OnOk result (Settled S.rests S.law self.new) }
+        ensures on { OnOk result (GoesOn self.old self.new) }
+        ensures uses { IfOk result (λ went. Uses self.old self.new (if went then 1 else 0)) }
+        ensures rest { IfOk result (λ went. went ≡ false → self.new.queue ≡ []) }
+        ensures acts { OnOk result (acts.new ≡ acts.old) }
+    {
+        match self.next() {
+            None => Ok(false),
+            Some(w) => {
+                self.handle(alloc, w, acts)?;
+                Ok(true)
+            }
+        }
+    }
+
+    /// Handles at most `limit` events, one unit each, and fewer only where none is left. It answers how many.
+    pub fn execute(&mut self, alloc: Global, limit: u32, acts: &mut Acts) -> Result<u32, NoMemory>
+        requires laws { Settled S.rests S.law self.old }
+        requires few { all_asks self.old + limit ≤ 4000000000 }
+        requires empty { acts.old.items ≡ [] }
+        requires room { most_acts ≤ acts.old.room }
+        ensures laws { OnOk result (Settled S.rests S.law self.new) }
+        ensures on { OnOk result (GoesOn self.old self.new) }
+        ensures uses { IfOk result (λ used. Uses self.old self.new used) }
+        ensures within { IfOk result (λ used. used ≤ limit) }
+        ensures rest { IfOk result (λ used. used < limit → self.new.queue ≡ []) }
+        ensures acts { OnOk result (acts.new ≡ acts.old) }
+    {
+        for used in 0..limit {
+            if !self.step(alloc, acts)? {
+                return Ok(used);
+            }
+        }
+        Ok(limit)
+    }
+
+    /// Whether no event is left.
+    pub fn is_at_rest(&self) -> bool
+        ensures { IsTrue result ↔ (self.now.queue ≡ []) }
+    {
+        self.ring.is_empty()
+    }
+
+    /// The nodes and the wires, each in their order.
+    pub fn into_parts(self) -> (Vec<S>, Vec<Wire>)
+        ensures nodes { result.0.items ≡ self.nodes }
+        ensures wires { result.1.items ≡ self.wires }
+    {
+        (self.nodes, self.wires)
+    }
+}

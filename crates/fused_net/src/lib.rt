@@ -1,0 +1,5 @@
+// The fused graph: nodes joined by wires, run event by event, for nodes of any type that is a stage.
+#![tactic(auto)]
+
+pub mod engine;
+pub mod net;

@@ -1,0 +1,5 @@
+pub mod Acting
+pub mod Told
+pub mod Drawings
+pub mod OneOuts
+pub mod Sources

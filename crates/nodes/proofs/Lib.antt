@@ -3,3 +3,4 @@ pub mod Told
 pub mod Drawings
 pub mod OneOuts
 pub mod Sources
+pub mod Linears

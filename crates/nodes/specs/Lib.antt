@@ -1,3 +1,4 @@
 pub mod Ports
 pub mod Drawing
 pub mod Source
+pub mod Linear

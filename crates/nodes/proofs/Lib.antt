@@ -4,3 +4,4 @@ pub mod Drawings
 pub mod OneOuts
 pub mod Sources
 pub mod Linears
+pub mod Outlooks

@@ -51,6 +51,12 @@ read_fault node = record { stage = node; nth = 0; why = ReadFault }
 abbrev pub line_too_long : ℕ → ℕ → Cause
 line_too_long node nth = record { stage = node; nth = nth; why = LineTooLong }
 
+-- how many bytes may be read ahead of the lines that were given: one piece; after a failure one longest line and its LF more
+abbrev pub read_ahead : End → ℕ
+read_ahead unended = 4096
+read_ahead ended = 4096
+read_ahead (failed c) = 4096 + 65537
+
 module _ {S : Type 0} (state : S → SourceState) where
   -- the bytes that are left to draw, where they are told
   abbrev pub left : Lines S → List ℕ

@@ -5,3 +5,6 @@ pub mod OneOuts
 pub mod Sources
 pub mod Linears
 pub mod Outlooks
+pub mod Puttings
+pub mod OneIns
+pub mod Sinks

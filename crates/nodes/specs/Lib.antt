@@ -2,3 +2,5 @@ pub mod Ports
 pub mod Drawing
 pub mod Source
 pub mod Linear
+pub mod Writing
+pub mod Sink

@@ -7,6 +7,7 @@ ghost use Rattle.stage_linear.specs.declared.phase.Phase.TheVariants.{New, Open,
 ghost use Rattle.elem_core.specs.Tree.{text};
 ghost use Rattle.nodes.specs.Source.{LinesFresh, lines_row, LinesLaw};
 
+use crate::count::one_more;
 use elem_core::elem::{Elem, Form};
 use elem_core::line::Line;
 use elem_core::why::{Cause, NoMemory, Why};
@@ -143,15 +144,5 @@ impl<S: Source> LinesSource<S> {
     {
         self.phase = Phase::Closed;
         acts.add(last);
-    }
-}
-
-// One more than the lines that were drawn. Past 64 bits there is no number for the next: that counts as want of memory.
-fn one_more(drawn: u64) -> Result<u64, NoMemory>
-    ensures { IfOk result (λ n. n ≡ drawn + 1) }
-{
-    match drawn.checked_add(1) {
-        Some(more) => Ok(more),
-        None => Err(AllocError),
     }
 }

@@ -1,6 +1,5 @@
 -- Each call of a linear stage keeps the law of its output.
-use Rattle.std.specs.Prelude.{slice_index_or, slice_set}
-use Rattle.std.proofs.Common.{eqb, cond, false, ◌≡◌, ℕ, zero, suc, ◌<◌, ◌≤◌, List, [], ◌∷◌, ◌++◌, length, refl, sym, ap, subst, ◌∙◌, arith, append_assoc, append-nil}
+use Rattle.std.proofs.Common.{eqb, cond, false, ◌≡◌, ℕ, zero, suc, ◌≤◌, List, [], ◌∷◌, ◌++◌, length, refl, sym, ap, subst, ◌∙◌, arith, append_assoc, append-nil}
 use Rattle.std.proofs.lemmas.Bool.Decides.{nat_tests}
 use Rattle.elem_core.specs.Tree.{Tree}
 use Rattle.elem_core.specs.declared.item.Item.{Item}
@@ -12,12 +11,12 @@ use Rattle.port_core.specs.declared.view.OutView.{OutView}
 use Rattle.port_core.specs.declared.view.InView.TheVariants.{Idle, Waiting, Over, Left}
 use Rattle.port_core.specs.declared.view.OutView.TheVariants.{Unasked, Asked, Shut, Refused}
 use Rattle.port_core.specs.View.{View, in_at, out_at, ActsAllowed, acted_all, OneOneOf}
-use Rattle.port_core.specs.Call.{Call, starts, asks, brings, cancels, CallAllowed, seen, brought_to, given_by, given_on, Obeys, Meets}
+use Rattle.port_core.specs.Call.{Call, starts, asks, brings, cancels, CallAllowed, seen, brought_to, given_by, given_on, Obeys}
 use Rattle.stage_core.specs.Histories as histories
 use Rattle.stage_core.specs.Handling.{Starts, Handles}
 use Rattle.stream_model.specs.Outlook.{unended}
 use Rattle.stream_model.specs.Machine.{Run, Machine}
-use Rattle.stream_model.specs.Linear.{Book, Stage, Work, linear}
+use Rattle.stream_model.specs.Linear.{Stage, Work, linear}
 use Rattle.stage_law.specs.Held.{Held, owing}
 use Rattle.stage_law.specs.Turn.{TurnAt}
 use Rattle.stage_law.specs.Law.{TookAs, GaveAs, Law}

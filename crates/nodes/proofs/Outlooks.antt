@@ -1,7 +1,7 @@
 -- What a source of lines gave agrees with the outlook of its file, and how many bytes were read for it.
-use Rattle.std.specs.Prelude.{IsTrue, IsSome, map, nat_le, unwrap_or, min, not, ◌&&◌}
-use Rattle.std.specs.List.{count_by, take_while, sum_by}
-use Rattle.std.proofs.Common.{◌≡◌, ℕ, zero, suc, ◌+◌, ◌-◌, ◌<◌, ◌≤◌, ◌⊎◌, inl, inr, Bool, true, false, cond, eqb, List, [], ◌∷◌, ◌++◌, length, take, drop, Some, refl, sym, ap, subst, ◌∙◌, arith, append_assoc, append-nil, length-append, length-drop}
+use Rattle.std.specs.Prelude.{IsTrue, IsSome, map, min, not, ◌&&◌}
+use Rattle.std.specs.List.{count_by, take_while}
+use Rattle.std.proofs.Common.{◌≡◌, ℕ, ◌+◌, ◌<◌, ◌≤◌, inl, inr, Bool, true, false, cond, eqb, List, [], ◌∷◌, ◌++◌, length, take, drop, Some, refl, sym, ap, subst, ◌∙◌, arith, append_assoc, append-nil, length-append}
 use Rattle.std.proofs.lemmas.Bool.Decides.{nat_tests}
 use Rattle.std.proofs.lemmas.List.{append_cancel_right, take-append-drop, length-map}
 use Rattle.std.proofs.lemmas.List.Sums.{sum_by-append, sum_by-cons, sum_by-take-le, take_while-cons}
@@ -20,8 +20,7 @@ use Rattle.stream_io.specs.State.{SourceState}
 use Rattle.stream_io.specs.Reading.{NoEnd, FirstTooLong, rest}
 use Rattle.stream_io.proofs.Lines.{has_no_lf-NoEnd}
 use Rattle.nodes.specs.Drawing.{AllDrawable, ended_lines, Stood, Drew}
-use Rattle.nodes.specs.Source.{Lines, read_fault, line_too_long, left, IsTold, FailsAs, by_fault, by_line, EndsAs, LinesLaw}
-use Rattle.nodes.proofs.Drawings.{ended_more}
+use Rattle.nodes.specs.Source.{Lines, read_fault, line_too_long, left, by_fault, by_line, EndsAs, LinesLaw}
 
 -- ---- how many LFs there are
 

@@ -1,7 +1,7 @@
 -- Each call of a sink of lines keeps its law.
 use Rattle.std.specs.Prelude.{IsTrue}
 use Rattle.std.specs.Option.{option_map}
-use Rattle.std.proofs.Common.{◌≡◌, ℕ, ◌+◌, ◌<◌, ◌≤◌, Bool, true, false, List, [], ◌∷◌, ◌++◌, length, refl, sym, ap, subst, ◌∙◌, arith, length-append}
+use Rattle.std.proofs.Common.{◌≡◌, ℕ, ◌+◌, Bool, true, false, List, [], ◌∷◌, ◌++◌, length, refl, sym, ap, subst, ◌∙◌, arith, length-append}
 use Rattle.elem_core.specs.Line.{has_no_lf}
 use Rattle.elem_core.specs.Text.{text_of, text_lines}
 use Rattle.elem_core.specs.Tree.{Tree}
@@ -14,7 +14,7 @@ use Rattle.port_core.specs.declared.view.InView.{InView}
 use Rattle.port_core.specs.declared.view.InView.TheVariants.{Idle, Waiting, Over, Left}
 use Rattle.port_core.specs.declared.view.OutView.{OutView}
 use Rattle.port_core.specs.View.{View, in_at, with_in, IsInOpen}
-use Rattle.port_core.specs.Call.{starts, brings}
+use Rattle.port_core.specs.Call.{brings}
 use Rattle.stage_core.specs.Histories.{with_item, AllEmpty}
 use Rattle.stage_core.specs.Handling.{Starts, Handles}
 use Rattle.stream_model.specs.Outlook.{End, unended, ended, failed}

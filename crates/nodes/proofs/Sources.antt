@@ -12,9 +12,9 @@ use Rattle.port_core.specs.declared.act.Act.{Act}
 use Rattle.port_core.specs.declared.act.Act.TheVariants.{Push, Complete, FailOut}
 use Rattle.port_core.specs.declared.view.InView.{InView}
 use Rattle.port_core.specs.declared.view.OutView.{OutView}
-use Rattle.port_core.specs.declared.view.OutView.TheVariants.{Unasked, Asked, Shut, Refused}
-use Rattle.port_core.specs.View.{View, out_at, with_out}
-use Rattle.port_core.specs.Call.{starts, asks}
+use Rattle.port_core.specs.declared.view.OutView.TheVariants.{Unasked, Asked, Shut}
+use Rattle.port_core.specs.View.{View, out_at}
+use Rattle.port_core.specs.Call.{asks}
 use Rattle.stage_core.specs.Histories.{with_item, AllEmpty}
 use Rattle.stage_core.specs.Handling.{Starts, Handles}
 use Rattle.stream_model.specs.Outlook.{End, unended, ended, failed}
@@ -25,12 +25,12 @@ use Rattle.stage_linear.specs.declared.phase.Phase.TheVariants.{New, Open, Close
 use Rattle.stream_io.specs.Counts.{Rose}
 use Rattle.stream_io.specs.State.{SourceState}
 use Rattle.stream_io.specs.Reading.{Reading, NoEnd, Draws, FirstTooLong, rest}
-use Rattle.nodes.specs.Ports.{OneOut, OneOutOf}
+use Rattle.nodes.specs.Ports.{OneOutOf}
 use Rattle.nodes.specs.Drawing.{Drew}
-use Rattle.nodes.specs.Source.{Lines, LinesFresh, lines_row_in, lines_row, read_fault, line_too_long, left, IsTold, FailsAs, by_fault, by_line, EndsAs, LinesLaw}
+use Rattle.nodes.specs.Source.{Lines, LinesFresh, lines_row_in, lines_row, read_fault, line_too_long, left, FailsAs, by_fault, by_line, EndsAs, LinesLaw}
 use Rattle.nodes.proofs.Told.{told_elem, told_ended, told_failed}
 use Rattle.nodes.proofs.Drawings.{drew_more, drew_nothing}
-use Rattle.nodes.proofs.OneOuts.{push_allowed, complete_allowed, fail_allowed, set_row, set_at, twice_row, twice_at, row_at}
+use Rattle.nodes.proofs.OneOuts.{push_allowed, complete_allowed, fail_allowed, twice_row, twice_at, row_at}
 
 -- its output is open and not asked
 open_row : (xs : List InView) (ys : List OutView) → OneOutOf (λ y. y ≡ Unasked) xs ys → OneOutOf (lines_row_in Open) xs ys

@@ -4,3 +4,4 @@ pub mod Source
 pub mod Linear
 pub mod Writing
 pub mod Sink
+pub mod Nodes

@@ -1,11 +1,10 @@
 -- A source of lines: what it knows of its port, and what it gave, by what its reader drew.
-use Rattle.std.specs.Prelude.{◌≡◌, ℕ, ◌+◌, ◌≤◌, ◌⊎◌, List, [], ◌∷◌, map, length, IsSome, unwrap_or, ⊤}
+use Rattle.std.specs.Prelude.{◌≡◌, ℕ, ◌+◌, ◌≤◌, List, [], ◌∷◌, map, length, IsSome, ⊤}
 use Rattle.elem_core.specs.Text.{lines}
 use Rattle.elem_core.specs.Tree.{text}
 use Rattle.elem_core.specs.declared.item.Item.{Item}
 use Rattle.elem_core.specs.declared.why.Cause.{Cause}
 use Rattle.elem_core.specs.declared.why.Why.TheVariants.{ReadFault, LineTooLong}
-use Rattle.port_core.specs.declared.view.InView.{InView}
 use Rattle.port_core.specs.declared.view.OutView.{OutView}
 use Rattle.port_core.specs.declared.view.OutView.TheVariants.{Unasked, Shut, Refused}
 use Rattle.port_core.specs.View.{View, out_at}

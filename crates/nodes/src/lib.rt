@@ -4,6 +4,7 @@
 mod count;
 pub mod laws;
 pub mod linear;
+pub mod node;
 pub mod put;
 pub mod sink;
 pub mod source;

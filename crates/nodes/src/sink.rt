@@ -1,7 +1,8 @@
 // A sink that writes the texts of its elements into a file.
-ghost use Rattle.std.specs.Prelude.{◌≡◌, ◌≤◌, [], false, OnOk, IsOk};
+ghost use Rattle.std.specs.Prelude.{◌≡◌, ◌≤◌, [], ◌∷◌, false, OnOk, IsOk};
 ghost use Rattle.elem_core.specs.declared.item.Item.TheVariants as item;
 ghost use Rattle.port_core.specs.Call.{Meets, starts, brings};
+ghost use Rattle.port_core.specs.declared.view.InView.TheVariants.{Idle};
 ghost use Rattle.stage_core.specs.Handling.{most_acts, Starts, Handles};
 ghost use Rattle.stream_model.specs.declared.outcome.EndState.TheVariants.{Unended};
 ghost use Rattle.nodes.specs.Sink.{SinkFresh, sink_row, SinkLaw};
@@ -51,7 +52,8 @@ pub struct SinkEnd<D: Drain> {
 impl<D: Drain> LinesSink<D> {
     /// The sink of node `node` over a drain. It takes no memory.
     pub fn new(alloc: Global, node: u32, drain: D) -> LinesSink<D>
-        ensures { result ≡ record { node = node; drain = drain; count = 0; started = false; end = Unended } }
+        ensures sink { result ≡ record { node = node; drain = drain; count = 0; started = false; end = Unended } }
+        ensures fresh { SinkFresh result (record { ins = Idle ∷ []; outs = [] }) }
     {
         LinesSink {
             node,

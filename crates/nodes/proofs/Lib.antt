@@ -1,0 +1,12 @@
+pub mod Acting
+pub mod Told
+pub mod Drawings
+pub mod OneOuts
+pub mod Sources
+pub mod Linears
+pub mod LineFeeds
+pub mod Outlooks
+pub mod SinkTexts
+pub mod Puttings
+pub mod OneIns
+pub mod Sinks

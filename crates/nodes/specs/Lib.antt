@@ -1,0 +1,7 @@
+pub mod Ports
+pub mod Drawing
+pub mod Source
+pub mod Linear
+pub mod Writing
+pub mod Sink
+pub mod Nodes

@@ -1,0 +1,117 @@
+// A node of an island, whatever its kind is.
+ghost use Rattle.std.specs.Prelude.{◌≡◌};
+ghost use Rattle.nodes.specs.Nodes.{node_fresh, node_row, node_law, node_end};
+
+use crate::linear;
+use crate::sink::{LinesSink, SinkEnd};
+use crate::source::LinesSource;
+use elem_core::elem::Elem;
+use elem_core::why::{Cause, NoMemory};
+use port_core::acts::Acts;
+use stage_core::stage::Stage;
+use stage_linear::logic::LinearLogic;
+use std::alloc::Global;
+use stream_io::outside::{Drain, Source};
+
+/// A node of an island.
+#[derive(Drop)]
+pub enum Node<S: Source, D: Drain> {
+    /// A source of the lines of a file.
+    Reading(LinesSource<S>),
+    /// A linear stage.
+    Linear(LinearLogic),
+    /// A sink that writes lines into a file.
+    Writing(LinesSink<D>),
+}
+
+/// What a node leaves at the end of a run.
+#[derive(Drop)]
+pub enum NodeEnd<S: Source, D: Drain> {
+    /// The source of bytes of a source of lines.
+    Read(S),
+    /// A stage leaves nothing.
+    Staged,
+    /// What a sink leaves.
+    Wrote(SinkEnd<D>),
+}
+
+impl<S: Source, D: Drain> Node<S, D> {
+    /// What it leaves. It takes no memory.
+    pub fn close(self) -> NodeEnd<S, D>
+        ensures { result ≡ node_end self }
+    {
+        match self {
+            Node::Reading(source) => NodeEnd::Read(source.into_source()),
+            Node::Linear(_) => NodeEnd::Staged,
+            Node::Writing(sink) => NodeEnd::Wrote(sink.close()),
+        }
+    }
+}
+
+impl<S: Source, D: Drain> Stage for Node<S, D> {
+    ghost fresh = { node_fresh };
+
+    ghost rests = { node_row };
+
+    ghost law = { node_law S.state D.state };
+
+    fn start(&mut self, alloc: Global, acts: &mut Acts) -> Result<(), NoMemory> {
+        match self {
+            Node::Reading(source) => source.start(acts),
+            Node::Linear(logic) => linear::start(logic, acts),
+            Node::Writing(sink) => sink.start(acts),
+        }
+    }
+
+    fn on_pull(&mut self, alloc: Global, port: u8, acts: &mut Acts) -> Result<(), NoMemory> {
+        match self {
+            Node::Reading(source) => source.on_pull(acts),
+            Node::Linear(logic) => linear::on_pull(logic, acts),
+            Node::Writing(_) => unreachable!(),
+        }
+    }
+
+    fn on_push(
+        &mut self,
+        alloc: Global,
+        port: u8,
+        e: Elem,
+        acts: &mut Acts,
+    ) -> Result<(), NoMemory> {
+        match self {
+            Node::Reading(_) => unreachable!(),
+            Node::Linear(logic) => linear::on_push(logic, alloc, e, acts),
+            Node::Writing(sink) => sink.on_push(e, acts),
+        }
+    }
+
+    fn on_finish(&mut self, alloc: Global, port: u8, acts: &mut Acts) -> Result<(), NoMemory> {
+        match self {
+            Node::Reading(_) => unreachable!(),
+            Node::Linear(logic) => linear::on_finish(logic, acts),
+            Node::Writing(sink) => sink.on_finish(acts),
+        }
+    }
+
+    fn on_fail(
+        &mut self,
+        alloc: Global,
+        port: u8,
+        cause: Cause,
+        acts: &mut Acts,
+    ) -> Result<(), NoMemory> {
+        match self {
+            Node::Reading(_) => unreachable!(),
+            Node::Linear(logic) => linear::on_fail(logic, cause, acts),
+            Node::Writing(sink) => sink.on_fail(cause, acts),
+        }
+    }
+
+    fn on_cancel(&mut self, alloc: Global, port: u8, acts: &mut Acts) -> Result<(), NoMemory> {
+        match self {
+            Node::Reading(source) => source.on_cancel(acts),
+            Node::Linear(logic) => linear::on_cancel(logic, acts),
+            Node::Writing(_) => unreachable!(),
+        }
+    }
+}

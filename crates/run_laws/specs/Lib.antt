@@ -1,0 +1,4 @@
+pub mod Agreeing
+pub mod Made
+pub mod Telling
+pub mod Sinks

@@ -1,0 +1,33 @@
+-- The sources of lines of a net that was made of a blueprint: what each read.
+use Rattle.std.specs.Prelude.{slice_get}
+use Rattle.std.proofs.Common.{◌≡◌, ℕ, ◌<◌, ◌≤◌, List, length, Some, sym, ◌∙◌}
+use Rattle.stream_model.specs.Graph.{Graph, Wire}
+use Rattle.stream_model.specs.Graph as graph
+use Rattle.stream_model.proofs.Compositions.{slice_get-below}
+use Rattle.stream_io.specs.State.{SourceState, DrainState}
+use Rattle.fused_net.specs.Net.{Net, end_at, sent_of, wire_at, ports_at, view_of, took, gave}
+use Rattle.fused_net.specs.Laws.{Settled}
+use Rattle.nodes.specs.declared.node.Node.{Node}
+use Rattle.nodes.specs.declared.node.Node.TheVariants.{Reading}
+use Rattle.nodes.specs.Nodes.{node_row, node_law}
+use Rattle.nodes.specs.Source.{Lines, LinesLaw}
+use Rattle.run_laws.specs.Made.{FirstReading, Materializes}
+use Rattle.run_laws.specs.Reads.{IsSourceAt, SentLines}
+use Rattle.run_laws.proofs.ReadingAhead.{sent_lines}
+use Rattle.run_laws.proofs.AgreeingWires.{read_there}
+
+module _ {S D : Type 0} (sources : S → SourceState) (drains : D → DrainState) (g : Graph) (net : Net (Node S D))
+    (settled : Settled node_row (node_law sources drains) net) (made : Materializes sources g net.firsts net.ends) where
+  pub every_source : (k : ℕ) (n : graph.Node) (first now : Lines S) (u : ℕ) (v : Wire) (bytes : List ℕ) → slice_get g.nodes k ≡ Some n → IsSourceAt net k first now → slice_get g.wires u ≡ Some v → v.from ≡ k
+      → (sources first.reader.source).whole ≡ Some bytes → (sources now.reader.source).given ≤ length bytes → SentLines bytes (sources first.reader.source) (sources now.reader.source) (wire_at net u).wire.sent
+  every_source k n first now u v bytes ni at ui from whole few =
+      let nodes : length net.nodes ≡ length g.nodes = sym settled.each_first ∙ made.nodes in
+      let hk : k < length net.nodes = rw nodes (slice_get-below g.nodes k n ni) in
+      let wires : length net.wires ≡ length g.wires = sym settled.wired.each_wire ∙ made.wires in
+      let hu : u < length net.wires = rw wires (slice_get-below g.wires u v ui) in
+      let f = made.each_wire u v ui in
+      let place : (end_at net.ends u).from ≡ k = f.from ∙ from in
+      let port : slice_get (ports_at net k).outs (end_at net.ends u).output ≡ Some u = rw place at (settled.wired.from_output u hu) in
+      let law : LinesLaw sources first now (view_of net k) (took net k) (gave net k) = (settled.minded k hk (Reading now) (Reading first) at.at_last at.at_first).law_holds in
+      let its : FirstReading sources k n.kind first = made.each_node k n (Reading first) ni at.at_first in
+      sent_lines sources first now (view_of net k) (took net k) (gave net k) law bytes its.kept its.given whole few (end_at net.ends u).output (wire_at net u).wire.sent (read_there sent_of net.wires (ports_at net k).outs (end_at net.ends u).output u port)

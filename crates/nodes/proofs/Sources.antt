@@ -26,10 +26,10 @@ use Rattle.stream_io.specs.Counts.{Rose}
 use Rattle.stream_io.specs.State.{SourceState}
 use Rattle.stream_io.specs.Reading.{Reading, NoEnd, Draws, FirstTooLong, rest}
 use Rattle.nodes.specs.Ports.{OneOutOf}
-use Rattle.nodes.specs.Drawing.{Drew}
+use Rattle.nodes.specs.Drawing.{Drew, ended_lines}
 use Rattle.nodes.specs.Source.{Lines, LinesFresh, lines_row_in, lines_row, read_fault, line_too_long, left, FailsAs, by_fault, by_line, EndsAs, LinesLaw}
 use Rattle.nodes.proofs.Told.{told_elem, told_ended, told_failed}
-use Rattle.nodes.proofs.Drawings.{drew_more, drew_nothing}
+use Rattle.nodes.proofs.Drawings.{ended_more, drew_more, drew_nothing}
 use Rattle.nodes.proofs.OneOuts.{push_allowed, complete_allowed, fail_allowed, twice_row, twice_at, row_at}
 
 -- its output is open and not asked
@@ -57,10 +57,15 @@ module _ {S : Type 0} (state : S → SourceState) where
     pub reads : Reads k r
     pub same : (state r.source).faults ≡ (state k.source).faults
     pub few : length r.kept ≤ 4096
+    pub more : (state r.source).given + length k.kept ≤ (state k.source).given + (length r.kept + (length line + 1))
     pub draws : IsSome (state k.source).whole → Draws (rest_of k) line (rest_of r)
     pub lines_are : IsSome (state k.source).whole → lines (rest_of k) ≡ line ∷ lines (rest_of r)
     pub short : length line ≤ 65536
     pub no_lf : IsTrue (has_no_lf line)
+
+  -- what was read is kept
+  abbrev pub KeepsRead : Reading S → Reading S → Type 0
+  KeepsRead k r = (state r.source).given + length k.kept ≡ (state k.source).given + length r.kept
 
   abbrev at : ℕ → Reading S → ℕ → Phase → Lines S
   at n k d p = record { node = n; reader = k; drawn = d; phase = p }
@@ -81,9 +86,9 @@ module _ {S : Type 0} (state : S → SourceState) where
     was_told t = subst (λ w. IsSome w) reads.whole t
 
     -- the law with the same lines, once its output ended so
-    shut_law : (q : Phase) (w : View) (new_gave : List (List Item)) (f : End) → out_at w 0 ≡ Shut → GaveAs Shut f → new_gave ≡ told (map text law.lines_drawn) f ∷ [] → (IsSome (state k.source).whole → rest_of r ≡ rest_of k) → EndsAs state first (at n r d q) f
+    shut_law : (q : Phase) (w : View) (new_gave : List (List Item)) (f : End) → out_at w 0 ≡ Shut → GaveAs Shut f → new_gave ≡ told (map text law.lines_drawn) f ∷ [] → (IsSome (state k.source).whole → rest_of r ≡ rest_of k) → KeepsRead k r → EndsAs state first (at n r d q) f
         → LinesLaw state first (at n r d q) w took new_gave
-    shut_law q w new_gave f o g is same ends = record {
+    shut_law q w new_gave f o g is same more ends = record {
       lines_drawn = law.lines_drawn;
       end = f;
       took_is = law.took_is;
@@ -96,6 +101,7 @@ module _ {S : Type 0} (state : S → SourceState) where
       given = let a = law.given in let b = reads.given in omega arith;
       faults = let a = law.faults in let b = reads.faults in omega arith;
       kept = reads.bound;
+      read = let a = law.read in let b : (state r.source).given + length k.kept ≡ (state k.source).given + length r.kept = more in omega (arith, a, b);
       drew = λ t. subst (λ (x : List ℕ). Drew (left state first) law.lines_drawn x) (sym (same (was_told t))) (law.drew (was_told t));
       ends = ends;
     }
@@ -116,6 +122,11 @@ module _ {S : Type 0} (state : S → SourceState) where
       given = let a = law.given in let b = reads.given in omega arith;
       faults = let a = law.faults in let b = reads.faults in omega arith;
       kept = reads.bound;
+      read =
+          let a = law.read in
+          let b = x.more in
+          let size : length (ended_lines (law.lines_drawn ++ line ∷ [])) ≡ length (ended_lines law.lines_drawn) + length (line ++ 10 ∷ []) = ap length (ended_more law.lines_drawn line) ∙ length-append (ended_lines law.lines_drawn) (line ++ 10 ∷ []) in
+          omega (arith, a, b, size, length-append line (10 ∷ []));
       drew = λ t. let t' = was_told t in drew_more _ _ _ line law.lines_drawn (law.drew t') (x.draws t') (x.lines_are t') x.short x.no_lf;
       ends = (x.few, x.same ∙ (ends_open first (at n k d p) law.end u law.ends).1);
     }
@@ -137,9 +148,9 @@ module _ {S : Type 0} (state : S → SourceState) where
   handles_line n d p k r line new acts x e f = rw (e, f) (line_given n d p k r line x)
 
   -- no line was left
-  none_given : (n d : ℕ) (p : Phase) (k r : Reading S) → Reads k r → (state r.source).faults ≡ (state k.source).faults → r.kept ≡ [] → (IsSome (state k.source).whole → rest_of r ≡ []) → (IsSome (state k.source).whole → rest_of k ≡ [])
+  none_given : (n d : ℕ) (p : Phase) (k r : Reading S) → Reads k r → KeepsRead k r → (state r.source).faults ≡ (state k.source).faults → r.kept ≡ [] → (IsSome (state k.source).whole → rest_of r ≡ []) → (IsSome (state k.source).whole → rest_of k ≡ [])
       → Handles lines_row (LinesLaw state) (asks 0) (at n k d p) (at n r d Closed) (Complete 0 ∷ [])
-  none_given n d p k r reads same none now was = record {
+  none_given n d p k r reads more same none now was = record {
     obeys = record {
       allowed = λ v h w. complete_allowed (lines_row_in p) v w;
       row = λ v h w. twice_row (lines_row_in p) Asked Shut (lines_row_in Closed) v w tt;
@@ -148,19 +159,19 @@ module _ {S : Type 0} (state : S → SourceState) where
         let u = still v law.end h law.gave_as in
         shut_law first n d p k r v took gave law reads Closed _ _ ended (twice_at (lines_row_in p) Asked Shut v w) tt
         (ap (λ (gs : List (List Item)). with_item gs 0 item.Ended) (gave_open _ _ gave u law.gave_is) ∙ ap (λ (h : List Item). h ∷ []) (told_ended (map text law.lines_drawn)))
-        (λ t. now t ∙ sym (was t))
+        (λ t. now t ∙ sym (was t)) more
         (none, (same ∙ (ends_open first (at n k d p) law.end u law.ends).1, λ t. now (was_told first n d p k r v took gave law reads t)));
   }
 
-  pub handles_end : (n d : ℕ) (p : Phase) (k r : Reading S) (new : Lines S) (acts : List Act) → Reads k r → (state r.source).faults ≡ (state k.source).faults → r.kept ≡ [] → (IsSome (state k.source).whole → rest_of r ≡ []) → (IsSome (state k.source).whole → rest_of k ≡ [])
+  pub handles_end : (n d : ℕ) (p : Phase) (k r : Reading S) (new : Lines S) (acts : List Act) → Reads k r → KeepsRead k r → (state r.source).faults ≡ (state k.source).faults → r.kept ≡ [] → (IsSome (state k.source).whole → rest_of r ≡ []) → (IsSome (state k.source).whole → rest_of k ≡ [])
       → new ≡ record { node = n; reader = r; drawn = d; phase = Closed } → acts ≡ Complete 0 ∷ [] → Handles lines_row (LinesLaw state) (asks 0) (record { node = n; reader = k; drawn = d; phase = p }) new acts
-  handles_end n d p k r new acts reads same none now was e f = rw (e, f) (none_given n d p k r reads same none now was)
+  handles_end n d p k r new acts reads more same none now was e f = rw (e, f) (none_given n d p k r reads more same none now was)
 
   -- its output failed
-  failed_given : (n d : ℕ) (p : Phase) (k r : Reading S) (c : Cause) → Reads k r → (IsSome (state k.source).whole → rest_of r ≡ rest_of k)
+  failed_given : (n d : ℕ) (p : Phase) (k r : Reading S) (c : Cause) → Reads k r → KeepsRead k r → (IsSome (state k.source).whole → rest_of r ≡ rest_of k)
       → ((first : Lines S) → (state k.source).faults ≡ (state first.reader.source).faults → FailsAs state first (at n r d Closed) c)
       → Handles lines_row (LinesLaw state) (asks 0) (at n k d p) (at n r d Closed) (FailOut 0 c ∷ [])
-  failed_given n d p k r c reads same because = record {
+  failed_given n d p k r c reads more same because = record {
     obeys = record {
       allowed = λ v h w. fail_allowed (lines_row_in p) v c w;
       row = λ v h w. twice_row (lines_row_in p) Asked Shut (lines_row_in Closed) v w tt;
@@ -169,22 +180,22 @@ module _ {S : Type 0} (state : S → SourceState) where
         let u = still v law.end h law.gave_as in
         shut_law first n d p k r v took gave law reads Closed _ _ (failed c) (twice_at (lines_row_in p) Asked Shut v w) tt
         (ap (λ (gs : List (List Item)). with_item gs 0 (item.Failed c)) (gave_open _ _ gave u law.gave_is) ∙ ap (λ (h : List Item). h ∷ []) (told_failed (map text law.lines_drawn) c))
-        same
+        same more
         (because first (ends_open first (at n k d p) law.end u law.ends).1);
   }
 
   -- by a read that failed
-  pub handles_fault : (n d : ℕ) (p : Phase) (k r : Reading S) (new : Lines S) (acts : List Act) → Reads k r → (IsSome (state k.source).whole → rest_of r ≡ rest_of k) → Rose (state k.source).faults (state r.source).faults → NoEnd r.kept
+  pub handles_fault : (n d : ℕ) (p : Phase) (k r : Reading S) (new : Lines S) (acts : List Act) → Reads k r → KeepsRead k r → (IsSome (state k.source).whole → rest_of r ≡ rest_of k) → Rose (state k.source).faults (state r.source).faults → NoEnd r.kept
       → new ≡ record { node = n; reader = r; drawn = d; phase = Closed } → acts ≡ FailOut 0 (read_fault n) ∷ [] → Handles lines_row (LinesLaw state) (asks 0) (record { node = n; reader = k; drawn = d; phase = p }) new acts
-  handles_fault n d p k r new acts reads same rose none e f =
-      rw (e, f) (failed_given n d p k r (read_fault n) reads same (λ first s. by_fault refl (subst (λ (m : ℕ). Rose m (state r.source).faults) s rose) none))
+  handles_fault n d p k r new acts reads more same rose none e f =
+      rw (e, f) (failed_given n d p k r (read_fault n) reads more same (λ first s. by_fault refl (subst (λ (m : ℕ). Rose m (state r.source).faults) s rose) none))
 
   -- by a line that is too long
-  pub handles_long : (n d : ℕ) (p : Phase) (k r : Reading S) (nth : ℕ) (new : Lines S) (acts : List Act) → Reads k r → (IsSome (state k.source).whole → rest_of r ≡ rest_of k) → (state r.source).faults ≡ (state k.source).faults
+  pub handles_long : (n d : ℕ) (p : Phase) (k r : Reading S) (nth : ℕ) (new : Lines S) (acts : List Act) → Reads k r → KeepsRead k r → (IsSome (state k.source).whole → rest_of r ≡ rest_of k) → (state r.source).faults ≡ (state k.source).faults
       → (IsSome (state k.source).whole → FirstTooLong (lines (rest_of k))) → nth ≡ d + 1
       → new ≡ record { node = n; reader = r; drawn = d; phase = Closed } → acts ≡ FailOut 0 (line_too_long n nth) ∷ [] → Handles lines_row (LinesLaw state) (asks 0) (record { node = n; reader = k; drawn = d; phase = p }) new acts
-  handles_long n d p k r nth new acts reads same faults long is e f =
-      rw (e, f, is) (failed_given n d p k r (line_too_long n (d + 1)) reads same
+  handles_long n d p k r nth new acts reads more same faults long is e f =
+      rw (e, f, is) (failed_given n d p k r (line_too_long n (d + 1)) reads more same
       (λ first s. by_line refl (faults ∙ s) (λ t. let t' : IsSome (state k.source).whole = subst (λ w. IsSome w) reads.whole t in subst (λ (x : List ℕ). FirstTooLong (lines x)) (sym (same t')) (long t'))))
 
   -- ---- the run begins
@@ -204,6 +215,7 @@ module _ {S : Type 0} (state : S → SourceState) where
     given = omega arith;
     faults = omega arith;
     kept = rw none (omega arith);
+    read = omega arith;
     drew = λ told. drew_nothing (rest_of k);
     ends = (rw none (omega arith), refl);
   }

@@ -11,6 +11,7 @@ use Rattle.port_core.specs.declared.view.OutView.TheVariants.{Unasked}
 use Rattle.stage_core.specs.Histories.{AllEmpty}
 use Rattle.stage_core.specs.Handling.{Starts}
 use Rattle.wire_core.specs.Cell.{Cell, new_cell}
+use Rattle.wire_core.proofs.Marking.{new_marked}
 use Rattle.wire_core.specs.Counts.{asks}
 use Rattle.fused_net.specs.PortLists.{PortLists}
 use Rattle.fused_net.specs.declared.net.Ends.{Ends}
@@ -60,6 +61,7 @@ module _ {N : Type 0} (row : N → View → Type 0) (law : N → N → View → 
     wired = rw length-replicate wired;
     each_first = refl;
     sound = λ w h. let within : w < n = rw length-replicate at h in rw (get_or-replicate n w new_cell no_wire within) (record { joint = idle; is = refl; histories = refl; queues = refl });
+    marked = λ w h. let within : w < n = rw length-replicate at h in rw (get_or-replicate n w new_cell no_wire within) new_marked;
     below = λ k lt hk. absurd (omega arith);
     above = λ k le hk x first xi fi.
         let ins = λ (i w : ℕ) (e : slice_get (port_at ports k).ins i ≡ Some w). (wired.input_to k i w hk e).0 in
@@ -70,7 +72,7 @@ module _ {N : Type 0} (row : N → View → Type 0) (law : N → N → View → 
 
   pub start_busy : (net : Net N) (n : ℕ) (x y : N) (acts : List Act) → Starting row law fresh net n → n < length net.nodes → slice_get net.nodes n ≡ Some x → Starts row law fresh x y acts → Busy AnyRow AnyLaw (with_node net n y) n acts
   start_busy net n x y acts s h xi st =
-      with_node_busy AnyRow AnyLaw net n y acts s.wired s.each_first s.sound h
+      with_node_busy AnyRow AnyLaw net n y acts s.wired s.each_first s.sound s.marked h
       (λ first fi. let a = s.above n (omega arith) h x first xi fi in record { allowed = st.obeys.allowed (view_of net n) a.1.1.0 a.0; row_holds = tt; law_holds = tt })
       (λ k hk ne x first xi fi. record { allowed = tt; row_holds = tt; law_holds = tt })
 
@@ -93,6 +95,7 @@ module _ {N : Type 0} (row : N → View → Type 0) (law : N → N → View → 
         wired = done.wired;
         each_first = done.each_first;
         sound = done.sound;
+        marked = done.marked;
         below = λ k lt hk. elim (same_or_not k n) [
           | inl e ↦ rw e (acts_here row law acts (with_node net n y) n b here)
           | inr ne ↦ let within : k < length net.nodes = rw count at hk in
@@ -111,7 +114,7 @@ module _ {N : Type 0} (row : N → View → Type 0) (law : N → N → View → 
 
   -- all were started
   pub all_started : (net : Net N) (n : ℕ) → Starting row law fresh net n → length net.nodes ≤ n → Settled row law net
-  all_started net n s h = record { wired = s.wired; each_first = s.each_first; sound = s.sound; minded = λ k hk. s.below k (omega arith) hk }
+  all_started net n s h = record { wired = s.wired; each_first = s.each_first; sound = s.sound; marked = s.marked; minded = λ k hk. s.below k (omega arith) hk }
 
 pub new_asks : (wires : List Cell) (n : ℕ) → wires ≡ replicate n new_cell → sum_below (λ w. asks (get_or wires w no_wire).wire) (length wires) ≡ 0
 new_asks wires n is = rw is (rw length-replicate (no_asks n n (omega arith)))

@@ -8,6 +8,7 @@ use Rattle.port_core.specs.Call.{Call, starts, CallAllowed, Meets}
 use Rattle.port_core.specs.declared.view.InView.TheVariants.{Idle}
 use Rattle.port_core.specs.declared.view.OutView.TheVariants.{Unasked}
 use Rattle.port_core.specs.declared.act.Act.{Act}
+use Rattle.wire_core.specs.Marks.{IsMarked}
 use Rattle.stage_core.specs.Histories.{given_all, AllEmpty}
 use Rattle.stage_core.specs.Handling.{Handles}
 use Rattle.fused_net.specs.PortLists.{PortLists}
@@ -58,6 +59,7 @@ module _ {N : Type 0} (row : N → View → Type 0) (law : N → N → View → 
     pub wired : Wired net.ends net.ports (length net.nodes) (length net.wires)
     pub each_first : length net.firsts ≡ length net.nodes
     pub sound : (w : ℕ) → w < length net.wires → IsSound (wire_at net w).wire (holds net.queue w)
+    pub marked : (w : ℕ) → w < length net.wires → IsMarked (wire_at net w)
     pub minded : (n : ℕ) → n < length net.nodes → IsMinded net n []
 
   -- node n has these actions to do
@@ -65,6 +67,7 @@ module _ {N : Type 0} (row : N → View → Type 0) (law : N → N → View → 
     pub wired : Wired net.ends net.ports (length net.nodes) (length net.wires)
     pub each_first : length net.firsts ≡ length net.nodes
     pub sound : (w : ℕ) → w < length net.wires → IsSound (wire_at net w).wire (holds net.queue w)
+    pub marked : (w : ℕ) → w < length net.wires → IsMarked (wire_at net w)
     pub within : n < length net.nodes
     pub here : IsMinded net n acts
     pub others : (k : ℕ) → k < length net.nodes → k ≢ n → IsMinded net k []
@@ -89,6 +92,7 @@ module _ {N : Type 0} (row : N → View → Type 0) (law : N → N → View → 
     pub wired : Wired net.ends net.ports (length net.nodes) (length net.wires)
     pub each_first : length net.firsts ≡ length net.nodes
     pub sound : (w : ℕ) → w < length net.wires → IsSound (wire_at net w).wire (holds net.queue w)
+    pub marked : (w : ℕ) → w < length net.wires → IsMarked (wire_at net w)
     pub below : (k : ℕ) → k < n → k < length net.nodes → IsMinded net k []
     pub above : (k : ℕ) → n ≤ k → k < length net.nodes → (x first : N) → slice_get net.nodes k ≡ Some x → slice_get net.firsts k ≡ Some first
         → fresh x (view_of net k) × FreshLaw first x (view_of net k) (took net k) (gave net k)

@@ -129,6 +129,7 @@ module _ {S : Type 0} (state : S → SourceState) where
       allowed = λ v h w. push_allowed (lines_row_in p) v (text line) w;
       row = λ v h w. twice_row (lines_row_in p) Asked Unasked (lines_row_in p) v w (subst (lines_row_in p) h (row_at (lines_row_in p) v w));
     };
+    stands = tt;
     keeps = λ first v took gave h w law. line_law first n d p k r v took gave law x.reads _ line (still v law.end h law.gave_as) (twice_at (lines_row_in p) Asked Unasked v w) x;
   }
 
@@ -144,6 +145,7 @@ module _ {S : Type 0} (state : S → SourceState) where
       allowed = λ v h w. complete_allowed (lines_row_in p) v w;
       row = λ v h w. twice_row (lines_row_in p) Asked Shut (lines_row_in Closed) v w tt;
     };
+    stands = tt;
     keeps = λ first v took gave h w law.
         let u = still v law.end h law.gave_as in
         shut_law first n d p k r v took gave law reads Closed _ _ ended (twice_at (lines_row_in p) Asked Shut v w) tt
@@ -165,6 +167,7 @@ module _ {S : Type 0} (state : S → SourceState) where
       allowed = λ v h w. fail_allowed (lines_row_in p) v c w;
       row = λ v h w. twice_row (lines_row_in p) Asked Shut (lines_row_in Closed) v w tt;
     };
+    stands = tt;
     keeps = λ first v took gave h w law.
         let u = still v law.end h law.gave_as in
         shut_law first n d p k r v took gave law reads Closed _ _ (failed c) (twice_at (lines_row_in p) Asked Shut v w) tt
@@ -220,6 +223,7 @@ module _ {S : Type 0} (state : S → SourceState) where
       allowed = λ v h f. tt;
       row = λ v h f. open_row v.ins v.outs f.port;
     };
+    stands = tt;
     begins = λ v took gave h f t g a b. rw (f.drawn, f.phase) (begun_lists n k v.ins v.outs took gave f.kept f.port t g a b);
   }
 

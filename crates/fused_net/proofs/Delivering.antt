@@ -8,6 +8,7 @@ use Rattle.elem_core.specs.declared.item.Item.TheVariants as item
 use Rattle.port_core.specs.Ring.{holds}
 use Rattle.port_core.specs.Joint.{IsSound, Heard}
 use Rattle.port_core.specs.View.{View, IsOutOpen}
+use Rattle.port_core.specs.Asking.{AsksStand}
 use Rattle.port_core.specs.Call.{Call, CallAllowed, MayCome, seen}
 use Rattle.port_core.specs.Wire.{Delivery, nothing, ask, refusal, brought, delivery_of, after_delivery, again}
 use Rattle.port_core.specs.declared.act.Act.{Act}
@@ -24,6 +25,7 @@ use Rattle.fused_net.specs.Laws.{Wired, Minds, IsMinded, Settled, Busy, MeetsAt,
 use Rattle.fused_net.proofs.Reading.{read_same, read_at, get_there, get_set_same, get_set_other}
 use Rattle.fused_net.proofs.Nets.{sound_put, marked_put, minds_along, others_in, others_out, here_in, here_out}
 use Rattle.fused_net.proofs.Acting.{keep_at}
+use Rattle.fused_net.proofs.Asking.{told_asked}
 
 pub queued_here : (queue : List ℕ) (w : ℕ) → holds (w ∷ queue) w ≡ true
 queued_here queue w = grind (arith, common_steps, nat_tests)
@@ -109,16 +111,17 @@ module _ {N : Type 0} (row : N → View → Type 0) (law : N → N → View → 
 
   -- a node is replaced by one that minds what it knows
   pub with_node_busy : (net : Net N) (n : ℕ) (y : N) (acts : List Act) → Wired net.ends net.ports (length net.nodes) (length net.wires) → length net.firsts ≡ length net.nodes
-      → ((u : ℕ) → u < length net.wires → IsSound (wire_at net u).wire (holds net.queue u)) → ((u : ℕ) → u < length net.wires → IsMarked (wire_at net u)) → n < length net.nodes
+      → ((u : ℕ) → u < length net.wires → IsSound (wire_at net u).wire (holds net.queue u)) → ((u : ℕ) → u < length net.wires → IsMarked (wire_at net u)) → n < length net.nodes → AsksStand acts
       → ((first : N) → slice_get net.firsts n ≡ Some first → Minds row law y first (view_of net n) (took net n) (gave net n) acts)
       → ((k : ℕ) → k < length net.nodes → k ≢ n → IsMinded row law net k [])
       → Busy row law (with_node net n y) n acts
-  with_node_busy net n y acts wired each sound marked h m others = record {
+  with_node_busy net n y acts wired each sound marked h stands m others = record {
     wired = rw length-set wired;
     each_first = rw length-set each;
     sound = sound;
     marked = marked;
     within = rw length-set h;
+    stands = stands;
     here = λ x first xi fi. let same : y ≡ x = cc_some y x (sym (get_set_same net.nodes n y h) ∙ xi) in subst (λ (z : N). Minds row law z first (view_of net n) (took net n) (gave net n) acts) same (m first fi);
     others = λ k hk ne x first xi fi. let within : k < length net.nodes = rw length-set at hk in
         others k within ne x first (sym (get_set_other net.nodes n k y ne) ∙ xi) fi;
@@ -140,6 +143,7 @@ module _ {N : Type 0} (row : N → View → Type 0) (law : N → N → View → 
             (read_same got_of net.wires w (told_by nothing (wire_at net w)) (ports_at net n).ins h refl)
             (read_same sent_of net.wires w (told_by nothing (wire_at net w)) (ports_at net n).outs h refl)
             (s.minded n hn x first xi fi);
+        asked = told_asked row law net w nothing h s.asked;
       })
 
   pub handled_busy : (net : Net N) (w : ℕ) (d : Delivery) (x y : N) (acts : List Act) → Settled row law (before net w) → w < length net.wires → holds net.queue w ≡ false
@@ -157,6 +161,7 @@ module _ {N : Type 0} (row : N → View → Type 0) (law : N → N → View → 
       (sound_told net w d s h absent sound)
       (marked_told net w d s h marked)
       hn
+      handles.stands
       (λ first fi. here_told d net w y first acts n s.wired h (minds_event (call_of d (end_at net.ends w)) x y first _ _ _ acts handles may (s.minded (target d (end_at net.ends w)) hn x first xi fi)))
       (λ k hk ne. others_told d net w n s.wired h k hk ne (s.minded k hk))
 

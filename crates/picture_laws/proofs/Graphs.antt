@@ -45,6 +45,7 @@ module _ {S D : Type 0} (sources : S → SourceState) (drains : D → DrainState
     pub first : Node S D
     pub within : k < length net.nodes
     pub node_at : slice_get net.nodes k ≡ Some node
+    pub first_at : slice_get net.firsts k ≡ Some first
     pub row_holds : node_row node (view_of net k)
     pub law_holds : node_law sources drains first node (view_of net k) (took net k) (gave net k)
     pub first_of : FirstOf k n first
@@ -58,7 +59,7 @@ module _ {S D : Type 0} (sources : S → SourceState) (drains : D → DrainState
       let x = get_there net.nodes k h in
       let first = get_there net.firsts k (rw two h) in
       let minds = s.minded k h x.0 first.0 x.1 first.1 in
-      record { node = x.0; first = first.0; within = h; node_at = x.1; row_holds = minds.row_holds; law_holds = minds.law_holds; first_of = m.each_node k n first.0 e first.1 }
+      record { node = x.0; first = first.0; within = h; node_at = x.1; first_at = first.1; row_holds = minds.row_holds; law_holds = minds.law_holds; first_of = m.each_node k n first.0 e first.1 }
 
   module _ (empty : net.queue ≡ []) where
     still : (u : ℕ) → u < length net.wires → IsSound (wire_at net u).wire false

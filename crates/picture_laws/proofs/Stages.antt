@@ -94,14 +94,14 @@ module _ (m : Machine Stage Tree) (start : Run Stage Tree) where
       let u : law.in_end ≡ unended = law.took_as in
       ap (λ (e : End). ends_by m (run m start law.in_list) e) (sym u) ∙ law.keeps.1.0 ∙ ap (λ (g : List Tree). record { gave = g; state = st }) (append-nil law.out_list)
 
-law_at : (m : Machine Stage Tree) (start start' : Run Stage Tree) (h h' : Held Stage) (x x' : InView) (y y' : OutView) (t t' g g' : List Item)
+pub law_at : (m : Machine Stage Tree) (start start' : Run Stage Tree) (h h' : Held Stage) (x x' : InView) (y y' : OutView) (t t' g g' : List Item)
     → start ≡ start' → h ≡ h' → x ≡ x' → y ≡ y' → t ≡ t' → g ≡ g' → Law m start h x y t g → Law m start' h' x' y' t' g'
 law_at m start start' h h' x x' y y' t t' g g' a b c d e f law = rw (← a, ← b, ← c, ← d, ← e, ← f) law
 
-same_start : (a b : Run Stage Tree) → owing a ≡ owing b → a ≡ b
+pub same_start : (a b : Run Stage Tree) → owing a ≡ owing b → a ≡ b
 same_start a b e = cc
 
-one_same : (a b : List Item) → a ∷ [] ≡ b ∷ [] → a ≡ b
+pub one_same : (a b : List Item) → a ∷ [] ≡ b ∷ [] → a ≡ b
 one_same a b e = cc
 
 -- A linear stage that waits for its input: what it took there and what it gave, as its machine gives it, which goes on.

@@ -52,3 +52,19 @@ agrees_part o l (failed c) h = h.0
 
 pub agrees_passes : (o : Outlook) (items : List Item) (list : List Tree) (end : End) → items ≡ told list end → Agrees o list end → Passes o items
 agrees_passes o items list end is h = record { list = list; end = end; is = is; part = agrees_part o list end h }
+
+-- a history with its end is a first part of one only where both are of one list
+told_all : (l k : List Tree) (f : End) (r : List Item) → told k f ≡ told l ended ++ r → l ≡ k
+told_all [] [] f r h = refl
+told_all [] (u ∷ k) f r h = cc
+told_all (t ∷ l) [] unended r h = cc
+told_all (t ∷ l) [] ended r h = cc
+told_all (t ∷ l) [] (failed c) r h = cc
+told_all (t ∷ l) (u ∷ k) f r h =
+    let i : told k f ≡ told l ended ++ r = cc in
+    let rest : l ≡ k = told_all l k f r i in
+    let here : t ≡ u = cc in
+    cc
+
+pub told_ended : (l k : List Tree) (f : End) → IsPrefix (told l ended) (told k f) → l ≡ k
+told_ended l k f p = told_all l k f p.rest p.is

@@ -6,6 +6,7 @@ ghost use Rattle.stage_law.specs.Held.{told};
 ghost use Rattle.stream_model.specs.Graph.{Graph};
 ghost use Rattle.stream_model.specs.Node.{World};
 ghost use Rattle.stream_model.specs.Outlook.{Outlook, End, Agrees};
+ghost use Rattle.stream_picture.specs.Lawful.{IsLawful};
 ghost use Rattle.stream_picture.specs.Rests.{Rests, SinksMatch};
 ghost use Rattle.fused_net.specs.Net.{Net};
 ghost use Rattle.fused_net.specs.Laws.{Settled};
@@ -28,4 +29,11 @@ pub fn a_graph_without_events_rests<S: Source, D: Drain>()
         → Materializes g net.firsts net.ends → AllPass net outlook → Rests g w (counts_of net.wires) outlook }
     ensures sinks { (g : Graph) (w : World) (net : Net (Node S D)) (outlook : ℕ → Outlook) → Settled node_row (node_law S.state D.state) net → net.queue ≡ []
         → Materializes g net.firsts net.ends → SinksMatch g w (counts_of net.wires) outlook (ended_at net.nodes) }
+{}
+
+/// The picture of a graph that is settled is lawful: no node gave more than it may, and each asks only while it goes on and
+/// where what it was sent gives less than is wanted of it. What was sent on each wire is a first part of the list of its outlook.
+pub fn a_settled_graph_is_lawful<S: Source, D: Drain>()
+    ensures { (g : Graph) (w : World) (net : Net (Node S D)) (outlook : ℕ → Outlook) → Settled node_row (node_law S.state D.state) net
+        → Materializes g net.firsts net.ends → AllPass net outlook → IsLawful g w (counts_of net.wires) outlook }
 {}

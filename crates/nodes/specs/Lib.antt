@@ -5,3 +5,4 @@ pub mod Linear
 pub mod Writing
 pub mod Sink
 pub mod Nodes
+pub mod Ready

@@ -8,3 +8,5 @@ pub mod node;
 pub mod put;
 pub mod sink;
 pub mod source;
+#[cfg(test)]
+mod tests;

@@ -1,0 +1,114 @@
+-- What an island is made of is what its engine needs.
+use Rattle.std.proofs.Common.{◌≡◌, ℕ, zero, suc, ◌+◌, ◌^◌, ◌<◌, ◌≤◌, Bool, not, Some, None, List, [], ◌∷◌, ◌++◌, length, map, take, get_or, slice_get, replicate, refl, sym, ap, ◌∙◌, subst, arith, append_assoc, min}
+use Rattle.std.proofs.lemmas.List.{length-map}
+use Rattle.std.proofs.lemmas.Option.{slice_get_within}
+use Rattle.port_core.specs.declared.view.InView.TheVariants.{Idle}
+use Rattle.port_core.specs.declared.view.OutView.TheVariants.{Unasked}
+use Rattle.nodes.specs.Nodes.{node_fresh, node_row, node_law}
+use Rattle.nodes.specs.declared.node.Node.{Node}
+use Rattle.nodes.specs.declared.node.Node.TheVariants as node
+use Rattle.fused_net.specs.PortLists.{PortLists}
+use Rattle.fused_net.specs.declared.net.Ends.{Ends}
+use Rattle.fused_net.specs.Net.{Net, port_at}
+use Rattle.stream_io.specs.State.{SourceState, DrainState}
+use Rattle.fused_net.specs.Laws.{first_view, Wired, Settled}
+use Rattle.fused_net.specs.Costs.{all_asks}
+use Rattle.interpreter.specs.declared.parts.Link.{Link}
+use Rattle.interpreter.specs.declared.parts.Seated.{Seated}
+use Rattle.interpreter.specs.declared.parts.Work.{Work}
+use Rattle.interpreter.specs.declared.parts.Work.TheVariants.{Reading, Linear, Writing}
+use Rattle.interpreter.specs.Parts.{work_inputs, work_outputs, inputs_at, outputs_at, IsUnused, AllUnused, BecomesOf, AllBecome, AreParts, IsWiring, IsSized, ends_of}
+use Rattle.stream_model.specs.declared.outcome.WireCount.{WireCount}
+use Rattle.port_core.specs.Decoding.{is_open}
+use Rattle.wire_core.specs.Cell.{Cell}
+use Rattle.wire_core.specs.Counts.{elements}
+use Rattle.interpreter.specs.Island.{Keeps, count_of, counts_of, sinks_of, readers_of, writers_of}
+
+some_same : {A : Type 0} (x y : A) → Some x ≡ Some y → x ≡ y
+some_same x y e = cc
+
+pub same_count : {S D : Type 0} (places : List (Seated S D)) (nodes : List (Node S D)) → AllBecome places nodes → length nodes ≡ length places
+same_count [] [] h = refl
+same_count [] (x ∷ xs) h = absurd h
+same_count (s ∷ ss) [] h = absurd h
+same_count (s ∷ ss) (x ∷ xs) h = ap suc (same_count ss xs h.1)
+
+becomes_fresh : {S D : Type 0} (k : ℕ) (w : Work S D) (x : Node S D) → IsUnused w → BecomesOf k w x → node_fresh x (record { ins = replicate (work_inputs w) Idle; outs = replicate (work_outputs w) Unasked })
+becomes_fresh k (Reading r) x u b = rw b (record { phase = refl; drawn = refl; kept = u; port = refl })
+becomes_fresh k (Linear l) x u b = rw b u
+becomes_fresh k (Writing kind (Some d)) x u b = rw b (record { started = refl; end = refl; count = refl; port = refl })
+becomes_fresh k (Writing kind None) x u b = absurd u
+
+-- the node at place n
+fresh_at : {S D : Type 0} (places : List (Seated S D)) (nodes : List (Node S D)) (n : ℕ) (x : Node S D) → AllUnused places → AllBecome places nodes → slice_get nodes n ≡ Some x
+    → node_fresh x (record { ins = replicate (inputs_at places n) Idle; outs = replicate (outputs_at places n) Unasked })
+fresh_at [] [] n x u b e = absurd cc
+fresh_at [] (y ∷ ys) n x u b e = absurd b
+fresh_at (s ∷ ss) [] n x u b e = absurd b
+fresh_at (s ∷ ss) (y ∷ ys) zero x u b e = let same : y ≡ x = some_same y x e in becomes_fresh s.node s.work x u.0 (subst (λ z. BecomesOf s.node s.work z) same b.0)
+fresh_at (s ∷ ss) (y ∷ ys) (suc n) x u b e = fresh_at ss ys n x u.1 b.1 e
+
+pub all_fresh : {S D : Type 0} (places : List (Seated S D)) (nodes : List (Node S D)) (ports : List PortLists) → AllUnused places → AllBecome places nodes → IsSized places ports
+    → (n : ℕ) (x : Node S D) → slice_get nodes n ≡ Some x → node_fresh x (first_view (port_at ports n))
+all_fresh places nodes ports u b z n x e =
+    let h : n < length places = rw (sym (same_count places nodes b)) (slice_get_within nodes n x e) in
+    rw (z.ins n h, z.outs n h) (fresh_at places nodes n x u b e)
+
+pub few_ends : (links : List Link) (ends : List Ends) → ends ≡ map ends_of links → length links < 2 ^ 32 → length ends < 2 ^ 32
+few_ends links ends e h = rw e (rw length-map h)
+
+pub parts_wiring : {S D : Type 0} (places read : List (Seated S D)) (links told : List Link) (ends seen : List Ends) → AreParts places links → read ≡ places → seen ≡ ends → ends ≡ map ends_of told → told ≡ links
+    → IsWiring (inputs_at read) (outputs_at read) (length read) seen
+parts_wiring places read links told ends seen parts r e m t = rw (r, e, m, t) parts.wiring
+
+pub parts_few : {S D : Type 0} (places : List (Seated S D)) (links told : List Link) (ends : List Ends) → AreParts places links → ends ≡ map ends_of told → told ≡ links → length ends < 2 ^ 32
+parts_few places links told ends parts m t = rw (m, t) (rw length-map parts.few)
+
+pub parts_wired : {S D : Type 0} (places read : List (Seated S D)) (nodes : List (Node S D)) (ends seen : List Ends) (ports : List PortLists) → read ≡ places → seen ≡ ends → AllBecome places nodes
+    → Wired seen ports (length read) (length seen) → Wired ends ports (length nodes) (length ends)
+parts_wired places read nodes ends seen ports r e b w = let at : Wired ends ports (length places) (length ends) = rw (r, e) at w in rw (same_count places nodes b) at
+
+-- the counts of the first wires
+counts_next : (ns : List ℕ) (cs : List Cell) (i d : ℕ) (e : Cell) → i < length ns → i < length cs
+    → counts_of (take (i + 1) ns) (take (i + 1) cs) ≡ counts_of (take i ns) (take i cs) ++ (get_or ns i d, count_of (get_or cs i e)) ∷ []
+counts_next [] cs i d e h k = absurd (omega arith)
+counts_next (m ∷ ns) [] i d e h k = absurd (omega arith)
+counts_next (m ∷ ns) (c ∷ cs) zero d e h k = refl
+counts_next (m ∷ ns) (c ∷ cs) (suc i) d e h k =
+    let j : suc i + 1 ≡ suc (i + 1) = omega arith in
+    rw j (ap (λ (l : List (ℕ × WireCount)). (m, count_of c) ∷ l) (counts_next ns cs i d e (omega arith) (omega arith)))
+
+pub counts_step : (ns : List ℕ) (cs : List Cell) (i d : ℕ) (c : Cell) (old new : List (ℕ × WireCount)) (s : ℕ) (a z : Bool) → i < length ns → i < length cs → c ≡ get_or cs i c
+    → new ≡ old ++ (get_or ns i d, record { sent = s; asked = a; shut = z }) ∷ [] → old ≡ counts_of (take i ns) (take i cs)
+    → s ≡ elements c.wire.sent → a ≡ c.asked → z ≡ not (is_open c.wire.conn) → new ≡ counts_of (take (i + 1) ns) (take (i + 1) cs)
+counts_step ns cs i d c old new s a z h k at is was es ea ez =
+    rw (is, was, es, ea, ez) (ap (λ (x : Cell). counts_of (take i ns) (take i cs) ++ (get_or ns i d, count_of x) ∷ []) at ∙ sym (counts_next ns cs i d c h k))
+
+pub counts_all : (ns : List ℕ) (cs : List Cell) (n : ℕ) → n ≡ min (length ns) (length cs) → counts_of (take n ns) (take n cs) ≡ counts_of ns cs
+counts_all [] cs n e = let z : n ≡ 0 = omega arith in rw z refl
+counts_all (m ∷ ns) [] n e = let z : n ≡ 0 = omega arith in rw z refl
+counts_all (m ∷ ns) (d ∷ cs) zero e = absurd (omega arith)
+counts_all (m ∷ ns) (d ∷ cs) (suc n) e = ap (λ (l : List (ℕ × WireCount)). (m, count_of d) ∷ l) (counts_all ns cs n (omega arith))
+
+-- what the nodes that are left will add
+pub left_next : {A B : Type 0} (f : List A → List B) → ((x : A) (xs : List A) → f (x ∷ xs) ≡ f (x ∷ []) ++ f xs) → (old new : List A) (x : A) (was now all : List B) → old ≡ x ∷ new → now ≡ was ++ f (x ∷ []) → was ++ f old ≡ all → now ++ f new ≡ all
+left_next f cut old new x was now all e is h = rw is (append_assoc was (f (x ∷ [])) (f new) ∙ ap (λ (l : List _). was ++ l) (sym (cut x new)) ∙ (rw e at h))
+
+pub sinks_cut : {S D : Type 0} (x : Node S D) (xs : List (Node S D)) → sinks_of (x ∷ xs) ≡ sinks_of (x ∷ []) ++ sinks_of xs
+sinks_cut (node.Reading x) xs = refl
+sinks_cut (node.Linear x) xs = refl
+sinks_cut (node.Writing x) xs = refl
+
+pub readers_cut : {S D : Type 0} (x : Node S D) (xs : List (Node S D)) → readers_of (x ∷ xs) ≡ readers_of (x ∷ []) ++ readers_of xs
+readers_cut (node.Reading x) xs = refl
+readers_cut (node.Linear x) xs = refl
+readers_cut (node.Writing x) xs = refl
+
+pub writers_cut : {S D : Type 0} (x : Node S D) (xs : List (Node S D)) → writers_of (x ∷ xs) ≡ writers_of (x ∷ []) ++ writers_of xs
+writers_cut (node.Reading x) xs = refl
+writers_cut (node.Linear x) xs = refl
+writers_cut (node.Writing x) xs = refl
+
+-- an island that was started
+pub keeps_new : {S D : Type 0} (sources : S → SourceState) (drains : D → DrainState) (old new : Net (Node S D)) → Settled node_row (node_law sources drains) new → all_asks new ≤ all_asks old → all_asks old ≡ 0 → Keeps sources drains new 0
+keeps_new sources drains old new s h e = record { laws = s; asks = omega (arith, h, e); within = omega arith }

@@ -1,0 +1,19 @@
+-- The goals of `island::Island::finish` that the search leaves.
+use Rattle.std.proofs.Common.{◌∙◌, ap, Vec}
+use Rattle.stream_model.specs.declared.outcome.PickList.{PickList}
+use Rattle.interpreter.specs.Island.{sinks_of, readers_of, writers_of}
+use Rattle.interpreter.proofs.Tables.{len_next}
+use Rattle.interpreter.proofs.Islands.{left_next, sinks_cut, readers_cut, writers_cut}
+use Rattle.interpreter.proofs.island.Island.finish.Goals as goal
+
+pub loop-node-preserved : goal.loop-node-preserved
+loop-node-preserved g c = (
+  tt,
+  tt,
+  len_next _ _ _ _ _ c.in-Some.ensures.steps.0 c.in-Some.ensures.steps.1 c.loop-node.invariant.2,
+  left_next sinks_of sinks_cut _ _ _ _ _ _ c.in-Some.ensures.steps.0 c.in_ok-add.ensures.sinks c.loop-node.invariant.3,
+  left_next readers_of readers_cut _ _ _ _ _ _ c.in-Some.ensures.steps.0 c.in_ok-add.ensures.readers c.loop-node.invariant.4,
+  left_next writers_of writers_cut _ _ _ _ _ _ c.in-Some.ensures.steps.0 c.in_ok-add.ensures.writers c.loop-node.invariant.5,
+  c.in_ok-add.ensures.wires ∙ c.loop-node.invariant.6,
+  ap (λ (p : Vec PickList _). p.items) c.in_ok-add.ensures.picks ∙ c.loop-node.invariant.7,
+)

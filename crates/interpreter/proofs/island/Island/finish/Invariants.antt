@@ -1,0 +1,16 @@
+-- The loop of `island::Island::finish`.
+use Rattle.std.proofs.Common.{◌≡◌, ◌++◌, [], length}
+use Rattle.std.specs.Vec.Iter.{into_iter_items, into_iter_len}
+use Rattle.interpreter.specs.Island.{sinks_of, readers_of, writers_of}
+use Rattle.interpreter.proofs.island.Island.finish.Given as goal
+
+abbrev pub invariant-loop-node : goal.invariant-loop-node
+invariant-loop-node g l =
+    (goal.iterator-loop-node g).can_next l.node-iterator
+    × (goal.iterator-loop-node g).is_finite l.node-iterator
+    × (into_iter_len l.node-iterator ≡ length (into_iter_items l.node-iterator))
+    × (l.end.sinks.items ++ sinks_of (into_iter_items l.node-iterator) ≡ sinks_of l.fn.self.net.nodes)
+    × (l.end.readers.items ++ readers_of (into_iter_items l.node-iterator) ≡ readers_of l.fn.self.net.nodes)
+    × (l.end.writers.items ++ writers_of (into_iter_items l.node-iterator) ≡ writers_of l.fn.self.net.nodes)
+    × (l.end.wires ≡ l.initial.end.wires)
+    × (l.end.picks.items ≡ [])

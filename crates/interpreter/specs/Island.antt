@@ -1,0 +1,58 @@
+-- An island as its callers see it, and what it answers at its end.
+use Rattle.std.specs.Prelude.{ℕ, ◌≤◌, Bool, not, List, [], ◌∷◌}
+use Rattle.stream_io.specs.State.{SourceState, DrainState}
+use Rattle.port_core.specs.Decoding.{is_open}
+use Rattle.stream_model.specs.declared.outcome.WireCount.{WireCount}
+use Rattle.stream_model.specs.declared.outcome.EndState.{EndState}
+use Rattle.wire_core.specs.Cell.{Cell}
+use Rattle.wire_core.specs.Counts.{elements}
+use Rattle.nodes.specs.Nodes.{node_row, node_law}
+use Rattle.nodes.specs.declared.node.Node.{Node}
+use Rattle.nodes.specs.declared.node.Node.TheVariants as node
+use Rattle.fused_net.specs.Net.{Net}
+use Rattle.fused_net.specs.Laws.{Settled}
+use Rattle.fused_net.specs.Costs.{all_asks}
+
+-- its nodes and wires, the numbers of its wires in the blueprint, the units that it used, and whether a call gave up for want
+-- of memory, after which nothing is known of it
+pub record Kept (S D : Type 0) : Type 0 where
+  pub net : Net (Node S D)
+  pub numbers : List ℕ
+  pub used : ℕ
+  pub broken : Bool
+
+-- what an island keeps between two calls
+pub record Keeps {S D : Type 0} (sources : S → SourceState) (drains : D → DrainState) (net : Net (Node S D)) (used : ℕ) : Type 0 where
+  pub laws : Settled node_row (node_law sources drains) net
+  pub asks : all_asks net ≤ used
+  pub within : used ≤ 4000000000
+
+-- how a wire stands: the elements that were pushed, whether its input waits for one, and whether either end has closed it
+abbrev pub count_of : Cell → WireCount
+count_of c = record { sent = elements c.wire.sent; asked = c.asked; shut = not (is_open c.wire.conn) }
+
+-- the same of each wire, with its number
+abbrev pub counts_of : List ℕ → List Cell → List (ℕ × WireCount)
+counts_of (n ∷ ns) (c ∷ cs) = (n, count_of c) ∷ counts_of ns cs
+counts_of _ _ = []
+
+-- the sinks' ends: node, lines written, how it stands
+abbrev pub sinks_of : {S D : Type 0} → List (Node S D) → List (ℕ × ℕ × EndState)
+sinks_of [] = []
+sinks_of (node.Reading x ∷ xs) = sinks_of xs
+sinks_of (node.Linear x ∷ xs) = sinks_of xs
+sinks_of (node.Writing x ∷ xs) = (x.node, x.count, x.end) ∷ sinks_of xs
+
+-- the sources of bytes that its readers read
+abbrev pub readers_of : {S D : Type 0} → List (Node S D) → List S
+readers_of [] = []
+readers_of (node.Reading x ∷ xs) = x.reader.source ∷ readers_of xs
+readers_of (node.Linear x ∷ xs) = readers_of xs
+readers_of (node.Writing x ∷ xs) = readers_of xs
+
+-- the drains that its sinks wrote
+abbrev pub writers_of : {S D : Type 0} → List (Node S D) → List D
+writers_of [] = []
+writers_of (node.Reading x ∷ xs) = writers_of xs
+writers_of (node.Linear x ∷ xs) = writers_of xs
+writers_of (node.Writing x ∷ xs) = x.drain ∷ writers_of xs

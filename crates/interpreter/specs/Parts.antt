@@ -1,0 +1,116 @@
+-- The parts of an island: what stands at each of its places, and the links between their ports.
+use Rattle.std.specs.Prelude.{◌≡◌, ℕ, zero, suc, ◌<◌, ◌^◌, false, None, Some, List, [], ◌∷◌, map, length, slice_get, slice_set, ⊤}
+use Rattle.port_core.specs.declared.view.InView.TheVariants.{Idle}
+use Rattle.port_core.specs.declared.view.OutView.TheVariants.{Unasked}
+use Rattle.stream_model.specs.declared.kind.Kind.{Kind}
+use Rattle.stream_model.specs.declared.kind.Kind.TheVariants.{ToLines}
+use Rattle.stream_model.specs.declared.outcome.EndState.TheVariants.{Unended}
+use Rattle.stage_linear.specs.declared.phase.Phase.TheVariants.{New}
+use Rattle.nodes.specs.Linear.{LinearFresh}
+use Rattle.nodes.specs.declared.node.Node.{Node}
+use Rattle.nodes.specs.declared.node.Node.TheVariants as node
+use Rattle.fused_net.specs.declared.net.Ends.{Ends}
+use Rattle.fused_net.specs.PortLists.{PortLists}
+use Rattle.fused_net.specs.Net.{end_at, port_at}
+use Rattle.interpreter.specs.declared.parts.Link.{Link}
+use Rattle.interpreter.specs.declared.parts.Seated.{Seated}
+use Rattle.interpreter.specs.declared.parts.Work.{Work}
+use Rattle.interpreter.specs.declared.parts.Work.TheVariants.{Reading, Linear, Writing}
+
+-- the ports at the ends of a link
+abbrev pub ends_of : Link → Ends
+ends_of l = record { from = l.from; output = l.output; to = l.to; input = l.input }
+
+-- the number of the blueprint's wire that a link is
+abbrev pub number_of : Link → ℕ
+number_of l = l.wire
+
+-- how many inputs and outputs a work has
+abbrev pub work_inputs : {S D : Type 0} → Work S D → ℕ
+work_inputs (Reading r) = 0
+work_inputs (Linear l) = 1
+work_inputs (Writing k d) = 1
+
+abbrev pub work_outputs : {S D : Type 0} → Work S D → ℕ
+work_outputs (Reading r) = 1
+work_outputs (Linear l) = 1
+work_outputs (Writing k d) = 0
+
+-- the same of the work at place n
+abbrev pub inputs_at : {S D : Type 0} → List (Seated S D) → ℕ → ℕ
+inputs_at [] n = 0
+inputs_at (x ∷ xs) zero = work_inputs x.work
+inputs_at (x ∷ xs) (suc n) = inputs_at xs n
+
+abbrev pub outputs_at : {S D : Type 0} → List (Seated S D) → ℕ → ℕ
+outputs_at [] n = 0
+outputs_at (x ∷ xs) zero = work_outputs x.work
+outputs_at (x ∷ xs) (suc n) = outputs_at xs n
+
+-- the kinds of sinks that have been built
+abbrev pub IsLinesSink : Kind → Type 0
+IsLinesSink (ToLines name) = ⊤
+IsLinesSink _ = ⊥
+
+-- a work that did nothing yet: no reader has read, no logic was started, and a sink has its drain
+abbrev pub IsUnused : {S D : Type 0} → Work S D → Type 0
+IsUnused (Reading r) = r.kept ≡ []
+IsUnused (Linear l) = LinearFresh l (record { ins = Idle ∷ []; outs = Unasked ∷ [] })
+IsUnused (Writing k (Some d)) = IsLinesSink k
+IsUnused (Writing k None) = ⊥
+
+abbrev pub AllUnused : {S D : Type 0} → List (Seated S D) → Type 0
+AllUnused [] = ⊤
+AllUnused (x ∷ xs) = IsUnused x.work × AllUnused xs
+
+-- Each link stands between a port that is there and another; each port of each place is in exactly one link.
+pub record IsWiring (ins outs : ℕ → ℕ) (places : ℕ) (ends : List Ends) : Type 0 where
+  pub from_within : (w : ℕ) → w < length ends → (end_at ends w).from < places
+  pub to_within : (w : ℕ) → w < length ends → (end_at ends w).to < places
+  pub output_within : (w : ℕ) → w < length ends → (end_at ends w).output < outs (end_at ends w).from
+  pub input_within : (w : ℕ) → w < length ends → (end_at ends w).input < ins (end_at ends w).to
+  pub one_output : (v w : ℕ) → v < length ends → w < length ends → (end_at ends v).from ≡ (end_at ends w).from → (end_at ends v).output ≡ (end_at ends w).output → v ≡ w
+  pub one_input : (v w : ℕ) → v < length ends → w < length ends → (end_at ends v).to ≡ (end_at ends w).to → (end_at ends v).input ≡ (end_at ends w).input → v ≡ w
+  pub each_output : (n j : ℕ) → n < places → j < outs n → (w : ℕ) × ((w < length ends) × (((end_at ends w).from ≡ n) × ((end_at ends w).output ≡ j)))
+  pub each_input : (n i : ℕ) → n < places → i < ins n → (w : ℕ) × ((w < length ends) × (((end_at ends w).to ≡ n) × ((end_at ends w).input ≡ i)))
+
+-- What an island is made of: works that did nothing yet, and links that join all their ports.
+pub record AreParts {S D : Type 0} (places : List (Seated S D)) (links : List Link) : Type 0 where
+  pub unused : AllUnused places
+  pub wiring : IsWiring (inputs_at places) (outputs_at places) (length places) (map ends_of links)
+  pub few : length links < 2 ^ 32
+
+-- the node of a work, with its number
+abbrev pub BecomesOf : {S D : Type 0} → ℕ → Work S D → Node S D → Type 0
+BecomesOf k (Reading r) x = x ≡ node.Reading (record { node = k; reader = r; drawn = 0; phase = New })
+BecomesOf k (Linear l) x = x ≡ node.Linear l
+BecomesOf k (Writing kind (Some d)) x = x ≡ node.Writing (record { node = k; drain = d; count = 0; started = false; end = Unended })
+BecomesOf k (Writing kind None) x = ⊥
+
+-- the node that stands at a place
+abbrev pub Becomes : {S D : Type 0} → Seated S D → Node S D → Type 0
+Becomes s x = BecomesOf s.node s.work x
+
+abbrev pub AllBecome : {S D : Type 0} → List (Seated S D) → List (Node S D) → Type 0
+AllBecome [] [] = ⊤
+AllBecome (s ∷ ss) (x ∷ xs) = Becomes s x × AllBecome ss xs
+AllBecome _ _ = ⊥
+
+-- the tables of the wires at the ports of each place have a row for each port
+pub record IsSized {S D : Type 0} (places : List (Seated S D)) (ports : List PortLists) : Type 0 where
+  pub count : length ports ≡ length places
+  pub ins : (n : ℕ) → n < length places → length (port_at ports n).ins ≡ inputs_at places n
+  pub outs : (n : ℕ) → n < length places → length (port_at ports n).outs ≡ outputs_at places n
+
+-- the first k links stand in the tables
+pub record IsFilled (ends : List Ends) (ports : List PortLists) (k : ℕ) : Type 0 where
+  pub outs : (w : ℕ) → w < k → slice_get (port_at ports (end_at ends w).from).outs (end_at ends w).output ≡ Some w
+  pub ins : (w : ℕ) → w < k → slice_get (port_at ports (end_at ends w).to).ins (end_at ends w).input ≡ Some w
+
+-- the tables once wire w stands at these ends
+abbrev pub written : List PortLists → Ends → ℕ → List PortLists
+written ports e w =
+    let out = port_at ports e.from in
+    let once = slice_set ports e.from (record out { outs = slice_set out.outs e.output w }) in
+    let in_ = port_at once e.to in
+    slice_set once e.to (record in_ { ins = slice_set in_.ins e.input w })

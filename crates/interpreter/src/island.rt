@@ -1,0 +1,205 @@
+// An island of nodes that runs event by event.
+ghost use Rattle.std.specs.Prelude.{◌≡◌, ◌+◌, ◌<◌, ◌≤◌, ◌↔◌, ◌∷◌, ◌++◌, [], false, IsTrue, IfOk, OnOk, map};
+ghost use Rattle.fused_net.specs.Laws.{Starting, GoesOn};
+ghost use Rattle.fused_net.specs.Costs.{all_asks, Uses};
+ghost use Rattle.nodes.specs.Nodes.{node_fresh, node_row, node_law};
+ghost use Rattle.interpreter.specs.Parts.{AreParts, AllBecome, ends_of, number_of};
+ghost use Rattle.interpreter.specs.Island.{Keeps, counts_of, sinks_of, readers_of, writers_of};
+
+use crate::parts::{Parts, all_ends, all_numbers, join, seat_all};
+use elem_core::why::NoMemory;
+use fused_net::engine::Engine;
+use nodes::node::{Node, NodeEnd};
+use port_core::acts::Acts;
+use stage_core::stage::MOST_ACTS;
+use std::alloc::Global;
+use std::cmp::min;
+use std::marker::Model;
+use stream_io::outside::{Drain, Source};
+use stream_model::outcome::{EndState, PickList, WireCount};
+use wire_core::wire::Wire;
+
+/// The nodes and wires of one island, and the wires that have an event. After `NoMemory` it is only dropped or taken apart.
+/// Rule: Akka Streams 2.6 reference.
+#[derive(Drop)]
+pub struct Island<S: Source, D: Drain> {
+    engine: Engine<Node<S, D>>,
+    acts: Acts,
+    numbers: Vec<u32>,
+    used: u32,
+    broken: bool,
+}
+
+impl<S: Source, D: Drain> Model for Island<S, D> {
+    ghost use Rattle.std.specs.Prelude.{◌≡◌, ◌≤◌, [], false};
+    ghost use Rattle.stage_core.specs.Handling.{most_acts};
+    ghost use Rattle.interpreter.specs.Island.{Kept, Keeps};
+    ghost use Rattle.std.specs.Coded.{codes};
+    ghost use Rattle.elem_core.specs.TreeCode.{tree_coded};
+
+    ghost Value = { Kept S D };
+
+    ghost coded = { Prim.hlevel (codes, tree_coded) };
+
+    ghost view = { λ i. record { net = i.engine; numbers = i.numbers.items; used = i.used; broken = i.broken } };
+
+    ghost invariant = { λ i. i.broken ≡ false → Keeps S.state D.state i.engine i.used × (i.acts.items ≡ []) × (most_acts ≤ i.acts.room) };
+}
+
+/// What an island leaves at its end, each list in order of its nodes or wires.
+#[derive(Drop)]
+pub struct IslandEnd<S: Source, D: Drain> {
+    /// Of each sink its node, the lines that it wrote, and how it stands.
+    pub sinks: Vec<(u32, u64, EndState)>,
+    /// Of each wire its number in the blueprint, and what it carried.
+    pub wires: Vec<(u32, WireCount)>,
+    /// The moves of each stage that chooses.
+    pub picks: Vec<PickList>,
+    /// The sources of bytes of its readers.
+    pub readers: Vec<S>,
+    /// The drains of its sinks.
+    pub writers: Vec<D>,
+}
+
+impl<S: Source, D: Drain> Island<S, D> {
+    /// Makes the island of these parts and starts every node.
+    pub fn start(alloc: Global, parts: Parts<S, D>) -> Result<Island<S, D>, NoMemory>
+        requires { AreParts parts.nodes.items parts.links.items }
+        ensures whole { IfOk result (λ i. i.broken ≡ false) }
+        ensures unused { IfOk result (λ i. i.used ≡ 0) }
+        ensures laws { IfOk result (λ i. Keeps S.state D.state i.net 0) }
+        ensures firsts { IfOk result (λ i. AllBecome parts.nodes.items i.net.firsts) }
+        ensures ends { IfOk result (λ i. i.net.ends ≡ map ends_of parts.links.items) }
+        ensures numbers { IfOk result (λ i. i.numbers ≡ map number_of parts.links.items) }
+    {
+        let mut acts = Acts::new(alloc, MOST_ACTS)?;
+        let numbers = all_numbers(alloc, &parts.links)?;
+        let mut engine = assemble(alloc, parts)?;
+        engine.start(alloc, &mut acts)?;
+        Ok(Island {
+            engine,
+            acts,
+            numbers,
+            used: 0,
+            broken: false,
+        })
+    }
+
+    /// Handles at most `limit` events, one unit each, and fewer only where none is left. It answers how many.
+    pub fn execute(&mut self, alloc: Global, limit: u32) -> Result<u32, NoMemory>
+        requires whole { self.old.broken ≡ false }
+        requires few { self.old.used + limit ≤ 4000000000 }
+        ensures whole { OnOk result (self.new.broken ≡ false) }
+        ensures on { OnOk result (GoesOn self.old.net self.new.net) }
+        ensures numbers { OnOk result (self.new.numbers ≡ self.old.numbers) }
+        ensures used { IfOk result (λ used. self.new.used ≡ self.old.used + used) }
+        ensures uses { IfOk result (λ used. Uses self.old.net self.new.net used) }
+        ensures within { IfOk result (λ used. used ≤ limit) }
+        ensures rest { IfOk result (λ used. used < limit → self.new.net.queue ≡ []) }
+    {
+        self.broken = true;
+        let used = self.engine.execute(alloc, limit, &mut self.acts)?;
+        self.used += used;
+        self.broken = false;
+        Ok(used)
+    }
+
+    /// What it keeps between two calls: the law of each node over the histories of its wires, the joint state of each wire,
+    /// and the units that it used, which bound the elements that were pushed. The call does nothing.
+    pub fn laws(&self)
+        ensures { self.now.broken ≡ false → Keeps S.state D.state self.now.net self.now.used }
+    {
+        let _ = &self.broken;
+    }
+
+    /// Whether no event is left. It takes no memory.
+    pub fn at_rest(&self) -> bool
+        ensures { IsTrue result ↔ (self.now.net.queue ≡ []) }
+    {
+        self.engine.is_at_rest()
+    }
+
+    /// Takes it apart: how its sinks ended, what its wires carried, and its handles.
+    pub fn finish(self, alloc: Global) -> Result<IslandEnd<S, D>, NoMemory>
+        ensures sinks { IfOk result (λ e. e.sinks.items ≡ sinks_of self.net.nodes) }
+        ensures wires { IfOk result (λ e. e.wires.items ≡ counts_of self.numbers self.net.wires) }
+        ensures picks { IfOk result (λ e. e.picks.items ≡ []) }
+        ensures readers { IfOk result (λ e. e.readers.items ≡ readers_of self.net.nodes) }
+        ensures writers { IfOk result (λ e. e.writers.items ≡ writers_of self.net.nodes) }
+    {
+        let (nodes, wires) = self.engine.into_parts();
+        let wires = count_wires(alloc, &self.numbers, &wires)?;
+        let mut end = IslandEnd {
+            sinks: Vec::new(alloc),
+            wires,
+            picks: Vec::new(alloc),
+            readers: Vec::new(alloc),
+            writers: Vec::new(alloc),
+        };
+        for node in nodes {
+            end.add(node)?;
+        }
+        Ok(end)
+    }
+}
+
+// The engine of these parts, of which no node was started.
+fn assemble<S: Source, D: Drain>(
+    alloc: Global,
+    parts: Parts<S, D>,
+) -> Result<Engine<Node<S, D>>, NoMemory>
+    requires { AreParts parts.nodes.items parts.links.items }
+    ensures starting { IfOk result (λ e. Starting node_row (node_law S.state D.state) node_fresh e 0) }
+    ensures firsts { IfOk result (λ e. AllBecome parts.nodes.items e.firsts) }
+    ensures ends { IfOk result (λ e. e.ends ≡ map ends_of parts.links.items) }
+    ensures asks { IfOk result (λ e. all_asks e ≡ 0) }
+{
+    let ends = all_ends(alloc, &parts.links)?;
+    let ports = join(alloc, &parts.nodes, &ends)?;
+    let nodes = seat_all(alloc, parts.nodes)?;
+    let engine = Engine::new(alloc, nodes, ends, ports)?;
+    Ok(engine)
+}
+
+// What each wire carried, with its number.
+fn count_wires(
+    alloc: Global,
+    numbers: &[u32],
+    wires: &[Wire],
+) -> Result<Vec<(u32, WireCount)>, NoMemory>
+    ensures { IfOk result (λ counts. counts.items ≡ counts_of numbers.now wires.now) }
+{
+    let mut counts = Vec::new(alloc);
+    let count = min(numbers.len(), wires.len());
+    for i in 0..count {
+        let wire = &wires[i];
+        let carried = WireCount {
+            sent: wire.pushed(),
+            asked: wire.is_asked(),
+            shut: wire.is_closed(),
+        };
+        counts.push((numbers[i], carried))?;
+    }
+    Ok(counts)
+}
+
+impl<S: Source, D: Drain> IslandEnd<S, D> {
+    // What a node leaves.
+    fn add(&mut self, node: Node<S, D>) -> Result<(), NoMemory>
+        ensures sinks { OnOk result (self.new.sinks.items ≡ self.old.sinks.items ++ sinks_of (node ∷ [])) }
+        ensures readers { OnOk result (self.new.readers.items ≡ self.old.readers.items ++ readers_of (node ∷ [])) }
+        ensures writers { OnOk result (self.new.writers.items ≡ self.old.writers.items ++ writers_of (node ∷ [])) }
+        ensures wires { OnOk result (self.new.wires ≡ self.old.wires) }
+        ensures picks { OnOk result (self.new.picks ≡ self.old.picks) }
+    {
+        match node.close() {
+            NodeEnd::Read(source) => self.readers.push(source)?,
+            NodeEnd::Staged => {}
+            NodeEnd::Wrote(sink) => {
+                self.sinks.push((sink.node, sink.count, sink.end))?;
+                self.writers.push(sink.drain)?;
+            }
+        }
+        Ok(())
+    }
+}

@@ -1,0 +1,13 @@
+pub mod Histories
+pub mod Inputs
+pub mod Readings
+pub mod Stages
+pub mod Writings
+pub mod AnyKind
+pub mod AgreeingWires
+pub mod Counting
+pub mod Passing
+pub mod Sinks
+pub mod AgreeingSinks
+pub mod ReadingAhead
+pub mod AgreeingSources

@@ -1,0 +1,8 @@
+use Rattle.run_laws.proofs.AgreeingSources.{source_there, every_source}
+use Rattle.run_laws.proofs.laws.every_source_reads_little_ahead.Goals as goal
+
+pub returns : goal.returns
+returns g c = record {
+  there = λ graph net settled made. source_there g.S.Source.state g.D.Drain.state graph net settled made;
+  reads = λ graph net settled made. every_source g.S.Source.state g.D.Drain.state graph net settled made;
+}

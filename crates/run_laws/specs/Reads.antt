@@ -1,0 +1,35 @@
+-- What a source of lines read of its file, by what was sent on its wire.
+use Rattle.std.specs.Prelude.{◌≡◌, ℕ, ◌+◌, ◌≤◌, ◌⊎◌, List, ◌++◌, map, length, Some, slice_get}
+use Rattle.elem_core.specs.Text.{lines}
+use Rattle.elem_core.specs.Tree.{text}
+use Rattle.elem_core.specs.declared.item.Item.{Item}
+use Rattle.stream_model.specs.Outlook.{End}
+use Rattle.stream_io.specs.Counts.{Rose}
+use Rattle.stream_io.specs.State.{SourceState}
+use Rattle.stream_io.specs.Reading.{FirstTooLong}
+use Rattle.stage_law.specs.Held.{told}
+use Rattle.fused_net.specs.Net.{Net}
+use Rattle.nodes.specs.declared.node.Node.{Node}
+use Rattle.nodes.specs.declared.node.Node.TheVariants.{Reading}
+use Rattle.nodes.specs.Drawing.{ended_lines}
+use Rattle.nodes.specs.Source.{Lines}
+
+-- a source of lines is node k, as it was handed in and now
+pub record IsSourceAt {S D : Type 0} (net : Net (Node S D)) (k : ℕ) (first now : Lines S) : Type 0 where
+  pub at_first : slice_get net.firsts k ≡ Some (Reading first)
+  pub at_last : slice_get net.nodes k ≡ Some (Reading now)
+
+-- of that many bytes of lines, no more was read than one piece; or than one longest line and its LF besides, where a read
+-- failed or the next line is too long
+abbrev pub ReadsAhead : SourceState → SourceState → List (List ℕ) → ℕ → Type 0
+ReadsAhead first now later drawn =
+    (now.given ≤ drawn + 4096) ⊎ ((Rose first.faults now.faults ⊎ FirstTooLong later) × (now.given ≤ drawn + (4096 + 65537)))
+
+-- the first lines of the file were sent, each as one element, and little more than those was read
+pub record SentLines (bytes : List ℕ) (first now : SourceState) (sent : List Item) : Type 0 where
+  pub drawn : List (List ℕ)
+  pub later : List (List ℕ)
+  pub end : End
+  pub lines_are : lines bytes ≡ drawn ++ later
+  pub sent_is : sent ≡ told (map text drawn) end
+  pub ahead : ReadsAhead first now later (length (ended_lines drawn))

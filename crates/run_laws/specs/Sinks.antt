@@ -1,0 +1,53 @@
+-- What a sink of lines tells of its outlook: by how it stands, what it took, and the bytes of its file, which was empty at first.
+use Rattle.std.specs.Prelude.{◌≡◌, ℕ, ◌+◌, ◌≤◌, List, [], ◌∷◌, Some, slice_get}
+use Rattle.elem_core.specs.Prefix.{IsPrefix}
+use Rattle.elem_core.specs.Text.{text_lines}
+use Rattle.elem_core.specs.Tree.{Tree}
+use Rattle.elem_core.specs.declared.item.Item.{Item}
+use Rattle.stream_model.specs.Outlook.{Outlook, End, unended, ended, failed, Agrees}
+use Rattle.stream_model.specs.declared.outcome.EndState.{EndState}
+use Rattle.stream_model.specs.declared.outcome.EndState.TheVariants.{Ended, Failed, Unended, WriteFault}
+use Rattle.stage_law.specs.Held.{told}
+use Rattle.fused_net.specs.Net.{Net}
+use Rattle.nodes.specs.declared.node.Node.{Node}
+use Rattle.nodes.specs.declared.node.Node.TheVariants.{Writing}
+use Rattle.nodes.specs.Sink.{Sink}
+
+-- how its input stands; one that a failed write made cancel its input saw no end
+abbrev pub end_seen : EndState → End
+end_seen Ended = ended
+end_seen (Failed c) = failed c
+end_seen Unended = unended
+end_seen WriteFault = unended
+
+-- it took a list that may pass and stand as its input does
+pub record TookList (o : Outlook) (e : EndState) (took : List (List Item)) : Type 0 where
+  pub list : List Tree
+  pub is : took ≡ told list (end_seen e) ∷ []
+  pub agrees : Agrees o list (end_seen e)
+
+-- the bytes are the text of a list that may pass and stand so
+pub record HoldsText (o : Outlook) (e : End) (bytes : List ℕ) : Type 0 where
+  pub list : List Tree
+  pub agrees : Agrees o list e
+  pub is : bytes ≡ text_lines list
+
+-- It ended or failed as it may, or it may go on; a write that failed left a first part of the text of all that may pass.
+abbrev pub SinkTells : Outlook → EndState → List ℕ → Type 0
+SinkTells o Ended bytes = HoldsText o ended bytes
+SinkTells o (Failed c) bytes = HoldsText o (failed c) bytes
+SinkTells o Unended bytes = HoldsText o unended bytes
+SinkTells o WriteFault bytes = IsPrefix bytes (text_lines o.list)
+
+-- So many elements were sent to a sink that wrote `count` lines: as many where its input's end came, and one more at most
+-- while it waits; one more at least where a write failed, since that element was not written whole.
+abbrev pub SentTo : EndState → ℕ → ℕ → Type 0
+SentTo Ended sent count = sent ≡ count
+SentTo (Failed c) sent count = sent ≡ count
+SentTo Unended sent count = (count ≤ sent) × (sent ≤ count + 1)
+SentTo WriteFault sent count = count + 1 ≤ sent
+
+-- a sink of lines is node k, as it was handed in and now
+pub record IsSinkAt {S D : Type 0} (net : Net (Node S D)) (k : ℕ) (first now : Sink D) : Type 0 where
+  pub at_first : slice_get net.firsts k ≡ Some (Writing first)
+  pub at_last : slice_get net.nodes k ≡ Some (Writing now)

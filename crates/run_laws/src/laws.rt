@@ -1,0 +1,71 @@
+// Laws of a run: each function has no body, and its contract is the law. They speak of the net of an island between two
+// events, at any moment from its start to its end.
+ghost use Rattle.std.specs.Prelude.{◌≡◌, ◌<◌, ◌≤◌, ℕ, List, [], length, Some, slice_get};
+ghost use Rattle.wire_core.specs.Counts.{elements};
+ghost use Rattle.stream_model.specs.Composed.{composed, sink_outlook, IsRanked};
+ghost use Rattle.stream_model.specs.Graph as graph;
+ghost use Rattle.stream_model.specs.Graph.{Graph, Wire};
+ghost use Rattle.stream_model.specs.Node.{World};
+ghost use Rattle.stream_model.specs.Sources.{whole_lines};
+ghost use Rattle.stream_model.specs.declared.kind.Kind.TheVariants as kind;
+ghost use Rattle.stream_model.specs.declared.outcome.EndState.TheVariants.{Unended};
+ghost use Rattle.fused_net.specs.Laws.{Settled};
+ghost use Rattle.fused_net.specs.Net.{Net, wire_at, took};
+ghost use Rattle.nodes.specs.Nodes.{node_row, node_law};
+ghost use Rattle.nodes.specs.Sink.{Sink};
+ghost use Rattle.nodes.specs.Source.{Lines};
+ghost use Rattle.nodes.specs.declared.node.Node.{Node};
+ghost use Rattle.run_laws.specs.Agreeing.{AgreesWith};
+ghost use Rattle.run_laws.specs.Made.{Materializes};
+ghost use Rattle.run_laws.specs.Reads.{IsSourceAt, SentLines};
+ghost use Rattle.run_laws.specs.Sinks.{TookList, SinkTells, SentTo, IsSinkAt};
+ghost use Rattle.run_laws.specs.Telling.{Tells};
+
+use stream_io::outside::{Drain, Source};
+
+/// What was sent on each wire, its elements and its end, agrees with the composed outlook of that wire, over the input files
+/// as the world tells them.
+pub fn every_wire_agrees<S: Source, D: Drain>()
+    ensures { (g : Graph) (w : World) (rank : ℕ → ℕ) (net : Net (Node S D)) → Settled node_row (node_law S.state D.state) net → Materializes S.state g net.firsts net.ends → Tells S.state g w net → IsRanked g rank
+        → (i : ℕ) → i < length g.wires → AgreesWith (composed g w i) (wire_at net i).wire.sent }
+{}
+
+/// A node of the kind of a sink of lines is one (`there`). What it took, and how it stands, agrees with its outlook (`took`);
+/// and where its file was empty at first and tells what it holds, so do the bytes of its file (`tells`): where it ended they
+/// are exactly the text of all that its outlook gives, where it failed the text of a list that the outlook lets fail so, and
+/// else a first part of that text.
+pub fn every_sink_agrees<S: Source, D: Drain>()
+    ensures there { (g : Graph) (net : Net (Node S D)) → Settled node_row (node_law S.state D.state) net → Materializes S.state g net.firsts net.ends
+        → (k : ℕ) (n : graph.Node) (name : List ℕ) → slice_get g.nodes k ≡ Some n → n.kind ≡ kind.ToLines name → (first : Sink D) × ((now : Sink D) × IsSinkAt net k first now) }
+    ensures took { (g : Graph) (w : World) (rank : ℕ → ℕ) (net : Net (Node S D)) → Settled node_row (node_law S.state D.state) net → Materializes S.state g net.firsts net.ends → Tells S.state g w net → IsRanked g rank
+        → (k : ℕ) (n : graph.Node) (first now : Sink D) → slice_get g.nodes k ≡ Some n → IsSinkAt net k first now → TookList (sink_outlook g w k n) now.end (took net k) }
+    ensures tells { (g : Graph) (w : World) (rank : ℕ → ℕ) (net : Net (Node S D)) → Settled node_row (node_law S.state D.state) net → Materializes S.state g net.firsts net.ends → Tells S.state g w net → IsRanked g rank
+        → (k : ℕ) (n : graph.Node) (first now : Sink D) (written : List ℕ) → slice_get g.nodes k ≡ Some n → IsSinkAt net k first now
+        → (D.state first.drain).holds ≡ Some [] → (D.state now.drain).holds ≡ Some written → SinkTells (sink_outlook g w k n) now.end written }
+{}
+
+/// A sink has written as many whole lines as it counts, where its file was empty at first (`lines`). As many elements were
+/// sent on its wire where its input's end came, and one more at most while it waits (`sent`); none more where no event is
+/// left (`rest`).
+pub fn every_sink_counts_its_lines<S: Source, D: Drain>()
+    ensures lines { (g : Graph) (net : Net (Node S D)) → Settled node_row (node_law S.state D.state) net → Materializes S.state g net.firsts net.ends
+        → (k : ℕ) (n : graph.Node) (first now : Sink D) (written : List ℕ) → slice_get g.nodes k ≡ Some n → IsSinkAt net k first now
+        → (D.state first.drain).holds ≡ Some [] → (D.state now.drain).holds ≡ Some written → whole_lines (length written) written ≡ now.count }
+    ensures sent { (g : Graph) (net : Net (Node S D)) → Settled node_row (node_law S.state D.state) net → Materializes S.state g net.firsts net.ends
+        → (k : ℕ) (n : graph.Node) (first now : Sink D) (u : ℕ) (v : Wire) → slice_get g.nodes k ≡ Some n → IsSinkAt net k first now → slice_get g.wires u ≡ Some v → v.to ≡ k
+        → SentTo now.end (elements (wire_at net u).wire.sent) now.count }
+    ensures rest { (g : Graph) (net : Net (Node S D)) → Settled node_row (node_law S.state D.state) net → Materializes S.state g net.firsts net.ends
+        → (k : ℕ) (n : graph.Node) (first now : Sink D) (u : ℕ) (v : Wire) → slice_get g.nodes k ≡ Some n → IsSinkAt net k first now → slice_get g.wires u ≡ Some v → v.to ≡ k
+        → net.queue ≡ [] → now.end ≡ Unended → elements (wire_at net u).wire.sent ≡ now.count }
+{}
+
+/// A node of the kind of a source of lines is one (`there`). The elements that it sent are the first lines of its file, and
+/// of the file little more was handed out than those (`reads`). This is said where no more was handed out than the file has.
+pub fn every_source_reads_little_ahead<S: Source, D: Drain>()
+    ensures there { (g : Graph) (net : Net (Node S D)) → Settled node_row (node_law S.state D.state) net → Materializes S.state g net.firsts net.ends
+        → (k : ℕ) (n : graph.Node) (name : List ℕ) → slice_get g.nodes k ≡ Some n → n.kind ≡ kind.Lines name → (first : Lines S) × ((now : Lines S) × IsSourceAt net k first now) }
+    ensures reads { (g : Graph) (net : Net (Node S D)) → Settled node_row (node_law S.state D.state) net → Materializes S.state g net.firsts net.ends
+        → (k : ℕ) (n : graph.Node) (first now : Lines S) (u : ℕ) (v : Wire) (bytes : List ℕ) → slice_get g.nodes k ≡ Some n → IsSourceAt net k first now → slice_get g.wires u ≡ Some v → v.from ≡ k
+        → (S.state first.reader.source).whole ≡ Some bytes → (S.state now.reader.source).given ≤ length bytes
+        → SentLines bytes (S.state first.reader.source) (S.state now.reader.source) (wire_at net u).wire.sent }
+{}

@@ -92,6 +92,7 @@ handles_linear kept call old new acts o t = record {
     allowed = λ v h r. o.allowed v h r.row;
     row = λ v h r. record { started = t.started; row = o.row v h r.row };
   };
+  stands = t.stands;
   keeps = λ first v took gave h r law. law_after kept call first old new v acts took gave r.row h (o.allowed v h r.row) t law;
 }
 
@@ -150,6 +151,7 @@ starts_linear begun kept old new acts o t = record {
     allowed = λ v h f. o.allowed v h f.row;
     row = λ v h f. record { started = t.started; row = o.row v h f.row };
   };
+  stands = t.stands;
   begins = λ v took gave h f a b m n.
       law_after kept starts old old new v acts took gave f.row h (o.allowed v h f.row) t (begun_lists begun old v.ins v.outs took gave f.phase f.row a b m n);
 }

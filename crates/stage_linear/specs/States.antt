@@ -14,6 +14,7 @@ use Rattle.port_core.specs.declared.view.OutView.TheVariants.{Unasked, Asked}
 use Rattle.port_core.specs.declared.act.Act.{Act}
 use Rattle.port_core.specs.declared.act.Act.TheVariants.{Pull, FailOut, Cancel}
 use Rattle.port_core.specs.View.{View, OneOne}
+use Rattle.port_core.specs.Asking.{AsksStand}
 use Rattle.port_core.specs.Call.{Call, given_on}
 use Rattle.stage_law.specs.Held.{Held, owing, shut}
 use Rattle.stage_law.specs.Row.{BothClosed}
@@ -52,10 +53,12 @@ row_in _ w _ _ = ⊥
 abbrev pub row : Logic → View → Type 0
 row l v = OneOne (row_in l.phase l.stage.work) v
 
--- one step of its machine, which stays the same, by any book of plugs, since it asks none; and it was started
+-- one step of its machine, which stays the same, by any book of plugs, since it asks none; no action cancels an input that
+-- an earlier one asked; and it was started
 pub record Turned (call : Call) (old : Logic) (acts : List Act) (new : Logic) : Type 0 where
   pub turn : (book : Book) → TurnAt (linear book old.stage.work) 0 call (held old) (given_on 0 acts) (held new)
   pub same : (book : Book) → linear book new.stage.work ≡ linear book old.stage.work
+  pub stands : AsksStand acts
   pub started : new.phase ≢ New
 
 -- the kinds that these stages are

@@ -1,0 +1,47 @@
+-- Of which blueprint a net of nodes was made: a node for each of its nodes, as it is handed in, and a wire for each of its wires.
+use Rattle.std.specs.Prelude.{◌≡◌, ℕ, List, length, slice_get, Some, None}
+use Rattle.stream_model.specs.declared.kind.Kind.{Kind}
+use Rattle.stream_model.specs.declared.kind.Kind.TheVariants as kind
+use Rattle.stream_model.specs.Graph.{Graph, Wire}
+use Rattle.stream_model.specs.Graph as graph
+use Rattle.stage_linear.specs.States.{Logic, IsLinear, Begins}
+use Rattle.fused_net.specs.declared.net.Ends.{Ends}
+use Rattle.fused_net.specs.Net.{end_at}
+use Rattle.nodes.specs.declared.node.Node.{Node}
+use Rattle.nodes.specs.declared.node.Node.TheVariants.{Reading, Linear, Writing}
+
+-- a source of the lines of a file
+pub record FirstReading (shape : Kind) : Type 0 where
+  pub name : List ℕ
+  pub kind_is : shape ≡ kind.Lines name
+
+-- a linear stage at its start
+pub record FirstLinear (k : ℕ) (n : graph.Node) (x : Logic) : Type 0 where
+  pub is_linear : IsLinear n.kind
+  pub begins : Begins k n.kind n.decider x
+
+-- a sink of lines
+pub record FirstWriting (shape : Kind) : Type 0 where
+  pub name : List ℕ
+  pub kind_is : shape ≡ kind.ToLines name
+
+-- node k of the blueprint, as it is handed in
+abbrev pub FirstOf : {S D : Type 0} → ℕ → graph.Node → Node S D → Type 0
+FirstOf k n (Reading x) = FirstReading n.kind
+FirstOf k n (Linear x) = FirstLinear k n x
+FirstOf k n (Writing x) = FirstWriting n.kind
+
+-- a wire between the same ports, which is no lane
+pub record IsFused (v : Wire) (e : Ends) : Type 0 where
+  pub from : e.from ≡ v.from
+  pub output : e.output ≡ v.output
+  pub to : e.to ≡ v.to
+  pub input : e.input ≡ v.input
+  pub no_lane : v.lane ≡ None
+
+-- the nodes, as they are handed in, and the wires' ends are those of the blueprint, each at its place
+pub record Materializes {S D : Type 0} (g : Graph) (firsts : List (Node S D)) (ends : List Ends) : Type 0 where
+  pub nodes : length firsts ≡ length g.nodes
+  pub wires : length ends ≡ length g.wires
+  pub each_node : (k : ℕ) (n : graph.Node) (x : Node S D) → slice_get g.nodes k ≡ Some n → slice_get firsts k ≡ Some x → FirstOf k n x
+  pub each_wire : (i : ℕ) (v : Wire) → slice_get g.wires i ≡ Some v → IsFused v (end_at ends i)

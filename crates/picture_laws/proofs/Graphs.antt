@@ -29,13 +29,13 @@ use Rattle.nodes.specs.declared.node.Node.TheVariants.{Reading, Linear, Writing}
 use Rattle.nodes.specs.Nodes.{node_row, node_law}
 use Rattle.nodes.specs.Source.{lines_row_in}
 use Rattle.nodes.specs.Sink.{sink_row_in}
-use Rattle.picture_laws.specs.Made.{FirstOf, Materializes}
+use Rattle.run_laws.specs.Made.{FirstOf, Materializes}
 use Rattle.picture_laws.specs.Picture.{counts_of, AllPass, has_ended, sink_ended, ended_at}
 use Rattle.picture_laws.proofs.Places.{one_each, OneInput, one_input, OneOutput, one_output, Joined, input_at, output_at}
 use Rattle.picture_laws.proofs.Stages.{lines_ports, linear_ports, sink_ports}
 use Rattle.picture_laws.proofs.RestRows.{RestsKind, linear_kind, linear_rests, lines_rests, sink_rests}
 
-module _ {S D : Type 0} (sources : S → SourceState) (drains : D → DrainState) (g : Graph) (net : Net (Node S D)) (s : Settled node_row (node_law sources drains) net) (m : Materializes g net.firsts net.ends) where
+module _ {S D : Type 0} (sources : S → SourceState) (drains : D → DrainState) (g : Graph) (net : Net (Node S D)) (s : Settled node_row (node_law sources drains) net) (m : Materializes sources g net.firsts net.ends) where
   pub joined : Joined g net.ends net.ports (length net.nodes) net.wires
   joined = record { wired = s.wired; wires = m.wires; each_wire = m.each_wire }
 
@@ -48,7 +48,7 @@ module _ {S D : Type 0} (sources : S → SourceState) (drains : D → DrainState
     pub first_at : slice_get net.firsts k ≡ Some first
     pub row_holds : node_row node (view_of net k)
     pub law_holds : node_law sources drains first node (view_of net k) (took net k) (gave net k)
-    pub first_of : FirstOf k n first
+    pub first_of : FirstOf sources k n first
 
   pub there : (k : ℕ) (n : graph.Node) → slice_get g.nodes k ≡ Some n → There k n
   there k n e =
@@ -81,7 +81,7 @@ module _ {S D : Type 0} (sources : S → SourceState) (drains : D → DrainState
           rw at.is (elim stands.0 [ inl u ↦ inr u | inr c ↦ inl ((c, tt), tt) ])
 
       -- each kind by its row
-      kind_rests : (k : ℕ) (n : graph.Node) (h : k < length net.nodes) (first x : Node S D) → FirstOf k n first → node_row x (view_of net k) → node_law sources drains first x (view_of net k) (took net k) (gave net k) → RestsKind g w net.wires outlook k n.kind n.decider
+      kind_rests : (k : ℕ) (n : graph.Node) (h : k < length net.nodes) (first x : Node S D) → FirstOf sources k n first → node_row x (view_of net k) → node_law sources drains first x (view_of net k) (took net k) (gave net k) → RestsKind g w net.wires outlook k n.kind n.decider
       kind_rests k n h (Reading first) (Reading x) f r law = subst (λ (kd : Kind). RestsKind g w net.wires outlook k kd n.decider) (sym f.kind_is) (reading_rests k n.decider f.name x.phase h (one_output (lines_row_in x.phase) net.wires (ports_at net k) r))
       kind_rests k n h (Writing first) (Writing x) f r law = subst (λ (kd : Kind). RestsKind g w net.wires outlook k kd n.decider) (sym f.kind_is) (writing_rests k n.decider f.name x.started x.end h (one_input (sink_row_in x.started x.end) net.wires (ports_at net k) r))
       kind_rests k n h (Linear first) (Linear x) f r law =
@@ -128,7 +128,7 @@ module _ {S D : Type 0} (sources : S → SourceState) (drains : D → DrainState
           let stands = sink_rests g w i.a i.a (wire_at net i.a) (wire_at net i.a) (outlook i.a) (outlook i.a) (still i.a at.within) (still i.a at.within) (s.marked i.a at.within) (s.marked i.a at.within) (has_ended e) (sink_ports p e (wire_at net i.a).wire.inp i.holds) in
           rw at.is (stands.1, tt)
 
-      kind_matches : (k : ℕ) (n : graph.Node) (h : k < length net.nodes) (first x : Node S D) → FirstOf k n first → node_row x (view_of net k) → node_law sources drains first x (view_of net k) (took net k) (gave net k) → is_sink n.kind ≡ true → MatchKind k n.kind (sink_ended x)
+      kind_matches : (k : ℕ) (n : graph.Node) (h : k < length net.nodes) (first x : Node S D) → FirstOf sources k n first → node_row x (view_of net k) → node_law sources drains first x (view_of net k) (took net k) (gave net k) → is_sink n.kind ≡ true → MatchKind k n.kind (sink_ended x)
       kind_matches k n h (Reading first) (Reading x) f r law is = let no : is_sink (kind.Lines f.name) ≡ true = rw f.kind_is at is in cc
       kind_matches k n h (Writing first) (Writing x) f r law is = subst (λ (kd : Kind). MatchKind k kd (has_ended x.end)) (sym f.kind_is) (writing_matches k f.name x.started x.end h (one_input (sink_row_in x.started x.end) net.wires (ports_at net k) r))
       kind_matches k n h (Linear first) (Linear x) f r law is = absurd (no_sink n.kind f.is_linear is)

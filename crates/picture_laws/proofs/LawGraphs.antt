@@ -34,7 +34,7 @@ use Rattle.nodes.specs.declared.node.Node.TheVariants.{Reading, Linear, Writing}
 use Rattle.nodes.specs.Nodes.{node_row, node_law}
 use Rattle.nodes.specs.Linear.{LinearRow, LinearLaw}
 use Rattle.nodes.specs.Sink.{sink_row_in}
-use Rattle.picture_laws.specs.Made.{FirstOf, FirstLinear, Materializes}
+use Rattle.run_laws.specs.Made.{FirstOf, FirstLinear, Materializes}
 use Rattle.picture_laws.specs.Picture.{count_of, counts_of, AllPass}
 use Rattle.picture_laws.proofs.Places.{one_each, one_input, fused_view, input_at, output_at}
 use Rattle.picture_laws.proofs.Stages.{LinearPorts, busy, free, over, linear_ports, Waited, linear_waited}
@@ -108,7 +108,7 @@ module _ {S D : Type 0} (sources : S → SourceState) (drains : D → DrainState
   moment_by book net k a b n first (Reading x) f r law ia ob e = absurd law
   moment_by book net k a b n first (Writing x) f r law ia ob e = absurd law
 
-  module _ (g : Graph) (net : Net (Node S D)) (s : Settled node_row (node_law sources drains) net) (m : Materializes g net.firsts net.ends) (w : World) (outlook : ℕ → Outlook) (passes : AllPass net outlook) where
+  module _ (g : Graph) (net : Net (Node S D)) (s : Settled node_row (node_law sources drains) net) (m : Materializes sources g net.firsts net.ends) (w : World) (outlook : ℕ → Outlook) (passes : AllPass net outlook) where
     wire_lawful : (a : ℕ) → a < length net.wires → WireLawful (fused_view a (count_of (wire_at net a)) (outlook a))
     wire_lawful a h = (sent_within (outlook a) (wire_at net a).wire.sent (passes a h), λ no. omega arith)
 
@@ -137,7 +137,7 @@ module _ {S D : Type 0} (sources : S → SourceState) (drains : D → DrainState
         l.waits l.asked then.out l.same (l.grown a oa) (l.grown b ob') then.waited (passes a ha)
 
     -- each kind by its row
-    kind_lawful : (k : ℕ) (n : graph.Node) (h : k < length net.nodes) (first x : Node S D) → slice_get net.firsts k ≡ Some first → FirstOf k n first → node_row x (view_of net k) → node_law sources drains first x (view_of net k) (took net k) (gave net k)
+    kind_lawful : (k : ℕ) (n : graph.Node) (h : k < length net.nodes) (first x : Node S D) → slice_get net.firsts k ≡ Some first → FirstOf sources k n first → node_row x (view_of net k) → node_law sources drains first x (view_of net k) (took net k) (gave net k)
         → LawfulKind g w net.wires outlook k n.kind n.decider
     kind_lawful k n h (Reading first) (Reading x) fi f r law = subst (λ (kd : Kind). LawfulKind g w net.wires outlook k kd n.decider) (sym f.kind_is) tt
     kind_lawful k n h (Writing first) (Writing x) fi f r law = subst (λ (kd : Kind). LawfulKind g w net.wires outlook k kd n.decider) (sym f.kind_is) tt
@@ -161,7 +161,7 @@ module _ {S D : Type 0} (sources : S → SourceState) (drains : D → DrainState
     kind_lawful k n h (Writing first) (Linear x) fi f r law = absurd law
 
     -- its wires
-    kind_wires : (k : ℕ) (n : graph.Node) (h : k < length net.nodes) (first x : Node S D) → FirstOf k n first → node_row x (view_of net k) → node_law sources drains first x (view_of net k) (took net k) (gave net k)
+    kind_wires : (k : ℕ) (n : graph.Node) (h : k < length net.nodes) (first x : Node S D) → FirstOf sources k n first → node_row x (view_of net k) → node_law sources drains first x (view_of net k) (took net k) (gave net k)
         → EachWire WireLawful (ins g (counts_of net.wires) outlook k n.kind)
     kind_wires k n h (Reading first) (Reading x) f r law = subst (λ (kd : Kind). EachWire WireLawful (ins g (counts_of net.wires) outlook k kd)) (sym f.kind_is) tt
     kind_wires k n h (Writing first) (Writing x) f r law =
@@ -180,7 +180,7 @@ module _ {S D : Type 0} (sources : S → SourceState) (drains : D → DrainState
     kind_wires k n h (Writing first) (Linear x) f r law = absurd law
 
     -- none of them is a valve
-    kind_order : (k : ℕ) (n : graph.Node) (first : Node S D) (moves : List ℕ) → FirstOf k n first → valve_order n.kind moves ≡ None
+    kind_order : (k : ℕ) (n : graph.Node) (first : Node S D) (moves : List ℕ) → FirstOf sources k n first → valve_order n.kind moves ≡ None
     kind_order k n (Reading first) moves f = ap (λ (kd : Kind). valve_order kd moves) f.kind_is
     kind_order k n (Writing first) moves f = ap (λ (kd : Kind). valve_order kd moves) f.kind_is
     kind_order k n (Linear first) moves f = no_order n.kind f.is_linear moves

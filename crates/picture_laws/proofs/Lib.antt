@@ -7,3 +7,4 @@ pub mod RestRows
 pub mod Graphs
 pub mod LawRows
 pub mod LawGraphs
+pub mod Composing

@@ -16,7 +16,7 @@ use Rattle.fused_net.specs.Net.{no_wire, read_all, inp_of, out_of, end_at, port_
 use Rattle.fused_net.specs.Laws.{Wired}
 use Rattle.fused_net.proofs.Reading.{get_there}
 use Rattle.nodes.specs.Ports.{OneInOf, OneOutOf}
-use Rattle.picture_laws.specs.Made.{IsFused}
+use Rattle.run_laws.specs.Made.{IsFused}
 use Rattle.picture_laws.specs.Picture.{count_of, counts_of}
 
 -- ---- the wires of a node with one input and one output, with one input, and with one output

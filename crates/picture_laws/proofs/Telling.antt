@@ -7,6 +7,7 @@ use Rattle.elem_core.specs.declared.item.Item.{Item}
 use Rattle.stream_model.specs.Outlook.{Outlook, End, unended, ended, failed, Agrees}
 use Rattle.stage_law.specs.Held.{told}
 use Rattle.wire_core.specs.Counts.{elements}
+use Rattle.run_laws.specs.Agreeing.{AgreesWith}
 use Rattle.picture_laws.specs.Picture.{Passes}
 
 pub count_told : (l : List Tree) (e : End) → elements (told l e) ≡ length l
@@ -50,8 +51,8 @@ agrees_part o l unended h = h
 agrees_part o l ended h = rw h.1 (prefix_refl o.list)
 agrees_part o l (failed c) h = h.0
 
-pub agrees_passes : (o : Outlook) (items : List Item) (list : List Tree) (end : End) → items ≡ told list end → Agrees o list end → Passes o items
-agrees_passes o items list end is h = record { list = list; end = end; is = is; part = agrees_part o list end h }
+pub agrees_passes : (o : Outlook) (items : List Item) → AgreesWith o items → Passes o items
+agrees_passes o items a = record { list = a.list; end = a.end; is = a.is; part = agrees_part o a.list a.end a.agrees }
 
 -- a history with its end is a first part of one only where both are of one list
 told_all : (l k : List Tree) (f : End) (r : List Item) → told k f ≡ told l ended ++ r → l ≡ k

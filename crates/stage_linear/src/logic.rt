@@ -44,7 +44,8 @@ impl LinearLogic {
     /// The logic of node `stage`. It holds nothing and knows nothing yet; it takes no memory.
     pub fn new(stage: u32, kind: Kind, decider: Decider) -> Result<LinearLogic, NoMemory>
         requires { IsLinear kind }
-        ensures { IfOk result (Begins stage kind decider) }
+        ensures answers { IsOk result }
+        ensures begins { IfOk result (Begins stage kind decider) }
     {
         let task = match kind {
             Kind::Map(f) => Task::Map(f),

@@ -1,0 +1,5 @@
+// The stages with one input and one output that keep elements: groups, folds, scans and buffers.
+#![tactic(auto)]
+
+pub mod ending;
+pub mod keeping;

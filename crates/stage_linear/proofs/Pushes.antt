@@ -17,6 +17,7 @@ use Rattle.stream_model.specs.Machine.{State, going, Run, Machine}
 use Rattle.stream_model.specs.Linear.{Book, Stage, Work, Reaction, gives, ends, blames, breaks, reaction, reacts, linear}
 use Rattle.stage_law.specs.Held.{Held, owing, shut}
 use Rattle.stage_law.specs.Turn.{Few, none_lost, last_held, Emits, FewIn, TurnAt}
+use Rattle.stage_law.proofs.Lagging.{few_nothing}
 use Rattle.stage_linear.specs.declared.phase.Phase.{Phase}
 use Rattle.stage_linear.specs.declared.phase.Phase.TheVariants.{New, Open}
 use Rattle.stage_linear.specs.declared.task.Outcome.{Outcome}
@@ -24,17 +25,6 @@ use Rattle.stage_linear.specs.declared.task.Outcome.TheVariants.{Gives, GivesAll
 use Rattle.stage_linear.specs.Tasks.{HasMore, SameMachine, GoesOn, Spreads, Stays, Reacted}
 use Rattle.stage_linear.specs.Outcomes.{working, answered, answer_acts}
 use Rattle.stage_linear.specs.States.{Logic, held, row, row_in, Turned}
-
--- where nothing was held, and nothing is, none is lost
-few_nothing : {S : Type 0} (m : Machine S Tree) (x : Run S Tree) (t : Tree) (z : Run S Tree) → x.gave ≡ [] → z.gave ≡ [] → Few m x t z
-few_nothing m x t z h k = by_hold m.hold refl
-  where
-    by_hold : (n : ℕ) → m.hold ≡ n → Few m x t z
-    by_hold zero e = none_lost e
-    by_hold (suc n) e =
-        let a : length x.gave ≡ 0 = ap length h in
-        let b : length z.gave ≡ 0 = ap length k in
-        last_held (omega (arith, e)) (omega (arith, a, b))
 
 -- ---- where an element may come, the stage waits and holds nothing
 

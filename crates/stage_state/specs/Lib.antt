@@ -1,1 +1,4 @@
 pub mod Keeping
+pub mod Buffering
+pub mod States
+pub mod Outcomes

@@ -2,4 +2,5 @@
 #![tactic(auto)]
 
 pub mod ending;
+pub mod keep;
 pub mod keeping;

@@ -1,6 +1,6 @@
 -- The end of the input of a stage that keeps: its actions are allowed, and its row holds then.
 use Rattle.std.specs.Prelude.{is_some, option_to_list}
-use Rattle.std.proofs.Common.{◌≡◌, ℕ, Bool, true, false, List, [], ◌∷◌, length, refl, sym, ap, ◌∙◌, subst, Option, Some, None, Result, Ok, Err}
+use Rattle.std.proofs.Common.{◌≡◌, ℕ, Bool, true, false, List, [], ◌∷◌, refl, sym, ap, ◌∙◌, subst, Option, Some, None, Result, Ok, Err}
 use Rattle.elem_core.specs.Tree.{Tree}
 use Rattle.elem_core.specs.declared.item.Item.TheVariants as item
 use Rattle.elem_core.specs.declared.why.Why.{Why}
@@ -9,11 +9,11 @@ use Rattle.port_core.specs.declared.view.InView.{InView}
 use Rattle.port_core.specs.declared.view.InView.TheVariants.{Idle, Waiting, Over, Left}
 use Rattle.port_core.specs.declared.view.OutView.{OutView}
 use Rattle.port_core.specs.declared.view.OutView.TheVariants.{Unasked, Asked, Shut, Refused}
-use Rattle.port_core.specs.View.{View, OneOne, OneOneOf, ActsAllowed, acted_all}
-use Rattle.port_core.specs.Call.{Call, brings, CallAllowed, seen, Obeys}
+use Rattle.port_core.specs.View.{View, OneOneOf, ActsAllowed, acted_all}
+use Rattle.port_core.specs.Call.{brings, seen, Obeys}
 use Rattle.stream_model.specs.Linear.{Work, Stage}
 use Rattle.stage_linear.specs.declared.phase.Phase.{Phase}
-use Rattle.stage_linear.specs.declared.phase.Phase.TheVariants.{New, Open, Closed}
+use Rattle.stage_linear.specs.declared.phase.Phase.TheVariants.{Open}
 use Rattle.stage_state.specs.declared.ending.Ending.{Ending}
 use Rattle.stage_state.specs.declared.ending.Ending.TheVariants.{Lasting, Ended, Failed}
 use Rattle.stage_state.specs.Outcomes.{working, finished, finish_acts}

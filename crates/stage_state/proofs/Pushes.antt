@@ -5,18 +5,18 @@ use Rattle.elem_core.specs.declared.item.Item.{Item}
 use Rattle.elem_core.specs.declared.item.Item.TheVariants as item
 use Rattle.elem_core.specs.declared.why.Decider.{Decider}
 use Rattle.port_core.specs.Call.{brings, Meets, given_on}
-use Rattle.port_core.specs.View.{View, OneOneOf, in_at}
+use Rattle.port_core.specs.View.{OneOneOf, in_at}
 use Rattle.port_core.specs.declared.view.InView.{InView}
 use Rattle.port_core.specs.declared.view.InView.TheVariants.{Idle, Waiting, Over, Left}
 use Rattle.port_core.specs.declared.view.OutView.{OutView}
 use Rattle.port_core.specs.declared.view.OutView.TheVariants.{Unasked, Asked, Shut, Refused}
-use Rattle.stream_model.specs.Machine.{State, going, broken, Run}
+use Rattle.stream_model.specs.Machine.{going, broken, Run}
 use Rattle.stream_model.specs.Linear.{Book, Stage, Work, step, linear}
 use Rattle.stage_law.specs.Held.{Held, owing, shut}
 use Rattle.stage_law.specs.Turn.{Emits, FewIn, TurnAt}
 use Rattle.stage_law.proofs.Lagging.{few_nothing}
 use Rattle.stage_linear.specs.declared.phase.Phase.{Phase}
-use Rattle.stage_linear.specs.declared.phase.Phase.TheVariants.{New, Open, Closed}
+use Rattle.stage_linear.specs.declared.phase.Phase.TheVariants.{Open}
 use Rattle.stage_state.specs.declared.ending.Ending.{Ending}
 use Rattle.stage_state.specs.declared.ending.Ending.TheVariants.{Lasting, Ended, Failed}
 use Rattle.stage_state.specs.declared.keeping.Outcome.{Outcome}

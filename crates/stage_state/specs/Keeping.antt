@@ -1,5 +1,5 @@
 -- What the stages keep between elements, in the words of the model.
-use Rattle.std.specs.Prelude.{◌≡◌, ⊤, ℕ, ◌+◌, Bool, true, List, [], ◌∷◌, Option, Some, None, Result, Ok, Err}
+use Rattle.std.specs.Prelude.{◌≡◌, ℕ, ◌+◌, true, List, [], ◌∷◌, Option, Some, None, Result, Ok, Err}
 use Rattle.elem_core.specs.Tree.{Tree, seq, row}
 use Rattle.elem_core.specs.Values.{fold_zero, fold_step, reduce_step}
 use Rattle.elem_core.specs.declared.function.FoldOp.{FoldOp}
@@ -7,7 +7,7 @@ use Rattle.elem_core.specs.declared.function.ReduceOp.{ReduceOp}
 use Rattle.elem_core.specs.declared.why.Why.{Why}
 use Rattle.elem_core.specs.declared.why.Decider.{Decider}
 use Rattle.elem_core.specs.declared.why.Decider.TheVariants.{Stop, Resume, Restart}
-use Rattle.stream_model.specs.Machine.{State, going, broken, Run, adds, refuses}
+use Rattle.stream_model.specs.Machine.{going, broken, adds, refuses}
 use Rattle.stream_model.specs.Linear.{Book, Work, Stage, grouping, folding, scanning, reducing, step, finish_of, blame_end, linear}
 use Rattle.stream_picture.specs.OneWay.{holds_at_end}
 use Rattle.stage_state.specs.declared.keeping.Keeping.{Keeping}

@@ -2,3 +2,4 @@ pub mod Keeping
 pub mod Buffering
 pub mod States
 pub mod Outcomes
+pub mod Holding

@@ -1,5 +1,5 @@
 -- What a stage that keeps does, and how it stands, once an element or the end of its input came to this.
-use Rattle.std.specs.Prelude.{ℕ, ◌+◌, Bool, true, false, List, [], ◌∷◌, Option, Some, None, Result, Ok, Err}
+use Rattle.std.specs.Prelude.{ℕ, Bool, true, false, List, [], ◌∷◌, Option, Some, None, Result, Ok, Err}
 use Rattle.elem_core.specs.Tree.{Tree}
 use Rattle.elem_core.specs.declared.why.Why.{Why}
 use Rattle.elem_core.specs.declared.why.Cause.{Cause}

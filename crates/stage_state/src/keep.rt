@@ -106,12 +106,7 @@ impl KeepLogic {
     }
 
     /// The input has ended.
-    pub fn on_finish(
-        &mut self,
-        alloc: Global,
-        port: u8,
-        acts: &mut Acts,
-    ) -> Result<(), NoMemory>
+    pub fn on_finish(&mut self, alloc: Global, port: u8, acts: &mut Acts) -> Result<(), NoMemory>
         requires open { self.old.phase ≡ Open }
         requires port { port ≡ 0 }
         requires meets { Meets (brings 0 item.Ended) (row self.old) }

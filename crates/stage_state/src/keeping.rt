@@ -52,7 +52,9 @@ impl Keeping {
         match self {
             Keeping::Group(_, held) => Ok(rest_of(held, alloc)),
             Keeping::Fold(_, acc) => Ok(Some(mem::replace(acc, placeholder()))),
-            Keeping::Reduce(_, acc) => acc.take().map_or(Err(Why::EmptyReduce), |value| Ok(Some(value))),
+            Keeping::Reduce(_, acc) => acc
+                .take()
+                .map_or(Err(Why::EmptyReduce), |value| Ok(Some(value))),
             Keeping::Scan(_, _) => Ok(None),
         }
     }

@@ -3,3 +3,4 @@ pub mod Buffering
 pub mod States
 pub mod Outcomes
 pub mod Holding
+pub mod Parts

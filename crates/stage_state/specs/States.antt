@@ -134,3 +134,7 @@ pub record Begins (node : ℕ) (kind : Kind) (d : Decider) (new : Logic) : Type 
   pub phase : new.phase ≡ New
   pub owes : BeginsAs kind node d new
   pub ready : row new unasked_ports
+
+-- a new stage that keeps, and owes these before any element
+abbrev pub new_keep : ℕ → Decider → Work → List Tree → Logic
+new_keep node d w p = record { phase = New; stage = record { node = node; decider = d; taken = 0; work = w }; pending = p; asked = false; ending = Lasting; size = None }

@@ -5,3 +5,4 @@ pub mod buffer;
 pub mod ending;
 pub mod keep;
 pub mod keeping;
+pub mod logic;

@@ -64,7 +64,7 @@ module _ (m : Machine Stage Tree) (start : Run Stage Tree) (took gave : List Ite
 
 -- ---- where a call may come, a stage that was started is open
 
-closed_ports : (x : InView) (y : OutView) → (IsInOpen x ⊎ IsOutOpen y) → BothClosed x y → ⊥
+pub closed_ports : (x : InView) (y : OutView) → (IsInOpen x ⊎ IsOutOpen y) → BothClosed x y → ⊥
 closed_ports Over Shut (inl h) r = h
 closed_ports Over Shut (inr h) r = h
 closed_ports Over Refused (inl h) r = h
@@ -86,7 +86,7 @@ open_at New over k w x y n h r = absurd (n refl)
 open_at Closed over k w x y n h r = absurd (closed_ports x y h r)
 
 -- some port of a stage with one input and one output is open, where a call may come
-may_come : (call : Call) (x : InView) (y : OutView) → (call ≡ starts → ⊥) → CallAllowed call (record { ins = x ∷ []; outs = y ∷ [] }) → IsInOpen x ⊎ IsOutOpen y
+pub may_come : (call : Call) (x : InView) (y : OutView) → (call ≡ starts → ⊥) → CallAllowed call (record { ins = x ∷ []; outs = y ∷ [] }) → IsInOpen x ⊎ IsOutOpen y
 may_come starts x y n h = absurd (n refl)
 may_come (asks zero) x y n h = inr (rw h tt)
 may_come (asks (suc j)) x y n h = cc

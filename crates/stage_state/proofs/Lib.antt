@@ -1,2 +1,4 @@
+pub mod Buffers
 pub mod Finishes
 pub mod Pushes
+pub mod Rows

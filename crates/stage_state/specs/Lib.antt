@@ -4,3 +4,4 @@ pub mod States
 pub mod Outcomes
 pub mod Holding
 pub mod Parts
+pub mod Resting

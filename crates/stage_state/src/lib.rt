@@ -5,4 +5,5 @@ pub mod buffer;
 pub mod ending;
 pub mod keep;
 pub mod keeping;
+pub mod laws;
 pub mod logic;

@@ -7,3 +7,5 @@ pub mod keep;
 pub mod keeping;
 pub mod laws;
 pub mod logic;
+#[cfg(test)]
+mod tests;

@@ -11,3 +11,4 @@ pub mod Inflows
 pub mod FanTurns
 pub mod ZipTurns
 pub mod OutTurns
+pub mod MergeTurns

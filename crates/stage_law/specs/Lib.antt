@@ -7,3 +7,4 @@ pub mod Inflows
 pub mod Fans
 pub mod Zips
 pub mod Outs
+pub mod Merges

@@ -10,14 +10,17 @@ ghost use Rattle.port_core.specs.declared.view.OutView.{OutView};
 ghost use Rattle.port_core.specs.declared.view.OutView.TheVariants.{Asked};
 ghost use Rattle.port_core.specs.View.{View, in_at, out_at, ActsAllowed, acted_all};
 ghost use Rattle.port_core.specs.Call.{Call, AllIdle, CallAllowed, seen, brought_to, given_on};
-ghost use Rattle.stream_model.specs.FanIn.{Inflow, pairs, FanStands};
+ghost use Rattle.stream_model.specs.FanIn.{Inflow, merge_of, pairs, FanStands};
 ghost use Rattle.stream_model.specs.Outlook.{Outlook, End, unended, Agrees};
 ghost use Rattle.stream_model.specs.Linear.{Stage};
+ghost use Rattle.stream_model.specs.Picks.{MergeStands};
 ghost use Rattle.stream_model.specs.Machine.{State, Run, Machine, Stands, output};
 ghost use Rattle.stage_law.specs.Held.{Held, owing, shut, gives, whole};
 ghost use Rattle.stage_law.specs.Turn.{TurnAt, ResidualAt};
 ghost use Rattle.stage_law.specs.Law.{TookAs, GaveAs, Law};
 ghost use Rattle.stage_law.specs.Inflows.{nothing, joined, joined_all, untouched};
+ghost use Rattle.stage_law.specs.Merges as merge;
+ghost use Rattle.stage_law.specs.Merges.{MergeHeld, Merged, MergeTurnAt, MergeLaw, lists_of, moves_of};
 ghost use Rattle.stage_law.specs.Outs.{Outlet, OutsLaw, TurnsAt, owe};
 ghost use Rattle.stage_law.specs.Zips as zip;
 ghost use Rattle.stage_law.specs.Zips.{ZipHeld, Paired, ZipTurnAt, ZipLaw, ZipStandsOf};
@@ -73,6 +76,18 @@ pub fn zips_keep_the_law()
         → ZipLaw new (acted_all (seen call v) acts) (λ i. took i ++ brought_to i call) (gave ++ given_on 0 acts) }
     ensures rest { (a b w u : Inflow) (g : List Tree) → Paired a b g w u → (r s : List Tree) → pairs (a.list ++ r) (b.list ++ s) ≡ g ++ pairs (w.list ++ r) (u.list ++ s) }
     ensures stands { (x : ZipHeld) (v : View) (took : ℕ → List Item) (gave : List Item) → (law : ZipLaw x v took gave) → ZipStandsOf law.ins law.out_list law.out_end }
+{}
+
+/// The same of a merge, by its moves: for every rest of its inputs and every further list of moves, what all the moves give
+/// is what it gave, and what the further moves give of what waits with the rest.
+pub fn merges_keep_the_law()
+    ensures new { (v : View) → AllIdle v.ins → GaveAs (out_at v 0) unended → MergeLaw (merge.waits [] (untouched (length v.ins))) v (λ _. []) [] }
+    ensures call { (call : Call) (old new : MergeHeld) (v : View) (took : ℕ → List Item) (gave : List Item) (acts : List Act)
+        → CallAllowed call v → ActsAllowed (seen call v) acts → MergeTurnAt call old (given_on 0 acts) new → MergeLaw old v took gave
+        → MergeLaw new (acted_all (seen call v) acts) (λ i. took i ++ brought_to i call) (gave ++ given_on 0 acts) }
+    ensures rest { (moves : List ℕ) (ins ws : List Inflow) (g : List Tree) → Merged moves ins g ws → (more : ℕ → Inflow) (further : List ℕ)
+        → elements (merge_of (moves ++ further) (lists_of (joined_all 0 ins more))) ≡ g ++ elements (merge_of further (lists_of (joined_all 0 ws more))) }
+    ensures stands { (x : MergeHeld) (v : View) (took : ℕ → List Item) (gave : List Item) → (law : MergeLaw x v took gave) → MergeStands (moves_of x) law.ins law.out_list law.out_end }
 {}
 
 /// Each output of a stage with one input is a machine of its own over that input: a call keeps the law of them all, and

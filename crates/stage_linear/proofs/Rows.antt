@@ -2,6 +2,7 @@
 use Rattle.std.specs.Prelude.{slice_index_or}
 use Rattle.std.proofs.Common.{◌≡◌, zero, suc, Bool, true, false, ◌⊎◌, inl, inr, List, [], ◌∷◌, refl, sym, subst}
 use Rattle.elem_core.specs.Tree.{Tree}
+use Rattle.elem_core.specs.declared.why.Cause.{Cause}
 use Rattle.elem_core.specs.declared.item.Item.{Item}
 use Rattle.elem_core.specs.declared.item.Item.TheVariants as item
 use Rattle.port_core.specs.declared.view.InView.{InView}
@@ -136,3 +137,12 @@ asked_meets old new acts e h o is = (waiting_ports, (refl, asked_row old new act
 
 pub asked_open : (old new : Logic) (acts : List Act) (e : Tree) → IsReady old → Obeys (asks 0) (row old) (row new) acts → (new.phase ≡ New → ⊥) → acts ≡ Pull 0 ∷ [] → new.phase ≡ Open
 asked_open old new acts e h o n is = called_open new (brings 0 (item.Elem e)) waiting_ports n (λ x. cc) refl (asked_row old new acts h o is)
+
+pub ready_ends : (l : Logic) → IsReady l → Meets (brings 0 item.Ended) (row l)
+ready_ends l h = (unasked_ports, (tt, h.1))
+
+pub ready_fails : (l : Logic) (c : Cause) → IsReady l → Meets (brings 0 (item.Failed c)) (row l)
+ready_fails l c h = (unasked_ports, (tt, h.1))
+
+pub ready_cancels : (l : Logic) → IsReady l → Meets (cancels 0) (row l)
+ready_cancels l h = (unasked_ports, (tt, h.1))

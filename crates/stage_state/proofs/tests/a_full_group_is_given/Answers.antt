@@ -1,0 +1,5 @@
+use Rattle.stage_state.proofs.Steps.{asking_fed}
+use Rattle.stage_state.proofs.tests.a_full_group_is_given.Goals as goal
+
+pub on_push-requires-clause-meets : goal.on_push-requires-clause-meets
+on_push-requires-clause-meets g c = asking_fed c.in_ok-logic.logic _ c.in_ok-logic.ensures.asking

@@ -7,6 +7,7 @@ use Rattle.elem_core.specs.declared.item.Item.TheVariants as item
 use Rattle.elem_core.specs.declared.why.Why.{Why}
 use Rattle.elem_core.specs.declared.why.Decider.{Decider}
 use Rattle.elem_core.specs.declared.why.Decider.TheVariants.{Stop, Resume, Restart}
+use Rattle.port_core.specs.Asking.{AsksStand}
 use Rattle.port_core.specs.Call.{brings, Meets, given_on}
 use Rattle.port_core.specs.View.{OneOneOf, in_at}
 use Rattle.port_core.specs.declared.view.InView.{InView}
@@ -124,8 +125,20 @@ module _ (t : Tree) (node n : ℕ) (old : Work) where
   started_by Restart w (Blames why) e = cc
   started_by d w (Fails why) e = cc
 
+  stands_by : (d : Decider) (w : Work) (o : Outcome) → AsksStand (answer_acts (logic d w) (n + 1) o)
+  stands_by d w (Gives u) = tt
+  stands_by d w (GivesAll []) = (tt, tt)
+  stands_by d w (GivesAll (u ∷ us)) = tt
+  stands_by d w Skips = (tt, tt)
+  stands_by d w (EndsWith u) = tt
+  stands_by d w Ends = tt
+  stands_by Stop w (Blames why) = tt
+  stands_by Resume w (Blames why) = (tt, tt)
+  stands_by Restart w (Blames why) = (tt, tt)
+  stands_by d w (Fails why) = tt
+
   pushed_at : (d : Decider) (w : Work) (o : Outcome) → Reacted old t w o → Turned (brings 0 (item.Elem t)) (logic d old) (answer_acts (logic d w) (n + 1) o) (answered (logic d w) (n + 1) o)
-  pushed_at d w o r = record { turn = λ book. step_by book d w o r; same = same_by d w o r; started = started_by d w o }
+  pushed_at d w o r = record { turn = λ book. step_by book d w o r; same = same_by d w o r; stands = stands_by d w o; started = started_by d w o }
 
 abbrev of_parts : Phase → Stage → List Tree → Bool → Logic
 of_parts p s k over = record { phase = p; stage = s; pending = k; over = over }

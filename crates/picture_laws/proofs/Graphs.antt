@@ -8,7 +8,7 @@ use Rattle.port_core.specs.declared.view.InView.TheVariants.{Left}
 use Rattle.port_core.specs.declared.view.OutView.TheVariants.{Shut}
 use Rattle.stream_io.specs.State.{SourceState, DrainState}
 use Rattle.stream_model.specs.declared.kind.Kind.{Kind}
-use Rattle.stream_model.specs.declared.kind.Kind.TheVariants.{Map, Filter, Take}
+use Rattle.stream_model.specs.declared.kind.Kind.TheVariants.{Map, Filter, FilterNot, Take, TakeWhile, Drop, DropWhile, Limit, MapConcat}
 use Rattle.stream_model.specs.declared.kind.Kind.TheVariants as kind
 use Rattle.stream_model.specs.declared.outcome.EndState.{EndState}
 use Rattle.stream_model.specs.Graph.{Graph}
@@ -85,7 +85,7 @@ module _ {S D : Type 0} (sources : S → SourceState) (drains : D → DrainState
       kind_rests k n h (Reading first) (Reading x) f r law = subst (λ (kd : Kind). RestsKind g w net.wires outlook k kd n.decider) (sym f.kind_is) (reading_rests k n.decider f.name x.phase h (one_output (lines_row_in x.phase) net.wires (ports_at net k) r))
       kind_rests k n h (Writing first) (Writing x) f r law = subst (λ (kd : Kind). RestsKind g w net.wires outlook k kd n.decider) (sym f.kind_is) (writing_rests k n.decider f.name x.started x.end h (one_input (sink_row_in x.started x.end) net.wires (ports_at net k) r))
       kind_rests k n h (Linear first) (Linear x) f r law =
-          let o = one_each (row_in x.phase x.stage.work) net.wires (ports_at net k) r.row in
+          let o = one_each (row_in x.phase x.over x.pending x.stage.work) net.wires (ports_at net k) r.row in
           let i_at = input_at g net.ends net.ports (length net.nodes) net.wires joined outlook k o.a h o.ins in
           let o_at = output_at g net.ends net.ports (length net.nodes) net.wires joined outlook k o.b h o.outs in
           let vi : in_at (view_of net k) 0 ≡ (wire_at net o.a).wire.inp = ap (λ (l : List ℕ). get_or (read_all inp_of net.wires l) 0 Left) o.ins in
@@ -94,7 +94,7 @@ module _ {S D : Type 0} (sources : S → SourceState) (drains : D → DrainState
           let gi : gave net k ≡ (wire_at net o.b).wire.sent ∷ [] = ap (λ (l : List ℕ). read_all sent_of net.wires l) o.outs in
           linear_kind g w net.wires outlook k n.kind n.decider first.stage.work f.is_linear f.begins.work
           (rw (i_at.is, o_at.is) (linear_rests g w o.a o.b (wire_at net o.a) (wire_at net o.b) (outlook o.a) (outlook o.b) (still o.a i_at.within) (still o.b o_at.within) (s.marked o.a i_at.within) (s.marked o.b o_at.within)
-          k n.kind n.decider first x (view_of net k) (took net k) (gave net k) f.begins law vi vo ti gi (passes o.a i_at.within) (linear_ports x.phase x.stage.work (wire_at net o.a).wire.inp (wire_at net o.b).wire.out r.started o.holds)))
+          k n.kind n.decider first x (view_of net k) (took net k) (gave net k) f.begins law vi vo ti gi (passes o.a i_at.within) f.is_linear (linear_ports x.phase x.over x.pending x.stage.work (wire_at net o.a).wire.inp (wire_at net o.b).wire.out r.started o.holds)))
       kind_rests k n h (Reading first) (Linear x) f r law = absurd law
       kind_rests k n h (Reading first) (Writing x) f r law = absurd law
       kind_rests k n h (Linear first) (Reading x) f r law = absurd law
@@ -116,6 +116,12 @@ module _ {S D : Type 0} (sources : S → SourceState) (drains : D → DrainState
     no_sink (Map f) h e = cc
     no_sink (Filter p) h e = cc
     no_sink (Take n) h e = cc
+    no_sink (FilterNot q) h e = cc
+    no_sink (TakeWhile q) h e = cc
+    no_sink (Drop n) h e = cc
+    no_sink (DropWhile q) h e = cc
+    no_sink (Limit n) h e = cc
+    no_sink (MapConcat x) h e = cc
     no_sink _ h e = absurd h
 
     module _ (w : World) (outlook : ℕ → Outlook) where

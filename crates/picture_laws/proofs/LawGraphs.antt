@@ -1,5 +1,5 @@
 -- The picture of a graph that is settled is lawful.
-use Rattle.std.proofs.Common.{◌≡◌, ℕ, ◌-◌, ◌<◌, ◌≤◌, true, None, Some, List, [], ◌∷◌, length, take, get_or, slice_get, refl, sym, ap, ◌∙◌, subst, arith}
+use Rattle.std.proofs.Common.{false, ◌≡◌, ℕ, ◌-◌, ◌<◌, ◌≤◌, true, None, Some, List, [], ◌∷◌, length, take, get_or, slice_get, refl, sym, ap, ◌∙◌, subst, arith}
 use Rattle.elem_core.specs.declared.why.Decider.{Decider}
 use Rattle.port_core.specs.View.{in_at, out_at}
 use Rattle.port_core.specs.declared.view.InView.{InView}
@@ -8,7 +8,7 @@ use Rattle.port_core.specs.declared.view.OutView.{OutView}
 use Rattle.port_core.specs.declared.view.OutView.TheVariants.{Asked, Shut}
 use Rattle.stream_io.specs.State.{SourceState, DrainState}
 use Rattle.stream_model.specs.declared.kind.Kind.{Kind}
-use Rattle.stream_model.specs.declared.kind.Kind.TheVariants.{Map, Filter, Take}
+use Rattle.stream_model.specs.declared.kind.Kind.TheVariants.{Map, Filter, FilterNot, Take, TakeWhile, Drop, DropWhile, Limit, MapConcat}
 use Rattle.stream_model.specs.Fits.{valve_order}
 use Rattle.stream_model.specs.Graph.{Graph}
 use Rattle.stream_model.specs.Graph as graph
@@ -37,7 +37,7 @@ use Rattle.nodes.specs.Sink.{sink_row_in}
 use Rattle.run_laws.specs.Made.{FirstOf, FirstLinear, Materializes}
 use Rattle.picture_laws.specs.Picture.{count_of, counts_of, AllPass}
 use Rattle.picture_laws.proofs.Places.{one_each, one_input, fused_view, input_at, output_at}
-use Rattle.picture_laws.proofs.Stages.{LinearPorts, busy, free, over, linear_ports, Waited, linear_waited}
+use Rattle.picture_laws.proofs.Stages.{LinearPorts, busy, free, behind, over, linear_ports, Waited, linear_waited}
 use Rattle.picture_laws.proofs.Graphs.{there, joined}
 use Rattle.picture_laws.proofs.LawRows.{linear_given, linear_asked, sent_within}
 
@@ -57,6 +57,12 @@ module _ (g : Graph) (w : World) (cells : List Cell) (outlook : ℕ → Outlook)
   linear_row k (Map f) d wk h e r = subst (λ (x : Work). LawfulWork w k x d (ins_at g (counts_of cells) outlook k (0 ∷ [])) (outs_at g (counts_of cells) outlook k (0 ∷ []))) (sym (work_is _ wk e)) r
   linear_row k (Filter p) d wk h e r = subst (λ (x : Work). LawfulWork w k x d (ins_at g (counts_of cells) outlook k (0 ∷ [])) (outs_at g (counts_of cells) outlook k (0 ∷ []))) (sym (work_is _ wk e)) r
   linear_row k (Take n) d wk h e r = subst (λ (x : Work). LawfulWork w k x d (ins_at g (counts_of cells) outlook k (0 ∷ [])) (outs_at g (counts_of cells) outlook k (0 ∷ []))) (sym (work_is _ wk e)) r
+  linear_row k (FilterNot q) d wk h e r = subst (λ (x : Work). LawfulWork w k x d (ins_at g (counts_of cells) outlook k (0 ∷ [])) (outs_at g (counts_of cells) outlook k (0 ∷ []))) (sym (work_is _ wk e)) r
+  linear_row k (TakeWhile q) d wk h e r = subst (λ (x : Work). LawfulWork w k x d (ins_at g (counts_of cells) outlook k (0 ∷ [])) (outs_at g (counts_of cells) outlook k (0 ∷ []))) (sym (work_is _ wk e)) r
+  linear_row k (Drop n) d wk h e r = subst (λ (x : Work). LawfulWork w k x d (ins_at g (counts_of cells) outlook k (0 ∷ [])) (outs_at g (counts_of cells) outlook k (0 ∷ []))) (sym (work_is _ wk e)) r
+  linear_row k (DropWhile q) d wk h e r = subst (λ (x : Work). LawfulWork w k x d (ins_at g (counts_of cells) outlook k (0 ∷ [])) (outs_at g (counts_of cells) outlook k (0 ∷ []))) (sym (work_is _ wk e)) r
+  linear_row k (Limit n) d wk h e r = subst (λ (x : Work). LawfulWork w k x d (ins_at g (counts_of cells) outlook k (0 ∷ [])) (outs_at g (counts_of cells) outlook k (0 ∷ []))) (sym (work_is _ wk e)) r
+  linear_row k (MapConcat x) d wk h e r = subst (λ (x : Work). LawfulWork w k x d (ins_at g (counts_of cells) outlook k (0 ∷ [])) (outs_at g (counts_of cells) outlook k (0 ∷ []))) (sym (work_is _ wk e)) r
   linear_row k _ d wk h e r = absurd h
 
   -- its one wire
@@ -64,20 +70,33 @@ module _ (g : Graph) (w : World) (cells : List Cell) (outlook : ℕ → Outlook)
   linear_wires k (Map f) h r = r
   linear_wires k (Filter p) h r = r
   linear_wires k (Take n) h r = r
+  linear_wires k (FilterNot q) h r = r
+  linear_wires k (TakeWhile q) h r = r
+  linear_wires k (Drop n) h r = r
+  linear_wires k (DropWhile q) h r = r
+  linear_wires k (Limit n) h r = r
+  linear_wires k (MapConcat x) h r = r
   linear_wires k _ h r = absurd h
 
 no_order : (kd : Kind) → IsLinear kd → (moves : List ℕ) → valve_order kd moves ≡ None
 no_order (Map f) h moves = refl
 no_order (Filter p) h moves = refl
 no_order (Take n) h moves = refl
+no_order (FilterNot q) h moves = refl
+no_order (TakeWhile q) h moves = refl
+no_order (Drop n) h moves = refl
+no_order (DropWhile q) h moves = refl
+no_order (Limit n) h moves = refl
+no_order (MapConcat x) h moves = refl
 no_order _ h moves = absurd h
 
 none_some : {A : Type 0} (v : A) → None ≡ Some v → ⊥
 none_some v e = cc
 
 -- one that waits was asked, and is open
-waits_busy : (l : Logic) (x : InView) (y : OutView) → LinearPorts l.phase x y → x ≡ Waiting → (l.phase ≡ Open) × (y ≡ Asked)
-waits_busy l x y (busy po xi yo) e = (po, yo)
+waits_busy : (l : Logic) (x : InView) (y : OutView) → LinearPorts l.phase l.over l.pending l.stage.work x y → x ≡ Waiting → (l.phase ≡ Open) × ((y ≡ Asked) × ((l.over ≡ false) × (l.pending ≡ [])))
+waits_busy l x y (busy po on none xi yo) e = (po, (yo, (on, none)))
+waits_busy l x y (behind sp xi yo) e = cc
 waits_busy l x y (free xi yo) e = cc
 waits_busy l x y (over xi yo) e = let no : InClosed Waiting = subst InClosed e xi in absurd no
 
@@ -90,15 +109,15 @@ module _ {S D : Type 0} (sources : S → SourceState) (drains : D → DrainState
   moment_at : (book : Book) (net : Net (Node S D)) (k a b : ℕ) (n : graph.Node) (first l : Logic) → FirstLinear k n first → LinearRow l (view_of net k) → LinearLaw first l (view_of net k) (took net k) (gave net k)
       → (ports_at net k).ins ≡ a ∷ [] → (ports_at net k).outs ≡ b ∷ [] → (wire_at net a).wire.inp ≡ Waiting → Moment book k n.decider first.stage.work (wire_at net a) (wire_at net b)
   moment_at book net k a b n first l f r law ia ob e =
-      let r' : row_in l.phase l.stage.work (wire_at net a).wire.inp (wire_at net b).wire.out = rw (ia, ob) at r.row in
-      let s = waits_busy l (wire_at net a).wire.inp (wire_at net b).wire.out (linear_ports l.phase l.stage.work (wire_at net a).wire.inp (wire_at net b).wire.out r.started r') e in
+      let r' : row_in l.phase l.over l.pending l.stage.work (wire_at net a).wire.inp (wire_at net b).wire.out = rw (ia, ob) at r.row in
+      let s = waits_busy l (wire_at net a).wire.inp (wire_at net b).wire.out (linear_ports l.phase l.over l.pending l.stage.work (wire_at net a).wire.inp (wire_at net b).wire.out r.started r') e in
       let vi : in_at (view_of net k) 0 ≡ (wire_at net a).wire.inp = ap (λ (l : List ℕ). get_or (read_all inp_of net.wires l) 0 Left) ia in
       let vo : out_at (view_of net k) 0 ≡ (wire_at net b).wire.out = ap (λ (l : List ℕ). get_or (read_all out_of net.wires l) 0 Shut) ob in
       let ti : took net k ≡ (wire_at net a).wire.got ∷ [] = ap (λ (l : List ℕ). read_all got_of net.wires l) ia in
       let gi : gave net k ≡ (wire_at net b).wire.sent ∷ [] = ap (λ (l : List ℕ). read_all sent_of net.wires l) ob in
       record {
-        waited = linear_waited book k n.kind n.decider first l (view_of net k) (took net k) (gave net k) (wire_at net a).wire.got (wire_at net b).wire.sent f.begins law s.0 (vi ∙ e) (vo ∙ s.1) ti gi;
-        out = s.1;
+        waited = linear_waited book k n.kind n.decider first l (view_of net k) (took net k) (gave net k) (wire_at net a).wire.got (wire_at net b).wire.sent f.begins law s.0 s.1.1.0 s.1.1.1 (vi ∙ e) (vo ∙ s.1.0) ti gi;
+        out = s.1.0;
       }
 
   -- by its kind, which stays the same
@@ -142,7 +161,7 @@ module _ {S D : Type 0} (sources : S → SourceState) (drains : D → DrainState
     kind_lawful k n h (Reading first) (Reading x) fi f r law = subst (λ (kd : Kind). LawfulKind g w net.wires outlook k kd n.decider) (sym f.kind_is) tt
     kind_lawful k n h (Writing first) (Writing x) fi f r law = subst (λ (kd : Kind). LawfulKind g w net.wires outlook k kd n.decider) (sym f.kind_is) tt
     kind_lawful k n h (Linear first) (Linear x) fi f r law =
-        let o = one_each (row_in x.phase x.stage.work) net.wires (ports_at net k) r.row in
+        let o = one_each (row_in x.phase x.over x.pending x.stage.work) net.wires (ports_at net k) r.row in
         let i_at = input_at g net.ends net.ports (length net.nodes) net.wires (joined sources drains g net s m) outlook k o.a h o.ins in
         let o_at = output_at g net.ends net.ports (length net.nodes) net.wires (joined sources drains g net s m) outlook k o.b h o.outs in
         let vi : in_at (view_of net k) 0 ≡ (wire_at net o.a).wire.inp = ap (λ (l : List ℕ). get_or (read_all inp_of net.wires l) 0 Left) o.ins in
@@ -169,7 +188,7 @@ module _ {S D : Type 0} (sources : S → SourceState) (drains : D → DrainState
         let i_at = input_at g net.ends net.ports (length net.nodes) net.wires (joined sources drains g net s m) outlook k i.a h i.ins in
         subst (λ (kd : Kind). EachWire WireLawful (ins g (counts_of net.wires) outlook k kd)) (sym f.kind_is) (rw i_at.is (wire_lawful i.a i_at.within, tt))
     kind_wires k n h (Linear first) (Linear x) f r law =
-        let o = one_each (row_in x.phase x.stage.work) net.wires (ports_at net k) r.row in
+        let o = one_each (row_in x.phase x.over x.pending x.stage.work) net.wires (ports_at net k) r.row in
         let i_at = input_at g net.ends net.ports (length net.nodes) net.wires (joined sources drains g net s m) outlook k o.a h o.ins in
         linear_wires g w net.wires outlook k n.kind f.is_linear (rw i_at.is (wire_lawful o.a i_at.within, tt))
     kind_wires k n h (Reading first) (Linear x) f r law = absurd law

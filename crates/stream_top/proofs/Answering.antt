@@ -3,10 +3,10 @@ use Rattle.std.proofs.Common.{◌≡◌, ◌≢◌, ℕ, ◌<◌, ◌≤◌, Lis
 use Rattle.std.specs.Prelude.{IsTrue, IsSome, Option, Some, None}
 use Rattle.std.specs.Option.{option_map}
 use Rattle.std.proofs.lemmas.List.{take_all}
-use Rattle.blue_lang.specs.declared.blueprint.Node.{Node}
+use Rattle.straight_lang.specs.declared.blueprint.Node.{Node}
 use Rattle.stream_top.specs.Text.{text_limit, text_of_file, ReadsFile}
 use Rattle.stream_top.proofs.Quiets.{grew_two, quiet_two, files_two}
-use Rattle.blue_lang.specs.Straight.{Plain, IsStraight, IsNotStraight}
+use Rattle.straight_lang.specs.Straight.{Plain, IsStraight, IsNotStraight}
 use Rattle.stream_io.specs.Counts.{Rose, Grew}
 use Rattle.stream_io.specs.State.{FolderState, SameFiles}
 use Rattle.stream_top.specs.Quiet.{Quiet, QuietBut}

@@ -3,7 +3,7 @@ use Rattle.std.proofs.Common.{◌≡◌, ℕ, List, ◌⊎◌, inl, inr, refl, s
 use Rattle.std.specs.Prelude.{Bool, true, false, Option, Some, None, IsTrue}
 use Rattle.std.specs.List.{list_all}
 use Rattle.elem_core.specs.Text.{lines}
-use Rattle.blue_lang.specs.Straight.{Plain, IsStraight}
+use Rattle.straight_lang.specs.Straight.{Plain, IsStraight}
 use Rattle.stream_io.specs.State.{FolderState}
 use Rattle.stream_top.specs.Flow.{is_short}
 use Rattle.stream_top.specs.Outcome.{Says, IsAbsent, Told, IsValid, RoseNowhere}

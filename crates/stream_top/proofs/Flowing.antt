@@ -11,8 +11,8 @@ use Rattle.elem_core.specs.Prefix.{IsPrefix}
 use Rattle.elem_core.specs.Line.{has_no_lf}
 use Rattle.elem_core.specs.Tree.{Tree, text}
 use Rattle.elem_core.specs.Text.{lines, text_of, text_lines}
-use Rattle.blue_lang.specs.Lists.{composed}
-use Rattle.blue_lang.specs.declared.blueprint.Node.{Node}
+use Rattle.straight_lang.specs.Lists.{composed}
+use Rattle.straight_lang.specs.declared.blueprint.Node.{Node}
 use Rattle.stream_io.specs.State.{DrainState}
 use Rattle.stream_io.specs.Reading.{FirstTooLong}
 use Rattle.stream_top.specs.Writing.{Puts, PutsPart}

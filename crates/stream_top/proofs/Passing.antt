@@ -3,12 +3,12 @@ use Rattle.std.proofs.Common.{◌≡◌, ℕ, zero, suc, ◌+◌, ◌<◌, List,
 use Rattle.std.specs.Prelude.{slice_set, IsTrue, ◌&&◌, Option, Some, None, IfSome}
 use Rattle.std.proofs.lemmas.List.{set_split, take_more_set, drop-set-lt, drop_all, take_all, take-append-drop, get_or_default}
 use Rattle.elem_core.specs.Tree.{Tree, num, text, seq, both}
-use Rattle.blue_lang.specs.Types.{meets, flows, gives_texts}
+use Rattle.straight_lang.specs.Types.{meets, flows, gives_texts}
 use Rattle.stream_top.specs.Meeting.{suits, suits_all, texts_after}
-use Rattle.blue_lang.specs.Lists.{list_of, composed}
-use Rattle.blue_lang.specs.declared.kind.Kind.{Kind}
-use Rattle.blue_lang.specs.declared.kind.Kind.TheVariants.{Map, Filter, Take}
-use Rattle.blue_lang.specs.declared.blueprint.Node.{Node}
+use Rattle.straight_lang.specs.Lists.{list_of, composed}
+use Rattle.straight_lang.specs.declared.kind.Kind.{Kind}
+use Rattle.straight_lang.specs.declared.kind.Kind.TheVariants.{Map, Filter, Take}
+use Rattle.straight_lang.specs.declared.blueprint.Node.{Node}
 
 -- stages in a row give what the later ones give of what the earlier ones give
 pub composed-append : (ms ns : List Node) (l : List Tree) → composed (ms ++ ns) l ≡ composed ns (composed ms l)

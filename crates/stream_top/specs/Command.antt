@@ -1,6 +1,6 @@
 -- The command's words.
 use Rattle.std.specs.Prelude.{ℕ, if◌then◌else◌, List, [], ◌∷◌, Option, Some, None}
-use Rattle.blue_lang.specs.Names.{is_file_name}
+use Rattle.straight_lang.specs.Names.{is_file_name}
 
 -- the one word of the command where it is a file name; every other list of words has no meaning
 abbrev pub command_file : List (List ℕ) → Option (List ℕ)

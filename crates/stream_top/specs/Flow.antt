@@ -5,8 +5,8 @@ use Rattle.std.specs.Option.{option_map}
 use Rattle.elem_core.specs.Prefix.{IsPrefix}
 use Rattle.elem_core.specs.Tree.{text}
 use Rattle.elem_core.specs.Text.{text_lines}
-use Rattle.blue_lang.specs.Lists.{composed}
-use Rattle.blue_lang.specs.declared.blueprint.Node.{Node}
+use Rattle.straight_lang.specs.Lists.{composed}
+use Rattle.straight_lang.specs.declared.blueprint.Node.{Node}
 use Rattle.stream_io.specs.State.{DrainState}
 use Rattle.stream_top.specs.Writing.{Puts}
 

@@ -1,9 +1,9 @@
 -- Elements that meet stages of their type.
 use Rattle.std.specs.Prelude.{Bool, true, false, List}
 use Rattle.elem_core.specs.Tree.{Tree, num, text}
-use Rattle.blue_lang.specs.Types.{meets, flows, gives_texts}
-use Rattle.blue_lang.specs.declared.kind.Kind.{Kind}
-use Rattle.blue_lang.specs.declared.blueprint.Node.{Node}
+use Rattle.straight_lang.specs.Types.{meets, flows, gives_texts}
+use Rattle.straight_lang.specs.declared.kind.Kind.{Kind}
+use Rattle.straight_lang.specs.declared.blueprint.Node.{Node}
 
 -- the stage takes elements of this one's type
 abbrev pub suits : Tree → Kind → Bool

@@ -2,7 +2,7 @@
 use Rattle.std.specs.Prelude.{◌≡◌, ◌≢◌, ℕ, ◌⊎◌, true, false, IsSome, List, [], ◌∷◌, Some}
 use Rattle.std.specs.List.{list_all}
 use Rattle.elem_core.specs.Text.{lines}
-use Rattle.blue_lang.specs.Straight.{Plain, IsStraight}
+use Rattle.straight_lang.specs.Straight.{Plain, IsStraight}
 use Rattle.stream_io.specs.Counts.{Rose}
 use Rattle.stream_io.specs.State.{FolderState, SameFiles, Lacks}
 use Rattle.stream_top.specs.Quiet.{Quiet, QuietBut}

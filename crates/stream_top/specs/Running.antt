@@ -3,7 +3,7 @@ use Rattle.std.specs.Prelude.{◌≡◌, ◌≢◌, ℕ, false, IsTrue, List, So
 use Rattle.std.specs.List.{list_all}
 use Rattle.elem_core.specs.Prefix.{IsPrefix}
 use Rattle.elem_core.specs.Text.{lines}
-use Rattle.blue_lang.specs.declared.blueprint.Node.{Node}
+use Rattle.straight_lang.specs.declared.blueprint.Node.{Node}
 use Rattle.stream_io.specs.Counts.{Rose}
 use Rattle.stream_io.specs.State.{FolderState}
 use Rattle.stream_top.specs.Quiet.{Quiet, QuietBut}

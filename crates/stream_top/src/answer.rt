@@ -1,7 +1,7 @@
 // The answer of a call, from the words to the status and the sinks.
 ghost use Rattle.std.specs.Prelude.{ℕ, List, ◌≡◌, ◌≢◌, ◌∷◌, [], ◌↔◌, ◌⊎◌, true, IfOk, IsTrue, MatchBool, vec_len};
-ghost use Rattle.blue_lang.specs.Straight.{plain};
-ghost use Rattle.blue_lang.specs.Types.{flows};
+ghost use Rattle.straight_lang.specs.Straight.{plain};
+ghost use Rattle.straight_lang.specs.Types.{flows};
 ghost use Rattle.stream_top.specs.AfterFlow.{AfterFlow, OneSink};
 ghost use Rattle.stream_top.specs.Command.{command_file};
 ghost use Rattle.stream_top.specs.Outcome.{EndedRun, Told, Causes, SinksOf};
@@ -12,10 +12,10 @@ use crate::open::OpenEnd;
 use crate::outcome::{EndState, SinkEnd, Status};
 use crate::run::run;
 use crate::text::{ReadEnd, read_file};
-use blue_lang::blueprint::Blueprint;
-use blue_lang::laws::one_text_says_one_blueprint;
-use blue_lang::names::is_file_name;
-use blue_lang::parse::{ParseEnd, parse};
+use straight_lang::blueprint::Blueprint;
+use straight_lang::laws::one_text_says_one_blueprint;
+use straight_lang::names::is_file_name;
+use straight_lang::parse::{ParseEnd, parse};
 use elem_core::line::Line;
 use std::alloc::{AllocError, Global};
 use stream_io::outside::Folder;

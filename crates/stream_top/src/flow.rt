@@ -3,7 +3,7 @@ ghost use Rattle.std.specs.List.{list_all};
 ghost use Rattle.std.specs.Prelude.{◌≡◌, ◌+◌, ◌<◌, ◌^◌, ◌++◌, ◌∷◌, [], Bool, true, false, IsTrue, IsSome, IfOk, OnOk, OnErr, IfErr, if◌then◌else◌};
 ghost use Rattle.elem_core.specs.Line.{has_no_lf};
 ghost use Rattle.elem_core.specs.Text.{lines, text_of};
-ghost use Rattle.blue_lang.specs.Types.{flows};
+ghost use Rattle.straight_lang.specs.Types.{flows};
 ghost use Rattle.stream_io.specs.Counts.{Rose};
 ghost use Rattle.stream_io.specs.Reading.{rest};
 ghost use Rattle.stream_top.specs.Writing.{Puts, PutsPart};
@@ -12,7 +12,7 @@ ghost use Rattle.stream_top.specs.FlowEnds.{ReadsBy, WritesBy};
 
 use crate::pass::{is_spent, pass};
 use crate::put::put_all;
-use blue_lang::blueprint::Node;
+use straight_lang::blueprint::Node;
 use elem_core::elem::{Elem, Form};
 use elem_core::line_buf::{LineBuf, print_line};
 use std::alloc::{AllocError, Global};

@@ -2,14 +2,14 @@
 ghost use Rattle.std.specs.Prelude.{◌≡◌, ◌∷◌, ◌++◌, [], List, Bool, true, IfOk, IfSome, IsTrue};
 ghost use Rattle.std.specs.Option.{option_to_list};
 ghost use Rattle.elem_core.specs.Tree.{Tree};
-ghost use Rattle.blue_lang.specs.Types.{meets, flows, gives_texts};
-ghost use Rattle.blue_lang.specs.Lists.{list_of, composed};
-ghost use Rattle.blue_lang.specs.declared.kind.Kind.TheVariants.{Take};
-ghost use Rattle.blue_lang.specs.declared.blueprint.Node.{Node as StageNode};
+ghost use Rattle.straight_lang.specs.Types.{meets, flows, gives_texts};
+ghost use Rattle.straight_lang.specs.Lists.{list_of, composed};
+ghost use Rattle.straight_lang.specs.declared.kind.Kind.TheVariants.{Take};
+ghost use Rattle.straight_lang.specs.declared.blueprint.Node.{Node as StageNode};
 ghost use Rattle.stream_top.specs.Meeting.{suits, suits_all, texts_after};
 
-use blue_lang::blueprint::Node;
-use blue_lang::kind::Kind;
+use straight_lang::blueprint::Node;
+use straight_lang::kind::Kind;
 use elem_core::elem::Elem;
 use elem_core::function::FnEnd;
 use std::alloc::{AllocError, Global};

@@ -1,13 +1,13 @@
 // The run of a straight blueprint over a folder.
 ghost use Rattle.std.specs.Prelude.{◌≡◌, ◌≢◌, true, IfOk, IsTrue};
-ghost use Rattle.blue_lang.specs.Types.{flows};
+ghost use Rattle.straight_lang.specs.Types.{flows};
 ghost use Rattle.stream_top.specs.Text.{StaysMissing, StaysQuiet};
 ghost use Rattle.stream_top.specs.Opening.{OpensEnds, RefusesOutput};
 ghost use Rattle.stream_top.specs.Running.{Runs};
 
 use crate::flow::{Flowed, flow};
 use crate::open::{Ends, OpenEnd, open_ends};
-use blue_lang::blueprint::Node;
+use straight_lang::blueprint::Node;
 use elem_core::line::Line;
 use std::alloc::Global;
 use stream_io::line_reader::LineReader;

@@ -8,7 +8,7 @@ ghost use Rattle.stream_top.specs.Writing.{Puts, PutsPart};
 use crate::answer::{Outcome, file_of, run_file, without_sinks};
 use crate::outcome::{SinkEnd, Status};
 use crate::report::{code, put_report};
-use blue_lang::laws::one_text_says_one_blueprint;
+use straight_lang::laws::one_text_says_one_blueprint;
 use elem_core::line::Line;
 use std::alloc::Global;
 use stream_io::outside::{Drain, Failed, Folder};

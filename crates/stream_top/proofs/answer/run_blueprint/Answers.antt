@@ -1,4 +1,4 @@
-use Rattle.blue_lang.specs.Straight.{plain}
+use Rattle.straight_lang.specs.Straight.{plain}
 use Rattle.stream_top.proofs.Answering.{run_told, run_causes, run_sinks}
 use Rattle.stream_top.proofs.answer.run_blueprint.Goals as goal
 

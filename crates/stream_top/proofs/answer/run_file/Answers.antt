@@ -1,5 +1,5 @@
 use Rattle.std.proofs.Common.{ap, subst, Err}
-use Rattle.blue_lang.specs.Straight.{IsStraight, IsNotStraight, plain}
+use Rattle.straight_lang.specs.Straight.{IsStraight, IsNotStraight, plain}
 use Rattle.stream_top.proofs.Answering.{told_unbuilt, told_own_file, told_run, causes_later, unbuilt_is}
 use Rattle.stream_top.proofs.answer.run_file.Goals as goal
 

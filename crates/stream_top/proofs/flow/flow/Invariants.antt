@@ -1,7 +1,7 @@
 use Rattle.std.proofs.Common.{◌≡◌, ◌≤◌}
 use Rattle.std.specs.Prelude.{IsTrue, IsSome, true}
 use Rattle.elem_core.specs.Text.{lines}
-use Rattle.blue_lang.specs.Types.{flows}
+use Rattle.straight_lang.specs.Types.{flows}
 use Rattle.stream_io.specs.Reading.{rest}
 use Rattle.stream_top.specs.Flow.{Sends}
 use Rattle.stream_top.proofs.flow.flow.Given as goal

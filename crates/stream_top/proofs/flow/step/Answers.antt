@@ -1,5 +1,5 @@
 use Rattle.std.proofs.Common.{◌∷◌, ap, sym, ◌∙◌, Ok, Err}
-use Rattle.blue_lang.specs.Lists.{composed}
+use Rattle.straight_lang.specs.Lists.{composed}
 use Rattle.stream_top.proofs.Flowing.{sends_line, sends_none, stops_line, nothing_left}
 use Rattle.stream_top.proofs.flow.step.Goals as goal
 

@@ -1,7 +1,7 @@
 use Rattle.std.proofs.Common.{◌++◌, ◌<◌, length, arith, ap, ◌∙◌, length-set}
 use Rattle.std.specs.Option.{option_to_list}
-use Rattle.blue_lang.specs.Lists.{list_of}
-use Rattle.blue_lang.specs.declared.blueprint.Node.{Node}
+use Rattle.straight_lang.specs.Lists.{list_of}
+use Rattle.straight_lang.specs.declared.blueprint.Node.{Node}
 use Rattle.stream_top.proofs.Passing.{pass_none, pass_some, suits_next, flows_kept, given_fits}
 use Rattle.stream_top.proofs.pass.pass.Goals as goal
 

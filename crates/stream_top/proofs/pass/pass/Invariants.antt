@@ -1,8 +1,8 @@
 use Rattle.std.proofs.Common.{◌≡◌, ◌≤◌, ◌-◌, List, ◌∷◌, take, drop, length, Bool}
 use Rattle.std.specs.Prelude.{IsTrue}
 use Rattle.elem_core.specs.Tree.{Tree}
-use Rattle.blue_lang.specs.Types.{flows}
-use Rattle.blue_lang.specs.Lists.{composed}
+use Rattle.straight_lang.specs.Types.{flows}
+use Rattle.straight_lang.specs.Lists.{composed}
 use Rattle.stream_top.specs.Meeting.{suits_all}
 use Rattle.stream_top.proofs.pass.pass.Given as goal
 

@@ -24,10 +24,8 @@ pub fn a_source_agrees_with_its_outlook<S: Source>()
 {}
 
 /// No more was read than the lines that it gave, with their LFs, and one piece; and one longest line more where it failed.
-/// This is said where no more was handed out than the file has.
 pub fn a_source_reads_little_ahead<S: Source>()
-    ensures { (first now : Lines S) (v : View) (took gave : List (List Item)) (bytes : List ℕ) → (law : LinesLaw S.state first now v took gave)
-        → (S.state first.reader.source).whole ≡ Some bytes → (S.state now.reader.source).given ≤ length bytes
+    ensures { (first now : Lines S) (v : View) (took gave : List (List Item)) → (law : LinesLaw S.state first now v took gave)
         → (S.state now.reader.source).given ≤ (S.state first.reader.source).given + length (ended_lines law.lines_drawn) + read_ahead law.end }
 {}
 

@@ -116,6 +116,9 @@ impl<S: Source> LineReader<S> {
         ensures bound { length self.new.kept ≤ 69632 }
         ensures given { (S.state self.old.source).given ≤ (S.state self.new.source).given }
         ensures reads { (S.state self.new.source).given + length self.old.kept ≤ (S.state self.old.source).given + 69632 }
+        ensures read_for_line { IfOk result (λ next. IfSome next (λ line. (S.state self.new.source).given + length self.old.kept ≤ (S.state self.old.source).given + (length self.new.kept + (length line + 1)))) }
+        ensures read_at_end { result ≡ Ok None → (S.state self.new.source).given + length self.old.kept ≡ (S.state self.old.source).given + length self.new.kept }
+        ensures read_at_fault { OnErr result ((S.state self.new.source).given + length self.old.kept ≡ (S.state self.old.source).given + length self.new.kept) }
         ensures name { (S.state self.new.source).name ≡ (S.state self.old.source).name }
         ensures whole { (S.state self.new.source).whole ≡ (S.state self.old.source).whole }
     {

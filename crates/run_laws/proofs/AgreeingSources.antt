@@ -1,6 +1,6 @@
 -- The sources of lines of a net that was made of a blueprint: what each read.
 use Rattle.std.specs.Prelude.{slice_get}
-use Rattle.std.proofs.Common.{◌≡◌, ℕ, ◌<◌, ◌≤◌, List, length, Some, refl, sym, ap, subst, ◌∙◌}
+use Rattle.std.proofs.Common.{◌≡◌, ℕ, ◌<◌, List, length, Some, refl, sym, ap, subst, ◌∙◌}
 use Rattle.elem_core.specs.declared.item.Item.{Item}
 use Rattle.port_core.specs.View.{View}
 use Rattle.stage_linear.specs.States.{IsLinear}
@@ -48,8 +48,8 @@ module _ {S D : Type 0} (sources : S → SourceState) (drains : D → DrainState
       (c.0, (c.1.0, record { at_first = first.1 ∙ ap (λ (y : Node S D). Some y) c.1.1.0; at_last = x.1 ∙ ap (λ (y : Node S D). Some y) c.1.1.1 }))
 
   pub every_source : (k : ℕ) (n : graph.Node) (first now : Lines S) (u : ℕ) (v : Wire) (bytes : List ℕ) → slice_get g.nodes k ≡ Some n → IsSourceAt net k first now → slice_get g.wires u ≡ Some v → v.from ≡ k
-      → (sources first.reader.source).whole ≡ Some bytes → (sources now.reader.source).given ≤ length bytes → SentLines bytes (sources first.reader.source) (sources now.reader.source) (wire_at net u).wire.sent
-  every_source k n first now u v bytes ni at ui from whole few =
+      → (sources first.reader.source).whole ≡ Some bytes → SentLines bytes (sources first.reader.source) (sources now.reader.source) (wire_at net u).wire.sent
+  every_source k n first now u v bytes ni at ui from whole =
       let hk = within k n ni in
       let wires : length net.wires ≡ length g.wires = sym settled.wired.each_wire ∙ made.wires in
       let hu : u < length net.wires = rw wires (slice_get-below g.wires u v ui) in
@@ -58,4 +58,4 @@ module _ {S D : Type 0} (sources : S → SourceState) (drains : D → DrainState
       let port : slice_get (ports_at net k).outs (end_at net.ends u).output ≡ Some u = rw place at (settled.wired.from_output u hu) in
       let law : LinesLaw sources first now (view_of net k) (took net k) (gave net k) = (settled.minded k hk (Reading now) (Reading first) at.at_last at.at_first).law_holds in
       let its : FirstReading sources k n.kind first = made.each_node k n (Reading first) ni at.at_first in
-      sent_lines sources first now (view_of net k) (took net k) (gave net k) law bytes its.kept its.given whole few (end_at net.ends u).output (wire_at net u).wire.sent (read_there sent_of net.wires (ports_at net k).outs (end_at net.ends u).output u port)
+      sent_lines sources first now (view_of net k) (took net k) (gave net k) law bytes its.kept its.given whole (end_at net.ends u).output (wire_at net u).wire.sent (read_there sent_of net.wires (ports_at net k).outs (end_at net.ends u).output u port)

@@ -17,20 +17,12 @@ use Rattle.run_laws.proofs.Readings.{one_port}
 left_at_first : (s : SourceState) (kept bytes : List ℕ) → kept ≡ [] → s.given ≡ 0 → s.whole ≡ Some bytes → rest s kept ≡ bytes
 left_at_first s kept bytes a b c = rw (a, b, c) refl
 
-left_of : (s : SourceState) (kept bytes : List ℕ) → s.whole ≡ Some bytes → rest s kept ≡ kept ++ drop s.given bytes
-left_of s kept bytes c = rw c refl
-
 is_told : (s : SourceState) (bytes : List ℕ) → s.whole ≡ Some bytes → IsSome s.whole
 is_told s bytes c = rw c refl
 
--- what was read is those lines and what is kept
-read_so : (bytes kept : List ℕ) (n : ℕ) (ls : List (List ℕ)) → n ≤ length bytes → Stood bytes ls (kept ++ drop n bytes) → n ≤ length (ended_lines ls) + length kept
-read_so bytes kept n ls h (inl e) =
-    let size : length bytes ≡ length (ended_lines ls ++ (kept ++ drop n bytes)) = ap length e in
-    omega (arith, h, size, length-append (ended_lines ls) (kept ++ drop n bytes), length-append kept (drop n bytes), length-drop n bytes)
-read_so bytes kept n ls h (inr e) =
-    let size : length (bytes ++ 10 ∷ []) ≡ length (ended_lines ls) = ap length e.0 in
-    omega (arith, h, size, length-append bytes (10 ∷ []))
+-- what was read from the start on is those lines and what is kept
+read_so : (first now size kept : ℕ) → first ≡ 0 → now ≤ first + (size + kept) → now ≤ size + kept
+read_so first now size kept e h = omega (arith, e, h)
 
 module _ {S : Type 0} (state : S → SourceState) (first now : Lines S) (bytes : List ℕ) (ls : List (List ℕ)) (told : (state now.reader.source).whole ≡ Some bytes)
     (few : length now.reader.kept ≤ 69632) (read : (state now.reader.source).given ≤ length (ended_lines ls) + length now.reader.kept) where
@@ -41,14 +33,12 @@ module _ {S : Type 0} (state : S → SourceState) (first now : Lines S) (bytes :
   ahead_by (failed c) (by_line is same long) = inr (inr (long (is_told (state now.reader.source) bytes told)), omega (arith, read, few))
 
 module _ {S : Type 0} (state : S → SourceState) (first now : Lines S) (v : View) (took gave : List (List Item)) (law : LinesLaw state first now v took gave) (bytes : List ℕ) where
-  pub sent_lines : first.reader.kept ≡ [] → (state first.reader.source).given ≡ 0 → (state first.reader.source).whole ≡ Some bytes → (state now.reader.source).given ≤ length bytes
+  pub sent_lines : first.reader.kept ≡ [] → (state first.reader.source).given ≡ 0 → (state first.reader.source).whole ≡ Some bytes
       → (p : ℕ) (h : List Item) → slice_get gave p ≡ Some h → SentLines bytes (state first.reader.source) (state now.reader.source) h
-  sent_lines kept given whole within p h at =
+  sent_lines kept given whole p h at =
       let whole_now : (state now.reader.source).whole ≡ Some bytes = law.whole ∙ whole in
       let drew : Drew bytes law.lines_drawn (left state now) =
       subst (λ (x : List ℕ). Drew x law.lines_drawn (left state now)) (left_at_first (state first.reader.source) first.reader.kept bytes kept given whole) (law.drew (is_told (state now.reader.source) bytes whole_now)) in
-      let stood : Stood bytes law.lines_drawn (now.reader.kept ++ drop (state now.reader.source).given bytes) =
-      subst (λ (x : List ℕ). Stood bytes law.lines_drawn x) (left_of (state now.reader.source) now.reader.kept bytes whole_now) drew.stood in
       let here : slice_get (told (map text law.lines_drawn) law.end ∷ []) p ≡ Some h = rw law.gave_is at at in
       record {
         drawn = law.lines_drawn;
@@ -56,5 +46,5 @@ module _ {S : Type 0} (state : S → SourceState) (first now : Lines S) (v : Vie
         end = law.end;
         lines_are = drew.lines_are;
         sent_is = one_port (told (map text law.lines_drawn) law.end) p h here;
-        ahead = ahead_by state first now bytes law.lines_drawn whole_now law.kept (read_so bytes now.reader.kept (state now.reader.source).given law.lines_drawn within stood) law.end law.ends;
+        ahead = ahead_by state first now bytes law.lines_drawn whole_now law.kept (read_so (state first.reader.source).given (state now.reader.source).given (length (ended_lines law.lines_drawn)) (length now.reader.kept) given law.read) law.end law.ends;
       }

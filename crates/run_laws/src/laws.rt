@@ -60,12 +60,12 @@ pub fn every_sink_counts_its_lines<S: Source, D: Drain>()
 {}
 
 /// A node of the kind of a source of lines is one (`there`). The elements that it sent are the first lines of its file, and
-/// of the file little more was handed out than those (`reads`). This is said where no more was handed out than the file has.
+/// of the file little more was handed out than those (`reads`).
 pub fn every_source_reads_little_ahead<S: Source, D: Drain>()
     ensures there { (g : Graph) (net : Net (Node S D)) → Settled node_row (node_law S.state D.state) net → Materializes S.state g net.firsts net.ends
         → (k : ℕ) (n : graph.Node) (name : List ℕ) → slice_get g.nodes k ≡ Some n → n.kind ≡ kind.Lines name → (first : Lines S) × ((now : Lines S) × IsSourceAt net k first now) }
     ensures reads { (g : Graph) (net : Net (Node S D)) → Settled node_row (node_law S.state D.state) net → Materializes S.state g net.firsts net.ends
         → (k : ℕ) (n : graph.Node) (first now : Lines S) (u : ℕ) (v : Wire) (bytes : List ℕ) → slice_get g.nodes k ≡ Some n → IsSourceAt net k first now → slice_get g.wires u ≡ Some v → v.from ≡ k
-        → (S.state first.reader.source).whole ≡ Some bytes → (S.state now.reader.source).given ≤ length bytes
+        → (S.state first.reader.source).whole ≡ Some bytes
         → SentLines bytes (S.state first.reader.source) (S.state now.reader.source) (wire_at net u).wire.sent }
 {}

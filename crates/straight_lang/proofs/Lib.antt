@@ -4,7 +4,6 @@ pub mod Bridge
 pub mod Bytes
 pub mod Cutting
 pub mod LentNames
-pub mod ListLaws
 pub mod Numerals
 pub mod SaysBody
 pub mod SaysNode

@@ -1,54 +1,9 @@
 // Laws and worked values of the definitions: each function has no body, and its contract is what holds.
-ghost use Rattle.std.specs.Prelude.{◌≡◌, pos, negsuc, ℕ, Bool, List, [], ◌∷◌, ◌++◌, map, take, Ok, Err, codes};
-ghost use Rattle.std.specs.List.{All, filter};
-ghost use Rattle.elem_core.specs.Tree.{Tree, num, text};
-ghost use Rattle.elem_core.specs.Values.{map_value, pred_value};
-ghost use Rattle.elem_core.specs.declared.why.Why.{Why};
-ghost use Rattle.elem_core.specs.declared.function.MapFn.{MapFn};
-ghost use Rattle.elem_core.specs.declared.function.MapFn.TheVariants.{Len, Num};
-ghost use Rattle.elem_core.specs.declared.function.Pred.{Pred};
-ghost use Rattle.elem_core.specs.declared.function.Pred.TheVariants.{Blank, Even, Starts, Lt};
-ghost use Rattle.straight_lang.specs.declared.blueprint.Node.{Node};
+ghost use Rattle.std.specs.Prelude.{◌≡◌, pos, negsuc, ℕ, List, [], ◌∷◌, codes};
+ghost use Rattle.elem_core.specs.declared.function.MapFn.TheVariants.{Len};
+ghost use Rattle.elem_core.specs.declared.function.Pred.TheVariants.{Starts, Lt};
 ghost use Rattle.straight_lang.specs.declared.kind.Kind.TheVariants.{Map, Filter, Take};
-ghost use Rattle.straight_lang.specs.Lists.{composed, list_of};
 ghost use Rattle.straight_lang.specs.Straight.{IsNotStraight, IsStraight, Plain};
-
-/// A map gives the function's value for each element, where it gives one for each.
-pub fn maps_map()
-    ensures { (f : MapFn) (g : Tree → Tree) (ts : List Tree) → All (λ t. map_value f t ≡ Ok (g t)) ts → list_of (Map f) ts ≡ map g ts }
-{}
-
-/// A map ends before the first element for which the function gives no value.
-pub fn maps_end()
-    ensures { (f : MapFn) (g : Tree → Tree) (ts us : List Tree) (t : Tree) (w : Why) → All (λ t. map_value f t ≡ Ok (g t)) ts → map_value f t ≡ Err w → list_of (Map f) (ts ++ t ∷ us) ≡ map g ts }
-{}
-
-/// A filter gives the elements for which the predicate is true, where it has an answer for each.
-pub fn filters_filter()
-    ensures { (p : Pred) (g : Tree → Bool) (ts : List Tree) → All (λ t. pred_value p t ≡ Ok (g t)) ts → list_of (Filter p) ts ≡ filter g ts }
-{}
-
-/// A filter ends before the first element for which the predicate has no answer.
-pub fn filters_end()
-    ensures { (p : Pred) (g : Tree → Bool) (ts us : List Tree) (t : Tree) (w : Why) → All (λ t. pred_value p t ≡ Ok (g t)) ts → pred_value p t ≡ Err w → list_of (Filter p) (ts ++ t ∷ us) ≡ filter g ts }
-{}
-
-/// Stages in a row give what the later ones give of what the earlier ones give.
-pub fn stages_compose()
-    ensures { (ns ms : List Node) (ts : List Tree) → composed (ns ++ ms) ts ≡ composed ms (composed ns ts) }
-{}
-
-/// What stages give of small lists.
-pub fn lists_are_worked()
-    ensures log { composed (record { name = codes "a"; kind = Filter (Starts (codes "disk")) } ∷ record { name = codes "b"; kind = Map Len } ∷ record { name = codes "c"; kind = Take 2 } ∷ []) (text (codes "disk full") ∷ text (codes "ok") ∷ text (codes "disk") ∷ text (codes "disk x") ∷ []) ≡ num (pos 9) ∷ num (pos 4) ∷ [] }
-    ensures take_none { list_of (Take 0) (num (pos 1) ∷ []) ≡ [] }
-    ensures take_all { list_of (Take 3) (num (pos 1) ∷ num (pos 2) ∷ []) ≡ num (pos 1) ∷ num (pos 2) ∷ [] }
-    ensures lengths { list_of (Map Len) (text [] ∷ text (codes "ab") ∷ []) ≡ num (pos 0) ∷ num (pos 2) ∷ [] }
-    ensures blanks { list_of (Filter Blank) (text (codes " ") ∷ text [] ∷ []) ≡ text [] ∷ [] }
-    ensures small { list_of (Filter (Lt (pos 2))) (num (pos 2) ∷ num (pos 1) ∷ []) ≡ num (pos 1) ∷ [] }
-    ensures no_number { list_of (Map Num) (text (codes "7") ∷ text (codes "x") ∷ text (codes "8") ∷ []) ≡ num (pos 7) ∷ [] }
-    ensures other_type { list_of (Filter Even) (text (codes "4") ∷ []) ≡ [] }
-{}
 
 /// At most one blueprint is said by a text.
 pub fn one_text_says_one_blueprint()

@@ -1,4 +1,4 @@
-//! The blueprint language, and what its stages make of a list of elements.
+//! The straight form of blueprints: the lines of one file pass through stages to the lines of another.
 #![tactic(auto)]
 
 pub mod blueprint;

@@ -8,6 +8,7 @@ use Rattle.port_core.specs.Joint.{IsSound, Kept}
 use Rattle.port_core.specs.Wire.{Wire}
 use Rattle.port_core.specs.View.{View, IsInOpen, IsOutOpen, ActAllowed}
 use Rattle.port_core.specs.View as view
+use Rattle.port_core.specs.Asking.{AsksStand}
 use Rattle.port_core.specs.declared.act.Act.{Act}
 use Rattle.port_core.specs.declared.act.Act.TheVariants.{Pull, Push, Complete, FailOut, Cancel}
 use Rattle.port_core.specs.declared.view.InView.{InView}
@@ -17,14 +18,16 @@ use Rattle.port_core.specs.declared.view.OutView.TheVariants.{Asked, Shut}
 use Rattle.port_core.proofs.Wires.{pull_kept, push_kept, close_kept, cancel_kept}
 use Rattle.stage_core.specs.Histories.{given_by}
 use Rattle.wire_core.specs.Cell.{Cell, moved_by, queues_by}
+use Rattle.wire_core.specs.Marks.{IsMarked}
+use Rattle.wire_core.proofs.Marking.{pull_marked, push_marked, close_marked, cancel_marked}
 use Rattle.wire_core.specs.Counts.{asks}
 use Rattle.fused_net.specs.PortLists.{PortLists}
 use Rattle.fused_net.specs.Net.{Net, no_wire, read_all, inp_of, out_of, got_of, sent_of, wire_at, ports_at, view_of, took, gave, wire_for, HasPort, acted, acted_all, Able}
-use Rattle.fused_net.specs.Laws.{AnyRow, AnyLaw, Wired, Minds, IsMinded, Settled, Busy}
+use Rattle.fused_net.specs.Laws.{AnyRow, AnyLaw, Wired, Minds, IsMinded, AllAsked, Settled, Busy}
 use Rattle.fused_net.specs.Costs.{all_asks}
 use Rattle.fused_net.proofs.Reading.{same_or_not, read_at, port_there, get_there}
 use Rattle.fused_net.proofs.Sums.{sum_has}
-use Rattle.fused_net.proofs.Nets.{sound_put, others_in, others_out, here_in, here_out}
+use Rattle.fused_net.proofs.Nets.{sound_put, marked_put, others_in, others_out, here_in, here_out}
 
 -- where an action may be done at a wire
 abbrev pub Fits : Act → Wire → Type 0
@@ -56,6 +59,20 @@ move_kept (Push j x) c q h e = push_kept x c.wire q h e
 move_kept (Complete j) c q h e = close_kept None c.wire q h e
 move_kept (FailOut j d) c q h e = close_kept (Some d) c.wire q h e
 move_kept (Cancel i) c q h e = cancel_kept c.wire q h e
+
+pub move_marked : (a : Act) (c : Cell) (q : Bool) → IsSound c.wire q → Fits a c.wire → IsMarked c → IsMarked (moved_by a c)
+move_marked (Pull i) c q h e m = pull_marked c.wire c.asked m
+move_marked (Push j x) c q h e m = push_marked x c.wire q h e
+move_marked (Complete j) c q h e m = close_marked None c.wire c.asked m
+move_marked (FailOut j d) c q h e m = close_marked (Some d) c.wire c.asked m
+move_marked (Cancel i) c q h e m = cancel_marked c.wire c.asked m
+
+pub stands_next : (a : Act) (acts : List Act) → AsksStand (a ∷ acts) → AsksStand acts
+stands_next (Pull i) acts h = h.1
+stands_next (Push j x) acts h = h
+stands_next (Complete j) acts h = h
+stands_next (FailOut j c) acts h = h
+stands_next (Cancel i) acts h = h
 
 -- what is read at a port and written there again
 pub keep_at : {X : Type 0} (f : Cell → X) (wires : List Cell) (ws : List ℕ) (i w : ℕ) (d : X) → slice_get ws i ≡ Some w → set (read_all f wires ws) i (f (get_or wires w no_wire)) ≡ read_all f wires ws
@@ -130,7 +147,9 @@ module _ {N : Type 0} (row : N → View → Type 0) (law : N → N → View → 
         wired = rw length-set busy.wired;
         each_first = busy.each_first;
         sound = sound_put net (wire_for a (ports_at net n)) _ _ within (λ u hu _. busy.sound u hu) (move_kept a _ _ (busy.sound _ within) f.1).sound;
+        marked = marked_put net (wire_for a (ports_at net n)) (moved_by a (wire_at net (wire_for a (ports_at net n)))) (queued net n a) within (λ u hu _. busy.marked u hu) (move_marked a _ _ (busy.sound _ within) f.1 (busy.marked _ within));
         within = busy.within;
+        stands = stands_next a acts busy.stands;
         here = λ y fy yi fi. here_acted net n a acts y fy busy.wired busy.within f.0 within (busy.here y fy yi fi);
         others = λ k hk ne. others_acted net n a busy.wired busy.within f.0 within k hk ne (busy.others k hk ne);
       }
@@ -151,12 +170,14 @@ module _ {N : Type 0} (row : N → View → Type 0) (law : N → N → View → 
       }
 
   -- nothing is left to do
-  pub settled : (net : Net N) (n : ℕ) → Busy row law net n [] → Settled row law net
-  settled net n busy = record {
+  pub settled : (net : Net N) (n : ℕ) → Busy row law net n [] → AllAsked row law net → Settled row law net
+  settled net n busy asked = record {
     wired = busy.wired;
     each_first = busy.each_first;
     sound = busy.sound;
+    marked = busy.marked;
     minded = λ k hk. elim (same_or_not k n) [ inl same ↦ rw same busy.here | inr other ↦ busy.others k hk other ];
+    asked = asked;
   }
 
   -- in a loop over the actions
@@ -169,16 +190,13 @@ module _ {N : Type 0} (row : N → View → Type 0) (law : N → N → View → 
   pub next_able : (net : Net N) (n : ℕ) (a : Act) (old new : List Act) → old ≡ a ∷ new → Busy row law net n old → all_asks net ≤ 4000000000 → Able net n a
   next_able net n a old new e busy few = let at : Busy row law net n (a ∷ new) = rw e at busy in able net n a new at few
 
-  pub settled_at : (net : Net N) (n : ℕ) (acts : List Act) → acts ≡ [] → Busy row law net n acts → Settled row law net
-  settled_at net n acts e busy = let at : Busy row law net n [] = rw e at busy in settled net n at
-
   -- all actions of a node are done
   pub acts_busy : (acts : List Act) (net : Net N) (n : ℕ) → Busy row law net n acts → Busy row law (acted_all net n acts) n []
   acts_busy [] net n busy = busy
   acts_busy (a ∷ acts) net n busy = acts_busy acts (acted net n a) n (acted_busy net n a acts busy)
 
-  pub acts_settled : (net : Net N) (n : ℕ) (acts : List Act) → Busy row law net n acts → Settled row law (acted_all net n acts)
-  acts_settled net n acts busy = settled (acted_all net n acts) n (acts_busy acts net n busy)
+  pub acts_settled : (net : Net N) (n : ℕ) (acts : List Act) → Busy row law net n acts → AllAsked row law (acted_all net n acts) → Settled row law (acted_all net n acts)
+  acts_settled net n acts busy asked = settled (acted_all net n acts) n (acts_busy acts net n busy) asked
 
 -- where node n may act, what holds of it and of another node goes on by any row and law
 module _ {N : Type 0} (row : N → View → Type 0) (law : N → N → View → List (List Item) → List (List Item) → Type 0) where
@@ -187,7 +205,9 @@ module _ {N : Type 0} (row : N → View → Type 0) (law : N → N → View → 
     wired = busy.wired;
     each_first = busy.each_first;
     sound = busy.sound;
+    marked = busy.marked;
     within = busy.within;
+    stands = busy.stands;
     here = λ x first xi fi. record { allowed = (busy.here x first xi fi).allowed; row_holds = tt; law_holds = tt };
     others = λ k hk ne x first xi fi. record { allowed = tt; row_holds = tt; law_holds = tt };
   }

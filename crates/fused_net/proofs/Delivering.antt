@@ -8,20 +8,24 @@ use Rattle.elem_core.specs.declared.item.Item.TheVariants as item
 use Rattle.port_core.specs.Ring.{holds}
 use Rattle.port_core.specs.Joint.{IsSound, Heard}
 use Rattle.port_core.specs.View.{View, IsOutOpen}
+use Rattle.port_core.specs.Asking.{AsksStand}
 use Rattle.port_core.specs.Call.{Call, CallAllowed, MayCome, seen}
 use Rattle.port_core.specs.Wire.{Delivery, nothing, ask, refusal, brought, delivery_of, after_delivery, again}
 use Rattle.port_core.specs.declared.act.Act.{Act}
 use Rattle.port_core.specs.declared.view.InView.TheVariants.{Left}
 use Rattle.port_core.specs.declared.view.OutView.TheVariants.{Shut}
 use Rattle.port_core.proofs.Wires.{deliver_kept, deliver_heard}
+use Rattle.wire_core.specs.Marks.{IsMarked}
+use Rattle.wire_core.proofs.Marking.{deliver_marked}
 use Rattle.stage_core.specs.Histories.{brought_by}
 use Rattle.stage_core.specs.Handling.{Handles}
 use Rattle.fused_net.specs.declared.net.Ends.{Ends}
 use Rattle.fused_net.specs.Net.{Net, inp_of, out_of, got_of, sent_of, end_at, wire_at, ports_at, view_of, took, gave, target, call_of, told_by, told, event_told, with_node, before}
 use Rattle.fused_net.specs.Laws.{Wired, Minds, IsMinded, Settled, Busy, MeetsAt, Awaits}
 use Rattle.fused_net.proofs.Reading.{read_same, read_at, get_there, get_set_same, get_set_other}
-use Rattle.fused_net.proofs.Nets.{sound_put, minds_along, others_in, others_out, here_in, here_out}
+use Rattle.fused_net.proofs.Nets.{sound_put, marked_put, minds_along, others_in, others_out, here_in, here_out}
 use Rattle.fused_net.proofs.Acting.{keep_at}
+use Rattle.fused_net.proofs.Asking.{told_asked}
 
 pub queued_here : (queue : List ℕ) (w : ℕ) → holds (w ∷ queue) w ≡ true
 queued_here queue w = grind (arith, common_steps, nat_tests)
@@ -67,6 +71,14 @@ module _ {N : Type 0} (row : N → View → Type 0) (law : N → N → View → 
       → (u : ℕ) → u < length (told net w d).wires → IsSound (wire_at (told net w d) u).wire (holds (told net w d).queue u)
   sound_told net w d s h absent sound = sound_put net w _ _ h (sound_there net w s) (rw absent sound)
 
+  marked_told : (net : Net N) (w : ℕ) (d : Delivery) → Settled row law (before net w) → w < length net.wires → IsMarked (told_by d (wire_at net w))
+      → (u : ℕ) → u < length (told net w d).wires → IsMarked (wire_at (told net w d) u)
+  marked_told net w d s h m = marked_put net w (told_by d (wire_at net w)) (again d) h (λ u hu n. s.marked u hu) m
+
+  -- the wire of the event stays marked as it was asked
+  pub marked_here : (net : Net N) (w : ℕ) → Settled row law (before net w) → w < length net.wires → IsMarked (told_by (delivery_of (wire_at net w).wire) (wire_at net w))
+  marked_here net w s h = deliver_marked (wire_at net w).wire (wire_at net w).asked (sound_here net w s h) (s.marked w h)
+
   -- what the node that heard it knows
   here_told : (d : Delivery) (net : Net N) (w : ℕ) (y first : N) (acts : List Act) → d ≢ nothing → Wired net.ends net.ports (length net.nodes) (length net.wires) → w < length net.wires
       → Minds row law y first (seen (call_of d (end_at net.ends w)) (view_of net (target d (end_at net.ends w)))) (brought_by (call_of d (end_at net.ends w)) (took net (target d (end_at net.ends w)))) (gave net (target d (end_at net.ends w))) acts
@@ -99,15 +111,17 @@ module _ {N : Type 0} (row : N → View → Type 0) (law : N → N → View → 
 
   -- a node is replaced by one that minds what it knows
   pub with_node_busy : (net : Net N) (n : ℕ) (y : N) (acts : List Act) → Wired net.ends net.ports (length net.nodes) (length net.wires) → length net.firsts ≡ length net.nodes
-      → ((u : ℕ) → u < length net.wires → IsSound (wire_at net u).wire (holds net.queue u)) → n < length net.nodes
+      → ((u : ℕ) → u < length net.wires → IsSound (wire_at net u).wire (holds net.queue u)) → ((u : ℕ) → u < length net.wires → IsMarked (wire_at net u)) → n < length net.nodes → AsksStand acts
       → ((first : N) → slice_get net.firsts n ≡ Some first → Minds row law y first (view_of net n) (took net n) (gave net n) acts)
       → ((k : ℕ) → k < length net.nodes → k ≢ n → IsMinded row law net k [])
       → Busy row law (with_node net n y) n acts
-  with_node_busy net n y acts wired each sound h m others = record {
+  with_node_busy net n y acts wired each sound marked h stands m others = record {
     wired = rw length-set wired;
     each_first = rw length-set each;
     sound = sound;
+    marked = marked;
     within = rw length-set h;
+    stands = stands;
     here = λ x first xi fi. let same : y ≡ x = cc_some y x (sym (get_set_same net.nodes n y h) ∙ xi) in subst (λ (z : N). Minds row law z first (view_of net n) (took net n) (gave net n) acts) same (m first fi);
     others = λ k hk ne x first xi fi. let within : k < length net.nodes = rw length-set at hk in
         others k within ne x first (sym (get_set_other net.nodes n k y ne) ∙ xi) fi;
@@ -116,17 +130,20 @@ module _ {N : Type 0} (row : N → View → Type 0) (law : N → N → View → 
   -- an event that comes to nothing
   pub nothing_settled : (net : Net N) (w : ℕ) → Settled row law (before net w) → w < length net.wires → holds net.queue w ≡ false → delivery_of (wire_at net w).wire ≡ nothing → Settled row law (event_told net w)
   nothing_settled net w s h absent e =
+      let marked : IsMarked (told_by nothing (wire_at net w)) = rw e at (marked_here net w s h) in
       let sound : IsSound (wire_at net w).wire false = rw e at (deliver_kept (wire_at net w).wire (sound_here net w s h)) in
       rw e (record {
         wired = rw length-set s.wired;
         each_first = s.each_first;
         sound = sound_told net w nothing s h absent sound;
+        marked = marked_told net w nothing s h marked;
         minded = λ n hn x first xi fi. minds_along row law x first _ _ _ _ _ _ []
             (read_same inp_of net.wires w (told_by nothing (wire_at net w)) (ports_at net n).ins h refl)
             (read_same out_of net.wires w (told_by nothing (wire_at net w)) (ports_at net n).outs h refl)
             (read_same got_of net.wires w (told_by nothing (wire_at net w)) (ports_at net n).ins h refl)
             (read_same sent_of net.wires w (told_by nothing (wire_at net w)) (ports_at net n).outs h refl)
             (s.minded n hn x first xi fi);
+        asked = told_asked row law net w nothing h s.asked;
       })
 
   pub handled_busy : (net : Net N) (w : ℕ) (d : Delivery) (x y : N) (acts : List Act) → Settled row law (before net w) → w < length net.wires → holds net.queue w ≡ false
@@ -134,6 +151,7 @@ module _ {N : Type 0} (row : N → View → Type 0) (law : N → N → View → 
       → Busy row law (with_node (told net w d) (target d (end_at net.ends w)) y) (target d (end_at net.ends w)) acts
   handled_busy net w d x y acts s h absent e n xi handles =
       let heard : Heard d (wire_at net w).wire = rw e (deliver_heard (wire_at net w).wire (sound_here net w s h)) in
+      let marked : IsMarked (told_by d (wire_at net w)) = rw e (marked_here net w s h) in
       let sound : IsSound (after_delivery d (wire_at net w).wire) (again d) = rw e (deliver_kept (wire_at net w).wire (sound_here net w s h)) in
       let hn : target d (end_at net.ends w) < length net.nodes = target_within d net w s.wired h in
       let may : CallAllowed (call_of d (end_at net.ends w)) (view_of net (target d (end_at net.ends w))) = may_at d net w n s.wired h heard in
@@ -141,7 +159,9 @@ module _ {N : Type 0} (row : N → View → Type 0) (law : N → N → View → 
       (rw length-set s.wired)
       s.each_first
       (sound_told net w d s h absent sound)
+      (marked_told net w d s h marked)
       hn
+      handles.stands
       (λ first fi. here_told d net w y first acts n s.wired h (minds_event (call_of d (end_at net.ends w)) x y first _ _ _ acts handles may (s.minded (target d (end_at net.ends w)) hn x first xi fi)))
       (λ k hk ne. others_told d net w n s.wired h k hk ne (s.minded k hk))
 

@@ -12,13 +12,15 @@ use Rattle.port_core.specs.declared.act.Act.TheVariants.{Pull, Push, Complete, F
 use Rattle.wire_core.specs.Cell.{Cell, moved_by}
 use Rattle.wire_core.specs.Counts.{spent, asks}
 use Rattle.wire_core.proofs.Counting.{pull_spent, push_spent, close_spent, cancel_spent, deliver_spent, pull_asks, push_asks, close_asks, cancel_asks}
-use Rattle.fused_net.specs.Net.{Net, no_wire, wire_at, ports_at, wire_for, put, acted, acted_all, event_told, with_node, before}
-use Rattle.fused_net.specs.Laws.{AnyRow, AnyLaw, Settled, Busy, GoesOn, Responds}
+use Rattle.fused_net.specs.Net.{Net, no_wire, wire_at, ports_at, wire_for, acted, acted_all, event_told, with_node, before}
+use Rattle.fused_net.specs.Laws.{AnyRow, AnyLaw, AllAsked, Settled, Busy, GoesOn, Responds}
 use Rattle.fused_net.specs.Costs.{total, all_asks, Uses}
 use Rattle.fused_net.proofs.Reading.{same_or_not, get_there}
 use Rattle.fused_net.proofs.Sums.{sum_le, sum_up, sum_up_most, by_place}
 use Rattle.fused_net.proofs.Nets.{holds_put_same, holds_put_other}
 use Rattle.fused_net.proofs.Acting.{Fits, fits, act_allowed, port_within, acted_busy, busy_any, acts_settled}
+use Rattle.fused_net.proofs.Ongoing.{goes_trans, goes_put, goes_acts, goes_node}
+use Rattle.fused_net.proofs.Asking.{after_acts, told_asked, node_asked}
 use Rattle.fused_net.proofs.Delivering.{queued_here, queued_there, sound_here, nothing_settled}
 
 -- the numbers of one wire
@@ -45,22 +47,6 @@ deliver_asks (brought item.Ended more) w = omega arith
 deliver_asks (brought (item.Failed c) more) w = omega arith
 
 module _ {N : Type 0} where
-  pub goes_same : (net : Net N) → GoesOn net net
-  goes_same net = record { firsts = refl; ends = refl; ports = refl; nodes = refl; wires = refl }
-
-  pub goes_trans : (a b c : Net N) → GoesOn a b → GoesOn b c → GoesOn a c
-  goes_trans a b c f g = record { firsts = g.firsts ∙ f.firsts; ends = g.ends ∙ f.ends; ports = g.ports ∙ f.ports; nodes = g.nodes ∙ f.nodes; wires = g.wires ∙ f.wires }
-
-  goes_put : (net : Net N) (w : ℕ) (new : Cell) (b : Bool) → GoesOn net (put net w new b)
-  goes_put net w new b = record { firsts = refl; ends = refl; ports = refl; nodes = refl; wires = length-set _ _ _ }
-
-  pub goes_acts : (acts : List Act) (net : Net N) (n : ℕ) → GoesOn net (acted_all net n acts)
-  goes_acts [] net n = goes_same net
-  goes_acts (a ∷ acts) net n = goes_trans net (acted net n a) _ (goes_put net _ _ _) (goes_acts acts (acted net n a) n)
-
-  pub goes_node : (net : Net N) (n : ℕ) (y : N) → GoesOn net (with_node net n y)
-  goes_node net n y = record { firsts = refl; ends = refl; ports = refl; nodes = length-set _ _ _; wires = refl }
-
   pub nodes-acts : (acts : List Act) (net : Net N) (n : ℕ) → (acted_all net n acts).nodes ≡ net.nodes
   nodes-acts [] net n = refl
   nodes-acts (a ∷ acts) net n = nodes-acts acts (acted net n a) n
@@ -124,8 +110,10 @@ module _ {N : Type 0} (row : N → View → Type 0) (law : N → N → View → 
   pub response_goes : (old new : Net N) (n : ℕ) → Responds row law old new n → GoesOn old new
   response_goes old new n r = rw r.is (goes_trans old (with_node old n r.node) _ (goes_node old n r.node) (goes_acts r.acts (with_node old n r.node) n))
 
-  pub response_settled : (old new : Net N) (n : ℕ) → Responds row law old new n → Settled row law new
-  response_settled old new n r = rw r.is (acts_settled row law (with_node old n r.node) n r.acts r.busy)
+  pub response_settled : (old new : Net N) (n : ℕ) → Responds row law old new n → AllAsked row law old → Settled row law new
+  response_settled old new n r asked =
+      let later : AllAsked row law (acted_all (with_node old n r.node) n r.acts) = after_acts row law (with_node old n r.node) n r.acts (busy_any row law _ n r.acts r.busy) r.busy.here (node_asked row law old n r.node asked) in
+      rw r.is (acts_settled row law (with_node old n r.node) n r.acts r.busy later)
 
   response_uses : (old new : Net N) (n : ℕ) → Responds row law old new n → Uses old new 0
   response_uses old new n r =
@@ -142,9 +130,10 @@ module _ {N : Type 0} (row : N → View → Type 0) (law : N → N → View → 
   handled net v new w n s h absent is r =
       let event : Uses (before net w) v 1 = rw is (event_uses net w s h absent) in
       let on : GoesOn net v = rw is (goes_put net w _ _) in
+      let asked : AllAsked row law v = rw is (told_asked row law net w (delivery_of (wire_at net w).wire) h s.asked) in
       let done = response_uses v new n r in
       record {
-        laws = response_settled v new n r;
+        laws = response_settled v new n r asked;
         on = goes_trans net v new on (response_goes v new n r);
         uses = record { least = omega (arith, event.least, done.least); most = omega (arith, event.most, done.most) };
       }

@@ -1,7 +1,9 @@
 pub mod Reading
 pub mod Nets
 pub mod Sums
+pub mod Ongoing
 pub mod Acting
+pub mod Asking
 pub mod Delivering
 pub mod Going
 pub mod Starting

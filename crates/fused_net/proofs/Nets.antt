@@ -11,6 +11,7 @@ use Rattle.port_core.specs.Joint.{IsSound}
 use Rattle.port_core.specs.View.{View}
 use Rattle.port_core.specs.declared.act.Act.{Act}
 use Rattle.wire_core.specs.Cell.{Cell}
+use Rattle.wire_core.specs.Marks.{IsMarked}
 use Rattle.fused_net.specs.Net.{Net, no_wire, inp_of, out_of, got_of, sent_of, wire_at, ports_at, view_of, took, gave, put}
 use Rattle.fused_net.specs.Laws.{Wired, Minds, IsMinded}
 use Rattle.fused_net.proofs.Reading.{same_or_not, read_same, read_apart, read_here}
@@ -34,6 +35,16 @@ module _ {N : Type 0} where
     | inl same ↦ rw same (rw (get_or-set_same net.wires w new no_wire h, holds_put_same net.queue w b) s)
     | inr other ↦ let within : u < length net.wires = rw length-set at hu in
         rw (get_or-set_other net.wires w u new no_wire other, holds_put_other net.queue w u b other) (sound u within other)
+  ]
+
+  -- and every wire stays marked as it was asked
+  pub marked_put : (net : Net N) (w : ℕ) (new : Cell) (b : Bool) → w < length net.wires
+      → ((u : ℕ) → u < length net.wires → u ≢ w → IsMarked (wire_at net u)) → IsMarked new
+      → (u : ℕ) → u < length (put net w new b).wires → IsMarked (wire_at (put net w new b) u)
+  marked_put net w new b h marked m u hu = elim (same_or_not u w) [
+    | inl same ↦ rw same (rw (get_or-set_same net.wires w new no_wire h) m)
+    | inr other ↦ let within : u < length net.wires = rw length-set at hu in
+        rw (get_or-set_other net.wires w u new no_wire other) (marked u within other)
   ]
 
   -- no other node has an input at the wire of this input, and this node has no other

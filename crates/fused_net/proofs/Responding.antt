@@ -14,7 +14,8 @@ use Rattle.fused_net.specs.Laws.{AnyRow, AnyLaw, Busy, Awaits, Responds, Settled
 use Rattle.fused_net.specs.Costs.{all_asks, Uses}
 use Rattle.fused_net.proofs.Reading.{get_there}
 use Rattle.fused_net.proofs.Acting.{busy_any}
-use Rattle.fused_net.proofs.Going.{goes_trans, goes_acts, goes_node, acts_uses, event_uses}
+use Rattle.fused_net.proofs.Ongoing.{goes_trans, goes_acts, goes_node}
+use Rattle.fused_net.proofs.Going.{acts_uses, event_uses}
 use Rattle.fused_net.proofs.Starting.{start_busy, start_done}
 
 module _ {N : Type 0} where

@@ -11,6 +11,8 @@ use Rattle.port_core.specs.declared.view.OutView.TheVariants.{Unasked}
 use Rattle.stage_core.specs.Histories.{AllEmpty}
 use Rattle.stage_core.specs.Handling.{Starts}
 use Rattle.wire_core.specs.Cell.{Cell, new_cell}
+use Rattle.wire_core.proofs.Marking.{new_marked}
+use Rattle.wire_core.specs.Marks.{wanted}
 use Rattle.wire_core.specs.Counts.{asks}
 use Rattle.fused_net.specs.PortLists.{PortLists}
 use Rattle.fused_net.specs.declared.net.Ends.{Ends}
@@ -18,7 +20,8 @@ use Rattle.fused_net.specs.Net.{Net, no_wire, read_all, inp_of, out_of, got_of, 
 use Rattle.fused_net.specs.Laws.{AnyRow, AnyLaw, FreshLaw, first_view, Wired, Minds, IsMinded, Settled, Busy, Starting}
 use Rattle.fused_net.specs.Costs.{sum_below}
 use Rattle.fused_net.proofs.Reading.{same_or_not, get_set_same, get_set_other}
-use Rattle.fused_net.proofs.Acting.{acts_settled, acts_here, acts_others}
+use Rattle.fused_net.proofs.Acting.{acts_busy, acts_here, acts_others}
+use Rattle.fused_net.proofs.Asking.{after_acts, node_asked}
 use Rattle.fused_net.proofs.Delivering.{cc_some, with_node_busy}
 use Rattle.fused_net.proofs.Going.{nodes-acts}
 
@@ -60,7 +63,9 @@ module _ {N : Type 0} (row : N → View → Type 0) (law : N → N → View → 
     wired = rw length-replicate wired;
     each_first = refl;
     sound = λ w h. let within : w < n = rw length-replicate at h in rw (get_or-replicate n w new_cell no_wire within) (record { joint = idle; is = refl; histories = refl; queues = refl });
+    marked = λ w h. let within : w < n = rw length-replicate at h in rw (get_or-replicate n w new_cell no_wire within) new_marked;
     below = λ k lt hk. absurd (omega arith);
+    asked = λ w h some. let within : w < n = rw length-replicate at h in let none : 1 ≤ wanted new_cell = rw (get_or-replicate n w new_cell no_wire within) at some in absurd (omega (arith, none));
     above = λ k le hk x first xi fi.
         let ins = λ (i w : ℕ) (e : slice_get (port_at ports k).ins i ≡ Some w). (wired.input_to k i w hk e).0 in
         let outs = λ (i w : ℕ) (e : slice_get (port_at ports k).outs i ≡ Some w). (wired.output_from k i w hk e).0 in
@@ -70,7 +75,7 @@ module _ {N : Type 0} (row : N → View → Type 0) (law : N → N → View → 
 
   pub start_busy : (net : Net N) (n : ℕ) (x y : N) (acts : List Act) → Starting row law fresh net n → n < length net.nodes → slice_get net.nodes n ≡ Some x → Starts row law fresh x y acts → Busy AnyRow AnyLaw (with_node net n y) n acts
   start_busy net n x y acts s h xi st =
-      with_node_busy AnyRow AnyLaw net n y acts s.wired s.each_first s.sound h
+      with_node_busy AnyRow AnyLaw net n y acts s.wired s.each_first s.sound s.marked h st.stands
       (λ first fi. let a = s.above n (omega arith) h x first xi fi in record { allowed = st.obeys.allowed (view_of net n) a.1.1.0 a.0; row_holds = tt; law_holds = tt })
       (λ k hk ne x first xi fi. record { allowed = tt; row_holds = tt; law_holds = tt })
 
@@ -78,7 +83,7 @@ module _ {N : Type 0} (row : N → View → Type 0) (law : N → N → View → 
       → new ≡ acted_all (with_node net n y) n acts → Starting row law fresh new (n + 1)
   start_done net new n x y acts s h xi st is =
       let b : Busy AnyRow AnyLaw (with_node net n y) n acts = start_busy net n x y acts s h xi st in
-      let done : Settled AnyRow AnyLaw (acted_all (with_node net n y) n acts) = acts_settled AnyRow AnyLaw (with_node net n y) n acts b in
+      let done : Busy AnyRow AnyLaw (acted_all (with_node net n y) n acts) n [] = acts_busy AnyRow AnyLaw acts (with_node net n y) n b in
       let count : length (acted_all (with_node net n y) n acts).nodes ≡ length net.nodes = ap (λ (l : List N). length l) (nodes-acts acts (with_node net n y) n) ∙ length-set _ _ _ in
       let here : IsMinded row law (with_node net n y) n acts = λ z first zi fi.
       let a = s.above n (omega arith) h x first xi fi in
@@ -93,6 +98,8 @@ module _ {N : Type 0} (row : N → View → Type 0) (law : N → N → View → 
         wired = done.wired;
         each_first = done.each_first;
         sound = done.sound;
+        marked = done.marked;
+        asked = after_acts row law (with_node net n y) n acts b here (node_asked row law net n y s.asked);
         below = λ k lt hk. elim (same_or_not k n) [
           | inl e ↦ rw e (acts_here row law acts (with_node net n y) n b here)
           | inr ne ↦ let within : k < length net.nodes = rw count at hk in
@@ -111,7 +118,7 @@ module _ {N : Type 0} (row : N → View → Type 0) (law : N → N → View → 
 
   -- all were started
   pub all_started : (net : Net N) (n : ℕ) → Starting row law fresh net n → length net.nodes ≤ n → Settled row law net
-  all_started net n s h = record { wired = s.wired; each_first = s.each_first; sound = s.sound; minded = λ k hk. s.below k (omega arith) hk }
+  all_started net n s h = record { wired = s.wired; each_first = s.each_first; sound = s.sound; marked = s.marked; minded = λ k hk. s.below k (omega arith) hk; asked = s.asked }
 
 pub new_asks : (wires : List Cell) (n : ℕ) → wires ≡ replicate n new_cell → sum_below (λ w. asks (get_or wires w no_wire).wire) (length wires) ≡ 0
 new_asks wires n is = rw is (rw length-replicate (no_asks n n (omega arith)))

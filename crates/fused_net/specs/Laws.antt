@@ -1,13 +1,15 @@
 -- What a fused graph keeps: its wiring, a joint state of each wire, and of each node its row and its law over its histories.
-use Rattle.std.specs.Prelude.{◌≡◌, ◌≢◌, ℕ, ◌<◌, ◌≤◌, Some, List, [], length, replicate, slice_get, ⊤}
+use Rattle.std.specs.Prelude.{◌≡◌, ◌≢◌, ℕ, ◌<◌, ◌≤◌, true, Some, List, [], length, replicate, slice_get, ⊤}
 use Rattle.elem_core.specs.declared.item.Item.{Item}
 use Rattle.port_core.specs.Ring.{holds}
 use Rattle.port_core.specs.Joint.{IsSound}
 use Rattle.port_core.specs.View.{View, ActsAllowed, acted_all}
+use Rattle.port_core.specs.Asking.{AsksStand}
 use Rattle.port_core.specs.Call.{Call, starts, CallAllowed, Meets}
-use Rattle.port_core.specs.declared.view.InView.TheVariants.{Idle}
+use Rattle.port_core.specs.declared.view.InView.TheVariants.{Idle, Waiting}
 use Rattle.port_core.specs.declared.view.OutView.TheVariants.{Unasked}
 use Rattle.port_core.specs.declared.act.Act.{Act}
+use Rattle.wire_core.specs.Marks.{IsMarked, wanted, Grown}
 use Rattle.stage_core.specs.Histories.{given_all, AllEmpty}
 use Rattle.stage_core.specs.Handling.{Handles}
 use Rattle.fused_net.specs.PortLists.{PortLists}
@@ -41,6 +43,14 @@ first_view p = record { ins = replicate (length p.ins) Idle; outs = replicate (l
 abbrev pub FreshLaw : {N : Type 0} → N → N → View → List (List Item) → List (List Item) → Type 0
 FreshLaw first x v took gave = (first ≡ x) × (CallAllowed starts v × ((AllEmpty took × AllEmpty gave) × ((length took ≡ length v.ins) × (length gave ≡ length v.outs))))
 
+-- the graph goes on: the same wiring, and the same nodes at its start
+pub record GoesOn {N : Type 0} (old new : Net N) : Type 0 where
+  pub firsts : new.firsts ≡ old.firsts
+  pub ends : new.ends ≡ old.ends
+  pub ports : new.ports ≡ old.ports
+  pub nodes : length new.nodes ≡ length old.nodes
+  pub wires : length new.wires ≡ length old.wires
+
 module _ {N : Type 0} (row : N → View → Type 0) (law : N → N → View → List (List Item) → List (List Item) → Type 0) where
   -- a node, by what it knows and by its histories, which has these actions still to do: they are allowed, and once they are
   -- done its row and its law hold
@@ -53,19 +63,40 @@ module _ {N : Type 0} (row : N → View → Type 0) (law : N → N → View → 
   abbrev pub IsMinded : Net N → ℕ → List Act → Type 0
   IsMinded net n acts = (x first : N) → slice_get net.nodes n ≡ Some x → slice_get net.firsts n ≡ Some first → Minds x first (view_of net n) (took net n) (gave net n) acts
 
+  -- The last ask of wire w that took effect: an earlier moment from which the graph went on, and at which the node at the
+  -- wire's input had asked. It waited there, and its row and its law held.
+  pub record LastAsk (net : Net N) (w : ℕ) : Type 0 where
+    pub old : Net N
+    pub on : GoesOn old net
+    pub grown : (u : ℕ) → u < length old.wires → Grown (wire_at old u) (wire_at net u)
+    pub sound : (u : ℕ) → u < length old.wires → IsSound (wire_at old u).wire (holds old.queue u)
+    pub marked : (u : ℕ) → u < length old.wires → IsMarked (wire_at old u)
+    pub waits : (wire_at old w).wire.inp ≡ Waiting
+    pub asked : (wire_at old w).asked ≡ true
+    pub same : wanted (wire_at net w) ≡ wanted (wire_at old w)
+    pub minded : IsMinded old (end_at old.ends w).to []
+
+  -- each wire whose input has asked has a last ask
+  abbrev pub AllAsked : Net N → Type 0
+  AllAsked net = (w : ℕ) → w < length net.wires → 1 ≤ wanted (wire_at net w) → LastAsk net w
+
   -- the graph between two events
   pub record Settled (net : Net N) : Type 0 where
     pub wired : Wired net.ends net.ports (length net.nodes) (length net.wires)
     pub each_first : length net.firsts ≡ length net.nodes
     pub sound : (w : ℕ) → w < length net.wires → IsSound (wire_at net w).wire (holds net.queue w)
+    pub marked : (w : ℕ) → w < length net.wires → IsMarked (wire_at net w)
     pub minded : (n : ℕ) → n < length net.nodes → IsMinded net n []
+    pub asked : AllAsked net
 
   -- node n has these actions to do
   pub record Busy (net : Net N) (n : ℕ) (acts : List Act) : Type 0 where
     pub wired : Wired net.ends net.ports (length net.nodes) (length net.wires)
     pub each_first : length net.firsts ≡ length net.nodes
     pub sound : (w : ℕ) → w < length net.wires → IsSound (wire_at net w).wire (holds net.queue w)
+    pub marked : (w : ℕ) → w < length net.wires → IsMarked (wire_at net w)
     pub within : n < length net.nodes
+    pub stands : AsksStand acts
     pub here : IsMinded net n acts
     pub others : (k : ℕ) → k < length net.nodes → k ≢ n → IsMinded net k []
 
@@ -89,14 +120,8 @@ module _ {N : Type 0} (row : N → View → Type 0) (law : N → N → View → 
     pub wired : Wired net.ends net.ports (length net.nodes) (length net.wires)
     pub each_first : length net.firsts ≡ length net.nodes
     pub sound : (w : ℕ) → w < length net.wires → IsSound (wire_at net w).wire (holds net.queue w)
+    pub marked : (w : ℕ) → w < length net.wires → IsMarked (wire_at net w)
     pub below : (k : ℕ) → k < n → k < length net.nodes → IsMinded net k []
+    pub asked : AllAsked net
     pub above : (k : ℕ) → n ≤ k → k < length net.nodes → (x first : N) → slice_get net.nodes k ≡ Some x → slice_get net.firsts k ≡ Some first
         → fresh x (view_of net k) × FreshLaw first x (view_of net k) (took net k) (gave net k)
-
--- the graph goes on: the same wiring, and the same nodes at its start
-pub record GoesOn {N : Type 0} (old new : Net N) : Type 0 where
-  pub firsts : new.firsts ≡ old.firsts
-  pub ends : new.ends ≡ old.ends
-  pub ports : new.ports ≡ old.ports
-  pub nodes : length new.nodes ≡ length old.nodes
-  pub wires : length new.wires ≡ length old.wires

@@ -1,5 +1,5 @@
 -- Each call of a linear stage keeps the law of its output.
-use Rattle.std.proofs.Common.{eqb, cond, false, ◌≡◌, ℕ, zero, suc, ◌≤◌, List, [], ◌∷◌, ◌++◌, length, refl, sym, ap, subst, ◌∙◌, arith, append_assoc, append-nil}
+use Rattle.std.proofs.Common.{eqb, cond, Bool, false, ◌≡◌, ℕ, zero, suc, ◌≤◌, List, [], ◌∷◌, ◌++◌, length, refl, sym, ap, subst, ◌∙◌, arith, append_assoc, append-nil}
 use Rattle.std.proofs.lemmas.Bool.Decides.{nat_tests}
 use Rattle.elem_core.specs.Tree.{Tree}
 use Rattle.elem_core.specs.declared.item.Item.{Item}
@@ -81,7 +81,7 @@ law_after kept call first old new v acts took gave r h allowed t law = record {
   owes = law.owes;
   law = λ book.
       let turn : TurnAt (linear book first.stage.work) 0 call (held old) (given_on 0 acts) (held new) = subst (λ m. TurnAt m 0 call (held old) (given_on 0 acts) (held new)) (law.same book) (t.turn book) in
-      kept (linear book first.stage.work) law.start 0 call (held old) (held new) v law.took_list law.gave_list acts (one_input (row_in old.phase old.stage.work) v.ins v.outs r) h allowed turn (law.law book);
+      kept (linear book first.stage.work) law.start 0 call (held old) (held new) v law.took_list law.gave_list acts (one_input (row_in old.phase old.over old.pending old.stage.work) v.ins v.outs r) h allowed turn (law.law book);
   same = λ book. t.same book ∙ law.same book;
 }
 
@@ -92,6 +92,7 @@ handles_linear kept call old new acts o t = record {
     allowed = λ v h r. o.allowed v h r.row;
     row = λ v h r. record { started = t.started; row = o.row v h r.row };
   };
+  stands = t.stands;
   keeps = λ first v took gave h r law. law_after kept call first old new v acts took gave r.row h (o.allowed v h r.row) t law;
 }
 
@@ -102,28 +103,28 @@ abbrev pub Begun : Type 0
 Begun = (m : Machine Stage Tree) (start : Run Stage Tree) (i : InView) (o : OutView) → TookAs i unended → GaveAs o unended → (1 ≤ m.hold → start.gave ≡ []) → Law m start (owing start) i o [] []
 
 -- a new stage: it owes what its machine gives from the start, and gave nothing of it
-new_start : (p : Phase) (s : Stage) → p ≡ New → (start : Run Stage Tree) × ((held_in p s ≡ owing start) × (start.gave ≡ []))
-new_start New s e = (_, (refl, refl))
-new_start Open s e = cc
-new_start Closed s e = cc
+new_start : (p : Phase) (over : Bool) (k : List Tree) (s : Stage) → p ≡ New → (start : Run Stage Tree) × ((held_in p over k s ≡ owing start) × (start.gave ≡ []))
+new_start New over k s e = (_, (refl, refl))
+new_start Open over k s e = cc
+new_start Closed over k s e = cc
 
 -- its ports are open and not asked
-new_ports : (p : Phase) (w : Work) (x : InView) (y : OutView) → p ≡ New → row_in p w x y → TookAs x unended × GaveAs y unended
-new_ports New w Idle Unasked e r = (refl, refl)
-new_ports New w Idle Asked e r = absurd r
-new_ports New w Idle Shut e r = absurd r
-new_ports New w Idle Refused e r = absurd r
-new_ports New w Waiting y e r = absurd r
-new_ports New w Over y e r = absurd r
-new_ports New w Left y e r = absurd r
-new_ports Open w x y e r = cc
-new_ports Closed w x y e r = cc
+new_ports : (p : Phase) (over : Bool) (k : List Tree) (w : Work) (x : InView) (y : OutView) → p ≡ New → row_in p over k w x y → TookAs x unended × GaveAs y unended
+new_ports New over k w Idle Unasked e r = (refl, refl)
+new_ports New over k w Idle Asked e r = absurd r
+new_ports New over k w Idle Shut e r = absurd r
+new_ports New over k w Idle Refused e r = absurd r
+new_ports New over k w Waiting y e r = absurd r
+new_ports New over k w Over y e r = absurd r
+new_ports New over k w Left y e r = absurd r
+new_ports Open over k w x y e r = cc
+new_ports Closed over k w x y e r = cc
 
-begun_lists : Begun → (l : Logic) (xs : List InView) (ys : List OutView) (took gave : List (List Item)) → l.phase ≡ New → OneOneOf (row_in l.phase l.stage.work) xs ys
+begun_lists : Begun → (l : Logic) (xs : List InView) (ys : List OutView) (took gave : List (List Item)) → l.phase ≡ New → OneOneOf (row_in l.phase l.over l.pending l.stage.work) xs ys
     → histories.AllEmpty took → histories.AllEmpty gave → length took ≡ length xs → length gave ≡ length ys → LinearLaw l l (record { ins = xs; outs = ys }) took gave
 begun_lists begun l (x ∷ []) (y ∷ []) (t ∷ []) (g ∷ []) e r a b m n =
-    let s = new_start l.phase l.stage e in
-    let ports = new_ports l.phase l.stage.work x y e r in
+    let s = new_start l.phase l.over l.pending l.stage e in
+    let ports = new_ports l.phase l.over l.pending l.stage.work x y e r in
     record {
       took_list = [];
       gave_list = [];
@@ -150,6 +151,7 @@ starts_linear begun kept old new acts o t = record {
     allowed = λ v h f. o.allowed v h f.row;
     row = λ v h f. record { started = t.started; row = o.row v h f.row };
   };
+  stands = t.stands;
   begins = λ v took gave h f a b m n.
       law_after kept starts old old new v acts took gave f.row h (o.allowed v h f.row) t (begun_lists begun old v.ins v.outs took gave f.phase f.row a b m n);
 }

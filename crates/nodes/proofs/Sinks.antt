@@ -167,6 +167,7 @@ module _ {D : Type 0} (state : D → DrainState) where
       allowed = λ v h r. pull_allowed (sink_row_in b s) v r;
       row = λ v h r. twice_in_row (sink_row_in b s) Idle Waiting (sink_row_in b s) v r (waits b s (started b s v r (open_at v h)));
     };
+    stands = (tt, tt);
     keeps = λ first v took gave h r law. elem_law first n c d b s v took gave law r (open_at v h) _ d' t (twice_in_at (sink_row_in b s) Idle Waiting v r) p no_lf;
   }
 
@@ -180,6 +181,7 @@ module _ {D : Type 0} (state : D → DrainState) where
       allowed = λ v h r. cancel_allowed (sink_row_in b s) v r;
       row = λ v h r. twice_in_row (sink_row_in b s) Idle Left (sink_row_in b WriteFault) v r (left_so b (started b s v r (open_at v h)).0);
     };
+    stands = tt;
     keeps = λ first v took gave h r law. fault_law first n c d b s v took gave law r (open_at v h) _ d' t (twice_in_at (sink_row_in b s) Idle Left v r) p no_lf;
   }
 
@@ -193,6 +195,7 @@ module _ {D : Type 0} (state : D → DrainState) where
       allowed = λ v h r. tt;
       row = λ v h r. set_in_row (sink_row_in b s) Over (sink_row_in b Ended) v r (over_so b (started b s v r h).0);
     };
+    stands = tt;
     keeps = λ first v took gave h r law. end_law first n c d b s v took gave law r h _ item.Ended ended Ended (set_in_at (sink_row_in b s) Over v r) tt (told_ended law.elems) (λ w. (refl, w));
   }
 
@@ -206,6 +209,7 @@ module _ {D : Type 0} (state : D → DrainState) where
       allowed = λ v h r. tt;
       row = λ v h r. set_in_row (sink_row_in b s) Over (sink_row_in b (Failed x)) v r (failed_so b x (started b s v r h).0);
     };
+    stands = tt;
     keeps = λ first v took gave h r law. end_law first n c d b s v took gave law r h _ (item.Failed x) (failed x) (Failed x) (set_in_at (sink_row_in b s) Over v r) tt (told_failed law.elems x) (λ w. (refl, w));
   }
 
@@ -245,6 +249,7 @@ module _ {D : Type 0} (state : D → DrainState) where
       allowed = λ v h f. (pulls_lists v.ins v.outs f.port, tt);
       row = λ v h f. set_in_row (λ y. y ≡ Idle) Waiting (sink_row_in true s) v f.port (waits true s (refl, f.end));
     };
+    stands = (tt, tt);
     begins = λ v took gave h f t g i j. rw (f.started, f.end, f.count) (begun_lists n d v.ins v.outs took gave f.port t g i j);
   }
 

@@ -11,3 +11,4 @@ pub mod Call
 pub mod Wire
 pub mod Joint
 pub mod ListFunction
+pub mod Asking

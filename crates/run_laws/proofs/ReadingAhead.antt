@@ -20,10 +20,6 @@ left_at_first s kept bytes a b c = rw (a, b, c) refl
 is_told : (s : SourceState) (bytes : List ℕ) → s.whole ≡ Some bytes → IsSome s.whole
 is_told s bytes c = rw c refl
 
--- what was read from the start on is those lines and what is kept
-read_so : (first now size kept : ℕ) → first ≡ 0 → now ≤ first + (size + kept) → now ≤ size + kept
-read_so first now size kept e h = omega (arith, e, h)
-
 module _ {S : Type 0} (state : S → SourceState) (first now : Lines S) (bytes : List ℕ) (ls : List (List ℕ)) (told : (state now.reader.source).whole ≡ Some bytes)
     (few : length now.reader.kept ≤ 69632) (read : (state now.reader.source).given ≤ length (ended_lines ls) + length now.reader.kept) where
   ahead_by : (e : End) → EndsAs state first now e → ReadsAhead (state first.reader.source) (state now.reader.source) (lines (left state now)) (length (ended_lines ls))
@@ -39,6 +35,7 @@ module _ {S : Type 0} (state : S → SourceState) (first now : Lines S) (v : Vie
       let whole_now : (state now.reader.source).whole ≡ Some bytes = law.whole ∙ whole in
       let drew : Drew bytes law.lines_drawn (left state now) =
       subst (λ (x : List ℕ). Drew x law.lines_drawn (left state now)) (left_at_first (state first.reader.source) first.reader.kept bytes kept given whole) (law.drew (is_told (state now.reader.source) bytes whole_now)) in
+      let read : (state now.reader.source).given ≤ length (ended_lines law.lines_drawn) + length now.reader.kept = (let r = law.read in omega (arith, r, given)) in
       let here : slice_get (told (map text law.lines_drawn) law.end ∷ []) p ≡ Some h = rw law.gave_is at at in
       record {
         drawn = law.lines_drawn;
@@ -46,5 +43,5 @@ module _ {S : Type 0} (state : S → SourceState) (first now : Lines S) (v : Vie
         end = law.end;
         lines_are = drew.lines_are;
         sent_is = one_port (told (map text law.lines_drawn) law.end) p h here;
-        ahead = ahead_by state first now bytes law.lines_drawn whole_now law.kept (read_so (state first.reader.source).given (state now.reader.source).given (length (ended_lines law.lines_drawn)) (length now.reader.kept) given law.read) law.end law.ends;
+        ahead = ahead_by state first now bytes law.lines_drawn whole_now law.kept read law.end law.ends;
       }

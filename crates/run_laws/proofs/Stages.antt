@@ -6,7 +6,7 @@ use Rattle.elem_core.specs.declared.item.Item.{Item}
 use Rattle.elem_core.specs.declared.why.Decider.{Decider}
 use Rattle.port_core.specs.View.{View, in_at, out_at}
 use Rattle.stream_model.specs.declared.kind.Kind.{Kind}
-use Rattle.stream_model.specs.declared.kind.Kind.TheVariants.{Map, Filter, Take}
+use Rattle.stream_model.specs.declared.kind.Kind.TheVariants.{Map, Filter, FilterNot, Take, TakeWhile, Drop, DropWhile, Limit, MapConcat}
 use Rattle.stream_model.specs.Outlook.{Outlook, Agrees}
 use Rattle.stream_model.specs.Machine.{Run, output}
 use Rattle.stream_model.specs.Linear.{Stage, linear, begin_work, work_of}
@@ -29,12 +29,24 @@ linear_inputs : (shape : Kind) → IsLinear shape → inputs_of shape ≡ 1
 linear_inputs (Map f) h = refl
 linear_inputs (Filter p) h = refl
 linear_inputs (Take n) h = refl
+linear_inputs (FilterNot q) h = refl
+linear_inputs (TakeWhile q) h = refl
+linear_inputs (Drop n) h = refl
+linear_inputs (DropWhile q) h = refl
+linear_inputs (Limit n) h = refl
+linear_inputs (MapConcat x) h = refl
 linear_inputs _ h = absurd h
 
 linear_outlook : (g : Graph) (w : World) (k : ℕ) (shape : Kind) (d : Decider) (os : List Outlook) (p : ℕ) → IsLinear shape → node_outlook g w k shape d os p ≡ of_work w.book k d (work_of shape) os
 linear_outlook g w k (Map f) d os p h = refl
 linear_outlook g w k (Filter q) d os p h = refl
 linear_outlook g w k (Take n) d os p h = refl
+linear_outlook g w k (FilterNot q) d os p h = refl
+linear_outlook g w k (TakeWhile q) d os p h = refl
+linear_outlook g w k (Drop n) d os p h = refl
+linear_outlook g w k (DropWhile q) d os p h = refl
+linear_outlook g w k (Limit n) d os p h = refl
+linear_outlook g w k (MapConcat x) d os p h = refl
 linear_outlook g w k _ d os p h = absurd h
 
 -- one history took, by one outlook

@@ -6,6 +6,7 @@ use Rattle.elem_core.specs.declared.item.Item.{Item}
 use Rattle.port_core.specs.declared.act.Act.{Act}
 use Rattle.port_core.specs.View.{View, acted_all}
 use Rattle.port_core.specs.Call.{Call, starts, CallAllowed, seen, Obeys}
+use Rattle.port_core.specs.Asking.{AsksStand}
 use Rattle.stage_core.specs.Histories.{given_all, brought_by, AllEmpty}
 
 -- the most actions that one call appends: two for each port of a stage with the most inputs or outputs, and one of the other
@@ -13,14 +14,16 @@ abbrev pub most_acts : ℕ
 most_acts = 34
 
 module _ {N : Type 0} (row : N → View → Type 0) (law : N → N → View → List (List Item) → List (List Item) → Type 0) where
-  -- The stage was started: its actions obey the port rules, and once they are done its row and its law hold.
+  -- The stage was started: its actions obey the port rules, none of them cancels an input that an earlier one asked, and once they are done its row and its law hold.
   pub record Starts (fresh : N → View → Type 0) (old new : N) (acts : List Act) : Type 0 where
     pub obeys : Obeys starts (fresh old) (row new) acts
+    pub stands : AsksStand acts
     pub begins : (v : View) (took gave : List (List Item)) → CallAllowed starts v → fresh old v → AllEmpty took → AllEmpty gave → length took ≡ length v.ins → length gave ≡ length v.outs
         → law old new (acted_all v acts) took (given_all acts gave)
 
-  -- The call was handled: its actions obey the port rules, and once they are done its row and its law hold again.
+  -- The call was handled: its actions obey the port rules, none of them cancels an input that an earlier one asked, and once they are done its row and its law hold again.
   pub record Handles (call : Call) (old new : N) (acts : List Act) : Type 0 where
     pub obeys : Obeys call (row old) (row new) acts
+    pub stands : AsksStand acts
     pub keeps : (first : N) (v : View) (took gave : List (List Item)) → CallAllowed call v → row old v → law first old v took gave
         → law first new (acted_all (seen call v) acts) (brought_by call took) (given_all acts gave)

@@ -7,3 +7,8 @@ pub mod Ports
 pub mod Calls
 pub mod Whole
 pub mod OwnRows
+pub mod Inflows
+pub mod FanTurns
+pub mod ZipTurns
+pub mod OutTurns
+pub mod MergeTurns

@@ -3,3 +3,8 @@ pub mod Row
 pub mod Turn
 pub mod Law
 pub mod OwnPorts
+pub mod Inflows
+pub mod Fans
+pub mod Zips
+pub mod Outs
+pub mod Merges

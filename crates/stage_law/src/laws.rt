@@ -9,13 +9,22 @@ ghost use Rattle.port_core.specs.declared.view.InView.TheVariants.{Waiting};
 ghost use Rattle.port_core.specs.declared.view.OutView.{OutView};
 ghost use Rattle.port_core.specs.declared.view.OutView.TheVariants.{Asked};
 ghost use Rattle.port_core.specs.View.{View, in_at, out_at, ActsAllowed, acted_all};
-ghost use Rattle.port_core.specs.Call.{Call, CallAllowed, seen, brought_to, given_on};
+ghost use Rattle.port_core.specs.Call.{Call, AllIdle, CallAllowed, seen, brought_to, given_on};
+ghost use Rattle.stream_model.specs.FanIn.{Inflow, merge_of, pairs, FanStands};
 ghost use Rattle.stream_model.specs.Outlook.{Outlook, End, unended, Agrees};
 ghost use Rattle.stream_model.specs.Linear.{Stage};
+ghost use Rattle.stream_model.specs.Picks.{MergeStands};
 ghost use Rattle.stream_model.specs.Machine.{State, Run, Machine, Stands, output};
 ghost use Rattle.stage_law.specs.Held.{Held, owing, shut, gives, whole};
 ghost use Rattle.stage_law.specs.Turn.{TurnAt, ResidualAt};
 ghost use Rattle.stage_law.specs.Law.{TookAs, GaveAs, Law};
+ghost use Rattle.stage_law.specs.Inflows.{nothing, joined, joined_all, untouched};
+ghost use Rattle.stage_law.specs.Merges as merge;
+ghost use Rattle.stage_law.specs.Merges.{MergeHeld, Merged, MergeTurnAt, MergeLaw, lists_of, moves_of};
+ghost use Rattle.stage_law.specs.Outs.{Outlet, OutsLaw, TurnsAt, owe};
+ghost use Rattle.stage_law.specs.Zips as zip;
+ghost use Rattle.stage_law.specs.Zips.{ZipHeld, Paired, ZipTurnAt, ZipLaw, ZipStandsOf};
+ghost use Rattle.stage_law.specs.Fans.{Fan, FanHeld, waits, Place, elements, fan_gives, FanTurnAt, FanLaw};
 ghost use Rattle.stage_law.specs.OwnPorts.{OwnRests};
 
 /// One step of the machine is the residual law: what is pushed, and then what the stage gives from now on, is what it gave
@@ -44,4 +53,48 @@ pub fn the_law_is_of_whole_histories()
 pub fn a_stage_that_waits_rests()
     ensures { (m : Machine Stage Tree) (start : Run Stage Tree) (holds : Bool) (st : State Stage) (took gave : List Item)
         → (law : Law m start (owing (record { gave = []; state = st })) Waiting Asked took gave) → OwnRests m start holds Waiting Asked law.in_list law.out_list }
+{}
+
+/// The law of a stage with several inputs, a concat, an interleave or a merge_sorted: it holds before anything came, every
+/// call keeps it, once the call's actions are done; and then, for every rest and every end of each input, what it gives in
+/// all is what it gave and what it gives from now on, and what it gave is what such a stage may have given.
+pub fn fans_keep_the_law()
+    ensures new { (k : Fan Place) (start : Place) (v : View) → AllIdle v.ins → GaveAs (out_at v 0) unended → FanLaw k start (waits start (untouched (length v.ins))) v (λ _. []) [] }
+    ensures call { (k : Fan Place) (start : Place) (call : Call) (old new : FanHeld Place) (v : View) (took : ℕ → List Item) (gave : List Item) (acts : List Act)
+        → CallAllowed call v → ActsAllowed (seen call v) acts → FanTurnAt k call old (given_on 0 acts) new → FanLaw k start old v took gave
+        → FanLaw k start new (acted_all (seen call v) acts) (λ i. took i ++ brought_to i call) (gave ++ given_on 0 acts) }
+    ensures rest { (k : Fan Place) (start s : Place) (ws : List Inflow) (v : View) (took : ℕ → List Item) (gave : List Item) → (law : FanLaw k start (waits s ws) v took gave)
+        → (more : ℕ → Inflow) → elements (fan_gives k start (joined_all 0 law.ins more)) ≡ law.out_list ++ elements (fan_gives k s (joined_all 0 ws more)) }
+    ensures stands { (k : Fan Place) (start : Place) (x : FanHeld Place) (v : View) (took : ℕ → List Item) (gave : List Item) → (law : FanLaw k start x v took gave) → FanStands k.hold (k.from start) law.ins law.out_list law.out_end }
+{}
+
+/// The same of a zip: for every rest of its inputs, all pairs are those that it gave and those of what waits with the rest.
+pub fn zips_keep_the_law()
+    ensures new { (v : View) → length v.ins ≡ 2 → AllIdle v.ins → GaveAs (out_at v 0) unended → ZipLaw (zip.waits nothing nothing) v (λ _. []) [] }
+    ensures call { (call : Call) (old new : ZipHeld) (v : View) (took : ℕ → List Item) (gave : List Item) (acts : List Act)
+        → CallAllowed call v → ActsAllowed (seen call v) acts → ZipTurnAt call old (given_on 0 acts) new → ZipLaw old v took gave
+        → ZipLaw new (acted_all (seen call v) acts) (λ i. took i ++ brought_to i call) (gave ++ given_on 0 acts) }
+    ensures rest { (a b w u : Inflow) (g : List Tree) → Paired a b g w u → (r s : List Tree) → pairs (a.list ++ r) (b.list ++ s) ≡ g ++ pairs (w.list ++ r) (u.list ++ s) }
+    ensures stands { (x : ZipHeld) (v : View) (took : ℕ → List Item) (gave : List Item) → (law : ZipLaw x v took gave) → ZipStandsOf law.ins law.out_list law.out_end }
+{}
+
+/// The same of a merge, by its moves: for every rest of its inputs and every further list of moves, what all the moves give
+/// is what it gave, and what the further moves give of what waits with the rest.
+pub fn merges_keep_the_law()
+    ensures new { (v : View) → AllIdle v.ins → GaveAs (out_at v 0) unended → MergeLaw (merge.waits [] (untouched (length v.ins))) v (λ _. []) [] }
+    ensures call { (call : Call) (old new : MergeHeld) (v : View) (took : ℕ → List Item) (gave : List Item) (acts : List Act)
+        → CallAllowed call v → ActsAllowed (seen call v) acts → MergeTurnAt call old (given_on 0 acts) new → MergeLaw old v took gave
+        → MergeLaw new (acted_all (seen call v) acts) (λ i. took i ++ brought_to i call) (gave ++ given_on 0 acts) }
+    ensures rest { (moves : List ℕ) (ins ws : List Inflow) (g : List Tree) → Merged moves ins g ws → (more : ℕ → Inflow) (further : List ℕ)
+        → elements (merge_of (moves ++ further) (lists_of (joined_all 0 ins more))) ≡ g ++ elements (merge_of further (lists_of (joined_all 0 ws more))) }
+    ensures stands { (x : MergeHeld) (v : View) (took : ℕ → List Item) (gave : List Item) → (law : MergeLaw x v took gave) → MergeStands (moves_of x) law.ins law.out_list law.out_end }
+{}
+
+/// Each output of a stage with one input is a machine of its own over that input: a call keeps the law of them all, and
+/// what an output that is closed has given stays right while the stage takes more for the others.
+pub fn outputs_keep_the_law()
+    ensures call { (call : Call) (outs : List (Outlet Stage)) (owed : List (Held Stage)) (v : View) (took : List Item) (gave : ℕ → List Item) (acts : List Act)
+        → length v.ins ≡ 1 → CallAllowed call v → ActsAllowed (seen call v) acts → TurnsAt 0 call outs acts owed → OutsLaw 0 outs v took gave
+        → OutsLaw 0 (owe outs owed) (acted_all (seen call v) acts) (took ++ brought_to 0 call) (λ j. gave j ++ given_on j acts) }
+    ensures closed { (m : Machine Stage Tree) (start : Run Stage Tree) (l k : List Tree) (e : End) (g : List Tree) (f : End) → Stands m start l unended g f → Stands m start (l ++ k) e g f }
 {}

@@ -1,7 +1,8 @@
 -- A linear stage that was started has nothing to do over its own ports.
 use Rattle.std.specs.Prelude.{slice_index_or}
-use Rattle.std.proofs.Common.{◌≡◌, zero, suc, false, ◌⊎◌, inl, inr, List, [], ◌∷◌, refl}
+use Rattle.std.proofs.Common.{◌≡◌, zero, suc, Bool, true, false, ◌⊎◌, inl, inr, List, [], ◌∷◌, refl, sym, subst}
 use Rattle.elem_core.specs.Tree.{Tree}
+use Rattle.elem_core.specs.declared.why.Cause.{Cause}
 use Rattle.elem_core.specs.declared.item.Item.{Item}
 use Rattle.elem_core.specs.declared.item.Item.TheVariants as item
 use Rattle.port_core.specs.declared.view.InView.{InView}
@@ -16,59 +17,77 @@ use Rattle.stream_model.specs.Machine.{going, Run, Machine}
 use Rattle.stream_model.specs.Linear.{Stage, Work}
 use Rattle.stage_law.specs.Law.{Law}
 use Rattle.stage_law.specs.OwnPorts.{OwnRests}
+use Rattle.stage_law.specs.Held.{owing}
+use Rattle.stage_law.specs.Row.{BothClosed}
+use Rattle.stream_picture.specs.OneWay.{holds_at_end}
 use Rattle.stage_law.proofs.OwnRows.{waiting_rests, idle_rests, closed_rests}
 use Rattle.stage_linear.specs.declared.phase.Phase.{Phase}
 use Rattle.stage_linear.specs.declared.phase.Phase.TheVariants.{New, Open, Closed}
 use Rattle.stage_linear.specs.States.{Logic, held, held_in, row, row_in, unasked_ports, IsReady}
 
 module _ (m : Machine Stage Tree) (start : Run Stage Tree) (took gave : List Item) where
-  at_ports : (p : Phase) (s : Stage) (x : InView) (y : OutView) → (p ≡ New → ⊥) → row_in p s.work x y → (law : Law m start (held_in p s) x y took gave) → OwnRests m start false x y law.in_list law.out_list
-  at_ports New s x y n r law = absurd (n refl)
-  at_ports Closed s x y n r law = closed_rests m start false x y law.in_list law.out_list r
-  at_ports Open s Waiting Asked n r law = waiting_rests m start false (going s) took gave law
-  at_ports Open s Idle Unasked n r law = idle_rests m start false law.in_list law.out_list
-  at_ports Open s Waiting Unasked n r law = absurd r
-  at_ports Open s Waiting Shut n r law = absurd r
-  at_ports Open s Waiting Refused n r law = absurd r
-  at_ports Open s Idle Asked n r law = absurd r
-  at_ports Open s Idle Shut n r law = absurd r
-  at_ports Open s Idle Refused n r law = absurd r
-  at_ports Open s Over y n r law = absurd r
-  at_ports Open s Left y n r law = absurd r
+  waiting : (h : List Tree) (s : Stage) → h ≡ [] → (law : Law m start (owing (record { gave = h; state = going s })) Waiting Asked took gave) → OwnRests m start (holds_at_end s.work) Waiting Asked law.in_list law.out_list
+  waiting h s none law = subst (λ (k : List Tree). (law : Law m start (owing (record { gave = k; state = going s })) Waiting Asked took gave) → OwnRests m start (holds_at_end s.work) Waiting Asked law.in_list law.out_list) (sym none)
+      (λ law. waiting_rests m start (holds_at_end s.work) (going s) took gave law) law
 
-  at_lists : (p : Phase) (s : Stage) (xs : List InView) (ys : List OutView) → (p ≡ New → ⊥) → OneOneOf (row_in p s.work) xs ys
-      → (law : Law m start (held_in p s) (slice_index_or xs 0 Left) (slice_index_or ys 0 Shut) took gave) → OwnRests m start false (slice_index_or xs 0 Left) (slice_index_or ys 0 Shut) law.in_list law.out_list
-  at_lists p s (x ∷ []) (y ∷ []) n r law = at_ports p s x y n r law
-  at_lists p s [] ys n r law = absurd r
-  at_lists p s (x ∷ []) [] n r law = absurd r
-  at_lists p s (x ∷ []) (y ∷ z ∷ ys) n r law = absurd r
-  at_lists p s (x ∷ w ∷ xs) ys n r law = absurd r
+  at_ports : (p : Phase) (over : Bool) (h : List Tree) (s : Stage) (x : InView) (y : OutView) → (p ≡ New → ⊥) → row_in p over h s.work x y → (law : Law m start (held_in p over h s) x y took gave)
+      → OwnRests m start (holds_at_end s.work) x y law.in_list law.out_list
+  at_ports New over h s x y n r law = absurd (n refl)
+  at_ports Closed over h s x y n r law = closed_rests m start (holds_at_end s.work) x y law.in_list law.out_list r
+  at_ports Open false h s Waiting Asked n r law = waiting h s r.0 law
+  at_ports Open false h s Idle Unasked n r law = idle_rests m start (holds_at_end s.work) law.in_list law.out_list
+  at_ports Open true h s Over Unasked n r law = inr (inr (inr (r.1.1, (refl, refl), refl)))
+  at_ports Open false h s Waiting Unasked n r law = absurd r
+  at_ports Open false h s Waiting Shut n r law = absurd r
+  at_ports Open false h s Waiting Refused n r law = absurd r
+  at_ports Open false h s Idle Asked n r law = absurd r
+  at_ports Open false h s Idle Shut n r law = absurd r
+  at_ports Open false h s Idle Refused n r law = absurd r
+  at_ports Open false h s Over y n r law = absurd r
+  at_ports Open false h s Left y n r law = absurd r
+  at_ports Open true h s Over Asked n r law = absurd r
+  at_ports Open true h s Over Shut n r law = absurd r
+  at_ports Open true h s Over Refused n r law = absurd r
+  at_ports Open true h s Waiting y n r law = absurd r
+  at_ports Open true h s Idle y n r law = absurd r
+  at_ports Open true h s Left y n r law = absurd r
 
-  pub started_rests : (l : Logic) (v : View) → (l.phase ≡ New → ⊥) → row l v → (law : Law m start (held l) (in_at v 0) (out_at v 0) took gave) → OwnRests m start false (in_at v 0) (out_at v 0) law.in_list law.out_list
-  started_rests l v n r law = at_lists l.phase l.stage v.ins v.outs n r law
+  at_lists : (p : Phase) (over : Bool) (h : List Tree) (s : Stage) (xs : List InView) (ys : List OutView) → (p ≡ New → ⊥) → OneOneOf (row_in p over h s.work) xs ys
+      → (law : Law m start (held_in p over h s) (slice_index_or xs 0 Left) (slice_index_or ys 0 Shut) took gave) → OwnRests m start (holds_at_end s.work) (slice_index_or xs 0 Left) (slice_index_or ys 0 Shut) law.in_list law.out_list
+  at_lists p over h s (x ∷ []) (y ∷ []) n r law = at_ports p over h s x y n r law
+  at_lists p over h s [] ys n r law = absurd r
+  at_lists p over h s (x ∷ []) [] n r law = absurd r
+  at_lists p over h s (x ∷ []) (y ∷ z ∷ ys) n r law = absurd r
+  at_lists p over h s (x ∷ w ∷ xs) ys n r law = absurd r
+
+  pub started_rests : (l : Logic) (v : View) → (l.phase ≡ New → ⊥) → row l v → (law : Law m start (held l) (in_at v 0) (out_at v 0) took gave) → OwnRests m start (holds_at_end l.stage.work) (in_at v 0) (out_at v 0) law.in_list law.out_list
+  started_rests l v n r law = at_lists l.phase l.over l.pending l.stage v.ins v.outs n r law
 
 -- ---- where a call may come, a stage that was started is open
 
-open_at : (p : Phase) (w : Work) (x : InView) (y : OutView) → (p ≡ New → ⊥) → (IsInOpen x ⊎ IsOutOpen y) → row_in p w x y → p ≡ Open
-open_at Open w x y n h r = refl
-open_at New w x y n h r = absurd (n refl)
-open_at Closed w Over Shut n (inl h) r = absurd h
-open_at Closed w Over Shut n (inr h) r = absurd h
-open_at Closed w Over Refused n (inl h) r = absurd h
-open_at Closed w Over Refused n (inr h) r = absurd h
-open_at Closed w Left Shut n (inl h) r = absurd h
-open_at Closed w Left Shut n (inr h) r = absurd h
-open_at Closed w Left Refused n (inl h) r = absurd h
-open_at Closed w Left Refused n (inr h) r = absurd h
-open_at Closed w Over Unasked n h r = absurd r
-open_at Closed w Over Asked n h r = absurd r
-open_at Closed w Left Unasked n h r = absurd r
-open_at Closed w Left Asked n h r = absurd r
-open_at Closed w Idle y n h r = absurd r
-open_at Closed w Waiting y n h r = absurd r
+pub closed_ports : (x : InView) (y : OutView) → (IsInOpen x ⊎ IsOutOpen y) → BothClosed x y → ⊥
+closed_ports Over Shut (inl h) r = h
+closed_ports Over Shut (inr h) r = h
+closed_ports Over Refused (inl h) r = h
+closed_ports Over Refused (inr h) r = h
+closed_ports Left Shut (inl h) r = h
+closed_ports Left Shut (inr h) r = h
+closed_ports Left Refused (inl h) r = h
+closed_ports Left Refused (inr h) r = h
+closed_ports Over Unasked h r = r
+closed_ports Over Asked h r = r
+closed_ports Left Unasked h r = r
+closed_ports Left Asked h r = r
+closed_ports Idle y h r = r
+closed_ports Waiting y h r = r
+
+open_at : (p : Phase) (over : Bool) (k : List Tree) (w : Work) (x : InView) (y : OutView) → (p ≡ New → ⊥) → (IsInOpen x ⊎ IsOutOpen y) → row_in p over k w x y → p ≡ Open
+open_at Open over k w x y n h r = refl
+open_at New over k w x y n h r = absurd (n refl)
+open_at Closed over k w x y n h r = absurd (closed_ports x y h r)
 
 -- some port of a stage with one input and one output is open, where a call may come
-may_come : (call : Call) (x : InView) (y : OutView) → (call ≡ starts → ⊥) → CallAllowed call (record { ins = x ∷ []; outs = y ∷ [] }) → IsInOpen x ⊎ IsOutOpen y
+pub may_come : (call : Call) (x : InView) (y : OutView) → (call ≡ starts → ⊥) → CallAllowed call (record { ins = x ∷ []; outs = y ∷ [] }) → IsInOpen x ⊎ IsOutOpen y
 may_come starts x y n h = absurd (n refl)
 may_come (asks zero) x y n h = inr (rw h tt)
 may_come (asks (suc j)) x y n h = cc
@@ -81,15 +100,15 @@ may_come (brings (suc i) (item.Failed c)) x y n h = absurd h
 may_come (cancels zero) x y n h = inr h
 may_come (cancels (suc j)) x y n h = absurd h
 
-open_lists : (p : Phase) (w : Work) (call : Call) (xs : List InView) (ys : List OutView) → (p ≡ New → ⊥) → (call ≡ starts → ⊥) → CallAllowed call (record { ins = xs; outs = ys }) → OneOneOf (row_in p w) xs ys → p ≡ Open
-open_lists p w call (x ∷ []) (y ∷ []) n s h r = open_at p w x y n (may_come call x y s h) r
-open_lists p w call [] ys n s h r = absurd r
-open_lists p w call (x ∷ []) [] n s h r = absurd r
-open_lists p w call (x ∷ []) (y ∷ z ∷ ys) n s h r = absurd r
-open_lists p w call (x ∷ u ∷ xs) ys n s h r = absurd r
+open_lists : (p : Phase) (over : Bool) (k : List Tree) (w : Work) (call : Call) (xs : List InView) (ys : List OutView) → (p ≡ New → ⊥) → (call ≡ starts → ⊥) → CallAllowed call (record { ins = xs; outs = ys }) → OneOneOf (row_in p over k w) xs ys → p ≡ Open
+open_lists p over k w call (x ∷ []) (y ∷ []) n s h r = open_at p over k w x y n (may_come call x y s h) r
+open_lists p over k w call [] ys n s h r = absurd r
+open_lists p over k w call (x ∷ []) [] n s h r = absurd r
+open_lists p over k w call (x ∷ []) (y ∷ z ∷ ys) n s h r = absurd r
+open_lists p over k w call (x ∷ u ∷ xs) ys n s h r = absurd r
 
 pub called_open : (l : Logic) (call : Call) (v : View) → (l.phase ≡ New → ⊥) → (call ≡ starts → ⊥) → CallAllowed call v → row l v → l.phase ≡ Open
-called_open l call v n s h r = open_lists l.phase l.stage.work call v.ins v.outs n s h r
+called_open l call v n s h r = open_lists l.phase l.over l.pending l.stage.work call v.ins v.outs n s h r
 
 -- ---- from one call to the next
 
@@ -118,3 +137,12 @@ asked_meets old new acts e h o is = (waiting_ports, (refl, asked_row old new act
 
 pub asked_open : (old new : Logic) (acts : List Act) (e : Tree) → IsReady old → Obeys (asks 0) (row old) (row new) acts → (new.phase ≡ New → ⊥) → acts ≡ Pull 0 ∷ [] → new.phase ≡ Open
 asked_open old new acts e h o n is = called_open new (brings 0 (item.Elem e)) waiting_ports n (λ x. cc) refl (asked_row old new acts h o is)
+
+pub ready_ends : (l : Logic) → IsReady l → Meets (brings 0 item.Ended) (row l)
+ready_ends l h = (unasked_ports, (tt, h.1))
+
+pub ready_fails : (l : Logic) (c : Cause) → IsReady l → Meets (brings 0 (item.Failed c)) (row l)
+ready_fails l c h = (unasked_ports, (tt, h.1))
+
+pub ready_cancels : (l : Logic) → IsReady l → Meets (cancels 0) (row l)
+ready_cancels l h = (unasked_ports, (tt, h.1))

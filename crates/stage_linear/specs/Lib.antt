@@ -1,2 +1,4 @@
 pub mod Tasks
 pub mod States
+pub mod Pending
+pub mod Outcomes

@@ -1,31 +1,59 @@
 -- The tasks of the linear stages, in the words of the model.
-use Rattle.std.specs.Prelude.{◌≡◌, ◌<◌, ⊤, true, [], ◌∷◌}
+use Rattle.std.specs.Prelude.{◌≡◌, ◌<◌, ⊤, Bool, true, false, [], ◌∷◌}
 use Rattle.elem_core.specs.Tree.{Tree}
-use Rattle.stream_model.specs.Linear.{Book, Work, mapping, filtering, taking, gives, ends, blames, reaction, linear}
+use Rattle.stream_model.specs.Linear.{Book, Work, mapping, filtering, taking, taking_while, dropping, dropping_while, passing, limiting, expanding, gives, ends, blames, breaks, reaction, holds, restarted, first_of, linear}
+use Rattle.stream_picture.specs.OneWay.{holds_at_end}
+use Rattle.elem_core.specs.declared.function.Pred.{Pred}
 use Rattle.stage_linear.specs.declared.task.Task.{Task}
-use Rattle.stage_linear.specs.declared.task.Task.TheVariants.{Map, Filter, Take}
+use Rattle.stage_linear.specs.declared.task.Task.TheVariants.{Map, Filter, FilterNot, Take, TakeWhile, Drop, DropWhile, Limit, Expand}
 use Rattle.stage_linear.specs.declared.task.Outcome.{Outcome}
-use Rattle.stage_linear.specs.declared.task.Outcome.TheVariants.{Gives, Skips, EndsWith, Blames}
+use Rattle.stage_linear.specs.declared.task.Outcome.TheVariants.{Gives, GivesAll, Skips, EndsWith, Ends, Blames, Fails}
+
+-- a drop_while passes every element once it gave one
+abbrev pub dropping_by : Pred → Bool → Work
+dropping_by p true = passing
+dropping_by p false = dropping_while p
 
 -- the work of a task
 abbrev pub work_in : Task → Work
 work_in (Map f) = mapping f
 work_in (Filter p) = filtering p true
+work_in (FilterNot p) = filtering p false
 work_in (Take n) = taking n
+work_in (TakeWhile p) = taking_while p
+work_in (Drop n) = dropping n
+work_in (DropWhile p passes) = dropping_by p passes
+work_in (Limit n) = limiting n
+work_in (Expand x) = expanding x
 
 -- a take has an element to take
 abbrev pub HasMore : Work → Type 0
 HasMore (taking n) = 0 < n
 HasMore _ = ⊤
 
+-- they are works of the same machine
+abbrev pub SameMachine : Work → Work → Type 0
+SameMachine old new = (book : Book) → linear book new ≡ linear book old
+
 -- the stage goes on with this work: there is more to do, and it is the same machine
 abbrev pub GoesOn : Work → Work → Type 0
-GoesOn old new = HasMore new × ((book : Book) → linear book new ≡ linear book old)
+GoesOn old new = HasMore new × SameMachine old new
+
+-- the outputs of one element are held, also behind the end of the input
+abbrev pub Spreads : Work → Type 0
+Spreads w = (holds w ≡ true) × (holds_at_end w ≡ true)
+
+-- the work stays as it was, and has no state to begin again
+abbrev pub Stays : Work → Work → Type 0
+Stays old new = (new ≡ old) × ((restarted old ≡ old) × (first_of old ≡ []))
 
 -- What came of the element t, as the model's reaction: what is given, and the stage goes on; or that it ends; or why the
--- function has no value, at which the work stays as it was.
+-- function has no value, at which the work stays as it was; or why the stage fails, whatever its decider.
 abbrev pub Reacted : Work → Tree → Work → Outcome → Type 0
 Reacted old t new (Gives u) = ((book : Book) → reaction book old t ≡ gives (u ∷ []) new) × GoesOn old new
+Reacted old t new (GivesAll us) = ((book : Book) → reaction book old t ≡ gives us new) × (GoesOn old new × Spreads new)
 Reacted old t new Skips = ((book : Book) → reaction book old t ≡ gives [] new) × GoesOn old new
-Reacted old t new (EndsWith u) = (book : Book) → reaction book old t ≡ ends (u ∷ [])
-Reacted old t new (Blames why) = ((book : Book) → reaction book old t ≡ blames why) × (new ≡ old)
+Reacted old t new (EndsWith u) = ((book : Book) → reaction book old t ≡ ends (u ∷ [])) × SameMachine old new
+Reacted old t new Ends = ((book : Book) → reaction book old t ≡ ends []) × SameMachine old new
+Reacted old t new (Blames why) = ((book : Book) → reaction book old t ≡ blames why) × Stays old new
+Reacted old t new (Fails why) = ((book : Book) → reaction book old t ≡ breaks why) × SameMachine old new

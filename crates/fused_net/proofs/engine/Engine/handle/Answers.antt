@@ -13,6 +13,12 @@ returns-then-is_nothing-clause-laws g c = (handled_nothing g.S.Stage.rests g.S.S
 pub returns-then-is_nothing-clause-uses : goal.returns-then-is_nothing-clause-uses
 returns-then-is_nothing-clause-uses g c = (handled_nothing g.S.Stage.rests g.S.Stage.law _ _ _ c.requires.laws c.requires.within c.requires.absent (sym c.deliver-event.ensures.event ∙ (c.if-is_nothing.ensures).0 refl) c.deliver-event.ensures.after).uses
 
+pub respond-requires-clause-within : goal.respond-requires-clause-within
+respond-requires-clause-within g c =
+    let some : delivery_in c.deliver-event.result ≢ nothing = λ e. let t = (c.if-is_nothing.ensures).1 e in cc in
+    (call_at g.S.Stage.rests g.S.Stage.law _ _ _ _ _ _ c.requires.laws c.requires.within c.requires.absent c.deliver-event.ensures.event some c.deliver-event.ensures.after
+    (the_ends _ _ _ _ c.self.view_is c.requires.laws.wired.each_wire c.requires.within c.index-ends.ensures) c.node_of-n.ensures).within
+
 pub respond-requires-clause-meets : goal.respond-requires-clause-meets
 respond-requires-clause-meets g c =
     let some : delivery_in c.deliver-event.result ≢ nothing = λ e. let t = (c.if-is_nothing.ensures).1 e in cc in

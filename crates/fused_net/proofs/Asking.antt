@@ -1,0 +1,213 @@
+-- Each wire's last ask is kept while a node acts, and made anew where the node asks.
+use Rattle.std.proofs.Common.{◌≡◌, ◌⊎◌, inl, inr, ℕ, ◌<◌, ◌≤◌, Bool, true, false, None, Some, List, [], ◌∷◌, length, slice_get, refl, sym, ap, ◌∙◌, subst, get_or-set_same, get_or-set_other}
+use Rattle.std.proofs.lemmas.List.{length-set}
+use Rattle.elem_core.specs.declared.item.Item.{Item}
+use Rattle.port_core.specs.Asking.{NoCancel, AsksStand}
+use Rattle.port_core.specs.Connection.{pulled}
+use Rattle.port_core.specs.Decoding.{can_pull}
+use Rattle.port_core.specs.Wire.{Wire, Delivery, again}
+use Rattle.port_core.specs.Joint.{Joint, idle, asking, asked, moving, ending, closing, leaving, finished, parted, refused, wire_of, IsSound}
+use Rattle.port_core.specs.View.{View}
+use Rattle.port_core.specs.declared.act.Act.{Act}
+use Rattle.port_core.specs.declared.act.Act.TheVariants.{Pull, Push, Complete, FailOut, Cancel}
+use Rattle.port_core.specs.declared.view.InView.TheVariants.{Idle, Waiting}
+use Rattle.port_core.specs.declared.view.OutView.TheVariants.{Asked}
+use Rattle.wire_core.specs.Cell.{Cell, moved_by}
+use Rattle.wire_core.specs.Marks.{wants, IsMarked, wanted, Grown}
+use Rattle.wire_core.proofs.Marking.{pull_grown, push_grown, close_grown, cancel_grown, push_wanted, close_wanted, deliver_grown, deliver_wanted, grown_same, grown_trans}
+use Rattle.fused_net.specs.PortLists.{PortLists}
+use Rattle.fused_net.specs.Net.{Net, no_wire, end_at, wire_at, ports_at, wire_for, put, acted, acted_all, told_by, told, with_node, before}
+use Rattle.fused_net.specs.Laws.{AnyRow, AnyLaw, GoesOn, IsMinded, LastAsk, AllAsked, Busy}
+use Rattle.fused_net.proofs.Reading.{same_or_not, get_there}
+use Rattle.fused_net.proofs.Ongoing.{goes_same, goes_trans, goes_put, goes_node}
+use Rattle.fused_net.proofs.Acting.{Fits, PortAt, fits, act_allowed, port_within, queued, acted_busy, acts_busy, acts_here}
+
+-- ---- one wire
+
+-- an input that waits has not closed
+open_j : (j : Joint) (s g : List Item) → (wire_of j s g).inp ≡ Waiting → (wire_of j s g).conn.in_closed ≡ false
+open_j idle s g e = cc
+open_j asking s g e = refl
+open_j asked s g e = refl
+open_j (moving x) s g e = refl
+open_j (ending c) s g e = cc
+open_j (closing t c) s g e = refl
+open_j (leaving true t) s g e = cc
+open_j (leaving false t) s g e = cc
+open_j (finished t c) s g e = cc
+open_j (parted t c) s g e = cc
+open_j (refused t c) s g e = cc
+
+waits_open : (w : Wire) (q : Bool) → IsSound w q → w.inp ≡ Waiting → w.conn.in_closed ≡ false
+waits_open w q h e = ap (λ (v : Wire). v.conn.in_closed) h.is ∙ open_j h.joint w.sent w.got (sym (ap (λ (v : Wire). v.inp) h.is) ∙ e)
+
+-- an ask that is on its way has not come to the output
+unasked_j : (j : Joint) (s g : List Item) → (wire_of j s g).inp ≡ Waiting → (wire_of j s g).conn.step ≡ pulled → (wire_of j s g).out ≡ Asked → ⊥
+unasked_j idle s g i t o = cc
+unasked_j asking s g i t o = cc
+unasked_j asked s g i t o = cc
+unasked_j (moving x) s g i t o = cc
+unasked_j (ending c) s g i t o = cc
+unasked_j (closing u c) s g i t o = cc
+unasked_j (leaving true u) s g i t o = cc
+unasked_j (leaving false u) s g i t o = cc
+unasked_j (finished u c) s g i t o = cc
+unasked_j (parted u c) s g i t o = cc
+unasked_j (refused u c) s g i t o = cc
+
+not_come : (w : Wire) (q : Bool) → IsSound w q → w.inp ≡ Waiting → w.conn.step ≡ pulled → w.out ≡ Asked → ⊥
+not_come w q h i t o =
+    unasked_j h.joint w.sent w.got (sym (ap (λ (v : Wire). v.inp) h.is) ∙ i) (sym (ap (λ (v : Wire). v.conn.step) h.is) ∙ t) (sym (ap (λ (v : Wire). v.out) h.is) ∙ o)
+
+move_grown : (a : Act) (c : Cell) → Fits a c.wire → IsMarked c → Grown c (moved_by a c)
+move_grown (Pull i) c f m = pull_grown c.wire c.asked
+move_grown (Push j x) c f m = push_grown x c.wire c.asked (m.known f)
+move_grown (Complete j) c f m = close_grown None c.wire c.asked
+move_grown (FailOut j d) c f m = close_grown (Some d) c.wire c.asked
+move_grown (Cancel i) c f m = cancel_grown c.wire c.asked
+
+-- the ask of this wire was made by the actions so far, is on its way, and those still to do leave it
+pub record AsksAt (p : PortLists) (acts : List Act) (w : ℕ) (c : Cell) : Type 0 where
+  pub port : ℕ
+  pub at : slice_get p.ins port ≡ Some w
+  pub waits : c.wire.inp ≡ Waiting
+  pub step : c.wire.conn.step ≡ pulled
+  pub kept : NoCancel port acts
+
+-- a port has one wire, and a wire one port
+abbrev Once : PortLists → ℕ → Type 0
+Once p w = (i k : ℕ) → slice_get p.ins i ≡ Some w → slice_get p.ins k ≡ Some w → i ≡ k
+
+pull_here : (i : ℕ) (acts : List Act) (p : PortLists) (w : ℕ) (c : Cell) (t : Bool) → can_pull c.wire.conn ≡ t → slice_get p.ins i ≡ Some w → c.wire.inp ≡ Idle → NoCancel i acts
+    → (L : Type 0) → (1 ≤ wanted c → L ⊎ AsksAt p (Pull i ∷ acts) w c) → 1 ≤ wanted (moved_by (Pull i) c) → ((wanted (moved_by (Pull i) c) ≡ wanted c) × L) ⊎ AsksAt p acts w (moved_by (Pull i) c)
+pull_here i acts p w c true e at f stands L before some = inr (record { port = i; at = at; waits = refl; step = rw e refl; kept = stands })
+pull_here i acts p w c false e at f stands L before some =
+    let same : wanted (moved_by (Pull i) c) ≡ wanted c = rw e refl in
+    elim (before (subst (λ (n : ℕ). 1 ≤ n) same some)) [ inl l ↦ inl (same, l) | inr k ↦ let x = k.waits in cc ]
+
+-- an action at the wire leaves its last ask, or is a new one
+acted_here : (a : Act) (acts : List Act) (p : PortLists) (w : ℕ) (c : Cell) (q : Bool) → PortAt a p w → Fits a c.wire → IsSound c.wire q → IsMarked c → AsksStand (a ∷ acts) → Once p w
+    → (L : Type 0) → (1 ≤ wanted c → L ⊎ AsksAt p (a ∷ acts) w c) → 1 ≤ wanted (moved_by a c) → ((wanted (moved_by a c) ≡ wanted c) × L) ⊎ AsksAt p acts w (moved_by a c)
+acted_here (Pull i) acts p w c q at f s m stands once L before some = pull_here i acts p w c (can_pull c.wire.conn) refl at f stands.0 L before some
+acted_here (Push j x) acts p w c q at f s m stands once L before some =
+    let same : wanted (moved_by (Push j x) c) ≡ wanted c = push_wanted x c.wire c.asked (m.known f) in
+    elim (before (subst (λ (n : ℕ). 1 ≤ n) same some)) [ inl l ↦ inl (same, l) | inr k ↦ absurd (not_come c.wire q s k.waits k.step f) ]
+acted_here (Complete j) acts p w c q at f s m stands once L before some =
+    let same : wanted (moved_by (Complete j) c) ≡ wanted c = close_wanted None c.wire c.asked in
+    elim (before (subst (λ (n : ℕ). 1 ≤ n) same some)) [ inl l ↦ inl (same, l) | inr k ↦ inr (record { port = k.port; at = k.at; waits = k.waits; step = k.step; kept = k.kept }) ]
+acted_here (FailOut j d) acts p w c q at f s m stands once L before some =
+    let same : wanted (moved_by (FailOut j d) c) ≡ wanted c = close_wanted (Some d) c.wire c.asked in
+    elim (before (subst (λ (n : ℕ). 1 ≤ n) same some)) [ inl l ↦ inl (same, l) | inr k ↦ inr (record { port = k.port; at = k.at; waits = k.waits; step = k.step; kept = k.kept }) ]
+acted_here (Cancel i) acts p w c q at f s m stands once L before some =
+    elim (before some) [ inl l ↦ inl (refl, l) | inr k ↦ absurd (k.kept.0 (once i k.port at k.at)) ]
+
+still_kept : (a : Act) (acts : List Act) (i : ℕ) → NoCancel i (a ∷ acts) → NoCancel i acts
+still_kept (Pull k) acts i h = h
+still_kept (Push j x) acts i h = h
+still_kept (Complete j) acts i h = h
+still_kept (FailOut j d) acts i h = h
+still_kept (Cancel k) acts i h = h.1
+
+-- ---- all wires
+
+module _ {N : Type 0} where
+  -- every wire goes on where one was put that goes on
+  pub grown_put : (net : Net N) (w : ℕ) (new : Cell) (b : Bool) → w < length net.wires → Grown (wire_at net w) new → (u : ℕ) → Grown (wire_at net u) (wire_at (put net w new b) u)
+  grown_put net w new b h g u = elim (same_or_not u w) [
+    | inl same ↦ rw same (rw (get_or-set_same net.wires w new no_wire h) g)
+    | inr other ↦ rw (get_or-set_other net.wires w u new no_wire other) (grown_same (wire_at net u))
+  ]
+
+module _ {N : Type 0} (row : N → View → Type 0) (law : N → N → View → List (List Item) → List (List Item) → Type 0) where
+  -- the last ask stays the last one where the graph goes on and the wire is not asked again
+  pub later : (net new : Net N) (w : ℕ) → GoesOn net new → ((u : ℕ) → Grown (wire_at net u) (wire_at new u)) → wanted (wire_at new w) ≡ wanted (wire_at net w) → LastAsk row law net w → LastAsk row law new w
+  later net new w on grown same a = record {
+    old = a.old;
+    on = goes_trans a.old net new a.on on;
+    grown = λ u h. grown_trans (wire_at a.old u) (wire_at net u) (wire_at new u) (a.grown u h) (grown u);
+    sound = a.sound;
+    marked = a.marked;
+    waits = a.waits;
+    asked = a.asked;
+    same = same ∙ a.same;
+    minded = a.minded;
+  }
+
+  -- each wire whose input has asked has a last ask, or it was asked by the actions of node n so far
+  abbrev AskedOr : Net N → ℕ → List Act → Type 0
+  AskedOr net n acts = (w : ℕ) → w < length net.wires → 1 ≤ wanted (wire_at net w) → LastAsk row law net w ⊎ AsksAt (ports_at net n) acts w (wire_at net w)
+
+  acted_asked : (net : Net N) (n : ℕ) (a : Act) (acts : List Act) → Busy AnyRow AnyLaw net n (a ∷ acts) → AskedOr net n (a ∷ acts) → AskedOr (acted net n a) n acts
+  acted_asked net n a acts busy before w h some =
+      let x = get_there net.nodes n busy.within in
+      let first = get_there net.firsts n (rw busy.each_first busy.within) in
+      let f = fits net n a (act_allowed AnyRow AnyLaw net n a acts x.0 first.0 busy x.1 first.1) in
+      let at : wire_for a (ports_at net n) < length net.wires = port_within net n a _ busy.wired busy.within f.0 in
+      let within : w < length net.wires = rw length-set at h in
+      let on : GoesOn net (acted net n a) = goes_put net (wire_for a (ports_at net n)) _ (queued net n a) in
+      let grown : (u : ℕ) → Grown (wire_at net u) (wire_at (acted net n a) u) =
+      grown_put net (wire_for a (ports_at net n)) (moved_by a (wire_at net (wire_for a (ports_at net n)))) (queued net n a) at (move_grown a (wire_at net (wire_for a (ports_at net n))) f.1 (busy.marked _ at)) in
+      elim (same_or_not w (wire_for a (ports_at net n))) [
+        | inl here ↦
+            let moved : wire_at (acted net n a) w ≡ moved_by a (wire_at net w) = rw here (get_or-set_same net.wires (wire_for a (ports_at net n)) (moved_by a (wire_at net (wire_for a (ports_at net n)))) no_wire at) in
+            let port : PortAt a (ports_at net n) w = rw here f.0 in
+            let may : Fits a (wire_at net w).wire = rw here f.1 in
+            let some' : 1 ≤ wanted (moved_by a (wire_at net w)) = rw moved at some in
+            let r = acted_here a acts (ports_at net n) w (wire_at net w) _ port may (busy.sound w within) (busy.marked w within) busy.stands
+            (λ i k e d. sym (busy.wired.input_to n i w busy.within e).1.1 ∙ (busy.wired.input_to n k w busy.within d).1.1)
+            (LastAsk row law net w) (before w within) some' in
+            elim r [
+              | inl l ↦ inl (later net (acted net n a) w on grown (ap (λ (c : Cell). wanted c) moved ∙ l.0) l.1)
+              | inr k ↦ inr (rw moved k)
+            ]
+        | inr other ↦
+            let same : wire_at (acted net n a) w ≡ wire_at net w = get_or-set_other net.wires (wire_for a (ports_at net n)) w _ no_wire other in
+            let some' : 1 ≤ wanted (wire_at net w) = rw same at some in
+            elim (before w within some') [
+              | inl l ↦ inl (later net (acted net n a) w on grown (ap (λ (c : Cell). wanted c) same) l)
+              | inr k ↦ inr (rw same (record { port = k.port; at = k.at; waits = k.waits; step = k.step; kept = still_kept a acts k.port k.kept }))
+            ]
+      ]
+
+  acts_asked : (acts : List Act) (net : Net N) (n : ℕ) → Busy AnyRow AnyLaw net n acts → AskedOr net n acts → AskedOr (acted_all net n acts) n []
+  acts_asked [] net n busy before = before
+  acts_asked (a ∷ acts) net n busy before = acts_asked acts (acted net n a) n (acted_busy AnyRow AnyLaw net n a acts busy) (acted_asked net n a acts busy before)
+
+  -- once its actions are done, an ask that the node made is the last one of its wire
+  done_asked : (net : Net N) (n : ℕ) → Busy AnyRow AnyLaw net n [] → IsMinded row law net n [] → AskedOr net n [] → AllAsked row law net
+  done_asked net n busy minded before w h some = elim (before w h some) [
+    | inl l ↦ l
+    | inr k ↦
+        let to : (end_at net.ends w).to ≡ n = (busy.wired.input_to n k.port w busy.within k.at).1.0 in
+        let mark : (wire_at net w).asked ≡ wants (wire_at net w).wire.conn.step = (busy.marked w h).unclosed (waits_open (wire_at net w).wire _ (busy.sound w h) k.waits) in
+        record {
+          old = net;
+          on = goes_same net;
+          grown = λ u hu. grown_same (wire_at net u);
+          sound = busy.sound;
+          marked = busy.marked;
+          waits = k.waits;
+          asked = mark ∙ ap wants k.step;
+          same = refl;
+          minded = rw to minded;
+        }
+  ]
+
+  pub after_acts : (net : Net N) (n : ℕ) (acts : List Act) → Busy AnyRow AnyLaw net n acts → IsMinded row law net n acts → AllAsked row law net → AllAsked row law (acted_all net n acts)
+  after_acts net n acts busy minded all =
+      done_asked (acted_all net n acts) n (acts_busy AnyRow AnyLaw acts net n busy) (acts_here row law acts net n busy minded) (acts_asked acts net n busy (λ w h some. inl (all w h some)))
+
+  -- ---- an event, and another node in a node's place
+
+  pub told_asked : (net : Net N) (w : ℕ) (d : Delivery) → w < length net.wires → AllAsked row law (before net w) → AllAsked row law (told net w d)
+  told_asked net w d h all u hu some =
+      let within : u < length net.wires = rw length-set at hu in
+      let grown : (x : ℕ) → Grown (wire_at net x) (wire_at (told net w d) x) = grown_put net w (told_by d (wire_at net w)) (again d) h (deliver_grown d (wire_at net w).wire (wire_at net w).asked) in
+      let same : wanted (wire_at (told net w d) u) ≡ wanted (wire_at net u) = elim (same_or_not u w) [
+        | inl e ↦ rw e (ap (λ (c : Cell). wanted c) (get_or-set_same net.wires w (told_by d (wire_at net w)) no_wire h) ∙ deliver_wanted d (wire_at net w).wire (wire_at net w).asked)
+        | inr ne ↦ ap (λ (c : Cell). wanted c) (get_or-set_other net.wires w u (told_by d (wire_at net w)) no_wire ne)
+      ] in
+      later (before net w) (told net w d) u (record { firsts = refl; ends = refl; ports = refl; nodes = refl; wires = length-set _ _ _ }) grown same (all u within (subst (λ (n : ℕ). 1 ≤ n) same some))
+
+  pub node_asked : (net : Net N) (n : ℕ) (y : N) → AllAsked row law net → AllAsked row law (with_node net n y)
+  node_asked net n y all w h some = later net (with_node net n y) w (goes_node net n y) (λ u. grown_same (wire_at net u)) refl (all w h some)

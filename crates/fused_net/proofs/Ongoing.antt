@@ -1,0 +1,24 @@
+-- The graph goes on: its wiring stays.
+use Rattle.std.proofs.Common.{ℕ, Bool, List, [], ◌∷◌, refl, ◌∙◌}
+use Rattle.std.proofs.lemmas.List.{length-set}
+use Rattle.port_core.specs.declared.act.Act.{Act}
+use Rattle.wire_core.specs.Cell.{Cell}
+use Rattle.fused_net.specs.Net.{Net, put, acted, acted_all, with_node}
+use Rattle.fused_net.specs.Laws.{GoesOn}
+
+module _ {N : Type 0} where
+  pub goes_same : (net : Net N) → GoesOn net net
+  goes_same net = record { firsts = refl; ends = refl; ports = refl; nodes = refl; wires = refl }
+
+  pub goes_trans : (a b c : Net N) → GoesOn a b → GoesOn b c → GoesOn a c
+  goes_trans a b c f g = record { firsts = g.firsts ∙ f.firsts; ends = g.ends ∙ f.ends; ports = g.ports ∙ f.ports; nodes = g.nodes ∙ f.nodes; wires = g.wires ∙ f.wires }
+
+  pub goes_put : (net : Net N) (w : ℕ) (new : Cell) (b : Bool) → GoesOn net (put net w new b)
+  goes_put net w new b = record { firsts = refl; ends = refl; ports = refl; nodes = refl; wires = length-set _ _ _ }
+
+  pub goes_acts : (acts : List Act) (net : Net N) (n : ℕ) → GoesOn net (acted_all net n acts)
+  goes_acts [] net n = goes_same net
+  goes_acts (a ∷ acts) net n = goes_trans net (acted net n a) _ (goes_put net _ _ _) (goes_acts acts (acted net n a) n)
+
+  pub goes_node : (net : Net N) (n : ℕ) (y : N) → GoesOn net (with_node net n y)
+  goes_node net n y = record { firsts = refl; ends = refl; ports = refl; nodes = length-set _ _ _; wires = refl }

@@ -1,0 +1,10 @@
+pub mod Resting
+pub mod Telling
+pub mod Places
+pub mod Bounds
+pub mod Stages
+pub mod RestRows
+pub mod Graphs
+pub mod LawRows
+pub mod LawGraphs
+pub mod Composing

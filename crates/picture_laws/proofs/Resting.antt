@@ -1,0 +1,174 @@
+-- How a wire that is not queued stands, by what its ends know of it.
+use Rattle.std.proofs.Common.{◌≡◌, Bool, true, false, not, List, refl, sym, ap, ◌∙◌, subst}
+use Rattle.elem_core.specs.Prefix.{IsPrefix}
+use Rattle.elem_core.proofs.Prefixes.{prefix_refl}
+use Rattle.elem_core.specs.declared.item.Item.{Item}
+use Rattle.port_core.specs.Connection.{quiet, pulled, ready, pushed}
+use Rattle.port_core.specs.Decoding.{is_open}
+use Rattle.port_core.specs.Wire.{Wire}
+use Rattle.port_core.specs.Joint.{Joint, idle, asking, asked, moving, ending, closing, leaving, finished, parted, refused, wire_of, Histories, Queues, IsSound}
+use Rattle.port_core.specs.declared.view.InView.TheVariants.{Idle, Waiting}
+use Rattle.port_core.specs.declared.view.OutView.TheVariants.{Unasked, Asked}
+use Rattle.wire_core.specs.Cell.{Cell}
+use Rattle.wire_core.specs.Counts.{elements}
+use Rattle.wire_core.proofs.Counting.{elements_end}
+use Rattle.wire_core.specs.Marks.{IsMarked}
+use Rattle.wire_core.proofs.Marking.{cell}
+use Rattle.stage_law.specs.Row.{InClosed, OutClosed}
+
+-- neither end has closed the wire, and its mark is this
+pub record Stands (w : Wire) (b is : Bool) : Type 0 where
+  pub mark : b ≡ is
+  pub still : not (is_open w.conn) ≡ false
+
+-- its input waits: it was asked, and all that was sent has come
+waits_j : (j : Joint) (s g : List Item) (b : Bool) → Histories j s g → Queues j false → IsMarked (cell (wire_of j s g) b) → (wire_of j s g).inp ≡ Waiting → Stands (wire_of j s g) b true × (s ≡ g)
+waits_j idle s g b h q m e = cc
+waits_j asking s g b h q m e = cc
+waits_j asked s g b h q m e = (record { mark = m.known refl; still = refl }, h)
+waits_j (moving x) s g b h q m e = cc
+waits_j (ending c) s g b h q m e = cc
+waits_j (closing t c) s g b h q m e = cc
+waits_j (leaving true t) s g b h q m e = cc
+waits_j (leaving false t) s g b h q m e = cc
+waits_j (finished t c) s g b h q m e = cc
+waits_j (parted t c) s g b h q m e = cc
+waits_j (refused t c) s g b h q m e = cc
+
+-- its input has not asked
+idles_j : (j : Joint) (s g : List Item) (b : Bool) → Queues j false → IsMarked (cell (wire_of j s g) b) → (wire_of j s g).inp ≡ Idle → Stands (wire_of j s g) b false
+idles_j idle s g b q m e = record { mark = m.unclosed refl; still = refl }
+idles_j asking s g b q m e = cc
+idles_j asked s g b q m e = cc
+idles_j (moving x) s g b q m e = cc
+idles_j (ending c) s g b q m e = cc
+idles_j (closing t c) s g b q m e = cc
+idles_j (leaving true t) s g b q m e = cc
+idles_j (leaving false t) s g b q m e = cc
+idles_j (finished t c) s g b q m e = cc
+idles_j (parted t c) s g b q m e = cc
+idles_j (refused t c) s g b q m e = cc
+
+-- its output was asked, or was not
+asked_j : (j : Joint) (s g : List Item) (b : Bool) → Queues j false → IsMarked (cell (wire_of j s g) b) → (wire_of j s g).out ≡ Asked → Stands (wire_of j s g) b true
+asked_j idle s g b q m e = cc
+asked_j asking s g b q m e = cc
+asked_j asked s g b q m e = record { mark = m.known refl; still = refl }
+asked_j (moving x) s g b q m e = cc
+asked_j (ending c) s g b q m e = cc
+asked_j (closing t c) s g b q m e = cc
+asked_j (leaving true t) s g b q m e = cc
+asked_j (leaving false t) s g b q m e = cc
+asked_j (finished t c) s g b q m e = cc
+asked_j (parted t c) s g b q m e = cc
+asked_j (refused t c) s g b q m e = cc
+
+unasked_j : (j : Joint) (s g : List Item) (b : Bool) → Queues j false → IsMarked (cell (wire_of j s g) b) → (wire_of j s g).out ≡ Unasked → Stands (wire_of j s g) b false
+unasked_j idle s g b q m e = record { mark = m.unclosed refl; still = refl }
+unasked_j asking s g b q m e = cc
+unasked_j asked s g b q m e = cc
+unasked_j (moving x) s g b q m e = cc
+unasked_j (ending c) s g b q m e = cc
+unasked_j (closing t c) s g b q m e = cc
+unasked_j (leaving true t) s g b q m e = cc
+unasked_j (leaving false t) s g b q m e = cc
+unasked_j (finished t c) s g b q m e = cc
+unasked_j (parted t c) s g b q m e = cc
+unasked_j (refused t c) s g b q m e = cc
+
+-- its input has closed, or its output
+in_closed_j : (j : Joint) (s g : List Item) → InClosed (wire_of j s g).inp → not (is_open (wire_of j s g).conn) ≡ true
+in_closed_j idle s g h = absurd h
+in_closed_j asking s g h = absurd h
+in_closed_j asked s g h = absurd h
+in_closed_j (moving x) s g h = absurd h
+in_closed_j (ending c) s g h = absurd h
+in_closed_j (closing t c) s g h = absurd h
+in_closed_j (leaving true t) s g h = refl
+in_closed_j (leaving false t) s g h = refl
+in_closed_j (finished t c) s g h = refl
+in_closed_j (parted t c) s g h = refl
+in_closed_j (refused t c) s g h = refl
+
+out_closed_j : (j : Joint) (s g : List Item) → OutClosed (wire_of j s g).out → not (is_open (wire_of j s g).conn) ≡ true
+out_closed_j idle s g h = absurd h
+out_closed_j asking s g h = absurd h
+out_closed_j asked s g h = absurd h
+out_closed_j (moving x) s g h = absurd h
+out_closed_j (ending c) s g h = refl
+out_closed_j (closing t c) s g h = refl
+out_closed_j (leaving true t) s g h = absurd h
+out_closed_j (leaving false t) s g h = absurd h
+out_closed_j (finished t c) s g h = refl
+out_closed_j (parted t c) s g h = refl
+out_closed_j (refused t c) s g h = refl
+
+-- ---- the same of any wire
+
+module _ (c : Cell) (m : IsMarked c) where
+  at_joint : (q : Bool) (h : IsSound c.wire q) → IsMarked (cell (wire_of h.joint c.wire.sent c.wire.got) c.asked)
+  at_joint q h = subst (λ (v : Wire). IsMarked (cell v c.asked)) h.is m
+
+  back : (q : Bool) (h : IsSound c.wire q) (b : Bool) → Stands (wire_of h.joint c.wire.sent c.wire.got) c.asked b → Stands c.wire c.asked b
+  back q h b s = subst (λ (v : Wire). Stands v c.asked b) (sym h.is) s
+
+  pub waits : IsSound c.wire false → c.wire.inp ≡ Waiting → Stands c.wire c.asked true × (c.wire.sent ≡ c.wire.got)
+  waits h e =
+      let r = waits_j h.joint c.wire.sent c.wire.got c.asked h.histories h.queues (at_joint false h) (sym (ap (λ (v : Wire). v.inp) h.is) ∙ e) in
+      (back false h true r.0, r.1)
+
+  pub idles : IsSound c.wire false → c.wire.inp ≡ Idle → Stands c.wire c.asked false
+  idles h e = back false h false (idles_j h.joint c.wire.sent c.wire.got c.asked h.queues (at_joint false h) (sym (ap (λ (v : Wire). v.inp) h.is) ∙ e))
+
+  pub is_asked : IsSound c.wire false → c.wire.out ≡ Asked → Stands c.wire c.asked true
+  is_asked h e = back false h true (asked_j h.joint c.wire.sent c.wire.got c.asked h.queues (at_joint false h) (sym (ap (λ (v : Wire). v.out) h.is) ∙ e))
+
+  pub is_unasked : IsSound c.wire false → c.wire.out ≡ Unasked → Stands c.wire c.asked false
+  is_unasked h e = back false h false (unasked_j h.joint c.wire.sent c.wire.got c.asked h.queues (at_joint false h) (sym (ap (λ (v : Wire). v.out) h.is) ∙ e))
+
+pub in_shut : (w : Wire) (q : Bool) → IsSound w q → InClosed w.inp → not (is_open w.conn) ≡ true
+in_shut w q h e = subst (λ (v : Wire). not (is_open v.conn) ≡ true) (sym h.is) (in_closed_j h.joint w.sent w.got (subst (λ (v : Wire). InClosed v.inp) h.is e))
+
+pub out_shut : (w : Wire) (q : Bool) → IsSound w q → OutClosed w.out → not (is_open w.conn) ≡ true
+out_shut w q h e = subst (λ (v : Wire). not (is_open v.conn) ≡ true) (sym h.is) (out_closed_j h.joint w.sent w.got (subst (λ (v : Wire). OutClosed v.out) h.is e))
+
+-- ---- at any moment
+
+-- what came is a first part of what was sent
+part_j : (j : Joint) (s g : List Item) → Histories j s g → IsPrefix g s
+part_j idle s g h = rw h (prefix_refl g)
+part_j asking s g h = rw h (prefix_refl g)
+part_j asked s g h = rw h (prefix_refl g)
+part_j (moving x) s g h = record { rest = _; is = h }
+part_j (ending c) s g h = record { rest = _; is = h }
+part_j (closing t c) s g h = record { rest = _; is = h }
+part_j (leaving a t) s g h = record { rest = h.0; is = h.1 }
+part_j (finished t c) s g h = rw h (prefix_refl g)
+part_j (parted t c) s g h = record { rest = h.0; is = h.1 }
+part_j (refused t c) s g h = record { rest = h.0; is = h.1 }
+
+pub got_part : (w : Wire) (q : Bool) → IsSound w q → IsPrefix w.got w.sent
+got_part w q h = part_j h.joint w.sent w.got h.histories
+
+no_mark : {b : Bool} → b ≡ false → b ≡ true → ⊥
+no_mark e f = cc
+
+-- while its ask is not answered, all elements that were sent have come
+all_j : (j : Joint) (s g : List Item) (b : Bool) → Histories j s g → IsMarked (cell (wire_of j s g) b) → (wire_of j s g).inp ≡ Waiting → b ≡ true → elements s ≡ elements g
+all_j idle s g b h m e t = cc
+all_j asking s g b h m e t = ap elements h
+all_j asked s g b h m e t = ap elements h
+all_j (moving x) s g b h m e t = absurd (no_mark (m.unclosed refl) t)
+all_j (ending c) s g b h m e t = cc
+all_j (closing quiet c) s g b h m e t = absurd (no_mark (m.unclosed refl) t)
+all_j (closing pulled c) s g b h m e t = ap elements h ∙ elements_end g c
+all_j (closing ready c) s g b h m e t = ap elements h ∙ elements_end g c
+all_j (closing (pushed x) c) s g b h m e t = absurd (no_mark (m.unclosed refl) t)
+all_j (leaving true u) s g b h m e t = cc
+all_j (leaving false u) s g b h m e t = cc
+all_j (finished u c) s g b h m e t = cc
+all_j (parted u c) s g b h m e t = cc
+all_j (refused u c) s g b h m e t = cc
+
+pub all_came : (c : Cell) (q : Bool) → IsMarked c → IsSound c.wire q → c.wire.inp ≡ Waiting → c.asked ≡ true → elements c.wire.sent ≡ elements c.wire.got
+all_came c q m h e t = all_j h.joint c.wire.sent c.wire.got c.asked h.histories (at_joint c m q h) (sym (ap (λ (v : Wire). v.inp) h.is) ∙ e) t

@@ -1,0 +1,147 @@
+-- What the row of each kind of node says of its ports, and what its law says of the lists that passed there.
+use Rattle.std.proofs.Common.{◌≡◌, ◌≢◌, ◌⊎◌, inl, inr, ℕ, Bool, true, false, List, [], ◌∷◌, refl, sym, ap, ◌∙◌, append-nil}
+use Rattle.elem_core.specs.Tree.{Tree}
+use Rattle.elem_core.specs.declared.item.Item.{Item}
+use Rattle.port_core.specs.declared.view.InView.{InView}
+use Rattle.port_core.specs.declared.view.InView.TheVariants.{Idle, Waiting, Over, Left}
+use Rattle.port_core.specs.declared.view.OutView.{OutView}
+use Rattle.port_core.specs.declared.view.OutView.TheVariants.{Unasked, Asked, Shut, Refused}
+use Rattle.stream_model.specs.Outlook.{End, unended}
+use Rattle.stream_model.specs.Machine.{State, going, Run, Machine, run}
+use Rattle.elem_core.specs.declared.why.Decider.{Decider}
+use Rattle.port_core.specs.View.{View, in_at, out_at}
+use Rattle.stream_model.specs.declared.kind.Kind.{Kind}
+use Rattle.stream_model.specs.Linear.{Book, Stage, Work, linear, begin_work}
+use Rattle.stream_model.specs.declared.outcome.EndState.{EndState}
+use Rattle.stream_model.specs.declared.outcome.EndState.TheVariants.{Ended, Failed, Unended, WriteFault}
+use Rattle.stage_law.specs.Held.{told, Held, owing}
+use Rattle.stage_law.specs.Law.{ends_by, Law}
+use Rattle.stage_law.specs.Row.{InClosed, OutClosed}
+use Rattle.stage_linear.specs.declared.phase.Phase.{Phase}
+use Rattle.stage_linear.specs.declared.phase.Phase.TheVariants.{New, Open, Closed}
+use Rattle.stage_linear.specs.Tasks.{Spreads}
+use Rattle.stage_linear.specs.States.{Logic, held, held_in, row_in, Begins}
+use Rattle.nodes.specs.Linear.{LinearLaw}
+use Rattle.nodes.specs.Source.{lines_row_in}
+use Rattle.nodes.specs.Sink.{sink_row_in}
+use Rattle.picture_laws.specs.Picture.{has_ended}
+
+-- a source of lines
+pub lines_ports : (p : Phase) (y : OutView) → lines_row_in p y → (y ≡ Unasked) ⊎ OutClosed y
+lines_ports Open Unasked r = inl refl
+lines_ports Closed Shut r = inr tt
+lines_ports Closed Refused r = inr tt
+lines_ports New y r = absurd r
+lines_ports Open Asked r = absurd r
+lines_ports Open Shut r = absurd r
+lines_ports Open Refused r = absurd r
+lines_ports Closed Unasked r = absurd r
+lines_ports Closed Asked r = absurd r
+
+-- a linear stage: it waits and holds nothing, nobody asks it, it holds outputs behind the end of its input, or all is closed
+pub data LinearPorts (p : Phase) (ended : Bool) (h : List Tree) (k : Work) (x : InView) (y : OutView) : Type 0 where
+  busy : p ≡ Open → ended ≡ false → h ≡ [] → x ≡ Waiting → y ≡ Asked → LinearPorts p ended h k x y
+  free : x ≡ Idle → y ≡ Unasked → LinearPorts p ended h k x y
+  behind : Spreads k → x ≡ Over → y ≡ Unasked → LinearPorts p ended h k x y
+  over : InClosed x → OutClosed y → LinearPorts p ended h k x y
+
+pub linear_ports : (p : Phase) (t : Bool) (h : List Tree) (k : Work) (x : InView) (y : OutView) → p ≢ New → row_in p t h k x y → LinearPorts p t h k x y
+linear_ports New t h k x y n r = absurd (n refl)
+linear_ports Open false h k Waiting Asked n r = busy refl refl r.0 refl refl
+linear_ports Open false h k Idle Unasked n r = free refl refl
+linear_ports Open true h k Over Unasked n r = behind r.1 refl refl
+linear_ports Open false h k Waiting Unasked n r = absurd r
+linear_ports Open false h k Waiting Shut n r = absurd r
+linear_ports Open false h k Waiting Refused n r = absurd r
+linear_ports Open false h k Idle Asked n r = absurd r
+linear_ports Open false h k Idle Shut n r = absurd r
+linear_ports Open false h k Idle Refused n r = absurd r
+linear_ports Open false h k Over y n r = absurd r
+linear_ports Open false h k Left y n r = absurd r
+linear_ports Open true h k Over Asked n r = absurd r
+linear_ports Open true h k Over Shut n r = absurd r
+linear_ports Open true h k Over Refused n r = absurd r
+linear_ports Open true h k Waiting y n r = absurd r
+linear_ports Open true h k Idle y n r = absurd r
+linear_ports Open true h k Left y n r = absurd r
+linear_ports Closed t h k Over Shut n r = over tt tt
+linear_ports Closed t h k Over Refused n r = over tt tt
+linear_ports Closed t h k Left Shut n r = over tt tt
+linear_ports Closed t h k Left Refused n r = over tt tt
+linear_ports Closed t h k Over Unasked n r = absurd r
+linear_ports Closed t h k Over Asked n r = absurd r
+linear_ports Closed t h k Left Unasked n r = absurd r
+linear_ports Closed t h k Left Asked n r = absurd r
+linear_ports Closed t h k Idle y n r = absurd r
+linear_ports Closed t h k Waiting y n r = absurd r
+
+-- a sink of lines
+pub sink_ports : (started : Bool) (e : EndState) (x : InView) → sink_row_in started e x → ((x ≡ Waiting) × (has_ended e ≡ false)) ⊎ (InClosed x × (has_ended e ≡ true))
+sink_ports true Unended Waiting r = inl (refl, refl)
+sink_ports true Ended Over r = inr (tt, refl)
+sink_ports true (Failed c) Over r = inr (tt, refl)
+sink_ports true WriteFault Left r = inr (tt, refl)
+sink_ports false e x r = absurd r
+sink_ports true Unended Idle r = absurd r
+sink_ports true Unended Over r = absurd r
+sink_ports true Unended Left r = absurd r
+sink_ports true Ended Idle r = absurd r
+sink_ports true Ended Waiting r = absurd r
+sink_ports true Ended Left r = absurd r
+sink_ports true (Failed c) Idle r = absurd r
+sink_ports true (Failed c) Waiting r = absurd r
+sink_ports true (Failed c) Left r = absurd r
+sink_ports true WriteFault Idle r = absurd r
+sink_ports true WriteFault Waiting r = absurd r
+sink_ports true WriteFault Over r = absurd r
+
+module _ (m : Machine Stage Tree) (start : Run Stage Tree) where
+  -- one that waits and holds nothing has given all that its machine gives for what it took, and goes on
+  pub waiting_run : (st : State Stage) (took gave : List Item) → (law : Law m start (owing (record { gave = []; state = st })) Waiting Asked took gave)
+      → run m start law.in_list ≡ record { gave = law.out_list; state = st }
+  waiting_run st took gave law =
+      let u : law.in_end ≡ unended = law.took_as in
+      ap (λ (e : End). ends_by m (run m start law.in_list) e) (sym u) ∙ law.keeps.1.0 ∙ ap (λ (g : List Tree). record { gave = g; state = st }) (append-nil law.out_list)
+
+pub law_at : (m : Machine Stage Tree) (start start' : Run Stage Tree) (h h' : Held Stage) (x x' : InView) (y y' : OutView) (t t' g g' : List Item)
+    → start ≡ start' → h ≡ h' → x ≡ x' → y ≡ y' → t ≡ t' → g ≡ g' → Law m start h x y t g → Law m start' h' x' y' t' g'
+law_at m start start' h h' x x' y y' t t' g g' a b c d e f law = rw (← a, ← b, ← c, ← d, ← e, ← f) law
+
+pub same_start : (a b : Run Stage Tree) → owing a ≡ owing b → a ≡ b
+same_start a b e = cc
+
+pub one_same : (a b : List Item) → a ∷ [] ≡ b ∷ [] → a ≡ b
+one_same a b e = cc
+
+-- A linear stage that waits for its input: what it took there and what it gave, as its machine gives it, which goes on.
+pub record Waited (book : Book) (k : ℕ) (d : Decider) (wk : Work) (took gave : List Item) : Type 0 where
+  pub in_list : List Tree
+  pub in_end : End
+  pub out_list : List Tree
+  pub out_end : End
+  pub state : Stage
+  pub took_is : took ≡ told in_list in_end
+  pub gave_is : gave ≡ told out_list out_end
+  pub runs : run (linear book wk) (begin_work k d wk) in_list ≡ record { gave = out_list; state = going state }
+
+pub linear_waited : (book : Book) (k : ℕ) (kd : Kind) (d : Decider) (first l : Logic) (v : View) (took gave : List (List Item)) (t g : List Item) → Begins k kd d first → LinearLaw first l v took gave
+    → l.phase ≡ Open → l.over ≡ false → l.pending ≡ [] → in_at v 0 ≡ Waiting → out_at v 0 ≡ Asked → took ≡ t ∷ [] → gave ≡ g ∷ [] → Waited book k d first.stage.work t g
+linear_waited book k kd d first l v took gave t g begins law going_on on none waits_in asked_out took_at gave_at =
+    let at : Law (linear book first.stage.work) (begin_work k d first.stage.work) (owing (record { gave = []; state = going l.stage })) Waiting Asked t g =
+    law_at (linear book first.stage.work) law.start _ (held l) _ (in_at v 0) _ (out_at v 0) _ law.took_list t law.gave_list g
+    (same_start _ _ (sym law.owes ∙ begins.owes))
+    (ap (λ (p : Phase). held_in p l.over l.pending l.stage) going_on ∙ ap (λ (t : Bool). held_in Open t l.pending l.stage) on ∙ ap (λ (h : List Tree). held_in Open false h l.stage) none)
+    waits_in asked_out
+    (one_same _ _ (sym law.took_is ∙ took_at))
+    (one_same _ _ (sym law.gave_is ∙ gave_at))
+    (law.law book) in
+    record {
+      in_list = at.in_list;
+      in_end = at.in_end;
+      out_list = at.out_list;
+      out_end = at.out_end;
+      state = l.stage;
+      took_is = at.took_is;
+      gave_is = at.gave_is;
+      runs = waiting_run (linear book first.stage.work) (begin_work k d first.stage.work) (going l.stage) t g at;
+    }

@@ -1,0 +1,22 @@
+-- What a call's actions ask for stands: no action that follows a pull cancels its input.
+use Rattle.std.specs.Prelude.{◌≢◌, ℕ, List, [], ◌∷◌, ⊤}
+use Rattle.port_core.specs.declared.act.Act.{Act}
+use Rattle.port_core.specs.declared.act.Act.TheVariants.{Pull, Push, Complete, FailOut, Cancel}
+
+-- no action cancels input i
+abbrev pub NoCancel : ℕ → List Act → Type 0
+NoCancel i [] = ⊤
+NoCancel i (Pull k ∷ acts) = NoCancel i acts
+NoCancel i (Push j e ∷ acts) = NoCancel i acts
+NoCancel i (Complete j ∷ acts) = NoCancel i acts
+NoCancel i (FailOut j c ∷ acts) = NoCancel i acts
+NoCancel i (Cancel k ∷ acts) = (k ≢ i) × NoCancel i acts
+
+-- each input that is asked is not cancelled behind it
+abbrev pub AsksStand : List Act → Type 0
+AsksStand [] = ⊤
+AsksStand (Pull i ∷ acts) = NoCancel i acts × AsksStand acts
+AsksStand (Push j e ∷ acts) = AsksStand acts
+AsksStand (Complete j ∷ acts) = AsksStand acts
+AsksStand (FailOut j c ∷ acts) = AsksStand acts
+AsksStand (Cancel i ∷ acts) = AsksStand acts

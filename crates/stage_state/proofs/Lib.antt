@@ -1,0 +1,5 @@
+pub mod Buffers
+pub mod Finishes
+pub mod Pushes
+pub mod Rows
+pub mod Steps

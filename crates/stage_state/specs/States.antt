@@ -1,0 +1,140 @@
+-- The state of a stage that keeps elements, what it still owes, and its row: what it knows of its ports.
+use Rattle.std.specs.Prelude.{◌≡◌, ◌≢◌, ◌⊎◌, ◌<◌, ⊤, ℕ, Bool, true, false, List, [], ◌∷◌, length, Option, Some, None}
+use Rattle.elem_core.specs.Tree.{Tree}
+use Rattle.elem_core.specs.declared.why.Decider.{Decider}
+use Rattle.port_core.specs.declared.act.Act.{Act}
+use Rattle.port_core.specs.declared.view.InView.{InView}
+use Rattle.port_core.specs.declared.view.InView.TheVariants.{Idle, Waiting, Over}
+use Rattle.port_core.specs.declared.view.OutView.{OutView}
+use Rattle.port_core.specs.declared.view.OutView.TheVariants.{Unasked, Asked}
+use Rattle.port_core.specs.View.{View, OneOne}
+use Rattle.port_core.specs.Call.{Call, given_on}
+use Rattle.stream_model.specs.declared.kind.Kind.{Kind}
+use Rattle.stream_model.specs.declared.kind.Kind.TheVariants.{Grouped, Fold, Reduce, Scan, Buffer}
+use Rattle.stream_model.specs.declared.kind.Policy.TheVariants.{Backpressure}
+use Rattle.stream_model.specs.Machine.{State, going, done, broken, Machine}
+use Rattle.stream_model.specs.Linear.{Book, Work, Stage, scanning, linear, begin_work, work_of}
+use Rattle.stream_picture.specs.OneWay.{holds_at_end}
+use Rattle.stage_law.specs.Held.{Held, owing, shut}
+use Rattle.stage_law.specs.Row.{BothClosed}
+use Rattle.stage_law.specs.Turn.{TurnAt}
+use Rattle.stage_linear.specs.declared.phase.Phase.{Phase}
+use Rattle.stage_linear.specs.declared.phase.Phase.TheVariants.{New, Open, Closed}
+use Rattle.stage_state.specs.declared.ending.Ending.{Ending}
+use Rattle.stage_state.specs.declared.ending.Ending.TheVariants.{Lasting, Ended, Failed}
+use Rattle.stage_state.specs.Buffering.{buffer}
+
+-- where it stands, its stage in the model, the outputs that it owes, whether its output is asked, and how its input stands;
+-- a buffer has a size
+pub record Logic : Type 0 where
+  pub phase : Phase
+  pub stage : Stage
+  pub pending : List Tree
+  pub asked : Bool
+  pub ending : Ending
+  pub size : Option ℕ
+
+-- its machine, by any book of plugs, since it asks none
+abbrev pub machine_by : Book → Option ℕ → Work → Machine Stage Tree
+machine_by book None w = linear book w
+machine_by book (Some n) w = buffer n
+
+abbrev pub machine : Book → Logic → Machine Stage Tree
+machine book l = machine_by book l.size l.stage.work
+
+-- the state of its machine once its input stands so
+abbrev pub state_by : Ending → Stage → State Stage
+state_by Lasting s = going s
+state_by Ended s = done
+state_by (Failed c) s = broken c
+
+-- what it still owes
+abbrev pub held_in : Phase → Ending → List Tree → Stage → Held Stage
+held_in New e p s = owing (record { gave = p; state = state_by e s })
+held_in Open e p s = owing (record { gave = p; state = state_by e s })
+held_in Closed e p s = shut
+
+abbrev pub held : Logic → Held Stage
+held l = held_in l.phase l.ending l.pending l.stage
+
+-- ---- rows
+
+-- a scan
+abbrev pub IsScan : Work → Type 0
+IsScan (scanning o a) = ⊤
+IsScan _ = ⊥
+
+-- it owes nothing, or the zero of a scan
+abbrev pub Spare : Work → List Tree → Type 0
+Spare w p = (p ≡ []) ⊎ ((length p ≡ 1) × IsScan w)
+
+-- it may hold a value behind the end of its input
+abbrev pub IsKept : Work → Type 0
+IsKept w = holds_at_end w ≡ true
+
+-- A stage that keeps: before its input ended it waits exactly where its output is asked, and owes nothing but a scan its
+-- zero, which nobody asked for; behind the end of its input it owes one value, which nobody asked for.
+abbrev pub keep_row : Phase → Ending → Bool → List Tree → Work → InView → OutView → Type 0
+keep_row New Lasting false p w Idle Unasked = Spare w p × IsKept w
+keep_row Open Lasting true p w Waiting Asked = (p ≡ []) × IsKept w
+keep_row Open Lasting false p w Idle Unasked = Spare w p × IsKept w
+keep_row Open Ended false p w Over Unasked = (length p ≡ 1) × IsKept w
+keep_row Open (Failed c) false p w Over Unasked = (length p ≡ 1) × IsKept w
+keep_row Closed e a p w i o = BothClosed i o
+keep_row _ _ _ _ _ _ _ = ⊥
+
+-- A buffer of n: it holds nothing where its output is asked, waits while fewer than n are held, and then until it gave one;
+-- behind the end of its input it holds something.
+abbrev pub buffer_row : ℕ → Phase → Ending → Bool → List Tree → InView → OutView → Type 0
+buffer_row n New Lasting false p Idle Unasked = (p ≡ []) × (0 < n)
+buffer_row n Open Lasting true p Waiting Asked = (p ≡ []) × (0 < n)
+buffer_row n Open Lasting false p Waiting Unasked = length p < n
+buffer_row n Open Lasting false p Idle Unasked = (length p ≡ n) × (0 < n)
+buffer_row n Open Ended false p Over Unasked = 0 < length p
+buffer_row n Closed e a p i o = BothClosed i o
+buffer_row _ _ _ _ _ _ _ = ⊥
+
+-- by its size
+abbrev pub row_by : Option ℕ → Phase → Ending → Bool → List Tree → Work → InView → OutView → Type 0
+row_by None ph e a p w i o = keep_row ph e a p w i o
+row_by (Some n) ph e a p w i o = buffer_row n ph e a p i o
+
+abbrev pub row : Logic → View → Type 0
+row l v = OneOne (row_by l.size l.phase l.ending l.asked l.pending l.stage.work) v
+
+-- ---- what a call owes
+
+-- one step of its machine, which stays the same; and it was started
+pub record Turned (call : Call) (old : Logic) (acts : List Act) (new : Logic) : Type 0 where
+  pub turn : (book : Book) → TurnAt (machine book old) 0 call (held old) (given_on 0 acts) (held new)
+  pub same : (book : Book) → machine book new ≡ machine book old
+  pub started : new.phase ≢ New
+
+-- ---- a new stage
+
+-- the kinds that these stages are; a buffer has room for something
+abbrev pub IsStateful : Kind → Type 0
+IsStateful (Grouped n) = ⊤
+IsStateful (Fold o) = ⊤
+IsStateful (Reduce r) = ⊤
+IsStateful (Scan o) = ⊤
+IsStateful (Buffer n Backpressure) = 0 < n
+IsStateful _ = ⊥
+
+-- it was not started, nobody asks it, and it has not asked
+abbrev pub unasked_ports : View
+unasked_ports = record { ins = Idle ∷ []; outs = Unasked ∷ [] }
+
+-- what a new stage of this kind owes: what its machine gives from the start
+abbrev pub BeginsAs : Kind → ℕ → Decider → Logic → Type 0
+BeginsAs (Buffer n p) node d new = (new.size ≡ Some n) × (held new ≡ owing (record { gave = []; state = going new.stage }))
+BeginsAs kind node d new = (new.size ≡ None) × ((work_of kind ≡ Some new.stage.work) × (held new ≡ owing (begin_work node d new.stage.work)))
+
+pub record Begins (node : ℕ) (kind : Kind) (d : Decider) (new : Logic) : Type 0 where
+  pub phase : new.phase ≡ New
+  pub owes : BeginsAs kind node d new
+  pub ready : row new unasked_ports
+
+-- a new stage that keeps, and owes these before any element
+abbrev pub new_keep : ℕ → Decider → Work → List Tree → Logic
+new_keep node d w p = record { phase = New; stage = record { node = node; decider = d; taken = 0; work = w }; pending = p; asked = false; ending = Lasting; size = None }

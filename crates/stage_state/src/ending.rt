@@ -1,0 +1,12 @@
+use elem_core::why::Cause;
+
+/// How the input of a stage stands that still owes outputs. Rule: own.
+#[derive(Clone, Copy, PartialEq, Eq, Debug)]
+pub enum Ending {
+    /// It has not ended.
+    Lasting,
+    /// It has ended.
+    Ended,
+    /// It has failed.
+    Failed(Cause),
+}

@@ -1,0 +1,11 @@
+// The stages with one input and one output that keep elements: groups, folds, scans and buffers.
+#![tactic(auto)]
+
+pub mod buffer;
+pub mod ending;
+pub mod keep;
+pub mod keeping;
+pub mod laws;
+pub mod logic;
+#[cfg(test)]
+mod tests;

@@ -9,7 +9,8 @@ use stream_io::mem_drain::MemDrain;
 use stream_io::mem_folder::MemFolder;
 use stream_io::named_file::NamedFile;
 use stream_io::sure::{SureDrain, SureFolder};
-use stream_top::outcome::{EndState, Status};
+use stream_model::outcome::EndState;
+use stream_top::outcome::Status;
 use stream_top::top::run_streams;
 
 const TEXT: &str =
@@ -193,7 +194,7 @@ fn blueprints_run(rt: HostRuntime) -> Result<(), Fail> {
 // How many bytes the first line has; what is said, the code, and the output.
 const LONG_LINES: [(usize, &str, u8, &str); 2] = [
     (65_536, "done\nsink out ended 1\n", 0, "65536\n"),
-    (65_537, "unbuilt 0\nsink out unended 0\n", 2, ""),
+    (65_537, "failed\nsink out failed 0 stage 0 nth 1 why 13\n", 3, ""),
 ];
 
 #[test]
@@ -218,33 +219,108 @@ fn long_lines_are_met(rt: HostRuntime) -> Result<(), Fail> {
 
 const USAGE: &str = "usage: streams (FILE | --gen N) [--workers N] [--turns N] [--trace FILE]\n";
 
-// Words that have no meaning: none, one or two.
-const WORDS: [(Option<&str>, Option<&str>); 7] = [
-    (None, None),
-    (Some("log.blue"), Some("log.blue")),
-    (Some("log.blue"), Some("")),
-    (Some("-x"), None),
-    (Some(""), None),
-    (Some("./log.blue"), None),
-    (Some("log.blue\n"), None),
+// Words that have no meaning, with one `|` behind each.
+const WORDS: [&str; 17] = [
+    "",
+    "log.blue|log.blue|",
+    "log.blue||",
+    "-x|",
+    "|",
+    "./log.blue|",
+    "log.blue\n|",
+    "--turns|log.blue|",
+    "--turns|1|",
+    "log.blue|--turns|",
+    "--turns|0|log.blue|",
+    "--turns|4000000001|log.blue|",
+    "log.blue|--turns|00000000001|",
+    "log.blue|--turns|1x|",
+    "log.blue|1|--turns|",
+    "--turns|1|--turns|",
+    "--turns|1|log.blue|--turns|1|",
 ];
+
+// Words with a number of units.
+const TURNS: [(&str, &str, u8, &str); 6] = [
+    ("--turns|1|log.blue|", OUT_OF_TURNS, 5, ""),
+    ("log.blue|--turns|1|", OUT_OF_TURNS, 5, ""),
+    ("log.blue|--turns|0000000001|", OUT_OF_TURNS, 5, ""),
+    ("log.blue|--turns|4000000000|", REPORT, 0, OUTPUT),
+    ("--turns|100|log.blue|", REPORT, 0, OUTPUT),
+    ("log.blue|", REPORT, 0, OUTPUT),
+];
+
+// After one unit the ask of the sink has come to the last stage, which asked the one before it.
+const OUT_OF_TURNS: &str =
+    "out of turns 1\nsink out unended 0\nwire 0 sent 0 unasked live\nwire 1 sent 0 unasked live\nwire 2 sent 0 asked live\nwire 3 sent 0 asked live\n";
+
+// The words of a text in which a `|` stands behind each.
+fn words_in(alloc: Global, text: &str) -> Result<Vec<Line>, AllocError> {
+    let mut words = Vec::new(alloc);
+    let mut word = Vec::new(alloc);
+    for byte in text.as_bytes() {
+        if *byte == b'|' {
+            words.push(line_from(alloc, &word)?)?;
+            word.clear();
+        } else {
+            word.push(*byte)?;
+        }
+    }
+    Ok(words)
+}
+
+fn line_from(alloc: Global, bytes: &[u8]) -> Result<Line, AllocError> {
+    let mut copy = Vec::new(alloc);
+    if Line::can_hold(bytes) {
+        copy.extend_from_slice(bytes)?;
+    }
+    Ok(Line::of(copy))
+}
 
 #[test]
 fn other_words_are_answered(rt: HostRuntime) -> Result<(), Fail> {
     let alloc = rt.alloc();
-    for (first, second) in WORDS {
-        let mut words = Vec::new(alloc);
-        if let Some(word) = first {
-            words.push(line_of(alloc, word)?)?;
-        }
-        if let Some(word) = second {
-            words.push(line_of(alloc, word)?)?;
-        }
+    for text in WORDS {
+        let words = words_in(alloc, text)?;
         let files = files_of(alloc, Some(TEXT), Some(INPUT), None)?;
         let mut folder = folder_of(files, Vec::new(alloc), 4096);
         says(&rt, alloc, &words, &mut folder, USAGE, 1)?;
         assert!(rt; has(&folder, "out.txt", None));
     }
+    Ok(())
+}
+
+#[test]
+fn units_are_bounded(rt: HostRuntime) -> Result<(), Fail> {
+    let alloc = rt.alloc();
+    for (text, report, code, after) in TURNS {
+        let words = words_in(alloc, text)?;
+        let files = files_of(alloc, Some(TEXT), Some(INPUT), None)?;
+        let mut folder = folder_of(files, Vec::new(alloc), 4096);
+        says(&rt, alloc, &words, &mut folder, report, code)?;
+        assert!(rt; has(&folder, "out.txt", Some(after)));
+    }
+    Ok(())
+}
+
+// A take of nothing draws no line of a long input.
+#[test]
+fn nothing_is_drawn_for_nothing(rt: HostRuntime) -> Result<(), Fail> {
+    let alloc = rt.alloc();
+    let mut input = String::new(alloc);
+    for _ in 0..1000 {
+        input.push_str("disk\n")?;
+    }
+    let files = files_of(alloc, Some(TAKES_NONE), Some(&input), None)?;
+    let mut folder = folder_of(files, Vec::new(alloc), 4096);
+    let words = one_word(alloc, "log.blue")?;
+    let mut console = MemDrain::new(alloc, Vec::new(alloc), 4096, 200)?;
+    let end = run_streams(alloc, &words, &mut folder, &mut console);
+    assert_eq!(rt; console.bytes(), b"done\nsink out ended 0\n".as_slice());
+    assert_eq!(rt; end.picture.wires.len(), 2);
+    assert_eq!(rt; end.picture.wires[0].sent, 0);
+    assert_eq!(rt; end.picture.wires[1].sent, 0);
+    assert!(rt; has(&folder, "out.txt", Some("")));
     Ok(())
 }
 
@@ -281,7 +357,7 @@ impl Fault {
         }
     }
 
-    // A read of the input that fails.
+    // A read of the input that fails: the source fails, and so does the sink.
     fn read(nth: u32, step: u32, report: &'static str, after: &'static str) -> Fault {
         Fault {
             name: "in.txt",
@@ -289,7 +365,7 @@ impl Fault {
             nth,
             step,
             report,
-            code: 7,
+            code: 3,
             after: Some(after),
         }
     }
@@ -347,8 +423,8 @@ impl Fault {
 // The first line ends with the 10th byte of the input, the second with the 13th, and the third with the 18th, behind which nothing is read.
 #[test]
 fn faults_are_told(rt: HostRuntime) -> Result<(), Fail> {
-    let read_none = "read fault\nsink out unended 0\n";
-    let read_one = "read fault\nsink out unended 1\n";
+    let read_none = "failed\nsink out failed 0 stage 0 nth 0 why 12\n";
+    let read_one = "failed\nsink out failed 1 stage 0 nth 0 why 12\n";
     let wrote_none = "write fault\nsink out fault 0\n";
     let wrote_one = "write fault\nsink out fault 1\n";
     let rows = [
@@ -390,7 +466,7 @@ fn faults_of_first_calls_are_told(rt: HostRuntime) -> Result<(), Fail> {
             Fault::early("log.blue", Op::Read, 2, step, "read fault\n", 7),
             Fault::early("in.txt", Op::OpenIn, 1, step, "missing in.txt\n", 6),
             Fault::early("out.txt", Op::OpenOut, 1, step, "missing out.txt\n", 6),
-            Fault::read(1, step, "read fault\nsink out unended 0\n", ""),
+            Fault::read(1, step, "failed\nsink out failed 0 stage 0 nth 0 why 12\n", ""),
             Fault::write(1, step, "write fault\nsink out fault 0\n", ""),
             Fault::no("log.blue", Op::OpenIn, 2, step),
             Fault::no("in.txt", Op::OpenIn, 2, step),

@@ -1,57 +1,78 @@
--- From the end of a flow to the answer of a call.
-use Rattle.std.proofs.Common.{◌≡◌, ◌≢◌, ℕ, ◌<◌, ◌≤◌, List, [], ◌∷◌, ◌⊎◌, inl, inr, refl, sym, ap, ◌∙◌, subst, arith, length, length-take}
+-- From the end of a run to the answer of a call.
+use Rattle.std.proofs.Common.{◌≡◌, ◌≢◌, ℕ, ◌<◌, ◌≤◌, Bool, true, false, List, [], ◌∷◌, ◌⊎◌, inl, inr, refl, sym, ap, ◌∙◌, subst, arith, length, length-take}
 use Rattle.std.specs.Prelude.{IsTrue, IsSome, Option, Some, None}
 use Rattle.std.specs.Option.{option_map}
 use Rattle.std.proofs.lemmas.List.{take_all}
-use Rattle.blue_lang.specs.declared.blueprint.Node.{Node}
-use Rattle.stream_top.specs.Text.{text_limit, text_of_file, ReadsFile}
-use Rattle.stream_top.proofs.Quiets.{grew_two, quiet_two, files_two}
-use Rattle.blue_lang.specs.Straight.{Plain, IsStraight, IsNotStraight}
+use Rattle.elem_core.specs.declared.why.Cause.{Cause}
+use Rattle.straight_lang.specs.Straight.{Plain, IsStraight, IsNotStraight}
+use Rattle.straight_lang.specs.declared.blueprint.Node.{Node}
+use Rattle.stream_model.specs.declared.outcome.WireCount.{WireCount}
+use Rattle.stream_model.specs.declared.outcome.EndState.{EndState}
+use Rattle.stream_model.specs.declared.outcome.EndState.TheVariants as state
 use Rattle.stream_io.specs.Counts.{Rose, Grew}
 use Rattle.stream_io.specs.State.{FolderState, SameFiles}
+use Rattle.stream_top.specs.Answer.{Answer}
+use Rattle.stream_top.specs.AfterRun.{AfterRun, status_after}
+use Rattle.stream_top.specs.Command.{Asked}
+use Rattle.stream_top.specs.Text.{text_limit, text_of_file, ReadsFile}
 use Rattle.stream_top.specs.Quiet.{Quiet, QuietBut}
-use Rattle.stream_top.specs.Running.{Runs, LeavesFiles}
-use Rattle.stream_top.specs.AfterFlow.{AfterFlow}
-use Rattle.stream_top.specs.Outcome.{Says, RanTo, IsAbsent, EndedRun, Told, Causes, SinksOf}
-use Rattle.stream_top.specs.declared.flow.FlowEnd.{FlowEnd}
-use Rattle.stream_top.specs.declared.flow.FlowEnd.TheVariants as flow
+use Rattle.stream_top.specs.Running.{LeavesFiles, WritesOf, Runs}
+use Rattle.stream_top.specs.Outcome.{Says, Blank, RanNothing, RanTo, GaveUp, IsAbsent, EndedRun, EndedBefore, Told, Causes, CausesBefore, RunCauses, SinksOf}
 use Rattle.stream_top.specs.declared.outcome.Status.{Status}
 use Rattle.stream_top.specs.declared.outcome.Status.TheVariants as status
-use Rattle.stream_top.specs.declared.outcome.EndState.{EndState}
-use Rattle.stream_top.specs.declared.outcome.EndState.TheVariants as state
 use Rattle.stream_top.specs.declared.outcome.SinkEnd.{SinkEnd}
+use Rattle.stream_top.specs.declared.run.Ran.{Ran}
+use Rattle.stream_top.proofs.Quiets.{grew_two, quiet_two, files_two}
 
-abbrev ran_to : (end : FlowEnd) (b : Plain) (count : ℕ) (sinks : List SinkEnd) (old new : FolderState) (how : EndState) → sinks ≡ record { name = b.sink.name; count = count; end = how } ∷ [] → Runs old new b.source.file b.sink.file b.stages count end → IsTrue new.tells → RanTo old new b sinks how
-ran_to end b count sinks old new how e r tells = record { count = count; leaves = r.leaves tells; sink = e }
+-- ---- the end of a run
 
--- what a run answers, where the folder tells its files
-pub run_told : (end : FlowEnd) (b : Plain) (count : ℕ) (s : Status) (sinks : List SinkEnd) (old new : FolderState) → AfterFlow end b.sink.name count s sinks → Runs old new b.source.file b.sink.file b.stages count end → IsTrue new.tells → EndedRun s sinks b old new
-run_told flow.Ended b count s sinks old new a r tells =
-    subst (λ x. EndedRun x sinks b old new) (sym a.0) (ran_to flow.Ended b count sinks old new state.Ended a.1 r tells, r.whole tells)
-run_told flow.ReadFault b count s sinks old new a r tells =
-    subst (λ x. EndedRun x sinks b old new) (sym a.0) (ran_to flow.ReadFault b count sinks old new state.Unended a.1 r tells, r.reads.0)
-run_told flow.LineTooLong b count s sinks old new a r tells =
-    subst (λ x. EndedRun x sinks b old new) (sym a.0) (refl, (ran_to flow.LineTooLong b count sinks old new state.Unended a.1 r tells, r.whole tells))
-run_told flow.WriteFault b count s sinks old new a r tells =
-    subst (λ x. EndedRun x sinks b old new) (sym a.0) (ran_to flow.WriteFault b count sinks old new state.WriteFault a.1 r tells, r.writes.0)
-run_told flow.NoMemory b count s sinks old new a r tells =
-    subst (λ x. EndedRun x sinks b old new) (sym a.0) (a.1, inr (count, r.leaves tells))
+module _ (b : Plain) (ran : Ran) (turns : ℕ) (a : Answer) (old new : FolderState) (after : AfterRun b.sink.name ran a) (runs : Runs old new b.source.file b.stages b.sink.file turns ran) where
+  abbrev ran_to : (how : EndState) → ran.end ≡ how → IsTrue new.tells → RanTo old new b turns a how
+  ran_to how e tells = record {
+    count = ran.count;
+    at_rest = ran.at_rest;
+    leaves =
+        subst (λ (w : List WireCount). LeavesFiles old new b.source.file b.stages b.sink.file how ran.count w ran.at_rest) (sym after.wires)
+        (subst (λ (h : EndState). LeavesFiles old new b.source.file b.stages b.sink.file h ran.count ran.wires.items ran.at_rest) e (runs.leaves tells));
+    sink = after.sink ∙ ap (λ (h : EndState). record { name = b.sink.name; count = ran.count; end = h } ∷ []) e;
+    within = subst (λ n. n ≤ turns) (sym after.used) runs.within;
+    spent = λ h. after.used ∙ runs.spent h;
+  }
 
--- which counts a run raised
-pub run_causes : (end : FlowEnd) (input output : List ℕ) (b : Plain) (count : ℕ) (s : Status) (sinks : List SinkEnd) (old new : FolderState) → AfterFlow end b.sink.name count s sinks → Runs old new input output b.stages count end → Causes s old new
-run_causes flow.Ended input output b count s sinks old new a r = subst (λ x. Causes x old new) (sym a.0) (r.refusals, r.reads, r.writes)
-run_causes flow.ReadFault input output b count s sinks old new a r = subst (λ x. Causes x old new) (sym a.0) (r.refusals, (input, r.reads), r.writes)
-run_causes flow.LineTooLong input output b count s sinks old new a r = subst (λ x. Causes x old new) (sym a.0) (r.refusals, r.reads, r.writes)
-run_causes flow.WriteFault input output b count s sinks old new a r = subst (λ x. Causes x old new) (sym a.0) (r.refusals, r.reads, (output, r.writes))
-run_causes flow.NoMemory input output b count s sinks old new a r = subst (λ x. Causes x old new) (sym a.0) (r.refusals, r.reads, r.writes)
+  told_by : (how : EndState) (rest : Bool) → ran.end ≡ how → ran.at_rest ≡ rest → IsTrue new.tells → EndedRun (status_after how rest) a b turns old new
+  told_by state.Ended rest e r tells = ran_to state.Ended e tells
+  told_by (state.Failed c) rest e r tells = (c, ran_to (state.Failed c) e tells)
+  told_by state.Unended true e r tells = (ran_to state.Unended e tells, r)
+  told_by state.Unended false e r tells = (ran_to state.Unended e tells, r)
+  told_by state.WriteFault rest e r tells = (ran_to state.WriteFault e tells, (subst (λ (h : EndState). WritesOf h b.sink.file old.wfaults new.wfaults) e runs.writes).0)
 
--- which sinks a flow's end leaves
-pub run_sinks : (end : FlowEnd) (name : List ℕ) (count : ℕ) (s : Status) (sinks : List SinkEnd) → AfterFlow end name count s sinks → SinksOf s sinks
-run_sinks flow.Ended name count s sinks a = subst (λ x. SinksOf x sinks) (sym a.0) (record { name = name; count = count; end = state.Ended }, (a.1, refl))
-run_sinks flow.ReadFault name count s sinks a = subst (λ x. SinksOf x sinks) (sym a.0) (inr (record { name = name; count = count; end = state.Unended }, (a.1, refl)))
-run_sinks flow.LineTooLong name count s sinks a = subst (λ x. SinksOf x sinks) (sym a.0) (inr (record { name = name; count = count; end = state.Unended }, (a.1, refl)))
-run_sinks flow.WriteFault name count s sinks a = subst (λ x. SinksOf x sinks) (sym a.0) (record { name = name; count = count; end = state.WriteFault }, (a.1, refl))
-run_sinks flow.NoMemory name count s sinks a = subst (λ x. SinksOf x sinks) (sym a.0) a.1
+  -- what a run answers, where the folder tells its files
+  pub run_told : IsTrue new.tells → EndedRun a.status a b turns old new
+  run_told tells = subst (λ x. EndedRun x a b turns old new) (sym after.status) (told_by ran.end ran.at_rest refl refl tells)
+
+  causes_by : (how : EndState) (rest : Bool) → ran.end ≡ how → RunCauses (status_after how rest) b.source.file b.sink.file old new
+  causes_by state.Ended rest e = (runs.refusals, runs.reads, subst (λ (h : EndState). WritesOf h b.sink.file old.wfaults new.wfaults) e runs.writes)
+  causes_by (state.Failed c) rest e = (runs.refusals, runs.reads, subst (λ (h : EndState). WritesOf h b.sink.file old.wfaults new.wfaults) e runs.writes)
+  causes_by state.Unended true e = (runs.refusals, runs.reads, subst (λ (h : EndState). WritesOf h b.sink.file old.wfaults new.wfaults) e runs.writes)
+  causes_by state.Unended false e = (runs.refusals, runs.reads, subst (λ (h : EndState). WritesOf h b.sink.file old.wfaults new.wfaults) e runs.writes)
+  causes_by state.WriteFault rest e = (runs.refusals, runs.reads, subst (λ (h : EndState). WritesOf h b.sink.file old.wfaults new.wfaults) e runs.writes)
+
+  -- which counts a run raised
+  pub run_causes : RunCauses a.status b.source.file b.sink.file old new
+  run_causes = subst (λ x. RunCauses x b.source.file b.sink.file old new) (sym after.status) (causes_by ran.end ran.at_rest refl)
+
+-- which sinks a run leaves
+sinks_by : (name : List ℕ) (count : ℕ) (how : EndState) (rest : Bool) (a : Answer) → a.sinks ≡ record { name = name; count = count; end = how } ∷ [] → SinksOf (status_after how rest) a
+sinks_by name count state.Ended rest a e = (record { name = name; count = count; end = state.Ended }, (e, refl))
+sinks_by name count (state.Failed c) rest a e = (record { name = name; count = count; end = state.Failed c }, (e, (c, refl)))
+sinks_by name count state.Unended true a e = (record { name = name; count = count; end = state.Unended }, (e, refl))
+sinks_by name count state.Unended false a e = (record { name = name; count = count; end = state.Unended }, (e, refl))
+sinks_by name count state.WriteFault rest a e = (record { name = name; count = count; end = state.WriteFault }, (e, refl))
+
+pub run_sinks : (name : List ℕ) (ran : Ran) (a : Answer) → AfterRun name ran a → SinksOf a.status a
+run_sinks name ran a after = subst (λ x. SinksOf x a) (sym after.status) (sinks_by name ran.count ran.end ran.at_rest a after.sink)
+
+-- ---- the text of the blueprint
 
 -- a file whose first bytes were read
 whole_of : (o : Option (List ℕ)) (t : List ℕ) → option_map text_of_file o ≡ Some t → (whole : List ℕ) × ((o ≡ Some whole) × (t ≡ text_of_file whole))
@@ -97,21 +118,28 @@ there_read old mid file t tells r =
     subst (λ o. IsSome o) (sym w.1.0) refl
 
 -- a text that says no blueprint ends the call before a run
-pub told_unbuilt : (old mid : FolderState) (file t : List ℕ) (n : ℕ) (sinks : List SinkEnd) → IsTrue mid.tells → ReadsFile old mid file t → (n ≡ 0) × IsNotStraight t → sinks ≡ [] → Told (status.Unbuilt n) sinks file old mid
-told_unbuilt old mid file t n sinks tells r h none =
-    inl (record { files = r.files; no_sinks = none }, h.0, there_read old mid file t tells r, λ b says. h.1 b (read_says old mid file t b tells r says))
+pub told_unbuilt : (old mid : FolderState) (c : Asked) (t : List ℕ) (n : ℕ) (a : Answer) → IsTrue mid.tells → ReadsFile old mid c.file t → (n ≡ 0) × IsNotStraight t → a.status ≡ status.Unbuilt n → Blank a → Told a c old mid
+told_unbuilt old mid c t n a tells r h is blank =
+    inl (
+    subst (λ x. EndedBefore x a c.file old mid) (sym is)
+    (record { files = r.files; blank = blank }, h.0, there_read old mid c.file t tells r, λ b says. h.1 b (read_says old mid c.file t b tells r says))
+    )
 
 -- so does a blueprint that reads or writes its own file
-pub told_own_file : (old mid : FolderState) (file t : List ℕ) (b : Plain) (sinks : List SinkEnd) → ((bytes : List ℕ) (c d : Plain) → IsStraight bytes c → IsStraight bytes d → c ≡ d) → IsTrue mid.tells → ReadsFile old mid file t → IsStraight t b → (b.source.file ≡ file) ⊎ (b.sink.file ≡ file) → sinks ≡ [] → Told (status.Unbuilt 0) sinks file old mid
-told_own_file old mid file t b sinks one tells r s h none =
+pub told_own_file : (old mid : FolderState) (c : Asked) (t : List ℕ) (b : Plain) (a : Answer) → ((bytes : List ℕ) (c d : Plain) → IsStraight bytes c → IsStraight bytes d → c ≡ d) → IsTrue mid.tells → ReadsFile old mid c.file t → IsStraight t b → (b.source.file ≡ c.file) ⊎ (b.sink.file ≡ c.file) → a.status ≡ status.Unbuilt 0 → Blank a → Told a c old mid
+told_own_file old mid c t b a one tells r s h is blank =
     inl (
-      record { files = r.files; no_sinks = none },
+    subst (λ x. EndedBefore x a c.file old mid) (sym is) (
+      record { files = r.files; blank = blank },
       refl,
-      there_read old mid file t tells r,
-      λ c says.
-          let same : c ≡ b = one t c b (read_says old mid file t c tells r says) s in
+      there_read old mid c.file t tells r,
+      λ d says.
+          let same : d ≡ b = one t d b (read_says old mid c.file t d tells r says) s in
           elim h [ inl e ↦ says.input_apart (ap (λ x. x.source.file) same ∙ e) | inr e ↦ says.output_apart (ap (λ x. x.sink.file) same ∙ e) ],
     )
+    )
+
+-- ---- what comes later
 
 -- a count that stood and then rose rose
 rose_later : (a b c : ℕ) → Grew a 0 b → Rose b c → Rose a c
@@ -127,53 +155,74 @@ lacks_later : (old mid new : FolderState) (n : List ℕ) → SameFiles old mid �
 lacks_later old mid new n same quiet (inl h) = inl (same.told h.0, sym (same.files h.0 n) ∙ h.1)
 lacks_later old mid new n same quiet (inr h) = inr (rose_later (old.refusals n) (mid.refusals n) (new.refusals n) (quiet n) h)
 
-abbrev leaves_later : (old mid new : FolderState) (input output : List ℕ) (stages : List Node) (count : ℕ) → IsTrue mid.tells → SameFiles old mid → LeavesFiles mid new input output stages count → LeavesFiles old new input output stages count
-leaves_later old mid new input output stages count tells same l = record {
-  bytes = l.bytes;
-  input_is = sym (same.files tells input) ∙ l.input_is;
-  held = l.held;
-  output_is = l.output_is;
-  is_part = l.is_part;
-  lines_are = l.lines_are;
-  others = λ n differs. l.others n differs ∙ same.files tells n;
-}
+-- a count that did not rise and then grew grew
+grew_later : (a b c n : ℕ) → b ≡ a → Grew b n c → Grew a n c
+grew_later a b c n e g = subst (λ x. Grew x n c) e g
 
-abbrev ran_later : (old mid new : FolderState) (b : Plain) (sinks : List SinkEnd) (how : EndState) → IsTrue mid.tells → SameFiles old mid → RanTo mid new b sinks how → RanTo old new b sinks how
-ran_later old mid new b sinks how tells same r = record { count = r.count; leaves = leaves_later old mid new b.source.file b.sink.file b.stages r.count tells same r.leaves; sink = r.sink }
+module _ (old mid new : FolderState) (tells : IsTrue mid.tells) (same : SameFiles old mid) (refusals : Quiet old.refusals mid.refusals) (rfaults : Quiet old.rfaults mid.rfaults) (wfaults : Quiet old.wfaults mid.wfaults) (a : Answer) (b : Plain) (turns : ℕ) (read : mid.read b.source.file ≡ old.read b.source.file) where
+  abbrev leaves_later : (end : EndState) (count : ℕ) (wires : List WireCount) (rest : Bool) → LeavesFiles mid new b.source.file b.stages b.sink.file end count wires rest → LeavesFiles old new b.source.file b.stages b.sink.file end count wires rest
+  leaves_later end count wires rest l = record {
+    bytes = l.bytes;
+    input_is = sym (same.files tells b.source.file) ∙ l.input_is;
+    held = l.held;
+    output_is = l.output_is;
+    others = λ n differs. l.others n differs ∙ same.files tells n;
+    given = l.given;
+    read = grew_later (old.read b.source.file) (mid.read b.source.file) (new.read b.source.file) l.given read l.read;
+    faulted = l.faulted;
+    rose = λ h. rose_later (old.rfaults b.source.file) (mid.rfaults b.source.file) (new.rfaults b.source.file) (rfaults b.source.file) (l.rose h);
+    tells = l.tells;
+    lines_are = l.lines_are;
+    sent = l.sent;
+    rests = l.rests;
+    draws = l.draws;
+  }
 
-missing_later : (n : List ℕ) (b : Plain) (old mid new : FolderState) → IsTrue mid.tells → SameFiles old mid → Quiet old.refusals mid.refusals → ((n ≡ b.source.file) × IsAbsent mid new n) ⊎ ((n ≡ b.sink.file) × IsSome (mid.file b.source.file) × Rose (mid.refusals n) (new.refusals n)) → ((n ≡ b.source.file) × IsAbsent old new n) ⊎ ((n ≡ b.sink.file) × IsSome (old.file b.source.file) × Rose (old.refusals n) (new.refusals n))
-missing_later n b old mid new t f q (inl h) = inl (h.0, lacks_later old mid new n f q h.1)
-missing_later n b old mid new t f q (inr h) = inr (h.0, subst (λ o. IsSome o) (f.files t b.source.file) h.1, rose_later (old.refusals n) (mid.refusals n) (new.refusals n) (q n) h.2)
+  abbrev ran_later : (how : EndState) → RanTo mid new b turns a how → RanTo old new b turns a how
+  ran_later how r = record { count = r.count; at_rest = r.at_rest; leaves = leaves_later how r.count a.wires r.at_rest r.leaves; sink = r.sink; within = r.within; spent = r.spent }
 
-memory_later : (b : Plain) (old mid new : FolderState) → IsTrue mid.tells → SameFiles old mid → SameFiles mid new ⊎ ((count : ℕ) × LeavesFiles mid new b.source.file b.sink.file b.stages count) → SameFiles old new ⊎ ((count : ℕ) × LeavesFiles old new b.source.file b.sink.file b.stages count)
-memory_later b old mid new t f (inl h) = inl (files_two old mid new f h)
-memory_later b old mid new t f (inr h) = inr (h.0, leaves_later old mid new b.source.file b.sink.file b.stages h.0 t f h.1)
+  missing_later : (n : List ℕ) → ((n ≡ b.source.file) × IsAbsent mid new n) ⊎ ((n ≡ b.sink.file) × IsSome (mid.file b.source.file) × Rose (mid.refusals n) (new.refusals n)) → ((n ≡ b.source.file) × IsAbsent old new n) ⊎ ((n ≡ b.sink.file) × IsSome (old.file b.source.file) × Rose (old.refusals n) (new.refusals n))
+  missing_later n (inl h) = inl (h.0, lacks_later old mid new n same refusals h.1)
+  missing_later n (inr h) = inr (h.0, subst (λ o. IsSome o) (same.files tells b.source.file) h.1, rose_later (old.refusals n) (mid.refusals n) (new.refusals n) (refusals n) h.2)
 
--- what a run answers is told of the folder before the blueprint was read
-run_later : (s : Status) (sinks : List SinkEnd) (b : Plain) (old mid new : FolderState) → IsTrue mid.tells → SameFiles old mid → Quiet old.refusals mid.refusals → Quiet old.rfaults mid.rfaults → Quiet old.wfaults mid.wfaults → EndedRun s sinks b mid new → EndedRun s sinks b old new
-run_later status.Done sinks b old mid new t f q r w e = (ran_later old mid new b sinks state.Ended t f e.0, e.1)
-run_later status.ReadFault sinks b old mid new t f q r w e = (ran_later old mid new b sinks state.Unended t f e.0, rose_later (old.rfaults b.source.file) (mid.rfaults b.source.file) (new.rfaults b.source.file) (r b.source.file) e.1)
-run_later status.WriteFault sinks b old mid new t f q r w e = (ran_later old mid new b sinks state.WriteFault t f e.0, rose_later (old.wfaults b.sink.file) (mid.wfaults b.sink.file) (new.wfaults b.sink.file) (w b.sink.file) e.1)
-run_later (status.Unbuilt k) sinks b old mid new t f q r w e = (e.0, (ran_later old mid new b sinks state.Unended t f e.1.0, e.1.1))
-run_later (status.Missing n) sinks b old mid new t f q r w e = (record { files = files_two old mid new f e.0.files; no_sinks = e.0.no_sinks }, missing_later n b old mid new t f q e.1)
-run_later status.NoMemory sinks b old mid new t f q r w e = (e.0, memory_later b old mid new t f e.1)
-run_later status.Usage sinks b old mid new t f q r w e = e
+  gave_later : GaveUp mid new b.sink.file → GaveUp old new b.sink.file
+  gave_later (inl h) = inl (files_two old mid new same h)
+  gave_later (inr h) = inr (h.0, λ n differs. h.1 n differs ∙ same.files tells n)
+
+  -- what a run answers is told of the folder before the blueprint was read
+  run_later : (s : Status) → EndedRun s a b turns mid new → EndedRun s a b turns old new
+  run_later status.Done e = ran_later state.Ended e
+  run_later status.StreamFailed e = (e.0, ran_later (state.Failed e.0) e.1)
+  run_later status.Stalled e = (ran_later state.Unended e.0, e.1)
+  run_later status.OutOfTurns e = (ran_later state.Unended e.0, e.1)
+  run_later status.WriteFault e = (ran_later state.WriteFault e.0, rose_later (old.wfaults b.sink.file) (mid.wfaults b.sink.file) (new.wfaults b.sink.file) (wfaults b.sink.file) e.1)
+  run_later (status.Missing n) e = (record { files = files_two old mid new same e.0.files; blank = e.0.blank }, missing_later n e.1)
+  run_later status.NoMemory e = (e.0, gave_later e.1)
+  run_later status.ReadFault e = e
+  run_later (status.Unbuilt k) e = e
+  run_later status.Usage e = e
 
 -- the blueprint that was read was run
-pub told_run : (s : Status) (sinks : List SinkEnd) (old mid new : FolderState) (file t : List ℕ) (b : Plain) → IsTrue mid.tells → ReadsFile old mid file t → IsStraight t b → (b.source.file ≢ file) × (b.sink.file ≢ file) → EndedRun s sinks b mid new → Told s sinks file old new
-told_run s sinks old mid new file t b tells r straight apart e =
-    inr (b, (says_read old mid file t b tells r straight apart.0 apart.1, run_later s sinks b old mid new tells r.files r.refusals r.rfaults r.wfaults e))
+pub told_run : (a : Answer) (c : Asked) (old mid new : FolderState) (t : List ℕ) (b : Plain) → IsTrue mid.tells → ReadsFile old mid c.file t → IsStraight t b → (b.source.file ≢ c.file) × (b.sink.file ≢ c.file) → EndedRun a.status a b c.turns mid new → Told a c old new
+told_run a c old mid new t b tells r straight apart e =
+    inr (b, (says_read old mid c.file t b tells r straight apart.0 apart.1, run_later old mid new tells r.files r.refusals r.rfaults r.wfaults a b c.turns (r.read b.source.file apart.0) a.status e))
 
 -- what rose in the run rose in the call
-pub causes_later : (s : Status) (old mid new : FolderState) (file t : List ℕ) → ReadsFile old mid file t → Causes s mid new → Causes s old new
-causes_later (status.Missing n) old mid new file t r c = (lacks_later old mid new n r.files r.refusals c.0, quiet_but_later n _ _ _ r.refusals c.1, quiet_two _ _ _ r.rfaults c.2, quiet_two _ _ _ r.wfaults c.3)
-causes_later status.ReadFault old mid new file t r c = (quiet_two _ _ _ r.refusals c.0, (c.1.0, (rose_later (old.rfaults c.1.0) (mid.rfaults c.1.0) (new.rfaults c.1.0) (r.rfaults c.1.0) c.1.1.0, quiet_but_later c.1.0 _ _ _ r.rfaults c.1.1.1)), quiet_two _ _ _ r.wfaults c.2)
-causes_later status.WriteFault old mid new file t r c = (quiet_two _ _ _ r.refusals c.0, quiet_two _ _ _ r.rfaults c.1, (c.2.0, (rose_later (old.wfaults c.2.0) (mid.wfaults c.2.0) (new.wfaults c.2.0) (r.wfaults c.2.0) c.2.1.0, quiet_but_later c.2.0 _ _ _ r.wfaults c.2.1.1)))
-causes_later status.Done old mid new file t r c = (quiet_two _ _ _ r.refusals c.0, quiet_two _ _ _ r.rfaults c.1, quiet_two _ _ _ r.wfaults c.2)
-causes_later status.Usage old mid new file t r c = (quiet_two _ _ _ r.refusals c.0, quiet_two _ _ _ r.rfaults c.1, quiet_two _ _ _ r.wfaults c.2)
-causes_later (status.Unbuilt k) old mid new file t r c = (quiet_two _ _ _ r.refusals c.0, quiet_two _ _ _ r.rfaults c.1, quiet_two _ _ _ r.wfaults c.2)
-causes_later status.NoMemory old mid new file t r c = (quiet_two _ _ _ r.refusals c.0, quiet_two _ _ _ r.rfaults c.1, quiet_two _ _ _ r.wfaults c.2)
+causes_later : (s : Status) (old mid new : FolderState) (file input output t : List ℕ) → ReadsFile old mid file t → RunCauses s input output mid new → RunCauses s input output old new
+causes_later (status.Missing n) old mid new file input output t r c = (lacks_later old mid new n r.files r.refusals c.0, quiet_but_later n _ _ _ r.refusals c.1, quiet_two _ _ _ r.rfaults c.2, quiet_two _ _ _ r.wfaults c.3)
+causes_later status.WriteFault old mid new file input output t r c = (quiet_two _ _ _ r.refusals c.0, quiet_but_later input _ _ _ r.rfaults c.1, (rose_later (old.wfaults output) (mid.wfaults output) (new.wfaults output) (r.wfaults output) c.2.0, quiet_but_later output _ _ _ r.wfaults c.2.1))
+causes_later status.Done old mid new file input output t r c = (quiet_two _ _ _ r.refusals c.0, quiet_but_later input _ _ _ r.rfaults c.1, quiet_two _ _ _ r.wfaults c.2)
+causes_later status.StreamFailed old mid new file input output t r c = (quiet_two _ _ _ r.refusals c.0, quiet_but_later input _ _ _ r.rfaults c.1, quiet_two _ _ _ r.wfaults c.2)
+causes_later status.Stalled old mid new file input output t r c = (quiet_two _ _ _ r.refusals c.0, quiet_but_later input _ _ _ r.rfaults c.1, quiet_two _ _ _ r.wfaults c.2)
+causes_later status.OutOfTurns old mid new file input output t r c = (quiet_two _ _ _ r.refusals c.0, quiet_but_later input _ _ _ r.rfaults c.1, quiet_two _ _ _ r.wfaults c.2)
+causes_later status.NoMemory old mid new file input output t r c = (quiet_two _ _ _ r.refusals c.0, quiet_two _ _ _ r.rfaults c.1, quiet_two _ _ _ r.wfaults c.2)
+causes_later status.Usage old mid new file input output t r c = c
+causes_later status.ReadFault old mid new file input output t r c = c
+causes_later (status.Unbuilt k) old mid new file input output t r c = c
 
--- what is told of that status is told of one that equals it
-pub unbuilt_is : (s : Status) (n : ℕ) (sinks : List SinkEnd) (file : List ℕ) (old new : FolderState) → s ≡ status.Unbuilt n → Told (status.Unbuilt n) sinks file old new → Told s sinks file old new
-unbuilt_is s n sinks file old new e h = subst (λ x. Told x sinks file old new) (sym e) h
+pub causes_run : (s : Status) (old mid new : FolderState) (file input output t : List ℕ) → ReadsFile old mid file t → (input ≢ file) × (output ≢ file) → RunCauses s input output mid new → Causes s file old new
+causes_run s old mid new file input output t r apart c = inr (input, (output, (apart.0, apart.1, causes_later s old mid new file input output t r c)))
+
+-- what is said of the counts before a run, by the status
+pub causes_before : (s t : Status) (file : List ℕ) (old new : FolderState) → s ≡ t → CausesBefore t file old new → Causes s file old new
+causes_before s t file old new e h = inl (subst (λ x. CausesBefore x file old new) (sym e) h)

@@ -1,7 +1,9 @@
 pub mod Puttings
 pub mod Texts
 pub mod Quiets
-pub mod Passing
-pub mod Flowing
+pub mod Seating
+pub mod Chains
+pub mod Leaving
+pub mod Closing
 pub mod Answering
 pub mod Completing

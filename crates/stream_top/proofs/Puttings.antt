@@ -8,6 +8,8 @@ use Rattle.std.proofs.lemmas.List.{append-nil, drop_all}
 use Rattle.elem_core.proofs.Prefixes.{prefix_take}
 use Rattle.stream_io.specs.Counts.{Rose}
 use Rattle.stream_io.specs.State.{DrainState}
+use Rattle.stream_model.specs.declared.outcome.WireCount.{WireCount}
+use Rattle.stream_top.specs.Report.{wire_line, wire_lines}
 use Rattle.stream_top.specs.Writing.{Puts, PutsPart, Leaves}
 
 -- two pieces behind what is held are one piece behind it
@@ -129,3 +131,30 @@ leaves_item f xs i x s t u whole e h l p = leaves_next f xs i x s t u whole h l 
 
 pub leaves_stop_item : {X : Type 0} (f : X → List ℕ) (xs : List X) (i : ℕ) (x : X) (s t u : DrainState) (whole : List ℕ) → x ≡ get_or xs i x → i < length xs → Leaves s t whole (flat_map f (drop i xs)) → PutsPart t u (f x) → PutsPart s u whole
 leaves_stop_item f xs i x s t u whole e h l p = leaves_stop_at f xs i x s t u whole h l (subst (λ y. PutsPart t u (f y)) e p)
+
+-- the lines of the wires from number i on
+pub wires_from : (ws : List WireCount) (i : ℕ) (d : WireCount) → i < length ws → wire_lines i (drop i ws) ≡ wire_line i (get_or ws i d) ++ wire_lines (i + 1) (drop (i + 1) ws)
+wires_from ws i d h = ap (wire_lines i) (drop-cons ws i d h) ∙ ap (λ n. wire_line i (get_or ws i d) ++ wire_lines (i + 1) (drop n ws)) (sym (add-one i))
+
+-- one wire more was put
+pub leaves_wire : (ws : List WireCount) (i : ℕ) (d : WireCount) (s t u : DrainState) (whole : List ℕ) → i < length ws → Leaves s t whole (wire_lines i (drop i ws)) → Puts t u (wire_line i (get_or ws i d)) → Leaves s u whole (wire_lines (i + 1) (drop (i + 1) ws))
+leaves_wire ws i d s t u whole h l p =
+    leaves_less s t u whole (wire_line i (get_or ws i d)) (wire_lines (i + 1) (drop (i + 1) ws)) (subst (Leaves s t whole) (wires_from ws i d h) l) p
+
+-- a write failed in one wire
+pub leaves_stop_wire : (ws : List WireCount) (i : ℕ) (d : WireCount) (s t u : DrainState) (whole : List ℕ) → i < length ws → Leaves s t whole (wire_lines i (drop i ws)) → PutsPart t u (wire_line i (get_or ws i d)) → PutsPart s u whole
+leaves_stop_wire ws i d s t u whole h l p =
+    leaves_stop s t u whole (wire_line i (get_or ws i d)) (wire_lines (i + 1) (drop (i + 1) ws)) (subst (Leaves s t whole) (wires_from ws i d h) l) p
+
+-- no wire is left
+pub leaves_wires : (ws : List WireCount) (i : ℕ) (s t : DrainState) (whole : List ℕ) → length ws ≤ i → Leaves s t whole (wire_lines i (drop i ws)) → Puts s t whole
+leaves_wires ws i s t whole h l = leaves_none s t whole (subst (Leaves s t whole) (ap (wire_lines i) (drop_all i ws h)) l)
+
+-- a part of the first of two pieces is a part of both
+pub part_before : (s t : DrainState) (a b : List ℕ) → PutsPart s t a → PutsPart s t (a ++ b)
+part_before s t a b p = leaves_stop s s t (a ++ b) a b (leaves_all s (a ++ b)) p
+
+-- a piece that was put, and then a write that failed
+pub then_part : {T E : Type 0} (r : Result T E) (s t u : DrainState) (a b : List ℕ) → Puts s t a → OnErr r (PutsPart t u b) → OnErr r (PutsPart s u (a ++ b))
+then_part (Ok x) s t u a b p q = tt
+then_part (Err e) s t u a b p q = puts_then_part s t u a b p q

@@ -82,6 +82,7 @@ file_read s t u name text h h' opened files faults refusals same_name same_fault
     record {
       files = quiet.files;
       text_is = λ tells. let earlier = same.told tells in text_told (s.file name) h.whole text (opened.whole earlier) (opened.there earlier) bytes;
+      read = λ n differs. closed.other_read n (λ e. differs (e ∙ same_name ∙ opened.name_is)) ∙ faults.read n;
       refusals = quiet.refusals;
       rfaults = quiet.rfaults;
       wfaults = quiet.wfaults;

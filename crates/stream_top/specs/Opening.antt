@@ -14,8 +14,10 @@ pub record OpensEnds (old new : FolderState) (input output : List ℕ) (i : Sour
   pub output_name : o.name ≡ output
   pub output_holds : IsTrue new.tells → o.holds ≡ Some []
   pub output_faults : o.faults ≡ 0
+  pub emptied : IsTrue new.tells → new.file output ≡ Some []
   pub told : IsTrue new.tells → IsTrue old.tells
   pub others : IsTrue new.tells → (n : List ℕ) → n ≢ output → new.file n ≡ old.file n
+  pub read : (n : List ℕ) → new.read n ≡ old.read n
   pub refusals : Quiet old.refusals new.refusals
   pub rfaults : Quiet old.rfaults new.rfaults
   pub wfaults : Quiet old.wfaults new.wfaults

@@ -1,5 +1,5 @@
 -- The text of a file that was read to its end, or to one byte past the greatest length of a blueprint.
-use Rattle.std.specs.Prelude.{◌≡◌, ℕ, ◌⊎◌, IsTrue, List, take, Some}
+use Rattle.std.specs.Prelude.{◌≡◌, ◌≢◌, ℕ, ◌⊎◌, IsTrue, List, take, Some}
 use Rattle.std.specs.Option.{option_map}
 use Rattle.stream_io.specs.Counts.{Rose}
 use Rattle.stream_io.specs.State.{FolderState, SameFiles, Lacks}
@@ -17,6 +17,7 @@ text_of_file whole = take text_limit whole
 pub record ReadsFile (old new : FolderState) (name text : List ℕ) : Type 0 where
   pub files : SameFiles old new
   pub text_is : IsTrue new.tells → option_map text_of_file (old.file name) ≡ Some text
+  pub read : (n : List ℕ) → n ≢ name → new.read n ≡ old.read n
   pub refusals : Quiet old.refusals new.refusals
   pub rfaults : Quiet old.rfaults new.rfaults
   pub wfaults : Quiet old.wfaults new.wfaults

@@ -2,10 +2,10 @@
 #![tactic(auto)]
 
 mod answer;
-mod flow;
+mod command;
+mod materialize;
 mod open;
 pub mod outcome;
-mod pass;
 mod put;
 mod report;
 mod run;

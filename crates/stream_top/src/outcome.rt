@@ -1,5 +1,6 @@
 // What a run comes to.
 use elem_core::line::Line;
+use stream_model::outcome::EndState;
 
 /// How a call ended.
 #[derive(Drop)]
@@ -8,24 +9,22 @@ pub enum Status {
     Done,
     /// The words are not in the command's grammar.
     Usage,
+    /// Every sink ended or failed, and some sink failed.
+    StreamFailed,
+    /// Some sink has not ended, and no event is left.
+    Stalled,
+    /// Some sink has not ended, an event is left, and the units are used up.
+    OutOfTurns,
     /// A file is not there, or its opening was refused.
     Missing(Line),
-    /// A read failed.
+    /// A read of the blueprint's file failed.
     ReadFault,
-    /// The blueprint, or a line of an input, is more than this version runs.
+    /// The blueprint is more than this version runs.
     Unbuilt(u32),
     /// A write to a sink's file failed.
     WriteFault,
     /// Memory was wanting.
     NoMemory,
-}
-
-/// How a sink ended.
-#[derive(Drop, Clone, Copy, Debug, PartialEq, Eq)]
-pub enum EndState {
-    Ended,
-    Unended,
-    WriteFault,
 }
 
 /// A sink after a run: its name, how many whole lines it wrote, and how it ended.

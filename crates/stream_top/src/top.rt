@@ -1,24 +1,30 @@
 // The top call.
-ghost use Rattle.std.specs.Prelude.{◌≡◌, ◌⊎◌, ◌↔◌, List, ℕ, Some, None, [], IsTrue};
-ghost use Rattle.stream_top.specs.Command.{command_file};
-ghost use Rattle.stream_top.specs.Outcome.{Told, Causes, SinksOf, IsValid, RoseNowhere};
+ghost use Rattle.std.specs.Prelude.{◌≡◌, ◌≤◌, ◌⊎◌, ◌↔◌, List, ℕ, Some, None, [], IsTrue};
+ghost use Rattle.stream_top.specs.AfterRun.{of_outcome};
+ghost use Rattle.stream_top.specs.Calls.{answer_of};
+ghost use Rattle.stream_top.specs.Command.{Asked, command_of};
+ghost use Rattle.stream_top.specs.Outcome.{Told, Causes, SinksOf, IsValid, RoseNowhere, WasRun};
 ghost use Rattle.stream_top.specs.Report.{report_of, code_of};
 ghost use Rattle.stream_top.specs.Writing.{Puts, PutsPart};
 
-use crate::answer::{Outcome, file_of, run_file, without_sinks};
+use crate::answer::{Outcome, run_file, without_run};
+use crate::command::read_words;
 use crate::outcome::{SinkEnd, Status};
 use crate::report::{code, put_report};
-use blue_lang::laws::one_text_says_one_blueprint;
 use elem_core::line::Line;
 use std::alloc::Global;
+use straight_lang::laws::one_text_says_one_blueprint;
 use stream_io::outside::{Drain, Failed, Folder};
+use stream_model::outcome::Picture;
 
-/// What a call comes to: the exit code, the status, and the sinks where a blueprint was run.
+/// What a call comes to: the exit code, the status, and where a blueprint was run its sinks, what its wires carried, and how many units were used.
 #[derive(Drop)]
 pub struct RunEnd {
     pub code: u8,
     pub status: Status,
     pub sinks: Vec<SinkEnd>,
+    pub picture: Picture,
+    pub used: u64,
 }
 
 /// Reads the command's words, reads and runs the blueprint of the file that they name, and writes the report to the console.
@@ -29,27 +35,32 @@ pub fn run_streams<F: Folder, C: Drain>(
     console: &mut C,
 ) -> RunEnd
     // Which words have a meaning.
-    ensures usage { (result.status ≡ Status.Usage) ↔ (command_file words.now ≡ None) }
+    ensures usage { (result.status ≡ Status.Usage) ↔ (command_of words.now ≡ None) }
     ensures usage_leaves { result.status ≡ Status.Usage → F.state folder.new ≡ F.state folder.old }
 
     // What is answered and left where the folder tells its files.
-    ensures told { (file : List ℕ) → command_file words.now ≡ Some file → IsTrue (F.state folder.new).tells → Told result.status result.sinks.items file (F.state folder.old) (F.state folder.new) }
+    ensures told { (c : Asked) → command_of words.now ≡ Some c → IsTrue (F.state folder.new).tells → Told (answer_of result) c (F.state folder.old) (F.state folder.new) }
 
-    // Valid words, text and input and no fault give Done, or memory was wanting.
-    ensures complete { IsTrue (F.state folder.new).tells → IsValid words.now (F.state folder.old) → RoseNowhere (F.state folder.old) (F.state folder.new) → (result.status ≡ Status.Done) ⊎ (result.status ≡ Status.NoMemory) }
+    // Valid words, text and input and no fault give a run, or memory was wanting.
+    ensures complete { IsTrue (F.state folder.new).tells → IsValid words.now (F.state folder.old) → RoseNowhere (F.state folder.old) (F.state folder.new) → WasRun result.status }
 
     // Which counts rose, whether it tells them or not.
-    ensures causes { Causes result.status (F.state folder.old) (F.state folder.new) }
-    ensures sinks { SinksOf result.status result.sinks.items }
+    ensures causes { (c : Asked) → command_of words.now ≡ Some c → Causes result.status c.file (F.state folder.old) (F.state folder.new) }
+    ensures sinks { SinksOf result.status (answer_of result) }
 
     // The console has the report behind what it held, or a first part of it where a write to it failed.
-    ensures console { (Puts (C.state console.old) (C.state console.new) (report_of result.status result.sinks.items) × (result.code ≡ code_of result.status))
-        ⊎ (PutsPart (C.state console.old) (C.state console.new) (report_of result.status result.sinks.items) × (result.code ≡ 8)) }
+    ensures console { (Puts (C.state console.old) (C.state console.new) (report_of (answer_of result)) × (result.code ≡ code_of result.status))
+        ⊎ (PutsPart (C.state console.old) (C.state console.new) (report_of (answer_of result)) × (result.code ≡ 8)) }
 {
     // A text says one blueprint at most.
     one_text_says_one_blueprint();
-    let Outcome { status, sinks } = answer(alloc, words, folder);
-    let code = match put_report(console, &status, &sinks) {
+    let Outcome {
+        status,
+        sinks,
+        picture,
+        used,
+    } = answer(alloc, words, folder);
+    let code = match put_report(console, &status, &sinks, &picture.wires, used) {
         Ok(()) => code(&status),
         Err(Failed) => 8,
     };
@@ -57,19 +68,21 @@ pub fn run_streams<F: Folder, C: Drain>(
         code,
         status,
         sinks,
+        picture,
+        used,
     }
 }
 
 /// What the words ask for.
 fn answer<F: Folder>(alloc: Global, words: &[Line], folder: &mut F) -> Outcome
-    ensures usage { (result.status ≡ Status.Usage) ↔ (command_file words.now ≡ None) }
+    ensures usage { (result.status ≡ Status.Usage) ↔ (command_of words.now ≡ None) }
     ensures usage_leaves { result.status ≡ Status.Usage → F.state folder.new ≡ F.state folder.old }
-    ensures told { (file : List ℕ) → command_file words.now ≡ Some file → IsTrue (F.state folder.new).tells → Told result.status result.sinks.items file (F.state folder.old) (F.state folder.new) }
-    ensures causes { Causes result.status (F.state folder.old) (F.state folder.new) }
-    ensures sinks { SinksOf result.status result.sinks.items }
+    ensures told { (c : Asked) → command_of words.now ≡ Some c → IsTrue (F.state folder.new).tells → Told (of_outcome result) c (F.state folder.old) (F.state folder.new) }
+    ensures causes { (c : Asked) → command_of words.now ≡ Some c → Causes result.status c.file (F.state folder.old) (F.state folder.new) }
+    ensures sinks { SinksOf result.status (of_outcome result) }
 {
-    match file_of(words) {
-        Some(file) => run_file(alloc, folder, file),
-        None => without_sinks(alloc, Status::Usage),
+    match read_words(words) {
+        Some(command) => run_file(alloc, folder, command.file, command.turns),
+        None => without_run(alloc, Status::Usage),
     }
 }

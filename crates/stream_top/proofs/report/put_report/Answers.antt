@@ -1,9 +1,9 @@
-use Rattle.stream_top.specs.Report.{sink_line}
-use Rattle.stream_top.proofs.Puttings.{leaves_item, leaves_stop_item, on_err}
+-- The goals of `report::put_report` that the search leaves.
+use Rattle.stream_top.proofs.Puttings.{on_err, part_before, then_part}
 use Rattle.stream_top.proofs.report.put_report.Goals as goal
 
-pub loop-sink-preserved : goal.loop-sink-preserved
-loop-sink-preserved g c = leaves_item sink_line _ _ _ _ _ _ _ c.sink-item.is c.loop-sink-test.true c.loop-sink.invariant c.in_ok-put_sink.ensures.ok
+pub returns-in_err-put_status-clause-err : goal.returns-in_err-put_status-clause-err
+returns-in_err-put_status-clause-err g c = on_err _ (part_before _ _ _ _ c.in_err-put_status.ensures.err)
 
-pub returns-in_err-put_sink-clause-err : goal.returns-in_err-put_sink-clause-err
-returns-in_err-put_sink-clause-err g c = on_err _ (leaves_stop_item sink_line _ _ _ _ _ _ _ c.sink-item.is c.loop-sink-test.true c.loop-sink.invariant c.in_err-put_sink.ensures.err)
+pub returns-clause-err : goal.returns-clause-err
+returns-clause-err g c = then_part _ _ _ _ _ _ c.in_ok-put_status.ensures.ok c.put_run.ensures.err

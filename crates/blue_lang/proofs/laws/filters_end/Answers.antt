@@ -1,5 +1,0 @@
-use Rattle.blue_lang.proofs.ListLaws.{filtered-end}
-use Rattle.blue_lang.proofs.laws.filters_end.Goals as goal
-
-pub returns : goal.returns
-returns c = filtered-end

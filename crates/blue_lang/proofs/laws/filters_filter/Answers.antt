@@ -1,5 +1,0 @@
-use Rattle.blue_lang.proofs.ListLaws.{filtered-filter}
-use Rattle.blue_lang.proofs.laws.filters_filter.Goals as goal
-
-pub returns : goal.returns
-returns c = filtered-filter

@@ -1,5 +1,0 @@
-use Rattle.blue_lang.proofs.ListLaws.{mapped-end}
-use Rattle.blue_lang.proofs.laws.maps_end.Goals as goal
-
-pub returns : goal.returns
-returns c = mapped-end

@@ -1,5 +1,0 @@
-use Rattle.blue_lang.proofs.ListLaws.{composed-append}
-use Rattle.blue_lang.proofs.laws.stages_compose.Goals as goal
-
-pub returns : goal.returns
-returns c = composed-append

@@ -1,5 +1,0 @@
-pub mod Lists
-pub mod Names
-pub mod Reading
-pub mod Straight
-pub mod Types

@@ -1,0 +1,55 @@
+-- Names, file names and words hold neither LF nor, the first two, a space; and how long they are.
+use Rattle.std.proofs.Common.{◌≡◌, ℕ, ◌≤◌, Bool, true, false, ◌&&◌, eqb, leb, List, [], ◌∷◌, length, IsTrue, refl, ap, sym, ◌∙◌, ⊎_elim, arith, not}
+use Rattle.std.specs.List.{list_all}
+use Rattle.std.specs.Char.{is_ascii_alphanumeric, is_ascii_graphic, is_ascii_lowercase}
+use Rattle.std.proofs.lemmas.Bool.{cases_Bool, eqb-true, and_parts, and_from, leb-true, true≢false}
+use Rattle.elem_core.specs.Line.{has_no_lf}
+use Rattle.straight_lang.specs.Names.{is_name, is_name_byte, is_file_name, is_file_byte, is_word}
+
+-- no byte is c
+abbrev pub lacks : ℕ → List ℕ → Bool
+lacks c bs = list_all (λ b. not (eqb b c)) bs
+
+differs : (c : ℕ) (p : ℕ → Bool) → p c ≡ false → (b : ℕ) → p b ≡ true → not (eqb b c) ≡ true
+differs c p e b h =
+    ⊎_elim (λ t. absurd (true≢false (sym h ∙ (ap p (eqb-true b c t) ∙ e)))) (λ f. ap not f) (cases_Bool (eqb b c))
+
+-- bytes that all pass a test that c does not pass
+pub lacks-all : (c : ℕ) (p : ℕ → Bool) → p c ≡ false → (bs : List ℕ) → list_all p bs ≡ true → lacks c bs ≡ true
+lacks-all c p e [] h = refl
+lacks-all c p e (b ∷ bs) h =
+    let parts = and_parts (p b) (list_all p bs) h in
+    and_from _ _ (differs c p e b parts.0) (lacks-all c p e bs parts.1)
+
+pub lacks-name : (c : ℕ) → is_ascii_lowercase c ≡ false → is_name_byte c ≡ false → (bs : List ℕ) → is_name bs ≡ true → lacks c bs ≡ true
+lacks-name c d e [] h = refl
+lacks-name c d e (b ∷ bs) h =
+    let parts = and_parts _ (list_all is_name_byte bs) h in
+    and_from _ _ (differs c is_ascii_lowercase d b (and_parts _ _ parts.0).0) (lacks-all c is_name_byte e bs parts.1)
+
+pub lacks-file : (c : ℕ) → is_ascii_alphanumeric c ≡ false → is_file_byte c ≡ false → (bs : List ℕ) → is_file_name bs ≡ true → lacks c bs ≡ true
+lacks-file c d e [] h = refl
+lacks-file c d e (b ∷ bs) h =
+    let parts = and_parts _ (list_all is_file_byte bs) h in
+    and_from _ _ (differs c is_ascii_alphanumeric d b (and_parts _ _ parts.0).0) (lacks-all c is_file_byte e bs parts.1)
+
+pub has_no_lf-name : (bs : List ℕ) → is_name bs ≡ true → IsTrue (has_no_lf bs)
+has_no_lf-name bs h = lacks-name 10 refl refl bs h
+
+pub has_no_lf-file : (bs : List ℕ) → is_file_name bs ≡ true → IsTrue (has_no_lf bs)
+has_no_lf-file bs h = lacks-file 10 refl refl bs h
+
+pub has_no_lf-word : (bs : List ℕ) → is_word bs ≡ true → IsTrue (has_no_lf bs)
+has_no_lf-word bs h = lacks-all 10 is_ascii_graphic refl bs (and_parts _ (list_all is_ascii_graphic bs) h).1
+
+pub length-name-le : (bs : List ℕ) → is_name bs ≡ true → length bs ≤ 32
+length-name-le [] h = omega arith
+length-name-le (b ∷ bs) h =
+    let short : length bs ≤ 31 = leb-true (length bs) 31 (and_parts (is_ascii_lowercase b) (leb (length bs) 31) (and_parts (is_ascii_lowercase b && leb (length bs) 31) (list_all is_name_byte bs) h).0).1 in
+    omega arith
+
+pub length-file-le : (bs : List ℕ) → is_file_name bs ≡ true → length bs ≤ 64
+length-file-le [] h = omega arith
+length-file-le (b ∷ bs) h =
+    let short : length bs ≤ 63 = leb-true (length bs) 63 (and_parts (is_ascii_alphanumeric b) (leb (length bs) 63) (and_parts (is_ascii_alphanumeric b && leb (length bs) 63) (list_all is_file_byte bs) h).0).1 in
+    omega arith

@@ -1,0 +1,11 @@
+pub mod Answering
+pub mod Body
+pub mod Bridge
+pub mod Bytes
+pub mod Cutting
+pub mod LentNames
+pub mod Numerals
+pub mod SaysBody
+pub mod SaysNode
+pub mod SaysPred
+pub mod Wires

@@ -1,0 +1,16 @@
+use Rattle.std.proofs.Common.{sym, ◌∙◌}
+use Rattle.std.specs.Option.{option_or}
+use Rattle.blue_rules.specs.Links.{wires_of}
+use Rattle.blue_names.specs.Links.{wires_of_links}
+use Rattle.blue_check.specs.Fitness.{names_fault, ports_fault, plugs_fault, sizes_fault, types_fault}
+use Rattle.blue_check.specs.Wires.{blueprint_wires}
+use Rattle.blue_check.proofs.Verdicts.{judged_first, answer_next}
+use Rattle.blue_check.proofs.judge.by_parts.Goals as goal
+
+pub returns-in-Some : goal.returns-in-Some
+returns-in-Some c =
+    judged_first (names_fault c.args.switches.now c.args.chains.now c.args.nodes.now c.args.wires.now c.args.taken.now) (option_or (ports_fault c.args.nodes.now (wires_of c.args.nodes.now c.args.wires.now)) (option_or (plugs_fault c.args.plugs.now c.args.nodes.now) (option_or (sizes_fault c.args.chains.now c.args.nodes.now c.args.wires.now) (types_fault c.args.plugs.now c.args.chains.now c.args.nodes.now (wires_of c.args.nodes.now c.args.wires.now))))) (wires_of c.args.nodes.now c.args.wires.now) c.in-Some.fault (sym c.in-Some.is ∙ c.in_ok-fault.ensures)
+
+pub returns-in-None : goal.returns-in-None
+returns-in-None c =
+    answer_next (names_fault c.args.switches.now c.args.chains.now c.args.nodes.now c.args.wires.now c.args.taken.now) (option_or (ports_fault c.args.nodes.now (wires_of c.args.nodes.now c.args.wires.now)) (option_or (plugs_fault c.args.plugs.now c.args.nodes.now) (option_or (sizes_fault c.args.chains.now c.args.nodes.now c.args.wires.now) (types_fault c.args.plugs.now c.args.chains.now c.args.nodes.now (wires_of c.args.nodes.now c.args.wires.now))))) (wires_of c.args.nodes.now c.args.wires.now) c.by_wires.result (sym c.in-None.is ∙ c.in_ok-fault.ensures) c.by_wires.ensures

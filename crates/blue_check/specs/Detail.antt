@@ -1,0 +1,50 @@
+-- What a report says of a fault beside its number.
+use Rattle.std.specs.Prelude.{ℕ, Bool, true, false, List, [], ◌∷◌, ◌++◌, codes}
+use Rattle.std.specs.Fmt.{decimal}
+use Rattle.elem_core.specs.Sort.{Sort, num_type, text_type, seq_type, pair_type}
+use Rattle.blue_rules.specs.declared.spot.Spot.{Spot}
+use Rattle.blue_rules.specs.declared.spot.Spot.TheVariants as at
+use Rattle.blue_rules.specs.declared.want.Want.{Want}
+use Rattle.blue_rules.specs.declared.want.Want.TheVariants.{Is, AnySeq, AnyPair}
+use Rattle.blue_check.specs.declared.fault.CheckFault.{CheckFault}
+use Rattle.blue_check.specs.declared.fault.CheckFault.TheVariants.{TwoNames, NoSuchName, NoSuchPort, PortTwice, PortOpen, TypeClash, ClosedWalk, TooDeep, NoSuchPlug, PlugTwice, BadSize}
+
+-- the text of a type: `num`, `text`, `[T]` or `(T,U)`
+abbrev pub type_text : Sort → List ℕ
+type_text num_type = codes "num"
+type_text text_type = codes "text"
+type_text (seq_type t) = 91 ∷ (type_text t ++ 93 ∷ [])
+type_text (pair_type t u) = 40 ∷ (type_text t ++ 44 ∷ (type_text u ++ 41 ∷ []))
+
+-- what is accepted
+abbrev pub want_text : Want → List ℕ
+want_text (Is t) = type_text t
+want_text AnySeq = codes "[any]"
+want_text AnyPair = codes "(any,any)"
+
+-- a place
+abbrev pub wire_text : ℕ → List ℕ
+wire_text i = codes "wire " ++ decimal i
+
+abbrev pub spot_text : Spot → List ℕ
+spot_text (at.Node i) = codes "node " ++ decimal i
+spot_text (at.Wire i) = codes "wire " ++ decimal i
+spot_text (at.Chain i) = codes "chain " ++ decimal i
+
+-- which port
+abbrev pub side_text : Bool → List ℕ
+side_text true = codes " output "
+side_text false = codes " input "
+
+abbrev pub detail_text : CheckFault → List ℕ
+detail_text (TwoNames l) = l
+detail_text (NoSuchName l) = l
+detail_text (NoSuchPort i) = wire_text i
+detail_text (PortTwice i) = wire_text i
+detail_text (PortOpen l o p) = l ++ side_text o ++ decimal p
+detail_text (TypeClash i t w) = wire_text i ++ codes " " ++ type_text t ++ codes " " ++ want_text w
+detail_text (ClosedWalk i) = wire_text i
+detail_text (TooDeep l) = l
+detail_text (NoSuchPlug l) = l
+detail_text (PlugTwice l) = l
+detail_text (BadSize s) = spot_text s

@@ -1,0 +1,12 @@
+-- How a check ends where a blueprint is not fit.
+use Rattle.std.specs.Prelude.{List, ℕ}
+use Rattle.blue_core.specs.declared.blueprint.Blueprint.{Blueprint}
+use Rattle.plug_core.specs.declared.head.PlugHead.{PlugHead}
+use Rattle.blue_check.specs.declared.check.CheckEnd.{CheckEnd}
+use Rattle.blue_check.specs.declared.check.CheckEnd.TheVariants.{Fault, NoMemory}
+use Rattle.blue_check.specs.Fitness.{IsFirstFault}
+
+-- by the fault of the first rule that is broken; memory may be wanting at any time
+abbrev pub IsEnd : Blueprint → List PlugHead → List (List ℕ) → CheckEnd → Type 0
+IsEnd b plugs taken (Fault f) = IsFirstFault b plugs taken f
+IsEnd b plugs taken NoMemory = Unit {0}

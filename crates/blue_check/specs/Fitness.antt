@@ -1,0 +1,82 @@
+-- When a blueprint can be run: eleven rules, of which the first that is broken decides.
+use Rattle.std.specs.Prelude.{◌≡◌, ℕ, List, [], slice_get, Option, Some, None, ◌⊎◌}
+use Rattle.std.specs.Option.{option_map, option_or}
+use Rattle.stream_model.specs.Graph.{Wire}
+use Rattle.blue_core.specs.declared.blueprint.Blueprint.{Blueprint}
+use Rattle.blue_core.specs.declared.blueprint.ChainDecl.{ChainDecl}
+use Rattle.blue_core.specs.declared.blueprint.Node.{Node}
+use Rattle.blue_core.specs.declared.blueprint.WireDecl.{WireDecl}
+use Rattle.plug_core.specs.declared.head.PlugHead.{PlugHead}
+use Rattle.blue_rules.specs.Names.{taken_twice, unknown_name, unknown_plug, plug_twice}
+use Rattle.blue_rules.specs.Paths.{IsFirstClosed, HasNoClosedWalk}
+use Rattle.blue_rules.specs.Ports.{OpenPort, port_missing, port_twice, port_open}
+use Rattle.blue_rules.specs.Rounds.{type_clash, too_deep}
+use Rattle.blue_rules.specs.Sizes.{size_wrong}
+use Rattle.blue_rules.specs.declared.typed.Clash.{Clash}
+use Rattle.blue_rules.specs.Links.{wires_of}
+use Rattle.blue_check.specs.Wires.{blueprint_wires}
+use Rattle.blue_check.specs.declared.fault.CheckFault.{CheckFault}
+use Rattle.blue_check.specs.declared.fault.CheckFault.TheVariants.{TwoNames, NoSuchName, NoSuchPort, PortTwice, PortOpen, TypeClash, ClosedWalk, TooDeep, NoSuchPlug, PlugTwice, BadSize}
+
+-- the name of a node
+abbrev pub name_in : Option Node → List ℕ
+name_in None = []
+name_in (Some n) = n.name
+
+abbrev pub name_at : List Node → ℕ → List ℕ
+name_at nodes i = name_in (slice_get nodes i)
+
+-- an open port with the name of its node, and a clash
+abbrev pub open_fault : List Node → OpenPort → CheckFault
+open_fault nodes o = PortOpen (name_at nodes o.node) o.output o.port
+
+abbrev pub clash_fault : Clash → CheckFault
+clash_fault c = TypeClash c.wire c.left c.want
+
+-- names, and files
+abbrev pub names_fault : List (List ℕ) → List ChainDecl → List Node → List WireDecl → List (List ℕ) → Option CheckFault
+names_fault switches chains nodes wires taken =
+    option_or (option_map TwoNames (taken_twice switches chains nodes taken)) (option_map NoSuchName (unknown_name switches chains nodes wires))
+
+-- ports
+abbrev pub ports_fault : List Node → List Wire → Option CheckFault
+ports_fault nodes ws =
+    option_or (option_map NoSuchPort (port_missing nodes ws))
+    (option_or (option_map PortTwice (port_twice ws)) (option_map (open_fault nodes) (port_open nodes ws)))
+
+-- plugs, and sizes
+abbrev pub plugs_fault : List PlugHead → List Node → Option CheckFault
+plugs_fault plugs nodes = option_or (option_map NoSuchPlug (unknown_plug plugs nodes)) (option_map PlugTwice (plug_twice plugs nodes))
+
+abbrev pub sizes_fault : List ChainDecl → List Node → List WireDecl → Option CheckFault
+sizes_fault chains nodes wires = option_map BadSize (size_wrong chains nodes wires)
+
+-- types
+abbrev pub types_fault : List PlugHead → List ChainDecl → List Node → List Wire → Option CheckFault
+types_fault plugs chains nodes ws =
+    option_or (option_map clash_fault (type_clash plugs chains nodes ws)) (option_map (λ i. TooDeep (name_at nodes i)) (too_deep plugs chains nodes ws))
+
+-- the first rule that is broken, of all but that on closed walks
+abbrev pub early_of : List (List ℕ) → List ChainDecl → List Node → List WireDecl → List PlugHead → List (List ℕ) → Option CheckFault
+early_of switches chains nodes wires plugs taken =
+    option_or (names_fault switches chains nodes wires taken)
+    (option_or (ports_fault nodes (wires_of nodes wires))
+    (option_or (plugs_fault plugs nodes)
+    (option_or (sizes_fault chains nodes wires)
+    (types_fault plugs chains nodes (wires_of nodes wires)))))
+
+abbrev pub early_fault : Blueprint → List PlugHead → List (List ℕ) → Option CheckFault
+early_fault b plugs taken = early_of b.switches.items b.chains.items b.nodes.items b.wires.items plugs taken
+
+-- the fault is that of the first rule that is broken, at its least place: closed walks come last
+abbrev pub IsClosedFault : List Wire → CheckFault → Type 0
+IsClosedFault ws (ClosedWalk i) = IsFirstClosed ws i
+IsClosedFault ws _ = ⊥
+
+abbrev pub IsFirstFault : Blueprint → List PlugHead → List (List ℕ) → CheckFault → Type 0
+IsFirstFault b plugs taken f = (early_fault b plugs taken ≡ Some f) ⊎ ((early_fault b plugs taken ≡ None) × IsClosedFault (blueprint_wires b) f)
+
+-- no rule is broken
+pub record IsFit (b : Blueprint) (plugs : List PlugHead) (taken : List (List ℕ)) : Type 0 where
+  pub early : early_fault b plugs taken ≡ None
+  pub open_walks : HasNoClosedWalk (blueprint_wires b)

@@ -1,0 +1,46 @@
+// The check of a blueprint.
+ghost use Rattle.std.specs.Prelude.{◌≡◌, IfOk, IfErr};
+ghost use Rattle.blue_check.specs.Checked.{blueprint_of};
+ghost use Rattle.blue_check.specs.Ending.{IsEnd};
+ghost use Rattle.blue_check.specs.Fitness.{IsFit};
+
+use crate::checked::Checked;
+use crate::fault::CheckFault;
+use crate::judge::{Judged, judge};
+use crate::picks::needs_picks;
+use blue_core::blueprint::Blueprint;
+use elem_core::line::Line;
+use plug_core::head::PlugHead;
+use std::alloc::Global;
+
+/// Why a check gives no checked blueprint.
+#[derive(Drop)]
+pub enum CheckEnd {
+    /// The blueprint breaks a rule.
+    Fault(CheckFault),
+    /// Memory was refused, or a place is out of 32 bits.
+    NoMemory,
+}
+
+/// Tests the rules on names, ports, plugs, sizes, types and closed walks, in that order. The first rule that is broken decides, at
+/// its least place in the order of declaration. `plugs` are the stages that the caller hands in, and `taken` the files that it
+/// wants for itself. Rule: own.
+pub fn check(
+    alloc: Global,
+    b: Blueprint,
+    plugs: &[PlugHead],
+    taken: &[Line],
+) -> Result<Checked, CheckEnd>
+    ensures blueprint { IfOk result (λ c. blueprint_of c ≡ b) }
+    ensures fit { IfOk result (λ c. IsFit b plugs.now taken.now) }
+    ensures unfit { IfErr result (IsEnd b plugs.now taken.now) }
+{
+    match judge(alloc, &b, plugs, taken) {
+        Ok(Judged::Fit(polytree)) => {
+            let picks = needs_picks(&b.nodes);
+            Ok(Checked::new(b, polytree, picks))
+        }
+        Ok(Judged::Unfit(fault)) => Err(CheckEnd::Fault(fault)),
+        Err(_) => Err(CheckEnd::NoMemory),
+    }
+}

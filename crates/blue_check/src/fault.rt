@@ -1,0 +1,56 @@
+// Why a blueprint cannot be run.
+ghost use Rattle.std.specs.Prelude.{◌≡◌};
+ghost use Rattle.blue_check.specs.Number.{number_of_fault};
+
+use blue_rules::spot::Spot;
+use blue_rules::want::Want;
+use elem_core::elem_type::ElemType;
+use elem_core::line::Line;
+
+/// The first rule that a blueprint breaks, at its least place. Rule: own.
+#[derive(Drop)]
+pub enum CheckFault {
+    /// A name is declared twice, or a file is wanted twice.
+    TwoNames(Line),
+    /// A switch, a chain or a node is named and not declared.
+    NoSuchName(Line),
+    /// A wire uses a port that its node does not have.
+    NoSuchPort(u32),
+    /// A wire uses a port that an earlier wire uses.
+    PortTwice(u32),
+    /// A port of a node has no wire: whether it is an output, and which.
+    PortOpen(Line, bool, u32),
+    /// A type arrives on a wire that its input does not accept.
+    TypeClash(u32, ElemType, Want),
+    /// A wire lies on a closed walk.
+    ClosedWalk(u32),
+    /// A type would nest too deep at a node.
+    TooDeep(Line),
+    /// A plug is named and not handed in.
+    NoSuchPlug(Line),
+    /// Two plugs have one name, or two nodes name one plug.
+    PlugTwice(Line),
+    /// A size is out of its limits.
+    BadSize(Spot),
+}
+
+impl CheckFault {
+    /// The number, from 1 to 11, by which reports name the rule. Rule: own.
+    pub fn number(&self) -> u8
+        ensures { result ≡ number_of_fault self.now }
+    {
+        match self {
+            CheckFault::TwoNames(_) => 1,
+            CheckFault::NoSuchName(_) => 2,
+            CheckFault::NoSuchPort(_) => 3,
+            CheckFault::PortTwice(_) => 4,
+            CheckFault::PortOpen(_, _, _) => 5,
+            CheckFault::TypeClash(_, _, _) => 6,
+            CheckFault::ClosedWalk(_) => 7,
+            CheckFault::TooDeep(_) => 8,
+            CheckFault::NoSuchPlug(_) => 9,
+            CheckFault::PlugTwice(_) => 10,
+            CheckFault::BadSize(_) => 11,
+        }
+    }
+}

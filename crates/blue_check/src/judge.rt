@@ -1,0 +1,182 @@
+// What is found of a blueprint, group of rules by group of rules.
+ghost use Rattle.std.specs.Prelude.{◌≡◌, ℕ, IfOk, List, None, Some, length};
+ghost use Rattle.std.specs.Option.{option_or};
+ghost use Rattle.blue_rules.specs.Links.{wires_of};
+ghost use Rattle.blue_names.specs.Links.{AreInRange, wires_of_links};
+ghost use Rattle.blue_names.specs.Outs.{IsOuts};
+ghost use Rattle.blue_names.specs.Wiring.{FindsWires};
+ghost use Rattle.blue_check.specs.Fitness.{names_fault, ports_fault, plugs_fault, sizes_fault, types_fault, early_of, early_fault};
+ghost use Rattle.blue_check.specs.Wires.{blueprint_wires};
+ghost use Rattle.blue_check.specs.Judging.{IsJudged};
+
+use crate::fault::CheckFault;
+use crate::rules::{names_fault, numbered, plugs_fault, ports_fault, sizes_fault, types_fault};
+use blue_core::blueprint::{Blueprint, ChainDecl, Node, WireDecl};
+use blue_names::links::{Link, links_of};
+use blue_names::outs::outs_of;
+use blue_names::ports::{PortTable, targets_of};
+use blue_walks::closed::first_closed;
+use blue_walks::forest::is_polytree;
+use elem_core::line::Line;
+use elem_core::why::NoMemory;
+use plug_core::head::PlugHead;
+use std::alloc::Global;
+
+/// What is found of a blueprint.
+#[derive(Drop)]
+pub enum Judged {
+    /// The first rule that it breaks.
+    Unfit(CheckFault),
+    /// It breaks none; whether no walk is closed when directions are ignored.
+    Fit(bool),
+}
+
+/// By closed walks alone.
+fn by_walks(
+    alloc: Global,
+    count: usize,
+    links: &[Link],
+    outs: &[Vec<usize>],
+) -> Result<Judged, NoMemory>
+    requires outs { IsOuts outs.now (wires_of_links links.now) }
+    requires in_range { AreInRange count links.now }
+    ensures { IfOk result (IsJudged None (wires_of_links links.now)) }
+{
+    match first_closed(alloc, count, links, outs)? {
+        Some(i) => Ok(Judged::Unfit(CheckFault::ClosedWalk(numbered(i)?))),
+        None => Ok(Judged::Fit(is_polytree(alloc, count, links)?)),
+    }
+}
+
+/// By types, and then by closed walks.
+fn by_types(
+    alloc: Global,
+    plugs: &[PlugHead],
+    chains: &[ChainDecl],
+    nodes: &[Node],
+    links: &[Link],
+    targets: &PortTable,
+) -> Result<Judged, NoMemory>
+    requires targets { FindsWires targets.now (wires_of_links links.now) }
+    requires in_range { AreInRange (length nodes.now) links.now }
+    ensures { IfOk result (IsJudged (types_fault plugs.now chains.now nodes.now (wires_of_links links.now)) (wires_of_links links.now)) }
+{
+    let outs = outs_of(alloc, nodes.len(), links)?;
+    match types_fault(alloc, plugs, chains, nodes, links, targets, &outs)? {
+        Some(fault) => Ok(Judged::Unfit(fault)),
+        None => by_walks(alloc, nodes.len(), links, &outs),
+    }
+}
+
+/// By sizes, and then by types and closed walks.
+fn by_sizes(
+    alloc: Global,
+    plugs: &[PlugHead],
+    chains: &[ChainDecl],
+    nodes: &[Node],
+    wires: &[WireDecl],
+    links: &[Link],
+    targets: &PortTable,
+) -> Result<Judged, NoMemory>
+    requires targets { FindsWires targets.now (wires_of_links links.now) }
+    requires in_range { AreInRange (length nodes.now) links.now }
+    ensures { IfOk result (IsJudged (option_or (sizes_fault chains.now nodes.now wires.now) (types_fault plugs.now chains.now nodes.now (wires_of_links links.now))) (wires_of_links links.now)) }
+{
+    match sizes_fault(chains, nodes, wires)? {
+        Some(fault) => Ok(Judged::Unfit(fault)),
+        None => by_types(alloc, plugs, chains, nodes, links, targets),
+    }
+}
+
+/// By plugs, and then by sizes and what comes behind them.
+fn by_plugs(
+    alloc: Global,
+    plugs: &[PlugHead],
+    chains: &[ChainDecl],
+    nodes: &[Node],
+    wires: &[WireDecl],
+    links: &[Link],
+    targets: &PortTable,
+) -> Result<Judged, NoMemory>
+    requires targets { FindsWires targets.now (wires_of_links links.now) }
+    requires in_range { AreInRange (length nodes.now) links.now }
+    ensures { IfOk result (IsJudged (option_or (plugs_fault plugs.now nodes.now)
+        (option_or (sizes_fault chains.now nodes.now wires.now) (types_fault plugs.now chains.now nodes.now (wires_of_links links.now)))) (wires_of_links links.now)) }
+{
+    match plugs_fault(alloc, plugs, nodes)? {
+        Some(fault) => Ok(Judged::Unfit(fault)),
+        None => by_sizes(alloc, plugs, chains, nodes, wires, links, targets),
+    }
+}
+
+/// By ports, and then by plugs and what comes behind them.
+fn by_ports(
+    alloc: Global,
+    plugs: &[PlugHead],
+    chains: &[ChainDecl],
+    nodes: &[Node],
+    wires: &[WireDecl],
+    links: &[Link],
+) -> Result<Judged, NoMemory>
+    ensures { IfOk result (IsJudged (option_or (ports_fault nodes.now (wires_of_links links.now)) (option_or (plugs_fault plugs.now nodes.now)
+        (option_or (sizes_fault chains.now nodes.now wires.now) (types_fault plugs.now chains.now nodes.now (wires_of_links links.now))))) (wires_of_links links.now)) }
+{
+    let targets = targets_of(alloc, links)?;
+    match ports_fault(alloc, nodes, links, &targets)? {
+        Some(fault) => Ok(Judged::Unfit(fault)),
+        None => by_plugs(alloc, plugs, chains, nodes, wires, links, &targets),
+    }
+}
+
+/// By ports and what comes behind them, over the wires as they are declared.
+fn by_wires(
+    alloc: Global,
+    plugs: &[PlugHead],
+    chains: &[ChainDecl],
+    nodes: &[Node],
+    wires: &[WireDecl],
+) -> Result<Judged, NoMemory>
+    ensures { IfOk result (IsJudged (option_or (ports_fault nodes.now (wires_of nodes.now wires.now)) (option_or (plugs_fault plugs.now nodes.now)
+        (option_or (sizes_fault chains.now nodes.now wires.now) (types_fault plugs.now chains.now nodes.now (wires_of nodes.now wires.now))))) (wires_of nodes.now wires.now)) }
+{
+    let links = links_of(alloc, nodes, wires)?;
+    by_ports(alloc, plugs, chains, nodes, wires, &links)
+}
+
+/// What is found of the parts of a blueprint.
+fn by_parts(
+    alloc: Global,
+    switches: &[Line],
+    chains: &[ChainDecl],
+    nodes: &[Node],
+    wires: &[WireDecl],
+    plugs: &[PlugHead],
+    taken: &[Line],
+) -> Result<Judged, NoMemory>
+    ensures { IfOk result (IsJudged (early_of switches.now chains.now nodes.now wires.now plugs.now taken.now) (wires_of nodes.now wires.now)) }
+{
+    match names_fault(alloc, switches, chains, nodes, wires, taken)? {
+        Some(fault) => Ok(Judged::Unfit(fault)),
+        None => by_wires(alloc, plugs, chains, nodes, wires),
+    }
+}
+
+/// What is found of a blueprint.
+pub fn judge(
+    alloc: Global,
+    b: &Blueprint,
+    plugs: &[PlugHead],
+    taken: &[Line],
+) -> Result<Judged, NoMemory>
+    ensures { IfOk result (IsJudged (early_fault b.now plugs.now taken.now) (blueprint_wires b.now)) }
+{
+    by_parts(
+        alloc,
+        &b.switches,
+        &b.chains,
+        &b.nodes,
+        &b.wires,
+        plugs,
+        taken,
+    )
+}

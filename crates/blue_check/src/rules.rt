@@ -1,0 +1,218 @@
+// The rules, some at a time: each answers the fault of the first that is broken.
+ghost use Rattle.std.specs.Prelude.{◌≡◌, ℕ, IfOk, List, None, length};
+ghost use Rattle.std.specs.Option.{option_map, option_or};
+ghost use Rattle.blue_rules.specs.Rounds.{type_clash, too_deep, settled};
+ghost use Rattle.blue_names.specs.Links.{AreInRange, wires_of_links};
+ghost use Rattle.blue_names.specs.Outs.{IsOuts};
+ghost use Rattle.blue_names.specs.Wiring.{FindsWires, port_of};
+ghost use Rattle.blue_types.specs.Library.{IsKnown};
+ghost use Rattle.blue_types.specs.Net.{IsWired, type_at};
+ghost use Rattle.blue_check.specs.Fitness.{name_at, open_fault, clash_fault, names_fault, ports_fault, plugs_fault, sizes_fault, types_fault};
+
+use crate::fault::CheckFault;
+use blue_core::blueprint::{ChainDecl, Node, WireDecl};
+use blue_names::claims::{plug_twice, taken_twice};
+use blue_names::links::Link;
+use blue_names::names::{unknown_name, unknown_plug};
+use blue_names::ports::{
+    OpenPort, PortTable, port_missing, port_open, port_twice, sources_of, targets_of,
+};
+use blue_names::sizes::{chain_wrong, node_wrong, wire_wrong};
+use blue_rules::spot::Spot;
+use blue_rules::typed::Clash;
+use blue_types::clashes::{too_deep, type_clash};
+use blue_types::library::Library;
+use blue_types::net::{Net, node_at};
+use blue_types::rounds::settle;
+use elem_core::elem_type::ElemType;
+use elem_core::line::Line;
+use elem_core::why::NoMemory;
+use plug_core::head::PlugHead;
+use std::alloc::{AllocError, Global};
+
+/// A place as faults name it; a place that is out of 32 bits is want of memory.
+pub fn numbered(place: usize) -> Result<u32, NoMemory>
+    ensures { IfOk result (λ n. n ≡ place) }
+{
+    match u32::try_from(place) {
+        Ok(number) => Ok(number),
+        Err(_) => Err(AllocError),
+    }
+}
+
+/// The first fault of a name or a file.
+pub fn names_fault(
+    alloc: Global,
+    switches: &[Line],
+    chains: &[ChainDecl],
+    nodes: &[Node],
+    wires: &[WireDecl],
+    taken: &[Line],
+) -> Result<Option<CheckFault>, NoMemory>
+    ensures { IfOk result (λ f. f ≡ names_fault switches.now chains.now nodes.now wires.now taken.now) }
+{
+    if let Some(name) = taken_twice(alloc, switches, chains, nodes, taken)? {
+        return Ok(Some(CheckFault::TwoNames(name.copy(alloc)?)));
+    }
+    match unknown_name(alloc, switches, chains, nodes, wires)? {
+        Some(name) => Ok(Some(CheckFault::NoSuchName(name.copy(alloc)?))),
+        None => Ok(None),
+    }
+}
+
+/// The name of a node; an empty one where there is no such node.
+fn name_at(alloc: Global, nodes: &[Node], i: usize) -> Result<Line, NoMemory>
+    ensures { IfOk result (λ l. l ≡ name_at nodes.now i) }
+{
+    match node_at(nodes, i) {
+        Some(node) => node.name.copy(alloc),
+        None => Ok(Line::of(Vec::new(alloc))),
+    }
+}
+
+/// The fault of an open port.
+fn open_fault(alloc: Global, nodes: &[Node], port: OpenPort) -> Result<CheckFault, NoMemory>
+    ensures { IfOk result (λ f. f ≡ open_fault nodes.now (port_of port)) }
+{
+    Ok(CheckFault::PortOpen(name_at(alloc, nodes, port.node)?, port.output, port.port))
+}
+
+/// The first fault of a port.
+pub fn ports_fault(
+    alloc: Global,
+    nodes: &[Node],
+    links: &[Link],
+    targets: &PortTable,
+) -> Result<Option<CheckFault>, NoMemory>
+    requires { FindsWires targets.now (wires_of_links links.now) }
+    ensures fault { IfOk result (λ f. f ≡ ports_fault nodes.now (wires_of_links links.now)) }
+    ensures in_range { IfOk result (λ f. f ≡ None → AreInRange (length nodes.now) links.now) }
+{
+    if let Some(i) = port_missing(nodes, links) {
+        return Ok(Some(CheckFault::NoSuchPort(numbered(i)?)));
+    }
+    let sources = sources_of(alloc, links)?;
+    if let Some(i) = port_twice(targets, &sources, links) {
+        return Ok(Some(CheckFault::PortTwice(numbered(i)?)));
+    }
+    match port_open(targets, &sources, nodes) {
+        Some(port) => Ok(Some(open_fault(alloc, nodes, port)?)),
+        None => Ok(None),
+    }
+}
+
+/// The first fault of a plug.
+pub fn plugs_fault(
+    alloc: Global,
+    plugs: &[PlugHead],
+    nodes: &[Node],
+) -> Result<Option<CheckFault>, NoMemory>
+    ensures { IfOk result (λ f. f ≡ plugs_fault plugs.now nodes.now) }
+{
+    if let Some(name) = unknown_plug(alloc, plugs, nodes)? {
+        return Ok(Some(CheckFault::NoSuchPlug(name.copy(alloc)?)));
+    }
+    match plug_twice(alloc, plugs, nodes)? {
+        Some(name) => Ok(Some(CheckFault::PlugTwice(name.copy(alloc)?))),
+        None => Ok(None),
+    }
+}
+
+/// The first fault of a size.
+pub fn sizes_fault(
+    chains: &[ChainDecl],
+    nodes: &[Node],
+    wires: &[WireDecl],
+) -> Result<Option<CheckFault>, NoMemory>
+    ensures { IfOk result (λ f. f ≡ sizes_fault chains.now nodes.now wires.now) }
+{
+    if let Some(i) = chain_wrong(chains) {
+        return Ok(Some(CheckFault::BadSize(Spot::Chain(numbered(i)?))));
+    }
+    if let Some(i) = node_wrong(nodes) {
+        return Ok(Some(CheckFault::BadSize(Spot::Node(numbered(i)?))));
+    }
+    match wire_wrong(wires) {
+        Some(i) => Ok(Some(CheckFault::BadSize(Spot::Wire(numbered(i)?)))),
+        None => Ok(None),
+    }
+}
+
+/// The first fault of a type, where the types of nodes have settled.
+fn settled_fault(
+    alloc: Global,
+    library: &Library<'_>,
+    net: &Net<'_>,
+    types: &[Option<ElemType>],
+) -> Result<Option<CheckFault>, NoMemory>
+    requires known { IsKnown library.now }
+    requires wired { IsWired net.now }
+    requires settled { (i : ℕ) → type_at types.now i ≡ settled library.now.plugs.now library.now.chains.now net.now.nodes.now (wires_of_links net.now.links.now) i }
+    ensures { IfOk result (λ f. f ≡ types_fault library.now.plugs.now library.now.chains.now net.now.nodes.now (wires_of_links net.now.links.now)) }
+{
+    match type_clash(alloc, library, net, types)? {
+        Some(clash) => Ok(Some(clash_fault(clash)?)),
+        None => deep_fault(alloc, net.nodes, too_deep(alloc, library, net, types)?),
+    }
+}
+
+/// The fault of a node at which a type would nest too deep, where there is one.
+fn deep_fault(
+    alloc: Global,
+    nodes: &[Node],
+    node: Option<usize>,
+) -> Result<Option<CheckFault>, NoMemory>
+    ensures { IfOk result (λ f. f ≡ option_map (λ i. CheckFault.TooDeep (name_at nodes.now i)) node) }
+{
+    match node {
+        Some(i) => Ok(Some(CheckFault::TooDeep(name_at(alloc, nodes, i)?))),
+        None => Ok(None),
+    }
+}
+
+/// The first fault of a type in a net.
+fn net_fault(
+    alloc: Global,
+    library: &Library<'_>,
+    net: &Net<'_>,
+    outs: &[Vec<usize>],
+) -> Result<Option<CheckFault>, NoMemory>
+    requires known { IsKnown library.now }
+    requires wired { IsWired net.now }
+    requires outs { IsOuts outs.now (wires_of_links net.now.links.now) }
+    ensures { IfOk result (λ f. f ≡ types_fault library.now.plugs.now library.now.chains.now net.now.nodes.now (wires_of_links net.now.links.now)) }
+{
+    let types = settle(alloc, library, net, outs)?;
+    settled_fault(alloc, library, net, &types)
+}
+
+/// The first fault of a type.
+pub fn types_fault(
+    alloc: Global,
+    plugs: &[PlugHead],
+    chains: &[ChainDecl],
+    nodes: &[Node],
+    links: &[Link],
+    targets: &PortTable,
+    outs: &[Vec<usize>],
+) -> Result<Option<CheckFault>, NoMemory>
+    requires targets { FindsWires targets.now (wires_of_links links.now) }
+    requires outs { IsOuts outs.now (wires_of_links links.now) }
+    ensures { IfOk result (λ f. f ≡ types_fault plugs.now chains.now nodes.now (wires_of_links links.now)) }
+{
+    let library = Library::new(alloc, plugs, chains)?;
+    let net = Net {
+        nodes,
+        links,
+        targets,
+    };
+    net_fault(alloc, &library, &net, outs)
+}
+
+/// The fault of a clash.
+fn clash_fault(clash: Clash) -> Result<CheckFault, NoMemory>
+    ensures { IfOk result (λ f. f ≡ clash_fault clash) }
+{
+    let Clash { wire, left, want } = clash;
+    Ok(CheckFault::TypeClash(numbered(wire)?, left, want))
+}

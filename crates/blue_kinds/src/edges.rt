@@ -1,0 +1,124 @@
+// The kinds of the other stages: buffers, recoveries, switches and plugs.
+ghost use Rattle.std.specs.Prelude.{◌≡◌};
+ghost use Rattle.blue_words.specs.Reading.{Reads};
+ghost use Rattle.blue_words.specs.Reading.{made, then_read, name, size};
+ghost use Rattle.stream_model.specs.declared.kind.Kind.TheVariants.{Buffer};
+ghost use Rattle.blue_kinds.specs.Functions.{one_of};
+ghost use Rattle.blue_kinds.specs.Kinds.{policy_word, recover_of, trip_of, order_of, stage_kind};
+
+use crate::folds::said;
+use crate::substreams::read_substreams;
+use blue_words::fault::{LineEnd, Place};
+use blue_words::places::both;
+use blue_words::words::Words;
+use elem_core::line::Line;
+use std::alloc::Global;
+use stream_model::kind::{Kind, Policy};
+
+/// The kind of a stage, by its first word and those behind it. Rule: own.
+pub fn read_stage_kind(
+    alloc: Global,
+    word: &[u8],
+    words: &mut Words,
+) -> Result<Place<Kind>, LineEnd>
+    ensures { Reads result (stage_kind word.now words.old) words.new }
+{
+    if word == b"buffer".as_slice() {
+        return read_buffer(words);
+    }
+    if word == b"recover".as_slice() {
+        return read_recover(alloc, words);
+    }
+    if word == b"valve".as_slice() {
+        return Ok(words.name(alloc)?.map(Kind::Valve));
+    }
+    if word == b"trip".as_slice() {
+        return read_trip(alloc, words);
+    }
+    if word == b"plug".as_slice() {
+        return Ok(words.name(alloc)?.map(Kind::Plug));
+    }
+    read_substreams(alloc, word, words)
+}
+
+fn read_buffer(words: &mut Words) -> Result<Place<Kind>, LineEnd>
+    ensures { Reads result (made (λ r. Buffer r.0 r.1) (then_read (size words.old) (one_of policy_word))) words.new }
+{
+    let size = words.size()?;
+    let policy = read_policy(words)?;
+    Ok(both(size, policy).map(|(n, p)| Kind::Buffer(n, p)))
+}
+
+// What a full buffer does.
+fn read_policy(words: &mut Words) -> Result<Place<Policy>, LineEnd>
+    ensures { Reads result (one_of policy_word words.old) words.new }
+{
+    match words.next() {
+        Some(word) => said(policy_word(word)),
+        None => Err(LineEnd::BadLine),
+    }
+}
+
+// The words of policies.
+fn policy_word(word: &[u8]) -> Option<Policy>
+    ensures { result ≡ policy_word word.now }
+{
+    if word == b"backpressure".as_slice() {
+        return Some(Policy::Backpressure);
+    }
+    if word == b"drop_head".as_slice() {
+        return Some(Policy::DropHead);
+    }
+    if word == b"drop_tail".as_slice() {
+        return Some(Policy::DropTail);
+    }
+    if word == b"drop_buffer".as_slice() {
+        return Some(Policy::DropBuffer);
+    }
+    if word == b"drop_new".as_slice() {
+        return Some(Policy::DropNew);
+    }
+    if word == b"fail".as_slice() {
+        return Some(Policy::Fail);
+    }
+    None
+}
+
+fn read_recover(alloc: Global, words: &mut Words) -> Result<Place<Kind>, LineEnd>
+    ensures { Reads result (recover_of words.old) words.new }
+{
+    let Some(word) = words.next() else {
+        return Err(LineEnd::BadLine);
+    };
+    if word == b"num".as_slice() {
+        return Ok(words.int()?.map(Kind::RecoverNum));
+    }
+    if word == b"text".as_slice() {
+        return Ok(words.word(alloc)?.map(Kind::RecoverText));
+    }
+    Err(LineEnd::BadLine)
+}
+
+fn read_trip(alloc: Global, words: &mut Words) -> Result<Place<Kind>, LineEnd>
+    ensures { Reads result (trip_of (name words.old)) words.new }
+{
+    let switch = words.name(alloc)?;
+    read_order(switch, words)
+}
+
+fn read_order(switch: Place<Line>, words: &mut Words) -> Result<Place<Kind>, LineEnd>
+    ensures { Reads result (order_of switch words.old) words.new }
+{
+    let Some(word) = words.next() else {
+        return Err(LineEnd::BadLine);
+    };
+    if word == b"shutdown".as_slice() {
+        let at = words.size()?;
+        return Ok(both(switch, at).map(|(s, n)| Kind::TripShutdown(s, n)));
+    }
+    if word == b"abort".as_slice() {
+        let at = words.size()?;
+        return Ok(both(switch, at).map(|(s, n)| Kind::TripAbort(s, n)));
+    }
+    Err(LineEnd::BadLine)
+}

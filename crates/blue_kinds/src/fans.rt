@@ -1,0 +1,76 @@
+// The kinds of stages with several outputs or inputs.
+ghost use Rattle.std.specs.Prelude.{◌≡◌};
+ghost use Rattle.blue_words.specs.Reading.{Reads};
+ghost use Rattle.blue_words.specs.Reading.{made, then_read, size};
+ghost use Rattle.stream_model.specs.declared.kind.Kind.TheVariants.{Partition, Interleave};
+ghost use Rattle.blue_kinds.specs.Functions.{map_of};
+ghost use Rattle.blue_kinds.specs.Kinds.{fan_out_kind, fan_in_kind};
+
+use crate::functions::read_map;
+use crate::kinds::read_linear;
+use blue_words::fault::{LineEnd, Place};
+use blue_words::places::both;
+use blue_words::words::Words;
+use std::alloc::Global;
+use stream_model::kind::Kind;
+
+// The stages with several inputs first.
+pub(crate) fn read_fan_in(
+    alloc: Global,
+    word: &[u8],
+    words: &mut Words,
+) -> Result<Place<Kind>, LineEnd>
+    ensures { Reads result (fan_in_kind word.now words.old) words.new }
+{
+    if word == b"merge".as_slice() {
+        return Ok(words.size()?.map(Kind::Merge));
+    }
+    if word == b"concat".as_slice() {
+        return Ok(words.size()?.map(Kind::Concat));
+    }
+    if word == b"interleave".as_slice() {
+        return read_interleave(words);
+    }
+    if word == b"merge_sorted".as_slice() {
+        return Ok(Ok(Kind::MergeSorted));
+    }
+    if word == b"zip".as_slice() {
+        return Ok(Ok(Kind::Zip));
+    }
+    read_fan_out(alloc, word, words)
+}
+
+fn read_interleave(words: &mut Words) -> Result<Place<Kind>, LineEnd>
+    ensures { Reads result (made (λ r. Interleave r.0 r.1) (then_read (size words.old) size)) words.new }
+{
+    let inputs = words.size()?;
+    let segment = words.size()?;
+    Ok(both(inputs, segment).map(|(n, s)| Kind::Interleave(n, s)))
+}
+
+// The stages with several outputs, and then those with one input and one output.
+fn read_fan_out(alloc: Global, word: &[u8], words: &mut Words) -> Result<Place<Kind>, LineEnd>
+    ensures { Reads result (fan_out_kind word.now words.old) words.new }
+{
+    if word == b"broadcast".as_slice() {
+        return Ok(words.size()?.map(Kind::Broadcast));
+    }
+    if word == b"balance".as_slice() {
+        return Ok(words.size()?.map(Kind::Balance));
+    }
+    if word == b"partition".as_slice() {
+        return read_partition(alloc, words);
+    }
+    if word == b"unzip".as_slice() {
+        return Ok(Ok(Kind::Unzip));
+    }
+    read_linear(alloc, word, words)
+}
+
+fn read_partition(alloc: Global, words: &mut Words) -> Result<Place<Kind>, LineEnd>
+    ensures { Reads result (made (λ r. Partition r.0 r.1) (then_read (size words.old) map_of)) words.new }
+{
+    let outputs = words.size()?;
+    let number = read_map(alloc, words)?;
+    Ok(both(outputs, number).map(|(n, f)| Kind::Partition(n, f)))
+}

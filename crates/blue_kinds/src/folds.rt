@@ -1,0 +1,99 @@
+// Expansions, folds and reductions, and words of a table.
+ghost use Rattle.std.specs.Prelude.{◌≡◌, Ok, Err, MatchOption};
+ghost use Rattle.blue_words.specs.Reading.{Reads};
+ghost use Rattle.blue_kinds.specs.Functions.{one_of, expand_word, fold_word, reduce_word};
+
+use blue_words::fault::{LineEnd, Place};
+use blue_words::words::Words;
+use elem_core::function::{Expand, FoldOp, ReduceOp};
+
+// The value of a fixed word, where it has one.
+pub(crate) fn said<T: Drop>(value: Option<T>) -> Result<Place<T>, LineEnd>
+    ensures { MatchOption value (result ≡ Err LineEnd.BadLine) (λ v. result ≡ Ok (Ok v)) }
+{
+    match value {
+        Some(value) => Ok(Ok(value)),
+        None => Err(LineEnd::BadLine),
+    }
+}
+
+// An expansion.
+pub(crate) fn read_expand(words: &mut Words) -> Result<Place<Expand>, LineEnd>
+    ensures { Reads result (one_of expand_word words.old) words.new }
+{
+    match words.next() {
+        Some(word) => said(expand_word(word)),
+        None => Err(LineEnd::BadLine),
+    }
+}
+
+// A fold's step.
+pub(crate) fn read_fold(words: &mut Words) -> Result<Place<FoldOp>, LineEnd>
+    ensures { Reads result (one_of fold_word words.old) words.new }
+{
+    match words.next() {
+        Some(word) => said(fold_word(word)),
+        None => Err(LineEnd::BadLine),
+    }
+}
+
+// A reduction's step.
+pub(crate) fn read_reduce(words: &mut Words) -> Result<Place<ReduceOp>, LineEnd>
+    ensures { Reads result (one_of reduce_word words.old) words.new }
+{
+    match words.next() {
+        Some(word) => said(reduce_word(word)),
+        None => Err(LineEnd::BadLine),
+    }
+}
+
+// The words of expansions.
+fn expand_word(word: &[u8]) -> Option<Expand>
+    ensures { result ≡ expand_word word.now }
+{
+    if word == b"words".as_slice() {
+        return Some(Expand::Words);
+    }
+    if word == b"flat".as_slice() {
+        return Some(Expand::Flat);
+    }
+    if word == b"twice".as_slice() {
+        return Some(Expand::Twice);
+    }
+    None
+}
+
+// The words of folds.
+fn fold_word(word: &[u8]) -> Option<FoldOp>
+    ensures { result ≡ fold_word word.now }
+{
+    if word == b"sum".as_slice() {
+        return Some(FoldOp::Sum);
+    }
+    if word == b"sum_nonneg".as_slice() {
+        return Some(FoldOp::SumNonneg);
+    }
+    if word == b"count".as_slice() {
+        return Some(FoldOp::Count);
+    }
+    if word == b"collect".as_slice() {
+        return Some(FoldOp::Collect);
+    }
+    None
+}
+
+// The words of reductions.
+fn reduce_word(word: &[u8]) -> Option<ReduceOp>
+    ensures { result ≡ reduce_word word.now }
+{
+    if word == b"sum".as_slice() {
+        return Some(ReduceOp::Sum);
+    }
+    if word == b"max".as_slice() {
+        return Some(ReduceOp::Max);
+    }
+    if word == b"min".as_slice() {
+        return Some(ReduceOp::Min);
+    }
+    None
+}

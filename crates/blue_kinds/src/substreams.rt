@@ -1,0 +1,111 @@
+// The kinds of stages that run a chain for each substream.
+ghost use Rattle.std.specs.Prelude.{◌≡◌};
+ghost use Rattle.blue_words.specs.Reading.{Reads};
+ghost use Rattle.blue_words.specs.Reading.{made};
+ghost use Rattle.stream_model.specs.declared.kind.Kind.TheVariants.{SplitWhen, SplitAfter};
+ghost use Rattle.blue_kinds.specs.Functions.{one_of};
+ghost use Rattle.blue_kinds.specs.Kinds.{joining_word, each_chain, split_of, group_of, keys_of, key_of, substream_kind};
+
+use crate::fans::read_fan_in;
+use crate::folds::said;
+use crate::functions::read_map;
+use crate::predicates::read_pred;
+use blue_words::fault::{LineEnd, Place};
+use blue_words::places::both;
+use blue_words::words::Words;
+use elem_core::function::{MapFn, Pred};
+use elem_core::line::Line;
+use std::alloc::Global;
+use stream_model::kind::{Joining, Kind};
+
+// The stages of substreams first.
+pub(crate) fn read_substreams(
+    alloc: Global,
+    word: &[u8],
+    words: &mut Words,
+) -> Result<Place<Kind>, LineEnd>
+    ensures { Reads result (substream_kind word.now words.old) words.new }
+{
+    if word == b"group_by".as_slice() {
+        return read_group(alloc, words);
+    }
+    if word == b"split_when".as_slice() {
+        return Ok(read_split(alloc, words)?.map(|(p, (c, j))| Kind::SplitWhen(p, c, j)));
+    }
+    if word == b"split_after".as_slice() {
+        return Ok(read_split(alloc, words)?.map(|(p, (c, j))| Kind::SplitAfter(p, c, j)));
+    }
+    read_fan_in(alloc, word, words)
+}
+
+fn read_group(alloc: Global, words: &mut Words) -> Result<Place<Kind>, LineEnd>
+    ensures { Reads result (group_of words.old) words.new }
+{
+    let keys = read_keys(alloc, words)?;
+    if words.skip(b"merge") {
+        Ok(keys.map(|(n, (f, c))| Kind::GroupBy(n, f, c)))
+    } else {
+        Err(LineEnd::BadLine)
+    }
+}
+
+// How many keys, the key, and the chain of each.
+fn read_keys(alloc: Global, words: &mut Words) -> Result<Place<(u32, (MapFn, Line))>, LineEnd>
+    ensures { Reads result (keys_of words.old) words.new }
+{
+    let keys = words.size()?;
+    let key = read_key(alloc, words)?;
+    Ok(both(keys, key))
+}
+
+// The key, and the chain of each.
+fn read_key(alloc: Global, words: &mut Words) -> Result<Place<(MapFn, Line)>, LineEnd>
+    ensures { Reads result (key_of words.old) words.new }
+{
+    let key = read_map(alloc, words)?;
+    let chain = read_each(alloc, words)?;
+    Ok(both(key, chain))
+}
+
+// A predicate, a chain, and how its substreams come together.
+fn read_split(alloc: Global, words: &mut Words) -> Result<Place<(Pred, (Line, Joining))>, LineEnd>
+    ensures { Reads result (split_of words.old) words.new }
+{
+    let pred = read_pred(alloc, words)?;
+    let chain = read_each(alloc, words)?;
+    let joining = read_joining(words)?;
+    Ok(both(pred, both(chain, joining)))
+}
+
+fn read_each(alloc: Global, words: &mut Words) -> Result<Place<Line>, LineEnd>
+    ensures { Reads result (each_chain words.old) words.new }
+{
+    if words.skip(b"each") {
+        words.name(alloc)
+    } else {
+        Err(LineEnd::BadLine)
+    }
+}
+
+// How substreams come together.
+fn read_joining(words: &mut Words) -> Result<Place<Joining>, LineEnd>
+    ensures { Reads result (one_of joining_word words.old) words.new }
+{
+    match words.next() {
+        Some(word) => said(joining_word(word)),
+        None => Err(LineEnd::BadLine),
+    }
+}
+
+// The words of joinings.
+fn joining_word(word: &[u8]) -> Option<Joining>
+    ensures { result ≡ joining_word word.now }
+{
+    if word == b"merge".as_slice() {
+        return Some(Joining::Merge);
+    }
+    if word == b"concat".as_slice() {
+        return Some(Joining::Concat);
+    }
+    None
+}

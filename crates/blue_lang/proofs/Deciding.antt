@@ -1,0 +1,210 @@
+-- Kinds with their deciders, and the steps of chains, are read again from their spelling.
+use Rattle.std.proofs.Common.{◌≡◌, ℕ, zero, suc, ◌+◌, ◌≤◌, ◌<◌, Bool, true, false, ◌&&◌, cond, List, [], ◌∷◌, ◌++◌, length, Some, None, Ok, refl, sym, ap, subst, ◌∙◌, append_assoc, append-nil, length-append, arith}
+use Rattle.std.specs.Prelude.{codes}
+use Rattle.std.specs.List.{list_all}
+use Rattle.std.specs.Str.{bytes_eq}
+use Rattle.std.proofs.lemmas.Bool.{and_parts, and_from}
+use Rattle.std.proofs.lemmas.List.Folds.{list_all-append}
+use Rattle.std.proofs.lemmas.Slice.Eq.{bytes_eq-Decides}
+use Rattle.elem_core.specs.declared.why.Decider.{Decider}
+use Rattle.elem_core.specs.declared.why.Decider.TheVariants.{Stop, Resume, Restart}
+use Rattle.stream_model.specs.declared.kind.Kind.{Kind}
+use Rattle.blue_core.specs.declared.blueprint.Step.{Step}
+use Rattle.blue_words.specs.Names.{is_word}
+use Rattle.blue_words.specs.Reading.{At, Reading, at_map, said, made, with_second, then_read, behind_word, begins_with}
+use Rattle.blue_kinds.specs.Functions.{one_of, said_if}
+use Rattle.blue_kinds.specs.Kinds.{decider_word, decider_of, may_decide, linear_kind}
+use Rattle.blue_kinds.specs.Steps.{step_of, later_steps, with_steps, steps_of, chain_of}
+use Rattle.blue_spell.specs.Spaced.{spaced}
+use Rattle.blue_spell.specs.Kinds.{kind_words, decider_words}
+use Rattle.blue_spell.proofs.Spacing.{spaced_append}
+use Rattle.blue_lang.specs.Canonical.{step_words, later_words, steps_words}
+use Rattle.blue_lang.proofs.Respelling.{Words, AllWords, Kept, Respelled, Tabled, none_tabled, row_word, behind_word_respelled, made_of, then_of, second_of, same_value, same_rest, same_place, made_place, some_if_read}
+use Rattle.blue_lang.proofs.Tables.{fixed, one_respelled}
+use Rattle.blue_lang.proofs.KindTables.{linear_tabled}
+
+-- ---- deciders
+abbrev decider_name : Decider → List ℕ
+decider_name Stop = codes "stop"
+decider_name Resume = codes "resume"
+decider_name Restart = codes "restart"
+
+decider_tabled : (w : List ℕ) (ws : Words) → Tabled (fixed decider_word) (λ a. decider_name a ∷ []) w ws (said_if (decider_word w) ws)
+decider_tabled w ws =
+    row_word (fixed decider_word) (λ a. decider_name a ∷ []) w (codes "stop") ws Stop _ (λ _. refl) refl
+    (row_word (fixed decider_word) (λ a. decider_name a ∷ []) w (codes "resume") ws Resume _ (λ _. refl) refl
+    (row_word (fixed decider_word) (λ a. decider_name a ∷ []) w (codes "restart") ws Restart _ (λ _. refl) refl
+    (none_tabled (fixed decider_word) (λ a. decider_name a ∷ []) w ws)))
+
+abbrev named_decider : Words → Reading Decider
+named_decider ws = behind_word (codes "decider") (one_of decider_word) ws
+
+named_decider_respelled : (ws : Words) → Respelled named_decider (λ d. codes "decider" ∷ decider_name d ∷ []) ws (named_decider ws)
+named_decider_respelled ws =
+    behind_word_respelled (codes "decider") (one_of decider_word) (λ d. decider_name d ∷ []) refl (one_respelled decider_word decider_name decider_tabled) ws
+
+-- what is read again behind other words that are no decider
+pub record KeptApart {A : Type 0} (R : Words → Reading A) (spelling : Words) (a : A) (ws rest : Words) : Type 0 where
+  pub again : (more : Words) → begins_with (codes "decider") more ≡ false → R (spelling ++ more) ≡ Some (Ok a, more)
+  pub shorter : length (spaced spelling) + length (spaced rest) ≤ length (spaced ws)
+  pub words : AllWords spelling
+  pub left : AllWords rest
+
+stop_again : (may : Bool) (more : Words) → begins_with (codes "decider") more ≡ false → decider_of may more ≡ Some (Ok Stop, more)
+stop_again true more h = ap (λ b. cond b (named_decider more) (said Stop more)) h
+stop_again false more h = refl
+
+named_kept : (d : Decider) (ws rest : Words) → Kept named_decider (codes "decider" ∷ decider_name d ∷ []) d ws rest → KeptApart (decider_of true) (decider_words d) d ws rest
+named_kept Stop ws rest k =
+    record { again = λ more h. stop_again true more h; shorter = let s = k.shorter in omega arith; words = refl; left = k.left }
+named_kept Resume ws rest k = record { again = λ more h. refl; shorter = k.shorter; words = refl; left = k.left }
+named_kept Restart ws rest k = record { again = λ more h. refl; shorter = k.shorter; words = refl; left = k.left }
+
+decider_kept_at : (may t : Bool) (ws rest : Words) (d : Decider) → (may && begins_with (codes "decider") ws) ≡ t → cond t (named_decider ws) (said Stop ws) ≡ Some (Ok d, rest) → AllWords ws → KeptApart (decider_of may) (decider_words d) d ws rest
+decider_kept_at true true ws rest d e h a = named_kept d ws rest ((named_decider_respelled ws).kept d rest h a)
+decider_kept_at false true ws rest d e h a = absurd (let k : ⊥ = cc in k)
+decider_kept_at may false ws rest d e h a =
+    let s : Stop ≡ d = same_value Stop d ws rest h in
+    let r : ws ≡ rest = same_rest (Ok Stop) (Ok d) ws rest h in
+    subst
+    (λ x. KeptApart (decider_of may) (decider_words x) x ws rest)
+    s
+    (record { again = λ more f. stop_again may more f; shorter = omega (arith, ap (λ x. length (spaced x)) r); words = refl; left = subst AllWords r a })
+
+decider_kept : (may : Bool) (ws rest : Words) (d : Decider) → decider_of may ws ≡ Some (Ok d, rest) → AllWords ws → KeptApart (decider_of may) (decider_words d) d ws rest
+decider_kept may ws rest d h a = decider_kept_at may (may && begins_with (codes "decider") ws) ws rest d refl h a
+
+-- ---- a kind of a table, with its decider
+abbrev pub deciding : (List ℕ → Words → Reading Kind) → Words → Reading (Kind × Decider)
+deciding table [] = None
+deciding table (w ∷ ws) = then_read (table w ws) (decider_of (may_decide w))
+
+abbrev pub decided_words : Kind × Decider → Words
+decided_words r = kind_words r.0 ++ decider_words r.1
+
+pub deciding_kept : (table : List ℕ → Words → Reading Kind) → ((w : List ℕ) (ws : Words) → Tabled table kind_words w ws (table w ws)) → (ws rest : Words) (r : Kind × Decider) → deciding table ws ≡ Some (Ok r, rest) → AllWords ws → KeptApart (deciding table) (decided_words r) r ws rest
+deciding_kept table tabled [] rest r h a = absurd (let k : ⊥ = cc in k)
+deciding_kept table tabled (w ∷ ws) rest r h a =
+    let p = then_of (table w ws) (decider_of (may_decide w)) r rest h in
+    let parts = and_parts (is_word w) (list_all is_word ws) a in
+    let k = (tabled w ws).kept r.0 p.0 p.1 parts.1 in
+    let d = decider_kept (may_decide w) p.0 rest r.1 p.2 k.left in
+    let front : decided_words r ≡ w ∷ (k.tail ++ decider_words r.1) = ap (λ x. x ++ decider_words r.1) k.head in
+    record {
+      again = λ more f. ap (λ x. deciding table (x ++ more)) front ∙ (ap (λ x. then_read (table w x) (decider_of (may_decide w))) (append_assoc k.tail (decider_words r.1) more) ∙ (ap (λ x. then_read x (decider_of (may_decide w))) (k.again (decider_words r.1 ++ more)) ∙ ap (with_second (Ok r.0)) (d.again more f)));
+      shorter = omega (arith, ap (λ x. length (spaced x)) front, length-append w (spaced (k.tail ++ decider_words r.1)), ap length (spaced_append k.tail (decider_words r.1)), length-append (spaced k.tail) (spaced (decider_words r.1)), length-append w (spaced ws), k.shorter, d.shorter);
+      words = ap (list_all is_word) front ∙ and_from _ _ parts.0 (list_all-append is_word k.tail (decider_words r.1) ∙ and_from _ _ k.words d.words);
+      left = d.left;
+    }
+
+-- ---- steps
+abbrev step_from : Kind × Decider → Step
+step_from r = record { kind = r.0; decider = r.1 }
+
+step_is : (ws : Words) → step_of ws ≡ made step_from (deciding linear_kind ws)
+step_is [] = refl
+step_is (w ∷ ws) = refl
+
+step_kept : (ws rest : Words) (s : Step) → step_of ws ≡ Some (Ok s, rest) → AllWords ws → KeptApart step_of (step_words s) s ws rest
+step_kept ws rest s h a =
+    let m = made_of step_from (deciding linear_kind ws) s rest (sym (step_is ws) ∙ h) in
+    let k = deciding_kept linear_kind linear_tabled ws rest m.0 m.1 a in
+    subst
+    (λ x. KeptApart step_of (step_words x) x ws rest)
+    m.2
+    (record {
+      again = λ more f. step_is (decided_words m.0 ++ more) ∙ ap (made step_from) (k.again more f);
+      shorter = k.shorter;
+      words = k.words;
+      left = k.left;
+    })
+
+-- a word stands in every step
+step_some : (s : Step) (ws rest : Words) → KeptApart step_of (step_words s) s ws rest → 0 < length (step_words s)
+step_some s ws rest k = from_words (step_words s) (k.again [] refl)
+  where
+    from_words : (xs : Words) → step_of (xs ++ []) ≡ Some (Ok s, []) → 0 < length xs
+    from_words [] h = absurd (let c : ⊥ = cc in c)
+    from_words (x ∷ xs) h = omega arith
+
+-- the steps of a chain, up to the end of the words
+pub record KeptSteps (ss : List Step) (ws rest : Words) : Type 0 where
+  pub again : (n : ℕ) → length (steps_words ss) ≤ n → steps_of n (steps_words ss) ≡ Some (Ok ss, [])
+  pub some : (later_words ss ≡ codes "|" ∷ steps_words ss) × (0 < length (steps_words ss))
+  pub shorter : length (spaced (steps_words ss)) ≤ length (spaced ws)
+  pub words : AllWords (steps_words ss)
+  pub done : rest ≡ []
+
+one_step : (s : Step) (ws rest : Words) → KeptApart step_of (step_words s) s ws rest → KeptSteps (s ∷ []) ws []
+one_step s ws rest k =
+    let n = step_some s ws rest k in
+    let whole : step_of (step_words s ++ []) ≡ Some (Ok s, []) = k.again [] refl in
+    record {
+      again = λ m l. again m (omega (arith, length-append (step_words s) [])) whole;
+      some = (refl, omega (arith, length-append (step_words s) []));
+      shorter = omega (arith, ap (λ x. length (spaced x)) (append-nil (step_words s)), k.shorter);
+      words = ap (list_all is_word) (append-nil (step_words s)) ∙ k.words;
+      done = refl;
+    }
+  where
+    again : (m : ℕ) → 0 < m → step_of (step_words s ++ []) ≡ Some (Ok s, []) → steps_of m (step_words s ++ []) ≡ Some (Ok (s ∷ []), [])
+    again zero l h = absurd (omega arith)
+    again (suc m) l h = ap (λ r. with_steps r (steps_of m)) h
+
+more_steps : (s : Step) (ts : List Step) (ws vs us : Words) → KeptApart step_of (step_words s) s ws vs → 2 + length (spaced us) ≤ length (spaced vs) → KeptSteps ts us [] → KeptSteps (s ∷ ts) ws []
+more_steps s ts ws vs us k l t =
+    let n = step_some s ws vs k in
+    let words : steps_words (s ∷ ts) ≡ step_words s ++ codes "|" ∷ steps_words ts = ap (λ x. step_words s ++ x) t.some.0 in
+    let first : step_of (step_words s ++ codes "|" ∷ steps_words ts) ≡ Some (Ok s, codes "|" ∷ steps_words ts) = k.again (codes "|" ∷ steps_words ts) refl in
+    let count = length-append (step_words s) (codes "|" ∷ steps_words ts) in
+    record {
+      again = λ m j. ap (steps_of m) words ∙ again m (omega (arith, ap length words, count)) first t.again;
+      some = (refl, omega (arith, ap length words, count));
+      shorter = omega (arith, ap (λ x. length (spaced x)) words, ap length (spaced_append (step_words s) (codes "|" ∷ steps_words ts)), length-append (spaced (step_words s)) (spaced (codes "|" ∷ steps_words ts)), k.shorter, t.shorter);
+      words = ap (list_all is_word) words ∙ (list_all-append is_word (step_words s) (codes "|" ∷ steps_words ts) ∙ and_from _ _ k.words t.words);
+      done = refl;
+    }
+  where
+    again : (m : ℕ) → length (steps_words ts) < m → step_of (step_words s ++ codes "|" ∷ steps_words ts) ≡ Some (Ok s, codes "|" ∷ steps_words ts) → ((n : ℕ) → length (steps_words ts) ≤ n → steps_of n (steps_words ts) ≡ Some (Ok ts, [])) → steps_of m (step_words s ++ codes "|" ∷ steps_words ts) ≡ Some (Ok (s ∷ ts), [])
+    again zero l h f = absurd (omega arith)
+    again (suc m) l h f =
+        ap (λ r. with_steps r (steps_of m)) h ∙ ap (λ r. made (λ q. q.0 ∷ q.1) (with_second (Ok s) r)) (f m (omega arith))
+
+abbrev IsKept : ℕ → Type 0
+IsKept n = (ws rest : Words) (ss : List Step) → steps_of n ws ≡ Some (Ok ss, rest) → AllWords ws → KeptSteps ss ws rest
+
+abbrev one_of_steps : Step → List Step
+one_of_steps s = s ∷ []
+
+abbrev onto_steps : Step × List Step → List Step
+onto_steps q = q.0 ∷ q.1
+
+steps_behind : (n : ℕ) → IsKept n → (ws rest : Words) (ss : List Step) (p : At Step) (vs : Words) → step_of ws ≡ Some (p, vs) → later_steps p (steps_of n) vs ≡ Some (Ok ss, rest) → AllWords ws → KeptSteps ss ws rest
+steps_behind n ih ws rest ss p [] e h a =
+    let m = made_place one_of_steps p ss (same_place (at_map one_of_steps p) (Ok ss) [] rest h) in
+    let step : step_of ws ≡ Some (Ok m.0, []) = e ∙ ap (λ x. Some (x, [])) m.1 in
+    let k = one_step m.0 ws [] (step_kept ws [] m.0 step a) in
+    subst (λ x. KeptSteps x ws rest) m.2 (subst (KeptSteps (m.0 ∷ []) ws) (same_rest (at_map one_of_steps p) (Ok ss) [] rest h) k)
+steps_behind n ih ws rest ss p (v ∷ vs) e h a =
+    let m = made_of onto_steps (with_second p (behind_word (codes "|") (steps_of n) (v ∷ vs))) ss rest h in
+    let q = second_of p (behind_word (codes "|") (steps_of n) (v ∷ vs)) m.0 rest m.1 in
+    let b = some_if_read (bytes_eq v (codes "|")) (steps_of n vs) m.0.1 rest q.1 in
+    let step : step_of ws ≡ Some (Ok m.0.0, v ∷ vs) = e ∙ ap (λ x. Some (x, v ∷ vs)) q.0 in
+    let k = step_kept ws (v ∷ vs) m.0.0 step a in
+    let parts = and_parts (is_word v) (list_all is_word vs) k.left in
+    let t = ih vs rest m.0.1 b.1 parts.1 in
+    let bar : v ≡ codes "|" = (bytes_eq-Decides v (codes "|")).0 b.0 in
+    let room : 2 + length (spaced vs) ≤ length (spaced (v ∷ vs)) = omega (arith, length-append v (spaced vs), ap length bar) in
+    let whole = more_steps m.0.0 m.0.1 ws (v ∷ vs) vs k room (subst (KeptSteps m.0.1 vs) t.done t) in
+    subst (λ x. KeptSteps x ws rest) m.2 (subst (KeptSteps (m.0.0 ∷ m.0.1) ws) (sym t.done) whole)
+
+steps_from : (n : ℕ) → IsKept n → (ws rest : Words) (ss : List Step) (r : Reading Step) → step_of ws ≡ r → with_steps r (steps_of n) ≡ Some (Ok ss, rest) → AllWords ws → KeptSteps ss ws rest
+steps_from n ih ws rest ss None e h a = absurd (let k : ⊥ = cc in k)
+steps_from n ih ws rest ss (Some r) e h a = steps_behind n ih ws rest ss r.0 r.1 e h a
+
+steps_kept : (n : ℕ) → IsKept n
+steps_kept zero ws rest ss h a = absurd (let k : ⊥ = cc in k)
+steps_kept (suc n) ws rest ss h a = steps_from n (steps_kept n) ws rest ss (step_of ws) refl h a
+
+pub chain_kept : (ws rest : Words) (ss : List Step) → chain_of ws ≡ Some (Ok ss, rest) → AllWords ws → KeptSteps ss ws rest
+chain_kept ws rest ss h a = steps_kept (length ws) ws rest ss h a

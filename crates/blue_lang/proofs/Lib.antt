@@ -1,0 +1,13 @@
+pub mod Deciding
+pub mod Declaring
+pub mod KindTables
+pub mod Lexical
+pub mod Lining
+pub mod Printing
+pub mod Reading
+pub mod Respelling
+pub mod Roundtrip
+pub mod SameWords
+pub mod Sorting
+pub mod Tables
+pub mod Texts

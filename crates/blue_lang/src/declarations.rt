@@ -1,0 +1,230 @@
+// What one line declares.
+ghost use Rattle.std.specs.Prelude.{◌≡◌, ◌≤◌, length, IfOk, IsTrue};
+ghost use Rattle.elem_core.specs.Text.{words};
+ghost use Rattle.blue_words.specs.Line.{is_plain};
+ghost use Rattle.blue_words.specs.Reading.{Reads, ReadsAs, at_map};
+ghost use Rattle.blue_lang.specs.Declarations.{port, lane, lane_size, wire_of, end_of, undecided, decided, node_of, chain_words, declaration, declared_by, declared_in};
+ghost use Rattle.blue_kinds.specs.Kinds.{source_kind, sink_kind};
+ghost use Rattle.blue_lang.specs.Plain.{plain_chain, plain_declaration};
+
+use blue_core::blueprint::{ChainDecl, Node, WireDecl};
+use blue_core::limit::DEFAULT_LANE;
+use blue_kinds::decider::{may_decide, read_decider};
+use blue_kinds::edges::read_stage_kind;
+use blue_kinds::kinds::{read_sink, read_source};
+use blue_kinds::steps::read_steps;
+use blue_words::fault::{BlueKind, LineEnd, Place};
+use blue_words::lines::{cut_at, is_plain};
+use blue_words::places::{both, name_place, size_place};
+use blue_words::words::Words;
+use elem_core::line::Line;
+use elem_core::why::{Decider, NoMemory};
+use std::alloc::{AllocError, Global};
+use stream_model::kind::Kind;
+
+/// What a line declares. Rule: own.
+#[derive(Drop)]
+pub(crate) enum Declaration {
+    /// A switch, by its name.
+    Switch(Line),
+    /// A chain.
+    Chain(ChainDecl),
+    /// A source, a stage or a sink.
+    Node(Node),
+    /// A wire.
+    Wire(WireDecl),
+}
+
+// The declaration that a line says that is not passed over, or what is wrong with it.
+pub(crate) fn read_declaration(alloc: Global, line: &[u8]) -> Result<Place<Declaration>, NoMemory>
+    requires { length line.now ≤ 1024 }
+    ensures { IfOk result (λ p. at_map plain_declaration p ≡ declared_in line.now) }
+{
+    if !is_plain(line) {
+        return Ok(Err(BlueKind::BadLine));
+    }
+    let mut words = Words::of(line);
+    read_whole(alloc, &mut words)
+}
+
+fn read_whole(alloc: Global, words: &mut Words) -> Result<Place<Declaration>, NoMemory>
+    ensures { IfOk result (λ p. at_map plain_declaration p ≡ declared_by words.old) }
+{
+    let Some(word) = words.next() else {
+        return Ok(Err(BlueKind::BadLine));
+    };
+    match read_words(alloc, word, words) {
+        Ok(place) => {
+            if words.is_empty() {
+                Ok(place)
+            } else {
+                Ok(Err(BlueKind::BadLine))
+            }
+        }
+        Err(LineEnd::BadLine) => Ok(Err(BlueKind::BadLine)),
+        Err(LineEnd::NoMemory) => Err(AllocError),
+    }
+}
+
+// A declaration, by its first word and those behind it.
+fn read_words(alloc: Global, word: &[u8], words: &mut Words) -> Result<Place<Declaration>, LineEnd>
+    ensures { ReadsAs plain_declaration result (declaration word.now words.old) words.new }
+{
+    if word == b"switch".as_slice() {
+        return Ok(words.name(alloc)?.map(Declaration::Switch));
+    }
+    if word == b"chain".as_slice() {
+        return Ok(read_chain(alloc, words)?.map(Declaration::Chain));
+    }
+    if word == b"source".as_slice() {
+        return Ok(read_source_node(alloc, words)?.map(Declaration::Node));
+    }
+    if word == b"stage".as_slice() {
+        return Ok(read_stage_node(alloc, words)?.map(Declaration::Node));
+    }
+    if word == b"sink".as_slice() {
+        return Ok(read_sink_node(alloc, words)?.map(Declaration::Node));
+    }
+    if word == b"wire".as_slice() {
+        return Ok(read_wire(alloc, words)?.map(Declaration::Wire));
+    }
+    Err(LineEnd::BadLine)
+}
+
+fn read_chain(alloc: Global, words: &mut Words) -> Result<Place<ChainDecl>, LineEnd>
+    ensures { ReadsAs plain_chain result (chain_words words.old) words.new }
+{
+    let name = words.name(alloc)?;
+    let steps = read_steps(alloc, words)?;
+    Ok(both(name, steps).map(|(name, steps)| ChainDecl { name, steps }))
+}
+
+fn read_source_node(alloc: Global, words: &mut Words) -> Result<Place<Node>, LineEnd>
+    ensures { Reads result (node_of (undecided source_kind) words.old) words.new }
+{
+    let name = words.name(alloc)?;
+    let kind = read_source_kind(alloc, words)?;
+    Ok(both(name, kind).map(|(name, (kind, decider))| Node {
+        name,
+        kind,
+        decider,
+    }))
+}
+
+fn read_source_kind(alloc: Global, words: &mut Words) -> Result<Place<(Kind, Decider)>, LineEnd>
+    ensures { Reads result (undecided source_kind words.old) words.new }
+{
+    let Some(word) = words.next() else {
+        return Err(LineEnd::BadLine);
+    };
+    let kind = read_source(alloc, word, words)?;
+    Ok(kind.map(|kind| (kind, Decider::Stop)))
+}
+
+fn read_sink_node(alloc: Global, words: &mut Words) -> Result<Place<Node>, LineEnd>
+    ensures { Reads result (node_of (undecided sink_kind) words.old) words.new }
+{
+    let name = words.name(alloc)?;
+    let kind = read_sink_kind(alloc, words)?;
+    Ok(both(name, kind).map(|(name, (kind, decider))| Node {
+        name,
+        kind,
+        decider,
+    }))
+}
+
+fn read_sink_kind(alloc: Global, words: &mut Words) -> Result<Place<(Kind, Decider)>, LineEnd>
+    ensures { Reads result (undecided sink_kind words.old) words.new }
+{
+    let Some(word) = words.next() else {
+        return Err(LineEnd::BadLine);
+    };
+    let kind = read_sink(alloc, word, words)?;
+    Ok(kind.map(|kind| (kind, Decider::Stop)))
+}
+
+fn read_stage_node(alloc: Global, words: &mut Words) -> Result<Place<Node>, LineEnd>
+    ensures { Reads result (node_of decided words.old) words.new }
+{
+    let name = words.name(alloc)?;
+    let kind = read_decided(alloc, words)?;
+    Ok(both(name, kind).map(|(name, (kind, decider))| Node {
+        name,
+        kind,
+        decider,
+    }))
+}
+
+// A stage's kind and its decider.
+fn read_decided(alloc: Global, words: &mut Words) -> Result<Place<(Kind, Decider)>, LineEnd>
+    ensures { Reads result (decided words.old) words.new }
+{
+    let Some(word) = words.next() else {
+        return Err(LineEnd::BadLine);
+    };
+    let kind = read_stage_kind(alloc, word, words)?;
+    let decider = read_decider(may_decide(word), words)?;
+    Ok(both(kind, decider))
+}
+
+fn read_wire(alloc: Global, words: &mut Words) -> Result<Place<WireDecl>, LineEnd>
+    ensures { Reads result (wire_of words.old) words.new }
+{
+    let start = read_port(alloc, words)?;
+    let end = read_end(alloc, words)?;
+    let lane = read_lane(words)?;
+    Ok(both(start, both(end, lane)).map(|((from, output), ((to, input), lane))| WireDecl {
+        from,
+        output,
+        to,
+        input,
+        lane,
+    }))
+}
+
+// An output or an input: a node's name, and behind the first point the number.
+fn read_port(alloc: Global, words: &mut Words) -> Result<Place<(Line, u32)>, LineEnd>
+    ensures { Reads result (port words.old) words.new }
+{
+    let Some(word) = words.next() else {
+        return Err(LineEnd::BadLine);
+    };
+    match cut_at(word, b'.') {
+        Some((name, number)) => Ok(both(name_place(alloc, name)?, size_place(number))),
+        None => Err(LineEnd::BadLine),
+    }
+}
+
+// The input that a wire goes to, behind `->`.
+fn read_end(alloc: Global, words: &mut Words) -> Result<Place<(Line, u32)>, LineEnd>
+    ensures { Reads result (end_of words.old) words.new }
+{
+    if words.skip(b"->") {
+        read_port(alloc, words)
+    } else {
+        Err(LineEnd::BadLine)
+    }
+}
+
+// Whether a wire has a lane, and its size.
+fn read_lane(words: &mut Words) -> Result<Place<Option<u32>>, LineEnd>
+    ensures { Reads result (lane words.old) words.new }
+{
+    let Some(word) = words.next() else {
+        return Ok(Ok(None));
+    };
+    if word == b"async".as_slice() {
+        read_lane_size(words)
+    } else {
+        Err(LineEnd::BadLine)
+    }
+}
+
+fn read_lane_size(words: &mut Words) -> Result<Place<Option<u32>>, LineEnd>
+    ensures { Reads result (lane_size words.old) words.new }
+{
+    match words.next() {
+        Some(word) => Ok(size_place(word).map(Some)),
+        None => Ok(Ok(Some(DEFAULT_LANE))),
+    }
+}

@@ -1,0 +1,6 @@
+pub mod ClaimTables
+pub mod InRange
+pub mod NameTables
+pub mod OpenPorts
+pub mod OutRows
+pub mod PortTables

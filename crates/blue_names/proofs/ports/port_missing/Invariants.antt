@@ -1,0 +1,10 @@
+use Rattle.std.proofs.Common.{◌≡◌, ◌||◌, drop}
+use Rattle.std.specs.Prelude.{slice_get}
+use Rattle.blue_rules.specs.First.{first_from, when}
+use Rattle.blue_rules.specs.Ports.{port_missing, lacks_output, lacks_input}
+use Rattle.blue_names.specs.Links.{wires_of_links}
+use Rattle.blue_names.proofs.ports.port_missing.Given as goal
+
+abbrev pub invariant-loop-i : goal.invariant-loop-i
+invariant-loop-i l = port_missing l.nodes (wires_of_links l.links)
+    ≡ first_from (λ i w. when (lacks_output (slice_get l.nodes w.from) w.output || lacks_input (slice_get l.nodes w.to) w.input) i) l.i (wires_of_links (drop l.i l.links))

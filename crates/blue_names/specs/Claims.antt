@@ -1,0 +1,19 @@
+-- Claims as the rules see them, and what tables of the names and files that are taken know.
+use Rattle.std.specs.Prelude.{◌≡◌, ℕ, List, is_some}
+use Rattle.std.specs.BTreeMap.{BTreeMap}
+use Rattle.std.specs.List.{list_any}
+use denote.Ref.{Bor}
+use Rattle.blue_rules.specs.Names as rule
+use Rattle.blue_names.specs.declared.claims.Claim.{Claim}
+use Rattle.blue_names.specs.declared.claims.Claim.TheVariants.{Called, Opens}
+use Rattle.blue_names.specs.Table.{number_in}
+
+-- a claim by its text
+abbrev pub claim_of : Claim → rule.Claim
+claim_of (Called l) = rule.called l.now
+claim_of (Opens l) = rule.opens l.now
+
+-- the tables have just the names and the files among these claims
+pub record Knows (names files : BTreeMap (Bor (List ℕ)) ℕ) (before : List rule.Claim) : Type 0 where
+  pub named : (q : List ℕ) → is_some (number_in names q) ≡ list_any (rule.same_claim (rule.called q)) before
+  pub opened : (q : List ℕ) → is_some (number_in files q) ≡ list_any (rule.same_claim (rule.opens q)) before

@@ -1,0 +1,5 @@
+pub mod Table
+pub mod Claims
+pub mod Links
+pub mod Wiring
+pub mod Outs

@@ -1,0 +1,238 @@
+// What is taken twice: names, files and plugs.
+ghost use Rattle.std.specs.Prelude.{◌≡◌, ℕ, List, [], ◌∷◌, ◌++◌, IfOk, OnOk, map, not};
+ghost use Rattle.std.specs.List.{list_any};
+ghost use Rattle.std.specs.Option.{option_map, option_or};
+ghost use Rattle.blue_rules.specs.Names.{Claim as Taking, same_claim, first_again, text_of, claims_of_nodes, plugs_of_nodes, taken_twice, plug_twice, called, opens, opening, calling, file_of, plug_of};
+ghost use Rattle.blue_names.specs.Claims.{claim_of, Knows};
+
+use crate::table::{NameTable, note};
+use blue_core::blueprint::{ChainDecl, Node};
+use elem_core::line::Line;
+use elem_core::why::NoMemory;
+use plug_core::head::PlugHead;
+use std::alloc::Global;
+use std::collections::BTreeMap;
+use stream_model::kind::Kind;
+
+/// What a declaration takes for itself.
+#[derive(Clone, Copy)]
+pub enum Claim<'a> {
+    /// A name.
+    Called(&'a Line),
+    /// A file.
+    Opens(&'a Line),
+}
+
+/// The names and files that are taken so far.
+#[derive(Drop)]
+pub struct Taken<'a> {
+    /// The names.
+    pub names: NameTable<'a>,
+    /// The files.
+    pub files: NameTable<'a>,
+}
+
+impl<'a> Claim<'a> {
+    /// The name or the file.
+    pub fn line(self) -> &'a Line
+        ensures { result.now ≡ text_of (claim_of self.entry) }
+    {
+        match self {
+            Claim::Called(line) => line,
+            Claim::Opens(line) => line,
+        }
+    }
+}
+
+impl<'a> Taken<'a> {
+    ghost use Rattle.blue_names.specs.Claims.{claim_of, Knows};
+
+    /// Nothing is taken.
+    pub fn new(alloc: Global) -> Self
+        ensures { Knows result.names result.files [] }
+    {
+        Taken {
+            names: BTreeMap::new(alloc),
+            files: BTreeMap::new(alloc),
+        }
+    }
+
+    /// Takes what is claimed, and says whether it was free.
+    pub fn take(&mut self, claim: Claim<'a>) -> Result<bool, NoMemory>
+        ensures free { (before : List Taking) → Knows self.old.names self.old.files before → IfOk result (λ free. free ≡ not (list_any (same_claim (claim_of claim.entry)) before)) }
+        ensures taken { (before : List Taking) → Knows self.old.names self.old.files before → OnOk result (Knows self.new.names self.new.files (claim_of claim.entry ∷ before)) }
+    {
+        match claim {
+            Claim::Called(name) => note(&mut self.names, name, 0),
+            Claim::Opens(file) => note(&mut self.files, file, 0),
+        }
+    }
+}
+
+/// The files that are taken by others.
+fn taken_files<'a>(alloc: Global, files: &'a [Line]) -> Result<Taken<'a>, NoMemory>
+    ensures { IfOk result (λ taken. Knows taken.names taken.files (map opens files.now)) }
+{
+    let mut taken = Taken::new(alloc);
+    for file in files {
+        let _ = taken.take(Claim::Opens(file))?;
+    }
+    Ok(taken)
+}
+
+/// The text of the first claim that was made before, also by these files.
+fn first_again<'a>(
+    alloc: Global,
+    files: &'a [Line],
+    claims: &[Claim<'a>],
+) -> Result<Option<&'a Line>, NoMemory>
+    ensures { IfOk result (λ again. option_map (λ l. l.now) again ≡ first_again (map opens files.now) (map claim_of claims.now)) }
+{
+    let mut taken = taken_files(alloc, files)?;
+    for claim in claims {
+        if !taken.take(*claim)? {
+            return Ok(Some(claim.line()));
+        }
+    }
+    Ok(None)
+}
+
+/// The file that a source or a sink opens.
+pub fn file_of(kind: &Kind) -> Option<&Line>
+    ensures { option_map (λ l. l.now) result ≡ file_of kind.now }
+{
+    match kind {
+        Kind::Lines(file) | Kind::ToLines(file) | Kind::Head(file) | Kind::Last(file) => Some(file),
+        _ => None,
+    }
+}
+
+/// The plug that a node names.
+pub fn plug_of(kind: &Kind) -> Option<&Line>
+    ensures { option_map (λ l. l.now) result ≡ plug_of kind.now }
+{
+    match kind {
+        Kind::Plug(name) => Some(name),
+        _ => None,
+    }
+}
+
+/// Adds the names of the switches.
+fn add_switches<'a>(claims: &mut Vec<Claim<'a>>, switches: &'a [Line]) -> Result<(), NoMemory>
+    ensures { OnOk result (map claim_of claims.new.items ≡ map claim_of claims.old.items ++ map called switches.now) }
+{
+    for name in switches {
+        claims.push(Claim::Called(name))?;
+    }
+    Ok(())
+}
+
+/// Adds the names of the chains.
+fn add_chains<'a>(claims: &mut Vec<Claim<'a>>, chains: &'a [ChainDecl]) -> Result<(), NoMemory>
+    ensures { OnOk result (map claim_of claims.new.items ≡ map claim_of claims.old.items ++ map (λ c. called c.name) chains.now) }
+{
+    for chain in chains {
+        claims.push(Claim::Called(&chain.name))?;
+    }
+    Ok(())
+}
+
+/// Adds the names of the plugs.
+fn add_plugs<'a>(claims: &mut Vec<Claim<'a>>, plugs: &'a [PlugHead]) -> Result<(), NoMemory>
+    ensures { OnOk result (map claim_of claims.new.items ≡ map claim_of claims.old.items ++ map (λ p. called p.name) plugs.now) }
+{
+    for plug in plugs {
+        claims.push(Claim::Called(&plug.name))?;
+    }
+    Ok(())
+}
+
+/// Adds a file, where there is one.
+fn add_file<'a>(claims: &mut Vec<Claim<'a>>, file: Option<&'a Line>) -> Result<(), NoMemory>
+    ensures { (rest : List Taking) → OnOk result (map claim_of claims.new.items ++ rest ≡ map claim_of claims.old.items ++ opening (option_map (λ l. l.now) file.entry) rest) }
+{
+    if let Some(file) = file {
+        claims.push(Claim::Opens(file))?;
+    }
+    Ok(())
+}
+
+/// Adds a name, where there is one.
+fn add_name<'a>(claims: &mut Vec<Claim<'a>>, name: Option<&'a Line>) -> Result<(), NoMemory>
+    ensures { (rest : List Taking) → OnOk result (map claim_of claims.new.items ++ rest ≡ map claim_of claims.old.items ++ calling (option_map (λ l. l.now) name.entry) rest) }
+{
+    if let Some(name) = name {
+        claims.push(Claim::Called(name))?;
+    }
+    Ok(())
+}
+
+/// Adds the names and the files of the nodes.
+fn add_nodes<'a>(claims: &mut Vec<Claim<'a>>, nodes: &'a [Node]) -> Result<(), NoMemory>
+    ensures { OnOk result (map claim_of claims.new.items ≡ map claim_of claims.old.items ++ claims_of_nodes nodes.now) }
+{
+    for node in nodes {
+        claims.push(Claim::Called(&node.name))?;
+        add_file(claims, file_of(&node.kind))?;
+    }
+    Ok(())
+}
+
+/// Adds the plugs that the nodes name.
+fn add_uses<'a>(claims: &mut Vec<Claim<'a>>, nodes: &'a [Node]) -> Result<(), NoMemory>
+    ensures { OnOk result (map claim_of claims.new.items ≡ map claim_of claims.old.items ++ plugs_of_nodes nodes.now) }
+{
+    for node in nodes {
+        add_name(claims, plug_of(&node.kind))?;
+    }
+    Ok(())
+}
+
+/// The first name or file that is taken twice: a file also where others took it.
+pub fn taken_twice<'a>(
+    alloc: Global,
+    switches: &'a [Line],
+    chains: &'a [ChainDecl],
+    nodes: &'a [Node],
+    files: &'a [Line],
+) -> Result<Option<&'a Line>, NoMemory>
+    ensures { IfOk result (λ again. option_map (λ l. l.now) again ≡ taken_twice switches.now chains.now nodes.now files.now) }
+{
+    let mut claims = Vec::new(alloc);
+    add_switches(&mut claims, switches)?;
+    add_chains(&mut claims, chains)?;
+    add_nodes(&mut claims, nodes)?;
+    first_again(alloc, files, &claims)
+}
+
+/// The first name that two plugs have.
+fn named_twice<'a>(alloc: Global, plugs: &'a [PlugHead]) -> Result<Option<&'a Line>, NoMemory>
+    ensures { IfOk result (λ again. option_map (λ l. l.now) again ≡ first_again [] (map (λ p. called p.name) plugs.now)) }
+{
+    let mut claims = Vec::new(alloc);
+    add_plugs(&mut claims, plugs)?;
+    first_again(alloc, &[], &claims)
+}
+
+/// The first plug that two nodes name.
+fn used_twice<'a>(alloc: Global, nodes: &'a [Node]) -> Result<Option<&'a Line>, NoMemory>
+    ensures { IfOk result (λ again. option_map (λ l. l.now) again ≡ first_again [] (plugs_of_nodes nodes.now)) }
+{
+    let mut claims = Vec::new(alloc);
+    add_uses(&mut claims, nodes)?;
+    first_again(alloc, &[], &claims)
+}
+
+/// The first name that two plugs have, or else the first plug that two nodes name.
+pub fn plug_twice<'a>(
+    alloc: Global,
+    plugs: &'a [PlugHead],
+    nodes: &'a [Node],
+) -> Result<Option<&'a Line>, NoMemory>
+    ensures { IfOk result (λ again. option_map (λ l. l.now) again ≡ plug_twice plugs.now nodes.now) }
+{
+    match named_twice(alloc, plugs)? {
+        Some(name) => Ok(Some(name)),
+        None => used_twice(alloc, nodes),
+    }
+}

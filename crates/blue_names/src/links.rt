@@ -1,0 +1,60 @@
+// Wires by the numbers of their nodes.
+ghost use Rattle.std.specs.Prelude.{◌≡◌, ℕ, ◌<◌, ◌≤◌, List, IfOk, map, length, slice_get, Some, Option};
+ghost use Rattle.std.specs.Option.{option_map};
+ghost use Rattle.blue_rules.specs.Links.{number_of, wire_of, wires_of};
+ghost use Rattle.blue_rules.specs.Names.{unknown_end};
+ghost use Rattle.blue_names.specs.Table.{Numbers};
+ghost use Rattle.blue_names.specs.Links.{wire_of_link, wires_of_links};
+
+use crate::table::{NameTable, find, table_of};
+use blue_core::blueprint::{Node, WireDecl};
+use elem_core::line::Line;
+use elem_core::why::NoMemory;
+use std::alloc::Global;
+
+/// A wire by the numbers of its nodes.
+#[derive(Clone, Copy, PartialEq, Eq, Debug)]
+pub struct Link {
+    /// The number of the node whose output it is.
+    pub from: usize,
+    /// Which of that node's outputs.
+    pub output: u32,
+    /// The number of the node whose input it is.
+    pub to: usize,
+    /// Which of that node's inputs.
+    pub input: u32,
+    /// The size of its lane, where it is one.
+    pub lane: Option<u32>,
+}
+
+/// The number of the node of that name, or 0 where there is none.
+fn number_of(table: &NameTable<'_>, name: &Line) -> usize
+    ensures { (nodes : List Node) → Numbers table.now (map (λ n. n.name) nodes) → result ≡ number_of name.now nodes }
+{
+    find(table, name).unwrap_or(0)
+}
+
+/// The wires by the numbers of their nodes.
+pub fn links_of(alloc: Global, nodes: &[Node], wires: &[WireDecl]) -> Result<Vec<Link>, NoMemory>
+    ensures { IfOk result (λ links. wires_of_links links.items ≡ wires_of nodes.now wires.now) }
+{
+    let table = table_of(alloc, nodes)?;
+    let mut links = Vec::new(alloc);
+    for wire in wires {
+        links.push(Link {
+            from: number_of(&table, &wire.from),
+            output: wire.output,
+            to: number_of(&table, &wire.to),
+            input: wire.input,
+            lane: wire.lane,
+        })?;
+    }
+    Ok(links)
+}
+
+/// The wire of that number.
+pub fn link_at(links: &[Link], i: usize) -> Option<Link>
+    ensures { option_map wire_of_link result ≡ slice_get (wires_of_links links.now) i }
+{
+    links.get(i).copied()
+}

@@ -1,0 +1,150 @@
+// Names that are used and not declared.
+ghost use Rattle.std.specs.Prelude.{◌≡◌, ℕ, List, IfOk, map};
+ghost use Rattle.std.specs.Option.{option_map, option_or};
+ghost use Rattle.blue_rules.specs.First.{first_from};
+ghost use Rattle.blue_rules.specs.Names.{missing, unknown_at, unknown_end, unknown_name, unknown_plug, unknown_plug_at, plug_of};
+ghost use Rattle.blue_names.specs.Table.{Numbers};
+
+use crate::claims::plug_of;
+use crate::table::{NameTable, find, table_of};
+use blue_core::blueprint::{ChainDecl, Node, WireDecl};
+use elem_core::line::Line;
+use elem_core::why::NoMemory;
+use plug_core::head::PlugHead;
+use std::alloc::Global;
+use stream_model::kind::Kind;
+
+/// The name, where a table has none of it.
+fn missing<'a>(table: &NameTable<'_>, name: &'a Line) -> Option<&'a Line>
+    ensures { (names : List (List ℕ)) → Numbers table.now names → option_map (λ l. l.now) result ≡ missing name.now names }
+{
+    if find(table, name).is_some() {
+        None
+    } else {
+        Some(name)
+    }
+}
+
+/// A switch or a chain that a node names and that is not declared.
+fn unknown_at<'a>(
+    switches: &NameTable<'_>,
+    chains: &NameTable<'_>,
+    kind: &'a Kind,
+) -> Option<&'a Line>
+    ensures { (ss cs : List (List ℕ)) → Numbers switches.now ss → Numbers chains.now cs → option_map (λ l. l.now) result ≡ unknown_at ss cs kind.now }
+{
+    match kind {
+        Kind::Valve(name) => missing(switches, name),
+        Kind::TripShutdown(name, _) => missing(switches, name),
+        Kind::TripAbort(name, _) => missing(switches, name),
+        Kind::GroupBy(_, _, name) => missing(chains, name),
+        Kind::SplitWhen(_, name, _) => missing(chains, name),
+        Kind::SplitAfter(_, name, _) => missing(chains, name),
+        _ => None,
+    }
+}
+
+/// The first of them among the nodes.
+fn unknown_in_nodes<'a>(
+    switches: &NameTable<'_>,
+    chains: &NameTable<'_>,
+    nodes: &'a [Node],
+) -> Option<&'a Line>
+    ensures { (ss cs : List (List ℕ)) → Numbers switches.now ss → Numbers chains.now cs
+        → option_map (λ l. l.now) result ≡ first_from (λ _ n. unknown_at ss cs n.kind) 0 nodes.now }
+{
+    for node in nodes {
+        if let Some(name) = unknown_at(switches, chains, &node.kind) {
+            return Some(name);
+        }
+    }
+    None
+}
+
+/// A node that a wire names and that is not declared.
+fn unknown_end<'a>(nodes: &NameTable<'_>, wire: &'a WireDecl) -> Option<&'a Line>
+    ensures { (ns : List (List ℕ)) → Numbers nodes.now ns → option_map (λ l. l.now) result ≡ unknown_end ns wire.now }
+{
+    match missing(nodes, &wire.from) {
+        Some(name) => Some(name),
+        None => missing(nodes, &wire.to),
+    }
+}
+
+/// The first of them among the wires.
+fn unknown_in_wires<'a>(nodes: &NameTable<'_>, wires: &'a [WireDecl]) -> Option<&'a Line>
+    ensures { (ns : List (List ℕ)) → Numbers nodes.now ns
+        → option_map (λ l. l.now) result ≡ first_from (λ _ w. unknown_end ns w) 0 wires.now }
+{
+    for wire in wires {
+        if let Some(name) = unknown_end(nodes, wire) {
+            return Some(name);
+        }
+    }
+    None
+}
+
+/// The first node that a wire names and that is not declared.
+fn unknown_node<'a>(
+    alloc: Global,
+    nodes: &[Node],
+    wires: &'a [WireDecl],
+) -> Result<Option<&'a Line>, NoMemory>
+    ensures { IfOk result (λ name. option_map (λ l. l.now) name ≡ first_from (λ _ w. unknown_end (map (λ n. n.name) nodes.now) w) 0 wires.now) }
+{
+    let table = table_of(alloc, nodes)?;
+    Ok(unknown_in_wires(&table, wires))
+}
+
+/// The first name that is used and not declared.
+pub fn unknown_name<'a>(
+    alloc: Global,
+    switches: &[Line],
+    chains: &[ChainDecl],
+    nodes: &'a [Node],
+    wires: &'a [WireDecl],
+) -> Result<Option<&'a Line>, NoMemory>
+    ensures { IfOk result (λ name. option_map (λ l. l.now) name ≡ unknown_name switches.now chains.now nodes.now wires.now) }
+{
+    let switches = table_of(alloc, switches)?;
+    let chains = table_of(alloc, chains)?;
+    match unknown_in_nodes(&switches, &chains, nodes) {
+        Some(name) => Ok(Some(name)),
+        None => unknown_node(alloc, nodes, wires),
+    }
+}
+
+/// The plug that a node names, where it is not handed in.
+fn unknown_plug_at<'a>(plugs: &NameTable<'_>, plug: Option<&'a Line>) -> Option<&'a Line>
+    ensures { (ps : List (List ℕ)) → Numbers plugs.now ps → option_map (λ l. l.now) result ≡ unknown_plug_at ps (option_map (λ l. l.now) plug.entry) }
+{
+    match plug {
+        Some(name) => missing(plugs, name),
+        None => None,
+    }
+}
+
+/// The first of them among the nodes.
+fn unknown_plug_in<'a>(plugs: &NameTable<'_>, nodes: &'a [Node]) -> Option<&'a Line>
+    ensures { (ps : List (List ℕ)) → Numbers plugs.now ps
+        → option_map (λ l. l.now) result ≡ first_from (λ _ n. unknown_plug_at ps (plug_of n.kind)) 0 nodes.now }
+{
+    for node in nodes {
+        if let Some(name) = unknown_plug_at(plugs, plug_of(&node.kind)) {
+            return Some(name);
+        }
+    }
+    None
+}
+
+/// The first plug that a node names and that is not handed in.
+pub fn unknown_plug<'a>(
+    alloc: Global,
+    plugs: &[PlugHead],
+    nodes: &'a [Node],
+) -> Result<Option<&'a Line>, NoMemory>
+    ensures { IfOk result (λ name. option_map (λ l. l.now) name ≡ unknown_plug plugs.now nodes.now) }
+{
+    let table = table_of(alloc, plugs)?;
+    Ok(unknown_plug_in(&table, nodes))
+}

@@ -1,0 +1,231 @@
+// Ports that are missing, used twice or open.
+ghost use Rattle.std.specs.Prelude.{◌≡◌, ℕ, ◌<◌, ◌≤◌, List, IfOk, OnOk, map, length, slice_get, Some, Option, ◌==◌, ◌&&◌, ◌||◌, not, is_none, IfNone};
+ghost use Rattle.std.specs.BTreeMap as tree;
+ghost use Rattle.std.specs.Ordering.{nat_cmp, ordering_then};
+ghost use Rattle.stream_model.specs.Composed.{inputs_of, count_from};
+ghost use Rattle.stream_model.specs.Graph.{Wire, find_wire, find_source};
+ghost use Rattle.stream_picture.specs.View.{outputs_of};
+ghost use Rattle.blue_rules.specs.First.{first_from, when};
+ghost use Rattle.std.specs.Option.{option_or, option_map};
+ghost use Rattle.blue_core.specs.declared.blueprint.Node.{Node as Declared};
+ghost use Rattle.blue_rules.specs.Ports.{port_missing, port_twice, port_open, is_number, open_input, open_output, lacks_input, lacks_output};
+ghost use Rattle.blue_names.specs.Links.{AreInRange, wires_of_links};
+ghost use Rattle.blue_names.specs.Wiring.{found_in, FindsWires, FindsSources, port_of};
+
+use crate::links::Link;
+use blue_core::blueprint::Node;
+use elem_core::why::NoMemory;
+use std::alloc::Global;
+use std::collections::BTreeMap;
+use stream_model::kind::Kind;
+
+/// The number of the wire at each port: a port is the number of its node, and its own.
+pub type PortTable = BTreeMap<(usize, u32), usize>;
+
+/// How many inputs a kind has.
+pub fn inputs_of(kind: &Kind) -> u32
+    ensures { result ≡ inputs_of kind.now }
+{
+    match kind {
+        Kind::Lines(_) | Kind::Range(_, _) | Kind::Empty(_) | Kind::Failed(_) => 0,
+        Kind::Merge(n) => *n,
+        Kind::Concat(n) => *n,
+        Kind::Interleave(n, _) => *n,
+        Kind::MergeSorted | Kind::Zip => 2,
+        _ => 1,
+    }
+}
+
+/// How many outputs a kind has.
+pub fn outputs_of(kind: &Kind) -> u32
+    ensures { result ≡ outputs_of kind.now }
+{
+    match kind {
+        Kind::Broadcast(n) => *n,
+        Kind::Balance(n) => *n,
+        Kind::Partition(n, _) => *n,
+        Kind::Unzip => 2,
+        Kind::ToLines(_) | Kind::Head(_) | Kind::Last(_) | Kind::Ignore => 0,
+        _ => 1,
+    }
+}
+
+/// The wire at a port.
+pub fn wire_at(table: &PortTable, node: usize, port: u32) -> Option<usize>
+    ensures { result ≡ found_in table.now node port }
+{
+    table.get(&(node, port)).copied()
+}
+
+/// Notes the wire of a port that has none yet.
+fn note_port(table: &mut PortTable, node: usize, port: u32, wire: usize) -> Result<(), NoMemory>
+    ensures { OnOk result ((n p : ℕ) → found_in table.new n p ≡ option_or (found_in table.old n p) (when ((node == n) && (port == p)) wire)) }
+{
+    if !table.contains_key(&(node, port)) {
+        table.insert((node, port), wire)?;
+    }
+    Ok(())
+}
+
+/// The wire into each input.
+pub fn targets_of(alloc: Global, links: &[Link]) -> Result<PortTable, NoMemory>
+    ensures { IfOk result (λ table. FindsWires table (wires_of_links links.now)) }
+{
+    let mut table = BTreeMap::new(alloc);
+    for (i, link) in links.iter().enumerate() {
+        note_port(&mut table, link.to, link.input, i)?;
+    }
+    Ok(table)
+}
+
+/// The wire out of each output.
+pub fn sources_of(alloc: Global, links: &[Link]) -> Result<PortTable, NoMemory>
+    ensures { IfOk result (λ table. FindsSources table (wires_of_links links.now)) }
+{
+    let mut table = BTreeMap::new(alloc);
+    for (i, link) in links.iter().enumerate() {
+        note_port(&mut table, link.from, link.output, i)?;
+    }
+    Ok(table)
+}
+
+/// Whether a node has no such output, or is not there.
+fn lacks_output(nodes: &[Node], node: usize, port: u32) -> bool
+    ensures { result ≡ lacks_output (slice_get nodes.now node) port }
+{
+    match nodes.get(node) {
+        None => true,
+        Some(node) => outputs_of(&node.kind) <= port,
+    }
+}
+
+/// Whether a node has no such input, or is not there.
+fn lacks_input(nodes: &[Node], node: usize, port: u32) -> bool
+    ensures { result ≡ lacks_input (slice_get nodes.now node) port }
+{
+    match nodes.get(node) {
+        None => true,
+        Some(node) => inputs_of(&node.kind) <= port,
+    }
+}
+
+/// The first wire that uses a port that its node does not have.
+pub fn port_missing(nodes: &[Node], links: &[Link]) -> Option<usize>
+    ensures first { result ≡ port_missing nodes.now (wires_of_links links.now) }
+    // Where there is none, each end of a wire is a node.
+    ensures in_range { IfNone result (AreInRange (length nodes.now) links.now) }
+{
+    for (i, link) in links.iter().enumerate() {
+        if lacks_output(nodes, link.from, link.output) || lacks_input(nodes, link.to, link.input) {
+            return Some(i);
+        }
+    }
+    None
+}
+
+/// Whether a wire uses a port that an earlier wire uses.
+fn uses_again(targets: &PortTable, sources: &PortTable, i: usize, link: &Link) -> bool
+    ensures { (ws : List Wire) → FindsWires targets.now ws → FindsSources sources.now ws
+        → result ≡ (not (is_number i (find_source link.now.from link.now.output ws)) || not (is_number i (find_wire link.now.to link.now.input ws))) }
+{
+    !is_number(i, wire_at(sources, link.from, link.output))
+        || !is_number(i, wire_at(targets, link.to, link.input))
+}
+
+/// The first wire that uses a port that an earlier wire uses.
+pub fn port_twice(targets: &PortTable, sources: &PortTable, links: &[Link]) -> Option<usize>
+    requires targets { FindsWires targets.now (wires_of_links links.now) }
+    requires sources { FindsSources sources.now (wires_of_links links.now) }
+    ensures { result ≡ port_twice (wires_of_links links.now) }
+{
+    for (i, link) in links.iter().enumerate() {
+        if uses_again(targets, sources, i, link) {
+            return Some(i);
+        }
+    }
+    None
+}
+
+/// Whether it is that number.
+fn is_number(i: usize, found: Option<usize>) -> bool
+    ensures { result ≡ is_number i found }
+{
+    match found {
+        None => true,
+        Some(k) => k == i,
+    }
+}
+
+/// A port without a wire.
+#[derive(Clone, Copy, PartialEq, Eq, Debug)]
+pub struct OpenPort {
+    /// The number of its node.
+    pub node: usize,
+    /// Whether it is an output.
+    pub output: bool,
+    /// Which of the node's outputs or inputs.
+    pub port: u32,
+}
+
+/// The first of so many ports of a node that has no wire.
+fn open_among(table: &PortTable, node: usize, count: u32) -> Option<u32>
+    ensures { result ≡ first_from (λ _ p. when (is_none (found_in table.now node p)) p) 0 (count_from 0 count) }
+{
+    for port in 0..count {
+        if wire_at(table, node, port).is_none() {
+            return Some(port);
+        }
+    }
+    None
+}
+
+/// The first input of a node that has no wire.
+fn open_input(targets: &PortTable, i: usize, kind: &Kind) -> Option<OpenPort>
+    ensures { (n : Declared) (ws : List Wire) → n.kind ≡ kind.now → FindsWires targets.now ws → option_map port_of result ≡ open_input i n ws }
+{
+    match open_among(targets, i, inputs_of(kind)) {
+        Some(port) => Some(OpenPort {
+            node: i,
+            output: false,
+            port,
+        }),
+        None => None,
+    }
+}
+
+/// The first output of a node that has no wire.
+fn open_output(sources: &PortTable, i: usize, kind: &Kind) -> Option<OpenPort>
+    ensures { (n : Declared) (ws : List Wire) → n.kind ≡ kind.now → FindsSources sources.now ws → option_map port_of result ≡ open_output i n ws }
+{
+    match open_among(sources, i, outputs_of(kind)) {
+        Some(port) => Some(OpenPort {
+            node: i,
+            output: true,
+            port,
+        }),
+        None => None,
+    }
+}
+
+/// The first port of a node that has no wire: its inputs come first.
+fn open_at(targets: &PortTable, sources: &PortTable, i: usize, kind: &Kind) -> Option<OpenPort>
+    ensures { (n : Declared) (ws : List Wire) → n.kind ≡ kind.now → FindsWires targets.now ws → FindsSources sources.now ws
+        → option_map port_of result ≡ option_or (open_input i n ws) (open_output i n ws) }
+{
+    match open_input(targets, i, kind) {
+        Some(port) => Some(port),
+        None => open_output(sources, i, kind),
+    }
+}
+
+/// The first port of all that has no wire.
+pub fn port_open(targets: &PortTable, sources: &PortTable, nodes: &[Node]) -> Option<OpenPort>
+    ensures { (ws : List Wire) → FindsWires targets.now ws → FindsSources sources.now ws → option_map port_of result ≡ port_open nodes.now ws }
+{
+    for (i, node) in nodes.iter().enumerate() {
+        if let Some(port) = open_at(targets, sources, i, &node.kind) {
+            return Some(port);
+        }
+    }
+    None
+}

@@ -1,0 +1,10 @@
+pub mod First
+pub mod Names
+pub mod Links
+pub mod Ports
+pub mod Sizes
+pub mod FnTypes
+pub mod StageTypes
+pub mod Rounds
+pub mod Paths
+pub mod Picks

@@ -1,0 +1,113 @@
+-- The rules on names: no name or file is taken twice, each name that is used is declared, and each plug is one of those handed
+-- in and is used once.
+use Rattle.std.specs.Prelude.{ℕ, Bool, false, not, ◌||◌, ◌&&◌, if◌then◌else◌, List, [], ◌∷◌, ◌++◌, map, Option, Some, None}
+use Rattle.std.specs.List.{list_any}
+use Rattle.std.specs.Option.{option_or}
+use Rattle.elem_core.specs.Values.{same_text}
+use Rattle.stream_model.specs.declared.kind.Kind.{Kind}
+use Rattle.stream_model.specs.declared.kind.Kind.TheVariants.{Lines, Valve, TripShutdown, TripAbort, Plug, GroupBy, SplitWhen, SplitAfter, ToLines, Head, Last}
+use Rattle.blue_core.specs.declared.blueprint.Node.{Node}
+use Rattle.blue_core.specs.declared.blueprint.ChainDecl.{ChainDecl}
+use Rattle.blue_core.specs.declared.blueprint.WireDecl.{WireDecl}
+use Rattle.plug_core.specs.declared.head.PlugHead.{PlugHead}
+use Rattle.blue_rules.specs.First.{first_from, when}
+
+-- what a declaration takes for itself: a name, or a file
+pub data Claim : Type 0 where
+  called : List ℕ → Claim
+  opens : List ℕ → Claim
+
+-- its text
+abbrev pub text_of : Claim → List ℕ
+text_of (called name) = name
+text_of (opens file) = file
+
+-- two claims to one name, or to one file
+abbrev pub same_claim : Claim → Claim → Bool
+same_claim (called a) (called b) = same_text a b
+same_claim (opens a) (opens b) = same_text a b
+same_claim _ _ = false
+
+-- the text of the first claim that is among those before it, to which those of `before` count
+abbrev pub first_again : List Claim → List Claim → Option (List ℕ)
+first_again before [] = None
+first_again before (c ∷ cs) = if list_any (same_claim c) before then Some (text_of c) else first_again (c ∷ before) cs
+
+-- the file that a source or a sink opens
+abbrev pub file_of : Kind → Option (List ℕ)
+file_of (Lines file) = Some file
+file_of (ToLines file) = Some file
+file_of (Head file) = Some file
+file_of (Last file) = Some file
+file_of _ = None
+
+-- the claims of a node: its name, and then its file
+abbrev pub opening : Option (List ℕ) → List Claim → List Claim
+opening (Some file) cs = opens file ∷ cs
+opening None cs = cs
+
+abbrev pub claims_of_nodes : List Node → List Claim
+claims_of_nodes [] = []
+claims_of_nodes (n ∷ ns) = called n.name ∷ opening (file_of n.kind) (claims_of_nodes ns)
+
+-- the claims of a blueprint, in order
+abbrev pub claims : List (List ℕ) → List ChainDecl → List Node → List Claim
+claims switches chains nodes = map called switches ++ (map (λ c. called c.name) chains ++ claims_of_nodes nodes)
+
+-- a name or a file that is taken twice; a file that is taken by others counts as taken before
+abbrev pub taken_twice : List (List ℕ) → List ChainDecl → List Node → List (List ℕ) → Option (List ℕ)
+taken_twice switches chains nodes taken = first_again (map opens taken) (claims switches chains nodes)
+
+-- the name is one of these
+abbrev pub is_named : List ℕ → List (List ℕ) → Bool
+is_named name names = list_any (same_text name) names
+
+-- the name, where it is none of these
+abbrev pub missing : List ℕ → List (List ℕ) → Option (List ℕ)
+missing name names = when (not (is_named name names)) name
+
+-- a switch or a chain that a node names and that is not declared
+abbrev pub unknown_at : List (List ℕ) → List (List ℕ) → Kind → Option (List ℕ)
+unknown_at switches chains (Valve name) = missing name switches
+unknown_at switches chains (TripShutdown name n) = missing name switches
+unknown_at switches chains (TripAbort name n) = missing name switches
+unknown_at switches chains (GroupBy n f name) = missing name chains
+unknown_at switches chains (SplitWhen p name j) = missing name chains
+unknown_at switches chains (SplitAfter p name j) = missing name chains
+unknown_at switches chains _ = None
+
+-- a node that a wire names and that is not declared, its source first
+abbrev pub unknown_end : List (List ℕ) → WireDecl → Option (List ℕ)
+unknown_end nodes w = option_or (missing w.from nodes) (missing w.to nodes)
+
+-- the first name that is used and not declared: nodes come before wires
+abbrev pub unknown_name : List (List ℕ) → List ChainDecl → List Node → List WireDecl → Option (List ℕ)
+unknown_name switches chains nodes wires =
+    option_or (first_from (λ _ n. unknown_at switches (map (λ c. c.name) chains) n.kind) 0 nodes)
+    (first_from (λ _ w. unknown_end (map (λ n. n.name) nodes) w) 0 wires)
+
+-- the plug that a node names
+abbrev pub plug_of : Kind → Option (List ℕ)
+plug_of (Plug name) = Some name
+plug_of _ = None
+
+abbrev pub unknown_plug_at : List (List ℕ) → Option (List ℕ) → Option (List ℕ)
+unknown_plug_at plugs (Some name) = missing name plugs
+unknown_plug_at plugs None = None
+
+-- the first plug that is named and not handed in
+abbrev pub unknown_plug : List PlugHead → List Node → Option (List ℕ)
+unknown_plug plugs nodes = first_from (λ _ n. unknown_plug_at (map (λ p. p.name) plugs) (plug_of n.kind)) 0 nodes
+
+abbrev pub calling : Option (List ℕ) → List Claim → List Claim
+calling (Some name) cs = called name ∷ cs
+calling None cs = cs
+
+-- the plugs that nodes name, in order
+abbrev pub plugs_of_nodes : List Node → List Claim
+plugs_of_nodes [] = []
+plugs_of_nodes (n ∷ ns) = calling (plug_of n.kind) (plugs_of_nodes ns)
+
+-- a name that two plugs have, or else a plug that two nodes name
+abbrev pub plug_twice : List PlugHead → List Node → Option (List ℕ)
+plug_twice plugs nodes = option_or (first_again [] (map (λ p. called p.name) plugs)) (first_again [] (plugs_of_nodes nodes))

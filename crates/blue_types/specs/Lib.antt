@@ -1,0 +1,4 @@
+pub mod Library
+pub mod Net
+pub mod News
+pub mod Would

@@ -1,0 +1,5 @@
+pub mod Reaching
+pub mod VisitSteps
+pub mod ClosedWalks
+pub mod Forests
+pub mod ForestLoops

@@ -1,0 +1,4 @@
+pub mod Marks
+pub mod Visits
+pub mod Ranks
+pub mod Forest

@@ -1,0 +1,12 @@
+-- The numbers of faults. Rule: own.
+use Rattle.std.specs.Prelude.{ℕ}
+use Rattle.blue_words.specs.declared.fault.BlueKind.{BlueKind}
+use Rattle.blue_words.specs.declared.fault.BlueKind.TheVariants.{BadVersion, BadLine, BadName, BadNumber, TooLong, TooMany}
+
+abbrev pub number_of_kind : BlueKind → ℕ
+number_of_kind BadVersion = 1
+number_of_kind BadLine = 2
+number_of_kind BadName = 3
+number_of_kind BadNumber = 4
+number_of_kind TooLong = 5
+number_of_kind TooMany = 6

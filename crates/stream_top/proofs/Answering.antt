@@ -176,6 +176,9 @@ module _ (old mid new : FolderState) (tells : IsTrue mid.tells) (same : SameFile
     sent = l.sent;
     rests = l.rests;
     draws = l.draws;
+    lawful = l.lawful;
+    rest = l.rest;
+    matching = l.matching;
   }
 
   abbrev ran_later : (how : EndState) → RanTo mid new b turns a how → RanTo old new b turns a how

@@ -9,7 +9,6 @@ use Rattle.elem_core.specs.declared.item.Item.{Item}
 use Rattle.straight_lang.specs.declared.blueprint.Node as straight
 use Rattle.straight_lang.specs.declared.kind.Kind as shape
 use Rattle.straight_lang.specs.declared.kind.Kind.TheVariants.{Map, Filter, Take}
-use Rattle.stream_model.specs.declared.kind.Kind.{Kind}
 use Rattle.stream_model.specs.declared.kind.Kind.TheVariants as kind
 use Rattle.stream_model.specs.declared.outcome.WireCount.{WireCount}
 use Rattle.stream_model.specs.declared.outcome.EndState.{EndState}
@@ -30,7 +29,6 @@ use Rattle.picture_laws.specs.Picture.{counts_of, has_ended, sink_ended, ended_a
 use Rattle.stream_io.specs.Counts.{Rose, Grew}
 use Rattle.stream_io.specs.State.{FolderState, SourceState, DrainState, SameFiles, ClosesSource, ClosesDrain}
 use Rattle.stream_io.specs.Reading.{Reading, FirstTooLong}
-use Rattle.port_core.specs.View.{View}
 use Rattle.wire_core.specs.Cell.{Cell}
 use Rattle.wire_core.specs.Counts.{elements}
 use Rattle.fused_net.specs.Net.{Net, no_wire, wire_at, view_of, took, gave}
@@ -55,7 +53,7 @@ use Rattle.stream_top.specs.Running.{DrawsFirst, LeavesFiles, WritesOf, Runs, Gi
 use Rattle.stream_top.specs.declared.run.Finished.{Finished}
 use Rattle.stream_top.specs.declared.run.Ran.{Ran}
 use Rattle.stream_top.proofs.Quiets.{grew_same, grew_two, quiet_same, quiet_two, rose_by, rose_from_none, same_name}
-use Rattle.stream_top.proofs.Chains.{chain_wire, chain_ranked}
+use Rattle.stream_top.proofs.Chains.{chain_ranked}
 
 -- ---- the wires' counts
 

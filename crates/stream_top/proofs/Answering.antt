@@ -3,9 +3,7 @@ use Rattle.std.proofs.Common.{◌≡◌, ◌≢◌, ℕ, ◌<◌, ◌≤◌, Boo
 use Rattle.std.specs.Prelude.{IsTrue, IsSome, Option, Some, None}
 use Rattle.std.specs.Option.{option_map}
 use Rattle.std.proofs.lemmas.List.{take_all}
-use Rattle.elem_core.specs.declared.why.Cause.{Cause}
 use Rattle.straight_lang.specs.Straight.{Plain, IsStraight, IsNotStraight}
-use Rattle.straight_lang.specs.declared.blueprint.Node.{Node}
 use Rattle.stream_model.specs.declared.outcome.WireCount.{WireCount}
 use Rattle.stream_model.specs.declared.outcome.EndState.{EndState}
 use Rattle.stream_model.specs.declared.outcome.EndState.TheVariants as state
@@ -17,10 +15,9 @@ use Rattle.stream_top.specs.Command.{Asked}
 use Rattle.stream_top.specs.Text.{text_limit, text_of_file, ReadsFile}
 use Rattle.stream_top.specs.Quiet.{Quiet, QuietBut}
 use Rattle.stream_top.specs.Running.{LeavesFiles, WritesOf, Runs}
-use Rattle.stream_top.specs.Outcome.{Says, Blank, RanNothing, RanTo, GaveUp, IsAbsent, EndedRun, EndedBefore, Told, Causes, CausesBefore, RunCauses, SinksOf}
+use Rattle.stream_top.specs.Outcome.{Says, Blank, RanTo, GaveUp, IsAbsent, EndedRun, EndedBefore, Told, Causes, CausesBefore, RunCauses, SinksOf}
 use Rattle.stream_top.specs.declared.outcome.Status.{Status}
 use Rattle.stream_top.specs.declared.outcome.Status.TheVariants as status
-use Rattle.stream_top.specs.declared.outcome.SinkEnd.{SinkEnd}
 use Rattle.stream_top.specs.declared.run.Ran.{Ran}
 use Rattle.stream_top.proofs.Quiets.{grew_two, quiet_two, files_two}
 
@@ -176,6 +173,9 @@ module _ (old mid new : FolderState) (tells : IsTrue mid.tells) (same : SameFile
     sent = l.sent;
     rests = l.rests;
     draws = l.draws;
+    lawful = l.lawful;
+    rest = l.rest;
+    matching = l.matching;
   }
 
   abbrev ran_later : (how : EndState) → RanTo mid new b turns a how → RanTo old new b turns a how

@@ -1,35 +1,30 @@
 -- The island of a straight blueprint: its wiring, and that it is made of the blueprint's graph.
-use Rattle.std.proofs.Common.{◌≡◌, ◌⊎◌, inl, inr, ℕ, zero, suc, ◌+◌, ◌<◌, ◌≤◌, ◌^◌, Bool, false, Some, None, List, [], ◌∷◌, ◌++◌, map, length, slice_get, refl, sym, ap, ◌∙◌, subst, arith, lit<, length-append, add-one}
+use Rattle.std.proofs.Common.{◌≡◌, ◌⊎◌, inl, inr, ℕ, zero, suc, ◌+◌, ◌<◌, ◌≤◌, ◌^◌, Some, List, [], ◌∷◌, ◌++◌, map, length, slice_get, refl, sym, ap, ◌∙◌, subst, arith, add-one}
 use Rattle.std.specs.Prelude.{slice_index_or}
 use Rattle.std.proofs.lemmas.List.{length-map}
-use Rattle.elem_core.specs.declared.why.Decider.TheVariants.{Stop}
 use Rattle.straight_lang.specs.declared.blueprint.Node as straight
 use Rattle.straight_lang.specs.declared.kind.Kind as shape
 use Rattle.straight_lang.specs.declared.kind.Kind.TheVariants.{Map, Filter, Take}
 use Rattle.stream_model.specs.declared.kind.Kind.{Kind}
-use Rattle.stream_model.specs.declared.kind.Kind.TheVariants as kind
-use Rattle.stream_model.specs.declared.outcome.EndState.TheVariants.{Unended}
 use Rattle.stream_model.specs.Graph.{Graph, Wire}
 use Rattle.stream_model.specs.Graph as graph
 use Rattle.stream_model.specs.Composed.{IsRanked}
 use Rattle.stream_io.specs.State.{SourceState}
 use Rattle.stream_io.specs.Reading.{Reading}
-use Rattle.stage_linear.specs.States.{Logic, IsLinear, Begins}
+use Rattle.stage_linear.specs.States.{IsLinear}
 use Rattle.fused_net.proofs.Reading.{same_or_not}
 use Rattle.fused_net.specs.declared.net.Ends.{Ends}
 use Rattle.fused_net.specs.Net.{end_at, no_ends}
 use Rattle.nodes.specs.declared.node.Node.{Node}
-use Rattle.nodes.specs.declared.node.Node.TheVariants as node
 use Rattle.interpreter.specs.declared.parts.Link.{Link}
 use Rattle.interpreter.specs.declared.parts.Seated.{Seated}
 use Rattle.interpreter.specs.declared.parts.Work.{Work}
 use Rattle.interpreter.specs.declared.parts.Work.TheVariants as work
 use Rattle.interpreter.specs.Parts.{ends_of, work_inputs, work_outputs, inputs_at, outputs_at, IsUnused, AllUnused, IsWiring, AreParts, BecomesOf, AllBecome}
 use Rattle.interpreter.proofs.Islands.{same_count}
-use Rattle.run_laws.specs.Made.{FirstReading, FirstLinear, FirstWriting, FirstOf, IsFused, Materializes}
+use Rattle.run_laws.specs.Made.{FirstOf, Materializes}
 use Rattle.stream_top.specs.Chain.{kind_of, stage_of, source_of, sink_of, joint, joints, chain}
 use Rattle.stream_top.specs.Seats.{IsLogic, IsStage, AreStages, source_seat, sink_seat, AreSeats, link, AreLinks, Row}
-use Rattle.stream_top.proofs.Seating.{get_before, get_at}
 
 -- ---- the wiring of a chain of places
 

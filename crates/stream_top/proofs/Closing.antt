@@ -9,7 +9,6 @@ use Rattle.elem_core.specs.declared.item.Item.{Item}
 use Rattle.straight_lang.specs.declared.blueprint.Node as straight
 use Rattle.straight_lang.specs.declared.kind.Kind as shape
 use Rattle.straight_lang.specs.declared.kind.Kind.TheVariants.{Map, Filter, Take}
-use Rattle.stream_model.specs.declared.kind.Kind.{Kind}
 use Rattle.stream_model.specs.declared.kind.Kind.TheVariants as kind
 use Rattle.stream_model.specs.declared.outcome.WireCount.{WireCount}
 use Rattle.stream_model.specs.declared.outcome.EndState.{EndState}
@@ -17,15 +16,19 @@ use Rattle.stream_model.specs.declared.outcome.EndState.TheVariants.{Ended, Fail
 use Rattle.stream_model.specs.Graph.{Graph, Wire}
 use Rattle.stream_model.specs.Graph as graph
 use Rattle.stream_model.specs.Node.{World}
-use Rattle.stream_model.specs.Outlook.{End}
-use Rattle.stream_model.specs.Composed.{sink_outlook, IsRanked}
+use Rattle.stream_model.specs.Outlook.{Outlook, End}
+use Rattle.stream_model.specs.Composed.{composed, sink_outlook, IsRanked}
 use Rattle.stream_model.specs.Sources.{File, whole_lines}
 use Rattle.stream_model.proofs.Compositions.{slice_get-below}
+use Rattle.stream_picture.specs.Lawful.{IsLawful}
+use Rattle.stream_picture.specs.OneWay.{is_sink}
+use Rattle.stream_picture.specs.Rests.{Rests, SinksMatch}
 use Rattle.stream_picture.specs.Shape.{sent_at}
+use Rattle.stream_picture.specs.View.{EachWire, ins}
+use Rattle.picture_laws.specs.Picture.{counts_of, has_ended, sink_ended, ended_at}
 use Rattle.stream_io.specs.Counts.{Rose, Grew}
 use Rattle.stream_io.specs.State.{FolderState, SourceState, DrainState, SameFiles, ClosesSource, ClosesDrain}
 use Rattle.stream_io.specs.Reading.{Reading, FirstTooLong}
-use Rattle.port_core.specs.View.{View}
 use Rattle.wire_core.specs.Cell.{Cell}
 use Rattle.wire_core.specs.Counts.{elements}
 use Rattle.fused_net.specs.Net.{Net, no_wire, wire_at, view_of, took, gave}
@@ -50,7 +53,7 @@ use Rattle.stream_top.specs.Running.{DrawsFirst, LeavesFiles, WritesOf, Runs, Gi
 use Rattle.stream_top.specs.declared.run.Finished.{Finished}
 use Rattle.stream_top.specs.declared.run.Ran.{Ran}
 use Rattle.stream_top.proofs.Quiets.{grew_same, grew_two, quiet_same, quiet_two, rose_by, rose_from_none, same_name}
-use Rattle.stream_top.proofs.Chains.{chain_wire, chain_ranked}
+use Rattle.stream_top.proofs.Chains.{chain_ranked}
 
 -- ---- the wires' counts
 
@@ -199,6 +202,39 @@ module _ {S D : Type 0} (sources : S → SourceState) (drains : D → DrainState
       → (k : ℕ) (n : graph.Node) (first now : Lines S) (u : ℕ) (v : Wire) (bytes : List ℕ) → slice_get g.nodes k ≡ Some n → IsSourceAt net k first now → slice_get g.wires u ≡ Some v → v.from ≡ k
       → (sources first.reader.source).whole ≡ Some bytes → SentLines bytes (sources first.reader.source) (sources now.reader.source) (wire_at net u).wire.sent
 
+  abbrev pub LawfulLaw : Type 0
+  LawfulLaw = (g : Graph) (w : World) (rank : ℕ → ℕ) (net : Net (Node S D)) → Settled node_row (node_law sources drains) net → Materializes sources g net.firsts net.ends
+      → Tells sources g w net → IsRanked g rank → IsLawful g w (counts_of net.wires) (composed g w)
+
+  abbrev pub RestsLaw : Type 0
+  RestsLaw = (g : Graph) (w : World) (rank : ℕ → ℕ) (net : Net (Node S D)) → Settled node_row (node_law sources drains) net → net.queue ≡ [] → Materializes sources g net.firsts net.ends
+      → Tells sources g w net → IsRanked g rank → Rests g w (counts_of net.wires) (composed g w)
+
+  abbrev pub MatchLaw : Type 0
+  MatchLaw = (g : Graph) (w : World) (net : Net (Node S D)) (outlook : ℕ → Outlook) → Settled node_row (node_law sources drains) net → net.queue ≡ [] → Materializes sources g net.firsts net.ends
+      → SinksMatch g w (counts_of net.wires) outlook (ended_at net.nodes)
+
+-- of a chain only the last place has a sink
+stage_no_sink : (k : shape.Kind) → is_sink (kind_of k) ≡ true → ⊥
+stage_no_sink (Map f) e = cc
+stage_no_sink (Filter p) e = cc
+stage_no_sink (Take n) e = cc
+
+sink_last : (stages : List straight.Node) (file : List ℕ) (j : ℕ) (n : graph.Node) → slice_get (map stage_of stages ++ sink_of file ∷ []) j ≡ Some n → is_sink n.kind ≡ true → j ≡ length stages
+sink_last [] file zero n e is = refl
+sink_last [] file (suc j) n e is = absurd cc
+sink_last (s ∷ ss) file zero n e is = let same : stage_of s ≡ n = cc in absurd (stage_no_sink s.kind (ap (λ (x : graph.Node). is_sink x.kind) same ∙ is))
+sink_last (s ∷ ss) file (suc j) n e is = ap suc (sink_last ss file j n e is)
+
+chain_sink : (input : List ℕ) (stages : List straight.Node) (file : List ℕ) (k : ℕ) (n : graph.Node) → slice_get (chain input stages file).nodes k ≡ Some n → is_sink n.kind ≡ true → k ≡ suc (length stages)
+chain_sink input stages file zero n e is = let same : source_of input ≡ n = cc in let never : false ≡ true = ap (λ (x : graph.Node). is_sink x.kind) same ∙ is in absurd cc
+chain_sink input stages file (suc k) n e is = ap suc (sink_last stages file k n e is)
+
+ended_there : {S D : Type 0} (nodes : List (Node S D)) (k : ℕ) (s : Sink D) → slice_get nodes k ≡ Some (node.Writing s) → ended_at nodes k ≡ has_ended s.end
+ended_there [] k s e = absurd cc
+ended_there (x ∷ xs) zero s e = let same : x ≡ node.Writing s = cc in ap sink_ended same
+ended_there (x ∷ xs) (suc k) s e = ended_there xs k s e
+
 ahead_told : (first now : SourceState) (later : List (List ℕ)) (n : ℕ) → first.faults ≡ 0 → ReadsAhead first now later n
     → (now.given ≤ n + 4096) ⊎ ((IsTrue (is_positive now.faults) ⊎ FirstTooLong later) × (now.given ≤ n + (4096 + 65537)))
 ahead_told first now later n none (inl h) = inl h
@@ -216,7 +252,7 @@ draws_told bytes first now items sent none e s = record {
 
 -- ---- what a run leaves
 
-module _ {S D : Type 0} (sources : S → SourceState) (drains : D → DrainState) (tells_law : TellsLaw sources drains) (lines_law : LinesLawOf sources drains) (sent_law : SentLaw sources drains) (rest_law : RestLaw sources drains) (reads_law : ReadsLaw sources drains)
+module _ {S D : Type 0} (sources : S → SourceState) (drains : D → DrainState) (tells_law : TellsLaw sources drains) (lines_law : LinesLawOf sources drains) (sent_law : SentLaw sources drains) (rest_law : RestLaw sources drains) (reads_law : ReadsLaw sources drains) (lawful_law : LawfulLaw sources drains) (rests_law : RestsLaw sources drains) (match_law : MatchLaw sources drains)
     (old mid last new : FolderState) (input : List ℕ) (stages : List straight.Node) (output : List ℕ) (budget : ℕ) (r : Reading S) (d : D) (f : Finished S D) (apart : input ≢ output)
     (opens : OpensEnds old mid input output (sources r.source) (drains d)) (l : Leaves sources drains input stages output budget r d f)
     (source_closed : ClosesSource mid last (sources f.source)) (same_files : SameFiles mid last) (sink_closed : ClosesDrain last new (drains f.drain)) where
@@ -288,6 +324,9 @@ module _ {S D : Type 0} (sources : S → SourceState) (drains : D → DrainState
       let empty : (drains d).holds ≡ Some [] = opens.output_holds (tells_mid h) in
       let w = stands_held l.sink.end (drains d) o law.elems law.in_end l.sink.count law.stands empty in
       let bytes_are : (sources r.source).whole ≡ Some b.0 = whole ∙ b.1 in
+      let file : File = record { bytes = b.0; read = s.given; faulted = is_positive s.faults } in
+      let tells_file : TellsFile (sources r.source) s file = record { bytes = bytes_are; read = refl; faulted = λ rose. positive s.faults (rose_from_none (sources r.source).faults s.faults opens.input_faults rose) } in
+      let told : (world : World) → world.file input ≡ file → Tells sources (chain input stages output) world l.net = λ world is. chain_tells sources drains input stages output budget r d f l world file is tells_file in
       record {
         bytes = b.0;
         input_is = b.1;
@@ -299,10 +338,8 @@ module _ {S D : Type 0} (sources : S → SourceState) (drains : D → DrainState
         faulted = is_positive s.faults;
         rose = λ p. rose_closed input old.rfaults mid.rfaults new.rfaults s.faults opens.rfaults read_last read_last_others (above_none s.faults p);
         tells = λ world is.
-            let file : File = record { bytes = b.0; read = s.given; faulted = is_positive s.faults } in
-            let told : TellsFile (sources r.source) s file = record { bytes = bytes_are; read = refl; faulted = λ rose. positive s.faults (rose_from_none (sources r.source).faults s.faults opens.input_faults rose) } in
             subst (λ (e : EndState). SinkTells (sink_outlook (chain input stages output) world (sink_place stages) (sink_of output)) e w.0) (sym l.end_is)
-            (tells_law (chain input stages output) world (λ i. i) l.net l.settled l.made (chain_tells sources drains input stages output budget r d f l world file is told) (chain_ranked input stages output) (sink_place stages) (sink_of output) (first_sink (sink_place stages) d) l.sink w.0 sink_node l.sink_at empty w.1);
+            (tells_law (chain input stages output) world (λ i. i) l.net l.settled l.made (told world is) (chain_ranked input stages output) (sink_place stages) (sink_of output) (first_sink (sink_place stages) d) l.sink w.0 sink_node l.sink_at empty w.1);
         lines_are = lines_law (chain input stages output) l.net l.settled l.made (sink_place stages) (sink_of output) (first_sink (sink_place stages) d) l.sink w.0 sink_node l.sink_at empty w.1 ∙ sym l.count_is;
         sent =
             subst (λ (e : EndState). SentTo e (sent_at f.wires.items (length stages)) f.count) (sym l.end_is)
@@ -315,6 +352,18 @@ module _ {S D : Type 0} (sources : S → SourceState) (drains : D → DrainState
             ∙ sym l.count_is;
         draws = draws_told b.0 (sources r.source) s (wire_at l.net 0).wire.sent (sent_at f.wires.items 0) opens.input_faults first_wire_count
             (reads_law (chain input stages output) l.net l.settled l.made 0 (source_of input) (first_source r) l.source 0 (joint 0) b.0 refl l.source_at refl refl bytes_are);
+        lawful = λ world is.
+            subst (λ (c : List WireCount). IsLawful (chain input stages output) world c (composed (chain input stages output) world)) (sym l.wires_are)
+            (lawful_law (chain input stages output) world (λ i. i) l.net l.settled l.made (told world is) (chain_ranked input stages output));
+        rest = λ rest world is.
+            subst (λ (c : List WireCount). Rests (chain input stages output) world c (composed (chain input stages output) world)) (sym l.wires_are)
+            (rests_law (chain input stages output) world (λ i. i) l.net l.settled (l.rests rest) l.made (told world is) (chain_ranked input stages output));
+        matching = λ rest world k n at is.
+            let here : k ≡ sink_place stages = chain_sink input stages output k n at is ∙ sym (add-one (length stages)) in
+            let ended : ended_at l.net.nodes k ≡ has_ended f.end = ap (ended_at l.net.nodes) here ∙ ended_there l.net.nodes (sink_place stages) l.sink l.sink_at.at_last ∙ ap has_ended (sym l.end_is) in
+            subst (λ (c : List WireCount). EachWire (λ i. i.shut ≡ has_ended f.end) (ins (chain input stages output) c (composed (chain input stages output) world) k n.kind)) (sym l.wires_are)
+            (subst (λ (e : Bool). EachWire (λ i. i.shut ≡ e) (ins (chain input stages output) (counts_of l.net.wires) (composed (chain input stages output) world) k n.kind)) ended
+            (match_law (chain input stages output) world l.net (composed (chain input stages output) world) l.settled (l.rests rest) l.made k n at is));
       }
 
   pub runs_of : (ran : Ran) → ran.count ≡ f.count → ran.end ≡ f.end → ran.wires.items ≡ f.wires.items → ran.used ≡ f.used → ran.at_rest ≡ f.at_rest → Runs old new input stages output budget ran

@@ -1,5 +1,5 @@
 -- Valid words, text and input and no fault leave the answers of a run.
-use Rattle.std.proofs.Common.{◌≡◌, ℕ, List, ◌⊎◌, inl, inr, refl, sym, ap, ◌∙◌, subst}
+use Rattle.std.proofs.Common.{◌≡◌, ℕ, List, ◌⊎◌, inl, inr, sym, ap, ◌∙◌, subst}
 use Rattle.std.specs.Prelude.{Option, Some, None, IsTrue}
 use Rattle.straight_lang.specs.Straight.{Plain, IsStraight}
 use Rattle.stream_io.specs.State.{FolderState}

@@ -1,5 +1,5 @@
 -- The island of a straight blueprint at its end: it has one source and one sink.
-use Rattle.std.proofs.Common.{◌≡◌, ◌⊎◌, inl, inr, ℕ, zero, suc, ◌+◌, ◌<◌, ◌≤◌, Bool, false, Some, List, [], ◌∷◌, ◌++◌, map, length, slice_get, refl, sym, ap, ◌∙◌, subst, arith, add-one}
+use Rattle.std.proofs.Common.{◌≡◌, ◌⊎◌, inl, inr, ℕ, suc, ◌+◌, ◌<◌, ◌≤◌, Bool, false, Some, List, [], ◌∷◌, map, length, slice_get, refl, sym, ap, ◌∙◌, subst, arith, add-one}
 use Rattle.std.specs.Prelude.{IsTrue, ◌↔◌}
 use Rattle.std.proofs.lemmas.List.{length-map}
 use Rattle.elem_core.specs.declared.item.Item.{Item}
@@ -11,7 +11,6 @@ use Rattle.stream_io.specs.Reading.{Reading}
 use Rattle.stage_linear.specs.States.{Logic}
 use Rattle.port_core.specs.View.{View}
 use Rattle.wire_core.specs.Cell.{Cell}
-use Rattle.fused_net.specs.declared.net.Ends.{Ends}
 use Rattle.fused_net.specs.Net.{Net, view_of, took, gave}
 use Rattle.fused_net.specs.Laws.{Settled, GoesOn}
 use Rattle.fused_net.proofs.Reading.{same_or_not}
@@ -27,9 +26,8 @@ use Rattle.interpreter.specs.declared.parts.Work.TheVariants as work
 use Rattle.interpreter.specs.Parts.{ends_of, number_of, BecomesOf, AllBecome}
 use Rattle.interpreter.specs.Island.{Keeps, count_of, counts_of, sinks_of, readers_of, writers_of}
 use Rattle.stream_model.proofs.Compositions.{slice_get-below}
-use Rattle.run_laws.specs.Made.{Materializes}
-use Rattle.stream_top.specs.Chain.{kind_of, chain, sink_place}
-use Rattle.stream_top.specs.Seats.{IsLogic, AreStages, source_seat, sink_seat, AreSeats, AreLinks, Row}
+use Rattle.stream_top.specs.Chain.{kind_of}
+use Rattle.stream_top.specs.Seats.{IsLogic, AreStages, source_seat, AreSeats, AreLinks, Row}
 use Rattle.stream_top.specs.Ran.{Stops, first_source, first_sink, Leaves}
 use Rattle.stream_top.specs.declared.run.Stopped.{Stopped}
 use Rattle.stream_top.specs.declared.run.Finished.{Finished}

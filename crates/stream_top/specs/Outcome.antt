@@ -1,5 +1,5 @@
 -- What a call answers and what it leaves, status by status.
-use Rattle.std.specs.Prelude.{◌≡◌, ◌≢◌, ℕ, ◌≤◌, ◌⊎◌, Bool, true, false, IsTrue, IsSome, List, [], ◌∷◌, Some, ⊤}
+use Rattle.std.specs.Prelude.{◌≡◌, ◌≢◌, ℕ, ◌≤◌, ◌⊎◌, Bool, true, false, IsSome, List, [], ◌∷◌, Some, ⊤}
 use Rattle.straight_lang.specs.Straight.{Plain, IsStraight}
 use Rattle.elem_core.specs.declared.why.Cause.{Cause}
 use Rattle.stream_model.specs.declared.outcome.EndState.{EndState}
@@ -8,7 +8,7 @@ use Rattle.stream_io.specs.Counts.{Rose}
 use Rattle.stream_io.specs.State.{FolderState, SameFiles, Lacks}
 use Rattle.stream_top.specs.Quiet.{Quiet, QuietBut}
 use Rattle.stream_top.specs.Command.{Asked, command_of}
-use Rattle.stream_top.specs.Running.{LeavesFiles, WritesOf}
+use Rattle.stream_top.specs.Running.{LeavesFiles}
 use Rattle.stream_top.specs.Answer.{Answer}
 use Rattle.stream_top.specs.declared.outcome.Status.{Status}
 use Rattle.stream_top.specs.declared.outcome.Status.TheVariants as status

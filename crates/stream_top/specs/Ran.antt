@@ -1,8 +1,6 @@
 -- What the island of a straight blueprint leaves, by the net of its nodes at its end.
-use Rattle.std.specs.Prelude.{◌≡◌, ℕ, ◌+◌, ◌≤◌, Bool, false, IsTrue, List, [], ◌∷◌, map, length}
+use Rattle.std.specs.Prelude.{◌≡◌, ℕ, ◌≤◌, false, IsTrue, List, [], map}
 use Rattle.straight_lang.specs.declared.blueprint.Node as straight
-use Rattle.stream_model.specs.declared.outcome.WireCount.{WireCount}
-use Rattle.stream_model.specs.declared.outcome.EndState.{EndState}
 use Rattle.stream_model.specs.declared.outcome.EndState.TheVariants.{Unended}
 use Rattle.stream_io.specs.State.{SourceState, DrainState}
 use Rattle.stream_io.specs.Reading.{Reading}

@@ -6,9 +6,12 @@ use Rattle.stream_model.specs.declared.outcome.WireCount.{WireCount}
 use Rattle.stream_model.specs.declared.outcome.EndState.{EndState}
 use Rattle.stream_model.specs.declared.outcome.EndState.TheVariants.{Unended, WriteFault}
 use Rattle.stream_model.specs.Node.{World}
-use Rattle.stream_model.specs.Composed.{sink_outlook}
+use Rattle.stream_model.specs.Composed.{composed, sink_outlook}
 use Rattle.stream_model.specs.Sources.{whole_lines}
+use Rattle.stream_picture.specs.Lawful.{IsLawful}
+use Rattle.stream_picture.specs.Rests.{Rests, SinksMatch}
 use Rattle.stream_picture.specs.Shape.{sent_at}
+use Rattle.picture_laws.specs.Picture.{has_ended}
 use Rattle.stream_io.specs.Counts.{Rose, Grew}
 use Rattle.stream_io.specs.State.{FolderState, SameFiles}
 use Rattle.stream_io.specs.Reading.{FirstTooLong}
@@ -28,7 +31,8 @@ pub record DrawsFirst (bytes : List ℕ) (given : ℕ) (faulted : Bool) (sent : 
   pub ahead : (given ≤ length (ended_lines drawn) + 4096) ⊎ ((IsTrue faulted ⊎ FirstTooLong later) × (given ≤ length (ended_lines drawn) + (4096 + 65537)))
 
 -- The bytes of the input, how many of them were read, whether a read failed, and what the output's file holds then: what the
--- composed outlook of the sink lets it hold, over the input file, and so many whole lines. No other file is changed.
+-- composed outlook of the sink lets it hold, over the input file, and so many whole lines. No other file is changed. The picture
+-- is lawful; and where no event was left it rests, and the sink's input is shut exactly where the sink has ended.
 pub record LeavesFiles (old new : FolderState) (input : List ℕ) (stages : List Node) (output : List ℕ) (end : EndState) (count : ℕ) (wires : List WireCount) (at_rest : Bool) : Type 0 where
   pub bytes : List ℕ
   pub input_is : old.file input ≡ Some bytes
@@ -46,6 +50,10 @@ pub record LeavesFiles (old new : FolderState) (input : List ℕ) (stages : List
   pub sent : SentTo end (sent_at wires (length stages)) count
   pub rests : IsTrue at_rest → end ≡ Unended → sent_at wires (length stages) ≡ count
   pub draws : DrawsFirst bytes given faulted (sent_at wires 0)
+  -- the picture, by the composed outlooks
+  pub lawful : (w : World) → w.file input ≡ record { bytes = bytes; read = given; faulted = faulted } → IsLawful (chain input stages output) w wires (composed (chain input stages output) w)
+  pub rest : IsTrue at_rest → (w : World) → w.file input ≡ record { bytes = bytes; read = given; faulted = faulted } → Rests (chain input stages output) w wires (composed (chain input stages output) w)
+  pub matching : IsTrue at_rest → (w : World) → SinksMatch (chain input stages output) w wires (composed (chain input stages output) w) (λ _. has_ended end)
 
 -- a failed write raised the output's count, and nothing else raised any
 abbrev pub WritesOf : EndState → List ℕ → (List ℕ → ℕ) → (List ℕ → ℕ) → Type 0

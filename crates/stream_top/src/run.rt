@@ -15,6 +15,7 @@ use elem_core::line::Line;
 use elem_core::why::NoMemory;
 use interpreter::island::{Island, IslandEnd};
 use interpreter::parts::Parts;
+use picture_laws::laws::{a_picture_without_events_rests, every_picture_is_lawful};
 use run_laws::laws::{
     every_sink_agrees, every_sink_counts_its_lines, every_source_reads_little_ahead,
 };
@@ -156,6 +157,8 @@ fn close<F: Folder>(folder: &mut F, finished: Finished<F::Inp, F::Out>) -> Ran
     every_sink_agrees::<F::Inp, F::Out>();
     every_sink_counts_its_lines::<F::Inp, F::Out>();
     every_source_reads_little_ahead::<F::Inp, F::Out>();
+    every_picture_is_lawful::<F::Inp, F::Out>();
+    a_picture_without_events_rests::<F::Inp, F::Out>();
     let Finished {
         source,
         drain,

@@ -1,5 +1,5 @@
 -- The goals of `answer::run_file` that the search leaves.
-use Rattle.std.proofs.Common.{ap, subst, Err, sym}
+use Rattle.std.proofs.Common.{ap, subst, Err}
 use Rattle.straight_lang.specs.Straight.{IsStraight, IsNotStraight, plain}
 use Rattle.stream_top.proofs.Answering.{told_unbuilt, told_own_file, told_run, causes_run}
 use Rattle.stream_top.proofs.answer.run_file.Goals as goal

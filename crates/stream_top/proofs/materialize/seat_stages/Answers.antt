@@ -1,7 +1,7 @@
 -- The goals of `materialize::seat_stages` that the search leaves.
-use Rattle.std.proofs.Common.{◌≡◌, ◌+◌, ◌<◌, ◌^◌, length, rules, arith, refl, ap}
+use Rattle.std.proofs.Common.{◌≡◌, ◌+◌, length, rules}
 use Rattle.interpreter.proofs.Tables.{none_left, len_next}
-use Rattle.stream_top.proofs.Seating.{behind_start, behind_next, behind_end, fewer}
+use Rattle.stream_top.proofs.Seating.{behind_next, behind_end, fewer}
 use Rattle.stream_top.proofs.materialize.seat_stages.Goals as goal
 
 pub loop-stage-preserved : goal.loop-stage-preserved

@@ -1,5 +1,5 @@
 -- The goals of `run::run` that the search leaves.
-use Rattle.std.proofs.Common.{sym, subst, ◌∙◌, ap, ◌≤◌, length, rules, arith}
+use Rattle.std.proofs.Common.{sym, subst, ◌≤◌, length, rules}
 use Rattle.stream_top.specs.Opening.{OpensEnds}
 use Rattle.stream_top.specs.Seats.{AreSeats}
 use Rattle.stream_top.proofs.Closing.{gives_up}

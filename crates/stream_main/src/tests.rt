@@ -194,7 +194,12 @@ fn blueprints_run(rt: HostRuntime) -> Result<(), Fail> {
 // How many bytes the first line has; what is said, the code, and the output.
 const LONG_LINES: [(usize, &str, u8, &str); 2] = [
     (65_536, "done\nsink out ended 1\n", 0, "65536\n"),
-    (65_537, "failed\nsink out failed 0 stage 0 nth 1 why 13\n", 3, ""),
+    (
+        65_537,
+        "failed\nsink out failed 0 stage 0 nth 1 why 13\n",
+        3,
+        "",
+    ),
 ];
 
 #[test]
@@ -466,7 +471,12 @@ fn faults_of_first_calls_are_told(rt: HostRuntime) -> Result<(), Fail> {
             Fault::early("log.blue", Op::Read, 2, step, "read fault\n", 7),
             Fault::early("in.txt", Op::OpenIn, 1, step, "missing in.txt\n", 6),
             Fault::early("out.txt", Op::OpenOut, 1, step, "missing out.txt\n", 6),
-            Fault::read(1, step, "failed\nsink out failed 0 stage 0 nth 0 why 12\n", ""),
+            Fault::read(
+                1,
+                step,
+                "failed\nsink out failed 0 stage 0 nth 0 why 12\n",
+                "",
+            ),
             Fault::write(1, step, "write fault\nsink out fault 0\n", ""),
             Fault::no("log.blue", Op::OpenIn, 2, step),
             Fault::no("in.txt", Op::OpenIn, 2, step),

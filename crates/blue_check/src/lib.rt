@@ -10,3 +10,7 @@ mod picks;
 mod rules;
 #[cfg(test)]
 mod tests;
+#[cfg(test)]
+mod tests_of_ports;
+#[cfg(test)]
+mod tests_of_types;

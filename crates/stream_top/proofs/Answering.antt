@@ -1,73 +1,246 @@
 -- From the end of a run to the answer of a call.
-use Rattle.std.proofs.Common.{◌≡◌, ◌≢◌, ℕ, ◌<◌, ◌≤◌, Bool, true, false, List, [], ◌∷◌, ◌⊎◌, inl, inr, refl, sym, ap, ◌∙◌, subst, arith, length, length-take}
-use Rattle.std.specs.Prelude.{IsTrue, IsSome, Option, Some, None}
+use Rattle.std.proofs.Common.{◌≡◌, ◌≢◌, ℕ, zero, suc, ◌+◌, ◌<◌, ◌≤◌, Bool, true, false, List, [], ◌∷◌, ◌++◌, ◌⊎◌, inl, inr, refl, sym, ap, ◌∙◌, subst, arith, length, map, slice_get, length-take}
+use Rattle.std.specs.Prelude.{slice_index_or, IsTrue, IsSome, Option, Some, None, ◌||◌, ◌&&◌, if◌then◌else◌, nat_lt}
 use Rattle.std.specs.Option.{option_map}
-use Rattle.std.proofs.lemmas.List.{take_all}
-use Rattle.straight_lang.specs.Straight.{Plain, IsStraight, IsNotStraight}
+use Rattle.std.specs.List.{All, Contains, list_any, list_all, filter}
+use Rattle.std.proofs.lemmas.List.{take_all, append_assoc, length-map}
+use Rattle.std.proofs.lemmas.Bool.{ltb-false, lt-ltb}
+use Rattle.std.proofs.lemmas.Bool.Decides.{leb_tells}
+use Rattle.elem_core.specs.Text.{lines}
+use Rattle.blue_words.specs.declared.fault.BlueKind.TheVariants.{TooLong}
+use Rattle.stream_model.specs.declared.kind.Kind.TheVariants.{Lines, ToLines}
 use Rattle.stream_model.specs.declared.outcome.WireCount.{WireCount}
 use Rattle.stream_model.specs.declared.outcome.EndState.{EndState}
 use Rattle.stream_model.specs.declared.outcome.EndState.TheVariants as state
 use Rattle.stream_io.specs.Counts.{Rose, Grew}
 use Rattle.stream_io.specs.State.{FolderState, SameFiles}
-use Rattle.stream_top.specs.Answer.{Answer}
-use Rattle.stream_top.specs.AfterRun.{AfterRun, status_after}
+use Rattle.blue_words.specs.declared.fault.BlueFault.{BlueFault}
+use Rattle.blue_core.specs.declared.blueprint.Blueprint.{Blueprint}
+use Rattle.blue_core.specs.declared.blueprint.Node.{Node}
+use Rattle.blue_lang.specs.Blueprints as language
+use Rattle.blue_lang.specs.Plain.{plain}
+use Rattle.blue_check.specs.Fitness.{IsFit}
+use Rattle.materializer.specs.Built.{CanRun, unbuilt_node}
+use Rattle.materializer.specs.Files.{input_of, is_sink, sinks_of_nodes, inputs_of_nodes, outputs_of_nodes}
+use Rattle.run_files.specs.Quiet.{Quiet, QuietBut}
+use Rattle.run_files.specs.Opening.{MissesInput, RefusesOutput, Empties}
+use Rattle.blueprint_run.specs.Drawing.{IsSource, WasRead}
+use Rattle.blueprint_run.specs.Stands.{Stand, sink_places, is_write_fault, is_unended, is_failed}
+use Rattle.blueprint_run.specs.Running.{LeavesFiles, WritesOf, SomeWriteRose, Runs, Wants}
+use Rattle.blueprint_run.specs.declared.run.Ran.{Ran}
+use Rattle.blueprint_run.proofs.Counts.{grew_same, grew_behind}
+use Rattle.blueprint_run.proofs.Places.{contains_at, filtered_at}
+use Rattle.blueprint_run.proofs.Apart.{inputs_untaken, outputs_untaken}
+use Rattle.run_report.specs.Answer.{Answer}
+use Rattle.run_report.specs.declared.outcome.SinkEnd.{SinkEnd}
+use Rattle.run_report.specs.declared.outcome.Status.{Status}
+use Rattle.run_report.specs.declared.outcome.Status.TheVariants as status
+use Rattle.stream_top.specs.AfterRun.{AfterRun, status_after, ends_of, name_of, told_end, told_ends, is_ended, all_ended, some_failed, some_unended, some_fault}
 use Rattle.stream_top.specs.Command.{Asked}
 use Rattle.stream_top.specs.Text.{text_limit, text_of_file, ReadsFile}
-use Rattle.stream_top.specs.Quiet.{Quiet, QuietBut}
-use Rattle.stream_top.specs.Running.{LeavesFiles, WritesOf, Runs}
-use Rattle.stream_top.specs.Outcome.{Says, Blank, RanTo, GaveUp, IsAbsent, EndedRun, EndedBefore, Told, Causes, CausesBefore, RunCauses, SinksOf}
-use Rattle.stream_top.specs.declared.outcome.Status.{Status}
-use Rattle.stream_top.specs.declared.outcome.Status.TheVariants as status
-use Rattle.stream_top.specs.declared.run.Ran.{Ran}
-use Rattle.stream_top.proofs.Quiets.{grew_two, quiet_two, files_two}
+use Rattle.stream_top.specs.Outcome.{SaysFile, SaysFit, SaysBuilt, Blank, RanNothing, RanTo, GaveUp, LacksInput, LacksOutput, IsAbsent, EndedRun, EndedBefore, Told, Causes, CausesBefore, QuietButAll, RunCauses, SinksOf}
+use Rattle.stream_top.specs.Texts.{NotRun, EndedFit, NotFit, EndedParsed, NotSaid, EndedText, AllQuiet, CausesQuiet, CausesFit, CausesText}
+use Rattle.stream_top.proofs.Quiets.{quiet_two, files_two}
+
+-- ---- the ends of sinks
+
+at_name : (front back : List Node) (n : Node) → slice_get (front ++ n ∷ back) (length front) ≡ Some n
+at_name [] back n = refl
+at_name (x ∷ xs) back n = at_name xs back n
+
+-- the names of the sinks and their stands tell of the same as the stands alone
+ends_by : (b : Bool) (all : List Node) (k : ℕ) (n : Node) (ns : List Node) (stands : List Stand) → slice_get all k ≡ Some n
+    → ((later : List Stand) → map (λ (s : Stand). s.0) later ≡ sink_places (k + 1) ns → ends_of (map (λ (m : Node). m.name) (filter is_sink ns)) later ≡ told_ends all later)
+    → map (λ (s : Stand). s.0) stands ≡ (if b then k ∷ sink_places (k + 1) ns else sink_places (k + 1) ns)
+    → ends_of (map (λ (m : Node). m.name) (if b then n ∷ filter is_sink ns else filter is_sink ns)) stands ≡ told_ends all stands
+ends_by false all k n ns stands at later e = later stands e
+ends_by true all k n ns [] at later e = absurd cc
+ends_by true all k n ns (s ∷ ss) at later e =
+    let place : s.0 ≡ k = cc in
+    let rest : map (λ (x : Stand). x.0) ss ≡ sink_places (k + 1) ns = cc in
+    let name : name_of (slice_get all s.0) ≡ n.name = ap (λ (i : ℕ). name_of (slice_get all i)) place ∙ ap name_of at in
+    ap (λ (x : List ℕ). record { name = x; count = s.1; end = s.2 } ∷ ends_of (map (λ (m : Node). m.name) (filter is_sink ns)) ss) (sym name)
+    ∙ ap (λ (l : List SinkEnd). told_end all s ∷ l) (later ss rest)
+
+length_push_back : (xs : List Node) (x : Node) → length xs + 1 ≡ length (xs ++ x ∷ [])
+length_push_back [] x = refl
+length_push_back (y ∷ ys) x = let h : length ys + 1 ≡ length (ys ++ x ∷ []) = length_push_back ys x in omega (arith, h)
+
+ends_along : (all front back : List Node) (stands : List Stand) → all ≡ front ++ back → map (λ (s : Stand). s.0) stands ≡ sink_places (length front) back → ends_of (map (λ (m : Node). m.name) (filter is_sink back)) stands ≡ told_ends all stands
+ends_along all front [] [] is e = refl
+ends_along all front [] (s ∷ ss) is e = absurd cc
+ends_along all front (n ∷ ns) stands is e =
+    ends_by (is_sink n) all (length front) n ns stands (ap (λ (l : List Node). slice_get l (length front)) is ∙ at_name front ns n)
+    (λ later le. ends_along all (front ++ n ∷ []) ns later (is ∙ sym (append_assoc front (n ∷ []) ns)) (le ∙ ap (λ (i : ℕ). sink_places i ns) (length_push_back front n)))
+    e
+
+pub ends_told : (nodes : List Node) (stands : List Stand) → map (λ (s : Stand). s.0) stands ≡ sink_places 0 nodes → ends_of (sinks_of_nodes nodes) stands ≡ told_ends nodes stands
+ends_told nodes stands e = ends_along nodes [] nodes stands refl e
+
+-- there are as many of them
+places_by : (b : Bool) (k : ℕ) (n : Node) (ns : List Node) → length (sink_places (k + 1) ns) ≡ length (sinks_of_nodes ns)
+    → length (if b then k ∷ sink_places (k + 1) ns else sink_places (k + 1) ns) ≡ length (map (λ (m : Node). m.name) (if b then n ∷ filter is_sink ns else filter is_sink ns))
+places_by true k n ns e = omega (arith, e)
+places_by false k n ns e = e
+
+places_count : (k : ℕ) (nodes : List Node) → length (sink_places k nodes) ≡ length (sinks_of_nodes nodes)
+places_count k [] = refl
+places_count k (n ∷ ns) = places_by (is_sink n) k n ns (places_count (k + 1) ns)
+
+pub as_many_stands : (nodes : List Node) (stands : List Stand) → map (λ (s : Stand). s.0) stands ≡ sink_places 0 nodes → length (sinks_of_nodes nodes) ≡ length stands
+as_many_stands nodes stands e = sym (places_count 0 nodes) ∙ ap length (sym e) ∙ length-map stands (λ (s : Stand). s.0)
+
+-- a test of the ends is one of the stands
+any_told : (test : EndState → Bool) (nodes : List Node) (stands : List Stand) → list_any (λ (s : SinkEnd). test s.end) (told_ends nodes stands) ≡ list_any (λ (s : Stand). test s.2) stands
+any_told test nodes [] = refl
+any_told test nodes (s ∷ ss) = ap (λ (b : Bool). test s.2 || b) (any_told test nodes ss)
+
+-- where no sink stands otherwise, every sink has ended
+ended_one : (e : EndState) (b c d : Bool) → is_write_fault e || b ≡ false → is_unended e || c ≡ false → is_failed e || d ≡ false → (is_ended e ≡ true) × ((b ≡ false) × ((c ≡ false) × (d ≡ false)))
+ended_one state.Ended b c d p q r = (refl, (p, (q, r)))
+ended_one (state.Failed x) b c d p q r = absurd cc
+ended_one state.Unended b c d p q r = absurd cc
+ended_one state.WriteFault b c d p q r = absurd cc
+
+and_true : (a b : Bool) → a ≡ true → b ≡ true → a && b ≡ true
+and_true true b e f = f
+and_true false b e f = absurd cc
+
+all_done : (sinks : List SinkEnd) → some_fault sinks ≡ false → some_unended sinks ≡ false → some_failed sinks ≡ false → all_ended sinks ≡ true
+all_done [] p q r = refl
+all_done (s ∷ ss) p q r =
+    let h = ended_one s.end (some_fault ss) (some_unended ss) (some_failed ss) p q r in
+    and_true (is_ended s.end) (all_ended ss) h.0 (all_done ss h.1.0 h.1.1.0 h.1.1.1)
+
+-- some sink stands at a failed write
+fault_by : (s : Stand) (ss : List Stand) (how : EndState) → s.2 ≡ how → is_write_fault how || list_any (λ (x : Stand). is_write_fault x.2) ss ≡ true → (list_any (λ (x : Stand). is_write_fault x.2) ss ≡ true → (i : ℕ) × ((x : Stand) × ((slice_get ss i ≡ Some x) × (x.2 ≡ state.WriteFault))))
+    → (i : ℕ) × ((x : Stand) × ((slice_get (s ∷ ss) i ≡ Some x) × (x.2 ≡ state.WriteFault)))
+fault_by s ss state.WriteFault is e later = (0, (s, (refl, is)))
+fault_by s ss state.Ended is e later = let h = later e in (suc h.0, h.1)
+fault_by s ss (state.Failed c) is e later = let h = later e in (suc h.0, h.1)
+fault_by s ss state.Unended is e later = let h = later e in (suc h.0, h.1)
+
+fault_at : (stands : List Stand) → list_any (λ (s : Stand). is_write_fault s.2) stands ≡ true → (i : ℕ) × ((s : Stand) × ((slice_get stands i ≡ Some s) × (s.2 ≡ state.WriteFault)))
+fault_at [] e = absurd cc
+fault_at (s ∷ ss) e = fault_by s ss s.2 refl e (fault_at ss)
+
+-- a stand without a failed write did not raise its count
+or_left : (a b : Bool) → a || b ≡ false → a ≡ false
+or_left true b e = absurd cc
+or_left false b e = refl
+
+or_right : (a b : Bool) → a || b ≡ false → b ≡ false
+or_right true b e = absurd cc
+or_right false b e = e
+
+no_fault_at : (stands : List Stand) (i : ℕ) (s : Stand) → list_any (λ (x : Stand). is_write_fault x.2) stands ≡ false → slice_get stands i ≡ Some s → is_write_fault s.2 ≡ false
+no_fault_at [] i s e at = absurd cc
+no_fault_at (x ∷ xs) zero s e at = let same : x ≡ s = cc in ap (λ (t : Stand). is_write_fault t.2) (sym same) ∙ or_left (is_write_fault x.2) (list_any (λ (t : Stand). is_write_fault t.2) xs) e
+no_fault_at (x ∷ xs) (suc i) s e at = no_fault_at xs i s (or_right (is_write_fault x.2) (list_any (λ (t : Stand). is_write_fault t.2) xs) e) at
 
 -- ---- the end of a run
 
-module _ (b : Plain) (ran : Ran) (turns : ℕ) (a : Answer) (old new : FolderState) (after : AfterRun b.sink.name ran a) (runs : Runs old new b.source.file b.stages b.sink.file turns ran) where
-  abbrev ran_to : (how : EndState) → ran.end ≡ how → IsTrue new.tells → RanTo old new b turns a how
-  ran_to how e tells = record {
-    count = ran.count;
+module _ (b : Blueprint) (ran : Ran) (turns : ℕ) (a : Answer) (old new : FolderState) (after : AfterRun (sinks_of_nodes b.nodes.items) ran a) (runs : Runs old new b turns ran) where
+  abbrev stands : List Stand
+  stands = ran.sinks.items
+
+  told : a.sinks ≡ told_ends b.nodes.items stands
+  told = after.sinks ∙ ends_told b.nodes.items stands runs.sinks_are
+
+  fault_told : some_fault a.sinks ≡ list_any (λ (s : Stand). is_write_fault s.2) stands
+  fault_told = ap some_fault told ∙ any_told is_write_fault b.nodes.items stands
+
+  unended_told : some_unended a.sinks ≡ list_any (λ (s : Stand). is_unended s.2) stands
+  unended_told = ap some_unended told ∙ any_told is_unended b.nodes.items stands
+
+  failed_told : some_failed a.sinks ≡ list_any (λ (s : Stand). is_failed s.2) stands
+  failed_told = ap some_failed told ∙ any_told is_failed b.nodes.items stands
+
+  some_rose : list_any (λ (s : Stand). is_write_fault s.2) stands ≡ true → SomeWriteRose old new b
+  some_rose e = let at = fault_at stands e in runs.faults at.0 at.1.0 at.1.1.0 at.1.1.1
+
+  no_rise : list_any (λ (s : Stand). is_write_fault s.2) stands ≡ false → Quiet old.wfaults new.wfaults
+  no_rise e = runs.calm (λ i s at. no_fault_at stands i s e at)
+
+  abbrev ran_to : IsTrue new.tells → RanTo old new b turns a
+  ran_to tells = record {
+    stands = stands;
+    stands_are = runs.sinks_are;
+    sinks = told;
     at_rest = ran.at_rest;
-    leaves =
-        subst (λ (w : List WireCount). LeavesFiles old new b.source.file b.stages b.sink.file how ran.count w ran.at_rest) (sym after.wires)
-        (subst (λ (h : EndState). LeavesFiles old new b.source.file b.stages b.sink.file h ran.count ran.wires.items ran.at_rest) e (runs.leaves tells));
-    sink = after.sink ∙ ap (λ (h : EndState). record { name = b.sink.name; count = ran.count; end = h } ∷ []) e;
+    leaves = subst (λ (w : List WireCount). LeavesFiles old new b stands w ran.at_rest) (sym after.wires) (runs.leaves tells);
+    writes = runs.writes;
     within = subst (λ n. n ≤ turns) (sym after.used) runs.within;
     spent = λ h. after.used ∙ runs.spent h;
   }
 
-  told_by : (how : EndState) (rest : Bool) → ran.end ≡ how → ran.at_rest ≡ rest → IsTrue new.tells → EndedRun (status_after how rest) a b turns old new
-  told_by state.Ended rest e r tells = ran_to state.Ended e tells
-  told_by (state.Failed c) rest e r tells = (c, ran_to (state.Failed c) e tells)
-  told_by state.Unended true e r tells = (ran_to state.Unended e tells, r)
-  told_by state.Unended false e r tells = (ran_to state.Unended e tells, r)
-  told_by state.WriteFault rest e r tells = (ran_to state.WriteFault e tells, (subst (λ (h : EndState). WritesOf h b.sink.file old.wfaults new.wfaults) e runs.writes).0)
+  told_by : (f u d rest : Bool) → list_any (λ (s : Stand). is_write_fault s.2) stands ≡ f → list_any (λ (s : Stand). is_unended s.2) stands ≡ u → list_any (λ (s : Stand). is_failed s.2) stands ≡ d → ran.at_rest ≡ rest → IsTrue new.tells
+      → EndedRun (if f then status.WriteFault else (if u then (if rest then status.Stalled else status.OutOfTurns) else (if d then status.StreamFailed else status.Done))) a b turns old new
+  told_by true u d rest p q r s tells = (ran_to tells, fault_told ∙ p, some_rose p)
+  told_by false true d true p q r s tells = (ran_to tells, s, fault_told ∙ p, unended_told ∙ q)
+  told_by false true d false p q r s tells = (ran_to tells, s, fault_told ∙ p, unended_told ∙ q)
+  told_by false false true rest p q r s tells = (ran_to tells, fault_told ∙ p, unended_told ∙ q, failed_told ∙ r)
+  told_by false false false rest p q r s tells = (ran_to tells, all_done a.sinks (fault_told ∙ p) (unended_told ∙ q) (failed_told ∙ r))
 
   -- what a run answers, where the folder tells its files
   pub run_told : IsTrue new.tells → EndedRun a.status a b turns old new
-  run_told tells = subst (λ x. EndedRun x a b turns old new) (sym after.status) (told_by ran.end ran.at_rest refl refl tells)
+  run_told tells = subst (λ x. EndedRun x a b turns old new) (sym after.status) (told_by (list_any (λ (s : Stand). is_write_fault s.2) stands) (list_any (λ (s : Stand). is_unended s.2) stands) (list_any (λ (s : Stand). is_failed s.2) stands) ran.at_rest refl refl refl refl tells)
 
-  causes_by : (how : EndState) (rest : Bool) → ran.end ≡ how → RunCauses (status_after how rest) b.source.file b.sink.file old new
-  causes_by state.Ended rest e = (runs.refusals, runs.reads, subst (λ (h : EndState). WritesOf h b.sink.file old.wfaults new.wfaults) e runs.writes)
-  causes_by (state.Failed c) rest e = (runs.refusals, runs.reads, subst (λ (h : EndState). WritesOf h b.sink.file old.wfaults new.wfaults) e runs.writes)
-  causes_by state.Unended true e = (runs.refusals, runs.reads, subst (λ (h : EndState). WritesOf h b.sink.file old.wfaults new.wfaults) e runs.writes)
-  causes_by state.Unended false e = (runs.refusals, runs.reads, subst (λ (h : EndState). WritesOf h b.sink.file old.wfaults new.wfaults) e runs.writes)
-  causes_by state.WriteFault rest e = (runs.refusals, runs.reads, subst (λ (h : EndState). WritesOf h b.sink.file old.wfaults new.wfaults) e runs.writes)
+  causes_by : (f u d rest : Bool) → list_any (λ (s : Stand). is_write_fault s.2) stands ≡ f → RunCauses (if f then status.WriteFault else (if u then (if rest then status.Stalled else status.OutOfTurns) else (if d then status.StreamFailed else status.Done))) b old new
+  causes_by true u d rest p = (runs.refusals, runs.reads, some_rose p, runs.other_writes)
+  causes_by false true d true p = (runs.refusals, runs.reads, no_rise p)
+  causes_by false true d false p = (runs.refusals, runs.reads, no_rise p)
+  causes_by false false true rest p = (runs.refusals, runs.reads, no_rise p)
+  causes_by false false false rest p = (runs.refusals, runs.reads, no_rise p)
 
   -- which counts a run raised
-  pub run_causes : RunCauses a.status b.source.file b.sink.file old new
-  run_causes = subst (λ x. RunCauses x b.source.file b.sink.file old new) (sym after.status) (causes_by ran.end ran.at_rest refl)
+  pub run_causes : RunCauses a.status b old new
+  run_causes = subst (λ x. RunCauses x b old new) (sym after.status) (causes_by (list_any (λ (s : Stand). is_write_fault s.2) stands) (list_any (λ (s : Stand). is_unended s.2) stands) (list_any (λ (s : Stand). is_failed s.2) stands) ran.at_rest refl)
 
--- which sinks a run leaves
-sinks_by : (name : List ℕ) (count : ℕ) (how : EndState) (rest : Bool) (a : Answer) → a.sinks ≡ record { name = name; count = count; end = how } ∷ [] → SinksOf (status_after how rest) a
-sinks_by name count state.Ended rest a e = (record { name = name; count = count; end = state.Ended }, (e, refl))
-sinks_by name count (state.Failed c) rest a e = (record { name = name; count = count; end = state.Failed c }, (e, (c, refl)))
-sinks_by name count state.Unended true a e = (record { name = name; count = count; end = state.Unended }, (e, refl))
-sinks_by name count state.Unended false a e = (record { name = name; count = count; end = state.Unended }, (e, refl))
-sinks_by name count state.WriteFault rest a e = (record { name = name; count = count; end = state.WriteFault }, (e, refl))
+  sinks_by : (f u d rest : Bool) → list_any (λ (s : Stand). is_write_fault s.2) stands ≡ f → list_any (λ (s : Stand). is_unended s.2) stands ≡ u → list_any (λ (s : Stand). is_failed s.2) stands ≡ d
+      → SinksOf (if f then status.WriteFault else (if u then (if rest then status.Stalled else status.OutOfTurns) else (if d then status.StreamFailed else status.Done))) a
+  sinks_by true u d rest p q r = fault_told ∙ p
+  sinks_by false true d true p q r = (fault_told ∙ p, unended_told ∙ q)
+  sinks_by false true d false p q r = (fault_told ∙ p, unended_told ∙ q)
+  sinks_by false false true rest p q r = (fault_told ∙ p, unended_told ∙ q, failed_told ∙ r)
+  sinks_by false false false rest p q r = all_done a.sinks (fault_told ∙ p) (unended_told ∙ q) (failed_told ∙ r)
 
-pub run_sinks : (name : List ℕ) (ran : Ran) (a : Answer) → AfterRun name ran a → SinksOf a.status a
-run_sinks name ran a after = subst (λ x. SinksOf x a) (sym after.status) (sinks_by name ran.count ran.end ran.at_rest a after.sink)
+  -- how the sinks stand by the status
+  pub run_sinks : SinksOf a.status a
+  run_sinks = subst (λ x. SinksOf x a) (sym after.status) (sinks_by (list_any (λ (s : Stand). is_write_fault s.2) stands) (list_any (λ (s : Stand). is_unended s.2) stands) (list_any (λ (s : Stand). is_failed s.2) stands) ran.at_rest refl refl refl)
+
+-- ---- files that were not opened
+
+pub missing_input : (old new : FolderState) (b : Blueprint) (n : List ℕ) (turns : ℕ) (a : Answer) → MissesInput old new (inputs_of_nodes b.nodes.items) n → a.status ≡ status.Missing n → Blank a → IsTrue new.tells → EndedRun a.status a b turns old new
+missing_input old new b n turns a h is blank tells = subst (λ x. EndedRun x a b turns old new) (sym is) (inl (record {
+  before = h.before;
+  after = h.after;
+  place = h.place;
+  there = h.there tells;
+  absent = h.why;
+  nothing = record { files = h.files; blank = blank };
+}))
+
+pub missing_output : (old new : FolderState) (b : Blueprint) (n : List ℕ) (turns : ℕ) (a : Answer) → RefusesOutput old new (inputs_of_nodes b.nodes.items) (outputs_of_nodes b.nodes.items) n → a.status ≡ status.Missing n → Blank a → IsTrue new.tells → EndedRun a.status a b turns old new
+missing_output old new b n turns a h is blank tells = subst (λ x. EndedRun x a b turns old new) (sym is) (inr (record {
+  before = h.before;
+  after = h.after;
+  place = h.place;
+  there = h.there tells;
+  refused = h.rose;
+  files = h.files;
+  blank = blank;
+}))
+
+pub wanted : (old new : FolderState) (b : Blueprint) (turns : ℕ) (a : Answer) → Wants old new b → a.status ≡ status.NoMemory → Blank a → IsTrue new.tells → EndedRun a.status a b turns old new
+wanted old new b turns a h is blank tells = subst (λ x. EndedRun x a b turns old new) (sym is) (blank, record { others = h.others tells; outputs = h.outputs tells })
+
+pub missing_causes : (old new : FolderState) (b : Blueprint) (n : List ℕ) (s : Status) → (MissesInput old new (inputs_of_nodes b.nodes.items) n) ⊎ (RefusesOutput old new (inputs_of_nodes b.nodes.items) (outputs_of_nodes b.nodes.items) n) → s ≡ status.Missing n → RunCauses s b old new
+missing_causes old new b n s (inl h) is = subst (λ x. RunCauses x b old new) (sym is) (h.why, h.refusals, h.rfaults, h.wfaults)
+missing_causes old new b n s (inr h) is = subst (λ x. RunCauses x b old new) (sym is) (inr h.rose, h.refusals, h.rfaults, h.wfaults)
+
+pub wanted_causes : (old new : FolderState) (b : Blueprint) (s : Status) → Wants old new b → s ≡ status.NoMemory → RunCauses s b old new
+wanted_causes old new b s h is = subst (λ x. RunCauses x b old new) (sym is) (h.refusals, h.rfaults, h.wfaults)
 
 -- ---- the text of the blueprint
 
@@ -76,65 +249,51 @@ whole_of : (o : Option (List ℕ)) (t : List ℕ) → option_map text_of_file o 
 whole_of None t e = cc
 whole_of (Some whole) t e = (whole, (refl, cc))
 
--- a text that is short enough is the whole file
-whole_text : (whole t : List ℕ) → t ≡ text_of_file whole → length t ≤ 1048576 → t ≡ whole
-whole_text whole t e h =
-    let l : length t ≡ length (text_of_file whole) = ap length e in
-    let short : length whole ≤ text_limit = omega (arith, l, h, length-take text_limit whole) in
-    e ∙ take_all text_limit whole short
-
 short_whole : (whole t : List ℕ) → t ≡ text_of_file whole → length whole ≤ 1048576 → t ≡ whole
 short_whole whole t e h = e ∙ take_all text_limit whole (omega (arith, h))
 
--- the blueprint that the text of a file says is the one that the file says
-says_read : (old mid : FolderState) (file t : List ℕ) (b : Plain) → IsTrue mid.tells → ReadsFile old mid file t → IsStraight t b → b.source.file ≢ file → b.sink.file ≢ file → Says old file b
-says_read old mid file t b tells r s i o =
+long_text : (t : List ℕ) (long : Bool) (later : Option BlueFault) → (if long then Some (record { kind = TooLong; line = 0 }) else later) ≡ None → long ≡ false
+long_text t true later e = absurd cc
+long_text t false later e = refl
+
+-- a text that says a blueprint is the whole file
+says_whole : (whole t : List ℕ) → t ≡ text_of_file whole → language.fault_of t ≡ None → t ≡ whole
+says_whole whole t e none =
+    let short : length t ≤ 1048576 = ltb-false 1048576 (length t) (long_text t (nat_lt 1048576 (length t)) (language.first_fault [] (lines t)) none) in
+    let l : length t ≡ length (text_of_file whole) = ap length e in
+    let small : length whole ≤ 1048576 = omega (arith, l, short, length-take text_limit whole) in
+    short_whole whole t e small
+
+-- a text that is too long has that fault
+long_fault : (t : List ℕ) → 1048576 < length t → language.fault_of t ≡ Some (record { kind = TooLong; line = 0 })
+long_fault t h = rw (lt-ltb 1048576 (length t) h) refl
+
+-- the first fault of the bytes that were read is that of the file
+fault_whole : (whole t : List ℕ) → t ≡ text_of_file whole → language.fault_of t ≡ language.fault_of whole
+fault_whole whole t e = elim (leb_tells (length whole) 1048576) [
+  | inl h ↦ ap language.fault_of (short_whole whole t e h.1)
+  | inr h ↦ (
+    let more : 1048576 < length whole = h.1 in
+    let l : length t ≡ length (text_of_file whole) = ap length e in
+    let long : 1048576 < length t = omega (arith, l, more, length-take text_limit whole) in
+    long_fault t long ∙ sym (long_fault whole more)
+  )
+]
+
+-- the blueprint that the bytes say is the one that the file says
+says_read : (old mid : FolderState) (file t : List ℕ) (b : Blueprint) → IsTrue mid.tells → ReadsFile old mid file t → language.Says t (plain b) → SaysFile old file b
+says_read old mid file t b tells r s =
     let w = whole_of (old.file file) t (r.text_is tells) in
     record {
       whole = w.0;
       there = w.1.0;
-      straight = subst (λ x. IsStraight x b) (whole_text w.0 t w.1.1 s.short_text) s;
-      input_apart = i;
-      output_apart = o;
+      says = subst (λ x. language.Says x (plain b)) (says_whole w.0 t w.1.1 s.faultless) s;
     }
 
-some_same : {a b : List ℕ} → Some a ≡ Some b → a ≡ b
-some_same e = cc
-
--- where the file says a blueprint, so does its text
-read_says : (old mid : FolderState) (file t : List ℕ) (b : Plain) → IsTrue mid.tells → ReadsFile old mid file t → Says old file b → IsStraight t b
-read_says old mid file t b tells r s =
+refused_read : (old mid : FolderState) (file t : List ℕ) (f : BlueFault) → IsTrue mid.tells → ReadsFile old mid file t → language.fault_of t ≡ Some f → (whole : List ℕ) × ((old.file file ≡ Some whole) × (language.fault_of whole ≡ Some f))
+refused_read old mid file t f tells r e =
     let w = whole_of (old.file file) t (r.text_is tells) in
-    let same : w.0 ≡ s.whole = some_same (sym w.1.0 ∙ s.there) in
-    let is_whole : t ≡ s.whole = short_whole s.whole t (w.1.1 ∙ ap text_of_file same) s.straight.short_text in
-    subst (λ x. IsStraight x b) (sym is_whole) s.straight
-
-there_read : (old mid : FolderState) (file t : List ℕ) → IsTrue mid.tells → ReadsFile old mid file t → IsSome (old.file file)
-there_read old mid file t tells r =
-    let w = whole_of (old.file file) t (r.text_is tells) in
-    subst (λ o. IsSome o) (sym w.1.0) refl
-
--- a text that says no blueprint ends the call before a run
-pub told_unbuilt : (old mid : FolderState) (c : Asked) (t : List ℕ) (n : ℕ) (a : Answer) → IsTrue mid.tells → ReadsFile old mid c.file t → (n ≡ 0) × IsNotStraight t → a.status ≡ status.Unbuilt n → Blank a → Told a c old mid
-told_unbuilt old mid c t n a tells r h is blank =
-    inl (
-    subst (λ x. EndedBefore x a c.file old mid) (sym is)
-    (record { files = r.files; blank = blank }, h.0, there_read old mid c.file t tells r, λ b says. h.1 b (read_says old mid c.file t b tells r says))
-    )
-
--- so does a blueprint that reads or writes its own file
-pub told_own_file : (old mid : FolderState) (c : Asked) (t : List ℕ) (b : Plain) (a : Answer) → ((bytes : List ℕ) (c d : Plain) → IsStraight bytes c → IsStraight bytes d → c ≡ d) → IsTrue mid.tells → ReadsFile old mid c.file t → IsStraight t b → (b.source.file ≡ c.file) ⊎ (b.sink.file ≡ c.file) → a.status ≡ status.Unbuilt 0 → Blank a → Told a c old mid
-told_own_file old mid c t b a one tells r s h is blank =
-    inl (
-    subst (λ x. EndedBefore x a c.file old mid) (sym is) (
-      record { files = r.files; blank = blank },
-      refl,
-      there_read old mid c.file t tells r,
-      λ d says.
-          let same : d ≡ b = one t d b (read_says old mid c.file t d tells r says) s in
-          elim h [ inl e ↦ says.input_apart (ap (λ x. x.source.file) same ∙ e) | inr e ↦ says.output_apart (ap (λ x. x.sink.file) same ∙ e) ],
-    )
-    )
+    (w.0, (w.1.0, sym (fault_whole w.0 t w.1.1) ∙ e))
 
 -- ---- what comes later
 
@@ -145,84 +304,224 @@ rose_later a b c p q = let stays : a ≤ b = p.stays in λ h. let more : b < c =
 quiet_but_later : (name : List ℕ) (f g h : List ℕ → ℕ) → Quiet f g → QuietBut name g h → QuietBut name f h
 quiet_but_later name f g h p q = record {
   stays = let first : f name ≤ g name = (p name).stays in let then : g name ≤ h name = q.stays in omega (arith, first, then);
-  others = λ n differs. grew_two (f n) (g n) (h n) 0 0 (p n) (q.others n differs);
+  others = λ n differs. grew_behind (f n) (g n) (h n) 0 (p n) (q.others n differs);
 }
 
-lacks_later : (old mid new : FolderState) (n : List ℕ) → SameFiles old mid → Quiet old.refusals mid.refusals → IsAbsent mid new n → IsAbsent old new n
-lacks_later old mid new n same quiet (inl h) = inl (same.told h.0, sym (same.files h.0 n) ∙ h.1)
-lacks_later old mid new n same quiet (inr h) = inr (rose_later (old.refusals n) (mid.refusals n) (new.refusals n) (quiet n) h)
+absent_later : (old mid new : FolderState) (n : List ℕ) → SameFiles old mid → Quiet old.refusals mid.refusals → IsAbsent mid new n → IsAbsent old new n
+absent_later old mid new n same quiet (inl h) = inl (same.told h.0, sym (same.files h.0 n) ∙ h.1)
+absent_later old mid new n same quiet (inr h) = inr (rose_later (old.refusals n) (mid.refusals n) (new.refusals n) (quiet n) h)
 
--- a count that did not rise and then grew grew
-grew_later : (a b c n : ℕ) → b ≡ a → Grew b n c → Grew a n c
-grew_later a b c n e g = subst (λ x. Grew x n c) e g
+grew_from : (a b c n : ℕ) → b ≡ a → Grew b n c → Grew a n c
+grew_from a b c n e g = subst (λ x. Grew x n c) e g
 
-module _ (old mid new : FolderState) (tells : IsTrue mid.tells) (same : SameFiles old mid) (refusals : Quiet old.refusals mid.refusals) (rfaults : Quiet old.rfaults mid.rfaults) (wfaults : Quiet old.wfaults mid.wfaults) (a : Answer) (b : Plain) (turns : ℕ) (read : mid.read b.source.file ≡ old.read b.source.file) where
-  abbrev leaves_later : (end : EndState) (count : ℕ) (wires : List WireCount) (rest : Bool) → LeavesFiles mid new b.source.file b.stages b.sink.file end count wires rest → LeavesFiles old new b.source.file b.stages b.sink.file end count wires rest
-  leaves_later end count wires rest l = record {
-    bytes = l.bytes;
-    input_is = sym (same.files tells b.source.file) ∙ l.input_is;
-    held = l.held;
-    output_is = l.output_is;
-    others = λ n differs. l.others n differs ∙ same.files tells n;
-    given = l.given;
-    read = grew_later (old.read b.source.file) (mid.read b.source.file) (new.read b.source.file) l.given read l.read;
-    faulted = l.faulted;
-    rose = λ h. rose_later (old.rfaults b.source.file) (mid.rfaults b.source.file) (new.rfaults b.source.file) (rfaults b.source.file) (l.rose h);
-    tells = l.tells;
-    lines_are = l.lines_are;
-    sent = l.sent;
-    rests = l.rests;
-    draws = l.draws;
-    lawful = l.lawful;
-    rest = l.rest;
-    matching = l.matching;
-  }
+writes_later : (e : EndState) (a b c : ℕ) → Grew a 0 b → WritesOf e b c → WritesOf e a c
+writes_later state.Ended a b c p q = grew_behind a b c 0 p q
+writes_later (state.Failed x) a b c p q = grew_behind a b c 0 p q
+writes_later state.Unended a b c p q = grew_behind a b c 0 p q
+writes_later state.WriteFault a b c p q = rose_later a b c p q
 
-  abbrev ran_later : (how : EndState) → RanTo mid new b turns a how → RanTo old new b turns a how
-  ran_later how r = record { count = r.count; at_rest = r.at_rest; leaves = leaves_later how r.count a.wires r.at_rest r.leaves; sink = r.sink; within = r.within; spent = r.spent }
+quiet_all_later : (names : List (List ℕ)) (f g h : List ℕ → ℕ) → Quiet f g → QuietButAll names g h → QuietButAll names f h
+quiet_all_later names f g h p q n never = grew_behind (f n) (g n) (h n) 0 (p n) (q n never)
 
-  missing_later : (n : List ℕ) → ((n ≡ b.source.file) × IsAbsent mid new n) ⊎ ((n ≡ b.sink.file) × IsSome (mid.file b.source.file) × Rose (mid.refusals n) (new.refusals n)) → ((n ≡ b.source.file) × IsAbsent old new n) ⊎ ((n ≡ b.sink.file) × IsSome (old.file b.source.file) × Rose (old.refusals n) (new.refusals n))
-  missing_later n (inl h) = inl (h.0, lacks_later old mid new n same refusals h.1)
-  missing_later n (inr h) = inr (h.0, subst (λ o. IsSome o) (same.files tells b.source.file) h.1, rose_later (old.refusals n) (mid.refusals n) (new.refusals n) (refusals n) h.2)
+some_rose_later : (old mid new : FolderState) (b : Blueprint) → Quiet old.wfaults mid.wfaults → SomeWriteRose mid new b → SomeWriteRose old new b
+some_rose_later old mid new b q s = record { file = s.file; output = s.output; rose = rose_later (old.wfaults s.file) (mid.wfaults s.file) (new.wfaults s.file) (q s.file) s.rose }
 
-  gave_later : GaveUp mid new b.sink.file → GaveUp old new b.sink.file
-  gave_later (inl h) = inl (files_two old mid new same h)
-  gave_later (inr h) = inr (h.0, λ n differs. h.1 n differs ∙ same.files tells n)
+module _ (old mid new : FolderState) (file t : List ℕ) (r : ReadsFile old mid file t) (b : Blueprint) (fit : IsFit b [] (file ∷ [])) (turns : ℕ) (a : Answer) where
+  module _ (tells : IsTrue mid.tells) where
+    -- the file that was read is none of the sources'
+    read_apart : (k : ℕ) (n : List ℕ) → IsSource b.nodes.items k n → mid.read n ≡ old.read n
+    read_apart k n is =
+        r.read n (λ same.
+        let at = filtered_at (λ (m : Node). input_of m.kind) b.nodes.items k is.node n is.at (ap input_of is.kind_is) in
+        inputs_untaken b [] (file ∷ []) fit n (contains_at (inputs_of_nodes b.nodes.items) at.0 n at.1) (0, omega arith, sym same))
 
-  -- what a run answers is told of the folder before the blueprint was read
-  run_later : (s : Status) → EndedRun s a b turns mid new → EndedRun s a b turns old new
-  run_later status.Done e = ran_later state.Ended e
-  run_later status.StreamFailed e = (e.0, ran_later (state.Failed e.0) e.1)
-  run_later status.Stalled e = (ran_later state.Unended e.0, e.1)
-  run_later status.OutOfTurns e = (ran_later state.Unended e.0, e.1)
-  run_later status.WriteFault e = (ran_later state.WriteFault e.0, rose_later (old.wfaults b.sink.file) (mid.wfaults b.sink.file) (new.wfaults b.sink.file) (wfaults b.sink.file) e.1)
-  run_later (status.Missing n) e = (record { files = files_two old mid new same e.0.files; blank = e.0.blank }, missing_later n e.1)
-  run_later status.NoMemory e = (e.0, gave_later e.1)
-  run_later status.ReadFault e = e
-  run_later (status.Unbuilt k) e = e
-  run_later status.Usage e = e
+    leaves_later : (stands : List Stand) (wires : List WireCount) (rest : Bool) → LeavesFiles mid new b stands wires rest → LeavesFiles old new b stands wires rest
+    leaves_later stands wires rest l = record {
+      drawn = l.drawn;
+      read = λ k n is.
+          let w = l.read k n is in
+          record {
+            there = sym (r.files.files tells n) ∙ w.there;
+            read = grew_from (old.read n) (mid.read n) (new.read n) (l.drawn.given k) (read_apart k n is) w.read;
+            rose = λ h. rose_later (old.rfaults n) (mid.rfaults n) (new.rfaults n) (r.rfaults n) (w.rose h);
+            calm = λ h. grew_behind (old.rfaults n) (mid.rfaults n) (new.rfaults n) 0 (r.rfaults n) (w.calm h);
+          };
+      sink = l.sink;
+      others = λ n never. l.others n never ∙ r.files.files tells n;
+      draws = l.draws;
+      lawful = l.lawful;
+      rest = l.rest;
+      matching = l.matching;
+    }
 
--- the blueprint that was read was run
-pub told_run : (a : Answer) (c : Asked) (old mid new : FolderState) (t : List ℕ) (b : Plain) → IsTrue mid.tells → ReadsFile old mid c.file t → IsStraight t b → (b.source.file ≢ c.file) × (b.sink.file ≢ c.file) → EndedRun a.status a b c.turns mid new → Told a c old new
-told_run a c old mid new t b tells r straight apart e =
-    inr (b, (says_read old mid c.file t b tells r straight apart.0 apart.1, run_later old mid new tells r.files r.refusals r.rfaults r.wfaults a b c.turns (r.read b.source.file apart.0) a.status e))
+    abbrev ran_later : RanTo mid new b turns a → RanTo old new b turns a
+    ran_later ran = record {
+      stands = ran.stands;
+      stands_are = ran.stands_are;
+      sinks = ran.sinks;
+      at_rest = ran.at_rest;
+      leaves = leaves_later ran.stands a.wires ran.at_rest ran.leaves;
+      writes = λ i s n f at here shape. writes_later s.2 (old.wfaults f) (mid.wfaults f) (new.wfaults f) (r.wfaults f) (ran.writes i s n f at here shape);
+      within = ran.within;
+      spent = ran.spent;
+    }
+
+    there_later : (names : List (List ℕ)) → All (λ m. IsSome (mid.file m)) names → All (λ m. IsSome (old.file m)) names
+    there_later names all = λ k d h. subst (λ o. IsSome o) (r.files.files tells (slice_index_or names k d)) (all k d h)
+
+    missing_later : (n : List ℕ) → LacksInput mid new b n a ⊎ LacksOutput mid new b n a → LacksInput old new b n a ⊎ LacksOutput old new b n a
+    missing_later n (inl h) = inl (record {
+      before = h.before;
+      after = h.after;
+      place = h.place;
+      there = there_later h.before h.there;
+      absent = absent_later old mid new n r.files r.refusals h.absent;
+      nothing = record { files = files_two old mid new r.files h.nothing.files; blank = h.nothing.blank };
+    })
+    missing_later n (inr h) = inr (record {
+      before = h.before;
+      after = h.after;
+      place = h.place;
+      there = there_later (inputs_of_nodes b.nodes.items) h.there;
+      refused = rose_later (old.refusals n) (mid.refusals n) (new.refusals n) (r.refusals n) h.refused;
+      files = record { told = λ x. r.files.told (h.files.told x); emptied = h.files.emptied; others = λ x m never. h.files.others x m never ∙ r.files.files tells m };
+      blank = h.blank;
+    })
+
+    gave_later : GaveUp mid new b → GaveUp old new b
+    gave_later h = record {
+      others = λ n never. h.others n never ∙ r.files.files tells n;
+      outputs = λ n. elim (h.outputs n) [ inl e ↦ inl (e ∙ r.files.files tells n) | inr e ↦ inr e ];
+    }
+
+    -- what a run answers is told of the folder before the blueprint was read
+    run_later : (s : Status) → EndedRun s a b turns mid new → EndedRun s a b turns old new
+    run_later status.Done e = (ran_later e.0, e.1)
+    run_later status.StreamFailed e = (ran_later e.0, e.1, e.2, e.3)
+    run_later status.Stalled e = (ran_later e.0, e.1, e.2, e.3)
+    run_later status.OutOfTurns e = (ran_later e.0, e.1, e.2, e.3)
+    run_later status.WriteFault e = (ran_later e.0, e.1, some_rose_later old mid new b r.wfaults e.2)
+    run_later (status.Missing n) e = missing_later n e
+    run_later status.NoMemory e = (e.0, gave_later e.1)
+    run_later status.ReadFault e = e
+    run_later (status.Refused f) e = e
+    run_later (status.Unfit f) e = e
+    run_later (status.Unbuilt k) e = e
+    run_later status.Usage e = e
 
 -- what rose in the run rose in the call
-causes_later : (s : Status) (old mid new : FolderState) (file input output t : List ℕ) → ReadsFile old mid file t → RunCauses s input output mid new → RunCauses s input output old new
-causes_later (status.Missing n) old mid new file input output t r c = (lacks_later old mid new n r.files r.refusals c.0, quiet_but_later n _ _ _ r.refusals c.1, quiet_two _ _ _ r.rfaults c.2, quiet_two _ _ _ r.wfaults c.3)
-causes_later status.WriteFault old mid new file input output t r c = (quiet_two _ _ _ r.refusals c.0, quiet_but_later input _ _ _ r.rfaults c.1, (rose_later (old.wfaults output) (mid.wfaults output) (new.wfaults output) (r.wfaults output) c.2.0, quiet_but_later output _ _ _ r.wfaults c.2.1))
-causes_later status.Done old mid new file input output t r c = (quiet_two _ _ _ r.refusals c.0, quiet_but_later input _ _ _ r.rfaults c.1, quiet_two _ _ _ r.wfaults c.2)
-causes_later status.StreamFailed old mid new file input output t r c = (quiet_two _ _ _ r.refusals c.0, quiet_but_later input _ _ _ r.rfaults c.1, quiet_two _ _ _ r.wfaults c.2)
-causes_later status.Stalled old mid new file input output t r c = (quiet_two _ _ _ r.refusals c.0, quiet_but_later input _ _ _ r.rfaults c.1, quiet_two _ _ _ r.wfaults c.2)
-causes_later status.OutOfTurns old mid new file input output t r c = (quiet_two _ _ _ r.refusals c.0, quiet_but_later input _ _ _ r.rfaults c.1, quiet_two _ _ _ r.wfaults c.2)
-causes_later status.NoMemory old mid new file input output t r c = (quiet_two _ _ _ r.refusals c.0, quiet_two _ _ _ r.rfaults c.1, quiet_two _ _ _ r.wfaults c.2)
-causes_later status.Usage old mid new file input output t r c = c
-causes_later status.ReadFault old mid new file input output t r c = c
-causes_later (status.Unbuilt k) old mid new file input output t r c = c
+module _ (old mid new : FolderState) (file t : List ℕ) (r : ReadsFile old mid file t) (b : Blueprint) (fit : IsFit b [] (file ∷ [])) where
+  causes_later : (s : Status) → RunCauses s b mid new → RunCauses s b old new
+  causes_later (status.Missing n) c = (absent_later old mid new n r.files r.refusals c.0, quiet_but_later n _ _ _ r.refusals c.1, quiet_two _ _ _ r.rfaults c.2, quiet_two _ _ _ r.wfaults c.3)
+  causes_later status.WriteFault c = (quiet_two _ _ _ r.refusals c.0, quiet_all_later _ _ _ _ r.rfaults c.1, some_rose_later old mid new b r.wfaults c.2, quiet_all_later _ _ _ _ r.wfaults c.3)
+  causes_later status.Done c = (quiet_two _ _ _ r.refusals c.0, quiet_all_later _ _ _ _ r.rfaults c.1, quiet_two _ _ _ r.wfaults c.2)
+  causes_later status.StreamFailed c = (quiet_two _ _ _ r.refusals c.0, quiet_all_later _ _ _ _ r.rfaults c.1, quiet_two _ _ _ r.wfaults c.2)
+  causes_later status.Stalled c = (quiet_two _ _ _ r.refusals c.0, quiet_all_later _ _ _ _ r.rfaults c.1, quiet_two _ _ _ r.wfaults c.2)
+  causes_later status.OutOfTurns c = (quiet_two _ _ _ r.refusals c.0, quiet_all_later _ _ _ _ r.rfaults c.1, quiet_two _ _ _ r.wfaults c.2)
+  causes_later status.NoMemory c = (quiet_two _ _ _ r.refusals c.0, quiet_two _ _ _ r.rfaults c.1, quiet_two _ _ _ r.wfaults c.2)
+  causes_later status.Usage c = c
+  causes_later status.ReadFault c = c
+  causes_later (status.Refused f) c = c
+  causes_later (status.Unfit f) c = c
+  causes_later (status.Unbuilt k) c = c
 
-pub causes_run : (s : Status) (old mid new : FolderState) (file input output t : List ℕ) → ReadsFile old mid file t → (input ≢ file) × (output ≢ file) → RunCauses s input output mid new → Causes s file old new
-causes_run s old mid new file input output t r apart c = inr (input, (output, (apart.0, apart.1, causes_later s old mid new file input output t r c)))
+-- ---- a call that read its file
+
+nothing_since : (old mid new : FolderState) (file t : List ℕ) (r : ReadsFile old mid file t) (a : Answer) → RanNothing mid new a → RanNothing old new a
+nothing_since old mid new file t r a h = record { files = files_two old mid new r.files h.files; blank = h.blank }
+
+module _ (a : Answer) (c : Asked) (old mid new : FolderState) (t : List ℕ) (r : ReadsFile old mid c.file t) (tells : IsTrue mid.tells) where
+  not_said : (s : Status) → NotSaid s a t mid new → EndedBefore s a c.file old new
+  not_said (status.Refused f) h = (nothing_since old mid new c.file t r a h.0, refused_read old mid c.file t f tells r h.1)
+  not_said status.NoMemory h = nothing_since old mid new c.file t r a h
+  not_said status.Done h = absurd h
+  not_said status.StreamFailed h = absurd h
+  not_said status.Stalled h = absurd h
+  not_said status.OutOfTurns h = absurd h
+  not_said status.WriteFault h = absurd h
+  not_said status.ReadFault h = absurd h
+  not_said status.Usage h = absurd h
+  not_said (status.Missing n) h = absurd h
+  not_said (status.Unfit f) h = absurd h
+  not_said (status.Unbuilt k) h = absurd h
+
+  module _ (b : Blueprint) (says : language.Says t (plain b)) where
+    not_fit : (s : Status) → NotFit s a b (c.file ∷ []) mid new → EndedBefore s a c.file old new
+    not_fit (status.Unfit f) h = (nothing_since old mid new c.file t r a h.0, (b, (says_read old mid c.file t b tells r says, h.1)))
+    not_fit status.NoMemory h = nothing_since old mid new c.file t r a h
+    not_fit status.Done h = absurd h
+    not_fit status.StreamFailed h = absurd h
+    not_fit status.Stalled h = absurd h
+    not_fit status.OutOfTurns h = absurd h
+    not_fit status.WriteFault h = absurd h
+    not_fit status.ReadFault h = absurd h
+    not_fit status.Usage h = absurd h
+    not_fit (status.Missing n) h = absurd h
+    not_fit (status.Refused f) h = absurd h
+    not_fit (status.Unbuilt k) h = absurd h
+
+    module _ (fit : IsFit b [] (c.file ∷ [])) where
+      said_fit : SaysFit old c.file b
+      said_fit = record { says = says_read old mid c.file t b tells r says; fit = fit }
+
+      not_run : (s : Status) → NotRun s a b mid new → EndedBefore s a c.file old new
+      not_run (status.Unbuilt k) h = (nothing_since old mid new c.file t r a h.0, (b, (said_fit, h.1)))
+      not_run status.NoMemory h = nothing_since old mid new c.file t r a h
+      not_run status.Done h = absurd h
+      not_run status.StreamFailed h = absurd h
+      not_run status.Stalled h = absurd h
+      not_run status.OutOfTurns h = absurd h
+      not_run status.WriteFault h = absurd h
+      not_run status.ReadFault h = absurd h
+      not_run status.Usage h = absurd h
+      not_run (status.Missing n) h = absurd h
+      not_run (status.Refused f) h = absurd h
+      not_run (status.Unfit f) h = absurd h
+
+      told_fit : EndedFit a.status a b c.turns mid new → Told a c old new
+      told_fit (inl h) = inl (not_run a.status h)
+      told_fit (inr h) = inr (b, (record { fit = said_fit; built = h.0 }, run_later old mid new c.file t r b fit c.turns a tells a.status h.1))
+
+    told_parsed : EndedParsed a.status a b (c.file ∷ []) c.turns mid new → Told a c old new
+    told_parsed (inl h) = inl (not_fit a.status h)
+    told_parsed (inr h) = told_fit h.0 h.1
+
+  -- what is told of the text is told of the call
+  pub told_text : EndedText a.status a t (c.file ∷ []) c.turns mid new → Told a c old new
+  told_text (inl h) = inl (not_said a.status h)
+  told_text (inr h) = told_parsed h.0 h.1.0 h.1.1
+
+module _ (old mid new : FolderState) (file t : List ℕ) (r : ReadsFile old mid file t) where
+  all_quiet : AllQuiet mid new → AllQuiet old new
+  all_quiet q = record { refusals = quiet_two _ _ _ r.refusals q.refusals; rfaults = quiet_two _ _ _ r.rfaults q.rfaults; wfaults = quiet_two _ _ _ r.wfaults q.wfaults }
+
+  quiet_before : (s : Status) → CausesQuiet s mid new → CausesBefore s file old new
+  quiet_before (status.Refused f) h = let q = all_quiet h in (q.refusals, q.rfaults, q.wfaults)
+  quiet_before (status.Unfit f) h = let q = all_quiet h in (q.refusals, q.rfaults, q.wfaults)
+  quiet_before (status.Unbuilt k) h = let q = all_quiet h in (q.refusals, q.rfaults, q.wfaults)
+  quiet_before status.NoMemory h = let q = all_quiet h in (q.refusals, q.rfaults, q.wfaults)
+  quiet_before status.Done h = absurd h
+  quiet_before status.StreamFailed h = absurd h
+  quiet_before status.Stalled h = absurd h
+  quiet_before status.OutOfTurns h = absurd h
+  quiet_before status.WriteFault h = absurd h
+  quiet_before status.ReadFault h = absurd h
+  quiet_before status.Usage h = absurd h
+  quiet_before (status.Missing n) h = absurd h
+
+  -- which counts the call raised
+  pub causes_text : (s : Status) → CausesText s (file ∷ []) mid new → Causes s file old new
+  causes_text s (inl h) = inl (quiet_before s h)
+  causes_text s (inr h) = inr (h.0, (h.1.0, causes_later old mid new file t r h.0 h.1.0 s h.1.1))
 
 -- what is said of the counts before a run, by the status
 pub causes_before : (s t : Status) (file : List ℕ) (old new : FolderState) → s ≡ t → CausesBefore t file old new → Causes s file old new
 causes_before s t file old new e h = inl (subst (λ x. CausesBefore x file old new) (sym e) h)
+
+-- ---- statuses before a run
+
+quiet_here : (s : FolderState) → AllQuiet s s
+quiet_here s = record { refusals = λ n. grew_same _ _ refl; rfaults = λ n. grew_same _ _ refl; wfaults = λ n. grew_same _ _ refl }
+
+nothing_here : (s : FolderState) (a : Answer) → Blank a → RanNothing s s a
+nothing_here s a b = record { files = record { told = λ h. h; files = λ h n. refl }; blank = b }

@@ -1,34 +1,73 @@
--- Valid words, text and input and no fault leave the answers of a run.
-use Rattle.std.proofs.Common.{◌≡◌, ℕ, List, ◌⊎◌, inl, inr, sym, ap, ◌∙◌, subst}
-use Rattle.std.specs.Prelude.{Option, Some, None, IsTrue}
-use Rattle.straight_lang.specs.Straight.{Plain, IsStraight}
+-- Valid words, text and inputs and no fault leave the answers of a run.
+use Rattle.std.proofs.Common.{◌≡◌, ℕ, suc, ◌∷◌, ◌++◌, [], List, ◌⊎◌, inl, inr, refl, sym, ap, ◌∙◌, subst, slice_get}
+use Rattle.std.specs.Prelude.{Option, Some, None, IsTrue, IsSome}
+use Rattle.std.specs.List.{All}
+use Rattle.stream_model.specs.Graph.{Wire}
 use Rattle.stream_io.specs.State.{FolderState}
-use Rattle.stream_top.specs.Answer.{Answer}
+use Rattle.blue_core.specs.declared.blueprint.Blueprint.{Blueprint}
+use Rattle.blue_lang.specs.Blueprints as language
+use Rattle.blue_check.specs.Fitness.{IsFit, IsFirstFault, IsClosedFault}
+use Rattle.blue_check.specs.Wires.{blueprint_wires}
+use Rattle.blue_check.specs.declared.fault.CheckFault.{CheckFault}
+use Rattle.blue_check.specs.declared.fault.CheckFault.TheVariants as fault
+use Rattle.blue_rules.specs.Paths.{HasNoClosedWalk}
+use Rattle.materializer.specs.Built.{unbuilt_node}
+use Rattle.materializer.specs.Files.{inputs_of_nodes}
+use Rattle.blueprint_run.proofs.Places.{all_at}
+use Rattle.run_report.specs.Answer.{Answer}
+use Rattle.run_report.specs.declared.outcome.Status.{Status}
+use Rattle.run_report.specs.declared.outcome.Status.TheVariants as status
 use Rattle.stream_top.specs.Command.{Asked, command_of}
-use Rattle.stream_top.specs.Outcome.{Says, IsAbsent, EndedBefore, EndedRun, Told, IsValid, RoseNowhere, WasRun}
-use Rattle.stream_top.specs.declared.outcome.Status.{Status}
-use Rattle.stream_top.specs.declared.outcome.Status.TheVariants as status
+use Rattle.stream_top.specs.Outcome.{IsAbsent, LacksInput, LacksOutput, EndedBefore, EndedRun, SaysFile, SaysBuilt, Told, IsValid, RoseNowhere, WasRun}
 
-abbrev OneEach : Type 0
-OneEach = (bytes : List ℕ) (b c : Plain) → IsStraight bytes b → IsStraight bytes c → b ≡ c
-
-some_same : {a b : List ℕ} → Some a ≡ Some b → a ≡ b
+some_same : {A : Type 0} {a b : A} → Some a ≡ Some b → a ≡ b
 some_same e = cc
 
--- a file says one blueprint at most
-one_said : OneEach → (folder : FolderState) (file : List ℕ) (b c : Plain) → Says folder file b → Says folder file c → b ≡ c
-one_said one folder file b c p q = one p.whole b c p.straight (subst (λ x. IsStraight x c) (some_same (sym q.there ∙ p.there)) q.straight)
+none_some : {A : Type 0} (o : Option A) (x : A) → o ≡ None → o ≡ Some x → ⊥
+none_some o x e f = cc
 
-none_some : (o : Option (List ℕ)) (a : List ℕ) → o ≡ None → o ≡ Some a → ⊥
-none_some o a e f = cc
+absent_some : (o : Option (List ℕ)) → IsSome o → o ≡ None → ⊥
+absent_some o h e = cc
 
 -- a file that is there is absent only where its opening was refused
-there_absent : (old new : FolderState) (n a : List ℕ) → old.file n ≡ Some a → RoseNowhere old new → IsAbsent old new n → ⊥
-there_absent old new n a e r (inl h) = none_some (old.file n) a h.1 e
-there_absent old new n a e r (inr h) = r.refusals n h
+there_absent : (old new : FolderState) (n : List ℕ) → IsSome (old.file n) → RoseNowhere old new → IsAbsent old new n → ⊥
+there_absent old new n there calm (inl h) = absent_some (old.file n) there h.1
+there_absent old new n there calm (inr h) = calm.refusals n h
 
-module _ (one : OneEach) (old new : FolderState) (c : Asked) (b : Plain) (bytes : List ℕ) (says : Says old c.file b) (input : old.file b.source.file ≡ Some bytes) (calm : RoseNowhere old new) (a : Answer) where
-  completes : (s : Status) → EndedBefore s a c.file old new ⊎ ((d : Plain) × (Says old c.file d × EndedRun s a d c.turns old new)) → WasRun s
+some_there : (o : Option (List ℕ)) (x : List ℕ) → o ≡ Some x → IsSome o
+some_there o x e = rw e refl
+
+at_middle : (before after : List (List ℕ)) (n : List ℕ) → (i : ℕ) × (slice_get (before ++ n ∷ after) i ≡ Some n)
+at_middle [] after n = (0, refl)
+at_middle (x ∷ xs) after n = let h = at_middle xs after n in (suc h.0, h.1)
+
+-- a fit blueprint has no fault
+closed_never : (ws : List Wire) (f : CheckFault) → HasNoClosedWalk ws → IsClosedFault ws f → ⊥
+closed_never ws (fault.ClosedWalk i) none h = none.none i h.lies
+closed_never ws (fault.TwoNames n) none h = h
+closed_never ws (fault.NoSuchName n) none h = h
+closed_never ws (fault.NoSuchPort i) none h = h
+closed_never ws (fault.PortTwice i) none h = h
+closed_never ws (fault.PortOpen n o p) none h = h
+closed_never ws (fault.TypeClash i t w) none h = h
+closed_never ws (fault.TooDeep n) none h = h
+closed_never ws (fault.NoSuchPlug n) none h = h
+closed_never ws (fault.PlugTwice n) none h = h
+closed_never ws (fault.BadSize s) none h = h
+
+fit_never : (b : Blueprint) (taken : List (List ℕ)) (f : CheckFault) → IsFit b [] taken → IsFirstFault b [] taken f → ⊥
+fit_never b taken f fit (inl h) = none_some _ f fit.early h
+fit_never b taken f fit (inr h) = closed_never (blueprint_wires b) f fit.open_walks h.1
+
+module _ (words : List (List ℕ)) (old new : FolderState) (v : IsValid words old) (calm : RoseNowhere old new) (a : Answer) where
+  absent_never : (b : Blueprint) (n : List ℕ) → SaysFile old v.asked.file b → LacksInput old new b n a ⊎ LacksOutput old new b n a → ⊥
+  absent_never b n says (inl h) =
+      let at = at_middle h.before h.after n in
+      let among : slice_get (inputs_of_nodes b.nodes.items) at.0 ≡ Some n = ap (λ (x : List (List ℕ)). slice_get x at.0) h.place ∙ at.1 in
+      there_absent old new n (all_at (λ m. IsSome (old.file m)) (inputs_of_nodes b.nodes.items) at.0 n (v.inputs b says) among) calm h.absent
+  absent_never b n says (inr h) = calm.refusals n h.refused
+
+  completes : (s : Status) → EndedBefore s a v.asked.file old new ⊎ ((b : Blueprint) × (SaysBuilt old v.asked.file b × EndedRun s a b v.asked.turns old new)) → WasRun s
   completes status.Done t = tt
   completes status.StreamFailed t = tt
   completes status.Stalled t = tt
@@ -36,20 +75,21 @@ module _ (one : OneEach) (old new : FolderState) (c : Asked) (b : Plain) (bytes 
   completes status.NoMemory t = tt
   completes status.Usage (inl h) = absurd h
   completes status.Usage (inr h) = absurd h.1.1
-  completes status.ReadFault (inl h) = absurd (calm.rfaults c.file h.1)
+  completes status.ReadFault (inl h) = absurd (calm.rfaults v.asked.file h.1)
   completes status.ReadFault (inr h) = absurd h.1.1
   completes status.WriteFault (inl h) = absurd h
-  completes status.WriteFault (inr h) = absurd (calm.wfaults h.0.sink.file h.1.1.1)
-  completes (status.Unbuilt k) (inl h) = absurd (h.3 b says)
+  completes status.WriteFault (inr h) = absurd (calm.wfaults h.1.1.2.file h.1.1.2.rose)
+  completes (status.Refused f) (inl h) =
+      let same : h.1.0 ≡ v.says.whole = some_same (sym h.1.1.0 ∙ v.says.there) in
+      absurd (none_some _ f v.says.says.faultless (subst (λ x. language.fault_of x ≡ Some f) same h.1.1.1))
+  completes (status.Refused f) (inr h) = absurd h.1.1
+  completes (status.Unfit f) (inl h) = absurd (fit_never h.1.0 (v.asked.file ∷ []) f (v.fit h.1.0 h.1.1.0) h.1.1.1)
+  completes (status.Unfit f) (inr h) = absurd h.1.1
+  completes (status.Unbuilt k) (inl h) = absurd (none_some (unbuilt_node h.1.0) k (v.built h.1.0 h.1.1.0.says) h.1.1.1)
   completes (status.Unbuilt k) (inr h) = absurd h.1.1
-  completes (status.Missing n) (inl h) = absurd (there_absent old new c.file says.whole says.there calm h.2)
-  completes (status.Missing n) (inr h) =
-      let same = one_said one old c.file h.0 b h.1.0 says in
-      elim h.1.1.1 [
-        | inl e ↦ absurd (there_absent old new n bytes (ap old.file (e.0 ∙ ap (λ x. x.source.file) same) ∙ input) calm e.1)
-        | inr e ↦ absurd (calm.refusals n e.2)
-      ]
+  completes (status.Missing n) (inl h) = absurd (there_absent old new v.asked.file (some_there (old.file v.asked.file) v.says.whole v.says.there) calm h.2)
+  completes (status.Missing n) (inr h) = absurd (absent_never h.0 n h.1.0.fit.says h.1.1)
 
 -- the answer to a valid call without faults
-pub complete : OneEach → (words : List (List ℕ)) (old new : FolderState) (a : Answer) → ((c : Asked) → command_of words ≡ Some c → IsTrue new.tells → Told a c old new) → IsTrue new.tells → IsValid words old → RoseNowhere old new → WasRun a.status
-complete one words old new a told tells v calm = completes one old new v.asked v.blueprint v.bytes v.says v.input calm a a.status (told v.asked v.command tells)
+pub complete : (words : List (List ℕ)) (old new : FolderState) (a : Answer) → ((c : Asked) → command_of words ≡ Some c → IsTrue new.tells → Told a c old new) → IsTrue new.tells → IsValid words old → RoseNowhere old new → WasRun a.status
+complete words old new a told tells v calm = completes words old new v calm a a.status (told v.asked v.command tells)

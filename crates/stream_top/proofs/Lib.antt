@@ -1,9 +1,4 @@
-pub mod Puttings
 pub mod Texts
 pub mod Quiets
-pub mod Seating
-pub mod Chains
-pub mod Leaving
-pub mod Closing
 pub mod Answering
 pub mod Completing

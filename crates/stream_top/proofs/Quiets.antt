@@ -5,7 +5,7 @@ use Rattle.std.specs.Option.{option_map}
 use Rattle.std.proofs.lemmas.Bool.Decides.{eqb_tells}
 use Rattle.stream_io.specs.Counts.{Rose, Grew, last_count}
 use Rattle.stream_io.specs.State.{FolderState, SourceState, SameFiles, SameFaults, SameRefusals, OpensSource, ClosesSource}
-use Rattle.stream_top.specs.Quiet.{Quiet}
+use Rattle.run_files.specs.Quiet.{Quiet}
 use Rattle.stream_top.specs.Text.{text_of_file, ReadsFile, StaysQuiet}
 
 -- a count that is as before did not rise

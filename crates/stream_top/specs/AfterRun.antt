@@ -1,33 +1,67 @@
 -- What a run makes of the status, and what is told of it.
-use Rattle.std.specs.Prelude.{◌≡◌, ℕ, Bool, true, false, List, [], ◌∷◌}
+use Rattle.std.specs.Prelude.{◌≡◌, ℕ, Bool, true, false, if◌then◌else◌, List, [], ◌∷◌, map, slice_get, Option, Some, None}
+use Rattle.std.specs.List.{list_any, list_all}
 use Rattle.stream_model.specs.declared.outcome.EndState.{EndState}
 use Rattle.stream_model.specs.declared.outcome.EndState.TheVariants as state
-use Rattle.stream_top.specs.Answer.{Answer}
+use Rattle.blue_core.specs.declared.blueprint.Node.{Node}
+use Rattle.blueprint_run.specs.Stands.{Stand, is_write_fault, is_unended, is_failed}
+use Rattle.blueprint_run.specs.declared.run.Ran.{Ran}
+use Rattle.run_report.specs.Answer.{Answer}
+use Rattle.run_report.specs.declared.outcome.SinkEnd.{SinkEnd}
+use Rattle.run_report.specs.declared.outcome.Status.{Status}
+use Rattle.run_report.specs.declared.outcome.Status.TheVariants as status
 use Rattle.stream_top.specs.declared.answer.Outcome.{Outcome}
-use Rattle.stream_top.specs.declared.outcome.Status.{Status}
-use Rattle.stream_top.specs.declared.outcome.Status.TheVariants as status
-use Rattle.stream_top.specs.declared.outcome.SinkEnd.{SinkEnd}
-use Rattle.stream_top.specs.declared.run.Ran.{Ran}
 
 -- the answer that an outcome is
 abbrev pub of_outcome : Outcome → Answer
 of_outcome o = record { status = o.status; sinks = o.sinks.items; wires = o.picture.wires.items; used = o.used }
 
--- the sink of that name, alone, stands so
-abbrev pub OneSink : List SinkEnd → List ℕ → ℕ → EndState → Type 0
-OneSink sinks name count end = sinks ≡ record { name = name; count = count; end = end } ∷ []
+-- the name of a node
+abbrev pub name_of : Option Node → List ℕ
+name_of None = []
+name_of (Some n) = n.name
 
--- the status, by how the one sink ended and whether no event was left
-abbrev pub status_after : EndState → Bool → Status
-status_after state.WriteFault rest = status.WriteFault
-status_after state.Unended true = status.Stalled
-status_after state.Unended false = status.OutOfTurns
-status_after (state.Failed c) rest = status.StreamFailed
-status_after state.Ended rest = status.Done
+-- what is told of a sink that stands so
+abbrev pub told_end : List Node → Stand → SinkEnd
+told_end nodes s = record { name = name_of (slice_get nodes s.0); count = s.1; end = s.2 }
+
+abbrev pub told_ends : List Node → List Stand → List SinkEnd
+told_ends nodes stands = map (told_end nodes) stands
+
+-- it ended
+abbrev pub is_ended : EndState → Bool
+is_ended state.Ended = true
+is_ended _ = false
+
+-- every sink ended; some sink failed, goes on, or stands at a failed write
+abbrev pub all_ended : List SinkEnd → Bool
+all_ended sinks = list_all (λ s. is_ended s.end) sinks
+
+abbrev pub some_failed : List SinkEnd → Bool
+some_failed sinks = list_any (λ s. is_failed s.end) sinks
+
+abbrev pub some_unended : List SinkEnd → Bool
+some_unended sinks = list_any (λ s. is_unended s.end) sinks
+
+abbrev pub some_fault : List SinkEnd → Bool
+some_fault sinks = list_any (λ s. is_write_fault s.end) sinks
+
+-- the ends of sinks of these names that stand so
+abbrev pub ends_of : List (List ℕ) → List Stand → List SinkEnd
+ends_of (n ∷ ns) (s ∷ ss) = record { name = n; count = s.1; end = s.2 } ∷ ends_of ns ss
+ends_of _ _ = []
+
+-- the status, by how the sinks stand and whether no event was left: a failed write comes first, then a sink that goes on, then one
+-- that failed
+abbrev pub status_after : List Stand → Bool → Status
+status_after stands rest =
+    if list_any (λ s. is_write_fault s.2) stands then status.WriteFault
+    else (if list_any (λ s. is_unended s.2) stands then (if rest then status.Stalled else status.OutOfTurns)
+    else (if list_any (λ s. is_failed s.2) stands then status.StreamFailed else status.Done))
 
 -- what is told of the run
-pub record AfterRun (name : List ℕ) (ran : Ran) (a : Answer) : Type 0 where
-  pub status : a.status ≡ status_after ran.end ran.at_rest
-  pub sink : OneSink a.sinks name ran.count ran.end
+pub record AfterRun (names : List (List ℕ)) (ran : Ran) (a : Answer) : Type 0 where
+  pub status : a.status ≡ status_after ran.sinks.items ran.at_rest
+  pub sinks : a.sinks ≡ ends_of names ran.sinks.items
   pub wires : a.wires ≡ ran.wires.items
   pub used : a.used ≡ ran.used

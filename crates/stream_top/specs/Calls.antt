@@ -1,5 +1,5 @@
 -- The answer of the top call.
-use Rattle.stream_top.specs.Answer.{Answer}
+use Rattle.run_report.specs.Answer.{Answer}
 use Rattle.stream_top.specs.declared.top.RunEnd.{RunEnd}
 
 -- the answer that it gives with its exit code

@@ -3,7 +3,7 @@ use Rattle.std.specs.Prelude.{ℕ, Bool, ◌==◌, nat_le, ◌&&◌, if◌then�
 use Rattle.std.specs.Cmp.Lexicographic.{pointwise}
 use Rattle.std.specs.Str.Parse.{digits_value}
 use Rattle.elem_core.specs.Number.{is_numeral}
-use Rattle.straight_lang.specs.Names.{is_file_name}
+use Rattle.blue_words.specs.Names.{is_file_name}
 
 -- what the words ask for: the run of a file's blueprint, by so many units at most
 pub record Asked : Type 0 where

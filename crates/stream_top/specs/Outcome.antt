@@ -1,26 +1,45 @@
 -- What a call answers and what it leaves, status by status.
-use Rattle.std.specs.Prelude.{◌≡◌, ◌≢◌, ℕ, ◌≤◌, ◌⊎◌, Bool, true, false, IsSome, List, [], ◌∷◌, Some, ⊤}
-use Rattle.straight_lang.specs.Straight.{Plain, IsStraight}
+use Rattle.std.specs.Prelude.{◌≡◌, ◌≢◌, ℕ, ◌≤◌, ◌⊎◌, Bool, true, false, IsTrue, IsSome, List, [], ◌∷◌, map, slice_get, Option, Some, None, ⊤}
+use Rattle.std.specs.List.{All, Contains, list_any, list_all}
 use Rattle.elem_core.specs.declared.why.Cause.{Cause}
+use Rattle.stream_model.specs.declared.kind.Kind.TheVariants.{ToLines}
 use Rattle.stream_model.specs.declared.outcome.EndState.{EndState}
 use Rattle.stream_model.specs.declared.outcome.EndState.TheVariants as state
-use Rattle.stream_io.specs.Counts.{Rose}
+use Rattle.stream_io.specs.Counts.{Rose, Grew}
 use Rattle.stream_io.specs.State.{FolderState, SameFiles, Lacks}
-use Rattle.stream_top.specs.Quiet.{Quiet, QuietBut}
+use Rattle.blue_core.specs.declared.blueprint.Blueprint.{Blueprint}
+use Rattle.blue_core.specs.declared.blueprint.Node.{Node}
+use Rattle.blue_lang.specs.Blueprints as language
+use Rattle.blue_lang.specs.Plain.{plain}
+use Rattle.blue_check.specs.Fitness.{IsFit, IsFirstFault}
+use Rattle.materializer.specs.Built.{unbuilt_node}
+use Rattle.materializer.specs.Files.{inputs_of_nodes, outputs_of_nodes}
+use Rattle.run_files.specs.Quiet.{Quiet, QuietBut}
+use Rattle.run_files.specs.Opening.{Empties}
+use Rattle.blueprint_run.specs.Stands.{Stand, sink_places, is_write_fault, is_unended, is_failed}
+use Rattle.blueprint_run.specs.Running.{LeavesFiles, WritesOf, SomeWriteRose}
+use Rattle.run_report.specs.Answer.{Answer}
+use Rattle.run_report.specs.declared.outcome.Status.{Status}
+use Rattle.run_report.specs.declared.outcome.Status.TheVariants as status
+use Rattle.run_report.specs.declared.outcome.SinkEnd.{SinkEnd}
 use Rattle.stream_top.specs.Command.{Asked, command_of}
-use Rattle.stream_top.specs.Running.{LeavesFiles}
-use Rattle.stream_top.specs.Answer.{Answer}
-use Rattle.stream_top.specs.declared.outcome.Status.{Status}
-use Rattle.stream_top.specs.declared.outcome.Status.TheVariants as status
-use Rattle.stream_top.specs.declared.outcome.SinkEnd.{SinkEnd}
+use Rattle.stream_top.specs.AfterRun.{told_ends, all_ended, some_failed, some_unended, some_fault}
 
--- the command's file says this straight blueprint, which reads and writes other files than that one
-pub record Says (folder : FolderState) (file : List ℕ) (b : Plain) : Type 0 where
+-- the command's file says this blueprint
+pub record SaysFile (folder : FolderState) (file : List ℕ) (b : Blueprint) : Type 0 where
   pub whole : List ℕ
   pub there : folder.file file ≡ Some whole
-  pub straight : IsStraight whole b
-  pub input_apart : b.source.file ≢ file
-  pub output_apart : b.sink.file ≢ file
+  pub says : language.Says whole (plain b)
+
+-- and it breaks no rule, where no plugs are handed in and the command's own file is taken
+pub record SaysFit (folder : FolderState) (file : List ℕ) (b : Blueprint) : Type 0 where
+  pub says : SaysFile folder file b
+  pub fit : IsFit b [] (file ∷ [])
+
+-- and all of it has been built
+pub record SaysBuilt (folder : FolderState) (file : List ℕ) (b : Blueprint) : Type 0 where
+  pub fit : SaysFit folder file b
+  pub built : unbuilt_node b ≡ None
 
 -- nothing was run: there is nothing to tell of a run
 pub record Blank (a : Answer) : Type 0 where
@@ -33,92 +52,123 @@ pub record RanNothing (old new : FolderState) (a : Answer) : Type 0 where
   pub files : SameFiles old new
   pub blank : Blank a
 
--- the blueprint was run, by so many units at most, and its sink stands so; the files are left as a run leaves them. The units
+-- the blueprint was run, by so many units at most, and its sinks stand so; the files are left as a run leaves them. The units
 -- were used up, or no event was left.
-pub record RanTo (old new : FolderState) (b : Plain) (turns : ℕ) (a : Answer) (end : EndState) : Type 0 where
-  pub count : ℕ
+pub record RanTo (old new : FolderState) (b : Blueprint) (turns : ℕ) (a : Answer) : Type 0 where
+  pub stands : List Stand
+  pub stands_are : map (λ (s : Stand). s.0) stands ≡ sink_places 0 b.nodes.items
+  pub sinks : a.sinks ≡ told_ends b.nodes.items stands
   pub at_rest : Bool
-  pub leaves : LeavesFiles old new b.source.file b.stages b.sink.file end count a.wires at_rest
-  pub sink : a.sinks ≡ record { name = b.sink.name; count = count; end = end } ∷ []
+  pub leaves : LeavesFiles old new b stands a.wires at_rest
+  pub writes : (i : ℕ) (s : Stand) (n : Node) (file : List ℕ) → slice_get stands i ≡ Some s → slice_get b.nodes.items s.0 ≡ Some n → n.kind ≡ ToLines file → WritesOf s.2 (old.wfaults file) (new.wfaults file)
   pub within : a.used ≤ turns
   pub spent : at_rest ≡ false → a.used ≡ turns
-
--- memory was wanting in a run: no file is changed, or the sink's is empty and no other is changed
-abbrev pub GaveUp : FolderState → FolderState → List ℕ → Type 0
-GaveUp old new output = SameFiles old new ⊎ ((new.file output ≡ Some []) × ((n : List ℕ) → n ≢ output → new.file n ≡ old.file n))
 
 -- the folder has no file of that name, or its opening was refused
 abbrev pub IsAbsent : FolderState → FolderState → List ℕ → Type 0
 IsAbsent old new n = Lacks old n ⊎ Rose (old.refusals n) (new.refusals n)
 
--- what a call that ended before a run answers, where the folder tells its files
+-- what a call that ended before its blueprint's files were opened answers, where the folder tells its files
 abbrev pub EndedBefore : Status → Answer → List ℕ → FolderState → FolderState → Type 0
 EndedBefore (status.Missing n) a file old new = RanNothing old new a × (n ≡ file) × IsAbsent old new file
 EndedBefore status.ReadFault a file old new = RanNothing old new a × Rose (old.rfaults file) (new.rfaults file)
-EndedBefore (status.Unbuilt k) a file old new = RanNothing old new a × (k ≡ 0) × IsSome (old.file file) × ((b : Plain) → Says old file b → ⊥)
+EndedBefore (status.Refused f) a file old new = RanNothing old new a × ((whole : List ℕ) × ((old.file file ≡ Some whole) × (language.fault_of whole ≡ Some f)))
+EndedBefore (status.Unfit f) a file old new = RanNothing old new a × ((b : Blueprint) × (SaysFile old file b × IsFirstFault b [] (file ∷ []) f))
+EndedBefore (status.Unbuilt k) a file old new = RanNothing old new a × ((b : Blueprint) × (SaysFit old file b × (unbuilt_node b ≡ Some k)))
 EndedBefore status.NoMemory a file old new = RanNothing old new a
 EndedBefore _ a file old new = ⊥
 
--- what the run of a blueprint answers, where the folder tells its files
-abbrev pub EndedRun : Status → Answer → Plain → ℕ → FolderState → FolderState → Type 0
-EndedRun status.Done a b turns old new = RanTo old new b turns a state.Ended
-EndedRun status.StreamFailed a b turns old new = (c : Cause) × RanTo old new b turns a (state.Failed c)
-EndedRun status.Stalled a b turns old new = (ran : RanTo old new b turns a state.Unended) × (ran.at_rest ≡ true)
-EndedRun status.OutOfTurns a b turns old new = (ran : RanTo old new b turns a state.Unended) × (ran.at_rest ≡ false)
-EndedRun status.WriteFault a b turns old new = RanTo old new b turns a state.WriteFault × Rose (old.wfaults b.sink.file) (new.wfaults b.sink.file)
-EndedRun (status.Missing n) a b turns old new = RanNothing old new a × (((n ≡ b.source.file) × IsAbsent old new n) ⊎ ((n ≡ b.sink.file) × IsSome (old.file b.source.file) × Rose (old.refusals n) (new.refusals n)))
-EndedRun status.NoMemory a b turns old new = Blank a × GaveUp old new b.sink.file
+-- the first of the inputs that is not there, or whose opening was refused, has this name; no file is changed
+pub record LacksInput (old new : FolderState) (b : Blueprint) (n : List ℕ) (a : Answer) : Type 0 where
+  pub before : List (List ℕ)
+  pub after : List (List ℕ)
+  pub place : inputs_of_nodes b.nodes.items ≡ before ++ n ∷ after
+  pub there : All (λ m. IsSome (old.file m)) before
+  pub absent : IsAbsent old new n
+  pub nothing : RanNothing old new a
+
+-- the inputs are there, and the first of the outputs whose opening was refused has this name; those before it are empty
+pub record LacksOutput (old new : FolderState) (b : Blueprint) (n : List ℕ) (a : Answer) : Type 0 where
+  pub before : List (List ℕ)
+  pub after : List (List ℕ)
+  pub place : outputs_of_nodes b.nodes.items ≡ before ++ n ∷ after
+  pub there : All (λ m. IsSome (old.file m)) (inputs_of_nodes b.nodes.items)
+  pub refused : Rose (old.refusals n) (new.refusals n)
+  pub files : Empties old new before
+  pub blank : Blank a
+
+-- memory was wanting in a run: each sink's file is as it was or empty, and no other is changed
+pub record GaveUp (old new : FolderState) (b : Blueprint) : Type 0 where
+  pub others : (n : List ℕ) → ¬ (Contains (outputs_of_nodes b.nodes.items) n) → new.file n ≡ old.file n
+  pub outputs : (n : List ℕ) → (new.file n ≡ old.file n) ⊎ (new.file n ≡ Some [])
+
+-- What the run of a blueprint answers, where the folder tells its files. A failed write stands before a sink that has not ended,
+-- and that before one that failed.
+abbrev pub EndedRun : Status → Answer → Blueprint → ℕ → FolderState → FolderState → Type 0
+EndedRun status.Done a b turns old new = RanTo old new b turns a × (all_ended a.sinks ≡ true)
+EndedRun status.StreamFailed a b turns old new = RanTo old new b turns a × (some_fault a.sinks ≡ false) × (some_unended a.sinks ≡ false) × (some_failed a.sinks ≡ true)
+EndedRun status.Stalled a b turns old new = (ran : RanTo old new b turns a) × (ran.at_rest ≡ true) × (some_fault a.sinks ≡ false) × (some_unended a.sinks ≡ true)
+EndedRun status.OutOfTurns a b turns old new = (ran : RanTo old new b turns a) × (ran.at_rest ≡ false) × (some_fault a.sinks ≡ false) × (some_unended a.sinks ≡ true)
+EndedRun status.WriteFault a b turns old new = RanTo old new b turns a × (some_fault a.sinks ≡ true) × SomeWriteRose old new b
+EndedRun (status.Missing n) a b turns old new = LacksInput old new b n a ⊎ LacksOutput old new b n a
+EndedRun status.NoMemory a b turns old new = Blank a × GaveUp old new b
 EndedRun _ a b turns old new = ⊥
 
 -- what a call with that file answers: it ended before a run, or it ran the blueprint that the file says
 abbrev pub Told : Answer → Asked → FolderState → FolderState → Type 0
-Told a c old new = EndedBefore a.status a c.file old new ⊎ ((b : Plain) × (Says old c.file b × EndedRun a.status a b c.turns old new))
+Told a c old new = EndedBefore a.status a c.file old new ⊎ ((b : Blueprint) × (SaysBuilt old c.file b × EndedRun a.status a b c.turns old new))
 
--- which counts a run raised: of failed reads at most that of its input, and of failed writes that of its output exactly where
--- a write failed
-abbrev pub RunCauses : Status → List ℕ → List ℕ → FolderState → FolderState → Type 0
-RunCauses status.Usage input output old new = ⊥
-RunCauses status.ReadFault input output old new = ⊥
-RunCauses (status.Unbuilt k) input output old new = ⊥
-RunCauses (status.Missing n) input output old new = IsAbsent old new n × QuietBut n old.refusals new.refusals × Quiet old.rfaults new.rfaults × Quiet old.wfaults new.wfaults
-RunCauses status.NoMemory input output old new = Quiet old.refusals new.refusals × Quiet old.rfaults new.rfaults × Quiet old.wfaults new.wfaults
-RunCauses status.WriteFault input output old new = Quiet old.refusals new.refusals × QuietBut input old.rfaults new.rfaults × (Rose (old.wfaults output) (new.wfaults output) × QuietBut output old.wfaults new.wfaults)
-RunCauses _ input output old new = Quiet old.refusals new.refusals × QuietBut input old.rfaults new.rfaults × Quiet old.wfaults new.wfaults
+-- only counts of these names rose
+abbrev pub QuietButAll : List (List ℕ) → (List ℕ → ℕ) → (List ℕ → ℕ) → Type 0
+QuietButAll names old new = (n : List ℕ) → ¬ (Contains names n) → Grew (old n) 0 (new n)
+
+-- which counts a run raised: of failed reads at most those of its inputs, and of failed writes those of its outputs, and some of
+-- them exactly where a write failed
+abbrev pub RunCauses : Status → Blueprint → FolderState → FolderState → Type 0
+RunCauses status.Usage b old new = ⊥
+RunCauses status.ReadFault b old new = ⊥
+RunCauses (status.Refused f) b old new = ⊥
+RunCauses (status.Unfit f) b old new = ⊥
+RunCauses (status.Unbuilt k) b old new = ⊥
+RunCauses (status.Missing n) b old new = IsAbsent old new n × QuietBut n old.refusals new.refusals × Quiet old.rfaults new.rfaults × Quiet old.wfaults new.wfaults
+RunCauses status.NoMemory b old new = Quiet old.refusals new.refusals × Quiet old.rfaults new.rfaults × Quiet old.wfaults new.wfaults
+RunCauses status.WriteFault b old new = Quiet old.refusals new.refusals × QuietButAll (inputs_of_nodes b.nodes.items) old.rfaults new.rfaults × SomeWriteRose old new b × QuietButAll (outputs_of_nodes b.nodes.items) old.wfaults new.wfaults
+RunCauses _ b old new = Quiet old.refusals new.refusals × QuietButAll (inputs_of_nodes b.nodes.items) old.rfaults new.rfaults × Quiet old.wfaults new.wfaults
 
 -- what a call raised before a run
 abbrev pub CausesBefore : Status → List ℕ → FolderState → FolderState → Type 0
 CausesBefore (status.Missing n) file old new = IsAbsent old new n × QuietBut n old.refusals new.refusals × Quiet old.rfaults new.rfaults × Quiet old.wfaults new.wfaults
 CausesBefore status.ReadFault file old new = Quiet old.refusals new.refusals × (Rose (old.rfaults file) (new.rfaults file) × QuietBut file old.rfaults new.rfaults) × Quiet old.wfaults new.wfaults
+CausesBefore (status.Refused f) file old new = Quiet old.refusals new.refusals × Quiet old.rfaults new.rfaults × Quiet old.wfaults new.wfaults
+CausesBefore (status.Unfit f) file old new = Quiet old.refusals new.refusals × Quiet old.rfaults new.rfaults × Quiet old.wfaults new.wfaults
 CausesBefore (status.Unbuilt k) file old new = Quiet old.refusals new.refusals × Quiet old.rfaults new.rfaults × Quiet old.wfaults new.wfaults
 CausesBefore status.NoMemory file old new = Quiet old.refusals new.refusals × Quiet old.rfaults new.rfaults × Quiet old.wfaults new.wfaults
 CausesBefore _ file old new = ⊥
 
--- Which counts rose, whether the folder tells its files or not: before a run, or in the run of a blueprint whose files are other
--- than the command's.
+-- Which counts rose, whether the folder tells its files or not: before a run, or in the run of a blueprint that is fit where the
+-- command's own file is taken, so that its files are other ones.
 abbrev pub Causes : Status → List ℕ → FolderState → FolderState → Type 0
-Causes s file old new = CausesBefore s file old new ⊎ ((input : List ℕ) × ((output : List ℕ) × ((input ≢ file) × (output ≢ file) × RunCauses s input output old new)))
-
--- one sink, which stands so
-abbrev pub OneEnd : (EndState → Type 0) → List SinkEnd → Type 0
-OneEnd P sinks = (s : SinkEnd) × ((sinks ≡ s ∷ []) × P s.end)
+Causes s file old new = CausesBefore s file old new ⊎ ((b : Blueprint) × (IsFit b [] (file ∷ []) × RunCauses s b old new))
 
 -- what a status comes with
 abbrev pub SinksOf : Status → Answer → Type 0
-SinksOf status.Done a = OneEnd (λ e. e ≡ state.Ended) a.sinks
-SinksOf status.StreamFailed a = OneEnd (λ e. (c : Cause) × (e ≡ state.Failed c)) a.sinks
-SinksOf status.Stalled a = OneEnd (λ e. e ≡ state.Unended) a.sinks
-SinksOf status.OutOfTurns a = OneEnd (λ e. e ≡ state.Unended) a.sinks
-SinksOf status.WriteFault a = OneEnd (λ e. e ≡ state.WriteFault) a.sinks
+SinksOf status.Done a = all_ended a.sinks ≡ true
+SinksOf status.StreamFailed a = (some_fault a.sinks ≡ false) × (some_unended a.sinks ≡ false) × (some_failed a.sinks ≡ true)
+SinksOf status.Stalled a = (some_fault a.sinks ≡ false) × (some_unended a.sinks ≡ true)
+SinksOf status.OutOfTurns a = (some_fault a.sinks ≡ false) × (some_unended a.sinks ≡ true)
+SinksOf status.WriteFault a = some_fault a.sinks ≡ true
 SinksOf _ a = Blank a
 
--- the words name a file that says a blueprint, whose input is there
+-- the words name a file that says a blueprint; it is fit and built, and its inputs are there. A text says one blueprint, so this is
+-- said of each value that the text says.
 pub record IsValid (words : List (List ℕ)) (folder : FolderState) : Type 0 where
   pub asked : Asked
   pub command : command_of words ≡ Some asked
-  pub blueprint : Plain
-  pub says : Says folder asked.file blueprint
-  pub bytes : List ℕ
-  pub input : folder.file blueprint.source.file ≡ Some bytes
+  pub blueprint : Blueprint
+  pub says : SaysFile folder asked.file blueprint
+  pub fit : (b : Blueprint) → SaysFile folder asked.file b → IsFit b [] (asked.file ∷ [])
+  pub built : (b : Blueprint) → SaysFile folder asked.file b → unbuilt_node b ≡ None
+  pub inputs : (b : Blueprint) → SaysFile folder asked.file b → All (λ n. IsSome (folder.file n)) (inputs_of_nodes b.nodes.items)
 
 -- no count rose
 pub record RoseNowhere (old new : FolderState) : Type 0 where

@@ -3,7 +3,7 @@ use Rattle.std.specs.Prelude.{◌≡◌, ◌≢◌, ℕ, ◌⊎◌, IsTrue, List
 use Rattle.std.specs.Option.{option_map}
 use Rattle.stream_io.specs.Counts.{Rose}
 use Rattle.stream_io.specs.State.{FolderState, SameFiles, Lacks}
-use Rattle.stream_top.specs.Quiet.{Quiet, QuietBut}
+use Rattle.run_files.specs.Quiet.{Quiet, QuietBut}
 
 -- how many bytes of a blueprint's file are read
 abbrev pub text_limit : ℕ

@@ -1,37 +1,65 @@
-// The answer of a call, from the words to the status and what is told of a run.
-ghost use Rattle.std.specs.Prelude.{ℕ, List, ◌≡◌, ◌≢◌, ◌≤◌, ◌∷◌, [], ◌⊎◌, true, IfOk, IsTrue, MatchBool, vec_len};
-ghost use Rattle.straight_lang.specs.Straight.{plain};
-ghost use Rattle.stream_top.specs.AfterRun.{AfterRun, OneSink, of_outcome, status_after};
-ghost use Rattle.stream_top.specs.Outcome.{Blank, EndedRun, Told, Causes, RunCauses, SinksOf};
+// The answer of a call, from the blueprint's file to the status and what is told of a run.
+ghost use Rattle.std.specs.Prelude.{ℕ, List, ◌≡◌, ◌≤◌, ◌∷◌, [], ◌⊎◌, map, length, IfOk, IsTrue, Some, None, vec_len, vec_capacity};
+ghost use Rattle.blue_check.specs.Checked.{blueprint_of};
+ghost use Rattle.blue_check.specs.Fitness.{IsFit};
+ghost use Rattle.blueprint_run.specs.Stands.{is_unended, is_write_fault, is_failed};
+ghost use Rattle.run_report.specs.Report.{detail_of};
+ghost use Rattle.std.specs.List.{list_any};
+ghost use Rattle.materializer.specs.Built.{CanRun};
+ghost use Rattle.materializer.specs.Files.{sinks_of_nodes};
+ghost use Rattle.stream_top.specs.AfterRun.{AfterRun, of_outcome, status_after, ends_of};
+ghost use Rattle.stream_top.specs.Outcome.{Blank, EndedRun, Told, RunCauses, Causes, SinksOf};
+ghost use Rattle.stream_top.specs.Texts.{EndedFit, EndedParsed, EndedText, CausesFit, CausesText};
 
-use crate::open::OpenEnd;
-use crate::outcome::{SinkEnd, Status};
-use crate::run::{Ran, run};
-use crate::text::{ReadEnd, read_file};
+use blue_check::check::{CheckEnd, check};
+use blue_check::checked::Checked;
+use blue_check::detail::put_detail;
+use blue_check::fault::CheckFault;
+use blue_core::blueprint::Blueprint;
+use blue_lang::parse::{ParseEnd, parse};
+use blueprint_run::run::{Ran, run};
 use elem_core::line::Line;
-use std::alloc::{AllocError, Global};
-use straight_lang::blueprint::Blueprint;
-use straight_lang::laws::one_text_says_one_blueprint;
-use straight_lang::parse::{ParseEnd, parse};
+use elem_core::why::NoMemory;
+use materializer::built::first_unbuilt;
+use materializer::names::sink_names;
+use run_files::open::OpenEnd;
+use run_report::outcome::{SinkEnd, Status};
+use std::alloc::Global;
 use stream_io::outside::Folder;
 use stream_model::outcome::{EndState, Picture};
 
-/// How a call ended, and what is told of a run where a blueprint was run.
+use crate::text::{ReadEnd, read_file};
+
+/// How a call ended, what is told of a rule that is broken, and what is told of a run where a blueprint was run.
 #[derive(Drop)]
 pub struct Outcome {
     pub status: Status,
+    pub detail: Vec<u8>,
     pub sinks: Vec<SinkEnd>,
     pub picture: Picture,
     pub used: u64,
 }
 
-/// A status without a run.
+/// A status without a run, of which nothing more is told.
 pub fn without_run(alloc: Global, status: Status) -> Outcome
+    requires { detail_of status ≡ [] }
     ensures status { result.status ≡ status }
+    ensures detail { result.detail.items ≡ detail_of result.status }
+    ensures blank { Blank (of_outcome result) }
+{
+    told_without_run(alloc, status, Vec::new(alloc))
+}
+
+/// A status without a run, with what is told of it.
+fn told_without_run(alloc: Global, status: Status, detail: Vec<u8>) -> Outcome
+    requires { detail.items ≡ detail_of status }
+    ensures status { result.status ≡ status }
+    ensures detail { result.detail.items ≡ detail_of result.status }
     ensures blank { Blank (of_outcome result) }
 {
     Outcome {
         status,
+        detail,
         sinks: Vec::new(alloc),
         picture: Picture {
             wires: Vec::new(alloc),
@@ -40,109 +68,226 @@ pub fn without_run(alloc: Global, status: Status) -> Outcome
     }
 }
 
-/// The one sink before a run.
-fn one_sink(alloc: Global, name: Line) -> Result<Vec<SinkEnd>, AllocError>
-    ensures sink { IfOk result (λ sinks. OneSink sinks.items name 0 EndState.Unended) }
-    ensures one { IfOk result (λ sinks. vec_len sinks ≡ 1) }
+/// The text of what is told of a rule that is broken.
+fn detail(alloc: Global, fault: &CheckFault) -> Result<Vec<u8>, NoMemory>
+    ensures { IfOk result (λ detail. detail.items ≡ detail_of (Status.Unfit fault.now)) }
 {
-    let mut sinks = Vec::new(alloc);
-    sinks.push(SinkEnd {
-        name,
-        count: 0,
-        end: EndState::Unended,
-    })?;
-    Ok(sinks)
+    let mut detail = Vec::new(alloc);
+    put_detail(&mut detail, fault)?;
+    Ok(detail)
 }
 
-/// The sinks after a run, of which there is one.
-fn settled(sinks: Vec<SinkEnd>, count: u64, end: EndState) -> Vec<SinkEnd>
-    requires { vec_len sinks ≡ 1 }
-    ensures { (name : List ℕ) → OneSink sinks.items name 0 EndState.Unended → OneSink result.items name count end }
+/// A rule is broken. Where memory is wanting to tell of it, that is told in its place.
+fn unfit(alloc: Global, fault: CheckFault) -> Outcome
+    ensures status { (result.status ≡ Status.Unfit fault) ⊎ (result.status ≡ Status.NoMemory) }
+    ensures detail { result.detail.items ≡ detail_of result.status }
+    ensures blank { Blank (of_outcome result) }
 {
-    let mut sinks = sinks;
-    let sink = &mut sinks[0];
-    sink.count = count;
-    sink.end = end;
-    sinks
-}
-
-/// The status of a run, by how its one sink ended and whether no event was left.
-fn status_of(end: EndState, at_rest: bool) -> Status
-    ensures { result ≡ status_after end at_rest }
-{
-    match end {
-        EndState::WriteFault => Status::WriteFault,
-        EndState::Unended => {
-            if at_rest {
-                Status::Stalled
-            } else {
-                Status::OutOfTurns
-            }
-        }
-        EndState::Failed(_) => Status::StreamFailed,
-        EndState::Ended => Status::Done,
+    match detail(alloc, &fault) {
+        Ok(detail) => told_without_run(alloc, Status::Unfit(fault), detail),
+        Err(_) => without_run(alloc, Status::NoMemory),
     }
 }
 
-/// What is told of a run.
-fn after_run(sinks: Vec<SinkEnd>, ran: Ran) -> Outcome
-    requires { vec_len sinks ≡ 1 }
-    ensures { (name : List ℕ) → OneSink sinks.items name 0 EndState.Unended → AfterRun name ran (of_outcome result) }
+/// The ends of sinks of these names that stand so, in a list that has room for them.
+fn told_ends(
+    names: Vec<Line>,
+    stands: &[(u32, u64, EndState)],
+    room: Vec<SinkEnd>,
+) -> Vec<SinkEnd>
+    requires empty { room.items ≡ [] }
+    requires room { vec_len names ≤ vec_capacity room }
+    requires as_many { vec_len names ≡ length stands.now }
+    ensures { result.items ≡ ends_of names.items stands.now }
+{
+    let mut ends = room;
+    for name in names {
+        let (_, count, end) = stands[ends.len()];
+        ends.push_reserved(SinkEnd { name, count, end });
+    }
+    ends
+}
+
+/// Whether some sink has an end of this kind.
+fn some_write_fault(sinks: &[(u32, u64, EndState)]) -> bool
+    ensures { result ≡ list_any (λ s. is_write_fault s.2) sinks.now }
+{
+    sinks
+        .iter()
+        .any(|sink| matches!(sink.2, EndState::WriteFault))
+}
+
+/// Whether some sink has not ended.
+fn some_unended(sinks: &[(u32, u64, EndState)]) -> bool
+    ensures { result ≡ list_any (λ s. is_unended s.2) sinks.now }
+{
+    sinks.iter().any(|sink| matches!(sink.2, EndState::Unended))
+}
+
+/// Whether some sink failed.
+fn some_failed(sinks: &[(u32, u64, EndState)]) -> bool
+    ensures { result ≡ list_any (λ s. is_failed s.2) sinks.now }
+{
+    sinks
+        .iter()
+        .any(|sink| matches!(sink.2, EndState::Failed(_)))
+}
+
+/// The status of a run, by how its sinks stand and whether no event was left.
+fn status_of(sinks: &[(u32, u64, EndState)], at_rest: bool) -> Status
+    ensures { result ≡ status_after sinks.now at_rest }
+{
+    if some_write_fault(sinks) {
+        Status::WriteFault
+    } else if some_unended(sinks) {
+        if at_rest {
+            Status::Stalled
+        } else {
+            Status::OutOfTurns
+        }
+    } else if some_failed(sinks) {
+        Status::StreamFailed
+    } else {
+        Status::Done
+    }
+}
+
+/// What is told of a run, in a list that has room for its sinks.
+fn after_run(alloc: Global, names: Vec<Line>, room: Vec<SinkEnd>, ran: Ran) -> Outcome
+    requires empty { room.items ≡ [] }
+    requires room { vec_len names ≤ vec_capacity room }
+    requires as_many { vec_len names ≡ vec_len ran.sinks }
+    ensures run { AfterRun names.items ran (of_outcome result) }
+    ensures detail { result.detail.items ≡ detail_of result.status }
 {
     let Ran {
-        count,
-        end,
+        sinks,
         wires,
         used,
         at_rest,
     } = ran;
     Outcome {
-        status: status_of(end, at_rest),
-        sinks: settled(sinks, count, end),
+        status: status_of(&sinks, at_rest),
+        detail: Vec::new(alloc),
+        sinks: told_ends(names, &sinks, room),
         picture: Picture { wires },
         used: u64::from(used),
     }
 }
 
-/// Runs a blueprint whose input and output are two files.
+/// The names of a blueprint's sinks, and room to tell of them.
+fn sinks_to_tell(alloc: Global, b: &Blueprint) -> Result<(Vec<Line>, Vec<SinkEnd>), NoMemory>
+    ensures names { IfOk result (λ sinks. sinks.0.items ≡ sinks_of_nodes b.now.nodes.items) }
+    ensures empty { IfOk result (λ sinks. sinks.1.items ≡ []) }
+    ensures room { IfOk result (λ sinks. vec_len sinks.0 ≤ vec_capacity sinks.1) }
+{
+    let names = sink_names(alloc, b)?;
+    let room = Vec::with_capacity(alloc, names.len())?;
+    Ok((names, room))
+}
+
+/// Runs a blueprint of which all has been built.
 fn run_blueprint<F: Folder>(
     alloc: Global,
     folder: &mut F,
-    blueprint: Blueprint,
+    b: Blueprint,
     turns: u32,
 ) -> Outcome
-    requires few { vec_len blueprint.stages ≤ 1022 }
+    requires runs { CanRun b }
     requires turns { turns ≤ 4000000000 }
-    requires apart { blueprint.source.file ≢ blueprint.sink.file }
-    ensures told { IsTrue (F.state folder.new).tells → EndedRun result.status (of_outcome result) (plain blueprint) turns (F.state folder.old) (F.state folder.new) }
+    ensures told { IsTrue (F.state folder.new).tells → EndedRun result.status (of_outcome result) b turns (F.state folder.old) (F.state folder.new) }
     ensures tells { IsTrue (F.state folder.new).tells → IsTrue (F.state folder.old).tells }
-    ensures causes { RunCauses result.status blueprint.source.file blueprint.sink.file (F.state folder.old) (F.state folder.new) }
+    ensures causes { RunCauses result.status b (F.state folder.old) (F.state folder.new) }
     ensures sinks { SinksOf result.status (of_outcome result) }
+    ensures detail { result.detail.items ≡ detail_of result.status }
 {
-    let Blueprint {
-        source,
-        stages,
-        sink,
-    } = blueprint;
-    let sinks = match one_sink(alloc, sink.name) {
-        Ok(sinks) => sinks,
-        Err(AllocError) => return without_run(alloc, Status::NoMemory),
+    // The names and the room for the ends of its sinks are made before a file is opened, so that want of memory hides no fault.
+    let Ok((names, room)) = sinks_to_tell(alloc, &b) else {
+        return without_run(alloc, Status::NoMemory);
     };
-    match run(alloc, folder, &source.file, stages, &sink.file, turns) {
-        Ok(ran) => after_run(sinks, ran),
-        Err(OpenEnd::MissingInput) => without_run(alloc, Status::Missing(source.file)),
-        Err(OpenEnd::MissingOutput) => without_run(alloc, Status::Missing(sink.file)),
+    match run(alloc, folder, b, turns) {
+        Ok(ran) => after_run(alloc, names, room, ran),
+        Err(OpenEnd::MissingInput(name)) => without_run(alloc, Status::Missing(name)),
+        Err(OpenEnd::MissingOutput(name)) => without_run(alloc, Status::Missing(name)),
         Err(OpenEnd::NoMemory) => without_run(alloc, Status::NoMemory),
     }
 }
 
-/// Whether a blueprint reads and writes other files than that one.
-fn is_apart(blueprint: &Blueprint, file: &Line) -> bool
-    ensures { MatchBool result
-        ((blueprint.now.source.file ≢ file.now) × (blueprint.now.sink.file ≢ file.now))
-        ((blueprint.now.source.file ≡ file.now) ⊎ (blueprint.now.sink.file ≡ file.now)) }
+/// Runs a blueprint that was checked, where all of it has been built.
+fn run_checked<F: Folder>(
+    alloc: Global,
+    folder: &mut F,
+    checked: Checked,
+    turns: u32,
+) -> Outcome
+    requires fit { (taken : List (List ℕ)) × IsFit (blueprint_of checked) [] taken }
+    requires turns { turns ≤ 4000000000 }
+    ensures told { IsTrue (F.state folder.new).tells → EndedFit result.status (of_outcome result) (blueprint_of checked) turns (F.state folder.old) (F.state folder.new) }
+    ensures tells { IsTrue (F.state folder.new).tells → IsTrue (F.state folder.old).tells }
+    ensures causes { CausesFit result.status (blueprint_of checked) (F.state folder.old) (F.state folder.new) }
+    ensures sinks { SinksOf result.status (of_outcome result) }
+    ensures detail { result.detail.items ≡ detail_of result.status }
 {
-    blueprint.source.file != *file && blueprint.sink.file != *file
+    match first_unbuilt(alloc, checked.blueprint()) {
+        Ok(None) => run_blueprint(alloc, folder, checked.into_blueprint(), turns),
+        Ok(Some(node)) => without_run(alloc, Status::Unbuilt(node)),
+        Err(_) => without_run(alloc, Status::NoMemory),
+    }
+}
+
+/// Checks a blueprint, where these files are taken, and runs it.
+fn run_parsed<F: Folder>(
+    alloc: Global,
+    folder: &mut F,
+    b: Blueprint,
+    taken: &[Line],
+    turns: u32,
+) -> Outcome
+    requires { turns ≤ 4000000000 }
+    ensures told { IsTrue (F.state folder.new).tells → EndedParsed result.status (of_outcome result) b taken.now turns (F.state folder.old) (F.state folder.new) }
+    ensures tells { IsTrue (F.state folder.new).tells → IsTrue (F.state folder.old).tells }
+    ensures causes { CausesText result.status taken.now (F.state folder.old) (F.state folder.new) }
+    ensures sinks { SinksOf result.status (of_outcome result) }
+    ensures detail { result.detail.items ≡ detail_of result.status }
+{
+    match check(alloc, b, &[], taken) {
+        Ok(checked) => run_checked(alloc, folder, checked, turns),
+        Err(CheckEnd::Fault(fault)) => unfit(alloc, fault),
+        Err(CheckEnd::NoMemory) => without_run(alloc, Status::NoMemory),
+    }
+}
+
+/// Runs the blueprint that a text says, where these files are taken.
+fn run_text<F: Folder>(
+    alloc: Global,
+    folder: &mut F,
+    text: &[u8],
+    taken: &[Line],
+    turns: u32,
+) -> Outcome
+    requires { turns ≤ 4000000000 }
+    ensures told { IsTrue (F.state folder.new).tells → EndedText result.status (of_outcome result) text.now taken.now turns (F.state folder.old) (F.state folder.new) }
+    ensures tells { IsTrue (F.state folder.new).tells → IsTrue (F.state folder.old).tells }
+    ensures causes { CausesText result.status taken.now (F.state folder.old) (F.state folder.new) }
+    ensures sinks { SinksOf result.status (of_outcome result) }
+    ensures detail { result.detail.items ≡ detail_of result.status }
+{
+    match parse(alloc, text) {
+        Ok(b) => run_parsed(alloc, folder, b, taken, turns),
+        Err(ParseEnd::Fault(fault)) => without_run(alloc, Status::Refused(fault)),
+        Err(ParseEnd::NoMemory) => without_run(alloc, Status::NoMemory),
+    }
+}
+
+/// The name of a file twice: one to tell that it is missing, and one in the list of the files that are taken.
+fn names_of(alloc: Global, file: &Line) -> Result<(Line, Vec<Line>), NoMemory>
+    ensures name { IfOk result (λ names. names.0 ≡ file.now) }
+    ensures taken { IfOk result (λ names. names.1.items ≡ file.now ∷ []) }
+{
+    let name = file.copy(alloc)?;
+    let mut taken = Vec::new(alloc);
+    taken.push(file.copy(alloc)?)?;
+    Ok((name, taken))
 }
 
 /// Reads the blueprint of that name's file, and runs it by at most so many units.
@@ -152,27 +297,15 @@ pub fn run_file<F: Folder>(alloc: Global, folder: &mut F, file: &Line, turns: u3
     ensures causes { Causes result.status file.now (F.state folder.old) (F.state folder.new) }
     ensures sinks { SinksOf result.status (of_outcome result) }
     ensures no_usage { result.status ≡ Status.Usage → ⊥ }
+    ensures detail { result.detail.items ≡ detail_of result.status }
 {
-    // From here on a text says one blueprint at most.
-    one_text_says_one_blueprint();
-    let name = match file.copy(alloc) {
-        Ok(name) => name,
-        Err(AllocError) => return without_run(alloc, Status::NoMemory),
+    let Ok((name, taken)) = names_of(alloc, file) else {
+        return without_run(alloc, Status::NoMemory);
     };
-    let text = match read_file(alloc, folder, file) {
-        Ok(text) => text,
-        Err(ReadEnd::Missing) => return without_run(alloc, Status::Missing(name)),
-        Err(ReadEnd::Fault) => return without_run(alloc, Status::ReadFault),
-        Err(ReadEnd::NoMemory) => return without_run(alloc, Status::NoMemory),
-    };
-    let blueprint = match parse(alloc, &text) {
-        Ok(blueprint) => blueprint,
-        Err(ParseEnd::Unbuilt(n)) => return without_run(alloc, Status::Unbuilt(n)),
-        Err(ParseEnd::NoMemory) => return without_run(alloc, Status::NoMemory),
-    };
-    if is_apart(&blueprint, file) {
-        run_blueprint(alloc, folder, blueprint, turns)
-    } else {
-        without_run(alloc, Status::Unbuilt(0))
+    match read_file(alloc, folder, file) {
+        Ok(text) => run_text(alloc, folder, &text, &taken, turns),
+        Err(ReadEnd::Missing) => without_run(alloc, Status::Missing(name)),
+        Err(ReadEnd::Fault) => without_run(alloc, Status::ReadFault),
+        Err(ReadEnd::NoMemory) => without_run(alloc, Status::NoMemory),
     }
 }

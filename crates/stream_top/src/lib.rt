@@ -3,11 +3,7 @@
 
 mod answer;
 mod command;
-mod materialize;
-mod open;
-pub mod outcome;
-mod put;
-mod report;
-mod run;
 mod text;
 pub mod top;
+
+pub use run_report::outcome;

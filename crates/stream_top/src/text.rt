@@ -2,7 +2,7 @@
 ghost use Rattle.std.specs.Prelude.{◌≡◌, ◌+◌, ◌<◌, ◌≤◌, ◌++◌, ◌⊎◌, length, take, drop, vec_len, IfOk, OnOk, OnErr, IfSome};
 ghost use Rattle.stream_io.specs.Counts.{Rose};
 ghost use Rattle.stream_io.specs.State.{Lacks, SameFiles, HandsOut};
-ghost use Rattle.stream_top.specs.Quiet.{Quiet, QuietBut};
+ghost use Rattle.run_files.specs.Quiet.{Quiet, QuietBut};
 ghost use Rattle.stream_top.specs.Text.{text_limit, text_of_file, ReadsFile, FailsToRead, StaysMissing, StaysQuiet};
 
 use elem_core::line::Line;

@@ -4,8 +4,8 @@ ghost use Rattle.stream_top.specs.AfterRun.{of_outcome};
 ghost use Rattle.stream_top.specs.Calls.{answer_of};
 ghost use Rattle.stream_top.specs.Command.{Asked, command_of};
 ghost use Rattle.stream_top.specs.Outcome.{Told, Causes, SinksOf, IsValid, RoseNowhere, WasRun};
-ghost use Rattle.stream_top.specs.Report.{report_of, code_of};
-ghost use Rattle.stream_top.specs.Writing.{Puts, PutsPart};
+ghost use Rattle.run_report.specs.Report.{report_of, code_of};
+ghost use Rattle.run_report.specs.Writing.{Puts, PutsPart};
 
 use crate::answer::{Outcome, run_file, without_run};
 use crate::command::read_words;

@@ -1,0 +1,481 @@
+-- From the island of a blueprint at its end to what the run leaves in the folder.
+use Rattle.std.proofs.Common.{◌≡◌, ◌≢◌, ◌⊎◌, inl, inr, ℕ, zero, suc, ◌+◌, ◌<◌, ◌≤◌, Bool, true, false, List, [], ◌∷◌, ◌++◌, map, length, slice_get, refl, sym, ap, ◌∙◌, subst, arith}
+use Rattle.std.specs.Prelude.{IsTrue, IsSome, Option, Some, None, slice_index_or, unwrap_or, ◌==◌}
+use Rattle.std.specs.Option.{option_map}
+use Rattle.std.specs.List.{All, Contains, filter_map}
+use Rattle.std.proofs.lemmas.List.{length-map}
+use Rattle.elem_core.specs.Tree.{Tree, text}
+use Rattle.elem_core.specs.Text.{text_lines}
+use Rattle.elem_core.specs.declared.item.Item.{Item}
+use Rattle.stream_model.specs.declared.kind.Kind.{Kind}
+use Rattle.stream_model.specs.declared.kind.Kind.TheVariants as kind
+use Rattle.stream_model.specs.declared.outcome.WireCount.{WireCount}
+use Rattle.stream_model.specs.declared.outcome.EndState.{EndState}
+use Rattle.stream_model.specs.declared.outcome.EndState.TheVariants.{Ended, Failed, Unended, WriteFault}
+use Rattle.stream_model.specs.Graph.{Graph, Wire}
+use Rattle.stream_model.specs.Graph as graph
+use Rattle.stream_model.specs.Node.{World}
+use Rattle.stream_model.specs.Outlook.{Outlook, End}
+use Rattle.stream_model.specs.Composed.{composed, sink_outlook, IsRanked}
+use Rattle.stream_model.specs.Sources.{File, whole_lines}
+use Rattle.stream_picture.specs.Lawful.{IsLawful}
+use Rattle.stream_picture.specs.OneWay as oneway
+use Rattle.stream_picture.specs.Rests.{Rests, SinksMatch}
+use Rattle.stream_picture.specs.Shape.{sent_at}
+use Rattle.stream_picture.specs.View.{EachWire, ins, outputs_of}
+use Rattle.picture_laws.specs.Picture.{counts_of, has_ended, sink_ended, ended_at}
+use Rattle.stream_io.specs.Counts.{Rose, Grew}
+use Rattle.stream_io.specs.State.{FolderState, SourceState, DrainState}
+use Rattle.stream_io.specs.Reading.{FirstTooLong}
+use Rattle.wire_core.specs.Cell.{Cell}
+use Rattle.wire_core.specs.Counts.{elements}
+use Rattle.fused_net.specs.Net.{Net, no_wire, wire_at}
+use Rattle.fused_net.specs.Laws.{Settled}
+use Rattle.nodes.specs.Nodes.{node_row, node_law}
+use Rattle.nodes.specs.Drawing.{ended_lines}
+use Rattle.nodes.specs.Source.{Lines}
+use Rattle.nodes.specs.Sink.{Sink, StandsAs}
+use Rattle.nodes.specs.declared.node.Node.{Node}
+use Rattle.nodes.specs.declared.node.Node.TheVariants as node
+use Rattle.interpreter.specs.Parts.{number_of, ends_of}
+use Rattle.interpreter.specs.declared.parts.Link.{Link}
+use Rattle.interpreter.specs.Island as island
+use Rattle.run_laws.specs.Made.{Materializes}
+use Rattle.run_laws.specs.Telling.{TellsFile, TellsNode, Tells}
+use Rattle.run_laws.specs.Sinks.{SinkTells, SentTo, IsSinkAt}
+use Rattle.run_laws.specs.Reads.{IsSourceAt, ReadsAhead, SentLines}
+use Rattle.run_laws.proofs.Counting.{elements_told}
+use Rattle.blue_core.specs.declared.blueprint.Blueprint.{Blueprint}
+use Rattle.blue_core.specs.declared.blueprint.Node as blue
+use Rattle.blue_check.specs.Fitness.{IsFit}
+use Rattle.blue_check.specs.Wires.{blueprint_wires}
+use Rattle.plug_core.specs.declared.head.PlugHead.{PlugHead}
+use Rattle.materializer.specs.Built.{CanRun}
+use Rattle.materializer.specs.Files.{output_of, inputs_of_nodes, outputs_of_nodes, is_sink}
+use Rattle.materializer.specs.Graphs.{node_of, graph_of}
+use Rattle.materializer.specs.Seats.{links_from}
+use Rattle.run_files.specs.Opening.{AtStart, HoldsNone, OpensAll, GivesUp}
+use Rattle.run_files.specs.Closing.{ClosesAll}
+use Rattle.blueprint_run.specs.Drawing.{Drawn, IsSource, WasRead, IsWorldOf, DrawsFirst}
+use Rattle.blueprint_run.specs.Leaving.{Leaves}
+use Rattle.blueprint_run.specs.Running.{SinkLeaves, LeavesFiles, WritesOf, Runs, Wants}
+use Rattle.blueprint_run.specs.Stands.{Stand, has_ended_at, is_write_fault}
+use Rattle.blueprint_run.specs.declared.run.Stopped.{Stopped}
+use Rattle.blueprint_run.specs.declared.run.Ran.{Ran}
+use Rattle.blueprint_run.proofs.Counts.{rose_by, rose_from_none, is_positive, positive, above_none, not_positive, some_of, contains_or_not}
+use Rattle.blueprint_run.proofs.Places.{all_at, contains_at, contained_at, mapped_at, unmapped_at, filtered_at, unfiltered_at, place_of, place_one, place_within}
+use Rattle.blueprint_run.proofs.Profiles.{stand_in, writer_there, sinks_filtered, StandsAt, Profile, ended_along}
+use Rattle.blueprint_run.proofs.Handles.{IsLinesSink, HandleLaws, stand_kind, SourceFacts, SinkFacts, source_facts, sink_facts, made, profiles, as_many, stands_are, read_grew, faults_grew, writes_grew, file_held, other_files, other_reads, other_writes, refused, tells_old, reading_same, writing_same, some_one}
+
+-- ---- the wires' counts
+
+sent_count : (cells : List Cell) (i : ℕ) → sent_at (counts_of cells) i ≡ elements (slice_index_or cells i no_wire).wire.sent
+sent_count [] i = refl
+sent_count (c ∷ cs) zero = refl
+sent_count (c ∷ cs) (suc i) = sent_count cs i
+
+counts_second : (links : List Link) (cells : List Cell) → length links ≡ length cells → map (λ (w : ℕ × WireCount). w.1) (island.counts_of (map number_of links) cells) ≡ counts_of cells
+counts_second [] [] e = refl
+counts_second [] (c ∷ cs) e = absurd (omega (arith, e))
+counts_second (l ∷ ls) [] e = absurd (omega (arith, e))
+counts_second (l ∷ ls) (c ∷ cs) e = ap (λ (x : List WireCount). island.count_of c ∷ x) (counts_second ls cs (omega (arith, e)))
+
+-- ---- the drain of a sink
+
+held_by : (o : Option (List ℕ)) (more : List ℕ) (new : Option (List ℕ)) → new ≡ option_map (λ held. held ++ more) o → o ≡ Some [] → new ≡ Some more
+held_by o more new e f = rw f at e
+
+stands_held : (e : EndState) (old new : DrainState) (took : List Tree) (end : End) (n : ℕ) → StandsAs e old new took end n → old.holds ≡ Some [] → (written : List ℕ) × (new.holds ≡ Some written)
+stands_held Unended old new took end n s h = (text_lines took, held_by old.holds (text_lines took) new.holds s.1.holds h)
+stands_held Ended old new took end n s h = (text_lines took, held_by old.holds (text_lines took) new.holds s.1.holds h)
+stands_held (Failed c) old new took end n s h = (text_lines took, held_by old.holds (text_lines took) new.holds s.1.holds h)
+stands_held WriteFault old new took end n s h = (text_lines s.1.before ++ s.1.part, held_by old.holds (text_lines s.1.before ++ s.1.part) new.holds s.1.holds h)
+
+-- what the drain counted is added to the folder's count
+stands_writes : (e : EndState) (s t : DrainState) (took : List Tree) (end : End) (n old new : ℕ) → StandsAs e s t took end n → s.faults ≡ 0 → Grew old t.faults new → WritesOf e old new
+stands_writes Unended s t took end n old new h none grew = subst (λ k. Grew old k new) (h.1.faults ∙ none) grew
+stands_writes Ended s t took end n old new h none grew = subst (λ k. Grew old k new) (h.1.faults ∙ none) grew
+stands_writes (Failed c) s t took end n old new h none grew = subst (λ k. Grew old k new) (h.1.faults ∙ none) grew
+stands_writes WriteFault s t took end n old new h none grew = rose_by old t.faults new grew (rose_from_none s.faults t.faults none h.1.faults)
+
+calm_write : (e : EndState) (old new : ℕ) → is_write_fault e ≡ false → WritesOf e old new → Grew old 0 new
+calm_write Unended old new h w = w
+calm_write Ended old new h w = w
+calm_write (Failed c) old new h w = w
+calm_write WriteFault old new h w = absurd cc
+
+-- ---- what was drawn
+
+ahead_told : (first now : SourceState) (later : List (List ℕ)) (n : ℕ) → first.faults ≡ 0 → ReadsAhead first now later n
+    → (now.given ≤ n + 4096) ⊎ ((IsTrue (is_positive now.faults) ⊎ FirstTooLong later) × (now.given ≤ n + (4096 + 65537)))
+ahead_told first now later n none (inl h) = inl h
+ahead_told first now later n none (inr (inl rose, h)) = inr (inl (positive now.faults (rose_from_none first.faults now.faults none rose)), h)
+ahead_told first now later n none (inr (inr long, h)) = inr (inr long, h)
+
+draws_told : (bytes : List ℕ) (first now : SourceState) (items : List Item) (sent : ℕ) → first.faults ≡ 0 → sent ≡ elements items → SentLines bytes first now items → DrawsFirst bytes now.given (is_positive now.faults) sent
+draws_told bytes first now items sent none e s = record {
+  drawn = s.drawn;
+  later = s.later;
+  lines_are = s.lines_are;
+  sent_is = e ∙ ap elements s.sent_is ∙ elements_told (map text s.drawn) s.end ∙ length-map s.drawn text;
+  ahead = ahead_told first now s.later (length (ended_lines s.drawn)) none s.ahead;
+}
+
+-- the state of the source at a place, where one is there
+abbrev blank : SourceState
+blank = record { name = []; whole = None; given = 0; faults = 0 }
+
+abbrev source_in : {S D : Type 0} → (S → SourceState) → Option (Node S D) → SourceState
+source_in sources (Some (node.Reading x)) = sources x.reader.source
+source_in sources _ = blank
+
+source_there : {S D : Type 0} (sources : S → SourceState) (o : Option (Node S D)) (x : Lines S) → o ≡ Some (node.Reading x) → source_in sources o ≡ sources x.reader.source
+source_there sources o x e = rw e refl
+
+told_whole : (o : Option (List ℕ)) (bytes : List ℕ) → o ≡ Some bytes → unwrap_or o [] ≡ bytes
+told_whole o bytes e = rw e refl
+
+-- ---- how a sink stands at its place
+
+ended_stand : {S D : Type 0} (x : Node S D) (s : Stand) → stand_in x ≡ Some s → sink_ended x ≡ has_ended s.2
+ended_stand (node.Writing x) s f = let same : (x.node, x.count, x.end) ≡ s = some_one (x.node, x.count, x.end) s f in ap (λ (t : Stand). has_ended t.2) same
+ended_stand (node.Reading x) s f = absurd cc
+ended_stand (node.Linear x) s f = absurd cc
+
+ended_there : {S D : Type 0} (nodes : List (Node S D)) (k : ℕ) (x : Node S D) (s : Stand) → slice_get nodes k ≡ Some x → stand_in x ≡ Some s → ended_at nodes k ≡ has_ended s.2
+ended_there [] k x s e f = absurd cc
+ended_there (y ∷ ys) zero x s e f = let same : y ≡ x = cc in ap sink_ended same ∙ ended_stand x s f
+ended_there (y ∷ ys) (suc k) x s e f = ended_there ys k x s e f
+
+sink_shape : (k : Kind) → oneway.is_sink k ≡ true → (outputs_of k == 0) ≡ true
+sink_shape (kind.ToLines f) e = refl
+sink_shape (kind.Head f) e = refl
+sink_shape (kind.Last f) e = refl
+sink_shape kind.Ignore e = refl
+sink_shape _ e = absurd cc
+
+stand_there : (k : ℕ) (b : Bool) (o : Option Stand) → StandsAt k b o → b ≡ true → (s : Stand) × ((o ≡ Some s) × (s.0 ≡ k))
+stand_there k true o h e = h
+stand_there k false o h e = absurd cc
+
+no_stand : (k : ℕ) (b : Bool) (o : Option Stand) (s : Stand) → StandsAt k b o → o ≡ Some s → s.0 ≡ k
+no_stand k true o s h e = let same : s ≡ h.0 = some_one s h.0 (sym e ∙ h.1.0) in ap (λ (t : Stand). t.0) same ∙ h.1.1
+no_stand k false o s h e = absurd cc
+
+-- a world that has the files as they were read tells of each source
+tells_node : {S D : Type 0} (sources : S → SourceState) (w : World) (n : graph.Node) (first now : Node S D)
+    → ((a c : Lines S) (name : List ℕ) → first ≡ node.Reading a → now ≡ node.Reading c → n.kind ≡ kind.Lines name → TellsFile (sources a.reader.source) (sources c.reader.source) (w.file name)) → TellsNode sources w n first now
+tells_node sources w n (node.Reading a) (node.Reading c) tells = λ name shape. tells a c name refl refl shape
+tells_node sources w n (node.Reading a) (node.Linear c) tells = tt
+tells_node sources w n (node.Reading a) (node.Writing c) tells = tt
+tells_node sources w n (node.Linear a) now tells = tt
+tells_node sources w n (node.Writing a) now tells = tt
+
+-- ---- the laws of a run
+
+module _ {S D : Type 0} (sources : S → SourceState) (drains : D → DrainState) where
+  abbrev TellsLaw : Type 0
+  TellsLaw = (g : Graph) (w : World) (rank : ℕ → ℕ) (net : Net (Node S D)) → Settled node_row (node_law sources drains) net → Materializes sources g net.firsts net.ends → Tells sources g w net → IsRanked g rank
+      → (k : ℕ) (n : graph.Node) (first now : Sink D) (written : List ℕ) → slice_get g.nodes k ≡ Some n → IsSinkAt net k first now
+      → (drains first.drain).holds ≡ Some [] → (drains now.drain).holds ≡ Some written → SinkTells (sink_outlook g w k n) now.end written
+
+  abbrev LinesLawOf : Type 0
+  LinesLawOf = (g : Graph) (net : Net (Node S D)) → Settled node_row (node_law sources drains) net → Materializes sources g net.firsts net.ends
+      → (k : ℕ) (n : graph.Node) (first now : Sink D) (written : List ℕ) → slice_get g.nodes k ≡ Some n → IsSinkAt net k first now
+      → (drains first.drain).holds ≡ Some [] → (drains now.drain).holds ≡ Some written → whole_lines (length written) written ≡ now.count
+
+  abbrev SentLaw : Type 0
+  SentLaw = (g : Graph) (net : Net (Node S D)) → Settled node_row (node_law sources drains) net → Materializes sources g net.firsts net.ends
+      → (k : ℕ) (n : graph.Node) (first now : Sink D) (u : ℕ) (v : Wire) → slice_get g.nodes k ≡ Some n → IsSinkAt net k first now → slice_get g.wires u ≡ Some v → v.to ≡ k
+      → SentTo now.end (elements (wire_at net u).wire.sent) now.count
+
+  abbrev RestLaw : Type 0
+  RestLaw = (g : Graph) (net : Net (Node S D)) → Settled node_row (node_law sources drains) net → Materializes sources g net.firsts net.ends
+      → (k : ℕ) (n : graph.Node) (first now : Sink D) (u : ℕ) (v : Wire) → slice_get g.nodes k ≡ Some n → IsSinkAt net k first now → slice_get g.wires u ≡ Some v → v.to ≡ k
+      → net.queue ≡ [] → now.end ≡ Unended → elements (wire_at net u).wire.sent ≡ now.count
+
+  abbrev ReadsLaw : Type 0
+  ReadsLaw = (g : Graph) (net : Net (Node S D)) → Settled node_row (node_law sources drains) net → Materializes sources g net.firsts net.ends
+      → (k : ℕ) (n : graph.Node) (first now : Lines S) (u : ℕ) (v : Wire) (bytes : List ℕ) → slice_get g.nodes k ≡ Some n → IsSourceAt net k first now → slice_get g.wires u ≡ Some v → v.from ≡ k
+      → (sources first.reader.source).whole ≡ Some bytes → SentLines bytes (sources first.reader.source) (sources now.reader.source) (wire_at net u).wire.sent
+
+  abbrev LawfulLaw : Type 0
+  LawfulLaw = (g : Graph) (w : World) (rank : ℕ → ℕ) (net : Net (Node S D)) → Settled node_row (node_law sources drains) net → Materializes sources g net.firsts net.ends
+      → Tells sources g w net → IsRanked g rank → IsLawful g w (counts_of net.wires) (composed g w)
+
+  abbrev RestsLaw : Type 0
+  RestsLaw = (g : Graph) (w : World) (rank : ℕ → ℕ) (net : Net (Node S D)) → Settled node_row (node_law sources drains) net → net.queue ≡ [] → Materializes sources g net.firsts net.ends
+      → Tells sources g w net → IsRanked g rank → Rests g w (counts_of net.wires) (composed g w)
+
+  abbrev MatchLaw : Type 0
+  MatchLaw = (g : Graph) (w : World) (net : Net (Node S D)) (outlook : ℕ → Outlook) → Settled node_row (node_law sources drains) net → net.queue ≡ [] → Materializes sources g net.firsts net.ends
+      → SinksMatch g w (counts_of net.wires) outlook (ended_at net.nodes)
+
+  pub record RunLaws : Type 0 where
+    pub ranked : (b : Blueprint) (plugs : List PlugHead) (taken : List (List ℕ)) → IsFit b plugs taken → (rank : ℕ → ℕ) × IsRanked (graph_of b) rank
+    pub tells : TellsLaw
+    pub lines : LinesLawOf
+    pub sent : SentLaw
+    pub rest : RestLaw
+    pub reads : ReadsLaw
+    pub lawful : LawfulLaw
+    pub rests : RestsLaw
+    pub match : MatchLaw
+
+-- ---- what a run leaves
+
+module _ {S D : Type 0} (sources : S → SourceState) (drains : D → DrainState) (handles : HandleLaws sources drains) (laws : RunLaws sources drains) (b : Blueprint) (can : CanRun b) (ss : List S) (ds : List D) (budget : ℕ) (st : Stopped S D) (l : Leaves sources drains b ss ds budget st)
+    (old mid : FolderState) (opens : OpensAll old mid (inputs_of_nodes b.nodes.items) (outputs_of_nodes b.nodes.items) (map sources ss) (map drains ds)) (new : FolderState) (closes : ClosesAll mid new (map sources st.end.readers.items) (map drains st.end.writers.items)) where
+  abbrev nodes : List blue.Node
+  nodes = b.nodes.items
+
+  abbrev net : Net (Node S D)
+  net = l.stops.net
+
+  abbrev g : Graph
+  g = graph_of b
+
+  net_made : Materializes sources g net.firsts net.ends
+  net_made = made sources drains handles b can ss ds budget st l old mid opens
+
+  abbrev Source : ℕ → List ℕ → Type 0
+  Source k file = SourceFacts sources drains handles b can ss ds budget st l old mid opens k file
+
+  abbrev ASink : ℕ → List ℕ → Type 0
+  ASink k file = SinkFacts sources drains handles b can ss ds budget st l old mid opens k file
+
+  source_at : (k : ℕ) (file : List ℕ) → IsSource nodes k file → Source k file
+  source_at = source_facts sources drains handles b can ss ds budget st l old mid opens
+
+  sink_at : (k : ℕ) (file : List ℕ) → IsLinesSink nodes k file → ASink k file
+  sink_at = sink_facts sources drains handles b can ss ds budget st l old mid opens
+
+  profile : (k : ℕ) (n : blue.Node) (x : Node S D) → slice_get nodes k ≡ Some n → slice_get net.nodes k ≡ Some x → Profile sources drains k n x
+  profile = profiles sources drains handles b can ss ds budget st l old mid opens
+
+  -- the wires' counts are those of the net
+  wires_are : st.wires.items ≡ counts_of net.wires
+  wires_are =
+      let count : length (links_from 0 (blueprint_wires b)) ≡ length net.wires = sym (length-map (links_from 0 (blueprint_wires b)) ends_of) ∙ ap length (sym l.stops.ends) ∙ l.stops.settled.wired.each_wire in
+      l.stops.wires ∙ counts_second (links_from 0 (blueprint_wires b)) net.wires count
+
+  wire_count : (u : ℕ) → sent_at st.wires.items u ≡ elements (wire_at net u).wire.sent
+  wire_count u = ap (λ (c : List WireCount). sent_at c u) wires_are ∙ sent_count net.wires u
+
+  -- what the sources drew
+  abbrev drawn : Drawn
+  drawn = record {
+    bytes = λ k. unwrap_or (source_in sources (slice_get net.firsts k)).whole [];
+    given = λ k. (source_in sources (slice_get net.nodes k)).given;
+    faulted = λ k. is_positive (source_in sources (slice_get net.nodes k)).faults;
+  }
+
+  module _ (tells : IsTrue new.tells) where
+    tells_mid : IsTrue mid.tells
+    tells_mid = closes.files.told tells
+
+    module _ (k : ℕ) (file : List ℕ) (f : Source k file) where
+      file_there : (bytes : List ℕ) × (old.file file ≡ Some bytes)
+      file_there = some_of (old.file file) (subst (λ n. IsSome (old.file n)) f.first_named (f.start.there tells_mid))
+
+      whole_told : (sources f.first.reader.source).whole ≡ Some file_there.0
+      whole_told = f.start.whole tells_mid ∙ ap old.file f.first_named ∙ file_there.1
+
+      drawn_bytes : drawn.bytes k ≡ file_there.0
+      drawn_bytes = ap (λ (i : SourceState). unwrap_or i.whole []) (source_there sources (slice_get net.firsts k) f.first f.there.at_first) ∙ told_whole (sources f.first.reader.source).whole file_there.0 whole_told
+
+      drawn_given : drawn.given k ≡ (sources f.now.reader.source).given
+      drawn_given = ap (λ (i : SourceState). i.given) (source_there sources (slice_get net.nodes k) f.now f.there.at_last)
+
+      drawn_faulted : drawn.faulted k ≡ is_positive (sources f.now.reader.source).faults
+      drawn_faulted = ap (λ (i : SourceState). is_positive i.faults) (source_there sources (slice_get net.nodes k) f.now f.there.at_last)
+
+      was_read : WasRead old new file (drawn.bytes k) (drawn.given k) (drawn.faulted k)
+      was_read = record {
+        there = file_there.1 ∙ ap Some (sym drawn_bytes);
+        read = subst (λ n. Grew (old.read file) n (new.read file)) (sym drawn_given) (read_grew sources drains handles b can ss ds budget st l old mid opens new closes k file f);
+        rose = λ p. rose_by (old.rfaults file) (sources f.now.reader.source).faults (new.rfaults file) (faults_grew sources drains handles b can ss ds budget st l old mid opens new closes k file f) (above_none (sources f.now.reader.source).faults (subst IsTrue drawn_faulted p));
+        calm = λ p. subst (λ n. Grew (old.rfaults file) n (new.rfaults file)) (not_positive (sources f.now.reader.source).faults (sym drawn_faulted ∙ p)) (faults_grew sources drains handles b can ss ds budget st l old mid opens new closes k file f);
+      }
+
+      file_told : (w : World) → w.file file ≡ record { bytes = drawn.bytes k; read = drawn.given k; faulted = drawn.faulted k } → TellsFile (sources f.first.reader.source) (sources f.now.reader.source) (w.file file)
+      file_told w is = rw is (record {
+        bytes = whole_told ∙ ap Some (sym drawn_bytes);
+        read = drawn_given;
+        faulted = λ rose. subst IsTrue (sym drawn_faulted) (positive (sources f.now.reader.source).faults (rose_from_none (sources f.first.reader.source).faults (sources f.now.reader.source).faults f.start.faults rose));
+      })
+
+    -- the world tells of every source
+    world_tells : (w : World) → IsWorldOf nodes drawn w → Tells sources g w net
+    world_tells w is k n first now gi fi ni = tells_node sources w n first now (λ a c name fa nc shape.
+        let m = unmapped_at node_of nodes k n gi in
+        let place : IsSource nodes k name = record { node = m.0; at = m.1.0; kind_is = ap (λ (x : graph.Node). x.kind) (sym m.1.1) ∙ shape } in
+        let f = source_at k name place in
+        let first_is : f.first ≡ a = reading_same f.first a first (place_one net.firsts k first (node.Reading f.first) fi f.there.at_first) fa in
+        let now_is : f.now ≡ c = reading_same f.now c now (place_one net.nodes k now (node.Reading f.now) ni f.there.at_last) nc in
+        subst (λ (x : Lines S). TellsFile (sources x.reader.source) (sources c.reader.source) (w.file name)) first_is
+        (subst (λ (x : Lines S). TellsFile (sources f.first.reader.source) (sources x.reader.source) (w.file name)) now_is (file_told k name f w (is k name place))))
+
+    -- a sink's file
+    module _ (k : ℕ) (n : blue.Node) (file : List ℕ) (at : slice_get nodes k ≡ Some n) (f : ASink k file) where
+      empty : (drains f.first.drain).holds ≡ Some []
+      empty = f.start.holds tells_mid
+
+      held : (written : List ℕ) × ((drains f.now.drain).holds ≡ Some written)
+      held = stands_held f.now.end (drains f.first.drain) (drains f.now.drain) f.law.elems f.law.in_end f.now.count f.law.stands empty
+
+      at_graph : slice_get g.nodes k ≡ Some (node_of n)
+      at_graph = mapped_at node_of nodes k n at
+
+      sink_leaves : SinkLeaves new b drawn st.wires.items st.at_rest k n file f.now.count f.now.end
+      sink_leaves = record {
+        held = held.0;
+        there = file_held sources drains handles b can ss ds budget st l old mid opens new closes k file f tells ∙ held.1;
+        tells = λ w is.
+            let ranked = laws.ranked b can.plugs can.taken can.fit in
+            laws.tells g w ranked.0 net l.stops.settled net_made (world_tells w is) ranked.1 k (node_of n) f.first f.now held.0 at_graph f.there empty held.1;
+        lines_are = laws.lines g net l.stops.settled net_made k (node_of n) f.first f.now held.0 at_graph f.there empty held.1;
+        sent = λ u v at to. subst (λ (m : ℕ). SentTo f.now.end m f.now.count) (sym (wire_count u)) (laws.sent g net l.stops.settled net_made k (node_of n) f.first f.now u v at_graph f.there at to);
+        rests = λ rest unended u v at to. wire_count u ∙ laws.rest g net l.stops.settled net_made k (node_of n) f.first f.now u v at_graph f.there at to (l.stops.rests rest) unended;
+      }
+
+    -- the stand of a sink of lines, by its place among the stands
+    stand_of : (i : ℕ) (s : Stand) (n : blue.Node) (file : List ℕ) → slice_get st.end.sinks.items i ≡ Some s → slice_get nodes s.0 ≡ Some n → n.kind ≡ kind.ToLines file → (f : ASink s.0 file) × (s ≡ (s.0, f.now.count, f.now.end))
+    stand_of i s n file at here shape =
+        let among : slice_get (filter_map stand_in net.nodes) i ≡ Some s = subst (λ (x : List Stand). slice_get x i ≡ Some s) (l.stops.sinks ∙ sinks_filtered net.nodes) at in
+        let from = unfiltered_at stand_in net.nodes i s among in
+        let below : from.0 < length nodes = subst (λ m. from.0 < m) (sym (as_many sources drains handles b can ss ds budget st l old mid opens)) (place_within net.nodes from.0 from.1.0 from.1.1.0) in
+        let m = place_of nodes from.0 below in
+        let place : s.0 ≡ from.0 = no_stand from.0 (is_sink m.0) (stand_in from.1.0) s (profile from.0 m.0 from.1.0 m.1 from.1.1.0).stand from.1.1.1 in
+        let there : slice_get net.nodes s.0 ≡ Some from.1.0 = subst (λ j. slice_get net.nodes j ≡ Some from.1.0) (sym place) from.1.1.0 in
+        let f = sink_at s.0 file (record { node = n; at = here; kind_is = shape }) in
+        let is : from.1.0 ≡ node.Writing f.now = place_one net.nodes s.0 from.1.0 (node.Writing f.now) there f.there.at_last in
+        let told : stand_in (node.Writing f.now) ≡ Some s = ap stand_in (sym is) ∙ from.1.1.1 in
+        let same : (f.now.node, f.now.count, f.now.end) ≡ s = some_one (f.now.node, f.now.count, f.now.end) s told in
+        (f, sym same ∙ ap (λ (j : ℕ). (j, f.now.count, f.now.end)) f.place)
+
+    leaves_files : LeavesFiles old new b st.end.sinks.items st.wires.items st.at_rest
+    leaves_files =
+        let ranked = laws.ranked b can.plugs can.taken can.fit in
+        record {
+          drawn = drawn;
+          read = λ k file is. was_read k file (source_at k file is);
+          sink = λ i s n file at here shape.
+              let found = stand_of i s n file at here shape in
+              subst (λ (t : Stand). SinkLeaves new b drawn st.wires.items st.at_rest s.0 n file t.1 t.2) (sym found.1) (sink_leaves s.0 n file here found.0);
+          others = other_files sources drains handles b can ss ds budget st l old mid opens new closes tells;
+          draws = λ k file u v is at from.
+              let f = source_at k file is in
+              let told = draws_told (file_there k file f).0 (sources f.first.reader.source) (sources f.now.reader.source) (wire_at net u).wire.sent (sent_at st.wires.items u) f.start.faults (wire_count u)
+              (laws.reads g net l.stops.settled net_made k (node_of is.node) f.first f.now u v (file_there k file f).0 (mapped_at node_of nodes k is.node is.at) f.there at from (whole_told k file f)) in
+              rw (drawn_bytes k file f, drawn_given k file f, drawn_faulted k file f) told;
+          lawful = λ w is. subst (λ (c : List WireCount). IsLawful g w c (composed g w)) (sym wires_are) (laws.lawful g w ranked.0 net l.stops.settled net_made (world_tells w is) ranked.1);
+          rest = λ rest w is. subst (λ (c : List WireCount). Rests g w c (composed g w)) (sym wires_are) (laws.rests g w ranked.0 net l.stops.settled (l.stops.rests rest) net_made (world_tells w is) ranked.1);
+          matching = λ rest w k n at is.
+              let m = unmapped_at node_of nodes k n at in
+              let shape : oneway.is_sink m.0.kind ≡ true = ap (λ (x : graph.Node). oneway.is_sink x.kind) (sym m.1.1) ∙ is in
+              let below : k < length net.nodes = subst (λ j. k < j) (as_many sources drains handles b can ss ds budget st l old mid opens) (place_within nodes k m.0 m.1.0) in
+              let x = place_of net.nodes k below in
+              let stand = stand_there k (is_sink m.0) (stand_in x.0) (profile k m.0 x.0 m.1.0 x.1).stand (sink_shape m.0.kind shape) in
+              let by_place : has_ended_at (filter_map stand_in net.nodes) k ≡ has_ended stand.0.2 =
+                  ended_along 0 nodes net.nodes (as_many sources drains handles b can ss ds budget st l old mid opens) (λ i y z p q. subst (λ j. StandsAt j (is_sink y) (stand_in z)) (omega arith) (profile i y z p q).stand) k k x.0 stand.0 (omega arith) x.1 stand.1.0 in
+              let ended : ended_at net.nodes k ≡ has_ended_at st.end.sinks.items k =
+                  ended_there net.nodes k x.0 stand.0 x.1 stand.1.0 ∙ sym by_place ∙ ap (λ (y : List Stand). has_ended_at y k) (sym (l.stops.sinks ∙ sinks_filtered net.nodes)) in
+              subst (λ (c : List WireCount). EachWire (λ i. i.shut ≡ has_ended_at st.end.sinks.items k) (ins g c (composed g w) k n.kind)) (sym wires_are)
+              (subst (λ (e : Bool). EachWire (λ i. i.shut ≡ e) (ins g (counts_of net.wires) (composed g w) k n.kind)) ended
+              (laws.match g w net (composed g w) l.stops.settled (l.stops.rests rest) net_made k n at is));
+        }
+
+  calm_output : ((i : ℕ) (s : Stand) → slice_get st.end.sinks.items i ≡ Some s → is_write_fault s.2 ≡ false) → (n : List ℕ) → Contains (outputs_of_nodes nodes) n → Grew (old.wfaults n) 0 (new.wfaults n)
+  calm_output none n c =
+      let at = contained_at (outputs_of_nodes nodes) n c in
+      let from = unfiltered_at (λ (m : blue.Node). output_of m.kind) nodes at.0 n at.1 in
+      let below : from.0 < length net.nodes = subst (λ j. from.0 < j) (as_many sources drains handles b can ss ds budget st l old mid opens) (place_within nodes from.0 from.1.0 from.1.1.0) in
+      let x = place_of net.nodes from.0 below in
+      let y = writer_there (λ d. (drains d).name) x.0 n (sym from.1.1.1 ∙ (profile from.0 from.1.0 x.0 from.1.1.0 x.1).output) in
+      let shape = stand_kind sources drains handles b can ss ds budget st l old mid opens from.0 from.1.0 x.0 (y.0.node, y.0.count, y.0.end) from.1.1.0 x.1 (ap stand_in y.1) in
+      let named : shape.0 ≡ n = some_one shape.0 n (sym (ap output_of shape.1) ∙ from.1.1.1) in
+      let f = sink_at from.0 shape.0 (record { node = from.1.0; at = from.1.1.0; kind_is = shape.1 }) in
+      let told = filtered_at stand_in net.nodes from.0 (node.Writing f.now) (f.now.node, f.now.count, f.now.end) f.there.at_last refl in
+      let among : slice_get st.end.sinks.items told.0 ≡ Some (f.now.node, f.now.count, f.now.end) = subst (λ (z : List Stand). slice_get z told.0 ≡ Some (f.now.node, f.now.count, f.now.end)) (sym (l.stops.sinks ∙ sinks_filtered net.nodes)) told.1 in
+      let grew : Grew (old.wfaults shape.0) 0 (new.wfaults shape.0) = calm_write f.now.end (old.wfaults shape.0) (new.wfaults shape.0) (none told.0 (f.now.node, f.now.count, f.now.end) among)
+          (stands_writes f.now.end (drains f.first.drain) (drains f.now.drain) f.law.elems f.law.in_end f.now.count (old.wfaults shape.0) (new.wfaults shape.0) f.law.stands f.start.faults (writes_grew sources drains handles b can ss ds budget st l old mid opens new closes from.0 shape.0 f)) in
+      subst (λ m. Grew (old.wfaults m) 0 (new.wfaults m)) named grew
+
+  -- where no sink's write failed, no count of failed writes rose
+  calm_writes : ((i : ℕ) (s : Stand) → slice_get st.end.sinks.items i ≡ Some s → is_write_fault s.2 ≡ false) → (n : List ℕ) → Grew (old.wfaults n) 0 (new.wfaults n)
+  calm_writes none n = elim (contains_or_not (outputs_of_nodes nodes) n) [
+    | inl c ↦ (calm_output none n c)
+    | inr never ↦ (other_writes sources drains handles b can ss ds budget st l old mid opens new closes n never)
+  ]
+
+  pub runs_of : (ran : Ran) → ran.sinks.items ≡ st.end.sinks.items → ran.wires.items ≡ st.wires.items → ran.used ≡ st.used → ran.at_rest ≡ st.at_rest → Runs old new b budget ran
+  runs_of ran sinks wires used rest = record {
+    sinks_are = ap (map (λ (s : Stand). s.0)) sinks ∙ stands_are sources drains handles b can ss ds budget st l old mid opens;
+    told = tells_old sources drains handles b can ss ds budget st l old mid opens new closes;
+    leaves = λ h. rw (sinks, wires, rest) (leaves_files h);
+    refusals = refused sources drains handles b can ss ds budget st l old mid opens new closes;
+    reads = other_reads sources drains handles b can ss ds budget st l old mid opens new closes;
+    writes = λ i s n file at here shape.
+        let found = stand_of i s n file (subst (λ (x : List Stand). slice_get x i ≡ Some s) sinks at) here shape in
+        let f = found.0 in
+        subst (λ (t : Stand). WritesOf t.2 (old.wfaults file) (new.wfaults file)) (sym found.1)
+        (stands_writes f.now.end (drains f.first.drain) (drains f.now.drain) f.law.elems f.law.in_end f.now.count (old.wfaults file) (new.wfaults file) f.law.stands f.start.faults (writes_grew sources drains handles b can ss ds budget st l old mid opens new closes s.0 file f));
+    faults = λ i s at fault.
+        let among : slice_get (filter_map stand_in net.nodes) i ≡ Some s = subst (λ (x : List Stand). slice_get x i ≡ Some s) (sinks ∙ l.stops.sinks ∙ sinks_filtered net.nodes) at in
+        let from = unfiltered_at stand_in net.nodes i s among in
+        let below : from.0 < length nodes = subst (λ m. from.0 < m) (sym (as_many sources drains handles b can ss ds budget st l old mid opens)) (place_within net.nodes from.0 from.1.0 from.1.1.0) in
+        let m = place_of nodes from.0 below in
+        let shape = stand_kind sources drains handles b can ss ds budget st l old mid opens from.0 m.0 from.1.0 s m.1 from.1.1.0 from.1.1.1 in
+        let f = sink_at from.0 shape.0 (record { node = m.0; at = m.1; kind_is = shape.1 }) in
+        let is : from.1.0 ≡ node.Writing f.now = place_one net.nodes from.0 from.1.0 (node.Writing f.now) from.1.1.0 f.there.at_last in
+        let told : stand_in (node.Writing f.now) ≡ Some s = ap stand_in (sym is) ∙ from.1.1.1 in
+        let same : (f.now.node, f.now.count, f.now.end) ≡ s = some_one (f.now.node, f.now.count, f.now.end) s told in
+        let failed : f.now.end ≡ WriteFault = ap (λ (t : Stand). t.2) same ∙ fault in
+        let file = filtered_at (λ (n : blue.Node). output_of n.kind) nodes from.0 m.0 shape.0 m.1 (ap output_of shape.1) in
+        record {
+          file = shape.0;
+          output = contains_at (outputs_of_nodes nodes) file.0 shape.0 file.1;
+          rose = subst (λ (e : EndState). WritesOf e (old.wfaults shape.0) (new.wfaults shape.0)) failed
+              (stands_writes f.now.end (drains f.first.drain) (drains f.now.drain) f.law.elems f.law.in_end f.now.count (old.wfaults shape.0) (new.wfaults shape.0) f.law.stands f.start.faults (writes_grew sources drains handles b can ss ds budget st l old mid opens new closes from.0 shape.0 f));
+        };
+    calm = λ none. calm_writes (λ i s at. none i s (subst (λ (x : List Stand). slice_get x i ≡ Some s) (sym sinks) at));
+    other_writes = other_writes sources drains handles b can ss ds budget st l old mid opens new closes;
+    within = rw used l.stops.within;
+    spent = λ h. used ∙ l.stops.spent (sym rest ∙ h);
+  }
+
+-- ---- a run that gave up
+
+-- before the files were opened, or while they were
+emptied_or_same : (old new : FolderState) (before : List (List ℕ)) (n : List ℕ) → All (λ m. new.file m ≡ Some []) before → ((Contains before n → ⊥) → new.file n ≡ old.file n) → (new.file n ≡ old.file n) ⊎ (new.file n ≡ Some [])
+emptied_or_same old new before n all others = elim (contains_or_not before n) [
+  | inl c ↦ (let at = contained_at before n c in inr (all_at (λ m. new.file m ≡ Some []) before at.0 n all at.1))
+  | inr never ↦ inl (others never)
+]
+
+front_contains : (before after : List (List ℕ)) (n : List ℕ) (i : ℕ) → slice_get before i ≡ Some n → slice_get (before ++ after) i ≡ Some n
+front_contains [] after n i e = absurd cc
+front_contains (x ∷ xs) after n zero e = e
+front_contains (x ∷ xs) after n (suc i) e = front_contains xs after n i e
+
+pub gives_up : (old new : FolderState) (b : Blueprint) → GivesUp old new (outputs_of_nodes b.nodes.items) → Wants old new b
+gives_up old new b h = record {
+  told = h.files.told;
+  others = λ tells n never. h.files.others tells n (λ c. let at = contained_at h.before n c in never (subst (λ (x : List (List ℕ)). Contains x n) (sym h.place) (contains_at (h.before ++ h.after) at.0 n (front_contains h.before h.after n at.0 at.1))));
+  outputs = λ tells n. emptied_or_same old new h.before n (h.files.emptied tells) (h.files.others tells n);
+  refusals = h.refusals;
+  rfaults = h.rfaults;
+  wfaults = h.wfaults;
+}
+
+-- once they were opened
+pub gives_up_open : (old new : FolderState) (b : Blueprint) (is : List SourceState) (os : List DrainState) → OpensAll old new (inputs_of_nodes b.nodes.items) (outputs_of_nodes b.nodes.items) is os → Wants old new b
+gives_up_open old new b is os h = record {
+  told = h.files.told;
+  others = h.files.others;
+  outputs = λ tells n. emptied_or_same old new (outputs_of_nodes b.nodes.items) n (h.files.emptied tells) (h.files.others tells n);
+  refusals = h.refusals;
+  rfaults = h.rfaults;
+  wfaults = h.wfaults;
+}

@@ -1,0 +1,227 @@
+-- What each node of an island leaves at its end, by the kind of its node in the blueprint.
+use Rattle.std.proofs.Common.{◌≡◌, ◌≢◌, ◌⊎◌, inl, inr, ℕ, zero, suc, ◌+◌, ◌<◌, Bool, true, false, List, [], ◌∷◌, length, map, slice_get, refl, sym, ap, ◌∙◌, subst, arith}
+use Rattle.std.specs.Prelude.{Option, Some, None, ◌==◌, if◌then◌else◌}
+use Rattle.std.specs.Option.{option_map}
+use Rattle.std.specs.List.{filter_map, cons_option}
+use Rattle.std.proofs.lemmas.Bool.Decides.{eqb_tells}
+use Rattle.elem_core.specs.declared.item.Item.{Item}
+use Rattle.port_core.specs.View.{View}
+use Rattle.stream_model.specs.declared.kind.Kind.{Kind}
+use Rattle.stream_model.specs.declared.kind.Kind.TheVariants as kind
+use Rattle.stream_model.specs.declared.outcome.EndState.{EndState}
+use Rattle.stream_picture.specs.View.{outputs_of}
+use Rattle.stream_io.specs.State.{SourceState, DrainState}
+use Rattle.stage_linear.specs.States.{IsLinear}
+use Rattle.nodes.specs.Nodes.{node_law}
+use Rattle.nodes.specs.Sink.{Sink}
+use Rattle.nodes.specs.Source.{Lines}
+use Rattle.nodes.specs.declared.node.Node.{Node}
+use Rattle.nodes.specs.declared.node.Node.TheVariants as node
+use Rattle.interpreter.specs.Island.{sinks_of, readers_of, writers_of}
+use Rattle.run_laws.specs.Made.{FirstOf}
+use Rattle.picture_laws.specs.Picture.{has_ended, sink_ended, ended_at}
+use Rattle.blue_core.specs.declared.blueprint.Node as blue
+use Rattle.materializer.specs.Files.{input_of, output_of, inputs_of_nodes, outputs_of_nodes, is_sink}
+use Rattle.materializer.specs.Graphs.{node_of}
+use Rattle.blueprint_run.specs.Stands.{Stand, sink_places, has_ended_at}
+use Rattle.blueprint_run.proofs.Places.{filtered_along, filtered_at, unfiltered_at}
+
+-- what a node leaves
+abbrev pub reader_in : {S D : Type 0} → Node S D → Option S
+reader_in (node.Reading x) = Some x.reader.source
+reader_in _ = None
+
+abbrev pub writer_in : {S D : Type 0} → Node S D → Option D
+writer_in (node.Writing x) = Some x.drain
+writer_in _ = None
+
+abbrev pub stand_in : {S D : Type 0} → Node S D → Option Stand
+stand_in (node.Writing x) = Some (x.node, x.count, x.end)
+stand_in _ = None
+
+pub readers_filtered : {S D : Type 0} (xs : List (Node S D)) → readers_of xs ≡ filter_map reader_in xs
+readers_filtered [] = refl
+readers_filtered (node.Reading x ∷ xs) = ap (λ l. x.reader.source ∷ l) (readers_filtered xs)
+readers_filtered (node.Linear x ∷ xs) = readers_filtered xs
+readers_filtered (node.Writing x ∷ xs) = readers_filtered xs
+
+pub writers_filtered : {S D : Type 0} (xs : List (Node S D)) → writers_of xs ≡ filter_map writer_in xs
+writers_filtered [] = refl
+writers_filtered (node.Reading x ∷ xs) = writers_filtered xs
+writers_filtered (node.Linear x ∷ xs) = writers_filtered xs
+writers_filtered (node.Writing x ∷ xs) = ap (λ l. x.drain ∷ l) (writers_filtered xs)
+
+pub sinks_filtered : {S D : Type 0} (xs : List (Node S D)) → sinks_of xs ≡ filter_map stand_in xs
+sinks_filtered [] = refl
+sinks_filtered (node.Reading x ∷ xs) = sinks_filtered xs
+sinks_filtered (node.Linear x ∷ xs) = sinks_filtered xs
+sinks_filtered (node.Writing x ∷ xs) = ap (λ (l : List Stand). (x.node, x.count, x.end) ∷ l) (sinks_filtered xs)
+
+-- what a sink, and what no sink leaves, at its place
+abbrev pub StandsAt : ℕ → Bool → Option Stand → Type 0
+StandsAt k true o = (s : Stand) × ((o ≡ Some s) × (s.0 ≡ k))
+StandsAt k false o = o ≡ None
+
+-- what node k leaves: a reader where its kind reads a file, which the reader names; a drain where its kind writes one; and how
+-- it stands where it is a sink
+pub record Profile {S D : Type 0} (sources : S → SourceState) (drains : D → DrainState) (k : ℕ) (n : blue.Node) (x : Node S D) : Type 0 where
+  pub input : input_of n.kind ≡ option_map (λ s. (sources s).name) (reader_in x)
+  pub output : output_of n.kind ≡ option_map (λ d. (drains d).name) (writer_in x)
+  pub stand : StandsAt k (is_sink n) (stand_in x)
+
+-- a linear kind has no file, and is no sink
+linear_input : (shape : Kind) → IsLinear shape → input_of shape ≡ None
+linear_input (kind.Map f) h = refl
+linear_input (kind.Filter p) h = refl
+linear_input (kind.FilterNot p) h = refl
+linear_input (kind.Take n) h = refl
+linear_input (kind.TakeWhile p) h = refl
+linear_input (kind.Drop n) h = refl
+linear_input (kind.DropWhile p) h = refl
+linear_input (kind.Limit n) h = refl
+linear_input (kind.MapConcat x) h = refl
+linear_input _ h = absurd h
+
+linear_output : (shape : Kind) → IsLinear shape → output_of shape ≡ None
+linear_output (kind.Map f) h = refl
+linear_output (kind.Filter p) h = refl
+linear_output (kind.FilterNot p) h = refl
+linear_output (kind.Take n) h = refl
+linear_output (kind.TakeWhile p) h = refl
+linear_output (kind.Drop n) h = refl
+linear_output (kind.DropWhile p) h = refl
+linear_output (kind.Limit n) h = refl
+linear_output (kind.MapConcat x) h = refl
+linear_output _ h = absurd h
+
+linear_outputs : (shape : Kind) → IsLinear shape → outputs_of shape ≡ 1
+linear_outputs (kind.Map f) h = refl
+linear_outputs (kind.Filter p) h = refl
+linear_outputs (kind.FilterNot p) h = refl
+linear_outputs (kind.Take n) h = refl
+linear_outputs (kind.TakeWhile p) h = refl
+linear_outputs (kind.Drop n) h = refl
+linear_outputs (kind.DropWhile p) h = refl
+linear_outputs (kind.Limit n) h = refl
+linear_outputs (kind.MapConcat x) h = refl
+linear_outputs _ h = absurd h
+
+no_sink : (k : ℕ) (b : Bool) (o : Option Stand) → b ≡ false → o ≡ None → StandsAt k b o
+no_sink k true o e f = absurd cc
+no_sink k false o e f = f
+
+a_sink : (k : ℕ) (b : Bool) (o : Option Stand) (s : Stand) → b ≡ true → o ≡ Some s → s.0 ≡ k → StandsAt k b o
+a_sink k true o s e f g = (s, (f, g))
+a_sink k false o s e f g = absurd cc
+
+module _ {S D : Type 0} (sources : S → SourceState) (drains : D → DrainState) (k : ℕ) (n : blue.Node) where
+  reading_profile : (x : Lines S) (name : List ℕ) → n.kind ≡ kind.Lines name → (sources x.reader.source).name ≡ name → Profile {S = S} {D = D} sources drains k n (node.Reading x)
+  reading_profile x name is named = record {
+    input = ap input_of is ∙ ap Some (sym named);
+    output = ap output_of is;
+    stand = no_sink k (is_sink n) None (ap (λ (s : Kind). outputs_of s == 0) is) refl;
+  }
+
+  writing_profile : (x : Sink D) (name : List ℕ) → n.kind ≡ kind.ToLines name → x.node ≡ k → (drains x.drain).name ≡ name → Profile {S = S} {D = D} sources drains k n (node.Writing x)
+  writing_profile x name is place named = record {
+    input = ap input_of is;
+    output = ap output_of is ∙ ap Some (sym named);
+    stand = a_sink k (is_sink n) (Some (x.node, x.count, x.end)) (x.node, x.count, x.end) (ap (λ (s : Kind). outputs_of s == 0) is) refl place;
+  }
+
+  stage_profile : (x : Node S D) → reader_in x ≡ None → writer_in x ≡ None → stand_in x ≡ None → IsLinear n.kind → Profile sources drains k n x
+  stage_profile x reads writes stands is = record {
+    input = linear_input n.kind is ∙ ap (option_map (λ s. (sources s).name)) (sym reads);
+    output = linear_output n.kind is ∙ ap (option_map (λ d. (drains d).name)) (sym writes);
+    stand = no_sink k (is_sink n) (stand_in x) (ap (λ (m : ℕ). m == 0) (linear_outputs n.kind is)) stands;
+  }
+
+  -- what a node leaves, whatever its kind is, where its source and its drain have the names of their files
+  pub node_profile : (first now : Node S D) (v : View) (took gave : List (List Item)) → FirstOf sources k (node_of n) first → node_law sources drains first now v took gave
+      → ((name : List ℕ) (x : Lines S) → n.kind ≡ kind.Lines name → now ≡ node.Reading x → (sources x.reader.source).name ≡ name)
+      → ((name : List ℕ) (x : Sink D) → n.kind ≡ kind.ToLines name → now ≡ node.Writing x → (drains x.drain).name ≡ name)
+      → Profile sources drains k n now
+  node_profile (node.Reading f) (node.Reading x) v took gave made law reads writes = reading_profile x made.name made.kind_is (reads made.name x made.kind_is refl)
+  node_profile (node.Linear f) (node.Linear x) v took gave made law reads writes = stage_profile (node.Linear x) refl refl refl made.is_linear
+  node_profile (node.Writing f) (node.Writing x) v took gave made law reads writes = writing_profile x made.name made.kind_is (law.node ∙ made.node) (writes made.name x made.kind_is refl)
+  node_profile (node.Reading f) (node.Linear x) v took gave made law reads writes = absurd law
+  node_profile (node.Reading f) (node.Writing x) v took gave made law reads writes = absurd law
+  node_profile (node.Linear f) (node.Reading x) v took gave made law reads writes = absurd law
+  node_profile (node.Linear f) (node.Writing x) v took gave made law reads writes = absurd law
+  node_profile (node.Writing f) (node.Reading x) v took gave made law reads writes = absurd law
+  node_profile (node.Writing f) (node.Linear x) v took gave made law reads writes = absurd law
+
+  -- a sink of lines is one by its kind
+  pub writing_kind : (first now : Node S D) (x : Sink D) (v : View) (took gave : List (List Item)) → FirstOf sources k (node_of n) first → node_law sources drains first now v took gave → now ≡ node.Writing x → (name : List ℕ) × (n.kind ≡ kind.ToLines name)
+  writing_kind (node.Writing f) now x v took gave made law is = (made.name, made.kind_is)
+  writing_kind (node.Reading f) (node.Writing y) x v took gave made law is = absurd law
+  writing_kind (node.Linear f) (node.Writing y) x v took gave made law is = absurd law
+  writing_kind (node.Reading f) (node.Reading y) x v took gave made law is = absurd cc
+  writing_kind (node.Reading f) (node.Linear y) x v took gave made law is = absurd cc
+  writing_kind (node.Linear f) (node.Reading y) x v took gave made law is = absurd cc
+  writing_kind (node.Linear f) (node.Linear y) x v took gave made law is = absurd cc
+
+-- a stand is that of a sink
+pub stand_writing : {S D : Type 0} (x : Node S D) (s : Stand) → stand_in x ≡ Some s → (y : Sink D) × (x ≡ node.Writing y)
+stand_writing (node.Writing y) s e = (y, refl)
+stand_writing (node.Reading y) s e = absurd cc
+stand_writing (node.Linear y) s e = absurd cc
+
+-- a node that leaves a drain is a sink with a file
+pub writer_there : {S D : Type 0} (name : D → List ℕ) (x : Node S D) (n : List ℕ) → Some n ≡ option_map name (writer_in x) → (y : Sink D) × (x ≡ node.Writing y)
+writer_there name (node.Writing y) n e = (y, refl)
+writer_there name (node.Reading y) n e = absurd cc
+writer_there name (node.Linear y) n e = absurd cc
+
+-- the sinks stand in the order of their nodes
+stand_cons : (k : ℕ) (b : Bool) (o : Option Stand) (later : List ℕ) (ss : List Stand) → StandsAt k b o → map (λ (s : Stand). s.0) ss ≡ later → map (λ (s : Stand). s.0) (cons_option o ss) ≡ (if b then k ∷ later else later)
+stand_cons k true o later ss h e = rw h.1.0 (ap (λ m. m ∷ map (λ (s : Stand). s.0) ss) h.1.1 ∙ ap (λ l. k ∷ l) e)
+stand_cons k false o later ss h e = rw h e
+
+pub stands_along : {S D : Type 0} (k : ℕ) (ns : List blue.Node) (xs : List (Node S D)) → length ns ≡ length xs → ((i : ℕ) (n : blue.Node) (x : Node S D) → slice_get ns i ≡ Some n → slice_get xs i ≡ Some x → StandsAt (k + i) (is_sink n) (stand_in x)) → map (λ (s : Stand). s.0) (filter_map stand_in xs) ≡ sink_places k ns
+stands_along k [] [] e p = refl
+stands_along k [] (x ∷ xs) e p = absurd (omega (arith, e))
+stands_along k (n ∷ ns) [] e p = absurd (omega (arith, e))
+stands_along k (n ∷ ns) (x ∷ xs) e p =
+    let here : StandsAt k (is_sink n) (stand_in x) = subst (λ j. StandsAt j (is_sink n) (stand_in x)) (omega arith) (p 0 n x refl refl) in
+    stand_cons k (is_sink n) (stand_in x) (sink_places (k + 1) ns) (filter_map stand_in xs) here
+    (stands_along (k + 1) ns xs (omega (arith, e)) (λ i m y a b. subst (λ j. StandsAt j (is_sink m) (stand_in y)) (omega arith) (p (suc i) m y a b)))
+
+-- a sink that has ended is told so by its stand, where each stand has the number of its node
+skip_other : (s : Stand) (ss : List Stand) (j : ℕ) → s.0 ≢ j → has_ended_at (s ∷ ss) j ≡ has_ended_at ss j
+skip_other s ss j differs = elim (eqb_tells s.0 j) as (λ _. has_ended_at (s ∷ ss) j ≡ has_ended_at ss j) [
+  | inl e ↦ absurd (differs e.1)
+  | inr e ↦ rw e.0 refl
+]
+
+take_this : (s : Stand) (ss : List Stand) (j : ℕ) → s.0 ≡ j → has_ended_at (s ∷ ss) j ≡ has_ended s.2
+take_this s ss j same = elim (eqb_tells s.0 j) as (λ _. has_ended_at (s ∷ ss) j ≡ has_ended s.2) [
+  | inl e ↦ rw e.0 refl
+  | inr e ↦ absurd (e.1 same)
+]
+
+numbered_by : (k j : ℕ) (o : Option Stand) (ss : List Stand) (b : Bool) → StandsAt k b o → j ≢ k → has_ended_at (cons_option o ss) j ≡ has_ended_at ss j
+numbered_by k j None ss b h differs = refl
+numbered_by k j (Some s) ss true h differs = let same : s ≡ h.0 = cc in skip_other s ss j (λ e. differs (sym e ∙ ap (λ (x : Stand). x.0) same ∙ h.1.1))
+numbered_by k j (Some s) ss false h differs = absurd cc
+
+stand_number : (k : ℕ) (b : Bool) (s : Stand) → StandsAt k b (Some s) → s.0 ≡ k
+stand_number k true s h = let same : s ≡ h.0 = cc in ap (λ (x : Stand). x.0) same ∙ h.1.1
+stand_number k false s h = absurd cc
+
+ended_first : (k j : ℕ) (b : Bool) (o : Option Stand) (s : Stand) (ss : List Stand) → StandsAt k b o → o ≡ Some s → j ≡ k → has_ended_at (cons_option o ss) j ≡ has_ended s.2
+ended_first k j b None s ss h e is = absurd cc
+ended_first k j b (Some t) s ss h e is = let same : t ≡ s = cc in take_this t ss j (stand_number k b t h ∙ sym is) ∙ ap (λ (x : Stand). has_ended x.2) same
+
+pub ended_along : {S D : Type 0} (k : ℕ) (ns : List blue.Node) (xs : List (Node S D)) → length ns ≡ length xs → ((i : ℕ) (n : blue.Node) (x : Node S D) → slice_get ns i ≡ Some n → slice_get xs i ≡ Some x → StandsAt (k + i) (is_sink n) (stand_in x))
+    → (i j : ℕ) (x : Node S D) (s : Stand) → j ≡ k + i → slice_get xs i ≡ Some x → stand_in x ≡ Some s → has_ended_at (filter_map stand_in xs) j ≡ has_ended s.2
+ended_along k ns [] e p i j x s is at stands = absurd cc
+ended_along k [] (y ∷ ys) e p i j x s is at stands = absurd (omega (arith, e))
+ended_along k (n ∷ ns) (y ∷ ys) e p zero j x s is at stands =
+    let same : y ≡ x = cc in
+    let here : StandsAt k (is_sink n) (stand_in y) = subst (λ m. StandsAt m (is_sink n) (stand_in y)) (omega arith) (p 0 n y refl refl) in
+    ended_first k j (is_sink n) (stand_in y) s (filter_map stand_in ys) here (ap stand_in same ∙ stands) (omega (arith, is))
+ended_along k (n ∷ ns) (y ∷ ys) e p (suc i) j x s is at stands =
+    let here : StandsAt k (is_sink n) (stand_in y) = subst (λ m. StandsAt m (is_sink n) (stand_in y)) (omega arith) (p 0 n y refl refl) in
+    numbered_by k j (stand_in y) (filter_map stand_in ys) (is_sink n) here (λ same. absurd (omega (arith, is, same)))
+    ∙ ended_along (k + 1) ns ys (omega (arith, e)) (λ l m z a b. subst (λ q. StandsAt q (is_sink m) (stand_in z)) (omega arith) (p (suc l) m z a b)) i j x s (omega (arith, is)) at stands

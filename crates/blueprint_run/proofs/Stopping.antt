@@ -1,0 +1,41 @@
+-- What an island leaves that was started, executed and taken apart.
+use Rattle.std.proofs.Common.{◌≡◌, ◌⊎◌, inl, inr, ℕ, ◌<◌, ◌≤◌, Bool, false, List, [], map, refl, sym, ap, ◌∙◌, subst, arith}
+use Rattle.std.specs.Prelude.{IsTrue, ◌↔◌}
+use Rattle.std.proofs.lemmas.Bool.Decides.{eqb_tells}
+use Rattle.stream_model.specs.declared.outcome.WireCount.{WireCount}
+use Rattle.stream_io.specs.State.{SourceState, DrainState}
+use Rattle.fused_net.specs.Net.{Net}
+use Rattle.fused_net.specs.Laws.{GoesOn}
+use Rattle.nodes.specs.declared.node.Node.{Node}
+use Rattle.interpreter.specs.declared.parts.Link.{Link}
+use Rattle.interpreter.specs.declared.parts.Seated.{Seated}
+use Rattle.interpreter.specs.Parts.{ends_of, number_of, AllBecome}
+use Rattle.interpreter.specs.Island.{Keeps, counts_of, sinks_of, readers_of, writers_of}
+use Rattle.blueprint_run.specs.Leaving.{Stops}
+use Rattle.blueprint_run.specs.declared.run.Stopped.{Stopped}
+
+true_false : (b : Bool) → IsTrue b → b ≡ false → ⊥
+true_false b h e = cc
+
+less_or_same : (a b : ℕ) → a ≤ b → (a < b) ⊎ (a ≡ b)
+less_or_same a b h = elim (eqb_tells a b) [ inl e ↦ inr e.1 | inr other ↦ (let differs : a ≡ b → ⊥ = other.1 in inl (omega (arith, differs, h))) ]
+
+spent_by : (used budget : ℕ) → used ≤ budget → (used < budget → ⊥) → used ≡ budget
+spent_by used budget h never = elim (less_or_same used budget h) [ inl l ↦ absurd (never l) | inr e ↦ e ]
+
+pub stops_of : {S D : Type 0} (sources : S → SourceState) (drains : D → DrainState) (places : List (Seated S D)) (links : List Link) (budget : ℕ) (old net : Net (Node S D)) (numbers : List ℕ) (s : Stopped S D) → Keeps sources drains net s.used → GoesOn old net → AllBecome places old.firsts → old.ends ≡ map ends_of links → numbers ≡ map number_of links
+    → s.end.sinks.items ≡ sinks_of net.nodes → s.wires.items ≡ map (λ (w : ℕ × WireCount). w.1) (counts_of numbers net.wires) → s.end.readers.items ≡ readers_of net.nodes → s.end.writers.items ≡ writers_of net.nodes
+    → s.used ≤ budget → (s.used < budget → net.queue ≡ []) → (IsTrue s.at_rest ↔ (net.queue ≡ [])) → Stops sources drains places links budget s
+stops_of sources drains places links budget old net numbers s keeps on firsts ends named sinks wires readers writers within less rest = record {
+  net = net;
+  settled = keeps.laws;
+  firsts = subst (λ f. AllBecome places f) (sym on.firsts) firsts;
+  ends = on.ends ∙ ends;
+  sinks = sinks;
+  wires = wires ∙ ap (λ n. map (λ (w : ℕ × WireCount). w.1) (counts_of n net.wires)) named;
+  readers = readers;
+  writers = writers;
+  within = within;
+  rests = rest.0;
+  spent = λ stands. spent_by s.used budget within (λ h. true_false s.at_rest (rest.1 (less h)) stands);
+}

@@ -1,0 +1,46 @@
+-- What the sources of a run drew of their files.
+use Rattle.std.specs.Prelude.{◌≡◌, ℕ, ◌+◌, ◌≤◌, ◌⊎◌, Bool, false, IsTrue, List, ◌++◌, length, slice_get, Some}
+use Rattle.elem_core.specs.Text.{lines}
+use Rattle.blue_core.specs.declared.blueprint.Node.{Node}
+use Rattle.stream_model.specs.declared.kind.Kind.TheVariants.{Lines}
+use Rattle.stream_model.specs.Node.{World}
+use Rattle.stream_io.specs.Counts.{Rose, Grew}
+use Rattle.stream_io.specs.State.{FolderState}
+use Rattle.stream_io.specs.Reading.{FirstTooLong}
+use Rattle.nodes.specs.Drawing.{ended_lines}
+
+-- of the source that is node k: the bytes of its file, how many of them were read, and whether a read failed
+pub record Drawn : Type 0 where
+  pub bytes : ℕ → List ℕ
+  pub given : ℕ → ℕ
+  pub faulted : ℕ → Bool
+
+-- node k is a source of the lines of that file
+pub record IsSource (nodes : List Node) (k : ℕ) (file : List ℕ) : Type 0 where
+  pub node : Node
+  pub at : slice_get nodes k ≡ Some node
+  pub kind_is : node.kind ≡ Lines file
+
+-- the file was there with these bytes, so many of them were read, and the count of failed reads rose only where a read failed
+pub record WasRead (old new : FolderState) (file bytes : List ℕ) (given : ℕ) (faulted : Bool) : Type 0 where
+  pub there : old.file file ≡ Some bytes
+  pub read : Grew (old.read file) given (new.read file)
+  pub rose : IsTrue faulted → Rose (old.rfaults file) (new.rfaults file)
+  pub calm : faulted ≡ false → Grew (old.rfaults file) 0 (new.rfaults file)
+
+-- the same of the file of every source
+abbrev pub WereRead : FolderState → FolderState → List Node → Drawn → Type 0
+WereRead old new nodes d = (k : ℕ) (file : List ℕ) → IsSource nodes k file → WasRead old new file (d.bytes k) (d.given k) (d.faulted k)
+
+-- the world has each input file as it was read
+abbrev pub IsWorldOf : List Node → Drawn → World → Type 0
+IsWorldOf nodes d w = (k : ℕ) (file : List ℕ) → IsSource nodes k file → w.file file ≡ record { bytes = d.bytes k; read = d.given k; faulted = d.faulted k }
+
+-- So many lines were drawn, the first of the file, and no more was read than those and one piece; or than one longest line and
+-- its LF besides, where a read failed or the next line is too long.
+pub record DrawsFirst (bytes : List ℕ) (given : ℕ) (faulted : Bool) (sent : ℕ) : Type 0 where
+  pub drawn : List (List ℕ)
+  pub later : List (List ℕ)
+  pub lines_are : lines bytes ≡ drawn ++ later
+  pub sent_is : sent ≡ length drawn
+  pub ahead : (given ≤ length (ended_lines drawn) + 4096) ⊎ ((IsTrue faulted ⊎ FirstTooLong later) × (given ≤ length (ended_lines drawn) + (4096 + 65537)))

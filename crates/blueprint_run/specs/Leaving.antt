@@ -1,0 +1,36 @@
+-- What the island of a blueprint leaves, by the net of its nodes at its end.
+use Rattle.std.specs.Prelude.{◌≡◌, ℕ, ◌≤◌, false, IsTrue, List, [], map}
+use Rattle.blue_core.specs.declared.blueprint.Blueprint.{Blueprint}
+use Rattle.stream_model.specs.declared.outcome.WireCount.{WireCount}
+use Rattle.stream_io.specs.State.{SourceState, DrainState}
+use Rattle.nodes.specs.declared.node.Node.{Node}
+use Rattle.nodes.specs.Nodes.{node_row, node_law}
+use Rattle.fused_net.specs.Net.{Net}
+use Rattle.fused_net.specs.Laws.{Settled}
+use Rattle.interpreter.specs.declared.parts.Link.{Link}
+use Rattle.interpreter.specs.declared.parts.Seated.{Seated}
+use Rattle.interpreter.specs.Parts.{AllBecome, ends_of, number_of}
+use Rattle.interpreter.specs.Island.{counts_of, sinks_of, readers_of, writers_of}
+use Rattle.materializer.specs.Seats.{AreSeats, links_from}
+use Rattle.blue_check.specs.Wires.{blueprint_wires}
+use Rattle.blueprint_run.specs.declared.run.Stopped.{Stopped}
+
+-- the island of these parts was run, by so many units at most, and taken apart
+pub record Stops {S D : Type 0} (sources : S → SourceState) (drains : D → DrainState) (places : List (Seated S D)) (links : List Link) (budget : ℕ) (s : Stopped S D) : Type 0 where
+  pub net : Net (Node S D)
+  pub settled : Settled node_row (node_law sources drains) net
+  pub firsts : AllBecome places net.firsts
+  pub ends : net.ends ≡ map ends_of links
+  pub sinks : s.end.sinks.items ≡ sinks_of net.nodes
+  pub wires : s.wires.items ≡ map (λ (w : ℕ × WireCount). w.1) (counts_of (map number_of links) net.wires)
+  pub readers : s.end.readers.items ≡ readers_of net.nodes
+  pub writers : s.end.writers.items ≡ writers_of net.nodes
+  pub within : s.used ≤ budget
+  pub rests : IsTrue s.at_rest → net.queue ≡ []
+  pub spent : s.at_rest ≡ false → s.used ≡ budget
+
+-- the same of the island of a blueprint, over these sources and these drains
+pub record Leaves {S D : Type 0} (sources : S → SourceState) (drains : D → DrainState) (b : Blueprint) (ss : List S) (ds : List D) (budget : ℕ) (s : Stopped S D) : Type 0 where
+  pub places : List (Seated S D)
+  pub seats : AreSeats 0 b.nodes.items ss ds places
+  pub stops : Stops sources drains places (links_from 0 (blueprint_wires b)) budget s

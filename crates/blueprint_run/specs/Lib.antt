@@ -1,0 +1,4 @@
+pub mod Drawing
+pub mod Stands
+pub mod Running
+pub mod Leaving

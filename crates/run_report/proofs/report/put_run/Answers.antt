@@ -1,0 +1,9 @@
+-- The goals of `report::put_run` that the search leaves.
+use Rattle.run_report.proofs.Puttings.{on_err, part_before, then_part}
+use Rattle.run_report.proofs.report.put_run.Goals as goal
+
+pub returns-in_err-put_sinks-clause-err : goal.returns-in_err-put_sinks-clause-err
+returns-in_err-put_sinks-clause-err g c = on_err _ (part_before _ _ _ _ c.in_err-put_sinks.ensures.err)
+
+pub returns-clause-err : goal.returns-clause-err
+returns-clause-err g c = then_part _ _ _ _ _ _ c.in_ok-put_sinks.ensures.ok c.put_picture.ensures.err

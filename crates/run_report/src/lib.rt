@@ -1,0 +1,6 @@
+//! What a call comes to, and the report of it.
+#![tactic(auto)]
+
+pub mod outcome;
+mod put;
+pub mod report;

@@ -1,0 +1,42 @@
+// What a run comes to.
+use blue_check::fault::CheckFault;
+use blue_words::fault::BlueFault;
+use elem_core::line::Line;
+use stream_model::outcome::EndState;
+
+/// How a call ended.
+#[derive(Drop)]
+pub enum Status {
+    /// Every sink ended.
+    Done,
+    /// The words are not in the command's grammar.
+    Usage,
+    /// The blueprint's text has a fault; it is the first.
+    Refused(BlueFault),
+    /// The blueprint breaks a rule; it is the first, at its least place.
+    Unfit(CheckFault),
+    /// Every sink ended or failed, and some sink failed.
+    StreamFailed,
+    /// Some sink has not ended, and no event is left.
+    Stalled,
+    /// Some sink has not ended, an event is left, and the units are used up.
+    OutOfTurns,
+    /// A file is not there, or its opening was refused.
+    Missing(Line),
+    /// A read of the blueprint's file failed.
+    ReadFault,
+    /// This version does not run the node of that number, or a lane that leads into it; it is the least such node.
+    Unbuilt(u32),
+    /// A write to a sink's file failed.
+    WriteFault,
+    /// Memory was wanting.
+    NoMemory,
+}
+
+/// A sink after a run: its name, how many whole lines it wrote, and how it ended.
+#[derive(Drop)]
+pub struct SinkEnd {
+    pub name: Line,
+    pub count: u64,
+    pub end: EndState,
+}

@@ -1,0 +1,62 @@
+-- What a text comes to: it is refused, or the blueprint that it says is unfit, unbuilt or run.
+use Rattle.std.specs.Prelude.{◌≡◌, ℕ, ◌⊎◌, List, [], Some, None}
+use Rattle.stream_io.specs.State.{FolderState}
+use Rattle.blue_core.specs.declared.blueprint.Blueprint.{Blueprint}
+use Rattle.blue_lang.specs.Blueprints as language
+use Rattle.blue_lang.specs.Plain.{plain}
+use Rattle.blue_check.specs.Fitness.{IsFit, IsFirstFault}
+use Rattle.materializer.specs.Built.{unbuilt_node}
+use Rattle.run_files.specs.Quiet.{Quiet}
+use Rattle.run_report.specs.Answer.{Answer}
+use Rattle.run_report.specs.declared.outcome.Status.{Status}
+use Rattle.run_report.specs.declared.outcome.Status.TheVariants as status
+use Rattle.stream_top.specs.Outcome.{RanNothing, EndedRun, RunCauses}
+
+-- a fit blueprint that was not run: some of it has not been built, or memory was wanting
+abbrev pub NotRun : Status → Answer → Blueprint → FolderState → FolderState → Type 0
+NotRun (status.Unbuilt k) a b old new = RanNothing old new a × (unbuilt_node b ≡ Some k)
+NotRun status.NoMemory a b old new = RanNothing old new a
+NotRun _ a b old new = ⊥
+
+-- it was not run, or all of it has been built and it was run
+abbrev pub EndedFit : Status → Answer → Blueprint → ℕ → FolderState → FolderState → Type 0
+EndedFit s a b turns old new = NotRun s a b old new ⊎ ((unbuilt_node b ≡ None) × EndedRun s a b turns old new)
+
+-- a blueprint that is not fit, or memory was wanting
+abbrev pub NotFit : Status → Answer → Blueprint → List (List ℕ) → FolderState → FolderState → Type 0
+NotFit (status.Unfit f) a b taken old new = RanNothing old new a × IsFirstFault b [] taken f
+NotFit status.NoMemory a b taken old new = RanNothing old new a
+NotFit _ a b taken old new = ⊥
+
+abbrev pub EndedParsed : Status → Answer → Blueprint → List (List ℕ) → ℕ → FolderState → FolderState → Type 0
+EndedParsed s a b taken turns old new = NotFit s a b taken old new ⊎ (IsFit b [] taken × EndedFit s a b turns old new)
+
+-- a text that says no blueprint, or memory was wanting
+abbrev pub NotSaid : Status → Answer → List ℕ → FolderState → FolderState → Type 0
+NotSaid (status.Refused f) a text old new = RanNothing old new a × (language.fault_of text ≡ Some f)
+NotSaid status.NoMemory a text old new = RanNothing old new a
+NotSaid _ a text old new = ⊥
+
+abbrev pub EndedText : Status → Answer → List ℕ → List (List ℕ) → ℕ → FolderState → FolderState → Type 0
+EndedText s a text taken turns old new = NotSaid s a text old new ⊎ ((b : Blueprint) × (language.Says text (plain b) × EndedParsed s a b taken turns old new))
+
+-- no count rose
+pub record AllQuiet (old new : FolderState) : Type 0 where
+  pub refusals : Quiet old.refusals new.refusals
+  pub rfaults : Quiet old.rfaults new.rfaults
+  pub wfaults : Quiet old.wfaults new.wfaults
+
+-- the statuses of calls that read their text and ran nothing
+abbrev pub CausesQuiet : Status → FolderState → FolderState → Type 0
+CausesQuiet (status.Refused f) old new = AllQuiet old new
+CausesQuiet (status.Unfit f) old new = AllQuiet old new
+CausesQuiet (status.Unbuilt k) old new = AllQuiet old new
+CausesQuiet status.NoMemory old new = AllQuiet old new
+CausesQuiet _ old new = ⊥
+
+-- which counts rose
+abbrev pub CausesFit : Status → Blueprint → FolderState → FolderState → Type 0
+CausesFit s b old new = CausesQuiet s old new ⊎ RunCauses s b old new
+
+abbrev pub CausesText : Status → List (List ℕ) → FolderState → FolderState → Type 0
+CausesText s taken old new = CausesQuiet s old new ⊎ ((b : Blueprint) × (IsFit b [] taken × RunCauses s b old new))

@@ -37,17 +37,17 @@ fn open_inputs<F: Folder>(
     alloc: Global,
     folder: &mut F,
     names: Vec<Line>,
-    open: &mut Vec<F::Inp>,
+    sources: &mut Vec<F::Inp>,
 ) -> Result<(), ListEnd>
-    requires empty { open.old.items ≡ [] }
-    requires room { vec_len names ≤ vec_capacity open.old }
-    ensures opened { OnOk result (OpensAll (F.state folder.old) (F.state folder.new) names.items [] (map F.Inp.state open.new.items) []) }
-    ensures missing { (n : List ℕ) → result ≡ Err (ListEnd.Missing n) → StopsAtInput (F.state folder.old) (F.state folder.new) names.items n (map F.Inp.state open.new.items) [] }
-    ensures no_memory { result ≡ Err ListEnd.NoMemory → LacksRoom (F.state folder.old) (F.state folder.new) [] (map F.Inp.state open.new.items) [] }
+    requires empty { sources.old.items ≡ [] }
+    requires room { vec_len names ≤ vec_capacity sources.old }
+    ensures opened { OnOk result (OpensAll (F.state folder.old) (F.state folder.new) names.items [] (map F.Inp.state sources.new.items) []) }
+    ensures missing { (n : List ℕ) → result ≡ Err (ListEnd.Missing n) → StopsAtInput (F.state folder.old) (F.state folder.new) names.items n (map F.Inp.state sources.new.items) [] }
+    ensures no_memory { result ≡ Err ListEnd.NoMemory → LacksRoom (F.state folder.old) (F.state folder.new) [] (map F.Inp.state sources.new.items) [] }
 {
     for name in names {
         match folder.open_in(alloc, &name) {
-            Ok(source) => open.push_reserved(source),
+            Ok(source) => sources.push_reserved(source),
             Err(OpenFault::Missing) => return Err(ListEnd::Missing(name)),
             Err(OpenFault::NoMemory) => return Err(ListEnd::NoMemory),
         }
@@ -60,17 +60,17 @@ fn open_outputs<F: Folder>(
     alloc: Global,
     folder: &mut F,
     names: Vec<Line>,
-    open: &mut Vec<F::Out>,
+    drains: &mut Vec<F::Out>,
 ) -> Result<(), ListEnd>
-    requires empty { open.old.items ≡ [] }
-    requires room { vec_len names ≤ vec_capacity open.old }
-    ensures opened { OnOk result (OpensAll (F.state folder.old) (F.state folder.new) [] names.items [] (map F.Out.state open.new.items)) }
-    ensures missing { (n : List ℕ) → result ≡ Err (ListEnd.Missing n) → StopsAtOutput (F.state folder.old) (F.state folder.new) [] names.items n [] (map F.Out.state open.new.items) }
-    ensures no_memory { result ≡ Err ListEnd.NoMemory → LacksRoom (F.state folder.old) (F.state folder.new) names.items [] (map F.Out.state open.new.items) }
+    requires empty { drains.old.items ≡ [] }
+    requires room { vec_len names ≤ vec_capacity drains.old }
+    ensures opened { OnOk result (OpensAll (F.state folder.old) (F.state folder.new) [] names.items [] (map F.Out.state drains.new.items)) }
+    ensures missing { (n : List ℕ) → result ≡ Err (ListEnd.Missing n) → StopsAtOutput (F.state folder.old) (F.state folder.new) [] names.items n [] (map F.Out.state drains.new.items) }
+    ensures no_memory { result ≡ Err ListEnd.NoMemory → LacksRoom (F.state folder.old) (F.state folder.new) names.items [] (map F.Out.state drains.new.items) }
 {
     for name in names {
         match folder.open_out(alloc, &name) {
-            Ok(drain) => open.push_reserved(drain),
+            Ok(drain) => drains.push_reserved(drain),
             Err(OpenFault::Missing) => return Err(ListEnd::Missing(name)),
             Err(OpenFault::NoMemory) => return Err(ListEnd::NoMemory),
         }

@@ -1,12 +1,10 @@
 -- Closings that follow one another.
-use Rattle.std.proofs.Common.{◌≡◌, ◌≢◌, ℕ, ◌⊎◌, inl, inr, List, [], ◌∷◌, ◌++◌, map, refl, sym, ap, ◌∙◌, subst}
-use Rattle.std.specs.Prelude.{IsTrue, Option}
-use Rattle.std.specs.List.{All, Contains}
+use Rattle.std.proofs.Common.{◌≡◌, ◌≢◌, ℕ, inl, inr, List, [], ◌∷◌, ◌++◌, map, sym, ap, ◌∙◌, subst}
+use Rattle.std.specs.List.{Contains}
 use Rattle.std.proofs.lemmas.List.{map-append}
 use Rattle.std.proofs.lemmas.List.Elements.{All-nil, All-push, Contains-append_left, Contains-push}
 use Rattle.stream_io.specs.Counts.{Grew}
 use Rattle.stream_io.specs.State.{FolderState, SourceState, DrainState, SameFiles, ClosesSource, ClosesDrain}
-use Rattle.run_files.specs.Quiet.{Quiet}
 use Rattle.run_files.specs.Names.{drain_names, Distinct}
 use Rattle.run_files.specs.Closing.{Adds, Keeps, ClosesAll}
 use Rattle.run_files.proofs.Counts.{grew_same, grew_two, quiet_same, quiet_two, same_name}
@@ -112,15 +110,6 @@ pub same_files : (s t : FolderState) → Keeps s t [] → SameFiles s t
 same_files s t none = record { told = none.told; files = λ tells n. none.others tells n (contains_none n) }
 
 -- ---- sources and drains
-
-pub closes_none : (s : FolderState) → ClosesAll s s [] []
-closes_none s = record {
-  read = adds_none _ _ s.read s.read (λ n. refl);
-  rfaults = adds_none _ _ s.rfaults s.rfaults (λ n. refl);
-  wfaults = adds_none _ _ s.wfaults s.wfaults (λ n. refl);
-  files = keeps_none s s (record { told = λ h. h; files = λ h n. refl });
-  refusals = λ n. refl;
-}
 
 pub closes_source : (s t u : FolderState) (is : List SourceState) (i : SourceState) → ClosesAll s t is [] → ClosesSource t u i → SameFiles t u → ClosesAll s u (is ++ i ∷ []) []
 closes_source s t u is i was closed same = record {

@@ -1,5 +1,5 @@
 -- Openings that follow one another.
-use Rattle.std.proofs.Common.{◌≡◌, ◌≢◌, ℕ, ◌⊎◌, inl, inr, List, [], ◌∷◌, ◌++◌, map, Some, refl, sym, ap, ◌∙◌, subst}
+use Rattle.std.proofs.Common.{◌≡◌, ℕ, inl, inr, List, [], ◌∷◌, ◌++◌, map, Some, refl, sym, ap, ◌∙◌, subst}
 use Rattle.std.specs.Prelude.{IsTrue, IsSome}
 use Rattle.std.specs.List.{All, Contains}
 use Rattle.std.proofs.lemmas.List.{map-append}
@@ -21,19 +21,6 @@ drains_stay t u os told all = All-weaker (HoldsNone t) (HoldsNone u) (λ o at. r
 
 pub empties_none : (s : FolderState) → Empties s s []
 empties_none s = record { told = λ h. h; emptied = λ h. All-nil _; others = λ h n no. refl }
-
-pub opens_none : (s : FolderState) → OpensAll s s [] [] [] []
-opens_none s = record {
-  input_names = refl;
-  sources = All-nil _;
-  output_names = refl;
-  drains = All-nil _;
-  files = empties_none s;
-  read = λ n. refl;
-  refusals = quiet_same _ _ (λ n. refl);
-  rfaults = quiet_same _ _ (λ n. refl);
-  wfaults = quiet_same _ _ (λ n. refl);
-}
 
 -- one input more
 pub opens_source : (s t u : FolderState) (inputs : List (List ℕ)) (n : List ℕ) (is : List SourceState) (i : SourceState) → OpensAll s t inputs [] is [] → OpensSource t u n i → SameFiles t u → SameFaults t u → SameRefusals t u → OpensAll s u (inputs ++ n ∷ []) [] (is ++ i ∷ []) []

@@ -1,5 +1,5 @@
 -- Openings that stop at a name, and the closing of what was open then.
-use Rattle.std.proofs.Common.{◌≡◌, ◌≢◌, ℕ, ◌⊎◌, inl, inr, List, [], ◌∷◌, ◌++◌, map, Some, refl, sym, ap, ◌∙◌, subst}
+use Rattle.std.proofs.Common.{◌≡◌, ℕ, inl, inr, List, [], Some, refl, sym, ◌∙◌, subst}
 use Rattle.std.specs.Prelude.{IsTrue, IsSome}
 use Rattle.std.specs.List.{All, Contains}
 use Rattle.std.proofs.lemmas.List.Elements.{All-weaker, All-map}
@@ -11,63 +11,7 @@ use Rattle.run_files.specs.Stopping.{StopsAtInput, StopsAtOutput, LacksRoom}
 use Rattle.run_files.specs.Closing.{ClosesAll}
 use Rattle.run_files.proofs.Counts.{quiet_same, quiet_two, quiet_but, rose_after}
 use Rattle.run_files.proofs.Lists.{contains_none}
-use Rattle.run_files.proofs.Openings.{opens_none, opens_both, empties_none}
-
--- ---- where an opening stops
-
-pub stops_input : (s t u : FolderState) (all done rest left : List (List ℕ)) (m n : List ℕ) (is : List SourceState) → all ≡ done ++ rest → rest ≡ m ∷ left → m ≡ n → OpensAll s t done [] is [] → SameFiles t u → SameFaults t u → Lacks t m ⊎ Rose (t.refusals m) (u.refusals m) → RefusesName t u m → StopsAtInput s u all n is []
-stops_input s t u all done rest left m n is e f same opens files faults why refusal =
-    subst (λ k. StopsAtInput s u all k is []) same (record {
-      before = done;
-      after = left;
-      place = e ∙ ap (λ l. done ++ l) f;
-      mid = t;
-      opens = opens;
-      files = files;
-      faults = faults;
-      why = why;
-      refusal = refusal;
-    })
-
-pub stops_output : (s t u : FolderState) (all done rest left : List (List ℕ)) (m n : List ℕ) (os : List DrainState) → all ≡ done ++ rest → rest ≡ m ∷ left → m ≡ n → OpensAll s t [] done [] os → SameFiles t u → SameFaults t u → Rose (t.refusals m) (u.refusals m) → RefusesName t u m → StopsAtOutput s u [] all n [] os
-stops_output s t u all done rest left m n os e f same opens files faults rose refusal =
-    subst (λ k. StopsAtOutput s u [] all k [] os) same (record {
-      before = done;
-      after = left;
-      place = e ∙ ap (λ l. done ++ l) f;
-      mid = t;
-      opens = opens;
-      files = files;
-      faults = faults;
-      rose = rose;
-      refusal = refusal;
-    })
-
-pub lacks_input : (s t u : FolderState) (inputs : List (List ℕ)) (is : List SourceState) → OpensAll s t inputs [] is [] → SameFiles t u → SameFaults t u → SameRefusals t u → LacksRoom s u [] is []
-lacks_input s t u inputs is opens files faults refusals = record {
-  inputs = inputs;
-  before = [];
-  after = [];
-  place = refl;
-  mid = t;
-  opens = opens;
-  files = files;
-  faults = faults;
-  refusals = refusals;
-}
-
-pub lacks_output : (s t u : FolderState) (all done rest : List (List ℕ)) (os : List DrainState) → all ≡ done ++ rest → OpensAll s t [] done [] os → SameFiles t u → SameFaults t u → SameRefusals t u → LacksRoom s u all [] os
-lacks_output s t u all done rest os e opens files faults refusals = record {
-  inputs = [];
-  before = done;
-  after = rest;
-  place = e;
-  mid = t;
-  opens = opens;
-  files = files;
-  faults = faults;
-  refusals = refusals;
-}
+use Rattle.run_files.proofs.Openings.{opens_both, empties_none}
 
 -- the same, behind the inputs
 pub stops_behind : (s t u : FolderState) (inputs outputs : List (List ℕ)) (n : List ℕ) (is : List SourceState) (os : List DrainState) → OpensAll s t inputs [] is [] → StopsAtOutput t u [] outputs n [] os → StopsAtOutput s u inputs outputs n is os
@@ -182,21 +126,6 @@ lacks_behind s t u inputs outputs is os first lacks = record {
   faults = lacks.faults;
   refusals = lacks.refusals;
 }
-
--- among the inputs, with outputs to come
-pub lacks_inputs : (s u : FolderState) (outputs : List (List ℕ)) (is : List SourceState) (os : List DrainState) → os ≡ [] → LacksRoom s u [] is [] → LacksRoom s u outputs is os
-lacks_inputs s u outputs is os e lacks =
-    subst (λ l. LacksRoom s u outputs is l) (sym e) (record {
-      inputs = lacks.inputs;
-      before = [];
-      after = outputs;
-      place = refl;
-      mid = lacks.mid;
-      opens = subst (λ l. OpensAll s lacks.mid lacks.inputs l is []) (sym lacks.opens.output_names) lacks.opens;
-      files = lacks.files;
-      faults = lacks.faults;
-      refusals = lacks.refusals;
-    })
 
 -- before the first opening
 pub gives_up_first : (s : FolderState) (outputs : List (List ℕ)) → GivesUp s s outputs

@@ -3,3 +3,5 @@
 
 pub mod close;
 pub mod open;
+#[cfg(test)]
+mod tests;

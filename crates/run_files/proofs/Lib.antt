@@ -1,0 +1,5 @@
+pub mod Counts
+pub mod Lists
+pub mod Closings
+pub mod Openings
+pub mod Stoppings

@@ -1,0 +1,6 @@
+-- The goal of `close::close_all`.
+use Rattle.run_files.proofs.Closings.{closes_both}
+use Rattle.run_files.proofs.close.close_all.Goals as goal
+
+pub returns : goal.returns
+returns g c = closes_both _ _ _ _ _ c.close_inputs.ensures c.close_outputs.ensures

@@ -2,25 +2,8 @@
 use Rattle.std.proofs.Common.{◌≡◌, ◌≢◌, ◌⊎◌, inl, inr, ℕ, zero, suc, ◌+◌, ◌<◌, ◌≤◌, Bool, true, false, List, [], ◌∷◌, length, refl, sym, ap, ◌∙◌, subst, arith, lit<}
 use Rattle.std.specs.Prelude.{IsTrue, Option, Some, None, IsSome, slice_index_or}
 use Rattle.std.specs.List.{Contains}
-use Rattle.std.proofs.lemmas.Bool.Decides.{eqb_tells}
 use Rattle.stream_io.specs.Counts.{Rose, Grew, last_count}
-
--- a count that is as before did not rise
-pub grew_same : (a b : ℕ) → b ≡ a → Grew a 0 b
-grew_same a b e = record { stays = omega (arith, e); grew = λ h. omega (arith, e) }
-
--- it grew by m and then by n
-pub grew_two : (a b c m n : ℕ) → Grew a m b → Grew b n c → Grew a (m + n) c
-grew_two a b c m n p q = record {
-  stays = omega (arith, p.stays, q.stays);
-  grew = λ h.
-      let first : b < last_count → b ≡ a + m = p.grew in
-      let then : c < last_count → c ≡ b + n = q.grew in
-      let stays : b ≤ c = q.stays in
-      let third : c ≡ b + n = then h in
-      let second : b ≡ a + m = first (omega arith) in
-      omega (arith, second, third);
-}
+use Rattle.run_files.proofs.Counts.{grew_two, same_name}
 
 -- it did not rise, and then it grew
 pub grew_behind : (a b c n : ℕ) → Grew a 0 b → Grew b n c → Grew a n c
@@ -53,16 +36,6 @@ above_none (suc n) h = omega arith
 pub not_positive : (n : ℕ) → is_positive n ≡ false → n ≡ 0
 not_positive zero h = refl
 not_positive (suc n) h = absurd cc
-
--- two names are one, or differ
-pub same_name : (a b : List ℕ) → (a ≡ b) ⊎ (a ≢ b)
-same_name [] [] = inl refl
-same_name [] (b ∷ bs) = inr (λ e. cc)
-same_name (a ∷ cs) [] = inr (λ e. cc)
-same_name (a ∷ cs) (b ∷ bs) = elim (eqb_tells a b) [
-  | inl e ↦ (elim (same_name cs bs) as (λ _. (a ∷ cs ≡ b ∷ bs) ⊎ (a ∷ cs ≢ b ∷ bs)) [ inl f ↦ inl (cc (e.1, f)) | inr differs ↦ inr (λ f. differs (cc)) ])
-  | inr differs ↦ inr (λ f. differs.1 (cc))
-]
 
 -- a name is among these, or it is not
 contains_more : (x : List ℕ) (xs : List (List ℕ)) (n : List ℕ) → Contains xs n → Contains (x ∷ xs) n

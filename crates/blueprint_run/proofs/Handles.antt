@@ -40,7 +40,8 @@ use Rattle.blueprint_run.specs.Leaving.{Stops, Leaves}
 use Rattle.blueprint_run.specs.Stands.{Stand, sink_places, has_ended_at}
 use Rattle.blueprint_run.specs.declared.run.Stopped.{Stopped}
 use Rattle.blueprint_run.proofs.Places.{all_at, all_unmapped, contains_at, mapped_at, filtered_at, filtered_along, map_two, place_of, place_one}
-use Rattle.blueprint_run.proofs.Counts.{grew_same, grew_behind}
+use Rattle.run_files.proofs.Counts.{grew_same}
+use Rattle.blueprint_run.proofs.Counts.{grew_behind}
 use Rattle.blueprint_run.proofs.Apart.{inputs_distinct, outputs_distinct}
 use Rattle.blueprint_run.proofs.Profiles.{reader_in, writer_in, stand_in, readers_filtered, writers_filtered, sinks_filtered, Profile, node_profile, stands_along, StandsAt, stand_writing, writing_kind}
 

@@ -26,8 +26,8 @@ const REPORT: &str = "done\nsink out ended 2\n";
 const TAKES_NONE: &str =
     "streams 1\nsource src lines in.txt\nstage cut take 0\nsink out lines out.txt\nwire src.0 -> cut.0\nwire cut.0 -> out.0\n";
 
-// A blueprint with a kind of stage that is not built.
-const UNBUILT: &str =
+// A blueprint with a stage that gives numbers to one that wants text.
+const CLASH: &str =
     "streams 1\nsource src lines in.txt\nstage pick map num\nstage size map len\nstage cut take 2\nsink out lines out.txt\nwire src.0 -> pick.0\nwire pick.0 -> size.0\nwire size.0 -> cut.0\nwire cut.0 -> out.0\n";
 
 // A blueprint with a misspelt word.
@@ -161,10 +161,10 @@ fn blueprints_run(rt: HostRuntime) -> Result<(), Fail> {
         Run::new(TEXT, Some("disk"), one, 0, Some("4\n")),
         Run::new(TEXT, Some("disk\r\n"), one, 0, Some("5\n")),
         Run::new(TAKES_NONE, Some(INPUT), none, 0, Some("")),
-        Run::new(UNBUILT, Some(INPUT), "unbuilt 0\n", 2, None),
-        Run::new(MISSPELT, Some(INPUT), "unbuilt 0\n", 2, None),
-        Run::new(ITSELF, Some(INPUT), "unbuilt 0\n", 2, None),
-        Run::new("", Some(INPUT), "unbuilt 0\n", 2, None),
+        Run::new(CLASH, Some(INPUT), "unfit 6 wire 1 num text\n", 2, None),
+        Run::new(MISSPELT, Some(INPUT), "refused line 2 fault 2\n", 2, None),
+        Run::new(ITSELF, Some(INPUT), "unfit 1 log.blue\n", 2, None),
+        Run::new("", Some(INPUT), "refused line 0 fault 1\n", 2, None),
         Run::new(TEXT, None, "missing in.txt\n", 6, None),
         Run {
             text: None,

@@ -28,7 +28,8 @@ use Rattle.blueprint_run.specs.Drawing.{IsSource, WasRead}
 use Rattle.blueprint_run.specs.Stands.{Stand, sink_places, is_write_fault, is_unended, is_failed}
 use Rattle.blueprint_run.specs.Running.{LeavesFiles, WritesOf, SomeWriteRose, Runs, Wants}
 use Rattle.blueprint_run.specs.declared.run.Ran.{Ran}
-use Rattle.blueprint_run.proofs.Counts.{grew_same, grew_behind}
+use Rattle.run_files.proofs.Counts.{grew_same, quiet_two}
+use Rattle.blueprint_run.proofs.Counts.{grew_behind}
 use Rattle.blueprint_run.proofs.Places.{contains_at, filtered_at}
 use Rattle.blueprint_run.proofs.Apart.{inputs_untaken, outputs_untaken}
 use Rattle.run_report.specs.Answer.{Answer}
@@ -40,7 +41,7 @@ use Rattle.stream_top.specs.Command.{Asked}
 use Rattle.stream_top.specs.Text.{text_limit, text_of_file, ReadsFile}
 use Rattle.stream_top.specs.Outcome.{SaysFile, SaysFit, SaysBuilt, Blank, RanNothing, RanTo, GaveUp, LacksInput, LacksOutput, IsAbsent, EndedRun, EndedBefore, Told, Causes, CausesBefore, QuietButAll, RunCauses, SinksOf}
 use Rattle.stream_top.specs.Texts.{NotRun, EndedFit, NotFit, EndedParsed, NotSaid, EndedText, AllQuiet, CausesQuiet, CausesFit, CausesText}
-use Rattle.stream_top.proofs.Quiets.{quiet_two, files_two}
+use Rattle.stream_top.proofs.Quiets.{files_two}
 
 -- ---- the ends of sinks
 

@@ -6,41 +6,8 @@ use Rattle.std.proofs.lemmas.Bool.Decides.{eqb_tells}
 use Rattle.stream_io.specs.Counts.{Rose, Grew, last_count}
 use Rattle.stream_io.specs.State.{FolderState, SourceState, SameFiles, SameFaults, SameRefusals, OpensSource, ClosesSource}
 use Rattle.run_files.specs.Quiet.{Quiet}
+use Rattle.run_files.proofs.Counts.{grew_same, grew_two, quiet_same, quiet_two, same_name}
 use Rattle.stream_top.specs.Text.{text_of_file, ReadsFile, StaysQuiet}
-
--- a count that is as before did not rise
-pub grew_same : (a b : ℕ) → b ≡ a → Grew a 0 b
-grew_same a b e = record { stays = omega (arith, e); grew = λ h. omega (arith, e) }
-
--- it grew by m and then by n
-pub grew_two : (a b c m n : ℕ) → Grew a m b → Grew b n c → Grew a (m + n) c
-grew_two a b c m n p q = record {
-  stays = omega (arith, p.stays, q.stays);
-  grew = λ h.
-      let first : b < last_count → b ≡ a + m = p.grew in
-      let then : c < last_count → c ≡ b + n = q.grew in
-      let stays : b ≤ c = q.stays in
-      let third : c ≡ b + n = then h in
-      let second : b ≡ a + m = first (omega arith) in
-      omega (arith, second, third);
-}
-
-pub quiet_same : (f g : List ℕ → ℕ) → ((n : List ℕ) → g n ≡ f n) → Quiet f g
-quiet_same f g e = λ n. grew_same (f n) (g n) (e n)
-
-pub quiet_two : (f g h : List ℕ → ℕ) → Quiet f g → Quiet g h → Quiet f h
-quiet_two f g h p q = λ n. grew_two (f n) (g n) (h n) 0 0 (p n) (q n)
-
--- a count that grew by more than nothing rose
-pub rose_by : (a n b : ℕ) → Grew a n b → 0 < n → Rose a b
-rose_by a n b p h = λ k. let e : b ≡ a + n = p.grew k in omega (arith, e, h)
-
-rose_above : (a b m : ℕ) → a ≡ 0 → (b < m → a < b) → 0 < m → 0 < b
-rose_above a b m e r h = grind arith
-
--- what rose from nothing is more than nothing
-pub rose_from_none : (a b : ℕ) → a ≡ 0 → Rose a b → 0 < b
-rose_from_none a b e r = rose_above a b last_count e r (lit< tt)
 
 -- files that two steps in a row leave alone are left alone
 pub files_two : (s t u : FolderState) → SameFiles s t → SameFiles t u → SameFiles s u
@@ -48,16 +15,6 @@ files_two s t u p q = record {
   told = λ h. p.told (q.told h);
   files = λ h n. q.files h n ∙ p.files (q.told h) n;
 }
-
--- two names are one, or differ
-pub same_name : (a b : List ℕ) → (a ≡ b) ⊎ (a ≢ b)
-same_name [] [] = inl refl
-same_name [] (b ∷ bs) = inr (λ e. cc)
-same_name (a ∷ cs) [] = inr (λ e. cc)
-same_name (a ∷ cs) (b ∷ bs) = elim (eqb_tells a b) [
-  | inl e ↦ (elim (same_name cs bs) as (λ _. (a ∷ cs ≡ b ∷ bs) ⊎ (a ∷ cs ≢ b ∷ bs)) [ inl f ↦ inl (cc (e.1, f)) | inr differs ↦ inr (λ f. differs (cc)) ])
-  | inr differs ↦ inr (λ f. differs.1 (cc))
-]
 
 -- a whole that is told gives its text
 text_told : (o w : Option (List ℕ)) (text : List ℕ) → w ≡ o → IsSome o → IfSome w (λ b. text ≡ text_of_file b) → option_map text_of_file o ≡ Some text

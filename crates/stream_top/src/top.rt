@@ -4,16 +4,15 @@ ghost use Rattle.stream_top.specs.AfterRun.{of_outcome};
 ghost use Rattle.stream_top.specs.Calls.{answer_of};
 ghost use Rattle.stream_top.specs.Command.{Asked, command_of};
 ghost use Rattle.stream_top.specs.Outcome.{Told, Causes, SinksOf, IsValid, RoseNowhere, WasRun};
-ghost use Rattle.run_report.specs.Report.{report_of, code_of};
+ghost use Rattle.run_report.specs.Report.{detail_of, report_of, code_of};
 ghost use Rattle.run_report.specs.Writing.{Puts, PutsPart};
 
 use crate::answer::{Outcome, run_file, without_run};
 use crate::command::read_words;
-use crate::outcome::{SinkEnd, Status};
-use crate::report::{code, put_report};
 use elem_core::line::Line;
+use run_report::outcome::{SinkEnd, Status};
+use run_report::report::{code, put_report};
 use std::alloc::Global;
-use straight_lang::laws::one_text_says_one_blueprint;
 use stream_io::outside::{Drain, Failed, Folder};
 use stream_model::outcome::Picture;
 
@@ -41,7 +40,7 @@ pub fn run_streams<F: Folder, C: Drain>(
     // What is answered and left where the folder tells its files.
     ensures told { (c : Asked) → command_of words.now ≡ Some c → IsTrue (F.state folder.new).tells → Told (answer_of result) c (F.state folder.old) (F.state folder.new) }
 
-    // Valid words, text and input and no fault give a run, or memory was wanting.
+    // Valid words, text and inputs and no fault give a run, or memory was wanting.
     ensures complete { IsTrue (F.state folder.new).tells → IsValid words.now (F.state folder.old) → RoseNowhere (F.state folder.old) (F.state folder.new) → WasRun result.status }
 
     // Which counts rose, whether it tells them or not.
@@ -52,15 +51,14 @@ pub fn run_streams<F: Folder, C: Drain>(
     ensures console { (Puts (C.state console.old) (C.state console.new) (report_of (answer_of result)) × (result.code ≡ code_of result.status))
         ⊎ (PutsPart (C.state console.old) (C.state console.new) (report_of (answer_of result)) × (result.code ≡ 8)) }
 {
-    // A text says one blueprint at most.
-    one_text_says_one_blueprint();
     let Outcome {
         status,
+        detail,
         sinks,
         picture,
         used,
     } = answer(alloc, words, folder);
-    let code = match put_report(console, &status, &sinks, &picture.wires, used) {
+    let code = match put_report(console, &status, &detail, &sinks, &picture.wires, used) {
         Ok(()) => code(&status),
         Err(Failed) => 8,
     };
@@ -80,6 +78,7 @@ fn answer<F: Folder>(alloc: Global, words: &[Line], folder: &mut F) -> Outcome
     ensures told { (c : Asked) → command_of words.now ≡ Some c → IsTrue (F.state folder.new).tells → Told (of_outcome result) c (F.state folder.old) (F.state folder.new) }
     ensures causes { (c : Asked) → command_of words.now ≡ Some c → Causes result.status c.file (F.state folder.old) (F.state folder.new) }
     ensures sinks { SinksOf result.status (of_outcome result) }
+    ensures detail { result.detail.items ≡ detail_of result.status }
 {
     match read_words(words) {
         Some(command) => run_file(alloc, folder, command.file, command.turns),

@@ -3,4 +3,4 @@ use Rattle.stream_top.proofs.top.run_streams.Goals as goal
 
 pub returns-clause-complete : goal.returns-clause-complete
 returns-clause-complete g c =
-    λ tells valid calm. complete c.one_text_says_one_blueprint.ensures c.args.words.now _ _ _ c.answer-status.ensures.told tells valid calm
+    λ tells valid calm. complete c.args.words.now _ _ _ c.answer-status.ensures.told tells valid calm

@@ -1,0 +1,7 @@
+// The parts of the island of a blueprint, and what ties them to the model.
+#![tactic(auto)]
+
+pub mod built;
+pub mod laws;
+pub mod names;
+pub mod parts;

@@ -3,5 +3,10 @@
 
 pub mod built;
 pub mod laws;
+pub mod links;
 pub mod names;
+mod number;
 pub mod parts;
+pub mod seats;
+#[cfg(test)]
+mod tests;

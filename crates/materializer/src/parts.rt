@@ -6,7 +6,10 @@ ghost use Rattle.materializer.specs.Built.{CanRun};
 ghost use Rattle.materializer.specs.Files.{inputs_of_nodes, outputs_of_nodes};
 ghost use Rattle.materializer.specs.Seats.{AreSeats, links_from};
 
+use crate::links::links_of_wires;
+use crate::seats::seat_all;
 use blue_core::blueprint::Blueprint;
+use blue_names::links::links_of;
 use elem_core::why::NoMemory;
 use interpreter::parts::Parts;
 use std::alloc::Global;
@@ -14,7 +17,7 @@ use stream_io::outside::{Drain, Source};
 
 /// The parts of the island of a blueprint: each node at its place, and a link for each wire. In the order of nodes, each source
 /// of lines reads the next of `sources`, and each sink with a file writes the next of `drains`. A number that is out of 32 bits
-/// is want of memory.
+/// is want of memory. Rule: own.
 pub fn parts_of<S: Source, D: Drain>(
     alloc: Global,
     b: Blueprint,
@@ -28,5 +31,8 @@ pub fn parts_of<S: Source, D: Drain>(
     ensures links { IfOk result (λ parts. parts.links.items ≡ links_from 0 (blueprint_wires b)) }
     ensures parts { IfOk result (λ parts. AreParts parts.nodes.items parts.links.items) }
 {
-    todo!()
+    let wires = links_of(alloc, &b.nodes, &b.wires)?;
+    let links = links_of_wires(alloc, &wires)?;
+    let nodes = seat_all(alloc, b.nodes, sources, drains)?;
+    Ok(Parts { nodes, links })
 }

@@ -30,6 +30,13 @@ impl Checked {
         &self.blueprint
     }
 
+    /// The blueprint that was checked, as the caller's own. It takes no memory.
+    pub fn into_blueprint(self) -> Blueprint
+        ensures { result ≡ blueprint_of self }
+    {
+        self.blueprint
+    }
+
     /// Whether no closed walk uses each wire at most once, when directions are ignored. Two wires between the same nodes are such
     /// a walk. It takes no memory. Rule: own.
     pub fn is_polytree(&self) -> bool

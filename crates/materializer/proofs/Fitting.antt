@@ -1,0 +1,120 @@
+-- What a blueprint that breaks no rule, and of which all has been built, tells of its ports, its kinds and its wires.
+use Rattle.std.proofs.Common.{◌≡◌, ℕ, zero, suc, ◌+◌, ◌<◌, ◌≤◌, ◌^◌, Bool, true, false, not, is_some, is_none, ◌==◌, ◌&&◌, ◌||◌, List, [], ◌∷◌, map, length, Option, Some, None, refl, ap, sym, ◌∙◌, subst, ⊎_elim, arith}
+use Rattle.std.specs.Prelude.{slice_get, nat_le}
+use Rattle.std.specs.List.{list_any, list_all, All}
+use Rattle.std.specs.Option.{option_or, option_map}
+use Rattle.std.proofs.lemmas.Bool.{or_parts, and_parts, eq-eqb, cases_Bool}
+use Rattle.std.proofs.lemmas.Bool.Decides.{nat_tests}
+use Rattle.stream_model.specs.Graph.{Graph, Wire}
+use Rattle.stream_model.specs.Graph as graph
+use Rattle.stream_model.specs.Composed.{inputs_of}
+use Rattle.stream_model.specs.declared.kind.Kind.{Kind}
+use Rattle.stream_model.specs.declared.kind.Kind.TheVariants.{Merge, Concat, Interleave, MergeSorted, Zip, Broadcast, Balance, Partition, Unzip}
+use Rattle.stream_picture.specs.View.{outputs_of}
+use Rattle.blue_core.specs.declared.blueprint.Blueprint.{Blueprint}
+use Rattle.blue_core.specs.declared.blueprint.Node.{Node}
+use Rattle.blue_rules.specs.First.{first_from, when}
+use Rattle.blue_rules.specs.Ports.{port_missing, port_twice, port_open}
+use Rattle.blue_rules.specs.Sizes.{sizes_fit, node_wrong}
+use Rattle.blue_check.specs.Fitness.{IsFit}
+use Rattle.blue_check.specs.Wires.{blueprint_wires}
+use Rattle.plug_core.specs.declared.head.PlugHead.{PlugHead}
+use Rattle.materializer.specs.Built.{is_built, leads_into, is_unbuilt, unbuilt_in}
+use Rattle.materializer.specs.Graphs.{graph_of, node_of, chain_of}
+use Rattle.materializer.specs.Joined.{IsJoined}
+use Rattle.blue_names.specs.declared.links.Link.{Link}
+use Rattle.blue_names.specs.Links.{wires_of_links}
+use Rattle.blue_walks.proofs.ClosedWalks.{link_at_place}
+use Rattle.materializer.proofs.Joining.{both_none, none_here, not_when, mapped_from, joined}
+
+map_none : {X Y : Type 0} (f : X → Y) (o : Option X) → option_map f o ≡ None → o ≡ None
+map_none f None h = refl
+map_none f (Some x) h = absurd cc
+
+not_true : (b : Bool) → not b ≡ false → b ≡ true
+not_true true h = refl
+not_true false h = absurd cc
+
+and_both : (p q : Bool) → p ≡ true → q ≡ true → (p && q) ≡ true
+and_both p q a b = grind (arith, a, b)
+
+-- no port is missing, used twice or open, and each size is within its limits
+pub record Facts (b : Blueprint) : Type 0 where
+  pub missing : port_missing b.nodes.items (blueprint_wires b) ≡ None
+  pub twice : port_twice (blueprint_wires b) ≡ None
+  pub open_ : port_open b.nodes.items (blueprint_wires b) ≡ None
+  pub sizes : node_wrong b.nodes.items ≡ None
+
+pub facts : (b : Blueprint) (plugs : List PlugHead) (taken : List (List ℕ)) → IsFit b plugs taken → Facts b
+facts b plugs taken fit =
+    let behind_names = (both_none _ _ fit.early).1 in
+    let ports = both_none _ _ (both_none _ _ behind_names).0 in
+    let behind_missing = both_none _ _ ports.1 in
+    let behind_ports = (both_none _ _ behind_names).1 in
+    let behind_plugs = (both_none _ _ behind_ports).1 in
+    let wrong = both_none _ _ (map_none _ _ (both_none _ _ behind_plugs).0) in
+    record {
+      missing = map_none _ _ ports.0;
+      twice = map_none _ _ behind_missing.0;
+      open_ = map_none _ _ behind_missing.1;
+      sizes = map_none _ _ (both_none _ _ wrong.1).0;
+    }
+
+pub fit_joined : (b : Blueprint) (plugs : List PlugHead) (taken : List (List ℕ)) → IsFit b plugs taken → IsJoined (graph_of b)
+fit_joined b plugs taken fit =
+    let f = facts b plugs taken fit in
+    joined b.nodes.items (blueprint_wires b) (map chain_of b.chains.items) f.missing f.twice f.open_
+
+-- ---- kinds that have few ports
+
+within : (n : ℕ) → (nat_le 2 n && nat_le n 16) ≡ true → n < 2 ^ 8
+within n h = let parts = and_parts (nat_le 2 n) (nat_le n 16) h in grind (arith, nat_tests, parts.1)
+
+few_inputs : (k : Kind) → sizes_fit k ≡ true → inputs_of k < 2 ^ 8
+few_inputs (Merge n) h = within n h
+few_inputs (Concat n) h = within n h
+few_inputs (Interleave n s) h = within n (and_parts _ _ h).0
+few_inputs _ h = omega arith
+
+few_outputs : (k : Kind) → sizes_fit k ≡ true → outputs_of k < 2 ^ 8
+few_outputs (Broadcast n) h = within n h
+few_outputs (Balance n) h = within n h
+few_outputs (Partition n f) h = within n h
+few_outputs _ h = omega arith
+
+-- a node's sizes are within their limits
+sized : (nodes : List Node) (k : ℕ) (n : Node) → node_wrong nodes ≡ None → slice_get nodes k ≡ Some n → sizes_fit n.kind ≡ true
+sized nodes k n none at = not_true (sizes_fit n.kind) (not_when _ k (none_here (λ i m. when (not (sizes_fit m.kind)) i) nodes k n none at))
+
+module _ (b : Blueprint) (plugs : List PlugHead) (taken : List (List ℕ)) (fit : IsFit b plugs taken) where
+  -- so the ports of each wire have small numbers
+  few_ports : (i : ℕ) (v : Wire) → slice_get (blueprint_wires b) i ≡ Some v → (v.output < 2 ^ 8) × (v.input < 2 ^ 8)
+  few_ports i v at =
+      let f = facts b plugs taken fit in
+      let j = fit_joined b plugs taken fit in
+      let s = j.source i v at in
+      let t = j.target i v at in
+      let m = mapped_from node_of b.nodes.items v.from s.0 s.1 in
+      let n = mapped_from node_of b.nodes.items v.to t.0 t.1 in
+      let o : outputs_of m.0.kind < 2 ^ 8 = few_outputs m.0.kind (sized b.nodes.items v.from m.0 f.sizes m.1.0) in
+      let p : inputs_of n.0.kind < 2 ^ 8 = few_inputs n.0.kind (sized b.nodes.items v.to n.0 f.sizes n.1.0) in
+      let of_m : outputs_of m.0.kind ≡ outputs_of s.0.kind = ap (λ (x : graph.Node). outputs_of x.kind) m.1.1 in
+      let of_n : inputs_of n.0.kind ≡ inputs_of t.0.kind = ap (λ (x : graph.Node). inputs_of x.kind) n.1.1 in
+      let a : v.output < outputs_of s.0.kind = s.2 in
+      let c : v.input < inputs_of t.0.kind = t.2 in
+      (omega (arith, a, o, of_m), omega (arith, c, p, of_n))
+
+  pub few_link_ports : (ls : List Link) → wires_of_links ls ≡ blueprint_wires b → All (λ (l : Link). (l.output < 2 ^ 8) × (l.input < 2 ^ 8)) ls
+  few_link_ports ls e = λ k d lt. few_ports k _ (ap (λ x. slice_get x k) (sym e) ∙ link_at_place ls k d lt)
+
+-- ---- kinds that have been built
+
+all_built_from : (nodes : List Node) (ws : List Wire) (i : ℕ) → first_from (λ k n. when (is_unbuilt ws k n) k) i nodes ≡ None → list_all (λ n. is_built n.kind) nodes ≡ true
+all_built_from [] ws i h = refl
+all_built_from (n ∷ ns) ws i h =
+    let both = both_none _ _ h in
+    let here = or_parts _ _ (not_when _ i both.0) in
+    and_both (is_built n.kind) (list_all (λ m. is_built m.kind) ns) (not_true (is_built n.kind) here.0) (all_built_from ns ws (i + 1) both.1)
+
+pub all_built : (nodes : List Node) (ws : List Wire) → unbuilt_in nodes ws ≡ None → list_all (λ n. is_built n.kind) nodes ≡ true
+all_built nodes ws h = all_built_from nodes ws 0 h

@@ -1,0 +1,110 @@
+-- Which source and which drain each node holds as it is handed in.
+use Rattle.std.proofs.Common.{◌≡◌, ℕ, zero, suc, ◌+◌, List, [], ◌∷◌, Option, Some, None, refl, ap, sym, ◌∙◌, subst, arith}
+use Rattle.std.specs.Prelude.{slice_get}
+use Rattle.std.specs.List.{cons_option}
+use Rattle.stream_model.specs.declared.kind.Kind.{Kind}
+use Rattle.stream_model.specs.declared.kind.Kind.TheVariants as kind
+use Rattle.stage_linear.specs.States.{IsLinear}
+use Rattle.nodes.specs.declared.node.Node.{Node}
+use Rattle.nodes.specs.declared.node.Node.TheVariants as node
+use Rattle.nodes.specs.Source.{Lines}
+use Rattle.nodes.specs.Sink.{Sink}
+use Rattle.interpreter.specs.declared.parts.Seated.{Seated}
+use Rattle.interpreter.specs.declared.parts.Work.{Work}
+use Rattle.interpreter.specs.declared.parts.Work.TheVariants as work
+use Rattle.interpreter.specs.Parts.{IsLinesSink, BecomesOf, AllBecome}
+use Rattle.blue_core.specs.declared.blueprint.Node as blue
+use Rattle.materializer.specs.Files.{input_of, output_of, inputs_of_nodes, outputs_of_nodes}
+use Rattle.materializer.specs.Handed.{ReadsFile, WritesFile}
+use Rattle.materializer.specs.Seats.{handle_of, handles_left, IsWork, AreSeats}
+use Rattle.materializer.proofs.Placing.{reads_lines}
+
+-- the place of a handle and of its name, among all
+record Handed {X : Type 0} (xs : List X) (names : List (List ℕ)) (x : X) (name : List ℕ) : Type 0 where
+  pub place : ℕ
+  pub handle : slice_get xs place ≡ Some x
+  pub named : slice_get names place ≡ Some name
+
+-- the next one
+handed_next : {X : Type 0} (o : Option (List ℕ)) (xs : List X) (names : List (List ℕ)) (x : X) (name : List ℕ) → o ≡ Some name → handle_of o xs ≡ Some x → Handed xs (cons_option o names) x name
+handed_next o xs names x name e h =
+    record { place = 0; handle = sym (ap (λ p. handle_of p xs) e) ∙ h; named = ap (λ p. slice_get (cons_option p names) 0) e }
+
+-- one behind those that a node leaves
+handed_later : {X : Type 0} (o : Option (List ℕ)) (xs : List X) (names : List (List ℕ)) (x : X) (name : List ℕ) → Handed (handles_left o xs) names x name → Handed xs (cons_option o names) x name
+handed_later None xs names x name h = record { place = h.place; handle = h.handle; named = h.named }
+handed_later (Some file) [] names x name h = let e : None ≡ Some x = h.handle in absurd cc
+handed_later (Some file) (y ∷ xs) names x name h = record { place = suc h.place; handle = h.handle; named = h.named }
+
+module _ {S D : Type 0} where
+  -- ---- sources
+
+  reader_at : (k : ℕ) (n : blue.Node) (ss : List S) (ds : List D) (w : Work S D) (x : Node S D) (names : List (List ℕ)) (name : List ℕ) → IsWork k n ss ds w → BecomesOf k w x → n.kind ≡ kind.Lines name
+      → (first : Lines S) × ((x ≡ node.Reading first) × ((first.node ≡ k) × Handed ss (cons_option (input_of n.kind) names) first.reader.source name))
+  reader_at k n ss ds (work.Reading r) x names name is b e = (_, (b, (refl, handed_next (input_of n.kind) ss names r.source name (ap input_of e) is.source)))
+  reader_at k n ss ds (work.Linear l) x names name is b e = absurd (subst IsLinear e is.is_linear)
+  reader_at k n ss ds (work.Writing shape d) x names name is b e = absurd (subst IsLinesSink e is.is_sink)
+
+  -- of the nodes from node k on
+  record ReadsAt (k : ℕ) (names : List (List ℕ)) (ss : List S) (xs : List (Node S D)) (j : ℕ) (name : List ℕ) : Type 0 where
+    pub first : Lines S
+    pub at : slice_get xs j ≡ Some (node.Reading first)
+    pub node : first.node ≡ k + j
+    pub handed : Handed ss names first.reader.source name
+
+  reads_at : (k : ℕ) (ns : List blue.Node) (ss : List S) (ds : List D) (ps : List (Seated S D)) (xs : List (Node S D)) (j : ℕ) (n : blue.Node) (name : List ℕ)
+      → AreSeats k ns ss ds ps → AllBecome ps xs → slice_get ns j ≡ Some n → n.kind ≡ kind.Lines name → ReadsAt k (inputs_of_nodes ns) ss xs j name
+  reads_at k [] ss ds ps xs j n name a b at e = absurd cc
+  reads_at k (m ∷ ns) ss ds [] xs j n name a b at e = absurd a
+  reads_at k (m ∷ ns) ss ds (p ∷ ps) [] j n name a b at e = absurd b
+  reads_at k (m ∷ ns) ss ds (p ∷ ps) (x ∷ xs) zero n name a b at e =
+      let is : m ≡ n = cc in
+      let here : BecomesOf k p.work x = subst (λ i. BecomesOf i p.work x) a.0 b.0 in
+      let r = reader_at k m ss ds p.work x (inputs_of_nodes ns) name a.1.0 here (ap (λ (y : blue.Node). y.kind) is ∙ e) in
+      record { first = r.0; at = ap Some r.1.0; node = let same : r.0.node ≡ k = r.1.1.0 in omega (arith, same); handed = r.1.1.1 }
+  reads_at k (m ∷ ns) ss ds (p ∷ ps) (x ∷ xs) (suc j) n name a b at e =
+      let r = reads_at (k + 1) ns _ _ ps xs j n name a.1.1 b.1 at e in
+      record { first = r.first; at = r.at; node = let same : r.first.node ≡ k + 1 + j = r.node in omega (arith, same); handed = handed_later (input_of m.kind) ss (inputs_of_nodes ns) r.first.reader.source name r.handed }
+
+  pub reads_file : (ns : List blue.Node) (ss : List S) (ds : List D) (ps : List (Seated S D)) (xs : List (Node S D)) → AreSeats 0 ns ss ds ps → AllBecome ps xs
+      → (j : ℕ) (n : blue.Node) (name : List ℕ) → slice_get ns j ≡ Some n → n.kind ≡ kind.Lines name → ReadsFile (inputs_of_nodes ns) ss xs j name
+  reads_file ns ss ds ps xs a b j n name at e =
+      let r = reads_at 0 ns ss ds ps xs j n name a b at e in
+      record { first = r.first; at = r.at; node = let same : r.first.node ≡ 0 + j = r.node in omega (arith, same); place = r.handed.place; source = r.handed.handle; file = r.handed.named }
+
+  -- ---- sinks
+
+  writer_at : (k : ℕ) (n : blue.Node) (ss : List S) (ds : List D) (w : Work S D) (x : Node S D) (names : List (List ℕ)) (name : List ℕ) → IsWork k n ss ds w → BecomesOf k w x → n.kind ≡ kind.ToLines name
+      → (first : Sink D) × ((x ≡ node.Writing first) × ((first.node ≡ k) × Handed ds (cons_option (output_of n.kind) names) first.drain name))
+  writer_at k n ss ds (work.Reading r) x names name is b e =
+      let l = reads_lines n.kind ss r.source is.source in
+      let no : kind.Lines l.0 ≡ kind.ToLines name = sym l.1 ∙ e in absurd cc
+  writer_at k n ss ds (work.Linear l) x names name is b e = absurd (subst IsLinear e is.is_linear)
+  writer_at k n ss ds (work.Writing shape d) x names name is b e =
+      (_, (subst (λ o. BecomesOf {S = S} {D = D} k (work.Writing shape o) x) is.there b, (refl, handed_next (output_of n.kind) ds names is.drain name (ap output_of e) is.next)))
+
+  record WritesAt (k : ℕ) (names : List (List ℕ)) (ds : List D) (xs : List (Node S D)) (j : ℕ) (name : List ℕ) : Type 0 where
+    pub first : Sink D
+    pub at : slice_get xs j ≡ Some (node.Writing first)
+    pub node : first.node ≡ k + j
+    pub handed : Handed ds names first.drain name
+
+  writes_at : (k : ℕ) (ns : List blue.Node) (ss : List S) (ds : List D) (ps : List (Seated S D)) (xs : List (Node S D)) (j : ℕ) (n : blue.Node) (name : List ℕ)
+      → AreSeats k ns ss ds ps → AllBecome ps xs → slice_get ns j ≡ Some n → n.kind ≡ kind.ToLines name → WritesAt k (outputs_of_nodes ns) ds xs j name
+  writes_at k [] ss ds ps xs j n name a b at e = absurd cc
+  writes_at k (m ∷ ns) ss ds [] xs j n name a b at e = absurd a
+  writes_at k (m ∷ ns) ss ds (p ∷ ps) [] j n name a b at e = absurd b
+  writes_at k (m ∷ ns) ss ds (p ∷ ps) (x ∷ xs) zero n name a b at e =
+      let is : m ≡ n = cc in
+      let here : BecomesOf k p.work x = subst (λ i. BecomesOf i p.work x) a.0 b.0 in
+      let r = writer_at k m ss ds p.work x (outputs_of_nodes ns) name a.1.0 here (ap (λ (y : blue.Node). y.kind) is ∙ e) in
+      record { first = r.0; at = ap Some r.1.0; node = let same : r.0.node ≡ k = r.1.1.0 in omega (arith, same); handed = r.1.1.1 }
+  writes_at k (m ∷ ns) ss ds (p ∷ ps) (x ∷ xs) (suc j) n name a b at e =
+      let r = writes_at (k + 1) ns _ _ ps xs j n name a.1.1 b.1 at e in
+      record { first = r.first; at = r.at; node = let same : r.first.node ≡ k + 1 + j = r.node in omega (arith, same); handed = handed_later (output_of m.kind) ds (outputs_of_nodes ns) r.first.drain name r.handed }
+
+  pub writes_file : (ns : List blue.Node) (ss : List S) (ds : List D) (ps : List (Seated S D)) (xs : List (Node S D)) → AreSeats 0 ns ss ds ps → AllBecome ps xs
+      → (j : ℕ) (n : blue.Node) (name : List ℕ) → slice_get ns j ≡ Some n → n.kind ≡ kind.ToLines name → WritesFile (outputs_of_nodes ns) ds xs j name
+  writes_file ns ss ds ps xs a b j n name at e =
+      let r = writes_at 0 ns ss ds ps xs j n name a b at e in
+      record { first = r.first; at = r.at; node = let same : r.first.node ≡ 0 + j = r.node in omega (arith, same); place = r.handed.place; drain = r.handed.handle; file = r.handed.named }

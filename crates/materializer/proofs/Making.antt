@@ -1,0 +1,131 @@
+-- The nodes that stand at the places of an island, and its wires, are those of the blueprint's graph.
+use Rattle.std.proofs.Common.{◌≡◌, ℕ, zero, suc, ◌+◌, ◌<◌, ◌≤◌, Bool, true, false, not, is_some, ◌==◌, ◌&&◌, ◌||◌, List, [], ◌∷◌, map, length, Option, Some, None, refl, ap, sym, ◌∙◌, subst, ⊎_elim, arith}
+use Rattle.std.specs.Prelude.{slice_get}
+use Rattle.std.specs.List.{list_any, All}
+use Rattle.std.proofs.lemmas.Bool.{or_parts, eq-eqb, cases_Bool}
+use Rattle.std.proofs.lemmas.List.{length-map}
+use Rattle.std.proofs.lemmas.Option.{slice_get_within, get_or_from_slice_get}
+use Rattle.stream_model.specs.declared.kind.Kind.{Kind}
+use Rattle.stream_model.specs.declared.kind.Kind.TheVariants as kind
+use Rattle.stream_model.specs.Graph.{Graph, Wire}
+use Rattle.stream_model.specs.Graph as graph
+use Rattle.stream_io.specs.State.{SourceState}
+use Rattle.fused_net.specs.declared.net.Ends.{Ends}
+use Rattle.fused_net.specs.Net.{end_at}
+use Rattle.nodes.specs.declared.node.Node.{Node}
+use Rattle.interpreter.specs.declared.parts.Seated.{Seated}
+use Rattle.interpreter.specs.declared.parts.Work.{Work}
+use Rattle.interpreter.specs.declared.parts.Work.TheVariants as work
+use Rattle.interpreter.specs.Parts.{ends_of, BecomesOf, AllBecome}
+use Rattle.interpreter.proofs.Islands.{same_count}
+use Rattle.run_laws.specs.Made.{FirstOf, IsFused, Materializes}
+use Rattle.blue_core.specs.declared.blueprint.Blueprint.{Blueprint}
+use Rattle.blue_core.specs.declared.blueprint.Node as blue
+use Rattle.blue_rules.specs.First.{when}
+use Rattle.blue_check.specs.Wires.{blueprint_wires}
+use Rattle.materializer.specs.Built.{is_built, leads_into, is_unbuilt, unbuilt_in, CanRun}
+use Rattle.materializer.specs.Files.{input_of, output_of}
+use Rattle.materializer.specs.Graphs.{node_of, graph_of}
+use Rattle.materializer.specs.Joined.{IsJoined}
+use Rattle.materializer.specs.Seats.{handle_of, handles_left, IsWork, AreSeats, links_from}
+use Rattle.materializer.proofs.Fitting.{fit_joined}
+use Rattle.materializer.proofs.Joining.{none_here, not_when, mapped_from}
+use Rattle.materializer.proofs.Linking.{ends_count, ends_at, wire_ends}
+use Rattle.materializer.proofs.Placing.{reads_lines, is_lines_sink, seats_count}
+
+-- ---- nodes
+
+module _ {S : Type 0} (sources : S → SourceState) where
+  -- no source that is left has handed out a byte
+  abbrev NoneGiven : List S → Type 0
+  NoneGiven ss = (i : ℕ) (s : S) → slice_get ss i ≡ Some s → (sources s).given ≡ 0
+
+  none_given_left : (o : Option (List ℕ)) (ss : List S) → NoneGiven ss → NoneGiven (handles_left o ss)
+  none_given_left None ss h = h
+  none_given_left (Some file) [] h = h
+  none_given_left (Some file) (s ∷ ss) h = λ i x at. h (suc i) x at
+
+-- the next source, where a node reads a file
+next_is : {S : Type 0} (k : Kind) (ss : List S) (s : S) (name : List ℕ) → k ≡ kind.Lines name → handle_of (input_of k) ss ≡ Some s → slice_get ss 0 ≡ Some s
+next_is k ss s name e h = sym (ap (λ x. handle_of (input_of x) ss) e) ∙ h
+
+written : {S D : Type 0} (k : ℕ) (shape : Kind) (d : Option D) (drain : D) (x : Node S D) → d ≡ Some drain → BecomesOf k (work.Writing shape d) x → BecomesOf {S = S} {D = D} k (work.Writing shape (Some drain)) x
+written {S = S} {D = D} k shape d drain x e b = subst (λ o. BecomesOf {S = S} {D = D} k (work.Writing shape o) x) e b
+
+module _ {S D : Type 0} (sources : S → SourceState) where
+  work_first : (k : ℕ) (n : blue.Node) (ss : List S) (ds : List D) (w : Work S D) (x : Node S D) → IsWork k n ss ds w → BecomesOf k w x → NoneGiven sources ss → FirstOf sources k (node_of n) x
+  work_first k n ss ds (work.Reading r) x is b none =
+      let l = reads_lines n.kind ss r.source is.source in
+      subst (λ y. FirstOf sources k (node_of n) y) (sym b) (record { name = l.0; kind_is = l.1; node = refl; kept = is.kept; given = none 0 r.source (next_is n.kind ss r.source l.0 l.1 is.source) })
+  work_first k n ss ds (work.Linear l) x is b none = subst (λ y. FirstOf sources k (node_of n) y) (sym b) (record { is_linear = is.is_linear; begins = is.begins })
+  work_first k n ss ds (work.Writing shape d) x is b none =
+      let l = is_lines_sink n.kind is.is_sink in
+      subst (λ y. FirstOf sources k (node_of n) y) (sym (written k shape d is.drain x is.there b)) (record { name = l.0; kind_is = l.1; node = refl; count = refl; end = refl })
+
+  seat_first : (k : ℕ) (n : blue.Node) (ss : List S) (ds : List D) (p : Seated S D) (x : Node S D) → p.node ≡ k → IsWork k n ss ds p.work → BecomesOf p.node p.work x → NoneGiven sources ss → FirstOf sources k (node_of n) x
+  seat_first k n ss ds p x e is b none = work_first k n ss ds p.work x is (subst (λ m. BecomesOf m p.work x) e b) none
+
+  pub seats_first : (k : ℕ) (ns : List blue.Node) (ss : List S) (ds : List D) (ps : List (Seated S D)) (xs : List (Node S D)) (j : ℕ) (n : blue.Node) (x : Node S D)
+      → AreSeats k ns ss ds ps → AllBecome ps xs → NoneGiven sources ss → slice_get ns j ≡ Some n → slice_get xs j ≡ Some x → FirstOf sources (k + j) (node_of n) x
+  seats_first k [] ss ds ps xs j n x a b none at is = absurd cc
+  seats_first k (m ∷ ns) ss ds [] xs j n x a b none at is = absurd a
+  seats_first k (m ∷ ns) ss ds (p ∷ ps) [] j n x a b none at is = absurd b
+  seats_first k (m ∷ ns) ss ds (p ∷ ps) (y ∷ ys) zero n x a b none at is =
+      let e : m ≡ n = cc in
+      let f : y ≡ x = cc in
+      let z : k ≡ k + 0 = omega arith in
+      subst (λ i. FirstOf sources i (node_of n) x) z (subst (λ u. FirstOf sources k (node_of u) x) e (subst (λ u. FirstOf sources k (node_of m) u) f (seat_first k m ss ds p y a.0 a.1.0 b.0 none)))
+  seats_first k (m ∷ ns) ss ds (p ∷ ps) (y ∷ ys) (suc j) n x a b none at is =
+      let z : k + 1 + j ≡ k + suc j = omega arith in
+      subst (λ i. FirstOf sources i (node_of n) x) z (seats_first (k + 1) ns _ _ ps ys j n x a.1.1 b.1 (none_given_left sources (input_of m.kind) ss none) at is)
+
+-- ---- wires
+
+any_false : {X : Type 0} (test : X → Bool) (xs : List X) (i : ℕ) (x : X) → list_any test xs ≡ false → slice_get xs i ≡ Some x → test x ≡ false
+any_false test [] i x h at = absurd cc
+any_false test (y ∷ ys) zero x h at = let e : y ≡ x = cc in subst (λ z. test z ≡ false) e (or_parts (test y) (list_any test ys) h).0
+any_false test (y ∷ ys) (suc i) x h at = any_false test ys i x (or_parts (test y) (list_any test ys) h).1 at
+
+no_lane_there : (o : Option ℕ) (b : Bool) → b ≡ true → (is_some o && b) ≡ false → o ≡ None
+no_lane_there None b t h = refl
+no_lane_there (Some n) b t h = let e : b ≡ false = h in absurd cc
+
+-- of a node that can be run
+built_at : (nodes : List blue.Node) (ws : List Wire) (k : ℕ) (n : blue.Node) → unbuilt_in nodes ws ≡ None → slice_get nodes k ≡ Some n → (not (is_built n.kind) ≡ false) × (list_any (leads_into k) ws ≡ false)
+built_at nodes ws k n none at =
+    let e = none_here (λ i m. when (is_unbuilt ws i m) i) nodes k n none at in
+    or_parts _ _ (not_when _ k e)
+
+-- no wire into a node that can be run is a lane
+no_lane : (nodes : List blue.Node) (ws : List Wire) (i : ℕ) (v : Wire) (n : blue.Node) → unbuilt_in nodes ws ≡ None → slice_get ws i ≡ Some v → slice_get nodes v.to ≡ Some n → v.lane ≡ None
+no_lane nodes ws i v n none at there =
+    no_lane_there v.lane (v.to == v.to) (eq-eqb v.to v.to refl) (any_false (leads_into v.to) ws i v (built_at nodes ws v.to n none there).1 at)
+
+module _ {S D : Type 0} (sources : S → SourceState) (b : Blueprint) (ss : List S) (ds : List D) (places : List (Seated S D)) (firsts : List (Node S D)) (ends : List Ends) where
+  is_fused : (i : ℕ) (v : Wire) → CanRun b → ends ≡ map ends_of (links_from 0 (blueprint_wires b)) → slice_get (blueprint_wires b) i ≡ Some v → IsFused v (end_at ends i)
+  is_fused i v r e at =
+      let j : IsJoined (graph_of b) = fit_joined b r.plugs r.taken r.fit in
+      let t = j.target i v at in
+      let m = mapped_from node_of b.nodes.items v.to t.0 t.1 in
+      let is : end_at ends i ≡ wire_ends v = ap (λ x. end_at x i) e ∙ ends_at 0 (blueprint_wires b) i v at in
+      record {
+        from = ap (λ (x : Ends). x.from) is;
+        output = ap (λ (x : Ends). x.output) is;
+        to = ap (λ (x : Ends). x.to) is;
+        input = ap (λ (x : Ends). x.input) is;
+        no_lane = no_lane b.nodes.items (blueprint_wires b) i v m.0 r.built at m.1.0;
+      }
+
+  none_given : All (λ s. (sources s).given ≡ 0) ss → NoneGiven sources ss
+  none_given all i s at = subst (λ x. (sources x).given ≡ 0) (get_or_from_slice_get ss i s s at) (all i s (slice_get_within ss i s at))
+
+  pub made : CanRun b → AreSeats 0 b.nodes.items ss ds places → AllBecome places firsts → ends ≡ map ends_of (links_from 0 (blueprint_wires b)) → All (λ s. (sources s).given ≡ 0) ss → Materializes sources (graph_of b) firsts ends
+  made r a all e given = record {
+    nodes = same_count places firsts all ∙ seats_count 0 b.nodes.items ss ds places a ∙ sym (length-map b.nodes.items node_of);
+    wires = ap length e ∙ ends_count 0 (blueprint_wires b);
+    each_node = λ k n x at is.
+        let m = mapped_from node_of b.nodes.items k n at in
+        let z : 0 + k ≡ k = omega arith in
+        subst (λ u. FirstOf sources k u x) m.1.1 (subst (λ i. FirstOf sources i (node_of m.0) x) z (seats_first sources 0 b.nodes.items ss ds places firsts k m.0 x a all (none_given given) m.1.0 is));
+    each_wire = λ i v at. is_fused i v r e at;
+  }

@@ -1,0 +1,78 @@
+-- The places of an island, by the nodes that got them.
+use Rattle.std.proofs.Common.{◌≡◌, ℕ, zero, suc, ◌+◌, ◌<◌, ◌≤◌, List, [], ◌∷◌, ◌++◌, length, Option, Some, None, refl, ap, sym, ◌∙◌, subst, arith}
+use Rattle.std.specs.Prelude.{slice_get}
+use Rattle.stream_model.specs.declared.kind.Kind.{Kind}
+use Rattle.stream_model.specs.declared.kind.Kind.TheVariants.{Lines, Map, Filter, FilterNot, TakeWhile, DropWhile, Take, Drop, Limit, MapConcat, ToLines}
+use Rattle.stream_model.specs.Composed.{inputs_of}
+use Rattle.stream_picture.specs.View.{outputs_of}
+use Rattle.stage_linear.specs.States.{IsLinear}
+use Rattle.interpreter.specs.declared.parts.Seated.{Seated}
+use Rattle.interpreter.specs.declared.parts.Work.{Work}
+use Rattle.interpreter.specs.declared.parts.Work.TheVariants as work
+use Rattle.interpreter.specs.Parts.{work_inputs, work_outputs, inputs_at, outputs_at, IsLinesSink, IsUnused, AllUnused}
+use Rattle.blue_core.specs.declared.blueprint.Node.{Node}
+use Rattle.materializer.specs.Files.{input_of, output_of}
+use Rattle.materializer.specs.Seats.{handle_of, handles_left, IsWork, AreSeats}
+
+-- ---- kinds
+
+-- only sources of lines read a file
+pub reads_lines : {X : Type 0} (k : Kind) (xs : List X) (x : X) → handle_of (input_of k) xs ≡ Some x → (name : List ℕ) × (k ≡ Lines name)
+reads_lines (Lines name) xs x h = (name, refl)
+reads_lines _ xs x h = absurd cc
+
+pub is_lines_sink : (k : Kind) → IsLinesSink k → (name : List ℕ) × (k ≡ ToLines name)
+is_lines_sink (ToLines name) h = (name, refl)
+is_lines_sink _ h = absurd h
+
+linear_ports : (k : Kind) → IsLinear k → (inputs_of k ≡ 1) × (outputs_of k ≡ 1)
+linear_ports (Map f) h = (refl, refl)
+linear_ports (Filter p) h = (refl, refl)
+linear_ports (FilterNot p) h = (refl, refl)
+linear_ports (TakeWhile p) h = (refl, refl)
+linear_ports (DropWhile p) h = (refl, refl)
+linear_ports (Take n) h = (refl, refl)
+linear_ports (Drop n) h = (refl, refl)
+linear_ports (Limit n) h = (refl, refl)
+linear_ports (MapConcat x) h = (refl, refl)
+linear_ports _ h = absurd h
+
+writes_unused : (S : Type 0) {D : Type 0} (shape kind : Kind) (d : Option D) (drain : D) → shape ≡ kind → IsLinesSink kind → d ≡ Some drain → IsUnused {S = S} {D = D} (work.Writing shape d)
+writes_unused S shape kind d drain e is there = subst (λ o. IsUnused {S = S} (work.Writing shape o)) (sym there) (subst (λ s. IsLinesSink s) (sym e) is)
+
+module _ {S D : Type 0} where
+  -- ---- works
+
+  work_ports : (k : ℕ) (n : Node) (ss : List S) (ds : List D) (w : Work S D) → IsWork k n ss ds w → (work_inputs w ≡ inputs_of n.kind) × (work_outputs w ≡ outputs_of n.kind)
+  work_ports k n ss ds (work.Reading r) is = let l = reads_lines n.kind ss r.source is.source in (sym (ap inputs_of l.1), sym (ap outputs_of l.1))
+  work_ports k n ss ds (work.Linear l) is = let p = linear_ports n.kind is.is_linear in (sym p.0, sym p.1)
+  work_ports k n ss ds (work.Writing shape d) is = let l = is_lines_sink n.kind is.is_sink in (sym (ap inputs_of l.1), sym (ap outputs_of l.1))
+
+  work_unused : (k : ℕ) (n : Node) (ss : List S) (ds : List D) (w : Work S D) → IsWork k n ss ds w → IsUnused w
+  work_unused k n ss ds (work.Reading r) is = is.kept
+  work_unused k n ss ds (work.Linear l) is = let b = is.begins in record { phase = b.phase; row = rw b.phase tt }
+  work_unused k n ss ds (work.Writing shape d) is = writes_unused S shape n.kind d is.drain is.shape_is is.is_sink is.there
+
+  -- ---- places
+
+  pub seats_count : (k : ℕ) (ns : List Node) (ss : List S) (ds : List D) (ps : List (Seated S D)) → AreSeats k ns ss ds ps → length ps ≡ length ns
+  seats_count k [] ss ds [] a = refl
+  seats_count k [] ss ds (p ∷ ps) a = absurd a
+  seats_count k (n ∷ ns) ss ds [] a = absurd a
+  seats_count k (n ∷ ns) ss ds (p ∷ ps) a = ap suc (seats_count (k + 1) ns _ _ ps a.1.1)
+
+  pub seats_unused : (k : ℕ) (ns : List Node) (ss : List S) (ds : List D) (ps : List (Seated S D)) → AreSeats k ns ss ds ps → AllUnused ps
+  seats_unused k [] ss ds [] a = tt
+  seats_unused k [] ss ds (p ∷ ps) a = absurd a
+  seats_unused k (n ∷ ns) ss ds [] a = absurd a
+  seats_unused k (n ∷ ns) ss ds (p ∷ ps) a = (work_unused k n ss ds p.work a.1.0, seats_unused (k + 1) ns _ _ ps a.1.1)
+
+  pub seats_ports : (k : ℕ) (ns : List Node) (ss : List S) (ds : List D) (ps : List (Seated S D)) (j : ℕ) (n : Node) → AreSeats k ns ss ds ps → slice_get ns j ≡ Some n
+      → (inputs_at ps j ≡ inputs_of n.kind) × (outputs_at ps j ≡ outputs_of n.kind)
+  seats_ports k [] ss ds ps j n a at = absurd cc
+  seats_ports k (m ∷ ns) ss ds [] j n a at = absurd a
+  seats_ports k (m ∷ ns) ss ds (p ∷ ps) zero n a at =
+      let e : m ≡ n = cc in
+      let w = work_ports k m ss ds p.work a.1.0 in
+      (w.0 ∙ ap (λ (x : Node). inputs_of x.kind) e, w.1 ∙ ap (λ (x : Node). outputs_of x.kind) e)
+  seats_ports k (m ∷ ns) ss ds (p ∷ ps) (suc j) n a at = seats_ports (k + 1) ns _ _ ps j n a.1.1 at

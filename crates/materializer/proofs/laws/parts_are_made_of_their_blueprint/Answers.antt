@@ -1,0 +1,5 @@
+use Rattle.materializer.proofs.Making.{made}
+use Rattle.materializer.proofs.laws.parts_are_made_of_their_blueprint.Goals as goal
+
+pub returns : goal.returns
+returns g c = λ b ss ds places firsts ends runs a all e given. made g.S.Source.state b ss ds places firsts ends runs a all e given

@@ -1,0 +1,49 @@
+-- What of a blueprint can be run so far, and which blueprints can be.
+use Rattle.std.specs.Prelude.{◌≡◌, ℕ, ◌==◌, Bool, true, false, not, ◌||◌, ◌&&◌, is_some, List, Option, None}
+use Rattle.std.specs.List.{list_any}
+use Rattle.stream_model.specs.declared.kind.Kind.{Kind}
+use Rattle.stream_model.specs.declared.kind.Kind.TheVariants.{Lines, Map, Filter, FilterNot, TakeWhile, DropWhile, Take, Drop, Limit, MapConcat, ToLines}
+use Rattle.stream_model.specs.Graph.{Wire}
+use Rattle.blue_core.specs.declared.blueprint.Blueprint.{Blueprint}
+use Rattle.blue_core.specs.declared.blueprint.Node.{Node}
+use Rattle.plug_core.specs.declared.head.PlugHead.{PlugHead}
+use Rattle.blue_rules.specs.First.{first_from, when}
+use Rattle.blue_check.specs.Fitness.{IsFit}
+use Rattle.blue_check.specs.Wires.{blueprint_wires}
+
+-- the kinds that have been built
+abbrev pub is_built : Kind → Bool
+is_built (Lines file) = true
+is_built (Map f) = true
+is_built (Filter p) = true
+is_built (FilterNot p) = true
+is_built (TakeWhile p) = true
+is_built (DropWhile p) = true
+is_built (Take n) = true
+is_built (Drop n) = true
+is_built (Limit n) = true
+is_built (MapConcat x) = true
+is_built (ToLines file) = true
+is_built _ = false
+
+-- a lane that leads into this node
+abbrev pub leads_into : ℕ → Wire → Bool
+leads_into i w = is_some w.lane && (w.to == i)
+
+-- a node that cannot be run: its kind has not been built, or a lane leads into it
+abbrev pub is_unbuilt : List Wire → ℕ → Node → Bool
+is_unbuilt ws i n = not (is_built n.kind) || list_any (leads_into i) ws
+
+-- the least such node
+abbrev pub unbuilt_in : List Node → List Wire → Option ℕ
+unbuilt_in nodes ws = first_from (λ i n. when (is_unbuilt ws i n) i) 0 nodes
+
+abbrev pub unbuilt_node : Blueprint → Option ℕ
+unbuilt_node b = unbuilt_in b.nodes.items (blueprint_wires b)
+
+-- a blueprint that can be run: it breaks no rule, by some plugs and some files that were taken, and all of it has been built
+pub record CanRun (b : Blueprint) : Type 0 where
+  pub plugs : List PlugHead
+  pub taken : List (List ℕ)
+  pub fit : IsFit b plugs taken
+  pub built : unbuilt_node b ≡ None

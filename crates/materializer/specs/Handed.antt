@@ -1,0 +1,24 @@
+-- Which source and which drain the nodes of a blueprint hold as they are handed in.
+use Rattle.std.specs.Prelude.{◌≡◌, ℕ, List, slice_get, Some}
+use Rattle.nodes.specs.declared.node.Node.{Node}
+use Rattle.nodes.specs.declared.node.Node.TheVariants.{Reading, Writing}
+use Rattle.nodes.specs.Sink.{Sink}
+use Rattle.nodes.specs.Source.{Lines}
+
+-- node k reads the source of the file of that name, among the sources of these files
+pub record ReadsFile {S D : Type 0} (files : List (List ℕ)) (sources : List S) (firsts : List (Node S D)) (k : ℕ) (name : List ℕ) : Type 0 where
+  pub first : Lines S
+  pub at : slice_get firsts k ≡ Some (Reading first)
+  pub node : first.node ≡ k
+  pub place : ℕ
+  pub source : slice_get sources place ≡ Some first.reader.source
+  pub file : slice_get files place ≡ Some name
+
+-- node k writes the drain of the file of that name, among the drains of these files
+pub record WritesFile {S D : Type 0} (files : List (List ℕ)) (drains : List D) (firsts : List (Node S D)) (k : ℕ) (name : List ℕ) : Type 0 where
+  pub first : Sink D
+  pub at : slice_get firsts k ≡ Some (Writing first)
+  pub node : first.node ≡ k
+  pub place : ℕ
+  pub drain : slice_get drains place ≡ Some first.drain
+  pub file : slice_get files place ≡ Some name

@@ -1,0 +1,6 @@
+pub mod Graphs
+pub mod Built
+pub mod Files
+pub mod Seats
+pub mod Joined
+pub mod Handed

@@ -1,0 +1,60 @@
+-- The parts of the island of a blueprint: which place each node gets, and the link of each wire.
+use Rattle.std.specs.Prelude.{◌≡◌, ℕ, ◌+◌, List, [], ◌∷◌, slice_get, Option, Some, None, ⊤}
+use Rattle.stream_model.specs.declared.kind.Kind.{Kind}
+use Rattle.stream_model.specs.Graph.{Wire}
+use Rattle.stream_io.specs.Reading.{Reading}
+use Rattle.stage_linear.specs.States.{Logic, IsLinear, Begins}
+use Rattle.interpreter.specs.Parts.{IsLinesSink}
+use Rattle.interpreter.specs.declared.parts.Link.{Link}
+use Rattle.interpreter.specs.declared.parts.Seated.{Seated}
+use Rattle.interpreter.specs.declared.parts.Work.{Work}
+use Rattle.interpreter.specs.declared.parts.Work.TheVariants as work
+use Rattle.blue_core.specs.declared.blueprint.Node.{Node}
+use Rattle.materializer.specs.Files.{input_of, output_of}
+
+-- the handle that a node takes where it has a file: the next one
+abbrev pub handle_of : {X : Type 0} → Option (List ℕ) → List X → Option X
+handle_of None xs = None
+handle_of (Some file) xs = slice_get xs 0
+
+-- the handles that it leaves
+abbrev pub handles_left : {X : Type 0} → Option (List ℕ) → List X → List X
+handles_left None xs = xs
+handles_left (Some file) [] = []
+handles_left (Some file) (x ∷ xs) = xs
+
+-- a source of lines reads the next of the sources, and has read nothing
+pub record ReadsNext {S : Type 0} (n : Node) (sources : List S) (r : Reading S) : Type 0 where
+  pub source : handle_of (input_of n.kind) sources ≡ Some r.source
+  pub kept : r.kept ≡ []
+
+-- a linear stage is at its start
+pub record Stages (k : ℕ) (n : Node) (l : Logic) : Type 0 where
+  pub is_linear : IsLinear n.kind
+  pub begins : Begins k n.kind n.decider l
+
+-- a sink of lines writes the next of the drains
+pub record WritesNext {D : Type 0} (n : Node) (drains : List D) (shape : Kind) (d : Option D) : Type 0 where
+  pub shape_is : shape ≡ n.kind
+  pub is_sink : IsLinesSink n.kind
+  pub drain : D
+  pub there : d ≡ Some drain
+  pub next : handle_of (output_of n.kind) drains ≡ Some drain
+
+-- the work of node k, where these sources and drains are left
+abbrev pub IsWork : {S D : Type 0} → ℕ → Node → List S → List D → Work S D → Type 0
+IsWork k n sources drains (work.Reading r) = ReadsNext n sources r
+IsWork k n sources drains (work.Linear l) = Stages k n l
+IsWork k n sources drains (work.Writing shape d) = WritesNext n drains shape d
+
+-- these nodes, of which the first is node k, each at its place; in their order they take the sources and the drains
+abbrev pub AreSeats : {S D : Type 0} → ℕ → List Node → List S → List D → List (Seated S D) → Type 0
+AreSeats k [] sources drains [] = ⊤
+AreSeats k (n ∷ ns) sources drains (p ∷ ps) =
+    (p.node ≡ k) × (IsWork k n sources drains p.work × AreSeats (k + 1) ns (handles_left (input_of n.kind) sources) (handles_left (output_of n.kind) drains) ps)
+AreSeats k _ sources drains _ = ⊥
+
+-- the links of these wires, of which the first is wire i
+abbrev pub links_from : ℕ → List Wire → List Link
+links_from i [] = []
+links_from i (w ∷ ws) = record { wire = i; from = w.from; output = w.output; to = w.to; input = w.input } ∷ links_from (i + 1) ws

@@ -1,0 +1,45 @@
+// Laws of the parts of a blueprint: each function has no body, and its contract is the law.
+ghost use Rattle.std.specs.Prelude.{◌≡◌, ℕ, List, map, slice_get, Some, All};
+ghost use Rattle.blue_check.specs.Fitness.{IsFit};
+ghost use Rattle.blue_check.specs.Wires.{blueprint_wires};
+ghost use Rattle.blue_core.specs.declared.blueprint.Blueprint.{Blueprint};
+ghost use Rattle.blue_core.specs.declared.blueprint.Node as blue;
+ghost use Rattle.fused_net.specs.declared.net.Ends.{Ends};
+ghost use Rattle.interpreter.specs.Parts.{ends_of, AllBecome};
+ghost use Rattle.interpreter.specs.declared.parts.Seated.{Seated};
+ghost use Rattle.nodes.specs.declared.node.Node.{Node};
+ghost use Rattle.plug_core.specs.declared.head.PlugHead.{PlugHead};
+ghost use Rattle.run_laws.specs.Made.{Materializes};
+ghost use Rattle.stream_model.specs.Composed.{IsRanked};
+ghost use Rattle.stream_model.specs.declared.kind.Kind.TheVariants as kind;
+ghost use Rattle.materializer.specs.Built.{CanRun};
+ghost use Rattle.materializer.specs.Files.{inputs_of_nodes, outputs_of_nodes};
+ghost use Rattle.materializer.specs.Graphs.{graph_of};
+ghost use Rattle.materializer.specs.Handed.{ReadsFile, WritesFile};
+ghost use Rattle.materializer.specs.Joined.{IsJoined};
+ghost use Rattle.materializer.specs.Seats.{AreSeats, links_from};
+
+use stream_io::outside::{Drain, Source};
+
+/// The wires of a blueprint that breaks no rule have ranks that rise along every walk (`ranked`), and each of its ports is at
+/// one wire (`joined`).
+pub fn fit_blueprints_are_whole()
+    ensures ranked { (b : Blueprint) (plugs : List PlugHead) (taken : List (List ℕ)) → IsFit b plugs taken → (rank : ℕ → ℕ) × IsRanked (graph_of b) rank }
+    ensures joined { (b : Blueprint) (plugs : List PlugHead) (taken : List (List ℕ)) → IsFit b plugs taken → IsJoined (graph_of b) }
+{}
+
+/// The nodes of such parts, as they are handed in, and the ends of their wires are those of the blueprint's graph, where no
+/// source has handed out a byte.
+pub fn parts_are_made_of_their_blueprint<S: Source, D: Drain>()
+    ensures { (b : Blueprint) (sources : List S) (drains : List D) (places : List (Seated S D)) (firsts : List (Node S D)) (ends : List Ends) → CanRun b → AreSeats 0 b.nodes.items sources drains places
+        → AllBecome places firsts → ends ≡ map ends_of (links_from 0 (blueprint_wires b)) → All (λ s. (S.state s).given ≡ 0) sources → Materializes S.state (graph_of b) firsts ends }
+{}
+
+/// Each source of lines reads the source that was handed in for its file (`sources`), and each sink of lines writes the drain
+/// that was handed in for its file (`drains`).
+pub fn parts_hold_their_files<S: Source, D: Drain>()
+    ensures sources { (nodes : List blue.Node) (sources : List S) (drains : List D) (places : List (Seated S D)) (firsts : List (Node S D)) → AreSeats 0 nodes sources drains places → AllBecome places firsts
+        → (k : ℕ) (n : blue.Node) (name : List ℕ) → slice_get nodes k ≡ Some n → n.kind ≡ kind.Lines name → ReadsFile (inputs_of_nodes nodes) sources firsts k name }
+    ensures drains { (nodes : List blue.Node) (sources : List S) (drains : List D) (places : List (Seated S D)) (firsts : List (Node S D)) → AreSeats 0 nodes sources drains places → AllBecome places firsts
+        → (k : ℕ) (n : blue.Node) (name : List ℕ) → slice_get nodes k ≡ Some n → n.kind ≡ kind.ToLines name → WritesFile (outputs_of_nodes nodes) drains firsts k name }
+{}

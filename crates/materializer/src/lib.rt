@@ -1,0 +1,12 @@
+// The parts of the island of a blueprint, and what ties them to the model.
+#![tactic(auto)]
+
+pub mod built;
+pub mod laws;
+pub mod links;
+pub mod names;
+mod number;
+pub mod parts;
+pub mod seats;
+#[cfg(test)]
+mod tests;

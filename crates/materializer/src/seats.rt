@@ -1,0 +1,85 @@
+// What stands at each place of an island.
+ghost use Rattle.std.specs.Prelude.{◌≡◌, ◌+◌, ◌<◌, ◌≤◌, ◌∷◌, true, IfOk, length, vec_len, option_to_list};
+ghost use Rattle.std.specs.List.{list_all};
+ghost use Rattle.std.specs.Vec.Iter.{into_iter_items, into_iter_len};
+ghost use Rattle.materializer.specs.Built.{is_built};
+ghost use Rattle.materializer.specs.Files.{input_of, output_of, inputs_of_nodes, outputs_of_nodes};
+ghost use Rattle.materializer.specs.Seats.{handles_left, IsWork, AreSeats};
+
+use crate::number::numbered;
+use blue_core::blueprint::Node;
+use elem_core::why::NoMemory;
+use interpreter::parts::{Seated, Work};
+use stage_linear::logic::LinearLogic;
+use std::alloc::Global;
+use std::vec::IntoIter;
+use stream_io::line_reader::LineReader;
+use stream_io::outside::{Drain, Source};
+use stream_model::kind::Kind;
+
+/// The next handle of some.
+fn take_next<T: Drop>(handles: &mut IntoIter<T, Global>) -> T
+    requires { 0 < into_iter_len handles.old }
+    ensures items { into_iter_items handles.old ≡ result ∷ into_iter_items handles.new }
+    ensures len { into_iter_len handles.old ≡ into_iter_len handles.new + 1 }
+{
+    match handles.next() {
+        Some(handle) => handle,
+        None => unreachable!(),
+    }
+}
+
+/// A node at its place k: a source of lines reads the next of the sources, a sink of lines writes the next of the drains.
+fn seat<S: Source, D: Drain>(
+    alloc: Global,
+    k: u32,
+    node: Node,
+    sources: &mut IntoIter<S, Global>,
+    drains: &mut IntoIter<D, Global>,
+) -> Result<Seated<S, D>, NoMemory>
+    requires built { is_built node.kind ≡ true }
+    requires source { length (option_to_list (input_of node.kind)) ≤ into_iter_len sources.old }
+    requires drain { length (option_to_list (output_of node.kind)) ≤ into_iter_len drains.old }
+    ensures node { IfOk result (λ p. p.node ≡ k) }
+    ensures work { IfOk result (λ p. IsWork k node (into_iter_items sources.old) (into_iter_items drains.old) p.work) }
+    ensures sources { into_iter_items sources.new ≡ handles_left (input_of node.kind) (into_iter_items sources.old) }
+    ensures drains { into_iter_items drains.new ≡ handles_left (output_of node.kind) (into_iter_items drains.old) }
+    ensures fewer_sources { into_iter_len sources.old ≡ into_iter_len sources.new + length (option_to_list (input_of node.kind)) }
+    ensures fewer_drains { into_iter_len drains.old ≡ into_iter_len drains.new + length (option_to_list (output_of node.kind)) }
+{
+    let Node {
+        name,
+        kind,
+        decider,
+    } = node;
+    let _ = name;
+    let work = match kind {
+        Kind::Lines(_) => Work::Reading(LineReader::new(alloc, take_next(sources))),
+        Kind::ToLines(_) => Work::Writing(kind, Some(take_next(drains))),
+        _ => Work::Linear(LinearLogic::new(k, kind, decider)?),
+    };
+    Ok(Seated { node: k, work })
+}
+
+/// The nodes in order, each at its place. In their order, each source of lines reads the next of `sources`, and each sink with
+/// a file writes the next of `drains`.
+pub fn seat_all<S: Source, D: Drain>(
+    alloc: Global,
+    nodes: Vec<Node>,
+    sources: Vec<S>,
+    drains: Vec<D>,
+) -> Result<Vec<Seated<S, D>>, NoMemory>
+    requires built { list_all (λ n. is_built n.kind) nodes.items ≡ true }
+    requires sources { vec_len sources ≡ length (inputs_of_nodes nodes.items) }
+    requires drains { vec_len drains ≡ length (outputs_of_nodes nodes.items) }
+    ensures { IfOk result (λ places. AreSeats 0 nodes.items sources.items drains.items places.items) }
+{
+    let mut unread = sources.into_iter();
+    let mut unwritten = drains.into_iter();
+    let mut places = Vec::new(alloc);
+    for node in nodes {
+        let k = numbered(places.len())?;
+        places.push(seat(alloc, k, node, &mut unread, &mut unwritten)?)?;
+    }
+    Ok(places)
+}

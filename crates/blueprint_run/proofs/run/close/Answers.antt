@@ -1,0 +1,27 @@
+-- The goal of `run::close`.
+use Rattle.std.proofs.Common.{refl}
+use Rattle.blueprint_run.proofs.Closing.{runs_of}
+use Rattle.blueprint_run.proofs.run.close.Goals as goal
+
+pub returns : goal.returns
+returns g c = λ old b budget ss ds can opens leaves.
+    runs_of g.F.Inp.Source.state g.F.Out.Drain.state
+    (record {
+      made = c.parts_are_made_of_their_blueprint.ensures;
+      sources = c.parts_hold_their_files.ensures.sources;
+      drains = c.parts_hold_their_files.ensures.drains;
+      source_there = c.every_source_reads_little_ahead.ensures.there;
+      sink_there = c.every_sink_agrees.ensures.there;
+    })
+    (record {
+      ranked = c.fit_blueprints_are_whole.ensures.ranked;
+      tells = c.every_sink_agrees.ensures.tells;
+      lines = c.every_sink_counts_its_lines.ensures.lines;
+      sent = c.every_sink_counts_its_lines.ensures.sent;
+      rest = c.every_sink_counts_its_lines.ensures.rest;
+      reads = c.every_source_reads_little_ahead.ensures.reads;
+      lawful = c.every_picture_is_lawful.ensures.composed;
+      rests = c.a_picture_without_events_rests.ensures.composed;
+      match = c.a_picture_without_events_rests.ensures.sinks;
+    })
+    b can ss ds budget _ leaves old _ opens _ c.close_all.ensures _ refl refl refl refl

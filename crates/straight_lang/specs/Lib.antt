@@ -1,4 +1,0 @@
-pub mod Names
-pub mod Reading
-pub mod Straight
-pub mod Types

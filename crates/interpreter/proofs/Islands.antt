@@ -16,7 +16,7 @@ use Rattle.fused_net.specs.Costs.{all_asks}
 use Rattle.interpreter.specs.declared.parts.Link.{Link}
 use Rattle.interpreter.specs.declared.parts.Seated.{Seated}
 use Rattle.interpreter.specs.declared.parts.Work.{Work}
-use Rattle.interpreter.specs.declared.parts.Work.TheVariants.{Reading, Linear, Writing}
+use Rattle.interpreter.specs.declared.parts.Work.TheVariants.{Reading, Linear, State, Writing}
 use Rattle.interpreter.specs.Parts.{work_inputs, work_outputs, inputs_at, outputs_at, IsUnused, AllUnused, BecomesOf, AllBecome, AreParts, IsWiring, IsSized, ends_of}
 use Rattle.stream_model.specs.declared.outcome.WireCount.{WireCount}
 use Rattle.port_core.specs.Decoding.{is_open}
@@ -36,6 +36,7 @@ same_count (s ∷ ss) (x ∷ xs) h = ap suc (same_count ss xs h.1)
 becomes_fresh : {S D : Type 0} (k : ℕ) (w : Work S D) (x : Node S D) → IsUnused w → BecomesOf k w x → node_fresh x (record { ins = replicate (work_inputs w) Idle; outs = replicate (work_outputs w) Unasked })
 becomes_fresh k (Reading r) x u b = rw b (record { phase = refl; drawn = refl; kept = u; port = refl })
 becomes_fresh k (Linear l) x u b = rw b u
+becomes_fresh k (State l) x u b = rw b u
 becomes_fresh k (Writing kind (Some d)) x u b = rw b (record { started = refl; end = refl; count = refl; port = refl })
 becomes_fresh k (Writing kind None) x u b = absurd u
 
@@ -97,16 +98,19 @@ left_next f cut old new x was now all e is h = rw is (append_assoc was (f (x ∷
 pub sinks_cut : {S D : Type 0} (x : Node S D) (xs : List (Node S D)) → sinks_of (x ∷ xs) ≡ sinks_of (x ∷ []) ++ sinks_of xs
 sinks_cut (node.Reading x) xs = refl
 sinks_cut (node.Linear x) xs = refl
+sinks_cut (node.State x) xs = refl
 sinks_cut (node.Writing x) xs = refl
 
 pub readers_cut : {S D : Type 0} (x : Node S D) (xs : List (Node S D)) → readers_of (x ∷ xs) ≡ readers_of (x ∷ []) ++ readers_of xs
 readers_cut (node.Reading x) xs = refl
 readers_cut (node.Linear x) xs = refl
+readers_cut (node.State x) xs = refl
 readers_cut (node.Writing x) xs = refl
 
 pub writers_cut : {S D : Type 0} (x : Node S D) (xs : List (Node S D)) → writers_of (x ∷ xs) ≡ writers_of (x ∷ []) ++ writers_of xs
 writers_cut (node.Reading x) xs = refl
 writers_cut (node.Linear x) xs = refl
+writers_cut (node.State x) xs = refl
 writers_cut (node.Writing x) xs = refl
 
 -- an island that was started

@@ -41,6 +41,7 @@ abbrev pub sinks_of : {S D : Type 0} → List (Node S D) → List (ℕ × ℕ ×
 sinks_of [] = []
 sinks_of (node.Reading x ∷ xs) = sinks_of xs
 sinks_of (node.Linear x ∷ xs) = sinks_of xs
+sinks_of (node.State x ∷ xs) = sinks_of xs
 sinks_of (node.Writing x ∷ xs) = (x.node, x.count, x.end) ∷ sinks_of xs
 
 -- the sources of bytes that its readers read
@@ -48,6 +49,7 @@ abbrev pub readers_of : {S D : Type 0} → List (Node S D) → List S
 readers_of [] = []
 readers_of (node.Reading x ∷ xs) = x.reader.source ∷ readers_of xs
 readers_of (node.Linear x ∷ xs) = readers_of xs
+readers_of (node.State x ∷ xs) = readers_of xs
 readers_of (node.Writing x ∷ xs) = readers_of xs
 
 -- the drains that its sinks wrote
@@ -55,4 +57,5 @@ abbrev pub writers_of : {S D : Type 0} → List (Node S D) → List D
 writers_of [] = []
 writers_of (node.Reading x ∷ xs) = writers_of xs
 writers_of (node.Linear x ∷ xs) = writers_of xs
+writers_of (node.State x ∷ xs) = writers_of xs
 writers_of (node.Writing x ∷ xs) = x.drain ∷ writers_of xs

@@ -7,6 +7,7 @@ use Rattle.stream_model.specs.declared.kind.Kind.TheVariants.{ToLines}
 use Rattle.stream_model.specs.declared.outcome.EndState.TheVariants.{Unended}
 use Rattle.stage_linear.specs.declared.phase.Phase.TheVariants.{New}
 use Rattle.nodes.specs.Linear.{LinearFresh}
+use Rattle.nodes.specs.State.{StateFresh}
 use Rattle.nodes.specs.declared.node.Node.{Node}
 use Rattle.nodes.specs.declared.node.Node.TheVariants as node
 use Rattle.fused_net.specs.declared.net.Ends.{Ends}
@@ -15,7 +16,7 @@ use Rattle.fused_net.specs.Net.{end_at, port_at}
 use Rattle.interpreter.specs.declared.parts.Link.{Link}
 use Rattle.interpreter.specs.declared.parts.Seated.{Seated}
 use Rattle.interpreter.specs.declared.parts.Work.{Work}
-use Rattle.interpreter.specs.declared.parts.Work.TheVariants.{Reading, Linear, Writing}
+use Rattle.interpreter.specs.declared.parts.Work.TheVariants.{Reading, Linear, State, Writing}
 
 -- the ports at the ends of a link
 abbrev pub ends_of : Link → Ends
@@ -29,11 +30,13 @@ number_of l = l.wire
 abbrev pub work_inputs : {S D : Type 0} → Work S D → ℕ
 work_inputs (Reading r) = 0
 work_inputs (Linear l) = 1
+work_inputs (State l) = 1
 work_inputs (Writing k d) = 1
 
 abbrev pub work_outputs : {S D : Type 0} → Work S D → ℕ
 work_outputs (Reading r) = 1
 work_outputs (Linear l) = 1
+work_outputs (State l) = 1
 work_outputs (Writing k d) = 0
 
 -- the same of the work at place n
@@ -56,6 +59,7 @@ IsLinesSink _ = ⊥
 abbrev pub IsUnused : {S D : Type 0} → Work S D → Type 0
 IsUnused (Reading r) = r.kept ≡ []
 IsUnused (Linear l) = LinearFresh l (record { ins = Idle ∷ []; outs = Unasked ∷ [] })
+IsUnused (State l) = StateFresh l (record { ins = Idle ∷ []; outs = Unasked ∷ [] })
 IsUnused (Writing k (Some d)) = IsLinesSink k
 IsUnused (Writing k None) = ⊥
 
@@ -84,6 +88,7 @@ pub record AreParts {S D : Type 0} (places : List (Seated S D)) (links : List Li
 abbrev pub BecomesOf : {S D : Type 0} → ℕ → Work S D → Node S D → Type 0
 BecomesOf k (Reading r) x = x ≡ node.Reading (record { node = k; reader = r; drawn = 0; phase = New })
 BecomesOf k (Linear l) x = x ≡ node.Linear l
+BecomesOf k (State l) x = x ≡ node.State l
 BecomesOf k (Writing kind (Some d)) x = x ≡ node.Writing (record { node = k; drain = d; count = 0; started = false; end = Unended })
 BecomesOf k (Writing kind None) x = ⊥
 

@@ -10,6 +10,7 @@ use nodes::node::Node;
 use nodes::sink::LinesSink;
 use nodes::source::LinesSource;
 use stage_linear::logic::LinearLogic;
+use stage_state::logic::StateLogic;
 use std::alloc::Global;
 use stream_io::line_reader::LineReader;
 use stream_io::outside::{Drain, Source};
@@ -38,6 +39,8 @@ pub enum Work<S: Source, D: Drain> {
     Reading(LineReader<S>),
     /// A linear stage.
     Linear(LinearLogic),
+    /// A stage with state.
+    State(StateLogic),
     /// A sink of this kind, with the drain of its file.
     Writing(Kind, Option<D>),
 }
@@ -66,7 +69,7 @@ impl<S: Source, D: Drain> Work<S, D> {
     {
         match self {
             Work::Reading(_) => 0,
-            Work::Linear(_) | Work::Writing(_, _) => 1,
+            Work::Linear(_) | Work::State(_) | Work::Writing(_, _) => 1,
         }
     }
 
@@ -74,7 +77,7 @@ impl<S: Source, D: Drain> Work<S, D> {
         ensures { result ≡ work_outputs self.now }
     {
         match self {
-            Work::Reading(_) | Work::Linear(_) => 1,
+            Work::Reading(_) | Work::Linear(_) | Work::State(_) => 1,
             Work::Writing(_, _) => 0,
         }
     }
@@ -89,6 +92,7 @@ pub fn seat<S: Source, D: Drain>(alloc: Global, seated: Seated<S, D>) -> Node<S,
     match work {
         Work::Reading(reader) => Node::Reading(LinesSource::new(node, reader)),
         Work::Linear(logic) => Node::Linear(logic),
+        Work::State(logic) => Node::State(logic),
         Work::Writing(_, drain) => match drain {
             Some(drain) => Node::Writing(LinesSink::new(alloc, node, drain)),
             None => unreachable!(),

@@ -4,6 +4,8 @@ pub mod Drawings
 pub mod OneOuts
 pub mod Sources
 pub mod Linears
+pub mod OneOnes
+pub mod States
 pub mod LineFeeds
 pub mod Outlooks
 pub mod SinkTexts

@@ -56,7 +56,7 @@ brought_one (brings zero x) h = refl
 brought_one (brings (suc i) x) h = same_history h _ (elsewhere i x)
 brought_one (cancels j) h = same_history h [] refl
 
-one_input : (P : InView → OutView → Type 0) (xs : List InView) (ys : List OutView) → OneOneOf P xs ys → length xs ≡ 1
+pub one_input : (P : InView → OutView → Type 0) (xs : List InView) (ys : List OutView) → OneOneOf P xs ys → length xs ≡ 1
 one_input P (x ∷ []) (y ∷ []) r = refl
 one_input P [] ys r = absurd r
 one_input P (x ∷ []) [] r = absurd r

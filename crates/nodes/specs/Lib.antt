@@ -2,6 +2,7 @@ pub mod Ports
 pub mod Drawing
 pub mod Source
 pub mod Linear
+pub mod State
 pub mod Writing
 pub mod Sink
 pub mod Nodes

@@ -1,4 +1,4 @@
-//! The nodes of an island: sources of lines, linear stages and sinks of lines, each as the interpreter calls it.
+//! The nodes of an island: sources of lines, linear stages, stages with state and sinks of lines, each as the interpreter calls it.
 #![tactic(auto)]
 
 mod count;
@@ -8,5 +8,6 @@ pub mod node;
 pub mod put;
 pub mod sink;
 pub mod source;
+pub mod state;
 #[cfg(test)]
 mod tests;

@@ -2,14 +2,15 @@
 ghost use Rattle.std.specs.Prelude.{◌≡◌};
 ghost use Rattle.nodes.specs.Nodes.{node_fresh, node_row, node_law, node_end};
 
-use crate::linear;
 use crate::sink::{LinesSink, SinkEnd};
 use crate::source::LinesSource;
+use crate::{linear, state};
 use elem_core::elem::Elem;
 use elem_core::why::{Cause, NoMemory};
 use port_core::acts::Acts;
 use stage_core::stage::Stage;
 use stage_linear::logic::LinearLogic;
+use stage_state::logic::StateLogic;
 use std::alloc::Global;
 use stream_io::outside::{Drain, Source};
 
@@ -20,6 +21,8 @@ pub enum Node<S: Source, D: Drain> {
     Reading(LinesSource<S>),
     /// A linear stage.
     Linear(LinearLogic),
+    /// A stage with state.
+    State(StateLogic),
     /// A sink that writes lines into a file.
     Writing(LinesSink<D>),
 }
@@ -42,7 +45,7 @@ impl<S: Source, D: Drain> Node<S, D> {
     {
         match self {
             Node::Reading(source) => NodeEnd::Read(source.into_source()),
-            Node::Linear(_) => NodeEnd::Staged,
+            Node::Linear(_) | Node::State(_) => NodeEnd::Staged,
             Node::Writing(sink) => NodeEnd::Wrote(sink.close()),
         }
     }
@@ -59,6 +62,7 @@ impl<S: Source, D: Drain> Stage for Node<S, D> {
         match self {
             Node::Reading(source) => source.start(acts),
             Node::Linear(logic) => linear::start(logic, acts),
+            Node::State(logic) => state::start(logic, acts),
             Node::Writing(sink) => sink.start(acts),
         }
     }
@@ -67,6 +71,7 @@ impl<S: Source, D: Drain> Stage for Node<S, D> {
         match self {
             Node::Reading(source) => source.on_pull(acts),
             Node::Linear(logic) => linear::on_pull(logic, acts),
+            Node::State(logic) => state::on_pull(logic, acts),
             Node::Writing(_) => unreachable!(),
         }
     }
@@ -81,6 +86,7 @@ impl<S: Source, D: Drain> Stage for Node<S, D> {
         match self {
             Node::Reading(_) => unreachable!(),
             Node::Linear(logic) => linear::on_push(logic, alloc, e, acts),
+            Node::State(logic) => state::on_push(logic, alloc, e, acts),
             Node::Writing(sink) => sink.on_push(e, acts),
         }
     }
@@ -89,6 +95,7 @@ impl<S: Source, D: Drain> Stage for Node<S, D> {
         match self {
             Node::Reading(_) => unreachable!(),
             Node::Linear(logic) => linear::on_finish(logic, acts),
+            Node::State(logic) => state::on_finish(logic, alloc, acts),
             Node::Writing(sink) => sink.on_finish(acts),
         }
     }
@@ -103,6 +110,7 @@ impl<S: Source, D: Drain> Stage for Node<S, D> {
         match self {
             Node::Reading(_) => unreachable!(),
             Node::Linear(logic) => linear::on_fail(logic, cause, acts),
+            Node::State(logic) => state::on_fail(logic, cause, acts),
             Node::Writing(sink) => sink.on_fail(cause, acts),
         }
     }
@@ -111,6 +119,7 @@ impl<S: Source, D: Drain> Stage for Node<S, D> {
         match self {
             Node::Reading(source) => source.on_cancel(acts),
             Node::Linear(logic) => linear::on_cancel(logic, acts),
+            Node::State(logic) => state::on_cancel(logic, acts),
             Node::Writing(_) => unreachable!(),
         }
     }

@@ -25,7 +25,7 @@ use Rattle.fused_net.specs.Net.{Net, wire_at, ports_at, view_of, took, gave, inp
 use Rattle.fused_net.specs.Laws.{Settled}
 use Rattle.fused_net.proofs.Reading.{get_there}
 use Rattle.nodes.specs.declared.node.Node.{Node}
-use Rattle.nodes.specs.declared.node.Node.TheVariants.{Reading, Linear, Writing}
+use Rattle.nodes.specs.declared.node.Node.TheVariants.{Reading, Linear, State, Writing}
 use Rattle.nodes.specs.Nodes.{node_row, node_law}
 use Rattle.nodes.specs.Source.{lines_row_in}
 use Rattle.nodes.specs.Sink.{sink_row_in}
@@ -33,6 +33,7 @@ use Rattle.run_laws.specs.Made.{FirstOf, Materializes}
 use Rattle.picture_laws.specs.Picture.{counts_of, AllPass, has_ended, sink_ended, ended_at}
 use Rattle.picture_laws.proofs.Places.{one_each, OneInput, one_input, OneOutput, one_output, Joined, input_at, output_at}
 use Rattle.picture_laws.proofs.Stages.{lines_ports, linear_ports, sink_ports}
+use Rattle.picture_laws.proofs.StateGraphs.{state_rests, stateful_no_sink}
 use Rattle.picture_laws.proofs.RestRows.{RestsKind, linear_kind, linear_rests, lines_rests, sink_rests}
 
 module _ {S D : Type 0} (sources : S → SourceState) (drains : D → DrainState) (g : Graph) (net : Net (Node S D)) (s : Settled node_row (node_law sources drains) net) (m : Materializes sources g net.firsts net.ends) where
@@ -95,12 +96,8 @@ module _ {S D : Type 0} (sources : S → SourceState) (drains : D → DrainState
           linear_kind g w net.wires outlook k n.kind n.decider first.stage.work f.is_linear f.begins.work
           (rw (i_at.is, o_at.is) (linear_rests g w o.a o.b (wire_at net o.a) (wire_at net o.b) (outlook o.a) (outlook o.b) (still o.a i_at.within) (still o.b o_at.within) (s.marked o.a i_at.within) (s.marked o.b o_at.within)
           k n.kind n.decider first x (view_of net k) (took net k) (gave net k) f.begins law vi vo ti gi (passes o.a i_at.within) f.is_linear (linear_ports x.phase x.over x.pending x.stage.work (wire_at net o.a).wire.inp (wire_at net o.b).wire.out r.started o.holds)))
-      kind_rests k n h (Reading first) (Linear x) f r law = absurd law
-      kind_rests k n h (Reading first) (Writing x) f r law = absurd law
-      kind_rests k n h (Linear first) (Reading x) f r law = absurd law
-      kind_rests k n h (Linear first) (Writing x) f r law = absurd law
-      kind_rests k n h (Writing first) (Reading x) f r law = absurd law
-      kind_rests k n h (Writing first) (Linear x) f r law = absurd law
+      kind_rests k n h (State first) (State x) f r law = state_rests sources drains g net s m w outlook passes k n h first x f r law empty
+      kind_rests k n h first x f r law = absurd law
 
       pub all_rest : Rests g w (counts_of net.wires) outlook
       all_rest k n e = let t = there k n e in kind_rests k n t.within t.first t.node t.first_of t.row_holds t.law_holds
@@ -138,12 +135,8 @@ module _ {S D : Type 0} (sources : S → SourceState) (drains : D → DrainState
       kind_matches k n h (Reading first) (Reading x) f r law is = let no : is_sink (kind.Lines f.name) ≡ true = rw f.kind_is at is in cc
       kind_matches k n h (Writing first) (Writing x) f r law is = subst (λ (kd : Kind). MatchKind k kd (has_ended x.end)) (sym f.kind_is) (writing_matches k f.name x.started x.end h (one_input (sink_row_in x.started x.end) net.wires (ports_at net k) r))
       kind_matches k n h (Linear first) (Linear x) f r law is = absurd (no_sink n.kind f.is_linear is)
-      kind_matches k n h (Reading first) (Linear x) f r law is = absurd law
-      kind_matches k n h (Reading first) (Writing x) f r law is = absurd law
-      kind_matches k n h (Linear first) (Reading x) f r law is = absurd law
-      kind_matches k n h (Linear first) (Writing x) f r law is = absurd law
-      kind_matches k n h (Writing first) (Reading x) f r law is = absurd law
-      kind_matches k n h (Writing first) (Linear x) f r law is = absurd law
+      kind_matches k n h (State first) (State x) f r law is = absurd (stateful_no_sink n.kind f.is_state is)
+      kind_matches k n h first x f r law is = absurd law
 
       pub all_match : SinksMatch g w (counts_of net.wires) outlook (ended_at net.nodes)
       all_match k n e is =

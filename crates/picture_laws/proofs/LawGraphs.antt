@@ -26,11 +26,10 @@ use Rattle.stage_linear.specs.declared.phase.Phase.TheVariants.{Open}
 use Rattle.stage_linear.specs.States.{Logic, row_in, IsLinear}
 use Rattle.wire_core.specs.Cell.{Cell}
 use Rattle.wire_core.specs.Marks as marks
-use Rattle.fused_net.specs.Net.{Net, wire_at, ports_at, view_of, took, gave, inp_of, out_of, got_of, sent_of, read_all, end_at}
+use Rattle.fused_net.specs.Net.{Net, wire_at, ports_at, view_of, took, gave, inp_of, out_of, got_of, sent_of, read_all}
 use Rattle.fused_net.specs.Laws.{Settled}
-use Rattle.fused_net.proofs.Reading.{get_there}
 use Rattle.nodes.specs.declared.node.Node.{Node}
-use Rattle.nodes.specs.declared.node.Node.TheVariants.{Reading, Linear, Writing}
+use Rattle.nodes.specs.declared.node.Node.TheVariants.{Reading, Linear, State, Writing}
 use Rattle.nodes.specs.Nodes.{node_row, node_law}
 use Rattle.nodes.specs.Linear.{LinearRow, LinearLaw}
 use Rattle.nodes.specs.Sink.{sink_row_in}
@@ -39,6 +38,8 @@ use Rattle.picture_laws.specs.Picture.{count_of, counts_of, AllPass}
 use Rattle.picture_laws.proofs.Places.{one_each, one_input, fused_view, input_at, output_at}
 use Rattle.picture_laws.proofs.Stages.{LinearPorts, busy, free, behind, over, linear_ports, Waited, linear_waited}
 use Rattle.picture_laws.proofs.Graphs.{there, joined}
+use Rattle.picture_laws.proofs.Moments.{last_ask}
+use Rattle.picture_laws.proofs.StateGraphs.{state_lawful, state_wires, stateful_order}
 use Rattle.picture_laws.proofs.LawRows.{linear_given, linear_asked, sent_within}
 
 -- the row of a linear stage, by its work
@@ -124,8 +125,7 @@ module _ {S D : Type 0} (sources : S → SourceState) (drains : D → DrainState
   moment_by : (book : Book) (net : Net (Node S D)) (k a b : ℕ) (n : graph.Node) (first : Logic) (x : Node S D) → FirstLinear k n first → node_row x (view_of net k) → node_law sources drains (Linear first) x (view_of net k) (took net k) (gave net k)
       → (ports_at net k).ins ≡ a ∷ [] → (ports_at net k).outs ≡ b ∷ [] → (wire_at net a).wire.inp ≡ Waiting → Moment book k n.decider first.stage.work (wire_at net a) (wire_at net b)
   moment_by book net k a b n first (Linear l) f r law ia ob e = moment_at book net k a b n first l f r law ia ob e
-  moment_by book net k a b n first (Reading x) f r law ia ob e = absurd law
-  moment_by book net k a b n first (Writing x) f r law ia ob e = absurd law
+  moment_by book net k a b n first x f r law ia ob e = absurd law
 
   module _ (g : Graph) (net : Net (Node S D)) (s : Settled node_row (node_law sources drains) net) (m : Materializes sources g net.firsts net.ends) (w : World) (outlook : ℕ → Outlook) (passes : AllPass net outlook) where
     wire_lawful : (a : ℕ) → a < length net.wires → WireLawful (fused_view a (count_of (wire_at net a)) (outlook a))
@@ -137,23 +137,12 @@ module _ {S D : Type 0} (sources : S → SourceState) (drains : D → DrainState
         → (is_going (run (linear w.book first.stage.work) (begin_work k n.decider first.stage.work) (take (marks.wanted (wire_at net a) - 0 - 1) (outlook a).list)).state ≡ true)
         × (length (run (linear w.book first.stage.work) (begin_work k n.decider first.stage.work) (take (marks.wanted (wire_at net a) - 0 - 1) (outlook a).list)).gave < marks.wanted (wire_at net b))
     asked_part k a b n first h ha hb fi f ia ob some =
-        let l = s.asked a ha (omega (arith, some)) in
-        let at : slice_get (ports_at net k).ins 0 ≡ Some a = rw ia refl in
-        let ends : l.old.ends ≡ net.ends = sym l.on.ends in
-        let ports : l.old.ports ≡ net.ports = sym l.on.ports in
-        let to : (end_at l.old.ends a).to ≡ k = rw ends (s.wired.input_to k 0 a h at).1.0 in
-        let nodes = l.on.nodes in
-        let wires = l.on.wires in
-        let oa : a < length l.old.wires = omega (arith, wires, ha) in
-        let ob' : b < length l.old.wires = omega (arith, wires, hb) in
-        let x = get_there l.old.nodes k (omega (arith, nodes, h)) in
-        let old_first : slice_get l.old.firsts k ≡ Some (Linear first) = ap (λ (z : List (Node S D)). slice_get z k) (sym l.on.firsts) ∙ fi in
-        let minds = (rw to at l.minded) x.0 (Linear first) x.1 old_first in
-        let ins_old : (ports_at l.old k).ins ≡ a ∷ [] = rw ports ia in
-        let outs_old : (ports_at l.old k).outs ≡ b ∷ [] = rw ports ob in
-        let then = moment_by w.book l.old k a b n first x.0 f minds.row_holds minds.law_holds ins_old outs_old l.waits in
-        linear_asked w.book k n.decider first.stage.work (wire_at net a) (wire_at net b) (wire_at l.old a) (wire_at l.old b) (outlook a) _ _ (s.sound a ha) (l.sound a oa) (l.marked a oa) (l.marked b ob')
-        l.waits l.asked then.out l.same (l.grown a oa) (l.grown b ob') then.waited (passes a ha)
+        let t = last_ask sources drains net s k 0 a (Linear first) h fi (rw ia refl) (omega (arith, some)) in
+        let ins_old : (ports_at t.old k).ins ≡ a ∷ [] = rw t.ports ia in
+        let outs_old : (ports_at t.old k).outs ≡ b ∷ [] = rw t.ports ob in
+        let then = moment_by w.book t.old k a b n first t.node f t.row_holds t.law_holds ins_old outs_old t.waits in
+        linear_asked w.book k n.decider first.stage.work (wire_at net a) (wire_at net b) (wire_at t.old a) (wire_at t.old b) (outlook a) _ _ (s.sound a ha) (t.sound a ha) (t.marked a ha) (t.marked b hb)
+        t.waits t.asked then.out t.same (t.grown a ha) (t.grown b hb) then.waited (passes a ha)
 
     -- each kind by its row
     kind_lawful : (k : ℕ) (n : graph.Node) (h : k < length net.nodes) (first x : Node S D) → slice_get net.firsts k ≡ Some first → FirstOf sources k n first → node_row x (view_of net k) → node_law sources drains first x (view_of net k) (took net k) (gave net k)
@@ -172,12 +161,8 @@ module _ {S D : Type 0} (sources : S → SourceState) (drains : D → DrainState
           linear_given w.book k n.kind n.decider first x (view_of net k) (took net k) (gave net k) (wire_at net o.a) (wire_at net o.b) (outlook o.a) _ (s.sound o.a i_at.within) f.begins law vi ti gi (passes o.a i_at.within),
           λ some. asked_part k o.a o.b n first h i_at.within o_at.within fi f o.ins o.outs some,
         ))
-    kind_lawful k n h (Reading first) (Linear x) fi f r law = absurd law
-    kind_lawful k n h (Reading first) (Writing x) fi f r law = absurd law
-    kind_lawful k n h (Linear first) (Reading x) fi f r law = absurd law
-    kind_lawful k n h (Linear first) (Writing x) fi f r law = absurd law
-    kind_lawful k n h (Writing first) (Reading x) fi f r law = absurd law
-    kind_lawful k n h (Writing first) (Linear x) fi f r law = absurd law
+    kind_lawful k n h (State first) (State x) fi f r law = state_lawful sources drains g net s m w outlook passes k n h first x f r law fi
+    kind_lawful k n h first x fi f r law = absurd law
 
     -- its wires
     kind_wires : (k : ℕ) (n : graph.Node) (h : k < length net.nodes) (first x : Node S D) → FirstOf sources k n first → node_row x (view_of net k) → node_law sources drains first x (view_of net k) (took net k) (gave net k)
@@ -191,18 +176,15 @@ module _ {S D : Type 0} (sources : S → SourceState) (drains : D → DrainState
         let o = one_each (row_in x.phase x.over x.pending x.stage.work) net.wires (ports_at net k) r.row in
         let i_at = input_at g net.ends net.ports (length net.nodes) net.wires (joined sources drains g net s m) outlook k o.a h o.ins in
         linear_wires g w net.wires outlook k n.kind f.is_linear (rw i_at.is (wire_lawful o.a i_at.within, tt))
-    kind_wires k n h (Reading first) (Linear x) f r law = absurd law
-    kind_wires k n h (Reading first) (Writing x) f r law = absurd law
-    kind_wires k n h (Linear first) (Reading x) f r law = absurd law
-    kind_wires k n h (Linear first) (Writing x) f r law = absurd law
-    kind_wires k n h (Writing first) (Reading x) f r law = absurd law
-    kind_wires k n h (Writing first) (Linear x) f r law = absurd law
+    kind_wires k n h (State first) (State x) f r law = state_wires sources drains g net s m w outlook passes k n h first x f r law
+    kind_wires k n h first x f r law = absurd law
 
     -- none of them is a valve
     kind_order : (k : ℕ) (n : graph.Node) (first : Node S D) (moves : List ℕ) → FirstOf sources k n first → valve_order n.kind moves ≡ None
     kind_order k n (Reading first) moves f = ap (λ (kd : Kind). valve_order kd moves) f.kind_is
     kind_order k n (Writing first) moves f = ap (λ (kd : Kind). valve_order kd moves) f.kind_is
     kind_order k n (Linear first) moves f = no_order n.kind f.is_linear moves
+    kind_order k n (State first) moves f = stateful_order n.kind f.is_state moves
 
     pub all_lawful : IsLawful g w (counts_of net.wires) outlook
     all_lawful = record {

@@ -10,12 +10,13 @@ use Rattle.port_core.specs.Joint.{IsSound}
 use Rattle.port_core.specs.View.{View, in_at, out_at}
 use Rattle.port_core.specs.declared.view.InView.{InView}
 use Rattle.port_core.specs.declared.view.InView.TheVariants.{Idle, Waiting, Over, Left}
+use Rattle.port_core.specs.declared.view.OutView.{OutView}
 use Rattle.port_core.specs.declared.view.OutView.TheVariants.{Asked}
 use Rattle.stream_model.specs.declared.kind.Kind.{Kind}
 use Rattle.stream_model.specs.Linear.{Book, Stage, Work, linear, begin_work}
 use Rattle.stream_model.specs.Machine.{Run, Machine, is_going, run, close, Stands}
 use Rattle.stream_model.specs.Outlook.{Outlook, End, unended, ended, failed}
-use Rattle.stage_law.specs.Held.{told}
+use Rattle.stage_law.specs.Held.{Held, told}
 use Rattle.stage_law.specs.Law.{TookAs, Law}
 use Rattle.stage_law.specs.Row.{InClosed}
 use Rattle.stage_law.proofs.Whole.{stage_stands}
@@ -58,23 +59,28 @@ given_by m start l k e g f kf false h p known = sent_open m start l k e g f h (t
 shut_not : {t : Bool} → t ≡ true → t ≡ false → ⊥
 shut_not a b = cc
 
--- the first part of the row: what was given
+-- the first part of the row, of any machine: what was given
+pub stage_given : (m : Machine Stage Tree) (start : Run Stage Tree) (h : Held Stage) (y : OutView) (ca cb : Cell) (oa : Outlook) (q : Bool) → IsSound ca.wire q → Law m start h ca.wire.inp y ca.wire.got cb.wire.sent → Passes oa ca.wire.sent
+    → elements cb.wire.sent ≤ (if not (is_open ca.wire.conn) then length (close m (run m start (take (elements ca.wire.sent) oa.list)) ended).list else length (run m start (take (elements ca.wire.sent) oa.list)).gave)
+stage_given m start h y ca cb oa q sound at passes =
+    let stands : Stands m start at.in_list at.in_end at.out_list at.out_end = stage_stands m start h ca.wire.inp y ca.wire.got cb.wire.sent at in
+    let sent : elements cb.wire.sent ≡ length at.out_list = ap elements at.gave_is ∙ count_told at.out_list at.out_end in
+    let all : take (elements ca.wire.sent) oa.list ≡ passes.list = taken_is oa passes.list ca.wire.sent passes refl in
+    let part : IsPrefix (told at.in_list at.in_end) (told passes.list passes.end) = part_of ca.wire.got ca.wire.sent at.in_list passes.list at.in_end passes.end at.took_is passes.is (got_part ca.wire q sound) in
+    rw (sent, all) (given_by m start at.in_list passes.list at.in_end at.out_list at.out_end passes.end (not (is_open ca.wire.conn)) stands part
+    (λ is unshut. shut_not (in_shut ca.wire q sound (end_known ca.wire.inp at.in_end at.took_as is)) unshut))
+
+-- the same of a linear stage
 pub linear_given : (book : Book) (k : ℕ) (kd : Kind) (d : Decider) (first l : Logic) (v : View) (took gave : List (List Item)) (ca cb : Cell) (oa : Outlook) (q : Bool) → IsSound ca.wire q → Begins k kd d first → LinearLaw first l v took gave
     → in_at v 0 ≡ ca.wire.inp → took ≡ ca.wire.got ∷ [] → gave ≡ cb.wire.sent ∷ [] → Passes oa ca.wire.sent
     → elements cb.wire.sent ≤ (if not (is_open ca.wire.conn) then length (close (linear book first.stage.work) (run (linear book first.stage.work) (begin_work k d first.stage.work) (take (elements ca.wire.sent) oa.list)) ended).list
     else length (run (linear book first.stage.work) (begin_work k d first.stage.work) (take (elements ca.wire.sent) oa.list)).gave)
 linear_given book k kd d first l v took gave ca cb oa q sound begins law vi ti gi passes =
-    let at : Law (linear book first.stage.work) (begin_work k d first.stage.work) (held l) ca.wire.inp (out_at v 0) ca.wire.got cb.wire.sent =
-    law_at (linear book first.stage.work) law.start _ (held l) _ (in_at v 0) _ (out_at v 0) _ law.took_list ca.wire.got law.gave_list cb.wire.sent
-    (same_start _ _ (sym law.owes ∙ begins.owes)) refl vi refl (one_same _ _ (sym law.took_is ∙ ti)) (one_same _ _ (sym law.gave_is ∙ gi)) (law.law book) in
-    let stands : Stands (linear book first.stage.work) (begin_work k d first.stage.work) at.in_list at.in_end at.out_list at.out_end = stage_stands (linear book first.stage.work) (begin_work k d first.stage.work) (held l) ca.wire.inp (out_at v 0) ca.wire.got cb.wire.sent at in
-    let sent : elements cb.wire.sent ≡ length at.out_list = ap elements at.gave_is ∙ count_told at.out_list at.out_end in
-    let all : take (elements ca.wire.sent) oa.list ≡ passes.list = taken_is oa passes.list ca.wire.sent passes refl in
-    let part : IsPrefix (told at.in_list at.in_end) (told passes.list passes.end) = part_of ca.wire.got ca.wire.sent at.in_list passes.list at.in_end passes.end at.took_is passes.is (got_part ca.wire q sound) in
-    rw (sent, all) (given_by (linear book first.stage.work) (begin_work k d first.stage.work) at.in_list passes.list at.in_end at.out_list at.out_end passes.end (not (is_open ca.wire.conn)) stands part
-    (λ is unshut. shut_not (in_shut ca.wire q sound (end_known ca.wire.inp at.in_end at.took_as is)) unshut))
+    stage_given (linear book first.stage.work) (begin_work k d first.stage.work) (held l) (out_at v 0) ca cb oa q sound
+    (law_at (linear book first.stage.work) law.start _ (held l) _ (in_at v 0) _ (out_at v 0) _ law.took_list ca.wire.got law.gave_list cb.wire.sent
+    (same_start _ _ (sym law.owes ∙ begins.owes)) refl vi refl (one_same _ _ (sym law.took_is ∙ ti)) (one_same _ _ (sym law.gave_is ∙ gi)) (law.law book)) passes
 
-wanted_asked : (c : Cell) → c.asked ≡ true → wanted c ≡ elements c.wire.sent + 1
+pub wanted_asked : (c : Cell) → c.asked ≡ true → wanted c ≡ elements c.wire.sent + 1
 wanted_asked c e = rw e refl
 
 -- the second part: what it had given when it asked

@@ -4,7 +4,10 @@ pub mod Places
 pub mod Bounds
 pub mod Stages
 pub mod RestRows
-pub mod Graphs
 pub mod LawRows
+pub mod Moments
+pub mod StateRows
+pub mod StateGraphs
+pub mod Graphs
 pub mod LawGraphs
 pub mod Composing

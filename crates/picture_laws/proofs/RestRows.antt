@@ -8,7 +8,7 @@ use Rattle.port_core.specs.Joint.{IsSound}
 use Rattle.port_core.specs.View.{View, in_at, out_at}
 use Rattle.port_core.specs.declared.view.InView.TheVariants.{Waiting}
 use Rattle.port_core.specs.declared.view.OutView.{OutView}
-use Rattle.port_core.specs.declared.view.OutView.TheVariants.{Unasked}
+use Rattle.port_core.specs.declared.view.OutView.TheVariants.{Unasked, Asked}
 use Rattle.stream_model.specs.declared.kind.Kind.{Kind}
 use Rattle.stream_model.specs.declared.kind.Kind.TheVariants.{Map, Filter, FilterNot, Take, TakeWhile, Drop, DropWhile, Limit, MapConcat}
 use Rattle.stream_model.specs.Graph.{Graph}
@@ -17,7 +17,7 @@ use Rattle.stream_model.specs.Machine.{Run, Machine, run}
 use Rattle.stream_model.specs.Node.{World}
 use Rattle.stream_model.specs.Outlook.{Outlook}
 use Rattle.stream_picture.specs.OneWay.{of_machine, holds_at_end}
-use Rattle.stream_picture.specs.Rests.{Waits, IsUnasked, IsShut, OneToOne, StageRests, RowRests}
+use Rattle.stream_picture.specs.Rests.{Waits, IsAsked, IsUnasked, IsShut, OneToOne, StageRests, RowRests}
 use Rattle.stream_picture.specs.View.{EachWire, ins, outs, ins_at, outs_at}
 use Rattle.stream_picture.specs.View as picture
 use Rattle.stage_law.specs.Row.{InClosed, OutClosed}
@@ -30,7 +30,7 @@ use Rattle.picture_laws.specs.Picture.{count_of, counts_of, Passes}
 use Rattle.picture_laws.proofs.Resting.{waits, idles, is_asked, is_unasked, in_shut, out_shut}
 use Rattle.picture_laws.proofs.Telling.{count_told, told_one}
 use Rattle.picture_laws.proofs.Places.{fused_view}
-use Rattle.picture_laws.proofs.Stages.{LinearPorts, busy, free, behind, over, linear_waited}
+use Rattle.picture_laws.proofs.Stages.{LinearPorts, busy, free, behind, over, Waited, linear_waited}
 
 -- the first part of the outlook's list is what was taken
 pub taken_is : (o : Outlook) (l : List Tree) (items : List Item) (p : Passes o items) → l ≡ p.list → take (elements items) o.list ≡ l
@@ -83,18 +83,23 @@ holds_first book _ wk h e one = absurd h
 
 -- the wires of a node, neither of which is queued
 module _ (g : Graph) (w : World) (a b : ℕ) (ca cb : Cell) (oa ob : Outlook) (sa : IsSound ca.wire false) (sb : IsSound cb.wire false) (ma : IsMarked ca) (mb : IsMarked cb) where
-  -- a linear stage
-  pub linear_rests : (k : ℕ) (kd : Kind) (d : Decider) (first l : Logic) (v : View) (took gave : List (List Item)) → Begins k kd d first → LinearLaw first l v took gave
-      → in_at v 0 ≡ ca.wire.inp → out_at v 0 ≡ cb.wire.out → took ≡ ca.wire.got ∷ [] → gave ≡ cb.wire.sent ∷ [] → Passes oa ca.wire.sent
-      → IsLinear kd → LinearPorts l.phase l.over l.pending l.stage.work ca.wire.inp cb.wire.out → RestsWork g w [] (λ _. oa) k first.stage.work d (fused_view a (count_of ca) oa ∷ []) (fused_view b (count_of cb) ob ∷ [])
-  linear_rests k kd d first l v took gave begins law vi vo ti gi passes il (busy po on none xi yo) =
-      let t = linear_waited w.book k kd d first l v took gave ca.wire.got cb.wire.sent begins law po on none (vi ∙ xi) (vo ∙ yo) ti gi in
+  -- a stage that waits and holds nothing has given all that its machine gives
+  pub waited_rests : (k : ℕ) (d : Decider) (wk : Work) → Waited w.book k d wk ca.wire.got cb.wire.sent → ca.wire.inp ≡ Waiting → cb.wire.out ≡ Asked → Passes oa ca.wire.sent
+      → IsAsked (fused_view b (count_of cb) ob) × Waits (fused_view a (count_of ca) oa) × (elements cb.wire.sent ≡ length (run (linear w.book wk) (begin_work k d wk) (take (elements ca.wire.sent) oa.list)).gave)
+  waited_rests k d wk t xi yo passes =
       let i = waits ca ma sa xi in
       let o = is_asked cb mb sb yo in
       let same : t.in_list ≡ passes.list = told_one t.in_list passes.list t.in_end passes.end (sym t.took_is ∙ sym i.1 ∙ passes.is) in
       let all : take (elements ca.wire.sent) oa.list ≡ t.in_list = taken_is oa t.in_list ca.wire.sent passes same in
       let sent : elements cb.wire.sent ≡ length t.out_list = ap elements t.gave_is ∙ count_told t.out_list t.out_end in
-      inr (inl ((o.mark, o.still), (i.0.mark, i.0.still), sent ∙ ap (λ (r : Run Stage Tree). length r.gave) (sym t.runs) ∙ ap (λ (z : List Tree). length (run (linear w.book first.stage.work) (begin_work k d first.stage.work) z).gave) (sym all)))
+      ((o.mark, o.still), (i.0.mark, i.0.still), sent ∙ ap (λ (r : Run Stage Tree). length r.gave) (sym t.runs) ∙ ap (λ (z : List Tree). length (run (linear w.book wk) (begin_work k d wk) z).gave) (sym all))
+
+  -- a linear stage
+  pub linear_rests : (k : ℕ) (kd : Kind) (d : Decider) (first l : Logic) (v : View) (took gave : List (List Item)) → Begins k kd d first → LinearLaw first l v took gave
+      → in_at v 0 ≡ ca.wire.inp → out_at v 0 ≡ cb.wire.out → took ≡ ca.wire.got ∷ [] → gave ≡ cb.wire.sent ∷ [] → Passes oa ca.wire.sent
+      → IsLinear kd → LinearPorts l.phase l.over l.pending l.stage.work ca.wire.inp cb.wire.out → RestsWork g w [] (λ _. oa) k first.stage.work d (fused_view a (count_of ca) oa ∷ []) (fused_view b (count_of cb) ob ∷ [])
+  linear_rests k kd d first l v took gave begins law vi vo ti gi passes il (busy po on none xi yo) =
+      inr (inl (waited_rests k d first.stage.work (linear_waited w.book k kd d first l v took gave ca.wire.got cb.wire.sent begins law po on none (vi ∙ xi) (vo ∙ yo) ti gi) xi yo passes))
   linear_rests k kd d first l v took gave begins law vi vo ti gi passes il (free xi yo) =
       let i = idles ca ma sa xi in
       let o = is_unasked cb mb sb yo in

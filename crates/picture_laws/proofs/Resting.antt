@@ -49,6 +49,20 @@ idles_j (finished t c) s g b q m e = cc
 idles_j (parted t c) s g b q m e = cc
 idles_j (refused t c) s g b q m e = cc
 
+-- and all that was sent has come
+all_idle_j : (j : Joint) (s g : List Item) → Histories j s g → Queues j false → (wire_of j s g).inp ≡ Idle → s ≡ g
+all_idle_j idle s g h q e = h
+all_idle_j asking s g h q e = cc
+all_idle_j asked s g h q e = cc
+all_idle_j (moving x) s g h q e = cc
+all_idle_j (ending c) s g h q e = cc
+all_idle_j (closing t c) s g h q e = cc
+all_idle_j (leaving true t) s g h q e = cc
+all_idle_j (leaving false t) s g h q e = cc
+all_idle_j (finished t c) s g h q e = cc
+all_idle_j (parted t c) s g h q e = cc
+all_idle_j (refused t c) s g h q e = cc
+
 -- its output was asked, or was not
 asked_j : (j : Joint) (s g : List Item) (b : Bool) → Queues j false → IsMarked (cell (wire_of j s g) b) → (wire_of j s g).out ≡ Asked → Stands (wire_of j s g) b true
 asked_j idle s g b q m e = cc
@@ -125,6 +139,9 @@ module _ (c : Cell) (m : IsMarked c) where
 
   pub is_unasked : IsSound c.wire false → c.wire.out ≡ Unasked → Stands c.wire c.asked false
   is_unasked h e = back false h false (unasked_j h.joint c.wire.sent c.wire.got c.asked h.queues (at_joint false h) (sym (ap (λ (v : Wire). v.out) h.is) ∙ e))
+
+pub all_idle : (w : Wire) → IsSound w false → w.inp ≡ Idle → w.sent ≡ w.got
+all_idle w h e = all_idle_j h.joint w.sent w.got h.histories h.queues (sym (ap (λ (v : Wire). v.inp) h.is) ∙ e)
 
 pub in_shut : (w : Wire) (q : Bool) → IsSound w q → InClosed w.inp → not (is_open w.conn) ≡ true
 in_shut w q h e = subst (λ (v : Wire). not (is_open v.conn) ≡ true) (sym h.is) (in_closed_j h.joint w.sent w.got (subst (λ (v : Wire). InClosed v.inp) h.is e))

@@ -124,24 +124,26 @@ pub record Waited (book : Book) (k : ℕ) (d : Decider) (wk : Work) (took gave :
   pub gave_is : gave ≡ told out_list out_end
   pub runs : run (linear book wk) (begin_work k d wk) in_list ≡ record { gave = out_list; state = going state }
 
+pub waited_of : (book : Book) (k : ℕ) (d : Decider) (wk : Work) (s : Stage) (t g : List Item) → Law (linear book wk) (begin_work k d wk) (owing (record { gave = []; state = going s })) Waiting Asked t g → Waited book k d wk t g
+waited_of book k d wk s t g at = record {
+  in_list = at.in_list;
+  in_end = at.in_end;
+  out_list = at.out_list;
+  out_end = at.out_end;
+  state = s;
+  took_is = at.took_is;
+  gave_is = at.gave_is;
+  runs = waiting_run (linear book wk) (begin_work k d wk) (going s) t g at;
+}
+
 pub linear_waited : (book : Book) (k : ℕ) (kd : Kind) (d : Decider) (first l : Logic) (v : View) (took gave : List (List Item)) (t g : List Item) → Begins k kd d first → LinearLaw first l v took gave
     → l.phase ≡ Open → l.over ≡ false → l.pending ≡ [] → in_at v 0 ≡ Waiting → out_at v 0 ≡ Asked → took ≡ t ∷ [] → gave ≡ g ∷ [] → Waited book k d first.stage.work t g
 linear_waited book k kd d first l v took gave t g begins law going_on on none waits_in asked_out took_at gave_at =
-    let at : Law (linear book first.stage.work) (begin_work k d first.stage.work) (owing (record { gave = []; state = going l.stage })) Waiting Asked t g =
-    law_at (linear book first.stage.work) law.start _ (held l) _ (in_at v 0) _ (out_at v 0) _ law.took_list t law.gave_list g
+    waited_of book k d first.stage.work l.stage t g
+    (law_at (linear book first.stage.work) law.start _ (held l) _ (in_at v 0) _ (out_at v 0) _ law.took_list t law.gave_list g
     (same_start _ _ (sym law.owes ∙ begins.owes))
     (ap (λ (p : Phase). held_in p l.over l.pending l.stage) going_on ∙ ap (λ (t : Bool). held_in Open t l.pending l.stage) on ∙ ap (λ (h : List Tree). held_in Open false h l.stage) none)
     waits_in asked_out
     (one_same _ _ (sym law.took_is ∙ took_at))
     (one_same _ _ (sym law.gave_is ∙ gave_at))
-    (law.law book) in
-    record {
-      in_list = at.in_list;
-      in_end = at.in_end;
-      out_list = at.out_list;
-      out_end = at.out_end;
-      state = l.stage;
-      took_is = at.took_is;
-      gave_is = at.gave_is;
-      runs = waiting_run (linear book first.stage.work) (begin_work k d first.stage.work) (going l.stage) t g at;
-    }
+    (law.law book))

@@ -1,9 +1,10 @@
 -- Histories as lists: how many elements they have, and what a first part of one is.
-use Rattle.std.proofs.Common.{◌≡◌, suc, List, [], ◌∷◌, ◌++◌, length, refl, ap}
+use Rattle.std.proofs.Common.{◌≡◌, suc, ◌≤◌, arith, List, [], ◌∷◌, ◌++◌, length, refl, ap}
 use Rattle.elem_core.specs.Prefix.{IsPrefix}
 use Rattle.elem_core.proofs.Prefixes.{prefix_refl, prefix_nil}
 use Rattle.elem_core.specs.Tree.{Tree}
 use Rattle.elem_core.specs.declared.item.Item.{Item}
+use Rattle.elem_core.specs.declared.item.Item.TheVariants as item
 use Rattle.stream_model.specs.Outlook.{Outlook, End, unended, ended, failed, Agrees}
 use Rattle.stage_law.specs.Held.{told}
 use Rattle.wire_core.specs.Counts.{elements}
@@ -15,6 +16,16 @@ count_told [] unended = refl
 count_told [] ended = refl
 count_told [] (failed c) = refl
 count_told (t ∷ l) e = ap suc (count_told l e)
+
+-- a first part of a history has no more elements
+elements_part : (g r : List Item) → elements g ≤ elements (g ++ r)
+elements_part [] r = omega arith
+elements_part (item.Elem t ∷ g) r = let h = elements_part g r in omega (arith, h)
+elements_part (item.Ended ∷ g) r = elements_part g r
+elements_part (item.Failed c ∷ g) r = elements_part g r
+
+pub elements_prefix : (g s : List Item) → IsPrefix g s → elements g ≤ elements s
+elements_prefix g s p = rw p.is (elements_part g p.rest)
 
 -- a list is told in one way
 pub told_one : (l k : List Tree) (e f : End) → told l e ≡ told k f → l ≡ k

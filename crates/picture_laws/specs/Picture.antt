@@ -13,7 +13,7 @@ use Rattle.wire_core.specs.Cell.{Cell}
 use Rattle.wire_core.specs.Counts.{elements}
 use Rattle.fused_net.specs.Net.{Net, wire_at}
 use Rattle.nodes.specs.declared.node.Node.{Node}
-use Rattle.nodes.specs.declared.node.Node.TheVariants.{Reading, Linear, Writing}
+use Rattle.nodes.specs.declared.node.Node.TheVariants.{Reading, Linear, State, Writing}
 
 -- how a wire stands: the elements that were pushed, whether its input waits for one, and whether either end has closed it
 abbrev pub count_of : Cell → WireCount
@@ -45,6 +45,7 @@ has_ended WriteFault = true
 abbrev pub sink_ended : {S D : Type 0} → Node S D → Bool
 sink_ended (Reading x) = false
 sink_ended (Linear x) = false
+sink_ended (State x) = false
 sink_ended (Writing x) = has_ended x.end
 
 -- the same of node k

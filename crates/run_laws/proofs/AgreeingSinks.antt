@@ -19,11 +19,12 @@ use Rattle.stream_model.proofs.Compositions.{slice_get-below}
 use Rattle.stream_io.specs.State.{SourceState, DrainState}
 use Rattle.stage_law.specs.Held.{told}
 use Rattle.stage_linear.specs.States.{IsLinear}
+use Rattle.stage_state.specs.States.{IsStateful}
 use Rattle.fused_net.specs.Net.{Net, end_at, read_all, got_of, wire_at, ports_at, view_of, took, gave}
 use Rattle.fused_net.specs.Laws.{Settled}
 use Rattle.fused_net.proofs.Reading.{get_there}
 use Rattle.nodes.specs.declared.node.Node.{Node}
-use Rattle.nodes.specs.declared.node.Node.TheVariants.{Reading, Linear, Writing}
+use Rattle.nodes.specs.declared.node.Node.TheVariants.{Reading, Linear, State, Writing}
 use Rattle.nodes.specs.Nodes.{node_row, node_law}
 use Rattle.nodes.specs.Ports.{OneInOf}
 use Rattle.nodes.specs.Sink.{Sink, sink_row, sink_row_in, SinkLaw}
@@ -50,8 +51,8 @@ sink_cases : {S D : Type 0} (sources : S → SourceState) (drains : D → DrainS
 sink_cases sources drains k n name (Writing first) (Writing now) v took gave is made law = (first, (now, (refl, refl)))
 sink_cases sources drains k n name (Reading first) now v took gave is made law = let e : kind.Lines made.name ≡ kind.ToLines name = sym made.kind_is ∙ is in absurd cc
 sink_cases sources drains k n name (Linear first) now v took gave is made law = let e : IsLinear (kind.ToLines name) = subst IsLinear is made.is_linear in absurd e
-sink_cases sources drains k n name (Writing first) (Reading now) v took gave is made law = absurd law
-sink_cases sources drains k n name (Writing first) (Linear now) v took gave is made law = absurd law
+sink_cases sources drains k n name (State first) now v took gave is made law = let e : IsStateful (kind.ToLines name) = subst IsStateful is made.is_state in absurd e
+sink_cases sources drains k n name (Writing first) now v took gave is made law = absurd law
 
 module _ {S D : Type 0} (sources : S → SourceState) (drains : D → DrainState) (g : Graph) (net : Net (Node S D))
     (settled : Settled node_row (node_law sources drains) net) (made : Materializes sources g net.firsts net.ends) where

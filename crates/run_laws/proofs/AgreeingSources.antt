@@ -1,9 +1,10 @@
 -- The sources of lines of a net that was made of a blueprint: what each read.
 use Rattle.std.specs.Prelude.{slice_get}
-use Rattle.std.proofs.Common.{◌≡◌, ℕ, ◌<◌, ◌≤◌, List, length, Some, refl, sym, ap, subst, ◌∙◌}
+use Rattle.std.proofs.Common.{◌≡◌, ℕ, ◌<◌, List, length, Some, refl, sym, ap, subst, ◌∙◌}
 use Rattle.elem_core.specs.declared.item.Item.{Item}
 use Rattle.port_core.specs.View.{View}
 use Rattle.stage_linear.specs.States.{IsLinear}
+use Rattle.stage_state.specs.States.{IsStateful}
 use Rattle.stream_model.specs.declared.kind.Kind.TheVariants as kind
 use Rattle.stream_model.specs.Graph.{Graph, Wire}
 use Rattle.stream_model.specs.Graph as graph
@@ -13,7 +14,7 @@ use Rattle.fused_net.specs.Net.{Net, end_at, sent_of, wire_at, ports_at, view_of
 use Rattle.fused_net.specs.Laws.{Settled}
 use Rattle.fused_net.proofs.Reading.{get_there}
 use Rattle.nodes.specs.declared.node.Node.{Node}
-use Rattle.nodes.specs.declared.node.Node.TheVariants.{Reading, Linear, Writing}
+use Rattle.nodes.specs.declared.node.Node.TheVariants.{Reading, Linear, State, Writing}
 use Rattle.nodes.specs.Nodes.{node_row, node_law}
 use Rattle.nodes.specs.Source.{Lines, LinesLaw}
 use Rattle.run_laws.specs.Made.{FirstReading, FirstOf, Materializes}
@@ -27,8 +28,8 @@ source_cases : {S D : Type 0} (sources : S → SourceState) (drains : D → Drai
 source_cases sources drains k n name (Reading first) (Reading now) v took gave is made law = (first, (now, (refl, refl)))
 source_cases sources drains k n name (Writing first) now v took gave is made law = let e : kind.ToLines made.name ≡ kind.Lines name = sym made.kind_is ∙ is in absurd cc
 source_cases sources drains k n name (Linear first) now v took gave is made law = let e : IsLinear (kind.Lines name) = subst IsLinear is made.is_linear in absurd e
-source_cases sources drains k n name (Reading first) (Writing now) v took gave is made law = absurd law
-source_cases sources drains k n name (Reading first) (Linear now) v took gave is made law = absurd law
+source_cases sources drains k n name (State first) now v took gave is made law = let e : IsStateful (kind.Lines name) = subst IsStateful is made.is_state in absurd e
+source_cases sources drains k n name (Reading first) now v took gave is made law = absurd law
 
 module _ {S D : Type 0} (sources : S → SourceState) (drains : D → DrainState) (g : Graph) (net : Net (Node S D))
     (settled : Settled node_row (node_law sources drains) net) (made : Materializes sources g net.firsts net.ends) where

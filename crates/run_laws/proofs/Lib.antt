@@ -2,6 +2,7 @@ pub mod Histories
 pub mod Inputs
 pub mod Readings
 pub mod Stages
+pub mod States
 pub mod Writings
 pub mod AnyKind
 pub mod AgreeingWires

@@ -1,6 +1,6 @@
 -- What a source of lines read ahead of the lines that it gave.
 use Rattle.std.specs.Prelude.{IsSome, map, slice_get}
-use Rattle.std.proofs.Common.{◌≡◌, ℕ, ◌+◌, ◌≤◌, inl, inr, List, [], ◌∷◌, ◌++◌, length, drop, Some, refl, ap, subst, ◌∙◌, arith, length-append, length-drop}
+use Rattle.std.proofs.Common.{◌≡◌, ℕ, ◌+◌, ◌≤◌, inl, inr, List, [], ◌∷◌, length, Some, refl, ap, subst, ◌∙◌, arith}
 use Rattle.elem_core.specs.Text.{lines}
 use Rattle.elem_core.specs.Tree.{text}
 use Rattle.elem_core.specs.declared.item.Item.{Item}
@@ -9,7 +9,7 @@ use Rattle.stream_model.specs.Outlook.{End, unended, ended, failed}
 use Rattle.stream_io.specs.State.{SourceState}
 use Rattle.stream_io.specs.Reading.{rest}
 use Rattle.stage_law.specs.Held.{told}
-use Rattle.nodes.specs.Drawing.{ended_lines, Stood, Drew}
+use Rattle.nodes.specs.Drawing.{ended_lines, Drew}
 use Rattle.nodes.specs.Source.{Lines, left, by_fault, by_line, EndsAs, LinesLaw}
 use Rattle.run_laws.specs.Reads.{ReadsAhead, SentLines}
 use Rattle.run_laws.proofs.Readings.{one_port}

@@ -50,12 +50,12 @@ linear_outlook g w k (MapConcat x) d os p h = refl
 linear_outlook g w k _ d os p h = absurd h
 
 -- one history took, by one outlook
-one_input : (os : List Outlook) (h : List Item) → AllAgree os (h ∷ []) → (o : Outlook) × ((os ≡ o ∷ []) × TookAgrees o h)
+pub one_input : (os : List Outlook) (h : List Item) → AllAgree os (h ∷ []) → (o : Outlook) × ((os ≡ o ∷ []) × TookAgrees o h)
 one_input [] h a = absurd a
 one_input (o ∷ []) h a = (o, (refl, a.0))
 one_input (o ∷ x ∷ os) h a = absurd a.1
 
-begins_so : (a b : Run Stage Tree) → owing a ≡ owing b → a ≡ b
+pub begins_so : (a b : Run Stage Tree) → owing a ≡ owing b → a ≡ b
 begins_so a b h = cc
 
 module _ (g : Graph) (w : World) (k : ℕ) (n : graph.Node) (first now : Logic) (v : View) (took gave : List (List Item)) (made : FirstLinear k n first) (law : LinearLaw first now v took gave) where

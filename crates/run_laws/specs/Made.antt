@@ -7,10 +7,11 @@ use Rattle.stream_model.specs.Graph.{Graph, Wire}
 use Rattle.stream_model.specs.Graph as graph
 use Rattle.stream_io.specs.State.{SourceState}
 use Rattle.stage_linear.specs.States.{Logic, IsLinear, Begins}
+use Rattle.stage_state.specs.States as state
 use Rattle.fused_net.specs.declared.net.Ends.{Ends}
 use Rattle.fused_net.specs.Net.{end_at}
 use Rattle.nodes.specs.declared.node.Node.{Node}
-use Rattle.nodes.specs.declared.node.Node.TheVariants.{Reading, Linear, Writing}
+use Rattle.nodes.specs.declared.node.Node.TheVariants.{Reading, Linear, State, Writing}
 use Rattle.nodes.specs.Source.{Lines}
 use Rattle.nodes.specs.Sink.{Sink}
 
@@ -27,6 +28,11 @@ pub record FirstLinear (k : ℕ) (n : graph.Node) (x : Logic) : Type 0 where
   pub is_linear : IsLinear n.kind
   pub begins : Begins k n.kind n.decider x
 
+-- a stage with state at its start
+pub record FirstState (k : ℕ) (n : graph.Node) (x : state.Logic) : Type 0 where
+  pub is_state : state.IsStateful n.kind
+  pub begins : state.Begins k n.kind n.decider x
+
 -- a sink of lines that wrote nothing
 pub record FirstWriting {D : Type 0} (k : ℕ) (shape : Kind) (x : Sink D) : Type 0 where
   pub name : List ℕ
@@ -39,6 +45,7 @@ pub record FirstWriting {D : Type 0} (k : ℕ) (shape : Kind) (x : Sink D) : Typ
 abbrev pub FirstOf : {S D : Type 0} → (S → SourceState) → ℕ → graph.Node → Node S D → Type 0
 FirstOf sources k n (Reading x) = FirstReading sources k n.kind x
 FirstOf sources k n (Linear x) = FirstLinear k n x
+FirstOf sources k n (State x) = FirstState k n x
 FirstOf sources k n (Writing x) = FirstWriting k n.kind x
 
 -- a wire between the same ports, which is no lane

@@ -84,9 +84,9 @@ module _ (t : Tree) (node n : ℕ) (d : Decider) (old w : Work) where
       turn_by book (record { gave = []; state = broken (record { stage = node; nth = n + 1; why = why }) }) (item.Failed (record { stage = node; nth = n + 1; why = why }) ∷ []) shut (r.0 book node n) (refl, refl) tt
 
   pushed_at : (o : Outcome) → Reacted d old t w o → Turned (brings 0 (item.Elem t)) (logic old) (answer_acts (logic w) (n + 1) o) (answered (logic w) (n + 1) o)
-  pushed_at (Gives u) r = record { turn = λ book. step_by book (Gives u) r; same = r.1.0; started = λ e. cc }
-  pushed_at Asks r = record { turn = λ book. step_by book Asks r; same = r.1.0; started = λ e. cc }
-  pushed_at (Fails why) r = record { turn = λ book. step_by book (Fails why) r; same = r.1.0; started = λ e. cc }
+  pushed_at (Gives u) r = record { turn = λ book. step_by book (Gives u) r; same = r.1.0; size = refl; stands = tt; started = λ e. cc }
+  pushed_at Asks r = record { turn = λ book. step_by book Asks r; same = r.1.0; size = refl; stands = (tt, tt); started = λ e. cc }
+  pushed_at (Fails why) r = record { turn = λ book. step_by book (Fails why) r; same = r.1.0; size = refl; stands = tt; started = λ e. cc }
 
 abbrev of_parts : Phase → Stage → List Tree → Bool → Ending → Option ℕ → Logic
 of_parts p s k a e n = record { phase = p; stage = s; pending = k; asked = a; ending = e; size = n }

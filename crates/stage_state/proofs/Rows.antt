@@ -119,7 +119,7 @@ module _ (n : ℕ) (s : Stage) (took gave : List Item) where
   BufferLaw p e k t x y = Law (buffer n) (begin_buffer s) (held_in p e k t) x y took gave
 
   -- what it took is what it gave and what it holds
-  counts : (k : List Tree) (st : State Stage) (x : InView) (y : OutView) → (law : Law (buffer n) (begin_buffer s) (owing (record { gave = k; state = st })) x y took gave) → law.in_end ≡ unended → length law.in_list ≡ length law.out_list + length k
+  pub counts : (k : List Tree) (st : State Stage) (x : InView) (y : OutView) → (law : Law (buffer n) (begin_buffer s) (owing (record { gave = k; state = st })) x y took gave) → law.in_end ≡ unended → length law.in_list ≡ length law.out_list + length k
   counts k st x y law u =
       let now : run (buffer n) (begin_buffer s) law.in_list ≡ record { gave = law.out_list ++ k; state = st } = ap (λ (e : End). ends_by (buffer n) (run (buffer n) (begin_buffer s) law.in_list) e) (sym u) ∙ law.keeps.1.0 in
       let all : law.in_list ≡ law.out_list ++ k = ap (λ (z : Run Stage Tree). z.gave) (sym (buffer_run n s law.in_list) ∙ now) in

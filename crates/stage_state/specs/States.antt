@@ -8,6 +8,7 @@ use Rattle.port_core.specs.declared.view.InView.TheVariants.{Idle, Waiting, Over
 use Rattle.port_core.specs.declared.view.OutView.{OutView}
 use Rattle.port_core.specs.declared.view.OutView.TheVariants.{Unasked, Asked}
 use Rattle.port_core.specs.View.{View, OneOne}
+use Rattle.port_core.specs.Asking.{AsksStand}
 use Rattle.port_core.specs.Call.{Call, given_on}
 use Rattle.stream_model.specs.declared.kind.Kind.{Kind}
 use Rattle.stream_model.specs.declared.kind.Kind.TheVariants.{Grouped, Fold, Reduce, Scan, Buffer}
@@ -104,10 +105,13 @@ row l v = OneOne (row_by l.size l.phase l.ending l.asked l.pending l.stage.work)
 
 -- ---- what a call owes
 
--- one step of its machine, which stays the same; and it was started
+-- one step of its machine, which stays the same, as its size does; no action cancels an input that an earlier one asked; and
+-- it was started
 pub record Turned (call : Call) (old : Logic) (acts : List Act) (new : Logic) : Type 0 where
   pub turn : (book : Book) → TurnAt (machine book old) 0 call (held old) (given_on 0 acts) (held new)
   pub same : (book : Book) → machine book new ≡ machine book old
+  pub size : new.size ≡ old.size
+  pub stands : AsksStand acts
   pub started : new.phase ≢ New
 
 -- ---- a new stage

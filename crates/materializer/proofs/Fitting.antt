@@ -12,11 +12,15 @@ use Rattle.stream_model.specs.declared.kind.Kind.{Kind}
 use Rattle.stream_model.specs.declared.kind.Kind.TheVariants.{Merge, Concat, Interleave, MergeSorted, Zip, Broadcast, Balance, Partition, Unzip}
 use Rattle.stream_picture.specs.View.{outputs_of}
 use Rattle.blue_core.specs.declared.blueprint.Blueprint.{Blueprint}
+use Rattle.blue_core.specs.declared.blueprint.ChainDecl.{ChainDecl}
 use Rattle.blue_core.specs.declared.blueprint.Node.{Node}
+use Rattle.blue_core.specs.declared.blueprint.WireDecl.{WireDecl}
 use Rattle.blue_rules.specs.First.{first_from, when}
 use Rattle.blue_rules.specs.Ports.{port_missing, port_twice, port_open}
-use Rattle.blue_rules.specs.Sizes.{sizes_fit, node_wrong}
-use Rattle.blue_check.specs.Fitness.{IsFit}
+use Rattle.blue_rules.specs.Sizes.{sizes_fit, chain_wrong, node_wrong, wire_wrong, size_wrong}
+use Rattle.blue_rules.specs.declared.spot.Spot.TheVariants as at
+use Rattle.blue_check.specs.Fitness.{open_fault, names_fault, ports_fault, plugs_fault, sizes_fault, types_fault, IsFit}
+use Rattle.blue_check.specs.declared.fault.CheckFault.TheVariants as fault
 use Rattle.blue_check.specs.Wires.{blueprint_wires}
 use Rattle.plug_core.specs.declared.head.PlugHead.{PlugHead}
 use Rattle.materializer.specs.Built.{is_built, leads_into, is_unbuilt, unbuilt_in}
@@ -45,20 +49,31 @@ pub record Facts (b : Blueprint) : Type 0 where
   pub open_ : port_open b.nodes.items (blueprint_wires b) ≡ None
   pub sizes : node_wrong b.nodes.items ≡ None
 
+-- where the first of several says nothing, none of them does
+all_none : {X : Type 0} (o p q : Option X) → option_or o (option_or p q) ≡ None → (o ≡ None) × ((p ≡ None) × (q ≡ None))
+all_none o p q h = let two = both_none o (option_or p q) h in (two.0, both_none p q two.1)
+
+ports_none : (nodes : List Node) (ws : List Wire) → ports_fault nodes ws ≡ None → (port_missing nodes ws ≡ None) × ((port_twice ws ≡ None) × (port_open nodes ws ≡ None))
+ports_none nodes ws h =
+    let each = all_none (option_map fault.NoSuchPort (port_missing nodes ws)) (option_map fault.PortTwice (port_twice ws)) (option_map (open_fault nodes) (port_open nodes ws)) h in
+    (map_none fault.NoSuchPort _ each.0, (map_none fault.PortTwice _ each.1.0, map_none (open_fault nodes) _ each.1.1))
+
+sizes_none : (chains : List ChainDecl) (nodes : List Node) (wires : List WireDecl) → sizes_fault chains nodes wires ≡ None → node_wrong nodes ≡ None
+sizes_none chains nodes wires h =
+    let each = all_none (option_map at.Chain (chain_wrong chains)) (option_map at.Node (node_wrong nodes)) (option_map at.Wire (wire_wrong wires)) (map_none fault.BadSize (size_wrong chains nodes wires) h) in
+    map_none at.Node _ each.1.0
+
 pub facts : (b : Blueprint) (plugs : List PlugHead) (taken : List (List ℕ)) → IsFit b plugs taken → Facts b
 facts b plugs taken fit =
-    let behind_names = (both_none _ _ fit.early).1 in
-    let ports = both_none _ _ (both_none _ _ behind_names).0 in
-    let behind_missing = both_none _ _ ports.1 in
-    let behind_ports = (both_none _ _ behind_names).1 in
-    let behind_plugs = (both_none _ _ behind_ports).1 in
-    let wrong = both_none _ _ (map_none _ _ (both_none _ _ behind_plugs).0) in
-    record {
-      missing = map_none _ _ ports.0;
-      twice = map_none _ _ behind_missing.0;
-      open_ = map_none _ _ behind_missing.1;
-      sizes = map_none _ _ (both_none _ _ wrong.1).0;
-    }
+    let nodes = b.nodes.items in
+    let ws = blueprint_wires b in
+    let sizes = sizes_fault b.chains.items nodes b.wires.items in
+    let types = types_fault plugs b.chains.items nodes ws in
+    let rest = option_or sizes types in
+    let first = all_none (names_fault b.switches.items b.chains.items nodes b.wires.items taken) (ports_fault nodes ws) (option_or (plugs_fault plugs nodes) rest) fit.early in
+    let later = all_none (plugs_fault plugs nodes) sizes types first.1.1 in
+    let ports = ports_none nodes ws first.1.0 in
+    record { missing = ports.0; twice = ports.1.0; open_ = ports.1.1; sizes = sizes_none b.chains.items nodes b.wires.items later.1.0 }
 
 pub fit_joined : (b : Blueprint) (plugs : List PlugHead) (taken : List (List ℕ)) → IsFit b plugs taken → IsJoined (graph_of b)
 fit_joined b plugs taken fit =

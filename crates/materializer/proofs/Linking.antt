@@ -171,6 +171,7 @@ module _ {S D : Type 0} (nodes : List Node) (ws : List Wire) (cs : List Chain) (
     each_output = λ k p h lt. let n = node_at k h in a_source k p n.0 n.1 lt;
     each_input = λ k p h lt. let n = node_at k h in a_target k p n.0 n.1 lt;
   }
+
   pub are_parts : length ws < 2 ^ 32 → AreParts places (links_from 0 ws)
   are_parts few = record { unused = seats_unused 0 nodes ss ds places a; wiring = wiring; few = let e : length (links_from 0 ws) ≡ length ws = links_count 0 ws in omega (arith, e, few) }
     where

@@ -1,5 +1,5 @@
 -- The nodes that stand at the places of an island, and its wires, are those of the blueprint's graph.
-use Rattle.std.proofs.Common.{◌≡◌, ℕ, zero, suc, ◌+◌, ◌<◌, ◌≤◌, Bool, true, false, not, is_some, ◌==◌, ◌&&◌, ◌||◌, List, [], ◌∷◌, map, length, Option, Some, None, refl, ap, sym, ◌∙◌, subst, ⊎_elim, arith}
+use Rattle.std.proofs.Common.{◌≡◌, ℕ, zero, suc, ◌+◌, ◌<◌, ◌≤◌, ◌^◌, Bool, true, false, not, is_some, ◌==◌, ◌&&◌, ◌||◌, List, [], ◌∷◌, map, length, Option, Some, None, refl, ap, sym, ◌∙◌, subst, ⊎_elim, arith}
 use Rattle.std.specs.Prelude.{slice_get}
 use Rattle.std.specs.List.{list_any, All}
 use Rattle.std.proofs.lemmas.Bool.{or_parts, eq-eqb, cases_Bool}
@@ -16,21 +16,24 @@ use Rattle.nodes.specs.declared.node.Node.{Node}
 use Rattle.interpreter.specs.declared.parts.Seated.{Seated}
 use Rattle.interpreter.specs.declared.parts.Work.{Work}
 use Rattle.interpreter.specs.declared.parts.Work.TheVariants as work
-use Rattle.interpreter.specs.Parts.{ends_of, BecomesOf, AllBecome}
+use Rattle.interpreter.specs.declared.parts.Link.{Link}
+use Rattle.interpreter.specs.Parts.{ends_of, BecomesOf, AllBecome, AreParts}
 use Rattle.interpreter.proofs.Islands.{same_count}
 use Rattle.run_laws.specs.Made.{FirstOf, IsFused, Materializes}
 use Rattle.blue_core.specs.declared.blueprint.Blueprint.{Blueprint}
 use Rattle.blue_core.specs.declared.blueprint.Node as blue
+use Rattle.blue_names.specs.declared.links.Link.{Link as WireLink}
+use Rattle.blue_names.specs.Links.{wire_of_link, wires_of_links}
 use Rattle.blue_rules.specs.First.{when}
 use Rattle.blue_check.specs.Wires.{blueprint_wires}
 use Rattle.materializer.specs.Built.{is_built, leads_into, is_unbuilt, unbuilt_in, CanRun}
 use Rattle.materializer.specs.Files.{input_of, output_of}
-use Rattle.materializer.specs.Graphs.{node_of, graph_of}
+use Rattle.materializer.specs.Graphs.{node_of, chain_of, graph_of}
 use Rattle.materializer.specs.Joined.{IsJoined}
 use Rattle.materializer.specs.Seats.{handle_of, handles_left, IsWork, AreSeats, links_from}
 use Rattle.materializer.proofs.Fitting.{fit_joined}
 use Rattle.materializer.proofs.Joining.{none_here, not_when, mapped_from}
-use Rattle.materializer.proofs.Linking.{ends_count, ends_at, wire_ends}
+use Rattle.materializer.proofs.Linking.{ends_count, ends_at, wire_ends, are_parts}
 use Rattle.materializer.proofs.Placing.{reads_lines, is_lines_sink, seats_count}
 
 -- ---- nodes
@@ -129,3 +132,15 @@ module _ {S D : Type 0} (sources : S → SourceState) (b : Blueprint) (ss : List
         subst (λ u. FirstOf sources k u x) m.1.1 (subst (λ i. FirstOf sources i (node_of m.0) x) z (seats_first sources 0 b.nodes.items ss ds places firsts k m.0 x a all (none_given given) m.1.0 is));
     each_wire = λ i v at. is_fused i v r e at;
   }
+
+-- ---- parts
+
+-- links of the blueprint's wires, and places of its nodes, are parts of an island
+pub parts_made : {S D : Type 0} (b : Blueprint) (ss : List S) (ds : List D) (places : List (Seated S D)) (wires : List WireLink) (links : List Link) → CanRun b → wires_of_links wires ≡ blueprint_wires b
+    → links ≡ links_from 0 (wires_of_links wires) → length wires < 2 ^ 32 → AreSeats 0 b.nodes.items ss ds places → AreParts places links
+parts_made {S = S} {D = D} b ss ds places wires links r e is few a =
+    let all : links ≡ links_from 0 (blueprint_wires b) = is ∙ ap (links_from 0) e in
+    let size : length (blueprint_wires b) ≡ length wires = sym (ap length e) ∙ length-map wires wire_of_link in
+    let few_wires : length (blueprint_wires b) < 2 ^ 32 = rw size few in
+    subst (λ l. AreParts {S = S} {D = D} places l) (sym all)
+    (are_parts b.nodes.items (blueprint_wires b) (map chain_of b.chains.items) ss ds places (fit_joined b r.plugs r.taken r.fit) a few_wires)

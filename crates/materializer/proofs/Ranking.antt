@@ -159,7 +159,10 @@ module _ (ws : List Wire) where
 
 -- so a graph of such wires is ranked
 pub ranked : (g : Graph) → HasNoClosedWalk g.wires → (rank : ℕ → ℕ) × IsRanked g rank
-ranked g none = (rank g.wires, record {
-  below = λ i h. rank_below g.wires none i _ (slice_get-get_or g.wires i (record { from = 0; output = 0; to = 0; input = 0; lane = None }) h);
-  rises = rank_rises g.wires none;
-})
+ranked g none = (
+  rank g.wires,
+  record {
+    below = λ i h. rank_below g.wires none i _ (slice_get-get_or g.wires i (record { from = 0; output = 0; to = 0; input = 0; lane = None }) h);
+    rises = rank_rises g.wires none;
+  },
+)

@@ -180,10 +180,12 @@ fn is_told(alloc: Global, row: &Row) -> Result<bool, NoMemory> {
     let inputs = joined(alloc, &input_names(alloc, &b)?)?;
     let outputs = joined(alloc, &output_names(alloc, &b)?)?;
     let sinks = joined(alloc, &sink_names(alloc, &b)?)?;
-    Ok(first_unbuilt(alloc, &b)? == row.unbuilt
-        && inputs.as_slice() == row.inputs.as_bytes()
-        && outputs.as_slice() == row.outputs.as_bytes()
-        && sinks.as_slice() == row.sinks.as_bytes())
+    Ok(
+        first_unbuilt(alloc, &b)? == row.unbuilt
+            && inputs.as_slice() == row.inputs.as_bytes()
+            && outputs.as_slice() == row.outputs.as_bytes()
+            && sinks.as_slice() == row.sinks.as_bytes(),
+    )
 }
 
 #[test]

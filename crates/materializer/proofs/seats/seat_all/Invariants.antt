@@ -17,4 +17,4 @@ invariant-loop-node g l =
     × (into_iter_len l.unread ≡ length (inputs_of_nodes (into_iter_items l.node-iterator)))
     × (into_iter_len l.unwritten ≡ length (outputs_of_nodes (into_iter_items l.node-iterator)))
     × ((xs : List _) → AreSeats (length l.places.items) (into_iter_items l.node-iterator) (into_iter_items l.unread) (into_iter_items l.unwritten) xs
-      → AreSeats 0 l.fn.nodes.items l.fn.sources.items l.fn.drains.items (l.places.items ++ xs))
+    → AreSeats 0 l.fn.nodes.items l.fn.sources.items l.fn.drains.items (l.places.items ++ xs))

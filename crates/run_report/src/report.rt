@@ -59,6 +59,21 @@ fn put_used<D: Drain>(console: &mut D, used: u64) -> Result<(), Failed>
     )
 }
 
+/// Puts the line of a text's first fault, of which these are the texts.
+fn put_refused_texts<'a, D: Drain>(
+    console: &mut D,
+    line: &'a [u8],
+    number: &'a [u8],
+) -> Result<(), Failed>
+    ensures ok { OnOk result (Puts (D.state console.old) (D.state console.new) (codes "refused line " ++ line.now ++ codes " fault " ++ number.now ++ codes "\n")) }
+    ensures err { OnErr result (PutsPart (D.state console.old) (D.state console.new) (codes "refused line " ++ line.now ++ codes " fault " ++ number.now ++ codes "\n")) }
+{
+    put_parts(
+        console,
+        &[b"refused line ", line, b" fault ", number, b"\n"],
+    )
+}
+
 /// Puts the line of a text's first fault.
 fn put_refused<D: Drain>(console: &mut D, fault: BlueFault) -> Result<(), Failed>
     ensures ok { OnOk result (Puts (D.state console.old) (D.state console.new) (codes "refused line " ++ decimal fault.line ++ codes " fault " ++ decimal (number_of_kind fault.kind) ++ codes "\n")) }
@@ -66,24 +81,15 @@ fn put_refused<D: Drain>(console: &mut D, fault: BlueFault) -> Result<(), Failed
 {
     let mut line = Buffer::new();
     let mut number = Buffer::new();
-    put_parts(
+    put_refused_texts(
         console,
-        &[
-            b"refused line ",
-            line.format(fault.line).as_bytes(),
-            b" fault ",
-            number.format(kind_number(fault.kind)).as_bytes(),
-            b"\n",
-        ],
+        line.format(fault.line).as_bytes(),
+        number.format(kind_number(fault.kind)).as_bytes(),
     )
 }
 
 /// Puts the line of a rule that is broken, of which this is the detail.
-fn put_unfit<D: Drain>(
-    console: &mut D,
-    fault: &CheckFault,
-    detail: &[u8],
-) -> Result<(), Failed>
+fn put_unfit<D: Drain>(console: &mut D, fault: &CheckFault, detail: &[u8]) -> Result<(), Failed>
     requires { detail.now ≡ detail_text fault.now }
     ensures ok { OnOk result (Puts (D.state console.old) (D.state console.new) (codes "unfit " ++ decimal (number_of_fault fault.now) ++ codes " " ++ detail_text fault.now ++ codes "\n")) }
     ensures err { OnErr result (PutsPart (D.state console.old) (D.state console.new) (codes "unfit " ++ decimal (number_of_fault fault.now) ++ codes " " ++ detail_text fault.now ++ codes "\n")) }

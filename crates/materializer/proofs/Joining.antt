@@ -1,6 +1,6 @@
 -- A graph of whose ports none is missing, used twice or open is joined.
-use Rattle.std.proofs.Common.{◌≡◌, ℕ, zero, suc, ◌+◌, ◌<◌, ◌≤◌, Bool, true, false, not, is_none, ◌==◌, ◌&&◌, ◌||◌, List, [], ◌∷◌, map, Option, Some, None, refl, ap, sym, ◌∙◌, subst, ⊎_elim, arith}
-use Rattle.std.specs.Prelude.{slice_get, nat_le}
+use Rattle.std.proofs.Common.{◌≡◌, ℕ, zero, suc, ◌+◌, ◌<◌, Bool, true, false, not, is_none, ◌==◌, ◌&&◌, ◌||◌, List, [], ◌∷◌, map, Option, Some, None, refl, ap, sym, ◌∙◌, subst, ⊎_elim, arith}
+use Rattle.std.specs.Prelude.{slice_get}
 use Rattle.std.specs.Option.{option_or, option_map}
 use Rattle.std.proofs.lemmas.Bool.{or_parts, eqb-true, eq-eqb, cases_Bool}
 use Rattle.std.proofs.lemmas.Bool.Decides.{nat_tests}
@@ -11,7 +11,7 @@ use Rattle.stream_model.specs.Composed.{inputs_of, count_from}
 use Rattle.stream_picture.specs.View.{outputs_of}
 use Rattle.blue_core.specs.declared.blueprint.Node.{Node}
 use Rattle.blue_rules.specs.First.{first_from, when}
-use Rattle.blue_rules.specs.Ports.{OpenPort, port_missing, port_twice, port_open, is_number, lacks_output, lacks_input, open_input, open_output}
+use Rattle.blue_rules.specs.Ports.{port_missing, port_twice, port_open, is_number, lacks_output, lacks_input, open_input, open_output}
 use Rattle.materializer.specs.Graphs.{node_of}
 use Rattle.materializer.specs.Joined.{IsJoined}
 

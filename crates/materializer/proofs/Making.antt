@@ -1,14 +1,13 @@
 -- The nodes that stand at the places of an island, and its wires, are those of the blueprint's graph.
-use Rattle.std.proofs.Common.{◌≡◌, ℕ, zero, suc, ◌+◌, ◌<◌, ◌≤◌, ◌^◌, Bool, true, false, not, is_some, ◌==◌, ◌&&◌, ◌||◌, List, [], ◌∷◌, map, length, Option, Some, None, refl, ap, sym, ◌∙◌, subst, ⊎_elim, arith}
+use Rattle.std.proofs.Common.{◌≡◌, ℕ, zero, suc, ◌+◌, ◌<◌, ◌^◌, Bool, true, false, not, is_some, ◌==◌, ◌&&◌, List, [], ◌∷◌, map, length, Option, Some, None, refl, ap, sym, ◌∙◌, subst, arith}
 use Rattle.std.specs.Prelude.{slice_get}
 use Rattle.std.specs.List.{list_any, All}
-use Rattle.std.proofs.lemmas.Bool.{or_parts, eq-eqb, cases_Bool}
+use Rattle.std.proofs.lemmas.Bool.{or_parts, eq-eqb}
 use Rattle.std.proofs.lemmas.List.{length-map}
 use Rattle.std.proofs.lemmas.Option.{slice_get_within, get_or_from_slice_get}
 use Rattle.stream_model.specs.declared.kind.Kind.{Kind}
 use Rattle.stream_model.specs.declared.kind.Kind.TheVariants as kind
-use Rattle.stream_model.specs.Graph.{Graph, Wire}
-use Rattle.stream_model.specs.Graph as graph
+use Rattle.stream_model.specs.Graph.{Wire}
 use Rattle.stream_io.specs.State.{SourceState}
 use Rattle.fused_net.specs.declared.net.Ends.{Ends}
 use Rattle.fused_net.specs.Net.{end_at}
@@ -27,7 +26,7 @@ use Rattle.blue_names.specs.Links.{wire_of_link, wires_of_links}
 use Rattle.blue_rules.specs.First.{when}
 use Rattle.blue_check.specs.Wires.{blueprint_wires}
 use Rattle.materializer.specs.Built.{is_built, leads_into, is_unbuilt, unbuilt_in, CanRun}
-use Rattle.materializer.specs.Files.{input_of, output_of}
+use Rattle.materializer.specs.Files.{input_of}
 use Rattle.materializer.specs.Graphs.{node_of, chain_of, graph_of}
 use Rattle.materializer.specs.Joined.{IsJoined}
 use Rattle.materializer.specs.Seats.{handle_of, handles_left, IsWork, AreSeats, links_from}

@@ -1,5 +1,5 @@
 -- The places of an island, by the nodes that got them.
-use Rattle.std.proofs.Common.{◌≡◌, ℕ, zero, suc, ◌+◌, ◌<◌, ◌≤◌, List, [], ◌∷◌, ◌++◌, length, Option, Some, None, refl, ap, sym, ◌∙◌, subst, arith}
+use Rattle.std.proofs.Common.{◌≡◌, ℕ, zero, suc, ◌+◌, List, [], ◌∷◌, length, Option, Some, refl, ap, sym, ◌∙◌, subst}
 use Rattle.std.specs.Prelude.{slice_get}
 use Rattle.stream_model.specs.declared.kind.Kind.{Kind}
 use Rattle.stream_model.specs.declared.kind.Kind.TheVariants.{Lines, Map, Filter, FilterNot, TakeWhile, DropWhile, Take, Drop, Limit, MapConcat, ToLines}
@@ -11,8 +11,8 @@ use Rattle.interpreter.specs.declared.parts.Work.{Work}
 use Rattle.interpreter.specs.declared.parts.Work.TheVariants as work
 use Rattle.interpreter.specs.Parts.{work_inputs, work_outputs, inputs_at, outputs_at, IsLinesSink, IsUnused, AllUnused}
 use Rattle.blue_core.specs.declared.blueprint.Node.{Node}
-use Rattle.materializer.specs.Files.{input_of, output_of}
-use Rattle.materializer.specs.Seats.{handle_of, handles_left, IsWork, AreSeats}
+use Rattle.materializer.specs.Files.{input_of}
+use Rattle.materializer.specs.Seats.{handle_of, IsWork, AreSeats}
 
 -- ---- kinds
 

@@ -1,5 +1,5 @@
 -- A blueprint as a graph by numbers.
-use Rattle.std.specs.Prelude.{List, map, unwrap_or}
+use Rattle.std.specs.Prelude.{map, unwrap_or}
 use Rattle.stream_model.specs.Graph.{Graph}
 use Rattle.stream_model.specs.Graph as graph
 use Rattle.stream_model.specs.Linear.{passing, work_of}

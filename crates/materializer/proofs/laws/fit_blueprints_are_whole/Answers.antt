@@ -1,4 +1,3 @@
-use Rattle.blue_check.specs.Wires.{blueprint_wires}
 use Rattle.materializer.specs.Graphs.{graph_of}
 use Rattle.materializer.proofs.Fitting.{fit_joined}
 use Rattle.materializer.proofs.Ranking.{ranked}

@@ -110,13 +110,11 @@ module _ (ins outs : ℕ → ℕ) (n : ℕ) (ends : List Ends) (c : IsChain ins 
 
 logic_ports : {S D : Type 0} (k : ℕ) (shape : Kind) (w : Work S D) → IsLogic k shape w → (work_inputs w ≡ 1) × (work_outputs w ≡ 1)
 logic_ports k shape (work.Linear l) h = (refl, refl)
-logic_ports k shape (work.Reading r) h = absurd h
-logic_ports k shape (work.Writing x y) h = absurd h
+logic_ports k shape w h = absurd h
 
 logic_unused : {S D : Type 0} (k : ℕ) (shape : Kind) (w : Work S D) → IsLogic k shape w → IsUnused w
 logic_unused k shape (work.Linear l) h = record { phase = h.phase; row = rw h.phase tt }
-logic_unused k shape (work.Reading r) h = absurd h
-logic_unused k shape (work.Writing x y) h = absurd h
+logic_unused k shape w h = absurd h
 
 module _ {S D : Type 0} (file : List ℕ) (d : D) (last : ℕ) where
   -- the stages and the sink behind them
@@ -253,8 +251,7 @@ kind_linear (Take n) = tt
 module _ {S D : Type 0} (sources : S → SourceState) (file : List ℕ) (d : D) (last : ℕ) where
   logic_first : (k : ℕ) (n : straight.Node) (m : ℕ) (w : Work S D) (x : Node S D) → IsLogic k (kind_of n.kind) w → BecomesOf m w x → FirstOf sources k (stage_of n) x
   logic_first k n m (work.Linear l) x is b = subst (λ y. FirstOf sources k (stage_of n) y) (sym b) (record { is_linear = kind_linear n.kind; begins = is })
-  logic_first k n m (work.Reading r) x is b = absurd is
-  logic_first k n m (work.Writing a c) x is b = absurd is
+  logic_first k n m w x is b = absurd is
 
   -- the first nodes of stages and the sink behind them
   stage_first : (k : ℕ) (n : straight.Node) (s : Seated S D) (x : Node S D) → IsStage k n s → BecomesOf s.node s.work x → FirstOf sources k (stage_of n) x

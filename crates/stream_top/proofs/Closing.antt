@@ -169,10 +169,7 @@ module _ {S D : Type 0} (sources : S → SourceState) (drains : D → DrainState
         (subst (λ (x : Lines S). TellsFile (sources x.reader.source) (sources b.reader.source) file) first_is
         (subst (λ (x : Lines S). TellsFile (sources r.source) (sources x.reader.source) file) now_is tells)))
     chain_tells (suc k) n (node.Reading a) (node.Reading b) gi fi ni = λ name shape. absurd (later_no_source stages output k n name gi shape)
-    chain_tells k n (node.Linear a) now gi fi ni = tt
-    chain_tells k n (node.Writing a) now gi fi ni = tt
-    chain_tells k n (node.Reading a) (node.Linear b) gi fi ni = tt
-    chain_tells k n (node.Reading a) (node.Writing b) gi fi ni = tt
+    chain_tells k n first now gi fi ni = tt
 
 -- ---- the laws of a run
 

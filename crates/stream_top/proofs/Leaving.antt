@@ -38,6 +38,7 @@ use Rattle.stream_top.proofs.Chains.{rest_of, seats_made}
 abbrev SameKind : {S D : Type 0} → Node S D → Node S D → Type 0
 SameKind (node.Reading a) (node.Reading b) = Unit {0}
 SameKind (node.Linear a) (node.Linear b) = Unit {0}
+SameKind (node.State a) (node.State b) = Unit {0}
 SameKind (node.Writing a) (node.Writing b) = Unit {0}
 SameKind _ _ = ⊥
 
@@ -49,13 +50,9 @@ Alike _ _ = ⊥
 law_kind : {S D : Type 0} (sources : S → SourceState) (drains : D → DrainState) (f x : Node S D) (v : View) (took gave : List (List Item)) → node_law sources drains f x v took gave → SameKind f x
 law_kind sources drains (node.Reading a) (node.Reading b) v took gave h = tt
 law_kind sources drains (node.Linear a) (node.Linear b) v took gave h = tt
+law_kind sources drains (node.State a) (node.State b) v took gave h = tt
 law_kind sources drains (node.Writing a) (node.Writing b) v took gave h = tt
-law_kind sources drains (node.Reading a) (node.Linear b) v took gave h = absurd h
-law_kind sources drains (node.Reading a) (node.Writing b) v took gave h = absurd h
-law_kind sources drains (node.Linear a) (node.Reading b) v took gave h = absurd h
-law_kind sources drains (node.Linear a) (node.Writing b) v took gave h = absurd h
-law_kind sources drains (node.Writing a) (node.Reading b) v took gave h = absurd h
-law_kind sources drains (node.Writing a) (node.Linear b) v took gave h = absurd h
+law_kind sources drains f x v took gave h = absurd h
 
 alike_by : {S D : Type 0} (firsts nodes : List (Node S D)) → length firsts ≡ length nodes → ((n : ℕ) (x f : Node S D) → slice_get nodes n ≡ Some x → slice_get firsts n ≡ Some f → SameKind f x) → Alike firsts nodes
 alike_by [] [] e h = tt
@@ -71,34 +68,21 @@ settled_alike sources drains net s =
 -- ---- the one sink, and the one source
 
 sink_kind : {S D : Type 0} (s : Sink D) (y x : Node S D) → y ≡ node.Writing s → SameKind y x → (now : Sink D) × (x ≡ node.Writing now)
-sink_kind s y (node.Writing x) e h = (x, refl)
-sink_kind s (node.Reading y) (node.Reading x) e h = absurd cc
-sink_kind s (node.Linear y) (node.Linear x) e h = absurd cc
-sink_kind s (node.Reading y) (node.Linear x) e h = absurd h
-sink_kind s (node.Linear y) (node.Reading x) e h = absurd h
-sink_kind s (node.Writing y) (node.Linear x) e h = absurd h
-sink_kind s (node.Writing y) (node.Reading x) e h = absurd h
+sink_kind s (node.Writing y) (node.Writing x) e h = (x, refl)
+sink_kind s (node.Writing y) x e h = absurd h
+sink_kind s y x e h = absurd cc
 
 source_kind : {S D : Type 0} (s : Lines S) (y x : Node S D) → y ≡ node.Reading s → SameKind y x → (now : Lines S) × (x ≡ node.Reading now)
-source_kind s y (node.Reading x) e h = (x, refl)
-source_kind s (node.Writing y) (node.Writing x) e h = absurd cc
-source_kind s (node.Linear y) (node.Linear x) e h = absurd cc
-source_kind s (node.Writing y) (node.Linear x) e h = absurd h
-source_kind s (node.Linear y) (node.Writing x) e h = absurd h
-source_kind s (node.Reading y) (node.Linear x) e h = absurd h
-source_kind s (node.Reading y) (node.Writing x) e h = absurd h
+source_kind s (node.Reading y) (node.Reading x) e h = (x, refl)
+source_kind s (node.Reading y) x e h = absurd h
+source_kind s y x e h = absurd cc
 
 -- the node of a stage stays one, which is neither
 linear_now : {S D : Type 0} (k m : ℕ) (n : straight.Node) (w : Work S D) (y x : Node S D) → IsLogic k (kind_of n.kind) w → BecomesOf m w y → SameKind y x → (l : Logic) × (x ≡ node.Linear l)
-linear_now k m n (work.Linear l) y (node.Linear x) a b h = (x, refl)
-linear_now k m n (work.Linear l) (node.Linear y) (node.Reading x) a b h = absurd h
-linear_now k m n (work.Linear l) (node.Linear y) (node.Writing x) a b h = absurd h
-linear_now k m n (work.Linear l) (node.Reading y) (node.Reading x) a b h = absurd cc
-linear_now k m n (work.Linear l) (node.Reading y) (node.Writing x) a b h = absurd h
-linear_now k m n (work.Linear l) (node.Writing y) (node.Reading x) a b h = absurd h
-linear_now k m n (work.Linear l) (node.Writing y) (node.Writing x) a b h = absurd cc
-linear_now k m n (work.Reading r) y x a b h = absurd a
-linear_now k m n (work.Writing c d) y x a b h = absurd a
+linear_now k m n (work.Linear l) (node.Linear y) (node.Linear x) a b h = (x, refl)
+linear_now k m n (work.Linear l) (node.Linear y) x a b h = absurd h
+linear_now k m n (work.Linear l) y x a b h = absurd cc
+linear_now k m n w y x a b h = absurd a
 
 -- these nodes end with that sink, and have no source
 record Found {S D : Type 0} (nodes : List (Node S D)) (place : ℕ) (sink : Sink D) : Type 0 where

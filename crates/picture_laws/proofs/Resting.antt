@@ -3,15 +3,12 @@ use Rattle.std.proofs.Common.{◌≡◌, Bool, true, false, not, List, refl, sym
 use Rattle.elem_core.specs.Prefix.{IsPrefix}
 use Rattle.elem_core.proofs.Prefixes.{prefix_refl}
 use Rattle.elem_core.specs.declared.item.Item.{Item}
-use Rattle.port_core.specs.Connection.{quiet, pulled, ready, pushed}
 use Rattle.port_core.specs.Decoding.{is_open}
 use Rattle.port_core.specs.Wire.{Wire}
 use Rattle.port_core.specs.Joint.{Joint, idle, asking, asked, moving, ending, closing, leaving, finished, parted, refused, wire_of, Histories, Queues, IsSound}
 use Rattle.port_core.specs.declared.view.InView.TheVariants.{Idle, Waiting}
 use Rattle.port_core.specs.declared.view.OutView.TheVariants.{Unasked, Asked}
 use Rattle.wire_core.specs.Cell.{Cell}
-use Rattle.wire_core.specs.Counts.{elements}
-use Rattle.wire_core.proofs.Counting.{elements_end}
 use Rattle.wire_core.specs.Marks.{IsMarked}
 use Rattle.wire_core.proofs.Marking.{cell}
 use Rattle.stage_law.specs.Row.{InClosed, OutClosed}
@@ -149,26 +146,3 @@ part_j (refused t c) s g h = record { rest = h.0; is = h.1 }
 
 pub got_part : (w : Wire) (q : Bool) → IsSound w q → IsPrefix w.got w.sent
 got_part w q h = part_j h.joint w.sent w.got h.histories
-
-no_mark : {b : Bool} → b ≡ false → b ≡ true → ⊥
-no_mark e f = cc
-
--- while its ask is not answered, all elements that were sent have come
-all_j : (j : Joint) (s g : List Item) (b : Bool) → Histories j s g → IsMarked (cell (wire_of j s g) b) → (wire_of j s g).inp ≡ Waiting → b ≡ true → elements s ≡ elements g
-all_j idle s g b h m e t = cc
-all_j asking s g b h m e t = ap elements h
-all_j asked s g b h m e t = ap elements h
-all_j (moving x) s g b h m e t = absurd (no_mark (m.unclosed refl) t)
-all_j (ending c) s g b h m e t = cc
-all_j (closing quiet c) s g b h m e t = absurd (no_mark (m.unclosed refl) t)
-all_j (closing pulled c) s g b h m e t = ap elements h ∙ elements_end g c
-all_j (closing ready c) s g b h m e t = ap elements h ∙ elements_end g c
-all_j (closing (pushed x) c) s g b h m e t = absurd (no_mark (m.unclosed refl) t)
-all_j (leaving true u) s g b h m e t = cc
-all_j (leaving false u) s g b h m e t = cc
-all_j (finished u c) s g b h m e t = cc
-all_j (parted u c) s g b h m e t = cc
-all_j (refused u c) s g b h m e t = cc
-
-pub all_came : (c : Cell) (q : Bool) → IsMarked c → IsSound c.wire q → c.wire.inp ≡ Waiting → c.asked ≡ true → elements c.wire.sent ≡ elements c.wire.got
-all_came c q m h e t = all_j h.joint c.wire.sent c.wire.got c.asked h.histories (at_joint c m q h) (sym (ap (λ (v : Wire). v.inp) h.is) ∙ e) t

@@ -1,11 +1,14 @@
 -- Each wire's last ask is kept while a node acts, and made anew where the node asks.
-use Rattle.std.proofs.Common.{◌≡◌, ◌⊎◌, inl, inr, ℕ, ◌<◌, ◌≤◌, Bool, true, false, None, Some, List, [], ◌∷◌, length, slice_get, refl, sym, ap, ◌∙◌, subst, get_or-set_same, get_or-set_other}
+use Rattle.std.proofs.Common.{◌≡◌, ◌≢◌, ◌⊎◌, inl, inr, ℕ, zero, suc, ◌+◌, ◌<◌, ◌≤◌, Bool, true, false, None, Some, List, [], ◌∷◌, length, slice_get, refl, sym, ap, ◌∙◌, subst, arith, length-append, get_or-set_same, get_or-set_other}
 use Rattle.std.proofs.lemmas.List.{length-set}
+use Rattle.elem_core.specs.Prefix.{IsPrefix}
+use Rattle.elem_core.proofs.Prefixes.{prefix_length, prefix_whole}
 use Rattle.elem_core.specs.declared.item.Item.{Item}
+use Rattle.elem_core.specs.declared.item.Item.TheVariants as item
 use Rattle.port_core.specs.Asking.{NoCancel, AsksStand}
 use Rattle.port_core.specs.Connection.{pulled}
 use Rattle.port_core.specs.Decoding.{can_pull}
-use Rattle.port_core.specs.Wire.{Wire, Delivery, again}
+use Rattle.port_core.specs.Wire.{Wire, Delivery, nothing, ask, refusal, brought, after_delivery, again}
 use Rattle.port_core.specs.Joint.{Joint, idle, asking, asked, moving, ending, closing, leaving, finished, parted, refused, wire_of, IsSound}
 use Rattle.port_core.specs.View.{View}
 use Rattle.port_core.specs.declared.act.Act.{Act}
@@ -16,9 +19,9 @@ use Rattle.wire_core.specs.Cell.{Cell, moved_by}
 use Rattle.wire_core.specs.Marks.{wants, IsMarked, wanted, Grown}
 use Rattle.wire_core.proofs.Marking.{pull_grown, push_grown, close_grown, cancel_grown, push_wanted, close_wanted, deliver_grown, deliver_wanted, grown_same, grown_trans}
 use Rattle.fused_net.specs.PortLists.{PortLists}
-use Rattle.fused_net.specs.Net.{Net, no_wire, end_at, wire_at, ports_at, wire_for, put, acted, acted_all, told_by, told, with_node, before}
-use Rattle.fused_net.specs.Laws.{AnyRow, AnyLaw, GoesOn, IsMinded, LastAsk, AllAsked, Busy}
-use Rattle.fused_net.proofs.Reading.{same_or_not, get_there}
+use Rattle.fused_net.specs.Net.{Net, no_wire, end_at, port_at, wire_at, ports_at, wire_for, target, put, acted, acted_all, told_by, told, with_node, before}
+use Rattle.fused_net.specs.Laws.{AnyRow, AnyLaw, Wired, GoesOn, NodeStays, IsMinded, LastAsk, AllAsked, Busy}
+use Rattle.fused_net.proofs.Reading.{same_or_not, get_there, get_set_other}
 use Rattle.fused_net.proofs.Ongoing.{goes_same, goes_trans, goes_put, goes_node}
 use Rattle.fused_net.proofs.Acting.{Fits, PortAt, fits, act_allowed, port_within, queued, acted_busy, acts_busy, acts_here}
 
@@ -108,6 +111,20 @@ still_kept (Complete j) acts i h = h
 still_kept (FailOut j d) acts i h = h
 still_kept (Cancel k) acts i h = h.1
 
+-- the one place of a list, and the places of none
+only_place : (u i w : ℕ) → slice_get (u ∷ []) i ≡ Some w → u ≡ w
+only_place u zero w e = cc
+only_place u (suc i) w e = cc
+
+no_place : (i w : ℕ) → slice_get [] i ≡ Some w → ⊥
+no_place i w e = cc
+
+-- an item that was brought makes the history of the input longer
+brought_longer : (x : Item) (more : Bool) (w : Wire) → length (after_delivery (brought x more) w).got ≡ length w.got + 1
+brought_longer (item.Elem e) more w = length-append w.got (item.Elem e ∷ [])
+brought_longer item.Ended more w = length-append w.got (item.Ended ∷ [])
+brought_longer (item.Failed c) more w = length-append w.got (item.Failed c ∷ [])
+
 -- ---- all wires
 
 module _ {N : Type 0} where
@@ -118,10 +135,50 @@ module _ {N : Type 0} where
     | inr other ↦ rw (get_or-set_other net.wires w u new no_wire other) (grown_same (wire_at net u))
   ]
 
+  -- what stays over two stretches stays over both
+  stays_trans : (a b c : Net N) (w : ℕ) → GoesOn a b → IsPrefix (wire_at a w).wire.got (wire_at b w).wire.got → IsPrefix (wire_at b w).wire.got (wire_at c w).wire.got → NodeStays a b w → NodeStays b c w → NodeStays a c w
+  stays_trans a b c w on p q f g k ins outs same =
+      let count : length (wire_at c w).wire.got ≡ length (wire_at a w).wire.got = ap (λ (l : List Item). length l) same in
+      let then : (wire_at a w).wire.got ≡ (wire_at b w).wire.got = prefix_whole p (omega (arith, count, prefix_length q)) in
+      let ports : ports_at b k ≡ ports_at a k = ap (λ (l : List PortLists). port_at l k) on.ports in
+      g k (ap (λ (x : PortLists). x.ins) ports ∙ ins) (ap (λ (x : PortLists). x.outs) ports ∙ outs) (same ∙ then) ∙ f k ins outs (sym then)
+
+  -- ---- an event
+
+  goes_told : (net : Net N) (w : ℕ) (d : Delivery) → GoesOn (before net w) (told net w d)
+  goes_told net w d = record { firsts = refl; ends = refl; ports = refl; nodes = refl; wires = length-set _ _ _ }
+
+  told_grown : (net : Net N) (w : ℕ) (d : Delivery) → w < length net.wires → (u : ℕ) → Grown (wire_at net u) (wire_at (told net w d) u)
+  told_grown net w d h = grown_put net w (told_by d (wire_at net w)) (again d) h (deliver_grown d (wire_at net w).wire (wire_at net w).asked)
+
+  told_wanted : (net : Net N) (w : ℕ) (d : Delivery) → w < length net.wires → (u : ℕ) → wanted (wire_at (told net w d) u) ≡ wanted (wire_at net u)
+  told_wanted net w d h u = elim (same_or_not u w) [
+    | inl e ↦ rw e (ap (λ (c : Cell). wanted c) (get_or-set_same net.wires w (told_by d (wire_at net w)) no_wire h) ∙ deliver_wanted d (wire_at net w).wire (wire_at net w).asked)
+    | inr ne ↦ ap (λ (c : Cell). wanted c) (get_or-set_other net.wires w u (told_by d (wire_at net w)) no_wire ne)
+  ]
+
+  -- an item that was brought is in the history of the input
+  came_there : (d : Delivery) (net : Net N) (w u k : ℕ) → d ≢ nothing → Wired net.ends net.ports (length net.nodes) (length net.wires) → w < length net.wires → k ≡ target d (end_at net.ends w)
+      → (ports_at net k).ins ≡ u ∷ [] → (ports_at net k).outs ≡ [] → (wire_at (told net w d) u).wire.got ≡ (wire_at net u).wire.got → ⊥
+  came_there nothing net w u k ne wired h to ins outs same = ne refl
+  came_there ask net w u k ne wired h to ins outs same = no_place (end_at net.ends w).output w (rw (← to, outs) at (wired.from_output w h))
+  came_there refusal net w u k ne wired h to ins outs same = no_place (end_at net.ends w).output w (rw (← to, outs) at (wired.from_output w h))
+  came_there (brought x more) net w u k ne wired h to ins outs same =
+      let here : u ≡ w = only_place u (end_at net.ends w).input w (rw (← to, ins) at (wired.to_input w h)) in
+      let now : (wire_at (told net w (brought x more)) w).wire.got ≡ (wire_at net w).wire.got = rw here at same in
+      let told_here : wire_at (told net w (brought x more)) w ≡ told_by (brought x more) (wire_at net w) = get_or-set_same net.wires w (told_by (brought x more) (wire_at net w)) no_wire h in
+      let longer : length (told_by (brought x more) (wire_at net w)).wire.got ≡ length (wire_at net w).wire.got = ap (λ (l : List Item). length l) (rw told_here at now) in
+      let more_got = brought_longer x more (wire_at net w).wire in
+      omega (arith, longer, more_got)
+
+  -- another node stands in the place of node n
+  node_elsewhere : (net : Net N) (n k : ℕ) (y : N) → (k ≡ n → ⊥) → slice_get (with_node net n y).nodes k ≡ slice_get net.nodes k
+  node_elsewhere net n k y ne = get_set_other net.nodes n k y ne
+
 module _ {N : Type 0} (row : N → View → Type 0) (law : N → N → View → List (List Item) → List (List Item) → Type 0) where
   -- the last ask stays the last one where the graph goes on and the wire is not asked again
-  pub later : (net new : Net N) (w : ℕ) → GoesOn net new → ((u : ℕ) → Grown (wire_at net u) (wire_at new u)) → wanted (wire_at new w) ≡ wanted (wire_at net w) → LastAsk row law net w → LastAsk row law new w
-  later net new w on grown same a = record {
+  pub later : (net new : Net N) (w : ℕ) → w < length net.wires → GoesOn net new → ((u : ℕ) → Grown (wire_at net u) (wire_at new u)) → NodeStays net new w → wanted (wire_at new w) ≡ wanted (wire_at net w) → LastAsk row law net w → LastAsk row law new w
+  later net new w h on grown stays same a = record {
     old = a.old;
     on = goes_trans a.old net new a.on on;
     grown = λ u h. grown_trans (wire_at a.old u) (wire_at net u) (wire_at new u) (a.grown u h) (grown u);
@@ -130,6 +187,7 @@ module _ {N : Type 0} (row : N → View → Type 0) (law : N → N → View → 
     waits = a.waits;
     asked = a.asked;
     same = same ∙ a.same;
+    stays = stays_trans a.old net new w a.on (a.grown w (rw a.on.wires at h)).got (grown w).got a.stays stays;
     minded = a.minded;
   }
 
@@ -157,14 +215,14 @@ module _ {N : Type 0} (row : N → View → Type 0) (law : N → N → View → 
             (λ i k e d. sym (busy.wired.input_to n i w busy.within e).1.1 ∙ (busy.wired.input_to n k w busy.within d).1.1)
             (LastAsk row law net w) (before w within) some' in
             elim r [
-              | inl l ↦ inl (later net (acted net n a) w on grown (ap (λ (c : Cell). wanted c) moved ∙ l.0) l.1)
+              | inl l ↦ inl (later net (acted net n a) w within on grown (λ k _ _ _. refl) (ap (λ (c : Cell). wanted c) moved ∙ l.0) l.1)
               | inr k ↦ inr (rw moved k)
             ]
         | inr other ↦
             let same : wire_at (acted net n a) w ≡ wire_at net w = get_or-set_other net.wires (wire_for a (ports_at net n)) w _ no_wire other in
             let some' : 1 ≤ wanted (wire_at net w) = rw same at some in
             elim (before w within some') [
-              | inl l ↦ inl (later net (acted net n a) w on grown (ap (λ (c : Cell). wanted c) same) l)
+              | inl l ↦ inl (later net (acted net n a) w within on grown (λ k _ _ _. refl) (ap (λ (c : Cell). wanted c) same) l)
               | inr k ↦ inr (rw same (record { port = k.port; at = k.at; waits = k.waits; step = k.step; kept = still_kept a acts k.port k.kept }))
             ]
       ]
@@ -189,6 +247,7 @@ module _ {N : Type 0} (row : N → View → Type 0) (law : N → N → View → 
           waits = k.waits;
           asked = mark ∙ ap wants k.step;
           same = refl;
+          stays = λ j _ _ _. refl;
           minded = rw to minded;
         }
   ]
@@ -202,12 +261,18 @@ module _ {N : Type 0} (row : N → View → Type 0) (law : N → N → View → 
   pub told_asked : (net : Net N) (w : ℕ) (d : Delivery) → w < length net.wires → AllAsked row law (before net w) → AllAsked row law (told net w d)
   told_asked net w d h all u hu some =
       let within : u < length net.wires = rw length-set at hu in
-      let grown : (x : ℕ) → Grown (wire_at net x) (wire_at (told net w d) x) = grown_put net w (told_by d (wire_at net w)) (again d) h (deliver_grown d (wire_at net w).wire (wire_at net w).asked) in
-      let same : wanted (wire_at (told net w d) u) ≡ wanted (wire_at net u) = elim (same_or_not u w) [
-        | inl e ↦ rw e (ap (λ (c : Cell). wanted c) (get_or-set_same net.wires w (told_by d (wire_at net w)) no_wire h) ∙ deliver_wanted d (wire_at net w).wire (wire_at net w).asked)
-        | inr ne ↦ ap (λ (c : Cell). wanted c) (get_or-set_other net.wires w u (told_by d (wire_at net w)) no_wire ne)
-      ] in
-      later (before net w) (told net w d) u (record { firsts = refl; ends = refl; ports = refl; nodes = refl; wires = length-set _ _ _ }) grown same (all u within (subst (λ (n : ℕ). 1 ≤ n) same some))
+      later (before net w) (told net w d) u within (goes_told net w d) (told_grown net w d h) (λ k _ _ _. refl) (told_wanted net w d h u) (all u within (subst (λ (n : ℕ). 1 ≤ n) (told_wanted net w d h u) some))
 
-  pub node_asked : (net : Net N) (n : ℕ) (y : N) → AllAsked row law net → AllAsked row law (with_node net n y)
-  node_asked net n y all w h some = later net (with_node net n y) w (goes_node net n y) (λ u. grown_same (wire_at net u)) refl (all w h some)
+  -- the event of wire w was delivered, and another node stands in the place of the one that heard it
+  pub event_asked : (net : Net N) (w n : ℕ) (d : Delivery) (y : N) → d ≢ nothing → n ≡ target d (end_at net.ends w) → Wired net.ends net.ports (length net.nodes) (length net.wires) → w < length net.wires
+      → AllAsked row law (before net w) → AllAsked row law (with_node (told net w d) n y)
+  event_asked net w n d y ne to wired h all u hu some =
+      let within : u < length net.wires = rw length-set at hu in
+      later (before net w) (with_node (told net w d) n y) u within (goes_trans (before net w) (told net w d) (with_node (told net w d) n y) (goes_told net w d) (goes_node (told net w d) n y)) (told_grown net w d h)
+      (λ k ins outs same. node_elsewhere net n k y (λ e. came_there d net w u k ne wired h (e ∙ to) ins outs same))
+      (told_wanted net w d h u) (all u within (subst (λ (m : ℕ). 1 ≤ m) (told_wanted net w d h u) some))
+
+  -- another node stands in the place of one that has not asked
+  pub node_asked : (net : Net N) (n : ℕ) (y : N) → ((u : ℕ) → u < length net.wires → (ports_at net n).ins ≡ u ∷ [] → 1 ≤ wanted (wire_at net u) → ⊥) → AllAsked row law net → AllAsked row law (with_node net n y)
+  node_asked net n y none all w h some = later net (with_node net n y) w h (goes_node net n y) (λ u. grown_same (wire_at net u))
+      (λ k ins outs same. node_elsewhere net n k y (λ e. none w h (rw e at ins) some)) refl (all w h some)

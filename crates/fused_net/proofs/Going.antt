@@ -1,5 +1,5 @@
 -- The graph goes on: its wiring stays, and each unit raises what its wires have cost.
-use Rattle.std.proofs.Common.{◌≡◌, inl, inr, ℕ, ◌+◌, ◌<◌, ◌≤◌, Bool, false, ◌||◌, None, Some, List, [], ◌∷◌, length, refl, ap, ◌∙◌, arith, get_or-set_same, get_or-set_other}
+use Rattle.std.proofs.Common.{◌≡◌, ◌≢◌, inl, inr, ℕ, ◌+◌, ◌<◌, ◌≤◌, Bool, false, ◌||◌, None, Some, List, [], ◌∷◌, length, refl, sym, ap, ◌∙◌, subst, arith, get_or-set_same, get_or-set_other}
 use Rattle.std.proofs.lemmas.List.{length-set}
 use Rattle.elem_core.specs.declared.item.Item.{Item}
 use Rattle.elem_core.specs.declared.item.Item.TheVariants as item
@@ -12,7 +12,8 @@ use Rattle.port_core.specs.declared.act.Act.TheVariants.{Pull, Push, Complete, F
 use Rattle.wire_core.specs.Cell.{Cell, moved_by}
 use Rattle.wire_core.specs.Counts.{spent, asks}
 use Rattle.wire_core.proofs.Counting.{pull_spent, push_spent, close_spent, cancel_spent, deliver_spent, pull_asks, push_asks, close_asks, cancel_asks}
-use Rattle.fused_net.specs.Net.{Net, no_wire, wire_at, ports_at, wire_for, acted, acted_all, event_told, with_node, before}
+use Rattle.fused_net.specs.declared.net.Ends.{Ends}
+use Rattle.fused_net.specs.Net.{Net, no_wire, end_at, target, told, wire_at, ports_at, wire_for, acted, acted_all, event_told, with_node, before}
 use Rattle.fused_net.specs.Laws.{AnyRow, AnyLaw, AllAsked, Settled, Busy, GoesOn, Responds}
 use Rattle.fused_net.specs.Costs.{total, all_asks, Uses}
 use Rattle.fused_net.proofs.Reading.{same_or_not, get_there}
@@ -20,7 +21,7 @@ use Rattle.fused_net.proofs.Sums.{sum_le, sum_up, sum_up_most, by_place}
 use Rattle.fused_net.proofs.Nets.{holds_put_same, holds_put_other}
 use Rattle.fused_net.proofs.Acting.{Fits, fits, act_allowed, port_within, acted_busy, busy_any, acts_settled}
 use Rattle.fused_net.proofs.Ongoing.{goes_trans, goes_put, goes_acts, goes_node}
-use Rattle.fused_net.proofs.Asking.{after_acts, told_asked, node_asked}
+use Rattle.fused_net.proofs.Asking.{after_acts, event_asked}
 use Rattle.fused_net.proofs.Delivering.{queued_here, queued_there, sound_here, nothing_settled}
 
 -- the numbers of one wire
@@ -110,9 +111,9 @@ module _ {N : Type 0} (row : N → View → Type 0) (law : N → N → View → 
   pub response_goes : (old new : Net N) (n : ℕ) → Responds row law old new n → GoesOn old new
   response_goes old new n r = rw r.is (goes_trans old (with_node old n r.node) _ (goes_node old n r.node) (goes_acts r.acts (with_node old n r.node) n))
 
-  pub response_settled : (old new : Net N) (n : ℕ) → Responds row law old new n → AllAsked row law old → Settled row law new
+  pub response_settled : (old new : Net N) (n : ℕ) → (r : Responds row law old new n) → AllAsked row law (with_node old n r.node) → Settled row law new
   response_settled old new n r asked =
-      let later : AllAsked row law (acted_all (with_node old n r.node) n r.acts) = after_acts row law (with_node old n r.node) n r.acts (busy_any row law _ n r.acts r.busy) r.busy.here (node_asked row law old n r.node asked) in
+      let later : AllAsked row law (acted_all (with_node old n r.node) n r.acts) = after_acts row law (with_node old n r.node) n r.acts (busy_any row law _ n r.acts r.busy) r.busy.here asked in
       rw r.is (acts_settled row law (with_node old n r.node) n r.acts r.busy later)
 
   response_uses : (old new : Net N) (n : ℕ) → Responds row law old new n → Uses old new 0
@@ -126,11 +127,14 @@ module _ {N : Type 0} (row : N → View → Type 0) (law : N → N → View → 
     pub on : GoesOn net new
     pub uses : Uses (before net w) new 1
 
-  pub handled : (net v new : Net N) (w n : ℕ) → Settled row law (before net w) → w < length net.wires → holds net.queue w ≡ false → v ≡ event_told net w → Responds row law v new n → Handled net new w
-  handled net v new w n s h absent is r =
+  pub handled : (net v new : Net N) (w n : ℕ) (d : Delivery) (ends : Ends) → Settled row law (before net w) → w < length net.wires → holds net.queue w ≡ false
+      → d ≡ delivery_of (wire_at net w).wire → d ≢ nothing → v ≡ event_told net w → ends ≡ end_at net.ends w → n ≡ target d ends → Responds row law v new n → Handled net new w
+  handled net v new w n d ends s h absent e ne is same at r =
       let event : Uses (before net w) v 1 = rw is (event_uses net w s h absent) in
       let on : GoesOn net v = rw is (goes_put net w _ _) in
-      let asked : AllAsked row law v = rw is (told_asked row law net w (delivery_of (wire_at net w).wire) h s.asked) in
+      let told_is : told net w d ≡ v = ap (λ (x : Delivery). told net w x) e ∙ sym is in
+      let asked : AllAsked row law (with_node v n r.node) =
+      subst (λ (a : Net N). AllAsked row law (with_node a n r.node)) told_is (event_asked row law net w n d r.node ne (at ∙ ap (λ (x : Ends). target d x) same) s.wired h s.asked) in
       let done = response_uses v new n r in
       record {
         laws = response_settled v new n r asked;

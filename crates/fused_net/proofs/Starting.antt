@@ -1,8 +1,9 @@
 -- A new graph, and the start of each node.
-use Rattle.std.proofs.Common.{◌≡◌, ◌≢◌, inl, inr, ℕ, zero, suc, ◌+◌, ◌<◌, ◌≤◌, Some, List, [], ◌∷◌, length, get_or, slice_get, replicate, refl, sym, ap, ◌∙◌, subst, arith}
+use Rattle.std.proofs.Common.{◌≡◌, ◌≢◌, inl, inr, ℕ, zero, suc, ◌+◌, ◌<◌, ◌≤◌, Bool, true, false, if◌then◌else◌, Some, List, [], ◌∷◌, length, get_or, slice_get, replicate, refl, sym, ap, ◌∙◌, subst, arith}
 use Rattle.std.proofs.lemmas.List.{length-set, get_or-replicate, length-replicate}
 use Rattle.elem_core.specs.declared.item.Item.{Item}
-use Rattle.port_core.specs.Joint.{idle}
+use Rattle.port_core.specs.Wire.{Wire}
+use Rattle.port_core.specs.Joint.{Joint, idle, asking, asked, moving, ending, closing, leaving, finished, parted, refused, wire_of, Histories, IsSound}
 use Rattle.port_core.specs.View.{View}
 use Rattle.port_core.specs.Call.{AllIdle, AllUnasked}
 use Rattle.port_core.specs.declared.act.Act.{Act}
@@ -11,15 +12,16 @@ use Rattle.port_core.specs.declared.view.OutView.TheVariants.{Unasked}
 use Rattle.stage_core.specs.Histories.{AllEmpty}
 use Rattle.stage_core.specs.Handling.{Starts}
 use Rattle.wire_core.specs.Cell.{Cell, new_cell}
-use Rattle.wire_core.proofs.Marking.{new_marked}
-use Rattle.wire_core.specs.Marks.{wanted}
-use Rattle.wire_core.specs.Counts.{asks}
+use Rattle.wire_core.proofs.Marking.{new_marked, cell}
+use Rattle.wire_core.specs.Marks.{IsMarked, wanted}
+use Rattle.wire_core.proofs.Counting.{elements_end}
+use Rattle.wire_core.specs.Counts.{elements, asks}
 use Rattle.fused_net.specs.PortLists.{PortLists}
 use Rattle.fused_net.specs.declared.net.Ends.{Ends}
-use Rattle.fused_net.specs.Net.{Net, no_wire, read_all, inp_of, out_of, got_of, sent_of, port_at, view_of, took, gave, acted_all, with_node}
+use Rattle.fused_net.specs.Net.{Net, no_wire, read_all, inp_of, out_of, got_of, sent_of, port_at, wire_at, view_of, took, gave, acted_all, with_node}
 use Rattle.fused_net.specs.Laws.{AnyRow, AnyLaw, FreshLaw, first_view, Wired, Minds, IsMinded, Settled, Busy, Starting}
 use Rattle.fused_net.specs.Costs.{sum_below}
-use Rattle.fused_net.proofs.Reading.{same_or_not, get_set_same, get_set_other}
+use Rattle.fused_net.proofs.Reading.{same_or_not, get_there, get_set_same, get_set_other}
 use Rattle.fused_net.proofs.Acting.{acts_busy, acts_here, acts_others}
 use Rattle.fused_net.proofs.Asking.{after_acts, node_asked}
 use Rattle.fused_net.proofs.Delivering.{cc_some, with_node_busy}
@@ -54,6 +56,24 @@ no_asks n (suc k) h =
     let here : get_or (replicate n new_cell) k no_wire ≡ new_cell = get_or-replicate n k new_cell no_wire (omega arith) in
     let none : asks (get_or (replicate n new_cell) k no_wire).wire ≡ 0 = rw here refl in
     omega (arith, no_asks n k (omega arith), none)
+
+-- an input that has not asked, and to which nothing came
+idle_j : (j : Joint) (s g : List Item) (b : Bool) → Histories j s g → IsMarked (cell (wire_of j s g) b) → (wire_of j s g).inp ≡ Idle → g ≡ [] → (if b then elements s + 1 else elements s) ≡ 0
+idle_j idle s g b h m e none = rw (m.unclosed refl, h, none) refl
+idle_j (ending c) s g b h m e none = rw (m.unclosed refl, h, elements_end g c, none) refl
+idle_j asking s g b h m e none = cc
+idle_j asked s g b h m e none = cc
+idle_j (moving x) s g b h m e none = cc
+idle_j (closing t c) s g b h m e none = cc
+idle_j (leaving true t) s g b h m e none = cc
+idle_j (leaving false t) s g b h m e none = cc
+idle_j (finished t c) s g b h m e none = cc
+idle_j (parted t c) s g b h m e none = cc
+idle_j (refused t c) s g b h m e none = cc
+
+none_wanted : (c : Cell) (q : Bool) → IsSound c.wire q → IsMarked c → c.wire.inp ≡ Idle → c.wire.got ≡ [] → wanted c ≡ 0
+none_wanted c q h m e none =
+    idle_j h.joint c.wire.sent c.wire.got c.asked h.histories (subst (λ (v : Wire). IsMarked (cell v c.asked)) h.is m) (sym (ap (λ (v : Wire). v.inp) h.is) ∙ e) none
 
 module _ {N : Type 0} (row : N → View → Type 0) (law : N → N → View → List (List Item) → List (List Item) → Type 0) (fresh : N → View → Type 0) where
   pub new_starting : (nodes firsts : List N) (ends : List Ends) (ports : List PortLists) (wires : List Cell) (queue : List ℕ) (n : ℕ) → queue ≡ [] → firsts ≡ nodes → Wired ends ports (length nodes) n → wires ≡ replicate n new_cell
@@ -99,7 +119,13 @@ module _ {N : Type 0} (row : N → View → Type 0) (law : N → N → View → 
         each_first = done.each_first;
         sound = done.sound;
         marked = done.marked;
-        asked = after_acts row law (with_node net n y) n acts b here (node_asked row law net n y s.asked);
+        asked = after_acts row law (with_node net n y) n acts b here (node_asked row law net n y (λ u hu ins some.
+            let first = get_there net.firsts n (rw s.each_first h) in
+            let a = s.above n (omega arith) h x first.0 xi first.1 in
+            let idles = subst (λ (ws : List ℕ). AllIdle (read_all inp_of net.wires ws)) ins a.1.1.0.0 in
+            let empty = subst (λ (ws : List ℕ). AllEmpty (read_all got_of net.wires ws)) ins a.1.1.1.0.0 in
+            let none : wanted (wire_at net u) ≡ 0 = none_wanted (wire_at net u) _ (s.sound u hu) (s.marked u hu) idles.0 empty.0 in
+            omega (arith, none, some)) s.asked);
         below = λ k lt hk. elim (same_or_not k n) [
           | inl e ↦ rw e (acts_here row law acts (with_node net n y) n b here)
           | inr ne ↦ let within : k < length net.nodes = rw count at hk in

@@ -1,5 +1,5 @@
 -- What a fused graph keeps: its wiring, a joint state of each wire, and of each node its row and its law over its histories.
-use Rattle.std.specs.Prelude.{◌≡◌, ◌≢◌, ℕ, ◌<◌, ◌≤◌, true, Some, List, [], length, replicate, slice_get, ⊤}
+use Rattle.std.specs.Prelude.{◌≡◌, ◌≢◌, ℕ, ◌<◌, ◌≤◌, true, Some, List, [], ◌∷◌, length, replicate, slice_get, ⊤}
 use Rattle.elem_core.specs.declared.item.Item.{Item}
 use Rattle.port_core.specs.Ring.{holds}
 use Rattle.port_core.specs.Joint.{IsSound}
@@ -14,7 +14,7 @@ use Rattle.stage_core.specs.Histories.{given_all, AllEmpty}
 use Rattle.stage_core.specs.Handling.{Handles}
 use Rattle.fused_net.specs.PortLists.{PortLists}
 use Rattle.fused_net.specs.declared.net.Ends.{Ends}
-use Rattle.fused_net.specs.Net.{Net, end_at, port_at, wire_at, view_of, took, gave, with_node}
+use Rattle.fused_net.specs.Net.{Net, end_at, port_at, ports_at, wire_at, view_of, took, gave, with_node}
 use Rattle.fused_net.specs.Net as net
 
 -- Nodes and wires name each other: each wire stands at the ports at its ends, and each port of a node has the wire that ends there.
@@ -51,6 +51,10 @@ pub record GoesOn {N : Type 0} (old new : Net N) : Type 0 where
   pub nodes : length new.nodes ≡ length old.nodes
   pub wires : length new.wires ≡ length old.wires
 
+-- a node whose one port is the input of wire w is as it was, where that wire brought it nothing since
+abbrev pub NodeStays : {N : Type 0} → Net N → Net N → ℕ → Type 0
+NodeStays old new w = (k : ℕ) → (ports_at old k).ins ≡ w ∷ [] → (ports_at old k).outs ≡ [] → (wire_at new w).wire.got ≡ (wire_at old w).wire.got → slice_get new.nodes k ≡ slice_get old.nodes k
+
 module _ {N : Type 0} (row : N → View → Type 0) (law : N → N → View → List (List Item) → List (List Item) → Type 0) where
   -- a node, by what it knows and by its histories, which has these actions still to do: they are allowed, and once they are
   -- done its row and its law hold
@@ -74,6 +78,7 @@ module _ {N : Type 0} (row : N → View → Type 0) (law : N → N → View → 
     pub waits : (wire_at old w).wire.inp ≡ Waiting
     pub asked : (wire_at old w).asked ≡ true
     pub same : wanted (wire_at net w) ≡ wanted (wire_at old w)
+    pub stays : NodeStays old net w
     pub minded : IsMinded old (end_at old.ends w).to []
 
   -- each wire whose input has asked has a last ask

@@ -103,12 +103,12 @@ waits_busy l x y (over xi yo) e = let no : InClosed Waiting = subst InClosed e x
 
 module _ {S D : Type 0} (sources : S → SourceState) (drains : D → DrainState) where
   -- a linear stage as it stood when it last asked at its input
-  pub record Moment (book : Book) (k : ℕ) (d : Decider) (wk : Work) (olda oldb : Cell) : Type 0 where
+  pub record LinearMoment (book : Book) (k : ℕ) (d : Decider) (wk : Work) (olda oldb : Cell) : Type 0 where
     pub waited : Waited book k d wk olda.wire.got oldb.wire.sent
     pub out : oldb.wire.out ≡ Asked
 
   moment_at : (book : Book) (net : Net (Node S D)) (k a b : ℕ) (n : graph.Node) (first l : Logic) → FirstLinear k n first → LinearRow l (view_of net k) → LinearLaw first l (view_of net k) (took net k) (gave net k)
-      → (ports_at net k).ins ≡ a ∷ [] → (ports_at net k).outs ≡ b ∷ [] → (wire_at net a).wire.inp ≡ Waiting → Moment book k n.decider first.stage.work (wire_at net a) (wire_at net b)
+      → (ports_at net k).ins ≡ a ∷ [] → (ports_at net k).outs ≡ b ∷ [] → (wire_at net a).wire.inp ≡ Waiting → LinearMoment book k n.decider first.stage.work (wire_at net a) (wire_at net b)
   moment_at book net k a b n first l f r law ia ob e =
       let r' : row_in l.phase l.over l.pending l.stage.work (wire_at net a).wire.inp (wire_at net b).wire.out = rw (ia, ob) at r.row in
       let s = waits_busy l (wire_at net a).wire.inp (wire_at net b).wire.out (linear_ports l.phase l.over l.pending l.stage.work (wire_at net a).wire.inp (wire_at net b).wire.out r.started r') e in
@@ -123,7 +123,7 @@ module _ {S D : Type 0} (sources : S → SourceState) (drains : D → DrainState
 
   -- by its kind, which stays the same
   moment_by : (book : Book) (net : Net (Node S D)) (k a b : ℕ) (n : graph.Node) (first : Logic) (x : Node S D) → FirstLinear k n first → node_row x (view_of net k) → node_law sources drains (Linear first) x (view_of net k) (took net k) (gave net k)
-      → (ports_at net k).ins ≡ a ∷ [] → (ports_at net k).outs ≡ b ∷ [] → (wire_at net a).wire.inp ≡ Waiting → Moment book k n.decider first.stage.work (wire_at net a) (wire_at net b)
+      → (ports_at net k).ins ≡ a ∷ [] → (ports_at net k).outs ≡ b ∷ [] → (wire_at net a).wire.inp ≡ Waiting → LinearMoment book k n.decider first.stage.work (wire_at net a) (wire_at net b)
   moment_by book net k a b n first (Linear l) f r law ia ob e = moment_at book net k a b n first l f r law ia ob e
   moment_by book net k a b n first x f r law ia ob e = absurd law
 

@@ -25,8 +25,9 @@ use Rattle.wire_core.specs.Cell.{Cell}
 use Rattle.wire_core.specs.Counts.{elements}
 use Rattle.wire_core.specs.Marks.{IsMarked, wanted, Grown}
 use Rattle.nodes.specs.Linear.{LinearLaw}
+use Rattle.run_laws.proofs.Counting.{all_came}
 use Rattle.picture_laws.specs.Picture.{Passes}
-use Rattle.picture_laws.proofs.Resting.{in_shut, got_part, all_came}
+use Rattle.picture_laws.proofs.Resting.{in_shut, got_part}
 use Rattle.picture_laws.proofs.Telling.{count_told, told_prefix, told_ended}
 use Rattle.picture_laws.proofs.Bounds.{sent_open, sent_ended, sent_shut}
 use Rattle.picture_laws.proofs.Stages.{law_at, same_start, one_same, Waited}

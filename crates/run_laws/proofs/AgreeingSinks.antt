@@ -1,6 +1,6 @@
 -- The sinks of lines of a net that was made of a blueprint, by their outlooks.
 use Rattle.std.specs.Prelude.{slice_get}
-use Rattle.std.proofs.Common.{◌≡◌, ℕ, zero, suc, ◌<◌, List, [], ◌∷◌, length, Some, refl, sym, ap, subst, ◌∙◌}
+use Rattle.std.proofs.Common.{◌≡◌, ℕ, zero, suc, ◌<◌, ◌≤◌, List, [], ◌∷◌, ◌++◌, length, Some, refl, sym, ap, subst, ◌∙◌, arith, length-append}
 use Rattle.elem_core.specs.Tree.{Tree}
 use Rattle.elem_core.specs.declared.item.Item.{Item}
 use Rattle.port_core.specs.Ring.{holds}
@@ -8,9 +8,10 @@ use Rattle.port_core.specs.View.{View}
 use Rattle.wire_core.specs.Cell.{Cell}
 use Rattle.wire_core.specs.Counts.{elements}
 use Rattle.stream_model.specs.declared.kind.Kind.TheVariants as kind
-use Rattle.stream_model.specs.declared.outcome.EndState.TheVariants.{Unended}
+use Rattle.stream_model.specs.declared.outcome.EndState.{EndState}
+use Rattle.stream_model.specs.declared.outcome.EndState.TheVariants.{Unended, WriteFault}
 use Rattle.stream_model.specs.Sources.{whole_lines}
-use Rattle.stream_model.specs.Outlook.{End, Agrees}
+use Rattle.stream_model.specs.Outlook.{End, unended, Agrees}
 use Rattle.stream_model.specs.Graph.{Graph, Wire}
 use Rattle.stream_model.specs.Graph as graph
 use Rattle.stream_model.specs.Node.{World, head_of}
@@ -20,19 +21,20 @@ use Rattle.stream_io.specs.State.{SourceState, DrainState}
 use Rattle.stage_law.specs.Held.{told}
 use Rattle.stage_linear.specs.States.{IsLinear}
 use Rattle.stage_state.specs.States.{IsStateful}
-use Rattle.fused_net.specs.Net.{Net, end_at, read_all, got_of, wire_at, ports_at, view_of, took, gave}
+use Rattle.fused_net.specs.Net.{Net, end_at, read_all, got_of, sent_of, wire_at, ports_at, view_of, took, gave}
 use Rattle.fused_net.specs.Laws.{Settled}
 use Rattle.fused_net.proofs.Reading.{get_there}
 use Rattle.nodes.specs.declared.node.Node.{Node}
 use Rattle.nodes.specs.declared.node.Node.TheVariants.{Reading, Linear, State, Writing}
 use Rattle.nodes.specs.Nodes.{node_row, node_law}
 use Rattle.nodes.specs.Ports.{OneInOf}
-use Rattle.nodes.specs.Sink.{Sink, sink_row, sink_row_in, SinkLaw}
+use Rattle.nodes.specs.Sink.{Sink, sink_row, sink_row_in, WrotePart, StandsAs, SinkLaw}
 use Rattle.nodes.proofs.SinkTexts.{has_lines}
 use Rattle.run_laws.specs.Made.{FirstWriting, FirstOf, Materializes}
 use Rattle.run_laws.specs.Telling.{Tells}
 use Rattle.run_laws.specs.Sinks.{TookList, SinkTells, SentTo, IsSinkAt}
 use Rattle.run_laws.proofs.Counting.{sent_by, rests_by}
+use Rattle.run_laws.proofs.Faults.{none_behind}
 use Rattle.run_laws.proofs.Inputs.{AllAgree}
 use Rattle.run_laws.proofs.Passing.{passing_agrees}
 use Rattle.run_laws.proofs.Sinks.{sink_took, sink_tells}
@@ -44,6 +46,11 @@ only_port f wires [] x p u one at = cc
 only_port f wires (y ∷ []) x zero u one at = let same : y ≡ u = cc in ap (λ (z : ℕ). z ∷ []) same
 only_port f wires (y ∷ []) x (suc p) u one at = cc
 only_port f wires (y ∷ z ∷ ws) x p u one at = cc
+
+-- a node that gave nothing has no output
+no_port : {X : Type 0} (f : Cell → X) (wires : List Cell) (ws : List ℕ) → read_all f wires ws ≡ [] → ws ≡ []
+no_port f wires [] none = refl
+no_port f wires (u ∷ ws) none = cc
 
 -- a node of a sink's kind is a sink
 sink_cases : {S D : Type 0} (sources : S → SourceState) (drains : D → DrainState) (k : ℕ) (n : graph.Node) (name : List ℕ) (first now : Node S D) (v : View) (took gave : List (List Item))
@@ -95,8 +102,13 @@ module _ {S D : Type 0} (sources : S → SourceState) (drains : D → DrainState
       let here : OneInOf (sink_row_in now.started now.end) ((wire_at net u).wire.inp ∷ []) (view_of net k).outs = rw ins.1 at row in
       let took_one : (wire_at net u).wire.got ∷ [] ≡ told law.elems law.in_end ∷ [] = rw ins.1 at law.took_is in
       let got : (wire_at net u).wire.got ≡ told law.elems law.in_end = cc in
-      let sound = settled.sound u ins.0 in (
-        sent_by (wire_at net u).wire (holds net.queue u) sound now.started (view_of net k).outs (drains first.drain) (drains now.drain) law.elems law.in_end now.count got now.end here law.stands,
+      let sound = settled.sound u ins.0 in
+      let none : now.end ≡ WriteFault → elements (wire_at net u).wire.sent ≤ elements (wire_at net u).wire.got = λ fault.
+      let part : (law.in_end ≡ unended) × WrotePart (drains first.drain) (drains now.drain) law.elems now.count = subst (λ (s : EndState). StandsAs s (drains first.drain) (drains now.drain) law.elems law.in_end now.count) fault law.stands in
+      let some : length law.elems ≡ length (part.1.before ++ part.1.last ∷ []) = ap length part.1.took_is in
+      none_behind sources drains net settled k u first now (within k n ni) ins.0 at ins.1 (no_port sent_of net.wires (ports_at net k).outs law.gave_is) fault law.elems
+      (rw part.0 at got) (omega (arith, some, length-append part.1.before (part.1.last ∷ []))) in (
+        sent_by (wire_at net u).wire (holds net.queue u) sound now.started (view_of net k).outs (drains first.drain) (drains now.drain) law.elems law.in_end now.count got now.end none here law.stands,
         λ rest goes. rests_by (wire_at net u).wire (holds net.queue u) sound now.started (view_of net k).outs (drains first.drain) (drains now.drain) law.elems law.in_end now.count got now.end goes (rw rest refl) here law.stands,
       )
 

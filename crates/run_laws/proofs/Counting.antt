@@ -1,5 +1,5 @@
 -- How many elements were sent to a sink of lines, by the lines that it wrote.
-use Rattle.std.proofs.Common.{◌≡◌, ℕ, suc, ◌+◌, ◌≤◌, Bool, true, false, List, [], ◌∷◌, ◌++◌, length, refl, sym, ap, ◌∙◌, arith, length-append}
+use Rattle.std.proofs.Common.{◌≡◌, ℕ, suc, ◌+◌, ◌≤◌, Bool, true, false, List, [], ◌∷◌, ◌++◌, length, refl, sym, ap, ◌∙◌, subst, arith, length-append}
 use Rattle.elem_core.specs.Tree.{Tree}
 use Rattle.elem_core.specs.declared.item.Item.{Item}
 use Rattle.elem_core.specs.declared.item.Item.TheVariants as item
@@ -8,9 +8,13 @@ use Rattle.port_core.specs.Connection.{Step, quiet, pulled, ready, pushed}
 use Rattle.port_core.specs.Wire.{Wire, end_of}
 use Rattle.port_core.specs.Joint.{Joint, idle, asking, asked, moving, ending, closing, leaving, finished, parted, refused, wire_of, Histories, Queues, under_way, IsSound}
 use Rattle.port_core.specs.declared.view.InView.{InView}
-use Rattle.port_core.specs.declared.view.InView.TheVariants.{Waiting, Over}
+use Rattle.port_core.specs.declared.view.InView.TheVariants.{Waiting, Over, Left}
 use Rattle.port_core.specs.declared.view.OutView.{OutView}
+use Rattle.wire_core.specs.Cell.{Cell}
 use Rattle.wire_core.specs.Counts.{elements}
+use Rattle.wire_core.specs.Marks.{IsMarked}
+use Rattle.wire_core.proofs.Counting.{elements_end}
+use Rattle.wire_core.proofs.Marking.{cell}
 use Rattle.stream_model.specs.Outlook.{End, unended, ended, failed}
 use Rattle.stream_model.specs.declared.outcome.EndState.{EndState}
 use Rattle.stream_model.specs.declared.outcome.EndState.TheVariants.{Ended, Failed, Unended, WriteFault}
@@ -92,6 +96,31 @@ resting_at (finished t c) s g h q e = cc
 resting_at (parted t c) s g h q e = cc
 resting_at (refused t c) s g h q e = cc
 
+no_mark : {b : Bool} → b ≡ false → b ≡ true → ⊥
+no_mark e f = cc
+
+-- while its ask is not answered, all elements that were sent have come
+all_j : (j : Joint) (s g : List Item) (b : Bool) → Histories j s g → IsMarked (cell (wire_of j s g) b) → (wire_of j s g).inp ≡ Waiting → b ≡ true → elements s ≡ elements g
+all_j idle s g b h m e t = cc
+all_j asking s g b h m e t = ap elements h
+all_j asked s g b h m e t = ap elements h
+all_j (moving x) s g b h m e t = absurd (no_mark (m.unclosed refl) t)
+all_j (ending c) s g b h m e t = cc
+all_j (closing quiet c) s g b h m e t = absurd (no_mark (m.unclosed refl) t)
+all_j (closing pulled c) s g b h m e t = ap elements h ∙ elements_end g c
+all_j (closing ready c) s g b h m e t = ap elements h ∙ elements_end g c
+all_j (closing (pushed x) c) s g b h m e t = absurd (no_mark (m.unclosed refl) t)
+all_j (leaving true u) s g b h m e t = cc
+all_j (leaving false u) s g b h m e t = cc
+all_j (finished u c) s g b h m e t = cc
+all_j (parted u c) s g b h m e t = cc
+all_j (refused u c) s g b h m e t = cc
+
+pub all_came : (c : Cell) (q : Bool) → IsMarked c → IsSound c.wire q → c.wire.inp ≡ Waiting → c.asked ≡ true → elements c.wire.sent ≡ elements c.wire.got
+all_came c q m h e t =
+    let marked : IsMarked (cell (wire_of h.joint c.wire.sent c.wire.got) c.asked) = subst (λ (v : Wire). IsMarked (cell v c.asked)) h.is m in
+    all_j h.joint c.wire.sent c.wire.got c.asked h.histories marked (sym (ap (λ (v : Wire). v.inp) h.is) ∙ e) t
+
 module _ (c : Wire) (q : Bool) (sound : IsSound c q) where
   inp_is : (i : InView) → c.inp ≡ i → (wire_of sound.joint c.sent c.got).inp ≡ i
   inp_is i e = sym (ap (λ (v : Wire). v.inp) sound.is) ∙ e
@@ -105,7 +134,7 @@ module _ (c : Wire) (q : Bool) (sound : IsSound c q) where
   resting_same : q ≡ false → c.inp ≡ Waiting → elements c.sent ≡ elements c.got
   resting_same none e = resting_at sound.joint c.sent c.got sound.histories (rw none at sound.queues) (inp_is Waiting e)
 
-  no_fewer : elements c.got ≤ elements c.sent
+  pub no_fewer : elements c.got ≤ elements c.sent
   no_fewer =
       let p = got_begins c q sound in
       let same : elements c.sent ≡ elements (c.got ++ p.rest) = ap elements p.is in
@@ -130,23 +159,30 @@ open_waits true Waiting (y ∷ outs) r = refl
 open_waits _ i [] r = absurd r
 open_waits _ i (y ∷ outs) r = absurd r
 
+pub fault_left : (b : Bool) (i : InView) (outs : List OutView) → OneInOf (sink_row_in b WriteFault) (i ∷ []) outs → i ≡ Left
+fault_left true Left [] r = refl
+fault_left true Left (y ∷ outs) r = refl
+fault_left _ i [] r = absurd r
+fault_left _ i (y ∷ outs) r = absurd r
+
 module _ (c : Wire) (q : Bool) (sound : IsSound c q) (b : Bool) (outs : List OutView) (old new : DrainState) (elems : List Tree) (e : End) (n : ℕ) (got : c.got ≡ told elems e) where
   got_count : elements c.got ≡ length elems
   got_count = ap elements got ∙ elements_told elems e
 
-  pub sent_by : (s : EndState) → OneInOf (sink_row_in b s) (c.inp ∷ []) outs → StandsAs s old new elems e n → SentTo s (elements c.sent) n
-  sent_by Ended r w = over_same c q sound (ended_over b c.inp outs r) ∙ got_count ∙ sym w.1.count
-  sent_by (Failed d) r w = over_same c q sound (failed_over b c.inp d outs r) ∙ got_count ∙ sym w.1.count
-  sent_by Unended r w =
+  pub sent_by : (s : EndState) → (s ≡ WriteFault → elements c.sent ≤ elements c.got) → OneInOf (sink_row_in b s) (c.inp ∷ []) outs → StandsAs s old new elems e n → SentTo s (elements c.sent) n
+  sent_by Ended none r w = over_same c q sound (ended_over b c.inp outs r) ∙ got_count ∙ sym w.1.count
+  sent_by (Failed d) none r w = over_same c q sound (failed_over b c.inp d outs r) ∙ got_count ∙ sym w.1.count
+  sent_by Unended none r w =
       let few : elements c.sent ≤ elements c.got + 1 = waiting_few c q sound (open_waits b c.inp outs r) in
       let least : elements c.got ≤ elements c.sent = no_fewer c q sound in
       let count : n ≡ length elems = w.1.count in
       (omega (arith, least, got_count, count), omega (arith, few, got_count, count))
-  sent_by WriteFault r w =
+  sent_by WriteFault none r w =
+      let most : elements c.sent ≤ elements c.got = none refl in
       let least : elements c.got ≤ elements c.sent = no_fewer c q sound in
       let count : n ≡ length w.1.before = w.1.count in
       let all : length elems ≡ length (w.1.before ++ w.1.last ∷ []) = ap length w.1.took_is in
-      omega (arith, least, got_count, count, all, length-append w.1.before (w.1.last ∷ []))
+      omega (arith, least, most, got_count, count, all, length-append w.1.before (w.1.last ∷ []))
 
   pub rests_by : (s : EndState) → s ≡ Unended → q ≡ false → OneInOf (sink_row_in b s) (c.inp ∷ []) outs → StandsAs s old new elems e n → elements c.sent ≡ n
   rests_by Unended is none r w = resting_same c q sound none (open_waits b c.inp outs r) ∙ got_count ∙ sym w.1.count

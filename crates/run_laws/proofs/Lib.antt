@@ -7,6 +7,7 @@ pub mod Writings
 pub mod AnyKind
 pub mod AgreeingWires
 pub mod Counting
+pub mod Faults
 pub mod Passing
 pub mod Sinks
 pub mod AgreeingSinks

@@ -40,12 +40,12 @@ SinkTells o Unended bytes = HoldsText o unended bytes
 SinkTells o WriteFault bytes = IsPrefix bytes (text_lines o.list)
 
 -- So many elements were sent to a sink that wrote `count` lines: as many where its input's end came, and one more at most
--- while it waits; one more at least where a write failed, since that element was not written whole.
+-- while it waits. Where a write failed it is one more: that element was not written whole, and none was asked for behind it.
 abbrev pub SentTo : EndState → ℕ → ℕ → Type 0
 SentTo Ended sent count = sent ≡ count
 SentTo (Failed c) sent count = sent ≡ count
 SentTo Unended sent count = (count ≤ sent) × (sent ≤ count + 1)
-SentTo WriteFault sent count = count + 1 ≤ sent
+SentTo WriteFault sent count = sent ≡ count + 1
 
 -- a sink of lines is node k, as it was handed in and now
 pub record IsSinkAt {S D : Type 0} (net : Net (Node S D)) (k : ℕ) (first now : Sink D) : Type 0 where

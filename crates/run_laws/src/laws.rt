@@ -45,8 +45,8 @@ pub fn every_sink_agrees<S: Source, D: Drain>()
 {}
 
 /// A sink has written as many whole lines as it counts, where its file was empty at first (`lines`). As many elements were
-/// sent on its wire where its input's end came, and one more at most while it waits (`sent`); none more where no event is
-/// left (`rest`).
+/// sent on its wire where its input's end came, one more at most while it waits, and exactly one more where a write failed
+/// (`sent`); none more where no event is left and it has not ended (`rest`).
 pub fn every_sink_counts_its_lines<S: Source, D: Drain>()
     ensures lines { (g : Graph) (net : Net (Node S D)) → Settled node_row (node_law S.state D.state) net → Materializes S.state g net.firsts net.ends
         → (k : ℕ) (n : graph.Node) (first now : Sink D) (written : List ℕ) → slice_get g.nodes k ≡ Some n → IsSinkAt net k first now

@@ -35,10 +35,19 @@ pub respond-requires-clause-few : goal.respond-requires-clause-few
 respond-requires-clause-few g c = few_told g.S.Stage.rests g.S.Stage.law _ _ _ c.requires.laws c.requires.within c.requires.absent c.deliver-event.ensures.after c.requires.few
 
 pub returns-clause-laws : goal.returns-clause-laws
-returns-clause-laws g c = (handled g.S.Stage.rests g.S.Stage.law _ _ _ _ _ c.requires.laws c.requires.within c.requires.absent c.deliver-event.ensures.after c.in_ok-respond.ensures.responds).laws
+returns-clause-laws g c =
+    let some : delivery_in c.deliver-event.result ≢ nothing = λ e. let t = (c.if-is_nothing.ensures).1 e in cc in
+    (handled g.S.Stage.rests g.S.Stage.law _ _ _ _ _ _ _ c.requires.laws c.requires.within c.requires.absent c.deliver-event.ensures.event some c.deliver-event.ensures.after
+    (the_ends _ _ _ _ c.self.view_is c.requires.laws.wired.each_wire c.requires.within c.index-ends.ensures) c.node_of-n.ensures c.in_ok-respond.ensures.responds).laws
 
 pub returns-clause-on : goal.returns-clause-on
-returns-clause-on g c = (handled g.S.Stage.rests g.S.Stage.law _ _ _ _ _ c.requires.laws c.requires.within c.requires.absent c.deliver-event.ensures.after c.in_ok-respond.ensures.responds).on
+returns-clause-on g c =
+    let some : delivery_in c.deliver-event.result ≢ nothing = λ e. let t = (c.if-is_nothing.ensures).1 e in cc in
+    (handled g.S.Stage.rests g.S.Stage.law _ _ _ _ _ _ _ c.requires.laws c.requires.within c.requires.absent c.deliver-event.ensures.event some c.deliver-event.ensures.after
+    (the_ends _ _ _ _ c.self.view_is c.requires.laws.wired.each_wire c.requires.within c.index-ends.ensures) c.node_of-n.ensures c.in_ok-respond.ensures.responds).on
 
 pub returns-clause-uses : goal.returns-clause-uses
-returns-clause-uses g c = (handled g.S.Stage.rests g.S.Stage.law _ _ _ _ _ c.requires.laws c.requires.within c.requires.absent c.deliver-event.ensures.after c.in_ok-respond.ensures.responds).uses
+returns-clause-uses g c =
+    let some : delivery_in c.deliver-event.result ≢ nothing = λ e. let t = (c.if-is_nothing.ensures).1 e in cc in
+    (handled g.S.Stage.rests g.S.Stage.law _ _ _ _ _ _ _ c.requires.laws c.requires.within c.requires.absent c.deliver-event.ensures.event some c.deliver-event.ensures.after
+    (the_ends _ _ _ _ c.self.view_is c.requires.laws.wired.each_wire c.requires.within c.index-ends.ensures) c.node_of-n.ensures c.in_ok-respond.ensures.responds).uses

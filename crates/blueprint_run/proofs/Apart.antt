@@ -158,7 +158,7 @@ module _ (b : Blueprint) (plugs : List PlugHead) (taken : List (List ℕ)) (fit 
   untaken : (more : List Claim) × (Within (map opens taken) more × FreshFrom more (claims_of_nodes nodes))
   untaken =
       let none : taken_twice b.switches.items b.chains.items nodes taken ≡ None =
-          map_none TwoNames (taken_twice b.switches.items b.chains.items nodes taken) (or_none _ _ (or_none _ _ fit.early)) in
+      map_none TwoNames (taken_twice b.switches.items b.chains.items nodes taken) (or_none _ _ (or_none _ _ fit.early)) in
       let all = fresh_from (map opens taken) (claims b.switches.items b.chains.items nodes) none in
       let behind = fresh_behind (map called b.switches.items) (map opens taken) _ all in
       let last = fresh_behind (map (λ (c : ChainDecl). called c.name) b.chains.items) behind.0 (claims_of_nodes nodes) behind.1.1 in

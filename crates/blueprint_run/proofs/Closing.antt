@@ -270,6 +270,21 @@ module _ {S D : Type 0} (sources : S → SourceState) (drains : D → DrainState
     faulted = λ k. is_positive (source_in sources (slice_get net.nodes k)).faults;
   }
 
+  -- the stand of a sink of lines, by its place among the stands
+  stand_of : (i : ℕ) (s : Stand) (n : blue.Node) (file : List ℕ) → slice_get st.end.sinks.items i ≡ Some s → slice_get nodes s.0 ≡ Some n → n.kind ≡ kind.ToLines file → (f : ASink s.0 file) × (s ≡ (s.0, f.now.count, f.now.end))
+  stand_of i s n file at here shape =
+      let among : slice_get (filter_map stand_in net.nodes) i ≡ Some s = subst (λ (x : List Stand). slice_get x i ≡ Some s) (l.stops.sinks ∙ sinks_filtered net.nodes) at in
+      let from = unfiltered_at stand_in net.nodes i s among in
+      let below : from.0 < length nodes = subst (λ m. from.0 < m) (sym (as_many sources drains handles b can ss ds budget st l old mid opens)) (place_within net.nodes from.0 from.1.0 from.1.1.0) in
+      let m = place_of nodes from.0 below in
+      let place : s.0 ≡ from.0 = no_stand from.0 (is_sink m.0) (stand_in from.1.0) s (profile from.0 m.0 from.1.0 m.1 from.1.1.0).stand from.1.1.1 in
+      let there : slice_get net.nodes s.0 ≡ Some from.1.0 = subst (λ j. slice_get net.nodes j ≡ Some from.1.0) (sym place) from.1.1.0 in
+      let f = sink_at s.0 file (record { node = n; at = here; kind_is = shape }) in
+      let is : from.1.0 ≡ node.Writing f.now = place_one net.nodes s.0 from.1.0 (node.Writing f.now) there f.there.at_last in
+      let told : stand_in {S = S} (node.Writing f.now) ≡ Some s = ap stand_in (sym is) ∙ from.1.1.1 in
+      let same : (f.now.node, f.now.count, f.now.end) ≡ s = some_one (f.now.node, f.now.count, f.now.end) s told in
+      (f, sym same ∙ ap (λ (j : ℕ). (j, f.now.count, f.now.end)) f.place)
+
   module _ (tells : IsTrue new.tells) where
     tells_mid : IsTrue mid.tells
     tells_mid = closes.files.told tells
@@ -339,21 +354,6 @@ module _ {S D : Type 0} (sources : S → SourceState) (drains : D → DrainState
         rests = λ rest unended u v at to. wire_count u ∙ laws.rest g net l.stops.settled net_made k (node_of n) f.first f.now u v at_graph f.there at to (l.stops.rests rest) unended;
       }
 
-    -- the stand of a sink of lines, by its place among the stands
-    stand_of : (i : ℕ) (s : Stand) (n : blue.Node) (file : List ℕ) → slice_get st.end.sinks.items i ≡ Some s → slice_get nodes s.0 ≡ Some n → n.kind ≡ kind.ToLines file → (f : ASink s.0 file) × (s ≡ (s.0, f.now.count, f.now.end))
-    stand_of i s n file at here shape =
-        let among : slice_get (filter_map stand_in net.nodes) i ≡ Some s = subst (λ (x : List Stand). slice_get x i ≡ Some s) (l.stops.sinks ∙ sinks_filtered net.nodes) at in
-        let from = unfiltered_at stand_in net.nodes i s among in
-        let below : from.0 < length nodes = subst (λ m. from.0 < m) (sym (as_many sources drains handles b can ss ds budget st l old mid opens)) (place_within net.nodes from.0 from.1.0 from.1.1.0) in
-        let m = place_of nodes from.0 below in
-        let place : s.0 ≡ from.0 = no_stand from.0 (is_sink m.0) (stand_in from.1.0) s (profile from.0 m.0 from.1.0 m.1 from.1.1.0).stand from.1.1.1 in
-        let there : slice_get net.nodes s.0 ≡ Some from.1.0 = subst (λ j. slice_get net.nodes j ≡ Some from.1.0) (sym place) from.1.1.0 in
-        let f = sink_at s.0 file (record { node = n; at = here; kind_is = shape }) in
-        let is : from.1.0 ≡ node.Writing f.now = place_one net.nodes s.0 from.1.0 (node.Writing f.now) there f.there.at_last in
-        let told : stand_in (node.Writing f.now) ≡ Some s = ap stand_in (sym is) ∙ from.1.1.1 in
-        let same : (f.now.node, f.now.count, f.now.end) ≡ s = some_one (f.now.node, f.now.count, f.now.end) s told in
-        (f, sym same ∙ ap (λ (j : ℕ). (j, f.now.count, f.now.end)) f.place)
-
     leaves_files : LeavesFiles old new b st.end.sinks.items st.wires.items st.at_rest
     leaves_files =
         let ranked = laws.ranked b can.plugs can.taken can.fit in
@@ -378,9 +378,9 @@ module _ {S D : Type 0} (sources : S → SourceState) (drains : D → DrainState
               let x = place_of net.nodes k below in
               let stand = stand_there k (is_sink m.0) (stand_in x.0) (profile k m.0 x.0 m.1.0 x.1).stand (sink_shape m.0.kind shape) in
               let by_place : has_ended_at (filter_map stand_in net.nodes) k ≡ has_ended stand.0.2 =
-                  ended_along 0 nodes net.nodes (as_many sources drains handles b can ss ds budget st l old mid opens) (λ i y z p q. subst (λ j. StandsAt j (is_sink y) (stand_in z)) (omega arith) (profile i y z p q).stand) k k x.0 stand.0 (omega arith) x.1 stand.1.0 in
+              ended_along 0 nodes net.nodes (as_many sources drains handles b can ss ds budget st l old mid opens) (λ i y z p q. subst (λ j. StandsAt j (is_sink y) (stand_in z)) (omega arith) (profile i y z p q).stand) k k x.0 stand.0 (omega arith) x.1 stand.1.0 in
               let ended : ended_at net.nodes k ≡ has_ended_at st.end.sinks.items k =
-                  ended_there net.nodes k x.0 stand.0 x.1 stand.1.0 ∙ sym by_place ∙ ap (λ (y : List Stand). has_ended_at y k) (sym (l.stops.sinks ∙ sinks_filtered net.nodes)) in
+              ended_there net.nodes k x.0 stand.0 x.1 stand.1.0 ∙ sym by_place ∙ ap (λ (y : List Stand). has_ended_at y k) (sym (l.stops.sinks ∙ sinks_filtered net.nodes)) in
               subst (λ (c : List WireCount). EachWire (λ i. i.shut ≡ has_ended_at st.end.sinks.items k) (ins g c (composed g w) k n.kind)) (sym wires_are)
               (subst (λ (e : Bool). EachWire (λ i. i.shut ≡ e) (ins g (counts_of net.wires) (composed g w) k n.kind)) ended
               (laws.match g w net (composed g w) l.stops.settled (l.stops.rests rest) net_made k n at is));
@@ -399,7 +399,7 @@ module _ {S D : Type 0} (sources : S → SourceState) (drains : D → DrainState
       let told = filtered_at stand_in net.nodes from.0 (node.Writing f.now) (f.now.node, f.now.count, f.now.end) f.there.at_last refl in
       let among : slice_get st.end.sinks.items told.0 ≡ Some (f.now.node, f.now.count, f.now.end) = subst (λ (z : List Stand). slice_get z told.0 ≡ Some (f.now.node, f.now.count, f.now.end)) (sym (l.stops.sinks ∙ sinks_filtered net.nodes)) told.1 in
       let grew : Grew (old.wfaults shape.0) 0 (new.wfaults shape.0) = calm_write f.now.end (old.wfaults shape.0) (new.wfaults shape.0) (none told.0 (f.now.node, f.now.count, f.now.end) among)
-          (stands_writes f.now.end (drains f.first.drain) (drains f.now.drain) f.law.elems f.law.in_end f.now.count (old.wfaults shape.0) (new.wfaults shape.0) f.law.stands f.start.faults (writes_grew sources drains handles b can ss ds budget st l old mid opens new closes from.0 shape.0 f)) in
+      (stands_writes f.now.end (drains f.first.drain) (drains f.now.drain) f.law.elems f.law.in_end f.now.count (old.wfaults shape.0) (new.wfaults shape.0) f.law.stands f.start.faults (writes_grew sources drains handles b can ss ds budget st l old mid opens new closes from.0 shape.0 f)) in
       subst (λ m. Grew (old.wfaults m) 0 (new.wfaults m)) named grew
 
   -- where no sink's write failed, no count of failed writes rose
@@ -429,7 +429,7 @@ module _ {S D : Type 0} (sources : S → SourceState) (drains : D → DrainState
         let shape = stand_kind sources drains handles b can ss ds budget st l old mid opens from.0 m.0 from.1.0 s m.1 from.1.1.0 from.1.1.1 in
         let f = sink_at from.0 shape.0 (record { node = m.0; at = m.1; kind_is = shape.1 }) in
         let is : from.1.0 ≡ node.Writing f.now = place_one net.nodes from.0 from.1.0 (node.Writing f.now) from.1.1.0 f.there.at_last in
-        let told : stand_in (node.Writing f.now) ≡ Some s = ap stand_in (sym is) ∙ from.1.1.1 in
+        let told : stand_in {S = S} (node.Writing f.now) ≡ Some s = ap stand_in (sym is) ∙ from.1.1.1 in
         let same : (f.now.node, f.now.count, f.now.end) ≡ s = some_one (f.now.node, f.now.count, f.now.end) s told in
         let failed : f.now.end ≡ WriteFault = ap (λ (t : Stand). t.2) same ∙ fault in
         let file = filtered_at (λ (n : blue.Node). output_of n.kind) nodes from.0 m.0 shape.0 m.1 (ap output_of shape.1) in

@@ -75,19 +75,19 @@ module _ {S D : Type 0} (sources : S → SourceState) (drains : D → DrainState
       → (k : ℕ) (n : graph.Node) (name : List ℕ) → slice_get g.nodes k ≡ Some n → n.kind ≡ kind.ToLines name → (first : Sink D) × ((now : Sink D) × IsSinkAt net k first now)
 
   pub record HandleLaws : Type 0 where
-    pub made : MadeLaw
-    pub sources : SourcesLaw
-    pub drains : DrainsLaw
+    pub made_law : MadeLaw
+    pub reads_law : SourcesLaw
+    pub writes_law : DrainsLaw
     pub source_there : SourceThere
     pub sink_there : SinkThere
 
-reading_same : {S D : Type 0} (a b : Lines S) (x : Node S D) → x ≡ node.Reading a → x ≡ node.Reading b → a ≡ b
+pub reading_same : {S D : Type 0} (a b : Lines S) (x : Node S D) → x ≡ node.Reading a → x ≡ node.Reading b → a ≡ b
 reading_same a b x e f = cc
 
-writing_same : {S D : Type 0} (a b : Sink D) (x : Node S D) → x ≡ node.Writing a → x ≡ node.Writing b → a ≡ b
+pub writing_same : {S D : Type 0} (a b : Sink D) (x : Node S D) → x ≡ node.Writing a → x ≡ node.Writing b → a ≡ b
 writing_same a b x e f = cc
 
-some_one : {A : Type 0} (x y : A) → Some x ≡ Some y → x ≡ y
+pub some_one : {A : Type 0} (x y : A) → Some x ≡ Some y → x ≡ y
 some_one x y e = cc
 
 -- ---- the handles of an island
@@ -103,7 +103,7 @@ module _ {S D : Type 0} (sources : S → SourceState) (drains : D → DrainState
   pub made : Materializes sources (graph_of b) net.firsts net.ends
   made =
       let started : All (λ i. i.given ≡ 0) (map sources ss) = λ k d h. (opens.sources k d h).given in
-      laws.made b ss ds l.places net.firsts net.ends can l.seats l.stops.firsts l.stops.ends (all_unmapped (λ i. i.given ≡ 0) sources ss started)
+      laws.made_law b ss ds l.places net.firsts net.ends can l.seats l.stops.firsts l.stops.ends (all_unmapped (λ i. i.given ≡ 0) sources ss started)
 
   -- a source, as it was handed in and now
   pub record SourceFacts (k : ℕ) (file : List ℕ) : Type 0 where
@@ -117,7 +117,7 @@ module _ {S D : Type 0} (sources : S → SourceState) (drains : D → DrainState
   pub source_facts : (k : ℕ) (file : List ℕ) → IsSource nodes k file → SourceFacts k file
   source_facts k file is =
       let there = laws.source_there (graph_of b) net l.stops.settled made k (node_of is.node) file (mapped_at node_of nodes k is.node is.at) is.kind_is in
-      let handed = laws.sources nodes ss ds l.places net.firsts l.seats l.stops.firsts k is.node file is.at is.kind_is in
+      let handed = laws.reads_law nodes ss ds l.places net.firsts l.seats l.stops.firsts k is.node file is.at is.kind_is in
       let last : slice_get net.nodes k ≡ Some (node.Reading there.1.0) = there.1.1.at_last in
       let state : slice_get (map sources ss) handed.place ≡ Some (sources handed.first.reader.source) = mapped_at sources ss handed.place handed.first.reader.source handed.source in
       let called : slice_get (source_names (map sources ss)) handed.place ≡ Some (sources handed.first.reader.source).name = mapped_at (λ (i : SourceState). i.name) (map sources ss) handed.place (sources handed.first.reader.source) state in
@@ -144,10 +144,10 @@ module _ {S D : Type 0} (sources : S → SourceState) (drains : D → DrainState
   pub sink_facts : (k : ℕ) (file : List ℕ) → IsLinesSink nodes k file → SinkFacts k file
   sink_facts k file is =
       let there = laws.sink_there (graph_of b) net l.stops.settled made k (node_of is.node) file (mapped_at node_of nodes k is.node is.at) is.kind_is in
-      let handed = laws.drains nodes ss ds l.places net.firsts l.seats l.stops.firsts k is.node file is.at is.kind_is in
+      let handed = laws.writes_law nodes ss ds l.places net.firsts l.seats l.stops.firsts k is.node file is.at is.kind_is in
       let last : slice_get net.nodes k ≡ Some (node.Writing there.1.0) = there.1.1.at_last in
       let law : SinkLaw drains handed.first there.1.0 (view_of net k) (took net k) (gave net k) =
-          (l.stops.settled.minded k (slice_get-below net.nodes k (node.Writing there.1.0) last) (node.Writing there.1.0) (node.Writing handed.first) last handed.at).law_holds in
+      (l.stops.settled.minded k (slice_get-below net.nodes k (node.Writing there.1.0) last) (node.Writing there.1.0) (node.Writing handed.first) last handed.at).law_holds in
       let state : slice_get (map drains ds) handed.place ≡ Some (drains handed.first.drain) = mapped_at drains ds handed.place handed.first.drain handed.drain in
       let called : slice_get (drain_names (map drains ds)) handed.place ≡ Some (drains handed.first.drain).name = mapped_at (λ (o : DrainState). o.name) (map drains ds) handed.place (drains handed.first.drain) state in
       let filed : slice_get (outputs_of_nodes nodes) handed.place ≡ Some (drains handed.first.drain).name = subst (λ (x : List (List ℕ)). slice_get x handed.place ≡ Some (drains handed.first.drain).name) opens.output_names called in

@@ -97,7 +97,8 @@ fn run_open<S: Source, D: Drain>(
     ensures { IfOk result (λ stopped. Leaves S.state D.state b sources.items drains.items budget stopped) }
 {
     let parts = parts_of(alloc, b, sources, drains)?;
-    execute(alloc, parts, budget)
+    let stopped = execute(alloc, parts, budget)?;
+    Ok(stopped)
 }
 
 /// Closes what a run had opened.

@@ -7,9 +7,9 @@ pub returns : goal.returns
 returns g c = λ old b budget ss ds can opens leaves.
     runs_of g.F.Inp.Source.state g.F.Out.Drain.state
     (record {
-      made = c.parts_are_made_of_their_blueprint.ensures;
-      sources = c.parts_hold_their_files.ensures.sources;
-      drains = c.parts_hold_their_files.ensures.drains;
+      made_law = c.parts_are_made_of_their_blueprint.ensures;
+      reads_law = c.parts_hold_their_files.ensures.sources;
+      writes_law = c.parts_hold_their_files.ensures.drains;
       source_there = c.every_source_reads_little_ahead.ensures.there;
       sink_there = c.every_sink_agrees.ensures.there;
     })

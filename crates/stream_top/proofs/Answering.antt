@@ -274,11 +274,11 @@ fault_whole : (whole t : List ℕ) → t ≡ text_of_file whole → language.fau
 fault_whole whole t e = elim (leb_tells (length whole) 1048576) [
   | inl h ↦ ap language.fault_of (short_whole whole t e h.1)
   | inr h ↦ (
-    let more : 1048576 < length whole = h.1 in
-    let l : length t ≡ length (text_of_file whole) = ap length e in
-    let long : 1048576 < length t = omega (arith, l, more, length-take text_limit whole) in
-    long_fault t long ∙ sym (long_fault whole more)
-  )
+      let more : 1048576 < length whole = h.1 in
+      let l : length t ≡ length (text_of_file whole) = ap length e in
+      let long : 1048576 < length t = omega (arith, l, more, length-take text_limit whole) in
+      long_fault t long ∙ sym (long_fault whole more)
+      )
 ]
 
 -- the blueprint that the bytes say is the one that the file says
@@ -304,7 +304,7 @@ rose_later a b c p q = let stays : a ≤ b = p.stays in λ h. let more : b < c =
 
 quiet_but_later : (name : List ℕ) (f g h : List ℕ → ℕ) → Quiet f g → QuietBut name g h → QuietBut name f h
 quiet_but_later name f g h p q = record {
-  stays = let first : f name ≤ g name = (p name).stays in let then : g name ≤ h name = q.stays in omega (arith, first, then);
+  stays = let first : f name ≤ g name = (p name).stays in let later : g name ≤ h name = q.stays in omega (arith, first, later);
   others = λ n differs. grew_behind (f n) (g n) (h n) 0 (p n) (q.others n differs);
 }
 
@@ -336,8 +336,8 @@ module _ (old mid new : FolderState) (file t : List ℕ) (r : ReadsFile old mid 
         let at = filtered_at (λ (m : Node). input_of m.kind) b.nodes.items k is.node n is.at (ap input_of is.kind_is) in
         inputs_untaken b [] (file ∷ []) fit n (contains_at (inputs_of_nodes b.nodes.items) at.0 n at.1) (0, omega arith, sym same))
 
-    leaves_later : (stands : List Stand) (wires : List WireCount) (rest : Bool) → LeavesFiles mid new b stands wires rest → LeavesFiles old new b stands wires rest
-    leaves_later stands wires rest l = record {
+    leaves_later : (ends : List Stand) (wires : List WireCount) (rest : Bool) → LeavesFiles mid new b ends wires rest → LeavesFiles old new b ends wires rest
+    leaves_later ends wires rest l = record {
       drawn = l.drawn;
       read = λ k n is.
           let w = l.read k n is in
@@ -526,3 +526,12 @@ quiet_here s = record { refusals = λ n. grew_same _ _ refl; rfaults = λ n. gre
 
 nothing_here : (s : FolderState) (a : Answer) → Blank a → RanNothing s s a
 nothing_here s a b = record { files = record { told = λ h. h; files = λ h n. refl }; blank = b }
+
+-- a blueprint of which some node has not been built is not run
+pub unbuilt_told : (s : FolderState) (a : Answer) (b : Blueprint) (k turns : ℕ) → a.status ≡ status.Unbuilt k → Blank a → unbuilt_node b ≡ Some k → EndedFit a.status a b turns s s
+unbuilt_told s a b k turns is blank e = subst (λ x. EndedFit x a b turns s s) (sym is) (inl (nothing_here s a blank, e))
+
+-- a blueprint that was found fit is the one that was parsed
+pub causes_parsed : (s : Status) (b c : Blueprint) (taken : List (List ℕ)) (old new : FolderState) → IsFit b [] taken → c ≡ b → CausesFit s c old new → CausesText s taken old new
+causes_parsed s b c taken old new fit same (inl h) = inl h
+causes_parsed s b c taken old new fit same (inr h) = inr (b, (fit, subst (λ x. RunCauses s x old new) same h))

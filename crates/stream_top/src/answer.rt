@@ -11,6 +11,7 @@ ghost use Rattle.stream_top.specs.AfterRun.{AfterRun, of_outcome, status_after, 
 ghost use Rattle.stream_top.specs.Outcome.{Blank, EndedRun, Told, RunCauses, Causes, SinksOf};
 ghost use Rattle.stream_top.specs.Texts.{EndedFit, EndedParsed, EndedText, CausesFit, CausesText};
 
+use crate::text::{ReadEnd, read_file};
 use blue_check::check::{CheckEnd, check};
 use blue_check::checked::Checked;
 use blue_check::detail::put_detail;
@@ -27,8 +28,6 @@ use run_report::outcome::{SinkEnd, Status};
 use std::alloc::Global;
 use stream_io::outside::Folder;
 use stream_model::outcome::{EndState, Picture};
-
-use crate::text::{ReadEnd, read_file};
 
 /// How a call ended, what is told of a rule that is broken, and what is told of a run where a blueprint was run.
 #[derive(Drop)]
@@ -90,11 +89,7 @@ fn unfit(alloc: Global, fault: CheckFault) -> Outcome
 }
 
 /// The ends of sinks of these names that stand so, in a list that has room for them.
-fn told_ends(
-    names: Vec<Line>,
-    stands: &[(u32, u64, EndState)],
-    room: Vec<SinkEnd>,
-) -> Vec<SinkEnd>
+fn told_ends(names: Vec<Line>, stands: &[(u32, u64, EndState)], room: Vec<SinkEnd>) -> Vec<SinkEnd>
     requires empty { room.items ≡ [] }
     requires room { vec_len names ≤ vec_capacity room }
     requires as_many { vec_len names ≡ length stands.now }
@@ -187,12 +182,7 @@ fn sinks_to_tell(alloc: Global, b: &Blueprint) -> Result<(Vec<Line>, Vec<SinkEnd
 }
 
 /// Runs a blueprint of which all has been built.
-fn run_blueprint<F: Folder>(
-    alloc: Global,
-    folder: &mut F,
-    b: Blueprint,
-    turns: u32,
-) -> Outcome
+fn run_blueprint<F: Folder>(alloc: Global, folder: &mut F, b: Blueprint, turns: u32) -> Outcome
     requires runs { CanRun b }
     requires turns { turns ≤ 4000000000 }
     ensures told { IsTrue (F.state folder.new).tells → EndedRun result.status (of_outcome result) b turns (F.state folder.old) (F.state folder.new) }
@@ -214,12 +204,7 @@ fn run_blueprint<F: Folder>(
 }
 
 /// Runs a blueprint that was checked, where all of it has been built.
-fn run_checked<F: Folder>(
-    alloc: Global,
-    folder: &mut F,
-    checked: Checked,
-    turns: u32,
-) -> Outcome
+fn run_checked<F: Folder>(alloc: Global, folder: &mut F, checked: Checked, turns: u32) -> Outcome
     requires fit { (taken : List (List ℕ)) × IsFit (blueprint_of checked) [] taken }
     requires turns { turns ≤ 4000000000 }
     ensures told { IsTrue (F.state folder.new).tells → EndedFit result.status (of_outcome result) (blueprint_of checked) turns (F.state folder.old) (F.state folder.new) }

@@ -5,8 +5,8 @@ ghost use Rattle.std.specs.Str.Parse.{digits_value};
 ghost use Rattle.elem_core.specs.Number.{is_numeral};
 ghost use Rattle.stream_top.specs.Command.{is_option, in_range, turns_of, with_file, with_turns, command_of};
 
-use elem_core::line::Line;
 use blue_words::names::is_file_name;
+use elem_core::line::Line;
 
 /// The units where no number is given.
 const DEFAULT_TURNS: u32 = 100_000_000;

@@ -1,0 +1,57 @@
+-- The goals of `answer::run_blueprint` that the search leaves.
+use Rattle.std.proofs.Common.{◌≡◌, ◌∙◌, inl, inr, ap, subst, Err, length, vec_len, rules}
+use Rattle.stream_top.specs.AfterRun.{AfterRun, of_outcome}
+use Rattle.stream_top.proofs.Answering.{as_many_stands, run_told, run_causes, run_sinks, missing_input, missing_output, missing_causes}
+use Rattle.stream_top.proofs.answer.run_blueprint.Goals as goal
+
+pub after_run-requires-clause-as_many : goal.after_run-requires-clause-as_many
+after_run-requires-clause-as_many g c =
+    let e : length c.in-Ok.names.items ≡ length c.in-Ok-run.ran.sinks.items = ap length c.in-Ok.ensures.names ∙ as_many_stands c.args.b.nodes.items c.in-Ok-run.ran.sinks.items c.in-Ok-run.ensures.ran.sinks_are in
+    search (rules, e)
+
+pub returns-in-Ok-run-clause-told : goal.returns-in-Ok-run-clause-told
+returns-in-Ok-run-clause-told g c =
+    run_told c.args.b c.in-Ok-run.ran c.args.turns (of_outcome c.after_run.result) (g.F.Folder.state c.args.folder.now) (g.F.Folder.state c.run.new.folder)
+    (subst (λ names. AfterRun names c.in-Ok-run.ran (of_outcome c.after_run.result)) c.in-Ok.ensures.names c.after_run.ensures.run) c.in-Ok-run.ensures.ran
+
+pub returns-in-Ok-run-clause-causes : goal.returns-in-Ok-run-clause-causes
+returns-in-Ok-run-clause-causes g c =
+    run_causes c.args.b c.in-Ok-run.ran c.args.turns (of_outcome c.after_run.result) (g.F.Folder.state c.args.folder.now) (g.F.Folder.state c.run.new.folder)
+    (subst (λ names. AfterRun names c.in-Ok-run.ran (of_outcome c.after_run.result)) c.in-Ok.ensures.names c.after_run.ensures.run) c.in-Ok-run.ensures.ran
+
+pub returns-in-Ok-run-clause-sinks : goal.returns-in-Ok-run-clause-sinks
+returns-in-Ok-run-clause-sinks g c =
+    run_sinks c.args.b c.in-Ok-run.ran c.args.turns (of_outcome c.after_run.result) (g.F.Folder.state c.args.folder.now) (g.F.Folder.state c.run.new.folder)
+    (subst (λ names. AfterRun names c.in-Ok-run.ran (of_outcome c.after_run.result)) c.in-Ok.ensures.names c.after_run.ensures.run) c.in-Ok-run.ensures.ran
+
+pub returns-in-Err-MissingInput-clause-told : goal.returns-in-Err-MissingInput-clause-told
+returns-in-Err-MissingInput-clause-told g c =
+    let e = c.in-Err-MissingInput in
+    let made = c.without_run-in-Err-MissingInput in
+    missing_input _ _ c.args.b e.name c.args.turns (of_outcome made.result) (e.ensures.no_input e.name (ap Err e.field-0-is)) made.ensures.status made.ensures.blank
+
+pub returns-in-Err-MissingInput-clause-tells : goal.returns-in-Err-MissingInput-clause-tells
+returns-in-Err-MissingInput-clause-tells g c =
+    let e = c.in-Err-MissingInput in
+    (e.ensures.no_input e.name (ap Err e.field-0-is)).files.told
+
+pub returns-in-Err-MissingInput-clause-causes : goal.returns-in-Err-MissingInput-clause-causes
+returns-in-Err-MissingInput-clause-causes g c =
+    let e = c.in-Err-MissingInput in
+    missing_causes _ _ c.args.b e.name c.without_run-in-Err-MissingInput.result.status (inl (e.ensures.no_input e.name (ap Err e.field-0-is))) c.without_run-in-Err-MissingInput.ensures.status
+
+pub returns-in-Err-MissingOutput-clause-told : goal.returns-in-Err-MissingOutput-clause-told
+returns-in-Err-MissingOutput-clause-told g c =
+    let e = c.in-Err-MissingOutput in
+    let made = c.without_run-in-Err-MissingOutput in
+    missing_output _ _ c.args.b e.name c.args.turns (of_outcome made.result) (e.ensures.no_output e.name (ap Err e.field-0-is)) made.ensures.status made.ensures.blank
+
+pub returns-in-Err-MissingOutput-clause-tells : goal.returns-in-Err-MissingOutput-clause-tells
+returns-in-Err-MissingOutput-clause-tells g c =
+    let e = c.in-Err-MissingOutput in
+    (e.ensures.no_output e.name (ap Err e.field-0-is)).files.told
+
+pub returns-in-Err-MissingOutput-clause-causes : goal.returns-in-Err-MissingOutput-clause-causes
+returns-in-Err-MissingOutput-clause-causes g c =
+    let e = c.in-Err-MissingOutput in
+    missing_causes _ _ c.args.b e.name c.without_run-in-Err-MissingOutput.result.status (inr (e.ensures.no_output e.name (ap Err e.field-0-is))) c.without_run-in-Err-MissingOutput.ensures.status

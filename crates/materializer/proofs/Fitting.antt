@@ -97,9 +97,18 @@ few_outputs (Balance n) h = within n h
 few_outputs (Partition n f) h = within n h
 few_outputs _ h = omega arith
 
--- a node's sizes are within their limits
+-- each node's sizes are within their limits
 sized : (nodes : List Node) (k : ℕ) (n : Node) → node_wrong nodes ≡ None → slice_get nodes k ≡ Some n → sizes_fit n.kind ≡ true
 sized nodes k n none at = not_true (sizes_fit n.kind) (not_when _ k (none_here (λ i m. when (not (sizes_fit m.kind)) i) nodes k n none at))
+
+all_sized_from : (nodes : List Node) (i : ℕ) → first_from (λ k n. when (not (sizes_fit n.kind)) k) i nodes ≡ None → list_all (λ n. sizes_fit n.kind) nodes ≡ true
+all_sized_from [] i h = refl
+all_sized_from (n ∷ ns) i h =
+    let both = both_none _ _ h in
+    and_both (sizes_fit n.kind) (list_all (λ m. sizes_fit m.kind) ns) (not_true (sizes_fit n.kind) (not_when _ i both.0)) (all_sized_from ns (i + 1) both.1)
+
+pub all_sized : (b : Blueprint) (plugs : List PlugHead) (taken : List (List ℕ)) → IsFit b plugs taken → list_all (λ n. sizes_fit n.kind) b.nodes.items ≡ true
+all_sized b plugs taken fit = all_sized_from b.nodes.items 0 (facts b plugs taken fit).sizes
 
 module _ (b : Blueprint) (plugs : List PlugHead) (taken : List (List ℕ)) (fit : IsFit b plugs taken) where
   -- so the ports of each wire have small numbers

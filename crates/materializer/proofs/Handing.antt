@@ -4,6 +4,7 @@ use Rattle.std.specs.Prelude.{slice_get}
 use Rattle.std.specs.List.{cons_option}
 use Rattle.stream_model.specs.declared.kind.Kind.TheVariants as kind
 use Rattle.stage_linear.specs.States.{IsLinear}
+use Rattle.stage_state.specs.States.{IsStateful}
 use Rattle.nodes.specs.declared.node.Node.{Node}
 use Rattle.nodes.specs.declared.node.Node.TheVariants as node
 use Rattle.nodes.specs.Source.{Lines}
@@ -42,6 +43,7 @@ module _ {S D : Type 0} where
       → (first : Lines S) × ((x ≡ node.Reading first) × ((first.node ≡ k) × Handed ss (cons_option (input_of n.kind) names) first.reader.source name))
   reader_at k n ss ds (work.Reading r) x names name is b e = (_, (b, (refl, handed_next (input_of n.kind) ss names r.source name (ap input_of e) is.source)))
   reader_at k n ss ds (work.Linear l) x names name is b e = absurd (subst IsLinear e is.is_linear)
+  reader_at k n ss ds (work.State l) x names name is b e = absurd (subst IsStateful e is.is_state)
   reader_at k n ss ds (work.Writing shape d) x names name is b e = absurd (subst IsLinesSink e is.is_sink)
 
   -- of the nodes from node k on
@@ -79,6 +81,7 @@ module _ {S D : Type 0} where
       let l = reads_lines n.kind ss r.source is.source in
       let no : kind.Lines l.0 ≡ kind.ToLines name = sym l.1 ∙ e in absurd cc
   writer_at k n ss ds (work.Linear l) x names name is b e = absurd (subst IsLinear e is.is_linear)
+  writer_at k n ss ds (work.State l) x names name is b e = absurd (subst IsStateful e is.is_state)
   writer_at k n ss ds (work.Writing shape d) x names name is b e =
       (_, (subst (λ o. BecomesOf {S = S} {D = D} k (work.Writing shape o) x) is.there b, (refl, handed_next (output_of n.kind) ds names is.drain name (ap output_of e) is.next)))
 

@@ -60,6 +60,7 @@ module _ {S D : Type 0} (sources : S → SourceState) where
       let l = reads_lines n.kind ss r.source is.source in
       subst (λ y. FirstOf sources k (node_of n) y) (sym b) (record { name = l.0; kind_is = l.1; node = refl; kept = is.kept; given = none 0 r.source (next_is n.kind ss r.source l.0 l.1 is.source) })
   work_first k n ss ds (work.Linear l) x is b none = subst (λ y. FirstOf sources k (node_of n) y) (sym b) (record { is_linear = is.is_linear; begins = is.begins })
+  work_first k n ss ds (work.State l) x is b none = subst (λ y. FirstOf sources k (node_of n) y) (sym b) (record { is_state = is.is_state; begins = is.begins })
   work_first k n ss ds (work.Writing shape d) x is b none =
       let l = is_lines_sink n.kind is.is_sink in
       subst (λ y. FirstOf sources k (node_of n) y) (sym (written k shape d is.drain x is.there b)) (record { name = l.0; kind_is = l.1; node = refl; count = refl; end = refl })

@@ -2,10 +2,12 @@
 use Rattle.std.proofs.Common.{◌≡◌, ℕ, zero, suc, ◌+◌, List, [], ◌∷◌, length, Option, Some, refl, ap, sym, ◌∙◌, subst}
 use Rattle.std.specs.Prelude.{slice_get}
 use Rattle.stream_model.specs.declared.kind.Kind.{Kind}
-use Rattle.stream_model.specs.declared.kind.Kind.TheVariants.{Lines, Map, Filter, FilterNot, TakeWhile, DropWhile, Take, Drop, Limit, MapConcat, ToLines}
+use Rattle.stream_model.specs.declared.kind.Kind.TheVariants.{Lines, Map, Filter, FilterNot, TakeWhile, DropWhile, Take, Drop, Limit, MapConcat, Grouped, Fold, Reduce, Scan, Buffer, ToLines}
+use Rattle.stream_model.specs.declared.kind.Policy.TheVariants.{Backpressure}
 use Rattle.stream_model.specs.Composed.{inputs_of}
 use Rattle.stream_picture.specs.View.{outputs_of}
 use Rattle.stage_linear.specs.States.{IsLinear}
+use Rattle.stage_state.specs.States.{IsStateful}
 use Rattle.interpreter.specs.declared.parts.Seated.{Seated}
 use Rattle.interpreter.specs.declared.parts.Work.{Work}
 use Rattle.interpreter.specs.declared.parts.Work.TheVariants as work
@@ -37,6 +39,14 @@ linear_ports (Limit n) h = (refl, refl)
 linear_ports (MapConcat x) h = (refl, refl)
 linear_ports _ h = absurd h
 
+state_ports : (k : Kind) → IsStateful k → (inputs_of k ≡ 1) × (outputs_of k ≡ 1)
+state_ports (Grouped n) h = (refl, refl)
+state_ports (Fold o) h = (refl, refl)
+state_ports (Reduce r) h = (refl, refl)
+state_ports (Scan o) h = (refl, refl)
+state_ports (Buffer n Backpressure) h = (refl, refl)
+state_ports _ h = absurd h
+
 writes_unused : (S : Type 0) {D : Type 0} (shape kind : Kind) (d : Option D) (drain : D) → shape ≡ kind → IsLinesSink kind → d ≡ Some drain → IsUnused {S = S} {D = D} (work.Writing shape d)
 writes_unused S shape kind d drain e is there = subst (λ o. IsUnused {S = S} (work.Writing shape o)) (sym there) (subst (λ s. IsLinesSink s) (sym e) is)
 
@@ -46,11 +56,13 @@ module _ {S D : Type 0} where
   work_ports : (k : ℕ) (n : Node) (ss : List S) (ds : List D) (w : Work S D) → IsWork k n ss ds w → (work_inputs w ≡ inputs_of n.kind) × (work_outputs w ≡ outputs_of n.kind)
   work_ports k n ss ds (work.Reading r) is = let l = reads_lines n.kind ss r.source is.source in (sym (ap inputs_of l.1), sym (ap outputs_of l.1))
   work_ports k n ss ds (work.Linear l) is = let p = linear_ports n.kind is.is_linear in (sym p.0, sym p.1)
+  work_ports k n ss ds (work.State l) is = let p = state_ports n.kind is.is_state in (sym p.0, sym p.1)
   work_ports k n ss ds (work.Writing shape d) is = let l = is_lines_sink n.kind is.is_sink in (sym (ap inputs_of l.1), sym (ap outputs_of l.1))
 
   work_unused : (k : ℕ) (n : Node) (ss : List S) (ds : List D) (w : Work S D) → IsWork k n ss ds w → IsUnused w
   work_unused k n ss ds (work.Reading r) is = is.kept
   work_unused k n ss ds (work.Linear l) is = let b = is.begins in record { phase = b.phase; row = rw b.phase tt }
+  work_unused k n ss ds (work.State l) is = let b = is.begins in record { phase = b.phase; row = b.ready }
   work_unused k n ss ds (work.Writing shape d) is = writes_unused S shape n.kind d is.drain is.shape_is is.is_sink is.there
 
   -- ---- places

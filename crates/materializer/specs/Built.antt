@@ -2,7 +2,8 @@
 use Rattle.std.specs.Prelude.{◌≡◌, ℕ, ◌==◌, Bool, true, false, not, ◌||◌, ◌&&◌, is_some, List, Option, None}
 use Rattle.std.specs.List.{list_any}
 use Rattle.stream_model.specs.declared.kind.Kind.{Kind}
-use Rattle.stream_model.specs.declared.kind.Kind.TheVariants.{Lines, Map, Filter, FilterNot, TakeWhile, DropWhile, Take, Drop, Limit, MapConcat, ToLines}
+use Rattle.stream_model.specs.declared.kind.Kind.TheVariants.{Lines, Map, Filter, FilterNot, TakeWhile, DropWhile, Take, Drop, Limit, MapConcat, Grouped, Fold, Reduce, Scan, Buffer, ToLines}
+use Rattle.stream_model.specs.declared.kind.Policy.TheVariants.{Backpressure}
 use Rattle.stream_model.specs.Graph.{Wire}
 use Rattle.blue_core.specs.declared.blueprint.Blueprint.{Blueprint}
 use Rattle.blue_core.specs.declared.blueprint.Node.{Node}
@@ -11,7 +12,7 @@ use Rattle.blue_rules.specs.First.{first_from, when}
 use Rattle.blue_check.specs.Fitness.{IsFit}
 use Rattle.blue_check.specs.Wires.{blueprint_wires}
 
--- the kinds that have been built
+-- the kinds that have been built; of buffers only those that hold their input back
 abbrev pub is_built : Kind → Bool
 is_built (Lines file) = true
 is_built (Map f) = true
@@ -23,6 +24,11 @@ is_built (Take n) = true
 is_built (Drop n) = true
 is_built (Limit n) = true
 is_built (MapConcat x) = true
+is_built (Grouped n) = true
+is_built (Fold o) = true
+is_built (Reduce r) = true
+is_built (Scan o) = true
+is_built (Buffer n Backpressure) = true
 is_built (ToLines file) = true
 is_built _ = false
 

@@ -4,6 +4,7 @@ use Rattle.stream_model.specs.declared.kind.Kind.{Kind}
 use Rattle.stream_model.specs.Graph.{Wire}
 use Rattle.stream_io.specs.Reading.{Reading}
 use Rattle.stage_linear.specs.States.{Logic, IsLinear, Begins}
+use Rattle.stage_state.specs.States as state
 use Rattle.interpreter.specs.Parts.{IsLinesSink}
 use Rattle.interpreter.specs.declared.parts.Link.{Link}
 use Rattle.interpreter.specs.declared.parts.Seated.{Seated}
@@ -33,6 +34,11 @@ pub record Stages (k : ℕ) (n : Node) (l : Logic) : Type 0 where
   pub is_linear : IsLinear n.kind
   pub begins : Begins k n.kind n.decider l
 
+-- a stage with state is at its start
+pub record StagesState (k : ℕ) (n : Node) (l : state.Logic) : Type 0 where
+  pub is_state : state.IsStateful n.kind
+  pub begins : state.Begins k n.kind n.decider l
+
 -- a sink of lines writes the next of the drains
 pub record WritesNext {D : Type 0} (n : Node) (drains : List D) (shape : Kind) (d : Option D) : Type 0 where
   pub shape_is : shape ≡ n.kind
@@ -45,6 +51,7 @@ pub record WritesNext {D : Type 0} (n : Node) (drains : List D) (shape : Kind) (
 abbrev pub IsWork : {S D : Type 0} → ℕ → Node → List S → List D → Work S D → Type 0
 IsWork k n sources drains (work.Reading r) = ReadsNext n sources r
 IsWork k n sources drains (work.Linear l) = Stages k n l
+IsWork k n sources drains (work.State l) = StagesState k n l
 IsWork k n sources drains (work.Writing shape d) = WritesNext n drains shape d
 
 -- these nodes, of which the first is node k, each at its place; in their order they take the sources and the drains

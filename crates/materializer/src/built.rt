@@ -10,7 +10,7 @@ use blue_core::blueprint::{Blueprint, Node};
 use blue_names::links::{Link, links_of};
 use elem_core::why::NoMemory;
 use std::alloc::Global;
-use stream_model::kind::Kind;
+use stream_model::kind::{Kind, Policy};
 
 /// Whether nodes of this kind can be run so far. Rule: own.
 pub fn is_built(kind: &Kind) -> bool
@@ -27,6 +27,11 @@ pub fn is_built(kind: &Kind) -> bool
         Kind::Drop(_) => true,
         Kind::Limit(_) => true,
         Kind::MapConcat(_) => true,
+        Kind::Grouped(_) => true,
+        Kind::Fold(_) => true,
+        Kind::Reduce(_) => true,
+        Kind::Scan(_) => true,
+        Kind::Buffer(_, Policy::Backpressure) => true,
         Kind::ToLines(_) => true,
         _ => false,
     }

@@ -2,6 +2,7 @@
 ghost use Rattle.std.specs.Prelude.{◌≡◌, ◌+◌, ◌<◌, ◌≤◌, ◌∷◌, true, IfOk, length, vec_len, option_to_list};
 ghost use Rattle.std.specs.List.{list_all};
 ghost use Rattle.std.specs.Vec.Iter.{into_iter_items, into_iter_len};
+ghost use Rattle.blue_rules.specs.Sizes.{sizes_fit};
 ghost use Rattle.materializer.specs.Built.{is_built};
 ghost use Rattle.materializer.specs.Files.{input_of, output_of, inputs_of_nodes, outputs_of_nodes};
 ghost use Rattle.materializer.specs.Seats.{handles_left, IsWork, AreSeats};
@@ -11,11 +12,12 @@ use blue_core::blueprint::Node;
 use elem_core::why::NoMemory;
 use interpreter::parts::{Seated, Work};
 use stage_linear::logic::LinearLogic;
+use stage_state::logic::StateLogic;
 use std::alloc::Global;
 use std::vec::IntoIter;
 use stream_io::line_reader::LineReader;
 use stream_io::outside::{Drain, Source};
-use stream_model::kind::Kind;
+use stream_model::kind::{Kind, Policy};
 
 /// The next handle of some.
 fn take_next<T: Drop>(handles: &mut IntoIter<T, Global>) -> T
@@ -38,6 +40,7 @@ fn seat<S: Source, D: Drain>(
     drains: &mut IntoIter<D, Global>,
 ) -> Result<Seated<S, D>, NoMemory>
     requires built { is_built node.kind ≡ true }
+    requires sized { sizes_fit node.kind ≡ true }
     requires source { length (option_to_list (input_of node.kind)) ≤ into_iter_len sources.old }
     requires drain { length (option_to_list (output_of node.kind)) ≤ into_iter_len drains.old }
     ensures node { IfOk result (λ p. p.node ≡ k) }
@@ -56,6 +59,13 @@ fn seat<S: Source, D: Drain>(
     let work = match kind {
         Kind::Lines(_) => Work::Reading(LineReader::new(alloc, take_next(sources))),
         Kind::ToLines(_) => Work::Writing(kind, Some(take_next(drains))),
+        Kind::Grouped(_)
+        | Kind::Fold(_)
+        | Kind::Reduce(_)
+        | Kind::Scan(_)
+        | Kind::Buffer(_, Policy::Backpressure) => {
+            Work::State(StateLogic::new(alloc, k, kind, decider)?)
+        }
         _ => Work::Linear(LinearLogic::new(k, kind, decider)?),
     };
     Ok(Seated { node: k, work })
@@ -70,6 +80,7 @@ pub fn seat_all<S: Source, D: Drain>(
     drains: Vec<D>,
 ) -> Result<Vec<Seated<S, D>>, NoMemory>
     requires built { list_all (λ n. is_built n.kind) nodes.items ≡ true }
+    requires sized { list_all (λ n. sizes_fit n.kind) nodes.items ≡ true }
     requires sources { vec_len sources ≡ length (inputs_of_nodes nodes.items) }
     requires drains { vec_len drains ≡ length (outputs_of_nodes nodes.items) }
     ensures { IfOk result (λ places. AreSeats 0 nodes.items sources.items drains.items places.items) }

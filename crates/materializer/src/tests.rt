@@ -4,7 +4,7 @@ use crate::names::{input_names, output_names, sink_names};
 use crate::parts::parts_of;
 use blue_check::check::{CheckEnd, check};
 use blue_core::blueprint::{Blueprint, Node, WireDecl};
-use elem_core::function::{MapFn, Pred};
+use elem_core::function::{FoldOp, MapFn, Pred};
 use elem_core::line::Line;
 use elem_core::why::{Decider, NoMemory};
 use interpreter::parts::{Link, Parts, Work};
@@ -15,7 +15,7 @@ use stream_io::mem_drain::MemDrain;
 use stream_io::mem_folder::{MemFolder, MemSource};
 use stream_io::named_file::NamedFile;
 use stream_io::outside::Folder;
-use stream_model::kind::Kind;
+use stream_model::kind::{Kind, Policy};
 
 #[derive(Clone, Copy)]
 enum K {
@@ -25,7 +25,9 @@ enum K {
     Map,
     Filter,
     Limit,
-    Grouped,
+    Buffer,
+    DropHead,
+    Fold,
     Broadcast,
     Ignore,
 }
@@ -64,7 +66,7 @@ const ROWS: &[Row] = &[
         nodes: &[
             ("log", K::Lines, "in.txt"),
             ("few", K::Limit, ""),
-            ("some", K::Grouped, ""),
+            ("some", K::DropHead, ""),
             ("out", K::ToLines, "out.txt"),
         ],
         wires: &[
@@ -90,6 +92,37 @@ const ROWS: &[Row] = &[
         inputs: "b.txt a.txt ",
         outputs: "2.txt 1.txt ",
         sinks: "to_a to_b ",
+    },
+    // A buffer that holds its input back, and a fold, are built.
+    Row {
+        nodes: &[
+            ("log", K::Lines, "in.txt"),
+            ("some", K::Buffer, ""),
+            ("many", K::Fold, ""),
+            ("out", K::ToLines, "out.txt"),
+        ],
+        wires: &[
+            ("log", 0, "some", 0),
+            ("some", 0, "many", 0),
+            ("many", 0, "out", 0),
+        ],
+        unbuilt: None,
+        inputs: "in.txt ",
+        outputs: "out.txt ",
+        sinks: "out ",
+    },
+    // A buffer that drops what it holds is not.
+    Row {
+        nodes: &[
+            ("log", K::Lines, "in.txt"),
+            ("some", K::DropHead, ""),
+            ("out", K::ToLines, "out.txt"),
+        ],
+        wires: &[("log", 0, "some", 0), ("some", 0, "out", 0)],
+        unbuilt: Some(1),
+        inputs: "in.txt ",
+        outputs: "out.txt ",
+        sinks: "out ",
     },
     // A sink without a file is a sink, and one that keeps its last element has a file.
     Row {
@@ -128,7 +161,9 @@ fn kind(kind: K, file: Line) -> Kind {
         K::Map => Kind::Map(MapFn::Len),
         K::Filter => Kind::Filter(Pred::Blank),
         K::Limit => Kind::Limit(9),
-        K::Grouped => Kind::Grouped(2),
+        K::Buffer => Kind::Buffer(2, Policy::Backpressure),
+        K::DropHead => Kind::Buffer(2, Policy::DropHead),
+        K::Fold => Kind::Fold(FoldOp::Count),
         K::Broadcast => Kind::Broadcast(2),
         K::Ignore => Kind::Ignore,
     }
@@ -270,6 +305,21 @@ fn nodes_stand_in_their_order(rt: HostRuntime) -> Result<(), Fail> {
             assert!(rt; nodes[3].node == 3 && matches!(nodes[3].work, Work::Writing(_, Some(_))));
             let links = [link(0, 1, 2), link(1, 0, 1), link(2, 2, 3)];
             assert!(rt; parts.links.as_slice() == links.as_slice());
+        }
+        None => panic!(rt; "no parts"),
+    }
+    Ok(())
+}
+
+#[test]
+fn stages_with_state_stand_in_their_order(rt: HostRuntime) -> Result<(), Fail> {
+    let alloc = rt.alloc();
+    match made(alloc, &ROWS[3])? {
+        Some(parts) => {
+            let nodes = &parts.nodes;
+            assert!(rt; nodes.len() == 4);
+            assert!(rt; nodes[1].node == 1 && matches!(nodes[1].work, Work::State(_)));
+            assert!(rt; nodes[2].node == 2 && matches!(nodes[2].work, Work::State(_)));
         }
         None => panic!(rt; "no parts"),
     }

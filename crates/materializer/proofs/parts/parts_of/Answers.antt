@@ -2,7 +2,7 @@
 use Rattle.std.proofs.Common.{◌≡◌, rules}
 use Rattle.blue_names.specs.Links.{wires_of_links}
 use Rattle.blue_check.specs.Wires.{blueprint_wires}
-use Rattle.materializer.proofs.Fitting.{few_link_ports, all_built}
+use Rattle.materializer.proofs.Fitting.{few_link_ports, all_built, all_sized}
 use Rattle.materializer.proofs.Making.{parts_made}
 use Rattle.materializer.proofs.parts.parts_of.Goals as goal
 
@@ -14,6 +14,9 @@ links_of_wires-requires g c =
 
 pub seat_all-requires-clause-built : goal.seat_all-requires-clause-built
 seat_all-requires-clause-built g c = all_built c.args.b.nodes.items (blueprint_wires c.args.b) c.requires.runs.built
+
+pub seat_all-requires-clause-sized : goal.seat_all-requires-clause-sized
+seat_all-requires-clause-sized g c = let runs = c.requires.runs in all_sized c.args.b runs.plugs runs.taken runs.fit
 
 pub returns-clause-parts : goal.returns-clause-parts
 returns-clause-parts g c =

@@ -1,2 +1,4 @@
 pub mod Lists
 pub mod Functions
+pub mod Works
+pub mod Machines

@@ -2,3 +2,5 @@ pub mod Lists
 pub mod Functions
 pub mod Works
 pub mod Machines
+pub mod Fans
+pub mod Choices

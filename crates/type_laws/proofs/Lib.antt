@@ -4,3 +4,4 @@ pub mod Works
 pub mod Machines
 pub mod Fans
 pub mod Choices
+pub mod Stages

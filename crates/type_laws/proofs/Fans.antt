@@ -7,7 +7,7 @@ use Rattle.elem_core.specs.Tree.{Tree, both}
 use Rattle.elem_core.specs.Order.{tree_cmp}
 use Rattle.stream_model.specs.Outlook.{Outlook}
 use Rattle.stream_model.specs.FanIn.{Tagged, tag, concat_of, Inlet, inlets, rest_of, interleave_of, against, sorted_of, pairs, next_of, merge_of}
-use Rattle.type_laws.specs.Types.{HasType, AllTyped}
+use Rattle.type_laws.specs.Types.{HasType, AllTyped, OutlooksTyped}
 
 -- halves of two lists, in pairs
 pub pairs_typed : (t u : Sort) (xs ys : List Tree) → AllTyped t xs → AllTyped u ys → AllTyped (pair_type t u) (pairs xs ys)
@@ -16,11 +16,6 @@ pairs_typed t u (x ∷ xs) [] h k = tt
 pairs_typed t u (x ∷ xs) (y ∷ ys) h k = ((h.0, k.0), pairs_typed t u xs ys h.1 k.1)
 
 module _ (t : Sort) where
-  -- the lists of all of these
-  abbrev pub OutlooksTyped : List Outlook → Type 0
-  OutlooksTyped [] = Unit {0}
-  OutlooksTyped (o ∷ os) = AllTyped t o.list × OutlooksTyped os
-
   abbrev pub TagsTyped : List Tagged → Type 0
   TagsTyped [] = Unit {0}
   TagsTyped (x ∷ xs) = HasType t x.item × TagsTyped xs
@@ -43,7 +38,7 @@ module _ (t : Sort) where
 
   -- ---- one input after another
 
-  pub concat_typed : (n : ℕ) (os : List Outlook) → OutlooksTyped os → TagsTyped (concat_of n os)
+  pub concat_typed : (n : ℕ) (os : List Outlook) → OutlooksTyped t os → TagsTyped (concat_of n os)
   concat_typed n [] h = tt
   concat_typed n (o ∷ os) h =
       tags_append (map (tag n) o.list) (if o.ends then concat_of (n + 1) os else []) (tagged n o.list h.0)
@@ -55,7 +50,7 @@ module _ (t : Sort) where
   InletsTyped [] = Unit {0}
   InletsTyped (i ∷ is) = AllTyped t i.list × InletsTyped is
 
-  pub inlets_typed : (n : ℕ) (os : List Outlook) → OutlooksTyped os → InletsTyped (inlets n os)
+  pub inlets_typed : (n : ℕ) (os : List Outlook) → OutlooksTyped t os → InletsTyped (inlets n os)
   inlets_typed n [] h = tt
   inlets_typed n (o ∷ os) h = (h.0, inlets_typed (n + 1) os h.1)
 
@@ -97,7 +92,7 @@ module _ (t : Sort) where
   ListsTyped [] = Unit {0}
   ListsTyped (l ∷ ls) = AllTyped t l × ListsTyped ls
 
-  pub lists_typed : (os : List Outlook) → OutlooksTyped os → ListsTyped (map (λ o. o.list) os)
+  pub lists_typed : (os : List Outlook) → OutlooksTyped t os → ListsTyped (map (λ o. o.list) os)
   lists_typed [] h = tt
   lists_typed (o ∷ os) h = (h.0, lists_typed os h.1)
 

@@ -31,12 +31,12 @@ use Rattle.blue_rules.specs.declared.want.Want.TheVariants.{Is, AnyPair}
 use Rattle.blue_rules.specs.FnTypes.{suits, map_want, map_gives, pred_want, expand_want, expand_gives, fold_want, fold_gives, reduce_want, reduce_gives, left_type, right_type}
 use Rattle.blue_rules.specs.Rounds.{is_joining, half_type}
 use Rattle.blue_rules.specs.StageTypes.{limited, clash_or, source_type, stage_typed, parted}
-use Rattle.type_laws.specs.Kinds.{is_typed_kind}
-use Rattle.type_laws.specs.Types.{HasType, AllTyped, Takes}
+use Rattle.type_laws.specs.Kinds.{is_typed_kind, source, joining, zipping, single, shape_of}
+use Rattle.type_laws.specs.Types.{HasType, AllTyped, OutlooksTyped, Takes}
 use Rattle.type_laws.proofs.Lists.{retype, retype_all}
 use Rattle.type_laws.proofs.Functions.{zero_typed, reduced_same}
 use Rattle.type_laws.proofs.Machines.{output_typed}
-use Rattle.type_laws.proofs.Fans.{OutlooksTyped, items_typed, concat_typed, inlets_typed, interleave_typed, sorted_typed, lists_typed, merge_typed, pairs_typed}
+use Rattle.type_laws.proofs.Fans.{items_typed, concat_typed, inlets_typed, interleave_typed, sorted_typed, lists_typed, merge_typed, pairs_typed}
 use Rattle.type_laws.proofs.Choices.{lefts_typed, rights_typed, sent_typed, acted_typed, recover_typed, buffered_typed}
 
 -- ---- what a type that is given says
@@ -63,27 +63,6 @@ parted_by : (b : Bool) (t p u : Sort) → (if b then Gives t else Clashes p (Is 
 parted_by true t p u h = cc
 parted_by false t p u h = cc
 
--- ---- how a node is typed
-
--- a source, a node whose inputs are of one type, a zip, or a node with one input
-pub data Shape : Type 0 where
-  source : Shape
-  joining : Shape
-  zipping : Shape
-  single : Shape
-
-abbrev pub shape_of : Kind → Shape
-shape_of (Lines name) = source
-shape_of (Range low high) = source
-shape_of (Empty b) = source
-shape_of (Failed b) = source
-shape_of (Merge n) = joining
-shape_of (Concat n) = joining
-shape_of (Interleave n s) = joining
-shape_of MergeSorted = joining
-shape_of Zip = zipping
-shape_of _ = single
-
 -- the outputs of an unzip
 unzip_by : (b : Bool) (t : Sort) (o : Outlook) → Takes (Some AnyPair) t → AllTyped t o.list → AllTyped (if b then left_type t else right_type t) (if b then left_outlook o else right_outlook o).list
 unzip_by true (pair_type t u) o w h = lefts_typed t u o.list h
@@ -101,6 +80,14 @@ numbers_typed : (n : ℕ) (z : ℤ) → AllTyped num_type (count_up n z)
 numbers_typed zero z = tt
 numbers_typed (suc n) z = (tt, numbers_typed n (z +ℤ pos 1))
 
+head_typed : (u : Sort) (os : List Outlook) → OutlooksTyped u os → AllTyped u (head_of os).list
+head_typed u [] h = tt
+head_typed u (o ∷ os) h = h.0
+
+second_typed : (u : Sort) (os : List Outlook) → OutlooksTyped u os → AllTyped u (second_of os).list
+second_typed u [] h = tt
+second_typed u (o ∷ os) h = head_typed u os h.1
+
 module _ (g : Graph) (w : World) (node : ℕ) (d : Decider) (is : List Outlook) where
   -- a source gives its type
   pub source_keeps : (k : Kind) (u : Sort) → source_type k ≡ Some u → (p : ℕ) → AllTyped u (node_outlook g w node k d is p).list
@@ -115,15 +102,15 @@ module _ (g : Graph) (w : World) (node : ℕ) (d : Decider) (is : List Outlook) 
   source_keeps _ u h p = cc
 
   -- the inputs of a node that joins are all of its type
-  pub joining_keeps : (k : Kind) (u : Sort) → shape_of k ≡ joining → OutlooksTyped u is → AllTyped u (head_of is).list → AllTyped u (second_of is).list → (p : ℕ) → AllTyped u (node_outlook g w node k d is p).list
-  joining_keeps (Merge n) u j a h k p = items_typed u (merge_of (w.moves node) (map (λ o. o.list) is)) (merge_typed u (w.moves node) (map (λ o. o.list) is) (lists_typed u is a))
-  joining_keeps (Concat n) u j a h k p = items_typed u (concat_of 0 is) (concat_typed u 0 is a)
-  joining_keeps (Interleave n s) u j a h k p =
+  pub joining_keeps : (k : Kind) (u : Sort) → shape_of k ≡ joining → OutlooksTyped u is → (p : ℕ) → AllTyped u (node_outlook g w node k d is p).list
+  joining_keeps (Merge n) u j a p = items_typed u (merge_of (w.moves node) (map (λ o. o.list) is)) (merge_typed u (w.moves node) (map (λ o. o.list) is) (lists_typed u is a))
+  joining_keeps (Concat n) u j a p = items_typed u (concat_of 0 is) (concat_typed u 0 is a)
+  joining_keeps (Interleave n s) u j a p =
       items_typed u (interleave_of s (turns_of is) s (inlets 0 is)) (interleave_typed u s (turns_of is) s (inlets 0 is) (inlets_typed u 0 is a))
-  joining_keeps MergeSorted u j a h k p =
+  joining_keeps MergeSorted u j a p =
       items_typed u (sorted_of (head_of is).ends (second_of is).ends (head_of is).list (second_of is).list)
-      (sorted_typed u (head_of is).ends (second_of is).ends (head_of is).list (second_of is).list h k)
-  joining_keeps _ u j a h k p = cc
+      (sorted_typed u (head_of is).ends (second_of is).ends (head_of is).list (second_of is).list (head_typed u is a) (second_typed u is a))
+  joining_keeps _ u j a p = cc
 
   -- a zip gives pairs
   pub zip_keeps : (t u : Sort) → AllTyped t (head_of is).list → AllTyped u (second_of is).list → (p : ℕ) → AllTyped (pair_type t u) (node_outlook g w node Zip d is p).list

@@ -1,7 +1,11 @@
--- The kinds of nodes that the laws of types speak of.
-use Rattle.std.specs.Prelude.{Bool, true, false}
+-- The kinds of nodes that the laws of types speak of, and how their types hang together.
+use Rattle.std.specs.Prelude.{Bool, true, false, List, Option}
 use Rattle.stream_model.specs.declared.kind.Kind.{Kind}
-use Rattle.stream_model.specs.declared.kind.Kind.TheVariants.{Plug, GroupBy, SplitWhen, SplitAfter}
+use Rattle.stream_model.specs.declared.kind.Kind.TheVariants.{Lines, Range, Empty, Failed, Plug, GroupBy, SplitWhen, SplitAfter, Merge, Concat, Interleave, MergeSorted, Zip, Partition}
+use Rattle.plug_core.specs.declared.head.PlugHead.{PlugHead}
+use Rattle.blue_rules.specs.declared.want.Want.{Want}
+use Rattle.blue_rules.specs.FnTypes.{map_want}
+use Rattle.blue_rules.specs.StageTypes.{stage_want}
 
 -- all but the stages that a caller hands in, and those that open substreams
 abbrev pub is_typed_kind : Kind → Bool
@@ -10,3 +14,27 @@ is_typed_kind (GroupBy n f chain) = false
 is_typed_kind (SplitWhen p chain j) = false
 is_typed_kind (SplitAfter p chain j) = false
 is_typed_kind _ = true
+
+-- a source, a node whose inputs are all of one type, a zip, or a node with one input
+pub data Shape : Type 0 where
+  source : Shape
+  joining : Shape
+  zipping : Shape
+  single : Shape
+
+abbrev pub shape_of : Kind → Shape
+shape_of (Lines name) = source
+shape_of (Range low high) = source
+shape_of (Empty b) = source
+shape_of (Failed b) = source
+shape_of (Merge n) = joining
+shape_of (Concat n) = joining
+shape_of (Interleave n s) = joining
+shape_of MergeSorted = joining
+shape_of Zip = zipping
+shape_of _ = single
+
+-- what the function of a node wants, that of a partition too
+abbrev pub function_want : List PlugHead → Kind → Option Want
+function_want plugs (Partition n f) = map_want f
+function_want plugs k = stage_want plugs k

@@ -2,6 +2,7 @@
 use Rattle.std.specs.Prelude.{IsTrue, List, [], ◌∷◌, Option, Some, None}
 use Rattle.elem_core.specs.Sort.{Sort, num_type, text_type, seq_type, pair_type}
 use Rattle.elem_core.specs.Tree.{Tree, num, text, seq, both, items}
+use Rattle.stream_model.specs.Outlook.{Outlook}
 use Rattle.blue_rules.specs.declared.want.Want.{Want}
 use Rattle.blue_rules.specs.FnTypes.{suits}
 
@@ -21,6 +22,11 @@ HasType _ _ = ⊥
 -- all elements of a list are of that type
 abbrev pub AllTyped : Sort → List Tree → Type 0
 AllTyped t xs = Each (HasType t) xs
+
+-- all elements that may pass these wires are
+abbrev pub OutlooksTyped : Sort → List Outlook → Type 0
+OutlooksTyped t [] = Unit {0}
+OutlooksTyped t (o ∷ os) = AllTyped t o.list × OutlooksTyped t os
 
 -- a function that wants no type in particular takes each; any other takes those that are wanted
 abbrev pub Takes : Option Want → Sort → Type 0

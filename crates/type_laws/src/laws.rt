@@ -1,15 +1,27 @@
 // Laws of types: each function has no body, and its contract is the law. A type is what the check of a blueprint settles,
 // and an element is of it or not.
-ghost use Rattle.std.specs.Prelude.{◌≡◌, Ok};
-ghost use Rattle.elem_core.specs.Sort.{Sort};
+ghost use Rattle.std.specs.Prelude.{◌≡◌, ℕ, List, [], ◌∷◌, Ok, Some, true};
+ghost use Rattle.elem_core.specs.Sort.{Sort, pair_type};
 ghost use Rattle.elem_core.specs.Tree.{Tree};
 ghost use Rattle.elem_core.specs.Values.{map_value, expansion, fold_zero, fold_step, reduce_step};
 ghost use Rattle.elem_core.specs.declared.function.Expand.{Expand};
 ghost use Rattle.elem_core.specs.declared.function.FoldOp.{FoldOp};
 ghost use Rattle.elem_core.specs.declared.function.MapFn.{MapFn};
 ghost use Rattle.elem_core.specs.declared.function.ReduceOp.{ReduceOp};
+ghost use Rattle.elem_core.specs.declared.why.Decider.{Decider};
+ghost use Rattle.stream_model.specs.Graph.{Graph};
+ghost use Rattle.stream_model.specs.Node.{World, node_outlook};
+ghost use Rattle.stream_model.specs.Outlook.{Outlook};
+ghost use Rattle.stream_model.specs.declared.kind.Kind.{Kind};
+ghost use Rattle.stream_model.specs.declared.kind.Kind.TheVariants as kind;
+ghost use Rattle.blue_core.specs.declared.blueprint.ChainDecl.{ChainDecl};
+ghost use Rattle.plug_core.specs.declared.head.PlugHead.{PlugHead};
+ghost use Rattle.blue_rules.specs.declared.typed.Typed.TheVariants.{Gives};
 ghost use Rattle.blue_rules.specs.FnTypes.{map_want, map_gives, expand_want, expand_gives, fold_gives, reduce_want, reduce_gives};
-ghost use Rattle.type_laws.specs.Types.{HasType, AllTyped, Takes};
+ghost use Rattle.blue_rules.specs.Rounds.{half_type};
+ghost use Rattle.blue_rules.specs.StageTypes.{source_type, stage_typed};
+ghost use Rattle.type_laws.specs.Kinds.{is_typed_kind, shape_of, joining, single};
+ghost use Rattle.type_laws.specs.Types.{HasType, AllTyped, OutlooksTyped, Takes};
 
 /// Each function gives an element of the type that its table says, where it has a value for an element of a type that it
 /// takes: a map, an expansion, a fold at its zero and at each step, and a reduction, which gives the type that it takes.
@@ -20,4 +32,15 @@ pub fn functions_keep_types()
     ensures step { (f : FoldOp) (t : Sort) (a x y : Tree) → HasType (fold_gives f t) a → HasType t x → fold_step f a x ≡ Ok y → HasType (fold_gives f t) y }
     ensures same { (f : ReduceOp) (t : Sort) → Takes (reduce_want f) t → reduce_gives f t ≡ t }
     ensures reduce { (f : ReduceOp) (t : Sort) (a x y : Tree) → Takes (reduce_want f) t → HasType t a → HasType t x → reduce_step f a x ≡ Ok y → HasType t y }
+{}
+
+/// What may pass an output of a node is of its type, where what may pass its inputs is of theirs: a source gives its type
+/// (`source`), a node with one input what the check of a blueprint says of the type of its input (`single`), a merge, a
+/// concat, an interleave and a merge_sorted the one type of their inputs (`joining`), and a zip pairs (`zip`).
+pub fn stages_keep_types()
+    ensures source { (g : Graph) (w : World) (node : ℕ) (d : Decider) (is : List Outlook) (k : Kind) (t : Sort) → source_type k ≡ Some t → (p : ℕ) → AllTyped t (node_outlook g w node k d is p).list }
+    ensures single { (g : Graph) (w : World) (node : ℕ) (d : Decider) (o : Outlook) (plugs : List PlugHead) (chains : List ChainDecl) (k : Kind) (t u : Sort) → is_typed_kind k ≡ true → shape_of k ≡ single
+        → stage_typed plugs chains k t ≡ Gives u → AllTyped t o.list → (p : ℕ) → AllTyped (half_type k p u) (node_outlook g w node k d (o ∷ []) p).list }
+    ensures joining { (g : Graph) (w : World) (node : ℕ) (d : Decider) (is : List Outlook) (k : Kind) (t : Sort) → shape_of k ≡ joining → OutlooksTyped t is → (p : ℕ) → AllTyped t (node_outlook g w node k d is p).list }
+    ensures zip { (g : Graph) (w : World) (node : ℕ) (d : Decider) (o r : Outlook) (t u : Sort) → AllTyped t o.list → AllTyped u r.list → (p : ℕ) → AllTyped (pair_type t u) (node_outlook g w node kind.Zip d (o ∷ r ∷ []) p).list }
 {}

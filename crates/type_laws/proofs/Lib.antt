@@ -5,3 +5,5 @@ pub mod Machines
 pub mod Fans
 pub mod Choices
 pub mod Stages
+pub mod Rules
+pub mod Origins

@@ -7,3 +7,4 @@ pub mod Choices
 pub mod Stages
 pub mod Rules
 pub mod Origins
+pub mod Shapes

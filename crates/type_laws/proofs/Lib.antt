@@ -8,3 +8,4 @@ pub mod Stages
 pub mod Rules
 pub mod Origins
 pub mod Shapes
+pub mod Settling

@@ -1,5 +1,5 @@
 -- What the stages with one input give that choose, or that part their elements, is of the type that it should be.
-use Rattle.std.proofs.Common.{◌≡◌, ℕ, zero, suc, ◌+◌, ◌-◌, Bool, true, false, List, [], ◌∷◌, ◌++◌, map, take, length, Option, Some, None}
+use Rattle.std.proofs.Common.{ℕ, zero, suc, ◌-◌, Bool, true, false, List, [], ◌∷◌, ◌++◌, map, take, length, Option, Some, None}
 use Rattle.std.specs.Prelude.{if◌then◌else◌, nat_lt, ◌==◌, ◌||◌, not}
 use Rattle.elem_core.specs.Sort.{Sort, pair_type}
 use Rattle.elem_core.specs.Tree.{Tree, both}

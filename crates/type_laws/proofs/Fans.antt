@@ -1,9 +1,9 @@
 -- What the nodes with several inputs give is of the type of their inputs.
-use Rattle.std.proofs.Common.{◌≡◌, ℕ, zero, suc, ◌+◌, ◌-◌, Bool, true, false, List, [], ◌∷◌, ◌++◌, map, Option, Some, None, refl}
+use Rattle.std.proofs.Common.{ℕ, zero, suc, ◌+◌, ◌-◌, Bool, true, false, List, [], ◌∷◌, ◌++◌, map, Option, Some, None}
 use Rattle.std.specs.Prelude.{if◌then◌else◌, nat_le, slice_get, slice_set}
 use Rattle.std.specs.Ordering.{is_lt}
 use Rattle.elem_core.specs.Sort.{Sort, pair_type}
-use Rattle.elem_core.specs.Tree.{Tree, both}
+use Rattle.elem_core.specs.Tree.{Tree}
 use Rattle.elem_core.specs.Order.{tree_cmp}
 use Rattle.stream_model.specs.Outlook.{Outlook}
 use Rattle.stream_model.specs.FanIn.{Tagged, tag, concat_of, Inlet, inlets, rest_of, interleave_of, against, sorted_of, pairs, next_of, merge_of}
@@ -64,9 +64,11 @@ module _ (t : Sort) where
         | x ∷ xs ↦ tag i.port x ∷ (if nat_le left 1 then interleave_of segment fuel segment (q ++ rest_of i xs ∷ []) else interleave_of segment fuel (left - 1) (rest_of i xs ∷ q))
       ])
   turn_typed segment fuel left i q [] more h k = tags_if i.ends (interleave_of segment fuel segment q) [] (more segment q k) tt
-  turn_typed segment fuel left i q (x ∷ xs) more h k =
-      (h.0, tags_if (nat_le left 1) (interleave_of segment fuel segment (q ++ rest_of i xs ∷ [])) (interleave_of segment fuel (left - 1) (rest_of i xs ∷ q))
-      (more segment (q ++ rest_of i xs ∷ []) (inlets_behind q (rest_of i xs) k h.1)) (more (left - 1) (rest_of i xs ∷ q) (h.1, k)))
+  turn_typed segment fuel left i q (x ∷ xs) more h k = (
+    h.0,
+    tags_if (nat_le left 1) (interleave_of segment fuel segment (q ++ rest_of i xs ∷ [])) (interleave_of segment fuel (left - 1) (rest_of i xs ∷ q))
+        (more segment (q ++ rest_of i xs ∷ []) (inlets_behind q (rest_of i xs) k h.1)) (more (left - 1) (rest_of i xs ∷ q) (h.1, k)),
+  )
 
   pub interleave_typed : (segment fuel left : ℕ) (q : List Inlet) → InletsTyped q → TagsTyped (interleave_of segment fuel left q)
   interleave_typed segment zero left q h = tt

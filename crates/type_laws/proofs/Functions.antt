@@ -1,7 +1,7 @@
 -- Each function gives an element of the type that its table says, for an element of a type that it takes.
-use Rattle.std.proofs.Common.{◌≡◌, ℕ, ℤ, pos, ◌+ℤ◌, ◌*ℤ◌, neg_ℤ, Bool, true, false, List, [], ◌∷◌, ◌++◌, map, length, Option, Some, None, Result, Ok, Err, refl, sym, ◌∙◌, subst}
+use Rattle.std.proofs.Common.{◌≡◌, ℕ, ℤ, pos, ◌+ℤ◌, ◌*ℤ◌, neg_ℤ, Bool, true, false, List, [], ◌∷◌, ◌++◌, map, length, Result, Ok, Err, refl, subst}
 use Rattle.std.specs.Prelude.{if◌then◌else◌, int_lt, nat_le}
-use Rattle.elem_core.specs.Sort.{Sort, num_type, text_type, seq_type, pair_type, same_sort}
+use Rattle.elem_core.specs.Sort.{Sort, num_type, text_type, seq_type, pair_type}
 use Rattle.elem_core.specs.SortLaws.{sort_from_same}
 use Rattle.elem_core.specs.Tree.{Tree, num, text, seq, both, items, row}
 use Rattle.elem_core.specs.Number.{fitting, number_of}
@@ -19,7 +19,7 @@ use Rattle.elem_core.specs.declared.function.FoldOp.{FoldOp}
 use Rattle.elem_core.specs.declared.function.FoldOp.TheVariants as o
 use Rattle.elem_core.specs.declared.function.ReduceOp.{ReduceOp}
 use Rattle.elem_core.specs.declared.function.ReduceOp.TheVariants as r
-use Rattle.blue_rules.specs.FnTypes.{map_want, map_gives, expand_want, expand_gives, fold_want, fold_gives, reduce_want, reduce_gives}
+use Rattle.blue_rules.specs.FnTypes.{map_want, map_gives, expand_want, expand_gives, fold_gives, reduce_want, reduce_gives}
 use Rattle.type_laws.specs.Types.{HasType, AllTyped, Takes}
 use Rattle.type_laws.proofs.Lists.{typed_append, typed_row, typed_if}
 
@@ -39,7 +39,6 @@ short_by false bs y h = cc
 
 short_typed : (bs : List ℕ) (y : Tree) → short_text bs ≡ Ok y → HasType text_type y
 short_typed bs y h = short_by (nat_le (length bs) 65536) bs y h
-
 
 -- ---- a function of one element
 

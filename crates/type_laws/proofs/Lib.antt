@@ -9,3 +9,4 @@ pub mod Rules
 pub mod Origins
 pub mod Shapes
 pub mod Settling
+pub mod Carrying

@@ -1,10 +1,10 @@
 -- Lists of elements of one type.
-use Rattle.std.proofs.Common.{◌≡◌, ℕ, Bool, true, false, List, [], ◌∷◌, ◌++◌, subst, sym}
+use Rattle.std.proofs.Common.{◌≡◌, Bool, true, false, List, [], ◌∷◌, ◌++◌, subst, sym}
 use Rattle.std.specs.Prelude.{if◌then◌else◌}
 use Rattle.elem_core.specs.Sort.{Sort}
 use Rattle.elem_core.specs.Tree.{Tree, items, row, items_of_row}
 use Rattle.elem_core.specs.Prefix.{IsPrefix}
-use Rattle.type_laws.specs.Types.{Each, HasType, AllTyped}
+use Rattle.type_laws.specs.Types.{HasType, AllTyped}
 
 pub retype : (t u : Sort) (x : Tree) → t ≡ u → HasType t x → HasType u x
 retype t u x e h = subst (λ s. HasType s x) e h

@@ -1,5 +1,5 @@
 -- What rules say that are not broken: of each wire, each input and each node.
-use Rattle.std.proofs.Common.{◌≡◌, ℕ, zero, suc, ◌+◌, ◌<◌, ◌≤◌, Bool, true, false, not, ◌&&◌, ◌||◌, List, [], ◌∷◌, length, Option, Some, None, is_some, refl, sym, ap, ◌∙◌, subst, arith}
+use Rattle.std.proofs.Common.{◌≡◌, ℕ, zero, suc, ◌+◌, ◌<◌, ◌≤◌, Bool, true, false, not, ◌||◌, List, [], ◌∷◌, Option, Some, None, refl, sym, ap, ◌∙◌, subst, arith}
 use Rattle.std.specs.Prelude.{if◌then◌else◌, slice_get, is_none, nat_le}
 use Rattle.std.specs.Option.{option_or, option_and_then}
 use Rattle.std.proofs.lemmas.Bool.{or_parts, and_parts, leb-true}
@@ -12,7 +12,6 @@ use Rattle.stream_model.specs.declared.kind.Kind.TheVariants.{Merge, Concat, Int
 use Rattle.stream_model.specs.declared.kind.TheConstants.{MAX_FAN}
 use Rattle.blue_core.specs.declared.limit.TheConstants.{MAX_COUNT}
 use Rattle.stream_model.proofs.Compositions.{found_first}
-use Rattle.stream_picture.specs.View.{outputs_of}
 use Rattle.blue_core.specs.declared.blueprint.ChainDecl.{ChainDecl}
 use Rattle.blue_core.specs.declared.blueprint.Node.{Node}
 use Rattle.plug_core.specs.declared.head.PlugHead.{PlugHead}

@@ -1,22 +1,20 @@
 -- Where no directed walk of wires is closed, a type is settled for every wire.
-use Rattle.std.proofs.Common.{◌≡◌, ℕ, zero, suc, ◌+◌, ◌<◌, ◌≤◌, Bool, true, false, List, [], ◌∷◌, length, Option, Some, None, refl, sym, ap, ◌∙◌, subst, arith}
+use Rattle.std.proofs.Common.{◌≡◌, ℕ, zero, suc, ◌+◌, ◌<◌, false, List, [], ◌∷◌, length, Option, Some, None, refl, sym, ap, ◌∙◌, subst, arith}
 use Rattle.std.specs.Prelude.{slice_get}
 use Rattle.std.specs.Option.{option_or, option_map}
 use Rattle.elem_core.specs.Sort.{Sort, pair_type}
 use Rattle.stream_model.specs.Composed.{inputs_of, count_from, IsRanked}
-use Rattle.stream_model.specs.Graph.{Graph, Wire, find_wire}
-use Rattle.stream_model.specs.declared.kind.Kind.{Kind}
+use Rattle.stream_model.specs.Graph.{Graph, Wire}
 use Rattle.stream_model.specs.declared.kind.Kind.TheVariants.{Zip}
 use Rattle.stream_model.proofs.Compositions.{slice_get-below}
 use Rattle.blue_core.specs.declared.blueprint.ChainDecl.{ChainDecl}
 use Rattle.blue_core.specs.declared.blueprint.Node.{Node}
 use Rattle.plug_core.specs.declared.head.PlugHead.{PlugHead}
 use Rattle.blue_rules.specs.Rounds.{wire_into, type_on, port_type, arrivals, first_typed, attempt, attempt_at, fixes, is_deep, settled}
-use Rattle.blue_rules.specs.StageTypes.{limited, stage_typed}
-use Rattle.blue_rules.specs.declared.typed.Typed.{Typed}
-use Rattle.type_laws.specs.Checked.{PassesRules, HasTypedKinds, wire_type}
+use Rattle.blue_rules.specs.StageTypes.{limited}
+use Rattle.type_laws.specs.Checked.{PassesRules, HasTypedKinds}
 use Rattle.type_laws.specs.Kinds.{Shape, source, joining, zipping, single, shape_of}
-use Rattle.type_laws.proofs.Rules.{At, ends_there, Into, input_there, joins_some, meets, not_deep}
+use Rattle.type_laws.proofs.Rules.{ends_there, Into, input_there, joins_some, meets, not_deep}
 use Rattle.type_laws.proofs.Origins.{source_settles, settles_no_more}
 use Rattle.type_laws.proofs.Shapes.{one_input, is_zip, stands_apart, type_of_source, joining_tries, single_fixes, must_fix, limited_meets}
 
@@ -50,7 +48,7 @@ module _ (plugs : List PlugHead) (chains : List ChainDecl) (nodes : List Node) (
       let on : type_on nodes g.wires types (Some i.wire) ≡ Some (port_type (slice_get nodes i.wire.from) i.wire.output u.0) = ap (option_map (port_type (slice_get nodes i.wire.from) i.wire.output)) u.1 in
       record { into = i; type = port_type (slice_get nodes i.wire.from) i.wire.output u.0; on_wire = on; comes = ap (type_on nodes g.wires types) i.into ∙ on }
 
-  module _ (rank : ℕ → ℕ) (ranked : IsRanked g rank) (passes : PassesRules plugs chains nodes g) (kinds : HasTypedKinds plugs chains nodes g) where
+  module _ (rank : ℕ → ℕ) (ranked : IsRanked g rank) (passes : PassesRules plugs chains nodes g) (kinds : HasTypedKinds nodes) where
     -- what comes in on an input of the node at which a wire begins, where types are settled for the wires of lower rank
     pub input_of : (j : ℕ) (v : Wire) (n : Node) → slice_get g.wires j ≡ Some v → slice_get nodes v.from ≡ Some n → ((i : ℕ) → i < length g.wires → rank i < rank j → HasSettled i)
         → (p : ℕ) → p < inputs_of n.kind → TypedInput v.from p
@@ -80,7 +78,7 @@ module _ (plugs : List PlugHead) (chains : List ChainDecl) (nodes : List Node) (
           let lt : 0 < inputs_of n.kind = rw one (omega arith) in
           let i = input_of j v n at is below 0 lt in
           let comes : arrivals nodes g.wires types v.from (count_from 0 (inputs_of n.kind)) ≡ Some i.type ∷ [] =
-              ap (λ m. arrivals nodes g.wires types v.from (count_from 0 m)) one ∙ ap (λ (o : Option Sort). o ∷ []) i.comes in
+          ap (λ m. arrivals nodes g.wires types v.from (count_from 0 m)) one ∙ ap (λ (o : Option Sort). o ∷ []) i.comes in
           let met = meets plugs chains nodes g.wires passes.no_clash i.into.number i.into.wire v.from n i.type i.into.at i.into.to is i.on_wire (stands_apart n.kind s) in
           single_fixes plugs chains n.kind (kinds.each v.from n is) s i.into.number i.type met
           (subst (λ os. is_deep (attempt plugs chains n.kind os) ≡ false) comes (shallow v.from n is))
@@ -91,8 +89,8 @@ module _ (plugs : List PlugHead) (chains : List ChainDecl) (nodes : List Node) (
           let lt = joins_some nodes passes.no_wrong v.from n is s in
           let i = input_of j v n at is below 0 lt in
           let tries : attempt plugs chains n.kind (arrivals nodes g.wires types v.from (count_from 0 (inputs_of n.kind))) ≡ Some (limited i.type) =
-              joining_tries plugs chains n.kind (arrivals nodes g.wires types v.from (count_from 0 (inputs_of n.kind))) s
-              ∙ ap (option_map limited) (first_of_some v.from (inputs_of n.kind) None i.type lt i.comes) in
+          joining_tries plugs chains n.kind (arrivals nodes g.wires types v.from (count_from 0 (inputs_of n.kind))) s
+          ∙ ap (option_map limited) (first_of_some v.from (inputs_of n.kind) None i.type lt i.comes) in
           must_fix (limited i.type) 0 (limited_meets 0 i.type) (subst (λ o. is_deep o ≡ false) tries (shallow v.from n is)) (subst (λ o. fixes o ≡ None) tries (no_news v.from n is none))
 
       zip_must : n.kind ≡ Zip → ⊥
@@ -101,10 +99,10 @@ module _ (plugs : List PlugHead) (chains : List ChainDecl) (nodes : List Node) (
           let a = input_of j v n at is below 0 (rw two (omega arith)) in
           let b = input_of j v n at is below 1 (rw two (omega arith)) in
           let comes : arrivals nodes g.wires types v.from (count_from 0 (inputs_of n.kind)) ≡ Some a.type ∷ Some b.type ∷ [] =
-              ap (λ m. arrivals nodes g.wires types v.from (count_from 0 m)) two ∙ ap (λ (o : Option Sort). o ∷ type_on nodes g.wires types (wire_into nodes g.wires v.from 1) ∷ []) a.comes
-              ∙ ap (λ (o : Option Sort). Some a.type ∷ o ∷ []) b.comes in
+          ap (λ m. arrivals nodes g.wires types v.from (count_from 0 m)) two ∙ ap (λ (o : Option Sort). o ∷ type_on nodes g.wires types (wire_into nodes g.wires v.from 1) ∷ []) a.comes
+          ∙ ap (λ (o : Option Sort). Some a.type ∷ o ∷ []) b.comes in
           let tries : attempt plugs chains n.kind (arrivals nodes g.wires types v.from (count_from 0 (inputs_of n.kind))) ≡ Some (limited (pair_type a.type b.type)) =
-              ap (attempt plugs chains n.kind) comes ∙ ap (λ q. attempt plugs chains q (Some a.type ∷ Some b.type ∷ [])) z in
+          ap (attempt plugs chains n.kind) comes ∙ ap (λ q. attempt plugs chains q (Some a.type ∷ Some b.type ∷ [])) z in
           must_fix (limited (pair_type a.type b.type)) 0 (limited_meets 0 (pair_type a.type b.type)) (subst (λ o. is_deep o ≡ false) tries (shallow v.from n is)) (subst (λ o. fixes o ≡ None) tries (no_news v.from n is none))
 
       source_must : shape_of n.kind ≡ source → ⊥

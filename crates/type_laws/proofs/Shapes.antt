@@ -1,8 +1,8 @@
 -- What the shape of a kind says: how many inputs it has, and how its type is found.
 use Rattle.std.proofs.Common.{◌≡◌, ℕ, Bool, true, false, List, [], ◌∷◌, Option, Some, None, refl, sym, ap, ◌∙◌, subst}
 use Rattle.std.specs.Prelude.{if◌then◌else◌, nat_le}
-use Rattle.std.specs.Option.{option_or, option_map}
-use Rattle.elem_core.specs.Sort.{Sort, num_type, text_type, pair_type, nesting, same_sort}
+use Rattle.std.specs.Option.{option_map}
+use Rattle.elem_core.specs.Sort.{Sort, num_type, text_type, nesting}
 use Rattle.elem_core.specs.declared.function.Expand.{Expand}
 use Rattle.elem_core.specs.declared.function.Expand.TheVariants as x
 use Rattle.elem_core.specs.declared.function.FoldOp.{FoldOp}
@@ -11,11 +11,11 @@ use Rattle.elem_core.specs.declared.function.ReduceOp.{ReduceOp}
 use Rattle.elem_core.specs.declared.function.ReduceOp.TheVariants as r
 use Rattle.stream_model.specs.Composed.{inputs_of}
 use Rattle.stream_model.specs.declared.kind.Kind.{Kind}
-use Rattle.stream_model.specs.declared.kind.Kind.TheVariants.{Lines, Range, Empty, Failed, Map, MapConcat, Fold, Scan, Reduce, RecoverNum, RecoverText, GroupBy, SplitWhen, SplitAfter, Merge, Concat, Interleave, MergeSorted, Zip, Partition, Unzip}
+use Rattle.stream_model.specs.declared.kind.Kind.TheVariants.{Lines, Range, Empty, Failed, Map, MapConcat, Fold, Scan, Reduce, GroupBy, SplitWhen, SplitAfter, Merge, Concat, Interleave, MergeSorted, Zip, Partition, Unzip}
 use Rattle.blue_core.specs.declared.blueprint.ChainDecl.{ChainDecl}
 use Rattle.plug_core.specs.declared.head.PlugHead.{PlugHead}
 use Rattle.blue_rules.specs.FnTypes.{suits, map_want, map_fixed, map_shape, fixed_or, expand_fixed, expand_gives, fold_fixed, fold_gives, reduce_fixed, reduce_gives}
-use Rattle.blue_rules.specs.Rounds.{half_type, first_typed, pair_up, is_joining, clash_of, is_deep, fixes, attempt, attempt_by}
+use Rattle.blue_rules.specs.Rounds.{half_type, first_typed, is_joining, clash_of, is_deep, fixes, attempt, attempt_by}
 use Rattle.blue_rules.specs.StageTypes.{limited, clash_or, source_type, base_type, stage_want, stage_gives, fixed_type, stage_typed, parted}
 use Rattle.blue_rules.specs.declared.typed.TheConstants.{MAX_NESTING}
 use Rattle.blue_rules.specs.declared.typed.Typed.{Typed}
@@ -23,7 +23,6 @@ use Rattle.blue_rules.specs.declared.typed.Typed.TheVariants.{Gives, Clashes, To
 use Rattle.blue_rules.specs.declared.want.Want.{Want}
 use Rattle.type_laws.specs.Kinds.{is_typed_kind, source, joining, zipping, single, shape_of, function_want}
 use Rattle.type_laws.specs.Types.{Takes}
-use Rattle.type_laws.proofs.Stages.{limited_is}
 
 -- ---- inputs and outputs
 

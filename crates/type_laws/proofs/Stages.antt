@@ -1,15 +1,14 @@
 -- What a node of any kind gives is of its type, by what the check of a blueprint says of types at its kind.
-use Rattle.std.proofs.Common.{◌≡◌, ℕ, Bool, true, false, List, [], ◌∷◌, map, Option, Some, None, refl, sym, ◌∙◌, subst, ap}
+use Rattle.std.proofs.Common.{◌≡◌, ℕ, Bool, true, false, List, [], ◌∷◌, map, Option, Some, None, refl, sym, ◌∙◌, subst}
 use Rattle.std.specs.Prelude.{if◌then◌else◌, ◌==◌, nat_le, ℤ, pos, ◌+ℤ◌, zero, suc}
 use Rattle.std.specs.List.{take_while}
 use Rattle.elem_core.specs.Sort.{Sort, num_type, text_type, seq_type, pair_type, nesting, same_sort}
 use Rattle.elem_core.specs.SortLaws.{sort_from_same}
 use Rattle.elem_core.specs.Text.{lines}
-use Rattle.elem_core.specs.Tree.{Tree, num, text}
+use Rattle.elem_core.specs.Tree.{num, text}
 use Rattle.elem_core.specs.Values.{fold_zero}
 use Rattle.elem_core.specs.declared.why.Decider.{Decider}
 use Rattle.elem_core.specs.declared.why.Decider.TheVariants.{Stop}
-use Rattle.stream_model.specs.declared.kind.Base.TheVariants as base
 use Rattle.stream_model.specs.declared.kind.Kind.{Kind}
 use Rattle.stream_model.specs.declared.kind.Kind.TheVariants.{Lines, Range, Empty, Failed, Map, Filter, FilterNot, TakeWhile, DropWhile, Take, Drop, Limit, Grouped, MapConcat, Fold, Scan, Reduce, Buffer, RecoverNum, RecoverText, Valve, TripShutdown, TripAbort, Merge, Concat, Interleave, MergeSorted, Zip, Broadcast, Balance, Partition, Unzip, ToLines, Head, Last, Ignore}
 use Rattle.stream_model.specs.declared.kind.Policy.TheVariants.{Backpressure}
@@ -29,10 +28,10 @@ use Rattle.blue_rules.specs.declared.typed.Typed.TheVariants.{Gives, Clashes, To
 use Rattle.blue_rules.specs.declared.want.Want.{Want}
 use Rattle.blue_rules.specs.declared.want.Want.TheVariants.{Is, AnyPair}
 use Rattle.blue_rules.specs.FnTypes.{suits, map_want, map_gives, pred_want, expand_want, expand_gives, fold_want, fold_gives, reduce_want, reduce_gives, left_type, right_type}
-use Rattle.blue_rules.specs.Rounds.{is_joining, half_type}
+use Rattle.blue_rules.specs.Rounds.{half_type}
 use Rattle.blue_rules.specs.StageTypes.{limited, clash_or, source_type, stage_typed, parted}
-use Rattle.type_laws.specs.Kinds.{is_typed_kind, source, joining, zipping, single, shape_of}
-use Rattle.type_laws.specs.Types.{HasType, AllTyped, OutlooksTyped, Takes}
+use Rattle.type_laws.specs.Kinds.{is_typed_kind, joining, single, shape_of}
+use Rattle.type_laws.specs.Types.{AllTyped, OutlooksTyped, Takes}
 use Rattle.type_laws.proofs.Lists.{retype, retype_all}
 use Rattle.type_laws.proofs.Functions.{zero_typed, reduced_same}
 use Rattle.type_laws.proofs.Machines.{output_typed}

@@ -1,5 +1,5 @@
 -- What a work gives of elements of one type, and what it holds, is of its type.
-use Rattle.std.proofs.Common.{◌≡◌, ℕ, zero, suc, ◌+◌, Bool, true, false, List, [], ◌∷◌, ◌++◌, length, Option, Some, None, Result, Ok, Err, refl, sym}
+use Rattle.std.proofs.Common.{◌≡◌, ℕ, zero, suc, ◌+◌, Bool, true, false, [], ◌∷◌, ◌++◌, length, Option, Some, None, Result, Ok, Err, refl, sym}
 use Rattle.std.specs.Prelude.{if◌then◌else◌, ◌==◌, nat_le}
 use Rattle.elem_core.specs.Sort.{Sort, seq_type}
 use Rattle.elem_core.specs.Tree.{Tree, seq, row}
@@ -8,8 +8,8 @@ use Rattle.elem_core.specs.declared.why.Why.{Why}
 use Rattle.elem_core.specs.declared.why.Decider.{Decider}
 use Rattle.elem_core.specs.declared.why.Decider.TheVariants.{Stop, Resume, Restart}
 use Rattle.stream_model.specs.Machine.{State, going, done, broken, Run, Finish, adds, refuses}
-use Rattle.stream_model.specs.Linear.{Book, Work, Reaction, Stage, mapping, filtering, taking, taking_while, dropping, dropping_while, passing, limiting, grouping, expanding, folding, scanning, reducing, heading, lasting, numbering, plugged, gives, ends, blames, breaks, on_value, on_test, on_number, reaction, restarted, first_of, with_work, decided, reacts, step, finish_of, begin_work}
-use Rattle.blue_rules.specs.FnTypes.{map_want, map_gives, expand_want, expand_gives, fold_gives, reduce_want, reduce_gives}
+use Rattle.stream_model.specs.Linear.{Book, Work, Reaction, Stage, mapping, filtering, taking, taking_while, dropping, dropping_while, passing, limiting, grouping, expanding, folding, scanning, reducing, heading, lasting, numbering, plugged, gives, ends, blames, breaks, on_value, on_test, on_number, reaction, restarted, first_of, decided, reacts, step, finish_of, begin_work}
+use Rattle.blue_rules.specs.FnTypes.{map_want, map_gives, expand_want, expand_gives, fold_gives, reduce_want}
 use Rattle.type_laws.specs.Types.{HasType, AllTyped, Takes}
 use Rattle.type_laws.proofs.Lists.{retype, retype_all, typed_append, typed_row}
 use Rattle.type_laws.proofs.Functions.{map_typed, expansion_typed, zero_typed, step_typed, reduced_typed}

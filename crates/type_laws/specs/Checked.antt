@@ -18,6 +18,10 @@ use Rattle.type_laws.specs.Types.{AllTyped, Takes}
 abbrev pub plain : Node → graph.Node
 plain n = record { kind = n.kind; decider = n.decider }
 
+-- each node is of a kind that the laws of types speak of
+pub record HasTypedKinds (nodes : List Node) : Type 0 where
+  pub each : (i : ℕ) (n : Node) → slice_get nodes i ≡ Some n → is_typed_kind n.kind ≡ true
+
 module _ (plugs : List PlugHead) (chains : List ChainDecl) (nodes : List Node) (g : Graph) where
   -- the graph has these nodes, and no rule on ports, sizes of nodes or types is broken
   pub record PassesRules : Type 0 where
@@ -27,10 +31,6 @@ module _ (plugs : List PlugHead) (chains : List ChainDecl) (nodes : List Node) (
     pub no_wrong : node_wrong nodes ≡ None
     pub no_clash : type_clash plugs chains nodes g.wires ≡ None
     pub no_deep : too_deep plugs chains nodes g.wires ≡ None
-
-  -- each node is of a kind that the laws of types speak of
-  pub record HasTypedKinds : Type 0 where
-    pub each : (i : ℕ) (n : Node) → slice_get nodes i ≡ Some n → is_typed_kind n.kind ≡ true
 
   -- the type that the check settles for a wire
   abbrev pub wire_type : Wire → Option Sort

@@ -1,6 +1,6 @@
 // Laws of types: each function has no body, and its contract is the law. A type is what the check of a blueprint settles,
 // and an element is of it or not.
-ghost use Rattle.std.specs.Prelude.{◌≡◌, ℕ, List, [], ◌∷◌, Ok, Some, true};
+ghost use Rattle.std.specs.Prelude.{◌≡◌, ℕ, List, [], ◌∷◌, slice_get, Ok, Some, true};
 ghost use Rattle.elem_core.specs.Sort.{Sort, pair_type};
 ghost use Rattle.elem_core.specs.Tree.{Tree};
 ghost use Rattle.elem_core.specs.Values.{map_value, expansion, fold_zero, fold_step, reduce_step};
@@ -9,17 +9,20 @@ ghost use Rattle.elem_core.specs.declared.function.FoldOp.{FoldOp};
 ghost use Rattle.elem_core.specs.declared.function.MapFn.{MapFn};
 ghost use Rattle.elem_core.specs.declared.function.ReduceOp.{ReduceOp};
 ghost use Rattle.elem_core.specs.declared.why.Decider.{Decider};
-ghost use Rattle.stream_model.specs.Graph.{Graph};
+ghost use Rattle.stream_model.specs.Composed.{IsRanked};
+ghost use Rattle.stream_model.specs.Graph.{Graph, Wire};
 ghost use Rattle.stream_model.specs.Node.{World, node_outlook};
 ghost use Rattle.stream_model.specs.Outlook.{Outlook};
 ghost use Rattle.stream_model.specs.declared.kind.Kind.{Kind};
 ghost use Rattle.stream_model.specs.declared.kind.Kind.TheVariants as kind;
 ghost use Rattle.blue_core.specs.declared.blueprint.ChainDecl.{ChainDecl};
+ghost use Rattle.blue_core.specs.declared.blueprint.Node.{Node};
 ghost use Rattle.plug_core.specs.declared.head.PlugHead.{PlugHead};
 ghost use Rattle.blue_rules.specs.declared.typed.Typed.TheVariants.{Gives};
 ghost use Rattle.blue_rules.specs.FnTypes.{map_want, map_gives, expand_want, expand_gives, fold_gives, reduce_want, reduce_gives};
 ghost use Rattle.blue_rules.specs.Rounds.{half_type};
 ghost use Rattle.blue_rules.specs.StageTypes.{source_type, stage_typed};
+ghost use Rattle.type_laws.specs.Checked.{PassesRules, HasTypedKinds, CarriesType};
 ghost use Rattle.type_laws.specs.Kinds.{is_typed_kind, shape_of, joining, single};
 ghost use Rattle.type_laws.specs.Types.{HasType, AllTyped, OutlooksTyped, Takes};
 
@@ -43,4 +46,12 @@ pub fn stages_keep_types()
         → stage_typed plugs chains k t ≡ Gives u → AllTyped t o.list → (p : ℕ) → AllTyped (half_type k p u) (node_outlook g w node k d (o ∷ []) p).list }
     ensures joining { (g : Graph) (w : World) (node : ℕ) (d : Decider) (is : List Outlook) (k : Kind) (t : Sort) → shape_of k ≡ joining → OutlooksTyped t is → (p : ℕ) → AllTyped t (node_outlook g w node k d is p).list }
     ensures zip { (g : Graph) (w : World) (node : ℕ) (d : Decider) (o r : Outlook) (t u : Sort) → AllTyped t o.list → AllTyped u r.list → (p : ℕ) → AllTyped (pair_type t u) (node_outlook g w node kind.Zip d (o ∷ r ∷ []) p).list }
+{}
+
+/// In a graph whose nodes and wires passed the rules on ports, sizes and types, where no directed walk of wires is closed, a
+/// type is settled for each wire, only elements of that type may pass it, and the function of the node to which it leads takes
+/// that type.
+pub fn every_list_is_typed()
+    ensures { (plugs : List PlugHead) (chains : List ChainDecl) (nodes : List Node) (g : Graph) (w : World) (rank : ℕ → ℕ) → PassesRules plugs chains nodes g → HasTypedKinds nodes → IsRanked g rank
+        → (i : ℕ) (v : Wire) → slice_get g.wires i ≡ Some v → CarriesType plugs chains nodes g w i v }
 {}

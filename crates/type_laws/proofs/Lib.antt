@@ -10,3 +10,4 @@ pub mod Origins
 pub mod Shapes
 pub mod Settling
 pub mod Carrying
+pub mod Sending

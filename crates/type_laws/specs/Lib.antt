@@ -1,3 +1,4 @@
 pub mod Types
 pub mod Kinds
 pub mod Checked
+pub mod Sent

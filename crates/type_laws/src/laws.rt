@@ -15,6 +15,12 @@ ghost use Rattle.stream_model.specs.Node.{World, node_outlook};
 ghost use Rattle.stream_model.specs.Outlook.{Outlook};
 ghost use Rattle.stream_model.specs.declared.kind.Kind.{Kind};
 ghost use Rattle.stream_model.specs.declared.kind.Kind.TheVariants as kind;
+ghost use Rattle.fused_net.specs.Laws.{Settled};
+ghost use Rattle.fused_net.specs.Net.{Net, wire_at};
+ghost use Rattle.nodes.specs.Nodes.{node_row, node_law};
+ghost use Rattle.nodes.specs.declared.node.Node as stage;
+ghost use Rattle.run_laws.specs.Made.{Materializes};
+ghost use Rattle.run_laws.specs.Telling.{Tells};
 ghost use Rattle.blue_core.specs.declared.blueprint.ChainDecl.{ChainDecl};
 ghost use Rattle.blue_core.specs.declared.blueprint.Node.{Node};
 ghost use Rattle.plug_core.specs.declared.head.PlugHead.{PlugHead};
@@ -24,7 +30,10 @@ ghost use Rattle.blue_rules.specs.Rounds.{half_type};
 ghost use Rattle.blue_rules.specs.StageTypes.{source_type, stage_typed};
 ghost use Rattle.type_laws.specs.Checked.{PassesRules, HasTypedKinds, CarriesType};
 ghost use Rattle.type_laws.specs.Kinds.{is_typed_kind, shape_of, joining, single};
+ghost use Rattle.type_laws.specs.Sent.{SendsItsType};
 ghost use Rattle.type_laws.specs.Types.{HasType, AllTyped, OutlooksTyped, Takes};
+
+use stream_io::outside::{Drain, Source};
 
 /// Each function gives an element of the type that its table says, where it has a value for an element of a type that it
 /// takes: a map, an expansion, a fold at its zero and at each step, and a reduction, which gives the type that it takes.
@@ -54,4 +63,12 @@ pub fn stages_keep_types()
 pub fn every_list_is_typed()
     ensures { (plugs : List PlugHead) (chains : List ChainDecl) (nodes : List Node) (g : Graph) (w : World) (rank : ℕ → ℕ) → PassesRules plugs chains nodes g → HasTypedKinds nodes → IsRanked g rank
         → (i : ℕ) (v : Wire) → slice_get g.wires i ≡ Some v → CarriesType plugs chains nodes g w i v }
+{}
+
+/// What was sent on each wire of an island that was made of such a graph, at any moment of its run, has only elements of the
+/// type that is settled for the wire.
+pub fn every_wire_carries_its_type<S: Source, D: Drain>()
+    ensures { (plugs : List PlugHead) (chains : List ChainDecl) (nodes : List Node) (g : Graph) (w : World) (rank : ℕ → ℕ) (net : Net (stage.Node S D)) → Settled node_row (node_law S.state D.state) net
+        → Materializes S.state g net.firsts net.ends → Tells S.state g w net → PassesRules plugs chains nodes g → HasTypedKinds nodes → IsRanked g rank
+        → (i : ℕ) (v : Wire) → slice_get g.wires i ≡ Some v → SendsItsType plugs chains nodes g w i v (wire_at net i).wire.sent }
 {}

@@ -1,5 +1,6 @@
 pub mod Lists
 pub mod Functions
+pub mod Meeting
 pub mod Works
 pub mod Machines
 pub mod Fans

@@ -1,14 +1,17 @@
 // Laws of types: each function has no body, and its contract is the law. A type is what the check of a blueprint settles,
 // and an element is of it or not.
-ghost use Rattle.std.specs.Prelude.{◌≡◌, ℕ, List, [], ◌∷◌, slice_get, Ok, Some, true};
-ghost use Rattle.elem_core.specs.Sort.{Sort, pair_type};
+ghost use Rattle.std.specs.Prelude.{◌≡◌, ℕ, List, [], ◌∷◌, slice_get, Ok, Err, Some, true};
+ghost use Rattle.elem_core.specs.Sort.{Sort, num_type, pair_type};
 ghost use Rattle.elem_core.specs.Tree.{Tree};
-ghost use Rattle.elem_core.specs.Values.{map_value, expansion, fold_zero, fold_step, reduce_step};
+ghost use Rattle.elem_core.specs.Values.{map_value, pred_value, expansion, fold_zero, fold_step, reduce_step, part_of};
 ghost use Rattle.elem_core.specs.declared.function.Expand.{Expand};
 ghost use Rattle.elem_core.specs.declared.function.FoldOp.{FoldOp};
 ghost use Rattle.elem_core.specs.declared.function.MapFn.{MapFn};
+ghost use Rattle.elem_core.specs.declared.function.MapFn.TheVariants as fn_kind;
+ghost use Rattle.elem_core.specs.declared.function.Pred.{Pred};
 ghost use Rattle.elem_core.specs.declared.function.ReduceOp.{ReduceOp};
 ghost use Rattle.elem_core.specs.declared.why.Decider.{Decider};
+ghost use Rattle.elem_core.specs.declared.why.Why.TheVariants.{NotANumber};
 ghost use Rattle.stream_model.specs.Composed.{IsRanked};
 ghost use Rattle.stream_model.specs.Graph.{Graph, Wire};
 ghost use Rattle.stream_model.specs.Node.{World, node_outlook};
@@ -25,7 +28,7 @@ ghost use Rattle.blue_core.specs.declared.blueprint.ChainDecl.{ChainDecl};
 ghost use Rattle.blue_core.specs.declared.blueprint.Node.{Node};
 ghost use Rattle.plug_core.specs.declared.head.PlugHead.{PlugHead};
 ghost use Rattle.blue_rules.specs.declared.typed.Typed.TheVariants.{Gives};
-ghost use Rattle.blue_rules.specs.FnTypes.{map_want, map_gives, expand_want, expand_gives, fold_gives, reduce_want, reduce_gives};
+ghost use Rattle.blue_rules.specs.FnTypes.{map_want, map_gives, pred_want, expand_want, expand_gives, fold_want, fold_gives, reduce_want, reduce_gives};
 ghost use Rattle.blue_rules.specs.Rounds.{half_type};
 ghost use Rattle.blue_rules.specs.StageTypes.{source_type, stage_typed};
 ghost use Rattle.type_laws.specs.Checked.{PassesRules, HasTypedKinds, CarriesType};
@@ -44,6 +47,17 @@ pub fn functions_keep_types()
     ensures step { (f : FoldOp) (t : Sort) (a x y : Tree) → HasType (fold_gives f t) a → HasType t x → fold_step f a x ≡ Ok y → HasType (fold_gives f t) y }
     ensures same { (f : ReduceOp) (t : Sort) → Takes (reduce_want f) t → reduce_gives f t ≡ t }
     ensures reduce { (f : ReduceOp) (t : Sort) (a x y : Tree) → Takes (reduce_want f) t → HasType t a → HasType t x → reduce_step f a x ≡ Ok y → HasType t y }
+{}
+
+/// A function that meets an element of a type that it takes never lacks a value because the element is of another type: only
+/// `num` answers `NotANumber`, of a text that is no number, and a partition by it. So it is of maps, predicates, the steps of
+/// folds and reductions, and the part that a partition finds.
+pub fn functions_meet_their_types()
+    ensures map { (f : MapFn) (t : Sort) (x : Tree) → Takes (map_want f) t → HasType t x → map_value f x ≡ Err NotANumber → f ≡ fn_kind.Num }
+    ensures predicate { (q : Pred) (t : Sort) (x : Tree) → Takes (Some (pred_want q)) t → HasType t x → pred_value q x ≡ Err NotANumber → ⊥ }
+    ensures step { (f : FoldOp) (t : Sort) (a x : Tree) → Takes (fold_want f) t → HasType (fold_gives f t) a → HasType t x → fold_step f a x ≡ Err NotANumber → ⊥ }
+    ensures reduce { (f : ReduceOp) (t : Sort) (a x : Tree) → Takes (reduce_want f) t → HasType t a → HasType t x → reduce_step f a x ≡ Err NotANumber → ⊥ }
+    ensures part { (n : ℕ) (f : MapFn) (t : Sort) (x : Tree) → Takes (map_want f) t → map_gives f t ≡ num_type → HasType t x → part_of n (map_value f x) ≡ Err NotANumber → f ≡ fn_kind.Num }
 {}
 
 /// What may pass an output of a node is of its type, where what may pass its inputs is of theirs: a source gives its type

@@ -18,6 +18,7 @@ use Rattle.blue_rules.specs.StageTypes.{limited, source_type, stage_typed}
 use Rattle.blue_rules.specs.declared.typed.Typed.TheVariants.{Gives}
 use Rattle.type_laws.specs.Checked.{plain, PassesRules, HasTypedKinds, wire_type, CarriesType}
 use Rattle.type_laws.specs.Kinds.{Shape, source, joining, zipping, single, shape_of, function_want}
+use Rattle.type_laws.specs.Plugs.{KeepsPlugTypes}
 use Rattle.type_laws.specs.Types.{AllTyped, OutlooksTyped, Takes}
 use Rattle.type_laws.proofs.Lists.{retype_all}
 use Rattle.type_laws.proofs.Stages.{limited_is, source_keeps, single_keeps, joining_keeps, zip_keeps}
@@ -79,7 +80,7 @@ module _ (plugs : List PlugHead) (chains : List ChainDecl) (nodes : List Node) (
         subst (λ o. AllTyped i.type (incoming g w (composed g w) o).list) (sym i.into.finds)
         (received_typed (lane_of g w (slice_get g.wires number)) (composed g w number) i.type (h.typed i.into.wire i.into.at i.type i.on_wire))
 
-    module _ (rank : ℕ → ℕ) (ranked : IsRanked g rank) (passes : PassesRules plugs chains nodes g) (kinds : HasTypedKinds nodes) where
+    module _ (rank : ℕ → ℕ) (ranked : IsRanked g rank) (passes : PassesRules plugs chains nodes g) (kinds : HasTypedKinds plugs nodes) (keeps : KeepsPlugTypes plugs w.book) where
       settles : (i : ℕ) → i < length g.wires → HasSettled plugs chains nodes g i
       settles = every_wire_settles plugs chains nodes g rank ranked passes kinds
 
@@ -113,7 +114,7 @@ module _ (plugs : List PlugHead) (chains : List ChainDecl) (nodes : List Node) (
             let one = one_input n.kind s in
             let i = input_typed v.from 0 (input_at 0 (rw one (omega arith))) in
             let met = meets plugs chains nodes g.wires passes.no_clash i.into.number i.into.wire v.from n i.type i.into.at i.into.to is i.on_wire (stands_apart n.kind s) in
-            single_keeps g w v.from n.decider (ins 1) plugs chains i.type u (comes_typed v.from 0 i (input_below 0 i.into)) n.kind (kinds.each v.from n is) s
+            single_keeps g w v.from n.decider (ins 1) plugs chains keeps i.type u (comes_typed v.from 0 i (input_below 0 i.into)) n.kind (kinds.each v.from n is) s
             (by_origin one i (origin plugs chains nodes g.wires v.from n u is has) met) v.output
           where
             by_origin : inputs_of n.kind ≡ 1 → (i : TypedInput plugs chains nodes g v.from 0) → Origin plugs chains nodes g.wires v.from n u

@@ -1,6 +1,7 @@
 pub mod Lists
 pub mod Functions
 pub mod Meeting
+pub mod Keeping
 pub mod Works
 pub mod Machines
 pub mod Fans

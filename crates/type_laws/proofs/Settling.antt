@@ -48,7 +48,7 @@ module _ (plugs : List PlugHead) (chains : List ChainDecl) (nodes : List Node) (
       let on : type_on nodes g.wires types (Some i.wire) ≡ Some (port_type (slice_get nodes i.wire.from) i.wire.output u.0) = ap (option_map (port_type (slice_get nodes i.wire.from) i.wire.output)) u.1 in
       record { into = i; type = port_type (slice_get nodes i.wire.from) i.wire.output u.0; on_wire = on; comes = ap (type_on nodes g.wires types) i.into ∙ on }
 
-  module _ (rank : ℕ → ℕ) (ranked : IsRanked g rank) (passes : PassesRules plugs chains nodes g) (kinds : HasTypedKinds nodes) where
+  module _ (rank : ℕ → ℕ) (ranked : IsRanked g rank) (passes : PassesRules plugs chains nodes g) (kinds : HasTypedKinds plugs nodes) where
     -- what comes in on an input of the node at which a wire begins, where types are settled for the wires of lower rank
     pub input_of : (j : ℕ) (v : Wire) (n : Node) → slice_get g.wires j ≡ Some v → slice_get nodes v.from ≡ Some n → ((i : ℕ) → i < length g.wires → rank i < rank j → HasSettled i)
         → (p : ℕ) → p < inputs_of n.kind → TypedInput v.from p

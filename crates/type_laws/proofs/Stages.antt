@@ -1,5 +1,5 @@
 -- What a node of any kind gives is of its type, by what the check of a blueprint says of types at its kind.
-use Rattle.std.proofs.Common.{◌≡◌, ℕ, Bool, true, false, List, [], ◌∷◌, map, Option, Some, None, refl, sym, ◌∙◌, subst}
+use Rattle.std.proofs.Common.{◌≡◌, ℕ, Bool, true, false, List, [], ◌∷◌, map, Option, Some, None, is_some, refl, sym, ◌∙◌, subst}
 use Rattle.std.specs.Prelude.{if◌then◌else◌, ◌==◌, nat_le, ℤ, pos, ◌+ℤ◌, zero, suc}
 use Rattle.std.specs.List.{take_while}
 use Rattle.elem_core.specs.Sort.{Sort, num_type, text_type, seq_type, pair_type, nesting, same_sort}
@@ -10,10 +10,10 @@ use Rattle.elem_core.specs.Values.{fold_zero}
 use Rattle.elem_core.specs.declared.why.Decider.{Decider}
 use Rattle.elem_core.specs.declared.why.Decider.TheVariants.{Stop}
 use Rattle.stream_model.specs.declared.kind.Kind.{Kind}
-use Rattle.stream_model.specs.declared.kind.Kind.TheVariants.{Lines, Range, Empty, Failed, Map, Filter, FilterNot, TakeWhile, DropWhile, Take, Drop, Limit, Grouped, MapConcat, Fold, Scan, Reduce, Buffer, RecoverNum, RecoverText, Valve, TripShutdown, TripAbort, Merge, Concat, Interleave, MergeSorted, Zip, Broadcast, Balance, Partition, Unzip, ToLines, Head, Last, Ignore}
+use Rattle.stream_model.specs.declared.kind.Kind.TheVariants.{Lines, Range, Empty, Failed, Map, Filter, FilterNot, TakeWhile, DropWhile, Take, Drop, Limit, Grouped, MapConcat, Fold, Scan, Reduce, Buffer, RecoverNum, RecoverText, Valve, Plug, TripShutdown, TripAbort, Merge, Concat, Interleave, MergeSorted, Zip, Broadcast, Balance, Partition, Unzip, ToLines, Head, Last, Ignore}
 use Rattle.stream_model.specs.declared.kind.Policy.TheVariants.{Backpressure}
 use Rattle.stream_model.specs.Graph.{Graph}
-use Rattle.stream_model.specs.Linear.{mapping, filtering, taking_while, dropping_while, taking, dropping, limiting, grouping, expanding, folding, scanning, reducing, passing, heading, lasting, numbering}
+use Rattle.stream_model.specs.Linear.{mapping, filtering, taking_while, dropping_while, taking, dropping, limiting, grouping, expanding, folding, scanning, reducing, passing, heading, lasting, numbering, plugged, linear, begin_work}
 use Rattle.stream_model.specs.Node.{World, head_of, second_of, node_outlook}
 use Rattle.stream_model.specs.Outlook.{Outlook}
 use Rattle.stream_model.specs.FanIn.{concat_of, interleave_of, inlets, turns_of, sorted_of, merge_of}
@@ -29,8 +29,10 @@ use Rattle.blue_rules.specs.declared.want.Want.{Want}
 use Rattle.blue_rules.specs.declared.want.Want.TheVariants.{Is, AnyPair}
 use Rattle.blue_rules.specs.FnTypes.{suits, map_want, map_gives, pred_want, expand_want, expand_gives, fold_want, fold_gives, reduce_want, reduce_gives, left_type, right_type}
 use Rattle.blue_rules.specs.Rounds.{half_type}
-use Rattle.blue_rules.specs.StageTypes.{limited, clash_or, source_type, stage_typed, parted}
+use Rattle.blue_rules.specs.StageTypes.{limited, clash_or, source_type, stage_typed, parted, plug_named, plug_want, plug_gives}
 use Rattle.type_laws.specs.Kinds.{is_typed_kind, joining, single, shape_of}
+use Rattle.stream_model.specs.Machine.{output}
+use Rattle.type_laws.specs.Plugs.{KeepsPlugTypes}
 use Rattle.type_laws.specs.Types.{AllTyped, OutlooksTyped, Takes}
 use Rattle.type_laws.proofs.Lists.{retype, retype_all}
 use Rattle.type_laws.proofs.Functions.{zero_typed, reduced_same}
@@ -117,27 +119,35 @@ module _ (g : Graph) (w : World) (node : ℕ) (d : Decider) (is : List Outlook) 
 
   -- ---- a node with one input
 
-  module _ (plugs : List PlugHead) (chains : List ChainDecl) (t u : Sort) (h : AllTyped t (head_of is).list) where
-    pub single_keeps : (k : Kind) → is_typed_kind k ≡ true → shape_of k ≡ single → stage_typed plugs chains k t ≡ Gives u → (p : ℕ) → AllTyped (half_type k p u) (node_outlook g w node k d is p).list
-    single_keeps (Map q) a s e p = output_typed w.book (mapping q) t u node d (mapping q) (head_of is) (given (map_want q) t (map_gives q t) u e) h
-    single_keeps (Filter q) a s e p = output_typed w.book (filtering q true) t u node d (filtering q true) (head_of is) (given (Some (pred_want q)) t t u e).1 h
-    single_keeps (FilterNot q) a s e p = output_typed w.book (filtering q false) t u node d (filtering q false) (head_of is) (given (Some (pred_want q)) t t u e).1 h
-    single_keeps (TakeWhile q) a s e p = output_typed w.book (taking_while q) t u node d (taking_while q) (head_of is) (given (Some (pred_want q)) t t u e).1 h
-    single_keeps (DropWhile q) a s e p = output_typed w.book (dropping_while q) t u node d (dropping_while q) (head_of is) (given (Some (pred_want q)) t t u e).1 h
-    single_keeps (Take n) a s e p = output_typed w.book (taking n) t u node d (taking n) (head_of is) (given None t t u e).1 h
-    single_keeps (Drop n) a s e p = output_typed w.book (dropping n) t u node d (dropping n) (head_of is) (given None t t u e).1 h
-    single_keeps (Limit n) a s e p = output_typed w.book (limiting n) t u node d (limiting n) (head_of is) (given None t t u e).1 h
-    single_keeps (Grouped n) a s e p = output_typed w.book (grouping n []) t u node d (grouping n []) (head_of is) (tt, (given None t (seq_type t) u e).1) h
-    single_keeps (MapConcat q) a s e p = output_typed w.book (expanding q) t u node d (expanding q) (head_of is) (given (expand_want q) t (expand_gives q t) u e) h
+  module _ (plugs : List PlugHead) (chains : List ChainDecl) (keeps : KeepsPlugTypes plugs w.book) (t u : Sort) (h : AllTyped t (head_of is).list) where
+    plug_keeps : (name : List ℕ) (o : Option PlugHead) → plug_named name plugs ≡ o → is_some (plug_named name plugs) ≡ true → stage_typed plugs chains (Plug name) t ≡ Gives u
+        → AllTyped u (output (linear w.book (plugged name [])) (begin_work node d (plugged name [])) (head_of is)).list
+    plug_keeps name None e a g = let no : false ≡ true = subst (λ o. is_some o ≡ true) e a in cc
+    plug_keeps name (Some q) e a g =
+        let r = given (Some (Is q.input)) t q.output u (subst (λ o. clash_or (plug_want o) t (limited (plug_gives o t)) ≡ Gives u) e g) in
+        output_typed plugs w.book keeps (plugged name []) t u node d (plugged name []) (head_of is)
+        (record { plug = q; named = e; held = tt; takes = sym (sort_from_same q.input t r.0); gives = r.1 }) h
+
+    pub single_keeps : (k : Kind) → is_typed_kind plugs k ≡ true → shape_of k ≡ single → stage_typed plugs chains k t ≡ Gives u → (p : ℕ) → AllTyped (half_type k p u) (node_outlook g w node k d is p).list
+    single_keeps (Map q) a s e p = output_typed plugs w.book keeps (mapping q) t u node d (mapping q) (head_of is) (given (map_want q) t (map_gives q t) u e) h
+    single_keeps (Filter q) a s e p = output_typed plugs w.book keeps (filtering q true) t u node d (filtering q true) (head_of is) (given (Some (pred_want q)) t t u e).1 h
+    single_keeps (FilterNot q) a s e p = output_typed plugs w.book keeps (filtering q false) t u node d (filtering q false) (head_of is) (given (Some (pred_want q)) t t u e).1 h
+    single_keeps (TakeWhile q) a s e p = output_typed plugs w.book keeps (taking_while q) t u node d (taking_while q) (head_of is) (given (Some (pred_want q)) t t u e).1 h
+    single_keeps (DropWhile q) a s e p = output_typed plugs w.book keeps (dropping_while q) t u node d (dropping_while q) (head_of is) (given (Some (pred_want q)) t t u e).1 h
+    single_keeps (Take n) a s e p = output_typed plugs w.book keeps (taking n) t u node d (taking n) (head_of is) (given None t t u e).1 h
+    single_keeps (Drop n) a s e p = output_typed plugs w.book keeps (dropping n) t u node d (dropping n) (head_of is) (given None t t u e).1 h
+    single_keeps (Limit n) a s e p = output_typed plugs w.book keeps (limiting n) t u node d (limiting n) (head_of is) (given None t t u e).1 h
+    single_keeps (Grouped n) a s e p = output_typed plugs w.book keeps (grouping n []) t u node d (grouping n []) (head_of is) (tt, (given None t (seq_type t) u e).1) h
+    single_keeps (MapConcat q) a s e p = output_typed plugs w.book keeps (expanding q) t u node d (expanding q) (head_of is) (given (expand_want q) t (expand_gives q t) u e) h
     single_keeps (Fold q) a s e p =
         let r = given (fold_want q) t (fold_gives q t) u e in
-        output_typed w.book (folding q (fold_zero q)) t u node d (folding q (fold_zero q)) (head_of is) (retype (fold_gives q t) u (fold_zero q) r.1 (zero_typed q t), r.1) h
+        output_typed plugs w.book keeps (folding q (fold_zero q)) t u node d (folding q (fold_zero q)) (head_of is) (retype (fold_gives q t) u (fold_zero q) r.1 (zero_typed q t), r.1) h
     single_keeps (Scan q) a s e p =
         let r = given (fold_want q) t (fold_gives q t) u e in
-        output_typed w.book (scanning q (fold_zero q)) t u node d (scanning q (fold_zero q)) (head_of is) (retype (fold_gives q t) u (fold_zero q) r.1 (zero_typed q t), r.1) h
+        output_typed plugs w.book keeps (scanning q (fold_zero q)) t u node d (scanning q (fold_zero q)) (head_of is) (retype (fold_gives q t) u (fold_zero q) r.1 (zero_typed q t), r.1) h
     single_keeps (Reduce q) a s e p =
         let r = given (reduce_want q) t (reduce_gives q t) u e in
-        output_typed w.book (reducing q None) t u node d (reducing q None) (head_of is) (tt, r.0, sym (reduced_same q t r.0) ∙ r.1) h
+        output_typed plugs w.book keeps (reducing q None) t u node d (reducing q None) (head_of is) (tt, r.0, sym (reduced_same q t r.0) ∙ r.1) h
     single_keeps (Buffer n Backpressure) a s e p = retype_all t u (head_of is).list (given None t t u e).1 h
     single_keeps (Buffer n q) a s e p =
         retype_all t u (buffered q n (w.moves node) (head_of is).list empty_buffer).gave (given None t t u e).1
@@ -154,19 +164,20 @@ module _ (g : Graph) (w : World) (node : ℕ) (d : Decider) (is : List Outlook) 
         (recover_typed text_type (text l) (w.moves node) (head_of is) tt (retype_all t text_type (head_of is).list same h))
     single_keeps (Valve name) a s e p =
         retype_all t u (acted_outlook node (acted (w.moves node)) (head_of is)).list (given None t t u e).1 (acted_typed t node (acted (w.moves node)) (head_of is) h)
-    single_keeps (TripShutdown name n) a s e p = output_typed w.book passing t u node d passing (head_of is) (given None t t u e).1 h
-    single_keeps (TripAbort name n) a s e p = output_typed w.book passing t u node d passing (head_of is) (given None t t u e).1 h
+    single_keeps (TripShutdown name n) a s e p = output_typed plugs w.book keeps passing t u node d passing (head_of is) (given None t t u e).1 h
+    single_keeps (TripAbort name n) a s e p = output_typed plugs w.book keeps passing t u node d passing (head_of is) (given None t t u e).1 h
+    single_keeps (Plug name) a s e p = plug_keeps name (plug_named name plugs) refl a e
     single_keeps (Broadcast n) a s e p = retype_all t u (head_of is).list (given None t t u e).1 h
     single_keeps (Balance n) a s e p = retype_all t u (sent_to p (w.moves node) (head_of is).list) (given None t t u e).1 (sent_typed t p (w.moves node) (head_of is).list h)
     single_keeps (Partition n q) a s e p =
         let r = wanted (map_want q) t (parted plugs (map_gives q t) t) u e in
-        output_typed w.book (numbering n q p) t u node Stop (numbering n q p) (head_of is) (parted_by (same_sort num_type (map_gives q t)) t (map_gives q t) u r.1) h
+        output_typed plugs w.book keeps (numbering n q p) t u node Stop (numbering n q p) (head_of is) (parted_by (same_sort num_type (map_gives q t)) t (map_gives q t) u r.1) h
     single_keeps Unzip a s e p =
         let r = given (Some AnyPair) t t u e in
         subst (λ v. AllTyped (if p == 0 then left_type v else right_type v) (if p == 0 then left_outlook (head_of is) else right_outlook (head_of is)).list) r.1
         (unzip_by (p == 0) t (head_of is) r.0 h)
-    single_keeps (ToLines name) a s e p = output_typed w.book passing t u node d passing (head_of is) (given None t t u e).1 h
-    single_keeps (Head name) a s e p = output_typed w.book heading t u node d heading (head_of is) (given None t t u e).1 h
-    single_keeps (Last name) a s e p = output_typed w.book (lasting None) t u node d (lasting None) (head_of is) (tt, (given None t t u e).1) h
-    single_keeps Ignore a s e p = output_typed w.book passing t u node d passing (head_of is) (given None t t u e).1 h
+    single_keeps (ToLines name) a s e p = output_typed plugs w.book keeps passing t u node d passing (head_of is) (given None t t u e).1 h
+    single_keeps (Head name) a s e p = output_typed plugs w.book keeps heading t u node d heading (head_of is) (given None t t u e).1 h
+    single_keeps (Last name) a s e p = output_typed plugs w.book keeps (lasting None) t u node d (lasting None) (head_of is) (tt, (given None t t u e).1) h
+    single_keeps Ignore a s e p = output_typed plugs w.book keeps passing t u node d passing (head_of is) (given None t t u e).1 h
     single_keeps _ a s e p = cc

@@ -19,8 +19,8 @@ abbrev pub plain : Node → graph.Node
 plain n = record { kind = n.kind; decider = n.decider }
 
 -- each node is of a kind that the laws of types speak of
-pub record HasTypedKinds (nodes : List Node) : Type 0 where
-  pub each : (i : ℕ) (n : Node) → slice_get nodes i ≡ Some n → is_typed_kind n.kind ≡ true
+pub record HasTypedKinds (plugs : List PlugHead) (nodes : List Node) : Type 0 where
+  pub each : (i : ℕ) (n : Node) → slice_get nodes i ≡ Some n → is_typed_kind plugs n.kind ≡ true
 
 module _ (plugs : List PlugHead) (chains : List ChainDecl) (nodes : List Node) (g : Graph) where
   -- the graph has these nodes, and no rule on ports, sizes of nodes or types is broken

@@ -1,19 +1,19 @@
 -- The kinds of nodes that the laws of types speak of, and how their types hang together.
-use Rattle.std.specs.Prelude.{Bool, true, false, List, Option}
+use Rattle.std.specs.Prelude.{Bool, true, false, List, Option, is_some}
 use Rattle.stream_model.specs.declared.kind.Kind.{Kind}
 use Rattle.stream_model.specs.declared.kind.Kind.TheVariants.{Lines, Range, Empty, Failed, Plug, GroupBy, SplitWhen, SplitAfter, Merge, Concat, Interleave, MergeSorted, Zip, Partition}
 use Rattle.plug_core.specs.declared.head.PlugHead.{PlugHead}
 use Rattle.blue_rules.specs.declared.want.Want.{Want}
 use Rattle.blue_rules.specs.FnTypes.{map_want}
-use Rattle.blue_rules.specs.StageTypes.{stage_want}
+use Rattle.blue_rules.specs.StageTypes.{plug_named, stage_want}
 
--- all but the stages that a caller hands in, and those that open substreams
-abbrev pub is_typed_kind : Kind → Bool
-is_typed_kind (Plug name) = false
-is_typed_kind (GroupBy n f chain) = false
-is_typed_kind (SplitWhen p chain j) = false
-is_typed_kind (SplitAfter p chain j) = false
-is_typed_kind _ = true
+-- a plug that is handed in, or any other kind but those that open substreams
+abbrev pub is_typed_kind : List PlugHead → Kind → Bool
+is_typed_kind plugs (Plug name) = is_some (plug_named name plugs)
+is_typed_kind plugs (GroupBy n f chain) = false
+is_typed_kind plugs (SplitWhen p chain j) = false
+is_typed_kind plugs (SplitAfter p chain j) = false
+is_typed_kind plugs _ = true
 
 -- a source, a node whose inputs are all of one type, a zip, or a node with one input
 pub data Shape : Type 0 where

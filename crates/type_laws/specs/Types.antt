@@ -7,7 +7,7 @@ use Rattle.blue_rules.specs.declared.want.Want.{Want}
 use Rattle.blue_rules.specs.FnTypes.{suits}
 
 -- each element of a list is so
-abbrev pub Each : (Tree → Type 0) → List Tree → Type 0
+abbrev pub Each : {A : Type 0} → (A → Type 0) → List A → Type 0
 Each P [] = Unit {0}
 Each P (x ∷ xs) = P x × Each P xs
 

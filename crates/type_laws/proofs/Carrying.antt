@@ -16,13 +16,14 @@ use Rattle.plug_core.specs.declared.head.PlugHead.{PlugHead}
 use Rattle.blue_rules.specs.Rounds.{wire_into, type_on, port_type, half_type, arrivals, attempt, settled, is_joining, clash_of}
 use Rattle.blue_rules.specs.StageTypes.{limited, source_type, stage_typed}
 use Rattle.blue_rules.specs.declared.typed.Typed.TheVariants.{Gives}
-use Rattle.type_laws.specs.Checked.{plain, PassesRules, HasTypedKinds, wire_type, CarriesType}
+use Rattle.type_laws.specs.Checked.{plain, PassesRules, HasKnownSteps, wire_type, CarriesType}
 use Rattle.type_laws.specs.Kinds.{Shape, source, joining, zipping, single, shape_of, function_want}
 use Rattle.type_laws.specs.Plugs.{KeepsPlugTypes}
 use Rattle.type_laws.specs.Types.{AllTyped, OutlooksTyped, Takes}
 use Rattle.type_laws.proofs.Lists.{retype_all}
-use Rattle.type_laws.proofs.Stages.{limited_is, source_keeps, single_keeps, joining_keeps, zip_keeps}
-use Rattle.type_laws.proofs.Rules.{ends_there, Into, into_from, input_there, joins_alike, meets}
+use Rattle.type_laws.proofs.Given.{limited_is}
+use Rattle.type_laws.proofs.Stages.{source_keeps, single_keeps, joining_keeps, zip_keeps}
+use Rattle.type_laws.proofs.Rules.{ends_there, Into, into_from, input_there, joins_alike, known_kind, meets}
 use Rattle.type_laws.proofs.Origins.{Origin, by_source, by_round, origin}
 use Rattle.type_laws.proofs.Shapes.{one_input, is_zip, no_input, joins, stands_apart, whole_source, whole_joining, no_source, source_tries, single_gives, takes, joining_takes}
 use Rattle.type_laws.proofs.Settling.{all_by_rank, HasSettled, TypedInput, typed_input, every_wire_settles}
@@ -80,9 +81,9 @@ module _ (plugs : List PlugHead) (chains : List ChainDecl) (nodes : List Node) (
         subst (λ o. AllTyped i.type (incoming g w (composed g w) o).list) (sym i.into.finds)
         (received_typed (lane_of g w (slice_get g.wires number)) (composed g w number) i.type (h.typed i.into.wire i.into.at i.type i.on_wire))
 
-    module _ (rank : ℕ → ℕ) (ranked : IsRanked g rank) (passes : PassesRules plugs chains nodes g) (kinds : HasTypedKinds plugs nodes) (keeps : KeepsPlugTypes plugs w.book) where
+    module _ (rank : ℕ → ℕ) (ranked : IsRanked g rank) (passes : PassesRules plugs chains nodes g) (steps : HasKnownSteps plugs chains) (keeps : KeepsPlugTypes plugs w.book) where
       settles : (i : ℕ) → i < length g.wires → HasSettled plugs chains nodes g i
-      settles = every_wire_settles plugs chains nodes g rank ranked passes kinds
+      settles = every_wire_settles plugs chains nodes g rank ranked passes
 
       input_typed : (k p : ℕ) → Into nodes g.wires k p → TypedInput plugs chains nodes g k p
       input_typed k p i = typed_input plugs chains nodes g k p i (settles i.number (slice_get-below g.wires i.number i.wire i.at))
@@ -114,14 +115,14 @@ module _ (plugs : List PlugHead) (chains : List ChainDecl) (nodes : List Node) (
             let one = one_input n.kind s in
             let i = input_typed v.from 0 (input_at 0 (rw one (omega arith))) in
             let met = meets plugs chains nodes g.wires passes.no_clash i.into.number i.into.wire v.from n i.type i.into.at i.into.to is i.on_wire (stands_apart n.kind s) in
-            single_keeps g w v.from n.decider (ins 1) plugs chains keeps i.type u (comes_typed v.from 0 i (input_below 0 i.into)) n.kind (kinds.each v.from n is) s
+            single_keeps g w v.from n.decider (ins 1) plugs chains keeps passes.chains_are steps.all i.type u (comes_typed v.from 0 i (input_below 0 i.into)) n.kind (known_kind plugs nodes passes.no_unknown v.from n is) s
             (by_origin one i (origin plugs chains nodes g.wires v.from n u is has) met) v.output
           where
             by_origin : inputs_of n.kind ≡ 1 → (i : TypedInput plugs chains nodes g v.from 0) → Origin plugs chains nodes g.wires v.from n u
                 → clash_of i.into.number (stage_typed plugs chains n.kind i.type) ≡ None → stage_typed plugs chains n.kind i.type ≡ Gives u
             by_origin one i (by_source h) met = absurd (no_source n.kind u s h)
             by_origin one i (by_round earlier keeps h) met =
-                single_gives plugs chains n.kind (kinds.each v.from n is) s i.into.number i.type met (type_on nodes g.wires earlier (wire_into nodes g.wires v.from 0)) u
+                single_gives plugs chains n.kind (known_kind plugs nodes passes.no_unknown v.from n is) s i.into.number i.type met (type_on nodes g.wires earlier (wire_into nodes g.wires v.from 0)) u
                 (λ t e. one_some (type_on nodes g.wires types (wire_into nodes g.wires v.from 0)) i.type t i.comes (later_on earlier keeps (wire_into nodes g.wires v.from 0) t e))
                 (subst (λ m. attempt plugs chains n.kind (arrivals nodes g.wires earlier v.from (count_from 0 m)) ≡ Some (Gives u)) one h)
 
@@ -198,7 +199,7 @@ module _ (plugs : List PlugHead) (chains : List ChainDecl) (nodes : List Node) (
       -- the function at the end of a wire
       target_takes : (i : ℕ) (v : Wire) (m : Node) (t : Sort) → slice_get g.wires i ≡ Some v → slice_get nodes v.to ≡ Some m → wire_type plugs chains nodes g v ≡ Some t → (b : Bool) → is_joining m.kind ≡ b → Takes (function_want plugs m.kind) t
       target_takes i v m t at to e true j = joining_takes plugs chains m.kind t j
-      target_takes i v m t at to e false j = takes plugs chains m.kind i t (kinds.each v.to m to) (meets plugs chains nodes g.wires passes.no_clash i v v.to m t at refl to e j)
+      target_takes i v m t at to e false j = takes plugs chains m.kind i t (known_kind plugs nodes passes.no_unknown v.to m to) (meets plugs chains nodes g.wires passes.no_clash i v v.to m t at refl to e j)
 
       pub every_wire_carries : (i : ℕ) (v : Wire) → slice_get g.wires i ≡ Some v → CarriesType plugs chains nodes g w i v
       every_wire_carries i v at =

@@ -7,7 +7,7 @@ use Rattle.elem_core.specs.Tree.{Tree}
 use Rattle.elem_core.specs.Order.{tree_cmp}
 use Rattle.stream_model.specs.Outlook.{Outlook}
 use Rattle.stream_model.specs.FanIn.{Tagged, tag, concat_of, Inlet, inlets, rest_of, interleave_of, against, sorted_of, pairs, next_of, merge_of}
-use Rattle.type_laws.specs.Types.{HasType, AllTyped, OutlooksTyped}
+use Rattle.type_laws.specs.Types.{Each, HasType, AllTyped, OutlooksTyped}
 
 -- halves of two lists, in pairs
 pub pairs_typed : (t u : Sort) (xs ys : List Tree) → AllTyped t xs → AllTyped u ys → AllTyped (pair_type t u) (pairs xs ys)
@@ -17,14 +17,13 @@ pairs_typed t u (x ∷ xs) (y ∷ ys) h k = ((h.0, k.0), pairs_typed t u xs ys h
 
 module _ (t : Sort) where
   abbrev pub TagsTyped : List Tagged → Type 0
-  TagsTyped [] = Unit {0}
-  TagsTyped (x ∷ xs) = HasType t x.item × TagsTyped xs
+  TagsTyped l = Each (λ (x : Tagged). HasType t x.item) l
 
   pub items_typed : (l : List Tagged) → TagsTyped l → AllTyped t (map (λ x. x.item) l)
   items_typed [] h = tt
   items_typed (x ∷ xs) h = (h.0, items_typed xs h.1)
 
-  tagged : (n : ℕ) (l : List Tree) → AllTyped t l → TagsTyped (map (tag n) l)
+  pub tagged : (n : ℕ) (l : List Tree) → AllTyped t l → TagsTyped (map (tag n) l)
   tagged n [] h = tt
   tagged n (x ∷ xs) h = (h.0, tagged n xs h.1)
 
@@ -47,8 +46,7 @@ module _ (t : Sort) where
   -- ---- in turn
 
   abbrev InletsTyped : List Inlet → Type 0
-  InletsTyped [] = Unit {0}
-  InletsTyped (i ∷ is) = AllTyped t i.list × InletsTyped is
+  InletsTyped q = Each (λ (i : Inlet). AllTyped t i.list) q
 
   pub inlets_typed : (n : ℕ) (os : List Outlook) → OutlooksTyped t os → InletsTyped (inlets n os)
   inlets_typed n [] h = tt
@@ -90,9 +88,8 @@ module _ (t : Sort) where
 
   -- ---- by moves
 
-  abbrev ListsTyped : List (List Tree) → Type 0
-  ListsTyped [] = Unit {0}
-  ListsTyped (l ∷ ls) = AllTyped t l × ListsTyped ls
+  abbrev pub ListsTyped : List (List Tree) → Type 0
+  ListsTyped ls = Each (AllTyped t) ls
 
   pub lists_typed : (os : List Outlook) → OutlooksTyped t os → ListsTyped (map (λ o. o.list) os)
   lists_typed [] h = tt

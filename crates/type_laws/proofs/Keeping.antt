@@ -1,5 +1,5 @@
 -- A machine that keeps something of its state, and gives only what is so, for elements that are so.
-use Rattle.std.proofs.Common.{◌≡◌, List, [], ◌∷◌, ◌++◌}
+use Rattle.std.proofs.Common.{List, [], ◌∷◌, ◌++◌}
 use Rattle.elem_core.specs.Tree.{Tree}
 use Rattle.stream_model.specs.Outlook.{Outlook, End, unended, ended, failed}
 use Rattle.stream_model.specs.Machine.{State, going, done, broken, Run, Machine, Finish, adds, refuses, feed, run, finish_at, close_at, close, input_end, whole}

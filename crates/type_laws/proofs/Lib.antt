@@ -3,9 +3,12 @@ pub mod Functions
 pub mod Meeting
 pub mod Keeping
 pub mod Works
+pub mod Given
 pub mod Machines
+pub mod Chains
 pub mod Fans
 pub mod Choices
+pub mod Substreams
 pub mod Stages
 pub mod Rules
 pub mod Origins

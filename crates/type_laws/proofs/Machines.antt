@@ -1,5 +1,5 @@
 -- The list of a stage's output is of its type, where the list of its input is.
-use Rattle.std.proofs.Common.{◌≡◌, ℕ, List}
+use Rattle.std.proofs.Common.{ℕ, List}
 use Rattle.elem_core.specs.Sort.{Sort}
 use Rattle.elem_core.specs.Tree.{Tree}
 use Rattle.elem_core.specs.declared.why.Decider.{Decider}

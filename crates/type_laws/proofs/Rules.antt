@@ -1,5 +1,5 @@
 -- What rules say that are not broken: of each wire, each input and each node.
-use Rattle.std.proofs.Common.{◌≡◌, ℕ, zero, suc, ◌+◌, ◌<◌, ◌≤◌, Bool, true, false, not, ◌||◌, List, [], ◌∷◌, Option, Some, None, refl, sym, ap, ◌∙◌, subst, arith}
+use Rattle.std.proofs.Common.{◌≡◌, ℕ, zero, suc, ◌+◌, ◌<◌, ◌≤◌, Bool, true, false, not, ◌||◌, List, [], ◌∷◌, map, Option, Some, None, is_some, refl, sym, ap, ◌∙◌, subst, arith}
 use Rattle.std.specs.Prelude.{if◌then◌else◌, slice_get, is_none, nat_le}
 use Rattle.std.specs.Option.{option_or, option_and_then}
 use Rattle.std.proofs.lemmas.Bool.{or_parts, and_parts, leb-true}
@@ -8,7 +8,7 @@ use Rattle.elem_core.specs.SortLaws.{sort_from_same}
 use Rattle.stream_model.specs.Composed.{inputs_of, count_from}
 use Rattle.stream_model.specs.Graph.{Wire, find_wire}
 use Rattle.stream_model.specs.declared.kind.Kind.{Kind}
-use Rattle.stream_model.specs.declared.kind.Kind.TheVariants.{Merge, Concat, Interleave, MergeSorted}
+use Rattle.stream_model.specs.declared.kind.Kind.TheVariants.{Plug, Merge, Concat, Interleave, MergeSorted}
 use Rattle.stream_model.specs.declared.kind.TheConstants.{MAX_FAN}
 use Rattle.blue_core.specs.declared.limit.TheConstants.{MAX_COUNT}
 use Rattle.stream_model.proofs.Compositions.{found_first}
@@ -16,14 +16,17 @@ use Rattle.blue_core.specs.declared.blueprint.ChainDecl.{ChainDecl}
 use Rattle.blue_core.specs.declared.blueprint.Node.{Node}
 use Rattle.plug_core.specs.declared.head.PlugHead.{PlugHead}
 use Rattle.blue_rules.specs.First.{first_from, when}
+use Rattle.std.specs.List.{list_any}
+use Rattle.elem_core.specs.Values.{same_text}
+use Rattle.blue_rules.specs.Names.{plug_of, unknown_plug_at, unknown_plug}
 use Rattle.blue_rules.specs.Ports.{OpenPort, lacks_output, lacks_input, port_missing, port_open, open_input, open_output}
 use Rattle.blue_rules.specs.Rounds.{wire_into, settled, type_on, type_clash, too_deep, clash_with, clash_on, is_joining, unlike, clash_of, is_deep, attempt_at}
 use Rattle.blue_rules.specs.Sizes.{is_within, sizes_fit, node_wrong}
-use Rattle.blue_rules.specs.StageTypes.{stage_typed}
+use Rattle.blue_rules.specs.StageTypes.{plug_named, stage_typed}
 use Rattle.blue_rules.specs.declared.typed.Clash.{Clash}
 use Rattle.blue_rules.specs.declared.typed.Typed.{Typed}
 use Rattle.blue_rules.specs.declared.want.Want.TheVariants.{Is}
-use Rattle.type_laws.specs.Kinds.{shape_of, joining}
+use Rattle.type_laws.specs.Kinds.{is_known, shape_of, joining}
 
 -- ---- of a first place that there is not
 
@@ -102,6 +105,30 @@ input_there nodes ws h k p n at lt =
     let zero_on : 0 + p ≡ p = omega arith in
     let none = nowhere (λ _ q. when (is_none (find_wire k q ws)) (open_at q)) (count_from 0 (inputs_of n.kind)) p p ins (count_at 0 (inputs_of n.kind) p lt ∙ ap Some zero_on) in
     found_by nodes ws k p (find_wire k p ws) refl (when_none (is_none (find_wire k p ws)) (open_at p) none)
+
+-- ---- plugs
+
+-- a plug that is named is found
+named_found : (name : List ℕ) (plugs : List PlugHead) → list_any (same_text name) (map (λ (p : PlugHead). p.name) plugs) ≡ true → is_some (plug_named name plugs) ≡ true
+named_found name [] h = cc
+named_found name (p ∷ ps) h = by_test (same_text name p.name) h (named_found name ps)
+  where
+    by_test : (b : Bool) → (b || list_any (same_text name) (map (λ (p : PlugHead). p.name) ps)) ≡ true → (list_any (same_text name) (map (λ (p : PlugHead). p.name) ps) ≡ true → is_some (plug_named name ps) ≡ true)
+        → is_some (if b then Some p else plug_named name ps) ≡ true
+    by_test true k more = refl
+    by_test false k more = more k
+
+is_there : (b : Bool) (name : List ℕ) → when (not b) name ≡ None → b ≡ true
+is_there true name h = refl
+is_there false name h = cc
+
+-- each node is of a kind that is known
+pub known_kind : (plugs : List PlugHead) (nodes : List Node) → unknown_plug plugs nodes ≡ None → (k : ℕ) (n : Node) → slice_get nodes k ≡ Some n → is_known plugs n.kind ≡ true
+known_kind plugs nodes h k n at = by_kind n.kind (nowhere (λ _ x. unknown_plug_at (map (λ (p : PlugHead). p.name) plugs) (plug_of x.kind)) nodes k n h at)
+  where
+    by_kind : (q : Kind) → unknown_plug_at (map (λ (p : PlugHead). p.name) plugs) (plug_of q) ≡ None → is_known plugs q ≡ true
+    by_kind (Plug name) e = named_found name plugs (is_there (list_any (same_text name) (map (λ (p : PlugHead). p.name) plugs)) name e)
+    by_kind _ e = refl
 
 -- ---- sizes
 

@@ -12,9 +12,9 @@ use Rattle.blue_core.specs.declared.blueprint.Node.{Node}
 use Rattle.plug_core.specs.declared.head.PlugHead.{PlugHead}
 use Rattle.blue_rules.specs.Rounds.{wire_into, type_on, port_type, arrivals, first_typed, attempt, attempt_at, fixes, is_deep, settled}
 use Rattle.blue_rules.specs.StageTypes.{limited}
-use Rattle.type_laws.specs.Checked.{PassesRules, HasTypedKinds}
+use Rattle.type_laws.specs.Checked.{PassesRules}
 use Rattle.type_laws.specs.Kinds.{Shape, source, joining, zipping, single, shape_of}
-use Rattle.type_laws.proofs.Rules.{ends_there, Into, input_there, joins_some, meets, not_deep}
+use Rattle.type_laws.proofs.Rules.{ends_there, Into, input_there, joins_some, known_kind, meets, not_deep}
 use Rattle.type_laws.proofs.Origins.{source_settles, settles_no_more}
 use Rattle.type_laws.proofs.Shapes.{one_input, is_zip, stands_apart, type_of_source, joining_tries, single_fixes, must_fix, limited_meets}
 
@@ -48,7 +48,7 @@ module _ (plugs : List PlugHead) (chains : List ChainDecl) (nodes : List Node) (
       let on : type_on nodes g.wires types (Some i.wire) ≡ Some (port_type (slice_get nodes i.wire.from) i.wire.output u.0) = ap (option_map (port_type (slice_get nodes i.wire.from) i.wire.output)) u.1 in
       record { into = i; type = port_type (slice_get nodes i.wire.from) i.wire.output u.0; on_wire = on; comes = ap (type_on nodes g.wires types) i.into ∙ on }
 
-  module _ (rank : ℕ → ℕ) (ranked : IsRanked g rank) (passes : PassesRules plugs chains nodes g) (kinds : HasTypedKinds plugs nodes) where
+  module _ (rank : ℕ → ℕ) (ranked : IsRanked g rank) (passes : PassesRules plugs chains nodes g) where
     -- what comes in on an input of the node at which a wire begins, where types are settled for the wires of lower rank
     pub input_of : (j : ℕ) (v : Wire) (n : Node) → slice_get g.wires j ≡ Some v → slice_get nodes v.from ≡ Some n → ((i : ℕ) → i < length g.wires → rank i < rank j → HasSettled i)
         → (p : ℕ) → p < inputs_of n.kind → TypedInput v.from p
@@ -80,7 +80,7 @@ module _ (plugs : List PlugHead) (chains : List ChainDecl) (nodes : List Node) (
           let comes : arrivals nodes g.wires types v.from (count_from 0 (inputs_of n.kind)) ≡ Some i.type ∷ [] =
           ap (λ m. arrivals nodes g.wires types v.from (count_from 0 m)) one ∙ ap (λ (o : Option Sort). o ∷ []) i.comes in
           let met = meets plugs chains nodes g.wires passes.no_clash i.into.number i.into.wire v.from n i.type i.into.at i.into.to is i.on_wire (stands_apart n.kind s) in
-          single_fixes plugs chains n.kind (kinds.each v.from n is) s i.into.number i.type met
+          single_fixes plugs chains n.kind (known_kind plugs nodes passes.no_unknown v.from n is) s i.into.number i.type met
           (subst (λ os. is_deep (attempt plugs chains n.kind os) ≡ false) comes (shallow v.from n is))
           (subst (λ os. fixes (attempt plugs chains n.kind os) ≡ None) comes (no_news v.from n is none))
 

@@ -14,14 +14,14 @@ use Rattle.stream_model.specs.declared.kind.Kind.{Kind}
 use Rattle.stream_model.specs.declared.kind.Kind.TheVariants.{Lines, Range, Empty, Failed, Map, MapConcat, Fold, Scan, Reduce, Plug, GroupBy, SplitWhen, SplitAfter, Merge, Concat, Interleave, MergeSorted, Zip, Partition, Unzip}
 use Rattle.blue_core.specs.declared.blueprint.ChainDecl.{ChainDecl}
 use Rattle.plug_core.specs.declared.head.PlugHead.{PlugHead}
-use Rattle.blue_rules.specs.FnTypes.{suits, map_want, map_fixed, map_shape, fixed_or, expand_fixed, expand_gives, fold_fixed, fold_gives, reduce_fixed, reduce_gives}
+use Rattle.blue_rules.specs.FnTypes.{suits, map_want, map_gives, pred_want, map_fixed, map_shape, fixed_or, expand_fixed, expand_gives, fold_fixed, fold_gives, reduce_fixed, reduce_gives}
 use Rattle.blue_rules.specs.Rounds.{half_type, first_typed, is_joining, clash_of, is_deep, fixes, attempt, attempt_by}
-use Rattle.blue_rules.specs.StageTypes.{limited, clash_or, source_type, base_type, stage_want, stage_gives, fixed_type, stage_typed, parted, plug_named, plug_gives, plug_fixed}
+use Rattle.blue_rules.specs.StageTypes.{keyed, chain_typed, chain_named, limited, clash_or, source_type, base_type, stage_want, stage_gives, fixed_type, stage_typed, parted, plug_named, plug_gives, plug_fixed}
 use Rattle.blue_rules.specs.declared.typed.TheConstants.{MAX_NESTING}
 use Rattle.blue_rules.specs.declared.typed.Typed.{Typed}
 use Rattle.blue_rules.specs.declared.typed.Typed.TheVariants.{Gives, Clashes, TooDeep}
 use Rattle.blue_rules.specs.declared.want.Want.{Want}
-use Rattle.type_laws.specs.Kinds.{is_typed_kind, source, joining, zipping, single, shape_of, function_want}
+use Rattle.type_laws.specs.Kinds.{is_known, source, joining, zipping, single, shape_of, function_want}
 use Rattle.type_laws.specs.Types.{Takes}
 
 -- ---- inputs and outputs
@@ -98,10 +98,10 @@ must_fix TooDeep i c d h = cc
 
 module _ (plugs : List PlugHead) (chains : List ChainDecl) where
   -- the function of a node takes what does not clash there
-  pub takes : (k : Kind) (i : ℕ) (t : Sort) → is_typed_kind plugs k ≡ true → clash_of i (stage_typed plugs chains k t) ≡ None → Takes (function_want plugs k) t
-  takes (GroupBy n f c) i t a h = cc
-  takes (SplitWhen p c j) i t a h = cc
-  takes (SplitAfter p c j) i t a h = cc
+  pub takes : (k : Kind) (i : ℕ) (t : Sort) → is_known plugs k ≡ true → clash_of i (stage_typed plugs chains k t) ≡ None → Takes (function_want plugs k) t
+  takes (GroupBy n f c) i t a h = (clash_by (map_want f) i t (keyed plugs (map_gives f t) (chain_typed plugs (chain_named c chains) t)) h).0
+  takes (SplitWhen p c j) i t a h = (clash_by (Some (pred_want p)) i t (chain_typed plugs (chain_named c chains) t) h).0
+  takes (SplitAfter p c j) i t a h = (clash_by (Some (pred_want p)) i t (chain_typed plugs (chain_named c chains) t) h).0
   takes (Partition n f) i t a h = (clash_by (map_want f) i t (parted plugs (fixed_or (map_fixed f) (map_shape f t)) t) h).0
   takes k i t a h = (clash_by (stage_want plugs k) i t (limited (stage_gives plugs k t)) h).0
 
@@ -154,7 +154,7 @@ module _ (plugs : List PlugHead) (chains : List ChainDecl) where
   plug_by (Some p) s t h = cc
 
   -- a kind that gives one type whatever it takes gives that
-  gives_fixed : (k : Kind) (s t : Sort) → is_typed_kind plugs k ≡ true → fixed_type plugs k ≡ Some s → stage_gives plugs k t ≡ s
+  gives_fixed : (k : Kind) (s t : Sort) → is_known plugs k ≡ true → fixed_type plugs k ≡ Some s → stage_gives plugs k t ≡ s
   gives_fixed (Map q) s t a h = ap (λ f. fixed_or f (map_shape q t)) h
   gives_fixed (MapConcat q) s t a h = expand_by q s t h
   gives_fixed (Fold q) s t a h = fold_by q s t h
@@ -163,17 +163,17 @@ module _ (plugs : List PlugHead) (chains : List ChainDecl) where
   gives_fixed (Plug name) s t a h = plug_by (plug_named name plugs) s t h
   gives_fixed _ s t a h = cc
 
-  step_fixed : (k : Kind) (s t : Sort) → is_typed_kind plugs k ≡ true → fixed_type plugs k ≡ Some s → stage_typed plugs chains k t ≡ clash_or (stage_want plugs k) t (limited (stage_gives plugs k t))
+  step_fixed : (k : Kind) (s t : Sort) → is_known plugs k ≡ true → fixed_type plugs k ≡ Some s → stage_typed plugs chains k t ≡ clash_or (stage_want plugs k) t (limited (stage_gives plugs k t))
   step_fixed (GroupBy n f c) s t a h = cc
   step_fixed (SplitWhen p c j) s t a h = cc
   step_fixed (SplitAfter p c j) s t a h = cc
   step_fixed (Partition n f) s t a h = cc
   step_fixed _ s t a h = refl
 
-  stage_fixed : (k : Kind) (s t : Sort) → is_typed_kind plugs k ≡ true → fixed_type plugs k ≡ Some s → stage_typed plugs chains k t ≡ clash_or (stage_want plugs k) t (limited s)
+  stage_fixed : (k : Kind) (s t : Sort) → is_known plugs k ≡ true → fixed_type plugs k ≡ Some s → stage_typed plugs chains k t ≡ clash_or (stage_want plugs k) t (limited s)
   stage_fixed k s t a h = step_fixed k s t a h ∙ ap (λ v. clash_or (stage_want plugs k) t (limited v)) (gives_fixed k s t a h)
 
-  module _ (k : Kind) (typed : is_typed_kind plugs k ≡ true) (shape : shape_of k ≡ single) (i : ℕ) (t : Sort) (met : clash_of i (stage_typed plugs chains k t) ≡ None) where
+  module _ (k : Kind) (typed : is_known plugs k ≡ true) (shape : shape_of k ≡ single) (i : ℕ) (t : Sort) (met : clash_of i (stage_typed plugs chains k t) ≡ None) where
     -- the type of a node with one input is what its kind gives for the type that comes in
     gives_by : (f : Option Sort) → fixed_type plugs k ≡ f → (o : Option Sort) (u : Sort) → ((s : Sort) → o ≡ Some s → t ≡ s) → attempt_by plugs chains f k (o ∷ []) ≡ Some (Gives u) → stage_typed plugs chains k t ≡ Gives u
     gives_by (Some s) e o u same h =

@@ -7,7 +7,7 @@ use Rattle.elem_core.specs.Values.{map_value, pred_value, fold_zero, fold_step, 
 use Rattle.elem_core.specs.declared.why.Why.{Why}
 use Rattle.elem_core.specs.declared.why.Decider.{Decider}
 use Rattle.elem_core.specs.declared.why.Decider.TheVariants.{Stop, Resume, Restart}
-use Rattle.stream_model.specs.Machine.{State, going, done, broken, Run, Finish, adds, refuses}
+use Rattle.stream_model.specs.Machine.{Run, Finish, adds, refuses}
 use Rattle.stream_model.specs.Linear.{Book, Work, Reaction, Stage, mapping, filtering, taking, taking_while, dropping, dropping_while, passing, limiting, grouping, expanding, folding, scanning, reducing, heading, lasting, numbering, plugged, gives, ends, blames, breaks, on_value, on_test, on_number, on_reply, Reply, Verdict, go, finish, fail, blame_end, reaction, restarted, first_of, decided, reacts, step, finish_of, begin_work}
 use Rattle.elem_core.specs.declared.why.Why.TheVariants.{Plug}
 use Rattle.plug_core.specs.declared.head.PlugHead.{PlugHead}

@@ -1,19 +1,16 @@
 -- The kinds of nodes that the laws of types speak of, and how their types hang together.
-use Rattle.std.specs.Prelude.{Bool, true, false, List, Option, is_some}
+use Rattle.std.specs.Prelude.{Bool, true, List, Option, Some, is_some}
 use Rattle.stream_model.specs.declared.kind.Kind.{Kind}
 use Rattle.stream_model.specs.declared.kind.Kind.TheVariants.{Lines, Range, Empty, Failed, Plug, GroupBy, SplitWhen, SplitAfter, Merge, Concat, Interleave, MergeSorted, Zip, Partition}
 use Rattle.plug_core.specs.declared.head.PlugHead.{PlugHead}
 use Rattle.blue_rules.specs.declared.want.Want.{Want}
-use Rattle.blue_rules.specs.FnTypes.{map_want}
+use Rattle.blue_rules.specs.FnTypes.{map_want, pred_want}
 use Rattle.blue_rules.specs.StageTypes.{plug_named, stage_want}
 
--- a plug that is handed in, or any other kind but those that open substreams
-abbrev pub is_typed_kind : List PlugHead → Kind → Bool
-is_typed_kind plugs (Plug name) = is_some (plug_named name plugs)
-is_typed_kind plugs (GroupBy n f chain) = false
-is_typed_kind plugs (SplitWhen p chain j) = false
-is_typed_kind plugs (SplitAfter p chain j) = false
-is_typed_kind plugs _ = true
+-- a plug that is handed in, or any other kind
+abbrev pub is_known : List PlugHead → Kind → Bool
+is_known plugs (Plug name) = is_some (plug_named name plugs)
+is_known plugs _ = true
 
 -- a source, a node whose inputs are all of one type, a zip, or a node with one input
 pub data Shape : Type 0 where
@@ -34,7 +31,10 @@ shape_of MergeSorted = joining
 shape_of Zip = zipping
 shape_of _ = single
 
--- what the function of a node wants, that of a partition too
+-- what the function of a node wants, also where it parts elements
 abbrev pub function_want : List PlugHead → Kind → Option Want
 function_want plugs (Partition n f) = map_want f
+function_want plugs (GroupBy n f chain) = map_want f
+function_want plugs (SplitWhen p chain j) = Some (pred_want p)
+function_want plugs (SplitAfter p chain j) = Some (pred_want p)
 function_want plugs k = stage_want plugs k

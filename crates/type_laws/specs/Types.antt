@@ -25,8 +25,7 @@ AllTyped t xs = Each (HasType t) xs
 
 -- all elements that may pass these wires are
 abbrev pub OutlooksTyped : Sort → List Outlook → Type 0
-OutlooksTyped t [] = Unit {0}
-OutlooksTyped t (o ∷ os) = AllTyped t o.list × OutlooksTyped t os
+OutlooksTyped t os = Each (λ (o : Outlook). AllTyped t o.list) os
 
 -- a function that wants no type in particular takes each; any other takes those that are wanted
 abbrev pub Takes : Option Want → Sort → Type 0

@@ -1,6 +1,6 @@
 // Laws of types: each function has no body, and its contract is the law. A type is what the check of a blueprint settles,
 // and an element is of it or not.
-ghost use Rattle.std.specs.Prelude.{◌≡◌, ℕ, List, [], ◌∷◌, slice_get, Ok, Err, Some, true};
+ghost use Rattle.std.specs.Prelude.{◌≡◌, ℕ, List, [], ◌∷◌, map, slice_get, Ok, Err, Some, true};
 ghost use Rattle.elem_core.specs.Sort.{Sort, num_type, pair_type};
 ghost use Rattle.elem_core.specs.Tree.{Tree};
 ghost use Rattle.elem_core.specs.Values.{map_value, pred_value, expansion, fold_zero, fold_step, reduce_step, part_of};
@@ -31,8 +31,8 @@ ghost use Rattle.blue_rules.specs.declared.typed.Typed.TheVariants.{Gives};
 ghost use Rattle.blue_rules.specs.FnTypes.{map_want, map_gives, pred_want, expand_want, expand_gives, fold_want, fold_gives, reduce_want, reduce_gives};
 ghost use Rattle.blue_rules.specs.Rounds.{half_type};
 ghost use Rattle.blue_rules.specs.StageTypes.{source_type, stage_typed};
-ghost use Rattle.type_laws.specs.Checked.{PassesRules, HasTypedKinds, CarriesType};
-ghost use Rattle.type_laws.specs.Kinds.{is_typed_kind, shape_of, joining, single};
+ghost use Rattle.type_laws.specs.Checked.{plain_chain, PassesRules, HasKnownSteps, CarriesType};
+ghost use Rattle.type_laws.specs.Kinds.{is_known, shape_of, joining, single};
 ghost use Rattle.type_laws.specs.Plugs.{KeepsPlugTypes};
 ghost use Rattle.type_laws.specs.Sent.{SendsItsType};
 ghost use Rattle.type_laws.specs.Types.{HasType, AllTyped, OutlooksTyped, Takes};
@@ -66,7 +66,8 @@ pub fn functions_meet_their_types()
 /// concat, an interleave and a merge_sorted the one type of their inputs (`joining`), and a zip pairs (`zip`).
 pub fn stages_keep_types()
     ensures source { (g : Graph) (w : World) (node : ℕ) (d : Decider) (is : List Outlook) (k : Kind) (t : Sort) → source_type k ≡ Some t → (p : ℕ) → AllTyped t (node_outlook g w node k d is p).list }
-    ensures single { (g : Graph) (w : World) (node : ℕ) (d : Decider) (o : Outlook) (plugs : List PlugHead) (chains : List ChainDecl) (k : Kind) (t u : Sort) → KeepsPlugTypes plugs w.book → is_typed_kind plugs k ≡ true → shape_of k ≡ single
+    ensures single { (g : Graph) (w : World) (node : ℕ) (d : Decider) (o : Outlook) (plugs : List PlugHead) (chains : List ChainDecl) (k : Kind) (t u : Sort) → KeepsPlugTypes plugs w.book
+        → g.chains ≡ map plain_chain chains → HasKnownSteps plugs chains → is_known plugs k ≡ true → shape_of k ≡ single
         → stage_typed plugs chains k t ≡ Gives u → AllTyped t o.list → (p : ℕ) → AllTyped (half_type k p u) (node_outlook g w node k d (o ∷ []) p).list }
     ensures joining { (g : Graph) (w : World) (node : ℕ) (d : Decider) (is : List Outlook) (k : Kind) (t : Sort) → shape_of k ≡ joining → OutlooksTyped t is → (p : ℕ) → AllTyped t (node_outlook g w node k d is p).list }
     ensures zip { (g : Graph) (w : World) (node : ℕ) (d : Decider) (o r : Outlook) (t u : Sort) → AllTyped t o.list → AllTyped u r.list → (p : ℕ) → AllTyped (pair_type t u) (node_outlook g w node kind.Zip d (o ∷ r ∷ []) p).list }
@@ -76,7 +77,7 @@ pub fn stages_keep_types()
 /// type is settled for each wire, only elements of that type may pass it, and the function of the node to which it leads takes
 /// that type.
 pub fn every_list_is_typed()
-    ensures { (plugs : List PlugHead) (chains : List ChainDecl) (nodes : List Node) (g : Graph) (w : World) (rank : ℕ → ℕ) → PassesRules plugs chains nodes g → HasTypedKinds plugs nodes → KeepsPlugTypes plugs w.book → IsRanked g rank
+    ensures { (plugs : List PlugHead) (chains : List ChainDecl) (nodes : List Node) (g : Graph) (w : World) (rank : ℕ → ℕ) → PassesRules plugs chains nodes g → HasKnownSteps plugs chains → KeepsPlugTypes plugs w.book → IsRanked g rank
         → (i : ℕ) (v : Wire) → slice_get g.wires i ≡ Some v → CarriesType plugs chains nodes g w i v }
 {}
 
@@ -84,6 +85,6 @@ pub fn every_list_is_typed()
 /// type that is settled for the wire.
 pub fn every_wire_carries_its_type<S: Source, D: Drain>()
     ensures { (plugs : List PlugHead) (chains : List ChainDecl) (nodes : List Node) (g : Graph) (w : World) (rank : ℕ → ℕ) (net : Net (stage.Node S D)) → Settled node_row (node_law S.state D.state) net
-        → Materializes S.state g net.firsts net.ends → Tells S.state g w net → PassesRules plugs chains nodes g → HasTypedKinds plugs nodes → KeepsPlugTypes plugs w.book → IsRanked g rank
+        → Materializes S.state g net.firsts net.ends → Tells S.state g w net → PassesRules plugs chains nodes g → HasKnownSteps plugs chains → KeepsPlugTypes plugs w.book → IsRanked g rank
         → (i : ℕ) (v : Wire) → slice_get g.wires i ≡ Some v → SendsItsType plugs chains nodes g w i v (wire_at net i).wire.sent }
 {}

@@ -13,19 +13,20 @@ use Rattle.stream_model.proofs.Compositions.{slice_get-below, composed_composes}
 use Rattle.blue_core.specs.declared.blueprint.ChainDecl.{ChainDecl}
 use Rattle.blue_core.specs.declared.blueprint.Node.{Node}
 use Rattle.plug_core.specs.declared.head.PlugHead.{PlugHead}
-use Rattle.blue_rules.specs.Rounds.{wire_into, type_on, port_type, half_type, arrivals, attempt, settled, is_joining, clash_of}
+use Rattle.blue_rules.specs.Rounds.{wire_into, type_on, port_type, half_type, arrivals, attempt, settled, is_joining, is_deep, clash_of}
 use Rattle.blue_rules.specs.StageTypes.{limited, source_type, stage_typed}
 use Rattle.blue_rules.specs.declared.typed.Typed.TheVariants.{Gives}
 use Rattle.type_laws.specs.Checked.{plain, PassesRules, HasKnownSteps, wire_type, CarriesType}
-use Rattle.type_laws.specs.Kinds.{Shape, source, joining, zipping, single, shape_of, function_want}
+use Rattle.type_laws.specs.Kinds.{Shape, source, joining, zipping, single, shape_of, function_want, chain_in, StepsTake}
 use Rattle.type_laws.specs.Plugs.{KeepsPlugTypes}
 use Rattle.type_laws.specs.Types.{AllTyped, OutlooksTyped, Takes}
 use Rattle.type_laws.proofs.Lists.{retype_all}
 use Rattle.type_laws.proofs.Given.{limited_is}
 use Rattle.type_laws.proofs.Stages.{source_keeps, single_keeps, joining_keeps, zip_keeps}
-use Rattle.type_laws.proofs.Rules.{ends_there, Into, into_from, input_there, joins_alike, known_kind, meets}
+use Rattle.type_laws.proofs.Rules.{ends_there, Into, into_from, input_there, joins_alike, known_kind, only_wire, meets, not_deep}
 use Rattle.type_laws.proofs.Origins.{Origin, by_source, by_round, origin}
-use Rattle.type_laws.proofs.Shapes.{one_input, is_zip, no_input, joins, stands_apart, whole_source, whole_joining, no_source, source_tries, single_gives, takes, joining_takes}
+use Rattle.type_laws.proofs.Shapes.{one_input, is_zip, no_input, joins, stands_apart, whole_source, whole_joining, no_source, source_tries, single_gives, takes, joining_takes, Chained, chained, bare, is_chained, single_given}
+use Rattle.type_laws.proofs.Chains.{chain_takes}
 use Rattle.type_laws.proofs.Settling.{all_by_rank, HasSettled, TypedInput, typed_input, every_wire_settles}
 
 plain_at : (nodes : List Node) (k : ℕ) (n : Node) → slice_get nodes k ≡ Some n → slice_get (map plain nodes) k ≡ Some (plain n)
@@ -201,6 +202,19 @@ module _ (plugs : List PlugHead) (chains : List ChainDecl) (nodes : List Node) (
       target_takes i v m t at to e true j = joining_takes plugs chains m.kind t j
       target_takes i v m t at to e false j = takes plugs chains m.kind i t (known_kind plugs nodes passes.no_unknown v.to m to) (meets plugs chains nodes g.wires passes.no_clash i v v.to m t at refl to e j)
 
+      -- the functions of the steps of its chain
+      target_steps : (i : ℕ) (v : Wire) (m : Node) (t : Sort) → slice_get g.wires i ≡ Some v → slice_get nodes v.to ≡ Some m → wire_type plugs chains nodes g v ≡ Some t → Chained m.kind → StepsTake plugs (chain_in chains m.kind) t
+      target_steps i v m t at to e (bare h) = h plugs chains t
+      target_steps i v m t at to e (chained s f) =
+          let one = one_input m.kind s in
+          let into = only_wire nodes g.wires passes.no_missing passes.no_twice passes.no_open i v m at to one in
+          let comes : arrivals nodes g.wires types v.to (count_from 0 (inputs_of m.kind)) ≡ Some t ∷ [] =
+          ap (λ k. arrivals nodes g.wires types v.to (count_from 0 k)) one ∙ ap (λ (o : Option Wire). type_on nodes g.wires types o ∷ []) into ∙ ap (λ (o : Option Sort). o ∷ []) e in
+          let met = meets plugs chains nodes g.wires passes.no_clash i v v.to m t at refl to e (stands_apart m.kind s) in
+          let r = single_given plugs chains m.kind (known_kind plugs nodes passes.no_unknown v.to m to) s i t met (f plugs)
+          (subst (λ os. is_deep (attempt plugs chains m.kind os) ≡ false) comes (not_deep plugs chains nodes g.wires passes.no_deep v.to m to)) in
+          chain_takes plugs chains m.kind t r.type r.is
+
       pub every_wire_carries : (i : ℕ) (v : Wire) → slice_get g.wires i ≡ Some v → CarriesType plugs chains nodes g w i v
       every_wire_carries i v at =
           let l = slice_get-below g.wires i v at in
@@ -214,4 +228,5 @@ module _ (plugs : List PlugHead) (chains : List ChainDecl) (nodes : List Node) (
             target = ends.1.node;
             at = ends.1.is;
             takes = target_takes i v ends.1.node (port_type (slice_get nodes v.from) v.output u.0) at ends.1.is e (is_joining ends.1.node.kind) refl;
+            steps = target_steps i v ends.1.node (port_type (slice_get nodes v.from) v.output u.0) at ends.1.is e (is_chained ends.1.node.kind);
           }

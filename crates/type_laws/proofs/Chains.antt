@@ -14,23 +14,23 @@ use Rattle.stream_model.specs.Node.{chain_of}
 use Rattle.stream_model.specs.Outlook.{End}
 use Rattle.stream_model.specs.Substreams.{Chain, through}
 use Rattle.stream_model.specs.declared.kind.Kind.{Kind}
-use Rattle.stream_model.specs.declared.kind.Kind.TheVariants.{Map, Grouped, MapConcat, Fold, Scan, Reduce, RecoverNum, RecoverText, Plug, Last}
+use Rattle.stream_model.specs.declared.kind.Kind.TheVariants.{Map, Grouped, MapConcat, Fold, Scan, Reduce, RecoverNum, RecoverText, Plug, GroupBy, SplitWhen, SplitAfter, Last}
 use Rattle.blue_core.specs.declared.blueprint.ChainDecl.{ChainDecl}
 use Rattle.blue_core.specs.declared.blueprint.Step.{Step}
 use Rattle.plug_core.specs.declared.head.PlugHead.{PlugHead}
-use Rattle.blue_rules.specs.FnTypes.{map_want, map_gives, expand_want, expand_gives, fold_want, fold_gives, reduce_want, reduce_gives}
-use Rattle.blue_rules.specs.StageTypes.{limited, clash_or, named, plug_named, plug_want, plug_gives, steps_in, chain_named, stage_want, stage_gives, step_typed, and_then, chain_typed}
+use Rattle.blue_rules.specs.FnTypes.{map_want, map_gives, pred_want, expand_want, expand_gives, fold_want, fold_gives, reduce_want, reduce_gives}
+use Rattle.blue_rules.specs.StageTypes.{keyed, stage_typed, limited, clash_or, named, plug_named, plug_want, plug_gives, steps_in, chain_named, stage_want, stage_gives, step_typed, and_then, chain_typed}
 use Rattle.blue_rules.specs.declared.typed.Typed.{Typed}
 use Rattle.blue_rules.specs.declared.typed.Typed.TheVariants.{Gives, Clashes, TooDeep}
 use Rattle.blue_rules.specs.declared.want.Want.TheVariants.{Is}
 use Rattle.std.proofs.lemmas.Cmp.{nat_list_eq_equiv}
 use Rattle.type_laws.specs.Checked.{plain_step, plain_chain}
-use Rattle.type_laws.specs.Kinds.{is_known}
+use Rattle.type_laws.specs.Kinds.{is_known, chain_in, StepsTake}
 use Rattle.type_laws.specs.Plugs.{KeepsPlugTypes}
 use Rattle.type_laws.specs.Types.{AllTyped}
 use Rattle.type_laws.proofs.Lists.{retype, retype_all}
 use Rattle.type_laws.proofs.Functions.{zero_typed, reduced_same}
-use Rattle.type_laws.proofs.Given.{given}
+use Rattle.type_laws.proofs.Given.{given, wanted, keyed_is}
 use Rattle.type_laws.proofs.Machines.{closed_typed}
 use Rattle.type_laws.proofs.Works.{WorkTyped, RunTyped, begin_typed}
 
@@ -82,6 +82,28 @@ module _ (plugs : List PlugHead) (book : Book) (keeps : KeepsPlugTypes plugs boo
   through_typed (s ∷ ss) t u l e i h =
       let g : Given Tree = close (linear book passing) (run (linear book passing) s l) e in
       through_typed ss i.0 u g.list g.end i.2 (closed_typed plugs book keeps passing t i.0 s l e i.1 h)
+
+-- the functions of the steps take what reaches them
+module _ (plugs : List PlugHead) where
+  pub steps_take : (steps : List Step) (t u : Sort) → chain_typed plugs steps t ≡ Gives u → StepsTake plugs steps t
+  steps_take [] t u e = tt
+  steps_take (s ∷ ss) t u e = by_step (step_typed plugs s.kind t) refl (λ v later. steps_take ss v u later) e
+    where
+      by_step : (r : Typed) → step_typed plugs s.kind t ≡ r → ((v : Sort) → chain_typed plugs ss v ≡ Gives u → StepsTake plugs ss v) → and_then plugs r (chain_typed plugs ss) ≡ Gives u → StepsTake plugs (s ∷ ss) t
+      by_step (Gives v) is more h =
+          let r = given (stage_want plugs s.kind) t (stage_gives plugs s.kind t) v is in
+          (r.0, subst (λ x. StepsTake plugs ss x) (sym r.1) (more v h))
+      by_step (Clashes x y) is more h = cc
+      by_step TooDeep is more h = cc
+
+  -- of a node at which a type is given
+  pub chain_takes : (chains : List ChainDecl) (k : Kind) (t u : Sort) → stage_typed plugs chains k t ≡ Gives u → StepsTake plugs (chain_in chains k) t
+  chain_takes chains (GroupBy n f name) t u e =
+      let r = wanted (map_want f) t (keyed plugs (map_gives f t) (chain_typed plugs (chain_named name chains) t)) u e in
+      steps_take (chain_named name chains) t u (keyed_is plugs (map_gives f t) (chain_typed plugs (chain_named name chains) t) u r.1)
+  chain_takes chains (SplitWhen p name j) t u e = steps_take (chain_named name chains) t u (wanted (Some (pred_want p)) t (chain_typed plugs (chain_named name chains) t) u e).1
+  chain_takes chains (SplitAfter p name j) t u e = steps_take (chain_named name chains) t u (wanted (Some (pred_want p)) t (chain_typed plugs (chain_named name chains) t) u e).1
+  chain_takes chains _ t u e = tt
 
 -- ---- chains by their names
 

@@ -1,12 +1,12 @@
 -- What rules say that are not broken: of each wire, each input and each node.
 use Rattle.std.proofs.Common.{◌≡◌, ℕ, zero, suc, ◌+◌, ◌<◌, ◌≤◌, Bool, true, false, not, ◌||◌, List, [], ◌∷◌, map, Option, Some, None, is_some, refl, sym, ap, ◌∙◌, subst, arith}
-use Rattle.std.specs.Prelude.{if◌then◌else◌, slice_get, is_none, nat_le}
+use Rattle.std.specs.Prelude.{if◌then◌else◌, ◌==◌, slice_get, is_none, nat_le}
 use Rattle.std.specs.Option.{option_or, option_and_then}
-use Rattle.std.proofs.lemmas.Bool.{or_parts, and_parts, leb-true}
+use Rattle.std.proofs.lemmas.Bool.{or_parts, and_parts, leb-true, leb-false, eqb-true}
 use Rattle.elem_core.specs.Sort.{Sort, same_sort}
 use Rattle.elem_core.specs.SortLaws.{sort_from_same}
 use Rattle.stream_model.specs.Composed.{inputs_of, count_from}
-use Rattle.stream_model.specs.Graph.{Wire, find_wire}
+use Rattle.stream_model.specs.Graph.{Wire, find_wire, find_source}
 use Rattle.stream_model.specs.declared.kind.Kind.{Kind}
 use Rattle.stream_model.specs.declared.kind.Kind.TheVariants.{Plug, Merge, Concat, Interleave, MergeSorted}
 use Rattle.stream_model.specs.declared.kind.TheConstants.{MAX_FAN}
@@ -19,7 +19,7 @@ use Rattle.blue_rules.specs.First.{first_from, when}
 use Rattle.std.specs.List.{list_any}
 use Rattle.elem_core.specs.Values.{same_text}
 use Rattle.blue_rules.specs.Names.{plug_of, unknown_plug_at, unknown_plug}
-use Rattle.blue_rules.specs.Ports.{OpenPort, lacks_output, lacks_input, port_missing, port_open, open_input, open_output}
+use Rattle.blue_rules.specs.Ports.{OpenPort, lacks_output, lacks_input, is_number, port_missing, port_twice, port_open, open_input, open_output}
 use Rattle.blue_rules.specs.Rounds.{wire_into, settled, type_on, type_clash, too_deep, clash_with, clash_on, is_joining, unlike, clash_of, is_deep, attempt_at}
 use Rattle.blue_rules.specs.Sizes.{is_within, sizes_fit, node_wrong}
 use Rattle.blue_rules.specs.StageTypes.{plug_named, stage_typed}
@@ -105,6 +105,29 @@ input_there nodes ws h k p n at lt =
     let zero_on : 0 + p ≡ p = omega arith in
     let none = nowhere (λ _ q. when (is_none (find_wire k q ws)) (open_at q)) (count_from 0 (inputs_of n.kind)) p p ins (count_at 0 (inputs_of n.kind) p lt ∙ ap Some zero_on) in
     found_by nodes ws k p (find_wire k p ws) refl (when_none (is_none (find_wire k p ws)) (open_at p) none)
+
+-- the wire into the one input of a node is the one that leads there
+pub only_wire : (nodes : List Node) (ws : List Wire) → port_missing nodes ws ≡ None → port_twice ws ≡ None → port_open nodes ws ≡ None → (i : ℕ) (v : Wire) (n : Node) → slice_get ws i ≡ Some v → slice_get nodes v.to ≡ Some n
+    → inputs_of n.kind ≡ 1 → wire_into nodes ws v.to 0 ≡ Some v
+only_wire nodes ws missing twice op i v n at is one =
+    let lacks = nowhere (λ j x. when (lacks_output (slice_get nodes x.from) x.output || lacks_input (slice_get nodes x.to) x.input) j) ws i v missing at in
+    let has = (or_parts (lacks_output (slice_get nodes v.from) v.output) (lacks_input (slice_get nodes v.to) v.input)
+    (when_none (lacks_output (slice_get nodes v.from) v.output || lacks_input (slice_get nodes v.to) v.input) i lacks)).1 in
+    let below : v.input < inputs_of n.kind = leb-false (inputs_of n.kind) v.input (subst (λ o. lacks_input o v.input ≡ false) is has) in
+    let first : v.input ≡ 0 = omega (arith, below, one) in
+    let again = nowhere (λ j x. when (not (is_number j (find_source x.from x.output ws)) || not (is_number j (find_wire x.to x.input ws))) j) ws i v twice at in
+    let alone = (or_parts (not (is_number i (find_source v.from v.output ws))) (not (is_number i (find_wire v.to v.input ws)))
+    (when_none (not (is_number i (find_source v.from v.output ws)) || not (is_number i (find_wire v.to v.input ws))) i again)).1 in
+    let into = input_there nodes ws op v.to 0 n is (rw one (omega arith)) in
+    let same : into.number ≡ i = number_is into.number i (subst (λ o. not (is_number i o) ≡ false) into.finds (subst (λ p. not (is_number i (find_wire v.to p ws)) ≡ false) first alone)) in
+    ap (option_and_then (slice_get ws)) into.finds ∙ ap (slice_get ws) same ∙ at
+  where
+    number_is : (k j : ℕ) → not (k == j) ≡ false → k ≡ j
+    number_is k j h = by_test (k == j) refl h
+      where
+        by_test : (b : Bool) → (k == j) ≡ b → not b ≡ false → k ≡ j
+        by_test true e h = eqb-true k j e
+        by_test false e h = cc
 
 -- ---- plugs
 

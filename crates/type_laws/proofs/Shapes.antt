@@ -21,7 +21,7 @@ use Rattle.blue_rules.specs.declared.typed.TheConstants.{MAX_NESTING}
 use Rattle.blue_rules.specs.declared.typed.Typed.{Typed}
 use Rattle.blue_rules.specs.declared.typed.Typed.TheVariants.{Gives, Clashes, TooDeep}
 use Rattle.blue_rules.specs.declared.want.Want.{Want}
-use Rattle.type_laws.specs.Kinds.{is_known, source, joining, zipping, single, shape_of, function_want}
+use Rattle.type_laws.specs.Kinds.{is_known, source, joining, zipping, single, shape_of, function_want, chain_in, StepsTake}
 use Rattle.type_laws.specs.Types.{Takes}
 
 -- ---- inputs and outputs
@@ -95,6 +95,26 @@ pub must_fix : (r : Typed) (i : ℕ) → clash_of i r ≡ None → is_deep (Some
 must_fix (Gives t) i c d h = cc
 must_fix (Clashes t w) i c d h = cc
 must_fix TooDeep i c d h = cc
+
+pub record GivesType (r : Typed) : Type 0 where
+  pub type : Sort
+  pub is : r ≡ Gives type
+
+pub gives_some : (r : Typed) (i : ℕ) → clash_of i r ≡ None → is_deep (Some r) ≡ false → GivesType r
+gives_some (Gives t) i c d = record { type = t; is = refl }
+gives_some (Clashes t w) i c d = cc
+gives_some TooDeep i c d = cc
+
+-- a node with a chain
+pub data Chained (k : Kind) : Type 0 where
+  chained : shape_of k ≡ single → ((plugs : List PlugHead) → fixed_type plugs k ≡ None) → Chained k
+  bare : ((plugs : List PlugHead) (chains : List ChainDecl) (t : Sort) → StepsTake plugs (chain_in chains k) t) → Chained k
+
+pub is_chained : (k : Kind) → Chained k
+is_chained (GroupBy n f name) = chained refl (λ plugs. refl)
+is_chained (SplitWhen p name j) = chained refl (λ plugs. refl)
+is_chained (SplitAfter p name j) = chained refl (λ plugs. refl)
+is_chained _ = bare (λ plugs chains t. tt)
 
 module _ (plugs : List PlugHead) (chains : List ChainDecl) where
   -- the function of a node takes what does not clash there
@@ -188,6 +208,12 @@ module _ (plugs : List PlugHead) (chains : List ChainDecl) where
 
     pub single_gives : (o : Option Sort) (u : Sort) → ((s : Sort) → o ≡ Some s → t ≡ s) → attempt plugs chains k (o ∷ []) ≡ Some (Gives u) → stage_typed plugs chains k t ≡ Gives u
     single_gives o u same h = gives_by (fixed_type plugs k) refl o u same h
+
+    -- a type is given
+    pub single_given : fixed_type plugs k ≡ None → is_deep (attempt plugs chains k (Some t ∷ [])) ≡ false → GivesType (stage_typed plugs chains k t)
+    single_given f d =
+        let is : attempt plugs chains k (Some t ∷ []) ≡ Some (stage_typed plugs chains k t) = ap (λ o. attempt_by plugs chains o k (Some t ∷ [])) f ∙ tries_first k (Some t ∷ []) shape in
+        gives_some (stage_typed plugs chains k t) i met (subst (λ v. is_deep v ≡ false) is d)
 
     -- and it is fixed
     fixes_by : (f : Option Sort) → is_deep (attempt_by plugs chains f k (Some t ∷ [])) ≡ false → fixes (attempt_by plugs chains f k (Some t ∷ [])) ≡ None → ⊥

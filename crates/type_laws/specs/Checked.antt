@@ -12,10 +12,10 @@ use Rattle.blue_core.specs.declared.blueprint.Node.{Node}
 use Rattle.blue_core.specs.declared.blueprint.Step.{Step}
 use Rattle.plug_core.specs.declared.head.PlugHead.{PlugHead}
 use Rattle.blue_rules.specs.Names.{unknown_plug}
-use Rattle.blue_rules.specs.Ports.{port_missing, port_open}
+use Rattle.blue_rules.specs.Ports.{port_missing, port_twice, port_open}
 use Rattle.blue_rules.specs.Rounds.{settled, type_on, type_clash, too_deep}
 use Rattle.blue_rules.specs.Sizes.{node_wrong}
-use Rattle.type_laws.specs.Kinds.{is_known, function_want}
+use Rattle.type_laws.specs.Kinds.{is_known, function_want, chain_in, StepsTake}
 use Rattle.type_laws.specs.Types.{AllTyped, Takes}
 
 -- a node without its name
@@ -40,6 +40,7 @@ module _ (plugs : List PlugHead) (chains : List ChainDecl) (nodes : List Node) (
     pub chains_are : g.chains ≡ map plain_chain chains
     pub no_unknown : unknown_plug plugs nodes ≡ None
     pub no_missing : port_missing nodes g.wires ≡ None
+    pub no_twice : port_twice g.wires ≡ None
     pub no_open : port_open nodes g.wires ≡ None
     pub no_wrong : node_wrong nodes ≡ None
     pub no_clash : type_clash plugs chains nodes g.wires ≡ None
@@ -49,7 +50,7 @@ module _ (plugs : List PlugHead) (chains : List ChainDecl) (nodes : List Node) (
   abbrev pub wire_type : Wire → Option Sort
   wire_type v = type_on nodes g.wires (settled plugs chains nodes g.wires) (Some v)
 
-  -- the type that is settled for a wire: only elements of it may pass the wire, and the function of the node to which it leads takes it
+  -- the type that is settled for a wire: only elements of it may pass the wire, and the functions of the node to which it leads take it
   pub record CarriesType (w : World) (i : ℕ) (v : Wire) : Type 0 where
     pub type : Sort
     pub settles : wire_type v ≡ Some type
@@ -57,3 +58,4 @@ module _ (plugs : List PlugHead) (chains : List ChainDecl) (nodes : List Node) (
     pub target : Node
     pub at : slice_get nodes v.to ≡ Some target
     pub takes : Takes (function_want plugs target.kind) type
+    pub steps : StepsTake plugs (chain_in chains target.kind) type

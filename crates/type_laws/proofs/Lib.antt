@@ -16,3 +16,4 @@ pub mod Shapes
 pub mod Settling
 pub mod Carrying
 pub mod Sending
+pub mod Fit

@@ -30,7 +30,7 @@ use Rattle.type_laws.specs.Kinds.{is_known, shape_of, joining}
 
 -- ---- of a first place that there is not
 
-none_parts : {F : Type 0} (a b : Option F) → option_or a b ≡ None → (a ≡ None) × (b ≡ None)
+pub none_parts : {F : Type 0} (a b : Option F) → option_or a b ≡ None → (a ≡ None) × (b ≡ None)
 none_parts None b h = (refl, h)
 none_parts (Some x) b h = cc
 

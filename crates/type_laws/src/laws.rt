@@ -24,6 +24,7 @@ ghost use Rattle.nodes.specs.Nodes.{node_row, node_law};
 ghost use Rattle.nodes.specs.declared.node.Node as stage;
 ghost use Rattle.run_laws.specs.Made.{Materializes};
 ghost use Rattle.run_laws.specs.Telling.{Tells};
+ghost use Rattle.blue_core.specs.declared.blueprint.Blueprint.{Blueprint};
 ghost use Rattle.blue_core.specs.declared.blueprint.ChainDecl.{ChainDecl};
 ghost use Rattle.blue_core.specs.declared.blueprint.Node.{Node};
 ghost use Rattle.plug_core.specs.declared.head.PlugHead.{PlugHead};
@@ -31,7 +32,9 @@ ghost use Rattle.blue_rules.specs.declared.typed.Typed.TheVariants.{Gives};
 ghost use Rattle.blue_rules.specs.FnTypes.{map_want, map_gives, pred_want, expand_want, expand_gives, fold_want, fold_gives, reduce_want, reduce_gives};
 ghost use Rattle.blue_rules.specs.Rounds.{half_type};
 ghost use Rattle.blue_rules.specs.StageTypes.{source_type, stage_typed};
-ghost use Rattle.type_laws.specs.Checked.{plain_chain, PassesRules, HasKnownSteps, CarriesType};
+ghost use Rattle.blue_check.specs.Fitness.{IsFit};
+ghost use Rattle.blue_check.specs.Wires.{blueprint_wires};
+ghost use Rattle.type_laws.specs.Checked.{plain, plain_chain, PassesRules, HasKnownSteps, CarriesType};
 ghost use Rattle.type_laws.specs.Kinds.{is_known, shape_of, joining, single};
 ghost use Rattle.type_laws.specs.Plugs.{KeepsPlugTypes};
 ghost use Rattle.type_laws.specs.Sent.{SendsItsType};
@@ -71,6 +74,12 @@ pub fn stages_keep_types()
         → stage_typed plugs chains k t ≡ Gives u → AllTyped t o.list → (p : ℕ) → AllTyped (half_type k p u) (node_outlook g w node k d (o ∷ []) p).list }
     ensures joining { (g : Graph) (w : World) (node : ℕ) (d : Decider) (is : List Outlook) (k : Kind) (t : Sort) → shape_of k ≡ joining → OutlooksTyped t is → (p : ℕ) → AllTyped t (node_outlook g w node k d is p).list }
     ensures zip { (g : Graph) (w : World) (node : ℕ) (d : Decider) (o r : Outlook) (t u : Sort) → AllTyped t o.list → AllTyped u r.list → (p : ℕ) → AllTyped (pair_type t u) (node_outlook g w node kind.Zip d (o ∷ r ∷ []) p).list }
+{}
+
+/// A graph of a blueprint that breaks no rule passes the rules that the laws below rest on.
+pub fn fit_blueprints_pass_the_rules()
+    ensures { (b : Blueprint) (plugs : List PlugHead) (taken : List (List ℕ)) (g : Graph) → IsFit b plugs taken → g.nodes ≡ map plain b.nodes.items → g.wires ≡ blueprint_wires b → g.chains ≡ map plain_chain b.chains.items
+        → PassesRules plugs b.chains.items b.nodes.items g }
 {}
 
 /// In a graph whose nodes and wires passed the rules on ports, sizes and types, where no directed walk of wires is closed, a

@@ -82,9 +82,9 @@ pub fn fit_blueprints_pass_the_rules()
         → PassesRules plugs b.chains.items b.nodes.items g }
 {}
 
-/// In a graph whose nodes and wires passed the rules on ports, sizes and types, where no directed walk of wires is closed, a
-/// type is settled for each wire, only elements of that type may pass it, and the function of the node to which it leads takes
-/// that type.
+/// In a graph that passes the rules, where no directed walk of wires is closed and the plugs keep to their types, a type is
+/// settled for each wire, only elements of that type may pass it, and the functions of the node to which it leads take that
+/// type: its own, and in a chain each what the steps before it give.
 pub fn every_list_is_typed()
     ensures { (plugs : List PlugHead) (chains : List ChainDecl) (nodes : List Node) (g : Graph) (w : World) (rank : ℕ → ℕ) → PassesRules plugs chains nodes g → HasKnownSteps plugs chains → KeepsPlugTypes plugs w.book → IsRanked g rank
         → (i : ℕ) (v : Wire) → slice_get g.wires i ≡ Some v → CarriesType plugs chains nodes g w i v }

@@ -1,9 +1,11 @@
 pub mod Ports
 pub mod Drawing
 pub mod Source
+pub mod Maker
 pub mod Linear
 pub mod State
 pub mod Writing
 pub mod Sink
+pub mod Ignoring
 pub mod Nodes
 pub mod Ready

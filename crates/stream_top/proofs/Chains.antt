@@ -264,7 +264,7 @@ module _ {S D : Type 0} (sources : S → SourceState) (file : List ℕ) (d : D) 
       let same : y ≡ x = cc in
       let shape : sink_of file ≡ n = cc in
       let here : last ≡ k + 0 = e in
-      subst (λ m. FirstOf sources m n x) here (subst (λ m. FirstOf sources last m x) shape (subst (λ z. FirstOf sources last (sink_of file) z) (sym b.0 ∙ same) (record { name = file; kind_is = refl; node = refl; count = refl; end = refl })))
+      subst (λ m. FirstOf sources m n x) here (subst (λ m. FirstOf sources last m x) shape (subst (λ z. FirstOf sources last (sink_of file) z) (sym b.0 ∙ same) (record { is_sink = tt; node = refl; writes = refl; count = refl; end = refl })))
   stages_first k [] [] (y ∷ ys) (suc j) n x a b e p q = absurd cc
   stages_first k [] (s ∷ ss) firsts j n x a b e p q = absurd a
   stages_first k (m ∷ ms) [] firsts j n x a b e p q = absurd a

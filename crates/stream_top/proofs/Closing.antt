@@ -109,11 +109,11 @@ last_wire (s ∷ ss) = let z : 1 + length ss ≡ suc (length ss) = omega arith i
 held_by : (o : Option (List ℕ)) (more : List ℕ) (new : Option (List ℕ)) → new ≡ option_map (λ held. held ++ more) o → o ≡ Some [] → new ≡ Some more
 held_by o more new e f = rw f at e
 
-stands_held : (e : EndState) (old new : DrainState) (took : List Tree) (end : End) (n : ℕ) → StandsAs e old new took end n → old.holds ≡ Some [] → (written : List ℕ) × (new.holds ≡ Some written)
-stands_held Unended old new took end n s h = (text_lines took, held_by old.holds (text_lines took) new.holds s.1.holds h)
-stands_held Ended old new took end n s h = (text_lines took, held_by old.holds (text_lines took) new.holds s.1.holds h)
-stands_held (Failed c) old new took end n s h = (text_lines took, held_by old.holds (text_lines took) new.holds s.1.holds h)
-stands_held WriteFault old new took end n s h = (text_lines s.1.before ++ s.1.part, held_by old.holds (text_lines s.1.before ++ s.1.part) new.holds s.1.holds h)
+stands_held : (e : EndState) (old new : DrainState) (took : List Tree) (n : ℕ) → StandsAs e old new took n → old.holds ≡ Some [] → (written : List ℕ) × (new.holds ≡ Some written)
+stands_held Unended old new took n s h = (text_lines took, held_by old.holds (text_lines took) new.holds s.holds h)
+stands_held Ended old new took n s h = (text_lines took, held_by old.holds (text_lines took) new.holds s.holds h)
+stands_held (Failed c) old new took n s h = (text_lines took, held_by old.holds (text_lines took) new.holds s.holds h)
+stands_held WriteFault old new took n s h = (text_lines s.before ++ s.part, held_by old.holds (text_lines s.before ++ s.part) new.holds s.holds h)
 
 -- what the drain counted is added to the folder's count
 module _ (name : List ℕ) (old mid new : List ℕ → ℕ) (faults : ℕ) (before : Quiet old mid) (here : Grew (mid name) faults (new name)) (others : (n : List ℕ) → n ≢ name → new n ≡ mid n) where
@@ -132,12 +132,12 @@ module _ (name : List ℕ) (old mid new : List ℕ → ℕ) (faults : ℕ) (befo
   rose_closed : 0 < faults → Rose (old name) (new name)
   rose_closed h = rose_by (old name) (0 + faults) (new name) (grew_two (old name) (mid name) (new name) 0 faults (before name) here) (omega (arith, h))
 
-stands_writes : (e : EndState) (s t : DrainState) (took : List Tree) (end : End) (n : ℕ) (name : List ℕ) (old mid new : List ℕ → ℕ) → StandsAs e s t took end n → s.faults ≡ 0 → Quiet old mid → Grew (mid name) t.faults (new name) → ((n : List ℕ) → n ≢ name → new n ≡ mid n) → WritesOf e name old new
-stands_writes Unended s t took end n name old mid new h none before here others = quiet_closed name old mid new t.faults before here others (h.1.faults ∙ none)
-stands_writes Ended s t took end n name old mid new h none before here others = quiet_closed name old mid new t.faults before here others (h.1.faults ∙ none)
-stands_writes (Failed c) s t took end n name old mid new h none before here others = quiet_closed name old mid new t.faults before here others (h.1.faults ∙ none)
-stands_writes WriteFault s t took end n name old mid new h none before here others =
-    (rose_closed name old mid new t.faults before here others (rose_from_none s.faults t.faults none h.1.faults), but_closed name old mid new t.faults before here others)
+stands_writes : (e : EndState) (s t : DrainState) (took : List Tree) (n : ℕ) (name : List ℕ) (old mid new : List ℕ → ℕ) → StandsAs e s t took n → s.faults ≡ 0 → Quiet old mid → Grew (mid name) t.faults (new name) → ((n : List ℕ) → n ≢ name → new n ≡ mid n) → WritesOf e name old new
+stands_writes Unended s t took n name old mid new h none before here others = quiet_closed name old mid new t.faults before here others (h.faults ∙ none)
+stands_writes Ended s t took n name old mid new h none before here others = quiet_closed name old mid new t.faults before here others (h.faults ∙ none)
+stands_writes (Failed c) s t took n name old mid new h none before here others = quiet_closed name old mid new t.faults before here others (h.faults ∙ none)
+stands_writes WriteFault s t took n name old mid new h none before here others =
+    (rose_closed name old mid new t.faults before here others (rose_from_none s.faults t.faults none h.faults), but_closed name old mid new t.faults before here others)
 
 some_of : (o : Option (List ℕ)) → IsSome o → (b : List ℕ) × (o ≡ Some b)
 some_of None h = cc
@@ -186,12 +186,12 @@ module _ {S D : Type 0} (sources : S → SourceState) (drains : D → DrainState
 
   abbrev pub SentLaw : Type 0
   SentLaw = (g : Graph) (net : Net (Node S D)) → Settled node_row (node_law sources drains) net → Materializes sources g net.firsts net.ends
-      → (k : ℕ) (n : graph.Node) (first now : Sink D) (u : ℕ) (v : Wire) → slice_get g.nodes k ≡ Some n → IsSinkAt net k first now → slice_get g.wires u ≡ Some v → v.to ≡ k
+      → (k : ℕ) (n : graph.Node) (name : List ℕ) (first now : Sink D) (u : ℕ) (v : Wire) → slice_get g.nodes k ≡ Some n → n.kind ≡ kind.ToLines name → IsSinkAt net k first now → slice_get g.wires u ≡ Some v → v.to ≡ k
       → SentTo now.end (elements (wire_at net u).wire.sent) now.count
 
   abbrev pub RestLaw : Type 0
   RestLaw = (g : Graph) (net : Net (Node S D)) → Settled node_row (node_law sources drains) net → Materializes sources g net.firsts net.ends
-      → (k : ℕ) (n : graph.Node) (first now : Sink D) (u : ℕ) (v : Wire) → slice_get g.nodes k ≡ Some n → IsSinkAt net k first now → slice_get g.wires u ≡ Some v → v.to ≡ k
+      → (k : ℕ) (n : graph.Node) (name : List ℕ) (first now : Sink D) (u : ℕ) (v : Wire) → slice_get g.nodes k ≡ Some n → n.kind ≡ kind.ToLines name → IsSinkAt net k first now → slice_get g.wires u ≡ Some v → v.to ≡ k
       → net.queue ≡ [] → now.end ≡ Unended → elements (wire_at net u).wire.sent ≡ now.count
 
   abbrev pub ReadsLaw : Type 0
@@ -319,7 +319,7 @@ module _ {S D : Type 0} (sources : S → SourceState) (drains : D → DrainState
       let b = some_of (old.file input) (opens.input_there (tells_mid h)) in
       let law = sink_law sources drains input stages output budget r d f l in
       let empty : (drains d).holds ≡ Some [] = opens.output_holds (tells_mid h) in
-      let w = stands_held l.sink.end (drains d) o law.elems law.in_end l.sink.count law.stands empty in
+      let w = stands_held l.sink.end (drains d) o law.wrote l.sink.count law.stands empty in
       let bytes_are : (sources r.source).whole ≡ Some b.0 = whole ∙ b.1 in
       let file : File = record { bytes = b.0; read = s.given; faulted = is_positive s.faults } in
       let tells_file : TellsFile (sources r.source) s file = record { bytes = bytes_are; read = refl; faulted = λ rose. positive s.faults (rose_from_none (sources r.source).faults s.faults opens.input_faults rose) } in
@@ -342,10 +342,10 @@ module _ {S D : Type 0} (sources : S → SourceState) (drains : D → DrainState
             subst (λ (e : EndState). SentTo e (sent_at f.wires.items (length stages)) f.count) (sym l.end_is)
             (subst (λ (c : ℕ). SentTo l.sink.end (sent_at f.wires.items (length stages)) c) (sym l.count_is)
             (subst (λ (n : ℕ). SentTo l.sink.end n l.sink.count) (sym last_wire_count)
-            (sent_law (chain input stages output) l.net l.settled l.made (sink_place stages) (sink_of output) (first_sink (sink_place stages) d) l.sink (length stages) (joint (length stages)) sink_node l.sink_at (last_wire stages) refl)));
+            (sent_law (chain input stages output) l.net l.settled l.made (sink_place stages) (sink_of output) output (first_sink (sink_place stages) d) l.sink (length stages) (joint (length stages)) sink_node refl l.sink_at (last_wire stages) refl)));
         rests = λ rest unended.
             last_wire_count
-            ∙ rest_law (chain input stages output) l.net l.settled l.made (sink_place stages) (sink_of output) (first_sink (sink_place stages) d) l.sink (length stages) (joint (length stages)) sink_node l.sink_at (last_wire stages) refl (l.rests rest) (sym l.end_is ∙ unended)
+            ∙ rest_law (chain input stages output) l.net l.settled l.made (sink_place stages) (sink_of output) output (first_sink (sink_place stages) d) l.sink (length stages) (joint (length stages)) sink_node refl l.sink_at (last_wire stages) refl (l.rests rest) (sym l.end_is ∙ unended)
             ∙ sym l.count_is;
         draws = draws_told b.0 (sources r.source) s (wire_at l.net 0).wire.sent (sent_at f.wires.items 0) opens.input_faults first_wire_count
             (reads_law (chain input stages output) l.net l.settled l.made 0 (source_of input) (first_source r) l.source 0 (joint 0) b.0 refl l.source_at refl refl bytes_are);
@@ -372,7 +372,7 @@ module _ {S D : Type 0} (sources : S → SourceState) (drains : D → DrainState
     writes =
         let law = sink_law sources drains input stages output budget r d f l in
         subst (λ (e : EndState). WritesOf e output old.wfaults new.wfaults) (sym (end ∙ l.end_is))
-        (stands_writes l.sink.end (drains d) o law.elems law.in_end l.sink.count output old.wfaults last.wfaults new.wfaults law.stands opens.output_faults write_mid write_grew write_others);
+        (stands_writes l.sink.end (drains d) o law.wrote l.sink.count output old.wfaults last.wfaults new.wfaults law.stands opens.output_faults write_mid write_grew write_others);
     within = rw used l.within;
     spent = λ h. used ∙ l.spent (sym rest ∙ h);
   }

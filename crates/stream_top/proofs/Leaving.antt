@@ -37,9 +37,11 @@ use Rattle.stream_top.proofs.Chains.{rest_of, seats_made}
 
 abbrev SameKind : {S D : Type 0} → Node S D → Node S D → Type 0
 SameKind (node.Reading a) (node.Reading b) = Unit {0}
+SameKind (node.Making a) (node.Making b) = Unit {0}
 SameKind (node.Linear a) (node.Linear b) = Unit {0}
 SameKind (node.State a) (node.State b) = Unit {0}
 SameKind (node.Writing a) (node.Writing b) = Unit {0}
+SameKind (node.Ignoring a) (node.Ignoring b) = Unit {0}
 SameKind _ _ = ⊥
 
 abbrev Alike : {S D : Type 0} → List (Node S D) → List (Node S D) → Type 0
@@ -49,9 +51,11 @@ Alike _ _ = ⊥
 
 law_kind : {S D : Type 0} (sources : S → SourceState) (drains : D → DrainState) (f x : Node S D) (v : View) (took gave : List (List Item)) → node_law sources drains f x v took gave → SameKind f x
 law_kind sources drains (node.Reading a) (node.Reading b) v took gave h = tt
+law_kind sources drains (node.Making a) (node.Making b) v took gave h = tt
 law_kind sources drains (node.Linear a) (node.Linear b) v took gave h = tt
 law_kind sources drains (node.State a) (node.State b) v took gave h = tt
 law_kind sources drains (node.Writing a) (node.Writing b) v took gave h = tt
+law_kind sources drains (node.Ignoring a) (node.Ignoring b) v took gave h = tt
 law_kind sources drains f x v took gave h = absurd h
 
 alike_by : {S D : Type 0} (firsts nodes : List (Node S D)) → length firsts ≡ length nodes → ((n : ℕ) (x f : Node S D) → slice_get nodes n ≡ Some x → slice_get firsts n ≡ Some f → SameKind f x) → Alike firsts nodes

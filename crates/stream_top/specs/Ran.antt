@@ -1,5 +1,5 @@
 -- What the island of a straight blueprint leaves, by the net of its nodes at its end.
-use Rattle.std.specs.Prelude.{◌≡◌, ℕ, ◌≤◌, false, IsTrue, List, [], map}
+use Rattle.std.specs.Prelude.{◌≡◌, ℕ, ◌≤◌, false, IsTrue, List, [], map, None}
 use Rattle.straight_lang.specs.declared.blueprint.Node as straight
 use Rattle.stream_model.specs.declared.outcome.EndState.TheVariants.{Unended}
 use Rattle.stream_io.specs.State.{SourceState, DrainState}
@@ -8,6 +8,7 @@ use Rattle.stage_linear.specs.declared.phase.Phase.TheVariants.{New}
 use Rattle.nodes.specs.declared.node.Node.{Node}
 use Rattle.nodes.specs.Nodes.{node_row, node_law}
 use Rattle.nodes.specs.Source.{Lines}
+use Rattle.nodes.specs.declared.sink.Writes.TheVariants.{Each}
 use Rattle.nodes.specs.Sink.{Sink}
 use Rattle.fused_net.specs.Net.{Net}
 use Rattle.fused_net.specs.Laws.{Settled}
@@ -41,7 +42,7 @@ abbrev pub first_source : {S : Type 0} → Reading S → Lines S
 first_source r = record { node = 0; reader = r; drawn = 0; phase = New }
 
 abbrev pub first_sink : {D : Type 0} → ℕ → D → Sink D
-first_sink k d = record { node = k; drain = d; count = 0; started = false; end = Unended }
+first_sink k d = record { node = k; drain = d; writes = Each; kept = None; count = 0; started = false; end = Unended }
 
 -- It is the net of the blueprint, whose laws hold. The source, the sink and the counts of the wires are those of the net;
 -- the units are within the budget, and fewer only where no event is left.

@@ -16,8 +16,12 @@ use Rattle.fused_net.specs.Costs.{all_asks}
 use Rattle.interpreter.specs.declared.parts.Link.{Link}
 use Rattle.interpreter.specs.declared.parts.Seated.{Seated}
 use Rattle.interpreter.specs.declared.parts.Work.{Work}
-use Rattle.interpreter.specs.declared.parts.Work.TheVariants.{Reading, Linear, State, Writing}
+use Rattle.interpreter.specs.declared.parts.Work.TheVariants.{Reading, Making, Linear, State, Writing}
 use Rattle.interpreter.specs.Parts.{work_inputs, work_outputs, inputs_at, outputs_at, IsUnused, AllUnused, BecomesOf, AllBecome, AreParts, IsWiring, IsSized, ends_of}
+use Rattle.stream_model.specs.declared.kind.Kind.{Kind}
+use Rattle.stream_model.specs.declared.kind.Kind.TheVariants as kind
+use Rattle.stage_linear.specs.declared.phase.Phase.TheVariants.{New}
+use Rattle.nodes.specs.Kinds.{maker_of}
 use Rattle.stream_model.specs.declared.outcome.WireCount.{WireCount}
 use Rattle.port_core.specs.Decoding.{is_open}
 use Rattle.wire_core.specs.Cell.{Cell}
@@ -33,12 +37,18 @@ same_count [] (x ∷ xs) h = absurd h
 same_count (s ∷ ss) [] h = absurd h
 same_count (s ∷ ss) (x ∷ xs) h = ap suc (same_count ss xs h.1)
 
+new_maker : (k : ℕ) (kind : Kind) → (maker_of k kind).phase ≡ New
+new_maker k (kind.Range low high) = refl
+new_maker k (kind.Empty b) = refl
+new_maker k _ = refl
+
 becomes_fresh : {S D : Type 0} (k : ℕ) (w : Work S D) (x : Node S D) → IsUnused w → BecomesOf k w x → node_fresh x (record { ins = replicate (work_inputs w) Idle; outs = replicate (work_outputs w) Unasked })
 becomes_fresh k (Reading r) x u b = rw b (record { phase = refl; drawn = refl; kept = u; port = refl })
+becomes_fresh k (Making kind) x u b = rw b (record { phase = new_maker k kind; port = refl })
 becomes_fresh k (Linear l) x u b = rw b u
 becomes_fresh k (State l) x u b = rw b u
-becomes_fresh k (Writing kind (Some d)) x u b = rw b (record { started = refl; end = refl; count = refl; port = refl })
-becomes_fresh k (Writing kind None) x u b = absurd u
+becomes_fresh k (Writing kind (Some d)) x u b = rw b (record { started = refl; end = refl; kept = refl; count = refl; port = refl })
+becomes_fresh k (Writing kind None) x u b = rw b (record { started = refl; end = refl; port = refl })
 
 -- the node at place n
 fresh_at : {S D : Type 0} (places : List (Seated S D)) (nodes : List (Node S D)) (n : ℕ) (x : Node S D) → AllUnused places → AllBecome places nodes → slice_get nodes n ≡ Some x
@@ -97,21 +107,27 @@ left_next f cut old new x was now all e is h = rw is (append_assoc was (f (x ∷
 
 pub sinks_cut : {S D : Type 0} (x : Node S D) (xs : List (Node S D)) → sinks_of (x ∷ xs) ≡ sinks_of (x ∷ []) ++ sinks_of xs
 sinks_cut (node.Reading x) xs = refl
+sinks_cut (node.Making x) xs = refl
 sinks_cut (node.Linear x) xs = refl
 sinks_cut (node.State x) xs = refl
 sinks_cut (node.Writing x) xs = refl
+sinks_cut (node.Ignoring x) xs = refl
 
 pub readers_cut : {S D : Type 0} (x : Node S D) (xs : List (Node S D)) → readers_of (x ∷ xs) ≡ readers_of (x ∷ []) ++ readers_of xs
 readers_cut (node.Reading x) xs = refl
+readers_cut (node.Making x) xs = refl
 readers_cut (node.Linear x) xs = refl
 readers_cut (node.State x) xs = refl
 readers_cut (node.Writing x) xs = refl
+readers_cut (node.Ignoring x) xs = refl
 
 pub writers_cut : {S D : Type 0} (x : Node S D) (xs : List (Node S D)) → writers_of (x ∷ xs) ≡ writers_of (x ∷ []) ++ writers_of xs
 writers_cut (node.Reading x) xs = refl
+writers_cut (node.Making x) xs = refl
 writers_cut (node.Linear x) xs = refl
 writers_cut (node.State x) xs = refl
 writers_cut (node.Writing x) xs = refl
+writers_cut (node.Ignoring x) xs = refl
 
 -- an island that was started
 pub keeps_new : {S D : Type 0} (sources : S → SourceState) (drains : D → DrainState) (old new : Net (Node S D)) → Settled node_row (node_law sources drains) new → all_asks new ≤ all_asks old → all_asks old ≡ 0 → Keeps sources drains new 0

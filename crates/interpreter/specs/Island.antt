@@ -40,22 +40,28 @@ counts_of _ _ = []
 abbrev pub sinks_of : {S D : Type 0} → List (Node S D) → List (ℕ × ℕ × EndState)
 sinks_of [] = []
 sinks_of (node.Reading x ∷ xs) = sinks_of xs
+sinks_of (node.Making x ∷ xs) = sinks_of xs
 sinks_of (node.Linear x ∷ xs) = sinks_of xs
 sinks_of (node.State x ∷ xs) = sinks_of xs
 sinks_of (node.Writing x ∷ xs) = (x.node, x.count, x.end) ∷ sinks_of xs
+sinks_of (node.Ignoring x ∷ xs) = (x.node, 0, x.end) ∷ sinks_of xs
 
 -- the sources of bytes that its readers read
 abbrev pub readers_of : {S D : Type 0} → List (Node S D) → List S
 readers_of [] = []
 readers_of (node.Reading x ∷ xs) = x.reader.source ∷ readers_of xs
+readers_of (node.Making x ∷ xs) = readers_of xs
 readers_of (node.Linear x ∷ xs) = readers_of xs
 readers_of (node.State x ∷ xs) = readers_of xs
 readers_of (node.Writing x ∷ xs) = readers_of xs
+readers_of (node.Ignoring x ∷ xs) = readers_of xs
 
--- the drains that its sinks wrote
+-- the drains that its sinks with a file wrote
 abbrev pub writers_of : {S D : Type 0} → List (Node S D) → List D
 writers_of [] = []
 writers_of (node.Reading x ∷ xs) = writers_of xs
+writers_of (node.Making x ∷ xs) = writers_of xs
 writers_of (node.Linear x ∷ xs) = writers_of xs
 writers_of (node.State x ∷ xs) = writers_of xs
 writers_of (node.Writing x ∷ xs) = x.drain ∷ writers_of xs
+writers_of (node.Ignoring x ∷ xs) = writers_of xs

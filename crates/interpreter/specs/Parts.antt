@@ -3,9 +3,10 @@ use Rattle.std.specs.Prelude.{◌≡◌, ℕ, zero, suc, ◌<◌, ◌^◌, false
 use Rattle.port_core.specs.declared.view.InView.TheVariants.{Idle}
 use Rattle.port_core.specs.declared.view.OutView.TheVariants.{Unasked}
 use Rattle.stream_model.specs.declared.kind.Kind.{Kind}
-use Rattle.stream_model.specs.declared.kind.Kind.TheVariants.{ToLines}
+use Rattle.stream_model.specs.declared.kind.Kind.TheVariants.{Ignore}
 use Rattle.stream_model.specs.declared.outcome.EndState.TheVariants.{Unended}
 use Rattle.stage_linear.specs.declared.phase.Phase.TheVariants.{New}
+use Rattle.nodes.specs.Kinds.{IsMaker, maker_of, IsFileSink, writes_of}
 use Rattle.nodes.specs.Linear.{LinearFresh}
 use Rattle.nodes.specs.State.{StateFresh}
 use Rattle.nodes.specs.declared.node.Node.{Node}
@@ -16,7 +17,7 @@ use Rattle.fused_net.specs.Net.{end_at, port_at}
 use Rattle.interpreter.specs.declared.parts.Link.{Link}
 use Rattle.interpreter.specs.declared.parts.Seated.{Seated}
 use Rattle.interpreter.specs.declared.parts.Work.{Work}
-use Rattle.interpreter.specs.declared.parts.Work.TheVariants.{Reading, Linear, State, Writing}
+use Rattle.interpreter.specs.declared.parts.Work.TheVariants.{Reading, Making, Linear, State, Writing}
 
 -- the ports at the ends of a link
 abbrev pub ends_of : Link → Ends
@@ -29,12 +30,14 @@ number_of l = l.wire
 -- how many inputs and outputs a work has
 abbrev pub work_inputs : {S D : Type 0} → Work S D → ℕ
 work_inputs (Reading r) = 0
+work_inputs (Making k) = 0
 work_inputs (Linear l) = 1
 work_inputs (State l) = 1
 work_inputs (Writing k d) = 1
 
 abbrev pub work_outputs : {S D : Type 0} → Work S D → ℕ
 work_outputs (Reading r) = 1
+work_outputs (Making k) = 1
 work_outputs (Linear l) = 1
 work_outputs (State l) = 1
 work_outputs (Writing k d) = 0
@@ -50,18 +53,14 @@ outputs_at [] n = 0
 outputs_at (x ∷ xs) zero = work_outputs x.work
 outputs_at (x ∷ xs) (suc n) = outputs_at xs n
 
--- the kinds of sinks that have been built
-abbrev pub IsLinesSink : Kind → Type 0
-IsLinesSink (ToLines name) = ⊤
-IsLinesSink _ = ⊥
-
--- a work that did nothing yet: no reader has read, no logic was started, and a sink has its drain
+-- a work that did nothing yet: no reader has read, no logic was started, and a sink has a drain exactly where it has a file
 abbrev pub IsUnused : {S D : Type 0} → Work S D → Type 0
 IsUnused (Reading r) = r.kept ≡ []
+IsUnused (Making k) = IsMaker k
 IsUnused (Linear l) = LinearFresh l (record { ins = Idle ∷ []; outs = Unasked ∷ [] })
 IsUnused (State l) = StateFresh l (record { ins = Idle ∷ []; outs = Unasked ∷ [] })
-IsUnused (Writing k (Some d)) = IsLinesSink k
-IsUnused (Writing k None) = ⊥
+IsUnused (Writing k (Some d)) = IsFileSink k
+IsUnused (Writing k None) = k ≡ Ignore
 
 abbrev pub AllUnused : {S D : Type 0} → List (Seated S D) → Type 0
 AllUnused [] = ⊤
@@ -87,10 +86,11 @@ pub record AreParts {S D : Type 0} (places : List (Seated S D)) (links : List Li
 -- the node of a work, with its number
 abbrev pub BecomesOf : {S D : Type 0} → ℕ → Work S D → Node S D → Type 0
 BecomesOf k (Reading r) x = x ≡ node.Reading (record { node = k; reader = r; drawn = 0; phase = New })
+BecomesOf k (Making kind) x = x ≡ node.Making (maker_of k kind)
 BecomesOf k (Linear l) x = x ≡ node.Linear l
 BecomesOf k (State l) x = x ≡ node.State l
-BecomesOf k (Writing kind (Some d)) x = x ≡ node.Writing (record { node = k; drain = d; count = 0; started = false; end = Unended })
-BecomesOf k (Writing kind None) x = ⊥
+BecomesOf k (Writing kind (Some d)) x = x ≡ node.Writing (record { node = k; drain = d; writes = writes_of kind; kept = None; count = 0; started = false; end = Unended })
+BecomesOf k (Writing kind None) x = x ≡ node.Ignoring (record { node = k; started = false; end = Unended })
 
 -- the node that stands at a place
 abbrev pub Becomes : {S D : Type 0} → Seated S D → Node S D → Type 0

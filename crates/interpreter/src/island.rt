@@ -57,7 +57,7 @@ pub struct IslandEnd<S: Source, D: Drain> {
     pub picks: Vec<PickList>,
     /// The sources of bytes of its readers.
     pub readers: Vec<S>,
-    /// The drains of its sinks.
+    /// The drains of its sinks that have a file.
     pub writers: Vec<D>,
 }
 
@@ -197,7 +197,9 @@ impl<S: Source, D: Drain> IslandEnd<S, D> {
             NodeEnd::Staged => {}
             NodeEnd::Wrote(sink) => {
                 self.sinks.push((sink.node, sink.count, sink.end))?;
-                self.writers.push(sink.drain)?;
+                if let Some(drain) = sink.drain {
+                    self.writers.push(drain)?;
+                }
             }
         }
         Ok(())

@@ -2,12 +2,15 @@
 ghost use Rattle.std.specs.Prelude.{◌≡◌, ◌<◌, ◌^◌, IfOk, length, map};
 ghost use Rattle.fused_net.specs.Net.{port_at};
 ghost use Rattle.fused_net.specs.Laws.{Wired};
+ghost use Rattle.nodes.specs.Kinds.{IsMaker, maker_of, writes_of};
 ghost use Rattle.interpreter.specs.Parts.{work_inputs, work_outputs, inputs_at, outputs_at, IsUnused, AllUnused, IsWiring, IsSized, ends_of, number_of, Becomes, AllBecome, written};
 
 use elem_core::why::NoMemory;
 use fused_net::net::{Ends, Ports};
+use nodes::ignoring::IgnoreSink;
+use nodes::maker::Maker;
 use nodes::node::Node;
-use nodes::sink::LinesSink;
+use nodes::sink::{FileSink, Writes};
 use nodes::source::LinesSource;
 use stage_linear::logic::LinearLogic;
 use stage_state::logic::StateLogic;
@@ -37,11 +40,13 @@ pub struct Link {
 pub enum Work<S: Source, D: Drain> {
     /// A source of the lines that a reader reads.
     Reading(LineReader<S>),
+    /// A source of this kind, which has no file.
+    Making(Kind),
     /// A linear stage.
     Linear(LinearLogic),
     /// A stage with state.
     State(StateLogic),
-    /// A sink of this kind, with the drain of its file.
+    /// A sink of this kind, with the drain of its file, if it has one.
     Writing(Kind, Option<D>),
 }
 
@@ -68,7 +73,7 @@ impl<S: Source, D: Drain> Work<S, D> {
         ensures { result ≡ work_inputs self.now }
     {
         match self {
-            Work::Reading(_) => 0,
+            Work::Reading(_) | Work::Making(_) => 0,
             Work::Linear(_) | Work::State(_) | Work::Writing(_, _) => 1,
         }
     }
@@ -77,7 +82,7 @@ impl<S: Source, D: Drain> Work<S, D> {
         ensures { result ≡ work_outputs self.now }
     {
         match self {
-            Work::Reading(_) | Work::Linear(_) | Work::State(_) => 1,
+            Work::Reading(_) | Work::Making(_) | Work::Linear(_) | Work::State(_) => 1,
             Work::Writing(_, _) => 0,
         }
     }
@@ -91,12 +96,52 @@ pub fn seat<S: Source, D: Drain>(alloc: Global, seated: Seated<S, D>) -> Node<S,
     let Seated { node, work } = seated;
     match work {
         Work::Reading(reader) => Node::Reading(LinesSource::new(node, reader)),
+        Work::Making(kind) => Node::Making(maker(node, kind)),
         Work::Linear(logic) => Node::Linear(logic),
         Work::State(logic) => Node::State(logic),
-        Work::Writing(_, drain) => match drain {
-            Some(drain) => Node::Writing(LinesSink::new(alloc, node, drain)),
-            None => unreachable!(),
-        },
+        Work::Writing(kind, drain) => {
+            let writes = written(kind);
+            match drain {
+                Some(drain) => Node::Writing(FileSink::new(alloc, node, writes, drain)),
+                None => Node::Ignoring(IgnoreSink::new(node)),
+            }
+        }
+    }
+}
+
+// The source of this kind, which has no file.
+fn maker(node: u32, kind: Kind) -> Maker
+    requires { IsMaker kind }
+    ensures { result ≡ maker_of node kind }
+{
+    maker_by(node, &kind)
+}
+
+fn maker_by(node: u32, kind: &Kind) -> Maker
+    requires { IsMaker kind.now }
+    ensures { result ≡ maker_of node kind.now }
+{
+    match kind {
+        Kind::Range(low, high) => Maker::range(node, *low, *high),
+        Kind::Empty(_) => Maker::empty(node),
+        _ => Maker::failed(node),
+    }
+}
+
+// Which elements a sink of this kind writes, where it has a file.
+fn written(kind: Kind) -> Writes
+    ensures { result ≡ writes_of kind }
+{
+    written_by(&kind)
+}
+
+fn written_by(kind: &Kind) -> Writes
+    ensures { result ≡ writes_of kind.now }
+{
+    match kind {
+        Kind::Head(_) => Writes::First,
+        Kind::Last(_) => Writes::Last,
+        _ => Writes::Each,
     }
 }
 

@@ -1,42 +1,52 @@
 -- A node of an island, by its kind: each predicate cites that of the kind.
-use Rattle.std.specs.Prelude.{List}
+use Rattle.std.specs.Prelude.{List, None, Some}
 use Rattle.elem_core.specs.declared.item.Item.{Item}
 use Rattle.port_core.specs.View.{View}
 use Rattle.stream_io.specs.State.{SourceState, DrainState}
 use Rattle.nodes.specs.declared.node.Node.{Node}
-use Rattle.nodes.specs.declared.node.Node.TheVariants.{Reading, Linear, State, Writing}
+use Rattle.nodes.specs.declared.node.Node.TheVariants.{Reading, Making, Linear, State, Writing, Ignoring}
 use Rattle.nodes.specs.declared.node.NodeEnd.{NodeEnd}
 use Rattle.nodes.specs.declared.node.NodeEnd.TheVariants.{Read, Staged, Wrote}
 use Rattle.nodes.specs.Source.{LinesFresh, lines_row, LinesLaw}
+use Rattle.nodes.specs.Maker.{MadeFresh, made_row, MadeLaw}
 use Rattle.nodes.specs.Linear.{LinearFresh, LinearRow, LinearLaw}
 use Rattle.nodes.specs.State.{StateFresh, StateRow, StateLaw}
 use Rattle.nodes.specs.Sink.{SinkFresh, sink_row, SinkLaw}
+use Rattle.nodes.specs.Ignoring.{IgnoreFresh, ignore_row, IgnoreLaw}
 
 -- what one that was not started may know of its ports
 abbrev pub node_fresh : {S D : Type 0} → Node S D → View → Type 0
 node_fresh (Reading x) v = LinesFresh x v
+node_fresh (Making x) v = MadeFresh x v
 node_fresh (Linear x) v = LinearFresh x v
 node_fresh (State x) v = StateFresh x v
 node_fresh (Writing x) v = SinkFresh x v
+node_fresh (Ignoring x) v = IgnoreFresh x v
 
 -- what one that was started may know of them between two calls
 abbrev pub node_row : {S D : Type 0} → Node S D → View → Type 0
 node_row (Reading x) v = lines_row x v
+node_row (Making x) v = made_row x v
 node_row (Linear x) v = LinearRow x v
 node_row (State x) v = StateRow x v
 node_row (Writing x) v = sink_row x v
+node_row (Ignoring x) v = ignore_row x v
 
 -- what holds of the histories of its ports; its kind stays the same
 abbrev pub node_law : {S D : Type 0} → (S → SourceState) → (D → DrainState) → Node S D → Node S D → View → List (List Item) → List (List Item) → Type 0
 node_law sources drains (Reading first) (Reading x) v took gave = LinesLaw sources first x v took gave
+node_law sources drains (Making first) (Making x) v took gave = MadeLaw first x v took gave
 node_law sources drains (Linear first) (Linear x) v took gave = LinearLaw first x v took gave
 node_law sources drains (State first) (State x) v took gave = StateLaw first x v took gave
 node_law sources drains (Writing first) (Writing x) v took gave = SinkLaw drains first x v took gave
+node_law sources drains (Ignoring first) (Ignoring x) v took gave = IgnoreLaw first x v took gave
 node_law sources drains _ _ v took gave = ⊥
 
 -- what it leaves at the end
 abbrev pub node_end : {S D : Type 0} → Node S D → NodeEnd S D
 node_end (Reading x) = Read x.reader.source
+node_end (Making x) = Staged
 node_end (Linear x) = Staged
 node_end (State x) = Staged
-node_end (Writing x) = Wrote (record { node = x.node; count = x.count; end = x.end; drain = x.drain })
+node_end (Writing x) = Wrote (record { node = x.node; count = x.count; end = x.end; drain = Some x.drain })
+node_end (Ignoring x) = Wrote (record { node = x.node; count = 0; end = x.end; drain = None })

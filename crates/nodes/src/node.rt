@@ -2,7 +2,9 @@
 ghost use Rattle.std.specs.Prelude.{◌≡◌};
 ghost use Rattle.nodes.specs.Nodes.{node_fresh, node_row, node_law, node_end};
 
-use crate::sink::{LinesSink, SinkEnd};
+use crate::ignoring::IgnoreSink;
+use crate::maker::Maker;
+use crate::sink::{FileSink, SinkEnd};
 use crate::source::LinesSource;
 use crate::{linear, state};
 use elem_core::elem::Elem;
@@ -19,12 +21,16 @@ use stream_io::outside::{Drain, Source};
 pub enum Node<S: Source, D: Drain> {
     /// A source of the lines of a file.
     Reading(LinesSource<S>),
+    /// A source without a file.
+    Making(Maker),
     /// A linear stage.
     Linear(LinearLogic),
     /// A stage with state.
     State(StateLogic),
-    /// A sink that writes lines into a file.
-    Writing(LinesSink<D>),
+    /// A sink that writes elements into a file.
+    Writing(FileSink<D>),
+    /// A sink that keeps nothing.
+    Ignoring(IgnoreSink),
 }
 
 /// What a node leaves at the end of a run.
@@ -32,7 +38,7 @@ pub enum Node<S: Source, D: Drain> {
 pub enum NodeEnd<S: Source, D: Drain> {
     /// The source of bytes of a source of lines.
     Read(S),
-    /// A stage leaves nothing.
+    /// A stage, or a source without a file, leaves nothing.
     Staged,
     /// What a sink leaves.
     Wrote(SinkEnd<D>),
@@ -45,8 +51,9 @@ impl<S: Source, D: Drain> Node<S, D> {
     {
         match self {
             Node::Reading(source) => NodeEnd::Read(source.into_source()),
-            Node::Linear(_) | Node::State(_) => NodeEnd::Staged,
+            Node::Making(_) | Node::Linear(_) | Node::State(_) => NodeEnd::Staged,
             Node::Writing(sink) => NodeEnd::Wrote(sink.close()),
+            Node::Ignoring(sink) => NodeEnd::Wrote(sink.close()),
         }
     }
 }
@@ -61,18 +68,21 @@ impl<S: Source, D: Drain> Stage for Node<S, D> {
     fn start(&mut self, alloc: Global, acts: &mut Acts) -> Result<(), NoMemory> {
         match self {
             Node::Reading(source) => source.start(acts),
+            Node::Making(source) => source.start(acts),
             Node::Linear(logic) => linear::start(logic, acts),
             Node::State(logic) => state::start(logic, acts),
             Node::Writing(sink) => sink.start(acts),
+            Node::Ignoring(sink) => sink.start(acts),
         }
     }
 
     fn on_pull(&mut self, alloc: Global, port: u8, acts: &mut Acts) -> Result<(), NoMemory> {
         match self {
             Node::Reading(source) => source.on_pull(acts),
+            Node::Making(source) => source.on_pull(acts),
             Node::Linear(logic) => linear::on_pull(logic, acts),
             Node::State(logic) => state::on_pull(logic, acts),
-            Node::Writing(_) => unreachable!(),
+            Node::Writing(_) | Node::Ignoring(_) => unreachable!(),
         }
     }
 
@@ -84,19 +94,21 @@ impl<S: Source, D: Drain> Stage for Node<S, D> {
         acts: &mut Acts,
     ) -> Result<(), NoMemory> {
         match self {
-            Node::Reading(_) => unreachable!(),
+            Node::Reading(_) | Node::Making(_) => unreachable!(),
             Node::Linear(logic) => linear::on_push(logic, alloc, e, acts),
             Node::State(logic) => state::on_push(logic, alloc, e, acts),
             Node::Writing(sink) => sink.on_push(e, acts),
+            Node::Ignoring(sink) => sink.on_push(e, acts),
         }
     }
 
     fn on_finish(&mut self, alloc: Global, port: u8, acts: &mut Acts) -> Result<(), NoMemory> {
         match self {
-            Node::Reading(_) => unreachable!(),
+            Node::Reading(_) | Node::Making(_) => unreachable!(),
             Node::Linear(logic) => linear::on_finish(logic, acts),
             Node::State(logic) => state::on_finish(logic, alloc, acts),
             Node::Writing(sink) => sink.on_finish(acts),
+            Node::Ignoring(sink) => sink.on_finish(acts),
         }
     }
 
@@ -108,19 +120,21 @@ impl<S: Source, D: Drain> Stage for Node<S, D> {
         acts: &mut Acts,
     ) -> Result<(), NoMemory> {
         match self {
-            Node::Reading(_) => unreachable!(),
+            Node::Reading(_) | Node::Making(_) => unreachable!(),
             Node::Linear(logic) => linear::on_fail(logic, cause, acts),
             Node::State(logic) => state::on_fail(logic, cause, acts),
             Node::Writing(sink) => sink.on_fail(cause, acts),
+            Node::Ignoring(sink) => sink.on_fail(cause, acts),
         }
     }
 
     fn on_cancel(&mut self, alloc: Global, port: u8, acts: &mut Acts) -> Result<(), NoMemory> {
         match self {
             Node::Reading(source) => source.on_cancel(acts),
+            Node::Making(source) => source.on_cancel(acts),
             Node::Linear(logic) => linear::on_cancel(logic, acts),
             Node::State(logic) => state::on_cancel(logic, acts),
-            Node::Writing(_) => unreachable!(),
+            Node::Writing(_) | Node::Ignoring(_) => unreachable!(),
         }
     }
 }

@@ -1,7 +1,6 @@
 -- The picture of a graph that is settled and has no event left: it rests, and its sinks match.
-use Rattle.std.proofs.Common.{◌≡◌, inl, inr, ℕ, zero, suc, ◌<◌, Bool, true, false, Some, List, [], ◌∷◌, length, get_or, slice_get, refl, sym, ap, subst, arith}
+use Rattle.std.proofs.Common.{◌≡◌, ◌⊎◌, inl, inr, ℕ, zero, suc, ◌<◌, Bool, true, false, Some, List, [], ◌∷◌, length, get_or, slice_get, sym, ap, subst, arith}
 use Rattle.std.proofs.lemmas.Option.{slice_get_within}
-use Rattle.elem_core.specs.declared.why.Decider.{Decider}
 use Rattle.port_core.specs.Joint.{IsSound}
 use Rattle.port_core.specs.View.{in_at, out_at}
 use Rattle.port_core.specs.declared.view.InView.TheVariants.{Left}
@@ -10,7 +9,6 @@ use Rattle.stream_io.specs.State.{SourceState, DrainState}
 use Rattle.stream_model.specs.declared.kind.Kind.{Kind}
 use Rattle.stream_model.specs.declared.kind.Kind.TheVariants.{Map, Filter, FilterNot, Take, TakeWhile, Drop, DropWhile, Limit, MapConcat}
 use Rattle.stream_model.specs.declared.kind.Kind.TheVariants as kind
-use Rattle.stream_model.specs.declared.outcome.EndState.{EndState}
 use Rattle.stream_model.specs.Graph.{Graph}
 use Rattle.stream_model.specs.Graph as graph
 use Rattle.stream_model.specs.Node.{World}
@@ -19,22 +17,23 @@ use Rattle.stream_picture.specs.OneWay.{is_sink}
 use Rattle.stream_picture.specs.Rests.{Rests, SinksMatch}
 use Rattle.stream_picture.specs.View.{EachWire, ins, ins_at, outs_at}
 use Rattle.stream_picture.specs.View as picture
-use Rattle.stage_linear.specs.declared.phase.Phase.{Phase}
 use Rattle.stage_linear.specs.States.{row_in, IsLinear}
 use Rattle.fused_net.specs.Net.{Net, wire_at, ports_at, view_of, took, gave, inp_of, out_of, got_of, sent_of, read_all}
 use Rattle.fused_net.specs.Laws.{Settled}
 use Rattle.fused_net.proofs.Reading.{get_there}
 use Rattle.nodes.specs.declared.node.Node.{Node}
-use Rattle.nodes.specs.declared.node.Node.TheVariants.{Reading, Linear, State, Writing}
+use Rattle.nodes.specs.declared.node.Node.TheVariants.{Reading, Making, Linear, State, Writing, Ignoring}
 use Rattle.nodes.specs.Nodes.{node_row, node_law}
 use Rattle.nodes.specs.Source.{lines_row_in}
 use Rattle.nodes.specs.Sink.{sink_row_in}
+use Rattle.nodes.specs.Ignoring.{ignore_row_in}
 use Rattle.run_laws.specs.Made.{FirstOf, Materializes}
 use Rattle.picture_laws.specs.Picture.{counts_of, AllPass, has_ended, sink_ended, ended_at}
-use Rattle.picture_laws.proofs.Places.{one_each, OneInput, one_input, OneOutput, one_output, Joined, input_at, output_at}
-use Rattle.picture_laws.proofs.Stages.{lines_ports, linear_ports, sink_ports}
+use Rattle.picture_laws.proofs.Places.{one_each, one_input, one_output, Joined, input_at, output_at}
+use Rattle.picture_laws.proofs.Stages.{linear_ports, sink_ports, ignore_ports}
+use Rattle.picture_laws.proofs.EndGraphs.{maker_no_sink, maker_rests, file_sink_rests, file_sink_matches, source_at_rest, sink_at_rest}
 use Rattle.picture_laws.proofs.StateGraphs.{state_rests, stateful_no_sink}
-use Rattle.picture_laws.proofs.RestRows.{RestsKind, linear_kind, linear_rests, lines_rests, sink_rests}
+use Rattle.picture_laws.proofs.RestRows.{RestsKind, linear_kind, linear_rests}
 
 module _ {S D : Type 0} (sources : S → SourceState) (drains : D → DrainState) (g : Graph) (net : Net (Node S D)) (s : Settled node_row (node_law sources drains) net) (m : Materializes sources g net.firsts net.ends) where
   pub joined : Joined g net.ends net.ports (length net.nodes) net.wires
@@ -67,24 +66,22 @@ module _ {S D : Type 0} (sources : S → SourceState) (drains : D → DrainState
     still u h = rw empty at (s.sound u h)
 
     module _ (w : World) (outlook : ℕ → Outlook) (passes : AllPass net outlook) where
-      -- a source of lines
-      reading_rests : (k : ℕ) (d : Decider) (name : List ℕ) (p : Phase) → k < length net.nodes → OneOutput (lines_row_in p) net.wires (ports_at net k) → RestsKind g w net.wires outlook k (kind.Lines name) d
-      reading_rests k d name p h o =
-          let at = output_at g net.ends net.ports (length net.nodes) net.wires joined outlook k o.b h o.outs in
-          let stands = lines_rests g w o.b o.b (wire_at net o.b) (wire_at net o.b) (outlook o.b) (outlook o.b) (still o.b at.within) (still o.b at.within) (s.marked o.b at.within) (s.marked o.b at.within) (wire_at net o.b).wire.out refl (lines_ports p (wire_at net o.b).wire.out o.holds) in
-          rw at.is (elim stands [ inl u ↦ inr u | inr c ↦ inl (tt, (c, tt)) ])
+      either_rests : {A B : Type 0} → A ⊎ B → (Unit {0} × A) ⊎ B
+      either_rests (inl a) = inl (tt, a)
+      either_rests (inr b) = inr b
 
-      -- a sink of lines
-      writing_rests : (k : ℕ) (d : Decider) (name : List ℕ) (p : Bool) (e : EndState) → k < length net.nodes → OneInput (sink_row_in p e) net.wires (ports_at net k) → RestsKind g w net.wires outlook k (kind.ToLines name) d
-      writing_rests k d name p e h i =
-          let at = input_at g net.ends net.ports (length net.nodes) net.wires joined outlook k i.a h i.ins in
-          let stands = sink_rests g w i.a i.a (wire_at net i.a) (wire_at net i.a) (outlook i.a) (outlook i.a) (still i.a at.within) (still i.a at.within) (s.marked i.a at.within) (s.marked i.a at.within) (has_ended e) (sink_ports p e (wire_at net i.a).wire.inp i.holds) in
-          rw at.is (elim stands.0 [ inl u ↦ inr u | inr c ↦ inl ((c, tt), tt) ])
+      either_waits : {A B : Type 0} → A ⊎ B → (A × Unit {0}) ⊎ B
+      either_waits (inl a) = inl (a, tt)
+      either_waits (inr b) = inr b
 
       -- each kind by its row
       kind_rests : (k : ℕ) (n : graph.Node) (h : k < length net.nodes) (first x : Node S D) → FirstOf sources k n first → node_row x (view_of net k) → node_law sources drains first x (view_of net k) (took net k) (gave net k) → RestsKind g w net.wires outlook k n.kind n.decider
-      kind_rests k n h (Reading first) (Reading x) f r law = subst (λ (kd : Kind). RestsKind g w net.wires outlook k kd n.decider) (sym f.kind_is) (reading_rests k n.decider f.name x.phase h (one_output (lines_row_in x.phase) net.wires (ports_at net k) r))
-      kind_rests k n h (Writing first) (Writing x) f r law = subst (λ (kd : Kind). RestsKind g w net.wires outlook k kd n.decider) (sym f.kind_is) (writing_rests k n.decider f.name x.started x.end h (one_input (sink_row_in x.started x.end) net.wires (ports_at net k) r))
+      kind_rests k n h (Reading first) (Reading x) f r law = subst (λ (kd : Kind). RestsKind g w net.wires outlook k kd n.decider) (sym f.kind_is) (either_rests (source_at_rest g w net joined still s.marked outlook k x.phase h (one_output (lines_row_in x.phase) net.wires (ports_at net k) r)))
+      kind_rests k n h (Making first) (Making x) f r law = maker_rests g w net.wires outlook k n.kind n.decider f.is_maker (source_at_rest g w net joined still s.marked outlook k x.phase h (one_output (lines_row_in x.phase) net.wires (ports_at net k) r))
+      kind_rests k n h (Writing first) (Writing x) f r law =
+          file_sink_rests g w net.wires outlook k n.kind n.decider f.is_sink (sink_at_rest g w net joined still s.marked outlook k (sink_row_in x.started x.end) (has_ended x.end) h (one_input (sink_row_in x.started x.end) net.wires (ports_at net k) r) (sink_ports x.started x.end)).0
+      kind_rests k n h (Ignoring first) (Ignoring x) f r law = subst (λ (kd : Kind). RestsKind g w net.wires outlook k kd n.decider) (sym f.kind_is)
+          (either_waits (sink_at_rest g w net joined still s.marked outlook k (ignore_row_in x.started x.end) (has_ended x.end) h (one_input (ignore_row_in x.started x.end) net.wires (ports_at net k) r) (ignore_ports x.started x.end)).0)
       kind_rests k n h (Linear first) (Linear x) f r law =
           let o = one_each (row_in x.phase x.over x.pending x.stage.work) net.wires (ports_at net k) r.row in
           let i_at = input_at g net.ends net.ports (length net.nodes) net.wires joined outlook k o.a h o.ins in
@@ -125,15 +122,13 @@ module _ {S D : Type 0} (sources : S → SourceState) (drains : D → DrainState
       abbrev MatchKind : ℕ → Kind → Bool → Type 0
       MatchKind k kd t = EachWire (λ (i : picture.View). i.shut ≡ t) (ins g (counts_of net.wires) outlook k kd)
 
-      writing_matches : (k : ℕ) (name : List ℕ) (p : Bool) (e : EndState) → k < length net.nodes → OneInput (sink_row_in p e) net.wires (ports_at net k) → MatchKind k (kind.ToLines name) (has_ended e)
-      writing_matches k name p e h i =
-          let at = input_at g net.ends net.ports (length net.nodes) net.wires joined outlook k i.a h i.ins in
-          let stands = sink_rests g w i.a i.a (wire_at net i.a) (wire_at net i.a) (outlook i.a) (outlook i.a) (still i.a at.within) (still i.a at.within) (s.marked i.a at.within) (s.marked i.a at.within) (has_ended e) (sink_ports p e (wire_at net i.a).wire.inp i.holds) in
-          rw at.is (stands.1, tt)
-
       kind_matches : (k : ℕ) (n : graph.Node) (h : k < length net.nodes) (first x : Node S D) → FirstOf sources k n first → node_row x (view_of net k) → node_law sources drains first x (view_of net k) (took net k) (gave net k) → is_sink n.kind ≡ true → MatchKind k n.kind (sink_ended x)
       kind_matches k n h (Reading first) (Reading x) f r law is = let no : is_sink (kind.Lines f.name) ≡ true = rw f.kind_is at is in cc
-      kind_matches k n h (Writing first) (Writing x) f r law is = subst (λ (kd : Kind). MatchKind k kd (has_ended x.end)) (sym f.kind_is) (writing_matches k f.name x.started x.end h (one_input (sink_row_in x.started x.end) net.wires (ports_at net k) r))
+      kind_matches k n h (Making first) (Making x) f r law is = absurd (maker_no_sink n.kind f.is_maker is)
+      kind_matches k n h (Writing first) (Writing x) f r law is =
+          file_sink_matches g w net.wires outlook k n.kind (has_ended x.end) f.is_sink (sink_at_rest g w net joined still s.marked outlook k (sink_row_in x.started x.end) (has_ended x.end) h (one_input (sink_row_in x.started x.end) net.wires (ports_at net k) r) (sink_ports x.started x.end)).1
+      kind_matches k n h (Ignoring first) (Ignoring x) f r law is = subst (λ (kd : Kind). MatchKind k kd (has_ended x.end)) (sym f.kind_is)
+          (sink_at_rest g w net joined still s.marked outlook k (ignore_row_in x.started x.end) (has_ended x.end) h (one_input (ignore_row_in x.started x.end) net.wires (ports_at net k) r) (ignore_ports x.started x.end)).1
       kind_matches k n h (Linear first) (Linear x) f r law is = absurd (no_sink n.kind f.is_linear is)
       kind_matches k n h (State first) (State x) f r law is = absurd (stateful_no_sink n.kind f.is_state is)
       kind_matches k n h first x f r law is = absurd law

@@ -29,14 +29,16 @@ use Rattle.wire_core.specs.Marks as marks
 use Rattle.fused_net.specs.Net.{Net, wire_at, ports_at, view_of, took, gave, inp_of, out_of, got_of, sent_of, read_all}
 use Rattle.fused_net.specs.Laws.{Settled}
 use Rattle.nodes.specs.declared.node.Node.{Node}
-use Rattle.nodes.specs.declared.node.Node.TheVariants.{Reading, Linear, State, Writing}
+use Rattle.nodes.specs.declared.node.Node.TheVariants.{Reading, Making, Linear, State, Writing, Ignoring}
 use Rattle.nodes.specs.Nodes.{node_row, node_law}
 use Rattle.nodes.specs.Linear.{LinearRow, LinearLaw}
 use Rattle.nodes.specs.Sink.{sink_row_in}
+use Rattle.nodes.specs.Ignoring.{ignore_row_in}
 use Rattle.run_laws.specs.Made.{FirstOf, FirstLinear, Materializes}
 use Rattle.picture_laws.specs.Picture.{count_of, counts_of, AllPass}
 use Rattle.picture_laws.proofs.Places.{one_each, one_input, fused_view, input_at, output_at}
 use Rattle.picture_laws.proofs.Stages.{LinearPorts, busy, free, behind, over, linear_ports, Waited, linear_waited}
+use Rattle.picture_laws.proofs.EndGraphs.{maker_lawful, maker_wires, maker_order, file_sink_lawful, file_sink_wires, file_sink_order, first_wanted}
 use Rattle.picture_laws.proofs.Graphs.{there, joined}
 use Rattle.picture_laws.proofs.Moments.{last_ask}
 use Rattle.picture_laws.proofs.StateGraphs.{state_lawful, state_wires, stateful_order}
@@ -148,7 +150,14 @@ module _ {S D : Type 0} (sources : S → SourceState) (drains : D → DrainState
     kind_lawful : (k : ℕ) (n : graph.Node) (h : k < length net.nodes) (first x : Node S D) → slice_get net.firsts k ≡ Some first → FirstOf sources k n first → node_row x (view_of net k) → node_law sources drains first x (view_of net k) (took net k) (gave net k)
         → LawfulKind g w net.wires outlook k n.kind n.decider
     kind_lawful k n h (Reading first) (Reading x) fi f r law = subst (λ (kd : Kind). LawfulKind g w net.wires outlook k kd n.decider) (sym f.kind_is) tt
-    kind_lawful k n h (Writing first) (Writing x) fi f r law = subst (λ (kd : Kind). LawfulKind g w net.wires outlook k kd n.decider) (sym f.kind_is) tt
+    kind_lawful k n h (Making first) (Making x) fi f r law = maker_lawful g w net.wires outlook k n.kind n.decider f.is_maker
+    kind_lawful k n h (Writing first) (Writing x) fi f r law =
+        let i = one_input (sink_row_in x.started x.end) net.wires (ports_at net k) r in
+        let i_at = input_at g net.ends net.ports (length net.nodes) net.wires (joined sources drains g net s m) outlook k i.a h i.ins in
+        file_sink_lawful g w net.wires outlook k n.kind n.decider f.is_sink (λ is.
+        let few : marks.wanted (wire_at net i.a) ≤ 1 = first_wanted sources drains g net s k i.a first h i_at.within fi (f.writes ∙ is) i.ins in
+        rw i_at.is (omega (arith, few), tt))
+    kind_lawful k n h (Ignoring first) (Ignoring x) fi f r law = subst (λ (kd : Kind). LawfulKind g w net.wires outlook k kd n.decider) (sym f.kind_is) tt
     kind_lawful k n h (Linear first) (Linear x) fi f r law =
         let o = one_each (row_in x.phase x.over x.pending x.stage.work) net.wires (ports_at net k) r.row in
         let i_at = input_at g net.ends net.ports (length net.nodes) net.wires (joined sources drains g net s m) outlook k o.a h o.ins in
@@ -168,8 +177,13 @@ module _ {S D : Type 0} (sources : S → SourceState) (drains : D → DrainState
     kind_wires : (k : ℕ) (n : graph.Node) (h : k < length net.nodes) (first x : Node S D) → FirstOf sources k n first → node_row x (view_of net k) → node_law sources drains first x (view_of net k) (took net k) (gave net k)
         → EachWire WireLawful (ins g (counts_of net.wires) outlook k n.kind)
     kind_wires k n h (Reading first) (Reading x) f r law = subst (λ (kd : Kind). EachWire WireLawful (ins g (counts_of net.wires) outlook k kd)) (sym f.kind_is) tt
+    kind_wires k n h (Making first) (Making x) f r law = maker_wires g w net.wires outlook k n.kind f.is_maker
     kind_wires k n h (Writing first) (Writing x) f r law =
         let i = one_input (sink_row_in x.started x.end) net.wires (ports_at net k) r in
+        let i_at = input_at g net.ends net.ports (length net.nodes) net.wires (joined sources drains g net s m) outlook k i.a h i.ins in
+        file_sink_wires g w net.wires outlook k n.kind f.is_sink (rw i_at.is (wire_lawful i.a i_at.within, tt))
+    kind_wires k n h (Ignoring first) (Ignoring x) f r law =
+        let i = one_input (ignore_row_in x.started x.end) net.wires (ports_at net k) r in
         let i_at = input_at g net.ends net.ports (length net.nodes) net.wires (joined sources drains g net s m) outlook k i.a h i.ins in
         subst (λ (kd : Kind). EachWire WireLawful (ins g (counts_of net.wires) outlook k kd)) (sym f.kind_is) (rw i_at.is (wire_lawful i.a i_at.within, tt))
     kind_wires k n h (Linear first) (Linear x) f r law =
@@ -182,7 +196,9 @@ module _ {S D : Type 0} (sources : S → SourceState) (drains : D → DrainState
     -- none of them is a valve
     kind_order : (k : ℕ) (n : graph.Node) (first : Node S D) (moves : List ℕ) → FirstOf sources k n first → valve_order n.kind moves ≡ None
     kind_order k n (Reading first) moves f = ap (λ (kd : Kind). valve_order kd moves) f.kind_is
-    kind_order k n (Writing first) moves f = ap (λ (kd : Kind). valve_order kd moves) f.kind_is
+    kind_order k n (Making first) moves f = maker_order n.kind f.is_maker moves
+    kind_order k n (Writing first) moves f = file_sink_order n.kind f.is_sink moves
+    kind_order k n (Ignoring first) moves f = ap (λ (kd : Kind). valve_order kd moves) f.kind_is
     kind_order k n (Linear first) moves f = no_order n.kind f.is_linear moves
     kind_order k n (State first) moves f = stateful_order n.kind f.is_state moves
 

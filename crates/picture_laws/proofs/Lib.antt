@@ -8,6 +8,7 @@ pub mod LawRows
 pub mod Moments
 pub mod StateRows
 pub mod StateGraphs
+pub mod EndGraphs
 pub mod Graphs
 pub mod LawGraphs
 pub mod Composing

@@ -24,6 +24,7 @@ use Rattle.stage_linear.specs.States.{Logic, held, held_in, row_in, Begins}
 use Rattle.nodes.specs.Linear.{LinearLaw}
 use Rattle.nodes.specs.Source.{lines_row_in}
 use Rattle.nodes.specs.Sink.{sink_row_in}
+use Rattle.nodes.specs.Ignoring.{ignore_row_in}
 use Rattle.picture_laws.specs.Picture.{has_ended}
 
 -- a source of lines
@@ -75,25 +76,22 @@ linear_ports Closed t h k Left Asked n r = absurd r
 linear_ports Closed t h k Idle y n r = absurd r
 linear_ports Closed t h k Waiting y n r = absurd r
 
--- a sink of lines
+-- a sink with a file
 pub sink_ports : (started : Bool) (e : EndState) (x : InView) → sink_row_in started e x → ((x ≡ Waiting) × (has_ended e ≡ false)) ⊎ (InClosed x × (has_ended e ≡ true))
 sink_ports true Unended Waiting r = inl (refl, refl)
 sink_ports true Ended Over r = inr (tt, refl)
+sink_ports true Ended Left r = inr (tt, refl)
 sink_ports true (Failed c) Over r = inr (tt, refl)
+sink_ports true WriteFault Over r = inr (tt, refl)
 sink_ports true WriteFault Left r = inr (tt, refl)
-sink_ports false e x r = absurd r
-sink_ports true Unended Idle r = absurd r
-sink_ports true Unended Over r = absurd r
-sink_ports true Unended Left r = absurd r
-sink_ports true Ended Idle r = absurd r
-sink_ports true Ended Waiting r = absurd r
-sink_ports true Ended Left r = absurd r
-sink_ports true (Failed c) Idle r = absurd r
-sink_ports true (Failed c) Waiting r = absurd r
-sink_ports true (Failed c) Left r = absurd r
-sink_ports true WriteFault Idle r = absurd r
-sink_ports true WriteFault Waiting r = absurd r
-sink_ports true WriteFault Over r = absurd r
+sink_ports started e x r = absurd r
+
+-- a sink that keeps nothing
+pub ignore_ports : (started : Bool) (e : EndState) (x : InView) → ignore_row_in started e x → ((x ≡ Waiting) × (has_ended e ≡ false)) ⊎ (InClosed x × (has_ended e ≡ true))
+ignore_ports true Unended Waiting r = inl (refl, refl)
+ignore_ports true Ended Over r = inr (tt, refl)
+ignore_ports true (Failed c) Over r = inr (tt, refl)
+ignore_ports started e x r = absurd r
 
 module _ (m : Machine Stage Tree) (start : Run Stage Tree) where
   -- one that waits and holds nothing has given all that its machine gives for what it took, and goes on

@@ -13,7 +13,7 @@ use Rattle.wire_core.specs.Cell.{Cell}
 use Rattle.wire_core.specs.Counts.{elements}
 use Rattle.fused_net.specs.Net.{Net, wire_at}
 use Rattle.nodes.specs.declared.node.Node.{Node}
-use Rattle.nodes.specs.declared.node.Node.TheVariants.{Reading, Linear, State, Writing}
+use Rattle.nodes.specs.declared.node.Node.TheVariants.{Reading, Making, Linear, State, Writing, Ignoring}
 
 -- how a wire stands: the elements that were pushed, whether its input waits for one, and whether either end has closed it
 abbrev pub count_of : Cell → WireCount
@@ -44,9 +44,11 @@ has_ended WriteFault = true
 -- the node is a sink that has ended
 abbrev pub sink_ended : {S D : Type 0} → Node S D → Bool
 sink_ended (Reading x) = false
+sink_ended (Making x) = false
 sink_ended (Linear x) = false
 sink_ended (State x) = false
 sink_ended (Writing x) = has_ended x.end
+sink_ended (Ignoring x) = has_ended x.end
 
 -- the same of node k
 abbrev pub ended_at : {S D : Type 0} → List (Node S D) → ℕ → Bool

@@ -14,7 +14,8 @@ use Rattle.fused_net.specs.Net.{Net, end_at, sent_of, wire_at, ports_at, view_of
 use Rattle.fused_net.specs.Laws.{Settled}
 use Rattle.fused_net.proofs.Reading.{get_there}
 use Rattle.nodes.specs.declared.node.Node.{Node}
-use Rattle.nodes.specs.declared.node.Node.TheVariants.{Reading, Linear, State, Writing}
+use Rattle.nodes.specs.declared.node.Node.TheVariants.{Reading, Making, Linear, State, Writing, Ignoring}
+use Rattle.nodes.specs.Kinds.{IsMaker, IsFileSink}
 use Rattle.nodes.specs.Nodes.{node_row, node_law}
 use Rattle.nodes.specs.Source.{Lines, LinesLaw}
 use Rattle.run_laws.specs.Made.{FirstReading, FirstOf, Materializes}
@@ -26,7 +27,9 @@ use Rattle.run_laws.proofs.AgreeingWires.{read_there}
 source_cases : {S D : Type 0} (sources : S → SourceState) (drains : D → DrainState) (k : ℕ) (n : graph.Node) (name : List ℕ) (first now : Node S D) (v : View) (took gave : List (List Item))
     → n.kind ≡ kind.Lines name → FirstOf sources k n first → node_law sources drains first now v took gave → (a : Lines S) × ((b : Lines S) × ((first ≡ Reading a) × (now ≡ Reading b)))
 source_cases sources drains k n name (Reading first) (Reading now) v took gave is made law = (first, (now, (refl, refl)))
-source_cases sources drains k n name (Writing first) now v took gave is made law = let e : kind.ToLines made.name ≡ kind.Lines name = sym made.kind_is ∙ is in absurd cc
+source_cases sources drains k n name (Making first) now v took gave is made law = let e : IsMaker (kind.Lines name) = subst IsMaker is made.is_maker in absurd e
+source_cases sources drains k n name (Writing first) now v took gave is made law = let e : IsFileSink (kind.Lines name) = subst IsFileSink is made.is_sink in absurd e
+source_cases sources drains k n name (Ignoring first) now v took gave is made law = let e : kind.Ignore ≡ kind.Lines name = sym made.kind_is ∙ is in absurd cc
 source_cases sources drains k n name (Linear first) now v took gave is made law = let e : IsLinear (kind.Lines name) = subst IsLinear is made.is_linear in absurd e
 source_cases sources drains k n name (State first) now v took gave is made law = let e : IsStateful (kind.Lines name) = subst IsStateful is made.is_state in absurd e
 source_cases sources drains k n name (Reading first) now v took gave is made law = absurd law

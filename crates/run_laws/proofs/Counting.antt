@@ -1,4 +1,4 @@
--- How many elements were sent to a sink of lines, by the lines that it wrote.
+-- How many elements were sent to a sink, by what it took and the lines that it wrote.
 use Rattle.std.proofs.Common.{◌≡◌, ℕ, suc, ◌+◌, ◌≤◌, Bool, true, false, List, [], ◌∷◌, ◌++◌, length, refl, sym, ap, ◌∙◌, subst, arith, length-append}
 use Rattle.elem_core.specs.Tree.{Tree}
 use Rattle.elem_core.specs.declared.item.Item.{Item}
@@ -8,22 +8,24 @@ use Rattle.port_core.specs.Connection.{Step, quiet, pulled, ready, pushed}
 use Rattle.port_core.specs.Wire.{Wire, end_of}
 use Rattle.port_core.specs.Joint.{Joint, idle, asking, asked, moving, ending, closing, leaving, finished, parted, refused, wire_of, Histories, Queues, under_way, IsSound}
 use Rattle.port_core.specs.declared.view.InView.{InView}
-use Rattle.port_core.specs.declared.view.InView.TheVariants.{Waiting, Over, Left}
+use Rattle.port_core.specs.declared.view.InView.TheVariants.{Idle, Waiting, Over, Left}
 use Rattle.port_core.specs.declared.view.OutView.{OutView}
 use Rattle.wire_core.specs.Cell.{Cell}
 use Rattle.wire_core.specs.Counts.{elements}
 use Rattle.wire_core.specs.Marks.{IsMarked}
 use Rattle.wire_core.proofs.Counting.{elements_end}
 use Rattle.wire_core.proofs.Marking.{cell}
-use Rattle.stream_model.specs.Outlook.{End, unended, ended, failed}
+use Rattle.stream_model.specs.Outlook.{Outlook, End, unended, ended, failed, Agrees}
 use Rattle.stream_model.specs.declared.outcome.EndState.{EndState}
 use Rattle.stream_model.specs.declared.outcome.EndState.TheVariants.{Ended, Failed, Unended, WriteFault}
 use Rattle.std.specs.Prelude.{Option, Some, None}
 use Rattle.stream_io.specs.State.{DrainState}
 use Rattle.stage_law.specs.Held.{told}
+use Rattle.stage_law.specs.Law.{TookAs}
 use Rattle.nodes.specs.Ports.{OneInOf}
-use Rattle.nodes.specs.Sink.{sink_row_in, StandsAs}
-use Rattle.run_laws.specs.Sinks.{SentTo}
+use Rattle.nodes.specs.Sink.{sink_row_in, StandsAs, end_seen}
+use Rattle.nodes.specs.Ignoring.{ignore_row_in, EndsWith}
+use Rattle.run_laws.specs.Sinks.{SentTo, IgnoreTells}
 use Rattle.run_laws.proofs.Histories.{got_begins}
 
 -- elements in a row, and a list that was told
@@ -140,52 +142,90 @@ module _ (c : Wire) (q : Bool) (sound : IsSound c q) where
       let same : elements c.sent ≡ elements (c.got ++ p.rest) = ap elements p.is in
       omega (arith, same, elements_append c.got p.rest)
 
+-- an end that came is known
+over_of : (i : InView) → TookAs i ended → i ≡ Over
+over_of Over h = refl
+over_of Idle h = cc
+over_of Waiting h = cc
+over_of Left h = cc
+
+over_failed : (i : InView) (c : Cause) → TookAs i (failed c) → i ≡ Over
+over_failed Over c h = refl
+over_failed Idle c h = cc
+over_failed Waiting c h = cc
+over_failed Left c h = cc
+
 -- what a sink's row says of its input
-ended_over : (b : Bool) (i : InView) (outs : List OutView) → OneInOf (sink_row_in b Ended) (i ∷ []) outs → i ≡ Over
-ended_over true Over [] r = refl
-ended_over true Over (y ∷ outs) r = refl
-ended_over _ i [] r = absurd r
-ended_over _ i (y ∷ outs) r = absurd r
-
-failed_over : (b : Bool) (i : InView) (c : Cause) (outs : List OutView) → OneInOf (sink_row_in b (Failed c)) (i ∷ []) outs → i ≡ Over
-failed_over true Over c [] r = refl
-failed_over true Over c (y ∷ outs) r = refl
-failed_over _ i c [] r = absurd r
-failed_over _ i c (y ∷ outs) r = absurd r
-
 open_waits : (b : Bool) (i : InView) (outs : List OutView) → OneInOf (sink_row_in b Unended) (i ∷ []) outs → i ≡ Waiting
 open_waits true Waiting [] r = refl
 open_waits true Waiting (y ∷ outs) r = refl
 open_waits _ i [] r = absurd r
 open_waits _ i (y ∷ outs) r = absurd r
 
-pub fault_left : (b : Bool) (i : InView) (outs : List OutView) → OneInOf (sink_row_in b WriteFault) (i ∷ []) outs → i ≡ Left
-fault_left true Left [] r = refl
-fault_left true Left (y ∷ outs) r = refl
-fault_left _ i [] r = absurd r
-fault_left _ i (y ∷ outs) r = absurd r
+-- a sink whose write failed does not wait
+pub fault_waits : (b : Bool) (i : InView) (outs : List OutView) → OneInOf (sink_row_in b WriteFault) (i ∷ []) outs → i ≡ Waiting → ⊥
+fault_waits true Over [] r e = cc
+fault_waits true Left [] r e = cc
+fault_waits true Waiting [] r e = r
+fault_waits true Over (y ∷ outs) r e = cc
+fault_waits true Left (y ∷ outs) r e = cc
+fault_waits _ i [] r e = absurd r
+fault_waits _ i (y ∷ outs) r e = absurd r
 
-module _ (c : Wire) (q : Bool) (sound : IsSound c q) (b : Bool) (outs : List OutView) (old new : DrainState) (elems : List Tree) (e : End) (n : ℕ) (got : c.got ≡ told elems e) where
+ignore_waits : (b : Bool) (i : InView) (outs : List OutView) → OneInOf (ignore_row_in b Unended) (i ∷ []) outs → i ≡ Waiting
+ignore_waits true Waiting [] r = refl
+ignore_waits true Waiting (y ∷ outs) r = refl
+ignore_waits _ i [] r = absurd r
+ignore_waits _ i (y ∷ outs) r = absurd r
+
+module _ (c : Wire) (q : Bool) (sound : IsSound c q) (b : Bool) (outs : List OutView) (elems : List Tree) (e : End) (got : c.got ≡ told elems e) (as_seen : TookAs c.inp e) where
   got_count : elements c.got ≡ length elems
   got_count = ap elements got ∙ elements_told elems e
 
-  pub sent_by : (s : EndState) → (s ≡ WriteFault → elements c.sent ≤ elements c.got) → OneInOf (sink_row_in b s) (c.inp ∷ []) outs → StandsAs s old new elems e n → SentTo s (elements c.sent) n
-  sent_by Ended none r w = over_same c q sound (ended_over b c.inp outs r) ∙ got_count ∙ sym w.1.count
-  sent_by (Failed d) none r w = over_same c q sound (failed_over b c.inp d outs r) ∙ got_count ∙ sym w.1.count
-  sent_by Unended none r w =
-      let few : elements c.sent ≤ elements c.got + 1 = waiting_few c q sound (open_waits b c.inp outs r) in
-      let least : elements c.got ≤ elements c.sent = no_fewer c q sound in
-      let count : n ≡ length elems = w.1.count in
-      (omega (arith, least, got_count, count), omega (arith, few, got_count, count))
-  sent_by WriteFault none r w =
-      let most : elements c.sent ≤ elements c.got = none refl in
-      let least : elements c.got ≤ elements c.sent = no_fewer c q sound in
-      let count : n ≡ length w.1.before = w.1.count in
-      let all : length elems ≡ length (w.1.before ++ w.1.last ∷ []) = ap length w.1.took_is in
-      omega (arith, least, most, got_count, count, all, length-append w.1.before (w.1.last ∷ []))
+  all_ended : e ≡ ended → elements c.sent ≡ length elems
+  all_ended is = over_same c q sound (over_of c.inp (rw is at as_seen)) ∙ got_count
 
-  pub rests_by : (s : EndState) → s ≡ Unended → q ≡ false → OneInOf (sink_row_in b s) (c.inp ∷ []) outs → StandsAs s old new elems e n → elements c.sent ≡ n
-  rests_by Unended is none r w = resting_same c q sound none (open_waits b c.inp outs r) ∙ got_count ∙ sym w.1.count
-  rests_by Ended is none r w = cc
-  rests_by (Failed d) is none r w = cc
-  rests_by WriteFault is none r w = cc
+  all_failed : (d : Cause) → e ≡ failed d → elements c.sent ≡ length elems
+  all_failed d is = over_same c q sound (over_failed c.inp d (rw is at as_seen)) ∙ got_count
+
+  -- while it waits
+  few_more : c.inp ≡ Waiting → (length elems ≤ elements c.sent) × (elements c.sent ≤ length elems + 1)
+  few_more w =
+      let few : elements c.sent ≤ elements c.got + 1 = waiting_few c q sound w in
+      let least : elements c.got ≤ elements c.sent = no_fewer c q sound in
+      (omega (arith, least, got_count), omega (arith, few, got_count))
+
+  module _ (old new : DrainState) (wrote : List Tree) (n : ℕ) (all : wrote ≡ elems) where
+    wrote_count : length wrote ≡ length elems
+    wrote_count = ap length all
+
+    pub sent_by : (s : EndState) → (s ≡ WriteFault → elements c.sent ≤ elements c.got) → e ≡ end_seen s → OneInOf (sink_row_in b s) (c.inp ∷ []) outs → StandsAs s old new wrote n → SentTo s (elements c.sent) n
+    sent_by Ended none is r w = all_ended is ∙ sym wrote_count ∙ sym w.count
+    sent_by (Failed d) none is r w = all_failed d is ∙ sym wrote_count ∙ sym w.count
+    sent_by Unended none is r w =
+        let few = few_more (open_waits b c.inp outs r) in
+        let count : n ≡ length wrote = w.count in
+        let same : length wrote ≡ length elems = wrote_count in
+        let least = few.0 in
+        let most = few.1 in
+        (omega (arith, least, count, same), omega (arith, most, count, same))
+    sent_by WriteFault none is r w =
+        let most : elements c.sent ≤ elements c.got = none refl in
+        let least : elements c.got ≤ elements c.sent = no_fewer c q sound in
+        let count : n ≡ length w.before = w.count in
+        let more : length wrote ≡ length (w.before ++ w.last ∷ []) = ap length w.wrote_is in
+        let same : length wrote ≡ length elems = wrote_count in
+        omega (arith, least, most, got_count, count, more, same, length-append w.before (w.last ∷ []))
+
+    pub rests_by : (s : EndState) → s ≡ Unended → q ≡ false → OneInOf (sink_row_in b s) (c.inp ∷ []) outs → StandsAs s old new wrote n → elements c.sent ≡ n
+    rests_by Unended is none r w = resting_same c q sound none (open_waits b c.inp outs r) ∙ got_count ∙ sym wrote_count ∙ sym w.count
+    rests_by Ended is none r w = cc
+    rests_by (Failed d) is none r w = cc
+    rests_by WriteFault is none r w = cc
+
+  -- a sink that keeps nothing
+  pub ignored_by : (s : EndState) (o : Outlook) → EndsWith s e → OneInOf (ignore_row_in b s) (c.inp ∷ []) outs → Agrees o elems e → IgnoreTells o s (elements c.sent)
+  ignored_by Ended o is r a = (elems, (rw is at a, all_ended is))
+  ignored_by (Failed d) o is r a = (elems, (rw is at a, all_failed d is))
+  ignored_by Unended o is r a = (elems, (rw is at a, few_more (ignore_waits b c.inp outs r)))
+  ignored_by WriteFault o is r a = absurd is

@@ -6,7 +6,7 @@ use Rattle.elem_core.proofs.Prefixes.{prefix_length, prefix_whole}
 use Rattle.elem_core.specs.declared.item.Item.{Item}
 use Rattle.elem_core.specs.declared.item.Item.TheVariants as item
 use Rattle.port_core.specs.Ring.{holds}
-use Rattle.port_core.specs.declared.view.InView.TheVariants.{Waiting, Left}
+use Rattle.port_core.specs.declared.view.InView.TheVariants.{Waiting}
 use Rattle.wire_core.specs.Counts.{elements}
 use Rattle.wire_core.specs.Marks.{wanted}
 use Rattle.stream_model.specs.Outlook.{unended}
@@ -22,7 +22,7 @@ use Rattle.nodes.specs.Nodes.{node_row, node_law}
 use Rattle.nodes.specs.Ports.{OneInOf}
 use Rattle.nodes.specs.Sink.{Sink, sink_row, sink_row_in}
 use Rattle.run_laws.specs.Sinks.{IsSinkAt}
-use Rattle.run_laws.proofs.Counting.{elements_told, all_came, no_fewer, fault_left}
+use Rattle.run_laws.proofs.Counting.{elements_told, all_came, no_fewer, fault_waits}
 
 -- a history has no more elements than items, and as many where no end passed
 elements_most : (s : List Item) → elements s ≤ length s
@@ -55,8 +55,7 @@ module _ {S D : Type 0} (sources : S → SourceState) (drains : D → DrainState
       let node_first : slice_get a.old.firsts k ≡ Some (Writing first) = ap (λ (l : List (Node S D)). slice_get l k) (sym a.on.firsts) ∙ at.at_first in
       let row : sink_row now (view_of a.old k) = ((rw to at a.minded) (Writing now) (Writing first) node node_first).row_holds in
       let here : OneInOf (sink_row_in now.started WriteFault) ((wire_at a.old u).wire.inp ∷ []) (view_of a.old k).outs = rw (ins_old, fault) at row in
-      let left : Left ≡ Waiting = sym (fault_left now.started (wire_at a.old u).wire.inp (view_of a.old k).outs here) ∙ a.waits in
-      cc
+      fault_waits now.started (wire_at a.old u).wire.inp (view_of a.old k).outs here a.waits
 
   -- so it took an element since, and no more was asked for
   pub none_behind : (elems : List Tree) → (wire_at net u).wire.got ≡ told elems unended → 1 ≤ length elems → elements (wire_at net u).wire.sent ≤ elements (wire_at net u).wire.got

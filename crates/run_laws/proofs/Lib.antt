@@ -4,11 +4,13 @@ pub mod Readings
 pub mod Stages
 pub mod States
 pub mod Writings
+pub mod Makings
 pub mod AnyKind
 pub mod AgreeingWires
 pub mod Counting
 pub mod Faults
 pub mod Passing
+pub mod Written
 pub mod Sinks
 pub mod AgreeingSinks
 pub mod ReadingAhead

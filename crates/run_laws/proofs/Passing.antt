@@ -19,7 +19,7 @@ module _ (book : Book) (k : ℕ) (d : Decider) where
       let later = passes (g ++ t ∷ []) (n + 1) l in
       (later.0, later.1 ∙ ap (λ (x : List Tree). record { gave = x; state = going (passer k d later.0) }) (append_assoc g (t ∷ []) l))
 
-  passing_stands : (l : List Tree) (e : End) → Stands (linear book passing) (begin_work k d passing) l e l e
+  pub passing_stands : (l : List Tree) (e : End) → Stands (linear book passing) (begin_work k d passing) l e l e
   passing_stands l unended = let p = passes [] 0 l in rw p.1 (prefix_refl l)
   passing_stands l ended = let p = passes [] 0 l in rw p.1 (ap (λ (x : List Tree). record { list = x; end = ended }) (append-nil l))
   passing_stands l (failed c) =

@@ -1,4 +1,4 @@
--- What a sink of lines took and wrote, by its outlook.
+-- What a sink with a file took and wrote, by its outlook.
 use Rattle.std.specs.Prelude.{Option}
 use Rattle.std.specs.Option.{option_map}
 use Rattle.std.proofs.Common.{◌≡◌, ℕ, List, [], ◌∷◌, ◌++◌, Some, sym, ap, subst, ◌∙◌}
@@ -6,17 +6,20 @@ use Rattle.elem_core.specs.Prefix.{IsPrefix}
 use Rattle.elem_core.specs.Text.{text_lines}
 use Rattle.elem_core.specs.Tree.{Tree}
 use Rattle.elem_core.specs.declared.item.Item.{Item}
-use Rattle.elem_core.proofs.Prefixes.{prefix_trans}
+use Rattle.elem_core.proofs.Prefixes.{prefix_refl, prefix_trans}
 use Rattle.port_core.specs.View.{View}
 use Rattle.stream_model.specs.Outlook.{Outlook, End, unended, ended, failed, Agrees}
 use Rattle.stream_model.specs.declared.outcome.EndState.{EndState}
 use Rattle.stream_model.specs.declared.outcome.EndState.TheVariants.{Ended, Failed, Unended, WriteFault}
 use Rattle.stream_io.specs.State.{DrainState}
 use Rattle.stage_law.specs.Held.{told}
-use Rattle.nodes.specs.Sink.{Sink, WroteAll, StandsAs, SinkLaw}
+use Rattle.nodes.specs.declared.sink.Writes.{Writes}
+use Rattle.nodes.specs.declared.sink.Writes.TheVariants.{Each, First, Last}
+use Rattle.nodes.specs.Sink.{Sink, WroteAll, StandsAs, end_seen, WritesOf, SinkLaw}
 use Rattle.nodes.proofs.Drawings.{text_lines-append}
 use Rattle.nodes.proofs.SinkTexts.{has_lines}
-use Rattle.run_laws.specs.Sinks.{end_seen, TookList, HoldsText, SinkTells}
+use Rattle.run_laws.specs.Sinks.{TookList, HoldsText, SinkTells}
+use Rattle.run_laws.proofs.Written.{end_by}
 
 -- the text of a first part
 prefix_text : (a b : List Tree) → IsPrefix a b → IsPrefix (text_lines a) (text_lines b)
@@ -28,33 +31,38 @@ from_empty o more written e h =
     let now : Some written ≡ Some more = subst (λ (p : Option (List ℕ)). Some written ≡ option_map (λ held. held ++ more) p) e h in
     cc
 
-wrote_text : (o : Outlook) (e : End) (old new : DrainState) (took : List Tree) (n : ℕ) (written : List ℕ) → old.holds ≡ Some [] → new.holds ≡ Some written → Agrees o took e → WroteAll old new took n → HoldsText o e written
-wrote_text o e old new took n written h k a w = record { list = took; agrees = a; is = from_empty old.holds (text_lines took) written h (sym k ∙ w.holds) }
+wrote_text : (o : Outlook) (e : End) (old new : DrainState) (wrote : List Tree) (n : ℕ) (written : List ℕ) → old.holds ≡ Some [] → new.holds ≡ Some written → Agrees o wrote e → WroteAll old new wrote n → HoldsText o e written
+wrote_text o e old new wrote n written h k a w = record { list = wrote; agrees = a; is = from_empty old.holds (text_lines wrote) written h (sym k ∙ w.holds) }
 
--- how its input stands
-saw : (s : EndState) (old new : DrainState) (took : List Tree) (e : End) (n : ℕ) → StandsAs s old new took e n → e ≡ end_seen s
-saw Ended old new took e n h = h.0
-saw (Failed c) old new took e n h = h.0
-saw Unended old new took e n h = h.0
-saw WriteFault old new took e n h = h.0
+-- what agrees is a first part of the list
+part_of : (o : Outlook) (l : List Tree) (e : End) → Agrees o l e → IsPrefix l o.list
+part_of o l unended a = a
+part_of o l ended a = rw a.1 (prefix_refl o.list)
+part_of o l (failed c) a = a.0
 
-tells_by : (s : EndState) (o : Outlook) (old new : DrainState) (took : List Tree) (e : End) (n : ℕ) (written : List ℕ) → old.holds ≡ Some [] → new.holds ≡ Some written
-    → Agrees o took (end_seen s) → StandsAs s old new took e n → IsPrefix written (text_lines took) → SinkTells o s written
-tells_by Ended o old new took e n written h k a w p = wrote_text o ended old new took n written h k a w.1
-tells_by (Failed c) o old new took e n written h k a w p = wrote_text o (failed c) old new took n written h k a w.1
-tells_by Unended o old new took e n written h k a w p = wrote_text o unended old new took n written h k a w.1
-tells_by WriteFault o old new took e n written h k a w p = prefix_trans p (prefix_text took o.list a)
+tells_by : (s : EndState) (wr : Writes) (o : Outlook) (old new : DrainState) (wrote : List Tree) (n : ℕ) (written : List ℕ) → old.holds ≡ Some [] → new.holds ≡ Some written
+    → Agrees o wrote (end_by s wr) → StandsAs s old new wrote n → IsPrefix written (text_lines wrote) → SinkTells o s written
+tells_by Ended wr o old new wrote n written h k a w p = wrote_text o ended old new wrote n written h k a w
+tells_by (Failed c) wr o old new wrote n written h k a w p = wrote_text o (failed c) old new wrote n written h k a w
+tells_by Unended wr o old new wrote n written h k a w p = wrote_text o unended old new wrote n written h k a w
+tells_by WriteFault wr o old new wrote n written h k a w p = prefix_trans p (prefix_text wrote o.list (part_of o wrote (end_by WriteFault wr) a))
 
-module _ {D : Type 0} (state : D → DrainState) (first now : Sink D) (v : View) (took gave : List (List Item)) (law : SinkLaw state first now v took gave) (o : Outlook) (a : Agrees o law.elems law.in_end) where
-  seen : law.in_end ≡ end_seen now.end
-  seen = saw now.end (state first.drain) (state now.drain) law.elems law.in_end now.count law.stands
+-- a sink of lines sees its input end as it does, and all that came was to be written
+each_took : (wr : Writes) (n : ℕ) (k : Option Tree) (s : EndState) (l : List Tree) (e : End) (w : List Tree) → wr ≡ Each → WritesOf wr n k s l e w → (w ≡ l) × (e ≡ end_seen s)
+each_took Each n k s l e w is h = h
+each_took First n k s l e w is h = cc
+each_took Last n k s l e w is h = cc
 
-  its_list : Agrees o law.elems (end_seen now.end)
-  its_list = subst (λ (e : End). Agrees o law.elems e) seen a
+module _ {D : Type 0} (state : D → DrainState) (first now : Sink D) (v : View) (took gave : List (List Item)) (law : SinkLaw state first now v took gave) (o : Outlook) where
+  -- what came to a sink of lines
+  pub sink_each : now.writes ≡ Each → (law.wrote ≡ law.elems) × (law.in_end ≡ end_seen now.end)
+  sink_each is = each_took now.writes now.node now.kept now.end law.elems law.in_end law.wrote is law.writes
 
-  pub sink_took : TookList o now.end took
-  sink_took = record { list = law.elems; is = law.took_is ∙ ap (λ (e : End). told law.elems e ∷ []) seen; agrees = its_list }
+  pub sink_took : now.writes ≡ Each → Agrees o law.elems law.in_end → TookList o now.end took
+  sink_took is a =
+      let seen = (sink_each is).1 in
+      record { list = law.elems; is = law.took_is ∙ ap (λ (e : End). told law.elems e ∷ []) seen; agrees = subst (λ (e : End). Agrees o law.elems e) seen a }
 
-  pub sink_tells : (written : List ℕ) → (state first.drain).holds ≡ Some [] → (state now.drain).holds ≡ Some written → SinkTells o now.end written
-  sink_tells written h k =
-      tells_by now.end o (state first.drain) (state now.drain) law.elems law.in_end now.count written h k its_list law.stands (has_lines state first now v took gave written law h k).1
+  pub sink_tells : Agrees o law.wrote (end_by now.end now.writes) → (written : List ℕ) → (state first.drain).holds ≡ Some [] → (state now.drain).holds ≡ Some written → SinkTells o now.end written
+  sink_tells a written h k =
+      tells_by now.end now.writes o (state first.drain) (state now.drain) law.wrote now.count written h k a law.stands (has_lines state first now v took gave written law h k).1

@@ -11,9 +11,12 @@ use Rattle.stage_state.specs.States as state
 use Rattle.fused_net.specs.declared.net.Ends.{Ends}
 use Rattle.fused_net.specs.Net.{end_at}
 use Rattle.nodes.specs.declared.node.Node.{Node}
-use Rattle.nodes.specs.declared.node.Node.TheVariants.{Reading, Linear, State, Writing}
+use Rattle.nodes.specs.declared.node.Node.TheVariants.{Reading, Making, Linear, State, Writing, Ignoring}
 use Rattle.nodes.specs.Source.{Lines}
+use Rattle.nodes.specs.Maker.{Made}
 use Rattle.nodes.specs.Sink.{Sink}
+use Rattle.nodes.specs.Ignoring.{Ignorer}
+use Rattle.nodes.specs.Kinds.{IsMaker, maker_of, IsFileSink, writes_of}
 
 -- a source of the lines of a file, of which nothing was handed out
 pub record FirstReading {S : Type 0} (sources : S → SourceState) (k : ℕ) (shape : Kind) (x : Lines S) : Type 0 where
@@ -33,20 +36,33 @@ pub record FirstState (k : ℕ) (n : graph.Node) (x : state.Logic) : Type 0 wher
   pub is_state : state.IsStateful n.kind
   pub begins : state.Begins k n.kind n.decider x
 
--- a sink of lines that wrote nothing
+-- a source without a file at its start
+pub record FirstMaking (k : ℕ) (shape : Kind) (x : Made) : Type 0 where
+  pub is_maker : IsMaker shape
+  pub is : x ≡ maker_of k shape
+
+-- a sink with a file that wrote nothing
 pub record FirstWriting {D : Type 0} (k : ℕ) (shape : Kind) (x : Sink D) : Type 0 where
-  pub name : List ℕ
-  pub kind_is : shape ≡ kind.ToLines name
+  pub is_sink : IsFileSink shape
   pub node : x.node ≡ k
+  pub writes : x.writes ≡ writes_of shape
   pub count : x.count ≡ 0
+  pub end : x.end ≡ Unended
+
+-- a sink that keeps nothing, at its start
+pub record FirstIgnoring (k : ℕ) (shape : Kind) (x : Ignorer) : Type 0 where
+  pub kind_is : shape ≡ kind.Ignore
+  pub node : x.node ≡ k
   pub end : x.end ≡ Unended
 
 -- node k of the blueprint, as it is handed in
 abbrev pub FirstOf : {S D : Type 0} → (S → SourceState) → ℕ → graph.Node → Node S D → Type 0
 FirstOf sources k n (Reading x) = FirstReading sources k n.kind x
+FirstOf sources k n (Making x) = FirstMaking k n.kind x
 FirstOf sources k n (Linear x) = FirstLinear k n x
 FirstOf sources k n (State x) = FirstState k n x
 FirstOf sources k n (Writing x) = FirstWriting k n.kind x
+FirstOf sources k n (Ignoring x) = FirstIgnoring k n.kind x
 
 -- a wire between the same ports, which is no lane
 pub record IsFused (v : Wire) (e : Ends) : Type 0 where

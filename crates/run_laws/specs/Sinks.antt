@@ -1,5 +1,5 @@
--- What a sink of lines tells of its outlook: by how it stands, what it took, and the bytes of its file, which was empty at first.
-use Rattle.std.specs.Prelude.{◌≡◌, ℕ, ◌+◌, ◌≤◌, List, [], ◌∷◌, Some, slice_get}
+-- What a sink tells of its outlook: by how it stands, what it took, and the bytes of its file, which was empty at first.
+use Rattle.std.specs.Prelude.{◌≡◌, ℕ, ◌+◌, ◌≤◌, List, [], ◌∷◌, length, Some, slice_get}
 use Rattle.elem_core.specs.Prefix.{IsPrefix}
 use Rattle.elem_core.specs.Text.{text_lines}
 use Rattle.elem_core.specs.Tree.{Tree}
@@ -10,15 +10,9 @@ use Rattle.stream_model.specs.declared.outcome.EndState.TheVariants.{Ended, Fail
 use Rattle.stage_law.specs.Held.{told}
 use Rattle.fused_net.specs.Net.{Net}
 use Rattle.nodes.specs.declared.node.Node.{Node}
-use Rattle.nodes.specs.declared.node.Node.TheVariants.{Writing}
-use Rattle.nodes.specs.Sink.{Sink}
-
--- how its input stands; one that a failed write made cancel its input saw no end
-abbrev pub end_seen : EndState → End
-end_seen Ended = ended
-end_seen (Failed c) = failed c
-end_seen Unended = unended
-end_seen WriteFault = unended
+use Rattle.nodes.specs.declared.node.Node.TheVariants.{Writing, Ignoring}
+use Rattle.nodes.specs.Sink.{Sink, end_seen}
+use Rattle.nodes.specs.Ignoring.{Ignorer}
 
 -- it took a list that may pass and stand as its input does
 pub record TookList (o : Outlook) (e : EndState) (took : List (List Item)) : Type 0 where
@@ -39,7 +33,7 @@ SinkTells o (Failed c) bytes = HoldsText o (failed c) bytes
 SinkTells o Unended bytes = HoldsText o unended bytes
 SinkTells o WriteFault bytes = IsPrefix bytes (text_lines o.list)
 
--- So many elements were sent to a sink that wrote `count` lines: as many where its input's end came, and one more at most
+-- So many elements were sent to a sink of lines that wrote `count` lines: as many where its input's end came, and one more at most
 -- while it waits. Where a write failed it is one more: that element was not written whole, and none was asked for behind it.
 abbrev pub SentTo : EndState → ℕ → ℕ → Type 0
 SentTo Ended sent count = sent ≡ count
@@ -47,7 +41,20 @@ SentTo (Failed c) sent count = sent ≡ count
 SentTo Unended sent count = (count ≤ sent) × (sent ≤ count + 1)
 SentTo WriteFault sent count = sent ≡ count + 1
 
--- a sink of lines is node k, as it was handed in and now
+-- a sink with a file is node k, as it was handed in and now
 pub record IsSinkAt {S D : Type 0} (net : Net (Node S D)) (k : ℕ) (first now : Sink D) : Type 0 where
   pub at_first : slice_get net.firsts k ≡ Some (Writing first)
   pub at_last : slice_get net.nodes k ≡ Some (Writing now)
+
+-- So many elements were sent to a sink that keeps nothing: they are a list that may pass and stand so; while it waits, the
+-- list that it took, and one element more at most.
+abbrev pub IgnoreTells : Outlook → EndState → ℕ → Type 0
+IgnoreTells o Ended sent = (list : List Tree) × (Agrees o list ended × (sent ≡ length list))
+IgnoreTells o (Failed c) sent = (list : List Tree) × (Agrees o list (failed c) × (sent ≡ length list))
+IgnoreTells o Unended sent = (list : List Tree) × (Agrees o list unended × ((length list ≤ sent) × (sent ≤ length list + 1)))
+IgnoreTells o WriteFault sent = ⊥
+
+-- a sink that keeps nothing is node k, as it was handed in and now
+pub record IsIgnorerAt {S D : Type 0} (net : Net (Node S D)) (k : ℕ) (first now : Ignorer) : Type 0 where
+  pub at_first : slice_get net.firsts k ≡ Some (Ignoring first)
+  pub at_last : slice_get net.nodes k ≡ Some (Ignoring now)

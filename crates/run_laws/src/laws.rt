@@ -12,13 +12,15 @@ ghost use Rattle.stream_model.specs.declared.outcome.EndState.TheVariants.{Unend
 ghost use Rattle.fused_net.specs.Laws.{Settled};
 ghost use Rattle.fused_net.specs.Net.{Net, wire_at, took};
 ghost use Rattle.nodes.specs.Nodes.{node_row, node_law};
+ghost use Rattle.nodes.specs.Ignoring.{Ignorer};
+ghost use Rattle.nodes.specs.Kinds.{IsFileSink};
 ghost use Rattle.nodes.specs.Sink.{Sink};
 ghost use Rattle.nodes.specs.Source.{Lines};
 ghost use Rattle.nodes.specs.declared.node.Node.{Node};
 ghost use Rattle.run_laws.specs.Agreeing.{AgreesWith};
 ghost use Rattle.run_laws.specs.Made.{Materializes};
 ghost use Rattle.run_laws.specs.Reads.{IsSourceAt, SentLines};
-ghost use Rattle.run_laws.specs.Sinks.{TookList, SinkTells, SentTo, IsSinkAt};
+ghost use Rattle.run_laws.specs.Sinks.{TookList, SinkTells, SentTo, IsSinkAt, IgnoreTells, IsIgnorerAt};
 ghost use Rattle.run_laws.specs.Telling.{Tells};
 
 use stream_io::outside::{Drain, Source};
@@ -30,32 +32,38 @@ pub fn every_wire_agrees<S: Source, D: Drain>()
         → (i : ℕ) → i < length g.wires → AgreesWith (composed g w i) (wire_at net i).wire.sent }
 {}
 
-/// A node of the kind of a sink of lines is one (`there`). What it took, and how it stands, agrees with its outlook (`took`);
-/// and where its file was empty at first and tells what it holds, so do the bytes of its file (`tells`): where it ended they
-/// are exactly the text of all that its outlook gives, where it failed the text of a list that the outlook lets fail so, and
-/// else a first part of that text.
+/// A node of the kind of a sink with a file is one (`there`). What a sink of lines took, and how it stands, agrees with its
+/// outlook (`took`); and where the file of any of them was empty at first and tells what it holds, so do the bytes of its file
+/// (`tells`): where it ended they are exactly the text of all that its outlook gives, where it failed the text of a list that
+/// the outlook lets fail so, and else a first part of that text. A node of the kind of a sink that keeps nothing is one
+/// (`ignorer`), and how it stands and how many elements were sent to it agree with its outlook (`ignores`).
 pub fn every_sink_agrees<S: Source, D: Drain>()
     ensures there { (g : Graph) (net : Net (Node S D)) → Settled node_row (node_law S.state D.state) net → Materializes S.state g net.firsts net.ends
-        → (k : ℕ) (n : graph.Node) (name : List ℕ) → slice_get g.nodes k ≡ Some n → n.kind ≡ kind.ToLines name → (first : Sink D) × ((now : Sink D) × IsSinkAt net k first now) }
+        → (k : ℕ) (n : graph.Node) → slice_get g.nodes k ≡ Some n → IsFileSink n.kind → (first : Sink D) × ((now : Sink D) × IsSinkAt net k first now) }
     ensures took { (g : Graph) (w : World) (rank : ℕ → ℕ) (net : Net (Node S D)) → Settled node_row (node_law S.state D.state) net → Materializes S.state g net.firsts net.ends → Tells S.state g w net → IsRanked g rank
-        → (k : ℕ) (n : graph.Node) (first now : Sink D) → slice_get g.nodes k ≡ Some n → IsSinkAt net k first now → TookList (sink_outlook g w k n) now.end (took net k) }
+        → (k : ℕ) (n : graph.Node) (name : List ℕ) (first now : Sink D) → slice_get g.nodes k ≡ Some n → n.kind ≡ kind.ToLines name → IsSinkAt net k first now → TookList (sink_outlook g w k n) now.end (took net k) }
     ensures tells { (g : Graph) (w : World) (rank : ℕ → ℕ) (net : Net (Node S D)) → Settled node_row (node_law S.state D.state) net → Materializes S.state g net.firsts net.ends → Tells S.state g w net → IsRanked g rank
         → (k : ℕ) (n : graph.Node) (first now : Sink D) (written : List ℕ) → slice_get g.nodes k ≡ Some n → IsSinkAt net k first now
         → (D.state first.drain).holds ≡ Some [] → (D.state now.drain).holds ≡ Some written → SinkTells (sink_outlook g w k n) now.end written }
+    ensures ignorer { (g : Graph) (net : Net (Node S D)) → Settled node_row (node_law S.state D.state) net → Materializes S.state g net.firsts net.ends
+        → (k : ℕ) (n : graph.Node) → slice_get g.nodes k ≡ Some n → n.kind ≡ kind.Ignore → (first : Ignorer) × ((now : Ignorer) × IsIgnorerAt net k first now) }
+    ensures ignores { (g : Graph) (w : World) (rank : ℕ → ℕ) (net : Net (Node S D)) → Settled node_row (node_law S.state D.state) net → Materializes S.state g net.firsts net.ends → Tells S.state g w net → IsRanked g rank
+        → (k : ℕ) (n : graph.Node) (first now : Ignorer) (u : ℕ) (v : Wire) → slice_get g.nodes k ≡ Some n → IsIgnorerAt net k first now → slice_get g.wires u ≡ Some v → v.to ≡ k
+        → IgnoreTells (sink_outlook g w k n) now.end (elements (wire_at net u).wire.sent) }
 {}
 
 /// A sink has written as many whole lines as it counts, where its file was empty at first (`lines`). As many elements were
-/// sent on its wire where its input's end came, one more at most while it waits, and exactly one more where a write failed
-/// (`sent`); none more where no event is left and it has not ended (`rest`).
+/// sent on the wire of a sink of lines where its input's end came, one more at most while it waits, and exactly one more
+/// where a write failed (`sent`); none more where no event is left and it has not ended (`rest`).
 pub fn every_sink_counts_its_lines<S: Source, D: Drain>()
     ensures lines { (g : Graph) (net : Net (Node S D)) → Settled node_row (node_law S.state D.state) net → Materializes S.state g net.firsts net.ends
         → (k : ℕ) (n : graph.Node) (first now : Sink D) (written : List ℕ) → slice_get g.nodes k ≡ Some n → IsSinkAt net k first now
         → (D.state first.drain).holds ≡ Some [] → (D.state now.drain).holds ≡ Some written → whole_lines (length written) written ≡ now.count }
     ensures sent { (g : Graph) (net : Net (Node S D)) → Settled node_row (node_law S.state D.state) net → Materializes S.state g net.firsts net.ends
-        → (k : ℕ) (n : graph.Node) (first now : Sink D) (u : ℕ) (v : Wire) → slice_get g.nodes k ≡ Some n → IsSinkAt net k first now → slice_get g.wires u ≡ Some v → v.to ≡ k
+        → (k : ℕ) (n : graph.Node) (name : List ℕ) (first now : Sink D) (u : ℕ) (v : Wire) → slice_get g.nodes k ≡ Some n → n.kind ≡ kind.ToLines name → IsSinkAt net k first now → slice_get g.wires u ≡ Some v → v.to ≡ k
         → SentTo now.end (elements (wire_at net u).wire.sent) now.count }
     ensures rest { (g : Graph) (net : Net (Node S D)) → Settled node_row (node_law S.state D.state) net → Materializes S.state g net.firsts net.ends
-        → (k : ℕ) (n : graph.Node) (first now : Sink D) (u : ℕ) (v : Wire) → slice_get g.nodes k ≡ Some n → IsSinkAt net k first now → slice_get g.wires u ≡ Some v → v.to ≡ k
+        → (k : ℕ) (n : graph.Node) (name : List ℕ) (first now : Sink D) (u : ℕ) (v : Wire) → slice_get g.nodes k ≡ Some n → n.kind ≡ kind.ToLines name → IsSinkAt net k first now → slice_get g.wires u ≡ Some v → v.to ≡ k
         → net.queue ≡ [] → now.end ≡ Unended → elements (wire_at net u).wire.sent ≡ now.count }
 {}
 

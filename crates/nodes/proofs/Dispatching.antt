@@ -1,0 +1,58 @@
+-- A call of a node is the call of its kind, at its one port.
+use Rattle.std.specs.Prelude.{Result, OnOk, slice_index_or}
+use Rattle.std.proofs.Common.{◌≡◌, ℕ, zero, suc, List, [], ◌∷◌, refl}
+use Rattle.elem_core.specs.declared.item.Item.{Item}
+use Rattle.elem_core.specs.declared.item.Item.TheVariants as item
+use Rattle.port_core.specs.declared.act.Act.{Act}
+use Rattle.port_core.specs.declared.view.InView.{InView}
+use Rattle.port_core.specs.declared.view.InView.TheVariants.{Left}
+use Rattle.port_core.specs.declared.view.OutView.{OutView}
+use Rattle.port_core.specs.View.{View}
+use Rattle.port_core.specs.Call.{Meets, MayCome, brings}
+use Rattle.stage_core.specs.Handling.{Handles}
+use Rattle.stream_io.specs.State.{SourceState, DrainState}
+use Rattle.nodes.specs.Ports.{OneIn, OneInOf}
+use Rattle.nodes.specs.Sink.{Sink, sink_row, sink_row_in, SinkLaw}
+use Rattle.nodes.specs.declared.node.Node.{Node}
+use Rattle.nodes.specs.declared.node.Node.TheVariants.{Reading, Making, Linear, State, Writing, Ignoring}
+use Rattle.nodes.specs.Nodes.{node_row, node_law}
+use Rattle.nodes.proofs.Acting.{on_ok_two}
+
+-- nothing comes to a port that is not there
+none_comes : (x : Item) → MayCome x Left → ⊥
+none_comes (item.Elem e) h = cc
+none_comes item.Ended h = h
+none_comes (item.Failed c) h = h
+
+port_lists : (P : InView → Type 0) (p : ℕ) (x : Item) (xs : List InView) (ys : List OutView) → OneInOf P xs ys → MayCome x (slice_index_or xs p Left) → p ≡ 0
+port_lists P zero x xs ys r h = refl
+port_lists P (suc p) x (y ∷ []) [] r h = absurd (none_comes x h)
+port_lists P (suc p) x [] ys r h = absurd r
+port_lists P (suc p) x (y ∷ []) (z ∷ ys) r h = absurd r
+port_lists P (suc p) x (y ∷ w ∷ xs) ys r h = absurd r
+
+-- what comes to a node with one input comes there
+pub port_is : (P : InView → Type 0) (p : ℕ) (x : Item) → Meets (brings p x) (λ v. OneIn P v) → p ≡ 0
+port_is P p x m = port_lists P p x m.0.ins m.0.outs m.1.1 m.1.0
+
+module _ {S D : Type 0} (sources : S → SourceState) (drains : D → DrainState) where
+  -- a sink with a file
+  writing_law : (first : Node S D) (old new : Sink D) (v w : View) (took gave more given : List (List Item)) → ((f : Sink D) → SinkLaw drains f old v took gave → SinkLaw drains f new w more given)
+      → node_law sources drains first (Writing old) v took gave → node_law sources drains first (Writing new) w more given
+  writing_law (Writing f) old new v w took gave more given keeps law = keeps f law
+  writing_law (Reading f) old new v w took gave more given keeps law = absurd law
+  writing_law (Making f) old new v w took gave more given keeps law = absurd law
+  writing_law (Linear f) old new v w took gave more given keeps law = absurd law
+  writing_law (State f) old new v w took gave more given keeps law = absurd law
+  writing_law (Ignoring f) old new v w took gave more given keeps law = absurd law
+
+  writing_at : (x : Item) (old new : Sink D) (acts : List Act) → Handles sink_row (SinkLaw drains) (brings 0 x) old new acts → Handles node_row (node_law sources drains) (brings 0 x) (Writing old) (Writing new) acts
+  writing_at x old new acts h = record {
+    obeys = record { allowed = h.obeys.allowed; row = h.obeys.row };
+    stands = h.stands;
+    keeps = λ first v took gave a r law. writing_law first old new v _ took gave _ _ (λ f l. h.keeps f v took gave a r l) law;
+  }
+
+  pub writing_handles : {T E : Type 0} (p : ℕ) (x : Item) (old new : Sink D) (acts : List Act) (r : Result T E) → Meets (brings p x) (sink_row old) → OnOk r (Handles sink_row (SinkLaw drains) (brings 0 x) old new acts)
+      → OnOk r (Handles node_row (node_law sources drains) (brings p x) (Writing old) (Writing new) acts)
+  writing_handles p x old new acts r m h = rw (port_is (sink_row_in old.started old.end) p x m) (on_ok_two r h h (λ a b. writing_at x old new acts a))

@@ -35,6 +35,7 @@ use Rattle.nodes.specs.Nodes.{node_row, node_law}
 use Rattle.nodes.specs.Drawing.{ended_lines}
 use Rattle.nodes.specs.Source.{Lines}
 use Rattle.nodes.specs.Sink.{Sink, StandsAs}
+use Rattle.nodes.specs.Ignoring.{Ignorer}
 use Rattle.nodes.specs.declared.node.Node.{Node}
 use Rattle.nodes.specs.declared.node.Node.TheVariants as node
 use Rattle.interpreter.specs.Parts.{number_of, ends_of}
@@ -42,7 +43,7 @@ use Rattle.interpreter.specs.declared.parts.Link.{Link}
 use Rattle.interpreter.specs.Island as island
 use Rattle.run_laws.specs.Made.{Materializes}
 use Rattle.run_laws.specs.Telling.{TellsFile, TellsNode, Tells}
-use Rattle.run_laws.specs.Sinks.{SinkTells, SentTo, IsSinkAt}
+use Rattle.run_laws.specs.Sinks.{SinkTells, SentTo, IsSinkAt, IgnoreTells, IsIgnorerAt}
 use Rattle.run_laws.specs.Reads.{IsSourceAt, ReadsAhead, SentLines}
 use Rattle.run_laws.proofs.Counting.{elements_told}
 use Rattle.blue_core.specs.declared.blueprint.Blueprint.{Blueprint}
@@ -58,14 +59,14 @@ use Rattle.run_files.specs.Opening.{AtStart, HoldsNone, OpensAll, GivesUp}
 use Rattle.run_files.specs.Closing.{ClosesAll}
 use Rattle.blueprint_run.specs.Drawing.{Drawn, IsSource, WasRead, IsWorldOf, DrawsFirst}
 use Rattle.blueprint_run.specs.Leaving.{Leaves}
-use Rattle.blueprint_run.specs.Running.{SinkLeaves, LeavesFiles, WritesOf, Runs, Wants}
+use Rattle.blueprint_run.specs.Running.{SinkLeaves, IgnoreLeaves, LeavesFiles, WritesOf, Runs, Wants}
 use Rattle.blueprint_run.specs.Stands.{Stand, has_ended_at, is_write_fault}
 use Rattle.blueprint_run.specs.declared.run.Stopped.{Stopped}
 use Rattle.blueprint_run.specs.declared.run.Ran.{Ran}
 use Rattle.blueprint_run.proofs.Counts.{rose_by, rose_from_none, is_positive, positive, above_none, not_positive, some_of, contains_or_not}
 use Rattle.blueprint_run.proofs.Places.{all_at, contains_at, contained_at, mapped_at, unmapped_at, filtered_at, unfiltered_at, place_of, place_one, place_within}
-use Rattle.blueprint_run.proofs.Profiles.{stand_in, writer_there, sinks_filtered, StandsAt, Profile, ended_along}
-use Rattle.blueprint_run.proofs.Handles.{IsLinesSink, HandleLaws, stand_kind, SourceFacts, SinkFacts, source_facts, sink_facts, made, profiles, as_many, stands_are, read_grew, faults_grew, writes_grew, file_held, other_files, other_reads, other_writes, refused, tells_old, reading_same, writing_same, some_one}
+use Rattle.blueprint_run.proofs.Profiles.{some_one, stand_in, writer_there, sinks_filtered, StandsAt, Profile, ended_along}
+use Rattle.blueprint_run.proofs.Handles.{IsSinkInto, HandleLaws, fault_kind, writer_kind, SourceFacts, SinkFacts, source_facts, sink_facts, made, profiles, as_many, stands_are, read_grew, faults_grew, writes_grew, file_held, other_files, other_reads, other_writes, refused, tells_old, reading_same, writing_same}
 
 -- ---- the wires' counts
 
@@ -85,18 +86,18 @@ counts_second (l ∷ ls) (c ∷ cs) e = ap (λ (x : List WireCount). island.coun
 held_by : (o : Option (List ℕ)) (more : List ℕ) (new : Option (List ℕ)) → new ≡ option_map (λ held. held ++ more) o → o ≡ Some [] → new ≡ Some more
 held_by o more new e f = rw f at e
 
-stands_held : (e : EndState) (old new : DrainState) (took : List Tree) (end : End) (n : ℕ) → StandsAs e old new took end n → old.holds ≡ Some [] → (written : List ℕ) × (new.holds ≡ Some written)
-stands_held Unended old new took end n s h = (text_lines took, held_by old.holds (text_lines took) new.holds s.1.holds h)
-stands_held Ended old new took end n s h = (text_lines took, held_by old.holds (text_lines took) new.holds s.1.holds h)
-stands_held (Failed c) old new took end n s h = (text_lines took, held_by old.holds (text_lines took) new.holds s.1.holds h)
-stands_held WriteFault old new took end n s h = (text_lines s.1.before ++ s.1.part, held_by old.holds (text_lines s.1.before ++ s.1.part) new.holds s.1.holds h)
+stands_held : (e : EndState) (old new : DrainState) (wrote : List Tree) (n : ℕ) → StandsAs e old new wrote n → old.holds ≡ Some [] → (written : List ℕ) × (new.holds ≡ Some written)
+stands_held Unended old new wrote n s h = (text_lines wrote, held_by old.holds (text_lines wrote) new.holds s.holds h)
+stands_held Ended old new wrote n s h = (text_lines wrote, held_by old.holds (text_lines wrote) new.holds s.holds h)
+stands_held (Failed c) old new wrote n s h = (text_lines wrote, held_by old.holds (text_lines wrote) new.holds s.holds h)
+stands_held WriteFault old new wrote n s h = (text_lines s.before ++ s.part, held_by old.holds (text_lines s.before ++ s.part) new.holds s.holds h)
 
 -- what the drain counted is added to the folder's count
-stands_writes : (e : EndState) (s t : DrainState) (took : List Tree) (end : End) (n old new : ℕ) → StandsAs e s t took end n → s.faults ≡ 0 → Grew old t.faults new → WritesOf e old new
-stands_writes Unended s t took end n old new h none grew = subst (λ k. Grew old k new) (h.1.faults ∙ none) grew
-stands_writes Ended s t took end n old new h none grew = subst (λ k. Grew old k new) (h.1.faults ∙ none) grew
-stands_writes (Failed c) s t took end n old new h none grew = subst (λ k. Grew old k new) (h.1.faults ∙ none) grew
-stands_writes WriteFault s t took end n old new h none grew = rose_by old t.faults new grew (rose_from_none s.faults t.faults none h.1.faults)
+stands_writes : (e : EndState) (s t : DrainState) (wrote : List Tree) (n old new : ℕ) → StandsAs e s t wrote n → s.faults ≡ 0 → Grew old t.faults new → WritesOf e old new
+stands_writes Unended s t wrote n old new h none grew = subst (λ k. Grew old k new) (h.faults ∙ none) grew
+stands_writes Ended s t wrote n old new h none grew = subst (λ k. Grew old k new) (h.faults ∙ none) grew
+stands_writes (Failed c) s t wrote n old new h none grew = subst (λ k. Grew old k new) (h.faults ∙ none) grew
+stands_writes WriteFault s t wrote n old new h none grew = rose_by old t.faults new grew (rose_from_none s.faults t.faults none h.faults)
 
 calm_write : (e : EndState) (old new : ℕ) → is_write_fault e ≡ false → WritesOf e old new → Grew old 0 new
 calm_write Unended old new h w = w
@@ -139,8 +140,11 @@ told_whole o bytes e = rw e refl
 
 ended_stand : {S D : Type 0} (x : Node S D) (s : Stand) → stand_in x ≡ Some s → sink_ended x ≡ has_ended s.2
 ended_stand (node.Writing x) s f = let same : (x.node, x.count, x.end) ≡ s = some_one (x.node, x.count, x.end) s f in ap (λ (t : Stand). has_ended t.2) same
+ended_stand (node.Ignoring x) s f = let same : (x.node, 0, x.end) ≡ s = some_one (x.node, 0, x.end) s f in ap (λ (t : Stand). has_ended t.2) same
 ended_stand (node.Reading x) s f = absurd cc
+ended_stand (node.Making x) s f = absurd cc
 ended_stand (node.Linear x) s f = absurd cc
+ended_stand (node.State x) s f = absurd cc
 
 ended_there : {S D : Type 0} (nodes : List (Node S D)) (k : ℕ) (x : Node S D) (s : Stand) → slice_get nodes k ≡ Some x → stand_in x ≡ Some s → ended_at nodes k ≡ has_ended s.2
 ended_there [] k x s e f = absurd cc
@@ -166,10 +170,7 @@ no_stand k false o s h e = absurd cc
 tells_node : {S D : Type 0} (sources : S → SourceState) (w : World) (n : graph.Node) (first now : Node S D)
     → ((a c : Lines S) (name : List ℕ) → first ≡ node.Reading a → now ≡ node.Reading c → n.kind ≡ kind.Lines name → TellsFile (sources a.reader.source) (sources c.reader.source) (w.file name)) → TellsNode sources w n first now
 tells_node sources w n (node.Reading a) (node.Reading c) tells = λ name shape. tells a c name refl refl shape
-tells_node sources w n (node.Reading a) (node.Linear c) tells = tt
-tells_node sources w n (node.Reading a) (node.Writing c) tells = tt
-tells_node sources w n (node.Linear a) now tells = tt
-tells_node sources w n (node.Writing a) now tells = tt
+tells_node sources w n first now tells = tt
 
 -- ---- the laws of a run
 
@@ -186,12 +187,12 @@ module _ {S D : Type 0} (sources : S → SourceState) (drains : D → DrainState
 
   abbrev SentLaw : Type 0
   SentLaw = (g : Graph) (net : Net (Node S D)) → Settled node_row (node_law sources drains) net → Materializes sources g net.firsts net.ends
-      → (k : ℕ) (n : graph.Node) (first now : Sink D) (u : ℕ) (v : Wire) → slice_get g.nodes k ≡ Some n → IsSinkAt net k first now → slice_get g.wires u ≡ Some v → v.to ≡ k
+      → (k : ℕ) (n : graph.Node) (name : List ℕ) (first now : Sink D) (u : ℕ) (v : Wire) → slice_get g.nodes k ≡ Some n → n.kind ≡ kind.ToLines name → IsSinkAt net k first now → slice_get g.wires u ≡ Some v → v.to ≡ k
       → SentTo now.end (elements (wire_at net u).wire.sent) now.count
 
   abbrev RestLaw : Type 0
   RestLaw = (g : Graph) (net : Net (Node S D)) → Settled node_row (node_law sources drains) net → Materializes sources g net.firsts net.ends
-      → (k : ℕ) (n : graph.Node) (first now : Sink D) (u : ℕ) (v : Wire) → slice_get g.nodes k ≡ Some n → IsSinkAt net k first now → slice_get g.wires u ≡ Some v → v.to ≡ k
+      → (k : ℕ) (n : graph.Node) (name : List ℕ) (first now : Sink D) (u : ℕ) (v : Wire) → slice_get g.nodes k ≡ Some n → n.kind ≡ kind.ToLines name → IsSinkAt net k first now → slice_get g.wires u ≡ Some v → v.to ≡ k
       → net.queue ≡ [] → now.end ≡ Unended → elements (wire_at net u).wire.sent ≡ now.count
 
   abbrev ReadsLaw : Type 0
@@ -211,6 +212,15 @@ module _ {S D : Type 0} (sources : S → SourceState) (drains : D → DrainState
   MatchLaw = (g : Graph) (w : World) (net : Net (Node S D)) (outlook : ℕ → Outlook) → Settled node_row (node_law sources drains) net → net.queue ≡ [] → Materializes sources g net.firsts net.ends
       → SinksMatch g w (counts_of net.wires) outlook (ended_at net.nodes)
 
+  abbrev IgnorerThere : Type 0
+  IgnorerThere = (g : Graph) (net : Net (Node S D)) → Settled node_row (node_law sources drains) net → Materializes sources g net.firsts net.ends
+      → (k : ℕ) (n : graph.Node) → slice_get g.nodes k ≡ Some n → n.kind ≡ kind.Ignore → (first : Ignorer) × ((now : Ignorer) × IsIgnorerAt net k first now)
+
+  abbrev IgnoresLaw : Type 0
+  IgnoresLaw = (g : Graph) (w : World) (rank : ℕ → ℕ) (net : Net (Node S D)) → Settled node_row (node_law sources drains) net → Materializes sources g net.firsts net.ends → Tells sources g w net → IsRanked g rank
+      → (k : ℕ) (n : graph.Node) (first now : Ignorer) (u : ℕ) (v : Wire) → slice_get g.nodes k ≡ Some n → IsIgnorerAt net k first now → slice_get g.wires u ≡ Some v → v.to ≡ k
+      → IgnoreTells (sink_outlook g w k n) now.end (elements (wire_at net u).wire.sent)
+
   pub record RunLaws : Type 0 where
     pub ranked : (b : Blueprint) (plugs : List PlugHead) (taken : List (List ℕ)) → IsFit b plugs taken → (rank : ℕ → ℕ) × IsRanked (graph_of b) rank
     pub tells : TellsLaw
@@ -221,6 +231,8 @@ module _ {S D : Type 0} (sources : S → SourceState) (drains : D → DrainState
     pub lawful : LawfulLaw
     pub rests : RestsLaw
     pub match : MatchLaw
+    pub ignorer : IgnorerThere
+    pub ignores : IgnoresLaw
 
 -- ---- what a run leaves
 
@@ -247,7 +259,7 @@ module _ {S D : Type 0} (sources : S → SourceState) (drains : D → DrainState
   source_at : (k : ℕ) (file : List ℕ) → IsSource nodes k file → Source k file
   source_at = source_facts sources drains handles b can ss ds budget st l old mid opens
 
-  sink_at : (k : ℕ) (file : List ℕ) → IsLinesSink nodes k file → ASink k file
+  sink_at : (k : ℕ) (file : List ℕ) → IsSinkInto nodes k file → ASink k file
   sink_at = sink_facts sources drains handles b can ss ds budget st l old mid opens
 
   profile : (k : ℕ) (n : blue.Node) (x : Node S D) → slice_get nodes k ≡ Some n → slice_get net.nodes k ≡ Some x → Profile sources drains k n x
@@ -271,7 +283,7 @@ module _ {S D : Type 0} (sources : S → SourceState) (drains : D → DrainState
   }
 
   -- the stand of a sink of lines, by its place among the stands
-  stand_of : (i : ℕ) (s : Stand) (n : blue.Node) (file : List ℕ) → slice_get st.end.sinks.items i ≡ Some s → slice_get nodes s.0 ≡ Some n → n.kind ≡ kind.ToLines file → (f : ASink s.0 file) × (s ≡ (s.0, f.now.count, f.now.end))
+  stand_of : (i : ℕ) (s : Stand) (n : blue.Node) (file : List ℕ) → slice_get st.end.sinks.items i ≡ Some s → slice_get nodes s.0 ≡ Some n → output_of n.kind ≡ Some file → (f : ASink s.0 file) × (s ≡ (s.0, f.now.count, f.now.end))
   stand_of i s n file at here shape =
       let among : slice_get (filter_map stand_in net.nodes) i ≡ Some s = subst (λ (x : List Stand). slice_get x i ≡ Some s) (l.stops.sinks ∙ sinks_filtered net.nodes) at in
       let from = unfiltered_at stand_in net.nodes i s among in
@@ -279,7 +291,7 @@ module _ {S D : Type 0} (sources : S → SourceState) (drains : D → DrainState
       let m = place_of nodes from.0 below in
       let place : s.0 ≡ from.0 = no_stand from.0 (is_sink m.0) (stand_in from.1.0) s (profile from.0 m.0 from.1.0 m.1 from.1.1.0).stand from.1.1.1 in
       let there : slice_get net.nodes s.0 ≡ Some from.1.0 = subst (λ j. slice_get net.nodes j ≡ Some from.1.0) (sym place) from.1.1.0 in
-      let f = sink_at s.0 file (record { node = n; at = here; kind_is = shape }) in
+      let f = sink_at s.0 file (record { node = n; at = here; file_is = shape }) in
       let is : from.1.0 ≡ node.Writing f.now = place_one net.nodes s.0 from.1.0 (node.Writing f.now) there f.there.at_last in
       let told : stand_in {S = S} (node.Writing f.now) ≡ Some s = ap stand_in (sym is) ∙ from.1.1.1 in
       let same : (f.now.node, f.now.count, f.now.end) ≡ s = some_one (f.now.node, f.now.count, f.now.end) s told in
@@ -337,7 +349,7 @@ module _ {S D : Type 0} (sources : S → SourceState) (drains : D → DrainState
       empty = f.start.holds tells_mid
 
       held : (written : List ℕ) × ((drains f.now.drain).holds ≡ Some written)
-      held = stands_held f.now.end (drains f.first.drain) (drains f.now.drain) f.law.elems f.law.in_end f.now.count f.law.stands empty
+      held = stands_held f.now.end (drains f.first.drain) (drains f.now.drain) f.law.wrote f.now.count f.law.stands empty
 
       at_graph : slice_get g.nodes k ≡ Some (node_of n)
       at_graph = mapped_at node_of nodes k n at
@@ -350,9 +362,33 @@ module _ {S D : Type 0} (sources : S → SourceState) (drains : D → DrainState
             let ranked = laws.ranked b can.plugs can.taken can.fit in
             laws.tells g w ranked.0 net l.stops.settled net_made (world_tells w is) ranked.1 k (node_of n) f.first f.now held.0 at_graph f.there empty held.1;
         lines_are = laws.lines g net l.stops.settled net_made k (node_of n) f.first f.now held.0 at_graph f.there empty held.1;
-        sent = λ u v at to. subst (λ (m : ℕ). SentTo f.now.end m f.now.count) (sym (wire_count u)) (laws.sent g net l.stops.settled net_made k (node_of n) f.first f.now u v at_graph f.there at to);
-        rests = λ rest unended u v at to. wire_count u ∙ laws.rest g net l.stops.settled net_made k (node_of n) f.first f.now u v at_graph f.there at to (l.stops.rests rest) unended;
+        sent = λ shape u v at to. subst (λ (m : ℕ). SentTo f.now.end m f.now.count) (sym (wire_count u)) (laws.sent g net l.stops.settled net_made k (node_of n) file f.first f.now u v at_graph shape f.there at to);
+        rests = λ shape rest unended u v at to. wire_count u ∙ laws.rest g net l.stops.settled net_made k (node_of n) file f.first f.now u v at_graph shape f.there at to (l.stops.rests rest) unended;
       }
+
+    -- a sink without a file
+    ignore_leaves : (i : ℕ) (s : Stand) (n : blue.Node) → slice_get st.end.sinks.items i ≡ Some s → slice_get nodes s.0 ≡ Some n → n.kind ≡ kind.Ignore → IgnoreLeaves b drawn st.wires.items s.0 n s.1 s.2
+    ignore_leaves i s n at here shape =
+        let ranked = laws.ranked b can.plugs can.taken can.fit in
+        let at_graph : slice_get g.nodes s.0 ≡ Some (node_of n) = mapped_at node_of nodes s.0 n here in
+        let there = laws.ignorer g net l.stops.settled net_made s.0 (node_of n) at_graph shape in
+        let now = there.1.0 in
+        let among : slice_get (filter_map stand_in net.nodes) i ≡ Some s = subst (λ (x : List Stand). slice_get x i ≡ Some s) (l.stops.sinks ∙ sinks_filtered net.nodes) at in
+        let from = unfiltered_at stand_in net.nodes i s among in
+        let below : from.0 < length nodes = subst (λ m. from.0 < m) (sym (as_many sources drains handles b can ss ds budget st l old mid opens)) (place_within net.nodes from.0 from.1.0 from.1.1.0) in
+        let m = place_of nodes from.0 below in
+        let place : s.0 ≡ from.0 = no_stand from.0 (is_sink m.0) (stand_in from.1.0) s (profile from.0 m.0 from.1.0 m.1 from.1.1.0).stand from.1.1.1 in
+        let found : slice_get net.nodes s.0 ≡ Some from.1.0 = subst (λ j. slice_get net.nodes j ≡ Some from.1.0) (sym place) from.1.1.0 in
+        let is : from.1.0 ≡ node.Ignoring now = place_one net.nodes s.0 from.1.0 (node.Ignoring now) found there.1.1.at_last in
+        let told : stand_in {S = S} {D = D} (node.Ignoring now) ≡ Some s = ap stand_in (sym is) ∙ from.1.1.1 in
+        let same : (now.node, 0, now.end) ≡ s = some_one (now.node, 0, now.end) s told in
+        record {
+          none = ap (λ (t : Stand). t.1) (sym same);
+          tells = λ w is_world u v wire to.
+              subst (λ (e : EndState). IgnoreTells (sink_outlook g w s.0 (node_of n)) e (sent_at st.wires.items u)) (ap (λ (t : Stand). t.2) same)
+              (subst (λ (c : ℕ). IgnoreTells (sink_outlook g w s.0 (node_of n)) now.end c) (sym (wire_count u))
+              (laws.ignores g w ranked.0 net l.stops.settled net_made (world_tells w is_world) ranked.1 s.0 (node_of n) there.0 now u v at_graph there.1.1 wire to));
+        }
 
     leaves_files : LeavesFiles old new b st.end.sinks.items st.wires.items st.at_rest
     leaves_files =
@@ -363,6 +399,7 @@ module _ {S D : Type 0} (sources : S → SourceState) (drains : D → DrainState
           sink = λ i s n file at here shape.
               let found = stand_of i s n file at here shape in
               subst (λ (t : Stand). SinkLeaves new b drawn st.wires.items st.at_rest s.0 n file t.1 t.2) (sym found.1) (sink_leaves s.0 n file here found.0);
+          ignores = λ i s n at here shape. ignore_leaves i s n at here shape;
           others = other_files sources drains handles b can ss ds budget st l old mid opens new closes tells;
           draws = λ k file u v is at from.
               let f = source_at k file is in
@@ -393,13 +430,13 @@ module _ {S D : Type 0} (sources : S → SourceState) (drains : D → DrainState
       let below : from.0 < length net.nodes = subst (λ j. from.0 < j) (as_many sources drains handles b can ss ds budget st l old mid opens) (place_within nodes from.0 from.1.0 from.1.1.0) in
       let x = place_of net.nodes from.0 below in
       let y = writer_there (λ d. (drains d).name) x.0 n (sym from.1.1.1 ∙ (profile from.0 from.1.0 x.0 from.1.1.0 x.1).output) in
-      let shape = stand_kind sources drains handles b can ss ds budget st l old mid opens from.0 from.1.0 x.0 (y.0.node, y.0.count, y.0.end) from.1.1.0 x.1 (ap stand_in y.1) in
-      let named : shape.0 ≡ n = some_one shape.0 n (sym (ap output_of shape.1) ∙ from.1.1.1) in
-      let f = sink_at from.0 shape.0 (record { node = from.1.0; at = from.1.1.0; kind_is = shape.1 }) in
+      let shape = writer_kind sources drains handles b can ss ds budget st l old mid opens from.0 from.1.0 x.0 y.0 from.1.1.0 x.1 y.1 in
+      let named : shape.0 ≡ n = some_one shape.0 n (sym shape.1 ∙ from.1.1.1) in
+      let f = sink_at from.0 shape.0 (record { node = from.1.0; at = from.1.1.0; file_is = shape.1 }) in
       let told = filtered_at stand_in net.nodes from.0 (node.Writing f.now) (f.now.node, f.now.count, f.now.end) f.there.at_last refl in
       let among : slice_get st.end.sinks.items told.0 ≡ Some (f.now.node, f.now.count, f.now.end) = subst (λ (z : List Stand). slice_get z told.0 ≡ Some (f.now.node, f.now.count, f.now.end)) (sym (l.stops.sinks ∙ sinks_filtered net.nodes)) told.1 in
       let grew : Grew (old.wfaults shape.0) 0 (new.wfaults shape.0) = calm_write f.now.end (old.wfaults shape.0) (new.wfaults shape.0) (none told.0 (f.now.node, f.now.count, f.now.end) among)
-      (stands_writes f.now.end (drains f.first.drain) (drains f.now.drain) f.law.elems f.law.in_end f.now.count (old.wfaults shape.0) (new.wfaults shape.0) f.law.stands f.start.faults (writes_grew sources drains handles b can ss ds budget st l old mid opens new closes from.0 shape.0 f)) in
+      (stands_writes f.now.end (drains f.first.drain) (drains f.now.drain) f.law.wrote f.now.count (old.wfaults shape.0) (new.wfaults shape.0) f.law.stands f.start.faults (writes_grew sources drains handles b can ss ds budget st l old mid opens new closes from.0 shape.0 f)) in
       subst (λ m. Grew (old.wfaults m) 0 (new.wfaults m)) named grew
 
   -- where no sink's write failed, no count of failed writes rose
@@ -420,24 +457,24 @@ module _ {S D : Type 0} (sources : S → SourceState) (drains : D → DrainState
         let found = stand_of i s n file (subst (λ (x : List Stand). slice_get x i ≡ Some s) sinks at) here shape in
         let f = found.0 in
         subst (λ (t : Stand). WritesOf t.2 (old.wfaults file) (new.wfaults file)) (sym found.1)
-        (stands_writes f.now.end (drains f.first.drain) (drains f.now.drain) f.law.elems f.law.in_end f.now.count (old.wfaults file) (new.wfaults file) f.law.stands f.start.faults (writes_grew sources drains handles b can ss ds budget st l old mid opens new closes s.0 file f));
+        (stands_writes f.now.end (drains f.first.drain) (drains f.now.drain) f.law.wrote f.now.count (old.wfaults file) (new.wfaults file) f.law.stands f.start.faults (writes_grew sources drains handles b can ss ds budget st l old mid opens new closes s.0 file f));
     faults = λ i s at fault.
         let among : slice_get (filter_map stand_in net.nodes) i ≡ Some s = subst (λ (x : List Stand). slice_get x i ≡ Some s) (sinks ∙ l.stops.sinks ∙ sinks_filtered net.nodes) at in
         let from = unfiltered_at stand_in net.nodes i s among in
         let below : from.0 < length nodes = subst (λ m. from.0 < m) (sym (as_many sources drains handles b can ss ds budget st l old mid opens)) (place_within net.nodes from.0 from.1.0 from.1.1.0) in
         let m = place_of nodes from.0 below in
-        let shape = stand_kind sources drains handles b can ss ds budget st l old mid opens from.0 m.0 from.1.0 s m.1 from.1.1.0 from.1.1.1 in
-        let f = sink_at from.0 shape.0 (record { node = m.0; at = m.1; kind_is = shape.1 }) in
+        let shape = fault_kind sources drains handles b can ss ds budget st l old mid opens from.0 m.0 from.1.0 s m.1 from.1.1.0 from.1.1.1 fault in
+        let f = sink_at from.0 shape.0 (record { node = m.0; at = m.1; file_is = shape.1 }) in
         let is : from.1.0 ≡ node.Writing f.now = place_one net.nodes from.0 from.1.0 (node.Writing f.now) from.1.1.0 f.there.at_last in
         let told : stand_in {S = S} (node.Writing f.now) ≡ Some s = ap stand_in (sym is) ∙ from.1.1.1 in
         let same : (f.now.node, f.now.count, f.now.end) ≡ s = some_one (f.now.node, f.now.count, f.now.end) s told in
         let failed : f.now.end ≡ WriteFault = ap (λ (t : Stand). t.2) same ∙ fault in
-        let file = filtered_at (λ (n : blue.Node). output_of n.kind) nodes from.0 m.0 shape.0 m.1 (ap output_of shape.1) in
+        let file = filtered_at (λ (n : blue.Node). output_of n.kind) nodes from.0 m.0 shape.0 m.1 shape.1 in
         record {
           file = shape.0;
           output = contains_at (outputs_of_nodes nodes) file.0 shape.0 file.1;
           rose = subst (λ (e : EndState). WritesOf e (old.wfaults shape.0) (new.wfaults shape.0)) failed
-              (stands_writes f.now.end (drains f.first.drain) (drains f.now.drain) f.law.elems f.law.in_end f.now.count (old.wfaults shape.0) (new.wfaults shape.0) f.law.stands f.start.faults (writes_grew sources drains handles b can ss ds budget st l old mid opens new closes from.0 shape.0 f));
+              (stands_writes f.now.end (drains f.first.drain) (drains f.now.drain) f.law.wrote f.now.count (old.wfaults shape.0) (new.wfaults shape.0) f.law.stands f.start.faults (writes_grew sources drains handles b can ss ds budget st l old mid opens new closes from.0 shape.0 f));
         };
     calm = λ none. calm_writes (λ i s at. none i s (subst (λ (x : List Stand). slice_get x i ≡ Some s) (sym sinks) at));
     other_writes = other_writes sources drains handles b can ss ds budget st l old mid opens new closes;

@@ -4,6 +4,7 @@ use Rattle.std.specs.Prelude.{IsTrue, IsSome, Option, Some, None}
 use Rattle.std.specs.List.{All, Contains, filter_map}
 use Rattle.std.proofs.lemmas.List.{length-map}
 use Rattle.stream_model.specs.declared.kind.Kind.TheVariants as kind
+use Rattle.stream_model.specs.declared.outcome.EndState.TheVariants.{WriteFault}
 use Rattle.stream_model.specs.Graph.{Graph}
 use Rattle.stream_model.specs.Graph as graph
 use Rattle.stream_model.specs.Composed.{IsRanked}
@@ -13,6 +14,7 @@ use Rattle.stream_io.specs.State.{FolderState, SourceState, DrainState}
 use Rattle.fused_net.specs.declared.net.Ends.{Ends}
 use Rattle.fused_net.specs.Net.{Net, view_of, took, gave}
 use Rattle.fused_net.specs.Laws.{Settled}
+use Rattle.nodes.specs.Kinds.{IsFileSink}
 use Rattle.nodes.specs.Nodes.{node_row, node_law}
 use Rattle.nodes.specs.Source.{Lines, LinesLaw}
 use Rattle.nodes.specs.Sink.{Sink, SinkLaw}
@@ -43,13 +45,13 @@ use Rattle.blueprint_run.proofs.Places.{all_at, all_unmapped, contains_at, mappe
 use Rattle.run_files.proofs.Counts.{grew_same}
 use Rattle.blueprint_run.proofs.Counts.{grew_behind}
 use Rattle.blueprint_run.proofs.Apart.{inputs_distinct, outputs_distinct}
-use Rattle.blueprint_run.proofs.Profiles.{reader_in, writer_in, stand_in, readers_filtered, writers_filtered, sinks_filtered, Profile, node_profile, stands_along, StandsAt, stand_writing, writing_kind}
+use Rattle.blueprint_run.proofs.Profiles.{reader_in, writer_in, stand_in, readers_filtered, writers_filtered, sinks_filtered, Profile, node_profile, stands_along, StandsAt, some_one, writes_file, never_faults, writing_kind}
 
--- node k is a sink of lines into that file
-pub record IsLinesSink (nodes : List blue.Node) (k : ℕ) (file : List ℕ) : Type 0 where
+-- node k is a sink into that file
+pub record IsSinkInto (nodes : List blue.Node) (k : ℕ) (file : List ℕ) : Type 0 where
   pub node : blue.Node
   pub at : slice_get nodes k ≡ Some node
-  pub kind_is : node.kind ≡ kind.ToLines file
+  pub file_is : output_of node.kind ≡ Some file
 
 -- ---- the laws that the crates below give
 
@@ -64,7 +66,7 @@ module _ {S D : Type 0} (sources : S → SourceState) (drains : D → DrainState
 
   abbrev pub DrainsLaw : Type 0
   DrainsLaw = (nodes : List blue.Node) (ss : List S) (ds : List D) (places : List (Seated S D)) (firsts : List (Node S D)) → AreSeats 0 nodes ss ds places → AllBecome places firsts
-      → (k : ℕ) (n : blue.Node) (name : List ℕ) → slice_get nodes k ≡ Some n → n.kind ≡ kind.ToLines name → WritesFile (outputs_of_nodes nodes) ds firsts k name
+      → (k : ℕ) (n : blue.Node) (name : List ℕ) → slice_get nodes k ≡ Some n → output_of n.kind ≡ Some name → WritesFile (outputs_of_nodes nodes) ds firsts k name
 
   abbrev pub SourceThere : Type 0
   SourceThere = (g : Graph) (net : Net (Node S D)) → Settled node_row (node_law sources drains) net → Materializes sources g net.firsts net.ends
@@ -72,7 +74,7 @@ module _ {S D : Type 0} (sources : S → SourceState) (drains : D → DrainState
 
   abbrev pub SinkThere : Type 0
   SinkThere = (g : Graph) (net : Net (Node S D)) → Settled node_row (node_law sources drains) net → Materializes sources g net.firsts net.ends
-      → (k : ℕ) (n : graph.Node) (name : List ℕ) → slice_get g.nodes k ≡ Some n → n.kind ≡ kind.ToLines name → (first : Sink D) × ((now : Sink D) × IsSinkAt net k first now)
+      → (k : ℕ) (n : graph.Node) → slice_get g.nodes k ≡ Some n → IsFileSink n.kind → (first : Sink D) × ((now : Sink D) × IsSinkAt net k first now)
 
   pub record HandleLaws : Type 0 where
     pub made_law : MadeLaw
@@ -86,9 +88,6 @@ reading_same a b x e f = cc
 
 pub writing_same : {S D : Type 0} (a b : Sink D) (x : Node S D) → x ≡ node.Writing a → x ≡ node.Writing b → a ≡ b
 writing_same a b x e f = cc
-
-pub some_one : {A : Type 0} (x y : A) → Some x ≡ Some y → x ≡ y
-some_one x y e = cc
 
 -- ---- the handles of an island
 
@@ -141,10 +140,10 @@ module _ {S D : Type 0} (sources : S → SourceState) (drains : D → DrainState
     pub law : SinkLaw drains first now (view_of net k) (took net k) (gave net k)
     pub place : now.node ≡ k
 
-  pub sink_facts : (k : ℕ) (file : List ℕ) → IsLinesSink nodes k file → SinkFacts k file
+  pub sink_facts : (k : ℕ) (file : List ℕ) → IsSinkInto nodes k file → SinkFacts k file
   sink_facts k file is =
-      let there = laws.sink_there (graph_of b) net l.stops.settled made k (node_of is.node) file (mapped_at node_of nodes k is.node is.at) is.kind_is in
-      let handed = laws.writes_law nodes ss ds l.places net.firsts l.seats l.stops.firsts k is.node file is.at is.kind_is in
+      let there = laws.sink_there (graph_of b) net l.stops.settled made k (node_of is.node) (mapped_at node_of nodes k is.node is.at) (writes_file is.node.kind file is.file_is) in
+      let handed = laws.writes_law nodes ss ds l.places net.firsts l.seats l.stops.firsts k is.node file is.at is.file_is in
       let last : slice_get net.nodes k ≡ Some (node.Writing there.1.0) = there.1.1.at_last in
       let law : SinkLaw drains handed.first there.1.0 (view_of net k) (took net k) (gave net k) =
       (l.stops.settled.minded k (slice_get-below net.nodes k (node.Writing there.1.0) last) (node.Writing there.1.0) (node.Writing handed.first) last handed.at).law_holds in
@@ -177,18 +176,26 @@ module _ {S D : Type 0} (sources : S → SourceState) (drains : D → DrainState
       let same : facts.now ≡ y = reading_same facts.now y x (place_one net.nodes k x (node.Reading facts.now) here facts.there.at_last) is in
       ap (λ (z : Lines S). (sources z.reader.source).name) (sym same) ∙ facts.law.name ∙ facts.first_named)
       (λ name y shape is.
-      let facts = sink_facts k name (record { node = n; at = at; kind_is = shape }) in
+      let facts = sink_facts k name (record { node = n; at = at; file_is = shape }) in
       let same : facts.now ≡ y = writing_same facts.now y x (place_one net.nodes k x (node.Writing facts.now) here facts.there.at_last) is in
       ap (λ (z : Sink D). (drains z.drain).name) (sym same) ∙ facts.law.name ∙ facts.first_named)
 
-  -- a node that stands as a sink is one of lines
-  pub stand_kind : (k : ℕ) (n : blue.Node) (x : Node S D) (s : Stand) → slice_get nodes k ≡ Some n → slice_get net.nodes k ≡ Some x → stand_in x ≡ Some s → (name : List ℕ) × (n.kind ≡ kind.ToLines name)
-  stand_kind k n x s at here stands =
+  -- a node that stands at a failed write is a sink with a file
+  pub fault_kind : (k : ℕ) (n : blue.Node) (x : Node S D) (s : Stand) → slice_get nodes k ≡ Some n → slice_get net.nodes k ≡ Some x → stand_in x ≡ Some s → s.2 ≡ WriteFault → (name : List ℕ) × (output_of n.kind ≡ Some name)
+  fault_kind k n x s at here stands fault =
       let below : k < length net.nodes = slice_get-below net.nodes k x here in
       let f = place_of net.firsts k (subst (λ m. k < m) (sym l.stops.settled.each_first) below) in
       let law = (l.stops.settled.minded k below x f.0 here f.1).law_holds in
-      let y = stand_writing x s stands in
+      let y = never_faults sources drains k n f.0 x s (view_of net k) (took net k) (gave net k) law stands fault in
       writing_kind sources drains k n f.0 x y.0 (view_of net k) (took net k) (gave net k) (made.each_node k (node_of n) f.0 (mapped_at node_of nodes k n at) f.1) law y.1
+
+  -- and so is one that leaves a drain
+  pub writer_kind : (k : ℕ) (n : blue.Node) (x : Node S D) (y : Sink D) → slice_get nodes k ≡ Some n → slice_get net.nodes k ≡ Some x → x ≡ node.Writing y → (name : List ℕ) × (output_of n.kind ≡ Some name)
+  writer_kind k n x y at here is =
+      let below : k < length net.nodes = slice_get-below net.nodes k x here in
+      let f = place_of net.firsts k (subst (λ m. k < m) (sym l.stops.settled.each_first) below) in
+      let law = (l.stops.settled.minded k below x f.0 here f.1).law_holds in
+      writing_kind sources drains k n f.0 x y (view_of net k) (took net k) (gave net k) (made.each_node k (node_of n) f.0 (mapped_at node_of nodes k n at) f.1) law is
 
   -- the readers have the names of the inputs, and the drains those of the outputs
   pub readers_named : source_names (map sources st.end.readers.items) ≡ inputs_of_nodes nodes

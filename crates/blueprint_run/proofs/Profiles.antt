@@ -9,11 +9,16 @@ use Rattle.port_core.specs.View.{View}
 use Rattle.stream_model.specs.declared.kind.Kind.{Kind}
 use Rattle.stream_model.specs.declared.kind.Kind.TheVariants as kind
 use Rattle.stream_model.specs.declared.outcome.EndState.{EndState}
+use Rattle.stream_model.specs.declared.outcome.EndState.TheVariants.{WriteFault}
 use Rattle.stream_picture.specs.View.{outputs_of}
 use Rattle.stream_io.specs.State.{SourceState, DrainState}
 use Rattle.stage_linear.specs.States.{IsLinear}
+use Rattle.stage_state.specs.States.{IsStateful}
 use Rattle.nodes.specs.Nodes.{node_law}
+use Rattle.nodes.specs.Kinds.{IsMaker, IsFileSink}
+use Rattle.nodes.specs.Maker.{Made}
 use Rattle.nodes.specs.Sink.{Sink}
+use Rattle.nodes.specs.Ignoring.{Ignorer, EndsWith}
 use Rattle.nodes.specs.Source.{Lines}
 use Rattle.nodes.specs.declared.node.Node.{Node}
 use Rattle.nodes.specs.declared.node.Node.TheVariants as node
@@ -37,6 +42,7 @@ writer_in _ = None
 
 abbrev pub stand_in : {S D : Type 0} → Node S D → Option Stand
 stand_in (node.Writing x) = Some (x.node, x.count, x.end)
+stand_in (node.Ignoring x) = Some (x.node, 0, x.end)
 stand_in _ = None
 
 pub readers_filtered : {S D : Type 0} (xs : List (Node S D)) → readers_of xs ≡ filter_map reader_in xs
@@ -44,18 +50,30 @@ readers_filtered [] = refl
 readers_filtered (node.Reading x ∷ xs) = ap (λ l. x.reader.source ∷ l) (readers_filtered xs)
 readers_filtered (node.Linear x ∷ xs) = readers_filtered xs
 readers_filtered (node.Writing x ∷ xs) = readers_filtered xs
+readers_filtered (node.Making x ∷ xs) = readers_filtered xs
+readers_filtered (node.State x ∷ xs) = readers_filtered xs
+readers_filtered (node.Ignoring x ∷ xs) = readers_filtered xs
 
 pub writers_filtered : {S D : Type 0} (xs : List (Node S D)) → writers_of xs ≡ filter_map writer_in xs
 writers_filtered [] = refl
 writers_filtered (node.Reading x ∷ xs) = writers_filtered xs
 writers_filtered (node.Linear x ∷ xs) = writers_filtered xs
 writers_filtered (node.Writing x ∷ xs) = ap (λ l. x.drain ∷ l) (writers_filtered xs)
+writers_filtered (node.Making x ∷ xs) = writers_filtered xs
+writers_filtered (node.State x ∷ xs) = writers_filtered xs
+writers_filtered (node.Ignoring x ∷ xs) = writers_filtered xs
 
 pub sinks_filtered : {S D : Type 0} (xs : List (Node S D)) → sinks_of xs ≡ filter_map stand_in xs
 sinks_filtered [] = refl
 sinks_filtered (node.Reading x ∷ xs) = sinks_filtered xs
 sinks_filtered (node.Linear x ∷ xs) = sinks_filtered xs
 sinks_filtered (node.Writing x ∷ xs) = ap (λ (l : List Stand). (x.node, x.count, x.end) ∷ l) (sinks_filtered xs)
+sinks_filtered (node.Making x ∷ xs) = sinks_filtered xs
+sinks_filtered (node.State x ∷ xs) = sinks_filtered xs
+sinks_filtered (node.Ignoring x ∷ xs) = ap (λ (l : List Stand). (x.node, 0, x.end) ∷ l) (sinks_filtered xs)
+
+pub some_one : {A : Type 0} (x y : A) → Some x ≡ Some y → x ≡ y
+some_one x y e = cc
 
 -- what a sink, and what no sink leaves, at its place
 abbrev pub StandsAt : ℕ → Bool → Option Stand → Type 0
@@ -69,42 +87,57 @@ pub record Profile {S D : Type 0} (sources : S → SourceState) (drains : D → 
   pub output : output_of n.kind ≡ option_map (λ d. (drains d).name) (writer_in x)
   pub stand : StandsAt k (is_sink n) (stand_in x)
 
--- a linear kind has no file, and is no sink
-linear_input : (shape : Kind) → IsLinear shape → input_of shape ≡ None
-linear_input (kind.Map f) h = refl
-linear_input (kind.Filter p) h = refl
-linear_input (kind.FilterNot p) h = refl
-linear_input (kind.Take n) h = refl
-linear_input (kind.TakeWhile p) h = refl
-linear_input (kind.Drop n) h = refl
-linear_input (kind.DropWhile p) h = refl
-linear_input (kind.Limit n) h = refl
-linear_input (kind.MapConcat x) h = refl
-linear_input _ h = absurd h
+-- a kind with an output that reads no file: a stage, or a source without a file
+record IsInner (shape : Kind) : Type 0 where
+  input : input_of shape ≡ None
+  output : output_of shape ≡ None
+  outputs : outputs_of shape ≡ 1
 
-linear_output : (shape : Kind) → IsLinear shape → output_of shape ≡ None
-linear_output (kind.Map f) h = refl
-linear_output (kind.Filter p) h = refl
-linear_output (kind.FilterNot p) h = refl
-linear_output (kind.Take n) h = refl
-linear_output (kind.TakeWhile p) h = refl
-linear_output (kind.Drop n) h = refl
-linear_output (kind.DropWhile p) h = refl
-linear_output (kind.Limit n) h = refl
-linear_output (kind.MapConcat x) h = refl
-linear_output _ h = absurd h
+linear_inner : (shape : Kind) → IsLinear shape → IsInner shape
+linear_inner (kind.Map f) h = record { input = refl; output = refl; outputs = refl }
+linear_inner (kind.Filter p) h = record { input = refl; output = refl; outputs = refl }
+linear_inner (kind.FilterNot p) h = record { input = refl; output = refl; outputs = refl }
+linear_inner (kind.Take n) h = record { input = refl; output = refl; outputs = refl }
+linear_inner (kind.TakeWhile p) h = record { input = refl; output = refl; outputs = refl }
+linear_inner (kind.Drop n) h = record { input = refl; output = refl; outputs = refl }
+linear_inner (kind.DropWhile p) h = record { input = refl; output = refl; outputs = refl }
+linear_inner (kind.Limit n) h = record { input = refl; output = refl; outputs = refl }
+linear_inner (kind.MapConcat x) h = record { input = refl; output = refl; outputs = refl }
+linear_inner _ h = absurd h
 
-linear_outputs : (shape : Kind) → IsLinear shape → outputs_of shape ≡ 1
-linear_outputs (kind.Map f) h = refl
-linear_outputs (kind.Filter p) h = refl
-linear_outputs (kind.FilterNot p) h = refl
-linear_outputs (kind.Take n) h = refl
-linear_outputs (kind.TakeWhile p) h = refl
-linear_outputs (kind.Drop n) h = refl
-linear_outputs (kind.DropWhile p) h = refl
-linear_outputs (kind.Limit n) h = refl
-linear_outputs (kind.MapConcat x) h = refl
-linear_outputs _ h = absurd h
+state_inner : (shape : Kind) → IsStateful shape → IsInner shape
+state_inner (kind.Grouped n) h = record { input = refl; output = refl; outputs = refl }
+state_inner (kind.Fold o) h = record { input = refl; output = refl; outputs = refl }
+state_inner (kind.Reduce r) h = record { input = refl; output = refl; outputs = refl }
+state_inner (kind.Scan o) h = record { input = refl; output = refl; outputs = refl }
+state_inner (kind.Buffer n p) h = record { input = refl; output = refl; outputs = refl }
+state_inner _ h = absurd h
+
+maker_inner : (shape : Kind) → IsMaker shape → IsInner shape
+maker_inner (kind.Range low high) h = record { input = refl; output = refl; outputs = refl }
+maker_inner (kind.Empty b) h = record { input = refl; output = refl; outputs = refl }
+maker_inner (kind.Failed b) h = record { input = refl; output = refl; outputs = refl }
+maker_inner _ h = absurd h
+
+-- a sink with a file has one, and reads none
+record HasFile (shape : Kind) : Type 0 where
+  name : List ℕ
+  input : input_of shape ≡ None
+  output : output_of shape ≡ Some name
+  none : (outputs_of shape == 0) ≡ true
+
+file_sink : (shape : Kind) → IsFileSink shape → HasFile shape
+file_sink (kind.ToLines name) h = record { name = name; input = refl; output = refl; none = refl }
+file_sink (kind.Head name) h = record { name = name; input = refl; output = refl; none = refl }
+file_sink (kind.Last name) h = record { name = name; input = refl; output = refl; none = refl }
+file_sink _ h = absurd h
+
+-- a kind that writes a file is a sink with one
+pub writes_file : (shape : Kind) (name : List ℕ) → output_of shape ≡ Some name → IsFileSink shape
+writes_file (kind.ToLines f) name e = tt
+writes_file (kind.Head f) name e = tt
+writes_file (kind.Last f) name e = tt
+writes_file _ name e = absurd cc
 
 no_sink : (k : ℕ) (b : Bool) (o : Option Stand) → b ≡ false → o ≡ None → StandsAt k b o
 no_sink k true o e f = absurd cc
@@ -122,56 +155,73 @@ module _ {S D : Type 0} (sources : S → SourceState) (drains : D → DrainState
     stand = no_sink k (is_sink n) None (ap (λ (s : Kind). outputs_of s == 0) is) refl;
   }
 
-  writing_profile : (x : Sink D) (name : List ℕ) → n.kind ≡ kind.ToLines name → x.node ≡ k → (drains x.drain).name ≡ name → Profile {S = S} {D = D} sources drains k n (node.Writing x)
-  writing_profile x name is place named = record {
+  writing_profile : (x : Sink D) → IsFileSink n.kind → x.node ≡ k → ((name : List ℕ) → output_of n.kind ≡ Some name → (drains x.drain).name ≡ name) → Profile {S = S} {D = D} sources drains k n (node.Writing x)
+  writing_profile x is place named =
+      let f = file_sink n.kind is in
+      record {
+        input = f.input;
+        output = f.output ∙ ap Some (sym (named f.name f.output));
+        stand = a_sink k (is_sink n) (Some (x.node, x.count, x.end)) (x.node, x.count, x.end) f.none refl place;
+      }
+
+  ignoring_profile : (x : Ignorer) → n.kind ≡ kind.Ignore → x.node ≡ k → Profile {S = S} {D = D} sources drains k n (node.Ignoring x)
+  ignoring_profile x is place = record {
     input = ap input_of is;
-    output = ap output_of is ∙ ap Some (sym named);
-    stand = a_sink k (is_sink n) (Some (x.node, x.count, x.end)) (x.node, x.count, x.end) (ap (λ (s : Kind). outputs_of s == 0) is) refl place;
+    output = ap output_of is;
+    stand = a_sink k (is_sink n) (Some (x.node, 0, x.end)) (x.node, 0, x.end) (ap (λ (s : Kind). outputs_of s == 0) is) refl place;
   }
 
-  stage_profile : (x : Node S D) → reader_in x ≡ None → writer_in x ≡ None → stand_in x ≡ None → IsLinear n.kind → Profile sources drains k n x
-  stage_profile x reads writes stands is = record {
-    input = linear_input n.kind is ∙ ap (option_map (λ s. (sources s).name)) (sym reads);
-    output = linear_output n.kind is ∙ ap (option_map (λ d. (drains d).name)) (sym writes);
-    stand = no_sink k (is_sink n) (stand_in x) (ap (λ (m : ℕ). m == 0) (linear_outputs n.kind is)) stands;
+  inner_profile : (x : Node S D) → reader_in x ≡ None → writer_in x ≡ None → stand_in x ≡ None → IsInner n.kind → Profile sources drains k n x
+  inner_profile x reads writes stands is = record {
+    input = is.input ∙ ap (option_map (λ s. (sources s).name)) (sym reads);
+    output = is.output ∙ ap (option_map (λ d. (drains d).name)) (sym writes);
+    stand = no_sink k (is_sink n) (stand_in x) (ap (λ (m : ℕ). m == 0) is.outputs) stands;
   }
 
   -- what a node leaves, whatever its kind is, where its source and its drain have the names of their files
   pub node_profile : (first now : Node S D) (v : View) (took gave : List (List Item)) → FirstOf sources k (node_of n) first → node_law sources drains first now v took gave
       → ((name : List ℕ) (x : Lines S) → n.kind ≡ kind.Lines name → now ≡ node.Reading x → (sources x.reader.source).name ≡ name)
-      → ((name : List ℕ) (x : Sink D) → n.kind ≡ kind.ToLines name → now ≡ node.Writing x → (drains x.drain).name ≡ name)
+      → ((name : List ℕ) (x : Sink D) → output_of n.kind ≡ Some name → now ≡ node.Writing x → (drains x.drain).name ≡ name)
       → Profile sources drains k n now
   node_profile (node.Reading f) (node.Reading x) v took gave made law reads writes = reading_profile x made.name made.kind_is (reads made.name x made.kind_is refl)
-  node_profile (node.Linear f) (node.Linear x) v took gave made law reads writes = stage_profile (node.Linear x) refl refl refl made.is_linear
-  node_profile (node.Writing f) (node.Writing x) v took gave made law reads writes = writing_profile x made.name made.kind_is (law.node ∙ made.node) (writes made.name x made.kind_is refl)
-  node_profile (node.Reading f) (node.Linear x) v took gave made law reads writes = absurd law
-  node_profile (node.Reading f) (node.Writing x) v took gave made law reads writes = absurd law
-  node_profile (node.Linear f) (node.Reading x) v took gave made law reads writes = absurd law
-  node_profile (node.Linear f) (node.Writing x) v took gave made law reads writes = absurd law
-  node_profile (node.Writing f) (node.Reading x) v took gave made law reads writes = absurd law
-  node_profile (node.Writing f) (node.Linear x) v took gave made law reads writes = absurd law
+  node_profile (node.Making f) (node.Making x) v took gave made law reads writes = inner_profile (node.Making x) refl refl refl (maker_inner n.kind made.is_maker)
+  node_profile (node.Linear f) (node.Linear x) v took gave made law reads writes = inner_profile (node.Linear x) refl refl refl (linear_inner n.kind made.is_linear)
+  node_profile (node.State f) (node.State x) v took gave made law reads writes = inner_profile (node.State x) refl refl refl (state_inner n.kind made.is_state)
+  node_profile (node.Writing f) (node.Writing x) v took gave made law reads writes = writing_profile x made.is_sink (law.node ∙ made.node) (λ name e. writes name x e refl)
+  node_profile (node.Ignoring f) (node.Ignoring x) v took gave made law reads writes = ignoring_profile x made.kind_is (law.node ∙ made.node)
+  node_profile f x v took gave made law reads writes = absurd law
 
-  -- a sink of lines is one by its kind
-  pub writing_kind : (first now : Node S D) (x : Sink D) (v : View) (took gave : List (List Item)) → FirstOf sources k (node_of n) first → node_law sources drains first now v took gave → now ≡ node.Writing x → (name : List ℕ) × (n.kind ≡ kind.ToLines name)
-  writing_kind (node.Writing f) now x v took gave made law is = (made.name, made.kind_is)
-  writing_kind (node.Reading f) (node.Writing y) x v took gave made law is = absurd law
-  writing_kind (node.Linear f) (node.Writing y) x v took gave made law is = absurd law
+  -- a sink with a file is one by its kind
+  pub writing_kind : (first now : Node S D) (x : Sink D) (v : View) (took gave : List (List Item)) → FirstOf sources k (node_of n) first → node_law sources drains first now v took gave → now ≡ node.Writing x → (name : List ℕ) × (output_of n.kind ≡ Some name)
+  writing_kind (node.Writing f) (node.Writing y) x v took gave made law is = let f = file_sink n.kind made.is_sink in (f.name, f.output)
   writing_kind (node.Reading f) (node.Reading y) x v took gave made law is = absurd cc
-  writing_kind (node.Reading f) (node.Linear y) x v took gave made law is = absurd cc
-  writing_kind (node.Linear f) (node.Reading y) x v took gave made law is = absurd cc
+  writing_kind (node.Making f) (node.Making y) x v took gave made law is = absurd cc
   writing_kind (node.Linear f) (node.Linear y) x v took gave made law is = absurd cc
+  writing_kind (node.State f) (node.State y) x v took gave made law is = absurd cc
+  writing_kind (node.Ignoring f) (node.Ignoring y) x v took gave made law is = absurd cc
+  writing_kind f y x v took gave made law is = absurd law
 
--- a stand is that of a sink
-pub stand_writing : {S D : Type 0} (x : Node S D) (s : Stand) → stand_in x ≡ Some s → (y : Sink D) × (x ≡ node.Writing y)
-stand_writing (node.Writing y) s e = (y, refl)
-stand_writing (node.Reading y) s e = absurd cc
-stand_writing (node.Linear y) s e = absurd cc
+  -- no write of a sink without a file fails
+  pub never_faults : (first now : Node S D) (s : Stand) (v : View) (took gave : List (List Item)) → node_law sources drains first now v took gave → stand_in now ≡ Some s → s.2 ≡ WriteFault → (x : Sink D) × (now ≡ node.Writing x)
+  never_faults (node.Writing f) (node.Writing y) s v took gave law stands fault = (y, refl)
+  never_faults (node.Ignoring f) (node.Ignoring y) s v took gave law stands fault =
+      let same : (y.node, 0, y.end) ≡ s = some_one (y.node, 0, y.end) s stands in
+      let never : EndsWith WriteFault law.in_end = subst (λ e. EndsWith e law.in_end) (ap (λ (t : Stand). t.2) same ∙ fault) law.ends in
+      absurd never
+  never_faults (node.Reading f) (node.Reading y) s v took gave law stands fault = absurd cc
+  never_faults (node.Making f) (node.Making y) s v took gave law stands fault = absurd cc
+  never_faults (node.Linear f) (node.Linear y) s v took gave law stands fault = absurd cc
+  never_faults (node.State f) (node.State y) s v took gave law stands fault = absurd cc
+  never_faults f y s v took gave law stands fault = absurd law
 
 -- a node that leaves a drain is a sink with a file
 pub writer_there : {S D : Type 0} (name : D → List ℕ) (x : Node S D) (n : List ℕ) → Some n ≡ option_map name (writer_in x) → (y : Sink D) × (x ≡ node.Writing y)
 writer_there name (node.Writing y) n e = (y, refl)
 writer_there name (node.Reading y) n e = absurd cc
+writer_there name (node.Making y) n e = absurd cc
 writer_there name (node.Linear y) n e = absurd cc
+writer_there name (node.State y) n e = absurd cc
+writer_there name (node.Ignoring y) n e = absurd cc
 
 -- the sinks stand in the order of their nodes
 stand_cons : (k : ℕ) (b : Bool) (o : Option Stand) (later : List ℕ) (ss : List Stand) → StandsAt k b o → map (λ (s : Stand). s.0) ss ≡ later → map (λ (s : Stand). s.0) (cons_option o ss) ≡ (if b then k ∷ later else later)

@@ -4,7 +4,7 @@ use Rattle.std.specs.List.{Contains}
 use Rattle.blue_core.specs.declared.blueprint.Blueprint.{Blueprint}
 use Rattle.blue_core.specs.declared.blueprint.Node.{Node}
 use Rattle.blue_check.specs.Wires.{blueprint_wires}
-use Rattle.stream_model.specs.declared.kind.Kind.TheVariants.{ToLines}
+use Rattle.stream_model.specs.declared.kind.Kind.TheVariants.{ToLines, Ignore}
 use Rattle.stream_model.specs.declared.outcome.WireCount.{WireCount}
 use Rattle.stream_model.specs.declared.outcome.EndState.{EndState}
 use Rattle.stream_model.specs.declared.outcome.EndState.TheVariants.{Unended, WriteFault}
@@ -17,24 +17,32 @@ use Rattle.stream_picture.specs.Rests.{Rests, SinksMatch}
 use Rattle.stream_picture.specs.Shape.{sent_at}
 use Rattle.stream_io.specs.Counts.{Rose, Grew}
 use Rattle.stream_io.specs.State.{FolderState}
-use Rattle.run_laws.specs.Sinks.{SinkTells, SentTo}
+use Rattle.run_laws.specs.Sinks.{SinkTells, SentTo, IgnoreTells}
 use Rattle.materializer.specs.Graphs.{node_of, graph_of}
-use Rattle.materializer.specs.Files.{inputs_of_nodes, outputs_of_nodes}
+use Rattle.materializer.specs.Files.{output_of, inputs_of_nodes, outputs_of_nodes}
 use Rattle.run_files.specs.Quiet.{Quiet}
 use Rattle.blueprint_run.specs.Drawing.{Drawn, IsSource, WereRead, IsWorldOf, DrawsFirst}
 use Rattle.blueprint_run.specs.Stands.{Stand, sink_places, has_ended_at, is_write_fault}
 use Rattle.blueprint_run.specs.declared.run.Ran.{Ran}
 
--- What is told of the sink that is node k, which stands so: its file holds what the composed outlook of the sink lets it hold,
--- by every world that has the input files as they were read, and so many whole lines. As many elements were sent on its wire,
--- or one more while it has not ended or where a write failed; where no event was left no more than it wrote.
+-- What is told of the sink with a file that is node k, which stands so: its file holds what the composed outlook of the sink
+-- lets it hold, by every world that has the input files as they were read, and so many whole lines. To a sink of lines as many
+-- elements were sent, or one more while it has not ended, and just one more where a write failed; where no event was left no
+-- more than it wrote.
 pub record SinkLeaves (new : FolderState) (b : Blueprint) (d : Drawn) (wires : List WireCount) (at_rest : Bool) (k : ℕ) (n : Node) (file : List ℕ) (count : ℕ) (end : EndState) : Type 0 where
   pub held : List ℕ
   pub there : new.file file ≡ Some held
   pub tells : (w : World) → IsWorldOf b.nodes.items d w → SinkTells (sink_outlook (graph_of b) w k (node_of n)) end held
   pub lines_are : whole_lines (length held) held ≡ count
-  pub sent : (u : ℕ) (v : Wire) → slice_get (blueprint_wires b) u ≡ Some v → v.to ≡ k → SentTo end (sent_at wires u) count
-  pub rests : IsTrue at_rest → end ≡ Unended → (u : ℕ) (v : Wire) → slice_get (blueprint_wires b) u ≡ Some v → v.to ≡ k → sent_at wires u ≡ count
+  pub sent : n.kind ≡ ToLines file → (u : ℕ) (v : Wire) → slice_get (blueprint_wires b) u ≡ Some v → v.to ≡ k → SentTo end (sent_at wires u) count
+  pub rests : n.kind ≡ ToLines file → IsTrue at_rest → end ≡ Unended → (u : ℕ) (v : Wire) → slice_get (blueprint_wires b) u ≡ Some v → v.to ≡ k → sent_at wires u ≡ count
+
+-- What is told of a sink that keeps nothing: it counts none, and how it stands and how many elements were sent to it are as its
+-- composed outlook lets them be.
+pub record IgnoreLeaves (b : Blueprint) (d : Drawn) (wires : List WireCount) (k : ℕ) (n : Node) (count : ℕ) (end : EndState) : Type 0 where
+  pub none : count ≡ 0
+  pub tells : (w : World) → IsWorldOf b.nodes.items d w → (u : ℕ) (v : Wire) → slice_get (blueprint_wires b) u ≡ Some v → v.to ≡ k
+      → IgnoreTells (sink_outlook (graph_of b) w k (node_of n)) end (sent_at wires u)
 
 -- The inputs were read, and each sink's file holds what its outlook lets it hold. No other file is changed. The lines that were
 -- drawn are the first of each input, and little more than those was read. The picture is lawful; and where no event was left it
@@ -42,8 +50,9 @@ pub record SinkLeaves (new : FolderState) (b : Blueprint) (d : Drawn) (wires : L
 pub record LeavesFiles (old new : FolderState) (b : Blueprint) (sinks : List Stand) (wires : List WireCount) (at_rest : Bool) : Type 0 where
   pub drawn : Drawn
   pub read : WereRead old new b.nodes.items drawn
-  pub sink : (i : ℕ) (s : Stand) (n : Node) (file : List ℕ) → slice_get sinks i ≡ Some s → slice_get b.nodes.items s.0 ≡ Some n → n.kind ≡ ToLines file
+  pub sink : (i : ℕ) (s : Stand) (n : Node) (file : List ℕ) → slice_get sinks i ≡ Some s → slice_get b.nodes.items s.0 ≡ Some n → output_of n.kind ≡ Some file
       → SinkLeaves new b drawn wires at_rest s.0 n file s.1 s.2
+  pub ignores : (i : ℕ) (s : Stand) (n : Node) → slice_get sinks i ≡ Some s → slice_get b.nodes.items s.0 ≡ Some n → n.kind ≡ Ignore → IgnoreLeaves b drawn wires s.0 n s.1 s.2
   pub others : (n : List ℕ) → ¬ (Contains (outputs_of_nodes b.nodes.items) n) → new.file n ≡ old.file n
   pub draws : (k : ℕ) (file : List ℕ) (u : ℕ) (v : Wire) → IsSource b.nodes.items k file → slice_get (blueprint_wires b) u ≡ Some v → v.from ≡ k
       → DrawsFirst (drawn.bytes k) (drawn.given k) (drawn.faulted k) (sent_at wires u)
@@ -70,7 +79,7 @@ pub record Runs (old new : FolderState) (b : Blueprint) (budget : ℕ) (ran : Ra
   pub leaves : IsTrue new.tells → LeavesFiles old new b ran.sinks.items ran.wires.items ran.at_rest
   pub refusals : Quiet old.refusals new.refusals
   pub reads : (n : List ℕ) → ¬ (Contains (inputs_of_nodes b.nodes.items) n) → Grew (old.rfaults n) 0 (new.rfaults n)
-  pub writes : (i : ℕ) (s : Stand) (n : Node) (file : List ℕ) → slice_get ran.sinks.items i ≡ Some s → slice_get b.nodes.items s.0 ≡ Some n → n.kind ≡ ToLines file → WritesOf s.2 (old.wfaults file) (new.wfaults file)
+  pub writes : (i : ℕ) (s : Stand) (n : Node) (file : List ℕ) → slice_get ran.sinks.items i ≡ Some s → slice_get b.nodes.items s.0 ≡ Some n → output_of n.kind ≡ Some file → WritesOf s.2 (old.wfaults file) (new.wfaults file)
   pub faults : (i : ℕ) (s : Stand) → slice_get ran.sinks.items i ≡ Some s → s.2 ≡ WriteFault → SomeWriteRose old new b
   pub calm : ((i : ℕ) (s : Stand) → slice_get ran.sinks.items i ≡ Some s → is_write_fault s.2 ≡ false) → Quiet old.wfaults new.wfaults
   pub other_writes : (n : List ℕ) → ¬ (Contains (outputs_of_nodes b.nodes.items) n) → Grew (old.wfaults n) 0 (new.wfaults n)

@@ -348,6 +348,7 @@ module _ (old mid new : FolderState) (file t : List ℕ) (r : ReadsFile old mid 
             calm = λ h. grew_behind (old.rfaults n) (mid.rfaults n) (new.rfaults n) 0 (r.rfaults n) (w.calm h);
           };
       sink = l.sink;
+      ignores = l.ignores;
       others = λ n never. l.others n never ∙ r.files.files tells n;
       draws = l.draws;
       lawful = l.lawful;

@@ -2,7 +2,6 @@
 use Rattle.std.specs.Prelude.{◌≡◌, ◌≢◌, ℕ, ◌≤◌, ◌⊎◌, Bool, true, false, IsTrue, IsSome, List, [], ◌∷◌, ◌++◌, map, slice_get, Option, Some, None, ⊤}
 use Rattle.std.specs.List.{All, Contains, list_any, list_all}
 use Rattle.elem_core.specs.declared.why.Cause.{Cause}
-use Rattle.stream_model.specs.declared.kind.Kind.TheVariants.{ToLines}
 use Rattle.stream_model.specs.declared.outcome.EndState.{EndState}
 use Rattle.stream_model.specs.declared.outcome.EndState.TheVariants as state
 use Rattle.stream_io.specs.Counts.{Rose, Grew}
@@ -13,7 +12,7 @@ use Rattle.blue_lang.specs.Blueprints as language
 use Rattle.blue_lang.specs.Plain.{plain}
 use Rattle.blue_check.specs.Fitness.{IsFit, IsFirstFault}
 use Rattle.materializer.specs.Built.{unbuilt_node}
-use Rattle.materializer.specs.Files.{inputs_of_nodes, outputs_of_nodes}
+use Rattle.materializer.specs.Files.{output_of, inputs_of_nodes, outputs_of_nodes}
 use Rattle.run_files.specs.Quiet.{Quiet, QuietBut}
 use Rattle.run_files.specs.Opening.{Empties}
 use Rattle.blueprint_run.specs.Stands.{Stand, sink_places, is_write_fault, is_unended, is_failed}
@@ -60,7 +59,7 @@ pub record RanTo (old new : FolderState) (b : Blueprint) (turns : ℕ) (a : Answ
   pub sinks : a.sinks ≡ told_ends b.nodes.items stands
   pub at_rest : Bool
   pub leaves : LeavesFiles old new b stands a.wires at_rest
-  pub writes : (i : ℕ) (s : Stand) (n : Node) (file : List ℕ) → slice_get stands i ≡ Some s → slice_get b.nodes.items s.0 ≡ Some n → n.kind ≡ ToLines file → WritesOf s.2 (old.wfaults file) (new.wfaults file)
+  pub writes : (i : ℕ) (s : Stand) (n : Node) (file : List ℕ) → slice_get stands i ≡ Some s → slice_get b.nodes.items s.0 ≡ Some n → output_of n.kind ≡ Some file → WritesOf s.2 (old.wfaults file) (new.wfaults file)
   pub within : a.used ≤ turns
   pub spent : at_rest ≡ false → a.used ≡ turns
 

@@ -23,5 +23,7 @@ returns g c = λ old b budget ss ds can opens leaves.
       lawful = c.every_picture_is_lawful.ensures.composed;
       rests = c.a_picture_without_events_rests.ensures.composed;
       match = c.a_picture_without_events_rests.ensures.sinks;
+      ignorer = c.every_sink_agrees.ensures.ignorer;
+      ignores = c.every_sink_agrees.ensures.ignores;
     })
     b can ss ds budget _ leaves old _ opens _ c.close_all.ensures _ refl refl refl refl

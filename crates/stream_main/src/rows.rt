@@ -222,3 +222,177 @@ fn faults_stay_with_their_files(rt: HostRuntime) -> Result<(), Fail> {
     }
     Ok(())
 }
+
+// A blueprint, the files beside it, what is said, the code, and files after.
+const RUNS: [(&str, &str, &str, u8, &str); 22] = [
+    (
+        "streams 1\nsource src lines in.txt\nstage n1 map num\nsink out lines out.txt\nwire src.0 -> n1.0\nwire n1.0 -> out.0\n",
+        "in.txt=|",
+        "done\nsink out ended 0\n",
+        0,
+        "out.txt=|",
+    ),
+    (
+        "streams 1\nsource src lines in.txt\nstage n1 map prefix x\nsink out lines out.txt\nwire src.0 -> n1.0\nwire n1.0 -> out.0\n",
+        "in.txt=a\nb|",
+        "done\nsink out ended 2\n",
+        0,
+        "out.txt=xa\nxb\n|",
+    ),
+    (
+        "streams 1\nsource src range 0 5\nstage n1 map div_into 100 decider resume\nstage n2 fold sum\nsink out lines out.txt\nwire src.0 -> n1.0\nwire n1.0 -> n2.0\nwire n2.0 -> out.0\n",
+        "",
+        "done\nsink out ended 1\n",
+        0,
+        "out.txt=228\n|",
+    ),
+    (
+        "streams 1\nsource src lines in.txt\nstage n1 map num\nstage n2 scan sum_nonneg decider restart\nsink out lines out.txt\nwire src.0 -> n1.0\nwire n1.0 -> n2.0\nwire n2.0 -> out.0\n",
+        "in.txt=1\n3\n-1\n5\n7\n|",
+        "done\nsink out ended 6\n",
+        0,
+        "out.txt=0\n1\n4\n0\n5\n12\n|",
+    ),
+    (
+        "streams 1\nsource src lines in.txt\nstage n1 map num\nstage n2 fold sum_nonneg decider restart\nsink out lines out.txt\nwire src.0 -> n1.0\nwire n1.0 -> n2.0\nwire n2.0 -> out.0\n",
+        "in.txt=1\n3\n-1\n5\n7\n|",
+        "done\nsink out ended 1\n",
+        0,
+        "out.txt=12\n|",
+    ),
+    (
+        "streams 1\nsource src lines in.txt\nstage n1 map num\nstage n2 fold sum_nonneg decider resume\nsink out lines out.txt\nwire src.0 -> n1.0\nwire n1.0 -> n2.0\nwire n2.0 -> out.0\n",
+        "in.txt=1\n3\n-1\n5\n7\n|",
+        "done\nsink out ended 1\n",
+        0,
+        "out.txt=16\n|",
+    ),
+    (
+        "streams 1\nsource src lines in.txt\nstage n1 map num\nsink out lines out.txt\nwire src.0 -> n1.0\nwire n1.0 -> out.0\n",
+        "in.txt=1\n2\n3\nx\n5\n|",
+        "failed\nsink out failed 3 stage 1 nth 4 why 1\n",
+        3,
+        "out.txt=1\n2\n3\n|",
+    ),
+    (
+        "streams 1\nsource src lines in.txt\nstage n1 map num\nstage n2 reduce sum\nsink out lines out.txt\nwire src.0 -> n1.0\nwire n1.0 -> n2.0\nwire n2.0 -> out.0\n",
+        "in.txt=|",
+        "failed\nsink out failed 0 stage 2 nth 0 why 7\n",
+        3,
+        "out.txt=|",
+    ),
+    (
+        "streams 1\nsource src lines in.txt\nstage n1 map num\nstage n2 reduce max\nsink out lines out.txt\nwire src.0 -> n1.0\nwire n1.0 -> n2.0\nwire n2.0 -> out.0\n",
+        "in.txt=4\n9\n2\n|",
+        "done\nsink out ended 1\n",
+        0,
+        "out.txt=9\n|",
+    ),
+    (
+        "streams 1\nsource src lines in.txt\nstage n1 limit 2\nsink out lines out.txt\nwire src.0 -> n1.0\nwire n1.0 -> out.0\n",
+        "in.txt=a\nb\nc\n|",
+        "failed\nsink out failed 2 stage 1 nth 3 why 6\n",
+        3,
+        "out.txt=a\nb\n|",
+    ),
+    (
+        "streams 1\nsource src lines in.txt\nsink out head out.txt\nwire src.0 -> out.0\n",
+        "in.txt=a\nb\nc\n|",
+        "done\nsink out ended 1\n",
+        0,
+        "out.txt=a\n|",
+    ),
+    (
+        "streams 1\nsource src lines in.txt\nsink out last out.txt\nwire src.0 -> out.0\n",
+        "in.txt=a\nb\nc\n|",
+        "done\nsink out ended 1\n",
+        0,
+        "out.txt=c\n|",
+    ),
+    (
+        "streams 1\nsource src lines in.txt\nsink out head out.txt\nwire src.0 -> out.0\n",
+        "in.txt=|",
+        "failed\nsink out failed 0 stage 1 nth 0 why 8\n",
+        3,
+        "out.txt=|",
+    ),
+    (
+        "streams 1\nsource src lines in.txt\nsink out last out.txt\nwire src.0 -> out.0\n",
+        "in.txt=|",
+        "failed\nsink out failed 0 stage 1 nth 0 why 8\n",
+        3,
+        "out.txt=|",
+    ),
+    (
+        "streams 1\nsource src lines in.txt\nsink out ignore\nwire src.0 -> out.0\n",
+        "in.txt=a\nb\n|",
+        "done\nsink out ended 0\n",
+        0,
+        "",
+    ),
+    (
+        "streams 1\nsource src range 1 5\nstage n1 grouped 2\nsink out lines out.txt\nwire src.0 -> n1.0\nwire n1.0 -> out.0\n",
+        "",
+        "done\nsink out ended 3\n",
+        0,
+        "out.txt=[1,2]\n[3,4]\n[5]\n|",
+    ),
+    (
+        "streams 1\nsource src range 2 1\nsink out lines out.txt\nwire src.0 -> out.0\n",
+        "",
+        "done\nsink out ended 0\n",
+        0,
+        "out.txt=|",
+    ),
+    (
+        "streams 1\nsource src empty text\nsink out lines out.txt\nwire src.0 -> out.0\n",
+        "",
+        "done\nsink out ended 0\n",
+        0,
+        "out.txt=|",
+    ),
+    (
+        "streams 1\nsource src failed num\nsink out lines out.txt\nwire src.0 -> out.0\n",
+        "",
+        "failed\nsink out failed 0 stage 0 nth 0 why 11\n",
+        3,
+        "out.txt=|",
+    ),
+    (
+        "streams 1\nsource src range 1 3\nstage n1 buffer 2 backpressure\nsink out lines out.txt\nwire src.0 -> n1.0\nwire n1.0 -> out.0\n",
+        "",
+        "done\nsink out ended 3\n",
+        0,
+        "out.txt=1\n2\n3\n|",
+    ),
+    (
+        "streams 1\nsource src lines in.txt\nstage n1 filter_not blank\nstage n2 map_concat words\nstage n3 fold count\nsink out lines out.txt\nwire src.0 -> n1.0\nwire n1.0 -> n2.0\nwire n2.0 -> n3.0\nwire n3.0 -> out.0\n",
+        "in.txt=a b\n\nc\n|",
+        "done\nsink out ended 1\n",
+        0,
+        "out.txt=3\n|",
+    ),
+    (
+        "streams 1\nsource src range 1 9\nstage n1 drop 2\nstage n2 take_while lt 6\nstage n3 drop_while lt 4\nsink out lines out.txt\nwire src.0 -> n1.0\nwire n1.0 -> n2.0\nwire n2.0 -> n3.0\nwire n3.0 -> out.0\n",
+        "",
+        "done\nsink out ended 2\n",
+        0,
+        "out.txt=4\n5\n|",
+    ),
+];
+
+#[test]
+fn blueprints_of_each_kind_run(rt: HostRuntime) -> Result<(), Fail> {
+    let alloc = rt.alloc();
+    for (text, before, report, code, after) in RUNS {
+        let row = Row {
+            text,
+            before,
+            report,
+            code,
+            after,
+        };
+        row.check(&rt, alloc, Vec::new(alloc))?;
+    }
+    Ok(())
+}

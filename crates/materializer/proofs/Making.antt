@@ -12,6 +12,7 @@ use Rattle.stream_io.specs.State.{SourceState}
 use Rattle.fused_net.specs.declared.net.Ends.{Ends}
 use Rattle.fused_net.specs.Net.{end_at}
 use Rattle.nodes.specs.declared.node.Node.{Node}
+use Rattle.nodes.specs.Kinds.{maker_of, writes_of}
 use Rattle.interpreter.specs.declared.parts.Seated.{Seated}
 use Rattle.interpreter.specs.declared.parts.Work.{Work}
 use Rattle.interpreter.specs.declared.parts.Work.TheVariants as work
@@ -33,7 +34,7 @@ use Rattle.materializer.specs.Seats.{handle_of, handles_left, IsWork, AreSeats, 
 use Rattle.materializer.proofs.Fitting.{fit_joined}
 use Rattle.materializer.proofs.Joining.{none_here, not_when, mapped_from}
 use Rattle.materializer.proofs.Linking.{ends_count, ends_at, wire_ends, are_parts}
-use Rattle.materializer.proofs.Placing.{reads_lines, is_lines_sink, seats_count}
+use Rattle.materializer.proofs.Placing.{reads_lines, seats_count}
 
 -- ---- nodes
 
@@ -51,19 +52,16 @@ module _ {S : Type 0} (sources : S → SourceState) where
 next_is : {S : Type 0} (k : Kind) (ss : List S) (s : S) (name : List ℕ) → k ≡ kind.Lines name → handle_of (input_of k) ss ≡ Some s → slice_get ss 0 ≡ Some s
 next_is k ss s name e h = sym (ap (λ x. handle_of (input_of x) ss) e) ∙ h
 
-written : {S D : Type 0} (k : ℕ) (shape : Kind) (d : Option D) (drain : D) (x : Node S D) → d ≡ Some drain → BecomesOf k (work.Writing shape d) x → BecomesOf {S = S} {D = D} k (work.Writing shape (Some drain)) x
-written {S = S} {D = D} k shape d drain x e b = subst (λ o. BecomesOf {S = S} {D = D} k (work.Writing shape o) x) e b
-
 module _ {S D : Type 0} (sources : S → SourceState) where
   work_first : (k : ℕ) (n : blue.Node) (ss : List S) (ds : List D) (w : Work S D) (x : Node S D) → IsWork k n ss ds w → BecomesOf k w x → NoneGiven sources ss → FirstOf sources k (node_of n) x
   work_first k n ss ds (work.Reading r) x is b none =
       let l = reads_lines n.kind ss r.source is.source in
       subst (λ y. FirstOf sources k (node_of n) y) (sym b) (record { name = l.0; kind_is = l.1; node = refl; kept = is.kept; given = none 0 r.source (next_is n.kind ss r.source l.0 l.1 is.source) })
+  work_first k n ss ds (work.Making shape) x is b none = subst (λ y. FirstOf sources k (node_of n) y) (sym b) (record { is_maker = is.is_maker; is = ap (maker_of k) is.shape_is })
   work_first k n ss ds (work.Linear l) x is b none = subst (λ y. FirstOf sources k (node_of n) y) (sym b) (record { is_linear = is.is_linear; begins = is.begins })
   work_first k n ss ds (work.State l) x is b none = subst (λ y. FirstOf sources k (node_of n) y) (sym b) (record { is_state = is.is_state; begins = is.begins })
-  work_first k n ss ds (work.Writing shape d) x is b none =
-      let l = is_lines_sink n.kind is.is_sink in
-      subst (λ y. FirstOf sources k (node_of n) y) (sym (written k shape d is.drain x is.there b)) (record { name = l.0; kind_is = l.1; node = refl; count = refl; end = refl })
+  work_first k n ss ds (work.Writing shape (Some d)) x is b none = subst (λ y. FirstOf sources k (node_of n) y) (sym b) (record { is_sink = is.is_sink; node = refl; writes = ap writes_of is.shape_is; count = refl; end = refl })
+  work_first k n ss ds (work.Writing shape None) x is b none = subst (λ y. FirstOf sources k (node_of n) y) (sym b) (record { kind_is = is.is_ignore; node = refl; end = refl })
 
   seat_first : (k : ℕ) (n : blue.Node) (ss : List S) (ds : List D) (p : Seated S D) (x : Node S D) → p.node ≡ k → IsWork k n ss ds p.work → BecomesOf p.node p.work x → NoneGiven sources ss → FirstOf sources k (node_of n) x
   seat_first k n ss ds p x e is b none = work_first k n ss ds p.work x is (subst (λ m. BecomesOf m p.work x) e b) none

@@ -1,19 +1,20 @@
 -- The places of an island, by the nodes that got them.
-use Rattle.std.proofs.Common.{◌≡◌, ℕ, zero, suc, ◌+◌, List, [], ◌∷◌, length, Option, Some, refl, ap, sym, ◌∙◌, subst}
+use Rattle.std.proofs.Common.{◌≡◌, ℕ, zero, suc, ◌+◌, List, [], ◌∷◌, length, Some, None, refl, ap, sym, ◌∙◌, subst}
 use Rattle.std.specs.Prelude.{slice_get}
 use Rattle.stream_model.specs.declared.kind.Kind.{Kind}
-use Rattle.stream_model.specs.declared.kind.Kind.TheVariants.{Lines, Map, Filter, FilterNot, TakeWhile, DropWhile, Take, Drop, Limit, MapConcat, Grouped, Fold, Reduce, Scan, Buffer, ToLines}
+use Rattle.stream_model.specs.declared.kind.Kind.TheVariants.{Lines, Range, Empty, Failed, Map, Filter, FilterNot, TakeWhile, DropWhile, Take, Drop, Limit, MapConcat, Grouped, Fold, Reduce, Scan, Buffer, ToLines, Head, Last}
 use Rattle.stream_model.specs.declared.kind.Policy.TheVariants.{Backpressure}
 use Rattle.stream_model.specs.Composed.{inputs_of}
 use Rattle.stream_picture.specs.View.{outputs_of}
 use Rattle.stage_linear.specs.States.{IsLinear}
 use Rattle.stage_state.specs.States.{IsStateful}
+use Rattle.nodes.specs.Kinds.{IsMaker, IsFileSink}
 use Rattle.interpreter.specs.declared.parts.Seated.{Seated}
 use Rattle.interpreter.specs.declared.parts.Work.{Work}
 use Rattle.interpreter.specs.declared.parts.Work.TheVariants as work
-use Rattle.interpreter.specs.Parts.{work_inputs, work_outputs, inputs_at, outputs_at, IsLinesSink, IsUnused, AllUnused}
+use Rattle.interpreter.specs.Parts.{work_inputs, work_outputs, inputs_at, outputs_at, IsUnused, AllUnused}
 use Rattle.blue_core.specs.declared.blueprint.Node.{Node}
-use Rattle.materializer.specs.Files.{input_of}
+use Rattle.materializer.specs.Files.{input_of, output_of}
 use Rattle.materializer.specs.Seats.{handle_of, IsWork, AreSeats}
 
 -- ---- kinds
@@ -23,9 +24,17 @@ pub reads_lines : {X : Type 0} (k : Kind) (xs : List X) (x : X) → handle_of (i
 reads_lines (Lines name) xs x h = (name, refl)
 reads_lines _ xs x h = absurd cc
 
-pub is_lines_sink : (k : Kind) → IsLinesSink k → (name : List ℕ) × (k ≡ ToLines name)
-is_lines_sink (ToLines name) h = (name, refl)
-is_lines_sink _ h = absurd h
+maker_ports : (k : Kind) → IsMaker k → (inputs_of k ≡ 0) × (outputs_of k ≡ 1)
+maker_ports (Range low high) h = (refl, refl)
+maker_ports (Empty b) h = (refl, refl)
+maker_ports (Failed b) h = (refl, refl)
+maker_ports _ h = absurd h
+
+file_sink_ports : (k : Kind) → IsFileSink k → (inputs_of k ≡ 1) × (outputs_of k ≡ 0)
+file_sink_ports (ToLines name) h = (refl, refl)
+file_sink_ports (Head name) h = (refl, refl)
+file_sink_ports (Last name) h = (refl, refl)
+file_sink_ports _ h = absurd h
 
 linear_ports : (k : Kind) → IsLinear k → (inputs_of k ≡ 1) × (outputs_of k ≡ 1)
 linear_ports (Map f) h = (refl, refl)
@@ -47,23 +56,40 @@ state_ports (Scan o) h = (refl, refl)
 state_ports (Buffer n Backpressure) h = (refl, refl)
 state_ports _ h = absurd h
 
-writes_unused : (S : Type 0) {D : Type 0} (shape kind : Kind) (d : Option D) (drain : D) → shape ≡ kind → IsLinesSink kind → d ≡ Some drain → IsUnused {S = S} {D = D} (work.Writing shape d)
-writes_unused S shape kind d drain e is there = subst (λ o. IsUnused {S = S} (work.Writing shape o)) (sym there) (subst (λ s. IsLinesSink s) (sym e) is)
+-- only sinks write a file
+file_apart : (P : Kind → Type 0) → ((name : List ℕ) → P (ToLines name) → ⊥) → ((name : List ℕ) → P (Head name) → ⊥) → ((name : List ℕ) → P (Last name) → ⊥) → (k : Kind) (name : List ℕ) → P k → output_of k ≡ Some name → ⊥
+file_apart P a b c (ToLines file) name h e = a file h
+file_apart P a b c (Head file) name h e = b file h
+file_apart P a b c (Last file) name h e = c file h
+file_apart P a b c _ name h e = cc
+
+pub maker_no_file : (k : Kind) (name : List ℕ) → IsMaker k → output_of k ≡ Some name → ⊥
+maker_no_file k name h e = file_apart IsMaker (λ _ i. i) (λ _ i. i) (λ _ i. i) k name h e
+
+pub linear_no_file : (k : Kind) (name : List ℕ) → IsLinear k → output_of k ≡ Some name → ⊥
+linear_no_file k name h e = file_apart IsLinear (λ _ i. i) (λ _ i. i) (λ _ i. i) k name h e
+
+pub state_no_file : (k : Kind) (name : List ℕ) → IsStateful k → output_of k ≡ Some name → ⊥
+state_no_file k name h e = file_apart IsStateful (λ _ i. i) (λ _ i. i) (λ _ i. i) k name h e
 
 module _ {S D : Type 0} where
   -- ---- works
 
   work_ports : (k : ℕ) (n : Node) (ss : List S) (ds : List D) (w : Work S D) → IsWork k n ss ds w → (work_inputs w ≡ inputs_of n.kind) × (work_outputs w ≡ outputs_of n.kind)
   work_ports k n ss ds (work.Reading r) is = let l = reads_lines n.kind ss r.source is.source in (sym (ap inputs_of l.1), sym (ap outputs_of l.1))
+  work_ports k n ss ds (work.Making shape) is = let p = maker_ports n.kind is.is_maker in (sym p.0, sym p.1)
   work_ports k n ss ds (work.Linear l) is = let p = linear_ports n.kind is.is_linear in (sym p.0, sym p.1)
   work_ports k n ss ds (work.State l) is = let p = state_ports n.kind is.is_state in (sym p.0, sym p.1)
-  work_ports k n ss ds (work.Writing shape d) is = let l = is_lines_sink n.kind is.is_sink in (sym (ap inputs_of l.1), sym (ap outputs_of l.1))
+  work_ports k n ss ds (work.Writing shape (Some d)) is = let p = file_sink_ports n.kind is.is_sink in (sym p.0, sym p.1)
+  work_ports k n ss ds (work.Writing shape None) is = (sym (ap inputs_of is.is_ignore), sym (ap outputs_of is.is_ignore))
 
   work_unused : (k : ℕ) (n : Node) (ss : List S) (ds : List D) (w : Work S D) → IsWork k n ss ds w → IsUnused w
   work_unused k n ss ds (work.Reading r) is = is.kept
+  work_unused k n ss ds (work.Making shape) is = subst IsMaker (sym is.shape_is) is.is_maker
   work_unused k n ss ds (work.Linear l) is = let b = is.begins in record { phase = b.phase; row = rw b.phase tt }
   work_unused k n ss ds (work.State l) is = let b = is.begins in record { phase = b.phase; row = b.ready }
-  work_unused k n ss ds (work.Writing shape d) is = writes_unused S shape n.kind d is.drain is.shape_is is.is_sink is.there
+  work_unused k n ss ds (work.Writing shape (Some d)) is = subst IsFileSink (sym is.shape_is) is.is_sink
+  work_unused k n ss ds (work.Writing shape None) is = is.shape_is ∙ is.is_ignore
 
   -- ---- places
 

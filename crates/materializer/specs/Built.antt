@@ -2,7 +2,7 @@
 use Rattle.std.specs.Prelude.{◌≡◌, ℕ, ◌==◌, Bool, true, false, not, ◌||◌, ◌&&◌, is_some, List, Option, None}
 use Rattle.std.specs.List.{list_any}
 use Rattle.stream_model.specs.declared.kind.Kind.{Kind}
-use Rattle.stream_model.specs.declared.kind.Kind.TheVariants.{Lines, Map, Filter, FilterNot, TakeWhile, DropWhile, Take, Drop, Limit, MapConcat, Grouped, Fold, Reduce, Scan, Buffer, ToLines}
+use Rattle.stream_model.specs.declared.kind.Kind.TheVariants.{Lines, Range, Empty, Failed, Map, Filter, FilterNot, TakeWhile, DropWhile, Take, Drop, Limit, MapConcat, Grouped, Fold, Reduce, Scan, Buffer, ToLines, Head, Last, Ignore}
 use Rattle.stream_model.specs.declared.kind.Policy.TheVariants.{Backpressure}
 use Rattle.stream_model.specs.Graph.{Wire}
 use Rattle.blue_core.specs.declared.blueprint.Blueprint.{Blueprint}
@@ -15,6 +15,9 @@ use Rattle.blue_check.specs.Wires.{blueprint_wires}
 -- the kinds that have been built; of buffers only those that hold their input back
 abbrev pub is_built : Kind → Bool
 is_built (Lines file) = true
+is_built (Range low high) = true
+is_built (Empty b) = true
+is_built (Failed b) = true
 is_built (Map f) = true
 is_built (Filter p) = true
 is_built (FilterNot p) = true
@@ -30,6 +33,9 @@ is_built (Reduce r) = true
 is_built (Scan o) = true
 is_built (Buffer n Backpressure) = true
 is_built (ToLines file) = true
+is_built (Head file) = true
+is_built (Last file) = true
+is_built Ignore = true
 is_built _ = false
 
 -- a lane that leads into this node

@@ -1,7 +1,8 @@
 -- Which source and which drain the nodes of a blueprint hold as they are handed in.
 use Rattle.std.specs.Prelude.{◌≡◌, ℕ, List, slice_get, Some}
 use Rattle.nodes.specs.declared.node.Node.{Node}
-use Rattle.nodes.specs.declared.node.Node.TheVariants.{Reading, Writing}
+use Rattle.nodes.specs.declared.node.Node.TheVariants.{Reading, Writing, Ignoring}
+use Rattle.nodes.specs.Ignoring.{Ignorer}
 use Rattle.nodes.specs.Sink.{Sink}
 use Rattle.nodes.specs.Source.{Lines}
 
@@ -22,3 +23,9 @@ pub record WritesFile {S D : Type 0} (files : List (List ℕ)) (drains : List D)
   pub place : ℕ
   pub drain : slice_get drains place ≡ Some first.drain
   pub file : slice_get files place ≡ Some name
+
+-- node k keeps nothing, and holds no drain
+pub record WritesNoFile {S D : Type 0} (firsts : List (Node S D)) (k : ℕ) : Type 0 where
+  pub first : Ignorer
+  pub at : slice_get firsts k ≡ Some (Ignoring first)
+  pub node : first.node ≡ k

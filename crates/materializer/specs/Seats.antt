@@ -1,11 +1,12 @@
 -- The parts of the island of a blueprint: which place each node gets, and the link of each wire.
 use Rattle.std.specs.Prelude.{◌≡◌, ℕ, ◌+◌, List, [], ◌∷◌, slice_get, Option, Some, None, ⊤}
 use Rattle.stream_model.specs.declared.kind.Kind.{Kind}
+use Rattle.stream_model.specs.declared.kind.Kind.TheVariants.{Ignore}
 use Rattle.stream_model.specs.Graph.{Wire}
 use Rattle.stream_io.specs.Reading.{Reading}
 use Rattle.stage_linear.specs.States.{Logic, IsLinear, Begins}
 use Rattle.stage_state.specs.States as state
-use Rattle.interpreter.specs.Parts.{IsLinesSink}
+use Rattle.nodes.specs.Kinds.{IsMaker, IsFileSink}
 use Rattle.interpreter.specs.declared.parts.Link.{Link}
 use Rattle.interpreter.specs.declared.parts.Seated.{Seated}
 use Rattle.interpreter.specs.declared.parts.Work.{Work}
@@ -39,20 +40,30 @@ pub record StagesState (k : ℕ) (n : Node) (l : state.Logic) : Type 0 where
   pub is_state : state.IsStateful n.kind
   pub begins : state.Begins k n.kind n.decider l
 
--- a sink of lines writes the next of the drains
-pub record WritesNext {D : Type 0} (n : Node) (drains : List D) (shape : Kind) (d : Option D) : Type 0 where
+-- a source without a file is of its kind
+pub record MakesAs (n : Node) (shape : Kind) : Type 0 where
   pub shape_is : shape ≡ n.kind
-  pub is_sink : IsLinesSink n.kind
-  pub drain : D
-  pub there : d ≡ Some drain
+  pub is_maker : IsMaker n.kind
+
+-- a sink with a file writes the next of the drains
+pub record WritesNext {D : Type 0} (n : Node) (drains : List D) (shape : Kind) (drain : D) : Type 0 where
+  pub shape_is : shape ≡ n.kind
+  pub is_sink : IsFileSink n.kind
   pub next : handle_of (output_of n.kind) drains ≡ Some drain
+
+-- a sink that keeps nothing has no drain
+pub record WritesNone (n : Node) (shape : Kind) : Type 0 where
+  pub shape_is : shape ≡ n.kind
+  pub is_ignore : n.kind ≡ Ignore
 
 -- the work of node k, where these sources and drains are left
 abbrev pub IsWork : {S D : Type 0} → ℕ → Node → List S → List D → Work S D → Type 0
 IsWork k n sources drains (work.Reading r) = ReadsNext n sources r
+IsWork k n sources drains (work.Making shape) = MakesAs n shape
 IsWork k n sources drains (work.Linear l) = Stages k n l
 IsWork k n sources drains (work.State l) = StagesState k n l
-IsWork k n sources drains (work.Writing shape d) = WritesNext n drains shape d
+IsWork k n sources drains (work.Writing shape (Some d)) = WritesNext n drains shape d
+IsWork k n sources drains (work.Writing shape None) = WritesNone n shape
 
 -- these nodes, of which the first is node k, each at its place; in their order they take the sources and the drains
 abbrev pub AreSeats : {S D : Type 0} → ℕ → List Node → List S → List D → List (Seated S D) → Type 0

@@ -18,6 +18,9 @@ pub fn is_built(kind: &Kind) -> bool
 {
     match kind {
         Kind::Lines(_) => true,
+        Kind::Range(_, _) => true,
+        Kind::Empty(_) => true,
+        Kind::Failed(_) => true,
         Kind::Map(_) => true,
         Kind::Filter(_) => true,
         Kind::FilterNot(_) => true,
@@ -33,6 +36,9 @@ pub fn is_built(kind: &Kind) -> bool
         Kind::Scan(_) => true,
         Kind::Buffer(_, Policy::Backpressure) => true,
         Kind::ToLines(_) => true,
+        Kind::Head(_) => true,
+        Kind::Last(_) => true,
+        Kind::Ignore => true,
         _ => false,
     }
 }

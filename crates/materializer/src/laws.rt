@@ -13,9 +13,9 @@ ghost use Rattle.run_laws.specs.Made.{Materializes};
 ghost use Rattle.stream_model.specs.Composed.{IsRanked};
 ghost use Rattle.stream_model.specs.declared.kind.Kind.TheVariants as kind;
 ghost use Rattle.materializer.specs.Built.{CanRun};
-ghost use Rattle.materializer.specs.Files.{inputs_of_nodes, outputs_of_nodes};
+ghost use Rattle.materializer.specs.Files.{output_of, inputs_of_nodes, outputs_of_nodes};
 ghost use Rattle.materializer.specs.Graphs.{graph_of};
-ghost use Rattle.materializer.specs.Handed.{ReadsFile, WritesFile};
+ghost use Rattle.materializer.specs.Handed.{ReadsFile, WritesFile, WritesNoFile};
 ghost use Rattle.materializer.specs.Joined.{IsJoined};
 ghost use Rattle.materializer.specs.Seats.{AreSeats, links_from};
 
@@ -36,10 +36,15 @@ pub fn parts_are_made_of_their_blueprint<S: Source, D: Drain>()
 {}
 
 /// Each source of lines reads the source that was handed in for its file (`sources`), and each sink of lines writes the drain
-/// that was handed in for its file (`drains`).
+/// that was handed in for its file (`drains`), as every other sink with a file does (`files`). A sink that keeps nothing holds
+/// none (`ignores`).
 pub fn parts_hold_their_files<S: Source, D: Drain>()
     ensures sources { (nodes : List blue.Node) (sources : List S) (drains : List D) (places : List (Seated S D)) (firsts : List (Node S D)) → AreSeats 0 nodes sources drains places → AllBecome places firsts
         → (k : ℕ) (n : blue.Node) (name : List ℕ) → slice_get nodes k ≡ Some n → n.kind ≡ kind.Lines name → ReadsFile (inputs_of_nodes nodes) sources firsts k name }
     ensures drains { (nodes : List blue.Node) (sources : List S) (drains : List D) (places : List (Seated S D)) (firsts : List (Node S D)) → AreSeats 0 nodes sources drains places → AllBecome places firsts
         → (k : ℕ) (n : blue.Node) (name : List ℕ) → slice_get nodes k ≡ Some n → n.kind ≡ kind.ToLines name → WritesFile (outputs_of_nodes nodes) drains firsts k name }
+    ensures files { (nodes : List blue.Node) (sources : List S) (drains : List D) (places : List (Seated S D)) (firsts : List (Node S D)) → AreSeats 0 nodes sources drains places → AllBecome places firsts
+        → (k : ℕ) (n : blue.Node) (name : List ℕ) → slice_get nodes k ≡ Some n → output_of n.kind ≡ Some name → WritesFile (outputs_of_nodes nodes) drains firsts k name }
+    ensures ignores { (nodes : List blue.Node) (sources : List S) (drains : List D) (places : List (Seated S D)) (firsts : List (Node S D)) → AreSeats 0 nodes sources drains places → AllBecome places firsts
+        → (k : ℕ) (n : blue.Node) → slice_get nodes k ≡ Some n → n.kind ≡ kind.Ignore → WritesNoFile firsts k }
 {}

@@ -31,7 +31,7 @@ fn take_next<T: Drop>(handles: &mut IntoIter<T, Global>) -> T
     }
 }
 
-/// A node at its place k: a source of lines reads the next of the sources, a sink of lines writes the next of the drains.
+/// A node at its place k: a source of lines reads the next of the sources, a sink with a file writes the next of the drains.
 fn seat<S: Source, D: Drain>(
     alloc: Global,
     k: u32,
@@ -58,7 +58,11 @@ fn seat<S: Source, D: Drain>(
     let _ = name;
     let work = match kind {
         Kind::Lines(_) => Work::Reading(LineReader::new(alloc, take_next(sources))),
-        Kind::ToLines(_) => Work::Writing(kind, Some(take_next(drains))),
+        Kind::Range(_, _) | Kind::Empty(_) | Kind::Failed(_) => Work::Making(kind),
+        Kind::ToLines(_) | Kind::Head(_) | Kind::Last(_) => {
+            Work::Writing(kind, Some(take_next(drains)))
+        }
+        Kind::Ignore => Work::Writing(kind, None),
         Kind::Grouped(_)
         | Kind::Fold(_)
         | Kind::Reduce(_)

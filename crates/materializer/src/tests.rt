@@ -15,12 +15,16 @@ use stream_io::mem_drain::MemDrain;
 use stream_io::mem_folder::{MemFolder, MemSource};
 use stream_io::named_file::NamedFile;
 use stream_io::outside::Folder;
-use stream_model::kind::{Kind, Policy};
+use stream_model::kind::{Base, Kind, Policy};
 
 #[derive(Clone, Copy)]
 enum K {
     Lines,
+    Range,
+    Empty,
+    Failed,
     ToLines,
+    Head,
     Last,
     Map,
     Filter,
@@ -124,6 +128,26 @@ const ROWS: &[Row] = &[
         outputs: "out.txt ",
         sinks: "out ",
     },
+    // Sources without a file, and sinks of every kind, are built.
+    Row {
+        nodes: &[
+            ("up", K::Range, ""),
+            ("end", K::Last, "end.txt"),
+            ("no", K::Empty, ""),
+            ("none", K::Ignore, ""),
+            ("bad", K::Failed, ""),
+            ("first", K::Head, "first.txt"),
+        ],
+        wires: &[
+            ("up", 0, "end", 0),
+            ("no", 0, "none", 0),
+            ("bad", 0, "first", 0),
+        ],
+        unbuilt: None,
+        inputs: "",
+        outputs: "end.txt first.txt ",
+        sinks: "end none first ",
+    },
     // A sink without a file is a sink, and one that keeps its last element has a file.
     Row {
         nodes: &[
@@ -156,7 +180,11 @@ fn line(alloc: Global, text: &str) -> Result<Line, NoMemory> {
 fn kind(kind: K, file: Line) -> Kind {
     match kind {
         K::Lines => Kind::Lines(file),
+        K::Range => Kind::Range(1, 3),
+        K::Empty => Kind::Empty(Base::Num),
+        K::Failed => Kind::Failed(Base::Text),
         K::ToLines => Kind::ToLines(file),
+        K::Head => Kind::Head(file),
         K::Last => Kind::Last(file),
         K::Map => Kind::Map(MapFn::Len),
         K::Filter => Kind::Filter(Pred::Blank),
@@ -320,6 +348,25 @@ fn stages_with_state_stand_in_their_order(rt: HostRuntime) -> Result<(), Fail> {
             assert!(rt; nodes.len() == 4);
             assert!(rt; nodes[1].node == 1 && matches!(nodes[1].work, Work::State(_)));
             assert!(rt; nodes[2].node == 2 && matches!(nodes[2].work, Work::State(_)));
+        }
+        None => panic!(rt; "no parts"),
+    }
+    Ok(())
+}
+
+#[test]
+fn sources_and_sinks_stand_in_their_order(rt: HostRuntime) -> Result<(), Fail> {
+    let alloc = rt.alloc();
+    match made(alloc, &ROWS[5])? {
+        Some(parts) => {
+            let nodes = &parts.nodes;
+            assert!(rt; nodes.len() == 6);
+            assert!(rt; matches!(nodes[0].work, Work::Making(Kind::Range(1, 3))));
+            assert!(rt; matches!(nodes[1].work, Work::Writing(Kind::Last(_), Some(_))));
+            assert!(rt; matches!(nodes[2].work, Work::Making(Kind::Empty(_))));
+            assert!(rt; matches!(nodes[3].work, Work::Writing(Kind::Ignore, None)));
+            assert!(rt; matches!(nodes[4].work, Work::Making(Kind::Failed(_))));
+            assert!(rt; matches!(nodes[5].work, Work::Writing(Kind::Head(_), Some(_))));
         }
         None => panic!(rt; "no parts"),
     }

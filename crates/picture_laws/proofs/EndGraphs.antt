@@ -43,7 +43,7 @@ use Rattle.picture_laws.proofs.Places.{OneInput, OneOutput, Joined, input_at, ou
 use Rattle.picture_laws.proofs.Stages.{lines_ports}
 use Rattle.picture_laws.proofs.RestRows.{RestsKind, lines_rests, sink_rests}
 use Rattle.picture_laws.proofs.Moments.{last_ask}
-use Rattle.picture_laws.proofs.Resting.{all_came}
+use Rattle.run_laws.proofs.Counting.{all_came}
 
 -- ---- the kinds
 

@@ -41,7 +41,8 @@ use Rattle.nodes.specs.State.{StateLaw}
 use Rattle.run_laws.proofs.States.{KeepsFirst, BuffersFirst, keeps_law, buffers_law}
 use Rattle.picture_laws.specs.Picture.{count_of, Passes}
 use Rattle.picture_laws.proofs.Places.{fused_view}
-use Rattle.picture_laws.proofs.Resting.{waits, idles, all_idle, is_asked, is_unasked, in_shut, out_shut, got_part, all_came}
+use Rattle.run_laws.proofs.Counting.{all_came}
+use Rattle.picture_laws.proofs.Resting.{waits, idles, all_idle, is_asked, is_unasked, in_shut, out_shut, got_part}
 use Rattle.picture_laws.proofs.Telling.{count_told, elements_prefix}
 use Rattle.picture_laws.proofs.Stages.{law_at, same_start, one_same, Waited, waited_of}
 use Rattle.picture_laws.proofs.RestRows.{RestsWork, waited_rests}

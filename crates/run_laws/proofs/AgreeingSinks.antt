@@ -166,12 +166,12 @@ module _ {S D : Type 0} (sources : S → SourceState) (drains : D → DrainState
       let got : (wire_at net u).wire.got ≡ told law.elems law.in_end = cc in
       let sound = settled.sound u ins.0 in
       let none : now.end ≡ WriteFault → elements (wire_at net u).wire.sent ≤ elements (wire_at net u).wire.got = λ fault.
-          let part : WrotePart (drains first.drain) (drains now.drain) law.wrote now.count = subst (λ (s : EndState). StandsAs s (drains first.drain) (drains now.drain) law.wrote now.count) fault law.stands in
-          let some : length law.wrote ≡ length (part.before ++ part.last ∷ []) = ap length part.wrote_is in
-          let same : length law.wrote ≡ length law.elems = ap length each.0 in
-          let open_end : law.in_end ≡ unended = each.1 ∙ ap end_seen fault in
-          none_behind sources drains net settled k u first now (within k n ni) ins.0 at ins.1 (no_port sent_of net.wires (ports_at net k).outs law.gave_is) fault law.elems
-          (rw open_end at got) (omega (arith, some, same, length-append part.before (part.last ∷ []))) in (
+      let part : WrotePart (drains first.drain) (drains now.drain) law.wrote now.count = subst (λ (s : EndState). StandsAs s (drains first.drain) (drains now.drain) law.wrote now.count) fault law.stands in
+      let some : length law.wrote ≡ length (part.before ++ part.last ∷ []) = ap length part.wrote_is in
+      let same : length law.wrote ≡ length law.elems = ap length each.0 in
+      let open_end : law.in_end ≡ unended = each.1 ∙ ap end_seen fault in
+      none_behind sources drains net settled k u first now (within k n ni) ins.0 at ins.1 (no_port sent_of net.wires (ports_at net k).outs law.gave_is) fault law.elems
+      (rw open_end at got) (omega (arith, some, same, length-append part.before (part.last ∷ []))) in (
         sent_by (wire_at net u).wire (holds net.queue u) sound now.started (view_of net k).outs law.elems law.in_end got seen (drains first.drain) (drains now.drain) law.wrote now.count each.0 now.end none each.1 here law.stands,
         λ rest goes. rests_by (wire_at net u).wire (holds net.queue u) sound now.started (view_of net k).outs law.elems law.in_end got seen (drains first.drain) (drains now.drain) law.wrote now.count each.0 now.end goes (rw rest refl) here law.stands,
       )

@@ -107,10 +107,7 @@ fn add_files(
 }
 
 fn holds(folder: &MemFolder, name: &[u8], bytes: &[u8]) -> bool {
-    folder
-        .files()
-        .iter()
-        .any(|file| file.name.bytes() == name && file.bytes.as_slice() == bytes)
+    folder.files().iter().any(|file| file.name.bytes() == name && file.bytes.as_slice() == bytes)
 }
 
 impl Row {
@@ -196,8 +193,22 @@ const FAULTS: [(&str, Op, u32, &str, u8, &str); 5] = [
         8,
         "x.txt=1\n|y.txt=3\n|",
     ),
-    ("b.txt", Op::OpenIn, 1, "missing b.txt\n", 6, "a.txt=1\n2\n|"),
-    ("x.txt", Op::OpenOut, 1, "missing x.txt\n", 6, "a.txt=1\n2\n|"),
+    (
+        "b.txt",
+        Op::OpenIn,
+        1,
+        "missing b.txt\n",
+        6,
+        "a.txt=1\n2\n|",
+    ),
+    (
+        "x.txt",
+        Op::OpenOut,
+        1,
+        "missing x.txt\n",
+        6,
+        "a.txt=1\n2\n|",
+    ),
     ("y.txt", Op::OpenOut, 1, "missing y.txt\n", 6, "x.txt=|"),
 ];
 

@@ -9,7 +9,7 @@ returns g c = λ old b budget ss ds can opens leaves.
     (record {
       made_law = c.parts_are_made_of_their_blueprint.ensures;
       reads_law = c.parts_hold_their_files.ensures.sources;
-      writes_law = c.parts_hold_their_files.ensures.drains;
+      writes_law = c.parts_hold_their_files.ensures.files;
       source_there = c.every_source_reads_little_ahead.ensures.there;
       sink_there = c.every_sink_agrees.ensures.there;
     })

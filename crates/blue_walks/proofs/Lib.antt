@@ -3,3 +3,4 @@ pub mod VisitSteps
 pub mod ClosedWalks
 pub mod Forests
 pub mod ForestLoops
+pub mod Joining

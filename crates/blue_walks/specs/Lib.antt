@@ -2,3 +2,4 @@ pub mod Marks
 pub mod Visits
 pub mod Ranks
 pub mod Forest
+pub mod Classes

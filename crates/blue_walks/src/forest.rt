@@ -1,9 +1,11 @@
 // Whether a walk is closed when directions are ignored.
-ghost use Rattle.std.specs.Prelude.{◌≡◌, ◌<◌, ◌==◌, ℕ, IfOk, List, true, false, length, slice_index, vec_len, if◌then◌else◌};
+ghost use Rattle.std.specs.Prelude.{◌≡◌, ◌<◌, ◌==◌, ℕ, IfOk, OnOk, List, true, false, slice_index, vec_len};
 ghost use Rattle.stream_picture.specs.Shape.{IsPolytree};
 ghost use Rattle.blue_names.specs.Links.{AreInRange, wires_of_links};
 ghost use Rattle.blue_walks.specs.Forest.{wiring};
+ghost use Rattle.blue_walks.specs.Classes.{AreListed, AreJoined};
 
+use crate::classes::{own_members, unite};
 use crate::ranks::rank_of;
 use blue_names::links::Link;
 use elem_core::why::NoMemory;
@@ -21,17 +23,6 @@ fn own_labels(alloc: Global, count: usize) -> Result<Vec<usize>, NoMemory>
     Ok(labels)
 }
 
-/// Gives the nodes of one label another.
-fn relabel(labels: &mut [usize], from: usize, to: usize)
-    ensures { (i : ℕ) → i < length labels.old → slice_index labels.new i ≡ (if slice_index labels.old i == from then to else slice_index labels.old i) }
-{
-    for label in labels.iter_mut() {
-        if *label == from {
-            *label = to;
-        }
-    }
-}
-
 /// Whether no closed walk uses each wire at most once, when directions are ignored.
 pub fn is_polytree(alloc: Global, count: usize, links: &[Link]) -> Result<bool, NoMemory>
     requires { AreInRange count links.now }
@@ -39,13 +30,14 @@ pub fn is_polytree(alloc: Global, count: usize, links: &[Link]) -> Result<bool, 
     ensures no_tree { IfOk result (λ b. b ≡ false → IsPolytree (wiring (wires_of_links links.now)) → ⊥) }
 {
     let mut labels = own_labels(alloc, count)?;
+    let mut members = own_members(alloc, count)?;
     for link in links {
         let from = rank_of(&labels, link.from);
         let to = rank_of(&labels, link.to);
         if from == to {
             return Ok(false);
         }
-        relabel(&mut labels, to, from);
+        unite(alloc, &mut labels, &mut members, from, to)?;
     }
     Ok(true)
 }

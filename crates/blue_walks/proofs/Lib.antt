@@ -4,3 +4,4 @@ pub mod ClosedWalks
 pub mod Forests
 pub mod ForestLoops
 pub mod Joining
+pub mod Carrying

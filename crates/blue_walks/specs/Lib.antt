@@ -3,3 +3,4 @@ pub mod Visits
 pub mod Ranks
 pub mod Forest
 pub mod Classes
+pub mod Components

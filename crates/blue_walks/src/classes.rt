@@ -1,6 +1,6 @@
 // Classes of nodes: a label for each node, and a list of the nodes of each label.
-ghost use Rattle.std.specs.Prelude.{◌≡◌, ◌<◌, ◌==◌, ℕ, IfOk, OnOk, List, true, slice_index, vec_len, if◌then◌else◌};
-ghost use Rattle.std.proofs.Common.{◌++◌, ◌∷◌, []};
+ghost use Rattle.std.specs.Prelude.{◌≡◌, ◌<◌, ◌==◌, ℕ, IfOk, OnOk, true, slice_index, vec_len, if◌then◌else◌};
+ghost use Rattle.std.proofs.Common.{◌++◌};
 ghost use Rattle.blue_names.specs.Outs.{row_at};
 ghost use Rattle.blue_walks.specs.Marks.{is_in};
 ghost use Rattle.blue_walks.specs.Classes.{AreListed, AreJoined, IsRelabeled};
@@ -9,6 +9,18 @@ use blue_names::outs::row_of;
 use elem_core::why::NoMemory;
 use std::alloc::Global;
 use std::mem;
+
+/// A label of its own for each node.
+pub fn own_labels(alloc: Global, count: usize) -> Result<Vec<usize>, NoMemory>
+    ensures own { IfOk result (λ labels. (i : ℕ) → i < count → slice_index labels.items i ≡ i) }
+    ensures length { IfOk result (λ labels. vec_len labels ≡ count) }
+{
+    let mut labels = Vec::new(alloc);
+    for i in 0..count {
+        labels.push(i)?;
+    }
+    Ok(labels)
+}
 
 /// A list for each label, with the node of the same number.
 pub fn own_members(alloc: Global, count: usize) -> Result<Vec<Vec<usize>>, NoMemory>

@@ -1,27 +1,14 @@
 // Whether a walk is closed when directions are ignored.
-ghost use Rattle.std.specs.Prelude.{◌≡◌, ◌<◌, ◌==◌, ℕ, IfOk, OnOk, List, true, false, slice_index, vec_len};
+ghost use Rattle.std.specs.Prelude.{◌≡◌, IfOk, true, false};
 ghost use Rattle.stream_picture.specs.Shape.{IsPolytree};
 ghost use Rattle.blue_names.specs.Links.{AreInRange, wires_of_links};
 ghost use Rattle.blue_walks.specs.Forest.{wiring};
-ghost use Rattle.blue_walks.specs.Classes.{AreListed, AreJoined};
 
-use crate::classes::{own_members, unite};
+use crate::classes::{own_labels, own_members, unite};
 use crate::ranks::rank_of;
 use blue_names::links::Link;
 use elem_core::why::NoMemory;
 use std::alloc::Global;
-
-/// A label of its own for each node.
-fn own_labels(alloc: Global, count: usize) -> Result<Vec<usize>, NoMemory>
-    ensures own { IfOk result (λ labels. (i : ℕ) → i < count → slice_index labels.items i ≡ i) }
-    ensures length { IfOk result (λ labels. vec_len labels ≡ count) }
-{
-    let mut labels = Vec::new(alloc);
-    for i in 0..count {
-        labels.push(i)?;
-    }
-    Ok(labels)
-}
 
 /// Whether no closed walk uses each wire at most once, when directions are ignored.
 pub fn is_polytree(alloc: Global, count: usize, links: &[Link]) -> Result<bool, NoMemory>

@@ -3,6 +3,10 @@
 
 mod classes;
 pub mod closed;
+mod components;
+mod depth;
 pub mod forest;
 mod marks;
 mod ranks;
+#[cfg(test)]
+mod tests;

@@ -1,5 +1,5 @@
 -- Closed walks, and numbers that never fall along a wire.
-use Rattle.std.proofs.Common.{◌≡◌, ℕ, zero, suc, ◌+◌, ◌<◌, ◌≤◌, true, false, List, [], ◌∷◌, ◌++◌, length, map, take, get_or, Option, Some, None, refl, ap, sym, ◌∙◌, subst, ⊎_elim, arith}
+use Rattle.std.proofs.Common.{◌≡◌, ℕ, ◌+◌, ◌<◌, ◌≤◌, List, [], ◌∷◌, ◌++◌, length, map, take, get_or, Some, ap, sym, ◌∙◌, subst, ⊎_elim, arith}
 use Rattle.std.specs.Prelude.{slice_get, slice_index}
 use Rattle.std.proofs.lemmas.Bool.{cases_lt}
 use Rattle.std.proofs.lemmas.Option.{slice_get-get_or, slice_get_within}
@@ -8,7 +8,7 @@ use Rattle.stream_model.specs.Graph.{Wire}
 use Rattle.blue_names.proofs.OutRows.{slice_get-push_cases}
 use Rattle.blue_names.specs.declared.links.Link.{Link}
 use Rattle.blue_names.specs.Links.{wire_of_link, wires_of_links}
-use Rattle.blue_rules.specs.Paths.{Path, Leads, stay, along, LiesOnClosedWalk, IsFirstClosed, HasNoClosedWalk}
+use Rattle.blue_rules.specs.Paths.{Path, stay, along, LiesOnClosedWalk, IsFirstClosed, HasNoClosedWalk}
 use Rattle.blue_walks.specs.Ranks.{NeverFalls}
 
 -- nor do they along a walk

@@ -1,14 +1,19 @@
 -- Labels over the links of a list.
-use Rattle.std.proofs.Common.{◌≡◌, ℕ, zero, suc, ◌+◌, ◌<◌, ◌≤◌, true, false, cond, ◌==◌, List, [], ◌∷◌, ◌++◌, length, map, take, drop, get_or, Option, Some, None, refl, ap, sym, ◌∙◌, subst, arith}
+use Rattle.std.proofs.Common.{◌≡◌, ℕ, zero, suc, ◌+◌, ◌<◌, cond, ◌==◌, List, [], ◌∷◌, ◌++◌, length, take, get_or, Some, refl, ap, sym, ◌∙◌, subst, ⊎_elim, arith}
 use Rattle.std.specs.Prelude.{slice_get, slice_index}
-use Rattle.std.proofs.lemmas.Grind.{common_steps}
-use Rattle.std.proofs.lemmas.List.{map_more, get_or-take, length-take, get_or_default}
-use Rattle.stream_model.specs.Graph.{Graph, Wire}
+use Rattle.std.proofs.lemmas.List.{map_more, get_or-take, length-take}
+use Rattle.stream_model.specs.Graph.{Wire}
 use Rattle.stream_picture.specs.Shape.{Joins, Walk, stay, along, IsPolytree}
 use Rattle.blue_names.specs.declared.links.Link.{Link}
 use Rattle.blue_names.specs.Links.{AreInRange, wire_of_link, wires_of_links}
 use Rattle.blue_walks.specs.Forest.{wiring, Labels}
-use Rattle.blue_walks.proofs.Forests.{Labels-more, not_a_tree}
+use Rattle.blue_walks.specs.Marks.{is_in}
+use Rattle.blue_walks.specs.Classes.{IsRelabeled, AreJoined, AreListed}
+use Rattle.blue_walks.proofs.Joining.{row_in_range}
+use Rattle.std.specs.declared.vec.Vec.{Vec}
+use Rattle.std.specs.declared.alloc.Global.{Global}
+use Rattle.blue_names.specs.Outs.{row_at}
+use Rattle.blue_walks.proofs.Forests.{Labels-more, Labels-alike, other_alike, not_a_tree}
 use Rattle.blue_walks.proofs.VisitSteps.{wire_in_range}
 
 -- the first links are in range where all are
@@ -55,23 +60,36 @@ module _ (ls : List Link) (i : ℕ) (d : Link) (count : ℕ) (old : List ℕ) (f
       let here : IsPolytree (wiring (wires_of_links (take i ls) ++ wire_of_link (get_or ls i d) ∷ [])) = subst (λ ws. IsPolytree (wiring ws)) (sym more) front in
       not_a_tree (wires_of_links (take i ls)) (wire_of_link (get_or ls i d)) count (slice_index old) labels in_range.0 in_range.1 (sym from_label ∙ e ∙ to_label) here
 
+  -- all labels as one of the two, by what the old ones are
+  by_old : (new : List ℕ) (a b : ℕ) (f t : ℕ) → length old ≡ count → a ≡ f → b ≡ t → IsRelabeled old new a b → (n : ℕ) → n < count → slice_index new n ≡ cond (slice_index old n == f) t (slice_index old n)
+  by_old new a b f t long ea eb r n ln =
+      let l : n < length old = omega (arith, ln, long) in
+      r.at n l ∙ ap (λ x. cond (slice_index old n == x) b (slice_index old n)) ea ∙ ap (λ x. cond (slice_index old n == f) x (slice_index old n)) eb
+
   -- other labels become one
-  pub Labels-step : (third new : List ℕ) → third ≡ old → length old ≡ count → (from ≡ to → ⊥)
-      → ((a : ℕ) → a < length third → slice_index new a ≡ cond (slice_index third a == to) from (slice_index third a)) → Labels (wires_of_links (take (i + 1) ls)) count (slice_index new)
-  Labels-step third new three long apart relabeled =
+  pub Labels-step : (new : List ℕ) → length old ≡ count → (from ≡ to → ⊥) → AreJoined old new from to → Labels (wires_of_links (take (i + 1) ls)) count (slice_index new)
+  Labels-step new long apart joined =
       let w = wire_of_link (get_or ls i d) in
       let ws = wires_of_links (take i ls) in
-      let at_old : (a : ℕ) → a < length old → slice_index new a ≡ cond (slice_index old a == to) from (slice_index old a) =
-      subst (λ xs. (a : ℕ) → a < length xs → slice_index new a ≡ cond (slice_index xs a == to) from (slice_index xs a)) three relabeled in
-      let at_from : (a : ℕ) → a < length old → slice_index new a ≡ cond (slice_index old a == to) (slice_index old w.from) (slice_index old a) =
-      subst (λ x. (a : ℕ) → a < length old → slice_index new a ≡ cond (slice_index old a == to) x (slice_index old a)) from_label at_old in
-      let at_both : (a : ℕ) → a < length old → slice_index new a ≡ cond (slice_index old a == slice_index old w.to) (slice_index old w.from) (slice_index old a) =
-      subst (λ x. (a : ℕ) → a < length old → slice_index new a ≡ cond (slice_index old a == x) (slice_index old w.from) (slice_index old a)) to_label at_from in
-      subst (λ us. Labels us count (slice_index new)) more
-      (Labels-more ws w count (slice_index old) labels in_range.0 in_range.1 (λ e. apart (from_label ∙ e ∙ sym to_label)) (slice_index new)
-      (λ a la. let l : a < length old = omega (arith, la, long) in at_both a l)
-      (λ j v at. wire_in_range count (take i ls) j v (AreInRange-take count ls i range) at))
+      let f = slice_index old w.from in
+      let t = slice_index old w.to in
+      let mixed : ℕ → ℕ = λ n. cond (slice_index old n == t) f (slice_index old n) in
+      let one_way : (label' : ℕ → ℕ) → ((n : ℕ) → n < count → label' n ≡ mixed n) → Labels (wires_of_links (take (i + 1) ls)) count label' = λ label' same.
+      subst (λ us. Labels us count label') more
+      (Labels-more ws w count (slice_index old) labels in_range.0 in_range.1 (λ e. apart (from_label ∙ e ∙ sym to_label)) label' same (λ j v at. wire_in_range count (take i ls) j v (AreInRange-take count ls i range) at)) in
+      ⊎_elim
+      (λ (r : IsRelabeled old new from to).
+      let is = by_old new from to f t long from_label to_label r in
+      Labels-alike (wires_of_links (take (i + 1) ls)) count mixed (slice_index new) (λ j v at. wire_in_range count (take (i + 1) ls) j v (AreInRange-take count ls (i + 1) range) at)
+      (λ a b la lb e. other_alike f t (slice_index old a) (slice_index old b) (sym (is a la) ∙ e ∙ is b lb))
+      (λ a b la lb e. is a la ∙ other_alike t f (slice_index old a) (slice_index old b) e ∙ sym (is b lb))
+      (one_way mixed (λ n ln. refl)))
+      (λ (r : IsRelabeled old new to from). one_way (slice_index new) (by_old new to from t f long to_label from_label r))
+      joined.either
 
--- a slice of a whole vector, written back
-pub written_back : {X : Type 0} (old new : List X) (n : ℕ) → n ≡ length old → length new ≡ length old → take n (new ++ drop (length new) old) ≡ new
-written_back old new n e h = grind (arith, common_steps)
+-- the label of a node has a list
+pub label_in_range : (old seen : List ℕ) (rows : List (Vec ℕ Global)) (node count label : ℕ) → node < count → length old ≡ count → seen ≡ old → label ≡ slice_index seen node → AreListed old rows → label < length rows
+label_in_range old seen rows node count label lt long same is l =
+    let e : label ≡ slice_index old node = is ∙ ap (λ xs. slice_index xs node) same in
+    let below : node < length old = omega (arith, lt, long) in
+    row_in_range rows node label (ap (λ n. is_in node (row_at rows n)) e ∙ l.listed node below)

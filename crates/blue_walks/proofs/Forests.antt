@@ -1,5 +1,5 @@
 -- Walks that ignore directions, over the wires so far: labels tell which nodes they link.
-use Rattle.std.proofs.Common.{◌≡◌, ℕ, zero, suc, ◌+◌, ◌<◌, ◌≤◌, Bool, true, false, cond, ◌==◌, List, [], ◌∷◌, ◌++◌, length, take, Option, Some, None, refl, ap, sym, ◌∙◌, subst, ⊎_elim, inl, inr, arith}
+use Rattle.std.proofs.Common.{◌≡◌, ℕ, ◌<◌, true, false, cond, ◌==◌, List, [], ◌∷◌, ◌++◌, length, Some, None, refl, ap, sym, ◌∙◌, subst, ⊎_elim, inl, inr, arith}
 use Rattle.std.specs.Prelude.{slice_get, ◌⊎◌}
 use Rattle.std.proofs.lemmas.Bool.{cases_eq, cases_Bool, eqb-true, eq-eqb, ne_eqb}
 use Rattle.std.proofs.lemmas.Option.{slice_get_within}
@@ -202,3 +202,24 @@ Labels-none count label own = record {
     nothing : (a b : ℕ) (is : List ℕ) → Walk (wiring []) a b is → is ≡ []
     nothing a b [] stay = refl
     nothing a b (i ∷ is) (along j p) = let none : None ≡ Some j.wire = j.at in cc
+
+-- labels that are alike just where others are
+pub Labels-alike : (ws : List Wire) (count : ℕ) (label label' : ℕ → ℕ) → ((i : ℕ) (w : Wire) → slice_get ws i ≡ Some w → (w.from < count) × (w.to < count))
+    → ((a b : ℕ) → a < count → b < count → label' a ≡ label' b → label a ≡ label b) → ((a b : ℕ) → a < count → b < count → label a ≡ label b → label' a ≡ label' b) → Labels ws count label → Labels ws count label'
+Labels-alike ws count label label' range forth back ls = record {
+  sound = λ a b la lb e. ls.sound a b la lb (forth a b la lb e);
+  alike = λ i w at. let r = range i w at in back w.from w.to r.0 r.1 (ls.alike i w at);
+  tree = ls.tree;
+}
+
+-- one of two labels for both, and the other for both
+other_label : (f t x : ℕ) → cond (cond (x == f) t x == t) f (cond (x == f) t x) ≡ cond (x == t) f x
+other_label f t x = ⊎_elim
+    (λ (e : x ≡ f).
+    let lhs : cond (x == f) t x ≡ t = ap (λ b. cond b t x) (eq-eqb x f e) in
+    ap (λ z. cond (z == t) f z) lhs ∙ ap (λ b. cond b f t) (eq-eqb t t refl) ∙ sym (⊎_elim (λ h. ap (λ b. cond b f x) h) (λ h. ap (λ b. cond b f x) h ∙ e) (cases_Bool (x == t))))
+    (λ (ne : x ≡ f → ⊥). ap (λ b. cond (cond b t x == t) f (cond b t x)) (ne_eqb x f ne))
+    (cases_eq x f)
+
+pub other_alike : (f t x y : ℕ) → cond (x == f) t x ≡ cond (y == f) t y → cond (x == t) f x ≡ cond (y == t) f y
+other_alike f t x y e = sym (other_label f t x) ∙ ap (λ z. cond (z == t) f z) e ∙ other_label f t y

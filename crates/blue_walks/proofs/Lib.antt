@@ -3,3 +3,5 @@ pub mod VisitSteps
 pub mod ClosedWalks
 pub mod Forests
 pub mod ForestLoops
+pub mod Joining
+pub mod Carrying

@@ -1,36 +1,14 @@
 // Whether a walk is closed when directions are ignored.
-ghost use Rattle.std.specs.Prelude.{◌≡◌, ◌<◌, ◌==◌, ℕ, IfOk, List, true, false, length, slice_index, vec_len, if◌then◌else◌};
+ghost use Rattle.std.specs.Prelude.{◌≡◌, IfOk, true, false};
 ghost use Rattle.stream_picture.specs.Shape.{IsPolytree};
 ghost use Rattle.blue_names.specs.Links.{AreInRange, wires_of_links};
 ghost use Rattle.blue_walks.specs.Forest.{wiring};
 
+use crate::classes::{own_labels, own_members, unite};
 use crate::ranks::rank_of;
 use blue_names::links::Link;
 use elem_core::why::NoMemory;
 use std::alloc::Global;
-
-/// A label of its own for each node.
-fn own_labels(alloc: Global, count: usize) -> Result<Vec<usize>, NoMemory>
-    ensures own { IfOk result (λ labels. (i : ℕ) → i < count → slice_index labels.items i ≡ i) }
-    ensures length { IfOk result (λ labels. vec_len labels ≡ count) }
-{
-    let mut labels = Vec::new(alloc);
-    for i in 0..count {
-        labels.push(i)?;
-    }
-    Ok(labels)
-}
-
-/// Gives the nodes of one label another.
-fn relabel(labels: &mut [usize], from: usize, to: usize)
-    ensures { (i : ℕ) → i < length labels.old → slice_index labels.new i ≡ (if slice_index labels.old i == from then to else slice_index labels.old i) }
-{
-    for label in labels.iter_mut() {
-        if *label == from {
-            *label = to;
-        }
-    }
-}
 
 /// Whether no closed walk uses each wire at most once, when directions are ignored.
 pub fn is_polytree(alloc: Global, count: usize, links: &[Link]) -> Result<bool, NoMemory>
@@ -39,13 +17,14 @@ pub fn is_polytree(alloc: Global, count: usize, links: &[Link]) -> Result<bool, 
     ensures no_tree { IfOk result (λ b. b ≡ false → IsPolytree (wiring (wires_of_links links.now)) → ⊥) }
 {
     let mut labels = own_labels(alloc, count)?;
+    let mut members = own_members(alloc, count)?;
     for link in links {
         let from = rank_of(&labels, link.from);
         let to = rank_of(&labels, link.to);
         if from == to {
             return Ok(false);
         }
-        relabel(&mut labels, to, from);
+        unite(alloc, &mut labels, &mut members, from, to)?;
     }
     Ok(true)
 }

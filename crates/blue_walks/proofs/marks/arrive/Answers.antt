@@ -1,4 +1,4 @@
-use Rattle.std.proofs.Common.{◌≡◌, ◌<◌, ◌++◌, [], ◌∷◌, true, false, length, set, ◌∙◌, sym, subst, arith}
+use Rattle.std.proofs.Common.{◌≡◌, ◌<◌, true, false, length, set, ◌∙◌, sym, subst, arith}
 use Rattle.blue_walks.specs.Marks.{Reaches, mark_at}
 use Rattle.blue_walks.proofs.Reaching.{Reaches-push, Reaches-there, mark_at-get_or}
 use Rattle.blue_walks.proofs.marks.arrive.Goals as goal

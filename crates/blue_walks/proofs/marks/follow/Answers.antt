@@ -1,6 +1,6 @@
 use Rattle.std.proofs.Common.{◌<◌, ◌≤◌, vec_len, length, subst, arith}
 use Rattle.blue_names.specs.Links.{wires_of_links}
-use Rattle.blue_walks.proofs.VisitSteps.{Visits-more, Visits-no_wire, target_path, wire_in_range}
+use Rattle.blue_walks.proofs.VisitSteps.{Visits-more, target_path, wire_in_range}
 use Rattle.blue_walks.proofs.marks.follow.Goals as goal
 
 pub arrive-requires : goal.arrive-requires

@@ -1,4 +1,4 @@
-use Rattle.std.proofs.Common.{◌≡◌, false, vec_len, replicate}
+use Rattle.std.proofs.Common.{◌≡◌, false, replicate}
 use Rattle.blue_walks.proofs.marks.no_marks.Given as goal
 
 abbrev pub invariant-marks : goal.invariant-marks

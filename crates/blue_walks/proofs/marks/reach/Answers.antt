@@ -1,7 +1,7 @@
-use Rattle.std.proofs.Common.{◌≡◌, ◌<◌, ◌≤◌, [], ◌∷◌, ◌++◌, length, ap, set, true, ◌∙◌, sym, subst, arith}
+use Rattle.std.proofs.Common.{◌<◌, ◌≤◌, [], ◌∷◌, ◌++◌, length, ap, set, true, ◌∙◌, sym, subst, arith}
 use Rattle.blue_names.specs.Links.{wires_of_links}
 use Rattle.blue_walks.specs.Marks.{Reaches}
-use Rattle.blue_walks.proofs.Reaching.{Reaches-first, Reaches-count, IsClosed, IsClosed-none, IsClosed-all}
+use Rattle.blue_walks.proofs.Reaching.{Reaches-first, Reaches-count, IsClosed-none, IsClosed-all}
 use Rattle.blue_walks.proofs.marks.reach.Goals as goal
 
 pub walk-init : goal.walk-init

@@ -1,11 +1,6 @@
-use Rattle.std.proofs.Common.{◌≡◌, ℕ, ◌+◌, ◌<◌, ◌++◌, [], ◌∷◌, true, List, Bool, Some, vec_len, length, take, get_or, ap, sym, ◌∙◌, subst, arith}
-use Rattle.std.specs.Prelude.{slice_get}
-use Rattle.std.proofs.lemmas.List.{take_more}
-use Rattle.stream_model.specs.Graph.{Wire}
+use Rattle.std.proofs.Common.{◌++◌, [], ◌∷◌, vec_len, take, get_or, sym, ◌∙◌, subst}
 use Rattle.blue_names.specs.Links.{wires_of_links}
 use Rattle.blue_walks.specs.Visits.{Visits}
-use Rattle.blue_walks.specs.Marks.{is_in}
-use Rattle.blue_walks.proofs.Reaching.{is_in-at}
 use Rattle.blue_walks.proofs.VisitSteps.{from_row, Visits-take}
 use Rattle.blue_walks.proofs.marks.visit.Goals as goal
 

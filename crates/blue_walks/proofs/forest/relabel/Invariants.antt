@@ -1,7 +1,0 @@
-use Rattle.std.proofs.Common.{◌≡◌, ◌==◌, ℕ, ◌<◌, ◌≤◌, cond, length, get_or}
-use Rattle.blue_walks.proofs.forest.relabel.Given as goal
-
-abbrev pub invariant-loop-label : goal.invariant-loop-label
-invariant-loop-label l =
-    ((k : ℕ) → k < l.label-index → get_or l.labels k 0 ≡ cond (get_or l.initial.labels k 0 == l.from) l.to (get_or l.initial.labels k 0))
-    × ((k : ℕ) → l.label-index ≤ k → get_or l.labels k 0 ≡ get_or l.initial.labels k 0)

@@ -2,7 +2,7 @@
 use Rattle.std.specs.Prelude.{◌≡◌, ℕ, ◌+◌, ◌-◌, ◌<◌, ◌≤◌, max, true, false, ◌⊎◌, if◌then◌else◌, List, [], ◌∷◌, length, take, slice_get, Option, Some, None}
 use Rattle.elem_core.specs.Tree.{Tree}
 use Rattle.stream_model.specs.declared.kind.Kind.{Kind}
-use Rattle.stream_model.specs.declared.kind.Kind.TheVariants.{Lines, Range, Empty, Failed, Buffer, RecoverNum, RecoverText, Valve, Merge, Concat, Interleave, MergeSorted, Zip, Broadcast, Balance, Partition, Unzip, Head}
+use Rattle.elem_core.specs.declared.function.MapFn.{MapFn}
 use Rattle.elem_core.specs.declared.why.Decider.{Decider}
 use Rattle.elem_core.specs.declared.why.Decider.TheVariants.{Stop}
 use Rattle.stream_model.specs.declared.kind.Policy.{Policy}
@@ -10,12 +10,12 @@ use Rattle.stream_model.specs.declared.kind.Policy.TheVariants.{Backpressure}
 use Rattle.stream_model.specs.declared.outcome.WireCount.{WireCount}
 use Rattle.stream_model.specs.Outlook.{Outlook}
 use Rattle.stream_model.specs.Machine.{run}
-use Rattle.stream_model.specs.Linear.{numbering, linear, begin_work}
+use Rattle.stream_model.specs.Linear.{Keeping, every_one, first_one, last_one, numbering, linear, begin_work, Role, reads_lines, gives_range, gives_nothing, gives_failure, works, trips, plugs_in, buffers, recovers, obeys, groups_by, splits_when, splits_after, merges, concats, interleaves, merges_sorted, zips, broadcasts, balances, partitions, unzips, sinks, role_of}
 use Rattle.stream_model.specs.Picks.{count_of}
 use Rattle.stream_model.specs.Graph.{Graph, Node}
 use Rattle.stream_model.specs.Fits.{CanTrip, valve_order}
 use Rattle.stream_model.specs.Node.{World}
-use Rattle.stream_picture.specs.OneWay.{OneWay, one_way}
+use Rattle.stream_picture.specs.OneWay.{OneWay, one_way_by}
 use Rattle.stream_picture.specs.View.{View, size_of, wanted, demand, total, EachWire, ins, outs}
 use Rattle.stream_picture.specs.Rests.{IsShut, OneToOne, ManyToOne, OneToMany}
 
@@ -129,32 +129,45 @@ module _ (g : Graph) (w : World) where
   buffer_lawful node n Backpressure is os = OneToOne (BufferLawful n) is os
   buffer_lawful node n p is os = OneToOne (DroppingLawful (w.moves node)) is os
 
-  -- how many elements of a list have the number i
-  abbrev numbered : ℕ → ℕ → Kind → ℕ → List Tree → ℕ
-  numbered node n (Partition m f) i l = length (run (linear w.book (numbering m f i)) (begin_work node Stop (numbering m f i)) l).gave
-  numbered node n k i l = 0
+  -- a sink of the first element asks for one; the others have no row
+  abbrev sink_lawful : Keeping → List View → Type 0
+  sink_lawful every_one is = Unit {0}
+  sink_lawful first_one is = EachWire (λ i. demand i ≤ 1) is
+  sink_lawful last_one is = Unit {0}
+
+  -- how many elements of a list have the number i of n
+  abbrev numbered : ℕ → ℕ → MapFn → ℕ → List Tree → ℕ
+  numbered node n f i l = length (run (linear w.book (numbering n f i)) (begin_work node Stop (numbering n f i)) l).gave
+
+  -- the row of a node with this role
+  abbrev pub RoleLawful : ℕ → Role → Decider → List View → List View → Type 0
+  RoleLawful node (reads_lines name) d is os = Unit {0}
+  RoleLawful node (gives_range low high) d is os = Unit {0}
+  RoleLawful node (gives_nothing b) d is os = Unit {0}
+  RoleLawful node (gives_failure b) d is os = Unit {0}
+  RoleLawful node (works v) d is os = stage_lawful (one_way_by g w node (works v) d) is os
+  RoleLawful node (trips order name n) d is os = stage_lawful (one_way_by g w node (trips order name n) d) is os
+  RoleLawful node (plugs_in name) d is os = stage_lawful (one_way_by g w node (plugs_in name) d) is os
+  RoleLawful node (buffers n p) d is os = buffer_lawful node n p is os
+  RoleLawful node (recovers t) d is os = stage_lawful (one_way_by g w node (recovers t) d) is os × OneToOne (RecoverLawful (w.moves node)) is os
+  RoleLawful node (obeys name) d is os = stage_lawful (one_way_by g w node (obeys name) d) is os × OneToOne (ValveLawful (w.moves node)) is os
+  RoleLawful node (groups_by n f chain) d is os = stage_lawful (one_way_by g w node (groups_by n f chain) d) is os
+  RoleLawful node (splits_when p chain j) d is os = stage_lawful (one_way_by g w node (splits_when p chain j) d) is os
+  RoleLawful node (splits_after p chain j) d is os = stage_lawful (one_way_by g w node (splits_after p chain j) d) is os
+  RoleLawful node (merges n) d is os = ManyToOne (MergeLawful (w.moves node)) is os
+  RoleLawful node (concats n) d is os = ManyToOne ConcatLawful is os
+  RoleLawful node (interleaves n s) d is os = ManyToOne InterleaveLawful is os
+  RoleLawful node merges_sorted d is os = ManyToOne SortedLawful is os
+  RoleLawful node zips d is os = ManyToOne ZipLawful is os
+  RoleLawful node (broadcasts n) d is os = OneToMany BroadcastLawful is os
+  RoleLawful node (balances n) d is os = OneToMany (BalanceLawful (w.moves node)) is os
+  RoleLawful node (partitions n f) d is os = OneToMany (PartitionLawful (numbered node n f)) is os
+  RoleLawful node unzips d is os = OneToMany BroadcastLawful is os
+  RoleLawful node (sinks file keeps) d is os = sink_lawful keeps is
 
   -- the row of a node of this kind
   abbrev pub RowLawful : ℕ → Kind → Decider → List View → List View → Type 0
-  RowLawful node (Lines name) d is os = Unit {0}
-  RowLawful node (Range low high) d is os = Unit {0}
-  RowLawful node (Empty b) d is os = Unit {0}
-  RowLawful node (Failed b) d is os = Unit {0}
-  RowLawful node (Buffer n p) d is os = buffer_lawful node n p is os
-  RowLawful node (Valve name) d is os = stage_lawful (one_way g w node (Valve name) d) is os × OneToOne (ValveLawful (w.moves node)) is os
-  RowLawful node (RecoverNum k) d is os = stage_lawful (one_way g w node (RecoverNum k) d) is os × OneToOne (RecoverLawful (w.moves node)) is os
-  RowLawful node (RecoverText l) d is os = stage_lawful (one_way g w node (RecoverText l) d) is os × OneToOne (RecoverLawful (w.moves node)) is os
-  RowLawful node (Merge n) d is os = ManyToOne (MergeLawful (w.moves node)) is os
-  RowLawful node (Concat n) d is os = ManyToOne ConcatLawful is os
-  RowLawful node (Interleave n s) d is os = ManyToOne InterleaveLawful is os
-  RowLawful node MergeSorted d is os = ManyToOne SortedLawful is os
-  RowLawful node Zip d is os = ManyToOne ZipLawful is os
-  RowLawful node (Broadcast n) d is os = OneToMany BroadcastLawful is os
-  RowLawful node Unzip d is os = OneToMany BroadcastLawful is os
-  RowLawful node (Balance n) d is os = OneToMany (BalanceLawful (w.moves node)) is os
-  RowLawful node (Partition n f) d is os = OneToMany (PartitionLawful (numbered node n (Partition n f))) is os
-  RowLawful node (Head name) d is os = EachWire (λ i. demand i ≤ 1) is
-  RowLawful node k d is os = stage_lawful (one_way g w node k d) is os
+  RowLawful node k d is os = RoleLawful node (role_of k) d is os
 
   -- every wire and every node is lawful, and each order of a valve was given by a trip
   pub record IsLawful (counts : List WireCount) (outlook : ℕ → Outlook) : Type 0 where

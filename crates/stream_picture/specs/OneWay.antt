@@ -1,12 +1,11 @@
 -- What a stage with one input and one output gives, as numbers of elements.
-use Rattle.std.specs.Prelude.{ℕ, ◌+◌, Bool, true, false, List, length, Option, Some, None}
+use Rattle.std.specs.Prelude.{ℕ, ◌+◌, Bool, true, false, List, [], length, Option, Some, None}
 use Rattle.elem_core.specs.Tree.{Tree}
 use Rattle.stream_model.specs.declared.kind.Kind.{Kind}
-use Rattle.stream_model.specs.declared.kind.Kind.TheVariants.{RecoverNum, RecoverText, Valve, GroupBy, SplitWhen, SplitAfter, ToLines, Head, Last, Ignore}
 use Rattle.elem_core.specs.declared.why.Decider.{Decider}
 use Rattle.stream_model.specs.Outlook.{ended}
 use Rattle.stream_model.specs.Machine.{Machine, Run, run, close, is_going}
-use Rattle.stream_model.specs.Linear.{Book, Work, linear, begin_work, work_of, grouping, expanding, folding, scanning, reducing, plugged}
+use Rattle.stream_model.specs.Linear.{Book, Work, linear, begin_work, grouping, expanding, folding, scanning, reducing, passing, plugged, Role, reads_lines, gives_range, gives_nothing, gives_failure, works, trips, plugs_in, buffers, recovers, obeys, groups_by, splits_when, splits_after, merges, concats, interleaves, merges_sorted, zips, broadcasts, balances, partitions, unzips, sinks, role_of, Side, at_source, at_stage, at_sink, side_by}
 use Rattle.stream_model.specs.Substreams.{Opening, by_key, before, behind, substreams, begin_subs}
 use Rattle.stream_model.specs.Graph.{Graph, steps_of}
 use Rattle.stream_model.specs.Node.{World, chain_of}
@@ -41,13 +40,15 @@ holds_at_end (reducing r a) = true
 holds_at_end (plugged name taken) = true
 holds_at_end _ = false
 
+-- by its side
+abbrev ends_here : Side → Bool
+ends_here at_source = false
+ends_here at_stage = false
+ends_here at_sink = true
+
 -- the kinds without an output
 abbrev pub is_sink : Kind → Bool
-is_sink (ToLines name) = true
-is_sink (Head name) = true
-is_sink (Last name) = true
-is_sink Ignore = true
-is_sink _ = false
+is_sink k = ends_here (side_by (role_of k))
 
 -- by its work
 abbrev of_work : Book → ℕ → Decider → Option Work → Option OneWay
@@ -60,15 +61,30 @@ of_subs g w node o chain =
     let c = chain_of node (steps_of chain g.chains) in Some (of_machine (substreams w.book c o) (begin_subs w.book c node) true)
 
 -- the stages with one input and one output, but for buffers; no sink
+abbrev pub one_way_by : Graph → World → ℕ → Role → Decider → Option OneWay
+one_way_by g w node (reads_lines name) d = None
+one_way_by g w node (gives_range low high) d = None
+one_way_by g w node (gives_nothing b) d = None
+one_way_by g w node (gives_failure b) d = None
+one_way_by g w node (works v) d = of_work w.book node d (Some v)
+one_way_by g w node (trips order name n) d = of_work w.book node d (Some passing)
+one_way_by g w node (plugs_in name) d = of_work w.book node d (Some (plugged name []))
+one_way_by g w node (buffers n p) d = None
+one_way_by g w node (recovers t) d = Some (as_it_is 1 true)
+one_way_by g w node (obeys name) d = Some (as_it_is 0 false)
+one_way_by g w node (groups_by n f chain) d = of_subs g w node (by_key n f) chain
+one_way_by g w node (splits_when p chain j) d = of_subs g w node (before p) chain
+one_way_by g w node (splits_after p chain j) d = of_subs g w node (behind p) chain
+one_way_by g w node (merges n) d = None
+one_way_by g w node (concats n) d = None
+one_way_by g w node (interleaves n s) d = None
+one_way_by g w node merges_sorted d = None
+one_way_by g w node zips d = None
+one_way_by g w node (broadcasts n) d = None
+one_way_by g w node (balances n) d = None
+one_way_by g w node (partitions n f) d = None
+one_way_by g w node unzips d = None
+one_way_by g w node (sinks file keeps) d = None
+
 abbrev pub one_way : Graph → World → ℕ → Kind → Decider → Option OneWay
-one_way g w node (ToLines name) d = None
-one_way g w node (Head name) d = None
-one_way g w node (Last name) d = None
-one_way g w node Ignore d = None
-one_way g w node (Valve name) d = Some (as_it_is 0 false)
-one_way g w node (RecoverNum k) d = Some (as_it_is 1 true)
-one_way g w node (RecoverText l) d = Some (as_it_is 1 true)
-one_way g w node (GroupBy n f c) d = of_subs g w node (by_key n f) c
-one_way g w node (SplitWhen p c j) d = of_subs g w node (before p) c
-one_way g w node (SplitAfter p c j) d = of_subs g w node (behind p) c
-one_way g w node k d = of_work w.book node d (work_of k)
+one_way g w node k d = one_way_by g w node (role_of k) d

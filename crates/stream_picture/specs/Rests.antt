@@ -1,16 +1,16 @@
 -- A picture that rests: no node has anything to do.
 use Rattle.std.specs.Prelude.{◌≡◌, ℕ, ◌+◌, ◌<◌, ◌≤◌, Bool, true, false, ◌⊎◌, List, [], ◌∷◌, take, slice_get, Option, Some, None, is_some}
 use Rattle.stream_model.specs.declared.kind.Kind.{Kind}
-use Rattle.stream_model.specs.declared.kind.Kind.TheVariants.{Lines, Range, Empty, Failed, Buffer, Merge, Concat, Interleave, MergeSorted, Zip, Broadcast, Balance, Partition, Unzip}
 use Rattle.elem_core.specs.declared.why.Decider.{Decider}
 use Rattle.stream_model.specs.declared.kind.Policy.TheVariants.{Backpressure}
 use Rattle.stream_model.specs.Outlook.{Outlook}
 use Rattle.stream_model.specs.declared.kind.Policy.{Policy}
 use Rattle.stream_model.specs.declared.outcome.WireCount.{WireCount}
+use Rattle.stream_model.specs.Linear.{Role, reads_lines, gives_range, gives_nothing, gives_failure, works, trips, plugs_in, buffers, recovers, obeys, groups_by, splits_when, splits_after, merges, concats, interleaves, merges_sorted, zips, broadcasts, balances, partitions, unzips, sinks, role_of}
 use Rattle.stream_model.specs.Graph.{Graph, Node}
 use Rattle.stream_model.specs.Node.{World}
 use Rattle.stream_model.specs.Picks.{buffered, empty_buffer, nothing_held}
-use Rattle.stream_picture.specs.OneWay.{OneWay, one_way, is_sink}
+use Rattle.stream_picture.specs.OneWay.{OneWay, one_way_by, is_sink}
 use Rattle.stream_picture.specs.View.{View, EachWire, SomeWire, ins, outs}
 
 -- how the wire stands for the node at its end
@@ -171,23 +171,35 @@ module _ (g : Graph) (w : World) where
   dropping_rests node n Backpressure is os = OneToOne (BufferRests n) is os
   dropping_rests node n p is os = OneToOne (λ i o. DroppingRests (nothing_held (buffered p n (w.moves node) i.list empty_buffer).held) i o) is os
 
-  -- the row of node `node`, which is of this kind
+  -- the row of node `node`, which has this role
+  abbrev pub RoleRests : ℕ → Role → Decider → List View → List View → Type 0
+  RoleRests node (reads_lines name) d is os = SourceRests os
+  RoleRests node (gives_range low high) d is os = SourceRests os
+  RoleRests node (gives_nothing b) d is os = SourceRests os
+  RoleRests node (gives_failure b) d is os = SourceRests os
+  RoleRests node (works v) d is os = stage_rests (one_way_by g w node (works v) d) is os
+  RoleRests node (trips order name n) d is os = stage_rests (one_way_by g w node (trips order name n) d) is os
+  RoleRests node (plugs_in name) d is os = stage_rests (one_way_by g w node (plugs_in name) d) is os
+  RoleRests node (buffers n p) d is os = dropping_rests node n p is os
+  RoleRests node (recovers t) d is os = stage_rests (one_way_by g w node (recovers t) d) is os
+  RoleRests node (obeys name) d is os = stage_rests (one_way_by g w node (obeys name) d) is os
+  RoleRests node (groups_by n f chain) d is os = stage_rests (one_way_by g w node (groups_by n f chain) d) is os
+  RoleRests node (splits_when p chain j) d is os = stage_rests (one_way_by g w node (splits_when p chain j) d) is os
+  RoleRests node (splits_after p chain j) d is os = stage_rests (one_way_by g w node (splits_after p chain j) d) is os
+  RoleRests node (merges n) d is os = ManyToOne MergeRests is os
+  RoleRests node (concats n) d is os = ManyToOne ConcatRests is os
+  RoleRests node (interleaves n s) d is os = ManyToOne InterleaveRests is os
+  RoleRests node merges_sorted d is os = ManyToOne SortedRests is os
+  RoleRests node zips d is os = ManyToOne ZipRests is os
+  RoleRests node (broadcasts n) d is os = OneToMany BroadcastRests is os
+  RoleRests node (balances n) d is os = OneToMany BalanceRests is os
+  RoleRests node (partitions n f) d is os = OneToMany PartitionRests is os
+  RoleRests node unzips d is os = OneToMany BroadcastRests is os
+  RoleRests node (sinks file keeps) d is os = SinkRests is
+
+  -- and which is of this kind
   abbrev pub RowRests : ℕ → Kind → Decider → List View → List View → Type 0
-  RowRests node (Lines name) d is os = SourceRests os
-  RowRests node (Range low high) d is os = SourceRests os
-  RowRests node (Empty b) d is os = SourceRests os
-  RowRests node (Failed b) d is os = SourceRests os
-  RowRests node (Buffer n p) d is os = dropping_rests node n p is os
-  RowRests node (Merge n) d is os = ManyToOne MergeRests is os
-  RowRests node (Concat n) d is os = ManyToOne ConcatRests is os
-  RowRests node (Interleave n s) d is os = ManyToOne InterleaveRests is os
-  RowRests node MergeSorted d is os = ManyToOne SortedRests is os
-  RowRests node Zip d is os = ManyToOne ZipRests is os
-  RowRests node (Broadcast n) d is os = OneToMany BroadcastRests is os
-  RowRests node Unzip d is os = OneToMany BroadcastRests is os
-  RowRests node (Balance n) d is os = OneToMany BalanceRests is os
-  RowRests node (Partition n f) d is os = OneToMany PartitionRests is os
-  RowRests node k d is os = stage_rests (one_way g w node k d) is os
+  RowRests node k d is os = RoleRests node (role_of k) d is os
 
   -- each node has all its wires shut, or meets its row
   abbrev pub Rests : List WireCount → (ℕ → Outlook) → Type 0

@@ -5,7 +5,7 @@ use Rattle.std.specs.List.{list_any}
 use Rattle.std.specs.Option.{option_or}
 use Rattle.elem_core.specs.Values.{same_text}
 use Rattle.stream_model.specs.declared.kind.Kind.{Kind}
-use Rattle.stream_model.specs.declared.kind.Kind.TheVariants.{Lines, Valve, TripShutdown, TripAbort, Plug, GroupBy, SplitWhen, SplitAfter, ToLines, Head, Last}
+use Rattle.stream_model.specs.Linear.{Mention, no_name, a_file, a_switch, a_trip, a_plug, a_chain, mention_of}
 use Rattle.blue_core.specs.declared.blueprint.Node.{Node}
 use Rattle.blue_core.specs.declared.blueprint.ChainDecl.{ChainDecl}
 use Rattle.blue_core.specs.declared.blueprint.WireDecl.{WireDecl}
@@ -33,13 +33,18 @@ abbrev pub first_again : List Claim → List Claim → Option (List ℕ)
 first_again before [] = None
 first_again before (c ∷ cs) = if list_any (same_claim c) before then Some (text_of c) else first_again (c ∷ before) cs
 
+-- the file that is named
+abbrev file_in : Mention → Option (List ℕ)
+file_in no_name = None
+file_in (a_file file) = Some file
+file_in (a_switch name) = None
+file_in (a_trip order name n) = None
+file_in (a_plug name) = None
+file_in (a_chain name) = None
+
 -- the file that a source or a sink opens
 abbrev pub file_of : Kind → Option (List ℕ)
-file_of (Lines file) = Some file
-file_of (ToLines file) = Some file
-file_of (Head file) = Some file
-file_of (Last file) = Some file
-file_of _ = None
+file_of k = file_in (mention_of k)
 
 -- the claims of a node: its name, and then its file
 abbrev pub opening : Option (List ℕ) → List Claim → List Claim
@@ -66,15 +71,18 @@ is_named name names = list_any (same_text name) names
 abbrev pub missing : List ℕ → List (List ℕ) → Option (List ℕ)
 missing name names = when (not (is_named name names)) name
 
+-- a switch or a chain that is named and not declared
+abbrev unknown_in : List (List ℕ) → List (List ℕ) → Mention → Option (List ℕ)
+unknown_in switches chains no_name = None
+unknown_in switches chains (a_file file) = None
+unknown_in switches chains (a_switch name) = missing name switches
+unknown_in switches chains (a_trip order name n) = missing name switches
+unknown_in switches chains (a_plug name) = None
+unknown_in switches chains (a_chain name) = missing name chains
+
 -- a switch or a chain that a node names and that is not declared
 abbrev pub unknown_at : List (List ℕ) → List (List ℕ) → Kind → Option (List ℕ)
-unknown_at switches chains (Valve name) = missing name switches
-unknown_at switches chains (TripShutdown name n) = missing name switches
-unknown_at switches chains (TripAbort name n) = missing name switches
-unknown_at switches chains (GroupBy n f name) = missing name chains
-unknown_at switches chains (SplitWhen p name j) = missing name chains
-unknown_at switches chains (SplitAfter p name j) = missing name chains
-unknown_at switches chains _ = None
+unknown_at switches chains k = unknown_in switches chains (mention_of k)
 
 -- a node that a wire names and that is not declared, its source first
 abbrev pub unknown_end : List (List ℕ) → WireDecl → Option (List ℕ)
@@ -86,10 +94,18 @@ unknown_name switches chains nodes wires =
     option_or (first_from (λ _ n. unknown_at switches (map (λ c. c.name) chains) n.kind) 0 nodes)
     (first_from (λ _ w. unknown_end (map (λ n. n.name) nodes) w) 0 wires)
 
+-- the plug that is named
+abbrev plug_in : Mention → Option (List ℕ)
+plug_in no_name = None
+plug_in (a_file file) = None
+plug_in (a_switch name) = None
+plug_in (a_trip order name n) = None
+plug_in (a_plug name) = Some name
+plug_in (a_chain name) = None
+
 -- the plug that a node names
 abbrev pub plug_of : Kind → Option (List ℕ)
-plug_of (Plug name) = Some name
-plug_of _ = None
+plug_of k = plug_in (mention_of k)
 
 abbrev pub unknown_plug_at : List (List ℕ) → Option (List ℕ) → Option (List ℕ)
 unknown_plug_at plugs (Some name) = missing name plugs

@@ -4,7 +4,7 @@ use Rattle.std.specs.Int.{is_power_of_two}
 use Rattle.std.specs.List.{list_all}
 use Rattle.std.specs.Option.{option_or, option_map}
 use Rattle.stream_model.specs.declared.kind.Kind.{Kind}
-use Rattle.stream_model.specs.declared.kind.Kind.TheVariants.{Grouped, Buffer, TripShutdown, TripAbort, GroupBy, Merge, Concat, Interleave, Broadcast, Balance, Partition}
+use Rattle.stream_model.specs.declared.kind.Kind.TheVariants.{Lines, Range, Empty, Failed, Map, Filter, FilterNot, TakeWhile, DropWhile, Take, Drop, Limit, Grouped, MapConcat, Fold, Scan, Reduce, Buffer, RecoverNum, RecoverText, Valve, TripShutdown, TripAbort, Plug, GroupBy, SplitWhen, SplitAfter, Merge, Concat, Interleave, MergeSorted, Zip, Broadcast, Balance, Partition, Unzip, ToLines, Head, Last, Ignore}
 use Rattle.stream_model.specs.declared.kind.TheConstants.{MAX_FAN}
 use Rattle.blue_core.specs.declared.limit.TheConstants.{MAX_HELD, MAX_COUNT, MAX_KEYS, MAX_LANE}
 use Rattle.blue_core.specs.declared.blueprint.Node.{Node}
@@ -18,20 +18,48 @@ use Rattle.blue_rules.specs.First.{first_from, when}
 abbrev pub is_within : ℕ → ℕ → ℕ → Bool
 is_within least most n = nat_le least n && nat_le n most
 
--- the sizes of a kind
+-- the sizes of a kind; of some there are none
 abbrev pub sizes_fit : Kind → Bool
+sizes_fit (Lines file) = true
+sizes_fit (Range low high) = true
+sizes_fit (Empty b) = true
+sizes_fit (Failed b) = true
+sizes_fit (Map f) = true
+sizes_fit (Filter p) = true
+sizes_fit (FilterNot p) = true
+sizes_fit (TakeWhile p) = true
+sizes_fit (DropWhile p) = true
+sizes_fit (Take n) = true
+sizes_fit (Drop n) = true
+sizes_fit (Limit n) = true
 sizes_fit (Grouped n) = is_within 1 MAX_HELD n
+sizes_fit (MapConcat x) = true
+sizes_fit (Fold o) = true
+sizes_fit (Scan o) = true
+sizes_fit (Reduce r) = true
 sizes_fit (Buffer n p) = is_within 1 MAX_HELD n
+sizes_fit (RecoverNum k) = true
+sizes_fit (RecoverText l) = true
+sizes_fit (Valve name) = true
 sizes_fit (TripShutdown name n) = is_within 1 MAX_COUNT n
 sizes_fit (TripAbort name n) = is_within 1 MAX_COUNT n
+sizes_fit (Plug name) = true
 sizes_fit (GroupBy n f name) = is_within 1 MAX_KEYS n
+sizes_fit (SplitWhen p name j) = true
+sizes_fit (SplitAfter p name j) = true
 sizes_fit (Merge n) = is_within 2 MAX_FAN n
 sizes_fit (Concat n) = is_within 2 MAX_FAN n
 sizes_fit (Interleave n s) = is_within 2 MAX_FAN n && is_within 1 MAX_COUNT s
+sizes_fit MergeSorted = true
+sizes_fit Zip = true
 sizes_fit (Broadcast n) = is_within 2 MAX_FAN n
 sizes_fit (Balance n) = is_within 2 MAX_FAN n
 sizes_fit (Partition n f) = is_within 2 MAX_FAN n
-sizes_fit k = true
+sizes_fit Unzip = true
+sizes_fit (ToLines file) = true
+sizes_fit (Head file) = true
+sizes_fit (Last file) = true
+sizes_fit Ignore = true
 
 -- the size of a lane, where a wire has one
 abbrev pub lane_fits : Option ℕ → Bool

@@ -6,7 +6,8 @@ use Rattle.elem_core.specs.Values.{same_text}
 use Rattle.stream_model.specs.declared.kind.Base.{Base}
 use Rattle.stream_model.specs.declared.kind.Base.TheVariants as base
 use Rattle.stream_model.specs.declared.kind.Kind.{Kind}
-use Rattle.stream_model.specs.declared.kind.Kind.TheVariants.{Lines, Range, Empty, Failed, Map, Filter, FilterNot, TakeWhile, DropWhile, Grouped, MapConcat, Fold, Scan, Reduce, RecoverNum, RecoverText, Plug, GroupBy, SplitWhen, SplitAfter, Zip, Partition, Unzip, ToLines, Head, Last, Ignore}
+use Rattle.stream_model.specs.declared.kind.Kind.TheVariants.{Lines, Range, Empty, Failed, Map, Filter, FilterNot, TakeWhile, DropWhile, Take, Drop, Limit, Grouped, MapConcat, Fold, Scan, Reduce, Buffer, RecoverNum, RecoverText, Valve, TripShutdown, TripAbort, Plug, GroupBy, SplitWhen, SplitAfter, Merge, Concat, Interleave, MergeSorted, Zip, Broadcast, Balance, Partition, Unzip, ToLines, Head, Last, Ignore}
+use Rattle.stream_model.specs.Linear.{Role, reads_lines, gives_range, gives_nothing, gives_failure, works, trips, plugs_in, buffers, recovers, obeys, groups_by, splits_when, splits_after, merges, concats, interleaves, merges_sorted, zips, broadcasts, balances, partitions, unzips, sinks, role_of}
 use Rattle.blue_core.specs.declared.blueprint.Step.{Step}
 use Rattle.blue_core.specs.declared.blueprint.ChainDecl.{ChainDecl}
 use Rattle.plug_core.specs.declared.head.PlugHead.{PlugHead}
@@ -62,55 +63,100 @@ base_type base.Num = num_type
 base_type base.Text = text_type
 
 -- the type of a source
+abbrev source_type_by : Role → Option Sort
+source_type_by (reads_lines name) = Some text_type
+source_type_by (gives_range low high) = Some num_type
+source_type_by (gives_nothing b) = Some (base_type b)
+source_type_by (gives_failure b) = Some (base_type b)
+source_type_by (works w) = None
+source_type_by (trips order name n) = None
+source_type_by (plugs_in name) = None
+source_type_by (buffers n p) = None
+source_type_by (recovers t) = None
+source_type_by (obeys name) = None
+source_type_by (groups_by n f chain) = None
+source_type_by (splits_when p chain j) = None
+source_type_by (splits_after p chain j) = None
+source_type_by (merges n) = None
+source_type_by (concats n) = None
+source_type_by (interleaves n s) = None
+source_type_by merges_sorted = None
+source_type_by zips = None
+source_type_by (broadcasts n) = None
+source_type_by (balances n) = None
+source_type_by (partitions n f) = None
+source_type_by unzips = None
+source_type_by (sinks file keeps) = None
+
 abbrev pub source_type : Kind → Option Sort
-source_type (Lines file) = Some text_type
-source_type (Range k m) = Some num_type
-source_type (Empty b) = Some (base_type b)
-source_type (Failed b) = Some (base_type b)
-source_type _ = None
+source_type k = source_type_by (role_of k)
+
+-- how a stage by its own function treats types: what it wants, what it gives whatever it takes, and what it gives for a type
+-- that it takes
+pub record Typing : Type 0 where
+  pub want : Option Want
+  pub fixed : Option Sort
+  pub gives : Sort → Sort
+
+-- one that gives the type that it takes, and that wants this
+abbrev wanting : Option Want → Typing
+wanting w = record { want = w; fixed = None; gives = λ t. t }
 
 module _ (plugs : List PlugHead) where
+  -- each kind by its own function; a kind that has none takes every type and gives it
+  abbrev pub typing_of : Kind → Typing
+  typing_of (Lines file) = wanting None
+  typing_of (Range low high) = wanting None
+  typing_of (Empty b) = wanting None
+  typing_of (Failed b) = wanting None
+  typing_of (Map g) = record { want = map_want g; fixed = map_fixed g; gives = map_gives g }
+  typing_of (Filter p) = wanting (Some (pred_want p))
+  typing_of (FilterNot p) = wanting (Some (pred_want p))
+  typing_of (TakeWhile p) = wanting (Some (pred_want p))
+  typing_of (DropWhile p) = wanting (Some (pred_want p))
+  typing_of (Take n) = wanting None
+  typing_of (Drop n) = wanting None
+  typing_of (Limit n) = wanting None
+  typing_of (Grouped n) = record { want = None; fixed = None; gives = seq_type }
+  typing_of (MapConcat x) = record { want = expand_want x; fixed = expand_fixed x; gives = expand_gives x }
+  typing_of (Fold o) = record { want = fold_want o; fixed = fold_fixed o; gives = fold_gives o }
+  typing_of (Scan o) = record { want = fold_want o; fixed = fold_fixed o; gives = fold_gives o }
+  typing_of (Reduce r) = record { want = reduce_want r; fixed = reduce_fixed r; gives = reduce_gives r }
+  typing_of (Buffer n p) = wanting None
+  typing_of (RecoverNum k) = record { want = Some (Is num_type); fixed = Some num_type; gives = λ t. num_type }
+  typing_of (RecoverText l) = record { want = Some (Is text_type); fixed = Some text_type; gives = λ t. text_type }
+  typing_of (Valve name) = wanting None
+  typing_of (TripShutdown name n) = wanting None
+  typing_of (TripAbort name n) = wanting None
+  typing_of (Plug name) = let p = plug_named name plugs in record { want = plug_want p; fixed = plug_fixed p; gives = plug_gives p }
+  typing_of (GroupBy n f name) = wanting None
+  typing_of (SplitWhen p name j) = wanting None
+  typing_of (SplitAfter p name j) = wanting None
+  typing_of (Merge n) = wanting None
+  typing_of (Concat n) = wanting None
+  typing_of (Interleave n s) = wanting None
+  typing_of MergeSorted = wanting None
+  typing_of Zip = wanting None
+  typing_of (Broadcast n) = wanting None
+  typing_of (Balance n) = wanting None
+  typing_of (Partition n f) = wanting None
+  typing_of Unzip = wanting (Some AnyPair)
+  typing_of (ToLines file) = wanting None
+  typing_of (Head file) = wanting None
+  typing_of (Last file) = wanting None
+  typing_of Ignore = wanting None
+
   -- what the function of a stage wants
   abbrev pub stage_want : Kind → Option Want
-  stage_want (Map g) = map_want g
-  stage_want (Filter p) = Some (pred_want p)
-  stage_want (FilterNot p) = Some (pred_want p)
-  stage_want (TakeWhile p) = Some (pred_want p)
-  stage_want (DropWhile p) = Some (pred_want p)
-  stage_want (MapConcat x) = expand_want x
-  stage_want (Fold o) = fold_want o
-  stage_want (Scan o) = fold_want o
-  stage_want (Reduce r) = reduce_want r
-  stage_want (RecoverNum k) = Some (Is num_type)
-  stage_want (RecoverText l) = Some (Is text_type)
-  stage_want (Plug name) = plug_want (plug_named name plugs)
-  stage_want Unzip = Some AnyPair
-  stage_want _ = None
+  stage_want k = (typing_of k).want
 
   -- what a stage gives for a type that it takes
   abbrev pub stage_gives : Kind → Sort → Sort
-  stage_gives (Map g) t = map_gives g t
-  stage_gives (Grouped n) t = seq_type t
-  stage_gives (MapConcat x) t = expand_gives x t
-  stage_gives (Fold o) t = fold_gives o t
-  stage_gives (Scan o) t = fold_gives o t
-  stage_gives (Reduce r) t = reduce_gives r t
-  stage_gives (RecoverNum k) t = num_type
-  stage_gives (RecoverText l) t = text_type
-  stage_gives (Plug name) t = plug_gives (plug_named name plugs) t
-  stage_gives _ t = t
+  stage_gives k t = (typing_of k).gives t
 
   -- what a kind gives whatever it takes
   abbrev pub fixed_type : Kind → Option Sort
-  fixed_type (Map g) = map_fixed g
-  fixed_type (MapConcat x) = expand_fixed x
-  fixed_type (Fold o) = fold_fixed o
-  fixed_type (Scan o) = fold_fixed o
-  fixed_type (Reduce r) = reduce_fixed r
-  fixed_type (RecoverNum k) = Some num_type
-  fixed_type (RecoverText l) = Some text_type
-  fixed_type (Plug name) = plug_fixed (plug_named name plugs)
-  fixed_type _ = None
+  fixed_type k = (typing_of k).fixed
 
   -- a stage by its own function
   abbrev pub step_typed : Kind → Sort → Typed
@@ -135,10 +181,32 @@ module _ (plugs : List PlugHead) where
   parted part t = if same_sort num_type part then Gives t else Clashes part (Is num_type)
 
   module _ (chains : List ChainDecl) where
+    -- what comes of a type at a node of this role, where this comes of it by the node's own function
+    abbrev pub typed_by : Role → Sort → Typed → Typed
+    typed_by (reads_lines name) t alone = alone
+    typed_by (gives_range low high) t alone = alone
+    typed_by (gives_nothing b) t alone = alone
+    typed_by (gives_failure b) t alone = alone
+    typed_by (works w) t alone = alone
+    typed_by (trips order name n) t alone = alone
+    typed_by (plugs_in name) t alone = alone
+    typed_by (buffers n p) t alone = alone
+    typed_by (recovers tree) t alone = alone
+    typed_by (obeys name) t alone = alone
+    typed_by (groups_by n g name) t alone = clash_or (map_want g) t (keyed (map_gives g t) (chain_typed (chain_named name chains) t))
+    typed_by (splits_when p name j) t alone = clash_or (Some (pred_want p)) t (chain_typed (chain_named name chains) t)
+    typed_by (splits_after p name j) t alone = clash_or (Some (pred_want p)) t (chain_typed (chain_named name chains) t)
+    typed_by (merges n) t alone = alone
+    typed_by (concats n) t alone = alone
+    typed_by (interleaves n s) t alone = alone
+    typed_by merges_sorted t alone = alone
+    typed_by zips t alone = alone
+    typed_by (broadcasts n) t alone = alone
+    typed_by (balances n) t alone = alone
+    typed_by (partitions n g) t alone = clash_or (map_want g) t (parted (map_gives g t) t)
+    typed_by unzips t alone = alone
+    typed_by (sinks file keeps) t alone = alone
+
     -- what comes of a type at a node with one input; at a sink and at a fan the type as it is
     abbrev pub stage_typed : Kind → Sort → Typed
-    stage_typed (GroupBy n g name) t = clash_or (map_want g) t (keyed (map_gives g t) (chain_typed (chain_named name chains) t))
-    stage_typed (SplitWhen p name j) t = clash_or (Some (pred_want p)) t (chain_typed (chain_named name chains) t)
-    stage_typed (SplitAfter p name j) t = clash_or (Some (pred_want p)) t (chain_typed (chain_named name chains) t)
-    stage_typed (Partition n g) t = clash_or (map_want g) t (parted (map_gives g t) t)
-    stage_typed k t = step_typed k t
+    stage_typed k t = typed_by (role_of k) t (step_typed k t)

@@ -11,6 +11,7 @@ use Rattle.stream_model.specs.declared.kind.Joining.{Joining}
 use Rattle.stream_model.specs.declared.kind.Joining.TheVariants as joining
 use Rattle.stream_model.specs.declared.kind.Kind.{Kind}
 use Rattle.stream_model.specs.declared.kind.Kind.TheVariants as k
+use Rattle.stream_model.specs.Linear.{Side, at_source, at_stage, at_sink, side_by, role_of}
 use Rattle.blue_spell.specs.Functions.{map_words, pred_words, expand_word, fold_word, reduce_word}
 
 abbrev pub base_word : Base → List ℕ
@@ -89,17 +90,15 @@ kind_words (k.Last f) = codes "last" ∷ f ∷ []
 kind_words k.Ignore = codes "ignore" ∷ []
 kind_words kind = stage_words kind
 
+-- the word of a side
+abbrev side_word : Side → List ℕ
+side_word at_source = codes "source"
+side_word at_stage = codes "stage"
+side_word at_sink = codes "sink"
+
 -- the word that a node's line begins with
 abbrev pub sort_word : Kind → List ℕ
-sort_word (k.Lines f) = codes "source"
-sort_word (k.Range a b) = codes "source"
-sort_word (k.Empty b) = codes "source"
-sort_word (k.Failed b) = codes "source"
-sort_word (k.ToLines f) = codes "sink"
-sort_word (k.Head f) = codes "sink"
-sort_word (k.Last f) = codes "sink"
-sort_word k.Ignore = codes "sink"
-sort_word kind = codes "stage"
+sort_word k = side_word (side_by (role_of k))
 
 -- a decider is written where it is not `stop`
 abbrev pub decider_words : Decider → List (List ℕ)

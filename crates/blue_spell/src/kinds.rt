@@ -1,6 +1,7 @@
 // The words of kinds and deciders.
-ghost use Rattle.std.specs.Prelude.{◌≡◌, ◌++◌, ◌∷◌, [], OnOk, codes};
+ghost use Rattle.std.specs.Prelude.{◌≡◌, ◌<◌, ◌++◌, ◌∷◌, [], OnOk, codes, length};
 ghost use Rattle.std.specs.Fmt.{decimal, signed_decimal};
+ghost use Rattle.stream_model.specs.declared.kind.Kind.{Kind};
 ghost use Rattle.blue_spell.specs.Spaced.{spaced};
 ghost use Rattle.blue_spell.specs.Functions.{map_words, pred_words};
 ghost use Rattle.blue_spell.specs.Kinds.{base_word, policy_word, joining_word, each_words, fan_words, edge_words, stage_words, kind_words, sort_word, decider_words};
@@ -33,6 +34,11 @@ pub fn write_kind(out: &mut Vec<u8>, kind: &Kind) -> Result<(), NoMemory>
         _ => write_stage(out, kind),
     }
 }
+
+/// Every kind has words, also one that is added: there is no kind whose spelling is empty.
+pub fn every_kind_is_spelled()
+    ensures { (kind : Kind) → 0 < length (kind_words kind) }
+{}
 
 // The stages that a chain may have, and then the others.
 fn write_stage(out: &mut Vec<u8>, kind: &Kind) -> Result<(), NoMemory>

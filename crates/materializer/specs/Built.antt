@@ -2,8 +2,9 @@
 use Rattle.std.specs.Prelude.{◌≡◌, ℕ, ◌==◌, Bool, true, false, not, ◌||◌, ◌&&◌, is_some, List, Option, None}
 use Rattle.std.specs.List.{list_any}
 use Rattle.stream_model.specs.declared.kind.Kind.{Kind}
-use Rattle.stream_model.specs.declared.kind.Kind.TheVariants.{Lines, Range, Empty, Failed, Map, Filter, FilterNot, TakeWhile, DropWhile, Take, Drop, Limit, MapConcat, Grouped, Fold, Reduce, Scan, Buffer, ToLines, Head, Last, Ignore}
-use Rattle.stream_model.specs.declared.kind.Policy.TheVariants.{Backpressure}
+use Rattle.stream_model.specs.declared.kind.Kind.TheVariants.{Lines, Range, Empty, Failed, Map, Filter, FilterNot, TakeWhile, DropWhile, Take, Drop, Limit, Grouped, MapConcat, Fold, Scan, Reduce, Buffer, RecoverNum, RecoverText, Valve, TripShutdown, TripAbort, Plug, GroupBy, SplitWhen, SplitAfter, Merge, Concat, Interleave, MergeSorted, Zip, Broadcast, Balance, Partition, Unzip, ToLines, Head, Last, Ignore}
+use Rattle.stream_model.specs.declared.kind.Policy.{Policy}
+use Rattle.stream_model.specs.declared.kind.Policy.TheVariants.{Backpressure, DropHead, DropTail, DropBuffer, DropNew, Fail}
 use Rattle.stream_model.specs.Graph.{Wire}
 use Rattle.blue_core.specs.declared.blueprint.Blueprint.{Blueprint}
 use Rattle.blue_core.specs.declared.blueprint.Node.{Node}
@@ -11,6 +12,15 @@ use Rattle.plug_core.specs.declared.head.PlugHead.{PlugHead}
 use Rattle.blue_rules.specs.First.{first_from, when}
 use Rattle.blue_check.specs.Fitness.{IsFit}
 use Rattle.blue_check.specs.Wires.{blueprint_wires}
+
+-- a buffer that holds its input back
+abbrev holds_back : Policy → Bool
+holds_back Backpressure = true
+holds_back DropHead = false
+holds_back DropTail = false
+holds_back DropBuffer = false
+holds_back DropNew = false
+holds_back Fail = false
 
 -- the kinds that have been built; of buffers only those that hold their input back
 abbrev pub is_built : Kind → Bool
@@ -26,17 +36,34 @@ is_built (DropWhile p) = true
 is_built (Take n) = true
 is_built (Drop n) = true
 is_built (Limit n) = true
-is_built (MapConcat x) = true
 is_built (Grouped n) = true
+is_built (MapConcat x) = true
 is_built (Fold o) = true
-is_built (Reduce r) = true
 is_built (Scan o) = true
-is_built (Buffer n Backpressure) = true
+is_built (Reduce r) = true
+is_built (Buffer n p) = holds_back p
+is_built (RecoverNum k) = false
+is_built (RecoverText l) = false
+is_built (Valve name) = false
+is_built (TripShutdown name n) = false
+is_built (TripAbort name n) = false
+is_built (Plug name) = false
+is_built (GroupBy n f name) = false
+is_built (SplitWhen p name j) = false
+is_built (SplitAfter p name j) = false
+is_built (Merge n) = false
+is_built (Concat n) = false
+is_built (Interleave n s) = false
+is_built MergeSorted = false
+is_built Zip = false
+is_built (Broadcast n) = false
+is_built (Balance n) = false
+is_built (Partition n f) = false
+is_built Unzip = false
 is_built (ToLines file) = true
 is_built (Head file) = true
 is_built (Last file) = true
 is_built Ignore = true
-is_built _ = false
 
 -- a lane that leads into this node
 abbrev pub leads_into : ℕ → Wire → Bool

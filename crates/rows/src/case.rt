@@ -1,0 +1,266 @@
+// A case, and how it is read from the lines of a file.
+use crate::text::{Fault, line_of, number, put_line};
+use elem_core::line::Line;
+use std::alloc::{AllocError, Global};
+use stream_io::fail_at::{FailAt, Op};
+use stream_io::named_file::NamedFile;
+
+/// What is tried.
+#[derive(Drop, Clone, Copy)]
+pub enum Kind {
+    /// A whole call of the program.
+    Call,
+    /// A text is read, and what it says is printed.
+    Print,
+    /// A text is read, and what it says is checked, where so many plugs named `dedup` are handed in.
+    Check(u32),
+}
+
+/// Whether a case is to pass.
+#[derive(Drop, Clone, Copy, PartialEq, Eq)]
+pub enum Verdict {
+    Passes,
+    Fails,
+    Malformed,
+}
+
+/// What may come.
+#[derive(Drop)]
+pub struct Wanted {
+    pub code: u32,
+    pub said: Vec<u8>,
+    /// The files that differ from those before.
+    pub files: Vec<NamedFile>,
+    /// Wires, and how many elements at most were sent on each.
+    pub most: Vec<(u32, u32)>,
+}
+
+/// One case.
+#[derive(Drop)]
+pub struct Case {
+    pub name: Vec<u8>,
+    pub kind: Kind,
+    pub words: Vec<Line>,
+    pub files: Vec<NamedFile>,
+    pub fails: Vec<FailAt>,
+    pub console_fails: Vec<u32>,
+    pub steps: Vec<u32>,
+    pub room: u32,
+    pub text: Vec<u8>,
+    pub wanted: Vec<Wanted>,
+    pub verdict: Verdict,
+    pub is_malformed: bool,
+    part: Part,
+}
+
+/// To what the lines that follow belong.
+#[derive(Drop, Clone, Copy)]
+enum Part {
+    Nothing,
+    Words,
+    File,
+    Text,
+    Said,
+    After,
+}
+
+impl Case {
+    fn new(alloc: Global, name: &[u8]) -> Result<Case, Fault> {
+        let mut words = Vec::new(alloc);
+        words.push(line_of(alloc, b"log.blue")?)?;
+        Ok(Case {
+            name: Vec::from_slice(alloc, name)?,
+            kind: Kind::Call,
+            words,
+            files: Vec::new(alloc),
+            fails: Vec::new(alloc),
+            console_fails: Vec::new(alloc),
+            steps: Vec::new(alloc),
+            room: 100_000,
+            text: Vec::new(alloc),
+            wanted: Vec::new(alloc),
+            verdict: Verdict::Passes,
+            is_malformed: false,
+            part: Part::Nothing,
+        })
+    }
+
+    /// Takes a line behind the one that names the case. One that has not the form makes the case malformed.
+    fn take_line(&mut self, alloc: Global, line: &[u8]) -> Result<(), AllocError> {
+        let taken = match line {
+            [] | [b'#', ..] => Ok(()),
+            [b'|', content @ ..] => self.take_content(alloc, content),
+            _ => self.take_heading(alloc, line),
+        };
+        match taken {
+            Ok(()) => Ok(()),
+            Err(Fault::Malformed) => {
+                self.is_malformed = true;
+                Ok(())
+            }
+            Err(Fault::NoMemory) => Err(AllocError),
+        }
+    }
+
+    fn take_content(&mut self, alloc: Global, content: &[u8]) -> Result<(), Fault> {
+        match self.part {
+            Part::Nothing => Err(Fault::Malformed),
+            Part::Words => self.take_word(alloc, content),
+            Part::File => put_file_line(&mut self.files, content),
+            Part::Text => put_line(&mut self.text, content),
+            Part::Said => match self.wanted.last_mut() {
+                Some(wanted) => put_line(&mut wanted.said, content),
+                None => Err(Fault::Malformed),
+            },
+            Part::After => match self.wanted.last_mut() {
+                Some(wanted) => put_file_line(&mut wanted.files, content),
+                None => Err(Fault::Malformed),
+            },
+        }
+    }
+
+    /// Takes a line of the part of words: one word, with its escapes.
+    fn take_word(&mut self, alloc: Global, content: &[u8]) -> Result<(), Fault> {
+        let mut word = Vec::new(alloc);
+        put_line(&mut word, content)?;
+        let word = word.strip_suffix(b"\n").ok_or(Fault::Malformed)?;
+        self.words.push(line_of(alloc, word)?)?;
+        Ok(())
+    }
+
+    fn take_heading(&mut self, alloc: Global, line: &[u8]) -> Result<(), Fault> {
+        let mut words = Vec::new(alloc);
+        for word in line.split(|byte| *byte == b' ') {
+            words.push(word)?;
+        }
+        self.part = Part::Nothing;
+        match words.as_slice() {
+            [b"words"] => {
+                self.words.clear();
+                self.part = Part::Words;
+            }
+            [b"file", name] => {
+                add_file(alloc, &mut self.files, name)?;
+                self.part = Part::File;
+            }
+            [b"after", name] => self.add_after(alloc, name)?,
+            [b"says", code] => self.add_wanted(alloc, number(code)?)?,
+            [b"sent", wire, b"at", b"most", count] => {
+                self.add_most(number(wire)?, number(count)?)?;
+            }
+            _ => self.take_setting(alloc, &words)?,
+        }
+        Ok(())
+    }
+
+    fn take_setting(&mut self, alloc: Global, words: &[&[u8]]) -> Result<(), Fault> {
+        match words {
+            [b"text"] => self.set_kind(Kind::Print)?,
+            [b"blueprint", b"with", count, b"plugs"] => self.set_kind(Kind::Check(number(count)?))?,
+            [b"fails", b"console", nth] => self.console_fails.push(number(nth)?)?,
+            [b"fails", op, name, nth] => {
+                let name = line_of(alloc, name)?;
+                let op = operation(op)?;
+                let nth = number(nth)?;
+                self.fails.push(FailAt { name, op, nth })?;
+            }
+            [b"step", step] => self.steps.push(number(step)?.max(1))?,
+            [b"room", room] => self.room = number(room)?,
+            [b"must", b"fail"] => self.verdict = Verdict::Fails,
+            [b"must", b"be", b"malformed"] => self.verdict = Verdict::Malformed,
+            _ => return Err(Fault::Malformed),
+        }
+        Ok(())
+    }
+
+    /// Sets another kind than a whole call. It reads no file, so that one step is as good as another.
+    fn set_kind(&mut self, kind: Kind) -> Result<(), AllocError> {
+        self.kind = kind;
+        self.part = Part::Text;
+        self.steps.push(1)?;
+        Ok(())
+    }
+
+    fn add_wanted(&mut self, alloc: Global, code: u32) -> Result<(), AllocError> {
+        self.wanted.push(Wanted {
+            code,
+            said: Vec::new(alloc),
+            files: Vec::new(alloc),
+            most: Vec::new(alloc),
+        })?;
+        self.part = Part::Said;
+        Ok(())
+    }
+
+    fn add_after(&mut self, alloc: Global, name: &[u8]) -> Result<(), Fault> {
+        let wanted = self.wanted.last_mut().ok_or(Fault::Malformed)?;
+        add_file(alloc, &mut wanted.files, name)?;
+        self.part = Part::After;
+        Ok(())
+    }
+
+    fn add_most(&mut self, wire: u32, count: u32) -> Result<(), Fault> {
+        let wanted = self.wanted.last_mut().ok_or(Fault::Malformed)?;
+        wanted.most.push((wire, count))?;
+        Ok(())
+    }
+
+    /// Ends the reading: without a step each of four is tried, and a case that wants nothing is malformed.
+    fn finish(&mut self) -> Result<(), AllocError> {
+        if self.steps.is_empty() {
+            self.steps.extend_from_slice(&[1, 2, 3, 4096])?;
+        }
+        self.is_malformed = self.is_malformed || self.wanted.is_empty();
+        Ok(())
+    }
+}
+
+/// The cases of a file, in order. A line that has not the form makes the case malformed in which it stands.
+pub fn read_cases(alloc: Global, text: &[u8]) -> Result<Vec<Case>, Fault> {
+    let mut cases: Vec<Case> = Vec::new(alloc);
+    for line in text.split(|byte| *byte == b'\n') {
+        if let Some(name) = line.strip_prefix(b"case ") {
+            cases.push(Case::new(alloc, name)?)?;
+        } else if let Some(case) = cases.last_mut() {
+            case.take_line(alloc, line)?;
+        } else if !is_passed_over(line) {
+            let mut case = Case::new(alloc, b"what stands before the first case")?;
+            case.is_malformed = true;
+            cases.push(case)?;
+        }
+    }
+    for i in 0..cases.len() {
+        cases[i].finish()?;
+    }
+    Ok(cases)
+}
+
+/// Whether a line says nothing.
+fn is_passed_over(line: &[u8]) -> bool {
+    matches!(line, [] | [b'#', ..])
+}
+
+fn operation(word: &[u8]) -> Result<Op, Fault> {
+    match word {
+        b"open_in" => Ok(Op::OpenIn),
+        b"open_out" => Ok(Op::OpenOut),
+        b"read" => Ok(Op::Read),
+        b"write" => Ok(Op::Write),
+        _ => Err(Fault::Malformed),
+    }
+}
+
+fn add_file(alloc: Global, files: &mut Vec<NamedFile>, name: &[u8]) -> Result<(), Fault> {
+    files.push(NamedFile {
+        name: line_of(alloc, name)?,
+        bytes: Vec::new(alloc),
+    })?;
+    Ok(())
+}
+
+fn put_file_line(files: &mut Vec<NamedFile>, content: &[u8]) -> Result<(), Fault> {
+    match files.last_mut() {
+        Some(file) => put_line(&mut file.bytes, content),
+        None => Err(Fault::Malformed),
+    }
+}

@@ -1,0 +1,106 @@
+//! The program `rows`: it tries the cases of the files that its words name, and says how many passed.
+#![tactic(auto)]
+
+mod attempt;
+mod case;
+mod show;
+mod text;
+
+use attempt::first_miss;
+use case::{Case, Verdict, read_cases};
+use show::put_miss;
+use std::alloc::{AllocError, Global};
+use std::process::ExitCode;
+use std::rt::{Env, Files};
+use std::{env, fs, io};
+use text::Fault;
+
+/// How many cases went as they should, how many did not, and what is told of those.
+#[derive(Drop)]
+struct Count {
+    passed: u64,
+    failed: u64,
+    told: Vec<u8>,
+}
+
+impl Count {
+    /// Tries a case of this file.
+    fn add(&mut self, alloc: Global, file: &str, case: &Case) -> Result<(), Fault> {
+        let miss = if case.is_malformed {
+            None
+        } else {
+            first_miss(alloc, case)?
+        };
+        let came = match &miss {
+            _ if case.is_malformed => Verdict::Malformed,
+            Some(_) => Verdict::Fails,
+            None => Verdict::Passes,
+        };
+        if came == case.verdict {
+            self.passed = self.passed.saturating_add(1);
+            return Ok(());
+        }
+        self.fail(file, &case.name, came)?;
+        if let Some(miss) = &miss {
+            put_miss(&mut self.told, case, miss)?;
+        }
+        Ok(())
+    }
+
+    /// Tells of what did not go as it should.
+    fn fail(&mut self, file: &str, name: &[u8], came: Verdict) -> Result<(), AllocError> {
+        self.failed = self.failed.saturating_add(1);
+        let came: &[u8] = match came {
+            Verdict::Passes => b"passes and must not: ",
+            Verdict::Fails => b"fails: ",
+            Verdict::Malformed => b"is malformed: ",
+        };
+        self.told.extend_from_slice(came)?;
+        self.told.extend_from_slice(file.as_bytes())?;
+        self.told.extend_from_slice(b": ")?;
+        self.told.extend_from_slice(name)?;
+        self.told.push(b'\n')?;
+        Ok(())
+    }
+
+    /// Tries the cases of a file. One that can't be read, or has no case, fails.
+    fn add_file<R: Files + AllocGlobal>(&mut self, rt: &R, file: &str) -> Result<(), Fault> {
+        let alloc = rt.alloc();
+        let Ok(text) = fs::read(rt, file) else {
+            return Ok(self.fail(file, b"the file cannot be read", Verdict::Fails)?);
+        };
+        let cases = read_cases(alloc, &text)?;
+        if cases.is_empty() {
+            self.fail(file, b"the file has no case", Verdict::Malformed)?;
+        }
+        for case in &cases {
+            self.add(alloc, file, case)?;
+        }
+        Ok(())
+    }
+}
+
+/// Tries the cases of all files that the words name.
+fn count_all<R: Env + Files + AllocGlobal>(rt: &R) -> io::Result<Count> {
+    let mut count = Count {
+        passed: 0,
+        failed: 0,
+        told: Vec::new(rt.alloc()),
+    };
+    let mut is_name = true;
+    for word in env::args(rt)? {
+        if !is_name && count.add_file(rt, word.as_str()).is_err() {
+            return Err(AllocError.into());
+        }
+        is_name = false;
+    }
+    Ok(count)
+}
+
+fn main(rt: HostRuntime) -> io::Result<ExitCode> {
+    let count = count_all(&rt)?;
+    rt.write_all(&count.told)?;
+    let Count { passed, failed, .. } = count;
+    println!(rt; "{passed} passed, {failed} failed")?;
+    Ok(ExitCode::from(if failed == 0 { 0 } else { 1 }))
+}

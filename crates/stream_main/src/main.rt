@@ -2,8 +2,6 @@
 #![tactic(auto)]
 
 #[cfg(test)]
-mod rows;
-#[cfg(test)]
 mod tests;
 
 use elem_core::line::Line;

@@ -5,5 +5,3 @@ mod declarations;
 pub mod laws;
 pub mod parse;
 pub mod print;
-#[cfg(test)]
-mod tests;

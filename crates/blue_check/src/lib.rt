@@ -8,9 +8,3 @@ pub mod fault;
 mod judge;
 mod picks;
 mod rules;
-#[cfg(test)]
-mod tests;
-#[cfg(test)]
-mod tests_of_ports;
-#[cfg(test)]
-mod tests_of_types;

@@ -9,10 +9,8 @@ use Rattle.port_core.specs.declared.view.InView.{InView}
 use Rattle.port_core.specs.declared.view.InView.TheVariants.{Idle, Waiting, Over, Left}
 use Rattle.port_core.specs.declared.view.OutView.{OutView}
 use Rattle.port_core.specs.declared.view.OutView.TheVariants.{Unasked, Asked, Shut, Refused}
-use Rattle.port_core.specs.View.{View, in_at, out_at, OneOneOf, IsInOpen, IsOutOpen, acted_all}
-use Rattle.port_core.specs.declared.act.Act.{Act}
-use Rattle.port_core.specs.declared.act.Act.TheVariants.{Pull}
-use Rattle.port_core.specs.Call.{Call, starts, asks, brings, cancels, CallAllowed, seen, Obeys, Meets}
+use Rattle.port_core.specs.View.{View, in_at, out_at, OneOneOf, IsInOpen, IsOutOpen}
+use Rattle.port_core.specs.Call.{Call, starts, asks, brings, cancels, CallAllowed}
 use Rattle.stream_model.specs.Machine.{going, Run, Machine}
 use Rattle.stream_model.specs.Linear.{Stage, Work}
 use Rattle.stage_law.specs.Law.{Law}
@@ -23,7 +21,7 @@ use Rattle.stream_picture.specs.OneWay.{holds_at_end}
 use Rattle.stage_law.proofs.OwnRows.{waiting_rests, idle_rests, closed_rests}
 use Rattle.stage_linear.specs.declared.phase.Phase.{Phase}
 use Rattle.stage_linear.specs.declared.phase.Phase.TheVariants.{New, Open, Closed}
-use Rattle.stage_linear.specs.States.{Logic, held, held_in, row, row_in, unasked_ports, IsReady}
+use Rattle.stage_linear.specs.States.{Logic, held, held_in, row, row_in}
 
 module _ (m : Machine Stage Tree) (start : Run Stage Tree) (took gave : List Item) where
   waiting : (h : List Tree) (s : Stage) → h ≡ [] → (law : Law m start (owing (record { gave = h; state = going s })) Waiting Asked took gave) → OwnRests m start (holds_at_end s.work) Waiting Asked law.in_list law.out_list
@@ -109,40 +107,3 @@ open_lists p over k w call (x ∷ u ∷ xs) ys n s h r = absurd r
 
 pub called_open : (l : Logic) (call : Call) (v : View) → (l.phase ≡ New → ⊥) → (call ≡ starts → ⊥) → CallAllowed call v → row l v → l.phase ≡ Open
 called_open l call v n s h r = open_lists l.phase l.over l.pending l.stage.work call v.ins v.outs n s h r
-
--- ---- from one call to the next
-
-pub ready_new : (l : Logic) → l.phase ≡ New → Meets starts (row l)
-ready_new l h = (unasked_ports, (((refl, tt), (refl, tt)), rw h tt))
-
-pub ready_started : (old new : Logic) (acts : List Act) → old.phase ≡ New → Obeys starts (row old) (row new) acts → (new.phase ≡ New → ⊥) → acts ≡ [] → IsReady new
-ready_started old new acts h o n none =
-    let r : row new (acted_all unasked_ports acts) = o.row unasked_ports ((refl, tt), (refl, tt)) (rw h tt) in
-    let now : row new unasked_ports = rw none at r in
-    (called_open new (asks 0) unasked_ports n (λ e. cc) refl now, now)
-
-pub ready_asks : (l : Logic) → IsReady l → Meets (asks 0) (row l)
-ready_asks l h = (unasked_ports, (refl, h.1))
-
-abbrev waiting_ports : View
-waiting_ports = record { ins = Waiting ∷ []; outs = Asked ∷ [] }
-
-asked_row : (old new : Logic) (acts : List Act) → IsReady old → Obeys (asks 0) (row old) (row new) acts → acts ≡ Pull 0 ∷ [] → row new waiting_ports
-asked_row old new acts h o is =
-    let r : row new (acted_all (seen (asks 0) unasked_ports) acts) = o.row unasked_ports refl h.1 in
-    rw is at r
-
-pub asked_meets : (old new : Logic) (acts : List Act) (e : Tree) → IsReady old → Obeys (asks 0) (row old) (row new) acts → acts ≡ Pull 0 ∷ [] → Meets (brings 0 (item.Elem e)) (row new)
-asked_meets old new acts e h o is = (waiting_ports, (refl, asked_row old new acts h o is))
-
-pub asked_open : (old new : Logic) (acts : List Act) (e : Tree) → IsReady old → Obeys (asks 0) (row old) (row new) acts → (new.phase ≡ New → ⊥) → acts ≡ Pull 0 ∷ [] → new.phase ≡ Open
-asked_open old new acts e h o n is = called_open new (brings 0 (item.Elem e)) waiting_ports n (λ x. cc) refl (asked_row old new acts h o is)
-
-pub ready_ends : (l : Logic) → IsReady l → Meets (brings 0 item.Ended) (row l)
-ready_ends l h = (unasked_ports, (tt, h.1))
-
-pub ready_fails : (l : Logic) (c : Cause) → IsReady l → Meets (brings 0 (item.Failed c)) (row l)
-ready_fails l c h = (unasked_ports, (tt, h.1))
-
-pub ready_cancels : (l : Logic) → IsReady l → Meets (cancels 0) (row l)
-ready_cancels l h = (unasked_ports, (tt, h.1))

@@ -117,10 +117,3 @@ acts_by Restart s n why = Pull 0 ∷ []
 -- and what it does: it fails, or it asks again
 abbrev pub decided_acts : Logic → ℕ → Why → List Act
 decided_acts l n why = acts_by l.stage.decider l.stage n why
-
--- it was started, nobody asks it, and it has not asked
-abbrev pub unasked_ports : View
-unasked_ports = record { ins = Idle ∷ []; outs = Unasked ∷ [] }
-
-abbrev pub IsReady : Logic → Type 0
-IsReady l = (l.phase ≡ Open) × row l unasked_ports

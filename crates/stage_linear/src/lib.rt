@@ -5,5 +5,3 @@ pub mod laws;
 pub mod logic;
 pub mod phase;
 pub mod task;
-#[cfg(test)]
-mod tests;

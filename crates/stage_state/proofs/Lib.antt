@@ -2,4 +2,3 @@ pub mod Buffers
 pub mod Finishes
 pub mod Pushes
 pub mod Rows
-pub mod Steps

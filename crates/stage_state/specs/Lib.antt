@@ -5,4 +5,3 @@ pub mod Outcomes
 pub mod Holding
 pub mod Parts
 pub mod Resting
-pub mod Ready

@@ -7,5 +7,3 @@ pub mod keep;
 pub mod keeping;
 pub mod laws;
 pub mod logic;
-#[cfg(test)]
-mod tests;

@@ -1,5 +1,6 @@
 -- Closings that follow one another.
-use Rattle.std.proofs.Common.{◌≡◌, ◌≢◌, ℕ, inl, inr, List, [], ◌∷◌, ◌++◌, map, sym, ap, ◌∙◌, subst}
+use Rattle.std.proofs.Common.{◌≡◌, ◌≢◌, ℕ, inl, inr, List, [], ◌∷◌, ◌++◌, map, refl, sym, ap, ◌∙◌, subst}
+use Rattle.std.specs.Prelude.{IsTrue}
 use Rattle.std.specs.List.{Contains}
 use Rattle.std.proofs.lemmas.List.{map-append}
 use Rattle.std.proofs.lemmas.List.Elements.{All-nil, All-push, Contains-append_left, Contains-push}
@@ -8,6 +9,7 @@ use Rattle.stream_io.specs.State.{FolderState, SourceState, DrainState, SameFile
 use Rattle.run_files.specs.Names.{drain_names, Distinct}
 use Rattle.run_files.specs.Closing.{Adds, Keeps, ClosesAll}
 use Rattle.run_files.proofs.Counts.{grew_same, grew_two, quiet_same, quiet_two, same_name}
+use Rattle.run_files.proofs.Openings.{tells_still}
 use Rattle.run_files.proofs.Lists.{all_with, all_left, all_last, contains_none, contains_map, distinct_left, distinct_last}
 
 module _ {X : Type 0} (name : X → List ℕ) (amount : X → ℕ) where
@@ -62,18 +64,26 @@ module _ {X : Type 0} (name : X → List ℕ) (amount : X → ℕ) where
 
 -- where no drain is closed no file is changed
 pub keeps_none : (s t : FolderState) → SameFiles s t → Keeps s t []
-keeps_none s t same = record {
-  told = same.told;
-  each = λ d tells. All-nil _;
-  alike = λ held all tells. All-nil _;
-  others = λ tells n no. same.files tells n;
-}
+keeps_none s t same =
+    let told : IsTrue t.tells → IsTrue s.tells = tells_still s t (sym same.telling) in
+    record {
+      told = told;
+      still = λ e. same.telling;
+      each = λ d tells. All-nil _;
+      alike = λ held all tells. All-nil _;
+      others = λ tells n no. same.files (told tells) n;
+    }
+
+no_push : (os : List DrainState) (o : DrainState) → os ++ o ∷ [] ≡ [] → ⊥
+no_push [] o e = cc
+no_push (p ∷ ps) o e = cc
 
 pub keeps_more : (s t u : FolderState) (os : List DrainState) (o : DrainState) → Keeps s t os → ClosesDrain t u o → Keeps s u (os ++ o ∷ [])
 keeps_more s t u os o was closed =
     let names : drain_names (os ++ o ∷ []) ≡ drain_names os ++ o.name ∷ [] = map-append (λ (p : DrainState). p.name) os (o ∷ []) in
     record {
       told = λ tells. was.told (closed.told tells);
+      still = λ e. absurd (no_push os o e);
       each = λ d tells.
           let apart : Distinct (drain_names os ++ o.name ∷ []) = subst (λ ns. Distinct ns) names d in
           let new : ¬ (Contains (drain_names os) o.name) = distinct_last (drain_names os) o.name apart in
@@ -99,15 +109,21 @@ keeps_more s t u os o was closed =
 
 -- files that no drain's closing changed before are as they were then
 pub keeps_before : (s t u : FolderState) (os : List DrainState) → SameFiles s t → Keeps t u os → Keeps s u os
-keeps_before s t u os same was = record {
-  told = λ tells. same.told (was.told tells);
-  each = was.each;
-  alike = was.alike;
-  others = λ tells n no. was.others tells n no ∙ same.files (was.told tells) n;
-}
+keeps_before s t u os same was =
+    let told : IsTrue t.tells → IsTrue s.tells = tells_still s t (sym same.telling) in
+    record {
+      told = λ tells. told (was.told tells);
+      still = λ e. was.still e ∙ same.telling;
+      each = was.each;
+      alike = was.alike;
+      others = λ tells n no. was.others tells n no ∙ same.files (told (was.told tells)) n;
+    }
 
 pub same_files : (s t : FolderState) → Keeps s t [] → SameFiles s t
-same_files s t none = record { told = none.told; files = λ tells n. none.others tells n (contains_none n) }
+same_files s t none = record {
+  telling = none.still refl;
+  files = λ tells n. none.others (tells_still t s (none.still refl) tells) n (contains_none n);
+}
 
 -- ---- sources and drains
 

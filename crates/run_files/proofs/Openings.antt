@@ -9,45 +9,56 @@ use Rattle.run_files.specs.Opening.{AtStart, HoldsNone, Empties, OpensAll}
 use Rattle.run_files.proofs.Counts.{quiet_same, quiet_two, same_name}
 use Rattle.run_files.proofs.Lists.{contains_none}
 
--- a folder that tells still told before, so that a handle stands as it stood
-pub source_stays : (s t u : FolderState) (i : SourceState) → (IsTrue u.tells → IsTrue t.tells) → AtStart s t i → AtStart s u i
-source_stays s t u i told at = record { there = λ h. at.there (told h); whole = λ h. at.whole (told h); given = at.given; faults = at.faults }
-
-pub sources_stay : (s t u : FolderState) (is : List SourceState) → (IsTrue u.tells → IsTrue t.tells) → All (AtStart s t) is → All (AtStart s u) is
-sources_stay s t u is told all = All-weaker (AtStart s t) (AtStart s u) (λ i at. source_stays s t u i told at) is all
-
+-- a folder that tells still told before, so that a drain stands as it stood
 pub drains_stay : (t u : FolderState) (os : List DrainState) → (IsTrue u.tells → IsTrue t.tells) → All (HoldsNone t) os → All (HoldsNone u) os
 drains_stay t u os told all = All-weaker (HoldsNone t) (HoldsNone u) (λ o at. record { holds = λ h. at.holds (told h); faults = at.faults }) os all
 
 pub empties_none : (s : FolderState) → Empties s s []
-empties_none s = record { told = λ h. h; emptied = λ h. All-nil _; others = λ h n no. refl }
+empties_none s = record { told = λ h. h; still = λ e. refl; emptied = λ h. All-nil _; others = λ h n no. refl }
+
+-- where no file was emptied, or changed, the folder still tells
+pub tells_still : (s t : FolderState) → s.tells ≡ t.tells → IsTrue t.tells → IsTrue s.tells
+tells_still s t e h = subst (λ b. IsTrue b) (sym e) h
 
 -- one input more
-pub opens_source : (s t u : FolderState) (inputs : List (List ℕ)) (n : List ℕ) (is : List SourceState) (i : SourceState) → OpensAll s t inputs [] is [] → OpensSource t u n i → SameFiles t u → SameFaults t u → SameRefusals t u → OpensAll s u (inputs ++ n ∷ []) [] (is ++ i ∷ []) []
+pub opens_source : (s t u : FolderState) (inputs : List (List ℕ)) (n : List ℕ) (is : List SourceState) (i : SourceState) → OpensAll s t inputs [] is [] → OpensSource t n i → SameFiles t u → SameFaults t u → SameRefusals t u → OpensAll s u (inputs ++ n ∷ []) [] (is ++ i ∷ []) []
 opens_source s t u inputs n is i was opened same faults refusals = record {
   input_names = map-append (λ (j : SourceState). j.name) is (i ∷ []) ∙ ap (λ l. l ++ i.name ∷ []) was.input_names ∙ ap (λ m. inputs ++ m ∷ []) opened.name_is;
   sources =
-      All-push (AtStart s u) is i (sources_stay s t u is same.told was.sources)
-      (let file : IsTrue u.tells → t.file n ≡ s.file i.name = λ h. was.files.others (same.told h) n (contains_none n) ∙ ap s.file (sym opened.name_is) in
+      All-push (AtStart s) is i was.sources
+      (let tells : IsTrue s.tells → IsTrue t.tells = tells_still t s (was.files.still refl) in
+      let file : IsTrue s.tells → t.file n ≡ s.file i.name = λ h. was.files.others (tells h) n (contains_none n) ∙ ap s.file (sym opened.name_is) in
       record {
-        there = λ h. subst (λ f. IsSome f) (file h) (opened.there h);
-        whole = λ h. opened.whole h ∙ file h;
+        there = λ h. subst (λ f. IsSome f) (file h) (opened.there (tells h));
+        whole = λ h. opened.whole (tells h) ∙ file h;
         given = opened.given;
         faults = opened.faults;
       });
   output_names = refl;
   drains = All-nil _;
-  files = record { told = λ h. was.files.told (same.told h); emptied = λ h. All-nil _; others = λ h m no. same.files h m ∙ was.files.others (same.told h) m no };
+  files =
+      let tells : IsTrue u.tells → IsTrue t.tells = tells_still t u (sym same.telling) in
+      record {
+        told = λ h. was.files.told (tells h);
+        still = λ e. same.telling ∙ was.files.still refl;
+        emptied = λ h. All-nil _;
+        others = λ h m no. same.files (tells h) m ∙ was.files.others (tells h) m no;
+      };
   read = λ m. faults.read m ∙ was.read m;
   refusals = quiet_two s.refusals t.refusals u.refusals was.refusals (quiet_same _ _ refusals);
   rfaults = quiet_two s.rfaults t.rfaults u.rfaults was.rfaults (quiet_same _ _ faults.rfaults);
   wfaults = quiet_two s.wfaults t.wfaults u.wfaults was.wfaults (quiet_same _ _ faults.wfaults);
 }
 
+no_push : (names : List (List ℕ)) (n : List ℕ) → names ++ n ∷ [] ≡ [] → ⊥
+no_push [] n e = cc
+no_push (m ∷ ms) n e = cc
+
 -- one output more, which may have the name of an earlier one
 pub empties_more : (s t u : FolderState) (names : List (List ℕ)) (n : List ℕ) (o : DrainState) → Empties s t names → OpensDrain t u n o → Empties s u (names ++ n ∷ [])
 empties_more s t u names n o was opened = record {
   told = λ h. was.told (opened.told h);
+  still = λ e. absurd (no_push names n e);
   emptied = λ h.
       All-push (λ m. u.file m ≡ Some []) names n
       (All-weaker (λ m. t.file m ≡ Some []) (λ m. u.file m ≡ Some []) (λ m old. elim (same_name m n) [
@@ -77,10 +88,15 @@ opens_drain s t u outputs n os o was opened faults refusals = record {
 pub opens_both : (s t u : FolderState) (inputs outputs : List (List ℕ)) (is : List SourceState) (os : List DrainState) → OpensAll s t inputs [] is [] → OpensAll t u [] outputs [] os → OpensAll s u inputs outputs is os
 opens_both s t u inputs outputs is os first then = record {
   input_names = first.input_names;
-  sources = sources_stay s t u is then.files.told first.sources;
+  sources = first.sources;
   output_names = then.output_names;
   drains = then.drains;
-  files = record { told = λ h. first.files.told (then.files.told h); emptied = then.files.emptied; others = λ h n no. then.files.others h n no ∙ first.files.others (then.files.told h) n (contains_none n) };
+  files = record {
+    told = λ h. first.files.told (then.files.told h);
+    still = λ e. then.files.still e ∙ first.files.still refl;
+    emptied = then.files.emptied;
+    others = λ h n no. then.files.others h n no ∙ first.files.others (then.files.told h) n (contains_none n);
+  };
   read = λ n. then.read n ∙ first.read n;
   refusals = quiet_two s.refusals t.refusals u.refusals first.refusals then.refusals;
   rfaults = quiet_two s.rfaults t.rfaults u.rfaults first.rfaults then.rfaults;
@@ -88,7 +104,7 @@ opens_both s t u inputs outputs is os first then = record {
 }
 
 -- one more, of a list that was mapped
-pub source_next : {A : Type 0} (state : A → SourceState) (s t u : FolderState) (inputs : List (List ℕ)) (n : List ℕ) (done all : List A) (x : A) → all ≡ done ++ x ∷ [] → OpensAll s t inputs [] (map state done) [] → OpensSource t u n (state x) → SameFiles t u → SameFaults t u → SameRefusals t u → OpensAll s u (inputs ++ n ∷ []) [] (map state all) []
+pub source_next : {A : Type 0} (state : A → SourceState) (s t u : FolderState) (inputs : List (List ℕ)) (n : List ℕ) (done all : List A) (x : A) → all ≡ done ++ x ∷ [] → OpensAll s t inputs [] (map state done) [] → OpensSource t n (state x) → SameFiles t u → SameFaults t u → SameRefusals t u → OpensAll s u (inputs ++ n ∷ []) [] (map state all) []
 source_next state s t u inputs n done all x e was opened same faults refusals =
     subst (λ is. OpensAll s u (inputs ++ n ∷ []) [] is []) (sym (ap (λ l. map state l) e ∙ map-append state done (x ∷ []))) (opens_source s t u inputs n (map state done) (state x) was opened same faults refusals)
 

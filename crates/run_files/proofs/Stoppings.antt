@@ -1,5 +1,5 @@
 -- Openings that stop at a name, and the closing of what was open then.
-use Rattle.std.proofs.Common.{◌≡◌, ℕ, inl, inr, List, [], Some, refl, sym, ◌∙◌, subst}
+use Rattle.std.proofs.Common.{◌≡◌, ℕ, inl, inr, List, [], ◌∷◌, Some, refl, sym, ◌∙◌, subst}
 use Rattle.std.specs.Prelude.{IsTrue, IsSome}
 use Rattle.std.specs.List.{All, Contains}
 use Rattle.std.proofs.lemmas.List.Elements.{All-weaker, All-map}
@@ -11,7 +11,8 @@ use Rattle.run_files.specs.Stopping.{StopsAtInput, StopsAtOutput, LacksRoom}
 use Rattle.run_files.specs.Closing.{ClosesAll}
 use Rattle.run_files.proofs.Counts.{quiet_same, quiet_two, quiet_but, rose_after}
 use Rattle.run_files.proofs.Lists.{contains_none}
-use Rattle.run_files.proofs.Openings.{opens_both, empties_none}
+use Rattle.run_files.specs.Names.{drain_names}
+use Rattle.run_files.proofs.Openings.{opens_both, empties_none, tells_still}
 
 -- the same, behind the inputs
 pub stops_behind : (s t u : FolderState) (inputs outputs : List (List ℕ)) (n : List ℕ) (is : List SourceState) (os : List DrainState) → OpensAll s t inputs [] is [] → StopsAtOutput t u [] outputs n [] os → StopsAtOutput s u inputs outputs n is os
@@ -29,25 +30,30 @@ stops_behind s t u inputs outputs n is os first stops = record {
 
 -- ---- what is left once all is closed
 
+no_drains : (os : List DrainState) → drain_names os ≡ [] → os ≡ []
+no_drains [] e = refl
+no_drains (o ∷ os) e = cc
+
 module _ (s mid t u : FolderState) (inputs outputs : List (List ℕ)) (is : List SourceState) (os : List DrainState) (opens : OpensAll s mid inputs outputs is os) (files : SameFiles mid t) (faults : SameFaults mid t) (closes : ClosesAll t u is os) where
   pub told_still : IsTrue u.tells → IsTrue mid.tells
-  told_still h = files.told (closes.files.told h)
+  told_still h = tells_still mid t (sym files.telling) (closes.files.told h)
 
-  pub inputs_there : IsTrue u.tells → All (λ m. IsSome (s.file m)) inputs
-  inputs_there h = subst (λ ns. All (λ m. IsSome (s.file m)) ns) opens.input_names (All-map (λ m. IsSome (s.file m)) (λ (i : SourceState). i.name) is (All-weaker (AtStart s mid) (λ i. IsSome (s.file i.name)) (λ i at. at.there (told_still h)) is opens.sources))
+  pub inputs_there : IsTrue s.tells → All (λ m. IsSome (s.file m)) inputs
+  inputs_there h = subst (λ ns. All (λ m. IsSome (s.file m)) ns) opens.input_names (All-map (λ m. IsSome (s.file m)) (λ (i : SourceState). i.name) is (All-weaker (AtStart s) (λ i. IsSome (s.file i.name)) (λ i at. at.there h) is opens.sources))
 
   pub outputs_emptied : Empties s u outputs
   outputs_emptied = record {
     told = λ h. opens.files.told (told_still h);
+    still = λ e. closes.files.still (no_drains os (opens.output_names ∙ e)) ∙ files.telling ∙ opens.files.still e;
     emptied = λ h. subst (λ ns. All (λ m. u.file m ≡ Some []) ns) opens.output_names (All-map (λ m. u.file m ≡ Some []) (λ (o : DrainState). o.name) os (closes.files.alike (Some []) (All-weaker (HoldsNone mid) (λ o. o.holds ≡ Some []) (λ o none. none.holds (told_still h)) os opens.drains) h));
-    others = λ h n no. closes.files.others h n (subst (λ ns. ¬ (Contains ns n)) (sym opens.output_names) no) ∙ files.files (closes.files.told h) n ∙ opens.files.others (told_still h) n no;
+    others = λ h n no. closes.files.others h n (subst (λ ns. ¬ (Contains ns n)) (sym opens.output_names) no) ∙ files.files (told_still h) n ∙ opens.files.others (told_still h) n no;
   }
 
   pub read_quiet : Quiet s.read u.read
-  read_quiet = quiet_two s.read t.read u.read (quiet_same s.read t.read (λ n. faults.read n ∙ opens.read n)) (closes.read.quiet (All-weaker (AtStart s mid) (λ i. i.given ≡ 0) (λ i at. at.given) is opens.sources))
+  read_quiet = quiet_two s.read t.read u.read (quiet_same s.read t.read (λ n. faults.read n ∙ opens.read n)) (closes.read.quiet (All-weaker (AtStart s) (λ i. i.given ≡ 0) (λ i at. at.given) is opens.sources))
 
   pub rfaults_quiet : Quiet s.rfaults u.rfaults
-  rfaults_quiet = quiet_two s.rfaults t.rfaults u.rfaults (quiet_two s.rfaults mid.rfaults t.rfaults opens.rfaults (quiet_same _ _ faults.rfaults)) (closes.rfaults.quiet (All-weaker (AtStart s mid) (λ i. i.faults ≡ 0) (λ i at. at.faults) is opens.sources))
+  rfaults_quiet = quiet_two s.rfaults t.rfaults u.rfaults (quiet_two s.rfaults mid.rfaults t.rfaults opens.rfaults (quiet_same _ _ faults.rfaults)) (closes.rfaults.quiet (All-weaker (AtStart s) (λ i. i.faults ≡ 0) (λ i at. at.faults) is opens.sources))
 
   pub wfaults_quiet : Quiet s.wfaults u.wfaults
   wfaults_quiet = quiet_two s.wfaults t.wfaults u.wfaults (quiet_two s.wfaults mid.wfaults t.wfaults opens.wfaults (quiet_same _ _ faults.wfaults)) (closes.wfaults.quiet (All-weaker (HoldsNone mid) (λ o. o.faults ≡ 0) (λ o none. none.faults) os opens.drains))
@@ -63,7 +69,10 @@ module _ (s mid t u : FolderState) (inputs outputs : List (List ℕ)) (is : List
 
 -- no file was made empty
 pub emptied_none : (s u : FolderState) → Empties s u [] → SameFiles s u
-emptied_none s u none = record { told = none.told; files = λ h n. none.others h n (contains_none n) }
+emptied_none s u none = record {
+  telling = none.still refl;
+  files = λ h n. none.others (tells_still u s (none.still refl) h) n (contains_none n);
+}
 
 pub lacks_before : (s t : FolderState) (n : List ℕ) → Empties s t [] → Lacks t n → Lacks s n
 lacks_before s t n none lacks = (none.told lacks.0, sym (none.others lacks.0 n (contains_none n)) ∙ lacks.1)

@@ -1,5 +1,5 @@
 -- The closing of the files of a run. Rules: own.
-use Rattle.std.specs.Prelude.{◌≡◌, ℕ, IsTrue, List, map, Option}
+use Rattle.std.specs.Prelude.{◌≡◌, ℕ, IsTrue, List, [], map, Option}
 use Rattle.std.specs.List.{All, Contains}
 use Rattle.stream_io.specs.Counts.{Grew}
 use Rattle.stream_io.specs.State.{FolderState, SourceState, DrainState, SameRefusals}
@@ -14,9 +14,10 @@ pub record Adds {X : Type 0} (name : X → List ℕ) (amount : X → ℕ) (xs : 
   pub quiet : All (λ x. amount x ≡ 0) xs → Quiet old new
 
 -- Each drain's file is what it held, where no two have one name, and also where all of them held the same; every other file is
--- as it was. All this where the folder tells its files.
+-- as it was. All this where the folder still tells its files; where no drain was closed it tells them as before.
 pub record Keeps (old new : FolderState) (os : List DrainState) : Type 0 where
   pub told : IsTrue new.tells → IsTrue old.tells
+  pub still : os ≡ [] → new.tells ≡ old.tells
   pub each : Distinct (drain_names os) → IsTrue new.tells → All (λ o. new.file o.name ≡ o.holds) os
   pub alike : (held : Option (List ℕ)) → All (λ o. o.holds ≡ held) os → IsTrue new.tells → All (λ o. new.file o.name ≡ held) os
   pub others : IsTrue new.tells → (n : List ℕ) → ¬ (Contains (drain_names os) n) → new.file n ≡ old.file n

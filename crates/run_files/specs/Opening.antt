@@ -6,10 +6,10 @@ use Rattle.stream_io.specs.State.{FolderState, SourceState, DrainState, SameFile
 use Rattle.run_files.specs.Quiet.{Quiet, QuietBut}
 use Rattle.run_files.specs.Names.{source_names, drain_names}
 
--- the source stands at the start of its file, which was there, and no read has failed
-pub record AtStart (old new : FolderState) (i : SourceState) : Type 0 where
-  pub there : IsTrue new.tells → IsSome (old.file i.name)
-  pub whole : IsTrue new.tells → i.whole ≡ old.file i.name
+-- the source stands at the start of its file, which was there, where the folder told its files before; and no read has failed
+pub record AtStart (old : FolderState) (i : SourceState) : Type 0 where
+  pub there : IsTrue old.tells → IsSome (old.file i.name)
+  pub whole : IsTrue old.tells → i.whole ≡ old.file i.name
   pub given : i.given ≡ 0
   pub faults : i.faults ≡ 0
 
@@ -18,16 +18,18 @@ pub record HoldsNone (new : FolderState) (o : DrainState) : Type 0 where
   pub holds : IsTrue new.tells → o.holds ≡ Some []
   pub faults : o.faults ≡ 0
 
--- the files of these names are empty, and every other is as it was, where the folder tells its files
+-- The files of these names are empty, and every other is as it was, where the folder still tells its files. Where no file was
+-- emptied it tells them as before.
 pub record Empties (old new : FolderState) (names : List (List ℕ)) : Type 0 where
   pub told : IsTrue new.tells → IsTrue old.tells
+  pub still : names ≡ [] → new.tells ≡ old.tells
   pub emptied : IsTrue new.tells → All (λ n. new.file n ≡ Some []) names
   pub others : IsTrue new.tells → (n : List ℕ) → ¬ (Contains names n) → new.file n ≡ old.file n
 
 -- these inputs and these outputs were opened, in their order, and the outputs are empty; nothing else came of it
 pub record OpensAll (old new : FolderState) (inputs outputs : List (List ℕ)) (is : List SourceState) (os : List DrainState) : Type 0 where
   pub input_names : source_names is ≡ inputs
-  pub sources : All (AtStart old new) is
+  pub sources : All (AtStart old) is
   pub output_names : drain_names os ≡ outputs
   pub drains : All (HoldsNone new) os
   pub files : Empties old new outputs
@@ -36,12 +38,13 @@ pub record OpensAll (old new : FolderState) (inputs outputs : List (List ℕ)) (
   pub rfaults : Quiet old.rfaults new.rfaults
   pub wfaults : Quiet old.wfaults new.wfaults
 
--- the first of the inputs that was not there, or whose opening was refused, has this name; nothing else came of it
+-- The first of the inputs that was not there, or whose opening was refused, has this name; nothing else came of it. What is said of
+-- input files is said wherever the folder told them before.
 pub record MissesInput (old new : FolderState) (inputs : List (List ℕ)) (n : List ℕ) : Type 0 where
   pub before : List (List ℕ)
   pub after : List (List ℕ)
   pub place : inputs ≡ before ++ n ∷ after
-  pub there : IsTrue new.tells → All (λ m. IsSome (old.file m)) before
+  pub there : IsTrue old.tells → All (λ m. IsSome (old.file m)) before
   pub why : Lacks old n ⊎ Rose (old.refusals n) (new.refusals n)
   pub files : SameFiles old new
   pub refusals : QuietBut n old.refusals new.refusals
@@ -54,7 +57,7 @@ pub record RefusesOutput (old new : FolderState) (inputs outputs : List (List �
   pub before : List (List ℕ)
   pub after : List (List ℕ)
   pub place : outputs ≡ before ++ n ∷ after
-  pub there : IsTrue new.tells → All (λ m. IsSome (old.file m)) inputs
+  pub there : IsTrue old.tells → All (λ m. IsSome (old.file m)) inputs
   pub rose : Rose (old.refusals n) (new.refusals n)
   pub files : Empties old new before
   pub refusals : QuietBut n old.refusals new.refusals

@@ -13,3 +13,8 @@ Rose old new = new < last_count → old < new
 pub record Grew (old n new : ℕ) : Type 0 where
   pub stays : old ≤ new
   pub grew : new < last_count → new ≡ old + n
+
+-- the count grew by n at most, unless it stands at its last value; it never falls
+pub record GrewAtMost (old n new : ℕ) : Type 0 where
+  pub stays : old ≤ new
+  pub most : new < last_count → new ≤ old + n

@@ -29,10 +29,10 @@ pub record HandsOut (whole : List ℕ) (from : ℕ) (piece : List ℕ) : Type 0 
   pub within : from + length piece ≤ length whole
   pub bytes : take (length piece) (drop from whole) ≡ piece
 
--- no file is changed, where the folder tells its files
+-- no file is changed, where the folder tells its files; and it tells them as before
 pub record SameFiles (old new : FolderState) : Type 0 where
-  pub told : IsTrue new.tells → IsTrue old.tells
-  pub files : IsTrue new.tells → (n : List ℕ) → new.file n ≡ old.file n
+  pub telling : new.tells ≡ old.tells
+  pub files : IsTrue old.tells → (n : List ℕ) → new.file n ≡ old.file n
 
 -- no count but that of refusals rises
 pub record SameFaults (old new : FolderState) : Type 0 where
@@ -54,10 +54,10 @@ abbrev pub Lacks : FolderState → List ℕ → Type 0
 Lacks folder name = IsTrue folder.tells × (folder.file name ≡ None)
 
 -- a source of that name's file was opened: nothing is handed out, and no read has failed
-pub record OpensSource (old new : FolderState) (name : List ℕ) (h : SourceState) : Type 0 where
+pub record OpensSource (folder : FolderState) (name : List ℕ) (h : SourceState) : Type 0 where
   pub name_is : h.name ≡ name
-  pub there : IsTrue new.tells → IsSome (old.file name)
-  pub whole : IsTrue new.tells → h.whole ≡ old.file name
+  pub there : IsTrue folder.tells → IsSome (folder.file name)
+  pub whole : IsTrue folder.tells → h.whole ≡ folder.file name
   pub given : h.given ≡ 0
   pub faults : h.faults ≡ 0
 

@@ -77,9 +77,9 @@ pub trait Folder {
     /// What it tells: its files where it tells them, and for each name how often an opening was refused, how many reads and writes of closed handles failed, and how many bytes closed sources handed out.
     ghost state: { Self → FolderState };
 
-    /// Opens the file of that name to read it from its start, and changes no file.
+    /// Opens the file of that name to read it from its start. It changes no file, and never ends the telling.
     fn open_in(&mut self, alloc: Global, name: &Line) -> Result<Self::Inp, OpenFault>
-        ensures opened { IfOk result (λ h. OpensSource (state self.old) (state self.new) name.now (Self.Inp.state h)) }
+        ensures opened { IfOk result (λ h. OpensSource (state self.old) name.now (Self.Inp.state h)) }
         ensures missing { result ≡ Err OpenFault.Missing → Lacks (state self.old) name.now ⊎ Rose ((state self.old).refusals name.now) ((state self.new).refusals name.now) }
         ensures files { SameFiles (state self.old) (state self.new) }
         ensures faults { SameFaults (state self.old) (state self.new) }
@@ -87,7 +87,7 @@ pub trait Folder {
         ensures no_memory { result ≡ Err OpenFault.NoMemory → SameRefusals (state self.old) (state self.new) }
         ensures refusal { RefusesName (state self.old) (state self.new) name.now };
 
-    /// Makes the file of that name empty, and opens it to write it.
+    /// Makes the file of that name empty, and opens it to write it; a folder may cease to tell its files here. A refused opening changes no file.
     fn open_out(&mut self, alloc: Global, name: &Line) -> Result<Self::Out, OpenFault>
         ensures opened { IfOk result (λ h. OpensDrain (state self.old) (state self.new) name.now (Self.Out.state h)) }
         ensures missing { result ≡ Err OpenFault.Missing → Rose ((state self.old).refusals name.now) ((state self.new).refusals name.now) }
@@ -97,12 +97,12 @@ pub trait Folder {
         ensures no_memory { result ≡ Err OpenFault.NoMemory → SameRefusals (state self.old) (state self.new) }
         ensures refusal { RefusesName (state self.old) (state self.new) name.now };
 
-    /// Takes a source back, and adds its counts to those of its name. It changes no file.
+    /// Takes a source back, and adds its counts to those of its name. It changes no file, and never ends the telling.
     fn close_in(&mut self, h: Self::Inp)
         ensures closed { ClosesSource (state self.old) (state self.new) (Self.Inp.state h) }
         ensures files { SameFiles (state self.old) (state self.new) };
 
-    /// Takes a drain back, and adds its count to that of its name. The file of its name is then what the drain held.
+    /// Takes a drain back, and adds its count to that of its name. The file of its name is then what the drain held; a folder that does not know that ceases to tell its files.
     fn close_out(&mut self, h: Self::Out)
         ensures closed { ClosesDrain (state self.old) (state self.new) (Self.Out.state h) };
 }

@@ -7,8 +7,10 @@ use crate::tally::Tally;
 use elem_core::line::Line;
 use std::alloc::Global;
 use std::fs;
+use std::fs::{OpenFile, OpenOptions};
 use std::io::{Read, Write};
 use std::marker::Send;
+use std::os::unix::fs::MetadataExt;
 use std::rt::Files;
 
 /// A file that was opened to be read.
@@ -59,11 +61,26 @@ impl<F: Write + Drop> Drain for DirSink<F> {
     }
 }
 
-/// The current folder. A name is that of a file in it where it has only letters, digits, `.`, `_` and `-` and begins with a letter or a digit; an opening of another name is refused (own).
+// Which file of the system a file is.
+#[derive(Drop, Clone, Copy, PartialEq, Eq)]
+struct Place {
+    device: u64,
+    inode: u64,
+}
+
+// A name under which a file was opened.
+#[derive(Drop)]
+struct Known {
+    name: Line,
+    place: Place,
+}
+
+/// The current folder. A name is that of a file in it where it has only letters, digits, `.`, `_` and `-` and begins with a letter or a digit; an opening of another name is refused (own). So is an opening to write of a file that was opened here under another name, which is a link to it: the other name's bytes would be lost (own).
 #[derive(Drop)]
 pub struct DirFolder<R: Files> {
     rt: R,
     tally: Tally,
+    known: Vec<Known>,
 }
 
 impl<R: Files + Drop> DirFolder<R>
@@ -71,12 +88,13 @@ where
     R::File: Send,
 {
     /// The current folder of this runtime. It takes no memory.
-    pub fn new(rt: R) -> DirFolder<R>
+    pub fn new(alloc: Global, rt: R) -> DirFolder<R>
         ensures { ⟦<DirFolder<R> as Folder>⟧.state result ≡ counts_of [] }
     {
         DirFolder {
             rt,
             tally: Tally::new(),
+            known: Vec::new(alloc),
         }
     }
 }
@@ -93,6 +111,46 @@ fn plain(name: &Line) -> Option<&str> {
     }
 }
 
+// Which file of the system an open file is.
+fn place_of<F: OpenFile>(file: &F) -> Option<Place> {
+    let about = file.metadata().ok()?;
+    Some(Place {
+        device: about.dev(),
+        inode: about.ino(),
+    })
+}
+
+// Opens the file of that name to read it.
+fn open_to_read<R: Files>(rt: &R, name: &Line) -> Option<(R::File, Place)> {
+    let file = fs::open(rt, plain(name)?).ok()?;
+    let place = place_of(&file)?;
+    Some((file, place))
+}
+
+// Whether the file is known under another name. A runtime that is none of a system gives no file a number but 0.
+fn is_linked(known: &[Known], name: &Line, place: Place) -> bool {
+    place.inode != 0
+        && known
+            .iter()
+            .any(|other| other.place == place && other.name != *name)
+}
+
+// Opens the file of that name to write it, and makes it empty where it is not known under another name. A device or a pipe has no length to cut.
+fn open_to_write<R: Files>(rt: &R, known: &[Known], name: &Line) -> Option<(R::File, Place)> {
+    let path = plain(name)?;
+    let mut how = OpenOptions::new();
+    how.write(true).create(true);
+    let file = how.open(rt, path).ok()?;
+    let place = place_of(&file)?;
+    if is_linked(known, name, place) {
+        return None;
+    }
+    if file.metadata().ok()?.is_file() {
+        file.set_len(0).ok()?;
+    }
+    Some((file, place))
+}
+
 impl<R: Files + Drop> Folder for DirFolder<R>
 where
     R::File: Send,
@@ -106,36 +164,44 @@ where
     fn open_in(&mut self, alloc: Global, name: &Line) -> Result<DirSource<R::File>, OpenFault> {
         let spare = Tally::spare(alloc)?;
         let own = name.copy(alloc)?;
-        if let Some(path) = plain(name) {
-            if let Ok(file) = fs::open(&self.rt, path) {
-                return Ok(DirSource {
-                    name: own,
-                    spare,
-                    file,
-                    given: 0,
-                    faults: 0,
-                });
-            }
-        }
-        self.tally.refuse(own, spare);
-        Err(OpenFault::Missing)
+        let name_known = name.copy(alloc)?;
+        self.known.reserve(1)?;
+        let Some((file, place)) = open_to_read(&self.rt, name) else {
+            self.tally.refuse(own, spare);
+            return Err(OpenFault::Missing);
+        };
+        self.known.push_reserved(Known {
+            name: name_known,
+            place,
+        });
+        Ok(DirSource {
+            name: own,
+            spare,
+            file,
+            given: 0,
+            faults: 0,
+        })
     }
 
     fn open_out(&mut self, alloc: Global, name: &Line) -> Result<DirSink<R::File>, OpenFault> {
         let spare = Tally::spare(alloc)?;
         let own = name.copy(alloc)?;
-        if let Some(path) = plain(name) {
-            if let Ok(file) = fs::create(&self.rt, path) {
-                return Ok(DirSink {
-                    name: own,
-                    spare,
-                    file,
-                    faults: 0,
-                });
-            }
-        }
-        self.tally.refuse(own, spare);
-        Err(OpenFault::Missing)
+        let name_known = name.copy(alloc)?;
+        self.known.reserve(1)?;
+        let Some((file, place)) = open_to_write(&self.rt, &self.known, name) else {
+            self.tally.refuse(own, spare);
+            return Err(OpenFault::Missing);
+        };
+        self.known.push_reserved(Known {
+            name: name_known,
+            place,
+        });
+        Ok(DirSink {
+            name: own,
+            spare,
+            file,
+            faults: 0,
+        })
     }
 
     fn close_in(&mut self, h: DirSource<R::File>) {

@@ -13,6 +13,7 @@ use crate::sure::{SureDrain, SureFolder};
 use elem_core::line::Line;
 use std::alloc::{AllocError, Global};
 use std::fs;
+use std::os::unix::fs::symlink;
 use std::test::Fail;
 
 fn name(alloc: Global, text: &[u8]) -> Result<Line, AllocError>
@@ -287,7 +288,7 @@ fn sure_folder_forgets_what_is_written(rt: HostRuntime) -> Result<(), Fail> {
 #[test]
 fn real_folder_holds_files(rt: HostRuntime) -> Result<(), Fail> {
     let alloc = rt.alloc();
-    let mut folder = DirFolder::new(rt.clone()?);
+    let mut folder = DirFolder::new(alloc, rt.clone()?);
     let f = name(alloc, b"written_by_a_test.txt")?;
     let _ = fs::remove_file(&rt, "written_by_a_test.txt");
     let text = seen(alloc, &mut folder, &f)?;
@@ -301,5 +302,57 @@ fn real_folder_holds_files(rt: HostRuntime) -> Result<(), Fail> {
         &name(alloc, b"../written_by_a_test.txt")?,
     )?;
     assert_eq!(rt; outer.as_slice(), b"missing missing missing".as_slice());
+    Ok(())
+}
+
+// What is drawn of the file, how the link is then written, and what is drawn of the file again.
+fn seen_by_link(rt: &HostRuntime, file: &Line, link: &Line) -> Result<Vec<u8>, Fail> {
+    let alloc = rt.alloc();
+    let mut folder = DirFolder::new(alloc, rt.clone()?);
+    let mut text = drawn(alloc, &mut folder, file)?;
+    text.extend_from_slice(written(alloc, &mut folder, link, b"xy\n"))?;
+    let again = drawn(alloc, &mut folder, file)?;
+    text.extend_from_slice(&again)?;
+    Ok(text)
+}
+
+// How the two are written in one folder.
+fn written_by_two(rt: &HostRuntime, first: &Line, second: &Line) -> Result<Vec<u8>, Fail> {
+    let alloc = rt.alloc();
+    let mut folder = DirFolder::new(alloc, rt.clone()?);
+    let mut text = Vec::new(alloc);
+    text.extend_from_slice(written(alloc, &mut folder, first, b"x\n"))?;
+    text.extend_from_slice(written(alloc, &mut folder, second, b"y\n"))?;
+    Ok(text)
+}
+
+#[test]
+fn real_folder_knows_a_file_by_its_links(rt: HostRuntime) -> Result<(), Fail> {
+    let alloc = rt.alloc();
+    let paths = [
+        "told_by_a_test.txt",
+        "hard_by_a_test.txt",
+        "soft_by_a_test.txt",
+    ];
+    for path in paths {
+        let _ = fs::remove_file(&rt, path);
+    }
+    fs::write(&rt, paths[0], "a\n")?;
+    fs::hard_link(&rt, paths[0], paths[1])?;
+    symlink(&rt, paths[0], paths[2])?;
+    let file = name(alloc, b"told_by_a_test.txt")?;
+    let hard = name(alloc, b"hard_by_a_test.txt")?;
+    let soft = name(alloc, b"soft_by_a_test.txt")?;
+    for link in [&hard, &soft] {
+        let text = seen_by_link(&rt, &file, link)?;
+        assert_eq!(rt; text.as_slice(), b"a/. missing a/.".as_slice());
+    }
+    let text = written_by_two(&rt, &hard, &soft)?;
+    assert_eq!(rt; text.as_slice(), b" ok  missing ".as_slice());
+    let text = seen_by_link(&rt, &file, &file)?;
+    assert_eq!(rt; text.as_slice(), b"x/. ok xy/.".as_slice());
+    for path in paths {
+        fs::remove_file(&rt, path)?;
+    }
     Ok(())
 }

@@ -46,7 +46,7 @@ fn main(rt: HostRuntime) -> io::Result<ExitCode> {
         let code = if told.is_ok() { NO_MEMORY } else { WRITE_FAULT };
         return Ok(ExitCode::from(code));
     };
-    let mut folder = DirFolder::new(rt.clone()?);
+    let mut folder = DirFolder::new(rt.alloc(), rt.clone()?);
     let mut console = StdConsole::new(rt.clone()?);
     let end = run_streams(rt.alloc(), &words, &mut folder, &mut console);
     Ok(ExitCode::from(end.code))

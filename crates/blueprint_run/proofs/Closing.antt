@@ -301,12 +301,15 @@ module _ {S D : Type 0} (sources : S → SourceState) (drains : D → DrainState
     tells_mid : IsTrue mid.tells
     tells_mid = closes.files.told tells
 
+    tells_was : IsTrue old.tells
+    tells_was = opens.files.told tells_mid
+
     module _ (k : ℕ) (file : List ℕ) (f : Source k file) where
       file_there : (bytes : List ℕ) × (old.file file ≡ Some bytes)
-      file_there = some_of (old.file file) (subst (λ n. IsSome (old.file n)) f.first_named (f.start.there tells_mid))
+      file_there = some_of (old.file file) (subst (λ n. IsSome (old.file n)) f.first_named (f.start.there tells_was))
 
       whole_told : (sources f.first.reader.source).whole ≡ Some file_there.0
-      whole_told = f.start.whole tells_mid ∙ ap old.file f.first_named ∙ file_there.1
+      whole_told = f.start.whole tells_was ∙ ap old.file f.first_named ∙ file_there.1
 
       drawn_bytes : drawn.bytes k ≡ file_there.0
       drawn_bytes = ap (λ (i : SourceState). unwrap_or i.whole []) (source_there sources (slice_get net.firsts k) f.first f.there.at_first) ∙ told_whole (sources f.first.reader.source).whole file_there.0 whole_told

@@ -109,7 +109,7 @@ module _ {S D : Type 0} (sources : S → SourceState) (drains : D → DrainState
     pub first : Lines S
     pub now : Lines S
     pub there : IsSourceAt net k first now
-    pub start : AtStart old mid (sources first.reader.source)
+    pub start : AtStart old (sources first.reader.source)
     pub first_named : (sources first.reader.source).name ≡ file
     pub law : LinesLaw sources first now (view_of net k) (took net k) (gave net k)
 
@@ -125,7 +125,7 @@ module _ {S D : Type 0} (sources : S → SourceState) (drains : D → DrainState
         first = handed.first;
         now = there.1.0;
         there = record { at_first = handed.at; at_last = last };
-        start = all_at (AtStart old mid) (map sources ss) handed.place (sources handed.first.reader.source) opens.sources state;
+        start = all_at (AtStart old) (map sources ss) handed.place (sources handed.first.reader.source) opens.sources state;
         first_named = place_one (inputs_of_nodes nodes) handed.place (sources handed.first.reader.source).name file filed handed.file;
         law = (l.stops.settled.minded k (slice_get-below net.nodes k (node.Reading there.1.0) last) (node.Reading there.1.0) (node.Reading handed.first) last handed.at).law_holds;
       }

@@ -41,7 +41,7 @@ use Rattle.stream_top.specs.Command.{Asked}
 use Rattle.stream_top.specs.Text.{text_limit, text_of_file, ReadsFile}
 use Rattle.stream_top.specs.Outcome.{SaysFile, SaysFit, SaysBuilt, Blank, RanNothing, RanTo, GaveUp, LacksInput, LacksOutput, IsAbsent, EndedRun, EndedBefore, Told, Causes, CausesBefore, QuietButAll, RunCauses, SinksOf}
 use Rattle.stream_top.specs.Texts.{NotRun, EndedFit, NotFit, EndedParsed, NotSaid, EndedText, AllQuiet, CausesQuiet, CausesFit, CausesText}
-use Rattle.stream_top.proofs.Quiets.{files_two}
+use Rattle.stream_top.proofs.Quiets.{tells_before, files_two}
 
 -- ---- the ends of sinks
 
@@ -217,7 +217,7 @@ missing_input old new b n turns a h is blank tells = subst (λ x. EndedRun x a b
   before = h.before;
   after = h.after;
   place = h.place;
-  there = h.there tells;
+  there = h.there (tells_before old new h.files tells);
   absent = h.why;
   nothing = record { files = h.files; blank = blank };
 }))
@@ -227,7 +227,7 @@ missing_output old new b n turns a h is blank tells = subst (λ x. EndedRun x a 
   before = h.before;
   after = h.after;
   place = h.place;
-  there = h.there tells;
+  there = h.there (h.files.told tells);
   refused = h.rose;
   files = h.files;
   blank = blank;
@@ -282,7 +282,7 @@ fault_whole whole t e = elim (leb_tells (length whole) 1048576) [
 ]
 
 -- the blueprint that the bytes say is the one that the file says
-says_read : (old mid : FolderState) (file t : List ℕ) (b : Blueprint) → IsTrue mid.tells → ReadsFile old mid file t → language.Says t (plain b) → SaysFile old file b
+says_read : (old mid : FolderState) (file t : List ℕ) (b : Blueprint) → IsTrue old.tells → ReadsFile old mid file t → language.Says t (plain b) → SaysFile old file b
 says_read old mid file t b tells r s =
     let w = whole_of (old.file file) t (r.text_is tells) in
     record {
@@ -291,7 +291,7 @@ says_read old mid file t b tells r s =
       says = subst (λ x. language.Says x (plain b)) (says_whole w.0 t w.1.1 s.faultless) s;
     }
 
-refused_read : (old mid : FolderState) (file t : List ℕ) (f : BlueFault) → IsTrue mid.tells → ReadsFile old mid file t → language.fault_of t ≡ Some f → (whole : List ℕ) × ((old.file file ≡ Some whole) × (language.fault_of whole ≡ Some f))
+refused_read : (old mid : FolderState) (file t : List ℕ) (f : BlueFault) → IsTrue old.tells → ReadsFile old mid file t → language.fault_of t ≡ Some f → (whole : List ℕ) × ((old.file file ≡ Some whole) × (language.fault_of whole ≡ Some f))
 refused_read old mid file t f tells r e =
     let w = whole_of (old.file file) t (r.text_is tells) in
     (w.0, (w.1.0, sym (fault_whole w.0 t w.1.1) ∙ e))
@@ -309,7 +309,7 @@ quiet_but_later name f g h p q = record {
 }
 
 absent_later : (old mid new : FolderState) (n : List ℕ) → SameFiles old mid → Quiet old.refusals mid.refusals → IsAbsent mid new n → IsAbsent old new n
-absent_later old mid new n same quiet (inl h) = inl (same.told h.0, sym (same.files h.0 n) ∙ h.1)
+absent_later old mid new n same quiet (inl h) = (let tells = tells_before old mid same h.0 in inl (tells, sym (same.files tells n) ∙ h.1))
 absent_later old mid new n same quiet (inr h) = inr (rose_later (old.refusals n) (mid.refusals n) (new.refusals n) (quiet n) h)
 
 grew_from : (a b c n : ℕ) → b ≡ a → Grew b n c → Grew a n c
@@ -328,7 +328,7 @@ some_rose_later : (old mid new : FolderState) (b : Blueprint) → Quiet old.wfau
 some_rose_later old mid new b q s = record { file = s.file; output = s.output; rose = rose_later (old.wfaults s.file) (mid.wfaults s.file) (new.wfaults s.file) (q s.file) s.rose }
 
 module _ (old mid new : FolderState) (file t : List ℕ) (r : ReadsFile old mid file t) (b : Blueprint) (fit : IsFit b [] (file ∷ [])) (turns : ℕ) (a : Answer) where
-  module _ (tells : IsTrue mid.tells) where
+  module _ (tells : IsTrue old.tells) where
     -- the file that was read is none of the sources'
     read_apart : (k : ℕ) (n : List ℕ) → IsSource b.nodes.items k n → mid.read n ≡ old.read n
     read_apart k n is =
@@ -386,7 +386,7 @@ module _ (old mid new : FolderState) (file t : List ℕ) (r : ReadsFile old mid 
       place = h.place;
       there = there_later (inputs_of_nodes b.nodes.items) h.there;
       refused = rose_later (old.refusals n) (mid.refusals n) (new.refusals n) (r.refusals n) h.refused;
-      files = record { told = λ x. r.files.told (h.files.told x); emptied = h.files.emptied; others = λ x m never. h.files.others x m never ∙ r.files.files tells m };
+      files = record { told = λ x. tells_before old mid r.files (h.files.told x); still = λ e. h.files.still e ∙ r.files.telling; emptied = h.files.emptied; others = λ x m never. h.files.others x m never ∙ r.files.files tells m };
       blank = h.blank;
     })
 
@@ -432,7 +432,7 @@ module _ (old mid new : FolderState) (file t : List ℕ) (r : ReadsFile old mid 
 nothing_since : (old mid new : FolderState) (file t : List ℕ) (r : ReadsFile old mid file t) (a : Answer) → RanNothing mid new a → RanNothing old new a
 nothing_since old mid new file t r a h = record { files = files_two old mid new r.files h.files; blank = h.blank }
 
-module _ (a : Answer) (c : Asked) (old mid new : FolderState) (t : List ℕ) (r : ReadsFile old mid c.file t) (tells : IsTrue mid.tells) where
+module _ (a : Answer) (c : Asked) (old mid new : FolderState) (t : List ℕ) (r : ReadsFile old mid c.file t) (tells : IsTrue old.tells) where
   not_said : (s : Status) → NotSaid s a t mid new → EndedBefore s a c.file old new
   not_said (status.Refused f) h = (nothing_since old mid new c.file t r a h.0, refused_read old mid c.file t f tells r h.1)
   not_said status.NoMemory h = nothing_since old mid new c.file t r a h
@@ -526,7 +526,7 @@ quiet_here : (s : FolderState) → AllQuiet s s
 quiet_here s = record { refusals = λ n. grew_same _ _ refl; rfaults = λ n. grew_same _ _ refl; wfaults = λ n. grew_same _ _ refl }
 
 nothing_here : (s : FolderState) (a : Answer) → Blank a → RanNothing s s a
-nothing_here s a b = record { files = record { told = λ h. h; files = λ h n. refl }; blank = b }
+nothing_here s a b = record { files = record { telling = refl; files = λ h n. refl }; blank = b }
 
 -- a blueprint of which some node has not been built is not run
 pub unbuilt_told : (s : FolderState) (a : Answer) (b : Blueprint) (k turns : ℕ) → a.status ≡ status.Unbuilt k → Blank a → unbuilt_node b ≡ Some k → EndedFit a.status a b turns s s

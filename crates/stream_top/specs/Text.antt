@@ -16,7 +16,7 @@ text_of_file whole = take text_limit whole
 -- the file of that name was read, and nothing else came of it
 pub record ReadsFile (old new : FolderState) (name text : List ℕ) : Type 0 where
   pub files : SameFiles old new
-  pub text_is : IsTrue new.tells → option_map text_of_file (old.file name) ≡ Some text
+  pub text_is : IsTrue old.tells → option_map text_of_file (old.file name) ≡ Some text
   pub read : (n : List ℕ) → n ≢ name → new.read n ≡ old.read n
   pub refusals : Quiet old.refusals new.refusals
   pub rfaults : Quiet old.rfaults new.rfaults

@@ -1,6 +1,6 @@
 // The text of a blueprint's file.
 ghost use Rattle.std.specs.Prelude.{◌≡◌, ◌+◌, ◌<◌, ◌≤◌, ◌++◌, ◌⊎◌, length, take, drop, vec_len, IfOk, OnOk, OnErr, IfSome};
-ghost use Rattle.stream_io.specs.Counts.{Rose};
+ghost use Rattle.stream_io.specs.Counts.{Rose, GrewAtMost};
 ghost use Rattle.stream_io.specs.State.{Lacks, SameFiles, HandsOut};
 ghost use Rattle.run_files.specs.Quiet.{Quiet, QuietBut};
 ghost use Rattle.stream_top.specs.Text.{text_limit, text_of_file, ReadsFile, FailsToRead, StaysMissing, StaysQuiet};
@@ -38,6 +38,7 @@ fn read_piece<S: Source>(source: &mut S, text: &mut Vec<u8>) -> Result<usize, Pi
     ensures text { IfOk result (λ n. vec_len text.new ≡ vec_len text.old + n) }
     ensures limit { IfOk result (λ n. vec_len text.new ≤ text_limit) }
     ensures given { IfOk result (λ n. (S.state source.new).given ≡ (S.state source.old).given + n) }
+    ensures most { (S.state source.new).given + vec_len text.old ≤ (S.state source.old).given + text_limit }
     ensures bytes { IfOk result (λ n. IfSome (S.state source.old).whole (λ whole. text.new.items ≡ text.old.items ++ take n (drop (S.state source.old).given whole))) }
     ensures within { IfOk result (λ n. IfSome (S.state source.old).whole (λ whole. (S.state source.old).given + n ≤ length whole)) }
     ensures nothing { result ≡ Ok 0 → text.new.items ≡ text.old.items }
@@ -64,6 +65,7 @@ fn read_piece<S: Source>(source: &mut S, text: &mut Vec<u8>) -> Result<usize, Pi
 fn read_all<S: Source>(alloc: Global, source: &mut S) -> Result<Vec<u8>, PieceEnd>
     requires { (S.state source.old).given ≡ 0 }
     ensures text { IfOk result (λ text. IfSome (S.state source.old).whole (λ whole. text.items ≡ text_of_file whole)) }
+    ensures most { (S.state source.new).given ≤ text_limit }
     ensures no_fault { OnOk result ((S.state source.new).faults ≡ (S.state source.old).faults) }
     ensures no_memory { result ≡ Err PieceEnd.NoMemory → (S.state source.new).faults ≡ (S.state source.old).faults }
     ensures fault { result ≡ Err PieceEnd.Fault → Rose (S.state source.old).faults (S.state source.new).faults }
@@ -81,12 +83,13 @@ fn read_all<S: Source>(alloc: Global, source: &mut S) -> Result<Vec<u8>, PieceEn
     Ok(text)
 }
 
-/// Reads the text of that name's file: its bytes, or the first 1,048,577 of them. It changes no file.
+/// Reads the text of that name's file: its bytes, or the first 1,048,577 of them. No more are read, whatever comes of it. It changes no file.
 pub fn read_file<F: Folder>(alloc: Global, folder: &mut F, name: &Line) -> Result<Vec<u8>, ReadEnd>
     ensures ok { IfOk result (λ text. ReadsFile (F.state folder.old) (F.state folder.new) name.now text.items) }
     ensures missing { result ≡ Err ReadEnd.Missing → StaysMissing (F.state folder.old) (F.state folder.new) name.now }
     ensures fault { result ≡ Err ReadEnd.Fault → FailsToRead (F.state folder.old) (F.state folder.new) name.now }
     ensures no_memory { result ≡ Err ReadEnd.NoMemory → StaysQuiet (F.state folder.old) (F.state folder.new) }
+    ensures most { GrewAtMost ((F.state folder.old).read name.now) text_limit ((F.state folder.new).read name.now) }
 {
     let mut source = match folder.open_in(alloc, name) {
         Ok(source) => source,

@@ -1,6 +1,7 @@
 -- The goals of `answer::run_blueprint` that the search leaves.
 use Rattle.std.proofs.Common.{◌≡◌, ◌∙◌, inl, inr, ap, subst, Err, length, vec_len, rules}
 use Rattle.stream_top.specs.AfterRun.{AfterRun, of_outcome}
+use Rattle.stream_top.proofs.Quiets.{tells_before}
 use Rattle.stream_top.proofs.Answering.{as_many_stands, run_told, run_causes, run_sinks, missing_input, missing_output, missing_causes}
 use Rattle.stream_top.proofs.answer.run_blueprint.Goals as goal
 
@@ -33,7 +34,7 @@ returns-in-Err-MissingInput-clause-told g c =
 pub returns-in-Err-MissingInput-clause-tells : goal.returns-in-Err-MissingInput-clause-tells
 returns-in-Err-MissingInput-clause-tells g c =
     let e = c.in-Err-MissingInput in
-    (e.ensures.no_input e.name (ap Err e.field-0-is)).files.told
+    tells_before _ _ (e.ensures.no_input e.name (ap Err e.field-0-is)).files
 
 pub returns-in-Err-MissingInput-clause-causes : goal.returns-in-Err-MissingInput-clause-causes
 returns-in-Err-MissingInput-clause-causes g c =

@@ -2,6 +2,7 @@
 use Rattle.std.proofs.Common.{◌∙◌, [], ◌∷◌, subst}
 use Rattle.stream_top.specs.AfterRun.{of_outcome}
 use Rattle.stream_top.specs.Texts.{EndedText, CausesText}
+use Rattle.stream_top.proofs.Quiets.{tells_before}
 use Rattle.stream_top.proofs.Answering.{told_text, causes_text}
 use Rattle.stream_top.proofs.answer.run_file.Goals as goal
 
@@ -13,7 +14,7 @@ returns-in-Ok-read_file-clause-told g c =
     let a = of_outcome c.run_text.result in
     let file = c.args.file.now in
     let taken = c.deref-in-Ok-read_file.ensures.value ∙ c.in-Ok.ensures.taken in
-    λ tells. told_text a (record { file = file; turns = c.args.turns }) old mid new c.in-Ok-read_file.text.items c.in-Ok-read_file.ensures.ok (c.run_text.ensures.tells tells)
+    λ tells. told_text a (record { file = file; turns = c.args.turns }) old mid new c.in-Ok-read_file.text.items c.in-Ok-read_file.ensures.ok (tells_before old mid c.in-Ok-read_file.ensures.ok.files (c.run_text.ensures.tells tells))
     (subst (λ x. EndedText c.run_text.result.status a x (file ∷ []) c.args.turns mid new) c.deref.ensures.value
     (subst (λ y. EndedText c.run_text.result.status a c.deref.result.now y c.args.turns mid new) taken (c.run_text.ensures.told tells)))
 

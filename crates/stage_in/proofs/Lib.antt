@@ -1,0 +1,13 @@
+pub mod Queues
+pub mod Steps
+pub mod Seats
+pub mod Waits
+pub mod Rounds
+pub mod Takes
+pub mod OnOks
+pub mod Zips
+pub mod Sorts
+pub mod Rests
+pub mod Histories
+pub mod Nodes
+pub mod Begun

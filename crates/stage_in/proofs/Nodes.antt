@@ -1,0 +1,250 @@
+-- The stages with several inputs as nodes: where they are open, what they know between calls, and how calls keep their law.
+use Rattle.std.specs.Prelude.{slice_index_or}
+use Rattle.std.proofs.Common.{◌≡◌, ℕ, zero, suc, ◌+◌, Bool, true, false, List, [], ◌∷◌, length, refl, sym, ap, ◌∙◌, subst, arith, None}
+use Rattle.elem_core.specs.Tree.{Tree}
+use Rattle.elem_core.specs.declared.item.Item.{Item}
+use Rattle.elem_core.specs.declared.item.Item.TheVariants as item
+use Rattle.port_core.specs.declared.act.Act.{Act}
+use Rattle.port_core.specs.declared.view.InView.{InView}
+use Rattle.port_core.specs.declared.view.InView.TheVariants.{Idle, Waiting, Over, Left}
+use Rattle.port_core.specs.declared.view.OutView.{OutView}
+use Rattle.port_core.specs.declared.view.OutView.TheVariants.{Unasked, Asked, Shut, Refused}
+use Rattle.port_core.specs.View.{View, in_at, IsInOpen, IsOutOpen, ActsAllowed, acted_all}
+use Rattle.port_core.specs.Asking.{AsksStand}
+use Rattle.port_core.specs.Call.{AllIdle, AllUnasked, MayCome, Call, starts, asks, brings, cancels, CallAllowed, seen, Obeys, given_on}
+use Rattle.stream_model.specs.Outlook.{End, unended}
+use Rattle.stream_model.specs.FanIn.{Inflow}
+use Rattle.stream_picture.specs.View as picture
+use Rattle.stream_picture.specs.Rests.{SortedRests, ZipRests}
+use Rattle.stage_core.specs.Handling.{Starts, Handles}
+use Rattle.stage_core.specs.Histories.{given_all, brought_by, AllEmpty}
+use Rattle.stage_law.specs.Law.{GaveAs}
+use Rattle.stage_law.specs.Inflows.{PortsLaw, nothing, untouched}
+use Rattle.stage_law.specs.Fans.{FanHeld, FanTurnAt, FanKeeps}
+use Rattle.stage_law.specs.Fans as fan
+use Rattle.stage_law.specs.Zips.{ZipHeld, ZipKeeps}
+use Rattle.stage_law.specs.Zips as zip
+use Rattle.stage_law.proofs.FanTurns.{fan_new}
+use Rattle.stage_law.proofs.ZipTurns.{zip_new}
+use Rattle.stage_in.specs.declared.phase.Phase.{Phase}
+use Rattle.stage_in.specs.declared.phase.Phase.TheVariants.{New, Open, Closed}
+use Rattle.stage_in.specs.declared.logic.InLogic.{InLogic}
+use Rattle.stage_in.specs.declared.logic.InLogic.TheVariants as logic
+use Rattle.stage_in.specs.Kinds.{taking_by, sorting}
+use Rattle.stage_in.specs.Seats.{seats, wish, InsClosed, OneClosed, FanClosed, none_of}
+use Rattle.stage_in.specs.declared.inlet.Inlet.{Inlet}
+use Rattle.stage_in.specs.Pairings.{Pairing, IsBlank, inlet_flow, row_by}
+use Rattle.stage_in.specs.Takings as taking
+use Rattle.stage_in.specs.Takings.{Taking}
+use Rattle.stage_in.specs.Sortings as sorted
+use Rattle.stage_in.specs.Zippings as zipping
+use Rattle.stage_in.specs.OwnRows.{FanRests}
+use Rattle.stage_in.specs.Logics.{IsNew, IsOpen, IsStarted, row, Turned, InPortsLaw, InFresh, InRow, InLaw, KindRests}
+use Rattle.stage_in.proofs.Rests.{closed_rests, taking_rests, sorting_rests, zipping_rests}
+use Rattle.stage_in.proofs.Histories.{ports_as, fan_node, zip_node}
+
+-- ---- one whose ports are closed is not called
+
+closed_in : (xs : List InView) (i : ℕ) → InsClosed xs → IsInOpen (slice_index_or xs i Left) → ⊥
+closed_in [] i h o = o
+closed_in (Idle ∷ xs) zero h o = h.0
+closed_in (Waiting ∷ xs) zero h o = h.0
+closed_in (Over ∷ xs) zero h o = o
+closed_in (Left ∷ xs) zero h o = o
+closed_in (x ∷ xs) (suc i) h o = closed_in xs i h.1 o
+
+closed_out : (ys : List OutView) (j : ℕ) → OneClosed ys → IsOutOpen (slice_index_or ys j Shut) → ⊥
+closed_out [] j h o = h
+closed_out (Unasked ∷ []) zero h o = h
+closed_out (Asked ∷ []) zero h o = h
+closed_out (Shut ∷ []) zero h o = o
+closed_out (Refused ∷ []) zero h o = o
+closed_out (y ∷ []) (suc j) h o = o
+closed_out (y ∷ z ∷ ys) j h o = h
+
+comes_open : (x : Item) (p : InView) → MayCome x p → IsInOpen p
+comes_open (item.Elem e) p h = subst IsInOpen (sym h) tt
+comes_open item.Ended p h = h
+comes_open (item.Failed c) p h = h
+
+not_called : (c : Call) (v : View) → (c ≡ starts → ⊥) → CallAllowed c v → FanClosed v → ⊥
+not_called starts v n m h = n refl
+not_called (asks j) v n m h = closed_out v.outs j h.1 (subst IsOutOpen (sym m) tt)
+not_called (brings i x) v n m h = closed_in v.ins i h.0 (comes_open x (in_at v i) m)
+not_called (cancels j) v n m h = closed_out v.outs j h.1 m
+
+open_taking : (l : Taking) (c : Call) (v : View) (b : Bool) → l.live ≡ b → (c ≡ starts → ⊥) → CallAllowed c v → taking.row_by b l v → l.live ≡ true
+open_taking l c v true e n m r = e
+open_taking l c v false e n m r = absurd (not_called c v n m r)
+
+open_pairing : (Sound : Pairing → Type 0) (l : Pairing) (c : Call) (v : View) (p : Phase) → l.phase ≡ p → (l.phase ≡ New → ⊥) → (c ≡ starts → ⊥) → CallAllowed c v → row_by Sound p l v → l.phase ≡ Open
+open_pairing Sound l c v New e s n m r = absurd (s e)
+open_pairing Sound l c v Open e s n m r = e
+open_pairing Sound l c v Closed e s n m r = absurd (not_called c v n m r)
+
+pub called_open : (l : InLogic) (c : Call) (v : View) → IsStarted l → (c ≡ starts → ⊥) → CallAllowed c v → row l v → IsOpen l
+called_open (logic.Taking l) c v s n m r = open_taking l c v l.live refl n m r
+called_open (logic.Sorting l) c v s n m r = open_pairing sorted.Sound l c v l.phase refl s n m r
+called_open (logic.Zipping l) c v s n m r = open_pairing zipping.Sound l c v l.phase refl s n m r
+
+-- ---- between two calls
+
+-- two inputs
+record Two (ins : List Inflow) : Type 0 where
+  pub a : Inflow
+  pub b : Inflow
+  pub is : ins ≡ a ∷ b ∷ []
+
+two_of : (ins : List Inflow) → length ins ≡ 2 → Two ins
+two_of [] h = absurd (omega (arith, h))
+two_of (a ∷ []) h = absurd (omega (arith, h))
+two_of (a ∷ b ∷ []) h = record { a = a; b = b; is = refl }
+two_of (a ∷ b ∷ c ∷ ins) h = absurd (omega (arith, h))
+
+-- one with two inputs, by what it does where it is open
+rests_of : (P : List picture.View → picture.View → Type 0) (Sound : Pairing → Type 0) (l : Pairing) (v : View) (ins : List Inflow) (g : List Tree) (p : Phase) → l.phase ≡ p → (l.phase ≡ New → ⊥) → row_by Sound p l v → length ins ≡ length v.ins
+    → ((a b : Inflow) → ins ≡ a ∷ b ∷ [] → l.phase ≡ Open → FanRests P v (a ∷ b ∷ []) g) → FanRests P v ins g
+rests_of P Sound l v ins g New e s r long at = absurd (s e)
+rests_of P Sound l v ins g Open e s r long at =
+    let two = two_of ins (long ∙ ap (λ (w : View). length w.ins) r.0) in
+    subst (λ fs. FanRests P v fs g) (sym two.is) (at two.a two.b two.is e)
+rests_of P Sound l v ins g Closed e s r long at = closed_rests P v ins g r
+
+pub logic_rests : (first now : InLogic) (v : View) (took gave : List (List Item)) → IsStarted now → row now v → (law : InLaw first now v took gave) → FanRests (KindRests now) v law.by.law.ins law.by.law.out_list
+logic_rests (logic.Taking f) (logic.Taking l) v took gave s r law = taking_rests l v law.by.law.ins law.by.law.out_list r law.by.law.ports
+logic_rests (logic.Sorting f) (logic.Sorting l) v took gave s r law =
+    rests_of SortedRests sorted.Sound l v law.by.law.ins law.by.law.out_list l.phase refl s r law.by.law.ports (λ a b is e. sorting_rests l v a b law.by.law.out_list e r)
+logic_rests (logic.Zipping f) (logic.Zipping l) v took gave s r law =
+    rests_of ZipRests zipping.Sound l v law.by.law.ins law.by.law.out_list l.phase refl s r law.by.law.ports
+    (λ a b is e. zipping_rests l v a b law.by.law.out_list law.by.law.out_end e r (subst (λ fs. ZipKeeps (zipping.held l) fs law.by.law.out_list law.by.law.out_end) is law.by.law.keeps))
+logic_rests first now v took gave s r law = absurd law.same
+
+-- ---- calls
+
+pub turn_keeps : (c : Call) (first old new : InLogic) (v : View) (took gave : List (List Item)) (acts : List Act) → CallAllowed c v → ActsAllowed (seen c v) acts → Turned c old acts new
+    → InLaw first old v took gave → InLaw first new (acted_all (seen c v) acts) (brought_by c took) (given_all acts gave)
+turn_keeps c (logic.Taking f) (logic.Taking l) (logic.Taking m) v took gave acts may allowed t law = record {
+  same = t.segment ∙ law.same;
+  by = fan_node (taking_by f.segment) (taking.place_of f) c (taking.held l) (taking.held m) v took gave acts may allowed (subst (λ s. FanTurnAt (taking_by s) c (taking.held l) (given_on 0 acts) (taking.held m)) law.same t.turn) law.by;
+}
+turn_keeps c (logic.Sorting f) (logic.Sorting l) (logic.Sorting m) v took gave acts may allowed t law = record {
+  same = tt;
+  by = fan_node sorting sorted.nowhere c (sorted.held l) (sorted.held m) v took gave acts may allowed t.turn law.by;
+}
+turn_keeps c (logic.Zipping f) (logic.Zipping l) (logic.Zipping m) v took gave acts may allowed t law = record {
+  same = tt;
+  by = zip_node c (zipping.held l) (zipping.held m) v took gave acts may allowed t.turn law.by;
+}
+turn_keeps c (logic.Taking f) (logic.Taking l) new v took gave acts may allowed t law = absurd t
+turn_keeps c (logic.Sorting f) (logic.Sorting l) new v took gave acts may allowed t law = absurd t
+turn_keeps c (logic.Zipping f) (logic.Zipping l) new v took gave acts may allowed t law = absurd t
+turn_keeps c first old new v took gave acts may allowed t law = absurd law.same
+
+turned_started : (c : Call) (old new : InLogic) (acts : List Act) → Turned c old acts new → IsStarted new
+turned_started c (logic.Taking l) (logic.Taking m) acts t = tt
+turned_started c (logic.Sorting l) (logic.Sorting m) acts t = t.started
+turned_started c (logic.Zipping l) (logic.Zipping m) acts t = t.started
+turned_started c old new acts t = absurd t
+
+turned_stands : (c : Call) (old new : InLogic) (acts : List Act) → Turned c old acts new → AsksStand acts
+turned_stands c (logic.Taking l) (logic.Taking m) acts t = t.stands
+turned_stands c (logic.Sorting l) (logic.Sorting m) acts t = t.stands
+turned_stands c (logic.Zipping l) (logic.Zipping m) acts t = t.stands
+turned_stands c old new acts t = absurd t
+
+pub handled : (c : Call) (old new : InLogic) (acts : List Act) → (c ≡ starts → ⊥) → IsStarted old → Obeys c (row old) (row new) acts → Turned c old acts new → Handles InRow InLaw c old new acts
+handled c old new acts n s o t = record {
+  obeys = record {
+    allowed = λ v may r. o.allowed v may r.row;
+    row = λ v may r. record { started = turned_started c old new acts t; row = o.row v may r.row };
+  };
+  stands = turned_stands c old new acts t;
+  keeps = λ first v took gave may r law. turn_keeps c first old new v took gave acts may (o.allowed v may r.row) t law;
+}
+
+-- ---- before anything came
+
+empty_at : (hs : List (List Item)) (i : ℕ) → AllEmpty hs → slice_index_or hs i [] ≡ []
+empty_at [] i h = refl
+empty_at (x ∷ hs) zero h = h.0
+empty_at (x ∷ hs) (suc i) h = empty_at hs i h.1
+
+one_empty : (hs : List (List Item)) → AllEmpty hs → length hs ≡ 1 → hs ≡ [] ∷ []
+one_empty [] h l = absurd (omega (arith, l))
+one_empty (x ∷ []) h l = ap (λ (y : List Item). y ∷ []) h.0
+one_empty (x ∷ y ∷ hs) h l = absurd (omega (arith, l))
+
+-- the law before anything came, where both histories are empty
+begun : (K : List Inflow → List Tree → End → Type 0) (v : View) (took gave : List (List Item)) → AllEmpty took → AllEmpty gave → length took ≡ length v.ins → length gave ≡ 1 → PortsLaw K v (λ _. []) [] → InPortsLaw K v took gave
+begun K v took gave a b m n law = record {
+  given = [];
+  gave_is = one_empty gave b n;
+  ports = m;
+  law = ports_as K v (λ _. []) (λ i. slice_index_or took i []) [] (λ i l. empty_at took i a) law;
+}
+
+-- where no input was asked, none has ended
+none_over : (n c : ℕ) (over : List Bool) (asked : Bool) → AllIdle (seats n over c asked) → none_of over ≡ untouched (length (seats n over c asked))
+none_over n c [] asked h = refl
+none_over n c (true ∷ over) asked h = let e = h.0 in cc
+none_over n c (false ∷ over) asked h = ap (λ (ws : List Inflow). nothing ∷ ws) (none_over (n + 1) c over asked h.1)
+
+unasked_open : (y : OutView) → y ≡ Unasked → GaveAs y unended
+unasked_open y e = subst (λ z. GaveAs z unended) (sym e) refl
+
+fresh_taking : (l : Taking) (v : View) (took gave : List (List Item)) → CallAllowed starts v → l.live ≡ true → taking.row l v → AllEmpty took → AllEmpty gave → length took ≡ length v.ins → length gave ≡ length v.outs
+    → InPortsLaw (FanKeeps (taking_by l.segment) (taking.place_of l) (taking.held l)) v took gave
+fresh_taking l v took gave may live r a b m n =
+    let s = subst (λ x. taking.row_by x l v) live r in
+    let outs : v.outs ≡ wish l.asked ∷ [] = ap (λ (w : View). w.outs) s.0 in
+    let idle : AllIdle (seats 0 l.over l.current l.asked) = subst (λ (w : View). AllIdle w.ins) s.0 may.0 in
+    let quiet : wish l.asked ≡ Unasked = (subst (λ (w : View). AllUnasked w.outs) s.0 may.1).0 in
+    let ins : v.ins ≡ seats 0 l.over l.current l.asked = ap (λ (w : View). w.ins) s.0 in
+    let held : taking.held l ≡ fan.waits (taking.place_of l) (untouched (length v.ins)) =
+    ap (λ x. taking.held_by x (taking.place_of l) l.over) live ∙ ap (λ ws. fan.waits (taking.place_of l) ws) (none_over 0 l.current l.over l.asked idle) ∙ ap (λ (xs : List InView). fan.waits (taking.place_of l) (untouched (length xs))) (sym ins) in
+    begun (FanKeeps (taking_by l.segment) (taking.place_of l) (taking.held l)) v took gave a b m (n ∙ ap length outs)
+    (subst (λ x. PortsLaw (FanKeeps (taking_by l.segment) (taking.place_of l) x) v (λ _. []) []) (sym held)
+    (fan_new (taking_by l.segment) (taking.place_of l) v may.0 (subst (λ ys. GaveAs (slice_index_or ys 0 Shut) unended) (sym outs) (unasked_open (wish l.asked) quiet))))
+
+blank_flow : (i : Inlet) → IsBlank i → inlet_flow i ≡ nothing
+blank_flow i h = ap (λ x. inlet_flow (record { held = x; over = i.over })) h.0 ∙ ap (λ b. inlet_flow (record { held = None; over = b })) h.1
+
+fresh_sorting : (l : Pairing) (v : View) (took gave : List (List Item)) → CallAllowed starts v → l.phase ≡ New → sorted.row l v → AllEmpty took → AllEmpty gave → length took ≡ length v.ins → length gave ≡ length v.outs
+    → InPortsLaw (FanKeeps sorting sorted.nowhere (sorted.held l)) v took gave
+fresh_sorting l v took gave may new r a b m n =
+    let s = subst (λ p. row_by sorted.Sound p l v) new r in
+    let outs : v.outs ≡ Unasked ∷ [] = ap (λ (w : View). w.outs) s.0 in
+    let ins : v.ins ≡ Idle ∷ Idle ∷ [] = ap (λ (w : View). w.ins) s.0 in
+    let held : sorted.held l ≡ fan.waits sorted.nowhere (untouched (length v.ins)) =
+    ap (λ p. sorted.held_by p l) new ∙ ap (λ x. fan.waits sorted.nowhere (x ∷ inlet_flow l.right ∷ [])) (blank_flow l.left s.1.0) ∙ ap (λ x. fan.waits sorted.nowhere (nothing ∷ x ∷ [])) (blank_flow l.right s.1.1.0)
+    ∙ ap (λ (xs : List InView). fan.waits sorted.nowhere (untouched (length xs))) (sym ins) in
+    begun (FanKeeps sorting sorted.nowhere (sorted.held l)) v took gave a b m (n ∙ ap length outs)
+    (subst (λ x. PortsLaw (FanKeeps sorting sorted.nowhere x) v (λ _. []) []) (sym held)
+    (fan_new sorting sorted.nowhere v may.0 (subst (λ ys. GaveAs (slice_index_or ys 0 Shut) unended) (sym outs) refl)))
+
+fresh_zipping : (l : Pairing) (v : View) (took gave : List (List Item)) → CallAllowed starts v → l.phase ≡ New → zipping.row l v → AllEmpty took → AllEmpty gave → length took ≡ length v.ins → length gave ≡ length v.outs
+    → InPortsLaw (ZipKeeps (zipping.held l)) v took gave
+fresh_zipping l v took gave may new r a b m n =
+    let s = subst (λ p. row_by zipping.Sound p l v) new r in
+    let outs : v.outs ≡ Unasked ∷ [] = ap (λ (w : View). w.outs) s.0 in
+    let ins : v.ins ≡ Idle ∷ Idle ∷ [] = ap (λ (w : View). w.ins) s.0 in
+    let held : zipping.held l ≡ zip.waits nothing nothing =
+    ap (λ p. zipping.held_by p l) new ∙ ap (λ x. zip.waits x (inlet_flow l.right)) (blank_flow l.left s.1.0) ∙ ap (λ x. zip.waits nothing x) (blank_flow l.right s.1.1.0) in
+    begun (ZipKeeps (zipping.held l)) v took gave a b m (n ∙ ap length outs)
+    (subst (λ x. PortsLaw (ZipKeeps x) v (λ _. []) []) (sym held)
+    (zip_new v (ap length ins) may.0 (subst (λ ys. GaveAs (slice_index_or ys 0 Shut) unended) (sym outs) refl)))
+
+fresh_law : (l : InLogic) (v : View) (took gave : List (List Item)) → CallAllowed starts v → IsNew l → row l v → AllEmpty took → AllEmpty gave → length took ≡ length v.ins → length gave ≡ length v.outs → InLaw l l v took gave
+fresh_law (logic.Taking l) v took gave may new r a b m n = record { same = refl; by = fresh_taking l v took gave may new r a b m n }
+fresh_law (logic.Sorting l) v took gave may new r a b m n = record { same = tt; by = fresh_sorting l v took gave may new r a b m n }
+fresh_law (logic.Zipping l) v took gave may new r a b m n = record { same = tt; by = fresh_zipping l v took gave may new r a b m n }
+
+pub started : (old new : InLogic) (acts : List Act) → IsNew old → Obeys starts (row old) (row new) acts → Turned starts old acts new → Starts InRow InLaw InFresh old new acts
+started old new acts n o t = record {
+  obeys = record {
+    allowed = λ v may r. o.allowed v may r.row;
+    row = λ v may r. record { started = turned_started starts old new acts t; row = o.row v may r.row };
+  };
+  stands = turned_stands starts old new acts t;
+  begins = λ v took gave may r a b m k. turn_keeps starts old old new v took gave acts may (o.allowed v may r.row) t (fresh_law old v took gave may r.fresh r.row a b m k);
+}

@@ -1,0 +1,18 @@
+use Rattle.stage_in.specs.Logics.{Begins}
+use Rattle.stage_in.proofs.Begun.{concat_new, interleave_new, sorted_new, zip_new}
+use Rattle.stage_in.proofs.logic.InLogic.new.Goals.{in-Concat+in_ok-new-in-Concat, in-Interleave+in_ok-new-in-Interleave, in-MergeSorted, in-Zip}
+use Rattle.stage_in.proofs.logic.InLogic.new.Goals as goal
+
+pub returns : goal.returns
+returns c =
+    let node = c.args.stage in
+    let kind = c.args.kind in
+    let d = c.args.decider in
+    let to = c.match-kind.result in
+    elim c.match-kind.branch as (λ _. Begins node kind d to) [
+      | in-Concat+in_ok-new-in-Concat w ↦ concat_new node kind d to w.in-Concat.inputs w.in_ok-new-in-Concat.field-0 c.requires w.in-Concat.is w.result-is w.in_ok-new-in-Concat.ensures
+      | in-Interleave+in_ok-new-in-Interleave w ↦
+          interleave_new node kind d to w.in-Interleave.inputs w.in-Interleave.segment w.in_ok-new-in-Interleave.field-0 c.requires w.in-Interleave.is w.result-is w.in_ok-new-in-Interleave.ensures
+      | in-MergeSorted w ↦ sorted_new node kind d to w.new-in-MergeSorted.result w.in-MergeSorted.is w.result-is w.new-in-MergeSorted.ensures
+      | in-Zip w ↦ zip_new node kind d to w.new-in-Zip.result w.in-Zip.is w.result-is w.new-in-Zip.ensures
+    ]

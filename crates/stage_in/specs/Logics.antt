@@ -1,0 +1,155 @@
+-- The stages with several inputs, whatever their kind: their rows, what their handlers owe, and their law over histories.
+use Rattle.std.specs.Prelude.{◌≡◌, ◌≢◌, ◌≤◌, ℕ, true, replicate, List, [], ◌∷◌, length, slice_index_or, ⊤}
+use Rattle.elem_core.specs.Tree.{Tree}
+use Rattle.elem_core.specs.declared.item.Item.{Item}
+use Rattle.elem_core.specs.declared.why.Decider.{Decider}
+use Rattle.port_core.specs.declared.act.Act.{Act}
+use Rattle.port_core.specs.declared.view.InView.TheVariants.{Idle}
+use Rattle.port_core.specs.declared.view.OutView.TheVariants.{Unasked}
+use Rattle.port_core.specs.View as port
+use Rattle.port_core.specs.Call.{Call}
+use Rattle.stream_model.specs.declared.kind.Kind.{Kind}
+use Rattle.stream_model.specs.declared.kind.Kind.TheVariants.{Concat, Interleave, MergeSorted, Zip}
+use Rattle.stream_model.specs.declared.kind.TheConstants.{MAX_FAN}
+use Rattle.stream_model.specs.Outlook.{End}
+use Rattle.stream_model.specs.FanIn.{Inflow, concat_taken, interleave_taken}
+use Rattle.stream_picture.specs.View.{View}
+use Rattle.stream_picture.specs.Rests.{SortedRests, ZipRests}
+use Rattle.stage_law.specs.Inflows.{PortsLaw}
+use Rattle.stage_law.specs.Fans.{FanKeeps}
+use Rattle.stage_law.specs.Zips.{ZipKeeps}
+use Rattle.stage_in.specs.declared.phase.Phase.TheVariants.{New, Open}
+use Rattle.stage_in.specs.declared.logic.InLogic.{InLogic}
+use Rattle.stage_in.specs.declared.logic.InLogic.TheVariants as logic
+use Rattle.stage_in.specs.Kinds.{taking_by, sorting}
+use Rattle.stage_in.specs.Takings as taking
+use Rattle.stage_in.specs.Sortings as sorted
+use Rattle.stage_in.specs.Zippings as zipping
+use Rattle.stage_in.specs.OwnRows.{TakingRests}
+
+-- ---- kinds
+
+-- the greatest number of elements of a segment
+abbrev pub max_segment : ℕ
+max_segment = 4000000000
+
+-- so many inputs are allowed
+abbrev pub IsFan : ℕ → Type 0
+IsFan n = (2 ≤ n) × (n ≤ MAX_FAN)
+
+-- the kinds that these stages are, with sizes in their limits
+abbrev pub IsFanIn : Kind → Type 0
+IsFanIn (Concat n) = IsFan n
+IsFanIn (Interleave n s) = IsFan n × ((1 ≤ s) × (s ≤ max_segment))
+IsFanIn MergeSorted = ⊤
+IsFanIn Zip = ⊤
+IsFanIn _ = ⊥
+
+-- how many inputs such a kind has
+abbrev pub inputs_of : Kind → ℕ
+inputs_of (Concat n) = n
+inputs_of (Interleave n s) = n
+inputs_of _ = 2
+
+-- ---- where a stage stands
+
+-- it may be started; a stage that asks nothing at its start is then open already
+abbrev pub IsNew : InLogic → Type 0
+IsNew (logic.Taking l) = l.live ≡ true
+IsNew (logic.Sorting l) = l.phase ≡ New
+IsNew (logic.Zipping l) = l.phase ≡ New
+
+-- it takes and gives elements
+abbrev pub IsOpen : InLogic → Type 0
+IsOpen (logic.Taking l) = l.live ≡ true
+IsOpen (logic.Sorting l) = l.phase ≡ Open
+IsOpen (logic.Zipping l) = l.phase ≡ Open
+
+-- it needs no start any more
+abbrev pub IsStarted : InLogic → Type 0
+IsStarted (logic.Taking l) = ⊤
+IsStarted (logic.Sorting l) = l.phase ≢ New
+IsStarted (logic.Zipping l) = l.phase ≢ New
+
+-- what it knows of its ports
+abbrev pub row : InLogic → port.View → Type 0
+row (logic.Taking l) v = taking.row l v
+row (logic.Sorting l) v = sorted.row l v
+row (logic.Zipping l) v = zipping.row l v
+
+-- no call of it takes memory
+abbrev pub TakesNone : InLogic → Type 0
+TakesNone (logic.Taking l) = ⊤
+TakesNone (logic.Sorting l) = ⊤
+TakesNone (logic.Zipping l) = ⊥
+
+-- what a handler owes to the law; the stage stays of its kind, and no action cancels what an earlier one asked
+abbrev pub Turned : Call → InLogic → List Act → InLogic → Type 0
+Turned call (logic.Taking l) acts (logic.Taking m) = taking.Turned call l acts m
+Turned call (logic.Sorting l) acts (logic.Sorting m) = sorted.Turned call l acts m
+Turned call (logic.Zipping l) acts (logic.Zipping m) = zipping.Turned call l acts m
+Turned _ _ _ _ = ⊥
+
+-- ---- a new stage
+
+-- it takes its inputs as the model says of the kind; a merge_sorted and a zip have one way alone
+abbrev pub TakesAs : Kind → InLogic → Type 0
+TakesAs (Concat n) (logic.Taking l) = (taking_by l.segment).from (taking.place_of l) ≡ concat_taken
+TakesAs (Interleave n s) (logic.Taking l) = (taking_by l.segment).from (taking.place_of l) ≡ interleave_taken s
+TakesAs MergeSorted (logic.Sorting l) = ⊤
+TakesAs Zip (logic.Zipping l) = ⊤
+TakesAs _ _ = ⊥
+
+-- n inputs and an output that were not asked
+abbrev pub unasked_ports : ℕ → port.View
+unasked_ports n = record { ins = replicate n Idle; outs = Unasked ∷ [] }
+
+-- a new stage of node `node` may be started, takes its inputs as the model says, and knows that no port was asked
+pub record Begins (node : ℕ) (kind : Kind) (d : Decider) (new : InLogic) : Type 0 where
+  pub fresh : IsNew new
+  pub takes : TakesAs kind new
+  pub ready : row new (unasked_ports (inputs_of kind))
+
+-- ---- the law
+
+-- it is of the kind that it was
+abbrev pub SameKind : InLogic → InLogic → Type 0
+SameKind (logic.Taking f) (logic.Taking l) = l.segment ≡ f.segment
+SameKind (logic.Sorting f) (logic.Sorting l) = ⊤
+SameKind (logic.Zipping f) (logic.Zipping l) = ⊤
+SameKind _ _ = ⊥
+
+-- what the histories of its ports have to do with each other, by the stage as it was at first and as it is now
+abbrev pub Keeps : InLogic → InLogic → List Inflow → List Tree → End → Type 0
+Keeps (logic.Taking f) (logic.Taking l) = FanKeeps (taking_by f.segment) (taking.place_of f) (taking.held l)
+Keeps (logic.Sorting f) (logic.Sorting l) = FanKeeps sorting sorted.nowhere (sorted.held l)
+Keeps (logic.Zipping f) (logic.Zipping l) = ZipKeeps (zipping.held l)
+Keeps _ _ = λ ins g e. ⊥
+
+-- the law by ports, over a history of each port in order
+pub record InPortsLaw (K : List Inflow → List Tree → End → Type 0) (v : port.View) (took gave : List (List Item)) : Type 0 where
+  pub given : List Item
+  pub gave_is : gave ≡ given ∷ []
+  pub ports : length took ≡ length v.ins
+  pub law : PortsLaw K v (λ i. slice_index_or took i []) given
+
+-- it may be started, and its row holds
+pub record InFresh (l : InLogic) (v : port.View) : Type 0 where
+  pub fresh : IsNew l
+  pub row : row l v
+
+-- it was started, and its row holds
+pub record InRow (l : InLogic) (v : port.View) : Type 0 where
+  pub started : IsStarted l
+  pub row : row l v
+
+-- the law of its histories
+pub record InLaw (first now : InLogic) (v : port.View) (took gave : List (List Item)) : Type 0 where
+  pub same : SameKind first now
+  pub by : InPortsLaw (Keeps first now) v took gave
+
+-- one that waits for nothing that it could do, by its kind
+abbrev pub KindRests : InLogic → List View → View → Type 0
+KindRests (logic.Taking l) = TakingRests l.segment
+KindRests (logic.Sorting l) = SortedRests
+KindRests (logic.Zipping l) = ZipRests

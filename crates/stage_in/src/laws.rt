@@ -1,0 +1,40 @@
+// Laws of the stages with several inputs: each function has no body, and its contract is the law.
+ghost use Rattle.std.specs.Prelude.{◌≡◌, ◌≢◌, ℕ, List, length};
+ghost use Rattle.elem_core.specs.declared.item.Item.{Item};
+ghost use Rattle.elem_core.specs.declared.why.Decider.{Decider};
+ghost use Rattle.port_core.specs.declared.act.Act.{Act};
+ghost use Rattle.port_core.specs.View.{View};
+ghost use Rattle.port_core.specs.Call.{Call, starts, CallAllowed, Obeys};
+ghost use Rattle.stream_model.specs.declared.kind.Kind.{Kind};
+ghost use Rattle.stream_model.specs.Graph.{Graph};
+ghost use Rattle.stream_model.specs.Node.{World, node_outlook};
+ghost use Rattle.stream_model.specs.Outlook.{Outlook, Agrees};
+ghost use Rattle.stream_model.specs.FanIn.{AllAgree};
+ghost use Rattle.stage_core.specs.Handling.{Starts, Handles};
+ghost use Rattle.stage_in.specs.declared.logic.InLogic.{InLogic};
+ghost use Rattle.stage_in.specs.Logics.{Begins, IsNew, IsOpen, IsStarted, InFresh, InLaw, InRow, KindRests, Turned, inputs_of, row};
+ghost use Rattle.stage_in.specs.OwnRows.{FanRests};
+
+/// Where its row and its law hold, a stage that was started has closed all its ports, or has nothing to do.
+pub fn a_started_stage_rests()
+    ensures { (first now : InLogic) (v : View) (took gave : List (List Item)) → IsStarted now → row now v → (law : InLaw first now v took gave) → FanRests (KindRests now) v law.by.law.ins law.by.law.out_list }
+{}
+
+/// Where the port rules allow a call of a handler and the row holds, a stage that was started is open.
+pub fn a_called_stage_is_open()
+    ensures { (l : InLogic) (call : Call) (v : View) → IsStarted l → call ≢ starts → CallAllowed call v → row l v → IsOpen l }
+{}
+
+/// What a handler owes to the port rules and to the law is all that is asked of a stage: its start begins the law of its
+/// histories, and every other call keeps it.
+pub fn calls_keep_the_law()
+    ensures starts { (old new : InLogic) (acts : List Act) → IsNew old → Obeys starts (row old) (row new) acts → Turned starts old acts new → Starts InRow InLaw InFresh old new acts }
+    ensures handles { (call : Call) (old new : InLogic) (acts : List Act) → call ≢ starts → IsStarted old → Obeys call (row old) (row new) acts → Turned call old acts new → Handles InRow InLaw call old new acts }
+{}
+
+/// Where its law holds from a new stage of this kind on, and what came to each input agrees with that input's outlook, what
+/// it gave agrees with the outlook that the model has of its output.
+pub fn a_stage_agrees_with_its_outlook()
+    ensures { (g : Graph) (w : World) (node : ℕ) (kind : Kind) (d : Decider) (is : List Outlook) (first now : InLogic) (v : View) (took gave : List (List Item)) → Begins node kind d first → length is ≡ inputs_of kind
+        → (law : InLaw first now v took gave) → AllAgree is law.by.law.ins → Agrees (node_outlook g w node kind d is 0) law.by.law.out_list law.by.law.out_end }
+{}

@@ -1,0 +1,173 @@
+ghost use Rattle.std.specs.Prelude.{◌≡◌, ◌≤◌, [], OnOk, OnErr, IfOk, IsOk};
+ghost use Rattle.elem_core.specs.declared.item.Item.TheVariants as item;
+ghost use Rattle.port_core.specs.Call.{Obeys, Meets, starts, asks, brings, cancels};
+ghost use Rattle.stage_core.specs.Handling.{most_acts};
+ghost use Rattle.stage_in.specs.Logics.{Begins, IsFanIn, IsNew, IsOpen, TakesNone, row, Turned};
+
+use crate::sorting::Sorting;
+use crate::taking::Taking;
+use crate::zipping::Zipping;
+use elem_core::elem::Elem;
+use elem_core::why::{Cause, Decider, NoMemory};
+use port_core::acts::Acts;
+use port_core::pick_log::PickLog;
+use std::alloc::Global;
+use stream_model::kind::Kind;
+
+/// The logic of a stage with several inputs and one output. Rule: Akka Streams 2.6 reference.
+#[derive(Drop)]
+pub enum InLogic {
+    /// A concat or an interleave.
+    Taking(Taking),
+    /// A merge_sorted.
+    Sorting(Sorting),
+    /// A zip.
+    Zipping(Zipping),
+}
+
+impl InLogic {
+    /// The logic of node `stage`, which is of one of these kinds: a concat or an interleave of 2 to `MAX_FAN` inputs, the
+    /// latter by segments of 1 to 4,000,000,000 elements, a merge_sorted or a zip. It has no decider, for it calls no
+    /// function. It takes memory for one flag an input.
+    pub fn new(alloc: Global, stage: u32, kind: Kind, decider: Decider) -> Result<InLogic, NoMemory>
+        requires { IsFanIn kind }
+        ensures { IfOk result (Begins stage kind decider) }
+    {
+        let _stage = stage;
+        let _decider = decider;
+        Ok(match kind {
+            Kind::Concat(inputs) => InLogic::Taking(Taking::new(alloc, inputs, None)?),
+            Kind::Interleave(inputs, segment) => {
+                InLogic::Taking(Taking::new(alloc, inputs, Some(segment))?)
+            }
+            Kind::MergeSorted => InLogic::Sorting(Sorting::new()),
+            Kind::Zip => InLogic::Zipping(Zipping::new()),
+            _ => unreachable!(),
+        })
+    }
+
+    /// The run begins.
+    pub fn start(&mut self, acts: &mut Acts) -> Result<(), NoMemory>
+        requires fresh { IsNew self.old }
+        requires meets { Meets starts (row self.old) }
+        requires empty { acts.old.items ≡ [] }
+        requires room { most_acts ≤ acts.old.room }
+        ensures answers { IsOk result }
+        ensures ports { OnOk result (Obeys starts (row self.old) (row self.new) acts.new.items) }
+        ensures gives { OnOk result (Turned starts self.old acts.new.items self.new) }
+        ensures room { acts.new.room ≡ acts.old.room }
+    {
+        match self {
+            InLogic::Taking(logic) => logic.start(acts),
+            InLogic::Sorting(logic) => logic.start(acts),
+            InLogic::Zipping(logic) => logic.start(acts),
+        }
+    }
+
+    /// An element came. A zip takes memory where it gives a pair, and no other stage takes any.
+    pub fn on_push(
+        &mut self,
+        alloc: Global,
+        port: u8,
+        e: Elem,
+        acts: &mut Acts,
+    ) -> Result<(), NoMemory>
+        requires open { IsOpen self.old }
+        requires meets { Meets (brings port (item.Elem e)) (row self.old) }
+        requires empty { acts.old.items ≡ [] }
+        requires room { most_acts ≤ acts.old.room }
+        ensures answers { TakesNone self.old → IsOk result }
+        ensures ports { OnOk result (Obeys (brings port (item.Elem e)) (row self.old) (row self.new) acts.new.items) }
+        ensures gives { OnOk result (Turned (brings port (item.Elem e)) self.old acts.new.items self.new) }
+        ensures room { OnOk result (acts.new.room ≡ acts.old.room) }
+    {
+        match self {
+            InLogic::Taking(logic) => logic.on_push(port, e, acts),
+            InLogic::Sorting(logic) => logic.on_push(port, e, acts),
+            InLogic::Zipping(logic) => logic.on_push(alloc, port, e, acts),
+        }
+    }
+
+    /// The output was asked. A zip takes memory where it gives a pair, and no other stage takes any.
+    pub fn on_pull(&mut self, alloc: Global, port: u8, acts: &mut Acts) -> Result<(), NoMemory>
+        requires open { IsOpen self.old }
+        requires port { port ≡ 0 }
+        requires meets { Meets (asks 0) (row self.old) }
+        requires empty { acts.old.items ≡ [] }
+        requires room { most_acts ≤ acts.old.room }
+        ensures answers { TakesNone self.old → IsOk result }
+        ensures ports { OnOk result (Obeys (asks 0) (row self.old) (row self.new) acts.new.items) }
+        ensures gives { OnOk result (Turned (asks 0) self.old acts.new.items self.new) }
+        ensures room { OnOk result (acts.new.room ≡ acts.old.room) }
+    {
+        let _port = port;
+        match self {
+            InLogic::Taking(logic) => logic.on_pull(acts),
+            InLogic::Sorting(logic) => logic.on_pull(acts),
+            InLogic::Zipping(logic) => logic.on_pull(alloc, acts),
+        }
+    }
+
+    /// An input has ended.
+    pub fn on_finish(&mut self, port: u8, acts: &mut Acts) -> Result<(), NoMemory>
+        requires open { IsOpen self.old }
+        requires meets { Meets (brings port item.Ended) (row self.old) }
+        requires empty { acts.old.items ≡ [] }
+        requires room { most_acts ≤ acts.old.room }
+        ensures answers { IsOk result }
+        ensures ports { OnOk result (Obeys (brings port item.Ended) (row self.old) (row self.new) acts.new.items) }
+        ensures gives { OnOk result (Turned (brings port item.Ended) self.old acts.new.items self.new) }
+        ensures room { acts.new.room ≡ acts.old.room }
+    {
+        match self {
+            InLogic::Taking(logic) => logic.on_finish(port, acts),
+            InLogic::Sorting(logic) => logic.on_finish(port, acts),
+            InLogic::Zipping(logic) => logic.on_finish(port, acts),
+        }
+    }
+
+    /// An input has failed, which fails the stage: its other inputs are cancelled, and what waits is dropped.
+    pub fn on_fail(&mut self, port: u8, cause: Cause, acts: &mut Acts) -> Result<(), NoMemory>
+        requires open { IsOpen self.old }
+        requires meets { Meets (brings port (item.Failed cause)) (row self.old) }
+        requires empty { acts.old.items ≡ [] }
+        requires room { most_acts ≤ acts.old.room }
+        ensures answers { IsOk result }
+        ensures ports { OnOk result (Obeys (brings port (item.Failed cause)) (row self.old) (row self.new) acts.new.items) }
+        ensures gives { OnOk result (Turned (brings port (item.Failed cause)) self.old acts.new.items self.new) }
+        ensures room { acts.new.room ≡ acts.old.room }
+    {
+        match self {
+            InLogic::Taking(logic) => logic.on_fail(port, cause, acts),
+            InLogic::Sorting(logic) => logic.on_fail(port, cause, acts),
+            InLogic::Zipping(logic) => logic.on_fail(port, cause, acts),
+        }
+    }
+
+    /// The output was cancelled.
+    pub fn on_cancel(&mut self, port: u8, acts: &mut Acts) -> Result<(), NoMemory>
+        requires open { IsOpen self.old }
+        requires port { port ≡ 0 }
+        requires meets { Meets (cancels 0) (row self.old) }
+        requires empty { acts.old.items ≡ [] }
+        requires room { most_acts ≤ acts.old.room }
+        ensures answers { IsOk result }
+        ensures ports { OnOk result (Obeys (cancels 0) (row self.old) (row self.new) acts.new.items) }
+        ensures gives { OnOk result (Turned (cancels 0) self.old acts.new.items self.new) }
+        ensures room { acts.new.room ≡ acts.old.room }
+    {
+        let _port = port;
+        match self {
+            InLogic::Taking(logic) => logic.on_cancel(acts),
+            InLogic::Sorting(logic) => logic.on_cancel(acts),
+            InLogic::Zipping(logic) => logic.on_cancel(acts),
+        }
+    }
+
+    /// The run is over: the log of its moves, of which it made none. It takes no memory.
+    pub fn close(self, alloc: Global) -> PickLog
+        ensures { result.moves ≡ [] }
+    {
+        PickLog::new(alloc)
+    }
+}

@@ -7,4 +7,6 @@ pub mod logic;
 pub mod phase;
 pub mod sorting;
 pub mod taking;
+#[cfg(test)]
+mod tests;
 pub mod zipping;

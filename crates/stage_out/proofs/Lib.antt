@@ -1,0 +1,12 @@
+pub mod Wants
+pub mod OnOks
+pub mod Serves
+pub mod Agreeing
+pub mod Rests
+pub mod Partitions
+pub mod Parted
+pub mod Dues
+pub mod Deals
+pub mod Begins
+pub mod OutLogics
+pub mod OutRests

@@ -1,0 +1,193 @@
+-- A stage with several outputs has nothing to do over its own ports; and where it is called, its ports are not all closed.
+use Rattle.std.specs.Prelude.{slice_get, slice_index_or, Some, None, Option, ◌⊎◌, ◌==◌}
+use Rattle.std.proofs.Common.{◌≡◌, ℕ, zero, suc, ◌+◌, ◌≤◌, inl, inr, Bool, true, false, List, [], ◌∷◌, length, map, refl, sym, ap, ◌∙◌, subst, arith}
+use Rattle.std.proofs.lemmas.List.{length-map}
+use Rattle.elem_core.specs.Tree.{Tree}
+use Rattle.elem_core.specs.declared.item.Item.{Item}
+use Rattle.elem_core.specs.declared.item.Item.TheVariants as item
+use Rattle.port_core.specs.declared.view.InView.{InView}
+use Rattle.port_core.specs.declared.view.InView.TheVariants.{Idle, Waiting, Over, Left}
+use Rattle.port_core.specs.declared.view.OutView.{OutView}
+use Rattle.port_core.specs.declared.view.OutView.TheVariants.{Unasked, Asked, Shut, Refused}
+use Rattle.port_core.specs.View as port
+use Rattle.port_core.specs.View.{IsOutOpen}
+use Rattle.port_core.specs.Call.{Call, starts, asks, brings, cancels, AllIdle, MayCome, CallAllowed}
+use Rattle.stream_model.specs.Linear.{Book, Stage}
+use Rattle.stream_model.specs.Outlook.{End}
+use Rattle.stream_picture.specs.View.{EachWire, SomeWire}
+use Rattle.stream_picture.specs.Rests.{IsShut, IsUnasked, OneToMany, PartitionRests}
+use Rattle.stage_law.specs.Held.{told, Held}
+use Rattle.stage_law.specs.Outs.{Outlet, OutsLaw}
+use Rattle.stage_law.specs.OwnPorts.{own_input}
+use Rattle.stage_out.specs.declared.want.Want.{Want}
+use Rattle.stage_out.specs.declared.want.Want.TheVariants.{Quiet, Asks, Gone}
+use Rattle.stage_out.specs.declared.logic.OutLogic.{OutLogic}
+use Rattle.stage_out.specs.declared.logic.OutLogic.TheVariants.{Copies, Deals}
+use Rattle.stage_out.specs.Copies as copies
+use Rattle.stage_out.specs.Copies.{want_view, open_count, OneInClosed, OutsClosed, AllClosed}
+use Rattle.stage_out.specs.CopyStates.{CopyLogic, part_by}
+use Rattle.stage_out.specs.CopyStates as copy
+use Rattle.stage_out.specs.PartitionStates.{PartitionLogic, asks_count, input_of, view_of, Holding, Sound, dealers, then_of}
+use Rattle.stage_out.specs.PartitionStates as part
+use Rattle.stage_out.specs.OutLogics.{is_live, row, no_stage, copiers, outlets}
+use Rattle.stage_out.specs.OwnRows.{own_ins, own_outs, Even, Outlists, OutLists, OutRests}
+use Rattle.stage_out.proofs.OutLogics.{copiers_are}
+use Rattle.stage_out.proofs.Rests.{copy_rests, ins_shut, outs_shut, outlists}
+
+-- ---- the lists that were given
+
+pub record Listed (n k : ℕ) (gave : ℕ → List Item) : Type 0 where
+  pub lists : List (List Tree)
+  pub ports : length lists ≡ k
+  pub told_at : (i : ℕ) (g : List Tree) → slice_get lists i ≡ Some g → (h : End) × (gave (n + i) ≡ told g h)
+
+listed : (os : List (Outlet Stage)) (n : ℕ) (v : port.View) (took : List Item) (gave : ℕ → List Item) → OutsLaw n os v took gave → Listed n (length os) gave
+listed [] n v took gave law = record { lists = []; ports = refl; told_at = λ i g h. cc }
+listed (o ∷ os) n v took gave law =
+    let r = listed os (n + 1) v took gave law.1 in
+    record { lists = law.0.out_list ∷ r.lists; ports = ap suc r.ports; told_at = told_by law.0.out_list law.0.out_end law.0.gave_is r.lists r.told_at }
+  where
+    told_by : (g : List Tree) (h : End) → gave n ≡ told g h → (gs : List (List Tree)) → ((i : ℕ) (k : List Tree) → slice_get gs i ≡ Some k → (d : End) × (gave (n + 1 + i) ≡ told k d))
+        → (i : ℕ) (k : List Tree) → slice_get (g ∷ gs) i ≡ Some k → (d : End) × (gave (n + i) ≡ told k d)
+    told_by g h t gs r zero k at = let z : n + 0 ≡ n = omega arith in let same : g ≡ k = cc in (h, rw (z, ← same) t)
+    told_by g h t gs r (suc i) k at = let z : n + suc i ≡ n + 1 + i = omega arith in let x = r i k at in (x.0, rw z x.1)
+
+even_length : (ws : List Want) (l : List Tree) (gs : List (List Tree)) → Even ws l gs → length gs ≡ length ws
+even_length [] l [] e = refl
+even_length [] l (g ∷ gs) e = absurd e
+even_length (Quiet ∷ ws) l [] e = absurd e
+even_length (Asks ∷ ws) l [] e = absurd e
+even_length (Gone ∷ ws) l [] e = absurd e
+even_length (Quiet ∷ ws) l (g ∷ gs) e = ap suc (even_length ws l gs e.1)
+even_length (Asks ∷ ws) l (g ∷ gs) e = ap suc (even_length ws l gs e.1)
+even_length (Gone ∷ ws) l (g ∷ gs) e = ap suc (even_length ws l gs e)
+
+-- ---- a partition
+
+unasked_there : (ws : List Want) (gs : List (List Tree)) (i : ℕ) → length gs ≡ length ws → slice_get ws i ≡ Some Quiet → SomeWire IsUnasked (own_outs (map want_view ws) gs)
+unasked_there [] gs i e h = cc
+unasked_there (w ∷ ws) [] i e h = absurd (omega (arith, e))
+unasked_there (Quiet ∷ ws) (g ∷ gs) zero e h = inl (refl, refl)
+unasked_there (Asks ∷ ws) (g ∷ gs) zero e h = cc
+unasked_there (Gone ∷ ws) (g ∷ gs) zero e h = cc
+unasked_there (w ∷ ws) (g ∷ gs) (suc i) e h = inr (unasked_there ws gs i (omega (arith, e)) h)
+
+-- where an output is open and none asks, some is unasked
+some_unasked : (ws : List Want) (gs : List (List Tree)) → length gs ≡ length ws → 1 ≤ open_count ws → asks_count ws ≡ 0 → SomeWire IsUnasked (own_outs (map want_view ws) gs)
+some_unasked [] gs e o q = absurd (omega (arith, o))
+some_unasked (w ∷ ws) [] e o q = absurd (omega (arith, e))
+some_unasked (Quiet ∷ ws) (g ∷ gs) e o q = inl (refl, refl)
+some_unasked (Asks ∷ ws) (g ∷ gs) e o q = absurd (omega (arith, q))
+some_unasked (Gone ∷ ws) (g ∷ gs) e o q = inr (some_unasked ws gs (omega (arith, e)) o q)
+
+module _ (l : PartitionLogic) (took : List Tree) (gs : List (List Tree)) (e : length gs ≡ length l.outs) (s : Sound l) where
+  by_held : (h : Option Tree) (b c : Bool) → l.over ≡ b → l.waits ≡ c → Holding h l → PartitionRests (own_input (input_of b c) took) (own_outs (map want_view l.outs) gs)
+  by_held h false true o w x = inl (refl, refl)
+  by_held None false false o w x =
+      let none : asks_count l.outs ≡ 0 = sym s.asking_is ∙ x.1 w in
+      let some : 1 ≤ open_count l.outs = let a = s.open_is in let b = s.some in omega (arith, a, b) in
+      inr (some_unasked l.outs gs e some none, inl (inr (refl, refl)))
+  by_held (Some t) false false o w x = inr (unasked_there l.outs gs l.to e x.1, inl (inr (refl, refl)))
+  by_held None true c o w x = let f : true ≡ false = sym o ∙ x.0 in cc
+  by_held (Some t) true c o w x = inr (unasked_there l.outs gs l.to e x.1, inr refl)
+
+deals_rest : (l : PartitionLogic) (v : port.View) (took : List Tree) (gs : List (List Tree)) → part.row l v → length gs ≡ length l.outs → OutRests (Deals l) v took gs
+deals_rest l v took gs r e = by_live l.live r
+  where
+    by_live : (b : Bool) → part.row_by b l v → OutRests (Deals l) v took gs
+    by_live true r = subst (λ w. OutRests (Deals l) w took gs) (sym r.0) (inr (by_held l took gs e r.1 l.held l.over l.waits refl refl r.1.holds))
+    by_live false r = inl (ins_shut v.ins took r.0, outs_shut v.outs gs r.1)
+
+-- ---- all kinds
+length-copiers : (part : ℕ → Tree → Tree) (live : Bool) (n : ℕ) (ws : List Want) → length (copiers part live n ws) ≡ length ws
+length-copiers part live n [] = refl
+length-copiers part live n (w ∷ ws) = ap suc (length-copiers part live (n + 1) ws)
+
+length-dealers : (book : Book) (l : PartitionLogic) (h : ℕ → Want → Held Stage) (n : ℕ) (ws : List Want) → length (dealers book l h n ws) ≡ length ws
+length-dealers book l h n [] = refl
+length-dealers book l h n (w ∷ ws) = ap suc (length-dealers book l h (n + 1) ws)
+
+at_zero : (gs : List (List Tree)) (gave : ℕ → List Item) → ((i : ℕ) (g : List Tree) → slice_get gs i ≡ Some g → (h : End) × (gave (0 + i) ≡ told g h)) → (i : ℕ) (g : List Tree) → slice_get gs i ≡ Some g → (h : End) × (gave i ≡ told g h)
+at_zero gs gave r i g at = let z : 0 + i ≡ i = omega arith in let x = r i g at in (x.0, subst (λ k. gave k ≡ told g x.0) z x.1)
+
+from_listed : (n : ℕ) (gave : ℕ → List Item) → Listed 0 n gave → OutLists n gave
+from_listed n gave r = record { lists = r.lists; ports = r.ports; told_at = at_zero r.lists gave r.told_at }
+
+copies_stand : (book : Book) (l : CopyLogic) (v : port.View) (took : List Item) (gave : ℕ → List Item) (taken : List Tree) (e : End) → copy.row l v → took ≡ told taken e → OutsLaw 0 (outlets book (Copies l)) v took gave
+    → (o : OutLists (length (outlets book (Copies l))) gave) × OutRests (Copies l) v taken o.lists
+copies_stand book l v took gave taken e r is law = by_live l.live refl r law
+  where
+    by_live : (b : Bool) → l.live ≡ b → copy.row_by b l v → OutsLaw 0 (copiers (part_by l.halves) b 0 l.outs) v took gave → (o : OutLists (length (outlets book (Copies l))) gave) × OutRests (Copies l) v taken o.lists
+    by_live true h r law =
+        let laws : OutsLaw 0 (copies.outlets (part_by l.halves) 0 no_stage l.outs) v took gave = subst (λ os. OutsLaw 0 os v took gave) (copiers_are (part_by l.halves) 0 l.outs) law in
+        let o = outlists (part_by l.halves) no_stage v took taken e is l.outs 0 gave laws in
+        (record { lists = o.lists; ports = even_length l.outs taken o.lists o.even ∙ sym (length-copiers (part_by l.halves) l.live 0 l.outs); told_at = at_zero o.lists gave o.told_at }, copy_rests l v taken o.lists (subst (λ b. copy.row_by b l v) (sym h) r) o.even)
+    by_live false h r law =
+        let k = listed (copiers (part_by l.halves) false 0 l.outs) 0 v took gave law in
+        let n : length (copiers (part_by l.halves) false 0 l.outs) ≡ length (outlets book (Copies l)) = length-copiers (part_by l.halves) false 0 l.outs ∙ sym (length-copiers (part_by l.halves) l.live 0 l.outs) in
+        (record { lists = k.lists; ports = k.ports ∙ n; told_at = at_zero k.lists gave k.told_at }, inl (ins_shut v.ins taken r.0, outs_shut v.outs k.lists r.1))
+
+deals_stand : (book : Book) (l : PartitionLogic) (v : port.View) (took : List Item) (gave : ℕ → List Item) (taken : List Tree) → part.row l v → OutsLaw 0 (outlets book (Deals l)) v took gave
+    → (o : OutLists (length (outlets book (Deals l))) gave) × OutRests (Deals l) v taken o.lists
+deals_stand book l v took gave taken r law =
+    let k = from_listed (length (outlets book (Deals l))) gave (listed (outlets book (Deals l)) 0 v took gave law) in
+    (k, deals_rest l v taken k.lists r (k.ports ∙ length-dealers book l (then_of l.live l) 0 l.outs))
+
+pub stage_rests : (book : Book) (l : OutLogic) (v : port.View) (took : List Item) (gave : ℕ → List Item) (taken : List Tree) (e : End) → row l v → took ≡ told taken e → OutsLaw 0 (outlets book l) v took gave
+    → (o : OutLists (length (outlets book l)) gave) × OutRests l v taken o.lists
+stage_rests book (Copies l) v took gave taken e r is law = copies_stand book l v took gave taken e r is law
+stage_rests book (Deals l) v took gave taken e r is law = deals_stand book l v took gave taken r law
+
+-- ---- a call finds an open port
+
+no_in : (xs : List InView) (i : ℕ) (x : Item) → OneInClosed xs → MayCome x (slice_index_or xs i Left) → ⊥
+no_in [] i x c m = c
+no_in (y ∷ z ∷ xs) i x c m = c
+no_in (Idle ∷ []) i x c m = c
+no_in (Waiting ∷ []) i x c m = c
+no_in (Over ∷ []) zero (item.Elem t) c m = cc
+no_in (Over ∷ []) zero item.Ended c m = m
+no_in (Over ∷ []) zero (item.Failed d) c m = m
+no_in (Left ∷ []) zero (item.Elem t) c m = cc
+no_in (Left ∷ []) zero item.Ended c m = m
+no_in (Left ∷ []) zero (item.Failed d) c m = m
+no_in (Over ∷ []) (suc i) (item.Elem t) c m = cc
+no_in (Over ∷ []) (suc i) item.Ended c m = m
+no_in (Over ∷ []) (suc i) (item.Failed d) c m = m
+no_in (Left ∷ []) (suc i) (item.Elem t) c m = cc
+no_in (Left ∷ []) (suc i) item.Ended c m = m
+no_in (Left ∷ []) (suc i) (item.Failed d) c m = m
+
+no_idle : (xs : List InView) → OneInClosed xs → AllIdle xs → ⊥
+no_idle [] c a = c
+no_idle (y ∷ z ∷ xs) c a = c
+no_idle (Idle ∷ []) c a = c
+no_idle (Waiting ∷ []) c a = c
+no_idle (Over ∷ []) c a = let x : Over ≡ Idle = a.0 in cc
+no_idle (Left ∷ []) c a = let x : Left ≡ Idle = a.0 in cc
+
+no_out : (ys : List OutView) (j : ℕ) → OutsClosed ys → IsOutOpen (slice_index_or ys j Shut) → ⊥
+no_out [] j c o = o
+no_out (Unasked ∷ ys) zero c o = c.0
+no_out (Asked ∷ ys) zero c o = c.0
+no_out (Shut ∷ ys) zero c o = o
+no_out (Refused ∷ ys) zero c o = o
+no_out (y ∷ ys) (suc j) c o = no_out ys j c.1 o
+
+none_called : (call : Call) (v : port.View) → CallAllowed call v → AllClosed v → ⊥
+none_called starts v may c = no_idle v.ins c.0 may.0
+none_called (asks j) v may c = no_out v.outs j c.1 (subst IsOutOpen (sym may) tt)
+none_called (brings i x) v may c = no_in v.ins i x c.0 may
+none_called (cancels j) v may c = no_out v.outs j c.1 may
+
+pub called_is_live : (l : OutLogic) (call : Call) (v : port.View) → CallAllowed call v → row l v → is_live l ≡ true
+called_is_live (Copies l) call v may r = by_live l.live r
+  where
+    by_live : (b : Bool) → copy.row_by b l v → b ≡ true
+    by_live true r = refl
+    by_live false r = absurd (none_called call v may r)
+called_is_live (Deals l) call v may r = by_live l.live r
+  where
+    by_live : (b : Bool) → part.row_by b l v → b ≡ true
+    by_live true r = refl
+    by_live false r = absurd (none_called call v may r)

@@ -1,0 +1,5 @@
+pub mod Copies
+pub mod CopyStates
+pub mod OwnRows
+pub mod PartitionStates
+pub mod OutLogics

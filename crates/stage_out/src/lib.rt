@@ -1,0 +1,8 @@
+// The stages with one input and several outputs.
+#![tactic(auto)]
+
+pub mod copy_logic;
+pub mod laws;
+pub mod logic;
+pub mod partition_logic;
+pub mod want;

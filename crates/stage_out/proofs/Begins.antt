@@ -44,6 +44,7 @@ partition_begins node n f low high = (
     parts = omega (arith, low);
     few = let l = so_many n in omega (arith, l, high);
     holds = (refl, λ e. refl);
+    wants = λ e. cc;
   },
 )
 

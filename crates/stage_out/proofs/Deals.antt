@@ -138,9 +138,20 @@ ends_zero old h o n =
       };
     }
 
+-- it is asked where some output asks
+waits_some : (q : ℕ) → waits_by q ≡ true → 1 ≤ q
+waits_some zero e = cc
+waits_some (suc q) e = omega arith
+
+open_le : (ws : List Want) → open_count ws ≤ length ws
+open_le [] = omega arith
+open_le (Quiet ∷ ws) = let r = open_le ws in omega (arith, r)
+open_le (Asks ∷ ws) = let r = open_le ws in omega (arith, r)
+open_le (Gone ∷ ws) = let r = open_le ws in omega (arith, r)
+
 -- the counts and what is held do not change but that the input has ended
 over_sound : (old : PartitionLogic) → Sound old → old.held ≢ None → Sound (record old { over = true })
-over_sound old s n = record { asking_is = s.asking_is; open_is = s.open_is; some = s.some; parts = s.parts; few = s.few; holds = by_held old.held n s.holds }
+over_sound old s n = record { asking_is = s.asking_is; open_is = s.open_is; some = s.some; parts = s.parts; few = s.few; holds = by_held old.held n s.holds; wants = s.wants }
   where
     by_held : (h : Option Tree) → h ≢ None → Holding h old → Holding h (record old { over = true })
     by_held None k x = absurd (k refl)
@@ -250,7 +261,7 @@ module _ (old : PartitionLogic) (j : ℕ) (h : old.live ≡ true) (sound : Sound
   asked_sound w k =
       let r = asks_set old.outs j q in let a = r.0 in let e = sound.asking_is in
       let l = length-set old.outs j Asks in let f = sound.few in
-      record { asking_is = omega (arith, a, e); open_is = sound.open_is ∙ sym r.1; some = sound.some; parts = sound.parts; few = omega (arith, l, f); holds = k }
+      record { asking_is = omega (arith, a, e); open_is = sound.open_is ∙ sym r.1; some = sound.some; parts = sound.parts; few = omega (arith, l, f); holds = k; wants = λ e. inl (omega arith) }
 
   noted_turns : (book : Book) (acts : List Act) (w : Bool) → ((m : ℕ) → given_on m acts ≡ []) → TurnsAt 0 (asks j) (dealers book old (held_of old) 0 old.outs) acts (dues (held_of (asks_to w)) 0 (slice_set old.outs j Asks))
   noted_turns book acts b g = turns_each book old (asks j) acts (held_of old) (held_of (asks_to b)) old.outs (slice_set old.outs j Asks) 0 (length-set old.outs j Asks) (λ i m w v e p s.
@@ -313,7 +324,7 @@ module _ (old : PartitionLogic) (j : ℕ) (t : Tree) (h : old.live ≡ true) (so
   more_to = record old { held = None; waits = waits_by old.asking }
 
   more_sound : old.over ≡ false → Sound more_to
-  more_sound o = record { asking_is = sound.asking_is; open_is = sound.open_is; some = sound.some; parts = sound.parts; few = sound.few; holds = (o, (pulled old.asking []).none) }
+  more_sound o = record { asking_is = sound.asking_is; open_is = sound.open_is; some = sound.some; parts = sound.parts; few = sound.few; holds = (o, (pulled old.asking []).none); wants = λ e. inl (waits_some old.asking e) }
 
   gets_more : old.over ≡ false → Handled (asks j) old (Push j t ∷ pull_by old.asking) more_to
   gets_more o =
@@ -484,7 +495,7 @@ module _ (old : PartitionLogic) (j : ℕ) (h : old.live ≡ true) (sound : Sound
   struck_sound : (k : Option Tree) (w : Bool) → old.open_outs ≢ 1 → Holding k (record (struck j old) { held = k; waits = w }) → Sound (record (struck j old) { held = k; waits = w })
   struck_sound k w n d =
       let c = open_struck old.outs j was in let e = sound.open_is in let s = sound.some in let l = length-set old.outs j Gone in let f = sound.few in
-      record { asking_is = ap (λ q. less_by (slice_index_or old.outs j Gone) q) sound.asking_is ∙ asks_struck old.outs j; open_is = omega (arith, c, e); some = omega (arith, s, n); parts = sound.parts; few = omega (arith, l, f); holds = d }
+      record { asking_is = ap (λ q. less_by (slice_index_or old.outs j Gone) q) sound.asking_is ∙ asks_struck old.outs j; open_is = omega (arith, c, e); some = omega (arith, s, n); parts = sound.parts; few = omega (arith, l, f); holds = d; wants = λ x. let q = open_le old.outs in inr (omega (arith, s, e, q, l)) }
 
   struck_views : (seen (cancels j) (view_of old)).outs ≡ map want_view left
   struck_views = want_set old.outs j Gone
@@ -640,6 +651,7 @@ module _ (old : PartitionLogic) (t : Tree) (h : old.live ≡ true) (sound : Soun
           parts = sound.parts;
           few = let l = length-set old.outs p Quiet in let f = sound.few in omega (arith, l, f);
           holds = rw n (o, pu.none);
+          wants = λ e. inl (waits_some (old.asking - 1) e);
         } in
         record {
           ports = obeys call old (with_given p one_on) (Push p t ∷ pull_by (old.asking - 1)) h (record {
@@ -678,7 +690,7 @@ module _ (old : PartitionLogic) (t : Tree) (h : old.live ≡ true) (sound : Soun
           ports = obeys call old (record one_on { to = p; held = Some t; waits = false }) [] h (record {
             allowed = tt;
             row_then = is_standing (record one_on { to = p; held = Some t; waits = false }) (seen call (view_of old)) h after
-                (record { asking_is = sound.asking_is; open_is = sound.open_is; some = sound.some; parts = sound.parts; few = sound.few; holds = (refl, q) });
+                (record { asking_is = sound.asking_is; open_is = sound.open_is; some = sound.some; parts = sound.parts; few = sound.few; holds = (refl, q); wants = λ e. cc });
           });
           gives = record {
             turns = λ book. rw h (turns_each book old call [] (held_of old) (held_of (record one_on { to = p; held = Some t; waits = false })) old.outs old.outs 0 refl (λ i m w v x g r.
@@ -704,7 +716,7 @@ module _ (old : PartitionLogic) (t : Tree) (h : old.live ≡ true) (sound : Soun
           ports = obeys call old (record one_on { waits = waits_by old.asking }) (pull_by old.asking) h (record {
             allowed = pu.allowed;
             row_then = is_standing (record one_on { waits = waits_by old.asking }) (acted_all (seen call (view_of old)) (pull_by old.asking)) h (pu.then_is ∙ after)
-                (record { asking_is = sound.asking_is; open_is = sound.open_is; some = sound.some; parts = sound.parts; few = sound.few; holds = rw n (o, pu.none) });
+                (record { asking_is = sound.asking_is; open_is = sound.open_is; some = sound.some; parts = sound.parts; few = sound.few; holds = rw n (o, pu.none); wants = λ e. inl (waits_some old.asking e) });
           });
           gives = record {
             turns = λ book. rw h (turns_each book old call (pull_by old.asking) (held_of old) (held_of (record one_on { waits = waits_by old.asking })) old.outs old.outs 0 refl (λ i m w v x g r.

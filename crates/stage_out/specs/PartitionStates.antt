@@ -1,5 +1,5 @@
 -- The state of a partition, its row, and what its handlers owe.
-use Rattle.std.specs.Prelude.{◌≡◌, ◌≢◌, ◌⊎◌, ℕ, zero, suc, ◌+◌, ◌≤◌, ◌-◌, ◌==◌, if◌then◌else◌, Bool, true, false, List, [], ◌∷◌, length, map, slice_get, slice_set, slice_index_or, Option, None, Some, Result, Ok, Err, replicate}
+use Rattle.std.specs.Prelude.{◌≡◌, ◌≢◌, ◌⊎◌, ℕ, zero, suc, ◌+◌, ◌≤◌, ◌<◌, ◌-◌, ◌==◌, if◌then◌else◌, Bool, true, false, List, [], ◌∷◌, length, map, slice_get, slice_set, slice_index_or, Option, None, Some, Result, Ok, Err, replicate}
 use Rattle.elem_core.specs.Tree.{Tree}
 use Rattle.elem_core.specs.Values.{map_value, part_of}
 use Rattle.elem_core.specs.declared.why.Cause.{Cause}
@@ -57,6 +57,7 @@ abbrev pub Holding : Option Tree → PartitionLogic → Type 0
 Holding None l = (l.over ≡ false) × (l.waits ≡ false → l.asking ≡ 0)
 Holding (Some t) l = (l.waits ≡ false) × (slice_get l.outs l.to ≡ Some Quiet)
 
+-- the counts are those of its outputs, of which one is open; where its input is asked, an output asks, or one was cancelled
 pub record Sound (l : PartitionLogic) : Type 0 where
   pub asking_is : l.asking ≡ asks_count l.outs
   pub open_is : l.open_outs ≡ open_count l.outs
@@ -64,6 +65,7 @@ pub record Sound (l : PartitionLogic) : Type 0 where
   pub parts : 1 ≤ l.parts
   pub few : length l.outs ≤ 16
   pub holds : Holding l.held l
+  pub wants : l.waits ≡ true → (1 ≤ l.asking) ⊎ (l.open_outs < length l.outs)
 
 abbrev pub row_by : Bool → PartitionLogic → View → Type 0
 row_by true l v = (v ≡ view_of l) × Sound l

@@ -37,7 +37,7 @@ use Rattle.stage_out.specs.CopyStates.{CopyLogic, part_by}
 use Rattle.stage_out.specs.CopyStates as copy
 use Rattle.stage_out.specs.PartitionStates.{PartitionLogic, dealers, dues, then_of}
 use Rattle.stage_out.specs.PartitionStates as part
-use Rattle.stage_out.specs.OutLogics.{is_live, row, Turned, no_stage, copiers, TurnsEach, IsOut, copy_starts, number_starts, starts_of, IsMade, EachAgrees, Begins}
+use Rattle.stage_out.specs.OutLogics.{is_live, row, Turned, no_stage, copiers, TurnsEach, IsOut, copy_starts, number_starts, starts_of, IsMade, EachStarts, EachAgrees, Begins}
 use Rattle.stage_out.specs.OutLogics as logic
 use Rattle.stage_out.proofs.Agreeing.{copies_agree}
 use Rattle.stage_out.proofs.Begins.{idle_some, partition_begins, copy_begins}
@@ -52,7 +52,7 @@ pub copiers_are : (part : ℕ → Tree → Tree) (n : ℕ) (ws : List Want) → 
 copiers_are part n [] = refl
 copiers_are part n (w ∷ ws) = rw (copiers_are part (n + 1) ws) refl
 
-owe_copies : (part : ℕ → Tree → Tree) (a b : Bool) (n : ℕ) (ws vs : List Want) → length vs ≡ length ws → owe (copiers part a n ws) (copies.owed b no_stage vs) ≡ copiers part b n vs
+pub owe_copies : (part : ℕ → Tree → Tree) (a b : Bool) (n : ℕ) (ws vs : List Want) → length vs ≡ length ws → owe (copiers part a n ws) (copies.owed b no_stage vs) ≡ copiers part b n vs
 owe_copies part a true n [] [] e = refl
 owe_copies part a false n [] [] e = refl
 owe_copies part a b n [] (v ∷ vs) e = absurd (omega (arith, e))
@@ -60,7 +60,7 @@ owe_copies part a b n (w ∷ ws) [] e = absurd (omega (arith, e))
 owe_copies part a true n (w ∷ ws) (v ∷ vs) e = rw (owe_copies part a true (n + 1) ws vs (omega (arith, e))) refl
 owe_copies part a false n (w ∷ ws) (v ∷ vs) e = rw (owe_copies part a false (n + 1) ws vs (omega (arith, e))) refl
 
-owe_deals : (book : Book) (l : PartitionLogic) (h k : ℕ → Want → Held Stage) (n : ℕ) (ws vs : List Want) → length vs ≡ length ws → owe (dealers book l h n ws) (dues k n vs) ≡ dealers book l k n vs
+pub owe_deals : (book : Book) (l : PartitionLogic) (h k : ℕ → Want → Held Stage) (n : ℕ) (ws vs : List Want) → length vs ≡ length ws → owe (dealers book l h n ws) (dues k n vs) ≡ dealers book l k n vs
 owe_deals book l h k n [] [] e = refl
 owe_deals book l h k n [] (v ∷ vs) e = absurd (omega (arith, e))
 owe_deals book l h k n (w ∷ ws) [] e = absurd (omega (arith, e))
@@ -70,16 +70,28 @@ same_dealers : (book : Book) (old new : PartitionLogic) (h : ℕ → Want → He
 same_dealers book old new h n [] a b c = refl
 same_dealers book old new h n (w ∷ ws) a b c = rw (same_dealers book old new h (n + 1) ws a b c, a, b, c) refl
 
+pub length-owed : (b : Bool) (ws : List Want) → length (copies.owed b no_stage ws) ≡ length ws
+length-owed true [] = refl
+length-owed false [] = refl
+length-owed true (w ∷ ws) = ap suc (length-owed true ws)
+length-owed false (w ∷ ws) = ap suc (length-owed false ws)
+
+pub length-dues : (h : ℕ → Want → Held Stage) (n : ℕ) (ws : List Want) → length (dues h n ws) ≡ length ws
+length-dues h n [] = refl
+length-dues h n (w ∷ ws) = ap suc (length-dues h (n + 1) ws)
+
 pub turns_of : (call : Call) (old new : OutLogic) (acts : List Act) → is_live old ≡ true → Turned call old acts new → TurnsEach call old acts new
 turns_of call (Copies l) (Copies m) acts h t = record {
   turns = λ book. rw (h, copiers_are (part_by l.halves) 0 l.outs) (t.turns no_stage);
   same = λ book. rw t.halves (owe_copies (part_by l.halves) l.live m.live 0 l.outs m.outs t.outputs);
+  outputs = length-owed m.live m.outs ∙ t.outputs ∙ sym (length-owed l.live l.outs);
   rests = λ is os r. r;
   stands = t.stands;
 }
 turns_of call (Deals l) (Deals m) acts h t = record {
   turns = λ book. subst (λ b. TurnsAt 0 call (dealers book l (then_of b l) 0 l.outs) acts (dues (then_of m.live m) 0 m.outs)) (sym h) (t.turns book);
   same = λ book. owe_deals book l (then_of l.live l) (then_of m.live m) 0 l.outs m.outs t.outputs ∙ sym (same_dealers book l m (then_of m.live m) 0 m.outs t.node t.parts t.fun);
+  outputs = length-dues (then_of m.live m) 0 m.outs ∙ t.outputs ∙ sym (length-dues (then_of l.live l) 0 l.outs);
   rests = λ is os r. r;
   stands = t.stands;
 }
@@ -96,11 +108,6 @@ deals_begun : (book : Book) (node n : ℕ) (f : MapFn) (j k : ℕ) → dealers b
 deals_begun book node n f j zero = refl
 deals_begun book node n f j (suc k) = rw (deals_begun book node n f (j + 1) k) refl
 
--- the law of each output holds where it owes what it starts with
-abbrev EachStarts : List (Outlet Stage) → Type 0
-EachStarts [] = Unit {0}
-EachStarts (o ∷ os) = ((o.held ≡ owing o.start) × (o.start.gave ≡ [])) × EachStarts os
-
 copies_start : (part : ℕ → Tree → Tree) (j k : ℕ) → EachStarts (copy_starts part j k)
 copies_start part j zero = tt
 copies_start part j (suc k) = ((refl, refl), copies_start part (j + 1) k)
@@ -108,39 +115,6 @@ copies_start part j (suc k) = ((refl, refl), copies_start part (j + 1) k)
 numbers_start : (book : Book) (node n : ℕ) (f : MapFn) (j k : ℕ) → EachStarts (number_starts book node n f j k)
 numbers_start book node n f j zero = tt
 numbers_start book node n f j (suc k) = ((refl, refl), numbers_start book node n f (j + 1) k)
-
-laws_start : (os : List (Outlet Stage)) (n : ℕ) (v : View) → TookAs (in_at v 0) unended → ((i : ℕ) → i < length os → GaveAs (out_at v (n + i)) unended) → EachStarts os → OutsLaw n os v [] (λ j. [])
-laws_start [] n v t g s = tt
-laws_start (o ∷ os) n v t g s =
-    let z : n + 0 ≡ n = omega arith in
-    let here : GaveAs (out_at v n) unended = subst (λ m. GaveAs (out_at v m) unended) z (g 0 (omega arith)) in
-    (rw s.0.0 (new_law o.machine o.start (in_at v 0) (out_at v n) t here (λ h. s.0.1)), laws_start os (n + 1) v t (λ i l. let a : n + suc i ≡ n + 1 + i = omega arith in subst (λ m. GaveAs (out_at v m) unended) a (g (suc i) (omega (arith, l)))) s.1)
-
-unasked_at : (k i : ℕ) → i < k → slice_index_or (map copies.want_view (replicate k Quiet)) i Shut ≡ Unasked
-unasked_at zero i l = absurd (omega (arith, l))
-unasked_at (suc k) zero l = refl
-unasked_at (suc k) (suc i) l = unasked_at k i (omega (arith, l))
-
-length-copies : (part : ℕ → Tree → Tree) (j k : ℕ) → length (copy_starts part j k) ≡ k
-length-copies part j zero = refl
-length-copies part j (suc k) = ap suc (length-copies part (j + 1) k)
-
-length-numbers : (book : Book) (node n : ℕ) (f : MapFn) (j k : ℕ) → length (number_starts book node n f j k) ≡ k
-length-numbers book node n f j zero = refl
-length-numbers book node n f j (suc k) = ap suc (length-numbers book node n f (j + 1) k)
-
-open_at : (k i : ℕ) → i < k → GaveAs (slice_index_or (map copies.want_view (replicate k Quiet)) i Shut) unended
-open_at k i l = rw (unasked_at k i l) refl
-
-copies_law : (n : ℕ) (halves : Bool) (v : View) → 2 ≤ n → row (Copies (copy.begun n halves)) v → OutsLaw 0 (copy_starts (part_by halves) 0 n) v [] (λ j. [])
-copies_law n halves v low r =
-    subst (λ w. OutsLaw 0 (copy_starts (part_by halves) 0 n) w [] (λ j. [])) (sym r.0)
-    (laws_start (copy_starts (part_by halves) 0 n) 0 (copy.view_of (copy.begun n halves)) (rw (idle_some n low) refl) (λ i l. let m = length-copies (part_by halves) 0 n in let z : 0 + i ≡ i = omega arith in rw z (open_at n i (omega (arith, l, m)))) (copies_start (part_by halves) 0 n))
-
-deals_law : (book : Book) (node n : ℕ) (f : MapFn) (v : View) → row (Deals (part.begun node n f)) v → OutsLaw 0 (number_starts book node n f 0 n) v [] (λ j. [])
-deals_law book node n f v r =
-    subst (λ w. OutsLaw 0 (number_starts book node n f 0 n) w [] (λ j. [])) (sym r.0)
-    (laws_start (number_starts book node n f 0 n) 0 (part.view_of (part.begun node n f)) refl (λ i l. let m = length-numbers book node n f 0 n in let z : 0 + i ≡ i = omega arith in rw z (open_at n i (omega (arith, l, m)))) (numbers_start book node n f 0 n))
 
 -- ---- outlooks
 
@@ -167,7 +141,7 @@ begins node (Broadcast n) new ok is = rw is (record {
   ready = copy_begins n false ok.0 ok.1 (λ e. cc);
   outputs = λ book. copies_begun (part_by false) 0 n;
   agrees = λ g w d. rw (copies_begun (part_by false) 0 n) (whole_each 0 n);
-  law = λ book v r. rw (copies_begun (part_by false) 0 n) (copies_law n false v ok.0 r);
+  fresh = record { live = refl; starts = λ book. rw (copies_begun (part_by false) 0 n) (copies_start (part_by false) 0 n) };
   rests = λ g w d is os r. r;
 })
 begins node Unzip new ok is = rw is (record {
@@ -175,7 +149,7 @@ begins node Unzip new ok is = rw is (record {
   ready = copy_begins 2 true (omega arith) (omega arith) (λ e. refl);
   outputs = λ book. refl;
   agrees = λ g w d. (λ is. copies_agree (part_by true 0) no_stage (head_of is), (λ is. copies_agree (part_by true 1) no_stage (head_of is), tt));
-  law = λ book v r. copies_law 2 true v (omega arith) r;
+  fresh = record { live = refl; starts = λ book. copies_start (part_by true) 0 2 };
   rests = λ g w d is os r. r;
 })
 begins node (Partition n f) new ok is = rw is (record {
@@ -183,7 +157,7 @@ begins node (Partition n f) new ok is = rw is (record {
   ready = partition_begins node n f ok.0 ok.1;
   outputs = λ book. deals_begun book node n f 0 n;
   agrees = λ g w d. rw (deals_begun w.book node n f 0 n) (numbers_each w node n f 0 n);
-  law = λ book v r. rw (deals_begun book node n f 0 n) (deals_law book node n f v r);
+  fresh = record { live = refl; starts = λ book. rw (deals_begun book node n f 0 n) (numbers_start book node n f 0 n) };
   rests = λ g w d is os r. r;
 })
 begins node kind new ok is = absurd is

@@ -99,11 +99,11 @@ deals_rest l v took gs r e = by_live l.live r
     by_live false r = inl (ins_shut v.ins took r.0, outs_shut v.outs gs r.1)
 
 -- ---- all kinds
-length-copiers : (part : ℕ → Tree → Tree) (live : Bool) (n : ℕ) (ws : List Want) → length (copiers part live n ws) ≡ length ws
+pub length-copiers : (part : ℕ → Tree → Tree) (live : Bool) (n : ℕ) (ws : List Want) → length (copiers part live n ws) ≡ length ws
 length-copiers part live n [] = refl
 length-copiers part live n (w ∷ ws) = ap suc (length-copiers part live (n + 1) ws)
 
-length-dealers : (book : Book) (l : PartitionLogic) (h : ℕ → Want → Held Stage) (n : ℕ) (ws : List Want) → length (dealers book l h n ws) ≡ length ws
+pub length-dealers : (book : Book) (l : PartitionLogic) (h : ℕ → Want → Held Stage) (n : ℕ) (ws : List Want) → length (dealers book l h n ws) ≡ length ws
 length-dealers book l h n [] = refl
 length-dealers book l h n (w ∷ ws) = ap suc (length-dealers book l h (n + 1) ws)
 

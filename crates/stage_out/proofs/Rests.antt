@@ -87,7 +87,7 @@ copy_rests l v took gs r e = by_live l.live r
 
 -- ---- each open output was given as many elements as were taken
 
-told_lists : (l k : List Tree) (e d : End) → told l e ≡ told k d → l ≡ k
+pub told_lists : (l k : List Tree) (e d : End) → told l e ≡ told k d → l ≡ k
 told_lists [] [] e d h = refl
 told_lists [] (t ∷ k) unended d h = cc
 told_lists [] (t ∷ k) ended d h = cc

@@ -1,8 +1,7 @@
 -- The logic of a broadcast, an unzip or a partition: its row, its outputs as machines over its input, what a call owes, and
 -- how a new one begins.
-use Rattle.std.specs.Prelude.{◌≡◌, ℕ, zero, suc, ◌+◌, ◌≤◌, Bool, true, false, List, [], ◌∷◌, replicate, ⊤}
+use Rattle.std.specs.Prelude.{◌≡◌, ℕ, zero, suc, ◌+◌, ◌≤◌, Bool, true, false, List, [], ◌∷◌, length, replicate, ⊤}
 use Rattle.elem_core.specs.Tree.{Tree}
-use Rattle.elem_core.specs.declared.item.Item.{Item}
 use Rattle.elem_core.specs.declared.function.MapFn.{MapFn}
 use Rattle.elem_core.specs.declared.why.Decider.{Decider}
 use Rattle.elem_core.specs.declared.why.Decider.TheVariants.{Stop}
@@ -23,7 +22,7 @@ use Rattle.stream_model.specs.Outlook.{Outlook, End, Agrees}
 use Rattle.stream_picture.specs.View as picture
 use Rattle.stream_picture.specs.Rests.{OneToMany, BroadcastRests, PartitionRests, RowRests}
 use Rattle.stage_law.specs.Held.{Held, owing, shut}
-use Rattle.stage_law.specs.Outs.{Outlet, OutsLaw, TurnsAt, owe}
+use Rattle.stage_law.specs.Outs.{Outlet, TurnsAt, owe}
 use Rattle.stage_out.specs.declared.want.Want.{Want}
 use Rattle.stage_out.specs.declared.logic.OutLogic.{OutLogic}
 use Rattle.stage_out.specs.declared.logic.OutLogic.TheVariants.{Copies, Deals}
@@ -80,11 +79,22 @@ abbrev pub rests_as : OutLogic → List picture.View → List picture.View → T
 rests_as (Copies l) = OneToMany BroadcastRests
 rests_as (Deals l) = OneToMany PartitionRests
 
+-- each output owes what it starts with, and has given nothing
+abbrev pub EachStarts : List (Outlet Stage) → Type 0
+EachStarts [] = ⊤
+EachStarts (o ∷ os) = ((o.held ≡ owing o.start) × (o.start.gave ≡ [])) × EachStarts os
+
+-- nothing came yet
+pub record IsNew (l : OutLogic) : Type 0 where
+  pub live : is_live l ≡ true
+  pub starts : (book : Book) → EachStarts (outlets book l)
+
 -- a turn at each output: its machine stays, as its row does, and no action cancels an input that an earlier one asked
 pub record TurnsEach (call : Call) (old : OutLogic) (acts : List Act) (new : OutLogic) : Type 0 where
   pub turns : (book : Book) → TurnsAt 0 call (outlets book old) acts (owed new)
   pub same : (book : Book) → owe (outlets book old) (owed new) ≡ outlets book new
-  pub rests : (is os : List picture.View) → rests_as old is os → rests_as new is os
+  pub outputs : length (owed new) ≡ length (owed old)
+  pub rests : (is os : List picture.View) → rests_as new is os → rests_as old is os
   pub stands : AsksStand acts
 
 -- ---- a new logic
@@ -136,12 +146,12 @@ abbrev pub EachAgrees : ℕ → (ℕ → List Outlook → Outlook) → List (Out
 EachAgrees n f [] = ⊤
 EachAgrees n f (o ∷ os) = ((is : List Outlook) (l : List Tree) (e : End) (g : List Tree) (h : End) → Agrees (head_of is) l e → Stands o.machine o.start l e g h → Agrees (f n is) g h) × EachAgrees (n + 1) f os
 
--- A new logic of node `node`, of this kind: it knows that nobody asks, so that it may be started; its outputs are those of its kind, and what they may give
--- agrees with the outlooks of the node's; before anything came the law of each holds; and it rests as its kind does.
+-- A new logic of node `node`, of this kind: it knows that nobody asks, so that it may be started; its outputs are those of its
+-- kind, each at its start, and what they may give agrees with the outlooks of the node's; and it rests as its kind does.
 pub record Begins (node : ℕ) (kind : Kind) (new : OutLogic) : Type 0 where
   pub live : is_live new ≡ true
   pub ready : row new (unasked_ports (outputs_of kind))
   pub outputs : (book : Book) → outlets book new ≡ starts_of book node kind
   pub agrees : (g : Graph) (w : World) (d : Decider) → EachAgrees 0 (λ j is. node_outlook g w node kind d is j) (outlets w.book new)
-  pub law : (book : Book) (v : View) → row new v → OutsLaw 0 (outlets book new) v [] (λ j. [])
+  pub fresh : IsNew new
   pub rests : (g : Graph) (w : World) (d : Decider) (is os : List picture.View) → rests_as new is os → RowRests g w node kind d is os

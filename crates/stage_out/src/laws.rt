@@ -1,16 +1,22 @@
 // Laws of the stages with several outputs: each function has no body, and its contract is the law.
-ghost use Rattle.std.specs.Prelude.{◌≡◌, ℕ, true, List, length};
+ghost use Rattle.std.specs.Prelude.{◌≡◌, ◌<◌, ℕ, true, List, [], length, slice_index_or};
 ghost use Rattle.elem_core.specs.Tree.{Tree};
 ghost use Rattle.elem_core.specs.declared.item.Item.{Item};
 ghost use Rattle.port_core.specs.declared.act.Act.{Act};
 ghost use Rattle.port_core.specs.View.{View};
-ghost use Rattle.port_core.specs.Call.{Call, CallAllowed};
+ghost use Rattle.port_core.specs.Call.{Call, starts, CallAllowed, Obeys};
+ghost use Rattle.elem_core.specs.declared.why.Decider.{Decider};
+ghost use Rattle.stream_model.specs.declared.kind.Kind.{Kind};
+ghost use Rattle.stream_model.specs.Graph.{Graph};
 ghost use Rattle.stream_model.specs.Linear.{Book};
-ghost use Rattle.stream_model.specs.Outlook.{End};
+ghost use Rattle.stream_model.specs.Node.{World, head_of, node_outlook};
+ghost use Rattle.stream_model.specs.Outlook.{Outlook, End, Agrees};
+ghost use Rattle.stage_core.specs.Handling.{Starts, Handles};
 ghost use Rattle.stage_law.specs.Held.{told};
 ghost use Rattle.stage_law.specs.Outs.{OutsLaw};
 ghost use Rattle.stage_out.specs.declared.logic.OutLogic.{OutLogic};
-ghost use Rattle.stage_out.specs.OutLogics.{is_live, row, Turned, TurnsEach, outlets};
+ghost use Rattle.stage_out.specs.OutLogics.{is_live, row, Turned, TurnsEach, outlets, Begins};
+ghost use Rattle.stage_out.specs.OutNodes.{OutFresh, OutLaw, GaveAgrees};
 ghost use Rattle.stage_out.specs.OwnRows.{OutLists, OutRests};
 
 /// What a call owes is a turn at each output, whose machines stay.
@@ -18,8 +24,8 @@ pub fn a_call_turns_each_output()
     ensures { (call : Call) (old new : OutLogic) (acts : List Act) → is_live old ≡ true → Turned call old acts new → TurnsEach call old acts new }
 {}
 
-/// Where the port rules allow a call of a handler and the row holds, its ports are not all closed.
-pub fn a_called_stage_is_live()
+/// Where the port rules allow a call of a handler and the row holds, its ports are not all closed: it is live.
+pub fn a_called_stage_is_open()
     ensures { (l : OutLogic) (call : Call) (v : View) → CallAllowed call v → row l v → is_live l ≡ true }
 {}
 
@@ -28,4 +34,18 @@ pub fn a_called_stage_is_live()
 pub fn a_stage_rests()
     ensures { (book : Book) (l : OutLogic) (v : View) (took : List Item) (gave : ℕ → List Item) (taken : List Tree) (e : End) → row l v → took ≡ told taken e → OutsLaw 0 (outlets book l) v took gave
         → (o : OutLists (length (outlets book l)) gave) × OutRests l v taken o.lists }
+{}
+
+/// What a handler owes to the port rules and to the law is all that is asked of a stage: its start begins the law of its
+/// histories, and every other call keeps it.
+pub fn calls_keep_the_law()
+    ensures starts { (old new : OutLogic) (acts : List Act) → Obeys starts (row old) (row new) acts → Turned starts old acts new → Starts row OutLaw OutFresh old new acts }
+    ensures handles { (call : Call) (old new : OutLogic) (acts : List Act) → Obeys call (row old) (row new) acts → Turned call old acts new → Handles row OutLaw call old new acts }
+{}
+
+/// Where its law holds from a new stage of this kind on, and what came to its input agrees with that input's outlook, what
+/// it gave at each output agrees with the outlook that the model has of it.
+pub fn a_stage_agrees_with_its_outlooks()
+    ensures { (g : Graph) (w : World) (node : ℕ) (kind : Kind) (d : Decider) (is : List Outlook) (first now : OutLogic) (v : View) (took gave : List (List Item)) → Begins node kind first → (law : OutLaw first now v took gave)
+        → (l : List Tree) (e : End) → law.taken ≡ told l e → Agrees (head_of is) l e → (j : ℕ) → j < length gave → GaveAgrees (node_outlook g w node kind d is j) (slice_index_or gave j []) }
 {}

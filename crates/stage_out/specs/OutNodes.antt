@@ -1,0 +1,35 @@
+-- The law of a stage with several outputs over the histories of its ports, as a stage of an island tells it.
+use Rattle.std.specs.Prelude.{◌≡◌, ℕ, List, [], ◌∷◌, length, slice_index_or}
+use Rattle.elem_core.specs.declared.item.Item.{Item}
+use Rattle.port_core.specs.View.{View}
+use Rattle.stream_model.specs.Linear.{Book}
+use Rattle.stream_model.specs.Outlook.{Outlook, End, Agrees}
+use Rattle.elem_core.specs.Tree.{Tree}
+use Rattle.stream_picture.specs.View as picture
+use Rattle.stage_law.specs.Held.{told}
+use Rattle.stage_law.specs.Outs.{OutsLaw, owe}
+use Rattle.stage_out.specs.declared.logic.OutLogic.{OutLogic}
+use Rattle.stage_out.specs.OutLogics.{IsNew, row, outlets, owed, rests_as}
+
+-- what one that was not started knows of its ports
+pub record OutFresh (l : OutLogic) (v : View) : Type 0 where
+  pub row : row l v
+  pub fresh : IsNew l
+
+-- Of a logic as it was handed in and as it is now: its outputs' machines and its row stay; and the law of each output holds
+-- of what came and what was given there.
+pub record OutLaw (first now : OutLogic) (v : View) (took gave : List (List Item)) : Type 0 where
+  pub same : (book : Book) → owe (outlets book first) (owed now) ≡ outlets book now
+  pub outputs : length (owed now) ≡ length (owed first)
+  pub rests : (is os : List picture.View) → rests_as now is os → rests_as first is os
+  pub taken : List Item
+  pub took_is : took ≡ taken ∷ []
+  pub ports : length gave ≡ length (owed now)
+  pub law : (book : Book) → OutsLaw 0 (outlets book now) v taken (λ j. slice_index_or gave j [])
+
+-- a history is a list and an end that an outlook lets pass
+pub record GaveAgrees (o : Outlook) (history : List Item) : Type 0 where
+  pub list : List Tree
+  pub end : End
+  pub is : history ≡ told list end
+  pub agrees : Agrees o list end

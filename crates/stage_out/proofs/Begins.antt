@@ -1,14 +1,11 @@
 -- A new stage may be started.
 use Rattle.std.specs.Prelude.{replicate}
-use Rattle.std.proofs.Common.{◌≡◌, ℕ, zero, suc, ◌≤◌, Bool, true, false, List, [], ◌∷◌, length, map, refl, sym, ap, ◌∙◌, arith}
+use Rattle.std.proofs.Common.{◌≡◌, ℕ, zero, suc, ◌≤◌, Bool, true, List, [], ◌∷◌, length, map, refl, sym, ap, ◌∙◌, arith}
 use Rattle.elem_core.specs.declared.function.MapFn.{MapFn}
-use Rattle.port_core.specs.View.{View}
 use Rattle.port_core.specs.declared.view.OutView.{OutView}
 use Rattle.port_core.specs.declared.view.OutView.TheVariants.{Unasked}
 use Rattle.stage_out.specs.OutLogics.{unasked_ports}
-use Rattle.port_core.specs.declared.view.InView.{InView}
 use Rattle.port_core.specs.declared.view.InView.TheVariants.{Idle}
-use Rattle.stage_out.specs.declared.want.Want.{Want}
 use Rattle.stage_out.specs.declared.want.Want.TheVariants.{Quiet}
 use Rattle.stage_out.specs.Copies.{want_view, open_count, quiet_count, input_by}
 use Rattle.stage_out.specs.PartitionStates as part

@@ -20,15 +20,15 @@ use Rattle.port_core.specs.View.{View, in_at, IsInOpen, IsOutOpen, ActsAllowed, 
 use Rattle.port_core.specs.Asking.{AsksStand}
 use Rattle.port_core.specs.Call.{Call, starts, asks, brings, cancels, CallAllowed, seen, Obeys, Meets, given_on}
 use Rattle.stream_model.specs.Machine.{going, done}
-use Rattle.stream_model.specs.Linear.{Book, Stage}
-use Rattle.stage_law.specs.Held.{Held, shut}
+use Rattle.stream_model.specs.Linear.{Book}
+use Rattle.stage_law.specs.Held.{shut}
 use Rattle.stage_law.specs.Turn.{TurnAt}
 use Rattle.stage_law.specs.Outs.{TurnsAt}
 use Rattle.stage_out.specs.declared.want.Want.{Want}
 use Rattle.stage_out.specs.declared.want.Want.TheVariants.{Quiet, Asks, Gone}
 use Rattle.stage_out.specs.Copies.{want_view, open_count, at_open, AllClosed, OutsClosed}
-use Rattle.stage_out.specs.PartitionStates.{PartitionLogic, asks_count, input_of, view_of, Holding, Sound, row_by, row, kept, stage_of, state_of, due_of, held_of, then_of, dealers, dues, Turned, Parts, pull_by, waits_by, EndedFor, ends_now, ends_later, with_asks, Noted, pulls, rests, AskedOf, gets, notes, moved_by, moving_by, Dealt, given, keeps, drops, with_given, Served, dealt, blamed, blaming, struck, less_by, PassedOver, dropped, kept_on, Lost, last, others}
-use Rattle.stage_out.proofs.Wants.{same, other, want_set, is_quiet, is_open, quiet_lost, asked_lost, gone_views, after_one, Acted, given_one, acts_from, all_open, shut_views, BringsNone}
+use Rattle.stage_out.specs.PartitionStates.{PartitionLogic, asks_count, input_of, view_of, Holding, Sound, row_by, row, kept, stage_of, state_of, due_of, held_of, dealers, dues, Turned, Parts, pull_by, waits_by, EndedFor, ends_now, ends_later, with_asks, Noted, pulls, rests, AskedOf, gets, notes, moved_by, moving_by, Dealt, given, keeps, drops, with_given, Served, dealt, blamed, blaming, struck, less_by, PassedOver, dropped, kept_on, Lost, last, others}
+use Rattle.stage_out.proofs.Wants.{same, other, want_set, is_quiet, is_open, quiet_lost, asked_lost, gone_views, after_one, Acted, given_one, acts_from, all_open, shut_views}
 use Rattle.stage_out.proofs.Dues.{get_of, same_get, set_at, pull_given, open_given, mach, turns_each, is_gone, still, gone_here, out_here, last_here, ends_asked, ends_lost, deal_given, deal_kept, deal_other, deal_blamed, end_now, end_later, fail_now}
 
 -- ---- the row

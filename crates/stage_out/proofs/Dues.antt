@@ -1,6 +1,6 @@
 -- What the outputs of a partition owe, and turns at them.
-use Rattle.std.specs.Prelude.{◌==◌, ◌-◌, if◌then◌else◌, slice_get, slice_set, slice_index_or, Option, Ok, Err}
-use Rattle.std.proofs.Common.{◌≡◌, ◌≢◌, ℕ, zero, suc, ◌+◌, ◌≤◌, ◌<◌, ◌⊎◌, inl, inr, Bool, true, false, List, [], ◌∷◌, ◌++◌, length, refl, sym, ap, ◌∙◌, subst, arith, Some, None, append-nil}
+use Rattle.std.specs.Prelude.{◌==◌, if◌then◌else◌, slice_get, slice_set, slice_index_or, Ok, Err}
+use Rattle.std.proofs.Common.{◌≡◌, ◌≢◌, ℕ, zero, suc, ◌+◌, ◌⊎◌, inl, inr, Bool, true, false, List, [], ◌∷◌, length, refl, sym, ap, ◌∙◌, subst, arith, Some}
 use Rattle.elem_core.specs.Tree.{Tree}
 use Rattle.elem_core.specs.Values.{map_value, part_of}
 use Rattle.elem_core.specs.declared.why.Cause.{Cause}
@@ -10,17 +10,17 @@ use Rattle.elem_core.specs.declared.function.MapFn.{MapFn}
 use Rattle.elem_core.specs.declared.item.Item.{Item}
 use Rattle.elem_core.specs.declared.item.Item.TheVariants as item
 use Rattle.port_core.specs.declared.act.Act.{Act}
-use Rattle.port_core.specs.declared.act.Act.TheVariants.{Pull, Push, Complete, FailOut, Cancel}
+use Rattle.port_core.specs.declared.act.Act.TheVariants.{Complete, FailOut}
 use Rattle.port_core.specs.Call.{Call, starts, asks, brings, cancels, given_by, given_on}
 use Rattle.stream_model.specs.Machine.{State, going, done, Machine}
 use Rattle.stream_model.specs.Linear.{Book, Stage, numbering, linear}
-use Rattle.stage_law.specs.Held.{Held, owing, shut}
+use Rattle.stage_law.specs.Held.{Held, shut}
 use Rattle.stage_law.specs.Turn.{TurnAt}
 use Rattle.stage_law.specs.Outs.{TurnsAt}
 use Rattle.stage_out.specs.declared.want.Want.{Want}
 use Rattle.stage_out.specs.declared.want.Want.TheVariants.{Quiet, Asks, Gone}
-use Rattle.stage_out.specs.Copies.{at_open, open_count}
-use Rattle.stage_out.specs.PartitionStates.{PartitionLogic, asks_count, kept, stage_of, state_of, due_of, held_of, then_of, dealers, dues, pull_by}
+use Rattle.stage_out.specs.Copies.{at_open}
+use Rattle.stage_out.specs.PartitionStates.{PartitionLogic, due_of, dealers, dues, pull_by}
 use Rattle.stage_out.proofs.Wants.{same, other, later, first, given_one, BringsNone}
 use Rattle.stage_out.proofs.Partitions.{given_here, held_here, counted_here, blamed_here, ends_here, end_waits, failure_drops}
 

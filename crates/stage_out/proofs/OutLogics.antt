@@ -1,46 +1,33 @@
 -- What a logic with several outputs owes by its calls at each of them, and how a new one begins.
-use Rattle.std.specs.Prelude.{replicate, IfOk, Ok, Err, slice_index_or}
+use Rattle.std.specs.Prelude.{replicate, IfOk, Ok, Err}
 use Rattle.std.specs.declared.result.Result.{Result}
-use Rattle.std.proofs.Common.{◌≡◌, ℕ, zero, suc, ◌+◌, ◌≤◌, ◌<◌, Bool, true, false, List, [], ◌∷◌, length, map, refl, sym, ap, ◌∙◌, subst, arith}
-use Rattle.std.proofs.lemmas.List.{length-map}
+use Rattle.std.proofs.Common.{◌≡◌, ℕ, zero, suc, ◌+◌, Bool, true, false, List, [], ◌∷◌, length, map, refl, sym, ap, ◌∙◌, subst, arith}
 use Rattle.elem_core.specs.Tree.{Tree}
 use Rattle.elem_core.specs.declared.function.MapFn.{MapFn}
-use Rattle.elem_core.specs.declared.why.Decider.{Decider}
 use Rattle.elem_core.specs.declared.why.Decider.TheVariants.{Stop}
 use Rattle.port_core.specs.declared.act.Act.{Act}
-use Rattle.port_core.specs.declared.view.InView.{InView}
-use Rattle.port_core.specs.declared.view.InView.TheVariants.{Idle}
-use Rattle.port_core.specs.declared.view.OutView.{OutView}
-use Rattle.port_core.specs.declared.view.OutView.TheVariants.{Unasked, Shut}
-use Rattle.port_core.specs.View.{View, in_at, out_at}
 use Rattle.port_core.specs.Call.{Call}
 use Rattle.stream_model.specs.declared.kind.Kind.{Kind}
 use Rattle.stream_model.specs.declared.kind.Kind.TheVariants.{Broadcast, Partition, Unzip}
-use Rattle.stream_model.specs.Graph.{Graph}
 use Rattle.stream_model.specs.Linear.{Book, Stage, numbering, linear, begin_work}
-use Rattle.stream_model.specs.Machine.{Machine, Stands, output}
-use Rattle.stream_model.specs.Node.{World, head_of, node_outlook}
-use Rattle.stream_model.specs.Outlook.{Outlook, End, unended, Agrees}
-use Rattle.stream_model.specs.FanOut.{mapped}
+use Rattle.stream_model.specs.Machine.{Stands, output}
+use Rattle.stream_model.specs.Node.{World, head_of}
+use Rattle.stream_model.specs.Outlook.{Outlook, End, Agrees}
 use Rattle.stream_model.proofs.Traces.{trace_output}
-use Rattle.stage_law.specs.Held.{Held, owing, shut}
-use Rattle.stage_law.specs.Law.{TookAs, GaveAs}
-use Rattle.stage_law.specs.Outs.{Outlet, OutsLaw, TurnsAt, owe}
-use Rattle.stage_law.proofs.Calls.{new_law}
+use Rattle.stage_law.specs.Held.{Held}
+use Rattle.stage_law.specs.Outs.{TurnsAt, owe}
 use Rattle.stage_out.specs.declared.want.Want.{Want}
 use Rattle.stage_out.specs.declared.want.Want.TheVariants.{Quiet}
 use Rattle.stage_out.specs.declared.logic.OutLogic.{OutLogic}
 use Rattle.stage_out.specs.declared.logic.OutLogic.TheVariants.{Copies, Deals}
 use Rattle.stage_out.specs.Copies.{copying, nothing_owed, owed_by, outlets}
 use Rattle.stage_out.specs.Copies as copies
-use Rattle.stage_out.specs.CopyStates.{CopyLogic, part_by}
-use Rattle.stage_out.specs.CopyStates as copy
+use Rattle.stage_out.specs.CopyStates.{part_by}
 use Rattle.stage_out.specs.PartitionStates.{PartitionLogic, dealers, dues, then_of}
 use Rattle.stage_out.specs.PartitionStates as part
-use Rattle.stage_out.specs.OutLogics.{is_live, row, Turned, no_stage, copiers, TurnsEach, IsOut, copy_starts, number_starts, starts_of, IsMade, EachStarts, EachAgrees, Begins}
-use Rattle.stage_out.specs.OutLogics as logic
+use Rattle.stage_out.specs.OutLogics.{is_live, Turned, no_stage, copiers, TurnsEach, IsOut, copy_starts, number_starts, IsMade, EachStarts, EachAgrees, Begins}
 use Rattle.stage_out.proofs.Agreeing.{copies_agree}
-use Rattle.stage_out.proofs.Begins.{idle_some, partition_begins, copy_begins}
+use Rattle.stage_out.proofs.Begins.{partition_begins, copy_begins}
 
 pub if_ok : {A E : Type 0} {P Q : A → Type 0} → (r : Result A E) → ((x : A) → P x → Q x) → IfOk r P → IfOk r Q
 if_ok (Ok x) f p = f x p

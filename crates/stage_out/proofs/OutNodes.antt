@@ -1,9 +1,8 @@
 -- The laws of the outputs over histories in order, from call to call.
-use Rattle.std.specs.Prelude.{◌==◌, if◌then◌else◌, slice_get, slice_set, slice_index_or}
-use Rattle.std.proofs.Common.{◌≡◌, ℕ, zero, suc, ◌+◌, ◌≤◌, ◌<◌, Bool, true, false, List, [], ◌∷◌, ◌++◌, length, map, refl, sym, ap, ◌∙◌, subst, arith, append_assoc, append-nil, Some}
+use Rattle.std.specs.Prelude.{◌==◌, if◌then◌else◌, slice_set, slice_index_or}
+use Rattle.std.proofs.Common.{◌≡◌, ℕ, zero, suc, ◌+◌, ◌≤◌, ◌<◌, Bool, true, false, List, [], ◌∷◌, ◌++◌, length, refl, sym, ap, ◌∙◌, subst, arith, append_assoc, append-nil}
 use Rattle.std.proofs.lemmas.Bool.Decides.{nat_tests}
 use Rattle.std.proofs.lemmas.List.{length-set, length-map}
-use Rattle.std.proofs.lemmas.Option.{slice_get_within}
 use Rattle.elem_core.specs.Tree.{Tree}
 use Rattle.elem_core.specs.declared.item.Item.{Item}
 use Rattle.elem_core.specs.declared.item.Item.TheVariants as item
@@ -11,11 +10,11 @@ use Rattle.elem_core.specs.declared.why.Decider.{Decider}
 use Rattle.port_core.specs.declared.act.Act.{Act}
 use Rattle.port_core.specs.declared.act.Act.TheVariants.{Pull, Push, Complete, FailOut, Cancel}
 use Rattle.port_core.specs.declared.view.InView.{InView}
-use Rattle.port_core.specs.declared.view.InView.TheVariants.{Idle, Left}
+use Rattle.port_core.specs.declared.view.InView.TheVariants.{Left}
 use Rattle.port_core.specs.declared.view.OutView.{OutView}
-use Rattle.port_core.specs.declared.view.OutView.TheVariants.{Unasked, Shut}
+use Rattle.port_core.specs.declared.view.OutView.TheVariants.{Shut}
 use Rattle.port_core.specs.Asking.{AsksStand}
-use Rattle.port_core.specs.View.{View, in_at, out_at, ActsAllowed, acted, acted_all}
+use Rattle.port_core.specs.View.{View, in_at, out_at, ActsAllowed, acted_all}
 use Rattle.port_core.specs.Call as call
 use Rattle.port_core.specs.Call.{Call, starts, asks, brings, cancels, AllIdle, AllUnasked, CallAllowed, seen, Obeys, brought_to, given_on}
 use Rattle.stream_model.specs.declared.kind.Kind.{Kind}
@@ -26,13 +25,12 @@ use Rattle.stream_model.specs.Node.{World, head_of, node_outlook}
 use Rattle.stream_model.specs.Outlook.{Outlook, End, unended, ended, failed, Agrees}
 use Rattle.stage_core.specs.Handling.{Starts, Handles}
 use Rattle.stage_core.specs.Histories.{with_item, given_by, given_all, brought_by, AllEmpty}
-use Rattle.stage_law.specs.Held.{told, Held, owing}
+use Rattle.stage_law.specs.Held.{told, Held}
 use Rattle.stage_law.specs.Law.{TookAs, GaveAs, Law}
-use Rattle.stage_law.specs.Outs.{Outlet, OutsLaw, TurnsAt, owe}
+use Rattle.stage_law.specs.Outs.{Outlet, OutsLaw, owe}
 use Rattle.stage_law.proofs.Calls.{new_law}
 use Rattle.stage_law.proofs.Whole.{stage_stands}
 use Rattle.stage_law.proofs.OutTurns.{outs_call}
-use Rattle.stage_out.specs.declared.want.Want.{Want}
 use Rattle.stage_out.specs.declared.logic.OutLogic.{OutLogic}
 use Rattle.stage_out.specs.declared.logic.OutLogic.TheVariants.{Copies, Deals}
 use Rattle.stage_out.specs.Copies.{want_view}
@@ -40,7 +38,7 @@ use Rattle.stage_out.specs.CopyStates.{part_by}
 use Rattle.stage_out.specs.CopyStates as copy
 use Rattle.stage_out.specs.PartitionStates.{then_of}
 use Rattle.stage_out.specs.PartitionStates as part
-use Rattle.stage_out.specs.OutLogics.{is_live, row, Turned, TurnsEach, outlets, owed, EachStarts, IsNew, EachAgrees, Begins}
+use Rattle.stage_out.specs.OutLogics.{is_live, row, Turned, outlets, owed, EachStarts, IsNew, EachAgrees, Begins}
 use Rattle.stage_out.specs.OutNodes.{OutFresh, OutLaw, GaveAgrees}
 use Rattle.stage_out.proofs.OutLogics.{turns_of, owe_copies, owe_deals, length-owed, length-dues}
 use Rattle.stage_out.proofs.Rests.{told_lists}

@@ -1,7 +1,6 @@
 -- A stage with several outputs has nothing to do over its own ports; and where it is called, its ports are not all closed.
-use Rattle.std.specs.Prelude.{slice_get, slice_index_or, Some, None, Option, ◌⊎◌, ◌==◌}
+use Rattle.std.specs.Prelude.{slice_get, slice_index_or, Some, None, Option}
 use Rattle.std.proofs.Common.{◌≡◌, ℕ, zero, suc, ◌+◌, ◌≤◌, inl, inr, Bool, true, false, List, [], ◌∷◌, length, map, refl, sym, ap, ◌∙◌, subst, arith}
-use Rattle.std.proofs.lemmas.List.{length-map}
 use Rattle.elem_core.specs.Tree.{Tree}
 use Rattle.elem_core.specs.declared.item.Item.{Item}
 use Rattle.elem_core.specs.declared.item.Item.TheVariants as item
@@ -14,8 +13,8 @@ use Rattle.port_core.specs.View.{IsOutOpen}
 use Rattle.port_core.specs.Call.{Call, starts, asks, brings, cancels, AllIdle, MayCome, CallAllowed}
 use Rattle.stream_model.specs.Linear.{Book, Stage}
 use Rattle.stream_model.specs.Outlook.{End}
-use Rattle.stream_picture.specs.View.{EachWire, SomeWire}
-use Rattle.stream_picture.specs.Rests.{IsShut, IsUnasked, OneToMany, PartitionRests}
+use Rattle.stream_picture.specs.View.{SomeWire}
+use Rattle.stream_picture.specs.Rests.{IsUnasked, PartitionRests}
 use Rattle.stage_law.specs.Held.{told, Held}
 use Rattle.stage_law.specs.Outs.{Outlet, OutsLaw}
 use Rattle.stage_law.specs.OwnPorts.{own_input}
@@ -30,7 +29,7 @@ use Rattle.stage_out.specs.CopyStates as copy
 use Rattle.stage_out.specs.PartitionStates.{PartitionLogic, asks_count, input_of, view_of, Holding, Sound, dealers, then_of}
 use Rattle.stage_out.specs.PartitionStates as part
 use Rattle.stage_out.specs.OutLogics.{is_live, row, no_stage, copiers, outlets}
-use Rattle.stage_out.specs.OwnRows.{own_ins, own_outs, Even, Outlists, OutLists, OutRests}
+use Rattle.stage_out.specs.OwnRows.{own_outs, Even, OutLists, OutRests}
 use Rattle.stage_out.proofs.OutLogics.{copiers_are}
 use Rattle.stage_out.proofs.Rests.{copy_rests, ins_shut, outs_shut, outlists}
 

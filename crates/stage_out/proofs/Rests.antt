@@ -22,7 +22,7 @@ use Rattle.stage_law.specs.OwnPorts.{own_input}
 use Rattle.stage_out.specs.declared.want.Want.{Want}
 use Rattle.stage_out.specs.declared.want.Want.TheVariants.{Quiet, Asks, Gone}
 use Rattle.stage_out.specs.Copies.{copying, nothing_owed, owed_by, outlets, want_view, input_by, quiet_count, OneInClosed, OutsClosed}
-use Rattle.stage_out.specs.CopyStates.{CopyLogic, part_by, row_by, row}
+use Rattle.stage_out.specs.CopyStates.{CopyLogic, row_by, row}
 use Rattle.stage_out.specs.OwnRows.{own_ins, own_outs, Even, Outlists}
 
 all_asked : (ws : List Want) (gs : List (List Tree)) → quiet_count ws ≡ 0 → AllOpenAsked (own_outs (map want_view ws) gs)

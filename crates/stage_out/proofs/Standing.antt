@@ -1,18 +1,14 @@
 -- What is known of a logic with two outputs from call to call, for its tests.
-use Rattle.std.proofs.Common.{◌≡◌, ℕ, true, List, [], ◌∷◌, refl, subst}
-use Rattle.elem_core.specs.Tree.{Tree}
-use Rattle.elem_core.specs.declared.item.Item.TheVariants as item
+use Rattle.std.proofs.Common.{◌≡◌, ℕ, List, [], refl, subst}
 use Rattle.port_core.specs.declared.act.Act.{Act}
-use Rattle.port_core.specs.declared.act.Act.TheVariants.{Pull}
-use Rattle.port_core.specs.declared.view.InView.TheVariants.{Idle, Waiting}
-use Rattle.port_core.specs.declared.view.OutView.TheVariants.{Unasked, Asked}
+use Rattle.port_core.specs.declared.view.InView.TheVariants.{Idle}
+use Rattle.port_core.specs.declared.view.OutView.TheVariants.{Unasked}
 use Rattle.port_core.specs.View.{View, acted_all}
-use Rattle.port_core.specs.Call.{Call, starts, asks, brings, CallAllowed, seen, Obeys, Meets}
+use Rattle.port_core.specs.Call.{Call, starts, CallAllowed, seen, Obeys, Meets}
 use Rattle.stream_model.specs.declared.kind.Kind.{Kind}
 use Rattle.stage_out.specs.declared.logic.OutLogic.{OutLogic}
-use Rattle.stage_out.specs.OutLogics.{is_live, row, outputs_of, unasked_ports, Begins}
+use Rattle.stage_out.specs.OutLogics.{row, outputs_of, unasked_ports, Begins}
 use Rattle.stage_out.specs.Standing.{two_ports, StandsAt}
-use Rattle.stage_out.proofs.OutRests.{called_is_live}
 
 -- after a call at these ports, which did that
 pub stepped : (call : Call) (old new : OutLogic) (v : View) (acts did : List Act) → Obeys call (row old) (row new) acts → CallAllowed call v → row old v → acts ≡ did → row new (acted_all (seen call v) did)

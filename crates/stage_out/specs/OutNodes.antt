@@ -1,5 +1,5 @@
 -- The law of a stage with several outputs over the histories of its ports, as a stage of an island tells it.
-use Rattle.std.specs.Prelude.{◌≡◌, ℕ, List, [], ◌∷◌, length, slice_index_or}
+use Rattle.std.specs.Prelude.{◌≡◌, List, [], ◌∷◌, length, slice_index_or}
 use Rattle.elem_core.specs.declared.item.Item.{Item}
 use Rattle.port_core.specs.View.{View}
 use Rattle.stream_model.specs.Linear.{Book}

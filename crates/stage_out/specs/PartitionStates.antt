@@ -1,5 +1,5 @@
 -- The state of a partition, its row, and what its handlers owe.
-use Rattle.std.specs.Prelude.{◌≡◌, ◌≢◌, ◌⊎◌, ℕ, zero, suc, ◌+◌, ◌≤◌, ◌<◌, ◌-◌, ◌==◌, if◌then◌else◌, Bool, true, false, List, [], ◌∷◌, length, map, slice_get, slice_set, slice_index_or, Option, None, Some, Result, Ok, Err, replicate}
+use Rattle.std.specs.Prelude.{◌≡◌, ◌≢◌, ◌⊎◌, ℕ, suc, ◌+◌, ◌≤◌, ◌<◌, ◌-◌, ◌==◌, if◌then◌else◌, Bool, true, false, List, [], ◌∷◌, length, map, slice_get, slice_set, slice_index_or, Option, None, Some, Ok, Err, replicate}
 use Rattle.elem_core.specs.Tree.{Tree}
 use Rattle.elem_core.specs.Values.{map_value, part_of}
 use Rattle.elem_core.specs.declared.why.Cause.{Cause}

@@ -1,6 +1,6 @@
 use Rattle.std.proofs.Common.{[], ◌∷◌, refl}
 use Rattle.port_core.specs.declared.act.Act.TheVariants.{Pull}
-use Rattle.port_core.specs.declared.view.InView.TheVariants.{Idle, Waiting}
+use Rattle.port_core.specs.declared.view.InView.TheVariants.{Idle}
 use Rattle.port_core.specs.declared.view.OutView.TheVariants.{Unasked, Asked}
 use Rattle.port_core.specs.Call.{asks}
 use Rattle.stage_out.specs.Standing.{two_ports}

@@ -1,4 +1,4 @@
-use Rattle.std.proofs.Common.{◌≡◌, ℕ, ◌+◌, ◌-◌, ◌∷◌, ◌<◌, Some, None, refl, sym, ◌∙◌, ap, subst, arith}
+use Rattle.std.proofs.Common.{◌≡◌, ◌-◌, ◌∙◌, ap, subst, arith}
 use Rattle.stage_out.specs.PartitionStates.{PartitionLogic, others, PassedOver}
 use Rattle.stage_out.proofs.partition_logic.PartitionLogic.lose.Goals as goal
 

@@ -1,4 +1,4 @@
-use Rattle.std.proofs.Common.{◌≡◌, ℕ, ◌+◌, ◌-◌, ◌∷◌, ◌<◌, Some, None, refl, sym, ◌∙◌, ap, subst, arith}
+use Rattle.std.proofs.Common.{refl}
 use Rattle.stage_out.proofs.Parted.{over_some}
 use Rattle.stage_out.proofs.partition_logic.PartitionLogic.pass_over.Goals as goal
 

@@ -1,5 +1,5 @@
-use Rattle.std.specs.Prelude.{Ok, Err}
-use Rattle.std.proofs.Common.{◌≡◌, ℕ, ◌+◌, refl, sym, ◌∙◌, ap, subst}
+use Rattle.std.specs.Prelude.{Err}
+use Rattle.std.proofs.Common.{ℕ, ◌+◌, ◌∙◌, ap, subst}
 use Rattle.elem_core.specs.Answer.{Answers}
 use Rattle.elem_core.specs.Values.{map_value, part_of}
 use Rattle.stage_out.specs.PartitionStates.{PartitionLogic}

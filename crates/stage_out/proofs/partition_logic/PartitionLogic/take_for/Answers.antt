@@ -1,4 +1,4 @@
-use Rattle.std.proofs.Common.{◌≡◌, None, refl, sym, ◌∙◌, ap}
+use Rattle.std.proofs.Common.{None, refl, sym, ◌∙◌, ap}
 use Rattle.stage_out.specs.PartitionStates.{PartitionLogic}
 use Rattle.stage_out.proofs.Parted.{took_by}
 use Rattle.stage_out.proofs.partition_logic.PartitionLogic.take_for.Goals as goal

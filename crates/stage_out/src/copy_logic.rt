@@ -26,7 +26,7 @@ pub struct CopyLogic {
     outs: Vec<Want>,
     // Open outputs that nobody asks, and open outputs.
     quiet: u8,
-    open: u8,
+    open_outs: u8,
 }
 
 impl Model for CopyLogic {
@@ -38,7 +38,7 @@ impl Model for CopyLogic {
 
     ghost coded = { Prim.hlevel codes };
 
-    ghost view = { λ l. record { live = l.live; halves = l.halves; outs = vec_items l.outs; quiet = l.quiet; open_outs = l.open } };
+    ghost view = { λ l. record { live = l.live; halves = l.halves; outs = vec_items l.outs; quiet = l.quiet; open_outs = l.open_outs } };
 }
 
 impl CopyLogic {
@@ -54,7 +54,7 @@ impl CopyLogic {
             halves,
             outs,
             quiet: outputs,
-            open: outputs,
+            open_outs: outputs,
         })
     }
 
@@ -180,7 +180,7 @@ impl CopyLogic {
     {
         self.give(alloc, e, acts)?;
         settle(self.outs.as_mut_slice());
-        self.quiet = self.open;
+        self.quiet = self.open_outs;
         Ok(())
     }
 
@@ -299,8 +299,8 @@ impl CopyLogic {
     {
         let was = self.outs[port as usize];
         self.outs[port as usize] = Want::Gone;
-        self.open -= 1;
-        if self.open == 0 {
+        self.open_outs -= 1;
+        if self.open_outs == 0 {
             self.live = false;
             acts.add(Act::Cancel(0));
         } else if was == Want::Quiet {

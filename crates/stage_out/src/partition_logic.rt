@@ -30,7 +30,7 @@ pub struct PartitionLogic {
     outs: Vec<Want>,
     // Outputs that ask, and open outputs.
     asking: u8,
-    open: u8,
+    open_outs: u8,
     // What is held, and the output that it is for.
     to: u8,
     held: Option<Elem>,
@@ -49,7 +49,7 @@ impl Model for PartitionLogic {
 
     ghost coded = { Prim.hlevel (codes, tree_coded) };
 
-    ghost view = { λ l. record { live = l.live; node = l.node; parts = l.parts; fun = l.fun; outs = vec_items l.outs; asking = l.asking; open_outs = l.open; to = l.to; held = l.held; waits = l.waits; over = l.over; taken = l.taken } };
+    ghost view = { λ l. record { live = l.live; node = l.node; parts = l.parts; fun = l.fun; outs = vec_items l.outs; asking = l.asking; open_outs = l.open_outs; to = l.to; held = l.held; waits = l.waits; over = l.over; taken = l.taken } };
 }
 
 impl PartitionLogic {
@@ -71,7 +71,7 @@ impl PartitionLogic {
             fun,
             outs,
             asking: 0,
-            open: outputs,
+            open_outs: outputs,
             to: 0,
             held: None,
             waits: false,
@@ -462,7 +462,7 @@ impl PartitionLogic {
         ensures room { acts.new.room ≡ acts.old.room }
     {
         self.strike(port);
-        if self.open == 0 {
+        if self.open_outs == 0 {
             self.leave(acts);
         } else {
             self.pass_over(port, acts);
@@ -479,7 +479,7 @@ impl PartitionLogic {
             self.asking -= 1;
         }
         self.outs[port as usize] = Want::Gone;
-        self.open -= 1;
+        self.open_outs -= 1;
     }
 
     fn leave(&mut self, acts: &mut Acts)

@@ -1,0 +1,9 @@
+pub mod Lists
+pub mod Places
+pub mod Moves
+pub mod Words
+pub mod OutSteps
+pub mod InSteps
+pub mod Notes
+pub mod Steps
+pub mod Calls

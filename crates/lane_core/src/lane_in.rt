@@ -1,0 +1,148 @@
+// The end of a lane that takes.
+ghost use Rattle.std.specs.Prelude.{◌≡◌, ℕ, ◌+◌, ◌-◌, ◌^◌, ◌%◌, ◌<◌, ◌≤◌, true, false, cond, length, IfSome, IfNone};
+ghost use Rattle.std.specs.Arc.{arc_value};
+ghost use Rattle.lane_core.specs.Lane.{elements, weight, empty_hand, HasTaken, HasFound};
+
+use crate::ring::next_place;
+use crate::sight::{
+    ASKED, Ask, Cancel, Compare, LaneRule, LaneSeat, LaneTable, Note, SENT, SeeSent, Sight,
+};
+use atomic_table::Shared;
+use elem_core::item::Item;
+use std::sync::Arc;
+
+/// The end of a lane that takes items. It may be moved to another thread.
+#[derive(Drop)]
+pub struct LaneIn {
+    pub(crate) table: Arc<LaneTable>,
+    pub(crate) seat: LaneSeat,
+    size: u64,
+    // How many items were taken.
+    pub(crate) taken: u64,
+    // The place of the next one.
+    place: u64,
+    // How many elements were asked for.
+    pub(crate) asked: u64,
+    pub(crate) cancelled: bool,
+    ghost same_table: { (seat.table_id ≡ (arc_value table).shared.table_id) × ((arc_value table).shared.key ≡ size) × (seat.table_id.words ≡ 17) × (seat.table_id.slots ≡ size + 1) },
+    ghost sized: { (1 ≤ size) × (size ≤ 1024) },
+    ghost role: { (seat.me.0.gets ≡ true) × (seat.me.0.sends ≡ false) },
+    ghost count: { length seat.me.0.items ≡ taken },
+    ghost next: { place ≡ taken % (size + 1) },
+    ghost asked_is: { (seat.me.0.number ≡ asked) × (seat.me.0.cancel ≡ cond cancelled 1 0) × (asked ≤ elements seat.me.0.items + size) × (asked < 2 ^ 62) },
+    ghost hand: { seat.me.1 ≡ empty_hand seat.me.0.slots ((length seat.me.0.items - 1) % (size + 1)) },
+}
+
+impl LaneIn {
+    ghost use Rattle.std.specs.Prelude.{[], ◌∷◌, ◌++◌};
+    ghost use Rattle.lane_core.specs.Lane.{note, informed, input_end, both_ends};
+    ghost use Rattle.lane_core.specs.Ends.{taken, asked, asks, has_cancelled, found_sent, in_looks, in_lane, in_size, IsSameIn};
+
+    pub(crate) fn new(table: Arc<LaneTable>, seat: LaneSeat, size: u64) -> LaneIn
+        requires table { (seat.table_id ≡ (arc_value table).shared.table_id) × ((arc_value table).shared.key ≡ size) × (seat.table_id.words ≡ 17) × (seat.table_id.slots ≡ size + 1) }
+        requires size { (1 ≤ size) × (size ≤ 1024) }
+        requires seat { seat.me ≡ (input_end both_ends, []) }
+        ensures { (in_lane result ≡ seat.table_id) × (in_size result ≡ size) × (taken result ≡ []) × (asked result ≡ 0) × (asks result ≡ 0) × (has_cancelled result ≡ 0) }
+    {
+        LaneIn {
+            table,
+            seat,
+            size,
+            taken: 0,
+            place: 0,
+            asked: 0,
+            cancelled: false,
+        }
+    }
+
+    // A note for the other end.
+    pub(crate) fn tell(&mut self) -> LaneSeat
+        ensures same { IsSameIn self.old self.new × (self.new.taken ≡ self.old.taken) × (self.new.asked ≡ self.old.asked) × (self.new.cancelled ≡ self.old.cancelled) × (self.new.seat.me ≡ self.old.seat.me) }
+        ensures note { (result.table_id ≡ in_lane self.old) × (result.me ≡ (note self.old.seat.me.0, [])) }
+    {
+        self.table.shared.split_seat::<Note>(&mut self.seat)
+    }
+
+    // Compares a note of the other end with what this one knows.
+    pub(crate) fn hear(&mut self, told: LaneSeat)
+        requires { (told.table_id ≡ in_lane self.old) × (told.me.1 ≡ []) }
+        ensures same { IsSameIn self.old self.new × (self.new.taken ≡ self.old.taken) × (self.new.asked ≡ self.old.asked) × (self.new.cancelled ≡ self.old.cancelled) }
+        ensures seat { self.new.seat.me ≡ (informed self.old.seat.me.0 told.me.0, self.old.seat.me.1) }
+        ensures told { (told.me.0.number ≤ asked self.new) × (told.me.0.cancel ≤ has_cancelled self.new) × (told.me.0.finds ≤ asks self.new + has_cancelled self.new) }
+    {
+        let shared = &self.table.shared;
+        shared.join_seat::<Note>(&mut self.seat, told);
+        shared.load::<Compare>(&mut self.seat, ASKED);
+    }
+
+    /// Takes the next item. `None` comes only where, when it looked, all that was sent had been taken;
+    /// each call looks once. It takes no memory. Rule: own.
+    pub fn take(&mut self) -> Option<Item>
+        ensures lane { IsSameIn self.old self.new × (asked self.new ≡ asked self.old) × (asks self.new ≡ asks self.old) × (has_cancelled self.new ≡ has_cancelled self.old) }
+        ensures looks { in_looks self.new ≡ in_looks self.old + 1 }
+        ensures some { IfSome result (λ x. taken self.new ≡ taken self.old ++ x ∷ []) }
+        ensures counts { IfSome result (λ x. elements (taken self.new) ≡ elements (taken self.old) + weight x) }
+        ensures few { IfSome result (λ _. elements (taken self.new) ≤ asked self.new) }
+        ensures none { IfNone result ((taken self.new ≡ taken self.old) × (found_sent self.new ≡ length (taken self.new))) }
+    {
+        let item = fetch(&self.table.shared, &mut self.seat, self.taken, self.place)?;
+        self.taken += 1;
+        self.place = next_place(self.place, self.size);
+        Some(item)
+    }
+
+    /// Asks for n more elements: at most as many as have a place beside those that were asked for and not taken. It takes no memory.
+    /// Rule: own.
+    pub fn ask(&mut self, n: u64)
+        requires { (1 ≤ n) × (asked self.old + n ≤ elements (taken self.old) + in_size self.old) × (asked self.old + n < 2 ^ 62) × (has_cancelled self.old ≡ 0) }
+        ensures lane { IsSameIn self.old self.new × (taken self.new ≡ taken self.old) × (has_cancelled self.new ≡ 0) }
+        ensures asked { (asked self.new ≡ asked self.old + n) × (asks self.new ≡ asks self.old + 1) × (in_looks self.new ≡ in_looks self.old) }
+    {
+        self.table
+            .shared
+            .fetch_add::<Ask>(&mut self.seat, ASKED, 2 * n);
+        self.asked += n;
+    }
+
+    /// Tells the other end that no more is wanted. It takes no memory. Rule: own.
+    pub fn cancel(&mut self)
+        requires { has_cancelled self.old ≡ 0 }
+        ensures lane { IsSameIn self.old self.new × (taken self.new ≡ taken self.old) × (asked self.new ≡ asked self.old) × (asks self.new ≡ asks self.old) }
+        ensures cancelled { (has_cancelled self.new ≡ 1) × (in_looks self.new ≡ in_looks self.old) }
+    {
+        self.table
+            .shared
+            .fetch_or::<Cancel>(&mut self.seat, ASKED, 1);
+        self.cancelled = true;
+    }
+
+    /// The size with which the lane was made, in elements.
+    pub fn size(&self) -> u32
+        ensures { result ≡ in_size self.now }
+    {
+        self.size as u32
+    }
+}
+
+// The item in the next place, where one was sent.
+fn fetch(
+    shared: &Shared<Option<Item>, Sight, u64, LaneRule>,
+    seat: &mut LaneSeat,
+    taken: u64,
+    place: u64,
+) -> Option<Item>
+    requires table { (seat.old.table_id ≡ shared.now.table_id) × (shared.now.table_id.words ≡ 17) × (shared.now.table_id.slots ≡ shared.now.key + 1) }
+    requires ready { (seat.old.me.0.gets ≡ true) × (seat.old.me.0.sends ≡ false) × (seat.old.me.1 ≡ empty_hand seat.old.me.0.slots ((length seat.old.me.0.items - 1) % (shared.now.key + 1))) }
+    requires count { (taken ≡ length seat.old.me.0.items) × (place ≡ taken % (shared.now.key + 1)) }
+    ensures table { seat.new.table_id ≡ seat.old.table_id }
+    ensures some { IfSome result (λ x. (r : ℕ) × HasTaken shared.now.key seat.old.me x r seat.new.me) }
+    ensures below { IfSome result (λ _. taken + 1 < 2 ^ 64) }
+    ensures few { IfSome result (λ _. elements seat.new.me.0.items ≤ seat.old.me.0.number) }
+    ensures none { IfNone result (HasFound seat.old.me seat.new.me) }
+{
+    let sent = shared.load::<SeeSent>(seat, SENT);
+    if sent == taken {
+        return None;
+    }
+    shared.exchange(seat, place as usize, None)
+}

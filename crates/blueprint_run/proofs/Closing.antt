@@ -43,7 +43,7 @@ use Rattle.interpreter.specs.declared.parts.Link.{Link}
 use Rattle.interpreter.specs.Island as island
 use Rattle.run_laws.specs.Made.{Materializes}
 use Rattle.run_laws.specs.Telling.{TellsFile, TellsNode, Tells}
-use Rattle.run_laws.specs.Sinks.{SinkTells, SentTo, IsSinkAt, IgnoreTells, IsIgnorerAt}
+use Rattle.run_laws.specs.Sinks.{SinkWrote, SentTo, IsSinkAt, IgnoreTells, IsIgnorerAt}
 use Rattle.run_laws.specs.Reads.{IsSourceAt, ReadsAhead, SentLines}
 use Rattle.run_laws.proofs.Counting.{elements_told}
 use Rattle.blue_core.specs.declared.blueprint.Blueprint.{Blueprint}
@@ -63,10 +63,11 @@ use Rattle.blueprint_run.specs.Running.{SinkLeaves, IgnoreLeaves, LeavesFiles, W
 use Rattle.blueprint_run.specs.Stands.{Stand, has_ended_at, is_write_fault}
 use Rattle.blueprint_run.specs.declared.run.Stopped.{Stopped}
 use Rattle.blueprint_run.specs.declared.run.Ran.{Ran}
+use Rattle.run_files.proofs.Counts.{grew_same}
 use Rattle.blueprint_run.proofs.Counts.{rose_by, rose_from_none, is_positive, positive, above_none, not_positive, some_of, contains_or_not}
 use Rattle.blueprint_run.proofs.Places.{all_at, contains_at, contained_at, mapped_at, unmapped_at, filtered_at, unfiltered_at, place_of, place_one, place_within}
 use Rattle.blueprint_run.proofs.Profiles.{some_one, stand_in, writer_there, sinks_filtered, StandsAt, Profile, ended_along}
-use Rattle.blueprint_run.proofs.Handles.{IsSinkInto, HandleLaws, fault_kind, writer_kind, SourceFacts, SinkFacts, source_facts, sink_facts, made, profiles, as_many, stands_are, read_grew, faults_grew, writes_grew, file_held, other_files, other_reads, other_writes, refused, tells_old, reading_same, writing_same}
+use Rattle.blueprint_run.proofs.Handles.{IsSinkInto, HandleLaws, fault_kind, writer_kind, SourceFacts, SinkFacts, source_facts, sink_facts, made, profiles, as_many, stands_are, read_grew, faults_grew, writes_grew, file_held, other_files, other_reads, other_writes, other_draws, refused, tells_old, reading_same, writing_same}
 
 -- ---- the wires' counts
 
@@ -82,15 +83,6 @@ counts_second (l ∷ ls) [] e = absurd (omega (arith, e))
 counts_second (l ∷ ls) (c ∷ cs) e = ap (λ (x : List WireCount). island.count_of c ∷ x) (counts_second ls cs (omega (arith, e)))
 
 -- ---- the drain of a sink
-
-held_by : (o : Option (List ℕ)) (more : List ℕ) (new : Option (List ℕ)) → new ≡ option_map (λ held. held ++ more) o → o ≡ Some [] → new ≡ Some more
-held_by o more new e f = rw f at e
-
-stands_held : (e : EndState) (old new : DrainState) (wrote : List Tree) (n : ℕ) → StandsAs e old new wrote n → old.holds ≡ Some [] → (written : List ℕ) × (new.holds ≡ Some written)
-stands_held Unended old new wrote n s h = (text_lines wrote, held_by old.holds (text_lines wrote) new.holds s.holds h)
-stands_held Ended old new wrote n s h = (text_lines wrote, held_by old.holds (text_lines wrote) new.holds s.holds h)
-stands_held (Failed c) old new wrote n s h = (text_lines wrote, held_by old.holds (text_lines wrote) new.holds s.holds h)
-stands_held WriteFault old new wrote n s h = (text_lines s.before ++ s.part, held_by old.holds (text_lines s.before ++ s.part) new.holds s.holds h)
 
 -- what the drain counted is added to the folder's count
 stands_writes : (e : EndState) (s t : DrainState) (wrote : List Tree) (n old new : ℕ) → StandsAs e s t wrote n → s.faults ≡ 0 → Grew old t.faults new → WritesOf e old new
@@ -175,15 +167,9 @@ tells_node sources w n first now tells = tt
 -- ---- the laws of a run
 
 module _ {S D : Type 0} (sources : S → SourceState) (drains : D → DrainState) where
-  abbrev TellsLaw : Type 0
-  TellsLaw = (g : Graph) (w : World) (rank : ℕ → ℕ) (net : Net (Node S D)) → Settled node_row (node_law sources drains) net → Materializes sources g net.firsts net.ends → Tells sources g w net → IsRanked g rank
-      → (k : ℕ) (n : graph.Node) (first now : Sink D) (written : List ℕ) → slice_get g.nodes k ≡ Some n → IsSinkAt net k first now
-      → (drains first.drain).holds ≡ Some [] → (drains now.drain).holds ≡ Some written → SinkTells (sink_outlook g w k n) now.end written
-
-  abbrev LinesLawOf : Type 0
-  LinesLawOf = (g : Graph) (net : Net (Node S D)) → Settled node_row (node_law sources drains) net → Materializes sources g net.firsts net.ends
-      → (k : ℕ) (n : graph.Node) (first now : Sink D) (written : List ℕ) → slice_get g.nodes k ≡ Some n → IsSinkAt net k first now
-      → (drains first.drain).holds ≡ Some [] → (drains now.drain).holds ≡ Some written → whole_lines (length written) written ≡ now.count
+  abbrev WroteLaw : Type 0
+  WroteLaw = (g : Graph) (net : Net (Node S D)) → Settled node_row (node_law sources drains) net → Materializes sources g net.firsts net.ends
+      → (k : ℕ) (n : graph.Node) (first now : Sink D) → slice_get g.nodes k ≡ Some n → IsSinkAt net k first now → SinkWrote sources drains g net k n first now
 
   abbrev SentLaw : Type 0
   SentLaw = (g : Graph) (net : Net (Node S D)) → Settled node_row (node_law sources drains) net → Materializes sources g net.firsts net.ends
@@ -223,8 +209,7 @@ module _ {S D : Type 0} (sources : S → SourceState) (drains : D → DrainState
 
   pub record RunLaws : Type 0 where
     pub ranked : (b : Blueprint) (plugs : List PlugHead) (taken : List (List ℕ)) → IsFit b plugs taken → (rank : ℕ → ℕ) × IsRanked (graph_of b) rank
-    pub tells : TellsLaw
-    pub lines : LinesLawOf
+    pub wrote : WroteLaw
     pub sent : SentLaw
     pub rest : RestLaw
     pub reads : ReadsLaw
@@ -297,13 +282,7 @@ module _ {S D : Type 0} (sources : S → SourceState) (drains : D → DrainState
       let same : (f.now.node, f.now.count, f.now.end) ≡ s = some_one (f.now.node, f.now.count, f.now.end) s told in
       (f, sym same ∙ ap (λ (j : ℕ). (j, f.now.count, f.now.end)) f.place)
 
-  module _ (tells : IsTrue new.tells) where
-    tells_mid : IsTrue mid.tells
-    tells_mid = closes.files.told tells
-
-    tells_was : IsTrue old.tells
-    tells_was = opens.files.told tells_mid
-
+  module _ (tells_was : IsTrue old.tells) where
     module _ (k : ℕ) (file : List ℕ) (f : Source k file) where
       file_there : (bytes : List ℕ) × (old.file file ≡ Some bytes)
       file_there = some_of (old.file file) (subst (λ n. IsSome (old.file n)) f.first_named (f.start.there tells_was))
@@ -348,23 +327,18 @@ module _ {S D : Type 0} (sources : S → SourceState) (drains : D → DrainState
 
     -- a sink's file
     module _ (k : ℕ) (n : blue.Node) (file : List ℕ) (at : slice_get nodes k ≡ Some n) (f : ASink k file) where
-      empty : (drains f.first.drain).holds ≡ Some []
-      empty = f.start.holds tells_mid
-
-      held : (written : List ℕ) × ((drains f.now.drain).holds ≡ Some written)
-      held = stands_held f.now.end (drains f.first.drain) (drains f.now.drain) f.law.wrote f.now.count f.law.stands empty
-
       at_graph : slice_get g.nodes k ≡ Some (node_of n)
       at_graph = mapped_at node_of nodes k n at
 
+      wrote : SinkWrote sources drains g net k (node_of n) f.first f.now
+      wrote = laws.wrote g net l.stops.settled net_made k (node_of n) f.first f.now at_graph f.there
+
       sink_leaves : SinkLeaves new b drawn st.wires.items st.at_rest k n file f.now.count f.now.end
       sink_leaves = record {
-        held = held.0;
-        there = file_held sources drains handles b can ss ds budget st l old mid opens new closes k file f tells ∙ held.1;
-        tells = λ w is.
-            let ranked = laws.ranked b can.plugs can.taken can.fit in
-            laws.tells g w ranked.0 net l.stops.settled net_made (world_tells w is) ranked.1 k (node_of n) f.first f.now held.0 at_graph f.there empty held.1;
-        lines_are = laws.lines g net l.stops.settled net_made k (node_of n) f.first f.now held.0 at_graph f.there empty held.1;
+        held = wrote.written;
+        there = λ tells. file_held sources drains handles b can ss ds budget st l old mid opens new closes k file f tells ∙ wrote.holds (f.start.holds (closes.files.told tells));
+        tells = λ w is. let ranked = laws.ranked b can.plugs can.taken can.fit in wrote.tells w ranked.0 (world_tells w is) ranked.1;
+        lines_are = wrote.lines_are;
         sent = λ shape u v at to. subst (λ (m : ℕ). SentTo f.now.end m f.now.count) (sym (wire_count u)) (laws.sent g net l.stops.settled net_made k (node_of n) file f.first f.now u v at_graph shape f.there at to);
         rests = λ shape rest unended u v at to. wire_count u ∙ laws.rest g net l.stops.settled net_made k (node_of n) file f.first f.now u v at_graph shape f.there at to (l.stops.rests rest) unended;
       }
@@ -403,7 +377,7 @@ module _ {S D : Type 0} (sources : S → SourceState) (drains : D → DrainState
               let found = stand_of i s n file at here shape in
               subst (λ (t : Stand). SinkLeaves new b drawn st.wires.items st.at_rest s.0 n file t.1 t.2) (sym found.1) (sink_leaves s.0 n file here found.0);
           ignores = λ i s n at here shape. ignore_leaves i s n at here shape;
-          others = other_files sources drains handles b can ss ds budget st l old mid opens new closes tells;
+          others = other_files sources drains handles b can ss ds budget st l old mid opens new closes;
           draws = λ k file u v is at from.
               let f = source_at k file is in
               let told = draws_told (file_there k file f).0 (sources f.first.reader.source) (sources f.now.reader.source) (wire_at net u).wire.sent (sent_at st.wires.items u) f.start.faults (wire_count u)
@@ -481,6 +455,7 @@ module _ {S D : Type 0} (sources : S → SourceState) (drains : D → DrainState
         };
     calm = λ none. calm_writes (λ i s at. none i s (subst (λ (x : List Stand). slice_get x i ≡ Some s) (sym sinks) at));
     other_writes = other_writes sources drains handles b can ss ds budget st l old mid opens new closes;
+    other_draws = other_draws sources drains handles b can ss ds budget st l old mid opens new closes;
     within = rw used l.stops.within;
     spent = λ h. used ∙ l.stops.spent (sym rest ∙ h);
   }
@@ -504,6 +479,7 @@ gives_up old new b h = record {
   told = h.files.told;
   others = λ tells n never. h.files.others tells n (λ c. let at = contained_at h.before n c in never (subst (λ (x : List (List ℕ)). Contains x n) (sym h.place) (contains_at (h.before ++ h.after) at.0 n (front_contains h.before h.after n at.0 at.1))));
   outputs = λ tells n. emptied_or_same old new h.before n (h.files.emptied tells) (h.files.others tells n);
+  other_draws = λ n never. h.read n;
   refusals = h.refusals;
   rfaults = h.rfaults;
   wfaults = h.wfaults;
@@ -515,6 +491,7 @@ gives_up_open old new b is os h = record {
   told = h.files.told;
   others = h.files.others;
   outputs = λ tells n. emptied_or_same old new (outputs_of_nodes b.nodes.items) n (h.files.emptied tells) (h.files.others tells n);
+  other_draws = λ n never. grew_same (old.read n) (new.read n) (h.read n);
   refusals = h.refusals;
   rfaults = h.rfaults;
   wfaults = h.wfaults;

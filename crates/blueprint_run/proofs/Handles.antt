@@ -281,6 +281,9 @@ module _ {S D : Type 0} (sources : S → SourceState) (drains : D → DrainState
     pub other_reads : (n : List ℕ) → (Contains (inputs_of_nodes nodes) n → ⊥) → Grew (old.rfaults n) 0 (new.rfaults n)
     other_reads n never = grew_behind (old.rfaults n) (mid.rfaults n) (new.rfaults n) 0 (opens.rfaults n) (grew_same (mid.rfaults n) (new.rfaults n) (closes.rfaults.others n (λ c. never (subst (λ (x : List (List ℕ)). Contains x n) readers_named c))))
 
+    pub other_draws : (n : List ℕ) → (Contains (inputs_of_nodes nodes) n → ⊥) → Grew (old.read n) 0 (new.read n)
+    other_draws n never = grew_same (old.read n) (new.read n) (closes.read.others n (λ c. never (subst (λ (x : List (List ℕ)). Contains x n) readers_named c)) ∙ opens.read n)
+
     pub other_writes : (n : List ℕ) → (Contains (outputs_of_nodes nodes) n → ⊥) → Grew (old.wfaults n) 0 (new.wfaults n)
     other_writes n never = grew_behind (old.wfaults n) (mid.wfaults n) (new.wfaults n) 0 (opens.wfaults n) (grew_same (mid.wfaults n) (new.wfaults n) (closes.wfaults.others n (λ c. never (subst (λ (x : List (List ℕ)). Contains x n) writers_named c))))
 

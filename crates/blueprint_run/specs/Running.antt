@@ -25,13 +25,14 @@ use Rattle.blueprint_run.specs.Drawing.{Drawn, IsSource, WereRead, IsWorldOf, Dr
 use Rattle.blueprint_run.specs.Stands.{Stand, sink_places, has_ended_at, is_write_fault}
 use Rattle.blueprint_run.specs.declared.run.Ran.{Ran}
 
--- What is told of the sink with a file that is node k, which stands so: its file holds what the composed outlook of the sink
--- lets it hold, by every world that has the input files as they were read, and so many whole lines. To a sink of lines as many
+-- What is told of the sink with a file that is node k, which stands so: it wrote what the composed outlook of the sink lets it
+-- write, by every world that has the input files as they were read, and so many whole lines. Where the folder still tells its
+-- files, the sink's file holds just that. To a sink of lines as many
 -- elements were sent, or one more while it has not ended, and just one more where a write failed; where no event was left no
 -- more than it wrote.
 pub record SinkLeaves (new : FolderState) (b : Blueprint) (d : Drawn) (wires : List WireCount) (at_rest : Bool) (k : ℕ) (n : Node) (file : List ℕ) (count : ℕ) (end : EndState) : Type 0 where
   pub held : List ℕ
-  pub there : new.file file ≡ Some held
+  pub there : IsTrue new.tells → new.file file ≡ Some held
   pub tells : (w : World) → IsWorldOf b.nodes.items d w → SinkTells (sink_outlook (graph_of b) w k (node_of n)) end held
   pub lines_are : whole_lines (length held) held ≡ count
   pub sent : n.kind ≡ ToLines file → (u : ℕ) (v : Wire) → slice_get (blueprint_wires b) u ≡ Some v → v.to ≡ k → SentTo end (sent_at wires u) count
@@ -44,7 +45,8 @@ pub record IgnoreLeaves (b : Blueprint) (d : Drawn) (wires : List WireCount) (k 
   pub tells : (w : World) → IsWorldOf b.nodes.items d w → (u : ℕ) (v : Wire) → slice_get (blueprint_wires b) u ≡ Some v → v.to ≡ k
       → IgnoreTells (sink_outlook (graph_of b) w k (node_of n)) end (sent_at wires u)
 
--- The inputs were read, and each sink's file holds what its outlook lets it hold. No other file is changed. The lines that were
+-- The inputs were read, and each sink wrote what its outlook lets it write. No other file is changed, where the folder still tells
+-- its files. The lines that were
 -- drawn are the first of each input, and little more than those was read. The picture is lawful; and where no event was left it
 -- rests, and a sink's input is shut exactly where the sink has ended.
 pub record LeavesFiles (old new : FolderState) (b : Blueprint) (sinks : List Stand) (wires : List WireCount) (at_rest : Bool) : Type 0 where
@@ -53,7 +55,7 @@ pub record LeavesFiles (old new : FolderState) (b : Blueprint) (sinks : List Sta
   pub sink : (i : ℕ) (s : Stand) (n : Node) (file : List ℕ) → slice_get sinks i ≡ Some s → slice_get b.nodes.items s.0 ≡ Some n → output_of n.kind ≡ Some file
       → SinkLeaves new b drawn wires at_rest s.0 n file s.1 s.2
   pub ignores : (i : ℕ) (s : Stand) (n : Node) → slice_get sinks i ≡ Some s → slice_get b.nodes.items s.0 ≡ Some n → n.kind ≡ Ignore → IgnoreLeaves b drawn wires s.0 n s.1 s.2
-  pub others : (n : List ℕ) → ¬ (Contains (outputs_of_nodes b.nodes.items) n) → new.file n ≡ old.file n
+  pub others : IsTrue new.tells → (n : List ℕ) → ¬ (Contains (outputs_of_nodes b.nodes.items) n) → new.file n ≡ old.file n
   pub draws : (k : ℕ) (file : List ℕ) (u : ℕ) (v : Wire) → IsSource b.nodes.items k file → slice_get (blueprint_wires b) u ≡ Some v → v.from ≡ k
       → DrawsFirst (drawn.bytes k) (drawn.given k) (drawn.faulted k) (sent_at wires u)
   -- the picture, by the composed outlooks
@@ -72,17 +74,18 @@ pub record SomeWriteRose (old new : FolderState) (b : Blueprint) : Type 0 where
   pub output : Contains (outputs_of_nodes b.nodes.items) file
   pub rose : Rose (old.wfaults file) (new.wfaults file)
 
--- what the folder tells of a run, and how its counts rose
+-- what is told of a run where the folder told its files before it, and how its counts rose
 pub record Runs (old new : FolderState) (b : Blueprint) (budget : ℕ) (ran : Ran) : Type 0 where
   pub sinks_are : map (λ (s : Stand). s.0) ran.sinks.items ≡ sink_places 0 b.nodes.items
   pub told : IsTrue new.tells → IsTrue old.tells
-  pub leaves : IsTrue new.tells → LeavesFiles old new b ran.sinks.items ran.wires.items ran.at_rest
+  pub leaves : IsTrue old.tells → LeavesFiles old new b ran.sinks.items ran.wires.items ran.at_rest
   pub refusals : Quiet old.refusals new.refusals
   pub reads : (n : List ℕ) → ¬ (Contains (inputs_of_nodes b.nodes.items) n) → Grew (old.rfaults n) 0 (new.rfaults n)
   pub writes : (i : ℕ) (s : Stand) (n : Node) (file : List ℕ) → slice_get ran.sinks.items i ≡ Some s → slice_get b.nodes.items s.0 ≡ Some n → output_of n.kind ≡ Some file → WritesOf s.2 (old.wfaults file) (new.wfaults file)
   pub faults : (i : ℕ) (s : Stand) → slice_get ran.sinks.items i ≡ Some s → s.2 ≡ WriteFault → SomeWriteRose old new b
   pub calm : ((i : ℕ) (s : Stand) → slice_get ran.sinks.items i ≡ Some s → is_write_fault s.2 ≡ false) → Quiet old.wfaults new.wfaults
   pub other_writes : (n : List ℕ) → ¬ (Contains (outputs_of_nodes b.nodes.items) n) → Grew (old.wfaults n) 0 (new.wfaults n)
+  pub other_draws : (n : List ℕ) → ¬ (Contains (inputs_of_nodes b.nodes.items) n) → Grew (old.read n) 0 (new.read n)
   pub within : ran.used ≤ budget
   pub spent : ran.at_rest ≡ false → ran.used ≡ budget
 
@@ -94,3 +97,4 @@ pub record Wants (old new : FolderState) (b : Blueprint) : Type 0 where
   pub refusals : Quiet old.refusals new.refusals
   pub rfaults : Quiet old.rfaults new.rfaults
   pub wfaults : Quiet old.wfaults new.wfaults
+  pub other_draws : (n : List ℕ) → ¬ (Contains (inputs_of_nodes b.nodes.items) n) → Grew (old.read n) 0 (new.read n)

@@ -22,7 +22,8 @@ use picture_laws::laws::{a_picture_without_events_rests, every_picture_is_lawful
 use run_files::close::close_all;
 use run_files::open::{OpenEnd, Opened, open_all};
 use run_laws::laws::{
-    every_sink_agrees, every_sink_counts_its_lines, every_source_reads_little_ahead,
+    every_sink_agrees, every_sink_counts_its_lines, every_sink_writes,
+    every_source_reads_little_ahead,
 };
 use std::alloc::{AllocError, Global};
 use stream_io::outside::{Drain, Folder, Source};
@@ -109,6 +110,7 @@ fn close<F: Folder>(folder: &mut F, stopped: Stopped<F::Inp, F::Out>) -> Ran
 {
     every_sink_agrees::<F::Inp, F::Out>();
     every_sink_counts_its_lines::<F::Inp, F::Out>();
+    every_sink_writes::<F::Inp, F::Out>();
     every_source_reads_little_ahead::<F::Inp, F::Out>();
     every_picture_is_lawful::<F::Inp, F::Out>();
     a_picture_without_events_rests::<F::Inp, F::Out>();

@@ -194,7 +194,7 @@ module _ {S D : Type 0} (sources : S → SourceState) (drains : D → DrainState
         one.0 l e refl
 
     -- what it was to write agrees with its outlook
-    its_list : (k : ℕ) (n : graph.Node) (first now : Sink D) → (ni : slice_get g.nodes k ≡ Some n) → (at : IsSinkAt net k first now)
+    pub its_list : (k : ℕ) (n : graph.Node) (first now : Sink D) → (ni : slice_get g.nodes k ≡ Some n) → (at : IsSinkAt net k first now)
         → Agrees (sink_outlook g w k n) (sink_law k n first now ni at).wrote (end_by now.end now.writes)
     its_list k n first now ni at =
         let law = sink_law k n first now ni at in

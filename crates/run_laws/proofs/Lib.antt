@@ -13,5 +13,6 @@ pub mod Passing
 pub mod Written
 pub mod Sinks
 pub mod AgreeingSinks
+pub mod Untold
 pub mod ReadingAhead
 pub mod AgreeingSources

@@ -4,6 +4,12 @@ use Rattle.elem_core.specs.Prefix.{IsPrefix}
 use Rattle.elem_core.specs.Text.{text_lines}
 use Rattle.elem_core.specs.Tree.{Tree}
 use Rattle.elem_core.specs.declared.item.Item.{Item}
+use Rattle.stream_io.specs.State.{SourceState, DrainState}
+use Rattle.stream_model.specs.Composed.{sink_outlook, IsRanked}
+use Rattle.stream_model.specs.Graph.{Graph}
+use Rattle.stream_model.specs.Graph as graph
+use Rattle.stream_model.specs.Node.{World}
+use Rattle.stream_model.specs.Sources.{whole_lines}
 use Rattle.stream_model.specs.Outlook.{Outlook, End, unended, ended, failed, Agrees}
 use Rattle.stream_model.specs.declared.outcome.EndState.{EndState}
 use Rattle.stream_model.specs.declared.outcome.EndState.TheVariants.{Ended, Failed, Unended, WriteFault}
@@ -13,6 +19,7 @@ use Rattle.nodes.specs.declared.node.Node.{Node}
 use Rattle.nodes.specs.declared.node.Node.TheVariants.{Writing, Ignoring}
 use Rattle.nodes.specs.Sink.{Sink, end_seen}
 use Rattle.nodes.specs.Ignoring.{Ignorer}
+use Rattle.run_laws.specs.Telling.{Tells}
 
 -- it took a list that may pass and stand as its input does
 pub record TookList (o : Outlook) (e : EndState) (took : List (List Item)) : Type 0 where
@@ -45,6 +52,15 @@ SentTo WriteFault sent count = sent ≡ count + 1
 pub record IsSinkAt {S D : Type 0} (net : Net (Node S D)) (k : ℕ) (first now : Sink D) : Type 0 where
   pub at_first : slice_get net.firsts k ≡ Some (Writing first)
   pub at_last : slice_get net.nodes k ≡ Some (Writing now)
+
+-- What a sink with a file wrote, whether its drain tells what it holds or not: so many whole lines as it counts, and bytes that its
+-- outlook lets it write, by every world that tells of the files of the sources. A drain that was empty at first, and tells what it
+-- holds, holds just those bytes.
+pub record SinkWrote {S D : Type 0} (sources : S → SourceState) (drains : D → DrainState) (g : Graph) (net : Net (Node S D)) (k : ℕ) (n : graph.Node) (first now : Sink D) : Type 0 where
+  pub written : List ℕ
+  pub lines_are : whole_lines (length written) written ≡ now.count
+  pub holds : (drains first.drain).holds ≡ Some [] → (drains now.drain).holds ≡ Some written
+  pub tells : (w : World) (rank : ℕ → ℕ) → Tells sources g w net → IsRanked g rank → SinkTells (sink_outlook g w k n) now.end written
 
 -- So many elements were sent to a sink that keeps nothing: they are a list that may pass and stand so; while it waits, the
 -- list that it took, and one element more at most.

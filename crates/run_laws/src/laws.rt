@@ -20,7 +20,7 @@ ghost use Rattle.nodes.specs.declared.node.Node.{Node};
 ghost use Rattle.run_laws.specs.Agreeing.{AgreesWith};
 ghost use Rattle.run_laws.specs.Made.{Materializes};
 ghost use Rattle.run_laws.specs.Reads.{IsSourceAt, SentLines};
-ghost use Rattle.run_laws.specs.Sinks.{TookList, SinkTells, SentTo, IsSinkAt, IgnoreTells, IsIgnorerAt};
+ghost use Rattle.run_laws.specs.Sinks.{TookList, SinkTells, SinkWrote, SentTo, IsSinkAt, IgnoreTells, IsIgnorerAt};
 ghost use Rattle.run_laws.specs.Telling.{Tells};
 
 use stream_io::outside::{Drain, Source};
@@ -50,6 +50,13 @@ pub fn every_sink_agrees<S: Source, D: Drain>()
     ensures ignores { (g : Graph) (w : World) (rank : ℕ → ℕ) (net : Net (Node S D)) → Settled node_row (node_law S.state D.state) net → Materializes S.state g net.firsts net.ends → Tells S.state g w net → IsRanked g rank
         → (k : ℕ) (n : graph.Node) (first now : Ignorer) (u : ℕ) (v : Wire) → slice_get g.nodes k ≡ Some n → IsIgnorerAt net k first now → slice_get g.wires u ≡ Some v → v.to ≡ k
         → IgnoreTells (sink_outlook g w k n) now.end (elements (wire_at net u).wire.sent) }
+{}
+
+/// A sink with a file wrote what its outlook lets it write and as many whole lines as it counts, also where its drain does not
+/// tell what it holds.
+pub fn every_sink_writes<S: Source, D: Drain>()
+    ensures { (g : Graph) (net : Net (Node S D)) → Settled node_row (node_law S.state D.state) net → Materializes S.state g net.firsts net.ends
+        → (k : ℕ) (n : graph.Node) (first now : Sink D) → slice_get g.nodes k ≡ Some n → IsSinkAt net k first now → SinkWrote S.state D.state g net k n first now }
 {}
 
 /// A sink has written as many whole lines as it counts, where its file was empty at first (`lines`). As many elements were

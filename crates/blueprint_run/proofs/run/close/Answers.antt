@@ -15,8 +15,7 @@ returns g c = λ old b budget ss ds can opens leaves.
     })
     (record {
       ranked = c.fit_blueprints_are_whole.ensures.ranked;
-      tells = c.every_sink_agrees.ensures.tells;
-      lines = c.every_sink_counts_its_lines.ensures.lines;
+      wrote = c.every_sink_writes.ensures;
       sent = c.every_sink_counts_its_lines.ensures.sent;
       rest = c.every_sink_counts_its_lines.ensures.rest;
       reads = c.every_source_reads_little_ahead.ensures.reads;

@@ -5,7 +5,7 @@ use stream_io::named_file::NamedFile;
 use stream_io::sure::{SureDrain, SureFolder};
 use stream_model::outcome::EndState;
 use stream_top::outcome::Status;
-use stream_top::top::run_streams;
+use stream_top::sure::run_surely;
 
 const TEXT: &str =
     "streams 1\nsource src lines in.txt\nstage size map len\nsink out lines out.txt\nwire src.0 -> size.0\nwire size.0 -> out.0\n";
@@ -24,7 +24,7 @@ fn sure_calls_run(rt: HostRuntime) -> Result<(), Fail> {
     }
     let mut folder = SureFolder::new(files, 3);
     let mut console = SureDrain::new(3);
-    let end = run_streams(alloc, &words, &mut folder, &mut console);
+    let end = run_surely(alloc, &words, &mut folder, &mut console);
     assert_eq!(rt; end.code, 0);
     assert!(rt; matches!(end.status, Status::Done));
     assert_eq!(rt; end.sinks.len(), 1);

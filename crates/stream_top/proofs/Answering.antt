@@ -12,7 +12,7 @@ use Rattle.stream_model.specs.declared.kind.Kind.TheVariants.{Lines, ToLines}
 use Rattle.stream_model.specs.declared.outcome.WireCount.{WireCount}
 use Rattle.stream_model.specs.declared.outcome.EndState.{EndState}
 use Rattle.stream_model.specs.declared.outcome.EndState.TheVariants as state
-use Rattle.stream_io.specs.Counts.{Rose, Grew}
+use Rattle.stream_io.specs.Counts.{Rose, Grew, GrewAtMost}
 use Rattle.stream_io.specs.State.{FolderState, SameFiles}
 use Rattle.blue_words.specs.declared.fault.BlueFault.{BlueFault}
 use Rattle.blue_core.specs.declared.blueprint.Blueprint.{Blueprint}
@@ -39,9 +39,9 @@ use Rattle.run_report.specs.declared.outcome.Status.TheVariants as status
 use Rattle.stream_top.specs.AfterRun.{AfterRun, status_after, ends_of, name_of, told_end, told_ends, is_ended, all_ended, some_failed, some_unended, some_fault}
 use Rattle.stream_top.specs.Command.{Asked}
 use Rattle.stream_top.specs.Text.{text_limit, text_of_file, ReadsFile}
-use Rattle.stream_top.specs.Outcome.{SaysFile, SaysFit, SaysBuilt, Blank, RanNothing, RanTo, GaveUp, LacksInput, LacksOutput, IsAbsent, EndedRun, EndedBefore, Told, Causes, CausesBefore, QuietButAll, RunCauses, SinksOf}
+use Rattle.stream_top.specs.Outcome.{SaysFile, SaysFit, SaysBuilt, Blank, RanNothing, RanTo, GaveUp, LacksInput, LacksOutput, IsAbsent, EndedRun, EndedBefore, Told, Causes, CausesBefore, QuietButAll, QuietAmong, RunCauses, SinksOf, MissesFile}
 use Rattle.stream_top.specs.Texts.{NotRun, EndedFit, NotFit, EndedParsed, NotSaid, EndedText, AllQuiet, CausesQuiet, CausesFit, CausesText}
-use Rattle.stream_top.proofs.Quiets.{tells_before, files_two}
+use Rattle.stream_top.proofs.Quiets.{tells_before, files_two, most_later}
 
 -- ---- the ends of sinks
 
@@ -163,7 +163,7 @@ module _ (b : Blueprint) (ran : Ran) (turns : ℕ) (a : Answer) (old new : Folde
   no_rise : list_any (λ (s : Stand). is_write_fault s.2) stands ≡ false → Quiet old.wfaults new.wfaults
   no_rise e = runs.calm (λ i s at. no_fault_at stands i s e at)
 
-  abbrev ran_to : IsTrue new.tells → RanTo old new b turns a
+  abbrev ran_to : IsTrue old.tells → RanTo old new b turns a
   ran_to tells = record {
     stands = stands;
     stands_are = runs.sinks_are;
@@ -175,7 +175,7 @@ module _ (b : Blueprint) (ran : Ran) (turns : ℕ) (a : Answer) (old new : Folde
     spent = λ h. after.used ∙ runs.spent h;
   }
 
-  told_by : (f u d rest : Bool) → list_any (λ (s : Stand). is_write_fault s.2) stands ≡ f → list_any (λ (s : Stand). is_unended s.2) stands ≡ u → list_any (λ (s : Stand). is_failed s.2) stands ≡ d → ran.at_rest ≡ rest → IsTrue new.tells
+  told_by : (f u d rest : Bool) → list_any (λ (s : Stand). is_write_fault s.2) stands ≡ f → list_any (λ (s : Stand). is_unended s.2) stands ≡ u → list_any (λ (s : Stand). is_failed s.2) stands ≡ d → ran.at_rest ≡ rest → IsTrue old.tells
       → EndedRun (if f then status.WriteFault else (if u then (if rest then status.Stalled else status.OutOfTurns) else (if d then status.StreamFailed else status.Done))) a b turns old new
   told_by true u d rest p q r s tells = (ran_to tells, fault_told ∙ p, some_rose p)
   told_by false true d true p q r s tells = (ran_to tells, s, fault_told ∙ p, unended_told ∙ q)
@@ -184,7 +184,7 @@ module _ (b : Blueprint) (ran : Ran) (turns : ℕ) (a : Answer) (old new : Folde
   told_by false false false rest p q r s tells = (ran_to tells, all_done a.sinks (fault_told ∙ p) (unended_told ∙ q) (failed_told ∙ r))
 
   -- what a run answers, where the folder tells its files
-  pub run_told : IsTrue new.tells → EndedRun a.status a b turns old new
+  pub run_told : IsTrue old.tells → EndedRun a.status a b turns old new
   run_told tells = subst (λ x. EndedRun x a b turns old new) (sym after.status) (told_by (list_any (λ (s : Stand). is_write_fault s.2) stands) (list_any (λ (s : Stand). is_unended s.2) stands) (list_any (λ (s : Stand). is_failed s.2) stands) ran.at_rest refl refl refl refl tells)
 
   causes_by : (f u d rest : Bool) → list_any (λ (s : Stand). is_write_fault s.2) stands ≡ f → RunCauses (if f then status.WriteFault else (if u then (if rest then status.Stalled else status.OutOfTurns) else (if d then status.StreamFailed else status.Done))) b old new
@@ -212,33 +212,41 @@ module _ (b : Blueprint) (ran : Ran) (turns : ℕ) (a : Answer) (old new : Folde
 
 -- ---- files that were not opened
 
-pub missing_input : (old new : FolderState) (b : Blueprint) (n : List ℕ) (turns : ℕ) (a : Answer) → MissesInput old new (inputs_of_nodes b.nodes.items) n → a.status ≡ status.Missing n → Blank a → IsTrue new.tells → EndedRun a.status a b turns old new
+pub missing_input : (old new : FolderState) (b : Blueprint) (n : List ℕ) (turns : ℕ) (a : Answer) → MissesInput old new (inputs_of_nodes b.nodes.items) n → a.status ≡ status.Missing n → Blank a → IsTrue old.tells → EndedRun a.status a b turns old new
 missing_input old new b n turns a h is blank tells = subst (λ x. EndedRun x a b turns old new) (sym is) (inl (record {
   before = h.before;
   after = h.after;
   place = h.place;
-  there = h.there (tells_before old new h.files tells);
+  there = h.there tells;
   absent = h.why;
   nothing = record { files = h.files; blank = blank };
 }))
 
-pub missing_output : (old new : FolderState) (b : Blueprint) (n : List ℕ) (turns : ℕ) (a : Answer) → RefusesOutput old new (inputs_of_nodes b.nodes.items) (outputs_of_nodes b.nodes.items) n → a.status ≡ status.Missing n → Blank a → IsTrue new.tells → EndedRun a.status a b turns old new
+pub missing_output : (old new : FolderState) (b : Blueprint) (n : List ℕ) (turns : ℕ) (a : Answer) → RefusesOutput old new (inputs_of_nodes b.nodes.items) (outputs_of_nodes b.nodes.items) n → a.status ≡ status.Missing n → Blank a → IsTrue old.tells → EndedRun a.status a b turns old new
 missing_output old new b n turns a h is blank tells = subst (λ x. EndedRun x a b turns old new) (sym is) (inr (record {
   before = h.before;
   after = h.after;
   place = h.place;
-  there = h.there (h.files.told tells);
+  there = h.there tells;
   refused = h.rose;
   files = h.files;
   blank = blank;
 }))
 
-pub wanted : (old new : FolderState) (b : Blueprint) (turns : ℕ) (a : Answer) → Wants old new b → a.status ≡ status.NoMemory → Blank a → IsTrue new.tells → EndedRun a.status a b turns old new
-wanted old new b turns a h is blank tells = subst (λ x. EndedRun x a b turns old new) (sym is) (blank, record { others = h.others tells; outputs = h.outputs tells })
+pub wanted : (old new : FolderState) (b : Blueprint) (turns : ℕ) (a : Answer) → Wants old new b → a.status ≡ status.NoMemory → Blank a → IsTrue old.tells → EndedRun a.status a b turns old new
+wanted old new b turns a h is blank tells = subst (λ x. EndedRun x a b turns old new) (sym is) (blank, record { others = h.others; outputs = h.outputs })
+
+-- a name at its place among others
+at_middle : (before after : List (List ℕ)) (n : List ℕ) → (i : ℕ) × (slice_get (before ++ n ∷ after) i ≡ Some n)
+at_middle [] after n = (0, refl)
+at_middle (x ∷ xs) after n = let h = at_middle xs after n in (suc h.0, h.1)
+
+in_place : (names before after : List (List ℕ)) (n : List ℕ) → names ≡ before ++ n ∷ after → Contains names n
+in_place names before after n e = let at = at_middle before after n in contains_at names at.0 n (ap (λ (l : List (List ℕ)). slice_get l at.0) e ∙ at.1)
 
 pub missing_causes : (old new : FolderState) (b : Blueprint) (n : List ℕ) (s : Status) → (MissesInput old new (inputs_of_nodes b.nodes.items) n) ⊎ (RefusesOutput old new (inputs_of_nodes b.nodes.items) (outputs_of_nodes b.nodes.items) n) → s ≡ status.Missing n → RunCauses s b old new
-missing_causes old new b n s (inl h) is = subst (λ x. RunCauses x b old new) (sym is) (h.why, h.refusals, h.rfaults, h.wfaults)
-missing_causes old new b n s (inr h) is = subst (λ x. RunCauses x b old new) (sym is) (inr h.rose, h.refusals, h.rfaults, h.wfaults)
+missing_causes old new b n s (inl h) is = subst (λ x. RunCauses x b old new) (sym is) (inl (in_place (inputs_of_nodes b.nodes.items) h.before h.after n h.place, h.why), h.refusals, h.rfaults, h.wfaults)
+missing_causes old new b n s (inr h) is = subst (λ x. RunCauses x b old new) (sym is) (inr (in_place (outputs_of_nodes b.nodes.items) h.before h.after n h.place, h.rose), h.refusals, h.rfaults, h.wfaults)
 
 pub wanted_causes : (old new : FolderState) (b : Blueprint) (s : Status) → Wants old new b → s ≡ status.NoMemory → RunCauses s b old new
 wanted_causes old new b s h is = subst (λ x. RunCauses x b old new) (sym is) (h.refusals, h.rfaults, h.wfaults)
@@ -349,7 +357,7 @@ module _ (old mid new : FolderState) (file t : List ℕ) (r : ReadsFile old mid 
           };
       sink = l.sink;
       ignores = l.ignores;
-      others = λ n never. l.others n never ∙ r.files.files tells n;
+      others = λ still n never. l.others still n never ∙ r.files.files tells n;
       draws = l.draws;
       lawful = l.lawful;
       rest = l.rest;
@@ -392,8 +400,8 @@ module _ (old mid new : FolderState) (file t : List ℕ) (r : ReadsFile old mid 
 
     gave_later : GaveUp mid new b → GaveUp old new b
     gave_later h = record {
-      others = λ n never. h.others n never ∙ r.files.files tells n;
-      outputs = λ n. elim (h.outputs n) [ inl e ↦ inl (e ∙ r.files.files tells n) | inr e ↦ inr e ];
+      others = λ still n never. h.others still n never ∙ r.files.files tells n;
+      outputs = λ still n. elim (h.outputs still n) [ inl e ↦ inl (e ∙ r.files.files tells n) | inr e ↦ inr e ];
     }
 
     -- what a run answers is told of the folder before the blueprint was read
@@ -413,8 +421,12 @@ module _ (old mid new : FolderState) (file t : List ℕ) (r : ReadsFile old mid 
 
 -- what rose in the run rose in the call
 module _ (old mid new : FolderState) (file t : List ℕ) (r : ReadsFile old mid file t) (b : Blueprint) (fit : IsFit b [] (file ∷ [])) where
+  misses_later : (n : List ℕ) → MissesFile mid new b n → MissesFile old new b n
+  misses_later n (inl h) = inl (h.0, absent_later old mid new n r.files r.refusals h.1)
+  misses_later n (inr h) = inr (h.0, rose_later (old.refusals n) (mid.refusals n) (new.refusals n) (r.refusals n) h.1)
+
   causes_later : (s : Status) → RunCauses s b mid new → RunCauses s b old new
-  causes_later (status.Missing n) c = (absent_later old mid new n r.files r.refusals c.0, quiet_but_later n _ _ _ r.refusals c.1, quiet_two _ _ _ r.rfaults c.2, quiet_two _ _ _ r.wfaults c.3)
+  causes_later (status.Missing n) c = (misses_later n c.0, quiet_but_later n _ _ _ r.refusals c.1, quiet_two _ _ _ r.rfaults c.2, quiet_two _ _ _ r.wfaults c.3)
   causes_later status.WriteFault c = (quiet_two _ _ _ r.refusals c.0, quiet_all_later _ _ _ _ r.rfaults c.1, some_rose_later old mid new b r.wfaults c.2, quiet_all_later _ _ _ _ r.wfaults c.3)
   causes_later status.Done c = (quiet_two _ _ _ r.refusals c.0, quiet_all_later _ _ _ _ r.rfaults c.1, quiet_two _ _ _ r.wfaults c.2)
   causes_later status.StreamFailed c = (quiet_two _ _ _ r.refusals c.0, quiet_all_later _ _ _ _ r.rfaults c.1, quiet_two _ _ _ r.wfaults c.2)
@@ -536,3 +548,17 @@ unbuilt_told s a b k turns is blank e = subst (λ x. EndedFit x a b turns s s) (
 pub causes_parsed : (s : Status) (b c : Blueprint) (taken : List (List ℕ)) (old new : FolderState) → IsFit b [] taken → c ≡ b → CausesFit s c old new → CausesText s taken old new
 causes_parsed s b c taken old new fit same (inl h) = inl h
 causes_parsed s b c taken old new fit same (inr h) = inr (b, (fit, subst (λ x. RunCauses s x old new) same h))
+
+-- of a file that is taken no more is read
+pub reads_parsed : (b c : Blueprint) (taken : List (List ℕ)) (old new : List ℕ → ℕ) → IsFit b [] taken → c ≡ b → QuietButAll (inputs_of_nodes c.nodes.items) old new → QuietAmong taken old new
+reads_parsed b c taken old new fit same quiet =
+    let its : QuietButAll (inputs_of_nodes b.nodes.items) old new = subst (λ x. QuietButAll (inputs_of_nodes x.nodes.items) old new) same quiet in
+    λ n among. its n (λ input. inputs_untaken b [] taken fit n input among)
+
+pub reads_checked : (b c : Blueprint) (old new : List ℕ → ℕ) → c ≡ b → QuietButAll (inputs_of_nodes c.nodes.items) old new → QuietButAll (inputs_of_nodes b.nodes.items) old new
+reads_checked b c old new same quiet = subst (λ x. QuietButAll (inputs_of_nodes x.nodes.items) old new) same quiet
+
+-- the file that was read is taken
+pub reads_text : (old mid new : List ℕ → ℕ) (file : List ℕ) (taken : List (List ℕ)) → taken ≡ file ∷ [] → GrewAtMost (old file) text_limit (mid file) → QuietAmong taken mid new → GrewAtMost (old file) text_limit (new file)
+reads_text old mid new file taken is most quiet =
+    most_later (old file) (mid file) (new file) text_limit most (quiet file (subst (λ (l : List (List ℕ)). Contains l file) (sym is) (0, omega arith, refl)))

@@ -91,5 +91,5 @@ module _ (words : List (List ℕ)) (old new : FolderState) (v : IsValid words ol
   completes (status.Missing n) (inr h) = absurd (absent_never h.0 n h.1.0.fit.says h.1.1)
 
 -- the answer to a valid call without faults
-pub complete : (words : List (List ℕ)) (old new : FolderState) (a : Answer) → ((c : Asked) → command_of words ≡ Some c → IsTrue new.tells → Told a c old new) → IsTrue new.tells → IsValid words old → RoseNowhere old new → WasRun a.status
+pub complete : (words : List (List ℕ)) (old new : FolderState) (a : Answer) → ((c : Asked) → command_of words ≡ Some c → IsTrue old.tells → Told a c old new) → IsTrue old.tells → IsValid words old → RoseNowhere old new → WasRun a.status
 complete words old new a told tells v calm = completes words old new v calm a a.status (told v.asked v.command tells)

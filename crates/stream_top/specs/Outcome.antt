@@ -67,7 +67,7 @@ pub record RanTo (old new : FolderState) (b : Blueprint) (turns : ℕ) (a : Answ
 abbrev pub IsAbsent : FolderState → FolderState → List ℕ → Type 0
 IsAbsent old new n = Lacks old n ⊎ Rose (old.refusals n) (new.refusals n)
 
--- what a call that ended before its blueprint's files were opened answers, where the folder tells its files
+-- what a call that ended before its blueprint's files were opened answers, where the folder told its files before it
 abbrev pub EndedBefore : Status → Answer → List ℕ → FolderState → FolderState → Type 0
 EndedBefore (status.Missing n) a file old new = RanNothing old new a × (n ≡ file) × IsAbsent old new file
 EndedBefore status.ReadFault a file old new = RanNothing old new a × Rose (old.rfaults file) (new.rfaults file)
@@ -96,12 +96,13 @@ pub record LacksOutput (old new : FolderState) (b : Blueprint) (n : List ℕ) (a
   pub files : Empties old new before
   pub blank : Blank a
 
--- memory was wanting in a run: each sink's file is as it was or empty, and no other is changed
+-- memory was wanting in a run: each sink's file is as it was or empty, and no other is changed, where the folder still tells its
+-- files
 pub record GaveUp (old new : FolderState) (b : Blueprint) : Type 0 where
-  pub others : (n : List ℕ) → ¬ (Contains (outputs_of_nodes b.nodes.items) n) → new.file n ≡ old.file n
-  pub outputs : (n : List ℕ) → (new.file n ≡ old.file n) ⊎ (new.file n ≡ Some [])
+  pub others : IsTrue new.tells → (n : List ℕ) → ¬ (Contains (outputs_of_nodes b.nodes.items) n) → new.file n ≡ old.file n
+  pub outputs : IsTrue new.tells → (n : List ℕ) → (new.file n ≡ old.file n) ⊎ (new.file n ≡ Some [])
 
--- What the run of a blueprint answers, where the folder tells its files. A failed write stands before a sink that has not ended,
+-- What the run of a blueprint answers, where the folder told its files before it. A failed write stands before a sink that has not ended,
 -- and that before one that failed.
 abbrev pub EndedRun : Status → Answer → Blueprint → ℕ → FolderState → FolderState → Type 0
 EndedRun status.Done a b turns old new = RanTo old new b turns a × (all_ended a.sinks ≡ true)
@@ -121,6 +122,14 @@ Told a c old new = EndedBefore a.status a c.file old new ⊎ ((b : Blueprint) ×
 abbrev pub QuietButAll : List (List ℕ) → (List ℕ → ℕ) → (List ℕ → ℕ) → Type 0
 QuietButAll names old new = (n : List ℕ) → ¬ (Contains names n) → Grew (old n) 0 (new n)
 
+-- no count of these names rose
+abbrev pub QuietAmong : List (List ℕ) → (List ℕ → ℕ) → (List ℕ → ℕ) → Type 0
+QuietAmong names old new = (n : List ℕ) → Contains names n → Grew (old n) 0 (new n)
+
+-- an input of this name is absent, or the opening of an output of this name was refused
+abbrev pub MissesFile : FolderState → FolderState → Blueprint → List ℕ → Type 0
+MissesFile old new b n = (Contains (inputs_of_nodes b.nodes.items) n × IsAbsent old new n) ⊎ (Contains (outputs_of_nodes b.nodes.items) n × Rose (old.refusals n) (new.refusals n))
+
 -- which counts a run raised: of failed reads at most those of its inputs, and of failed writes those of its outputs, and some of
 -- them exactly where a write failed
 abbrev pub RunCauses : Status → Blueprint → FolderState → FolderState → Type 0
@@ -129,14 +138,14 @@ RunCauses status.ReadFault b old new = ⊥
 RunCauses (status.Refused f) b old new = ⊥
 RunCauses (status.Unfit f) b old new = ⊥
 RunCauses (status.Unbuilt k) b old new = ⊥
-RunCauses (status.Missing n) b old new = IsAbsent old new n × QuietBut n old.refusals new.refusals × Quiet old.rfaults new.rfaults × Quiet old.wfaults new.wfaults
+RunCauses (status.Missing n) b old new = MissesFile old new b n × QuietBut n old.refusals new.refusals × Quiet old.rfaults new.rfaults × Quiet old.wfaults new.wfaults
 RunCauses status.NoMemory b old new = Quiet old.refusals new.refusals × Quiet old.rfaults new.rfaults × Quiet old.wfaults new.wfaults
 RunCauses status.WriteFault b old new = Quiet old.refusals new.refusals × QuietButAll (inputs_of_nodes b.nodes.items) old.rfaults new.rfaults × SomeWriteRose old new b × QuietButAll (outputs_of_nodes b.nodes.items) old.wfaults new.wfaults
 RunCauses _ b old new = Quiet old.refusals new.refusals × QuietButAll (inputs_of_nodes b.nodes.items) old.rfaults new.rfaults × Quiet old.wfaults new.wfaults
 
 -- what a call raised before a run
 abbrev pub CausesBefore : Status → List ℕ → FolderState → FolderState → Type 0
-CausesBefore (status.Missing n) file old new = IsAbsent old new n × QuietBut n old.refusals new.refusals × Quiet old.rfaults new.rfaults × Quiet old.wfaults new.wfaults
+CausesBefore (status.Missing n) file old new = (n ≡ file) × IsAbsent old new n × QuietBut n old.refusals new.refusals × Quiet old.rfaults new.rfaults × Quiet old.wfaults new.wfaults
 CausesBefore status.ReadFault file old new = Quiet old.refusals new.refusals × (Rose (old.rfaults file) (new.rfaults file) × QuietBut file old.rfaults new.rfaults) × Quiet old.wfaults new.wfaults
 CausesBefore (status.Refused f) file old new = Quiet old.refusals new.refusals × Quiet old.rfaults new.rfaults × Quiet old.wfaults new.wfaults
 CausesBefore (status.Unfit f) file old new = Quiet old.refusals new.refusals × Quiet old.rfaults new.rfaults × Quiet old.wfaults new.wfaults

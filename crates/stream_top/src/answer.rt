@@ -6,9 +6,11 @@ ghost use Rattle.blueprint_run.specs.Stands.{is_unended, is_write_fault, is_fail
 ghost use Rattle.run_report.specs.Report.{detail_of};
 ghost use Rattle.std.specs.List.{list_any};
 ghost use Rattle.materializer.specs.Built.{CanRun};
-ghost use Rattle.materializer.specs.Files.{sinks_of_nodes};
+ghost use Rattle.materializer.specs.Files.{inputs_of_nodes, sinks_of_nodes};
 ghost use Rattle.stream_top.specs.AfterRun.{AfterRun, of_outcome, status_after, ends_of};
-ghost use Rattle.stream_top.specs.Outcome.{Blank, EndedRun, Told, RunCauses, Causes, SinksOf};
+ghost use Rattle.stream_io.specs.Counts.{GrewAtMost};
+ghost use Rattle.stream_top.specs.Outcome.{Blank, EndedRun, Told, RunCauses, Causes, SinksOf, QuietButAll, QuietAmong};
+ghost use Rattle.stream_top.specs.Text.{text_limit};
 ghost use Rattle.stream_top.specs.Texts.{EndedFit, EndedParsed, EndedText, CausesFit, CausesText};
 
 use crate::text::{ReadEnd, read_file};
@@ -185,11 +187,12 @@ fn sinks_to_tell(alloc: Global, b: &Blueprint) -> Result<(Vec<Line>, Vec<SinkEnd
 fn run_blueprint<F: Folder>(alloc: Global, folder: &mut F, b: Blueprint, turns: u32) -> Outcome
     requires runs { CanRun b }
     requires turns { turns ≤ 4000000000 }
-    ensures told { IsTrue (F.state folder.new).tells → EndedRun result.status (of_outcome result) b turns (F.state folder.old) (F.state folder.new) }
+    ensures told { IsTrue (F.state folder.old).tells → EndedRun result.status (of_outcome result) b turns (F.state folder.old) (F.state folder.new) }
     ensures tells { IsTrue (F.state folder.new).tells → IsTrue (F.state folder.old).tells }
     ensures causes { RunCauses result.status b (F.state folder.old) (F.state folder.new) }
     ensures sinks { SinksOf result.status (of_outcome result) }
     ensures detail { result.detail.items ≡ detail_of result.status }
+    ensures reads { QuietButAll (inputs_of_nodes b.nodes.items) (F.state folder.old).read (F.state folder.new).read }
 {
     // The names and the room for the ends of its sinks are made before a file is opened, so that want of memory hides no fault.
     let Ok((names, room)) = sinks_to_tell(alloc, &b) else {
@@ -207,11 +210,12 @@ fn run_blueprint<F: Folder>(alloc: Global, folder: &mut F, b: Blueprint, turns: 
 fn run_checked<F: Folder>(alloc: Global, folder: &mut F, checked: Checked, turns: u32) -> Outcome
     requires fit { (taken : List (List ℕ)) × IsFit (blueprint_of checked) [] taken }
     requires turns { turns ≤ 4000000000 }
-    ensures told { IsTrue (F.state folder.new).tells → EndedFit result.status (of_outcome result) (blueprint_of checked) turns (F.state folder.old) (F.state folder.new) }
+    ensures told { IsTrue (F.state folder.old).tells → EndedFit result.status (of_outcome result) (blueprint_of checked) turns (F.state folder.old) (F.state folder.new) }
     ensures tells { IsTrue (F.state folder.new).tells → IsTrue (F.state folder.old).tells }
     ensures causes { CausesFit result.status (blueprint_of checked) (F.state folder.old) (F.state folder.new) }
     ensures sinks { SinksOf result.status (of_outcome result) }
     ensures detail { result.detail.items ≡ detail_of result.status }
+    ensures reads { QuietButAll (inputs_of_nodes (blueprint_of checked).nodes.items) (F.state folder.old).read (F.state folder.new).read }
 {
     match first_unbuilt(alloc, checked.blueprint()) {
         Ok(None) => run_blueprint(alloc, folder, checked.into_blueprint(), turns),
@@ -229,11 +233,12 @@ fn run_parsed<F: Folder>(
     turns: u32,
 ) -> Outcome
     requires { turns ≤ 4000000000 }
-    ensures told { IsTrue (F.state folder.new).tells → EndedParsed result.status (of_outcome result) b taken.now turns (F.state folder.old) (F.state folder.new) }
+    ensures told { IsTrue (F.state folder.old).tells → EndedParsed result.status (of_outcome result) b taken.now turns (F.state folder.old) (F.state folder.new) }
     ensures tells { IsTrue (F.state folder.new).tells → IsTrue (F.state folder.old).tells }
     ensures causes { CausesText result.status taken.now (F.state folder.old) (F.state folder.new) }
     ensures sinks { SinksOf result.status (of_outcome result) }
     ensures detail { result.detail.items ≡ detail_of result.status }
+    ensures reads { QuietAmong taken.now (F.state folder.old).read (F.state folder.new).read }
 {
     match check(alloc, b, &[], taken) {
         Ok(checked) => run_checked(alloc, folder, checked, turns),
@@ -251,11 +256,12 @@ fn run_text<F: Folder>(
     turns: u32,
 ) -> Outcome
     requires { turns ≤ 4000000000 }
-    ensures told { IsTrue (F.state folder.new).tells → EndedText result.status (of_outcome result) text.now taken.now turns (F.state folder.old) (F.state folder.new) }
+    ensures told { IsTrue (F.state folder.old).tells → EndedText result.status (of_outcome result) text.now taken.now turns (F.state folder.old) (F.state folder.new) }
     ensures tells { IsTrue (F.state folder.new).tells → IsTrue (F.state folder.old).tells }
     ensures causes { CausesText result.status taken.now (F.state folder.old) (F.state folder.new) }
     ensures sinks { SinksOf result.status (of_outcome result) }
     ensures detail { result.detail.items ≡ detail_of result.status }
+    ensures reads { QuietAmong taken.now (F.state folder.old).read (F.state folder.new).read }
 {
     match parse(alloc, text) {
         Ok(b) => run_parsed(alloc, folder, b, taken, turns),
@@ -278,11 +284,13 @@ fn names_of(alloc: Global, file: &Line) -> Result<(Line, Vec<Line>), NoMemory>
 /// Reads the blueprint of that name's file, and runs it by at most so many units.
 pub fn run_file<F: Folder>(alloc: Global, folder: &mut F, file: &Line, turns: u32) -> Outcome
     requires { turns ≤ 4000000000 }
-    ensures told { IsTrue (F.state folder.new).tells → Told (of_outcome result) (record { file = file.now; turns = turns }) (F.state folder.old) (F.state folder.new) }
+    ensures told { IsTrue (F.state folder.old).tells → Told (of_outcome result) (record { file = file.now; turns = turns }) (F.state folder.old) (F.state folder.new) }
     ensures causes { Causes result.status file.now (F.state folder.old) (F.state folder.new) }
     ensures sinks { SinksOf result.status (of_outcome result) }
     ensures no_usage { result.status ≡ Status.Usage → ⊥ }
+    ensures tells { IsTrue (F.state folder.new).tells → IsTrue (F.state folder.old).tells }
     ensures detail { result.detail.items ≡ detail_of result.status }
+    ensures reads { GrewAtMost ((F.state folder.old).read file.now) text_limit ((F.state folder.new).read file.now) }
 {
     let Ok((name, taken)) = names_of(alloc, file) else {
         return without_run(alloc, Status::NoMemory);

@@ -3,6 +3,7 @@
 
 mod answer;
 mod command;
+pub mod sure;
 mod text;
 pub mod top;
 

@@ -1,9 +1,11 @@
 // The top call.
 ghost use Rattle.std.specs.Prelude.{◌≡◌, ◌≤◌, ◌⊎◌, ◌↔◌, List, ℕ, Some, None, [], IsTrue};
+ghost use Rattle.stream_io.specs.Counts.{GrewAtMost};
 ghost use Rattle.stream_top.specs.AfterRun.{of_outcome};
 ghost use Rattle.stream_top.specs.Calls.{answer_of};
 ghost use Rattle.stream_top.specs.Command.{Asked, command_of};
 ghost use Rattle.stream_top.specs.Outcome.{Told, Causes, SinksOf, IsValid, RoseNowhere, WasRun};
+ghost use Rattle.stream_top.specs.Text.{text_limit};
 ghost use Rattle.run_report.specs.Report.{detail_of, report_of, code_of};
 ghost use Rattle.run_report.specs.Writing.{Puts, PutsPart};
 
@@ -37,15 +39,19 @@ pub fn run_streams<F: Folder, C: Drain>(
     ensures usage { (result.status ≡ Status.Usage) ↔ (command_of words.now ≡ None) }
     ensures usage_leaves { result.status ≡ Status.Usage → F.state folder.new ≡ F.state folder.old }
 
-    // What is answered and left where the folder tells its files.
-    ensures told { (c : Asked) → command_of words.now ≡ Some c → IsTrue (F.state folder.new).tells → Told (answer_of result) c (F.state folder.old) (F.state folder.new) }
+    // What is answered and left where the folder told its files before. What files hold then is said where it still tells them.
+    ensures tells { IsTrue (F.state folder.new).tells → IsTrue (F.state folder.old).tells }
+    ensures told { (c : Asked) → command_of words.now ≡ Some c → IsTrue (F.state folder.old).tells → Told (answer_of result) c (F.state folder.old) (F.state folder.new) }
 
     // Valid words, text and inputs and no fault give a run, or memory was wanting.
-    ensures complete { IsTrue (F.state folder.new).tells → IsValid words.now (F.state folder.old) → RoseNowhere (F.state folder.old) (F.state folder.new) → WasRun result.status }
+    ensures complete { IsTrue (F.state folder.old).tells → IsValid words.now (F.state folder.old) → RoseNowhere (F.state folder.old) (F.state folder.new) → WasRun result.status }
 
     // Which counts rose, whether it tells them or not.
     ensures causes { (c : Asked) → command_of words.now ≡ Some c → Causes result.status c.file (F.state folder.old) (F.state folder.new) }
     ensures sinks { SinksOf result.status (answer_of result) }
+
+    // Reading the blueprint's file stops after so many bytes.
+    ensures reads { (c : Asked) → command_of words.now ≡ Some c → GrewAtMost ((F.state folder.old).read c.file) text_limit ((F.state folder.new).read c.file) }
 
     // The console has the report behind what it held, or a first part of it where a write to it failed.
     ensures console { (Puts (C.state console.old) (C.state console.new) (report_of (answer_of result)) × (result.code ≡ code_of result.status))
@@ -75,10 +81,12 @@ pub fn run_streams<F: Folder, C: Drain>(
 fn answer<F: Folder>(alloc: Global, words: &[Line], folder: &mut F) -> Outcome
     ensures usage { (result.status ≡ Status.Usage) ↔ (command_of words.now ≡ None) }
     ensures usage_leaves { result.status ≡ Status.Usage → F.state folder.new ≡ F.state folder.old }
-    ensures told { (c : Asked) → command_of words.now ≡ Some c → IsTrue (F.state folder.new).tells → Told (of_outcome result) c (F.state folder.old) (F.state folder.new) }
+    ensures told { (c : Asked) → command_of words.now ≡ Some c → IsTrue (F.state folder.old).tells → Told (of_outcome result) c (F.state folder.old) (F.state folder.new) }
     ensures causes { (c : Asked) → command_of words.now ≡ Some c → Causes result.status c.file (F.state folder.old) (F.state folder.new) }
+    ensures tells { IsTrue (F.state folder.new).tells → IsTrue (F.state folder.old).tells }
     ensures sinks { SinksOf result.status (of_outcome result) }
     ensures detail { result.detail.items ≡ detail_of result.status }
+    ensures reads { (c : Asked) → command_of words.now ≡ Some c → GrewAtMost ((F.state folder.old).read c.file) text_limit ((F.state folder.new).read c.file) }
 {
     match read_words(words) {
         Some(command) => run_file(alloc, folder, command.file, command.turns),

@@ -56,3 +56,16 @@ pub returns-in-Err-MissingOutput-clause-causes : goal.returns-in-Err-MissingOutp
 returns-in-Err-MissingOutput-clause-causes g c =
     let e = c.in-Err-MissingOutput in
     missing_causes _ _ c.args.b e.name c.without_run-in-Err-MissingOutput.result.status (inr (e.ensures.no_output e.name (ap Err e.field-0-is))) c.without_run-in-Err-MissingOutput.ensures.status
+
+pub returns-in-Ok-run-clause-reads : goal.returns-in-Ok-run-clause-reads
+returns-in-Ok-run-clause-reads g c = c.in-Ok-run.ensures.ran.other_draws
+
+pub returns-in-Err-MissingInput-clause-reads : goal.returns-in-Err-MissingInput-clause-reads
+returns-in-Err-MissingInput-clause-reads g c =
+    let e = c.in-Err-MissingInput in
+    λ n never. (e.ensures.no_input e.name (ap Err e.field-0-is)).read n
+
+pub returns-in-Err-MissingOutput-clause-reads : goal.returns-in-Err-MissingOutput-clause-reads
+returns-in-Err-MissingOutput-clause-reads g c =
+    let e = c.in-Err-MissingOutput in
+    λ n never. (e.ensures.no_output e.name (ap Err e.field-0-is)).read n

@@ -4,7 +4,7 @@ use Rattle.blue_check.specs.Checked.{blueprint_of}
 use Rattle.materializer.specs.Built.{unbuilt_node}
 use Rattle.stream_top.specs.AfterRun.{of_outcome}
 use Rattle.stream_top.specs.Outcome.{EndedRun}
-use Rattle.stream_top.proofs.Answering.{unbuilt_told}
+use Rattle.stream_top.proofs.Answering.{unbuilt_told, reads_checked}
 use Rattle.stream_top.proofs.answer.run_checked.Goals as goal
 
 pub returns-in-Ok-None-clause-told : goal.returns-in-Ok-None-clause-told
@@ -17,3 +17,6 @@ pub returns-in-Ok-Some-clause-told : goal.returns-in-Ok-Some-clause-told
 returns-in-Ok-Some-clause-told g c =
     let some : unbuilt_node (blueprint_of c.args.checked) ≡ Some c.in-Ok-Some.node = sym (ap unbuilt_node c.blueprint.ensures) ∙ sym c.in-Ok-Some.ensures ∙ c.in-Ok-Some.field-0-is in
     λ tells. unbuilt_told (g.F.Folder.state c.args.folder.now) (of_outcome c.without_run.result) (blueprint_of c.args.checked) c.in-Ok-Some.node c.args.turns c.without_run.ensures.status c.without_run.ensures.blank some
+
+pub returns-in-Ok-None-clause-reads : goal.returns-in-Ok-None-clause-reads
+returns-in-Ok-None-clause-reads g c = reads_checked _ _ _ _ c.into_blueprint.ensures c.run_blueprint.ensures.reads

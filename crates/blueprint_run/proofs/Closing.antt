@@ -1,9 +1,10 @@
 -- From the island of a blueprint at its end to what the run leaves in the folder.
-use Rattle.std.proofs.Common.{◌≡◌, ◌≢◌, ◌⊎◌, inl, inr, ℕ, zero, suc, ◌+◌, ◌<◌, ◌≤◌, Bool, true, false, List, [], ◌∷◌, ◌++◌, map, length, slice_get, refl, sym, ap, ◌∙◌, subst, arith}
-use Rattle.std.specs.Prelude.{IsTrue, IsSome, Option, Some, None, slice_index_or, unwrap_or, ◌==◌}
+use Rattle.std.proofs.Common.{◌≡◌, ◌≢◌, ◌⊎◌, inl, inr, ℕ, zero, suc, ◌+◌, ◌*◌, ◌<◌, ◌≤◌, Bool, true, false, List, [], ◌∷◌, ◌++◌, map, length, slice_get, refl, sym, ap, ◌∙◌, subst, arith}
+use Rattle.std.specs.Prelude.{IsTrue, IsSome, Option, Some, None, slice_index_or, unwrap_or, ◌==◌, ◌&&◌, ◌||◌}
 use Rattle.std.specs.Option.{option_map}
-use Rattle.std.specs.List.{All, Contains, filter_map}
+use Rattle.std.specs.List.{All, Contains, filter_map, list_any, list_all}
 use Rattle.std.proofs.lemmas.List.{length-map}
+use Rattle.std.proofs.lemmas.Bool.{and_parts}
 use Rattle.elem_core.specs.Tree.{Tree, text}
 use Rattle.elem_core.specs.Text.{text_lines}
 use Rattle.elem_core.specs.declared.item.Item.{Item}
@@ -12,25 +13,29 @@ use Rattle.stream_model.specs.declared.kind.Kind.TheVariants as kind
 use Rattle.stream_model.specs.declared.outcome.WireCount.{WireCount}
 use Rattle.stream_model.specs.declared.outcome.EndState.{EndState}
 use Rattle.stream_model.specs.declared.outcome.EndState.TheVariants.{Ended, Failed, Unended, WriteFault}
-use Rattle.stream_model.specs.Graph.{Graph, Wire}
+use Rattle.stream_model.specs.Graph.{Graph, Wire, find_wire}
 use Rattle.stream_model.specs.Graph as graph
 use Rattle.stream_model.specs.Node.{World}
 use Rattle.stream_model.specs.Outlook.{Outlook, End}
-use Rattle.stream_model.specs.Composed.{composed, sink_outlook, IsRanked}
+use Rattle.stream_model.specs.Composed.{composed, sink_outlook, IsRanked, inputs_of}
+use Rattle.stream_model.proofs.Compositions.{found_first}
 use Rattle.stream_model.specs.Sources.{File, whole_lines}
 use Rattle.stream_picture.specs.Lawful.{IsLawful}
 use Rattle.stream_picture.specs.OneWay as oneway
 use Rattle.stream_picture.specs.Rests.{Rests, SinksMatch}
-use Rattle.stream_picture.specs.Shape.{sent_at}
+use Rattle.stream_picture.specs.Shape.{IsPolytree, IsWired, sent_at, need, count_needed, need_from}
 use Rattle.stream_picture.specs.View.{EachWire, ins, outputs_of}
-use Rattle.picture_laws.specs.Picture.{counts_of, has_ended, sink_ended, ended_at}
+use Rattle.picture_laws.specs.Picture.{count_of, counts_of, has_ended, sink_ended, ended_at}
 use Rattle.stream_io.specs.Counts.{Rose, Grew}
 use Rattle.stream_io.specs.State.{FolderState, SourceState, DrainState}
 use Rattle.stream_io.specs.Reading.{FirstTooLong}
 use Rattle.wire_core.specs.Cell.{Cell}
-use Rattle.wire_core.specs.Counts.{elements}
+use Rattle.wire_core.specs.Counts.{elements, spent, asks}
+use Rattle.port_core.specs.Ring.{holds}
 use Rattle.fused_net.specs.Net.{Net, no_wire, wire_at}
 use Rattle.fused_net.specs.Laws.{Settled}
+use Rattle.fused_net.specs.Costs.{sum_below, total}
+use Rattle.fused_net.proofs.Sums.{sum_le}
 use Rattle.nodes.specs.Nodes.{node_row, node_law}
 use Rattle.nodes.specs.Drawing.{ended_lines}
 use Rattle.nodes.specs.Source.{Lines}
@@ -41,17 +46,22 @@ use Rattle.nodes.specs.declared.node.Node.TheVariants as node
 use Rattle.interpreter.specs.Parts.{number_of, ends_of}
 use Rattle.interpreter.specs.declared.parts.Link.{Link}
 use Rattle.interpreter.specs.Island as island
+use Rattle.run_laws.specs.Agreeing.{AgreesWith}
 use Rattle.run_laws.specs.Made.{Materializes}
 use Rattle.run_laws.specs.Telling.{TellsFile, TellsNode, Tells}
 use Rattle.run_laws.specs.Sinks.{SinkWrote, SentTo, IsSinkAt, IgnoreTells, IsIgnorerAt}
 use Rattle.run_laws.specs.Reads.{IsSourceAt, ReadsAhead, SentLines}
 use Rattle.run_laws.proofs.Counting.{elements_told}
 use Rattle.blue_core.specs.declared.blueprint.Blueprint.{Blueprint}
+use Rattle.blue_rules.specs.Names.{file_of}
 use Rattle.blue_core.specs.declared.blueprint.Node as blue
 use Rattle.blue_check.specs.Fitness.{IsFit}
 use Rattle.blue_check.specs.Wires.{blueprint_wires}
+use Rattle.blue_walks.specs.Forest.{wiring}
 use Rattle.plug_core.specs.declared.head.PlugHead.{PlugHead}
-use Rattle.materializer.specs.Built.{CanRun}
+use Rattle.materializer.specs.Built.{CanRun, is_built}
+use Rattle.materializer.specs.Joined.{IsJoined}
+use Rattle.materializer.proofs.Fitting.{all_built}
 use Rattle.materializer.specs.Files.{output_of, inputs_of_nodes, outputs_of_nodes, is_sink}
 use Rattle.materializer.specs.Graphs.{node_of, graph_of}
 use Rattle.materializer.specs.Seats.{links_from}
@@ -60,11 +70,15 @@ use Rattle.run_files.specs.Closing.{ClosesAll}
 use Rattle.blueprint_run.specs.Drawing.{Drawn, IsSource, WasRead, IsWorldOf, DrawsFirst}
 use Rattle.blueprint_run.specs.Leaving.{Leaves}
 use Rattle.blueprint_run.specs.Running.{SinkLeaves, IgnoreLeaves, LeavesFiles, WritesOf, Runs, Wants}
-use Rattle.blueprint_run.specs.Stands.{Stand, has_ended_at, is_write_fault}
+use Rattle.blueprint_run.specs.Stands.{Stand, has_ended_at, is_write_fault, is_unended}
+use Rattle.blueprint_run.specs.Units.{all_sent, Pays}
 use Rattle.blueprint_run.specs.declared.run.Stopped.{Stopped}
 use Rattle.blueprint_run.specs.declared.run.Ran.{Ran}
 use Rattle.run_files.proofs.Counts.{grew_same}
 use Rattle.blueprint_run.proofs.Counts.{rose_by, rose_from_none, is_positive, positive, above_none, not_positive, some_of, contains_or_not}
+use Rattle.blueprint_run.proofs.Apart.{one_file}
+use Rattle.blueprint_run.proofs.Units.{spent_most, sent_asked, count_most, need_more, passed_within}
+use Rattle.blueprint_run.proofs.Worlds.{world_of, world_has, tree_by_wires}
 use Rattle.blueprint_run.proofs.Places.{all_at, contains_at, contained_at, mapped_at, unmapped_at, filtered_at, unfiltered_at, place_of, place_one, place_within}
 use Rattle.blueprint_run.proofs.Profiles.{some_one, stand_in, writer_there, sinks_filtered, StandsAt, Profile, ended_along}
 use Rattle.blueprint_run.proofs.Handles.{IsSinkInto, HandleLaws, fault_kind, writer_kind, SourceFacts, SinkFacts, source_facts, sink_facts, made, profiles, as_many, stands_are, read_grew, faults_grew, writes_grew, file_held, other_files, other_reads, other_writes, other_draws, refused, tells_old, reading_same, writing_same}
@@ -158,6 +172,44 @@ no_stand : (k : ℕ) (b : Bool) (o : Option Stand) (s : Stand) → StandsAt k b 
 no_stand k true o s h e = let same : s ≡ h.0 = some_one s h.0 (sym e ∙ h.1.0) in ap (λ (t : Stand). t.0) same ∙ h.1.1
 no_stand k false o s h e = absurd cc
 
+is_stand : (k : ℕ) (b : Bool) (o : Option Stand) (s : Stand) → StandsAt k b o → o ≡ Some s → b ≡ true
+is_stand k true o s h e = refl
+is_stand k false o s h e = absurd cc
+
+-- a kind without an output that is built is a sink's, and has an input
+built_sink : (k : Kind) → is_built k ≡ true → (outputs_of k == 0) ≡ true → oneway.is_sink k ≡ true
+built_sink (kind.ToLines f) e h = refl
+built_sink (kind.Head f) e h = refl
+built_sink (kind.Last f) e h = refl
+built_sink kind.Ignore e h = refl
+built_sink _ e h = absurd cc
+
+sink_input : (k : Kind) → oneway.is_sink k ≡ true → 0 < inputs_of k
+sink_input (kind.ToLines f) e = omega arith
+sink_input (kind.Head f) e = omega arith
+sink_input (kind.Last f) e = omega arith
+sink_input kind.Ignore e = omega arith
+sink_input _ e = absurd cc
+
+built_at : (nodes : List blue.Node) (k : ℕ) (n : blue.Node) → list_all (λ (m : blue.Node). is_built m.kind) nodes ≡ true → slice_get nodes k ≡ Some n → is_built n.kind ≡ true
+built_at [] k n all at = absurd cc
+built_at (m ∷ ms) zero n all at = let same : m ≡ n = cc in ap (λ (x : blue.Node). is_built x.kind) (sym same) ∙ (and_parts (is_built m.kind) (list_all (λ (x : blue.Node). is_built x.kind) ms) all).0
+built_at (m ∷ ms) (suc k) n all at = built_at ms k n (and_parts (is_built m.kind) (list_all (λ (x : blue.Node). is_built x.kind) ms) all).1 at
+
+ended_goes : (e : EndState) → has_ended e ≡ true → is_unended e ≡ false
+ended_goes Ended h = refl
+ended_goes (Failed c) h = refl
+ended_goes WriteFault h = refl
+ended_goes Unended h = absurd cc
+
+neither : (a b : Bool) → a ≡ false → b ≡ false → a || b ≡ false
+neither true b p q = absurd cc
+neither false b p q = q
+
+none_unended : (stands : List Stand) → ((i : ℕ) (s : Stand) → slice_get stands i ≡ Some s → is_unended s.2 ≡ false) → list_any (λ (s : Stand). is_unended s.2) stands ≡ false
+none_unended [] each = refl
+none_unended (s ∷ ss) each = neither (is_unended s.2) (list_any (λ (t : Stand). is_unended t.2) ss) (each 0 s refl) (none_unended ss (λ i t at. each (suc i) t at))
+
 -- a world that has the files as they were read tells of each source
 tells_node : {S D : Type 0} (sources : S → SourceState) (w : World) (n : graph.Node) (first now : Node S D)
     → ((a c : Lines S) (name : List ℕ) → first ≡ node.Reading a → now ≡ node.Reading c → n.kind ≡ kind.Lines name → TellsFile (sources a.reader.source) (sources c.reader.source) (w.file name)) → TellsNode sources w n first now
@@ -198,6 +250,14 @@ module _ {S D : Type 0} (sources : S → SourceState) (drains : D → DrainState
   MatchLaw = (g : Graph) (w : World) (net : Net (Node S D)) (outlook : ℕ → Outlook) → Settled node_row (node_law sources drains) net → net.queue ≡ [] → Materializes sources g net.firsts net.ends
       → SinksMatch g w (counts_of net.wires) outlook (ended_at net.nodes)
 
+  abbrev AgreeLaw : Type 0
+  AgreeLaw = (g : Graph) (w : World) (rank : ℕ → ℕ) (net : Net (Node S D)) → Settled node_row (node_law sources drains) net → Materializes sources g net.firsts net.ends
+      → Tells sources g w net → IsRanked g rank → (i : ℕ) → i < length g.wires → AgreesWith (composed g w i) (wire_at net i).wire.sent
+
+  abbrev TreesLaw : Type 0
+  TreesLaw = (g : Graph) (w : World) (counts : List WireCount) (outlook : ℕ → Outlook) → IsWired g counts → Rests g w counts outlook → IsPolytree g → (ended : ℕ → Bool) → SinksMatch g w counts outlook ended
+      → (i : ℕ) (v : Wire) (n : graph.Node) → slice_get g.wires i ≡ Some v → slice_get g.nodes v.to ≡ Some n → oneway.is_sink n.kind ≡ true → ended v.to ≡ true
+
   abbrev IgnorerThere : Type 0
   IgnorerThere = (g : Graph) (net : Net (Node S D)) → Settled node_row (node_law sources drains) net → Materializes sources g net.firsts net.ends
       → (k : ℕ) (n : graph.Node) → slice_get g.nodes k ≡ Some n → n.kind ≡ kind.Ignore → (first : Ignorer) × ((now : Ignorer) × IsIgnorerAt net k first now)
@@ -209,6 +269,9 @@ module _ {S D : Type 0} (sources : S → SourceState) (drains : D → DrainState
 
   pub record RunLaws : Type 0 where
     pub ranked : (b : Blueprint) (plugs : List PlugHead) (taken : List (List ℕ)) → IsFit b plugs taken → (rank : ℕ → ℕ) × IsRanked (graph_of b) rank
+    pub joined : (b : Blueprint) (plugs : List PlugHead) (taken : List (List ℕ)) → IsFit b plugs taken → IsJoined (graph_of b)
+    pub agree : AgreeLaw
+    pub trees : TreesLaw
     pub wrote : WroteLaw
     pub sent : SentLaw
     pub rest : RestLaw
@@ -258,6 +321,78 @@ module _ {S D : Type 0} (sources : S → SourceState) (drains : D → DrainState
 
   wire_count : (u : ℕ) → sent_at st.wires.items u ≡ elements (wire_at net u).wire.sent
   wire_count u = ap (λ (c : List WireCount). sent_at c u) wires_are ∙ sent_count net.wires u
+
+  -- there are as many as wires
+  wire_number : length net.wires ≡ length (blueprint_wires b)
+  wire_number = sym l.stops.settled.wired.each_wire ∙ net_made.wires
+
+  cost_most : (k : ℕ) → k < length net.wires → spent (wire_at net k).wire (holds net.queue k) ≤ 2 * sent_at st.wires.items (0 + k) + 3
+  cost_most k lt =
+      let h : spent (wire_at net k).wire (holds net.queue k) ≤ 2 * elements (wire_at net k).wire.sent + 3 = spent_most (wire_at net k).wire (holds net.queue k) (l.stops.settled.sound k lt) in
+      let place : 0 + k ≡ k = omega arith in
+      let same : sent_at st.wires.items (0 + k) ≡ elements (wire_at net k).wire.sent = ap (sent_at st.wires.items) place ∙ wire_count k in
+      omega (arith, h, same)
+
+  -- and the units are tied to what passed
+  pays : Pays b st.wires.items st.used
+  pays =
+      let asked : all_sent st.wires.items ≤ sum_below (λ w. asks (wire_at net w).wire) (length net.wires) = subst (λ (c : List WireCount). all_sent c ≤ sum_below (λ w. asks (wire_at net w).wire) (length net.wires)) (sym wires_are) (sent_asked net.wires) in
+      let used : sum_below (λ w. asks (wire_at net w).wire) (length net.wires) ≤ st.used = l.stops.asks in
+      let paid : st.used ≤ total net = l.stops.paid in
+      let cost : total net ≤ sum_below (λ k. 2 * sent_at st.wires.items (0 + k) + 3) (length net.wires) =
+      sum_le (λ w. spent (wire_at net w).wire (holds net.queue w)) (λ k. 2 * sent_at st.wires.items (0 + k) + 3) (length net.wires) cost_most in
+      let count : sum_below (λ k. 2 * sent_at st.wires.items (0 + k) + 3) (length net.wires) + length net.wires ≤ need_from 0 (blueprint_wires b) (sent_at st.wires.items) =
+      subst (λ (n : ℕ). sum_below (λ k. 2 * sent_at st.wires.items (0 + k) + 3) n + n ≤ need_from 0 (blueprint_wires b) (sent_at st.wires.items)) (sym wire_number) (count_most (blueprint_wires b) 0 (sent_at st.wires.items)) in
+      let most : st.used + length (blueprint_wires b) ≤ need_from 0 (blueprint_wires b) (sent_at st.wires.items) = omega (arith, paid, cost, count, wire_number) in
+      let least : all_sent st.wires.items ≤ st.used = omega (arith, asked, used) in
+      record {
+        counted = ap length wires_are ∙ length-map net.wires count_of ∙ wire_number;
+        least = least;
+        most = most;
+      }
+
+  -- a sink among the stands, its node, and the wire of its input
+  record SinkHere (s : Stand) : Type 0 where
+    node : blue.Node
+    at : slice_get nodes s.0 ≡ Some node
+    shape : oneway.is_sink node.kind ≡ true
+    ended : ended_at net.nodes s.0 ≡ has_ended s.2
+    wire : ℕ
+    is : Wire
+    there : slice_get (blueprint_wires b) wire ≡ Some is
+    to : is.to ≡ s.0
+
+  sink_here : (i : ℕ) (s : Stand) → slice_get st.end.sinks.items i ≡ Some s → SinkHere s
+  sink_here i s at =
+      let among : slice_get (filter_map stand_in net.nodes) i ≡ Some s = subst (λ (x : List Stand). slice_get x i ≡ Some s) (l.stops.sinks ∙ sinks_filtered net.nodes) at in
+      let from = unfiltered_at stand_in net.nodes i s among in
+      let below : from.0 < length nodes = subst (λ m. from.0 < m) (sym (as_many sources drains handles b can ss ds budget st l old mid opens)) (place_within net.nodes from.0 from.1.0 from.1.1.0) in
+      let m = place_of nodes from.0 below in
+      let stand = (profile from.0 m.0 from.1.0 m.1 from.1.1.0).stand in
+      let place : s.0 ≡ from.0 = no_stand from.0 (is_sink m.0) (stand_in from.1.0) s stand from.1.1.1 in
+      let here : slice_get nodes s.0 ≡ Some m.0 = subst (λ j. slice_get nodes j ≡ Some m.0) (sym place) m.1 in
+      let found : slice_get net.nodes s.0 ≡ Some from.1.0 = subst (λ j. slice_get net.nodes j ≡ Some from.1.0) (sym place) from.1.1.0 in
+      let built : is_built m.0.kind ≡ true = built_at nodes s.0 m.0 (all_built nodes (blueprint_wires b) can.built) here in
+      let shape : oneway.is_sink m.0.kind ≡ true = built_sink m.0.kind built (is_stand from.0 (is_sink m.0) (stand_in from.1.0) s stand from.1.1.1) in
+      let input = (laws.joined b can.plugs can.taken can.fit).each_input s.0 (node_of m.0) 0 (mapped_at node_of nodes s.0 m.0 here) (sink_input m.0.kind shape) in
+      let wire = found_first (λ w. w.to) (λ w. w.input) s.0 0 (blueprint_wires b) input.0 input.1 in
+      record {
+        node = m.0;
+        at = here;
+        shape = shape;
+        ended = ended_there net.nodes s.0 from.1.0 s found from.1.1.1;
+        wire = input.0;
+        is = wire.wire;
+        there = wire.at;
+        to = wire.to;
+      }
+
+  sinks_wired : 1 ≤ length st.end.sinks.items → 1 ≤ length (blueprint_wires b)
+  sinks_wired some =
+      let s = place_of st.end.sinks.items 0 (omega (arith, some)) in
+      let h = sink_here 0 s.0 s.1 in
+      let within : h.wire < length (blueprint_wires b) = place_within (blueprint_wires b) h.wire h.is h.there in
+      omega (arith, within)
 
   -- what the sources drew
   abbrev drawn : Drawn
@@ -340,7 +475,7 @@ module _ {S D : Type 0} (sources : S → SourceState) (drains : D → DrainState
         tells = λ w is. let ranked = laws.ranked b can.plugs can.taken can.fit in wrote.tells w ranked.0 (world_tells w is) ranked.1;
         lines_are = wrote.lines_are;
         sent = λ shape u v at to. subst (λ (m : ℕ). SentTo f.now.end m f.now.count) (sym (wire_count u)) (laws.sent g net l.stops.settled net_made k (node_of n) file f.first f.now u v at_graph shape f.there at to);
-        rests = λ shape rest unended u v at to. wire_count u ∙ laws.rest g net l.stops.settled net_made k (node_of n) file f.first f.now u v at_graph shape f.there at to (l.stops.rests rest) unended;
+        rests = λ shape rest unended u v at to. wire_count u ∙ laws.rest g net l.stops.settled net_made k (node_of n) file f.first f.now u v at_graph shape f.there at to (l.stops.rests.0 rest) unended;
       }
 
     -- a sink without a file
@@ -367,12 +502,57 @@ module _ {S D : Type 0} (sources : S → SourceState) (drains : D → DrainState
               (laws.ignores g w ranked.0 net l.stops.settled net_made (world_tells w is_world) ranked.1 s.0 (node_of n) there.0 now u v at_graph there.1.1 wire to));
         }
 
+    -- one world that has the files
+    abbrev world : World
+    world = world_of nodes drawn
+
+    has_files : IsWorldOf nodes drawn world
+    has_files = world_has nodes drawn (λ i k m n name at here p q. one_file b can.plugs can.taken can.fit i k m n name at here (ap file_of p) (ap file_of q))
+
+    picture_wired : IsWired g (counts_of net.wires)
+    picture_wired =
+        let joined = laws.joined b can.plugs can.taken can.fit in
+        record {
+          target = joined.target;
+          source = joined.source;
+          counted = λ i v at.
+              let within : i < length (blueprint_wires b) = place_within (blueprint_wires b) i v at in
+              let count : length (counts_of net.wires) ≡ length net.wires = length-map net.wires count_of in
+              place_of (counts_of net.wires) i (omega (arith, within, count, wire_number));
+        }
+
+    -- in a polytree every sink has ended where no event was left
+    ending : IsPolytree (wiring (blueprint_wires b)) → IsTrue st.at_rest → list_any (λ (s : Stand). is_unended s.2) st.end.sinks.items ≡ false
+    ending tree rest =
+        let ranked = laws.ranked b can.plugs can.taken can.fit in
+        none_unended st.end.sinks.items (λ i s at.
+        let h = sink_here i s at in
+        let n : slice_get g.nodes h.is.to ≡ Some (node_of h.node) = subst (λ j. slice_get g.nodes j ≡ Some (node_of h.node)) (sym h.to) (mapped_at node_of nodes s.0 h.node h.at) in
+        let over : ended_at net.nodes h.is.to ≡ true =
+        laws.trees g world (counts_of net.wires) (composed g world) picture_wired (laws.rests g world ranked.0 net l.stops.settled (l.stops.rests.0 rest) net_made (world_tells world has_files) ranked.1) (tree_by_wires g tree)
+        (ended_at net.nodes) (laws.match g world net (composed g world) l.stops.settled (l.stops.rests.0 rest) net_made) h.wire h.is (node_of h.node) h.there n h.shape in
+        ended_goes s.2 (sym h.ended ∙ ap (ended_at net.nodes) (sym h.to) ∙ over))
+
+    needed : (w : World) → IsWorldOf nodes drawn w → count_needed g st.wires.items ≤ need g (composed g w)
+    needed w is =
+        let ranked = laws.ranked b can.plugs can.taken can.fit in
+        need_more (blueprint_wires b) 0 (sent_at st.wires.items) (λ i. length (composed g w i).list) (λ k lt.
+        let sent : sent_at st.wires.items (0 + k) ≡ elements (wire_at net (0 + k)).wire.sent = wire_count (0 + k) in
+        let place : 0 + k < length g.wires = omega (arith, lt) in
+        let within : elements (wire_at net (0 + k)).wire.sent ≤ length (composed g w (0 + k)).list = passed_within (composed g w (0 + k)) (wire_at net (0 + k)).wire.sent (laws.agree g w ranked.0 net l.stops.settled net_made (world_tells w is) ranked.1 (0 + k) place) in
+        let le : sent_at st.wires.items (0 + k) ≤ length (composed g w (0 + k)).list = omega (arith, sent, within) in
+        le)
+
     leaves_files : LeavesFiles old new b st.end.sinks.items st.wires.items st.at_rest
     leaves_files =
         let ranked = laws.ranked b can.plugs can.taken can.fit in
         record {
           drawn = drawn;
           read = λ k file is. was_read k file (source_at k file is);
+          world = world;
+          has_files = has_files;
+          ending = ending;
+          needed = needed;
           sink = λ i s n file at here shape.
               let found = stand_of i s n file at here shape in
               subst (λ (t : Stand). SinkLeaves new b drawn st.wires.items st.at_rest s.0 n file t.1 t.2) (sym found.1) (sink_leaves s.0 n file here found.0);
@@ -384,7 +564,7 @@ module _ {S D : Type 0} (sources : S → SourceState) (drains : D → DrainState
               (laws.reads g net l.stops.settled net_made k (node_of is.node) f.first f.now u v (file_there k file f).0 (mapped_at node_of nodes k is.node is.at) f.there at from (whole_told k file f)) in
               rw (drawn_bytes k file f, drawn_given k file f, drawn_faulted k file f) told;
           lawful = λ w is. subst (λ (c : List WireCount). IsLawful g w c (composed g w)) (sym wires_are) (laws.lawful g w ranked.0 net l.stops.settled net_made (world_tells w is) ranked.1);
-          rest = λ rest w is. subst (λ (c : List WireCount). Rests g w c (composed g w)) (sym wires_are) (laws.rests g w ranked.0 net l.stops.settled (l.stops.rests rest) net_made (world_tells w is) ranked.1);
+          rest = λ rest w is. subst (λ (c : List WireCount). Rests g w c (composed g w)) (sym wires_are) (laws.rests g w ranked.0 net l.stops.settled (l.stops.rests.0 rest) net_made (world_tells w is) ranked.1);
           matching = λ rest w k n at is.
               let m = unmapped_at node_of nodes k n at in
               let shape : oneway.is_sink m.0.kind ≡ true = ap (λ (x : graph.Node). oneway.is_sink x.kind) (sym m.1.1) ∙ is in
@@ -397,7 +577,7 @@ module _ {S D : Type 0} (sources : S → SourceState) (drains : D → DrainState
               ended_there net.nodes k x.0 stand.0 x.1 stand.1.0 ∙ sym by_place ∙ ap (λ (y : List Stand). has_ended_at y k) (sym (l.stops.sinks ∙ sinks_filtered net.nodes)) in
               subst (λ (c : List WireCount). EachWire (λ i. i.shut ≡ has_ended_at st.end.sinks.items k) (ins g c (composed g w) k n.kind)) (sym wires_are)
               (subst (λ (e : Bool). EachWire (λ i. i.shut ≡ e) (ins g (counts_of net.wires) (composed g w) k n.kind)) ended
-              (laws.match g w net (composed g w) l.stops.settled (l.stops.rests rest) net_made k n at is));
+              (laws.match g w net (composed g w) l.stops.settled (l.stops.rests.0 rest) net_made k n at is));
         }
 
   calm_output : ((i : ℕ) (s : Stand) → slice_get st.end.sinks.items i ≡ Some s → is_write_fault s.2 ≡ false) → (n : List ℕ) → Contains (outputs_of_nodes nodes) n → Grew (old.wfaults n) 0 (new.wfaults n)
@@ -458,6 +638,8 @@ module _ {S D : Type 0} (sources : S → SourceState) (drains : D → DrainState
     other_draws = other_draws sources drains handles b can ss ds budget st l old mid opens new closes;
     within = rw used l.stops.within;
     spent = λ h. used ∙ l.stops.spent (sym rest ∙ h);
+    pays = rw (wires, used) pays;
+    wired = λ some. sinks_wired (subst (λ (x : List Stand). 1 ≤ length x) sinks some);
   }
 
 -- ---- a run that gave up

@@ -4,4 +4,6 @@ pub mod Apart
 pub mod Profiles
 pub mod Handles
 pub mod Stopping
+pub mod Units
+pub mod Worlds
 pub mod Closing

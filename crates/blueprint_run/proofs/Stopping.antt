@@ -1,11 +1,12 @@
 -- What an island leaves that was started, executed and taken apart.
-use Rattle.std.proofs.Common.{◌≡◌, ◌⊎◌, inl, inr, ℕ, ◌<◌, ◌≤◌, Bool, false, List, [], map, refl, sym, ap, ◌∙◌, subst, arith}
+use Rattle.std.proofs.Common.{◌≡◌, ◌⊎◌, inl, inr, ℕ, ◌+◌, ◌<◌, ◌≤◌, Bool, false, List, [], map, refl, sym, ap, ◌∙◌, subst, arith}
 use Rattle.std.specs.Prelude.{IsTrue, ◌↔◌}
 use Rattle.std.proofs.lemmas.Bool.Decides.{eqb_tells}
 use Rattle.stream_model.specs.declared.outcome.WireCount.{WireCount}
 use Rattle.stream_io.specs.State.{SourceState, DrainState}
 use Rattle.fused_net.specs.Net.{Net}
 use Rattle.fused_net.specs.Laws.{GoesOn}
+use Rattle.fused_net.specs.Costs.{total, Uses}
 use Rattle.nodes.specs.declared.node.Node.{Node}
 use Rattle.interpreter.specs.declared.parts.Link.{Link}
 use Rattle.interpreter.specs.declared.parts.Seated.{Seated}
@@ -23,10 +24,13 @@ less_or_same a b h = elim (eqb_tells a b) [ inl e ↦ inr e.1 | inr other ↦ (l
 spent_by : (used budget : ℕ) → used ≤ budget → (used < budget → ⊥) → used ≡ budget
 spent_by used budget h never = elim (less_or_same used budget h) [ inl l ↦ absurd (never l) | inr e ↦ e ]
 
-pub stops_of : {S D : Type 0} (sources : S → SourceState) (drains : D → DrainState) (places : List (Seated S D)) (links : List Link) (budget : ℕ) (old net : Net (Node S D)) (numbers : List ℕ) (s : Stopped S D) → Keeps sources drains net s.used → GoesOn old net → AllBecome places old.firsts → old.ends ≡ map ends_of links → numbers ≡ map number_of links
+paid_for : (a b c : ℕ) → a + b ≤ c → b ≤ c
+paid_for a b c h = omega (arith, h)
+
+pub stops_of : {S D : Type 0} (sources : S → SourceState) (drains : D → DrainState) (places : List (Seated S D)) (links : List Link) (budget : ℕ) (old net : Net (Node S D)) (numbers : List ℕ) (s : Stopped S D) → Keeps sources drains net s.used → Uses old net s.used → GoesOn old net → AllBecome places old.firsts → old.ends ≡ map ends_of links → numbers ≡ map number_of links
     → s.end.sinks.items ≡ sinks_of net.nodes → s.wires.items ≡ map (λ (w : ℕ × WireCount). w.1) (counts_of numbers net.wires) → s.end.readers.items ≡ readers_of net.nodes → s.end.writers.items ≡ writers_of net.nodes
     → s.used ≤ budget → (s.used < budget → net.queue ≡ []) → (IsTrue s.at_rest ↔ (net.queue ≡ [])) → Stops sources drains places links budget s
-stops_of sources drains places links budget old net numbers s keeps on firsts ends named sinks wires readers writers within less rest = record {
+stops_of sources drains places links budget old net numbers s keeps uses on firsts ends named sinks wires readers writers within less rest = record {
   net = net;
   settled = keeps.laws;
   firsts = subst (λ f. AllBecome places f) (sym on.firsts) firsts;
@@ -36,6 +40,8 @@ stops_of sources drains places links budget old net numbers s keeps on firsts en
   readers = readers;
   writers = writers;
   within = within;
-  rests = rest.0;
+  asks = keeps.asks;
+  paid = paid_for (total old) s.used (total net) uses.least;
+  rests = rest;
   spent = λ stands. spent_by s.used budget within (λ h. true_false s.at_rest (rest.1 (less h)) stands);
 }

@@ -1,5 +1,5 @@
 -- What the island of a blueprint leaves, by the net of its nodes at its end.
-use Rattle.std.specs.Prelude.{◌≡◌, ℕ, ◌≤◌, false, IsTrue, List, [], map}
+use Rattle.std.specs.Prelude.{◌≡◌, ℕ, ◌≤◌, ◌↔◌, false, IsTrue, List, [], map}
 use Rattle.blue_core.specs.declared.blueprint.Blueprint.{Blueprint}
 use Rattle.stream_model.specs.declared.outcome.WireCount.{WireCount}
 use Rattle.stream_io.specs.State.{SourceState, DrainState}
@@ -7,6 +7,7 @@ use Rattle.nodes.specs.declared.node.Node.{Node}
 use Rattle.nodes.specs.Nodes.{node_row, node_law}
 use Rattle.fused_net.specs.Net.{Net}
 use Rattle.fused_net.specs.Laws.{Settled}
+use Rattle.fused_net.specs.Costs.{total, all_asks}
 use Rattle.interpreter.specs.declared.parts.Link.{Link}
 use Rattle.interpreter.specs.declared.parts.Seated.{Seated}
 use Rattle.interpreter.specs.Parts.{AllBecome, ends_of, number_of}
@@ -15,7 +16,8 @@ use Rattle.materializer.specs.Seats.{AreSeats, links_from}
 use Rattle.blue_check.specs.Wires.{blueprint_wires}
 use Rattle.blueprint_run.specs.declared.run.Stopped.{Stopped}
 
--- the island of these parts was run, by so many units at most, and taken apart
+-- The island of these parts was run, by so many units at most, and taken apart. At least so many units were used as asks came to
+-- outputs, and no more than what all wires have cost.
 pub record Stops {S D : Type 0} (sources : S → SourceState) (drains : D → DrainState) (places : List (Seated S D)) (links : List Link) (budget : ℕ) (s : Stopped S D) : Type 0 where
   pub net : Net (Node S D)
   pub settled : Settled node_row (node_law sources drains) net
@@ -26,7 +28,9 @@ pub record Stops {S D : Type 0} (sources : S → SourceState) (drains : D → Dr
   pub readers : s.end.readers.items ≡ readers_of net.nodes
   pub writers : s.end.writers.items ≡ writers_of net.nodes
   pub within : s.used ≤ budget
-  pub rests : IsTrue s.at_rest → net.queue ≡ []
+  pub asks : all_asks net ≤ s.used
+  pub paid : s.used ≤ total net
+  pub rests : IsTrue s.at_rest ↔ (net.queue ≡ [])
   pub spent : s.at_rest ≡ false → s.used ≡ budget
 
 -- the same of the island of a blueprint, over these sources and these drains

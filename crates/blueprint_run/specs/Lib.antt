@@ -1,4 +1,5 @@
 pub mod Drawing
 pub mod Stands
+pub mod Units
 pub mod Running
 pub mod Leaving

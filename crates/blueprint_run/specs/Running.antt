@@ -1,9 +1,10 @@
 -- What a run of a blueprint leaves in the folder.
 use Rattle.std.specs.Prelude.{◌≡◌, ◌≢◌, ℕ, ◌≤◌, ◌⊎◌, Bool, false, IsTrue, List, [], length, map, slice_get, Some}
-use Rattle.std.specs.List.{Contains}
+use Rattle.std.specs.List.{Contains, list_any}
 use Rattle.blue_core.specs.declared.blueprint.Blueprint.{Blueprint}
 use Rattle.blue_core.specs.declared.blueprint.Node.{Node}
 use Rattle.blue_check.specs.Wires.{blueprint_wires}
+use Rattle.blue_walks.specs.Forest.{wiring}
 use Rattle.stream_model.specs.declared.kind.Kind.TheVariants.{ToLines, Ignore}
 use Rattle.stream_model.specs.declared.outcome.WireCount.{WireCount}
 use Rattle.stream_model.specs.declared.outcome.EndState.{EndState}
@@ -14,7 +15,7 @@ use Rattle.stream_model.specs.Composed.{composed, sink_outlook}
 use Rattle.stream_model.specs.Sources.{whole_lines}
 use Rattle.stream_picture.specs.Lawful.{IsLawful}
 use Rattle.stream_picture.specs.Rests.{Rests, SinksMatch}
-use Rattle.stream_picture.specs.Shape.{sent_at}
+use Rattle.stream_picture.specs.Shape.{IsPolytree, sent_at, need, count_needed}
 use Rattle.stream_io.specs.Counts.{Rose, Grew}
 use Rattle.stream_io.specs.State.{FolderState}
 use Rattle.run_laws.specs.Sinks.{SinkTells, SentTo, IgnoreTells}
@@ -22,7 +23,8 @@ use Rattle.materializer.specs.Graphs.{node_of, graph_of}
 use Rattle.materializer.specs.Files.{output_of, inputs_of_nodes, outputs_of_nodes}
 use Rattle.run_files.specs.Quiet.{Quiet}
 use Rattle.blueprint_run.specs.Drawing.{Drawn, IsSource, WereRead, IsWorldOf, DrawsFirst}
-use Rattle.blueprint_run.specs.Stands.{Stand, sink_places, has_ended_at, is_write_fault}
+use Rattle.blueprint_run.specs.Stands.{Stand, sink_places, has_ended_at, is_write_fault, is_unended}
+use Rattle.blueprint_run.specs.Units.{Pays}
 use Rattle.blueprint_run.specs.declared.run.Ran.{Ran}
 
 -- What is told of the sink with a file that is node k, which stands so: it wrote what the composed outlook of the sink lets it
@@ -48,10 +50,13 @@ pub record IgnoreLeaves (b : Blueprint) (d : Drawn) (wires : List WireCount) (k 
 -- The inputs were read, and each sink wrote what its outlook lets it write. No other file is changed, where the folder still tells
 -- its files. The lines that were
 -- drawn are the first of each input, and little more than those was read. The picture is lawful; and where no event was left it
--- rests, and a sink's input is shut exactly where the sink has ended.
+-- rests, and a sink's input is shut exactly where the sink has ended; in a polytree every sink has ended then. There is a world
+-- that has the input files as they were read.
 pub record LeavesFiles (old new : FolderState) (b : Blueprint) (sinks : List Stand) (wires : List WireCount) (at_rest : Bool) : Type 0 where
   pub drawn : Drawn
   pub read : WereRead old new b.nodes.items drawn
+  pub world : World
+  pub has_files : IsWorldOf b.nodes.items drawn world
   pub sink : (i : ℕ) (s : Stand) (n : Node) (file : List ℕ) → slice_get sinks i ≡ Some s → slice_get b.nodes.items s.0 ≡ Some n → output_of n.kind ≡ Some file
       → SinkLeaves new b drawn wires at_rest s.0 n file s.1 s.2
   pub ignores : (i : ℕ) (s : Stand) (n : Node) → slice_get sinks i ≡ Some s → slice_get b.nodes.items s.0 ≡ Some n → n.kind ≡ Ignore → IgnoreLeaves b drawn wires s.0 n s.1 s.2
@@ -62,6 +67,9 @@ pub record LeavesFiles (old new : FolderState) (b : Blueprint) (sinks : List Sta
   pub lawful : (w : World) → IsWorldOf b.nodes.items drawn w → IsLawful (graph_of b) w wires (composed (graph_of b) w)
   pub rest : IsTrue at_rest → (w : World) → IsWorldOf b.nodes.items drawn w → Rests (graph_of b) w wires (composed (graph_of b) w)
   pub matching : IsTrue at_rest → (w : World) → SinksMatch (graph_of b) w wires (composed (graph_of b) w) (has_ended_at sinks)
+  pub ending : IsPolytree (wiring (blueprint_wires b)) → IsTrue at_rest → list_any (λ s. is_unended s.2) sinks ≡ false
+  -- the units that suffice for what was sent suffice for all that may be sent
+  pub needed : (w : World) → IsWorldOf b.nodes.items drawn w → count_needed (graph_of b) wires ≤ need (graph_of b) (composed (graph_of b) w)
 
 -- the count of failed writes of a sink's file rose exactly where a write failed
 abbrev pub WritesOf : EndState → ℕ → ℕ → Type 0
@@ -88,6 +96,8 @@ pub record Runs (old new : FolderState) (b : Blueprint) (budget : ℕ) (ran : Ra
   pub other_draws : (n : List ℕ) → ¬ (Contains (inputs_of_nodes b.nodes.items) n) → Grew (old.read n) 0 (new.read n)
   pub within : ran.used ≤ budget
   pub spent : ran.at_rest ≡ false → ran.used ≡ budget
+  pub pays : Pays b ran.wires.items ran.used
+  pub wired : 1 ≤ length ran.sinks.items → 1 ≤ length (blueprint_wires b)
 
 -- memory was wanting before the run or in it: each file of a sink is as it was or empty, no other is changed, and no count rose
 pub record Wants (old new : FolderState) (b : Blueprint) : Type 0 where

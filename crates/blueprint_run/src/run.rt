@@ -23,11 +23,12 @@ use run_files::close::close_all;
 use run_files::open::{OpenEnd, Opened, open_all};
 use run_laws::laws::{
     every_sink_agrees, every_sink_counts_its_lines, every_sink_writes,
-    every_source_reads_little_ahead,
+    every_source_reads_little_ahead, every_wire_agrees,
 };
 use std::alloc::{AllocError, Global};
 use stream_io::outside::{Drain, Folder, Source};
 use stream_model::outcome::{EndState, WireCount};
+use stream_picture::laws::polytrees_end;
 
 /// What a run came to: of each sink, in order of nodes, its node, how many whole lines it wrote and how it stands; what each
 /// wire carried; how many units were used, and whether no event was left.
@@ -108,12 +109,14 @@ fn close<F: Folder>(folder: &mut F, stopped: Stopped<F::Inp, F::Out>) -> Ran
         → OpensAll old (F.state folder.old) (inputs_of_nodes b.nodes.items) (outputs_of_nodes b.nodes.items) (map F.Inp.state ss) (map F.Out.state ds)
         → Leaves F.Inp.state F.Out.state b ss ds budget stopped → Runs old (F.state folder.new) b budget result }
 {
+    every_wire_agrees::<F::Inp, F::Out>();
     every_sink_agrees::<F::Inp, F::Out>();
     every_sink_counts_its_lines::<F::Inp, F::Out>();
     every_sink_writes::<F::Inp, F::Out>();
     every_source_reads_little_ahead::<F::Inp, F::Out>();
     every_picture_is_lawful::<F::Inp, F::Out>();
     a_picture_without_events_rests::<F::Inp, F::Out>();
+    polytrees_end();
     fit_blueprints_are_whole();
     parts_are_made_of_their_blueprint::<F::Inp, F::Out>();
     parts_hold_their_files::<F::Inp, F::Out>();

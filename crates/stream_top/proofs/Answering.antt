@@ -4,7 +4,7 @@ use Rattle.std.specs.Prelude.{slice_index_or, IsTrue, IsSome, Option, Some, None
 use Rattle.std.specs.Option.{option_map}
 use Rattle.std.specs.List.{All, Contains, list_any, list_all, filter}
 use Rattle.std.proofs.lemmas.List.{take_all, append_assoc, length-map}
-use Rattle.std.proofs.lemmas.Bool.{ltb-false, lt-ltb}
+use Rattle.std.proofs.lemmas.Bool.{ltb-true, ltb-false, lt-ltb}
 use Rattle.std.proofs.lemmas.Bool.Decides.{leb_tells}
 use Rattle.elem_core.specs.Text.{lines}
 use Rattle.blue_words.specs.declared.fault.BlueKind.TheVariants.{TooLong}
@@ -12,6 +12,14 @@ use Rattle.stream_model.specs.declared.kind.Kind.TheVariants.{Lines, ToLines}
 use Rattle.stream_model.specs.declared.outcome.WireCount.{WireCount}
 use Rattle.stream_model.specs.declared.outcome.EndState.{EndState}
 use Rattle.stream_model.specs.declared.outcome.EndState.TheVariants as state
+use Rattle.stream_model.specs.Graph.{Graph}
+use Rattle.stream_model.specs.Node.{World}
+use Rattle.stream_model.specs.Outlook.{Outlook, Entry, failed, Allows, Agrees}
+use Rattle.elem_core.specs.Tree.{Tree}
+use Rattle.elem_core.specs.declared.why.Cause.{Cause}
+use Rattle.stream_model.specs.Composed.{composed, sink_outlook}
+use Rattle.stream_picture.specs.Shape.{IsPolytree, need, count_needed}
+use Rattle.run_laws.specs.Sinks.{SinkTells}
 use Rattle.stream_io.specs.Counts.{Rose, Grew, GrewAtMost}
 use Rattle.stream_io.specs.State.{FolderState, SameFiles}
 use Rattle.blue_words.specs.declared.fault.BlueFault.{BlueFault}
@@ -20,26 +28,30 @@ use Rattle.blue_core.specs.declared.blueprint.Node.{Node}
 use Rattle.blue_lang.specs.Blueprints as language
 use Rattle.blue_lang.specs.Plain.{plain}
 use Rattle.blue_check.specs.Fitness.{IsFit}
+use Rattle.blue_check.specs.Wires.{blueprint_wires}
+use Rattle.blue_walks.specs.Forest.{wiring}
 use Rattle.materializer.specs.Built.{CanRun, unbuilt_node}
-use Rattle.materializer.specs.Files.{input_of, is_sink, sinks_of_nodes, inputs_of_nodes, outputs_of_nodes}
+use Rattle.materializer.specs.Graphs.{graph_of, node_of}
+use Rattle.materializer.specs.Files.{input_of, output_of, is_sink, sinks_of_nodes, inputs_of_nodes, outputs_of_nodes}
 use Rattle.run_files.specs.Quiet.{Quiet, QuietBut}
 use Rattle.run_files.specs.Opening.{MissesInput, RefusesOutput, Empties}
-use Rattle.blueprint_run.specs.Drawing.{IsSource, WasRead}
+use Rattle.blueprint_run.specs.Drawing.{Drawn, IsSource, WasRead, IsWorldOf}
 use Rattle.blueprint_run.specs.Stands.{Stand, sink_places, is_write_fault, is_unended, is_failed}
-use Rattle.blueprint_run.specs.Running.{LeavesFiles, WritesOf, SomeWriteRose, Runs, Wants}
+use Rattle.blueprint_run.specs.Units.{Pays}
+use Rattle.blueprint_run.specs.Running.{SinkLeaves, LeavesFiles, WritesOf, SomeWriteRose, Runs, Wants}
 use Rattle.blueprint_run.specs.declared.run.Ran.{Ran}
 use Rattle.run_files.proofs.Counts.{grew_same, quiet_two}
 use Rattle.blueprint_run.proofs.Counts.{grew_behind}
-use Rattle.blueprint_run.proofs.Places.{contains_at, filtered_at}
+use Rattle.blueprint_run.proofs.Places.{contains_at, filtered_at, place_within}
 use Rattle.blueprint_run.proofs.Apart.{inputs_untaken, outputs_untaken}
 use Rattle.run_report.specs.Answer.{Answer}
 use Rattle.run_report.specs.declared.outcome.SinkEnd.{SinkEnd}
 use Rattle.run_report.specs.declared.outcome.Status.{Status}
 use Rattle.run_report.specs.declared.outcome.Status.TheVariants as status
-use Rattle.stream_top.specs.AfterRun.{AfterRun, status_after, ends_of, name_of, told_end, told_ends, is_ended, all_ended, some_failed, some_unended, some_fault}
+use Rattle.stream_top.specs.AfterRun.{AfterRun, status_after, ends_of, name_of, told_end, told_ends, is_ended, all_ended, some_failed, some_unended, some_fault, is_stalled, is_over}
 use Rattle.stream_top.specs.Command.{Asked}
 use Rattle.stream_top.specs.Text.{text_limit, text_of_file, ReadsFile}
-use Rattle.stream_top.specs.Outcome.{SaysFile, SaysFit, SaysBuilt, Blank, RanNothing, RanTo, GaveUp, LacksInput, LacksOutput, IsAbsent, EndedRun, EndedBefore, Told, Causes, CausesBefore, QuietButAll, QuietAmong, RunCauses, SinksOf, MissesFile}
+use Rattle.stream_top.specs.Outcome.{SaysFile, SaysFit, SaysBuilt, Blank, RanNothing, RanTo, FallsShort, SinksWrote, GaveUp, LacksInput, LacksOutput, IsAbsent, EndedRun, EndedBefore, Told, Causes, CausesBefore, QuietButAll, QuietAmong, RunCauses, SinksOf, MissesFile}
 use Rattle.stream_top.specs.Texts.{NotRun, EndedFit, NotFit, EndedParsed, NotSaid, EndedText, AllQuiet, CausesQuiet, CausesFit, CausesText}
 use Rattle.stream_top.proofs.Quiets.{tells_before, files_two, most_later}
 
@@ -139,6 +151,75 @@ no_fault_at [] i s e at = absurd cc
 no_fault_at (x ∷ xs) zero s e at = let same : x ≡ s = cc in ap (λ (t : Stand). is_write_fault t.2) (sym same) ∙ or_left (is_write_fault x.2) (list_any (λ (t : Stand). is_write_fault t.2) xs) e
 no_fault_at (x ∷ xs) (suc i) s e at = no_fault_at xs i s (or_right (is_write_fault x.2) (list_any (λ (t : Stand). is_write_fault t.2) xs) e) at
 
+-- ---- whether an event was left
+
+or_either : (a b : Bool) → a || b ≡ true → (a ≡ true) ⊎ (b ≡ true)
+or_either true b e = inl refl
+or_either false b e = inr e
+
+stalled_rests : (f u d rest : Bool) → is_stalled (if f then status.WriteFault else (if u then (if rest then status.Stalled else status.OutOfTurns) else (if d then status.StreamFailed else status.Done))) ≡ true → rest ≡ true
+stalled_rests true u d rest e = absurd cc
+stalled_rests false true d true e = refl
+stalled_rests false true d false e = absurd cc
+stalled_rests false false true rest e = absurd cc
+stalled_rests false false false rest e = absurd cc
+
+less_rests : (rest : Bool) (used turns : ℕ) → used < turns → (rest ≡ false → used ≡ turns) → rest ≡ true
+less_rests true used turns h spent = refl
+less_rests false used turns h spent = let same : used ≡ turns = spent refl in absurd (omega (arith, h, same))
+
+not_both_bools : (x : Bool) → x ≡ true → x ≡ false → ⊥
+not_both_bools x p q = cc
+
+-- one that goes on is there
+some_there : (stands : List Stand) → list_any (λ (s : Stand). is_unended s.2) stands ≡ true → 1 ≤ length stands
+some_there [] e = absurd cc
+some_there (s ∷ ss) e = omega arith
+
+no_unended_at : (stands : List Stand) (i : ℕ) (s : Stand) → list_any (λ (x : Stand). is_unended x.2) stands ≡ false → slice_get stands i ≡ Some s → is_unended s.2 ≡ false
+no_unended_at [] i s e at = absurd cc
+no_unended_at (x ∷ xs) zero s e at = let same : x ≡ s = cc in ap (λ (t : Stand). is_unended t.2) (sym same) ∙ or_left (is_unended x.2) (list_any (λ (t : Stand). is_unended t.2) xs) e
+no_unended_at (x ∷ xs) (suc i) s e at = no_unended_at xs i s (or_right (is_unended x.2) (list_any (λ (t : Stand). is_unended t.2) xs) e) at
+
+no_entry : (o : Outlook) (l : List Tree) (c : Cause) → o.fails ≡ [] → Agrees o l (failed c) → ⊥
+no_entry o l c none h = subst (λ (es : List Entry). Allows es c (length l)) none h.1
+
+-- a sink that goes on no more, may not fail and has no failed write has ended
+must_end : (e : EndState) (o : Outlook) (held : List ℕ) (old new : ℕ) → is_unended e ≡ false → SinkTells o e held → o.fails ≡ [] → WritesOf e old new → (Rose old new → ⊥) → e ≡ state.Ended
+must_end state.Ended o held old new goes tells none writes calm = refl
+must_end (state.Failed c) o held old new goes tells none writes calm = absurd (no_entry o tells.list c none tells.agrees)
+must_end state.Unended o held old new goes tells none writes calm = absurd cc
+must_end state.WriteFault o held old new goes tells none writes calm = absurd (calm writes)
+
+-- what holds of a run where no event was left holds where that is told less often
+module _ (old new : FolderState) (b : Blueprint) (stands : List Stand) (wires : List WireCount) (less rest : Bool) (more : IsTrue less → IsTrue rest) where
+  sink_less : (d : Drawn) (k : ℕ) (n : Node) (file : List ℕ) (count : ℕ) (end : EndState) → SinkLeaves new b d wires rest k n file count end → SinkLeaves new b d wires less k n file count end
+  sink_less d k n file count end s = record {
+    held = s.held;
+    there = s.there;
+    tells = s.tells;
+    lines_are = s.lines_are;
+    sent = s.sent;
+    rests = λ shape h. s.rests shape (more h);
+  }
+
+  abbrev leaves_less : LeavesFiles old new b stands wires rest → LeavesFiles old new b stands wires less
+  leaves_less l = record {
+    drawn = l.drawn;
+    read = l.read;
+    world = l.world;
+    has_files = l.has_files;
+    sink = λ i s n file at here shape. sink_less l.drawn s.0 n file s.1 s.2 (l.sink i s n file at here shape);
+    ignores = l.ignores;
+    others = l.others;
+    draws = l.draws;
+    lawful = l.lawful;
+    rest = λ h. l.rest (more h);
+    matching = λ h. l.matching (more h);
+    ending = λ tree h. l.ending tree (more h);
+    needed = l.needed;
+  }
+
 -- ---- the end of a run
 
 module _ (b : Blueprint) (ran : Ran) (turns : ℕ) (a : Answer) (old new : FolderState) (after : AfterRun (sinks_of_nodes b.nodes.items) ran a) (runs : Runs old new b turns ran) where
@@ -163,23 +244,81 @@ module _ (b : Blueprint) (ran : Ran) (turns : ℕ) (a : Answer) (old new : Folde
   no_rise : list_any (λ (s : Stand). is_write_fault s.2) stands ≡ false → Quiet old.wfaults new.wfaults
   no_rise e = runs.calm (λ i s at. no_fault_at stands i s e at)
 
-  abbrev ran_to : IsTrue old.tells → RanTo old new b turns a
-  ran_to tells = record {
-    stands = stands;
-    stands_are = runs.sinks_are;
-    sinks = told;
-    at_rest = ran.at_rest;
-    leaves = subst (λ (w : List WireCount). LeavesFiles old new b stands w ran.at_rest) (sym after.wires) (runs.leaves tells);
-    writes = runs.writes;
-    within = subst (λ n. n ≤ turns) (sym after.used) runs.within;
-    spent = λ h. after.used ∙ runs.spent h;
-  }
+  spent : ran.at_rest ≡ false → a.used ≡ turns
+  spent h = after.used ∙ runs.spent h
+
+  -- no event was left where the answer tells so
+  over_rests : IsTrue (is_over a turns) → IsTrue ran.at_rest
+  over_rests h = elim (or_either (is_stalled a.status) (nat_lt a.used turns) h) [
+    | inl e ↦ (stalled_rests (list_any (λ (s : Stand). is_write_fault s.2) stands) (list_any (λ (s : Stand). is_unended s.2) stands) (list_any (λ (s : Stand). is_failed s.2) stands) ran.at_rest (ap is_stalled (sym after.status) ∙ e))
+    | inr e ↦ (less_rests ran.at_rest a.used turns (ltb-true a.used turns e) spent)
+  ]
+
+  pays : Pays b a.wires a.used
+  pays = subst (λ (u : ℕ). Pays b a.wires u) (sym after.used) (subst (λ (w : List WireCount). Pays b w ran.used) (sym after.wires) runs.pays)
+
+  -- some sink stands, so there is a wire, and the units are below the count
+  below_count : 1 ≤ length stands → a.used < count_needed (graph_of b) a.wires
+  below_count some =
+      let wired : 1 ≤ length (blueprint_wires b) = runs.wired some in
+      let most : a.used + length (blueprint_wires b) ≤ count_needed (graph_of b) a.wires = pays.most in
+      omega (arith, wired, most)
+
+  module _ (tells : IsTrue old.tells) where
+    leaves_at : LeavesFiles old new b stands a.wires ran.at_rest
+    leaves_at = subst (λ (w : List WireCount). LeavesFiles old new b stands w ran.at_rest) (sym after.wires) (runs.leaves tells)
+
+    below_need : 1 ≤ length stands → (w : World) → IsWorldOf b.nodes.items leaves_at.drawn w → a.used < need (graph_of b) (composed (graph_of b) w)
+    below_need some w is =
+        let count : a.used < count_needed (graph_of b) a.wires = below_count some in
+        let most : count_needed (graph_of b) a.wires ≤ need (graph_of b) (composed (graph_of b) w) = leaves_at.needed w is in
+        omega (arith, count, most)
+
+    tree_spent : (rest : Bool) → ran.at_rest ≡ rest → IsPolytree (wiring (blueprint_wires b)) → some_unended a.sinks ≡ true → a.used ≡ turns
+    tree_spent false e tree some = spent e
+    tree_spent true e tree some = absurd (not_both_bools (some_unended a.sinks) some (unended_told ∙ leaves_at.ending tree e))
+
+    tree_enough : IsPolytree (wiring (blueprint_wires b)) → (w : World) → IsWorldOf b.nodes.items leaves_at.drawn w → need (graph_of b) (composed (graph_of b) w) ≤ turns
+        → (i : ℕ) (s : Stand) (n : Node) (file : List ℕ) → slice_get stands i ≡ Some s → slice_get b.nodes.items s.0 ≡ Some n → output_of n.kind ≡ Some file
+        → (sink_outlook (graph_of b) w s.0 (node_of n)).fails ≡ [] → (Rose (old.wfaults file) (new.wfaults file) → ⊥) → s.2 ≡ state.Ended
+    tree_enough tree w is suffices i s n file at here shape fails calm =
+        let within : i < length stands = place_within stands i s at in
+        let some : 1 ≤ length stands = omega (arith, within) in
+        let used : a.used < need (graph_of b) (composed (graph_of b) w) = below_need some w is in
+        let fewer : a.used < turns = omega (arith, used, suffices) in
+        let rest : ran.at_rest ≡ true = less_rests ran.at_rest a.used turns fewer spent in
+        let l = leaves_at.sink i s n file at here shape in
+        must_end s.2 (sink_outlook (graph_of b) w s.0 (node_of n)) l.held (old.wfaults file) (new.wfaults file) (no_unended_at stands i s (leaves_at.ending tree rest) at) (l.tells w is) fails (runs.writes i s n file at here shape) calm
+
+    abbrev ran_to : RanTo old new b turns a
+    ran_to = record {
+      stands = stands;
+      stands_are = runs.sinks_are;
+      sinks = told;
+      leaves = leaves_less old new b stands a.wires (is_over a turns) ran.at_rest over_rests leaves_at;
+      writes = runs.writes;
+      within = subst (λ n. n ≤ turns) (sym after.used) runs.within;
+      pays = pays;
+      ending = tree_spent ran.at_rest refl;
+      enough = tree_enough;
+    }
+
+    short : list_any (λ (s : Stand). is_unended s.2) stands ≡ true → ran.at_rest ≡ false → FallsShort b turns a leaves_at.drawn
+    short unended rest =
+        let some : 1 ≤ length stands = some_there stands unended in
+        let used : a.used ≡ turns = spent rest in
+        let count : a.used < count_needed (graph_of b) a.wires = below_count some in
+        record {
+          used = used;
+          count = subst (λ (u : ℕ). u < count_needed (graph_of b) a.wires) used count;
+          need = λ w is. subst (λ (u : ℕ). u < need (graph_of b) (composed (graph_of b) w)) used (below_need some w is);
+        }
 
   told_by : (f u d rest : Bool) → list_any (λ (s : Stand). is_write_fault s.2) stands ≡ f → list_any (λ (s : Stand). is_unended s.2) stands ≡ u → list_any (λ (s : Stand). is_failed s.2) stands ≡ d → ran.at_rest ≡ rest → IsTrue old.tells
       → EndedRun (if f then status.WriteFault else (if u then (if rest then status.Stalled else status.OutOfTurns) else (if d then status.StreamFailed else status.Done))) a b turns old new
   told_by true u d rest p q r s tells = (ran_to tells, fault_told ∙ p, some_rose p)
-  told_by false true d true p q r s tells = (ran_to tells, s, fault_told ∙ p, unended_told ∙ q)
-  told_by false true d false p q r s tells = (ran_to tells, s, fault_told ∙ p, unended_told ∙ q)
+  told_by false true d true p q r s tells = (ran_to tells, (λ tree. not_both_bools (some_unended a.sinks) (unended_told ∙ q) (unended_told ∙ (leaves_at tells).ending tree s)), fault_told ∙ p, unended_told ∙ q)
+  told_by false true d false p q r s tells = (ran_to tells, short tells q s, fault_told ∙ p, unended_told ∙ q)
   told_by false false true rest p q r s tells = (ran_to tells, fault_told ∙ p, unended_told ∙ q, failed_told ∙ r)
   told_by false false false rest p q r s tells = (ran_to tells, all_done a.sinks (fault_told ∙ p) (unended_told ∙ q) (failed_told ∙ r))
 
@@ -187,16 +326,19 @@ module _ (b : Blueprint) (ran : Ran) (turns : ℕ) (a : Answer) (old new : Folde
   pub run_told : IsTrue old.tells → EndedRun a.status a b turns old new
   run_told tells = subst (λ x. EndedRun x a b turns old new) (sym after.status) (told_by (list_any (λ (s : Stand). is_write_fault s.2) stands) (list_any (λ (s : Stand). is_unended s.2) stands) (list_any (λ (s : Stand). is_failed s.2) stands) ran.at_rest refl refl refl refl tells)
 
-  causes_by : (f u d rest : Bool) → list_any (λ (s : Stand). is_write_fault s.2) stands ≡ f → RunCauses (if f then status.WriteFault else (if u then (if rest then status.Stalled else status.OutOfTurns) else (if d then status.StreamFailed else status.Done))) b old new
-  causes_by true u d rest p = (runs.refusals, runs.reads, some_rose p, runs.other_writes)
-  causes_by false true d true p = (runs.refusals, runs.reads, no_rise p)
-  causes_by false true d false p = (runs.refusals, runs.reads, no_rise p)
-  causes_by false false true rest p = (runs.refusals, runs.reads, no_rise p)
-  causes_by false false false rest p = (runs.refusals, runs.reads, no_rise p)
+  wrote : SinksWrote old new b a
+  wrote = record { stands = stands; stands_are = runs.sinks_are; sinks = told; writes = runs.writes }
+
+  causes_by : (f u d rest : Bool) → list_any (λ (s : Stand). is_write_fault s.2) stands ≡ f → RunCauses (if f then status.WriteFault else (if u then (if rest then status.Stalled else status.OutOfTurns) else (if d then status.StreamFailed else status.Done))) a b old new
+  causes_by true u d rest p = (runs.refusals, runs.reads, some_rose p, runs.other_writes, wrote)
+  causes_by false true d true p = (runs.refusals, runs.reads, no_rise p, wrote)
+  causes_by false true d false p = (runs.refusals, runs.reads, no_rise p, wrote)
+  causes_by false false true rest p = (runs.refusals, runs.reads, no_rise p, wrote)
+  causes_by false false false rest p = (runs.refusals, runs.reads, no_rise p, wrote)
 
   -- which counts a run raised
-  pub run_causes : RunCauses a.status b old new
-  run_causes = subst (λ x. RunCauses x b old new) (sym after.status) (causes_by (list_any (λ (s : Stand). is_write_fault s.2) stands) (list_any (λ (s : Stand). is_unended s.2) stands) (list_any (λ (s : Stand). is_failed s.2) stands) ran.at_rest refl)
+  pub run_causes : RunCauses a.status a b old new
+  run_causes = subst (λ x. RunCauses x a b old new) (sym after.status) (causes_by (list_any (λ (s : Stand). is_write_fault s.2) stands) (list_any (λ (s : Stand). is_unended s.2) stands) (list_any (λ (s : Stand). is_failed s.2) stands) ran.at_rest refl)
 
   sinks_by : (f u d rest : Bool) → list_any (λ (s : Stand). is_write_fault s.2) stands ≡ f → list_any (λ (s : Stand). is_unended s.2) stands ≡ u → list_any (λ (s : Stand). is_failed s.2) stands ≡ d
       → SinksOf (if f then status.WriteFault else (if u then (if rest then status.Stalled else status.OutOfTurns) else (if d then status.StreamFailed else status.Done))) a
@@ -244,12 +386,12 @@ at_middle (x ∷ xs) after n = let h = at_middle xs after n in (suc h.0, h.1)
 in_place : (names before after : List (List ℕ)) (n : List ℕ) → names ≡ before ++ n ∷ after → Contains names n
 in_place names before after n e = let at = at_middle before after n in contains_at names at.0 n (ap (λ (l : List (List ℕ)). slice_get l at.0) e ∙ at.1)
 
-pub missing_causes : (old new : FolderState) (b : Blueprint) (n : List ℕ) (s : Status) → (MissesInput old new (inputs_of_nodes b.nodes.items) n) ⊎ (RefusesOutput old new (inputs_of_nodes b.nodes.items) (outputs_of_nodes b.nodes.items) n) → s ≡ status.Missing n → RunCauses s b old new
-missing_causes old new b n s (inl h) is = subst (λ x. RunCauses x b old new) (sym is) (inl (in_place (inputs_of_nodes b.nodes.items) h.before h.after n h.place, h.why), h.refusals, h.rfaults, h.wfaults)
-missing_causes old new b n s (inr h) is = subst (λ x. RunCauses x b old new) (sym is) (inr (in_place (outputs_of_nodes b.nodes.items) h.before h.after n h.place, h.rose), h.refusals, h.rfaults, h.wfaults)
+pub missing_causes : (old new : FolderState) (b : Blueprint) (n : List ℕ) (s : Status) (a : Answer) → (MissesInput old new (inputs_of_nodes b.nodes.items) n) ⊎ (RefusesOutput old new (inputs_of_nodes b.nodes.items) (outputs_of_nodes b.nodes.items) n) → s ≡ status.Missing n → RunCauses s a b old new
+missing_causes old new b n s a (inl h) is = subst (λ x. RunCauses x a b old new) (sym is) (inl (in_place (inputs_of_nodes b.nodes.items) h.before h.after n h.place, h.why), h.refusals, h.rfaults, h.wfaults)
+missing_causes old new b n s a (inr h) is = subst (λ x. RunCauses x a b old new) (sym is) (inr (in_place (outputs_of_nodes b.nodes.items) h.before h.after n h.place, h.rose), h.refusals, h.rfaults, h.wfaults)
 
-pub wanted_causes : (old new : FolderState) (b : Blueprint) (s : Status) → Wants old new b → s ≡ status.NoMemory → RunCauses s b old new
-wanted_causes old new b s h is = subst (λ x. RunCauses x b old new) (sym is) (h.refusals, h.rfaults, h.wfaults)
+pub wanted_causes : (old new : FolderState) (b : Blueprint) (s : Status) (a : Answer) → Wants old new b → s ≡ status.NoMemory → RunCauses s a b old new
+wanted_causes old new b s a h is = subst (λ x. RunCauses x a b old new) (sym is) (h.refusals, h.rfaults, h.wfaults)
 
 -- ---- the text of the blueprint
 
@@ -344,7 +486,7 @@ module _ (old mid new : FolderState) (file t : List ℕ) (r : ReadsFile old mid 
         let at = filtered_at (λ (m : Node). input_of m.kind) b.nodes.items k is.node n is.at (ap input_of is.kind_is) in
         inputs_untaken b [] (file ∷ []) fit n (contains_at (inputs_of_nodes b.nodes.items) at.0 n at.1) (0, omega arith, sym same))
 
-    leaves_later : (ends : List Stand) (wires : List WireCount) (rest : Bool) → LeavesFiles mid new b ends wires rest → LeavesFiles old new b ends wires rest
+    abbrev leaves_later : (ends : List Stand) (wires : List WireCount) (rest : Bool) → LeavesFiles mid new b ends wires rest → LeavesFiles old new b ends wires rest
     leaves_later ends wires rest l = record {
       drawn = l.drawn;
       read = λ k n is.
@@ -355,6 +497,8 @@ module _ (old mid new : FolderState) (file t : List ℕ) (r : ReadsFile old mid 
             rose = λ h. rose_later (old.rfaults n) (mid.rfaults n) (new.rfaults n) (r.rfaults n) (w.rose h);
             calm = λ h. grew_behind (old.rfaults n) (mid.rfaults n) (new.rfaults n) 0 (r.rfaults n) (w.calm h);
           };
+      world = l.world;
+      has_files = l.has_files;
       sink = l.sink;
       ignores = l.ignores;
       others = λ still n never. l.others still n never ∙ r.files.files tells n;
@@ -362,6 +506,8 @@ module _ (old mid new : FolderState) (file t : List ℕ) (r : ReadsFile old mid 
       lawful = l.lawful;
       rest = l.rest;
       matching = l.matching;
+      ending = l.ending;
+      needed = l.needed;
     }
 
     abbrev ran_later : RanTo mid new b turns a → RanTo old new b turns a
@@ -369,11 +515,12 @@ module _ (old mid new : FolderState) (file t : List ℕ) (r : ReadsFile old mid 
       stands = ran.stands;
       stands_are = ran.stands_are;
       sinks = ran.sinks;
-      at_rest = ran.at_rest;
-      leaves = leaves_later ran.stands a.wires ran.at_rest ran.leaves;
+      leaves = leaves_later ran.stands a.wires (is_over a turns) ran.leaves;
       writes = λ i s n f at here shape. writes_later s.2 (old.wfaults f) (mid.wfaults f) (new.wfaults f) (r.wfaults f) (ran.writes i s n f at here shape);
       within = ran.within;
-      spent = ran.spent;
+      pays = ran.pays;
+      ending = ran.ending;
+      enough = λ tree w is suffices i s n f at here shape fails calm. ran.enough tree w is suffices i s n f at here shape fails (λ rose. calm (rose_later (old.wfaults f) (mid.wfaults f) (new.wfaults f) (r.wfaults f) rose));
     }
 
     there_later : (names : List (List ℕ)) → All (λ m. IsSome (mid.file m)) names → All (λ m. IsSome (old.file m)) names
@@ -420,18 +567,26 @@ module _ (old mid new : FolderState) (file t : List ℕ) (r : ReadsFile old mid 
     run_later status.Usage e = e
 
 -- what rose in the run rose in the call
-module _ (old mid new : FolderState) (file t : List ℕ) (r : ReadsFile old mid file t) (b : Blueprint) (fit : IsFit b [] (file ∷ [])) where
+module _ (old mid new : FolderState) (file t : List ℕ) (r : ReadsFile old mid file t) (b : Blueprint) (fit : IsFit b [] (file ∷ [])) (a : Answer) where
+  wrote_later : SinksWrote mid new b a → SinksWrote old new b a
+  wrote_later w = record {
+    stands = w.stands;
+    stands_are = w.stands_are;
+    sinks = w.sinks;
+    writes = λ i s n f at here shape. writes_later s.2 (old.wfaults f) (mid.wfaults f) (new.wfaults f) (r.wfaults f) (w.writes i s n f at here shape);
+  }
+
   misses_later : (n : List ℕ) → MissesFile mid new b n → MissesFile old new b n
   misses_later n (inl h) = inl (h.0, absent_later old mid new n r.files r.refusals h.1)
   misses_later n (inr h) = inr (h.0, rose_later (old.refusals n) (mid.refusals n) (new.refusals n) (r.refusals n) h.1)
 
-  causes_later : (s : Status) → RunCauses s b mid new → RunCauses s b old new
+  causes_later : (s : Status) → RunCauses s a b mid new → RunCauses s a b old new
   causes_later (status.Missing n) c = (misses_later n c.0, quiet_but_later n _ _ _ r.refusals c.1, quiet_two _ _ _ r.rfaults c.2, quiet_two _ _ _ r.wfaults c.3)
-  causes_later status.WriteFault c = (quiet_two _ _ _ r.refusals c.0, quiet_all_later _ _ _ _ r.rfaults c.1, some_rose_later old mid new b r.wfaults c.2, quiet_all_later _ _ _ _ r.wfaults c.3)
-  causes_later status.Done c = (quiet_two _ _ _ r.refusals c.0, quiet_all_later _ _ _ _ r.rfaults c.1, quiet_two _ _ _ r.wfaults c.2)
-  causes_later status.StreamFailed c = (quiet_two _ _ _ r.refusals c.0, quiet_all_later _ _ _ _ r.rfaults c.1, quiet_two _ _ _ r.wfaults c.2)
-  causes_later status.Stalled c = (quiet_two _ _ _ r.refusals c.0, quiet_all_later _ _ _ _ r.rfaults c.1, quiet_two _ _ _ r.wfaults c.2)
-  causes_later status.OutOfTurns c = (quiet_two _ _ _ r.refusals c.0, quiet_all_later _ _ _ _ r.rfaults c.1, quiet_two _ _ _ r.wfaults c.2)
+  causes_later status.WriteFault c = (quiet_two _ _ _ r.refusals c.0, quiet_all_later _ _ _ _ r.rfaults c.1, some_rose_later old mid new b r.wfaults c.2, quiet_all_later _ _ _ _ r.wfaults c.3, wrote_later c.4)
+  causes_later status.Done c = (quiet_two _ _ _ r.refusals c.0, quiet_all_later _ _ _ _ r.rfaults c.1, quiet_two _ _ _ r.wfaults c.2, wrote_later c.3)
+  causes_later status.StreamFailed c = (quiet_two _ _ _ r.refusals c.0, quiet_all_later _ _ _ _ r.rfaults c.1, quiet_two _ _ _ r.wfaults c.2, wrote_later c.3)
+  causes_later status.Stalled c = (quiet_two _ _ _ r.refusals c.0, quiet_all_later _ _ _ _ r.rfaults c.1, quiet_two _ _ _ r.wfaults c.2, wrote_later c.3)
+  causes_later status.OutOfTurns c = (quiet_two _ _ _ r.refusals c.0, quiet_all_later _ _ _ _ r.rfaults c.1, quiet_two _ _ _ r.wfaults c.2, wrote_later c.3)
   causes_later status.NoMemory c = (quiet_two _ _ _ r.refusals c.0, quiet_two _ _ _ r.rfaults c.1, quiet_two _ _ _ r.wfaults c.2)
   causes_later status.Usage c = c
   causes_later status.ReadFault c = c
@@ -524,13 +679,13 @@ module _ (old mid new : FolderState) (file t : List ℕ) (r : ReadsFile old mid 
   quiet_before (status.Missing n) h = absurd h
 
   -- which counts the call raised
-  pub causes_text : (s : Status) → CausesText s (file ∷ []) mid new → Causes s file old new
-  causes_text s (inl h) = inl (quiet_before s h)
-  causes_text s (inr h) = inr (h.0, (h.1.0, causes_later old mid new file t r h.0 h.1.0 s h.1.1))
+  pub causes_text : (s : Status) (a : Answer) → CausesText s a (file ∷ []) mid new → Causes s a file old new
+  causes_text s a (inl h) = inl (quiet_before s h)
+  causes_text s a (inr h) = inr (h.0, (h.1.0, causes_later old mid new file t r h.0 h.1.0 a s h.1.1))
 
 -- what is said of the counts before a run, by the status
-pub causes_before : (s t : Status) (file : List ℕ) (old new : FolderState) → s ≡ t → CausesBefore t file old new → Causes s file old new
-causes_before s t file old new e h = inl (subst (λ x. CausesBefore x file old new) (sym e) h)
+pub causes_before : (s t : Status) (a : Answer) (file : List ℕ) (old new : FolderState) → s ≡ t → CausesBefore t file old new → Causes s a file old new
+causes_before s t a file old new e h = inl (subst (λ x. CausesBefore x file old new) (sym e) h)
 
 -- ---- statuses before a run
 
@@ -545,9 +700,9 @@ pub unbuilt_told : (s : FolderState) (a : Answer) (b : Blueprint) (k turns : ℕ
 unbuilt_told s a b k turns is blank e = subst (λ x. EndedFit x a b turns s s) (sym is) (inl (nothing_here s a blank, e))
 
 -- a blueprint that was found fit is the one that was parsed
-pub causes_parsed : (s : Status) (b c : Blueprint) (taken : List (List ℕ)) (old new : FolderState) → IsFit b [] taken → c ≡ b → CausesFit s c old new → CausesText s taken old new
-causes_parsed s b c taken old new fit same (inl h) = inl h
-causes_parsed s b c taken old new fit same (inr h) = inr (b, (fit, subst (λ x. RunCauses s x old new) same h))
+pub causes_parsed : (s : Status) (a : Answer) (b c : Blueprint) (taken : List (List ℕ)) (old new : FolderState) → IsFit b [] taken → c ≡ b → CausesFit s a c old new → CausesText s a taken old new
+causes_parsed s a b c taken old new fit same (inl h) = inl h
+causes_parsed s a b c taken old new fit same (inr h) = inr (b, (fit, subst (λ x. RunCauses s a x old new) same h))
 
 -- of a file that is taken no more is read
 pub reads_parsed : (b c : Blueprint) (taken : List (List ℕ)) (old new : List ℕ → ℕ) → IsFit b [] taken → c ≡ b → QuietButAll (inputs_of_nodes c.nodes.items) old new → QuietAmong taken old new

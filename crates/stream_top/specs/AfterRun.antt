@@ -1,5 +1,5 @@
 -- What a run makes of the status, and what is told of it.
-use Rattle.std.specs.Prelude.{◌≡◌, ℕ, Bool, true, false, if◌then◌else◌, List, [], ◌∷◌, map, slice_get, Option, Some, None}
+use Rattle.std.specs.Prelude.{◌≡◌, ℕ, Bool, true, false, ◌||◌, nat_lt, if◌then◌else◌, List, [], ◌∷◌, map, slice_get, Option, Some, None}
 use Rattle.std.specs.List.{list_any, list_all}
 use Rattle.stream_model.specs.declared.outcome.EndState.{EndState}
 use Rattle.stream_model.specs.declared.outcome.EndState.TheVariants as state
@@ -58,6 +58,15 @@ status_after stands rest =
     if list_any (λ s. is_write_fault s.2) stands then status.WriteFault
     else (if list_any (λ s. is_unended s.2) stands then (if rest then status.Stalled else status.OutOfTurns)
     else (if list_any (λ s. is_failed s.2) stands then status.StreamFailed else status.Done))
+
+-- the run stalled
+abbrev pub is_stalled : Status → Bool
+is_stalled status.Stalled = true
+is_stalled _ = false
+
+-- no event was left, as the answer tells it: the run stalled, or it used fewer units than it might
+abbrev pub is_over : Answer → ℕ → Bool
+is_over a turns = is_stalled a.status || nat_lt a.used turns
 
 -- what is told of the run
 pub record AfterRun (names : List (List ℕ)) (ran : Ran) (a : Answer) : Type 0 where

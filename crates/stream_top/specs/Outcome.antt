@@ -1,9 +1,12 @@
 -- What a call answers and what it leaves, status by status.
-use Rattle.std.specs.Prelude.{◌≡◌, ◌≢◌, ℕ, ◌≤◌, ◌⊎◌, Bool, true, false, IsTrue, IsSome, List, [], ◌∷◌, ◌++◌, map, slice_get, Option, Some, None, ⊤}
+use Rattle.std.specs.Prelude.{◌≡◌, ◌≢◌, ℕ, ◌<◌, ◌≤◌, ◌⊎◌, Bool, true, false, IsTrue, IsSome, List, [], ◌∷◌, ◌++◌, map, slice_get, Option, Some, None, ⊤}
 use Rattle.std.specs.List.{All, Contains, list_any, list_all}
 use Rattle.elem_core.specs.declared.why.Cause.{Cause}
 use Rattle.stream_model.specs.declared.outcome.EndState.{EndState}
 use Rattle.stream_model.specs.declared.outcome.EndState.TheVariants as state
+use Rattle.stream_model.specs.Node.{World}
+use Rattle.stream_model.specs.Composed.{composed, sink_outlook}
+use Rattle.stream_picture.specs.Shape.{IsPolytree, need, count_needed}
 use Rattle.stream_io.specs.Counts.{Rose, Grew}
 use Rattle.stream_io.specs.State.{FolderState, SameFiles, Lacks}
 use Rattle.blue_core.specs.declared.blueprint.Blueprint.{Blueprint}
@@ -11,18 +14,23 @@ use Rattle.blue_core.specs.declared.blueprint.Node.{Node}
 use Rattle.blue_lang.specs.Blueprints as language
 use Rattle.blue_lang.specs.Plain.{plain}
 use Rattle.blue_check.specs.Fitness.{IsFit, IsFirstFault}
+use Rattle.blue_check.specs.Wires.{blueprint_wires}
+use Rattle.blue_walks.specs.Forest.{wiring}
 use Rattle.materializer.specs.Built.{unbuilt_node}
 use Rattle.materializer.specs.Files.{output_of, inputs_of_nodes, outputs_of_nodes}
+use Rattle.materializer.specs.Graphs.{graph_of, node_of}
 use Rattle.run_files.specs.Quiet.{Quiet, QuietBut}
 use Rattle.run_files.specs.Opening.{Empties}
+use Rattle.blueprint_run.specs.Drawing.{Drawn, IsWorldOf}
 use Rattle.blueprint_run.specs.Stands.{Stand, sink_places, is_write_fault, is_unended, is_failed}
+use Rattle.blueprint_run.specs.Units.{Pays}
 use Rattle.blueprint_run.specs.Running.{LeavesFiles, WritesOf, SomeWriteRose}
 use Rattle.run_report.specs.Answer.{Answer}
 use Rattle.run_report.specs.declared.outcome.Status.{Status}
 use Rattle.run_report.specs.declared.outcome.Status.TheVariants as status
 use Rattle.run_report.specs.declared.outcome.SinkEnd.{SinkEnd}
 use Rattle.stream_top.specs.Command.{Asked, command_of}
-use Rattle.stream_top.specs.AfterRun.{told_ends, all_ended, some_failed, some_unended, some_fault}
+use Rattle.stream_top.specs.AfterRun.{told_ends, all_ended, some_failed, some_unended, some_fault, is_over}
 
 -- the command's file says this blueprint
 pub record SaysFile (folder : FolderState) (file : List ℕ) (b : Blueprint) : Type 0 where
@@ -51,17 +59,28 @@ pub record RanNothing (old new : FolderState) (a : Answer) : Type 0 where
   pub files : SameFiles old new
   pub blank : Blank a
 
--- the blueprint was run, by so many units at most, and its sinks stand so; the files are left as a run leaves them. The units
--- were used up, or no event was left.
+-- The blueprint was run, by so many units at most, and its sinks stand so; the files are left as a run leaves them. No event was
+-- left where it stalled or used fewer units. The units pay for what passed the wires. In a polytree a sink has not ended only
+-- where the units were used up; and where they suffice for all that may pass, each sink of whose outlook no failure is part has
+-- ended, unless a write to its file failed.
 pub record RanTo (old new : FolderState) (b : Blueprint) (turns : ℕ) (a : Answer) : Type 0 where
   pub stands : List Stand
   pub stands_are : map (λ (s : Stand). s.0) stands ≡ sink_places 0 b.nodes.items
   pub sinks : a.sinks ≡ told_ends b.nodes.items stands
-  pub at_rest : Bool
-  pub leaves : LeavesFiles old new b stands a.wires at_rest
+  pub leaves : LeavesFiles old new b stands a.wires (is_over a turns)
   pub writes : (i : ℕ) (s : Stand) (n : Node) (file : List ℕ) → slice_get stands i ≡ Some s → slice_get b.nodes.items s.0 ≡ Some n → output_of n.kind ≡ Some file → WritesOf s.2 (old.wfaults file) (new.wfaults file)
   pub within : a.used ≤ turns
-  pub spent : at_rest ≡ false → a.used ≡ turns
+  pub pays : Pays b a.wires a.used
+  pub ending : IsPolytree (wiring (blueprint_wires b)) → some_unended a.sinks ≡ true → a.used ≡ turns
+  pub enough : IsPolytree (wiring (blueprint_wires b)) → (w : World) → IsWorldOf b.nodes.items leaves.drawn w → need (graph_of b) (composed (graph_of b) w) ≤ turns
+      → (i : ℕ) (s : Stand) (n : Node) (file : List ℕ) → slice_get stands i ≡ Some s → slice_get b.nodes.items s.0 ≡ Some n → output_of n.kind ≡ Some file
+      → (sink_outlook (graph_of b) w s.0 (node_of n)).fails ≡ [] → (Rose (old.wfaults file) (new.wfaults file) → ⊥) → s.2 ≡ state.Ended
+
+-- The units were used up. They were fewer than the count over what was sent, and so fewer than the need over all that may pass.
+pub record FallsShort (b : Blueprint) (turns : ℕ) (a : Answer) (d : Drawn) : Type 0 where
+  pub used : a.used ≡ turns
+  pub count : turns < count_needed (graph_of b) a.wires
+  pub need : (w : World) → IsWorldOf b.nodes.items d w → turns < need (graph_of b) (composed (graph_of b) w)
 
 -- the folder has no file of that name, or its opening was refused
 abbrev pub IsAbsent : FolderState → FolderState → List ℕ → Type 0
@@ -103,12 +122,12 @@ pub record GaveUp (old new : FolderState) (b : Blueprint) : Type 0 where
   pub outputs : IsTrue new.tells → (n : List ℕ) → (new.file n ≡ old.file n) ⊎ (new.file n ≡ Some [])
 
 -- What the run of a blueprint answers, where the folder told its files before it. A failed write stands before a sink that has not ended,
--- and that before one that failed.
+-- and that before one that failed. A polytree never stalls, and units that suffice for all that may pass are not used up.
 abbrev pub EndedRun : Status → Answer → Blueprint → ℕ → FolderState → FolderState → Type 0
 EndedRun status.Done a b turns old new = RanTo old new b turns a × (all_ended a.sinks ≡ true)
 EndedRun status.StreamFailed a b turns old new = RanTo old new b turns a × (some_fault a.sinks ≡ false) × (some_unended a.sinks ≡ false) × (some_failed a.sinks ≡ true)
-EndedRun status.Stalled a b turns old new = (ran : RanTo old new b turns a) × (ran.at_rest ≡ true) × (some_fault a.sinks ≡ false) × (some_unended a.sinks ≡ true)
-EndedRun status.OutOfTurns a b turns old new = (ran : RanTo old new b turns a) × (ran.at_rest ≡ false) × (some_fault a.sinks ≡ false) × (some_unended a.sinks ≡ true)
+EndedRun status.Stalled a b turns old new = RanTo old new b turns a × (IsPolytree (wiring (blueprint_wires b)) → ⊥) × (some_fault a.sinks ≡ false) × (some_unended a.sinks ≡ true)
+EndedRun status.OutOfTurns a b turns old new = (ran : RanTo old new b turns a) × FallsShort b turns a ran.leaves.drawn × (some_fault a.sinks ≡ false) × (some_unended a.sinks ≡ true)
 EndedRun status.WriteFault a b turns old new = RanTo old new b turns a × (some_fault a.sinks ≡ true) × SomeWriteRose old new b
 EndedRun (status.Missing n) a b turns old new = LacksInput old new b n a ⊎ LacksOutput old new b n a
 EndedRun status.NoMemory a b turns old new = Blank a × GaveUp old new b
@@ -130,18 +149,25 @@ QuietAmong names old new = (n : List ℕ) → Contains names n → Grew (old n) 
 abbrev pub MissesFile : FolderState → FolderState → Blueprint → List ℕ → Type 0
 MissesFile old new b n = (Contains (inputs_of_nodes b.nodes.items) n × IsAbsent old new n) ⊎ (Contains (outputs_of_nodes b.nodes.items) n × Rose (old.refusals n) (new.refusals n))
 
--- which counts a run raised: of failed reads at most those of its inputs, and of failed writes those of its outputs, and some of
--- them exactly where a write failed
-abbrev pub RunCauses : Status → Blueprint → FolderState → FolderState → Type 0
-RunCauses status.Usage b old new = ⊥
-RunCauses status.ReadFault b old new = ⊥
-RunCauses (status.Refused f) b old new = ⊥
-RunCauses (status.Unfit f) b old new = ⊥
-RunCauses (status.Unbuilt k) b old new = ⊥
-RunCauses (status.Missing n) b old new = MissesFile old new b n × QuietBut n old.refusals new.refusals × Quiet old.rfaults new.rfaults × Quiet old.wfaults new.wfaults
-RunCauses status.NoMemory b old new = Quiet old.refusals new.refusals × Quiet old.rfaults new.rfaults × Quiet old.wfaults new.wfaults
-RunCauses status.WriteFault b old new = Quiet old.refusals new.refusals × QuietButAll (inputs_of_nodes b.nodes.items) old.rfaults new.rfaults × SomeWriteRose old new b × QuietButAll (outputs_of_nodes b.nodes.items) old.wfaults new.wfaults
-RunCauses _ b old new = Quiet old.refusals new.refusals × QuietButAll (inputs_of_nodes b.nodes.items) old.rfaults new.rfaults × Quiet old.wfaults new.wfaults
+-- the sinks of a run stand so, and the count of failed writes of a sink's file rose exactly where that sink stands at a failed write
+pub record SinksWrote (old new : FolderState) (b : Blueprint) (a : Answer) : Type 0 where
+  pub stands : List Stand
+  pub stands_are : map (λ (s : Stand). s.0) stands ≡ sink_places 0 b.nodes.items
+  pub sinks : a.sinks ≡ told_ends b.nodes.items stands
+  pub writes : (i : ℕ) (s : Stand) (n : Node) (file : List ℕ) → slice_get stands i ≡ Some s → slice_get b.nodes.items s.0 ≡ Some n → output_of n.kind ≡ Some file → WritesOf s.2 (old.wfaults file) (new.wfaults file)
+
+-- which counts a run raised: of failed reads at most those of its inputs, and of failed writes those of its outputs, each exactly
+-- where its sink stands at a failed write
+abbrev pub RunCauses : Status → Answer → Blueprint → FolderState → FolderState → Type 0
+RunCauses status.Usage a b old new = ⊥
+RunCauses status.ReadFault a b old new = ⊥
+RunCauses (status.Refused f) a b old new = ⊥
+RunCauses (status.Unfit f) a b old new = ⊥
+RunCauses (status.Unbuilt k) a b old new = ⊥
+RunCauses (status.Missing n) a b old new = MissesFile old new b n × QuietBut n old.refusals new.refusals × Quiet old.rfaults new.rfaults × Quiet old.wfaults new.wfaults
+RunCauses status.NoMemory a b old new = Quiet old.refusals new.refusals × Quiet old.rfaults new.rfaults × Quiet old.wfaults new.wfaults
+RunCauses status.WriteFault a b old new = Quiet old.refusals new.refusals × QuietButAll (inputs_of_nodes b.nodes.items) old.rfaults new.rfaults × SomeWriteRose old new b × QuietButAll (outputs_of_nodes b.nodes.items) old.wfaults new.wfaults × SinksWrote old new b a
+RunCauses _ a b old new = Quiet old.refusals new.refusals × QuietButAll (inputs_of_nodes b.nodes.items) old.rfaults new.rfaults × Quiet old.wfaults new.wfaults × SinksWrote old new b a
 
 -- what a call raised before a run
 abbrev pub CausesBefore : Status → List ℕ → FolderState → FolderState → Type 0
@@ -155,8 +181,8 @@ CausesBefore _ file old new = ⊥
 
 -- Which counts rose, whether the folder tells its files or not: before a run, or in the run of a blueprint that is fit where the
 -- command's own file is taken, so that its files are other ones.
-abbrev pub Causes : Status → List ℕ → FolderState → FolderState → Type 0
-Causes s file old new = CausesBefore s file old new ⊎ ((b : Blueprint) × (IsFit b [] (file ∷ []) × RunCauses s b old new))
+abbrev pub Causes : Status → Answer → List ℕ → FolderState → FolderState → Type 0
+Causes s a file old new = CausesBefore s file old new ⊎ ((b : Blueprint) × (IsFit b [] (file ∷ []) × RunCauses s a b old new))
 
 -- what a status comes with
 abbrev pub SinksOf : Status → Answer → Type 0

@@ -55,8 +55,8 @@ CausesQuiet status.NoMemory old new = AllQuiet old new
 CausesQuiet _ old new = ⊥
 
 -- which counts rose
-abbrev pub CausesFit : Status → Blueprint → FolderState → FolderState → Type 0
-CausesFit s b old new = CausesQuiet s old new ⊎ RunCauses s b old new
+abbrev pub CausesFit : Status → Answer → Blueprint → FolderState → FolderState → Type 0
+CausesFit s a b old new = CausesQuiet s old new ⊎ RunCauses s a b old new
 
-abbrev pub CausesText : Status → List (List ℕ) → FolderState → FolderState → Type 0
-CausesText s taken old new = CausesQuiet s old new ⊎ ((b : Blueprint) × (IsFit b [] taken × RunCauses s b old new))
+abbrev pub CausesText : Status → Answer → List (List ℕ) → FolderState → FolderState → Type 0
+CausesText s a taken old new = CausesQuiet s old new ⊎ ((b : Blueprint) × (IsFit b [] taken × RunCauses s a b old new))

@@ -189,7 +189,7 @@ fn run_blueprint<F: Folder>(alloc: Global, folder: &mut F, b: Blueprint, turns: 
     requires turns { turns ≤ 4000000000 }
     ensures told { IsTrue (F.state folder.old).tells → EndedRun result.status (of_outcome result) b turns (F.state folder.old) (F.state folder.new) }
     ensures tells { IsTrue (F.state folder.new).tells → IsTrue (F.state folder.old).tells }
-    ensures causes { RunCauses result.status b (F.state folder.old) (F.state folder.new) }
+    ensures causes { RunCauses result.status (of_outcome result) b (F.state folder.old) (F.state folder.new) }
     ensures sinks { SinksOf result.status (of_outcome result) }
     ensures detail { result.detail.items ≡ detail_of result.status }
     ensures reads { QuietButAll (inputs_of_nodes b.nodes.items) (F.state folder.old).read (F.state folder.new).read }
@@ -212,7 +212,7 @@ fn run_checked<F: Folder>(alloc: Global, folder: &mut F, checked: Checked, turns
     requires turns { turns ≤ 4000000000 }
     ensures told { IsTrue (F.state folder.old).tells → EndedFit result.status (of_outcome result) (blueprint_of checked) turns (F.state folder.old) (F.state folder.new) }
     ensures tells { IsTrue (F.state folder.new).tells → IsTrue (F.state folder.old).tells }
-    ensures causes { CausesFit result.status (blueprint_of checked) (F.state folder.old) (F.state folder.new) }
+    ensures causes { CausesFit result.status (of_outcome result) (blueprint_of checked) (F.state folder.old) (F.state folder.new) }
     ensures sinks { SinksOf result.status (of_outcome result) }
     ensures detail { result.detail.items ≡ detail_of result.status }
     ensures reads { QuietButAll (inputs_of_nodes (blueprint_of checked).nodes.items) (F.state folder.old).read (F.state folder.new).read }
@@ -235,7 +235,7 @@ fn run_parsed<F: Folder>(
     requires { turns ≤ 4000000000 }
     ensures told { IsTrue (F.state folder.old).tells → EndedParsed result.status (of_outcome result) b taken.now turns (F.state folder.old) (F.state folder.new) }
     ensures tells { IsTrue (F.state folder.new).tells → IsTrue (F.state folder.old).tells }
-    ensures causes { CausesText result.status taken.now (F.state folder.old) (F.state folder.new) }
+    ensures causes { CausesText result.status (of_outcome result) taken.now (F.state folder.old) (F.state folder.new) }
     ensures sinks { SinksOf result.status (of_outcome result) }
     ensures detail { result.detail.items ≡ detail_of result.status }
     ensures reads { QuietAmong taken.now (F.state folder.old).read (F.state folder.new).read }
@@ -258,7 +258,7 @@ fn run_text<F: Folder>(
     requires { turns ≤ 4000000000 }
     ensures told { IsTrue (F.state folder.old).tells → EndedText result.status (of_outcome result) text.now taken.now turns (F.state folder.old) (F.state folder.new) }
     ensures tells { IsTrue (F.state folder.new).tells → IsTrue (F.state folder.old).tells }
-    ensures causes { CausesText result.status taken.now (F.state folder.old) (F.state folder.new) }
+    ensures causes { CausesText result.status (of_outcome result) taken.now (F.state folder.old) (F.state folder.new) }
     ensures sinks { SinksOf result.status (of_outcome result) }
     ensures detail { result.detail.items ≡ detail_of result.status }
     ensures reads { QuietAmong taken.now (F.state folder.old).read (F.state folder.new).read }
@@ -285,7 +285,7 @@ fn names_of(alloc: Global, file: &Line) -> Result<(Line, Vec<Line>), NoMemory>
 pub fn run_file<F: Folder>(alloc: Global, folder: &mut F, file: &Line, turns: u32) -> Outcome
     requires { turns ≤ 4000000000 }
     ensures told { IsTrue (F.state folder.old).tells → Told (of_outcome result) (record { file = file.now; turns = turns }) (F.state folder.old) (F.state folder.new) }
-    ensures causes { Causes result.status file.now (F.state folder.old) (F.state folder.new) }
+    ensures causes { Causes result.status (of_outcome result) file.now (F.state folder.old) (F.state folder.new) }
     ensures sinks { SinksOf result.status (of_outcome result) }
     ensures no_usage { result.status ≡ Status.Usage → ⊥ }
     ensures tells { IsTrue (F.state folder.new).tells → IsTrue (F.state folder.old).tells }

@@ -47,7 +47,7 @@ pub fn run_streams<F: Folder, C: Drain>(
     ensures complete { IsTrue (F.state folder.old).tells → IsValid words.now (F.state folder.old) → RoseNowhere (F.state folder.old) (F.state folder.new) → WasRun result.status }
 
     // Which counts rose, whether it tells them or not.
-    ensures causes { (c : Asked) → command_of words.now ≡ Some c → Causes result.status c.file (F.state folder.old) (F.state folder.new) }
+    ensures causes { (c : Asked) → command_of words.now ≡ Some c → Causes result.status (answer_of result) c.file (F.state folder.old) (F.state folder.new) }
     ensures sinks { SinksOf result.status (answer_of result) }
 
     // Reading the blueprint's file stops after so many bytes.
@@ -82,7 +82,7 @@ fn answer<F: Folder>(alloc: Global, words: &[Line], folder: &mut F) -> Outcome
     ensures usage { (result.status ≡ Status.Usage) ↔ (command_of words.now ≡ None) }
     ensures usage_leaves { result.status ≡ Status.Usage → F.state folder.new ≡ F.state folder.old }
     ensures told { (c : Asked) → command_of words.now ≡ Some c → IsTrue (F.state folder.old).tells → Told (of_outcome result) c (F.state folder.old) (F.state folder.new) }
-    ensures causes { (c : Asked) → command_of words.now ≡ Some c → Causes result.status c.file (F.state folder.old) (F.state folder.new) }
+    ensures causes { (c : Asked) → command_of words.now ≡ Some c → Causes result.status (of_outcome result) c.file (F.state folder.old) (F.state folder.new) }
     ensures tells { IsTrue (F.state folder.new).tells → IsTrue (F.state folder.old).tells }
     ensures sinks { SinksOf result.status (of_outcome result) }
     ensures detail { result.detail.items ≡ detail_of result.status }

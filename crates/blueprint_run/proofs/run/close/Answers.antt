@@ -15,6 +15,9 @@ returns g c = λ old b budget ss ds can opens leaves.
     })
     (record {
       ranked = c.fit_blueprints_are_whole.ensures.ranked;
+      joined = c.fit_blueprints_are_whole.ensures.joined;
+      agree = c.every_wire_agrees.ensures;
+      trees = c.polytrees_end.ensures;
       wrote = c.every_sink_writes.ensures;
       sent = c.every_sink_counts_its_lines.ensures.sent;
       rest = c.every_sink_counts_its_lines.ensures.rest;

@@ -13,4 +13,4 @@ returns g c =
     let same : new.used ≡ c.in_ok-used.used = search rules in
     let keeps = c.laws.ensures e.whole in
     let end = c.in_ok-end.ensures in
-    stops_of _ _ _ _ _ old.net new.net new.numbers _ (subst (λ u. Keeps g.S.Source.state g.D.Drain.state new.net u) same keeps) e.on i.firsts i.ends (e.numbers ∙ i.numbers) end.sinks (c.in_ok-wires.ensures ∙ ap (map (λ w. w.1)) (c.deref.ensures.value ∙ end.wires)) end.readers end.writers e.within e.rest c.at_rest-at_rest.ensures
+    stops_of _ _ _ _ _ old.net new.net new.numbers _ (subst (λ u. Keeps g.S.Source.state g.D.Drain.state new.net u) same keeps) e.uses e.on i.firsts i.ends (e.numbers ∙ i.numbers) end.sinks (c.in_ok-wires.ensures ∙ ap (map (λ w. w.1)) (c.deref.ensures.value ∙ end.wires)) end.readers end.writers e.within e.rest c.at_rest-at_rest.ensures

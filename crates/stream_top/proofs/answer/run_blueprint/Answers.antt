@@ -39,7 +39,7 @@ returns-in-Err-MissingInput-clause-tells g c =
 pub returns-in-Err-MissingInput-clause-causes : goal.returns-in-Err-MissingInput-clause-causes
 returns-in-Err-MissingInput-clause-causes g c =
     let e = c.in-Err-MissingInput in
-    missing_causes _ _ c.args.b e.name c.without_run-in-Err-MissingInput.result.status (inl (e.ensures.no_input e.name (ap Err e.field-0-is))) c.without_run-in-Err-MissingInput.ensures.status
+    missing_causes _ _ c.args.b e.name c.without_run-in-Err-MissingInput.result.status (of_outcome c.without_run-in-Err-MissingInput.result) (inl (e.ensures.no_input e.name (ap Err e.field-0-is))) c.without_run-in-Err-MissingInput.ensures.status
 
 pub returns-in-Err-MissingOutput-clause-told : goal.returns-in-Err-MissingOutput-clause-told
 returns-in-Err-MissingOutput-clause-told g c =
@@ -55,7 +55,7 @@ returns-in-Err-MissingOutput-clause-tells g c =
 pub returns-in-Err-MissingOutput-clause-causes : goal.returns-in-Err-MissingOutput-clause-causes
 returns-in-Err-MissingOutput-clause-causes g c =
     let e = c.in-Err-MissingOutput in
-    missing_causes _ _ c.args.b e.name c.without_run-in-Err-MissingOutput.result.status (inr (e.ensures.no_output e.name (ap Err e.field-0-is))) c.without_run-in-Err-MissingOutput.ensures.status
+    missing_causes _ _ c.args.b e.name c.without_run-in-Err-MissingOutput.result.status (of_outcome c.without_run-in-Err-MissingOutput.result) (inr (e.ensures.no_output e.name (ap Err e.field-0-is))) c.without_run-in-Err-MissingOutput.ensures.status
 
 pub returns-in-Ok-run-clause-reads : goal.returns-in-Ok-run-clause-reads
 returns-in-Ok-run-clause-reads g c = c.in-Ok-run.ensures.ran.other_draws

@@ -23,8 +23,8 @@ returns-in-Ok-read_file-clause-causes g c =
     let mid = g.F.Folder.state c.read_file.new.folder in
     let new = g.F.Folder.state c.run_text.new.folder in
     let taken = c.deref-in-Ok-read_file.ensures.value ∙ c.in-Ok.ensures.taken in
-    causes_text (g.F.Folder.state c.args.folder.now) mid new c.args.file.now c.in-Ok-read_file.text.items c.in-Ok-read_file.ensures.ok c.run_text.result.status
-    (subst (λ y. CausesText c.run_text.result.status y mid new) taken c.run_text.ensures.causes)
+    causes_text (g.F.Folder.state c.args.folder.now) mid new c.args.file.now c.in-Ok-read_file.text.items c.in-Ok-read_file.ensures.ok c.run_text.result.status (of_outcome c.run_text.result)
+    (subst (λ y. CausesText c.run_text.result.status (of_outcome c.run_text.result) y mid new) taken c.run_text.ensures.causes)
 
 pub returns-in-Ok-read_file-clause-tells : goal.returns-in-Ok-read_file-clause-tells
 returns-in-Ok-read_file-clause-tells g c =

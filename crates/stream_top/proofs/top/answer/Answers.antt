@@ -19,7 +19,7 @@ returns-in-Some-clause-told g c =
 pub returns-in-Some-clause-causes : goal.returns-in-Some-clause-causes
 returns-in-Some-clause-causes g c =
     λ asked is.
-    subst (λ x. Causes c.run_file.result.status x.file (g.F.Folder.state c.args.folder.now) (g.F.Folder.state c.run_file.new.folder)) (asked_same _ _ asked c.in-Some.ensures.command is) c.run_file.ensures.causes
+    subst (λ x. Causes c.run_file.result.status (of_outcome c.run_file.result) x.file (g.F.Folder.state c.args.folder.now) (g.F.Folder.state c.run_file.new.folder)) (asked_same _ _ asked c.in-Some.ensures.command is) c.run_file.ensures.causes
 
 pub returns-in-Some-clause-reads : goal.returns-in-Some-clause-reads
 returns-in-Some-clause-reads g c =

@@ -45,8 +45,8 @@ ports_fault nodes ws =
     (option_or (option_map PortTwice (port_twice ws)) (option_map (open_fault nodes) (port_open nodes ws)))
 
 -- plugs, and sizes
-abbrev pub plugs_fault : List PlugHead → List Node → Option CheckFault
-plugs_fault plugs nodes = option_or (option_map NoSuchPlug (unknown_plug plugs nodes)) (option_map PlugTwice (plug_twice plugs nodes))
+abbrev pub plugs_fault : List PlugHead → List ChainDecl → List Node → Option CheckFault
+plugs_fault plugs chains nodes = option_or (option_map NoSuchPlug (unknown_plug plugs chains nodes)) (option_map PlugTwice (plug_twice plugs nodes))
 
 abbrev pub sizes_fault : List ChainDecl → List Node → List WireDecl → Option CheckFault
 sizes_fault chains nodes wires = option_map BadSize (size_wrong chains nodes wires)
@@ -61,7 +61,7 @@ abbrev pub early_of : List (List ℕ) → List ChainDecl → List Node → List 
 early_of switches chains nodes wires plugs taken =
     option_or (names_fault switches chains nodes wires taken)
     (option_or (ports_fault nodes (wires_of nodes wires))
-    (option_or (plugs_fault plugs nodes)
+    (option_or (plugs_fault plugs chains nodes)
     (option_or (sizes_fault chains nodes wires)
     (types_fault plugs chains nodes (wires_of nodes wires)))))
 

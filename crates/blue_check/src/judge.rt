@@ -100,10 +100,10 @@ fn by_plugs(
 ) -> Result<Judged, NoMemory>
     requires targets { FindsWires targets.now (wires_of_links links.now) }
     requires in_range { AreInRange (length nodes.now) links.now }
-    ensures { IfOk result (IsJudged (option_or (plugs_fault plugs.now nodes.now)
+    ensures { IfOk result (IsJudged (option_or (plugs_fault plugs.now chains.now nodes.now)
         (option_or (sizes_fault chains.now nodes.now wires.now) (types_fault plugs.now chains.now nodes.now (wires_of_links links.now)))) (wires_of_links links.now)) }
 {
-    match plugs_fault(alloc, plugs, nodes)? {
+    match plugs_fault(alloc, plugs, chains, nodes)? {
         Some(fault) => Ok(Judged::Unfit(fault)),
         None => by_sizes(alloc, plugs, chains, nodes, wires, links, targets),
     }
@@ -118,7 +118,7 @@ fn by_ports(
     wires: &[WireDecl],
     links: &[Link],
 ) -> Result<Judged, NoMemory>
-    ensures { IfOk result (IsJudged (option_or (ports_fault nodes.now (wires_of_links links.now)) (option_or (plugs_fault plugs.now nodes.now)
+    ensures { IfOk result (IsJudged (option_or (ports_fault nodes.now (wires_of_links links.now)) (option_or (plugs_fault plugs.now chains.now nodes.now)
         (option_or (sizes_fault chains.now nodes.now wires.now) (types_fault plugs.now chains.now nodes.now (wires_of_links links.now))))) (wires_of_links links.now)) }
 {
     let targets = targets_of(alloc, links)?;
@@ -136,7 +136,7 @@ fn by_wires(
     nodes: &[Node],
     wires: &[WireDecl],
 ) -> Result<Judged, NoMemory>
-    ensures { IfOk result (IsJudged (option_or (ports_fault nodes.now (wires_of nodes.now wires.now)) (option_or (plugs_fault plugs.now nodes.now)
+    ensures { IfOk result (IsJudged (option_or (ports_fault nodes.now (wires_of nodes.now wires.now)) (option_or (plugs_fault plugs.now chains.now nodes.now)
         (option_or (sizes_fault chains.now nodes.now wires.now) (types_fault plugs.now chains.now nodes.now (wires_of nodes.now wires.now))))) (wires_of nodes.now wires.now)) }
 {
     let links = links_of(alloc, nodes, wires)?;

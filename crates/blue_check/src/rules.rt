@@ -105,11 +105,12 @@ pub fn ports_fault(
 pub fn plugs_fault(
     alloc: Global,
     plugs: &[PlugHead],
+    chains: &[ChainDecl],
     nodes: &[Node],
 ) -> Result<Option<CheckFault>, NoMemory>
-    ensures { IfOk result (λ f. f ≡ plugs_fault plugs.now nodes.now) }
+    ensures { IfOk result (λ f. f ≡ plugs_fault plugs.now chains.now nodes.now) }
 {
-    if let Some(name) = unknown_plug(alloc, plugs, nodes)? {
+    if let Some(name) = unknown_plug(alloc, plugs, chains, nodes)? {
         return Ok(Some(CheckFault::NoSuchPlug(name.copy(alloc)?)));
     }
     match plug_twice(alloc, plugs, nodes)? {

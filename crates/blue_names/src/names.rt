@@ -2,12 +2,12 @@
 ghost use Rattle.std.specs.Prelude.{◌≡◌, ℕ, List, IfOk, map};
 ghost use Rattle.std.specs.Option.{option_map, option_or};
 ghost use Rattle.blue_rules.specs.First.{first_from};
-ghost use Rattle.blue_rules.specs.Names.{missing, unknown_at, unknown_end, unknown_name, unknown_plug, unknown_plug_at, plug_of};
+ghost use Rattle.blue_rules.specs.Names.{missing, unknown_at, unknown_end, unknown_name, unknown_plug, unknown_plug_at, unknown_in_steps, unknown_in_chains, plug_of};
 ghost use Rattle.blue_names.specs.Table.{Numbers};
 
 use crate::claims::plug_of;
 use crate::table::{NameTable, find, table_of};
-use blue_core::blueprint::{ChainDecl, Node, WireDecl};
+use blue_core::blueprint::{ChainDecl, Node, Step, WireDecl};
 use elem_core::line::Line;
 use elem_core::why::NoMemory;
 use plug_core::head::PlugHead;
@@ -124,6 +124,30 @@ fn unknown_plug_at<'a>(plugs: &NameTable<'_>, plug: Option<&'a Line>) -> Option<
     }
 }
 
+/// The first plug that a step names and that is not handed in.
+fn unknown_plug_in_steps<'a>(plugs: &NameTable<'_>, steps: &'a [Step]) -> Option<&'a Line>
+    ensures { (ps : List (List ℕ)) → Numbers plugs.now ps → option_map (λ l. l.now) result ≡ unknown_in_steps ps steps.now }
+{
+    for step in steps {
+        if let Some(name) = unknown_plug_at(plugs, plug_of(&step.kind)) {
+            return Some(name);
+        }
+    }
+    None
+}
+
+/// The first of them among the steps of the chains.
+fn unknown_plug_in_chains<'a>(plugs: &NameTable<'_>, chains: &'a [ChainDecl]) -> Option<&'a Line>
+    ensures { (ps : List (List ℕ)) → Numbers plugs.now ps → option_map (λ l. l.now) result ≡ unknown_in_chains ps chains.now }
+{
+    for chain in chains {
+        if let Some(name) = unknown_plug_in_steps(plugs, &chain.steps) {
+            return Some(name);
+        }
+    }
+    None
+}
+
 /// The first of them among the nodes.
 fn unknown_plug_in<'a>(plugs: &NameTable<'_>, nodes: &'a [Node]) -> Option<&'a Line>
     ensures { (ps : List (List ℕ)) → Numbers plugs.now ps
@@ -137,14 +161,18 @@ fn unknown_plug_in<'a>(plugs: &NameTable<'_>, nodes: &'a [Node]) -> Option<&'a L
     None
 }
 
-/// The first plug that a node names and that is not handed in.
+/// The first plug that a step of a chain or a node names and that is not handed in: chains come before nodes.
 pub fn unknown_plug<'a>(
     alloc: Global,
     plugs: &[PlugHead],
+    chains: &'a [ChainDecl],
     nodes: &'a [Node],
 ) -> Result<Option<&'a Line>, NoMemory>
-    ensures { IfOk result (λ name. option_map (λ l. l.now) name ≡ unknown_plug plugs.now nodes.now) }
+    ensures { IfOk result (λ name. option_map (λ l. l.now) name ≡ unknown_plug plugs.now chains.now nodes.now) }
 {
     let table = table_of(alloc, plugs)?;
-    Ok(unknown_plug_in(&table, nodes))
+    match unknown_plug_in_chains(&table, chains) {
+        Some(name) => Ok(Some(name)),
+        None => Ok(unknown_plug_in(&table, nodes)),
+    }
 }

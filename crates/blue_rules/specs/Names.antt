@@ -8,6 +8,7 @@ use Rattle.stream_model.specs.declared.kind.Kind.{Kind}
 use Rattle.stream_model.specs.Linear.{Mention, no_name, a_file, a_switch, a_trip, a_plug, a_chain, mention_of}
 use Rattle.blue_core.specs.declared.blueprint.Node.{Node}
 use Rattle.blue_core.specs.declared.blueprint.ChainDecl.{ChainDecl}
+use Rattle.blue_core.specs.declared.blueprint.Step.{Step}
 use Rattle.blue_core.specs.declared.blueprint.WireDecl.{WireDecl}
 use Rattle.plug_core.specs.declared.head.PlugHead.{PlugHead}
 use Rattle.blue_rules.specs.First.{first_from, when}
@@ -111,9 +112,19 @@ abbrev pub unknown_plug_at : List (List ℕ) → Option (List ℕ) → Option (L
 unknown_plug_at plugs (Some name) = missing name plugs
 unknown_plug_at plugs None = None
 
--- the first plug that is named and not handed in
-abbrev pub unknown_plug : List PlugHead → List Node → Option (List ℕ)
-unknown_plug plugs nodes = first_from (λ _ n. unknown_plug_at (map (λ p. p.name) plugs) (plug_of n.kind)) 0 nodes
+-- the first plug that a step of a chain names, or that a node does, and that is none of these
+abbrev pub unknown_in_steps : List (List ℕ) → List Step → Option (List ℕ)
+unknown_in_steps plugs steps = first_from (λ _ s. unknown_plug_at plugs (plug_of s.kind)) 0 steps
+
+abbrev pub unknown_in_chains : List (List ℕ) → List ChainDecl → Option (List ℕ)
+unknown_in_chains plugs chains = first_from (λ _ c. unknown_in_steps plugs c.steps.items) 0 chains
+
+abbrev pub unknown_in_nodes : List (List ℕ) → List Node → Option (List ℕ)
+unknown_in_nodes plugs nodes = first_from (λ _ n. unknown_plug_at plugs (plug_of n.kind)) 0 nodes
+
+-- the first plug that is named and not handed in: chains come before nodes
+abbrev pub unknown_plug : List PlugHead → List ChainDecl → List Node → Option (List ℕ)
+unknown_plug plugs chains nodes = option_or (unknown_in_chains (map (λ p. p.name) plugs) chains) (unknown_in_nodes (map (λ p. p.name) plugs) nodes)
 
 abbrev pub calling : Option (List ℕ) → List Claim → List Claim
 calling (Some name) cs = called name ∷ cs

@@ -70,8 +70,8 @@ facts b plugs taken fit =
     let sizes = sizes_fault b.chains.items nodes b.wires.items in
     let types = types_fault plugs b.chains.items nodes ws in
     let rest = option_or sizes types in
-    let first = all_none (names_fault b.switches.items b.chains.items nodes b.wires.items taken) (ports_fault nodes ws) (option_or (plugs_fault plugs nodes) rest) fit.early in
-    let later = all_none (plugs_fault plugs nodes) sizes types first.1.1 in
+    let first = all_none (names_fault b.switches.items b.chains.items nodes b.wires.items taken) (ports_fault nodes ws) (option_or (plugs_fault plugs b.chains.items nodes) rest) fit.early in
+    let later = all_none (plugs_fault plugs b.chains.items nodes) sizes types first.1.1 in
     let ports = ports_none nodes ws first.1.0 in
     record { missing = ports.0; twice = ports.1.0; open_ = ports.1.1; sizes = sizes_none b.chains.items nodes b.wires.items later.1.0 }
 

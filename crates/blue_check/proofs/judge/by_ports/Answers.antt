@@ -8,8 +8,8 @@ use Rattle.blue_check.proofs.judge.by_ports.Goals as goal
 
 pub returns-in-Some : goal.returns-in-Some
 returns-in-Some c =
-    judged_first (ports_fault c.args.nodes.now (wires_of_links c.args.links.now)) (option_or (plugs_fault c.args.plugs.now c.args.nodes.now) (option_or (sizes_fault c.args.chains.now c.args.nodes.now c.args.wires.now) (types_fault c.args.plugs.now c.args.chains.now c.args.nodes.now (wires_of_links c.args.links.now)))) (wires_of_links c.args.links.now) c.in-Some.fault (sym c.in-Some.is ∙ c.in_ok-fault.ensures.fault)
+    judged_first (ports_fault c.args.nodes.now (wires_of_links c.args.links.now)) (option_or (plugs_fault c.args.plugs.now c.args.chains.now c.args.nodes.now) (option_or (sizes_fault c.args.chains.now c.args.nodes.now c.args.wires.now) (types_fault c.args.plugs.now c.args.chains.now c.args.nodes.now (wires_of_links c.args.links.now)))) (wires_of_links c.args.links.now) c.in-Some.fault (sym c.in-Some.is ∙ c.in_ok-fault.ensures.fault)
 
 pub returns : goal.returns
 returns c =
-    answer_next (ports_fault c.args.nodes.now (wires_of_links c.args.links.now)) (option_or (plugs_fault c.args.plugs.now c.args.nodes.now) (option_or (sizes_fault c.args.chains.now c.args.nodes.now c.args.wires.now) (types_fault c.args.plugs.now c.args.chains.now c.args.nodes.now (wires_of_links c.args.links.now)))) (wires_of_links c.args.links.now) c.by_plugs.result (sym c.in-None.is ∙ c.in_ok-fault.ensures.fault) c.by_plugs.ensures
+    answer_next (ports_fault c.args.nodes.now (wires_of_links c.args.links.now)) (option_or (plugs_fault c.args.plugs.now c.args.chains.now c.args.nodes.now) (option_or (sizes_fault c.args.chains.now c.args.nodes.now c.args.wires.now) (types_fault c.args.plugs.now c.args.chains.now c.args.nodes.now (wires_of_links c.args.links.now)))) (wires_of_links c.args.links.now) c.by_plugs.result (sym c.in-None.is ∙ c.in_ok-fault.ensures.fault) c.by_plugs.ensures

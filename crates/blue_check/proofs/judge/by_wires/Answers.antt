@@ -10,4 +10,4 @@ pub returns : goal.returns
 returns c =
     let n = c.args.nodes.now in
     let ch = c.args.chains.now in
-    subst (λ (ws : List Wire). IfOk c.by_ports.result (IsJudged (option_or (ports_fault n ws) (option_or (plugs_fault c.args.plugs.now n) (option_or (sizes_fault ch n c.args.wires.now) (types_fault c.args.plugs.now ch n ws)))) ws)) (ap wires_of_links c.deref.ensures.value ∙ c.in_ok-links.ensures) c.by_ports.ensures
+    subst (λ (ws : List Wire). IfOk c.by_ports.result (IsJudged (option_or (ports_fault n ws) (option_or (plugs_fault c.args.plugs.now ch n) (option_or (sizes_fault ch n c.args.wires.now) (types_fault c.args.plugs.now ch n ws)))) ws)) (ap wires_of_links c.deref.ensures.value ∙ c.in_ok-links.ensures) c.by_ports.ensures

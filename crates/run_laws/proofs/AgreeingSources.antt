@@ -1,6 +1,7 @@
 -- The sources of lines of a net that was made of a blueprint: what each read.
-use Rattle.std.specs.Prelude.{slice_get}
+use Rattle.std.specs.Prelude.{map, slice_get}
 use Rattle.std.proofs.Common.{◌≡◌, ℕ, ◌<◌, List, length, Some, refl, sym, ap, subst, ◌∙◌}
+use Rattle.elem_core.specs.Tree.{text}
 use Rattle.elem_core.specs.declared.item.Item.{Item}
 use Rattle.port_core.specs.View.{View}
 use Rattle.stage_linear.specs.States.{IsLinear}
@@ -18,9 +19,12 @@ use Rattle.nodes.specs.declared.node.Node.TheVariants.{Reading, Making, Linear, 
 use Rattle.nodes.specs.Kinds.{IsMaker, IsFileSink}
 use Rattle.nodes.specs.Nodes.{node_row, node_law}
 use Rattle.nodes.specs.Source.{Lines, LinesLaw}
+use Rattle.stage_law.specs.Held.{told}
+use Rattle.run_laws.specs.Agreeing.{GivesTexts}
 use Rattle.run_laws.specs.Made.{FirstReading, FirstOf, Materializes}
 use Rattle.run_laws.specs.Reads.{IsSourceAt, SentLines}
 use Rattle.run_laws.proofs.ReadingAhead.{sent_lines}
+use Rattle.run_laws.proofs.Readings.{one_port}
 use Rattle.run_laws.proofs.AgreeingWires.{read_there}
 
 -- a node of a source's kind is a source
@@ -63,3 +67,21 @@ module _ {S D : Type 0} (sources : S → SourceState) (drains : D → DrainState
       let law : LinesLaw sources first now (view_of net k) (took net k) (gave net k) = (settled.minded k hk (Reading now) (Reading first) at.at_last at.at_first).law_holds in
       let its : FirstReading sources k n.kind first = made.each_node k n (Reading first) ni at.at_first in
       sent_lines sources first now (view_of net k) (took net k) (gave net k) law bytes its.kept its.given whole (end_at net.ends u).output (wire_at net u).wire.sent (read_there sent_of net.wires (ports_at net k).outs (end_at net.ends u).output u port)
+
+  -- it sent texts, whatever is told of its file
+  pub source_texts : (u : ℕ) (v : Wire) (n : graph.Node) (name : List ℕ) → slice_get g.wires u ≡ Some v → slice_get g.nodes v.from ≡ Some n → n.kind ≡ kind.Lines name → GivesTexts (wire_at net u).wire.sent
+  source_texts u v n name ui ni is =
+      let at = source_there v.from n name ni is in
+      let hk = within v.from n ni in
+      let wires : length net.wires ≡ length g.wires = sym settled.wired.each_wire ∙ made.wires in
+      let hu : u < length net.wires = rw wires (slice_get-below g.wires u v ui) in
+      let f = made.each_wire u v ui in
+      let port : slice_get (ports_at net v.from).outs (end_at net.ends u).output ≡ Some u = rw f.from at (settled.wired.from_output u hu) in
+      let law : LinesLaw sources at.0 at.1.0 (view_of net v.from) (took net v.from) (gave net v.from) = (settled.minded v.from hk (Reading at.1.0) (Reading at.0) at.1.1.at_last at.1.1.at_first).law_holds in
+      let output = (end_at net.ends u).output in
+      let there : slice_get (gave net v.from) output ≡ Some (wire_at net u).wire.sent = read_there sent_of net.wires (ports_at net v.from).outs output u port in
+      record {
+        texts = law.lines_drawn;
+        end = law.end;
+        is = one_port (told (map text law.lines_drawn) law.end) output (wire_at net u).wire.sent (rw law.gave_is at there);
+      }

@@ -1,11 +1,12 @@
 // Laws of a run: each function has no body, and its contract is the law. They speak of the net of an island between two
 // events, at any moment from its start to its end.
-ghost use Rattle.std.specs.Prelude.{◌≡◌, ◌<◌, ◌≤◌, ℕ, List, [], length, Some, slice_get};
+ghost use Rattle.std.specs.Prelude.{◌≡◌, ◌≢◌, ◌<◌, ◌≤◌, ℕ, List, [], length, Some, slice_get};
 ghost use Rattle.wire_core.specs.Counts.{elements};
-ghost use Rattle.stream_model.specs.Composed.{composed, sink_outlook, IsRanked};
+ghost use Rattle.stream_model.specs.Composed.{next, composed, sink_outlook, IsRanked};
 ghost use Rattle.stream_model.specs.Graph as graph;
 ghost use Rattle.stream_model.specs.Graph.{Graph, Wire};
 ghost use Rattle.stream_model.specs.Node.{World};
+ghost use Rattle.stream_model.specs.Outlook.{Outlook};
 ghost use Rattle.stream_model.specs.Sources.{whole_lines};
 ghost use Rattle.stream_model.specs.declared.kind.Kind.TheVariants as kind;
 ghost use Rattle.stream_model.specs.declared.outcome.EndState.TheVariants.{Unended};
@@ -17,7 +18,7 @@ ghost use Rattle.nodes.specs.Kinds.{IsFileSink};
 ghost use Rattle.nodes.specs.Sink.{Sink};
 ghost use Rattle.nodes.specs.Source.{Lines};
 ghost use Rattle.nodes.specs.declared.node.Node.{Node};
-ghost use Rattle.run_laws.specs.Agreeing.{AgreesWith};
+ghost use Rattle.run_laws.specs.Agreeing.{AgreesWith, GivesTexts};
 ghost use Rattle.run_laws.specs.Made.{Materializes};
 ghost use Rattle.run_laws.specs.Reads.{IsSourceAt, SentLines};
 ghost use Rattle.run_laws.specs.Sinks.{TookList, SinkTells, SinkWrote, SentTo, IsSinkAt, IgnoreTells, IsIgnorerAt};
@@ -83,4 +84,14 @@ pub fn every_source_reads_little_ahead<S: Source, D: Drain>()
         → (k : ℕ) (n : graph.Node) (first now : Lines S) (u : ℕ) (v : Wire) (bytes : List ℕ) → slice_get g.nodes k ≡ Some n → IsSourceAt net k first now → slice_get g.wires u ≡ Some v → v.from ≡ k
         → (S.state first.reader.source).whole ≡ Some bytes
         → SentLines bytes (S.state first.reader.source) (S.state now.reader.source) (wire_at net u).wire.sent }
+{}
+
+/// Whatever a folder tells of its files, a source of lines sent texts (`lines`), and what any other node sent on a wire agrees
+/// with what it gives of all outlooks with which what was sent on the wires into it agrees (`others`).
+pub fn every_node_gives_of_what_came<S: Source, D: Drain>()
+    ensures lines { (g : Graph) (net : Net (Node S D)) → Settled node_row (node_law S.state D.state) net → Materializes S.state g net.firsts net.ends
+        → (u : ℕ) (v : Wire) (n : graph.Node) (name : List ℕ) → slice_get g.wires u ≡ Some v → slice_get g.nodes v.from ≡ Some n → n.kind ≡ kind.Lines name → GivesTexts (wire_at net u).wire.sent }
+    ensures others { (g : Graph) (w : World) (net : Net (Node S D)) → Settled node_row (node_law S.state D.state) net → Materializes S.state g net.firsts net.ends
+        → (sent : ℕ → Outlook) (j : ℕ) (v : Wire) (n : graph.Node) → slice_get g.wires j ≡ Some v → slice_get g.nodes v.from ≡ Some n → ((name : List ℕ) → n.kind ≢ kind.Lines name)
+        → ((u : ℕ) (x : Wire) → slice_get g.wires u ≡ Some x → x.to ≡ v.from → AgreesWith (sent u) (wire_at net u).wire.sent) → AgreesWith (next g w sent j) (wire_at net j).wire.sent }
 {}

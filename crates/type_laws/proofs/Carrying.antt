@@ -16,25 +16,25 @@ use Rattle.plug_core.specs.declared.head.PlugHead.{PlugHead}
 use Rattle.blue_rules.specs.Rounds.{wire_into, type_on, port_type, half_type, arrivals, attempt, settled, is_joining, is_deep, clash_of}
 use Rattle.blue_rules.specs.StageTypes.{limited, source_type, stage_typed}
 use Rattle.blue_rules.specs.declared.typed.Typed.TheVariants.{Gives}
-use Rattle.type_laws.specs.Checked.{plain, PassesRules, HasKnownSteps, wire_type, CarriesType}
+use Rattle.type_laws.specs.Checked.{plain, PassesRules, wire_type, CarriesType}
 use Rattle.type_laws.specs.Kinds.{Shape, source, joining, zipping, single, shape_of, function_want, chain_in, StepsTake}
 use Rattle.type_laws.specs.Plugs.{KeepsPlugTypes}
 use Rattle.type_laws.specs.Types.{AllTyped, OutlooksTyped, Takes}
 use Rattle.type_laws.proofs.Lists.{retype_all}
 use Rattle.type_laws.proofs.Given.{limited_is}
 use Rattle.type_laws.proofs.Stages.{source_keeps, single_keeps, joining_keeps, zip_keeps}
-use Rattle.type_laws.proofs.Rules.{ends_there, Into, into_from, input_there, joins_alike, known_kind, only_wire, meets, not_deep}
+use Rattle.type_laws.proofs.Rules.{ends_there, Into, into_from, input_there, joins_alike, known_kind, known_steps, only_wire, meets, not_deep}
 use Rattle.type_laws.proofs.Origins.{Origin, by_source, by_round, origin}
 use Rattle.type_laws.proofs.Shapes.{one_input, is_zip, no_input, joins, stands_apart, whole_source, whole_joining, no_source, source_tries, single_gives, takes, joining_takes, Chained, chained, bare, is_chained, single_given}
 use Rattle.type_laws.proofs.Chains.{chain_takes}
 use Rattle.type_laws.proofs.Settling.{all_by_rank, HasSettled, TypedInput, typed_input, every_wire_settles}
 
-plain_at : (nodes : List Node) (k : ℕ) (n : Node) → slice_get nodes k ≡ Some n → slice_get (map plain nodes) k ≡ Some (plain n)
+pub plain_at : (nodes : List Node) (k : ℕ) (n : Node) → slice_get nodes k ≡ Some n → slice_get (map plain nodes) k ≡ Some (plain n)
 plain_at [] k n h = cc
 plain_at (m ∷ nodes) zero n h = let same : m ≡ n = cc in ap (λ x. Some (plain x)) same
 plain_at (m ∷ nodes) (suc k) n h = plain_at nodes k n h
 
-one_some : (o : Option Sort) (s t : Sort) → o ≡ Some s → o ≡ Some t → s ≡ t
+pub one_some : (o : Option Sort) (s t : Sort) → o ≡ Some s → o ≡ Some t → s ≡ t
 one_some o s t h k = let e : Option.Some s ≡ Some t = sym h ∙ k in cc
 
 -- what a zip gave for
@@ -66,24 +66,24 @@ module _ (plugs : List PlugHead) (chains : List ChainDecl) (nodes : List Node) (
   later_on earlier keeps None t h = cc
   later_on earlier keeps (Some v) t h = later_by (port_type (slice_get nodes v.from) v.output) (earlier v.from) (types v.from) t (keeps v.from) h
 
-  module _ (w : World) where
-    -- wire i carries the type that is settled for it
+  module _ (w : World) (sent : ℕ → Outlook) where
+    -- what may pass wire i is of the type that is settled for it
     pub record HasTyped (i : ℕ) : Type 0 where
-      pub typed : (v : Wire) → slice_get g.wires i ≡ Some v → (t : Sort) → wire_type plugs chains nodes g v ≡ Some t → AllTyped t (composed g w i).list
+      pub typed : (v : Wire) → slice_get g.wires i ≡ Some v → (t : Sort) → wire_type plugs chains nodes g v ≡ Some t → AllTyped t (sent i).list
 
     received_typed : (l : Option ℕ) (o : Outlook) (t : Sort) → AllTyped t o.list → AllTyped t (received g w l o).list
     received_typed None o t h = h
     received_typed (Some s) o t h = h
 
     -- what comes in on an input
-    comes_typed : (k p : ℕ) (i : TypedInput plugs chains nodes g k p) → HasTyped i.into.number → AllTyped i.type (incoming g w (composed g w) (find_wire k p g.wires)).list
+    comes_typed : (k p : ℕ) (i : TypedInput plugs chains nodes g k p) → HasTyped i.into.number → AllTyped i.type (incoming g w sent (find_wire k p g.wires)).list
     comes_typed k p i h =
         let number = i.into.number in
-        subst (λ o. AllTyped i.type (incoming g w (composed g w) o).list) (sym i.into.finds)
-        (received_typed (lane_of g w (slice_get g.wires number)) (composed g w number) i.type (h.typed i.into.wire i.into.at i.type i.on_wire))
+        subst (λ o. AllTyped i.type (incoming g w sent o).list) (sym i.into.finds)
+        (received_typed (lane_of g w (slice_get g.wires number)) (sent number) i.type (h.typed i.into.wire i.into.at i.type i.on_wire))
 
-    module _ (rank : ℕ → ℕ) (ranked : IsRanked g rank) (passes : PassesRules plugs chains nodes g) (steps : HasKnownSteps plugs chains) (keeps : KeepsPlugTypes plugs w.book) where
-      settles : (i : ℕ) → i < length g.wires → HasSettled plugs chains nodes g i
+    module _ (rank : ℕ → ℕ) (ranked : IsRanked g rank) (passes : PassesRules plugs chains nodes g) (keeps : KeepsPlugTypes plugs w.book) where
+      pub settles : (i : ℕ) → i < length g.wires → HasSettled plugs chains nodes g i
       settles = every_wire_settles plugs chains nodes g rank ranked passes
 
       input_typed : (k p : ℕ) → Into nodes g.wires k p → TypedInput plugs chains nodes g k p
@@ -91,7 +91,7 @@ module _ (plugs : List PlugHead) (chains : List ChainDecl) (nodes : List Node) (
 
       module _ (j : ℕ) (v : Wire) (n : Node) (at : slice_get g.wires j ≡ Some v) (is : slice_get nodes v.from ≡ Some n) (below : (i : ℕ) → i < length g.wires → rank i < rank j → HasTyped i) (u : Sort) (has : types v.from ≡ Some u) where
         abbrev ins : ℕ → List Outlook
-        ins m = ports_of g w (composed g w) v.from (count_from 0 m)
+        ins m = ports_of g w sent v.from (count_from 0 m)
 
         abbrev Gave : List Outlook → Type 0
         Gave os = AllTyped (half_type n.kind v.output u) (node_outlook g w v.from n.kind n.decider os v.output).list
@@ -116,27 +116,27 @@ module _ (plugs : List PlugHead) (chains : List ChainDecl) (nodes : List Node) (
             let one = one_input n.kind s in
             let i = input_typed v.from 0 (input_at 0 (rw one (omega arith))) in
             let met = meets plugs chains nodes g.wires passes.no_clash i.into.number i.into.wire v.from n i.type i.into.at i.into.to is i.on_wire (stands_apart n.kind s) in
-            single_keeps g w v.from n.decider (ins 1) plugs chains keeps passes.chains_are steps.all i.type u (comes_typed v.from 0 i (input_below 0 i.into)) n.kind (known_kind plugs nodes passes.no_unknown v.from n is) s
+            single_keeps g w v.from n.decider (ins 1) plugs chains keeps passes.chains_are (known_steps plugs chains nodes passes.no_unknown).all i.type u (comes_typed v.from 0 i (input_below 0 i.into)) n.kind (known_kind plugs chains nodes passes.no_unknown v.from n is) s
             (by_origin one i (origin plugs chains nodes g.wires v.from n u is has) met) v.output
           where
             by_origin : inputs_of n.kind ≡ 1 → (i : TypedInput plugs chains nodes g v.from 0) → Origin plugs chains nodes g.wires v.from n u
                 → clash_of i.into.number (stage_typed plugs chains n.kind i.type) ≡ None → stage_typed plugs chains n.kind i.type ≡ Gives u
             by_origin one i (by_source h) met = absurd (no_source n.kind u s h)
             by_origin one i (by_round earlier keeps h) met =
-                single_gives plugs chains n.kind (known_kind plugs nodes passes.no_unknown v.from n is) s i.into.number i.type met (type_on nodes g.wires earlier (wire_into nodes g.wires v.from 0)) u
+                single_gives plugs chains n.kind (known_kind plugs chains nodes passes.no_unknown v.from n is) s i.into.number i.type met (type_on nodes g.wires earlier (wire_into nodes g.wires v.from 0)) u
                 (λ t e. one_some (type_on nodes g.wires types (wire_into nodes g.wires v.from 0)) i.type t i.comes (later_on earlier keeps (wire_into nodes g.wires v.from 0) t e))
                 (subst (λ m. attempt plugs chains n.kind (arrivals nodes g.wires earlier v.from (count_from 0 m)) ≡ Some (Gives u)) one h)
 
         -- an input of a node that joins, where a wire is found
-        joined_input : shape_of n.kind ≡ joining → (p : ℕ) (o : Option ℕ) → find_wire v.from p g.wires ≡ o → AllTyped u (incoming g w (composed g w) (find_wire v.from p g.wires)).list
+        joined_input : shape_of n.kind ≡ joining → (p : ℕ) (o : Option ℕ) → find_wire v.from p g.wires ≡ o → AllTyped u (incoming g w sent (find_wire v.from p g.wires)).list
         joined_input s p None e = rw e tt
         joined_input s p (Some m) e =
             let i = input_typed v.from p (into_from nodes g.wires v.from p m e) in
-            retype_all i.type u (incoming g w (composed g w) (find_wire v.from p g.wires)).list
+            retype_all i.type u (incoming g w sent (find_wire v.from p g.wires)).list
             (joins_alike plugs chains nodes g.wires passes.no_clash i.into.number i.into.wire v.from n i.type u i.into.at i.into.to is i.on_wire (joins n.kind s) has)
             (comes_typed v.from p i (input_below p i.into))
 
-        joined_inputs : shape_of n.kind ≡ joining → (ps : List ℕ) → OutlooksTyped u (ports_of g w (composed g w) v.from ps)
+        joined_inputs : shape_of n.kind ≡ joining → (ps : List ℕ) → OutlooksTyped u (ports_of g w sent v.from ps)
         joined_inputs s [] = tt
         joined_inputs s (p ∷ ps) = (joined_input s p (find_wire v.from p g.wires) refl, joined_inputs s ps)
 
@@ -175,58 +175,66 @@ module _ (plugs : List PlugHead) (chains : List ChainDecl) (nodes : List Node) (
         gives_by single s = subst (λ m. Gave (ins m)) (sym (one_input n.kind s)) (single_at s)
 
         -- what node v.from gives on the wire
-        node_gives : AllTyped (half_type n.kind v.output u) (next g w (composed g w) j).list
+        pub node_gives : AllTyped (half_type n.kind v.output u) (next g w sent j).list
         node_gives =
             let in_graph : slice_get g.nodes v.from ≡ Some (plain n) = ap (λ (l : List graph.Node). slice_get l v.from) passes.nodes_are ∙ plain_at nodes v.from n is in
-            let of_wire : next g w (composed g w) j ≡ given_on g w (composed g w) v.from (Some (plain n)) v.output =
-            ap (sent_on g w (composed g w)) at ∙ ap (λ (m : Option graph.Node). given_on g w (composed g w) v.from m v.output) in_graph in
+            let of_wire : next g w sent j ≡ given_on g w sent v.from (Some (plain n)) v.output =
+            ap (sent_on g w sent) at ∙ ap (λ (m : Option graph.Node). given_on g w sent v.from m v.output) in_graph in
             subst (λ (o : Outlook). AllTyped (half_type n.kind v.output u) o.list) (sym of_wire) (gives_by (shape_of n.kind) refl)
 
-      wire_gives : (j : ℕ) → j < length g.wires → ((i : ℕ) → i < length g.wires → rank i < rank j → HasTyped i) → HasTyped j
-      wire_gives j l below = record {
-        typed = λ v at t e.
-            let n = (ends_there nodes g.wires passes.no_missing j v at).0 in
-            let u = (settles j l).type_of v at in
-            let on : wire_type plugs chains nodes g v ≡ Some (half_type n.node.kind v.output u.0) =
-            ap (λ m. option_map (port_type m v.output) (types v.from)) n.is ∙ ap (option_map (half_type n.node.kind v.output)) u.1 in
-            let same = one_some (wire_type plugs chains nodes g v) (half_type n.node.kind v.output u.0) t on e in
-            retype_all (half_type n.node.kind v.output u.0) t (composed g w j).list same
-            (subst (λ (o : Outlook). AllTyped (half_type n.node.kind v.output u.0) o.list) (composed_composes g w rank ranked j l) (node_gives j v n.node at n.is below u.0 u.1));
-      }
+      -- the type of the node at the beginning of a wire is that of the wire
+      pub type_from : (j : ℕ) (v : Wire) (n : Node) (u : Sort) → slice_get nodes v.from ≡ Some n → types v.from ≡ Some u → wire_type plugs chains nodes g v ≡ Some (half_type n.kind v.output u)
+      type_from j v n u is has = ap (λ m. option_map (port_type m v.output) (types v.from)) is ∙ ap (option_map (half_type n.kind v.output)) has
 
-      pub every_wire_typed : (i : ℕ) → i < length g.wires → HasTyped i
-      every_wire_typed = all_by_rank rank (length g.wires) HasTyped wire_gives
+      -- what node v.from gives on wire j, by the type of the wire
+      pub next_typed : (j : ℕ) → j < length g.wires → ((i : ℕ) → i < length g.wires → rank i < rank j → HasTyped i) → (v : Wire) → slice_get g.wires j ≡ Some v → (t : Sort) → wire_type plugs chains nodes g v ≡ Some t
+          → AllTyped t (next g w sent j).list
+      next_typed j l below v at t e =
+          let n = (ends_there nodes g.wires passes.no_missing j v at).0 in
+          let u = (settles j l).type_of v at in
+          let same = one_some (wire_type plugs chains nodes g v) (half_type n.node.kind v.output u.0) t (type_from j v n.node u.0 n.is u.1) e in
+          retype_all (half_type n.node.kind v.output u.0) t (next g w sent j).list same (node_gives j v n.node at n.is below u.0 u.1)
 
-      -- the function at the end of a wire
-      target_takes : (i : ℕ) (v : Wire) (m : Node) (t : Sort) → slice_get g.wires i ≡ Some v → slice_get nodes v.to ≡ Some m → wire_type plugs chains nodes g v ≡ Some t → (b : Bool) → is_joining m.kind ≡ b → Takes (function_want plugs m.kind) t
-      target_takes i v m t at to e true j = joining_takes plugs chains m.kind t j
-      target_takes i v m t at to e false j = takes plugs chains m.kind i t (known_kind plugs nodes passes.no_unknown v.to m to) (meets plugs chains nodes g.wires passes.no_clash i v v.to m t at refl to e j)
+  module _ (w : World) (rank : ℕ → ℕ) (ranked : IsRanked g rank) (passes : PassesRules plugs chains nodes g) (keeps : KeepsPlugTypes plugs w.book) where
+    wire_gives : (j : ℕ) → j < length g.wires → ((i : ℕ) → i < length g.wires → rank i < rank j → HasTyped w (composed g w) i) → HasTyped w (composed g w) j
+    wire_gives j l below = record {
+      typed = λ v at t e.
+          subst (λ (o : Outlook). AllTyped t o.list) (composed_composes g w rank ranked j l) (next_typed w (composed g w) rank ranked passes keeps j l below v at t e);
+    }
 
-      -- the functions of the steps of its chain
-      target_steps : (i : ℕ) (v : Wire) (m : Node) (t : Sort) → slice_get g.wires i ≡ Some v → slice_get nodes v.to ≡ Some m → wire_type plugs chains nodes g v ≡ Some t → Chained m.kind → StepsTake plugs (chain_in chains m.kind) t
-      target_steps i v m t at to e (bare h) = h plugs chains t
-      target_steps i v m t at to e (chained s f) =
-          let one = one_input m.kind s in
-          let into = only_wire nodes g.wires passes.no_missing passes.no_twice passes.no_open i v m at to one in
-          let comes : arrivals nodes g.wires types v.to (count_from 0 (inputs_of m.kind)) ≡ Some t ∷ [] =
-          ap (λ k. arrivals nodes g.wires types v.to (count_from 0 k)) one ∙ ap (λ (o : Option Wire). type_on nodes g.wires types o ∷ []) into ∙ ap (λ (o : Option Sort). o ∷ []) e in
-          let met = meets plugs chains nodes g.wires passes.no_clash i v v.to m t at refl to e (stands_apart m.kind s) in
-          let r = single_given plugs chains m.kind (known_kind plugs nodes passes.no_unknown v.to m to) s i t met (f plugs)
-          (subst (λ os. is_deep (attempt plugs chains m.kind os) ≡ false) comes (not_deep plugs chains nodes g.wires passes.no_deep v.to m to)) in
-          chain_takes plugs chains m.kind t r.type r.is
+    pub every_wire_typed : (i : ℕ) → i < length g.wires → HasTyped w (composed g w) i
+    every_wire_typed = all_by_rank rank (length g.wires) (HasTyped w (composed g w)) wire_gives
 
-      pub every_wire_carries : (i : ℕ) (v : Wire) → slice_get g.wires i ≡ Some v → CarriesType plugs chains nodes g w i v
-      every_wire_carries i v at =
-          let l = slice_get-below g.wires i v at in
-          let ends = ends_there nodes g.wires passes.no_missing i v at in
-          let u = (settles i l).type_of v at in
-          let e : wire_type plugs chains nodes g v ≡ Some (port_type (slice_get nodes v.from) v.output u.0) = ap (option_map (port_type (slice_get nodes v.from) v.output)) u.1 in
-          record {
-            type = port_type (slice_get nodes v.from) v.output u.0;
-            settles = e;
-            typed = (every_wire_typed i l).typed v at (port_type (slice_get nodes v.from) v.output u.0) e;
-            target = ends.1.node;
-            at = ends.1.is;
-            takes = target_takes i v ends.1.node (port_type (slice_get nodes v.from) v.output u.0) at ends.1.is e (is_joining ends.1.node.kind) refl;
-            steps = target_steps i v ends.1.node (port_type (slice_get nodes v.from) v.output u.0) at ends.1.is e (is_chained ends.1.node.kind);
-          }
+    -- the function at the end of a wire
+    target_takes : (i : ℕ) (v : Wire) (m : Node) (t : Sort) → slice_get g.wires i ≡ Some v → slice_get nodes v.to ≡ Some m → wire_type plugs chains nodes g v ≡ Some t → (b : Bool) → is_joining m.kind ≡ b → Takes (function_want plugs m.kind) t
+    target_takes i v m t at to e true j = joining_takes plugs chains m.kind t j
+    target_takes i v m t at to e false j = takes plugs chains m.kind i t (known_kind plugs chains nodes passes.no_unknown v.to m to) (meets plugs chains nodes g.wires passes.no_clash i v v.to m t at refl to e j)
+
+    -- the functions of the steps of its chain
+    target_steps : (i : ℕ) (v : Wire) (m : Node) (t : Sort) → slice_get g.wires i ≡ Some v → slice_get nodes v.to ≡ Some m → wire_type plugs chains nodes g v ≡ Some t → Chained m.kind → StepsTake plugs (chain_in chains m.kind) t
+    target_steps i v m t at to e (bare h) = h plugs chains t
+    target_steps i v m t at to e (chained s f) =
+        let one = one_input m.kind s in
+        let into = only_wire nodes g.wires passes.no_missing passes.no_twice passes.no_open i v m at to one in
+        let comes : arrivals nodes g.wires types v.to (count_from 0 (inputs_of m.kind)) ≡ Some t ∷ [] =
+        ap (λ k. arrivals nodes g.wires types v.to (count_from 0 k)) one ∙ ap (λ (o : Option Wire). type_on nodes g.wires types o ∷ []) into ∙ ap (λ (o : Option Sort). o ∷ []) e in
+        let met = meets plugs chains nodes g.wires passes.no_clash i v v.to m t at refl to e (stands_apart m.kind s) in
+        let r = single_given plugs chains m.kind (known_kind plugs chains nodes passes.no_unknown v.to m to) s i t met (f plugs)
+        (subst (λ os. is_deep (attempt plugs chains m.kind os) ≡ false) comes (not_deep plugs chains nodes g.wires passes.no_deep v.to m to)) in
+        chain_takes plugs chains m.kind t r.type r.is
+
+    pub every_wire_carries : (i : ℕ) (v : Wire) → slice_get g.wires i ≡ Some v → CarriesType plugs chains nodes g w i v
+    every_wire_carries i v at =
+        let l = slice_get-below g.wires i v at in
+        let ends = ends_there nodes g.wires passes.no_missing i v at in
+        let u = (every_wire_settles plugs chains nodes g rank ranked passes i l).type_of v at in
+        let e : wire_type plugs chains nodes g v ≡ Some (port_type (slice_get nodes v.from) v.output u.0) = ap (option_map (port_type (slice_get nodes v.from) v.output)) u.1 in
+        record {
+          type = port_type (slice_get nodes v.from) v.output u.0;
+          settles = e;
+          typed = (every_wire_typed i l).typed v at (port_type (slice_get nodes v.from) v.output u.0) e;
+          target = ends.1.node;
+          at = ends.1.is;
+          takes = target_takes i v ends.1.node (port_type (slice_get nodes v.from) v.output u.0) at ends.1.is e (is_joining ends.1.node.kind) refl;
+          steps = target_steps i v ends.1.node (port_type (slice_get nodes v.from) v.output u.0) at ends.1.is e (is_chained ends.1.node.kind);
+        }

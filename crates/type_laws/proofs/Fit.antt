@@ -22,7 +22,7 @@ none_mapped f (Some x) h = cc
 -- each group of rules
 record Groups (b : Blueprint) (plugs : List PlugHead) : Type 0 where
   ports : ports_fault b.nodes.items (blueprint_wires b) ≡ None
-  handed : plugs_fault plugs b.nodes.items ≡ None
+  handed : plugs_fault plugs b.chains.items b.nodes.items ≡ None
   sizes : sizes_fault b.chains.items b.nodes.items b.wires.items ≡ None
   types : types_fault plugs b.chains.items b.nodes.items (blueprint_wires b) ≡ None
 
@@ -33,10 +33,10 @@ groups b plugs taken fit =
     let ws = blueprint_wires b in
     let types = types_fault plugs chains nodes ws in
     let sizes = option_or (sizes_fault chains nodes b.wires.items) types in
-    let handed = option_or (plugs_fault plugs nodes) sizes in
+    let handed = option_or (plugs_fault plugs chains nodes) sizes in
     let one = none_parts (names_fault b.switches.items chains nodes b.wires.items taken) (option_or (ports_fault nodes ws) handed) fit.early in
     let two = none_parts (ports_fault nodes ws) handed one.1 in
-    let three = none_parts (plugs_fault plugs nodes) sizes two.1 in
+    let three = none_parts (plugs_fault plugs chains nodes) sizes two.1 in
     let four = none_parts (sizes_fault chains nodes b.wires.items) types three.1 in
     record { ports = two.0; handed = three.0; sizes = four.0; types = four.1 }
 
@@ -50,7 +50,7 @@ fit_passes b plugs taken g fit nodes_are wires_are chains_are =
     let of = groups b plugs taken fit in
     let ports = none_parts (option_map NoSuchPort (port_missing nodes ws)) (option_or (option_map PortTwice (port_twice ws)) (option_map (open_fault nodes) (port_open nodes ws))) of.ports in
     let more = none_parts (option_map PortTwice (port_twice ws)) (option_map (open_fault nodes) (port_open nodes ws)) ports.1 in
-    let handed = none_parts (option_map NoSuchPlug (unknown_plug plugs nodes)) (option_map PlugTwice (plug_twice plugs nodes)) of.handed in
+    let handed = none_parts (option_map NoSuchPlug (unknown_plug plugs chains nodes)) (option_map PlugTwice (plug_twice plugs nodes)) of.handed in
     let size = none_mapped BadSize (size_wrong chains nodes b.wires.items) of.sizes in
     let behind = none_parts (option_map at.Chain (chain_wrong chains)) (option_or (option_map at.Node (node_wrong nodes)) (option_map at.Wire (wire_wrong b.wires.items))) size in
     let size_of_node = none_parts (option_map at.Node (node_wrong nodes)) (option_map at.Wire (wire_wrong b.wires.items)) behind.1 in
@@ -58,7 +58,7 @@ fit_passes b plugs taken g fit nodes_are wires_are chains_are =
     record {
       nodes_are = nodes_are;
       chains_are = chains_are;
-      no_unknown = none_mapped NoSuchPlug (unknown_plug plugs nodes) handed.0;
+      no_unknown = none_mapped NoSuchPlug (unknown_plug plugs chains nodes) handed.0;
       no_missing = subst (λ vs. port_missing nodes vs ≡ None) back (none_mapped NoSuchPort (port_missing nodes ws) ports.0);
       no_twice = subst (λ vs. port_twice vs ≡ None) back (none_mapped PortTwice (port_twice ws) more.0);
       no_open = subst (λ vs. port_open nodes vs ≡ None) back (none_mapped (open_fault nodes) (port_open nodes ws) more.1);

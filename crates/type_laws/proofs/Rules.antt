@@ -14,11 +14,12 @@ use Rattle.blue_core.specs.declared.limit.TheConstants.{MAX_COUNT}
 use Rattle.stream_model.proofs.Compositions.{found_first}
 use Rattle.blue_core.specs.declared.blueprint.ChainDecl.{ChainDecl}
 use Rattle.blue_core.specs.declared.blueprint.Node.{Node}
+use Rattle.blue_core.specs.declared.blueprint.Step.{Step}
 use Rattle.plug_core.specs.declared.head.PlugHead.{PlugHead}
 use Rattle.blue_rules.specs.First.{first_from, when}
-use Rattle.std.specs.List.{list_any}
+use Rattle.std.specs.List.{list_any, list_all}
 use Rattle.elem_core.specs.Values.{same_text}
-use Rattle.blue_rules.specs.Names.{plug_of, unknown_plug_at, unknown_plug}
+use Rattle.blue_rules.specs.Names.{plug_of, unknown_plug_at, unknown_in_steps, unknown_in_chains, unknown_in_nodes, unknown_plug}
 use Rattle.blue_rules.specs.Ports.{OpenPort, lacks_output, lacks_input, is_number, port_missing, port_twice, port_open, open_input, open_output}
 use Rattle.blue_rules.specs.Rounds.{wire_into, settled, type_on, type_clash, too_deep, clash_with, clash_on, is_joining, unlike, clash_of, is_deep, attempt_at}
 use Rattle.blue_rules.specs.Sizes.{is_within, sizes_fit, node_wrong}
@@ -26,6 +27,7 @@ use Rattle.blue_rules.specs.StageTypes.{plug_named, stage_typed}
 use Rattle.blue_rules.specs.declared.typed.Clash.{Clash}
 use Rattle.blue_rules.specs.declared.typed.Typed.{Typed}
 use Rattle.blue_rules.specs.declared.want.Want.TheVariants.{Is}
+use Rattle.type_laws.specs.Checked.{HasKnownSteps}
 use Rattle.type_laws.specs.Kinds.{is_known, shape_of, joining}
 
 -- ---- of a first place that there is not
@@ -145,13 +147,37 @@ is_there : (b : Bool) (name : List ℕ) → when (not b) name ≡ None → b ≡
 is_there true name h = refl
 is_there false name h = cc
 
+kind_is_known : (plugs : List PlugHead) (q : Kind) → unknown_plug_at (map (λ (p : PlugHead). p.name) plugs) (plug_of q) ≡ None → is_known plugs q ≡ true
+kind_is_known plugs (Plug name) e = named_found name plugs (is_there (list_any (same_text name) (map (λ (p : PlugHead). p.name) plugs)) name e)
+kind_is_known plugs _ e = refl
+
 -- each node is of a kind that is known
-pub known_kind : (plugs : List PlugHead) (nodes : List Node) → unknown_plug plugs nodes ≡ None → (k : ℕ) (n : Node) → slice_get nodes k ≡ Some n → is_known plugs n.kind ≡ true
-known_kind plugs nodes h k n at = by_kind n.kind (nowhere (λ _ x. unknown_plug_at (map (λ (p : PlugHead). p.name) plugs) (plug_of x.kind)) nodes k n h at)
-  where
-    by_kind : (q : Kind) → unknown_plug_at (map (λ (p : PlugHead). p.name) plugs) (plug_of q) ≡ None → is_known plugs q ≡ true
-    by_kind (Plug name) e = named_found name plugs (is_there (list_any (same_text name) (map (λ (p : PlugHead). p.name) plugs)) name e)
-    by_kind _ e = refl
+pub known_kind : (plugs : List PlugHead) (chains : List ChainDecl) (nodes : List Node) → unknown_plug plugs chains nodes ≡ None → (k : ℕ) (n : Node) → slice_get nodes k ≡ Some n → is_known plugs n.kind ≡ true
+known_kind plugs chains nodes h k n at =
+    let names = map (λ (p : PlugHead). p.name) plugs in
+    kind_is_known plugs n.kind (nowhere (λ _ x. unknown_plug_at names (plug_of x.kind)) nodes k n (none_parts (unknown_in_chains names chains) (unknown_in_nodes names nodes) h).1 at)
+
+-- and so is each step of a chain
+steps_are_known : (plugs : List PlugHead) (n : ℕ) (steps : List Step) → first_from (λ _ (s : Step). unknown_plug_at (map (λ (p : PlugHead). p.name) plugs) (plug_of s.kind)) n steps ≡ None
+    → list_all (λ (s : Step). is_known plugs s.kind) steps ≡ true
+steps_are_known plugs n [] h = refl
+steps_are_known plugs n (s ∷ ss) h =
+    let at : ℕ → Step → Option (List ℕ) = λ _ t. unknown_plug_at (map (λ (p : PlugHead). p.name) plugs) (plug_of t.kind) in
+    let parts = none_parts (at n s) (first_from at (n + 1) ss) h in
+    rw (kind_is_known plugs s.kind parts.0, steps_are_known plugs (n + 1) ss parts.1) refl
+
+chains_are_known : (plugs : List PlugHead) (n : ℕ) (chains : List ChainDecl) → first_from (λ _ (c : ChainDecl). unknown_in_steps (map (λ (p : PlugHead). p.name) plugs) c.steps.items) n chains ≡ None
+    → list_all (λ (c : ChainDecl). list_all (λ (s : Step). is_known plugs s.kind) c.steps.items) chains ≡ true
+chains_are_known plugs n [] h = refl
+chains_are_known plugs n (c ∷ cs) h =
+    let at : ℕ → ChainDecl → Option (List ℕ) = λ _ d. unknown_in_steps (map (λ (p : PlugHead). p.name) plugs) d.steps.items in
+    let parts = none_parts (at n c) (first_from at (n + 1) cs) h in
+    rw (steps_are_known plugs 0 c.steps.items parts.0, chains_are_known plugs (n + 1) cs parts.1) refl
+
+pub known_steps : (plugs : List PlugHead) (chains : List ChainDecl) (nodes : List Node) → unknown_plug plugs chains nodes ≡ None → HasKnownSteps plugs chains
+known_steps plugs chains nodes h =
+    let names = map (λ (p : PlugHead). p.name) plugs in
+    record { all = chains_are_known plugs 0 chains (none_parts (unknown_in_chains names chains) (unknown_in_nodes names nodes) h).0 }
 
 -- ---- sizes
 

@@ -80,7 +80,7 @@ module _ (plugs : List PlugHead) (chains : List ChainDecl) (nodes : List Node) (
           let comes : arrivals nodes g.wires types v.from (count_from 0 (inputs_of n.kind)) ≡ Some i.type ∷ [] =
           ap (λ m. arrivals nodes g.wires types v.from (count_from 0 m)) one ∙ ap (λ (o : Option Sort). o ∷ []) i.comes in
           let met = meets plugs chains nodes g.wires passes.no_clash i.into.number i.into.wire v.from n i.type i.into.at i.into.to is i.on_wire (stands_apart n.kind s) in
-          single_fixes plugs chains n.kind (known_kind plugs nodes passes.no_unknown v.from n is) s i.into.number i.type met
+          single_fixes plugs chains n.kind (known_kind plugs chains nodes passes.no_unknown v.from n is) s i.into.number i.type met
           (subst (λ os. is_deep (attempt plugs chains n.kind os) ≡ false) comes (shallow v.from n is))
           (subst (λ os. fixes (attempt plugs chains n.kind os) ≡ None) comes (no_news v.from n is none))
 

@@ -50,7 +50,7 @@ unzip_by false _ o w h = cc
 
 -- ---- sources
 
-lines_typed : (l : List (List ℕ)) → AllTyped text_type (map text l)
+pub lines_typed : (l : List (List ℕ)) → AllTyped text_type (map text l)
 lines_typed [] = tt
 lines_typed (x ∷ l) = (tt, lines_typed l)
 

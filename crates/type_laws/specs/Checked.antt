@@ -29,7 +29,7 @@ plain_step s = record { work = unwrap_or (work_of s.kind) passing; decider = s.d
 abbrev pub plain_chain : ChainDecl → graph.Chain
 plain_chain c = record { name = c.name; steps = map plain_step c.steps.items }
 
--- a plug that a step of a chain names is handed in; no text of a blueprint has such a step
+-- a plug that a step of a chain names is handed in: so it is where the rule on plugs is not broken
 pub record HasKnownSteps (plugs : List PlugHead) (chains : List ChainDecl) : Type 0 where
   pub all : list_all (λ (c : ChainDecl). list_all (λ (s : Step). is_known plugs s.kind) c.steps.items) chains ≡ true
 
@@ -38,7 +38,7 @@ module _ (plugs : List PlugHead) (chains : List ChainDecl) (nodes : List Node) (
   pub record PassesRules : Type 0 where
     pub nodes_are : g.nodes ≡ map plain nodes
     pub chains_are : g.chains ≡ map plain_chain chains
-    pub no_unknown : unknown_plug plugs nodes ≡ None
+    pub no_unknown : unknown_plug plugs chains nodes ≡ None
     pub no_missing : port_missing nodes g.wires ≡ None
     pub no_twice : port_twice g.wires ≡ None
     pub no_open : port_open nodes g.wires ≡ None

@@ -23,7 +23,6 @@ ghost use Rattle.fused_net.specs.Net.{Net, wire_at};
 ghost use Rattle.nodes.specs.Nodes.{node_row, node_law};
 ghost use Rattle.nodes.specs.declared.node.Node as stage;
 ghost use Rattle.run_laws.specs.Made.{Materializes};
-ghost use Rattle.run_laws.specs.Telling.{Tells};
 ghost use Rattle.blue_core.specs.declared.blueprint.Blueprint.{Blueprint};
 ghost use Rattle.blue_core.specs.declared.blueprint.ChainDecl.{ChainDecl};
 ghost use Rattle.blue_core.specs.declared.blueprint.Node.{Node};
@@ -86,14 +85,14 @@ pub fn fit_blueprints_pass_the_rules()
 /// settled for each wire, only elements of that type may pass it, and the functions of the node to which it leads take that
 /// type: its own, and in a chain each what the steps before it give.
 pub fn every_list_is_typed()
-    ensures { (plugs : List PlugHead) (chains : List ChainDecl) (nodes : List Node) (g : Graph) (w : World) (rank : ℕ → ℕ) → PassesRules plugs chains nodes g → HasKnownSteps plugs chains → KeepsPlugTypes plugs w.book → IsRanked g rank
+    ensures { (plugs : List PlugHead) (chains : List ChainDecl) (nodes : List Node) (g : Graph) (w : World) (rank : ℕ → ℕ) → PassesRules plugs chains nodes g → KeepsPlugTypes plugs w.book → IsRanked g rank
         → (i : ℕ) (v : Wire) → slice_get g.wires i ≡ Some v → CarriesType plugs chains nodes g w i v }
 {}
 
 /// What was sent on each wire of an island that was made of such a graph, at any moment of its run, has only elements of the
-/// type that is settled for the wire.
+/// type that is settled for the wire, whatever the folder tells of its files.
 pub fn every_wire_carries_its_type<S: Source, D: Drain>()
     ensures { (plugs : List PlugHead) (chains : List ChainDecl) (nodes : List Node) (g : Graph) (w : World) (rank : ℕ → ℕ) (net : Net (stage.Node S D)) → Settled node_row (node_law S.state D.state) net
-        → Materializes S.state g net.firsts net.ends → Tells S.state g w net → PassesRules plugs chains nodes g → HasKnownSteps plugs chains → KeepsPlugTypes plugs w.book → IsRanked g rank
+        → Materializes S.state g net.firsts net.ends → PassesRules plugs chains nodes g → KeepsPlugTypes plugs w.book → IsRanked g rank
         → (i : ℕ) (v : Wire) → slice_get g.wires i ≡ Some v → SendsItsType plugs chains nodes g w i v (wire_at net i).wire.sent }
 {}

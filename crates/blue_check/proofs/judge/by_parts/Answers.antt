@@ -9,8 +9,8 @@ use Rattle.blue_check.proofs.judge.by_parts.Goals as goal
 
 pub returns-in-Some : goal.returns-in-Some
 returns-in-Some c =
-    judged_first (names_fault c.args.switches.now c.args.chains.now c.args.nodes.now c.args.wires.now c.args.taken.now) (option_or (ports_fault c.args.nodes.now (wires_of c.args.nodes.now c.args.wires.now)) (option_or (plugs_fault c.args.plugs.now c.args.nodes.now) (option_or (sizes_fault c.args.chains.now c.args.nodes.now c.args.wires.now) (types_fault c.args.plugs.now c.args.chains.now c.args.nodes.now (wires_of c.args.nodes.now c.args.wires.now))))) (wires_of c.args.nodes.now c.args.wires.now) c.in-Some.fault (sym c.in-Some.is ∙ c.in_ok-fault.ensures)
+    judged_first (names_fault c.args.switches.now c.args.chains.now c.args.nodes.now c.args.wires.now c.args.taken.now) (option_or (ports_fault c.args.nodes.now (wires_of c.args.nodes.now c.args.wires.now)) (option_or (plugs_fault c.args.plugs.now c.args.chains.now c.args.nodes.now) (option_or (sizes_fault c.args.chains.now c.args.nodes.now c.args.wires.now) (types_fault c.args.plugs.now c.args.chains.now c.args.nodes.now (wires_of c.args.nodes.now c.args.wires.now))))) (wires_of c.args.nodes.now c.args.wires.now) c.in-Some.fault (sym c.in-Some.is ∙ c.in_ok-fault.ensures)
 
 pub returns-in-None : goal.returns-in-None
 returns-in-None c =
-    answer_next (names_fault c.args.switches.now c.args.chains.now c.args.nodes.now c.args.wires.now c.args.taken.now) (option_or (ports_fault c.args.nodes.now (wires_of c.args.nodes.now c.args.wires.now)) (option_or (plugs_fault c.args.plugs.now c.args.nodes.now) (option_or (sizes_fault c.args.chains.now c.args.nodes.now c.args.wires.now) (types_fault c.args.plugs.now c.args.chains.now c.args.nodes.now (wires_of c.args.nodes.now c.args.wires.now))))) (wires_of c.args.nodes.now c.args.wires.now) c.by_wires.result (sym c.in-None.is ∙ c.in_ok-fault.ensures) c.by_wires.ensures
+    answer_next (names_fault c.args.switches.now c.args.chains.now c.args.nodes.now c.args.wires.now c.args.taken.now) (option_or (ports_fault c.args.nodes.now (wires_of c.args.nodes.now c.args.wires.now)) (option_or (plugs_fault c.args.plugs.now c.args.chains.now c.args.nodes.now) (option_or (sizes_fault c.args.chains.now c.args.nodes.now c.args.wires.now) (types_fault c.args.plugs.now c.args.chains.now c.args.nodes.now (wires_of c.args.nodes.now c.args.wires.now))))) (wires_of c.args.nodes.now c.args.wires.now) c.by_wires.result (sym c.in-None.is ∙ c.in_ok-fault.ensures) c.by_wires.ensures

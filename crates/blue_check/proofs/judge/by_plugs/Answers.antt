@@ -8,8 +8,8 @@ use Rattle.blue_check.proofs.judge.by_plugs.Goals as goal
 
 pub returns-in-Some : goal.returns-in-Some
 returns-in-Some c =
-    judged_first (plugs_fault c.args.plugs.now c.args.nodes.now) (option_or (sizes_fault c.args.chains.now c.args.nodes.now c.args.wires.now) (types_fault c.args.plugs.now c.args.chains.now c.args.nodes.now (wires_of_links c.args.links.now))) (wires_of_links c.args.links.now) c.in-Some.fault (sym c.in-Some.is ∙ c.in_ok-fault.ensures)
+    judged_first (plugs_fault c.args.plugs.now c.args.chains.now c.args.nodes.now) (option_or (sizes_fault c.args.chains.now c.args.nodes.now c.args.wires.now) (types_fault c.args.plugs.now c.args.chains.now c.args.nodes.now (wires_of_links c.args.links.now))) (wires_of_links c.args.links.now) c.in-Some.fault (sym c.in-Some.is ∙ c.in_ok-fault.ensures)
 
 pub returns-in-None : goal.returns-in-None
 returns-in-None c =
-    answer_next (plugs_fault c.args.plugs.now c.args.nodes.now) (option_or (sizes_fault c.args.chains.now c.args.nodes.now c.args.wires.now) (types_fault c.args.plugs.now c.args.chains.now c.args.nodes.now (wires_of_links c.args.links.now))) (wires_of_links c.args.links.now) c.by_sizes.result (sym c.in-None.is ∙ c.in_ok-fault.ensures) c.by_sizes.ensures
+    answer_next (plugs_fault c.args.plugs.now c.args.chains.now c.args.nodes.now) (option_or (sizes_fault c.args.chains.now c.args.nodes.now c.args.wires.now) (types_fault c.args.plugs.now c.args.chains.now c.args.nodes.now (wires_of_links c.args.links.now))) (wires_of_links c.args.links.now) c.by_sizes.result (sym c.in-None.is ∙ c.in_ok-fault.ensures) c.by_sizes.ensures

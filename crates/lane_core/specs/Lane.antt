@@ -112,8 +112,8 @@ abbrev pub informed : Sight → Sight → Sight
 informed v w = record v { told = w.items; told_number = w.number; told_cancel = w.cancel; told_finds = w.finds }
 
 -- a seat with the places that it holds, and a step
-abbrev pub SeatState : Type 0
-SeatState = Me (Option Item) Sight
+abbrev pub SeatView : Type 0
+SeatView = Me (Option Item) Sight
 
 abbrev pub TableStep : Type 0
 TableStep = Step (Option Item)
@@ -134,52 +134,52 @@ in_hand [] = []
 in_hand (p ∷ ps) = items_of p.1
 
 -- What each step makes of a seat m, with the word r that it found: the output end sits down on place 0.
-abbrev pub sat : TableStep → SeatState → ℕ → SeatState → Type 0
+abbrev pub sat : TableStep → SeatView → ℕ → SeatView → Type 0
 sat st m r n = n ≡ (record m.0 { slots = 1 }, (0, None) ∷ [])
 
 -- the output end looks at what was asked and cancelled, and counts what it finds new
-abbrev pub saw_asked : TableStep → SeatState → ℕ → SeatState → Type 0
+abbrev pub saw_asked : TableStep → SeatView → ℕ → SeatView → Type 0
 saw_asked st m r n =
     (n ≡ (record m.0 { number = r / 2; cancel = r % 2; finds = m.0.finds + is_new m.0.number m.0.cancel (r / 2) (r % 2); looks = m.0.looks + 1 }, m.1))
     × (m.0.number ≤ r / 2) × (m.0.cancel ≤ r % 2)
 
 -- it counts the item in hand as sent, lets its place go, and takes the next place where the item was no end
-abbrev pub sent_one : TableStep → SeatState → ℕ → SeatState → Type 0
+abbrev pub sent_one : TableStep → SeatView → ℕ → SeatView → Type 0
 sent_one st m r n = n ≡ (record m.0 { items = m.0.items ++ in_hand m.1; slots = elements (in_hand m.1) }, empty_hand (elements (in_hand m.1)) ((length m.0.items + 1) % st.slots))
 
 -- the input end looks how many were sent, lets the place of the item that it took last go, and takes the next item if there is one
-abbrev pub saw_sent : TableStep → SeatState → ℕ → SeatState → Type 0
+abbrev pub saw_sent : TableStep → SeatView → ℕ → SeatView → Type 0
 saw_sent st m r n =
     ((r ≡ length m.0.items) × (n ≡ (record m.0 { looks = m.0.looks + 1; slots = 0; known = r }, [])))
     ⊎ ((length m.0.items < r) × (((x : Item) × (n ≡ (record m.0 { items = m.0.items ++ x ∷ []; looks = m.0.looks + 1; slots = 1; known = r }, (length m.0.items % st.slots, Some x) ∷ []))) × (elements n.0.items ≤ m.0.number)))
 
 -- it asks once for more
-abbrev pub asked_more : TableStep → SeatState → ℕ → SeatState → Type 0
+abbrev pub asked_more : TableStep → SeatView → ℕ → SeatView → Type 0
 asked_more st m r n = n ≡ (record m.0 { number = m.0.number + st.first / 2; asks = m.0.asks + 1; slots = 0 }, [])
 
 -- it cancels
-abbrev pub cancelled : TableStep → SeatState → ℕ → SeatState → Type 0
+abbrev pub cancelled : TableStep → SeatView → ℕ → SeatView → Type 0
 cancelled st m r n = n ≡ (record m.0 { cancel = 1 }, m.1)
 
 -- what the other end said agrees with what this one knows
-abbrev pub compared : TableStep → SeatState → ℕ → SeatState → Type 0
+abbrev pub compared : TableStep → SeatView → ℕ → SeatView → Type 0
 compared st m r n =
     (n ≡ m)
     × (m.0.sends ≡ true → IsPrefix m.0.told m.0.items)
     × (m.0.gets ≡ true → (m.0.told_number ≤ m.0.number) × (m.0.told_cancel ≤ m.0.cancel) × (m.0.told_finds ≤ m.0.asks + m.0.cancel))
 
 -- the seat after an item was sent
-abbrev pub HasSent : ℕ → SeatState → Item → SeatState → Type 0
+abbrev pub HasSent : ℕ → SeatView → Item → SeatView → Type 0
 HasSent size m x n = n ≡ (record m.0 { items = m.0.items ++ x ∷ []; slots = weight x }, empty_hand (weight x) ((length m.0.items + 1) % (size + 1)))
 
 -- the seat after an item was taken
-abbrev pub HasTaken : ℕ → SeatState → Item → ℕ → SeatState → Type 0
+abbrev pub HasTaken : ℕ → SeatView → Item → ℕ → SeatView → Type 0
 HasTaken size m x r n = n ≡ (record m.0 { items = m.0.items ++ x ∷ []; looks = m.0.looks + 1; slots = 1; known = r }, (length m.0.items % (size + 1), None) ∷ [])
 
 -- the seat after a look that found nothing
-abbrev pub HasFound : SeatState → SeatState → Type 0
+abbrev pub HasFound : SeatView → SeatView → Type 0
 HasFound m n = n ≡ (record m.0 { looks = m.0.looks + 1; slots = 0; known = length m.0.items }, [])
 
 -- the output end's seat at the start
-abbrev pub first_out : SeatState
+abbrev pub first_out : SeatView
 first_out = (record (output_end both_ends) { slots = 1 }, (0, None) ∷ [])

@@ -1,6 +1,6 @@
 ghost use Rattle.std.specs.Prelude.{◌≡◌, ◌+◌, true, false, IfSome};
 ghost use Rattle.lane_core.specs.Lane.{elements, ends, weight};
-ghost use Rattle.lane_core.specs.Ends.{taken, asked, has_cancelled, has_ended, saw_cancel, out_lane, in_lane, AreOneLane, IsSameIn};
+ghost use Rattle.lane_core.specs.Ends.{taken, asked, has_cancelled, has_ended, saw_cancel, out_lane, in_lane, AreOneLane, IsSameIn, IsSameOut};
 
 use crate::lane::{lane, meet};
 use crate::lane_in::LaneIn;
@@ -34,7 +34,8 @@ fn elem(n: i64) -> Item
 
 // Whether that many are asked for and not sent.
 fn finds_room(out: &mut LaneOut, n: u64) -> bool
-    ensures { (has_ended out.new ≡ has_ended out.old) × (result ≡ true → saw_cancel out.new ≡ 0) }
+    ensures lane { IsSameOut out.old out.new × (has_ended out.new ≡ has_ended out.old) }
+    ensures room { result ≡ true → saw_cancel out.new ≡ 0 }
 {
     match out.room() {
         Room::Asked(m) => m == n,
@@ -45,7 +46,7 @@ fn finds_room(out: &mut LaneOut, n: u64) -> bool
 // Sends a number; false where it came back.
 fn send_number(out: &mut LaneOut, n: i64) -> bool
     requires { (has_ended out.old ≡ false) × (saw_cancel out.old ≡ 0) }
-    ensures { (has_ended out.new ≡ false) × (saw_cancel out.new ≡ 0) }
+    ensures { IsSameOut out.old out.new × (has_ended out.new ≡ false) × (saw_cancel out.new ≡ 0) }
 {
     match out.offer(elem(n)) {
         Ok(()) => true,

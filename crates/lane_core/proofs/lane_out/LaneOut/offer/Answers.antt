@@ -64,9 +64,9 @@ invariant_of-self-2-clause-seen_is c =
 pub invariant_of-self-2-clause-hand : goal.invariant_of-self-2-clause-hand
 invariant_of-self-2-clause-hand c =
     let o = c.args.self.now in
-    let unended : cond o.ended 0 1 ≡ 1 = ap (λ b. cond b 0 1) c.requires.0 in
     let l : length o.seat.me.0.items ≡ o.used + 0 = o.count.1 ∙ ap (λ b. o.used + cond b 1 0) c.requires.0 in
     let on : length o.seat.me.0.items + 1 ≡ o.used + 1 = omega (arith, l) in
+    let unended : cond o.ended 0 1 ≡ 1 = ap (λ b. cond b 0 1) c.requires.0 in
     let next = c.next_place-self.ensures o.used o.next in
     let hand = sent_hand o.size (cond o.ended 0 1) (o.used + 1) o.seat.me c.announce-2.new.seat.me c.args.item (has-2 c) (heavy c ∙ sym unended) on in
     (hand.0, hand.1 ∙ ap (empty_hand (cond o.ended 0 1)) (sym next))

@@ -1,5 +1,5 @@
 -- A node of an island, by its kind: each predicate cites that of the kind.
-use Rattle.std.specs.Prelude.{List, None, Some}
+use Rattle.std.specs.Prelude.{ℕ, List, [], None, Some, ⊤}
 use Rattle.elem_core.specs.declared.item.Item.{Item}
 use Rattle.port_core.specs.View.{View}
 use Rattle.stream_io.specs.State.{SourceState, DrainState}
@@ -41,6 +41,14 @@ node_law sources drains (State first) (State x) v took gave = StateLaw first x v
 node_law sources drains (Writing first) (Writing x) v took gave = SinkLaw drains first x v took gave
 node_law sources drains (Ignoring first) (Ignoring x) v took gave = IgnoreLaw first x v took gave
 node_law sources drains _ _ v took gave = ⊥
+
+-- what it knows of its ports whenever it has just asked: nothing more is told of these kinds
+abbrev pub node_asking : {S D : Type 0} → Node S D → View → Type 0
+node_asking x v = ⊤
+
+-- the moves that it has recorded: these kinds choose nothing
+abbrev pub node_moves : {S D : Type 0} → Node S D → List ℕ
+node_moves x = []
 
 -- what it leaves at the end
 abbrev pub node_end : {S D : Type 0} → Node S D → NodeEnd S D

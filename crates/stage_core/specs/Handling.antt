@@ -1,9 +1,12 @@
 -- What a stage owes at each call of a handler, whatever its kind is. Three things are told of a kind: what a stage that was
 -- not started may know of its ports (`fresh`); what one that was started may know of them between two calls (`row`, in the trait `rests`); and
--- what holds of the histories of its ports, by the stage as it was handed in and as it is now (`law`).
-use Rattle.std.specs.Prelude.{◌≡◌, ℕ, List, length}
+-- what holds of the histories of its ports, by the stage as it was handed in and as it is now (`law`). Two more are told of
+-- the moments at which it asks: what it knows of its ports whenever it has just asked (`asking`), and the moves that it has
+-- recorded, which only grow (`moves`).
+use Rattle.std.specs.Prelude.{◌≡◌, ℕ, List, [], ◌∷◌, length, ⊤}
 use Rattle.elem_core.specs.declared.item.Item.{Item}
 use Rattle.port_core.specs.declared.act.Act.{Act}
+use Rattle.port_core.specs.declared.act.Act.TheVariants.{Pull, Push, Complete, FailOut, Cancel}
 use Rattle.port_core.specs.View.{View, acted_all}
 use Rattle.port_core.specs.Call.{Call, starts, CallAllowed, seen, Obeys}
 use Rattle.port_core.specs.Asking.{AsksStand}
@@ -12,6 +15,19 @@ use Rattle.stage_core.specs.Histories.{given_all, brought_by, AllEmpty}
 -- the most actions that one call appends: two for each port of a stage with the most inputs or outputs, and one of the other
 abbrev pub most_acts : ℕ
 most_acts = 34
+
+-- some input is asked
+abbrev pub Pulls : List Act → Type 0
+Pulls [] = ⊥
+Pulls (Pull i ∷ acts) = ⊤
+Pulls (Push j e ∷ acts) = Pulls acts
+Pulls (Complete j ∷ acts) = Pulls acts
+Pulls (FailOut j c ∷ acts) = Pulls acts
+Pulls (Cancel i ∷ acts) = Pulls acts
+
+-- Wherever the call may come and `Before` holds, actions that ask some input leave `Asking` of what the stage knows once they are done.
+abbrev pub AsksAs : Call → (View → Type 0) → (View → Type 0) → List Act → Type 0
+AsksAs call Before Asking acts = (v : View) → CallAllowed call v → Before v → Pulls acts → Asking (acted_all (seen call v) acts)
 
 module _ {N : Type 0} (row : N → View → Type 0) (law : N → N → View → List (List Item) → List (List Item) → Type 0) where
   -- The stage was started: its actions obey the port rules, none of them cancels an input that an earlier one asked, and once they are done its row and its law hold.

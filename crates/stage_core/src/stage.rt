@@ -1,9 +1,10 @@
-ghost use Rattle.std.specs.Prelude.{◌≡◌, ◌≤◌, List, [], OnOk};
+ghost use Rattle.std.specs.Prelude.{◌≡◌, ◌≤◌, ℕ, List, [], OnOk};
+ghost use Rattle.elem_core.specs.Prefix.{IsPrefix};
 ghost use Rattle.elem_core.specs.declared.item.Item.{Item};
 ghost use Rattle.elem_core.specs.declared.item.Item.TheVariants as item;
 ghost use Rattle.port_core.specs.View.{View};
 ghost use Rattle.port_core.specs.Call.{Meets, starts, asks, brings, cancels};
-ghost use Rattle.stage_core.specs.Handling.{most_acts, Starts, Handles};
+ghost use Rattle.stage_core.specs.Handling.{most_acts, AsksAs, Starts, Handles};
 
 use elem_core::elem::Elem;
 use elem_core::why::{Cause, NoMemory};
@@ -14,7 +15,7 @@ use std::alloc::Global;
 pub const MOST_ACTS: u32 = 34;
 
 /// A node of a fused graph: a source, a stage or a sink. Each call is a handler; what it wants done at its ports it appends
-/// to `acts`, which is empty and has room. After `NoMemory` a stage is only dropped or taken apart. Rule: Akka Streams 2.6
+/// to `acts`, which is empty and has room. The moves that it has recorded are a log of its choices, which only grows. After `NoMemory` a stage is only dropped or taken apart. Rule: Akka Streams 2.6
 /// reference, chapter on custom stream processing.
 pub trait Stage: Drop {
     ghost fresh: { Self → View → Type 0 };
@@ -23,12 +24,18 @@ pub trait Stage: Drop {
 
     ghost law: { Self → Self → View → List (List Item) → List (List Item) → Type 0 };
 
+    ghost asking: { Self → View → Type 0 };
+
+    ghost moves: { Self → List ℕ };
+
     /// The run begins.
     fn start(&mut self, alloc: Global, acts: &mut Acts) -> Result<(), NoMemory>
         requires meets { Meets starts (fresh self.old) }
         requires empty { acts.old.items ≡ [] }
         requires room { most_acts ≤ acts.old.room }
         ensures starts { OnOk result (Starts rests law fresh self.old self.new acts.new.items) }
+        ensures asks { OnOk result (AsksAs starts (fresh self.old) (asking self.new) acts.new.items) }
+        ensures grows { OnOk result (IsPrefix (moves self.old) (moves self.new)) }
         ensures room { OnOk result (acts.new.room ≡ acts.old.room) };
 
     /// Output `port` was asked.
@@ -37,6 +44,8 @@ pub trait Stage: Drop {
         requires empty { acts.old.items ≡ [] }
         requires room { most_acts ≤ acts.old.room }
         ensures handles { OnOk result (Handles rests law (asks port) self.old self.new acts.new.items) }
+        ensures asks { OnOk result (AsksAs (asks port) (rests self.old) (asking self.new) acts.new.items) }
+        ensures grows { OnOk result (IsPrefix (moves self.old) (moves self.new)) }
         ensures room { OnOk result (acts.new.room ≡ acts.old.room) };
 
     /// An element came to input `port`.
@@ -45,6 +54,8 @@ pub trait Stage: Drop {
         requires empty { acts.old.items ≡ [] }
         requires room { most_acts ≤ acts.old.room }
         ensures handles { OnOk result (Handles rests law (brings port (item.Elem e)) self.old self.new acts.new.items) }
+        ensures asks { OnOk result (AsksAs (brings port (item.Elem e)) (rests self.old) (asking self.new) acts.new.items) }
+        ensures grows { OnOk result (IsPrefix (moves self.old) (moves self.new)) }
         ensures room { OnOk result (acts.new.room ≡ acts.old.room) };
 
     /// Input `port` has ended.
@@ -53,6 +64,8 @@ pub trait Stage: Drop {
         requires empty { acts.old.items ≡ [] }
         requires room { most_acts ≤ acts.old.room }
         ensures handles { OnOk result (Handles rests law (brings port item.Ended) self.old self.new acts.new.items) }
+        ensures asks { OnOk result (AsksAs (brings port item.Ended) (rests self.old) (asking self.new) acts.new.items) }
+        ensures grows { OnOk result (IsPrefix (moves self.old) (moves self.new)) }
         ensures room { OnOk result (acts.new.room ≡ acts.old.room) };
 
     /// Input `port` has failed.
@@ -67,6 +80,8 @@ pub trait Stage: Drop {
         requires empty { acts.old.items ≡ [] }
         requires room { most_acts ≤ acts.old.room }
         ensures handles { OnOk result (Handles rests law (brings port (item.Failed cause)) self.old self.new acts.new.items) }
+        ensures asks { OnOk result (AsksAs (brings port (item.Failed cause)) (rests self.old) (asking self.new) acts.new.items) }
+        ensures grows { OnOk result (IsPrefix (moves self.old) (moves self.new)) }
         ensures room { OnOk result (acts.new.room ≡ acts.old.room) };
 
     /// Output `port` was cancelled.
@@ -75,5 +90,7 @@ pub trait Stage: Drop {
         requires empty { acts.old.items ≡ [] }
         requires room { most_acts ≤ acts.old.room }
         ensures handles { OnOk result (Handles rests law (cancels port) self.old self.new acts.new.items) }
+        ensures asks { OnOk result (AsksAs (cancels port) (rests self.old) (asking self.new) acts.new.items) }
+        ensures grows { OnOk result (IsPrefix (moves self.old) (moves self.new)) }
         ensures room { OnOk result (acts.new.room ≡ acts.old.room) };
 }

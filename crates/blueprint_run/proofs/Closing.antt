@@ -32,11 +32,12 @@ use Rattle.stream_io.specs.Reading.{FirstTooLong}
 use Rattle.wire_core.specs.Cell.{Cell}
 use Rattle.wire_core.specs.Counts.{elements, spent, asks}
 use Rattle.port_core.specs.Ring.{holds}
-use Rattle.fused_net.specs.Net.{Net, no_wire, wire_at}
+use Rattle.wire_core.specs.Reading.{no_wire}
+use Rattle.fused_net.specs.Net.{Net, wire_at}
 use Rattle.fused_net.specs.Laws.{Settled}
 use Rattle.fused_net.specs.Costs.{sum_below, total}
 use Rattle.fused_net.proofs.Sums.{sum_le}
-use Rattle.nodes.specs.Nodes.{node_row, node_law}
+use Rattle.nodes.specs.Nodes.{node_row, node_law, node_asking, node_moves}
 use Rattle.nodes.specs.Drawing.{ended_lines}
 use Rattle.nodes.specs.Source.{Lines}
 use Rattle.nodes.specs.Sink.{Sink, StandsAs}
@@ -220,38 +221,38 @@ tells_node sources w n first now tells = tt
 
 module _ {S D : Type 0} (sources : S → SourceState) (drains : D → DrainState) where
   abbrev WroteLaw : Type 0
-  WroteLaw = (g : Graph) (net : Net (Node S D)) → Settled node_row (node_law sources drains) net → Materializes sources g net.firsts net.ends
+  WroteLaw = (g : Graph) (net : Net (Node S D)) → Settled node_row (node_law sources drains) node_asking node_moves net → Materializes sources g net.firsts net.ends
       → (k : ℕ) (n : graph.Node) (first now : Sink D) → slice_get g.nodes k ≡ Some n → IsSinkAt net k first now → SinkWrote sources drains g net k n first now
 
   abbrev SentLaw : Type 0
-  SentLaw = (g : Graph) (net : Net (Node S D)) → Settled node_row (node_law sources drains) net → Materializes sources g net.firsts net.ends
+  SentLaw = (g : Graph) (net : Net (Node S D)) → Settled node_row (node_law sources drains) node_asking node_moves net → Materializes sources g net.firsts net.ends
       → (k : ℕ) (n : graph.Node) (name : List ℕ) (first now : Sink D) (u : ℕ) (v : Wire) → slice_get g.nodes k ≡ Some n → n.kind ≡ kind.ToLines name → IsSinkAt net k first now → slice_get g.wires u ≡ Some v → v.to ≡ k
       → SentTo now.end (elements (wire_at net u).wire.sent) now.count
 
   abbrev RestLaw : Type 0
-  RestLaw = (g : Graph) (net : Net (Node S D)) → Settled node_row (node_law sources drains) net → Materializes sources g net.firsts net.ends
+  RestLaw = (g : Graph) (net : Net (Node S D)) → Settled node_row (node_law sources drains) node_asking node_moves net → Materializes sources g net.firsts net.ends
       → (k : ℕ) (n : graph.Node) (name : List ℕ) (first now : Sink D) (u : ℕ) (v : Wire) → slice_get g.nodes k ≡ Some n → n.kind ≡ kind.ToLines name → IsSinkAt net k first now → slice_get g.wires u ≡ Some v → v.to ≡ k
       → net.queue ≡ [] → now.end ≡ Unended → elements (wire_at net u).wire.sent ≡ now.count
 
   abbrev ReadsLaw : Type 0
-  ReadsLaw = (g : Graph) (net : Net (Node S D)) → Settled node_row (node_law sources drains) net → Materializes sources g net.firsts net.ends
+  ReadsLaw = (g : Graph) (net : Net (Node S D)) → Settled node_row (node_law sources drains) node_asking node_moves net → Materializes sources g net.firsts net.ends
       → (k : ℕ) (n : graph.Node) (first now : Lines S) (u : ℕ) (v : Wire) (bytes : List ℕ) → slice_get g.nodes k ≡ Some n → IsSourceAt net k first now → slice_get g.wires u ≡ Some v → v.from ≡ k
       → (sources first.reader.source).whole ≡ Some bytes → SentLines bytes (sources first.reader.source) (sources now.reader.source) (wire_at net u).wire.sent
 
   abbrev LawfulLaw : Type 0
-  LawfulLaw = (g : Graph) (w : World) (rank : ℕ → ℕ) (net : Net (Node S D)) → Settled node_row (node_law sources drains) net → Materializes sources g net.firsts net.ends
+  LawfulLaw = (g : Graph) (w : World) (rank : ℕ → ℕ) (net : Net (Node S D)) → Settled node_row (node_law sources drains) node_asking node_moves net → Materializes sources g net.firsts net.ends
       → Tells sources g w net → IsRanked g rank → IsLawful g w (counts_of net.wires) (composed g w)
 
   abbrev RestsLaw : Type 0
-  RestsLaw = (g : Graph) (w : World) (rank : ℕ → ℕ) (net : Net (Node S D)) → Settled node_row (node_law sources drains) net → net.queue ≡ [] → Materializes sources g net.firsts net.ends
+  RestsLaw = (g : Graph) (w : World) (rank : ℕ → ℕ) (net : Net (Node S D)) → Settled node_row (node_law sources drains) node_asking node_moves net → net.queue ≡ [] → Materializes sources g net.firsts net.ends
       → Tells sources g w net → IsRanked g rank → Rests g w (counts_of net.wires) (composed g w)
 
   abbrev MatchLaw : Type 0
-  MatchLaw = (g : Graph) (w : World) (net : Net (Node S D)) (outlook : ℕ → Outlook) → Settled node_row (node_law sources drains) net → net.queue ≡ [] → Materializes sources g net.firsts net.ends
+  MatchLaw = (g : Graph) (w : World) (net : Net (Node S D)) (outlook : ℕ → Outlook) → Settled node_row (node_law sources drains) node_asking node_moves net → net.queue ≡ [] → Materializes sources g net.firsts net.ends
       → SinksMatch g w (counts_of net.wires) outlook (ended_at net.nodes)
 
   abbrev AgreeLaw : Type 0
-  AgreeLaw = (g : Graph) (w : World) (rank : ℕ → ℕ) (net : Net (Node S D)) → Settled node_row (node_law sources drains) net → Materializes sources g net.firsts net.ends
+  AgreeLaw = (g : Graph) (w : World) (rank : ℕ → ℕ) (net : Net (Node S D)) → Settled node_row (node_law sources drains) node_asking node_moves net → Materializes sources g net.firsts net.ends
       → Tells sources g w net → IsRanked g rank → (i : ℕ) → i < length g.wires → AgreesWith (composed g w i) (wire_at net i).wire.sent
 
   abbrev TreesLaw : Type 0
@@ -259,11 +260,11 @@ module _ {S D : Type 0} (sources : S → SourceState) (drains : D → DrainState
       → (i : ℕ) (v : Wire) (n : graph.Node) → slice_get g.wires i ≡ Some v → slice_get g.nodes v.to ≡ Some n → oneway.is_sink n.kind ≡ true → ended v.to ≡ true
 
   abbrev IgnorerThere : Type 0
-  IgnorerThere = (g : Graph) (net : Net (Node S D)) → Settled node_row (node_law sources drains) net → Materializes sources g net.firsts net.ends
+  IgnorerThere = (g : Graph) (net : Net (Node S D)) → Settled node_row (node_law sources drains) node_asking node_moves net → Materializes sources g net.firsts net.ends
       → (k : ℕ) (n : graph.Node) → slice_get g.nodes k ≡ Some n → n.kind ≡ kind.Ignore → (first : Ignorer) × ((now : Ignorer) × IsIgnorerAt net k first now)
 
   abbrev IgnoresLaw : Type 0
-  IgnoresLaw = (g : Graph) (w : World) (rank : ℕ → ℕ) (net : Net (Node S D)) → Settled node_row (node_law sources drains) net → Materializes sources g net.firsts net.ends → Tells sources g w net → IsRanked g rank
+  IgnoresLaw = (g : Graph) (w : World) (rank : ℕ → ℕ) (net : Net (Node S D)) → Settled node_row (node_law sources drains) node_asking node_moves net → Materializes sources g net.firsts net.ends → Tells sources g w net → IsRanked g rank
       → (k : ℕ) (n : graph.Node) (first now : Ignorer) (u : ℕ) (v : Wire) → slice_get g.nodes k ≡ Some n → IsIgnorerAt net k first now → slice_get g.wires u ≡ Some v → v.to ≡ k
       → IgnoreTells (sink_outlook g w k n) now.end (elements (wire_at net u).wire.sent)
 

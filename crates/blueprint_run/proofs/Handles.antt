@@ -15,7 +15,7 @@ use Rattle.fused_net.specs.declared.net.Ends.{Ends}
 use Rattle.fused_net.specs.Net.{Net, view_of, took, gave}
 use Rattle.fused_net.specs.Laws.{Settled}
 use Rattle.nodes.specs.Kinds.{IsFileSink}
-use Rattle.nodes.specs.Nodes.{node_row, node_law}
+use Rattle.nodes.specs.Nodes.{node_row, node_law, node_asking, node_moves}
 use Rattle.nodes.specs.Source.{Lines, LinesLaw}
 use Rattle.nodes.specs.Sink.{Sink, SinkLaw}
 use Rattle.nodes.specs.declared.node.Node.{Node}
@@ -69,11 +69,11 @@ module _ {S D : Type 0} (sources : S → SourceState) (drains : D → DrainState
       → (k : ℕ) (n : blue.Node) (name : List ℕ) → slice_get nodes k ≡ Some n → output_of n.kind ≡ Some name → WritesFile (outputs_of_nodes nodes) ds firsts k name
 
   abbrev pub SourceThere : Type 0
-  SourceThere = (g : Graph) (net : Net (Node S D)) → Settled node_row (node_law sources drains) net → Materializes sources g net.firsts net.ends
+  SourceThere = (g : Graph) (net : Net (Node S D)) → Settled node_row (node_law sources drains) node_asking node_moves net → Materializes sources g net.firsts net.ends
       → (k : ℕ) (n : graph.Node) (name : List ℕ) → slice_get g.nodes k ≡ Some n → n.kind ≡ kind.Lines name → (first : Lines S) × ((now : Lines S) × IsSourceAt net k first now)
 
   abbrev pub SinkThere : Type 0
-  SinkThere = (g : Graph) (net : Net (Node S D)) → Settled node_row (node_law sources drains) net → Materializes sources g net.firsts net.ends
+  SinkThere = (g : Graph) (net : Net (Node S D)) → Settled node_row (node_law sources drains) node_asking node_moves net → Materializes sources g net.firsts net.ends
       → (k : ℕ) (n : graph.Node) → slice_get g.nodes k ≡ Some n → IsFileSink n.kind → (first : Sink D) × ((now : Sink D) × IsSinkAt net k first now)
 
   pub record HandleLaws : Type 0 where

@@ -14,7 +14,7 @@ use Rattle.port_core.specs.Joint.{Joint, idle, asking, asked, moving, ending, cl
 use Rattle.wire_core.specs.Cell.{Cell}
 use Rattle.wire_core.specs.Counts.{elements, ready_bit, free_bit, spent, asks}
 use Rattle.wire_core.proofs.Counting.{elements_elem}
-use Rattle.fused_net.specs.Net.{no_wire}
+use Rattle.wire_core.specs.Reading.{no_wire}
 use Rattle.fused_net.specs.Costs.{sum_below}
 use Rattle.fused_net.proofs.Sums.{sum_le}
 use Rattle.run_laws.specs.Agreeing.{AgreesWith}

@@ -4,7 +4,7 @@ use Rattle.blue_core.specs.declared.blueprint.Blueprint.{Blueprint}
 use Rattle.stream_model.specs.declared.outcome.WireCount.{WireCount}
 use Rattle.stream_io.specs.State.{SourceState, DrainState}
 use Rattle.nodes.specs.declared.node.Node.{Node}
-use Rattle.nodes.specs.Nodes.{node_row, node_law}
+use Rattle.nodes.specs.Nodes.{node_row, node_law, node_asking, node_moves}
 use Rattle.fused_net.specs.Net.{Net}
 use Rattle.fused_net.specs.Laws.{Settled}
 use Rattle.fused_net.specs.Costs.{total, all_asks}
@@ -20,7 +20,7 @@ use Rattle.blueprint_run.specs.declared.run.Stopped.{Stopped}
 -- outputs, and no more than what all wires have cost.
 pub record Stops {S D : Type 0} (sources : S → SourceState) (drains : D → DrainState) (places : List (Seated S D)) (links : List Link) (budget : ℕ) (s : Stopped S D) : Type 0 where
   pub net : Net (Node S D)
-  pub settled : Settled node_row (node_law sources drains) net
+  pub settled : Settled node_row (node_law sources drains) node_asking node_moves net
   pub firsts : AllBecome places net.firsts
   pub ends : net.ends ≡ map ends_of links
   pub sinks : s.end.sinks.items ≡ sinks_of net.nodes

@@ -22,8 +22,9 @@ use Rattle.wire_core.specs.Marks.{IsMarked}
 use Rattle.wire_core.proofs.Marking.{pull_marked, push_marked, close_marked, cancel_marked}
 use Rattle.wire_core.specs.Counts.{asks}
 use Rattle.fused_net.specs.PortLists.{PortLists}
-use Rattle.fused_net.specs.Net.{Net, no_wire, read_all, inp_of, out_of, got_of, sent_of, wire_at, ports_at, view_of, took, gave, wire_for, HasPort, acted, acted_all, Able}
-use Rattle.fused_net.specs.Laws.{AnyRow, AnyLaw, Wired, Minds, IsMinded, AllAsked, Settled, Busy}
+use Rattle.wire_core.specs.Reading.{no_wire, inp_of, out_of, got_of, sent_of}
+use Rattle.fused_net.specs.Net.{Net, read_all, wire_at, ports_at, view_of, took, gave, wire_for, HasPort, acted, acted_all, Able}
+use Rattle.fused_net.specs.Laws.{AnyRow, AnyLaw, Wired, Minds, IsMinded, AllAsked, AllMoments, Settled, Busy}
 use Rattle.fused_net.specs.Costs.{all_asks}
 use Rattle.fused_net.proofs.Reading.{same_or_not, read_at, port_there, get_there}
 use Rattle.fused_net.proofs.Sums.{sum_has}
@@ -170,14 +171,15 @@ module _ {N : Type 0} (row : N → View → Type 0) (law : N → N → View → 
       }
 
   -- nothing is left to do
-  pub settled : (net : Net N) (n : ℕ) → Busy row law net n [] → AllAsked row law net → Settled row law net
-  settled net n busy asked = record {
+  pub settled : (asking : N → View → Type 0) (moves : N → List ℕ) (net : Net N) (n : ℕ) → Busy row law net n [] → AllAsked row law asking moves net → AllMoments row law asking moves net → Settled row law asking moves net
+  settled asking moves net n busy asked moments = record {
     wired = busy.wired;
     each_first = busy.each_first;
     sound = busy.sound;
     marked = busy.marked;
     minded = λ k hk. elim (same_or_not k n) [ inl same ↦ rw same busy.here | inr other ↦ busy.others k hk other ];
     asked = asked;
+    moments = moments;
   }
 
   -- in a loop over the actions
@@ -195,8 +197,9 @@ module _ {N : Type 0} (row : N → View → Type 0) (law : N → N → View → 
   acts_busy [] net n busy = busy
   acts_busy (a ∷ acts) net n busy = acts_busy acts (acted net n a) n (acted_busy net n a acts busy)
 
-  pub acts_settled : (net : Net N) (n : ℕ) (acts : List Act) → Busy row law net n acts → AllAsked row law (acted_all net n acts) → Settled row law (acted_all net n acts)
-  acts_settled net n acts busy asked = settled (acted_all net n acts) n (acts_busy acts net n busy) asked
+  pub acts_settled : (asking : N → View → Type 0) (moves : N → List ℕ) (net : Net N) (n : ℕ) (acts : List Act) → Busy row law net n acts → AllAsked row law asking moves (acted_all net n acts) → AllMoments row law asking moves (acted_all net n acts)
+      → Settled row law asking moves (acted_all net n acts)
+  acts_settled asking moves net n acts busy asked moments = settled asking moves (acted_all net n acts) n (acts_busy acts net n busy) asked moments
 
 -- where node n may act, what holds of it and of another node goes on by any row and law
 module _ {N : Type 0} (row : N → View → Type 0) (law : N → N → View → List (List Item) → List (List Item) → Type 0) where

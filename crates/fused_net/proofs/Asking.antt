@@ -2,7 +2,7 @@
 use Rattle.std.proofs.Common.{◌≡◌, ◌≢◌, ◌⊎◌, inl, inr, ℕ, zero, suc, ◌+◌, ◌<◌, ◌≤◌, Bool, true, false, None, Some, List, [], ◌∷◌, length, slice_get, refl, sym, ap, ◌∙◌, subst, arith, length-append, get_or-set_same, get_or-set_other}
 use Rattle.std.proofs.lemmas.List.{length-set}
 use Rattle.elem_core.specs.Prefix.{IsPrefix}
-use Rattle.elem_core.proofs.Prefixes.{prefix_length, prefix_whole}
+use Rattle.elem_core.proofs.Prefixes.{prefix_refl, prefix_trans, prefix_length, prefix_whole}
 use Rattle.elem_core.specs.declared.item.Item.{Item}
 use Rattle.elem_core.specs.declared.item.Item.TheVariants as item
 use Rattle.port_core.specs.Asking.{NoCancel, AsksStand}
@@ -11,6 +11,7 @@ use Rattle.port_core.specs.Decoding.{can_pull}
 use Rattle.port_core.specs.Wire.{Wire, Delivery, nothing, ask, refusal, brought, after_delivery, again}
 use Rattle.port_core.specs.Joint.{Joint, idle, asking, asked, moving, ending, closing, leaving, finished, parted, refused, wire_of, IsSound}
 use Rattle.port_core.specs.View.{View}
+use Rattle.port_core.specs.View as view
 use Rattle.port_core.specs.declared.act.Act.{Act}
 use Rattle.port_core.specs.declared.act.Act.TheVariants.{Pull, Push, Complete, FailOut, Cancel}
 use Rattle.port_core.specs.declared.view.InView.TheVariants.{Idle, Waiting}
@@ -18,10 +19,12 @@ use Rattle.port_core.specs.declared.view.OutView.TheVariants.{Asked}
 use Rattle.wire_core.specs.Cell.{Cell, moved_by}
 use Rattle.wire_core.specs.Marks.{wants, IsMarked, wanted, Grown}
 use Rattle.wire_core.proofs.Marking.{pull_grown, push_grown, close_grown, cancel_grown, push_wanted, close_wanted, deliver_grown, deliver_wanted, grown_same, grown_trans}
+use Rattle.stage_core.specs.Handling.{Pulls}
 use Rattle.fused_net.specs.PortLists.{PortLists}
-use Rattle.fused_net.specs.Net.{Net, no_wire, end_at, port_at, wire_at, ports_at, wire_for, target, put, acted, acted_all, told_by, told, with_node, before}
-use Rattle.fused_net.specs.Laws.{AnyRow, AnyLaw, Wired, GoesOn, NodeStays, IsMinded, LastAsk, AllAsked, Busy}
-use Rattle.fused_net.proofs.Reading.{same_or_not, get_there, get_set_other}
+use Rattle.wire_core.specs.Reading.{no_wire}
+use Rattle.fused_net.specs.Net.{Net, end_at, port_at, wire_at, ports_at, view_of, wire_for, target, put, acted, acted_all, told_by, told, with_node, before}
+use Rattle.fused_net.specs.Laws.{AnyRow, AnyLaw, Wired, GoesOn, NodeStays, IsAsking, MovesGrow, IsMinded, LastAsk, AllAsked, Busy}
+use Rattle.fused_net.proofs.Reading.{same_or_not, some_same, get_there, get_within, get_set_same, get_set_other}
 use Rattle.fused_net.proofs.Ongoing.{goes_same, goes_trans, goes_put, goes_node}
 use Rattle.fused_net.proofs.Acting.{Fits, PortAt, fits, act_allowed, port_within, queued, acted_busy, acts_busy, acts_here}
 
@@ -62,47 +65,55 @@ not_come : (w : Wire) (q : Bool) → IsSound w q → w.inp ≡ Waiting → w.con
 not_come w q h i t o =
     unasked_j h.joint w.sent w.got (sym (ap (λ (v : Wire). v.inp) h.is) ∙ i) (sym (ap (λ (v : Wire). v.conn.step) h.is) ∙ t) (sym (ap (λ (v : Wire). v.out) h.is) ∙ o)
 
-move_grown : (a : Act) (c : Cell) → Fits a c.wire → IsMarked c → Grown c (moved_by a c)
+pub move_grown : (a : Act) (c : Cell) → Fits a c.wire → IsMarked c → Grown c (moved_by a c)
 move_grown (Pull i) c f m = pull_grown c.wire c.asked
 move_grown (Push j x) c f m = push_grown x c.wire c.asked (m.known f)
 move_grown (Complete j) c f m = close_grown None c.wire c.asked
 move_grown (FailOut j d) c f m = close_grown (Some d) c.wire c.asked
 move_grown (Cancel i) c f m = cancel_grown c.wire c.asked
 
--- the ask of this wire was made by the actions so far, is on its way, and those still to do leave it
-pub record AsksAt (p : PortLists) (acts : List Act) (w : ℕ) (c : Cell) : Type 0 where
+-- the ask of this wire was made by the actions so far, is on its way, and those still to do leave it; P is what a stage tells as it asks
+pub record AsksAt (p : PortLists) (acts : List Act) (w : ℕ) (c : Cell) (P : Type 0) : Type 0 where
   pub port : ℕ
   pub at : slice_get p.ins port ≡ Some w
   pub waits : c.wire.inp ≡ Waiting
   pub step : c.wire.conn.step ≡ pulled
   pub kept : NoCancel port acts
+  pub tells : P
 
 -- a port has one wire, and a wire one port
 abbrev Once : PortLists → ℕ → Type 0
 Once p w = (i k : ℕ) → slice_get p.ins i ≡ Some w → slice_get p.ins k ≡ Some w → i ≡ k
 
 pull_here : (i : ℕ) (acts : List Act) (p : PortLists) (w : ℕ) (c : Cell) (t : Bool) → can_pull c.wire.conn ≡ t → slice_get p.ins i ≡ Some w → c.wire.inp ≡ Idle → NoCancel i acts
-    → (L : Type 0) → (1 ≤ wanted c → L ⊎ AsksAt p (Pull i ∷ acts) w c) → 1 ≤ wanted (moved_by (Pull i) c) → ((wanted (moved_by (Pull i) c) ≡ wanted c) × L) ⊎ AsksAt p acts w (moved_by (Pull i) c)
-pull_here i acts p w c true e at f stands L before some = inr (record { port = i; at = at; waits = refl; step = rw e refl; kept = stands })
-pull_here i acts p w c false e at f stands L before some =
+    → (L P : Type 0) → P → (1 ≤ wanted c → L ⊎ AsksAt p (Pull i ∷ acts) w c P) → 1 ≤ wanted (moved_by (Pull i) c) → ((wanted (moved_by (Pull i) c) ≡ wanted c) × L) ⊎ AsksAt p acts w (moved_by (Pull i) c) P
+pull_here i acts p w c true e at f stands L P tells before some = inr (record { port = i; at = at; waits = refl; step = rw e refl; kept = stands; tells = tells })
+pull_here i acts p w c false e at f stands L P tells before some =
     let same : wanted (moved_by (Pull i) c) ≡ wanted c = rw e refl in
     elim (before (subst (λ (n : ℕ). 1 ≤ n) same some)) [ inl l ↦ inl (same, l) | inr k ↦ let x = k.waits in cc ]
 
 -- an action at the wire leaves its last ask, or is a new one
 acted_here : (a : Act) (acts : List Act) (p : PortLists) (w : ℕ) (c : Cell) (q : Bool) → PortAt a p w → Fits a c.wire → IsSound c.wire q → IsMarked c → AsksStand (a ∷ acts) → Once p w
-    → (L : Type 0) → (1 ≤ wanted c → L ⊎ AsksAt p (a ∷ acts) w c) → 1 ≤ wanted (moved_by a c) → ((wanted (moved_by a c) ≡ wanted c) × L) ⊎ AsksAt p acts w (moved_by a c)
-acted_here (Pull i) acts p w c q at f s m stands once L before some = pull_here i acts p w c (can_pull c.wire.conn) refl at f stands.0 L before some
-acted_here (Push j x) acts p w c q at f s m stands once L before some =
+    → (L P : Type 0) → (Pulls (a ∷ acts) → P) → (1 ≤ wanted c → L ⊎ AsksAt p (a ∷ acts) w c P) → 1 ≤ wanted (moved_by a c) → ((wanted (moved_by a c) ≡ wanted c) × L) ⊎ AsksAt p acts w (moved_by a c) P
+acted_here (Pull i) acts p w c q at f s m stands once L P tells before some = pull_here i acts p w c (can_pull c.wire.conn) refl at f stands.0 L P (tells tt) before some
+acted_here (Push j x) acts p w c q at f s m stands once L P tells before some =
     let same : wanted (moved_by (Push j x) c) ≡ wanted c = push_wanted x c.wire c.asked (m.known f) in
     elim (before (subst (λ (n : ℕ). 1 ≤ n) same some)) [ inl l ↦ inl (same, l) | inr k ↦ absurd (not_come c.wire q s k.waits k.step f) ]
-acted_here (Complete j) acts p w c q at f s m stands once L before some =
+acted_here (Complete j) acts p w c q at f s m stands once L P tells before some =
     let same : wanted (moved_by (Complete j) c) ≡ wanted c = close_wanted None c.wire c.asked in
-    elim (before (subst (λ (n : ℕ). 1 ≤ n) same some)) [ inl l ↦ inl (same, l) | inr k ↦ inr (record { port = k.port; at = k.at; waits = k.waits; step = k.step; kept = k.kept }) ]
-acted_here (FailOut j d) acts p w c q at f s m stands once L before some =
+    elim (before (subst (λ (n : ℕ). 1 ≤ n) same some)) [ inl l ↦ inl (same, l) | inr k ↦ inr (record { port = k.port; at = k.at; waits = k.waits; step = k.step; kept = k.kept; tells = k.tells }) ]
+acted_here (FailOut j d) acts p w c q at f s m stands once L P tells before some =
     let same : wanted (moved_by (FailOut j d) c) ≡ wanted c = close_wanted (Some d) c.wire c.asked in
-    elim (before (subst (λ (n : ℕ). 1 ≤ n) same some)) [ inl l ↦ inl (same, l) | inr k ↦ inr (record { port = k.port; at = k.at; waits = k.waits; step = k.step; kept = k.kept }) ]
-acted_here (Cancel i) acts p w c q at f s m stands once L before some =
+    elim (before (subst (λ (n : ℕ). 1 ≤ n) same some)) [ inl l ↦ inl (same, l) | inr k ↦ inr (record { port = k.port; at = k.at; waits = k.waits; step = k.step; kept = k.kept; tells = k.tells }) ]
+acted_here (Cancel i) acts p w c q at f s m stands once L P tells before some =
     elim (before some) [ inl l ↦ inl (refl, l) | inr k ↦ absurd (k.kept.0 (once i k.port at k.at)) ]
+
+still_pulls : (a : Act) (acts : List Act) → Pulls acts → Pulls (a ∷ acts)
+still_pulls (Pull k) acts h = tt
+still_pulls (Push j x) acts h = h
+still_pulls (Complete j) acts h = h
+still_pulls (FailOut j d) acts h = h
+still_pulls (Cancel k) acts h = h
 
 still_kept : (a : Act) (acts : List Act) (i : ℕ) → NoCancel i (a ∷ acts) → NoCancel i acts
 still_kept (Pull k) acts i h = h
@@ -145,13 +156,13 @@ module _ {N : Type 0} where
 
   -- ---- an event
 
-  goes_told : (net : Net N) (w : ℕ) (d : Delivery) → GoesOn (before net w) (told net w d)
+  pub goes_told : (net : Net N) (w : ℕ) (d : Delivery) → GoesOn (before net w) (told net w d)
   goes_told net w d = record { firsts = refl; ends = refl; ports = refl; nodes = refl; wires = length-set _ _ _ }
 
-  told_grown : (net : Net N) (w : ℕ) (d : Delivery) → w < length net.wires → (u : ℕ) → Grown (wire_at net u) (wire_at (told net w d) u)
+  pub told_grown : (net : Net N) (w : ℕ) (d : Delivery) → w < length net.wires → (u : ℕ) → Grown (wire_at net u) (wire_at (told net w d) u)
   told_grown net w d h = grown_put net w (told_by d (wire_at net w)) (again d) h (deliver_grown d (wire_at net w).wire (wire_at net w).asked)
 
-  told_wanted : (net : Net N) (w : ℕ) (d : Delivery) → w < length net.wires → (u : ℕ) → wanted (wire_at (told net w d) u) ≡ wanted (wire_at net u)
+  pub told_wanted : (net : Net N) (w : ℕ) (d : Delivery) → w < length net.wires → (u : ℕ) → wanted (wire_at (told net w d) u) ≡ wanted (wire_at net u)
   told_wanted net w d h u = elim (same_or_not u w) [
     | inl e ↦ rw e (ap (λ (c : Cell). wanted c) (get_or-set_same net.wires w (told_by d (wire_at net w)) no_wire h) ∙ deliver_wanted d (wire_at net w).wire (wire_at net w).asked)
     | inr ne ↦ ap (λ (c : Cell). wanted c) (get_or-set_other net.wires w u (told_by d (wire_at net w)) no_wire ne)
@@ -171,17 +182,52 @@ module _ {N : Type 0} where
       let more_got = brought_longer x more (wire_at net w).wire in
       omega (arith, longer, more_got)
 
+  -- the moves grow where the nodes stay, over two stretches, and where a node is replaced by one whose moves begin with its own
+  pub moves_same : (moves : N → List ℕ) (a b : Net N) → b.nodes ≡ a.nodes → MovesGrow moves a b
+  moves_same moves a b same k x y xk yk = let at : x ≡ y = some_same x y (sym xk ∙ (ap (λ (l : List N). slice_get l k) (sym same) ∙ yk)) in rw at (prefix_refl (moves y))
+
+  pub moves_trans : (moves : N → List ℕ) (a b c : Net N) → GoesOn a b → MovesGrow moves a b → MovesGrow moves b c → MovesGrow moves a c
+  moves_trans moves a b c on f g k x z xk zk =
+      let within : k < length b.nodes = let n = on.nodes in let h = get_within a.nodes k x xk in omega (arith, n, h) in
+      let y = get_there b.nodes k within in
+      prefix_trans (f k x y.0 xk y.1) (g k y.0 z y.1 zk)
+
+  pub moves_node : (moves : N → List ℕ) (net : Net N) (n : ℕ) (y : N) → n < length net.nodes → ((x : N) → slice_get net.nodes n ≡ Some x → IsPrefix (moves x) (moves y)) → MovesGrow moves net (with_node net n y)
+  moves_node moves net n y h grows k x z xk zk = elim (same_or_not k n) [
+    | inl e ↦
+        let here : slice_get net.nodes n ≡ Some x = rw e at xk in
+        let there : slice_get (with_node net n y).nodes n ≡ Some z = rw e at zk in
+        let same : y ≡ z = some_same y z (sym (get_set_same net.nodes n y h) ∙ there) in
+        rw same at (grows x here)
+    | inr ne ↦
+        let same : x ≡ z = some_same x z (sym xk ∙ (sym (get_set_other net.nodes n k y ne) ∙ zk)) in
+        rw same (prefix_refl (moves z))
+  ]
+
+  pub moves_from : (moves : N → List ℕ) (net v : Net N) (n : ℕ) (y : N) → v.nodes ≡ net.nodes → MovesGrow moves v (with_node v n y) → MovesGrow moves net (with_node v n y)
+  moves_from moves net v n y same moved k x z xk zk = moved k x z (ap (λ (l : List N). slice_get l k) same ∙ xk) zk
+
+  -- what a stage tells as it asks holds of the graph once its actions are done
+  pub asking_kept : (tells : N → View → Type 0) (net : Net N) (n : ℕ) (acts : List Act) → Busy AnyRow AnyLaw net n acts → ((x : N) → slice_get net.nodes n ≡ Some x → tells x (view.acted_all (view_of net n) acts)) → IsAsking tells (acted_all net n acts) n
+  asking_kept tells net n acts busy known x at =
+      let ends = acts_busy AnyRow AnyLaw acts net n busy in
+      let held : IsMinded tells AnyLaw net n acts = λ y first yi fi. record { allowed = (busy.here y first yi fi).allowed; row_holds = known y yi; law_holds = tt } in
+      let done = acts_here tells AnyLaw acts net n busy held in
+      let first = get_there (acted_all net n acts).firsts n (rw ends.each_first ends.within) in
+      (done x first.0 at first.1).row_holds
+
   -- another node stands in the place of node n
   node_elsewhere : (net : Net N) (n k : ℕ) (y : N) → (k ≡ n → ⊥) → slice_get (with_node net n y).nodes k ≡ slice_get net.nodes k
   node_elsewhere net n k y ne = get_set_other net.nodes n k y ne
 
-module _ {N : Type 0} (row : N → View → Type 0) (law : N → N → View → List (List Item) → List (List Item) → Type 0) where
+module _ {N : Type 0} (row : N → View → Type 0) (law : N → N → View → List (List Item) → List (List Item) → Type 0) (asking : N → View → Type 0) (moves : N → List ℕ) where
   -- the last ask stays the last one where the graph goes on and the wire is not asked again
-  pub later : (net new : Net N) (w : ℕ) → w < length net.wires → GoesOn net new → ((u : ℕ) → Grown (wire_at net u) (wire_at new u)) → NodeStays net new w → wanted (wire_at new w) ≡ wanted (wire_at net w) → LastAsk row law net w → LastAsk row law new w
-  later net new w h on grown stays same a = record {
+  pub later : (net new : Net N) (w : ℕ) → w < length net.wires → GoesOn net new → ((u : ℕ) → Grown (wire_at net u) (wire_at new u)) → MovesGrow moves net new → NodeStays net new w → wanted (wire_at new w) ≡ wanted (wire_at net w) → LastAsk row law asking moves net w → LastAsk row law asking moves new w
+  later net new w h on grown moved stays same a = record {
     old = a.old;
     on = goes_trans a.old net new a.on on;
     grown = λ u h. grown_trans (wire_at a.old u) (wire_at net u) (wire_at new u) (a.grown u h) (grown u);
+    moves_on = moves_trans moves a.old net new a.on a.moves_on moved;
     sound = a.sound;
     marked = a.marked;
     waits = a.waits;
@@ -189,14 +235,15 @@ module _ {N : Type 0} (row : N → View → Type 0) (law : N → N → View → 
     same = same ∙ a.same;
     stays = stays_trans a.old net new w a.on (a.grown w (rw a.on.wires at h)).got (grown w).got a.stays stays;
     minded = a.minded;
+    asking_then = a.asking_then;
   }
 
   -- each wire whose input has asked has a last ask, or it was asked by the actions of node n so far
-  abbrev AskedOr : Net N → ℕ → List Act → Type 0
-  AskedOr net n acts = (w : ℕ) → w < length net.wires → 1 ≤ wanted (wire_at net w) → LastAsk row law net w ⊎ AsksAt (ports_at net n) acts w (wire_at net w)
+  abbrev AskedOr : Net N → ℕ → List Act → Type 0 → Type 0
+  AskedOr net n acts P = (w : ℕ) → w < length net.wires → 1 ≤ wanted (wire_at net w) → LastAsk row law asking moves net w ⊎ AsksAt (ports_at net n) acts w (wire_at net w) P
 
-  acted_asked : (net : Net N) (n : ℕ) (a : Act) (acts : List Act) → Busy AnyRow AnyLaw net n (a ∷ acts) → AskedOr net n (a ∷ acts) → AskedOr (acted net n a) n acts
-  acted_asked net n a acts busy before w h some =
+  acted_asked : (net : Net N) (n : ℕ) (a : Act) (acts : List Act) → Busy AnyRow AnyLaw net n (a ∷ acts) → (P : Type 0) → (Pulls (a ∷ acts) → P) → AskedOr net n (a ∷ acts) P → AskedOr (acted net n a) n acts P
+  acted_asked net n a acts busy P tells before w h some =
       let x = get_there net.nodes n busy.within in
       let first = get_there net.firsts n (rw busy.each_first busy.within) in
       let f = fits net n a (act_allowed AnyRow AnyLaw net n a acts x.0 first.0 busy x.1 first.1) in
@@ -213,26 +260,27 @@ module _ {N : Type 0} (row : N → View → Type 0) (law : N → N → View → 
             let some' : 1 ≤ wanted (moved_by a (wire_at net w)) = rw moved at some in
             let r = acted_here a acts (ports_at net n) w (wire_at net w) _ port may (busy.sound w within) (busy.marked w within) busy.stands
             (λ i k e d. sym (busy.wired.input_to n i w busy.within e).1.1 ∙ (busy.wired.input_to n k w busy.within d).1.1)
-            (LastAsk row law net w) (before w within) some' in
+            (LastAsk row law asking moves net w) P tells (before w within) some' in
             elim r [
-              | inl l ↦ inl (later net (acted net n a) w within on grown (λ k _ _ _. refl) (ap (λ (c : Cell). wanted c) moved ∙ l.0) l.1)
+              | inl l ↦ inl (later net (acted net n a) w within on grown (moves_same moves net (acted net n a) refl) (λ k _ _ _. refl) (ap (λ (c : Cell). wanted c) moved ∙ l.0) l.1)
               | inr k ↦ inr (rw moved k)
             ]
         | inr other ↦
             let same : wire_at (acted net n a) w ≡ wire_at net w = get_or-set_other net.wires (wire_for a (ports_at net n)) w _ no_wire other in
             let some' : 1 ≤ wanted (wire_at net w) = rw same at some in
             elim (before w within some') [
-              | inl l ↦ inl (later net (acted net n a) w within on grown (λ k _ _ _. refl) (ap (λ (c : Cell). wanted c) same) l)
-              | inr k ↦ inr (rw same (record { port = k.port; at = k.at; waits = k.waits; step = k.step; kept = still_kept a acts k.port k.kept }))
+              | inl l ↦ inl (later net (acted net n a) w within on grown (moves_same moves net (acted net n a) refl) (λ k _ _ _. refl) (ap (λ (c : Cell). wanted c) same) l)
+              | inr k ↦ inr (rw same (record { port = k.port; at = k.at; waits = k.waits; step = k.step; kept = still_kept a acts k.port k.kept; tells = k.tells }))
             ]
       ]
 
-  acts_asked : (acts : List Act) (net : Net N) (n : ℕ) → Busy AnyRow AnyLaw net n acts → AskedOr net n acts → AskedOr (acted_all net n acts) n []
-  acts_asked [] net n busy before = before
-  acts_asked (a ∷ acts) net n busy before = acts_asked acts (acted net n a) n (acted_busy AnyRow AnyLaw net n a acts busy) (acted_asked net n a acts busy before)
+  acts_asked : (acts : List Act) (net : Net N) (n : ℕ) → Busy AnyRow AnyLaw net n acts → (P : Type 0) → (Pulls acts → P) → AskedOr net n acts P → AskedOr (acted_all net n acts) n [] P
+  acts_asked [] net n busy P tells before = before
+  acts_asked (a ∷ acts) net n busy P tells before =
+      acts_asked acts (acted net n a) n (acted_busy AnyRow AnyLaw net n a acts busy) P (λ h. tells (still_pulls a acts h)) (acted_asked net n a acts busy P tells before)
 
   -- once its actions are done, an ask that the node made is the last one of its wire
-  done_asked : (net : Net N) (n : ℕ) → Busy AnyRow AnyLaw net n [] → IsMinded row law net n [] → AskedOr net n [] → AllAsked row law net
+  done_asked : (net : Net N) (n : ℕ) → Busy AnyRow AnyLaw net n [] → IsMinded row law net n [] → AskedOr net n [] (IsAsking asking net n) → AllAsked row law asking moves net
   done_asked net n busy minded before w h some = elim (before w h some) [
     | inl l ↦ l
     | inr k ↦
@@ -242,6 +290,7 @@ module _ {N : Type 0} (row : N → View → Type 0) (law : N → N → View → 
           old = net;
           on = goes_same net;
           grown = λ u hu. grown_same (wire_at net u);
+          moves_on = moves_same moves net net refl;
           sound = busy.sound;
           marked = busy.marked;
           waits = k.waits;
@@ -249,30 +298,31 @@ module _ {N : Type 0} (row : N → View → Type 0) (law : N → N → View → 
           same = refl;
           stays = λ j _ _ _. refl;
           minded = rw to minded;
+          asking_then = rw to k.tells;
         }
   ]
 
-  pub after_acts : (net : Net N) (n : ℕ) (acts : List Act) → Busy AnyRow AnyLaw net n acts → IsMinded row law net n acts → AllAsked row law net → AllAsked row law (acted_all net n acts)
-  after_acts net n acts busy minded all =
-      done_asked (acted_all net n acts) n (acts_busy AnyRow AnyLaw acts net n busy) (acts_here row law acts net n busy minded) (acts_asked acts net n busy (λ w h some. inl (all w h some)))
+  pub after_acts : (net : Net N) (n : ℕ) (acts : List Act) → Busy AnyRow AnyLaw net n acts → IsMinded row law net n acts → (Pulls acts → IsAsking asking (acted_all net n acts) n) → AllAsked row law asking moves net → AllAsked row law asking moves (acted_all net n acts)
+  after_acts net n acts busy minded tells all =
+      done_asked (acted_all net n acts) n (acts_busy AnyRow AnyLaw acts net n busy) (acts_here row law acts net n busy minded) (acts_asked acts net n busy (IsAsking asking (acted_all net n acts) n) tells (λ w h some. inl (all w h some)))
 
   -- ---- an event, and another node in a node's place
 
-  pub told_asked : (net : Net N) (w : ℕ) (d : Delivery) → w < length net.wires → AllAsked row law (before net w) → AllAsked row law (told net w d)
+  pub told_asked : (net : Net N) (w : ℕ) (d : Delivery) → w < length net.wires → AllAsked row law asking moves (before net w) → AllAsked row law asking moves (told net w d)
   told_asked net w d h all u hu some =
       let within : u < length net.wires = rw length-set at hu in
-      later (before net w) (told net w d) u within (goes_told net w d) (told_grown net w d h) (λ k _ _ _. refl) (told_wanted net w d h u) (all u within (subst (λ (n : ℕ). 1 ≤ n) (told_wanted net w d h u) some))
+      later (before net w) (told net w d) u within (goes_told net w d) (told_grown net w d h) (moves_same moves (before net w) (told net w d) refl) (λ k _ _ _. refl) (told_wanted net w d h u) (all u within (subst (λ (n : ℕ). 1 ≤ n) (told_wanted net w d h u) some))
 
   -- the event of wire w was delivered, and another node stands in the place of the one that heard it
   pub event_asked : (net : Net N) (w n : ℕ) (d : Delivery) (y : N) → d ≢ nothing → n ≡ target d (end_at net.ends w) → Wired net.ends net.ports (length net.nodes) (length net.wires) → w < length net.wires
-      → AllAsked row law (before net w) → AllAsked row law (with_node (told net w d) n y)
-  event_asked net w n d y ne to wired h all u hu some =
+      → MovesGrow moves (before net w) (with_node (told net w d) n y) → AllAsked row law asking moves (before net w) → AllAsked row law asking moves (with_node (told net w d) n y)
+  event_asked net w n d y ne to wired h moved all u hu some =
       let within : u < length net.wires = rw length-set at hu in
-      later (before net w) (with_node (told net w d) n y) u within (goes_trans (before net w) (told net w d) (with_node (told net w d) n y) (goes_told net w d) (goes_node (told net w d) n y)) (told_grown net w d h)
+      later (before net w) (with_node (told net w d) n y) u within (goes_trans (before net w) (told net w d) (with_node (told net w d) n y) (goes_told net w d) (goes_node (told net w d) n y)) (told_grown net w d h) moved
       (λ k ins outs same. node_elsewhere net n k y (λ e. came_there d net w u k ne wired h (e ∙ to) ins outs same))
       (told_wanted net w d h u) (all u within (subst (λ (m : ℕ). 1 ≤ m) (told_wanted net w d h u) some))
 
   -- another node stands in the place of one that has not asked
-  pub node_asked : (net : Net N) (n : ℕ) (y : N) → ((u : ℕ) → u < length net.wires → (ports_at net n).ins ≡ u ∷ [] → 1 ≤ wanted (wire_at net u) → ⊥) → AllAsked row law net → AllAsked row law (with_node net n y)
-  node_asked net n y none all w h some = later net (with_node net n y) w h (goes_node net n y) (λ u. grown_same (wire_at net u))
+  pub node_asked : (net : Net N) (n : ℕ) (y : N) → ((u : ℕ) → u < length net.wires → (ports_at net n).ins ≡ u ∷ [] → 1 ≤ wanted (wire_at net u) → ⊥) → MovesGrow moves net (with_node net n y) → AllAsked row law asking moves net → AllAsked row law asking moves (with_node net n y)
+  node_asked net n y none moved all w h some = later net (with_node net n y) w h (goes_node net n y) (λ u. grown_same (wire_at net u)) moved
       (λ k ins outs same. node_elsewhere net n k y (λ e. none w h (rw e at ins) some)) refl (all w h some)

@@ -8,6 +8,7 @@ use Rattle.elem_core.specs.declared.item.Item.TheVariants as item
 use Rattle.port_core.specs.Ring.{holds}
 use Rattle.port_core.specs.Joint.{IsSound, Heard}
 use Rattle.port_core.specs.View.{View, IsOutOpen}
+use Rattle.port_core.specs.View as view
 use Rattle.port_core.specs.Asking.{AsksStand}
 use Rattle.port_core.specs.Call.{Call, CallAllowed, MayCome, seen}
 use Rattle.port_core.specs.Wire.{Delivery, nothing, ask, refusal, brought, delivery_of, after_delivery, again}
@@ -20,21 +21,20 @@ use Rattle.wire_core.proofs.Marking.{deliver_marked}
 use Rattle.stage_core.specs.Histories.{brought_by}
 use Rattle.stage_core.specs.Handling.{Handles}
 use Rattle.fused_net.specs.declared.net.Ends.{Ends}
-use Rattle.fused_net.specs.Net.{Net, inp_of, out_of, got_of, sent_of, end_at, wire_at, ports_at, view_of, took, gave, target, call_of, told_by, told, event_told, with_node, before}
-use Rattle.fused_net.specs.Laws.{Wired, Minds, IsMinded, Settled, Busy, MeetsAt, Awaits}
-use Rattle.fused_net.proofs.Reading.{read_same, read_at, get_there, get_set_same, get_set_other}
+use Rattle.wire_core.specs.Reading.{inp_of, out_of, got_of, sent_of}
+use Rattle.fused_net.specs.Net.{Net, end_at, wire_at, ports_at, view_of, took, gave, target, call_of, told_by, told, event_told, with_node, before}
+use Rattle.fused_net.specs.Laws.{AnyLaw, Wired, Minds, IsMinded, Settled, Busy, MeetsAt, Awaits, TellsAsking}
+use Rattle.fused_net.proofs.Reading.{read_same, read_at, some_same, get_there, get_set_same, get_set_other}
 use Rattle.fused_net.proofs.Nets.{sound_put, marked_put, minds_along, others_in, others_out, here_in, here_out}
 use Rattle.fused_net.proofs.Acting.{keep_at}
 use Rattle.fused_net.proofs.Asking.{told_asked}
+use Rattle.fused_net.proofs.Moments.{told_moments}
 
 pub queued_here : (queue : List ℕ) (w : ℕ) → holds (w ∷ queue) w ≡ true
 queued_here queue w = grind (arith, common_steps, nat_tests)
 
 pub queued_there : (queue : List ℕ) (w u : ℕ) → u ≢ w → holds (w ∷ queue) u ≡ holds queue u
 queued_there queue w u n = grind (arith, common_steps, nat_tests)
-
-pub cc_some : {A : Type 0} (x y : A) → Some x ≡ Some y → x ≡ y
-cc_some x y e = cc
 
 module _ {N : Type 0} where
   pub target_within : (d : Delivery) (net : Net N) (w : ℕ) → Wired net.ends net.ports (length net.nodes) (length net.wires) → w < length net.wires → target d (end_at net.ends w) < length net.nodes
@@ -60,24 +60,6 @@ module _ {N : Type 0} (row : N → View → Type 0) (law : N → N → View → 
     row_holds = d.obeys.row v may m.row_holds;
     law_holds = d.keeps first v t g may m.row_holds m.law_holds;
   }
-
-  pub sound_here : (net : Net N) (w : ℕ) → Settled row law (before net w) → w < length net.wires → IsSound (wire_at net w).wire true
-  sound_here net w s h = subst (IsSound (wire_at net w).wire) (queued_here net.queue w) (s.sound w h)
-
-  sound_there : (net : Net N) (w : ℕ) → Settled row law (before net w) → (u : ℕ) → u < length net.wires → u ≢ w → IsSound (wire_at net u).wire (holds net.queue u)
-  sound_there net w s u h n = subst (IsSound (wire_at net u).wire) (queued_there net.queue w u n) (s.sound u h)
-
-  sound_told : (net : Net N) (w : ℕ) (d : Delivery) → Settled row law (before net w) → w < length net.wires → holds net.queue w ≡ false → IsSound (after_delivery d (wire_at net w).wire) (again d)
-      → (u : ℕ) → u < length (told net w d).wires → IsSound (wire_at (told net w d) u).wire (holds (told net w d).queue u)
-  sound_told net w d s h absent sound = sound_put net w _ _ h (sound_there net w s) (rw absent sound)
-
-  marked_told : (net : Net N) (w : ℕ) (d : Delivery) → Settled row law (before net w) → w < length net.wires → IsMarked (told_by d (wire_at net w))
-      → (u : ℕ) → u < length (told net w d).wires → IsMarked (wire_at (told net w d) u)
-  marked_told net w d s h m = marked_put net w (told_by d (wire_at net w)) (again d) h (λ u hu n. s.marked u hu) m
-
-  -- the wire of the event stays marked as it was asked
-  pub marked_here : (net : Net N) (w : ℕ) → Settled row law (before net w) → w < length net.wires → IsMarked (told_by (delivery_of (wire_at net w).wire) (wire_at net w))
-  marked_here net w s h = deliver_marked (wire_at net w).wire (wire_at net w).asked (sound_here net w s h) (s.marked w h)
 
   -- what the node that heard it knows
   here_told : (d : Delivery) (net : Net N) (w : ℕ) (y first : N) (acts : List Act) → d ≢ nothing → Wired net.ends net.ports (length net.nodes) (length net.wires) → w < length net.wires
@@ -122,13 +104,32 @@ module _ {N : Type 0} (row : N → View → Type 0) (law : N → N → View → 
     marked = marked;
     within = rw length-set h;
     stands = stands;
-    here = λ x first xi fi. let same : y ≡ x = cc_some y x (sym (get_set_same net.nodes n y h) ∙ xi) in subst (λ (z : N). Minds row law z first (view_of net n) (took net n) (gave net n) acts) same (m first fi);
+    here = λ x first xi fi. let same : y ≡ x = some_same y x (sym (get_set_same net.nodes n y h) ∙ xi) in subst (λ (z : N). Minds row law z first (view_of net n) (took net n) (gave net n) acts) same (m first fi);
     others = λ k hk ne x first xi fi. let within : k < length net.nodes = rw length-set at hk in
         others k within ne x first (sym (get_set_other net.nodes n k y ne) ∙ xi) fi;
   }
 
+module _ {N : Type 0} (row : N → View → Type 0) (law : N → N → View → List (List Item) → List (List Item) → Type 0) (asking : N → View → Type 0) (moves : N → List ℕ) where
+  pub sound_here : (net : Net N) (w : ℕ) → Settled row law asking moves (before net w) → w < length net.wires → IsSound (wire_at net w).wire true
+  sound_here net w s h = subst (IsSound (wire_at net w).wire) (queued_here net.queue w) (s.sound w h)
+
+  sound_there : (net : Net N) (w : ℕ) → Settled row law asking moves (before net w) → (u : ℕ) → u < length net.wires → u ≢ w → IsSound (wire_at net u).wire (holds net.queue u)
+  sound_there net w s u h n = subst (IsSound (wire_at net u).wire) (queued_there net.queue w u n) (s.sound u h)
+
+  sound_told : (net : Net N) (w : ℕ) (d : Delivery) → Settled row law asking moves (before net w) → w < length net.wires → holds net.queue w ≡ false → IsSound (after_delivery d (wire_at net w).wire) (again d)
+      → (u : ℕ) → u < length (told net w d).wires → IsSound (wire_at (told net w d) u).wire (holds (told net w d).queue u)
+  sound_told net w d s h absent sound = sound_put net w _ _ h (sound_there net w s) (rw absent sound)
+
+  marked_told : (net : Net N) (w : ℕ) (d : Delivery) → Settled row law asking moves (before net w) → w < length net.wires → IsMarked (told_by d (wire_at net w))
+      → (u : ℕ) → u < length (told net w d).wires → IsMarked (wire_at (told net w d) u)
+  marked_told net w d s h m = marked_put net w (told_by d (wire_at net w)) (again d) h (λ u hu n. s.marked u hu) m
+
+  -- the wire of the event stays marked as it was asked
+  pub marked_here : (net : Net N) (w : ℕ) → Settled row law asking moves (before net w) → w < length net.wires → IsMarked (told_by (delivery_of (wire_at net w).wire) (wire_at net w))
+  marked_here net w s h = deliver_marked (wire_at net w).wire (wire_at net w).asked (sound_here net w s h) (s.marked w h)
+
   -- an event that comes to nothing
-  pub nothing_settled : (net : Net N) (w : ℕ) → Settled row law (before net w) → w < length net.wires → holds net.queue w ≡ false → delivery_of (wire_at net w).wire ≡ nothing → Settled row law (event_told net w)
+  pub nothing_settled : (net : Net N) (w : ℕ) → Settled row law asking moves (before net w) → w < length net.wires → holds net.queue w ≡ false → delivery_of (wire_at net w).wire ≡ nothing → Settled row law asking moves (event_told net w)
   nothing_settled net w s h absent e =
       let marked : IsMarked (told_by nothing (wire_at net w)) = rw e at (marked_here net w s h) in
       let sound : IsSound (wire_at net w).wire false = rw e at (deliver_kept (wire_at net w).wire (sound_here net w s h)) in
@@ -143,10 +144,11 @@ module _ {N : Type 0} (row : N → View → Type 0) (law : N → N → View → 
             (read_same got_of net.wires w (told_by nothing (wire_at net w)) (ports_at net n).ins h refl)
             (read_same sent_of net.wires w (told_by nothing (wire_at net w)) (ports_at net n).outs h refl)
             (s.minded n hn x first xi fi);
-        asked = told_asked row law net w nothing h s.asked;
+        asked = told_asked row law asking moves net w nothing h s.asked;
+        moments = told_moments row law asking moves net w nothing h s.moments;
       })
 
-  pub handled_busy : (net : Net N) (w : ℕ) (d : Delivery) (x y : N) (acts : List Act) → Settled row law (before net w) → w < length net.wires → holds net.queue w ≡ false
+  pub handled_busy : (net : Net N) (w : ℕ) (d : Delivery) (x y : N) (acts : List Act) → Settled row law asking moves (before net w) → w < length net.wires → holds net.queue w ≡ false
       → d ≡ delivery_of (wire_at net w).wire → d ≢ nothing → slice_get net.nodes (target d (end_at net.ends w)) ≡ Some x → Handles row law (call_of d (end_at net.ends w)) x y acts
       → Busy row law (with_node (told net w d) (target d (end_at net.ends w)) y) (target d (end_at net.ends w)) acts
   handled_busy net w d x y acts s h absent e n xi handles =
@@ -155,23 +157,24 @@ module _ {N : Type 0} (row : N → View → Type 0) (law : N → N → View → 
       let sound : IsSound (after_delivery d (wire_at net w).wire) (again d) = rw e (deliver_kept (wire_at net w).wire (sound_here net w s h)) in
       let hn : target d (end_at net.ends w) < length net.nodes = target_within d net w s.wired h in
       let may : CallAllowed (call_of d (end_at net.ends w)) (view_of net (target d (end_at net.ends w))) = may_at d net w n s.wired h heard in
-      with_node_busy (told net w d) (target d (end_at net.ends w)) y acts
+      with_node_busy row law (told net w d) (target d (end_at net.ends w)) y acts
       (rw length-set s.wired)
       s.each_first
       (sound_told net w d s h absent sound)
       (marked_told net w d s h marked)
       hn
       handles.stands
-      (λ first fi. here_told d net w y first acts n s.wired h (minds_event (call_of d (end_at net.ends w)) x y first _ _ _ acts handles may (s.minded (target d (end_at net.ends w)) hn x first xi fi)))
-      (λ k hk ne. others_told d net w n s.wired h k hk ne (s.minded k hk))
+      (λ first fi. here_told row law d net w y first acts n s.wired h (minds_event row law (call_of d (end_at net.ends w)) x y first _ _ _ acts handles may (s.minded (target d (end_at net.ends w)) hn x first xi fi)))
+      (λ k hk ne. others_told row law d net w n s.wired h k hk ne (s.minded k hk))
 
   -- what a handler's call needs, once the wire's event was delivered
   pub record Called (d : Delivery) (e : Ends) (v : Net N) (n : ℕ) : Type 0 where
     pub within : n < length v.nodes
     pub meets : MeetsAt row law (call_of d e) v n
     pub awaits : Awaits row law (call_of d e) v n
+    pub tells : TellsAsking row law asking moves (call_of d e) v n
 
-  called : (net : Net N) (w : ℕ) (d : Delivery) → Settled row law (before net w) → w < length net.wires → holds net.queue w ≡ false
+  called : (net : Net N) (w : ℕ) (d : Delivery) → Settled row law asking moves (before net w) → w < length net.wires → holds net.queue w ≡ false
       → d ≡ delivery_of (wire_at net w).wire → d ≢ nothing → Called d (end_at net.ends w) (event_told net w) (target d (end_at net.ends w))
   called net w d s h absent e n =
       let heard : Heard d (wire_at net w).wire = rw e (deliver_heard (wire_at net w).wire (sound_here net w s h)) in
@@ -183,8 +186,16 @@ module _ {N : Type 0} (row : N → View → Type 0) (law : N → N → View → 
         within = hn;
         meets = λ x xi. (view_of net (target d (end_at net.ends w)), (may, (s.minded (target d (end_at net.ends w)) hn x first.0 xi first.1).row_holds));
         awaits = λ x y acts xi handles. subst (λ (a : Net N). Busy row law (with_node a (target d (end_at net.ends w)) y) (target d (end_at net.ends w)) acts) same (handled_busy net w d x y acts s h absent e n xi handles);
+        tells = λ x y acts xi handles asks pulls.
+            let held = (s.minded (target d (end_at net.ends w)) hn x first.0 xi first.1).row_holds in
+            let at = here_told asking AnyLaw d net w y first.0 acts n s.wired h (record {
+              allowed = handles.obeys.allowed (view_of net (target d (end_at net.ends w))) may held;
+              row_holds = asks (view_of net (target d (end_at net.ends w))) may held pulls;
+              law_holds = tt;
+            }) in
+            subst (λ (a : Net N). asking y (view.acted_all (view_of a (target d (end_at net.ends w))) acts)) same at.row_holds;
       }
 
-  pub call_at : (net v : Net N) (w n : ℕ) (d : Delivery) (ends : Ends) → Settled row law (before net w) → w < length net.wires → holds net.queue w ≡ false
+  pub call_at : (net v : Net N) (w n : ℕ) (d : Delivery) (ends : Ends) → Settled row law asking moves (before net w) → w < length net.wires → holds net.queue w ≡ false
       → d ≡ delivery_of (wire_at net w).wire → d ≢ nothing → v ≡ event_told net w → ends ≡ end_at net.ends w → n ≡ target d ends → Called d ends v n
   call_at net v w n d ends s h absent e ne is same at = rw (at, same, is) (called net w d s h absent e ne)

@@ -13,15 +13,18 @@ use Rattle.wire_core.specs.Cell.{Cell, moved_by}
 use Rattle.wire_core.specs.Counts.{spent, asks}
 use Rattle.wire_core.proofs.Counting.{pull_spent, push_spent, close_spent, cancel_spent, deliver_spent, pull_asks, push_asks, close_asks, cancel_asks}
 use Rattle.fused_net.specs.declared.net.Ends.{Ends}
-use Rattle.fused_net.specs.Net.{Net, no_wire, end_at, target, told, wire_at, ports_at, wire_for, acted, acted_all, event_told, with_node, before}
-use Rattle.fused_net.specs.Laws.{AnyRow, AnyLaw, AllAsked, Settled, Busy, GoesOn, Responds}
+use Rattle.wire_core.specs.Reading.{no_wire}
+use Rattle.fused_net.specs.Net.{Net, end_at, target, told, wire_at, ports_at, wire_for, acted, acted_all, event_told, with_node, before}
+use Rattle.stage_core.specs.Handling.{Pulls}
+use Rattle.fused_net.specs.Laws.{AnyRow, AnyLaw, IsAsking, MovesGrow, IsMinded, AllAsked, AllMoments, Settled, Busy, GoesOn, Responds}
 use Rattle.fused_net.specs.Costs.{total, all_asks, Uses}
-use Rattle.fused_net.proofs.Reading.{same_or_not, get_there}
+use Rattle.fused_net.proofs.Reading.{same_or_not, some_same, get_there, get_set_same}
 use Rattle.fused_net.proofs.Sums.{sum_le, sum_up, sum_up_most, by_place}
 use Rattle.fused_net.proofs.Nets.{holds_put_same, holds_put_other}
 use Rattle.fused_net.proofs.Acting.{Fits, fits, act_allowed, port_within, acted_busy, busy_any, acts_settled}
 use Rattle.fused_net.proofs.Ongoing.{goes_trans, goes_put, goes_acts, goes_node}
-use Rattle.fused_net.proofs.Asking.{after_acts, event_asked}
+use Rattle.fused_net.proofs.Asking.{moves_node, moves_from, asking_kept, after_acts, event_asked}
+use Rattle.fused_net.proofs.Moments.{allowed_of, acts_moments, told_moments, node_moments}
 use Rattle.fused_net.proofs.Delivering.{queued_here, queued_there, sound_here, nothing_settled}
 
 -- the numbers of one wire
@@ -48,10 +51,6 @@ deliver_asks (brought item.Ended more) w = omega arith
 deliver_asks (brought (item.Failed c) more) w = omega arith
 
 module _ {N : Type 0} where
-  pub nodes-acts : (acts : List Act) (net : Net N) (n : ℕ) → (acted_all net n acts).nodes ≡ net.nodes
-  nodes-acts [] net n = refl
-  nodes-acts (a ∷ acts) net n = nodes-acts acts (acted net n a) n
-
   pub uses_trans : (a b c : Net N) (k l : ℕ) → Uses a b k → Uses b c l → Uses a c (k + l)
   uses_trans a b c k l f g = record { least = omega (arith, f.least, g.least); most = omega (arith, f.most, g.most) }
 
@@ -89,14 +88,14 @@ module _ {N : Type 0} where
       let at : Busy AnyRow AnyLaw net n (a ∷ new) = rw e at busy in
       rw is (let one = acted_uses net n a new at in omega (arith, one.most, few))
 
-module _ {N : Type 0} (row : N → View → Type 0) (law : N → N → View → List (List Item) → List (List Item) → Type 0) where
+module _ {N : Type 0} (row : N → View → Type 0) (law : N → N → View → List (List Item) → List (List Item) → Type 0) (asking : N → View → Type 0) (moves : N → List ℕ) where
   -- an event is delivered
-  pub event_uses : (net : Net N) (w : ℕ) → Settled row law (before net w) → w < length net.wires → holds net.queue w ≡ false → Uses (before net w) (event_told net w) 1
+  pub event_uses : (net : Net N) (w : ℕ) → Settled row law asking moves (before net w) → w < length net.wires → holds net.queue w ≡ false → Uses (before net w) (event_told net w) 1
   event_uses net w s h absent =
       let d : Delivery = delivery_of (wire_at net w).wire in
       let queue : holds (event_told net w).queue w ≡ again (delivery_of (wire_at net w).wire) = holds_put_same net.queue w (again (delivery_of (wire_at net w).wire)) ∙ ap (λ (q : Bool). q || again (delivery_of (wire_at net w).wire)) absent in
       let up : spent (wire_at net w).wire (holds (w ∷ net.queue) w) + 1 ≤ spent (after_delivery (delivery_of (wire_at net w).wire) (wire_at net w).wire) (holds (event_told net w).queue w) =
-      rw (queued_here net.queue w, queue) (deliver_spent (wire_at net w).wire (sound_here row law net w s h)) in
+      rw (queued_here net.queue w, queue) (deliver_spent (wire_at net w).wire (sound_here row law asking moves net w s h)) in
       let cost : total (before net w) + 1 ≤ total (event_told net w) = rw length-set (sum_up _ _ (length net.wires) w h
       (λ k l. by_place (λ z. spent (wire_at (before net w) z).wire (holds (w ∷ net.queue) z)) (λ z. spent (wire_at (event_told net w) z).wire (holds (event_told net w).queue z)) w k
       (rw (get_or-set_same net.wires w _ no_wire h) (omega (arith, up)))
@@ -108,43 +107,57 @@ module _ {N : Type 0} (row : N → View → Type 0) (law : N → N → View → 
       record { least = cost; most = asked }
 
   -- a node responded
-  pub response_goes : (old new : Net N) (n : ℕ) → Responds row law old new n → GoesOn old new
+  pub response_goes : (old new : Net N) (n : ℕ) → Responds row law asking moves old new n → GoesOn old new
   response_goes old new n r = rw r.is (goes_trans old (with_node old n r.node) _ (goes_node old n r.node) (goes_acts r.acts (with_node old n r.node) n))
 
-  pub response_settled : (old new : Net N) (n : ℕ) → (r : Responds row law old new n) → AllAsked row law (with_node old n r.node) → Settled row law new
-  response_settled old new n r asked =
-      let later : AllAsked row law (acted_all (with_node old n r.node) n r.acts) = after_acts row law (with_node old n r.node) n r.acts (busy_any row law _ n r.acts r.busy) r.busy.here asked in
-      rw r.is (acts_settled row law (with_node old n r.node) n r.acts r.busy later)
+  -- what the node tells as it asks holds once its actions are done
+  asked_after : (old new : Net N) (n : ℕ) → (r : Responds row law asking moves old new n) → Pulls r.acts → IsAsking asking (acted_all (with_node old n r.node) n r.acts) n
+  asked_after old new n r pulls = asking_kept asking (with_node old n r.node) n r.acts (busy_any row law _ n r.acts r.busy)
+      (λ x xi. let within : n < length old.nodes = rw length-set at r.busy.within in let same : r.node ≡ x = some_same r.node x (sym (get_set_same old.nodes n r.node within) ∙ xi) in rw same at (r.asks pulls))
 
-  response_uses : (old new : Net N) (n : ℕ) → Responds row law old new n → Uses old new 0
+  pub response_settled : (old new : Net N) (n : ℕ) → (r : Responds row law asking moves old new n) → AllAsked row law asking moves (with_node old n r.node) → AllMoments row law asking moves (with_node old n r.node) → Settled row law asking moves new
+  response_settled old new n r asked moments =
+      let any = busy_any row law (with_node old n r.node) n r.acts r.busy in
+      let later : AllAsked row law asking moves (acted_all (with_node old n r.node) n r.acts) = after_acts row law asking moves (with_node old n r.node) n r.acts any r.busy.here (asked_after old new n r) asked in
+      let last : AllMoments row law asking moves (acted_all (with_node old n r.node) n r.acts) =
+      acts_moments row law asking moves (with_node old n r.node) n r.acts any (allowed_of row law (with_node old n r.node) n r.acts r.busy) r.busy.here (asked_after old new n r) later moments in
+      rw r.is (acts_settled row law asking moves (with_node old n r.node) n r.acts r.busy later last)
+
+  response_uses : (old new : Net N) (n : ℕ) → Responds row law asking moves old new n → Uses old new 0
   response_uses old new n r =
       let u = acts_uses r.acts (with_node old n r.node) n (busy_any row law _ n r.acts r.busy) in
       rw r.is (record { least = u.least; most = u.most })
 
   -- what is left once an event was handled
   pub record Handled (net new : Net N) (w : ℕ) : Type 0 where
-    pub laws : Settled row law new
+    pub laws : Settled row law asking moves new
     pub on : GoesOn net new
     pub uses : Uses (before net w) new 1
 
-  pub handled : (net v new : Net N) (w n : ℕ) (d : Delivery) (ends : Ends) → Settled row law (before net w) → w < length net.wires → holds net.queue w ≡ false
-      → d ≡ delivery_of (wire_at net w).wire → d ≢ nothing → v ≡ event_told net w → ends ≡ end_at net.ends w → n ≡ target d ends → Responds row law v new n → Handled net new w
+  pub handled : (net v new : Net N) (w n : ℕ) (d : Delivery) (ends : Ends) → Settled row law asking moves (before net w) → w < length net.wires → holds net.queue w ≡ false
+      → d ≡ delivery_of (wire_at net w).wire → d ≢ nothing → v ≡ event_told net w → ends ≡ end_at net.ends w → n ≡ target d ends → Responds row law asking moves v new n → Handled net new w
   handled net v new w n d ends s h absent e ne is same at r =
       let event : Uses (before net w) v 1 = rw is (event_uses net w s h absent) in
       let on : GoesOn net v = rw is (goes_put net w _ _) in
       let told_is : told net w d ≡ v = ap (λ (x : Delivery). told net w x) e ∙ sym is in
-      let asked : AllAsked row law (with_node v n r.node) =
-      subst (λ (a : Net N). AllAsked row law (with_node a n r.node)) told_is (event_asked row law net w n d r.node ne (at ∙ ap (λ (x : Ends). target d x) same) s.wired h s.asked) in
+      let within : n < length v.nodes = rw length-set at r.busy.within in
+      let to : n ≡ target d (end_at net.ends w) = at ∙ ap (λ (x : Ends). target d x) same in
+      let moved : MovesGrow moves v (with_node v n r.node) = moves_node moves v n r.node within r.grows in
+      let moved_on : MovesGrow moves (before net w) (with_node (told net w d) n r.node) = rw (sym told_is) at (moves_from moves (before net w) v n r.node (rw is refl) moved) in
+      let asked : AllAsked row law asking moves (with_node v n r.node) =
+      subst (λ (a : Net N). AllAsked row law asking moves (with_node a n r.node)) told_is (event_asked row law asking moves net w n d r.node ne to s.wired h moved_on s.asked) in
+      let moments : AllMoments row law asking moves (with_node v n r.node) =
+      node_moments row law asking moves v n r.node moved (subst (λ (a : Net N). AllMoments row law asking moves a) told_is (told_moments row law asking moves net w d h s.moments)) in
       let done = response_uses v new n r in
       record {
-        laws = response_settled v new n r asked;
+        laws = response_settled v new n r asked moments;
         on = goes_trans net v new on (response_goes v new n r);
         uses = record { least = omega (arith, event.least, done.least); most = omega (arith, event.most, done.most) };
       }
 
-  pub handled_nothing : (net new : Net N) (w : ℕ) → Settled row law (before net w) → w < length net.wires → holds net.queue w ≡ false → delivery_of (wire_at net w).wire ≡ nothing → new ≡ event_told net w → Handled net new w
+  pub handled_nothing : (net new : Net N) (w : ℕ) → Settled row law asking moves (before net w) → w < length net.wires → holds net.queue w ≡ false → delivery_of (wire_at net w).wire ≡ nothing → new ≡ event_told net w → Handled net new w
   handled_nothing net new w s h absent e is = rw is (record {
-    laws = nothing_settled row law net w s h absent e;
+    laws = nothing_settled row law asking moves net w s h absent e;
     on = goes_put net w _ _;
     uses = event_uses net w s h absent;
   })

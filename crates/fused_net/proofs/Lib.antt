@@ -4,6 +4,7 @@ pub mod Sums
 pub mod Ongoing
 pub mod Acting
 pub mod Asking
+pub mod Moments
 pub mod Delivering
 pub mod Going
 pub mod Starting

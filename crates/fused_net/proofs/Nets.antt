@@ -12,7 +12,8 @@ use Rattle.port_core.specs.View.{View}
 use Rattle.port_core.specs.declared.act.Act.{Act}
 use Rattle.wire_core.specs.Cell.{Cell}
 use Rattle.wire_core.specs.Marks.{IsMarked}
-use Rattle.fused_net.specs.Net.{Net, no_wire, inp_of, out_of, got_of, sent_of, wire_at, ports_at, view_of, took, gave, put}
+use Rattle.wire_core.specs.Reading.{no_wire, inp_of, out_of, got_of, sent_of}
+use Rattle.fused_net.specs.Net.{Net, wire_at, ports_at, view_of, took, gave, put}
 use Rattle.fused_net.specs.Laws.{Wired, Minds, IsMinded}
 use Rattle.fused_net.proofs.Reading.{same_or_not, read_same, read_apart, read_here}
 

@@ -1,5 +1,5 @@
 -- The graph goes on: its wiring stays.
-use Rattle.std.proofs.Common.{ℕ, Bool, List, [], ◌∷◌, refl, ◌∙◌}
+use Rattle.std.proofs.Common.{◌≡◌, ℕ, Bool, List, [], ◌∷◌, refl, ◌∙◌}
 use Rattle.std.proofs.lemmas.List.{length-set}
 use Rattle.port_core.specs.declared.act.Act.{Act}
 use Rattle.wire_core.specs.Cell.{Cell}
@@ -22,3 +22,8 @@ module _ {N : Type 0} where
 
   pub goes_node : (net : Net N) (n : ℕ) (y : N) → GoesOn net (with_node net n y)
   goes_node net n y = record { firsts = refl; ends = refl; ports = refl; nodes = length-set _ _ _; wires = refl }
+
+  -- actions change no node
+  pub nodes-acts : (acts : List Act) (net : Net N) (n : ℕ) → (acted_all net n acts).nodes ≡ net.nodes
+  nodes-acts [] net n = refl
+  nodes-acts (a ∷ acts) net n = nodes-acts acts (acted net n a) n

@@ -3,7 +3,8 @@ use Rattle.std.proofs.Common.{◌≡◌, ◌≢◌, ◌⊎◌, inl, inr, ℕ, ze
 use Rattle.std.proofs.Math.ListN.{set}
 use Rattle.std.proofs.lemmas.Bool.Decides.{nat_tests}
 use Rattle.wire_core.specs.Cell.{Cell}
-use Rattle.fused_net.specs.Net.{no_wire, read_all}
+use Rattle.wire_core.specs.Reading.{no_wire}
+use Rattle.fused_net.specs.Net.{read_all}
 
 -- a number is equal to another, or not
 pub same_or_not : (a b : ℕ) → (a ≡ b) ⊎ (a ≢ b)
@@ -62,6 +63,15 @@ pub get_there : {A : Type 0} (xs : List A) (n : ℕ) → n < length xs → (x : 
 get_there [] n h = absurd (omega arith)
 get_there (x ∷ xs) zero h = (x, refl)
 get_there (x ∷ xs) (suc n) h = get_there xs n (omega arith)
+
+-- a place at which there is one is within
+pub get_within : {A : Type 0} (xs : List A) (n : ℕ) (x : A) → slice_get xs n ≡ Some x → n < length xs
+get_within [] n x e = absurd cc
+get_within (y ∷ xs) zero x e = omega arith
+get_within (y ∷ xs) (suc n) x e = omega (arith, get_within xs n x e)
+
+pub some_same : {A : Type 0} (x y : A) → Some x ≡ Some y → x ≡ y
+some_same x y e = cc
 
 -- of a list with one entry replaced
 pub get_set_same : {A : Type 0} (xs : List A) (n : ℕ) (y : A) → n < length xs → slice_get (set xs n y) n ≡ Some y

@@ -2,17 +2,18 @@
 use Rattle.std.proofs.Common.{◌≡◌, ℕ, ◌+◌, ◌<◌, ◌≤◌, false, Some, List, length, get_or, slice_get, refl, sym, ap, ◌∙◌, arith}
 use Rattle.std.proofs.lemmas.List.{get_or_default}
 use Rattle.std.proofs.lemmas.Option.{slice_get-get_or}
+use Rattle.elem_core.specs.Prefix.{IsPrefix}
 use Rattle.elem_core.specs.declared.item.Item.{Item}
 use Rattle.port_core.specs.Ring.{holds}
 use Rattle.port_core.specs.View.{View}
 use Rattle.port_core.specs.Call.{Call, Meets, starts}
 use Rattle.port_core.specs.declared.act.Act.{Act}
-use Rattle.stage_core.specs.Handling.{Starts, Handles}
+use Rattle.stage_core.specs.Handling.{AsksAs, Starts, Handles}
 use Rattle.fused_net.specs.declared.net.Ends.{Ends}
 use Rattle.fused_net.specs.Net.{Net, no_ends, end_at, view_of, acted_all, event_told, with_node, before}
-use Rattle.fused_net.specs.Laws.{AnyRow, AnyLaw, Busy, Awaits, Responds, Settled, Starting, GoesOn}
+use Rattle.fused_net.specs.Laws.{AnyRow, AnyLaw, Busy, Awaits, TellsAsking, Responds, Settled, Starting, GoesOn}
 use Rattle.fused_net.specs.Costs.{all_asks, Uses}
-use Rattle.fused_net.proofs.Reading.{get_there}
+use Rattle.fused_net.proofs.Reading.{some_same, get_there}
 use Rattle.fused_net.proofs.Acting.{busy_any}
 use Rattle.fused_net.proofs.Ongoing.{goes_trans, goes_acts, goes_node}
 use Rattle.fused_net.proofs.Going.{acts_uses, event_uses}
@@ -36,38 +37,48 @@ module _ {N : Type 0} (row : N → View → Type 0) (law : N → N → View → 
   pub awaited : (call : Call) (net v : Net N) (n : ℕ) (x y : N) (acts : List Act) → v ≡ net → n < length net.nodes → x ≡ get_or v.nodes n x → Awaits row law call net n → Handles row law call x y acts → Busy AnyRow AnyLaw (with_node v n y) n acts
   awaited call net v n x y acts e h is awaits handles = rw e (busy_any row law (with_node net n y) n acts (awaits x y acts (node_is net v n x e h is) handles))
 
-  pub responded : (call : Call) (net v new : Net N) (n : ℕ) (x y : N) (acts : List Act) → v ≡ net → n < length net.nodes → x ≡ get_or v.nodes n x → Awaits row law call net n → Handles row law call x y acts
-      → new ≡ acted_all (with_node v n y) n acts → Responds row law net new n
-  responded call net v new n x y acts e h is awaits handles on = record { node = y; acts = acts; busy = awaits x y acts (node_is net v n x e h is) handles; is = rw e at on }
+module _ {N : Type 0} (row : N → View → Type 0) (law : N → N → View → List (List Item) → List (List Item) → Type 0) (asking : N → View → Type 0) (moves : N → List ℕ) where
+  pub responded : (call : Call) (net v new : Net N) (n : ℕ) (x y : N) (acts : List Act) → v ≡ net → n < length net.nodes → x ≡ get_or v.nodes n x → Awaits row law call net n → TellsAsking row law asking moves call net n → Handles row law call x y acts
+      → AsksAs call (row x) (asking y) acts → IsPrefix (moves x) (moves y) → new ≡ acted_all (with_node v n y) n acts → Responds row law asking moves net new n
+  responded call net v new n x y acts e h is awaits tells handles asks grows on =
+      let at : slice_get net.nodes n ≡ Some x = node_is net v n x e h is in
+      record {
+        node = y;
+        acts = acts;
+        busy = awaits x y acts at handles;
+        asks = tells x y acts at handles asks;
+        grows = λ z zi. let same : x ≡ z = some_same x z (sym at ∙ zi) in rw same at grows;
+        is = rw e at on;
+      }
 
   -- an event leaves few asks
-  pub few_told : (net v : Net N) (w : ℕ) → Settled row law (before net w) → w < length net.wires → holds net.queue w ≡ false → v ≡ event_told net w → all_asks net + 1 ≤ 4000000000 → all_asks v ≤ 4000000000
-  few_told net v w s h absent is few = rw is (let u = event_uses row law net w s h absent in omega (arith, u.most, few))
+  pub few_told : (net v : Net N) (w : ℕ) → Settled row law asking moves (before net w) → w < length net.wires → holds net.queue w ≡ false → v ≡ event_told net w → all_asks net + 1 ≤ 4000000000 → all_asks v ≤ 4000000000
+  few_told net v w s h absent is few = rw is (let u = event_uses row law asking moves net w s h absent in omega (arith, u.most, few))
 
   module _ (fresh : N → View → Type 0) where
-    pub start_meets : (net v : Net N) (n : ℕ) (x : N) → Starting row law fresh net n → v ≡ net → n < length net.nodes → x ≡ get_or v.nodes n x → Meets starts (fresh x)
+    pub start_meets : (net v : Net N) (n : ℕ) (x : N) → Starting row law asking moves fresh net n → v ≡ net → n < length net.nodes → x ≡ get_or v.nodes n x → Meets starts (fresh x)
     start_meets net v n x s e h is =
         let first = get_there net.firsts n (rw s.each_first h) in
         let a = s.above n (omega arith) h x first.0 (node_is net v n x e h is) first.1 in
         (view_of net n, (a.1.1.0, a.0))
 
-    pub start_awaited : (net v : Net N) (n : ℕ) (x y : N) (acts : List Act) → Starting row law fresh net n → v ≡ net → n < length net.nodes → x ≡ get_or v.nodes n x → Starts row law fresh x y acts → Busy AnyRow AnyLaw (with_node v n y) n acts
-    start_awaited net v n x y acts s e h is st = rw e (start_busy row law fresh net n x y acts s h (node_is net v n x e h is) st)
+    pub start_awaited : (net v : Net N) (n : ℕ) (x y : N) (acts : List Act) → Starting row law asking moves fresh net n → v ≡ net → n < length net.nodes → x ≡ get_or v.nodes n x → Starts row law fresh x y acts → Busy AnyRow AnyLaw (with_node v n y) n acts
+    start_awaited net v n x y acts s e h is st = rw e (start_busy row law asking moves fresh net n x y acts s h (node_is net v n x e h is) st)
 
     -- what the start of a node leaves
     pub record Started (net new : Net N) (n : ℕ) : Type 0 where
-      pub starting : Starting row law fresh new (n + 1)
+      pub starting : Starting row law asking moves fresh new (n + 1)
       pub on : GoesOn net new
       pub asks : all_asks new ≤ all_asks net
 
-    pub started : (net v new : Net N) (n : ℕ) (x y : N) (acts : List Act) → Starting row law fresh net n → v ≡ net → n < length net.nodes → x ≡ get_or v.nodes n x → Starts row law fresh x y acts
-        → new ≡ acted_all (with_node v n y) n acts → Started net new n
-    started net v new n x y acts s e h is st on =
+    pub started : (net v new : Net N) (n : ℕ) (x y : N) (acts : List Act) → Starting row law asking moves fresh net n → v ≡ net → n < length net.nodes → x ≡ get_or v.nodes n x → Starts row law fresh x y acts
+        → AsksAs starts (fresh x) (asking y) acts → IsPrefix (moves x) (moves y) → new ≡ acted_all (with_node v n y) n acts → Started net new n
+    started net v new n x y acts s e h is st asks grows on =
         let at : new ≡ acted_all (with_node net n y) n acts = rw e at on in
-        let u : Uses (with_node net n y) (acted_all (with_node net n y) n acts) 0 = acts_uses acts (with_node net n y) n (start_busy row law fresh net n x y acts s h (node_is net v n x e h is) st) in
+        let u : Uses (with_node net n y) (acted_all (with_node net n y) n acts) 0 = acts_uses acts (with_node net n y) n (start_busy row law asking moves fresh net n x y acts s h (node_is net v n x e h is) st) in
         let same : all_asks (with_node net n y) ≡ all_asks net = refl in
         record {
-          starting = start_done row law fresh net new n x y acts s h (node_is net v n x e h is) st at;
+          starting = start_done row law asking moves fresh net new n x y acts s h (node_is net v n x e h is) st asks grows at;
           on = rw at (goes_trans net (with_node net n y) _ (goes_node net n y) (goes_acts acts (with_node net n y) n));
           asks = rw at (omega (arith, u.most, same));
         }

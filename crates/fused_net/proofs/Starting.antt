@@ -1,16 +1,17 @@
 -- A new graph, and the start of each node.
 use Rattle.std.proofs.Common.{◌≡◌, ◌≢◌, inl, inr, ℕ, zero, suc, ◌+◌, ◌<◌, ◌≤◌, Bool, true, false, if◌then◌else◌, Some, List, [], ◌∷◌, length, get_or, slice_get, replicate, refl, sym, ap, ◌∙◌, subst, arith}
 use Rattle.std.proofs.lemmas.List.{length-set, get_or-replicate, length-replicate}
+use Rattle.elem_core.specs.Prefix.{IsPrefix}
 use Rattle.elem_core.specs.declared.item.Item.{Item}
 use Rattle.port_core.specs.Wire.{Wire}
 use Rattle.port_core.specs.Joint.{Joint, idle, asking, asked, moving, ending, closing, leaving, finished, parted, refused, wire_of, Histories, IsSound}
 use Rattle.port_core.specs.View.{View}
-use Rattle.port_core.specs.Call.{AllIdle, AllUnasked}
+use Rattle.port_core.specs.Call.{starts, AllIdle, AllUnasked}
 use Rattle.port_core.specs.declared.act.Act.{Act}
 use Rattle.port_core.specs.declared.view.InView.TheVariants.{Idle}
 use Rattle.port_core.specs.declared.view.OutView.TheVariants.{Unasked}
 use Rattle.stage_core.specs.Histories.{AllEmpty}
-use Rattle.stage_core.specs.Handling.{Starts}
+use Rattle.stage_core.specs.Handling.{Pulls, AsksAs, Starts}
 use Rattle.wire_core.specs.Cell.{Cell, new_cell}
 use Rattle.wire_core.proofs.Marking.{new_marked, cell}
 use Rattle.wire_core.specs.Marks.{IsMarked, wanted}
@@ -18,14 +19,16 @@ use Rattle.wire_core.proofs.Counting.{elements_end}
 use Rattle.wire_core.specs.Counts.{elements, asks}
 use Rattle.fused_net.specs.PortLists.{PortLists}
 use Rattle.fused_net.specs.declared.net.Ends.{Ends}
-use Rattle.fused_net.specs.Net.{Net, no_wire, read_all, inp_of, out_of, got_of, sent_of, port_at, wire_at, view_of, took, gave, acted_all, with_node}
-use Rattle.fused_net.specs.Laws.{AnyRow, AnyLaw, FreshLaw, first_view, Wired, Minds, IsMinded, Settled, Busy, Starting}
+use Rattle.wire_core.specs.Reading.{no_wire, inp_of, out_of, got_of, sent_of}
+use Rattle.fused_net.specs.Net.{Net, read_all, port_at, wire_at, view_of, took, gave, acted_all, with_node}
+use Rattle.fused_net.specs.Laws.{AnyRow, AnyLaw, FreshLaw, first_view, MovesGrow, Wired, Minds, IsMinded, AllAsked, AllMoments, Settled, Busy, Starting}
 use Rattle.fused_net.specs.Costs.{sum_below}
-use Rattle.fused_net.proofs.Reading.{same_or_not, get_there, get_set_same, get_set_other}
+use Rattle.fused_net.proofs.Reading.{same_or_not, some_same, get_there, get_set_same, get_set_other}
 use Rattle.fused_net.proofs.Acting.{acts_busy, acts_here, acts_others}
-use Rattle.fused_net.proofs.Asking.{after_acts, node_asked}
-use Rattle.fused_net.proofs.Delivering.{cc_some, with_node_busy}
-use Rattle.fused_net.proofs.Going.{nodes-acts}
+use Rattle.fused_net.proofs.Asking.{moves_node, asking_kept, after_acts, node_asked}
+use Rattle.fused_net.proofs.Moments.{allowed_of, acts_moments, node_moments}
+use Rattle.fused_net.proofs.Delivering.{with_node_busy}
+use Rattle.fused_net.proofs.Ongoing.{nodes-acts}
 
 -- the wires of a node, before anything happened
 read_new : {X : Type 0} (f : Cell → X) (n : ℕ) (ws : List ℕ) → ((i w : ℕ) → slice_get ws i ≡ Some w → w < n) → read_all f (replicate n new_cell) ws ≡ replicate (length ws) (f new_cell)
@@ -75,10 +78,10 @@ none_wanted : (c : Cell) (q : Bool) → IsSound c.wire q → IsMarked c → c.wi
 none_wanted c q h m e none =
     idle_j h.joint c.wire.sent c.wire.got c.asked h.histories (subst (λ (v : Wire). IsMarked (cell v c.asked)) h.is m) (sym (ap (λ (v : Wire). v.inp) h.is) ∙ e) none
 
-module _ {N : Type 0} (row : N → View → Type 0) (law : N → N → View → List (List Item) → List (List Item) → Type 0) (fresh : N → View → Type 0) where
+module _ {N : Type 0} (row : N → View → Type 0) (law : N → N → View → List (List Item) → List (List Item) → Type 0) (asking : N → View → Type 0) (moves : N → List ℕ) (fresh : N → View → Type 0) where
   pub new_starting : (nodes firsts : List N) (ends : List Ends) (ports : List PortLists) (wires : List Cell) (queue : List ℕ) (n : ℕ) → queue ≡ [] → firsts ≡ nodes → Wired ends ports (length nodes) n → wires ≡ replicate n new_cell
       → ((k : ℕ) (x : N) → slice_get nodes k ≡ Some x → fresh x (first_view (port_at ports k)))
-      → Starting row law fresh (record { nodes = nodes; firsts = firsts; wires = wires; ends = ends; ports = ports; queue = queue }) 0
+      → Starting row law asking moves fresh (record { nodes = nodes; firsts = firsts; wires = wires; ends = ends; ports = ports; queue = queue }) 0
   new_starting nodes firsts ends ports wires queue n empty same wired is all_fresh = rw (empty, same, is) (record {
     wired = rw length-replicate wired;
     each_first = refl;
@@ -86,46 +89,57 @@ module _ {N : Type 0} (row : N → View → Type 0) (law : N → N → View → 
     marked = λ w h. let within : w < n = rw length-replicate at h in rw (get_or-replicate n w new_cell no_wire within) new_marked;
     below = λ k lt hk. absurd (omega arith);
     asked = λ w h some. let within : w < n = rw length-replicate at h in let none : 1 ≤ wanted new_cell = rw (get_or-replicate n w new_cell no_wire within) at some in absurd (omega (arith, none));
+    moments = λ k w hk h to some. let within : w < n = rw length-replicate at h in let none : 1 ≤ wanted new_cell = rw (get_or-replicate n w new_cell no_wire within) at some in absurd (omega (arith, none));
     above = λ k le hk x first xi fi.
         let ins = λ (i w : ℕ) (e : slice_get (port_at ports k).ins i ≡ Some w). (wired.input_to k i w hk e).0 in
         let outs = λ (i w : ℕ) (e : slice_get (port_at ports k).outs i ≡ Some w). (wired.output_from k i w hk e).0 in
         rw (read_new inp_of n (port_at ports k).ins ins, read_new out_of n (port_at ports k).outs outs, read_new got_of n (port_at ports k).ins ins, read_new sent_of n (port_at ports k).outs outs)
-        (all_fresh k x xi, (cc_some first x (sym fi ∙ xi), ((all_idle _, all_unasked _), ((all_empty _, all_empty _), (same_lengths _ _ _, same_lengths _ _ _)))));
+        (all_fresh k x xi, (some_same first x (sym fi ∙ xi), ((all_idle _, all_unasked _), ((all_empty _, all_empty _), (same_lengths _ _ _, same_lengths _ _ _)))));
   })
 
-  pub start_busy : (net : Net N) (n : ℕ) (x y : N) (acts : List Act) → Starting row law fresh net n → n < length net.nodes → slice_get net.nodes n ≡ Some x → Starts row law fresh x y acts → Busy AnyRow AnyLaw (with_node net n y) n acts
+  pub start_busy : (net : Net N) (n : ℕ) (x y : N) (acts : List Act) → Starting row law asking moves fresh net n → n < length net.nodes → slice_get net.nodes n ≡ Some x → Starts row law fresh x y acts → Busy AnyRow AnyLaw (with_node net n y) n acts
   start_busy net n x y acts s h xi st =
       with_node_busy AnyRow AnyLaw net n y acts s.wired s.each_first s.sound s.marked h st.stands
       (λ first fi. let a = s.above n (omega arith) h x first xi fi in record { allowed = st.obeys.allowed (view_of net n) a.1.1.0 a.0; row_holds = tt; law_holds = tt })
       (λ k hk ne x first xi fi. record { allowed = tt; row_holds = tt; law_holds = tt })
 
-  pub start_done : (net new : Net N) (n : ℕ) (x y : N) (acts : List Act) → Starting row law fresh net n → n < length net.nodes → slice_get net.nodes n ≡ Some x → Starts row law fresh x y acts
-      → new ≡ acted_all (with_node net n y) n acts → Starting row law fresh new (n + 1)
-  start_done net new n x y acts s h xi st is =
+  pub start_done : (net new : Net N) (n : ℕ) (x y : N) (acts : List Act) → Starting row law asking moves fresh net n → n < length net.nodes → slice_get net.nodes n ≡ Some x → Starts row law fresh x y acts
+      → AsksAs starts (fresh x) (asking y) acts → IsPrefix (moves x) (moves y) → new ≡ acted_all (with_node net n y) n acts → Starting row law asking moves fresh new (n + 1)
+  start_done net new n x y acts s h xi st asks grows is =
       let b : Busy AnyRow AnyLaw (with_node net n y) n acts = start_busy net n x y acts s h xi st in
       let done : Busy AnyRow AnyLaw (acted_all (with_node net n y) n acts) n [] = acts_busy AnyRow AnyLaw acts (with_node net n y) n b in
       let count : length (acted_all (with_node net n y) n acts).nodes ≡ length net.nodes = ap (λ (l : List N). length l) (nodes-acts acts (with_node net n y) n) ∙ length-set _ _ _ in
       let here : IsMinded row law (with_node net n y) n acts = λ z first zi fi.
       let a = s.above n (omega arith) h x first xi fi in
-      let same : y ≡ z = cc_some y z (sym (get_set_same net.nodes n y h) ∙ zi) in
+      let same : y ≡ z = some_same y z (sym (get_set_same net.nodes n y h) ∙ zi) in
       let started : Minds row law y x (view_of net n) (took net n) (gave net n) acts = record {
         allowed = st.obeys.allowed (view_of net n) a.1.1.0 a.0;
         row_holds = st.obeys.row (view_of net n) a.1.1.0 a.0;
         law_holds = st.begins (view_of net n) (took net n) (gave net n) a.1.1.0 a.0 a.1.1.1.0.0 a.1.1.1.0.1 a.1.1.1.1.0 a.1.1.1.1.1;
       } in
       subst (λ (u : N). Minds row law u first (view_of net n) (took net n) (gave net n) acts) same (subst (λ (u : N). Minds row law y u (view_of net n) (took net n) (gave net n) acts) (sym a.1.0) started) in
+      let moved : MovesGrow moves net (with_node net n y) = moves_node moves net n y h (λ z zi. let same : x ≡ z = some_same x z (sym xi ∙ zi) in rw same at grows) in
+      let tells = λ (pulls : Pulls acts). asking_kept asking (with_node net n y) n acts b (λ z zi.
+      let first = get_there net.firsts n (rw s.each_first h) in
+      let a = s.above n (omega arith) h x first.0 xi first.1 in
+      let same : y ≡ z = some_same y z (sym (get_set_same net.nodes n y h) ∙ zi) in
+      rw same at (asks (view_of net n) a.1.1.0 a.0 pulls)) in
+      let asked : AllAsked row law asking moves (acted_all (with_node net n y) n acts) = after_acts row law asking moves (with_node net n y) n acts b here tells (node_asked row law asking moves net n y (λ u hu ins some.
+      let first = get_there net.firsts n (rw s.each_first h) in
+      let a = s.above n (omega arith) h x first.0 xi first.1 in
+      let idles = subst (λ (ws : List ℕ). AllIdle (read_all inp_of net.wires ws)) ins a.1.1.0.0 in
+      let empty = subst (λ (ws : List ℕ). AllEmpty (read_all got_of net.wires ws)) ins a.1.1.1.0.0 in
+      let none : wanted (wire_at net u) ≡ 0 = none_wanted (wire_at net u) _ (s.sound u hu) (s.marked u hu) idles.0 empty.0 in
+      omega (arith, none, some)) moved s.asked) in
+      let moments : AllMoments row law asking moves (acted_all (with_node net n y) n acts) =
+      acts_moments row law asking moves (with_node net n y) n acts b (allowed_of AnyRow AnyLaw (with_node net n y) n acts b) here tells asked (node_moments row law asking moves net n y moved s.moments) in
       rw is (record {
         wired = done.wired;
         each_first = done.each_first;
         sound = done.sound;
         marked = done.marked;
-        asked = after_acts row law (with_node net n y) n acts b here (node_asked row law net n y (λ u hu ins some.
-            let first = get_there net.firsts n (rw s.each_first h) in
-            let a = s.above n (omega arith) h x first.0 xi first.1 in
-            let idles = subst (λ (ws : List ℕ). AllIdle (read_all inp_of net.wires ws)) ins a.1.1.0.0 in
-            let empty = subst (λ (ws : List ℕ). AllEmpty (read_all got_of net.wires ws)) ins a.1.1.1.0.0 in
-            let none : wanted (wire_at net u) ≡ 0 = none_wanted (wire_at net u) _ (s.sound u hu) (s.marked u hu) idles.0 empty.0 in
-            omega (arith, none, some)) s.asked);
+        asked = asked;
+        moments = moments;
         below = λ k lt hk. elim (same_or_not k n) [
           | inl e ↦ rw e (acts_here row law acts (with_node net n y) n b here)
           | inr ne ↦ let within : k < length net.nodes = rw count at hk in
@@ -143,8 +157,8 @@ module _ {N : Type 0} (row : N → View → Type 0) (law : N → N → View → 
       })
 
   -- all were started
-  pub all_started : (net : Net N) (n : ℕ) → Starting row law fresh net n → length net.nodes ≤ n → Settled row law net
-  all_started net n s h = record { wired = s.wired; each_first = s.each_first; sound = s.sound; marked = s.marked; minded = λ k hk. s.below k (omega arith) hk; asked = s.asked }
+  pub all_started : (net : Net N) (n : ℕ) → Starting row law asking moves fresh net n → length net.nodes ≤ n → Settled row law asking moves net
+  all_started net n s h = record { wired = s.wired; each_first = s.each_first; sound = s.sound; marked = s.marked; minded = λ k hk. s.below k (omega arith) hk; asked = s.asked; moments = s.moments }
 
 pub new_asks : (wires : List Cell) (n : ℕ) → wires ≡ replicate n new_cell → sum_below (λ w. asks (get_or wires w no_wire).wire) (length wires) ≡ 0
 new_asks wires n is = rw is (rw length-replicate (no_asks n n (omega arith)))

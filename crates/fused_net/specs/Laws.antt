@@ -1,9 +1,10 @@
 -- What a fused graph keeps: its wiring, a joint state of each wire, and of each node its row and its law over its histories.
 use Rattle.std.specs.Prelude.{◌≡◌, ◌≢◌, ℕ, ◌<◌, ◌≤◌, true, Some, List, [], ◌∷◌, length, replicate, slice_get, ⊤}
+use Rattle.elem_core.specs.Prefix.{IsPrefix}
 use Rattle.elem_core.specs.declared.item.Item.{Item}
 use Rattle.port_core.specs.Ring.{holds}
 use Rattle.port_core.specs.Joint.{IsSound}
-use Rattle.port_core.specs.View.{View, ActsAllowed, acted_all}
+use Rattle.port_core.specs.View.{View, in_at, ActsAllowed, acted_all}
 use Rattle.port_core.specs.Asking.{AsksStand}
 use Rattle.port_core.specs.Call.{Call, starts, CallAllowed, Meets}
 use Rattle.port_core.specs.declared.view.InView.TheVariants.{Idle, Waiting}
@@ -11,7 +12,7 @@ use Rattle.port_core.specs.declared.view.OutView.TheVariants.{Unasked}
 use Rattle.port_core.specs.declared.act.Act.{Act}
 use Rattle.wire_core.specs.Marks.{IsMarked, wanted, Grown}
 use Rattle.stage_core.specs.Histories.{given_all, AllEmpty}
-use Rattle.stage_core.specs.Handling.{Handles}
+use Rattle.stage_core.specs.Handling.{Pulls, AsksAs, Handles}
 use Rattle.fused_net.specs.PortLists.{PortLists}
 use Rattle.fused_net.specs.declared.net.Ends.{Ends}
 use Rattle.fused_net.specs.Net.{Net, end_at, port_at, ports_at, wire_at, view_of, took, gave, with_node}
@@ -55,6 +56,14 @@ pub record GoesOn {N : Type 0} (old new : Net N) : Type 0 where
 abbrev pub NodeStays : {N : Type 0} → Net N → Net N → ℕ → Type 0
 NodeStays old new w = (k : ℕ) → (ports_at old k).ins ≡ w ∷ [] → (ports_at old k).outs ≡ [] → (wire_at new w).wire.got ≡ (wire_at old w).wire.got → slice_get new.nodes k ≡ slice_get old.nodes k
 
+-- what a stage tells of its ports whenever it has just asked, of node n
+abbrev pub IsAsking : {N : Type 0} → (N → View → Type 0) → Net N → ℕ → Type 0
+IsAsking {N = N} asking net n = (x : N) → slice_get net.nodes n ≡ Some x → asking x (view_of net n)
+
+-- the moves that each node has recorded only grew
+abbrev pub MovesGrow : {N : Type 0} → (N → List ℕ) → Net N → Net N → Type 0
+MovesGrow {N = N} moves old new = (k : ℕ) (x y : N) → slice_get old.nodes k ≡ Some x → slice_get new.nodes k ≡ Some y → IsPrefix (moves x) (moves y)
+
 module _ {N : Type 0} (row : N → View → Type 0) (law : N → N → View → List (List Item) → List (List Item) → Type 0) where
   -- a node, by what it knows and by its histories, which has these actions still to do: they are allowed, and once they are
   -- done its row and its law hold
@@ -66,33 +75,6 @@ module _ {N : Type 0} (row : N → View → Type 0) (law : N → N → View → 
   -- node n of the graph
   abbrev pub IsMinded : Net N → ℕ → List Act → Type 0
   IsMinded net n acts = (x first : N) → slice_get net.nodes n ≡ Some x → slice_get net.firsts n ≡ Some first → Minds x first (view_of net n) (took net n) (gave net n) acts
-
-  -- The last ask of wire w that took effect: an earlier moment from which the graph went on, and at which the node at the
-  -- wire's input had asked. It waited there, and its row and its law held.
-  pub record LastAsk (net : Net N) (w : ℕ) : Type 0 where
-    pub old : Net N
-    pub on : GoesOn old net
-    pub grown : (u : ℕ) → u < length old.wires → Grown (wire_at old u) (wire_at net u)
-    pub sound : (u : ℕ) → u < length old.wires → IsSound (wire_at old u).wire (holds old.queue u)
-    pub marked : (u : ℕ) → u < length old.wires → IsMarked (wire_at old u)
-    pub waits : (wire_at old w).wire.inp ≡ Waiting
-    pub asked : (wire_at old w).asked ≡ true
-    pub same : wanted (wire_at net w) ≡ wanted (wire_at old w)
-    pub stays : NodeStays old net w
-    pub minded : IsMinded old (end_at old.ends w).to []
-
-  -- each wire whose input has asked has a last ask
-  abbrev pub AllAsked : Net N → Type 0
-  AllAsked net = (w : ℕ) → w < length net.wires → 1 ≤ wanted (wire_at net w) → LastAsk net w
-
-  -- the graph between two events
-  pub record Settled (net : Net N) : Type 0 where
-    pub wired : Wired net.ends net.ports (length net.nodes) (length net.wires)
-    pub each_first : length net.firsts ≡ length net.nodes
-    pub sound : (w : ℕ) → w < length net.wires → IsSound (wire_at net w).wire (holds net.queue w)
-    pub marked : (w : ℕ) → w < length net.wires → IsMarked (wire_at net w)
-    pub minded : (n : ℕ) → n < length net.nodes → IsMinded net n []
-    pub asked : AllAsked net
 
   -- node n has these actions to do
   pub record Busy (net : Net N) (n : ℕ) (acts : List Act) : Type 0 where
@@ -113,11 +95,69 @@ module _ {N : Type 0} (row : N → View → Type 0) (law : N → N → View → 
   abbrev pub Awaits : Call → Net N → ℕ → Type 0
   Awaits call net n = (x y : N) (acts : List Act) → slice_get net.nodes n ≡ Some x → Handles row law call x y acts → Busy (with_node net n y) n acts
 
+module _ {N : Type 0} (row : N → View → Type 0) (law : N → N → View → List (List Item) → List (List Item) → Type 0) (asking : N → View → Type 0) (moves : N → List ℕ) where
+  -- The last ask of wire w that took effect: an earlier moment from which the graph went on, and at which the node at the
+  -- wire's input had asked. It waited there, its row and its law held, and so did what it tells whenever it has just asked.
+  pub record LastAsk (net : Net N) (w : ℕ) : Type 0 where
+    pub old : Net N
+    pub on : GoesOn old net
+    pub grown : (u : ℕ) → u < length old.wires → Grown (wire_at old u) (wire_at net u)
+    pub moves_on : MovesGrow moves old net
+    pub sound : (u : ℕ) → u < length old.wires → IsSound (wire_at old u).wire (holds old.queue u)
+    pub marked : (u : ℕ) → u < length old.wires → IsMarked (wire_at old u)
+    pub waits : (wire_at old w).wire.inp ≡ Waiting
+    pub asked : (wire_at old w).asked ≡ true
+    pub same : wanted (wire_at net w) ≡ wanted (wire_at old w)
+    pub stays : NodeStays old net w
+    pub minded : IsMinded row law old (end_at old.ends w).to []
+    pub asking_then : IsAsking asking old (end_at old.ends w).to
+
+  -- each wire whose input has asked has a last ask
+  abbrev pub AllAsked : Net N → Type 0
+  AllAsked net = (w : ℕ) → w < length net.wires → 1 ≤ wanted (wire_at net w) → LastAsk net w
+
+  -- The last ask of node n at any of its inputs: an earlier moment from which the graph went on, and at which the node had just
+  -- asked at one of them. It waits there, and its row and its law held. None of its inputs was asked since, and at that
+  -- moment each wire had a last ask of its own.
+  pub record NodeAsked (net : Net N) (n : ℕ) : Type 0 where
+    pub old : Net N
+    pub on : GoesOn old net
+    pub grown : (u : ℕ) → u < length old.wires → Grown (wire_at old u) (wire_at net u)
+    pub moves_on : MovesGrow moves old net
+    pub sound : (u : ℕ) → u < length old.wires → IsSound (wire_at old u).wire (holds old.queue u)
+    pub marked : (u : ℕ) → u < length old.wires → IsMarked (wire_at old u)
+    pub minded : IsMinded row law old n []
+    pub asking_then : IsAsking asking old n
+    pub before : AllAsked old
+    pub port : ℕ
+    pub waits : in_at (view_of old n) port ≡ Waiting
+    pub same : (u : ℕ) → u < length old.wires → (end_at old.ends u).to ≡ n → wanted (wire_at net u) ≡ wanted (wire_at old u)
+
+  -- each node that has asked at some input has such a moment
+  abbrev pub AllMoments : Net N → Type 0
+  AllMoments net = (n u : ℕ) → n < length net.nodes → u < length net.wires → (end_at net.ends u).to ≡ n → 1 ≤ wanted (wire_at net u) → NodeAsked net n
+
+  -- the graph between two events
+  pub record Settled (net : Net N) : Type 0 where
+    pub wired : Wired net.ends net.ports (length net.nodes) (length net.wires)
+    pub each_first : length net.firsts ≡ length net.nodes
+    pub sound : (w : ℕ) → w < length net.wires → IsSound (wire_at net w).wire (holds net.queue w)
+    pub marked : (w : ℕ) → w < length net.wires → IsMarked (wire_at net w)
+    pub minded : (n : ℕ) → n < length net.nodes → IsMinded row law net n []
+    pub asked : AllAsked net
+    pub moments : AllMoments net
+
+  -- whatever the handler of node n does for this call, what it tells as it asks is told of the graph
+  abbrev pub TellsAsking : Call → Net N → ℕ → Type 0
+  TellsAsking call net n = (x y : N) (acts : List Act) → slice_get net.nodes n ≡ Some x → Handles row law call x y acts → AsksAs call (row x) (asking y) acts → Pulls acts → asking y (acted_all (view_of net n) acts)
+
   -- the handler of node n was called, and its actions were done
   pub record Responds (old new : Net N) (n : ℕ) : Type 0 where
     pub node : N
     pub acts : List Act
-    pub busy : Busy (with_node old n node) n acts
+    pub busy : Busy row law (with_node old n node) n acts
+    pub asks : Pulls acts → asking node (acted_all (view_of old n) acts)
+    pub grows : (x : N) → slice_get old.nodes n ≡ Some x → IsPrefix (moves x) (moves node)
     pub is : new ≡ net.acted_all (with_node old n node) n acts
 
   -- the nodes below n were started, and the others were not
@@ -126,7 +166,8 @@ module _ {N : Type 0} (row : N → View → Type 0) (law : N → N → View → 
     pub each_first : length net.firsts ≡ length net.nodes
     pub sound : (w : ℕ) → w < length net.wires → IsSound (wire_at net w).wire (holds net.queue w)
     pub marked : (w : ℕ) → w < length net.wires → IsMarked (wire_at net w)
-    pub below : (k : ℕ) → k < n → k < length net.nodes → IsMinded net k []
+    pub below : (k : ℕ) → k < n → k < length net.nodes → IsMinded row law net k []
     pub asked : AllAsked net
+    pub moments : AllMoments net
     pub above : (k : ℕ) → n ≤ k → k < length net.nodes → (x first : N) → slice_get net.nodes k ≡ Some x → slice_get net.firsts k ≡ Some first
         → fresh x (view_of net k) × FreshLaw first x (view_of net k) (took net k) (gave net k)

@@ -1,18 +1,14 @@
 -- A fused graph as contracts see it, and what each step makes of it. The nodes are of any type.
-use Rattle.std.specs.Prelude.{◌≡◌, ℕ, ◌+◌, ◌^◌, ◌<◌, Bool, true, false, if◌then◌else◌, None, List, [], ◌∷◌, ◌++◌, length, slice_index_or, slice_set}
+use Rattle.std.specs.Prelude.{◌≡◌, ℕ, ◌+◌, ◌^◌, ◌<◌, Bool, true, false, if◌then◌else◌, List, [], ◌∷◌, ◌++◌, length, slice_index_or, slice_set}
 use Rattle.elem_core.specs.declared.item.Item.{Item}
-use Rattle.port_core.specs.Connection.{quiet}
 use Rattle.port_core.specs.Ring.{holds}
 use Rattle.port_core.specs.View.{View}
 use Rattle.port_core.specs.Call.{Call, starts, asks, brings, cancels}
 use Rattle.port_core.specs.Wire.{Delivery, nothing, ask, refusal, brought, delivery_of, after_delivery, again}
 use Rattle.port_core.specs.declared.act.Act.{Act}
 use Rattle.port_core.specs.declared.act.Act.TheVariants.{Pull, Push, Complete, FailOut, Cancel}
-use Rattle.port_core.specs.declared.view.InView.{InView}
-use Rattle.port_core.specs.declared.view.InView.TheVariants.{Left}
-use Rattle.port_core.specs.declared.view.OutView.{OutView}
-use Rattle.port_core.specs.declared.view.OutView.TheVariants.{Shut}
 use Rattle.wire_core.specs.Cell.{Cell, moved_by, queues_by}
+use Rattle.wire_core.specs.Reading.{no_wire, inp_of, out_of, got_of, sent_of}
 use Rattle.wire_core.specs.Counts.{elements}
 use Rattle.fused_net.specs.PortLists.{PortLists}
 use Rattle.fused_net.specs.declared.net.Ends.{Ends}
@@ -27,10 +23,7 @@ pub record Net (N : Type 0) : Type 0 where
   pub ports : List PortLists
   pub queue : List ℕ
 
--- where there is no wire, both ends are closed and nothing passed
-abbrev pub no_wire : Cell
-no_wire = record { wire = record { out = Shut; inp = Left; conn = record { step = quiet; to_grab = None; in_closed = true; out_closed = true; cause = None }; sent = []; got = [] }; asked = false }
-
+-- the ends where there is no wire, and the wires where there is no node
 abbrev pub no_ends : Ends
 no_ends = record { from = 0; output = 0; to = 0; input = 0 }
 
@@ -49,19 +42,6 @@ port_at ports n = slice_index_or ports n no_ports
 abbrev pub read_all : {X : Type 0} → (Cell → X) → List Cell → List ℕ → List X
 read_all f wires [] = []
 read_all f wires (w ∷ ws) = f (slice_index_or wires w no_wire) ∷ read_all f wires ws
-
--- what the ends of a wire know of it, and what passed there
-abbrev pub inp_of : Cell → InView
-inp_of c = c.wire.inp
-
-abbrev pub out_of : Cell → OutView
-out_of c = c.wire.out
-
-abbrev pub got_of : Cell → List Item
-got_of c = c.wire.got
-
-abbrev pub sent_of : Cell → List Item
-sent_of c = c.wire.sent
 
 -- the wire that an action is for
 abbrev pub wire_for : Act → PortLists → ℕ

@@ -1,12 +1,13 @@
 // Nodes joined by wires: one action, one event, and `execute`.
 ghost use Rattle.std.specs.Prelude.{◌≡◌, ◌≢◌, ℕ, ◌+◌, ◌^◌, ◌<◌, ◌≤◌, [], false, Some, OnOk, IfOk, IfNone, IfSome, IsTrue, ◌↔◌, if◌then◌else◌, length, slice_get};
+ghost use Rattle.elem_core.specs.Prefix.{IsPrefix};
 ghost use Rattle.port_core.specs.Call.{Meets};
 ghost use Rattle.port_core.specs.Ring.{holds};
 ghost use Rattle.port_core.specs.Wire.{nothing, delivery_of};
-ghost use Rattle.stage_core.specs.Handling.{most_acts, Handles};
+ghost use Rattle.stage_core.specs.Handling.{most_acts, AsksAs, Handles};
 ghost use Rattle.wire_core.specs.Cell.{delivery_in};
 ghost use Rattle.fused_net.specs.Net.{acted, acted_all, event_told, wire_at, wire_for, HasPort, Able, port_at, target, call_of, before};
-ghost use Rattle.fused_net.specs.Laws.{AnyRow, AnyLaw, Wired, first_view, Settled, Busy, Starting, GoesOn, Awaits, MeetsAt, Responds};
+ghost use Rattle.fused_net.specs.Laws.{AnyRow, AnyLaw, Wired, first_view, Settled, Busy, Starting, GoesOn, Awaits, TellsAsking, MeetsAt, Responds};
 ghost use Rattle.fused_net.specs.Costs.{all_asks, Uses};
 
 use crate::net::{Ends, Ports};
@@ -78,6 +79,8 @@ fn call<S: Stage>(
     requires empty { acts.old.items ≡ [] }
     requires room { most_acts ≤ acts.old.room }
     ensures handles { OnOk result (Handles S.rests S.law (call_of (delivery_in event) ends) node.old node.new acts.new.items) }
+    ensures asks { OnOk result (AsksAs (call_of (delivery_in event) ends) (S.rests node.old) (S.asking node.new) acts.new.items) }
+    ensures grows { OnOk result (IsPrefix (S.moves node.old) (S.moves node.new)) }
     ensures room { OnOk result (acts.new.room ≡ acts.old.room) }
 {
     match event {
@@ -102,7 +105,7 @@ impl<S: Stage> Engine<S> {
         requires wired { Wired ends.items ports.items (length nodes.items) (length ends.items) }
         requires few { length ends.items < 2 ^ 32 }
         requires fresh { (n : ℕ) (x : S) → slice_get nodes.items n ≡ Some x → S.fresh x (first_view (port_at ports.items n)) }
-        ensures starting { IfOk result (λ e. Starting S.rests S.law S.fresh e 0) }
+        ensures starting { IfOk result (λ e. Starting S.rests S.law S.asking S.moves S.fresh e 0) }
         ensures nodes { IfOk result (λ e. e.nodes ≡ nodes.items) }
         ensures firsts { IfOk result (λ e. e.firsts ≡ nodes.items) }
         ensures ends { IfOk result (λ e. e.ends ≡ ends.items) }
@@ -127,12 +130,12 @@ impl<S: Stage> Engine<S> {
 
     // Starts node n.
     fn start_at(&mut self, alloc: Global, n: usize, acts: &mut Acts) -> Result<(), NoMemory>
-        requires starting { Starting S.rests S.law S.fresh self.old n }
+        requires starting { Starting S.rests S.law S.asking S.moves S.fresh self.old n }
         requires within { n < length self.old.nodes }
         requires few { all_asks self.old ≤ 4000000000 }
         requires empty { acts.old.items ≡ [] }
         requires room { most_acts ≤ acts.old.room }
-        ensures starting { OnOk result (Starting S.rests S.law S.fresh self.new (n + 1)) }
+        ensures starting { OnOk result (Starting S.rests S.law S.asking S.moves S.fresh self.new (n + 1)) }
         ensures on { OnOk result (GoesOn self.old self.new) }
         ensures asks { OnOk result (all_asks self.new ≤ all_asks self.old) }
         ensures acts { OnOk result (acts.new ≡ acts.old) }
@@ -144,11 +147,11 @@ impl<S: Stage> Engine<S> {
 
     /// Starts every node, in their order.
     pub fn start(&mut self, alloc: Global, acts: &mut Acts) -> Result<(), NoMemory>
-        requires starting { Starting S.rests S.law S.fresh self.old 0 }
+        requires starting { Starting S.rests S.law S.asking S.moves S.fresh self.old 0 }
         requires few { all_asks self.old ≤ 4000000000 }
         requires empty { acts.old.items ≡ [] }
         requires room { most_acts ≤ acts.old.room }
-        ensures laws { OnOk result (Settled S.rests S.law self.new) }
+        ensures laws { OnOk result (Settled S.rests S.law S.asking S.moves self.new) }
         ensures on { OnOk result (GoesOn self.old self.new) }
         ensures asks { OnOk result (all_asks self.new ≤ all_asks self.old) }
         ensures acts { OnOk result (acts.new ≡ acts.old) }
@@ -210,10 +213,11 @@ impl<S: Stage> Engine<S> {
         requires within { n < length self.old.nodes }
         requires meets { MeetsAt S.rests S.law (call_of (delivery_in event) ends) self.old n }
         requires awaits { Awaits S.rests S.law (call_of (delivery_in event) ends) self.old n }
+        requires tells { TellsAsking S.rests S.law S.asking S.moves (call_of (delivery_in event) ends) self.old n }
         requires few { all_asks self.old ≤ 4000000000 }
         requires empty { acts.old.items ≡ [] }
         requires room { most_acts ≤ acts.old.room }
-        ensures responds { OnOk result (Responds S.rests S.law self.old self.new n) }
+        ensures responds { OnOk result (Responds S.rests S.law S.asking S.moves self.old self.new n) }
         ensures acts { OnOk result (acts.new ≡ acts.old) }
     {
         call(&mut self.nodes[n], alloc, ends, event, acts)?;
@@ -225,11 +229,11 @@ impl<S: Stage> Engine<S> {
     fn handle(&mut self, alloc: Global, w: u32, acts: &mut Acts) -> Result<(), NoMemory>
         requires within { w < length self.old.wires }
         requires absent { holds self.old.queue w ≡ false }
-        requires laws { Settled S.rests S.law (before self.old w) }
+        requires laws { Settled S.rests S.law S.asking S.moves (before self.old w) }
         requires few { all_asks self.old + 1 ≤ 4000000000 }
         requires empty { acts.old.items ≡ [] }
         requires room { most_acts ≤ acts.old.room }
-        ensures laws { OnOk result (Settled S.rests S.law self.new) }
+        ensures laws { OnOk result (Settled S.rests S.law S.asking S.moves self.new) }
         ensures on { OnOk result (GoesOn self.old self.new) }
         ensures uses { OnOk result (Uses (before self.old w) self.new 1) }
         ensures acts { OnOk result (acts.new ≡ acts.old) }
@@ -254,11 +258,11 @@ impl<S: Stage> Engine<S> {
 
     // Handles one event. False comes exactly where none is left.
     fn step(&mut self, alloc: Global, acts: &mut Acts) -> Result<bool, NoMemory>
-        requires laws { Settled S.rests S.law self.old }
+        requires laws { Settled S.rests S.law S.asking S.moves self.old }
         requires few { all_asks self.old + 1 ≤ 4000000000 }
         requires empty { acts.old.items ≡ [] }
         requires room { most_acts ≤ acts.old.room }
-        ensures laws { OnOk result (Settled S.rests S.law self.new) }
+        ensures laws { OnOk result (Settled S.rests S.law S.asking S.moves self.new) }
         ensures on { OnOk result (GoesOn self.old self.new) }
         ensures uses { IfOk result (λ went. Uses self.old self.new (if went then 1 else 0)) }
         ensures rest { IfOk result (λ went. went ≡ false → self.new.queue ≡ []) }
@@ -275,11 +279,11 @@ impl<S: Stage> Engine<S> {
 
     /// Handles at most `limit` events, one unit each, and fewer only where none is left. It answers how many.
     pub fn execute(&mut self, alloc: Global, limit: u32, acts: &mut Acts) -> Result<u32, NoMemory>
-        requires laws { Settled S.rests S.law self.old }
+        requires laws { Settled S.rests S.law S.asking S.moves self.old }
         requires few { all_asks self.old + limit ≤ 4000000000 }
         requires empty { acts.old.items ≡ [] }
         requires room { most_acts ≤ acts.old.room }
-        ensures laws { OnOk result (Settled S.rests S.law self.new) }
+        ensures laws { OnOk result (Settled S.rests S.law S.asking S.moves self.new) }
         ensures on { OnOk result (GoesOn self.old self.new) }
         ensures uses { IfOk result (λ used. Uses self.old self.new used) }
         ensures within { IfOk result (λ used. used ≤ limit) }

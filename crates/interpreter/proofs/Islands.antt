@@ -4,7 +4,7 @@ use Rattle.std.proofs.lemmas.List.{length-map}
 use Rattle.std.proofs.lemmas.Option.{slice_get_within}
 use Rattle.port_core.specs.declared.view.InView.TheVariants.{Idle}
 use Rattle.port_core.specs.declared.view.OutView.TheVariants.{Unasked}
-use Rattle.nodes.specs.Nodes.{node_fresh, node_row, node_law}
+use Rattle.nodes.specs.Nodes.{node_fresh, node_row, node_law, node_asking, node_moves}
 use Rattle.nodes.specs.declared.node.Node.{Node}
 use Rattle.nodes.specs.declared.node.Node.TheVariants as node
 use Rattle.fused_net.specs.PortLists.{PortLists}
@@ -130,5 +130,5 @@ writers_cut (node.Writing x) xs = refl
 writers_cut (node.Ignoring x) xs = refl
 
 -- an island that was started
-pub keeps_new : {S D : Type 0} (sources : S → SourceState) (drains : D → DrainState) (old new : Net (Node S D)) → Settled node_row (node_law sources drains) new → all_asks new ≤ all_asks old → all_asks old ≡ 0 → Keeps sources drains new 0
+pub keeps_new : {S D : Type 0} (sources : S → SourceState) (drains : D → DrainState) (old new : Net (Node S D)) → Settled node_row (node_law sources drains) node_asking node_moves new → all_asks new ≤ all_asks old → all_asks old ≡ 0 → Keeps sources drains new 0
 keeps_new sources drains old new s h e = record { laws = s; asks = omega (arith, h, e); within = omega arith }

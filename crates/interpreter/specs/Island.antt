@@ -6,7 +6,7 @@ use Rattle.stream_model.specs.declared.outcome.WireCount.{WireCount}
 use Rattle.stream_model.specs.declared.outcome.EndState.{EndState}
 use Rattle.wire_core.specs.Cell.{Cell}
 use Rattle.wire_core.specs.Counts.{elements}
-use Rattle.nodes.specs.Nodes.{node_row, node_law}
+use Rattle.nodes.specs.Nodes.{node_row, node_law, node_asking, node_moves}
 use Rattle.nodes.specs.declared.node.Node.{Node}
 use Rattle.nodes.specs.declared.node.Node.TheVariants as node
 use Rattle.fused_net.specs.Net.{Net}
@@ -23,7 +23,7 @@ pub record Kept (S D : Type 0) : Type 0 where
 
 -- what an island keeps between two calls
 pub record Keeps {S D : Type 0} (sources : S → SourceState) (drains : D → DrainState) (net : Net (Node S D)) (used : ℕ) : Type 0 where
-  pub laws : Settled node_row (node_law sources drains) net
+  pub laws : Settled node_row (node_law sources drains) node_asking node_moves net
   pub asks : all_asks net ≤ used
   pub within : used ≤ 4000000000
 

@@ -2,7 +2,7 @@
 ghost use Rattle.std.specs.Prelude.{◌≡◌, ◌+◌, ◌<◌, ◌≤◌, ◌↔◌, ◌∷◌, ◌++◌, [], false, IsTrue, IfOk, OnOk, map};
 ghost use Rattle.fused_net.specs.Laws.{Starting, GoesOn};
 ghost use Rattle.fused_net.specs.Costs.{all_asks, Uses};
-ghost use Rattle.nodes.specs.Nodes.{node_fresh, node_row, node_law};
+ghost use Rattle.nodes.specs.Nodes.{node_fresh, node_row, node_law, node_asking, node_moves};
 ghost use Rattle.interpreter.specs.Parts.{AreParts, AllBecome, ends_of, number_of};
 ghost use Rattle.interpreter.specs.Island.{Keeps, counts_of, sinks_of, readers_of, writers_of};
 
@@ -149,7 +149,7 @@ fn assemble<S: Source, D: Drain>(
     parts: Parts<S, D>,
 ) -> Result<Engine<Node<S, D>>, NoMemory>
     requires { AreParts parts.nodes.items parts.links.items }
-    ensures starting { IfOk result (λ e. Starting node_row (node_law S.state D.state) node_fresh e 0) }
+    ensures starting { IfOk result (λ e. Starting node_row (node_law S.state D.state) node_asking node_moves node_fresh e 0) }
     ensures firsts { IfOk result (λ e. AllBecome parts.nodes.items e.firsts) }
     ensures ends { IfOk result (λ e. e.ends ≡ map ends_of parts.links.items) }
     ensures asks { IfOk result (λ e. all_asks e ≡ 0) }

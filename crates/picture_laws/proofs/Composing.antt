@@ -6,7 +6,7 @@ use Rattle.stream_model.specs.Graph.{Graph}
 use Rattle.stream_model.specs.Node.{World}
 use Rattle.fused_net.specs.Net.{Net, wire_at}
 use Rattle.fused_net.specs.Laws.{Settled}
-use Rattle.nodes.specs.Nodes.{node_row, node_law}
+use Rattle.nodes.specs.Nodes.{node_row, node_law, node_asking, node_moves}
 use Rattle.nodes.specs.declared.node.Node.{Node}
 use Rattle.run_laws.specs.Made.{Materializes}
 use Rattle.run_laws.specs.Telling.{Tells}
@@ -14,7 +14,7 @@ use Rattle.run_laws.proofs.AgreeingWires.{every_wire}
 use Rattle.picture_laws.specs.Picture.{AllPass}
 use Rattle.picture_laws.proofs.Telling.{agrees_passes}
 
-pub all_pass : {S D : Type 0} (sources : S → SourceState) (drains : D → DrainState) (g : Graph) (w : World) (rank : ℕ → ℕ) (net : Net (Node S D)) → Settled node_row (node_law sources drains) net → Materializes sources g net.firsts net.ends
+pub all_pass : {S D : Type 0} (sources : S → SourceState) (drains : D → DrainState) (g : Graph) (w : World) (rank : ℕ → ℕ) (net : Net (Node S D)) → Settled node_row (node_law sources drains) node_asking node_moves net → Materializes sources g net.firsts net.ends
     → Tells sources g w net → IsRanked g rank → AllPass net (composed g w)
 all_pass sources drains g w rank net s m tells ranked i h =
     let ends = s.wired.each_wire in

@@ -34,7 +34,7 @@ use Rattle.nodes.specs.declared.node.Node.TheVariants.{Writing}
 use Rattle.nodes.specs.declared.sink.Writes.{Writes}
 use Rattle.nodes.specs.declared.sink.Writes.TheVariants.{Each, First, Last}
 use Rattle.nodes.specs.Kinds.{IsMaker, IsFileSink, writes_of}
-use Rattle.nodes.specs.Nodes.{node_row, node_law}
+use Rattle.nodes.specs.Nodes.{node_row, node_law, node_asking, node_moves}
 use Rattle.nodes.specs.Ports.{OneInOf}
 use Rattle.nodes.specs.Source.{lines_row_in}
 use Rattle.nodes.specs.Sink.{Sink, sink_row_in, WritesOf}
@@ -156,7 +156,7 @@ none_or_some : (n : ℕ) → (n ≤ 1) ⊎ (1 ≤ n)
 none_or_some zero = inl (omega arith)
 none_or_some (suc n) = inr (omega arith)
 
-module _ {S D : Type 0} (sources : S → SourceState) (drains : D → DrainState) (g : Graph) (net : Net (Node S D)) (s : Settled node_row (node_law sources drains) net) where
+module _ {S D : Type 0} (sources : S → SourceState) (drains : D → DrainState) (g : Graph) (net : Net (Node S D)) (s : Settled node_row (node_law sources drains) node_asking node_moves net) where
   -- when it asked nothing had come to it
   first_moment : (old : Net (Node S D)) (k a : ℕ) (first : Sink D) (x : Node S D) → first.writes ≡ First → node_row x (view_of old k) → node_law sources drains (Writing first) x (view_of old k) (took old k) (gave old k)
       → (ports_at old k).ins ≡ a ∷ [] → (wire_at old a).wire.inp ≡ Waiting → (wire_at old a).wire.got ≡ []

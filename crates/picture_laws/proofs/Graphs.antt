@@ -18,12 +18,13 @@ use Rattle.stream_picture.specs.Rests.{Rests, SinksMatch}
 use Rattle.stream_picture.specs.View.{EachWire, ins, ins_at, outs_at}
 use Rattle.stream_picture.specs.View as picture
 use Rattle.stage_linear.specs.States.{row_in, IsLinear}
-use Rattle.fused_net.specs.Net.{Net, wire_at, ports_at, view_of, took, gave, inp_of, out_of, got_of, sent_of, read_all}
+use Rattle.wire_core.specs.Reading.{inp_of, out_of, got_of, sent_of}
+use Rattle.fused_net.specs.Net.{Net, wire_at, ports_at, view_of, took, gave, read_all}
 use Rattle.fused_net.specs.Laws.{Settled}
 use Rattle.fused_net.proofs.Reading.{get_there}
 use Rattle.nodes.specs.declared.node.Node.{Node}
 use Rattle.nodes.specs.declared.node.Node.TheVariants.{Reading, Making, Linear, State, Writing, Ignoring}
-use Rattle.nodes.specs.Nodes.{node_row, node_law}
+use Rattle.nodes.specs.Nodes.{node_row, node_law, node_asking, node_moves}
 use Rattle.nodes.specs.Source.{lines_row_in}
 use Rattle.nodes.specs.Sink.{sink_row_in}
 use Rattle.nodes.specs.Ignoring.{ignore_row_in}
@@ -35,7 +36,7 @@ use Rattle.picture_laws.proofs.EndGraphs.{maker_no_sink, maker_rests, file_sink_
 use Rattle.picture_laws.proofs.StateGraphs.{state_rests, stateful_no_sink}
 use Rattle.picture_laws.proofs.RestRows.{RestsKind, linear_kind, linear_rests}
 
-module _ {S D : Type 0} (sources : S → SourceState) (drains : D → DrainState) (g : Graph) (net : Net (Node S D)) (s : Settled node_row (node_law sources drains) net) (m : Materializes sources g net.firsts net.ends) where
+module _ {S D : Type 0} (sources : S → SourceState) (drains : D → DrainState) (g : Graph) (net : Net (Node S D)) (s : Settled node_row (node_law sources drains) node_asking node_moves net) (m : Materializes sources g net.firsts net.ends) where
   pub joined : Joined g net.ends net.ports (length net.nodes) net.wires
   joined = record { wired = s.wired; wires = m.wires; each_wire = m.each_wire }
 

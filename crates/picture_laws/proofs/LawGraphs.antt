@@ -26,11 +26,12 @@ use Rattle.stage_linear.specs.declared.phase.Phase.TheVariants.{Open}
 use Rattle.stage_linear.specs.States.{Logic, row_in, IsLinear}
 use Rattle.wire_core.specs.Cell.{Cell}
 use Rattle.wire_core.specs.Marks as marks
-use Rattle.fused_net.specs.Net.{Net, wire_at, ports_at, view_of, took, gave, inp_of, out_of, got_of, sent_of, read_all}
+use Rattle.wire_core.specs.Reading.{inp_of, out_of, got_of, sent_of}
+use Rattle.fused_net.specs.Net.{Net, wire_at, ports_at, view_of, took, gave, read_all}
 use Rattle.fused_net.specs.Laws.{Settled}
 use Rattle.nodes.specs.declared.node.Node.{Node}
 use Rattle.nodes.specs.declared.node.Node.TheVariants.{Reading, Making, Linear, State, Writing, Ignoring}
-use Rattle.nodes.specs.Nodes.{node_row, node_law}
+use Rattle.nodes.specs.Nodes.{node_row, node_law, node_asking, node_moves}
 use Rattle.nodes.specs.Linear.{LinearRow, LinearLaw}
 use Rattle.nodes.specs.Sink.{sink_row_in}
 use Rattle.nodes.specs.Ignoring.{ignore_row_in}
@@ -129,7 +130,7 @@ module _ {S D : Type 0} (sources : S → SourceState) (drains : D → DrainState
   moment_by book net k a b n first (Linear l) f r law ia ob e = moment_at book net k a b n first l f r law ia ob e
   moment_by book net k a b n first x f r law ia ob e = absurd law
 
-  module _ (g : Graph) (net : Net (Node S D)) (s : Settled node_row (node_law sources drains) net) (m : Materializes sources g net.firsts net.ends) (w : World) (outlook : ℕ → Outlook) (passes : AllPass net outlook) where
+  module _ (g : Graph) (net : Net (Node S D)) (s : Settled node_row (node_law sources drains) node_asking node_moves net) (m : Materializes sources g net.firsts net.ends) (w : World) (outlook : ℕ → Outlook) (passes : AllPass net outlook) where
     wire_lawful : (a : ℕ) → a < length net.wires → WireLawful (fused_view a (count_of (wire_at net a)) (outlook a))
     wire_lawful a h = (sent_within (outlook a) (wire_at net a).wire.sent (passes a h), λ no. omega arith)
 

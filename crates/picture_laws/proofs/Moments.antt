@@ -7,11 +7,12 @@ use Rattle.port_core.specs.declared.view.InView.TheVariants.{Waiting, Left}
 use Rattle.port_core.specs.declared.view.OutView.TheVariants.{Shut}
 use Rattle.stream_io.specs.State.{SourceState, DrainState}
 use Rattle.wire_core.specs.Marks.{IsMarked, wanted, Grown}
-use Rattle.fused_net.specs.Net.{Net, wire_at, ports_at, view_of, took, gave, inp_of, out_of, got_of, sent_of, read_all, end_at}
+use Rattle.wire_core.specs.Reading.{inp_of, out_of, got_of, sent_of}
+use Rattle.fused_net.specs.Net.{Net, wire_at, ports_at, view_of, took, gave, read_all, end_at}
 use Rattle.fused_net.specs.Laws.{Settled}
 use Rattle.fused_net.proofs.Reading.{get_there}
 use Rattle.nodes.specs.declared.node.Node.{Node}
-use Rattle.nodes.specs.Nodes.{node_row, node_law}
+use Rattle.nodes.specs.Nodes.{node_row, node_law, node_asking, node_moves}
 
 -- what node k, whose input is wire a and whose output is wire b, reads off them
 pub record Reads {N : Type 0} (net : Net N) (k a b : ℕ) : Type 0 where
@@ -28,7 +29,7 @@ reads net k a b ins outs = record {
   went = ap (λ (l : List ℕ). read_all sent_of net.wires l) outs;
 }
 
-module _ {S D : Type 0} (sources : S → SourceState) (drains : D → DrainState) (net : Net (Node S D)) (s : Settled node_row (node_law sources drains) net) where
+module _ {S D : Type 0} (sources : S → SourceState) (drains : D → DrainState) (net : Net (Node S D)) (s : Settled node_row (node_law sources drains) node_asking node_moves net) where
   -- node k, which was handed in as this, when it last asked at its input, which is wire a
   pub record Moment (k a : ℕ) (first : Node S D) : Type 0 where
     pub old : Net (Node S D)

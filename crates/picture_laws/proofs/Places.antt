@@ -12,7 +12,8 @@ use Rattle.stream_picture.specs.View.{View, view_of, ins_at, outs_at}
 use Rattle.wire_core.specs.Cell.{Cell}
 use Rattle.fused_net.specs.declared.net.Ends.{Ends}
 use Rattle.fused_net.specs.PortLists.{PortLists}
-use Rattle.fused_net.specs.Net.{no_wire, read_all, inp_of, out_of, end_at, port_at}
+use Rattle.wire_core.specs.Reading.{no_wire, inp_of, out_of}
+use Rattle.fused_net.specs.Net.{read_all, end_at, port_at}
 use Rattle.fused_net.specs.Laws.{Wired}
 use Rattle.fused_net.proofs.Reading.{get_there}
 use Rattle.nodes.specs.Ports.{OneInOf, OneOutOf}

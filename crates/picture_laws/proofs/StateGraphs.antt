@@ -36,7 +36,7 @@ use Rattle.fused_net.specs.Net.{Net, wire_at, ports_at, view_of, took, gave}
 use Rattle.fused_net.specs.Laws.{Settled}
 use Rattle.nodes.specs.declared.node.Node.{Node}
 use Rattle.nodes.specs.declared.node.Node.TheVariants as node
-use Rattle.nodes.specs.Nodes.{node_row, node_law}
+use Rattle.nodes.specs.Nodes.{node_row, node_law, node_asking, node_moves}
 use Rattle.nodes.specs.State.{StateRow, StateLaw}
 use Rattle.run_laws.specs.Made.{FirstState, Materializes}
 use Rattle.run_laws.proofs.States.{IsKeeping, KeepsFirst, BuffersFirst, state_cases}
@@ -147,7 +147,7 @@ module _ {S D : Type 0} (sources : S → SourceState) (drains : D → DrainState
   buffers_ports n l first x y e some started r =
       buffer_ports n l.phase l.ending l.asked l.pending x y started (subst (λ z. row_by z l.phase l.ending l.asked l.pending l.stage.work x y) (e ∙ some) r)
 
-  module _ (g : Graph) (net : Net (Node S D)) (s : Settled node_row (node_law sources drains) net) (m : Materializes sources g net.firsts net.ends) (w : World) (outlook : ℕ → Outlook) (passes : AllPass net outlook) where
+  module _ (g : Graph) (net : Net (Node S D)) (s : Settled node_row (node_law sources drains) node_asking node_moves net) (m : Materializes sources g net.firsts net.ends) (w : World) (outlook : ℕ → Outlook) (passes : AllPass net outlook) where
     joined : Joined g net.ends net.ports (length net.nodes) net.wires
     joined = record { wired = s.wired; wires = m.wires; each_wire = m.each_wire }
 

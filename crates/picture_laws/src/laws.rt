@@ -10,7 +10,7 @@ ghost use Rattle.stream_picture.specs.Lawful.{IsLawful};
 ghost use Rattle.stream_picture.specs.Rests.{Rests, SinksMatch};
 ghost use Rattle.fused_net.specs.Net.{Net};
 ghost use Rattle.fused_net.specs.Laws.{Settled};
-ghost use Rattle.nodes.specs.Nodes.{node_row, node_law};
+ghost use Rattle.nodes.specs.Nodes.{node_row, node_law, node_asking, node_moves};
 ghost use Rattle.nodes.specs.declared.node.Node.{Node};
 ghost use Rattle.run_laws.specs.Agreeing.{AgreesWith};
 ghost use Rattle.run_laws.specs.Made.{Materializes};
@@ -28,9 +28,9 @@ pub fn what_agrees_passes()
 /// sent gives less than is wanted of it. So it is by any outlooks of whose lists the wires carried first parts (`any`), and by
 /// the composed outlooks (`composed`).
 pub fn every_picture_is_lawful<S: Source, D: Drain>()
-    ensures any { (g : Graph) (w : World) (net : Net (Node S D)) (outlook : ℕ → Outlook) → Settled node_row (node_law S.state D.state) net → Materializes S.state g net.firsts net.ends
+    ensures any { (g : Graph) (w : World) (net : Net (Node S D)) (outlook : ℕ → Outlook) → Settled node_row (node_law S.state D.state) node_asking node_moves net → Materializes S.state g net.firsts net.ends
         → AllPass net outlook → IsLawful g w (counts_of net.wires) outlook }
-    ensures composed { (g : Graph) (w : World) (rank : ℕ → ℕ) (net : Net (Node S D)) → Settled node_row (node_law S.state D.state) net → Materializes S.state g net.firsts net.ends
+    ensures composed { (g : Graph) (w : World) (rank : ℕ → ℕ) (net : Net (Node S D)) → Settled node_row (node_law S.state D.state) node_asking node_moves net → Materializes S.state g net.firsts net.ends
         → Tells S.state g w net → IsRanked g rank → IsLawful g w (counts_of net.wires) (composed g w) }
 {}
 
@@ -38,10 +38,10 @@ pub fn every_picture_is_lawful<S: Source, D: Drain>()
 /// any outlooks of whose lists the wires carried first parts (`any`), and by the composed outlooks (`composed`). A sink's
 /// input is shut exactly where the sink has ended (`sinks`).
 pub fn a_picture_without_events_rests<S: Source, D: Drain>()
-    ensures any { (g : Graph) (w : World) (net : Net (Node S D)) (outlook : ℕ → Outlook) → Settled node_row (node_law S.state D.state) net → net.queue ≡ [] → Materializes S.state g net.firsts net.ends
+    ensures any { (g : Graph) (w : World) (net : Net (Node S D)) (outlook : ℕ → Outlook) → Settled node_row (node_law S.state D.state) node_asking node_moves net → net.queue ≡ [] → Materializes S.state g net.firsts net.ends
         → AllPass net outlook → Rests g w (counts_of net.wires) outlook }
-    ensures composed { (g : Graph) (w : World) (rank : ℕ → ℕ) (net : Net (Node S D)) → Settled node_row (node_law S.state D.state) net → net.queue ≡ [] → Materializes S.state g net.firsts net.ends
+    ensures composed { (g : Graph) (w : World) (rank : ℕ → ℕ) (net : Net (Node S D)) → Settled node_row (node_law S.state D.state) node_asking node_moves net → net.queue ≡ [] → Materializes S.state g net.firsts net.ends
         → Tells S.state g w net → IsRanked g rank → Rests g w (counts_of net.wires) (composed g w) }
-    ensures sinks { (g : Graph) (w : World) (net : Net (Node S D)) (outlook : ℕ → Outlook) → Settled node_row (node_law S.state D.state) net → net.queue ≡ [] → Materializes S.state g net.firsts net.ends
+    ensures sinks { (g : Graph) (w : World) (net : Net (Node S D)) (outlook : ℕ → Outlook) → Settled node_row (node_law S.state D.state) node_asking node_moves net → net.queue ≡ [] → Materializes S.state g net.firsts net.ends
         → SinksMatch g w (counts_of net.wires) outlook (ended_at net.nodes) }
 {}

@@ -24,12 +24,13 @@ use Rattle.stage_law.specs.Held.{told}
 use Rattle.stage_law.specs.Law.{TookAs}
 use Rattle.stage_linear.specs.States.{IsLinear}
 use Rattle.stage_state.specs.States.{IsStateful}
-use Rattle.fused_net.specs.Net.{Net, end_at, read_all, got_of, sent_of, wire_at, ports_at, view_of, took, gave}
+use Rattle.wire_core.specs.Reading.{got_of, sent_of}
+use Rattle.fused_net.specs.Net.{Net, end_at, read_all, wire_at, ports_at, view_of, took, gave}
 use Rattle.fused_net.specs.Laws.{Settled}
 use Rattle.fused_net.proofs.Reading.{get_there}
 use Rattle.nodes.specs.declared.node.Node.{Node}
 use Rattle.nodes.specs.declared.node.Node.TheVariants.{Reading, Making, Linear, State, Writing, Ignoring}
-use Rattle.nodes.specs.Nodes.{node_row, node_law}
+use Rattle.nodes.specs.Nodes.{node_row, node_law, node_asking, node_moves}
 use Rattle.nodes.specs.Ports.{OneInOf}
 use Rattle.nodes.specs.Kinds.{IsMaker, IsFileSink, writes_of}
 use Rattle.nodes.specs.declared.sink.Writes.{Writes}
@@ -103,7 +104,7 @@ ignore_cases sources drains k n (Writing first) now v took gave is made law = le
 ignore_cases sources drains k n (Ignoring first) now v took gave is made law = absurd law
 
 module _ {S D : Type 0} (sources : S → SourceState) (drains : D → DrainState) (g : Graph) (net : Net (Node S D))
-    (settled : Settled node_row (node_law sources drains) net) (made : Materializes sources g net.firsts net.ends) where
+    (settled : Settled node_row (node_law sources drains) node_asking node_moves net) (made : Materializes sources g net.firsts net.ends) where
   within : (k : ℕ) (n : graph.Node) → slice_get g.nodes k ≡ Some n → k < length net.nodes
   within k n ni =
       let nodes : length net.nodes ≡ length g.nodes = sym settled.each_first ∙ made.nodes in

@@ -11,13 +11,14 @@ use Rattle.stream_model.specs.Graph.{Graph, Wire}
 use Rattle.stream_model.specs.Graph as graph
 use Rattle.stream_model.proofs.Compositions.{slice_get-below}
 use Rattle.stream_io.specs.State.{SourceState, DrainState}
-use Rattle.fused_net.specs.Net.{Net, end_at, sent_of, wire_at, ports_at, view_of, took, gave}
+use Rattle.wire_core.specs.Reading.{sent_of}
+use Rattle.fused_net.specs.Net.{Net, end_at, wire_at, ports_at, view_of, took, gave}
 use Rattle.fused_net.specs.Laws.{Settled}
 use Rattle.fused_net.proofs.Reading.{get_there}
 use Rattle.nodes.specs.declared.node.Node.{Node}
 use Rattle.nodes.specs.declared.node.Node.TheVariants.{Reading, Making, Linear, State, Writing, Ignoring}
 use Rattle.nodes.specs.Kinds.{IsMaker, IsFileSink}
-use Rattle.nodes.specs.Nodes.{node_row, node_law}
+use Rattle.nodes.specs.Nodes.{node_row, node_law, node_asking, node_moves}
 use Rattle.nodes.specs.Source.{Lines, LinesLaw}
 use Rattle.stage_law.specs.Held.{told}
 use Rattle.run_laws.specs.Agreeing.{GivesTexts}
@@ -39,7 +40,7 @@ source_cases sources drains k n name (State first) now v took gave is made law =
 source_cases sources drains k n name (Reading first) now v took gave is made law = absurd law
 
 module _ {S D : Type 0} (sources : S → SourceState) (drains : D → DrainState) (g : Graph) (net : Net (Node S D))
-    (settled : Settled node_row (node_law sources drains) net) (made : Materializes sources g net.firsts net.ends) where
+    (settled : Settled node_row (node_law sources drains) node_asking node_moves net) (made : Materializes sources g net.firsts net.ends) where
   within : (k : ℕ) (n : graph.Node) → slice_get g.nodes k ≡ Some n → k < length net.nodes
   within k n ni =
       let nodes : length net.nodes ≡ length g.nodes = sym settled.each_first ∙ made.nodes in

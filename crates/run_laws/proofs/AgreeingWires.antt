@@ -11,13 +11,14 @@ use Rattle.stream_model.specs.Composed.{inputs_of, count_from, ports_of, next, c
 use Rattle.stream_model.proofs.AllWires.{all_agree}
 use Rattle.stream_model.proofs.Compositions.{slice_get-below, composed_composes}
 use Rattle.stream_io.specs.State.{SourceState, DrainState}
-use Rattle.fused_net.specs.Net.{Net, no_wire, read_all, got_of, sent_of, wire_at, ports_at, view_of, took, gave}
+use Rattle.wire_core.specs.Reading.{no_wire, got_of, sent_of}
+use Rattle.fused_net.specs.Net.{Net, read_all, wire_at, ports_at, view_of, took, gave}
 use Rattle.fused_net.specs.Laws.{Settled}
 use Rattle.fused_net.proofs.Reading.{get_there, length-read_all}
 use Rattle.nodes.specs.declared.node.Node.{Node}
 use Rattle.nodes.specs.declared.node.Node.TheVariants.{Reading}
 use Rattle.stream_model.specs.declared.kind.Kind.TheVariants as kind
-use Rattle.nodes.specs.Nodes.{node_row, node_law}
+use Rattle.nodes.specs.Nodes.{node_row, node_law, node_asking, node_moves}
 use Rattle.run_laws.specs.Agreeing.{AgreesWith}
 use Rattle.run_laws.specs.Made.{Materializes}
 use Rattle.run_laws.specs.Telling.{TellsNode, Tells}
@@ -41,7 +42,7 @@ no_lines sources w n (Reading first) (Reading now) other = λ name is. absurd (o
 no_lines sources w n _ _ other = tt
 
 module _ {S D : Type 0} (sources : S → SourceState) (drains : D → DrainState) (g : Graph) (w : World) (net : Net (Node S D))
-    (settled : Settled node_row (node_law sources drains) net) (made : Materializes sources g net.firsts net.ends) where
+    (settled : Settled node_row (node_law sources drains) node_asking node_moves net) (made : Materializes sources g net.firsts net.ends) where
   -- what node k is told of its file
   abbrev TellsAt : ℕ → graph.Node → Type 0
   TellsAt k n = (first now : Node S D) → slice_get net.firsts k ≡ Some first → slice_get net.nodes k ≡ Some now → TellsNode sources w n first now

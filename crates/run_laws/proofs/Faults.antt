@@ -18,7 +18,7 @@ use Rattle.fused_net.specs.Laws.{Settled, LastAsk}
 use Rattle.fused_net.proofs.Reading.{same_or_not}
 use Rattle.nodes.specs.declared.node.Node.{Node}
 use Rattle.nodes.specs.declared.node.Node.TheVariants.{Writing}
-use Rattle.nodes.specs.Nodes.{node_row, node_law}
+use Rattle.nodes.specs.Nodes.{node_row, node_law, node_asking, node_moves}
 use Rattle.nodes.specs.Ports.{OneInOf}
 use Rattle.nodes.specs.Sink.{Sink, sink_row, sink_row_in}
 use Rattle.run_laws.specs.Sinks.{IsSinkAt}
@@ -40,10 +40,10 @@ sent_wanted : (n : ℕ) (b : Bool) → n ≤ (if b then n + 1 else n)
 sent_wanted n true = omega arith
 sent_wanted n false = omega arith
 
-module _ {S D : Type 0} (sources : S → SourceState) (drains : D → DrainState) (net : Net (Node S D)) (settled : Settled node_row (node_law sources drains) net)
+module _ {S D : Type 0} (sources : S → SourceState) (drains : D → DrainState) (net : Net (Node S D)) (settled : Settled node_row (node_law sources drains) node_asking node_moves net)
     (k u : ℕ) (first now : Sink D) (hk : k < length net.nodes) (hu : u < length net.wires) (at : IsSinkAt net k first now) (ins : (ports_at net k).ins ≡ u ∷ []) (outs : (ports_at net k).outs ≡ []) (fault : now.end ≡ WriteFault) where
   -- when it asked last it stood otherwise, since it waited
-  stood_otherwise : (a : LastAsk node_row (node_law sources drains) net u) → (wire_at net u).wire.got ≡ (wire_at a.old u).wire.got → ⊥
+  stood_otherwise : (a : LastAsk node_row (node_law sources drains) node_asking node_moves net u) → (wire_at net u).wire.got ≡ (wire_at a.old u).wire.got → ⊥
   stood_otherwise a same =
       let ends : a.old.ends ≡ net.ends = sym a.on.ends in
       let ports : a.old.ports ≡ net.ports = sym a.on.ports in

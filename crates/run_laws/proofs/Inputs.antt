@@ -14,7 +14,8 @@ use Rattle.stream_model.specs.Composed.{count_from, incoming, ports_of}
 use Rattle.stream_model.proofs.Compositions.{same_number, slice_get-below}
 use Rattle.stream_io.specs.State.{SourceState}
 use Rattle.stage_law.specs.Held.{told}
-use Rattle.fused_net.specs.Net.{Net, end_at, port_at, read_all, got_of, wire_at, ports_at, took}
+use Rattle.wire_core.specs.Reading.{got_of}
+use Rattle.fused_net.specs.Net.{Net, end_at, port_at, read_all, wire_at, ports_at, took}
 use Rattle.fused_net.specs.Laws.{Wired}
 use Rattle.fused_net.proofs.Reading.{get_there}
 use Rattle.nodes.specs.declared.node.Node.{Node}

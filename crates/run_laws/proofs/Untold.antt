@@ -15,7 +15,7 @@ use Rattle.stream_io.specs.State.{SourceState, DrainState}
 use Rattle.fused_net.specs.Net.{Net, view_of, took, gave}
 use Rattle.fused_net.specs.Laws.{Settled}
 use Rattle.nodes.specs.declared.node.Node.{Node}
-use Rattle.nodes.specs.Nodes.{node_row, node_law}
+use Rattle.nodes.specs.Nodes.{node_row, node_law, node_asking, node_moves}
 use Rattle.nodes.specs.Sink.{Sink, WroteAll, WrotePart, StandsAs, SinkLaw}
 use Rattle.nodes.proofs.SinkTexts.{has_lines}
 use Rattle.run_laws.specs.Made.{Materializes}
@@ -75,7 +75,7 @@ module _ {D : Type 0} (drains : D → DrainState) (first now : Sink D) (v : View
   }
 
 module _ {S D : Type 0} (sources : S → SourceState) (drains : D → DrainState) (g : Graph) (net : Net (Node S D))
-    (settled : Settled node_row (node_law sources drains) net) (made : Materializes sources g net.firsts net.ends) where
+    (settled : Settled node_row (node_law sources drains) node_asking node_moves net) (made : Materializes sources g net.firsts net.ends) where
   pub sink_wrote : (k : ℕ) (n : graph.Node) (first now : Sink D) → slice_get g.nodes k ≡ Some n → IsSinkAt net k first now → SinkWrote sources drains g net k n first now
   unfolding law_over
   sink_wrote k n first now ni at =

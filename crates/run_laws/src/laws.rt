@@ -12,7 +12,7 @@ ghost use Rattle.stream_model.specs.declared.kind.Kind.TheVariants as kind;
 ghost use Rattle.stream_model.specs.declared.outcome.EndState.TheVariants.{Unended};
 ghost use Rattle.fused_net.specs.Laws.{Settled};
 ghost use Rattle.fused_net.specs.Net.{Net, wire_at, took};
-ghost use Rattle.nodes.specs.Nodes.{node_row, node_law};
+ghost use Rattle.nodes.specs.Nodes.{node_row, node_law, node_asking, node_moves};
 ghost use Rattle.nodes.specs.Ignoring.{Ignorer};
 ghost use Rattle.nodes.specs.Kinds.{IsFileSink};
 ghost use Rattle.nodes.specs.Sink.{Sink};
@@ -29,7 +29,7 @@ use stream_io::outside::{Drain, Source};
 /// What was sent on each wire, its elements and its end, agrees with the composed outlook of that wire, over the input files
 /// as the world tells them.
 pub fn every_wire_agrees<S: Source, D: Drain>()
-    ensures { (g : Graph) (w : World) (rank : ℕ → ℕ) (net : Net (Node S D)) → Settled node_row (node_law S.state D.state) net → Materializes S.state g net.firsts net.ends → Tells S.state g w net → IsRanked g rank
+    ensures { (g : Graph) (w : World) (rank : ℕ → ℕ) (net : Net (Node S D)) → Settled node_row (node_law S.state D.state) node_asking node_moves net → Materializes S.state g net.firsts net.ends → Tells S.state g w net → IsRanked g rank
         → (i : ℕ) → i < length g.wires → AgreesWith (composed g w i) (wire_at net i).wire.sent }
 {}
 
@@ -39,16 +39,16 @@ pub fn every_wire_agrees<S: Source, D: Drain>()
 /// the outlook lets fail so, and else a first part of that text. A node of the kind of a sink that keeps nothing is one
 /// (`ignorer`), and how it stands and how many elements were sent to it agree with its outlook (`ignores`).
 pub fn every_sink_agrees<S: Source, D: Drain>()
-    ensures there { (g : Graph) (net : Net (Node S D)) → Settled node_row (node_law S.state D.state) net → Materializes S.state g net.firsts net.ends
+    ensures there { (g : Graph) (net : Net (Node S D)) → Settled node_row (node_law S.state D.state) node_asking node_moves net → Materializes S.state g net.firsts net.ends
         → (k : ℕ) (n : graph.Node) → slice_get g.nodes k ≡ Some n → IsFileSink n.kind → (first : Sink D) × ((now : Sink D) × IsSinkAt net k first now) }
-    ensures took { (g : Graph) (w : World) (rank : ℕ → ℕ) (net : Net (Node S D)) → Settled node_row (node_law S.state D.state) net → Materializes S.state g net.firsts net.ends → Tells S.state g w net → IsRanked g rank
+    ensures took { (g : Graph) (w : World) (rank : ℕ → ℕ) (net : Net (Node S D)) → Settled node_row (node_law S.state D.state) node_asking node_moves net → Materializes S.state g net.firsts net.ends → Tells S.state g w net → IsRanked g rank
         → (k : ℕ) (n : graph.Node) (name : List ℕ) (first now : Sink D) → slice_get g.nodes k ≡ Some n → n.kind ≡ kind.ToLines name → IsSinkAt net k first now → TookList (sink_outlook g w k n) now.end (took net k) }
-    ensures tells { (g : Graph) (w : World) (rank : ℕ → ℕ) (net : Net (Node S D)) → Settled node_row (node_law S.state D.state) net → Materializes S.state g net.firsts net.ends → Tells S.state g w net → IsRanked g rank
+    ensures tells { (g : Graph) (w : World) (rank : ℕ → ℕ) (net : Net (Node S D)) → Settled node_row (node_law S.state D.state) node_asking node_moves net → Materializes S.state g net.firsts net.ends → Tells S.state g w net → IsRanked g rank
         → (k : ℕ) (n : graph.Node) (first now : Sink D) (written : List ℕ) → slice_get g.nodes k ≡ Some n → IsSinkAt net k first now
         → (D.state first.drain).holds ≡ Some [] → (D.state now.drain).holds ≡ Some written → SinkTells (sink_outlook g w k n) now.end written }
-    ensures ignorer { (g : Graph) (net : Net (Node S D)) → Settled node_row (node_law S.state D.state) net → Materializes S.state g net.firsts net.ends
+    ensures ignorer { (g : Graph) (net : Net (Node S D)) → Settled node_row (node_law S.state D.state) node_asking node_moves net → Materializes S.state g net.firsts net.ends
         → (k : ℕ) (n : graph.Node) → slice_get g.nodes k ≡ Some n → n.kind ≡ kind.Ignore → (first : Ignorer) × ((now : Ignorer) × IsIgnorerAt net k first now) }
-    ensures ignores { (g : Graph) (w : World) (rank : ℕ → ℕ) (net : Net (Node S D)) → Settled node_row (node_law S.state D.state) net → Materializes S.state g net.firsts net.ends → Tells S.state g w net → IsRanked g rank
+    ensures ignores { (g : Graph) (w : World) (rank : ℕ → ℕ) (net : Net (Node S D)) → Settled node_row (node_law S.state D.state) node_asking node_moves net → Materializes S.state g net.firsts net.ends → Tells S.state g w net → IsRanked g rank
         → (k : ℕ) (n : graph.Node) (first now : Ignorer) (u : ℕ) (v : Wire) → slice_get g.nodes k ≡ Some n → IsIgnorerAt net k first now → slice_get g.wires u ≡ Some v → v.to ≡ k
         → IgnoreTells (sink_outlook g w k n) now.end (elements (wire_at net u).wire.sent) }
 {}
@@ -56,7 +56,7 @@ pub fn every_sink_agrees<S: Source, D: Drain>()
 /// A sink with a file wrote what its outlook lets it write and as many whole lines as it counts, also where its drain does not
 /// tell what it holds.
 pub fn every_sink_writes<S: Source, D: Drain>()
-    ensures { (g : Graph) (net : Net (Node S D)) → Settled node_row (node_law S.state D.state) net → Materializes S.state g net.firsts net.ends
+    ensures { (g : Graph) (net : Net (Node S D)) → Settled node_row (node_law S.state D.state) node_asking node_moves net → Materializes S.state g net.firsts net.ends
         → (k : ℕ) (n : graph.Node) (first now : Sink D) → slice_get g.nodes k ≡ Some n → IsSinkAt net k first now → SinkWrote S.state D.state g net k n first now }
 {}
 
@@ -64,13 +64,13 @@ pub fn every_sink_writes<S: Source, D: Drain>()
 /// sent on the wire of a sink of lines where its input's end came, one more at most while it waits, and exactly one more
 /// where a write failed (`sent`); none more where no event is left and it has not ended (`rest`).
 pub fn every_sink_counts_its_lines<S: Source, D: Drain>()
-    ensures lines { (g : Graph) (net : Net (Node S D)) → Settled node_row (node_law S.state D.state) net → Materializes S.state g net.firsts net.ends
+    ensures lines { (g : Graph) (net : Net (Node S D)) → Settled node_row (node_law S.state D.state) node_asking node_moves net → Materializes S.state g net.firsts net.ends
         → (k : ℕ) (n : graph.Node) (first now : Sink D) (written : List ℕ) → slice_get g.nodes k ≡ Some n → IsSinkAt net k first now
         → (D.state first.drain).holds ≡ Some [] → (D.state now.drain).holds ≡ Some written → whole_lines (length written) written ≡ now.count }
-    ensures sent { (g : Graph) (net : Net (Node S D)) → Settled node_row (node_law S.state D.state) net → Materializes S.state g net.firsts net.ends
+    ensures sent { (g : Graph) (net : Net (Node S D)) → Settled node_row (node_law S.state D.state) node_asking node_moves net → Materializes S.state g net.firsts net.ends
         → (k : ℕ) (n : graph.Node) (name : List ℕ) (first now : Sink D) (u : ℕ) (v : Wire) → slice_get g.nodes k ≡ Some n → n.kind ≡ kind.ToLines name → IsSinkAt net k first now → slice_get g.wires u ≡ Some v → v.to ≡ k
         → SentTo now.end (elements (wire_at net u).wire.sent) now.count }
-    ensures rest { (g : Graph) (net : Net (Node S D)) → Settled node_row (node_law S.state D.state) net → Materializes S.state g net.firsts net.ends
+    ensures rest { (g : Graph) (net : Net (Node S D)) → Settled node_row (node_law S.state D.state) node_asking node_moves net → Materializes S.state g net.firsts net.ends
         → (k : ℕ) (n : graph.Node) (name : List ℕ) (first now : Sink D) (u : ℕ) (v : Wire) → slice_get g.nodes k ≡ Some n → n.kind ≡ kind.ToLines name → IsSinkAt net k first now → slice_get g.wires u ≡ Some v → v.to ≡ k
         → net.queue ≡ [] → now.end ≡ Unended → elements (wire_at net u).wire.sent ≡ now.count }
 {}
@@ -78,9 +78,9 @@ pub fn every_sink_counts_its_lines<S: Source, D: Drain>()
 /// A node of the kind of a source of lines is one (`there`). The elements that it sent are the first lines of its file, and
 /// of the file little more was handed out than those (`reads`).
 pub fn every_source_reads_little_ahead<S: Source, D: Drain>()
-    ensures there { (g : Graph) (net : Net (Node S D)) → Settled node_row (node_law S.state D.state) net → Materializes S.state g net.firsts net.ends
+    ensures there { (g : Graph) (net : Net (Node S D)) → Settled node_row (node_law S.state D.state) node_asking node_moves net → Materializes S.state g net.firsts net.ends
         → (k : ℕ) (n : graph.Node) (name : List ℕ) → slice_get g.nodes k ≡ Some n → n.kind ≡ kind.Lines name → (first : Lines S) × ((now : Lines S) × IsSourceAt net k first now) }
-    ensures reads { (g : Graph) (net : Net (Node S D)) → Settled node_row (node_law S.state D.state) net → Materializes S.state g net.firsts net.ends
+    ensures reads { (g : Graph) (net : Net (Node S D)) → Settled node_row (node_law S.state D.state) node_asking node_moves net → Materializes S.state g net.firsts net.ends
         → (k : ℕ) (n : graph.Node) (first now : Lines S) (u : ℕ) (v : Wire) (bytes : List ℕ) → slice_get g.nodes k ≡ Some n → IsSourceAt net k first now → slice_get g.wires u ≡ Some v → v.from ≡ k
         → (S.state first.reader.source).whole ≡ Some bytes
         → SentLines bytes (S.state first.reader.source) (S.state now.reader.source) (wire_at net u).wire.sent }
@@ -89,9 +89,9 @@ pub fn every_source_reads_little_ahead<S: Source, D: Drain>()
 /// Whatever a folder tells of its files, a source of lines sent texts (`lines`), and what any other node sent on a wire agrees
 /// with what it gives of all outlooks with which what was sent on the wires into it agrees (`others`).
 pub fn every_node_gives_of_what_came<S: Source, D: Drain>()
-    ensures lines { (g : Graph) (net : Net (Node S D)) → Settled node_row (node_law S.state D.state) net → Materializes S.state g net.firsts net.ends
+    ensures lines { (g : Graph) (net : Net (Node S D)) → Settled node_row (node_law S.state D.state) node_asking node_moves net → Materializes S.state g net.firsts net.ends
         → (u : ℕ) (v : Wire) (n : graph.Node) (name : List ℕ) → slice_get g.wires u ≡ Some v → slice_get g.nodes v.from ≡ Some n → n.kind ≡ kind.Lines name → GivesTexts (wire_at net u).wire.sent }
-    ensures others { (g : Graph) (w : World) (net : Net (Node S D)) → Settled node_row (node_law S.state D.state) net → Materializes S.state g net.firsts net.ends
+    ensures others { (g : Graph) (w : World) (net : Net (Node S D)) → Settled node_row (node_law S.state D.state) node_asking node_moves net → Materializes S.state g net.firsts net.ends
         → (sent : ℕ → Outlook) (j : ℕ) (v : Wire) (n : graph.Node) → slice_get g.wires j ≡ Some v → slice_get g.nodes v.from ≡ Some n → ((name : List ℕ) → n.kind ≢ kind.Lines name)
         → ((u : ℕ) (x : Wire) → slice_get g.wires u ≡ Some x → x.to ≡ v.from → AgreesWith (sent u) (wire_at net u).wire.sent) → AgreesWith (next g w sent j) (wire_at net j).wire.sent }
 {}

@@ -1,3 +1,4 @@
 pub mod Cell
 pub mod Counts
 pub mod Marks
+pub mod Reading

@@ -5,4 +5,4 @@ use Rattle.fused_net.specs.Costs.{all_asks}
 use Rattle.fused_net.proofs.engine.Engine.start.Given as goal
 
 abbrev pub invariant-loop-n : goal.invariant-loop-n
-invariant-loop-n g l = Starting g.S.Stage.rests g.S.Stage.law g.S.Stage.fresh l.self l.n × GoesOn l.initial.self l.self × (all_asks l.self ≤ all_asks l.initial.self) × (l.acts ≡ l.initial.acts)
+invariant-loop-n g l = Starting g.S.Stage.rests g.S.Stage.law g.S.Stage.asking g.S.Stage.moves g.S.Stage.fresh l.self l.n × GoesOn l.initial.self l.self × (all_asks l.self ≤ all_asks l.initial.self) × (l.acts ≡ l.initial.acts)

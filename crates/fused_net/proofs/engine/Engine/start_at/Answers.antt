@@ -3,16 +3,16 @@ use Rattle.fused_net.proofs.Responding.{start_meets, start_awaited, started}
 use Rattle.fused_net.proofs.engine.Engine.start_at.Goals as goal
 
 pub start-requires-clause-meets : goal.start-requires-clause-meets
-start-requires-clause-meets g c = start_meets g.S.Stage.rests g.S.Stage.law g.S.Stage.fresh _ _ _ _ c.requires.starting c.self.view_is c.requires.within c.index_mut.ensures.value
+start-requires-clause-meets g c = start_meets g.S.Stage.rests g.S.Stage.law g.S.Stage.asking g.S.Stage.moves g.S.Stage.fresh _ _ _ _ c.requires.starting c.self.view_is c.requires.within c.index_mut.ensures.value
 
 pub perform-requires-clause-busy : goal.perform-requires-clause-busy
-perform-requires-clause-busy g c = start_awaited g.S.Stage.rests g.S.Stage.law g.S.Stage.fresh _ _ _ _ _ _ c.requires.starting c.self.view_is c.requires.within c.index_mut.ensures.value c.in_ok-start.ensures.starts
+perform-requires-clause-busy g c = start_awaited g.S.Stage.rests g.S.Stage.law g.S.Stage.asking g.S.Stage.moves g.S.Stage.fresh _ _ _ _ _ _ c.requires.starting c.self.view_is c.requires.within c.index_mut.ensures.value c.in_ok-start.ensures.starts
 
 pub returns-clause-starting : goal.returns-clause-starting
-returns-clause-starting g c = (started g.S.Stage.rests g.S.Stage.law g.S.Stage.fresh _ _ _ _ _ _ _ c.requires.starting c.self.view_is c.requires.within c.index_mut.ensures.value c.in_ok-start.ensures.starts c.perform.ensures.after).starting
+returns-clause-starting g c = (started g.S.Stage.rests g.S.Stage.law g.S.Stage.asking g.S.Stage.moves g.S.Stage.fresh _ _ _ _ _ _ _ c.requires.starting c.self.view_is c.requires.within c.index_mut.ensures.value c.in_ok-start.ensures.starts c.in_ok-start.ensures.asks c.in_ok-start.ensures.grows c.perform.ensures.after).starting
 
 pub returns-clause-on : goal.returns-clause-on
-returns-clause-on g c = (started g.S.Stage.rests g.S.Stage.law g.S.Stage.fresh _ _ _ _ _ _ _ c.requires.starting c.self.view_is c.requires.within c.index_mut.ensures.value c.in_ok-start.ensures.starts c.perform.ensures.after).on
+returns-clause-on g c = (started g.S.Stage.rests g.S.Stage.law g.S.Stage.asking g.S.Stage.moves g.S.Stage.fresh _ _ _ _ _ _ _ c.requires.starting c.self.view_is c.requires.within c.index_mut.ensures.value c.in_ok-start.ensures.starts c.in_ok-start.ensures.asks c.in_ok-start.ensures.grows c.perform.ensures.after).on
 
 pub returns-clause-asks : goal.returns-clause-asks
-returns-clause-asks g c = (started g.S.Stage.rests g.S.Stage.law g.S.Stage.fresh _ _ _ _ _ _ _ c.requires.starting c.self.view_is c.requires.within c.index_mut.ensures.value c.in_ok-start.ensures.starts c.perform.ensures.after).asks
+returns-clause-asks g c = (started g.S.Stage.rests g.S.Stage.law g.S.Stage.asking g.S.Stage.moves g.S.Stage.fresh _ _ _ _ _ _ _ c.requires.starting c.self.view_is c.requires.within c.index_mut.ensures.value c.in_ok-start.ensures.starts c.in_ok-start.ensures.asks c.in_ok-start.ensures.grows c.perform.ensures.after).asks

@@ -25,7 +25,7 @@ use Rattle.blue_check.specs.Wires.{blueprint_wires}
 use Rattle.plug_core.specs.declared.head.PlugHead.{PlugHead}
 use Rattle.materializer.specs.Built.{is_built, is_unbuilt, unbuilt_in}
 use Rattle.materializer.specs.Graphs.{graph_of, node_of, chain_of}
-use Rattle.materializer.specs.Joined.{IsJoined}
+use Rattle.stream_picture.specs.Joined.{IsJoined}
 use Rattle.blue_names.specs.declared.links.Link.{Link}
 use Rattle.blue_names.specs.Links.{wires_of_links}
 use Rattle.blue_walks.proofs.ClosedWalks.{link_at_place}

@@ -13,7 +13,7 @@ use Rattle.blue_core.specs.declared.blueprint.Node.{Node}
 use Rattle.blue_rules.specs.First.{first_from, when}
 use Rattle.blue_rules.specs.Ports.{port_missing, port_twice, port_open, is_number, lacks_output, lacks_input, open_input, open_output}
 use Rattle.materializer.specs.Graphs.{node_of}
-use Rattle.materializer.specs.Joined.{IsJoined}
+use Rattle.stream_picture.specs.Joined.{IsJoined}
 
 -- ---- nothing is said of any place
 

@@ -15,7 +15,7 @@ use Rattle.interpreter.specs.declared.parts.Seated.{Seated}
 use Rattle.interpreter.specs.Parts.{ends_of, inputs_at, outputs_at, IsWiring, AreParts}
 use Rattle.blue_core.specs.declared.blueprint.Node.{Node}
 use Rattle.materializer.specs.Graphs.{node_of}
-use Rattle.materializer.specs.Joined.{IsJoined}
+use Rattle.stream_picture.specs.Joined.{IsJoined}
 use Rattle.materializer.specs.Seats.{AreSeats, links_from}
 use Rattle.materializer.proofs.Joining.{mapped_from}
 use Rattle.materializer.proofs.Placing.{seats_count, seats_unused, seats_ports}

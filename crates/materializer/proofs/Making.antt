@@ -29,7 +29,7 @@ use Rattle.blue_check.specs.Wires.{blueprint_wires}
 use Rattle.materializer.specs.Built.{is_built, leads_into, is_unbuilt, unbuilt_in, CanRun}
 use Rattle.materializer.specs.Files.{input_of}
 use Rattle.materializer.specs.Graphs.{node_of, chain_of, graph_of}
-use Rattle.materializer.specs.Joined.{IsJoined}
+use Rattle.stream_picture.specs.Joined.{IsJoined}
 use Rattle.materializer.specs.Seats.{handle_of, handles_left, IsWork, AreSeats, links_from}
 use Rattle.materializer.proofs.Fitting.{fit_joined}
 use Rattle.materializer.proofs.Joining.{none_here, not_when, mapped_from}

@@ -2,5 +2,4 @@ pub mod Graphs
 pub mod Built
 pub mod Files
 pub mod Seats
-pub mod Joined
 pub mod Handed

@@ -16,7 +16,7 @@ ghost use Rattle.materializer.specs.Built.{CanRun};
 ghost use Rattle.materializer.specs.Files.{output_of, inputs_of_nodes, outputs_of_nodes};
 ghost use Rattle.materializer.specs.Graphs.{graph_of};
 ghost use Rattle.materializer.specs.Handed.{ReadsFile, WritesFile, WritesNoFile};
-ghost use Rattle.materializer.specs.Joined.{IsJoined};
+ghost use Rattle.stream_picture.specs.Joined.{IsJoined};
 ghost use Rattle.materializer.specs.Seats.{AreSeats, links_from};
 
 use stream_io::outside::{Drain, Source};

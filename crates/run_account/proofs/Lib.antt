@@ -1,0 +1,12 @@
+pub mod Histories
+pub mod Coming
+pub mod Resting
+pub mod Bringing
+pub mod Reading
+pub mod Earlier
+pub mod Joining
+pub mod Nodes
+pub mod Standing
+pub mod Pictures
+pub mod Agreeing
+pub mod Drawing

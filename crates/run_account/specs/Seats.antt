@@ -1,0 +1,56 @@
+-- Where the nodes and the wires of a blueprint stand, in the nets of its islands.
+use Rattle.std.specs.Prelude.{◌≡◌, ℕ, ◌<◌, length, slice_get, None, Some}
+use Rattle.stream_model.specs.Graph.{Graph, Wire}
+use Rattle.stream_model.specs.Graph as graph
+use Rattle.stream_model.specs.Composed.{inputs_of}
+use Rattle.stream_picture.specs.View.{outputs_of}
+use Rattle.fused_net.specs.Net.{Net, end_at, ports_at, wire_at}
+use Rattle.run_account.specs.Account.{Account}
+
+-- an island, and a place in it
+pub record Place : Type 0 where
+  pub island : ℕ
+  pub at : ℕ
+
+-- the place of each node, and those of each wire's connections: the one at its output, and the one at its input
+pub record Seats : Type 0 where
+  pub node : ℕ → Place
+  pub near : ℕ → Place
+  pub far : ℕ → Place
+
+-- what the nets tell together
+abbrev pub joined : {N : Type 0} → (ℕ → Net N) → Seats → Account N
+joined nets s = record {
+  firsts = λ k. slice_get (nets (s.node k).island).firsts (s.node k).at;
+  nodes = λ k. slice_get (nets (s.node k).island).nodes (s.node k).at;
+  near = λ u. wire_at (nets (s.near u).island) (s.near u).at;
+  far = λ u. wire_at (nets (s.far u).island) (s.far u).at;
+}
+
+module _ {N : Type 0} (g : Graph) (nets : ℕ → Net N) (s : Seats) where
+  -- Each node stands at its place, with its ports, and each wire between its ports. None is a lane.
+  pub record Covers : Type 0 where
+    pub node_within : (k : ℕ) (n : graph.Node) → slice_get g.nodes k ≡ Some n → (s.node k).at < length (nets (s.node k).island).nodes
+    pub ins : (k : ℕ) (n : graph.Node) → slice_get g.nodes k ≡ Some n → length (ports_at (nets (s.node k).island) (s.node k).at).ins ≡ inputs_of n.kind
+    pub outs : (k : ℕ) (n : graph.Node) → slice_get g.nodes k ≡ Some n → length (ports_at (nets (s.node k).island) (s.node k).at).outs ≡ outputs_of n.kind
+    pub near_within : (u : ℕ) (v : Wire) → slice_get g.wires u ≡ Some v → (s.near u).at < length (nets (s.near u).island).wires
+    pub near_home : (u : ℕ) (v : Wire) → slice_get g.wires u ≡ Some v → (s.near u).island ≡ (s.node v.from).island
+    pub near_from : (u : ℕ) (v : Wire) → slice_get g.wires u ≡ Some v → (end_at (nets (s.near u).island).ends (s.near u).at).from ≡ (s.node v.from).at
+    pub near_output : (u : ℕ) (v : Wire) → slice_get g.wires u ≡ Some v → (end_at (nets (s.near u).island).ends (s.near u).at).output ≡ v.output
+    pub far_within : (u : ℕ) (v : Wire) → slice_get g.wires u ≡ Some v → (s.far u).at < length (nets (s.far u).island).wires
+    pub far_home : (u : ℕ) (v : Wire) → slice_get g.wires u ≡ Some v → (s.far u).island ≡ (s.node v.to).island
+    pub far_to : (u : ℕ) (v : Wire) → slice_get g.wires u ≡ Some v → (end_at (nets (s.far u).island).ends (s.far u).at).to ≡ (s.node v.to).at
+    pub far_input : (u : ℕ) (v : Wire) → slice_get g.wires u ≡ Some v → (end_at (nets (s.far u).island).ends (s.far u).at).input ≡ v.input
+    pub fused : (u : ℕ) (v : Wire) → slice_get g.wires u ≡ Some v → s.far u ≡ s.near u
+    pub no_lane : (u : ℕ) (v : Wire) → slice_get g.wires u ≡ Some v → v.lane ≡ None
+
+-- one island of all nodes and wires, each at its number
+abbrev pub at_home : ℕ → Place
+at_home k = record { island = 0; at = k }
+
+abbrev pub one_seat : Seats
+one_seat = record { node = at_home; near = at_home; far = at_home }
+
+-- what one island tells
+abbrev pub account_of : {N : Type 0} → Net N → Account N
+account_of net = joined (λ b. net) one_seat

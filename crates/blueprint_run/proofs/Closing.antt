@@ -25,7 +25,7 @@ use Rattle.stream_picture.specs.OneWay as oneway
 use Rattle.stream_picture.specs.Rests.{Rests, SinksMatch}
 use Rattle.stream_picture.specs.Shape.{IsPolytree, IsWired, sent_at, need, count_needed, need_from}
 use Rattle.stream_picture.specs.View.{EachWire, ins, outputs_of}
-use Rattle.picture_laws.specs.Picture.{count_of, counts_of, has_ended, sink_ended, ended_at}
+use Rattle.picture_laws.specs.Picture.{has_ended, sink_ended, ended_there}
 use Rattle.stream_io.specs.Counts.{Rose, Grew}
 use Rattle.stream_io.specs.State.{FolderState, SourceState, DrainState}
 use Rattle.stream_io.specs.Reading.{FirstTooLong}
@@ -47,12 +47,17 @@ use Rattle.nodes.specs.declared.node.Node.TheVariants as node
 use Rattle.interpreter.specs.Parts.{number_of, ends_of}
 use Rattle.interpreter.specs.declared.parts.Link.{Link}
 use Rattle.interpreter.specs.Island as island
-use Rattle.run_laws.specs.Agreeing.{AgreesWith}
+use Rattle.run_account.specs.Account.{Account, IsStill}
+use Rattle.run_account.specs.Items.{AgreesWith}
+use Rattle.run_account.specs.Pictures as pictures
+use Rattle.run_account.specs.Ports.{count_of}
+use Rattle.run_account.specs.Seats.{account_of}
+use Rattle.run_account.proofs.Coming.{elements_told}
 use Rattle.run_laws.specs.Made.{Materializes}
+use Rattle.run_laws.specs.Runs.{IsRun}
 use Rattle.run_laws.specs.Telling.{TellsFile, TellsNode, Tells}
 use Rattle.run_laws.specs.Sinks.{SinkWrote, SentTo, IsSinkAt, IgnoreTells, IsIgnorerAt}
 use Rattle.run_laws.specs.Reads.{IsSourceAt, ReadsAhead, SentLines}
-use Rattle.run_laws.proofs.Counting.{elements_told}
 use Rattle.blue_core.specs.declared.blueprint.Blueprint.{Blueprint}
 use Rattle.blue_rules.specs.Names.{file_of}
 use Rattle.blue_core.specs.declared.blueprint.Node as blue
@@ -61,7 +66,6 @@ use Rattle.blue_check.specs.Wires.{blueprint_wires}
 use Rattle.blue_walks.specs.Forest.{wiring}
 use Rattle.plug_core.specs.declared.head.PlugHead.{PlugHead}
 use Rattle.materializer.specs.Built.{CanRun, is_built}
-use Rattle.materializer.specs.Joined.{IsJoined}
 use Rattle.materializer.proofs.Fitting.{all_built}
 use Rattle.materializer.specs.Files.{output_of, inputs_of_nodes, outputs_of_nodes, is_sink}
 use Rattle.materializer.specs.Graphs.{node_of, graph_of}
@@ -82,16 +86,16 @@ use Rattle.blueprint_run.proofs.Units.{spent_most, sent_asked, count_most, need_
 use Rattle.blueprint_run.proofs.Worlds.{world_of, world_has, tree_by_wires}
 use Rattle.blueprint_run.proofs.Places.{all_at, contains_at, contained_at, mapped_at, unmapped_at, filtered_at, unfiltered_at, place_of, place_one, place_within}
 use Rattle.blueprint_run.proofs.Profiles.{some_one, stand_in, writer_there, sinks_filtered, StandsAt, Profile, ended_along}
-use Rattle.blueprint_run.proofs.Handles.{IsSinkInto, HandleLaws, fault_kind, writer_kind, SourceFacts, SinkFacts, source_facts, sink_facts, made, profiles, as_many, stands_are, read_grew, faults_grew, writes_grew, file_held, other_files, other_reads, other_writes, other_draws, refused, tells_old, reading_same, writing_same}
+use Rattle.blueprint_run.proofs.Handles.{IsSinkInto, HandleLaws, fault_kind, writer_kind, SourceFacts, SinkFacts, source_facts, sink_facts, made, is_run, profiles, as_many, stands_are, read_grew, faults_grew, writes_grew, file_held, other_files, other_reads, other_writes, other_draws, refused, tells_old, reading_same, writing_same}
 
 -- ---- the wires' counts
 
-sent_count : (cells : List Cell) (i : ℕ) → sent_at (counts_of cells) i ≡ elements (slice_index_or cells i no_wire).wire.sent
+sent_count : (cells : List Cell) (i : ℕ) → sent_at (map count_of cells) i ≡ elements (slice_index_or cells i no_wire).wire.sent
 sent_count [] i = refl
 sent_count (c ∷ cs) zero = refl
 sent_count (c ∷ cs) (suc i) = sent_count cs i
 
-counts_second : (links : List Link) (cells : List Cell) → length links ≡ length cells → map (λ (w : ℕ × WireCount). w.1) (island.counts_of (map number_of links) cells) ≡ counts_of cells
+counts_second : (links : List Link) (cells : List Cell) → length links ≡ length cells → map (λ (w : ℕ × WireCount). w.1) (island.counts_of (map number_of links) cells) ≡ map count_of cells
 counts_second [] [] e = refl
 counts_second [] (c ∷ cs) e = absurd (omega (arith, e))
 counts_second (l ∷ ls) [] e = absurd (omega (arith, e))
@@ -153,10 +157,8 @@ ended_stand (node.Making x) s f = absurd cc
 ended_stand (node.Linear x) s f = absurd cc
 ended_stand (node.State x) s f = absurd cc
 
-ended_there : {S D : Type 0} (nodes : List (Node S D)) (k : ℕ) (x : Node S D) (s : Stand) → slice_get nodes k ≡ Some x → stand_in x ≡ Some s → ended_at nodes k ≡ has_ended s.2
-ended_there [] k x s e f = absurd cc
-ended_there (y ∷ ys) zero x s e f = let same : y ≡ x = cc in ap sink_ended same ∙ ended_stand x s f
-ended_there (y ∷ ys) (suc k) x s e f = ended_there ys k x s e f
+ended_as : {S D : Type 0} (nodes : List (Node S D)) (k : ℕ) (x : Node S D) (s : Stand) → slice_get nodes k ≡ Some x → stand_in x ≡ Some s → ended_there (slice_get nodes k) ≡ has_ended s.2
+ended_as nodes k x s e f = ap ended_there e ∙ ended_stand x s f
 
 sink_shape : (k : Kind) → oneway.is_sink k ≡ true → (outputs_of k == 0) ≡ true
 sink_shape (kind.ToLines f) e = refl
@@ -221,56 +223,63 @@ tells_node sources w n first now tells = tt
 
 module _ {S D : Type 0} (sources : S → SourceState) (drains : D → DrainState) where
   abbrev WroteLaw : Type 0
-  WroteLaw = (g : Graph) (net : Net (Node S D)) → Settled node_row (node_law sources drains) node_asking node_moves net → Materializes sources g net.firsts net.ends
-      → (k : ℕ) (n : graph.Node) (first now : Sink D) → slice_get g.nodes k ≡ Some n → IsSinkAt net k first now → SinkWrote sources drains g net k n first now
+  WroteLaw = (g : Graph) (a : Account (Node S D)) → IsRun sources drains g a
+      → (k : ℕ) (n : graph.Node) (first now : Sink D) → slice_get g.nodes k ≡ Some n → IsSinkAt a k first now → SinkWrote sources drains g a k n first now
 
   abbrev SentLaw : Type 0
-  SentLaw = (g : Graph) (net : Net (Node S D)) → Settled node_row (node_law sources drains) node_asking node_moves net → Materializes sources g net.firsts net.ends
-      → (k : ℕ) (n : graph.Node) (name : List ℕ) (first now : Sink D) (u : ℕ) (v : Wire) → slice_get g.nodes k ≡ Some n → n.kind ≡ kind.ToLines name → IsSinkAt net k first now → slice_get g.wires u ≡ Some v → v.to ≡ k
-      → SentTo now.end (elements (wire_at net u).wire.sent) now.count
+  SentLaw = (g : Graph) (a : Account (Node S D)) → IsRun sources drains g a
+      → (k : ℕ) (n : graph.Node) (name : List ℕ) (first now : Sink D) (u : ℕ) (v : Wire) → slice_get g.nodes k ≡ Some n → n.kind ≡ kind.ToLines name → IsSinkAt a k first now → slice_get g.wires u ≡ Some v → v.to ≡ k
+      → SentTo now.end (elements (a.far u).wire.sent) now.count
 
   abbrev RestLaw : Type 0
-  RestLaw = (g : Graph) (net : Net (Node S D)) → Settled node_row (node_law sources drains) node_asking node_moves net → Materializes sources g net.firsts net.ends
-      → (k : ℕ) (n : graph.Node) (name : List ℕ) (first now : Sink D) (u : ℕ) (v : Wire) → slice_get g.nodes k ≡ Some n → n.kind ≡ kind.ToLines name → IsSinkAt net k first now → slice_get g.wires u ≡ Some v → v.to ≡ k
-      → net.queue ≡ [] → now.end ≡ Unended → elements (wire_at net u).wire.sent ≡ now.count
+  RestLaw = (g : Graph) (a : Account (Node S D)) → IsRun sources drains g a
+      → (k : ℕ) (n : graph.Node) (name : List ℕ) (first now : Sink D) (u : ℕ) (v : Wire) → slice_get g.nodes k ≡ Some n → n.kind ≡ kind.ToLines name → IsSinkAt a k first now → slice_get g.wires u ≡ Some v → v.to ≡ k
+      → IsStill g a → now.end ≡ Unended → elements (a.far u).wire.sent ≡ now.count
 
   abbrev ReadsLaw : Type 0
-  ReadsLaw = (g : Graph) (net : Net (Node S D)) → Settled node_row (node_law sources drains) node_asking node_moves net → Materializes sources g net.firsts net.ends
-      → (k : ℕ) (n : graph.Node) (first now : Lines S) (u : ℕ) (v : Wire) (bytes : List ℕ) → slice_get g.nodes k ≡ Some n → IsSourceAt net k first now → slice_get g.wires u ≡ Some v → v.from ≡ k
-      → (sources first.reader.source).whole ≡ Some bytes → SentLines bytes (sources first.reader.source) (sources now.reader.source) (wire_at net u).wire.sent
+  ReadsLaw = (g : Graph) (a : Account (Node S D)) → IsRun sources drains g a
+      → (k : ℕ) (n : graph.Node) (first now : Lines S) (u : ℕ) (v : Wire) (bytes : List ℕ) → slice_get g.nodes k ≡ Some n → IsSourceAt a k first now → slice_get g.wires u ≡ Some v → v.from ≡ k
+      → (sources first.reader.source).whole ≡ Some bytes → SentLines bytes (sources first.reader.source) (sources now.reader.source) (a.near u).wire.sent
 
   abbrev LawfulLaw : Type 0
-  LawfulLaw = (g : Graph) (w : World) (rank : ℕ → ℕ) (net : Net (Node S D)) → Settled node_row (node_law sources drains) node_asking node_moves net → Materializes sources g net.firsts net.ends
-      → Tells sources g w net → IsRanked g rank → IsLawful g w (counts_of net.wires) (composed g w)
+  LawfulLaw = (g : Graph) (w : World) (rank : ℕ → ℕ) (a : Account (Node S D)) → IsRun sources drains g a
+      → Tells sources g w a → IsRanked g rank → IsLawful g w (pictures.counts_of a g) (composed g w)
 
   abbrev RestsLaw : Type 0
-  RestsLaw = (g : Graph) (w : World) (rank : ℕ → ℕ) (net : Net (Node S D)) → Settled node_row (node_law sources drains) node_asking node_moves net → net.queue ≡ [] → Materializes sources g net.firsts net.ends
-      → Tells sources g w net → IsRanked g rank → Rests g w (counts_of net.wires) (composed g w)
+  RestsLaw = (g : Graph) (w : World) (rank : ℕ → ℕ) (a : Account (Node S D)) → IsRun sources drains g a → IsStill g a
+      → Tells sources g w a → IsRanked g rank → Rests g w (pictures.counts_of a g) (composed g w)
 
   abbrev MatchLaw : Type 0
-  MatchLaw = (g : Graph) (w : World) (net : Net (Node S D)) (outlook : ℕ → Outlook) → Settled node_row (node_law sources drains) node_asking node_moves net → net.queue ≡ [] → Materializes sources g net.firsts net.ends
-      → SinksMatch g w (counts_of net.wires) outlook (ended_at net.nodes)
+  MatchLaw = (g : Graph) (w : World) (a : Account (Node S D)) (outlook : ℕ → Outlook) → IsRun sources drains g a → IsStill g a
+      → SinksMatch g w (pictures.counts_of a g) outlook (λ k. ended_there (a.nodes k))
 
   abbrev AgreeLaw : Type 0
-  AgreeLaw = (g : Graph) (w : World) (rank : ℕ → ℕ) (net : Net (Node S D)) → Settled node_row (node_law sources drains) node_asking node_moves net → Materializes sources g net.firsts net.ends
-      → Tells sources g w net → IsRanked g rank → (i : ℕ) → i < length g.wires → AgreesWith (composed g w i) (wire_at net i).wire.sent
+  AgreeLaw = (g : Graph) (w : World) (rank : ℕ → ℕ) (a : Account (Node S D)) → IsRun sources drains g a
+      → Tells sources g w a → IsRanked g rank → (i : ℕ) → i < length g.wires → AgreesWith (composed g w i) (a.near i).wire.sent
 
   abbrev TreesLaw : Type 0
   TreesLaw = (g : Graph) (w : World) (counts : List WireCount) (outlook : ℕ → Outlook) → IsWired g counts → Rests g w counts outlook → IsPolytree g → (ended : ℕ → Bool) → SinksMatch g w counts outlook ended
       → (i : ℕ) (v : Wire) (n : graph.Node) → slice_get g.wires i ≡ Some v → slice_get g.nodes v.to ≡ Some n → oneway.is_sink n.kind ≡ true → ended v.to ≡ true
 
   abbrev IgnorerThere : Type 0
-  IgnorerThere = (g : Graph) (net : Net (Node S D)) → Settled node_row (node_law sources drains) node_asking node_moves net → Materializes sources g net.firsts net.ends
-      → (k : ℕ) (n : graph.Node) → slice_get g.nodes k ≡ Some n → n.kind ≡ kind.Ignore → (first : Ignorer) × ((now : Ignorer) × IsIgnorerAt net k first now)
+  IgnorerThere = (g : Graph) (a : Account (Node S D)) → IsRun sources drains g a
+      → (k : ℕ) (n : graph.Node) → slice_get g.nodes k ≡ Some n → n.kind ≡ kind.Ignore → (first : Ignorer) × ((now : Ignorer) × IsIgnorerAt a k first now)
 
   abbrev IgnoresLaw : Type 0
-  IgnoresLaw = (g : Graph) (w : World) (rank : ℕ → ℕ) (net : Net (Node S D)) → Settled node_row (node_law sources drains) node_asking node_moves net → Materializes sources g net.firsts net.ends → Tells sources g w net → IsRanked g rank
-      → (k : ℕ) (n : graph.Node) (first now : Ignorer) (u : ℕ) (v : Wire) → slice_get g.nodes k ≡ Some n → IsIgnorerAt net k first now → slice_get g.wires u ≡ Some v → v.to ≡ k
-      → IgnoreTells (sink_outlook g w k n) now.end (elements (wire_at net u).wire.sent)
+  IgnoresLaw = (g : Graph) (w : World) (rank : ℕ → ℕ) (a : Account (Node S D)) → IsRun sources drains g a → Tells sources g w a → IsRanked g rank
+      → (k : ℕ) (n : graph.Node) (first now : Ignorer) (u : ℕ) (v : Wire) → slice_get g.nodes k ≡ Some n → IsIgnorerAt a k first now → slice_get g.wires u ≡ Some v → v.to ≡ k
+      → IgnoreTells (sink_outlook g w k n) now.end (elements (a.far u).wire.sent)
+
+  abbrev StillLaw : Type 0
+  StillLaw = (g : Graph) (net : Net (Node S D)) → Settled node_row (node_law sources drains) node_asking node_moves net → Materializes sources g net.firsts net.ends → net.queue ≡ [] → IsStill g (account_of net)
+
+  abbrev CountsLaw : Type 0
+  CountsLaw = (g : Graph) (net : Net (Node S D)) → Settled node_row (node_law sources drains) node_asking node_moves net → Materializes sources g net.firsts net.ends → pictures.counts_of (account_of net) g ≡ map count_of net.wires
 
   pub record RunLaws : Type 0 where
+    pub still : StillLaw
+    pub counts : CountsLaw
     pub ranked : (b : Blueprint) (plugs : List PlugHead) (taken : List (List ℕ)) → IsFit b plugs taken → (rank : ℕ → ℕ) × IsRanked (graph_of b) rank
-    pub joined : (b : Blueprint) (plugs : List PlugHead) (taken : List (List ℕ)) → IsFit b plugs taken → IsJoined (graph_of b)
     pub agree : AgreeLaw
     pub trees : TreesLaw
     pub wrote : WroteLaw
@@ -314,14 +323,26 @@ module _ {S D : Type 0} (sources : S → SourceState) (drains : D → DrainState
   profile : (k : ℕ) (n : blue.Node) (x : Node S D) → slice_get nodes k ≡ Some n → slice_get net.nodes k ≡ Some x → Profile sources drains k n x
   profile = profiles sources drains handles b can ss ds budget st l old mid opens
 
+  abbrev left : Account (Node S D)
+  left = account_of net
+
+  run : IsRun sources drains g left
+  run = is_run sources drains handles b can ss ds budget st l old mid opens
+
+  still : IsTrue st.at_rest → IsStill g left
+  still rest = laws.still g net l.stops.settled net_made (l.stops.rests.0 rest)
+
   -- the wires' counts are those of the net
-  wires_are : st.wires.items ≡ counts_of net.wires
-  wires_are =
+  wires_net : st.wires.items ≡ map count_of net.wires
+  wires_net =
       let count : length (links_from 0 (blueprint_wires b)) ≡ length net.wires = sym (length-map (links_from 0 (blueprint_wires b)) ends_of) ∙ ap length (sym l.stops.ends) ∙ l.stops.settled.wired.each_wire in
       l.stops.wires ∙ counts_second (links_from 0 (blueprint_wires b)) net.wires count
 
+  wires_are : st.wires.items ≡ pictures.counts_of left g
+  wires_are = wires_net ∙ sym (laws.counts g net l.stops.settled net_made)
+
   wire_count : (u : ℕ) → sent_at st.wires.items u ≡ elements (wire_at net u).wire.sent
-  wire_count u = ap (λ (c : List WireCount). sent_at c u) wires_are ∙ sent_count net.wires u
+  wire_count u = ap (λ (c : List WireCount). sent_at c u) wires_net ∙ sent_count net.wires u
 
   -- there are as many as wires
   wire_number : length net.wires ≡ length (blueprint_wires b)
@@ -337,7 +358,7 @@ module _ {S D : Type 0} (sources : S → SourceState) (drains : D → DrainState
   -- and the units are tied to what passed
   pays : Pays b st.wires.items st.used
   pays =
-      let asked : all_sent st.wires.items ≤ sum_below (λ w. asks (wire_at net w).wire) (length net.wires) = subst (λ (c : List WireCount). all_sent c ≤ sum_below (λ w. asks (wire_at net w).wire) (length net.wires)) (sym wires_are) (sent_asked net.wires) in
+      let asked : all_sent st.wires.items ≤ sum_below (λ w. asks (wire_at net w).wire) (length net.wires) = subst (λ (c : List WireCount). all_sent c ≤ sum_below (λ w. asks (wire_at net w).wire) (length net.wires)) (sym wires_net) (sent_asked net.wires) in
       let used : sum_below (λ w. asks (wire_at net w).wire) (length net.wires) ≤ st.used = l.stops.asks in
       let paid : st.used ≤ total net = l.stops.paid in
       let cost : total net ≤ sum_below (λ k. 2 * sent_at st.wires.items (0 + k) + 3) (length net.wires) =
@@ -347,7 +368,7 @@ module _ {S D : Type 0} (sources : S → SourceState) (drains : D → DrainState
       let most : st.used + length (blueprint_wires b) ≤ need_from 0 (blueprint_wires b) (sent_at st.wires.items) = omega (arith, paid, cost, count, wire_number) in
       let least : all_sent st.wires.items ≤ st.used = omega (arith, asked, used) in
       record {
-        counted = ap length wires_are ∙ length-map net.wires count_of ∙ wire_number;
+        counted = ap length wires_net ∙ length-map net.wires count_of ∙ wire_number;
         least = least;
         most = most;
       }
@@ -357,7 +378,7 @@ module _ {S D : Type 0} (sources : S → SourceState) (drains : D → DrainState
     node : blue.Node
     at : slice_get nodes s.0 ≡ Some node
     shape : oneway.is_sink node.kind ≡ true
-    ended : ended_at net.nodes s.0 ≡ has_ended s.2
+    ended : ended_there (slice_get net.nodes s.0) ≡ has_ended s.2
     wire : ℕ
     is : Wire
     there : slice_get (blueprint_wires b) wire ≡ Some is
@@ -375,13 +396,13 @@ module _ {S D : Type 0} (sources : S → SourceState) (drains : D → DrainState
       let found : slice_get net.nodes s.0 ≡ Some from.1.0 = subst (λ j. slice_get net.nodes j ≡ Some from.1.0) (sym place) from.1.1.0 in
       let built : is_built m.0.kind ≡ true = built_at nodes s.0 m.0 (all_built nodes (blueprint_wires b) can.built) here in
       let shape : oneway.is_sink m.0.kind ≡ true = built_sink m.0.kind built (is_stand from.0 (is_sink m.0) (stand_in from.1.0) s stand from.1.1.1) in
-      let input = (laws.joined b can.plugs can.taken can.fit).each_input s.0 (node_of m.0) 0 (mapped_at node_of nodes s.0 m.0 here) (sink_input m.0.kind shape) in
+      let input = (handles.joined_law b can.plugs can.taken can.fit).each_input s.0 (node_of m.0) 0 (mapped_at node_of nodes s.0 m.0 here) (sink_input m.0.kind shape) in
       let wire = found_first (λ w. w.to) (λ w. w.input) s.0 0 (blueprint_wires b) input.0 input.1 in
       record {
         node = m.0;
         at = here;
         shape = shape;
-        ended = ended_there net.nodes s.0 from.1.0 s found from.1.1.1;
+        ended = ended_as net.nodes s.0 from.1.0 s found from.1.1.1;
         wire = input.0;
         is = wire.wire;
         there = wire.at;
@@ -451,7 +472,7 @@ module _ {S D : Type 0} (sources : S → SourceState) (drains : D → DrainState
       })
 
     -- the world tells of every source
-    world_tells : (w : World) → IsWorldOf nodes drawn w → Tells sources g w net
+    world_tells : (w : World) → IsWorldOf nodes drawn w → Tells sources g w left
     world_tells w is k n first now gi fi ni = tells_node sources w n first now (λ a c name fa nc shape.
         let m = unmapped_at node_of nodes k n gi in
         let place : IsSource nodes k name = record { node = m.0; at = m.1.0; kind_is = ap (λ (x : graph.Node). x.kind) (sym m.1.1) ∙ shape } in
@@ -466,8 +487,8 @@ module _ {S D : Type 0} (sources : S → SourceState) (drains : D → DrainState
       at_graph : slice_get g.nodes k ≡ Some (node_of n)
       at_graph = mapped_at node_of nodes k n at
 
-      wrote : SinkWrote sources drains g net k (node_of n) f.first f.now
-      wrote = laws.wrote g net l.stops.settled net_made k (node_of n) f.first f.now at_graph f.there
+      wrote : SinkWrote sources drains g left k (node_of n) f.first f.now
+      wrote = laws.wrote g left run k (node_of n) f.first f.now at_graph f.there
 
       sink_leaves : SinkLeaves new b drawn st.wires.items st.at_rest k n file f.now.count f.now.end
       sink_leaves = record {
@@ -475,8 +496,8 @@ module _ {S D : Type 0} (sources : S → SourceState) (drains : D → DrainState
         there = λ tells. file_held sources drains handles b can ss ds budget st l old mid opens new closes k file f tells ∙ wrote.holds (f.start.holds (closes.files.told tells));
         tells = λ w is. let ranked = laws.ranked b can.plugs can.taken can.fit in wrote.tells w ranked.0 (world_tells w is) ranked.1;
         lines_are = wrote.lines_are;
-        sent = λ shape u v at to. subst (λ (m : ℕ). SentTo f.now.end m f.now.count) (sym (wire_count u)) (laws.sent g net l.stops.settled net_made k (node_of n) file f.first f.now u v at_graph shape f.there at to);
-        rests = λ shape rest unended u v at to. wire_count u ∙ laws.rest g net l.stops.settled net_made k (node_of n) file f.first f.now u v at_graph shape f.there at to (l.stops.rests.0 rest) unended;
+        sent = λ shape u v at to. subst (λ (m : ℕ). SentTo f.now.end m f.now.count) (sym (wire_count u)) (laws.sent g left run k (node_of n) file f.first f.now u v at_graph shape f.there at to);
+        rests = λ shape rest unended u v at to. wire_count u ∙ laws.rest g left run k (node_of n) file f.first f.now u v at_graph shape f.there at to (still rest) unended;
       }
 
     -- a sink without a file
@@ -484,7 +505,7 @@ module _ {S D : Type 0} (sources : S → SourceState) (drains : D → DrainState
     ignore_leaves i s n at here shape =
         let ranked = laws.ranked b can.plugs can.taken can.fit in
         let at_graph : slice_get g.nodes s.0 ≡ Some (node_of n) = mapped_at node_of nodes s.0 n here in
-        let there = laws.ignorer g net l.stops.settled net_made s.0 (node_of n) at_graph shape in
+        let there = laws.ignorer g left run s.0 (node_of n) at_graph shape in
         let now = there.1.0 in
         let among : slice_get (filter_map stand_in net.nodes) i ≡ Some s = subst (λ (x : List Stand). slice_get x i ≡ Some s) (l.stops.sinks ∙ sinks_filtered net.nodes) at in
         let from = unfiltered_at stand_in net.nodes i s among in
@@ -500,7 +521,7 @@ module _ {S D : Type 0} (sources : S → SourceState) (drains : D → DrainState
           tells = λ w is_world u v wire to.
               subst (λ (e : EndState). IgnoreTells (sink_outlook g w s.0 (node_of n)) e (sent_at st.wires.items u)) (ap (λ (t : Stand). t.2) same)
               (subst (λ (c : ℕ). IgnoreTells (sink_outlook g w s.0 (node_of n)) now.end c) (sym (wire_count u))
-              (laws.ignores g w ranked.0 net l.stops.settled net_made (world_tells w is_world) ranked.1 s.0 (node_of n) there.0 now u v at_graph there.1.1 wire to));
+              (laws.ignores g w ranked.0 left run (world_tells w is_world) ranked.1 s.0 (node_of n) there.0 now u v at_graph there.1.1 wire to));
         }
 
     -- one world that has the files
@@ -510,16 +531,20 @@ module _ {S D : Type 0} (sources : S → SourceState) (drains : D → DrainState
     has_files : IsWorldOf nodes drawn world
     has_files = world_has nodes drawn (λ i k m n name at here p q. one_file b can.plugs can.taken can.fit i k m n name at here (ap file_of p) (ap file_of q))
 
-    picture_wired : IsWired g (counts_of net.wires)
+    -- the picture of the run
+    abbrev picture : List WireCount
+    picture = pictures.counts_of left g
+
+    picture_wired : IsWired g picture
     picture_wired =
-        let joined = laws.joined b can.plugs can.taken can.fit in
+        let joined = handles.joined_law b can.plugs can.taken can.fit in
         record {
           target = joined.target;
           source = joined.source;
           counted = λ i v at.
               let within : i < length (blueprint_wires b) = place_within (blueprint_wires b) i v at in
-              let count : length (counts_of net.wires) ≡ length net.wires = length-map net.wires count_of in
-              place_of (counts_of net.wires) i (omega (arith, within, count, wire_number));
+              let count : length picture ≡ length net.wires = ap length (laws.counts g net l.stops.settled net_made) ∙ length-map net.wires count_of in
+              place_of picture i (omega (arith, within, count, wire_number));
         }
 
     -- in a polytree every sink has ended where no event was left
@@ -529,10 +554,10 @@ module _ {S D : Type 0} (sources : S → SourceState) (drains : D → DrainState
         none_unended st.end.sinks.items (λ i s at.
         let h = sink_here i s at in
         let n : slice_get g.nodes h.is.to ≡ Some (node_of h.node) = subst (λ j. slice_get g.nodes j ≡ Some (node_of h.node)) (sym h.to) (mapped_at node_of nodes s.0 h.node h.at) in
-        let over : ended_at net.nodes h.is.to ≡ true =
-        laws.trees g world (counts_of net.wires) (composed g world) picture_wired (laws.rests g world ranked.0 net l.stops.settled (l.stops.rests.0 rest) net_made (world_tells world has_files) ranked.1) (tree_by_wires g tree)
-        (ended_at net.nodes) (laws.match g world net (composed g world) l.stops.settled (l.stops.rests.0 rest) net_made) h.wire h.is (node_of h.node) h.there n h.shape in
-        ended_goes s.2 (sym h.ended ∙ ap (ended_at net.nodes) (sym h.to) ∙ over))
+        let over : ended_there (slice_get net.nodes h.is.to) ≡ true =
+        laws.trees g world picture (composed g world) picture_wired (laws.rests g world ranked.0 left run (still rest) (world_tells world has_files) ranked.1) (tree_by_wires g tree)
+        (λ k. ended_there (slice_get net.nodes k)) (laws.match g world left (composed g world) run (still rest)) h.wire h.is (node_of h.node) h.there n h.shape in
+        ended_goes s.2 (sym h.ended ∙ ap (λ (k : ℕ). ended_there (slice_get net.nodes k)) (sym h.to) ∙ over))
 
     needed : (w : World) → IsWorldOf nodes drawn w → count_needed g st.wires.items ≤ need g (composed g w)
     needed w is =
@@ -540,7 +565,7 @@ module _ {S D : Type 0} (sources : S → SourceState) (drains : D → DrainState
         need_more (blueprint_wires b) 0 (sent_at st.wires.items) (λ i. length (composed g w i).list) (λ k lt.
         let sent : sent_at st.wires.items (0 + k) ≡ elements (wire_at net (0 + k)).wire.sent = wire_count (0 + k) in
         let place : 0 + k < length g.wires = omega (arith, lt) in
-        let within : elements (wire_at net (0 + k)).wire.sent ≤ length (composed g w (0 + k)).list = passed_within (composed g w (0 + k)) (wire_at net (0 + k)).wire.sent (laws.agree g w ranked.0 net l.stops.settled net_made (world_tells w is) ranked.1 (0 + k) place) in
+        let within : elements (wire_at net (0 + k)).wire.sent ≤ length (composed g w (0 + k)).list = passed_within (composed g w (0 + k)) (wire_at net (0 + k)).wire.sent (laws.agree g w ranked.0 left run (world_tells w is) ranked.1 (0 + k) place) in
         let le : sent_at st.wires.items (0 + k) ≤ length (composed g w (0 + k)).list = omega (arith, sent, within) in
         le)
 
@@ -562,10 +587,10 @@ module _ {S D : Type 0} (sources : S → SourceState) (drains : D → DrainState
           draws = λ k file u v is at from.
               let f = source_at k file is in
               let told = draws_told (file_there k file f).0 (sources f.first.reader.source) (sources f.now.reader.source) (wire_at net u).wire.sent (sent_at st.wires.items u) f.start.faults (wire_count u)
-              (laws.reads g net l.stops.settled net_made k (node_of is.node) f.first f.now u v (file_there k file f).0 (mapped_at node_of nodes k is.node is.at) f.there at from (whole_told k file f)) in
+              (laws.reads g left run k (node_of is.node) f.first f.now u v (file_there k file f).0 (mapped_at node_of nodes k is.node is.at) f.there at from (whole_told k file f)) in
               rw (drawn_bytes k file f, drawn_given k file f, drawn_faulted k file f) told;
-          lawful = λ w is. subst (λ (c : List WireCount). IsLawful g w c (composed g w)) (sym wires_are) (laws.lawful g w ranked.0 net l.stops.settled net_made (world_tells w is) ranked.1);
-          rest = λ rest w is. subst (λ (c : List WireCount). Rests g w c (composed g w)) (sym wires_are) (laws.rests g w ranked.0 net l.stops.settled (l.stops.rests.0 rest) net_made (world_tells w is) ranked.1);
+          lawful = λ w is. subst (λ (c : List WireCount). IsLawful g w c (composed g w)) (sym wires_are) (laws.lawful g w ranked.0 left run (world_tells w is) ranked.1);
+          rest = λ rest w is. subst (λ (c : List WireCount). Rests g w c (composed g w)) (sym wires_are) (laws.rests g w ranked.0 left run (still rest) (world_tells w is) ranked.1);
           matching = λ rest w k n at is.
               let m = unmapped_at node_of nodes k n at in
               let shape : oneway.is_sink m.0.kind ≡ true = ap (λ (x : graph.Node). oneway.is_sink x.kind) (sym m.1.1) ∙ is in
@@ -574,11 +599,11 @@ module _ {S D : Type 0} (sources : S → SourceState) (drains : D → DrainState
               let stand = stand_there k (is_sink m.0) (stand_in x.0) (profile k m.0 x.0 m.1.0 x.1).stand (sink_shape m.0.kind shape) in
               let by_place : has_ended_at (filter_map stand_in net.nodes) k ≡ has_ended stand.0.2 =
               ended_along 0 nodes net.nodes (as_many sources drains handles b can ss ds budget st l old mid opens) (λ i y z p q. subst (λ j. StandsAt j (is_sink y) (stand_in z)) (omega arith) (profile i y z p q).stand) k k x.0 stand.0 (omega arith) x.1 stand.1.0 in
-              let ended : ended_at net.nodes k ≡ has_ended_at st.end.sinks.items k =
-              ended_there net.nodes k x.0 stand.0 x.1 stand.1.0 ∙ sym by_place ∙ ap (λ (y : List Stand). has_ended_at y k) (sym (l.stops.sinks ∙ sinks_filtered net.nodes)) in
+              let ended : ended_there (slice_get net.nodes k) ≡ has_ended_at st.end.sinks.items k =
+              ended_as net.nodes k x.0 stand.0 x.1 stand.1.0 ∙ sym by_place ∙ ap (λ (y : List Stand). has_ended_at y k) (sym (l.stops.sinks ∙ sinks_filtered net.nodes)) in
               subst (λ (c : List WireCount). EachWire (λ i. i.shut ≡ has_ended_at st.end.sinks.items k) (ins g c (composed g w) k n.kind)) (sym wires_are)
-              (subst (λ (e : Bool). EachWire (λ i. i.shut ≡ e) (ins g (counts_of net.wires) (composed g w) k n.kind)) ended
-              (laws.match g w net (composed g w) l.stops.settled (l.stops.rests.0 rest) net_made k n at is));
+              (subst (λ (e : Bool). EachWire (λ i. i.shut ≡ e) (ins g (pictures.counts_of left g) (composed g w) k n.kind)) ended
+              (laws.match g w left (composed g w) run (still rest) k n at is));
         }
 
   calm_output : ((i : ℕ) (s : Stand) → slice_get st.end.sinks.items i ≡ Some s → is_write_fault s.2 ≡ false) → (n : List ℕ) → Contains (outputs_of_nodes nodes) n → Grew (old.wfaults n) 0 (new.wfaults n)

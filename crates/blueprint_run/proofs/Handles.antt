@@ -9,6 +9,7 @@ use Rattle.stream_model.specs.Graph.{Graph}
 use Rattle.stream_model.specs.Graph as graph
 use Rattle.stream_model.specs.Composed.{IsRanked}
 use Rattle.stream_model.proofs.Compositions.{slice_get-below}
+use Rattle.stream_picture.specs.Joined.{IsJoined}
 use Rattle.stream_io.specs.Counts.{Rose, Grew}
 use Rattle.stream_io.specs.State.{FolderState, SourceState, DrainState}
 use Rattle.fused_net.specs.declared.net.Ends.{Ends}
@@ -23,12 +24,17 @@ use Rattle.nodes.specs.declared.node.Node.TheVariants as node
 use Rattle.interpreter.specs.declared.parts.Seated.{Seated}
 use Rattle.interpreter.specs.Parts.{ends_of, AllBecome}
 use Rattle.interpreter.specs.Island.{sinks_of, readers_of, writers_of}
+use Rattle.run_account.specs.Account.{Account}
+use Rattle.run_account.specs.Seats.{account_of}
 use Rattle.run_laws.specs.Made.{Materializes}
+use Rattle.run_laws.specs.Runs.{IsRun}
 use Rattle.run_laws.specs.Sinks.{IsSinkAt}
 use Rattle.run_laws.specs.Reads.{IsSourceAt}
 use Rattle.blue_core.specs.declared.blueprint.Blueprint.{Blueprint}
 use Rattle.blue_core.specs.declared.blueprint.Node as blue
+use Rattle.blue_check.specs.Fitness.{IsFit}
 use Rattle.blue_check.specs.Wires.{blueprint_wires}
+use Rattle.plug_core.specs.declared.head.PlugHead.{PlugHead}
 use Rattle.materializer.specs.Built.{CanRun}
 use Rattle.materializer.specs.Files.{input_of, output_of, inputs_of_nodes, outputs_of_nodes, is_sink}
 use Rattle.materializer.specs.Graphs.{node_of, graph_of}
@@ -69,15 +75,23 @@ module _ {S D : Type 0} (sources : S → SourceState) (drains : D → DrainState
       → (k : ℕ) (n : blue.Node) (name : List ℕ) → slice_get nodes k ≡ Some n → output_of n.kind ≡ Some name → WritesFile (outputs_of_nodes nodes) ds firsts k name
 
   abbrev pub SourceThere : Type 0
-  SourceThere = (g : Graph) (net : Net (Node S D)) → Settled node_row (node_law sources drains) node_asking node_moves net → Materializes sources g net.firsts net.ends
-      → (k : ℕ) (n : graph.Node) (name : List ℕ) → slice_get g.nodes k ≡ Some n → n.kind ≡ kind.Lines name → (first : Lines S) × ((now : Lines S) × IsSourceAt net k first now)
+  SourceThere = (g : Graph) (a : Account (Node S D)) → IsRun sources drains g a
+      → (k : ℕ) (n : graph.Node) (name : List ℕ) → slice_get g.nodes k ≡ Some n → n.kind ≡ kind.Lines name → (first : Lines S) × ((now : Lines S) × IsSourceAt a k first now)
 
   abbrev pub SinkThere : Type 0
-  SinkThere = (g : Graph) (net : Net (Node S D)) → Settled node_row (node_law sources drains) node_asking node_moves net → Materializes sources g net.firsts net.ends
-      → (k : ℕ) (n : graph.Node) → slice_get g.nodes k ≡ Some n → IsFileSink n.kind → (first : Sink D) × ((now : Sink D) × IsSinkAt net k first now)
+  SinkThere = (g : Graph) (a : Account (Node S D)) → IsRun sources drains g a
+      → (k : ℕ) (n : graph.Node) → slice_get g.nodes k ≡ Some n → IsFileSink n.kind → (first : Sink D) × ((now : Sink D) × IsSinkAt a k first now)
+
+  abbrev pub JoinedLaw : Type 0
+  JoinedLaw = (b : Blueprint) (plugs : List PlugHead) (taken : List (List ℕ)) → IsFit b plugs taken → IsJoined (graph_of b)
+
+  abbrev pub RunLaw : Type 0
+  RunLaw = (g : Graph) (net : Net (Node S D)) → IsJoined g → Settled node_row (node_law sources drains) node_asking node_moves net → Materializes sources g net.firsts net.ends → IsRun sources drains g (account_of net)
 
   pub record HandleLaws : Type 0 where
     pub made_law : MadeLaw
+    pub joined_law : JoinedLaw
+    pub run_law : RunLaw
     pub reads_law : SourcesLaw
     pub writes_law : DrainsLaw
     pub source_there : SourceThere
@@ -104,18 +118,25 @@ module _ {S D : Type 0} (sources : S → SourceState) (drains : D → DrainState
       let started : All (λ i. i.given ≡ 0) (map sources ss) = λ k d h. (opens.sources k d h).given in
       laws.made_law b ss ds l.places net.firsts net.ends can l.seats l.stops.firsts l.stops.ends (all_unmapped (λ i. i.given ≡ 0) sources ss started)
 
+  -- what its run left
+  abbrev pub left : Account (Node S D)
+  left = account_of net
+
+  pub is_run : IsRun sources drains (graph_of b) left
+  is_run = laws.run_law (graph_of b) net (laws.joined_law b can.plugs can.taken can.fit) l.stops.settled made
+
   -- a source, as it was handed in and now
   pub record SourceFacts (k : ℕ) (file : List ℕ) : Type 0 where
     pub first : Lines S
     pub now : Lines S
-    pub there : IsSourceAt net k first now
+    pub there : IsSourceAt left k first now
     pub start : AtStart old (sources first.reader.source)
     pub first_named : (sources first.reader.source).name ≡ file
     pub law : LinesLaw sources first now (view_of net k) (took net k) (gave net k)
 
   pub source_facts : (k : ℕ) (file : List ℕ) → IsSource nodes k file → SourceFacts k file
   source_facts k file is =
-      let there = laws.source_there (graph_of b) net l.stops.settled made k (node_of is.node) file (mapped_at node_of nodes k is.node is.at) is.kind_is in
+      let there = laws.source_there (graph_of b) left is_run k (node_of is.node) file (mapped_at node_of nodes k is.node is.at) is.kind_is in
       let handed = laws.reads_law nodes ss ds l.places net.firsts l.seats l.stops.firsts k is.node file is.at is.kind_is in
       let last : slice_get net.nodes k ≡ Some (node.Reading there.1.0) = there.1.1.at_last in
       let state : slice_get (map sources ss) handed.place ≡ Some (sources handed.first.reader.source) = mapped_at sources ss handed.place handed.first.reader.source handed.source in
@@ -134,7 +155,7 @@ module _ {S D : Type 0} (sources : S → SourceState) (drains : D → DrainState
   pub record SinkFacts (k : ℕ) (file : List ℕ) : Type 0 where
     pub first : Sink D
     pub now : Sink D
-    pub there : IsSinkAt net k first now
+    pub there : IsSinkAt left k first now
     pub start : HoldsNone mid (drains first.drain)
     pub first_named : (drains first.drain).name ≡ file
     pub law : SinkLaw drains first now (view_of net k) (took net k) (gave net k)
@@ -142,7 +163,7 @@ module _ {S D : Type 0} (sources : S → SourceState) (drains : D → DrainState
 
   pub sink_facts : (k : ℕ) (file : List ℕ) → IsSinkInto nodes k file → SinkFacts k file
   sink_facts k file is =
-      let there = laws.sink_there (graph_of b) net l.stops.settled made k (node_of is.node) (mapped_at node_of nodes k is.node is.at) (writes_file is.node.kind file is.file_is) in
+      let there = laws.sink_there (graph_of b) left is_run k (node_of is.node) (mapped_at node_of nodes k is.node is.at) (writes_file is.node.kind file is.file_is) in
       let handed = laws.writes_law nodes ss ds l.places net.firsts l.seats l.stops.firsts k is.node file is.at is.file_is in
       let last : slice_get net.nodes k ≡ Some (node.Writing there.1.0) = there.1.1.at_last in
       let law : SinkLaw drains handed.first there.1.0 (view_of net k) (took net k) (gave net k) =

@@ -24,7 +24,7 @@ use Rattle.nodes.specs.declared.node.Node.{Node}
 use Rattle.nodes.specs.declared.node.Node.TheVariants as node
 use Rattle.interpreter.specs.Island.{sinks_of, readers_of, writers_of}
 use Rattle.run_laws.specs.Made.{FirstOf}
-use Rattle.picture_laws.specs.Picture.{has_ended, sink_ended, ended_at}
+use Rattle.picture_laws.specs.Picture.{has_ended}
 use Rattle.blue_core.specs.declared.blueprint.Node as blue
 use Rattle.materializer.specs.Files.{input_of, output_of, inputs_of_nodes, outputs_of_nodes, is_sink}
 use Rattle.materializer.specs.Graphs.{node_of}

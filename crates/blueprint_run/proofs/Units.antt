@@ -1,5 +1,5 @@
 -- What the wires of a net have cost, by its picture.
-use Rattle.std.proofs.Common.{◌≡◌, ℕ, zero, suc, ◌+◌, ◌*◌, ◌<◌, ◌≤◌, Bool, true, false, List, [], ◌∷◌, ◌++◌, length, slice_get, refl, sym, ap, ◌∙◌, subst, arith}
+use Rattle.std.proofs.Common.{◌≡◌, ℕ, zero, suc, ◌+◌, ◌*◌, ◌<◌, ◌≤◌, Bool, true, false, List, [], ◌∷◌, ◌++◌, map, length, slice_get, refl, sym, ap, ◌∙◌, subst, arith}
 use Rattle.std.specs.Prelude.{Option, Some, None, slice_index_or}
 use Rattle.elem_core.specs.Tree.{Tree}
 use Rattle.elem_core.specs.declared.item.Item.{Item}
@@ -17,9 +17,9 @@ use Rattle.wire_core.proofs.Counting.{elements_elem}
 use Rattle.wire_core.specs.Reading.{no_wire}
 use Rattle.fused_net.specs.Costs.{sum_below}
 use Rattle.fused_net.proofs.Sums.{sum_le}
-use Rattle.run_laws.specs.Agreeing.{AgreesWith}
-use Rattle.run_laws.proofs.Counting.{elements_append, elements_told}
-use Rattle.picture_laws.specs.Picture.{counts_of}
+use Rattle.run_account.specs.Items.{AgreesWith}
+use Rattle.run_account.specs.Ports.{count_of}
+use Rattle.run_account.proofs.Coming.{elements_append, elements_told}
 use Rattle.blueprint_run.specs.Units.{all_sent}
 
 -- ---- one wire
@@ -78,7 +78,7 @@ sum_first f zero = omega arith
 sum_first f (suc n) = omega (arith, sum_first f n)
 
 -- each element that was pushed was asked for
-pub sent_asked : (cells : List Cell) → all_sent (counts_of cells) ≤ sum_below (λ w. asks (slice_index_or cells w no_wire).wire) (length cells)
+pub sent_asked : (cells : List Cell) → all_sent (map count_of cells) ≤ sum_below (λ w. asks (slice_index_or cells w no_wire).wire) (length cells)
 sent_asked [] = omega arith
 sent_asked (c ∷ cs) =
     let first : sum_below (λ w. asks (slice_index_or (c ∷ cs) w no_wire).wire) (length (c ∷ cs)) ≡ asks c.wire + sum_below (λ w. asks (slice_index_or cs w no_wire).wire) (length cs) = sum_first (λ w. asks (slice_index_or (c ∷ cs) w no_wire).wire) (length cs) in

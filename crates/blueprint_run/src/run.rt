@@ -22,7 +22,7 @@ use picture_laws::laws::{a_picture_without_events_rests, every_picture_is_lawful
 use run_files::close::close_all;
 use run_files::open::{OpenEnd, Opened, open_all};
 use run_laws::laws::{
-    every_sink_agrees, every_sink_counts_its_lines, every_sink_writes,
+    an_island_leaves_a_run, every_sink_agrees, every_sink_counts_its_lines, every_sink_writes,
     every_source_reads_little_ahead, every_wire_agrees,
 };
 use std::alloc::{AllocError, Global};
@@ -109,6 +109,7 @@ fn close<F: Folder>(folder: &mut F, stopped: Stopped<F::Inp, F::Out>) -> Ran
         → OpensAll old (F.state folder.old) (inputs_of_nodes b.nodes.items) (outputs_of_nodes b.nodes.items) (map F.Inp.state ss) (map F.Out.state ds)
         → Leaves F.Inp.state F.Out.state b ss ds budget stopped → Runs old (F.state folder.new) b budget result }
 {
+    an_island_leaves_a_run::<F::Inp, F::Out>();
     every_wire_agrees::<F::Inp, F::Out>();
     every_sink_agrees::<F::Inp, F::Out>();
     every_sink_counts_its_lines::<F::Inp, F::Out>();

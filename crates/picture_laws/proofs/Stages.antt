@@ -26,6 +26,7 @@ use Rattle.nodes.specs.Source.{lines_row_in}
 use Rattle.nodes.specs.Sink.{sink_row_in}
 use Rattle.nodes.specs.Ignoring.{ignore_row_in}
 use Rattle.picture_laws.specs.Picture.{has_ended}
+use Rattle.picture_laws.proofs.OnePorts.{one_same}
 
 -- a source of lines
 pub lines_ports : (p : Phase) (y : OutView) → lines_row_in p y → (y ≡ Unasked) ⊎ OutClosed y
@@ -107,9 +108,6 @@ law_at m start start' h h' x x' y y' t t' g g' a b c d e f law = rw (← a, ← 
 
 pub same_start : (a b : Run Stage Tree) → owing a ≡ owing b → a ≡ b
 same_start a b e = cc
-
-pub one_same : (a b : List Item) → a ∷ [] ≡ b ∷ [] → a ≡ b
-one_same a b e = cc
 
 -- A linear stage that waits for its input: what it took there and what it gave, as its machine gives it, which goes on.
 pub record Waited (book : Book) (k : ℕ) (d : Decider) (wk : Work) (took gave : List Item) : Type 0 where

@@ -1,26 +1,32 @@
--- What a stage with state knows of its wires, what passed there, and what it asked for: one that keeps, by its machine; and a
--- buffer, which gives what came and asks for no more than it can hold.
-use Rattle.std.proofs.Common.{◌≡◌, ◌≢◌, ◌⊎◌, inl, inr, ℕ, ◌+◌, ◌-◌, ◌<◌, ◌≤◌, Bool, true, false, List, [], ◌∷◌, length, refl, sym, ap, ◌∙◌, subst, arith}
-use Rattle.elem_core.specs.Tree.{Tree}
-use Rattle.elem_core.specs.declared.item.Item.{Item}
-use Rattle.elem_core.specs.declared.why.Decider.{Decider}
+-- What a stage with state gives of its law for a picture: one that keeps, by its machine; and a buffer, which gives what came and
+-- asks for no more than it can hold.
+use Rattle.std.specs.Prelude.{slice_index_or}
+use Rattle.std.proofs.Common.{◌≡◌, ◌≢◌, ◌⊎◌, inl, inr, ℕ, zero, suc, ◌+◌, ◌-◌, ◌<◌, ◌≤◌, Bool, true, false, None, Some, List, [], ◌∷◌, length, take, map, refl, sym, ap, ◌∙◌, subst, arith}
 use Rattle.elem_core.proofs.Prefixes.{prefix_length}
-use Rattle.port_core.specs.Joint.{IsSound}
+use Rattle.elem_core.specs.Tree.{Tree}
+use Rattle.elem_core.specs.declared.why.Decider.{Decider}
+use Rattle.elem_core.specs.declared.item.Item.{Item}
 use Rattle.port_core.specs.View.{View, in_at, out_at}
 use Rattle.port_core.specs.declared.view.InView.{InView}
 use Rattle.port_core.specs.declared.view.InView.TheVariants.{Idle, Waiting, Over, Left}
 use Rattle.port_core.specs.declared.view.OutView.{OutView}
 use Rattle.port_core.specs.declared.view.OutView.TheVariants.{Unasked, Asked, Shut, Refused}
+use Rattle.stream_io.specs.State.{SourceState, DrainState}
 use Rattle.stream_model.specs.declared.kind.Kind.{Kind}
+use Rattle.stream_model.specs.declared.kind.Kind.TheVariants.{Grouped, Fold, Reduce, Scan, Buffer}
+use Rattle.stream_model.specs.declared.kind.Policy.TheVariants.{Backpressure}
+use Rattle.stream_model.specs.Fits.{valve_order}
 use Rattle.stream_model.specs.Graph.{Graph}
-use Rattle.stream_model.specs.Linear.{Book, Stage, Work, linear, begin_work}
-use Rattle.stream_model.specs.Machine.{State, going, Run, Machine, Stands}
+use Rattle.stream_model.specs.Graph as graph
+use Rattle.stream_model.specs.Linear.{Book, Stage, Work, linear, begin_work, work_of}
+use Rattle.stream_model.specs.Machine.{State, going, is_going, run, Stands}
 use Rattle.stream_model.specs.Node.{World}
 use Rattle.stream_model.specs.Lane.{Carries}
-use Rattle.stream_model.specs.Outlook.{Outlook, End, unended, ended, failed}
-use Rattle.stream_picture.specs.OneWay.{holds_at_end}
-use Rattle.stream_picture.specs.Rests.{IsShut, BufferRests}
-use Rattle.stream_picture.specs.View.{EachWire}
+use Rattle.stream_model.specs.Outlook.{End, unended, ended, failed}
+use Rattle.stream_picture.specs.Lawful.{RowLawful}
+use Rattle.stream_picture.specs.OneWay.{holds_at_end, is_sink}
+use Rattle.stream_picture.specs.Rests.{IsShut, BufferRests, RowRests}
+use Rattle.stream_picture.specs.View.{EachWire, demand, wanted}
 use Rattle.stage_law.specs.Held.{Held, owing}
 use Rattle.stage_law.specs.Law.{TookAs, Law}
 use Rattle.stage_law.specs.Row.{InClosed, OutClosed, BothClosed}
@@ -31,22 +37,25 @@ use Rattle.stage_state.specs.declared.ending.Ending.{Ending}
 use Rattle.stage_state.specs.declared.ending.Ending.TheVariants.{Lasting, Ended, Failed}
 use Rattle.stage_state.specs.Buffering.{buffer}
 use Rattle.stage_state.specs.Resting.{begin_buffer}
-use Rattle.stage_state.specs.States.{Logic, held, held_in, keep_row, buffer_row}
+use Rattle.stage_state.specs.States.{Logic, held, held_in, keep_row, buffer_row, row_by}
 use Rattle.stage_state.proofs.Buffers.{buffer_carries}
 use Rattle.stage_state.proofs.Rows.{counts}
-use Rattle.wire_core.specs.Cell.{Cell}
 use Rattle.wire_core.specs.Counts.{elements}
-use Rattle.wire_core.specs.Marks.{IsMarked, wanted, Grown}
-use Rattle.nodes.specs.State.{StateLaw}
-use Rattle.run_laws.proofs.States.{KeepsFirst, BuffersFirst, keeps_law, buffers_law}
-use Rattle.picture_laws.specs.Picture.{count_of, Passes}
-use Rattle.picture_laws.proofs.Places.{fused_view}
-use Rattle.run_laws.proofs.Counting.{all_came}
-use Rattle.picture_laws.proofs.Resting.{waits, idles, all_idle, is_asked, is_unasked, in_shut, out_shut, got_part}
-use Rattle.picture_laws.proofs.Telling.{count_told, elements_prefix}
-use Rattle.picture_laws.proofs.Stages.{law_at, same_start, one_same, Waited, waited_of}
-use Rattle.picture_laws.proofs.RestRows.{RestsWork, waited_rests}
-use Rattle.picture_laws.proofs.LawRows.{wanted_asked}
+use Rattle.nodes.specs.declared.node.Node.{Node}
+use Rattle.nodes.specs.declared.node.Node.TheVariants as node
+use Rattle.nodes.specs.Nodes.{node_row, node_law, node_asking, node_moves}
+use Rattle.nodes.specs.State.{StateRow, StateLaw}
+use Rattle.run_account.specs.KindLaws.{IsOneMachine, Moments, PictureLaws}
+use Rattle.run_account.specs.Ports.{InPort, OutPort, InStands, OutStands, InRests, OutRests}
+use Rattle.run_account.proofs.Coming.{elements_told, elements_prefix}
+use Rattle.run_account.proofs.Nodes.{begins_one}
+use Rattle.run_laws.specs.Made.{FirstState}
+use Rattle.run_laws.proofs.Machines.{IsKeeping, keeping_machine}
+use Rattle.run_laws.proofs.States.{KeepsFirst, BuffersFirst, state_cases, keeps_law, buffers_law}
+use Rattle.picture_laws.specs.Picture.{sink_ended}
+use Rattle.picture_laws.proofs.MachineRows.{stage_given, stage_asked, waited_rests, idles}
+use Rattle.picture_laws.proofs.OnePorts.{one_views, one_same, began, given_one, reached, not_both}
+use Rattle.picture_laws.proofs.Stages.{law_at, same_start, Waited, waited_of}
 
 -- ---- what the rows say
 
@@ -58,13 +67,13 @@ closed_both Left Refused r = (tt, tt)
 closed_both x y r = absurd r
 
 -- one that keeps: it waits and owes nothing, nobody asks it, it owes a value behind the end of its input, or all is closed
-pub data KeepPorts (p : Phase) (e : Ending) (k : List Tree) (x : InView) (y : OutView) : Type 0 where
+data KeepPorts (p : Phase) (e : Ending) (k : List Tree) (x : InView) (y : OutView) : Type 0 where
   busy : p ≡ Open → e ≡ Lasting → k ≡ [] → x ≡ Waiting → y ≡ Asked → KeepPorts p e k x y
   free : x ≡ Idle → y ≡ Unasked → KeepPorts p e k x y
   behind : x ≡ Over → y ≡ Unasked → KeepPorts p e k x y
   over : InClosed x → OutClosed y → KeepPorts p e k x y
 
-pub keep_ports : (p : Phase) (e : Ending) (a : Bool) (k : List Tree) (w : Work) (x : InView) (y : OutView) → p ≢ New → keep_row p e a k w x y → KeepPorts p e k x y
+keep_ports : (p : Phase) (e : Ending) (a : Bool) (k : List Tree) (w : Work) (x : InView) (y : OutView) → p ≢ New → keep_row p e a k w x y → KeepPorts p e k x y
 keep_ports New e a k w x y n r = absurd (n refl)
 keep_ports Closed e a k w x y n r = let c = closed_both x y r in over c.0 c.1
 keep_ports Open Lasting true k w Waiting Asked n r = busy refl refl r.0 refl refl
@@ -75,14 +84,14 @@ keep_ports p e a k w x y n r = absurd r
 
 -- a buffer of n: it is asked and holds nothing, it has room, it is full, it holds something behind the end of its input, or all
 -- is closed
-pub data BufferPorts (n : ℕ) (p : Phase) (e : Ending) (k : List Tree) (x : InView) (y : OutView) : Type 0 where
+data BufferPorts (n : ℕ) (p : Phase) (e : Ending) (k : List Tree) (x : InView) (y : OutView) : Type 0 where
   drained : p ≡ Open → k ≡ [] → 0 < n → x ≡ Waiting → y ≡ Asked → BufferPorts n p e k x y
   roomy : p ≡ Open → length k < n → x ≡ Waiting → y ≡ Unasked → BufferPorts n p e k x y
   full : p ≡ Open → length k ≡ n → x ≡ Idle → y ≡ Unasked → BufferPorts n p e k x y
   left : x ≡ Over → y ≡ Unasked → BufferPorts n p e k x y
   gone : InClosed x → OutClosed y → BufferPorts n p e k x y
 
-pub buffer_ports : (n : ℕ) (p : Phase) (e : Ending) (a : Bool) (k : List Tree) (x : InView) (y : OutView) → p ≢ New → buffer_row n p e a k x y → BufferPorts n p e k x y
+buffer_ports : (n : ℕ) (p : Phase) (e : Ending) (a : Bool) (k : List Tree) (x : InView) (y : OutView) → p ≢ New → buffer_row n p e a k x y → BufferPorts n p e k x y
 buffer_ports n New e a k x y nn r = absurd (nn refl)
 buffer_ports n Closed e a k x y nn r = let c = closed_both x y r in gone c.0 c.1
 buffer_ports n Open Lasting true k Waiting Asked nn r = drained refl r.0 r.1 refl refl
@@ -92,35 +101,31 @@ buffer_ports n Open Ended false k Over Unasked nn r = left refl refl
 buffer_ports n p e a k x y nn r = absurd r
 
 -- what an open stage owes
-pub open_held : (l : Logic) → l.phase ≡ Open → held l ≡ held_in Open l.ending l.pending l.stage
+open_held : (l : Logic) → l.phase ≡ Open → held l ≡ held_in Open l.ending l.pending l.stage
 open_held l on = ap (λ (p : Phase). held_in p l.ending l.pending l.stage) on
 
 busy_held : (l : Logic) → l.phase ≡ Open → l.ending ≡ Lasting → l.pending ≡ [] → held l ≡ owing (record { gave = []; state = going l.stage })
 busy_held l on lasts none = open_held l on ∙ ap (λ (e : Ending). held_in Open e l.pending l.stage) lasts ∙ ap (λ (k : List Tree). held_in Open Lasting k l.stage) none
 
--- ---- its law, over its two wires
+-- ---- its law, over its two ports
 
-abbrev pub LawAt : (m : Machine Stage Tree) (start : Run Stage Tree) (h : Held Stage) (ca cb : Cell) → Type 0
-LawAt m start h ca cb = Law m start h ca.wire.inp cb.wire.out ca.wire.got cb.wire.sent
-
-module _ (first now : Logic) (v : View) (took gave : List (List Item)) (law : StateLaw first now v took gave) (book : Book) (ca cb : Cell)
-    (vi : in_at v 0 ≡ ca.wire.inp) (vo : out_at v 0 ≡ cb.wire.out) (ti : took ≡ ca.wire.got ∷ []) (gi : gave ≡ cb.wire.sent ∷ []) where
-  pub keeps_at : (k : ℕ) (kd : Kind) (d : Decider) → KeepsFirst k kd d first → LawAt (linear book first.stage.work) (begin_work k d first.stage.work) (held now) ca cb
+module _ (first now : Logic) (v : View) (took gave : List (List Item)) (law : StateLaw first now v took gave) (book : Book) (t g : List Item) (ti : took ≡ t ∷ []) (gi : gave ≡ g ∷ []) where
+  keeps_at : (k : ℕ) (kd : Kind) (d : Decider) → KeepsFirst k kd d first → Law (linear book first.stage.work) (begin_work k d first.stage.work) (held now) (in_at v 0) (out_at v 0) t g
   keeps_at k kd d f =
-      law_at (linear book first.stage.work) law.start _ (held now) _ (in_at v 0) _ (out_at v 0) _ law.took_list ca.wire.got law.gave_list cb.wire.sent
-      (same_start _ _ (sym law.owes ∙ f.owes)) refl vi vo (one_same _ _ (sym law.took_is ∙ ti)) (one_same _ _ (sym law.gave_is ∙ gi)) (keeps_law first now v took gave law book f.size)
+      law_at (linear book first.stage.work) law.start _ (held now) _ (in_at v 0) _ (out_at v 0) _ law.took_list t law.gave_list g
+      (same_start _ _ (sym law.owes ∙ f.owes)) refl refl refl (one_same _ _ (sym law.took_is ∙ ti)) (one_same _ _ (sym law.gave_is ∙ gi)) (keeps_law first now v took gave law book f.size)
 
-  pub buffers_at : (kd : Kind) (f : BuffersFirst kd first) → LawAt (buffer f.room) (begin_buffer first.stage) (held now) ca cb
+  buffers_at : (kd : Kind) (f : BuffersFirst kd first) → Law (buffer f.room) (begin_buffer first.stage) (held now) (in_at v 0) (out_at v 0) t g
   buffers_at kd f =
-      law_at (buffer f.room) law.start _ (held now) _ (in_at v 0) _ (out_at v 0) _ law.took_list ca.wire.got law.gave_list cb.wire.sent
-      (same_start _ _ (sym law.owes ∙ f.owes)) refl vi vo (one_same _ _ (sym law.took_is ∙ ti)) (one_same _ _ (sym law.gave_is ∙ gi)) (buffers_law first now v took gave law book f.room f.size)
+      law_at (buffer f.room) law.start _ (held now) _ (in_at v 0) _ (out_at v 0) _ law.took_list t law.gave_list g
+      (same_start _ _ (sym law.owes ∙ f.owes)) refl refl refl (one_same _ _ (sym law.took_is ∙ ti)) (one_same _ _ (sym law.gave_is ∙ gi)) (buffers_law first now v took gave law book f.room f.size)
 
 -- one that keeps, and waits
-pub keeps_waited : (book : Book) (k : ℕ) (d : Decider) (wk : Work) (now : Logic) (ca cb : Cell) → LawAt (linear book wk) (begin_work k d wk) (held now) ca cb
-    → now.phase ≡ Open → now.ending ≡ Lasting → now.pending ≡ [] → ca.wire.inp ≡ Waiting → cb.wire.out ≡ Asked → Waited book k d wk ca.wire.got cb.wire.sent
-keeps_waited book k d wk now ca cb law on lasts none xi yo =
-    waited_of book k d wk now.stage ca.wire.got cb.wire.sent
-    (law_at (linear book wk) (begin_work k d wk) _ (held now) _ ca.wire.inp _ cb.wire.out _ ca.wire.got _ cb.wire.sent _ refl (busy_held now on lasts none) xi yo refl refl law)
+keeps_waited : (book : Book) (k : ℕ) (d : Decider) (wk : Work) (now : Logic) (x : InView) (y : OutView) (t g : List Item) → Law (linear book wk) (begin_work k d wk) (held now) x y t g
+    → now.phase ≡ Open → now.ending ≡ Lasting → now.pending ≡ [] → x ≡ Waiting → y ≡ Asked → Waited book k d wk t g
+keeps_waited book k d wk now x y t g law on lasts none xi yo =
+    waited_of book k d wk now.stage t g
+    (law_at (linear book wk) (begin_work k d wk) _ (held now) _ x _ y _ t _ g _ refl (busy_held now on lasts none) xi yo refl refl law)
 
 -- ---- a buffer
 
@@ -130,22 +135,23 @@ carries_short n l e g ended h = let same : length g ≡ length l = ap length h.1
 carries_short n l e g (failed c) h = prefix_length h.1
 
 -- it gave no more than came
-pub buffer_given : (n : ℕ) (s : Stage) (h : Held Stage) (ca cb : Cell) (q : Bool) → IsSound ca.wire q → LawAt (buffer n) (begin_buffer s) h ca cb → elements cb.wire.sent ≤ elements ca.wire.sent
-buffer_given n s h ca cb q sound at =
-    let stands : Stands (buffer n) (begin_buffer s) at.in_list at.in_end at.out_list at.out_end = stage_stands (buffer n) (begin_buffer s) h ca.wire.inp cb.wire.out ca.wire.got cb.wire.sent at in
+buffer_given : (n : ℕ) (s : Stage) (h : Held Stage) (i : InPort) (o : OutPort) → InStands i → OutStands o → Law (buffer n) (begin_buffer s) h i.view o.view i.got o.sent → o.wire.sent ≤ i.wire.sent
+buffer_given n s h i o si so at =
+    let stands : Stands (buffer n) (begin_buffer s) at.in_list at.in_end at.out_list at.out_end = stage_stands (buffer n) (begin_buffer s) h i.view o.view i.got o.sent at in
     let short = carries_short n at.in_list at.in_end at.out_list at.out_end (buffer_carries n s at.in_list at.in_end at.out_list at.out_end stands) in
-    let sent : elements cb.wire.sent ≡ length at.out_list = ap elements at.gave_is ∙ count_told at.out_list at.out_end in
-    let got : elements ca.wire.got ≡ length at.in_list = ap elements at.took_is ∙ count_told at.in_list at.in_end in
-    let came = elements_prefix ca.wire.got ca.wire.sent (got_part ca.wire q sound) in
-    omega (arith, short, sent, got, came)
+    let sent : elements o.sent ≡ length at.out_list = ap elements at.gave_is ∙ elements_told at.out_list at.out_end in
+    let got : elements i.got ≡ length at.in_list = ap elements at.took_is ∙ elements_told at.in_list at.in_end in
+    let came = si.came in
+    let count = so.count in
+    omega (arith, short, sent, got, came, count)
 
 -- what it took is what it gave and what it holds, while its input has not ended
-holds_rest : (n : ℕ) (s : Stage) (k : List Tree) (st : State Stage) (ca cb : Cell) → LawAt (buffer n) (begin_buffer s) (owing (record { gave = k; state = st })) ca cb → ((e : End) → TookAs ca.wire.inp e → e ≡ unended)
-    → elements ca.wire.got ≡ elements cb.wire.sent + length k
-holds_rest n s k st ca cb at lasts =
-    let c = counts n s ca.wire.got cb.wire.sent k st ca.wire.inp cb.wire.out at (lasts at.in_end at.took_as) in
-    let sent : elements cb.wire.sent ≡ length at.out_list = ap elements at.gave_is ∙ count_told at.out_list at.out_end in
-    let got : elements ca.wire.got ≡ length at.in_list = ap elements at.took_is ∙ count_told at.in_list at.in_end in
+holds_rest : (n : ℕ) (s : Stage) (k : List Tree) (st : State Stage) (x : InView) (y : OutView) (t g : List Item) → Law (buffer n) (begin_buffer s) (owing (record { gave = k; state = st })) x y t g → ((e : End) → TookAs x e → e ≡ unended)
+    → elements t ≡ elements g + length k
+holds_rest n s k st x y t g at lasts =
+    let c = counts n s t g k st x y at (lasts at.in_end at.took_as) in
+    let sent : elements g ≡ length at.out_list = ap elements at.gave_is ∙ elements_told at.out_list at.out_end in
+    let got : elements t ≡ length at.in_list = ap elements at.took_is ∙ elements_told at.in_list at.in_end in
     omega (arith, c, sent, got)
 
 waiting_open : (x : InView) → x ≡ Waiting → (e : End) → TookAs x e → e ≡ unended
@@ -161,70 +167,190 @@ idle_open Over i e h = cc
 idle_open Left i e h = cc
 
 -- the same of an open buffer
-pub holds_open : (n : ℕ) (s : Stage) (l : Logic) (ca cb : Cell) → LawAt (buffer n) (begin_buffer s) (held l) ca cb → l.phase ≡ Open → ((e : End) → TookAs ca.wire.inp e → e ≡ unended) → elements ca.wire.got ≡ elements cb.wire.sent + length l.pending
-holds_open n s l ca cb at on lasts =
-    holds_rest n s l.pending _ ca cb (law_at (buffer n) (begin_buffer s) _ (held l) _ ca.wire.inp _ cb.wire.out _ ca.wire.got _ cb.wire.sent _ refl (open_held l on) refl refl refl refl at) lasts
+holds_open : (n : ℕ) (s : Stage) (l : Logic) (x : InView) (y : OutView) (t g : List Item) → Law (buffer n) (begin_buffer s) (held l) x y t g → l.phase ≡ Open → ((e : End) → TookAs x e → e ≡ unended) → elements t ≡ elements g + length l.pending
+holds_open n s l x y t g at on lasts =
+    holds_rest n s l.pending _ x y t g (law_at (buffer n) (begin_buffer s) _ (held l) _ x _ y _ t _ g _ refl (open_held l on) refl refl refl refl at) lasts
 
 -- one that waits has room
-pub waits_roomy : (n : ℕ) (p : Phase) (e : Ending) (k : List Tree) (x : InView) (y : OutView) → BufferPorts n p e k x y → x ≡ Waiting → (p ≡ Open) × (length k < n)
+waits_roomy : (n : ℕ) (p : Phase) (e : Ending) (k : List Tree) (x : InView) (y : OutView) → BufferPorts n p e k x y → x ≡ Waiting → (p ≡ Open) × (length k < n)
 waits_roomy n p e k x y (drained on none some xi yo) i = let z : length k ≡ 0 = ap length none in (on, omega (arith, z, some))
 waits_roomy n p e k x y (roomy on room xi yo) i = (on, room)
 waits_roomy n p e k x y (full on room xi yo) i = cc
 waits_roomy n p e k x y (left xi yo) i = cc
 waits_roomy n p e k x y (gone xi yo) i = let no : InClosed Waiting = subst InClosed i xi in absurd no
 
--- it asks for no more than it can hold: at its last ask it had room
-pub buffer_asked : (n : ℕ) (s : Stage) (l : Logic) (ca cb olda oldb : Cell) (p : Bool) → IsSound olda.wire p → IsMarked olda → olda.wire.inp ≡ Waiting → olda.asked ≡ true → wanted ca ≡ wanted olda → Grown oldb cb
-    → LawAt (buffer n) (begin_buffer s) (held l) olda oldb → l.phase ≡ Open → length l.pending < n → wanted ca - 0 ≤ elements cb.wire.sent + n
-buffer_asked n s l ca cb olda oldb p sound marked xi mark same grown at on room =
-    let came : elements olda.wire.sent ≡ elements olda.wire.got = all_came olda p marked sound xi mark in
-    let c = holds_open n s l olda oldb at on (waiting_open olda.wire.inp xi) in
-    let asks : wanted olda ≡ elements olda.wire.sent + 1 = wanted_asked olda mark in
-    let more = elements_prefix oldb.wire.sent cb.wire.sent grown.sent in
-    omega (arith, came, c, asks, more, same, room)
+-- ---- the kinds
 
--- ---- the rows of a picture that rests
+work_is : (wk : Work) (u : Work) → Some wk ≡ Some u → wk ≡ u
+work_is wk u e = cc
 
-module _ (g : Graph) (w : World) (a b : ℕ) (ca cb : Cell) (oa ob : Outlook) (sa : IsSound ca.wire false) (sb : IsSound cb.wire false) (ma : IsMarked ca) (mb : IsMarked cb) where
-  -- one that keeps
-  pub keeps_rest : (k : ℕ) (d : Decider) (wk : Work) (now : Logic) → LawAt (linear w.book wk) (begin_work k d wk) (held now) ca cb → Passes oa ca.wire.sent → holds_at_end wk ≡ true → KeepPorts now.phase now.ending now.pending ca.wire.inp cb.wire.out
-      → RestsWork g w [] (λ _. oa) k wk d (fused_view a (count_of ca) oa ∷ []) (fused_view b (count_of cb) ob ∷ [])
-  keeps_rest k d wk now law passes holds (busy on lasts none xi yo) = inr (inl (waited_rests g w a b ca cb oa ob sa sb ma mb k d wk (keeps_waited w.book k d wk now ca cb law on lasts none xi yo) xi yo passes))
-  keeps_rest k d wk now law passes holds (free xi yo) =
-      let i = idles ca ma sa xi in
-      let o = is_unasked cb mb sb yo in
-      inr (inr (inl ((o.mark, o.still), inr (i.mark, i.still))))
-  keeps_rest k d wk now law passes holds (behind xi yo) =
-      let o = is_unasked cb mb sb yo in
-      inr (inr (inr (holds, (o.mark, o.still), in_shut ca.wire false sa (subst InClosed (sym xi) tt))))
-  keeps_rest k d wk now law passes holds (over xi yo) = inl ((in_shut ca.wire false sa xi, tt), (out_shut cb.wire false sb yo, tt))
+-- one that keeps may hold a value behind the end of its input
+keeping_holds : (kd : Kind) (wk : Work) → IsKeeping kd → work_of kd ≡ Some wk → holds_at_end wk ≡ true
+keeping_holds (Grouped n) wk h e = subst (λ (z : Work). holds_at_end z ≡ true) (work_is _ wk e) refl
+keeping_holds (Fold o) wk h e = subst (λ (z : Work). holds_at_end z ≡ true) (work_is _ wk e) refl
+keeping_holds (Reduce r) wk h e = subst (λ (z : Work). holds_at_end z ≡ true) (work_is _ wk e) refl
+keeping_holds (Scan o) wk h e = subst (λ (z : Work). holds_at_end z ≡ true) (work_is _ wk e) refl
+keeping_holds _ wk h e = absurd h
 
-  -- a buffer has both its wires shut, or meets its row
-  abbrev pub BufferStill : ℕ → Type 0
-  BufferStill n = (EachWire IsShut (fused_view a (count_of ca) oa ∷ []) × EachWire IsShut (fused_view b (count_of cb) ob ∷ [])) ⊎ BufferRests n (fused_view a (count_of ca) oa) (fused_view b (count_of cb) ob)
+-- one that waits was asked, is open and owes nothing
+waits_busy : (l : Logic) (x : InView) (y : OutView) → KeepPorts l.phase l.ending l.pending x y → x ≡ Waiting → (l.phase ≡ Open) × ((l.ending ≡ Lasting) × ((l.pending ≡ []) × (y ≡ Asked)))
+waits_busy l x y (busy on lasts none xi yo) e = (on, (lasts, (none, yo)))
+waits_busy l x y (free xi yo) e = cc
+waits_busy l x y (behind xi yo) e = cc
+waits_busy l x y (over xi yo) e = let no : InClosed Waiting = subst InClosed e xi in absurd no
 
-  pub buffer_rest : (n : ℕ) (s : Stage) (now : Logic) → LawAt (buffer n) (begin_buffer s) (held now) ca cb → BufferPorts n now.phase now.ending now.pending ca.wire.inp cb.wire.out → BufferStill n
-  buffer_rest n s now law (drained on none some xi yo) =
-      let i = waits ca ma sa xi in
-      let o = is_asked cb mb sb yo in
-      let came : elements ca.wire.sent ≡ elements ca.wire.got = ap elements i.1 in
-      let c = holds_open n s now ca cb law on (waiting_open ca.wire.inp xi) in
-      let z : length now.pending ≡ 0 = ap length none in
-      inr (inl ((o.mark, o.still), (i.0.mark, i.0.still), omega (arith, came, c, z)))
-  buffer_rest n s now law (roomy on room xi yo) =
-      let i = waits ca ma sa xi in
-      let o = is_unasked cb mb sb yo in
-      let came : elements ca.wire.sent ≡ elements ca.wire.got = ap elements i.1 in
-      let c = holds_open n s now ca cb law on (waiting_open ca.wire.inp xi) in
-      inr (inr (inl ((o.mark, o.still), (i.0.mark, i.0.still), omega (arith, came, c, room))))
-  buffer_rest n s now law (full on room xi yo) =
-      let i = idles ca ma sa xi in
-      let o = is_unasked cb mb sb yo in
-      let came : elements ca.wire.sent ≡ elements ca.wire.got = ap elements (all_idle ca.wire sa xi) in
-      let c = holds_open n s now ca cb law on (idle_open ca.wire.inp xi) in
-      let all : elements ca.wire.sent ≡ elements cb.wire.sent + n = omega (arith, came, c, room) in
-      inr (inr (inr (inl ((o.mark, o.still), inr (i.mark, i.still), (omega (arith, all), inr all)))))
-  buffer_rest n s now law (left xi yo) =
-      let o = is_unasked cb mb sb yo in
-      inr (inr (inr (inr ((o.mark, o.still), in_shut ca.wire false sa (subst InClosed (sym xi) tt)))))
-  buffer_rest n s now law (gone xi yo) = inl ((in_shut ca.wire false sa xi, tt), (out_shut cb.wire false sb yo, tt))
+-- ---- the node
+
+module _ {S D : Type 0} (sources : S → SourceState) (drains : D → DrainState) (g : Graph) (w : World) (k : ℕ) (n : graph.Node) where
+  -- its kind stays the same
+  record StateNow (first : Logic) (v : View) (took gave : List (List Item)) : Type 0 where
+    now : Logic
+    row_holds : StateRow now v
+    law_holds : StateLaw first now v took gave
+
+  state_now : (first : Logic) (x : Node S D) (v : View) (took gave : List (List Item)) → node_row x v → node_law sources drains (node.State first) x v took gave → StateNow first v took gave
+  state_now first (node.State x) v took gave r law = record { now = x; row_holds = r; law_holds = law }
+  state_now first x v took gave r law = absurd law
+
+  keeps_ports : (l first : Logic) (x : InView) (y : OutView) → l.size ≡ first.size → first.size ≡ None → l.phase ≢ New → row_by l.size l.phase l.ending l.asked l.pending l.stage.work x y → KeepPorts l.phase l.ending l.pending x y
+  keeps_ports l first x y e none started r =
+      keep_ports l.phase l.ending l.asked l.pending l.stage.work x y started (subst (λ z. row_by z l.phase l.ending l.asked l.pending l.stage.work x y) (e ∙ none) r)
+
+  buffers_ports : (m : ℕ) (l first : Logic) (x : InView) (y : OutView) → l.size ≡ first.size → first.size ≡ Some m → l.phase ≢ New → row_by l.size l.phase l.ending l.asked l.pending l.stage.work x y → BufferPorts m l.phase l.ending l.pending x y
+  buffers_ports m l first x y e some started r =
+      buffer_ports m l.phase l.ending l.asked l.pending x y started (subst (λ z. row_by z l.phase l.ending l.asked l.pending l.stage.work x y) (e ∙ some) r)
+
+  abbrev Laws : Node S D → Node S D → List InPort → List OutPort → Type 0
+  Laws first x is os = PictureLaws node_row (node_law sources drains) node_asking node_moves sink_ended g w k n first x is os
+
+  module _ (first x : Logic) (i : InPort) (o : OutPort) (f : FirstState k n first) (r : StateRow x (record { ins = i.view ∷ []; outs = o.view ∷ [] }))
+      (law : StateLaw first x (record { ins = i.view ∷ []; outs = o.view ∷ [] }) (i.got ∷ []) (o.sent ∷ [])) where
+    abbrev LastAsks : Type 0
+    LastAsks = Moments node_row (node_law sources drains) node_asking node_moves (node.State first) (node.State x) (i ∷ []) (o ∷ []) 0
+
+    abbrev Still : Type 0
+    Still = (EachWire IsShut (i.wire ∷ []) × EachWire IsShut (o.wire ∷ [])) ⊎ RowRests g w k n.kind n.decider (i.wire ∷ []) (o.wire ∷ [])
+
+    -- one that keeps
+    module _ (c : KeepsFirst k n.kind n.decider first) where
+      machine : IsOneMachine n.kind first.stage.work
+      machine = keeping_machine n.kind first.stage.work c.is_keeping c.work
+
+      kept : Law (linear w.book first.stage.work) (begin_work k n.decider first.stage.work) (held x) i.view o.view i.got o.sent
+      kept = keeps_at first x _ _ _ law w.book i.got o.sent refl refl k n.kind n.decider c
+
+      keeps_asked : InStands i → OutStands o → LastAsks → 1 ≤ demand i.wire
+          → (is_going (run (linear w.book first.stage.work) (begin_work k n.decider first.stage.work) (take (demand i.wire - 1) i.wire.list)).state ≡ true)
+          × (length (run (linear w.book first.stage.work) (begin_work k n.decider first.stage.work) (take (demand i.wire - 1) i.wire.list)).gave < wanted o.wire)
+      keeps_asked si so m some =
+          let e = m.0 in
+          let l = state_now first e.old e.knew e.had e.given e.row_held e.law_held in
+          let p = one_views (row_by l.now.size l.now.phase l.now.ending l.now.asked l.now.pending l.now.stage.work) e.knew l.row_holds.row in
+          let ports = keeps_ports l.now first p.x p.y l.law_holds.size c.size l.row_holds.started p.holds in
+          let was = waits_busy l.now p.x p.y ports (sym p.inp ∙ e.waited) in
+          let asked : out_at e.knew 0 ≡ Asked = p.out ∙ was.1.1.1 in
+          let b = began e.had i.got i.want e.took_on e.one_more in
+          let q = given_one e.given o.sent o.want e.gave_on (e.wants 0 asked) in
+          let at = keeps_at first l.now e.knew e.had e.given l.law_holds w.book b.part q.0 b.is q.1.0 k n.kind n.decider c in
+          let waited = keeps_waited w.book k n.decider first.stage.work l.now (in_at e.knew 0) (out_at e.knew 0) b.part q.0 at was.0 was.1.0 was.1.1.0 e.waited asked in
+          stage_asked w.book k n.decider first.stage.work i o si so kept.in_list kept.in_end kept.took_is b.part q.0 waited b.begins b.one_more q.1.1.1 some
+
+      keeps_rest : InStands i → OutStands o → InRests i → OutRests o → KeepPorts x.phase x.ending x.pending i.view o.view → Still
+      keeps_rest si so ri ro (busy on lasts none xi yo) =
+          inr (machine.rests g w k n.decider (i.wire ∷ []) (o.wire ∷ [])
+          (inl (waited_rests w.book k n.decider first.stage.work i o si so ri ro (keeps_waited w.book k n.decider first.stage.work x i.view o.view i.got o.sent kept on lasts none xi yo) xi yo)))
+      keeps_rest si so ri ro (free xi yo) = inr (machine.rests g w k n.decider (i.wire ∷ []) (o.wire ∷ []) (inr (inl (ro.unasked yo, idles i ri xi))))
+      keeps_rest si so ri ro (behind xi yo) =
+          inr (machine.rests g w k n.decider (i.wire ∷ []) (o.wire ∷ []) (inr (inr (keeping_holds n.kind first.stage.work c.is_keeping c.work, ro.unasked yo, ri.shut (subst InClosed (sym xi) tt)))))
+      keeps_rest si so ri ro (over xi yo) = inl ((ri.shut xi, tt), (ro.shut yo, tt))
+
+      keeps_picture : Laws (node.State first) (node.State x) (i ∷ []) (o ∷ [])
+      keeps_picture = record {
+        lawful = λ si so m. machine.lawful g w k n.decider (i.wire ∷ []) (o.wire ∷ []) (
+          stage_given (linear w.book first.stage.work) (begin_work k n.decider first.stage.work) (held x) i o kept si.0 so.0,
+          λ some. keeps_asked si.0 so.0 (m 0 (reached i si.0 some)) some,
+        );
+        no_valve = machine.no_valve;
+        rests = λ si so ri ro. keeps_rest si.0 so.0 ri.0 ro.0 (keeps_ports x first i.view o.view law.size c.size r.started r.row);
+        matches = λ sink ri. absurd (not_both machine.no_sink sink);
+      }
+
+    -- a buffer
+    module _ (c : BuffersFirst n.kind first) where
+      buffered : Law (buffer c.room) (begin_buffer first.stage) (held x) i.view o.view i.got o.sent
+      buffered = buffers_at first x _ _ _ law w.book i.got o.sent refl refl n.kind c
+
+      -- it asks for no more than it can hold: at its last ask it had room
+      buffers_asked : InStands i → OutStands o → LastAsks → demand i.wire ≤ o.wire.sent + c.room
+      buffers_asked si so m =
+          let e = m.0 in
+          let l = state_now first e.old e.knew e.had e.given e.row_held e.law_held in
+          let p = one_views (row_by l.now.size l.now.phase l.now.ending l.now.asked l.now.pending l.now.stage.work) e.knew l.row_holds.row in
+          let ports = buffers_ports c.room l.now first p.x p.y l.law_holds.size c.size l.row_holds.started p.holds in
+          let was = waits_roomy c.room l.now.phase l.now.ending l.now.pending p.x p.y ports (sym p.inp ∙ e.waited) in
+          let b = began e.had i.got i.want e.took_on e.one_more in
+          let q = begins_one e.given o.sent e.gave_on in
+          let at = buffers_at first l.now e.knew e.had e.given l.law_holds w.book b.part q.part b.is q.is n.kind c in
+          let holds = holds_open c.room first.stage l.now (in_at e.knew 0) (out_at e.knew 0) b.part q.part at was.0 (waiting_open (in_at e.knew 0) e.waited) in
+          let one = b.one_more in
+          let reach = si.reach in
+          let count = so.count in
+          let room = was.1 in
+          let more = elements_prefix q.part o.sent q.begins in
+          omega (arith, holds, one, reach, count, room, more)
+
+      -- one that asked for nothing asked for no more than that
+      buffers_demand : InStands i → OutStands o → ((p : ℕ) → 1 ≤ slice_index_or (i.want ∷ []) p 0 → Moments node_row (node_law sources drains) node_asking node_moves (node.State first) (node.State x) (i ∷ []) (o ∷ []) p)
+          → (d : ℕ) → d ≡ demand i.wire → d ≤ o.wire.sent + c.room
+      buffers_demand si so m zero e = omega arith
+      buffers_demand si so m (suc d) e = rw e (buffers_asked si so (m 0 (reached i si (omega (arith, e)))))
+
+      buffer_rest : InStands i → OutStands o → InRests i → OutRests o → BufferPorts c.room x.phase x.ending x.pending i.view o.view
+          → (EachWire IsShut (i.wire ∷ []) × EachWire IsShut (o.wire ∷ [])) ⊎ BufferRests c.room i.wire o.wire
+      buffer_rest si so ri ro (drained on none some xi yo) =
+          let wt = ri.waits xi in
+          let holds = holds_open c.room first.stage x i.view o.view i.got o.sent buffered on (waiting_open i.view xi) in
+          let z : length x.pending ≡ 0 = ap length none in
+          let all = wt.1 in
+          let count = so.count in
+          inr (inl (ro.asked yo, wt.0, omega (arith, all, holds, z, count)))
+      buffer_rest si so ri ro (roomy on room xi yo) =
+          let wt = ri.waits xi in
+          let holds = holds_open c.room first.stage x i.view o.view i.got o.sent buffered on (waiting_open i.view xi) in
+          let all = wt.1 in
+          let count = so.count in
+          inr (inr (inl (ro.unasked yo, wt.0, omega (arith, all, holds, room, count))))
+      buffer_rest si so ri ro (full on room xi yo) =
+          let holds = holds_open c.room first.stage x i.view o.view i.got o.sent buffered on (idle_open i.view xi) in
+          let came = si.came in
+          let count = so.count in
+          let least : o.wire.sent + c.room ≤ i.wire.sent = omega (arith, came, holds, room, count) in
+          elim (ri.idles xi) [
+            | inl lane ↦ inr (inr (inr (inl (ro.unasked yo, inl lane, (least, inl lane)))))
+            | inr fused ↦ let all = fused.1 in inr (inr (inr (inl (ro.unasked yo, inr fused.0, (least, inr (omega (arith, all, holds, room, count)))))))
+          ]
+      buffer_rest si so ri ro (left xi yo) = inr (inr (inr (inr (ro.unasked yo, ri.shut (subst InClosed (sym xi) tt)))))
+      buffer_rest si so ri ro (gone xi yo) = inl ((ri.shut xi, tt), (ro.shut yo, tt))
+
+      in_row : (EachWire IsShut (i.wire ∷ []) × EachWire IsShut (o.wire ∷ [])) ⊎ BufferRests c.room i.wire o.wire → Still
+      in_row (inl h) = inl h
+      in_row (inr h) = inr (subst (λ (kd : Kind). RowRests g w k kd n.decider (i.wire ∷ []) (o.wire ∷ [])) (sym c.kind_is) h)
+
+      buffers_picture : Laws (node.State first) (node.State x) (i ∷ []) (o ∷ [])
+      buffers_picture = record {
+        lawful = λ si so m. subst (λ (kd : Kind). RowLawful g w k kd n.decider (i.wire ∷ []) (o.wire ∷ [])) (sym c.kind_is) (buffer_given c.room first.stage (held x) i o si.0 so.0 buffered, buffers_demand si.0 so.0 m (demand i.wire) refl);
+        no_valve = λ moved. ap (λ (kd : Kind). valve_order kd moved) c.kind_is;
+        rests = λ si so ri ro. in_row (buffer_rest si.0 so.0 ri.0 ro.0 (buffers_ports c.room x first i.view o.view law.size c.size r.started r.row));
+        matches = λ sink ri. let no : is_sink (Buffer c.room Backpressure) ≡ true = rw c.kind_is at sink in cc;
+      }
+
+    one_picture : Laws (node.State first) (node.State x) (i ∷ []) (o ∷ [])
+    one_picture = elim (state_cases k n.kind n.decider first f.is_state f.begins) [ inl c ↦ keeps_picture c | inr c ↦ buffers_picture c ]
+
+  pub state_picture : (first x : Logic) (is : List InPort) (os : List OutPort) → FirstState k n first → StateRow x (record { ins = map (λ (i : InPort). i.view) is; outs = map (λ (o : OutPort). o.view) os })
+      → StateLaw first x (record { ins = map (λ (i : InPort). i.view) is; outs = map (λ (o : OutPort). o.view) os }) (map (λ (i : InPort). i.got) is) (map (λ (o : OutPort). o.sent) os) → Laws (node.State first) (node.State x) is os
+  state_picture first x (i ∷ []) (o ∷ []) f r law = one_picture first x i o f r law
+  state_picture first x [] os f r law = absurd r.row
+  state_picture first x (i ∷ []) [] f r law = absurd r.row
+  state_picture first x (i ∷ []) (o ∷ p ∷ os) f r law = absurd r.row
+  state_picture first x (i ∷ j ∷ is) os f r law = absurd r.row

@@ -1,6 +1,6 @@
-// Laws of the pictures of a run: each function has no body, and its contract is the law. They speak of the net of an island
-// between two events, at any moment from its start to its end.
-ghost use Rattle.std.specs.Prelude.{◌≡◌, ℕ, List, []};
+// Laws of the pictures of a run: each function has no body, and its contract is the law. They speak of what a run leaves of its
+// blueprint's nodes and wires, at any moment from its start to its end.
+ghost use Rattle.std.specs.Prelude.{ℕ, List};
 ghost use Rattle.elem_core.specs.declared.item.Item.{Item};
 ghost use Rattle.stream_model.specs.Composed.{composed, IsRanked};
 ghost use Rattle.stream_model.specs.Graph.{Graph};
@@ -8,14 +8,13 @@ ghost use Rattle.stream_model.specs.Node.{World};
 ghost use Rattle.stream_model.specs.Outlook.{Outlook};
 ghost use Rattle.stream_picture.specs.Lawful.{IsLawful};
 ghost use Rattle.stream_picture.specs.Rests.{Rests, SinksMatch};
-ghost use Rattle.fused_net.specs.Net.{Net};
-ghost use Rattle.fused_net.specs.Laws.{Settled};
-ghost use Rattle.nodes.specs.Nodes.{node_row, node_law, node_asking, node_moves};
 ghost use Rattle.nodes.specs.declared.node.Node.{Node};
-ghost use Rattle.run_laws.specs.Agreeing.{AgreesWith};
-ghost use Rattle.run_laws.specs.Made.{Materializes};
+ghost use Rattle.run_account.specs.Account.{Account, IsStill};
+ghost use Rattle.run_account.specs.Items.{AgreesWith, Passes};
+ghost use Rattle.run_account.specs.Pictures.{counts_of, AllPass};
+ghost use Rattle.run_laws.specs.Runs.{IsRun};
 ghost use Rattle.run_laws.specs.Telling.{Tells};
-ghost use Rattle.picture_laws.specs.Picture.{counts_of, Passes, AllPass, ended_at};
+ghost use Rattle.picture_laws.specs.Picture.{ended_there};
 
 use stream_io::outside::{Drain, Source};
 
@@ -28,20 +27,20 @@ pub fn what_agrees_passes()
 /// sent gives less than is wanted of it. So it is by any outlooks of whose lists the wires carried first parts (`any`), and by
 /// the composed outlooks (`composed`).
 pub fn every_picture_is_lawful<S: Source, D: Drain>()
-    ensures any { (g : Graph) (w : World) (net : Net (Node S D)) (outlook : ℕ → Outlook) → Settled node_row (node_law S.state D.state) node_asking node_moves net → Materializes S.state g net.firsts net.ends
-        → AllPass net outlook → IsLawful g w (counts_of net.wires) outlook }
-    ensures composed { (g : Graph) (w : World) (rank : ℕ → ℕ) (net : Net (Node S D)) → Settled node_row (node_law S.state D.state) node_asking node_moves net → Materializes S.state g net.firsts net.ends
-        → Tells S.state g w net → IsRanked g rank → IsLawful g w (counts_of net.wires) (composed g w) }
+    ensures any { (g : Graph) (w : World) (a : Account (Node S D)) (outlook : ℕ → Outlook) → IsRun S.state D.state g a
+        → AllPass a g outlook → IsLawful g w (counts_of a g) outlook }
+    ensures composed { (g : Graph) (w : World) (rank : ℕ → ℕ) (a : Account (Node S D)) → IsRun S.state D.state g a
+        → Tells S.state g w a → IsRanked g rank → IsLawful g w (counts_of a g) (composed g w) }
 {}
 
 /// Where no event is left, the picture of a graph rests: each node has all its wires shut, or has nothing to do. So it is by
 /// any outlooks of whose lists the wires carried first parts (`any`), and by the composed outlooks (`composed`). A sink's
 /// input is shut exactly where the sink has ended (`sinks`).
 pub fn a_picture_without_events_rests<S: Source, D: Drain>()
-    ensures any { (g : Graph) (w : World) (net : Net (Node S D)) (outlook : ℕ → Outlook) → Settled node_row (node_law S.state D.state) node_asking node_moves net → net.queue ≡ [] → Materializes S.state g net.firsts net.ends
-        → AllPass net outlook → Rests g w (counts_of net.wires) outlook }
-    ensures composed { (g : Graph) (w : World) (rank : ℕ → ℕ) (net : Net (Node S D)) → Settled node_row (node_law S.state D.state) node_asking node_moves net → net.queue ≡ [] → Materializes S.state g net.firsts net.ends
-        → Tells S.state g w net → IsRanked g rank → Rests g w (counts_of net.wires) (composed g w) }
-    ensures sinks { (g : Graph) (w : World) (net : Net (Node S D)) (outlook : ℕ → Outlook) → Settled node_row (node_law S.state D.state) node_asking node_moves net → net.queue ≡ [] → Materializes S.state g net.firsts net.ends
-        → SinksMatch g w (counts_of net.wires) outlook (ended_at net.nodes) }
+    ensures any { (g : Graph) (w : World) (a : Account (Node S D)) (outlook : ℕ → Outlook) → IsRun S.state D.state g a → IsStill g a
+        → AllPass a g outlook → Rests g w (counts_of a g) outlook }
+    ensures composed { (g : Graph) (w : World) (rank : ℕ → ℕ) (a : Account (Node S D)) → IsRun S.state D.state g a → IsStill g a
+        → Tells S.state g w a → IsRanked g rank → Rests g w (counts_of a g) (composed g w) }
+    ensures sinks { (g : Graph) (w : World) (a : Account (Node S D)) (outlook : ℕ → Outlook) → IsRun S.state D.state g a → IsStill g a
+        → SinksMatch g w (counts_of a g) outlook (λ k. ended_there (a.nodes k)) }
 {}

@@ -1,11 +1,12 @@
 -- The sinks of a net that was made of a blueprint, by their outlooks.
-use Rattle.std.specs.Prelude.{Option, slice_get}
-use Rattle.std.proofs.Common.{◌≡◌, ℕ, zero, suc, ◌<◌, ◌≤◌, List, [], ◌∷◌, ◌++◌, length, Some, refl, sym, ap, subst, ◌∙◌, arith, length-append}
+use Rattle.std.specs.Prelude.{Option, slice_get, slice_index_or}
+use Rattle.std.proofs.Common.{◌≡◌, ℕ, ◌≤◌, false, List, [], ◌∷◌, ◌++◌, length, get_or, Some, refl, sym, ap, subst, ◌∙◌, arith, length-append}
 use Rattle.elem_core.specs.Tree.{Tree}
 use Rattle.elem_core.specs.declared.item.Item.{Item}
-use Rattle.port_core.specs.Ring.{holds}
+use Rattle.port_core.specs.Joint.{IsSound}
 use Rattle.port_core.specs.View.{View}
-use Rattle.wire_core.specs.Cell.{Cell}
+use Rattle.port_core.specs.declared.view.InView.{InView}
+use Rattle.port_core.specs.declared.view.InView.TheVariants.{Left}
 use Rattle.wire_core.specs.Counts.{elements}
 use Rattle.stream_model.specs.declared.kind.Kind.{Kind}
 use Rattle.stream_model.specs.declared.kind.Kind.TheVariants as kind
@@ -24,10 +25,8 @@ use Rattle.stage_law.specs.Held.{told}
 use Rattle.stage_law.specs.Law.{TookAs}
 use Rattle.stage_linear.specs.States.{IsLinear}
 use Rattle.stage_state.specs.States.{IsStateful}
-use Rattle.wire_core.specs.Reading.{got_of, sent_of}
-use Rattle.fused_net.specs.Net.{Net, end_at, read_all, wire_at, ports_at, view_of, took, gave}
-use Rattle.fused_net.specs.Laws.{Settled}
-use Rattle.fused_net.proofs.Reading.{get_there}
+use Rattle.wire_core.specs.Marks.{wanted}
+use Rattle.wire_core.specs.Reading.{inp_of, got_of}
 use Rattle.nodes.specs.declared.node.Node.{Node}
 use Rattle.nodes.specs.declared.node.Node.TheVariants.{Reading, Making, Linear, State, Writing, Ignoring}
 use Rattle.nodes.specs.Nodes.{node_row, node_law, node_asking, node_moves}
@@ -35,32 +34,24 @@ use Rattle.nodes.specs.Ports.{OneInOf}
 use Rattle.nodes.specs.Kinds.{IsMaker, IsFileSink, writes_of}
 use Rattle.nodes.specs.declared.sink.Writes.{Writes}
 use Rattle.nodes.specs.declared.sink.Writes.TheVariants.{Each}
-use Rattle.nodes.specs.Sink.{Sink, sink_row, sink_row_in, WrotePart, StandsAs, end_seen, WritesOf, SinkLaw}
-use Rattle.nodes.specs.Ignoring.{Ignorer, ignore_row, ignore_row_in, IgnoreLaw}
+use Rattle.nodes.specs.Sink.{Sink, sink_row_in, WrotePart, StandsAs, end_seen, WritesOf, SinkLaw}
+use Rattle.nodes.specs.Ignoring.{Ignorer, ignore_row_in, IgnoreLaw}
 use Rattle.nodes.proofs.SinkTexts.{has_lines}
-use Rattle.run_laws.specs.Made.{FirstWriting, FirstIgnoring, FirstOf, Materializes}
+use Rattle.run_account.specs.Account.{Account, knows, took, gave, ins_wanted, outs_wanted, Earlier, IsStill}
+use Rattle.run_account.proofs.Coming.{elements_told, no_fewer}
+use Rattle.run_account.proofs.Nodes.{KeptAs, kept_as, one_input, read_one}
+use Rattle.run_laws.specs.Made.{FirstWriting, FirstIgnoring, FirstOf}
+use Rattle.run_laws.specs.Runs.{IsRun}
 use Rattle.run_laws.specs.Telling.{Tells}
 use Rattle.run_laws.specs.Sinks.{TookList, SinkTells, SentTo, IsSinkAt, IgnoreTells, IsIgnorerAt}
 use Rattle.run_laws.proofs.Counting.{sent_by, rests_by, ignored_by}
-use Rattle.run_laws.proofs.Faults.{none_behind}
-use Rattle.run_laws.proofs.Inputs.{AllAgree}
+use Rattle.run_laws.proofs.Faults.{sent_wanted, none_behind}
+use Rattle.run_account.specs.Items.{AllMayPass}
 use Rattle.run_laws.proofs.Passing.{passing_agrees}
 use Rattle.run_laws.proofs.Sinks.{sink_each, sink_took, sink_tells}
 use Rattle.run_laws.proofs.Written.{work_by, file_sink_work, end_by, written_agrees}
 use Rattle.run_laws.proofs.Writings.{file_sink_inputs}
-use Rattle.run_laws.proofs.AgreeingWires.{every_input}
-
--- the one wire of a node with one input
-only_port : {X : Type 0} (f : Cell → X) (wires : List Cell) (ws : List ℕ) (x : X) (p u : ℕ) → read_all f wires ws ≡ x ∷ [] → slice_get ws p ≡ Some u → ws ≡ u ∷ []
-only_port f wires [] x p u one at = cc
-only_port f wires (y ∷ []) x zero u one at = let same : y ≡ u = cc in ap (λ (z : ℕ). z ∷ []) same
-only_port f wires (y ∷ []) x (suc p) u one at = cc
-only_port f wires (y ∷ z ∷ ws) x p u one at = cc
-
--- a node that gave nothing has no output
-no_port : {X : Type 0} (f : Cell → X) (wires : List Cell) (ws : List ℕ) → read_all f wires ws ≡ [] → ws ≡ []
-no_port f wires [] none = refl
-no_port f wires (u ∷ ws) none = cc
+use Rattle.run_laws.proofs.Agreeing.{every_input_of}
 
 -- a sink is of no other kind
 not_linear : (shape : Kind) → IsFileSink shape → IsLinear shape → ⊥
@@ -103,103 +94,131 @@ ignore_cases sources drains k n (State first) now v took gave is made law = let 
 ignore_cases sources drains k n (Writing first) now v took gave is made law = let e : IsFileSink kind.Ignore = subst IsFileSink is made.is_sink in absurd e
 ignore_cases sources drains k n (Ignoring first) now v took gave is made law = absurd law
 
-module _ {S D : Type 0} (sources : S → SourceState) (drains : D → DrainState) (g : Graph) (net : Net (Node S D))
-    (settled : Settled node_row (node_law sources drains) node_asking node_moves net) (made : Materializes sources g net.firsts net.ends) where
-  within : (k : ℕ) (n : graph.Node) → slice_get g.nodes k ≡ Some n → k < length net.nodes
-  within k n ni =
-      let nodes : length net.nodes ≡ length g.nodes = sym settled.each_first ∙ made.nodes in
-      rw nodes (slice_get-below g.nodes k n ni)
+module _ {S D : Type 0} (sources : S → SourceState) (drains : D → DrainState) (g : Graph) (a : Account (Node S D)) (run : IsRun sources drains g a) where
+  -- node k, which was handed in as one and is the other now
+  abbrev At : ℕ → graph.Node → Node S D → Node S D → Type 0
+  At k n first now = KeptAs node_row (node_law sources drains) node_asking node_moves g a k n first now
 
   -- it is there
-  pub sink_there : (k : ℕ) (n : graph.Node) → slice_get g.nodes k ≡ Some n → IsFileSink n.kind → (first : Sink D) × ((now : Sink D) × IsSinkAt net k first now)
+  pub sink_there : (k : ℕ) (n : graph.Node) → slice_get g.nodes k ≡ Some n → IsFileSink n.kind → (first : Sink D) × ((now : Sink D) × IsSinkAt a k first now)
   sink_there k n ni is =
-      let hk = within k n ni in
-      let x = get_there net.nodes k hk in
-      let first = get_there net.firsts k (rw settled.each_first hk) in
-      let m = settled.minded k hk x.0 first.0 x.1 first.1 in
-      let c = sink_cases sources drains k n first.0 x.0 (view_of net k) (took net k) (gave net k) is (made.each_node k n first.0 ni first.1) m.law_holds in
-      (c.0, (c.1.0, record { at_first = first.1 ∙ ap (λ (y : Node S D). Some y) c.1.1.0; at_last = x.1 ∙ ap (λ (y : Node S D). Some y) c.1.1.1 }))
+      let m = run.keeps.each_node k n ni in
+      let c = sink_cases sources drains k n m.first m.now (knows g a k n) (took g a k n) (gave g a k n) is (run.made k n m.first ni m.first_at) m.law_holds in
+      (c.0, (c.1.0, record { at_first = m.first_at ∙ ap (λ (y : Node S D). Some y) c.1.1.0; at_last = m.now_at ∙ ap (λ (y : Node S D). Some y) c.1.1.1 }))
+
+  sink_at : (k : ℕ) (n : graph.Node) (first now : Sink D) → slice_get g.nodes k ≡ Some n → IsSinkAt a k first now → At k n (Writing first) (Writing now)
+  sink_at k n first now ni at = kept_as node_row (node_law sources drains) node_asking node_moves g a run.keeps k n (Writing first) (Writing now) ni at.at_first at.at_last
 
   -- its law
-  pub sink_law : (k : ℕ) (n : graph.Node) (first now : Sink D) → slice_get g.nodes k ≡ Some n → IsSinkAt net k first now → SinkLaw drains first now (view_of net k) (took net k) (gave net k)
-  sink_law k n first now ni at = (settled.minded k (within k n ni) (Writing now) (Writing first) at.at_last at.at_first).law_holds
+  pub sink_law : (k : ℕ) (n : graph.Node) (first now : Sink D) → slice_get g.nodes k ≡ Some n → IsSinkAt a k first now → SinkLaw drains first now (knows g a k n) (took g a k n) (gave g a k n)
+  sink_law k n first now ni at = (sink_at k n first now ni at).law_holds
 
-  pub ignorer_there : (k : ℕ) (n : graph.Node) → slice_get g.nodes k ≡ Some n → n.kind ≡ kind.Ignore → (first : Ignorer) × ((now : Ignorer) × IsIgnorerAt net k first now)
+  pub ignorer_there : (k : ℕ) (n : graph.Node) → slice_get g.nodes k ≡ Some n → n.kind ≡ kind.Ignore → (first : Ignorer) × ((now : Ignorer) × IsIgnorerAt a k first now)
   ignorer_there k n ni is =
-      let hk = within k n ni in
-      let x = get_there net.nodes k hk in
-      let first = get_there net.firsts k (rw settled.each_first hk) in
-      let m = settled.minded k hk x.0 first.0 x.1 first.1 in
-      let c = ignore_cases sources drains k n first.0 x.0 (view_of net k) (took net k) (gave net k) is (made.each_node k n first.0 ni first.1) m.law_holds in
-      (c.0, (c.1.0, record { at_first = first.1 ∙ ap (λ (y : Node S D). Some y) c.1.1.0; at_last = x.1 ∙ ap (λ (y : Node S D). Some y) c.1.1.1 }))
+      let m = run.keeps.each_node k n ni in
+      let c = ignore_cases sources drains k n m.first m.now (knows g a k n) (took g a k n) (gave g a k n) is (run.made k n m.first ni m.first_at) m.law_holds in
+      (c.0, (c.1.0, record { at_first = m.first_at ∙ ap (λ (y : Node S D). Some y) c.1.1.0; at_last = m.now_at ∙ ap (λ (y : Node S D). Some y) c.1.1.1 }))
 
-  ignore_law : (k : ℕ) (n : graph.Node) (first now : Ignorer) → slice_get g.nodes k ≡ Some n → IsIgnorerAt net k first now → IgnoreLaw first now (view_of net k) (took net k) (gave net k)
-  ignore_law k n first now ni at = (settled.minded k (within k n ni) (Ignoring now) (Ignoring first) at.at_last at.at_first).law_holds
+  ignore_at : (k : ℕ) (n : graph.Node) (first now : Ignorer) → slice_get g.nodes k ≡ Some n → IsIgnorerAt a k first now → At k n (Ignoring first) (Ignoring now)
+  ignore_at k n first now ni at = kept_as node_row (node_law sources drains) node_asking node_moves g a run.keeps k n (Ignoring first) (Ignoring now) ni at.at_first at.at_last
 
-  -- its wire, where it took one history
-  one_wire : (k : ℕ) (n : graph.Node) (h : List Item) (u : ℕ) (v : Wire) → slice_get g.nodes k ≡ Some n → took net k ≡ h ∷ [] → slice_get g.wires u ≡ Some v → v.to ≡ k → (u < length net.wires) × ((ports_at net k).ins ≡ u ∷ [])
-  one_wire k n h u v ni is ui to =
-      let same : length net.wires ≡ length g.wires = sym settled.wired.each_wire ∙ made.wires in
-      let hu : u < length net.wires = rw same (slice_get-below g.wires u v ui) in
-      let f = made.each_wire u v ui in
-      let target : (end_at net.ends u).to ≡ k = f.to ∙ to in
-      let port : slice_get (ports_at net k).ins (end_at net.ends u).input ≡ Some u = rw target at (settled.wired.to_input u hu) in
-      (hu, only_port got_of net.wires (ports_at net k).ins _ (end_at net.ends u).input u is port)
+  its_first : (k : ℕ) (n : graph.Node) (first now : Sink D) → slice_get g.nodes k ≡ Some n → IsSinkAt a k first now → FirstWriting k n.kind first
+  its_first k n first now ni at = run.made k n (Writing first) ni at.at_first
 
   -- which elements it writes
-  writes_are : (k : ℕ) (n : graph.Node) (first now : Sink D) → slice_get g.nodes k ≡ Some n → IsSinkAt net k first now → now.writes ≡ writes_of n.kind
-  writes_are k n first now ni at = (sink_law k n first now ni at).writes_same ∙ (made.each_node k n (Writing first) ni at.at_first).writes
+  writes_are : (k : ℕ) (n : graph.Node) (first now : Sink D) → slice_get g.nodes k ≡ Some n → IsSinkAt a k first now → now.writes ≡ writes_of n.kind
+  writes_are k n first now ni at = (sink_law k n first now ni at).writes_same ∙ (its_first k n first now ni at).writes
 
-  writes_each : (k : ℕ) (n : graph.Node) (name : List ℕ) (first now : Sink D) → slice_get g.nodes k ≡ Some n → n.kind ≡ kind.ToLines name → IsSinkAt net k first now → now.writes ≡ Each
+  writes_each : (k : ℕ) (n : graph.Node) (name : List ℕ) (first now : Sink D) → slice_get g.nodes k ≡ Some n → n.kind ≡ kind.ToLines name → IsSinkAt a k first now → now.writes ≡ Each
   writes_each k n name first now ni is at = writes_are k n first now ni at ∙ ap writes_of is
 
-  -- how many elements were sent to it
-  pub sink_counts : (k : ℕ) (n : graph.Node) (name : List ℕ) (first now : Sink D) (u : ℕ) (v : Wire) → slice_get g.nodes k ≡ Some n → n.kind ≡ kind.ToLines name → IsSinkAt net k first now → slice_get g.wires u ≡ Some v → v.to ≡ k
-      → SentTo now.end (elements (wire_at net u).wire.sent) now.count × (net.queue ≡ [] → now.end ≡ Unended → elements (wire_at net u).wire.sent ≡ now.count)
-  sink_counts k n name first now u v ni is at ui to =
-      let law = sink_law k n first now ni at in
-      let ins = one_wire k n (told law.elems law.in_end) u v ni law.took_is ui to in
-      let each = sink_each drains first now (view_of net k) (took net k) (gave net k) law nothing (writes_each k n name first now ni is at) in
-      let row : sink_row now (view_of net k) = (settled.minded k (within k n ni) (Writing now) (Writing first) at.at_last at.at_first).row_holds in
-      let here : OneInOf (sink_row_in now.started now.end) ((wire_at net u).wire.inp ∷ []) (view_of net k).outs = rw ins.1 at row in
-      let seen : TookAs (wire_at net u).wire.inp law.in_end = rw ins.1 at law.took_as in
-      let took_one : (wire_at net u).wire.got ∷ [] ≡ told law.elems law.in_end ∷ [] = rw ins.1 at law.took_is in
-      let got : (wire_at net u).wire.got ≡ told law.elems law.in_end = cc in
-      let sound = settled.sound u ins.0 in
-      let none : now.end ≡ WriteFault → elements (wire_at net u).wire.sent ≤ elements (wire_at net u).wire.got = λ fault.
-      let part : WrotePart (drains first.drain) (drains now.drain) law.wrote now.count = subst (λ (s : EndState). StandsAs s (drains first.drain) (drains now.drain) law.wrote now.count) fault law.stands in
-      let some : length law.wrote ≡ length (part.before ++ part.last ∷ []) = ap length part.wrote_is in
-      let same : length law.wrote ≡ length law.elems = ap length each.0 in
-      let open_end : law.in_end ≡ unended = each.1 ∙ ap end_seen fault in
-      none_behind sources drains net settled k u first now (within k n ni) ins.0 at ins.1 (no_port sent_of net.wires (ports_at net k).outs law.gave_is) fault law.elems
-      (rw open_end at got) (omega (arith, some, same, length-append part.before (part.last ∷ []))) in (
-        sent_by (wire_at net u).wire (holds net.queue u) sound now.started (view_of net k).outs law.elems law.in_end got seen (drains first.drain) (drains now.drain) law.wrote now.count each.0 now.end none each.1 here law.stands,
-        λ rest goes. rests_by (wire_at net u).wire (holds net.queue u) sound now.started (view_of net k).outs law.elems law.in_end got seen (drains first.drain) (drains now.drain) law.wrote now.count each.0 now.end goes (rw rest refl) here law.stands,
-      )
+  -- the wire of a node with one input: what it knows of it, took there and wants
+  record OneWire (k : ℕ) (n : graph.Node) (u : ℕ) : Type 0 where
+    ins : (knows g a k n).ins ≡ (a.far u).wire.inp ∷ []
+    came : took g a k n ≡ (a.far u).wire.got ∷ []
+    wants : ins_wanted g a k n ≡ wanted (a.far u) ∷ []
+
+  one_wire : (k : ℕ) (n : graph.Node) (u : ℕ) (v : Wire) → slice_get g.nodes k ≡ Some n → inputs_of n.kind ≡ 1 → slice_get g.wires u ≡ Some v → v.to ≡ k → OneWire k n u
+  one_wire k n u v ni one ui to =
+      let found = one_input g run.joined k n u v ni one ui to in
+      record { ins = read_one g inp_of a.far k (inputs_of n.kind) u one found; came = read_one g got_of a.far k (inputs_of n.kind) u one found; wants = read_one g wanted a.far k (inputs_of n.kind) u one found }
+
+  heads_same : (x y : List Item) → x ∷ [] ≡ y ∷ [] → x ≡ y
+  heads_same x y e = cc
+
+  -- a sink of lines, over its wire
+  module _ (k : ℕ) (n : graph.Node) (name : List ℕ) (first now : Sink D) (u : ℕ) (v : Wire) (ni : slice_get g.nodes k ≡ Some n) (is : n.kind ≡ kind.ToLines name) (at : IsSinkAt a k first now) (ui : slice_get g.wires u ≡ Some v) (to : v.to ≡ k) where
+    law : SinkLaw drains first now (knows g a k n) (took g a k n) (gave g a k n)
+    law = sink_law k n first now ni at
+
+    wire : OneWire k n u
+    wire = one_wire k n u v ni (ap inputs_of is) ui to
+
+    each : (law.wrote ≡ law.elems) × (law.in_end ≡ end_seen now.end)
+    each = sink_each drains first now (knows g a k n) (took g a k n) (gave g a k n) law nothing (writes_each k n name first now ni is at)
+
+    row_here : OneInOf (sink_row_in now.started now.end) ((a.far u).wire.inp ∷ []) (knows g a k n).outs
+    row_here = subst (λ (l : List InView). OneInOf (sink_row_in now.started now.end) l (knows g a k n).outs) wire.ins (sink_at k n first now ni at).row_holds
+
+    seen : TookAs (a.far u).wire.inp law.in_end
+    seen = subst (λ (x : InView). TookAs x law.in_end) (ap (λ (l : List InView). get_or l 0 Left) wire.ins) law.took_as
+
+    got : (a.far u).wire.got ≡ told law.elems law.in_end
+    got = heads_same (a.far u).wire.got (told law.elems law.in_end) (sym wire.came ∙ law.took_is)
+
+    sound : (q : _) × IsSound (a.far u).wire q
+    sound = run.keeps.far_sound u (slice_get-below g.wires u v ui)
+
+    none_more : now.end ≡ WriteFault → elements (a.far u).wire.sent ≤ elements (a.far u).wire.got
+    none_more fault =
+        let part : WrotePart (drains first.drain) (drains now.drain) law.wrote now.count = subst (λ (s : EndState). StandsAs s (drains first.drain) (drains now.drain) law.wrote now.count) fault law.stands in
+        let some : length law.wrote ≡ length (part.before ++ part.last ∷ []) = ap length part.wrote_is in
+        let same : length law.wrote ≡ length law.elems = ap length each.0 in
+        let open_end : law.in_end ≡ unended = each.1 ∙ ap end_seen fault in
+        let open_got : (a.far u).wire.got ≡ told law.elems unended = rw open_end at got in
+        let all : elements (a.far u).wire.got ≡ length law.elems = ap elements open_got ∙ elements_told law.elems unended in
+        let came = no_fewer (a.far u).wire sound.0 sound.1 in
+        let least : elements (a.far u).wire.sent ≤ wanted (a.far u) = sent_wanted (elements (a.far u).wire.sent) (a.far u).asked in
+        let wants : slice_index_or (ins_wanted g a k n) 0 0 ≡ wanted (a.far u) = ap (λ (l : List ℕ). slice_index_or l 0 0) wire.wants in
+        let one : inputs_of n.kind ≡ 1 = ap inputs_of is in
+        let asked : 1 ≤ slice_index_or (ins_wanted g a k n) 0 0 = omega (arith, some, same, length-append part.before (part.last ∷ []), all, came, least, wants) in
+        let e = (sink_at k n first now ni at).asks 0 (omega (arith, one)) asked in
+        let e' = subst (λ (l : List (List Item)). Earlier node_row (node_law sources drains) node_asking node_moves 0 (Writing first) (Writing now) l [] (ins_wanted g a k n) (outs_wanted g a k n)) wire.came
+        (subst (λ (l : List (List Item)). Earlier node_row (node_law sources drains) node_asking node_moves 0 (Writing first) (Writing now) (took g a k n) l (ins_wanted g a k n) (outs_wanted g a k n)) law.gave_is e) in
+        let few = none_behind sources drains first now fault (a.far u).wire.got (ins_wanted g a k n) (outs_wanted g a k n) e' law.elems open_got in
+        omega (arith, few, least, wants)
+
+    -- how many elements were sent to it
+    pub sink_sent : SentTo now.end (elements (a.far u).wire.sent) now.count
+    sink_sent = sent_by (a.far u).wire sound.0 sound.1 now.started (knows g a k n).outs law.elems law.in_end got seen (drains first.drain) (drains now.drain) law.wrote now.count each.0 now.end none_more each.1 row_here law.stands
+
+    pub sink_rests : IsStill g a → now.end ≡ Unended → elements (a.far u).wire.sent ≡ now.count
+    sink_rests still goes =
+        rests_by (a.far u).wire false (still.far u (slice_get-below g.wires u v ui)) now.started (knows g a k n).outs law.elems law.in_end got seen (drains first.drain) (drains now.drain) law.wrote now.count each.0 now.end goes refl row_here law.stands
 
   -- and how many lines it wrote
-  pub sink_lines : (k : ℕ) (n : graph.Node) (first now : Sink D) (written : List ℕ) → slice_get g.nodes k ≡ Some n → IsSinkAt net k first now → (drains first.drain).holds ≡ Some [] → (drains now.drain).holds ≡ Some written
+  pub sink_lines : (k : ℕ) (n : graph.Node) (first now : Sink D) (written : List ℕ) → slice_get g.nodes k ≡ Some n → IsSinkAt a k first now → (drains first.drain).holds ≡ Some [] → (drains now.drain).holds ≡ Some written
       → whole_lines (length written) written ≡ now.count
-  sink_lines k n first now written ni at h l = (has_lines drains first now (view_of net k) (took net k) (gave net k) written (sink_law k n first now ni at) h l).0
+  sink_lines k n first now written ni at h l = (has_lines drains first now (knows g a k n) (took g a k n) (gave g a k n) written (sink_law k n first now ni at) h l).0
 
-  module _ (w : World) (tells : Tells sources g w net) (rank : ℕ → ℕ) (ranked : IsRanked g rank) where
+  module _ (w : World) (tells : Tells sources g w a) (rank : ℕ → ℕ) (ranked : IsRanked g rank) where
     -- the outlook of what comes to a sink
     abbrev comes_in : ℕ → Outlook
     comes_in k = head_of (ports_of g w (composed g w) k (count_from 0 1))
 
     -- what came to its input agrees with that
-    input_agrees : (k : ℕ) (n : graph.Node) (l : List Tree) (e : End) → slice_get g.nodes k ≡ Some n → inputs_of n.kind ≡ 1 → took net k ≡ told l e ∷ [] → Agrees (comes_in k) l e
+    input_agrees : (k : ℕ) (n : graph.Node) (l : List Tree) (e : End) → slice_get g.nodes k ≡ Some n → inputs_of n.kind ≡ 1 → took g a k n ≡ told l e ∷ [] → Agrees (comes_in k) l e
     input_agrees k n l e ni one_in is =
-        let all : AllAgree (ports_of g w (composed g w) k (count_from 0 (inputs_of n.kind))) (took net k) = every_input sources drains g w net settled made tells rank ranked k n (within k n ni) ni in
-        let one : AllAgree (ports_of g w (composed g w) k (count_from 0 1)) (told l e ∷ []) = rw (one_in, is) at all in
+        let all : AllMayPass (ports_of g w (composed g w) k (count_from 0 (inputs_of n.kind))) (told l e ∷ []) = subst (λ (h : List (List Item)). AllMayPass (ports_of g w (composed g w) k (count_from 0 (inputs_of n.kind))) h) is (every_input_of sources drains g a run w tells rank ranked k n ni) in
+        let one : AllMayPass (ports_of g w (composed g w) k (count_from 0 1)) (told l e ∷ []) = subst (λ (c : ℕ). AllMayPass (ports_of g w (composed g w) k (count_from 0 c)) (told l e ∷ [])) one_in all in
         one.0 l e refl
 
     -- what it was to write agrees with its outlook
-    pub its_list : (k : ℕ) (n : graph.Node) (first now : Sink D) → (ni : slice_get g.nodes k ≡ Some n) → (at : IsSinkAt net k first now)
+    pub its_list : (k : ℕ) (n : graph.Node) (first now : Sink D) → (ni : slice_get g.nodes k ≡ Some n) → (at : IsSinkAt a k first now)
         → Agrees (sink_outlook g w k n) (sink_law k n first now ni at).wrote (end_by now.end now.writes)
     its_list k n first now ni at =
         let law = sink_law k n first now ni at in
-        let its : FirstWriting k n.kind first = made.each_node k n (Writing first) ni at.at_first in
+        let its : FirstWriting k n.kind first = its_first k n first now ni at in
         let node : now.node ≡ k = law.node ∙ its.node in
         let came : Agrees (comes_in k) law.elems law.in_end = input_agrees k n law.elems law.in_end ni (file_sink_inputs n.kind its.is_sink) law.took_is in
         let writes : WritesOf now.writes k now.kept now.end law.elems law.in_end law.wrote = subst (λ (x : ℕ). WritesOf now.writes x now.kept now.end law.elems law.in_end law.wrote) node law.writes in
@@ -211,30 +230,30 @@ module _ {S D : Type 0} (sources : S → SourceState) (drains : D → DrainState
     passes k n shape l e is work a =
         subst (λ (x : Option Work). Agrees (of_work w.book k n.decider x (ports_of g w (composed g w) k (count_from 0 1))) l e) (sym (ap work_of is ∙ work)) (passing_agrees w.book k n.decider (comes_in k) l e a)
 
-    pub every_sink_took : (k : ℕ) (n : graph.Node) (name : List ℕ) (first now : Sink D) → slice_get g.nodes k ≡ Some n → n.kind ≡ kind.ToLines name → IsSinkAt net k first now → TookList (sink_outlook g w k n) now.end (took net k)
+    pub every_sink_took : (k : ℕ) (n : graph.Node) (name : List ℕ) (first now : Sink D) → slice_get g.nodes k ≡ Some n → n.kind ≡ kind.ToLines name → IsSinkAt a k first now → TookList (sink_outlook g w k n) now.end (took g a k n)
     every_sink_took k n name first now ni is at =
         let law = sink_law k n first now ni at in
         let came : Agrees (comes_in k) law.elems law.in_end = input_agrees k n law.elems law.in_end ni (ap inputs_of is) law.took_is in
-        sink_took drains first now (view_of net k) (took net k) (gave net k) law (sink_outlook g w k n) (writes_each k n name first now ni is at)
+        sink_took drains first now (knows g a k n) (took g a k n) (gave g a k n) law (sink_outlook g w k n) (writes_each k n name first now ni is at)
         (passes k n (kind.ToLines name) law.elems law.in_end is refl came)
 
-    pub every_sink_tells : (k : ℕ) (n : graph.Node) (first now : Sink D) (written : List ℕ) → slice_get g.nodes k ≡ Some n → IsSinkAt net k first now
+    pub every_sink_tells : (k : ℕ) (n : graph.Node) (first now : Sink D) (written : List ℕ) → slice_get g.nodes k ≡ Some n → IsSinkAt a k first now
         → (drains first.drain).holds ≡ Some [] → (drains now.drain).holds ≡ Some written → SinkTells (sink_outlook g w k n) now.end written
     every_sink_tells k n first now written ni at h l =
-        sink_tells drains first now (view_of net k) (took net k) (gave net k) (sink_law k n first now ni at) (sink_outlook g w k n) (its_list k n first now ni at) written h l
+        sink_tells drains first now (knows g a k n) (took g a k n) (gave g a k n) (sink_law k n first now ni at) (sink_outlook g w k n) (its_list k n first now ni at) written h l
 
     -- a sink that keeps nothing
-    pub every_ignorer_tells : (k : ℕ) (n : graph.Node) (first now : Ignorer) (u : ℕ) (v : Wire) → slice_get g.nodes k ≡ Some n → IsIgnorerAt net k first now → slice_get g.wires u ≡ Some v → v.to ≡ k
-        → IgnoreTells (sink_outlook g w k n) now.end (elements (wire_at net u).wire.sent)
+    pub every_ignorer_tells : (k : ℕ) (n : graph.Node) (first now : Ignorer) (u : ℕ) (v : Wire) → slice_get g.nodes k ≡ Some n → IsIgnorerAt a k first now → slice_get g.wires u ≡ Some v → v.to ≡ k
+        → IgnoreTells (sink_outlook g w k n) now.end (elements (a.far u).wire.sent)
     every_ignorer_tells k n first now u v ni at ui to =
-        let law = ignore_law k n first now ni at in
-        let its : FirstIgnoring k n.kind first = made.each_node k n (Ignoring first) ni at.at_first in
-        let ins = one_wire k n (told law.elems law.in_end) u v ni law.took_is ui to in
-        let row : ignore_row now (view_of net k) = (settled.minded k (within k n ni) (Ignoring now) (Ignoring first) at.at_last at.at_first).row_holds in
-        let here : OneInOf (ignore_row_in now.started now.end) ((wire_at net u).wire.inp ∷ []) (view_of net k).outs = rw ins.1 at row in
-        let seen : TookAs (wire_at net u).wire.inp law.in_end = rw ins.1 at law.took_as in
-        let took_one : (wire_at net u).wire.got ∷ [] ≡ told law.elems law.in_end ∷ [] = rw ins.1 at law.took_is in
-        let got : (wire_at net u).wire.got ≡ told law.elems law.in_end = cc in
+        let m = ignore_at k n first now ni at in
+        let law : IgnoreLaw first now (knows g a k n) (took g a k n) (gave g a k n) = m.law_holds in
+        let its : FirstIgnoring k n.kind first = run.made k n (Ignoring first) ni at.at_first in
+        let wire = one_wire k n u v ni (ap inputs_of its.kind_is) ui to in
+        let here : OneInOf (ignore_row_in now.started now.end) ((a.far u).wire.inp ∷ []) (knows g a k n).outs = subst (λ (l : List InView). OneInOf (ignore_row_in now.started now.end) l (knows g a k n).outs) wire.ins m.row_holds in
+        let seen : TookAs (a.far u).wire.inp law.in_end = subst (λ (x : InView). TookAs x law.in_end) (ap (λ (l : List InView). get_or l 0 Left) wire.ins) law.took_as in
+        let got : (a.far u).wire.got ≡ told law.elems law.in_end = heads_same (a.far u).wire.got (told law.elems law.in_end) (sym wire.came ∙ law.took_is) in
         let came : Agrees (comes_in k) law.elems law.in_end = input_agrees k n law.elems law.in_end ni (ap inputs_of its.kind_is) law.took_is in
         let agrees : Agrees (sink_outlook g w k n) law.elems law.in_end = passes k n kind.Ignore law.elems law.in_end its.kind_is refl came in
-        ignored_by (wire_at net u).wire (holds net.queue u) (settled.sound u ins.0) now.started (view_of net k).outs law.elems law.in_end got seen now.end (sink_outlook g w k n) law.ends here agrees
+        let sound = run.keeps.far_sound u (slice_get-below g.wires u v ui) in
+        ignored_by (a.far u).wire sound.0 sound.1 now.started (knows g a k n).outs law.elems law.in_end got seen now.end (sink_outlook g w k n) law.ends here agrees

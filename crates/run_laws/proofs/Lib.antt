@@ -1,12 +1,14 @@
-pub mod Histories
-pub mod Inputs
+pub mod Machines
+pub mod Ports
 pub mod Readings
 pub mod Stages
 pub mod States
 pub mod Writings
 pub mod Makings
 pub mod AnyKind
-pub mod AgreeingWires
+pub mod Hearing
+pub mod Islands
+pub mod Agreeing
 pub mod Counting
 pub mod Faults
 pub mod Passing

@@ -1,6 +1,6 @@
 -- What a source without a file gave agrees with the outlook of its output.
 use Rattle.std.specs.Prelude.{slice_get, ℤ, Some}
-use Rattle.std.proofs.Common.{◌≡◌, ℕ, inl, List, [], ◌∷◌, ◌++◌, length, refl, sym, ap, ◌∙◌, subst, arith, append-nil}
+use Rattle.std.proofs.Common.{◌≡◌, ℕ, inl, List, [], ◌∷◌, ◌++◌, true, refl, sym, ap, ◌∙◌, subst, arith, append-nil}
 use Rattle.elem_core.specs.Tree.{Tree}
 use Rattle.elem_core.specs.declared.item.Item.{Item}
 use Rattle.elem_core.proofs.Prefixes.{prefix_refl}
@@ -12,13 +12,14 @@ use Rattle.stream_model.specs.Sources.{count_up, span_of, range_outlook, empty_o
 use Rattle.stream_model.specs.Graph.{Graph}
 use Rattle.stream_model.specs.Graph as graph
 use Rattle.stream_model.specs.Node.{World, node_outlook}
-use Rattle.stream_model.specs.Composed.{inputs_of}
+use Rattle.stream_model.specs.Fits.{moves_fit}
 use Rattle.stage_law.specs.Held.{told}
 use Rattle.nodes.specs.declared.maker.Makes.{Makes}
 use Rattle.nodes.specs.declared.maker.Makes.TheVariants.{Numbers}
 use Rattle.nodes.specs.Kinds.{IsMaker, maker_of}
 use Rattle.nodes.specs.Maker.{Made, numbers_left, told_to_fail, MadeEnds, MadeLaw}
-use Rattle.run_laws.specs.Agreeing.{AgreesWith}
+use Rattle.run_account.specs.Items.{AgreesWith}
+use Rattle.run_account.specs.KindLaws.{RunLaws}
 use Rattle.run_laws.specs.Made.{FirstMaking}
 use Rattle.run_laws.proofs.Readings.{one_port}
 
@@ -51,17 +52,15 @@ module _ (g : Graph) (w : World) (k : ℕ) where
       failure_agrees k l (numbers_left now.next now.last) e (rw is at c) (rw node at (subst (λ (z : Makes). MadeEnds z now.node (numbers_left now.next now.last) e) (b ∙ ap (λ (z : Made). z.makes) is) h))
   made_agrees _ d os p x now l e m is a b c h = absurd m
 
-maker_inputs : (shape : Kind) → IsMaker shape → inputs_of shape ≡ 0
-maker_inputs (kind.Range low high) m = refl
-maker_inputs (kind.Empty y) m = refl
-maker_inputs (kind.Failed y) m = refl
-maker_inputs _ m = absurd m
+-- such a source chooses nothing
+maker_moves : (g : Graph) (w : World) (k : ℕ) (shape : Kind) (os : List Outlook) → IsMaker shape → moves_fit g w k shape os ≡ true
+maker_moves g w k (kind.Range low high) os m = refl
+maker_moves g w k (kind.Empty y) os m = refl
+maker_moves g w k (kind.Failed y) os m = refl
+maker_moves g w k _ os m = absurd m
 
 module _ (g : Graph) (w : World) (k : ℕ) (n : graph.Node) (first now : Made) (v : View) (took gave : List (List Item)) (made : FirstMaking k n.kind first) (law : MadeLaw first now v took gave) where
-  pub making_inputs : length took ≡ inputs_of n.kind
-  making_inputs = ap length law.took_is ∙ sym (maker_inputs n.kind made.is_maker)
-
-  pub making_gives : (os : List Outlook) (p : ℕ) (h : List Item) → slice_get gave p ≡ Some h → AgreesWith (node_outlook g w k n.kind n.decider os p) h
+  making_gives : (os : List Outlook) (p : ℕ) (h : List Item) → slice_get gave p ≡ Some h → AgreesWith (node_outlook g w k n.kind n.decider os p) h
   making_gives os p h at =
       let here : slice_get (told law.list law.end ∷ []) p ≡ Some h = rw law.gave_is at at in
       record {
@@ -70,3 +69,6 @@ module _ (g : Graph) (w : World) (k : ℕ) (n : graph.Node) (first now : Made) (
         is = one_port (told law.list law.end) p h here;
         agrees = made_agrees g w k n.kind n.decider os p first now law.list law.end made.is_maker made.is law.node law.makes law.numbers law.ends;
       }
+
+  pub making_laws : RunLaws g w k n took gave
+  making_laws = record { gives = λ os a. making_gives os; fits = λ os a. maker_moves g w k n.kind os made.is_maker }

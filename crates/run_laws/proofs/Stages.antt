@@ -1,56 +1,28 @@
 -- What a linear stage gave agrees with the outlook of its output, where what it took does.
 use Rattle.std.specs.Prelude.{slice_get}
-use Rattle.std.proofs.Common.{◌≡◌, ℕ, List, [], ◌∷◌, length, Some, refl, sym, ◌∙◌}
+use Rattle.std.proofs.Common.{◌≡◌, ℕ, List, [], ◌∷◌, Some, refl, sym, ◌∙◌}
 use Rattle.elem_core.specs.Tree.{Tree}
 use Rattle.elem_core.specs.declared.item.Item.{Item}
-use Rattle.elem_core.specs.declared.why.Decider.{Decider}
 use Rattle.port_core.specs.View.{View, in_at, out_at}
-use Rattle.stream_model.specs.declared.kind.Kind.{Kind}
-use Rattle.stream_model.specs.declared.kind.Kind.TheVariants.{Map, Filter, FilterNot, Take, TakeWhile, Drop, DropWhile, Limit, MapConcat}
 use Rattle.stream_model.specs.Outlook.{Outlook, Agrees}
 use Rattle.stream_model.specs.Machine.{Run, output}
-use Rattle.stream_model.specs.Linear.{Stage, linear, begin_work, work_of}
+use Rattle.stream_model.specs.Linear.{Stage, linear, begin_work}
 use Rattle.stream_model.specs.Graph.{Graph}
 use Rattle.stream_model.specs.Graph as graph
-use Rattle.stream_model.specs.Node.{World, of_work, node_outlook}
-use Rattle.stream_model.specs.Composed.{inputs_of}
+use Rattle.stream_model.specs.Node.{World, node_outlook}
 use Rattle.stage_law.specs.Held.{owing}
 use Rattle.stage_law.specs.Law.{Law}
 use Rattle.stage_law.proofs.Whole.{stage_agrees}
-use Rattle.stage_linear.specs.States.{Logic, held, IsLinear}
+use Rattle.stage_linear.specs.States.{Logic, held}
 use Rattle.nodes.specs.Linear.{LinearLaw}
-use Rattle.run_laws.specs.Agreeing.{AgreesWith}
+use Rattle.run_account.specs.KindLaws.{IsOneMachine, RunLaws}
 use Rattle.run_laws.specs.Made.{FirstLinear}
-use Rattle.run_laws.proofs.Inputs.{AllAgree, TookAgrees}
+use Rattle.run_account.specs.Items.{MayPass, AllMayPass, AgreesWith}
+use Rattle.run_laws.proofs.Machines.{linear_machine}
 use Rattle.run_laws.proofs.Readings.{one_port}
 
--- the kinds have one input, and give by their work
-linear_inputs : (shape : Kind) → IsLinear shape → inputs_of shape ≡ 1
-linear_inputs (Map f) h = refl
-linear_inputs (Filter p) h = refl
-linear_inputs (Take n) h = refl
-linear_inputs (FilterNot q) h = refl
-linear_inputs (TakeWhile q) h = refl
-linear_inputs (Drop n) h = refl
-linear_inputs (DropWhile q) h = refl
-linear_inputs (Limit n) h = refl
-linear_inputs (MapConcat x) h = refl
-linear_inputs _ h = absurd h
-
-linear_outlook : (g : Graph) (w : World) (k : ℕ) (shape : Kind) (d : Decider) (os : List Outlook) (p : ℕ) → IsLinear shape → node_outlook g w k shape d os p ≡ of_work w.book k d (work_of shape) os
-linear_outlook g w k (Map f) d os p h = refl
-linear_outlook g w k (Filter q) d os p h = refl
-linear_outlook g w k (Take n) d os p h = refl
-linear_outlook g w k (FilterNot q) d os p h = refl
-linear_outlook g w k (TakeWhile q) d os p h = refl
-linear_outlook g w k (Drop n) d os p h = refl
-linear_outlook g w k (DropWhile q) d os p h = refl
-linear_outlook g w k (Limit n) d os p h = refl
-linear_outlook g w k (MapConcat x) d os p h = refl
-linear_outlook g w k _ d os p h = absurd h
-
 -- one history took, by one outlook
-pub one_input : (os : List Outlook) (h : List Item) → AllAgree os (h ∷ []) → (o : Outlook) × ((os ≡ o ∷ []) × TookAgrees o h)
+pub one_input : (os : List Outlook) (h : List Item) → AllMayPass os (h ∷ []) → (o : Outlook) × ((os ≡ o ∷ []) × MayPass o h)
 one_input [] h a = absurd a
 one_input (o ∷ []) h a = (o, (refl, a.0))
 one_input (o ∷ x ∷ os) h a = absurd a.1
@@ -59,10 +31,10 @@ pub begins_so : (a b : Run Stage Tree) → owing a ≡ owing b → a ≡ b
 begins_so a b h = cc
 
 module _ (g : Graph) (w : World) (k : ℕ) (n : graph.Node) (first now : Logic) (v : View) (took gave : List (List Item)) (made : FirstLinear k n first) (law : LinearLaw first now v took gave) where
-  pub stage_inputs : length took ≡ inputs_of n.kind
-  stage_inputs = rw (law.took_is, linear_inputs n.kind made.is_linear) refl
+  machine : IsOneMachine n.kind first.stage.work
+  machine = linear_machine n.kind first.stage.work made.is_linear made.begins.work
 
-  pub stage_gives : (os : List Outlook) → AllAgree os took → (p : ℕ) (h : List Item) → slice_get gave p ≡ Some h → AgreesWith (node_outlook g w k n.kind n.decider os p) h
+  stage_gives : (os : List Outlook) → AllMayPass os took → (p : ℕ) (h : List Item) → slice_get gave p ≡ Some h → AgreesWith (node_outlook g w k n.kind n.decider os p) h
   stage_gives os a p h at =
       let one = one_input os law.took_list (rw law.took_is at a) in
       let here : slice_get (law.gave_list ∷ []) p ≡ Some h = rw law.gave_is at at in
@@ -74,5 +46,8 @@ module _ (g : Graph) (w : World) (k : ℕ) (n : graph.Node) (first now : Logic) 
         list = its.out_list;
         end = its.out_end;
         is = one_port law.gave_list p h here ∙ its.gave_is;
-        agrees = rw (linear_outlook g w k n.kind n.decider os p made.is_linear, made.begins.work, one.1.0, ← start) agrees;
+        agrees = rw (machine.outlook g w k n.decider os p, one.1.0, ← start) agrees;
       }
+
+  pub stage_laws : RunLaws g w k n took gave
+  stage_laws = record { gives = stage_gives; fits = λ os a. machine.no_moves g w k os }

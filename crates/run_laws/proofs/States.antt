@@ -1,6 +1,6 @@
 -- What a stage with state gave agrees with the outlook of its output, where what it took does.
 use Rattle.std.specs.Prelude.{slice_get}
-use Rattle.std.proofs.Common.{◌≡◌, ℕ, ◌<◌, ◌⊎◌, inl, inr, Option, None, Some, List, [], ◌∷◌, length, refl, sym, subst, ◌∙◌}
+use Rattle.std.proofs.Common.{◌≡◌, ℕ, ◌<◌, ◌⊎◌, inl, inr, Option, None, Some, List, [], ◌∷◌, true, refl, sym, subst, ◌∙◌}
 use Rattle.elem_core.specs.Tree.{Tree}
 use Rattle.elem_core.specs.declared.item.Item.{Item}
 use Rattle.elem_core.specs.declared.why.Decider.{Decider}
@@ -13,8 +13,8 @@ use Rattle.stream_model.specs.Machine.{Run, output}
 use Rattle.stream_model.specs.Linear.{Book, Stage, linear, begin_work, work_of}
 use Rattle.stream_model.specs.Graph.{Graph}
 use Rattle.stream_model.specs.Graph as graph
-use Rattle.stream_model.specs.Node.{World, of_work, node_outlook}
-use Rattle.stream_model.specs.Composed.{inputs_of}
+use Rattle.stream_model.specs.Node.{World, node_outlook}
+use Rattle.stream_model.specs.Fits.{moves_fit}
 use Rattle.stage_law.specs.Held.{owing}
 use Rattle.stage_law.specs.Law.{Law}
 use Rattle.stage_law.proofs.Whole.{stage_stands, stage_agrees}
@@ -23,21 +23,14 @@ use Rattle.stage_state.specs.Resting.{begin_buffer}
 use Rattle.stage_state.specs.States.{Logic, machine_by, held, IsStateful, Begins}
 use Rattle.stage_state.proofs.Buffers.{buffer_agrees}
 use Rattle.nodes.specs.State.{StateLaw}
-use Rattle.run_laws.specs.Agreeing.{AgreesWith}
+use Rattle.run_account.specs.KindLaws.{RunLaws}
 use Rattle.run_laws.specs.Made.{FirstState}
-use Rattle.run_laws.proofs.Inputs.{AllAgree, TookAgrees}
+use Rattle.run_account.specs.Items.{MayPass, AllMayPass, AgreesWith}
+use Rattle.run_laws.proofs.Machines.{IsKeeping, keeping_machine}
 use Rattle.run_laws.proofs.Readings.{one_port}
 use Rattle.run_laws.proofs.Stages.{one_input, begins_so}
 
 -- ---- a stage with state keeps a group or a value, or is a buffer
-
--- the kinds that keep
-abbrev pub IsKeeping : Kind → Type 0
-IsKeeping (Grouped n) = Unit {0}
-IsKeeping (Fold o) = Unit {0}
-IsKeeping (Reduce r) = Unit {0}
-IsKeeping (Scan o) = Unit {0}
-IsKeeping _ = ⊥
 
 -- one that keeps, at its start
 pub record KeepsFirst (k : ℕ) (kd : Kind) (d : Decider) (x : Logic) : Type 0 where
@@ -72,31 +65,13 @@ module _ (first now : Logic) (v : View) (took gave : List (List Item)) (law : St
   pub buffers_law : (n : ℕ) → first.size ≡ Some n → Law (buffer n) law.start (held now) (in_at v 0) (out_at v 0) law.took_list law.gave_list
   buffers_law n e = subst (λ (z : Option ℕ). Law (machine_by book z first.stage.work) law.start (held now) (in_at v 0) (out_at v 0) law.took_list law.gave_list) e (law.law book)
 
--- ---- the kinds have one input, and give by their work or as a lane
-
-stateful_inputs : (shape : Kind) → IsStateful shape → inputs_of shape ≡ 1
-stateful_inputs (Grouped n) h = refl
-stateful_inputs (Fold o) h = refl
-stateful_inputs (Reduce r) h = refl
-stateful_inputs (Scan o) h = refl
-stateful_inputs (Buffer n p) h = refl
-stateful_inputs _ h = absurd h
-
-keeping_outlook : (g : Graph) (w : World) (k : ℕ) (shape : Kind) (d : Decider) (os : List Outlook) (p : ℕ) → IsKeeping shape → node_outlook g w k shape d os p ≡ of_work w.book k d (work_of shape) os
-keeping_outlook g w k (Grouped n) d os p h = refl
-keeping_outlook g w k (Fold o) d os p h = refl
-keeping_outlook g w k (Reduce r) d os p h = refl
-keeping_outlook g w k (Scan o) d os p h = refl
-keeping_outlook g w k _ d os p h = absurd h
+-- ---- what it gave
 
 module _ (g : Graph) (w : World) (k : ℕ) (n : graph.Node) (first now : Logic) (v : View) (took gave : List (List Item)) (made : FirstState k n first) (law : StateLaw first now v took gave) where
-  pub state_inputs : length took ≡ inputs_of n.kind
-  state_inputs = rw (law.took_is, stateful_inputs n.kind made.is_state) refl
-
   abbrev Gives : List Outlook → ℕ → List Item → Type 0
   Gives os p h = AgreesWith (node_outlook g w k n.kind n.decider os p) h
 
-  keeps_give : (os : List Outlook) (o : Outlook) (p : ℕ) (h : List Item) → os ≡ o ∷ [] → TookAgrees o law.took_list → h ≡ law.gave_list → KeepsFirst k n.kind n.decider first → Gives os p h
+  keeps_give : (os : List Outlook) (o : Outlook) (p : ℕ) (h : List Item) → os ≡ o ∷ [] → MayPass o law.took_list → h ≡ law.gave_list → KeepsFirst k n.kind n.decider first → Gives os p h
   keeps_give os o p h one agrees_in is f =
       let its : Law (linear w.book first.stage.work) law.start (held now) (in_at v 0) (out_at v 0) law.took_list law.gave_list = keeps_law first now v took gave law w.book f.size in
       let start : law.start ≡ begin_work k n.decider first.stage.work = begins_so law.start (begin_work k n.decider first.stage.work) (sym law.owes ∙ f.owes) in
@@ -106,10 +81,10 @@ module _ (g : Graph) (w : World) (k : ℕ) (n : graph.Node) (first now : Logic) 
         list = its.out_list;
         end = its.out_end;
         is = is ∙ its.gave_is;
-        agrees = rw (keeping_outlook g w k n.kind n.decider os p f.is_keeping, f.work, one, ← start) agrees;
+        agrees = rw ((keeping_machine n.kind first.stage.work f.is_keeping f.work).outlook g w k n.decider os p, one, ← start) agrees;
       }
 
-  buffers_give : (os : List Outlook) (o : Outlook) (p : ℕ) (h : List Item) → os ≡ o ∷ [] → TookAgrees o law.took_list → h ≡ law.gave_list → BuffersFirst n.kind first → Gives os p h
+  buffers_give : (os : List Outlook) (o : Outlook) (p : ℕ) (h : List Item) → os ≡ o ∷ [] → MayPass o law.took_list → h ≡ law.gave_list → BuffersFirst n.kind first → Gives os p h
   buffers_give os o p h one agrees_in is f =
       let some : Law (buffer f.room) law.start (held now) (in_at v 0) (out_at v 0) law.took_list law.gave_list = buffers_law first now v took gave law w.book f.room f.size in
       let start : law.start ≡ begin_buffer first.stage = begins_so law.start (begin_buffer first.stage) (sym law.owes ∙ f.owes) in
@@ -125,7 +100,7 @@ module _ (g : Graph) (w : World) (k : ℕ) (n : graph.Node) (first now : Logic) 
         agrees = rw (f.kind_is, one) agrees;
       }
 
-  pub state_gives : (os : List Outlook) → AllAgree os took → (p : ℕ) (h : List Item) → slice_get gave p ≡ Some h → Gives os p h
+  state_gives : (os : List Outlook) → AllMayPass os took → (p : ℕ) (h : List Item) → slice_get gave p ≡ Some h → Gives os p h
   state_gives os a p h at =
       let one = one_input os law.took_list (rw law.took_is at a) in
       let here : slice_get (law.gave_list ∷ []) p ≡ Some h = rw law.gave_is at at in
@@ -133,3 +108,13 @@ module _ (g : Graph) (w : World) (k : ℕ) (n : graph.Node) (first now : Logic) 
         | inl f ↦ keeps_give os one.0 p h one.1.0 one.1.1 (one_port law.gave_list p h here) f
         | inr f ↦ buffers_give os one.0 p h one.1.0 one.1.1 (one_port law.gave_list p h here) f
       ]
+
+  -- it chooses nothing
+  no_moves : (os : List Outlook) → moves_fit g w k n.kind os ≡ true
+  no_moves os = elim (state_cases k n.kind n.decider first made.is_state made.begins) [
+    | inl f ↦ (keeping_machine n.kind first.stage.work f.is_keeping f.work).no_moves g w k os
+    | inr f ↦ rw f.kind_is refl
+  ]
+
+  pub state_laws : RunLaws g w k n took gave
+  state_laws = record { gives = state_gives; fits = λ os a. no_moves os }

@@ -12,13 +12,11 @@ use Rattle.stream_model.specs.Graph.{Graph}
 use Rattle.stream_model.specs.Graph as graph
 use Rattle.stream_model.specs.Composed.{sink_outlook}
 use Rattle.stream_io.specs.State.{SourceState, DrainState}
-use Rattle.fused_net.specs.Net.{Net, view_of, took, gave}
-use Rattle.fused_net.specs.Laws.{Settled}
 use Rattle.nodes.specs.declared.node.Node.{Node}
-use Rattle.nodes.specs.Nodes.{node_row, node_law, node_asking, node_moves}
-use Rattle.nodes.specs.Sink.{Sink, WroteAll, WrotePart, StandsAs, SinkLaw}
+use Rattle.nodes.specs.Sink.{Sink, WroteAll, StandsAs, SinkLaw}
 use Rattle.nodes.proofs.SinkTexts.{has_lines}
-use Rattle.run_laws.specs.Made.{Materializes}
+use Rattle.run_account.specs.Account.{Account, knows, took, gave}
+use Rattle.run_laws.specs.Runs.{IsRun}
 use Rattle.run_laws.specs.Sinks.{IsSinkAt, SinkWrote}
 use Rattle.run_laws.proofs.AgreeingSinks.{sink_law, its_list}
 use Rattle.run_laws.proofs.Sinks.{sink_tells}
@@ -74,21 +72,20 @@ module _ {D : Type 0} (drains : D → DrainState) (first now : Sink D) (v : View
     stands = its_bytes.stands;
   }
 
-module _ {S D : Type 0} (sources : S → SourceState) (drains : D → DrainState) (g : Graph) (net : Net (Node S D))
-    (settled : Settled node_row (node_law sources drains) node_asking node_moves net) (made : Materializes sources g net.firsts net.ends) where
-  pub sink_wrote : (k : ℕ) (n : graph.Node) (first now : Sink D) → slice_get g.nodes k ≡ Some n → IsSinkAt net k first now → SinkWrote sources drains g net k n first now
+module _ {S D : Type 0} (sources : S → SourceState) (drains : D → DrainState) (g : Graph) (a : Account (Node S D)) (run : IsRun sources drains g a) where
+  pub sink_wrote : (k : ℕ) (n : graph.Node) (first now : Sink D) → slice_get g.nodes k ≡ Some n → IsSinkAt a k first now → SinkWrote sources drains g a k n first now
   unfolding law_over
   sink_wrote k n first now ni at =
-      let law = sink_law sources drains g net settled made k n first now ni at in
-      let its = its_bytes drains first now (view_of net k) (took net k) (gave net k) law in
-      let then = law_over drains first now (view_of net k) (took net k) (gave net k) law in
+      let law = sink_law sources drains g a run k n first now ni at in
+      let its = its_bytes drains first now (knows g a k n) (took g a k n) (gave g a k n) law in
+      let then = law_over drains first now (knows g a k n) (took g a k n) (gave g a k n) law in
       let before = over first (holding (drains first.drain) []) in
       let after = over now (holding (drains now.drain) its.bytes) in
       record {
         written = its.bytes;
-        lines_are = (has_lines (λ (s : DrainState). s) before after (view_of net k) (took net k) (gave net k) its.bytes then refl refl).0;
+        lines_are = (has_lines (λ (s : DrainState). s) before after (knows g a k n) (took g a k n) (gave g a k n) its.bytes then refl refl).0;
         holds = its.holds;
         tells = λ w rank tells ranked.
-            sink_tells (λ (s : DrainState). s) before after (view_of net k) (took net k) (gave net k) then (sink_outlook g w k n)
-            (its_list sources drains g net settled made w tells rank ranked k n first now ni at) its.bytes refl refl;
+            sink_tells (λ (s : DrainState). s) before after (knows g a k n) (took g a k n) (gave g a k n) then (sink_outlook g w k n)
+            (its_list sources drains g a run w tells rank ranked k n first now ni at) its.bytes refl refl;
       }

@@ -1,5 +1,5 @@
-pub mod Agreeing
 pub mod Made
+pub mod Runs
 pub mod Telling
 pub mod Sinks
 pub mod Reads

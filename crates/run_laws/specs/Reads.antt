@@ -1,5 +1,5 @@
 -- What a source of lines read of its file, by what was sent on its wire.
-use Rattle.std.specs.Prelude.{◌≡◌, ℕ, ◌+◌, ◌≤◌, ◌⊎◌, List, ◌++◌, map, length, Some, slice_get}
+use Rattle.std.specs.Prelude.{◌≡◌, ℕ, ◌+◌, ◌≤◌, ◌⊎◌, List, ◌++◌, map, length, Some}
 use Rattle.elem_core.specs.Text.{lines}
 use Rattle.elem_core.specs.Tree.{text}
 use Rattle.elem_core.specs.declared.item.Item.{Item}
@@ -8,16 +8,16 @@ use Rattle.stream_io.specs.Counts.{Rose}
 use Rattle.stream_io.specs.State.{SourceState}
 use Rattle.stream_io.specs.Reading.{FirstTooLong}
 use Rattle.stage_law.specs.Held.{told}
-use Rattle.fused_net.specs.Net.{Net}
+use Rattle.run_account.specs.Account.{Account}
 use Rattle.nodes.specs.declared.node.Node.{Node}
 use Rattle.nodes.specs.declared.node.Node.TheVariants.{Reading}
 use Rattle.nodes.specs.Drawing.{ended_lines}
 use Rattle.nodes.specs.Source.{Lines}
 
 -- a source of lines is node k, as it was handed in and now
-pub record IsSourceAt {S D : Type 0} (net : Net (Node S D)) (k : ℕ) (first now : Lines S) : Type 0 where
-  pub at_first : slice_get net.firsts k ≡ Some (Reading first)
-  pub at_last : slice_get net.nodes k ≡ Some (Reading now)
+pub record IsSourceAt {S D : Type 0} (a : Account (Node S D)) (k : ℕ) (first now : Lines S) : Type 0 where
+  pub at_first : a.firsts k ≡ Some (Reading first)
+  pub at_last : a.nodes k ≡ Some (Reading now)
 
 -- of that many bytes of lines, no more was read than one piece; or than one longest line and its LF besides, where a read
 -- failed or the next line is too long
@@ -33,3 +33,9 @@ pub record SentLines (bytes : List ℕ) (first now : SourceState) (sent : List I
   pub lines_are : lines bytes ≡ drawn ++ later
   pub sent_is : sent ≡ told (map text drawn) end
   pub ahead : ReadsAhead first now later (length (ended_lines drawn))
+
+-- texts were sent, and how they stand
+pub record GivesTexts (sent : List Item) : Type 0 where
+  pub texts : List (List ℕ)
+  pub end : End
+  pub is : sent ≡ told (map text texts) end

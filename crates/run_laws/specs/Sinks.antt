@@ -1,5 +1,5 @@
 -- What a sink tells of its outlook: by how it stands, what it took, and the bytes of its file, which was empty at first.
-use Rattle.std.specs.Prelude.{◌≡◌, ℕ, ◌+◌, ◌≤◌, List, [], ◌∷◌, length, Some, slice_get}
+use Rattle.std.specs.Prelude.{◌≡◌, ℕ, ◌+◌, ◌≤◌, List, [], ◌∷◌, length, Some}
 use Rattle.elem_core.specs.Prefix.{IsPrefix}
 use Rattle.elem_core.specs.Text.{text_lines}
 use Rattle.elem_core.specs.Tree.{Tree}
@@ -14,7 +14,7 @@ use Rattle.stream_model.specs.Outlook.{Outlook, End, unended, ended, failed, Agr
 use Rattle.stream_model.specs.declared.outcome.EndState.{EndState}
 use Rattle.stream_model.specs.declared.outcome.EndState.TheVariants.{Ended, Failed, Unended, WriteFault}
 use Rattle.stage_law.specs.Held.{told}
-use Rattle.fused_net.specs.Net.{Net}
+use Rattle.run_account.specs.Account.{Account}
 use Rattle.nodes.specs.declared.node.Node.{Node}
 use Rattle.nodes.specs.declared.node.Node.TheVariants.{Writing, Ignoring}
 use Rattle.nodes.specs.Sink.{Sink, end_seen}
@@ -49,18 +49,18 @@ SentTo Unended sent count = (count ≤ sent) × (sent ≤ count + 1)
 SentTo WriteFault sent count = sent ≡ count + 1
 
 -- a sink with a file is node k, as it was handed in and now
-pub record IsSinkAt {S D : Type 0} (net : Net (Node S D)) (k : ℕ) (first now : Sink D) : Type 0 where
-  pub at_first : slice_get net.firsts k ≡ Some (Writing first)
-  pub at_last : slice_get net.nodes k ≡ Some (Writing now)
+pub record IsSinkAt {S D : Type 0} (a : Account (Node S D)) (k : ℕ) (first now : Sink D) : Type 0 where
+  pub at_first : a.firsts k ≡ Some (Writing first)
+  pub at_last : a.nodes k ≡ Some (Writing now)
 
 -- What a sink with a file wrote, whether its drain tells what it holds or not: so many whole lines as it counts, and bytes that its
 -- outlook lets it write, by every world that tells of the files of the sources. A drain that was empty at first, and tells what it
 -- holds, holds just those bytes.
-pub record SinkWrote {S D : Type 0} (sources : S → SourceState) (drains : D → DrainState) (g : Graph) (net : Net (Node S D)) (k : ℕ) (n : graph.Node) (first now : Sink D) : Type 0 where
+pub record SinkWrote {S D : Type 0} (sources : S → SourceState) (drains : D → DrainState) (g : Graph) (a : Account (Node S D)) (k : ℕ) (n : graph.Node) (first now : Sink D) : Type 0 where
   pub written : List ℕ
   pub lines_are : whole_lines (length written) written ≡ now.count
   pub holds : (drains first.drain).holds ≡ Some [] → (drains now.drain).holds ≡ Some written
-  pub tells : (w : World) (rank : ℕ → ℕ) → Tells sources g w net → IsRanked g rank → SinkTells (sink_outlook g w k n) now.end written
+  pub tells : (w : World) (rank : ℕ → ℕ) → Tells sources g w a → IsRanked g rank → SinkTells (sink_outlook g w k n) now.end written
 
 -- So many elements were sent to a sink that keeps nothing: they are a list that may pass and stand so; while it waits, the
 -- list that it took, and one element more at most.
@@ -71,6 +71,6 @@ IgnoreTells o Unended sent = (list : List Tree) × (Agrees o list unended × ((l
 IgnoreTells o WriteFault sent = ⊥
 
 -- a sink that keeps nothing is node k, as it was handed in and now
-pub record IsIgnorerAt {S D : Type 0} (net : Net (Node S D)) (k : ℕ) (first now : Ignorer) : Type 0 where
-  pub at_first : slice_get net.firsts k ≡ Some (Ignoring first)
-  pub at_last : slice_get net.nodes k ≡ Some (Ignoring now)
+pub record IsIgnorerAt {S D : Type 0} (a : Account (Node S D)) (k : ℕ) (first now : Ignorer) : Type 0 where
+  pub at_first : a.firsts k ≡ Some (Ignoring first)
+  pub at_last : a.nodes k ≡ Some (Ignoring now)

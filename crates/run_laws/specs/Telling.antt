@@ -7,7 +7,7 @@ use Rattle.stream_model.specs.Node.{World}
 use Rattle.stream_model.specs.Sources.{File}
 use Rattle.stream_io.specs.Counts.{Rose}
 use Rattle.stream_io.specs.State.{SourceState}
-use Rattle.fused_net.specs.Net.{Net}
+use Rattle.run_account.specs.Account.{Account}
 use Rattle.nodes.specs.declared.node.Node.{Node}
 use Rattle.nodes.specs.declared.node.Node.TheVariants.{Reading}
 
@@ -24,5 +24,5 @@ module _ {S D : Type 0} (sources : S → SourceState) where
   TellsNode w n _ _ = ⊤
 
   -- the files of all nodes
-  abbrev pub Tells : Graph → World → Net (Node S D) → Type 0
-  Tells g w net = (k : ℕ) (n : graph.Node) (first now : Node S D) → slice_get g.nodes k ≡ Some n → slice_get net.firsts k ≡ Some first → slice_get net.nodes k ≡ Some now → TellsNode w n first now
+  abbrev pub Tells : Graph → World → Account (Node S D) → Type 0
+  Tells g w a = (k : ℕ) (n : graph.Node) (first now : Node S D) → slice_get g.nodes k ≡ Some n → a.firsts k ≡ Some first → a.nodes k ≡ Some now → TellsNode w n first now

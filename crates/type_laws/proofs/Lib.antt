@@ -16,4 +16,5 @@ pub mod Shapes
 pub mod Settling
 pub mod Carrying
 pub mod Sending
+pub mod Runs
 pub mod Fit

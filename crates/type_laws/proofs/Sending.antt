@@ -17,8 +17,9 @@ use Rattle.stream_model.proofs.Compositions.{slice_get-below}
 use Rattle.stream_model.proofs.PickTraces.{agrees_prefix}
 use Rattle.stage_law.specs.Held.{told}
 use Rattle.fused_net.proofs.Reading.{get_there}
-use Rattle.run_laws.specs.Agreeing.{AgreesWith, GivesTexts}
-use Rattle.run_laws.proofs.Histories.{list_of, standing, list_of_told, standing_told}
+use Rattle.run_account.specs.Items.{list_of, standing, AgreesWith}
+use Rattle.run_laws.specs.Reads.{GivesTexts}
+use Rattle.run_account.proofs.Histories.{list_of_told, standing_told}
 use Rattle.blue_core.specs.declared.blueprint.ChainDecl.{ChainDecl}
 use Rattle.blue_core.specs.declared.blueprint.Node.{Node}
 use Rattle.plug_core.specs.declared.head.PlugHead.{PlugHead}

@@ -8,14 +8,17 @@ returns g c = λ old b budget ss ds can opens leaves.
     runs_of g.F.Inp.Source.state g.F.Out.Drain.state
     (record {
       made_law = c.parts_are_made_of_their_blueprint.ensures;
+      joined_law = c.fit_blueprints_are_whole.ensures.joined;
+      run_law = c.an_island_leaves_a_run.ensures.run;
       reads_law = c.parts_hold_their_files.ensures.sources;
       writes_law = c.parts_hold_their_files.ensures.files;
       source_there = c.every_source_reads_little_ahead.ensures.there;
       sink_there = c.every_sink_agrees.ensures.there;
     })
     (record {
+      still = c.an_island_leaves_a_run.ensures.still;
+      counts = c.an_island_leaves_a_run.ensures.counts;
       ranked = c.fit_blueprints_are_whole.ensures.ranked;
-      joined = c.fit_blueprints_are_whole.ensures.joined;
       agree = c.every_wire_agrees.ensures;
       trees = c.polytrees_end.ensures;
       wrote = c.every_sink_writes.ensures;

@@ -1,0 +1,43 @@
+-- The picture of a run: it is lawful at every moment, and where no event is left it rests and its sinks match.
+use Rattle.std.proofs.Common.{◌≡◌, ℕ, ap}
+use Rattle.std.specs.Prelude.{slice_get, Some}
+use Rattle.stream_io.specs.State.{SourceState, DrainState}
+use Rattle.stream_model.specs.Composed.{composed, IsRanked}
+use Rattle.stream_model.specs.Graph.{Graph}
+use Rattle.stream_model.specs.Graph as graph
+use Rattle.stream_model.specs.Node.{World}
+use Rattle.stream_model.specs.Outlook.{Outlook}
+use Rattle.stream_picture.specs.Lawful.{IsLawful}
+use Rattle.stream_picture.specs.Rests.{Rests, SinksMatch}
+use Rattle.nodes.specs.declared.node.Node.{Node}
+use Rattle.nodes.specs.Nodes.{node_row, node_law, node_asking, node_moves}
+use Rattle.run_account.specs.Account.{Account, knows, took, gave, IsStill}
+use Rattle.run_account.specs.KindLaws.{HearsAll}
+use Rattle.run_account.specs.Pictures.{counts_of, AllPass}
+use Rattle.run_account.proofs.Drawing.{all_lawful, all_rest, all_match}
+use Rattle.run_laws.specs.Made.{FirstOf}
+use Rattle.run_laws.specs.Runs.{IsRun}
+use Rattle.run_laws.specs.Telling.{Tells}
+use Rattle.run_laws.proofs.Agreeing.{every_wire_of}
+use Rattle.run_laws.proofs.Hearing.{node_hears}
+use Rattle.picture_laws.specs.Picture.{sink_ended, ended_there}
+use Rattle.picture_laws.proofs.AnyPicture.{node_picture}
+use Rattle.picture_laws.proofs.Telling.{agrees_passes}
+
+module _ {S D : Type 0} (sources : S → SourceState) (drains : D → DrainState) (g : Graph) (a : Account (Node S D)) (run : IsRun sources drains g a) (w : World) where
+  hears : (k : ℕ) (n : graph.Node) → slice_get g.nodes k ≡ Some n → HearsAll (knows g a k n) (took g a k n)
+  hears k n e = let m = run.keeps.each_node k n e in node_hears sources drains w.book m.first m.now (knows g a k n) (took g a k n) (gave g a k n) m.law_holds
+
+  -- what passes the wires is by the composed outlooks
+  pub all_pass : (rank : ℕ → ℕ) → Tells sources g w a → IsRanked g rank → AllPass a g (composed g w)
+  all_pass rank tells ranked u h = agrees_passes (composed g w u) (a.near u).wire.sent (every_wire_of sources drains g a run w tells rank ranked u h)
+
+  module _ (outlook : ℕ → Outlook) where
+    pub lawful : AllPass a g outlook → IsLawful g w (counts_of a g) outlook
+    lawful = all_lawful node_row (node_law sources drains) node_asking node_moves sink_ended (FirstOf sources) g w a run.joined run.keeps run.made hears (λ k n. node_picture sources drains g w k n) outlook
+
+    pub rests : IsStill g a → AllPass a g outlook → Rests g w (counts_of a g) outlook
+    rests = all_rest node_row (node_law sources drains) node_asking node_moves sink_ended (FirstOf sources) g w a run.joined run.keeps run.made hears (λ k n. node_picture sources drains g w k n) outlook
+
+    pub matches : IsStill g a → SinksMatch g w (counts_of a g) outlook (λ k. ended_there (a.nodes k))
+    matches still = all_match node_row (node_law sources drains) node_asking node_moves sink_ended (FirstOf sources) g w a run.joined run.keeps run.made hears (λ k n. node_picture sources drains g w k n) outlook still (λ k. ended_there (a.nodes k)) (λ k x e. ap ended_there e)

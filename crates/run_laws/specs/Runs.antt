@@ -1,0 +1,14 @@
+-- What the run of a blueprint leaves, at any moment from its start to its end.
+use Rattle.stream_model.specs.Graph.{Graph}
+use Rattle.stream_picture.specs.Joined.{IsJoined}
+use Rattle.stream_io.specs.State.{SourceState, DrainState}
+use Rattle.nodes.specs.declared.node.Node.{Node}
+use Rattle.nodes.specs.Nodes.{node_row, node_law, node_asking, node_moves}
+use Rattle.run_account.specs.Account.{Account, KeepsLaws, AllMade}
+use Rattle.run_laws.specs.Made.{FirstOf}
+
+-- The ports of the blueprint are joined; its nodes and wires keep their laws; and its nodes were handed in as it names them.
+pub record IsRun {S D : Type 0} (sources : S → SourceState) (drains : D → DrainState) (g : Graph) (a : Account (Node S D)) : Type 0 where
+  pub joined : IsJoined g
+  pub keeps : KeepsLaws node_row (node_law sources drains) node_asking node_moves g a
+  pub made : AllMade (FirstOf sources) g a

@@ -17,7 +17,7 @@ use Rattle.stream_model.specs.Graph.{Graph, Wire, find_wire}
 use Rattle.stream_model.specs.Graph as graph
 use Rattle.stream_model.specs.Node.{World}
 use Rattle.stream_model.specs.Outlook.{Outlook, End}
-use Rattle.stream_model.specs.Composed.{composed, sink_outlook, IsRanked, inputs_of}
+use Rattle.stream_model.specs.Composed.{next, composed, sink_outlook, IsRanked, inputs_of}
 use Rattle.stream_model.proofs.Compositions.{found_first}
 use Rattle.stream_model.specs.Sources.{File, whole_lines}
 use Rattle.stream_picture.specs.Lawful.{IsLawful}
@@ -60,6 +60,7 @@ use Rattle.run_laws.specs.Sinks.{SinkWrote, SentTo, IsSinkAt, IgnoreTells, IsIgn
 use Rattle.run_laws.specs.Reads.{IsSourceAt, ReadsAhead, SentLines}
 use Rattle.blue_core.specs.declared.blueprint.Blueprint.{Blueprint}
 use Rattle.blue_rules.specs.Names.{file_of}
+use Rattle.blue_core.specs.declared.blueprint.ChainDecl.{ChainDecl}
 use Rattle.blue_core.specs.declared.blueprint.Node as blue
 use Rattle.blue_check.specs.Fitness.{IsFit}
 use Rattle.blue_check.specs.Wires.{blueprint_wires}
@@ -72,6 +73,11 @@ use Rattle.materializer.specs.Graphs.{node_of, graph_of}
 use Rattle.materializer.specs.Seats.{links_from}
 use Rattle.run_files.specs.Opening.{AtStart, HoldsNone, OpensAll, GivesUp}
 use Rattle.run_files.specs.Closing.{ClosesAll}
+use Rattle.type_laws.specs.Checked.{plain, plain_chain, PassesRules}
+use Rattle.type_laws.specs.Plugs.{KeepsPlugTypes}
+use Rattle.type_laws.specs.Sent.{SendsItsType}
+use Rattle.blueprint_run.specs.Carrying.{Carries}
+use Rattle.blueprint_run.proofs.Carried.{silent, silent_keeps, carries}
 use Rattle.blueprint_run.specs.Drawing.{Drawn, IsSource, WasRead, IsWorldOf, DrawsFirst}
 use Rattle.blueprint_run.specs.Leaving.{Leaves}
 use Rattle.blueprint_run.specs.Running.{SinkLeaves, IgnoreLeaves, LeavesFiles, WritesOf, Runs, Wants}
@@ -276,7 +282,24 @@ module _ {S D : Type 0} (sources : S → SourceState) (drains : D → DrainState
   abbrev CountsLaw : Type 0
   CountsLaw = (g : Graph) (net : Net (Node S D)) → Settled node_row (node_law sources drains) node_asking node_moves net → Materializes sources g net.firsts net.ends → pictures.counts_of (account_of net) g ≡ map count_of net.wires
 
+  abbrev FitsLaw : Type 0
+  FitsLaw = (b : Blueprint) (plugs : List PlugHead) (taken : List (List ℕ)) (g : Graph) → IsFit b plugs taken → g.nodes ≡ map plain b.nodes.items → g.wires ≡ blueprint_wires b → g.chains ≡ map plain_chain b.chains.items
+      → PassesRules plugs b.chains.items b.nodes.items g
+
+  abbrev TypesLaw : Type 0
+  TypesLaw = (plugs : List PlugHead) (chains : List ChainDecl) (nodes : List blue.Node) (g : Graph) (w : World) (rank : ℕ → ℕ) (a : Account (Node S D)) → IsRun sources drains g a
+      → PassesRules plugs chains nodes g → KeepsPlugTypes plugs w.book → IsRanked g rank
+      → (i : ℕ) (v : Wire) → slice_get g.wires i ≡ Some v → SendsItsType plugs chains nodes g w i v (a.near i).wire.sent
+
+  abbrev GivesLaw : Type 0
+  GivesLaw = (g : Graph) (w : World) (a : Account (Node S D)) → IsRun sources drains g a
+      → (sent : ℕ → Outlook) (j : ℕ) (v : Wire) (n : graph.Node) → slice_get g.wires j ≡ Some v → slice_get g.nodes v.from ≡ Some n → ((name : List ℕ) → n.kind ≢ kind.Lines name)
+      → ((u : ℕ) (x : Wire) → slice_get g.wires u ≡ Some x → x.to ≡ v.from → AgreesWith (sent u) (a.near u).wire.sent) → AgreesWith (next g w sent j) (a.near j).wire.sent
+
   pub record RunLaws : Type 0 where
+    pub fits : FitsLaw
+    pub types : TypesLaw
+    pub gives : GivesLaw
     pub still : StillLaw
     pub counts : CountsLaw
     pub ranked : (b : Blueprint) (plugs : List PlugHead) (taken : List (List ℕ)) → IsFit b plugs taken → (rank : ℕ → ℕ) × IsRanked (graph_of b) rank
@@ -629,6 +652,15 @@ module _ {S D : Type 0} (sources : S → SourceState) (drains : D → DrainState
     | inr never ↦ (other_writes sources drains handles b can ss ds budget st l old mid opens new closes n never)
   ]
 
+  -- what passed each wire is of its type
+  carried : Carries b st.wires.items
+  carried =
+      carries b can st.wires.items (λ u. (left.near u).wire.sent) wire_count
+      (λ plugs taken fit i v at.
+      let ranks = laws.ranked b plugs taken fit in
+      laws.types plugs b.chains.items nodes g silent ranks.0 left run (laws.fits b plugs taken g fit refl refl refl) (silent_keeps plugs) ranks.1 i v at)
+      (λ w sent j v n at is other came. laws.gives g w left run sent j v n at is other came)
+
   pub runs_of : (ran : Ran) → ran.sinks.items ≡ st.end.sinks.items → ran.wires.items ≡ st.wires.items → ran.used ≡ st.used → ran.at_rest ≡ st.at_rest → Runs old new b budget ran
   runs_of ran sinks wires used rest = record {
     sinks_are = ap (map (λ (s : Stand). s.0)) sinks ∙ stands_are sources drains handles b can ss ds budget st l old mid opens;
@@ -665,6 +697,7 @@ module _ {S D : Type 0} (sources : S → SourceState) (drains : D → DrainState
     within = rw used l.stops.within;
     spent = λ h. used ∙ l.stops.spent (sym rest ∙ h);
     pays = rw (wires, used) pays;
+    carries = rw wires carried;
     wired = λ some. sinks_wired (subst (λ (x : List Stand). 1 ≤ length x) sinks some);
   }
 

@@ -6,4 +6,5 @@ pub mod Handles
 pub mod Stopping
 pub mod Units
 pub mod Worlds
+pub mod Carried
 pub mod Closing

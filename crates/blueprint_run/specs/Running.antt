@@ -22,6 +22,7 @@ use Rattle.run_laws.specs.Sinks.{SinkTells, SentTo, IgnoreTells}
 use Rattle.materializer.specs.Graphs.{node_of, graph_of}
 use Rattle.materializer.specs.Files.{output_of, inputs_of_nodes, outputs_of_nodes}
 use Rattle.run_files.specs.Quiet.{Quiet}
+use Rattle.blueprint_run.specs.Carrying.{Carries}
 use Rattle.blueprint_run.specs.Drawing.{Drawn, IsSource, WereRead, IsWorldOf, DrawsFirst}
 use Rattle.blueprint_run.specs.Stands.{Stand, sink_places, has_ended_at, is_write_fault, is_unended}
 use Rattle.blueprint_run.specs.Units.{Pays}
@@ -97,6 +98,7 @@ pub record Runs (old new : FolderState) (b : Blueprint) (budget : ℕ) (ran : Ra
   pub within : ran.used ≤ budget
   pub spent : ran.at_rest ≡ false → ran.used ≡ budget
   pub pays : Pays b ran.wires.items ran.used
+  pub carries : Carries b ran.wires.items
   pub wired : 1 ≤ length ran.sinks.items → 1 ≤ length (blueprint_wires b)
 
 -- memory was wanting before the run or in it: each file of a sink is as it was or empty, no other is changed, and no count rose

@@ -22,13 +22,15 @@ use picture_laws::laws::{a_picture_without_events_rests, every_picture_is_lawful
 use run_files::close::close_all;
 use run_files::open::{OpenEnd, Opened, open_all};
 use run_laws::laws::{
-    an_island_leaves_a_run, every_sink_agrees, every_sink_counts_its_lines, every_sink_writes,
-    every_source_reads_little_ahead, every_wire_agrees,
+    an_island_leaves_a_run, every_node_gives_of_what_came, every_sink_agrees,
+    every_sink_counts_its_lines, every_sink_writes, every_source_reads_little_ahead,
+    every_wire_agrees,
 };
 use std::alloc::{AllocError, Global};
 use stream_io::outside::{Drain, Folder, Source};
 use stream_model::outcome::{EndState, WireCount};
 use stream_picture::laws::polytrees_end;
+use type_laws::laws::{every_wire_carries_its_type, fit_blueprints_pass_the_rules};
 
 /// What a run came to: of each sink, in order of nodes, its node, how many whole lines it wrote and how it stands; what each
 /// wire carried; how many units were used, and whether no event was left.
@@ -119,6 +121,9 @@ fn close<F: Folder>(folder: &mut F, stopped: Stopped<F::Inp, F::Out>) -> Ran
     a_picture_without_events_rests::<F::Inp, F::Out>();
     polytrees_end();
     fit_blueprints_are_whole();
+    fit_blueprints_pass_the_rules();
+    every_wire_carries_its_type::<F::Inp, F::Out>();
+    every_node_gives_of_what_came::<F::Inp, F::Out>();
     parts_are_made_of_their_blueprint::<F::Inp, F::Out>();
     parts_hold_their_files::<F::Inp, F::Out>();
     let Stopped {

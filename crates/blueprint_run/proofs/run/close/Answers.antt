@@ -16,6 +16,9 @@ returns g c = λ old b budget ss ds can opens leaves.
       sink_there = c.every_sink_agrees.ensures.there;
     })
     (record {
+      fits = c.fit_blueprints_pass_the_rules.ensures;
+      types = c.every_wire_carries_its_type.ensures.run;
+      gives = c.every_node_gives_of_what_came.ensures.others;
       still = c.an_island_leaves_a_run.ensures.still;
       counts = c.an_island_leaves_a_run.ensures.counts;
       ranked = c.fit_blueprints_are_whole.ensures.ranked;

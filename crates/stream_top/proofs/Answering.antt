@@ -35,6 +35,7 @@ use Rattle.materializer.specs.Graphs.{graph_of, node_of}
 use Rattle.materializer.specs.Files.{input_of, output_of, is_sink, sinks_of_nodes, inputs_of_nodes, outputs_of_nodes}
 use Rattle.run_files.specs.Quiet.{Quiet, QuietBut}
 use Rattle.run_files.specs.Opening.{MissesInput, RefusesOutput, Empties}
+use Rattle.blueprint_run.specs.Carrying.{Carries}
 use Rattle.blueprint_run.specs.Drawing.{Drawn, IsSource, WasRead, IsWorldOf}
 use Rattle.blueprint_run.specs.Stands.{Stand, sink_places, is_write_fault, is_unended, is_failed}
 use Rattle.blueprint_run.specs.Units.{Pays}
@@ -257,6 +258,9 @@ module _ (b : Blueprint) (ran : Ran) (turns : ℕ) (a : Answer) (old new : Folde
   pays : Pays b a.wires a.used
   pays = subst (λ (u : ℕ). Pays b a.wires u) (sym after.used) (subst (λ (w : List WireCount). Pays b w ran.used) (sym after.wires) runs.pays)
 
+  carries : Carries b a.wires
+  carries = subst (λ (w : List WireCount). Carries b w) (sym after.wires) runs.carries
+
   -- some sink stands, so there is a wire, and the units are below the count
   below_count : 1 ≤ length stands → a.used < count_needed (graph_of b) a.wires
   below_count some =
@@ -299,6 +303,7 @@ module _ (b : Blueprint) (ran : Ran) (turns : ℕ) (a : Answer) (old new : Folde
       writes = runs.writes;
       within = subst (λ n. n ≤ turns) (sym after.used) runs.within;
       pays = pays;
+      carries = carries;
       ending = tree_spent ran.at_rest refl;
       enough = tree_enough;
     }
@@ -327,7 +332,7 @@ module _ (b : Blueprint) (ran : Ran) (turns : ℕ) (a : Answer) (old new : Folde
   run_told tells = subst (λ x. EndedRun x a b turns old new) (sym after.status) (told_by (list_any (λ (s : Stand). is_write_fault s.2) stands) (list_any (λ (s : Stand). is_unended s.2) stands) (list_any (λ (s : Stand). is_failed s.2) stands) ran.at_rest refl refl refl refl tells)
 
   wrote : SinksWrote old new b a
-  wrote = record { stands = stands; stands_are = runs.sinks_are; sinks = told; writes = runs.writes }
+  wrote = record { stands = stands; stands_are = runs.sinks_are; sinks = told; writes = runs.writes; carries = carries }
 
   causes_by : (f u d rest : Bool) → list_any (λ (s : Stand). is_write_fault s.2) stands ≡ f → RunCauses (if f then status.WriteFault else (if u then (if rest then status.Stalled else status.OutOfTurns) else (if d then status.StreamFailed else status.Done))) a b old new
   causes_by true u d rest p = (runs.refusals, runs.reads, some_rose p, runs.other_writes, wrote)
@@ -519,6 +524,7 @@ module _ (old mid new : FolderState) (file t : List ℕ) (r : ReadsFile old mid 
       writes = λ i s n f at here shape. writes_later s.2 (old.wfaults f) (mid.wfaults f) (new.wfaults f) (r.wfaults f) (ran.writes i s n f at here shape);
       within = ran.within;
       pays = ran.pays;
+      carries = ran.carries;
       ending = ran.ending;
       enough = λ tree w is suffices i s n f at here shape fails calm. ran.enough tree w is suffices i s n f at here shape fails (λ rose. calm (rose_later (old.wfaults f) (mid.wfaults f) (new.wfaults f) (r.wfaults f) rose));
     }
@@ -574,6 +580,7 @@ module _ (old mid new : FolderState) (file t : List ℕ) (r : ReadsFile old mid 
     stands_are = w.stands_are;
     sinks = w.sinks;
     writes = λ i s n f at here shape. writes_later s.2 (old.wfaults f) (mid.wfaults f) (new.wfaults f) (r.wfaults f) (w.writes i s n f at here shape);
+    carries = w.carries;
   }
 
   misses_later : (n : List ℕ) → MissesFile mid new b n → MissesFile old new b n

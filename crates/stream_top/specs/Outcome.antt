@@ -21,6 +21,7 @@ use Rattle.materializer.specs.Files.{output_of, inputs_of_nodes, outputs_of_node
 use Rattle.materializer.specs.Graphs.{graph_of, node_of}
 use Rattle.run_files.specs.Quiet.{Quiet, QuietBut}
 use Rattle.run_files.specs.Opening.{Empties}
+use Rattle.blueprint_run.specs.Carrying.{Carries}
 use Rattle.blueprint_run.specs.Drawing.{Drawn, IsWorldOf}
 use Rattle.blueprint_run.specs.Stands.{Stand, sink_places, is_write_fault, is_unended, is_failed}
 use Rattle.blueprint_run.specs.Units.{Pays}
@@ -60,7 +61,8 @@ pub record RanNothing (old new : FolderState) (a : Answer) : Type 0 where
   pub blank : Blank a
 
 -- The blueprint was run, by so many units at most, and its sinks stand so; the files are left as a run leaves them. No event was
--- left where it stalled or used fewer units. The units pay for what passed the wires. In a polytree a sink has not ended only
+-- left where it stalled or used fewer units. The units pay for what passed the wires, and each wire carried only elements of its
+-- type. In a polytree a sink has not ended only
 -- where the units were used up; and where they suffice for all that may pass, each sink of whose outlook no failure is part has
 -- ended, unless a write to its file failed.
 pub record RanTo (old new : FolderState) (b : Blueprint) (turns : ℕ) (a : Answer) : Type 0 where
@@ -71,6 +73,7 @@ pub record RanTo (old new : FolderState) (b : Blueprint) (turns : ℕ) (a : Answ
   pub writes : (i : ℕ) (s : Stand) (n : Node) (file : List ℕ) → slice_get stands i ≡ Some s → slice_get b.nodes.items s.0 ≡ Some n → output_of n.kind ≡ Some file → WritesOf s.2 (old.wfaults file) (new.wfaults file)
   pub within : a.used ≤ turns
   pub pays : Pays b a.wires a.used
+  pub carries : Carries b a.wires
   pub ending : IsPolytree (wiring (blueprint_wires b)) → some_unended a.sinks ≡ true → a.used ≡ turns
   pub enough : IsPolytree (wiring (blueprint_wires b)) → (w : World) → IsWorldOf b.nodes.items leaves.drawn w → need (graph_of b) (composed (graph_of b) w) ≤ turns
       → (i : ℕ) (s : Stand) (n : Node) (file : List ℕ) → slice_get stands i ≡ Some s → slice_get b.nodes.items s.0 ≡ Some n → output_of n.kind ≡ Some file
@@ -149,12 +152,14 @@ QuietAmong names old new = (n : List ℕ) → Contains names n → Grew (old n) 
 abbrev pub MissesFile : FolderState → FolderState → Blueprint → List ℕ → Type 0
 MissesFile old new b n = (Contains (inputs_of_nodes b.nodes.items) n × IsAbsent old new n) ⊎ (Contains (outputs_of_nodes b.nodes.items) n × Rose (old.refusals n) (new.refusals n))
 
--- the sinks of a run stand so, and the count of failed writes of a sink's file rose exactly where that sink stands at a failed write
+-- The sinks of a run stand so, and the count of failed writes of a sink's file rose exactly where that sink stands at a failed
+-- write. Each wire carried only elements of its type, also where the folder tells nothing.
 pub record SinksWrote (old new : FolderState) (b : Blueprint) (a : Answer) : Type 0 where
   pub stands : List Stand
   pub stands_are : map (λ (s : Stand). s.0) stands ≡ sink_places 0 b.nodes.items
   pub sinks : a.sinks ≡ told_ends b.nodes.items stands
   pub writes : (i : ℕ) (s : Stand) (n : Node) (file : List ℕ) → slice_get stands i ≡ Some s → slice_get b.nodes.items s.0 ≡ Some n → output_of n.kind ≡ Some file → WritesOf s.2 (old.wfaults file) (new.wfaults file)
+  pub carries : Carries b a.wires
 
 -- which counts a run raised: of failed reads at most those of its inputs, and of failed writes those of its outputs, each exactly
 -- where its sink stands at a failed write

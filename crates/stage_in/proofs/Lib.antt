@@ -1,6 +1,7 @@
 pub mod Queues
 pub mod Steps
 pub mod Seats
+pub mod Links
 pub mod Waits
 pub mod Rounds
 pub mod Takes
@@ -11,4 +12,3 @@ pub mod Rests
 pub mod Histories
 pub mod Nodes
 pub mod Begun
-pub mod Trials

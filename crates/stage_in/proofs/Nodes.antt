@@ -1,6 +1,6 @@
 -- The stages with several inputs as nodes: where they are open, what they know between calls, and how calls keep their law.
 use Rattle.std.specs.Prelude.{slice_index_or}
-use Rattle.std.proofs.Common.{◌≡◌, ℕ, zero, suc, ◌+◌, Bool, true, false, List, [], ◌∷◌, length, refl, sym, ap, ◌∙◌, subst, arith, None}
+use Rattle.std.proofs.Common.{◌≡◌, ℕ, zero, suc, ◌+◌, ◌≤◌, Bool, true, false, List, [], ◌∷◌, length, refl, sym, ap, ◌∙◌, subst, arith, None}
 use Rattle.elem_core.specs.Tree.{Tree}
 use Rattle.elem_core.specs.declared.item.Item.{Item}
 use Rattle.elem_core.specs.declared.item.Item.TheVariants as item
@@ -11,12 +11,12 @@ use Rattle.port_core.specs.declared.view.OutView.{OutView}
 use Rattle.port_core.specs.declared.view.OutView.TheVariants.{Unasked, Asked, Shut, Refused}
 use Rattle.port_core.specs.View.{View, in_at, IsInOpen, IsOutOpen, ActsAllowed, acted_all}
 use Rattle.port_core.specs.Asking.{AsksStand}
-use Rattle.port_core.specs.Call.{AllIdle, AllUnasked, MayCome, Call, starts, asks, brings, cancels, CallAllowed, seen, Obeys, given_on}
+use Rattle.port_core.specs.Call.{AllIdle, AllUnasked, MayCome, Call, starts, asks, brings, cancels, CallAllowed, Meets, seen, Obeys, given_on}
 use Rattle.stream_model.specs.Outlook.{End, unended}
 use Rattle.stream_model.specs.FanIn.{Inflow}
 use Rattle.stream_picture.specs.View as picture
 use Rattle.stream_picture.specs.Rests.{SortedRests, ZipRests}
-use Rattle.stage_core.specs.Handling.{Starts, Handles}
+use Rattle.stage_core.specs.Handling.{most_acts, Starts, Handles}
 use Rattle.stage_core.specs.Histories.{given_all, brought_by, AllEmpty}
 use Rattle.stage_law.specs.Law.{GaveAs}
 use Rattle.stage_law.specs.Inflows.{PortsLaw, nothing, untouched}
@@ -39,7 +39,7 @@ use Rattle.stage_in.specs.Takings.{Taking}
 use Rattle.stage_in.specs.Sortings as sorted
 use Rattle.stage_in.specs.Zippings as zipping
 use Rattle.stage_in.specs.OwnRows.{FanRests}
-use Rattle.stage_in.specs.Logics.{IsNew, IsOpen, IsStarted, row, Turned, InPortsLaw, InFresh, InRow, InLaw, KindRests}
+use Rattle.stage_in.specs.Logics.{IsNew, IsOpen, IsStarted, room_of, row, Turned, InPortsLaw, InFresh, InRow, InLaw, KindRests}
 use Rattle.stage_in.proofs.Rests.{closed_rests, taking_rests, sorting_rests, zipping_rests}
 use Rattle.stage_in.proofs.Histories.{ports_as, fan_node, zip_node}
 
@@ -67,25 +67,54 @@ comes_open (item.Elem e) p h = subst IsInOpen (sym h) tt
 comes_open item.Ended p h = h
 comes_open (item.Failed c) p h = h
 
-not_called : (c : Call) (v : View) → (c ≡ starts → ⊥) → CallAllowed c v → FanClosed v → ⊥
-not_called starts v n m h = n refl
-not_called (asks j) v n m h = closed_out v.outs j h.1 (subst IsOutOpen (sym m) tt)
-not_called (brings i x) v n m h = closed_in v.ins i h.0 (comes_open x (in_at v i) m)
-not_called (cancels j) v n m h = closed_out v.outs j h.1 m
+closed_unasked : (ys : List OutView) → OneClosed ys → AllUnasked ys → ⊥
+closed_unasked [] h a = h
+closed_unasked (Unasked ∷ []) h a = h
+closed_unasked (Asked ∷ []) h a = h
+closed_unasked (Shut ∷ []) h a = let x : Shut ≡ Unasked = a.0 in cc
+closed_unasked (Refused ∷ []) h a = let x : Refused ≡ Unasked = a.0 in cc
+closed_unasked (y ∷ z ∷ ys) h a = h
+
+none_called : (c : Call) (v : View) → CallAllowed c v → FanClosed v → ⊥
+none_called starts v m h = closed_unasked v.outs h.1 m.1
+none_called (asks j) v m h = closed_out v.outs j h.1 (subst IsOutOpen (sym m) tt)
+none_called (brings i x) v m h = closed_in v.ins i h.0 (comes_open x (in_at v i) m)
+none_called (cancels j) v m h = closed_out v.outs j h.1 m
 
 open_taking : (l : Taking) (c : Call) (v : View) (b : Bool) → l.live ≡ b → (c ≡ starts → ⊥) → CallAllowed c v → taking.row_by b l v → l.live ≡ true
 open_taking l c v true e n m r = e
-open_taking l c v false e n m r = absurd (not_called c v n m r)
+open_taking l c v false e n m r = absurd (none_called c v m r)
 
 open_pairing : (Sound : Pairing → Type 0) (l : Pairing) (c : Call) (v : View) (p : Phase) → l.phase ≡ p → (l.phase ≡ New → ⊥) → (c ≡ starts → ⊥) → CallAllowed c v → row_by Sound p l v → l.phase ≡ Open
 open_pairing Sound l c v New e s n m r = absurd (s e)
 open_pairing Sound l c v Open e s n m r = e
-open_pairing Sound l c v Closed e s n m r = absurd (not_called c v n m r)
+open_pairing Sound l c v Closed e s n m r = absurd (none_called c v m r)
 
 pub called_open : (l : InLogic) (c : Call) (v : View) → IsStarted l → (c ≡ starts → ⊥) → CallAllowed c v → row l v → IsOpen l
 called_open (logic.Taking l) c v s n m r = open_taking l c v l.live refl n m r
 called_open (logic.Sorting l) c v s n m r = open_pairing sorted.Sound l c v l.phase refl s n m r
 called_open (logic.Zipping l) c v s n m r = open_pairing zipping.Sound l c v l.phase refl s n m r
+
+-- the same of a call of each kind
+module _ (c : Call) (n : c ≡ starts → ⊥) (whole : InLogic) (s : IsStarted whole) (m : Meets c (row whole)) where
+  pub taking_open : (l : Taking) → whole ≡ logic.Taking l → l.live ≡ true
+  taking_open l is = called_open (logic.Taking l) c m.0 tt n m.1.0 (subst (λ x. row x m.0) is m.1.1)
+
+  pub sorting_open : (l : Pairing) → whole ≡ logic.Sorting l → l.phase ≡ Open
+  sorting_open l is = called_open (logic.Sorting l) c m.0 (subst IsStarted is s) n m.1.0 (subst (λ x. row x m.0) is m.1.1)
+
+  pub zipping_open : (l : Pairing) → whole ≡ logic.Zipping l → l.phase ≡ Open
+  zipping_open l is = called_open (logic.Zipping l) c m.0 (subst IsStarted is s) n m.1.0 (subst (λ x. row x m.0) is m.1.1)
+
+-- two actions for each port are few
+pub called_fits : (l : InLogic) (c : Call) (v : View) → CallAllowed c v → row l v → room_of l ≤ most_acts
+called_fits (logic.Taking l) c v m r = by_live l.live r
+  where
+    by_live : (b : Bool) → taking.row_by b l v → room_of (logic.Taking l) ≤ most_acts
+    by_live true r = let few : length l.over ≤ 16 = r.1.few in omega (arith, few)
+    by_live false r = absurd (none_called c v m r)
+called_fits (logic.Sorting l) c v m r = omega arith
+called_fits (logic.Zipping l) c v m r = omega arith
 
 -- ---- between two calls
 

@@ -24,10 +24,11 @@ use Rattle.stage_law.specs.Fans.{Place, AllFew, elements, fan_gives, FanTurn, Fa
 use Rattle.stage_law.proofs.Inflows.{joined_all-nothing}
 use Rattle.stage_in.specs.Kinds.{taking_by}
 use Rattle.stage_in.specs.Seats.{seat, seats, wish, open_cancels, InsClosed, OneClosed, FanClosed, none_of}
-use Rattle.stage_in.specs.Takings.{Begins, Taking, place_of, OverBetween, AllOverBut, InOrder, IsNext, view_of, Sound, row_by, row, Turned, Counted, fresh_left, WentOn, goes_on, ends, Does, Passed, without, Finished, another, current}
+use Rattle.stage_in.specs.Takings.{Begins, Taking, place_of, OverBetween, AllOverBut, InOrder, IsNext, view_of, Sound, row_by, row, Turned, Counted, fresh_left, WentOn, goes_on, ends, Does, Passed, without, failed_by, relinked, Linked, Finished, another, current}
 use Rattle.stage_in.proofs.Seats.{ended_seat, waits_current, open_seat, unmarked, all_cancelled, idle_seat, marked_now, over_now, all_over_closed, set_here, set_other, set_keeps, cancels_give, cancels_stand}
 use Rattle.stage_in.proofs.Steps.{FirstOf, element_given, none_given}
 use Rattle.stage_in.proofs.Waits.{came_end, came_first, used_at, none_waits, uses_none, uses_came, none_few, length-outlooks, all_ended, failed_at}
+use Rattle.stage_in.proofs.Links.{relinks, ring_linked}
 use Rattle.stage_in.proofs.Rounds.{counted_same, passed_same}
 
 -- ---- turns
@@ -136,7 +137,7 @@ asked_here old new acts h does = rw (does.to_is, does.acts_are) (record {
       let ins : slice_set (seats 0 old.over old.current old.asked) old.current Waiting ≡ seats 0 old.over old.current true = marked_now old.current old.over old.asked true sound.here in
       record {
         allowed = (at, tt);
-        row_then = is_standing (record old { asked = true }) (acted_all (seen (asks 0) (view_of old)) (Pull old.current ∷ [])) h (ap (λ (xs : List InView). record { ins = xs; outs = Asked ∷ [] }) ins) (record { here = sound.here; order = sound.order; few = sound.few });
+        row_then = is_standing (record old { asked = true }) (acted_all (seen (asks 0) (view_of old)) (Pull old.current ∷ [])) h (ap (λ (xs : List InView). record { ins = xs; outs = Asked ∷ [] }) ins) (record { here = sound.here; order = sound.order; few = sound.few; linked = sound.linked });
       });
   gives = record { turn = rw h (quiet_turn old.segment (place_of old) old.over); segment = refl; inputs = refl; stands = (tt, tt) };
 })
@@ -169,7 +170,7 @@ passed_on old new e h sound on counted =
       ports = obeys (brings old.current (item.Elem e)) old to (Push 0 e ∷ []) h (λ may s. record {
         allowed = (ap wish on, tt);
         row_then = is_standing to (acted_all (seen (brings old.current (item.Elem e)) (view_of old)) (Push 0 e ∷ [])) h (ap (λ (xs : List InView). record { ins = xs; outs = Unasked ∷ [] }) ins)
-            (record { here = counted_here old.segment old new counted sound.here; order = counted_order old.segment old new counted sound.order; few = sound.few });
+            (record { here = counted_here old.segment old new counted sound.here; order = counted_order old.segment old new counted sound.order; few = sound.few; linked = sound.linked });
       });
       gives = record { turn = rw h (element_turn old.segment old new e sound.here counted); segment = refl; inputs = refl; stands = tt };
     }
@@ -210,6 +211,9 @@ module _ (old : Taking) (port : ℕ) (h : old.live ≡ true) (sound : Sound old)
   waited_ends : joined_all 0 (none_of old.over) (coming (brings port item.Ended)) ≡ none_of over
   waited_ends = let z : 0 + port ≡ port = omega arith in let r = came_end 0 port old.over open_port in rw z at r
 
+  linked_then : Linked over (relinked port old.next)
+  linked_then = relinks old.over port (slice_get_within old.over port false open_port) old.next sound.linked
+
   few_then : length over ≤ 16
   few_then = let l = length-set old.over port true in let k = sound.few in omega (arith, l, k)
 
@@ -222,7 +226,7 @@ module _ (old : Taking) (port : ℕ) (h : old.live ≡ true) (sound : Sound old)
     ports = obeys (brings port item.Ended) old (without port old) [] h (λ may s. record {
       allowed = tt;
       row_then = is_standing (without port old) (seen (brings port item.Ended) (view_of old)) h (ap (λ (xs : List InView). record { ins = xs; outs = wish old.asked ∷ [] }) (ended_seat 0 old.current port old.over old.asked))
-          (record { here = set_other old.over port old.current n ∙ sound.here; order = order_kept old.segment old.current sound.order; few = few_then });
+          (record { here = set_other old.over port old.current n ∙ sound.here; order = order_kept old.segment old.current sound.order; few = few_then; linked = linked_then });
     });
     gives = record { turn = rw h (moved_turn old.segment (place_of old) (place_of old) over (joined_all 0 (none_of old.over) (coming (brings port item.Ended))) waited_ends (λ more. refl)); segment = refl; inputs = length-set old.over port true; stands = tt };
   }
@@ -257,14 +261,14 @@ module _ (old : Taking) (port : ℕ) (h : old.live ≡ true) (sound : Sound old)
         record {
           allowed = (at, tt);
           row_then = is_standing (record (without port old) { current = d; left = fresh_left old.segment }) (acted_all (seen (brings port item.Ended) (view_of old)) (Pull d ∷ [])) h (ap (λ (xs : List InView). record { ins = xs; outs = wish old.asked ∷ [] }) ins)
-              (record { here = n.here; order = order_next old.segment d sound.order n; few = few_then });
+              (record { here = n.here; order = order_next old.segment d sound.order n; few = few_then; linked = linked_then });
         }
     next_row d false e n =
         let ins : slice_set (seats 0 old.over old.current old.asked) port Over ≡ seats 0 over d old.asked = seats_then ∙ over_now old.current d over old.asked gone ∙ ap (λ b. seats 0 over d b) (sym e) in
         record {
           allowed = tt;
           row_then = is_standing (record (without port old) { current = d; left = fresh_left old.segment }) (seen (brings port item.Ended) (view_of old)) h (ap (λ (xs : List InView). record { ins = xs; outs = wish old.asked ∷ [] }) ins)
-              (record { here = n.here; order = order_next old.segment d sound.order n; few = few_then });
+              (record { here = n.here; order = order_next old.segment d sound.order n; few = few_then; linked = linked_then });
         }
 
     nothing_given : (b : Bool) (d : ℕ) → given_on 0 (if b then Pull d ∷ [] else []) ≡ []
@@ -320,7 +324,7 @@ module _ (old : Taking) (port : ℕ) (h : old.live ≡ true) (sound : Sound old)
 
   -- ---- a failure
 
-  failed_here : (c : Cause) → Handled (brings port (item.Failed c)) old (FailOut 0 c ∷ open_cancels 0 over) (record (without port old) { live = false })
+  failed_here : (c : Cause) → Handled (brings port (item.Failed c)) old (FailOut 0 c ∷ open_cancels 0 over) (failed_by port old)
   failed_here c =
       let z : 0 + port ≡ port = omega arith in
       let at : slice_get (joined_all 0 (none_of old.over) (coming (brings port (item.Failed c)))) port ≡ Some (record { list = []; end = failed c }) = (let r = failed_at 0 port c old.over open_port in rw z at r) in
@@ -329,7 +333,7 @@ module _ (old : Taking) (port : ℕ) (h : old.live ≡ true) (sound : Sound old)
       let close : FanClose (taking_by old.segment) (place_of old) (joined_all 0 (none_of old.over) (coming (brings port (item.Failed c)))) (item.Failed c ∷ []) = fails port (record { list = []; end = failed c }) c at refl few refl in
       let r = all_cancelled over old.current old.asked (Shut ∷ []) in
       record {
-        ports = obeys (brings port (item.Failed c)) old (record (without port old) { live = false }) (FailOut 0 c ∷ open_cancels 0 over) h (λ may s. record {
+        ports = obeys (brings port (item.Failed c)) old (failed_by port old) (FailOut 0 c ∷ open_cancels 0 over) h (λ may s. record {
           allowed = (open_wish old.asked, subst (λ (xs : List InView). ActsAllowed (record { ins = xs; outs = Shut ∷ [] }) (open_cancels 0 over)) (sym (ended_seat 0 old.current port old.over old.asked)) r.allowed);
           row_then = subst (λ (xs : List InView). FanClosed (acted_all (record { ins = xs; outs = Shut ∷ [] }) (open_cancels 0 over))) (sym (ended_seat 0 old.current port old.over old.asked)) (r.closed, subst (λ (ys : List OutView). OneClosed ys) (sym r.outs) tt);
         });
@@ -342,7 +346,7 @@ finished old new acts port h m f =
     finished_by old port h s.sound (open_seat 0 old.current port old.over old.asked s.may) new acts f
 
 pub failed_on : (old new : Taking) (acts : List Act) (port : ℕ) (c : Cause) → old.live ≡ true → Meets (brings port (item.Failed c)) (row old)
-    → Does new acts (record (without port old) { live = false }) (FailOut 0 c ∷ open_cancels 0 (slice_set old.over port true)) → Handled (brings port (item.Failed c)) old acts new
+    → Does new acts (failed_by port old) (FailOut 0 c ∷ open_cancels 0 (slice_set old.over port true)) → Handled (brings port (item.Failed c)) old acts new
 failed_on old new acts port c h m does =
     let s = found (brings port (item.Failed c)) old h m in
     rw (does.to_is, does.acts_are) (failed_here old port h s.sound (open_seat 0 old.current port old.over old.asked s.may) c)
@@ -392,4 +396,4 @@ new_row inputs segment l two few b =
     let long : length l.over ≡ inputs = ap length b.over ∙ length-flags inputs in
     let c : l.current ≡ 0 = b.current in
     let is : view_of l ≡ record { ins = replicate inputs Idle; outs = Unasked ∷ [] } = ap (λ (xs : List InView). record { ins = xs; outs = wish l.asked ∷ [] }) ins ∙ ap (λ a. record { ins = replicate inputs Idle; outs = wish a ∷ [] }) b.unasked in
-    is_standing l (record { ins = replicate inputs Idle; outs = Unasked ∷ [] }) b.live (sym is) (record { here = here; order = rw c (no_order l.segment l.over); few = omega (arith, long, few) })
+    is_standing l (record { ins = replicate inputs Idle; outs = Unasked ∷ [] }) b.live (sym is) (record { here = here; order = rw c (no_order l.segment l.over); few = omega (arith, long, few); linked = subst (λ o. Linked o l.next) (sym b.over) (ring_linked inputs l.next b.ring) })

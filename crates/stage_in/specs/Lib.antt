@@ -6,4 +6,3 @@ pub mod Zippings
 pub mod Sortings
 pub mod OwnRows
 pub mod Logics
-pub mod Ready

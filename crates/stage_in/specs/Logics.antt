@@ -22,6 +22,7 @@ use Rattle.stage_in.specs.declared.phase.Phase.TheVariants.{New, Open}
 use Rattle.stage_in.specs.declared.logic.InLogic.{InLogic}
 use Rattle.stage_in.specs.declared.logic.InLogic.TheVariants as logic
 use Rattle.stage_in.specs.Kinds.{taking_by, sorting}
+use Rattle.stage_in.specs.Seats.{room_for}
 use Rattle.stage_in.specs.Takings as taking
 use Rattle.stage_in.specs.Sortings as sorted
 use Rattle.stage_in.specs.Zippings as zipping
@@ -70,6 +71,12 @@ abbrev pub IsStarted : InLogic → Type 0
 IsStarted (logic.Taking l) = ⊤
 IsStarted (logic.Sorting l) = l.phase ≢ New
 IsStarted (logic.Zipping l) = l.phase ≢ New
+
+-- the most actions that one of its calls appends
+abbrev pub room_of : InLogic → ℕ
+room_of (logic.Taking l) = room_for (length l.over)
+room_of (logic.Sorting l) = room_for 2
+room_of (logic.Zipping l) = room_for 2
 
 -- what it knows of its ports
 abbrev pub row : InLogic → port.View → Type 0

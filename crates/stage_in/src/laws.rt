@@ -1,5 +1,5 @@
 // Laws of the stages with several inputs: each function has no body, and its contract is the law.
-ghost use Rattle.std.specs.Prelude.{◌≡◌, ◌≢◌, ℕ, List, length};
+ghost use Rattle.std.specs.Prelude.{◌≡◌, ◌≢◌, ◌≤◌, ℕ, List, length};
 ghost use Rattle.elem_core.specs.declared.item.Item.{Item};
 ghost use Rattle.elem_core.specs.declared.why.Decider.{Decider};
 ghost use Rattle.port_core.specs.declared.act.Act.{Act};
@@ -10,9 +10,9 @@ ghost use Rattle.stream_model.specs.Graph.{Graph};
 ghost use Rattle.stream_model.specs.Node.{World, node_outlook};
 ghost use Rattle.stream_model.specs.Outlook.{Outlook, Agrees};
 ghost use Rattle.stream_model.specs.FanIn.{AllAgree};
-ghost use Rattle.stage_core.specs.Handling.{Starts, Handles};
+ghost use Rattle.stage_core.specs.Handling.{Starts, Handles, most_acts};
 ghost use Rattle.stage_in.specs.declared.logic.InLogic.{InLogic};
-ghost use Rattle.stage_in.specs.Logics.{Begins, IsNew, IsOpen, IsStarted, InFresh, InLaw, InRow, KindRests, Turned, inputs_of, row};
+ghost use Rattle.stage_in.specs.Logics.{Begins, IsNew, IsOpen, IsStarted, InFresh, InLaw, InRow, KindRests, Turned, inputs_of, room_of, row};
 ghost use Rattle.stage_in.specs.OwnRows.{FanRests};
 
 /// Where its row and its law hold, a stage that was started has closed all its ports, or has nothing to do.
@@ -23,6 +23,12 @@ pub fn a_started_stage_rests()
 /// Where the port rules allow a call of a handler and the row holds, a stage that was started is open.
 pub fn a_called_stage_is_open()
     ensures { (l : InLogic) (call : Call) (v : View) → IsStarted l → call ≢ starts → CallAllowed call v → row l v → IsOpen l }
+{}
+
+/// Where the port rules allow a call of a handler and the row holds, the room that the call wants is within what every stage
+/// is given.
+pub fn a_call_wants_little_room()
+    ensures { (l : InLogic) (call : Call) (v : View) → CallAllowed call v → row l v → room_of l ≤ most_acts }
 {}
 
 /// What a handler owes to the port rules and to the law is all that is asked of a stage: its start begins the law of its

@@ -7,6 +7,4 @@ pub mod logic;
 pub mod phase;
 pub mod sorting;
 pub mod taking;
-#[cfg(test)]
-mod tests;
 pub mod zipping;

@@ -1,8 +1,7 @@
 ghost use Rattle.std.specs.Prelude.{◌≡◌, ◌≤◌, [], OnOk, OnErr, IfOk, IsOk};
 ghost use Rattle.elem_core.specs.declared.item.Item.TheVariants as item;
 ghost use Rattle.port_core.specs.Call.{Obeys, Meets, starts, asks, brings, cancels};
-ghost use Rattle.stage_core.specs.Handling.{most_acts};
-ghost use Rattle.stage_in.specs.Logics.{Begins, IsFanIn, IsNew, IsOpen, TakesNone, row, Turned};
+ghost use Rattle.stage_in.specs.Logics.{Begins, IsFanIn, IsNew, IsStarted, TakesNone, room_of, row, Turned};
 
 use crate::sorting::Sorting;
 use crate::taking::Taking;
@@ -14,7 +13,8 @@ use port_core::pick_log::PickLog;
 use std::alloc::Global;
 use stream_model::kind::Kind;
 
-/// The logic of a stage with several inputs and one output. Rule: Akka Streams 2.6 reference.
+/// The logic of a stage with several inputs and one output. Once it was started, a call wants room for two actions for each
+/// port, of which the stage has its inputs and one output. Rule: Akka Streams 2.6 reference.
 #[derive(Drop)]
 pub enum InLogic {
     /// A concat or an interleave.
@@ -28,7 +28,7 @@ pub enum InLogic {
 impl InLogic {
     /// The logic of node `stage`, which is of one of these kinds: a concat or an interleave of 2 to `MAX_FAN` inputs, the
     /// latter by segments of 1 to 4,000,000,000 elements, a merge_sorted or a zip. It has no decider, for it calls no
-    /// function. It takes memory for one flag an input.
+    /// function. It takes memory for two bytes an input.
     pub fn new(alloc: Global, stage: u32, kind: Kind, decider: Decider) -> Result<InLogic, NoMemory>
         requires { IsFanIn kind }
         ensures { IfOk result (Begins stage kind decider) }
@@ -51,7 +51,7 @@ impl InLogic {
         requires fresh { IsNew self.old }
         requires meets { Meets starts (row self.old) }
         requires empty { acts.old.items ≡ [] }
-        requires room { most_acts ≤ acts.old.room }
+        requires room { room_of self.old ≤ acts.old.room }
         ensures answers { IsOk result }
         ensures ports { OnOk result (Obeys starts (row self.old) (row self.new) acts.new.items) }
         ensures gives { OnOk result (Turned starts self.old acts.new.items self.new) }
@@ -72,10 +72,10 @@ impl InLogic {
         e: Elem,
         acts: &mut Acts,
     ) -> Result<(), NoMemory>
-        requires open { IsOpen self.old }
+        requires started { IsStarted self.old }
         requires meets { Meets (brings port (item.Elem e)) (row self.old) }
         requires empty { acts.old.items ≡ [] }
-        requires room { most_acts ≤ acts.old.room }
+        requires room { room_of self.old ≤ acts.old.room }
         ensures answers { TakesNone self.old → IsOk result }
         ensures ports { OnOk result (Obeys (brings port (item.Elem e)) (row self.old) (row self.new) acts.new.items) }
         ensures gives { OnOk result (Turned (brings port (item.Elem e)) self.old acts.new.items self.new) }
@@ -90,11 +90,11 @@ impl InLogic {
 
     /// The output was asked. A zip takes memory where it gives a pair, and no other stage takes any.
     pub fn on_pull(&mut self, alloc: Global, port: u8, acts: &mut Acts) -> Result<(), NoMemory>
-        requires open { IsOpen self.old }
+        requires started { IsStarted self.old }
         requires port { port ≡ 0 }
         requires meets { Meets (asks 0) (row self.old) }
         requires empty { acts.old.items ≡ [] }
-        requires room { most_acts ≤ acts.old.room }
+        requires room { room_of self.old ≤ acts.old.room }
         ensures answers { TakesNone self.old → IsOk result }
         ensures ports { OnOk result (Obeys (asks 0) (row self.old) (row self.new) acts.new.items) }
         ensures gives { OnOk result (Turned (asks 0) self.old acts.new.items self.new) }
@@ -110,10 +110,10 @@ impl InLogic {
 
     /// An input has ended.
     pub fn on_finish(&mut self, port: u8, acts: &mut Acts) -> Result<(), NoMemory>
-        requires open { IsOpen self.old }
+        requires started { IsStarted self.old }
         requires meets { Meets (brings port item.Ended) (row self.old) }
         requires empty { acts.old.items ≡ [] }
-        requires room { most_acts ≤ acts.old.room }
+        requires room { room_of self.old ≤ acts.old.room }
         ensures answers { IsOk result }
         ensures ports { OnOk result (Obeys (brings port item.Ended) (row self.old) (row self.new) acts.new.items) }
         ensures gives { OnOk result (Turned (brings port item.Ended) self.old acts.new.items self.new) }
@@ -128,10 +128,10 @@ impl InLogic {
 
     /// An input has failed, which fails the stage: its other inputs are cancelled, and what waits is dropped.
     pub fn on_fail(&mut self, port: u8, cause: Cause, acts: &mut Acts) -> Result<(), NoMemory>
-        requires open { IsOpen self.old }
+        requires started { IsStarted self.old }
         requires meets { Meets (brings port (item.Failed cause)) (row self.old) }
         requires empty { acts.old.items ≡ [] }
-        requires room { most_acts ≤ acts.old.room }
+        requires room { room_of self.old ≤ acts.old.room }
         ensures answers { IsOk result }
         ensures ports { OnOk result (Obeys (brings port (item.Failed cause)) (row self.old) (row self.new) acts.new.items) }
         ensures gives { OnOk result (Turned (brings port (item.Failed cause)) self.old acts.new.items self.new) }
@@ -146,11 +146,11 @@ impl InLogic {
 
     /// The output was cancelled.
     pub fn on_cancel(&mut self, port: u8, acts: &mut Acts) -> Result<(), NoMemory>
-        requires open { IsOpen self.old }
+        requires started { IsStarted self.old }
         requires port { port ≡ 0 }
         requires meets { Meets (cancels 0) (row self.old) }
         requires empty { acts.old.items ≡ [] }
-        requires room { most_acts ≤ acts.old.room }
+        requires room { room_of self.old ≤ acts.old.room }
         ensures answers { IsOk result }
         ensures ports { OnOk result (Obeys (cancels 0) (row self.old) (row self.new) acts.new.items) }
         ensures gives { OnOk result (Turned (cancels 0) self.old acts.new.items self.new) }

@@ -2,8 +2,8 @@ ghost use Rattle.std.specs.Prelude.{◌≡◌, ◌≤◌, ◌<◌, ◌+◌, ◌�
 ghost use Rattle.elem_core.specs.declared.item.Item.TheVariants as item;
 ghost use Rattle.port_core.specs.declared.act.Act.TheVariants as act;
 ghost use Rattle.port_core.specs.Call.{Obeys, Meets, starts, asks, brings, cancels};
-ghost use Rattle.stage_core.specs.Handling.{most_acts};
 ghost use Rattle.stage_in.specs.declared.phase.Phase.TheVariants.{New, Open, Closed};
+ghost use Rattle.stage_in.specs.Seats.{room_for};
 ghost use Rattle.stage_in.specs.Pairings.{Does, new_pair, placed, without, closing};
 ghost use Rattle.stage_in.specs.Sortings.{row, Turned, next_side, is_used_up, held_at, taken, over_at, number, behind, behind_acts, give, give_acts, ended, ended_acts};
 
@@ -30,6 +30,7 @@ pub struct Sorting {
 impl Model for Sorting {
     ghost use Rattle.std.specs.Coded.{codes};
     ghost use Rattle.elem_core.specs.TreeCode.{tree_coded};
+    ghost use Rattle.stage_in.specs.Seats.{room_for};
     ghost use Rattle.stage_in.specs.Pairings.{Pairing};
 
     ghost Value = { Pairing };
@@ -63,7 +64,7 @@ impl Sorting {
         requires new { self.old.phase ≡ New }
         requires meets { Meets starts (row self.old) }
         requires empty { acts.old.items ≡ [] }
-        requires room { most_acts ≤ acts.old.room }
+        requires room { room_for 2 ≤ acts.old.room }
         ensures answers { IsOk result }
         ensures ports { OnOk result (Obeys starts (row self.old) (row self.new) acts.new.items) }
         ensures gives { OnOk result (Turned starts self.old acts.new.items self.new) }
@@ -78,7 +79,7 @@ impl Sorting {
         requires open { self.old.phase ≡ Open }
         requires meets { Meets (asks 0) (row self.old) }
         requires empty { acts.old.items ≡ [] }
-        requires room { most_acts ≤ acts.old.room }
+        requires room { room_for 2 ≤ acts.old.room }
         ensures answers { IsOk result }
         ensures ports { OnOk result (Obeys (asks 0) (row self.old) (row self.new) acts.new.items) }
         ensures gives { OnOk result (Turned (asks 0) self.old acts.new.items self.new) }
@@ -94,7 +95,7 @@ impl Sorting {
         requires open { self.old.phase ≡ Open }
         requires meets { Meets (brings port (item.Elem e)) (row self.old) }
         requires empty { acts.old.items ≡ [] }
-        requires room { most_acts ≤ acts.old.room }
+        requires room { room_for 2 ≤ acts.old.room }
         ensures answers { IsOk result }
         ensures ports { OnOk result (Obeys (brings port (item.Elem e)) (row self.old) (row self.new) acts.new.items) }
         ensures gives { OnOk result (Turned (brings port (item.Elem e)) self.old acts.new.items self.new) }
@@ -110,7 +111,7 @@ impl Sorting {
         requires open { self.old.phase ≡ Open }
         requires meets { Meets (brings port item.Ended) (row self.old) }
         requires empty { acts.old.items ≡ [] }
-        requires room { most_acts ≤ acts.old.room }
+        requires room { room_for 2 ≤ acts.old.room }
         ensures answers { IsOk result }
         ensures ports { OnOk result (Obeys (brings port item.Ended) (row self.old) (row self.new) acts.new.items) }
         ensures gives { OnOk result (Turned (brings port item.Ended) self.old acts.new.items self.new) }
@@ -125,7 +126,7 @@ impl Sorting {
         requires open { self.old.phase ≡ Open }
         requires meets { Meets (brings port (item.Failed cause)) (row self.old) }
         requires empty { acts.old.items ≡ [] }
-        requires room { most_acts ≤ acts.old.room }
+        requires room { room_for 2 ≤ acts.old.room }
         ensures answers { IsOk result }
         ensures ports { OnOk result (Obeys (brings port (item.Failed cause)) (row self.old) (row self.new) acts.new.items) }
         ensures gives { OnOk result (Turned (brings port (item.Failed cause)) self.old acts.new.items self.new) }
@@ -140,7 +141,7 @@ impl Sorting {
         requires open { self.old.phase ≡ Open }
         requires meets { Meets (cancels 0) (row self.old) }
         requires empty { acts.old.items ≡ [] }
-        requires room { most_acts ≤ acts.old.room }
+        requires room { room_for 2 ≤ acts.old.room }
         ensures answers { IsOk result }
         ensures ports { OnOk result (Obeys (cancels 0) (row self.old) (row self.new) acts.new.items) }
         ensures gives { OnOk result (Turned (cancels 0) self.old acts.new.items self.new) }
@@ -153,7 +154,7 @@ impl Sorting {
     // Both inputs are asked.
     fn begin(&mut self, acts: &mut Acts)
         requires empty { acts.old.items ≡ [] }
-        requires room { most_acts ≤ acts.old.room }
+        requires room { 6 ≤ acts.old.room }
         ensures does { Does self.new acts.new.items (record self.old { phase = Open }) (act.Pull 0 ∷ act.Pull 1 ∷ []) }
         ensures room { acts.new.room ≡ acts.old.room }
     {
@@ -181,7 +182,7 @@ impl Sorting {
     // The next element goes out, where there is one and the output is asked.
     fn give_next(&mut self, acts: &mut Acts)
         requires empty { acts.old.items ≡ [] }
-        requires room { most_acts ≤ acts.old.room }
+        requires room { 6 ≤ acts.old.room }
         ensures does { Does self.new acts.new.items (give self.old) (give_acts self.old) }
         ensures room { acts.new.room ≡ acts.old.room }
     {
@@ -273,7 +274,7 @@ impl Sorting {
     // An input has ended: the stage does too, where both are used up, or what waits of the other goes out.
     fn finish(&mut self, port: u8, acts: &mut Acts)
         requires empty { acts.old.items ≡ [] }
-        requires room { most_acts ≤ acts.old.room }
+        requires room { 6 ≤ acts.old.room }
         ensures does { Does self.new acts.new.items (ended (without port self.old)) (ended_acts (without port self.old)) }
         ensures room { acts.new.room ≡ acts.old.room }
     {
@@ -298,7 +299,7 @@ impl Sorting {
     // An input has failed.
     fn fail(&mut self, port: u8, cause: Cause, acts: &mut Acts)
         requires empty { acts.old.items ≡ [] }
-        requires room { most_acts ≤ acts.old.room }
+        requires room { 6 ≤ acts.old.room }
         ensures does { Does self.new acts.new.items (record (without port self.old) { phase = Closed }) (act.FailOut 0 cause ∷ closing (without port self.old)) }
         ensures room { acts.new.room ≡ acts.old.room }
     {

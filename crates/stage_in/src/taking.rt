@@ -1,10 +1,10 @@
-ghost use Rattle.std.specs.Prelude.{◌≡◌, ◌≢◌, ◌≤◌, ◌<◌, ◌∷◌, ◌++◌, ◌+◌, ℕ, [], length, OnOk, IfOk, IsOk, IfSome, IfNone, Some, true, false, slice_get, slice_set, ⊤};
+ghost use Rattle.std.specs.Prelude.{◌≡◌, ◌≢◌, ◌≤◌, ◌<◌, ◌∷◌, ◌++◌, ◌+◌, ℕ, [], length, OnOk, IfOk, IsOk, IfSome, IfNone, Some, true, false, slice_set, map, replicate, vec_items};
 ghost use Rattle.elem_core.specs.declared.item.Item.TheVariants as item;
 ghost use Rattle.port_core.specs.declared.act.Act.TheVariants as act;
 ghost use Rattle.port_core.specs.Call.{Obeys, Meets, starts, asks, brings, cancels};
-ghost use Rattle.stage_core.specs.Handling.{most_acts};
-ghost use Rattle.stage_in.specs.Seats.{open_cancels};
-ghost use Rattle.stage_in.specs.Takings.{row, Turned, Begins, Counted, WentOn, Does, Passed, Finished, without, IsNext, AllOverBut, OverBetween};
+ghost use Rattle.stage_in.specs.Seats.{open_cancels, room_for};
+ghost use Rattle.stage_in.specs.Takings.{row, Turned, Begins, Counted, WentOn, Does, Passed, Finished, without, failed_by, followed_by, Linked, Ring, IsNext, AllOverBut};
+ghost use Rattle.stage_in.specs.Kinds.{behind_input};
 
 use elem_core::elem::Elem;
 use elem_core::why::{Cause, NoMemory};
@@ -22,6 +22,8 @@ pub struct Taking {
     // None: the inputs one after another.
     segment: Option<u32>,
     over: Vec<bool>,
+    // Of each input the next that is open, around the inputs: changed where an input ends, so that no element costs a search.
+    next: Vec<u8>,
     current: u8,
     left: u32,
     asked: bool,
@@ -36,7 +38,7 @@ impl Model for Taking {
 
     ghost coded = { Prim.hlevel codes };
 
-    ghost view = { λ l. record { live = l.live; segment = l.segment; over = vec_items l.over; current = l.current; left = l.left; asked = l.asked } };
+    ghost view = { λ l. record { live = l.live; segment = l.segment; over = vec_items l.over; next = vec_items l.next; current = l.current; left = l.left; asked = l.asked } };
 }
 
 impl Taking {
@@ -45,14 +47,13 @@ impl Taking {
         requires fan { (2 ≤ inputs) × (inputs ≤ 16) }
         ensures { IfOk result (Begins inputs segment) }
     {
-        let mut over = Vec::with_capacity(alloc, inputs as usize)?;
-        for _ in 0..inputs {
-            over.push(false)?;
-        }
+        let over = open_inputs(alloc, inputs)?;
+        let next = ring(alloc, inputs)?;
         Ok(Taking {
             live: true,
             segment,
             over,
+            next,
             current: 0,
             left: segment.unwrap_or(0),
             asked: false,
@@ -77,7 +78,7 @@ impl Taking {
         requires live { self.old.live ≡ true }
         requires meets { Meets (asks 0) (row self.old) }
         requires empty { acts.old.items ≡ [] }
-        requires room { most_acts ≤ acts.old.room }
+        requires room { room_for (length self.old.over) ≤ acts.old.room }
         ensures answers { IsOk result }
         ensures ports { OnOk result (Obeys (asks 0) (row self.old) (row self.new) acts.new.items) }
         ensures gives { OnOk result (Turned (asks 0) self.old acts.new.items self.new) }
@@ -92,7 +93,7 @@ impl Taking {
         requires live { self.old.live ≡ true }
         requires meets { Meets (brings port (item.Elem e)) (row self.old) }
         requires empty { acts.old.items ≡ [] }
-        requires room { most_acts ≤ acts.old.room }
+        requires room { room_for (length self.old.over) ≤ acts.old.room }
         ensures answers { IsOk result }
         ensures ports { OnOk result (Obeys (brings port (item.Elem e)) (row self.old) (row self.new) acts.new.items) }
         ensures gives { OnOk result (Turned (brings port (item.Elem e)) self.old acts.new.items self.new) }
@@ -108,7 +109,7 @@ impl Taking {
         requires live { self.old.live ≡ true }
         requires meets { Meets (brings port item.Ended) (row self.old) }
         requires empty { acts.old.items ≡ [] }
-        requires room { most_acts ≤ acts.old.room }
+        requires room { room_for (length self.old.over) ≤ acts.old.room }
         ensures answers { IsOk result }
         ensures ports { OnOk result (Obeys (brings port item.Ended) (row self.old) (row self.new) acts.new.items) }
         ensures gives { OnOk result (Turned (brings port item.Ended) self.old acts.new.items self.new) }
@@ -123,7 +124,7 @@ impl Taking {
         requires live { self.old.live ≡ true }
         requires meets { Meets (brings port (item.Failed cause)) (row self.old) }
         requires empty { acts.old.items ≡ [] }
-        requires room { most_acts ≤ acts.old.room }
+        requires room { room_for (length self.old.over) ≤ acts.old.room }
         ensures answers { IsOk result }
         ensures ports { OnOk result (Obeys (brings port (item.Failed cause)) (row self.old) (row self.new) acts.new.items) }
         ensures gives { OnOk result (Turned (brings port (item.Failed cause)) self.old acts.new.items self.new) }
@@ -138,7 +139,7 @@ impl Taking {
         requires live { self.old.live ≡ true }
         requires meets { Meets (cancels 0) (row self.old) }
         requires empty { acts.old.items ≡ [] }
-        requires room { most_acts ≤ acts.old.room }
+        requires room { room_for (length self.old.over) ≤ acts.old.room }
         ensures answers { IsOk result }
         ensures ports { OnOk result (Obeys (cancels 0) (row self.old) (row self.new) acts.new.items) }
         ensures gives { OnOk result (Turned (cancels 0) self.old acts.new.items self.new) }
@@ -151,7 +152,7 @@ impl Taking {
     // The current input is asked.
     fn ask(&mut self, acts: &mut Acts)
         requires empty { acts.old.items ≡ [] }
-        requires room { most_acts ≤ acts.old.room }
+        requires room { 1 ≤ acts.old.room }
         ensures does { Does self.new acts.new.items (record self.old { asked = true }) (act.Pull self.old.current ∷ []) }
         ensures room { acts.new.room ≡ acts.old.room }
     {
@@ -161,10 +162,10 @@ impl Taking {
 
     // An element of the current input goes out.
     fn pass(&mut self, e: Elem, acts: &mut Acts)
-        requires few { length self.old.over ≤ 16 }
         requires here { self.old.current < length self.old.over }
+        requires linked { Linked self.old.over self.old.next }
         requires empty { acts.old.items ≡ [] }
-        requires room { most_acts ≤ acts.old.room }
+        requires room { 1 ≤ acts.old.room }
         ensures passed { Passed self.old e self.new acts.new.items }
         ensures room { acts.new.room ≡ acts.old.room }
     {
@@ -175,15 +176,15 @@ impl Taking {
 
     // An input has ended: where it is the current one, the stage goes on to the next.
     fn finish(&mut self, port: u8, acts: &mut Acts)
-        requires few { length self.old.over ≤ 16 }
         requires here { self.old.current < length self.old.over }
         requires there { port < length self.old.over }
+        requires linked { Linked self.old.over self.old.next }
         requires empty { acts.old.items ≡ [] }
-        requires room { most_acts ≤ acts.old.room }
+        requires room { 1 ≤ acts.old.room }
         ensures finished { Finished port self.old self.new acts.new.items }
         ensures room { acts.new.room ≡ acts.old.room }
     {
-        self.over[port as usize] = true;
+        self.pass_over(port);
         if port == self.current {
             self.go_on(acts);
         }
@@ -194,8 +195,8 @@ impl Taking {
         requires few { length self.old.over ≤ 16 }
         requires there { port < length self.old.over }
         requires empty { acts.old.items ≡ [] }
-        requires room { most_acts ≤ acts.old.room }
-        ensures does { Does self.new acts.new.items (record (without port self.old) { live = false }) (act.FailOut 0 cause ∷ open_cancels 0 (slice_set self.old.over port true)) }
+        requires room { length self.old.over < acts.old.room }
+        ensures does { Does self.new acts.new.items (failed_by port self.old) (act.FailOut 0 cause ∷ open_cancels 0 (slice_set self.old.over port true)) }
         ensures room { acts.new.room ≡ acts.old.room }
     {
         self.over[port as usize] = true;
@@ -208,7 +209,7 @@ impl Taking {
     fn leave(&mut self, acts: &mut Acts)
         requires few { length self.old.over ≤ 16 }
         requires empty { acts.old.items ≡ [] }
-        requires room { most_acts ≤ acts.old.room }
+        requires room { length self.old.over ≤ acts.old.room }
         ensures does { Does self.new acts.new.items (record self.old { live = false }) (open_cancels 0 self.old.over) }
         ensures room { acts.new.room ≡ acts.old.room }
     {
@@ -218,8 +219,8 @@ impl Taking {
 
     // An element of the current input went out: behind a segment the next open input is current.
     fn count(&mut self)
-        requires few { length self.old.over ≤ 16 }
         requires here { self.old.current < length self.old.over }
+        requires linked { Linked self.old.over self.old.next }
         ensures place { Counted self.old.segment self.old self.new }
         ensures other { self.new ≡ record self.old { current = self.new.current; left = self.new.left } }
     {
@@ -235,10 +236,10 @@ impl Taking {
 
     // The current input has ended: the stage goes to the next open one, which it asks where its output is asked, or it ends.
     fn go_on(&mut self, acts: &mut Acts)
-        requires few { length self.old.over ≤ 16 }
         requires here { self.old.current < length self.old.over }
+        requires linked { Linked self.old.over self.old.next }
         requires empty { acts.old.items ≡ [] }
-        requires room { most_acts ≤ acts.old.room }
+        requires room { 1 ≤ acts.old.room }
         ensures went { WentOn self.old self.new acts.new.items }
         ensures room { acts.new.room ≡ acts.old.room }
     {
@@ -259,17 +260,28 @@ impl Taking {
 
     // The next open input behind the current one, around the inputs.
     fn next_open(&self) -> Option<u8>
-        requires few { length self.now.over ≤ 16 }
         requires here { self.now.current < length self.now.over }
+        requires linked { Linked self.now.over self.now.next }
         ensures next { IfSome result (IsNext self.now.over self.now.current) }
         ensures none { IfNone result (AllOverBut self.now.current self.now.over) }
     {
-        let current = self.current as usize;
-        let over = self.over.as_slice();
-        match first_open(over, current + 1, over.len()) {
-            Some(c) => Some(c),
-            None => first_open(over, 0, current),
+        let next = self.next[self.current as usize];
+        if self.over[next as usize] {
+            None
+        } else {
+            Some(next)
         }
+    }
+
+    // An input has ended: each that it followed is followed by the one behind it.
+    fn pass_over(&mut self, port: u8)
+        requires there { port < length self.old.over }
+        requires linked { Linked self.old.over self.old.next }
+        ensures { self.new ≡ without port self.old }
+    {
+        self.over[port as usize] = true;
+        let to = self.next[port as usize];
+        relink(self.next.as_mut_slice(), port, to);
     }
 
     // Cancels each input that has not ended.
@@ -287,17 +299,48 @@ impl Taking {
     }
 }
 
-// The first input from `from` on and before `to` that has not ended.
-fn first_open(over: &[bool], from: usize, to: usize) -> Option<u8>
-    requires few { length over.now ≤ 16 }
-    requires within { to ≤ length over.now }
-    ensures some { IfSome result (λ d. (from ≤ d) × ((d < to) × ((slice_get over.now d ≡ Some false) × OverBetween over.now from d))) }
-    ensures none { IfNone result (OverBetween over.now from to) }
+// So many inputs, of which none has ended.
+fn open_inputs(alloc: Global, inputs: u32) -> Result<Vec<bool>, NoMemory>
+    ensures { IfOk result (λ over. vec_items over ≡ replicate inputs false) }
 {
-    for i in from..to {
-        if !over[i] {
-            return Some(i as u8);
-        }
+    let mut over = Vec::with_capacity(alloc, inputs as usize)?;
+    for _ in 0..inputs {
+        over.push(false)?;
     }
-    None
+    Ok(over)
+}
+
+// Of each of so many inputs the one behind it, around them.
+fn ring(alloc: Global, inputs: u32) -> Result<Vec<u8>, NoMemory>
+    requires few { inputs ≤ 16 }
+    ensures { IfOk result (λ next. Ring inputs (vec_items next)) }
+{
+    let mut next = Vec::with_capacity(alloc, inputs as usize)?;
+    for c in 0..inputs {
+        next.push(behind(c, inputs))?;
+    }
+    Ok(next)
+}
+
+fn behind(c: u32, inputs: u32) -> u8
+    requires there { c < inputs }
+    requires few { inputs ≤ 16 }
+    ensures { result ≡ behind_input inputs c }
+{
+    if c + 1 == inputs { 0 } else { (c + 1) as u8 }
+}
+
+// Where input `from` followed, input `to` does.
+fn relink(next: &mut [u8], from: u8, to: u8)
+    ensures { next.new ≡ map (followed_by from to) next.old }
+{
+    for c in 0..next.len() {
+        next[c] = followed_by(next[c], from, to);
+    }
+}
+
+fn followed_by(next: u8, from: u8, to: u8) -> u8
+    ensures { result ≡ followed_by from to next }
+{
+    if next == from { to } else { next }
 }

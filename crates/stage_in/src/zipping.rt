@@ -3,8 +3,8 @@ ghost use Rattle.elem_core.specs.Tree.{both};
 ghost use Rattle.elem_core.specs.declared.item.Item.TheVariants as item;
 ghost use Rattle.port_core.specs.declared.act.Act.TheVariants as act;
 ghost use Rattle.port_core.specs.Call.{Obeys, Meets, starts, asks, brings, cancels};
-ghost use Rattle.stage_core.specs.Handling.{most_acts};
 ghost use Rattle.stage_in.specs.declared.phase.Phase.TheVariants.{New, Open, Closed};
+ghost use Rattle.stage_in.specs.Seats.{room_for};
 ghost use Rattle.stage_in.specs.Pairings.{Does, new_pair, placed, without, closing};
 ghost use Rattle.stage_in.specs.Zippings.{row, Turned, Lacks, emptied, held_at, pair, pair_acts, behind_pair, behind_acts, ended_at, ended_acts};
 
@@ -31,6 +31,7 @@ pub struct Zipping {
 impl Model for Zipping {
     ghost use Rattle.std.specs.Coded.{codes};
     ghost use Rattle.elem_core.specs.TreeCode.{tree_coded};
+    ghost use Rattle.stage_in.specs.Seats.{room_for};
     ghost use Rattle.stage_in.specs.Pairings.{Pairing};
 
     ghost Value = { Pairing };
@@ -64,7 +65,7 @@ impl Zipping {
         requires new { self.old.phase ≡ New }
         requires meets { Meets starts (row self.old) }
         requires empty { acts.old.items ≡ [] }
-        requires room { most_acts ≤ acts.old.room }
+        requires room { room_for 2 ≤ acts.old.room }
         ensures answers { IsOk result }
         ensures ports { OnOk result (Obeys starts (row self.old) (row self.new) acts.new.items) }
         ensures gives { OnOk result (Turned starts self.old acts.new.items self.new) }
@@ -79,7 +80,7 @@ impl Zipping {
         requires open { self.old.phase ≡ Open }
         requires meets { Meets (asks 0) (row self.old) }
         requires empty { acts.old.items ≡ [] }
-        requires room { most_acts ≤ acts.old.room }
+        requires room { room_for 2 ≤ acts.old.room }
         ensures ports { OnOk result (Obeys (asks 0) (row self.old) (row self.new) acts.new.items) }
         ensures gives { OnOk result (Turned (asks 0) self.old acts.new.items self.new) }
         ensures room { OnOk result (acts.new.room ≡ acts.old.room) }
@@ -99,7 +100,7 @@ impl Zipping {
         requires open { self.old.phase ≡ Open }
         requires meets { Meets (brings port (item.Elem e)) (row self.old) }
         requires empty { acts.old.items ≡ [] }
-        requires room { most_acts ≤ acts.old.room }
+        requires room { room_for 2 ≤ acts.old.room }
         ensures ports { OnOk result (Obeys (brings port (item.Elem e)) (row self.old) (row self.new) acts.new.items) }
         ensures gives { OnOk result (Turned (brings port (item.Elem e)) self.old acts.new.items self.new) }
         ensures room { OnOk result (acts.new.room ≡ acts.old.room) }
@@ -113,7 +114,7 @@ impl Zipping {
         requires open { self.old.phase ≡ Open }
         requires meets { Meets (brings port item.Ended) (row self.old) }
         requires empty { acts.old.items ≡ [] }
-        requires room { most_acts ≤ acts.old.room }
+        requires room { room_for 2 ≤ acts.old.room }
         ensures answers { IsOk result }
         ensures ports { OnOk result (Obeys (brings port item.Ended) (row self.old) (row self.new) acts.new.items) }
         ensures gives { OnOk result (Turned (brings port item.Ended) self.old acts.new.items self.new) }
@@ -128,7 +129,7 @@ impl Zipping {
         requires open { self.old.phase ≡ Open }
         requires meets { Meets (brings port (item.Failed cause)) (row self.old) }
         requires empty { acts.old.items ≡ [] }
-        requires room { most_acts ≤ acts.old.room }
+        requires room { room_for 2 ≤ acts.old.room }
         ensures answers { IsOk result }
         ensures ports { OnOk result (Obeys (brings port (item.Failed cause)) (row self.old) (row self.new) acts.new.items) }
         ensures gives { OnOk result (Turned (brings port (item.Failed cause)) self.old acts.new.items self.new) }
@@ -143,7 +144,7 @@ impl Zipping {
         requires open { self.old.phase ≡ Open }
         requires meets { Meets (cancels 0) (row self.old) }
         requires empty { acts.old.items ≡ [] }
-        requires room { most_acts ≤ acts.old.room }
+        requires room { room_for 2 ≤ acts.old.room }
         ensures answers { IsOk result }
         ensures ports { OnOk result (Obeys (cancels 0) (row self.old) (row self.new) acts.new.items) }
         ensures gives { OnOk result (Turned (cancels 0) self.old acts.new.items self.new) }
@@ -156,7 +157,7 @@ impl Zipping {
     // Both inputs are asked.
     fn begin(&mut self, acts: &mut Acts)
         requires empty { acts.old.items ≡ [] }
-        requires room { most_acts ≤ acts.old.room }
+        requires room { 6 ≤ acts.old.room }
         ensures does { Does self.new acts.new.items (record self.old { phase = Open }) (act.Pull 0 ∷ act.Pull 1 ∷ []) }
         ensures room { acts.new.room ≡ acts.old.room }
     {
@@ -184,7 +185,7 @@ impl Zipping {
     // A pair goes out, where there is one and the output is asked. Behind it both inputs are asked, or the stage ends.
     fn give_pair(&mut self, alloc: Global, acts: &mut Acts) -> Result<(), NoMemory>
         requires empty { acts.old.items ≡ [] }
-        requires room { most_acts ≤ acts.old.room }
+        requires room { 6 ≤ acts.old.room }
         ensures does { OnOk result (Does self.new acts.new.items (pair self.old) (pair_acts self.old)) }
         ensures room { OnOk result (acts.new.room ≡ acts.old.room) }
     {
@@ -234,7 +235,7 @@ impl Zipping {
     // An input has ended: the stage does too, where no element of it waits.
     fn finish(&mut self, port: u8, acts: &mut Acts)
         requires empty { acts.old.items ≡ [] }
-        requires room { most_acts ≤ acts.old.room }
+        requires room { 6 ≤ acts.old.room }
         ensures does { Does self.new acts.new.items (ended_at port self.old) (ended_acts port self.old) }
         ensures room { acts.new.room ≡ acts.old.room }
     {
@@ -260,7 +261,7 @@ impl Zipping {
     // An input has failed.
     fn fail(&mut self, port: u8, cause: Cause, acts: &mut Acts)
         requires empty { acts.old.items ≡ [] }
-        requires room { most_acts ≤ acts.old.room }
+        requires room { 6 ≤ acts.old.room }
         ensures does { Does self.new acts.new.items (record (without port self.old) { phase = Closed }) (act.FailOut 0 cause ∷ closing (without port self.old)) }
         ensures room { acts.new.room ≡ acts.old.room }
     {

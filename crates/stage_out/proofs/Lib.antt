@@ -10,5 +10,4 @@ pub mod Deals
 pub mod Begins
 pub mod OutLogics
 pub mod OutRests
-pub mod Standing
 pub mod OutNodes

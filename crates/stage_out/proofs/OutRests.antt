@@ -10,7 +10,7 @@ use Rattle.port_core.specs.declared.view.OutView.{OutView}
 use Rattle.port_core.specs.declared.view.OutView.TheVariants.{Unasked, Asked, Shut, Refused}
 use Rattle.port_core.specs.View as port
 use Rattle.port_core.specs.View.{IsOutOpen}
-use Rattle.port_core.specs.Call.{Call, starts, asks, brings, cancels, AllIdle, MayCome, CallAllowed}
+use Rattle.port_core.specs.Call.{Call, starts, asks, brings, cancels, AllIdle, MayCome, CallAllowed, Meets}
 use Rattle.stream_model.specs.Linear.{Book, Stage}
 use Rattle.stream_model.specs.Outlook.{End}
 use Rattle.stream_picture.specs.View.{SomeWire}
@@ -18,17 +18,18 @@ use Rattle.stream_picture.specs.Rests.{IsUnasked, PartitionRests}
 use Rattle.stage_law.specs.Held.{told, Held}
 use Rattle.stage_law.specs.Outs.{Outlet, OutsLaw}
 use Rattle.stage_law.specs.OwnPorts.{own_input}
+use Rattle.stage_core.specs.Handling.{most_acts}
 use Rattle.stage_out.specs.declared.want.Want.{Want}
 use Rattle.stage_out.specs.declared.want.Want.TheVariants.{Quiet, Asks, Gone}
 use Rattle.stage_out.specs.declared.logic.OutLogic.{OutLogic}
 use Rattle.stage_out.specs.declared.logic.OutLogic.TheVariants.{Copies, Deals}
 use Rattle.stage_out.specs.Copies as copies
-use Rattle.stage_out.specs.Copies.{want_view, open_count, OneInClosed, OutsClosed, AllClosed}
+use Rattle.stage_out.specs.Copies.{want_view, open_count, room_for, OneInClosed, OutsClosed, AllClosed}
 use Rattle.stage_out.specs.CopyStates.{CopyLogic, part_by}
 use Rattle.stage_out.specs.CopyStates as copy
 use Rattle.stage_out.specs.PartitionStates.{PartitionLogic, asks_count, input_of, view_of, Holding, Sound, dealers, then_of}
 use Rattle.stage_out.specs.PartitionStates as part
-use Rattle.stage_out.specs.OutLogics.{is_live, row, no_stage, copiers, outlets}
+use Rattle.stage_out.specs.OutLogics.{is_live, room_of, row, no_stage, copiers, outlets}
 use Rattle.stage_out.specs.OwnRows.{own_outs, Even, OutLists, OutRests}
 use Rattle.stage_out.proofs.OutLogics.{copiers_are}
 use Rattle.stage_out.proofs.Rests.{copy_rests, ins_shut, outs_shut, outlists}
@@ -190,3 +191,24 @@ called_is_live (Deals l) call v may r = by_live l.live r
     by_live : (b : Bool) → part.row_by b l v → b ≡ true
     by_live true r = refl
     by_live false r = absurd (none_called call v may r)
+
+-- two actions for each of its ports are few
+pub called_fits : (l : OutLogic) (call : Call) (v : port.View) → CallAllowed call v → row l v → room_of l ≤ most_acts
+called_fits (Copies l) call v may r = by_live l.live r
+  where
+    by_live : (b : Bool) → copy.row_by b l v → room_for (length l.outs) ≤ most_acts
+    by_live true r = let few : length l.outs ≤ 16 = r.1.few in omega (arith, few)
+    by_live false r = absurd (none_called call v may r)
+called_fits (Deals l) call v may r = by_live l.live r
+  where
+    by_live : (b : Bool) → part.row_by b l v → room_for (length l.outs) ≤ most_acts
+    by_live true r = let few : length l.outs ≤ 16 = r.1.few in omega (arith, few)
+    by_live false r = absurd (none_called call v may r)
+
+-- the same of a call that may come
+module _ (call : Call) where
+  pub copies_live : (l : CopyLogic) (whole : OutLogic) → whole ≡ Copies l → Meets call (row whole) → l.live ≡ true
+  copies_live l whole is m = called_is_live (Copies l) call m.0 m.1.0 (subst (λ x. row x m.0) is m.1.1)
+
+  pub deals_live : (l : PartitionLogic) (whole : OutLogic) → whole ≡ Deals l → Meets call (row whole) → l.live ≡ true
+  deals_live l whole is m = called_is_live (Deals l) call m.0 m.1.0 (subst (λ x. row x m.0) is m.1.1)

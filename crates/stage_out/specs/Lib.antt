@@ -3,5 +3,4 @@ pub mod CopyStates
 pub mod OwnRows
 pub mod PartitionStates
 pub mod OutLogics
-pub mod Standing
 pub mod OutNodes

@@ -26,7 +26,7 @@ use Rattle.stage_law.specs.Outs.{Outlet, TurnsAt, owe}
 use Rattle.stage_out.specs.declared.want.Want.{Want}
 use Rattle.stage_out.specs.declared.logic.OutLogic.{OutLogic}
 use Rattle.stage_out.specs.declared.logic.OutLogic.TheVariants.{Copies, Deals}
-use Rattle.stage_out.specs.Copies.{copying, nothing_owed, owed_by}
+use Rattle.stage_out.specs.Copies.{copying, nothing_owed, owed_by, room_for}
 use Rattle.stage_out.specs.Copies as copies
 use Rattle.stage_out.specs.CopyStates.{part_by}
 use Rattle.stage_out.specs.CopyStates as copy
@@ -37,6 +37,11 @@ use Rattle.stage_out.specs.PartitionStates as part
 abbrev pub is_live : OutLogic → Bool
 is_live (Copies l) = l.live
 is_live (Deals l) = l.live
+
+-- the most actions that one of its calls appends
+abbrev pub room_of : OutLogic → ℕ
+room_of (Copies l) = room_for (length l.outs)
+room_of (Deals l) = room_for (length l.outs)
 
 -- what it knows of its ports
 abbrev pub row : OutLogic → View → Type 0

@@ -5,7 +5,7 @@ ghost use Rattle.port_core.specs.Call.{Obeys, Meets, starts, asks, brings, cance
 ghost use Rattle.stream_model.specs.declared.kind.TheConstants.{MAX_FAN};
 ghost use Rattle.stage_out.specs.declared.want.Want.TheVariants.{Quiet, Asks, Gone};
 ghost use Rattle.elem_core.specs.Values.{left_half, right_half};
-ghost use Rattle.stage_out.specs.Copies.{at_open, push_to, push_where, served, served_one};
+ghost use Rattle.stage_out.specs.Copies.{at_open, room_for, push_to, push_where, served, served_one};
 ghost use Rattle.stage_out.specs.CopyStates.{row, Turned, Does, Lost, part_by, begun};
 
 use crate::want::{Want, quiet_outs};
@@ -76,7 +76,7 @@ impl CopyLogic {
         requires live { self.old.live ≡ true }
         requires meets { Meets (asks port) (row self.old) }
         requires empty { acts.old.items ≡ [] }
-        requires room { 34 ≤ acts.old.room }
+        requires room { room_for (length self.old.outs) ≤ acts.old.room }
         ensures answers { IsOk result }
         ensures ports { OnOk result (Obeys (asks port) (row self.old) (row self.new) acts.new.items) }
         ensures gives { OnOk result (Turned (asks port) self.old acts.new.items self.new) }
@@ -97,7 +97,7 @@ impl CopyLogic {
         requires live { self.old.live ≡ true }
         requires meets { Meets (brings port (item.Elem e)) (row self.old) }
         requires empty { acts.old.items ≡ [] }
-        requires room { 34 ≤ acts.old.room }
+        requires room { room_for (length self.old.outs) ≤ acts.old.room }
         ensures ports { OnOk result (Obeys (brings port (item.Elem e)) (row self.old) (row self.new) acts.new.items) }
         ensures gives { OnOk result (Turned (brings port (item.Elem e)) self.old acts.new.items self.new) }
         ensures room { OnOk result (acts.new.room ≡ acts.old.room) }
@@ -111,7 +111,7 @@ impl CopyLogic {
         requires live { self.old.live ≡ true }
         requires meets { Meets (brings port item.Ended) (row self.old) }
         requires empty { acts.old.items ≡ [] }
-        requires room { 34 ≤ acts.old.room }
+        requires room { room_for (length self.old.outs) ≤ acts.old.room }
         ensures answers { IsOk result }
         ensures ports { OnOk result (Obeys (brings port item.Ended) (row self.old) (row self.new) acts.new.items) }
         ensures gives { OnOk result (Turned (brings port item.Ended) self.old acts.new.items self.new) }
@@ -127,7 +127,7 @@ impl CopyLogic {
         requires live { self.old.live ≡ true }
         requires meets { Meets (brings port (item.Failed cause)) (row self.old) }
         requires empty { acts.old.items ≡ [] }
-        requires room { 34 ≤ acts.old.room }
+        requires room { room_for (length self.old.outs) ≤ acts.old.room }
         ensures answers { IsOk result }
         ensures ports { OnOk result (Obeys (brings port (item.Failed cause)) (row self.old) (row self.new) acts.new.items) }
         ensures gives { OnOk result (Turned (brings port (item.Failed cause)) self.old acts.new.items self.new) }
@@ -143,7 +143,7 @@ impl CopyLogic {
         requires live { self.old.live ≡ true }
         requires meets { Meets (cancels port) (row self.old) }
         requires empty { acts.old.items ≡ [] }
-        requires room { 34 ≤ acts.old.room }
+        requires room { room_for (length self.old.outs) ≤ acts.old.room }
         ensures answers { IsOk result }
         ensures ports { OnOk result (Obeys (cancels port) (row self.old) (row self.new) acts.new.items) }
         ensures gives { OnOk result (Turned (cancels port) self.old acts.new.items self.new) }
@@ -158,7 +158,7 @@ impl CopyLogic {
         requires there { port < length self.old.outs }
         requires some { 1 ≤ self.old.quiet }
         requires empty { acts.old.items ≡ [] }
-        requires room { 34 ≤ acts.old.room }
+        requires room { 1 ≤ acts.old.room }
         ensures does { Does self.new acts.new.items (record self.old { outs = slice_set self.old.outs port Asks; quiet = self.old.quiet - 1 }) (if self.old.quiet - 1 == 0 then act.Pull 0 ∷ [] else []) }
         ensures room { acts.new.room ≡ acts.old.room }
     {
@@ -174,7 +174,7 @@ impl CopyLogic {
         requires few { length self.old.outs ≤ 16 }
         requires pair { self.old.halves ≡ true → length self.old.outs ≡ 2 }
         requires empty { acts.old.items ≡ [] }
-        requires room { 34 ≤ acts.old.room }
+        requires room { length self.old.outs ≤ acts.old.room }
         ensures does { OnOk result (Does self.new acts.new.items (record self.old { outs = served self.old.outs; quiet = self.old.open_outs }) (at_open (λ j. act.Push j (part_by self.old.halves j e)) 0 self.old.outs)) }
         ensures room { OnOk result (acts.new.room ≡ acts.old.room) }
     {
@@ -242,7 +242,7 @@ impl CopyLogic {
     fn complete_all(&mut self, acts: &mut Acts)
         requires few { length self.old.outs ≤ 16 }
         requires empty { acts.old.items ≡ [] }
-        requires room { 34 ≤ acts.old.room }
+        requires room { length self.old.outs ≤ acts.old.room }
         ensures does { Does self.new acts.new.items (record self.old { live = false }) (at_open (λ j. act.Complete j) 0 self.old.outs) }
         ensures room { acts.new.room ≡ acts.old.room }
     {
@@ -266,7 +266,7 @@ impl CopyLogic {
     fn fail_all(&mut self, cause: Cause, acts: &mut Acts)
         requires few { length self.old.outs ≤ 16 }
         requires empty { acts.old.items ≡ [] }
-        requires room { 34 ≤ acts.old.room }
+        requires room { length self.old.outs ≤ acts.old.room }
         ensures does { Does self.new acts.new.items (record self.old { live = false }) (at_open (λ j. act.FailOut j cause) 0 self.old.outs) }
         ensures room { acts.new.room ≡ acts.old.room }
     {
@@ -293,7 +293,7 @@ impl CopyLogic {
         requires some { 1 ≤ self.old.open_outs }
         requires quiet { slice_get self.old.outs port ≡ Some Quiet → 1 ≤ self.old.quiet }
         requires empty { acts.old.items ≡ [] }
-        requires room { 34 ≤ acts.old.room }
+        requires room { 1 ≤ acts.old.room }
         ensures does { Lost port self.old self.new acts.new.items }
         ensures room { acts.new.room ≡ acts.old.room }
     {

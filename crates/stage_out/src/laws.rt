@@ -1,5 +1,5 @@
 // Laws of the stages with several outputs: each function has no body, and its contract is the law.
-ghost use Rattle.std.specs.Prelude.{◌≡◌, ◌<◌, ℕ, true, List, [], length, slice_index_or};
+ghost use Rattle.std.specs.Prelude.{◌≡◌, ◌<◌, ◌≤◌, ℕ, true, List, [], length, slice_index_or};
 ghost use Rattle.elem_core.specs.Tree.{Tree};
 ghost use Rattle.elem_core.specs.declared.item.Item.{Item};
 ghost use Rattle.port_core.specs.declared.act.Act.{Act};
@@ -11,11 +11,11 @@ ghost use Rattle.stream_model.specs.Graph.{Graph};
 ghost use Rattle.stream_model.specs.Linear.{Book};
 ghost use Rattle.stream_model.specs.Node.{World, head_of, node_outlook};
 ghost use Rattle.stream_model.specs.Outlook.{Outlook, End, Agrees};
-ghost use Rattle.stage_core.specs.Handling.{Starts, Handles};
+ghost use Rattle.stage_core.specs.Handling.{Starts, Handles, most_acts};
 ghost use Rattle.stage_law.specs.Held.{told};
 ghost use Rattle.stage_law.specs.Outs.{OutsLaw};
 ghost use Rattle.stage_out.specs.declared.logic.OutLogic.{OutLogic};
-ghost use Rattle.stage_out.specs.OutLogics.{is_live, row, Turned, TurnsEach, outlets, Begins};
+ghost use Rattle.stage_out.specs.OutLogics.{is_live, room_of, row, Turned, TurnsEach, outlets, Begins};
 ghost use Rattle.stage_out.specs.OutNodes.{OutFresh, OutLaw, GaveAgrees};
 ghost use Rattle.stage_out.specs.OwnRows.{OutLists, OutRests};
 
@@ -27,6 +27,12 @@ pub fn a_call_turns_each_output()
 /// Where the port rules allow a call of a handler and the row holds, its ports are not all closed: it is live.
 pub fn a_called_stage_is_open()
     ensures { (l : OutLogic) (call : Call) (v : View) → CallAllowed call v → row l v → is_live l ≡ true }
+{}
+
+/// Where the port rules allow a call of a handler and the row holds, the room that the call wants is within what every stage
+/// is given.
+pub fn a_call_wants_little_room()
+    ensures { (l : OutLogic) (call : Call) (v : View) → CallAllowed call v → row l v → room_of l ≤ most_acts }
 {}
 
 /// Where its row and the law of its outputs hold, a stage has closed its ports or has nothing to do, for the lists that its

@@ -5,6 +5,4 @@ pub mod copy_logic;
 pub mod laws;
 pub mod logic;
 pub mod partition_logic;
-#[cfg(test)]
-mod tests;
 pub mod want;

@@ -5,7 +5,7 @@ ghost use Rattle.stream_model.specs.declared.kind.TheConstants.{MAX_FAN};
 ghost use Rattle.stage_out.specs.declared.logic.OutLogic.TheVariants.{Copies, Deals};
 ghost use Rattle.stage_out.specs.CopyStates as copy;
 ghost use Rattle.stage_out.specs.PartitionStates as part;
-ghost use Rattle.stage_out.specs.OutLogics.{is_live, row, Turned, IsOut, IsMade, Begins};
+ghost use Rattle.stage_out.specs.OutLogics.{room_of, row, Turned, IsOut, IsMade, Begins};
 
 use crate::copy_logic::CopyLogic;
 use crate::partition_logic::PartitionLogic;
@@ -17,8 +17,8 @@ use port_core::pick_log::PickLog;
 use std::alloc::Global;
 use stream_model::kind::Kind;
 
-/// The logic of a node with several outputs. A call that appends actions wants room for 34 of them, which is two for each
-/// port of the largest node. Rule: Akka Streams 2.6 reference.
+/// The logic of a node with several outputs. A call that appends actions wants room for two of them for each port, of which
+/// the node has its outputs and one input. Rule: Akka Streams 2.6 reference.
 #[derive(Drop)]
 pub enum OutLogic {
     /// A broadcast, or an unzip.
@@ -45,10 +45,8 @@ impl OutLogic {
 
     /// The run begins. It waits to be asked.
     pub fn start(&mut self, acts: &mut Acts) -> Result<(), NoMemory>
-        requires live { is_live self.old ≡ true }
         requires meets { Meets starts (row self.old) }
         requires empty { acts.old.items ≡ [] }
-        requires room { 34 ≤ acts.old.room }
         ensures answers { IsOk result }
         ensures ports { OnOk result (Obeys starts (row self.old) (row self.new) acts.new.items) }
         ensures gives { OnOk result (Turned starts self.old acts.new.items self.new) }
@@ -68,10 +66,9 @@ impl OutLogic {
         e: Elem,
         acts: &mut Acts,
     ) -> Result<(), NoMemory>
-        requires live { is_live self.old ≡ true }
         requires meets { Meets (brings port (item.Elem e)) (row self.old) }
         requires empty { acts.old.items ≡ [] }
-        requires room { 34 ≤ acts.old.room }
+        requires room { room_of self.old ≤ acts.old.room }
         ensures ports { OnOk result (Obeys (brings port (item.Elem e)) (row self.old) (row self.new) acts.new.items) }
         ensures gives { OnOk result (Turned (brings port (item.Elem e)) self.old acts.new.items self.new) }
         ensures room { OnOk result (acts.new.room ≡ acts.old.room) }
@@ -84,10 +81,9 @@ impl OutLogic {
 
     /// Output `port` was asked.
     pub fn on_pull(&mut self, port: u8, acts: &mut Acts) -> Result<(), NoMemory>
-        requires live { is_live self.old ≡ true }
         requires meets { Meets (asks port) (row self.old) }
         requires empty { acts.old.items ≡ [] }
-        requires room { 34 ≤ acts.old.room }
+        requires room { room_of self.old ≤ acts.old.room }
         ensures answers { IsOk result }
         ensures ports { OnOk result (Obeys (asks port) (row self.old) (row self.new) acts.new.items) }
         ensures gives { OnOk result (Turned (asks port) self.old acts.new.items self.new) }
@@ -101,10 +97,9 @@ impl OutLogic {
 
     /// The input has ended.
     pub fn on_finish(&mut self, port: u8, acts: &mut Acts) -> Result<(), NoMemory>
-        requires live { is_live self.old ≡ true }
         requires meets { Meets (brings port item.Ended) (row self.old) }
         requires empty { acts.old.items ≡ [] }
-        requires room { 34 ≤ acts.old.room }
+        requires room { room_of self.old ≤ acts.old.room }
         ensures answers { IsOk result }
         ensures ports { OnOk result (Obeys (brings port item.Ended) (row self.old) (row self.new) acts.new.items) }
         ensures gives { OnOk result (Turned (brings port item.Ended) self.old acts.new.items self.new) }
@@ -118,10 +113,9 @@ impl OutLogic {
 
     /// The input has failed.
     pub fn on_fail(&mut self, port: u8, cause: Cause, acts: &mut Acts) -> Result<(), NoMemory>
-        requires live { is_live self.old ≡ true }
         requires meets { Meets (brings port (item.Failed cause)) (row self.old) }
         requires empty { acts.old.items ≡ [] }
-        requires room { 34 ≤ acts.old.room }
+        requires room { room_of self.old ≤ acts.old.room }
         ensures answers { IsOk result }
         ensures ports { OnOk result (Obeys (brings port (item.Failed cause)) (row self.old) (row self.new) acts.new.items) }
         ensures gives { OnOk result (Turned (brings port (item.Failed cause)) self.old acts.new.items self.new) }
@@ -135,10 +129,9 @@ impl OutLogic {
 
     /// Output `port` was cancelled.
     pub fn on_cancel(&mut self, port: u8, acts: &mut Acts) -> Result<(), NoMemory>
-        requires live { is_live self.old ≡ true }
         requires meets { Meets (cancels port) (row self.old) }
         requires empty { acts.old.items ≡ [] }
-        requires room { 34 ≤ acts.old.room }
+        requires room { room_of self.old ≤ acts.old.room }
         ensures answers { IsOk result }
         ensures ports { OnOk result (Obeys (cancels port) (row self.old) (row self.new) acts.new.items) }
         ensures gives { OnOk result (Turned (cancels port) self.old acts.new.items self.new) }

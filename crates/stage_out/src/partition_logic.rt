@@ -6,7 +6,7 @@ ghost use Rattle.port_core.specs.declared.act.Act.TheVariants as act;
 ghost use Rattle.port_core.specs.Call.{Obeys, Meets, starts, asks, brings, cancels};
 ghost use Rattle.stream_model.specs.declared.kind.TheConstants.{MAX_FAN};
 ghost use Rattle.stage_out.specs.declared.want.Want.TheVariants.{Quiet, Asks, Gone};
-ghost use Rattle.stage_out.specs.Copies.{at_open};
+ghost use Rattle.stage_out.specs.Copies.{at_open, room_for};
 ghost use Rattle.stage_out.specs.PartitionStates.{row, Turned, Parts, pull_by, waits_by, moved_by, moving_by, TookFor, Noted, AskedOf, Dealt, Served, EndedFor, struck, PassedOver, Lost, with_asks, with_given, blaming, begun};
 
 use crate::want::{Want, quiet_outs};
@@ -98,7 +98,7 @@ impl PartitionLogic {
         requires live { self.old.live ≡ true }
         requires meets { Meets (asks port) (row self.old) }
         requires empty { acts.old.items ≡ [] }
-        requires room { 34 ≤ acts.old.room }
+        requires room { room_for (length self.old.outs) ≤ acts.old.room }
         ensures answers { IsOk result }
         ensures ports { OnOk result (Obeys (asks port) (row self.old) (row self.new) acts.new.items) }
         ensures gives { OnOk result (Turned (asks port) self.old acts.new.items self.new) }
@@ -119,7 +119,7 @@ impl PartitionLogic {
         requires live { self.old.live ≡ true }
         requires meets { Meets (brings port (item.Elem e)) (row self.old) }
         requires empty { acts.old.items ≡ [] }
-        requires room { 34 ≤ acts.old.room }
+        requires room { room_for (length self.old.outs) ≤ acts.old.room }
         ensures ports { OnOk result (Obeys (brings port (item.Elem e)) (row self.old) (row self.new) acts.new.items) }
         ensures gives { OnOk result (Turned (brings port (item.Elem e)) self.old acts.new.items self.new) }
         ensures room { OnOk result (acts.new.room ≡ acts.old.room) }
@@ -133,7 +133,7 @@ impl PartitionLogic {
         requires live { self.old.live ≡ true }
         requires meets { Meets (brings port item.Ended) (row self.old) }
         requires empty { acts.old.items ≡ [] }
-        requires room { 34 ≤ acts.old.room }
+        requires room { room_for (length self.old.outs) ≤ acts.old.room }
         ensures answers { IsOk result }
         ensures ports { OnOk result (Obeys (brings port item.Ended) (row self.old) (row self.new) acts.new.items) }
         ensures gives { OnOk result (Turned (brings port item.Ended) self.old acts.new.items self.new) }
@@ -149,7 +149,7 @@ impl PartitionLogic {
         requires live { self.old.live ≡ true }
         requires meets { Meets (brings port (item.Failed cause)) (row self.old) }
         requires empty { acts.old.items ≡ [] }
-        requires room { 34 ≤ acts.old.room }
+        requires room { room_for (length self.old.outs) ≤ acts.old.room }
         ensures answers { IsOk result }
         ensures ports { OnOk result (Obeys (brings port (item.Failed cause)) (row self.old) (row self.new) acts.new.items) }
         ensures gives { OnOk result (Turned (brings port (item.Failed cause)) self.old acts.new.items self.new) }
@@ -165,7 +165,7 @@ impl PartitionLogic {
         requires live { self.old.live ≡ true }
         requires meets { Meets (cancels port) (row self.old) }
         requires empty { acts.old.items ≡ [] }
-        requires room { 34 ≤ acts.old.room }
+        requires room { room_for (length self.old.outs) ≤ acts.old.room }
         ensures answers { IsOk result }
         ensures ports { OnOk result (Obeys (cancels port) (row self.old) (row self.new) acts.new.items) }
         ensures gives { OnOk result (Turned (cancels port) self.old acts.new.items self.new) }
@@ -181,7 +181,7 @@ impl PartitionLogic {
         requires few { length self.old.outs ≤ 16 }
         requires count { self.old.asking ≤ 16 }
         requires empty { acts.old.items ≡ [] }
-        requires room { 34 ≤ acts.old.room }
+        requires room { room_for (length self.old.outs) ≤ acts.old.room }
         ensures does { AskedOf port self.old self.new acts.new.items }
         ensures room { acts.new.room ≡ acts.old.room }
     {
@@ -207,7 +207,7 @@ impl PartitionLogic {
     // It holds nothing more: it ends where its input has ended, and else goes on.
     fn move_on(&mut self, acts: &mut Acts)
         requires few { length self.old.outs ≤ 16 }
-        requires room { length acts.old.items + 17 ≤ acts.old.room }
+        requires room { length acts.old.items + length self.old.outs < acts.old.room }
         ensures stage { self.new ≡ moved_by self.old.over self.old }
         ensures acts { acts.new ≡ record acts.old { items = acts.old.items ++ moving_by self.old.over self.old } }
     {
@@ -233,7 +233,7 @@ impl PartitionLogic {
 
     fn complete_all(&mut self, acts: &mut Acts)
         requires few { length self.old.outs ≤ 16 }
-        requires room { length acts.old.items + 17 ≤ acts.old.room }
+        requires room { length acts.old.items + length self.old.outs < acts.old.room }
         ensures stage { self.new ≡ record self.old { live = false } }
         ensures acts { acts.new ≡ record acts.old { items = acts.old.items ++ at_open (λ j. act.Complete j) 0 self.old.outs } }
     {
@@ -259,7 +259,7 @@ impl PartitionLogic {
         requires there { port < length self.old.outs }
         requires count { self.old.asking ≤ 16 }
         requires empty { acts.old.items ≡ [] }
-        requires room { 34 ≤ acts.old.room }
+        requires room { 1 ≤ acts.old.room }
         ensures does { Noted port self.old self.new acts.new.items }
         ensures room { acts.new.room ≡ acts.old.room }
     {
@@ -295,7 +295,7 @@ impl PartitionLogic {
         requires some { (p : ℕ) → slice_index_or self.old.outs p Gone ≡ Asks → 1 ≤ self.old.asking }
         requires parts { 1 ≤ self.old.parts }
         requires empty { acts.old.items ≡ [] }
-        requires room { 34 ≤ acts.old.room }
+        requires room { room_for (length self.old.outs) ≤ acts.old.room }
         ensures does { OnOk result (Served e self.old self.new acts.new.items) }
         ensures room { OnOk result (acts.new.room ≡ acts.old.room) }
     {
@@ -344,7 +344,7 @@ impl PartitionLogic {
     fn deal(&mut self, port: u8, e: Elem, acts: &mut Acts)
         requires some { slice_index_or self.old.outs port Gone ≡ Asks → 1 ≤ self.old.asking }
         requires empty { acts.old.items ≡ [] }
-        requires room { 34 ≤ acts.old.room }
+        requires room { 2 ≤ acts.old.room }
         ensures does { Dealt port e self.old self.new acts.new.items }
         ensures room { acts.new.room ≡ acts.old.room }
     {
@@ -380,7 +380,7 @@ impl PartitionLogic {
     fn blame(&mut self, taken: u64, why: Why, acts: &mut Acts)
         requires few { length self.old.outs ≤ 16 }
         requires empty { acts.old.items ≡ [] }
-        requires room { 34 ≤ acts.old.room }
+        requires room { room_for (length self.old.outs) ≤ acts.old.room }
         ensures does { Parts self.new acts.new.items (record self.old { live = false }) (act.Cancel 0 ∷ at_open (λ j. act.FailOut j (record { stage = self.old.node; nth = taken; why = why })) 0 self.old.outs) }
         ensures room { acts.new.room ≡ acts.old.room }
     {
@@ -396,7 +396,7 @@ impl PartitionLogic {
     fn fail_all(&mut self, cause: Cause, acts: &mut Acts)
         requires few { length self.old.outs ≤ 16 }
         requires empty { acts.old.items ≡ [] }
-        requires room { 34 ≤ acts.old.room }
+        requires room { length self.old.outs < acts.old.room }
         ensures does { Parts self.new acts.new.items (record self.old { live = false }) (at_open (λ j. act.FailOut j cause) 0 self.old.outs) }
         ensures room { acts.new.room ≡ acts.old.room }
     {
@@ -405,7 +405,7 @@ impl PartitionLogic {
 
     fn fail_from(&mut self, cause: Cause, acts: &mut Acts)
         requires few { length self.old.outs ≤ 16 }
-        requires room { length acts.old.items + 17 ≤ acts.old.room }
+        requires room { length acts.old.items + length self.old.outs < acts.old.room }
         ensures stage { self.new ≡ record self.old { live = false } }
         ensures acts { acts.new ≡ record acts.old { items = acts.old.items ++ at_open (λ j. act.FailOut j cause) 0 self.old.outs } }
     {
@@ -430,7 +430,7 @@ impl PartitionLogic {
     fn end(&mut self, acts: &mut Acts)
         requires few { length self.old.outs ≤ 16 }
         requires empty { acts.old.items ≡ [] }
-        requires room { 34 ≤ acts.old.room }
+        requires room { length self.old.outs < acts.old.room }
         ensures does { EndedFor self.old self.new acts.new.items }
         ensures room { acts.new.room ≡ acts.old.room }
     {
@@ -457,7 +457,7 @@ impl PartitionLogic {
         requires some { 1 ≤ self.old.open_outs }
         requires asks { slice_index_or self.old.outs port Gone ≡ Asks → 1 ≤ self.old.asking }
         requires empty { acts.old.items ≡ [] }
-        requires room { 34 ≤ acts.old.room }
+        requires room { room_for (length self.old.outs) ≤ acts.old.room }
         ensures does { Lost port self.old self.new acts.new.items }
         ensures room { acts.new.room ≡ acts.old.room }
     {
@@ -484,7 +484,7 @@ impl PartitionLogic {
 
     fn leave(&mut self, acts: &mut Acts)
         requires empty { acts.old.items ≡ [] }
-        requires room { 34 ≤ acts.old.room }
+        requires room { 1 ≤ acts.old.room }
         ensures does { Parts self.new acts.new.items (record self.old { live = false }) (if self.old.over then [] else act.Cancel 0 ∷ []) }
         ensures room { acts.new.room ≡ acts.old.room }
     {
@@ -497,7 +497,7 @@ impl PartitionLogic {
     fn pass_over(&mut self, port: u8, acts: &mut Acts)
         requires few { length self.old.outs ≤ 16 }
         requires empty { acts.old.items ≡ [] }
-        requires room { 34 ≤ acts.old.room }
+        requires room { length self.old.outs < acts.old.room }
         ensures does { PassedOver port self.old self.new acts.new.items }
         ensures room { acts.new.room ≡ acts.old.room }
     {

@@ -9,3 +9,4 @@ pub mod Delivering
 pub mod Going
 pub mod Starting
 pub mod Responding
+pub mod Keeping

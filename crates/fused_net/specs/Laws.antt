@@ -1,5 +1,5 @@
 -- What a fused graph keeps: its wiring, a joint state of each wire, and of each node its row and its law over its histories.
-use Rattle.std.specs.Prelude.{◌≡◌, ◌≢◌, ℕ, ◌<◌, ◌≤◌, true, Some, List, [], ◌∷◌, length, replicate, slice_get, ⊤}
+use Rattle.std.specs.Prelude.{◌≡◌, ◌≢◌, ℕ, ◌<◌, ◌≤◌, ◌⊎◌, true, Some, List, [], ◌∷◌, length, replicate, slice_get, ⊤}
 use Rattle.elem_core.specs.Prefix.{IsPrefix}
 use Rattle.elem_core.specs.declared.item.Item.{Item}
 use Rattle.port_core.specs.Ring.{holds}
@@ -63,6 +63,12 @@ IsAsking {N = N} asking net n = (x : N) → slice_get net.nodes n ≡ Some x →
 -- the moves that each node has recorded only grew
 abbrev pub MovesGrow : {N : Type 0} → (N → List ℕ) → Net N → Net N → Type 0
 MovesGrow {N = N} moves old new = (k : ℕ) (x y : N) → slice_get old.nodes k ≡ Some x → slice_get new.nodes k ≡ Some y → IsPrefix (moves x) (moves y)
+
+-- each node, in their order, is the same, or it has kept what outlives want of memory
+abbrev pub AllKept : {N : Type 0} → (N → N → Type 0) → List N → List N → Type 0
+AllKept keeps [] [] = ⊤
+AllKept keeps (x ∷ xs) (y ∷ ys) = ((y ≡ x) ⊎ keeps x y) × AllKept keeps xs ys
+AllKept keeps _ _ = ⊥
 
 module _ {N : Type 0} (row : N → View → Type 0) (law : N → N → View → List (List Item) → List (List Item) → Type 0) where
   -- a node, by what it knows and by its histories, which has these actions still to do: they are allowed, and once they are
@@ -159,6 +165,14 @@ module _ {N : Type 0} (row : N → View → Type 0) (law : N → N → View → 
     pub asks : Pulls acts → asking node (acted_all (view_of old n) acts)
     pub grows : (x : N) → slice_get old.nodes n ≡ Some x → IsPrefix (moves x) (moves node)
     pub is : new ≡ net.acted_all (with_node old n node) n acts
+
+  -- Memory was wanting in a handler: the graph had gone on to a last moment between two events, and since then each node has
+  -- kept what outlives that.
+  pub record BreaksOff (keeps : N → N → Type 0) (old : Net N) (nodes : List N) : Type 0 where
+    pub last : Net N
+    pub settled : Settled last
+    pub on : GoesOn old last
+    pub kept : AllKept keeps last.nodes nodes
 
   -- the nodes below n were started, and the others were not
   pub record Starting (fresh : N → View → Type 0) (net : Net N) (n : ℕ) : Type 0 where

@@ -1,5 +1,5 @@
 // Nodes joined by wires: one action, one event, and `execute`.
-ghost use Rattle.std.specs.Prelude.{◌≡◌, ◌≢◌, ℕ, ◌+◌, ◌^◌, ◌<◌, ◌≤◌, [], false, Some, OnOk, IfOk, IfNone, IfSome, IsTrue, ◌↔◌, if◌then◌else◌, length, slice_get};
+ghost use Rattle.std.specs.Prelude.{◌≡◌, ◌≢◌, ℕ, ◌+◌, ◌^◌, ◌<◌, ◌≤◌, [], false, Some, OnOk, OnErr, IfOk, IfNone, IfSome, IsTrue, ◌↔◌, if◌then◌else◌, length, slice_get};
 ghost use Rattle.elem_core.specs.Prefix.{IsPrefix};
 ghost use Rattle.port_core.specs.Call.{Meets};
 ghost use Rattle.port_core.specs.Ring.{holds};
@@ -7,7 +7,7 @@ ghost use Rattle.port_core.specs.Wire.{nothing, delivery_of};
 ghost use Rattle.stage_core.specs.Handling.{most_acts, AsksAs, Handles};
 ghost use Rattle.wire_core.specs.Cell.{delivery_in};
 ghost use Rattle.fused_net.specs.Net.{acted, acted_all, event_told, wire_at, wire_for, HasPort, Able, port_at, target, call_of, before};
-ghost use Rattle.fused_net.specs.Laws.{AnyRow, AnyLaw, Wired, first_view, Settled, Busy, Starting, GoesOn, Awaits, TellsAsking, MeetsAt, Responds};
+ghost use Rattle.fused_net.specs.Laws.{AnyRow, AnyLaw, Wired, first_view, Settled, Busy, Starting, GoesOn, Awaits, TellsAsking, MeetsAt, Responds, AllKept, BreaksOff};
 ghost use Rattle.fused_net.specs.Costs.{all_asks, Uses};
 
 use crate::net::{Ends, Ports};
@@ -82,6 +82,7 @@ fn call<S: Stage>(
     ensures asks { OnOk result (AsksAs (call_of (delivery_in event) ends) (S.rests node.old) (S.asking node.new) acts.new.items) }
     ensures grows { OnOk result (IsPrefix (S.moves node.old) (S.moves node.new)) }
     ensures room { OnOk result (acts.new.room ≡ acts.old.room) }
+    ensures kept { OnErr result (S.keeps node.old node.new) }
 {
     match event {
         Delivered::Nothing => unreachable!(),
@@ -219,6 +220,7 @@ impl<S: Stage> Engine<S> {
         requires room { most_acts ≤ acts.old.room }
         ensures responds { OnOk result (Responds S.rests S.law S.asking S.moves self.old self.new n) }
         ensures acts { OnOk result (acts.new ≡ acts.old) }
+        ensures kept { OnErr result (AllKept S.keeps self.old.nodes self.new.nodes) }
     {
         call(&mut self.nodes[n], alloc, ends, event, acts)?;
         self.perform(n, acts);
@@ -237,6 +239,7 @@ impl<S: Stage> Engine<S> {
         ensures on { OnOk result (GoesOn self.old self.new) }
         ensures uses { OnOk result (Uses (before self.old w) self.new 1) }
         ensures acts { OnOk result (acts.new ≡ acts.old) }
+        ensures kept { OnErr result (AllKept S.keeps self.old.nodes self.new.nodes) }
     {
         let ends = self.ends[w as usize];
         let event = self.deliver(w);
@@ -267,6 +270,7 @@ impl<S: Stage> Engine<S> {
         ensures uses { IfOk result (λ went. Uses self.old self.new (if went then 1 else 0)) }
         ensures rest { IfOk result (λ went. went ≡ false → self.new.queue ≡ []) }
         ensures acts { OnOk result (acts.new ≡ acts.old) }
+        ensures kept { OnErr result (AllKept S.keeps self.old.nodes self.new.nodes) }
     {
         match self.next() {
             None => Ok(false),
@@ -277,7 +281,8 @@ impl<S: Stage> Engine<S> {
         }
     }
 
-    /// Handles at most `limit` events, one unit each, and fewer only where none is left. It answers how many.
+    /// Handles at most `limit` events, one unit each, and fewer only where none is left. It answers how many. After `NoMemory`
+    /// each node has kept what outlives that since the last moment between two events, and the graph is only taken apart.
     pub fn execute(&mut self, alloc: Global, limit: u32, acts: &mut Acts) -> Result<u32, NoMemory>
         requires laws { Settled S.rests S.law S.asking S.moves self.old }
         requires few { all_asks self.old + limit ≤ 4000000000 }
@@ -289,6 +294,8 @@ impl<S: Stage> Engine<S> {
         ensures within { IfOk result (λ used. used ≤ limit) }
         ensures rest { IfOk result (λ used. used < limit → self.new.queue ≡ []) }
         ensures acts { OnOk result (acts.new ≡ acts.old) }
+        ensures breaks { OnErr result (BreaksOff S.rests S.law S.asking S.moves S.keeps self.old self.new.nodes) }
+        ensures count { length self.new.nodes ≡ length self.old.nodes }
     {
         for used in 0..limit {
             if !self.step(alloc, acts)? {

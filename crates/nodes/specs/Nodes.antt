@@ -7,6 +7,7 @@ use Rattle.nodes.specs.declared.node.Node.{Node}
 use Rattle.nodes.specs.declared.node.Node.TheVariants.{Reading, Making, Linear, State, Writing, Ignoring}
 use Rattle.nodes.specs.declared.node.NodeEnd.{NodeEnd}
 use Rattle.nodes.specs.declared.node.NodeEnd.TheVariants.{Read, Staged, Wrote}
+use Rattle.nodes.specs.Keeping.{KeepsEnd}
 use Rattle.nodes.specs.Source.{LinesFresh, lines_row, LinesLaw}
 use Rattle.nodes.specs.Maker.{MadeFresh, made_row, MadeLaw}
 use Rattle.nodes.specs.Linear.{LinearFresh, LinearRow, LinearLaw}
@@ -58,3 +59,7 @@ node_end (Linear x) = Staged
 node_end (State x) = Staged
 node_end (Writing x) = Wrote (record { node = x.node; count = x.count; end = x.end; drain = Some x.drain })
 node_end (Ignoring x) = Wrote (record { node = x.node; count = 0; end = x.end; drain = None })
+
+-- what of it outlives want of memory: the handle that it would leave
+abbrev pub node_keeps : {S D : Type 0} → (S → SourceState) → (D → DrainState) → Node S D → Node S D → Type 0
+node_keeps sources drains x y = KeepsEnd sources drains (node_end x) (node_end y)

@@ -1,6 +1,6 @@
 // A node of an island, whatever its kind is.
 ghost use Rattle.std.specs.Prelude.{◌≡◌};
-ghost use Rattle.nodes.specs.Nodes.{node_fresh, node_row, node_law, node_asking, node_moves, node_end};
+ghost use Rattle.nodes.specs.Nodes.{node_fresh, node_row, node_law, node_asking, node_moves, node_end, node_keeps};
 
 use crate::ignoring::IgnoreSink;
 use crate::maker::Maker;
@@ -68,6 +68,8 @@ impl<S: Source, D: Drain> Stage for Node<S, D> {
     ghost asking = { node_asking };
 
     ghost moves = { node_moves };
+
+    ghost keeps = { node_keeps S.state D.state };
 
     fn start(&mut self, alloc: Global, acts: &mut Acts) -> Result<(), NoMemory> {
         match self {

@@ -2,7 +2,8 @@
 -- not started may know of its ports (`fresh`); what one that was started may know of them between two calls (`row`, in the trait `rests`); and
 -- what holds of the histories of its ports, by the stage as it was handed in and as it is now (`law`). Two more are told of
 -- the moments at which it asks: what it knows of its ports whenever it has just asked (`asking`), and the moves that it has
--- recorded, which only grow (`moves`).
+-- recorded, which only grow (`moves`). And one is told of want of memory: what a stage keeps of itself through a call that
+-- answers it (`keeps`).
 use Rattle.std.specs.Prelude.{◌≡◌, ℕ, List, [], ◌∷◌, length, ⊤}
 use Rattle.elem_core.specs.declared.item.Item.{Item}
 use Rattle.port_core.specs.declared.act.Act.{Act}

@@ -1,4 +1,4 @@
-ghost use Rattle.std.specs.Prelude.{◌≡◌, ◌≤◌, ℕ, List, [], OnOk};
+ghost use Rattle.std.specs.Prelude.{◌≡◌, ◌≤◌, ℕ, List, [], OnOk, OnErr};
 ghost use Rattle.elem_core.specs.Prefix.{IsPrefix};
 ghost use Rattle.elem_core.specs.declared.item.Item.{Item};
 ghost use Rattle.elem_core.specs.declared.item.Item.TheVariants as item;
@@ -15,8 +15,9 @@ use std::alloc::Global;
 pub const MOST_ACTS: u32 = 34;
 
 /// A node of a fused graph: a source, a stage or a sink. Each call is a handler; what it wants done at its ports it appends
-/// to `acts`, which is empty and has room. The moves that it has recorded are a log of its choices, which only grows. After `NoMemory` a stage is only dropped or taken apart. Rule: Akka Streams 2.6
-/// reference, chapter on custom stream processing.
+/// to `acts`, which is empty and has room. The moves that it has recorded are a log of its choices, which only grows. After `NoMemory` a stage is
+/// only dropped or taken apart, and `keeps` says what of it is as it was before that call. Rule: Akka Streams 2.6 reference,
+/// chapter on custom stream processing; want of memory: own.
 pub trait Stage: Drop {
     ghost fresh: { Self → View → Type 0 };
 
@@ -28,7 +29,9 @@ pub trait Stage: Drop {
 
     ghost moves: { Self → List ℕ };
 
-    /// The run begins.
+    ghost keeps: { Self → Self → Type 0 };
+
+    /// The run begins. Nothing is read or written yet.
     fn start(&mut self, alloc: Global, acts: &mut Acts) -> Result<(), NoMemory>
         requires meets { Meets starts (fresh self.old) }
         requires empty { acts.old.items ≡ [] }
@@ -36,7 +39,8 @@ pub trait Stage: Drop {
         ensures starts { OnOk result (Starts rests law fresh self.old self.new acts.new.items) }
         ensures asks { OnOk result (AsksAs starts (fresh self.old) (asking self.new) acts.new.items) }
         ensures grows { OnOk result (IsPrefix (moves self.old) (moves self.new)) }
-        ensures room { OnOk result (acts.new.room ≡ acts.old.room) };
+        ensures room { OnOk result (acts.new.room ≡ acts.old.room) }
+        ensures kept { keeps self.old self.new };
 
     /// Output `port` was asked.
     fn on_pull(&mut self, alloc: Global, port: u8, acts: &mut Acts) -> Result<(), NoMemory>
@@ -46,7 +50,8 @@ pub trait Stage: Drop {
         ensures handles { OnOk result (Handles rests law (asks port) self.old self.new acts.new.items) }
         ensures asks { OnOk result (AsksAs (asks port) (rests self.old) (asking self.new) acts.new.items) }
         ensures grows { OnOk result (IsPrefix (moves self.old) (moves self.new)) }
-        ensures room { OnOk result (acts.new.room ≡ acts.old.room) };
+        ensures room { OnOk result (acts.new.room ≡ acts.old.room) }
+        ensures kept { OnErr result (keeps self.old self.new) };
 
     /// An element came to input `port`.
     fn on_push(&mut self, alloc: Global, port: u8, e: Elem, acts: &mut Acts) -> Result<(), NoMemory>
@@ -56,7 +61,8 @@ pub trait Stage: Drop {
         ensures handles { OnOk result (Handles rests law (brings port (item.Elem e)) self.old self.new acts.new.items) }
         ensures asks { OnOk result (AsksAs (brings port (item.Elem e)) (rests self.old) (asking self.new) acts.new.items) }
         ensures grows { OnOk result (IsPrefix (moves self.old) (moves self.new)) }
-        ensures room { OnOk result (acts.new.room ≡ acts.old.room) };
+        ensures room { OnOk result (acts.new.room ≡ acts.old.room) }
+        ensures kept { OnErr result (keeps self.old self.new) };
 
     /// Input `port` has ended.
     fn on_finish(&mut self, alloc: Global, port: u8, acts: &mut Acts) -> Result<(), NoMemory>
@@ -66,7 +72,8 @@ pub trait Stage: Drop {
         ensures handles { OnOk result (Handles rests law (brings port item.Ended) self.old self.new acts.new.items) }
         ensures asks { OnOk result (AsksAs (brings port item.Ended) (rests self.old) (asking self.new) acts.new.items) }
         ensures grows { OnOk result (IsPrefix (moves self.old) (moves self.new)) }
-        ensures room { OnOk result (acts.new.room ≡ acts.old.room) };
+        ensures room { OnOk result (acts.new.room ≡ acts.old.room) }
+        ensures kept { OnErr result (keeps self.old self.new) };
 
     /// Input `port` has failed.
     fn on_fail(
@@ -82,7 +89,8 @@ pub trait Stage: Drop {
         ensures handles { OnOk result (Handles rests law (brings port (item.Failed cause)) self.old self.new acts.new.items) }
         ensures asks { OnOk result (AsksAs (brings port (item.Failed cause)) (rests self.old) (asking self.new) acts.new.items) }
         ensures grows { OnOk result (IsPrefix (moves self.old) (moves self.new)) }
-        ensures room { OnOk result (acts.new.room ≡ acts.old.room) };
+        ensures room { OnOk result (acts.new.room ≡ acts.old.room) }
+        ensures kept { OnErr result (keeps self.old self.new) };
 
     /// Output `port` was cancelled.
     fn on_cancel(&mut self, alloc: Global, port: u8, acts: &mut Acts) -> Result<(), NoMemory>
@@ -92,5 +100,6 @@ pub trait Stage: Drop {
         ensures handles { OnOk result (Handles rests law (cancels port) self.old self.new acts.new.items) }
         ensures asks { OnOk result (AsksAs (cancels port) (rests self.old) (asking self.new) acts.new.items) }
         ensures grows { OnOk result (IsPrefix (moves self.old) (moves self.new)) }
-        ensures room { OnOk result (acts.new.room ≡ acts.old.room) };
+        ensures room { OnOk result (acts.new.room ≡ acts.old.room) }
+        ensures kept { OnErr result (keeps self.old self.new) };
 }

@@ -2,3 +2,4 @@ pub mod Buffers
 pub mod Finishes
 pub mod Pushes
 pub mod Rows
+pub mod Handling

@@ -5,3 +5,4 @@ pub mod Outcomes
 pub mod Holding
 pub mod Parts
 pub mod Resting
+pub mod Handling

@@ -3,6 +3,7 @@
 
 pub mod buffer;
 pub mod ending;
+pub mod handlers;
 pub mod keep;
 pub mod keeping;
 pub mod laws;

@@ -1,0 +1,7 @@
+use Rattle.port_core.specs.Call.{brings}
+use Rattle.elem_core.specs.declared.item.Item.TheVariants as item
+use Rattle.stage_linear.proofs.Handling.{handles}
+use Rattle.stage_linear.proofs.handlers.LinearLogicStage.on_finish.Goals as goal
+
+pub returns-clause-handles : goal.returns-clause-handles
+returns-clause-handles c = handles (brings c.args._port item.Ended) _ _ _ _ c.requires.meets c.on_finish.ensures.ports c.on_finish.ensures.gives

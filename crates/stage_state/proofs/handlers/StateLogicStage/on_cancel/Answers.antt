@@ -1,0 +1,6 @@
+use Rattle.port_core.specs.Call.{cancels}
+use Rattle.stage_state.proofs.Handling.{handles}
+use Rattle.stage_state.proofs.handlers.StateLogicStage.on_cancel.Goals as goal
+
+pub returns-clause-handles : goal.returns-clause-handles
+returns-clause-handles c = handles (cancels c.args._port) _ _ _ _ c.requires.meets c.on_cancel.ensures.ports c.on_cancel.ensures.gives

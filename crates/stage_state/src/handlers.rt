@@ -1,0 +1,64 @@
+// A stage with state as the interpreter calls it: its calls keep the law of its output over its whole history.
+ghost use Rattle.std.specs.Prelude.{[], ⊤};
+ghost use Rattle.stage_state.specs.Handling.{StateFresh, StateRow, StateLaw};
+
+use crate::laws::a_called_stage_is_open;
+use crate::logic::StateLogic;
+use elem_core::elem::Elem;
+use elem_core::why::{Cause, NoMemory};
+use port_core::acts::Acts;
+use stage_core::stage::Stage;
+use std::alloc::Global;
+
+impl Stage for StateLogic {
+    ghost fresh = { StateFresh };
+
+    ghost rests = { StateRow };
+
+    ghost law = { StateLaw };
+
+    ghost asking = { λ l v. ⊤ };
+
+    ghost moves = { λ l. [] };
+
+    fn start(&mut self, _alloc: Global, acts: &mut Acts) -> Result<(), NoMemory> {
+        self.start(acts)
+    }
+
+    fn on_pull(&mut self, _alloc: Global, _port: u8, acts: &mut Acts) -> Result<(), NoMemory> {
+        a_called_stage_is_open();
+        self.on_pull(0, acts)
+    }
+
+    fn on_push(
+        &mut self,
+        alloc: Global,
+        _port: u8,
+        e: Elem,
+        acts: &mut Acts,
+    ) -> Result<(), NoMemory> {
+        a_called_stage_is_open();
+        self.on_push(alloc, 0, e, acts)
+    }
+
+    fn on_finish(&mut self, alloc: Global, _port: u8, acts: &mut Acts) -> Result<(), NoMemory> {
+        a_called_stage_is_open();
+        self.on_finish(alloc, 0, acts)
+    }
+
+    fn on_fail(
+        &mut self,
+        _alloc: Global,
+        _port: u8,
+        cause: Cause,
+        acts: &mut Acts,
+    ) -> Result<(), NoMemory> {
+        a_called_stage_is_open();
+        self.on_fail(0, cause, acts)
+    }
+
+    fn on_cancel(&mut self, _alloc: Global, _port: u8, acts: &mut Acts) -> Result<(), NoMemory> {
+        a_called_stage_is_open();
+        self.on_cancel(0, acts)
+    }
+}

@@ -1,0 +1,87 @@
+-- What the words of the command say, in order: options with their values, and files. Rule: own.
+use Rattle.std.specs.Prelude.{ℕ, Bool, true, false, ◌==◌, if◌then◌else◌, List, [], ◌∷◌, map, Option, Some, None, option_map, codes}
+use Rattle.std.specs.Str.{bytes_eq}
+
+-- an option
+pub data Setting : Type 0 where
+  generate : Setting
+  workers : Setting
+  turns : Setting
+  trace : Setting
+
+-- an option with its value, or a file
+pub data Part : Type 0 where
+  given : Setting → List ℕ → Part
+  file : List ℕ → Part
+
+-- the word begins with `-`
+abbrev pub is_dashed : List ℕ → Bool
+is_dashed [] = false
+is_dashed (b ∷ bs) = b == 45
+
+-- what stands in a word before its first `=`, and what stands behind it
+abbrev pub name_in : List ℕ → List ℕ
+name_in [] = []
+name_in (b ∷ bs) = if b == 61 then [] else b ∷ name_in bs
+
+abbrev pub value_in : List ℕ → Option (List ℕ)
+value_in [] = None
+value_in (b ∷ bs) = if b == 61 then Some bs else value_in bs
+
+-- the option of that name
+abbrev pub setting_of : List ℕ → Option Setting
+setting_of name =
+    if bytes_eq (codes "--gen") name then Some generate
+    else (if bytes_eq (codes "--workers") name then Some workers
+    else (if bytes_eq (codes "--turns") name then Some turns
+    else (if bytes_eq (codes "--trace") name then Some trace else None)))
+
+-- the part, and then those of the rest
+abbrev pub before : Part → Option (List Part) → Option (List Part)
+before part = option_map (λ parts. part ∷ parts)
+
+-- an option has its value behind `=`, or it is the next word
+abbrev pub with_value : Option Setting → Option (List ℕ) → (Option Setting → Option (List Part)) → Option (List Part)
+with_value None value rest = None
+with_value (Some s) None rest = rest (Some s)
+with_value (Some s) (Some v) rest = before (given s v) (rest None)
+
+-- The parts from a word on, where the rest is told from the option on that waits for its value. That value does not begin with `-`.
+-- Behind a word `--` all words are files.
+abbrev pub word_from : Option Setting → List ℕ → List (List ℕ) → (Option Setting → Option (List Part)) → Option (List Part)
+word_from (Some s) word words rest = if is_dashed word then None else before (given s word) (rest None)
+word_from None word words rest =
+    if bytes_eq word (codes "--") then Some (map file words)
+    else (if is_dashed word then with_value (setting_of (name_in word)) (value_in word) rest else before (file word) (rest None))
+
+abbrev pub no_word : Option Setting → Option (List Part)
+no_word (Some s) = None
+no_word None = Some []
+
+-- the parts of the words, behind an option that waits for its value or behind none; None where they are not all parts
+unfoldable pub parts_from : List (List ℕ) → Option Setting → Option (List Part)
+parts_from [] waits = no_word waits
+parts_from (word ∷ words) waits = word_from waits word words (parts_from words)
+
+abbrev pub parts_of : List (List ℕ) → Option (List Part)
+parts_of words = parts_from words None
+
+-- the files
+abbrev pub files_of : List Part → List (List ℕ)
+files_of [] = []
+files_of (given s value ∷ parts) = files_of parts
+files_of (file name ∷ parts) = name ∷ files_of parts
+
+-- the option is this one
+abbrev pub is_setting : Setting → Setting → Bool
+is_setting generate generate = true
+is_setting workers workers = true
+is_setting turns turns = true
+is_setting trace trace = true
+is_setting _ _ = false
+
+-- the values of an option
+abbrev pub values_of : Setting → List Part → List (List ℕ)
+values_of s [] = []
+values_of s (given t value ∷ parts) = if is_setting s t then value ∷ values_of s parts else values_of s parts
+values_of s (file name ∷ parts) = values_of s parts

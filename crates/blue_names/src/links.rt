@@ -13,7 +13,7 @@ use elem_core::why::NoMemory;
 use std::alloc::Global;
 
 /// A wire by the numbers of its nodes.
-#[derive(Clone, Copy, PartialEq, Eq, Debug)]
+#[derive(Clone, Copy, PartialEq, Eq)]
 pub struct Link {
     /// The number of the node whose output it is.
     pub from: usize,

@@ -157,7 +157,7 @@ fn is_number(i: usize, found: Option<usize>) -> bool
 }
 
 /// A port without a wire.
-#[derive(Clone, Copy, PartialEq, Eq, Debug)]
+#[derive(Clone, Copy, PartialEq, Eq)]
 pub struct OpenPort {
     /// The number of its node.
     pub node: usize,

@@ -3,10 +3,8 @@
 
 mod classes;
 pub mod closed;
-mod components;
-mod depth;
+pub mod components;
+pub mod depth;
 pub mod forest;
 mod marks;
-mod ranks;
-#[cfg(test)]
-mod tests;
+pub mod ranks;

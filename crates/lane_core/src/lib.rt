@@ -7,5 +7,3 @@ pub mod lane_out;
 pub mod ring;
 pub mod room;
 pub mod sight;
-#[cfg(test)]
-mod tests;

@@ -8,5 +8,3 @@ pub mod names;
 mod number;
 pub mod parts;
 pub mod seats;
-#[cfg(test)]
-mod tests;

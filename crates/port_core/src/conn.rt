@@ -12,7 +12,7 @@ use std::mem;
 
 /// What a connection that was queued has for one of its ends. Rule: own, after the events of the Akka Streams 2.6
 /// interpreter.
-#[derive(Clone, Copy, PartialEq, Eq, Debug)]
+#[derive(Clone, Copy, PartialEq, Eq)]
 pub enum Event {
     /// An element for the input.
     Push,

@@ -8,6 +8,4 @@ pub mod conn;
 pub mod laws;
 pub mod pick_log;
 pub mod ring;
-#[cfg(test)]
-mod tests;
 pub mod view;

@@ -1,6 +1,6 @@
 /// What a stage knows of one of its inputs. The other end's closing counts once it was delivered to the stage. Rule: Akka
 /// Streams 2.6 reference.
-#[derive(Clone, Copy, PartialEq, Eq, Debug)]
+#[derive(Clone, Copy, PartialEq, Eq)]
 pub enum InView {
     /// It has not asked since the last element.
     Idle,
@@ -14,7 +14,7 @@ pub enum InView {
 
 /// What a stage knows of one of its outputs. The other end's cancel counts once it was delivered to the stage. Rule: Akka
 /// Streams 2.6 reference.
-#[derive(Clone, Copy, PartialEq, Eq, Debug)]
+#[derive(Clone, Copy, PartialEq, Eq)]
 pub enum OutView {
     /// Nobody asks.
     Unasked,

@@ -3,5 +3,3 @@
 
 pub mod close;
 pub mod open;
-#[cfg(test)]
-mod tests;

@@ -1,7 +1,7 @@
 use elem_core::why::Cause;
 
 /// How the input of a stage stands that still owes outputs. Rule: own.
-#[derive(Clone, Copy, PartialEq, Eq, Debug)]
+#[derive(Clone, Copy, PartialEq, Eq)]
 pub enum Ending {
     /// It has not ended.
     Lasting,

@@ -6,7 +6,7 @@ use elem_core::why::NoMemory;
 use std::alloc::Global;
 
 /// An operation on a file of a folder.
-#[derive(Debug, Drop, Clone, Copy, PartialEq, Eq)]
+#[derive(Drop, Clone, Copy, PartialEq, Eq)]
 pub enum Op {
     OpenIn,
     OpenOut,

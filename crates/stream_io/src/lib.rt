@@ -10,5 +10,3 @@ pub mod outside;
 pub mod real;
 pub mod sure;
 mod tally;
-#[cfg(test)]
-mod tests;

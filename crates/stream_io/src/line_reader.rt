@@ -20,7 +20,7 @@ const PIECE: usize = 4096;
 const LONGEST: usize = 65536;
 
 /// Why no line was drawn. After an error the reader is not called again.
-#[derive(Debug, Drop, Clone, Copy, PartialEq, Eq)]
+#[derive(Drop, Clone, Copy, PartialEq, Eq)]
 pub enum LineEnd {
     /// A read failed; the source's count of failed reads rose.
     ReadFault,

@@ -8,11 +8,11 @@ use elem_core::line::Line;
 use std::alloc::{AllocError, Global};
 
 /// A read or a write of the outside failed; the count of the source or drain rose.
-#[derive(Debug, Drop, Clone, Copy, PartialEq, Eq)]
+#[derive(Drop, Clone, Copy, PartialEq, Eq)]
 pub struct Failed;
 
 /// Why a file was not opened.
-#[derive(Debug, Drop, Clone, Copy, PartialEq, Eq)]
+#[derive(Drop, Clone, Copy, PartialEq, Eq)]
 pub enum OpenFault {
     /// The folder has no such file, or refused to open it.
     Missing,

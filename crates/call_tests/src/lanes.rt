@@ -1,14 +1,15 @@
+// Lanes whose two ends are used by turns, and by two threads.
 ghost use Rattle.std.specs.Prelude.{◌≡◌, ◌+◌, true, false, IfSome};
 ghost use Rattle.lane_core.specs.Lane.{elements, ends, weight};
 ghost use Rattle.lane_core.specs.Ends.{taken, asked, has_cancelled, has_ended, saw_cancel, out_lane, in_lane, AreOneLane, IsSameIn, IsSameOut};
 
-use crate::lane::{lane, meet};
-use crate::lane_in::LaneIn;
-use crate::lane_out::LaneOut;
-use crate::room::{Room, Waits};
 use elem_core::elem::{Elem, Form};
 use elem_core::item::Item;
 use elem_core::why::NoMemory;
+use lane_core::lane::{lane, meet};
+use lane_core::lane_in::LaneIn;
+use lane_core::lane_out::LaneOut;
+use lane_core::room::{Room, Waits};
 use std::test::Fail;
 use std::thread::{Threads, join};
 
@@ -60,60 +61,23 @@ fn are(waits: Waits, item: bool, demand: bool) -> bool {
 }
 
 #[test]
-fn a_lane_of_two(rt: HostRuntime) -> Result<(), Fail> {
-    let (mut out, mut inp) = lane(rt.alloc(), 2)?;
-    assert!(rt; finds_room(&mut out, 0));
-    assert!(rt; !send_number(&mut out, 1));
-    inp.ask(2);
-    assert!(rt; finds_room(&mut out, 2));
-    assert!(rt; send_number(&mut out, 1));
-    assert!(rt; send_number(&mut out, 2));
-    assert!(rt; !send_number(&mut out, 3));
-    let Some(first) = take_number(&mut inp) else {
-        panic!(rt; "no first number")
-    };
-    let Some(second) = take_number(&mut inp) else {
-        panic!(rt; "no second number")
-    };
-    assert!(rt; first == 1 && second == 2);
-    assert!(rt; inp.take().is_none());
-    inp.ask(2);
-    assert!(rt; out.offer(Item::Ended).is_ok());
-    assert!(rt; matches!(inp.take(), Some(Item::Ended)));
-    Ok(())
-}
-
-#[test]
-fn a_lane_of_one_goes_round(rt: HostRuntime) -> Result<(), Fail> {
+fn a_lane_of_one(rt: HostRuntime) -> Result<(), Fail> {
     let (mut out, mut inp) = lane(rt.alloc(), 1)?;
+    assert!(rt; finds_room(&mut out, 0));
     inp.ask(1);
-    let waits = meet(&mut out, &mut inp)?;
-    assert!(rt; are(waits, false, true));
-    assert!(rt; out.asked() == 1);
-    assert!(rt; out.left() == 0);
     assert!(rt; finds_room(&mut out, 1));
     assert!(rt; send_number(&mut out, 7));
-    let waits = meet(&mut out, &mut inp)?;
-    assert!(rt; are(waits, true, false));
-    let Some(n) = take_number(&mut inp) else {
-        panic!(rt; "no number")
-    };
-    inp.ask(1);
-    assert!(rt; n == 7);
-    assert!(rt; inp.size() == 1);
+    assert!(rt; !send_number(&mut out, 8));
+    assert!(rt; take_number(&mut inp) == Some(7));
     assert!(rt; inp.take().is_none());
-    assert!(rt; finds_room(&mut out, 1));
     Ok(())
 }
 
 #[test]
 fn a_cancel_is_seen(rt: HostRuntime) -> Result<(), Fail> {
     let (mut out, mut inp) = lane(rt.alloc(), 1024)?;
-    inp.ask(1024);
     inp.cancel();
-    assert!(rt; !out.is_refused());
     assert!(rt; out.room() == Room::Cancelled);
-    assert!(rt; out.is_refused());
     Ok(())
 }
 

@@ -1,7 +1,7 @@
 // Walks along wires: the first wire on a closed one, and whether any is closed when directions are ignored.
 #![tactic(auto)]
 
-mod classes;
+pub mod classes;
 pub mod closed;
 pub mod components;
 pub mod depth;

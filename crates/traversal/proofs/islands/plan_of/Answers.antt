@@ -1,0 +1,51 @@
+use Rattle.std.proofs.Common.{◌≡◌, ℕ, ◌<◌, length, sym, ◌∙◌, ap, subst, arith}
+use Rattle.std.specs.Prelude.{is_none}
+use Rattle.std.specs.List.{filter}
+use Rattle.std.proofs.lemmas.List.Elements.{All-filter, All-same}
+use Rattle.blue_names.specs.declared.links.Link.{Link}
+use Rattle.blue_names.specs.Links.{wires_of_links}
+use Rattle.traversal.specs.Plan.{nodes_at, nodes_of, wires_of, lanes_from}
+use Rattle.traversal.specs.Labels.{AreLabels}
+use Rattle.traversal.specs.Homes.{AreNumbered}
+use Rattle.traversal.proofs.Planning.{AreHomes-numbered, AreInOrder-numbered, labels_below, homes_below}
+use Rattle.traversal.proofs.islands.plan_of.Goals as goal
+
+pub labels_of-requires : goal.labels_of-requires
+labels_of-requires c =
+    All-same (λ (l : Link). (l.from < c.args.count) × (l.to < c.args.count)) c.deref.result.now (filter (λ (l : Link). is_none l.lane) c.args.links.now) (c.deref.ensures.value ∙ c.in_ok-fused_links.ensures)
+    (All-filter (λ (l : Link). is_none l.lane) (λ (l : Link). (l.from < c.args.count) × (l.to < c.args.count)) c.args.links.now c.requires)
+
+pub homes_of-requires : goal.homes_of-requires
+homes_of-requires c = labels_below _ c.args.count c.in_ok-labels.labels.items c.deref-2.result.now c.in_ok-labels.ensures c.deref-2.ensures.value
+
+pub put_nodes-requires-clause-homes : goal.put_nodes-requires-clause-homes
+put_nodes-requires-clause-homes c =
+    let found = c.in_ok-found.found in
+    homes_below c.deref-2.result.now found.homes.items found.firsts.items c.deref-3.result.now _ c.in_ok-found.ensures.numbered c.deref-3.ensures.value (omega (arith, c.in_ok-islands.ensures.length, c.len.ensures, found.firsts.ok.0))
+
+pub put_wires-requires-clause-homes : goal.put_wires-requires-clause-homes
+put_wires-requires-clause-homes c =
+    let found = c.in_ok-found.found in
+    homes_below c.deref-2.result.now found.homes.items found.firsts.items c.deref-4.result.now _ c.in_ok-found.ensures.numbered c.deref-4.ensures.value
+    (omega (arith, c.in_ok-put_nodes.ensures.length, c.in_ok-islands.ensures.length, c.len.ensures, found.firsts.ok.0))
+
+pub returns : goal.returns
+returns c =
+    let links = c.args.links.now in
+    let found = c.in_ok-found.found in
+    let labels = c.in_ok-labels.labels.items in
+    let filled = c.in_ok-put_wires.ensures in
+    let islands = c.put_wires.new.islands in
+    let are_labels = subst (λ ls. AreLabels (wires_of_links ls) c.args.count labels) (c.deref.ensures.value ∙ c.in_ok-fused_links.ensures) c.in_ok-labels.ensures in
+    let numbered = subst (λ ls. AreNumbered ls found.homes.items found.firsts.items) c.deref-2.ensures.value c.in_ok-found.ensures.numbered in
+    let long : length found.homes.items ≡ length labels = sym found.homes.ok.0 ∙ c.in_ok-found.ensures.each ∙ ap length c.deref-2.ensures.value in
+    let nodes : (k : ℕ) → nodes_at islands.items k ≡ nodes_of found.homes.items k = λ k. filled.nodes k ∙ c.in_ok-put_nodes.ensures.nodes k ∙ ap (λ hs. nodes_of hs k) c.deref-3.ensures.value in
+    record {
+      homes = found.homes.items;
+      are = AreHomes-numbered c.args.count links labels found.homes.items found.firsts.items are_labels numbered long;
+      nodes = nodes;
+      wires = λ k. filled.wires k ∙ ap (λ hs. wires_of hs (wires_of_links links) k) c.deref-4.ensures.value;
+      order = AreInOrder-numbered labels found.homes.items found.firsts.items islands.items numbered
+          (omega (arith, islands.ok.0, filled.length, c.in_ok-put_nodes.ensures.length, c.in_ok-islands.ensures.length, c.len.ensures, found.firsts.ok.0)) nodes;
+      lanes = c.in_ok-lanes.ensures ∙ ap (λ hs. lanes_from hs 0 (wires_of_links links)) c.deref-5.ensures.value;
+    }

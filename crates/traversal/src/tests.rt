@@ -1,0 +1,78 @@
+// What no clause says: that the call succeeds with ample memory.
+use crate::islands::islands;
+use crate::plan::LanePlan;
+use blue_check::check::check;
+use blue_core::blueprint::{Blueprint, Node, WireDecl};
+use elem_core::line::Line;
+use elem_core::why::{Decider, NoMemory};
+use std::alloc::{AllocError, Global};
+use std::test::Fail;
+use stream_model::kind::{Base, Kind};
+
+/// A name of one byte.
+fn name(alloc: Global, byte: u8) -> Result<Line, NoMemory> {
+    let mut bytes = Vec::new(alloc);
+    bytes.push(byte)?;
+    if !Line::can_hold(&bytes) {
+        return Err(AllocError);
+    }
+    Ok(Line::of(bytes))
+}
+
+/// A node that is called by this byte.
+fn node(alloc: Global, byte: u8, kind: Kind) -> Result<Node, NoMemory> {
+    Ok(Node {
+        name: name(alloc, byte)?,
+        kind,
+        decider: Decider::Stop,
+    })
+}
+
+/// A wire from the one output of a node to the one input of another.
+fn wire(alloc: Global, from: u8, to: u8, lane: Option<u32>) -> Result<WireDecl, NoMemory> {
+    Ok(WireDecl {
+        from: name(alloc, from)?,
+        output: 0,
+        to: name(alloc, to)?,
+        input: 0,
+        lane,
+    })
+}
+
+/// Two sources and two sinks, of which the last sink is in the island of the first source.
+fn blueprint(alloc: Global) -> Result<Blueprint, NoMemory> {
+    let mut nodes = Vec::new(alloc);
+    nodes.push(node(alloc, b'a', Kind::Empty(Base::Num))?)?;
+    nodes.push(node(alloc, b'b', Kind::Ignore)?)?;
+    nodes.push(node(alloc, b'c', Kind::Empty(Base::Num))?)?;
+    nodes.push(node(alloc, b'd', Kind::Ignore)?)?;
+    let mut wires = Vec::new(alloc);
+    wires.push(wire(alloc, b'a', b'd', None)?)?;
+    wires.push(wire(alloc, b'c', b'b', Some(4))?)?;
+    Ok(Blueprint {
+        switches: Vec::new(alloc),
+        chains: Vec::new(alloc),
+        nodes,
+        wires,
+    })
+}
+
+#[test]
+fn a_plan_is_given(rt: HostRuntime) -> Result<(), Fail> {
+    let alloc = rt.alloc();
+    match check(alloc, blueprint(alloc)?, &[], &[]) {
+        Ok(checked) => {
+            let plan = islands(alloc, &checked)?;
+            assert_eq!(rt; plan.islands.len(), 3);
+            let lane = LanePlan {
+                wire: 1,
+                size: 4,
+                from: 2,
+                to: 1,
+            };
+            assert!(rt; plan.lanes.as_slice() == [lane].as_slice());
+        }
+        Err(_) => assert!(rt; false),
+    }
+    Ok(())
+}

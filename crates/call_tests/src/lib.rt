@@ -6,6 +6,8 @@ mod chains;
 #[cfg(test)]
 mod lanes;
 #[cfg(test)]
+mod plans;
+#[cfg(test)]
 mod real_folder;
 #[cfg(test)]
 mod walks;

@@ -7,5 +7,3 @@ mod homes;
 pub mod islands;
 mod lanes;
 pub mod plan;
-#[cfg(test)]
-mod tests;

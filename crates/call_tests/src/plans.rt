@@ -1,6 +1,4 @@
-// What no clause says: that the call succeeds with ample memory.
-use crate::islands::islands;
-use crate::plan::LanePlan;
+// That the islands of a blueprint are found with ample memory.
 use blue_check::check::check;
 use blue_core::blueprint::{Blueprint, Node, WireDecl};
 use elem_core::line::Line;
@@ -8,6 +6,8 @@ use elem_core::why::{Decider, NoMemory};
 use std::alloc::{AllocError, Global};
 use std::test::Fail;
 use stream_model::kind::{Base, Kind};
+use traversal::islands::islands;
+use traversal::plan::LanePlan;
 
 /// A name of one byte.
 fn name(alloc: Global, byte: u8) -> Result<Line, NoMemory> {

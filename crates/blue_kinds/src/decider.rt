@@ -6,7 +6,7 @@ ghost use Rattle.blue_kinds.specs.Kinds.{may_decide, decider_word, decider_of};
 
 use crate::folds::said;
 use blue_words::fault::{LineEnd, Place};
-use blue_words::words::Words;
+use blue_words::words::{Words, is_word};
 use elem_core::why::Decider;
 
 /// The decider behind a kind, and stop where none is written; one is read only where the kind may have one. Rule: own.
@@ -32,13 +32,13 @@ fn read_decider_word(words: &mut Words) -> Result<Place<Decider>, LineEnd>
 fn decider_word(word: &[u8]) -> Option<Decider>
     ensures { result ≡ decider_word word.now }
 {
-    if word == b"stop".as_slice() {
+    if is_word(word, b"stop") {
         return Some(Decider::Stop);
     }
-    if word == b"resume".as_slice() {
+    if is_word(word, b"resume") {
         return Some(Decider::Resume);
     }
-    if word == b"restart".as_slice() {
+    if is_word(word, b"restart") {
         return Some(Decider::Restart);
     }
     None
@@ -48,13 +48,13 @@ fn decider_word(word: &[u8]) -> Option<Decider>
 pub fn may_decide(word: &[u8]) -> bool
     ensures { result ≡ may_decide word.now }
 {
-    word == b"map".as_slice()
-        || word == b"filter".as_slice()
-        || word == b"filter_not".as_slice()
-        || word == b"take_while".as_slice()
-        || word == b"drop_while".as_slice()
-        || word == b"map_concat".as_slice()
-        || word == b"fold".as_slice()
-        || word == b"scan".as_slice()
-        || word == b"reduce".as_slice()
+    is_word(word, b"map")
+        || is_word(word, b"filter")
+        || is_word(word, b"filter_not")
+        || is_word(word, b"take_while")
+        || is_word(word, b"drop_while")
+        || is_word(word, b"map_concat")
+        || is_word(word, b"fold")
+        || is_word(word, b"scan")
+        || is_word(word, b"reduce")
 }

@@ -10,7 +10,7 @@ use crate::folds::said;
 use crate::substreams::read_substreams;
 use blue_words::fault::{LineEnd, Place};
 use blue_words::places::both;
-use blue_words::words::Words;
+use blue_words::words::{Words, is_word};
 use elem_core::line::Line;
 use std::alloc::Global;
 use stream_model::kind::{Kind, Policy};
@@ -23,19 +23,19 @@ pub fn read_stage_kind(
 ) -> Result<Place<Kind>, LineEnd>
     ensures { Reads result (stage_kind word.now words.old) words.new }
 {
-    if word == b"buffer".as_slice() {
+    if is_word(word, b"buffer") {
         return read_buffer(words);
     }
-    if word == b"recover".as_slice() {
+    if is_word(word, b"recover") {
         return read_recover(alloc, words);
     }
-    if word == b"valve".as_slice() {
+    if is_word(word, b"valve") {
         return Ok(words.name(alloc)?.map(Kind::Valve));
     }
-    if word == b"trip".as_slice() {
+    if is_word(word, b"trip") {
         return read_trip(alloc, words);
     }
-    if word == b"plug".as_slice() {
+    if is_word(word, b"plug") {
         return Ok(words.name(alloc)?.map(Kind::Plug));
     }
     read_substreams(alloc, word, words)
@@ -63,22 +63,22 @@ fn read_policy(words: &mut Words) -> Result<Place<Policy>, LineEnd>
 fn policy_word(word: &[u8]) -> Option<Policy>
     ensures { result ≡ policy_word word.now }
 {
-    if word == b"backpressure".as_slice() {
+    if is_word(word, b"backpressure") {
         return Some(Policy::Backpressure);
     }
-    if word == b"drop_head".as_slice() {
+    if is_word(word, b"drop_head") {
         return Some(Policy::DropHead);
     }
-    if word == b"drop_tail".as_slice() {
+    if is_word(word, b"drop_tail") {
         return Some(Policy::DropTail);
     }
-    if word == b"drop_buffer".as_slice() {
+    if is_word(word, b"drop_buffer") {
         return Some(Policy::DropBuffer);
     }
-    if word == b"drop_new".as_slice() {
+    if is_word(word, b"drop_new") {
         return Some(Policy::DropNew);
     }
-    if word == b"fail".as_slice() {
+    if is_word(word, b"fail") {
         return Some(Policy::Fail);
     }
     None
@@ -90,10 +90,10 @@ fn read_recover(alloc: Global, words: &mut Words) -> Result<Place<Kind>, LineEnd
     let Some(word) = words.next() else {
         return Err(LineEnd::BadLine);
     };
-    if word == b"num".as_slice() {
+    if is_word(word, b"num") {
         return Ok(words.int()?.map(Kind::RecoverNum));
     }
-    if word == b"text".as_slice() {
+    if is_word(word, b"text") {
         return Ok(words.word(alloc)?.map(Kind::RecoverText));
     }
     Err(LineEnd::BadLine)
@@ -112,11 +112,11 @@ fn read_order(switch: Place<Line>, words: &mut Words) -> Result<Place<Kind>, Lin
     let Some(word) = words.next() else {
         return Err(LineEnd::BadLine);
     };
-    if word == b"shutdown".as_slice() {
+    if is_word(word, b"shutdown") {
         let at = words.size()?;
         return Ok(both(switch, at).map(|(s, n)| Kind::TripShutdown(s, n)));
     }
-    if word == b"abort".as_slice() {
+    if is_word(word, b"abort") {
         let at = words.size()?;
         return Ok(both(switch, at).map(|(s, n)| Kind::TripAbort(s, n)));
     }

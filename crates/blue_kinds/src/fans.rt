@@ -10,7 +10,7 @@ use crate::functions::read_map;
 use crate::kinds::read_linear;
 use blue_words::fault::{LineEnd, Place};
 use blue_words::places::both;
-use blue_words::words::Words;
+use blue_words::words::{Words, is_word};
 use std::alloc::Global;
 use stream_model::kind::Kind;
 
@@ -22,19 +22,19 @@ pub(crate) fn read_fan_in(
 ) -> Result<Place<Kind>, LineEnd>
     ensures { Reads result (fan_in_kind word.now words.old) words.new }
 {
-    if word == b"merge".as_slice() {
+    if is_word(word, b"merge") {
         return Ok(words.size()?.map(Kind::Merge));
     }
-    if word == b"concat".as_slice() {
+    if is_word(word, b"concat") {
         return Ok(words.size()?.map(Kind::Concat));
     }
-    if word == b"interleave".as_slice() {
+    if is_word(word, b"interleave") {
         return read_interleave(words);
     }
-    if word == b"merge_sorted".as_slice() {
+    if is_word(word, b"merge_sorted") {
         return Ok(Ok(Kind::MergeSorted));
     }
-    if word == b"zip".as_slice() {
+    if is_word(word, b"zip") {
         return Ok(Ok(Kind::Zip));
     }
     read_fan_out(alloc, word, words)
@@ -52,16 +52,16 @@ fn read_interleave(words: &mut Words) -> Result<Place<Kind>, LineEnd>
 fn read_fan_out(alloc: Global, word: &[u8], words: &mut Words) -> Result<Place<Kind>, LineEnd>
     ensures { Reads result (fan_out_kind word.now words.old) words.new }
 {
-    if word == b"broadcast".as_slice() {
+    if is_word(word, b"broadcast") {
         return Ok(words.size()?.map(Kind::Broadcast));
     }
-    if word == b"balance".as_slice() {
+    if is_word(word, b"balance") {
         return Ok(words.size()?.map(Kind::Balance));
     }
-    if word == b"partition".as_slice() {
+    if is_word(word, b"partition") {
         return read_partition(alloc, words);
     }
-    if word == b"unzip".as_slice() {
+    if is_word(word, b"unzip") {
         return Ok(Ok(Kind::Unzip));
     }
     read_linear(alloc, word, words)

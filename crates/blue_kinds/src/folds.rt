@@ -4,7 +4,7 @@ ghost use Rattle.blue_words.specs.Reading.{Reads};
 ghost use Rattle.blue_kinds.specs.Functions.{one_of, expand_word, fold_word, reduce_word};
 
 use blue_words::fault::{LineEnd, Place};
-use blue_words::words::Words;
+use blue_words::words::{Words, is_word};
 use elem_core::function::{Expand, FoldOp, ReduceOp};
 
 // The value of a fixed word, where it has one.
@@ -51,13 +51,13 @@ pub(crate) fn read_reduce(words: &mut Words) -> Result<Place<ReduceOp>, LineEnd>
 fn expand_word(word: &[u8]) -> Option<Expand>
     ensures { result ≡ expand_word word.now }
 {
-    if word == b"words".as_slice() {
+    if is_word(word, b"words") {
         return Some(Expand::Words);
     }
-    if word == b"flat".as_slice() {
+    if is_word(word, b"flat") {
         return Some(Expand::Flat);
     }
-    if word == b"twice".as_slice() {
+    if is_word(word, b"twice") {
         return Some(Expand::Twice);
     }
     None
@@ -67,16 +67,16 @@ fn expand_word(word: &[u8]) -> Option<Expand>
 fn fold_word(word: &[u8]) -> Option<FoldOp>
     ensures { result ≡ fold_word word.now }
 {
-    if word == b"sum".as_slice() {
+    if is_word(word, b"sum") {
         return Some(FoldOp::Sum);
     }
-    if word == b"sum_nonneg".as_slice() {
+    if is_word(word, b"sum_nonneg") {
         return Some(FoldOp::SumNonneg);
     }
-    if word == b"count".as_slice() {
+    if is_word(word, b"count") {
         return Some(FoldOp::Count);
     }
-    if word == b"collect".as_slice() {
+    if is_word(word, b"collect") {
         return Some(FoldOp::Collect);
     }
     None
@@ -86,13 +86,13 @@ fn fold_word(word: &[u8]) -> Option<FoldOp>
 fn reduce_word(word: &[u8]) -> Option<ReduceOp>
     ensures { result ≡ reduce_word word.now }
 {
-    if word == b"sum".as_slice() {
+    if is_word(word, b"sum") {
         return Some(ReduceOp::Sum);
     }
-    if word == b"max".as_slice() {
+    if is_word(word, b"max") {
         return Some(ReduceOp::Max);
     }
-    if word == b"min".as_slice() {
+    if is_word(word, b"min") {
         return Some(ReduceOp::Min);
     }
     None

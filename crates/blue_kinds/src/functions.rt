@@ -5,7 +5,7 @@ ghost use Rattle.blue_kinds.specs.Functions.{map_of, number_map, text_map, bare_
 
 use crate::folds::said;
 use blue_words::fault::{LineEnd, Place};
-use blue_words::words::Words;
+use blue_words::words::{Words, is_word};
 use elem_core::function::MapFn;
 use std::alloc::Global;
 
@@ -23,19 +23,19 @@ pub(crate) fn read_map(alloc: Global, words: &mut Words) -> Result<Place<MapFn>,
 fn read_number_map(alloc: Global, word: &[u8], words: &mut Words) -> Result<Place<MapFn>, LineEnd>
     ensures { Reads result (number_map word.now words.old) words.new }
 {
-    if word == b"add".as_slice() {
+    if is_word(word, b"add") {
         return Ok(words.int()?.map(MapFn::Add));
     }
-    if word == b"mul".as_slice() {
+    if is_word(word, b"mul") {
         return Ok(words.int()?.map(MapFn::Mul));
     }
-    if word == b"div".as_slice() {
+    if is_word(word, b"div") {
         return Ok(words.int()?.map(MapFn::Div));
     }
-    if word == b"rem".as_slice() {
+    if is_word(word, b"rem") {
         return Ok(words.int()?.map(MapFn::Rem));
     }
-    if word == b"div_into".as_slice() {
+    if is_word(word, b"div_into") {
         return Ok(words.int()?.map(MapFn::DivInto));
     }
     read_text_map(alloc, word, words)
@@ -45,13 +45,13 @@ fn read_number_map(alloc: Global, word: &[u8], words: &mut Words) -> Result<Plac
 fn read_text_map(alloc: Global, word: &[u8], words: &mut Words) -> Result<Place<MapFn>, LineEnd>
     ensures { Reads result (text_map word.now words.old) words.new }
 {
-    if word == b"field".as_slice() {
+    if is_word(word, b"field") {
         return Ok(words.count()?.map(MapFn::Field));
     }
-    if word == b"prefix".as_slice() {
+    if is_word(word, b"prefix") {
         return Ok(words.word(alloc)?.map(MapFn::Prefix));
     }
-    if word == b"suffix".as_slice() {
+    if is_word(word, b"suffix") {
         return Ok(words.word(alloc)?.map(MapFn::Suffix));
     }
     said(bare_map(word))
@@ -61,40 +61,40 @@ fn read_text_map(alloc: Global, word: &[u8], words: &mut Words) -> Result<Place<
 fn bare_map(word: &[u8]) -> Option<MapFn>
     ensures { result ≡ bare_map word.now }
 {
-    if word == b"num".as_slice() {
+    if is_word(word, b"num") {
         return Some(MapFn::Num);
     }
-    if word == b"show".as_slice() {
+    if is_word(word, b"show") {
         return Some(MapFn::Show);
     }
-    if word == b"neg".as_slice() {
+    if is_word(word, b"neg") {
         return Some(MapFn::Neg);
     }
-    if word == b"abs".as_slice() {
+    if is_word(word, b"abs") {
         return Some(MapFn::Abs);
     }
-    if word == b"nonneg".as_slice() {
+    if is_word(word, b"nonneg") {
         return Some(MapFn::Nonneg);
     }
-    if word == b"len".as_slice() {
+    if is_word(word, b"len") {
         return Some(MapFn::Len);
     }
-    if word == b"first".as_slice() {
+    if is_word(word, b"first") {
         return Some(MapFn::First);
     }
-    if word == b"second".as_slice() {
+    if is_word(word, b"second") {
         return Some(MapFn::Second);
     }
-    if word == b"swap".as_slice() {
+    if is_word(word, b"swap") {
         return Some(MapFn::Swap);
     }
-    if word == b"twin".as_slice() {
+    if is_word(word, b"twin") {
         return Some(MapFn::Twin);
     }
-    if word == b"size".as_slice() {
+    if is_word(word, b"size") {
         return Some(MapFn::Size);
     }
-    if word == b"sum".as_slice() {
+    if is_word(word, b"sum") {
         return Some(MapFn::Sum);
     }
     None

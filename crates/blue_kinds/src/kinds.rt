@@ -11,7 +11,7 @@ use crate::functions::read_map;
 use crate::predicates::read_pred;
 use blue_words::fault::{LineEnd, Place};
 use blue_words::places::both;
-use blue_words::words::Words;
+use blue_words::words::{Words, is_word};
 use std::alloc::Global;
 use stream_model::kind::{Base, Kind};
 
@@ -19,16 +19,16 @@ use stream_model::kind::{Base, Kind};
 pub fn read_source(alloc: Global, word: &[u8], words: &mut Words) -> Result<Place<Kind>, LineEnd>
     ensures { Reads result (source_kind word.now words.old) words.new }
 {
-    if word == b"lines".as_slice() {
+    if is_word(word, b"lines") {
         return Ok(words.file(alloc)?.map(Kind::Lines));
     }
-    if word == b"range".as_slice() {
+    if is_word(word, b"range") {
         return read_range(words);
     }
-    if word == b"empty".as_slice() {
+    if is_word(word, b"empty") {
         return Ok(read_base(words)?.map(Kind::Empty));
     }
-    if word == b"failed".as_slice() {
+    if is_word(word, b"failed") {
         return Ok(read_base(words)?.map(Kind::Failed));
     }
     Err(LineEnd::BadLine)
@@ -56,10 +56,10 @@ fn read_base(words: &mut Words) -> Result<Place<Base>, LineEnd>
 fn base_word(word: &[u8]) -> Option<Base>
     ensures { result ≡ base_word word.now }
 {
-    if word == b"num".as_slice() {
+    if is_word(word, b"num") {
         return Some(Base::Num);
     }
-    if word == b"text".as_slice() {
+    if is_word(word, b"text") {
         return Some(Base::Text);
     }
     None
@@ -69,16 +69,16 @@ fn base_word(word: &[u8]) -> Option<Base>
 pub fn read_sink(alloc: Global, word: &[u8], words: &mut Words) -> Result<Place<Kind>, LineEnd>
     ensures { Reads result (sink_kind word.now words.old) words.new }
 {
-    if word == b"lines".as_slice() {
+    if is_word(word, b"lines") {
         return Ok(words.file(alloc)?.map(Kind::ToLines));
     }
-    if word == b"head".as_slice() {
+    if is_word(word, b"head") {
         return Ok(words.file(alloc)?.map(Kind::Head));
     }
-    if word == b"last".as_slice() {
+    if is_word(word, b"last") {
         return Ok(words.file(alloc)?.map(Kind::Last));
     }
-    if word == b"ignore".as_slice() {
+    if is_word(word, b"ignore") {
         return Ok(Ok(Kind::Ignore));
     }
     Err(LineEnd::BadLine)
@@ -92,16 +92,16 @@ pub(crate) fn read_linear(
 ) -> Result<Place<Kind>, LineEnd>
     ensures { Reads result (linear_kind word.now words.old) words.new }
 {
-    if word == b"take".as_slice() {
+    if is_word(word, b"take") {
         return Ok(words.count()?.map(Kind::Take));
     }
-    if word == b"drop".as_slice() {
+    if is_word(word, b"drop") {
         return Ok(words.count()?.map(Kind::Drop));
     }
-    if word == b"limit".as_slice() {
+    if is_word(word, b"limit") {
         return Ok(words.count()?.map(Kind::Limit));
     }
-    if word == b"grouped".as_slice() {
+    if is_word(word, b"grouped") {
         return Ok(words.size()?.map(Kind::Grouped));
     }
     read_making(alloc, word, words)
@@ -111,19 +111,19 @@ pub(crate) fn read_linear(
 fn read_making(alloc: Global, word: &[u8], words: &mut Words) -> Result<Place<Kind>, LineEnd>
     ensures { Reads result (making_kind word.now words.old) words.new }
 {
-    if word == b"map".as_slice() {
+    if is_word(word, b"map") {
         return Ok(read_map(alloc, words)?.map(Kind::Map));
     }
-    if word == b"map_concat".as_slice() {
+    if is_word(word, b"map_concat") {
         return Ok(read_expand(words)?.map(Kind::MapConcat));
     }
-    if word == b"fold".as_slice() {
+    if is_word(word, b"fold") {
         return Ok(read_fold(words)?.map(Kind::Fold));
     }
-    if word == b"scan".as_slice() {
+    if is_word(word, b"scan") {
         return Ok(read_fold(words)?.map(Kind::Scan));
     }
-    if word == b"reduce".as_slice() {
+    if is_word(word, b"reduce") {
         return Ok(read_reduce(words)?.map(Kind::Reduce));
     }
     read_testing(alloc, word, words)
@@ -133,16 +133,16 @@ fn read_making(alloc: Global, word: &[u8], words: &mut Words) -> Result<Place<Ki
 fn read_testing(alloc: Global, word: &[u8], words: &mut Words) -> Result<Place<Kind>, LineEnd>
     ensures { Reads result (testing_kind word.now words.old) words.new }
 {
-    if word == b"filter".as_slice() {
+    if is_word(word, b"filter") {
         return Ok(read_pred(alloc, words)?.map(Kind::Filter));
     }
-    if word == b"filter_not".as_slice() {
+    if is_word(word, b"filter_not") {
         return Ok(read_pred(alloc, words)?.map(Kind::FilterNot));
     }
-    if word == b"take_while".as_slice() {
+    if is_word(word, b"take_while") {
         return Ok(read_pred(alloc, words)?.map(Kind::TakeWhile));
     }
-    if word == b"drop_while".as_slice() {
+    if is_word(word, b"drop_while") {
         return Ok(read_pred(alloc, words)?.map(Kind::DropWhile));
     }
     Err(LineEnd::BadLine)

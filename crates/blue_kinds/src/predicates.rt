@@ -7,7 +7,7 @@ ghost use Rattle.blue_kinds.specs.Functions.{pred_of, number_pred, text_pred, ba
 use crate::folds::said;
 use blue_words::fault::{LineEnd, Place};
 use blue_words::places::both;
-use blue_words::words::Words;
+use blue_words::words::{Words, is_word};
 use elem_core::function::Pred;
 use std::alloc::Global;
 
@@ -25,22 +25,22 @@ pub(crate) fn read_pred(alloc: Global, words: &mut Words) -> Result<Place<Pred>,
 fn read_number_pred(alloc: Global, word: &[u8], words: &mut Words) -> Result<Place<Pred>, LineEnd>
     ensures { Reads result (number_pred word.now words.old) words.new }
 {
-    if word == b"lt".as_slice() {
+    if is_word(word, b"lt") {
         return Ok(words.int()?.map(Pred::Lt));
     }
-    if word == b"le".as_slice() {
+    if is_word(word, b"le") {
         return Ok(words.int()?.map(Pred::Le));
     }
-    if word == b"gt".as_slice() {
+    if is_word(word, b"gt") {
         return Ok(words.int()?.map(Pred::Gt));
     }
-    if word == b"ge".as_slice() {
+    if is_word(word, b"ge") {
         return Ok(words.int()?.map(Pred::Ge));
     }
-    if word == b"eq".as_slice() {
+    if is_word(word, b"eq") {
         return Ok(words.int()?.map(Pred::Eq));
     }
-    if word == b"multiple".as_slice() {
+    if is_word(word, b"multiple") {
         return Ok(words.int()?.map(Pred::Multiple));
     }
     read_text_pred(alloc, word, words)
@@ -50,16 +50,16 @@ fn read_number_pred(alloc: Global, word: &[u8], words: &mut Words) -> Result<Pla
 fn read_text_pred(alloc: Global, word: &[u8], words: &mut Words) -> Result<Place<Pred>, LineEnd>
     ensures { Reads result (text_pred word.now words.old) words.new }
 {
-    if word == b"has".as_slice() {
+    if is_word(word, b"has") {
         return Ok(words.word(alloc)?.map(Pred::Has));
     }
-    if word == b"starts".as_slice() {
+    if is_word(word, b"starts") {
         return Ok(words.word(alloc)?.map(Pred::Starts));
     }
-    if word == b"is".as_slice() {
+    if is_word(word, b"is") {
         return Ok(words.word(alloc)?.map(Pred::Is));
     }
-    if word == b"field_is".as_slice() {
+    if is_word(word, b"field_is") {
         return read_field_is(alloc, words);
     }
     said(bare_pred(word))
@@ -77,16 +77,16 @@ fn read_field_is(alloc: Global, words: &mut Words) -> Result<Place<Pred>, LineEn
 fn bare_pred(word: &[u8]) -> Option<Pred>
     ensures { result ≡ bare_pred word.now }
 {
-    if word == b"even".as_slice() {
+    if is_word(word, b"even") {
         return Some(Pred::Even);
     }
-    if word == b"odd".as_slice() {
+    if is_word(word, b"odd") {
         return Some(Pred::Odd);
     }
-    if word == b"blank".as_slice() {
+    if is_word(word, b"blank") {
         return Some(Pred::Blank);
     }
-    if word == b"numeric".as_slice() {
+    if is_word(word, b"numeric") {
         return Some(Pred::Numeric);
     }
     None

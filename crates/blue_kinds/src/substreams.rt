@@ -12,7 +12,7 @@ use crate::functions::read_map;
 use crate::predicates::read_pred;
 use blue_words::fault::{LineEnd, Place};
 use blue_words::places::both;
-use blue_words::words::Words;
+use blue_words::words::{Words, is_word};
 use elem_core::function::{MapFn, Pred};
 use elem_core::line::Line;
 use std::alloc::Global;
@@ -26,13 +26,13 @@ pub(crate) fn read_substreams(
 ) -> Result<Place<Kind>, LineEnd>
     ensures { Reads result (substream_kind word.now words.old) words.new }
 {
-    if word == b"group_by".as_slice() {
+    if is_word(word, b"group_by") {
         return read_group(alloc, words);
     }
-    if word == b"split_when".as_slice() {
+    if is_word(word, b"split_when") {
         return Ok(read_split(alloc, words)?.map(|(p, (c, j))| Kind::SplitWhen(p, c, j)));
     }
-    if word == b"split_after".as_slice() {
+    if is_word(word, b"split_after") {
         return Ok(read_split(alloc, words)?.map(|(p, (c, j))| Kind::SplitAfter(p, c, j)));
     }
     read_fan_in(alloc, word, words)
@@ -101,10 +101,10 @@ fn read_joining(words: &mut Words) -> Result<Place<Joining>, LineEnd>
 fn joining_word(word: &[u8]) -> Option<Joining>
     ensures { result ≡ joining_word word.now }
 {
-    if word == b"merge".as_slice() {
+    if is_word(word, b"merge") {
         return Some(Joining::Merge);
     }
-    if word == b"concat".as_slice() {
+    if is_word(word, b"concat") {
         return Some(Joining::Concat);
     }
     None

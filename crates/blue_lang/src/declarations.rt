@@ -16,7 +16,7 @@ use blue_kinds::steps::read_steps;
 use blue_words::fault::{BlueKind, LineEnd, Place};
 use blue_words::lines::{cut_at, is_plain};
 use blue_words::places::{both, name_place, size_place};
-use blue_words::words::Words;
+use blue_words::words::{Words, is_word};
 use elem_core::line::Line;
 use elem_core::why::{Decider, NoMemory};
 use std::alloc::{AllocError, Global};
@@ -70,22 +70,22 @@ fn read_whole(alloc: Global, words: &mut Words) -> Result<Place<Declaration>, No
 fn read_words(alloc: Global, word: &[u8], words: &mut Words) -> Result<Place<Declaration>, LineEnd>
     ensures { ReadsAs plain_declaration result (declaration word.now words.old) words.new }
 {
-    if word == b"switch".as_slice() {
+    if is_word(word, b"switch") {
         return Ok(words.name(alloc)?.map(Declaration::Switch));
     }
-    if word == b"chain".as_slice() {
+    if is_word(word, b"chain") {
         return Ok(read_chain(alloc, words)?.map(Declaration::Chain));
     }
-    if word == b"source".as_slice() {
+    if is_word(word, b"source") {
         return Ok(read_source_node(alloc, words)?.map(Declaration::Node));
     }
-    if word == b"stage".as_slice() {
+    if is_word(word, b"stage") {
         return Ok(read_stage_node(alloc, words)?.map(Declaration::Node));
     }
-    if word == b"sink".as_slice() {
+    if is_word(word, b"sink") {
         return Ok(read_sink_node(alloc, words)?.map(Declaration::Node));
     }
-    if word == b"wire".as_slice() {
+    if is_word(word, b"wire") {
         return Ok(read_wire(alloc, words)?.map(Declaration::Wire));
     }
     Err(LineEnd::BadLine)
@@ -213,7 +213,7 @@ fn read_lane(words: &mut Words) -> Result<Place<Option<u32>>, LineEnd>
     let Some(word) = words.next() else {
         return Ok(Ok(None));
     };
-    if word == b"async".as_slice() {
+    if is_word(word, b"async") {
         read_lane_size(words)
     } else {
         Err(LineEnd::BadLine)

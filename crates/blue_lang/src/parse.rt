@@ -22,7 +22,7 @@ use elem_core::why::NoMemory;
 use std::alloc::Global;
 
 /// Why a text gave no blueprint.
-#[derive(Clone, Copy, PartialEq, Eq, Debug)]
+#[derive(Clone, Copy, PartialEq, Eq)]
 pub enum ParseEnd {
     /// The text has a fault; it is the first.
     Fault(BlueFault),

@@ -1,6 +1,7 @@
 // The words of a line, one after another.
 ghost use Rattle.std.specs.Prelude.{◌≡◌, ◌≤◌, ◌<◌, ◌+◌, ◌==◌, ◌↔◌, [], ◌∷◌, length, IsTrue, IfSome, IfOk, MatchOption, if◌then◌else◌, Ok};
 ghost use Rattle.std.specs.List.{position_or_len};
+ghost use Rattle.std.specs.Str.{bytes_eq};
 ghost use Rattle.elem_core.specs.Text.{words};
 ghost use Rattle.elem_core.specs.Line.{has_no_lf};
 ghost use Rattle.blue_words.specs.Line.{is_plain};
@@ -136,6 +137,13 @@ impl<'a> Words<'a> {
             None => Err(LineEnd::BadLine),
         }
     }
+}
+
+/// Whether a word is this fixed one. Rule: own.
+pub fn is_word(word: &[u8], fixed: &[u8]) -> bool
+    ensures { result ≡ bytes_eq word.now fixed.now }
+{
+    word == fixed
 }
 
 // The first word, and what stands behind it.

@@ -76,15 +76,22 @@ node_of kind ws = made (λ r. record { name = r.0; kind = r.1.0; decider = r.1.1
 abbrev pub chain_words : List (List ℕ) → Reading PlainChain
 chain_words ws = made (λ r. record { name = r.0; steps = r.1 }) (then_read (name ws) chain_of)
 
+-- a wire, behind its first word
+abbrev pub wire_declaration : List ℕ → List (List ℕ) → Reading Declaration
+wire_declaration w ws = if bytes_eq w (codes "wire") then made wire (wire_of ws) else None
+
+-- a node, by its first word, or what goes on
+abbrev pub node_declaration : List ℕ → List (List ℕ) → Reading Declaration
+node_declaration w ws =
+    if bytes_eq w (codes "source") then made node (node_of (undecided source_kind) ws) else
+    (if bytes_eq w (codes "stage") then made node (node_of decided ws) else
+    (if bytes_eq w (codes "sink") then made node (node_of (undecided sink_kind) ws) else wire_declaration w ws))
+
 -- a declaration, by its first word
 abbrev pub declaration : List ℕ → List (List ℕ) → Reading Declaration
 declaration w ws =
     if bytes_eq w (codes "switch") then made switch (name ws) else
-    (if bytes_eq w (codes "chain") then made chain (chain_words ws) else
-    (if bytes_eq w (codes "source") then made node (node_of (undecided source_kind) ws) else
-    (if bytes_eq w (codes "stage") then made node (node_of decided ws) else
-    (if bytes_eq w (codes "sink") then made node (node_of (undecided sink_kind) ws) else
-    (if bytes_eq w (codes "wire") then made wire (wire_of ws) else None)))))
+    (if bytes_eq w (codes "chain") then made chain (chain_words ws) else node_declaration w ws)
 
 -- no word is left
 abbrev pub is_nil : List (List ℕ) → Bool

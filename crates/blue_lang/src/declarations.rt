@@ -3,7 +3,7 @@ ghost use Rattle.std.specs.Prelude.{◌≡◌, ◌≤◌, length, IfOk, IsTrue};
 ghost use Rattle.elem_core.specs.Text.{words};
 ghost use Rattle.blue_words.specs.Line.{is_plain};
 ghost use Rattle.blue_words.specs.Reading.{Reads, ReadsAs, at_map};
-ghost use Rattle.blue_lang.specs.Declarations.{port, lane, lane_size, wire_of, end_of, undecided, decided, node_of, chain_words, declaration, declared_by, declared_in};
+ghost use Rattle.blue_lang.specs.Declarations.{port, lane, lane_size, wire_of, end_of, undecided, decided, node_of, chain_words, wire_declaration, node_declaration, declaration, declared_by, declared_in};
 ghost use Rattle.blue_kinds.specs.Kinds.{source_kind, sink_kind};
 ghost use Rattle.blue_lang.specs.Plain.{plain_chain, plain_declaration};
 
@@ -66,7 +66,7 @@ fn read_whole(alloc: Global, words: &mut Words) -> Result<Place<Declaration>, No
     }
 }
 
-// A declaration, by its first word and those behind it.
+// A declaration, by its first word and those behind it: switches and chains first.
 fn read_words(alloc: Global, word: &[u8], words: &mut Words) -> Result<Place<Declaration>, LineEnd>
     ensures { ReadsAs plain_declaration result (declaration word.now words.old) words.new }
 {
@@ -76,6 +76,17 @@ fn read_words(alloc: Global, word: &[u8], words: &mut Words) -> Result<Place<Dec
     if is_word(word, b"chain") {
         return Ok(read_chain(alloc, words)?.map(Declaration::Chain));
     }
+    read_node_words(alloc, word, words)
+}
+
+// Nodes, and then wires.
+fn read_node_words(
+    alloc: Global,
+    word: &[u8],
+    words: &mut Words,
+) -> Result<Place<Declaration>, LineEnd>
+    ensures { ReadsAs plain_declaration result (node_declaration word.now words.old) words.new }
+{
     if is_word(word, b"source") {
         return Ok(read_source_node(alloc, words)?.map(Declaration::Node));
     }
@@ -85,6 +96,16 @@ fn read_words(alloc: Global, word: &[u8], words: &mut Words) -> Result<Place<Dec
     if is_word(word, b"sink") {
         return Ok(read_sink_node(alloc, words)?.map(Declaration::Node));
     }
+    read_wire_words(alloc, word, words)
+}
+
+fn read_wire_words(
+    alloc: Global,
+    word: &[u8],
+    words: &mut Words,
+) -> Result<Place<Declaration>, LineEnd>
+    ensures { ReadsAs plain_declaration result (wire_declaration word.now words.old) words.new }
+{
     if is_word(word, b"wire") {
         return Ok(read_wire(alloc, words)?.map(Declaration::Wire));
     }

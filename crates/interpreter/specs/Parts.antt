@@ -7,8 +7,8 @@ use Rattle.stream_model.specs.declared.kind.Kind.TheVariants.{Ignore}
 use Rattle.stream_model.specs.declared.outcome.EndState.TheVariants.{Unended}
 use Rattle.stage_linear.specs.declared.phase.Phase.TheVariants.{New}
 use Rattle.nodes.specs.Kinds.{IsMaker, maker_of, IsFileSink, writes_of}
-use Rattle.nodes.specs.Linear.{LinearFresh}
-use Rattle.nodes.specs.State.{StateFresh}
+use Rattle.stage_linear.specs.Handling.{LinearFresh}
+use Rattle.stage_state.specs.Handling.{StateFresh}
 use Rattle.nodes.specs.declared.node.Node.{Node}
 use Rattle.nodes.specs.declared.node.Node.TheVariants as node
 use Rattle.fused_net.specs.declared.net.Ends.{Ends}

@@ -14,7 +14,7 @@ use Rattle.stream_io.specs.State.{SourceState, DrainState}
 use Rattle.nodes.specs.Ports.{OneIn, OneInOf}
 use Rattle.nodes.specs.Sink.{Sink, sink_row, sink_row_in, SinkLaw}
 use Rattle.nodes.specs.declared.node.Node.{Node}
-use Rattle.nodes.specs.declared.node.Node.TheVariants.{Reading, Making, Linear, State, Writing, Ignoring}
+use Rattle.nodes.specs.declared.node.Node.TheVariants.{Reading, Making, Linear, State, FanIn, FanOut, Writing, Ignoring}
 use Rattle.nodes.specs.Nodes.{node_row, node_law}
 use Rattle.nodes.proofs.Acting.{on_ok_two}
 
@@ -44,6 +44,8 @@ module _ {S D : Type 0} (sources : S → SourceState) (drains : D → DrainState
   writing_law (Making f) old new v w took gave more given keeps law = absurd law
   writing_law (Linear f) old new v w took gave more given keeps law = absurd law
   writing_law (State f) old new v w took gave more given keeps law = absurd law
+  writing_law (FanIn f) old new v w took gave more given keeps law = absurd law
+  writing_law (FanOut f) old new v w took gave more given keeps law = absurd law
   writing_law (Ignoring f) old new v w took gave more given keeps law = absurd law
 
   writing_at : (x : Item) (old new : Sink D) (acts : List Act) → Handles sink_row (SinkLaw drains) (brings 0 x) old new acts → Handles node_row (node_law sources drains) (brings 0 x) (Writing old) (Writing new) acts

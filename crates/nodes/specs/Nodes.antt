@@ -3,15 +3,18 @@ use Rattle.std.specs.Prelude.{ℕ, List, [], None, Some, ⊤}
 use Rattle.elem_core.specs.declared.item.Item.{Item}
 use Rattle.port_core.specs.View.{View}
 use Rattle.stream_io.specs.State.{SourceState, DrainState}
+use Rattle.stage_linear.specs.Handling.{LinearFresh, LinearRow, LinearLaw}
+use Rattle.stage_state.specs.Handling.{StateFresh, StateRow, StateLaw}
+use Rattle.stage_in.specs.Logics.{InFresh, InRow, InLaw}
+use Rattle.stage_out.specs.OutLogics as out
+use Rattle.stage_out.specs.OutNodes.{OutFresh, OutLaw}
 use Rattle.nodes.specs.declared.node.Node.{Node}
-use Rattle.nodes.specs.declared.node.Node.TheVariants.{Reading, Making, Linear, State, Writing, Ignoring}
+use Rattle.nodes.specs.declared.node.Node.TheVariants.{Reading, Making, Linear, State, FanIn, FanOut, Writing, Ignoring}
 use Rattle.nodes.specs.declared.node.NodeEnd.{NodeEnd}
 use Rattle.nodes.specs.declared.node.NodeEnd.TheVariants.{Read, Staged, Wrote}
 use Rattle.nodes.specs.Keeping.{KeepsEnd}
 use Rattle.nodes.specs.Source.{LinesFresh, lines_row, LinesLaw}
 use Rattle.nodes.specs.Maker.{MadeFresh, made_row, MadeLaw}
-use Rattle.nodes.specs.Linear.{LinearFresh, LinearRow, LinearLaw}
-use Rattle.nodes.specs.State.{StateFresh, StateRow, StateLaw}
 use Rattle.nodes.specs.Sink.{SinkFresh, sink_row, SinkLaw}
 use Rattle.nodes.specs.Ignoring.{IgnoreFresh, ignore_row, IgnoreLaw}
 
@@ -21,6 +24,8 @@ node_fresh (Reading x) v = LinesFresh x v
 node_fresh (Making x) v = MadeFresh x v
 node_fresh (Linear x) v = LinearFresh x v
 node_fresh (State x) v = StateFresh x v
+node_fresh (FanIn x) v = InFresh x v
+node_fresh (FanOut x) v = OutFresh x v
 node_fresh (Writing x) v = SinkFresh x v
 node_fresh (Ignoring x) v = IgnoreFresh x v
 
@@ -30,6 +35,8 @@ node_row (Reading x) v = lines_row x v
 node_row (Making x) v = made_row x v
 node_row (Linear x) v = LinearRow x v
 node_row (State x) v = StateRow x v
+node_row (FanIn x) v = InRow x v
+node_row (FanOut x) v = out.row x v
 node_row (Writing x) v = sink_row x v
 node_row (Ignoring x) v = ignore_row x v
 
@@ -39,6 +46,8 @@ node_law sources drains (Reading first) (Reading x) v took gave = LinesLaw sourc
 node_law sources drains (Making first) (Making x) v took gave = MadeLaw first x v took gave
 node_law sources drains (Linear first) (Linear x) v took gave = LinearLaw first x v took gave
 node_law sources drains (State first) (State x) v took gave = StateLaw first x v took gave
+node_law sources drains (FanIn first) (FanIn x) v took gave = InLaw first x v took gave
+node_law sources drains (FanOut first) (FanOut x) v took gave = OutLaw first x v took gave
 node_law sources drains (Writing first) (Writing x) v took gave = SinkLaw drains first x v took gave
 node_law sources drains (Ignoring first) (Ignoring x) v took gave = IgnoreLaw first x v took gave
 node_law sources drains _ _ v took gave = ⊥
@@ -57,6 +66,8 @@ node_end (Reading x) = Read x.reader.source
 node_end (Making x) = Staged
 node_end (Linear x) = Staged
 node_end (State x) = Staged
+node_end (FanIn x) = Staged
+node_end (FanOut x) = Staged
 node_end (Writing x) = Wrote (record { node = x.node; count = x.count; end = x.end; drain = Some x.drain })
 node_end (Ignoring x) = Wrote (record { node = x.node; count = 0; end = x.end; drain = None })
 

@@ -6,12 +6,13 @@ use crate::ignoring::IgnoreSink;
 use crate::maker::Maker;
 use crate::sink::{FileSink, SinkEnd};
 use crate::source::LinesSource;
-use crate::{linear, state};
 use elem_core::elem::Elem;
 use elem_core::why::{Cause, NoMemory};
 use port_core::acts::Acts;
 use stage_core::stage::Stage;
+use stage_in::logic::InLogic;
 use stage_linear::logic::LinearLogic;
+use stage_out::logic::OutLogic;
 use stage_state::logic::StateLogic;
 use std::alloc::Global;
 use stream_io::outside::{Drain, Source};
@@ -27,6 +28,10 @@ pub enum Node<S: Source, D: Drain> {
     Linear(LinearLogic),
     /// A stage with state.
     State(StateLogic),
+    /// A stage with several inputs.
+    FanIn(InLogic),
+    /// A stage with several outputs.
+    FanOut(OutLogic),
     /// A sink that writes elements into a file.
     Writing(FileSink<D>),
     /// A sink that keeps nothing.
@@ -51,7 +56,8 @@ impl<S: Source, D: Drain> Node<S, D> {
     {
         match self {
             Node::Reading(source) => NodeEnd::Read(source.into_source()),
-            Node::Making(_) | Node::Linear(_) | Node::State(_) => NodeEnd::Staged,
+            Node::Making(_) | Node::Linear(_) | Node::State(_) | Node::FanIn(_) | Node::FanOut(_) =>
+                NodeEnd::Staged,
             Node::Writing(sink) => NodeEnd::Wrote(sink.close()),
             Node::Ignoring(sink) => NodeEnd::Wrote(sink.close()),
         }
@@ -75,8 +81,10 @@ impl<S: Source, D: Drain> Stage for Node<S, D> {
         match self {
             Node::Reading(source) => source.start(acts),
             Node::Making(source) => source.start(acts),
-            Node::Linear(logic) => linear::start(logic, acts),
-            Node::State(logic) => state::start(logic, acts),
+            Node::Linear(logic) => Stage::start(logic, alloc, acts),
+            Node::State(logic) => Stage::start(logic, alloc, acts),
+            Node::FanIn(logic) => Stage::start(logic, alloc, acts),
+            Node::FanOut(logic) => Stage::start(logic, alloc, acts),
             Node::Writing(sink) => sink.start(acts),
             Node::Ignoring(sink) => sink.start(acts),
         }
@@ -86,8 +94,10 @@ impl<S: Source, D: Drain> Stage for Node<S, D> {
         match self {
             Node::Reading(source) => source.on_pull(acts),
             Node::Making(source) => source.on_pull(acts),
-            Node::Linear(logic) => linear::on_pull(logic, acts),
-            Node::State(logic) => state::on_pull(logic, acts),
+            Node::Linear(logic) => Stage::on_pull(logic, alloc, port, acts),
+            Node::State(logic) => Stage::on_pull(logic, alloc, port, acts),
+            Node::FanIn(logic) => Stage::on_pull(logic, alloc, port, acts),
+            Node::FanOut(logic) => Stage::on_pull(logic, alloc, port, acts),
             Node::Writing(_) | Node::Ignoring(_) => unreachable!(),
         }
     }
@@ -101,8 +111,10 @@ impl<S: Source, D: Drain> Stage for Node<S, D> {
     ) -> Result<(), NoMemory> {
         match self {
             Node::Reading(_) | Node::Making(_) => unreachable!(),
-            Node::Linear(logic) => linear::on_push(logic, alloc, e, acts),
-            Node::State(logic) => state::on_push(logic, alloc, e, acts),
+            Node::Linear(logic) => Stage::on_push(logic, alloc, port, e, acts),
+            Node::State(logic) => Stage::on_push(logic, alloc, port, e, acts),
+            Node::FanIn(logic) => Stage::on_push(logic, alloc, port, e, acts),
+            Node::FanOut(logic) => Stage::on_push(logic, alloc, port, e, acts),
             Node::Writing(sink) => sink.on_push(e, acts),
             Node::Ignoring(sink) => sink.on_push(e, acts),
         }
@@ -111,8 +123,10 @@ impl<S: Source, D: Drain> Stage for Node<S, D> {
     fn on_finish(&mut self, alloc: Global, port: u8, acts: &mut Acts) -> Result<(), NoMemory> {
         match self {
             Node::Reading(_) | Node::Making(_) => unreachable!(),
-            Node::Linear(logic) => linear::on_finish(logic, acts),
-            Node::State(logic) => state::on_finish(logic, alloc, acts),
+            Node::Linear(logic) => Stage::on_finish(logic, alloc, port, acts),
+            Node::State(logic) => Stage::on_finish(logic, alloc, port, acts),
+            Node::FanIn(logic) => Stage::on_finish(logic, alloc, port, acts),
+            Node::FanOut(logic) => Stage::on_finish(logic, alloc, port, acts),
             Node::Writing(sink) => sink.on_finish(acts),
             Node::Ignoring(sink) => sink.on_finish(acts),
         }
@@ -127,8 +141,10 @@ impl<S: Source, D: Drain> Stage for Node<S, D> {
     ) -> Result<(), NoMemory> {
         match self {
             Node::Reading(_) | Node::Making(_) => unreachable!(),
-            Node::Linear(logic) => linear::on_fail(logic, cause, acts),
-            Node::State(logic) => state::on_fail(logic, cause, acts),
+            Node::Linear(logic) => Stage::on_fail(logic, alloc, port, cause, acts),
+            Node::State(logic) => Stage::on_fail(logic, alloc, port, cause, acts),
+            Node::FanIn(logic) => Stage::on_fail(logic, alloc, port, cause, acts),
+            Node::FanOut(logic) => Stage::on_fail(logic, alloc, port, cause, acts),
             Node::Writing(sink) => sink.on_fail(cause, acts),
             Node::Ignoring(sink) => sink.on_fail(cause, acts),
         }
@@ -138,8 +154,10 @@ impl<S: Source, D: Drain> Stage for Node<S, D> {
         match self {
             Node::Reading(source) => source.on_cancel(acts),
             Node::Making(source) => source.on_cancel(acts),
-            Node::Linear(logic) => linear::on_cancel(logic, acts),
-            Node::State(logic) => state::on_cancel(logic, acts),
+            Node::Linear(logic) => Stage::on_cancel(logic, alloc, port, acts),
+            Node::State(logic) => Stage::on_cancel(logic, alloc, port, acts),
+            Node::FanIn(logic) => Stage::on_cancel(logic, alloc, port, acts),
+            Node::FanOut(logic) => Stage::on_cancel(logic, alloc, port, acts),
             Node::Writing(_) | Node::Ignoring(_) => unreachable!(),
         }
     }

@@ -24,7 +24,7 @@ use Rattle.stage_linear.specs.declared.phase.Phase.TheVariants.{Open}
 use Rattle.stage_linear.specs.States.{Logic, held, row_in, IsLinear}
 use Rattle.nodes.specs.declared.node.Node.{Node}
 use Rattle.nodes.specs.declared.node.Node.TheVariants.{Linear}
-use Rattle.nodes.specs.Linear.{LinearRow, LinearLaw}
+use Rattle.stage_linear.specs.Handling.{LinearRow, LinearLaw}
 use Rattle.nodes.specs.Nodes.{node_row, node_law, node_asking, node_moves}
 use Rattle.run_account.specs.KindLaws.{IsOneMachine, Moments, PictureLaws}
 use Rattle.run_account.specs.Ports.{InPort, OutPort, InStands, OutStands, InRests, OutRests}

@@ -21,7 +21,7 @@ use Rattle.stage_linear.specs.declared.phase.Phase.{Phase}
 use Rattle.stage_linear.specs.declared.phase.Phase.TheVariants.{New, Open, Closed}
 use Rattle.stage_linear.specs.Tasks.{Spreads}
 use Rattle.stage_linear.specs.States.{Logic, held, held_in, row_in, Begins}
-use Rattle.nodes.specs.Linear.{LinearLaw}
+use Rattle.stage_linear.specs.Handling.{LinearLaw}
 use Rattle.nodes.specs.Source.{lines_row_in}
 use Rattle.nodes.specs.Sink.{sink_row_in}
 use Rattle.nodes.specs.Ignoring.{ignore_row_in}

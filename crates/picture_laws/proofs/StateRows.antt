@@ -44,7 +44,7 @@ use Rattle.wire_core.specs.Counts.{elements}
 use Rattle.nodes.specs.declared.node.Node.{Node}
 use Rattle.nodes.specs.declared.node.Node.TheVariants as node
 use Rattle.nodes.specs.Nodes.{node_row, node_law, node_asking, node_moves}
-use Rattle.nodes.specs.State.{StateRow, StateLaw}
+use Rattle.stage_state.specs.Handling.{StateRow, StateLaw}
 use Rattle.run_account.specs.KindLaws.{IsOneMachine, Moments, PictureLaws}
 use Rattle.run_account.specs.Ports.{InPort, OutPort, InStands, OutStands, InRests, OutRests}
 use Rattle.run_account.proofs.Coming.{elements_told, elements_prefix}

@@ -14,7 +14,7 @@ use Rattle.stage_law.specs.Held.{owing}
 use Rattle.stage_law.specs.Law.{Law}
 use Rattle.stage_law.proofs.Whole.{stage_agrees}
 use Rattle.stage_linear.specs.States.{Logic, held}
-use Rattle.nodes.specs.Linear.{LinearLaw}
+use Rattle.stage_linear.specs.Handling.{LinearLaw}
 use Rattle.run_account.specs.KindLaws.{IsOneMachine, RunLaws}
 use Rattle.run_laws.specs.Made.{FirstLinear}
 use Rattle.run_account.specs.Items.{MayPass, AllMayPass, AgreesWith}

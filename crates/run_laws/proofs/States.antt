@@ -22,7 +22,7 @@ use Rattle.stage_state.specs.Buffering.{buffer}
 use Rattle.stage_state.specs.Resting.{begin_buffer}
 use Rattle.stage_state.specs.States.{Logic, machine_by, held, IsStateful, Begins}
 use Rattle.stage_state.proofs.Buffers.{buffer_agrees}
-use Rattle.nodes.specs.State.{StateLaw}
+use Rattle.stage_state.specs.Handling.{StateLaw}
 use Rattle.run_account.specs.KindLaws.{RunLaws}
 use Rattle.run_laws.specs.Made.{FirstState}
 use Rattle.run_account.specs.Items.{MayPass, AllMayPass, AgreesWith}

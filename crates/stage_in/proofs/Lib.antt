@@ -12,3 +12,4 @@ pub mod Rests
 pub mod Histories
 pub mod Nodes
 pub mod Begun
+pub mod Handling

@@ -11,3 +11,4 @@ pub mod Begins
 pub mod OutLogics
 pub mod OutRests
 pub mod OutNodes
+pub mod Handling

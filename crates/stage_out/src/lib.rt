@@ -2,6 +2,7 @@
 #![tactic(auto)]
 
 pub mod copy_logic;
+pub mod handlers;
 pub mod laws;
 pub mod logic;
 pub mod partition_logic;

@@ -1,6 +1,0 @@
-use Rattle.nodes.proofs.Acting.{on_ok_two}
-use Rattle.nodes.proofs.Linears.{handles_linear}
-use Rattle.nodes.proofs.linear.on_fail.Goals as goal
-
-pub returns-clause-handles : goal.returns-clause-handles
-returns-clause-handles c = on_ok_two _ c.on_fail.ensures.ports c.on_fail.ensures.gives (λ o t. handles_linear c.calls_keep_the_law.ensures.call _ _ _ _ o t)

@@ -1,0 +1,86 @@
+-- A call of a handler is what the trait of a stage asks; one of an output is of the one output.
+use Rattle.std.specs.Prelude.{Result, OnOk, slice_index_or}
+use Rattle.std.proofs.Common.{◌≡◌, ◌≤◌, ℕ, zero, suc, Bool, true, false, List, [], ◌∷◌, length, refl, sym, ap, subst, arith}
+use Rattle.port_core.specs.declared.act.Act.{Act}
+use Rattle.port_core.specs.declared.view.OutView.{OutView}
+use Rattle.port_core.specs.declared.view.OutView.TheVariants.{Shut}
+use Rattle.port_core.specs.View.{View, IsOutOpen}
+use Rattle.port_core.specs.Call.{Call, starts, asks, brings, cancels, CallAllowed, Meets, Obeys}
+use Rattle.stage_core.specs.Handling.{most_acts, Handles}
+use Rattle.stage_core.proofs.OnOks.{on_ok_two}
+use Rattle.stage_in.specs.declared.phase.Phase.{Phase}
+use Rattle.stage_in.specs.declared.phase.Phase.TheVariants.{New, Open, Closed}
+use Rattle.stage_in.specs.declared.logic.InLogic.{InLogic}
+use Rattle.stage_in.specs.declared.logic.InLogic.TheVariants as logic
+use Rattle.stage_in.specs.Seats.{OneClosed}
+use Rattle.stage_in.specs.Pairings.{Pairing, row_by}
+use Rattle.stage_in.specs.Takings as taking
+use Rattle.stage_in.specs.Sortings as sorted
+use Rattle.stage_in.specs.Zippings as zipping
+use Rattle.stage_in.specs.Logics.{row, room_of, Turned, InFresh, InRow, InLaw}
+use Rattle.stage_in.proofs.Nodes.{called_fits, handled}
+
+-- ---- it has one output
+
+one_closed : (ys : List OutView) → OneClosed ys → length ys ≡ 1
+one_closed [] h = absurd h
+one_closed (y ∷ []) h = refl
+one_closed (y ∷ z ∷ ys) h = absurd h
+
+one_taking : (b : Bool) (l : taking.Taking) (v : View) → taking.row_by b l v → length v.outs ≡ 1
+one_taking true l v r = ap (λ (w : View). length w.outs) r.0
+one_taking false l v r = one_closed v.outs r.1
+
+one_pairing : (Sound : Pairing → Type 0) (p : Phase) (l : Pairing) (v : View) → row_by Sound p l v → length v.outs ≡ 1
+one_pairing Sound New l v r = ap (λ (w : View). length w.outs) r.0
+one_pairing Sound Open l v r = ap (λ (w : View). length w.outs) r.0
+one_pairing Sound Closed l v r = one_closed v.outs r.1
+
+one_output : (l : InLogic) (v : View) → row l v → length v.outs ≡ 1
+one_output (logic.Taking l) v r = one_taking l.live l v r
+one_output (logic.Sorting l) v r = one_pairing sorted.Sound l.phase l v r
+one_output (logic.Zipping l) v r = one_pairing zipping.Sound l.phase l v r
+
+-- the same call of that output
+abbrev pub at_output : Call → Call
+at_output starts = starts
+at_output (asks j) = asks 0
+at_output (brings i x) = brings i x
+at_output (cancels j) = cancels 0
+
+no_other : (ys : List OutView) (j : _) → length ys ≡ 1 → IsOutOpen (slice_index_or ys (suc j) Shut) → ⊥
+no_other [] j e h = absurd (omega (arith, e))
+no_other (y ∷ []) j e h = h
+no_other (y ∷ z ∷ ys) j e h = absurd (omega (arith, e))
+
+output_is : (call : Call) (l : InLogic) (v : View) → CallAllowed call v → row l v → at_output call ≡ call
+output_is starts l v h r = refl
+output_is (asks zero) l v h r = refl
+output_is (asks (suc j)) l v h r = absurd (no_other v.outs j (one_output l v r) (subst IsOutOpen (sym h) tt))
+output_is (brings i x) l v h r = refl
+output_is (cancels zero) l v h r = refl
+output_is (cancels (suc j)) l v h r = absurd (no_other v.outs j (one_output l v r) h)
+
+-- ---- calls
+
+-- what every stage is given is room enough
+pub fits_new : (l : InLogic) (n : ℕ) → Meets starts (InFresh l) → most_acts ≤ n → room_of l ≤ n
+fits_new l n m h = let r : room_of l ≤ most_acts = called_fits l starts m.0 m.1.0 m.1.1.row in omega (arith, r, h)
+
+pub fits : (call : Call) (l : InLogic) (n : ℕ) → Meets call (InRow l) → most_acts ≤ n → room_of l ≤ n
+fits call l n m h = let r : room_of l ≤ most_acts = called_fits l call m.0 m.1.0 m.1.1.row in omega (arith, r, h)
+
+pub met : (call : Call) (l : InLogic) → Meets call (InRow l) → Meets (at_output call) (row l)
+met call l m = subst (λ c. Meets c (row l)) (sym (output_is call l m.0 m.1.0 m.1.1.row)) (m.0, (m.1.0, m.1.1.row))
+
+not_starts : (call : Call) → (call ≡ starts → ⊥) → at_output call ≡ starts → ⊥
+not_starts starts n e = n refl
+not_starts (asks j) n e = cc
+not_starts (brings i x) n e = cc
+not_starts (cancels j) n e = cc
+
+pub handles : {T E : Type 0} (call : Call) (old new : InLogic) (acts : List Act) (r : Result T E) → (call ≡ starts → ⊥) → Meets call (InRow old) → OnOk r (Obeys (at_output call) (row old) (row new) acts) → OnOk r (Turned (at_output call) old acts new)
+    → OnOk r (Handles InRow InLaw call old new acts)
+handles call old new acts r n m o t =
+    subst (λ c. OnOk r (Handles InRow InLaw c old new acts)) (output_is call old m.0 m.1.0 m.1.1.row)
+    (on_ok_two r o t (λ a b. handled (at_output call) old new acts (not_starts call n) m.1.1.started a b))

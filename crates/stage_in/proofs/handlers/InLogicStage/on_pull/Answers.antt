@@ -1,0 +1,9 @@
+use Rattle.port_core.specs.Call.{asks}
+use Rattle.stage_in.proofs.Handling.{fits, handles}
+use Rattle.stage_in.proofs.handlers.InLogicStage.on_pull.Goals as goal
+
+pub on_pull-requires-clause-room : goal.on_pull-requires-clause-room
+on_pull-requires-clause-room c = fits (asks c.args._port) _ _ c.requires.meets c.requires.room
+
+pub returns-clause-handles : goal.returns-clause-handles
+returns-clause-handles c = handles (asks c.args._port) _ _ _ _ (λ e. cc) c.requires.meets c.on_pull.ensures.ports c.on_pull.ensures.gives

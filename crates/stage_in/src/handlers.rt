@@ -1,0 +1,58 @@
+// A stage with several inputs as the interpreter calls it: its calls keep the law of its histories.
+ghost use Rattle.std.specs.Prelude.{[], ⊤};
+ghost use Rattle.stage_in.specs.Logics.{InFresh, InRow, InLaw};
+
+use crate::logic::InLogic;
+use elem_core::elem::Elem;
+use elem_core::why::{Cause, NoMemory};
+use port_core::acts::Acts;
+use stage_core::stage::Stage;
+use std::alloc::Global;
+
+impl Stage for InLogic {
+    ghost fresh = { InFresh };
+
+    ghost rests = { InRow };
+
+    ghost law = { InLaw };
+
+    ghost asking = { λ l v. ⊤ };
+
+    ghost moves = { λ l. [] };
+
+    fn start(&mut self, _alloc: Global, acts: &mut Acts) -> Result<(), NoMemory> {
+        self.start(acts)
+    }
+
+    fn on_pull(&mut self, alloc: Global, _port: u8, acts: &mut Acts) -> Result<(), NoMemory> {
+        self.on_pull(alloc, 0, acts)
+    }
+
+    fn on_push(
+        &mut self,
+        alloc: Global,
+        port: u8,
+        e: Elem,
+        acts: &mut Acts,
+    ) -> Result<(), NoMemory> {
+        self.on_push(alloc, port, e, acts)
+    }
+
+    fn on_finish(&mut self, _alloc: Global, port: u8, acts: &mut Acts) -> Result<(), NoMemory> {
+        self.on_finish(port, acts)
+    }
+
+    fn on_fail(
+        &mut self,
+        _alloc: Global,
+        port: u8,
+        cause: Cause,
+        acts: &mut Acts,
+    ) -> Result<(), NoMemory> {
+        self.on_fail(port, cause, acts)
+    }
+
+    fn on_cancel(&mut self, _alloc: Global, _port: u8, acts: &mut Acts) -> Result<(), NoMemory> {
+        self.on_cancel(0, acts)
+    }
+}

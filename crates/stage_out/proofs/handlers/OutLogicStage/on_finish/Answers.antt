@@ -1,0 +1,12 @@
+use Rattle.elem_core.specs.declared.item.Item.TheVariants as item
+use Rattle.port_core.specs.Call.{brings}
+use Rattle.stage_core.proofs.OnOks.{on_ok_two}
+use Rattle.stage_out.proofs.OutNodes.{handled}
+use Rattle.stage_out.proofs.Handling.{fits}
+use Rattle.stage_out.proofs.handlers.OutLogicStage.on_finish.Goals as goal
+
+pub on_finish-requires-clause-room : goal.on_finish-requires-clause-room
+on_finish-requires-clause-room c = fits (brings c.args.port item.Ended) _ _ c.requires.meets c.requires.room
+
+pub returns-clause-handles : goal.returns-clause-handles
+returns-clause-handles c = on_ok_two _ c.on_finish.ensures.ports c.on_finish.ensures.gives (λ o t. handled _ _ _ _ o t)

@@ -43,6 +43,8 @@ sinks_of (node.Reading x ∷ xs) = sinks_of xs
 sinks_of (node.Making x ∷ xs) = sinks_of xs
 sinks_of (node.Linear x ∷ xs) = sinks_of xs
 sinks_of (node.State x ∷ xs) = sinks_of xs
+sinks_of (node.FanIn x ∷ xs) = sinks_of xs
+sinks_of (node.FanOut x ∷ xs) = sinks_of xs
 sinks_of (node.Writing x ∷ xs) = (x.node, x.count, x.end) ∷ sinks_of xs
 sinks_of (node.Ignoring x ∷ xs) = (x.node, 0, x.end) ∷ sinks_of xs
 
@@ -53,6 +55,8 @@ readers_of (node.Reading x ∷ xs) = x.reader.source ∷ readers_of xs
 readers_of (node.Making x ∷ xs) = readers_of xs
 readers_of (node.Linear x ∷ xs) = readers_of xs
 readers_of (node.State x ∷ xs) = readers_of xs
+readers_of (node.FanIn x ∷ xs) = readers_of xs
+readers_of (node.FanOut x ∷ xs) = readers_of xs
 readers_of (node.Writing x ∷ xs) = readers_of xs
 readers_of (node.Ignoring x ∷ xs) = readers_of xs
 
@@ -63,5 +67,7 @@ writers_of (node.Reading x ∷ xs) = writers_of xs
 writers_of (node.Making x ∷ xs) = writers_of xs
 writers_of (node.Linear x ∷ xs) = writers_of xs
 writers_of (node.State x ∷ xs) = writers_of xs
+writers_of (node.FanIn x ∷ xs) = writers_of xs
+writers_of (node.FanOut x ∷ xs) = writers_of xs
 writers_of (node.Writing x ∷ xs) = x.drain ∷ writers_of xs
 writers_of (node.Ignoring x ∷ xs) = writers_of xs

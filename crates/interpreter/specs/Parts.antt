@@ -9,6 +9,10 @@ use Rattle.stage_linear.specs.declared.phase.Phase.TheVariants.{New}
 use Rattle.nodes.specs.Kinds.{IsMaker, maker_of, IsFileSink, writes_of}
 use Rattle.stage_linear.specs.Handling.{LinearFresh}
 use Rattle.stage_state.specs.Handling.{StateFresh}
+use Rattle.stage_in.specs.Logics.{InFresh}
+use Rattle.stage_in.specs.Logics as fan_in
+use Rattle.stage_out.specs.OutLogics as fan_out
+use Rattle.stage_out.specs.OutNodes.{OutFresh}
 use Rattle.nodes.specs.declared.node.Node.{Node}
 use Rattle.nodes.specs.declared.node.Node.TheVariants as node
 use Rattle.fused_net.specs.declared.net.Ends.{Ends}
@@ -17,7 +21,7 @@ use Rattle.fused_net.specs.Net.{end_at, port_at}
 use Rattle.interpreter.specs.declared.parts.Link.{Link}
 use Rattle.interpreter.specs.declared.parts.Seated.{Seated}
 use Rattle.interpreter.specs.declared.parts.Work.{Work}
-use Rattle.interpreter.specs.declared.parts.Work.TheVariants.{Reading, Making, Linear, State, Writing}
+use Rattle.interpreter.specs.declared.parts.Work.TheVariants.{Reading, Making, Linear, State, FanIn, FanOut, Writing}
 
 -- the ports at the ends of a link
 abbrev pub ends_of : Link → Ends
@@ -33,6 +37,8 @@ work_inputs (Reading r) = 0
 work_inputs (Making k) = 0
 work_inputs (Linear l) = 1
 work_inputs (State l) = 1
+work_inputs (FanIn l n) = n
+work_inputs (FanOut l n) = 1
 work_inputs (Writing k d) = 1
 
 abbrev pub work_outputs : {S D : Type 0} → Work S D → ℕ
@@ -40,6 +46,8 @@ work_outputs (Reading r) = 1
 work_outputs (Making k) = 1
 work_outputs (Linear l) = 1
 work_outputs (State l) = 1
+work_outputs (FanIn l n) = 1
+work_outputs (FanOut l n) = n
 work_outputs (Writing k d) = 0
 
 -- the same of the work at place n
@@ -59,6 +67,8 @@ IsUnused (Reading r) = r.kept ≡ []
 IsUnused (Making k) = IsMaker k
 IsUnused (Linear l) = LinearFresh l (record { ins = Idle ∷ []; outs = Unasked ∷ [] })
 IsUnused (State l) = StateFresh l (record { ins = Idle ∷ []; outs = Unasked ∷ [] })
+IsUnused (FanIn l n) = InFresh l (fan_in.unasked_ports n)
+IsUnused (FanOut l n) = OutFresh l (fan_out.unasked_ports n)
 IsUnused (Writing k (Some d)) = IsFileSink k
 IsUnused (Writing k None) = k ≡ Ignore
 
@@ -89,6 +99,8 @@ BecomesOf k (Reading r) x = x ≡ node.Reading (record { node = k; reader = r; d
 BecomesOf k (Making kind) x = x ≡ node.Making (maker_of k kind)
 BecomesOf k (Linear l) x = x ≡ node.Linear l
 BecomesOf k (State l) x = x ≡ node.State l
+BecomesOf k (FanIn l n) x = x ≡ node.FanIn l
+BecomesOf k (FanOut l n) x = x ≡ node.FanOut l
 BecomesOf k (Writing kind (Some d)) x = x ≡ node.Writing (record { node = k; drain = d; writes = writes_of kind; kept = None; count = 0; started = false; end = Unended })
 BecomesOf k (Writing kind None) x = x ≡ node.Ignoring (record { node = k; started = false; end = Unended })
 

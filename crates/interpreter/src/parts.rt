@@ -12,7 +12,9 @@ use nodes::maker::Maker;
 use nodes::node::Node;
 use nodes::sink::{FileSink, Writes};
 use nodes::source::LinesSource;
+use stage_in::logic::InLogic;
 use stage_linear::logic::LinearLogic;
+use stage_out::logic::OutLogic;
 use stage_state::logic::StateLogic;
 use std::alloc::Global;
 use stream_io::line_reader::LineReader;
@@ -46,6 +48,10 @@ pub enum Work<S: Source, D: Drain> {
     Linear(LinearLogic),
     /// A stage with state.
     State(StateLogic),
+    /// A stage with so many inputs.
+    FanIn(InLogic, u32),
+    /// A stage with so many outputs.
+    FanOut(OutLogic, u32),
     /// A sink of this kind, with the drain of its file, if it has one.
     Writing(Kind, Option<D>),
 }
@@ -74,7 +80,8 @@ impl<S: Source, D: Drain> Work<S, D> {
     {
         match self {
             Work::Reading(_) | Work::Making(_) => 0,
-            Work::Linear(_) | Work::State(_) | Work::Writing(_, _) => 1,
+            Work::Linear(_) | Work::State(_) | Work::FanOut(_, _) | Work::Writing(_, _) => 1,
+            Work::FanIn(_, inputs) => *inputs as usize,
         }
     }
 
@@ -82,7 +89,12 @@ impl<S: Source, D: Drain> Work<S, D> {
         ensures { result ≡ work_outputs self.now }
     {
         match self {
-            Work::Reading(_) | Work::Making(_) | Work::Linear(_) | Work::State(_) => 1,
+            Work::Reading(_)
+            | Work::Making(_)
+            | Work::Linear(_)
+            | Work::State(_)
+            | Work::FanIn(_, _) => 1,
+            Work::FanOut(_, outputs) => *outputs as usize,
             Work::Writing(_, _) => 0,
         }
     }
@@ -99,6 +111,8 @@ pub fn seat<S: Source, D: Drain>(alloc: Global, seated: Seated<S, D>) -> Node<S,
         Work::Making(kind) => Node::Making(maker(node, kind)),
         Work::Linear(logic) => Node::Linear(logic),
         Work::State(logic) => Node::State(logic),
+        Work::FanIn(logic, _) => Node::FanIn(logic),
+        Work::FanOut(logic, _) => Node::FanOut(logic),
         Work::Writing(kind, drain) => {
             let writes = written(kind);
             match drain {

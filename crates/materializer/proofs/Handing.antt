@@ -5,6 +5,8 @@ use Rattle.std.specs.List.{cons_option}
 use Rattle.stream_model.specs.declared.kind.Kind.TheVariants as kind
 use Rattle.stage_linear.specs.States.{IsLinear}
 use Rattle.stage_state.specs.States.{IsStateful}
+use Rattle.stage_in.specs.Logics.{IsFanIn}
+use Rattle.stage_out.specs.OutLogics.{IsOut}
 use Rattle.nodes.specs.declared.node.Node.{Node}
 use Rattle.nodes.specs.declared.node.Node.TheVariants as node
 use Rattle.nodes.specs.Source.{Lines}
@@ -19,7 +21,7 @@ use Rattle.blue_core.specs.declared.blueprint.Node as blue
 use Rattle.materializer.specs.Files.{input_of, output_of, inputs_of_nodes, outputs_of_nodes}
 use Rattle.materializer.specs.Handed.{ReadsFile, WritesFile, WritesNoFile}
 use Rattle.materializer.specs.Seats.{handle_of, handles_left, IsWork, AreSeats}
-use Rattle.materializer.proofs.Placing.{reads_lines, maker_no_file, linear_no_file, state_no_file}
+use Rattle.materializer.proofs.Placing.{reads_lines, maker_no_file, linear_no_file, state_no_file, fan_in_no_file, fan_out_no_file}
 
 -- the place of a handle and of its name, among all
 record Handed {X : Type 0} (xs : List X) (names : List (List ℕ)) (x : X) (name : List ℕ) : Type 0 where
@@ -47,6 +49,8 @@ module _ {S D : Type 0} where
   reader_at k n ss ds (work.Making shape) x names name is b e = absurd (subst IsMaker e is.is_maker)
   reader_at k n ss ds (work.Linear l) x names name is b e = absurd (subst IsLinear e is.is_linear)
   reader_at k n ss ds (work.State l) x names name is b e = absurd (subst IsStateful e is.is_state)
+  reader_at k n ss ds (work.FanIn l inputs) x names name is b e = absurd (subst IsFanIn e is.is_in)
+  reader_at k n ss ds (work.FanOut l outputs) x names name is b e = absurd (subst IsOut e is.is_out)
   reader_at k n ss ds (work.Writing shape (Some d)) x names name is b e = absurd (subst IsFileSink e is.is_sink)
   reader_at k n ss ds (work.Writing shape None) x names name is b e = let no : kind.Lines name ≡ kind.Ignore = sym e ∙ is.is_ignore in absurd cc
 
@@ -87,6 +91,8 @@ module _ {S D : Type 0} where
   writer_at k n ss ds (work.Making shape) x names name is b e = absurd (maker_no_file n.kind name is.is_maker e)
   writer_at k n ss ds (work.Linear l) x names name is b e = absurd (linear_no_file n.kind name is.is_linear e)
   writer_at k n ss ds (work.State l) x names name is b e = absurd (state_no_file n.kind name is.is_state e)
+  writer_at k n ss ds (work.FanIn l inputs) x names name is b e = absurd (fan_in_no_file n.kind name is.is_in e)
+  writer_at k n ss ds (work.FanOut l outputs) x names name is b e = absurd (fan_out_no_file n.kind name is.is_out e)
   writer_at k n ss ds (work.Writing shape (Some d)) x names name is b e = (_, (b, (refl, handed_next (output_of n.kind) ds names d name e is.next)))
   writer_at k n ss ds (work.Writing shape None) x names name is b e = let no : output_of kind.Ignore ≡ Some name = sym (ap output_of is.is_ignore) ∙ e in absurd cc
 
@@ -125,6 +131,8 @@ module _ {S D : Type 0} where
   ignorer_at k n ss ds (work.Making shape) x is b e = absurd (subst IsMaker e is.is_maker)
   ignorer_at k n ss ds (work.Linear l) x is b e = absurd (subst IsLinear e is.is_linear)
   ignorer_at k n ss ds (work.State l) x is b e = absurd (subst IsStateful e is.is_state)
+  ignorer_at k n ss ds (work.FanIn l inputs) x is b e = absurd (subst IsFanIn e is.is_in)
+  ignorer_at k n ss ds (work.FanOut l outputs) x is b e = absurd (subst IsOut e is.is_out)
   ignorer_at k n ss ds (work.Writing shape (Some d)) x is b e = absurd (subst IsFileSink e is.is_sink)
   ignorer_at k n ss ds (work.Writing shape None) x is b e = (_, (b, refl))
 

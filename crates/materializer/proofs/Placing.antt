@@ -2,12 +2,16 @@
 use Rattle.std.proofs.Common.{◌≡◌, ℕ, zero, suc, ◌+◌, List, [], ◌∷◌, length, Some, None, refl, ap, sym, ◌∙◌, subst}
 use Rattle.std.specs.Prelude.{slice_get}
 use Rattle.stream_model.specs.declared.kind.Kind.{Kind}
-use Rattle.stream_model.specs.declared.kind.Kind.TheVariants.{Lines, Range, Empty, Failed, Map, Filter, FilterNot, TakeWhile, DropWhile, Take, Drop, Limit, MapConcat, Grouped, Fold, Reduce, Scan, Buffer, ToLines, Head, Last}
+use Rattle.stream_model.specs.declared.kind.Kind.TheVariants.{Lines, Range, Empty, Failed, Map, Filter, FilterNot, TakeWhile, DropWhile, Take, Drop, Limit, MapConcat, Grouped, Fold, Reduce, Scan, Buffer, Concat, Interleave, MergeSorted, Zip, Broadcast, Partition, Unzip, ToLines, Head, Last}
 use Rattle.stream_model.specs.declared.kind.Policy.TheVariants.{Backpressure}
 use Rattle.stream_model.specs.Composed.{inputs_of}
 use Rattle.stream_picture.specs.View.{outputs_of}
 use Rattle.stage_linear.specs.States.{IsLinear}
 use Rattle.stage_state.specs.States.{IsStateful}
+use Rattle.stage_in.specs.Logics.{IsFanIn}
+use Rattle.stage_in.specs.Logics as fan_in
+use Rattle.stage_out.specs.OutLogics.{IsOut}
+use Rattle.stage_out.specs.OutLogics as fan_out
 use Rattle.nodes.specs.Kinds.{IsMaker, IsFileSink}
 use Rattle.interpreter.specs.declared.parts.Seated.{Seated}
 use Rattle.interpreter.specs.declared.parts.Work.{Work}
@@ -56,6 +60,21 @@ state_ports (Scan o) h = (refl, refl)
 state_ports (Buffer n Backpressure) h = (refl, refl)
 state_ports _ h = absurd h
 
+-- a stage with several inputs has those of its kind, and one output
+fan_in_ports : (k : Kind) → IsFanIn k → (inputs_of k ≡ fan_in.inputs_of k) × (outputs_of k ≡ 1)
+fan_in_ports (Concat n) h = (refl, refl)
+fan_in_ports (Interleave n s) h = (refl, refl)
+fan_in_ports MergeSorted h = (refl, refl)
+fan_in_ports Zip h = (refl, refl)
+fan_in_ports _ h = absurd h
+
+-- a stage with several outputs has those of its kind, and one input
+fan_out_ports : (k : Kind) → IsOut k → (inputs_of k ≡ 1) × (outputs_of k ≡ fan_out.outputs_of k)
+fan_out_ports (Broadcast n) h = (refl, refl)
+fan_out_ports (Partition n f) h = (refl, refl)
+fan_out_ports Unzip h = (refl, refl)
+fan_out_ports _ h = absurd h
+
 -- only sinks write a file
 file_apart : (P : Kind → Type 0) → ((name : List ℕ) → P (ToLines name) → ⊥) → ((name : List ℕ) → P (Head name) → ⊥) → ((name : List ℕ) → P (Last name) → ⊥) → (k : Kind) (name : List ℕ) → P k → output_of k ≡ Some name → ⊥
 file_apart P a b c (ToLines file) name h e = a file h
@@ -72,6 +91,12 @@ linear_no_file k name h e = file_apart IsLinear (λ _ i. i) (λ _ i. i) (λ _ i.
 pub state_no_file : (k : Kind) (name : List ℕ) → IsStateful k → output_of k ≡ Some name → ⊥
 state_no_file k name h e = file_apart IsStateful (λ _ i. i) (λ _ i. i) (λ _ i. i) k name h e
 
+pub fan_in_no_file : (k : Kind) (name : List ℕ) → IsFanIn k → output_of k ≡ Some name → ⊥
+fan_in_no_file k name h e = file_apart IsFanIn (λ _ i. i) (λ _ i. i) (λ _ i. i) k name h e
+
+pub fan_out_no_file : (k : Kind) (name : List ℕ) → IsOut k → output_of k ≡ Some name → ⊥
+fan_out_no_file k name h e = file_apart IsOut (λ _ i. i) (λ _ i. i) (λ _ i. i) k name h e
+
 module _ {S D : Type 0} where
   -- ---- works
 
@@ -80,6 +105,8 @@ module _ {S D : Type 0} where
   work_ports k n ss ds (work.Making shape) is = let p = maker_ports n.kind is.is_maker in (sym p.0, sym p.1)
   work_ports k n ss ds (work.Linear l) is = let p = linear_ports n.kind is.is_linear in (sym p.0, sym p.1)
   work_ports k n ss ds (work.State l) is = let p = state_ports n.kind is.is_state in (sym p.0, sym p.1)
+  work_ports k n ss ds (work.FanIn l inputs) is = let p = fan_in_ports n.kind is.is_in in (is.inputs_are, sym p.1)
+  work_ports k n ss ds (work.FanOut l outputs) is = let p = fan_out_ports n.kind is.is_out in (sym p.0, is.outputs_are)
   work_ports k n ss ds (work.Writing shape (Some d)) is = let p = file_sink_ports n.kind is.is_sink in (sym p.0, sym p.1)
   work_ports k n ss ds (work.Writing shape None) is = (sym (ap inputs_of is.is_ignore), sym (ap outputs_of is.is_ignore))
 
@@ -88,6 +115,14 @@ module _ {S D : Type 0} where
   work_unused k n ss ds (work.Making shape) is = subst IsMaker (sym is.shape_is) is.is_maker
   work_unused k n ss ds (work.Linear l) is = let b = is.begins in record { phase = b.phase; row = rw b.phase tt }
   work_unused k n ss ds (work.State l) is = let b = is.begins in record { phase = b.phase; row = b.ready }
+  work_unused k n ss ds (work.FanIn l inputs) is =
+      let b = is.begins in
+      let same : fan_in.inputs_of n.kind ≡ inputs = sym (is.inputs_are ∙ (fan_in_ports n.kind is.is_in).0) in
+      record { fresh = b.fresh; row = subst (λ m. fan_in.row l (fan_in.unasked_ports m)) same b.ready }
+  work_unused k n ss ds (work.FanOut l outputs) is =
+      let b = is.begins in
+      let same : fan_out.outputs_of n.kind ≡ outputs = sym (is.outputs_are ∙ (fan_out_ports n.kind is.is_out).1) in
+      record { row = subst (λ m. fan_out.row l (fan_out.unasked_ports m)) same b.ready; fresh = b.fresh }
   work_unused k n ss ds (work.Writing shape (Some d)) is = subst IsFileSink (sym is.shape_is) is.is_sink
   work_unused k n ss ds (work.Writing shape None) is = is.shape_is ∙ is.is_ignore
 

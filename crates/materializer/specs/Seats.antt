@@ -2,10 +2,18 @@
 use Rattle.std.specs.Prelude.{◌≡◌, ℕ, ◌+◌, List, [], ◌∷◌, slice_get, Option, Some, None, ⊤}
 use Rattle.stream_model.specs.declared.kind.Kind.{Kind}
 use Rattle.stream_model.specs.declared.kind.Kind.TheVariants.{Ignore}
+use Rattle.stream_model.specs.Composed.{inputs_of}
 use Rattle.stream_model.specs.Graph.{Wire}
+use Rattle.stream_picture.specs.View.{outputs_of}
 use Rattle.stream_io.specs.Reading.{Reading}
 use Rattle.stage_linear.specs.States.{Logic, IsLinear, Begins}
 use Rattle.stage_state.specs.States as state
+use Rattle.stage_in.specs.declared.logic.InLogic.{InLogic}
+use Rattle.stage_in.specs.Logics.{IsFanIn}
+use Rattle.stage_in.specs.Logics as fan_in
+use Rattle.stage_out.specs.declared.logic.OutLogic.{OutLogic}
+use Rattle.stage_out.specs.OutLogics.{IsOut}
+use Rattle.stage_out.specs.OutLogics as fan_out
 use Rattle.nodes.specs.Kinds.{IsMaker, IsFileSink}
 use Rattle.interpreter.specs.declared.parts.Link.{Link}
 use Rattle.interpreter.specs.declared.parts.Seated.{Seated}
@@ -40,6 +48,18 @@ pub record StagesState (k : ℕ) (n : Node) (l : state.Logic) : Type 0 where
   pub is_state : state.IsStateful n.kind
   pub begins : state.Begins k n.kind n.decider l
 
+-- a stage with several inputs is at its start, and has so many
+pub record StagesIn (k : ℕ) (n : Node) (l : InLogic) (inputs : ℕ) : Type 0 where
+  pub is_in : IsFanIn n.kind
+  pub begins : fan_in.Begins k n.kind n.decider l
+  pub inputs_are : inputs ≡ inputs_of n.kind
+
+-- a stage with several outputs is at its start, and has so many
+pub record StagesOut (k : ℕ) (n : Node) (l : OutLogic) (outputs : ℕ) : Type 0 where
+  pub is_out : IsOut n.kind
+  pub begins : fan_out.Begins k n.kind l
+  pub outputs_are : outputs ≡ outputs_of n.kind
+
 -- a source without a file is of its kind
 pub record MakesAs (n : Node) (shape : Kind) : Type 0 where
   pub shape_is : shape ≡ n.kind
@@ -62,6 +82,8 @@ IsWork k n sources drains (work.Reading r) = ReadsNext n sources r
 IsWork k n sources drains (work.Making shape) = MakesAs n shape
 IsWork k n sources drains (work.Linear l) = Stages k n l
 IsWork k n sources drains (work.State l) = StagesState k n l
+IsWork k n sources drains (work.FanIn l inputs) = StagesIn k n l inputs
+IsWork k n sources drains (work.FanOut l outputs) = StagesOut k n l outputs
 IsWork k n sources drains (work.Writing shape (Some d)) = WritesNext n drains shape d
 IsWork k n sources drains (work.Writing shape None) = WritesNone n shape
 

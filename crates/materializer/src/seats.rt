@@ -9,9 +9,12 @@ ghost use Rattle.materializer.specs.Seats.{handles_left, IsWork, AreSeats};
 
 use crate::number::numbered;
 use blue_core::blueprint::Node;
+use blue_names::ports::{inputs_of, outputs_of};
 use elem_core::why::NoMemory;
 use interpreter::parts::{Seated, Work};
+use stage_in::logic::InLogic;
 use stage_linear::logic::LinearLogic;
+use stage_out::logic::OutLogic;
 use stage_state::logic::StateLogic;
 use std::alloc::Global;
 use std::vec::IntoIter;
@@ -69,6 +72,14 @@ fn seat<S: Source, D: Drain>(
         | Kind::Scan(_)
         | Kind::Buffer(_, Policy::Backpressure) => {
             Work::State(StateLogic::new(alloc, k, kind, decider)?)
+        }
+        Kind::Concat(_) | Kind::Interleave(_, _) | Kind::MergeSorted | Kind::Zip => {
+            let inputs = inputs_of(&kind);
+            Work::FanIn(InLogic::new(alloc, k, kind, decider)?, inputs)
+        }
+        Kind::Broadcast(_) | Kind::Partition(_, _) | Kind::Unzip => {
+            let outputs = outputs_of(&kind);
+            Work::FanOut(OutLogic::new(alloc, k, kind, decider)?, outputs)
         }
         _ => Work::Linear(LinearLogic::new(k, kind, decider)?),
     };

@@ -20,6 +20,8 @@ impl Stage for InLogic {
 
     ghost moves = { λ l. [] };
 
+    ghost keeps = { λ old new. ⊤ };
+
     fn start(&mut self, _alloc: Global, acts: &mut Acts) -> Result<(), NoMemory> {
         self.start(acts)
     }

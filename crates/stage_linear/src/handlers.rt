@@ -21,6 +21,8 @@ impl Stage for LinearLogic {
 
     ghost moves = { λ l. [] };
 
+    ghost keeps = { λ old new. ⊤ };
+
     fn start(&mut self, _alloc: Global, acts: &mut Acts) -> Result<(), NoMemory> {
         self.start(acts)
     }

@@ -8,10 +8,14 @@ use Rattle.stream_model.specs.Graph as graph
 use Rattle.stream_io.specs.State.{SourceState}
 use Rattle.stage_linear.specs.States.{Logic, IsLinear, Begins}
 use Rattle.stage_state.specs.States as state
+use Rattle.stage_in.specs.declared.logic.InLogic.{InLogic}
+use Rattle.stage_in.specs.Logics as fan_in
+use Rattle.stage_out.specs.declared.logic.OutLogic.{OutLogic}
+use Rattle.stage_out.specs.OutLogics as fan_out
 use Rattle.fused_net.specs.declared.net.Ends.{Ends}
 use Rattle.fused_net.specs.Net.{end_at}
 use Rattle.nodes.specs.declared.node.Node.{Node}
-use Rattle.nodes.specs.declared.node.Node.TheVariants.{Reading, Making, Linear, State, Writing, Ignoring}
+use Rattle.nodes.specs.declared.node.Node.TheVariants.{Reading, Making, Linear, State, FanIn, FanOut, Writing, Ignoring}
 use Rattle.nodes.specs.Source.{Lines}
 use Rattle.nodes.specs.Maker.{Made}
 use Rattle.nodes.specs.Sink.{Sink}
@@ -35,6 +39,16 @@ pub record FirstLinear (k : ℕ) (n : graph.Node) (x : Logic) : Type 0 where
 pub record FirstState (k : ℕ) (n : graph.Node) (x : state.Logic) : Type 0 where
   pub is_state : state.IsStateful n.kind
   pub begins : state.Begins k n.kind n.decider x
+
+-- a stage with several inputs at its start
+pub record FirstFanIn (k : ℕ) (n : graph.Node) (x : InLogic) : Type 0 where
+  pub is_in : fan_in.IsFanIn n.kind
+  pub begins : fan_in.Begins k n.kind n.decider x
+
+-- a stage with several outputs at its start
+pub record FirstFanOut (k : ℕ) (n : graph.Node) (x : OutLogic) : Type 0 where
+  pub is_out : fan_out.IsOut n.kind
+  pub begins : fan_out.Begins k n.kind x
 
 -- a source without a file at its start
 pub record FirstMaking (k : ℕ) (shape : Kind) (x : Made) : Type 0 where
@@ -61,6 +75,8 @@ FirstOf sources k n (Reading x) = FirstReading sources k n.kind x
 FirstOf sources k n (Making x) = FirstMaking k n.kind x
 FirstOf sources k n (Linear x) = FirstLinear k n x
 FirstOf sources k n (State x) = FirstState k n x
+FirstOf sources k n (FanIn x) = FirstFanIn k n x
+FirstOf sources k n (FanOut x) = FirstFanOut k n x
 FirstOf sources k n (Writing x) = FirstWriting k n.kind x
 FirstOf sources k n (Ignoring x) = FirstIgnoring k n.kind x
 

@@ -55,11 +55,11 @@ module _ (w : Graph) (world : World) (node : ℕ) (d : Decider) (is : List Outlo
   takes_agree : (kind : Kind) (first now : InLogic) → TakesAs kind first → length is ≡ inputs_of kind → (law : InLaw first now v took gave) → AllAgree is law.by.law.ins → Agrees (node_outlook w world node kind d is 0) law.by.law.out_list law.by.law.out_end
   takes_agree (Concat n) (logic.Taking f) (logic.Taking l) t many law h =
       let p = law.by.law in
-      concat_trace is p.ins p.out_list p.out_end h (as_taken f.segment ((taking_by f.segment).from (taking.place_of f)) concat_taken p.ins p.out_list p.out_end t
+      concat_trace is p.ins p.out_list p.out_end h (as_taken f.segment ((taking_by f.segment).from (taking.place_of f)) concat_taken p.ins p.out_list p.out_end t.1
       (fan_history_stands (taking_by f.segment) (taking.place_of f) (taking.held l) v (λ i. slice_index_or took i []) law.by.given p))
   takes_agree (Interleave n s) (logic.Taking f) (logic.Taking l) t many law h =
       let p = law.by.law in
-      interleave_trace s is p.ins p.out_list p.out_end h (as_taken f.segment ((taking_by f.segment).from (taking.place_of f)) (interleave_taken s) p.ins p.out_list p.out_end t
+      interleave_trace s is p.ins p.out_list p.out_end h (as_taken f.segment ((taking_by f.segment).from (taking.place_of f)) (interleave_taken s) p.ins p.out_list p.out_end t.1
       (fan_history_stands (taking_by f.segment) (taking.place_of f) (taking.held l) v (λ i. slice_index_or took i []) law.by.given p))
   takes_agree MergeSorted (logic.Sorting f) (logic.Sorting l) t many law h =
       let p = law.by.law in
@@ -94,10 +94,10 @@ interleave_takes l k s c n =
     ap (λ x. (taking_by x).from (taking.place_of l)) s ∙ ap (λ p. (interleaving k).from (record { current = p; left = l.left })) c ∙ ap (λ p. (interleaving k).from (record { current = 0; left = p })) n
 
 concat_begins : (node n : ℕ) (d : Decider) (l : Taking) → 2 ≤ n → n ≤ 16 → taking.Begins n None l → Begins node (Concat n) d (logic.Taking l)
-concat_begins node n d l two few b = taking_begins node (Concat n) d n None l two few b refl (concat_takes l b.by b.current)
+concat_begins node n d l two few b = taking_begins node (Concat n) d n None l two few b refl (b.by, concat_takes l b.by b.current)
 
 interleave_begins : (node n k : ℕ) (d : Decider) (l : Taking) → 2 ≤ n → n ≤ 16 → taking.Begins n (Some k) l → Begins node (Interleave n k) d (logic.Taking l)
-interleave_begins node n k d l two few b = taking_begins node (Interleave n k) d n (Some k) l two few b refl (interleave_takes l k b.by b.current (b.whole k refl))
+interleave_begins node n k d l two few b = taking_begins node (Interleave n k) d n (Some k) l two few b refl (b.by, interleave_takes l k b.by b.current (b.whole k refl))
 
 sorted_begins : (node : ℕ) (d : Decider) → Begins node MergeSorted d (logic.Sorting new_pair)
 sorted_begins node d = record { fresh = refl; takes = tt; ready = (refl, ((refl, refl), ((refl, refl), refl))) }

@@ -1,5 +1,5 @@
 -- The stages with several inputs, whatever their kind: their rows, what their handlers owe, and their law over histories.
-use Rattle.std.specs.Prelude.{◌≡◌, ◌≢◌, ◌≤◌, ℕ, true, replicate, List, [], ◌∷◌, length, slice_index_or, ⊤}
+use Rattle.std.specs.Prelude.{◌≡◌, ◌≢◌, ◌≤◌, ℕ, true, replicate, List, [], ◌∷◌, length, slice_index_or, Some, None, ⊤}
 use Rattle.elem_core.specs.Tree.{Tree}
 use Rattle.elem_core.specs.declared.item.Item.{Item}
 use Rattle.elem_core.specs.declared.why.Decider.{Decider}
@@ -99,10 +99,10 @@ Turned _ _ _ _ = ⊥
 
 -- ---- a new stage
 
--- it takes its inputs as the model says of the kind; a merge_sorted and a zip have one way alone
+-- it takes its inputs as the model says of the kind, and by its segment or by none; a merge_sorted and a zip have one way alone
 abbrev pub TakesAs : Kind → InLogic → Type 0
-TakesAs (Concat n) (logic.Taking l) = (taking_by l.segment).from (taking.place_of l) ≡ concat_taken
-TakesAs (Interleave n s) (logic.Taking l) = (taking_by l.segment).from (taking.place_of l) ≡ interleave_taken s
+TakesAs (Concat n) (logic.Taking l) = (l.segment ≡ None) × ((taking_by l.segment).from (taking.place_of l) ≡ concat_taken)
+TakesAs (Interleave n s) (logic.Taking l) = (l.segment ≡ Some s) × ((taking_by l.segment).from (taking.place_of l) ≡ interleave_taken s)
 TakesAs MergeSorted (logic.Sorting l) = ⊤
 TakesAs Zip (logic.Zipping l) = ⊤
 TakesAs _ _ = ⊥

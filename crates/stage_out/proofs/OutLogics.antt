@@ -125,6 +125,7 @@ numbers_each w node n f j (suc k) = (λ is l e g h a st. trace_output (linear w.
 pub begins : (node : ℕ) (kind : Kind) (new : OutLogic) → IsOut kind → IsMade node kind new → Begins node kind new
 begins node (Broadcast n) new ok is = rw is (record {
   live = refl;
+  of_kind = tt;
   ready = copy_begins n false ok.0 ok.1 (λ e. cc);
   outputs = λ book. copies_begun (part_by false) 0 n;
   agrees = λ g w d. rw (copies_begun (part_by false) 0 n) (whole_each 0 n);
@@ -133,6 +134,7 @@ begins node (Broadcast n) new ok is = rw is (record {
 })
 begins node Unzip new ok is = rw is (record {
   live = refl;
+  of_kind = tt;
   ready = copy_begins 2 true (omega arith) (omega arith) (λ e. refl);
   outputs = λ book. refl;
   agrees = λ g w d. (λ is. copies_agree (part_by true 0) no_stage (head_of is), (λ is. copies_agree (part_by true 1) no_stage (head_of is), tt));
@@ -141,6 +143,7 @@ begins node Unzip new ok is = rw is (record {
 })
 begins node (Partition n f) new ok is = rw is (record {
   live = refl;
+  of_kind = tt;
   ready = partition_begins node n f ok.0 ok.1;
   outputs = λ book. deals_begun book node n f 0 n;
   agrees = λ g w d. rw (deals_begun w.book node n f 0 n) (numbers_each w node n f 0 n);

@@ -38,7 +38,7 @@ use Rattle.stage_out.specs.CopyStates.{part_by}
 use Rattle.stage_out.specs.CopyStates as copy
 use Rattle.stage_out.specs.PartitionStates.{then_of}
 use Rattle.stage_out.specs.PartitionStates as part
-use Rattle.stage_out.specs.OutLogics.{is_live, row, Turned, outlets, owed, EachStarts, IsNew, EachAgrees, Begins}
+use Rattle.stage_out.specs.OutLogics.{is_live, row, Turned, outlets, owed, EachStarts, IsNew, EachAgrees, Begins, IsAlike}
 use Rattle.stage_out.specs.OutNodes.{OutFresh, OutLaw, GaveAgrees}
 use Rattle.stage_out.proofs.OutLogics.{turns_of, owe_copies, owe_deals, length-owed, length-dues}
 use Rattle.stage_out.proofs.Rests.{told_lists}
@@ -130,7 +130,7 @@ brought_one c h = one_of (brought_by c (h ∷ [])) (length-brought c (h ∷ []))
     one_of (x ∷ []) e = refl
     one_of (x ∷ y ∷ hs) e = absurd (omega (arith, e))
 
-length-outlets : (book : Book) (l : OutLogic) → length (outlets book l) ≡ length (owed l)
+pub length-outlets : (book : Book) (l : OutLogic) → length (outlets book l) ≡ length (owed l)
 length-outlets book (Copies l) = length-copiers (part_by l.halves) l.live 0 l.outs ∙ sym (length-owed l.live l.outs)
 length-outlets book (Deals l) = length-dealers book l (then_of l.live l) 0 l.outs ∙ sym (length-dues (then_of l.live l) 0 l.outs)
 
@@ -139,7 +139,7 @@ pub record Ports (l : OutLogic) (v : View) : Type 0 where
   pub one : length v.ins ≡ 1
   pub outs : length v.outs ≡ length (owed l)
 
-live_ports : (l : OutLogic) (v : View) → is_live l ≡ true → row l v → Ports l v
+pub live_ports : (l : OutLogic) (v : View) → is_live l ≡ true → row l v → Ports l v
 live_ports (Copies l) v h r =
     let s = subst (λ b. copy.row_by b l v) h r in
     record { one = ap (λ (w : View). length w.ins) s.0; outs = ap (λ (w : View). length w.outs) s.0 ∙ length-map l.outs want_view ∙ sym (length-owed l.live l.outs) }
@@ -155,12 +155,26 @@ owe_last (o ∷ os) [] (k ∷ ks) e = absurd (omega (arith, e))
 owe_last (o ∷ os) (h ∷ hs) [] e = absurd (omega (arith, e))
 owe_last (o ∷ os) (h ∷ hs) (k ∷ ks) e = rw (owe_last os hs ks (omega (arith, e))) refl
 
+-- it stays of its kind
+alike_on : (c : Call) (first old new : OutLogic) (acts : List Act) → Turned c old acts new → IsAlike first old → IsAlike first new
+alike_on c (Copies f) (Copies l) (Copies m) acts t a = tt
+alike_on c (Deals f) (Deals l) (Deals m) acts t a = tt
+alike_on c first (Copies l) (Deals m) acts t a = absurd t
+alike_on c first (Deals l) (Copies m) acts t a = absurd t
+alike_on c (Copies f) (Deals l) new acts t a = absurd a
+alike_on c (Deals f) (Copies l) new acts t a = absurd a
+
+alike_self : (l : OutLogic) → IsAlike l l
+alike_self (Copies l) = tt
+alike_self (Deals l) = tt
+
 keeps : (c : Call) (first old new : OutLogic) (v : View) (took gave : List (List Item)) (acts : List Act) → is_live old ≡ true → CallAllowed c v → ActsAllowed (seen c v) acts → row old v → Turned c old acts new
     → OutLaw first old v took gave → OutLaw first new (acted_all (seen c v) acts) (brought_by c took) (given_all acts gave)
 keeps c first old new v took gave acts live may allowed r turned law =
     let t = turns_of c old new acts live turned in
     let p = live_ports old v live r in
     record {
+      alike = alike_on c first old new acts turned law.alike;
       same = λ book. let a = t.outputs in sym (owe_last (outlets book first) (owed old) (owed new) a) ∙ ap (λ os. owe os (owed new)) (law.same book) ∙ t.same book;
       outputs = t.outputs ∙ law.outputs;
       rests = λ is os x. law.rests is os (t.rests is os x);
@@ -222,6 +236,7 @@ fresh_law : (l : OutLogic) (v : View) (took gave : List (List Item)) → CallAll
 fresh_law l v took gave may n r a b m k =
     let p = live_ports l v n.live r in
     record {
+      alike = alike_self l;
       same = λ book. owe_same book l;
       outputs = refl;
       rests = λ is os x. x;

@@ -128,6 +128,19 @@ starts_of book node Unzip = copy_starts (part_by true) 0 2
 starts_of book node (Partition n f) = number_starts book node n f 0 n
 starts_of book node _ = []
 
+-- which logic runs this kind
+abbrev pub IsOfKind : Kind → OutLogic → Type 0
+IsOfKind (Broadcast n) (Copies l) = ⊤
+IsOfKind Unzip (Copies l) = ⊤
+IsOfKind (Partition n f) (Deals l) = ⊤
+IsOfKind _ _ = ⊥
+
+-- both run kinds that are run alike
+abbrev pub IsAlike : OutLogic → OutLogic → Type 0
+IsAlike (Copies f) (Copies l) = ⊤
+IsAlike (Deals f) (Deals l) = ⊤
+IsAlike _ _ = ⊥
+
 -- how many outputs a node of this kind has
 abbrev pub outputs_of : Kind → ℕ
 outputs_of (Broadcast n) = n
@@ -155,6 +168,7 @@ EachAgrees n f (o ∷ os) = ((is : List Outlook) (l : List Tree) (e : End) (g : 
 -- kind, each at its start, and what they may give agrees with the outlooks of the node's; and it rests as its kind does.
 pub record Begins (node : ℕ) (kind : Kind) (new : OutLogic) : Type 0 where
   pub live : is_live new ≡ true
+  pub of_kind : IsOfKind kind new
   pub ready : row new (unasked_ports (outputs_of kind))
   pub outputs : (book : Book) → outlets book new ≡ starts_of book node kind
   pub agrees : (g : Graph) (w : World) (d : Decider) → EachAgrees 0 (λ j is. node_outlook g w node kind d is j) (outlets w.book new)

@@ -9,7 +9,7 @@ use Rattle.stream_picture.specs.View as picture
 use Rattle.stage_law.specs.Held.{told}
 use Rattle.stage_law.specs.Outs.{OutsLaw, owe}
 use Rattle.stage_out.specs.declared.logic.OutLogic.{OutLogic}
-use Rattle.stage_out.specs.OutLogics.{IsNew, row, outlets, owed, rests_as}
+use Rattle.stage_out.specs.OutLogics.{IsNew, row, outlets, owed, rests_as, IsAlike}
 
 -- what one that was not started knows of its ports
 pub record OutFresh (l : OutLogic) (v : View) : Type 0 where
@@ -19,6 +19,7 @@ pub record OutFresh (l : OutLogic) (v : View) : Type 0 where
 -- Of a logic as it was handed in and as it is now: its outputs' machines and its row stay; and the law of each output holds
 -- of what came and what was given there.
 pub record OutLaw (first now : OutLogic) (v : View) (took gave : List (List Item)) : Type 0 where
+  pub alike : IsAlike first now
   pub same : (book : Book) → owe (outlets book first) (owed now) ≡ outlets book now
   pub outputs : length (owed now) ≡ length (owed first)
   pub rests : (is os : List picture.View) → rests_as now is os → rests_as first is os

@@ -1,5 +1,4 @@
 pub mod Telling
-pub mod Bounds
 pub mod OnePorts
 pub mod Stages
 pub mod MachineRows

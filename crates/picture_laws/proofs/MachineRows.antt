@@ -21,7 +21,7 @@ use Rattle.stage_law.proofs.Whole.{stage_stands}
 use Rattle.wire_core.specs.Counts.{elements}
 use Rattle.run_account.specs.Ports.{InPort, OutPort, InStands, OutStands, InRests, OutRests}
 use Rattle.run_account.proofs.Coming.{elements_told}
-use Rattle.picture_laws.proofs.Bounds.{sent_open, sent_ended, sent_shut}
+use Rattle.run_account.proofs.Bounds.{sent_open, sent_ended, sent_shut}
 use Rattle.picture_laws.proofs.Stages.{Waited}
 use Rattle.picture_laws.proofs.Telling.{told_prefix}
 

@@ -42,7 +42,7 @@ module _ {S : Type 0} (m : Machine S Tree) where
     failed_most l e g c (at_finish h f cut) = most_open (run m start l) ended _ (prefix_length cut.part)
     failed_most l e g c (of_input h cut) = most_open (run m start l) _ _ (prefix_length cut.part)
 
-    gives_most : (l : List Tree) (e : End) (g : List Tree) (f : End) → Stands m start l e g f → AtMost (run m start l) e (length g)
+    pub gives_most : (l : List Tree) (e : End) (g : List Tree) (f : End) → Stands m start l e g f → AtMost (run m start l) e (length g)
     gives_most l e g unended h = most_by (run m start l) e (length g) (prefix_length h)
     gives_most l e g ended h = let n : length (close m (run m start l) e).list ≡ length g = ap (λ r. length r.list) h in most_by (run m start l) e (length g) (omega (arith, n))
     gives_most l e g (failed c) h = failed_most l e g c h

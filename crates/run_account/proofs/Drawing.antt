@@ -21,7 +21,7 @@ use Rattle.stream_picture.specs.Lawful.{WireLawful, RowLawful, IsLawful}
 use Rattle.stream_picture.specs.Rests.{Rests, SinksMatch}
 use Rattle.stage_law.specs.Held.{told}
 use Rattle.wire_core.specs.Reading.{inp_of, out_of, got_of, sent_of}
-use Rattle.run_account.specs.Account.{Account, read_ins, knows, took, gave, ins_wanted, outs_wanted, NodeKeeps, KeepsLaws, AllMade, IsStill}
+use Rattle.run_account.specs.Account.{Account, read_ins, knows, took, gave, ins_wanted, outs_wanted, outs_shut, shut_of, NodeKeeps, KeepsLaws, AllMade, IsStill}
 use Rattle.run_account.specs.KindLaws.{HearsAll, Moments, PictureLaws}
 use Rattle.run_account.specs.Pictures.{counts_of, AllPass, in_port, out_port, in_ports, out_ports}
 use Rattle.run_account.specs.Ports.{InPort, OutPort, EachPort, InStands, OutStands, InRests, OutRests}
@@ -131,6 +131,9 @@ module _ {N : Type 0} (row : N → View → Type 0) (law : N → N → View → 
     out_wants : outs_wanted g a k n ≡ map (λ (o : OutPort). o.want) (Out k n)
     out_wants = reads_out a g outlook k wanted (λ (o : OutPort). o.want) (λ u v. refl) (count_from 0 (outputs_of n.kind)) (all_out k n e)
 
+    out_shuts : outs_shut g a k n ≡ map (λ (o : OutPort). o.wire.shut) (Out k n)
+    out_shuts = reads_out a g outlook k shut_of (λ (o : OutPort). o.wire.shut) (λ u v. refl) (count_from 0 (outputs_of n.kind)) (all_out k n e)
+
     ins_same : ins g counts outlook k n.kind ≡ map (λ (i : InPort). i.wire) (In k n)
     ins_same = ins_are a g outlook k (count_from 0 (inputs_of n.kind)) (all_in k n e)
 
@@ -181,8 +184,8 @@ module _ {N : Type 0} (row : N → View → Type 0) (law : N → N → View → 
         moments : (p : ℕ) → 1 ≤ slice_index_or (map (λ (i : InPort). i.want) (In k n)) p 0 → Moments row law asking moves (kept k n e).first (kept k n e).now (In k n) (Out k n) p
         moments p some =
             let here : 1 ≤ slice_index_or (ins_wanted g a k n) p 0 = rw (in_wants k n e) some in (
-              rw (tooks k n e, gaves k n e, in_wants k n e, out_wants k n e) at ((kept k n e).asks p (within p here) here),
-              rw (tooks k n e, gaves k n e, in_wants k n e, out_wants k n e) at ((kept k n e).last p (within p here) here),
+              rw (tooks k n e, gaves k n e, in_wants k n e, out_wants k n e, out_shuts k n e) at ((kept k n e).asks p (within p here) here),
+              rw (tooks k n e, gaves k n e, in_wants k n e, out_wants k n e, out_shuts k n e) at ((kept k n e).last p (within p here) here),
             )
 
     wires_lawful : (k : ℕ) (n : graph.Node) → slice_get g.nodes k ≡ Some n → EachWire WireLawful (ins g counts outlook k n.kind)

@@ -1,12 +1,12 @@
 -- The moments of a node's asks, read off a net.
-use Rattle.std.specs.Prelude.{slice_get, slice_index_or, if◌then◌else◌}
+use Rattle.std.specs.Prelude.{slice_get, slice_index_or, if◌then◌else◌, not, ◌&&◌}
 use Rattle.std.proofs.Common.{◌≡◌, ℕ, zero, suc, ◌+◌, ◌<◌, ◌≤◌, Bool, true, false, List, [], ◌∷◌, ◌++◌, length, get_or, None, Some, refl, sym, ap, subst, ◌∙◌, arith}
 use Rattle.elem_core.specs.Prefix.{IsPrefix}
 use Rattle.elem_core.specs.declared.item.Item.{Item}
 use Rattle.elem_core.specs.declared.item.Item.TheVariants as item
 use Rattle.port_core.specs.Ring.{holds}
 use Rattle.port_core.specs.Wire.{Wire, end_of}
-use Rattle.port_core.specs.Connection.{quiet, pulled, ready, pushed}
+use Rattle.port_core.specs.Connection.{Connection, quiet, pulled, ready, pushed}
 use Rattle.port_core.specs.Joint.{Joint, idle, asking, asked, moving, ending, closing, leaving, finished, parted, refused, wire_of, Histories, IsSound}
 use Rattle.port_core.specs.View.{View, in_at, out_at}
 use Rattle.port_core.specs.declared.view.InView.{InView}
@@ -22,8 +22,10 @@ use Rattle.fused_net.specs.Net.{Net, read_all, end_at, ports_at, wire_at, view_o
 use Rattle.fused_net.specs.Net as net
 use Rattle.fused_net.specs.Laws.{Wired, LastAsk, NodeAsked, GoesOn}
 use Rattle.fused_net.proofs.Reading.{some_same, get_there, read_at}
-use Rattle.run_account.specs.Account.{AllBegin, Stood, Earlier, Last}
+use Rattle.stage_law.specs.Row.{OutClosed}
+use Rattle.run_account.specs.Account.{AllBegin, Stood, Earlier, Last, shut_of}
 use Rattle.run_account.proofs.Coming.{all_came}
+use Rattle.run_account.proofs.Resting.{out_shut}
 
 -- ---- one wire
 
@@ -81,6 +83,29 @@ pub all_begin : (f : Cell → List Item) (old new : List Cell) → ((q : ℕ) �
 all_begin f old new grown [] within = tt
 all_begin f old new grown (q ∷ ws) within = (grown q (within 0 q refl), all_begin f old new grown ws (λ i u e. within (suc i) u e))
 
+-- one that was shut is shut
+shut_flags : (a b c d : Bool) → (a ≡ true → c ≡ true) → (b ≡ true → d ≡ true) → not (not a && not b) ≡ true → not (not c && not d) ≡ true
+shut_flags true b c d f g h = rw (f refl) refl
+shut_flags false true true d f g h = refl
+shut_flags false true false d f g h = rw (g refl) refl
+shut_flags false false c d f g h = cc
+
+shut_stays : (c d : Cell) → Grown c d → shut_of c ≡ true → shut_of d ≡ true
+shut_stays c d grown h = shut_flags c.wire.conn.in_closed c.wire.conn.out_closed d.wire.conn.in_closed d.wire.conn.out_closed grown.in_closed grown.out_closed h
+
+shut_grown : (old new : List Cell) → ((q : ℕ) → q < length new → Grown (get_or old q no_wire) (get_or new q no_wire)) → (ws : List ℕ) → ((i q : ℕ) → slice_get ws i ≡ Some q → q < length new) → (i : ℕ)
+    → get_or (read_all shut_of old ws) i true ≡ true → get_or (read_all shut_of new ws) i true ≡ true
+shut_grown old new grown [] within i h = h
+shut_grown old new grown (w ∷ ws) within zero h = shut_stays (get_or old w no_wire) (get_or new w no_wire) (grown w (within 0 w refl)) h
+shut_grown old new grown (w ∷ ws) within (suc i) h = shut_grown old new grown ws (λ k q e. within (suc k) q e) i h
+
+-- one that the node at its output knows as closed is
+shut_there : (wires : List Cell) → ((q : ℕ) → q < length wires → (b : Bool) × IsSound (get_or wires q no_wire).wire b) → (ws : List ℕ) → ((i q : ℕ) → slice_get ws i ≡ Some q → q < length wires) → (i : ℕ)
+    → OutClosed (get_or (read_all out_of wires ws) i Shut) → get_or (read_all shut_of wires ws) i true ≡ true
+shut_there wires sound [] within i h = refl
+shut_there wires sound (w ∷ ws) within zero h = let s = sound w (within 0 w refl) in out_shut (get_or wires w no_wire).wire s.0 s.1 h
+shut_there wires sound (w ∷ ws) within (suc i) h = shut_there wires sound ws (λ k q e. within (suc k) q e) i h
+
 out_asked_there : {X : Type 0} (f : Cell → X) (wires : List Cell) (ws : List ℕ) (j : ℕ) → out_at (record { ins = []; outs = read_all out_of wires ws }) j ≡ Asked → (r : ℕ) × (slice_get ws j ≡ Some r)
 out_asked_there f wires [] j e = absurd cc
 out_asked_there f wires (w ∷ ws) zero e = (w, refl)
@@ -93,6 +118,10 @@ module _ {N : Type 0} (row : N → View → Type 0) (law : N → N → View → 
 
   abbrev pub want_out : Net N → ℕ → List ℕ
   want_out a j = read_all wanted a.wires (ports_at a j).outs
+
+  -- which of its outputs are shut
+  abbrev pub shut_out : Net N → ℕ → List Bool
+  shut_out a j = read_all shut_of a.wires (ports_at a j).outs
 
   module _ (new : Net N) (wired : Wired new.ends new.ports (length new.nodes) (length new.wires)) (j : ℕ) (hj : j < length new.nodes) (first : N) (first_at : slice_get new.firsts j ≡ Some first) where
     ins_within : (i q : ℕ) → slice_get (ports_at new j).ins i ≡ Some q → q < length new.wires
@@ -130,6 +159,12 @@ module _ {N : Type 0} (row : N → View → Type 0) (law : N → N → View → 
           let now : slice_index_or (want_out new j) i 0 ≡ wanted (wire_at new slot.0) = read_at wanted new.wires (ports_at new j).outs i slot.0 0 slot_new in
           omega (arith, count, more, gave_count, now)
 
+      pub were_shut : ((u : ℕ) → u < length old.wires → IsSound (wire_at old u).wire (holds old.queue u)) → (i : ℕ) → OutClosed (out_at (view_of old j) i) → slice_index_or (shut_out new j) i true ≡ true
+      were_shut sound i closed =
+          let within_old : (k q : ℕ) → slice_get (ports_at new j).outs k ≡ Some q → q < length old.wires = λ k q e. let wires = on.wires in let within = outs_within k q e in omega (arith, wires, within) in
+          shut_grown old.wires new.wires grew (ports_at new j).outs outs_within i
+          (shut_there old.wires (λ q h. (holds old.queue q, sound q h)) (ports_at new j).outs within_old i (rw same_ports at closed))
+
       -- the node as it was
       pub first_then : slice_get old.firsts j ≡ Some first
       first_then = ap (λ (z : List N). slice_get z j) (sym on.firsts) ∙ first_at
@@ -146,7 +181,7 @@ module _ {N : Type 0} (row : N → View → Type 0) (law : N → N → View → 
     no_wires (w ∷ ws) none = absurd (omega (arith, none))
 
     -- the last ask of one of its inputs
-    pub earlier : (now : N) → slice_get new.nodes j ≡ Some now → (p q : ℕ) → slice_get (ports_at new j).ins p ≡ Some q → LastAsk row law asking moves new q → Earlier row law asking moves p first now (net.took new j) (net.gave new j) (want_in new j) (want_out new j)
+    pub earlier : (now : N) → slice_get new.nodes j ≡ Some now → (p q : ℕ) → slice_get (ports_at new j).ins p ≡ Some q → LastAsk row law asking moves new q → Earlier row law asking moves p first now (net.took new j) (net.gave new j) (want_in new j) (want_out new j) (shut_out new j)
     earlier now now_at p q slot a =
         let within = ins_within p q slot in
         let wires = a.on.wires in
@@ -171,6 +206,7 @@ module _ {N : Type 0} (row : N → View → Type 0) (law : N → N → View → 
           gave_on = began_out a.old a.on a.grown a.marked;
           moves_on = a.moves_on j x.0 now x.1 now_at;
           wants = were_wanted a.old a.on a.grown a.marked;
+          shut_on = were_shut a.old a.on a.grown a.marked a.sound;
           stays = λ one none same.
               let here = one_wire a.old.wires (ports_at new j).ins p q slot one in
               let ins : (ports_at a.old j).ins ≡ q ∷ [] = rw (same_ports a.old a.on a.grown a.marked) here.0 in
@@ -226,7 +262,7 @@ module _ {N : Type 0} (row : N → View → Type 0) (law : N → N → View → 
     within_old : j < length a.old.nodes
     within_old = let n = a.on.nodes in omega (arith, n, hj)
 
-    before_at : (x : N) → slice_get a.old.nodes j ≡ Some x → (i : ℕ) → i < length (want_in new j) → 1 ≤ slice_index_or (want_in new j) i 0 → Earlier row law asking moves i first x (net.took a.old j) (net.gave a.old j) (want_in new j) (want_out new j)
+    before_at : (x : N) → slice_get a.old.nodes j ≡ Some x → (i : ℕ) → i < length (want_in new j) → 1 ≤ slice_index_or (want_in new j) i 0 → Earlier row law asking moves i first x (net.took a.old j) (net.gave a.old j) (want_in new j) (want_out new j) (shut_out new j)
     before_at x x_at i h some =
         let at = some_there wanted new.wires (ports_at new j).ins i h in
         let q = at.0 in
@@ -249,13 +285,17 @@ module _ {N : Type 0} (row : N → View → Type 0) (law : N → N → View → 
           gave_on = e.gave_on;
           moves_on = e.moves_on;
           wants = λ k is. let least = e.wants k is in let more = outs_more k in omega (arith, least, more);
+          shut_on = λ k is. outs_still k (e.shut_on k is);
           stays = e.stays;
         }
       where
         outs_more : (k : ℕ) → slice_index_or (want_out a.old j) k 0 ≤ slice_index_or (want_out new j) k 0
         outs_more k = rw ports_then (want_grown a.old.wires new.wires (λ q h. (a.grown q (let w = a.on.wires in omega (arith, w, h))).wanted) (ports_at new j).outs (λ m q e. (wired.output_from j m q hj e).0) k)
 
-    pub last : Last row law asking moves first now (net.took new j) (net.gave new j) (want_in new j) (want_out new j)
+        outs_still : (k : ℕ) → slice_index_or (shut_out a.old j) k true ≡ true → slice_index_or (shut_out new j) k true ≡ true
+        outs_still k h = shut_grown a.old.wires new.wires (λ q l. a.grown q (let w = a.on.wires in omega (arith, w, l))) (ports_at new j).outs (λ m q e. (wired.output_from j m q hj e).0) k (rw ports_then at h)
+
+    pub last : Last row law asking moves first now (net.took new j) (net.gave new j) (want_in new j) (want_out new j) (shut_out new j)
     last =
         let x = get_there a.old.nodes j within_old in
         let minds = a.minded x.0 first x.1 first_old in
@@ -275,4 +315,5 @@ module _ {N : Type 0} (row : N → View → Type 0) (law : N → N → View → 
           gave_on = began_out new wired j hj first first_at a.old a.on a.grown a.marked;
           moves_on = a.moves_on j x.0 now x.1 now_at;
           wants = were_wanted new wired j hj first first_at a.old a.on a.grown a.marked;
+          shut_on = were_shut new wired j hj first first_at a.old a.on a.grown a.marked a.sound;
         }

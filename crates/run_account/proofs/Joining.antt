@@ -16,10 +16,10 @@ use Rattle.fused_net.specs.Net.{Net, read_all, end_at, ports_at, wire_at, view_o
 use Rattle.fused_net.specs.Net as net
 use Rattle.fused_net.specs.Laws.{Settled}
 use Rattle.fused_net.proofs.Reading.{get_there, read_at}
-use Rattle.run_account.specs.Account.{Account, knows, took, gave, WireKeeps, NodeKeeps, ins_wanted, outs_wanted, KeepsLaws}
+use Rattle.run_account.specs.Account.{Account, knows, took, gave, WireKeeps, NodeKeeps, ins_wanted, outs_wanted, KeepsLaws, outs_shut, shut_of}
 use Rattle.stream_picture.specs.Joined.{IsJoined}
 use Rattle.run_account.specs.Seats.{Seats, Covers, joined}
-use Rattle.run_account.proofs.Earlier.{want_in, want_out, earlier, last}
+use Rattle.run_account.proofs.Earlier.{want_in, want_out, shut_out, earlier, last}
 use Rattle.run_account.proofs.Reading.{far_slot, read_in, read_out}
 
 -- a view by its parts
@@ -54,6 +54,9 @@ module _ {N : Type 0} (row : N → View → Type 0) (law : N → N → View → 
   outs_same : (k : ℕ) (n : graph.Node) → slice_get g.nodes k ≡ Some n → want_out row law asking moves (nets (home k)) (seat k) ≡ outs_wanted g all k n
   outs_same k n e = read_out g nets s is_joined covers (λ b. (settled b).wired) wanted (λ b. (nets b).wires) k n e
 
+  shut_same : (k : ℕ) (n : graph.Node) → slice_get g.nodes k ≡ Some n → shut_out row law asking moves (nets (home k)) (seat k) ≡ outs_shut g all k n
+  shut_same k n e = read_out g nets s is_joined covers (λ b. (settled b).wired) shut_of (λ b. (nets b).wires) k n e
+
   gave_same : (k : ℕ) (n : graph.Node) → slice_get g.nodes k ≡ Some n → net.gave (nets (home k)) (seat k) ≡ gave g all k n
   gave_same k n e = read_out g nets s is_joined covers (λ b. (settled b).wired) sent_of (λ b. (nets b).wires) k n e
 
@@ -76,14 +79,14 @@ module _ {N : Type 0} (row : N → View → Type 0) (law : N → N → View → 
             let there = far_slot g nets s is_joined covers (λ c. (settled c).wired) k n p u.0 e u.1 in
             let some_here : 1 ≤ slice_index_or (want_in row law asking moves (nets (home k)) (seat k)) p 0 = rw (ins_same k n e) some in
             let l = (settled (home k)).asked (s.far u.0).at there.1.0 (rw (read_at wanted (nets (home k)).wires (ports_at (nets (home k)) (seat k)).ins p (s.far u.0).at 0 there.1.1) at some_here) in
-            rw (took_same k n e, gave_same k n e, ins_same k n e, outs_same k n e) at (earlier row law asking moves (nets (home k)) (settled (home k)).wired (seat k) h first.0 first.1 x.0 x.1 p (s.far u.0).at there.1.1 l);
+            rw (took_same k n e, gave_same k n e, ins_same k n e, outs_same k n e, shut_same k n e) at (earlier row law asking moves (nets (home k)) (settled (home k)).wired (seat k) h first.0 first.1 x.0 x.1 p (s.far u.0).at there.1.1 l);
         last = λ p hp some.
             let u = is_joined.each_input k n p e hp in
             let there = far_slot g nets s is_joined covers (λ c. (settled c).wired) k n p u.0 e u.1 in
             let some_here : 1 ≤ slice_index_or (want_in row law asking moves (nets (home k)) (seat k)) p 0 = rw (ins_same k n e) some in
             let to = ((settled (home k)).wired.input_to (seat k) p (s.far u.0).at h there.1.1).1.0 in
             let a = (settled (home k)).moments (seat k) (s.far u.0).at h there.1.0 to (rw (read_at wanted (nets (home k)).wires (ports_at (nets (home k)) (seat k)).ins p (s.far u.0).at 0 there.1.1) at some_here) in
-            rw (took_same k n e, gave_same k n e, ins_same k n e, outs_same k n e) at (last row law asking moves (nets (home k)) (settled (home k)).wired (seat k) h first.0 first.1 x.0 x.1 a);
+            rw (took_same k n e, gave_same k n e, ins_same k n e, outs_same k n e, shut_same k n e) at (last row law asking moves (nets (home k)) (settled (home k)).wired (seat k) h first.0 first.1 x.0 x.1 a);
       }
 
   near_there : (u : ℕ) → u < length g.wires → (s.near u).at < length (nets (s.near u).island).wires

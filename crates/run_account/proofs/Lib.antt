@@ -10,3 +10,4 @@ pub mod Standing
 pub mod Pictures
 pub mod Agreeing
 pub mod Drawing
+pub mod Bounds

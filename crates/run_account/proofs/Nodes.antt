@@ -10,14 +10,14 @@ use Rattle.stream_model.specs.Graph as graph
 use Rattle.stream_model.specs.Composed.{inputs_of, count_from}
 use Rattle.stream_picture.specs.Joined.{IsJoined}
 use Rattle.fused_net.proofs.Reading.{some_same}
-use Rattle.run_account.specs.Account.{Account, read_ins, knows, took, gave, ins_wanted, outs_wanted, AllBegin, Earlier, KeepsLaws}
+use Rattle.run_account.specs.Account.{Account, read_ins, knows, took, gave, ins_wanted, outs_wanted, outs_shut, AllBegin, Earlier, KeepsLaws}
 
 module _ {N : Type 0} (row : N → View → Type 0) (law : N → N → View → List (List Item) → List (List Item) → Type 0) (asking : N → View → Type 0) (moves : N → List ℕ) (g : Graph) (a : Account N) where
   -- what node k keeps, which was handed in as one and is the other now
   pub record KeptAs (k : ℕ) (n : graph.Node) (first now : N) : Type 0 where
     pub row_holds : row now (knows g a k n)
     pub law_holds : law first now (knows g a k n) (took g a k n) (gave g a k n)
-    pub asks : (p : ℕ) → p < inputs_of n.kind → 1 ≤ slice_index_or (ins_wanted g a k n) p 0 → Earlier row law asking moves p first now (took g a k n) (gave g a k n) (ins_wanted g a k n) (outs_wanted g a k n)
+    pub asks : (p : ℕ) → p < inputs_of n.kind → 1 ≤ slice_index_or (ins_wanted g a k n) p 0 → Earlier row law asking moves p first now (took g a k n) (gave g a k n) (ins_wanted g a k n) (outs_wanted g a k n) (outs_shut g a k n)
 
   pub kept_as : KeepsLaws row law asking moves g a → (k : ℕ) (n : graph.Node) (first now : N) → slice_get g.nodes k ≡ Some n → a.firsts k ≡ Some first → a.nodes k ≡ Some now → KeptAs k n first now
   kept_as keeps k n first now e f x =

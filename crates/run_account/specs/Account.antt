@@ -1,12 +1,13 @@
 -- What a run tells of a blueprint's nodes and wires at one moment, by their numbers in the blueprint. Where they stand, in one
 -- island or in many, it does not say.
-use Rattle.std.specs.Prelude.{◌≡◌, ℕ, ◌+◌, ◌<◌, ◌≤◌, false, List, [], ◌∷◌, length, slice_get, slice_index_or, Option, None, Some, ⊤}
+use Rattle.std.specs.Prelude.{◌≡◌, ℕ, ◌+◌, ◌<◌, ◌≤◌, not, Bool, true, false, List, [], ◌∷◌, length, slice_get, slice_index_or, Option, None, Some, ⊤}
 use Rattle.elem_core.specs.Prefix.{IsPrefix}
 use Rattle.elem_core.specs.declared.item.Item.{Item}
 use Rattle.port_core.specs.View.{View, in_at, out_at}
 use Rattle.port_core.specs.declared.view.InView.{InView}
 use Rattle.port_core.specs.declared.view.InView.TheVariants.{Idle, Waiting}
 use Rattle.port_core.specs.declared.view.OutView.TheVariants.{Asked}
+use Rattle.port_core.specs.Decoding.{is_open}
 use Rattle.port_core.specs.Joint.{IsSound}
 use Rattle.wire_core.specs.Cell.{Cell}
 use Rattle.wire_core.specs.Counts.{elements}
@@ -15,6 +16,7 @@ use Rattle.stream_model.specs.Graph.{Graph, Wire, find_wire, find_source}
 use Rattle.stream_model.specs.Graph as graph
 use Rattle.stream_model.specs.Composed.{inputs_of, count_from}
 use Rattle.stream_picture.specs.View.{outputs_of}
+use Rattle.stage_law.specs.Row.{OutClosed}
 use Rattle.wire_core.specs.Reading.{no_wire, inp_of, out_of, got_of, sent_of}
 
 -- Of each node, as it was handed in and as it is; of each wire the connection at its output and the one at its input.
@@ -23,6 +25,10 @@ pub record Account (N : Type 0) : Type 0 where
   pub nodes : ℕ → Option N
   pub near : ℕ → Cell
   pub far : ℕ → Cell
+
+-- either end has closed the wire
+abbrev pub shut_of : Cell → Bool
+shut_of c = not (is_open c.wire.conn)
 
 abbrev pub cell_by : (ℕ → Cell) → Option ℕ → Cell
 cell_by cells None = no_wire
@@ -56,6 +62,10 @@ module _ (g : Graph) where
     abbrev pub outs_wanted : List ℕ
     outs_wanted = read_outs wanted a.near k (count_from 0 (outputs_of n.kind))
 
+    -- which of its outputs are shut
+    abbrev pub outs_shut : List Bool
+    outs_shut = read_outs shut_of a.near k (count_from 0 (outputs_of n.kind))
+
 -- each history begins the one at its place
 abbrev pub AllBegin : List (List Item) → List (List Item) → Type 0
 AllBegin [] [] = ⊤
@@ -76,8 +86,8 @@ WireKeeps (Some size) near far = ⊥
 module _ {N : Type 0} (row : N → View → Type 0) (law : N → N → View → List (List Item) → List (List Item) → Type 0) (asking : N → View → Type 0) (moves : N → List ℕ) where
   -- The moment at which a node last asked at its p-th input, by what it took and gave and by what is wanted of its inputs and
   -- outputs: its row and its law held, and what it tells whenever it has just asked; it waited there, one element more than it
-  -- had taken is wanted, and all has only grown.
-  pub record Earlier (p : ℕ) (first now : N) (took gave : List (List Item)) (ins_want outs_want : List ℕ) : Type 0 where
+  -- had taken is wanted, and all has only grown; an output that was closed is shut.
+  pub record Earlier (p : ℕ) (first now : N) (took gave : List (List Item)) (ins_want outs_want : List ℕ) (outs_closed : List Bool) : Type 0 where
     pub old : N
     pub knew : View
     pub had : List (List Item)
@@ -91,11 +101,12 @@ module _ {N : Type 0} (row : N → View → Type 0) (law : N → N → View → 
     pub gave_on : AllBegin given gave
     pub moves_on : IsPrefix (moves old) (moves now)
     pub wants : (j : ℕ) → out_at knew j ≡ Asked → elements (slice_index_or given j []) + 1 ≤ slice_index_or outs_want j 0
+    pub shut_on : (j : ℕ) → OutClosed (out_at knew j) → slice_index_or outs_closed j true ≡ true
     -- one with one input and no output is as it was, where nothing came since
     pub stays : length took ≡ 1 → length gave ≡ 0 → had ≡ took → now ≡ old
 
   -- The moment at which it last asked at any of them. At that moment each input that was asked had a moment of its own.
-  pub record Last (first now : N) (took gave : List (List Item)) (ins_want outs_want : List ℕ) : Type 0 where
+  pub record Last (first now : N) (took gave : List (List Item)) (ins_want outs_want : List ℕ) (outs_closed : List Bool) : Type 0 where
     pub old : N
     pub knew : View
     pub had : List (List Item)
@@ -106,11 +117,12 @@ module _ {N : Type 0} (row : N → View → Type 0) (law : N → N → View → 
     pub port : ℕ
     pub waited : in_at knew port ≡ Waiting
     pub stood : (i : ℕ) → Stood (in_at knew i) (slice_index_or ins_want i 0) (elements (slice_index_or had i []))
-    pub before : (i : ℕ) → i < length ins_want → 1 ≤ slice_index_or ins_want i 0 → Earlier i first old had given ins_want outs_want
+    pub before : (i : ℕ) → i < length ins_want → 1 ≤ slice_index_or ins_want i 0 → Earlier i first old had given ins_want outs_want outs_closed
     pub took_on : AllBegin had took
     pub gave_on : AllBegin given gave
     pub moves_on : IsPrefix (moves old) (moves now)
     pub wants : (j : ℕ) → out_at knew j ≡ Asked → elements (slice_index_or given j []) + 1 ≤ slice_index_or outs_want j 0
+    pub shut_on : (j : ℕ) → OutClosed (out_at knew j) → slice_index_or outs_closed j true ≡ true
 
   module _ (g : Graph) (a : Account N) where
     -- node k of the blueprint: its row and its law, from what it was handed in as, and the moments of its asks
@@ -121,8 +133,8 @@ module _ {N : Type 0} (row : N → View → Type 0) (law : N → N → View → 
       pub now_at : a.nodes k ≡ Some now
       pub row_holds : row now (knows g a k n)
       pub law_holds : law first now (knows g a k n) (took g a k n) (gave g a k n)
-      pub asks : (p : ℕ) → p < inputs_of n.kind → 1 ≤ slice_index_or (ins_wanted g a k n) p 0 → Earlier p first now (took g a k n) (gave g a k n) (ins_wanted g a k n) (outs_wanted g a k n)
-      pub last : (p : ℕ) → p < inputs_of n.kind → 1 ≤ slice_index_or (ins_wanted g a k n) p 0 → Last first now (took g a k n) (gave g a k n) (ins_wanted g a k n) (outs_wanted g a k n)
+      pub asks : (p : ℕ) → p < inputs_of n.kind → 1 ≤ slice_index_or (ins_wanted g a k n) p 0 → Earlier p first now (took g a k n) (gave g a k n) (ins_wanted g a k n) (outs_wanted g a k n) (outs_shut g a k n)
+      pub last : (p : ℕ) → p < inputs_of n.kind → 1 ≤ slice_index_or (ins_wanted g a k n) p 0 → Last first now (took g a k n) (gave g a k n) (ins_wanted g a k n) (outs_wanted g a k n) (outs_shut g a k n)
 
     -- what all nodes and wires keep
     pub record KeepsLaws : Type 0 where

@@ -52,8 +52,8 @@ pub record RunLaws (g : Graph) (w : World) (k : ℕ) (n : graph.Node) (took gave
 -- the moments of a node's asks, by its ports: the last one at input p, and the last one at any
 abbrev pub Moments : {N : Type 0} → (N → View → Type 0) → (N → N → View → List (List Item) → List (List Item) → Type 0) → (N → View → Type 0) → (N → List ℕ) → N → N → List InPort → List OutPort → ℕ → Type 0
 Moments row law asking moves first now is os p =
-    Earlier row law asking moves p first now (map (λ (i : InPort). i.got) is) (map (λ (o : OutPort). o.sent) os) (map (λ (i : InPort). i.want) is) (map (λ (o : OutPort). o.want) os)
-    × Last row law asking moves first now (map (λ (i : InPort). i.got) is) (map (λ (o : OutPort). o.sent) os) (map (λ (i : InPort). i.want) is) (map (λ (o : OutPort). o.want) os)
+    Earlier row law asking moves p first now (map (λ (i : InPort). i.got) is) (map (λ (o : OutPort). o.sent) os) (map (λ (i : InPort). i.want) is) (map (λ (o : OutPort). o.want) os) (map (λ (o : OutPort). o.wire.shut) os)
+    × Last row law asking moves first now (map (λ (i : InPort). i.got) is) (map (λ (o : OutPort). o.sent) os) (map (λ (i : InPort). i.want) is) (map (λ (o : OutPort). o.want) os) (map (λ (o : OutPort). o.wire.shut) os)
 
 -- In a picture, by the ports and by the moments of the node's asks: its row of a lawful one, that it gives no order to a valve,
 -- its row of one that rests, and that the input of a sink is shut exactly where it has ended.

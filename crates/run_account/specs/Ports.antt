@@ -1,10 +1,11 @@
 -- How the wires of a node stand in the picture, as the node's own ports tell it: what the rows of each kind rest on. Whether a
 -- wire is a lane, and where its other end is, is told by no more than its size.
-use Rattle.std.specs.Prelude.{◌≡◌, ◌≢◌, ℕ, ◌+◌, ◌≤◌, not, ◌⊎◌, true, false, List, [], ◌∷◌, length}
+use Rattle.std.specs.Prelude.{◌≡◌, ◌≢◌, ℕ, ◌+◌, ◌≤◌, not, ◌⊎◌, true, false, List, [], ◌∷◌, map, length}
 use Rattle.elem_core.specs.Prefix.{IsPrefix}
 use Rattle.elem_core.specs.Tree.{Tree}
 use Rattle.elem_core.specs.declared.item.Item.{Item}
 use Rattle.port_core.specs.Decoding.{is_open}
+use Rattle.port_core.specs.View.{View}
 use Rattle.port_core.specs.declared.view.InView.{InView}
 use Rattle.port_core.specs.declared.view.InView.TheVariants.{Idle, Waiting, Over}
 use Rattle.port_core.specs.declared.view.OutView.{OutView}
@@ -36,6 +37,16 @@ pub record OutPort : Type 0 where
   pub sent : List Item
   pub want : ℕ
   pub wire : picture.View
+
+-- what a node knows of these ports, what it took and what it gave
+abbrev pub views_of : List InPort → List OutPort → View
+views_of is os = record { ins = map (λ (i : InPort). i.view) is; outs = map (λ (o : OutPort). o.view) os }
+
+abbrev pub gots_of : List InPort → List (List Item)
+gots_of is = map (λ (i : InPort). i.got) is
+
+abbrev pub sents_of : List OutPort → List (List Item)
+sents_of os = map (λ (o : OutPort). o.sent) os
 
 -- P holds of each
 abbrev pub EachPort : {X : Type 0} → (X → Type 0) → List X → Type 0

@@ -37,7 +37,7 @@ use Rattle.nodes.specs.declared.sink.Writes.TheVariants.{Each}
 use Rattle.nodes.specs.Sink.{Sink, sink_row_in, WrotePart, StandsAs, end_seen, WritesOf, SinkLaw}
 use Rattle.nodes.specs.Ignoring.{Ignorer, ignore_row_in, IgnoreLaw}
 use Rattle.nodes.proofs.SinkTexts.{has_lines}
-use Rattle.run_account.specs.Account.{Account, knows, took, gave, ins_wanted, outs_wanted, Earlier, IsStill}
+use Rattle.run_account.specs.Account.{Account, knows, took, gave, ins_wanted, outs_wanted, outs_shut, Earlier, IsStill}
 use Rattle.run_account.proofs.Coming.{elements_told, no_fewer}
 use Rattle.run_account.proofs.Nodes.{KeptAs, kept_as, one_input, read_one}
 use Rattle.run_laws.specs.Made.{FirstWriting, FirstIgnoring, FirstOf}
@@ -183,9 +183,9 @@ module _ {S D : Type 0} (sources : S → SourceState) (drains : D → DrainState
         let one : inputs_of n.kind ≡ 1 = ap inputs_of is in
         let asked : 1 ≤ slice_index_or (ins_wanted g a k n) 0 0 = omega (arith, some, same, length-append part.before (part.last ∷ []), all, came, least, wants) in
         let e = (sink_at k n first now ni at).asks 0 (omega (arith, one)) asked in
-        let e' = subst (λ (l : List (List Item)). Earlier node_row (node_law sources drains) node_asking node_moves 0 (Writing first) (Writing now) l [] (ins_wanted g a k n) (outs_wanted g a k n)) wire.came
-        (subst (λ (l : List (List Item)). Earlier node_row (node_law sources drains) node_asking node_moves 0 (Writing first) (Writing now) (took g a k n) l (ins_wanted g a k n) (outs_wanted g a k n)) law.gave_is e) in
-        let few = none_behind sources drains first now fault (a.far u).wire.got (ins_wanted g a k n) (outs_wanted g a k n) e' law.elems open_got in
+        let e' = subst (λ (l : List (List Item)). Earlier node_row (node_law sources drains) node_asking node_moves 0 (Writing first) (Writing now) l [] (ins_wanted g a k n) (outs_wanted g a k n) (outs_shut g a k n)) wire.came
+        (subst (λ (l : List (List Item)). Earlier node_row (node_law sources drains) node_asking node_moves 0 (Writing first) (Writing now) (took g a k n) l (ins_wanted g a k n) (outs_wanted g a k n) (outs_shut g a k n)) law.gave_is e) in
+        let few = none_behind sources drains first now fault (a.far u).wire.got (ins_wanted g a k n) (outs_wanted g a k n) (outs_shut g a k n) e' law.elems open_got in
         omega (arith, few, least, wants)
 
     -- how many elements were sent to it

@@ -46,8 +46,8 @@ no_wait b [] outs r e = absurd r
 no_wait b (x ∷ []) outs r e = fault_waits b x outs r e
 no_wait b (x ∷ y ∷ ins) outs r e = absurd r
 
-module _ {S D : Type 0} (sources : S → SourceState) (drains : D → DrainState) (first now : Sink D) (fault : now.end ≡ WriteFault) (got : List Item) (ins_want outs_want : List ℕ)
-    (e : Earlier {N = Node S D} node_row (node_law sources drains) node_asking node_moves 0 (Writing first) (Writing now) (got ∷ []) [] ins_want outs_want) where
+module _ {S D : Type 0} (sources : S → SourceState) (drains : D → DrainState) (first now : Sink D) (fault : now.end ≡ WriteFault) (got : List Item) (ins_want outs_want : List ℕ) (outs_closed : List Bool)
+    (e : Earlier {N = Node S D} node_row (node_law sources drains) node_asking node_moves 0 (Writing first) (Writing now) (got ∷ []) [] ins_want outs_want outs_closed) where
   -- when it asked last it stood otherwise, since it waited
   stood_otherwise : e.had ≡ got ∷ [] → ⊥
   stood_otherwise same =

@@ -1,0 +1,13 @@
+pub mod Transport
+pub mod Flows
+pub mod Counting
+pub mod Orders
+pub mod InMoments
+pub mod InRows
+pub mod InPictures
+pub mod Numberings
+pub mod OutLists
+pub mod OutRows
+pub mod OutPictures
+pub mod InRuns
+pub mod OutRuns

@@ -1,0 +1,13 @@
+-- What a stage with several inputs or several outputs leaves out: it tells nothing of its ports when it asks, makes no moves, and
+-- is no sink that ends.
+use Rattle.std.specs.Prelude.{ℕ, Bool, false, List, [], ⊤}
+use Rattle.port_core.specs.View.{View}
+
+abbrev pub NoAsking : {L : Type 0} → L → View → Type 0
+NoAsking l v = ⊤
+
+abbrev pub no_moves : {L : Type 0} → L → List ℕ
+no_moves l = []
+
+abbrev pub never_ends : {L : Type 0} → L → Bool
+never_ends l = false

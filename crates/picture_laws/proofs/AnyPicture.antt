@@ -7,7 +7,7 @@ use Rattle.stream_model.specs.Graph.{Graph}
 use Rattle.stream_model.specs.Graph as graph
 use Rattle.stream_model.specs.Node.{World}
 use Rattle.nodes.specs.declared.node.Node.{Node}
-use Rattle.nodes.specs.declared.node.Node.TheVariants.{Reading, Making, Linear, State, Writing, Ignoring}
+use Rattle.nodes.specs.declared.node.Node.TheVariants.{Reading, Making, Linear, State, FanIn, FanOut, Writing, Ignoring}
 use Rattle.nodes.specs.declared.sink.Writes.TheVariants.{First}
 use Rattle.nodes.specs.Kinds.{writes_of}
 use Rattle.nodes.specs.Nodes.{node_row, node_law, node_asking, node_moves}
@@ -18,6 +18,9 @@ use Rattle.run_account.specs.Ports.{InPort, OutPort}
 use Rattle.run_laws.specs.Made.{FirstOf}
 use Rattle.picture_laws.specs.Picture.{sink_ended}
 use Rattle.picture_laws.proofs.EndRows.{SourceRows, maker_rows, lines_rows, SinkRows, file_sink_rows, ignore_rows, first_wants, source_picture, sink_picture}
+use Rattle.fan_laws.proofs.InPictures.{in_picture}
+use Rattle.fan_laws.proofs.OutPictures.{out_picture}
+use Rattle.picture_laws.proofs.FanRows.{fan_in_picture, fan_out_picture}
 use Rattle.picture_laws.proofs.LinearRows.{linear_picture}
 use Rattle.picture_laws.proofs.StateRows.{state_picture}
 use Rattle.picture_laws.proofs.Stages.{sink_ports, ignore_ports}
@@ -33,6 +36,8 @@ module _ {S D : Type 0} (sources : S → SourceState) (drains : D → DrainState
   node_picture (Making first) (Making x) is os f r law = source_picture sources drains g w k n (Making first) (Making x) x.phase is os (maker_rows g w n.kind f.is_maker) r
   node_picture (Linear first) (Linear x) is os f r law = linear_picture sources drains g w k n first x is os f r law
   node_picture (State first) (State x) is os f r law = state_picture sources drains g w k n first x is os f r law
+  node_picture (FanIn first) (FanIn x) is os f r law = fan_in_picture sources drains g w k n first x is os (in_picture g w k n first x is os f.begins r law)
+  node_picture (FanOut first) (FanOut x) is os f r law = fan_out_picture sources drains g w k n first x is os (out_picture g w k n first x is os f.is_out f.begins r law)
   node_picture (Writing first) (Writing x) is os f r law =
       sink_picture sources drains g w k n (Writing first) (Writing x) (writes_of n.kind ≡ First) (sink_row_in x.started x.end) is os (file_sink_rows g w n.kind f.is_sink) r (sink_ports x.started x.end)
       (λ i ii oo s m is_first. first_wants sources drains g w k n first x i (f.writes ∙ is_first) s m)

@@ -5,5 +5,6 @@ pub mod MachineRows
 pub mod LinearRows
 pub mod StateRows
 pub mod EndRows
+pub mod FanRows
 pub mod AnyPicture
 pub mod Pictures

@@ -26,7 +26,7 @@ use Rattle.picture_laws.proofs.Telling.{agrees_passes}
 
 module _ {S D : Type 0} (sources : S → SourceState) (drains : D → DrainState) (g : Graph) (a : Account (Node S D)) (run : IsRun sources drains g a) (w : World) where
   hears : (k : ℕ) (n : graph.Node) → slice_get g.nodes k ≡ Some n → HearsAll (knows g a k n) (took g a k n)
-  hears k n e = let m = run.keeps.each_node k n e in node_hears sources drains w.book m.first m.now (knows g a k n) (took g a k n) (gave g a k n) m.law_holds
+  hears k n e = let m = run.keeps.each_node k n e in node_hears sources drains w.book k n m.first m.now (knows g a k n) (took g a k n) (gave g a k n) (run.made k n m.first e m.first_at) m.law_holds
 
   -- what passes the wires is by the composed outlooks
   pub all_pass : (rank : ℕ → ℕ) → Tells sources g w a → IsRanked g rank → AllPass a g (composed g w)

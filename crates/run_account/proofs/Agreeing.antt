@@ -26,6 +26,7 @@ use Rattle.stream_picture.specs.Joined.{IsJoined}
 use Rattle.run_account.specs.KindLaws.{RunLaws}
 use Rattle.run_account.proofs.Bringing.{wire_brings}
 use Rattle.run_account.proofs.Histories.{list_of_told, standing_told}
+use Rattle.run_account.proofs.Reading.{length_ins}
 
 -- behind a wire that loses nothing the outlook is as it was
 no_loss : (o : Outlook) (l : List Tree) (e : End) (sent : List Tree) (f : End) → Agrees o sent f → Carries 0 sent f l e → Agrees o l e
@@ -66,7 +67,7 @@ list_agrees o h a = rw (a.is, list_of_told a.list a.end, standing_told a.list a.
 
 module _ {N : Type 0} (row : N → View → Type 0) (law : N → N → View → List (List Item) → List (List Item) → Type 0) (asking : N → View → Type 0) (moves : N → List ℕ)
     (FirstOf : ℕ → graph.Node → N → Type 0) (Tells : World → ℕ → graph.Node → N → N → Type 0) (g : Graph) (w : World)
-    (laws : (k : ℕ) (n : graph.Node) (first now : N) (v : View) (took gave : List (List Item)) → FirstOf k n first → Tells w k n first now → law first now v took gave → RunLaws g w k n took gave)
+    (laws : (k : ℕ) (n : graph.Node) (first now : N) (v : View) (took gave : List (List Item)) → FirstOf k n first → Tells w k n first now → length took ≡ inputs_of n.kind → law first now v took gave → RunLaws g w k n took gave)
     (a : Account N) (joined : IsJoined g) (keeps : KeepsLaws row law asking moves g a) (made : AllMade FirstOf g a) where
   -- what is told of node k
   abbrev pub TellsAt : ℕ → graph.Node → Type 0
@@ -74,7 +75,7 @@ module _ {N : Type 0} (row : N → View → Type 0) (law : N → N → View → 
 
   -- the laws of node k, whatever its kind is
   pub node_laws : (k : ℕ) (n : graph.Node) → slice_get g.nodes k ≡ Some n → TellsAt k n → RunLaws g w k n (took g a k n) (gave g a k n)
-  node_laws k n e tells = let m = keeps.each_node k n e in laws k n m.first m.now (knows g a k n) (took g a k n) (gave g a k n) (made k n m.first e m.first_at) (tells m.first m.now m.first_at m.now_at) m.law_holds
+  node_laws k n e tells = let m = keeps.each_node k n e in laws k n m.first m.now (knows g a k n) (took g a k n) (gave g a k n) (made k n m.first e m.first_at) (tells m.first m.now m.first_at m.now_at) (length_ins g got_of a.far k 0 (inputs_of n.kind)) m.law_holds
 
   pub brings : (u : ℕ) (v : Wire) → slice_get g.wires u ≡ Some v → Brought v.lane (a.near u).wire.sent (a.far u).wire.got
   brings u v e =

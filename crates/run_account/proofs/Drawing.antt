@@ -27,7 +27,7 @@ use Rattle.run_account.specs.Pictures.{counts_of, AllPass, in_port, out_port, in
 use Rattle.run_account.specs.Ports.{InPort, OutPort, EachPort, InStands, OutStands, InRests, OutRests}
 use Rattle.stream_picture.specs.Joined.{IsJoined}
 use Rattle.run_account.proofs.Pictures.{ins_are, outs_are, reads_in, reads_out, each_in, each_out}
-use Rattle.run_account.proofs.Reading.{found_both}
+use Rattle.run_account.proofs.Reading.{found_both, length_ins}
 use Rattle.run_account.proofs.Standing.{in_stands, out_stands, in_rests, out_rests}
 
 -- what is read at one of the inputs that are counted
@@ -43,10 +43,6 @@ some_within : (l : List ℕ) (p : ℕ) → 1 ≤ slice_index_or l p 0 → p < le
 some_within [] p h = absurd (omega arith)
 some_within (x ∷ l) zero h = omega arith
 some_within (x ∷ l) (suc p) h = omega (arith, some_within l p h)
-
-length_ins : {X : Type 0} (g : Graph) (f : Cell → X) (cells : ℕ → Cell) (k q n : ℕ) → length (read_ins g f cells k (count_from q n)) ≡ n
-length_ins g f cells k q zero = refl
-length_ins g f cells k q (suc n) = omega (arith, length_ins g f cells k (q + 1) n)
 
 each_wire : (P : InPort → Type 0) (Q : picture.View → Type 0) → ((i : InPort) → P i → Q i.wire) → (is : List InPort) → EachPort P is → EachWire Q (map (λ (i : InPort). i.wire) is)
 each_wire P Q f [] h = tt

@@ -1,6 +1,6 @@
 -- What a node reads off its wires in its net is what the blueprint reads there.
 use Rattle.std.specs.Prelude.{slice_get, ◌==◌, ◌&&◌}
-use Rattle.std.proofs.Common.{◌≡◌, ℕ, suc, ◌+◌, ◌<◌, true, false, ◌⊎◌, inl, inr, List, [], ◌∷◌, length, get_or, Some, refl, sym, ap, subst, ◌∙◌, arith}
+use Rattle.std.proofs.Common.{◌≡◌, ℕ, zero, suc, ◌+◌, ◌<◌, true, false, ◌⊎◌, inl, inr, List, [], ◌∷◌, length, get_or, Some, refl, sym, ap, subst, ◌∙◌, arith}
 use Rattle.std.proofs.lemmas.Bool.{and_parts}
 use Rattle.wire_core.specs.Cell.{Cell}
 use Rattle.stream_model.specs.Graph.{Graph, Wire, find_by, find_wire, find_source}
@@ -43,6 +43,11 @@ found_both place port node p ws i h =
     let r = found_from place port node p 0 ws i h in
     let is : r.0 ≡ i = omega (arith, r.1.0) in
     subst (λ k. FoundBoth place port node p ws k) is r.1.1
+
+-- so many ports are read as are counted
+pub length_ins : {X : Type 0} (g : Graph) (f : Cell → X) (cells : ℕ → Cell) (k q n : ℕ) → length (read_ins g f cells k (count_from q n)) ≡ n
+length_ins g f cells k q zero = refl
+length_ins g f cells k q (suc n) = omega (arith, length_ins g f cells k (q + 1) n)
 
 module _ {X : Type 0} (g : Graph) (f : Cell → X) (cells : ℕ → Cell) (wires : List Cell) (k : ℕ) where
   -- of the inputs from number q on

@@ -22,11 +22,11 @@ use Rattle.run_laws.proofs.AnyKind.{node_laws}
 module _ {S D : Type 0} (sources : S → SourceState) (drains : D → DrainState) (g : Graph) (a : Account (Node S D)) (run : IsRun sources drains g a) (w : World) (tells : Tells sources g w a) (rank : ℕ → ℕ) (ranked : IsRanked g rank) where
   pub every_wire_of : (i : ℕ) → i < length g.wires → AgreesWith (composed g w i) (a.near i).wire.sent
   every_wire_of = every_wire node_row (node_law sources drains) node_asking node_moves (FirstOf sources) (λ v k n first now. TellsNode sources v n first now) g w
-      (λ k n first now v took gave made told law. node_laws sources drains g w k n first now v took gave made told law) a run.joined run.keeps run.made tells rank ranked
+      (λ k n first now v took gave made told many law. node_laws sources drains g w k n first now v took gave made told many law) a run.joined run.keeps run.made tells rank ranked
 
   pub every_input_of : (k : ℕ) (n : graph.Node) → slice_get g.nodes k ≡ Some n → AllMayPass (ports_of g w (composed g w) k (count_from 0 (inputs_of n.kind))) (took g a k n)
   every_input_of = every_input node_row (node_law sources drains) node_asking node_moves (FirstOf sources) (λ v k n first now. TellsNode sources v n first now) g w
-      (λ k n first now v took gave made told law. node_laws sources drains g w k n first now v took gave made told law) a run.joined run.keeps run.made tells rank ranked
+      (λ k n first now v took gave made told many law. node_laws sources drains g w k n first now v took gave made told many law) a run.joined run.keeps run.made tells rank ranked
 
 -- what the world tells of a node that is no source of lines
 no_lines : {S D : Type 0} (sources : S → SourceState) (w : World) (n : graph.Node) (first now : Node S D) → ((name : List ℕ) → n.kind ≢ kind.Lines name) → TellsNode sources w n first now
@@ -39,5 +39,5 @@ module _ {S D : Type 0} (sources : S → SourceState) (drains : D → DrainState
       → ((u : ℕ) (x : Wire) → slice_get g.wires u ≡ Some x → x.to ≡ v.from → AgreesWith (sent u) (a.near u).wire.sent) → AgreesWith (next g w sent j) (a.near j).wire.sent
   given_of sent j v n vi ni other b =
       gives_by node_row (node_law sources drains) node_asking node_moves (FirstOf sources) (λ x k m first now. TellsNode sources x m first now) g w
-      (λ k m first now view took gave made told law. node_laws sources drains g w k m first now view took gave made told law) a run.joined run.keeps run.made sent j v n vi ni
+      (λ k m first now view took gave made told many law. node_laws sources drains g w k m first now view took gave made told many law) a run.joined run.keeps run.made sent j v n vi ni
       (λ first now fi xi. no_lines sources w n first now other) b

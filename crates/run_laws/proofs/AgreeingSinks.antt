@@ -28,7 +28,7 @@ use Rattle.stage_state.specs.States.{IsStateful}
 use Rattle.wire_core.specs.Marks.{wanted}
 use Rattle.wire_core.specs.Reading.{inp_of, got_of}
 use Rattle.nodes.specs.declared.node.Node.{Node}
-use Rattle.nodes.specs.declared.node.Node.TheVariants.{Reading, Making, Linear, State, Writing, Ignoring}
+use Rattle.nodes.specs.declared.node.Node.TheVariants.{Reading, Making, Linear, State, FanIn, FanOut, Writing, Ignoring}
 use Rattle.nodes.specs.Nodes.{node_row, node_law, node_asking, node_moves}
 use Rattle.nodes.specs.Ports.{OneInOf}
 use Rattle.nodes.specs.Kinds.{IsMaker, IsFileSink, writes_of}
@@ -37,6 +37,8 @@ use Rattle.nodes.specs.declared.sink.Writes.TheVariants.{Each}
 use Rattle.nodes.specs.Sink.{Sink, sink_row_in, WrotePart, StandsAs, end_seen, WritesOf, SinkLaw}
 use Rattle.nodes.specs.Ignoring.{Ignorer, ignore_row_in, IgnoreLaw}
 use Rattle.nodes.proofs.SinkTexts.{has_lines}
+use Rattle.stage_in.specs.Logics.{IsFanIn}
+use Rattle.stage_out.specs.OutLogics.{IsOut}
 use Rattle.run_account.specs.Account.{Account, knows, took, gave, ins_wanted, outs_wanted, outs_shut, Earlier, IsStill}
 use Rattle.run_account.proofs.Coming.{elements_told, no_fewer}
 use Rattle.run_account.proofs.Nodes.{KeptAs, kept_as, one_input, read_one}
@@ -72,6 +74,18 @@ not_maker (kind.Head name) h i = i
 not_maker (kind.Last name) h i = i
 not_maker _ h i = h
 
+not_fan_in : (shape : Kind) → IsFileSink shape → IsFanIn shape → ⊥
+not_fan_in (kind.ToLines name) h i = i
+not_fan_in (kind.Head name) h i = i
+not_fan_in (kind.Last name) h i = i
+not_fan_in _ h i = h
+
+not_fan_out : (shape : Kind) → IsFileSink shape → IsOut shape → ⊥
+not_fan_out (kind.ToLines name) h i = i
+not_fan_out (kind.Head name) h i = i
+not_fan_out (kind.Last name) h i = i
+not_fan_out _ h i = h
+
 -- a node of such a kind is a sink with a file
 sink_cases : {S D : Type 0} (sources : S → SourceState) (drains : D → DrainState) (k : ℕ) (n : graph.Node) (first now : Node S D) (v : View) (took gave : List (List Item))
     → IsFileSink n.kind → FirstOf sources k n first → node_law sources drains first now v took gave → (a : Sink D) × ((b : Sink D) × ((first ≡ Writing a) × (now ≡ Writing b)))
@@ -80,6 +94,8 @@ sink_cases sources drains k n (Reading first) now v took gave is made law = let 
 sink_cases sources drains k n (Making first) now v took gave is made law = absurd (not_maker n.kind is made.is_maker)
 sink_cases sources drains k n (Linear first) now v took gave is made law = absurd (not_linear n.kind is made.is_linear)
 sink_cases sources drains k n (State first) now v took gave is made law = absurd (not_stateful n.kind is made.is_state)
+sink_cases sources drains k n (FanIn first) now v took gave is made law = absurd (not_fan_in n.kind is made.is_in)
+sink_cases sources drains k n (FanOut first) now v took gave is made law = absurd (not_fan_out n.kind is made.is_out)
 sink_cases sources drains k n (Ignoring first) now v took gave is made law = let e : IsFileSink kind.Ignore = subst IsFileSink made.kind_is is in absurd e
 sink_cases sources drains k n (Writing first) now v took gave is made law = absurd law
 
@@ -91,6 +107,8 @@ ignore_cases sources drains k n (Reading first) now v took gave is made law = le
 ignore_cases sources drains k n (Making first) now v took gave is made law = let e : IsMaker kind.Ignore = subst IsMaker is made.is_maker in absurd e
 ignore_cases sources drains k n (Linear first) now v took gave is made law = let e : IsLinear kind.Ignore = subst IsLinear is made.is_linear in absurd e
 ignore_cases sources drains k n (State first) now v took gave is made law = let e : IsStateful kind.Ignore = subst IsStateful is made.is_state in absurd e
+ignore_cases sources drains k n (FanIn first) now v took gave is made law = let e : IsFanIn kind.Ignore = subst IsFanIn is made.is_in in absurd e
+ignore_cases sources drains k n (FanOut first) now v took gave is made law = let e : IsOut kind.Ignore = subst IsOut is made.is_out in absurd e
 ignore_cases sources drains k n (Writing first) now v took gave is made law = let e : IsFileSink kind.Ignore = subst IsFileSink is made.is_sink in absurd e
 ignore_cases sources drains k n (Ignoring first) now v took gave is made law = absurd law
 

@@ -2,5 +2,5 @@
 #![tactic(auto)]
 
 pub mod outcome;
-mod put;
+pub mod put;
 pub mod report;

@@ -1,0 +1,45 @@
+// One generated file, from its opening to its closing.
+ghost use Rattle.std.specs.Prelude.{◌≡◌, OnOk, Err};
+ghost use Rattle.generator.specs.Texts.{text_of};
+ghost use Rattle.generator.specs.Writing.{Writes, FailsToWrite, RefusesFile, StopsWriting};
+
+use crate::put::{PutEnd, Text, put_text};
+use elem_core::line::Line;
+use std::alloc::Global;
+use stream_io::outside::{Folder, OpenFault};
+
+/// Why a file was not written whole.
+#[derive(Drop)]
+pub(crate) enum WriteEnd {
+    /// The folder refused to open it.
+    Missing,
+    /// A write failed.
+    Fault,
+    NoMemory,
+}
+
+/// Writes the text to the file of that name, which is closed in any case.
+pub(crate) fn write_file<F: Folder>(
+    alloc: Global,
+    folder: &mut F,
+    name: &Line,
+    text: Text,
+) -> Result<(), WriteEnd>
+    ensures ok { OnOk result (Writes (F.state folder.old) (F.state folder.new) name.now (text_of text)) }
+    ensures missing { result ≡ Err WriteEnd.Missing → RefusesFile (F.state folder.old) (F.state folder.new) name.now }
+    ensures fault { result ≡ Err WriteEnd.Fault → FailsToWrite (F.state folder.old) (F.state folder.new) name.now (text_of text) }
+    ensures no_memory { result ≡ Err WriteEnd.NoMemory → StopsWriting (F.state folder.old) (F.state folder.new) name.now (text_of text) }
+{
+    let mut drain = match folder.open_out(alloc, name) {
+        Ok(drain) => drain,
+        Err(OpenFault::Missing) => return Err(WriteEnd::Missing),
+        Err(OpenFault::NoMemory) => return Err(WriteEnd::NoMemory),
+    };
+    let put = put_text(alloc, &mut drain, text);
+    folder.close_out(drain);
+    match put {
+        Ok(()) => Ok(()),
+        Err(PutEnd::Failed) => Err(WriteEnd::Fault),
+        Err(PutEnd::NoMemory) => Err(WriteEnd::NoMemory),
+    }
+}

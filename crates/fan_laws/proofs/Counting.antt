@@ -12,7 +12,7 @@ use Rattle.stream_model.specs.FanIn.{Tagged, tag, Inlet, inlets, Inflow, flow, c
 use Rattle.fused_net.proofs.Reading.{same_or_not}
 use Rattle.stage_law.specs.Fans.{used}
 use Rattle.stage_law.proofs.FanTurns.{used-append}
-use Rattle.stage_in.proofs.Seats.{same, other}
+use Rattle.stage_fans.proofs.Flags.{same, other}
 use Rattle.fan_laws.proofs.Flows.{total_length}
 
 -- what it gave is no more than what it gives of all that it took

@@ -13,7 +13,7 @@ use Rattle.stream_model.specs.FanIn.{Inflow, flow}
 use Rattle.stream_picture.specs.Lawful.{sent_in}
 use Rattle.stage_law.specs.Held.{told}
 use Rattle.stage_law.specs.Law.{TookAs}
-use Rattle.stage_in.specs.Logics.{InPortsLaw}
+use Rattle.stage_fans.specs.PortsLaws.{InPortsLaw}
 use Rattle.run_account.specs.Items.{list_of, standing}
 use Rattle.run_account.specs.Ports.{InPort, EachPort, InStands}
 use Rattle.run_account.proofs.Coming.{elements_told}

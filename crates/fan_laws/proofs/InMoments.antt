@@ -17,14 +17,16 @@ use Rattle.stream_model.proofs.Compositions.{same_number}
 use Rattle.stage_law.specs.Fans.{FanKept, FanKeeps, Uses, used, fan_gives}
 use Rattle.stage_law.specs.Held.{told}
 use Rattle.stage_law.specs.Inflows.{nothing, joined_at, joined, joined_all}
-use Rattle.stage_in.specs.declared.phase.Phase.{Phase}
-use Rattle.stage_in.specs.declared.phase.Phase.TheVariants.{New, Open, Closed}
+use Rattle.stage_fans.specs.declared.phase.Phase.{Phase}
+use Rattle.stage_fans.specs.declared.phase.Phase.TheVariants.{New, Open, Closed}
 use Rattle.stage_in.specs.declared.logic.InLogic.{InLogic}
 use Rattle.stage_in.specs.declared.logic.InLogic.TheVariants as logic
 use Rattle.stage_in.specs.Kinds.{taking_by, sorting}
-use Rattle.stage_in.specs.Logics.{InRow, InLaw, InPortsLaw}
+use Rattle.stage_fans.specs.PortsLaws.{InPortsLaw}
+use Rattle.stage_in.specs.Logics.{InRow, InLaw}
 use Rattle.stage_in.specs.Pairings.{Pairing, inlet_view, inlet_flow, listed, pair_view, row_by}
-use Rattle.stage_in.specs.Seats.{seat, seats, wish, InsClosed, none_of}
+use Rattle.stage_fans.specs.Seats.{wish, InsClosed}
+use Rattle.stage_in.specs.Seats.{seat, seats, none_of}
 use Rattle.stage_in.specs.Sortings as sorted
 use Rattle.stage_in.specs.Takings as taking
 use Rattle.stage_in.specs.Takings.{Taking, InOrder}

@@ -22,15 +22,16 @@ use Rattle.stage_law.specs.Fans.{FanKeeps}
 use Rattle.stage_law.specs.Held.{told}
 use Rattle.stage_law.specs.OwnPorts.{own_output}
 use Rattle.stage_law.specs.Zips.{ZipKeeps}
-use Rattle.stage_in.specs.declared.phase.Phase.{Phase}
-use Rattle.stage_in.specs.declared.phase.Phase.TheVariants.{New, Open, Closed}
+use Rattle.stage_fans.specs.declared.phase.Phase.{Phase}
+use Rattle.stage_fans.specs.declared.phase.Phase.TheVariants.{New, Open, Closed}
 use Rattle.stage_in.specs.declared.logic.InLogic.{InLogic}
 use Rattle.stage_in.specs.declared.logic.InLogic.TheVariants as logic
 use Rattle.stage_in.specs.Kinds.{taking_by, sorting}
 use Rattle.stage_in.specs.Logics.{Begins, TakesAs, InRow, InLaw}
-use Rattle.stage_in.specs.OwnRows.{own_inputs, FanRests, TakingRests}
+use Rattle.stage_fans.specs.OwnRows.{own_inputs, FanRests}
+use Rattle.stage_in.specs.OwnRows.{TakingRests}
 use Rattle.stage_in.specs.Pairings.{Pairing, inlet_view, row_by}
-use Rattle.stage_in.specs.Seats.{InsClosed}
+use Rattle.stage_fans.specs.Seats.{InsClosed}
 use Rattle.stage_in.specs.Sortings as sorted
 use Rattle.stage_in.specs.Takings as taking
 use Rattle.stage_in.specs.Zippings as zipping

@@ -14,7 +14,7 @@ use Rattle.stream_model.specs.Machine.{going, broken, is_going, Run, Machine, fe
 use Rattle.stream_model.specs.Linear.{Book, Stage, numbering, linear, begin_work}
 use Rattle.stream_model.proofs.MachineLaws.{stays, run_behind}
 use Rattle.fused_net.proofs.Reading.{same_or_not}
-use Rattle.stage_in.proofs.Seats.{same}
+use Rattle.stage_fans.proofs.Flags.{same}
 
 -- a number modulo n is below n
 below : (n : ℕ) → 1 ≤ n → (r : Result Tree Why) (p : ℕ) → part_of n r ≡ Ok p → p < n

@@ -16,9 +16,11 @@ use Rattle.stream_picture.specs.Rests.{IsShut}
 use Rattle.stage_law.specs.Fans.{Uses}
 use Rattle.stage_law.specs.Held.{told}
 use Rattle.stage_law.specs.Law.{TookAs}
-use Rattle.stage_in.specs.Seats.{seat, seats, end_by, none_of}
+use Rattle.stage_fans.specs.Seats.{end_by}
+use Rattle.stage_in.specs.Seats.{seat, seats, none_of}
 use Rattle.stage_in.specs.Takings.{OverBetween}
-use Rattle.stage_in.proofs.Seats.{other, marked_before}
+use Rattle.stage_fans.proofs.Flags.{other}
+use Rattle.stage_in.proofs.Seats.{marked_before}
 use Rattle.fused_net.proofs.Reading.{same_or_not}
 use Rattle.run_account.specs.Account.{AllBegin, Stood}
 use Rattle.run_account.specs.Ports.{InPort, EachPort, InStands}

@@ -8,11 +8,11 @@ use Rattle.port_core.specs.View.{View, IsOutOpen}
 use Rattle.port_core.specs.Call.{Call, starts, asks, brings, cancels, CallAllowed, Meets, Obeys}
 use Rattle.stage_core.specs.Handling.{most_acts, Handles}
 use Rattle.stage_core.proofs.OnOks.{on_ok_two}
-use Rattle.stage_in.specs.declared.phase.Phase.{Phase}
-use Rattle.stage_in.specs.declared.phase.Phase.TheVariants.{New, Open, Closed}
+use Rattle.stage_fans.specs.declared.phase.Phase.{Phase}
+use Rattle.stage_fans.specs.declared.phase.Phase.TheVariants.{New, Open, Closed}
 use Rattle.stage_in.specs.declared.logic.InLogic.{InLogic}
 use Rattle.stage_in.specs.declared.logic.InLogic.TheVariants as logic
-use Rattle.stage_in.specs.Seats.{OneClosed}
+use Rattle.stage_fans.specs.Seats.{OneClosed}
 use Rattle.stage_in.specs.Pairings.{Pairing, row_by}
 use Rattle.stage_in.specs.Takings as taking
 use Rattle.stage_in.specs.Sortings as sorted

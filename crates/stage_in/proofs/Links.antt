@@ -1,13 +1,12 @@
 -- For each input the next open one: in a new stage, and where an input has ended.
 use Rattle.std.specs.Prelude.{◌==◌, if◌then◌else◌, slice_get, slice_set, slice_index_or, replicate}
-use Rattle.std.proofs.Common.{◌≡◌, ℕ, zero, suc, ◌+◌, ◌≤◌, ◌<◌, ◌⊎◌, inl, inr, Bool, true, false, List, [], ◌∷◌, ◌++◌, length, map, refl, sym, ap, ◌∙◌, subst, arith, Some}
+use Rattle.std.proofs.Common.{◌≡◌, ℕ, zero, suc, ◌+◌, ◌≤◌, ◌<◌, ◌⊎◌, inl, inr, Bool, true, false, List, [], ◌∷◌, ◌++◌, length, refl, sym, ap, ◌∙◌, subst, arith, Some}
 use Rattle.std.proofs.lemmas.Bool.{cases_order}
 use Rattle.std.proofs.lemmas.Bool.Decides.{nat_tests}
-use Rattle.std.proofs.lemmas.Option.{slice_get_within}
-use Rattle.std.proofs.lemmas.List.{length-set, length-map, length-append, get_or-map, get_or_append_left, get_or_at}
+use Rattle.std.proofs.lemmas.List.{length-replicate, length-set, length-map, length-append, get_or-map, get_or_append_left, get_or_at}
 use Rattle.stage_in.specs.Kinds.{behind_input}
 use Rattle.stage_in.specs.Takings.{OverBetween, IsNext, AllOver, Follows, Linked, Ring, followed_by, relinked}
-use Rattle.stage_in.proofs.Seats.{same, other, set_here, set_other, set_keeps}
+use Rattle.stage_fans.proofs.Flags.{same, set_here, set_other, set_keeps}
 
 -- ---- a new stage
 
@@ -32,10 +31,6 @@ open_flag zero d h = absurd (omega (arith, h))
 open_flag (suc n) zero h = refl
 open_flag (suc n) (suc d) h = open_flag n d (omega (arith, h))
 
-length-open : (n : ℕ) → length (replicate n false) ≡ n
-length-open zero = refl
-length-open (suc n) = ap suc (length-open n)
-
 -- where every input is open, that behind an input is the next open one
 behind_next : (n c : ℕ) → c < n → Follows (replicate n false) c (behind_input n c)
 behind_next n c h = by_test (c + 1 == n) refl
@@ -43,7 +38,7 @@ behind_next n c h = by_test (c + 1 == n) refl
     by_test : (b : Bool) → (c + 1 == n) ≡ b → Follows (replicate n false) c (if b then 0 else c + 1)
     by_test true e =
         let z : c + 1 ≡ n = grind (arith, nat_tests, e) in
-        let l = length-open n in
+        let l = length-replicate n false in
         record {
           there = omega (arith, h, l);
           next = inl (record { here = open_flag n 0 (omega (arith, h)); between = inr (omega arith, (λ i a b. absurd (omega (arith, a, b, l, z)), λ i a b. absurd (omega (arith, b)))) });
@@ -51,14 +46,14 @@ behind_next n c h = by_test (c + 1 == n) refl
     by_test false e =
         let z : (c + 1 ≡ n) → ⊥ = λ y. let q = same (c + 1) n y in cc in
         let w : c + 1 < n = grind (arith, z, h) in
-        let l = length-open n in
+        let l = length-replicate n false in
         record {
           there = omega (arith, w, l);
           next = inl (record { here = open_flag n (c + 1) w; between = inl (omega arith, λ i a b. absurd (omega (arith, a, b))) });
         }
 
 pub ring_linked : (n : ℕ) (next : List ℕ) → Ring n next → Linked (replicate n false) next
-ring_linked n next r = let l = length-open n in record {
+ring_linked n next r = let l = length-replicate n false in record {
   long = r.long ∙ sym l;
   at = λ c h. let w : c < n = omega (arith, h, l) in subst (λ d. Follows (replicate n false) c d) (sym (r.at c w)) (behind_next n c w);
 }

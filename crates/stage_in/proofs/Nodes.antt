@@ -3,15 +3,14 @@ use Rattle.std.specs.Prelude.{slice_index_or}
 use Rattle.std.proofs.Common.{◌≡◌, ℕ, zero, suc, ◌+◌, ◌≤◌, Bool, true, false, List, [], ◌∷◌, length, refl, sym, ap, ◌∙◌, subst, arith, None}
 use Rattle.elem_core.specs.Tree.{Tree}
 use Rattle.elem_core.specs.declared.item.Item.{Item}
-use Rattle.elem_core.specs.declared.item.Item.TheVariants as item
 use Rattle.port_core.specs.declared.act.Act.{Act}
 use Rattle.port_core.specs.declared.view.InView.{InView}
-use Rattle.port_core.specs.declared.view.InView.TheVariants.{Idle, Waiting, Over, Left}
+use Rattle.port_core.specs.declared.view.InView.TheVariants.{Idle}
 use Rattle.port_core.specs.declared.view.OutView.{OutView}
-use Rattle.port_core.specs.declared.view.OutView.TheVariants.{Unasked, Asked, Shut, Refused}
-use Rattle.port_core.specs.View.{View, in_at, IsInOpen, IsOutOpen, ActsAllowed, acted_all}
+use Rattle.port_core.specs.declared.view.OutView.TheVariants.{Unasked, Shut}
+use Rattle.port_core.specs.View.{View, ActsAllowed, acted_all}
 use Rattle.port_core.specs.Asking.{AsksStand}
-use Rattle.port_core.specs.Call.{AllIdle, AllUnasked, MayCome, Call, starts, asks, brings, cancels, CallAllowed, Meets, seen, Obeys, given_on}
+use Rattle.port_core.specs.Call.{AllIdle, AllUnasked, Call, starts, CallAllowed, Meets, seen, Obeys, given_on}
 use Rattle.stream_model.specs.Outlook.{End, unended}
 use Rattle.stream_model.specs.FanIn.{Inflow}
 use Rattle.stream_picture.specs.View as picture
@@ -26,60 +25,28 @@ use Rattle.stage_law.specs.Zips.{ZipHeld, ZipKeeps}
 use Rattle.stage_law.specs.Zips as zip
 use Rattle.stage_law.proofs.FanTurns.{fan_new}
 use Rattle.stage_law.proofs.ZipTurns.{zip_new}
-use Rattle.stage_in.specs.declared.phase.Phase.{Phase}
-use Rattle.stage_in.specs.declared.phase.Phase.TheVariants.{New, Open, Closed}
+use Rattle.stage_fans.specs.declared.phase.Phase.{Phase}
+use Rattle.stage_fans.specs.declared.phase.Phase.TheVariants.{New, Open, Closed}
 use Rattle.stage_in.specs.declared.logic.InLogic.{InLogic}
 use Rattle.stage_in.specs.declared.logic.InLogic.TheVariants as logic
 use Rattle.stage_in.specs.Kinds.{taking_by, sorting}
-use Rattle.stage_in.specs.Seats.{seats, wish, InsClosed, OneClosed, FanClosed, none_of}
+use Rattle.stage_fans.specs.Seats.{wish}
+use Rattle.stage_in.specs.Seats.{seats, none_of}
 use Rattle.stage_in.specs.declared.inlet.Inlet.{Inlet}
 use Rattle.stage_in.specs.Pairings.{Pairing, IsBlank, inlet_flow, row_by}
 use Rattle.stage_in.specs.Takings as taking
 use Rattle.stage_in.specs.Takings.{Taking}
 use Rattle.stage_in.specs.Sortings as sorted
 use Rattle.stage_in.specs.Zippings as zipping
-use Rattle.stage_in.specs.OwnRows.{FanRests}
-use Rattle.stage_in.specs.Logics.{IsNew, IsOpen, IsStarted, room_of, row, Turned, InPortsLaw, InFresh, InRow, InLaw, KindRests}
-use Rattle.stage_in.proofs.Rests.{closed_rests, taking_rests, sorting_rests, zipping_rests}
-use Rattle.stage_in.proofs.Histories.{ports_as, fan_node, zip_node}
+use Rattle.stage_fans.specs.OwnRows.{FanRests}
+use Rattle.stage_fans.specs.PortsLaws.{InPortsLaw}
+use Rattle.stage_in.specs.Logics.{IsNew, IsOpen, IsStarted, room_of, row, Turned, InFresh, InRow, InLaw, KindRests}
+use Rattle.stage_fans.proofs.Closings.{none_called, closed_rests}
+use Rattle.stage_in.proofs.Rests.{taking_rests, sorting_rests, zipping_rests}
+use Rattle.stage_fans.proofs.Histories.{begun}
+use Rattle.stage_in.proofs.Histories.{fan_node, zip_node}
 
--- ---- one whose ports are closed is not called
-
-closed_in : (xs : List InView) (i : ℕ) → InsClosed xs → IsInOpen (slice_index_or xs i Left) → ⊥
-closed_in [] i h o = o
-closed_in (Idle ∷ xs) zero h o = h.0
-closed_in (Waiting ∷ xs) zero h o = h.0
-closed_in (Over ∷ xs) zero h o = o
-closed_in (Left ∷ xs) zero h o = o
-closed_in (x ∷ xs) (suc i) h o = closed_in xs i h.1 o
-
-closed_out : (ys : List OutView) (j : ℕ) → OneClosed ys → IsOutOpen (slice_index_or ys j Shut) → ⊥
-closed_out [] j h o = h
-closed_out (Unasked ∷ []) zero h o = h
-closed_out (Asked ∷ []) zero h o = h
-closed_out (Shut ∷ []) zero h o = o
-closed_out (Refused ∷ []) zero h o = o
-closed_out (y ∷ []) (suc j) h o = o
-closed_out (y ∷ z ∷ ys) j h o = h
-
-comes_open : (x : Item) (p : InView) → MayCome x p → IsInOpen p
-comes_open (item.Elem e) p h = subst IsInOpen (sym h) tt
-comes_open item.Ended p h = h
-comes_open (item.Failed c) p h = h
-
-closed_unasked : (ys : List OutView) → OneClosed ys → AllUnasked ys → ⊥
-closed_unasked [] h a = h
-closed_unasked (Unasked ∷ []) h a = h
-closed_unasked (Asked ∷ []) h a = h
-closed_unasked (Shut ∷ []) h a = let x : Shut ≡ Unasked = a.0 in cc
-closed_unasked (Refused ∷ []) h a = let x : Refused ≡ Unasked = a.0 in cc
-closed_unasked (y ∷ z ∷ ys) h a = h
-
-none_called : (c : Call) (v : View) → CallAllowed c v → FanClosed v → ⊥
-none_called starts v m h = closed_unasked v.outs h.1 m.1
-none_called (asks j) v m h = closed_out v.outs j h.1 (subst IsOutOpen (sym m) tt)
-none_called (brings i x) v m h = closed_in v.ins i h.0 (comes_open x (in_at v i) m)
-none_called (cancels j) v m h = closed_out v.outs j h.1 m
+-- ---- where it is called it is open
 
 open_taking : (l : Taking) (c : Call) (v : View) (b : Bool) → l.live ≡ b → (c ≡ starts → ⊥) → CallAllowed c v → taking.row_by b l v → l.live ≡ true
 open_taking l c v true e n m r = e
@@ -192,25 +159,6 @@ handled c old new acts n s o t = record {
 }
 
 -- ---- before anything came
-
-empty_at : (hs : List (List Item)) (i : ℕ) → AllEmpty hs → slice_index_or hs i [] ≡ []
-empty_at [] i h = refl
-empty_at (x ∷ hs) zero h = h.0
-empty_at (x ∷ hs) (suc i) h = empty_at hs i h.1
-
-one_empty : (hs : List (List Item)) → AllEmpty hs → length hs ≡ 1 → hs ≡ [] ∷ []
-one_empty [] h l = absurd (omega (arith, l))
-one_empty (x ∷ []) h l = ap (λ (y : List Item). y ∷ []) h.0
-one_empty (x ∷ y ∷ hs) h l = absurd (omega (arith, l))
-
--- the law before anything came, where both histories are empty
-begun : (K : List Inflow → List Tree → End → Type 0) (v : View) (took gave : List (List Item)) → AllEmpty took → AllEmpty gave → length took ≡ length v.ins → length gave ≡ 1 → PortsLaw K v (λ _. []) [] → InPortsLaw K v took gave
-begun K v took gave a b m n law = record {
-  given = [];
-  gave_is = one_empty gave b n;
-  ports = m;
-  law = ports_as K v (λ _. []) (λ i. slice_index_or took i []) [] (λ i l. empty_at took i a) law;
-}
 
 -- where no input was asked, none has ended
 none_over : (n c : ℕ) (over : List Bool) (asked : Bool) → AllIdle (seats n over c asked) → none_of over ≡ untouched (length (seats n over c asked))

@@ -2,48 +2,27 @@
 use Rattle.std.specs.Prelude.{◌==◌, slice_get}
 use Rattle.std.proofs.Common.{◌≡◌, ℕ, zero, suc, ◌+◌, ◌<◌, inl, inr, Bool, true, false, List, [], ◌∷◌, length, refl, sym, ap, ◌∙◌, subst, arith, length-append, Option, Some, None}
 use Rattle.elem_core.specs.Tree.{Tree}
-use Rattle.port_core.specs.declared.view.InView.{InView}
-use Rattle.port_core.specs.declared.view.InView.TheVariants.{Idle, Waiting, Over, Left}
-use Rattle.port_core.specs.declared.view.OutView.{OutView}
-use Rattle.port_core.specs.declared.view.OutView.TheVariants.{Unasked, Asked, Shut, Refused}
 use Rattle.port_core.specs.View as port
 use Rattle.stream_model.specs.Outlook.{End}
 use Rattle.stream_model.specs.FanIn.{Inflow, pairs}
-use Rattle.stream_picture.specs.View.{View, EachWire}
-use Rattle.stream_picture.specs.Rests.{IsShut, IdlesOrShut, WaitsIdlesOrShut, FirstOpenWaits, OneWaits, SortedRests, ZipRests}
+use Rattle.stream_picture.specs.View.{EachWire}
+use Rattle.stream_picture.specs.Rests.{IdlesOrShut, WaitsIdlesOrShut, FirstOpenWaits, OneWaits, SortedRests, ZipRests}
 use Rattle.stage_law.specs.Zips.{ZipKeeps}
 use Rattle.stage_law.specs.OwnPorts.{own_input}
-use Rattle.stage_in.specs.declared.phase.Phase.TheVariants.{Open}
-use Rattle.stage_in.specs.Seats.{seat, seats, wish, InsClosed, OneClosed, FanClosed}
+use Rattle.stage_fans.specs.declared.phase.Phase.TheVariants.{Open}
+use Rattle.stage_fans.specs.Seats.{wish}
+use Rattle.stage_in.specs.Seats.{seat, seats}
 use Rattle.stage_in.specs.Pairings.{Pairing, inlet_view, listed, pair_view, row_by}
 use Rattle.stage_in.specs.Sortings as sorting
 use Rattle.stage_in.specs.Zippings as zipping
 use Rattle.stage_in.specs.Takings as taking
 use Rattle.stage_in.specs.Takings.{Taking, view_of, OverBetween, InOrder}
-use Rattle.stage_in.specs.OwnRows.{own_inputs, own_outputs, FanRests, TakingRests}
-use Rattle.stage_in.proofs.Seats.{same, other, marked_before}
+use Rattle.stage_fans.specs.OwnRows.{own_inputs, FanRests}
+use Rattle.stage_in.specs.OwnRows.{TakingRests}
+use Rattle.stage_fans.proofs.Flags.{same, other}
+use Rattle.stage_fans.proofs.Closings.{closed_rests}
+use Rattle.stage_in.proofs.Seats.{marked_before}
 use Rattle.stage_in.proofs.Zips.{open_at, opened}
-
--- ---- closed ports
-
-ins_shut : (xs : List InView) (fs : List Inflow) → InsClosed xs → EachWire IsShut (own_inputs xs fs)
-ins_shut [] fs h = tt
-ins_shut (x ∷ xs) [] h = tt
-ins_shut (Over ∷ xs) (f ∷ fs) h = (refl, ins_shut xs fs h.1)
-ins_shut (Left ∷ xs) (f ∷ fs) h = (refl, ins_shut xs fs h.1)
-ins_shut (Idle ∷ xs) (f ∷ fs) h = absurd h.0
-ins_shut (Waiting ∷ xs) (f ∷ fs) h = absurd h.0
-
-out_shut : (ys : List OutView) (g : List Tree) → OneClosed ys → EachWire IsShut (own_outputs ys g)
-out_shut (Shut ∷ []) g h = (refl, tt)
-out_shut (Refused ∷ []) g h = (refl, tt)
-out_shut (Unasked ∷ []) g h = absurd h
-out_shut (Asked ∷ []) g h = absurd h
-out_shut [] g h = absurd h
-out_shut (y ∷ z ∷ ys) g h = absurd h
-
-pub closed_rests : (P : List View → View → Type 0) (v : port.View) (ins : List Inflow) (g : List Tree) → FanClosed v → FanRests P v ins g
-closed_rests P v ins g h = inl (ins_shut v.ins ins h.0, out_shut v.outs g h.1)
 
 -- ---- one input is asked, or none
 

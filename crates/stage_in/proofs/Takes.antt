@@ -2,7 +2,7 @@
 use Rattle.std.specs.Prelude.{◌==◌, replicate, if◌then◌else◌, slice_get, slice_set, slice_index_or}
 use Rattle.std.proofs.Common.{◌≡◌, ℕ, zero, suc, ◌+◌, ◌≤◌, ◌<◌, ◌⊎◌, inl, inr, Bool, true, false, List, [], ◌∷◌, length, map, refl, sym, ap, ◌∙◌, subst, arith, Option, Some, None}
 use Rattle.std.proofs.lemmas.Option.{slice_get_within}
-use Rattle.std.proofs.lemmas.List.{length-set}
+use Rattle.std.proofs.lemmas.List.{length-set, length-replicate}
 use Rattle.elem_core.specs.Tree.{Tree}
 use Rattle.elem_core.specs.declared.why.Cause.{Cause}
 use Rattle.elem_core.specs.declared.item.Item.{Item}
@@ -23,9 +23,12 @@ use Rattle.stage_law.specs.Inflows.{nothing, joined_all, coming}
 use Rattle.stage_law.specs.Fans.{Place, AllFew, elements, fan_gives, FanTurn, FanClose, completes, fails}
 use Rattle.stage_law.proofs.Inflows.{joined_all-nothing}
 use Rattle.stage_in.specs.Kinds.{taking_by}
-use Rattle.stage_in.specs.Seats.{seat, seats, wish, open_cancels, InsClosed, OneClosed, FanClosed, none_of}
+use Rattle.stage_fans.specs.Seats.{wish, open_cancels, InsClosed, OneClosed, FanClosed}
+use Rattle.stage_in.specs.Seats.{seat, seats, none_of}
 use Rattle.stage_in.specs.Takings.{Begins, Taking, place_of, OverBetween, AllOverBut, InOrder, IsNext, view_of, Sound, row_by, row, Turned, Counted, fresh_left, WentOn, goes_on, ends, Does, Passed, without, failed_by, relinked, Linked, Finished, another, current}
-use Rattle.stage_in.proofs.Seats.{ended_seat, waits_current, open_seat, unmarked, all_cancelled, idle_seat, marked_now, over_now, all_over_closed, set_here, set_other, set_keeps, cancels_give, cancels_stand}
+use Rattle.stage_fans.proofs.Flags.{set_here, set_other, set_keeps}
+use Rattle.stage_fans.proofs.Closings.{unasked_wish, open_wish, cancels_give, cancels_stand}
+use Rattle.stage_in.proofs.Seats.{ended_seat, waits_current, open_seat, unmarked, all_cancelled, idle_seat, marked_now, over_now, all_over_closed}
 use Rattle.stage_in.proofs.Steps.{FirstOf, element_given, none_given}
 use Rattle.stage_in.proofs.Waits.{came_end, came_first, used_at, none_waits, uses_none, uses_came, none_few, length-outlooks, all_ended, failed_at}
 use Rattle.stage_in.proofs.Links.{relinks, ring_linked}
@@ -117,10 +120,6 @@ pub record Handled (call : Call) (old : Taking) (acts : List Act) (new : Taking)
   pub ports : Obeys call (row old) (row new) acts
   pub gives : Turned call old acts new
 
-pub unasked_wish : (b : Bool) → wish b ≡ Unasked → b ≡ false
-unasked_wish true h = cc
-unasked_wish false h = refl
-
 -- ---- the handlers
 
 pub started : (l : Taking) → l.live ≡ true → Handled starts l [] l
@@ -155,10 +154,6 @@ counted_here (Some k) old new (inr h) here = let e = h.1.1 in rw e here
 counted_order : (segment : Option ℕ) (old new : Taking) → Counted segment old new → InOrder segment old.over old.current → InOrder segment old.over new.current
 counted_order None old new h order = let e = h.0 in rw e order
 counted_order (Some k) old new h order = tt
-
-pub open_wish : (b : Bool) → IsOutOpen (wish b)
-open_wish true = tt
-open_wish false = tt
 
 passed_on : (old new : Taking) (e : Tree) → old.live ≡ true → Sound old → old.asked ≡ true → Counted old.segment old new
     → Handled (brings old.current (item.Elem e)) old (Push 0 e ∷ []) (record old { current = new.current; left = new.left; asked = false })
@@ -366,10 +361,6 @@ left_on old new acts h does =
 
 -- ---- before anything came
 
-length-flags : (k : ℕ) → length (replicate k false) ≡ k
-length-flags zero = refl
-length-flags (suc k) = ap suc (length-flags k)
-
 first_flag : (k : ℕ) → 2 ≤ k → slice_get (replicate k false) 0 ≡ Some false
 first_flag zero h = absurd (omega (arith, h))
 first_flag (suc k) h = refl
@@ -393,7 +384,7 @@ new_row inputs segment l two few b =
     let ins : seats 0 l.over l.current l.asked ≡ replicate inputs Idle = ap (λ o. seats 0 o l.current l.asked) b.over ∙ ap (λ c. seats 0 (replicate inputs false) c l.asked) b.current ∙ ap (λ a. seats 0 (replicate inputs false) 0 a) b.unasked
     ∙ seats_idle inputs 0 0 in
     let here : slice_get l.over l.current ≡ Some false = ap (λ o. slice_get o l.current) b.over ∙ ap (λ c. slice_get (replicate inputs false) c) b.current ∙ first_flag inputs two in
-    let long : length l.over ≡ inputs = ap length b.over ∙ length-flags inputs in
+    let long : length l.over ≡ inputs = ap length b.over ∙ length-replicate inputs false in
     let c : l.current ≡ 0 = b.current in
     let is : view_of l ≡ record { ins = replicate inputs Idle; outs = Unasked ∷ [] } = ap (λ (xs : List InView). record { ins = xs; outs = wish l.asked ∷ [] }) ins ∙ ap (λ a. record { ins = replicate inputs Idle; outs = wish a ∷ [] }) b.unasked in
     is_standing l (record { ins = replicate inputs Idle; outs = Unasked ∷ [] }) b.live (sym is) (record { here = here; order = rw c (no_order l.segment l.over); few = omega (arith, long, few); linked = subst (λ o. Linked o l.next) (sym b.over) (ring_linked inputs l.next b.ring) })

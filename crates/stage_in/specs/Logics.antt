@@ -15,14 +15,14 @@ use Rattle.stream_model.specs.Outlook.{End}
 use Rattle.stream_model.specs.FanIn.{Inflow, concat_taken, interleave_taken}
 use Rattle.stream_picture.specs.View.{View}
 use Rattle.stream_picture.specs.Rests.{SortedRests, ZipRests}
-use Rattle.stage_law.specs.Inflows.{PortsLaw}
+use Rattle.stage_fans.specs.PortsLaws.{InPortsLaw}
 use Rattle.stage_law.specs.Fans.{FanKeeps}
 use Rattle.stage_law.specs.Zips.{ZipKeeps}
-use Rattle.stage_in.specs.declared.phase.Phase.TheVariants.{New, Open}
+use Rattle.stage_fans.specs.declared.phase.Phase.TheVariants.{New, Open}
 use Rattle.stage_in.specs.declared.logic.InLogic.{InLogic}
 use Rattle.stage_in.specs.declared.logic.InLogic.TheVariants as logic
 use Rattle.stage_in.specs.Kinds.{taking_by, sorting}
-use Rattle.stage_in.specs.Seats.{room_for}
+use Rattle.stage_fans.specs.Seats.{room_for}
 use Rattle.stage_in.specs.Takings as taking
 use Rattle.stage_in.specs.Sortings as sorted
 use Rattle.stage_in.specs.Zippings as zipping
@@ -132,13 +132,6 @@ Keeps (logic.Taking f) (logic.Taking l) = FanKeeps (taking_by f.segment) (taking
 Keeps (logic.Sorting f) (logic.Sorting l) = FanKeeps sorting sorted.nowhere (sorted.held l)
 Keeps (logic.Zipping f) (logic.Zipping l) = ZipKeeps (zipping.held l)
 Keeps _ _ = λ ins g e. ⊥
-
--- the law by ports, over a history of each port in order
-pub record InPortsLaw (K : List Inflow → List Tree → End → Type 0) (v : port.View) (took gave : List (List Item)) : Type 0 where
-  pub given : List Item
-  pub gave_is : gave ≡ given ∷ []
-  pub ports : length took ≡ length v.ins
-  pub law : PortsLaw K v (λ i. slice_index_or took i []) given
 
 -- it may be started, and its row holds
 pub record InFresh (l : InLogic) (v : port.View) : Type 0 where

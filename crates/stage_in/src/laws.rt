@@ -13,7 +13,7 @@ ghost use Rattle.stream_model.specs.FanIn.{AllAgree};
 ghost use Rattle.stage_core.specs.Handling.{Starts, Handles, most_acts};
 ghost use Rattle.stage_in.specs.declared.logic.InLogic.{InLogic};
 ghost use Rattle.stage_in.specs.Logics.{Begins, IsNew, IsOpen, IsStarted, InFresh, InLaw, InRow, KindRests, Turned, inputs_of, room_of, row};
-ghost use Rattle.stage_in.specs.OwnRows.{FanRests};
+ghost use Rattle.stage_fans.specs.OwnRows.{FanRests};
 
 /// Where its row and its law hold, a stage that was started has closed all its ports, or has nothing to do.
 pub fn a_started_stage_rests()

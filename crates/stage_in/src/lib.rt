@@ -5,7 +5,6 @@ pub mod handlers;
 pub mod inlet;
 pub mod laws;
 pub mod logic;
-pub mod phase;
 pub mod sorting;
 pub mod taking;
 pub mod zipping;

@@ -2,7 +2,7 @@ ghost use Rattle.std.specs.Prelude.{◌≡◌, ◌≢◌, ◌≤◌, ◌<◌, �
 ghost use Rattle.elem_core.specs.declared.item.Item.TheVariants as item;
 ghost use Rattle.port_core.specs.declared.act.Act.TheVariants as act;
 ghost use Rattle.port_core.specs.Call.{Obeys, Meets, starts, asks, brings, cancels};
-ghost use Rattle.stage_in.specs.Seats.{open_cancels, room_for};
+ghost use Rattle.stage_fans.specs.Seats.{open_cancels, room_for};
 ghost use Rattle.stage_in.specs.Takings.{row, Turned, Begins, Counted, WentOn, Does, Passed, Finished, without, failed_by, followed_by, Linked, Ring, IsNext, AllOverBut};
 ghost use Rattle.stage_in.specs.Kinds.{behind_input};
 

@@ -1,22 +1,18 @@
 -- The laws of the outputs over histories in order, from call to call.
-use Rattle.std.specs.Prelude.{◌==◌, if◌then◌else◌, slice_set, slice_index_or}
-use Rattle.std.proofs.Common.{◌≡◌, ℕ, zero, suc, ◌+◌, ◌≤◌, ◌<◌, Bool, true, false, List, [], ◌∷◌, ◌++◌, length, refl, sym, ap, ◌∙◌, subst, arith, append_assoc, append-nil}
-use Rattle.std.proofs.lemmas.Bool.Decides.{nat_tests}
-use Rattle.std.proofs.lemmas.List.{length-set, length-map}
+use Rattle.std.specs.Prelude.{slice_index_or}
+use Rattle.std.proofs.Common.{◌≡◌, ℕ, zero, suc, ◌+◌, ◌≤◌, ◌<◌, true, List, [], ◌∷◌, ◌++◌, length, refl, sym, ap, ◌∙◌, subst, arith}
+use Rattle.std.proofs.lemmas.List.{length-map}
 use Rattle.elem_core.specs.Tree.{Tree}
 use Rattle.elem_core.specs.declared.item.Item.{Item}
-use Rattle.elem_core.specs.declared.item.Item.TheVariants as item
 use Rattle.elem_core.specs.declared.why.Decider.{Decider}
 use Rattle.port_core.specs.declared.act.Act.{Act}
-use Rattle.port_core.specs.declared.act.Act.TheVariants.{Pull, Push, Complete, FailOut, Cancel}
 use Rattle.port_core.specs.declared.view.InView.{InView}
 use Rattle.port_core.specs.declared.view.InView.TheVariants.{Left}
 use Rattle.port_core.specs.declared.view.OutView.{OutView}
 use Rattle.port_core.specs.declared.view.OutView.TheVariants.{Shut}
 use Rattle.port_core.specs.Asking.{AsksStand}
 use Rattle.port_core.specs.View.{View, in_at, out_at, ActsAllowed, acted_all}
-use Rattle.port_core.specs.Call as call
-use Rattle.port_core.specs.Call.{Call, starts, asks, brings, cancels, AllIdle, AllUnasked, CallAllowed, seen, Obeys, brought_to, given_on}
+use Rattle.port_core.specs.Call.{Call, starts, AllIdle, AllUnasked, CallAllowed, seen, Obeys, brought_to, given_on}
 use Rattle.stream_model.specs.declared.kind.Kind.{Kind}
 use Rattle.stream_model.specs.Graph.{Graph}
 use Rattle.stream_model.specs.Linear.{Book, Stage}
@@ -24,7 +20,7 @@ use Rattle.stream_model.specs.Machine.{Stands}
 use Rattle.stream_model.specs.Node.{World, head_of, node_outlook}
 use Rattle.stream_model.specs.Outlook.{Outlook, End, unended, ended, failed, Agrees}
 use Rattle.stage_core.specs.Handling.{Starts, Handles}
-use Rattle.stage_core.specs.Histories.{with_item, given_by, given_all, brought_by, AllEmpty}
+use Rattle.stage_core.specs.Histories.{given_all, brought_by, AllEmpty}
 use Rattle.stage_law.specs.Held.{told, Held}
 use Rattle.stage_law.specs.Law.{TookAs, GaveAs, Law}
 use Rattle.stage_law.specs.Outs.{Outlet, OutsLaw, owe}
@@ -42,72 +38,8 @@ use Rattle.stage_out.specs.OutLogics.{is_live, row, Turned, outlets, owed, EachS
 use Rattle.stage_out.specs.OutNodes.{OutFresh, OutLaw, GaveAgrees}
 use Rattle.stage_out.proofs.OutLogics.{turns_of, owe_copies, owe_deals, length-owed, length-dues}
 use Rattle.stage_out.proofs.Rests.{told_lists}
+use Rattle.stage_fans.proofs.Histories.{brought_at, length-brought, given_at, length-given_all}
 use Rattle.stage_out.proofs.OutRests.{called_is_live, length-copiers, length-dealers}
-
--- ---- one more item at a port
-
-same : (n c : ℕ) → n ≡ c → (n == c) ≡ true
-same n c h = grind (arith, nat_tests)
-
-other : (n c : ℕ) → (n ≡ c → ⊥) → (n == c) ≡ false
-other n c h = grind (arith, nat_tests)
-
-at_set : (hs : List (List Item)) (k j : ℕ) (h : List Item) (b : Bool) → (k == j) ≡ b → j < length hs → slice_index_or (slice_set hs k h) j [] ≡ (if b then h else slice_index_or hs j [])
-at_set [] k j h b e l = absurd (omega (arith, l))
-at_set (x ∷ hs) zero zero h b e l = let t : (0 == 0) ≡ true = refl in let u : b ≡ true = sym e ∙ t in rw u refl
-at_set (x ∷ hs) zero (suc j) h b e l = let t : (0 == suc j) ≡ false = other 0 (suc j) (λ y. absurd (omega (arith, y))) in let u : b ≡ false = sym e ∙ t in rw u refl
-at_set (x ∷ hs) (suc k) zero h b e l = let t : (suc k == 0) ≡ false = other (suc k) 0 (λ y. absurd (omega (arith, y))) in let u : b ≡ false = sym e ∙ t in rw u refl
-at_set (x ∷ hs) (suc k) (suc j) h b e l = at_set hs k j h b (smaller k j b e) (omega (arith, l))
-  where
-    smaller : (k j : ℕ) (b : Bool) → (suc k == suc j) ≡ b → (k == j) ≡ b
-    smaller k j true e = grind (arith, nat_tests)
-    smaller k j false e = grind (arith, nat_tests)
-
--- an item that passed at port k, at port j
-one_more : (hs : List (List Item)) (k j : ℕ) (x : Item) → j < length hs → slice_index_or (with_item hs k x) j [] ≡ slice_index_or hs j [] ++ (if k == j then x ∷ [] else [])
-one_more hs k j x l = by_test (k == j) refl
-  where
-    by_test : (b : Bool) → (k == j) ≡ b → slice_index_or (with_item hs k x) j [] ≡ slice_index_or hs j [] ++ (if b then x ∷ [] else [])
-    by_test true e =
-        let is : k ≡ j = grind (arith, nat_tests) in
-        at_set hs k j (slice_index_or hs k [] ++ x ∷ []) true e l ∙ ap (λ n. slice_index_or hs n [] ++ x ∷ []) is
-    by_test false e = at_set hs k j (slice_index_or hs k [] ++ x ∷ []) false e l ∙ sym (append-nil (slice_index_or hs j []))
-
-pub brought_at : (c : Call) (hs : List (List Item)) (i : ℕ) → i < length hs → slice_index_or (brought_by c hs) i [] ≡ slice_index_or hs i [] ++ brought_to i c
-brought_at starts hs i l = sym (append-nil (slice_index_or hs i []))
-brought_at (asks j) hs i l = sym (append-nil (slice_index_or hs i []))
-brought_at (brings k x) hs i l = one_more hs k i x l
-brought_at (cancels j) hs i l = sym (append-nil (slice_index_or hs i []))
-
-pub length-brought : (c : Call) (hs : List (List Item)) → length (brought_by c hs) ≡ length hs
-length-brought starts hs = refl
-length-brought (asks j) hs = refl
-length-brought (brings k x) hs = length-set hs k _
-length-brought (cancels j) hs = refl
-
-given_step : (a : Act) (hs : List (List Item)) (j : ℕ) → j < length hs → slice_index_or (given_by a hs) j [] ≡ slice_index_or hs j [] ++ call.given_by j a
-given_step (Pull i) hs j l = sym (append-nil (slice_index_or hs j []))
-given_step (Push k e) hs j l = one_more hs k j (item.Elem e) l
-given_step (Complete k) hs j l = one_more hs k j item.Ended l
-given_step (FailOut k c) hs j l = one_more hs k j (item.Failed c) l
-given_step (Cancel i) hs j l = sym (append-nil (slice_index_or hs j []))
-
-length-given_by : (a : Act) (hs : List (List Item)) → length (given_by a hs) ≡ length hs
-length-given_by (Pull i) hs = refl
-length-given_by (Push k e) hs = length-set hs k _
-length-given_by (Complete k) hs = length-set hs k _
-length-given_by (FailOut k c) hs = length-set hs k _
-length-given_by (Cancel i) hs = refl
-
-pub given_at : (acts : List Act) (hs : List (List Item)) (j : ℕ) → j < length hs → slice_index_or (given_all acts hs) j [] ≡ slice_index_or hs j [] ++ given_on j acts
-given_at [] hs j l = sym (append-nil (slice_index_or hs j []))
-given_at (a ∷ acts) hs j l =
-    let n = length-given_by a hs in
-    given_at acts (given_by a hs) j (omega (arith, n, l)) ∙ ap (λ (h : List Item). h ++ given_on j acts) (given_step a hs j l) ∙ append_assoc (slice_index_or hs j []) (call.given_by j a) (given_on j acts)
-
-pub length-given_all : (acts : List Act) (hs : List (List Item)) → length (given_all acts hs) ≡ length hs
-length-given_all [] hs = refl
-length-given_all (a ∷ acts) hs = length-given_all acts (given_by a hs) ∙ length-given_by a hs
 
 -- ---- the laws of the outputs
 

@@ -19,12 +19,13 @@ use Rattle.stage_law.specs.Held.{told, Held}
 use Rattle.stage_law.specs.Outs.{Outlet, OutsLaw}
 use Rattle.stage_law.specs.OwnPorts.{own_input}
 use Rattle.stage_core.specs.Handling.{most_acts}
+use Rattle.stage_fans.specs.Seats.{room_for}
 use Rattle.stage_out.specs.declared.want.Want.{Want}
 use Rattle.stage_out.specs.declared.want.Want.TheVariants.{Quiet, Asks, Gone}
 use Rattle.stage_out.specs.declared.logic.OutLogic.{OutLogic}
 use Rattle.stage_out.specs.declared.logic.OutLogic.TheVariants.{Copies, Deals}
 use Rattle.stage_out.specs.Copies as copies
-use Rattle.stage_out.specs.Copies.{want_view, open_count, room_for, OneInClosed, OutsClosed, AllClosed}
+use Rattle.stage_out.specs.Copies.{want_view, open_count, OneInClosed, OutsClosed, AllClosed}
 use Rattle.stage_out.specs.CopyStates.{CopyLogic, part_by}
 use Rattle.stage_out.specs.CopyStates as copy
 use Rattle.stage_out.specs.PartitionStates.{PartitionLogic, asks_count, input_of, view_of, Holding, Sound, dealers, then_of}

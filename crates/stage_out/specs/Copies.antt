@@ -1,5 +1,5 @@
 -- Outputs that each get a part of every element.
-use Rattle.std.specs.Prelude.{ℕ, zero, suc, ◌+◌, ◌*◌, Bool, true, false, List, [], ◌∷◌, map, Option, Some, None, ⊤}
+use Rattle.std.specs.Prelude.{ℕ, zero, suc, ◌+◌, Bool, true, false, List, [], ◌∷◌, map, Option, Some, None, ⊤}
 use Rattle.elem_core.specs.Tree.{Tree}
 use Rattle.port_core.specs.declared.act.Act.{Act}
 use Rattle.port_core.specs.declared.act.Act.TheVariants.{Push}
@@ -63,10 +63,6 @@ open_count [] = 0
 open_count (Quiet ∷ ws) = suc (open_count ws)
 open_count (Asks ∷ ws) = suc (open_count ws)
 open_count (Gone ∷ ws) = open_count ws
-
--- the most actions that one call of a stage with so many outputs appends: two for each of its ports
-abbrev pub room_for : ℕ → ℕ
-room_for outputs = 2 * (outputs + 1)
 
 -- once each open output got its part
 abbrev pub served_one : Want → Want

@@ -23,10 +23,11 @@ use Rattle.stream_picture.specs.View as picture
 use Rattle.stream_picture.specs.Rests.{OneToMany, BroadcastRests, PartitionRests, RowRests}
 use Rattle.stage_law.specs.Held.{Held, owing, shut}
 use Rattle.stage_law.specs.Outs.{Outlet, TurnsAt, owe}
+use Rattle.stage_fans.specs.Seats.{room_for}
 use Rattle.stage_out.specs.declared.want.Want.{Want}
 use Rattle.stage_out.specs.declared.logic.OutLogic.{OutLogic}
 use Rattle.stage_out.specs.declared.logic.OutLogic.TheVariants.{Copies, Deals}
-use Rattle.stage_out.specs.Copies.{copying, nothing_owed, owed_by, room_for}
+use Rattle.stage_out.specs.Copies.{copying, nothing_owed, owed_by}
 use Rattle.stage_out.specs.Copies as copies
 use Rattle.stage_out.specs.CopyStates.{part_by}
 use Rattle.stage_out.specs.CopyStates as copy

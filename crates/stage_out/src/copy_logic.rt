@@ -5,7 +5,8 @@ ghost use Rattle.port_core.specs.Call.{Obeys, Meets, starts, asks, brings, cance
 ghost use Rattle.stream_model.specs.declared.kind.TheConstants.{MAX_FAN};
 ghost use Rattle.stage_out.specs.declared.want.Want.TheVariants.{Quiet, Asks, Gone};
 ghost use Rattle.elem_core.specs.Values.{left_half, right_half};
-ghost use Rattle.stage_out.specs.Copies.{at_open, room_for, push_to, push_where, served, served_one};
+ghost use Rattle.stage_fans.specs.Seats.{room_for};
+ghost use Rattle.stage_out.specs.Copies.{at_open, push_to, push_where, served, served_one};
 ghost use Rattle.stage_out.specs.CopyStates.{row, Turned, Does, Lost, part_by, begun};
 
 use crate::want::{Want, quiet_outs};

@@ -6,7 +6,8 @@ ghost use Rattle.port_core.specs.declared.act.Act.TheVariants as act;
 ghost use Rattle.port_core.specs.Call.{Obeys, Meets, starts, asks, brings, cancels};
 ghost use Rattle.stream_model.specs.declared.kind.TheConstants.{MAX_FAN};
 ghost use Rattle.stage_out.specs.declared.want.Want.TheVariants.{Quiet, Asks, Gone};
-ghost use Rattle.stage_out.specs.Copies.{at_open, room_for};
+ghost use Rattle.stage_fans.specs.Seats.{room_for};
+ghost use Rattle.stage_out.specs.Copies.{at_open};
 ghost use Rattle.stage_out.specs.PartitionStates.{row, Turned, Parts, pull_by, waits_by, moved_by, moving_by, TookFor, Noted, AskedOf, Dealt, Served, EndedFor, struck, PassedOver, Lost, with_asks, with_given, blaming, begun};
 
 use crate::want::{Want, quiet_outs};

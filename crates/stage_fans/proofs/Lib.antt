@@ -1,0 +1,4 @@
+pub mod Flags
+pub mod Arrivals
+pub mod Closings
+pub mod Histories

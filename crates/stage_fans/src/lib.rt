@@ -1,0 +1,5 @@
+// What the stages with several inputs or several outputs share.
+#![tactic(auto)]
+
+pub mod laws;
+pub mod phase;

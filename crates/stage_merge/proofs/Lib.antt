@@ -1,0 +1,5 @@
+pub mod Merges
+pub mod Fewer
+pub mod Mergers
+pub mod MergeRests
+pub mod MergeNodes

@@ -1,0 +1,51 @@
+// Laws of the merge: each function has no body, and its contract is the law.
+ghost use Rattle.std.specs.Prelude.{◌≡◌, ◌≢◌, ◌≤◌, ℕ, true, List, [], length};
+ghost use Rattle.elem_core.specs.declared.item.Item.{Item};
+ghost use Rattle.elem_core.specs.declared.why.Decider.{Decider};
+ghost use Rattle.port_core.specs.declared.act.Act.{Act};
+ghost use Rattle.port_core.specs.View.{View};
+ghost use Rattle.port_core.specs.Call.{Call, starts, CallAllowed, Obeys};
+ghost use Rattle.stream_model.specs.declared.kind.Kind.TheVariants.{Merge};
+ghost use Rattle.stream_model.specs.Graph.{Graph};
+ghost use Rattle.stream_model.specs.Node.{World, node_outlook};
+ghost use Rattle.stream_model.specs.Outlook.{Outlook, Agrees};
+ghost use Rattle.stream_model.specs.FanIn.{AllAgree};
+ghost use Rattle.stream_model.specs.Picks.{merge_fits};
+ghost use Rattle.stream_picture.specs.Rests.{MergeRests};
+ghost use Rattle.stage_core.specs.Handling.{Starts, Handles, most_acts};
+ghost use Rattle.stage_fans.specs.Seats.{room_for};
+ghost use Rattle.stage_fans.specs.OwnRows.{FanRests};
+ghost use Rattle.stage_fans.specs.declared.phase.Phase.TheVariants.{New, Open};
+ghost use Rattle.stage_merge.specs.Mergings.{Merging, Begins, Turned, row, MergeFresh, MergeRow, MergesAs, unasked_ports};
+
+/// A new merge of 2 to 16 inputs may be started, made no move, and knows that no port was asked.
+pub fn a_new_merge_may_start()
+    ensures { (inputs : ℕ) (l : Merging) → 2 ≤ inputs → inputs ≤ 16 → Begins inputs l → MergeFresh l (unasked_ports inputs) }
+{}
+
+/// Where its row and its law hold, a merge that was started has closed all its ports, or has nothing to do.
+pub fn a_started_merge_rests()
+    ensures { (first now : Merging) (v : View) (took gave : List (List Item)) → MergeRow now v → (law : MergesAs first now v took gave) → FanRests MergeRests v law.by.law.ins law.by.law.out_list }
+{}
+
+/// Where the port rules allow a call of a handler and the row holds, a merge that was started is open, and the room that the
+/// call wants is within what every stage is given.
+pub fn a_called_merge_is_open()
+    ensures opens { (l : Merging) (call : Call) (v : View) → l.core.phase ≢ New → CallAllowed call v → row l v → l.core.phase ≡ Open }
+    ensures room { (l : Merging) (call : Call) (v : View) → CallAllowed call v → row l v → room_for (length l.core.over) ≤ most_acts }
+{}
+
+/// What a handler owes to the port rules and to the law is all that is asked of a stage: its start begins the law of its
+/// histories, and every other call keeps it.
+pub fn calls_keep_the_law()
+    ensures starts { (old new : Merging) (acts : List Act) → Obeys starts (row old) (row new) acts → Turned starts old acts new → Starts MergeRow MergesAs MergeFresh old new acts }
+    ensures handles { (call : Call) (old new : Merging) (acts : List Act) → Obeys call (row old) (row new) acts → Turned call old acts new → Handles MergeRow MergesAs call old new acts }
+{}
+
+/// Where its law holds, and what came to each input agrees with that input's outlook, its moves fit, and what it gave agrees
+/// with the outlook that the model has of its output by these moves.
+pub fn a_merge_agrees_with_its_outlook()
+    ensures fits { (is : List Outlook) (first now : Merging) (v : View) (took gave : List (List Item)) → (law : MergesAs first now v took gave) → AllAgree is law.by.law.ins → merge_fits now.log.moves is ≡ true }
+    ensures agrees { (g : Graph) (w : World) (node inputs : ℕ) (d : Decider) (is : List Outlook) (first now : Merging) (v : View) (took gave : List (List Item)) → w.moves node ≡ now.log.moves
+        → (law : MergesAs first now v took gave) → AllAgree is law.by.law.ins → Agrees (node_outlook g w node (Merge inputs) d is 0) law.by.law.out_list law.by.law.out_end }
+{}

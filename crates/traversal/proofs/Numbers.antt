@@ -6,7 +6,7 @@ use Rattle.stream_model.specs.Graph.{Wire}
 use Rattle.blue_names.specs.declared.links.Link.{Link}
 use Rattle.blue_names.specs.Links.{wire_of_link, wires_of_links}
 use Rattle.traversal.specs.declared.plan.LanePlan.{LanePlan}
-use Rattle.traversal.specs.Plan.{numbers_from, nodes_of, is_wire_of, wires_of, lane_of, lanes_from}
+use Rattle.traversal.specs.Plan.{numbers_from, island_nodes, is_wire_of, island_wires, lane_of, lanes_from}
 
 cond_push : (b : Bool) (n : ℕ) (ns ms : List ℕ) → cond b (n ∷ (ns ++ ms)) (ns ++ ms) ≡ cond b (n ∷ ns) ns ++ ms
 cond_push true n ns ms = refl
@@ -59,11 +59,11 @@ lanes_from-more g homes ls i d lt =
     ap (lanes_from homes 0) (map_more g ls i d lt) ∙ lanes_from-push homes 0 (map g (take i ls)) (g (get_or ls i d)) ∙ ap (λ k. lanes_from homes 0 (map g (take i ls)) ++ lane_of homes k (g (get_or ls i d))) e
 
 -- the same as code fills its lists
-pub nodes_more : (homes : List ℕ) (i d k : ℕ) (old new : List ℕ) → i < length homes → old ≡ nodes_of (take i homes) k → new ≡ old ++ cond (get_or homes i d == k) (i ∷ []) [] → new ≡ nodes_of (take (i + 1) homes) k
+pub nodes_more : (homes : List ℕ) (i d k : ℕ) (old new : List ℕ) → i < length homes → old ≡ island_nodes (take i homes) k → new ≡ old ++ cond (get_or homes i d == k) (i ∷ []) [] → new ≡ island_nodes (take (i + 1) homes) k
 nodes_more homes i d k old new lt was is = is ∙ ap (λ ns. ns ++ cond (get_or homes i d == k) (i ∷ []) []) was ∙ sym (numbers_from-more (λ h. h == k) homes i d lt)
 
-pub wires_more : (homes : List ℕ) (ls : List Link) (i : ℕ) (d : Link) (k : ℕ) (old new : List ℕ) → i < length ls → old ≡ wires_of homes (wires_of_links (take i ls)) k
-    → new ≡ old ++ cond (is_wire_of homes k (wire_of_link (get_or ls i d))) (i ∷ []) [] → new ≡ wires_of homes (wires_of_links (take (i + 1) ls)) k
+pub wires_more : (homes : List ℕ) (ls : List Link) (i : ℕ) (d : Link) (k : ℕ) (old new : List ℕ) → i < length ls → old ≡ island_wires homes (wires_of_links (take i ls)) k
+    → new ≡ old ++ cond (is_wire_of homes k (wire_of_link (get_or ls i d))) (i ∷ []) [] → new ≡ island_wires homes (wires_of_links (take (i + 1) ls)) k
 wires_more homes ls i d k old new lt was is =
     is ∙ ap (λ ns. ns ++ cond (is_wire_of homes k (wire_of_link (get_or ls i d))) (i ∷ []) []) was ∙ sym (numbers_from-map_more wire_of_link (is_wire_of homes k) ls i d lt)
 

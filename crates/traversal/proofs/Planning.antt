@@ -1,15 +1,16 @@
 -- What was found of nodes and wires makes a plan.
-use Rattle.std.proofs.Common.{◌≡◌, ℕ, ◌<◌, ◌≤◌, Bool, true, false, cond, ◌==◌, List, [], ◌∷◌, length, get_or, refl, ap, sym, ◌∙◌, subst, zero-add, arith}
-use Rattle.std.specs.Prelude.{slice_index, is_none}
+use Rattle.std.proofs.Common.{◌≡◌, ℕ, zero, suc, ◌<◌, ◌≤◌, Bool, true, false, cond, ◌==◌, List, [], ◌∷◌, length, get_or, Some, refl, ap, sym, ◌∙◌, subst, ⊎_elim, zero-add, arith}
+use Rattle.std.specs.Prelude.{slice_get, slice_index, is_none}
 use Rattle.std.specs.List.{filter, All}
-use Rattle.std.proofs.lemmas.Bool.{eq-eqb, ne_eqb}
+use Rattle.std.proofs.lemmas.Bool.{cases_Bool, eq-eqb, ne_eqb}
 use Rattle.std.proofs.lemmas.List.Elements.{All-from_get_or}
 use Rattle.stream_model.specs.Graph.{Wire}
 use Rattle.blue_walks.specs.Forest.{Linked}
+use Rattle.blue_walks.proofs.VisitSteps.{wire_in_range}
 use Rattle.blue_names.specs.declared.links.Link.{Link}
-use Rattle.blue_names.specs.Links.{wire_of_link, wires_of_links}
+use Rattle.blue_names.specs.Links.{AreInRange, wire_of_link, wires_of_links}
 use Rattle.traversal.specs.declared.plan.IslandPlan.{IslandPlan}
-use Rattle.traversal.specs.Plan.{is_fused, AreHomes, nodes_of, nodes_at, AreInOrder}
+use Rattle.traversal.specs.Plan.{is_fused, AreHomes, island_nodes, nodes_at, AreInOrder}
 use Rattle.traversal.specs.Labels.{AreLabels}
 use Rattle.traversal.specs.Homes.{AreNumbered}
 use Rattle.traversal.proofs.Linking.{linked_alike}
@@ -24,10 +25,24 @@ wires_fused (l ∷ ls) = kept (is_none l.lane) (filter (λ (m : Link). is_none m
     kept true ms = refl
     kept false ms = refl
 
+-- what passes a filter is in its list
+kept_at : {X : Type 0} (p : X → Bool) (xs : List X) (i : ℕ) (x : X) → slice_get xs i ≡ Some x → p x ≡ true → (j : ℕ) × (slice_get (filter p xs) j ≡ Some x)
+kept_at p [] i x h t = cc
+kept_at p (y ∷ xs) zero x h t =
+    let same : y ≡ x = cc in
+    let passes : p y ≡ true = ap p same ∙ t in
+    (0, ap (λ b. slice_get (cond b (y ∷ filter p xs) (filter p xs)) 0) passes ∙ h)
+kept_at p (y ∷ xs) (suc i) x h t =
+    let rest = kept_at p xs i x h t in
+    ⊎_elim
+    (λ (passes : p y ≡ true). (suc rest.0, ap (λ b. slice_get (cond b (y ∷ filter p xs) (filter p xs)) (suc rest.0)) passes ∙ rest.1))
+    (λ (fails : p y ≡ false). (rest.0, ap (λ b. slice_get (cond b (y ∷ filter p xs) (filter p xs)) rest.0) fails ∙ rest.1))
+    (cases_Bool (p y))
+
 -- the numbers of labels are islands
 pub AreHomes-numbered : (count : ℕ) (ls : List Link) (labels homes firsts : List ℕ) → AreLabels (wires_of_links (filter (λ (l : Link). is_none l.lane) ls)) count labels
-    → AreNumbered labels homes firsts → length homes ≡ length labels → AreHomes count (wires_of_links ls) homes
-AreHomes-numbered count ls labels homes firsts is n long = record {
+    → AreNumbered labels homes firsts → length homes ≡ length labels → AreInRange count ls → AreHomes count (wires_of_links ls) homes
+AreHomes-numbered count ls labels homes firsts is n long range = record {
   each = long ∙ is.each;
   linked = λ a b la lb e.
       let home_a = n.alike a (omega (arith, la, long, is.each)) in
@@ -38,10 +53,17 @@ AreHomes-numbered count ls labels homes firsts is n long = record {
       let hb : b < length homes = omega (arith, lb, long, is.each) in
       let one = linked_alike (wires_of_links (filter (λ (m : Link). is_none m.lane) ls)) count labels a b is (subst (λ ws. Linked ws a b) (sym (wires_fused ls)) l) in
       n.apart (slice_index homes a) (slice_index homes b) (n.here a ha) (n.here b hb) (n.alike a ha ∙ one ∙ sym (n.alike b hb));
+  inside = λ i w at fused.
+      let ends = wire_in_range count ls i w range at in
+      let hf : w.from < length homes = omega (arith, ends.0, long, is.each) in
+      let ht : w.to < length homes = omega (arith, ends.1, long, is.each) in
+      let kept = kept_at is_fused (wires_of_links ls) i w at fused in
+      let one = is.alike kept.0 w (ap (λ ws. slice_get ws kept.0) (wires_fused ls) ∙ kept.1) in
+      n.apart (slice_index homes w.from) (slice_index homes w.to) (n.here w.from hf) (n.here w.to ht) (n.alike w.from hf ∙ one ∙ sym (n.alike w.to ht));
 }
 
 -- the least node of island k is the first that it lists
-first_of : (labels homes firsts : List ℕ) (k : ℕ) → AreNumbered labels homes firsts → k < length firsts → (0 < length (nodes_of homes k)) × (slice_index (nodes_of homes k) 0 ≡ slice_index firsts k)
+first_of : (labels homes firsts : List ℕ) (k : ℕ) → AreNumbered labels homes firsts → k < length firsts → (0 < length (island_nodes homes k)) × (slice_index (island_nodes homes k) 0 ≡ slice_index firsts k)
 first_of labels homes firsts k n lt =
     let f = n.first k lt in
     let none_before : (a : ℕ) → a < slice_index firsts k → (slice_index homes a == k) ≡ false = λ a below. ne_eqb (slice_index homes a) k (λ e.
@@ -51,7 +73,7 @@ first_of labels homes firsts k n lt =
     let r = first_number (λ h. h == k) homes 0 (slice_index firsts k) f.0 (eq-eqb (slice_index homes (slice_index firsts k)) k f.1) none_before in
     (r.0, r.1 ∙ zero-add (slice_index firsts k))
 
-pub AreInOrder-numbered : (labels homes firsts : List ℕ) (islands : List IslandPlan) → AreNumbered labels homes firsts → length islands ≡ length firsts → ((k : ℕ) → nodes_at islands k ≡ nodes_of homes k) → AreInOrder islands
+pub AreInOrder-numbered : (labels homes firsts : List ℕ) (islands : List IslandPlan) → AreNumbered labels homes firsts → length islands ≡ length firsts → ((k : ℕ) → nodes_at islands k ≡ island_nodes homes k) → AreInOrder islands
 AreInOrder-numbered labels homes firsts islands n long nodes = record {
   some = λ k lt. let f = first_of labels homes firsts k n (omega (arith, lt, long)) in subst (λ ns. 0 < length ns) (sym (nodes k)) f.0;
   rising = λ j k jk lt.

@@ -1,5 +1,5 @@
 -- The plan of a blueprint: which nodes run together, and what joins them.
-use Rattle.std.specs.Prelude.{◌≡◌, ℕ, ◌+◌, ◌<◌, ◌==◌, ◌&&◌, Bool, is_none, if◌then◌else◌, List, [], ◌∷◌, ◌++◌, length, slice_get, slice_index, Option, Some, None}
+use Rattle.std.specs.Prelude.{◌≡◌, ℕ, ◌+◌, ◌<◌, ◌==◌, ◌&&◌, Bool, true, is_none, if◌then◌else◌, List, [], ◌∷◌, ◌++◌, length, slice_get, slice_index, Option, Some, None}
 use Rattle.std.specs.List.{filter}
 use Rattle.stream_model.specs.Graph.{Wire}
 use Rattle.blue_walks.specs.Forest.{Linked}
@@ -11,11 +11,13 @@ use Rattle.traversal.specs.declared.plan.LanePlan.{LanePlan}
 abbrev pub is_fused : Wire → Bool
 is_fused w = is_none w.lane
 
--- the islands of so many nodes: two nodes are in one where a walk along wires without a lane links them, and only there
+-- the islands of so many nodes: two nodes are in one where a walk along wires without a lane links them, and only there; so each
+-- wire without a lane is inside one
 pub record AreHomes (count : ℕ) (ws : List Wire) (homes : List ℕ) : Type 0 where
   pub each : length homes ≡ count
   pub linked : (a b : ℕ) → a < count → b < count → slice_index homes a ≡ slice_index homes b → Linked (filter is_fused ws) a b
   pub whole : (a b : ℕ) → a < count → b < count → Linked (filter is_fused ws) a b → slice_index homes a ≡ slice_index homes b
+  pub inside : (i : ℕ) (w : Wire) → slice_get ws i ≡ Some w → is_fused w ≡ true → slice_index homes w.from ≡ slice_index homes w.to
 
 -- the numbers of those that pass, in order, where the first is number n
 abbrev pub numbers_from : {X : Type 0} → ℕ → (X → Bool) → List X → List ℕ
@@ -23,15 +25,15 @@ numbers_from n p [] = []
 numbers_from n p (x ∷ xs) = if p x then n ∷ numbers_from (n + 1) p xs else numbers_from (n + 1) p xs
 
 -- the nodes of island k
-abbrev pub nodes_of : List ℕ → ℕ → List ℕ
-nodes_of homes k = numbers_from 0 (λ h. h == k) homes
+abbrev pub island_nodes : List ℕ → ℕ → List ℕ
+island_nodes homes k = numbers_from 0 (λ h. h == k) homes
 
 -- a wire of island k: it has no lane and begins there, and so it ends there too
 abbrev pub is_wire_of : List ℕ → ℕ → Wire → Bool
 is_wire_of homes k w = is_fused w && (slice_index homes w.from == k)
 
-abbrev pub wires_of : List ℕ → List Wire → ℕ → List ℕ
-wires_of homes ws k = numbers_from 0 (is_wire_of homes k) ws
+abbrev pub island_wires : List ℕ → List Wire → ℕ → List ℕ
+island_wires homes ws k = numbers_from 0 (is_wire_of homes k) ws
 
 -- the lane of wire n, where it has one: from the island of its output to that of its input
 abbrev pub lane_sized : List ℕ → ℕ → Wire → Option ℕ → List LanePlan
@@ -66,11 +68,12 @@ pub record AreInOrder (islands : List IslandPlan) : Type 0 where
   pub some : (k : ℕ) → k < length islands → 0 < length (nodes_at islands k)
   pub rising : (j k : ℕ) → j < k → k < length islands → slice_index (nodes_at islands j) 0 < slice_index (nodes_at islands k) 0
 
--- the plan lists the nodes and the wires of each island, and all lanes, each in ascending order
+-- each node has an island, and the plan lists the nodes and the wires of each, and all lanes, each list in ascending order
 pub record IsPlan (count : ℕ) (ws : List Wire) (p : Plan) : Type 0 where
   pub homes : List ℕ
   pub are : AreHomes count ws homes
-  pub nodes : (k : ℕ) → nodes_at p.islands.items k ≡ nodes_of homes k
-  pub wires : (k : ℕ) → wires_at p.islands.items k ≡ wires_of homes ws k
+  pub there : (a : ℕ) → a < count → slice_index homes a < length p.islands.items
+  pub nodes : (k : ℕ) → nodes_at p.islands.items k ≡ island_nodes homes k
+  pub wires : (k : ℕ) → wires_at p.islands.items k ≡ island_wires homes ws k
   pub order : AreInOrder p.islands.items
   pub lanes : p.lanes.items ≡ lanes_from homes 0 ws

@@ -1,7 +1,7 @@
 // The lists of islands: their nodes, and their wires.
 ghost use Rattle.std.specs.Prelude.{◌≡◌, ◌<◌, ◌==◌, ℕ, IfOk, OnOk, All, [], ◌∷◌, ◌++◌, if◌then◌else◌, length, slice_index, vec_len};
 ghost use Rattle.blue_names.specs.Links.{AreInRange, wire_of_link, wires_of_links};
-ghost use Rattle.traversal.specs.Plan.{nodes_at, wires_at, nodes_of, is_wire_of, wires_of};
+ghost use Rattle.traversal.specs.Plan.{nodes_at, wires_at, island_nodes, is_wire_of, island_wires};
 
 use crate::plan::IslandPlan;
 use blue_names::links::Link;
@@ -82,7 +82,7 @@ pub fn put_nodes(islands: &mut Vec<IslandPlan>, homes: &[usize]) -> Result<(), N
     requires homes { All (λ h. h < vec_len islands.old) homes.now }
     requires none { (k : ℕ) → nodes_at islands.old.items k ≡ [] }
     ensures length { OnOk result (vec_len islands.new ≡ vec_len islands.old) }
-    ensures nodes { (k : ℕ) → OnOk result (nodes_at islands.new.items k ≡ nodes_of homes.now k) }
+    ensures nodes { (k : ℕ) → OnOk result (nodes_at islands.new.items k ≡ island_nodes homes.now k) }
     ensures wires { (k : ℕ) → OnOk result (wires_at islands.new.items k ≡ wires_at islands.old.items k) }
 {
     for (node, home) in homes.iter().enumerate() {
@@ -101,7 +101,7 @@ pub fn put_wires(
     requires links { AreInRange (length homes.now) links.now }
     requires none { (k : ℕ) → wires_at islands.old.items k ≡ [] }
     ensures length { OnOk result (vec_len islands.new ≡ vec_len islands.old) }
-    ensures wires { (k : ℕ) → OnOk result (wires_at islands.new.items k ≡ wires_of homes.now (wires_of_links links.now) k) }
+    ensures wires { (k : ℕ) → OnOk result (wires_at islands.new.items k ≡ island_wires homes.now (wires_of_links links.now) k) }
     ensures nodes { (k : ℕ) → OnOk result (nodes_at islands.new.items k ≡ nodes_at islands.old.items k) }
 {
     for (wire, link) in links.iter().enumerate() {

@@ -27,7 +27,7 @@ fn no_numbers(alloc: Global, count: usize) -> Result<Vec<Option<usize>>, NoMemor
 }
 
 /// The number of a label's island; where it has none yet, the next one, of which this node is the least.
-fn number_of(
+fn home_of(
     numbers: &mut Vec<Option<usize>>,
     firsts: &mut Vec<usize>,
     label: usize,
@@ -57,7 +57,7 @@ pub fn homes_of(alloc: Global, labels: &[usize]) -> Result<Homes, NoMemory>
     let mut firsts = Vec::new(alloc);
     let mut homes = Vec::new(alloc);
     for (node, label) in labels.iter().enumerate() {
-        let home = number_of(&mut numbers, &mut firsts, *label, node)?;
+        let home = home_of(&mut numbers, &mut firsts, *label, node)?;
         homes.push(home)?;
     }
     Ok(Homes { homes, firsts })

@@ -4,7 +4,7 @@ use Rattle.std.specs.List.{filter}
 use Rattle.std.proofs.lemmas.List.Elements.{All-filter, All-same}
 use Rattle.blue_names.specs.declared.links.Link.{Link}
 use Rattle.blue_names.specs.Links.{wires_of_links}
-use Rattle.traversal.specs.Plan.{nodes_at, nodes_of, wires_of, lanes_from}
+use Rattle.traversal.specs.Plan.{nodes_at, island_nodes, island_wires, lanes_from}
 use Rattle.traversal.specs.Labels.{AreLabels}
 use Rattle.traversal.specs.Homes.{AreNumbered}
 use Rattle.traversal.proofs.Planning.{AreHomes-numbered, AreInOrder-numbered, labels_below, homes_below}
@@ -39,13 +39,14 @@ returns c =
     let are_labels = subst (λ ls. AreLabels (wires_of_links ls) c.args.count labels) (c.deref.ensures.value ∙ c.in_ok-fused_links.ensures) c.in_ok-labels.ensures in
     let numbered = subst (λ ls. AreNumbered ls found.homes.items found.firsts.items) c.deref-2.ensures.value c.in_ok-found.ensures.numbered in
     let long : length found.homes.items ≡ length labels = sym found.homes.ok.0 ∙ c.in_ok-found.ensures.each ∙ ap length c.deref-2.ensures.value in
-    let nodes : (k : ℕ) → nodes_at islands.items k ≡ nodes_of found.homes.items k = λ k. filled.nodes k ∙ c.in_ok-put_nodes.ensures.nodes k ∙ ap (λ hs. nodes_of hs k) c.deref-3.ensures.value in
+    let many : length islands.items ≡ length found.firsts.items = omega (arith, islands.ok.0, filled.length, c.in_ok-put_nodes.ensures.length, c.in_ok-islands.ensures.length, c.len.ensures, found.firsts.ok.0) in
+    let nodes : (k : ℕ) → nodes_at islands.items k ≡ island_nodes found.homes.items k = λ k. filled.nodes k ∙ c.in_ok-put_nodes.ensures.nodes k ∙ ap (λ hs. island_nodes hs k) c.deref-3.ensures.value in
     record {
       homes = found.homes.items;
-      are = AreHomes-numbered c.args.count links labels found.homes.items found.firsts.items are_labels numbered long;
+      are = AreHomes-numbered c.args.count links labels found.homes.items found.firsts.items are_labels numbered long c.requires;
+      there = λ a lt. omega (arith, numbered.here a (omega (arith, lt, long, are_labels.each)), many);
       nodes = nodes;
-      wires = λ k. filled.wires k ∙ ap (λ hs. wires_of hs (wires_of_links links) k) c.deref-4.ensures.value;
-      order = AreInOrder-numbered labels found.homes.items found.firsts.items islands.items numbered
-          (omega (arith, islands.ok.0, filled.length, c.in_ok-put_nodes.ensures.length, c.in_ok-islands.ensures.length, c.len.ensures, found.firsts.ok.0)) nodes;
+      wires = λ k. filled.wires k ∙ ap (λ hs. island_wires hs (wires_of_links links) k) c.deref-4.ensures.value;
+      order = AreInOrder-numbered labels found.homes.items found.firsts.items islands.items numbered many nodes;
       lanes = c.in_ok-lanes.ensures ∙ ap (λ hs. lanes_from hs 0 (wires_of_links links)) c.deref-5.ensures.value;
     }

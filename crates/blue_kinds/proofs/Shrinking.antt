@@ -4,8 +4,8 @@ use Rattle.std.specs.Prelude.{codes, ◌&&◌}
 use Rattle.std.specs.Str.{bytes_eq}
 use Rattle.elem_core.specs.declared.why.Decider.TheVariants.{Stop}
 use Rattle.blue_words.specs.Reading.{At, Reading, at_map, both, made, with_second, then_read, place, word, count, behind_word, begins_with}
-use Rattle.blue_kinds.specs.Functions.{said_if, one_of, map_of, number_map, text_map, pred_of, number_pred, text_pred}
-use Rattle.blue_kinds.specs.Kinds.{linear_kind, making_kind, testing_kind, may_decide, decider_of, decider_word}
+use Rattle.blue_kinds.specs.Functions.{said_if, one_of, map_of, number_map, quotient_map, text_map, pred_of, number_pred, greater_pred, exact_pred, text_pred, whole_pred}
+use Rattle.blue_kinds.specs.Kinds.{linear_kind, bounded_kind, making_kind, folding_kind, testing_kind, while_kind, may_decide, decider_of, decider_word}
 use Rattle.blue_kinds.specs.Steps.{step_of}
 
 -- what is read leaves at most n words
@@ -59,8 +59,11 @@ shrinks-cons w ws r s = shrinks-le (length ws) (length (w ∷ ws)) r (omega arit
 text_map-shrinks : (w : List ℕ) (ws : List (List ℕ)) → Shrinks (length ws) (text_map w ws)
 text_map-shrinks w ws = search (shrinks-if, shrinks-made, shrinks-place, shrinks-said_if) depth 20
 
+quotient_map-shrinks : (w : List ℕ) (ws : List (List ℕ)) → Shrinks (length ws) (quotient_map w ws)
+quotient_map-shrinks w ws = search (shrinks-if, shrinks-made, shrinks-place, text_map-shrinks) depth 20
+
 number_map-shrinks : (w : List ℕ) (ws : List (List ℕ)) → Shrinks (length ws) (number_map w ws)
-number_map-shrinks w ws = search (shrinks-if, shrinks-made, shrinks-place, text_map-shrinks) depth 20
+number_map-shrinks w ws = search (shrinks-if, shrinks-made, shrinks-place, quotient_map-shrinks) depth 20
 
 map_of-shrinks : (ws : List (List ℕ)) → Shrinks (length ws) (map_of ws)
 map_of-shrinks [] = shrinks-none 0
@@ -69,25 +72,43 @@ map_of-shrinks (w ∷ ws) = shrinks-cons w ws (map_of (w ∷ ws)) (number_map-sh
 field_is-shrinks : (ws : List (List ℕ)) → Shrinks (length ws) (then_read (count ws) word)
 field_is-shrinks ws = shrinks-then (length ws) (count ws) word (shrinks-place _ ws) (λ vs. shrinks-place _ vs)
 
+whole_pred-shrinks : (w : List ℕ) (ws : List (List ℕ)) → Shrinks (length ws) (whole_pred w ws)
+whole_pred-shrinks w ws = search (shrinks-if, shrinks-made, shrinks-place, field_is-shrinks, shrinks-said_if) depth 20
+
 text_pred-shrinks : (w : List ℕ) (ws : List (List ℕ)) → Shrinks (length ws) (text_pred w ws)
-text_pred-shrinks w ws = search (shrinks-if, shrinks-made, shrinks-place, field_is-shrinks, shrinks-said_if) depth 20
+text_pred-shrinks w ws = search (shrinks-if, shrinks-made, shrinks-place, whole_pred-shrinks) depth 20
+
+exact_pred-shrinks : (w : List ℕ) (ws : List (List ℕ)) → Shrinks (length ws) (exact_pred w ws)
+exact_pred-shrinks w ws = search (shrinks-if, shrinks-made, shrinks-place, text_pred-shrinks) depth 20
+
+greater_pred-shrinks : (w : List ℕ) (ws : List (List ℕ)) → Shrinks (length ws) (greater_pred w ws)
+greater_pred-shrinks w ws = search (shrinks-if, shrinks-made, shrinks-place, exact_pred-shrinks) depth 20
 
 number_pred-shrinks : (w : List ℕ) (ws : List (List ℕ)) → Shrinks (length ws) (number_pred w ws)
-number_pred-shrinks w ws = search (shrinks-if, shrinks-made, shrinks-place, text_pred-shrinks) depth 20
+number_pred-shrinks w ws = search (shrinks-if, shrinks-made, shrinks-place, greater_pred-shrinks) depth 20
 
 pred_of-shrinks : (ws : List (List ℕ)) → Shrinks (length ws) (pred_of ws)
 pred_of-shrinks [] = shrinks-none 0
 pred_of-shrinks (w ∷ ws) = shrinks-cons w ws (pred_of (w ∷ ws)) (number_pred-shrinks w ws)
 
+while_kind-shrinks : (w : List ℕ) (ws : List (List ℕ)) → Shrinks (length ws) (while_kind w ws)
+while_kind-shrinks w ws = search (shrinks-if, shrinks-made, pred_of-shrinks, shrinks-none) depth 20
+
 testing_kind-shrinks : (w : List ℕ) (ws : List (List ℕ)) → Shrinks (length ws) (testing_kind w ws)
-testing_kind-shrinks w ws = search (shrinks-if, shrinks-made, pred_of-shrinks, shrinks-none) depth 20
+testing_kind-shrinks w ws = search (shrinks-if, shrinks-made, pred_of-shrinks, while_kind-shrinks) depth 20
+
+folding_kind-shrinks : (w : List ℕ) (ws : List (List ℕ)) → Shrinks (length ws) (folding_kind w ws)
+folding_kind-shrinks w ws = search (shrinks-if, shrinks-made, shrinks-one_of, testing_kind-shrinks) depth 20
 
 making_kind-shrinks : (w : List ℕ) (ws : List (List ℕ)) → Shrinks (length ws) (making_kind w ws)
 making_kind-shrinks w ws =
-    search (shrinks-if, shrinks-made, map_of-shrinks, shrinks-one_of, testing_kind-shrinks) depth 20
+    search (shrinks-if, shrinks-made, map_of-shrinks, shrinks-one_of, folding_kind-shrinks) depth 20
+
+bounded_kind-shrinks : (w : List ℕ) (ws : List (List ℕ)) → Shrinks (length ws) (bounded_kind w ws)
+bounded_kind-shrinks w ws = search (shrinks-if, shrinks-made, shrinks-place, making_kind-shrinks) depth 20
 
 linear_kind-shrinks : (w : List ℕ) (ws : List (List ℕ)) → Shrinks (length ws) (linear_kind w ws)
-linear_kind-shrinks w ws = search (shrinks-if, shrinks-made, shrinks-place, making_kind-shrinks) depth 20
+linear_kind-shrinks w ws = search (shrinks-if, shrinks-made, shrinks-place, bounded_kind-shrinks) depth 20
 
 behind_word-shrinks : {A : Type 0} (fixed : List ℕ) (next : List (List ℕ) → Reading A) → ((vs : List (List ℕ)) → Shrinks (length vs) (next vs)) → (ws : List (List ℕ)) → Shrinks (length ws) (behind_word fixed next ws)
 behind_word-shrinks fixed next s [] = shrinks-none 0

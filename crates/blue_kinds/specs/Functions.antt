@@ -42,14 +42,18 @@ text_map w ws =
     (if bytes_eq w (codes "prefix") then made f.Prefix (word ws) else
     (if bytes_eq w (codes "suffix") then made f.Suffix (word ws) else said_if (bare_map w) ws))
 
+-- the functions that divide
+abbrev pub quotient_map : List ℕ → List (List ℕ) → Reading MapFn
+quotient_map w ws =
+    if bytes_eq w (codes "div") then made f.Div (int ws) else
+    (if bytes_eq w (codes "rem") then made f.Rem (int ws) else
+    (if bytes_eq w (codes "div_into") then made f.DivInto (int ws) else text_map w ws))
+
 -- the functions with a number
 abbrev pub number_map : List ℕ → List (List ℕ) → Reading MapFn
 number_map w ws =
     if bytes_eq w (codes "add") then made f.Add (int ws) else
-    (if bytes_eq w (codes "mul") then made f.Mul (int ws) else
-    (if bytes_eq w (codes "div") then made f.Div (int ws) else
-    (if bytes_eq w (codes "rem") then made f.Rem (int ws) else
-    (if bytes_eq w (codes "div_into") then made f.DivInto (int ws) else text_map w ws))))
+    (if bytes_eq w (codes "mul") then made f.Mul (int ws) else quotient_map w ws)
 
 -- a function of one element
 abbrev pub map_of : List (List ℕ) → Reading MapFn
@@ -64,24 +68,36 @@ bare_pred w =
     (if bytes_eq w (codes "blank") then Some p.Blank else
     (if bytes_eq w (codes "numeric") then Some p.Numeric else None)))
 
+-- the predicates that compare with a text
+abbrev pub whole_pred : List ℕ → List (List ℕ) → Reading Pred
+whole_pred w ws =
+    if bytes_eq w (codes "is") then made p.Is (word ws) else
+    (if bytes_eq w (codes "field_is") then made (λ r. p.FieldIs r.0 r.1) (then_read (count ws) word) else
+    said_if (bare_pred w) ws)
+
 -- the predicates on texts that have a place
 abbrev pub text_pred : List ℕ → List (List ℕ) → Reading Pred
 text_pred w ws =
     if bytes_eq w (codes "has") then made p.Has (word ws) else
-    (if bytes_eq w (codes "starts") then made p.Starts (word ws) else
-    (if bytes_eq w (codes "is") then made p.Is (word ws) else
-    (if bytes_eq w (codes "field_is") then made (λ r. p.FieldIs r.0 r.1) (then_read (count ws) word) else
-    said_if (bare_pred w) ws)))
+    (if bytes_eq w (codes "starts") then made p.Starts (word ws) else whole_pred w ws)
+
+-- the predicates of one number, and of its multiples
+abbrev pub exact_pred : List ℕ → List (List ℕ) → Reading Pred
+exact_pred w ws =
+    if bytes_eq w (codes "eq") then made p.Eq (int ws) else
+    (if bytes_eq w (codes "multiple") then made p.Multiple (int ws) else text_pred w ws)
+
+-- the predicates of greater numbers
+abbrev pub greater_pred : List ℕ → List (List ℕ) → Reading Pred
+greater_pred w ws =
+    if bytes_eq w (codes "gt") then made p.Gt (int ws) else
+    (if bytes_eq w (codes "ge") then made p.Ge (int ws) else exact_pred w ws)
 
 -- the predicates with a number
 abbrev pub number_pred : List ℕ → List (List ℕ) → Reading Pred
 number_pred w ws =
     if bytes_eq w (codes "lt") then made p.Lt (int ws) else
-    (if bytes_eq w (codes "le") then made p.Le (int ws) else
-    (if bytes_eq w (codes "gt") then made p.Gt (int ws) else
-    (if bytes_eq w (codes "ge") then made p.Ge (int ws) else
-    (if bytes_eq w (codes "eq") then made p.Eq (int ws) else
-    (if bytes_eq w (codes "multiple") then made p.Multiple (int ws) else text_pred w ws)))))
+    (if bytes_eq w (codes "le") then made p.Le (int ws) else greater_pred w ws)
 
 -- a predicate
 abbrev pub pred_of : List (List ℕ) → Reading Pred

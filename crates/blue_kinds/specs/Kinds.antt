@@ -55,47 +55,67 @@ sink_kind w ws =
     (if bytes_eq w (codes "last") then made k.Last (file ws) else
     (if bytes_eq w (codes "ignore") then said k.Ignore ws else None)))
 
+-- stages of a chain that test elements up to the first that misses
+abbrev pub while_kind : List ℕ → List (List ℕ) → Reading Kind
+while_kind w ws =
+    if bytes_eq w (codes "take_while") then made k.TakeWhile (pred_of ws) else
+    (if bytes_eq w (codes "drop_while") then made k.DropWhile (pred_of ws) else None)
+
 -- stages of a chain that test elements
 abbrev pub testing_kind : List ℕ → List (List ℕ) → Reading Kind
 testing_kind w ws =
     if bytes_eq w (codes "filter") then made k.Filter (pred_of ws) else
-    (if bytes_eq w (codes "filter_not") then made k.FilterNot (pred_of ws) else
-    (if bytes_eq w (codes "take_while") then made k.TakeWhile (pred_of ws) else
-    (if bytes_eq w (codes "drop_while") then made k.DropWhile (pred_of ws) else None)))
+    (if bytes_eq w (codes "filter_not") then made k.FilterNot (pred_of ws) else while_kind w ws)
+
+-- stages of a chain that gather elements
+abbrev pub folding_kind : List ℕ → List (List ℕ) → Reading Kind
+folding_kind w ws =
+    if bytes_eq w (codes "fold") then made k.Fold (one_of fold_word ws) else
+    (if bytes_eq w (codes "scan") then made k.Scan (one_of fold_word ws) else
+    (if bytes_eq w (codes "reduce") then made k.Reduce (one_of reduce_word ws) else testing_kind w ws))
 
 -- stages of a chain that make elements of elements
 abbrev pub making_kind : List ℕ → List (List ℕ) → Reading Kind
 making_kind w ws =
     if bytes_eq w (codes "map") then made k.Map (map_of ws) else
-    (if bytes_eq w (codes "map_concat") then made k.MapConcat (one_of expand_word ws) else
-    (if bytes_eq w (codes "fold") then made k.Fold (one_of fold_word ws) else
-    (if bytes_eq w (codes "scan") then made k.Scan (one_of fold_word ws) else
-    (if bytes_eq w (codes "reduce") then made k.Reduce (one_of reduce_word ws) else testing_kind w ws))))
+    (if bytes_eq w (codes "map_concat") then made k.MapConcat (one_of expand_word ws) else folding_kind w ws)
+
+-- stages of a chain with a bound that they do not pass
+abbrev pub bounded_kind : List ℕ → List (List ℕ) → Reading Kind
+bounded_kind w ws =
+    if bytes_eq w (codes "limit") then made k.Limit (count ws) else
+    (if bytes_eq w (codes "grouped") then made k.Grouped (size ws) else making_kind w ws)
 
 -- stages of a chain: those that count elements, and the others
 abbrev pub linear_kind : List ℕ → List (List ℕ) → Reading Kind
 linear_kind w ws =
     if bytes_eq w (codes "take") then made k.Take (count ws) else
-    (if bytes_eq w (codes "drop") then made k.Drop (count ws) else
-    (if bytes_eq w (codes "limit") then made k.Limit (count ws) else
-    (if bytes_eq w (codes "grouped") then made k.Grouped (size ws) else making_kind w ws)))
+    (if bytes_eq w (codes "drop") then made k.Drop (count ws) else bounded_kind w ws)
+
+-- stages that part their elements among their outputs
+abbrev pub parting_kind : List ℕ → List (List ℕ) → Reading Kind
+parting_kind w ws =
+    if bytes_eq w (codes "partition") then made (λ r. k.Partition r.0 r.1) (then_read (size ws) map_of) else
+    (if bytes_eq w (codes "unzip") then said k.Unzip ws else linear_kind w ws)
 
 -- stages with several outputs
 abbrev pub fan_out_kind : List ℕ → List (List ℕ) → Reading Kind
 fan_out_kind w ws =
     if bytes_eq w (codes "broadcast") then made k.Broadcast (size ws) else
-    (if bytes_eq w (codes "balance") then made k.Balance (size ws) else
-    (if bytes_eq w (codes "partition") then made (λ r. k.Partition r.0 r.1) (then_read (size ws) map_of) else
-    (if bytes_eq w (codes "unzip") then said k.Unzip ws else linear_kind w ws)))
+    (if bytes_eq w (codes "balance") then made k.Balance (size ws) else parting_kind w ws)
+
+-- stages that take from their inputs by turns or in step
+abbrev pub turning_kind : List ℕ → List (List ℕ) → Reading Kind
+turning_kind w ws =
+    if bytes_eq w (codes "interleave") then made (λ r. k.Interleave r.0 r.1) (then_read (size ws) size) else
+    (if bytes_eq w (codes "merge_sorted") then said k.MergeSorted ws else
+    (if bytes_eq w (codes "zip") then said k.Zip ws else fan_out_kind w ws))
 
 -- stages with several inputs
 abbrev pub fan_in_kind : List ℕ → List (List ℕ) → Reading Kind
 fan_in_kind w ws =
     if bytes_eq w (codes "merge") then made k.Merge (size ws) else
-    (if bytes_eq w (codes "concat") then made k.Concat (size ws) else
-    (if bytes_eq w (codes "interleave") then made (λ r. k.Interleave r.0 r.1) (then_read (size ws) size) else
-    (if bytes_eq w (codes "merge_sorted") then said k.MergeSorted ws else
-    (if bytes_eq w (codes "zip") then said k.Zip ws else fan_out_kind w ws))))
+    (if bytes_eq w (codes "concat") then made k.Concat (size ws) else turning_kind w ws)
 
 -- the chain behind `each`
 abbrev pub each_chain : List (List ℕ) → Reading (List ℕ)

@@ -4,7 +4,7 @@ ghost use Rattle.blue_words.specs.Reading.{Reads};
 ghost use Rattle.blue_words.specs.Reading.{made, then_read, size};
 ghost use Rattle.stream_model.specs.declared.kind.Kind.TheVariants.{Partition, Interleave};
 ghost use Rattle.blue_kinds.specs.Functions.{map_of};
-ghost use Rattle.blue_kinds.specs.Kinds.{fan_out_kind, fan_in_kind};
+ghost use Rattle.blue_kinds.specs.Kinds.{parting_kind, fan_out_kind, turning_kind, fan_in_kind};
 
 use crate::functions::read_map;
 use crate::kinds::read_linear;
@@ -28,6 +28,13 @@ pub(crate) fn read_fan_in(
     if is_word(word, b"concat") {
         return Ok(words.size()?.map(Kind::Concat));
     }
+    read_turning(alloc, word, words)
+}
+
+// The stages that take from their inputs by turns or in step.
+fn read_turning(alloc: Global, word: &[u8], words: &mut Words) -> Result<Place<Kind>, LineEnd>
+    ensures { Reads result (turning_kind word.now words.old) words.new }
+{
     if is_word(word, b"interleave") {
         return read_interleave(words);
     }
@@ -58,6 +65,13 @@ fn read_fan_out(alloc: Global, word: &[u8], words: &mut Words) -> Result<Place<K
     if is_word(word, b"balance") {
         return Ok(words.size()?.map(Kind::Balance));
     }
+    read_parting(alloc, word, words)
+}
+
+// The stages that part their elements among their outputs.
+fn read_parting(alloc: Global, word: &[u8], words: &mut Words) -> Result<Place<Kind>, LineEnd>
+    ensures { Reads result (parting_kind word.now words.old) words.new }
+{
     if is_word(word, b"partition") {
         return read_partition(alloc, words);
     }

@@ -1,7 +1,7 @@
 // The functions of map, of keys and of partitions.
 ghost use Rattle.std.specs.Prelude.{◌≡◌};
 ghost use Rattle.blue_words.specs.Reading.{Reads};
-ghost use Rattle.blue_kinds.specs.Functions.{map_of, number_map, text_map, bare_map};
+ghost use Rattle.blue_kinds.specs.Functions.{map_of, number_map, quotient_map, text_map, bare_map};
 
 use crate::folds::said;
 use blue_words::fault::{LineEnd, Place};
@@ -29,6 +29,13 @@ fn read_number_map(alloc: Global, word: &[u8], words: &mut Words) -> Result<Plac
     if is_word(word, b"mul") {
         return Ok(words.int()?.map(MapFn::Mul));
     }
+    read_quotient_map(alloc, word, words)
+}
+
+// The functions that divide.
+fn read_quotient_map(alloc: Global, word: &[u8], words: &mut Words) -> Result<Place<MapFn>, LineEnd>
+    ensures { Reads result (quotient_map word.now words.old) words.new }
+{
     if is_word(word, b"div") {
         return Ok(words.int()?.map(MapFn::Div));
     }

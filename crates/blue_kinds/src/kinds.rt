@@ -4,7 +4,7 @@ ghost use Rattle.blue_words.specs.Reading.{Reads};
 ghost use Rattle.blue_words.specs.Reading.{made, then_read, int};
 ghost use Rattle.stream_model.specs.declared.kind.Kind.TheVariants.{Range};
 ghost use Rattle.blue_kinds.specs.Functions.{one_of};
-ghost use Rattle.blue_kinds.specs.Kinds.{base_word, source_kind, sink_kind, testing_kind, making_kind, linear_kind};
+ghost use Rattle.blue_kinds.specs.Kinds.{base_word, source_kind, sink_kind, while_kind, testing_kind, folding_kind, making_kind, bounded_kind, linear_kind};
 
 use crate::folds::{read_expand, read_fold, read_reduce, said};
 use crate::functions::read_map;
@@ -98,6 +98,13 @@ pub(crate) fn read_linear(
     if is_word(word, b"drop") {
         return Ok(words.count()?.map(Kind::Drop));
     }
+    read_bounded(alloc, word, words)
+}
+
+// The stages with a bound that they do not pass.
+fn read_bounded(alloc: Global, word: &[u8], words: &mut Words) -> Result<Place<Kind>, LineEnd>
+    ensures { Reads result (bounded_kind word.now words.old) words.new }
+{
     if is_word(word, b"limit") {
         return Ok(words.count()?.map(Kind::Limit));
     }
@@ -117,6 +124,13 @@ fn read_making(alloc: Global, word: &[u8], words: &mut Words) -> Result<Place<Ki
     if is_word(word, b"map_concat") {
         return Ok(read_expand(words)?.map(Kind::MapConcat));
     }
+    read_folding(alloc, word, words)
+}
+
+// The stages that gather elements, and then those that test them.
+fn read_folding(alloc: Global, word: &[u8], words: &mut Words) -> Result<Place<Kind>, LineEnd>
+    ensures { Reads result (folding_kind word.now words.old) words.new }
+{
     if is_word(word, b"fold") {
         return Ok(read_fold(words)?.map(Kind::Fold));
     }
@@ -139,6 +153,13 @@ fn read_testing(alloc: Global, word: &[u8], words: &mut Words) -> Result<Place<K
     if is_word(word, b"filter_not") {
         return Ok(read_pred(alloc, words)?.map(Kind::FilterNot));
     }
+    read_while(alloc, word, words)
+}
+
+// The stages that test elements up to the first that misses.
+fn read_while(alloc: Global, word: &[u8], words: &mut Words) -> Result<Place<Kind>, LineEnd>
+    ensures { Reads result (while_kind word.now words.old) words.new }
+{
     if is_word(word, b"take_while") {
         return Ok(read_pred(alloc, words)?.map(Kind::TakeWhile));
     }

@@ -2,7 +2,7 @@
 ghost use Rattle.std.specs.Prelude.{◌≡◌};
 ghost use Rattle.blue_words.specs.Reading.{Reads, made, then_read, word, count};
 ghost use Rattle.elem_core.specs.declared.function.Pred.TheVariants.{FieldIs};
-ghost use Rattle.blue_kinds.specs.Functions.{pred_of, number_pred, text_pred, bare_pred};
+ghost use Rattle.blue_kinds.specs.Functions.{pred_of, number_pred, greater_pred, exact_pred, text_pred, whole_pred, bare_pred};
 
 use crate::folds::said;
 use blue_words::fault::{LineEnd, Place};
@@ -31,12 +31,26 @@ fn read_number_pred(alloc: Global, word: &[u8], words: &mut Words) -> Result<Pla
     if is_word(word, b"le") {
         return Ok(words.int()?.map(Pred::Le));
     }
+    read_greater_pred(alloc, word, words)
+}
+
+// The predicates of greater numbers.
+fn read_greater_pred(alloc: Global, word: &[u8], words: &mut Words) -> Result<Place<Pred>, LineEnd>
+    ensures { Reads result (greater_pred word.now words.old) words.new }
+{
     if is_word(word, b"gt") {
         return Ok(words.int()?.map(Pred::Gt));
     }
     if is_word(word, b"ge") {
         return Ok(words.int()?.map(Pred::Ge));
     }
+    read_exact_pred(alloc, word, words)
+}
+
+// The predicates of one number, and of its multiples.
+fn read_exact_pred(alloc: Global, word: &[u8], words: &mut Words) -> Result<Place<Pred>, LineEnd>
+    ensures { Reads result (exact_pred word.now words.old) words.new }
+{
     if is_word(word, b"eq") {
         return Ok(words.int()?.map(Pred::Eq));
     }
@@ -56,6 +70,13 @@ fn read_text_pred(alloc: Global, word: &[u8], words: &mut Words) -> Result<Place
     if is_word(word, b"starts") {
         return Ok(words.word(alloc)?.map(Pred::Starts));
     }
+    read_whole_pred(alloc, word, words)
+}
+
+// The predicates that compare with a text, and those without a place.
+fn read_whole_pred(alloc: Global, word: &[u8], words: &mut Words) -> Result<Place<Pred>, LineEnd>
+    ensures { Reads result (whole_pred word.now words.old) words.new }
+{
     if is_word(word, b"is") {
         return Ok(words.word(alloc)?.map(Pred::Is));
     }

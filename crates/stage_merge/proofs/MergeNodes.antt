@@ -1,7 +1,6 @@
 -- A merge as a node: where it is open, how calls keep its law over its histories, and what it gave against its outlook.
 use Rattle.std.specs.Prelude.{replicate, slice_index_or}
-use Rattle.std.proofs.Common.{◌≡◌, ℕ, zero, suc, ◌+◌, ◌≤◌, Bool, true, false, List, [], ◌∷◌, ◌++◌, length, refl, sym, ap, ◌∙◌, subst, arith}
-use Rattle.elem_core.specs.Tree.{Tree}
+use Rattle.std.proofs.Common.{◌≡◌, ℕ, zero, suc, ◌≤◌, Bool, true, false, List, [], ◌∷◌, length, refl, sym, ap, ◌∙◌, subst, arith}
 use Rattle.elem_core.specs.declared.item.Item.{Item}
 use Rattle.elem_core.specs.declared.why.Decider.{Decider}
 use Rattle.port_core.specs.declared.act.Act.{Act}
@@ -11,10 +10,11 @@ use Rattle.port_core.specs.declared.view.OutView.TheVariants.{Unasked, Shut}
 use Rattle.port_core.specs.View.{View, ActsAllowed, acted_all}
 use Rattle.port_core.specs.Call.{Call, starts, CallAllowed, seen, Obeys, given_on}
 use Rattle.stream_model.specs.declared.kind.Kind.TheVariants.{Merge}
+use Rattle.stream_model.specs.declared.kind.TheConstants.{MAX_FAN}
 use Rattle.stream_model.specs.Graph.{Graph}
 use Rattle.stream_model.specs.Node.{World, node_outlook}
-use Rattle.stream_model.specs.Outlook.{Outlook, End, unended, Agrees}
-use Rattle.stream_model.specs.FanIn.{Inflow, AllAgree}
+use Rattle.stream_model.specs.Outlook.{Outlook, unended, Agrees}
+use Rattle.stream_model.specs.FanIn.{AllAgree}
 use Rattle.stream_model.specs.Picks.{merge_fits, merge_outlook, MergeStands}
 use Rattle.stream_model.proofs.Agreeing.{merge_moves_fit}
 use Rattle.stream_model.proofs.MergeTraces.{merge_trace}
@@ -23,7 +23,7 @@ use Rattle.stage_core.specs.Handling.{most_acts, Starts, Handles}
 use Rattle.stage_core.specs.Histories.{given_all, brought_by, AllEmpty}
 use Rattle.stage_law.specs.Law.{GaveAs}
 use Rattle.stage_law.specs.Inflows.{PortsLaw, untouched}
-use Rattle.stage_law.specs.Merges.{MergeHeld, waits, shut, MergeTurnAt, MergeKeeps, moves_of}
+use Rattle.stage_law.specs.Merges.{waits, MergeTurnAt, MergeKeeps, moves_of}
 use Rattle.stage_law.proofs.MergeTurns.{merge_call, merge_new, merge_history_stands}
 use Rattle.stage_fans.specs.declared.phase.Phase.{Phase}
 use Rattle.stage_fans.specs.declared.phase.Phase.TheVariants.{New, Open, Closed}
@@ -32,8 +32,7 @@ use Rattle.stage_fans.specs.OwnRows.{FanRests}
 use Rattle.stage_fans.specs.PortsLaws.{InPortsLaw}
 use Rattle.stage_fans.proofs.Closings.{none_called}
 use Rattle.stage_fans.proofs.Histories.{in_node, ins_seen, ins_acted, begun}
-use Rattle.stage_merge.specs.declared.merging.Queued.{Queued}
-use Rattle.stage_merge.specs.Mergings.{Core, Merging, Begins, Turned, Sound, Fresh, of_port, place, places, idles, waiting, new_view, row_by, row, held_by, held, MergeFresh, MergeRow, MergesAs, unasked_ports}
+use Rattle.stage_merge.specs.Mergings.{Core, Merging, Begins, Turned, Fresh, idles, waiting, row_by, row, held_by, held, MergeFresh, MergeRow, MergesAs, unasked_ports}
 use Rattle.stage_merge.proofs.MergeRests.{merge_rests, new_row, none_waits}
 
 -- ---- where it is called
@@ -110,7 +109,7 @@ idles_are : (k : ℕ) → idles (replicate k false) ≡ replicate k Idle
 idles_are zero = refl
 idles_are (suc k) = ap (λ (xs : List InView). Idle ∷ xs) (idles_are k)
 
-pub new_may_start : (inputs : ℕ) (l : Merging) → 2 ≤ inputs → inputs ≤ 16 → Begins inputs l → MergeFresh l (unasked_ports inputs)
+pub new_may_start : (inputs : ℕ) (l : Merging) → 2 ≤ inputs → inputs ≤ MAX_FAN → Begins inputs l → MergeFresh l (unasked_ports inputs)
 new_may_start k l two few b = record {
   fresh = ap (λ (c : Core). c.phase) b.core;
   unmoved = b.moves;

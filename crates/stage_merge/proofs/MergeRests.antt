@@ -1,24 +1,21 @@
 -- A merge that was started has nothing to do over its own ports; a new one may be started.
-use Rattle.std.specs.Prelude.{◌≢◌, ◌⊎◌, replicate, slice_get}
-use Rattle.std.proofs.Common.{◌≡◌, ℕ, zero, suc, ◌+◌, ◌≤◌, ◌<◌, inl, inr, Bool, true, false, List, [], ◌∷◌, length, refl, sym, ap, ◌∙◌, subst, arith, Some}
+use Rattle.std.specs.Prelude.{◌≢◌, ◌⊎◌, replicate}
+use Rattle.std.proofs.Common.{◌≡◌, ℕ, zero, suc, ◌+◌, ◌≤◌, inl, inr, Bool, true, false, List, [], ◌∷◌, length, refl, sym, ap, ◌∙◌, subst, arith}
 use Rattle.std.proofs.lemmas.List.{length-replicate}
 use Rattle.elem_core.specs.Tree.{Tree}
-use Rattle.port_core.specs.declared.view.InView.{InView}
-use Rattle.port_core.specs.declared.view.OutView.TheVariants.{Unasked, Asked}
+use Rattle.port_core.specs.declared.view.OutView.TheVariants.{Unasked}
 use Rattle.port_core.specs.View as port
-use Rattle.port_core.specs.Call.{Meets, starts, AllIdle}
 use Rattle.stream_model.specs.FanIn.{Inflow}
-use Rattle.stream_picture.specs.View.{View, EachWire, SomeWire}
-use Rattle.stream_picture.specs.Rests.{IsShut, Waits, IsAsked, IsUnasked, WaitsIdlesOrShut, MergeRests}
+use Rattle.stream_picture.specs.View.{EachWire, SomeWire}
+use Rattle.stream_picture.specs.Rests.{IsShut, Waits, WaitsIdlesOrShut, MergeRests}
 use Rattle.stage_law.specs.Inflows.{nothing, untouched}
-use Rattle.stage_law.specs.Merges.{MergeHeld, waits}
 use Rattle.stage_law.specs.OwnPorts.{own_input, own_output}
 use Rattle.stage_fans.specs.declared.phase.Phase.{Phase}
 use Rattle.stage_fans.specs.declared.phase.Phase.TheVariants.{New, Open, Closed}
 use Rattle.stage_merge.specs.declared.merging.Queued.{Queued}
-use Rattle.stage_fans.specs.Seats.{wish, FanClosed}
-use Rattle.stage_fans.specs.OwnRows.{own_inputs, own_outputs, FanRests}
-use Rattle.stage_merge.specs.Mergings.{Core, Merging, Begins, of_port, place, places, idles, waiting, open_count, PortsThere, view_of, Sound, Fresh, row_by, row, held_by, held}
+use Rattle.stage_fans.specs.Seats.{wish}
+use Rattle.stage_fans.specs.OwnRows.{own_inputs, FanRests}
+use Rattle.stage_merge.specs.Mergings.{Core, Merging, Begins, of_port, place, places, idles, waiting, open_count, Sound, Fresh, row_by, row}
 use Rattle.stage_fans.proofs.Closings.{closed_rests}
 
 place_any : (b : Bool) (l u : List Tree) → WaitsIdlesOrShut (own_input (place b l) u)

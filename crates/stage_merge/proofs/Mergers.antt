@@ -1,6 +1,6 @@
 -- What the handlers of a merge do keeps its row, and is a turn of its law by its moves.
-use Rattle.std.specs.Prelude.{◌==◌, ◌-◌, ◌≢◌, replicate, if◌then◌else◌, slice_get, slice_set, slice_index_or}
-use Rattle.std.proofs.Common.{◌≡◌, ℕ, zero, suc, ◌+◌, ◌≤◌, ◌<◌, Bool, true, false, IsTrue, inl, inr, List, [], ◌∷◌, ◌++◌, length, map, refl, sym, ap, ◌∙◌, subst, arith, append-nil, append_assoc, length-append, Some}
+use Rattle.std.specs.Prelude.{◌-◌, replicate, slice_get, slice_set, slice_index_or}
+use Rattle.std.proofs.Common.{◌≡◌, ℕ, zero, suc, ◌+◌, ◌≤◌, ◌<◌, Bool, true, false, IsTrue, List, [], ◌∷◌, ◌++◌, length, map, refl, sym, ap, ◌∙◌, subst, arith, append-nil, append_assoc, length-append, Some}
 use Rattle.std.proofs.lemmas.List.{length-set}
 use Rattle.std.proofs.lemmas.Option.{slice_get_within}
 use Rattle.elem_core.specs.Tree.{Tree}
@@ -14,21 +14,19 @@ use Rattle.port_core.specs.declared.view.InView.{InView}
 use Rattle.port_core.specs.declared.view.InView.TheVariants.{Idle, Waiting, Over, Left}
 use Rattle.port_core.specs.declared.view.OutView.{OutView}
 use Rattle.port_core.specs.declared.view.OutView.TheVariants.{Unasked, Asked, Shut, Refused}
-use Rattle.port_core.specs.View.{View, in_at, IsInOpen, IsOutOpen, ActsAllowed, acted, acted_all}
+use Rattle.port_core.specs.View.{View, in_at, IsInOpen, ActsAllowed, acted, acted_all}
 use Rattle.port_core.specs.Asking.{AsksStand, NoCancel}
 use Rattle.port_core.specs.Call.{Call, starts, asks, brings, cancels, CallAllowed, seen, Obeys, Meets, given_on}
-use Rattle.stream_model.specs.Outlook.{unended, ended, failed}
 use Rattle.stream_model.specs.FanIn.{Inflow, flow}
-use Rattle.stream_model.specs.Picks.{used_up, FailsWithin}
-use Rattle.stage_law.specs.Inflows.{nothing, joined_all, coming}
-use Rattle.stage_law.specs.Merges.{MergeHeld, waits, shut, Merged, MergeTurn, MergeClose, completes, fails, MergeTurnAt}
+use Rattle.stream_model.specs.Picks.{used_up}
+use Rattle.stage_law.specs.Inflows.{joined_all, coming}
+use Rattle.stage_law.specs.Merges.{MergeHeld, waits, shut, MergeTurn, MergeClose, completes, fails, MergeTurnAt}
 use Rattle.stage_law.proofs.Inflows.{joined_all-nothing}
 use Rattle.stage_fans.specs.declared.phase.Phase.{Phase}
 use Rattle.stage_fans.specs.declared.phase.Phase.TheVariants.{New, Open, Closed}
 use Rattle.stage_merge.specs.declared.merging.Queued.{Queued}
 use Rattle.stage_fans.specs.Seats.{wish, open_cancels, InsClosed, OneClosed, FanClosed}
 use Rattle.stage_merge.specs.Mergings.{Core, Merging, of_port, waiting, place, places, idles, pulls, open_count, PortsThere, view_of, new_view, Sound, Fresh, row_by, row, held_by, held, Turned, Does, Ends, done, opens, more, Again, over, still, HandedOn, Gave, first, none, Took, passed, stored, without, Ended, FirstOut, LastIn}
-use Rattle.stage_fans.proofs.Flags.{set_here, set_other}
 use Rattle.stage_fans.proofs.Closings.{open_wish, unasked_wish, Cancels, set_behind, at_behind, ins_append, cancels_give, cancels_stand}
 use Rattle.stage_merge.proofs.Fewer.{fewer}
 use Rattle.stage_merge.proofs.Merges.{queued, AllOver, out_merged, none_merged, used_none, used_one, ended_place, open_place, over_closed, came_now, ended_now, stored_now, released_now, idle_now, gone_now, failed_now, none_now, here_now, only_head, tail_once, stored_once, there_stored, there_by, one_less, none_open}

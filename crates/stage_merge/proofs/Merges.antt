@@ -1,22 +1,20 @@
 -- What the handlers of a merge do keeps its row, and is a turn of its law by its moves.
-use Rattle.std.specs.Prelude.{◌==◌, ◌-◌, replicate, if◌then◌else◌, slice_get, slice_set, slice_index_or}
-use Rattle.std.proofs.Common.{◌≡◌, ℕ, zero, suc, ◌+◌, ◌≤◌, ◌<◌, Bool, true, false, IsTrue, inl, inr, List, [], ◌∷◌, ◌++◌, length, map, refl, sym, ap, ◌∙◌, subst, arith, append-nil, append_assoc, length-append, Some}
+use Rattle.std.specs.Prelude.{◌==◌, if◌then◌else◌, slice_get, slice_set, slice_index_or}
+use Rattle.std.proofs.Common.{◌≡◌, ℕ, zero, suc, ◌+◌, ◌≤◌, ◌<◌, Bool, true, false, IsTrue, inl, inr, List, [], ◌∷◌, ◌++◌, length, map, refl, sym, ap, ◌∙◌, subst, arith, append-nil, Some}
 use Rattle.std.proofs.lemmas.Bool.Decides.{nat_tests}
-use Rattle.std.proofs.lemmas.Option.{slice_get_within}
 use Rattle.elem_core.specs.Tree.{Tree}
 use Rattle.elem_core.specs.declared.why.Cause.{Cause}
-use Rattle.elem_core.specs.declared.item.Item.{Item}
 use Rattle.elem_core.specs.declared.item.Item.TheVariants as item
 use Rattle.port_core.specs.declared.view.InView.{InView}
 use Rattle.port_core.specs.declared.view.InView.TheVariants.{Idle, Waiting, Over, Left}
 use Rattle.port_core.specs.View.{IsInOpen}
 use Rattle.port_core.specs.Call.{brings}
-use Rattle.stream_model.specs.Outlook.{unended, ended, failed}
+use Rattle.stream_model.specs.Outlook.{ended}
 use Rattle.stream_model.specs.FanIn.{Inflow, flow}
 use Rattle.stream_model.specs.Picks.{used_up, FailsWithin}
-use Rattle.stage_law.specs.Inflows.{nothing, flow_of, joined, joined_all, coming}
+use Rattle.stage_law.specs.Inflows.{joined_all, coming}
 use Rattle.stage_law.specs.Merges.{SameEnds, Merged, lists_of}
-use Rattle.stage_law.proofs.Inflows.{joined_all-nothing, joined-nothing}
+use Rattle.stage_law.proofs.Inflows.{joined-nothing}
 use Rattle.stage_merge.specs.declared.merging.Queued.{Queued}
 use Rattle.stage_fans.specs.Seats.{end_by, InsClosed}
 use Rattle.stage_merge.specs.Mergings.{of_port, waiting, place, places, open_count, PortsThere}

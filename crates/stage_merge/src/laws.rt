@@ -6,6 +6,7 @@ ghost use Rattle.port_core.specs.declared.act.Act.{Act};
 ghost use Rattle.port_core.specs.View.{View};
 ghost use Rattle.port_core.specs.Call.{Call, starts, CallAllowed, Obeys};
 ghost use Rattle.stream_model.specs.declared.kind.Kind.TheVariants.{Merge};
+ghost use Rattle.stream_model.specs.declared.kind.TheConstants.{MAX_FAN};
 ghost use Rattle.stream_model.specs.Graph.{Graph};
 ghost use Rattle.stream_model.specs.Node.{World, node_outlook};
 ghost use Rattle.stream_model.specs.Outlook.{Outlook, Agrees};
@@ -18,9 +19,9 @@ ghost use Rattle.stage_fans.specs.OwnRows.{FanRests};
 ghost use Rattle.stage_fans.specs.declared.phase.Phase.TheVariants.{New, Open};
 ghost use Rattle.stage_merge.specs.Mergings.{Merging, Begins, Turned, row, MergeFresh, MergeRow, MergesAs, unasked_ports};
 
-/// A new merge of 2 to 16 inputs may be started, made no move, and knows that no port was asked.
+/// A new merge of 2 to `MAX_FAN` inputs may be started, made no move, and knows that no port was asked.
 pub fn a_new_merge_may_start()
-    ensures { (inputs : ℕ) (l : Merging) → 2 ≤ inputs → inputs ≤ 16 → Begins inputs l → MergeFresh l (unasked_ports inputs) }
+    ensures { (inputs : ℕ) (l : Merging) → 2 ≤ inputs → inputs ≤ MAX_FAN → Begins inputs l → MergeFresh l (unasked_ports inputs) }
 {}
 
 /// Where its row and its law hold, a merge that was started has closed all its ports, or has nothing to do.

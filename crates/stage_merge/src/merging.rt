@@ -2,6 +2,7 @@ ghost use Rattle.std.specs.Prelude.{◌≡◌, ◌≢◌, ◌≤◌, ◌<◌, �
 ghost use Rattle.elem_core.specs.declared.item.Item.TheVariants as item;
 ghost use Rattle.port_core.specs.declared.act.Act.TheVariants as act;
 ghost use Rattle.port_core.specs.Call.{Obeys, Meets, starts, asks, brings, cancels};
+ghost use Rattle.stream_model.specs.declared.kind.TheConstants.{MAX_FAN};
 ghost use Rattle.stage_fans.specs.declared.phase.Phase.TheVariants.{New, Open, Closed};
 ghost use Rattle.stage_fans.specs.Seats.{open_cancels, room_for};
 ghost use Rattle.stage_merge.specs.Mergings.{row, Turned, FirstOut, LastIn, Begins, Does, Gave, HandedOn, Took, Ends, Again, Ended, without, pulls, PortsThere, open_count};
@@ -54,9 +55,9 @@ impl Model for Merging {
 }
 
 impl Merging {
-    /// A merge of so many inputs, with room for an element of each.
+    /// A merge of 2 to `MAX_FAN` inputs. It takes memory for a flag and an element of each.
     pub fn new(alloc: Global, inputs: u32) -> Result<Merging, NoMemory>
-        requires fan { (2 ≤ inputs) × (inputs ≤ 16) }
+        requires fan { (2 ≤ inputs) × (inputs ≤ MAX_FAN) }
         ensures { IfOk result (Begins inputs) }
     {
         let mut over = Vec::with_capacity(alloc, inputs as usize)?;

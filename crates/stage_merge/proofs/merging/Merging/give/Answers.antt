@@ -1,5 +1,5 @@
 use Rattle.std.proofs.Common.{subst}
-use Rattle.stage_merge.specs.Mergings.{Gave, first, HandedOn}
+use Rattle.stage_merge.specs.Mergings.{first, HandedOn}
 use Rattle.stage_merge.proofs.merging.Merging.give.Goals as goal
 
 pub returns-in-Some-clause-gave : goal.returns-in-Some-clause-gave

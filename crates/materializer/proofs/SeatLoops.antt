@@ -1,5 +1,5 @@
 -- The places of an island, one after another.
-use Rattle.std.proofs.Common.{◌≡◌, ℕ, suc, ◌+◌, ◌≤◌, Bool, true, List, [], ◌∷◌, ◌++◌, length, Option, Some, None, sym, ap, ◌∙◌, subst, arith, append_assoc, append-nil, length-append}
+use Rattle.std.proofs.Common.{◌≡◌, ℕ, suc, ◌+◌, ◌≤◌, Bool, true, List, [], ◌∷◌, ◌++◌, length, Option, Some, None, refl, sym, ap, ◌∙◌, subst, arith, append_assoc, append-nil, length-append}
 use Rattle.std.specs.Prelude.{option_to_list}
 use Rattle.std.specs.List.{list_all, cons_option}
 use Rattle.std.proofs.lemmas.Bool.{and_parts}
@@ -11,6 +11,15 @@ use Rattle.materializer.specs.Seats.{handles_left, IsWork, AreSeats}
 -- a node of those that are left has been built, and so have those behind it
 pub all_next : (test : Node → Bool) (n : Node) (old rest : List Node) → old ≡ n ∷ rest → list_all test old ≡ true → (test n ≡ true) × (list_all test rest ≡ true)
 all_next test n old rest e h = and_parts (test n) (list_all test rest) (sym (ap (list_all test) e) ∙ h)
+
+-- a node without a file takes no handle
+pub none_left_out : {X : Type 0} (o : Option (List ℕ)) (xs : List X) → o ≡ None → xs ≡ handles_left o xs
+none_left_out None xs e = refl
+none_left_out (Some file) xs e = cc
+
+pub none_counted : (o : Option (List ℕ)) (n : ℕ) → o ≡ None → n ≡ n + length (option_to_list o)
+none_counted None n e = omega arith
+none_counted (Some file) n e = cc
 
 -- there is a handle for a node that takes one
 pub enough : (o : Option (List ℕ)) (names later : List (List ℕ)) (a : ℕ) → names ≡ cons_option o later → a ≡ length names → length (option_to_list o) ≤ a

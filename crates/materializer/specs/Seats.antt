@@ -1,5 +1,6 @@
 -- The parts of the island of a blueprint: which place each node gets, and the link of each wire.
 use Rattle.std.specs.Prelude.{◌≡◌, ℕ, ◌+◌, List, [], ◌∷◌, slice_get, Option, Some, None, ⊤}
+use Rattle.elem_core.specs.declared.why.Decider.{Decider}
 use Rattle.stream_model.specs.declared.kind.Kind.{Kind}
 use Rattle.stream_model.specs.declared.kind.Kind.TheVariants.{Ignore}
 use Rattle.stream_model.specs.Composed.{inputs_of}
@@ -39,31 +40,31 @@ pub record ReadsNext {S : Type 0} (n : Node) (sources : List S) (r : Reading S) 
   pub kept : r.kept ≡ []
 
 -- a linear stage is at its start
-pub record Stages (k : ℕ) (n : Node) (l : Logic) : Type 0 where
-  pub is_linear : IsLinear n.kind
-  pub begins : Begins k n.kind n.decider l
+pub record Stages (k : ℕ) (kind : Kind) (d : Decider) (l : Logic) : Type 0 where
+  pub is_linear : IsLinear kind
+  pub begins : Begins k kind d l
 
 -- a stage with state is at its start
-pub record StagesState (k : ℕ) (n : Node) (l : state.Logic) : Type 0 where
-  pub is_state : state.IsStateful n.kind
-  pub begins : state.Begins k n.kind n.decider l
+pub record StagesState (k : ℕ) (kind : Kind) (d : Decider) (l : state.Logic) : Type 0 where
+  pub is_state : state.IsStateful kind
+  pub begins : state.Begins k kind d l
 
 -- a stage with several inputs is at its start, and has so many
-pub record StagesIn (k : ℕ) (n : Node) (l : InLogic) (inputs : ℕ) : Type 0 where
-  pub is_in : IsFanIn n.kind
-  pub begins : fan_in.Begins k n.kind n.decider l
-  pub inputs_are : inputs ≡ inputs_of n.kind
+pub record StagesIn (k : ℕ) (kind : Kind) (d : Decider) (l : InLogic) (inputs : ℕ) : Type 0 where
+  pub is_in : IsFanIn kind
+  pub begins : fan_in.Begins k kind d l
+  pub inputs_are : inputs ≡ inputs_of kind
 
 -- a stage with several outputs is at its start, and has so many
-pub record StagesOut (k : ℕ) (n : Node) (l : OutLogic) (outputs : ℕ) : Type 0 where
-  pub is_out : IsOut n.kind
-  pub begins : fan_out.Begins k n.kind l
-  pub outputs_are : outputs ≡ outputs_of n.kind
+pub record StagesOut (k : ℕ) (kind : Kind) (l : OutLogic) (outputs : ℕ) : Type 0 where
+  pub is_out : IsOut kind
+  pub begins : fan_out.Begins k kind l
+  pub outputs_are : outputs ≡ outputs_of kind
 
 -- a source without a file is of its kind
-pub record MakesAs (n : Node) (shape : Kind) : Type 0 where
-  pub shape_is : shape ≡ n.kind
-  pub is_maker : IsMaker n.kind
+pub record MakesAs (kind shape : Kind) : Type 0 where
+  pub shape_is : shape ≡ kind
+  pub is_maker : IsMaker kind
 
 -- a sink with a file writes the next of the drains
 pub record WritesNext {D : Type 0} (n : Node) (drains : List D) (shape : Kind) (drain : D) : Type 0 where
@@ -72,20 +73,25 @@ pub record WritesNext {D : Type 0} (n : Node) (drains : List D) (shape : Kind) (
   pub next : handle_of (output_of n.kind) drains ≡ Some drain
 
 -- a sink that keeps nothing has no drain
-pub record WritesNone (n : Node) (shape : Kind) : Type 0 where
-  pub shape_is : shape ≡ n.kind
-  pub is_ignore : n.kind ≡ Ignore
+pub record WritesNone (kind shape : Kind) : Type 0 where
+  pub shape_is : shape ≡ kind
+  pub is_ignore : kind ≡ Ignore
+
+-- the work of node k of this kind, which has no file
+abbrev pub IsFreeWork : {S D : Type 0} → ℕ → Kind → Decider → Work S D → Type 0
+IsFreeWork k kind d (work.Making shape) = MakesAs kind shape
+IsFreeWork k kind d (work.Linear l) = Stages k kind d l
+IsFreeWork k kind d (work.State l) = StagesState k kind d l
+IsFreeWork k kind d (work.FanIn l inputs) = StagesIn k kind d l inputs
+IsFreeWork k kind d (work.FanOut l outputs) = StagesOut k kind l outputs
+IsFreeWork k kind d (work.Writing shape None) = WritesNone kind shape
+IsFreeWork k kind d _ = ⊥
 
 -- the work of node k, where these sources and drains are left
 abbrev pub IsWork : {S D : Type 0} → ℕ → Node → List S → List D → Work S D → Type 0
 IsWork k n sources drains (work.Reading r) = ReadsNext n sources r
-IsWork k n sources drains (work.Making shape) = MakesAs n shape
-IsWork k n sources drains (work.Linear l) = Stages k n l
-IsWork k n sources drains (work.State l) = StagesState k n l
-IsWork k n sources drains (work.FanIn l inputs) = StagesIn k n l inputs
-IsWork k n sources drains (work.FanOut l outputs) = StagesOut k n l outputs
 IsWork k n sources drains (work.Writing shape (Some d)) = WritesNext n drains shape d
-IsWork k n sources drains (work.Writing shape None) = WritesNone n shape
+IsWork k n sources drains w = IsFreeWork k n.kind n.decider w
 
 -- these nodes, of which the first is node k, each at its place; in their order they take the sources and the drains
 abbrev pub AreSeats : {S D : Type 0} → ℕ → List Node → List S → List D → List (Seated S D) → Type 0

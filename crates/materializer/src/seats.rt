@@ -1,16 +1,16 @@
 // What stands at each place of an island.
-ghost use Rattle.std.specs.Prelude.{◌≡◌, ◌+◌, ◌<◌, ◌≤◌, ◌∷◌, true, IfOk, length, vec_len, option_to_list};
+ghost use Rattle.std.specs.Prelude.{◌≡◌, ◌+◌, ◌<◌, ◌≤◌, ◌∷◌, true, None, IfOk, length, vec_len, option_to_list};
 ghost use Rattle.std.specs.List.{list_all};
 ghost use Rattle.std.specs.Vec.Iter.{into_iter_items, into_iter_len};
 ghost use Rattle.blue_rules.specs.Sizes.{sizes_fit};
 ghost use Rattle.materializer.specs.Built.{is_built};
 ghost use Rattle.materializer.specs.Files.{input_of, output_of, inputs_of_nodes, outputs_of_nodes};
-ghost use Rattle.materializer.specs.Seats.{handles_left, IsWork, AreSeats};
+ghost use Rattle.materializer.specs.Seats.{handles_left, IsFreeWork, IsWork, AreSeats};
 
 use crate::number::numbered;
 use blue_core::blueprint::Node;
 use blue_names::ports::{inputs_of, outputs_of};
-use elem_core::why::NoMemory;
+use elem_core::why::{Decider, NoMemory};
 use interpreter::parts::{Seated, Work};
 use stage_in::logic::InLogic;
 use stage_linear::logic::LinearLogic;
@@ -34,7 +34,45 @@ fn take_next<T: Drop>(handles: &mut IntoIter<T, Global>) -> T
     }
 }
 
+/// What node k does, where it has no file.
+fn free_work<S: Source, D: Drain>(
+    alloc: Global,
+    k: u32,
+    kind: Kind,
+    decider: Decider,
+) -> Result<Work<S, D>, NoMemory>
+    requires built { is_built kind ≡ true }
+    requires sized { sizes_fit kind ≡ true }
+    requires no_input { input_of kind ≡ None }
+    requires no_output { output_of kind ≡ None }
+    ensures work { IfOk result (IsFreeWork k kind decider) }
+    ensures no_input { input_of kind ≡ None }
+    ensures no_output { output_of kind ≡ None }
+{
+    Ok(match kind {
+        Kind::Range(_, _) | Kind::Empty(_) | Kind::Failed(_) => Work::Making(kind),
+        Kind::Ignore => Work::Writing(kind, None),
+        Kind::Grouped(_)
+        | Kind::Fold(_)
+        | Kind::Reduce(_)
+        | Kind::Scan(_)
+        | Kind::Buffer(_, Policy::Backpressure) => {
+            Work::State(StateLogic::new(alloc, k, kind, decider)?)
+        }
+        Kind::Concat(_) | Kind::Interleave(_, _) | Kind::MergeSorted | Kind::Zip => {
+            let inputs = inputs_of(&kind);
+            Work::FanIn(InLogic::new(alloc, k, kind, decider)?, inputs)
+        }
+        Kind::Broadcast(_) | Kind::Partition(_, _) | Kind::Unzip => {
+            let outputs = outputs_of(&kind);
+            Work::FanOut(OutLogic::new(alloc, k, kind, decider)?, outputs)
+        }
+        _ => Work::Linear(LinearLogic::new(k, kind, decider)?),
+    })
+}
+
 /// A node at its place k: a source of lines reads the next of the sources, a sink with a file writes the next of the drains.
+#[tactic(auto, using(crate::proofs::SeatLoops::none_left_out, crate::proofs::SeatLoops::none_counted))]
 fn seat<S: Source, D: Drain>(
     alloc: Global,
     k: u32,
@@ -61,27 +99,10 @@ fn seat<S: Source, D: Drain>(
     let _ = name;
     let work = match kind {
         Kind::Lines(_) => Work::Reading(LineReader::new(alloc, take_next(sources))),
-        Kind::Range(_, _) | Kind::Empty(_) | Kind::Failed(_) => Work::Making(kind),
         Kind::ToLines(_) | Kind::Head(_) | Kind::Last(_) => {
             Work::Writing(kind, Some(take_next(drains)))
         }
-        Kind::Ignore => Work::Writing(kind, None),
-        Kind::Grouped(_)
-        | Kind::Fold(_)
-        | Kind::Reduce(_)
-        | Kind::Scan(_)
-        | Kind::Buffer(_, Policy::Backpressure) => {
-            Work::State(StateLogic::new(alloc, k, kind, decider)?)
-        }
-        Kind::Concat(_) | Kind::Interleave(_, _) | Kind::MergeSorted | Kind::Zip => {
-            let inputs = inputs_of(&kind);
-            Work::FanIn(InLogic::new(alloc, k, kind, decider)?, inputs)
-        }
-        Kind::Broadcast(_) | Kind::Partition(_, _) | Kind::Unzip => {
-            let outputs = outputs_of(&kind);
-            Work::FanOut(OutLogic::new(alloc, k, kind, decider)?, outputs)
-        }
-        _ => Work::Linear(LinearLogic::new(k, kind, decider)?),
+        _ => free_work(alloc, k, kind, decider)?,
     };
     Ok(Seated { node: k, work })
 }

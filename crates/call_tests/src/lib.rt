@@ -10,4 +10,6 @@ mod plans;
 #[cfg(test)]
 mod real_folder;
 #[cfg(test)]
+mod switches;
+#[cfg(test)]
 mod walks;

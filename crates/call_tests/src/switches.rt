@@ -1,6 +1,6 @@
-// What no clause says: that a switch is made with ample memory.
-use crate::order::Order;
-use crate::switch::Switch;
+// That a switch is made with ample memory, and that its seats know its first order.
+use kill_core::order::Order;
+use kill_core::switch::Switch;
 use std::alloc::AllocError;
 
 #[test]

@@ -1,10 +1,9 @@
 -- What a stage with several inputs gave agrees with the outlook of its output, where what came at each input does with that input's.
 use Rattle.std.specs.Prelude.{slice_get, slice_index_or}
-use Rattle.std.proofs.Common.{◌≡◌, ℕ, zero, suc, ◌<◌, true, List, [], ◌∷◌, length, Some, refl, sym, ap, subst, ◌∙◌, arith}
+use Rattle.std.proofs.Common.{◌≡◌, ℕ, zero, suc, true, List, [], ◌∷◌, length, Some, refl, sym, ap, subst, ◌∙◌, arith}
 use Rattle.std.proofs.lemmas.Option.{slice_get_within}
-use Rattle.elem_core.specs.Tree.{Tree}
 use Rattle.elem_core.specs.declared.item.Item.{Item}
-use Rattle.port_core.specs.View.{View, in_at}
+use Rattle.port_core.specs.View.{View}
 use Rattle.fused_net.proofs.Reading.{get_there}
 use Rattle.stream_model.specs.declared.kind.Kind.{Kind}
 use Rattle.stream_model.specs.declared.kind.Kind.TheVariants.{Concat, Interleave, MergeSorted, Zip}
@@ -14,16 +13,15 @@ use Rattle.stream_model.specs.Fits.{moves_fit}
 use Rattle.stream_model.specs.Graph.{Graph}
 use Rattle.stream_model.specs.Graph as graph
 use Rattle.stream_model.specs.Node.{World, node_outlook}
-use Rattle.stream_model.specs.Outlook.{Outlook, End, Agrees}
+use Rattle.stream_model.specs.Outlook.{Outlook, Agrees}
 use Rattle.stage_law.specs.Held.{told}
-use Rattle.stage_law.specs.Inflows.{PortsLaw}
 use Rattle.stage_in.specs.declared.logic.InLogic.{InLogic}
 use Rattle.stage_in.specs.declared.logic.InLogic.TheVariants as logic
 use Rattle.stage_in.specs.Logics.{Begins, TakesAs, InLaw}
 use Rattle.stage_in.specs.Logics as stage
 use Rattle.stage_in.proofs.Begun.{begun_agrees}
-use Rattle.run_account.specs.Items.{MayPass, AllMayPass, AgreesWith}
-use Rattle.run_account.specs.KindLaws.{Heard, HearsAll, RunLaws}
+use Rattle.run_account.specs.Items.{AllMayPass, AgreesWith}
+use Rattle.run_account.specs.KindLaws.{HearsAll, RunLaws}
 
 -- each history agrees, where it may pass
 all_agree : (os : List Outlook) (hs : List (List Item)) (fs : List Inflow) → length fs ≡ length hs → ((i : ℕ) (f : Inflow) → slice_get fs i ≡ Some f → slice_index_or hs i [] ≡ told f.list f.end) → AllMayPass os hs → AllAgree os fs

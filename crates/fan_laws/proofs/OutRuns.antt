@@ -1,8 +1,7 @@
 -- What a stage with several outputs gave at each of them agrees with the outlook there, where what came does with its input's.
 use Rattle.std.specs.Prelude.{slice_get, slice_index_or}
-use Rattle.std.proofs.Common.{◌≡◌, ℕ, zero, suc, ◌<◌, ◌≤◌, true, List, [], ◌∷◌, length, Some, refl, sym, ap, subst, ◌∙◌, arith}
+use Rattle.std.proofs.Common.{◌≡◌, ℕ, ◌≤◌, true, List, [], ◌∷◌, length, Some, refl, sym, subst, ◌∙◌, arith}
 use Rattle.std.proofs.lemmas.Option.{slice_get_within}
-use Rattle.elem_core.specs.Tree.{Tree}
 use Rattle.elem_core.specs.declared.item.Item.{Item}
 use Rattle.port_core.specs.View.{View, in_at}
 use Rattle.stream_model.specs.declared.kind.Kind.{Kind}
@@ -12,11 +11,10 @@ use Rattle.stream_model.specs.Graph.{Graph}
 use Rattle.stream_model.specs.Graph as graph
 use Rattle.stream_model.specs.Linear.{Book}
 use Rattle.stream_model.specs.Node.{World, head_of, node_outlook}
-use Rattle.stream_model.specs.Outlook.{Outlook, End, Agrees}
-use Rattle.stage_law.specs.Held.{told}
+use Rattle.stream_model.specs.Outlook.{Outlook, Agrees}
 use Rattle.stage_out.specs.declared.logic.OutLogic.{OutLogic}
 use Rattle.stage_out.specs.OutLogics.{outlets, owed, IsOut, Begins}
-use Rattle.stage_out.specs.OutNodes.{OutLaw, GaveAgrees}
+use Rattle.stage_out.specs.OutNodes.{OutLaw}
 use Rattle.stage_out.proofs.OutNodes.{stage_agrees, length-outlets}
 use Rattle.run_account.specs.Items.{MayPass, AllMayPass, AgreesWith}
 use Rattle.run_account.specs.KindLaws.{Heard, HearsAll, RunLaws}

@@ -6,7 +6,7 @@ use Rattle.elem_core.specs.declared.item.Item.{Item}
 use Rattle.elem_core.specs.declared.item.Item.TheVariants as item
 use Rattle.port_core.specs.Ring.{holds}
 use Rattle.port_core.specs.Wire.{Wire, end_of}
-use Rattle.port_core.specs.Connection.{Connection, quiet, pulled, ready, pushed}
+use Rattle.port_core.specs.Connection.{quiet, pulled, ready, pushed}
 use Rattle.port_core.specs.Joint.{Joint, idle, asking, asked, moving, ending, closing, leaving, finished, parted, refused, wire_of, Histories, IsSound}
 use Rattle.port_core.specs.View.{View, in_at, out_at}
 use Rattle.port_core.specs.declared.view.InView.{InView}

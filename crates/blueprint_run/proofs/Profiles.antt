@@ -1,9 +1,9 @@
 -- What each node of an island leaves at its end, by the kind of its node in the blueprint.
-use Rattle.std.proofs.Common.{◌≡◌, ◌≢◌, ◌⊎◌, inl, inr, ℕ, zero, suc, ◌+◌, ◌<◌, Bool, true, false, List, [], ◌∷◌, length, map, slice_get, refl, sym, ap, ◌∙◌, subst, arith}
+use Rattle.std.proofs.Common.{◌≡◌, ◌≢◌, ◌⊎◌, inl, inr, ℕ, zero, suc, ◌+◌, ◌≤◌, ◌<◌, Bool, true, false, List, [], ◌∷◌, length, map, slice_get, refl, sym, ap, ◌∙◌, subst, arith}
 use Rattle.std.specs.Prelude.{Option, Some, None, ◌==◌, if◌then◌else◌}
 use Rattle.std.specs.Option.{option_map}
 use Rattle.std.specs.List.{filter_map, cons_option}
-use Rattle.std.proofs.lemmas.Bool.Decides.{eqb_tells}
+use Rattle.std.proofs.lemmas.Bool.Decides.{eqb_tells, nat_tests}
 use Rattle.elem_core.specs.declared.item.Item.{Item}
 use Rattle.port_core.specs.View.{View}
 use Rattle.stream_model.specs.declared.kind.Kind.{Kind}
@@ -14,6 +14,8 @@ use Rattle.stream_picture.specs.View.{outputs_of}
 use Rattle.stream_io.specs.State.{SourceState, DrainState}
 use Rattle.stage_linear.specs.States.{IsLinear}
 use Rattle.stage_state.specs.States.{IsStateful}
+use Rattle.stage_in.specs.Logics.{IsFanIn}
+use Rattle.stage_out.specs.OutLogics.{IsOut}
 use Rattle.nodes.specs.Nodes.{node_law}
 use Rattle.nodes.specs.Kinds.{IsMaker, IsFileSink}
 use Rattle.nodes.specs.Maker.{Made}
@@ -52,6 +54,8 @@ readers_filtered (node.Linear x ∷ xs) = readers_filtered xs
 readers_filtered (node.Writing x ∷ xs) = readers_filtered xs
 readers_filtered (node.Making x ∷ xs) = readers_filtered xs
 readers_filtered (node.State x ∷ xs) = readers_filtered xs
+readers_filtered (node.FanIn x ∷ xs) = readers_filtered xs
+readers_filtered (node.FanOut x ∷ xs) = readers_filtered xs
 readers_filtered (node.Ignoring x ∷ xs) = readers_filtered xs
 
 pub writers_filtered : {S D : Type 0} (xs : List (Node S D)) → writers_of xs ≡ filter_map writer_in xs
@@ -61,6 +65,8 @@ writers_filtered (node.Linear x ∷ xs) = writers_filtered xs
 writers_filtered (node.Writing x ∷ xs) = ap (λ l. x.drain ∷ l) (writers_filtered xs)
 writers_filtered (node.Making x ∷ xs) = writers_filtered xs
 writers_filtered (node.State x ∷ xs) = writers_filtered xs
+writers_filtered (node.FanIn x ∷ xs) = writers_filtered xs
+writers_filtered (node.FanOut x ∷ xs) = writers_filtered xs
 writers_filtered (node.Ignoring x ∷ xs) = writers_filtered xs
 
 pub sinks_filtered : {S D : Type 0} (xs : List (Node S D)) → sinks_of xs ≡ filter_map stand_in xs
@@ -70,6 +76,8 @@ sinks_filtered (node.Linear x ∷ xs) = sinks_filtered xs
 sinks_filtered (node.Writing x ∷ xs) = ap (λ (l : List Stand). (x.node, x.count, x.end) ∷ l) (sinks_filtered xs)
 sinks_filtered (node.Making x ∷ xs) = sinks_filtered xs
 sinks_filtered (node.State x ∷ xs) = sinks_filtered xs
+sinks_filtered (node.FanIn x ∷ xs) = sinks_filtered xs
+sinks_filtered (node.FanOut x ∷ xs) = sinks_filtered xs
 sinks_filtered (node.Ignoring x ∷ xs) = ap (λ (l : List Stand). (x.node, 0, x.end) ∷ l) (sinks_filtered xs)
 
 pub some_one : {A : Type 0} (x y : A) → Some x ≡ Some y → x ≡ y
@@ -87,11 +95,11 @@ pub record Profile {S D : Type 0} (sources : S → SourceState) (drains : D → 
   pub output : output_of n.kind ≡ option_map (λ d. (drains d).name) (writer_in x)
   pub stand : StandsAt k (is_sink n) (stand_in x)
 
--- a kind with an output that reads no file: a stage, or a source without a file
+-- a kind with some output that reads no file: a stage, or a source without a file
 record IsInner (shape : Kind) : Type 0 where
   input : input_of shape ≡ None
   output : output_of shape ≡ None
-  outputs : outputs_of shape ≡ 1
+  outputs : (outputs_of shape == 0) ≡ false
 
 linear_inner : (shape : Kind) → IsLinear shape → IsInner shape
 linear_inner (kind.Map f) h = record { input = refl; output = refl; outputs = refl }
@@ -112,6 +120,22 @@ state_inner (kind.Reduce r) h = record { input = refl; output = refl; outputs = 
 state_inner (kind.Scan o) h = record { input = refl; output = refl; outputs = refl }
 state_inner (kind.Buffer n p) h = record { input = refl; output = refl; outputs = refl }
 state_inner _ h = absurd h
+
+fan_in_inner : (shape : Kind) → IsFanIn shape → IsInner shape
+fan_in_inner (kind.Concat n) h = record { input = refl; output = refl; outputs = refl }
+fan_in_inner (kind.Interleave n s) h = record { input = refl; output = refl; outputs = refl }
+fan_in_inner kind.MergeSorted h = record { input = refl; output = refl; outputs = refl }
+fan_in_inner kind.Zip h = record { input = refl; output = refl; outputs = refl }
+fan_in_inner _ h = absurd h
+
+some_outputs : (n : ℕ) → 2 ≤ n → (n == 0) ≡ false
+some_outputs n h = grind (arith, nat_tests, h)
+
+fan_out_inner : (shape : Kind) → IsOut shape → IsInner shape
+fan_out_inner (kind.Broadcast n) h = record { input = refl; output = refl; outputs = some_outputs n h.0 }
+fan_out_inner (kind.Partition n f) h = record { input = refl; output = refl; outputs = some_outputs n h.0 }
+fan_out_inner kind.Unzip h = record { input = refl; output = refl; outputs = refl }
+fan_out_inner _ h = absurd h
 
 maker_inner : (shape : Kind) → IsMaker shape → IsInner shape
 maker_inner (kind.Range low high) h = record { input = refl; output = refl; outputs = refl }
@@ -175,7 +199,7 @@ module _ {S D : Type 0} (sources : S → SourceState) (drains : D → DrainState
   inner_profile x reads writes stands is = record {
     input = is.input ∙ ap (option_map (λ s. (sources s).name)) (sym reads);
     output = is.output ∙ ap (option_map (λ d. (drains d).name)) (sym writes);
-    stand = no_sink k (is_sink n) (stand_in x) (ap (λ (m : ℕ). m == 0) is.outputs) stands;
+    stand = no_sink k (is_sink n) (stand_in x) is.outputs stands;
   }
 
   -- what a node leaves, whatever its kind is, where its source and its drain have the names of their files
@@ -187,6 +211,8 @@ module _ {S D : Type 0} (sources : S → SourceState) (drains : D → DrainState
   node_profile (node.Making f) (node.Making x) v took gave made law reads writes = inner_profile (node.Making x) refl refl refl (maker_inner n.kind made.is_maker)
   node_profile (node.Linear f) (node.Linear x) v took gave made law reads writes = inner_profile (node.Linear x) refl refl refl (linear_inner n.kind made.is_linear)
   node_profile (node.State f) (node.State x) v took gave made law reads writes = inner_profile (node.State x) refl refl refl (state_inner n.kind made.is_state)
+  node_profile (node.FanIn f) (node.FanIn x) v took gave made law reads writes = inner_profile (node.FanIn x) refl refl refl (fan_in_inner n.kind made.is_in)
+  node_profile (node.FanOut f) (node.FanOut x) v took gave made law reads writes = inner_profile (node.FanOut x) refl refl refl (fan_out_inner n.kind made.is_out)
   node_profile (node.Writing f) (node.Writing x) v took gave made law reads writes = writing_profile x made.is_sink (law.node ∙ made.node) (λ name e. writes name x e refl)
   node_profile (node.Ignoring f) (node.Ignoring x) v took gave made law reads writes = ignoring_profile x made.kind_is (law.node ∙ made.node)
   node_profile f x v took gave made law reads writes = absurd law
@@ -198,6 +224,8 @@ module _ {S D : Type 0} (sources : S → SourceState) (drains : D → DrainState
   writing_kind (node.Making f) (node.Making y) x v took gave made law is = absurd cc
   writing_kind (node.Linear f) (node.Linear y) x v took gave made law is = absurd cc
   writing_kind (node.State f) (node.State y) x v took gave made law is = absurd cc
+  writing_kind (node.FanIn f) (node.FanIn y) x v took gave made law is = absurd cc
+  writing_kind (node.FanOut f) (node.FanOut y) x v took gave made law is = absurd cc
   writing_kind (node.Ignoring f) (node.Ignoring y) x v took gave made law is = absurd cc
   writing_kind f y x v took gave made law is = absurd law
 
@@ -212,6 +240,8 @@ module _ {S D : Type 0} (sources : S → SourceState) (drains : D → DrainState
   never_faults (node.Making f) (node.Making y) s v took gave law stands fault = absurd cc
   never_faults (node.Linear f) (node.Linear y) s v took gave law stands fault = absurd cc
   never_faults (node.State f) (node.State y) s v took gave law stands fault = absurd cc
+  never_faults (node.FanIn f) (node.FanIn y) s v took gave law stands fault = absurd cc
+  never_faults (node.FanOut f) (node.FanOut y) s v took gave law stands fault = absurd cc
   never_faults f y s v took gave law stands fault = absurd law
 
 -- a node that leaves a drain is a sink with a file
@@ -221,6 +251,8 @@ writer_there name (node.Reading y) n e = absurd cc
 writer_there name (node.Making y) n e = absurd cc
 writer_there name (node.Linear y) n e = absurd cc
 writer_there name (node.State y) n e = absurd cc
+writer_there name (node.FanIn y) n e = absurd cc
+writer_there name (node.FanOut y) n e = absurd cc
 writer_there name (node.Ignoring y) n e = absurd cc
 
 -- the sinks stand in the order of their nodes

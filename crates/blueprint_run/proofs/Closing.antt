@@ -92,7 +92,9 @@ use Rattle.blueprint_run.proofs.Units.{spent_most, sent_asked, count_most, need_
 use Rattle.blueprint_run.proofs.Worlds.{world_of, world_has, tree_by_wires}
 use Rattle.blueprint_run.proofs.Places.{all_at, contains_at, contained_at, mapped_at, unmapped_at, filtered_at, unfiltered_at, place_of, place_one, place_within}
 use Rattle.blueprint_run.proofs.Profiles.{some_one, stand_in, writer_there, sinks_filtered, StandsAt, Profile, ended_along}
-use Rattle.blueprint_run.proofs.Handles.{IsSinkInto, HandleLaws, fault_kind, writer_kind, SourceFacts, SinkFacts, source_facts, sink_facts, made, is_run, profiles, as_many, stands_are, read_grew, faults_grew, writes_grew, file_held, other_files, other_reads, other_writes, other_draws, refused, tells_old, reading_same, writing_same}
+use Rattle.blueprint_run.proofs.Handles.{IsSinkInto, HandleLaws, Between, fault_kind, writer_kind, SourceFacts, SinkFacts, source_facts, sink_facts, made, is_run, profiles, as_many, stands_are}
+use Rattle.blueprint_run.proofs.Shutting.{TakenApart, read_grew, faults_grew, writes_grew, file_held, other_files, other_reads, other_writes, other_draws, refused, tells_old}
+use Rattle.blueprint_run.proofs.Drawns.{drawn_of, Draws, draws_all, reads_of}
 
 -- ---- the wires' counts
 
@@ -110,7 +112,7 @@ counts_second (l ∷ ls) (c ∷ cs) e = ap (λ (x : List WireCount). island.coun
 -- ---- the drain of a sink
 
 -- what the drain counted is added to the folder's count
-stands_writes : (e : EndState) (s t : DrainState) (wrote : List Tree) (n old new : ℕ) → StandsAs e s t wrote n → s.faults ≡ 0 → Grew old t.faults new → WritesOf e old new
+pub stands_writes : (e : EndState) (s t : DrainState) (wrote : List Tree) (n old new : ℕ) → StandsAs e s t wrote n → s.faults ≡ 0 → Grew old t.faults new → WritesOf e old new
 stands_writes Unended s t wrote n old new h none grew = subst (λ k. Grew old k new) (h.faults ∙ none) grew
 stands_writes Ended s t wrote n old new h none grew = subst (λ k. Grew old k new) (h.faults ∙ none) grew
 stands_writes (Failed c) s t wrote n old new h none grew = subst (λ k. Grew old k new) (h.faults ∙ none) grew
@@ -138,20 +140,6 @@ draws_told bytes first now items sent none e s = record {
   sent_is = e ∙ ap elements s.sent_is ∙ elements_told (map text s.drawn) s.end ∙ length-map s.drawn text;
   ahead = ahead_told first now s.later (length (ended_lines s.drawn)) none s.ahead;
 }
-
--- the state of the source at a place, where one is there
-abbrev blank : SourceState
-blank = record { name = []; whole = None; given = 0; faults = 0 }
-
-abbrev source_in : {S D : Type 0} → (S → SourceState) → Option (Node S D) → SourceState
-source_in sources (Some (node.Reading x)) = sources x.reader.source
-source_in sources _ = blank
-
-source_there : {S D : Type 0} (sources : S → SourceState) (o : Option (Node S D)) (x : Lines S) → o ≡ Some (node.Reading x) → source_in sources o ≡ sources x.reader.source
-source_there sources o x e = rw e refl
-
-told_whole : (o : Option (List ℕ)) (bytes : List ℕ) → o ≡ Some bytes → unwrap_or o [] ≡ bytes
-told_whole o bytes e = rw e refl
 
 -- ---- how a sink stands at its place
 
@@ -221,16 +209,10 @@ none_unended : (stands : List Stand) → ((i : ℕ) (s : Stand) → slice_get st
 none_unended [] each = refl
 none_unended (s ∷ ss) each = neither (is_unended s.2) (list_any (λ (t : Stand). is_unended t.2) ss) (each 0 s refl) (none_unended ss (λ i t at. each (suc i) t at))
 
--- a world that has the files as they were read tells of each source
-tells_node : {S D : Type 0} (sources : S → SourceState) (w : World) (n : graph.Node) (first now : Node S D)
-    → ((a c : Lines S) (name : List ℕ) → first ≡ node.Reading a → now ≡ node.Reading c → n.kind ≡ kind.Lines name → TellsFile (sources a.reader.source) (sources c.reader.source) (w.file name)) → TellsNode sources w n first now
-tells_node sources w n (node.Reading a) (node.Reading c) tells = λ name shape. tells a c name refl refl shape
-tells_node sources w n first now tells = tt
-
 -- ---- the laws of a run
 
 module _ {S D : Type 0} (sources : S → SourceState) (drains : D → DrainState) where
-  abbrev WroteLaw : Type 0
+  abbrev pub WroteLaw : Type 0
   WroteLaw = (g : Graph) (a : Account (Node S D)) → IsRun sources drains g a
       → (k : ℕ) (n : graph.Node) (first now : Sink D) → slice_get g.nodes k ≡ Some n → IsSinkAt a k first now → SinkWrote sources drains g a k n first now
 
@@ -327,32 +309,51 @@ module _ {S D : Type 0} (sources : S → SourceState) (drains : D → DrainState
   abbrev net : Net (Node S D)
   net = l.stops.net
 
+  between : Between sources drains b ss ds net
+  between = record { places = l.places; seats = l.seats; settled = l.stops.settled; firsts = l.stops.firsts; ends = l.stops.ends }
+
   abbrev g : Graph
   g = graph_of b
 
   net_made : Materializes sources g net.firsts net.ends
-  net_made = made sources drains handles b can ss ds budget st l old mid opens
+  net_made = made sources drains handles b can ss ds net between old mid opens
 
   abbrev Source : ℕ → List ℕ → Type 0
-  Source k file = SourceFacts sources drains handles b can ss ds budget st l old mid opens k file
+  Source k file = SourceFacts sources drains handles b can ss ds net between old mid opens k file
 
   abbrev ASink : ℕ → List ℕ → Type 0
-  ASink k file = SinkFacts sources drains handles b can ss ds budget st l old mid opens k file
+  ASink k file = SinkFacts sources drains handles b can ss ds net between old mid opens k file
 
   source_at : (k : ℕ) (file : List ℕ) → IsSource nodes k file → Source k file
-  source_at = source_facts sources drains handles b can ss ds budget st l old mid opens
+  source_at = source_facts sources drains handles b can ss ds net between old mid opens
 
   sink_at : (k : ℕ) (file : List ℕ) → IsSinkInto nodes k file → ASink k file
-  sink_at = sink_facts sources drains handles b can ss ds budget st l old mid opens
+  sink_at = sink_facts sources drains handles b can ss ds net between old mid opens
 
   profile : (k : ℕ) (n : blue.Node) (x : Node S D) → slice_get nodes k ≡ Some n → slice_get net.nodes k ≡ Some x → Profile sources drains k n x
-  profile = profiles sources drains handles b can ss ds budget st l old mid opens
+  profile = profiles sources drains handles b can ss ds net between old mid opens
+
+  -- its handles were closed
+  apart : TakenApart sources drains b net.nodes st.end.readers.items st.end.writers.items
+  apart = record {
+    as_many = as_many sources drains handles b can ss ds net between old mid opens;
+    input = λ k n x at here. (profile k n x at here).input;
+    output = λ k n x at here. (profile k n x at here).output;
+    readers_are = l.stops.readers;
+    writers_are = l.stops.writers;
+  }
+
+  sink_writes : (k : ℕ) (file : List ℕ) (f : ASink k file) → Grew (old.wfaults file) (drains f.now.drain).faults (new.wfaults file)
+  sink_writes k file f = writes_grew sources drains b can net.nodes st.end.readers.items st.end.writers.items apart old mid _ _ opens new closes k file f.now f.there.at_last (f.law.name ∙ f.first_named)
+
+  sink_held : (k : ℕ) (file : List ℕ) (f : ASink k file) → IsTrue new.tells → new.file file ≡ (drains f.now.drain).holds
+  sink_held k file f = file_held sources drains b can net.nodes st.end.readers.items st.end.writers.items apart old mid _ _ opens new closes k file f.now f.there.at_last (f.law.name ∙ f.first_named)
 
   abbrev left : Account (Node S D)
   left = account_of net
 
   run : IsRun sources drains g left
-  run = is_run sources drains handles b can ss ds budget st l old mid opens
+  run = is_run sources drains handles b can ss ds net between old mid opens
 
   still : IsTrue st.at_rest → IsStill g left
   still rest = laws.still g net l.stops.settled net_made (l.stops.rests.0 rest)
@@ -413,7 +414,7 @@ module _ {S D : Type 0} (sources : S → SourceState) (drains : D → DrainState
   sink_here i s at =
       let among : slice_get (filter_map stand_in net.nodes) i ≡ Some s = subst (λ (x : List Stand). slice_get x i ≡ Some s) (l.stops.sinks ∙ sinks_filtered net.nodes) at in
       let from = unfiltered_at stand_in net.nodes i s among in
-      let below : from.0 < length nodes = subst (λ m. from.0 < m) (sym (as_many sources drains handles b can ss ds budget st l old mid opens)) (place_within net.nodes from.0 from.1.0 from.1.1.0) in
+      let below : from.0 < length nodes = subst (λ m. from.0 < m) (sym (as_many sources drains handles b can ss ds net between old mid opens)) (place_within net.nodes from.0 from.1.0 from.1.1.0) in
       let m = place_of nodes from.0 below in
       let stand = (profile from.0 m.0 from.1.0 m.1 from.1.1.0).stand in
       let place : s.0 ≡ from.0 = no_stand from.0 (is_sink m.0) (stand_in from.1.0) s stand from.1.1.1 in
@@ -443,18 +444,14 @@ module _ {S D : Type 0} (sources : S → SourceState) (drains : D → DrainState
 
   -- what the sources drew
   abbrev drawn : Drawn
-  drawn = record {
-    bytes = λ k. unwrap_or (source_in sources (slice_get net.firsts k)).whole [];
-    given = λ k. (source_in sources (slice_get net.nodes k)).given;
-    faulted = λ k. is_positive (source_in sources (slice_get net.nodes k)).faults;
-  }
+  drawn = drawn_of sources net
 
   -- the stand of a sink of lines, by its place among the stands
   stand_of : (i : ℕ) (s : Stand) (n : blue.Node) (file : List ℕ) → slice_get st.end.sinks.items i ≡ Some s → slice_get nodes s.0 ≡ Some n → output_of n.kind ≡ Some file → (f : ASink s.0 file) × (s ≡ (s.0, f.now.count, f.now.end))
   stand_of i s n file at here shape =
       let among : slice_get (filter_map stand_in net.nodes) i ≡ Some s = subst (λ (x : List Stand). slice_get x i ≡ Some s) (l.stops.sinks ∙ sinks_filtered net.nodes) at in
       let from = unfiltered_at stand_in net.nodes i s among in
-      let below : from.0 < length nodes = subst (λ m. from.0 < m) (sym (as_many sources drains handles b can ss ds budget st l old mid opens)) (place_within net.nodes from.0 from.1.0 from.1.1.0) in
+      let below : from.0 < length nodes = subst (λ m. from.0 < m) (sym (as_many sources drains handles b can ss ds net between old mid opens)) (place_within net.nodes from.0 from.1.0 from.1.1.0) in
       let m = place_of nodes from.0 below in
       let place : s.0 ≡ from.0 = no_stand from.0 (is_sink m.0) (stand_in from.1.0) s (profile from.0 m.0 from.1.0 m.1 from.1.1.0).stand from.1.1.1 in
       let there : slice_get net.nodes s.0 ≡ Some from.1.0 = subst (λ j. slice_get net.nodes j ≡ Some from.1.0) (sym place) from.1.1.0 in
@@ -465,47 +462,23 @@ module _ {S D : Type 0} (sources : S → SourceState) (drains : D → DrainState
       (f, sym same ∙ ap (λ (j : ℕ). (j, f.now.count, f.now.end)) f.place)
 
   module _ (tells_was : IsTrue old.tells) where
+    abbrev Drew : Type 0
+    Drew = Draws sources drains handles b can ss ds net between old mid opens
+
+    drew : Drew
+    drew = draws_all sources drains handles b can ss ds net between old mid opens tells_was
+
     module _ (k : ℕ) (file : List ℕ) (f : Source k file) where
-      file_there : (bytes : List ℕ) × (old.file file ≡ Some bytes)
-      file_there = some_of (old.file file) (subst (λ n. IsSome (old.file n)) f.first_named (f.start.there tells_was))
-
-      whole_told : (sources f.first.reader.source).whole ≡ Some file_there.0
-      whole_told = f.start.whole tells_was ∙ ap old.file f.first_named ∙ file_there.1
-
-      drawn_bytes : drawn.bytes k ≡ file_there.0
-      drawn_bytes = ap (λ (i : SourceState). unwrap_or i.whole []) (source_there sources (slice_get net.firsts k) f.first f.there.at_first) ∙ told_whole (sources f.first.reader.source).whole file_there.0 whole_told
-
-      drawn_given : drawn.given k ≡ (sources f.now.reader.source).given
-      drawn_given = ap (λ (i : SourceState). i.given) (source_there sources (slice_get net.nodes k) f.now f.there.at_last)
-
-      drawn_faulted : drawn.faulted k ≡ is_positive (sources f.now.reader.source).faults
-      drawn_faulted = ap (λ (i : SourceState). is_positive i.faults) (source_there sources (slice_get net.nodes k) f.now f.there.at_last)
-
       was_read : WasRead old new file (drawn.bytes k) (drawn.given k) (drawn.faulted k)
-      was_read = record {
-        there = file_there.1 ∙ ap Some (sym drawn_bytes);
-        read = subst (λ n. Grew (old.read file) n (new.read file)) (sym drawn_given) (read_grew sources drains handles b can ss ds budget st l old mid opens new closes k file f);
-        rose = λ p. rose_by (old.rfaults file) (sources f.now.reader.source).faults (new.rfaults file) (faults_grew sources drains handles b can ss ds budget st l old mid opens new closes k file f) (above_none (sources f.now.reader.source).faults (subst IsTrue drawn_faulted p));
-        calm = λ p. subst (λ n. Grew (old.rfaults file) n (new.rfaults file)) (not_positive (sources f.now.reader.source).faults (sym drawn_faulted ∙ p)) (faults_grew sources drains handles b can ss ds budget st l old mid opens new closes k file f);
-      }
-
-      file_told : (w : World) → w.file file ≡ record { bytes = drawn.bytes k; read = drawn.given k; faulted = drawn.faulted k } → TellsFile (sources f.first.reader.source) (sources f.now.reader.source) (w.file file)
-      file_told w is = rw is (record {
-        bytes = whole_told ∙ ap Some (sym drawn_bytes);
-        read = drawn_given;
-        faulted = λ rose. subst IsTrue (sym drawn_faulted) (positive (sources f.now.reader.source).faults (rose_from_none (sources f.first.reader.source).faults (sources f.now.reader.source).faults f.start.faults rose));
-      })
+      was_read =
+          let given = (drew.source k file f).given in
+          let read = read_grew sources drains b can net.nodes st.end.readers.items st.end.writers.items apart old mid _ _ opens new closes k file f.now f.there.at_last (f.law.name ∙ f.first_named) in
+          let faults = faults_grew sources drains b can net.nodes st.end.readers.items st.end.writers.items apart old mid _ _ opens new closes k file f.now f.there.at_last (f.law.name ∙ f.first_named) in
+          reads_of sources drains handles b can ss ds net between old mid opens tells_was k file f new (drawn.given k) (subst (λ n. Grew (old.read file) n (new.read file)) (sym given) read) faults
 
     -- the world tells of every source
     world_tells : (w : World) → IsWorldOf nodes drawn w → Tells sources g w left
-    world_tells w is k n first now gi fi ni = tells_node sources w n first now (λ a c name fa nc shape.
-        let m = unmapped_at node_of nodes k n gi in
-        let place : IsSource nodes k name = record { node = m.0; at = m.1.0; kind_is = ap (λ (x : graph.Node). x.kind) (sym m.1.1) ∙ shape } in
-        let f = source_at k name place in
-        let first_is : f.first ≡ a = reading_same f.first a first (place_one net.firsts k first (node.Reading f.first) fi f.there.at_first) fa in
-        let now_is : f.now ≡ c = reading_same f.now c now (place_one net.nodes k now (node.Reading f.now) ni f.there.at_last) nc in
-        subst (λ (x : Lines S). TellsFile (sources x.reader.source) (sources c.reader.source) (w.file name)) first_is
-        (subst (λ (x : Lines S). TellsFile (sources f.first.reader.source) (sources x.reader.source) (w.file name)) now_is (file_told k name f w (is k name place))))
+    world_tells w is = drew.tells w is
 
     -- a sink's file
     module _ (k : ℕ) (n : blue.Node) (file : List ℕ) (at : slice_get nodes k ≡ Some n) (f : ASink k file) where
@@ -518,7 +491,7 @@ module _ {S D : Type 0} (sources : S → SourceState) (drains : D → DrainState
       sink_leaves : SinkLeaves new b drawn st.wires.items st.at_rest k n file f.now.count f.now.end
       sink_leaves = record {
         held = wrote.written;
-        there = λ tells. file_held sources drains handles b can ss ds budget st l old mid opens new closes k file f tells ∙ wrote.holds (f.start.holds (closes.files.told tells));
+        there = λ tells. sink_held k file f tells ∙ wrote.holds (f.start.holds (closes.files.told tells));
         tells = λ w is. let ranked = laws.ranked b can.plugs can.taken can.fit in wrote.tells w ranked.0 (world_tells w is) ranked.1;
         lines_are = wrote.lines_are;
         sent = λ shape u v at to. subst (λ (m : ℕ). SentTo f.now.end m f.now.count) (sym (wire_count u)) (laws.sent g left run k (node_of n) file f.first f.now u v at_graph shape f.there at to);
@@ -534,7 +507,7 @@ module _ {S D : Type 0} (sources : S → SourceState) (drains : D → DrainState
         let now = there.1.0 in
         let among : slice_get (filter_map stand_in net.nodes) i ≡ Some s = subst (λ (x : List Stand). slice_get x i ≡ Some s) (l.stops.sinks ∙ sinks_filtered net.nodes) at in
         let from = unfiltered_at stand_in net.nodes i s among in
-        let below : from.0 < length nodes = subst (λ m. from.0 < m) (sym (as_many sources drains handles b can ss ds budget st l old mid opens)) (place_within net.nodes from.0 from.1.0 from.1.1.0) in
+        let below : from.0 < length nodes = subst (λ m. from.0 < m) (sym (as_many sources drains handles b can ss ds net between old mid opens)) (place_within net.nodes from.0 from.1.0 from.1.1.0) in
         let m = place_of nodes from.0 below in
         let place : s.0 ≡ from.0 = no_stand from.0 (is_sink m.0) (stand_in from.1.0) s (profile from.0 m.0 from.1.0 m.1 from.1.1.0).stand from.1.1.1 in
         let found : slice_get net.nodes s.0 ≡ Some from.1.0 = subst (λ j. slice_get net.nodes j ≡ Some from.1.0) (sym place) from.1.1.0 in
@@ -554,7 +527,7 @@ module _ {S D : Type 0} (sources : S → SourceState) (drains : D → DrainState
     world = world_of nodes drawn
 
     has_files : IsWorldOf nodes drawn world
-    has_files = world_has nodes drawn (λ i k m n name at here p q. one_file b can.plugs can.taken can.fit i k m n name at here (ap file_of p) (ap file_of q))
+    has_files = drew.has_files
 
     -- the picture of the run
     abbrev picture : List WireCount
@@ -608,22 +581,23 @@ module _ {S D : Type 0} (sources : S → SourceState) (drains : D → DrainState
               let found = stand_of i s n file at here shape in
               subst (λ (t : Stand). SinkLeaves new b drawn st.wires.items st.at_rest s.0 n file t.1 t.2) (sym found.1) (sink_leaves s.0 n file here found.0);
           ignores = λ i s n at here shape. ignore_leaves i s n at here shape;
-          others = other_files sources drains handles b can ss ds budget st l old mid opens new closes;
+          others = other_files sources drains b can net.nodes st.end.readers.items st.end.writers.items apart old mid _ _ opens new closes;
           draws = λ k file u v is at from.
               let f = source_at k file is in
-              let told = draws_told (file_there k file f).0 (sources f.first.reader.source) (sources f.now.reader.source) (wire_at net u).wire.sent (sent_at st.wires.items u) f.start.faults (wire_count u)
-              (laws.reads g left run k (node_of is.node) f.first f.now u v (file_there k file f).0 (mapped_at node_of nodes k is.node is.at) f.there at from (whole_told k file f)) in
-              rw (drawn_bytes k file f, drawn_given k file f, drawn_faulted k file f) told;
+              let d = drew.source k file f in
+              let told = draws_told d.bytes (sources f.first.reader.source) (sources f.now.reader.source) (wire_at net u).wire.sent (sent_at st.wires.items u) f.start.faults (wire_count u)
+              (laws.reads g left run k (node_of is.node) f.first f.now u v d.bytes (mapped_at node_of nodes k is.node is.at) f.there at from d.whole) in
+              rw (d.drawn_bytes, d.given, d.faulted) told;
           lawful = λ w is. subst (λ (c : List WireCount). IsLawful g w c (composed g w)) (sym wires_are) (laws.lawful g w ranked.0 left run (world_tells w is) ranked.1);
           rest = λ rest w is. subst (λ (c : List WireCount). Rests g w c (composed g w)) (sym wires_are) (laws.rests g w ranked.0 left run (still rest) (world_tells w is) ranked.1);
           matching = λ rest w k n at is.
               let m = unmapped_at node_of nodes k n at in
               let shape : oneway.is_sink m.0.kind ≡ true = ap (λ (x : graph.Node). oneway.is_sink x.kind) (sym m.1.1) ∙ is in
-              let below : k < length net.nodes = subst (λ j. k < j) (as_many sources drains handles b can ss ds budget st l old mid opens) (place_within nodes k m.0 m.1.0) in
+              let below : k < length net.nodes = subst (λ j. k < j) (as_many sources drains handles b can ss ds net between old mid opens) (place_within nodes k m.0 m.1.0) in
               let x = place_of net.nodes k below in
               let stand = stand_there k (is_sink m.0) (stand_in x.0) (profile k m.0 x.0 m.1.0 x.1).stand (sink_shape m.0.kind shape) in
               let by_place : has_ended_at (filter_map stand_in net.nodes) k ≡ has_ended stand.0.2 =
-              ended_along 0 nodes net.nodes (as_many sources drains handles b can ss ds budget st l old mid opens) (λ i y z p q. subst (λ j. StandsAt j (is_sink y) (stand_in z)) (omega arith) (profile i y z p q).stand) k k x.0 stand.0 (omega arith) x.1 stand.1.0 in
+              ended_along 0 nodes net.nodes (as_many sources drains handles b can ss ds net between old mid opens) (λ i y z p q. subst (λ j. StandsAt j (is_sink y) (stand_in z)) (omega arith) (profile i y z p q).stand) k k x.0 stand.0 (omega arith) x.1 stand.1.0 in
               let ended : ended_there (slice_get net.nodes k) ≡ has_ended_at st.end.sinks.items k =
               ended_as net.nodes k x.0 stand.0 x.1 stand.1.0 ∙ sym by_place ∙ ap (λ (y : List Stand). has_ended_at y k) (sym (l.stops.sinks ∙ sinks_filtered net.nodes)) in
               subst (λ (c : List WireCount). EachWire (λ i. i.shut ≡ has_ended_at st.end.sinks.items k) (ins g c (composed g w) k n.kind)) (sym wires_are)
@@ -635,23 +609,23 @@ module _ {S D : Type 0} (sources : S → SourceState) (drains : D → DrainState
   calm_output none n c =
       let at = contained_at (outputs_of_nodes nodes) n c in
       let from = unfiltered_at (λ (m : blue.Node). output_of m.kind) nodes at.0 n at.1 in
-      let below : from.0 < length net.nodes = subst (λ j. from.0 < j) (as_many sources drains handles b can ss ds budget st l old mid opens) (place_within nodes from.0 from.1.0 from.1.1.0) in
+      let below : from.0 < length net.nodes = subst (λ j. from.0 < j) (as_many sources drains handles b can ss ds net between old mid opens) (place_within nodes from.0 from.1.0 from.1.1.0) in
       let x = place_of net.nodes from.0 below in
       let y = writer_there (λ d. (drains d).name) x.0 n (sym from.1.1.1 ∙ (profile from.0 from.1.0 x.0 from.1.1.0 x.1).output) in
-      let shape = writer_kind sources drains handles b can ss ds budget st l old mid opens from.0 from.1.0 x.0 y.0 from.1.1.0 x.1 y.1 in
+      let shape = writer_kind sources drains handles b can ss ds net between old mid opens from.0 from.1.0 x.0 y.0 from.1.1.0 x.1 y.1 in
       let named : shape.0 ≡ n = some_one shape.0 n (sym shape.1 ∙ from.1.1.1) in
       let f = sink_at from.0 shape.0 (record { node = from.1.0; at = from.1.1.0; file_is = shape.1 }) in
       let told = filtered_at stand_in net.nodes from.0 (node.Writing f.now) (f.now.node, f.now.count, f.now.end) f.there.at_last refl in
       let among : slice_get st.end.sinks.items told.0 ≡ Some (f.now.node, f.now.count, f.now.end) = subst (λ (z : List Stand). slice_get z told.0 ≡ Some (f.now.node, f.now.count, f.now.end)) (sym (l.stops.sinks ∙ sinks_filtered net.nodes)) told.1 in
       let grew : Grew (old.wfaults shape.0) 0 (new.wfaults shape.0) = calm_write f.now.end (old.wfaults shape.0) (new.wfaults shape.0) (none told.0 (f.now.node, f.now.count, f.now.end) among)
-      (stands_writes f.now.end (drains f.first.drain) (drains f.now.drain) f.law.wrote f.now.count (old.wfaults shape.0) (new.wfaults shape.0) f.law.stands f.start.faults (writes_grew sources drains handles b can ss ds budget st l old mid opens new closes from.0 shape.0 f)) in
+      (stands_writes f.now.end (drains f.first.drain) (drains f.now.drain) f.law.wrote f.now.count (old.wfaults shape.0) (new.wfaults shape.0) f.law.stands f.start.faults (sink_writes from.0 shape.0 f)) in
       subst (λ m. Grew (old.wfaults m) 0 (new.wfaults m)) named grew
 
   -- where no sink's write failed, no count of failed writes rose
   calm_writes : ((i : ℕ) (s : Stand) → slice_get st.end.sinks.items i ≡ Some s → is_write_fault s.2 ≡ false) → (n : List ℕ) → Grew (old.wfaults n) 0 (new.wfaults n)
   calm_writes none n = elim (contains_or_not (outputs_of_nodes nodes) n) [
     | inl c ↦ (calm_output none n c)
-    | inr never ↦ (other_writes sources drains handles b can ss ds budget st l old mid opens new closes n never)
+    | inr never ↦ (other_writes sources drains b can net.nodes st.end.readers.items st.end.writers.items apart old mid _ _ opens new closes n never)
   ]
 
   -- what passed each wire is of its type
@@ -665,22 +639,22 @@ module _ {S D : Type 0} (sources : S → SourceState) (drains : D → DrainState
 
   pub runs_of : (ran : Ran) → ran.sinks.items ≡ st.end.sinks.items → ran.wires.items ≡ st.wires.items → ran.used ≡ st.used → ran.at_rest ≡ st.at_rest → Runs old new b budget ran
   runs_of ran sinks wires used rest = record {
-    sinks_are = ap (map (λ (s : Stand). s.0)) sinks ∙ stands_are sources drains handles b can ss ds budget st l old mid opens;
-    told = tells_old sources drains handles b can ss ds budget st l old mid opens new closes;
+    sinks_are = ap (map (λ (s : Stand). s.0)) (sinks ∙ l.stops.sinks) ∙ stands_are sources drains handles b can ss ds net between old mid opens;
+    told = tells_old sources drains b can net.nodes st.end.readers.items st.end.writers.items apart old mid _ _ opens new closes;
     leaves = λ h. rw (sinks, wires, rest) (leaves_files h);
-    refusals = refused sources drains handles b can ss ds budget st l old mid opens new closes;
-    reads = other_reads sources drains handles b can ss ds budget st l old mid opens new closes;
+    refusals = refused sources drains b can net.nodes st.end.readers.items st.end.writers.items apart old mid _ _ opens new closes;
+    reads = other_reads sources drains b can net.nodes st.end.readers.items st.end.writers.items apart old mid _ _ opens new closes;
     writes = λ i s n file at here shape.
         let found = stand_of i s n file (subst (λ (x : List Stand). slice_get x i ≡ Some s) sinks at) here shape in
         let f = found.0 in
         subst (λ (t : Stand). WritesOf t.2 (old.wfaults file) (new.wfaults file)) (sym found.1)
-        (stands_writes f.now.end (drains f.first.drain) (drains f.now.drain) f.law.wrote f.now.count (old.wfaults file) (new.wfaults file) f.law.stands f.start.faults (writes_grew sources drains handles b can ss ds budget st l old mid opens new closes s.0 file f));
+        (stands_writes f.now.end (drains f.first.drain) (drains f.now.drain) f.law.wrote f.now.count (old.wfaults file) (new.wfaults file) f.law.stands f.start.faults (sink_writes s.0 file f));
     faults = λ i s at fault.
         let among : slice_get (filter_map stand_in net.nodes) i ≡ Some s = subst (λ (x : List Stand). slice_get x i ≡ Some s) (sinks ∙ l.stops.sinks ∙ sinks_filtered net.nodes) at in
         let from = unfiltered_at stand_in net.nodes i s among in
-        let below : from.0 < length nodes = subst (λ m. from.0 < m) (sym (as_many sources drains handles b can ss ds budget st l old mid opens)) (place_within net.nodes from.0 from.1.0 from.1.1.0) in
+        let below : from.0 < length nodes = subst (λ m. from.0 < m) (sym (as_many sources drains handles b can ss ds net between old mid opens)) (place_within net.nodes from.0 from.1.0 from.1.1.0) in
         let m = place_of nodes from.0 below in
-        let shape = fault_kind sources drains handles b can ss ds budget st l old mid opens from.0 m.0 from.1.0 s m.1 from.1.1.0 from.1.1.1 fault in
+        let shape = fault_kind sources drains handles b can ss ds net between old mid opens from.0 m.0 from.1.0 s m.1 from.1.1.0 from.1.1.1 fault in
         let f = sink_at from.0 shape.0 (record { node = m.0; at = m.1; file_is = shape.1 }) in
         let is : from.1.0 ≡ node.Writing f.now = place_one net.nodes from.0 from.1.0 (node.Writing f.now) from.1.1.0 f.there.at_last in
         let told : stand_in {S = S} (node.Writing f.now) ≡ Some s = ap stand_in (sym is) ∙ from.1.1.1 in
@@ -691,51 +665,14 @@ module _ {S D : Type 0} (sources : S → SourceState) (drains : D → DrainState
           file = shape.0;
           output = contains_at (outputs_of_nodes nodes) file.0 shape.0 file.1;
           rose = subst (λ (e : EndState). WritesOf e (old.wfaults shape.0) (new.wfaults shape.0)) failed
-              (stands_writes f.now.end (drains f.first.drain) (drains f.now.drain) f.law.wrote f.now.count (old.wfaults shape.0) (new.wfaults shape.0) f.law.stands f.start.faults (writes_grew sources drains handles b can ss ds budget st l old mid opens new closes from.0 shape.0 f));
+              (stands_writes f.now.end (drains f.first.drain) (drains f.now.drain) f.law.wrote f.now.count (old.wfaults shape.0) (new.wfaults shape.0) f.law.stands f.start.faults (sink_writes from.0 shape.0 f));
         };
     calm = λ none. calm_writes (λ i s at. none i s (subst (λ (x : List Stand). slice_get x i ≡ Some s) (sym sinks) at));
-    other_writes = other_writes sources drains handles b can ss ds budget st l old mid opens new closes;
-    other_draws = other_draws sources drains handles b can ss ds budget st l old mid opens new closes;
+    other_writes = other_writes sources drains b can net.nodes st.end.readers.items st.end.writers.items apart old mid _ _ opens new closes;
+    other_draws = other_draws sources drains b can net.nodes st.end.readers.items st.end.writers.items apart old mid _ _ opens new closes;
     within = rw used l.stops.within;
     spent = λ h. used ∙ l.stops.spent (sym rest ∙ h);
     pays = rw (wires, used) pays;
     carries = rw wires carried;
     wired = λ some. sinks_wired (subst (λ (x : List Stand). 1 ≤ length x) sinks some);
   }
-
--- ---- a run that gave up
-
--- before the files were opened, or while they were
-emptied_or_same : (old new : FolderState) (before : List (List ℕ)) (n : List ℕ) → All (λ m. new.file m ≡ Some []) before → ((Contains before n → ⊥) → new.file n ≡ old.file n) → (new.file n ≡ old.file n) ⊎ (new.file n ≡ Some [])
-emptied_or_same old new before n all others = elim (contains_or_not before n) [
-  | inl c ↦ (let at = contained_at before n c in inr (all_at (λ m. new.file m ≡ Some []) before at.0 n all at.1))
-  | inr never ↦ inl (others never)
-]
-
-front_contains : (before after : List (List ℕ)) (n : List ℕ) (i : ℕ) → slice_get before i ≡ Some n → slice_get (before ++ after) i ≡ Some n
-front_contains [] after n i e = absurd cc
-front_contains (x ∷ xs) after n zero e = e
-front_contains (x ∷ xs) after n (suc i) e = front_contains xs after n i e
-
-pub gives_up : (old new : FolderState) (b : Blueprint) → GivesUp old new (outputs_of_nodes b.nodes.items) → Wants old new b
-gives_up old new b h = record {
-  told = h.files.told;
-  others = λ tells n never. h.files.others tells n (λ c. let at = contained_at h.before n c in never (subst (λ (x : List (List ℕ)). Contains x n) (sym h.place) (contains_at (h.before ++ h.after) at.0 n (front_contains h.before h.after n at.0 at.1))));
-  outputs = λ tells n. emptied_or_same old new h.before n (h.files.emptied tells) (h.files.others tells n);
-  other_draws = λ n never. h.read n;
-  refusals = h.refusals;
-  rfaults = h.rfaults;
-  wfaults = h.wfaults;
-}
-
--- once they were opened
-pub gives_up_open : (old new : FolderState) (b : Blueprint) (is : List SourceState) (os : List DrainState) → OpensAll old new (inputs_of_nodes b.nodes.items) (outputs_of_nodes b.nodes.items) is os → Wants old new b
-gives_up_open old new b is os h = record {
-  told = h.files.told;
-  others = h.files.others;
-  outputs = λ tells n. emptied_or_same old new (outputs_of_nodes b.nodes.items) n (h.files.emptied tells) (h.files.others tells n);
-  other_draws = λ n never. grew_same (old.read n) (new.read n) (h.read n);
-  refusals = h.refusals;
-  rfaults = h.rfaults;
-  wfaults = h.wfaults;
-}

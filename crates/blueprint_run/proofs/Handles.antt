@@ -103,27 +103,33 @@ reading_same a b x e f = cc
 pub writing_same : {S D : Type 0} (a b : Sink D) (x : Node S D) → x ≡ node.Writing a → x ≡ node.Writing b → a ≡ b
 writing_same a b x e f = cc
 
+-- ---- an island of a blueprint between two events
+
+pub record Between {S D : Type 0} (sources : S → SourceState) (drains : D → DrainState) (b : Blueprint) (ss : List S) (ds : List D) (net : Net (Node S D)) : Type 0 where
+  pub places : List (Seated S D)
+  pub seats : AreSeats 0 b.nodes.items ss ds places
+  pub settled : Settled node_row (node_law sources drains) node_asking node_moves net
+  pub firsts : AllBecome places net.firsts
+  pub ends : net.ends ≡ map ends_of (links_from 0 (blueprint_wires b))
+
 -- ---- the handles of an island
 
-module _ {S D : Type 0} (sources : S → SourceState) (drains : D → DrainState) (laws : HandleLaws sources drains) (b : Blueprint) (can : CanRun b) (ss : List S) (ds : List D) (budget : ℕ) (st : Stopped S D) (l : Leaves sources drains b ss ds budget st)
+module _ {S D : Type 0} (sources : S → SourceState) (drains : D → DrainState) (laws : HandleLaws sources drains) (b : Blueprint) (can : CanRun b) (ss : List S) (ds : List D) (net : Net (Node S D)) (l : Between sources drains b ss ds net)
     (old mid : FolderState) (opens : OpensAll old mid (inputs_of_nodes b.nodes.items) (outputs_of_nodes b.nodes.items) (map sources ss) (map drains ds)) where
   abbrev pub nodes : List blue.Node
   nodes = b.nodes.items
 
-  abbrev pub net : Net (Node S D)
-  net = l.stops.net
-
   pub made : Materializes sources (graph_of b) net.firsts net.ends
   made =
       let started : All (λ i. i.given ≡ 0) (map sources ss) = λ k d h. (opens.sources k d h).given in
-      laws.made_law b ss ds l.places net.firsts net.ends can l.seats l.stops.firsts l.stops.ends (all_unmapped (λ i. i.given ≡ 0) sources ss started)
+      laws.made_law b ss ds l.places net.firsts net.ends can l.seats l.firsts l.ends (all_unmapped (λ i. i.given ≡ 0) sources ss started)
 
   -- what its run left
   abbrev pub left : Account (Node S D)
   left = account_of net
 
   pub is_run : IsRun sources drains (graph_of b) left
-  is_run = laws.run_law (graph_of b) net (laws.joined_law b can.plugs can.taken can.fit) l.stops.settled made
+  is_run = laws.run_law (graph_of b) net (laws.joined_law b can.plugs can.taken can.fit) l.settled made
 
   -- a source, as it was handed in and now
   pub record SourceFacts (k : ℕ) (file : List ℕ) : Type 0 where
@@ -137,7 +143,7 @@ module _ {S D : Type 0} (sources : S → SourceState) (drains : D → DrainState
   pub source_facts : (k : ℕ) (file : List ℕ) → IsSource nodes k file → SourceFacts k file
   source_facts k file is =
       let there = laws.source_there (graph_of b) left is_run k (node_of is.node) file (mapped_at node_of nodes k is.node is.at) is.kind_is in
-      let handed = laws.reads_law nodes ss ds l.places net.firsts l.seats l.stops.firsts k is.node file is.at is.kind_is in
+      let handed = laws.reads_law nodes ss ds l.places net.firsts l.seats l.firsts k is.node file is.at is.kind_is in
       let last : slice_get net.nodes k ≡ Some (node.Reading there.1.0) = there.1.1.at_last in
       let state : slice_get (map sources ss) handed.place ≡ Some (sources handed.first.reader.source) = mapped_at sources ss handed.place handed.first.reader.source handed.source in
       let called : slice_get (source_names (map sources ss)) handed.place ≡ Some (sources handed.first.reader.source).name = mapped_at (λ (i : SourceState). i.name) (map sources ss) handed.place (sources handed.first.reader.source) state in
@@ -148,7 +154,7 @@ module _ {S D : Type 0} (sources : S → SourceState) (drains : D → DrainState
         there = record { at_first = handed.at; at_last = last };
         start = all_at (AtStart old) (map sources ss) handed.place (sources handed.first.reader.source) opens.sources state;
         first_named = place_one (inputs_of_nodes nodes) handed.place (sources handed.first.reader.source).name file filed handed.file;
-        law = (l.stops.settled.minded k (slice_get-below net.nodes k (node.Reading there.1.0) last) (node.Reading there.1.0) (node.Reading handed.first) last handed.at).law_holds;
+        law = (l.settled.minded k (slice_get-below net.nodes k (node.Reading there.1.0) last) (node.Reading there.1.0) (node.Reading handed.first) last handed.at).law_holds;
       }
 
   -- the same of a sink
@@ -164,10 +170,10 @@ module _ {S D : Type 0} (sources : S → SourceState) (drains : D → DrainState
   pub sink_facts : (k : ℕ) (file : List ℕ) → IsSinkInto nodes k file → SinkFacts k file
   sink_facts k file is =
       let there = laws.sink_there (graph_of b) left is_run k (node_of is.node) (mapped_at node_of nodes k is.node is.at) (writes_file is.node.kind file is.file_is) in
-      let handed = laws.writes_law nodes ss ds l.places net.firsts l.seats l.stops.firsts k is.node file is.at is.file_is in
+      let handed = laws.writes_law nodes ss ds l.places net.firsts l.seats l.firsts k is.node file is.at is.file_is in
       let last : slice_get net.nodes k ≡ Some (node.Writing there.1.0) = there.1.1.at_last in
       let law : SinkLaw drains handed.first there.1.0 (view_of net k) (took net k) (gave net k) =
-      (l.stops.settled.minded k (slice_get-below net.nodes k (node.Writing there.1.0) last) (node.Writing there.1.0) (node.Writing handed.first) last handed.at).law_holds in
+      (l.settled.minded k (slice_get-below net.nodes k (node.Writing there.1.0) last) (node.Writing there.1.0) (node.Writing handed.first) last handed.at).law_holds in
       let state : slice_get (map drains ds) handed.place ≡ Some (drains handed.first.drain) = mapped_at drains ds handed.place handed.first.drain handed.drain in
       let called : slice_get (drain_names (map drains ds)) handed.place ≡ Some (drains handed.first.drain).name = mapped_at (λ (o : DrainState). o.name) (map drains ds) handed.place (drains handed.first.drain) state in
       let filed : slice_get (outputs_of_nodes nodes) handed.place ≡ Some (drains handed.first.drain).name = subst (λ (x : List (List ℕ)). slice_get x handed.place ≡ Some (drains handed.first.drain).name) opens.output_names called in
@@ -183,14 +189,14 @@ module _ {S D : Type 0} (sources : S → SourceState) (drains : D → DrainState
 
   -- there are as many nodes as the blueprint has
   pub as_many : length nodes ≡ length net.nodes
-  as_many = sym (length-map nodes node_of) ∙ sym made.nodes ∙ l.stops.settled.each_first
+  as_many = sym (length-map nodes node_of) ∙ sym made.nodes ∙ l.settled.each_first
 
   -- what each node leaves
   pub profiles : (k : ℕ) (n : blue.Node) (x : Node S D) → slice_get nodes k ≡ Some n → slice_get net.nodes k ≡ Some x → Profile sources drains k n x
   profiles k n x at here =
       let below : k < length net.nodes = slice_get-below net.nodes k x here in
-      let f = place_of net.firsts k (subst (λ m. k < m) (sym l.stops.settled.each_first) below) in
-      let law = (l.stops.settled.minded k below x f.0 here f.1).law_holds in
+      let f = place_of net.firsts k (subst (λ m. k < m) (sym l.settled.each_first) below) in
+      let law = (l.settled.minded k below x f.0 here f.1).law_holds in
       node_profile sources drains k n f.0 x (view_of net k) (took net k) (gave net k) (made.each_node k (node_of n) f.0 (mapped_at node_of nodes k n at) f.1) law
       (λ name y shape is.
       let facts = source_facts k name (record { node = n; at = at; kind_is = shape }) in
@@ -205,8 +211,8 @@ module _ {S D : Type 0} (sources : S → SourceState) (drains : D → DrainState
   pub fault_kind : (k : ℕ) (n : blue.Node) (x : Node S D) (s : Stand) → slice_get nodes k ≡ Some n → slice_get net.nodes k ≡ Some x → stand_in x ≡ Some s → s.2 ≡ WriteFault → (name : List ℕ) × (output_of n.kind ≡ Some name)
   fault_kind k n x s at here stands fault =
       let below : k < length net.nodes = slice_get-below net.nodes k x here in
-      let f = place_of net.firsts k (subst (λ m. k < m) (sym l.stops.settled.each_first) below) in
-      let law = (l.stops.settled.minded k below x f.0 here f.1).law_holds in
+      let f = place_of net.firsts k (subst (λ m. k < m) (sym l.settled.each_first) below) in
+      let law = (l.settled.minded k below x f.0 here f.1).law_holds in
       let y = never_faults sources drains k n f.0 x s (view_of net k) (took net k) (gave net k) law stands fault in
       writing_kind sources drains k n f.0 x y.0 (view_of net k) (took net k) (gave net k) (made.each_node k (node_of n) f.0 (mapped_at node_of nodes k n at) f.1) law y.1
 
@@ -214,102 +220,12 @@ module _ {S D : Type 0} (sources : S → SourceState) (drains : D → DrainState
   pub writer_kind : (k : ℕ) (n : blue.Node) (x : Node S D) (y : Sink D) → slice_get nodes k ≡ Some n → slice_get net.nodes k ≡ Some x → x ≡ node.Writing y → (name : List ℕ) × (output_of n.kind ≡ Some name)
   writer_kind k n x y at here is =
       let below : k < length net.nodes = slice_get-below net.nodes k x here in
-      let f = place_of net.firsts k (subst (λ m. k < m) (sym l.stops.settled.each_first) below) in
-      let law = (l.stops.settled.minded k below x f.0 here f.1).law_holds in
+      let f = place_of net.firsts k (subst (λ m. k < m) (sym l.settled.each_first) below) in
+      let law = (l.settled.minded k below x f.0 here f.1).law_holds in
       writing_kind sources drains k n f.0 x y (view_of net k) (took net k) (gave net k) (made.each_node k (node_of n) f.0 (mapped_at node_of nodes k n at) f.1) law is
 
-  -- the readers have the names of the inputs, and the drains those of the outputs
-  pub readers_named : source_names (map sources st.end.readers.items) ≡ inputs_of_nodes nodes
-  readers_named =
-      map_two (λ (i : SourceState). i.name) sources st.end.readers.items
-      ∙ ap (map (λ (s : S). (sources s).name)) (l.stops.readers ∙ readers_filtered net.nodes)
-      ∙ sym (filtered_along (λ (n : blue.Node). input_of n.kind) reader_in (λ (s : S). (sources s).name) nodes net.nodes as_many (λ k n x p q. (profiles k n x p q).input))
-
-  pub writers_named : drain_names (map drains st.end.writers.items) ≡ outputs_of_nodes nodes
-  writers_named =
-      map_two (λ (o : DrainState). o.name) drains st.end.writers.items
-      ∙ ap (map (λ (d : D). (drains d).name)) (l.stops.writers ∙ writers_filtered net.nodes)
-      ∙ sym (filtered_along (λ (n : blue.Node). output_of n.kind) writer_in (λ (d : D). (drains d).name) nodes net.nodes as_many (λ k n x p q. (profiles k n x p q).output))
-
-  pub stands_are : map (λ (s : Stand). s.0) st.end.sinks.items ≡ sink_places 0 nodes
+  -- the sinks stand in the order of nodes
+  pub stands_are : map (λ (s : Stand). s.0) (sinks_of net.nodes) ≡ sink_places 0 nodes
   stands_are =
-      ap (map (λ (s : Stand). s.0)) (l.stops.sinks ∙ sinks_filtered net.nodes)
+      ap (map (λ (s : Stand). s.0)) (sinks_filtered net.nodes)
       ∙ stands_along 0 nodes net.nodes as_many (λ i n x p q. subst (λ k. StandsAt k (is_sink n) (stand_in x)) (omega arith) (profiles i n x p q).stand)
-
-  -- the reader of a source is among those that were closed, and the drain of a sink
-  pub reader_closed : (k : ℕ) (file : List ℕ) (facts : SourceFacts k file) → (i : ℕ) × (slice_get (map sources st.end.readers.items) i ≡ Some (sources facts.now.reader.source))
-  reader_closed k file facts =
-      let found = filtered_at reader_in net.nodes k (node.Reading facts.now) facts.now.reader.source facts.there.at_last refl in
-      let among : slice_get st.end.readers.items found.0 ≡ Some facts.now.reader.source = subst (λ (x : List S). slice_get x found.0 ≡ Some facts.now.reader.source) (sym (l.stops.readers ∙ readers_filtered net.nodes)) found.1 in
-      (found.0, mapped_at sources st.end.readers.items found.0 facts.now.reader.source among)
-
-  pub drain_closed : (k : ℕ) (file : List ℕ) (facts : SinkFacts k file) → (i : ℕ) × (slice_get (map drains st.end.writers.items) i ≡ Some (drains facts.now.drain))
-  drain_closed k file facts =
-      let found = filtered_at writer_in net.nodes k (node.Writing facts.now) facts.now.drain facts.there.at_last refl in
-      let among : slice_get st.end.writers.items found.0 ≡ Some facts.now.drain = subst (λ (x : List D). slice_get x found.0 ≡ Some facts.now.drain) (sym (l.stops.writers ∙ writers_filtered net.nodes)) found.1 in
-      (found.0, mapped_at drains st.end.writers.items found.0 facts.now.drain among)
-
-  -- ---- the folder at the end
-
-  module _ (new : FolderState) (closes : ClosesAll mid new (map sources st.end.readers.items) (map drains st.end.writers.items)) where
-    readers_distinct : Distinct (source_names (map sources st.end.readers.items))
-    readers_distinct = subst Distinct (sym readers_named) (inputs_distinct b can.plugs can.taken can.fit)
-
-    writers_distinct : Distinct (drain_names (map drains st.end.writers.items))
-    writers_distinct = subst Distinct (sym writers_named) (outputs_distinct b can.plugs can.taken can.fit)
-
-    module _ (k : ℕ) (file : List ℕ) (facts : SourceFacts k file) where
-      now_named : (sources facts.now.reader.source).name ≡ file
-      now_named = facts.law.name ∙ facts.first_named
-
-      -- what was read, and the reads that failed
-      pub read_grew : Grew (old.read file) (sources facts.now.reader.source).given (new.read file)
-      read_grew =
-          let i = reader_closed k file facts in
-          let grew = all_at (λ (x : SourceState). Grew (mid.read x.name) x.given (new.read x.name)) (map sources st.end.readers.items) i.0 (sources facts.now.reader.source) (closes.read.each readers_distinct) i.1 in
-          subst (λ m. Grew m (sources facts.now.reader.source).given (new.read file)) (opens.read file)
-          (subst (λ n. Grew (mid.read n) (sources facts.now.reader.source).given (new.read n)) now_named grew)
-
-      pub faults_grew : Grew (old.rfaults file) (sources facts.now.reader.source).faults (new.rfaults file)
-      faults_grew =
-          let i = reader_closed k file facts in
-          let grew = all_at (λ (x : SourceState). Grew (mid.rfaults x.name) x.faults (new.rfaults x.name)) (map sources st.end.readers.items) i.0 (sources facts.now.reader.source) (closes.rfaults.each readers_distinct) i.1 in
-          grew_behind (old.rfaults file) (mid.rfaults file) (new.rfaults file) (sources facts.now.reader.source).faults (opens.rfaults file)
-          (subst (λ n. Grew (mid.rfaults n) (sources facts.now.reader.source).faults (new.rfaults n)) now_named grew)
-
-    module _ (k : ℕ) (file : List ℕ) (facts : SinkFacts k file) where
-      drain_named : (drains facts.now.drain).name ≡ file
-      drain_named = facts.law.name ∙ facts.first_named
-
-      pub writes_grew : Grew (old.wfaults file) (drains facts.now.drain).faults (new.wfaults file)
-      writes_grew =
-          let i = drain_closed k file facts in
-          let grew = all_at (λ (x : DrainState). Grew (mid.wfaults x.name) x.faults (new.wfaults x.name)) (map drains st.end.writers.items) i.0 (drains facts.now.drain) (closes.wfaults.each writers_distinct) i.1 in
-          grew_behind (old.wfaults file) (mid.wfaults file) (new.wfaults file) (drains facts.now.drain).faults (opens.wfaults file)
-          (subst (λ n. Grew (mid.wfaults n) (drains facts.now.drain).faults (new.wfaults n)) drain_named grew)
-
-      -- the file is what the drain held
-      pub file_held : IsTrue new.tells → new.file file ≡ (drains facts.now.drain).holds
-      file_held tells =
-          let i = drain_closed k file facts in
-          let held = all_at (λ (x : DrainState). new.file x.name ≡ x.holds) (map drains st.end.writers.items) i.0 (drains facts.now.drain) (closes.files.each writers_distinct tells) i.1 in
-          subst (λ n. new.file n ≡ (drains facts.now.drain).holds) drain_named held
-
-    pub other_files : IsTrue new.tells → (n : List ℕ) → (Contains (outputs_of_nodes nodes) n → ⊥) → new.file n ≡ old.file n
-    other_files tells n never =
-        closes.files.others tells n (λ c. never (subst (λ (x : List (List ℕ)). Contains x n) writers_named c)) ∙ opens.files.others (closes.files.told tells) n never
-
-    pub other_reads : (n : List ℕ) → (Contains (inputs_of_nodes nodes) n → ⊥) → Grew (old.rfaults n) 0 (new.rfaults n)
-    other_reads n never = grew_behind (old.rfaults n) (mid.rfaults n) (new.rfaults n) 0 (opens.rfaults n) (grew_same (mid.rfaults n) (new.rfaults n) (closes.rfaults.others n (λ c. never (subst (λ (x : List (List ℕ)). Contains x n) readers_named c))))
-
-    pub other_draws : (n : List ℕ) → (Contains (inputs_of_nodes nodes) n → ⊥) → Grew (old.read n) 0 (new.read n)
-    other_draws n never = grew_same (old.read n) (new.read n) (closes.read.others n (λ c. never (subst (λ (x : List (List ℕ)). Contains x n) readers_named c)) ∙ opens.read n)
-
-    pub other_writes : (n : List ℕ) → (Contains (outputs_of_nodes nodes) n → ⊥) → Grew (old.wfaults n) 0 (new.wfaults n)
-    other_writes n never = grew_behind (old.wfaults n) (mid.wfaults n) (new.wfaults n) 0 (opens.wfaults n) (grew_same (mid.wfaults n) (new.wfaults n) (closes.wfaults.others n (λ c. never (subst (λ (x : List (List ℕ)). Contains x n) writers_named c))))
-
-    pub refused : (n : List ℕ) → Grew (old.refusals n) 0 (new.refusals n)
-    refused n = grew_behind (old.refusals n) (mid.refusals n) (new.refusals n) 0 (opens.refusals n) (grew_same (mid.refusals n) (new.refusals n) (closes.refusals n))
-
-    pub tells_old : IsTrue new.tells → IsTrue old.tells
-    tells_old h = opens.files.told (closes.files.told h)

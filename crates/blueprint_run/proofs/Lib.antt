@@ -3,8 +3,11 @@ pub mod Counts
 pub mod Apart
 pub mod Profiles
 pub mod Handles
+pub mod Shutting
 pub mod Stopping
 pub mod Units
 pub mod Worlds
 pub mod Carried
+pub mod Drawns
 pub mod Closing
+pub mod Breaking

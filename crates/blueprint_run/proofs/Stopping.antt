@@ -5,14 +5,17 @@ use Rattle.std.proofs.lemmas.Bool.Decides.{eqb_tells}
 use Rattle.stream_model.specs.declared.outcome.WireCount.{WireCount}
 use Rattle.stream_io.specs.State.{SourceState, DrainState}
 use Rattle.fused_net.specs.Net.{Net}
-use Rattle.fused_net.specs.Laws.{GoesOn}
+use Rattle.fused_net.specs.Laws.{GoesOn, BreaksOff}
 use Rattle.fused_net.specs.Costs.{total, Uses}
+use Rattle.fused_net.proofs.Keeping.{kept_same}
+use Rattle.nodes.specs.Nodes.{node_row, node_law, node_asking, node_moves, node_keeps}
 use Rattle.nodes.specs.declared.node.Node.{Node}
+use Rattle.interpreter.specs.declared.island.IslandEnd.{IslandEnd}
 use Rattle.interpreter.specs.declared.parts.Link.{Link}
 use Rattle.interpreter.specs.declared.parts.Seated.{Seated}
 use Rattle.interpreter.specs.Parts.{ends_of, number_of, AllBecome}
 use Rattle.interpreter.specs.Island.{Keeps, counts_of, sinks_of, readers_of, writers_of}
-use Rattle.blueprint_run.specs.Leaving.{Stops}
+use Rattle.blueprint_run.specs.Leaving.{Stops, Breaks}
 use Rattle.blueprint_run.specs.declared.run.Stopped.{Stopped}
 
 true_false : (b : Bool) → IsTrue b → b ≡ false → ⊥
@@ -45,3 +48,23 @@ stops_of sources drains places links budget old net numbers s keeps uses on firs
   rests = rest;
   spent = λ stands. spent_by s.used budget within (λ h. true_false s.at_rest (rest.1 (less h)) stands);
 }
+
+-- and of one in which memory was wanting
+pub breaks_of : {S D : Type 0} (sources : S → SourceState) (drains : D → DrainState) (places : List (Seated S D)) (links : List Link) (old : Net (Node S D)) (nodes : List (Node S D)) (e : IslandEnd S D) → BreaksOff node_row (node_law sources drains) node_asking node_moves (node_keeps sources drains) old nodes
+    → AllBecome places old.firsts → old.ends ≡ map ends_of links → e.readers.items ≡ readers_of nodes → e.writers.items ≡ writers_of nodes → Breaks sources drains places links e
+breaks_of sources drains places links old nodes e off firsts ends readers writers = record {
+  net = off.last;
+  settled = off.settled;
+  firsts = subst (λ f. AllBecome places f) (sym off.on.firsts) firsts;
+  ends = off.on.ends ∙ ends;
+  nodes = nodes;
+  kept = off.kept;
+  readers = readers;
+  writers = writers;
+}
+
+-- also where it was wanting behind the last event
+pub breaks_behind : {S D : Type 0} (sources : S → SourceState) (drains : D → DrainState) (places : List (Seated S D)) (links : List Link) (old net : Net (Node S D)) (used : ℕ) (e : IslandEnd S D) → Keeps sources drains net used → GoesOn old net
+    → AllBecome places old.firsts → old.ends ≡ map ends_of links → e.readers.items ≡ readers_of net.nodes → e.writers.items ≡ writers_of net.nodes → Breaks sources drains places links e
+breaks_behind sources drains places links old net used e keeps on firsts ends readers writers =
+    breaks_of sources drains places links old net.nodes e (record { last = net; settled = keeps.laws; on = on; kept = kept_same (node_keeps sources drains) net.nodes }) firsts ends readers writers

@@ -1,13 +1,14 @@
 -- What the island of a blueprint leaves, by the net of its nodes at its end.
-use Rattle.std.specs.Prelude.{◌≡◌, ℕ, ◌≤◌, ◌↔◌, false, IsTrue, List, [], map}
+use Rattle.std.specs.Prelude.{◌≡◌, ℕ, ◌≤◌, ◌↔◌, false, IsTrue, List, [], map, ⊤}
 use Rattle.blue_core.specs.declared.blueprint.Blueprint.{Blueprint}
 use Rattle.stream_model.specs.declared.outcome.WireCount.{WireCount}
 use Rattle.stream_io.specs.State.{SourceState, DrainState}
 use Rattle.nodes.specs.declared.node.Node.{Node}
-use Rattle.nodes.specs.Nodes.{node_row, node_law, node_asking, node_moves}
+use Rattle.nodes.specs.Nodes.{node_row, node_law, node_asking, node_moves, node_keeps}
 use Rattle.fused_net.specs.Net.{Net}
-use Rattle.fused_net.specs.Laws.{Settled}
+use Rattle.fused_net.specs.Laws.{Settled, AllKept}
 use Rattle.fused_net.specs.Costs.{total, all_asks}
+use Rattle.interpreter.specs.declared.island.IslandEnd.{IslandEnd}
 use Rattle.interpreter.specs.declared.parts.Link.{Link}
 use Rattle.interpreter.specs.declared.parts.Seated.{Seated}
 use Rattle.interpreter.specs.Parts.{AllBecome, ends_of, number_of}
@@ -15,6 +16,8 @@ use Rattle.interpreter.specs.Island.{counts_of, sinks_of, readers_of, writers_of
 use Rattle.materializer.specs.Seats.{AreSeats, links_from}
 use Rattle.blue_check.specs.Wires.{blueprint_wires}
 use Rattle.blueprint_run.specs.declared.run.Stopped.{Stopped}
+use Rattle.blueprint_run.specs.declared.run.Broken.{Broken}
+use Rattle.blueprint_run.specs.declared.run.Broken.TheVariants.{Unmade, Within}
 
 -- The island of these parts was run, by so many units at most, and taken apart. At least so many units were used as asks came to
 -- outputs, and no more than what all wires have cost.
@@ -38,3 +41,30 @@ pub record Leaves {S D : Type 0} (sources : S → SourceState) (drains : D → D
   pub places : List (Seated S D)
   pub seats : AreSeats 0 b.nodes.items ss ds places
   pub stops : Stops sources drains places (links_from 0 (blueprint_wires b)) budget s
+
+-- The island of these parts was run and memory was wanting: it was taken apart. Since a last moment between two events each of its
+-- nodes has kept what outlives that.
+pub record Breaks {S D : Type 0} (sources : S → SourceState) (drains : D → DrainState) (places : List (Seated S D)) (links : List Link) (e : IslandEnd S D) : Type 0 where
+  pub net : Net (Node S D)
+  pub settled : Settled node_row (node_law sources drains) node_asking node_moves net
+  pub firsts : AllBecome places net.firsts
+  pub ends : net.ends ≡ map ends_of links
+  pub nodes : List (Node S D)
+  pub kept : AllKept (node_keeps sources drains) net.nodes nodes
+  pub readers : e.readers.items ≡ readers_of nodes
+  pub writers : e.writers.items ≡ writers_of nodes
+
+-- the same of the island of a blueprint, over these sources and these drains
+pub record LeavesBroken {S D : Type 0} (sources : S → SourceState) (drains : D → DrainState) (b : Blueprint) (ss : List S) (ds : List D) (e : IslandEnd S D) : Type 0 where
+  pub places : List (Seated S D)
+  pub seats : AreSeats 0 b.nodes.items ss ds places
+  pub breaks : Breaks sources drains places (links_from 0 (blueprint_wires b)) e
+
+-- memory was wanting before the island ran, or in its run
+abbrev pub BreaksAs : {S D : Type 0} → (S → SourceState) → (D → DrainState) → List (Seated S D) → List Link → Broken S D → Type 0
+BreaksAs sources drains places links Unmade = ⊤
+BreaksAs sources drains places links (Within e) = Breaks sources drains places links e
+
+abbrev pub LeavesBrokenAs : {S D : Type 0} → (S → SourceState) → (D → DrainState) → Blueprint → List S → List D → Broken S D → Type 0
+LeavesBrokenAs sources drains b ss ds Unmade = ⊤
+LeavesBrokenAs sources drains b ss ds (Within e) = LeavesBroken sources drains b ss ds e

@@ -1,6 +1,8 @@
 -- What a run of a blueprint leaves in the folder.
-use Rattle.std.specs.Prelude.{◌≡◌, ◌≢◌, ℕ, ◌≤◌, ◌⊎◌, Bool, false, IsTrue, List, [], length, map, slice_get, Some}
+use Rattle.std.specs.Prelude.{◌≡◌, ◌≢◌, ℕ, ◌+◌, ◌≤◌, ◌⊎◌, Bool, false, IsTrue, List, [], length, map, slice_get, Some}
 use Rattle.std.specs.List.{Contains, list_any}
+use Rattle.elem_core.specs.Prefix.{IsPrefix}
+use Rattle.elem_core.specs.Text.{text_lines}
 use Rattle.blue_core.specs.declared.blueprint.Blueprint.{Blueprint}
 use Rattle.blue_core.specs.declared.blueprint.Node.{Node}
 use Rattle.blue_check.specs.Wires.{blueprint_wires}
@@ -22,8 +24,9 @@ use Rattle.run_laws.specs.Sinks.{SinkTells, SentTo, IgnoreTells}
 use Rattle.materializer.specs.Graphs.{node_of, graph_of}
 use Rattle.materializer.specs.Files.{output_of, inputs_of_nodes, outputs_of_nodes}
 use Rattle.run_files.specs.Quiet.{Quiet}
+use Rattle.run_files.specs.Opening.{GivesUp}
 use Rattle.blueprint_run.specs.Carrying.{Carries}
-use Rattle.blueprint_run.specs.Drawing.{Drawn, IsSource, WereRead, IsWorldOf, DrawsFirst}
+use Rattle.blueprint_run.specs.Drawing.{Drawn, IsSource, WasRead, WereRead, IsWorldOf, DrawsFirst}
 use Rattle.blueprint_run.specs.Stands.{Stand, sink_places, has_ended_at, is_write_fault, is_unended}
 use Rattle.blueprint_run.specs.Units.{Pays}
 use Rattle.blueprint_run.specs.declared.run.Ran.{Ran}
@@ -101,12 +104,43 @@ pub record Runs (old new : FolderState) (b : Blueprint) (budget : ℕ) (ran : Ra
   pub carries : Carries b ran.wires.items
   pub wired : 1 ≤ length ran.sinks.items → 1 ≤ length (blueprint_wires b)
 
--- memory was wanting before the run or in it: each file of a sink is as it was or empty, no other is changed, and no count rose
-pub record Wants (old new : FolderState) (b : Blueprint) : Type 0 where
-  pub told : IsTrue new.tells → IsTrue old.tells
+-- A source of a run in which memory was wanting: its file was there with these bytes, so many of them were read, and at most one
+-- piece and one longest line with its LF more; and the count of failed reads rose only where a read failed.
+pub record WasReadOn (old new : FolderState) (file bytes : List ℕ) (given : ℕ) (faulted : Bool) : Type 0 where
+  pub more : ℕ
+  pub given_less : given ≤ more
+  pub ahead : more ≤ given + 69632
+  pub read : WasRead old new file bytes more faulted
+
+-- What is told of the sink with a file that is node k, in a run in which memory was wanting: it stood so, and wrote what the composed
+-- outlook of the sink lets it write, by every world that has the input files as they were read; so that is a first part of the text
+-- of all that may pass. Where the folder still tells its files, the sink's file holds just that.
+pub record SinkBreaks (old new : FolderState) (b : Blueprint) (d : Drawn) (k : ℕ) (n : Node) (file : List ℕ) : Type 0 where
+  pub held : List ℕ
+  pub end : EndState
+  pub there : IsTrue new.tells → new.file file ≡ Some held
+  pub tells : (w : World) → IsWorldOf b.nodes.items d w → SinkTells (sink_outlook (graph_of b) w k (node_of n)) end held
+  pub part : (w : World) → IsWorldOf b.nodes.items d w → IsPrefix held (text_lines (sink_outlook (graph_of b) w k (node_of n)).list)
+  pub writes : WritesOf end (old.wfaults file) (new.wfaults file)
+
+-- the inputs were read, and each sink wrote a first part of what it may write; no other file is changed
+pub record BreaksFiles (old new : FolderState) (b : Blueprint) : Type 0 where
+  pub drawn : Drawn
+  pub read : (k : ℕ) (file : List ℕ) → IsSource b.nodes.items k file → WasReadOn old new file (drawn.bytes k) (drawn.given k) (drawn.faulted k)
+  pub world : World
+  pub has_files : IsWorldOf b.nodes.items drawn world
+  pub sink : (k : ℕ) (n : Node) (file : List ℕ) → slice_get b.nodes.items k ≡ Some n → output_of n.kind ≡ Some file → SinkBreaks old new b drawn k n file
   pub others : IsTrue new.tells → (n : List ℕ) → ¬ (Contains (outputs_of_nodes b.nodes.items) n) → new.file n ≡ old.file n
-  pub outputs : IsTrue new.tells → (n : List ℕ) → (new.file n ≡ old.file n) ⊎ (new.file n ≡ Some [])
+
+-- memory was wanting in the run: what is told of it where the folder told its files before it, and which counts may have risen
+pub record WantsWithin (old new : FolderState) (b : Blueprint) : Type 0 where
+  pub told : IsTrue new.tells → IsTrue old.tells
+  pub leaves : IsTrue old.tells → BreaksFiles old new b
   pub refusals : Quiet old.refusals new.refusals
-  pub rfaults : Quiet old.rfaults new.rfaults
-  pub wfaults : Quiet old.wfaults new.wfaults
+  pub reads : (n : List ℕ) → ¬ (Contains (inputs_of_nodes b.nodes.items) n) → Grew (old.rfaults n) 0 (new.rfaults n)
+  pub other_writes : (n : List ℕ) → ¬ (Contains (outputs_of_nodes b.nodes.items) n) → Grew (old.wfaults n) 0 (new.wfaults n)
   pub other_draws : (n : List ℕ) → ¬ (Contains (inputs_of_nodes b.nodes.items) n) → Grew (old.read n) 0 (new.read n)
+
+-- memory was wanting before the run, and then the first of the outputs are empty, and no other file is changed and no count rose; or in it
+abbrev pub Wants : FolderState → FolderState → Blueprint → Type 0
+Wants old new b = GivesUp old new (outputs_of_nodes b.nodes.items) ⊎ WantsWithin old new b

@@ -1,13 +1,15 @@
 // The run of a blueprint over a folder.
-ghost use Rattle.std.specs.Prelude.{◌≡◌, ◌≤◌, ℕ, List, IfOk, Err, map, length, vec_len};
+ghost use Rattle.std.specs.Prelude.{◌≡◌, ◌≤◌, ℕ, List, IfOk, IfErr, Err, map, length, vec_len};
 ghost use Rattle.blue_core.specs.declared.blueprint.Blueprint as plan;
 ghost use Rattle.stream_io.specs.State.{FolderState};
+ghost use Rattle.interpreter.specs.Island.{counts_of, sinks_of, readers_of, writers_of};
 ghost use Rattle.interpreter.specs.Parts.{AreParts};
 ghost use Rattle.materializer.specs.Built.{CanRun};
 ghost use Rattle.materializer.specs.Files.{inputs_of_nodes, outputs_of_nodes};
 ghost use Rattle.run_files.specs.Opening.{OpensAll, MissesInput, RefusesOutput};
-ghost use Rattle.blueprint_run.specs.Leaving.{Stops, Leaves};
-ghost use Rattle.blueprint_run.specs.Running.{Runs, Wants};
+ghost use Rattle.run_files.specs.Closing.{ClosesAll};
+ghost use Rattle.blueprint_run.specs.Leaving.{Stops, Leaves, BreaksAs, LeavesBroken, LeavesBrokenAs};
+ghost use Rattle.blueprint_run.specs.Running.{Runs, Wants, WantsWithin};
 
 use blue_core::blueprint::Blueprint;
 use elem_core::why::NoMemory;
@@ -62,28 +64,57 @@ fn counts(alloc: Global, wires: &[(u32, WireCount)]) -> Result<Vec<WireCount>, N
     Ok(counts)
 }
 
+/// Where memory was wanting.
+#[derive(Drop)]
+enum Broken<S: Source, D: Drain> {
+    /// Before the island ran: nothing was read or written, and its handles are dropped.
+    Unmade,
+    /// In its run: it was taken apart.
+    Within(IslandEnd<S, D>),
+}
+
+/// Takes an island apart, which takes no memory.
+fn take_apart<S: Source, D: Drain>(island: Island<S, D>) -> IslandEnd<S, D>
+    ensures sinks { result.sinks.items ≡ sinks_of island.net.nodes }
+    ensures wires { result.wires.items ≡ counts_of island.numbers island.net.wires }
+    ensures readers { result.readers.items ≡ readers_of island.net.nodes }
+    ensures writers { result.writers.items ≡ writers_of island.net.nodes }
+{
+    match island.finish() {
+        Ok(end) => end,
+        Err(AllocError) => unreachable!(),
+    }
+}
+
 /// Starts an island, runs it by at most so many units, and takes it apart.
 fn execute<S: Source, D: Drain>(
     alloc: Global,
     parts: Parts<S, D>,
     budget: u32,
-) -> Result<Stopped<S, D>, NoMemory>
+) -> Result<Stopped<S, D>, Broken<S, D>>
     requires parts { AreParts parts.nodes.items parts.links.items }
     requires budget { budget ≤ 4000000000 }
-    ensures { IfOk result (λ stopped. Stops S.state D.state parts.nodes.items parts.links.items budget stopped) }
+    ensures stops { IfOk result (λ stopped. Stops S.state D.state parts.nodes.items parts.links.items budget stopped) }
+    ensures breaks { IfErr result (λ broken. BreaksAs S.state D.state parts.nodes.items parts.links.items broken) }
 {
-    let mut island = Island::start(alloc, parts)?;
-    let used = island.execute(alloc, budget)?;
+    let Ok(mut island) = Island::start(alloc, parts) else {
+        return Err(Broken::Unmade);
+    };
+    let Ok(used) = island.execute(alloc, budget) else {
+        return Err(Broken::Within(take_apart(island)));
+    };
     island.laws();
     let at_rest = island.at_rest();
-    let end = island.finish(alloc)?;
-    let wires = counts(alloc, &end.wires)?;
-    Ok(Stopped {
-        end,
-        wires,
-        used,
-        at_rest,
-    })
+    let end = take_apart(island);
+    match counts(alloc, &end.wires) {
+        Ok(wires) => Ok(Stopped {
+            end,
+            wires,
+            used,
+            at_rest,
+        }),
+        Err(AllocError) => Err(Broken::Within(end)),
+    }
 }
 
 /// Makes the island of a blueprint over its open files, runs it by at most so many units, and takes it apart.
@@ -93,16 +124,18 @@ fn run_open<S: Source, D: Drain>(
     sources: Vec<S>,
     drains: Vec<D>,
     budget: u32,
-) -> Result<Stopped<S, D>, NoMemory>
+) -> Result<Stopped<S, D>, Broken<S, D>>
     requires runs { CanRun b }
     requires budget { budget ≤ 4000000000 }
     requires sources { vec_len sources ≡ length (inputs_of_nodes b.nodes.items) }
     requires drains { vec_len drains ≡ length (outputs_of_nodes b.nodes.items) }
-    ensures { IfOk result (λ stopped. Leaves S.state D.state b sources.items drains.items budget stopped) }
+    ensures leaves { IfOk result (λ stopped. Leaves S.state D.state b sources.items drains.items budget stopped) }
+    ensures breaks { IfErr result (λ broken. LeavesBrokenAs S.state D.state b sources.items drains.items broken) }
 {
-    let parts = parts_of(alloc, b, sources, drains)?;
-    let stopped = execute(alloc, parts, budget)?;
-    Ok(stopped)
+    match parts_of(alloc, b, sources, drains) {
+        Ok(parts) => execute(alloc, parts, budget),
+        Err(AllocError) => Err(Broken::Unmade),
+    }
 }
 
 /// Closes what a run had opened.
@@ -141,8 +174,26 @@ fn close<F: Folder>(folder: &mut F, stopped: Stopped<F::Inp, F::Out>) -> Ran
     }
 }
 
+/// Closes what a run had opened in which memory was wanting.
+fn close_broken<F: Folder>(folder: &mut F, end: IslandEnd<F::Inp, F::Out>)
+    ensures closes { ClosesAll (F.state folder.old) (F.state folder.new) (map F.Inp.state end.readers.items) (map F.Out.state end.writers.items) }
+    ensures wants { (old : FolderState) (b : plan.Blueprint) (ss : List F.Inp) (ds : List F.Out) → CanRun b
+        → OpensAll old (F.state folder.old) (inputs_of_nodes b.nodes.items) (outputs_of_nodes b.nodes.items) (map F.Inp.state ss) (map F.Out.state ds)
+        → LeavesBroken F.Inp.state F.Out.state b ss ds end → WantsWithin old (F.state folder.new) b }
+{
+    an_island_leaves_a_run::<F::Inp, F::Out>();
+    every_sink_agrees::<F::Inp, F::Out>();
+    every_sink_writes::<F::Inp, F::Out>();
+    every_source_reads_little_ahead::<F::Inp, F::Out>();
+    fit_blueprints_are_whole();
+    parts_are_made_of_their_blueprint::<F::Inp, F::Out>();
+    parts_hold_their_files::<F::Inp, F::Out>();
+    let (readers, writers) = (end.readers, end.writers);
+    close_all(folder, readers, writers);
+}
+
 /// Opens the files of a blueprint, its inputs in order and then its outputs in order, lets its island run by at most `budget` units, and
-/// closes them. Where memory is wanting in the run, what was opened is dropped.
+/// closes them, also where memory is wanting in the run.
 pub fn run<F: Folder>(
     alloc: Global,
     folder: &mut F,
@@ -168,6 +219,10 @@ pub fn run<F: Folder>(
     };
     match run_open(alloc, b, inputs, outputs, budget) {
         Ok(stopped) => Ok(close(folder, stopped)),
-        Err(AllocError) => Err(OpenEnd::NoMemory),
+        Err(Broken::Unmade) => Err(OpenEnd::NoMemory),
+        Err(Broken::Within(end)) => {
+            close_broken(folder, end);
+            Err(OpenEnd::NoMemory)
+        }
     }
 }

@@ -13,6 +13,7 @@ use Rattle.fused_net.specs.Net.{Net, port_at}
 use Rattle.stream_io.specs.State.{SourceState, DrainState}
 use Rattle.fused_net.specs.Laws.{first_view, Wired, Settled}
 use Rattle.fused_net.specs.Costs.{all_asks}
+use Rattle.interpreter.specs.declared.island.IslandEnd.{IslandEnd}
 use Rattle.interpreter.specs.declared.parts.Link.{Link}
 use Rattle.interpreter.specs.declared.parts.Seated.{Seated}
 use Rattle.interpreter.specs.declared.parts.Work.{Work}
@@ -27,6 +28,7 @@ use Rattle.port_core.specs.Decoding.{is_open}
 use Rattle.wire_core.specs.Cell.{Cell}
 use Rattle.wire_core.specs.Counts.{elements}
 use Rattle.interpreter.specs.Island.{Keeps, count_of, counts_of, sinks_of, readers_of, writers_of}
+use Rattle.interpreter.specs.Room.{HasRoom}
 
 some_same : {A : Type 0} (x y : A) → Some x ≡ Some y → x ≡ y
 some_same x y e = cc
@@ -140,3 +142,7 @@ writers_cut (node.Ignoring x) xs = refl
 -- an island that was started
 pub keeps_new : {S D : Type 0} (sources : S → SourceState) (drains : D → DrainState) (old new : Net (Node S D)) → Settled node_row (node_law sources drains) node_asking node_moves new → all_asks new ≤ all_asks old → all_asks old ≡ 0 → Keeps sources drains new 0
 keeps_new sources drains old new s h e = record { laws = s; asks = omega (arith, h, e); within = omega arith }
+
+-- the room is for these numbers of nodes and wires
+pub room_as : {S D : Type 0} (room : IslandEnd S D) (nodes wires more_nodes more_wires : ℕ) → HasRoom room nodes wires → more_nodes ≡ nodes → more_wires ≡ wires → HasRoom room more_nodes more_wires
+room_as room nodes wires more_nodes more_wires h e f = rw (e, f) h

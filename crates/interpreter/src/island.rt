@@ -1,10 +1,11 @@
 // An island of nodes that runs event by event.
-ghost use Rattle.std.specs.Prelude.{◌≡◌, ◌+◌, ◌<◌, ◌≤◌, ◌↔◌, ◌∷◌, ◌++◌, [], false, IsTrue, IfOk, OnOk, map};
-ghost use Rattle.fused_net.specs.Laws.{Starting, GoesOn};
+ghost use Rattle.std.specs.Prelude.{◌≡◌, ◌+◌, ◌<◌, ◌≤◌, ◌↔◌, ◌∷◌, ◌++◌, [], false, length, IsTrue, IsOk, IfOk, OnOk, OnErr, map, vec_len, vec_capacity};
+ghost use Rattle.fused_net.specs.Laws.{Starting, GoesOn, BreaksOff};
 ghost use Rattle.fused_net.specs.Costs.{all_asks, Uses};
-ghost use Rattle.nodes.specs.Nodes.{node_fresh, node_row, node_law, node_asking, node_moves};
+ghost use Rattle.nodes.specs.Nodes.{node_fresh, node_row, node_law, node_asking, node_moves, node_keeps};
 ghost use Rattle.interpreter.specs.Parts.{AreParts, AllBecome, ends_of, number_of};
 ghost use Rattle.interpreter.specs.Island.{Keeps, counts_of, sinks_of, readers_of, writers_of};
+ghost use Rattle.interpreter.specs.Room.{HasRoom};
 
 use crate::parts::{Parts, all_ends, all_numbers, join, seat_all};
 use elem_core::why::NoMemory;
@@ -28,12 +29,15 @@ pub struct Island<S: Source, D: Drain> {
     numbers: Vec<u32>,
     used: u32,
     broken: bool,
+    // The lists of its end, which are empty and have room for all of it: it is taken apart without memory.
+    room: IslandEnd<S, D>,
 }
 
 impl<S: Source, D: Drain> Model for Island<S, D> {
-    ghost use Rattle.std.specs.Prelude.{◌≡◌, ◌≤◌, [], false};
+    ghost use Rattle.std.specs.Prelude.{◌≡◌, ◌≤◌, [], false, length};
     ghost use Rattle.stage_core.specs.Handling.{most_acts};
     ghost use Rattle.interpreter.specs.Island.{Kept, Keeps};
+    ghost use Rattle.interpreter.specs.Room.{HasRoom};
     ghost use Rattle.std.specs.Coded.{codes};
     ghost use Rattle.elem_core.specs.TreeCode.{tree_coded};
 
@@ -43,7 +47,7 @@ impl<S: Source, D: Drain> Model for Island<S, D> {
 
     ghost view = { λ i. record { net = i.engine; numbers = i.numbers.items; used = i.used; broken = i.broken } };
 
-    ghost invariant = { λ i. i.broken ≡ false → Keeps S.state D.state i.engine i.used × (i.acts.items ≡ []) × (most_acts ≤ i.acts.room) };
+    ghost invariant = { λ i. HasRoom i.room (length i.engine.nodes) (length i.numbers.items) × (i.broken ≡ false → Keeps S.state D.state i.engine i.used × (i.acts.items ≡ []) × (most_acts ≤ i.acts.room)) };
 }
 
 /// What an island leaves at its end, each list in order of its nodes or wires.
@@ -74,6 +78,7 @@ impl<S: Source, D: Drain> Island<S, D> {
     {
         let mut acts = Acts::new(alloc, MOST_ACTS)?;
         let numbers = all_numbers(alloc, &parts.links)?;
+        let room = IslandEnd::sized(alloc, parts.nodes.len(), numbers.len())?;
         let mut engine = assemble(alloc, parts)?;
         engine.start(alloc, &mut acts)?;
         Ok(Island {
@@ -82,10 +87,12 @@ impl<S: Source, D: Drain> Island<S, D> {
             numbers,
             used: 0,
             broken: false,
+            room,
         })
     }
 
-    /// Handles at most `limit` events, one unit each, and fewer only where none is left. It answers how many.
+    /// Handles at most `limit` events, one unit each, and fewer only where none is left. It answers how many. On want of memory
+    /// its handles hold what they held at the last moment between two events, but for what a source read ahead.
     pub fn execute(&mut self, alloc: Global, limit: u32) -> Result<u32, NoMemory>
         requires whole { self.old.broken ≡ false }
         requires few { self.old.used + limit ≤ 4000000000 }
@@ -96,6 +103,7 @@ impl<S: Source, D: Drain> Island<S, D> {
         ensures uses { IfOk result (λ used. Uses self.old.net self.new.net used) }
         ensures within { IfOk result (λ used. used ≤ limit) }
         ensures rest { IfOk result (λ used. used < limit → self.new.net.queue ≡ []) }
+        ensures breaks { OnErr result (BreaksOff node_row (node_law S.state D.state) node_asking node_moves (node_keeps S.state D.state) self.old.net self.new.net.nodes) }
     {
         self.broken = true;
         let used = self.engine.execute(alloc, limit, &mut self.acts)?;
@@ -119,8 +127,10 @@ impl<S: Source, D: Drain> Island<S, D> {
         self.engine.is_at_rest()
     }
 
-    /// Takes it apart: how its sinks ended, what its wires carried, and its handles.
-    pub fn finish(self, alloc: Global) -> Result<IslandEnd<S, D>, NoMemory>
+    /// Takes it apart: how its sinks ended, what its wires carried, and its handles. It takes no memory, also after a call that
+    /// answered `NoMemory`.
+    pub fn finish(self) -> Result<IslandEnd<S, D>, NoMemory>
+        ensures answers { IsOk result }
         ensures sinks { IfOk result (λ e. e.sinks.items ≡ sinks_of self.net.nodes) }
         ensures wires { IfOk result (λ e. e.wires.items ≡ counts_of self.numbers self.net.wires) }
         ensures picks { IfOk result (λ e. e.picks.items ≡ []) }
@@ -128,16 +138,10 @@ impl<S: Source, D: Drain> Island<S, D> {
         ensures writers { IfOk result (λ e. e.writers.items ≡ writers_of self.net.nodes) }
     {
         let (nodes, wires) = self.engine.into_parts();
-        let wires = count_wires(alloc, &self.numbers, &wires)?;
-        let mut end = IslandEnd {
-            sinks: Vec::new(alloc),
-            wires,
-            picks: Vec::new(alloc),
-            readers: Vec::new(alloc),
-            writers: Vec::new(alloc),
-        };
+        let mut end = self.room;
+        count_wires(&self.numbers, &wires, &mut end.wires);
         for node in nodes {
-            end.add(node)?;
+            end.add(node);
         }
         Ok(end)
     }
@@ -153,6 +157,7 @@ fn assemble<S: Source, D: Drain>(
     ensures firsts { IfOk result (λ e. AllBecome parts.nodes.items e.firsts) }
     ensures ends { IfOk result (λ e. e.ends ≡ map ends_of parts.links.items) }
     ensures asks { IfOk result (λ e. all_asks e ≡ 0) }
+    ensures count { IfOk result (λ e. length e.nodes ≡ vec_len parts.nodes) }
 {
     let ends = all_ends(alloc, &parts.links)?;
     let ports = join(alloc, &parts.nodes, &ends)?;
@@ -161,15 +166,12 @@ fn assemble<S: Source, D: Drain>(
     Ok(engine)
 }
 
-// What each wire carried, with its number.
-fn count_wires(
-    alloc: Global,
-    numbers: &[u32],
-    wires: &[Wire],
-) -> Result<Vec<(u32, WireCount)>, NoMemory>
-    ensures { IfOk result (λ counts. counts.items ≡ counts_of numbers.now wires.now) }
+// What each wire carried, with its number, into an empty list that has room for it.
+fn count_wires(numbers: &[u32], wires: &[Wire], counts: &mut Vec<(u32, WireCount)>)
+    requires empty { counts.old.items ≡ [] }
+    requires room { length numbers.now ≤ vec_capacity counts.old }
+    ensures { counts.new.items ≡ counts_of numbers.now wires.now }
 {
-    let mut counts = Vec::new(alloc);
     let count = min(numbers.len(), wires.len());
     for i in 0..count {
         let wire = &wires[i];
@@ -178,30 +180,50 @@ fn count_wires(
             asked: wire.is_asked(),
             shut: wire.is_closed(),
         };
-        counts.push((numbers[i], carried))?;
+        counts.push_reserved((numbers[i], carried));
     }
-    Ok(counts)
 }
 
 impl<S: Source, D: Drain> IslandEnd<S, D> {
-    // What a node leaves.
-    fn add(&mut self, node: Node<S, D>) -> Result<(), NoMemory>
-        ensures sinks { OnOk result (self.new.sinks.items ≡ self.old.sinks.items ++ sinks_of (node ∷ [])) }
-        ensures readers { OnOk result (self.new.readers.items ≡ self.old.readers.items ++ readers_of (node ∷ [])) }
-        ensures writers { OnOk result (self.new.writers.items ≡ self.old.writers.items ++ writers_of (node ∷ [])) }
-        ensures wires { OnOk result (self.new.wires ≡ self.old.wires) }
-        ensures picks { OnOk result (self.new.picks ≡ self.old.picks) }
+    // Nothing, with room for what so many nodes and wires leave.
+    fn sized(alloc: Global, nodes: usize, wires: usize) -> Result<IslandEnd<S, D>, NoMemory>
+        ensures { IfOk result (λ e. HasRoom e nodes wires) }
+    {
+        Ok(IslandEnd {
+            sinks: Vec::with_capacity(alloc, nodes)?,
+            wires: Vec::with_capacity(alloc, wires)?,
+            picks: Vec::new(alloc),
+            readers: Vec::with_capacity(alloc, nodes)?,
+            writers: Vec::with_capacity(alloc, nodes)?,
+        })
+    }
+
+    // What a node leaves, into lists that have room for it.
+    fn add(&mut self, node: Node<S, D>)
+        requires sinks_room { vec_len self.old.sinks < vec_capacity self.old.sinks }
+        requires readers_room { vec_len self.old.readers < vec_capacity self.old.readers }
+        requires writers_room { vec_len self.old.writers < vec_capacity self.old.writers }
+        ensures sinks { self.new.sinks.items ≡ self.old.sinks.items ++ sinks_of (node ∷ []) }
+        ensures readers { self.new.readers.items ≡ self.old.readers.items ++ readers_of (node ∷ []) }
+        ensures writers { self.new.writers.items ≡ self.old.writers.items ++ writers_of (node ∷ []) }
+        ensures wires { self.new.wires ≡ self.old.wires }
+        ensures picks { self.new.picks ≡ self.old.picks }
+        ensures few_sinks { vec_len self.new.sinks ≤ vec_len self.old.sinks + 1 }
+        ensures few_readers { vec_len self.new.readers ≤ vec_len self.old.readers + 1 }
+        ensures few_writers { vec_len self.new.writers ≤ vec_len self.old.writers + 1 }
+        ensures sinks_stay { vec_capacity self.new.sinks ≡ vec_capacity self.old.sinks }
+        ensures readers_stay { vec_capacity self.new.readers ≡ vec_capacity self.old.readers }
+        ensures writers_stay { vec_capacity self.new.writers ≡ vec_capacity self.old.writers }
     {
         match node.close() {
-            NodeEnd::Read(source) => self.readers.push(source)?,
+            NodeEnd::Read(source) => self.readers.push_reserved(source),
             NodeEnd::Staged => {}
             NodeEnd::Wrote(sink) => {
-                self.sinks.push((sink.node, sink.count, sink.end))?;
+                self.sinks.push_reserved((sink.node, sink.count, sink.end));
                 if let Some(drain) = sink.drain {
-                    self.writers.push(drain)?;
+                    self.writers.push_reserved(drain);
                 }
             }
         }
-        Ok(())
     }
 }

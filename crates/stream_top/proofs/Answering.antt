@@ -39,7 +39,7 @@ use Rattle.blueprint_run.specs.Carrying.{Carries}
 use Rattle.blueprint_run.specs.Drawing.{Drawn, IsSource, WasRead, IsWorldOf}
 use Rattle.blueprint_run.specs.Stands.{Stand, sink_places, is_write_fault, is_unended, is_failed}
 use Rattle.blueprint_run.specs.Units.{Pays}
-use Rattle.blueprint_run.specs.Running.{SinkLeaves, LeavesFiles, WritesOf, SomeWriteRose, Runs, Wants}
+use Rattle.blueprint_run.specs.Running.{SinkLeaves, LeavesFiles, WritesOf, SomeWriteRose, Runs, BreaksFiles, Wants}
 use Rattle.blueprint_run.specs.declared.run.Ran.{Ran}
 use Rattle.run_files.proofs.Counts.{grew_same, quiet_two}
 use Rattle.blueprint_run.proofs.Counts.{grew_behind}
@@ -381,7 +381,16 @@ missing_output old new b n turns a h is blank tells = subst (λ x. EndedRun x a 
 }))
 
 pub wanted : (old new : FolderState) (b : Blueprint) (turns : ℕ) (a : Answer) → Wants old new b → a.status ≡ status.NoMemory → Blank a → IsTrue old.tells → EndedRun a.status a b turns old new
-wanted old new b turns a h is blank tells = subst (λ x. EndedRun x a b turns old new) (sym is) (blank, record { others = h.others; outputs = h.outputs })
+wanted old new b turns a (inl h) is blank tells = subst (λ x. EndedRun x a b turns old new) (sym is) (blank, inl (record { before = h.before; after = h.after; place = h.place; files = h.files }))
+wanted old new b turns a (inr h) is blank tells = subst (λ x. EndedRun x a b turns old new) (sym is) (blank, inr (h.leaves tells))
+
+pub wanted_tells : (old new : FolderState) (b : Blueprint) → Wants old new b → IsTrue new.tells → IsTrue old.tells
+wanted_tells old new b (inl h) = h.files.told
+wanted_tells old new b (inr h) = h.told
+
+pub wanted_draws : (old new : FolderState) (b : Blueprint) → Wants old new b → QuietButAll (inputs_of_nodes b.nodes.items) old.read new.read
+wanted_draws old new b (inl h) = λ n never. h.read n
+wanted_draws old new b (inr h) = h.other_draws
 
 -- a name at its place among others
 at_middle : (before after : List (List ℕ)) (n : List ℕ) → (i : ℕ) × (slice_get (before ++ n ∷ after) i ≡ Some n)
@@ -396,7 +405,8 @@ missing_causes old new b n s a (inl h) is = subst (λ x. RunCauses x a b old new
 missing_causes old new b n s a (inr h) is = subst (λ x. RunCauses x a b old new) (sym is) (inr (in_place (outputs_of_nodes b.nodes.items) h.before h.after n h.place, h.rose), h.refusals, h.rfaults, h.wfaults)
 
 pub wanted_causes : (old new : FolderState) (b : Blueprint) (s : Status) (a : Answer) → Wants old new b → s ≡ status.NoMemory → RunCauses s a b old new
-wanted_causes old new b s a h is = subst (λ x. RunCauses x a b old new) (sym is) (h.refusals, h.rfaults, h.wfaults)
+wanted_causes old new b s a (inl h) is = subst (λ x. RunCauses x a b old new) (sym is) (h.refusals, (λ n never. h.rfaults n), (λ n never. h.wfaults n))
+wanted_causes old new b s a (inr h) is = subst (λ x. RunCauses x a b old new) (sym is) (h.refusals, h.reads, h.other_writes)
 
 -- ---- the text of the blueprint
 
@@ -491,17 +501,21 @@ module _ (old mid new : FolderState) (file t : List ℕ) (r : ReadsFile old mid 
         let at = filtered_at (λ (m : Node). input_of m.kind) b.nodes.items k is.node n is.at (ap input_of is.kind_is) in
         inputs_untaken b [] (file ∷ []) fit n (contains_at (inputs_of_nodes b.nodes.items) at.0 n at.1) (0, omega arith, sym same))
 
+    read_later : (n bytes : List ℕ) (given : ℕ) (faulted : Bool) → mid.read n ≡ old.read n → WasRead mid new n bytes given faulted → WasRead old new n bytes given faulted
+    read_later n bytes given faulted apart w = record {
+      there = sym (r.files.files tells n) ∙ w.there;
+      read = grew_from (old.read n) (mid.read n) (new.read n) given apart w.read;
+      rose = λ h. rose_later (old.rfaults n) (mid.rfaults n) (new.rfaults n) (r.rfaults n) (w.rose h);
+      calm = λ h. grew_behind (old.rfaults n) (mid.rfaults n) (new.rfaults n) 0 (r.rfaults n) (w.calm h);
+    }
+
+    empties_later : (names : List (List ℕ)) → Empties mid new names → Empties old new names
+    empties_later names h = record { told = λ x. tells_before old mid r.files (h.told x); still = λ e. h.still e ∙ r.files.telling; emptied = h.emptied; others = λ x m never. h.others x m never ∙ r.files.files tells m }
+
     abbrev leaves_later : (ends : List Stand) (wires : List WireCount) (rest : Bool) → LeavesFiles mid new b ends wires rest → LeavesFiles old new b ends wires rest
     leaves_later ends wires rest l = record {
       drawn = l.drawn;
-      read = λ k n is.
-          let w = l.read k n is in
-          record {
-            there = sym (r.files.files tells n) ∙ w.there;
-            read = grew_from (old.read n) (mid.read n) (new.read n) (l.drawn.given k) (read_apart k n is) w.read;
-            rose = λ h. rose_later (old.rfaults n) (mid.rfaults n) (new.rfaults n) (r.rfaults n) (w.rose h);
-            calm = λ h. grew_behind (old.rfaults n) (mid.rfaults n) (new.rfaults n) 0 (r.rfaults n) (w.calm h);
-          };
+      read = λ k n is. read_later n (l.drawn.bytes k) (l.drawn.given k) (l.drawn.faulted k) (read_apart k n is) (l.read k n is);
       world = l.world;
       has_files = l.has_files;
       sink = l.sink;
@@ -547,15 +561,39 @@ module _ (old mid new : FolderState) (file t : List ℕ) (r : ReadsFile old mid 
       place = h.place;
       there = there_later (inputs_of_nodes b.nodes.items) h.there;
       refused = rose_later (old.refusals n) (mid.refusals n) (new.refusals n) (r.refusals n) h.refused;
-      files = record { told = λ x. tells_before old mid r.files (h.files.told x); still = λ e. h.files.still e ∙ r.files.telling; emptied = h.files.emptied; others = λ x m never. h.files.others x m never ∙ r.files.files tells m };
+      files = empties_later h.before h.files;
       blank = h.blank;
     })
 
-    gave_later : GaveUp mid new b → GaveUp old new b
-    gave_later h = record {
-      others = λ still n never. h.others still n never ∙ r.files.files tells n;
-      outputs = λ still n. elim (h.outputs still n) [ inl e ↦ inl (e ∙ r.files.files tells n) | inr e ↦ inr e ];
+    breaks_later : BreaksFiles mid new b → BreaksFiles old new b
+    breaks_later l = record {
+      drawn = l.drawn;
+      read = λ k n is.
+          let w = l.read k n is in
+          record {
+            more = w.more;
+            given_less = w.given_less;
+            ahead = w.ahead;
+            read = read_later n (l.drawn.bytes k) w.more (l.drawn.faulted k) (read_apart k n is) w.read;
+          };
+      world = l.world;
+      has_files = l.has_files;
+      sink = λ k n f at shape.
+          let w = l.sink k n f at shape in
+          record {
+            held = w.held;
+            end = w.end;
+            there = w.there;
+            tells = w.tells;
+            part = w.part;
+            writes = writes_later w.end (old.wfaults f) (mid.wfaults f) (new.wfaults f) (r.wfaults f) w.writes;
+          };
+      others = λ still n never. l.others still n never ∙ r.files.files tells n;
     }
+
+    gave_later : GaveUp mid new b → GaveUp old new b
+    gave_later (inl h) = inl (record { before = h.before; after = h.after; place = h.place; files = empties_later h.before h.files })
+    gave_later (inr h) = inr (breaks_later h)
 
     -- what a run answers is told of the folder before the blueprint was read
     run_later : (s : Status) → EndedRun s a b turns mid new → EndedRun s a b turns old new
@@ -594,7 +632,7 @@ module _ (old mid new : FolderState) (file t : List ℕ) (r : ReadsFile old mid 
   causes_later status.StreamFailed c = (quiet_two _ _ _ r.refusals c.0, quiet_all_later _ _ _ _ r.rfaults c.1, quiet_two _ _ _ r.wfaults c.2, wrote_later c.3)
   causes_later status.Stalled c = (quiet_two _ _ _ r.refusals c.0, quiet_all_later _ _ _ _ r.rfaults c.1, quiet_two _ _ _ r.wfaults c.2, wrote_later c.3)
   causes_later status.OutOfTurns c = (quiet_two _ _ _ r.refusals c.0, quiet_all_later _ _ _ _ r.rfaults c.1, quiet_two _ _ _ r.wfaults c.2, wrote_later c.3)
-  causes_later status.NoMemory c = (quiet_two _ _ _ r.refusals c.0, quiet_two _ _ _ r.rfaults c.1, quiet_two _ _ _ r.wfaults c.2)
+  causes_later status.NoMemory c = (quiet_two _ _ _ r.refusals c.0, quiet_all_later _ _ _ _ r.rfaults c.1, quiet_all_later _ _ _ _ r.wfaults c.2)
   causes_later status.Usage c = c
   causes_later status.ReadFault c = c
   causes_later (status.Refused f) c = c

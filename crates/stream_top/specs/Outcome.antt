@@ -25,7 +25,7 @@ use Rattle.blueprint_run.specs.Carrying.{Carries}
 use Rattle.blueprint_run.specs.Drawing.{Drawn, IsWorldOf}
 use Rattle.blueprint_run.specs.Stands.{Stand, sink_places, is_write_fault, is_unended, is_failed}
 use Rattle.blueprint_run.specs.Units.{Pays}
-use Rattle.blueprint_run.specs.Running.{LeavesFiles, WritesOf, SomeWriteRose}
+use Rattle.blueprint_run.specs.Running.{LeavesFiles, WritesOf, SomeWriteRose, BreaksFiles}
 use Rattle.run_report.specs.Answer.{Answer}
 use Rattle.run_report.specs.declared.outcome.Status.{Status}
 use Rattle.run_report.specs.declared.outcome.Status.TheVariants as status
@@ -118,11 +118,17 @@ pub record LacksOutput (old new : FolderState) (b : Blueprint) (n : List ℕ) (a
   pub files : Empties old new before
   pub blank : Blank a
 
--- memory was wanting in a run: each sink's file is as it was or empty, and no other is changed, where the folder still tells its
--- files
-pub record GaveUp (old new : FolderState) (b : Blueprint) : Type 0 where
-  pub others : IsTrue new.tells → (n : List ℕ) → ¬ (Contains (outputs_of_nodes b.nodes.items) n) → new.file n ≡ old.file n
-  pub outputs : IsTrue new.tells → (n : List ℕ) → (new.file n ≡ old.file n) ⊎ (new.file n ≡ Some [])
+-- memory was wanting before the run, as its files were opened or its island was made: the first of the outputs are empty, and no other
+-- file is changed
+pub record GaveUpBefore (old new : FolderState) (b : Blueprint) : Type 0 where
+  pub before : List (List ℕ)
+  pub after : List (List ℕ)
+  pub place : outputs_of_nodes b.nodes.items ≡ before ++ after
+  pub files : Empties old new before
+
+-- memory was wanting before the run or in it; in it each sink wrote a first part of what it may write, and no other file is changed
+abbrev pub GaveUp : FolderState → FolderState → Blueprint → Type 0
+GaveUp old new b = GaveUpBefore old new b ⊎ BreaksFiles old new b
 
 -- What the run of a blueprint answers, where the folder told its files before it. A failed write stands before a sink that has not ended,
 -- and that before one that failed. A polytree never stalls, and units that suffice for all that may pass are not used up.
@@ -170,7 +176,7 @@ RunCauses (status.Refused f) a b old new = ⊥
 RunCauses (status.Unfit f) a b old new = ⊥
 RunCauses (status.Unbuilt k) a b old new = ⊥
 RunCauses (status.Missing n) a b old new = MissesFile old new b n × QuietBut n old.refusals new.refusals × Quiet old.rfaults new.rfaults × Quiet old.wfaults new.wfaults
-RunCauses status.NoMemory a b old new = Quiet old.refusals new.refusals × Quiet old.rfaults new.rfaults × Quiet old.wfaults new.wfaults
+RunCauses status.NoMemory a b old new = Quiet old.refusals new.refusals × QuietButAll (inputs_of_nodes b.nodes.items) old.rfaults new.rfaults × QuietButAll (outputs_of_nodes b.nodes.items) old.wfaults new.wfaults
 RunCauses status.WriteFault a b old new = Quiet old.refusals new.refusals × QuietButAll (inputs_of_nodes b.nodes.items) old.rfaults new.rfaults × SomeWriteRose old new b × QuietButAll (outputs_of_nodes b.nodes.items) old.wfaults new.wfaults × SinksWrote old new b a
 RunCauses _ a b old new = Quiet old.refusals new.refusals × QuietButAll (inputs_of_nodes b.nodes.items) old.rfaults new.rfaults × Quiet old.wfaults new.wfaults × SinksWrote old new b a
 

@@ -1,8 +1,9 @@
 -- The goals of `run::run` that the search leaves.
-use Rattle.std.proofs.Common.{◌≡◌, List, ℕ, Err, Result, refl, ap, map, subst}
+use Rattle.std.proofs.Common.{◌≡◌, inl, inr, List, ℕ, Err, Result, refl, ap, map, subst}
 use Rattle.run_files.specs.Opening.{OpensAll, GivesUp}
 use Rattle.materializer.specs.Files.{inputs_of_nodes}
-use Rattle.blueprint_run.proofs.Closing.{gives_up, gives_up_open}
+use Rattle.blueprint_run.specs.Leaving.{LeavesBrokenAs}
+use Rattle.blueprint_run.proofs.Breaking.{gives_up_open}
 use Rattle.blueprint_run.proofs.run.run.Goals as goal
 
 err_same : {T E : Type 0} (x y : Result T E) (a b : E) → x ≡ Err a → y ≡ Err b → x ≡ y → a ≡ b
@@ -10,7 +11,7 @@ err_same x y a b p q e = cc
 
 pub returns-in-Err-clause-no_memory : goal.returns-in-Err-clause-no_memory
 returns-in-Err-clause-no_memory g c =
-    λ e. gives_up _ _ c.args.b
+    λ e. inl
     (subst (λ names. GivesUp (g.F.Folder.state c.args.folder.now) (g.F.Folder.state c.open_all.new.folder) names) c.in-Ok-output_names.ensures (c.in-Err.ensures.no_memory (ap Err (err_same _ _ _ _ refl refl e))))
 
 pub returns-in-Ok-run_open-clause-ran : goal.returns-in-Ok-run_open-clause-ran
@@ -21,10 +22,10 @@ returns-in-Ok-run_open-clause-ran g c =
     let os = map g.F.Out.Drain.state c.in-Ok-open_all.opened.outputs.items in
     let opens = subst (λ names. OpensAll old mid (inputs_of_nodes c.args.b.nodes.items) names is os) c.in-Ok-output_names.ensures
     (subst (λ names. OpensAll old mid names c.in-Ok-output_names.outputs.items is os) c.in-Ok.ensures c.in-Ok-open_all.ensures.opened) in
-    c.close.ensures old c.args.b c.args.budget c.in-Ok-open_all.opened.inputs.items c.in-Ok-open_all.opened.outputs.items c.requires.runs opens c.in-Ok-run_open.ensures
+    c.close.ensures old c.args.b c.args.budget c.in-Ok-open_all.opened.inputs.items c.in-Ok-open_all.opened.outputs.items c.requires.runs opens c.in-Ok-run_open.ensures.leaves
 
-pub returns-in-Err-run_open-clause-no_memory : goal.returns-in-Err-run_open-clause-no_memory
-returns-in-Err-run_open-clause-no_memory g c =
+pub returns-in-Err-Unmade-clause-no_memory : goal.returns-in-Err-Unmade-clause-no_memory
+returns-in-Err-Unmade-clause-no_memory g c =
     let old = g.F.Folder.state c.args.folder.now in
     let mid = g.F.Folder.state c.open_all.new.folder in
     let is = map g.F.Inp.Source.state c.in-Ok-open_all.opened.inputs.items in
@@ -32,3 +33,14 @@ returns-in-Err-run_open-clause-no_memory g c =
     let opens = subst (λ names. OpensAll old mid (inputs_of_nodes c.args.b.nodes.items) names is os) c.in-Ok-output_names.ensures
     (subst (λ names. OpensAll old mid names c.in-Ok-output_names.outputs.items is os) c.in-Ok.ensures c.in-Ok-open_all.ensures.opened) in
     λ e. gives_up_open old mid c.args.b is os opens
+
+pub returns-in-Err-Within-clause-no_memory : goal.returns-in-Err-Within-clause-no_memory
+returns-in-Err-Within-clause-no_memory g c =
+    let old = g.F.Folder.state c.args.folder.now in
+    let mid = g.F.Folder.state c.open_all.new.folder in
+    let is = map g.F.Inp.Source.state c.in-Ok-open_all.opened.inputs.items in
+    let os = map g.F.Out.Drain.state c.in-Ok-open_all.opened.outputs.items in
+    let opens = subst (λ names. OpensAll old mid (inputs_of_nodes c.args.b.nodes.items) names is os) c.in-Ok-output_names.ensures
+    (subst (λ names. OpensAll old mid names c.in-Ok-output_names.outputs.items is os) c.in-Ok.ensures c.in-Ok-open_all.ensures.opened) in
+    let broken = subst (λ x. LeavesBrokenAs g.F.Inp.Source.state g.F.Out.Drain.state c.args.b c.in-Ok-open_all.opened.inputs.items c.in-Ok-open_all.opened.outputs.items x) c.in-Err-Within.field-0-is c.in-Err-Within.ensures.breaks in
+    λ e. inr (c.close_broken.ensures.wants old c.args.b c.in-Ok-open_all.opened.inputs.items c.in-Ok-open_all.opened.outputs.items c.requires.runs opens broken)

@@ -2,7 +2,7 @@
 use Rattle.std.proofs.Common.{◌≡◌, ◌∙◌, inl, inr, ap, subst, Err, length, vec_len, rules}
 use Rattle.stream_top.specs.AfterRun.{AfterRun, of_outcome}
 use Rattle.stream_top.proofs.Quiets.{tells_before}
-use Rattle.stream_top.proofs.Answering.{as_many_stands, run_told, run_causes, run_sinks, missing_input, missing_output, missing_causes}
+use Rattle.stream_top.proofs.Answering.{as_many_stands, run_told, run_causes, run_sinks, missing_input, missing_output, missing_causes, wanted, wanted_tells, wanted_causes, wanted_draws}
 use Rattle.stream_top.proofs.answer.run_blueprint.Goals as goal
 
 pub after_run-requires-clause-as_many : goal.after_run-requires-clause-as_many
@@ -69,3 +69,25 @@ pub returns-in-Err-MissingOutput-clause-reads : goal.returns-in-Err-MissingOutpu
 returns-in-Err-MissingOutput-clause-reads g c =
     let e = c.in-Err-MissingOutput in
     λ n never. (e.ensures.no_output e.name (ap Err e.field-0-is)).read n
+
+pub returns-clause-told : goal.returns-clause-told
+returns-clause-told g c =
+    let e = c.in-Err-NoMemory in
+    let made = c.without_run-in-Err-NoMemory in
+    wanted _ _ c.args.b c.args.turns (of_outcome made.result) (e.ensures.no_memory (ap Err e.field-0-is)) made.ensures.status made.ensures.blank
+
+pub returns-clause-tells : goal.returns-clause-tells
+returns-clause-tells g c =
+    let e = c.in-Err-NoMemory in
+    wanted_tells _ _ c.args.b (e.ensures.no_memory (ap Err e.field-0-is))
+
+pub returns-clause-causes : goal.returns-clause-causes
+returns-clause-causes g c =
+    let e = c.in-Err-NoMemory in
+    let made = c.without_run-in-Err-NoMemory in
+    wanted_causes _ _ c.args.b made.result.status (of_outcome made.result) (e.ensures.no_memory (ap Err e.field-0-is)) made.ensures.status
+
+pub returns-clause-reads : goal.returns-clause-reads
+returns-clause-reads g c =
+    let e = c.in-Err-NoMemory in
+    wanted_draws _ _ c.args.b (e.ensures.no_memory (ap Err e.field-0-is))

@@ -1,5 +1,5 @@
 -- The goals of `island::Island::finish` that the search leaves.
-use Rattle.std.proofs.Common.{◌∙◌, ap, Vec}
+use Rattle.std.proofs.Common.{◌∙◌, ap, Vec, arith}
 use Rattle.stream_model.specs.declared.outcome.PickList.{PickList}
 use Rattle.interpreter.specs.Island.{sinks_of, readers_of, writers_of}
 use Rattle.interpreter.proofs.Tables.{len_next}
@@ -11,9 +11,12 @@ loop-node-preserved g c = (
   tt,
   tt,
   len_next _ _ _ _ _ c.in-Some.ensures.steps.0 c.in-Some.ensures.steps.1 c.loop-node.invariant.2,
-  left_next sinks_of sinks_cut _ _ _ _ _ _ c.in-Some.ensures.steps.0 c.in_ok-add.ensures.sinks c.loop-node.invariant.3,
-  left_next readers_of readers_cut _ _ _ _ _ _ c.in-Some.ensures.steps.0 c.in_ok-add.ensures.readers c.loop-node.invariant.4,
-  left_next writers_of writers_cut _ _ _ _ _ _ c.in-Some.ensures.steps.0 c.in_ok-add.ensures.writers c.loop-node.invariant.5,
-  c.in_ok-add.ensures.wires ∙ c.loop-node.invariant.6,
-  ap (λ (p : Vec PickList _). p.items) c.in_ok-add.ensures.picks ∙ c.loop-node.invariant.7,
+  left_next sinks_of sinks_cut _ _ _ _ _ _ c.in-Some.ensures.steps.0 c.add.ensures.sinks c.loop-node.invariant.3,
+  left_next readers_of readers_cut _ _ _ _ _ _ c.in-Some.ensures.steps.0 c.add.ensures.readers c.loop-node.invariant.4,
+  left_next writers_of writers_cut _ _ _ _ _ _ c.in-Some.ensures.steps.0 c.add.ensures.writers c.loop-node.invariant.5,
+  c.add.ensures.wires ∙ c.loop-node.invariant.6,
+  ap (λ (p : Vec PickList _). p.items) c.add.ensures.picks ∙ c.loop-node.invariant.7,
+  omega (arith, c.loop-node.invariant.8, c.in-Some.ensures.steps.1, c.add.ensures.few_sinks, c.add.ensures.sinks_stay),
+  omega (arith, c.loop-node.invariant.9, c.in-Some.ensures.steps.1, c.add.ensures.few_readers, c.add.ensures.readers_stay),
+  omega (arith, c.loop-node.invariant.10, c.in-Some.ensures.steps.1, c.add.ensures.few_writers, c.add.ensures.writers_stay),
 )

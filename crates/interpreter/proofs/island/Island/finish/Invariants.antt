@@ -1,9 +1,10 @@
 -- The loop of `island::Island::finish`.
-use Rattle.std.proofs.Common.{◌≡◌, ◌++◌, [], length}
+use Rattle.std.proofs.Common.{◌≡◌, ◌+◌, ◌≤◌, ◌++◌, [], length, vec_len, vec_capacity}
 use Rattle.std.specs.Vec.Iter.{into_iter_items, into_iter_len}
 use Rattle.interpreter.specs.Island.{sinks_of, readers_of, writers_of}
 use Rattle.interpreter.proofs.island.Island.finish.Given as goal
 
+-- what the nodes that came leave is in the lists, and there is room for the rest
 abbrev pub invariant-loop-node : goal.invariant-loop-node
 invariant-loop-node g l =
     (goal.iterator-loop-node g).can_next l.node-iterator
@@ -14,3 +15,6 @@ invariant-loop-node g l =
     × (l.end.writers.items ++ writers_of (into_iter_items l.node-iterator) ≡ writers_of l.fn.self.net.nodes)
     × (l.end.wires ≡ l.initial.end.wires)
     × (l.end.picks.items ≡ [])
+    × (vec_len l.end.sinks + into_iter_len l.node-iterator ≤ vec_capacity l.end.sinks)
+    × (vec_len l.end.readers + into_iter_len l.node-iterator ≤ vec_capacity l.end.readers)
+    × (vec_len l.end.writers + into_iter_len l.node-iterator ≤ vec_capacity l.end.writers)

@@ -1,0 +1,299 @@
+-- A run in which memory was wanting: its island was taken apart, and its handles were closed.
+use Rattle.std.proofs.Common.{◌≡◌, ◌⊎◌, inl, inr, ℕ, zero, suc, ◌+◌, ◌≤◌, List, [], ◌∷◌, ◌++◌, map, length, slice_get, refl, sym, ap, ◌∙◌, subst, arith}
+use Rattle.std.specs.Prelude.{IsTrue, Option, Some, None}
+use Rattle.std.specs.Option.{option_map}
+use Rattle.std.specs.List.{Contains}
+use Rattle.std.proofs.lemmas.List.{append-nil}
+use Rattle.elem_core.specs.Prefix.{IsPrefix}
+use Rattle.elem_core.specs.Text.{text_lines}
+use Rattle.elem_core.specs.Tree.{Tree}
+use Rattle.elem_core.proofs.Prefixes.{prefix_refl}
+use Rattle.stream_model.specs.declared.outcome.EndState.{EndState}
+use Rattle.stream_model.specs.declared.outcome.EndState.TheVariants.{Ended, Failed, Unended, WriteFault}
+use Rattle.stream_model.specs.Graph.{Graph}
+use Rattle.stream_model.specs.Node.{World}
+use Rattle.stream_model.specs.Outlook.{Outlook}
+use Rattle.stream_model.specs.Composed.{IsRanked, sink_outlook}
+use Rattle.stream_io.specs.Counts.{Grew}
+use Rattle.stream_io.specs.State.{FolderState, SourceState, DrainState}
+use Rattle.fused_net.specs.Net.{Net}
+use Rattle.fused_net.specs.Laws.{AllKept}
+use Rattle.nodes.specs.Keeping.{KeepsSource, KeepsDrain, KeepsEnd}
+use Rattle.nodes.specs.Nodes.{node_keeps, node_end}
+use Rattle.nodes.specs.Source.{Lines}
+use Rattle.nodes.specs.Sink.{Sink}
+use Rattle.nodes.specs.declared.node.Node.{Node}
+use Rattle.nodes.specs.declared.node.Node.TheVariants as node
+use Rattle.nodes.specs.declared.node.NodeEnd.{NodeEnd}
+use Rattle.nodes.specs.declared.node.NodeEnd.TheVariants.{Read, Staged, Wrote}
+use Rattle.nodes.proofs.Drawings.{text_lines-append}
+use Rattle.interpreter.specs.declared.island.IslandEnd.{IslandEnd}
+use Rattle.run_account.specs.Account.{Account}
+use Rattle.run_account.specs.Seats.{account_of}
+use Rattle.run_laws.specs.Runs.{IsRun}
+use Rattle.run_laws.specs.Sinks.{SinkTells, SinkWrote}
+use Rattle.blue_core.specs.declared.blueprint.Blueprint.{Blueprint}
+use Rattle.blue_core.specs.declared.blueprint.Node as blue
+use Rattle.blue_check.specs.Fitness.{IsFit}
+use Rattle.plug_core.specs.declared.head.PlugHead.{PlugHead}
+use Rattle.materializer.specs.Built.{CanRun}
+use Rattle.materializer.specs.Files.{output_of, inputs_of_nodes, outputs_of_nodes}
+use Rattle.materializer.specs.Graphs.{node_of, graph_of}
+use Rattle.run_files.specs.Opening.{OpensAll, GivesUp}
+use Rattle.run_files.specs.Closing.{ClosesAll}
+use Rattle.run_files.proofs.Counts.{grew_same}
+use Rattle.blueprint_run.specs.Drawing.{Drawn, IsSource, IsWorldOf}
+use Rattle.blueprint_run.specs.Leaving.{LeavesBroken}
+use Rattle.blueprint_run.specs.Running.{WasReadOn, SinkBreaks, BreaksFiles, WantsWithin, Wants}
+use Rattle.blueprint_run.proofs.Places.{mapped_at}
+use Rattle.blueprint_run.proofs.Profiles.{reader_in, writer_in, Profile}
+use Rattle.blueprint_run.proofs.Worlds.{world_of}
+use Rattle.blueprint_run.proofs.Handles.{HandleLaws, Between, SourceFacts, SinkFacts, source_facts, sink_facts, is_run, profiles, as_many}
+use Rattle.blueprint_run.proofs.Shutting.{TakenApart, read_grew, faults_grew, writes_grew, file_held, other_files, other_reads, other_writes, other_draws, refused, tells_old}
+use Rattle.blueprint_run.proofs.Drawns.{drawn_of, Draws, draws_all, reads_of}
+use Rattle.blueprint_run.proofs.Closing.{WroteLaw, stands_writes}
+
+-- ---- a first part of a text
+
+prefix_text : (l m : List Tree) → IsPrefix l m → IsPrefix (text_lines l) (text_lines m)
+prefix_text l m p = record { rest = text_lines p.rest; is = ap text_lines p.is ∙ text_lines-append l p.rest }
+
+-- what a sink may write is a first part of the text of all that may pass
+part_of : (o : Outlook) (e : EndState) (bytes : List ℕ) → SinkTells o e bytes → IsPrefix bytes (text_lines o.list)
+part_of o Ended bytes h = subst (λ (x : List ℕ). IsPrefix x (text_lines o.list)) (sym (h.is ∙ ap text_lines h.agrees.1)) (prefix_refl (text_lines o.list))
+part_of o (Failed c) bytes h = subst (λ (x : List ℕ). IsPrefix x (text_lines o.list)) (sym h.is) (prefix_text h.list o.list h.agrees.0)
+part_of o Unended bytes h = subst (λ (x : List ℕ). IsPrefix x (text_lines o.list)) (sym h.is) (prefix_text h.list o.list h.agrees)
+part_of o WriteFault bytes h = h
+
+-- ---- the handles that a node leaves
+
+abbrev read_end : {S D : Type 0} → NodeEnd S D → Option S
+read_end (Read s) = Some s
+read_end Staged = None
+read_end (Wrote x) = None
+
+abbrev drain_end : {S D : Type 0} → NodeEnd S D → Option D
+drain_end (Read s) = None
+drain_end Staged = None
+drain_end (Wrote x) = x.drain
+
+reader_ends : {S D : Type 0} (x : Node S D) → reader_in x ≡ read_end (node_end x)
+reader_ends (node.Reading x) = refl
+reader_ends (node.Making x) = refl
+reader_ends (node.Linear x) = refl
+reader_ends (node.State x) = refl
+reader_ends (node.FanIn x) = refl
+reader_ends (node.FanOut x) = refl
+reader_ends (node.Writing x) = refl
+reader_ends (node.Ignoring x) = refl
+
+writer_ends : {S D : Type 0} (x : Node S D) → writer_in x ≡ drain_end (node_end x)
+writer_ends (node.Reading x) = refl
+writer_ends (node.Making x) = refl
+writer_ends (node.Linear x) = refl
+writer_ends (node.State x) = refl
+writer_ends (node.FanIn x) = refl
+writer_ends (node.FanOut x) = refl
+writer_ends (node.Writing x) = refl
+writer_ends (node.Ignoring x) = refl
+
+keeps_self : (s : SourceState) → KeepsSource s s
+keeps_self s = record { name = refl; whole = refl; given = omega arith; ahead = omega arith; faults = refl }
+
+module _ {S D : Type 0} (sources : S → SourceState) (drains : D → DrainState) where
+  -- a node is the same, or it has kept what outlives want of memory
+  abbrev Kept : Node S D → Node S D → Type 0
+  Kept x y = (y ≡ x) ⊎ node_keeps sources drains x y
+
+  abbrev source_name : S → List ℕ
+  source_name s = (sources s).name
+
+  abbrev drain_name : D → List ℕ
+  drain_name d = (drains d).name
+
+  drains_named : (o p : Option D) → KeepsDrain sources drains o p → option_map drain_name p ≡ option_map drain_name o
+  drains_named None None k = refl
+  drains_named (Some d) (Some e) k = ap (λ (s : DrainState). Some s.name) k
+  drains_named None (Some e) k = absurd k
+  drains_named (Some d) None k = absurd k
+
+  read_named : (p q : NodeEnd S D) → KeepsEnd sources drains p q → option_map source_name (read_end q) ≡ option_map source_name (read_end p)
+  read_named (Read s) (Read t) k = ap Some k.name
+  read_named Staged Staged k = refl
+  read_named (Wrote x) (Wrote y) k = refl
+  read_named p q k = absurd k
+
+  written_named : (p q : NodeEnd S D) → KeepsEnd sources drains p q → option_map drain_name (drain_end q) ≡ option_map drain_name (drain_end p)
+  written_named (Read s) (Read t) k = refl
+  written_named Staged Staged k = refl
+  written_named (Wrote x) (Wrote y) k = drains_named x.drain y.drain k
+  written_named p q k = absurd k
+
+  -- its handle has the same name
+  reads_same : (x y : Node S D) → Kept x y → option_map source_name (reader_in y) ≡ option_map source_name (reader_in x)
+  reads_same x y (inl e) = ap (λ (z : Node S D). option_map source_name (reader_in z)) e
+  reads_same x y (inr k) = ap (option_map source_name) (reader_ends y) ∙ read_named (node_end x) (node_end y) k ∙ ap (option_map source_name) (sym (reader_ends x))
+
+  writes_same : (x y : Node S D) → Kept x y → option_map drain_name (writer_in y) ≡ option_map drain_name (writer_in x)
+  writes_same x y (inl e) = ap (λ (z : Node S D). option_map drain_name (writer_in z)) e
+  writes_same x y (inr k) = ap (option_map drain_name) (writer_ends y) ∙ written_named (node_end x) (node_end y) k ∙ ap (option_map drain_name) (sym (writer_ends x))
+
+  -- a source is still there, as far as it was read
+  reading_by : (x : Lines S) (y : Node S D) → node_keeps sources drains (node.Reading x) y → (z : Lines S) × ((y ≡ node.Reading z) × KeepsSource (sources x.reader.source) (sources z.reader.source))
+  reading_by x (node.Reading z) k = (z, (refl, k))
+  reading_by x y k = absurd k
+
+  reading_kept : (x : Lines S) (y : Node S D) → Kept (node.Reading x) y → (z : Lines S) × ((y ≡ node.Reading z) × KeepsSource (sources x.reader.source) (sources z.reader.source))
+  reading_kept x y (inl e) = (x, (e, keeps_self (sources x.reader.source)))
+  reading_kept x y (inr k) = reading_by x y k
+
+  -- and a drain has what it had
+  writing_by : (x : Sink D) (y : Node S D) → node_keeps sources drains (node.Writing x) y → (z : Sink D) × ((y ≡ node.Writing z) × (drains z.drain ≡ drains x.drain))
+  writing_by x (node.Writing z) k = (z, (refl, k))
+  writing_by x y k = absurd k
+
+  writing_kept : (x : Sink D) (y : Node S D) → Kept (node.Writing x) y → (z : Sink D) × ((y ≡ node.Writing z) × (drains z.drain ≡ drains x.drain))
+  writing_kept x y (inl e) = (x, (e, refl))
+  writing_kept x y (inr k) = writing_by x y k
+
+  -- the nodes by their places
+  kept_many : (xs ys : List (Node S D)) → AllKept (node_keeps sources drains) xs ys → length xs ≡ length ys
+  kept_many [] [] k = refl
+  kept_many [] (y ∷ ys) k = absurd k
+  kept_many (x ∷ xs) [] k = absurd k
+  kept_many (x ∷ xs) (y ∷ ys) k = ap suc (kept_many xs ys k.1)
+
+  kept_at : (xs ys : List (Node S D)) (i : ℕ) (x : Node S D) → AllKept (node_keeps sources drains) xs ys → slice_get xs i ≡ Some x → (y : Node S D) × ((slice_get ys i ≡ Some y) × Kept x y)
+  kept_at [] ys i x k e = absurd cc
+  kept_at (z ∷ xs) [] i x k e = absurd k
+  kept_at (z ∷ xs) (y ∷ ys) zero x k e = let same : z ≡ x = cc in (y, (refl, subst (λ (w : Node S D). Kept w y) same k.0))
+  kept_at (z ∷ xs) (y ∷ ys) (suc i) x k e = kept_at xs ys i x k.1 e
+
+  kept_from : (xs ys : List (Node S D)) (i : ℕ) (y : Node S D) → AllKept (node_keeps sources drains) xs ys → slice_get ys i ≡ Some y → (x : Node S D) × ((slice_get xs i ≡ Some x) × Kept x y)
+  kept_from xs [] i y k e = absurd cc
+  kept_from [] (z ∷ ys) i y k e = absurd k
+  kept_from (x ∷ xs) (z ∷ ys) zero y k e = let same : z ≡ y = cc in (x, (refl, subst (λ (w : Node S D). Kept x w) same k.0))
+  kept_from (x ∷ xs) (z ∷ ys) (suc i) y k e = kept_from xs ys i y k.1 e
+
+-- ---- what the run leaves
+
+module _ {S D : Type 0} (sources : S → SourceState) (drains : D → DrainState) (handles : HandleLaws sources drains) (wrote_law : WroteLaw sources drains)
+    (ranked_law : (b : Blueprint) (plugs : List PlugHead) (taken : List (List ℕ)) → IsFit b plugs taken → (rank : ℕ → ℕ) × IsRanked (graph_of b) rank)
+    (b : Blueprint) (can : CanRun b) (ss : List S) (ds : List D) (e : IslandEnd S D) (l : LeavesBroken sources drains b ss ds e)
+    (old mid : FolderState) (opens : OpensAll old mid (inputs_of_nodes b.nodes.items) (outputs_of_nodes b.nodes.items) (map sources ss) (map drains ds)) (new : FolderState) (closes : ClosesAll mid new (map sources e.readers.items) (map drains e.writers.items)) where
+  abbrev nodes : List blue.Node
+  nodes = b.nodes.items
+
+  abbrev net : Net (Node S D)
+  net = l.breaks.net
+
+  abbrev final : List (Node S D)
+  final = l.breaks.nodes
+
+  abbrev g : Graph
+  g = graph_of b
+
+  between : Between sources drains b ss ds net
+  between = record { places = l.places; seats = l.seats; settled = l.breaks.settled; firsts = l.breaks.firsts; ends = l.breaks.ends }
+
+  abbrev left : Account (Node S D)
+  left = account_of net
+
+  run : IsRun sources drains g left
+  run = is_run sources drains handles b can ss ds net between old mid opens
+
+  profile : (k : ℕ) (n : blue.Node) (x : Node S D) → slice_get nodes k ≡ Some n → slice_get net.nodes k ≡ Some x → Profile sources drains k n x
+  profile = profiles sources drains handles b can ss ds net between old mid opens
+
+  apart : TakenApart sources drains b final e.readers.items e.writers.items
+  apart = record {
+    as_many = as_many sources drains handles b can ss ds net between old mid opens ∙ kept_many sources drains net.nodes final l.breaks.kept;
+    input = λ k n y at here. let f = kept_from sources drains net.nodes final k y l.breaks.kept here in (profile k n f.0 at f.1.0).input ∙ sym (reads_same sources drains f.0 y f.1.1);
+    output = λ k n y at here. let f = kept_from sources drains net.nodes final k y l.breaks.kept here in (profile k n f.0 at f.1.0).output ∙ sym (writes_same sources drains f.0 y f.1.1);
+    readers_are = l.breaks.readers;
+    writers_are = l.breaks.writers;
+  }
+
+  abbrev drawn : Drawn
+  drawn = drawn_of sources net
+
+  module _ (tells_was : IsTrue old.tells) where
+    drew : Draws sources drains handles b can ss ds net between old mid opens
+    drew = draws_all sources drains handles b can ss ds net between old mid opens tells_was
+
+    source_breaks : (k : ℕ) (file : List ℕ) → IsSource nodes k file → WasReadOn old new file (drawn.bytes k) (drawn.given k) (drawn.faulted k)
+    source_breaks k file is =
+        let f = source_facts sources drains handles b can ss ds net between old mid opens k file is in
+        let y = kept_at sources drains net.nodes final k (node.Reading f.now) l.breaks.kept f.there.at_last in
+        let z = reading_kept sources drains f.now y.0 y.1.1 in
+        let here : slice_get final k ≡ Some (node.Reading z.0) = y.1.0 ∙ ap Some z.1.0 in
+        let named : (sources z.0.reader.source).name ≡ file = z.1.1.name ∙ f.law.name ∙ f.first_named in
+        let given = (drew.source k file f).given in
+        let read = read_grew sources drains b can final e.readers.items e.writers.items apart old mid _ _ opens new closes k file z.0 here named in
+        let faults = faults_grew sources drains b can final e.readers.items e.writers.items apart old mid _ _ opens new closes k file z.0 here named in
+        record {
+          more = (sources z.0.reader.source).given;
+          given_less = subst (λ (m : ℕ). m ≤ (sources z.0.reader.source).given) (sym given) z.1.1.given;
+          ahead = subst (λ (m : ℕ). (sources z.0.reader.source).given ≤ m + 69632) (sym given) z.1.1.ahead;
+          read = reads_of sources drains handles b can ss ds net between old mid opens tells_was k file f new (sources z.0.reader.source).given read
+              (subst (λ (m : ℕ). Grew (old.rfaults file) m (new.rfaults file)) z.1.1.faults faults);
+        }
+
+    sink_breaks : (k : ℕ) (n : blue.Node) (file : List ℕ) → slice_get nodes k ≡ Some n → output_of n.kind ≡ Some file → SinkBreaks old new b drawn k n file
+    sink_breaks k n file at shape =
+        let f = sink_facts sources drains handles b can ss ds net between old mid opens k file (record { node = n; at = at; file_is = shape }) in
+        let y = kept_at sources drains net.nodes final k (node.Writing f.now) l.breaks.kept f.there.at_last in
+        let z = writing_kept sources drains f.now y.0 y.1.1 in
+        let here : slice_get final k ≡ Some (node.Writing z.0) = y.1.0 ∙ ap Some z.1.0 in
+        let named : (drains z.0.drain).name ≡ file = ap (λ (s : DrainState). s.name) z.1.1 ∙ f.law.name ∙ f.first_named in
+        let wrote : SinkWrote sources drains g left k (node_of n) f.first f.now = wrote_law g left run k (node_of n) f.first f.now (mapped_at node_of nodes k n at) f.there in
+        let ranked = ranked_law b can.plugs can.taken can.fit in
+        let tells : (w : World) → IsWorldOf nodes drawn w → SinkTells (sink_outlook g w k (node_of n)) f.now.end wrote.written = λ w is. wrote.tells w ranked.0 (drew.tells w is) ranked.1 in
+        let grew = writes_grew sources drains b can final e.readers.items e.writers.items apart old mid _ _ opens new closes k file z.0 here named in
+        record {
+          held = wrote.written;
+          end = f.now.end;
+          there = λ told.
+              file_held sources drains b can final e.readers.items e.writers.items apart old mid _ _ opens new closes k file z.0 here named told
+              ∙ ap (λ (s : DrainState). s.holds) z.1.1
+              ∙ wrote.holds (f.start.holds (closes.files.told told));
+          tells = tells;
+          part = λ w is. part_of (sink_outlook g w k (node_of n)) f.now.end wrote.written (tells w is);
+          writes = stands_writes f.now.end (drains f.first.drain) (drains f.now.drain) f.law.wrote f.now.count (old.wfaults file) (new.wfaults file) f.law.stands f.start.faults
+              (subst (λ (s : DrainState). Grew (old.wfaults file) s.faults (new.wfaults file)) z.1.1 grew);
+        }
+
+    breaks_files : BreaksFiles old new b
+    breaks_files = record {
+      drawn = drawn;
+      read = source_breaks;
+      world = world_of nodes drawn;
+      has_files = drew.has_files;
+      sink = sink_breaks;
+      others = other_files sources drains b can final e.readers.items e.writers.items apart old mid _ _ opens new closes;
+    }
+
+  pub wants_within : WantsWithin old new b
+  wants_within = record {
+    told = tells_old sources drains b can final e.readers.items e.writers.items apart old mid _ _ opens new closes;
+    leaves = breaks_files;
+    refusals = refused sources drains b can final e.readers.items e.writers.items apart old mid _ _ opens new closes;
+    reads = other_reads sources drains b can final e.readers.items e.writers.items apart old mid _ _ opens new closes;
+    other_writes = other_writes sources drains b can final e.readers.items e.writers.items apart old mid _ _ opens new closes;
+    other_draws = other_draws sources drains b can final e.readers.items e.writers.items apart old mid _ _ opens new closes;
+  }
+
+-- ---- before the run
+
+-- the files were opened, and then memory was wanting
+pub gives_up_open : (old new : FolderState) (b : Blueprint) (is : List SourceState) (os : List DrainState) → OpensAll old new (inputs_of_nodes b.nodes.items) (outputs_of_nodes b.nodes.items) is os → Wants old new b
+gives_up_open old new b is os h = inl (record {
+  before = outputs_of_nodes b.nodes.items;
+  after = [];
+  place = sym (append-nil (outputs_of_nodes b.nodes.items));
+  files = h.files;
+  refusals = h.refusals;
+  read = λ n. grew_same (old.read n) (new.read n) (h.read n);
+  rfaults = h.rfaults;
+  wfaults = h.wfaults;
+})

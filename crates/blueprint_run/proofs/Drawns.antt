@@ -1,0 +1,132 @@
+-- What the sources of an island of a blueprint had drawn at a moment between two events, and the worlds that tell of it.
+use Rattle.std.proofs.Common.{◌≡◌, ℕ, Bool, List, [], map, slice_get, refl, sym, ap, ◌∙◌, subst}
+use Rattle.std.specs.Prelude.{IsTrue, IsSome, Option, Some, None, unwrap_or}
+use Rattle.stream_model.specs.declared.kind.Kind.TheVariants as kind
+use Rattle.stream_model.specs.Graph as graph
+use Rattle.stream_model.specs.Node.{World}
+use Rattle.stream_io.specs.Counts.{Rose, Grew}
+use Rattle.stream_io.specs.State.{FolderState, SourceState, DrainState}
+use Rattle.fused_net.specs.Net.{Net}
+use Rattle.nodes.specs.Source.{Lines}
+use Rattle.nodes.specs.declared.node.Node.{Node}
+use Rattle.nodes.specs.declared.node.Node.TheVariants as node
+use Rattle.run_account.specs.Seats.{account_of}
+use Rattle.run_laws.specs.Telling.{TellsFile, TellsNode, Tells}
+use Rattle.blue_core.specs.declared.blueprint.Blueprint.{Blueprint}
+use Rattle.blue_rules.specs.Names.{file_of}
+use Rattle.blue_core.specs.declared.blueprint.Node as blue
+use Rattle.materializer.specs.Built.{CanRun}
+use Rattle.materializer.specs.Files.{inputs_of_nodes, outputs_of_nodes}
+use Rattle.materializer.specs.Graphs.{node_of, graph_of}
+use Rattle.run_files.specs.Opening.{OpensAll}
+use Rattle.blueprint_run.specs.Drawing.{Drawn, IsSource, WasRead, IsWorldOf}
+use Rattle.blueprint_run.proofs.Counts.{rose_by, rose_from_none, is_positive, positive, above_none, not_positive, some_of}
+use Rattle.blueprint_run.proofs.Apart.{one_file}
+use Rattle.blueprint_run.proofs.Worlds.{world_of, world_has}
+use Rattle.blueprint_run.proofs.Places.{unmapped_at, place_one}
+use Rattle.blueprint_run.proofs.Handles.{HandleLaws, Between, SourceFacts, source_facts, reading_same}
+
+-- the state of the source at a place, where one is there
+abbrev blank : SourceState
+blank = record { name = []; whole = None; given = 0; faults = 0 }
+
+abbrev source_in : {S D : Type 0} → (S → SourceState) → Option (Node S D) → SourceState
+source_in sources (Some (node.Reading x)) = sources x.reader.source
+source_in sources _ = blank
+
+source_there : {S D : Type 0} (sources : S → SourceState) (o : Option (Node S D)) (x : Lines S) → o ≡ Some (node.Reading x) → source_in sources o ≡ sources x.reader.source
+source_there sources o x e = rw e refl
+
+told_whole : (o : Option (List ℕ)) (bytes : List ℕ) → o ≡ Some bytes → unwrap_or o [] ≡ bytes
+told_whole o bytes e = rw e refl
+
+-- a world that has the files as they were read tells of each source
+tells_node : {S D : Type 0} (sources : S → SourceState) (w : World) (n : graph.Node) (first now : Node S D)
+    → ((a c : Lines S) (name : List ℕ) → first ≡ node.Reading a → now ≡ node.Reading c → n.kind ≡ kind.Lines name → TellsFile (sources a.reader.source) (sources c.reader.source) (w.file name)) → TellsNode sources w n first now
+tells_node sources w n (node.Reading a) (node.Reading c) tells = λ name shape. tells a c name refl refl shape
+tells_node sources w n first now tells = tt
+
+abbrev pub drawn_of : {S D : Type 0} → (S → SourceState) → Net (Node S D) → Drawn
+drawn_of sources net = record {
+  bytes = λ k. unwrap_or (source_in sources (slice_get net.firsts k)).whole [];
+  given = λ k. (source_in sources (slice_get net.nodes k)).given;
+  faulted = λ k. is_positive (source_in sources (slice_get net.nodes k)).faults;
+}
+
+module _ {S D : Type 0} (sources : S → SourceState) (drains : D → DrainState) (handles : HandleLaws sources drains) (b : Blueprint) (can : CanRun b) (ss : List S) (ds : List D) (net : Net (Node S D)) (l : Between sources drains b ss ds net)
+    (old mid : FolderState) (opens : OpensAll old mid (inputs_of_nodes b.nodes.items) (outputs_of_nodes b.nodes.items) (map sources ss) (map drains ds)) where
+  abbrev nodes : List blue.Node
+  nodes = b.nodes.items
+
+  abbrev Source : ℕ → List ℕ → Type 0
+  Source k file = SourceFacts sources drains handles b can ss ds net l old mid opens k file
+
+  abbrev drawn : Drawn
+  drawn = drawn_of sources net
+
+  -- what a source drew of its file, which was there
+  pub record DrawsOf (k : ℕ) (file : List ℕ) (f : Source k file) : Type 0 where
+    pub bytes : List ℕ
+    pub there : old.file file ≡ Some bytes
+    pub whole : (sources f.first.reader.source).whole ≡ Some bytes
+    pub drawn_bytes : drawn.bytes k ≡ bytes
+    pub given : drawn.given k ≡ (sources f.now.reader.source).given
+    pub faulted : drawn.faulted k ≡ is_positive (sources f.now.reader.source).faults
+
+  -- the same of every source; and a world that has the files as they were read tells of them
+  pub record Draws : Type 0 where
+    pub source : (k : ℕ) (file : List ℕ) (f : Source k file) → DrawsOf k file f
+    pub tells : (w : World) → IsWorldOf nodes drawn w → Tells sources (graph_of b) w (account_of net)
+    pub has_files : IsWorldOf nodes drawn (world_of nodes drawn)
+
+  module _ (tells_was : IsTrue old.tells) where
+    draws_of : (k : ℕ) (file : List ℕ) (f : Source k file) → DrawsOf k file f
+    draws_of k file f =
+        let there = some_of (old.file file) (subst (λ n. IsSome (old.file n)) f.first_named (f.start.there tells_was)) in
+        let whole : (sources f.first.reader.source).whole ≡ Some there.0 = f.start.whole tells_was ∙ ap old.file f.first_named ∙ there.1 in
+        record {
+          bytes = there.0;
+          there = there.1;
+          whole = whole;
+          drawn_bytes = ap (λ (i : SourceState). unwrap_or i.whole []) (source_there sources (slice_get net.firsts k) f.first f.there.at_first) ∙ told_whole (sources f.first.reader.source).whole there.0 whole;
+          given = ap (λ (i : SourceState). i.given) (source_there sources (slice_get net.nodes k) f.now f.there.at_last);
+          faulted = ap (λ (i : SourceState). is_positive i.faults) (source_there sources (slice_get net.nodes k) f.now f.there.at_last);
+        }
+
+    -- so much was read of its file, and its reads that failed were counted
+    pub reads_of : (k : ℕ) (file : List ℕ) (f : Source k file) (new : FolderState) (read : ℕ) → Grew (old.read file) read (new.read file) → Grew (old.rfaults file) (sources f.now.reader.source).faults (new.rfaults file)
+        → WasRead old new file (drawn.bytes k) read (drawn.faulted k)
+    reads_of k file f new read grew faults =
+        let d = draws_of k file f in
+        record {
+          there = d.there ∙ ap Some (sym d.drawn_bytes);
+          read = grew;
+          rose = λ p. rose_by (old.rfaults file) (sources f.now.reader.source).faults (new.rfaults file) faults (above_none (sources f.now.reader.source).faults (subst IsTrue d.faulted p));
+          calm = λ p. subst (λ n. Grew (old.rfaults file) n (new.rfaults file)) (not_positive (sources f.now.reader.source).faults (sym d.faulted ∙ p)) faults;
+        }
+
+    file_told : (k : ℕ) (file : List ℕ) (f : Source k file) (w : World) → w.file file ≡ record { bytes = drawn.bytes k; read = drawn.given k; faulted = drawn.faulted k } → TellsFile (sources f.first.reader.source) (sources f.now.reader.source) (w.file file)
+    file_told k file f w is =
+        let d = draws_of k file f in
+        rw is (record {
+          bytes = d.whole ∙ ap Some (sym d.drawn_bytes);
+          read = d.given;
+          faulted = λ rose. subst IsTrue (sym d.faulted) (positive (sources f.now.reader.source).faults (rose_from_none (sources f.first.reader.source).faults (sources f.now.reader.source).faults f.start.faults rose));
+        })
+
+    world_tells : (w : World) → IsWorldOf nodes drawn w → Tells sources (graph_of b) w (account_of net)
+    world_tells w is k n first now gi fi ni = tells_node sources w n first now (λ a c name fa nc shape.
+        let m = unmapped_at node_of nodes k n gi in
+        let place : IsSource nodes k name = record { node = m.0; at = m.1.0; kind_is = ap (λ (x : graph.Node). x.kind) (sym m.1.1) ∙ shape } in
+        let f = source_facts sources drains handles b can ss ds net l old mid opens k name place in
+        let first_is : f.first ≡ a = reading_same f.first a first (place_one net.firsts k first (node.Reading f.first) fi f.there.at_first) fa in
+        let now_is : f.now ≡ c = reading_same f.now c now (place_one net.nodes k now (node.Reading f.now) ni f.there.at_last) nc in
+        subst (λ (x : Lines S). TellsFile (sources x.reader.source) (sources c.reader.source) (w.file name)) first_is
+        (subst (λ (x : Lines S). TellsFile (sources f.first.reader.source) (sources x.reader.source) (w.file name)) now_is (file_told k name f w (is k name place))))
+
+    pub draws_all : Draws
+    draws_all = record {
+      source = draws_of;
+      tells = world_tells;
+      has_files = world_has nodes drawn (λ i k m n name at here p q. one_file b can.plugs can.taken can.fit i k m n name at here (ap file_of p) (ap file_of q));
+    }

@@ -1,0 +1,116 @@
+-- The folder once the handles of an island that was taken apart were closed, by the names of the files of its blueprint.
+use Rattle.std.proofs.Common.{◌≡◌, ℕ, List, [], ◌∷◌, map, length, slice_get, refl, sym, ap, ◌∙◌, subst}
+use Rattle.std.specs.Prelude.{IsTrue, Some}
+use Rattle.std.specs.Option.{option_map}
+use Rattle.std.specs.List.{Contains, filter_map}
+use Rattle.stream_io.specs.Counts.{Grew}
+use Rattle.stream_io.specs.State.{FolderState, SourceState, DrainState}
+use Rattle.nodes.specs.Source.{Lines}
+use Rattle.nodes.specs.Sink.{Sink}
+use Rattle.nodes.specs.declared.node.Node.{Node}
+use Rattle.nodes.specs.declared.node.Node.TheVariants as node
+use Rattle.interpreter.specs.Island.{readers_of, writers_of}
+use Rattle.blue_core.specs.declared.blueprint.Blueprint.{Blueprint}
+use Rattle.blue_core.specs.declared.blueprint.Node as blue
+use Rattle.materializer.specs.Built.{CanRun}
+use Rattle.materializer.specs.Files.{input_of, output_of, inputs_of_nodes, outputs_of_nodes}
+use Rattle.run_files.specs.Names.{source_names, drain_names, Distinct}
+use Rattle.run_files.specs.Opening.{OpensAll}
+use Rattle.run_files.specs.Closing.{ClosesAll}
+use Rattle.run_files.proofs.Counts.{grew_same}
+use Rattle.blueprint_run.proofs.Places.{all_at, mapped_at, filtered_at, filtered_along, map_two}
+use Rattle.blueprint_run.proofs.Counts.{grew_behind}
+use Rattle.blueprint_run.proofs.Apart.{inputs_distinct, outputs_distinct}
+use Rattle.blueprint_run.proofs.Profiles.{reader_in, writer_in, readers_filtered, writers_filtered}
+
+-- these nodes have the names of the files of their nodes in the blueprint, and these are their handles
+pub record TakenApart {S D : Type 0} (sources : S → SourceState) (drains : D → DrainState) (b : Blueprint) (final : List (Node S D)) (readers : List S) (writers : List D) : Type 0 where
+  pub as_many : length b.nodes.items ≡ length final
+  pub input : (k : ℕ) (n : blue.Node) (x : Node S D) → slice_get b.nodes.items k ≡ Some n → slice_get final k ≡ Some x → input_of n.kind ≡ option_map (λ s. (sources s).name) (reader_in x)
+  pub output : (k : ℕ) (n : blue.Node) (x : Node S D) → slice_get b.nodes.items k ≡ Some n → slice_get final k ≡ Some x → output_of n.kind ≡ option_map (λ d. (drains d).name) (writer_in x)
+  pub readers_are : readers ≡ readers_of final
+  pub writers_are : writers ≡ writers_of final
+
+module _ {S D : Type 0} (sources : S → SourceState) (drains : D → DrainState) (b : Blueprint) (can : CanRun b) (final : List (Node S D)) (readers : List S) (writers : List D) (apart : TakenApart sources drains b final readers writers)
+    (old mid : FolderState) (is : List SourceState) (os : List DrainState) (opens : OpensAll old mid (inputs_of_nodes b.nodes.items) (outputs_of_nodes b.nodes.items) is os) (new : FolderState) (closes : ClosesAll mid new (map sources readers) (map drains writers)) where
+  abbrev nodes : List blue.Node
+  nodes = b.nodes.items
+
+  -- the readers have the names of the inputs, and the drains those of the outputs
+  readers_named : source_names (map sources readers) ≡ inputs_of_nodes nodes
+  readers_named =
+      map_two (λ (i : SourceState). i.name) sources readers
+      ∙ ap (map (λ (s : S). (sources s).name)) (apart.readers_are ∙ readers_filtered final)
+      ∙ sym (filtered_along (λ (n : blue.Node). input_of n.kind) reader_in (λ (s : S). (sources s).name) nodes final apart.as_many apart.input)
+
+  writers_named : drain_names (map drains writers) ≡ outputs_of_nodes nodes
+  writers_named =
+      map_two (λ (o : DrainState). o.name) drains writers
+      ∙ ap (map (λ (d : D). (drains d).name)) (apart.writers_are ∙ writers_filtered final)
+      ∙ sym (filtered_along (λ (n : blue.Node). output_of n.kind) writer_in (λ (d : D). (drains d).name) nodes final apart.as_many apart.output)
+
+  readers_distinct : Distinct (source_names (map sources readers))
+  readers_distinct = subst Distinct (sym readers_named) (inputs_distinct b can.plugs can.taken can.fit)
+
+  writers_distinct : Distinct (drain_names (map drains writers))
+  writers_distinct = subst Distinct (sym writers_named) (outputs_distinct b can.plugs can.taken can.fit)
+
+  module _ (k : ℕ) (file : List ℕ) (x : Lines S) (at : slice_get final k ≡ Some (node.Reading x)) (named : (sources x.reader.source).name ≡ file) where
+    -- the reader of a source is among those that were closed
+    reader_closed : (i : ℕ) × (slice_get (map sources readers) i ≡ Some (sources x.reader.source))
+    reader_closed =
+        let found = filtered_at reader_in final k (node.Reading x) x.reader.source at refl in
+        let among : slice_get readers found.0 ≡ Some x.reader.source = subst (λ (r : List S). slice_get r found.0 ≡ Some x.reader.source) (sym (apart.readers_are ∙ readers_filtered final)) found.1 in
+        (found.0, mapped_at sources readers found.0 x.reader.source among)
+
+    -- what was read, and the reads that failed
+    pub read_grew : Grew (old.read file) (sources x.reader.source).given (new.read file)
+    read_grew =
+        let grew = all_at (λ (i : SourceState). Grew (mid.read i.name) i.given (new.read i.name)) (map sources readers) reader_closed.0 (sources x.reader.source) (closes.read.each readers_distinct) reader_closed.1 in
+        subst (λ m. Grew m (sources x.reader.source).given (new.read file)) (opens.read file)
+        (subst (λ n. Grew (mid.read n) (sources x.reader.source).given (new.read n)) named grew)
+
+    pub faults_grew : Grew (old.rfaults file) (sources x.reader.source).faults (new.rfaults file)
+    faults_grew =
+        let grew = all_at (λ (i : SourceState). Grew (mid.rfaults i.name) i.faults (new.rfaults i.name)) (map sources readers) reader_closed.0 (sources x.reader.source) (closes.rfaults.each readers_distinct) reader_closed.1 in
+        grew_behind (old.rfaults file) (mid.rfaults file) (new.rfaults file) (sources x.reader.source).faults (opens.rfaults file)
+        (subst (λ n. Grew (mid.rfaults n) (sources x.reader.source).faults (new.rfaults n)) named grew)
+
+  module _ (k : ℕ) (file : List ℕ) (x : Sink D) (at : slice_get final k ≡ Some (node.Writing x)) (named : (drains x.drain).name ≡ file) where
+    -- and so is the drain of a sink
+    drain_closed : (i : ℕ) × (slice_get (map drains writers) i ≡ Some (drains x.drain))
+    drain_closed =
+        let found = filtered_at writer_in final k (node.Writing x) x.drain at refl in
+        let among : slice_get writers found.0 ≡ Some x.drain = subst (λ (r : List D). slice_get r found.0 ≡ Some x.drain) (sym (apart.writers_are ∙ writers_filtered final)) found.1 in
+        (found.0, mapped_at drains writers found.0 x.drain among)
+
+    pub writes_grew : Grew (old.wfaults file) (drains x.drain).faults (new.wfaults file)
+    writes_grew =
+        let grew = all_at (λ (o : DrainState). Grew (mid.wfaults o.name) o.faults (new.wfaults o.name)) (map drains writers) drain_closed.0 (drains x.drain) (closes.wfaults.each writers_distinct) drain_closed.1 in
+        grew_behind (old.wfaults file) (mid.wfaults file) (new.wfaults file) (drains x.drain).faults (opens.wfaults file)
+        (subst (λ n. Grew (mid.wfaults n) (drains x.drain).faults (new.wfaults n)) named grew)
+
+    -- the file is what the drain held
+    pub file_held : IsTrue new.tells → new.file file ≡ (drains x.drain).holds
+    file_held tells =
+        let held = all_at (λ (o : DrainState). new.file o.name ≡ o.holds) (map drains writers) drain_closed.0 (drains x.drain) (closes.files.each writers_distinct tells) drain_closed.1 in
+        subst (λ n. new.file n ≡ (drains x.drain).holds) named held
+
+  pub other_files : IsTrue new.tells → (n : List ℕ) → (Contains (outputs_of_nodes nodes) n → ⊥) → new.file n ≡ old.file n
+  other_files tells n never =
+      closes.files.others tells n (λ c. never (subst (λ (x : List (List ℕ)). Contains x n) writers_named c)) ∙ opens.files.others (closes.files.told tells) n never
+
+  pub other_reads : (n : List ℕ) → (Contains (inputs_of_nodes nodes) n → ⊥) → Grew (old.rfaults n) 0 (new.rfaults n)
+  other_reads n never = grew_behind (old.rfaults n) (mid.rfaults n) (new.rfaults n) 0 (opens.rfaults n) (grew_same (mid.rfaults n) (new.rfaults n) (closes.rfaults.others n (λ c. never (subst (λ (x : List (List ℕ)). Contains x n) readers_named c))))
+
+  pub other_draws : (n : List ℕ) → (Contains (inputs_of_nodes nodes) n → ⊥) → Grew (old.read n) 0 (new.read n)
+  other_draws n never = grew_same (old.read n) (new.read n) (closes.read.others n (λ c. never (subst (λ (x : List (List ℕ)). Contains x n) readers_named c)) ∙ opens.read n)
+
+  pub other_writes : (n : List ℕ) → (Contains (outputs_of_nodes nodes) n → ⊥) → Grew (old.wfaults n) 0 (new.wfaults n)
+  other_writes n never = grew_behind (old.wfaults n) (mid.wfaults n) (new.wfaults n) 0 (opens.wfaults n) (grew_same (mid.wfaults n) (new.wfaults n) (closes.wfaults.others n (λ c. never (subst (λ (x : List (List ℕ)). Contains x n) writers_named c))))
+
+  pub refused : (n : List ℕ) → Grew (old.refusals n) 0 (new.refusals n)
+  refused n = grew_behind (old.refusals n) (mid.refusals n) (new.refusals n) 0 (opens.refusals n) (grew_same (mid.refusals n) (new.refusals n) (closes.refusals n))
+
+  pub tells_old : IsTrue new.tells → IsTrue old.tells
+  tells_old h = opens.files.told (closes.files.told h)

@@ -4,7 +4,6 @@ use Rattle.std.specs.Prelude.{IsTrue, IsSome, Option, Some, None, slice_index_or
 use Rattle.std.specs.Option.{option_map}
 use Rattle.std.specs.List.{All, Contains, filter_map, list_any, list_all}
 use Rattle.std.proofs.lemmas.List.{length-map}
-use Rattle.std.proofs.lemmas.Bool.{and_parts}
 use Rattle.elem_core.specs.Tree.{Tree, text}
 use Rattle.elem_core.specs.Text.{text_lines}
 use Rattle.elem_core.specs.declared.item.Item.{Item}
@@ -66,8 +65,7 @@ use Rattle.blue_check.specs.Fitness.{IsFit}
 use Rattle.blue_check.specs.Wires.{blueprint_wires}
 use Rattle.blue_walks.specs.Forest.{wiring}
 use Rattle.plug_core.specs.declared.head.PlugHead.{PlugHead}
-use Rattle.materializer.specs.Built.{CanRun, is_built}
-use Rattle.materializer.proofs.Fitting.{all_built}
+use Rattle.materializer.specs.Built.{CanRun}
 use Rattle.materializer.specs.Files.{output_of, inputs_of_nodes, outputs_of_nodes, is_sink}
 use Rattle.materializer.specs.Graphs.{node_of, graph_of}
 use Rattle.materializer.specs.Seats.{links_from}
@@ -171,29 +169,13 @@ no_stand : (k : ℕ) (b : Bool) (o : Option Stand) (s : Stand) → StandsAt k b 
 no_stand k true o s h e = let same : s ≡ h.0 = some_one s h.0 (sym e ∙ h.1.0) in ap (λ (t : Stand). t.0) same ∙ h.1.1
 no_stand k false o s h e = absurd cc
 
-is_stand : (k : ℕ) (b : Bool) (o : Option Stand) (s : Stand) → StandsAt k b o → o ≡ Some s → b ≡ true
-is_stand k true o s h e = refl
-is_stand k false o s h e = absurd cc
-
--- a kind without an output that is built is a sink's, and has an input
-built_sink : (k : Kind) → is_built k ≡ true → (outputs_of k == 0) ≡ true → oneway.is_sink k ≡ true
-built_sink (kind.ToLines f) e h = refl
-built_sink (kind.Head f) e h = refl
-built_sink (kind.Last f) e h = refl
-built_sink kind.Ignore e h = refl
-built_sink _ e h = absurd cc
-
+-- a sink has an input
 sink_input : (k : Kind) → oneway.is_sink k ≡ true → 0 < inputs_of k
 sink_input (kind.ToLines f) e = omega arith
 sink_input (kind.Head f) e = omega arith
 sink_input (kind.Last f) e = omega arith
 sink_input kind.Ignore e = omega arith
 sink_input _ e = absurd cc
-
-built_at : (nodes : List blue.Node) (k : ℕ) (n : blue.Node) → list_all (λ (m : blue.Node). is_built m.kind) nodes ≡ true → slice_get nodes k ≡ Some n → is_built n.kind ≡ true
-built_at [] k n all at = absurd cc
-built_at (m ∷ ms) zero n all at = let same : m ≡ n = cc in ap (λ (x : blue.Node). is_built x.kind) (sym same) ∙ (and_parts (is_built m.kind) (list_all (λ (x : blue.Node). is_built x.kind) ms) all).0
-built_at (m ∷ ms) (suc k) n all at = built_at ms k n (and_parts (is_built m.kind) (list_all (λ (x : blue.Node). is_built x.kind) ms) all).1 at
 
 ended_goes : (e : EndState) → has_ended e ≡ true → is_unended e ≡ false
 ended_goes Ended h = refl
@@ -420,8 +402,7 @@ module _ {S D : Type 0} (sources : S → SourceState) (drains : D → DrainState
       let place : s.0 ≡ from.0 = no_stand from.0 (is_sink m.0) (stand_in from.1.0) s stand from.1.1.1 in
       let here : slice_get nodes s.0 ≡ Some m.0 = subst (λ j. slice_get nodes j ≡ Some m.0) (sym place) m.1 in
       let found : slice_get net.nodes s.0 ≡ Some from.1.0 = subst (λ j. slice_get net.nodes j ≡ Some from.1.0) (sym place) from.1.1.0 in
-      let built : is_built m.0.kind ≡ true = built_at nodes s.0 m.0 (all_built nodes (blueprint_wires b) can.built) here in
-      let shape : oneway.is_sink m.0.kind ≡ true = built_sink m.0.kind built (is_stand from.0 (is_sink m.0) (stand_in from.1.0) s stand from.1.1.1) in
+      let shape : oneway.is_sink m.0.kind ≡ true = (profile from.0 m.0 from.1.0 m.1 from.1.1.0).sink s from.1.1.1 in
       let input = (handles.joined_law b can.plugs can.taken can.fit).each_input s.0 (node_of m.0) 0 (mapped_at node_of nodes s.0 m.0 here) (sink_input m.0.kind shape) in
       let wire = found_first (λ w. w.to) (λ w. w.input) s.0 0 (blueprint_wires b) input.0 input.1 in
       record {

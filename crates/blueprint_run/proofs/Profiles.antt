@@ -11,6 +11,7 @@ use Rattle.stream_model.specs.declared.kind.Kind.TheVariants as kind
 use Rattle.stream_model.specs.declared.outcome.EndState.{EndState}
 use Rattle.stream_model.specs.declared.outcome.EndState.TheVariants.{WriteFault}
 use Rattle.stream_picture.specs.View.{outputs_of}
+use Rattle.stream_picture.specs.OneWay as oneway
 use Rattle.stream_io.specs.State.{SourceState, DrainState}
 use Rattle.stage_linear.specs.States.{IsLinear}
 use Rattle.stage_state.specs.States.{IsStateful}
@@ -89,11 +90,12 @@ StandsAt k true o = (s : Stand) × ((o ≡ Some s) × (s.0 ≡ k))
 StandsAt k false o = o ≡ None
 
 -- what node k leaves: a reader where its kind reads a file, which the reader names; a drain where its kind writes one; and how
--- it stands where it is a sink
+-- it stands where it is a sink, and where it stands its kind is a sink's
 pub record Profile {S D : Type 0} (sources : S → SourceState) (drains : D → DrainState) (k : ℕ) (n : blue.Node) (x : Node S D) : Type 0 where
   pub input : input_of n.kind ≡ option_map (λ s. (sources s).name) (reader_in x)
   pub output : output_of n.kind ≡ option_map (λ d. (drains d).name) (writer_in x)
   pub stand : StandsAt k (is_sink n) (stand_in x)
+  pub sink : (s : Stand) → stand_in x ≡ Some s → oneway.is_sink n.kind ≡ true
 
 -- a kind with some output that reads no file: a stage, or a source without a file
 record IsInner (shape : Kind) : Type 0 where
@@ -149,11 +151,12 @@ record HasFile (shape : Kind) : Type 0 where
   input : input_of shape ≡ None
   output : output_of shape ≡ Some name
   none : (outputs_of shape == 0) ≡ true
+  sink : oneway.is_sink shape ≡ true
 
 file_sink : (shape : Kind) → IsFileSink shape → HasFile shape
-file_sink (kind.ToLines name) h = record { name = name; input = refl; output = refl; none = refl }
-file_sink (kind.Head name) h = record { name = name; input = refl; output = refl; none = refl }
-file_sink (kind.Last name) h = record { name = name; input = refl; output = refl; none = refl }
+file_sink (kind.ToLines name) h = record { name = name; input = refl; output = refl; none = refl; sink = refl }
+file_sink (kind.Head name) h = record { name = name; input = refl; output = refl; none = refl; sink = refl }
+file_sink (kind.Last name) h = record { name = name; input = refl; output = refl; none = refl; sink = refl }
 file_sink _ h = absurd h
 
 -- a kind that writes a file is a sink with one
@@ -177,6 +180,7 @@ module _ {S D : Type 0} (sources : S → SourceState) (drains : D → DrainState
     input = ap input_of is ∙ ap Some (sym named);
     output = ap output_of is;
     stand = no_sink k (is_sink n) None (ap (λ (s : Kind). outputs_of s == 0) is) refl;
+    sink = λ s e. absurd cc;
   }
 
   writing_profile : (x : Sink D) → IsFileSink n.kind → x.node ≡ k → ((name : List ℕ) → output_of n.kind ≡ Some name → (drains x.drain).name ≡ name) → Profile {S = S} {D = D} sources drains k n (node.Writing x)
@@ -186,6 +190,7 @@ module _ {S D : Type 0} (sources : S → SourceState) (drains : D → DrainState
         input = f.input;
         output = f.output ∙ ap Some (sym (named f.name f.output));
         stand = a_sink k (is_sink n) (Some (x.node, x.count, x.end)) (x.node, x.count, x.end) f.none refl place;
+        sink = λ s e. f.sink;
       }
 
   ignoring_profile : (x : Ignorer) → n.kind ≡ kind.Ignore → x.node ≡ k → Profile {S = S} {D = D} sources drains k n (node.Ignoring x)
@@ -193,6 +198,7 @@ module _ {S D : Type 0} (sources : S → SourceState) (drains : D → DrainState
     input = ap input_of is;
     output = ap output_of is;
     stand = a_sink k (is_sink n) (Some (x.node, 0, x.end)) (x.node, 0, x.end) (ap (λ (s : Kind). outputs_of s == 0) is) refl place;
+    sink = λ s e. ap oneway.is_sink is;
   }
 
   inner_profile : (x : Node S D) → reader_in x ≡ None → writer_in x ≡ None → stand_in x ≡ None → IsInner n.kind → Profile sources drains k n x
@@ -200,6 +206,7 @@ module _ {S D : Type 0} (sources : S → SourceState) (drains : D → DrainState
     input = is.input ∙ ap (option_map (λ s. (sources s).name)) (sym reads);
     output = is.output ∙ ap (option_map (λ d. (drains d).name)) (sym writes);
     stand = no_sink k (is_sink n) (stand_in x) is.outputs stands;
+    sink = λ s e. absurd cc;
   }
 
   -- what a node leaves, whatever its kind is, where its source and its drain have the names of their files

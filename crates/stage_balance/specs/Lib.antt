@@ -1,0 +1,3 @@
+pub mod Outs
+pub mod Balances
+pub mod Balancings

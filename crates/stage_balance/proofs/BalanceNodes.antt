@@ -1,13 +1,12 @@
 -- A balance over its histories: a call keeps its law, it rests, and what it gave against its outlooks.
-use Rattle.std.specs.Prelude.{replicate, slice_get, slice_index_or, ◌&&◌}
-use Rattle.std.proofs.Common.{◌≡◌, ℕ, zero, suc, ◌+◌, ◌≤◌, ◌<◌, ◌⊎◌, inl, inr, Bool, true, false, List, [], ◌∷◌, ◌++◌, length, map, refl, sym, ap, ◌∙◌, subst, arith, append-nil, Option, Some, None}
+use Rattle.std.specs.Prelude.{replicate, slice_get, slice_index_or}
+use Rattle.std.proofs.Common.{◌≡◌, ℕ, zero, suc, ◌+◌, ◌≤◌, ◌<◌, ◌⊎◌, inl, inr, Bool, true, false, List, [], ◌∷◌, ◌++◌, length, map, refl, sym, ap, ◌∙◌, subst, arith, Option, Some, None}
 use Rattle.std.proofs.lemmas.Bool.{and_from}
 use Rattle.std.proofs.lemmas.List.{length-map, length-replicate}
 use Rattle.std.proofs.lemmas.List.Folds.{list_all-append}
 use Rattle.elem_core.specs.Tree.{Tree}
 use Rattle.elem_core.specs.declared.item.Item.{Item}
 use Rattle.elem_core.specs.declared.item.Item.TheVariants as item
-use Rattle.elem_core.specs.declared.why.Cause.{Cause}
 use Rattle.elem_core.specs.declared.why.Decider.{Decider}
 use Rattle.port_core.specs.declared.act.Act.{Act}
 use Rattle.port_core.specs.declared.view.InView.{InView}
@@ -17,7 +16,6 @@ use Rattle.port_core.specs.declared.view.OutView.TheVariants.{Unasked, Asked, Sh
 use Rattle.port_core.specs.View as port
 use Rattle.port_core.specs.View.{View, in_at, out_at, IsOutOpen, ActsAllowed, acted, acted_all}
 use Rattle.port_core.specs.Call.{Call, starts, asks, brings, cancels, AllIdle, AllUnasked, MayCome, CallAllowed, seen, Obeys, brought_to, given_on}
-use Rattle.port_core.specs.Asking.{AsksStand}
 use Rattle.port_core.proofs.Views.{outs_stay}
 use Rattle.stream_model.specs.declared.kind.Kind.TheVariants.{Balance}
 use Rattle.stream_model.specs.declared.kind.TheConstants.{MAX_FAN}
@@ -46,7 +44,7 @@ use Rattle.stage_balance.specs.declared.want.Want.{Want}
 use Rattle.stage_balance.specs.declared.want.Want.TheVariants.{Quiet, Asks, Gone}
 use Rattle.stage_balance.specs.Outs.{want_view, open_count, asks_count, OneInClosed, OutsClosed, AllClosed, own_ins, own_outs}
 use Rattle.stage_balance.specs.Balances.{BalanceHeld, waits, shut, Handed, BalanceTurn, BalanceClose, BalanceTurnAt, BalanceKeeps, moves_of, BalanceLaw}
-use Rattle.stage_balance.specs.Balancings.{Core, Balancing, input_of, view_of, Queued, Holding, Sound, row_by, row, waited, held_by, held, Turned, Begins, BalanceFresh, BalancesAs, unasked_ports, BalanceRestsOwn}
+use Rattle.stage_balance.specs.Balancings.{Core, Balancing, input_of, Queued, Holding, Sound, row_by, row, held_by, held, Turned, Begins, BalanceFresh, BalancesAs, unasked_ports, BalanceRestsOwn}
 use Rattle.stage_balance.proofs.Balances.{balance_stands, joined_then, joined_end}
 
 -- ---- a call keeps the law

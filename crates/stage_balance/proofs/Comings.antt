@@ -1,5 +1,5 @@
 -- What a balance does with what comes to it, and where an output is cancelled, keeps its row, and is a turn of its law.
-use Rattle.std.specs.Prelude.{◌==◌, ◌-◌, if◌then◌else◌, slice_get, slice_set, slice_index_or}
+use Rattle.std.specs.Prelude.{◌==◌, if◌then◌else◌, slice_get, slice_set, slice_index_or}
 use Rattle.std.proofs.Common.{◌≡◌, ◌≢◌, ℕ, zero, suc, ◌≤◌, ◌<◌, ◌⊎◌, inl, inr, Bool, true, false, List, [], ◌∷◌, ◌++◌, length, map, refl, sym, ap, ◌∙◌, subst, arith, append-nil, Option, Some, None}
 use Rattle.std.proofs.lemmas.List.{length-set}
 use Rattle.std.proofs.lemmas.Option.{slice_get_within}
@@ -10,27 +10,24 @@ use Rattle.elem_core.specs.declared.item.Item.TheVariants as item
 use Rattle.port_core.specs.Picks.{Picks}
 use Rattle.port_core.specs.declared.act.Act.{Act}
 use Rattle.port_core.specs.declared.act.Act.TheVariants.{Pull, Push, Complete, FailOut, Cancel}
-use Rattle.port_core.specs.declared.view.InView.{InView}
 use Rattle.port_core.specs.declared.view.InView.TheVariants.{Idle, Waiting, Over, Left}
 use Rattle.port_core.specs.declared.view.OutView.{OutView}
-use Rattle.port_core.specs.declared.view.OutView.TheVariants.{Unasked, Asked, Shut, Refused}
-use Rattle.port_core.specs.View.{View, in_at, out_at, IsInOpen, IsOutOpen, ActsAllowed, acted_all}
+use Rattle.port_core.specs.declared.view.OutView.TheVariants.{Unasked, Refused}
+use Rattle.port_core.specs.View.{View, IsInOpen, ActsAllowed, acted_all}
 use Rattle.port_core.specs.Asking.{AsksStand}
-use Rattle.port_core.specs.Call.{Call, starts, asks, brings, cancels, CallAllowed, seen, Obeys, Meets, given_on}
+use Rattle.port_core.specs.Call.{asks, brings, cancels, Meets, given_on}
 use Rattle.stream_model.specs.Outlook.{End, unended, ended, failed}
 use Rattle.stream_model.specs.FanIn.{Inflow}
 use Rattle.stage_core.specs.Handling.{Pulls}
-use Rattle.stage_law.specs.Held.{told}
-use Rattle.stage_law.specs.Inflows.{flow_of, joined_at, joined, nothing, coming}
+use Rattle.stage_law.specs.Inflows.{flow_of, joined, nothing}
 use Rattle.stage_law.proofs.Inflows.{joined-nothing}
 use Rattle.stage_fans.specs.Seats.{end_by}
-use Rattle.stage_balance.specs.declared.want.Want.{Want}
 use Rattle.stage_balance.specs.declared.want.Want.TheVariants.{Quiet, Asks, Gone}
-use Rattle.stage_balance.specs.Outs.{want_view, open_count, at_open, OneInClosed, OutsClosed, AllClosed, SomeAsked}
-use Rattle.stage_balance.specs.Balances.{BalanceHeld, waits, shut, Handed, BalanceTurn, BalanceClose, BalanceTurnBy}
-use Rattle.stage_balance.specs.Balancings.{Core, Balancing, input_of, view_of, Queued, Holding, Sound, row_by, row, waited_by, waited, held_by, held, Turned, Does, closed, emptied, lined, served, filled, others, without, Took, alone, again, stays, Ended, end_waits, end_passes, Lost, final, others_open, FirstServed}
+use Rattle.stage_balance.specs.Outs.{want_view, open_count, at_open, OutsClosed, AllClosed, SomeAsked}
+use Rattle.stage_balance.specs.Balances.{waits, BalanceTurn, BalanceClose, BalanceTurnBy}
+use Rattle.stage_balance.specs.Balancings.{Balancing, input_of, view_of, Queued, Holding, Sound, row, waited_by, waited, held, Does, closed, served, filled, others, without, Took, alone, again, stays, Ended, end_waits, end_passes, Lost, final, others_open, FirstServed}
 use Rattle.stage_balance.proofs.Queues.{open_served, open_lost, queue_without, never_longer}
-use Rattle.stage_balance.proofs.Wants.{want_set, is_open, view_at, after_one, Acted, shut_views, gone_views}
+use Rattle.stage_balance.proofs.Wants.{want_set, is_open, view_at, shut_views, gone_views}
 use Rattle.stage_balance.proofs.Handlings.{is_standing, Found, found, Handled, handle, turn_open, none_handed, quiet, push_told, one_turn, named_one, end_of, end_told, completed, broke, broke_by, completions, failures, completes_all, fails_all}
 
 -- ---- the one input
@@ -410,3 +407,8 @@ lost old new acts j h m l = by_loss l
     by_loss : Lost j old new acts → Handled (cancels j) old acts new
     by_loss (final one d) = rw (d.to_is, d.acts_are) (last_lost old j h f.sound was one)
     by_loss (others_open n d) = rw (d.to_is, d.acts_are) (one_lost old j h f.sound was n)
+
+-- the others keep their order
+pub lost_order : (old new : Balancing) (acts : List Act) (j : ℕ) → Lost j old new acts → new.core.queue ≡ others j old.core.queue
+lost_order old new acts j (final one d) = ap (λ (l : Balancing). l.core.queue) d.to_is
+lost_order old new acts j (others_open n d) = ap (λ (l : Balancing). l.core.queue) d.to_is

@@ -1,6 +1,6 @@
 -- What the handlers of a balance do keeps its row, and is a turn of its law by its moves.
-use Rattle.std.specs.Prelude.{◌==◌, ◌-◌, if◌then◌else◌, slice_get, slice_set, slice_index_or}
-use Rattle.std.proofs.Common.{◌≡◌, ◌≢◌, ℕ, zero, suc, ◌≤◌, ◌<◌, ◌⊎◌, inl, inr, Bool, true, false, List, [], ◌∷◌, ◌++◌, length, map, drop, refl, sym, ap, ◌∙◌, subst, arith, append-nil, Option, Some, None}
+use Rattle.std.specs.Prelude.{◌==◌, if◌then◌else◌, slice_get, slice_set}
+use Rattle.std.proofs.Common.{◌≡◌, ◌≢◌, ℕ, zero, suc, ◌≤◌, ◌<◌, Bool, true, false, List, [], ◌∷◌, ◌++◌, length, map, drop, refl, sym, ap, ◌∙◌, subst, arith, append-nil, Some, None}
 use Rattle.std.proofs.lemmas.List.{length-set}
 use Rattle.std.proofs.lemmas.Option.{slice_get_within}
 use Rattle.std.proofs.lemmas.Bool.Decides.{nat_tests}
@@ -10,29 +10,29 @@ use Rattle.elem_core.specs.declared.item.Item.{Item}
 use Rattle.elem_core.specs.declared.item.Item.TheVariants as item
 use Rattle.port_core.specs.Picks.{Picks}
 use Rattle.port_core.specs.declared.act.Act.{Act}
-use Rattle.port_core.specs.declared.act.Act.TheVariants.{Pull, Push, Complete, FailOut, Cancel}
+use Rattle.port_core.specs.declared.act.Act.TheVariants.{Pull, Push, Complete, FailOut}
 use Rattle.port_core.specs.declared.view.InView.{InView}
-use Rattle.port_core.specs.declared.view.InView.TheVariants.{Idle, Waiting, Over, Left}
+use Rattle.port_core.specs.declared.view.InView.TheVariants.{Waiting}
 use Rattle.port_core.specs.declared.view.OutView.{OutView}
-use Rattle.port_core.specs.declared.view.OutView.TheVariants.{Unasked, Asked, Shut, Refused}
-use Rattle.port_core.specs.View.{View, in_at, out_at, IsInOpen, IsOutOpen, ActsAllowed, acted_all}
+use Rattle.port_core.specs.declared.view.OutView.TheVariants.{Unasked, Asked, Shut}
+use Rattle.port_core.specs.View.{View, ActsAllowed, acted_all}
 use Rattle.port_core.specs.Asking.{AsksStand}
-use Rattle.port_core.specs.Call.{Call, starts, asks, brings, cancels, CallAllowed, seen, Obeys, Meets, given_on}
+use Rattle.port_core.specs.Call.{Call, starts, asks, CallAllowed, seen, Obeys, Meets, given_on}
 use Rattle.stream_model.specs.Outlook.{End, unended, ended, failed}
 use Rattle.stream_model.specs.FanIn.{Inflow}
 use Rattle.stream_model.specs.Picks.{all_below, sent_to}
 use Rattle.stage_core.specs.Handling.{Pulls}
 use Rattle.stage_law.specs.Held.{told}
-use Rattle.stage_law.specs.Inflows.{flow_of, joined, nothing, coming}
+use Rattle.stage_law.specs.Inflows.{joined, nothing, coming}
 use Rattle.stage_law.proofs.Inflows.{joined-nothing}
 use Rattle.stage_fans.specs.Seats.{end_by}
 use Rattle.stage_balance.specs.declared.want.Want.{Want}
-use Rattle.stage_balance.specs.declared.want.Want.TheVariants.{Quiet, Asks, Gone}
-use Rattle.stage_balance.specs.Outs.{want_view, open_count, at_open, OneInClosed, OutsClosed, AllClosed, SomeAsked}
-use Rattle.stage_balance.specs.Balances.{BalanceHeld, waits, shut, Handed, BalanceTurn, BalanceClose, BalanceTurnBy}
-use Rattle.stage_balance.specs.Balancings.{Core, Balancing, input_of, view_of, Queued, Holding, Sound, row_by, row, waited_by, waited, held_by, held, Turned, Does, closed, emptied, lined, served, filled, others, without, Answered, given, last, queues, Took, alone, again, stays, LastInLine}
-use Rattle.stage_balance.proofs.Queues.{open_asked, open_served, open_lost, set_self, queue_more, queue_without, queue_fits, never_longer}
-use Rattle.stage_balance.proofs.Wants.{want_set, view_twice, is_quiet, is_open, view_at, asked_at, after_one, Acted, acts_from, shut_views, gone_views, GivenAt, nothing_here, one_here, given_each}
+use Rattle.stage_balance.specs.declared.want.Want.TheVariants.{Quiet, Asks}
+use Rattle.stage_balance.specs.Outs.{want_view, at_open, OneInClosed, AllClosed, SomeAsked}
+use Rattle.stage_balance.specs.Balances.{waits, Handed, BalanceTurn, BalanceClose, BalanceTurnBy}
+use Rattle.stage_balance.specs.Balancings.{Balancing, input_of, view_of, Holding, Sound, row_by, row, waited_by, waited, held_by, held, Turned, Does, closed, emptied, lined, served, Answered, given, last, queues, Took, alone, again, LastInLine}
+use Rattle.stage_balance.proofs.Queues.{open_asked, set_self, queue_more, queue_fits}
+use Rattle.stage_balance.proofs.Wants.{want_set, view_twice, is_quiet, view_at, asked_at, after_one, Acted, acts_from, shut_views, GivenAt, nothing_here, one_here, given_each}
 
 -- ---- the row
 

@@ -1,7 +1,6 @@
 -- The queue of a balance holds each output that asks once: as outputs ask, are served and are cancelled.
 use Rattle.std.specs.Prelude.{◌==◌, not, if◌then◌else◌, slice_get, slice_set}
-use Rattle.std.proofs.Common.{◌≡◌, ℕ, zero, suc, ◌+◌, ◌≤◌, ◌<◌, ◌⊎◌, inl, inr, Bool, true, false, List, [], ◌∷◌, ◌++◌, length, refl, sym, ap, ◌∙◌, subst, arith, Some}
-use Rattle.std.proofs.lemmas.Bool.Decides.{nat_tests}
+use Rattle.std.proofs.Common.{◌≡◌, ℕ, zero, suc, ◌≤◌, ◌<◌, ◌⊎◌, inl, inr, Bool, true, false, List, [], ◌∷◌, ◌++◌, length, refl, sym, ap, ◌∙◌, subst, arith, Some}
 use Rattle.std.proofs.lemmas.Bool.{cases_eq}
 use Rattle.stage_balance.specs.declared.want.Want.{Want}
 use Rattle.stage_balance.specs.declared.want.Want.TheVariants.{Quiet, Asks, Gone}

@@ -1,6 +1,6 @@
 -- The outputs of a balance: what is known of them, one action at each that is open, and what it gives.
 use Rattle.std.specs.Prelude.{◌==◌, if◌then◌else◌, slice_get, slice_set, slice_index_or}
-use Rattle.std.proofs.Common.{◌≡◌, ℕ, zero, suc, ◌+◌, ◌≤◌, ◌<◌, ◌⊎◌, inl, inr, Bool, true, false, List, [], ◌∷◌, ◌++◌, length, map, refl, sym, ap, ◌∙◌, subst, arith, append_assoc, length-append, Some}
+use Rattle.std.proofs.Common.{◌≡◌, ℕ, zero, suc, ◌+◌, ◌<◌, ◌⊎◌, inl, inr, Bool, true, false, List, [], ◌∷◌, ◌++◌, length, map, refl, sym, ap, ◌∙◌, subst, arith, append_assoc, length-append, Some}
 use Rattle.std.proofs.lemmas.Bool.Decides.{nat_tests}
 use Rattle.elem_core.specs.declared.item.Item.{Item}
 use Rattle.port_core.specs.declared.act.Act.{Act}
@@ -10,13 +10,11 @@ use Rattle.port_core.specs.declared.view.OutView.TheVariants.{Unasked, Asked, Sh
 use Rattle.port_core.specs.View.{View, out_at, with_out, IsOutOpen, ActAllowed, ActsAllowed, acted, acted_all}
 use Rattle.port_core.specs.Asking.{AsksStand}
 use Rattle.port_core.specs.Call.{given_by, given_on}
-use Rattle.stream_model.specs.Outlook.{End, unended}
 use Rattle.stage_core.specs.Handling.{Pulls}
-use Rattle.stage_law.specs.Held.{told}
 use Rattle.stage_balance.specs.declared.want.Want.{Want}
 use Rattle.stage_balance.specs.declared.want.Want.TheVariants.{Quiet, Asks, Gone}
 use Rattle.stage_balance.specs.Outs.{want_view, open_count, at_open, OutsClosed}
-use Rattle.stage_fans.proofs.Flags.{same, other}
+use Rattle.stage_fans.proofs.Flags.{other}
 
 -- ---- views
 

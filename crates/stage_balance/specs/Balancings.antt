@@ -8,7 +8,6 @@ use Rattle.port_core.specs.declared.act.Act.TheVariants.{Pull, Push, Complete, C
 use Rattle.port_core.specs.declared.view.InView.{InView}
 use Rattle.port_core.specs.declared.view.InView.TheVariants.{Idle, Waiting, Over}
 use Rattle.port_core.specs.declared.view.OutView.TheVariants.{Unasked}
-use Rattle.port_core.specs.View as port
 use Rattle.port_core.specs.View.{View}
 use Rattle.port_core.specs.Asking.{AsksStand}
 use Rattle.port_core.specs.Call.{Call, given_on}

@@ -163,6 +163,7 @@ impl Balancing {
         ensures answers { IsOk result }
         ensures ports { OnOk result (Obeys (cancels port) (row self.old) (row self.new) acts.new.items) }
         ensures gives { OnOk result (Turned (cancels port) self.old acts.new.items self.new) }
+        ensures order { self.new.core.queue ≡ others port self.old.core.queue }
         ensures room { acts.new.room ≡ acts.old.room }
     {
         self.lose(port, acts);

@@ -1,4 +1,4 @@
-use Rattle.stage_balance.proofs.Comings.{lost, lost_there, lost_some}
+use Rattle.stage_balance.proofs.Comings.{lost, lost_there, lost_some, lost_order}
 use Rattle.stage_balance.proofs.balancing.Balancing.on_cancel.Goals as goal
 
 pub lose-requires-clause-there : goal.lose-requires-clause-there
@@ -12,3 +12,6 @@ returns-clause-ports c = (lost c.args.self.now c.lose.new.self c.lose.new.acts.i
 
 pub returns-clause-gives : goal.returns-clause-gives
 returns-clause-gives c = (lost c.args.self.now c.lose.new.self c.lose.new.acts.items c.args.port c.requires.live c.requires.meets c.lose.ensures.does).gives
+
+pub returns-clause-order : goal.returns-clause-order
+returns-clause-order c = lost_order c.args.self.now c.lose.new.self c.lose.new.acts.items c.args.port c.lose.ensures.does

@@ -1,4 +1,4 @@
-use Rattle.stage_balance.proofs.Handlings.{answered, asked_there, asked_fits, last_in_line, mid_there, mid_few, mid_fits, mid_room}
+use Rattle.stage_balance.proofs.Handlings.{answered, asked_there, asked_fits, last_in_line, mid_there, mid_few, mid_fits}
 use Rattle.stage_balance.proofs.Comings.{few_asked}
 use Rattle.stage_balance.proofs.balancing.Balancing.on_pull.Goals as goal
 

@@ -394,6 +394,3 @@ module _ (old mid : Balancing) (is : mid ≡ record old { log = mid.log }) where
 
   pub mid_first : ((j : ℕ) (q : List ℕ) → old.core.queue ≡ j ∷ q → j < length old.core.outs) → (j : ℕ) (q : List ℕ) → mid.core.queue ≡ j ∷ q → j < length mid.core.outs
   mid_first h = subst (λ (l : Balancing). (j : ℕ) (q : List ℕ) → l.core.queue ≡ j ∷ q → j < length l.core.outs) (sym is) h
-
-  pub mid_room : (n : ℕ) → length old.core.outs < n → length mid.core.outs < n
-  mid_room n h = subst (λ (l : Balancing). length l.core.outs < n) (sym is) h

@@ -134,9 +134,6 @@ queue_length ws (k ∷ q) r = ap suc (queue_length (slice_set ws k Quiet) q r.1)
 pub queue_fits : (ws : List Want) (q : List ℕ) (j : ℕ) → slice_get ws j ≡ Some Quiet → Queued ws q → length q < length ws
 queue_fits ws q j h r = let a = queue_length ws q r in let b = asks_fewer ws j h in omega (arith, a, b)
 
-none_asks : (ws : List Want) (j : ℕ) → asks_count ws ≡ 0 → slice_get ws j ≡ Some Asks → ⊥
-none_asks ws j h a = let e = asks_less ws j a in omega (arith, h, e)
-
 pub never_longer : (q : List ℕ) (j : ℕ) → length (others j q) ≤ length q
 never_longer [] j = omega arith
 never_longer (k ∷ q) j = by_test (k == j) (never_longer q j)

@@ -1,0 +1,4 @@
+pub mod Sums
+pub mod Table
+pub mod Public
+pub mod Lent

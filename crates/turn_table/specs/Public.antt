@@ -1,0 +1,45 @@
+-- What a clause says of a turn table and of its seats.
+use Rattle.std.specs.Prelude.{◌≡◌, ℕ, List, [], ◌∷◌, Bool}
+use Rattle.std.specs.List.{All}
+use Rattle.turn_table.specs.Table.{hold}
+use Rattle.turn_table.specs.declared.hold.Hold.{Hold}
+use Rattle.turn_table.specs.declared.turns.Turns.{Turns}
+use Rattle.turn_table.specs.declared.turns.TurnSeat.{TurnSeat}
+
+-- what the first of these views holds, and what it found
+abbrev pub first_held : List Hold → List ℕ
+first_held [] = []
+first_held (v ∷ vs) = v.held
+
+-- the places whose turn the seat holds
+abbrev pub turns_of : TurnSeat → List ℕ
+turns_of seat = first_held seat.badge.views
+
+abbrev pub first_found : List Hold → List (ℕ × ℕ)
+first_found [] = []
+first_found (v ∷ vs) = v.found
+
+-- each step that the seat made for a wake, a begin or an end: the place, and the word that was found there; the latest first
+abbrev pub found_by : TurnSeat → List (ℕ × ℕ)
+found_by seat = first_found seat.badge.views
+
+-- a call made one step at the place, and P holds of the word that it found
+abbrev pub Finds : ℕ → (ℕ → Type 0) → TurnSeat → TurnSeat → Type 0
+Finds place P old new = (w : ℕ) × (found_by new ≡ (place, w) ∷ found_by old) × P w
+
+module _ {T O : Type 0} where
+  -- the values as they were handed in
+  abbrev pub handed_in : Turns T O → List T
+  handed_in turns = turns.table.shared.key.values.value.items
+
+  -- the number of seats that were made
+  abbrev pub seats_of : Turns T O → ℕ
+  seats_of turns = turns.table.shared.key.seats
+
+  -- a seat of the table; between calls no slot is with it
+  abbrev pub IsSeatOf : Turns T O → TurnSeat → Type 0
+  IsSeatOf turns seat = (seat.badge.table_id ≡ turns.table.shared.table_id) × (seat.badge.views ≡ hold 1 (turns_of seat) 0 (found_by seat) ∷ [])
+
+  -- a seat of the table that holds no turn
+  abbrev pub IsFree : Turns T O → TurnSeat → Type 0
+  IsFree turns seat = IsSeatOf turns seat × (turns_of seat ≡ [])

@@ -1,0 +1,239 @@
+// Turn tables. `wake`, `begin` and `end` take no memory, wait for nobody, and work through a shared reference.
+ghost use Rattle.std.specs.Prelude.{◌≡◌, ◌==◌, ◌%◌, ◌≢◌, ℕ, ◌+◌, ◌^◌, ◌<◌, ◌≤◌, [], ◌∷◌, length, map, slice_get, IfOk, IfErr, Some, vec_len, vec_capacity, slice_index_or, IsTrue, false};
+ghost use Rattle.std.specs.Slots.{slots_items, slots_filled, slots_len, IsFull};
+ghost use mathlib.Core.Option.{some};
+ghost use lib.ListN.{get_elem?};
+ghost use Rattle.std.specs.List.{All};
+ghost use Rattle.turn_table.specs.Sums.{times, without};
+ghost use Rattle.turn_table.specs.Table.{hold, Fits};
+
+use crate::hold::Hold;
+use crate::rule::{Begin, Deal, End, Fetch, Kept, Leave, Order, Plan, Told, Wake};
+use atomic_table::{Badge, Closed, Refused, Seat, Table};
+use std::alloc::{AllocError, Global};
+use std::marker::Brand;
+use std::mem::replace;
+use std::snapshot::Snapshot;
+
+// The bit of a place that is wanted.
+const READY: u64 = 1;
+
+// The bit of a place whose turn has begun.
+const RUNNING: u64 = 2;
+
+/// Values that take turns. At every moment a value is in its slot, or its turn has begun on one seat. Each place has a word:
+/// READY (1) where it is wanted, RUNNING (2) where its turn has begun. Rule: own.
+#[derive(Drop)]
+pub struct Turns<T: Kept> {
+    table: Table<Option<T>, Hold, Plan<T>, Order<T>, Global>,
+    ghost words: { table.shared.table_id.words ≡ length table.shared.key.values.value.items },
+    ghost slots: { table.shared.table_id.slots ≡ length table.shared.key.values.value.items },
+}
+
+/// The right to wake places and to take turns, for one thread at a time. It has no bytes. Contracts see the turns that have
+/// begun on it and not ended, and the words that its calls found. Rule: own.
+#[derive(Drop)]
+pub struct TurnSeat {
+    badge: Badge<Hold>,
+}
+
+/// A value whose turn has begun. Rule: own.
+#[derive(Drop)]
+pub struct Turn<T> {
+    pub(crate) id: u32,
+    pub(crate) value: T,
+}
+
+impl<T> Turn<T> {
+    /// The place of the value, from 0.
+    pub fn id(&self) -> u32
+        ensures { result ≡ self.now.id }
+    {
+        self.id
+    }
+}
+
+impl<T: Kept> Turns<T> {
+    ghost use Rattle.turn_table.specs.Public.{turns_of, found_by, Finds, handed_in, seats_of, IsSeatOf, IsFree};
+
+    /// A table of these values, at places from 0, each in its slot and not wanted, and so many seats, on which no turn has begun.
+    /// Where memory was wanting the values are dropped. Rule: own.
+    pub fn new(
+        alloc: Global,
+        values: Vec<T>,
+        seats: u32,
+    ) -> Result<(Turns<T>, Vec<TurnSeat>), AllocError>
+        requires some { 0 < vec_len values }
+        requires few { vec_len values < 2 ^ 32 }
+        requires seats { 0 < seats }
+        ensures values { IfOk result (λ r. handed_in r.0 ≡ values.items) }
+        ensures seats { IfOk result (λ r. (seats_of r.0 ≡ seats) × (vec_len r.1 ≡ seats) × All (IsFree r.0) r.1.items) }
+    {
+        let plan = Plan {
+            values: Snapshot::of(&values),
+            seats: seats as u64,
+        };
+        let words = Vec::from_elem(alloc, 0u64, values.len())?;
+        let slots = wrap(alloc, values)?;
+        let room = Vec::with_capacity(alloc, seats as usize)?;
+        let (table, first) = match Table::new(alloc, words.as_slice(), slots, &plan) {
+            Ok(made) => made,
+            Err(Refused { slots: _ }) => return Err(AllocError),
+        };
+        let turns = Turns { table };
+        let seats = turns.deal(first, seats, room);
+        Ok((turns, seats))
+    }
+
+    /// The first seat, which has all parts, is cut into so many.
+    fn deal(
+        &self,
+        mut first: Seat<Option<T>, Hold>,
+        count: u32,
+        mut seats: Vec<TurnSeat>,
+    ) -> Vec<TurnSeat>
+        requires count { 0 < count }
+        requires first { (first.table_id ≡ self.now.table.shared.table_id) × (first.me ≡ (hold count [] 0 [], [])) }
+        requires inside { 0 < length (handed_in self.now) }
+        requires room { (seats.items ≡ []) × (count ≤ vec_capacity seats) }
+        ensures { (vec_len result ≡ count) × All (IsFree self.now) result.items }
+    {
+        for _ in 1..count {
+            let other = self.table.shared.split_seat::<Deal>(&mut first);
+            seats.push_reserved(TurnSeat {
+                badge: other.into_badge(),
+            });
+        }
+        seats.push_reserved(TurnSeat {
+            badge: first.into_badge(),
+        });
+        seats
+    }
+
+    /// The values in order, each with the origin that was handed in for its place. It wants all seats of the table, and that
+    /// each turn has ended. Where memory was wanting the values are dropped. Rule: own.
+    pub fn close(self, alloc: Global, seats: Vec<TurnSeat>) -> Result<Vec<T>, AllocError>
+        requires all { vec_len seats ≡ seats_of self }
+        requires free { All (IsFree self) seats.items }
+        requires some { (0 < vec_len seats) × (0 < length (handed_in self)) }
+        ensures { IfOk result (λ values. map T.origin values.items ≡ map T.origin (handed_in self)) }
+    {
+        let values = Vec::with_capacity(alloc, self.table.slot_count())?;
+        let seat = self.gather(seats);
+        let Turns { table } = self;
+        let closed = table.close_with(seat);
+        Ok(take_all(closed, values))
+    }
+
+    /// All these seats as one.
+    fn gather(&self, mut seats: Vec<TurnSeat>) -> Seat<Option<T>, Hold>
+        requires some { (0 < vec_len seats) × (0 < length (handed_in self.now)) }
+        requires free { All (IsFree self.now) seats.items }
+        ensures { (result.table_id ≡ self.now.table.shared.table_id) × (result.me ≡ (hold (vec_len seats) [] 0 result.me.0.found, [])) }
+    {
+        let mut all = seats.pop().unwrap().badge.into_seat();
+        while let Some(TurnSeat { badge }) = seats.pop() {
+            self.table
+                .shared
+                .join_seat::<Deal>(&mut all, badge.into_seat());
+        }
+        all
+    }
+
+    /// Marks a place as wanted: an or of READY. True exactly where the word was 0, so that the caller puts the place on its
+    /// list. One step; it waits for nobody. Rule: own.
+    pub fn wake(&self, seat: &mut TurnSeat, id: u32) -> bool
+        requires seat { IsSeatOf self.now seat.old }
+        requires inside { id < length (handed_in self.now) }
+        ensures seat { IsSeatOf self.now seat.new × (turns_of seat.new ≡ turns_of seat.old) }
+        ensures found { Finds id (λ w. result ≡ (w == 0)) seat.old seat.new }
+    {
+        let mut mine = replace(&mut seat.badge, Badge::blank()).into_seat();
+        let found = self
+            .table
+            .shared
+            .fetch_or::<Wake>(&mut mine, id as usize, READY);
+        seat.badge = mine.into_badge();
+        found == 0
+    }
+
+    /// Begins the turn of a place that is wanted and whose turn has not begun: an exchange of READY to RUNNING, by which the seat
+    /// alone has the value. Or else the word that was found, which is another one. It waits for nobody. Rule: own.
+    pub fn begin(&self, seat: &mut TurnSeat, id: u32) -> Result<Turn<T>, u64>
+        requires seat { IsSeatOf self.now seat.old }
+        requires inside { id < length (handed_in self.now) }
+        ensures seat { IsSeatOf self.now seat.new }
+        ensures turn { IfOk result (λ t. (t.id ≡ id) × Fits T.origin (handed_in self.now) id t.value × (turns_of seat.new ≡ id ∷ turns_of seat.old) × (found_by seat.new ≡ (id, 1) ∷ found_by seat.old)) }
+        ensures none { IfErr result (λ w. (w ≢ 1) × (turns_of seat.new ≡ turns_of seat.old) × (found_by seat.new ≡ (id, w) ∷ found_by seat.old)) }
+    {
+        let mut mine = replace(&mut seat.badge, Badge::blank()).into_seat();
+        let taken = self.take_out::<Brand>(&mut mine, id);
+        seat.badge = mine.into_badge();
+        let value = taken?;
+        Ok(Turn { id, value })
+    }
+
+    /// The value out of its slot, which stays in the table.
+    fn take_out<J: Told<T>>(&self, mine: &mut Seat<Option<T>, Hold>, id: u32) -> Result<T, u64>
+        requires told { J.values ≡ handed_in self.now }
+        requires seat { (mine.old.table_id ≡ self.now.table.shared.table_id) × (mine.old.me ≡ (hold 1 mine.old.me.0.held 0 mine.old.me.0.found, [])) }
+        requires inside { id < length (handed_in self.now) }
+        ensures seat { (mine.new.table_id ≡ mine.old.table_id) × (mine.new.id ≡ mine.old.id) }
+        ensures taken { IfOk result (λ x. Fits T.origin (handed_in self.now) id x × (mine.new.me ≡ (hold 1 (id ∷ mine.old.me.0.held) 0 ((id, 1) ∷ mine.old.me.0.found), []))) }
+        ensures none { IfErr result (λ w. (w ≢ 1) × (mine.new.me ≡ (hold 1 mine.old.me.0.held 0 ((id, w) ∷ mine.old.me.0.found), []))) }
+    {
+        let shared = &self.table.shared;
+        let at = id as usize;
+        let found = shared.compare_exchange::<Begin<T, J>>(mine, at, READY, RUNNING);
+        if found != READY {
+            return Err(found);
+        }
+        let value = shared.exchange(mine, at, None).unwrap();
+        shared.load::<Leave>(mine, at);
+        Ok(value)
+    }
+
+    /// Puts the value back and ends its turn, which has begun on this seat: an and-not of RUNNING. True exactly where the word
+    /// had READY, so that the caller puts the place on its list. It waits for nobody. Rule: own.
+    pub fn end(&self, seat: &mut TurnSeat, turn: Turn<T>) -> bool
+        requires seat { IsSeatOf self.now seat.old }
+        requires begun { 0 < times turn.id (turns_of seat.old) }
+        requires inside { turn.id < length (handed_in self.now) }
+        requires origin { Fits T.origin (handed_in self.now) turn.id turn.value }
+        ensures seat { IsSeatOf self.now seat.new × (turns_of seat.new ≡ without turn.id (turns_of seat.old)) }
+        ensures found { Finds turn.id (λ w. result ≡ (w % 2 == 1)) seat.old seat.new }
+    {
+        let Turn { id, value } = turn;
+        let shared = &self.table.shared;
+        let at = id as usize;
+        let mut mine: Seat<Option<T>, Hold> = replace(&mut seat.badge, Badge::blank()).into_seat();
+        shared.load::<Fetch>(&mut mine, at);
+        let None = shared.exchange(&mut mine, at, Some(value)) else {
+            unreachable!()
+        };
+        let found = shared.fetch_and::<End>(&mut mine, at, !RUNNING);
+        seat.badge = mine.into_badge();
+        found % 2 == 1
+    }
+}
+
+// Each value as it stands in a slot.
+fn wrap<T: Drop>(alloc: Global, values: Vec<T>) -> Result<Vec<Option<T>>, AllocError>
+    ensures { IfOk result (λ slots. slots.items ≡ map Some values.items) }
+{
+    values.into_iter().map(|x| Some(x)).collect(alloc)
+}
+
+// The values out of all slots, in order.
+fn take_all<T: Drop>(mut closed: Closed<Option<T>, Global>, mut values: Vec<T>) -> Vec<T>
+    requires full { IsFull closed.slots }
+    requires room { (values.items ≡ []) × (slots_len closed.slots ≤ vec_capacity values) }
+    requires each { (k : ℕ) → k < slots_len closed.slots → (x : T) × (get_elem? (slots_items closed.slots) k ≡ some (Some x)) }
+    ensures { map Some result.items ≡ slots_items closed.slots }
+{
+    for i in 0..closed.slot_count() {
+        values.push_reserved(closed.take(i).unwrap());
+    }
+    closed.free();
+    values
+}

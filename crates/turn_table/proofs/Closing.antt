@@ -1,17 +1,17 @@
 -- How a table begins and how it ends.
-use Rattle.std.proofs.Common.{◌≡◌, ℕ, zero, suc, ◌+◌, ◌/◌, ◌<◌, ◌≤◌, ◌≢◌, List, [], ◌∷◌, ◌++◌, map, length, get_or, take, replicate, sym, refl, ap, ◌∙◌, subst, arith, Option, None, Some, slice_get, IfSome}
+use Rattle.std.proofs.Common.{◌≡◌, ℕ, zero, suc, ◌+◌, ◌/◌, ◌<◌, ◌≤◌, List, [], ◌∷◌, ◌++◌, map, length, get_or, take, replicate, sym, refl, ap, ◌∙◌, subst, arith, Option, Some, slice_get, IfSome}
 use Rattle.std.proofs.lemmas.List.{length-replicate, get_or-replicate}
 use Rattle.std.specs.Option.{unwrap_or}
 use mathlib.Core.Logic.{dite}
-use mathlib.Core.Option.{Option as Maybe, none, some, some-injective, some-ne-none}
+use mathlib.Core.Option.{some, some-injective, some-ne-none}
 use native.Mathlib.Decide.{ℕ_discrete}
 use lib.ListN.{get_elem?}
-use Rattle.atomic_table.specs.Table.{State, opening, Final, Seen}
+use Rattle.atomic_table.specs.Table.{opening, Final, Seen}
 use Rattle.turn_table.specs.Sums.{total, times}
 use Rattle.turn_table.specs.Table.{hold, Fits, Orderly}
 use Rattle.turn_table.specs.Public.{first_held, first_found}
 use Rattle.turn_table.specs.declared.hold.Hold.{Hold}
-use Rattle.turn_table.proofs.Totals.{total-set, terms_le, total-zero}
+use Rattle.turn_table.proofs.Totals.{terms_le, total-zero}
 
 take_whole : {A : Type 0} (l : List A) (n : ℕ) → length l ≤ n → take n l ≡ l
 take_whole [] zero h = refl

@@ -1,17 +1,16 @@
 -- Each step keeps the rule.
-use Rattle.std.proofs.Common.{◌≡◌, ℕ, zero, suc, ◌+◌, ◌-◌, ◌/◌, ◌<◌, ◌≤◌, ◌≢◌, ◌⊎◌, eqb, List, [], ◌∷◌, ◌++◌, map, length, get_or, set, sym, refl, ap, ◌∙◌, subst, inl, inr, ⊎_elim, arith, length-set, get_or-set_other, get_or-set_same, Option, None, Some, bit_and, bit_or}
+use Rattle.std.proofs.Common.{◌≡◌, ℕ, zero, suc, ◌+◌, ◌-◌, ◌/◌, ◌<◌, ◌≢◌, ◌⊎◌, eqb, List, [], ◌∷◌, ◌++◌, length, get_or, set, sym, refl, ap, ◌∙◌, subst, inl, inr, ⊎_elim, arith, length-set, get_or-set_other, get_or-set_same, Option, None, Some, bit_and, bit_or}
 use mathlib.Core.Logic.{dite}
-use mathlib.Core.Option.{Option as Maybe, none, some, some-injective, some-ne-none}
+use mathlib.Core.Option.{Option as Maybe, none, some}
 use native.Mathlib.Decide.{ℕ_discrete}
 use lib.ListN.{get_elem?}
-use lib.Seq.{set-get_or}
 use prog.Atomic.{either}
-use Rattle.atomic_table.specs.Table.{State, Me, step, rest, Act, keeps, takes, gives, Valid, carried_after, stepped, opening, Allows, Splits, Joins, Final, Seen}
+use Rattle.atomic_table.specs.Table.{State, step, Act, keeps, takes, gives, Valid, carried_after, stepped, Allows, Splits, Joins}
 use Rattle.atomic_table.proofs.Lists.{at_set, set_here, set_else, at_snoc, exchanged}
 use Rattle.turn_table.specs.Sums.{total, times, without}
 use Rattle.turn_table.specs.Table.{hold, Orderly, Sat, woken, begun, left, fetched, ended}
 use Rattle.turn_table.specs.declared.hold.Hold.{Hold}
-use Rattle.turn_table.proofs.Totals.{total-append, total-set, term_le, terms_le, total-zero, times_here, times_else, without_here, without_else}
+use Rattle.turn_table.proofs.Totals.{total-append, total-set, term_le, terms_le, times_here, times_else, without_here, without_else}
 
 or_bits : (x : ℕ) → x < 4 → (bit_or x 1 < 4) × (bit_or x 1 / 2 ≡ x / 2)
 or_bits zero h = (omega arith, refl)

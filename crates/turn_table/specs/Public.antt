@@ -1,6 +1,5 @@
 -- What a clause says of a turn table and of its seats.
-use Rattle.std.specs.Prelude.{◌≡◌, ℕ, List, [], ◌∷◌, Bool}
-use Rattle.std.specs.List.{All}
+use Rattle.std.specs.Prelude.{◌≡◌, ℕ, List, [], ◌∷◌}
 use Rattle.turn_table.specs.Table.{hold}
 use Rattle.turn_table.specs.declared.hold.Hold.{Hold}
 use Rattle.turn_table.specs.declared.turns.Turns.{Turns}

@@ -1,6 +1,6 @@
 -- The rule of a turn table, and what its steps tell. Each place has a word: READY is 1 and RUNNING is 2. Rule: own.
 use Rattle.std.specs.Prelude.{◌≡◌, ◌≢◌, ℕ, suc, ◌/◌, ◌<◌, List, [], ◌∷◌, map, length, slice_index, slice_get, Option, None, Some}
-use mathlib.Core.Option.{none, some}
+use mathlib.Core.Option.{some}
 use lib.ListN.{get_elem?}
 use Rattle.atomic_table.specs.Table.{State, Me, Step, rest}
 use Rattle.turn_table.specs.Sums.{total, times, without}

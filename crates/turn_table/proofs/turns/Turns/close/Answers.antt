@@ -1,7 +1,6 @@
 -- The goals of `turns::Turns::close` that the search leaves.
 use Rattle.std.proofs.Common.{arith, ap, sym, ◌∙◌, length, Some}
 use lib.ListN.{get_elem?}
-use Rattle.std.specs.Slots.{slots_items, slots_len, slots_counts}
 use Rattle.turn_table.specs.Table.{Fits}
 use Rattle.turn_table.proofs.Closing.{closes, same_origins, long_map}
 use Rattle.turn_table.proofs.turns.Turns.close.Goals as goal

@@ -1,5 +1,5 @@
 -- The goals of `turns::Turns::deal` that the search leaves.
-use Rattle.std.proofs.Common.{rules, arith, ap, sym, refl, ◌≡◌, ◌∙◌, ◌∷◌, [], length, vec_len}
+use Rattle.std.proofs.Common.{rules, arith, ap, ◌≡◌, ◌∙◌, ◌∷◌, [], length}
 use Rattle.std.proofs.lemmas.List.Elements.{All-push, All-same}
 use Rattle.turn_table.specs.Table.{hold, Fits}
 use Rattle.turn_table.specs.Public.{IsFree, first_held}

@@ -16,8 +16,8 @@ example: build
 	@echo "--- out.txt holds:"
 	@cat out/example/out.txt
 
-# The first run from nothing proves every crate: FIRST_RUN is how long that took, and where. A line is printed for each step.
-FIRST_RUN = about 150 processor minutes: 45 minutes on four processors
+# The first run from nothing proves every crate: FIRST_RUN is an estimate of how long that takes. A line is printed for each step.
+FIRST_RUN = about 150 processor minutes by estimate, so 40 minutes or more on four processors
 
 test: listed
 	@echo "The first run proves every crate from nothing and takes long ($(FIRST_RUN)); later runs prove only what changed."

@@ -10,3 +10,4 @@ pub mod Going
 pub mod Starting
 pub mod Responding
 pub mod Keeping
+pub mod Poking

@@ -2,3 +2,4 @@ pub mod PortLists
 pub mod Net
 pub mod Laws
 pub mod Costs
+pub mod Poking

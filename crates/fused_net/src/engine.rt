@@ -1,14 +1,15 @@
 // Nodes joined by wires: one action, one event, and `execute`.
-ghost use Rattle.std.specs.Prelude.{◌≡◌, ◌≢◌, ℕ, ◌+◌, ◌^◌, ◌<◌, ◌≤◌, [], false, Some, OnOk, OnErr, IfOk, IfNone, IfSome, IsTrue, ◌↔◌, if◌then◌else◌, length, slice_get};
+ghost use Rattle.std.specs.Prelude.{◌≡◌, ◌≢◌, ℕ, ◌+◌, ◌^◌, ◌<◌, ◌≤◌, [], ◌∷◌, false, Some, OnOk, OnErr, IfOk, IfNone, IfSome, IsTrue, ◌↔◌, if◌then◌else◌, length, map, slice_get};
 ghost use Rattle.elem_core.specs.Prefix.{IsPrefix};
 ghost use Rattle.port_core.specs.Call.{Meets};
 ghost use Rattle.port_core.specs.Ring.{holds};
 ghost use Rattle.port_core.specs.Wire.{nothing, delivery_of};
 ghost use Rattle.stage_core.specs.Handling.{most_acts, AsksAs, Handles};
 ghost use Rattle.wire_core.specs.Cell.{delivery_in};
-ghost use Rattle.fused_net.specs.Net.{acted, acted_all, event_told, wire_at, wire_for, HasPort, Able, port_at, target, call_of, before};
-ghost use Rattle.fused_net.specs.Laws.{AnyRow, AnyLaw, Wired, first_view, Settled, Busy, Starting, GoesOn, Awaits, TellsAsking, MeetsAt, Responds, AllKept, BreaksOff};
+ghost use Rattle.fused_net.specs.Net.{acted, acted_all, event_told, wire_at, end_at, wire_for, HasPort, Able, port_at, target, call_of, before};
+ghost use Rattle.fused_net.specs.Laws.{AnyRow, AnyLaw, Wired, first_view, Settled, Busy, Starting, GoesOn, Awaits, TellsAsking, MeetsAt, Responds, AllKept, BreaksOff, IsMinded};
 ghost use Rattle.fused_net.specs.Costs.{all_asks, Uses};
+ghost use Rattle.fused_net.specs.Poking.{AtNode, HandsAt, TellsPoked};
 
 use crate::net::{Ends, Ports};
 use elem_core::item::Item;
@@ -81,6 +82,7 @@ fn call<S: Stage>(
     ensures handles { OnOk result (Handles S.rests S.law (call_of (delivery_in event) ends) node.old node.new acts.new.items) }
     ensures asks { OnOk result (AsksAs (call_of (delivery_in event) ends) (S.rests node.old) (S.asking node.new) acts.new.items) }
     ensures grows { OnOk result (IsPrefix (S.moves node.old) (S.moves node.new)) }
+    ensures gone { OnOk result (S.gone node.new ≡ S.gone node.old) }
     ensures room { OnOk result (acts.new.room ≡ acts.old.room) }
     ensures kept { OnErr result (S.keeps node.old node.new) }
 {
@@ -139,6 +141,7 @@ impl<S: Stage> Engine<S> {
         ensures starting { OnOk result (Starting S.rests S.law S.asking S.moves S.fresh self.new (n + 1)) }
         ensures on { OnOk result (GoesOn self.old self.new) }
         ensures asks { OnOk result (all_asks self.new ≤ all_asks self.old) }
+        ensures gone { OnOk result (map S.gone self.new.nodes ≡ map S.gone self.old.nodes) }
         ensures acts { OnOk result (acts.new ≡ acts.old) }
     {
         self.nodes[n].start(alloc, acts)?;
@@ -155,6 +158,7 @@ impl<S: Stage> Engine<S> {
         ensures laws { OnOk result (Settled S.rests S.law S.asking S.moves self.new) }
         ensures on { OnOk result (GoesOn self.old self.new) }
         ensures asks { OnOk result (all_asks self.new ≤ all_asks self.old) }
+        ensures gone { OnOk result (map S.gone self.new.nodes ≡ map S.gone self.old.nodes) }
         ensures acts { OnOk result (acts.new ≡ acts.old) }
     {
         let count = self.nodes.len();
@@ -219,6 +223,7 @@ impl<S: Stage> Engine<S> {
         requires empty { acts.old.items ≡ [] }
         requires room { most_acts ≤ acts.old.room }
         ensures responds { OnOk result (Responds S.rests S.law S.asking S.moves self.old self.new n) }
+        ensures gone { OnOk result (map S.gone self.new.nodes ≡ map S.gone self.old.nodes) }
         ensures acts { OnOk result (acts.new ≡ acts.old) }
         ensures kept { OnErr result (AllKept S.keeps self.old.nodes self.new.nodes) }
     {
@@ -238,6 +243,7 @@ impl<S: Stage> Engine<S> {
         ensures laws { OnOk result (Settled S.rests S.law S.asking S.moves self.new) }
         ensures on { OnOk result (GoesOn self.old self.new) }
         ensures uses { OnOk result (Uses (before self.old w) self.new 1) }
+        ensures gone { OnOk result (map S.gone self.new.nodes ≡ map S.gone self.old.nodes) }
         ensures acts { OnOk result (acts.new ≡ acts.old) }
         ensures kept { OnErr result (AllKept S.keeps self.old.nodes self.new.nodes) }
     {
@@ -269,6 +275,7 @@ impl<S: Stage> Engine<S> {
         ensures on { OnOk result (GoesOn self.old self.new) }
         ensures uses { IfOk result (λ went. Uses self.old self.new (if went then 1 else 0)) }
         ensures rest { IfOk result (λ went. went ≡ false → self.new.queue ≡ []) }
+        ensures gone { OnOk result (map S.gone self.new.nodes ≡ map S.gone self.old.nodes) }
         ensures acts { OnOk result (acts.new ≡ acts.old) }
         ensures kept { OnErr result (AllKept S.keeps self.old.nodes self.new.nodes) }
     {
@@ -293,6 +300,7 @@ impl<S: Stage> Engine<S> {
         ensures uses { IfOk result (λ used. Uses self.old self.new used) }
         ensures within { IfOk result (λ used. used ≤ limit) }
         ensures rest { IfOk result (λ used. used < limit → self.new.queue ≡ []) }
+        ensures gone { OnOk result (map S.gone self.new.nodes ≡ map S.gone self.old.nodes) }
         ensures acts { OnOk result (acts.new ≡ acts.old) }
         ensures breaks { OnErr result (BreaksOff S.rests S.law S.asking S.moves S.keeps self.old self.new.nodes) }
         ensures count { length self.new.nodes ≡ length self.old.nodes }
@@ -303,6 +311,71 @@ impl<S: Stage> Engine<S> {
             }
         }
         Ok(limit)
+    }
+
+    /// What is known of wire w.
+    pub fn wire(&self, w: u32) -> &Wire
+        requires { w < length self.now.wires }
+        ensures { result.now ≡ wire_at self.now w }
+    {
+        &self.wires[w as usize]
+    }
+
+    /// The ports at the ends of wire w.
+    pub fn ends(&self, w: u32) -> Ends
+        requires { w < length self.now.ends }
+        ensures { result ≡ end_at self.now.ends w }
+    {
+        self.ends[w as usize]
+    }
+
+    /// Whether nothing waits at node n to leave the graph.
+    pub fn is_clear(&self, n: u32) -> bool
+        requires { n < length self.now.nodes }
+        ensures { AtNode self.now n (λ x. IsTrue result ↔ (S.waits x ≡ [])) }
+    {
+        self.nodes[n as usize].is_clear()
+    }
+
+    /// Hands out what waits at node n to leave the graph, first come first. It takes no memory and costs no unit.
+    pub fn hand_out(&mut self, n: u32) -> Option<Item>
+        requires laws { Settled S.rests S.law S.asking S.moves self.old }
+        requires within { n < length self.old.nodes }
+        ensures none { IfNone result ((self.new ≡ self.old) × AtNode self.old n (λ x. S.waits x ≡ [])) }
+        ensures some { IfSome result (λ i. HandsAt S.gone S.waits self.old n (i ∷ []) self.new) }
+        ensures on { GoesOn self.old self.new }
+        ensures uses { Uses self.old self.new 0 }
+        ensures laws { Settled S.rests S.law S.asking S.moves self.new }
+    {
+        self.nodes[n as usize].hand_out()
+    }
+
+    /// Drops what waits at node n to leave the graph. It takes no memory and costs no unit.
+    pub fn let_go(&mut self, n: u32)
+        requires laws { Settled S.rests S.law S.asking S.moves self.old }
+        requires within { n < length self.old.nodes }
+        ensures hands { AtNode self.old n (λ x. HandsAt S.gone S.waits self.old n (S.waits x) self.new) }
+        ensures on { GoesOn self.old self.new }
+        ensures uses { Uses self.old self.new 0 }
+        ensures laws { Settled S.rests S.law S.asking S.moves self.new }
+    {
+        self.nodes[n as usize].let_go();
+    }
+
+    /// Node n acts outside of its handlers, as the stage does where a lane comes in or goes out. The port rules allow the
+    /// action, and the node's row and its law hold once it is done. It takes no memory and costs no unit.
+    pub fn poke(&mut self, n: u32, act: Act)
+        requires laws { Settled S.rests S.law S.asking S.moves self.old }
+        requires within { n < length self.old.nodes }
+        requires may { IsMinded S.rests S.law self.old n (act ∷ []) }
+        requires tells { TellsPoked S.asking self.old n act }
+        requires few { all_asks self.old ≤ 4000000000 }
+        ensures after { self.new ≡ acted self.old n act }
+        ensures laws { Settled S.rests S.law S.asking S.moves self.new }
+        ensures on { GoesOn self.old self.new }
+        ensures uses { Uses self.old self.new 0 }
+    {
+        self.act(n as usize, act);
     }
 
     /// Whether no event is left.

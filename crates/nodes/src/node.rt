@@ -1,5 +1,5 @@
 // A node of an island, whatever its kind is.
-ghost use Rattle.std.specs.Prelude.{◌≡◌};
+ghost use Rattle.std.specs.Prelude.{◌≡◌, []};
 ghost use Rattle.nodes.specs.Nodes.{node_fresh, node_row, node_law, node_asking, node_moves, node_end, node_keeps};
 
 use crate::ignoring::IgnoreSink;
@@ -7,6 +7,7 @@ use crate::maker::Maker;
 use crate::sink::{FileSink, SinkEnd};
 use crate::source::LinesSource;
 use elem_core::elem::Elem;
+use elem_core::item::Item;
 use elem_core::why::{Cause, NoMemory};
 use port_core::acts::Acts;
 use stage_core::stage::Stage;
@@ -76,6 +77,10 @@ impl<S: Source, D: Drain> Stage for Node<S, D> {
     ghost moves = { node_moves };
 
     ghost keeps = { node_keeps S.state D.state };
+
+    ghost gone = { λ n. [] };
+
+    ghost waits = { λ n. [] };
 
     fn start(&mut self, alloc: Global, acts: &mut Acts) -> Result<(), NoMemory> {
         match self {
@@ -160,5 +165,15 @@ impl<S: Source, D: Drain> Stage for Node<S, D> {
             Node::FanOut(logic) => Stage::on_cancel(logic, alloc, port, acts),
             Node::Writing(_) | Node::Ignoring(_) => unreachable!(),
         }
+    }
+
+    fn hand_out(&mut self) -> Option<Item> {
+        None
+    }
+
+    fn let_go(&mut self) {}
+
+    fn is_clear(&self) -> bool {
+        true
     }
 }

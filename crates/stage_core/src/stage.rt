@@ -1,12 +1,14 @@
-ghost use Rattle.std.specs.Prelude.{◌≡◌, ◌≤◌, ℕ, List, [], OnOk, OnErr};
+ghost use Rattle.std.specs.Prelude.{◌≡◌, ◌≤◌, ◌↔◌, ℕ, List, [], ◌∷◌, OnOk, OnErr, IfNone, IfSome, IsTrue};
 ghost use Rattle.elem_core.specs.Prefix.{IsPrefix};
 ghost use Rattle.elem_core.specs.declared.item.Item.{Item};
 ghost use Rattle.elem_core.specs.declared.item.Item.TheVariants as item;
 ghost use Rattle.port_core.specs.View.{View};
 ghost use Rattle.port_core.specs.Call.{Meets, starts, asks, brings, cancels};
 ghost use Rattle.stage_core.specs.Handling.{most_acts, AsksAs, Starts, Handles};
+ghost use Rattle.stage_core.specs.Handing.{Hands};
 
 use elem_core::elem::Elem;
+use elem_core::item::Item;
 use elem_core::why::{Cause, NoMemory};
 use port_core::acts::Acts;
 use std::alloc::Global;
@@ -31,6 +33,10 @@ pub trait Stage: Drop {
 
     ghost keeps: { Self → Self → Type 0 };
 
+    ghost gone: { Self → List Item };
+
+    ghost waits: { Self → List Item };
+
     /// The run begins. Nothing is read or written yet.
     fn start(&mut self, alloc: Global, acts: &mut Acts) -> Result<(), NoMemory>
         requires meets { Meets starts (fresh self.old) }
@@ -39,6 +45,7 @@ pub trait Stage: Drop {
         ensures starts { OnOk result (Starts rests law fresh self.old self.new acts.new.items) }
         ensures asks { OnOk result (AsksAs starts (fresh self.old) (asking self.new) acts.new.items) }
         ensures grows { OnOk result (IsPrefix (moves self.old) (moves self.new)) }
+        ensures gone { OnOk result (gone self.new ≡ gone self.old) }
         ensures room { OnOk result (acts.new.room ≡ acts.old.room) }
         ensures kept { keeps self.old self.new };
 
@@ -50,6 +57,7 @@ pub trait Stage: Drop {
         ensures handles { OnOk result (Handles rests law (asks port) self.old self.new acts.new.items) }
         ensures asks { OnOk result (AsksAs (asks port) (rests self.old) (asking self.new) acts.new.items) }
         ensures grows { OnOk result (IsPrefix (moves self.old) (moves self.new)) }
+        ensures gone { OnOk result (gone self.new ≡ gone self.old) }
         ensures room { OnOk result (acts.new.room ≡ acts.old.room) }
         ensures kept { OnErr result (keeps self.old self.new) };
 
@@ -61,6 +69,7 @@ pub trait Stage: Drop {
         ensures handles { OnOk result (Handles rests law (brings port (item.Elem e)) self.old self.new acts.new.items) }
         ensures asks { OnOk result (AsksAs (brings port (item.Elem e)) (rests self.old) (asking self.new) acts.new.items) }
         ensures grows { OnOk result (IsPrefix (moves self.old) (moves self.new)) }
+        ensures gone { OnOk result (gone self.new ≡ gone self.old) }
         ensures room { OnOk result (acts.new.room ≡ acts.old.room) }
         ensures kept { OnErr result (keeps self.old self.new) };
 
@@ -72,6 +81,7 @@ pub trait Stage: Drop {
         ensures handles { OnOk result (Handles rests law (brings port item.Ended) self.old self.new acts.new.items) }
         ensures asks { OnOk result (AsksAs (brings port item.Ended) (rests self.old) (asking self.new) acts.new.items) }
         ensures grows { OnOk result (IsPrefix (moves self.old) (moves self.new)) }
+        ensures gone { OnOk result (gone self.new ≡ gone self.old) }
         ensures room { OnOk result (acts.new.room ≡ acts.old.room) }
         ensures kept { OnErr result (keeps self.old self.new) };
 
@@ -89,6 +99,7 @@ pub trait Stage: Drop {
         ensures handles { OnOk result (Handles rests law (brings port (item.Failed cause)) self.old self.new acts.new.items) }
         ensures asks { OnOk result (AsksAs (brings port (item.Failed cause)) (rests self.old) (asking self.new) acts.new.items) }
         ensures grows { OnOk result (IsPrefix (moves self.old) (moves self.new)) }
+        ensures gone { OnOk result (gone self.new ≡ gone self.old) }
         ensures room { OnOk result (acts.new.room ≡ acts.old.room) }
         ensures kept { OnErr result (keeps self.old self.new) };
 
@@ -100,6 +111,21 @@ pub trait Stage: Drop {
         ensures handles { OnOk result (Handles rests law (cancels port) self.old self.new acts.new.items) }
         ensures asks { OnOk result (AsksAs (cancels port) (rests self.old) (asking self.new) acts.new.items) }
         ensures grows { OnOk result (IsPrefix (moves self.old) (moves self.new)) }
+        ensures gone { OnOk result (gone self.new ≡ gone self.old) }
         ensures room { OnOk result (acts.new.room ≡ acts.old.room) }
         ensures kept { OnErr result (keeps self.old self.new) };
+
+    /// Hands out, outside of its handlers, what waits at a stage to leave the graph, first come first. At most kinds nothing
+    /// ever waits. It takes no memory.
+    fn hand_out(&mut self) -> Option<Item>
+        ensures none { IfNone result ((waits self.old ≡ []) × (self.new ≡ self.old)) }
+        ensures some { IfSome result (λ x. Hands rests law moves gone waits self.old (x ∷ []) self.new) };
+
+    /// Drops all that waits there. It takes no memory.
+    fn let_go(&mut self)
+        ensures { Hands rests law moves gone waits self.old (waits self.old) self.new };
+
+    /// Whether nothing waits there.
+    fn is_clear(&self) -> bool
+        ensures { IsTrue result ↔ (waits self.now ≡ []) };
 }

@@ -4,6 +4,7 @@ ghost use Rattle.stage_in.specs.Logics.{InFresh, InRow, InLaw};
 
 use crate::logic::InLogic;
 use elem_core::elem::Elem;
+use elem_core::item::Item;
 use elem_core::why::{Cause, NoMemory};
 use port_core::acts::Acts;
 use stage_core::stage::Stage;
@@ -21,6 +22,10 @@ impl Stage for InLogic {
     ghost moves = { λ l. [] };
 
     ghost keeps = { λ old new. ⊤ };
+
+    ghost gone = { λ l. [] };
+
+    ghost waits = { λ l. [] };
 
     fn start(&mut self, _alloc: Global, acts: &mut Acts) -> Result<(), NoMemory> {
         self.start(acts)
@@ -56,5 +61,15 @@ impl Stage for InLogic {
 
     fn on_cancel(&mut self, _alloc: Global, _port: u8, acts: &mut Acts) -> Result<(), NoMemory> {
         self.on_cancel(0, acts)
+    }
+
+    fn hand_out(&mut self) -> Option<Item> {
+        None
+    }
+
+    fn let_go(&mut self) {}
+
+    fn is_clear(&self) -> bool {
+        true
     }
 }

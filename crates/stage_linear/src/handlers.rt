@@ -5,6 +5,7 @@ ghost use Rattle.stage_linear.specs.Handling.{LinearFresh, LinearRow, LinearLaw}
 use crate::laws::a_called_stage_is_open;
 use crate::logic::LinearLogic;
 use elem_core::elem::Elem;
+use elem_core::item::Item;
 use elem_core::why::{Cause, NoMemory};
 use port_core::acts::Acts;
 use stage_core::stage::Stage;
@@ -22,6 +23,10 @@ impl Stage for LinearLogic {
     ghost moves = { λ l. [] };
 
     ghost keeps = { λ old new. ⊤ };
+
+    ghost gone = { λ l. [] };
+
+    ghost waits = { λ l. [] };
 
     fn start(&mut self, _alloc: Global, acts: &mut Acts) -> Result<(), NoMemory> {
         self.start(acts)
@@ -62,5 +67,15 @@ impl Stage for LinearLogic {
     fn on_cancel(&mut self, _alloc: Global, _port: u8, acts: &mut Acts) -> Result<(), NoMemory> {
         a_called_stage_is_open();
         self.on_cancel(0, acts)
+    }
+
+    fn hand_out(&mut self) -> Option<Item> {
+        None
+    }
+
+    fn let_go(&mut self) {}
+
+    fn is_clear(&self) -> bool {
+        true
     }
 }

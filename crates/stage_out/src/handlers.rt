@@ -5,6 +5,7 @@ ghost use Rattle.stage_out.specs.OutNodes.{OutFresh, OutLaw};
 
 use crate::logic::OutLogic;
 use elem_core::elem::Elem;
+use elem_core::item::Item;
 use elem_core::why::{Cause, NoMemory};
 use port_core::acts::Acts;
 use stage_core::stage::Stage;
@@ -22,6 +23,10 @@ impl Stage for OutLogic {
     ghost moves = { λ l. [] };
 
     ghost keeps = { λ old new. ⊤ };
+
+    ghost gone = { λ l. [] };
+
+    ghost waits = { λ l. [] };
 
     fn start(&mut self, _alloc: Global, acts: &mut Acts) -> Result<(), NoMemory> {
         self.start(acts)
@@ -57,5 +62,15 @@ impl Stage for OutLogic {
 
     fn on_cancel(&mut self, _alloc: Global, port: u8, acts: &mut Acts) -> Result<(), NoMemory> {
         self.on_cancel(port, acts)
+    }
+
+    fn hand_out(&mut self) -> Option<Item> {
+        None
+    }
+
+    fn let_go(&mut self) {}
+
+    fn is_clear(&self) -> bool {
+        true
     }
 }

@@ -105,6 +105,34 @@ impl Wire {
         self.conn.is_closed()
     }
 
+    /// Whether its output may push an element that comes to the connection.
+    pub fn can_push(&self) -> bool
+        ensures { result ≡ can_push self.now.wire.conn }
+    {
+        self.conn.can_push()
+    }
+
+    /// Whether its input may ask so that the ask comes to the connection.
+    pub fn can_pull(&self) -> bool
+        ensures { result ≡ can_pull self.now.wire.conn }
+    {
+        self.conn.can_pull()
+    }
+
+    /// What the stage at its output knows of it.
+    pub fn out_view(&self) -> OutView
+        ensures { result ≡ self.now.wire.out }
+    {
+        self.out
+    }
+
+    /// What the stage at its input knows of it.
+    pub fn in_view(&self) -> InView
+        ensures { result ≡ self.now.wire.inp }
+    {
+        self.inp
+    }
+
     /// A stage at one of its ends acts. The answer says whether the wire has to be queued.
     pub fn act(&mut self, act: Act) -> bool
         requires count { elements self.old.wire.sent + 1 < 2 ^ 64 }

@@ -1,8 +1,8 @@
 -- The loop of `engine::Engine::execute`.
-use Rattle.std.proofs.Common.{◌≡◌}
+use Rattle.std.proofs.Common.{◌≡◌, map}
 use Rattle.fused_net.specs.Laws.{Settled, GoesOn}
 use Rattle.fused_net.specs.Costs.{Uses}
 use Rattle.fused_net.proofs.engine.Engine.execute.Given as goal
 
 abbrev pub invariant-loop-used : goal.invariant-loop-used
-invariant-loop-used g l = Settled g.S.Stage.rests g.S.Stage.law g.S.Stage.asking g.S.Stage.moves l.self × GoesOn l.initial.self l.self × Uses l.initial.self l.self l.used × (l.acts ≡ l.initial.acts)
+invariant-loop-used g l = Settled g.S.Stage.rests g.S.Stage.law g.S.Stage.asking g.S.Stage.moves l.self × GoesOn l.initial.self l.self × Uses l.initial.self l.self l.used × (l.acts ≡ l.initial.acts) × (map g.S.Stage.gone l.self.nodes ≡ map g.S.Stage.gone l.initial.self.nodes)

@@ -1,6 +1,7 @@
 -- The goals of `engine::Engine::respond` that the search leaves.
 use Rattle.fused_net.proofs.Keeping.{on_err, kept_called}
 use Rattle.fused_net.proofs.Responding.{awaited, responded}
+use Rattle.fused_net.proofs.Poking.{gone_acts}
 use Rattle.fused_net.proofs.engine.Engine.respond.Goals as goal
 
 pub perform-requires-clause-busy : goal.perform-requires-clause-busy
@@ -11,3 +12,6 @@ returns-clause-responds g c = responded g.S.Stage.rests g.S.Stage.law g.S.Stage.
 
 pub returns-in_err-call-clause-kept : goal.returns-in_err-call-clause-kept
 returns-in_err-call-clause-kept g c = on_err _ (kept_called g.S.Stage.keeps _ _ _ _ _ c.self.view_is c.requires.within c.index_mut.ensures.value c.in_err-call.ensures.kept)
+
+pub returns-clause-gone : goal.returns-clause-gone
+returns-clause-gone g c = gone_acts g.S.Stage.gone _ _ _ _ _ _ c.call.new.acts.items c.self.view_is c.requires.within c.index_mut.ensures.value c.in_ok-call.ensures.gone c.perform.ensures.after

@@ -1,5 +1,6 @@
 -- The goals of `engine::Engine::start_at` that the search leaves.
 use Rattle.fused_net.proofs.Responding.{start_meets, start_awaited, started}
+use Rattle.fused_net.proofs.Poking.{gone_acts}
 use Rattle.fused_net.proofs.engine.Engine.start_at.Goals as goal
 
 pub start-requires-clause-meets : goal.start-requires-clause-meets
@@ -16,3 +17,6 @@ returns-clause-on g c = (started g.S.Stage.rests g.S.Stage.law g.S.Stage.asking 
 
 pub returns-clause-asks : goal.returns-clause-asks
 returns-clause-asks g c = (started g.S.Stage.rests g.S.Stage.law g.S.Stage.asking g.S.Stage.moves g.S.Stage.fresh _ _ _ _ _ _ _ c.requires.starting c.self.view_is c.requires.within c.index_mut.ensures.value c.in_ok-start.ensures.starts c.in_ok-start.ensures.asks c.in_ok-start.ensures.grows c.perform.ensures.after).asks
+
+pub returns-clause-gone : goal.returns-clause-gone
+returns-clause-gone g c = gone_acts g.S.Stage.gone _ _ _ _ _ _ c.start.new.acts.items c.self.view_is c.requires.within c.index_mut.ensures.value c.in_ok-start.ensures.gone c.perform.ensures.after

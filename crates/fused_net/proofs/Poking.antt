@@ -1,0 +1,171 @@
+-- A node that acts outside of its handlers, or from which something is handed out: the graph's laws stand.
+use Rattle.std.proofs.Common.{◌≡◌, ◌≢◌, inl, inr, ℕ, zero, suc, ◌<◌, ◌≤◌, None, Some, List, [], ◌∷◌, ◌++◌, length, map, get_or, slice_get, set, refl, sym, ap, ◌∙◌, subst, arith}
+use Rattle.std.specs.Prelude.{Option, IfNone, IfSome}
+use Rattle.std.proofs.lemmas.List.{length-set}
+use Rattle.elem_core.specs.declared.item.Item.{Item}
+use Rattle.port_core.specs.View.{View, in_at}
+use Rattle.port_core.specs.Asking.{AsksStand}
+use Rattle.port_core.specs.declared.act.Act.{Act}
+use Rattle.port_core.specs.declared.act.Act.TheVariants.{Pull, Push, Complete, FailOut, Cancel}
+use Rattle.port_core.specs.declared.view.InView.TheVariants.{Waiting}
+use Rattle.stage_core.specs.Handling.{Pulls}
+use Rattle.stage_core.specs.Handing.{Hands}
+use Rattle.fused_net.specs.PortLists.{PortLists}
+use Rattle.fused_net.specs.declared.net.Ends.{Ends}
+use Rattle.fused_net.specs.Net.{Net, end_at, port_at, wire_at, ports_at, view_of, took, gave, acted, acted_all, with_node}
+use Rattle.fused_net.specs.Laws.{AnyRow, AnyLaw, IsAsking, MovesGrow, Minds, IsMinded, Settled, Busy, LastAsk, AllAsked, AllMoments, GoesOn}
+use Rattle.fused_net.specs.Costs.{Uses}
+use Rattle.fused_net.specs.Poking.{AtNode, HandsAt, TellsPoked}
+use Rattle.fused_net.proofs.Reading.{same_or_not, some_same, get_there, get_set_same, get_set_other}
+use Rattle.fused_net.proofs.Ongoing.{goes_trans, goes_node, goes_acts, nodes-acts}
+use Rattle.fused_net.proofs.Acting.{busy_any, acts_settled}
+use Rattle.fused_net.proofs.Asking.{moves_trans, moves_node, asking_kept, after_acts}
+use Rattle.fused_net.proofs.Moments.{allowed_of, acts_moments, node_moments}
+use Rattle.fused_net.proofs.Going.{acts_uses}
+use Rattle.fused_net.proofs.Responding.{node_is}
+
+-- what was handed out of each node stays where a node has as much as before
+pub gone_set : {N : Type 0} (gone : N → List Item) (xs : List N) (n : ℕ) (x y : N) → slice_get xs n ≡ Some x → gone y ≡ gone x → map gone (set xs n y) ≡ map gone xs
+gone_set gone [] n x y at e = refl
+gone_set gone (z ∷ xs) zero x y at e = let same : z ≡ x = some_same z x at in ap (λ (g : List Item). g ∷ map gone xs) (e ∙ ap gone (sym same))
+gone_set gone (z ∷ xs) (suc n) x y at e = ap (λ (l : List (List Item)). gone z ∷ l) (gone_set gone xs n x y at e)
+
+-- the node that was called, in the graph once it did what it wants done
+pub gone_acts : {N : Type 0} (gone : N → List Item) (net v new : Net N) (n : ℕ) (x y : N) (acts : List Act) → v ≡ net → n < length net.nodes → x ≡ get_or v.nodes n x → gone y ≡ gone x → new ≡ acted_all (with_node v n y) n acts → map gone new.nodes ≡ map gone net.nodes
+gone_acts gone net v new n x y acts e h is same on =
+    ap (λ (a : Net _). map gone a.nodes) on
+    ∙ ap (map gone) (nodes-acts acts (with_node v n y) n)
+    ∙ ap (λ (a : Net _). map gone (set a.nodes n y)) e
+    ∙ gone_set gone net.nodes n x y (node_is net v n x e h is) same
+
+-- a node in its own place
+set_same : {N : Type 0} (xs : List N) (n : ℕ) (x : N) → slice_get xs n ≡ Some x → set xs n x ≡ xs
+set_same [] n x at = refl
+set_same (z ∷ xs) zero x at = ap (λ (w : _). w ∷ xs) (sym (some_same z x at))
+set_same (z ∷ xs) (suc n) x at = ap (λ (l : List _). z ∷ l) (set_same xs n x at)
+
+stands_one : (a : Act) → AsksStand (a ∷ [])
+stands_one (Pull i) = (tt, tt)
+stands_one (Push j e) = tt
+stands_one (Complete j) = tt
+stands_one (FailOut j c) = tt
+stands_one (Cancel i) = tt
+
+module _ {N : Type 0} (row : N → View → Type 0) (law : N → N → View → List (List Item) → List (List Item) → Type 0) (asking : N → View → Type 0) (moves : N → List ℕ) where
+  pub poked_busy : (net : Net N) (n : ℕ) (a : Act) → Settled row law asking moves net → n < length net.nodes → IsMinded row law net n (a ∷ []) → Busy row law net n (a ∷ [])
+  poked_busy net n a s h m = record { wired = s.wired; each_first = s.each_first; sound = s.sound; marked = s.marked; within = h; stands = stands_one a; here = m; others = λ k l ne. s.minded k l }
+
+  pub record Poked (net new : Net N) (n : ℕ) (a : Act) : Type 0 where
+    pub any : Busy AnyRow AnyLaw net n (a ∷ [])
+    pub laws : Settled row law asking moves new
+    pub on : GoesOn net new
+    pub uses : Uses net new 0
+
+  pub poked : (net new : Net N) (n : ℕ) (a : Act) → new ≡ acted net n a → Settled row law asking moves net → n < length net.nodes → IsMinded row law net n (a ∷ []) → TellsPoked asking net n a → Poked net new n a
+  poked net new n a is s h m tells =
+      let busy : Busy row law net n (a ∷ []) = poked_busy net n a s h m in
+      let any : Busy AnyRow AnyLaw net n (a ∷ []) = busy_any row law net n (a ∷ []) busy in
+      let told : Pulls (a ∷ []) → IsAsking asking (acted net n a) n = λ p. asking_kept asking net n (a ∷ []) any (λ x at. tells p x at) in
+      let asked : AllAsked row law asking moves (acted net n a) = after_acts row law asking moves net n (a ∷ []) any m told s.asked in
+      let moments : AllMoments row law asking moves (acted net n a) = acts_moments row law asking moves net n (a ∷ []) any (allowed_of row law net n (a ∷ []) busy) m told asked s.moments in
+      rw is (record {
+        any = any;
+        laws = acts_settled row law asking moves net n (a ∷ []) busy asked moments;
+        on = goes_acts (a ∷ []) net n;
+        uses = acts_uses (a ∷ []) net n any;
+      })
+
+  module _ (gone waits : N → List Item) where
+    -- an input that waits for an element, at the moment of its last ask
+    waiting_at : (net : Net N) (w k : ℕ) → (wire_at net w).wire.inp ≡ Waiting → (ports_at net k).ins ≡ w ∷ [] → in_at (view_of net k) 0 ≡ Waiting
+    waiting_at net w k waits ins = rw ins waits
+
+    -- the moves of the nodes only grow
+    hands_moved : (net : Net N) (n : ℕ) (x y : N) (given : List Item) → n < length net.nodes → slice_get net.nodes n ≡ Some x → Hands row law moves gone waits x given y → MovesGrow moves net (with_node net n y)
+    hands_moved net n x y given h at hands = moves_node moves net n y h (λ z zi. let same : x ≡ z = some_same x z (sym at ∙ zi) in rw same at hands.grows)
+
+    hands_asked : (net : Net N) (n : ℕ) (x y : N) (given : List Item) → Settled row law asking moves net → n < length net.nodes → slice_get net.nodes n ≡ Some x → Hands row law moves gone waits x given y → AllAsked row law asking moves (with_node net n y)
+    hands_asked net n x y given s h at hands w l some =
+        let last = s.asked w l some in
+        record {
+          old = last.old;
+          on = goes_trans last.old net (with_node net n y) last.on (goes_node net n y);
+          grown = last.grown;
+          moves_on = moves_trans moves last.old net (with_node net n y) last.on last.moves_on (hands_moved net n x y given h at hands);
+          sound = last.sound;
+          marked = last.marked;
+          waits = last.waits;
+          asked = last.asked;
+          same = last.same;
+          stays = stays last;
+          minded = last.minded;
+          asking_then = last.asking_then;
+        }
+      where
+        stays : (last : LastAsk row law asking moves net w) (k : ℕ) → (ports_at last.old k).ins ≡ w ∷ [] → (ports_at last.old k).outs ≡ [] → (wire_at net w).wire.got ≡ (wire_at last.old w).wire.got → slice_get (with_node net n y).nodes k ≡ slice_get last.old.nodes k
+        stays last k ins outs got = elim (same_or_not k n) [
+          | inl e ↦
+              let was : slice_get net.nodes k ≡ slice_get last.old.nodes k = last.stays k ins outs got in
+              let here : slice_get last.old.nodes k ≡ Some x = sym was ∙ ap (slice_get net.nodes) e ∙ at in
+              let ports : ports_at net k ≡ ports_at last.old k = ap (λ (p : List PortLists). port_at p k) last.on.ports in
+              let within : n < length net.firsts = rw s.each_first h in
+              let fewer : n < length last.old.firsts = subst (λ (l : List N). n < length l) last.on.firsts within in
+              let first = get_there last.old.firsts n fewer in
+              let wired = s.wired.input_to k 0 w (rw e h) (rw ports (rw ins refl)) in
+              let target : (end_at last.old.ends w).to ≡ k = ap (λ (q : List Ends). (end_at q w).to) (sym last.on.ends) ∙ wired.1.0 in
+              let m : Minds row law x first.0 (view_of last.old k) (took last.old k) (gave last.old k) [] = (subst (λ (j : ℕ). IsMinded row law last.old j []) target last.minded) x first.0 here (ap (slice_get last.old.firsts) e ∙ first.1) in
+              let same : y ≡ x = hands.still (view_of last.old k) m.row_holds (waiting_at last.old w k last.waits ins) in
+              ap (slice_get (set net.nodes n y)) e ∙ get_set_same net.nodes n y h ∙ ap (λ (z : N). Some z) same ∙ sym here
+          | inr ne ↦ get_set_other net.nodes n k y ne ∙ last.stays k ins outs got
+        ]
+
+    hands_minds : (x y first : N) (given : List Item) (v : View) (t g : List (List Item)) → Hands row law moves gone waits x given y → Minds row law x first v t g [] → Minds row law y first v t g []
+    hands_minds x y first given v t g h m = record { allowed = tt; row_holds = h.row_holds v m.row_holds; law_holds = h.law_holds first v t g m.row_holds m.law_holds }
+
+    hands_settled : (net : Net N) (n : ℕ) (x y : N) (given : List Item) → Settled row law asking moves net → n < length net.nodes → slice_get net.nodes n ≡ Some x → Hands row law moves gone waits x given y → Settled row law asking moves (with_node net n y)
+    hands_settled net n x y given s h at hands = record {
+      wired = rw length-set s.wired;
+      each_first = rw length-set s.each_first;
+      sound = s.sound;
+      marked = s.marked;
+      minded = λ k l z first zi fi. elim (same_or_not k n) [
+        | inl e ↦
+            let same : y ≡ z = some_same y z (sym (get_set_same net.nodes n y h) ∙ ap (slice_get (set net.nodes n y)) (sym e) ∙ zi) in
+            subst (λ (a : N). Minds row law a first (view_of net k) (took net k) (gave net k) []) same
+            (hands_minds x y first given _ _ _ hands (s.minded k (rw e h) x first (ap (slice_get net.nodes) e ∙ at) fi))
+        | inr ne ↦ s.minded k (rw length-set at l) z first (sym (get_set_other net.nodes n k y ne) ∙ zi) fi
+      ];
+      asked = hands_asked net n x y given s h at hands;
+      moments = node_moments row law asking moves net n y (hands_moved net n x y given h at hands) s.moments;
+    }
+
+    -- what the code leaves once it called the node
+    pub handed : (net v new : Net N) (n : ℕ) (x y : N) (given : List Item) → v ≡ net → n < length net.nodes → x ≡ get_or v.nodes n x → Settled row law asking moves net → Hands row law moves gone waits x given y → new ≡ with_node v n y → (HandsAt gone waits net n given new) × Settled row law asking moves new
+    handed net v new n x y given e h is s hands on =
+        let at = node_is net v n x e h is in
+        let to : new ≡ with_node net n y = on ∙ ap (λ (a : Net N). with_node a n y) e in
+        (record { node = x; next = y; at = at; is = to; gone_is = hands.gone_is; waits_is = hands.waits_is }, rw to (hands_settled net n x y given s h at hands))
+
+    pub hand_none : (net v new : Net N) (n : ℕ) (x y : N) (r : Option Item) → v ≡ net → n < length net.nodes → x ≡ get_or v.nodes n x → new ≡ with_node v n y → IfNone r ((waits x ≡ []) × (y ≡ x)) → IfNone r ((new ≡ net) × AtNode net n (λ z. waits z ≡ []))
+    hand_none net v new n x y (Some i) e h is on none = tt
+    hand_none net v new n x y None e h is on none =
+        let at = node_is net v n x e h is in
+        let same : with_node net n x ≡ net = ap (λ (l : List N). record net { nodes = l }) (set_same net.nodes n x at) in (
+          on ∙ ap (λ (a : Net N). with_node a n y) e ∙ ap (λ (z : N). with_node net n z) none.1 ∙ same,
+          λ z zi. ap waits (some_same z x (sym zi ∙ at)) ∙ none.0,
+        )
+
+    pub hand_some : (net v new : Net N) (n : ℕ) (x y : N) (r : Option Item) → v ≡ net → n < length net.nodes → x ≡ get_or v.nodes n x → Settled row law asking moves net → new ≡ with_node v n y → IfSome r (λ i. Hands row law moves gone waits x (i ∷ []) y) → IfSome r (λ i. HandsAt gone waits net n (i ∷ []) new)
+    hand_some net v new n x y None e h is s on some = tt
+    hand_some net v new n x y (Some i) e h is s on some = (handed net v new n x y (i ∷ []) e h is s some on).0
+
+    pub hand_laws : (net v new : Net N) (n : ℕ) (x y : N) (r : Option Item) → v ≡ net → n < length net.nodes → x ≡ get_or v.nodes n x → Settled row law asking moves net → new ≡ with_node v n y → IfNone r ((waits x ≡ []) × (y ≡ x)) → IfSome r (λ i. Hands row law moves gone waits x (i ∷ []) y) → Settled row law asking moves new
+    hand_laws net v new n x y None e h is s on none some = rw (hand_none net v new n x y None e h is on none).0 s
+    hand_laws net v new n x y (Some i) e h is s on none some = (handed net v new n x y (i ∷ []) e h is s some on).1
+
+-- another node in a place costs nothing
+pub node_goes : {N : Type 0} (net v new : Net N) (n : ℕ) (y : N) → v ≡ net → new ≡ with_node v n y → GoesOn net new
+node_goes net v new n y e is = rw (is, e) (goes_node net n y)
+
+pub node_uses : {N : Type 0} (net v new : Net N) (n : ℕ) (y : N) → v ≡ net → new ≡ with_node v n y → Uses net new 0
+node_uses net v new n y e is = rw (is, e) (record { least = omega arith; most = omega arith })

@@ -1,0 +1,4 @@
+pub mod DropSteps
+pub mod DropTurns
+pub mod Counts
+pub mod DropNodes

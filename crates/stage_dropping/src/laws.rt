@@ -1,0 +1,62 @@
+// Laws of the buffers that drop: each function has no body, and its contract is the law.
+ghost use Rattle.std.specs.Prelude.{◌≡◌, ◌≢◌, ◌<◌, ℕ, true, List, []};
+ghost use Rattle.elem_core.specs.declared.item.Item.{Item};
+ghost use Rattle.elem_core.specs.declared.why.Decider.{Decider};
+ghost use Rattle.port_core.specs.declared.act.Act.{Act};
+ghost use Rattle.port_core.specs.View.{View};
+ghost use Rattle.port_core.specs.Call.{Call, starts, CallAllowed, Obeys};
+ghost use Rattle.stream_model.specs.declared.kind.Kind.TheVariants.{Buffer};
+ghost use Rattle.stream_model.specs.declared.kind.Policy.{Policy};
+ghost use Rattle.stream_model.specs.declared.kind.Policy.TheVariants.{Backpressure};
+ghost use Rattle.stream_model.specs.Graph.{Graph};
+ghost use Rattle.stream_model.specs.Node.{World, node_outlook};
+ghost use Rattle.stream_model.specs.Fits.{moves_fit};
+ghost use Rattle.stream_model.specs.Outlook.{Outlook, Agrees};
+ghost use Rattle.stream_model.specs.FanIn.{AllAgree};
+ghost use Rattle.stage_core.specs.Handling.{Starts, Handles};
+ghost use Rattle.stage_linear.specs.declared.phase.Phase.TheVariants.{New, Open};
+ghost use Rattle.stage_dropping.specs.Drops.{DropRest, DropRests, DropCounts};
+ghost use Rattle.stage_dropping.specs.Droppings.{Dropping, begun, row, held_of, Turned, DropFresh, DropRow, DropsAs, unasked_ports};
+
+/// A new buffer that has room for something and drops may be started, made no move, and knows that no port was asked.
+pub fn a_new_buffer_may_start()
+    ensures { (node n : ℕ) (p : Policy) → p ≢ Backpressure → 0 < n → DropFresh (begun node n p) unasked_ports }
+{}
+
+/// Where its row and its law hold, a buffer that was started has closed both its ports, or has nothing to do: it waits for
+/// its input, and holds nothing where its output is asked; or its input is over and nobody asks it.
+pub fn a_started_buffer_rests()
+    ensures { (first now : Dropping) (v : View) (took gave : List (List Item)) → DropRow now v → (law : DropsAs first now v took gave) → DropRests first.policy first.size now.moves v law.by.law.ins law.by.law.out_list }
+{}
+
+/// Where the port rules allow a call of a handler and the row holds, a buffer that was started is open.
+pub fn a_called_buffer_is_open()
+    ensures { (l : Dropping) (call : Call) (v : View) → l.phase ≢ New → CallAllowed call v → row l v → l.phase ≡ Open }
+{}
+
+/// What a handler owes to the port rules and to the law is all that is asked of a stage: its start begins the law of its
+/// histories, and every other call keeps it.
+pub fn calls_keep_the_law()
+    ensures starts { (old new : Dropping) (acts : List Act) → Obeys starts (row old) (row new) acts → Turned starts old acts new → Starts DropRow DropsAs DropFresh old new acts }
+    ensures handles { (call : Call) (old new : Dropping) (acts : List Act) → Obeys call (row old) (row new) acts → Turned call old acts new → Handles DropRow DropsAs call old new acts }
+{}
+
+/// A buffer by its moves: for every rest of its input and every further list of moves, all the moves give of all that comes
+/// what the further ones give of the rest, from what it gave and holds.
+pub fn moves_give_for_every_rest()
+    ensures { (first now : Dropping) (v : View) (took gave : List (List Item)) → (law : DropsAs first now v took gave) → DropRest first.policy first.size (held_of now) law.by.law.ins law.by.law.out_list }
+{}
+
+/// It gave an element for each one among its moves, and took one for each zero.
+pub fn moves_are_counted()
+    ensures { (first now : Dropping) (v : View) (took gave : List (List Item)) → (law : DropsAs first now v took gave) → DropCounts now.moves law.by.law.ins law.by.law.out_list }
+{}
+
+/// Where its law holds, and what came to its input agrees with that input's outlook, its moves fit, and what it gave agrees
+/// with the outlook that the model has of its output by these moves.
+pub fn a_buffer_agrees_with_its_outlook()
+    ensures fits { (g : Graph) (w : World) (is : List Outlook) (first now : Dropping) (v : View) (took gave : List (List Item)) → first.policy ≢ Backpressure → w.moves first.node ≡ now.moves
+        → (law : DropsAs first now v took gave) → AllAgree is law.by.law.ins → moves_fit g w first.node (Buffer first.size first.policy) is ≡ true }
+    ensures agrees { (g : Graph) (w : World) (d : Decider) (is : List Outlook) (first now : Dropping) (v : View) (took gave : List (List Item)) → first.policy ≢ Backpressure → w.moves first.node ≡ now.moves
+        → (law : DropsAs first now v took gave) → AllAgree is law.by.law.ins → Agrees (node_outlook g w first.node (Buffer first.size first.policy) d is 0) law.by.law.out_list law.by.law.out_end }
+{}

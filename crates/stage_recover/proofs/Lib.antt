@@ -1,0 +1,2 @@
+pub mod RecoverTurns
+pub mod RecoverNodes

@@ -1,0 +1,2 @@
+pub mod Recovers
+pub mod Recoverings

@@ -1,0 +1,4 @@
+pub mod ValveTurns
+pub mod Rows
+pub mod Handling
+pub mod Outlooks

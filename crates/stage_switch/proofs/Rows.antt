@@ -1,0 +1,174 @@
+-- The rows of valves and trips: where they rest, and where they are called.
+use Rattle.std.specs.Prelude.{slice_index_or}
+use Rattle.std.proofs.Common.{◌≡◌, ◌≢◌, ℕ, zero, suc, ◌≤◌, false, inl, inr, List, [], ◌∷◌, length, Option, IfSome, refl, sym, ap, subst, ◌∙◌, arith}
+use Rattle.std.proofs.Math.Seq.{take-length}
+use Rattle.elem_core.specs.Tree.{Tree}
+use Rattle.elem_core.specs.declared.item.Item.{Item}
+use Rattle.elem_core.specs.declared.item.Item.TheVariants as item
+use Rattle.port_core.specs.declared.view.InView.{InView}
+use Rattle.port_core.specs.declared.view.InView.TheVariants.{Idle, Waiting, Over, Left}
+use Rattle.port_core.specs.declared.view.OutView.{OutView}
+use Rattle.port_core.specs.declared.view.OutView.TheVariants.{Unasked, Asked, Shut, Refused}
+use Rattle.port_core.specs.View.{View, in_at, out_at, OneOne, OneOneOf}
+use Rattle.port_core.specs.Call.{Call, starts, asks, brings, cancels, CallAllowed}
+use Rattle.stream_model.specs.Outlook.{End}
+use Rattle.stream_model.specs.FanIn.{Inflow}
+use Rattle.stage_linear.specs.declared.phase.Phase.{Phase}
+use Rattle.stage_linear.specs.declared.phase.Phase.TheVariants.{New, Open, Closed}
+use Rattle.stage_law.specs.Row.{BothClosed}
+use Rattle.stream_model.specs.Machine.{going, Run}
+use Rattle.elem_core.specs.declared.why.Decider.{Decider}
+use Rattle.stream_model.specs.Linear.{Book, Stage, passing, linear, begin_work}
+use Rattle.stage_law.specs.Law.{Law}
+use Rattle.stage_law.specs.OwnPorts.{OwnRests}
+use Rattle.stage_law.proofs.OwnRows.{waiting_rests, idle_rests, closed_rests as own_closed}
+use Rattle.kill_core.specs.declared.order.Order.{Order}
+use Rattle.kill_core.specs.Public.{SwitchState, SeatState}
+use Rattle.stage_switch.specs.Valves.{passes, ValveKeeps, RestsAt, ValveRests, GaveAll}
+use Rattle.stage_switch.specs.States.{IsUnused, Valve, IsPassing, passing_row, valve_held_in, new_valve_of, Trip, trip_held_in, trip_stage, new_trip_of}
+use Rattle.stage_switch.specs.Handling.{unasked_ports, ValveFresh, ValveRow, ValveAs, TripFresh, TripRow, TripAs}
+
+-- ---- where it rests
+
+closed_rests : (x : InView) (y : OutView) (f : Inflow) (g : List Tree) → BothClosed x y → RestsAt x y (f ∷ []) g
+closed_rests Over Shut f g h = inl (refl, refl)
+closed_rests Over Refused f g h = inl (refl, refl)
+closed_rests Left Shut f g h = inl (refl, refl)
+closed_rests Left Refused f g h = inl (refl, refl)
+closed_rests Idle y f g h = absurd h
+closed_rests Waiting y f g h = absurd h
+closed_rests Over Unasked f g h = absurd h
+closed_rests Over Asked f g h = absurd h
+closed_rests Left Unasked f g h = absurd h
+closed_rests Left Asked f g h = absurd h
+
+open_rests : (node n : ℕ) (x : InView) (y : OutView) (f : Inflow) (g : List Tree) (e : End) → passing_row Open x y → ValveKeeps node (passes n) (f ∷ []) g e → RestsAt x y (f ∷ []) g
+open_rests node n Waiting Asked f g e r k = inr (inl ((refl, refl), (refl, refl), ap length (k.1.1.0 ∙ sym (take-length f.list))))
+open_rests node n Idle Unasked f g e r k = inr (inr (inl ((refl, refl), inr (refl, refl))))
+open_rests node n x y f g e r k = absurd r
+
+rests_at : (node n : ℕ) (p : Phase) (moves : List ℕ) (x : InView) (y : OutView) (ins : List Inflow) (g : List Tree) (e : End) → p ≢ New → passing_row p x y → ValveKeeps node (valve_held_in p n moves) ins g e → RestsAt x y ins g
+rests_at node n New moves x y ins g e s r k = absurd (s refl)
+rests_at node n Open moves x y [] g e s r k = absurd k
+rests_at node n Open moves x y (f ∷ []) g e s r k = open_rests node n x y f g e r k
+rests_at node n Open moves x y (f ∷ h ∷ fs) g e s r k = absurd k
+rests_at node n Closed moves x y [] g e s r k = absurd k
+rests_at node n Closed moves x y (f ∷ []) g e s r k = closed_rests x y f g r
+rests_at node n Closed moves x y (f ∷ h ∷ fs) g e s r k = absurd k
+
+-- the row at the two ports
+at_ports : (P : InView → OutView → Type 0) (xs : List InView) (ys : List OutView) → OneOneOf P xs ys → P (slice_index_or xs 0 Left) (slice_index_or ys 0 Shut)
+at_ports P (x ∷ []) (y ∷ []) r = r
+at_ports P [] ys r = absurd r
+at_ports P (x ∷ []) [] r = absurd r
+at_ports P (x ∷ []) (y ∷ z ∷ ys) r = absurd r
+at_ports P (x ∷ w ∷ xs) ys r = absurd r
+
+pub valve_rests : (first now : Valve) (v : View) (took gave : List (List Item)) → ValveRow now v → (law : ValveAs first now v took gave) → ValveRests v law.by.law.ins law.by.law.out_list
+valve_rests first l v took gave r law =
+    let ports = law.by.law in
+    rests_at first.node l.passed l.phase l.moves (in_at v 0) (out_at v 0) ports.ins ports.out_list ports.out_end r.started (at_ports (passing_row l.phase) v.ins v.outs r.row) ports.keeps
+
+-- where it waits it is asked, and gave all that came
+waits_at : (node n : ℕ) (p : Phase) (moves : List ℕ) (x : InView) (y : OutView) (ins : List Inflow) (g : List Tree) (e : End) → x ≡ Waiting → passing_row p x y → ValveKeeps node (valve_held_in p n moves) ins g e → (y ≡ Asked) × GaveAll ins g
+waits_at node n New moves x y ins g e w r k = by_view x y w r
+  where
+    by_view : (x : InView) (y : OutView) → x ≡ Waiting → passing_row New x y → (y ≡ Asked) × GaveAll ins g
+    by_view Waiting y w r = absurd r
+    by_view x y w r = cc
+waits_at node n Closed moves x y ins g e w r k = by_view x y w r
+  where
+    by_view : (x : InView) (y : OutView) → x ≡ Waiting → BothClosed x y → (y ≡ Asked) × GaveAll ins g
+    by_view Waiting y w r = absurd r
+    by_view x y w r = cc
+waits_at node n Open moves x y [] g e w r k = absurd k
+waits_at node n Open moves x y (f ∷ h ∷ fs) g e w r k = absurd k
+waits_at node n Open moves x y (f ∷ []) g e w r k = (by_view x y w r, k.1.1.0)
+  where
+    by_view : (x : InView) (y : OutView) → x ≡ Waiting → passing_row Open x y → y ≡ Asked
+    by_view Waiting Asked w r = refl
+    by_view Waiting y w r = absurd r
+    by_view x y w r = cc
+
+pub valve_waits : (first now : Valve) (v : View) (took gave : List (List Item)) → ValveRow now v → (law : ValveAs first now v took gave) → in_at v 0 ≡ Waiting → (out_at v 0 ≡ Asked) × GaveAll law.by.law.ins law.by.law.out_list
+valve_waits first l v took gave r law w =
+    let ports = law.by.law in
+    waits_at first.node l.passed l.phase l.moves (in_at v 0) (out_at v 0) ports.ins ports.out_list ports.out_end w (at_ports (passing_row l.phase) v.ins v.outs r.row) ports.keeps
+
+-- ---- where it is called
+
+open_at : (p : Phase) (call : Call) (x : InView) (y : OutView) → p ≢ New → call ≢ starts → CallAllowed call (record { ins = x ∷ []; outs = y ∷ [] }) → passing_row p x y → p ≡ Open
+open_at New call x y n s h r = absurd (n refl)
+open_at Open call x y n s h r = refl
+open_at Closed starts x y n s h r = absurd (s refl)
+open_at Closed (asks zero) Over Shut n s h r = cc
+open_at Closed (asks zero) Over Refused n s h r = cc
+open_at Closed (asks zero) Left Shut n s h r = cc
+open_at Closed (asks zero) Left Refused n s h r = cc
+open_at Closed (asks (suc j)) x y n s h r = cc
+open_at Closed (brings zero (item.Elem e)) Over y n s h r = cc
+open_at Closed (brings zero (item.Elem e)) Left y n s h r = cc
+open_at Closed (brings zero item.Ended) Over y n s h r = absurd h
+open_at Closed (brings zero item.Ended) Left y n s h r = absurd h
+open_at Closed (brings zero (item.Failed c)) Over y n s h r = absurd h
+open_at Closed (brings zero (item.Failed c)) Left y n s h r = absurd h
+open_at Closed (brings (suc i) (item.Elem e)) x y n s h r = cc
+open_at Closed (brings (suc i) item.Ended) x y n s h r = absurd h
+open_at Closed (brings (suc i) (item.Failed c)) x y n s h r = absurd h
+open_at Closed (cancels zero) Over Shut n s h r = absurd h
+open_at Closed (cancels zero) Over Refused n s h r = absurd h
+open_at Closed (cancels zero) Left Shut n s h r = absurd h
+open_at Closed (cancels zero) Left Refused n s h r = absurd h
+open_at Closed (cancels (suc j)) x y n s h r = absurd h
+open_at Closed call x y n s h r = absurd r
+
+open_lists : (p : Phase) (call : Call) (xs : List InView) (ys : List OutView) → p ≢ New → call ≢ starts → CallAllowed call (record { ins = xs; outs = ys }) → OneOneOf (passing_row p) xs ys → p ≡ Open
+open_lists p call (x ∷ []) (y ∷ []) n s h r = open_at p call x y n s h r
+open_lists p call [] ys n s h r = absurd r
+open_lists p call (x ∷ []) [] n s h r = absurd r
+open_lists p call (x ∷ []) (y ∷ z ∷ ys) n s h r = absurd r
+open_lists p call (x ∷ w ∷ xs) ys n s h r = absurd r
+
+called_open : (p : Phase) (call : Call) (v : View) → p ≢ New → call ≢ starts → CallAllowed call v → OneOne (passing_row p) v → p ≡ Open
+called_open p call v n s h r = open_lists p call v.ins v.outs n s h r
+
+pub called_valve : (l : Valve) (call : Call) (v : View) → call ≢ starts → CallAllowed call v → ValveRow l v → IsPassing l
+called_valve l call v s h r = let open_now = called_open l.phase call v r.started s h r.row in record { open_ = open_now; moves = r.moves open_now }
+
+pub called_trip : (l : Trip) (call : Call) (v : View) → call ≢ starts → CallAllowed call v → TripRow l v → l.phase ≡ Open
+called_trip l call v s h r = called_open l.phase call v r.started s h r.row
+
+-- ---- a trip
+
+module _ (book : Book) (start : Run Stage Tree) (took gave : List Item) where
+  trip_at : (p : Phase) (s : Stage) (x : InView) (y : OutView) → p ≢ New → passing_row p x y → (law : Law (linear book passing) start (trip_held_in p s) x y took gave) → OwnRests (linear book passing) start false x y law.in_list law.out_list
+  trip_at New s x y n r law = absurd (n refl)
+  trip_at Closed s x y n r law = own_closed (linear book passing) start false x y law.in_list law.out_list r
+  trip_at Open s Waiting Asked n r law = waiting_rests (linear book passing) start false (going s) took gave law
+  trip_at Open s Idle Unasked n r law = idle_rests (linear book passing) start false law.in_list law.out_list
+  trip_at Open s x y n r law = absurd r
+
+  trip_lists : (p : Phase) (s : Stage) (xs : List InView) (ys : List OutView) → p ≢ New → OneOneOf (passing_row p) xs ys
+      → (law : Law (linear book passing) start (trip_held_in p s) (slice_index_or xs 0 Left) (slice_index_or ys 0 Shut) took gave) → OwnRests (linear book passing) start false (slice_index_or xs 0 Left) (slice_index_or ys 0 Shut) law.in_list law.out_list
+  trip_lists p s (x ∷ []) (y ∷ []) n r law = trip_at p s x y n r law
+  trip_lists p s [] ys n r law = absurd r
+  trip_lists p s (x ∷ []) [] n r law = absurd r
+  trip_lists p s (x ∷ []) (y ∷ z ∷ ys) n r law = absurd r
+  trip_lists p s (x ∷ w ∷ xs) ys n r law = absurd r
+
+pub trip_rests : (book : Book) (d : Decider) (first now : Trip) (v : View) (took gave : List (List Item)) → TripRow now v → (law : TripAs first now v took gave)
+    → OwnRests (linear book passing) (begin_work first.node d passing) false (in_at v 0) (out_at v 0) (law.law book d).in_list (law.law book d).out_list
+trip_rests book d first l v took gave r law = trip_lists book (begin_work first.node d passing) law.took_list law.gave_list l.phase (trip_stage d l) v.ins v.outs r.started r.row (law.law book d)
+
+-- ---- before it was started
+
+pub new_valve : (node : ℕ) (switch : SwitchState) (seat : SeatState) → IsUnused switch seat → ValveFresh (new_valve_of node switch seat) unasked_ports
+new_valve node switch seat u = record { phase = refl; moves = refl; passed = refl; valve = record { one = u.0; gave = u.1.0; knows = u.1.1; formed = refl }; row = tt }
+
+pub new_trip : (node : ℕ) (order : Order) (count : ℕ) (switch : SwitchState) (seat : SeatState) → IsUnused switch seat → 1 ≤ count → TripFresh (new_trip_of node order count switch seat) unasked_ports
+new_trip node order count switch seat u c = record {
+  phase = refl;
+  taken = refl;
+  trip = record { one = u.0; gave = subst (λ (m : Option Order). IfSome m (λ o. (o ≡ order) × (count ≤ 0))) (sym u.1.0) tt; knows = λ z. absurd (omega (arith, z, c)) };
+  row = tt;
+}

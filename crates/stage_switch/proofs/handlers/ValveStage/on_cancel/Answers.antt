@@ -1,0 +1,12 @@
+use Rattle.port_core.specs.Call.{cancels}
+use Rattle.stage_switch.proofs.Handling.{valve_handles, valve_grows, valve_keeps}
+use Rattle.stage_switch.proofs.handlers.ValveStage.on_cancel.Goals as goal
+
+pub returns-clause-handles : goal.returns-clause-handles
+returns-clause-handles c = valve_handles (cancels c.args._port) _ _ _ _ c.requires.meets c.on_cancel.ensures.ports c.on_cancel.ensures.gives
+
+pub returns-clause-grows : goal.returns-clause-grows
+returns-clause-grows c = valve_grows (cancels c.args._port) _ _ _ _ (λ s. cc) c.requires.meets c.on_cancel.ensures.gives
+
+pub returns-clause-kept : goal.returns-clause-kept
+returns-clause-kept c = valve_keeps _ _ _ _ c.on_cancel.ensures.refused

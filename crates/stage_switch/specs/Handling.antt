@@ -1,0 +1,106 @@
+-- A valve and a trip as the interpreter calls them: what each knows of its ports, the law of its histories and of its seat,
+-- and what of it outlives want of memory.
+use Rattle.std.specs.Prelude.{◌≡◌, ◌≢◌, ℕ, ◌+◌, List, [], ◌∷◌}
+use Rattle.elem_core.specs.Prefix.{IsPrefix}
+use Rattle.elem_core.specs.declared.item.Item.{Item}
+use Rattle.elem_core.specs.declared.item.Item.TheVariants as item
+use Rattle.elem_core.specs.declared.why.Decider.{Decider}
+use Rattle.kill_core.specs.declared.order.Order.{Order}
+use Rattle.kill_core.specs.declared.order.Order.TheVariants.{Shutdown, Abort}
+use Rattle.stream_model.specs.declared.kind.Kind.{Kind}
+use Rattle.stream_model.specs.declared.kind.Kind.TheVariants.{TripShutdown, TripAbort}
+use Rattle.port_core.specs.declared.view.InView.TheVariants.{Idle}
+use Rattle.port_core.specs.declared.view.OutView.TheVariants.{Unasked}
+use Rattle.port_core.specs.View.{View, in_at, out_at}
+use Rattle.stream_model.specs.Linear.{Book, passing, linear, begin_work}
+use Rattle.stage_law.specs.Law.{Law}
+use Rattle.stage_linear.specs.declared.phase.Phase.TheVariants.{New, Open, Closed}
+use Rattle.stage_fans.specs.PortsLaws.{InPortsLaw}
+use Rattle.stage_switch.specs.Valves.{ValveKeeps}
+use Rattle.stage_switch.specs.States.{Valve, IsValve, valve_row, valve_held, Trip, IsTrip, trip_row, trip_held}
+
+-- one input and one output that were not asked
+abbrev pub unasked_ports : View
+unasked_ports = record { ins = Idle ∷ []; outs = Unasked ∷ [] }
+
+-- ---- a valve
+
+-- it was not started: nothing passed, and it did nothing
+pub record ValveFresh (l : Valve) (v : View) : Type 0 where
+  pub phase : l.phase ≡ New
+  pub moves : l.moves ≡ []
+  pub passed : l.passed ≡ 0
+  pub valve : IsValve l.switch l.seat l.moves
+  pub row : valve_row l v
+
+-- it was started, and did nothing while it is open
+pub record ValveRow (l : Valve) (v : View) : Type 0 where
+  pub started : l.phase ≢ New
+  pub moves : l.phase ≡ Open → l.moves ≡ []
+  pub row : valve_row l v
+
+-- The law of a valve by what it did, which its moves say; its node and its switch stay, and its seat knows an order exactly
+-- where its moves show it.
+pub record ValveAs (first now : Valve) (v : View) (took gave : List (List Item)) : Type 0 where
+  pub by : InPortsLaw (ValveKeeps first.node (valve_held now)) v took gave
+  pub node : now.node ≡ first.node
+  pub switch : now.switch ≡ first.switch
+  pub valve : IsValve now.switch now.seat now.moves
+  pub unmoved : now.phase ≢ Closed → now.moves ≡ []
+
+-- what of a valve outlives want of memory: its node, its switch, its moves, and that its seat knows no other order than they show
+pub record KeepsValve (old new : Valve) : Type 0 where
+  pub node : new.node ≡ old.node
+  pub switch : new.switch ≡ old.switch
+  pub moves : IsPrefix old.moves new.moves
+  pub valve : IsValve old.switch old.seat old.moves → IsValve new.switch new.seat new.moves
+
+-- ---- a trip
+
+-- how many elements a history has
+abbrev pub elements : List Item → ℕ
+elements [] = 0
+elements (item.Elem e ∷ items) = 1 + elements items
+elements (item.Ended ∷ items) = elements items
+elements (item.Failed c ∷ items) = elements items
+
+-- it was not started: it took nothing
+pub record TripFresh (l : Trip) (v : View) : Type 0 where
+  pub phase : l.phase ≡ New
+  pub taken : l.taken ≡ 0
+  pub trip : IsTrip l.order l.count l.taken l.switch l.seat
+  pub row : trip_row l v
+
+-- it was started
+pub record TripRow (l : Trip) (v : View) : Type 0 where
+  pub started : l.phase ≢ New
+  pub row : trip_row l v
+
+-- The law of a trip, by any book of plugs, since it asks none, and any decider, since it never fails: it passes on what comes. Its node, its order, its count and its
+-- switch stay, and its seat gave its order only where so many elements came, and knows one from then on.
+pub record TripAs (first now : Trip) (v : View) (took gave : List (List Item)) : Type 0 where
+  pub took_list : List Item
+  pub gave_list : List Item
+  pub took_is : took ≡ took_list ∷ []
+  pub gave_is : gave ≡ gave_list ∷ []
+  pub law : (book : Book) (d : Decider) → Law (linear book passing) (begin_work first.node d passing) (trip_held d now) (in_at v 0) (out_at v 0) took_list gave_list
+  pub node : now.node ≡ first.node
+  pub order : now.order ≡ first.order
+  pub count : now.count ≡ first.count
+  pub switch : now.switch ≡ first.switch
+  pub taken : now.taken ≡ elements took_list
+  pub trip : IsTrip now.order now.count now.taken now.switch now.seat
+
+-- what of a trip outlives want of memory: its node, its order, its count, its switch, and that its seat gave no other order
+-- and gave none too early
+pub record KeepsTrip (old new : Trip) : Type 0 where
+  pub node : new.node ≡ old.node
+  pub order : new.order ≡ old.order
+  pub count : new.count ≡ old.count
+  pub switch : new.switch ≡ old.switch
+  pub trip : IsTrip old.order old.count old.taken old.switch old.seat → IsTrip new.order new.count new.taken new.switch new.seat
+
+-- the trip as a kind, by its order
+abbrev pub trip_kind : Order → List ℕ → ℕ → Kind
+trip_kind Shutdown name n = TripShutdown name n
+trip_kind Abort name n = TripAbort name n

@@ -1,0 +1,3 @@
+pub mod Valves
+pub mod States
+pub mod Handling

@@ -1,0 +1,196 @@
+-- The states of a valve and of a trip, what they know of their ports, and what each of their calls owes.
+use Rattle.std.specs.Prelude.{◌≡◌, ◌≢◌, ◌+◌, ◌≤◌, Bool, true, false, ℕ, List, [], ◌∷◌, Option, Some, None, IfSome, ⊤}
+use Rattle.elem_core.specs.declared.item.Item.TheVariants as item
+use Rattle.elem_core.specs.declared.why.Decider.{Decider}
+use Rattle.kill_core.specs.declared.order.Order.{Order}
+use Rattle.kill_core.specs.declared.order.Order.TheVariants.{Shutdown, Abort}
+use Rattle.kill_core.specs.Public.{SwitchState, SeatState, IsSeatOf, Answers}
+use Rattle.port_core.specs.declared.act.Act.{Act}
+use Rattle.port_core.specs.declared.act.Act.TheVariants.{Complete, FailOut, Cancel}
+use Rattle.port_core.specs.declared.view.InView.{InView}
+use Rattle.port_core.specs.declared.view.InView.TheVariants.{Idle, Waiting}
+use Rattle.port_core.specs.declared.view.OutView.{OutView}
+use Rattle.port_core.specs.declared.view.OutView.TheVariants.{Unasked, Asked}
+use Rattle.port_core.specs.View.{View, OneOne}
+use Rattle.port_core.specs.Asking.{AsksStand}
+use Rattle.port_core.specs.Call.{Call, starts, asks, brings, cancels, given_on}
+use Rattle.stream_model.specs.Machine.{going}
+use Rattle.stream_model.specs.Linear.{Book, Stage, passing, linear}
+use Rattle.stream_model.specs.Picks.{Acted, untouched, completed, aborted, acted}
+use Rattle.stage_law.specs.Held.{Held, owing, shut}
+use Rattle.stage_law.specs.Row.{BothClosed}
+use Rattle.stage_law.specs.Turn.{TurnAt}
+use Rattle.stage_linear.specs.declared.phase.Phase.{Phase}
+use Rattle.stage_linear.specs.declared.phase.Phase.TheVariants.{New, Open, Closed}
+use Rattle.stage_switch.specs.Valves as valve
+use Rattle.stage_switch.specs.Valves.{ValveHeld, ValveTurnAt, abort_of}
+
+-- ---- both
+
+-- a seat of this switch that gave nothing and knows nothing
+abbrev pub IsUnused : SwitchState → SeatState → Type 0
+IsUnused switch seat = IsSeatOf switch seat × ((seat.gave ≡ None) × (seat.knows ≡ None))
+
+-- what it knows of its ports: while it is open it waits exactly where its output is asked
+abbrev pub passing_row : Phase → InView → OutView → Type 0
+passing_row New Idle Unasked = ⊤
+passing_row Open Waiting Asked = ⊤
+passing_row Open Idle Unasked = ⊤
+passing_row Closed i o = BothClosed i o
+passing_row _ _ _ = ⊥
+
+-- ---- a valve
+
+-- where it stands, its node, how many elements passed, its moves, its switch and what its seat has
+pub record Valve : Type 0 where
+  pub phase : Phase
+  pub node : ℕ
+  pub passed : ℕ
+  pub moves : List ℕ
+  pub switch : SwitchState
+  pub seat : SeatState
+
+-- a new valve
+abbrev pub new_valve_of : ℕ → SwitchState → SeatState → Valve
+new_valve_of node switch seat = record { phase = New; node = node; passed = 0; moves = []; switch = switch; seat = seat }
+
+abbrev pub valve_row : Valve → View → Type 0
+valve_row l v = OneOne (passing_row l.phase) v
+
+-- the number of an order among the moves
+abbrev pub number_of : Order → ℕ
+number_of Shutdown = 1
+number_of Abort = 2
+
+-- the moves of a valve that did this
+abbrev pub moves_by : Acted → List ℕ
+moves_by untouched = []
+moves_by (completed k) = 1 ∷ k ∷ []
+moves_by (aborted k) = 2 ∷ k ∷ []
+
+-- the order by which it did this
+abbrev pub order_by : Acted → Option Order
+order_by untouched = None
+order_by (completed k) = Some Shutdown
+order_by (aborted k) = Some Abort
+
+-- its seat is of its switch and gave nothing; it knows an order exactly where the moves say that the valve acted, and that one
+pub record IsValve (switch : SwitchState) (seat : SeatState) (moves : List ℕ) : Type 0 where
+  pub one : IsSeatOf switch seat
+  pub gave : seat.gave ≡ None
+  pub knows : seat.knows ≡ order_by (acted moves)
+  pub formed : moves ≡ moves_by (acted moves)
+
+-- what it owes, and what it did
+abbrev pub valve_held_in : Phase → ℕ → List ℕ → ValveHeld
+valve_held_in New n moves = valve.passes n
+valve_held_in Open n moves = valve.passes n
+valve_held_in Closed n moves = valve.shut (acted moves)
+
+abbrev pub valve_held : Valve → ValveHeld
+valve_held l = valve_held_in l.phase l.passed l.moves
+
+-- it was started, and did not act
+pub record IsPassing (l : Valve) : Type 0 where
+  pub open_ : l.phase ≡ Open
+  pub moves : l.moves ≡ []
+
+-- it looked, and found this: an order is noted with the number of elements that passed
+abbrev pub watched : Valve → Option Order → Valve
+watched l None = record l { seat = record l.seat { knows = None; looks = l.seat.looks + 1 } }
+watched l (Some o) = record l { moves = number_of o ∷ l.passed ∷ []; seat = record l.seat { knows = Some o; looks = l.seat.looks + 1 } }
+
+-- how it acts by an order: at its output, and at its input where that is open
+abbrev pub stop_act : ℕ → Order → Act
+stop_act node Shutdown = Complete 0
+stop_act node Abort = FailOut 0 (abort_of node)
+
+abbrev pub stop_acts : ℕ → Order → Bool → List Act
+stop_acts node o true = stop_act node o ∷ Cancel 0 ∷ []
+stop_acts node o false = stop_act node o ∷ []
+
+-- What a call owes: a step of the valve, by whatever its look found; one look; and after it its seat knows an order exactly
+-- where it has acted by it. What passed is counted where it goes on, and stays as it was where it closes.
+pub record ValveTurned (call : Call) (old : Valve) (acts : List Act) (new : Valve) : Type 0 where
+  pub turn : ValveTurnAt old.node call (valve_held old) (given_on 0 acts) (valve_held new)
+  pub node : new.node ≡ old.node
+  pub switch : new.switch ≡ old.switch
+  pub looks : new.seat.looks ≡ old.seat.looks + 1
+  pub valve : IsValve new.switch new.seat new.moves
+  pub going_on : new.phase ≡ Open → new.moves ≡ []
+  pub passed : new.phase ≡ Closed → new.passed ≡ old.passed
+  pub stands : AsksStand acts
+  pub started : new.phase ≢ New
+
+-- ---- a trip
+
+-- where it stands, its node, how many elements it took, the order that it gives and at which element, its switch and what its
+-- seat has
+pub record Trip : Type 0 where
+  pub phase : Phase
+  pub node : ℕ
+  pub taken : ℕ
+  pub order : Order
+  pub count : ℕ
+  pub switch : SwitchState
+  pub seat : SeatState
+
+-- a new trip
+abbrev pub new_trip_of : ℕ → Order → ℕ → SwitchState → SeatState → Trip
+new_trip_of node order count switch seat = record { phase = New; node = node; taken = 0; order = order; count = count; switch = switch; seat = seat }
+
+abbrev pub trip_row : Trip → View → Type 0
+trip_row l v = OneOne (passing_row l.phase) v
+
+abbrev pub trip_held_in : Phase → Stage → Held Stage
+trip_held_in New s = owing (record { gave = []; state = going s })
+trip_held_in Open s = owing (record { gave = []; state = going s })
+trip_held_in Closed s = shut
+
+-- its stage in the model, by any decider, since it never fails
+abbrev pub trip_stage : Decider → Trip → Stage
+trip_stage d l = record { node = l.node; decider = d; taken = l.taken; work = passing }
+
+-- what it owes
+abbrev pub trip_held : Decider → Trip → Held Stage
+trip_held d l = trip_held_in l.phase (trip_stage d l)
+
+-- its seat is of its switch; it gave an order only where the element came at which it gives it, and only that one; from then
+-- on it knows an order
+pub record IsTrip (order : Order) (count taken : ℕ) (switch : SwitchState) (seat : SeatState) : Type 0 where
+  pub one : IsSeatOf switch seat
+  pub gave : IfSome seat.gave (λ o. (o ≡ order) × (count ≤ taken))
+  pub knows : count ≤ taken → seat.knows ≢ None
+
+-- how many elements a call brings
+abbrev pub brought : Call → ℕ
+brought starts = 0
+brought (asks j) = 0
+brought (brings i (item.Elem e)) = 1
+brought (brings i item.Ended) = 0
+brought (brings i (item.Failed c)) = 0
+brought (cancels j) = 0
+
+-- one more element came: where it is the one at which it gives its order, that order is given, and else its seat does nothing
+pub record SeatStepped (old new : Trip) : Type 0 where
+  pub gives : old.taken + 1 ≡ old.count → (answer : Order) × Answers old.order answer old.seat new.seat
+  pub waits : old.taken + 1 ≢ old.count → new.seat ≡ old.seat
+
+-- what a call does at its seat
+abbrev pub SeatTurned : Call → Trip → Trip → Type 0
+SeatTurned (brings i (item.Elem e)) old new = SeatStepped old new
+SeatTurned call old new = new.seat ≡ old.seat
+
+-- What a call owes: one step of the machine that passes all on, by any book of plugs and any decider; its seat gave an order only where the element came, and knows
+-- one from then on.
+pub record TripTurned (call : Call) (old : Trip) (acts : List Act) (new : Trip) : Type 0 where
+  pub turn : (book : Book) (d : Decider) → TurnAt (linear book passing) 0 call (trip_held d old) (given_on 0 acts) (trip_held d new)
+  pub node : new.node ≡ old.node
+  pub order : new.order ≡ old.order
+  pub count : new.count ≡ old.count
+  pub taken : new.taken ≡ old.taken + brought call
+  pub at_seat : SeatTurned call old new
+  pub trip : IsTrip new.order new.count new.taken new.switch new.seat
+  pub switch : new.switch ≡ old.switch
+  pub stands : AsksStand acts
+  pub started : new.phase ≢ New

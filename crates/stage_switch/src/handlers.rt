@@ -1,0 +1,126 @@
+// A valve and a trip as the interpreter calls them: their calls keep the law of their histories and of their seats.
+ghost use Rattle.std.specs.Prelude.{[], ⊤};
+ghost use Rattle.stage_switch.specs.Handling.{ValveFresh, ValveRow, ValveAs, KeepsValve, TripFresh, TripRow, TripAs, KeepsTrip};
+
+use crate::laws::a_called_stage_is_open;
+use crate::trip::Trip;
+use crate::valve::{MOST_PASSED, Valve};
+use elem_core::elem::Elem;
+use elem_core::why::{Cause, NoMemory};
+use port_core::acts::Acts;
+use stage_core::stage::Stage;
+use std::alloc::{AllocError, Global};
+
+impl Stage for Valve {
+    ghost fresh = { ValveFresh };
+
+    ghost rests = { ValveRow };
+
+    ghost law = { ValveAs };
+
+    ghost asking = { λ l v. ⊤ };
+
+    ghost moves = { λ l. l.moves };
+
+    ghost keeps = { KeepsValve };
+
+    fn start(&mut self, _alloc: Global, acts: &mut Acts) -> Result<(), NoMemory> {
+        self.start(acts)
+    }
+
+    fn on_pull(&mut self, _alloc: Global, _port: u8, acts: &mut Acts) -> Result<(), NoMemory> {
+        a_called_stage_is_open();
+        self.on_pull(acts)
+    }
+
+    fn on_push(
+        &mut self,
+        _alloc: Global,
+        _port: u8,
+        e: Elem,
+        acts: &mut Acts,
+    ) -> Result<(), NoMemory> {
+        a_called_stage_is_open();
+        // No run has so many units of work; past them the number of elements may be no move.
+        if self.passed() >= MOST_PASSED {
+            return Err(AllocError);
+        }
+        self.on_push(e, acts)
+    }
+
+    fn on_finish(&mut self, _alloc: Global, _port: u8, acts: &mut Acts) -> Result<(), NoMemory> {
+        a_called_stage_is_open();
+        self.on_finish(acts)
+    }
+
+    fn on_fail(
+        &mut self,
+        _alloc: Global,
+        _port: u8,
+        cause: Cause,
+        acts: &mut Acts,
+    ) -> Result<(), NoMemory> {
+        a_called_stage_is_open();
+        self.on_fail(cause, acts)
+    }
+
+    fn on_cancel(&mut self, _alloc: Global, _port: u8, acts: &mut Acts) -> Result<(), NoMemory> {
+        a_called_stage_is_open();
+        self.on_cancel(acts)
+    }
+}
+
+impl Stage for Trip {
+    ghost fresh = { TripFresh };
+
+    ghost rests = { TripRow };
+
+    ghost law = { TripAs };
+
+    ghost asking = { λ l v. ⊤ };
+
+    ghost moves = { λ l. [] };
+
+    ghost keeps = { KeepsTrip };
+
+    fn start(&mut self, _alloc: Global, acts: &mut Acts) -> Result<(), NoMemory> {
+        self.start(acts)
+    }
+
+    fn on_pull(&mut self, _alloc: Global, _port: u8, acts: &mut Acts) -> Result<(), NoMemory> {
+        a_called_stage_is_open();
+        self.on_pull(acts)
+    }
+
+    fn on_push(
+        &mut self,
+        _alloc: Global,
+        _port: u8,
+        e: Elem,
+        acts: &mut Acts,
+    ) -> Result<(), NoMemory> {
+        a_called_stage_is_open();
+        self.on_push(e, acts)
+    }
+
+    fn on_finish(&mut self, _alloc: Global, _port: u8, acts: &mut Acts) -> Result<(), NoMemory> {
+        a_called_stage_is_open();
+        self.on_finish(acts)
+    }
+
+    fn on_fail(
+        &mut self,
+        _alloc: Global,
+        _port: u8,
+        cause: Cause,
+        acts: &mut Acts,
+    ) -> Result<(), NoMemory> {
+        a_called_stage_is_open();
+        self.on_fail(cause, acts)
+    }
+
+    fn on_cancel(&mut self, _alloc: Global, _port: u8, acts: &mut Acts) -> Result<(), NoMemory> {
+        a_called_stage_is_open();
+        self.on_cancel(acts)
+    }
+}

@@ -7,9 +7,9 @@ use mathlib.Core.Option.{some, some-injective, some-ne-none}
 use native.Mathlib.Decide.{ℕ_discrete}
 use lib.ListN.{get_elem?}
 use Rattle.atomic_table.specs.Table.{opening, Final, Seen}
-use Rattle.turn_table.specs.Sums.{total, times}
+use Rattle.turn_table.specs.Sums.{total, times, latest}
 use Rattle.turn_table.specs.Table.{hold, Fits, Orderly}
-use Rattle.turn_table.specs.Public.{first_held, first_found}
+use Rattle.turn_table.specs.Public.{first_held, first_found, first_began, first_woke}
 use Rattle.turn_table.specs.declared.hold.Hold.{Hold}
 use Rattle.turn_table.proofs.Totals.{terms_le, total-zero}
 
@@ -37,12 +37,12 @@ taken_all vs l n e h = e ∙ take_whole l n h
 pub popped : {A : Type 0} (P : A → Type 0) (r : Option A) (x : A) → IfSome r P → r ≡ Some x → P x
 popped {A} P r x p e = subst (λ (o : Option A). IfSome o P) e p
 
-pub seat_is : {C : Type 0} (m : Hold × List C) → m.0.held ≡ [] → m.0.out ≡ 0 → m.1 ≡ [] → m ≡ (hold m.0.parts [] 0 m.0.found, [])
-seat_is m h o e = λ i. (record { parts = m.0.parts; held = h i; out = o i; found = m.0.found }, e i)
+pub seat_is : {C : Type 0} (m : Hold × List C) → m.0.held ≡ [] → m.0.out ≡ 0 → m.1 ≡ [] → m ≡ (hold m.0.parts [] 0 m.0.found m.0.began m.0.woke, [])
+seat_is m h o e = λ i. (record { parts = m.0.parts; held = h i; out = o i; found = m.0.found; began = m.0.began; woke = m.0.woke }, e i)
 
--- a seat with one view is told by what that view holds and found
-pub own_views : (l : List Hold) (p : ℕ) (h : List ℕ) (f : List (ℕ × ℕ)) → l ≡ hold p h 0 f ∷ [] → l ≡ hold p (first_held l) 0 (first_found l) ∷ []
-own_views l p h f e = e ∙ (λ i. hold p (first_held (sym e i)) 0 (first_found (sym e i)) ∷ [])
+-- a seat with one view is told by what that view holds, found, began and woke
+pub own_views : (l : List Hold) (p : ℕ) (h : List ℕ) (f : List (ℕ × ℕ)) (b : List ℕ) (w : List (ℕ × ℕ)) → l ≡ hold p h 0 f b w ∷ [] → l ≡ hold p (first_held l) 0 (first_found l) (first_began l) (first_woke l) ∷ []
+own_views l p h f b w e = e ∙ (λ i. hold p (first_held (sym e i)) 0 (first_found (sym e i)) (first_began (sym e i)) (first_woke (sym e i)) ∷ [])
 
 pub map_snoc : {A B : Type 0} (f : A → B) (l : List A) (x : A) → map f (l ++ x ∷ []) ≡ map f l ++ f x ∷ []
 map_snoc f [] x = refl
@@ -73,17 +73,21 @@ there o [] k h = absurd (omega arith)
 there o (v ∷ vs) zero h = (v, refl, refl)
 there o (v ∷ vs) (suc k) h = there o vs k (omega arith)
 
-held_none : (seats id : ℕ) (v : Hold) → get_elem? (hold seats [] 0 [] ∷ []) id ≡ some v → v.held ≡ []
-held_none seats zero v e = ap (λ (z : Hold). z.held) (sym (some-injective (hold seats [] 0 []) v e))
+held_none : (seats id : ℕ) (v : Hold) → get_elem? (hold seats [] 0 [] [] [] ∷ []) id ≡ some v → v.held ≡ []
+held_none seats zero v e = ap (λ (z : Hold). z.held) (sym (some-injective (hold seats [] 0 [] [] []) v e))
 held_none seats (suc id) v e = absurd (some-ne-none v (sym e))
 
-none_held : (seats id : ℕ) (v : Hold) (k : ℕ) → get_elem? (hold seats [] 0 [] ∷ []) id ≡ some v → ¬ (0 < times k v.held)
+none_woke : (seats id : ℕ) (v : Hold) (k : ℕ) → get_elem? (hold seats [] 0 [] [] [] ∷ []) id ≡ some v → latest k v.woke ≡ 0
+none_woke seats zero v k e = ap (λ (z : Hold). latest k z.woke) (sym (some-injective (hold seats [] 0 [] [] []) v e))
+none_woke seats (suc id) v k e = absurd (some-ne-none v (sym e))
+
+none_held : (seats id : ℕ) (v : Hold) (k : ℕ) → get_elem? (hold seats [] 0 [] [] [] ∷ []) id ≡ some v → ¬ (0 < times k v.held)
 none_held seats id v k e h = let gone = ap (times k) (held_none seats id v e) in omega arith
 
 pub opens : {T O : Type 0} (o : T → O) (vs : List T) (seats : ℕ) (words : List ℕ) (slots : List (Option T)) → words ≡ replicate (length vs) 0 → slots ≡ map Some vs
-    → Orderly (Fits o vs) (length vs) seats (opening words slots (hold seats [] 0 []))
-opens {T} o vs seats words slots we se = subst (λ (ws : List ℕ). Orderly (Fits o vs) (length vs) seats (opening ws slots (hold seats [] 0 []))) (sym we)
-    (subst (λ (xs : List (Option T)). Orderly (Fits o vs) (length vs) seats (opening (replicate (length vs) 0) xs (hold seats [] 0 []))) (sym se)
+    → Orderly (Fits o vs) (length vs) seats (opening words slots (hold seats [] 0 [] [] []))
+opens {T} o vs seats words slots we se = subst (λ (ws : List ℕ). Orderly (Fits o vs) (length vs) seats (opening ws slots (hold seats [] 0 [] [] []))) (sym we)
+    (subst (λ (xs : List (Option T)). Orderly (Fits o vs) (length vs) seats (opening (replicate (length vs) 0) xs (hold seats [] 0 [] [] []))) (sym se)
     (let n = length vs in let zero_at : (k : ℕ) → k < n → get_or (replicate n 0) k 0 ≡ 0 = λ k h. get_or-replicate n k 0 0 h in
     record {
       wide = length-replicate n 0;
@@ -92,6 +96,8 @@ opens {T} o vs seats words slots we se = subst (λ (ws : List ℕ). Orderly (Fit
       once = λ k h. sym (ap (λ (y : ℕ). y / 2) (zero_at k h));
       home = λ k h e. there o vs k h;
       lent = λ id v k e h some_turn far. absurd (none_held seats id v k e some_turn);
+      past = λ id v k e h. let none = none_woke seats id v k e in omega arith;
+      ready = λ id v k e h is. absurd (let none = none_woke seats id v k e in omega arith);
       parts = omega arith;
       idle = λ id v e none_left. held_none seats id v e;
     }))

@@ -1,13 +1,17 @@
 -- The rule of a turn table, and what its steps tell. Each place has a word: READY is 1 and RUNNING is 2. Rule: own.
-use Rattle.std.specs.Prelude.{◌≡◌, ◌≢◌, ℕ, suc, ◌/◌, ◌<◌, List, [], ◌∷◌, map, length, slice_index, slice_get, Option, None, Some}
+use Rattle.std.specs.Prelude.{◌≡◌, ◌≢◌, ℕ, suc, ◌/◌, ◌%◌, ◌<◌, ◌≤◌, List, [], ◌∷◌, map, length, slice_index, slice_get, Option, None, Some}
 use mathlib.Core.Option.{some}
 use lib.ListN.{get_elem?}
 use Rattle.atomic_table.specs.Table.{State, Me, Step, rest}
-use Rattle.turn_table.specs.Sums.{total, times, without}
+use Rattle.turn_table.specs.Sums.{total, times, latest, without}
 use Rattle.turn_table.specs.declared.hold.Hold.{Hold}
 
-abbrev pub hold : ℕ → List ℕ → ℕ → List (ℕ × ℕ) → Hold
-hold parts held out found = record { parts = parts; held = held; out = out; found = found }
+abbrev pub hold : ℕ → List ℕ → ℕ → List (ℕ × ℕ) → List ℕ → List (ℕ × ℕ) → Hold
+hold parts held out found began woke = record { parts = parts; held = held; out = out; found = found; began = began; woke = woke }
+
+-- how many turns of the place k have begun on these seats
+abbrev pub turns_begun : ℕ → List Hold → ℕ
+turns_begun k views = total (λ (v : Hold). times k v.began) views
 
 -- the origin of x is that of the value which was handed in for the place k
 abbrev pub Fits : {T O : Type 0} → (T → O) → List T → ℕ → T → Type 0
@@ -23,6 +27,10 @@ module _ {T : Type 0} (fits : ℕ → T → Type 0) (n seats : ℕ) where
     pub home : (k : ℕ) → k < n → slice_index s.words k / 2 ≡ 0 → (x : T) × (get_elem? s.homes k ≡ some (some (Some x))) × fits k x
     -- the slot of a turn that is out is empty, or with the seat
     pub lent : (id : ℕ) (v : Hold) (k : ℕ) → get_elem? s.views id ≡ some v → k < n → 0 < times k v.held → v.out ≢ suc k → get_elem? s.homes k ≡ some (some None)
+    -- READY is set from a wake of a place to the next begin of its turn: at no wake more turns had begun than have now, and
+    -- where none has begun since it is set
+    pub past : (id : ℕ) (v : Hold) (k : ℕ) → get_elem? s.views id ≡ some v → k < n → latest k v.woke ≤ suc (turns_begun k s.views)
+    pub ready : (id : ℕ) (v : Hold) (k : ℕ) → get_elem? s.views id ≡ some v → k < n → latest k v.woke ≡ suc (turns_begun k s.views) → slice_index s.words k % 2 ≡ 1
     pub parts : total (λ (v : Hold). v.parts) s.views ≡ seats
     pub idle : (id : ℕ) (v : Hold) → get_elem? s.views id ≡ some v → v.parts ≡ 0 → v.held ≡ []
 
@@ -30,24 +38,24 @@ abbrev pub Sat : Type 0 → Type 0
 Sat T = Me (Option T) Hold
 
 module _ {T : Type 0} where
-  -- the or of READY: no value moves
+  -- the or of READY: no value moves, and the wake is noted with how many turns of the place have begun
   abbrev pub woken : Step (Option T) → Sat T → ℕ → Sat T → Type 0
-  woken st m r n = n ≡ (hold m.0.parts m.0.held m.0.out ((st.word, r) ∷ m.0.found), m.1)
+  woken st m r n = (turns : ℕ) × (n ≡ (hold m.0.parts m.0.held m.0.out ((st.word, r) ∷ m.0.found) m.0.began ((st.word, turns) ∷ m.0.woke), m.1))
 
   -- the exchange of READY to RUNNING takes the value out of its slot
   abbrev pub begun : (ℕ → T → Type 0) → Step (Option T) → Sat T → ℕ → Sat T → Type 0
   begun fits st m r n =
-      (r ≡ st.first → (x : T) × (n ≡ (hold m.0.parts (st.word ∷ m.0.held) (suc st.word) ((st.word, r) ∷ m.0.found), (st.word, Some x) ∷ m.1)) × fits st.word x)
-      × (r ≢ st.first → n ≡ (hold m.0.parts m.0.held m.0.out ((st.word, r) ∷ m.0.found), m.1))
+      (r ≡ st.first → (x : T) × (n ≡ (hold m.0.parts (st.word ∷ m.0.held) (suc st.word) ((st.word, r) ∷ m.0.found) (st.word ∷ m.0.began) m.0.woke, (st.word, Some x) ∷ m.1)) × fits st.word x)
+      × (r ≢ st.first → n ≡ (hold m.0.parts m.0.held m.0.out ((st.word, r) ∷ m.0.found) m.0.began m.0.woke, m.1))
 
   -- the empty slot is given back
   abbrev pub left : Step (Option T) → Sat T → ℕ → Sat T → Type 0
-  left st m r n = n ≡ (hold m.0.parts m.0.held 0 m.0.found, rest m.1)
+  left st m r n = n ≡ (hold m.0.parts m.0.held 0 m.0.found m.0.began m.0.woke, rest m.1)
 
   -- the empty slot is taken again
   abbrev pub fetched : Step (Option T) → Sat T → ℕ → Sat T → Type 0
-  fetched st m r n = n ≡ (hold m.0.parts m.0.held (suc st.word) m.0.found, (st.word, None) ∷ m.1)
+  fetched st m r n = n ≡ (hold m.0.parts m.0.held (suc st.word) m.0.found m.0.began m.0.woke, (st.word, None) ∷ m.1)
 
   -- the value is back in its slot, and the word no longer has RUNNING
   abbrev pub ended : Step (Option T) → Sat T → ℕ → Sat T → Type 0
-  ended st m r n = n ≡ (hold m.0.parts (without st.word m.0.held) 0 ((st.word, r) ∷ m.0.found), rest m.1)
+  ended st m r n = n ≡ (hold m.0.parts (without st.word m.0.held) 0 ((st.word, r) ∷ m.0.found) m.0.began m.0.woke, rest m.1)

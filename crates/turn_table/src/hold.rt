@@ -14,6 +14,10 @@ pub struct Hold {
     pub ghost out: { ℕ },
     /// Each step that it made for a wake, a begin or an end: the place, and the word that was found there. The latest first.
     pub ghost found: { List (ℕ × ℕ) },
+    /// The place of each turn that ever began on it. The latest first.
+    pub ghost began: { List ℕ },
+    /// Of each wake that it made: the place, and how many turns of that place had begun by then. The latest first.
+    pub ghost woke: { List (ℕ × ℕ) },
 }
 
 impl Model for Hold {

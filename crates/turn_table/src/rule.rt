@@ -34,7 +34,7 @@ pub struct Order<T> {
 impl<T: Kept> TableRule<Option<T>, Hold, Plan<T>> for Order<T> {
     ghost holds = { λ plan. Orderly (Fits T.origin plan.values.value.items) (length plan.values.value.items) plan.seats };
 
-    ghost first = { λ plan. hold plan.seats [] 0 [] };
+    ghost first = { λ plan. hold plan.seats [] 0 [] [] [] };
 }
 
 /// Which values a step may tell of. A call picks it.
@@ -88,13 +88,13 @@ impl<T> Play<Option<T>, Hold> for End {
 pub struct Deal;
 
 impl Split<Hold> for Deal {
-    ghost left = { λ v. hold (v.parts - 1) v.held v.out v.found };
+    ghost left = { λ v. hold (v.parts - 1) v.held v.out v.found v.began v.woke };
 
-    ghost right = { λ v. hold 1 [] 0 [] };
+    ghost right = { λ v. hold 1 [] 0 [] [] [] };
 }
 
 impl Join<Hold> for Deal {
-    ghost both = { λ v w. hold (v.parts + w.parts) v.held v.out v.found };
+    ghost both = { λ v w. hold (v.parts + w.parts) v.held v.out v.found (v.began ++ w.began) v.woke };
 
-    ghost spent = { hold 0 [] 0 [] };
+    ghost spent = { hold 0 [] 0 [] [] [] };
 }

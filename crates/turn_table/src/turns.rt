@@ -54,7 +54,7 @@ impl<T> Turn<T> {
 }
 
 impl<T: Kept> Turns<T> {
-    ghost use Rattle.turn_table.specs.Public.{turns_of, found_by, Finds, handed_in, seats_of, IsSeatOf, IsFree};
+    ghost use Rattle.turn_table.specs.Public.{turns_of, found_by, began_by, woke_by, NoneBegan, Woke, Finds, handed_in, seats_of, IsSeatOf, IsFree};
 
     /// A table of these values, at places from 0, each in its slot and not wanted, and so many seats, on which no turn has begun.
     /// Where memory was wanting the values are dropped. Rule: own.
@@ -93,7 +93,7 @@ impl<T: Kept> Turns<T> {
         mut seats: Vec<TurnSeat>,
     ) -> Vec<TurnSeat>
         requires count { 0 < count }
-        requires first { (first.table_id ≡ self.now.table.shared.table_id) × (first.me ≡ (hold count [] 0 [], [])) }
+        requires first { (first.table_id ≡ self.now.table.shared.table_id) × (first.me ≡ (hold count [] 0 [] [] [], [])) }
         requires inside { 0 < length (handed_in self.now) }
         requires room { (seats.items ≡ []) × (count ≤ vec_capacity seats) }
         ensures { (vec_len result ≡ count) × All (IsFree self.now) result.items }
@@ -129,7 +129,7 @@ impl<T: Kept> Turns<T> {
     fn gather(&self, mut seats: Vec<TurnSeat>) -> Seat<Option<T>, Hold>
         requires some { (0 < vec_len seats) × (0 < length (handed_in self.now)) }
         requires free { All (IsFree self.now) seats.items }
-        ensures { (result.table_id ≡ self.now.table.shared.table_id) × (result.me ≡ (hold (vec_len seats) [] 0 result.me.0.found, [])) }
+        ensures { (result.table_id ≡ self.now.table.shared.table_id) × (result.me ≡ (hold (vec_len seats) [] 0 result.me.0.found result.me.0.began result.me.0.woke, [])) }
     {
         let mut all = seats.pop().unwrap().badge.into_seat();
         while let Some(TurnSeat { badge }) = seats.pop() {
@@ -147,6 +147,7 @@ impl<T: Kept> Turns<T> {
         requires inside { id < length (handed_in self.now) }
         ensures seat { IsSeatOf self.now seat.new × (turns_of seat.new ≡ turns_of seat.old) }
         ensures found { Finds id (λ w. result ≡ (w == 0)) seat.old seat.new }
+        ensures woke { Woke id seat.old seat.new }
     {
         let mut mine = replace(&mut seat.badge, Badge::blank()).into_seat();
         let found = self
@@ -163,8 +164,8 @@ impl<T: Kept> Turns<T> {
         requires seat { IsSeatOf self.now seat.old }
         requires inside { id < length (handed_in self.now) }
         ensures seat { IsSeatOf self.now seat.new }
-        ensures turn { IfOk result (λ t. (t.id ≡ id) × Fits T.origin (handed_in self.now) id t.value × (turns_of seat.new ≡ id ∷ turns_of seat.old) × (found_by seat.new ≡ (id, 1) ∷ found_by seat.old)) }
-        ensures none { IfErr result (λ w. (w ≢ 1) × (turns_of seat.new ≡ turns_of seat.old) × (found_by seat.new ≡ (id, w) ∷ found_by seat.old)) }
+        ensures turn { IfOk result (λ t. (t.id ≡ id) × Fits T.origin (handed_in self.now) id t.value × (turns_of seat.new ≡ id ∷ turns_of seat.old) × (found_by seat.new ≡ (id, 1) ∷ found_by seat.old) × (began_by seat.new ≡ id ∷ began_by seat.old) × (woke_by seat.new ≡ woke_by seat.old)) }
+        ensures none { IfErr result (λ w. (w ≢ 1) × (turns_of seat.new ≡ turns_of seat.old) × (found_by seat.new ≡ (id, w) ∷ found_by seat.old) × NoneBegan seat.old seat.new) }
     {
         let mut mine = replace(&mut seat.badge, Badge::blank()).into_seat();
         let taken = self.take_out::<Brand>(&mut mine, id);
@@ -176,11 +177,11 @@ impl<T: Kept> Turns<T> {
     /// The value out of its slot, which stays in the table.
     fn take_out<J: Told<T>>(&self, mine: &mut Seat<Option<T>, Hold>, id: u32) -> Result<T, u64>
         requires told { J.values ≡ handed_in self.now }
-        requires seat { (mine.old.table_id ≡ self.now.table.shared.table_id) × (mine.old.me ≡ (hold 1 mine.old.me.0.held 0 mine.old.me.0.found, [])) }
+        requires seat { (mine.old.table_id ≡ self.now.table.shared.table_id) × (mine.old.me ≡ (hold 1 mine.old.me.0.held 0 mine.old.me.0.found mine.old.me.0.began mine.old.me.0.woke, [])) }
         requires inside { id < length (handed_in self.now) }
         ensures seat { (mine.new.table_id ≡ mine.old.table_id) × (mine.new.id ≡ mine.old.id) }
-        ensures taken { IfOk result (λ x. Fits T.origin (handed_in self.now) id x × (mine.new.me ≡ (hold 1 (id ∷ mine.old.me.0.held) 0 ((id, 1) ∷ mine.old.me.0.found), []))) }
-        ensures none { IfErr result (λ w. (w ≢ 1) × (mine.new.me ≡ (hold 1 mine.old.me.0.held 0 ((id, w) ∷ mine.old.me.0.found), []))) }
+        ensures taken { IfOk result (λ x. Fits T.origin (handed_in self.now) id x × (mine.new.me ≡ (hold 1 (id ∷ mine.old.me.0.held) 0 ((id, 1) ∷ mine.old.me.0.found) (id ∷ mine.old.me.0.began) mine.old.me.0.woke, []))) }
+        ensures none { IfErr result (λ w. (w ≢ 1) × (mine.new.me ≡ (hold 1 mine.old.me.0.held 0 ((id, w) ∷ mine.old.me.0.found) mine.old.me.0.began mine.old.me.0.woke, []))) }
     {
         let shared = &self.table.shared;
         let at = id as usize;
@@ -202,6 +203,7 @@ impl<T: Kept> Turns<T> {
         requires origin { Fits T.origin (handed_in self.now) turn.id turn.value }
         ensures seat { IsSeatOf self.now seat.new × (turns_of seat.new ≡ without turn.id (turns_of seat.old)) }
         ensures found { Finds turn.id (λ w. result ≡ (w % 2 == 1)) seat.old seat.new }
+        ensures none { NoneBegan seat.old seat.new }
     {
         let Turn { id, value } = turn;
         let shared = &self.table.shared;

@@ -21,15 +21,15 @@ loop-preserved g c =
       omega (arith, inv.3, c.push_reserved.ensures.len),
       c.push_reserved.ensures.capacity ∙ inv.4,
       All-same (IsFree c.args.self.now) _ _ c.push_reserved.ensures.items
-          (All-push (IsFree c.args.self.now) _ _ inv.5 ((badge.0 ∙ split.3 ∙ inv.0, own_views _ _ _ _ views), none)),
+          (All-push (IsFree c.args.self.now) _ _ inv.5 ((badge.0 ∙ split.3 ∙ inv.0, own_views _ _ _ _ _ _ views), none)),
     )
 
 pub returns : goal.returns
 returns g c =
     let inv = c.loop.invariant in let sum = inv.2 in let over = c.loop-test.false in let least = inv.3 in let auto = c.loop.auto.counter-end in
     let badge = c.into_badge-2.ensures in let one : c.loop.first.me.0.parts ≡ 1 = omega arith in
-    let views = badge.2 ∙ ap (λ m. m.0 ∷ []) inv.1 ∙ ap (λ p. hold p [] 0 c.loop.first.me.0.found ∷ []) one in let none = ap first_held views in (
+    let views = badge.2 ∙ ap (λ m. m.0 ∷ []) inv.1 ∙ ap (λ p. hold p [] 0 c.loop.first.me.0.found c.loop.first.me.0.began c.loop.first.me.0.woke ∷ []) one in let none = ap first_held views in (
       omega (arith, c.push_reserved-2.ensures.len),
       All-same (IsFree c.args.self.now) _ _ c.push_reserved-2.ensures.items
-          (All-push (IsFree c.args.self.now) _ _ inv.5 ((badge.0 ∙ inv.0, own_views _ _ _ _ views), none)),
+          (All-push (IsFree c.args.self.now) _ _ inv.5 ((badge.0 ∙ inv.0, own_views _ _ _ _ _ _ views), none)),
     )

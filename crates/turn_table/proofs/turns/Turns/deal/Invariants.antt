@@ -9,7 +9,7 @@ use Rattle.turn_table.proofs.turns.Turns.deal.Given as goal
 abbrev pub invariant-loop : goal.invariant-loop
 invariant-loop g l =
     (l.first.table_id ≡ l.fn.self.table.shared.table_id)
-    × (l.first.me ≡ (hold l.first.me.0.parts [] 0 l.first.me.0.found, []))
+    × (l.first.me ≡ (hold l.first.me.0.parts [] 0 l.first.me.0.found l.first.me.0.began l.first.me.0.woke, []))
     × (l.first.me.0.parts + l.counter ≡ l.fn.count + 1)
     × (vec_len l.seats + 1 ≡ l.counter)
     × (vec_capacity l.seats ≡ vec_capacity l.fn.seats)

@@ -9,7 +9,7 @@ use Rattle.turn_table.proofs.turns.Turns.gather.Given as goal
 abbrev pub invariant-loop-badge : goal.invariant-loop-badge
 invariant-loop-badge g l =
     (l.all.table_id ≡ l.fn.self.table.shared.table_id)
-    × (l.all.me ≡ (hold l.all.me.0.parts [] 0 l.all.me.0.found, []))
+    × (l.all.me ≡ (hold l.all.me.0.parts [] 0 l.all.me.0.found l.all.me.0.began l.all.me.0.woke, []))
     × (l.all.me.0.parts + vec_len l.seats ≡ vec_len l.fn.seats)
     × All (IsFree l.fn.self) l.seats.items
 

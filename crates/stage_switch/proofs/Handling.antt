@@ -28,18 +28,12 @@ use Rattle.stage_fans.proofs.Histories.{in_node, ins_seen, ins_acted, begun}
 use Rattle.stage_linear.specs.declared.phase.Phase.{Phase}
 use Rattle.stage_linear.specs.declared.phase.Phase.TheVariants.{New, Open, Closed}
 use Rattle.stage_switch.specs.Valves.{ValveHeld, passes, ValveTurnAt, ValveKeeps, ValveLaw}
-use Rattle.stage_switch.specs.States.{passing_row, Valve, valve_row, valve_held, valve_held_in, ValveTurned, brought, Trip, trip_row, trip_held, trip_held_in, trip_stage, TripTurned}
+use Rattle.stage_switch.specs.States.{passing_row, Valve, Unmoved, valve_row, valve_held, valve_held_in, ValveTurned, brought, Trip, trip_row, trip_held, trip_held_in, trip_stage, TripTurned}
 use Rattle.stage_switch.specs.Handling.{ValveFresh, ValveRow, ValveAs, KeepsValve, elements, TripFresh, TripRow, TripAs, KeepsTrip}
 use Rattle.stage_switch.proofs.ValveTurns.{valve_new, valve_call}
-use Rattle.stage_switch.proofs.Rows.{called_valve}
+use Rattle.stage_switch.proofs.Rows.{called_valve, none_new, none_open}
 
 -- ---- a valve
-
--- it made no move while it is not closed
-unmoved_by : (p : Phase) {moves : List ℕ} → p ≢ New → (p ≡ Open → moves ≡ []) → p ≢ Closed → moves ≡ []
-unmoved_by New s h n = absurd (s refl)
-unmoved_by Open s h n = h refl
-unmoved_by Closed s h n = absurd (n refl)
 
 valve_keeps_ports : (call : Call) (node : ℕ) (old new : Valve) (v : View) (took gave : List (List Item)) (acts : List Act) → CallAllowed call v → ActsAllowed (seen call v) acts → ValveTurnAt node call (valve_held old) (given_on 0 acts) (valve_held new)
     → InPortsLaw (ValveKeeps node (valve_held old)) v took gave → InPortsLaw (ValveKeeps node (valve_held new)) (acted_all (seen call v) acts) (histories.brought_by call took) (histories.given_all acts gave)
@@ -47,24 +41,24 @@ valve_keeps_ports call node old new v took gave acts may allowed turn law =
     in_node (ValveKeeps node (valve_held old)) (ValveKeeps node (valve_held new)) call v (acted_all (seen call v) acts) took gave acts (ins_acted acts (seen call v) ∙ ins_seen call v)
     (λ given l. valve_call node call (valve_held old) (valve_held new) v (λ i. slice_index_or took i []) given acts may allowed turn l) law
 
-valve_after : (call : Call) (first old new : Valve) (v : View) (acts : List Act) (took gave : List (List Item)) → CallAllowed call v → ActsAllowed (seen call v) acts → ValveTurned call old acts new → ValveAs first old v took gave
+valve_after : (call : Call) (first old new : Valve) (v : View) (acts : List Act) (took gave : List (List Item)) → CallAllowed call v → ActsAllowed (seen call v) acts → ValveTurned call old acts new → Unmoved new.phase new.moves → ValveAs first old v took gave
     → ValveAs first new (acted_all (seen call v) acts) (histories.brought_by call took) (histories.given_all acts gave)
-valve_after call first old new v acts took gave may allowed t law = record {
+valve_after call first old new v acts took gave may allowed t unmoved law = record {
   by = valve_keeps_ports call first.node old new v took gave acts may allowed (subst (λ (n : ℕ). ValveTurnAt n call (valve_held old) (given_on 0 acts) (valve_held new)) law.node t.turn) law.by;
   node = t.node ∙ law.node;
   switch = t.switch ∙ law.switch;
   valve = t.valve;
-  unmoved = λ n. unmoved_by new.phase t.started t.going_on n;
+  unmoved = unmoved;
 }
 
 pub valve_handled : (call : Call) (old new : Valve) (acts : List Act) → Obeys call (valve_row old) (valve_row new) acts → ValveTurned call old acts new → Handles ValveRow ValveAs call old new acts
 valve_handled call old new acts o t = record {
   obeys = record {
     allowed = λ v h r. o.allowed v h r.row;
-    row = λ v h r. record { started = t.started; moves = t.going_on; row = o.row v h r.row };
+    row = λ v h r. record { started = t.started; row = o.row v h r.row };
   };
   stands = t.stands;
-  keeps = λ first v took gave h r law. valve_after call first old new v acts took gave h (o.allowed v h r.row) t law;
+  keeps = λ first v took gave h r law. valve_after call first old new v acts took gave h (o.allowed v h r.row) t (o.row v h r.row).1 law;
 }
 
 -- its ports are open and not asked
@@ -76,7 +70,7 @@ new_ports Closed x y e r = cc
 
 valve_begun : (l : Valve) (v : View) (took gave : List (List Item)) → ValveFresh l v → histories.AllEmpty took → histories.AllEmpty gave → length took ≡ length v.ins → length gave ≡ length v.outs → ValveAs l l v took gave
 valve_begun l v took gave f a b m n =
-    let p = fresh_ports (passing_row l.phase) v.ins v.outs took gave f.row a b m n in
+    let p = fresh_ports (passing_row l.phase) v.ins v.outs took gave f.row.0 a b m n in
     let ports = new_ports l.phase p.x p.y f.phase p.holds in
     let open_out : GaveAs (out_at v 0) unended = rw (p.outs, ports.1) refl in
     let idle : AllIdle v.ins = rw (p.ins, ports.0) (refl, tt) in
@@ -87,17 +81,17 @@ valve_begun l v took gave f a b m n =
       node = refl;
       switch = refl;
       valve = f.valve;
-      unmoved = λ _. f.moves;
+      unmoved = f.row.1;
     }
 
 pub valve_started : (old new : Valve) (acts : List Act) → Obeys starts (valve_row old) (valve_row new) acts → ValveTurned starts old acts new → Starts ValveRow ValveAs ValveFresh old new acts
 valve_started old new acts o t = record {
   obeys = record {
     allowed = λ v h f. o.allowed v h f.row;
-    row = λ v h f. record { started = t.started; moves = t.going_on; row = o.row v h f.row };
+    row = λ v h f. record { started = t.started; row = o.row v h f.row };
   };
   stands = t.stands;
-  begins = λ v took gave h f a b m n. valve_after starts old old new v acts took gave h (o.allowed v h f.row) t (valve_begun old v took gave f a b m n);
+  begins = λ v took gave h f a b m n. valve_after starts old old new v acts took gave h (o.allowed v h f.row) t (o.row v h f.row).1 (valve_begun old v took gave f a b m n);
 }
 
 -- ---- a trip
@@ -191,7 +185,7 @@ trip_started old new acts o t = record {
 -- ---- a call of a handler is of the one input or output
 
 pub valve_met : (call : Call) (l : Valve) → Meets call (ValveRow l) → Meets (at_first call) (valve_row l)
-valve_met call l m = subst (λ c. Meets c (valve_row l)) (sym (first_port (passing_row l.phase) call m.0 m.1.0 m.1.1.row)) (m.0, (m.1.0, m.1.1.row))
+valve_met call l m = subst (λ c. Meets c (valve_row l)) (sym (first_port (passing_row l.phase) call m.0 m.1.0 m.1.1.row.0)) (m.0, (m.1.0, m.1.1.row))
 
 pub trip_met : (call : Call) (l : Trip) → Meets call (TripRow l) → Meets (at_first call) (trip_row l)
 trip_met call l m = subst (λ c. Meets c (trip_row l)) (sym (first_port (passing_row l.phase) call m.0 m.1.0 m.1.1.row)) (m.0, (m.1.0, m.1.1.row))
@@ -199,7 +193,7 @@ trip_met call l m = subst (λ c. Meets c (trip_row l)) (sym (first_port (passing
 pub valve_handles : {T E : Type 0} (call : Call) (old new : Valve) (acts : List Act) (r : Result T E) → Meets call (ValveRow old) → OnOk r (Obeys (at_first call) (valve_row old) (valve_row new) acts) → OnOk r (ValveTurned (at_first call) old acts new)
     → OnOk r (Handles ValveRow ValveAs call old new acts)
 valve_handles call old new acts r m o t =
-    subst (λ c. OnOk r (Handles ValveRow ValveAs c old new acts)) (first_port (passing_row old.phase) call m.0 m.1.0 m.1.1.row) (on_ok_two r o t (λ a b. valve_handled (at_first call) old new acts a b))
+    subst (λ c. OnOk r (Handles ValveRow ValveAs c old new acts)) (first_port (passing_row old.phase) call m.0 m.1.0 m.1.1.row.0) (on_ok_two r o t (λ a b. valve_handled (at_first call) old new acts a b))
 
 pub trip_handles : {T E : Type 0} (call : Call) (old new : Trip) (acts : List Act) (r : Result T E) → Meets call (TripRow old) → OnOk r (Obeys (at_first call) (trip_row old) (trip_row new) acts) → OnOk r (TripTurned (at_first call) old acts new)
     → OnOk r (Handles TripRow TripAs call old new acts)
@@ -221,15 +215,15 @@ valve_same old new e = rw e record { node = refl; switch = refl; moves = prefix_
 
 -- its start
 pub valve_begins : {T E : Type 0} (old new : Valve) (acts : List Act) (r : Result T E) → Meets starts (ValveFresh old) → OnOk r (ValveTurned starts old acts new) → OnOk r (IsPrefix old.moves new.moves)
-valve_begins old new acts r m t = grown starts old new acts r m.1.1.moves t
+valve_begins old new acts r m t = grown starts old new acts r (none_new starts old m.1.1.phase (m.0, (m.1.0, m.1.1.row))) t
 
 pub valve_start_keeps : {T E : Type 0} (X : Type 0) (old new : Valve) (acts : List Act) (r : Result T E) → Meets starts (ValveFresh old) → OnOk r (ValveTurned starts old acts new) → OnErr r ((new ≡ old) × X) → KeepsValve old new
-valve_start_keeps X old new acts (Ok x) m t e = record { node = t.node; switch = t.switch; moves = begins_with new.moves old.moves m.1.1.moves; valve = λ h. t.valve }
+valve_start_keeps X old new acts (Ok x) m t e = record { node = t.node; switch = t.switch; moves = begins_with new.moves old.moves (none_new starts old m.1.1.phase (m.0, (m.1.0, m.1.1.row))); valve = λ h. t.valve }
 valve_start_keeps X old new acts (Err x) m t e = valve_same old new e.0
 
 -- a further call
 pub valve_grows : {T E : Type 0} (call : Call) (old new : Valve) (acts : List Act) (r : Result T E) → call ≢ starts → Meets call (ValveRow old) → OnOk r (ValveTurned (at_first call) old acts new) → OnOk r (IsPrefix old.moves new.moves)
-valve_grows call old new acts r s m t = grown (at_first call) old new acts r (called_valve old call m.0 s m.1.0 m.1.1).moves t
+valve_grows call old new acts r s m t = grown (at_first call) old new acts r (none_open call old (called_valve old call m.0 s m.1.0 m.1.1) (m.0, (m.1.0, m.1.1.row))) t
 
 pub valve_keeps : {T E : Type 0} (X : Type 0) (old new : Valve) (r : Result T E) → OnErr r ((new ≡ old) × X) → OnErr r (KeepsValve old new)
 valve_keeps X old new (Ok x) e = tt

@@ -22,20 +22,20 @@ use Rattle.stage_law.proofs.Whole.{stage_agrees}
 use Rattle.stage_linear.specs.declared.phase.Phase.{Phase}
 use Rattle.stage_linear.specs.declared.phase.Phase.TheVariants.{New, Open, Closed}
 use Rattle.stage_switch.specs.Valves.{did, GaveUpTo, ValveKeeps, ValveStandsOf}
-use Rattle.stage_switch.specs.States.{Valve, valve_held, valve_held_in, moves_by, IsValve, Trip}
+use Rattle.stage_switch.specs.States.{Valve, Unmoved, valve_held, valve_held_in, moves_by, IsValve, Trip}
 use Rattle.stage_switch.specs.Handling.{ValveAs, elements, TripAs, trip_kind}
 use Rattle.stage_switch.proofs.ValveTurns.{valve_stands}
 
 -- ---- what a valve did
 
-did_by : (p : Phase) (n : ℕ) (moves : List ℕ) → (p ≢ Closed → moves ≡ []) → did (valve_held_in p n moves) ≡ acted moves
-did_by New n moves h = let e = h (λ c. cc) in sym (ap acted e)
-did_by Open n moves h = let e = h (λ c. cc) in sym (ap acted e)
+did_by : (p : Phase) (n : ℕ) (moves : List ℕ) → Unmoved p moves → did (valve_held_in p n moves) ≡ acted moves
+did_by New n moves h = sym (ap acted h)
+did_by Open n moves h = sym (ap acted h)
 did_by Closed n moves h = refl
 
-upto_by : (node : ℕ) (p : Phase) (n : ℕ) (moves : List ℕ) (ins : List Inflow) (g : List Tree) (e : End) → (p ≢ Closed → moves ≡ []) → ValveKeeps node (valve_held_in p n moves) ins g e → GaveUpTo (acted moves) (length g)
-upto_by node New n moves ins g e h k = subst (λ (ms : List ℕ). GaveUpTo (acted ms) (length g)) (sym (h (λ c. cc))) tt
-upto_by node Open n moves ins g e h k = subst (λ (ms : List ℕ). GaveUpTo (acted ms) (length g)) (sym (h (λ c. cc))) tt
+upto_by : (node : ℕ) (p : Phase) (n : ℕ) (moves : List ℕ) (ins : List Inflow) (g : List Tree) (e : End) → Unmoved p moves → ValveKeeps node (valve_held_in p n moves) ins g e → GaveUpTo (acted moves) (length g)
+upto_by node New n moves ins g e h k = subst (λ (ms : List ℕ). GaveUpTo (acted ms) (length g)) (sym h) tt
+upto_by node Open n moves ins g e h k = subst (λ (ms : List ℕ). GaveUpTo (acted ms) (length g)) (sym h) tt
 upto_by node Closed n moves [] g e h k = absurd k
 upto_by node Closed n moves (f ∷ []) g e h k = k.1
 upto_by node Closed n moves (f ∷ i ∷ fs) g e h k = absurd k

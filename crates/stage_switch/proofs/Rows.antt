@@ -10,7 +10,7 @@ use Rattle.port_core.specs.declared.view.InView.TheVariants.{Idle, Waiting, Over
 use Rattle.port_core.specs.declared.view.OutView.{OutView}
 use Rattle.port_core.specs.declared.view.OutView.TheVariants.{Unasked, Asked, Shut, Refused}
 use Rattle.port_core.specs.View.{View, in_at, out_at, OneOne, OneOneOf}
-use Rattle.port_core.specs.Call.{Call, starts, asks, brings, cancels, CallAllowed}
+use Rattle.port_core.specs.Call.{Call, starts, asks, brings, cancels, CallAllowed, Meets}
 use Rattle.stream_model.specs.Outlook.{End}
 use Rattle.stream_model.specs.FanIn.{Inflow}
 use Rattle.stage_linear.specs.declared.phase.Phase.{Phase}
@@ -25,7 +25,7 @@ use Rattle.stage_law.proofs.OwnRows.{waiting_rests, idle_rests, closed_rests as 
 use Rattle.kill_core.specs.declared.order.Order.{Order}
 use Rattle.kill_core.specs.Public.{SwitchState, SeatState}
 use Rattle.stage_switch.specs.Valves.{passes, ValveKeeps, RestsAt, ValveRests, GaveAll}
-use Rattle.stage_switch.specs.States.{IsUnused, Valve, IsPassing, passing_row, valve_held_in, new_valve_of, Trip, trip_held_in, trip_stage, new_trip_of}
+use Rattle.stage_switch.specs.States.{IsUnused, Valve, Unmoved, valve_row, passing_row, valve_held_in, new_valve_of, Trip, trip_held_in, trip_stage, new_trip_of}
 use Rattle.stage_switch.specs.Handling.{unasked_ports, ValveFresh, ValveRow, ValveAs, TripFresh, TripRow, TripAs}
 
 -- ---- where it rests
@@ -67,7 +67,7 @@ at_ports P (x ∷ w ∷ xs) ys r = absurd r
 pub valve_rests : (first now : Valve) (v : View) (took gave : List (List Item)) → ValveRow now v → (law : ValveAs first now v took gave) → ValveRests v law.by.law.ins law.by.law.out_list
 valve_rests first l v took gave r law =
     let ports = law.by.law in
-    rests_at first.node l.passed l.phase l.moves (in_at v 0) (out_at v 0) ports.ins ports.out_list ports.out_end r.started (at_ports (passing_row l.phase) v.ins v.outs r.row) ports.keeps
+    rests_at first.node l.passed l.phase l.moves (in_at v 0) (out_at v 0) ports.ins ports.out_list ports.out_end r.started (at_ports (passing_row l.phase) v.ins v.outs r.row.0) ports.keeps
 
 -- where it waits it is asked, and gave all that came
 waits_at : (node n : ℕ) (p : Phase) (moves : List ℕ) (x : InView) (y : OutView) (ins : List Inflow) (g : List Tree) (e : End) → x ≡ Waiting → passing_row p x y → ValveKeeps node (valve_held_in p n moves) ins g e → (y ≡ Asked) × GaveAll ins g
@@ -93,7 +93,7 @@ waits_at node n Open moves x y (f ∷ []) g e w r k = (by_view x y w r, k.1.1.0)
 pub valve_waits : (first now : Valve) (v : View) (took gave : List (List Item)) → ValveRow now v → (law : ValveAs first now v took gave) → in_at v 0 ≡ Waiting → (out_at v 0 ≡ Asked) × GaveAll law.by.law.ins law.by.law.out_list
 valve_waits first l v took gave r law w =
     let ports = law.by.law in
-    waits_at first.node l.passed l.phase l.moves (in_at v 0) (out_at v 0) ports.ins ports.out_list ports.out_end w (at_ports (passing_row l.phase) v.ins v.outs r.row) ports.keeps
+    waits_at first.node l.passed l.phase l.moves (in_at v 0) (out_at v 0) ports.ins ports.out_list ports.out_end w (at_ports (passing_row l.phase) v.ins v.outs r.row.0) ports.keeps
 
 -- ---- where it is called
 
@@ -132,11 +132,28 @@ open_lists p call (x ∷ w ∷ xs) ys n s h r = absurd r
 called_open : (p : Phase) (call : Call) (v : View) → p ≢ New → call ≢ starts → CallAllowed call v → OneOne (passing_row p) v → p ≡ Open
 called_open p call v n s h r = open_lists p call v.ins v.outs n s h r
 
-pub called_valve : (l : Valve) (call : Call) (v : View) → call ≢ starts → CallAllowed call v → ValveRow l v → IsPassing l
-called_valve l call v s h r = let open_now = called_open l.phase call v r.started s h r.row in record { open_ = open_now; moves = r.moves open_now }
+pub called_valve : (l : Valve) (call : Call) (v : View) → call ≢ starts → CallAllowed call v → ValveRow l v → l.phase ≡ Open
+called_valve l call v s h r = called_open l.phase call v r.started s h r.row.0
 
 pub called_trip : (l : Trip) (call : Call) (v : View) → call ≢ starts → CallAllowed call v → TripRow l v → l.phase ≡ Open
 called_trip l call v s h r = called_open l.phase call v r.started s h r.row
+
+unmoved_new : (p : Phase) (moves : List ℕ) → p ≡ New → Unmoved p moves → moves ≡ []
+unmoved_new New moves e u = u
+unmoved_new Open moves e u = cc
+unmoved_new Closed moves e u = cc
+
+unmoved_open : (p : Phase) (moves : List ℕ) → p ≡ Open → Unmoved p moves → moves ≡ []
+unmoved_open New moves e u = cc
+unmoved_open Open moves e u = u
+unmoved_open Closed moves e u = cc
+
+-- one that was not started, and one that is open, made no move
+pub none_new : (call : Call) (l : Valve) → l.phase ≡ New → Meets call (valve_row l) → l.moves ≡ []
+none_new call l e m = unmoved_new l.phase l.moves e m.1.1.1
+
+pub none_open : (call : Call) (l : Valve) → l.phase ≡ Open → Meets call (valve_row l) → l.moves ≡ []
+none_open call l e m = unmoved_open l.phase l.moves e m.1.1.1
 
 -- ---- a trip
 
@@ -163,7 +180,7 @@ trip_rests book d first l v took gave r law = trip_lists book (begin_work first.
 -- ---- before it was started
 
 pub new_valve : (node : ℕ) (switch : SwitchState) (seat : SeatState) → IsUnused switch seat → ValveFresh (new_valve_of node switch seat) unasked_ports
-new_valve node switch seat u = record { phase = refl; moves = refl; passed = refl; valve = record { one = u.0; gave = u.1.0; knows = u.1.1; formed = refl }; row = tt }
+new_valve node switch seat u = record { phase = refl; passed = refl; valve = record { one = u.0; gave = u.1.0; knows = u.1.1; formed = refl }; row = (tt, refl) }
 
 pub new_trip : (node : ℕ) (order : Order) (count : ℕ) (switch : SwitchState) (seat : SeatState) → IsUnused switch seat → 1 ≤ count → TripFresh (new_trip_of node order count switch seat) unasked_ports
 new_trip node order count switch seat u c = record {

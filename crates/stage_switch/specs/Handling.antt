@@ -14,10 +14,10 @@ use Rattle.port_core.specs.declared.view.OutView.TheVariants.{Unasked}
 use Rattle.port_core.specs.View.{View, in_at, out_at}
 use Rattle.stream_model.specs.Linear.{Book, passing, linear, begin_work}
 use Rattle.stage_law.specs.Law.{Law}
-use Rattle.stage_linear.specs.declared.phase.Phase.TheVariants.{New, Open, Closed}
+use Rattle.stage_linear.specs.declared.phase.Phase.TheVariants.{New}
 use Rattle.stage_fans.specs.PortsLaws.{InPortsLaw}
 use Rattle.stage_switch.specs.Valves.{ValveKeeps}
-use Rattle.stage_switch.specs.States.{Valve, IsValve, valve_row, valve_held, Trip, IsTrip, trip_row, trip_held}
+use Rattle.stage_switch.specs.States.{Valve, IsValve, Unmoved, valve_row, valve_held, Trip, IsTrip, trip_row, trip_held}
 
 -- one input and one output that were not asked
 abbrev pub unasked_ports : View
@@ -25,18 +25,16 @@ unasked_ports = record { ins = Idle ∷ []; outs = Unasked ∷ [] }
 
 -- ---- a valve
 
--- it was not started: nothing passed, and it did nothing
+-- it was not started: nothing passed
 pub record ValveFresh (l : Valve) (v : View) : Type 0 where
   pub phase : l.phase ≡ New
-  pub moves : l.moves ≡ []
   pub passed : l.passed ≡ 0
   pub valve : IsValve l.switch l.seat l.moves
   pub row : valve_row l v
 
--- it was started, and did nothing while it is open
+-- it was started, and its row holds
 pub record ValveRow (l : Valve) (v : View) : Type 0 where
   pub started : l.phase ≢ New
-  pub moves : l.phase ≡ Open → l.moves ≡ []
   pub row : valve_row l v
 
 -- The law of a valve by what it did, which its moves say; its node and its switch stay, and its seat knows an order exactly
@@ -46,7 +44,7 @@ pub record ValveAs (first now : Valve) (v : View) (took gave : List (List Item))
   pub node : now.node ≡ first.node
   pub switch : now.switch ≡ first.switch
   pub valve : IsValve now.switch now.seat now.moves
-  pub unmoved : now.phase ≢ Closed → now.moves ≡ []
+  pub unmoved : Unmoved now.phase now.moves
 
 -- what of a valve outlives want of memory: its node, its switch, its moves, and that its seat knows no other order than they show
 pub record KeepsValve (old new : Valve) : Type 0 where

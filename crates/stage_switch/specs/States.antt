@@ -54,8 +54,15 @@ pub record Valve : Type 0 where
 abbrev pub new_valve_of : ℕ → SwitchState → SeatState → Valve
 new_valve_of node switch seat = record { phase = New; node = node; passed = 0; moves = []; switch = switch; seat = seat }
 
+-- one that has not closed made no move
+abbrev pub Unmoved : Phase → List ℕ → Type 0
+Unmoved New moves = moves ≡ []
+Unmoved Open moves = moves ≡ []
+Unmoved Closed moves = ⊤
+
+-- what it knows of its ports
 abbrev pub valve_row : Valve → View → Type 0
-valve_row l v = OneOne (passing_row l.phase) v
+valve_row l v = OneOne (passing_row l.phase) v × Unmoved l.phase l.moves
 
 -- the number of an order among the moves
 abbrev pub number_of : Order → ℕ
@@ -90,11 +97,6 @@ valve_held_in Closed n moves = valve.shut (acted moves)
 abbrev pub valve_held : Valve → ValveHeld
 valve_held l = valve_held_in l.phase l.passed l.moves
 
--- it was started, and did not act
-pub record IsPassing (l : Valve) : Type 0 where
-  pub open_ : l.phase ≡ Open
-  pub moves : l.moves ≡ []
-
 -- it looked, and found this: an order is noted with the number of elements that passed
 abbrev pub watched : Valve → Option Order → Valve
 watched l None = record l { seat = record l.seat { knows = None; looks = l.seat.looks + 1 } }
@@ -117,7 +119,6 @@ pub record ValveTurned (call : Call) (old : Valve) (acts : List Act) (new : Valv
   pub switch : new.switch ≡ old.switch
   pub looks : new.seat.looks ≡ old.seat.looks + 1
   pub valve : IsValve new.switch new.seat new.moves
-  pub going_on : new.phase ≡ Open → new.moves ≡ []
   pub passed : new.phase ≡ Closed → new.passed ≡ old.passed
   pub stands : AsksStand acts
   pub started : new.phase ≢ New

@@ -4,12 +4,12 @@ ghost use Rattle.stage_switch.specs.Handling.{ValveFresh, ValveRow, ValveAs, Kee
 
 use crate::laws::a_called_stage_is_open;
 use crate::trip::Trip;
-use crate::valve::{MOST_PASSED, Valve};
+use crate::valve::Valve;
 use elem_core::elem::Elem;
 use elem_core::why::{Cause, NoMemory};
 use port_core::acts::Acts;
 use stage_core::stage::Stage;
-use std::alloc::{AllocError, Global};
+use std::alloc::Global;
 
 impl Stage for Valve {
     ghost fresh = { ValveFresh };
@@ -41,10 +41,6 @@ impl Stage for Valve {
         acts: &mut Acts,
     ) -> Result<(), NoMemory> {
         a_called_stage_is_open();
-        // No run has so many units of work; past them the number of elements may be no move.
-        if self.passed() >= MOST_PASSED {
-            return Err(AllocError);
-        }
         self.on_push(e, acts)
     }
 

@@ -21,7 +21,7 @@ ghost use Rattle.stage_law.specs.Law.{GaveAs};
 ghost use Rattle.stage_law.specs.OwnPorts.{OwnRests};
 ghost use Rattle.stage_linear.specs.declared.phase.Phase.TheVariants.{Open};
 ghost use Rattle.stage_switch.specs.Valves.{ValveHeld, passes, shut, did, GaveUpTo, GaveAll, ValveTurnAt, ValveLaw, ValveStandsOf, ValveResidual, ValveRest, ValveRests};
-ghost use Rattle.stage_switch.specs.States.{IsUnused, Valve, IsValve, IsPassing, new_valve_of, valve_row, ValveTurned, Trip, new_trip_of, trip_row, TripTurned};
+ghost use Rattle.stage_switch.specs.States.{IsUnused, Valve, IsValve, new_valve_of, valve_row, ValveTurned, Trip, new_trip_of, trip_row, TripTurned};
 ghost use Rattle.stage_switch.specs.Handling.{unasked_ports, ValveFresh, ValveRow, ValveAs, elements, TripFresh, TripRow, TripAs, trip_kind};
 
 /// The law of a valve holds before anything came, and every call keeps it, once the call's actions are done; what a valve gave
@@ -53,9 +53,9 @@ pub fn a_started_stage_rests()
         → OwnRests (linear book passing) (begin_work first.node d passing) false (in_at v 0) (out_at v 0) (law.law book d).in_list (law.law book d).out_list }
 {}
 
-/// Where the port rules allow a call of a handler and the row holds, a stage that was started is open, and a valve did nothing.
+/// Where the port rules allow a call of a handler and the row holds, a stage that was started is open.
 pub fn a_called_stage_is_open()
-    ensures valve { (l : Valve) (call : Call) (v : View) → call ≢ starts → CallAllowed call v → ValveRow l v → IsPassing l }
+    ensures valve { (l : Valve) (call : Call) (v : View) → call ≢ starts → CallAllowed call v → ValveRow l v → l.phase ≡ Open }
     ensures trip { (l : Trip) (call : Call) (v : View) → call ≢ starts → CallAllowed call v → TripRow l v → l.phase ≡ Open }
 {}
 

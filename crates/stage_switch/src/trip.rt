@@ -121,7 +121,7 @@ impl Trip {
         requires room { 4 ≤ acts.old.room }
         ensures ports { OnOk result (Obeys (brings 0 (item.Elem e)) (trip_row self.old) (trip_row self.new) acts.new.items) }
         ensures gives { OnOk result (TripTurned (brings 0 (item.Elem e)) self.old acts.new.items self.new) }
-        ensures room { OnOk result (acts.new.room ≡ acts.old.room) }
+        ensures room { acts.new.room ≡ acts.old.room }
         ensures refused { OnErr result ((self.new ≡ self.old) × (acts.new ≡ acts.old)) }
     {
         self.count()?;

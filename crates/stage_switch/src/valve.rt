@@ -1,10 +1,9 @@
-ghost use Rattle.std.specs.Prelude.{◌≡◌, ◌≤◌, ◌<◌, [], ◌++◌, OnOk, OnErr, IfOk, None, true, false};
+ghost use Rattle.std.specs.Prelude.{◌≡◌, ◌≤◌, ◌+◌, [], OnOk, OnErr, IfOk};
 ghost use Rattle.elem_core.specs.declared.item.Item.TheVariants as item;
 ghost use Rattle.std.specs.Arc.{arc_value};
 ghost use Rattle.port_core.specs.Call.{Obeys, Meets, starts, asks, brings, cancels};
 ghost use Rattle.stage_linear.specs.declared.phase.Phase.TheVariants.{New, Open, Closed};
-ghost use Rattle.stage_switch.specs.declared.valve.TheConstants.{MOST_PASSED};
-ghost use Rattle.stage_switch.specs.States.{IsUnused, IsValve, valve_row, number_of, IsPassing, new_valve_of, watched, stop_acts, ValveTurned};
+ghost use Rattle.stage_switch.specs.States.{IsUnused, IsValve, valve_row, number_of, new_valve_of, watched, stop_acts, ValveTurned};
 
 use elem_core::elem::Elem;
 use elem_core::why::{Cause, NoMemory, Why};
@@ -15,12 +14,8 @@ use port_core::act::Act;
 use port_core::acts::Acts;
 use port_core::pick_log::PickLog;
 use stage_linear::phase::Phase;
-use std::alloc::Global;
+use std::alloc::{AllocError, Global};
 use std::marker::Model;
-
-/// The number of elements with which a valve takes no more, so that their number is a move. No run has so many units of work.
-/// Rule: own.
-pub const MOST_PASSED: u32 = 4_000_000_000;
 
 /// The logic of a valve: it passes on what comes, until it finds an order at its switch. It looks at its start and in each
 /// handler before all else. Where an order stands it acts by it: Shutdown completes its output, Abort fails it, and both
@@ -111,13 +106,13 @@ impl Valve {
     /// The run begins. As each call of a handler, it takes memory for the moves alone, and before it looks: where that is refused,
     /// all is as before.
     pub fn start(&mut self, acts: &mut Acts) -> Result<(), NoMemory>
-        requires new { (self.old.phase ≡ New) × (self.old.moves ≡ []) }
+        requires new { self.old.phase ≡ New }
         requires meets { Meets starts (valve_row self.old) }
         requires empty { acts.old.items ≡ [] }
         requires room { 4 ≤ acts.old.room }
         ensures ports { OnOk result (Obeys starts (valve_row self.old) (valve_row self.new) acts.new.items) }
         ensures gives { OnOk result (ValveTurned starts self.old acts.new.items self.new) }
-        ensures room { OnOk result (acts.new.room ≡ acts.old.room) }
+        ensures room { acts.new.room ≡ acts.old.room }
         ensures refused { OnErr result ((self.new ≡ self.old) × (acts.new ≡ acts.old)) }
     {
         match self.watch()? {
@@ -129,13 +124,13 @@ impl Valve {
 
     /// The output was asked.
     pub fn on_pull(&mut self, acts: &mut Acts) -> Result<(), NoMemory>
-        requires open { IsPassing self.old }
+        requires open { self.old.phase ≡ Open }
         requires meets { Meets (asks 0) (valve_row self.old) }
         requires empty { acts.old.items ≡ [] }
         requires room { 4 ≤ acts.old.room }
         ensures ports { OnOk result (Obeys (asks 0) (valve_row self.old) (valve_row self.new) acts.new.items) }
         ensures gives { OnOk result (ValveTurned (asks 0) self.old acts.new.items self.new) }
-        ensures room { OnOk result (acts.new.room ≡ acts.old.room) }
+        ensures room { acts.new.room ≡ acts.old.room }
         ensures refused { OnErr result ((self.new ≡ self.old) × (acts.new ≡ acts.old)) }
     {
         match self.watch()? {
@@ -145,22 +140,23 @@ impl Valve {
         Ok(())
     }
 
-    /// An element came; fewer than `MOST_PASSED` passed before. It passes, or it is dropped by an order that stands.
+    /// An element came. It passes, or it is dropped by an order that stands. Where 2^32 - 1 have passed, which no run has units for,
+    /// it answers want of memory, and all is as before.
     pub fn on_push(&mut self, e: Elem, acts: &mut Acts) -> Result<(), NoMemory>
-        requires few { self.old.passed < MOST_PASSED }
-        requires open { IsPassing self.old }
+        requires open { self.old.phase ≡ Open }
         requires meets { Meets (brings 0 (item.Elem e)) (valve_row self.old) }
         requires empty { acts.old.items ≡ [] }
         requires room { 4 ≤ acts.old.room }
         ensures ports { OnOk result (Obeys (brings 0 (item.Elem e)) (valve_row self.old) (valve_row self.new) acts.new.items) }
         ensures gives { OnOk result (ValveTurned (brings 0 (item.Elem e)) self.old acts.new.items self.new) }
-        ensures room { OnOk result (acts.new.room ≡ acts.old.room) }
+        ensures room { acts.new.room ≡ acts.old.room }
         ensures refused { OnErr result ((self.new ≡ self.old) × (acts.new ≡ acts.old)) }
     {
+        let passed = next(self.passed)?;
         match self.watch()? {
             None => {
                 acts.add(Act::Push(0, e));
-                self.passed += 1;
+                self.passed = passed;
             }
             Some(order) => self.stop(order, true, acts),
         }
@@ -169,13 +165,13 @@ impl Valve {
 
     /// The input has ended.
     pub fn on_finish(&mut self, acts: &mut Acts) -> Result<(), NoMemory>
-        requires open { IsPassing self.old }
+        requires open { self.old.phase ≡ Open }
         requires meets { Meets (brings 0 item.Ended) (valve_row self.old) }
         requires empty { acts.old.items ≡ [] }
         requires room { 4 ≤ acts.old.room }
         ensures ports { OnOk result (Obeys (brings 0 item.Ended) (valve_row self.old) (valve_row self.new) acts.new.items) }
         ensures gives { OnOk result (ValveTurned (brings 0 item.Ended) self.old acts.new.items self.new) }
-        ensures room { OnOk result (acts.new.room ≡ acts.old.room) }
+        ensures room { acts.new.room ≡ acts.old.room }
         ensures refused { OnErr result ((self.new ≡ self.old) × (acts.new ≡ acts.old)) }
     {
         match self.watch()? {
@@ -190,13 +186,13 @@ impl Valve {
 
     /// The input has failed.
     pub fn on_fail(&mut self, cause: Cause, acts: &mut Acts) -> Result<(), NoMemory>
-        requires open { IsPassing self.old }
+        requires open { self.old.phase ≡ Open }
         requires meets { Meets (brings 0 (item.Failed cause)) (valve_row self.old) }
         requires empty { acts.old.items ≡ [] }
         requires room { 4 ≤ acts.old.room }
         ensures ports { OnOk result (Obeys (brings 0 (item.Failed cause)) (valve_row self.old) (valve_row self.new) acts.new.items) }
         ensures gives { OnOk result (ValveTurned (brings 0 (item.Failed cause)) self.old acts.new.items self.new) }
-        ensures room { OnOk result (acts.new.room ≡ acts.old.room) }
+        ensures room { acts.new.room ≡ acts.old.room }
         ensures refused { OnErr result ((self.new ≡ self.old) × (acts.new ≡ acts.old)) }
     {
         match self.watch()? {
@@ -211,26 +207,19 @@ impl Valve {
 
     /// The output was cancelled. An order that is found is noted, though there is nothing left to close but the input.
     pub fn on_cancel(&mut self, acts: &mut Acts) -> Result<(), NoMemory>
-        requires open { IsPassing self.old }
+        requires open { self.old.phase ≡ Open }
         requires meets { Meets (cancels 0) (valve_row self.old) }
         requires empty { acts.old.items ≡ [] }
         requires room { 4 ≤ acts.old.room }
         ensures ports { OnOk result (Obeys (cancels 0) (valve_row self.old) (valve_row self.new) acts.new.items) }
         ensures gives { OnOk result (ValveTurned (cancels 0) self.old acts.new.items self.new) }
-        ensures room { OnOk result (acts.new.room ≡ acts.old.room) }
+        ensures room { acts.new.room ≡ acts.old.room }
         ensures refused { OnErr result ((self.new ≡ self.old) × (acts.new ≡ acts.old)) }
     {
         self.watch()?;
         acts.add(Act::Cancel(0));
         self.phase = Phase::Closed;
         Ok(())
-    }
-
-    /// How many elements passed.
-    pub fn passed(&self) -> u32
-        ensures { result ≡ self.now.passed }
-    {
-        self.passed
     }
 
     /// The run is over: the moves and the seat. It takes no memory.
@@ -249,5 +238,15 @@ fn move_of(order: Order) -> u32
     match order {
         Order::Shutdown => 1,
         Order::Abort => 2,
+    }
+}
+
+// One more. Past 32 bits its number is no move: that counts as want of memory.
+fn next(count: u32) -> Result<u32, NoMemory>
+    ensures { IfOk result (λ n. n ≡ count + 1) }
+{
+    match count.checked_add(1) {
+        Some(more) => Ok(more),
+        None => Err(AllocError),
     }
 }

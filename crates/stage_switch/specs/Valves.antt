@@ -113,16 +113,17 @@ abbrev pub ValveRest : ℕ → ℕ → List Inflow → List Tree → Type 0
 ValveRest node n (f ∷ []) g = (d : Acted) → NotBefore n d → (r : Inflow) → acted_items node d (joined f r) ≡ told g unended ++ valve_gives node (passes n) d r
 ValveRest node n fs g = ⊥
 
+-- it gave all that came to its one input
+abbrev pub GaveAll : List Inflow → List Tree → Type 0
+GaveAll (f ∷ []) g = g ≡ f.list
+GaveAll fs g = ⊥
+
 -- It has closed both its ports; or it is asked, waits, and gave all that came; or nobody asks it, and it has not asked. This is
 -- its row of a picture that rests, over its own ports.
 abbrev pub RestsAt : InView → OutView → List Inflow → List Tree → Type 0
 RestsAt x y (f ∷ []) g = (IsShut (own_input x f.list) × IsShut (own_output y g)) ⊎ StageRests (as_it_is 0 false) (own_input x f.list) (own_output y g)
 RestsAt x y fs g = ⊥
 
--- it gave all that came to its one input
-abbrev pub GaveAll : List Inflow → List Tree → Type 0
-GaveAll (f ∷ []) g = g ≡ f.list
-GaveAll fs g = ⊥
-
+-- the same of a view of its ports
 abbrev pub ValveRests : View → List Inflow → List Tree → Type 0
 ValveRests v ins g = RestsAt (in_at v 0) (out_at v 0) ins g

@@ -41,12 +41,13 @@ fn line_of(alloc: Global, name: &[u8]) -> Result<Line, AllocError>
 }
 
 /// Writes `gen.txt` with n lines, 1 to 10,000,000, and then `gen.blue` with a blueprint that reads them. Where it ends before, each
-/// of the two files is as before or holds a first part of its text. Rule: own.
+/// of the two files is as before or holds a first part of its text. It leaves as many open handles as there were. Rule: own.
 pub fn generate<F: Folder>(alloc: Global, folder: &mut F, n: u32) -> Result<(), GenerateEnd>
     ensures ok { OnOk result (Generates (F.state folder.old) (F.state folder.new) n) }
     ensures missing { (name : List ℕ) → result ≡ Err (GenerateEnd.Missing name) → MissesFile (F.state folder.old) (F.state folder.new) n name }
     ensures fault { result ≡ Err GenerateEnd.WriteFault → FailsAtFile (F.state folder.old) (F.state folder.new) n }
     ensures no_memory { result ≡ Err GenerateEnd.NoMemory → StopsGenerating (F.state folder.old) (F.state folder.new) n }
+    ensures handles { F.handles folder.new ≡ F.handles folder.old }
 {
     let lines = line_of(alloc, b"gen.txt")?;
     let blueprint = line_of(alloc, b"gen.blue")?;

@@ -29,6 +29,7 @@ pub(crate) fn write_file<F: Folder>(
     ensures missing { result ≡ Err WriteEnd.Missing → RefusesFile (F.state folder.old) (F.state folder.new) name.now }
     ensures fault { result ≡ Err WriteEnd.Fault → FailsToWrite (F.state folder.old) (F.state folder.new) name.now (text_of text) }
     ensures no_memory { result ≡ Err WriteEnd.NoMemory → StopsWriting (F.state folder.old) (F.state folder.new) name.now (text_of text) }
+    ensures handles { F.handles folder.new ≡ F.handles folder.old }
 {
     let mut drain = match folder.open_out(alloc, name) {
         Ok(drain) => drain,

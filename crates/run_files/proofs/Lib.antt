@@ -1,4 +1,5 @@
 pub mod Counts
+pub mod Handles
 pub mod Lists
 pub mod Closings
 pub mod Openings

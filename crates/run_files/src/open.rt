@@ -1,5 +1,5 @@
 // The opening of the files of a run.
-ghost use Rattle.std.specs.Prelude.{◌≡◌, ◌≤◌, ℕ, List, [], map, vec_len, vec_capacity, IfOk, OnOk};
+ghost use Rattle.std.specs.Prelude.{◌≡◌, ◌+◌, ◌≤◌, ℕ, List, [], map, length, vec_len, vec_capacity, IfOk, OnOk, OnErr};
 ghost use Rattle.run_files.specs.Opening.{OpensAll, MissesInput, RefusesOutput, GivesUp};
 ghost use Rattle.run_files.specs.Stopping.{StopsAtInput, StopsAtOutput, LacksRoom};
 
@@ -44,6 +44,7 @@ fn open_inputs<F: Folder>(
     ensures opened { OnOk result (OpensAll (F.state folder.old) (F.state folder.new) names.items [] (map F.Inp.state sources.new.items) []) }
     ensures missing { (n : List ℕ) → result ≡ Err (ListEnd.Missing n) → StopsAtInput (F.state folder.old) (F.state folder.new) names.items n (map F.Inp.state sources.new.items) [] }
     ensures no_memory { result ≡ Err ListEnd.NoMemory → LacksRoom (F.state folder.old) (F.state folder.new) [] (map F.Inp.state sources.new.items) [] }
+    ensures handles { F.handles folder.new ≡ F.handles folder.old + length sources.new.items }
 {
     for name in names {
         match folder.open_in(alloc, &name) {
@@ -67,6 +68,7 @@ fn open_outputs<F: Folder>(
     ensures opened { OnOk result (OpensAll (F.state folder.old) (F.state folder.new) [] names.items [] (map F.Out.state drains.new.items)) }
     ensures missing { (n : List ℕ) → result ≡ Err (ListEnd.Missing n) → StopsAtOutput (F.state folder.old) (F.state folder.new) [] names.items n [] (map F.Out.state drains.new.items) }
     ensures no_memory { result ≡ Err ListEnd.NoMemory → LacksRoom (F.state folder.old) (F.state folder.new) names.items [] (map F.Out.state drains.new.items) }
+    ensures handles { F.handles folder.new ≡ F.handles folder.old + length drains.new.items }
 {
     for name in names {
         match folder.open_out(alloc, &name) {
@@ -94,6 +96,7 @@ fn fill<F: Folder>(
     ensures no_input { (n : List ℕ) → result ≡ Err (OpenEnd.MissingInput n) → StopsAtInput (F.state folder.old) (F.state folder.new) inputs.items n (map F.Inp.state opened.new.inputs.items) (map F.Out.state opened.new.outputs.items) }
     ensures no_output { (n : List ℕ) → result ≡ Err (OpenEnd.MissingOutput n) → StopsAtOutput (F.state folder.old) (F.state folder.new) inputs.items outputs.items n (map F.Inp.state opened.new.inputs.items) (map F.Out.state opened.new.outputs.items) }
     ensures no_memory { result ≡ Err OpenEnd.NoMemory → LacksRoom (F.state folder.old) (F.state folder.new) outputs.items (map F.Inp.state opened.new.inputs.items) (map F.Out.state opened.new.outputs.items) }
+    ensures handles { F.handles folder.new ≡ F.handles folder.old + (length opened.new.inputs.items + length opened.new.outputs.items) }
 {
     match open_inputs(alloc, folder, inputs, &mut opened.inputs) {
         Ok(()) => {}
@@ -107,7 +110,7 @@ fn fill<F: Folder>(
     }
 }
 
-/// Opens the files of a run: the inputs in order, and then the outputs in order, which are empty then. It takes the room of both lists before the first opening. At the first name that is missing or refused, or where memory is wanting, it closes what it opened, so that no count but that of the refused name rises; outputs that it had opened stay empty. A name may stand twice. Rule: own.
+/// Opens the files of a run: the inputs in order, and then the outputs in order, which are empty then. It takes the room of both lists before the first opening. At the first name that is missing or refused, or where memory is wanting, it closes what it opened, so that no count but that of the refused name rises; outputs that it had opened stay empty. It leaves as many open handles as it answers: none where it does not answer `Ok`. A name may stand twice. Rule: own.
 ///
 /// `MissingInput` and `MissingOutput` give the name back, moved out of its list.
 pub fn open_all<F: Folder>(
@@ -120,6 +123,8 @@ pub fn open_all<F: Folder>(
     ensures no_input { (n : List ℕ) → result ≡ Err (OpenEnd.MissingInput n) → MissesInput (F.state folder.old) (F.state folder.new) inputs.items n }
     ensures no_output { (n : List ℕ) → result ≡ Err (OpenEnd.MissingOutput n) → RefusesOutput (F.state folder.old) (F.state folder.new) inputs.items outputs.items n }
     ensures no_memory { result ≡ Err OpenEnd.NoMemory → GivesUp (F.state folder.old) (F.state folder.new) outputs.items }
+    ensures handles { IfOk result (λ o. F.handles folder.new ≡ F.handles folder.old + (length o.inputs.items + length o.outputs.items)) }
+    ensures none_left { OnErr result (F.handles folder.new ≡ F.handles folder.old) }
 {
     let Ok(sources) = Vec::with_capacity(alloc, inputs.len()) else {
         return Err(OpenEnd::NoMemory);

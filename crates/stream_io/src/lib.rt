@@ -2,6 +2,7 @@
 #![tactic(auto)]
 
 pub mod fail_at;
+mod handles;
 pub mod line_reader;
 pub mod mem_drain;
 pub mod mem_folder;

@@ -5,6 +5,7 @@ ghost use Rattle.stream_io.specs.Counts.{Rose};
 ghost use Rattle.stream_io.specs.State.{RefusesName, SameFaults, SameFiles};
 
 use crate::fail_at::{FailAt, Op, fires, spend, to_come};
+use crate::handles::one_more;
 use crate::mem_drain::MemDrain;
 use crate::named_file::{NamedFile, bytes_of, put_file, replace};
 use crate::outside::{Drain, Failed, Folder, OpenFault, Source};
@@ -68,6 +69,8 @@ pub struct MemFolder {
     room: u32,
     tally: Tally,
     tells: bool,
+    // How many of its handles are open.
+    handles: u64,
     ghost steps: { 0 < step },
 }
 
@@ -75,7 +78,8 @@ impl MemFolder {
     /// A folder of these files. A read or a put handles at most `step` bytes, 1 at least; an opened drain has room for `room` bytes; the calls in `fails` fail. It takes no memory.
     pub fn new(files: Vec<NamedFile>, fails: Vec<FailAt>, step: u32, room: u32) -> MemFolder
         requires { 0 < step }
-        ensures { ⟦<MemFolder as Folder>⟧.state result ≡ folder_of true files.items [] }
+        ensures files { ⟦<MemFolder as Folder>⟧.state result ≡ folder_of true files.items [] }
+        ensures no_handles { ⟦<MemFolder as Folder>⟧.handles result ≡ 0 }
     {
         MemFolder {
             files,
@@ -84,6 +88,7 @@ impl MemFolder {
             room,
             tally: Tally::new(),
             tells: true,
+            handles: 0,
         }
     }
 
@@ -107,6 +112,7 @@ impl MemFolder {
         ensures refusal { RefusesName (⟦<MemFolder as Folder>⟧.state self.old) (⟦<MemFolder as Folder>⟧.state self.new) name }
         ensures faults { SameFaults (⟦<MemFolder as Folder>⟧.state self.old) (⟦<MemFolder as Folder>⟧.state self.new) }
         ensures files { SameFiles (⟦<MemFolder as Folder>⟧.state self.old) (⟦<MemFolder as Folder>⟧.state self.new) }
+        ensures handles { ⟦<MemFolder as Folder>⟧.handles self.new ≡ ⟦<MemFolder as Folder>⟧.handles self.old }
     {
         self.tally.refuse(name, spare);
         OpenFault::Missing
@@ -120,7 +126,10 @@ impl Folder for MemFolder {
 
     ghost state = { λ f. folder_of f.tells f.files.items f.tally };
 
+    ghost handles = { λ f. f.handles };
+
     fn open_in(&mut self, alloc: Global, name: &Line) -> Result<MemSource, OpenFault> {
+        let handles = one_more(self.handles)?;
         let spare = Tally::spare(alloc)?;
         let own = name.copy(alloc)?;
         let fails = to_come(alloc, &self.fails, Op::Read, name)?;
@@ -132,22 +141,26 @@ impl Folder for MemFolder {
             return Err(self.refuse(own, spare));
         }
         match found {
-            Some(bytes) => Ok(MemSource {
-                name: own,
-                spare,
-                bytes,
-                at: 0,
-                step: self.step as usize,
-                fails,
-                calls: 0,
-                faults: 0,
-            }),
+            Some(bytes) => {
+                self.handles = handles;
+                Ok(MemSource {
+                    name: own,
+                    spare,
+                    bytes,
+                    at: 0,
+                    step: self.step as usize,
+                    fails,
+                    calls: 0,
+                    faults: 0,
+                })
+            }
             None if self.tells => Err(OpenFault::Missing),
             None => Err(self.refuse(own, spare)),
         }
     }
 
     fn open_out(&mut self, alloc: Global, name: &Line) -> Result<MemSink, OpenFault> {
+        let handles = one_more(self.handles)?;
         let spare = Tally::spare(alloc)?;
         let own = name.copy(alloc)?;
         let fails = to_come(alloc, &self.fails, Op::Write, name)?;
@@ -161,6 +174,7 @@ impl Folder for MemFolder {
             return Err(self.refuse(own, spare));
         }
         put_file(&mut self.files, file)?;
+        self.handles = handles;
         Ok(MemSink {
             name: own,
             spare,
@@ -170,6 +184,7 @@ impl Folder for MemFolder {
 
     fn close_in(&mut self, h: MemSource) {
         spend(&mut self.fails, Op::Read, &h.name, h.calls);
+        self.handles = self.handles.saturating_sub(1);
         self.tally.close_in(h.name, h.spare, h.at as u64, h.faults);
     }
 
@@ -177,6 +192,7 @@ impl Folder for MemFolder {
         let MemSink { name, spare, drain } = h;
         let faults = drain.faults;
         spend(&mut self.fails, Op::Write, &name, drain.calls);
+        self.handles = self.handles.saturating_sub(1);
         let found = replace(&mut self.files, &name, drain.held);
         self.tells = found && self.tells;
         self.tally.close_out(name, spare, faults);

@@ -1,5 +1,5 @@
 // The traits of the outside.
-ghost use Rattle.std.specs.Prelude.{◌≡◌, ◌+◌, ◌<◌, ◌≤◌, ◌++◌, ◌⊎◌, length, take, IfOk, OnOk, OnErr, IfSome};
+ghost use Rattle.std.specs.Prelude.{ℕ, ◌≡◌, ◌+◌, ◌-◌, ◌<◌, ◌≤◌, ◌++◌, ◌⊎◌, length, take, IfOk, OnOk, OnErr, IfSome};
 ghost use Rattle.std.specs.Option.{option_map};
 ghost use Rattle.stream_io.specs.Counts.{Rose};
 ghost use Rattle.stream_io.specs.State.{SourceState, DrainState, FolderState, HandsOut, SameFiles, SameFaults, SameRefusals, RefusesName, Lacks, OpensSource, OpensDrain, ClosesSource, ClosesDrain};
@@ -74,35 +74,44 @@ pub trait Folder {
 
     type Out: Drain + Send;
 
-    /// What it tells: its files where it tells them, and for each name how often an opening was refused, how many reads and writes of closed handles failed, and how many bytes closed sources handed out.
+    /// What it tells: its files where it tells them, and for each name how often an opening was refused, how many reads and writes of closed handles failed, how many bytes closed sources handed out.
     ghost state: { Self → FolderState };
 
-    /// Opens the file of that name to read it from its start. It changes no file, and never ends the telling.
+    /// How many of its handles are open: it opened them, and did not take them back.
+    ghost handles: { Self → ℕ };
+
+    /// Opens the file of that name to read it from its start. It changes no file, and never ends the telling. Where it opens one there is one open handle more.
     fn open_in(&mut self, alloc: Global, name: &Line) -> Result<Self::Inp, OpenFault>
         ensures opened { IfOk result (λ h. OpensSource (state self.old) name.now (Self.Inp.state h)) }
         ensures missing { result ≡ Err OpenFault.Missing → Lacks (state self.old) name.now ⊎ Rose ((state self.old).refusals name.now) ((state self.new).refusals name.now) }
         ensures files { SameFiles (state self.old) (state self.new) }
         ensures faults { SameFaults (state self.old) (state self.new) }
         ensures no_refusal { OnOk result (SameRefusals (state self.old) (state self.new)) }
+        ensures one_more { OnOk result (handles self.new ≡ handles self.old + 1) }
+        ensures no_more { OnErr result (handles self.new ≡ handles self.old) }
         ensures no_memory { result ≡ Err OpenFault.NoMemory → SameRefusals (state self.old) (state self.new) }
         ensures refusal { RefusesName (state self.old) (state self.new) name.now };
 
-    /// Makes the file of that name empty, and opens it to write it; a folder may cease to tell its files here. A refused opening changes no file.
+    /// Makes the file of that name empty, and opens it to write it; a folder may cease to tell its files here. A refused opening changes no file. Where it opens one there is one open handle more.
     fn open_out(&mut self, alloc: Global, name: &Line) -> Result<Self::Out, OpenFault>
         ensures opened { IfOk result (λ h. OpensDrain (state self.old) (state self.new) name.now (Self.Out.state h)) }
         ensures missing { result ≡ Err OpenFault.Missing → Rose ((state self.old).refusals name.now) ((state self.new).refusals name.now) }
         ensures files { OnErr result (SameFiles (state self.old) (state self.new)) }
         ensures faults { SameFaults (state self.old) (state self.new) }
         ensures no_refusal { OnOk result (SameRefusals (state self.old) (state self.new)) }
+        ensures one_more { OnOk result (handles self.new ≡ handles self.old + 1) }
+        ensures no_more { OnErr result (handles self.new ≡ handles self.old) }
         ensures no_memory { result ≡ Err OpenFault.NoMemory → SameRefusals (state self.old) (state self.new) }
         ensures refusal { RefusesName (state self.old) (state self.new) name.now };
 
-    /// Takes a source back, and adds its counts to those of its name. It changes no file, and never ends the telling.
+    /// Takes a source back, and adds its counts to those of its name. It changes no file, and never ends the telling. There is one open handle less; where none was open, as of a handle of another folder, there is none.
     fn close_in(&mut self, h: Self::Inp)
         ensures closed { ClosesSource (state self.old) (state self.new) (Self.Inp.state h) }
-        ensures files { SameFiles (state self.old) (state self.new) };
+        ensures files { SameFiles (state self.old) (state self.new) }
+        ensures one_less { handles self.new ≡ handles self.old - 1 };
 
-    /// Takes a drain back, and adds its count to that of its name. The file of its name is then what the drain held; a folder that does not know that ceases to tell its files.
+    /// Takes a drain back, and adds its count to that of its name. The file of its name is then what the drain held; a folder that does not know that ceases to tell its files. There is one open handle less, as at a source.
     fn close_out(&mut self, h: Self::Out)
-        ensures closed { ClosesDrain (state self.old) (state self.new) (Self.Out.state h) };
+        ensures closed { ClosesDrain (state self.old) (state self.new) (Self.Out.state h) }
+        ensures one_less { handles self.new ≡ handles self.old - 1 };
 }

@@ -2,6 +2,7 @@
 ghost use Rattle.std.specs.Prelude.{◌≡◌, [], None};
 ghost use Rattle.stream_io.specs.Tally.{counts_of};
 
+use crate::handles::one_more;
 use crate::outside::{Drain, Failed, Folder, OpenFault, Source};
 use crate::tally::Tally;
 use elem_core::line::Line;
@@ -81,6 +82,8 @@ pub struct DirFolder<R: Files> {
     rt: R,
     tally: Tally,
     known: Vec<Known>,
+    // How many of its handles are open.
+    handles: u64,
 }
 
 impl<R: Files + Drop> DirFolder<R>
@@ -89,12 +92,14 @@ where
 {
     /// The current folder of this runtime. It takes no memory.
     pub fn new(alloc: Global, rt: R) -> DirFolder<R>
-        ensures { ⟦<DirFolder<R> as Folder>⟧.state result ≡ counts_of [] }
+        ensures counts { ⟦<DirFolder<R> as Folder>⟧.state result ≡ counts_of [] }
+        ensures no_handles { ⟦<DirFolder<R> as Folder>⟧.handles result ≡ 0 }
     {
         DirFolder {
             rt,
             tally: Tally::new(),
             known: Vec::new(alloc),
+            handles: 0,
         }
     }
 }
@@ -161,7 +166,10 @@ where
 
     ghost state = { λ f. counts_of f.tally };
 
+    ghost handles = { λ f. f.handles };
+
     fn open_in(&mut self, alloc: Global, name: &Line) -> Result<DirSource<R::File>, OpenFault> {
+        let handles = one_more(self.handles)?;
         let spare = Tally::spare(alloc)?;
         let own = name.copy(alloc)?;
         let name_known = name.copy(alloc)?;
@@ -174,6 +182,7 @@ where
             name: name_known,
             place,
         });
+        self.handles = handles;
         Ok(DirSource {
             name: own,
             spare,
@@ -184,6 +193,7 @@ where
     }
 
     fn open_out(&mut self, alloc: Global, name: &Line) -> Result<DirSink<R::File>, OpenFault> {
+        let handles = one_more(self.handles)?;
         let spare = Tally::spare(alloc)?;
         let own = name.copy(alloc)?;
         let name_known = name.copy(alloc)?;
@@ -196,6 +206,7 @@ where
             name: name_known,
             place,
         });
+        self.handles = handles;
         Ok(DirSink {
             name: own,
             spare,
@@ -205,10 +216,12 @@ where
     }
 
     fn close_in(&mut self, h: DirSource<R::File>) {
+        self.handles = self.handles.saturating_sub(1);
         self.tally.close_in(h.name, h.spare, h.given, h.faults);
     }
 
     fn close_out(&mut self, h: DirSink<R::File>) {
+        self.handles = self.handles.saturating_sub(1);
         self.tally.close_out(h.name, h.spare, h.faults);
     }
 }

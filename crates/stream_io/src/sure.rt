@@ -2,6 +2,7 @@
 ghost use Rattle.std.specs.Prelude.{◌≡◌, ◌<◌, ◌≤◌, [], Some, None, true, vec_len};
 ghost use Rattle.stream_io.specs.Files.{sure_folder_of};
 
+use crate::handles::one_more;
 use crate::named_file::{NamedFile, bytes_of, replace};
 use crate::outside::{Drain, Failed, Folder, OpenFault, Source};
 use crate::tally::Tally;
@@ -89,6 +90,8 @@ pub struct SureFolder {
     step: u32,
     tally: Tally,
     tells: bool,
+    // How many of its handles are open.
+    handles: u64,
     ghost steps: { 0 < step },
 }
 
@@ -96,13 +99,15 @@ impl SureFolder {
     /// A folder of these files; a read or a put handles at most `step` bytes, 1 at least. A name that two of the files have is the first's. It takes no memory.
     pub fn new(files: Vec<NamedFile>, step: u32) -> SureFolder
         requires { 0 < step }
-        ensures { ⟦<SureFolder as Folder>⟧.state result ≡ sure_folder_of true files.items [] }
+        ensures files { ⟦<SureFolder as Folder>⟧.state result ≡ sure_folder_of true files.items [] }
+        ensures no_handles { ⟦<SureFolder as Folder>⟧.handles result ≡ 0 }
     {
         SureFolder {
             files,
             step,
             tally: Tally::new(),
             tells: true,
+            handles: 0,
         }
     }
 }
@@ -114,7 +119,10 @@ impl Folder for SureFolder {
 
     ghost state = { λ f. sure_folder_of f.tells f.files.items f.tally };
 
+    ghost handles = { λ f. f.handles };
+
     fn open_in(&mut self, alloc: Global, name: &Line) -> Result<SureSource, OpenFault> {
+        let handles = one_more(self.handles)?;
         let spare = Tally::spare(alloc)?;
         let own = name.copy(alloc)?;
         let bytes = match bytes_of(&self.files, name) {
@@ -122,6 +130,7 @@ impl Folder for SureFolder {
             None if self.tells => return Err(OpenFault::Missing),
             None => Vec::new(alloc),
         };
+        self.handles = handles;
         Ok(SureSource {
             name: own,
             spare,
@@ -132,9 +141,11 @@ impl Folder for SureFolder {
     }
 
     fn open_out(&mut self, alloc: Global, name: &Line) -> Result<SureSink, OpenFault> {
+        let handles = one_more(self.handles)?;
         let own = name.copy(alloc)?;
         replace(&mut self.files, name, Vec::new(alloc));
         self.tells = false;
+        self.handles = handles;
         Ok(SureSink {
             name: own,
             drain: SureDrain::new(self.step),
@@ -142,6 +153,7 @@ impl Folder for SureFolder {
     }
 
     fn close_in(&mut self, h: SureSource) {
+        self.handles = self.handles.saturating_sub(1);
         self.tally.close_in(h.name, h.spare, h.at as u64, 0);
     }
 
@@ -149,5 +161,6 @@ impl Folder for SureFolder {
         // The drain kept no bytes, so what its file holds is not told, also where another folder opened it.
         drop(h);
         self.tells = false;
+        self.handles = self.handles.saturating_sub(1);
     }
 }

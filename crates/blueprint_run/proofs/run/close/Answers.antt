@@ -34,4 +34,4 @@ returns g c = λ old b budget ss ds can opens leaves.
       ignorer = c.every_sink_agrees.ensures.ignorer;
       ignores = c.every_sink_agrees.ensures.ignores;
     })
-    b can ss ds budget _ leaves old _ opens _ c.close_all.ensures _ refl refl refl refl
+    b can ss ds budget _ leaves old _ opens _ c.close_all.ensures.closes _ refl refl refl refl

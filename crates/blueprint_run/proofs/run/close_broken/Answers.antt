@@ -14,4 +14,4 @@ returns-clause-wants g c = λ old b ss ds can opens leaves.
       source_there = c.every_source_reads_little_ahead.ensures.there;
       sink_there = c.every_sink_agrees.ensures.there;
     })
-    c.every_sink_writes.ensures c.fit_blueprints_are_whole.ensures.ranked b can ss ds _ leaves old _ opens _ c.close_all.ensures
+    c.every_sink_writes.ensures c.fit_blueprints_are_whole.ensures.ranked b can ss ds _ leaves old _ opens _ c.close_all.ensures.closes

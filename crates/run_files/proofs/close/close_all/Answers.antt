@@ -2,5 +2,5 @@
 use Rattle.run_files.proofs.Closings.{closes_both}
 use Rattle.run_files.proofs.close.close_all.Goals as goal
 
-pub returns : goal.returns
-returns g c = closes_both _ _ _ _ _ c.close_inputs.ensures c.close_outputs.ensures
+pub returns-clause-closes : goal.returns-clause-closes
+returns-clause-closes g c = closes_both _ _ _ _ _ c.close_inputs.ensures.closes c.close_outputs.ensures.closes

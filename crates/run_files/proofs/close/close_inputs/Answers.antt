@@ -1,4 +1,5 @@
 -- The goals of `close::close_inputs` that the search leaves.
+use Rattle.run_files.proofs.Handles.{less_next}
 use Rattle.run_files.proofs.Lists.{place_next, len_next}
 use Rattle.run_files.proofs.Closings.{closes_next}
 use Rattle.std.proofs.Common.{refl}
@@ -13,4 +14,5 @@ loop-source-preserved g c =
       len_next _ _ _ _ _ next.0 next.1 kept.2,
       place_next _ _ _ _ _ kept.3 next.0,
       closes_next g.F.Inp.Source.state _ _ _ c.loop-source.yielded _ _ refl kept.4 c.close_in.ensures.closed c.close_in.ensures.files,
+      less_next _ _ _ c.loop-source.yielded _ kept.5 c.close_in.ensures.one_less,
     )

@@ -1,5 +1,5 @@
 -- The loop of `close::close_inputs`.
-use Rattle.std.proofs.Common.{◌≡◌, [], map, ◌++◌, length}
+use Rattle.std.proofs.Common.{◌≡◌, ◌-◌, [], map, ◌++◌, length}
 use Rattle.std.specs.Vec.Iter.{into_iter_items, into_iter_len}
 use Rattle.run_files.specs.Closing.{ClosesAll}
 use Rattle.run_files.proofs.close.close_inputs.Given as goal
@@ -11,3 +11,4 @@ invariant-loop-source g l =
     × (into_iter_len l.source-iterator ≡ length (into_iter_items l.source-iterator))
     × (l.fn.inputs.items ≡ l.yielded ++ into_iter_items l.source-iterator)
     × ClosesAll (g.F.Folder.state l.initial.folder) (g.F.Folder.state l.folder) (map g.F.Inp.Source.state l.yielded) []
+    × (g.F.Folder.handles l.folder ≡ g.F.Folder.handles l.initial.folder - length l.yielded)

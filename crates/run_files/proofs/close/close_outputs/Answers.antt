@@ -1,4 +1,5 @@
 -- The goals of `close::close_outputs` that the search leaves.
+use Rattle.run_files.proofs.Handles.{less_next}
 use Rattle.run_files.proofs.Lists.{place_next, len_next}
 use Rattle.run_files.proofs.Closings.{keeps_next}
 use Rattle.std.proofs.Common.{refl}
@@ -13,4 +14,5 @@ loop-drain-preserved g c =
       len_next _ _ _ _ _ next.0 next.1 kept.2,
       place_next _ _ _ _ _ kept.3 next.0,
       keeps_next g.F.Out.Drain.state _ _ _ c.loop-drain.yielded _ _ refl kept.4 c.close_out.ensures.closed,
+      less_next _ _ _ c.loop-drain.yielded _ kept.5 c.close_out.ensures.one_less,
     )

@@ -1,5 +1,5 @@
 -- The loop of `close::close_outputs`.
-use Rattle.std.proofs.Common.{◌≡◌, [], map, ◌++◌, length}
+use Rattle.std.proofs.Common.{◌≡◌, ◌-◌, [], map, ◌++◌, length}
 use Rattle.std.specs.Vec.Iter.{into_iter_items, into_iter_len}
 use Rattle.run_files.specs.Closing.{ClosesAll}
 use Rattle.run_files.proofs.close.close_outputs.Given as goal
@@ -11,3 +11,4 @@ invariant-loop-drain g l =
     × (into_iter_len l.drain-iterator ≡ length (into_iter_items l.drain-iterator))
     × (l.fn.outputs.items ≡ l.yielded ++ into_iter_items l.drain-iterator)
     × ClosesAll (g.F.Folder.state l.initial.folder) (g.F.Folder.state l.folder) [] (map g.F.Out.Drain.state l.yielded)
+    × (g.F.Folder.handles l.folder ≡ g.F.Folder.handles l.initial.folder - length l.yielded)

@@ -6,10 +6,10 @@ pub returns-in_default-clause-no_memory : goal.returns-in_default-clause-no_memo
 returns-in_default-clause-no_memory g c = λ e. gives_up_first _ _
 
 pub returns-in-Err-clause-no_input : goal.returns-in-Err-clause-no_input
-returns-in-Err-clause-no_input g c = λ n e. misses _ _ _ _ _ _ _ (c.in-Err.ensures.no_input n (cc)) c.close_all.ensures
+returns-in-Err-clause-no_input g c = λ n e. misses _ _ _ _ _ _ _ (c.in-Err.ensures.no_input n (cc)) c.close_all.ensures.closes
 
 pub returns-in-Err-clause-no_output : goal.returns-in-Err-clause-no_output
-returns-in-Err-clause-no_output g c = λ n e. refuses _ _ _ _ _ _ _ _ (c.in-Err.ensures.no_output n (cc)) c.close_all.ensures
+returns-in-Err-clause-no_output g c = λ n e. refuses _ _ _ _ _ _ _ _ (c.in-Err.ensures.no_output n (cc)) c.close_all.ensures.closes
 
 pub returns-in-Err-clause-no_memory : goal.returns-in-Err-clause-no_memory
-returns-in-Err-clause-no_memory g c = λ e. gives_up _ _ _ _ _ _ (c.in-Err.ensures.no_memory (cc)) c.close_all.ensures
+returns-in-Err-clause-no_memory g c = λ e. gives_up _ _ _ _ _ _ (c.in-Err.ensures.no_memory (cc)) c.close_all.ensures.closes

@@ -1,5 +1,6 @@
 -- The goals of `open::open_inputs` that the search leaves.
 use Rattle.std.proofs.Common.{arith}
+use Rattle.run_files.proofs.Handles.{more_next}
 use Rattle.run_files.proofs.Lists.{place_next, len_next}
 use Rattle.run_files.proofs.Openings.{source_next}
 use Rattle.run_files.proofs.open.open_inputs.Goals as goal
@@ -15,4 +16,5 @@ loop-name-preserved g c =
       place_next _ _ _ _ _ kept.3 next.0,
       omega (arith, kept.4, next.1, c.push_reserved.ensures.len, c.push_reserved.ensures.capacity),
       source_next g.F.Inp.Source.state _ _ _ _ _ _ _ _ c.push_reserved.ensures.items kept.5 said.opened said.files said.faults said.no_refusal,
+      more_next _ _ _ _ _ _ kept.6 said.one_more c.push_reserved.ensures.items,
     )

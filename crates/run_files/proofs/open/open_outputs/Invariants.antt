@@ -13,3 +13,4 @@ invariant-loop-name g l =
     × (l.fn.names.items ≡ l.yielded ++ into_iter_items l.name-iterator)
     × (vec_len l.drains + into_iter_len l.name-iterator ≤ vec_capacity l.drains)
     × OpensAll (g.F.Folder.state l.initial.folder) (g.F.Folder.state l.folder) [] l.yielded [] (map g.F.Out.Drain.state l.drains.items)
+    × (g.F.Folder.handles l.folder ≡ g.F.Folder.handles l.initial.folder + length l.drains.items)

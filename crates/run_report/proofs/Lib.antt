@@ -1,1 +1,2 @@
 pub mod Puttings
+pub mod Tracing

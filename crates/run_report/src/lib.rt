@@ -4,3 +4,4 @@
 pub mod outcome;
 pub mod put;
 pub mod report;
+pub mod trace;

@@ -6,6 +6,7 @@ use crate::laws::a_called_stage_is_open;
 use crate::trip::Trip;
 use crate::valve::Valve;
 use elem_core::elem::Elem;
+use elem_core::item::Item;
 use elem_core::why::{Cause, NoMemory};
 use port_core::acts::Acts;
 use stage_core::stage::Stage;
@@ -24,6 +25,10 @@ impl Stage for Valve {
 
     ghost keeps = { KeepsValve };
 
+    ghost gone = { λ l. [] };
+
+    ghost waits = { λ l. [] };
+
     fn start(&mut self, _alloc: Global, acts: &mut Acts) -> Result<(), NoMemory> {
         self.start(acts)
     }
@@ -63,6 +68,16 @@ impl Stage for Valve {
     fn on_cancel(&mut self, _alloc: Global, _port: u8, acts: &mut Acts) -> Result<(), NoMemory> {
         a_called_stage_is_open();
         self.on_cancel(acts)
+    }
+
+    fn hand_out(&mut self) -> Option<Item> {
+        None
+    }
+
+    fn let_go(&mut self) {}
+
+    fn is_clear(&self) -> bool {
+        true
     }
 }
 
@@ -79,6 +94,10 @@ impl Stage for Trip {
 
     ghost keeps = { KeepsTrip };
 
+    ghost gone = { λ l. [] };
+
+    ghost waits = { λ l. [] };
+
     fn start(&mut self, _alloc: Global, acts: &mut Acts) -> Result<(), NoMemory> {
         self.start(acts)
     }
@@ -118,5 +137,15 @@ impl Stage for Trip {
     fn on_cancel(&mut self, _alloc: Global, _port: u8, acts: &mut Acts) -> Result<(), NoMemory> {
         a_called_stage_is_open();
         self.on_cancel(acts)
+    }
+
+    fn hand_out(&mut self) -> Option<Item> {
+        None
+    }
+
+    fn let_go(&mut self) {}
+
+    fn is_clear(&self) -> bool {
+        true
     }
 }

@@ -1,16 +1,18 @@
 -- A new stage takes its inputs as the model says of its kind, and so what it gave agrees with the outlook of its output.
 use Rattle.std.specs.Prelude.{slice_index_or}
-use Rattle.std.proofs.Common.{◌≡◌, ℕ, ◌≤◌, List, [], ◌∷◌, length, refl, sym, ap, ◌∙◌, subst, arith, Option, Some, None}
+use Rattle.std.proofs.Common.{◌≡◌, ℕ, ◌≤◌, true, List, [], ◌∷◌, length, refl, sym, ap, ◌∙◌, subst, arith, Option, Some, None}
 use Rattle.elem_core.specs.Tree.{Tree}
 use Rattle.elem_core.specs.declared.item.Item.{Item}
 use Rattle.elem_core.specs.declared.why.Decider.{Decider}
 use Rattle.port_core.specs.View.{View}
 use Rattle.stream_model.specs.declared.kind.Kind.{Kind}
-use Rattle.stream_model.specs.declared.kind.Kind.TheVariants.{Concat, Interleave, MergeSorted, Zip}
+use Rattle.stream_model.specs.declared.kind.Kind.TheVariants.{Merge, Concat, Interleave, MergeSorted, Zip}
 use Rattle.stream_model.specs.Graph.{Graph}
+use Rattle.stream_model.specs.Fits.{moves_fit}
 use Rattle.stream_model.specs.Node.{World, node_outlook, head_of, second_of}
 use Rattle.stream_model.specs.Outlook.{Outlook, End, Agrees}
 use Rattle.stream_model.specs.FanIn.{Tagged, Inflow, AllAgree, FanStands, concat_taken, interleave_taken, sorted_taken, sorted_outlook, zip_outlook}
+use Rattle.stream_model.specs.Picks.{merge_fits}
 use Rattle.stream_model.proofs.FanTraces.{concat_trace, interleave_trace, sorted_trace}
 use Rattle.stream_model.proofs.PickTraces.{zip_trace}
 use Rattle.stage_law.specs.Zips.{ZipStandsOf}
@@ -24,7 +26,11 @@ use Rattle.stage_in.specs.Takings as taking
 use Rattle.stage_in.specs.Takings.{Taking}
 use Rattle.stage_in.specs.Sortings as sorted
 use Rattle.stage_in.specs.Zippings as zipping
-use Rattle.stage_in.specs.Logics.{Begins, IsFanIn, TakesAs, inputs_of, InLaw, unasked_ports}
+use Rattle.stage_merge.specs.Mergings as merging
+use Rattle.stage_merge.specs.Mergings.{Merging}
+use Rattle.stage_merge.proofs.MergeNodes as merge
+use Rattle.stage_in.specs.Logics.{Begins, IsFanIn, IsOrdered, TakesAs, inputs_of, SameKind, InLaw, unasked_ports}
+use Rattle.stage_in.specs.Moves.{in_picks, TellsMoves}
 use Rattle.stage_in.proofs.Takes.{no_hold, new_row}
 
 -- ---- what it gave agrees
@@ -52,30 +58,65 @@ as_taken : (segment : Option ℕ) (taken to : List Outlook → List Tagged) (ins
 as_taken segment taken to ins g e is s = subst (λ h. FanStands h to ins g e) (no_hold segment) (subst (λ (t : List Outlook → List Tagged). FanStands (taking_by segment).hold t ins g e) is s)
 
 module _ (w : Graph) (world : World) (node : ℕ) (d : Decider) (is : List Outlook) (v : View) (took gave : List (List Item)) where
-  takes_agree : (kind : Kind) (first now : InLogic) → TakesAs kind first → length is ≡ inputs_of kind → (law : InLaw first now v took gave) → AllAgree is law.by.law.ins → Agrees (node_outlook w world node kind d is 0) law.by.law.out_list law.by.law.out_end
-  takes_agree (Concat n) (logic.Taking f) (logic.Taking l) t many law h =
+  takes_agree : (kind : Kind) (first now : InLogic) → TakesAs kind first → length is ≡ inputs_of kind → TellsMoves world node now → (law : InLaw first now v took gave) → AllAgree is law.by.law.ins → Agrees (node_outlook w world node kind d is 0) law.by.law.out_list law.by.law.out_end
+  takes_agree (Concat n) (logic.Taking f) (logic.Taking l) t many tells law h =
       let p = law.by.law in
       concat_trace is p.ins p.out_list p.out_end h (as_taken f.segment ((taking_by f.segment).from (taking.place_of f)) concat_taken p.ins p.out_list p.out_end t.1
       (fan_history_stands (taking_by f.segment) (taking.place_of f) (taking.held l) v (λ i. slice_index_or took i []) law.by.given p))
-  takes_agree (Interleave n s) (logic.Taking f) (logic.Taking l) t many law h =
+  takes_agree (Interleave n s) (logic.Taking f) (logic.Taking l) t many tells law h =
       let p = law.by.law in
       interleave_trace s is p.ins p.out_list p.out_end h (as_taken f.segment ((taking_by f.segment).from (taking.place_of f)) (interleave_taken s) p.ins p.out_list p.out_end t.1
       (fan_history_stands (taking_by f.segment) (taking.place_of f) (taking.held l) v (λ i. slice_index_or took i []) law.by.given p))
-  takes_agree MergeSorted (logic.Sorting f) (logic.Sorting l) t many law h =
+  takes_agree MergeSorted (logic.Sorting f) (logic.Sorting l) t many tells law h =
       let p = law.by.law in
       sorted_agrees is p.ins p.out_list p.out_end many h (fan_history_stands sorting sorted.nowhere (sorted.held l) v (λ i. slice_index_or took i []) law.by.given p)
-  takes_agree Zip (logic.Zipping f) (logic.Zipping l) t many law h =
+  takes_agree Zip (logic.Zipping f) (logic.Zipping l) t many tells law h =
       let p = law.by.law in
       zip_agrees is p.ins p.out_list p.out_end many h (zip_history_stands (zipping.held l) v (λ i. slice_index_or took i []) law.by.given p)
-  takes_agree (Concat n) (logic.Taking f) now t many law h = absurd law.same
-  takes_agree (Interleave n s) (logic.Taking f) now t many law h = absurd law.same
-  takes_agree MergeSorted (logic.Sorting f) now t many law h = absurd law.same
-  takes_agree Zip (logic.Zipping f) now t many law h = absurd law.same
-  takes_agree kind first now t many law h = absurd t
+  takes_agree (Merge n) (logic.Merging f) (logic.Merging l) t many tells law h = merge.output_agrees is f l v took gave (record { unmoved = law.same; by = law.by }) h w world node n d (tells l.log.moves refl)
+  takes_agree (Concat n) (logic.Taking f) now t many tells law h = absurd law.same
+  takes_agree (Interleave n s) (logic.Taking f) now t many tells law h = absurd law.same
+  takes_agree MergeSorted (logic.Sorting f) now t many tells law h = absurd law.same
+  takes_agree Zip (logic.Zipping f) now t many tells law h = absurd law.same
+  takes_agree (Merge n) (logic.Merging f) now t many tells law h = absurd law.same
+  takes_agree kind first now t many tells law h = absurd t
 
-pub begun_agrees : (w : Graph) (world : World) (node : ℕ) (kind : Kind) (d : Decider) (is : List Outlook) (first now : InLogic) (v : View) (took gave : List (List Item)) → Begins node kind d first → length is ≡ inputs_of kind
+pub begun_agrees : (w : Graph) (world : World) (node : ℕ) (kind : Kind) (d : Decider) (is : List Outlook) (first now : InLogic) (v : View) (took gave : List (List Item)) → Begins node kind d first → length is ≡ inputs_of kind → TellsMoves world node now
     → (law : InLaw first now v took gave) → AllAgree is law.by.law.ins → Agrees (node_outlook w world node kind d is 0) law.by.law.out_list law.by.law.out_end
-begun_agrees w world node kind d is first now v took gave b many law h = takes_agree w world node d is v took gave kind first now b.takes many law h
+begun_agrees w world node kind d is first now v took gave b many tells law h = takes_agree w world node d is v took gave kind first now b.takes many tells law h
+
+-- ---- its moves fit
+
+takes_fit : (w : Graph) (world : World) (node : ℕ) (kind : Kind) (is : List Outlook) (first now : InLogic) (v : View) (took gave : List (List Item)) → TakesAs kind first → TellsMoves world node now → (law : InLaw first now v took gave) → AllAgree is law.by.law.ins → moves_fit w world node kind is ≡ true
+takes_fit w world node (Concat n) is (logic.Taking f) now v took gave t tells law h = refl
+takes_fit w world node (Interleave n s) is (logic.Taking f) now v took gave t tells law h = refl
+takes_fit w world node MergeSorted is (logic.Sorting f) now v took gave t tells law h = refl
+takes_fit w world node Zip is (logic.Zipping f) now v took gave t tells law h = refl
+takes_fit w world node (Merge n) is (logic.Merging f) (logic.Merging l) v took gave t tells law h =
+    subst (λ ms. merge_fits ms is ≡ true) (sym (tells l.log.moves refl)) (merge.moves_fit is f l v took gave (record { unmoved = law.same; by = law.by }) h)
+takes_fit w world node (Merge n) is (logic.Merging f) now v took gave t tells law h = absurd law.same
+takes_fit w world node kind is first now v took gave t tells law h = absurd t
+
+pub begun_fits : (w : Graph) (world : World) (node : ℕ) (kind : Kind) (d : Decider) (is : List Outlook) (first now : InLogic) (v : View) (took gave : List (List Item)) → Begins node kind d first → TellsMoves world node now
+    → (law : InLaw first now v took gave) → AllAgree is law.by.law.ins → moves_fit w world node kind is ≡ true
+begun_fits w world node kind d is first now v took gave b tells law h = takes_fit w world node kind is first now v took gave b.takes tells law h
+
+-- ---- one whose inputs' lists determine its order chooses nothing
+
+pub ordered_unmoved : (kind : Kind) (first now : InLogic) → IsOrdered kind → TakesAs kind first → SameKind first now → in_picks now ≡ None
+ordered_unmoved (Concat n) (logic.Taking f) (logic.Taking l) o t s = refl
+ordered_unmoved (Interleave n k) (logic.Taking f) (logic.Taking l) o t s = refl
+ordered_unmoved MergeSorted (logic.Sorting f) (logic.Sorting l) o t s = refl
+ordered_unmoved Zip (logic.Zipping f) (logic.Zipping l) o t s = refl
+ordered_unmoved (Concat n) (logic.Taking f) now o t s = absurd s
+ordered_unmoved (Interleave n k) (logic.Taking f) now o t s = absurd s
+ordered_unmoved MergeSorted (logic.Sorting f) now o t s = absurd s
+ordered_unmoved Zip (logic.Zipping f) now o t s = absurd s
+ordered_unmoved (Merge n) first now o t s = absurd o
+ordered_unmoved kind first now o t s = absurd t
+
+pub ordered_tells : (world : World) (node : ℕ) (kind : Kind) (first now : InLogic) → IsOrdered kind → TakesAs kind first → SameKind first now → TellsMoves world node now
+ordered_tells world node kind first now o t s moves e = let none = ordered_unmoved kind first now o t s in let z : None ≡ Some moves = sym none ∙ e in cc
 
 -- ---- a new stage
 
@@ -125,3 +166,9 @@ module _ (node : ℕ) (kind : Kind) (d : Decider) (new : InLogic) where
 
   pub zip_new : (l : Pairing) → kind ≡ Zip → new ≡ logic.Zipping l → l ≡ new_pair → Begins node kind d new
   zip_new l is to b = as_kind Zip (logic.Zipping new_pair) is (to ∙ ap logic.Zipping b) (zip_begins node d)
+
+  pub merge_new : (n : ℕ) (l : Merging) → IsFanIn kind → kind ≡ Merge n → new ≡ logic.Merging l → merging.Begins n l → Begins node kind d new
+  merge_new n l fit is to b =
+      let f = subst IsFanIn is fit in
+      let start = merge.new_may_start n l f.0 f.1 b in
+      as_kind (Merge n) (logic.Merging l) is to (record { fresh = (start.fresh, start.unmoved); takes = tt; ready = start.row })

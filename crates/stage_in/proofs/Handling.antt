@@ -1,6 +1,7 @@
 -- A call of a handler is what the trait of a stage asks; one of an output is of the one output.
 use Rattle.std.specs.Prelude.{Result, OnOk, slice_index_or}
 use Rattle.std.proofs.Common.{◌≡◌, ◌≤◌, ℕ, zero, suc, Bool, true, false, List, [], ◌∷◌, length, refl, sym, ap, subst, arith}
+use Rattle.elem_core.specs.Prefix.{IsPrefix}
 use Rattle.port_core.specs.declared.act.Act.{Act}
 use Rattle.port_core.specs.declared.view.OutView.{OutView}
 use Rattle.port_core.specs.declared.view.OutView.TheVariants.{Shut}
@@ -8,6 +9,7 @@ use Rattle.port_core.specs.View.{View, IsOutOpen}
 use Rattle.port_core.specs.Call.{Call, starts, asks, brings, cancels, CallAllowed, Meets, Obeys}
 use Rattle.stage_core.specs.Handling.{most_acts, Handles}
 use Rattle.stage_core.proofs.OnOks.{on_ok_two}
+use Rattle.stage_in.proofs.OnOks.{on_ok}
 use Rattle.stage_fans.specs.declared.phase.Phase.{Phase}
 use Rattle.stage_fans.specs.declared.phase.Phase.TheVariants.{New, Open, Closed}
 use Rattle.stage_in.specs.declared.logic.InLogic.{InLogic}
@@ -17,8 +19,10 @@ use Rattle.stage_in.specs.Pairings.{Pairing, row_by}
 use Rattle.stage_in.specs.Takings as taking
 use Rattle.stage_in.specs.Sortings as sorted
 use Rattle.stage_in.specs.Zippings as zipping
+use Rattle.stage_merge.specs.Mergings as merging
 use Rattle.stage_in.specs.Logics.{row, room_of, Turned, InFresh, InRow, InLaw}
-use Rattle.stage_in.proofs.Nodes.{called_fits, handled}
+use Rattle.stage_in.specs.Moves.{in_moves}
+use Rattle.stage_in.proofs.Nodes.{called_fits, handled, turned_grows}
 
 -- ---- it has one output
 
@@ -36,10 +40,16 @@ one_pairing Sound New l v r = ap (λ (w : View). length w.outs) r.0
 one_pairing Sound Open l v r = ap (λ (w : View). length w.outs) r.0
 one_pairing Sound Closed l v r = one_closed v.outs r.1
 
+one_merging : (p : Phase) (l : merging.Core) (v : View) → merging.row_by p l v → length v.outs ≡ 1
+one_merging New l v r = ap (λ (w : View). length w.outs) r.0
+one_merging Open l v r = ap (λ (w : View). length w.outs) r.0
+one_merging Closed l v r = one_closed v.outs r.1
+
 one_output : (l : InLogic) (v : View) → row l v → length v.outs ≡ 1
 one_output (logic.Taking l) v r = one_taking l.live l v r
 one_output (logic.Sorting l) v r = one_pairing sorted.Sound l.phase l v r
 one_output (logic.Zipping l) v r = one_pairing zipping.Sound l.phase l v r
+one_output (logic.Merging l) v r = one_merging l.core.phase l.core v r
 
 -- the same call of that output
 abbrev pub at_output : Call → Call
@@ -84,3 +94,6 @@ pub handles : {T E : Type 0} (call : Call) (old new : InLogic) (acts : List Act)
 handles call old new acts r n m o t =
     subst (λ c. OnOk r (Handles InRow InLaw c old new acts)) (output_is call old m.0 m.1.0 m.1.1.row)
     (on_ok_two r o t (λ a b. handled (at_output call) old new acts (not_starts call n) m.1.1.started a b))
+
+pub grows : {T E : Type 0} (call : Call) (old new : InLogic) (acts : List Act) (r : Result T E) → OnOk r (Turned call old acts new) → OnOk r (IsPrefix (in_moves old) (in_moves new))
+grows call old new acts r t = on_ok r (turned_grows call old new acts) t

@@ -14,6 +14,7 @@ use Rattle.port_core.specs.Call.{AllIdle, AllUnasked, Call, starts, CallAllowed,
 use Rattle.stream_model.specs.Outlook.{End, unended}
 use Rattle.stream_model.specs.FanIn.{Inflow}
 use Rattle.stream_picture.specs.View as picture
+use Rattle.elem_core.specs.Prefix.{IsPrefix}
 use Rattle.stream_picture.specs.Rests.{SortedRests, ZipRests}
 use Rattle.stage_core.specs.Handling.{most_acts, Starts, Handles}
 use Rattle.stage_core.specs.Histories.{given_all, brought_by, AllEmpty}
@@ -38,9 +39,13 @@ use Rattle.stage_in.specs.Takings as taking
 use Rattle.stage_in.specs.Takings.{Taking}
 use Rattle.stage_in.specs.Sortings as sorted
 use Rattle.stage_in.specs.Zippings as zipping
+use Rattle.stage_merge.specs.Mergings as merging
+use Rattle.stage_merge.specs.Mergings.{Merging}
+use Rattle.stage_merge.proofs.MergeNodes as merge
 use Rattle.stage_fans.specs.OwnRows.{FanRests}
 use Rattle.stage_fans.specs.PortsLaws.{InPortsLaw}
 use Rattle.stage_in.specs.Logics.{IsNew, IsOpen, IsStarted, room_of, row, Turned, InFresh, InRow, InLaw, KindRests}
+use Rattle.stage_in.specs.Moves.{in_moves}
 use Rattle.stage_fans.proofs.Closings.{none_called, closed_rests}
 use Rattle.stage_in.proofs.Rests.{taking_rests, sorting_rests, zipping_rests}
 use Rattle.stage_fans.proofs.Histories.{begun}
@@ -61,6 +66,7 @@ pub called_open : (l : InLogic) (c : Call) (v : View) → IsStarted l → (c ≡
 called_open (logic.Taking l) c v s n m r = open_taking l c v l.live refl n m r
 called_open (logic.Sorting l) c v s n m r = open_pairing sorted.Sound l c v l.phase refl s n m r
 called_open (logic.Zipping l) c v s n m r = open_pairing zipping.Sound l c v l.phase refl s n m r
+called_open (logic.Merging l) c v s n m r = merge.called_open l c v s m r
 
 -- the same of a call of each kind
 module _ (c : Call) (n : c ≡ starts → ⊥) (whole : InLogic) (s : IsStarted whole) (m : Meets c (row whole)) where
@@ -73,6 +79,9 @@ module _ (c : Call) (n : c ≡ starts → ⊥) (whole : InLogic) (s : IsStarted 
   pub zipping_open : (l : Pairing) → whole ≡ logic.Zipping l → l.phase ≡ Open
   zipping_open l is = called_open (logic.Zipping l) c m.0 (subst IsStarted is s) n m.1.0 (subst (λ x. row x m.0) is m.1.1)
 
+  pub merging_open : (l : Merging) → whole ≡ logic.Merging l → l.core.phase ≡ Open
+  merging_open l is = called_open (logic.Merging l) c m.0 (subst IsStarted is s) n m.1.0 (subst (λ x. row x m.0) is m.1.1)
+
 -- two actions for each port are few
 pub called_fits : (l : InLogic) (c : Call) (v : View) → CallAllowed c v → row l v → room_of l ≤ most_acts
 called_fits (logic.Taking l) c v m r = by_live l.live r
@@ -82,6 +91,7 @@ called_fits (logic.Taking l) c v m r = by_live l.live r
     by_live false r = absurd (none_called c v m r)
 called_fits (logic.Sorting l) c v m r = omega arith
 called_fits (logic.Zipping l) c v m r = omega arith
+called_fits (logic.Merging l) c v m r = merge.called_fits l c v m r
 
 -- ---- between two calls
 
@@ -113,6 +123,7 @@ logic_rests (logic.Sorting f) (logic.Sorting l) v took gave s r law =
 logic_rests (logic.Zipping f) (logic.Zipping l) v took gave s r law =
     rests_of ZipRests zipping.Sound l v law.by.law.ins law.by.law.out_list l.phase refl s r law.by.law.ports
     (λ a b is e. zipping_rests l v a b law.by.law.out_list law.by.law.out_end e r (subst (λ fs. ZipKeeps (zipping.held l) fs law.by.law.out_list law.by.law.out_end) is law.by.law.keeps))
+logic_rests (logic.Merging f) (logic.Merging l) v took gave s r law = merge.logic_rests f l v took gave (record { started = s; row = r }) (record { unmoved = law.same; by = law.by })
 logic_rests first now v took gave s r law = absurd law.same
 
 -- ---- calls
@@ -131,22 +142,37 @@ turn_keeps c (logic.Zipping f) (logic.Zipping l) (logic.Zipping m) v took gave a
   same = tt;
   by = zip_node c (zipping.held l) (zipping.held m) v took gave acts may allowed t.turn law.by;
 }
+turn_keeps c (logic.Merging f) (logic.Merging l) (logic.Merging m) v took gave acts may allowed t law = record {
+  same = law.same;
+  by = merge.keeps_ports c l m v took gave acts may allowed t.turn law.by;
+}
 turn_keeps c (logic.Taking f) (logic.Taking l) new v took gave acts may allowed t law = absurd t
 turn_keeps c (logic.Sorting f) (logic.Sorting l) new v took gave acts may allowed t law = absurd t
 turn_keeps c (logic.Zipping f) (logic.Zipping l) new v took gave acts may allowed t law = absurd t
+turn_keeps c (logic.Merging f) (logic.Merging l) new v took gave acts may allowed t law = absurd t
 turn_keeps c first old new v took gave acts may allowed t law = absurd law.same
 
 turned_started : (c : Call) (old new : InLogic) (acts : List Act) → Turned c old acts new → IsStarted new
 turned_started c (logic.Taking l) (logic.Taking m) acts t = tt
 turned_started c (logic.Sorting l) (logic.Sorting m) acts t = t.started
 turned_started c (logic.Zipping l) (logic.Zipping m) acts t = t.started
+turned_started c (logic.Merging l) (logic.Merging m) acts t = t.started
 turned_started c old new acts t = absurd t
 
 turned_stands : (c : Call) (old new : InLogic) (acts : List Act) → Turned c old acts new → AsksStand acts
 turned_stands c (logic.Taking l) (logic.Taking m) acts t = t.stands
 turned_stands c (logic.Sorting l) (logic.Sorting m) acts t = t.stands
 turned_stands c (logic.Zipping l) (logic.Zipping m) acts t = t.stands
+turned_stands c (logic.Merging l) (logic.Merging m) acts t = t.stands
 turned_stands c old new acts t = absurd t
+
+-- its moves only grow
+pub turned_grows : (c : Call) (old new : InLogic) (acts : List Act) → Turned c old acts new → IsPrefix (in_moves old) (in_moves new)
+turned_grows c (logic.Taking l) (logic.Taking m) acts t = record { rest = []; is = refl }
+turned_grows c (logic.Sorting l) (logic.Sorting m) acts t = record { rest = []; is = refl }
+turned_grows c (logic.Zipping l) (logic.Zipping m) acts t = record { rest = []; is = refl }
+turned_grows c (logic.Merging l) (logic.Merging m) acts t = record { rest = t.more; is = t.grows }
+turned_grows c old new acts t = absurd t
 
 pub handled : (c : Call) (old new : InLogic) (acts : List Act) → (c ≡ starts → ⊥) → IsStarted old → Obeys c (row old) (row new) acts → Turned c old acts new → Handles InRow InLaw c old new acts
 handled c old new acts n s o t = record {
@@ -215,6 +241,7 @@ fresh_law : (l : InLogic) (v : View) (took gave : List (List Item)) → CallAllo
 fresh_law (logic.Taking l) v took gave may new r a b m n = record { same = refl; by = fresh_taking l v took gave may new r a b m n }
 fresh_law (logic.Sorting l) v took gave may new r a b m n = record { same = tt; by = fresh_sorting l v took gave may new r a b m n }
 fresh_law (logic.Zipping l) v took gave may new r a b m n = record { same = tt; by = fresh_zipping l v took gave may new r a b m n }
+fresh_law (logic.Merging l) v took gave may new r a b m n = record { same = new.1; by = merge.fresh_law l v took gave may (record { fresh = new.0; unmoved = new.1; row = r }) a b m n }
 
 pub started : (old new : InLogic) (acts : List Act) → IsNew old → Obeys starts (row old) (row new) acts → Turned starts old acts new → Starts InRow InLaw InFresh old new acts
 started old new acts n o t = record {

@@ -6,3 +6,4 @@ pub mod Zippings
 pub mod Sortings
 pub mod OwnRows
 pub mod Logics
+pub mod Moves

@@ -9,15 +9,16 @@ use Rattle.port_core.specs.declared.view.OutView.TheVariants.{Unasked}
 use Rattle.port_core.specs.View as port
 use Rattle.port_core.specs.Call.{Call}
 use Rattle.stream_model.specs.declared.kind.Kind.{Kind}
-use Rattle.stream_model.specs.declared.kind.Kind.TheVariants.{Concat, Interleave, MergeSorted, Zip}
+use Rattle.stream_model.specs.declared.kind.Kind.TheVariants.{Merge, Concat, Interleave, MergeSorted, Zip}
 use Rattle.stream_model.specs.declared.kind.TheConstants.{MAX_FAN}
 use Rattle.stream_model.specs.Outlook.{End}
 use Rattle.stream_model.specs.FanIn.{Inflow, concat_taken, interleave_taken}
 use Rattle.stream_picture.specs.View.{View}
-use Rattle.stream_picture.specs.Rests.{SortedRests, ZipRests}
+use Rattle.stream_picture.specs.Rests.{MergeRests, SortedRests, ZipRests}
 use Rattle.stage_fans.specs.PortsLaws.{InPortsLaw}
 use Rattle.stage_law.specs.Fans.{FanKeeps}
 use Rattle.stage_law.specs.Zips.{ZipKeeps}
+use Rattle.stage_law.specs.Merges.{MergeKeeps}
 use Rattle.stage_fans.specs.declared.phase.Phase.TheVariants.{New, Open}
 use Rattle.stage_in.specs.declared.logic.InLogic.{InLogic}
 use Rattle.stage_in.specs.declared.logic.InLogic.TheVariants as logic
@@ -26,6 +27,7 @@ use Rattle.stage_fans.specs.Seats.{room_for}
 use Rattle.stage_in.specs.Takings as taking
 use Rattle.stage_in.specs.Sortings as sorted
 use Rattle.stage_in.specs.Zippings as zipping
+use Rattle.stage_merge.specs.Mergings as merging
 use Rattle.stage_in.specs.OwnRows.{TakingRests}
 
 -- ---- kinds
@@ -44,67 +46,85 @@ IsFanIn (Concat n) = IsFan n
 IsFanIn (Interleave n s) = IsFan n × ((1 ≤ s) × (s ≤ max_segment))
 IsFanIn MergeSorted = ⊤
 IsFanIn Zip = ⊤
+IsFanIn (Merge n) = IsFan n
 IsFanIn _ = ⊥
+
+-- those whose inputs' lists determine their order, so that they choose nothing
+abbrev pub IsOrdered : Kind → Type 0
+IsOrdered (Concat n) = ⊤
+IsOrdered (Interleave n s) = ⊤
+IsOrdered MergeSorted = ⊤
+IsOrdered Zip = ⊤
+IsOrdered _ = ⊥
 
 -- how many inputs such a kind has
 abbrev pub inputs_of : Kind → ℕ
 inputs_of (Concat n) = n
 inputs_of (Interleave n s) = n
+inputs_of (Merge n) = n
 inputs_of _ = 2
 
 -- ---- where a stage stands
 
--- it may be started; a stage that asks nothing at its start is then open already
+-- it may be started, and made no move; a stage that asks nothing at its start is then open already
 abbrev pub IsNew : InLogic → Type 0
 IsNew (logic.Taking l) = l.live ≡ true
 IsNew (logic.Sorting l) = l.phase ≡ New
 IsNew (logic.Zipping l) = l.phase ≡ New
+IsNew (logic.Merging l) = (l.core.phase ≡ New) × (l.log.moves ≡ [])
 
 -- it takes and gives elements
 abbrev pub IsOpen : InLogic → Type 0
 IsOpen (logic.Taking l) = l.live ≡ true
 IsOpen (logic.Sorting l) = l.phase ≡ Open
 IsOpen (logic.Zipping l) = l.phase ≡ Open
+IsOpen (logic.Merging l) = l.core.phase ≡ Open
 
 -- it needs no start any more
 abbrev pub IsStarted : InLogic → Type 0
 IsStarted (logic.Taking l) = ⊤
 IsStarted (logic.Sorting l) = l.phase ≢ New
 IsStarted (logic.Zipping l) = l.phase ≢ New
+IsStarted (logic.Merging l) = l.core.phase ≢ New
 
 -- the most actions that one of its calls appends
 abbrev pub room_of : InLogic → ℕ
 room_of (logic.Taking l) = room_for (length l.over)
 room_of (logic.Sorting l) = room_for 2
 room_of (logic.Zipping l) = room_for 2
+room_of (logic.Merging l) = room_for (length l.core.over)
 
 -- what it knows of its ports
 abbrev pub row : InLogic → port.View → Type 0
 row (logic.Taking l) v = taking.row l v
 row (logic.Sorting l) v = sorted.row l v
 row (logic.Zipping l) v = zipping.row l v
+row (logic.Merging l) v = merging.row l v
 
 -- no call of it takes memory
 abbrev pub TakesNone : InLogic → Type 0
 TakesNone (logic.Taking l) = ⊤
 TakesNone (logic.Sorting l) = ⊤
 TakesNone (logic.Zipping l) = ⊥
+TakesNone (logic.Merging l) = ⊥
 
 -- what a handler owes to the law; the stage stays of its kind, and no action cancels what an earlier one asked
 abbrev pub Turned : Call → InLogic → List Act → InLogic → Type 0
 Turned call (logic.Taking l) acts (logic.Taking m) = taking.Turned call l acts m
 Turned call (logic.Sorting l) acts (logic.Sorting m) = sorted.Turned call l acts m
 Turned call (logic.Zipping l) acts (logic.Zipping m) = zipping.Turned call l acts m
+Turned call (logic.Merging l) acts (logic.Merging m) = merging.Turned call l acts m
 Turned _ _ _ _ = ⊥
 
 -- ---- a new stage
 
--- it takes its inputs as the model says of the kind, and by its segment or by none; a merge_sorted and a zip have one way alone
+-- it takes its inputs as the model says of the kind, and by its segment or by none; a merge_sorted, a zip and a merge have one way alone
 abbrev pub TakesAs : Kind → InLogic → Type 0
 TakesAs (Concat n) (logic.Taking l) = (l.segment ≡ None) × ((taking_by l.segment).from (taking.place_of l) ≡ concat_taken)
 TakesAs (Interleave n s) (logic.Taking l) = (l.segment ≡ Some s) × ((taking_by l.segment).from (taking.place_of l) ≡ interleave_taken s)
 TakesAs MergeSorted (logic.Sorting l) = ⊤
 TakesAs Zip (logic.Zipping l) = ⊤
+TakesAs (Merge n) (logic.Merging l) = ⊤
 TakesAs _ _ = ⊥
 
 -- n inputs and an output that were not asked
@@ -119,11 +139,12 @@ pub record Begins (node : ℕ) (kind : Kind) (d : Decider) (new : InLogic) : Typ
 
 -- ---- the law
 
--- it is of the kind that it was
+-- it is of the kind that it was; a merge had made no move then
 abbrev pub SameKind : InLogic → InLogic → Type 0
 SameKind (logic.Taking f) (logic.Taking l) = l.segment ≡ f.segment
 SameKind (logic.Sorting f) (logic.Sorting l) = ⊤
 SameKind (logic.Zipping f) (logic.Zipping l) = ⊤
+SameKind (logic.Merging f) (logic.Merging l) = f.log.moves ≡ []
 SameKind _ _ = ⊥
 
 -- what the histories of its ports have to do with each other, by the stage as it was at first and as it is now
@@ -131,6 +152,7 @@ abbrev pub Keeps : InLogic → InLogic → List Inflow → List Tree → End →
 Keeps (logic.Taking f) (logic.Taking l) = FanKeeps (taking_by f.segment) (taking.place_of f) (taking.held l)
 Keeps (logic.Sorting f) (logic.Sorting l) = FanKeeps sorting sorted.nowhere (sorted.held l)
 Keeps (logic.Zipping f) (logic.Zipping l) = ZipKeeps (zipping.held l)
+Keeps (logic.Merging f) (logic.Merging l) = MergeKeeps (merging.held l)
 Keeps _ _ = λ ins g e. ⊥
 
 -- it may be started, and its row holds
@@ -153,3 +175,4 @@ abbrev pub KindRests : InLogic → List View → View → Type 0
 KindRests (logic.Taking l) = TakingRests l.segment
 KindRests (logic.Sorting l) = SortedRests
 KindRests (logic.Zipping l) = ZipRests
+KindRests (logic.Merging l) = MergeRests

@@ -1,6 +1,7 @@
 // A stage with several inputs as the interpreter calls it: its calls keep the law of its histories.
 ghost use Rattle.std.specs.Prelude.{[], ⊤};
 ghost use Rattle.stage_in.specs.Logics.{InFresh, InRow, InLaw};
+ghost use Rattle.stage_in.specs.Moves.{in_moves};
 
 use crate::logic::InLogic;
 use elem_core::elem::Elem;
@@ -19,7 +20,7 @@ impl Stage for InLogic {
 
     ghost asking = { λ l v. ⊤ };
 
-    ghost moves = { λ l. [] };
+    ghost moves = { in_moves };
 
     ghost keeps = { λ old new. ⊤ };
 

@@ -1,5 +1,5 @@
 // Laws of the stages with several inputs: each function has no body, and its contract is the law.
-ghost use Rattle.std.specs.Prelude.{◌≡◌, ◌≢◌, ◌≤◌, ℕ, List, length};
+ghost use Rattle.std.specs.Prelude.{◌≡◌, ◌≢◌, ◌≤◌, ℕ, true, List, length};
 ghost use Rattle.elem_core.specs.declared.item.Item.{Item};
 ghost use Rattle.elem_core.specs.declared.why.Decider.{Decider};
 ghost use Rattle.port_core.specs.declared.act.Act.{Act};
@@ -10,9 +10,11 @@ ghost use Rattle.stream_model.specs.Graph.{Graph};
 ghost use Rattle.stream_model.specs.Node.{World, node_outlook};
 ghost use Rattle.stream_model.specs.Outlook.{Outlook, Agrees};
 ghost use Rattle.stream_model.specs.FanIn.{AllAgree};
+ghost use Rattle.stream_model.specs.Fits.{moves_fit};
 ghost use Rattle.stage_core.specs.Handling.{Starts, Handles, most_acts};
 ghost use Rattle.stage_in.specs.declared.logic.InLogic.{InLogic};
 ghost use Rattle.stage_in.specs.Logics.{Begins, IsNew, IsOpen, IsStarted, InFresh, InLaw, InRow, KindRests, Turned, inputs_of, room_of, row};
+ghost use Rattle.stage_in.specs.Moves.{TellsMoves};
 ghost use Rattle.stage_fans.specs.OwnRows.{FanRests};
 
 /// Where its row and its law hold, a stage that was started has closed all its ports, or has nothing to do.
@@ -38,9 +40,11 @@ pub fn calls_keep_the_law()
     ensures handles { (call : Call) (old new : InLogic) (acts : List Act) → call ≢ starts → IsStarted old → Obeys call (row old) (row new) acts → Turned call old acts new → Handles InRow InLaw call old new acts }
 {}
 
-/// Where its law holds from a new stage of this kind on, and what came to each input agrees with that input's outlook, what
-/// it gave agrees with the outlook that the model has of its output.
+/// Where its law holds from a new stage of this kind on, and what came to each input agrees with that input's outlook, its
+/// moves fit, and what it gave agrees with the outlook that the model has of its output by these moves.
 pub fn a_stage_agrees_with_its_outlook()
-    ensures { (g : Graph) (w : World) (node : ℕ) (kind : Kind) (d : Decider) (is : List Outlook) (first now : InLogic) (v : View) (took gave : List (List Item)) → Begins node kind d first → length is ≡ inputs_of kind
+    ensures fits { (g : Graph) (w : World) (node : ℕ) (kind : Kind) (d : Decider) (is : List Outlook) (first now : InLogic) (v : View) (took gave : List (List Item)) → Begins node kind d first → TellsMoves w node now
+        → (law : InLaw first now v took gave) → AllAgree is law.by.law.ins → moves_fit g w node kind is ≡ true }
+    ensures agrees { (g : Graph) (w : World) (node : ℕ) (kind : Kind) (d : Decider) (is : List Outlook) (first now : InLogic) (v : View) (took gave : List (List Item)) → Begins node kind d first → length is ≡ inputs_of kind → TellsMoves w node now
         → (law : InLaw first now v took gave) → AllAgree is law.by.law.ins → Agrees (node_outlook g w node kind d is 0) law.by.law.out_list law.by.law.out_end }
 {}

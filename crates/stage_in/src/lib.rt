@@ -1,4 +1,5 @@
-// The stages with several inputs and one output whose order their lists determine: concat, interleave, merge_sorted and zip.
+// The stages with several inputs and one output: concat, interleave, merge_sorted and zip, whose order their lists determine,
+// and merge, whose order its moves record.
 #![tactic(auto)]
 
 pub mod handlers;

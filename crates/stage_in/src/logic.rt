@@ -2,6 +2,8 @@ ghost use Rattle.std.specs.Prelude.{◌≡◌, ◌≤◌, [], OnOk, OnErr, IfOk,
 ghost use Rattle.elem_core.specs.declared.item.Item.TheVariants as item;
 ghost use Rattle.port_core.specs.Call.{Obeys, Meets, starts, asks, brings, cancels};
 ghost use Rattle.stage_in.specs.Logics.{Begins, IsFanIn, IsNew, IsStarted, TakesNone, room_of, row, Turned};
+ghost use Rattle.std.specs.Option.{option_map};
+ghost use Rattle.stage_in.specs.Moves.{in_moves, in_picks};
 
 use crate::sorting::Sorting;
 use crate::taking::Taking;
@@ -10,6 +12,7 @@ use elem_core::elem::Elem;
 use elem_core::why::{Cause, Decider, NoMemory};
 use port_core::acts::Acts;
 use port_core::pick_log::PickLog;
+use stage_merge::merging::Merging;
 use std::alloc::Global;
 use stream_model::kind::Kind;
 
@@ -23,12 +26,14 @@ pub enum InLogic {
     Sorting(Sorting),
     /// A zip.
     Zipping(Zipping),
+    /// A merge.
+    Merging(Merging),
 }
 
 impl InLogic {
     /// The logic of node `stage`, which is of one of these kinds: a concat or an interleave of 2 to `MAX_FAN` inputs, the
-    /// latter by segments of 1 to 4,000,000,000 elements, a merge_sorted or a zip. It has no decider, for it calls no
-    /// function. It takes memory for two bytes an input.
+    /// latter by segments of 1 to 4,000,000,000 elements, a merge_sorted, a zip, or a merge of 2 to `MAX_FAN` inputs. It has no
+    /// decider, for it calls no function. It takes memory for two bytes an input, and a merge for a flag and an element of each.
     pub fn new(alloc: Global, stage: u32, kind: Kind, decider: Decider) -> Result<InLogic, NoMemory>
         requires { IsFanIn kind }
         ensures { IfOk result (Begins stage kind decider) }
@@ -42,6 +47,7 @@ impl InLogic {
             }
             Kind::MergeSorted => InLogic::Sorting(Sorting::new()),
             Kind::Zip => InLogic::Zipping(Zipping::new()),
+            Kind::Merge(inputs) => InLogic::Merging(Merging::new(alloc, inputs)?),
             _ => unreachable!(),
         })
     }
@@ -61,10 +67,12 @@ impl InLogic {
             InLogic::Taking(logic) => logic.start(acts),
             InLogic::Sorting(logic) => logic.start(acts),
             InLogic::Zipping(logic) => logic.start(acts),
+            InLogic::Merging(logic) => logic.start(acts),
         }
     }
 
-    /// An element came. A zip takes memory where it gives a pair, and no other stage takes any.
+    /// An element came. A zip takes memory where it gives a pair, a merge for the move that it may note, and no other stage
+    /// takes any.
     pub fn on_push(
         &mut self,
         alloc: Global,
@@ -85,10 +93,12 @@ impl InLogic {
             InLogic::Taking(logic) => logic.on_push(port, e, acts),
             InLogic::Sorting(logic) => logic.on_push(port, e, acts),
             InLogic::Zipping(logic) => logic.on_push(alloc, port, e, acts),
+            InLogic::Merging(logic) => logic.on_push(port, e, acts),
         }
     }
 
-    /// The output was asked. A zip takes memory where it gives a pair, and no other stage takes any.
+    /// The output was asked. A zip takes memory where it gives a pair, a merge for the move that it may note, and no other
+    /// stage takes any.
     pub fn on_pull(&mut self, alloc: Global, port: u8, acts: &mut Acts) -> Result<(), NoMemory>
         requires started { IsStarted self.old }
         requires port { port ≡ 0 }
@@ -105,6 +115,7 @@ impl InLogic {
             InLogic::Taking(logic) => logic.on_pull(acts),
             InLogic::Sorting(logic) => logic.on_pull(acts),
             InLogic::Zipping(logic) => logic.on_pull(alloc, acts),
+            InLogic::Merging(logic) => logic.on_pull(acts),
         }
     }
 
@@ -123,6 +134,7 @@ impl InLogic {
             InLogic::Taking(logic) => logic.on_finish(port, acts),
             InLogic::Sorting(logic) => logic.on_finish(port, acts),
             InLogic::Zipping(logic) => logic.on_finish(port, acts),
+            InLogic::Merging(logic) => logic.on_finish(port, acts),
         }
     }
 
@@ -141,6 +153,7 @@ impl InLogic {
             InLogic::Taking(logic) => logic.on_fail(port, cause, acts),
             InLogic::Sorting(logic) => logic.on_fail(port, cause, acts),
             InLogic::Zipping(logic) => logic.on_fail(port, cause, acts),
+            InLogic::Merging(logic) => logic.on_fail(port, cause, acts),
         }
     }
 
@@ -161,13 +174,27 @@ impl InLogic {
             InLogic::Taking(logic) => logic.on_cancel(acts),
             InLogic::Sorting(logic) => logic.on_cancel(acts),
             InLogic::Zipping(logic) => logic.on_cancel(acts),
+            InLogic::Merging(logic) => logic.on_cancel(acts),
         }
     }
 
-    /// The run is over: the log of its moves, of which it made none. It takes no memory.
+    /// The run is over: the log of its moves, of which only a merge made any. It takes no memory.
     pub fn close(self, alloc: Global) -> PickLog
-        ensures { result.moves ≡ [] }
+        ensures { result.moves ≡ in_moves self }
     {
-        PickLog::new(alloc)
+        match self {
+            InLogic::Merging(logic) => logic.close(),
+            _ => PickLog::new(alloc),
+        }
+    }
+
+    /// The run is over: the log of its moves where its kind chooses, which a merge alone does. It takes no memory.
+    pub fn picks(self) -> Option<PickLog>
+        ensures { option_map (λ log. log.moves) result ≡ in_picks self }
+    {
+        match self {
+            InLogic::Merging(logic) => Some(logic.close()),
+            _ => None,
+        }
     }
 }

@@ -60,7 +60,7 @@ logic_rests first now v took gave r law = merge_rests now v law.by.law.ins law.b
 
 -- ---- calls
 
-keeps_ports : (c : Call) (old new : Merging) (v : View) (took gave : List (List Item)) (acts : List Act) → CallAllowed c v → ActsAllowed (seen c v) acts → MergeTurnAt c (held old) (given_on 0 acts) (held new)
+pub keeps_ports : (c : Call) (old new : Merging) (v : View) (took gave : List (List Item)) (acts : List Act) → CallAllowed c v → ActsAllowed (seen c v) acts → MergeTurnAt c (held old) (given_on 0 acts) (held new)
     → InPortsLaw (MergeKeeps (held old)) v took gave → InPortsLaw (MergeKeeps (held new)) (acted_all (seen c v) acts) (brought_by c took) (given_all acts gave)
 keeps_ports c old new v took gave acts may allowed turn law =
     in_node (MergeKeeps (held old)) (MergeKeeps (held new)) c v (acted_all (seen c v) acts) took gave acts (ins_acted acts (seen c v) ∙ ins_seen c v)
@@ -82,7 +82,7 @@ idles_long : (bs : List Bool) → length (idles bs) ≡ length bs
 idles_long [] = refl
 idles_long (b ∷ bs) = ap suc (idles_long bs)
 
-fresh_law : (l : Merging) (v : View) (took gave : List (List Item)) → CallAllowed starts v → MergeFresh l v → AllEmpty took → AllEmpty gave → length took ≡ length v.ins → length gave ≡ length v.outs
+pub fresh_law : (l : Merging) (v : View) (took gave : List (List Item)) → CallAllowed starts v → MergeFresh l v → AllEmpty took → AllEmpty gave → length took ≡ length v.ins → length gave ≡ length v.outs
     → InPortsLaw (MergeKeeps (held l)) v took gave
 fresh_law l v took gave may r a b m n =
     let s = subst (λ f. row_by f l.core v) r.fresh r.row in
@@ -118,7 +118,7 @@ new_may_start k l two few b = record {
 
 -- ---- outlooks
 
-moves_held : (l : Merging) → moves_of (held l) ≡ l.log.moves
+pub moves_held : (l : Merging) → moves_of (held l) ≡ l.log.moves
 moves_held l = by_phase l.core.phase
   where
     by_phase : (f : Phase) → moves_of (held_by f l.log.moves l.core) ≡ l.log.moves

@@ -1,6 +1,6 @@
 use Rattle.port_core.specs.Call.{brings}
 use Rattle.elem_core.specs.declared.item.Item.TheVariants as item
-use Rattle.stage_in.proofs.Handling.{fits, handles}
+use Rattle.stage_in.proofs.Handling.{fits, grows, handles}
 use Rattle.stage_in.proofs.handlers.InLogicStage.on_fail.Goals as goal
 
 pub on_fail-requires-clause-room : goal.on_fail-requires-clause-room
@@ -8,3 +8,6 @@ on_fail-requires-clause-room c = fits (brings c.args.port (item.Failed c.args.ca
 
 pub returns-clause-handles : goal.returns-clause-handles
 returns-clause-handles c = handles (brings c.args.port (item.Failed c.args.cause)) _ _ _ _ (λ e. cc) c.requires.meets c.on_fail.ensures.ports c.on_fail.ensures.gives
+
+pub returns-clause-grows : goal.returns-clause-grows
+returns-clause-grows c = grows _ _ _ _ _ c.on_fail.ensures.gives

@@ -1,5 +1,5 @@
 use Rattle.port_core.specs.Call.{asks}
-use Rattle.stage_in.proofs.Handling.{fits, handles}
+use Rattle.stage_in.proofs.Handling.{fits, grows, handles}
 use Rattle.stage_in.proofs.handlers.InLogicStage.on_pull.Goals as goal
 
 pub on_pull-requires-clause-room : goal.on_pull-requires-clause-room
@@ -7,3 +7,6 @@ on_pull-requires-clause-room c = fits (asks c.args._port) _ _ c.requires.meets c
 
 pub returns-clause-handles : goal.returns-clause-handles
 returns-clause-handles c = handles (asks c.args._port) _ _ _ _ (λ e. cc) c.requires.meets c.on_pull.ensures.ports c.on_pull.ensures.gives
+
+pub returns-clause-grows : goal.returns-clause-grows
+returns-clause-grows c = grows _ _ _ _ _ c.on_pull.ensures.gives

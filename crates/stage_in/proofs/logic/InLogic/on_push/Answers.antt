@@ -1,6 +1,6 @@
 use Rattle.elem_core.specs.declared.item.Item.TheVariants as item
 use Rattle.port_core.specs.Call.{brings}
-use Rattle.stage_in.proofs.Nodes.{taking_open, sorting_open, zipping_open}
+use Rattle.stage_in.proofs.Nodes.{taking_open, sorting_open, zipping_open, merging_open}
 use Rattle.stage_in.proofs.logic.InLogic.on_push.Goals as goal
 
 pub on_push-requires-clause-live : goal.on_push-requires-clause-live
@@ -11,3 +11,6 @@ on_push-requires-in-Sorting-clause-open c = sorting_open (brings c.args.port (it
 
 pub on_push-requires-in-Zipping-clause-open : goal.on_push-requires-in-Zipping-clause-open
 on_push-requires-in-Zipping-clause-open c = zipping_open (brings c.args.port (item.Elem c.args.e)) (λ e. cc) c.args.self.now c.requires.started c.requires.meets c.in-Zipping.logic c.in-Zipping.is
+
+pub on_push-requires-in-Merging-clause-open : goal.on_push-requires-in-Merging-clause-open
+on_push-requires-in-Merging-clause-open c = merging_open (brings c.args.port (item.Elem c.args.e)) (λ e. cc) c.args.self.now c.requires.started c.requires.meets c.in-Merging.logic c.in-Merging.is

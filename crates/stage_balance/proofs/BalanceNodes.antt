@@ -219,6 +219,7 @@ keeps c first old new v took gave acts live may allowed r t law =
       taken = law.taken ++ brought_to 0 c;
       took_is = ap (brought_by c) law.took_is ∙ brought_one c law.taken;
       ports = length-given_all acts gave ∙ law.ports ∙ sym long;
+      outputs = length-given_all acts gave ∙ law.outputs;
       named = named_then (length (acted_all (seen c v) acts).outs) old.log.moves t.more new.log.moves t.grows (ap (λ n. all_below n old.log.moves) long ∙ law.named) (ap (λ n. all_below n t.more) (long ∙ p.outs) ∙ t.named);
       law = law_as (held new) (acted_all (seen c v) acts) (law.taken ++ brought_to 0 c) (λ j. slice_index_or gave j [] ++ given_on j acts) (λ j. slice_index_or (given_all acts gave) j [])
           (λ j l. let n = law.ports in given_at acts gave j (omega (arith, l, n, long)))
@@ -274,6 +275,7 @@ fresh_law l v took gave may r a b m k =
       taken = [];
       took_is = one_empty took a (m ∙ p.one);
       ports = k;
+      outputs = k ∙ p.outs;
       named = ap (all_below (length v.outs)) r.unmoved;
       law = subst (λ x. BalanceLaw x v [] (λ j. slice_index_or gave j [])) (sym owes) law;
     }
@@ -379,14 +381,14 @@ logic_rests first now v took gave r law = rests_own now v law.law.flow.list law.
 
 -- ---- outlooks
 
-moves_held : (l : Balancing) → moves_of (held l) ≡ l.log.moves
+pub moves_held : (l : Balancing) → moves_of (held l) ≡ l.log.moves
 moves_held l = by_live l.core.live
   where
     by_live : (b : Bool) → moves_of (held_by b l.log.moves l.core) ≡ l.log.moves
     by_live true = refl
     by_live false = refl
 
-kept_stands : (x : BalanceHeld) (f : Inflow) (g : ℕ → List Tree) (e : ℕ → End) (j : ℕ) → BalanceKeeps x f g e → BalanceStands (moves_of x) j f (g j) (e j)
+pub kept_stands : (x : BalanceHeld) (f : Inflow) (g : ℕ → List Tree) (e : ℕ → End) (j : ℕ) → BalanceKeeps x f g e → BalanceStands (moves_of x) j f (g j) (e j)
 kept_stands (waits moves w) f g e j k = balance_stands moves f w.list g j (e j) k.1.0 (λ x. let y : unended ≡ ended = sym (k.0 j) ∙ x in cc) (λ c x. let y : unended ≡ failed c = sym (k.0 j) ∙ x in cc)
 kept_stands (shut moves) f g e j k = k j
 

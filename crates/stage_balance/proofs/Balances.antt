@@ -37,7 +37,7 @@ drop_then [] more l h = refl
 drop_then (m ∷ moves) more [] h = absurd (omega (arith, h))
 drop_then (m ∷ moves) more (t ∷ l) h = drop_then moves more l (omega (arith, h))
 
-drop_length : (moves : List ℕ) (l : List Tree) → length moves ≤ length l → length moves + length (drop (length moves) l) ≡ length l
+pub drop_length : (moves : List ℕ) (l : List Tree) → length moves ≤ length l → length moves + length (drop (length moves) l) ≡ length l
 drop_length [] l h = omega arith
 drop_length (m ∷ moves) [] h = absurd (omega (arith, h))
 drop_length (m ∷ moves) (t ∷ l) h = let r = drop_length moves l (omega (arith, h)) in omega (arith, r)

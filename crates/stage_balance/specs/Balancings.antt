@@ -181,12 +181,13 @@ pub record BalanceFresh (l : Balancing) (v : View) : Type 0 where
   pub row : row l v
 
 -- the law of its histories, by the stage as it was at first and as it is now: by its moves, of which it made none before and
--- each names an output
+-- each names an output; its outputs are those that it had at first
 pub record BalancesAs (first now : Balancing) (v : View) (took gave : List (List Item)) : Type 0 where
   pub unmoved : first.log.moves ≡ []
   pub taken : List Item
   pub took_is : took ≡ taken ∷ []
   pub ports : length gave ≡ length v.outs
+  pub outputs : length gave ≡ length first.core.outs
   pub named : all_below (length v.outs) now.log.moves ≡ true
   pub law : BalanceLaw (held now) v taken (λ j. slice_index_or gave j [])
 

@@ -4,7 +4,7 @@ use Rattle.std.proofs.Common.{◌≡◌, ℕ, zero, suc, ◌≤◌, Bool, true, 
 use Rattle.elem_core.specs.declared.function.MapFn.{MapFn}
 use Rattle.port_core.specs.declared.view.OutView.{OutView}
 use Rattle.port_core.specs.declared.view.OutView.TheVariants.{Unasked}
-use Rattle.stage_out.specs.OutLogics.{unasked_ports}
+use Rattle.stage_out.specs.Machines.{unasked_ports}
 use Rattle.port_core.specs.declared.view.InView.TheVariants.{Idle}
 use Rattle.stage_out.specs.declared.want.Want.TheVariants.{Quiet}
 use Rattle.stage_out.specs.Copies.{want_view, open_count, quiet_count, input_by}

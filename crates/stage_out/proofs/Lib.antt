@@ -8,7 +8,7 @@ pub mod Parted
 pub mod Dues
 pub mod Deals
 pub mod Begins
-pub mod OutLogics
+pub mod OutMachines
 pub mod OutRests
-pub mod OutNodes
-pub mod Handling
+pub mod MachineNodes
+pub mod OutLogics

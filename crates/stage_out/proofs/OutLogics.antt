@@ -1,153 +1,133 @@
--- What a logic with several outputs owes by its calls at each of them, and how a new one begins.
-use Rattle.std.specs.Prelude.{replicate, IfOk, Ok, Err}
+-- A logic with several outputs as the stage of its kind: what a call owes, what it knows when it asks, its moves, and how a
+-- new one begins.
+use Rattle.std.specs.Prelude.{OnOk, Ok, Err}
 use Rattle.std.specs.declared.result.Result.{Result}
-use Rattle.std.proofs.Common.{◌≡◌, ℕ, zero, suc, ◌+◌, Bool, true, false, List, [], ◌∷◌, length, map, refl, sym, ap, ◌∙◌, subst, arith}
-use Rattle.elem_core.specs.Tree.{Tree}
-use Rattle.elem_core.specs.declared.function.MapFn.{MapFn}
-use Rattle.elem_core.specs.declared.why.Decider.TheVariants.{Stop}
+use Rattle.std.proofs.Common.{◌≡◌, ℕ, ◌≤◌, true, List, [], refl, sym, subst, arith}
+use Rattle.elem_core.specs.Prefix.{IsPrefix}
+use Rattle.elem_core.specs.declared.item.Item.{Item}
 use Rattle.port_core.specs.declared.act.Act.{Act}
-use Rattle.port_core.specs.Call.{Call}
+use Rattle.port_core.specs.View.{View, acted_all}
+use Rattle.port_core.specs.Call.{Call, starts, CallAllowed, seen, Obeys, Meets}
 use Rattle.stream_model.specs.declared.kind.Kind.{Kind}
-use Rattle.stream_model.specs.declared.kind.Kind.TheVariants.{Broadcast, Partition, Unzip}
-use Rattle.stream_model.specs.Linear.{Book, Stage, numbering, linear, begin_work}
-use Rattle.stream_model.specs.Machine.{Stands, output}
-use Rattle.stream_model.specs.Node.{World, head_of}
-use Rattle.stream_model.specs.Outlook.{Outlook, End, Agrees}
-use Rattle.stream_model.proofs.Traces.{trace_output}
-use Rattle.stage_law.specs.Held.{Held}
-use Rattle.stage_law.specs.Outs.{TurnsAt, owe}
-use Rattle.stage_out.specs.declared.want.Want.{Want}
-use Rattle.stage_out.specs.declared.want.Want.TheVariants.{Quiet}
+use Rattle.stream_model.specs.declared.kind.Kind.TheVariants.{Broadcast, Balance, Partition, Unzip}
+use Rattle.stage_core.specs.Handling.{most_acts, AsksAs, Starts, Handles}
+use Rattle.stage_core.specs.Histories.{given_all, brought_by}
+use Rattle.stage_fans.specs.Seats.{room_for}
+use Rattle.stage_balance.specs.Balancings.{Balancing, BalanceFresh, BalancesAs}
+use Rattle.stage_balance.specs.Balancings as balance
+use Rattle.stage_balance.proofs.BalanceNodes as balances
+use Rattle.stage_out.specs.declared.machines.OutMachines.{OutMachines}
 use Rattle.stage_out.specs.declared.logic.OutLogic.{OutLogic}
-use Rattle.stage_out.specs.declared.logic.OutLogic.TheVariants.{Copies, Deals}
-use Rattle.stage_out.specs.Copies.{copying, nothing_owed, owed_by, outlets}
-use Rattle.stage_out.specs.Copies as copies
-use Rattle.stage_out.specs.CopyStates.{part_by}
-use Rattle.stage_out.specs.PartitionStates.{PartitionLogic, dealers, dues, then_of}
-use Rattle.stage_out.specs.PartitionStates as part
-use Rattle.stage_out.specs.OutLogics.{is_live, Turned, no_stage, copiers, TurnsEach, IsOut, copy_starts, number_starts, IsMade, EachStarts, EachAgrees, Begins}
-use Rattle.stage_out.proofs.Agreeing.{copies_agree}
-use Rattle.stage_out.proofs.Begins.{partition_begins, copy_begins}
+use Rattle.stage_out.specs.declared.logic.OutLogic.TheVariants.{Machines, Balances}
+use Rattle.stage_out.specs.Machines.{IsMachines}
+use Rattle.stage_out.specs.Machines as machines
+use Rattle.stage_out.specs.MachineNodes.{MachinesFresh, MachinesLaw}
+use Rattle.stage_out.specs.OutLogics.{is_live, room_of, row, OutAsking, Turned, OutFresh, OutLaw, IsOut, Begins}
+use Rattle.stage_out.specs.Moves.{out_moves}
+use Rattle.stage_out.proofs.MachineNodes as machine
+use Rattle.stage_out.proofs.OutRests as rests
 
-pub if_ok : {A E : Type 0} {P Q : A → Type 0} → (r : Result A E) → ((x : A) → P x → Q x) → IfOk r P → IfOk r Q
-if_ok (Ok x) f p = f x p
-if_ok (Err e) f p = tt
+-- ---- where a call may come
 
--- ---- a turn at each output
+pub called_is_live : (l : OutLogic) (call : Call) (v : View) → CallAllowed call v → row l v → is_live l ≡ true
+called_is_live (Machines l) call v may r = rests.called_is_live l call v may r
+called_is_live (Balances l) call v may r = balances.called_live l call v may r
 
-pub copiers_are : (part : ℕ → Tree → Tree) (n : ℕ) (ws : List Want) → copiers part true n ws ≡ outlets part n no_stage ws
-copiers_are part n [] = refl
-copiers_are part n (w ∷ ws) = rw (copiers_are part (n + 1) ws) refl
+pub called_fits : (l : OutLogic) (call : Call) (v : View) → CallAllowed call v → row l v → room_of l ≤ most_acts
+called_fits (Machines l) call v may r = rests.called_fits l call v may r
+called_fits (Balances l) call v may r = balances.called_fits l call v may r
 
-pub owe_copies : (part : ℕ → Tree → Tree) (a b : Bool) (n : ℕ) (ws vs : List Want) → length vs ≡ length ws → owe (copiers part a n ws) (copies.owed b no_stage vs) ≡ copiers part b n vs
-owe_copies part a true n [] [] e = refl
-owe_copies part a false n [] [] e = refl
-owe_copies part a b n [] (v ∷ vs) e = absurd (omega (arith, e))
-owe_copies part a b n (w ∷ ws) [] e = absurd (omega (arith, e))
-owe_copies part a true n (w ∷ ws) (v ∷ vs) e = rw (owe_copies part a true (n + 1) ws vs (omega (arith, e))) refl
-owe_copies part a false n (w ∷ ws) (v ∷ vs) e = rw (owe_copies part a false (n + 1) ws vs (omega (arith, e))) refl
+-- what every stage is given is room enough for a call of a handler
+pub fits : (call : Call) (l : OutLogic) (n : ℕ) → Meets call (row l) → most_acts ≤ n → room_of l ≤ n
+fits call l n m h = let r : room_of l ≤ most_acts = called_fits l call m.0 m.1.0 m.1.1 in omega (arith, r, h)
 
-pub owe_deals : (book : Book) (l : PartitionLogic) (h k : ℕ → Want → Held Stage) (n : ℕ) (ws vs : List Want) → length vs ≡ length ws → owe (dealers book l h n ws) (dues k n vs) ≡ dealers book l k n vs
-owe_deals book l h k n [] [] e = refl
-owe_deals book l h k n [] (v ∷ vs) e = absurd (omega (arith, e))
-owe_deals book l h k n (w ∷ ws) [] e = absurd (omega (arith, e))
-owe_deals book l h k n (w ∷ ws) (v ∷ vs) e = rw (owe_deals book l h k (n + 1) ws vs (omega (arith, e))) refl
+-- a balance that may be called is open
+pub balance_live : (call : Call) (l : Balancing) (whole : OutLogic) → whole ≡ Balances l → Meets call (row whole) → l.core.live ≡ true
+balance_live call l whole is m = balances.called_live l call m.0 m.1.0 (subst (λ x. row x m.0) is m.1.1)
 
-same_dealers : (book : Book) (old new : PartitionLogic) (h : ℕ → Want → Held Stage) (n : ℕ) (ws : List Want) → new.node ≡ old.node → new.parts ≡ old.parts → new.fun ≡ old.fun → dealers book new h n ws ≡ dealers book old h n ws
-same_dealers book old new h n [] a b c = refl
-same_dealers book old new h n (w ∷ ws) a b c = rw (same_dealers book old new h (n + 1) ws a b c, a, b, c) refl
+-- ---- what is owed
 
-pub length-owed : (b : Bool) (ws : List Want) → length (copies.owed b no_stage ws) ≡ length ws
-length-owed true [] = refl
-length-owed false [] = refl
-length-owed true (w ∷ ws) = ap suc (length-owed true ws)
-length-owed false (w ∷ ws) = ap suc (length-owed false ws)
+machines_handled : (c : Call) (l m : OutMachines) (acts : List Act) → Handles machines.row MachinesLaw c l m acts → Handles row OutLaw c (Machines l) (Machines m) acts
+machines_handled c l m acts h = record { obeys = h.obeys; stands = h.stands; keeps = kept }
+  where
+    kept : (first : OutLogic) (v : View) (took gave : List (List Item)) → CallAllowed c v → machines.row l v → OutLaw first (Machines l) v took gave
+        → OutLaw first (Machines m) (acted_all (seen c v) acts) (brought_by c took) (given_all acts gave)
+    kept (Machines f) v took gave may r law = h.keeps f v took gave may r law
+    kept (Balances f) v took gave may r law = absurd law
 
-pub length-dues : (h : ℕ → Want → Held Stage) (n : ℕ) (ws : List Want) → length (dues h n ws) ≡ length ws
-length-dues h n [] = refl
-length-dues h n (w ∷ ws) = ap suc (length-dues h (n + 1) ws)
+balance_handled : (c : Call) (l m : Balancing) (acts : List Act) → Handles balance.row BalancesAs c l m acts → Handles row OutLaw c (Balances l) (Balances m) acts
+balance_handled c l m acts h = record { obeys = h.obeys; stands = h.stands; keeps = kept }
+  where
+    kept : (first : OutLogic) (v : View) (took gave : List (List Item)) → CallAllowed c v → balance.row l v → OutLaw first (Balances l) v took gave
+        → OutLaw first (Balances m) (acted_all (seen c v) acts) (brought_by c took) (given_all acts gave)
+    kept (Balances f) v took gave may r law = h.keeps f v took gave may r law
+    kept (Machines f) v took gave may r law = absurd law
 
-pub turns_of : (call : Call) (old new : OutLogic) (acts : List Act) → is_live old ≡ true → Turned call old acts new → TurnsEach call old acts new
-turns_of call (Copies l) (Copies m) acts h t = record {
-  turns = λ book. rw (h, copiers_are (part_by l.halves) 0 l.outs) (t.turns no_stage);
-  same = λ book. rw t.halves (owe_copies (part_by l.halves) l.live m.live 0 l.outs m.outs t.outputs);
-  outputs = length-owed m.live m.outs ∙ t.outputs ∙ sym (length-owed l.live l.outs);
-  rests = λ is os r. r;
-  stands = t.stands;
-}
-turns_of call (Deals l) (Deals m) acts h t = record {
-  turns = λ book. subst (λ b. TurnsAt 0 call (dealers book l (then_of b l) 0 l.outs) acts (dues (then_of m.live m) 0 m.outs)) (sym h) (t.turns book);
-  same = λ book. owe_deals book l (then_of l.live l) (then_of m.live m) 0 l.outs m.outs t.outputs ∙ sym (same_dealers book l m (then_of m.live m) 0 m.outs t.node t.parts t.fun);
-  outputs = length-dues (then_of m.live m) 0 m.outs ∙ t.outputs ∙ sym (length-dues (then_of l.live l) 0 l.outs);
-  rests = λ is os r. r;
-  stands = t.stands;
-}
-turns_of call (Copies l) (Deals m) acts h t = absurd t
-turns_of call (Deals l) (Copies m) acts h t = absurd t
+pub handled : (c : Call) (old new : OutLogic) (acts : List Act) → Obeys c (row old) (row new) acts → Turned c old acts new → Handles row OutLaw c old new acts
+handled c (Machines l) (Machines m) acts o t = machines_handled c l m acts (machine.handled c l m acts o t)
+handled c (Balances l) (Balances m) acts o t = balance_handled c l m acts (balances.handled c l m acts o t)
+handled c (Machines l) (Balances m) acts o t = absurd t
+handled c (Balances l) (Machines m) acts o t = absurd t
 
--- ---- a new logic
+pub started : (old new : OutLogic) (acts : List Act) → Obeys starts (row old) (row new) acts → Turned starts old acts new → Starts row OutLaw OutFresh old new acts
+started (Machines l) (Machines m) acts o t = let s = machine.started l m acts o t in record { obeys = s.obeys; stands = s.stands; begins = s.begins }
+started (Balances l) (Balances m) acts o t = let s = balances.started l m acts o t in record { obeys = s.obeys; stands = s.stands; begins = s.begins }
+started (Machines l) (Balances m) acts o t = absurd t
+started (Balances l) (Machines m) acts o t = absurd t
 
-copies_begun : (part : ℕ → Tree → Tree) (j k : ℕ) → copiers part true j (replicate k Quiet) ≡ copy_starts part j k
-copies_begun part j zero = refl
-copies_begun part j (suc k) = rw (copies_begun part (j + 1) k) refl
+-- ---- its asks and its moves
 
-deals_begun : (book : Book) (node n : ℕ) (f : MapFn) (j k : ℕ) → dealers book (part.begun node n f) (then_of true (part.begun node n f)) j (replicate k Quiet) ≡ number_starts book node n f j k
-deals_begun book node n f j zero = refl
-deals_begun book node n f j (suc k) = rw (deals_begun book node n f (j + 1) k) refl
+pub asks_on : (c : Call) (old new : OutLogic) (acts : List Act) → Turned c old acts new → AsksAs c (row old) (OutAsking new) acts
+asks_on c (Machines l) (Machines m) acts t = λ v may r p. tt
+asks_on c (Balances l) (Balances m) acts t = t.asks
+asks_on c (Machines l) (Balances m) acts t = absurd t
+asks_on c (Balances l) (Machines m) acts t = absurd t
 
-copies_start : (part : ℕ → Tree → Tree) (j k : ℕ) → EachStarts (copy_starts part j k)
-copies_start part j zero = tt
-copies_start part j (suc k) = ((refl, refl), copies_start part (j + 1) k)
+fresh_row : (l : OutLogic) (v : View) → OutFresh l v → row l v
+fresh_row (Machines l) v f = f.row
+fresh_row (Balances l) v f = f.row
 
-numbers_start : (book : Book) (node n : ℕ) (f : MapFn) (j k : ℕ) → EachStarts (number_starts book node n f j k)
-numbers_start book node n f j zero = tt
-numbers_start book node n f j (suc k) = ((refl, refl), numbers_start book node n f (j + 1) k)
+asks_first : (old new : OutLogic) (acts : List Act) → Turned starts old acts new → AsksAs starts (OutFresh old) (OutAsking new) acts
+asks_first old new acts t = λ v may f p. asks_on starts old new acts t v may (fresh_row old v f) p
 
--- ---- outlooks
+pub grows_on : (c : Call) (old new : OutLogic) (acts : List Act) → Turned c old acts new → IsPrefix (out_moves old) (out_moves new)
+grows_on c (Machines l) (Machines m) acts t = record { rest = []; is = refl }
+grows_on c (Balances l) (Balances m) acts t = record { rest = t.more; is = t.grows }
+grows_on c (Machines l) (Balances m) acts t = absurd t
+grows_on c (Balances l) (Machines m) acts t = absurd t
 
-map_all : (l : List Tree) → map (λ (t : Tree). t) l ≡ l
-map_all [] = refl
-map_all (t ∷ l) = ap (λ (k : List Tree). t ∷ k) (map_all l)
+-- where the answer is Ok
+module _ {T E : Type 0} (r : Result T E) (old new : OutLogic) (acts : List Act) where
+  pub asks_ok : (c : Call) → OnOk r (Turned c old acts new) → OnOk r (AsksAs c (row old) (OutAsking new) acts)
+  asks_ok c t = by r t
+    where
+      by : (r : Result T E) → OnOk r (Turned c old acts new) → OnOk r (AsksAs c (row old) (OutAsking new) acts)
+      by (Ok x) t = asks_on c old new acts t
+      by (Err e) t = tt
 
-whole_agree : (o : Outlook) (l : List Tree) (e : End) (g : List Tree) (h : End) → Agrees o l e → Stands (copying (part_by false 0)) (nothing_owed no_stage) l e g h → Agrees o g h
-whole_agree o l e g h a st = subst (λ (k : List Tree). Agrees (record { list = k; ends = o.ends; fails = o.fails }) g h) (map_all o.list) (copies_agree (λ t. t) no_stage o l e g h a st)
+  pub asks_first_ok : OnOk r (Turned starts old acts new) → OnOk r (AsksAs starts (OutFresh old) (OutAsking new) acts)
+  asks_first_ok t = by r t
+    where
+      by : (r : Result T E) → OnOk r (Turned starts old acts new) → OnOk r (AsksAs starts (OutFresh old) (OutAsking new) acts)
+      by (Ok x) t = asks_first old new acts t
+      by (Err e) t = tt
 
-whole_each : (j k : ℕ) → EachAgrees j (λ i is. head_of is) (copy_starts (part_by false) j k)
-whole_each j zero = tt
-whole_each j (suc k) = (λ is. whole_agree (head_of is), whole_each (j + 1) k)
+  pub grows_ok : (c : Call) → OnOk r (Turned c old acts new) → OnOk r (IsPrefix (out_moves old) (out_moves new))
+  grows_ok c t = by r t
+    where
+      by : (r : Result T E) → OnOk r (Turned c old acts new) → OnOk r (IsPrefix (out_moves old) (out_moves new))
+      by (Ok x) t = grows_on c old new acts t
+      by (Err e) t = tt
 
-numbers_each : (w : World) (node n : ℕ) (f : MapFn) (j k : ℕ) → EachAgrees j (λ i is. output (linear w.book (numbering n f i)) (begin_work node Stop (numbering n f i)) (head_of is)) (number_starts w.book node n f j k)
-numbers_each w node n f j zero = tt
-numbers_each w node n f j (suc k) = (λ is l e g h a st. trace_output (linear w.book (numbering n f j)) (begin_work node Stop (numbering n f j)) (head_of is) l e g h a st, numbers_each w node n f (j + 1) k)
+-- ---- a new one
 
--- ---- by kinds
+pub machines_begin : (node : ℕ) (kind : Kind) (l : OutMachines) → IsMachines kind → machines.Begins node kind l → Begins node kind (Machines l)
+machines_begin node (Broadcast n) l ok b = record { fresh = record { row = b.ready; fresh = b.fresh }; as_kind = (ok, b) }
+machines_begin node (Partition n f) l ok b = record { fresh = record { row = b.ready; fresh = b.fresh }; as_kind = (ok, b) }
+machines_begin node Unzip l ok b = record { fresh = record { row = b.ready; fresh = b.fresh }; as_kind = (ok, b) }
+machines_begin node kind l ok b = absurd ok
 
-pub begins : (node : ℕ) (kind : Kind) (new : OutLogic) → IsOut kind → IsMade node kind new → Begins node kind new
-begins node (Broadcast n) new ok is = rw is (record {
-  live = refl;
-  of_kind = tt;
-  ready = copy_begins n false ok.0 ok.1 (λ e. cc);
-  outputs = λ book. copies_begun (part_by false) 0 n;
-  agrees = λ g w d. rw (copies_begun (part_by false) 0 n) (whole_each 0 n);
-  fresh = record { live = refl; starts = λ book. rw (copies_begun (part_by false) 0 n) (copies_start (part_by false) 0 n) };
-  rests = λ g w d is os r. r;
-})
-begins node Unzip new ok is = rw is (record {
-  live = refl;
-  of_kind = tt;
-  ready = copy_begins 2 true (omega arith) (omega arith) (λ e. refl);
-  outputs = λ book. refl;
-  agrees = λ g w d. (λ is. copies_agree (part_by true 0) no_stage (head_of is), (λ is. copies_agree (part_by true 1) no_stage (head_of is), tt));
-  fresh = record { live = refl; starts = λ book. copies_start (part_by true) 0 2 };
-  rests = λ g w d is os r. r;
-})
-begins node (Partition n f) new ok is = rw is (record {
-  live = refl;
-  of_kind = tt;
-  ready = partition_begins node n f ok.0 ok.1;
-  outputs = λ book. deals_begun book node n f 0 n;
-  agrees = λ g w d. rw (deals_begun w.book node n f 0 n) (numbers_each w node n f 0 n);
-  fresh = record { live = refl; starts = λ book. rw (deals_begun book node n f 0 n) (numbers_start book node n f 0 n) };
-  rests = λ g w d is os r. r;
-})
-begins node kind new ok is = absurd is
+pub balance_begins : (node : ℕ) (kind : Kind) (outputs : ℕ) (l : Balancing) → kind ≡ Balance outputs → IsOut kind → balance.Begins outputs l → Begins node kind (Balances l)
+balance_begins node kind outputs l is ok b =
+    let few = subst IsOut is ok in
+    subst (λ k. Begins node k (Balances l)) (sym is) (record { fresh = balances.new_may_start outputs l few.0 few.1 b; as_kind = b })

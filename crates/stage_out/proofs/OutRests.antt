@@ -22,17 +22,17 @@ use Rattle.stage_core.specs.Handling.{most_acts}
 use Rattle.stage_fans.specs.Seats.{room_for}
 use Rattle.stage_out.specs.declared.want.Want.{Want}
 use Rattle.stage_out.specs.declared.want.Want.TheVariants.{Quiet, Asks, Gone}
-use Rattle.stage_out.specs.declared.logic.OutLogic.{OutLogic}
-use Rattle.stage_out.specs.declared.logic.OutLogic.TheVariants.{Copies, Deals}
+use Rattle.stage_out.specs.declared.machines.OutMachines.{OutMachines}
+use Rattle.stage_out.specs.declared.machines.OutMachines.TheVariants.{Copies, Deals}
 use Rattle.stage_out.specs.Copies as copies
 use Rattle.stage_out.specs.Copies.{want_view, open_count, OneInClosed, OutsClosed, AllClosed}
 use Rattle.stage_out.specs.CopyStates.{CopyLogic, part_by}
 use Rattle.stage_out.specs.CopyStates as copy
 use Rattle.stage_out.specs.PartitionStates.{PartitionLogic, asks_count, input_of, view_of, Holding, Sound, dealers, then_of}
 use Rattle.stage_out.specs.PartitionStates as part
-use Rattle.stage_out.specs.OutLogics.{is_live, room_of, row, no_stage, copiers, outlets}
+use Rattle.stage_out.specs.Machines.{is_live, room_of, row, no_stage, copiers, outlets}
 use Rattle.stage_out.specs.OwnRows.{own_outs, Even, OutLists, OutRests}
-use Rattle.stage_out.proofs.OutLogics.{copiers_are}
+use Rattle.stage_out.proofs.OutMachines.{copiers_are}
 use Rattle.stage_out.proofs.Rests.{copy_rests, ins_shut, outs_shut, outlists}
 
 -- ---- the lists that were given
@@ -134,7 +134,7 @@ deals_stand book l v took gave taken r law =
     let k = from_listed (length (outlets book (Deals l))) gave (listed (outlets book (Deals l)) 0 v took gave law) in
     (k, deals_rest l v taken k.lists r (k.ports ∙ length-dealers book l (then_of l.live l) 0 l.outs))
 
-pub stage_rests : (book : Book) (l : OutLogic) (v : port.View) (took : List Item) (gave : ℕ → List Item) (taken : List Tree) (e : End) → row l v → took ≡ told taken e → OutsLaw 0 (outlets book l) v took gave
+pub stage_rests : (book : Book) (l : OutMachines) (v : port.View) (took : List Item) (gave : ℕ → List Item) (taken : List Tree) (e : End) → row l v → took ≡ told taken e → OutsLaw 0 (outlets book l) v took gave
     → (o : OutLists (length (outlets book l)) gave) × OutRests l v taken o.lists
 stage_rests book (Copies l) v took gave taken e r is law = copies_stand book l v took gave taken e r is law
 stage_rests book (Deals l) v took gave taken e r is law = deals_stand book l v took gave taken r law
@@ -181,7 +181,7 @@ none_called (asks j) v may c = no_out v.outs j c.1 (subst IsOutOpen (sym may) tt
 none_called (brings i x) v may c = no_in v.ins i x c.0 may
 none_called (cancels j) v may c = no_out v.outs j c.1 may
 
-pub called_is_live : (l : OutLogic) (call : Call) (v : port.View) → CallAllowed call v → row l v → is_live l ≡ true
+pub called_is_live : (l : OutMachines) (call : Call) (v : port.View) → CallAllowed call v → row l v → is_live l ≡ true
 called_is_live (Copies l) call v may r = by_live l.live r
   where
     by_live : (b : Bool) → copy.row_by b l v → b ≡ true
@@ -194,7 +194,7 @@ called_is_live (Deals l) call v may r = by_live l.live r
     by_live false r = absurd (none_called call v may r)
 
 -- two actions for each of its ports are few
-pub called_fits : (l : OutLogic) (call : Call) (v : port.View) → CallAllowed call v → row l v → room_of l ≤ most_acts
+pub called_fits : (l : OutMachines) (call : Call) (v : port.View) → CallAllowed call v → row l v → room_of l ≤ most_acts
 called_fits (Copies l) call v may r = by_live l.live r
   where
     by_live : (b : Bool) → copy.row_by b l v → room_for (length l.outs) ≤ most_acts
@@ -208,8 +208,8 @@ called_fits (Deals l) call v may r = by_live l.live r
 
 -- the same of a call that may come
 module _ (call : Call) where
-  pub copies_live : (l : CopyLogic) (whole : OutLogic) → whole ≡ Copies l → Meets call (row whole) → l.live ≡ true
+  pub copies_live : (l : CopyLogic) (whole : OutMachines) → whole ≡ Copies l → Meets call (row whole) → l.live ≡ true
   copies_live l whole is m = called_is_live (Copies l) call m.0 m.1.0 (subst (λ x. row x m.0) is m.1.1)
 
-  pub deals_live : (l : PartitionLogic) (whole : OutLogic) → whole ≡ Deals l → Meets call (row whole) → l.live ≡ true
+  pub deals_live : (l : PartitionLogic) (whole : OutMachines) → whole ≡ Deals l → Meets call (row whole) → l.live ≡ true
   deals_live l whole is m = called_is_live (Deals l) call m.0 m.1.0 (subst (λ x. row x m.0) is m.1.1)

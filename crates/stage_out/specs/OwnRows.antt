@@ -11,8 +11,8 @@ use Rattle.stream_picture.specs.View.{View, EachWire}
 use Rattle.stream_picture.specs.Rests.{IsShut}
 use Rattle.stage_law.specs.OwnPorts.{own_input, own_output}
 use Rattle.stage_out.specs.declared.want.Want.{Want}
-use Rattle.stage_out.specs.declared.logic.OutLogic.{OutLogic}
-use Rattle.stage_out.specs.OutLogics.{rests_as}
+use Rattle.stage_out.specs.declared.machines.OutMachines.{OutMachines}
+use Rattle.stage_out.specs.Machines.{rests_as}
 use Rattle.stage_out.specs.declared.want.Want.TheVariants.{Quiet, Asks, Gone}
 
 -- the one input, with what was taken, and the outputs, each with what was given there
@@ -45,5 +45,5 @@ pub record OutLists (n : ℕ) (gave : ℕ → List Item) : Type 0 where
   pub told_at : (i : ℕ) (g : List Tree) → slice_get lists i ≡ Some g → (h : End) × (gave i ≡ told g h)
 
 -- it has closed its ports, or has nothing to do, where it took l and gave these
-abbrev pub OutRests : OutLogic → port.View → List Tree → List (List Tree) → Type 0
+abbrev pub OutRests : OutMachines → port.View → List Tree → List (List Tree) → Type 0
 OutRests x v l gs = (EachWire IsShut (own_ins v.ins l) × EachWire IsShut (own_outs v.outs gs)) ⊎ rests_as x (own_ins v.ins l) (own_outs v.outs gs)

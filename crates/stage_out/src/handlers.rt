@@ -1,7 +1,7 @@
 // A stage with several outputs as the interpreter calls it: its calls keep the law of each output over its whole history.
 ghost use Rattle.std.specs.Prelude.{[], ⊤};
-ghost use Rattle.stage_out.specs.OutLogics.{row};
-ghost use Rattle.stage_out.specs.OutNodes.{OutFresh, OutLaw};
+ghost use Rattle.stage_out.specs.OutLogics.{row, OutAsking, OutFresh, OutLaw};
+ghost use Rattle.stage_out.specs.Moves.{out_moves};
 
 use crate::logic::OutLogic;
 use elem_core::elem::Elem;
@@ -18,9 +18,9 @@ impl Stage for OutLogic {
 
     ghost law = { OutLaw };
 
-    ghost asking = { λ l v. ⊤ };
+    ghost asking = { OutAsking };
 
-    ghost moves = { λ l. [] };
+    ghost moves = { out_moves };
 
     ghost keeps = { λ old new. ⊤ };
 

@@ -5,5 +5,6 @@ pub mod copy_logic;
 pub mod handlers;
 pub mod laws;
 pub mod logic;
+pub mod machines;
 pub mod partition_logic;
 pub mod want;

@@ -1,34 +1,31 @@
-ghost use Rattle.std.specs.Prelude.{◌≡◌, ◌≤◌, [], OnOk, IfOk, IsOk, true, Bool};
+ghost use Rattle.std.specs.Prelude.{◌≡◌, ◌≤◌, OnOk, OnErr, IfOk, IsOk, [], None};
+ghost use Rattle.std.specs.Option.{option_map};
 ghost use Rattle.elem_core.specs.declared.item.Item.TheVariants as item;
 ghost use Rattle.port_core.specs.Call.{Obeys, Meets, starts, asks, brings, cancels};
-ghost use Rattle.stream_model.specs.declared.kind.TheConstants.{MAX_FAN};
-ghost use Rattle.stage_out.specs.declared.logic.OutLogic.TheVariants.{Copies, Deals};
-ghost use Rattle.stage_out.specs.CopyStates as copy;
-ghost use Rattle.stage_out.specs.PartitionStates as part;
-ghost use Rattle.stage_out.specs.OutLogics.{room_of, row, Turned, IsOut, IsMade, Begins};
+ghost use Rattle.stage_out.specs.OutLogics.{room_of, row, Turned, QueuesLast, ServesFirst, IsOut, Begins};
+ghost use Rattle.stage_out.specs.Moves.{out_moves, out_picks};
 
-use crate::copy_logic::CopyLogic;
-use crate::partition_logic::PartitionLogic;
+use crate::machines::OutMachines;
 use elem_core::elem::Elem;
-use elem_core::function::MapFn;
 use elem_core::why::{Cause, Decider, NoMemory};
 use port_core::acts::Acts;
 use port_core::pick_log::PickLog;
+use stage_balance::balancing::Balancing;
 use std::alloc::Global;
 use stream_model::kind::Kind;
 
 /// The logic of a node with several outputs. A call that appends actions wants room for two of them for each port, of which
-/// the node has its outputs and one input. Rule: Akka Streams 2.6 reference.
+/// the node has its outputs and one input. Rule: Akka Streams 2.6 reference; which output of a balance comes first: own.
 #[derive(Drop)]
 pub enum OutLogic {
-    /// A broadcast, or an unzip.
-    Copies(CopyLogic),
-    /// A partition.
-    Deals(PartitionLogic),
+    /// A broadcast, an unzip or a partition: what each output gets hangs on what came alone.
+    Machines(OutMachines),
+    /// A balance: each element goes to the output that asked first.
+    Balances(Balancing),
 }
 
 impl OutLogic {
-    /// The logic of node `stage`, with 2 to `MAX_FAN` outputs. It takes the memory of a list of its outputs. None of these
+    /// The logic of node `stage`, with 2 to `MAX_FAN` outputs. It takes the memory of lists of its outputs. None of these
     /// kinds has a decider: a reason stops a partition.
     pub fn new(
         alloc: Global,
@@ -39,8 +36,10 @@ impl OutLogic {
         requires { IsOut kind }
         ensures { IfOk result (Begins stage kind) }
     {
-        let _decider = decider;
-        made(alloc, stage, kind)
+        match kind {
+            Kind::Balance(outputs) => Ok(OutLogic::Balances(Balancing::new(alloc, outputs)?)),
+            _ => Ok(OutLogic::Machines(OutMachines::new(alloc, stage, kind, decider)?)),
+        }
     }
 
     /// The run begins. It waits to be asked.
@@ -53,12 +52,13 @@ impl OutLogic {
         ensures room { acts.new.room ≡ acts.old.room }
     {
         match self {
-            OutLogic::Copies(logic) => logic.start(acts),
-            OutLogic::Deals(logic) => logic.start(acts),
+            OutLogic::Machines(logic) => logic.start(acts),
+            OutLogic::Balances(logic) => logic.start(acts),
         }
     }
 
-    /// An element came. It takes the memory of the copies that a broadcast makes, one less than it has open outputs.
+    /// An element came. It takes the memory of the copies that a broadcast makes, one less than it has open outputs, and of
+    /// the move that a balance records.
     pub fn on_push(
         &mut self,
         alloc: Global,
@@ -71,27 +71,30 @@ impl OutLogic {
         requires room { room_of self.old ≤ acts.old.room }
         ensures ports { OnOk result (Obeys (brings port (item.Elem e)) (row self.old) (row self.new) acts.new.items) }
         ensures gives { OnOk result (Turned (brings port (item.Elem e)) self.old acts.new.items self.new) }
+        ensures order { OnOk result (ServesFirst self.old self.new) }
         ensures room { OnOk result (acts.new.room ≡ acts.old.room) }
     {
         match self {
-            OutLogic::Copies(logic) => logic.on_push(alloc, port, e, acts),
-            OutLogic::Deals(logic) => logic.on_push(alloc, port, e, acts),
+            OutLogic::Machines(logic) => logic.on_push(alloc, port, e, acts),
+            OutLogic::Balances(logic) => logic.on_push(port, e, acts),
         }
     }
 
-    /// Output `port` was asked.
+    /// Output `port` was asked. It takes the memory of the move that a balance records; where that is refused, all is as before.
     pub fn on_pull(&mut self, port: u8, acts: &mut Acts) -> Result<(), NoMemory>
         requires meets { Meets (asks port) (row self.old) }
         requires empty { acts.old.items ≡ [] }
         requires room { room_of self.old ≤ acts.old.room }
-        ensures answers { IsOk result }
+        ensures answers { out_picks self.old ≡ None → IsOk result }
         ensures ports { OnOk result (Obeys (asks port) (row self.old) (row self.new) acts.new.items) }
         ensures gives { OnOk result (Turned (asks port) self.old acts.new.items self.new) }
-        ensures room { acts.new.room ≡ acts.old.room }
+        ensures order { OnOk result (QueuesLast port self.old self.new) }
+        ensures room { OnOk result (acts.new.room ≡ acts.old.room) }
+        ensures refused { OnErr result ((self.new ≡ self.old) × (acts.new ≡ acts.old)) }
     {
         match self {
-            OutLogic::Copies(logic) => logic.on_pull(port, acts),
-            OutLogic::Deals(logic) => logic.on_pull(port, acts),
+            OutLogic::Machines(logic) => logic.on_pull(port, acts),
+            OutLogic::Balances(logic) => logic.on_pull(port, acts),
         }
     }
 
@@ -106,8 +109,8 @@ impl OutLogic {
         ensures room { acts.new.room ≡ acts.old.room }
     {
         match self {
-            OutLogic::Copies(logic) => logic.on_finish(port, acts),
-            OutLogic::Deals(logic) => logic.on_finish(port, acts),
+            OutLogic::Machines(logic) => logic.on_finish(port, acts),
+            OutLogic::Balances(logic) => logic.on_finish(port, acts),
         }
     }
 
@@ -122,8 +125,8 @@ impl OutLogic {
         ensures room { acts.new.room ≡ acts.old.room }
     {
         match self {
-            OutLogic::Copies(logic) => logic.on_fail(port, cause, acts),
-            OutLogic::Deals(logic) => logic.on_fail(port, cause, acts),
+            OutLogic::Machines(logic) => logic.on_fail(port, cause, acts),
+            OutLogic::Balances(logic) => logic.on_fail(port, cause, acts),
         }
     }
 
@@ -138,42 +141,28 @@ impl OutLogic {
         ensures room { acts.new.room ≡ acts.old.room }
     {
         match self {
-            OutLogic::Copies(logic) => logic.on_cancel(port, acts),
-            OutLogic::Deals(logic) => logic.on_cancel(port, acts),
+            OutLogic::Machines(logic) => logic.on_cancel(port, acts),
+            OutLogic::Balances(logic) => logic.on_cancel(port, acts),
         }
     }
 
-    /// The run is over: the log of its moves, of which it made none. It takes no memory.
+    /// The run is over: the log of its moves. It takes no memory.
     pub fn close(self, alloc: Global) -> PickLog
-        ensures { result.moves ≡ [] }
+        ensures { result.moves ≡ out_moves self }
     {
-        PickLog::new(alloc)
+        match self {
+            OutLogic::Machines(_) => PickLog::new(alloc),
+            OutLogic::Balances(logic) => logic.close(),
+        }
     }
-}
 
-fn made(alloc: Global, stage: u32, kind: Kind) -> Result<OutLogic, NoMemory>
-    requires { IsOut kind }
-    ensures { IfOk result (IsMade stage kind) }
-{
-    match kind {
-        Kind::Broadcast(n) => copies(alloc, n, false),
-        Kind::Unzip => copies(alloc, 2, true),
-        Kind::Partition(n, fun) => deals(alloc, stage, n, fun),
-        _ => unreachable!(),
+    /// The run is over: the log of its moves where its kind chooses. It takes no memory.
+    pub fn picks(self) -> Option<PickLog>
+        ensures { option_map (λ log. log.moves) result ≡ out_picks self }
+    {
+        match self {
+            OutLogic::Machines(_) => None,
+            OutLogic::Balances(logic) => Some(logic.close()),
+        }
     }
-}
-
-fn copies(alloc: Global, outputs: u32, halves: bool) -> Result<OutLogic, NoMemory>
-    requires fan { (2 ≤ outputs) × (outputs ≤ MAX_FAN) }
-    requires pair { halves ≡ true → outputs ≡ 2 }
-    ensures { IfOk result (λ l. l ≡ Copies (copy.begun outputs halves)) }
-{
-    Ok(OutLogic::Copies(CopyLogic::new(alloc, outputs as u8, halves)?))
-}
-
-fn deals(alloc: Global, stage: u32, outputs: u32, fun: MapFn) -> Result<OutLogic, NoMemory>
-    requires fan { (2 ≤ outputs) × (outputs ≤ MAX_FAN) }
-    ensures { IfOk result (λ l. l ≡ Deals (part.begun stage outputs fun)) }
-{
-    Ok(OutLogic::Deals(PartitionLogic::new(alloc, stage, outputs as u8, fun)?))
 }

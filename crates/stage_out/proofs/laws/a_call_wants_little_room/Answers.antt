@@ -1,4 +1,4 @@
-use Rattle.stage_out.proofs.OutRests.{called_fits}
+use Rattle.stage_out.proofs.OutLogics.{called_fits}
 use Rattle.stage_out.proofs.laws.a_call_wants_little_room.Goals as goal
 
 pub returns : goal.returns

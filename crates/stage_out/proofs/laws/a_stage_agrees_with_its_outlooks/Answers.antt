@@ -1,4 +1,4 @@
-use Rattle.stage_out.proofs.OutNodes.{stage_agrees}
+use Rattle.stage_out.proofs.MachineNodes.{stage_agrees}
 use Rattle.stage_out.proofs.laws.a_stage_agrees_with_its_outlooks.Goals as goal
 
 pub returns : goal.returns

@@ -1,8 +1,7 @@
 use Rattle.elem_core.specs.declared.item.Item.TheVariants as item
 use Rattle.port_core.specs.Call.{brings}
 use Rattle.stage_core.proofs.OnOks.{on_ok_two}
-use Rattle.stage_out.proofs.OutNodes.{handled}
-use Rattle.stage_out.proofs.Handling.{fits}
+use Rattle.stage_out.proofs.OutLogics.{fits, handled, asks_ok, grows_ok}
 use Rattle.stage_out.proofs.handlers.OutLogicStage.on_fail.Goals as goal
 
 pub on_fail-requires-clause-room : goal.on_fail-requires-clause-room
@@ -10,3 +9,9 @@ on_fail-requires-clause-room c = fits (brings c.args.port (item.Failed c.args.ca
 
 pub returns-clause-handles : goal.returns-clause-handles
 returns-clause-handles c = on_ok_two _ c.on_fail.ensures.ports c.on_fail.ensures.gives (λ o t. handled _ _ _ _ o t)
+
+pub returns-clause-asks : goal.returns-clause-asks
+returns-clause-asks c = asks_ok c.on_fail.result c.args.self.now c.on_fail.new.self c.on_fail.new.acts.items (brings c.args.port (item.Failed c.args.cause)) c.on_fail.ensures.gives
+
+pub returns-clause-grows : goal.returns-clause-grows
+returns-clause-grows c = grows_ok c.on_fail.result c.args.self.now c.on_fail.new.self c.on_fail.new.acts.items (brings c.args.port (item.Failed c.args.cause)) c.on_fail.ensures.gives

@@ -27,16 +27,16 @@ use Rattle.stage_law.specs.Outs.{Outlet, OutsLaw, owe}
 use Rattle.stage_law.proofs.Calls.{new_law}
 use Rattle.stage_law.proofs.Whole.{stage_stands}
 use Rattle.stage_law.proofs.OutTurns.{outs_call}
-use Rattle.stage_out.specs.declared.logic.OutLogic.{OutLogic}
-use Rattle.stage_out.specs.declared.logic.OutLogic.TheVariants.{Copies, Deals}
+use Rattle.stage_out.specs.declared.machines.OutMachines.{OutMachines}
+use Rattle.stage_out.specs.declared.machines.OutMachines.TheVariants.{Copies, Deals}
 use Rattle.stage_out.specs.Copies.{want_view}
 use Rattle.stage_out.specs.CopyStates.{part_by}
 use Rattle.stage_out.specs.CopyStates as copy
 use Rattle.stage_out.specs.PartitionStates.{then_of}
 use Rattle.stage_out.specs.PartitionStates as part
-use Rattle.stage_out.specs.OutLogics.{is_live, row, Turned, outlets, owed, EachStarts, IsNew, EachAgrees, Begins, IsAlike}
-use Rattle.stage_out.specs.OutNodes.{OutFresh, OutLaw, GaveAgrees}
-use Rattle.stage_out.proofs.OutLogics.{turns_of, owe_copies, owe_deals, length-owed, length-dues}
+use Rattle.stage_out.specs.Machines.{is_live, row, Turned, outlets, owed, EachStarts, IsNew, EachAgrees, Begins, IsAlike}
+use Rattle.stage_out.specs.MachineNodes.{MachinesFresh, MachinesLaw, GaveAgrees}
+use Rattle.stage_out.proofs.OutMachines.{turns_of, owe_copies, owe_deals, length-owed, length-dues}
 use Rattle.stage_out.proofs.Rests.{told_lists}
 use Rattle.stage_fans.proofs.Histories.{brought_at, length-brought, given_at, length-given_all}
 use Rattle.stage_out.proofs.OutRests.{called_is_live, length-copiers, length-dealers}
@@ -62,16 +62,16 @@ brought_one c h = one_of (brought_by c (h ∷ [])) (length-brought c (h ∷ []))
     one_of (x ∷ []) e = refl
     one_of (x ∷ y ∷ hs) e = absurd (omega (arith, e))
 
-pub length-outlets : (book : Book) (l : OutLogic) → length (outlets book l) ≡ length (owed l)
+pub length-outlets : (book : Book) (l : OutMachines) → length (outlets book l) ≡ length (owed l)
 length-outlets book (Copies l) = length-copiers (part_by l.halves) l.live 0 l.outs ∙ sym (length-owed l.live l.outs)
 length-outlets book (Deals l) = length-dealers book l (then_of l.live l) 0 l.outs ∙ sym (length-dues (then_of l.live l) 0 l.outs)
 
 -- a live one has one input, and as many outputs as it owes at
-pub record Ports (l : OutLogic) (v : View) : Type 0 where
+pub record Ports (l : OutMachines) (v : View) : Type 0 where
   pub one : length v.ins ≡ 1
   pub outs : length v.outs ≡ length (owed l)
 
-pub live_ports : (l : OutLogic) (v : View) → is_live l ≡ true → row l v → Ports l v
+pub live_ports : (l : OutMachines) (v : View) → is_live l ≡ true → row l v → Ports l v
 live_ports (Copies l) v h r =
     let s = subst (λ b. copy.row_by b l v) h r in
     record { one = ap (λ (w : View). length w.ins) s.0; outs = ap (λ (w : View). length w.outs) s.0 ∙ length-map l.outs want_view ∙ sym (length-owed l.live l.outs) }
@@ -88,7 +88,7 @@ owe_last (o ∷ os) (h ∷ hs) [] e = absurd (omega (arith, e))
 owe_last (o ∷ os) (h ∷ hs) (k ∷ ks) e = rw (owe_last os hs ks (omega (arith, e))) refl
 
 -- it stays of its kind
-alike_on : (c : Call) (first old new : OutLogic) (acts : List Act) → Turned c old acts new → IsAlike first old → IsAlike first new
+alike_on : (c : Call) (first old new : OutMachines) (acts : List Act) → Turned c old acts new → IsAlike first old → IsAlike first new
 alike_on c (Copies f) (Copies l) (Copies m) acts t a = tt
 alike_on c (Deals f) (Deals l) (Deals m) acts t a = tt
 alike_on c first (Copies l) (Deals m) acts t a = absurd t
@@ -96,12 +96,12 @@ alike_on c first (Deals l) (Copies m) acts t a = absurd t
 alike_on c (Copies f) (Deals l) new acts t a = absurd a
 alike_on c (Deals f) (Copies l) new acts t a = absurd a
 
-alike_self : (l : OutLogic) → IsAlike l l
+alike_self : (l : OutMachines) → IsAlike l l
 alike_self (Copies l) = tt
 alike_self (Deals l) = tt
 
-keeps : (c : Call) (first old new : OutLogic) (v : View) (took gave : List (List Item)) (acts : List Act) → is_live old ≡ true → CallAllowed c v → ActsAllowed (seen c v) acts → row old v → Turned c old acts new
-    → OutLaw first old v took gave → OutLaw first new (acted_all (seen c v) acts) (brought_by c took) (given_all acts gave)
+keeps : (c : Call) (first old new : OutMachines) (v : View) (took gave : List (List Item)) (acts : List Act) → is_live old ≡ true → CallAllowed c v → ActsAllowed (seen c v) acts → row old v → Turned c old acts new
+    → MachinesLaw first old v took gave → MachinesLaw first new (acted_all (seen c v) acts) (brought_by c took) (given_all acts gave)
 keeps c first old new v took gave acts live may allowed r turned law =
     let t = turns_of c old new acts live turned in
     let p = live_ports old v live r in
@@ -119,13 +119,13 @@ keeps c first old new v took gave acts live may allowed r turned law =
           (outs_call 0 c (outlets book old) (owed new) v law.taken (λ j. slice_index_or gave j []) acts p.one may allowed (t.turns book) (law.law book)));
     }
 
-stands_of : (c : Call) (old new : OutLogic) (acts : List Act) → Turned c old acts new → AsksStand acts
+stands_of : (c : Call) (old new : OutMachines) (acts : List Act) → Turned c old acts new → AsksStand acts
 stands_of c (Copies l) (Copies m) acts t = t.stands
 stands_of c (Deals l) (Deals m) acts t = t.stands
 stands_of c (Copies l) (Deals m) acts t = absurd t
 stands_of c (Deals l) (Copies m) acts t = absurd t
 
-pub handled : (c : Call) (old new : OutLogic) (acts : List Act) → Obeys c (row old) (row new) acts → Turned c old acts new → Handles row OutLaw c old new acts
+pub handled : (c : Call) (old new : OutMachines) (acts : List Act) → Obeys c (row old) (row new) acts → Turned c old acts new → Handles row MachinesLaw c old new acts
 handled c old new acts o t = record {
   obeys = o;
   stands = stands_of c old new acts t;
@@ -160,11 +160,11 @@ one_empty [] h l = absurd (omega (arith, l))
 one_empty (x ∷ []) h l = ap (λ (y : List Item). y ∷ []) h.0
 one_empty (x ∷ y ∷ hs) h l = absurd (omega (arith, l))
 
-owe_same : (book : Book) (l : OutLogic) → owe (outlets book l) (owed l) ≡ outlets book l
+owe_same : (book : Book) (l : OutMachines) → owe (outlets book l) (owed l) ≡ outlets book l
 owe_same book (Copies l) = owe_copies (part_by l.halves) l.live l.live 0 l.outs l.outs refl
 owe_same book (Deals l) = owe_deals book l (then_of l.live l) (then_of l.live l) 0 l.outs l.outs refl
 
-fresh_law : (l : OutLogic) (v : View) (took gave : List (List Item)) → CallAllowed starts v → IsNew l → row l v → AllEmpty took → AllEmpty gave → length took ≡ length v.ins → length gave ≡ length v.outs → OutLaw l l v took gave
+fresh_law : (l : OutMachines) (v : View) (took gave : List (List Item)) → CallAllowed starts v → IsNew l → row l v → AllEmpty took → AllEmpty gave → length took ≡ length v.ins → length gave ≡ length v.outs → MachinesLaw l l v took gave
 fresh_law l v took gave may n r a b m k =
     let p = live_ports l v n.live r in
     record {
@@ -180,7 +180,7 @@ fresh_law l v took gave may n r a b m k =
           (λ i x. let z : i ≡ 0 + i = omega arith in let q = length-outlets book l in let o = p.outs in subst (λ m. GaveAs (out_at v m) unended) z (unasked_at v.outs i (omega (arith, x, q, o)) may.1)) (n.starts book));
     }
 
-pub started : (old new : OutLogic) (acts : List Act) → Obeys starts (row old) (row new) acts → Turned starts old acts new → Starts row OutLaw OutFresh old new acts
+pub started : (old new : OutMachines) (acts : List Act) → Obeys starts (row old) (row new) acts → Turned starts old acts new → Starts row MachinesLaw MachinesFresh old new acts
 started old new acts o t = record {
   obeys = record { allowed = λ v may r. o.allowed v may r.row; row = λ v may r. o.row v may r.row };
   stands = stands_of starts old new acts t;
@@ -224,7 +224,7 @@ module _ (is : List Outlook) (f : ℕ → List Outlook → Outlook) (v : View) (
       let z : n + 1 + j ≡ n + suc j = omega arith in
       subst (λ m. GaveAgrees (f m is) (gave m)) z (agrees_each os hs (n + 1) j gave (omega (arith, s)) x.1 law.1 (omega (arith, k)))
 
-pub stage_agrees : (g : Graph) (w : World) (node : ℕ) (kind : Kind) (d : Decider) (is : List Outlook) (first now : OutLogic) (v : View) (took gave : List (List Item)) → Begins node kind first → (law : OutLaw first now v took gave)
+pub stage_agrees : (g : Graph) (w : World) (node : ℕ) (kind : Kind) (d : Decider) (is : List Outlook) (first now : OutMachines) (v : View) (took gave : List (List Item)) → Begins node kind first → (law : MachinesLaw first now v took gave)
     → (l : List Tree) (e : End) → law.taken ≡ told l e → Agrees (head_of is) l e → (j : ℕ) → j < length gave → GaveAgrees (node_outlook g w node kind d is j) (slice_index_or gave j [])
 stage_agrees g w node kind d is first now v took gave b law l e t a j k =
     let q = length-outlets w.book first in let o = law.outputs in let p = law.ports in

@@ -8,17 +8,17 @@ use Rattle.elem_core.specs.Tree.{Tree}
 use Rattle.stream_picture.specs.View as picture
 use Rattle.stage_law.specs.Held.{told}
 use Rattle.stage_law.specs.Outs.{OutsLaw, owe}
-use Rattle.stage_out.specs.declared.logic.OutLogic.{OutLogic}
-use Rattle.stage_out.specs.OutLogics.{IsNew, row, outlets, owed, rests_as, IsAlike}
+use Rattle.stage_out.specs.declared.machines.OutMachines.{OutMachines}
+use Rattle.stage_out.specs.Machines.{IsNew, row, outlets, owed, rests_as, IsAlike}
 
 -- what one that was not started knows of its ports
-pub record OutFresh (l : OutLogic) (v : View) : Type 0 where
+pub record MachinesFresh (l : OutMachines) (v : View) : Type 0 where
   pub row : row l v
   pub fresh : IsNew l
 
 -- Of a logic as it was handed in and as it is now: its outputs' machines and its row stay; and the law of each output holds
 -- of what came and what was given there.
-pub record OutLaw (first now : OutLogic) (v : View) (took gave : List (List Item)) : Type 0 where
+pub record MachinesLaw (first now : OutMachines) (v : View) (took gave : List (List Item)) : Type 0 where
   pub alike : IsAlike first now
   pub same : (book : Book) → owe (outlets book first) (owed now) ≡ outlets book now
   pub outputs : length (owed now) ≡ length (owed first)

@@ -1,0 +1,172 @@
+ghost use Rattle.std.specs.Prelude.{◌≡◌, ◌≤◌, [], OnOk, IfOk, IsOk, true, Bool};
+ghost use Rattle.elem_core.specs.declared.item.Item.TheVariants as item;
+ghost use Rattle.port_core.specs.Call.{Obeys, Meets, starts, asks, brings, cancels};
+ghost use Rattle.stream_model.specs.declared.kind.TheConstants.{MAX_FAN};
+ghost use Rattle.stage_out.specs.declared.machines.OutMachines.TheVariants.{Copies, Deals};
+ghost use Rattle.stage_out.specs.CopyStates as copy;
+ghost use Rattle.stage_out.specs.PartitionStates as part;
+ghost use Rattle.stage_out.specs.Machines.{room_of, row, Turned, IsMachines, IsMade, Begins};
+
+use crate::copy_logic::CopyLogic;
+use crate::partition_logic::PartitionLogic;
+use elem_core::elem::Elem;
+use elem_core::function::MapFn;
+use elem_core::why::{Cause, Decider, NoMemory};
+use port_core::acts::Acts;
+use std::alloc::Global;
+use stream_model::kind::Kind;
+
+/// The logic of a node with several outputs, each of which is a machine over the input: what it gets hangs on what came alone.
+/// A call that appends actions wants room for two of them for each port, of which the node has its outputs and one input.
+/// Rule: Akka Streams 2.6 reference.
+#[derive(Drop)]
+pub enum OutMachines {
+    /// A broadcast, or an unzip.
+    Copies(CopyLogic),
+    /// A partition.
+    Deals(PartitionLogic),
+}
+
+impl OutMachines {
+    /// The logic of node `stage`, with 2 to `MAX_FAN` outputs. It takes the memory of a list of its outputs. None of these
+    /// kinds has a decider: a reason stops a partition.
+    pub fn new(
+        alloc: Global,
+        stage: u32,
+        kind: Kind,
+        decider: Decider,
+    ) -> Result<OutMachines, NoMemory>
+        requires { IsMachines kind }
+        ensures { IfOk result (Begins stage kind) }
+    {
+        let _decider = decider;
+        made(alloc, stage, kind)
+    }
+
+    /// The run begins. It waits to be asked.
+    pub fn start(&mut self, acts: &mut Acts) -> Result<(), NoMemory>
+        requires meets { Meets starts (row self.old) }
+        requires empty { acts.old.items ≡ [] }
+        ensures answers { IsOk result }
+        ensures ports { OnOk result (Obeys starts (row self.old) (row self.new) acts.new.items) }
+        ensures gives { OnOk result (Turned starts self.old acts.new.items self.new) }
+        ensures room { acts.new.room ≡ acts.old.room }
+    {
+        match self {
+            OutMachines::Copies(logic) => logic.start(acts),
+            OutMachines::Deals(logic) => logic.start(acts),
+        }
+    }
+
+    /// An element came. It takes the memory of the copies that a broadcast makes, one less than it has open outputs.
+    pub fn on_push(
+        &mut self,
+        alloc: Global,
+        port: u8,
+        e: Elem,
+        acts: &mut Acts,
+    ) -> Result<(), NoMemory>
+        requires meets { Meets (brings port (item.Elem e)) (row self.old) }
+        requires empty { acts.old.items ≡ [] }
+        requires room { room_of self.old ≤ acts.old.room }
+        ensures ports { OnOk result (Obeys (brings port (item.Elem e)) (row self.old) (row self.new) acts.new.items) }
+        ensures gives { OnOk result (Turned (brings port (item.Elem e)) self.old acts.new.items self.new) }
+        ensures room { OnOk result (acts.new.room ≡ acts.old.room) }
+    {
+        match self {
+            OutMachines::Copies(logic) => logic.on_push(alloc, port, e, acts),
+            OutMachines::Deals(logic) => logic.on_push(alloc, port, e, acts),
+        }
+    }
+
+    /// Output `port` was asked.
+    pub fn on_pull(&mut self, port: u8, acts: &mut Acts) -> Result<(), NoMemory>
+        requires meets { Meets (asks port) (row self.old) }
+        requires empty { acts.old.items ≡ [] }
+        requires room { room_of self.old ≤ acts.old.room }
+        ensures answers { IsOk result }
+        ensures ports { OnOk result (Obeys (asks port) (row self.old) (row self.new) acts.new.items) }
+        ensures gives { OnOk result (Turned (asks port) self.old acts.new.items self.new) }
+        ensures room { acts.new.room ≡ acts.old.room }
+    {
+        match self {
+            OutMachines::Copies(logic) => logic.on_pull(port, acts),
+            OutMachines::Deals(logic) => logic.on_pull(port, acts),
+        }
+    }
+
+    /// The input has ended.
+    pub fn on_finish(&mut self, port: u8, acts: &mut Acts) -> Result<(), NoMemory>
+        requires meets { Meets (brings port item.Ended) (row self.old) }
+        requires empty { acts.old.items ≡ [] }
+        requires room { room_of self.old ≤ acts.old.room }
+        ensures answers { IsOk result }
+        ensures ports { OnOk result (Obeys (brings port item.Ended) (row self.old) (row self.new) acts.new.items) }
+        ensures gives { OnOk result (Turned (brings port item.Ended) self.old acts.new.items self.new) }
+        ensures room { acts.new.room ≡ acts.old.room }
+    {
+        match self {
+            OutMachines::Copies(logic) => logic.on_finish(port, acts),
+            OutMachines::Deals(logic) => logic.on_finish(port, acts),
+        }
+    }
+
+    /// The input has failed.
+    pub fn on_fail(&mut self, port: u8, cause: Cause, acts: &mut Acts) -> Result<(), NoMemory>
+        requires meets { Meets (brings port (item.Failed cause)) (row self.old) }
+        requires empty { acts.old.items ≡ [] }
+        requires room { room_of self.old ≤ acts.old.room }
+        ensures answers { IsOk result }
+        ensures ports { OnOk result (Obeys (brings port (item.Failed cause)) (row self.old) (row self.new) acts.new.items) }
+        ensures gives { OnOk result (Turned (brings port (item.Failed cause)) self.old acts.new.items self.new) }
+        ensures room { acts.new.room ≡ acts.old.room }
+    {
+        match self {
+            OutMachines::Copies(logic) => logic.on_fail(port, cause, acts),
+            OutMachines::Deals(logic) => logic.on_fail(port, cause, acts),
+        }
+    }
+
+    /// Output `port` was cancelled.
+    pub fn on_cancel(&mut self, port: u8, acts: &mut Acts) -> Result<(), NoMemory>
+        requires meets { Meets (cancels port) (row self.old) }
+        requires empty { acts.old.items ≡ [] }
+        requires room { room_of self.old ≤ acts.old.room }
+        ensures answers { IsOk result }
+        ensures ports { OnOk result (Obeys (cancels port) (row self.old) (row self.new) acts.new.items) }
+        ensures gives { OnOk result (Turned (cancels port) self.old acts.new.items self.new) }
+        ensures room { acts.new.room ≡ acts.old.room }
+    {
+        match self {
+            OutMachines::Copies(logic) => logic.on_cancel(port, acts),
+            OutMachines::Deals(logic) => logic.on_cancel(port, acts),
+        }
+    }
+}
+
+fn made(alloc: Global, stage: u32, kind: Kind) -> Result<OutMachines, NoMemory>
+    requires { IsMachines kind }
+    ensures { IfOk result (IsMade stage kind) }
+{
+    match kind {
+        Kind::Broadcast(n) => copies(alloc, n, false),
+        Kind::Unzip => copies(alloc, 2, true),
+        Kind::Partition(n, fun) => deals(alloc, stage, n, fun),
+        _ => unreachable!(),
+    }
+}
+
+fn copies(alloc: Global, outputs: u32, halves: bool) -> Result<OutMachines, NoMemory>
+    requires fan { (2 ≤ outputs) × (outputs ≤ MAX_FAN) }
+    requires pair { halves ≡ true → outputs ≡ 2 }
+    ensures { IfOk result (λ l. l ≡ Copies (copy.begun outputs halves)) }
+{
+    Ok(OutMachines::Copies(CopyLogic::new(alloc, outputs as u8, halves)?))
+}
+
+fn deals(alloc: Global, stage: u32, outputs: u32, fun: MapFn) -> Result<OutMachines, NoMemory>
+    requires fan { (2 ≤ outputs) × (outputs ≤ MAX_FAN) }
+    ensures { IfOk result (λ l. l ≡ Deals (part.begun stage outputs fun)) }
+{
+    Ok(OutMachines::Deals(PartitionLogic::new(alloc, stage, outputs as u8, fun)?))
+}

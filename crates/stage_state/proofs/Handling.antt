@@ -1,137 +1,161 @@
--- Each call of a stage with state keeps the law of its output.
-use Rattle.std.specs.Prelude.{Result, OnOk}
-use Rattle.std.proofs.Common.{◌≡◌, ℕ, ◌≤◌, Bool, false, inl, inr, Option, None, Some, List, [], ◌∷◌, ◌++◌, length, refl, sym, ap, subst, ◌∙◌, arith}
-use Rattle.elem_core.specs.Tree.{Tree}
+-- Each call of a stage with state keeps the law of its histories, whatever its kind.
+use Rattle.std.specs.Prelude.{Result, Ok, Err, OnOk}
+use Rattle.std.proofs.Common.{◌≡◌, ◌≢◌, ℕ, List, [], ◌++◌, refl, sym, ap, subst, ◌∙◌, append-nil}
+use Rattle.elem_core.specs.Prefix.{IsPrefix}
 use Rattle.elem_core.specs.declared.item.Item.{Item}
+use Rattle.elem_core.specs.declared.why.Decider.{Decider}
 use Rattle.port_core.specs.declared.act.Act.{Act}
-use Rattle.port_core.specs.declared.view.InView.{InView}
-use Rattle.port_core.specs.declared.view.InView.TheVariants.{Idle}
-use Rattle.port_core.specs.declared.view.OutView.{OutView}
-use Rattle.port_core.specs.declared.view.OutView.TheVariants.{Unasked}
-use Rattle.port_core.specs.View.{View, in_at, out_at, ActsAllowed, acted_all}
-use Rattle.port_core.specs.Call.{Call, starts, CallAllowed, Meets, seen, brought_to, given_on, Obeys}
+use Rattle.port_core.specs.View.{View}
+use Rattle.port_core.specs.Call.{Call, starts, CallAllowed, Meets, Obeys}
+use Rattle.port_core.specs.View as port
+use Rattle.port_core.specs.Call as port_call
 use Rattle.stage_core.specs.Histories as histories
 use Rattle.stage_core.specs.Handling.{Starts, Handles}
 use Rattle.stage_core.proofs.OnOks.{on_ok_two}
-use Rattle.stage_core.proofs.OneOnes.{given_one, brought_one, one_input, at_first, first_port, fresh_ports}
-use Rattle.stream_model.specs.Outlook.{unended}
-use Rattle.stream_model.specs.Machine.{Run, Machine}
-use Rattle.stream_model.specs.Linear.{Book, Stage, Work, scanning, linear}
-use Rattle.stage_law.specs.Held.{Held, owing}
-use Rattle.stage_law.specs.Turn.{TurnAt}
-use Rattle.stage_law.specs.Law.{TookAs, GaveAs, Law}
-use Rattle.stage_law.proofs.Calls.{new_law, call_law}
-use Rattle.stage_linear.specs.declared.phase.Phase.{Phase}
-use Rattle.stage_linear.specs.declared.phase.Phase.TheVariants.{New, Open, Closed}
-use Rattle.stage_state.specs.declared.ending.Ending.{Ending}
-use Rattle.stage_state.specs.declared.ending.Ending.TheVariants.{Lasting}
-use Rattle.stage_state.specs.States.{Logic, machine, machine_by, held, held_in, state_by, IsScan, Spare, keep_row, buffer_row, row_by, row, Turned}
+use Rattle.stage_core.proofs.OneOnes.{at_first, first_port}
+use Rattle.stage_linear.specs.declared.phase.Phase.TheVariants.{New, Open}
+use Rattle.stage_dropping.specs.Droppings as dropping
+use Rattle.stage_dropping.specs.Droppings.{DropFresh, DropRow, DropsAs}
+use Rattle.stage_dropping.proofs.DropNodes as drops
+use Rattle.stage_recover.specs.Recoverings as recover
+use Rattle.stage_recover.specs.Recoverings.{RecoverFresh, RecoverRow, RecoversAs}
+use Rattle.stage_recover.proofs.RecoverNodes as recovers
+use Rattle.stage_state.specs.States as machine
+use Rattle.stage_state.specs.MachineNodes.{MachineFresh, MachineRow, MachineLaw}
+use Rattle.stage_state.specs.declared.logic.StateLogic.{StateLogic}
+use Rattle.stage_state.specs.declared.logic.StateLogic.TheVariants.{Machine, Dropping, Recovering}
 use Rattle.stage_state.specs.Handling.{StateFresh, StateRow, StateLaw}
+use Rattle.stage_state.specs.Logics.{phase_of, row, Turned}
+use Rattle.stage_state.specs.Moves.{state_moves}
+use Rattle.stage_state.proofs.MachineNodes as machines
+use Rattle.stage_state.proofs.Rows as rows
 
--- the law of its output once a call's actions are done
-law_after : (call : Call) (first old new : Logic) (v : View) (acts : List Act) (took gave : List (List Item)) → row old v → CallAllowed call v → ActsAllowed (seen call v) acts → Turned call old acts new → StateLaw first old v took gave
-    → StateLaw first new (acted_all (seen call v) acts) (histories.brought_by call took) (histories.given_all acts gave)
-law_after call first old new v acts took gave r h allowed t law = record {
-  took_list = law.took_list ++ brought_to 0 call;
-  gave_list = law.gave_list ++ given_on 0 acts;
-  took_is = ap (histories.brought_by call) law.took_is ∙ brought_one call law.took_list;
-  gave_is = ap (histories.given_all acts) law.gave_is ∙ given_one acts law.gave_list;
-  start = law.start;
-  owes = law.owes;
-  law = λ book.
-      let turn : TurnAt (machine book first) 0 call (held old) (given_on 0 acts) (held new) = subst (λ (m : Machine Stage Tree). TurnAt m 0 call (held old) (given_on 0 acts) (held new)) (law.same book) (t.turn book) in
-      call_law (machine book first) law.start 0 call (held old) (held new) v law.took_list law.gave_list acts (one_input (row_by old.size old.phase old.ending old.asked old.pending old.stage.work) v.ins v.outs r) h allowed turn (law.law book);
-  same = λ book. t.same book ∙ law.same book;
-  size = t.size ∙ law.size;
-}
+-- ---- where a call may come, a stage that was started is open
 
--- a call was handled
-pub handled : (call : Call) (old new : Logic) (acts : List Act) → Obeys call (row old) (row new) acts → Turned call old acts new → Handles StateRow StateLaw call old new acts
-handled call old new acts o t = record {
-  obeys = record {
-    allowed = λ v h r. o.allowed v h r.row;
-    row = λ v h r. record { started = t.started; row = o.row v h r.row };
-  };
-  stands = t.stands;
-  keeps = λ first v took gave h r law. law_after call first old new v acts took gave r.row h (o.allowed v h r.row) t law;
+pub called_open : (l : StateLogic) (call : Call) (v : View) → call ≢ starts → CallAllowed call v → StateRow l v → phase_of l ≡ Open
+called_open (Machine l) call v s h r = rows.called_open l call v r.started s h r.row
+called_open (Dropping l) call v s h r = drops.called_open l call v r.started h r.row
+called_open (Recovering l) call v s h r = recovers.called_open l call v r.started h r.row
+
+-- ---- a handler's law is that of its kind
+
+machine_handles : (call : Call) (old new : machine.Logic) (acts : List Act) → Handles MachineRow MachineLaw call old new acts → Handles StateRow StateLaw call (Machine old) (Machine new) acts
+machine_handles call old new acts h = record {
+  obeys = record { allowed = h.obeys.allowed; row = h.obeys.row };
+  stands = h.stands;
+  keeps = λ first v took gave may r law. by_first first v took gave may r law;
 }
+  where
+    by_first : (first : StateLogic) (v : View) (took gave : List (List Item)) → CallAllowed call v → MachineRow old v → StateLaw first (Machine old) v took gave
+        → StateLaw first (Machine new) (port.acted_all (port_call.seen call v) acts) (histories.brought_by call took) (histories.given_all acts gave)
+    by_first (Machine f) v took gave may r law = h.keeps f v took gave may r law
+    by_first (Dropping f) v took gave may r law = absurd law
+    by_first (Recovering f) v took gave may r law = absurd law
+
+dropping_handles : (call : Call) (old new : dropping.Dropping) (acts : List Act) → Handles DropRow DropsAs call old new acts → Handles StateRow StateLaw call (Dropping old) (Dropping new) acts
+dropping_handles call old new acts h = record {
+  obeys = record { allowed = h.obeys.allowed; row = h.obeys.row };
+  stands = h.stands;
+  keeps = λ first v took gave may r law. by_first first v took gave may r law;
+}
+  where
+    by_first : (first : StateLogic) (v : View) (took gave : List (List Item)) → CallAllowed call v → DropRow old v → StateLaw first (Dropping old) v took gave
+        → StateLaw first (Dropping new) (port.acted_all (port_call.seen call v) acts) (histories.brought_by call took) (histories.given_all acts gave)
+    by_first (Dropping f) v took gave may r law = h.keeps f v took gave may r law
+    by_first (Machine f) v took gave may r law = absurd law
+    by_first (Recovering f) v took gave may r law = absurd law
+
+recover_handles : (call : Call) (old new : recover.Recover) (acts : List Act) → Handles RecoverRow RecoversAs call old new acts → Handles StateRow StateLaw call (Recovering old) (Recovering new) acts
+recover_handles call old new acts h = record {
+  obeys = record { allowed = h.obeys.allowed; row = h.obeys.row };
+  stands = h.stands;
+  keeps = λ first v took gave may r law. by_first first v took gave may r law;
+}
+  where
+    by_first : (first : StateLogic) (v : View) (took gave : List (List Item)) → CallAllowed call v → RecoverRow old v → StateLaw first (Recovering old) v took gave
+        → StateLaw first (Recovering new) (port.acted_all (port_call.seen call v) acts) (histories.brought_by call took) (histories.given_all acts gave)
+    by_first (Recovering f) v took gave may r law = h.keeps f v took gave may r law
+    by_first (Machine f) v took gave may r law = absurd law
+    by_first (Dropping f) v took gave may r law = absurd law
+
+pub handled : (call : Call) (old new : StateLogic) (acts : List Act) → Obeys call (row old) (row new) acts → Turned call old acts new → Handles StateRow StateLaw call old new acts
+handled call (Machine l) (Machine m) acts o t = machine_handles call l m acts (machines.handled call l m acts o t)
+handled call (Dropping l) (Dropping m) acts o t = dropping_handles call l m acts (drops.handled call l m acts o t)
+handled call (Recovering l) (Recovering m) acts o t = recover_handles call l m acts (recovers.handled call l m acts o t)
+handled call (Machine l) (Dropping m) acts o t = absurd t
+handled call (Machine l) (Recovering m) acts o t = absurd t
+handled call (Dropping l) (Machine m) acts o t = absurd t
+handled call (Dropping l) (Recovering m) acts o t = absurd t
+handled call (Recovering l) (Machine m) acts o t = absurd t
+handled call (Recovering l) (Dropping m) acts o t = absurd t
 
 -- ---- a call of a handler is of its one input or output
 
-first_call : (call : Call) (l : Logic) (v : View) → CallAllowed call v → StateRow l v → at_first call ≡ call
-first_call call l v h r = first_port (row_by l.size l.phase l.ending l.asked l.pending l.stage.work) call v h r.row
+plain_row : (l : StateLogic) (v : View) → StateRow l v → row l v
+plain_row (Machine l) v r = r.row
+plain_row (Dropping l) v r = r.row
+plain_row (Recovering l) v r = r.row
 
-pub met_first : (call : Call) (l : Logic) → Meets call (StateRow l) → Meets (at_first call) (row l)
-met_first call l m = subst (λ c. Meets c (row l)) (sym (first_call call l m.0 m.1.0 m.1.1)) (m.0, (m.1.0, m.1.1.row))
+first_call : (call : Call) (l : StateLogic) (v : View) → CallAllowed call v → StateRow l v → at_first call ≡ call
+first_call call (Machine l) v h r = first_port (machine.row_by l.size l.phase l.ending l.asked l.pending l.stage.work) call v h r.row
+first_call call (Dropping l) v h r = first_port (dropping.drop_at l l.phase l.over l.asked) call v h r.row
+first_call call (Recovering l) v h r = first_port (recover.recover_at l l.phase l.over l.asked) call v h r.row
 
-pub handles : {T E : Type 0} (call : Call) (old new : Logic) (acts : List Act) (r : Result T E) → Meets call (StateRow old) → OnOk r (Obeys (at_first call) (row old) (row new) acts) → OnOk r (Turned (at_first call) old acts new)
+pub met_first : (call : Call) (l : StateLogic) → Meets call (StateRow l) → Meets (at_first call) (row l)
+met_first call l m = subst (λ c. Meets c (row l)) (sym (first_call call l m.0 m.1.0 m.1.1)) (m.0, (m.1.0, plain_row l m.0 m.1.1))
+
+pub handles : {T E : Type 0} (call : Call) (old new : StateLogic) (acts : List Act) (r : Result T E) → Meets call (StateRow old) → OnOk r (Obeys (at_first call) (row old) (row new) acts) → OnOk r (Turned (at_first call) old acts new)
     → OnOk r (Handles StateRow StateLaw call old new acts)
 handles call old new acts r m o t =
     subst (λ c. OnOk r (Handles StateRow StateLaw c old new acts)) (first_call call old m.0 m.1.0 m.1.1) (on_ok_two r o t (λ a b. handled (at_first call) old new acts a b))
 
 -- ---- the run begins
 
--- a scan may lose no output
-scan_hold : (book : Book) (w : Work) → IsScan w → (linear book w).hold ≡ 0
-scan_hold book (scanning o a) h = refl
-scan_hold book _ h = absurd h
+pub started : (old new : StateLogic) (acts : List Act) → Obeys starts (row old) (row new) acts → Turned starts old acts new → Starts StateRow StateLaw StateFresh old new acts
+started (Machine l) (Machine m) acts o t =
+    let s = machines.started l m acts o t in
+    record { obeys = record { allowed = s.obeys.allowed; row = s.obeys.row }; stands = s.stands; begins = s.begins }
+started (Dropping l) (Dropping m) acts o t =
+    let s = drops.started l m acts o t in
+    record { obeys = record { allowed = s.obeys.allowed; row = s.obeys.row }; stands = s.stands; begins = s.begins }
+started (Recovering l) (Recovering m) acts o t =
+    let s = recovers.started l m acts o t in
+    record { obeys = record { allowed = s.obeys.allowed; row = s.obeys.row }; stands = s.stands; begins = s.begins }
+started (Machine l) (Dropping m) acts o t = absurd t
+started (Machine l) (Recovering m) acts o t = absurd t
+started (Dropping l) (Machine m) acts o t = absurd t
+started (Dropping l) (Recovering m) acts o t = absurd t
+started (Recovering l) (Machine m) acts o t = absurd t
+started (Recovering l) (Dropping m) acts o t = absurd t
 
--- what it owes at its start is never lost
-spare_held : (book : Book) (w : Work) (k : List Tree) → Spare w k → 1 ≤ (linear book w).hold → k ≡ []
-spare_held book w k (inl none) h = none
-spare_held book w k (inr scan) h = let z = scan_hold book w scan.1 in absurd (omega (arith, h, z))
+-- ---- its log only grows
 
--- a new stage: its ports are open and not asked, and what it owes is never lost
-record News (size : Option ℕ) (k : List Tree) (w : Work) (x : InView) (y : OutView) : Type 0 where
-  took : TookAs x unended
-  gave : GaveAs y unended
-  kept : (book : Book) → 1 ≤ (machine_by book size w).hold → k ≡ []
+longer : (now was more : List ℕ) → now ≡ was ++ more → IsPrefix was now
+longer now was more e = record { rest = more; is = e }
 
-keep_new : (p : Phase) (e : Ending) (a : Bool) (k : List Tree) (w : Work) (x : InView) (y : OutView) → p ≡ New → keep_row p e a k w x y → News None k w x y
-keep_new New Lasting false k w Idle Unasked n r = record { took = refl; gave = refl; kept = λ book h. spare_held book w k r.0 h }
-keep_new New e a k w x y n r = absurd r
-keep_new Open e a k w x y n r = cc
-keep_new Closed e a k w x y n r = cc
+moves_grow : (call : Call) (old new : StateLogic) (acts : List Act) → Turned call old acts new → IsPrefix (state_moves old) (state_moves new)
+moves_grow call (Machine l) (Machine m) acts t = longer [] [] [] refl
+moves_grow call (Dropping l) (Dropping m) acts t = longer m.moves l.moves t.more t.grows
+moves_grow call (Recovering l) (Recovering m) acts t = longer m.moves l.moves t.more t.grows
+moves_grow call (Machine l) (Dropping m) acts t = absurd t
+moves_grow call (Machine l) (Recovering m) acts t = absurd t
+moves_grow call (Dropping l) (Machine m) acts t = absurd t
+moves_grow call (Dropping l) (Recovering m) acts t = absurd t
+moves_grow call (Recovering l) (Machine m) acts t = absurd t
+moves_grow call (Recovering l) (Dropping m) acts t = absurd t
 
-buffer_new : (size : ℕ) (p : Phase) (e : Ending) (a : Bool) (k : List Tree) (w : Work) (x : InView) (y : OutView) → p ≡ New → buffer_row size p e a k x y → News (Some size) k w x y
-buffer_new size New Lasting false k w Idle Unasked n r = record { took = refl; gave = refl; kept = λ book h. r.0 }
-buffer_new size New e a k w x y n r = absurd r
-buffer_new size Open e a k w x y n r = cc
-buffer_new size Closed e a k w x y n r = cc
+pub grew : {T E : Type 0} (call : Call) (old new : StateLogic) (acts : List Act) (r : Result T E) → OnOk r (Turned call old acts new) → OnOk r (IsPrefix (state_moves old) (state_moves new))
+grew call old new acts (Ok x) t = moves_grow call old new acts t
+grew call old new acts (Err e) t = tt
 
-new_by : (size : Option ℕ) (p : Phase) (e : Ending) (a : Bool) (k : List Tree) (w : Work) (x : InView) (y : OutView) → p ≡ New → row_by size p e a k w x y → News size k w x y
-new_by None p e a k w x y n r = keep_new p e a k w x y n r
-new_by (Some size) p e a k w x y n r = buffer_new size p e a k w x y n r
+-- ---- one that may be started
 
--- the law at its two ports
-at_ports : (m : Machine Stage Tree) (start : Run Stage Tree) (h : Held Stage) (v : View) (x : InView) (y : OutView) → v.ins ≡ x ∷ [] → v.outs ≡ y ∷ [] → Law m start h x y [] [] → Law m start h (in_at v 0) (out_at v 0) [] []
-at_ports m start h v x y a b law = rw (a, b) law
+pub fresh_new : (l : StateLogic) → Meets starts (StateFresh l) → phase_of l ≡ New
+fresh_new (Machine l) m = m.1.1.phase
+fresh_new (Dropping l) m = m.1.1.fresh
+fresh_new (Recovering l) m = m.1.1.fresh
 
-fresh_law : (l : Logic) (v : View) (took gave : List (List Item)) → StateFresh l v → histories.AllEmpty took → histories.AllEmpty gave → length took ≡ length v.ins → length gave ≡ length v.outs → StateLaw l l v took gave
-fresh_law l v took gave f a b m n =
-    let p = fresh_ports (row_by l.size l.phase l.ending l.asked l.pending l.stage.work) v.ins v.outs took gave f.row a b m n in
-    let news = new_by l.size l.phase l.ending l.asked l.pending l.stage.work p.x p.y f.phase p.holds in
-    let start : Run Stage Tree = record { gave = l.pending; state = state_by l.ending l.stage } in
-    let owes : held l ≡ owing start = ap (λ (q : Phase). held_in q l.ending l.pending l.stage) f.phase in
-    record {
-      took_list = [];
-      gave_list = [];
-      took_is = p.took_is;
-      gave_is = p.gave_is;
-      start = start;
-      owes = owes;
-      law = λ book. at_ports (machine book l) start (held l) v p.x p.y p.ins p.outs (subst (λ (h : Held Stage). Law (machine book l) start h p.x p.y [] []) (sym owes) (new_law (machine book l) start p.x p.y news.took news.gave (news.kept book)));
-      same = λ book. refl;
-      size = refl;
-    }
-
--- the stage was started
-pub started : (old new : Logic) (acts : List Act) → Obeys starts (row old) (row new) acts → Turned starts old acts new → Starts StateRow StateLaw StateFresh old new acts
-started old new acts o t = record {
-  obeys = record {
-    allowed = λ v h f. o.allowed v h f.row;
-    row = λ v h f. record { started = t.started; row = o.row v h f.row };
-  };
-  stands = t.stands;
-  begins = λ v took gave h f a b m n. law_after starts old old new v acts took gave f.row h (o.allowed v h f.row) t (fresh_law old v took gave f a b m n);
-}
+pub fresh_met : (l : StateLogic) → Meets starts (StateFresh l) → Meets starts (row l)
+fresh_met (Machine l) m = (m.0, (m.1.0, m.1.1.row))
+fresh_met (Dropping l) m = (m.0, (m.1.0, m.1.1.row))
+fresh_met (Recovering l) m = (m.0, (m.1.0, m.1.1.row))

@@ -2,4 +2,5 @@ pub mod Buffers
 pub mod Finishes
 pub mod Pushes
 pub mod Rows
+pub mod MachineNodes
 pub mod Handling

@@ -1,34 +1,36 @@
--- A stage with state as the interpreter calls it: what it knows of its ports, and the law of its one output.
-use Rattle.std.specs.Prelude.{◌≡◌, ◌≢◌, List, [], ◌∷◌}
-use Rattle.elem_core.specs.Tree.{Tree}
+-- A stage with state as the interpreter calls it, whatever its kind: what it knows of its ports, and the law of its output.
+use Rattle.std.specs.Prelude.{ℕ, List}
 use Rattle.elem_core.specs.declared.item.Item.{Item}
-use Rattle.port_core.specs.View.{View, in_at, out_at}
-use Rattle.stream_model.specs.Linear.{Book, Stage}
-use Rattle.stream_model.specs.Machine.{Run}
-use Rattle.stage_law.specs.Held.{owing}
-use Rattle.stage_law.specs.Law.{Law}
-use Rattle.stage_linear.specs.declared.phase.Phase.TheVariants.{New}
-use Rattle.stage_state.specs.States.{Logic, machine, held, row}
+use Rattle.elem_core.specs.declared.why.Decider.{Decider}
+use Rattle.port_core.specs.View.{View}
+use Rattle.stream_model.specs.declared.kind.Kind.{Kind}
+use Rattle.stage_dropping.specs.Droppings.{DropFresh, DropRow, DropsAs}
+use Rattle.stage_recover.specs.Recoverings.{RecoverFresh, RecoverRow, RecoversAs}
+use Rattle.stage_state.specs.MachineNodes.{MachineFresh, MachineRow, MachineLaw}
+use Rattle.stage_state.specs.declared.logic.StateLogic.{StateLogic}
+use Rattle.stage_state.specs.declared.logic.StateLogic.TheVariants.{Machine, Dropping, Recovering}
+use Rattle.stage_state.specs.Logics.{BeginsAs, unasked_ports}
 
 -- it was not started, and its row holds
-pub record StateFresh (l : Logic) (v : View) : Type 0 where
-  pub phase : l.phase ≡ New
-  pub row : row l v
+abbrev pub StateFresh : StateLogic → View → Type 0
+StateFresh (Machine l) v = MachineFresh l v
+StateFresh (Dropping l) v = DropFresh l v
+StateFresh (Recovering l) v = RecoverFresh l v
 
 -- it was started, and its row holds
-pub record StateRow (l : Logic) (v : View) : Type 0 where
-  pub started : l.phase ≢ New
-  pub row : row l v
+abbrev pub StateRow : StateLogic → View → Type 0
+StateRow (Machine l) v = MachineRow l v
+StateRow (Dropping l) v = DropRow l v
+StateRow (Recovering l) v = RecoverRow l v
 
--- The law of its output, by any book of plugs, since it asks none: from what it owed at first to what it owes now. Its
--- machine stays the same, and so does its size where it is a buffer.
-pub record StateLaw (first now : Logic) (v : View) (took gave : List (List Item)) : Type 0 where
-  pub took_list : List Item
-  pub gave_list : List Item
-  pub took_is : took ≡ took_list ∷ []
-  pub gave_is : gave ≡ gave_list ∷ []
-  pub start : Run Stage Tree
-  pub owes : held first ≡ owing start
-  pub law : (book : Book) → Law (machine book first) start (held now) (in_at v 0) (out_at v 0) took_list gave_list
-  pub same : (book : Book) → machine book now ≡ machine book first
-  pub size : now.size ≡ first.size
+-- the law of its histories, by the stage as it was at first and as it is now; it stays of its kind
+abbrev pub StateLaw : StateLogic → StateLogic → View → List (List Item) → List (List Item) → Type 0
+StateLaw (Machine first) (Machine l) v took gave = MachineLaw first l v took gave
+StateLaw (Dropping first) (Dropping l) v took gave = DropsAs first l v took gave
+StateLaw (Recovering first) (Recovering l) v took gave = RecoversAs first l v took gave
+StateLaw _ _ v took gave = ⊥
+
+-- a new stage of node `node` is of its kind, and may be started
+pub record Begins (node : ℕ) (kind : Kind) (d : Decider) (new : StateLogic) : Type 0 where
+  pub as_kind : BeginsAs kind node d new
+  pub fresh : StateFresh new unasked_ports

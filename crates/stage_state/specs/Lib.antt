@@ -5,4 +5,7 @@ pub mod Outcomes
 pub mod Holding
 pub mod Parts
 pub mod Resting
+pub mod MachineNodes
+pub mod Logics
+pub mod Moves
 pub mod Handling

@@ -1,6 +1,6 @@
 -- The parts of which a stage with state is one.
-use Rattle.stage_state.specs.declared.logic.Part.{Part}
-use Rattle.stage_state.specs.declared.logic.Part.TheVariants.{Keep, Buffer}
+use Rattle.stage_state.specs.declared.machine.Part.{Part}
+use Rattle.stage_state.specs.declared.machine.Part.TheVariants.{Keep, Buffer}
 use Rattle.stage_state.specs.States.{Logic}
 
 -- the state of a part

@@ -116,14 +116,14 @@ pub record Turned (call : Call) (old : Logic) (acts : List Act) (new : Logic) : 
 
 -- ---- a new stage
 
--- the kinds that these stages are; a buffer has room for something
-abbrev pub IsStateful : Kind → Type 0
-IsStateful (Grouped n) = ⊤
-IsStateful (Fold o) = ⊤
-IsStateful (Reduce r) = ⊤
-IsStateful (Scan o) = ⊤
-IsStateful (Buffer n Backpressure) = 0 < n
-IsStateful _ = ⊥
+-- the kinds that these stages are: what they give follows from what they take; a buffer has room for something
+abbrev pub IsMachine : Kind → Type 0
+IsMachine (Grouped n) = ⊤
+IsMachine (Fold o) = ⊤
+IsMachine (Reduce r) = ⊤
+IsMachine (Scan o) = ⊤
+IsMachine (Buffer n Backpressure) = 0 < n
+IsMachine _ = ⊥
 
 -- it was not started, nobody asks it, and it has not asked
 abbrev pub unasked_ports : View

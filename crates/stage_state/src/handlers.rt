@@ -1,6 +1,7 @@
 // A stage with state as the interpreter calls it: its calls keep the law of its output over its whole history.
 ghost use Rattle.std.specs.Prelude.{[], ⊤};
 ghost use Rattle.stage_state.specs.Handling.{StateFresh, StateRow, StateLaw};
+ghost use Rattle.stage_state.specs.Moves.{state_moves};
 
 use crate::laws::a_called_stage_is_open;
 use crate::logic::StateLogic;
@@ -20,7 +21,7 @@ impl Stage for StateLogic {
 
     ghost asking = { λ l v. ⊤ };
 
-    ghost moves = { λ l. [] };
+    ghost moves = { state_moves };
 
     ghost keeps = { λ old new. ⊤ };
 

@@ -1,4 +1,4 @@
-// The stages with one input and one output that keep elements: groups, folds, scans and buffers.
+// The stages with one input and one output that keep elements: groups, folds, scans, buffers and recovers.
 #![tactic(auto)]
 
 pub mod buffer;
@@ -8,3 +8,4 @@ pub mod keep;
 pub mod keeping;
 pub mod laws;
 pub mod logic;
+pub mod machine;

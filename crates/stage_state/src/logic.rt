@@ -1,53 +1,32 @@
-ghost use Rattle.std.specs.Prelude.{◌≡◌, ◌≤◌, [], ◌∷◌, OnOk, IfOk, IsOk};
+ghost use Rattle.std.specs.Prelude.{◌≡◌, ◌≤◌, [], OnOk, OnErr, IfOk, IsOk};
+ghost use Rattle.std.specs.Option.{option_map};
 ghost use Rattle.elem_core.specs.declared.item.Item.TheVariants as item;
 ghost use Rattle.port_core.specs.Call.{Obeys, Meets, starts, asks, brings, cancels};
 ghost use Rattle.stage_linear.specs.declared.phase.Phase.TheVariants.{New, Open};
-ghost use Rattle.stage_state.specs.declared.logic.Part.TheVariants.{Keep};
-ghost use Rattle.stream_model.specs.Linear.{scanning};
-ghost use Rattle.elem_core.specs.Values.{fold_zero};
-ghost use Rattle.stage_state.specs.Keeping.{work_in};
-ghost use Rattle.stage_state.specs.States.{Begins, IsStateful, new_keep, row, Turned};
+ghost use Rattle.stage_state.specs.Handling.{Begins};
+ghost use Rattle.stage_state.specs.Logics.{Chooses, IsStateful, TakesNoneAsked, TakesNoneFailed, phase_of, row, Turned};
+ghost use Rattle.stage_state.specs.Moves.{state_moves, state_picks};
 
-use crate::buffer::BufferLogic;
-use crate::keep::KeepLogic;
-use crate::keeping::Keeping;
-use elem_core::elem::Elem;
-use elem_core::function::FoldOp;
+use crate::machine::MachineLogic;
+use elem_core::elem::{Elem, Form};
 use elem_core::why::{Cause, Decider, NoMemory};
 use port_core::acts::Acts;
 use port_core::pick_log::PickLog;
+use stage_dropping::dropping::Dropping;
+use stage_recover::recover::Recovering;
 use std::alloc::Global;
-use std::marker::Model;
 use stream_model::kind::{Kind, Policy};
 
-/// The logic of a grouped, a fold, a reduce, a scan, or a buffer that holds its input back. Rule: Akka Streams 2.6
-/// reference.
+/// The logic of a stage with one input and one output that keeps elements: a grouped, a fold, a reduce, a scan, a buffer or a
+/// recover. Rule: Akka Streams 2.6 reference.
 #[derive(Drop)]
-pub struct StateLogic {
-    part: Part,
-}
-
-/// What a stage with state is. Rule: own.
-#[derive(Drop)]
-pub enum Part {
-    /// One that keeps a group or a value.
-    Keep(KeepLogic),
-    /// A buffer.
-    Buffer(BufferLogic),
-}
-
-impl Model for StateLogic {
-    ghost use Rattle.std.specs.Coded.{codes};
-    ghost use Rattle.elem_core.specs.TreeCode.{tree_coded};
-    ghost use Rattle.stage_state.specs.States.{Logic};
-
-    ghost Value = { Logic };
-
-    ghost coded = { Prim.hlevel (codes, tree_coded) };
-
-    ghost use Rattle.stage_state.specs.Parts.{logic_of};
-
-    ghost view = { λ l. logic_of l.part };
+pub enum StateLogic {
+    /// One that chooses nothing: it keeps a group or a value, or is a buffer that holds its input back.
+    Machine(MachineLogic),
+    /// A buffer that drops.
+    Dropping(Dropping),
+    /// A recover.
+    Recovering(Recovering),
 }
 
 impl StateLogic {
@@ -61,22 +40,27 @@ impl StateLogic {
         requires { IsStateful kind }
         ensures { IfOk result (Begins stage kind decider) }
     {
-        let part = match kind {
-            Kind::Grouped(n) => keep(stage, decider, Keeping::Group(n, Vec::new(alloc))),
-            Kind::Fold(op) => keep(stage, decider, Keeping::Fold(op, op.zero(alloc)?)),
-            Kind::Reduce(op) => keep(stage, decider, Keeping::Reduce(op, None)),
-            Kind::Scan(op) => scan(alloc, stage, decider, op)?,
-            Kind::Buffer(n, Policy::Backpressure) => Part::Buffer(BufferLogic::new(
-                alloc, stage, n,
-            )?),
-            _ => unreachable!(),
-        };
-        Ok(StateLogic { part })
+        Ok(match kind {
+            Kind::Buffer(size, Policy::Backpressure) => {
+                let kind = Kind::Buffer(size, Policy::Backpressure);
+                StateLogic::Machine(MachineLogic::new(alloc, stage, kind, decider)?)
+            }
+            Kind::Buffer(size, policy) => {
+                StateLogic::Dropping(Dropping::new(alloc, stage, size, policy)?)
+            }
+            Kind::RecoverNum(number) => {
+                StateLogic::Recovering(Recovering::new(alloc, Elem::of(Form::Num(number))))
+            }
+            Kind::RecoverText(text) => {
+                StateLogic::Recovering(Recovering::new(alloc, Elem::of(Form::Text(text))))
+            }
+            kind => StateLogic::Machine(MachineLogic::new(alloc, stage, kind, decider)?),
+        })
     }
 
     /// The run begins.
     pub fn start(&mut self, acts: &mut Acts) -> Result<(), NoMemory>
-        requires new { self.old.phase ≡ New }
+        requires new { phase_of self.old ≡ New }
         requires meets { Meets starts (row self.old) }
         requires empty { acts.old.items ≡ [] }
         requires room { 4 ≤ acts.old.room }
@@ -85,13 +69,14 @@ impl StateLogic {
         ensures gives { OnOk result (Turned starts self.old acts.new.items self.new) }
         ensures room { acts.new.room ≡ acts.old.room }
     {
-        match &mut self.part {
-            Part::Keep(logic) => logic.start(acts),
-            Part::Buffer(logic) => logic.start(acts),
+        match self {
+            StateLogic::Machine(logic) => logic.start(acts),
+            StateLogic::Dropping(logic) => logic.start(acts),
+            StateLogic::Recovering(logic) => logic.start(acts),
         }
     }
 
-    /// An element came.
+    /// An element came. Where a stage that chooses is refused memory, it is as before but for the element.
     pub fn on_push(
         &mut self,
         alloc: Global,
@@ -99,7 +84,7 @@ impl StateLogic {
         e: Elem,
         acts: &mut Acts,
     ) -> Result<(), NoMemory>
-        requires open { self.old.phase ≡ Open }
+        requires open { phase_of self.old ≡ Open }
         requires port { port ≡ 0 }
         requires meets { Meets (brings 0 (item.Elem e)) (row self.old) }
         requires empty { acts.old.items ≡ [] }
@@ -107,70 +92,77 @@ impl StateLogic {
         ensures ports { OnOk result (Obeys (brings 0 (item.Elem e)) (row self.old) (row self.new) acts.new.items) }
         ensures gives { OnOk result (Turned (brings 0 (item.Elem e)) self.old acts.new.items self.new) }
         ensures room { acts.new.room ≡ acts.old.room }
+        ensures refused { OnErr result (Chooses self.old → (self.new ≡ self.old) × (acts.new ≡ acts.old)) }
     {
-        match &mut self.part {
-            Part::Keep(logic) => logic.on_push(alloc, port, e, acts),
-            Part::Buffer(logic) => logic.on_push(port, e, acts),
+        match self {
+            StateLogic::Machine(logic) => logic.on_push(alloc, port, e, acts),
+            StateLogic::Dropping(logic) => logic.on_push(port, e, acts),
+            StateLogic::Recovering(logic) => logic.on_push(port, e, acts),
         }
     }
 
-    /// The output was asked.
+    /// The output was asked. Only a buffer that drops takes memory; where that is refused, it is as before.
     pub fn on_pull(&mut self, port: u8, acts: &mut Acts) -> Result<(), NoMemory>
-        requires open { self.old.phase ≡ Open }
+        requires open { phase_of self.old ≡ Open }
         requires port { port ≡ 0 }
         requires meets { Meets (asks 0) (row self.old) }
         requires empty { acts.old.items ≡ [] }
         requires room { 4 ≤ acts.old.room }
-        ensures answers { IsOk result }
+        ensures answers { TakesNoneAsked self.old → IsOk result }
         ensures ports { OnOk result (Obeys (asks 0) (row self.old) (row self.new) acts.new.items) }
         ensures gives { OnOk result (Turned (asks 0) self.old acts.new.items self.new) }
         ensures room { acts.new.room ≡ acts.old.room }
+        ensures refused { OnErr result (Chooses self.old → (self.new ≡ self.old) × (acts.new ≡ acts.old)) }
     {
-        match &mut self.part {
-            Part::Keep(logic) => logic.on_pull(port, acts),
-            Part::Buffer(logic) => logic.on_pull(port, acts),
+        match self {
+            StateLogic::Machine(logic) => logic.on_pull(port, acts),
+            StateLogic::Dropping(logic) => logic.on_pull(port, acts),
+            StateLogic::Recovering(logic) => logic.on_pull(port, acts),
         }
     }
 
-    /// The input has ended.
+    /// The input has ended. A stage that chooses takes no memory.
     pub fn on_finish(&mut self, alloc: Global, port: u8, acts: &mut Acts) -> Result<(), NoMemory>
-        requires open { self.old.phase ≡ Open }
+        requires open { phase_of self.old ≡ Open }
         requires port { port ≡ 0 }
         requires meets { Meets (brings 0 item.Ended) (row self.old) }
         requires empty { acts.old.items ≡ [] }
         requires room { 4 ≤ acts.old.room }
-        ensures answers { IsOk result }
+        ensures answers { Chooses self.old → IsOk result }
         ensures ports { OnOk result (Obeys (brings 0 item.Ended) (row self.old) (row self.new) acts.new.items) }
         ensures gives { OnOk result (Turned (brings 0 item.Ended) self.old acts.new.items self.new) }
         ensures room { acts.new.room ≡ acts.old.room }
     {
-        match &mut self.part {
-            Part::Keep(logic) => logic.on_finish(alloc, port, acts),
-            Part::Buffer(logic) => logic.on_finish(port, acts),
+        match self {
+            StateLogic::Machine(logic) => logic.on_finish(alloc, port, acts),
+            StateLogic::Dropping(logic) => logic.on_finish(port, acts),
+            StateLogic::Recovering(logic) => logic.on_finish(port, acts),
         }
     }
 
-    /// The input has failed.
+    /// The input has failed. Only a recover takes memory; where that is refused, it is as before.
     pub fn on_fail(&mut self, port: u8, cause: Cause, acts: &mut Acts) -> Result<(), NoMemory>
-        requires open { self.old.phase ≡ Open }
+        requires open { phase_of self.old ≡ Open }
         requires port { port ≡ 0 }
         requires meets { Meets (brings 0 (item.Failed cause)) (row self.old) }
         requires empty { acts.old.items ≡ [] }
         requires room { 4 ≤ acts.old.room }
-        ensures answers { IsOk result }
+        ensures answers { TakesNoneFailed self.old → IsOk result }
         ensures ports { OnOk result (Obeys (brings 0 (item.Failed cause)) (row self.old) (row self.new) acts.new.items) }
         ensures gives { OnOk result (Turned (brings 0 (item.Failed cause)) self.old acts.new.items self.new) }
         ensures room { acts.new.room ≡ acts.old.room }
+        ensures refused { OnErr result (Chooses self.old → (self.new ≡ self.old) × (acts.new ≡ acts.old)) }
     {
-        match &mut self.part {
-            Part::Keep(logic) => logic.on_fail(port, cause, acts),
-            Part::Buffer(logic) => logic.on_fail(port, cause, acts),
+        match self {
+            StateLogic::Machine(logic) => logic.on_fail(port, cause, acts),
+            StateLogic::Dropping(logic) => logic.on_fail(port, cause, acts),
+            StateLogic::Recovering(logic) => logic.on_fail(port, cause, acts),
         }
     }
 
     /// The output was cancelled.
     pub fn on_cancel(&mut self, port: u8, acts: &mut Acts) -> Result<(), NoMemory>
-        requires open { self.old.phase ≡ Open }
+        requires open { phase_of self.old ≡ Open }
         requires port { port ≡ 0 }
         requires meets { Meets (cancels 0) (row self.old) }
         requires empty { acts.old.items ≡ [] }
@@ -180,32 +172,32 @@ impl StateLogic {
         ensures gives { OnOk result (Turned (cancels 0) self.old acts.new.items self.new) }
         ensures room { acts.new.room ≡ acts.old.room }
     {
-        match &mut self.part {
-            Part::Keep(logic) => logic.on_cancel(port, acts),
-            Part::Buffer(logic) => logic.on_cancel(port, acts),
+        match self {
+            StateLogic::Machine(logic) => logic.on_cancel(port, acts),
+            StateLogic::Dropping(logic) => logic.on_cancel(port, acts),
+            StateLogic::Recovering(logic) => logic.on_cancel(port, acts),
         }
     }
 
-    /// The run is over: the log of its moves, of which it made none. It takes no memory.
+    /// The run is over: the log of its moves, which is empty where its kind does not choose. It takes no memory.
     pub fn close(self, alloc: Global) -> PickLog
-        ensures { result.moves ≡ [] }
+        ensures { result.moves ≡ state_moves self }
     {
-        PickLog::new(alloc)
+        match self {
+            StateLogic::Machine(_) => PickLog::new(alloc),
+            StateLogic::Dropping(logic) => logic.close(),
+            StateLogic::Recovering(logic) => logic.close(),
+        }
     }
-}
 
-// One that owes nothing before an element.
-fn keep(stage: u32, decider: Decider, keeping: Keeping) -> Part
-    ensures { result ≡ Keep (new_keep stage decider (work_in keeping) []) }
-{
-    Part::Keep(KeepLogic::new(stage, decider, keeping, None))
-}
-
-// A scan owes its zero.
-fn scan(alloc: Global, stage: u32, decider: Decider, op: FoldOp) -> Result<Part, NoMemory>
-    ensures { IfOk result (λ p. p ≡ Keep (new_keep stage decider (scanning op (fold_zero op)) (fold_zero op ∷ []))) }
-{
-    let first = Some(op.zero(alloc)?);
-    let keeping = Keeping::Scan(op, op.zero(alloc)?);
-    Ok(Part::Keep(KeepLogic::new(stage, decider, keeping, first)))
+    /// The run is over: the log of its moves where its kind chooses. It takes no memory.
+    pub fn picks(self) -> Option<PickLog>
+        ensures { option_map (λ log. log.moves) result ≡ state_picks self }
+    {
+        match self {
+            StateLogic::Machine(_) => None,
+            StateLogic::Dropping(logic) => Some(logic.close()),
+            StateLogic::Recovering(logic) => Some(logic.close()),
+        }
+    }
 }

@@ -1,4 +1,4 @@
-use Rattle.stage_state.proofs.Rows.{called_open}
+use Rattle.stage_state.proofs.Handling.{called_open}
 use Rattle.stage_state.proofs.laws.a_called_stage_is_open.Goals as goal
 
 pub returns : goal.returns

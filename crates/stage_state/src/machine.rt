@@ -1,0 +1,203 @@
+ghost use Rattle.std.specs.Prelude.{◌≡◌, ◌≤◌, [], ◌∷◌, OnOk, IfOk, IsOk};
+ghost use Rattle.elem_core.specs.declared.item.Item.TheVariants as item;
+ghost use Rattle.port_core.specs.Call.{Obeys, Meets, starts, asks, brings, cancels};
+ghost use Rattle.stage_linear.specs.declared.phase.Phase.TheVariants.{New, Open};
+ghost use Rattle.stage_state.specs.declared.machine.Part.TheVariants.{Keep};
+ghost use Rattle.stream_model.specs.Linear.{scanning};
+ghost use Rattle.elem_core.specs.Values.{fold_zero};
+ghost use Rattle.stage_state.specs.Keeping.{work_in};
+ghost use Rattle.stage_state.specs.States.{Begins, IsMachine, new_keep, row, Turned};
+
+use crate::buffer::BufferLogic;
+use crate::keep::KeepLogic;
+use crate::keeping::Keeping;
+use elem_core::elem::Elem;
+use elem_core::function::FoldOp;
+use elem_core::why::{Cause, Decider, NoMemory};
+use port_core::acts::Acts;
+use std::alloc::Global;
+use std::marker::Model;
+use stream_model::kind::{Kind, Policy};
+
+/// The logic of a grouped, a fold, a reduce, a scan, or a buffer that holds its input back: what it gives follows from what it
+/// takes, and it chooses nothing. Rule: Akka Streams 2.6 reference.
+#[derive(Drop)]
+pub struct MachineLogic {
+    part: Part,
+}
+
+/// What such a stage is. Rule: own.
+#[derive(Drop)]
+pub enum Part {
+    /// One that keeps a group or a value.
+    Keep(KeepLogic),
+    /// A buffer.
+    Buffer(BufferLogic),
+}
+
+impl Model for MachineLogic {
+    ghost use Rattle.std.specs.Coded.{codes};
+    ghost use Rattle.elem_core.specs.TreeCode.{tree_coded};
+    ghost use Rattle.stage_state.specs.States.{Logic};
+
+    ghost Value = { Logic };
+
+    ghost coded = { Prim.hlevel (codes, tree_coded) };
+
+    ghost use Rattle.stage_state.specs.Parts.{logic_of};
+
+    ghost view = { λ l. logic_of l.part };
+}
+
+impl MachineLogic {
+    /// The logic of node `stage`. It takes the memory of a buffer, and of the first value of a fold or a scan.
+    pub fn new(
+        alloc: Global,
+        stage: u32,
+        kind: Kind,
+        decider: Decider,
+    ) -> Result<MachineLogic, NoMemory>
+        requires { IsMachine kind }
+        ensures { IfOk result (Begins stage kind decider) }
+    {
+        let part = match kind {
+            Kind::Grouped(n) => keep(stage, decider, Keeping::Group(n, Vec::new(alloc))),
+            Kind::Fold(op) => keep(stage, decider, Keeping::Fold(op, op.zero(alloc)?)),
+            Kind::Reduce(op) => keep(stage, decider, Keeping::Reduce(op, None)),
+            Kind::Scan(op) => scan(alloc, stage, decider, op)?,
+            Kind::Buffer(n, Policy::Backpressure) => Part::Buffer(BufferLogic::new(
+                alloc, stage, n,
+            )?),
+            _ => unreachable!(),
+        };
+        Ok(MachineLogic { part })
+    }
+
+    /// The run begins.
+    pub fn start(&mut self, acts: &mut Acts) -> Result<(), NoMemory>
+        requires new { self.old.phase ≡ New }
+        requires meets { Meets starts (row self.old) }
+        requires empty { acts.old.items ≡ [] }
+        requires room { 4 ≤ acts.old.room }
+        ensures answers { IsOk result }
+        ensures ports { OnOk result (Obeys starts (row self.old) (row self.new) acts.new.items) }
+        ensures gives { OnOk result (Turned starts self.old acts.new.items self.new) }
+        ensures room { acts.new.room ≡ acts.old.room }
+    {
+        match &mut self.part {
+            Part::Keep(logic) => logic.start(acts),
+            Part::Buffer(logic) => logic.start(acts),
+        }
+    }
+
+    /// An element came.
+    pub fn on_push(
+        &mut self,
+        alloc: Global,
+        port: u8,
+        e: Elem,
+        acts: &mut Acts,
+    ) -> Result<(), NoMemory>
+        requires open { self.old.phase ≡ Open }
+        requires port { port ≡ 0 }
+        requires meets { Meets (brings 0 (item.Elem e)) (row self.old) }
+        requires empty { acts.old.items ≡ [] }
+        requires room { 4 ≤ acts.old.room }
+        ensures ports { OnOk result (Obeys (brings 0 (item.Elem e)) (row self.old) (row self.new) acts.new.items) }
+        ensures gives { OnOk result (Turned (brings 0 (item.Elem e)) self.old acts.new.items self.new) }
+        ensures room { acts.new.room ≡ acts.old.room }
+    {
+        match &mut self.part {
+            Part::Keep(logic) => logic.on_push(alloc, port, e, acts),
+            Part::Buffer(logic) => logic.on_push(port, e, acts),
+        }
+    }
+
+    /// The output was asked.
+    pub fn on_pull(&mut self, port: u8, acts: &mut Acts) -> Result<(), NoMemory>
+        requires open { self.old.phase ≡ Open }
+        requires port { port ≡ 0 }
+        requires meets { Meets (asks 0) (row self.old) }
+        requires empty { acts.old.items ≡ [] }
+        requires room { 4 ≤ acts.old.room }
+        ensures answers { IsOk result }
+        ensures ports { OnOk result (Obeys (asks 0) (row self.old) (row self.new) acts.new.items) }
+        ensures gives { OnOk result (Turned (asks 0) self.old acts.new.items self.new) }
+        ensures room { acts.new.room ≡ acts.old.room }
+    {
+        match &mut self.part {
+            Part::Keep(logic) => logic.on_pull(port, acts),
+            Part::Buffer(logic) => logic.on_pull(port, acts),
+        }
+    }
+
+    /// The input has ended.
+    pub fn on_finish(&mut self, alloc: Global, port: u8, acts: &mut Acts) -> Result<(), NoMemory>
+        requires open { self.old.phase ≡ Open }
+        requires port { port ≡ 0 }
+        requires meets { Meets (brings 0 item.Ended) (row self.old) }
+        requires empty { acts.old.items ≡ [] }
+        requires room { 4 ≤ acts.old.room }
+        ensures answers { IsOk result }
+        ensures ports { OnOk result (Obeys (brings 0 item.Ended) (row self.old) (row self.new) acts.new.items) }
+        ensures gives { OnOk result (Turned (brings 0 item.Ended) self.old acts.new.items self.new) }
+        ensures room { acts.new.room ≡ acts.old.room }
+    {
+        match &mut self.part {
+            Part::Keep(logic) => logic.on_finish(alloc, port, acts),
+            Part::Buffer(logic) => logic.on_finish(port, acts),
+        }
+    }
+
+    /// The input has failed.
+    pub fn on_fail(&mut self, port: u8, cause: Cause, acts: &mut Acts) -> Result<(), NoMemory>
+        requires open { self.old.phase ≡ Open }
+        requires port { port ≡ 0 }
+        requires meets { Meets (brings 0 (item.Failed cause)) (row self.old) }
+        requires empty { acts.old.items ≡ [] }
+        requires room { 4 ≤ acts.old.room }
+        ensures answers { IsOk result }
+        ensures ports { OnOk result (Obeys (brings 0 (item.Failed cause)) (row self.old) (row self.new) acts.new.items) }
+        ensures gives { OnOk result (Turned (brings 0 (item.Failed cause)) self.old acts.new.items self.new) }
+        ensures room { acts.new.room ≡ acts.old.room }
+    {
+        match &mut self.part {
+            Part::Keep(logic) => logic.on_fail(port, cause, acts),
+            Part::Buffer(logic) => logic.on_fail(port, cause, acts),
+        }
+    }
+
+    /// The output was cancelled.
+    pub fn on_cancel(&mut self, port: u8, acts: &mut Acts) -> Result<(), NoMemory>
+        requires open { self.old.phase ≡ Open }
+        requires port { port ≡ 0 }
+        requires meets { Meets (cancels 0) (row self.old) }
+        requires empty { acts.old.items ≡ [] }
+        requires room { 4 ≤ acts.old.room }
+        ensures answers { IsOk result }
+        ensures ports { OnOk result (Obeys (cancels 0) (row self.old) (row self.new) acts.new.items) }
+        ensures gives { OnOk result (Turned (cancels 0) self.old acts.new.items self.new) }
+        ensures room { acts.new.room ≡ acts.old.room }
+    {
+        match &mut self.part {
+            Part::Keep(logic) => logic.on_cancel(port, acts),
+            Part::Buffer(logic) => logic.on_cancel(port, acts),
+        }
+    }
+}
+
+// One that owes nothing before an element.
+fn keep(stage: u32, decider: Decider, keeping: Keeping) -> Part
+    ensures { result ≡ Keep (new_keep stage decider (work_in keeping) []) }
+{
+    Part::Keep(KeepLogic::new(stage, decider, keeping, None))
+}
+
+// A scan owes its zero.
+fn scan(alloc: Global, stage: u32, decider: Decider, op: FoldOp) -> Result<Part, NoMemory>
+    ensures { IfOk result (λ p. p ≡ Keep (new_keep stage decider (scanning op (fold_zero op)) (fold_zero op ∷ []))) }
+{
+    let first = Some(op.zero(alloc)?);
+    let keeping = Keeping::Scan(op, op.zero(alloc)?);
+    Ok(Part::Keep(KeepLogic::new(stage, decider, keeping, first)))
+}

@@ -36,7 +36,7 @@ use Rattle.run_account.proofs.Histories.{list_of_told, begun}
 use Rattle.fan_laws.proofs.Flows.{Flows, law_flows, flow_count, done_same}
 
 -- an input of one that has closed its ports does not wait
-closed_wait : (xs : List InView) (p : ℕ) → InsClosed xs → slice_index_or xs p Left ≡ Waiting → ⊥
+pub closed_wait : (xs : List InView) (p : ℕ) → InsClosed xs → slice_index_or xs p Left ≡ Waiting → ⊥
 closed_wait [] p c e = cc
 closed_wait (Idle ∷ xs) p c e = c.0
 closed_wait (Waiting ∷ xs) p c e = c.0
@@ -120,6 +120,7 @@ pub turn_of : (first : Taking) (old : InLogic) (v : port.View) (had given : List
 turn_of first (logic.Taking l) v had given p r law waits = taking_turn first l v had given p r.row law waits
 turn_of first (logic.Sorting l) v had given p r law waits = absurd law.same
 turn_of first (logic.Zipping l) v had given p r law waits = absurd law.same
+turn_of first (logic.Merging l) v had given p r law waits = absurd law.same
 
 -- ---- a merge_sorted or a zip
 

@@ -6,7 +6,7 @@ use Rattle.port_core.specs.View as port
 use Rattle.port_core.specs.declared.view.InView.{InView}
 use Rattle.port_core.specs.declared.view.InView.TheVariants.{Idle, Waiting, Over, Left}
 use Rattle.stream_model.specs.declared.kind.Kind.{Kind}
-use Rattle.stream_model.specs.declared.kind.Kind.TheVariants.{Concat, Interleave, MergeSorted, Zip}
+use Rattle.stream_model.specs.declared.kind.Kind.TheVariants.{Merge, Concat, Interleave, MergeSorted, Zip}
 use Rattle.stream_model.specs.Fits.{valve_order}
 use Rattle.stream_model.specs.FanIn.{Inflow}
 use Rattle.stream_model.specs.Graph.{Graph}
@@ -16,8 +16,8 @@ use Rattle.stream_model.specs.Outlook.{End}
 use Rattle.stream_picture.specs.OneWay.{is_sink}
 use Rattle.stream_picture.specs.View as picture
 use Rattle.stream_picture.specs.View.{EachWire}
-use Rattle.stream_picture.specs.Lawful.{RowLawful}
-use Rattle.stream_picture.specs.Rests.{IsShut, RowRests, ConcatRests, InterleaveRests, SortedRests, ZipRests}
+use Rattle.stream_picture.specs.Lawful.{RowLawful, MergeLawful}
+use Rattle.stream_picture.specs.Rests.{IsShut, RowRests, MergeRests, ConcatRests, InterleaveRests, SortedRests, ZipRests}
 use Rattle.stage_law.specs.Fans.{FanKeeps}
 use Rattle.stage_law.specs.Held.{told}
 use Rattle.stage_law.specs.OwnPorts.{own_output}
@@ -28,6 +28,9 @@ use Rattle.stage_in.specs.declared.logic.InLogic.{InLogic}
 use Rattle.stage_in.specs.declared.logic.InLogic.TheVariants as logic
 use Rattle.stage_in.specs.Kinds.{taking_by, sorting}
 use Rattle.stage_in.specs.Logics.{Begins, TakesAs, InRow, InLaw}
+use Rattle.stage_in.specs.Moves.{in_moves, TellsMoves}
+use Rattle.stage_law.specs.Merges.{MergeKeeps}
+use Rattle.stage_merge.specs.Mergings as merging
 use Rattle.stage_fans.specs.OwnRows.{own_inputs, FanRests}
 use Rattle.stage_in.specs.OwnRows.{TakingRests}
 use Rattle.stage_in.specs.Pairings.{Pairing, inlet_view, row_by}
@@ -40,11 +43,12 @@ use Rattle.run_account.specs.KindLaws.{PictureLaws}
 use Rattle.run_account.specs.Ports.{InPort, OutPort, EachPort, InStands, OutStands, InRests, OutRests}
 use Rattle.run_account.proofs.Coming.{elements_told}
 use Rattle.run_account.proofs.Histories.{list_of_told}
-use Rattle.fan_laws.specs.Unmoved.{NoAsking, no_moves, never_ends}
+use Rattle.fan_laws.specs.Unmoved.{NoAsking, never_ends}
 use Rattle.fan_laws.proofs.Flows.{Flows, law_flows}
 use Rattle.fan_laws.proofs.Orders.{Views, Gots, Wires}
 use Rattle.fan_laws.proofs.InRows.{InView_of, InMoments, one_list, concat_lawful, interleave_lawful, sorted_lawful, zip_lawful}
-use Rattle.fan_laws.proofs.Transport.{own_in, own_out, each, shuts, out_shuts, concat_rests, interleave_rests, sorted_rests, zip_rests}
+use Rattle.fan_laws.proofs.Transport.{own_in, own_out, each, shuts, out_shuts, merge_rests, concat_rests, interleave_rests, sorted_rests, zip_rests}
+use Rattle.fan_laws.proofs.MergeRows.{merge_lawful}
 
 -- ---- what the stage shows of its ports
 
@@ -94,16 +98,18 @@ module _ (g : Graph) (w : World) (k : ℕ) (d : Decider) (is : List InPort) (o :
   abbrev Law : InLogic → InLogic → Type 0
   Law first now = InLaw first now (InView_of is o) (Gots is) (o.sent ∷ [])
 
-  lawful_by : (kd : Kind) (first now : InLogic) → TakesAs kd first → Law first now → EachPort InStands is → OutStands o → InMoments first now is o → RowLawful g w k kd d (Wires is) (o.wire ∷ [])
-  lawful_by (Concat n) (logic.Taking f) (logic.Taking l) t law s so m = concat_lawful f l is o law s so t.0 t.1 m
-  lawful_by (Interleave n c) (logic.Taking f) (logic.Taking l) t law s so m = interleave_lawful f l is o law s so c t.1 m
-  lawful_by MergeSorted (logic.Sorting f) (logic.Sorting l) t law s so m = sorted_lawful f l o is law s so m
-  lawful_by Zip (logic.Zipping f) (logic.Zipping l) t law s so m = zip_lawful f l o is law s so m
-  lawful_by (Concat n) (logic.Taking f) now t law s so m = absurd law.same
-  lawful_by (Interleave n c) (logic.Taking f) now t law s so m = absurd law.same
-  lawful_by MergeSorted (logic.Sorting f) now t law s so m = absurd law.same
-  lawful_by Zip (logic.Zipping f) now t law s so m = absurd law.same
-  lawful_by kd first now t law s so m = absurd t
+  lawful_by : (kd : Kind) (first now : InLogic) → TakesAs kd first → TellsMoves w k now → Law first now → EachPort InStands is → OutStands o → InMoments first now is o → RowLawful g w k kd d (Wires is) (o.wire ∷ [])
+  lawful_by (Concat n) (logic.Taking f) (logic.Taking l) t tells law s so m = concat_lawful f l is o law s so t.0 t.1 m
+  lawful_by (Interleave n c) (logic.Taking f) (logic.Taking l) t tells law s so m = interleave_lawful f l is o law s so c t.1 m
+  lawful_by MergeSorted (logic.Sorting f) (logic.Sorting l) t tells law s so m = sorted_lawful f l o is law s so m
+  lawful_by Zip (logic.Zipping f) (logic.Zipping l) t tells law s so m = zip_lawful f l o is law s so m
+  lawful_by (Merge n) (logic.Merging f) (logic.Merging l) t tells law s so m = subst (λ ms. MergeLawful ms (Wires is) o.wire) (sym (tells l.log.moves refl)) (merge_lawful f l is o law s so m)
+  lawful_by (Concat n) (logic.Taking f) now t tells law s so m = absurd law.same
+  lawful_by (Interleave n c) (logic.Taking f) now t tells law s so m = absurd law.same
+  lawful_by MergeSorted (logic.Sorting f) now t tells law s so m = absurd law.same
+  lawful_by Zip (logic.Zipping f) now t tells law s so m = absurd law.same
+  lawful_by (Merge n) (logic.Merging f) now t tells law s so m = absurd law.same
+  lawful_by kd first now t tells law s so m = absurd t
 
   abbrev Stays : Kind → Type 0
   Stays kd = (EachWire IsShut (Wires is) × EachWire IsShut (o.wire ∷ [])) ⊎ RowRests g w k kd d (Wires is) (o.wire ∷ [])
@@ -130,10 +136,14 @@ module _ (g : Graph) (w : World) (k : ℕ) (d : Decider) (is : List InPort) (o :
         fan_moved SortedRests is o ri ro law.by.law.ins law.by.law.out_list law.by.law.out_end (law_flows (FanKeeps sorting sorted.nowhere (sorted.held l)) (InView_of is o) (Gots is) (o.sent ∷ []) law.by) (one_list o.sent law.by.given law.by.gave_is ∙ law.by.law.gave_is)
         (sorted_rests is o ri ro) (logic_rests (logic.Sorting f) (logic.Sorting l) (InView_of is o) (Gots is) (o.sent ∷ []) r.started r.row law)
     stays_by Zip (logic.Zipping f) (logic.Zipping l) t r law s so = zip_stays f l l.phase refl r r.row law s so
+    stays_by (Merge n) (logic.Merging f) (logic.Merging l) t r law s so =
+        fan_moved MergeRests is o ri ro law.by.law.ins law.by.law.out_list law.by.law.out_end (law_flows (MergeKeeps (merging.held l)) (InView_of is o) (Gots is) (o.sent ∷ []) law.by) (one_list o.sent law.by.given law.by.gave_is ∙ law.by.law.gave_is)
+        (merge_rests is o ri ro) (logic_rests (logic.Merging f) (logic.Merging l) (InView_of is o) (Gots is) (o.sent ∷ []) r.started r.row law)
     stays_by (Concat n) (logic.Taking f) now t r law s so = absurd law.same
     stays_by (Interleave n c) (logic.Taking f) now t r law s so = absurd law.same
     stays_by MergeSorted (logic.Sorting f) now t r law s so = absurd law.same
     stays_by Zip (logic.Zipping f) now t r law s so = absurd law.same
+    stays_by (Merge n) (logic.Merging f) now t r law s so = absurd law.same
     stays_by kd first now t r law s so = absurd t
 
 no_sink : (kd : Kind) (first : InLogic) → TakesAs kd first → is_sink kd ≡ false
@@ -141,6 +151,7 @@ no_sink (Concat n) (logic.Taking f) t = refl
 no_sink (Interleave n c) (logic.Taking f) t = refl
 no_sink MergeSorted (logic.Sorting f) t = refl
 no_sink Zip (logic.Zipping f) t = refl
+no_sink (Merge n) (logic.Merging f) t = refl
 no_sink kd first t = absurd t
 
 no_order : (kd : Kind) (first : InLogic) → TakesAs kd first → (moved : List ℕ) → valve_order kd moved ≡ None
@@ -148,15 +159,16 @@ no_order (Concat n) (logic.Taking f) t moved = refl
 no_order (Interleave n c) (logic.Taking f) t moved = refl
 no_order MergeSorted (logic.Sorting f) t moved = refl
 no_order Zip (logic.Zipping f) t moved = refl
+no_order (Merge n) (logic.Merging f) t moved = refl
 no_order kd first t moved = absurd t
 
 module _ (g : Graph) (w : World) (k : ℕ) (n : graph.Node) where
-  pub in_picture : (first now : InLogic) (is : List InPort) (os : List OutPort) → Begins k n.kind n.decider first → InRow now (record { ins = Views is; outs = map (λ (o : OutPort). o.view) os })
-      → InLaw first now (record { ins = Views is; outs = map (λ (o : OutPort). o.view) os }) (Gots is) (map (λ (o : OutPort). o.sent) os) → PictureLaws InRow InLaw NoAsking no_moves never_ends g w k n first now is os
-  in_picture first now is [] b r law = let none = law.by.gave_is in absurd cc
-  in_picture first now is (o ∷ p ∷ os) b r law = let more = law.by.gave_is in absurd cc
-  in_picture first now is (o ∷ []) b r law = record {
-    lawful = λ s so m. lawful_by g w k n.decider is o n.kind first now b.takes law s so.0 m;
+  pub in_picture : (first now : InLogic) (is : List InPort) (os : List OutPort) → Begins k n.kind n.decider first → TellsMoves w k now → InRow now (record { ins = Views is; outs = map (λ (o : OutPort). o.view) os })
+      → InLaw first now (record { ins = Views is; outs = map (λ (o : OutPort). o.view) os }) (Gots is) (map (λ (o : OutPort). o.sent) os) → PictureLaws InRow InLaw NoAsking in_moves never_ends g w k n first now is os
+  in_picture first now is [] b tells r law = let none = law.by.gave_is in absurd cc
+  in_picture first now is (o ∷ p ∷ os) b tells r law = let more = law.by.gave_is in absurd cc
+  in_picture first now is (o ∷ []) b tells r law = record {
+    lawful = λ s so m. lawful_by g w k n.decider is o n.kind first now b.takes tells law s so.0 m;
     no_valve = no_order n.kind first b.takes;
     rests = λ s so ri ro. stays_by g w k n.decider is o ri ro.0 n.kind first now b.takes r law s so.0;
     matches = λ sink ri. let no = no_sink n.kind first b.takes in let z : true ≡ false = sym sink ∙ no in absurd cc;

@@ -26,6 +26,7 @@ use Rattle.stage_in.specs.declared.logic.InLogic.{InLogic}
 use Rattle.stage_in.specs.declared.logic.InLogic.TheVariants as logic
 use Rattle.stage_in.specs.Kinds.{taking_by, sorting}
 use Rattle.stage_in.specs.Logics.{InRow, InLaw}
+use Rattle.stage_in.specs.Moves.{in_moves}
 use Rattle.stage_in.specs.Pairings.{Pairing, inlet_flow, listed, row_by}
 use Rattle.stage_in.specs.Sortings as sorted
 use Rattle.stage_in.specs.Takings as taking
@@ -35,7 +36,7 @@ use Rattle.run_account.specs.Account.{AllBegin, Earlier}
 use Rattle.run_account.specs.KindLaws.{Moments}
 use Rattle.run_account.specs.Ports.{InPort, OutPort, EachPort, InStands, OutStands}
 use Rattle.run_account.proofs.Coming.{elements_told, elements_prefix}
-use Rattle.fan_laws.specs.Unmoved.{NoAsking, no_moves}
+use Rattle.fan_laws.specs.Unmoved.{NoAsking}
 use Rattle.fan_laws.proofs.Flows.{Flows, law_flows, flow_count, total_length, came_sent}
 use Rattle.fan_laws.proofs.Counting.{stands_few, concat_few, turns_few, sorted_few, pairs_few, used_few, used_prefix}
 use Rattle.fan_laws.proofs.Orders.{Views, Gots, Wants, Wires, used_up, FirstShut, concat_inputs, concat_asked, wants_some, waiting_count, one_waits, turn_ports, never_asked, asked_or_not}
@@ -45,7 +46,7 @@ abbrev pub InView_of : List InPort → OutPort → port.View
 InView_of is o = record { ins = Views is; outs = o.view ∷ [] }
 
 abbrev pub InMoments : InLogic → InLogic → List InPort → OutPort → Type 0
-InMoments first now is o = (p : ℕ) → 1 ≤ slice_index_or (Wants is) p 0 → Moments InRow InLaw NoAsking no_moves first now is (o ∷ []) p
+InMoments first now is o = (p : ℕ) → 1 ≤ slice_index_or (Wants is) p 0 → Moments InRow InLaw NoAsking in_moves first now is (o ∷ []) p
 
 pub one_list : (x y : List Item) → x ∷ [] ≡ y ∷ [] → x ≡ y
 one_list x y e = cc
@@ -78,7 +79,7 @@ module _ (first now : Taking) (is : List InPort) (o : OutPort) (law : InLaw (log
     concat_inputs (Unit {0}) tt 0 (wanted o.wire) (Wires is) (λ p v at some. asked p v at (moments p (wants_some is p v stands at some)).0),
   )
     where
-      asked : (p : ℕ) (v : picture.View) → slice_get (Wires is) p ≡ Some v → Earlier InRow InLaw NoAsking no_moves p (logic.Taking first) (logic.Taking now) (Gots is) (o.sent ∷ []) (Wants is) (o.want ∷ []) (o.wire.shut ∷ []) → FirstShut p (Wires is) × (demand v + (0 + sent_in (take p (Wires is))) ≤ wanted o.wire)
+      asked : (p : ℕ) (v : picture.View) → slice_get (Wires is) p ≡ Some v → Earlier InRow InLaw NoAsking in_moves p (logic.Taking first) (logic.Taking now) (Gots is) (o.sent ∷ []) (Wants is) (o.want ∷ []) (o.wire.shut ∷ []) → FirstShut p (Wires is) × (demand v + (0 + sent_in (take p (Wires is))) ≤ wanted o.wire)
       asked p v at e =
           let t = turn_of first e.old e.knew e.had e.given p e.row_held e.law_held e.waited in
           let count = t.count in
@@ -143,7 +144,7 @@ record SortedAsk (p : ℕ) (all : List Tagged) (want : ℕ) (most : ℕ) : Type 
   few : length given_used ≤ most
   asked : want ≡ used p given_used + 1
 
-some_or_none : (n : ℕ) → (n ≡ 0) ⊎ (1 ≤ n)
+pub some_or_none : (n : ℕ) → (n ≡ 0) ⊎ (1 ≤ n)
 some_or_none zero = inl refl
 some_or_none (suc n) = inr (omega arith)
 
@@ -164,7 +165,7 @@ module _ (first now : Pairing) (o : OutPort) where
   SortedNow is = InLaw (logic.Sorting first) (logic.Sorting now) (InView_of is o) (Gots is) (o.sent ∷ [])
 
   abbrev SortedEarlier : List InPort → ℕ → Type 0
-  SortedEarlier is p = Earlier InRow InLaw NoAsking no_moves p (logic.Sorting first) (logic.Sorting now) (Gots is) (o.sent ∷ []) (Wants is) (o.want ∷ []) (o.wire.shut ∷ [])
+  SortedEarlier is p = Earlier InRow InLaw NoAsking in_moves p (logic.Sorting first) (logic.Sorting now) (Gots is) (o.sent ∷ []) (Wants is) (o.want ∷ []) (o.wire.shut ∷ [])
 
   sorted_ask : (i j : InPort) (c d : Inflow) (p : ℕ) → Flows (Views (i ∷ j ∷ [])) (Gots (i ∷ j ∷ [])) (c ∷ d ∷ []) → SortedEarlier (i ∷ j ∷ []) p → SortedAsk p (sorting.from sorted.nowhere (map flow (c ∷ d ∷ []))) (slice_index_or (Wants (i ∷ j ∷ [])) p 0) (elements o.sent)
   sorted_ask i j c d p w e = by e.old e.row_held e.law_held
@@ -207,6 +208,7 @@ module _ (first now : Pairing) (o : OutPort) where
       by : (old : InLogic) → InRow old e.knew → InLaw (logic.Sorting first) old e.knew e.had e.given → SortedAsk p (sorting.from sorted.nowhere (map flow (c ∷ d ∷ []))) (slice_index_or (Wants (i ∷ j ∷ [])) p 0) (elements o.sent)
       by (logic.Sorting l) r law = from (at l r law)
       by (logic.Taking l) r law = absurd law.same
+      by (logic.Merging l) r law = absurd law.same
       by (logic.Zipping l) r law = absurd law.same
 
   sorted_pair : (i j : InPort) (c d : Inflow) → Flows (Views (i ∷ j ∷ [])) (Gots (i ∷ j ∷ [])) (c ∷ d ∷ []) → EachPort InStands (i ∷ j ∷ []) → OutStands o → InMoments (logic.Sorting first) (logic.Sorting now) (i ∷ j ∷ []) o → total demand (Wires (i ∷ j ∷ [])) ≤ o.wire.sent + 2
@@ -233,6 +235,7 @@ module _ (first now : Pairing) (o : OutPort) where
           let many = length-map is (λ (i : InPort). i.got) in
           omega (arith, ins, ports, had, many)
       by (logic.Taking l) r law = absurd law.same
+      by (logic.Merging l) r law = absurd law.same
       by (logic.Zipping l) r law = absurd law.same
 
   sorted_demand : (is : List InPort) (now_flows : List Inflow) → Flows (Views is) (Gots is) now_flows → EachPort InStands is → OutStands o → InMoments (logic.Sorting first) (logic.Sorting now) is o → total demand (Wires is) ≤ o.wire.sent + 2
@@ -278,7 +281,7 @@ module _ (first now : Pairing) (o : OutPort) where
   ZipNow is = InLaw (logic.Zipping first) (logic.Zipping now) (InView_of is o) (Gots is) (o.sent ∷ [])
 
   abbrev ZipEarlier : List InPort → ℕ → Type 0
-  ZipEarlier is p = Earlier InRow InLaw NoAsking no_moves p (logic.Zipping first) (logic.Zipping now) (Gots is) (o.sent ∷ []) (Wants is) (o.want ∷ []) (o.wire.shut ∷ [])
+  ZipEarlier is p = Earlier InRow InLaw NoAsking in_moves p (logic.Zipping first) (logic.Zipping now) (Gots is) (o.sent ∷ []) (Wants is) (o.want ∷ []) (o.wire.shut ∷ [])
 
   -- what it had given when it asked there is all that had come there
   zip_gave : (l : Pairing) (p : ℕ) (xs : List InView) (hs : List (List Item)) (fs : List Inflow) (g : List Tree) (f : End) → Waits l p → ZipKeeps (zip.waits (inlet_flow l.left) (inlet_flow l.right)) fs g f → Flows xs hs fs → elements (slice_index_or hs p []) ≡ length g
@@ -335,6 +338,7 @@ module _ (first now : Pairing) (o : OutPort) where
           let one = e.one_more in
           omega (arith, all, count, more, one)
       by (logic.Taking l) r law = absurd law.same
+      by (logic.Merging l) r law = absurd law.same
       by (logic.Sorting l) r law = absurd law.same
 
   zip_port : (i : InPort) (c : Inflow) (g : List Tree) → InStands i → OutStands o → i.got ≡ told c.list c.end → o.wire.sent ≡ length g → length g ≤ length c.list → (1 ≤ i.want → i.want ≤ elements o.sent + 1) → (o.wire.sent ≤ i.wire.sent) × (demand i.wire ≤ o.wire.sent + 1)

@@ -1,15 +1,14 @@
 -- What a stage with several inputs gave agrees with the outlook of its output, where what came at each input does with that input's.
 use Rattle.std.specs.Prelude.{slice_get, slice_index_or}
-use Rattle.std.proofs.Common.{◌≡◌, ℕ, zero, suc, true, List, [], ◌∷◌, length, Some, refl, sym, ap, subst, ◌∙◌, arith}
+use Rattle.std.proofs.Common.{◌≡◌, ℕ, zero, suc, List, [], ◌∷◌, length, Some, refl, sym, ap, subst, ◌∙◌, arith}
 use Rattle.std.proofs.lemmas.Option.{slice_get_within}
 use Rattle.elem_core.specs.declared.item.Item.{Item}
 use Rattle.port_core.specs.View.{View}
 use Rattle.fused_net.proofs.Reading.{get_there}
 use Rattle.stream_model.specs.declared.kind.Kind.{Kind}
-use Rattle.stream_model.specs.declared.kind.Kind.TheVariants.{Concat, Interleave, MergeSorted, Zip}
+use Rattle.stream_model.specs.declared.kind.Kind.TheVariants.{Merge, Concat, Interleave, MergeSorted, Zip}
 use Rattle.stream_model.specs.Composed.{inputs_of}
 use Rattle.stream_model.specs.FanIn.{Inflow, AllAgree}
-use Rattle.stream_model.specs.Fits.{moves_fit}
 use Rattle.stream_model.specs.Graph.{Graph}
 use Rattle.stream_model.specs.Graph as graph
 use Rattle.stream_model.specs.Node.{World, node_outlook}
@@ -19,7 +18,8 @@ use Rattle.stage_in.specs.declared.logic.InLogic.{InLogic}
 use Rattle.stage_in.specs.declared.logic.InLogic.TheVariants as logic
 use Rattle.stage_in.specs.Logics.{Begins, TakesAs, InLaw}
 use Rattle.stage_in.specs.Logics as stage
-use Rattle.stage_in.proofs.Begun.{begun_agrees}
+use Rattle.stage_in.specs.Moves.{TellsMoves}
+use Rattle.stage_in.proofs.Begun.{begun_agrees, begun_fits}
 use Rattle.run_account.specs.Items.{AllMayPass, AgreesWith}
 use Rattle.run_account.specs.KindLaws.{HearsAll, RunLaws}
 
@@ -43,20 +43,14 @@ same_inputs (Concat n) (logic.Taking f) t = refl
 same_inputs (Interleave n s) (logic.Taking f) t = refl
 same_inputs MergeSorted (logic.Sorting f) t = refl
 same_inputs Zip (logic.Zipping f) t = refl
+same_inputs (Merge n) (logic.Merging f) t = refl
 same_inputs kd first t = absurd t
-
-all_fit : (g : Graph) (w : World) (k : ℕ) (kd : Kind) (first : InLogic) → TakesAs kd first → (os : List Outlook) → moves_fit g w k kd os ≡ true
-all_fit g w k (Concat n) (logic.Taking f) t os = refl
-all_fit g w k (Interleave n s) (logic.Taking f) t os = refl
-all_fit g w k MergeSorted (logic.Sorting f) t os = refl
-all_fit g w k Zip (logic.Zipping f) t os = refl
-all_fit g w k kd first t os = absurd t
 
 pub one_given : (x h : List Item) (p : ℕ) → slice_get (x ∷ []) p ≡ Some h → (p ≡ 0) × (h ≡ x)
 one_given x h zero e = let same : x ≡ h = cc in (refl, sym same)
 one_given x h (suc p) e = cc
 
-module _ (g : Graph) (w : World) (k : ℕ) (n : graph.Node) (first now : InLogic) (v : View) (took gave : List (List Item)) (b : Begins k n.kind n.decider first) (many : length took ≡ inputs_of n.kind) (law : InLaw first now v took gave) where
+module _ (g : Graph) (w : World) (k : ℕ) (n : graph.Node) (first now : InLogic) (v : View) (took gave : List (List Item)) (b : Begins k n.kind n.decider first) (many : length took ≡ inputs_of n.kind) (tells : TellsMoves w k now) (law : InLaw first now v took gave) where
   gives : (os : List Outlook) → AllMayPass os took → (p : ℕ) (h : List Item) → slice_get gave p ≡ Some h → AgreesWith (node_outlook g w k n.kind n.decider os p) h
   gives os a p h at =
       let one = one_given law.by.given h p (subst (λ (hs : List (List Item)). slice_get hs p ≡ Some h) law.by.gave_is at) in
@@ -67,11 +61,14 @@ module _ (g : Graph) (w : World) (k : ℕ) (n : graph.Node) (first now : InLogic
         list = l.out_list;
         end = l.out_end;
         is = one.1 ∙ l.gave_is;
-        agrees = subst (λ q. Agrees (node_outlook g w k n.kind n.decider os q) l.out_list l.out_end) (sym one.0) (begun_agrees g w k n.kind n.decider os first now v took gave b is law agree);
+        agrees = subst (λ q. Agrees (node_outlook g w k n.kind n.decider os q) l.out_list l.out_end) (sym one.0) (begun_agrees g w k n.kind n.decider os first now v took gave b is tells law agree);
       }
 
   pub in_laws : RunLaws g w k n took gave
-  in_laws = record { gives = gives; fits = λ os a. all_fit g w k n.kind first b.takes os }
+  in_laws = record {
+    gives = gives;
+    fits = λ os a. let l = law.by.law in begun_fits g w k n.kind n.decider os first now v took gave b tells law (all_agree os took l.ins (l.ports ∙ sym law.by.ports) l.took_is a);
+  }
 
 pub at_index : (hs : List (List Item)) (p : ℕ) (h : List Item) → slice_get hs p ≡ Some h → slice_index_or hs p [] ≡ h
 at_index [] p h e = cc

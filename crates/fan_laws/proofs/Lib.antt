@@ -4,6 +4,7 @@ pub mod Counting
 pub mod Orders
 pub mod InMoments
 pub mod InRows
+pub mod MergeRows
 pub mod InPictures
 pub mod Numberings
 pub mod OutLists
@@ -11,3 +12,7 @@ pub mod OutRows
 pub mod OutPictures
 pub mod InRuns
 pub mod OutRuns
+pub mod Standing
+pub mod Choices
+pub mod Balances
+pub mod OutStages

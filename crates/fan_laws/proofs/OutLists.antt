@@ -19,7 +19,7 @@ use Rattle.stage_law.specs.Outs.{Outlet, OutsLaw, owe}
 use Rattle.stage_law.proofs.Whole.{stage_stands}
 use Rattle.stage_out.specs.declared.want.Want.{Want}
 use Rattle.stage_out.specs.Copies.{copying, nothing_owed}
-use Rattle.stage_out.specs.OutLogics.{no_stage, copiers, number_starts}
+use Rattle.stage_out.specs.Machines.{no_stage, copiers, number_starts}
 use Rattle.stage_out.proofs.Agreeing.{copies_run}
 use Rattle.stage_out.proofs.Rests.{told_lists}
 use Rattle.run_account.specs.Ports.{OutPort, EachPort, OutStands}

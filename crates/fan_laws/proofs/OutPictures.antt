@@ -32,19 +32,19 @@ use Rattle.stream_picture.specs.Rests.{IsShut}
 use Rattle.stage_law.specs.Held.{told}
 use Rattle.stage_law.specs.Outs.{OutsLaw, owe}
 use Rattle.stage_out.specs.declared.want.Want.{Want}
-use Rattle.stage_out.specs.declared.logic.OutLogic.{OutLogic}
-use Rattle.stage_out.specs.declared.logic.OutLogic.TheVariants.{Copies, Deals}
+use Rattle.stage_out.specs.declared.machines.OutMachines.{OutMachines}
+use Rattle.stage_out.specs.declared.machines.OutMachines.TheVariants.{Copies, Deals}
 use Rattle.stage_out.specs.Copies.{want_view, quiet_count, open_count, input_by, OneInClosed}
 use Rattle.stage_out.specs.Copies as copies
 use Rattle.stage_out.specs.CopyStates.{CopyLogic, part_by}
 use Rattle.stage_out.specs.CopyStates as copy
-use Rattle.stage_out.specs.OutLogics.{row, outlets, owed, rests_as, Begins, IsOut, IsAlike, no_stage, copiers, number_starts, unasked_ports, outputs_of}
-use Rattle.stage_out.specs.OutNodes.{OutLaw}
+use Rattle.stage_out.specs.Machines.{row, outlets, owed, rests_as, Begins, IsMachines, IsAlike, no_stage, copiers, number_starts, unasked_ports, outputs_of}
+use Rattle.stage_out.specs.MachineNodes.{MachinesLaw}
 use Rattle.stage_out.specs.OwnRows.{own_ins, own_outs}
 use Rattle.stage_out.specs.PartitionStates.{PartitionLogic, Holding, input_of, dues, held_of, then_of, asks_count}
 use Rattle.stage_out.specs.PartitionStates as part
-use Rattle.stage_out.proofs.OutLogics.{copiers_are, length-owed, length-dues}
-use Rattle.stage_out.proofs.OutNodes.{length-outlets, live_ports}
+use Rattle.stage_out.proofs.OutMachines.{copiers_are, length-owed, length-dues}
+use Rattle.stage_out.proofs.MachineNodes.{length-outlets, live_ports}
 use Rattle.stage_out.proofs.OutRests.{stage_rests, length-copiers}
 use Rattle.stage_out.proofs.Rests.{outlists}
 use Rattle.run_account.specs.Account.{AllBegin, Earlier}
@@ -62,11 +62,11 @@ use Rattle.fan_laws.proofs.Transport.{own_in, own_out, each_out, shuts, out_shut
 abbrev pub OutView_of : InPort → List OutPort → port.View
 OutView_of i os = record { ins = i.view ∷ []; outs = map (λ (o : OutPort). o.view) os }
 
-abbrev pub Now : OutLogic → OutLogic → InPort → List OutPort → Type 0
-Now first now i os = OutLaw first now (OutView_of i os) (i.got ∷ []) (Sents os)
+abbrev pub Now : OutMachines → OutMachines → InPort → List OutPort → Type 0
+Now first now i os = MachinesLaw first now (OutView_of i os) (i.got ∷ []) (Sents os)
 
-abbrev pub Then : OutLogic → OutLogic → InPort → List OutPort → Type 0
-Then first now i os = Earlier row OutLaw NoAsking no_moves 0 first now (i.got ∷ []) (Sents os) (i.want ∷ []) (OutWants os) (Shuts os)
+abbrev pub Then : OutMachines → OutMachines → InPort → List OutPort → Type 0
+Then first now i os = Earlier row MachinesLaw NoAsking no_moves 0 first now (i.got ∷ []) (Sents os) (i.want ∷ []) (OutWants os) (Shuts os)
 
 -- an input of one that has closed its ports does not wait
 closed_wait : (xs : List InView) → OneInClosed xs → slice_index_or xs 0 Left ≡ Waiting → ⊥
@@ -106,13 +106,13 @@ sent_part i s l e got =
     let less : IsPrefix (take (length l) i.wire.list) (take i.wire.sent i.wire.list) = prefix_take_le (length l) i.wire.sent i.wire.list (omega (arith, came, count)) in
     subst (λ (x : List Tree). IsPrefix x (take i.wire.sent i.wire.list)) (prefix_is_take (s.part l e got)) less
 
-some_or_none : (n : ℕ) → (n ≡ 0) ⊎ (1 ≤ n)
+pub some_or_none : (n : ℕ) → (n ≡ 0) ⊎ (1 ≤ n)
 some_or_none zero = inl refl
 some_or_none (suc n) = inr (omega arith)
 
 -- ---- a broadcast or an unzip, as it asked
 
-record CopyAsk (first now : OutLogic) (i : InPort) (os : List OutPort) (e : Then first now i os) : Type 0 where
+record CopyAsk (first now : OutMachines) (i : InPort) (os : List OutPort) (e : Then first now i os) : Type 0 where
   outs : List Want
   count : ℕ
   even : EvenList outs count e.given
@@ -131,11 +131,11 @@ waits_quiet : (q : ℕ) → input_by q ≡ Waiting → q ≡ 0
 waits_quiet zero e = refl
 waits_quiet (suc q) e = cc
 
-module _ (book : Book) (first now : OutLogic) (i : InPort) (os : List OutPort) (e : Then first now i os) where
+module _ (book : Book) (first now : OutMachines) (i : InPort) (os : List OutPort) (e : Then first now i os) where
   given_ports : length e.given ≡ length os
   given_ports = began_length e.given (Sents os) e.gave_on ∙ length-map os (λ (o : OutPort). o.sent)
 
-  copy_ask : (l : CopyLogic) → copy.row l e.knew → OutLaw first (Copies l) e.knew e.had e.given → CopyAsk first now i os e
+  copy_ask : (l : CopyLogic) → copy.row l e.knew → MachinesLaw first (Copies l) e.knew e.had e.given → CopyAsk first now i os e
   copy_ask l r law = by l.live refl r
     where
       by : (b : Bool) → l.live ≡ b → copy.row_by b l e.knew → CopyAsk first now i os e
@@ -164,7 +164,7 @@ module _ (book : Book) (first now : OutLogic) (i : InPort) (os : List OutPort) (
             shut = λ j a. e.shut_on j (subst (λ (ys : List OutView). OutClosed (slice_index_or ys j Shut)) (sym outs) a);
           }
 
-  copy_ask_of : (f : CopyLogic) → first ≡ Copies f → (old : OutLogic) → row old e.knew → OutLaw first old e.knew e.had e.given → CopyAsk first now i os e
+  copy_ask_of : (f : CopyLogic) → first ≡ Copies f → (old : OutMachines) → row old e.knew → MachinesLaw first old e.knew e.had e.given → CopyAsk first now i os e
   copy_ask_of f is (Copies l) r law = copy_ask l r law
   copy_ask_of f is (Deals l) r law = absurd (subst (λ x. IsAlike x (Deals l)) is law.alike)
 
@@ -173,7 +173,7 @@ sent_each : (os : List OutPort) (q m k : ℕ) → m ≤ k → AllSent q os (λ j
 sent_each [] q m k l a = tt
 sent_each (o ∷ os) q m k l a = let h = a.0 in (omega (arith, h, l), sent_each os (q + 1) m k l a.1)
 
-one_list : (x y : List Item) → x ∷ [] ≡ y ∷ [] → x ≡ y
+pub one_list : (x y : List Item) → x ∷ [] ≡ y ∷ [] → x ≡ y
 one_list x y e = cc
 
 no_ports : (n : ℕ) (os : List OutPort) → length (Sents os) ≡ n → n ≡ 0 → os ≡ []
@@ -181,7 +181,7 @@ no_ports n [] e z = refl
 no_ports n (o ∷ os) e z = absurd (omega (arith, e, z))
 
 -- the input of a stage with some output
-module _ (book : Book) (first now : OutLogic) (i : InPort) (os : List OutPort) (law : Now first now i os) (some : 1 ≤ length (owed now)) where
+module _ (book : Book) (first now : OutMachines) (i : InPort) (os : List OutPort) (law : Now first now i os) (some : 1 ≤ length (owed now)) where
   pub came_now : Came (OutView_of i os) law.taken
   came_now = let n = length-outlets book now in came_in (outlets book now) 0 (OutView_of i os) law.taken (λ j. slice_index_or (Sents os) j []) (omega (arith, n, some)) (law.law book)
 
@@ -203,7 +203,7 @@ module _ (book : Book) (f l : CopyLogic) (i : InPort) (os : List OutPort) (law :
         (all_sent (outlets book (Copies l)) os 0 (OutView_of i os) law.taken c.list c.list c.end (λ j. length c.list) (copiers_most (part_by l.halves) l.live 0 l.outs c.list) (lists_now book (Copies f) (Copies l) i os law some) c.is (prefix_refl c.list) so)
   ]
 
-  copies_lawful : ((p : ℕ) → 1 ≤ slice_index_or (i.want ∷ []) p 0 → Moments row OutLaw NoAsking no_moves (Copies f) (Copies l) (i ∷ []) os p) → BroadcastLawful i.wire (OutWires os)
+  copies_lawful : ((p : ℕ) → 1 ≤ slice_index_or (i.want ∷ []) p 0 → Moments row MachinesLaw NoAsking no_moves (Copies f) (Copies l) (i ∷ []) os p) → BroadcastLawful i.wire (OutWires os)
   copies_lawful moments = (copies_sent, asked (some_or_none (demand i.wire)), λ all. most (some_or_none (demand i.wire)))
     where
       then : 1 ≤ demand i.wire → Then (Copies f) (Copies l) i os
@@ -232,7 +232,7 @@ module _ (book : Book) (f l : CopyLogic) (i : InPort) (os : List OutPort) (law :
 -- ---- a partition, as it asked
 
 module _ (book : Book) (node n : ℕ) (f : MapFn) where
-  record DealAsk (first now : OutLogic) (i : InPort) (os : List OutPort) (e : Then first now i os) : Type 0 where
+  record DealAsk (first now : OutMachines) (i : InPort) (os : List OutPort) (e : Then first now i os) : Type 0 where
     outs : List Want
     list : List Tree
     dealt : AllDealt book node n f list 0 outs e.given
@@ -246,17 +246,17 @@ module _ (book : Book) (node n : ℕ) (f : MapFn) where
     shut : ShutOn outs os
 
   -- the outputs that the stage began with
-  abbrev Started : OutLogic → Type 0
+  abbrev Started : OutMachines → Type 0
   Started first = outlets book first ≡ number_starts book node n f 0 n
 
   length-starts : (q m : ℕ) → length (number_starts book node n f q m) ≡ m
   length-starts q zero = refl
   length-starts q (suc m) = ap suc (length-starts (q + 1) m)
 
-  owed_all : (first now : OutLogic) → Started first → length (owed now) ≡ length (owed first) → length (owed now) ≡ n
+  owed_all : (first now : OutMachines) → Started first → length (owed now) ≡ length (owed first) → length (owed now) ≡ n
   owed_all first now s e = e ∙ (sym (length-outlets book first) ∙ (ap length s ∙ length-starts 0 n))
 
-  lists_of : (first now : OutLogic) (v : port.View) (took gave : List (List Item)) → Started first → (law : OutLaw first now v took gave) → OutsList 0 (owe (number_starts book node n f 0 n) (owed now)) v law.taken gave
+  lists_of : (first now : OutMachines) (v : port.View) (took gave : List (List Item)) → Started first → (law : MachinesLaw first now v took gave) → OutsList 0 (owe (number_starts book node n f 0 n) (owed now)) v law.taken gave
   lists_of first now v took gave s law =
       subst (λ os. OutsList 0 os v law.taken gave) (sym (law.same book) ∙ ap (λ os. owe os (owed now)) s) (outs_list (outlets book now) v law.taken gave (law.ports ∙ sym (length-outlets book now)) (law.law book))
 
@@ -270,8 +270,8 @@ module _ (book : Book) (node n : ℕ) (f : MapFn) where
   holds_none l None r w = refl
   holds_none l (Some t) r w = let no : true ≡ false = sym w ∙ r.0 in cc
 
-  module _ (first now : OutLogic) (i : InPort) (os : List OutPort) (si : InStands i) (started : Started first) (lasts : 1 ≤ n) (got_list : List Tree) (got_end : End) (got : i.got ≡ told got_list got_end) (e : Then first now i os) where
-    deal_ask : (l : PartitionLogic) → part.row l e.knew → OutLaw first (Deals l) e.knew e.had e.given → DealAsk first now i os e
+  module _ (first now : OutMachines) (i : InPort) (os : List OutPort) (si : InStands i) (started : Started first) (lasts : 1 ≤ n) (got_list : List Tree) (got_end : End) (got : i.got ≡ told got_list got_end) (e : Then first now i os) where
+    deal_ask : (l : PartitionLogic) → part.row l e.knew → MachinesLaw first (Deals l) e.knew e.had e.given → DealAsk first now i os e
     deal_ask l r law = by l.live refl r
       where
         by : (b : Bool) → l.live ≡ b → part.row_by b l e.knew → DealAsk first now i os e
@@ -305,7 +305,7 @@ module _ (book : Book) (node n : ℕ) (f : MapFn) where
               shut = λ j a. e.shut_on j (subst (λ (ys : List OutView). OutClosed (slice_index_or ys j Shut)) (sym outs) a);
             }
 
-    deal_ask_of : (g : PartitionLogic) → first ≡ Deals g → (old : OutLogic) → row old e.knew → OutLaw first old e.knew e.had e.given → DealAsk first now i os e
+    deal_ask_of : (g : PartitionLogic) → first ≡ Deals g → (old : OutMachines) → row old e.knew → MachinesLaw first old e.knew e.had e.given → DealAsk first now i os e
     deal_ask_of g is (Deals l) r law = deal_ask l r law
     deal_ask_of g is (Copies l) r law = absurd (subst (λ x. IsAlike x (Copies l)) is law.alike)
 
@@ -319,7 +319,7 @@ module _ (book : Book) (node n : ℕ) (f : MapFn) where
     deals_some : 1 ≤ length (owed (Deals l))
     deals_some = let all = owed_all (Deals g) (Deals l) started law.outputs in omega (arith, all, lasts)
 
-    deals_lawful : ((p : ℕ) → 1 ≤ slice_index_or (i.want ∷ []) p 0 → Moments row OutLaw NoAsking no_moves (Deals g) (Deals l) (i ∷ []) os p) → PartitionLawful (λ j k. number_count book node n f k j) i.wire (OutWires os)
+    deals_lawful : ((p : ℕ) → 1 ≤ slice_index_or (i.want ∷ []) p 0 → Moments row MachinesLaw NoAsking no_moves (Deals g) (Deals l) (i ∷ []) os p) → PartitionLawful (λ j k. number_count book node n f k j) i.wire (OutWires os)
     deals_lawful moments = (both_parts i.wire 0 os sent before, total_by)
       where
         c : Came (OutView_of i os) law.taken
@@ -373,15 +373,15 @@ outs_same (o ∷ os) (g ∷ gs) l t = let r = t 0 g refl in rw (outs_same os gs 
 in_same : (i : InPort) (l : List Tree) (e : End) → i.got ≡ told l e → own_ins (i.view ∷ []) l ≡ own_in i ∷ []
 in_same i l e h = rw (h, elements_told l e, list_of_told l e) refl
 
-each_shut : (os : List OutPort) → EachPort OutStands os → EachPort OutRests os → EachWire IsShut (map own_out os) → EachWire IsShut (OutWires os)
+pub each_shut : (os : List OutPort) → EachPort OutStands os → EachPort OutRests os → EachWire IsShut (map own_out os) → EachWire IsShut (OutWires os)
 each_shut os so ro h = each_out IsShut IsShut (λ o s q x. out_shuts o q x) os so ro h
 
 module _ (i : InPort) (os : List OutPort) (si : InStands i) (so : EachPort OutStands os) (ri : InRests i) (ro : EachPort OutRests os) where
-  moved : (x : OutLogic) → rests_as x (own_in i ∷ []) (map own_out os) → rests_as x (i.wire ∷ []) (OutWires os)
+  moved : (x : OutMachines) → rests_as x (own_in i ∷ []) (map own_out os) → rests_as x (i.wire ∷ []) (OutWires os)
   moved (Copies l) h = broadcast_rests i os si ri so ro h
   moved (Deals l) h = partition_rests i os si ri so ro h
 
-  out_stays : (book : Book) (first now : OutLogic) (law : Now first now i os) → 1 ≤ length (owed now) → row now (OutView_of i os) → (EachWire IsShut (i.wire ∷ []) × EachWire IsShut (OutWires os)) ⊎ rests_as first (i.wire ∷ []) (OutWires os)
+  out_stays : (book : Book) (first now : OutMachines) (law : Now first now i os) → 1 ≤ length (owed now) → row now (OutView_of i os) → (EachWire IsShut (i.wire ∷ []) × EachWire IsShut (OutWires os)) ⊎ rests_as first (i.wire ∷ []) (OutWires os)
   out_stays book first now law some r =
       let c = came_now book first now i os law some in
       let s = stage_rests book now (OutView_of i os) law.taken (λ j. slice_index_or (Sents os) j []) c.list c.end r c.is (law.law book) in
@@ -397,7 +397,7 @@ module _ (i : InPort) (os : List OutPort) (si : InStands i) (so : EachPort OutSt
 
 -- ---- by kinds
 
-pub some_outputs : (k : ℕ) (kd : Kind) (first now : OutLogic) → IsOut kd → Begins k kd first → length (owed now) ≡ length (owed first) → 1 ≤ length (owed now)
+pub some_outputs : (k : ℕ) (kd : Kind) (first now : OutMachines) → IsMachines kd → Begins k kd first → length (owed now) ≡ length (owed first) → 1 ≤ length (owed now)
 some_outputs k kd first now ok b e = by kd ok b.ready
   where
     some_at : (n : ℕ) → 2 ≤ n → row first (unasked_ports n) → 1 ≤ length (owed now)
@@ -407,14 +407,14 @@ some_outputs k kd first now ok b e = by kd ok b.ready
         let is = length-replicate n Unasked in
         omega (arith, many, is, two, e)
 
-    by : (kd : Kind) → IsOut kd → row first (unasked_ports (outputs_of kd)) → 1 ≤ length (owed now)
+    by : (kd : Kind) → IsMachines kd → row first (unasked_ports (outputs_of kd)) → 1 ≤ length (owed now)
     by (Broadcast n) ok r = some_at n ok.0 r
     by (Partition n f) ok r = some_at n ok.0 r
     by Unzip ok r = some_at 2 (omega arith) r
     by x ok r = absurd ok
 
 module _ (g : Graph) (w : World) (k : ℕ) (d : Decider) (i : InPort) (os : List OutPort) where
-  lawful_by : (kd : Kind) (first now : OutLogic) → IsOut kd → Begins k kd first → Now first now i os → InStands i → EachPort OutStands os → ((p : ℕ) → 1 ≤ slice_index_or (i.want ∷ []) p 0 → Moments row OutLaw NoAsking no_moves first now (i ∷ []) os p)
+  lawful_by : (kd : Kind) (first now : OutMachines) → IsMachines kd → Begins k kd first → Now first now i os → InStands i → EachPort OutStands os → ((p : ℕ) → 1 ≤ slice_index_or (i.want ∷ []) p 0 → Moments row MachinesLaw NoAsking no_moves first now (i ∷ []) os p)
       → RowLawful g w k kd d (i.wire ∷ []) (OutWires os)
   lawful_by (Broadcast n) (Copies f) (Copies l) ok b law si so m = copies_lawful w.book f l i os law si so m
   lawful_by Unzip (Copies f) (Copies l) ok b law si so m = copies_lawful w.book f l i os law si so m
@@ -427,24 +427,24 @@ module _ (g : Graph) (w : World) (k : ℕ) (d : Decider) (i : InPort) (os : List
   lawful_by (Partition n fun) (Copies f) now ok b law si so m = absurd b.of_kind
   lawful_by kd first now ok b law si so m = absurd ok
 
-no_sink : (kd : Kind) → IsOut kd → is_sink kd ≡ false
+no_sink : (kd : Kind) → IsMachines kd → is_sink kd ≡ false
 no_sink (Broadcast n) ok = refl
 no_sink (Partition n f) ok = refl
 no_sink Unzip ok = refl
 no_sink kd ok = absurd ok
 
-no_order : (kd : Kind) → IsOut kd → (moved : List ℕ) → valve_order kd moved ≡ None
+no_order : (kd : Kind) → IsMachines kd → (moved : List ℕ) → valve_order kd moved ≡ None
 no_order (Broadcast n) ok moved = refl
 no_order (Partition n f) ok moved = refl
 no_order Unzip ok moved = refl
 no_order kd ok moved = absurd ok
 
 module _ (g : Graph) (w : World) (k : ℕ) (n : graph.Node) where
-  pub out_picture : (first now : OutLogic) (is : List InPort) (os : List OutPort) → IsOut n.kind → Begins k n.kind first → row now (record { ins = map (λ (i : InPort). i.view) is; outs = map (λ (o : OutPort). o.view) os })
-      → OutLaw first now (record { ins = map (λ (i : InPort). i.view) is; outs = map (λ (o : OutPort). o.view) os }) (map (λ (i : InPort). i.got) is) (Sents os) → PictureLaws row OutLaw NoAsking no_moves never_ends g w k n first now is os
-  out_picture first now [] os ok b r law = let none = law.took_is in absurd cc
-  out_picture first now (i ∷ j ∷ is) os ok b r law = let more = law.took_is in absurd cc
-  out_picture first now (i ∷ []) os ok b r law = record {
+  pub machines_picture : (first now : OutMachines) (is : List InPort) (os : List OutPort) → IsMachines n.kind → Begins k n.kind first → row now (record { ins = map (λ (i : InPort). i.view) is; outs = map (λ (o : OutPort). o.view) os })
+      → MachinesLaw first now (record { ins = map (λ (i : InPort). i.view) is; outs = map (λ (o : OutPort). o.view) os }) (map (λ (i : InPort). i.got) is) (Sents os) → PictureLaws row MachinesLaw NoAsking no_moves never_ends g w k n first now is os
+  machines_picture first now [] os ok b r law = let none = law.took_is in absurd cc
+  machines_picture first now (i ∷ j ∷ is) os ok b r law = let more = law.took_is in absurd cc
+  machines_picture first now (i ∷ []) os ok b r law = record {
     lawful = λ s so m. lawful_by g w k n.decider i os n.kind first now ok b law s.0 so m;
     no_valve = no_order n.kind ok;
     rests = λ s so ri ro. elim (out_stays i os s.0 so ri.0 ro w.book first now law (some_outputs k n.kind first now ok b law.outputs) r) [ inl h ↦ inl h | inr h ↦ inr (b.rests g w n.decider (i.wire ∷ []) (OutWires os) h) ];

@@ -25,7 +25,7 @@ use Rattle.stage_law.specs.Row.{OutClosed}
 use Rattle.stage_out.specs.declared.want.Want.{Want}
 use Rattle.stage_out.specs.declared.want.Want.TheVariants.{Quiet, Asks, Gone}
 use Rattle.stage_out.specs.Copies.{want_view, quiet_count, open_count}
-use Rattle.stage_out.specs.OutLogics.{number_starts}
+use Rattle.stage_out.specs.Machines.{number_starts}
 use Rattle.stage_out.specs.OwnRows.{Even}
 use Rattle.stage_out.specs.PartitionStates.{PartitionLogic, asks_count, stage_of, state_of, held_of, dues, kept}
 use Rattle.stage_out.proofs.Rests.{told_lists}

@@ -12,31 +12,31 @@ use Rattle.stream_model.specs.Graph as graph
 use Rattle.stream_model.specs.Linear.{Book}
 use Rattle.stream_model.specs.Node.{World, head_of, node_outlook}
 use Rattle.stream_model.specs.Outlook.{Outlook, Agrees}
-use Rattle.stage_out.specs.declared.logic.OutLogic.{OutLogic}
-use Rattle.stage_out.specs.OutLogics.{outlets, owed, IsOut, Begins}
-use Rattle.stage_out.specs.OutNodes.{OutLaw}
-use Rattle.stage_out.proofs.OutNodes.{stage_agrees, length-outlets}
+use Rattle.stage_out.specs.declared.machines.OutMachines.{OutMachines}
+use Rattle.stage_out.specs.Machines.{outlets, owed, IsMachines, Begins}
+use Rattle.stage_out.specs.MachineNodes.{MachinesLaw}
+use Rattle.stage_out.proofs.MachineNodes.{stage_agrees, length-outlets}
 use Rattle.run_account.specs.Items.{MayPass, AllMayPass, AgreesWith}
 use Rattle.run_account.specs.KindLaws.{Heard, HearsAll, RunLaws}
 use Rattle.fan_laws.proofs.InRuns.{at_index, one_given}
 use Rattle.fan_laws.proofs.OutLists.{Came, came_in}
 use Rattle.fan_laws.proofs.OutPictures.{some_outputs}
 
-all_fit : (g : Graph) (w : World) (k : ℕ) (kd : Kind) → IsOut kd → (os : List Outlook) → moves_fit g w k kd os ≡ true
+all_fit : (g : Graph) (w : World) (k : ℕ) (kd : Kind) → IsMachines kd → (os : List Outlook) → moves_fit g w k kd os ≡ true
 all_fit g w k (Broadcast n) ok os = refl
 all_fit g w k (Partition n f) ok os = refl
 all_fit g w k Unzip ok os = refl
 all_fit g w k kd ok os = absurd ok
 
-one_input : (os : List Outlook) (x : List Item) → AllMayPass os (x ∷ []) → (o : Outlook) × ((os ≡ o ∷ []) × MayPass o x)
+pub one_input : (os : List Outlook) (x : List Item) → AllMayPass os (x ∷ []) → (o : Outlook) × ((os ≡ o ∷ []) × MayPass o x)
 one_input [] x a = absurd a
 one_input (o ∷ []) x a = (o, (refl, a.0))
 one_input (o ∷ p ∷ os) x a = absurd a.1
 
-came_of : (book : Book) (first now : OutLogic) (v : View) (took gave : List (List Item)) → (law : OutLaw first now v took gave) → 1 ≤ length (owed now) → Came v law.taken
+came_of : (book : Book) (first now : OutMachines) (v : View) (took gave : List (List Item)) → (law : MachinesLaw first now v took gave) → 1 ≤ length (owed now) → Came v law.taken
 came_of book first now v took gave law some = let n = length-outlets book now in came_in (outlets book now) 0 v law.taken (λ j. slice_index_or gave j []) (omega (arith, n, some)) (law.law book)
 
-module _ (g : Graph) (w : World) (k : ℕ) (n : graph.Node) (first now : OutLogic) (v : View) (took gave : List (List Item)) (ok : IsOut n.kind) (b : Begins k n.kind first) (law : OutLaw first now v took gave) where
+module _ (g : Graph) (w : World) (k : ℕ) (n : graph.Node) (first now : OutMachines) (v : View) (took gave : List (List Item)) (ok : IsMachines n.kind) (b : Begins k n.kind first) (law : MachinesLaw first now v took gave) where
   gives : (os : List Outlook) → AllMayPass os took → (p : ℕ) (h : List Item) → slice_get gave p ≡ Some h → AgreesWith (node_outlook g w k n.kind n.decider os p) h
   gives os a p h at =
       let within = slice_get_within gave p h at in
@@ -46,12 +46,12 @@ module _ (g : Graph) (w : World) (k : ℕ) (n : graph.Node) (first now : OutLogi
       let r = stage_agrees g w k n.kind n.decider os first now v took gave b law c.list c.end c.is passes p within in
       record { list = r.list; end = r.end; is = sym (at_index gave p h at) ∙ r.is; agrees = r.agrees }
 
-  pub out_laws : RunLaws g w k n took gave
-  out_laws = record { gives = gives; fits = λ os a. all_fit g w k n.kind ok os }
+  pub machines_laws : RunLaws g w k n took gave
+  machines_laws = record { gives = gives; fits = λ os a. all_fit g w k n.kind ok os }
 
 -- what came is a list and an end, which is known of the input
-pub out_hears : (book : Book) (k : ℕ) (kd : Kind) (first now : OutLogic) (v : View) (took gave : List (List Item)) → IsOut kd → Begins k kd first → OutLaw first now v took gave → HearsAll v took
-out_hears book k kd first now v took gave ok b law p h at =
+pub machines_hear : (book : Book) (k : ℕ) (kd : Kind) (first now : OutMachines) (v : View) (took gave : List (List Item)) → IsMachines kd → Begins k kd first → MachinesLaw first now v took gave → HearsAll v took
+machines_hear book k kd first now v took gave ok b law p h at =
     let c = came_of book first now v took gave law (some_outputs k kd first now ok b law.outputs) in
     let one = one_given law.taken h p (subst (λ (hs : List (List Item)). slice_get hs p ≡ Some h) law.took_is at) in
     subst (λ q. Heard (in_at v q) h) (sym one.0) (record { list = c.list; end = c.end; is = one.1 ∙ c.is; as_seen = c.as_seen })

@@ -21,11 +21,13 @@ use Rattle.stream_picture.specs.Rests.{
   OneWaits,
   IsOrLane,
   ZipInput,
+  MergeRests,
   ConcatRests,
   InterleaveRests,
   SortedRests,
   ZipRests,
   BroadcastRests,
+  BalanceRests,
   PartitionRests,
 }
 use Rattle.stage_law.specs.OwnPorts.{is_waiting, in_shut, is_asked, out_shut}
@@ -160,6 +162,14 @@ module _ (is : List InPort) (o : OutPort) (r : EachPort InRests is) (ro : OutRes
   interleave_rests (inl h) = inl (asked o ro h.0, one_waits is r h.1)
   interleave_rests (inr h) = inr (unasked o ro h.0, each IdlesOrShut IdlesOrShut quiet is r h.1)
 
+  waits_or_shut : (i : InPort) → InRests i → Waits (own_in i) ⊎ IsShut (own_in i) → Waits i.wire ⊎ IsShut i.wire
+  waits_or_shut i q (inl h) = inl (waits i q h)
+  waits_or_shut i q (inr h) = inr (shuts i q h)
+
+  pub merge_rests : MergeRests (map own_in is) (own_out o) → MergeRests (map (λ (i : InPort). i.wire) is) o.wire
+  merge_rests (inl h) = inl (asked o ro h.0, some Waits Waits waits is r h.1, each (λ i. Waits i ⊎ IsShut i) (λ i. Waits i ⊎ IsShut i) waits_or_shut is r h.2)
+  merge_rests (inr h) = inr (unasked o ro h.0, each WaitsIdlesOrShut WaitsIdlesOrShut any is r h.1)
+
   pub sorted_rests : SortedRests (map own_in is) (own_out o) → SortedRests (map (λ (i : InPort). i.wire) is) o.wire
   sorted_rests (inl h) = inl (asked o ro h.0, some Waits Waits waits is r h.1)
   sorted_rests (inr h) = inr (unasked o ro h.0, each WaitsIdlesOrShut WaitsIdlesOrShut any is r h.1)
@@ -236,3 +246,16 @@ module _ (i : InPort) (os : List OutPort) (s : InStands i) (r : InRests i) (ss :
   pub partition_rests : PartitionRests (own_in i) (map own_out os) → PartitionRests i.wire (map (λ (o : OutPort). o.wire) os)
   partition_rests (inl h) = inl (waits i r h)
   partition_rests (inr h) = inr (some_out IsUnasked IsUnasked unasked os ro h.0, quiet i r h.1)
+
+  shut_or_unasked : (o : OutPort) → OutStands o → OutRests o → IsShut (own_out o) ⊎ IsUnasked (own_out o) → IsShut o.wire ⊎ IsUnasked o.wire
+  shut_or_unasked o t q (inl h) = inl (out_shuts o q h)
+  shut_or_unasked o t q (inr h) = inr (unasked o q h)
+
+  pub balance_rests : BalanceRests (own_in i) (map own_out os) → BalanceRests i.wire (map (λ (o : OutPort). o.wire) os)
+  balance_rests (inl h) = inl (some_out IsAsked IsAsked asked os ro h.0, waits i r h.1)
+  balance_rests (inr h) =
+      inr (
+        some_out IsUnasked IsUnasked unasked os ro h.0,
+        each_out (λ o. IsShut o ⊎ IsUnasked o) (λ o. IsShut o ⊎ IsUnasked o) shut_or_unasked os ss ro h.1,
+        any i r h.2,
+      )

@@ -14,6 +14,7 @@ use Rattle.stream_model.specs.Graph.{Graph, Wire, find_wire, find_source}
 use Rattle.stream_model.specs.Graph as graph
 use Rattle.stream_model.specs.Node.{World}
 use Rattle.stream_model.specs.Composed.{inputs_of, count_from}
+use Rattle.stream_model.specs.Fits.{valve_order}
 use Rattle.stream_model.proofs.Compositions.{slice_get-below}
 use Rattle.stream_picture.specs.View.{outputs_of, EachWire, ins, outs, ins_at, outs_at}
 use Rattle.stream_picture.specs.View as picture
@@ -49,9 +50,10 @@ each_wire P Q f [] h = tt
 each_wire P Q f (i ∷ is) h = (f i h.0, each_wire P Q f is h.1)
 
 module _ {N : Type 0} (row : N → View → Type 0) (law : N → N → View → List (List Item) → List (List Item) → Type 0) (asking : N → View → Type 0) (moves : N → List ℕ) (has_ended : N → Bool)
-    (FirstOf : ℕ → graph.Node → N → Type 0) (g : Graph) (w : World) (a : Account N) (joined : IsJoined g) (keeps : KeepsLaws row law asking moves g a) (made : AllMade FirstOf g a)
+    (FirstOf : ℕ → graph.Node → N → Type 0) (Tells : ℕ → N → Type 0) (g : Graph) (w : World) (a : Account N) (joined : IsJoined g) (keeps : KeepsLaws row law asking moves g a) (made : AllMade FirstOf g a)
+    (tells : (k : ℕ) (now : N) → a.nodes k ≡ Some now → Tells k now)
     (hears : (k : ℕ) (n : graph.Node) → slice_get g.nodes k ≡ Some n → HearsAll (knows g a k n) (took g a k n))
-    (pictures : (k : ℕ) (n : graph.Node) (first now : N) (is : List InPort) (os : List OutPort) → FirstOf k n first
+    (pictures : (k : ℕ) (n : graph.Node) (first now : N) (is : List InPort) (os : List OutPort) → FirstOf k n first → Tells k now
     → row now (record { ins = map (λ (i : InPort). i.view) is; outs = map (λ (o : OutPort). o.view) os })
     → law first now (record { ins = map (λ (i : InPort). i.view) is; outs = map (λ (o : OutPort). o.view) os }) (map (λ (i : InPort). i.got) is) (map (λ (o : OutPort). o.sent) os)
     → PictureLaws row law asking moves has_ended g w k n first now is os)
@@ -141,10 +143,14 @@ module _ {N : Type 0} (row : N → View → Type 0) (law : N → N → View → 
 
     -- what its kind tells
     kind : PictureLaws row law asking moves has_ended g w k n kept.first kept.now (In k n) (Out k n)
-    kind = pictures k n kept.first kept.now (In k n) (Out k n) (made k n kept.first e kept.first_at) (subst (λ (v : View). row kept.now v) views kept.row_holds) (rw (views, tooks, gaves) at kept.law_holds)
+    kind = pictures k n kept.first kept.now (In k n) (Out k n) (made k n kept.first e kept.first_at) (tells k kept.now kept.now_at) (subst (λ (v : View). row kept.now v) views kept.row_holds) (rw (views, tooks, gaves) at kept.law_holds)
 
   none_some : {A : Type 0} (v : A) → None ≡ Some v → ⊥
   none_some v e = cc
+
+  -- no node is a valve that acted
+  pub no_order : (k : ℕ) (n : graph.Node) (v : List ℕ × ℕ) → slice_get g.nodes k ≡ Some n → valve_order n.kind (w.moves k) ≡ Some v → ⊥
+  no_order k n v e order = none_some v (sym ((kind k n e).no_valve (w.moves k)) ∙ order)
 
   module _ (passes : AllPass a g outlook) where
     port_in : (u : ℕ) (v : Wire) → slice_get g.wires u ≡ Some v → InStands (in_port a g outlook u v)
@@ -188,7 +194,7 @@ module _ {N : Type 0} (row : N → View → Type 0) (law : N → N → View → 
     wires_lawful k n e = rw (ins_same k n e) (each_wire InStands WireLawful (λ i s. (s.within, s.least)) (In k n) (ins_stand k n e))
 
     pub all_lawful : IsLawful g w counts outlook
-    all_lawful = record { wires = wires_lawful; nodes = row_lawful; valves = λ k n v e order. absurd (none_some v (sym ((kind k n e).no_valve (w.moves k)) ∙ order)) }
+    all_lawful = record { wires = wires_lawful; nodes = row_lawful; valves = λ k n v e order. absurd (no_order k n v e order) }
 
   -- ---- where no event is left
 

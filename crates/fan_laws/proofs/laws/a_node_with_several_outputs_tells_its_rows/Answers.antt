@@ -1,4 +1,4 @@
-use Rattle.fan_laws.proofs.OutPictures.{out_picture}
+use Rattle.fan_laws.proofs.OutStages.{out_picture}
 use Rattle.fan_laws.proofs.laws.a_node_with_several_outputs_tells_its_rows.Goals as goal
 
 pub returns : goal.returns

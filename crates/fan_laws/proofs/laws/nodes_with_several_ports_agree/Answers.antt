@@ -1,5 +1,5 @@
 use Rattle.fan_laws.proofs.InRuns.{in_laws, in_hears}
-use Rattle.fan_laws.proofs.OutRuns.{out_laws, out_hears}
+use Rattle.fan_laws.proofs.OutStages.{out_laws, out_hears}
 use Rattle.fan_laws.proofs.laws.nodes_with_several_ports_agree.Goals as goal
 
 pub returns-clause-ins : goal.returns-clause-ins

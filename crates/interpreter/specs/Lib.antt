@@ -1,3 +1,4 @@
 pub mod Parts
 pub mod Island
 pub mod Room
+pub mod Picks

@@ -11,8 +11,8 @@ use Rattle.stage_linear.specs.Handling.{LinearFresh}
 use Rattle.stage_state.specs.Handling.{StateFresh}
 use Rattle.stage_in.specs.Logics.{InFresh}
 use Rattle.stage_in.specs.Logics as fan_in
-use Rattle.stage_out.specs.OutLogics as fan_out
-use Rattle.stage_out.specs.OutNodes.{OutFresh}
+use Rattle.stage_out.specs.OutLogics.{OutFresh}
+use Rattle.stage_out.specs.Machines.{unasked_ports}
 use Rattle.nodes.specs.declared.node.Node.{Node}
 use Rattle.nodes.specs.declared.node.Node.TheVariants as node
 use Rattle.fused_net.specs.declared.net.Ends.{Ends}
@@ -68,7 +68,7 @@ IsUnused (Making k) = IsMaker k
 IsUnused (Linear l) = LinearFresh l (record { ins = Idle ∷ []; outs = Unasked ∷ [] })
 IsUnused (State l) = StateFresh l (record { ins = Idle ∷ []; outs = Unasked ∷ [] })
 IsUnused (FanIn l n) = InFresh l (fan_in.unasked_ports n)
-IsUnused (FanOut l n) = OutFresh l (fan_out.unasked_ports n)
+IsUnused (FanOut l n) = OutFresh l (unasked_ports n)
 IsUnused (Writing k (Some d)) = IsFileSink k
 IsUnused (Writing k None) = k ≡ Ignore
 

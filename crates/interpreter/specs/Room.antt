@@ -13,3 +13,4 @@ pub record HasRoom {S D : Type 0} (room : IslandEnd S D) (nodes wires : ℕ) : T
   pub room_for_wires : wires ≤ vec_capacity room.wires
   pub room_for_readers : nodes ≤ vec_capacity room.readers
   pub room_for_writers : nodes ≤ vec_capacity room.writers
+  pub room_for_picks : nodes ≤ vec_capacity room.picks

@@ -4,14 +4,17 @@ ghost use Rattle.fused_net.specs.Laws.{Starting, GoesOn, BreaksOff};
 ghost use Rattle.fused_net.specs.Costs.{all_asks, Uses};
 ghost use Rattle.nodes.specs.Nodes.{node_fresh, node_row, node_law, node_asking, node_moves, node_keeps};
 ghost use Rattle.interpreter.specs.Parts.{AreParts, AllBecome, ends_of, number_of};
+ghost use Rattle.interpreter.specs.Picks.{node_number, pick_of, with_picks, picks_of};
 ghost use Rattle.interpreter.specs.Island.{Keeps, counts_of, sinks_of, readers_of, writers_of};
+ghost use Rattle.std.specs.Option.{option_map};
 ghost use Rattle.interpreter.specs.Room.{HasRoom};
 
-use crate::parts::{Parts, all_ends, all_numbers, join, seat_all};
+use crate::parts::{Parts, all_ends, all_numbers, all_places, join, seat_all};
 use elem_core::why::NoMemory;
 use fused_net::engine::Engine;
 use nodes::node::{Node, NodeEnd};
 use port_core::acts::Acts;
+use port_core::pick_log::PickLog;
 use stage_core::stage::MOST_ACTS;
 use std::alloc::Global;
 use std::cmp::min;
@@ -27,6 +30,8 @@ pub struct Island<S: Source, D: Drain> {
     engine: Engine<Node<S, D>>,
     acts: Acts,
     numbers: Vec<u32>,
+    // The number in the blueprint of each of its nodes.
+    places: Vec<u32>,
     used: u32,
     broken: bool,
     // The lists of its end, which are empty and have room for all of it: it is taken apart without memory.
@@ -45,9 +50,9 @@ impl<S: Source, D: Drain> Model for Island<S, D> {
 
     ghost coded = { Prim.hlevel (codes, tree_coded) };
 
-    ghost view = { λ i. record { net = i.engine; numbers = i.numbers.items; used = i.used; broken = i.broken } };
+    ghost view = { λ i. record { net = i.engine; numbers = i.numbers.items; places = i.places.items; used = i.used; broken = i.broken } };
 
-    ghost invariant = { λ i. HasRoom i.room (length i.engine.nodes) (length i.numbers.items) × (i.broken ≡ false → Keeps S.state D.state i.engine i.used × (i.acts.items ≡ []) × (most_acts ≤ i.acts.room)) };
+    ghost invariant = { λ i. HasRoom i.room (length i.engine.nodes) (length i.numbers.items) × (length i.places.items ≡ length i.engine.nodes) × (i.broken ≡ false → Keeps S.state D.state i.engine i.used × (i.acts.items ≡ []) × (most_acts ≤ i.acts.room)) };
 }
 
 /// What an island leaves at its end, each list in order of its nodes or wires.
@@ -57,7 +62,7 @@ pub struct IslandEnd<S: Source, D: Drain> {
     pub sinks: Vec<(u32, u64, EndState)>,
     /// Of each wire its number in the blueprint, and what it carried.
     pub wires: Vec<(u32, WireCount)>,
-    /// The moves of each stage that chooses.
+    /// The moves of each stage whose kind chooses, also where it made none.
     pub picks: Vec<PickList>,
     /// The sources of bytes of its readers.
     pub readers: Vec<S>,
@@ -75,9 +80,11 @@ impl<S: Source, D: Drain> Island<S, D> {
         ensures firsts { IfOk result (λ i. AllBecome parts.nodes.items i.net.firsts) }
         ensures ends { IfOk result (λ i. i.net.ends ≡ map ends_of parts.links.items) }
         ensures numbers { IfOk result (λ i. i.numbers ≡ map number_of parts.links.items) }
+        ensures places { IfOk result (λ i. i.places ≡ map node_number parts.nodes.items) }
     {
         let mut acts = Acts::new(alloc, MOST_ACTS)?;
         let numbers = all_numbers(alloc, &parts.links)?;
+        let places = all_places(alloc, &parts.nodes)?;
         let room = IslandEnd::sized(alloc, parts.nodes.len(), numbers.len())?;
         let mut engine = assemble(alloc, parts)?;
         engine.start(alloc, &mut acts)?;
@@ -85,6 +92,7 @@ impl<S: Source, D: Drain> Island<S, D> {
             engine,
             acts,
             numbers,
+            places,
             used: 0,
             broken: false,
             room,
@@ -99,6 +107,7 @@ impl<S: Source, D: Drain> Island<S, D> {
         ensures whole { OnOk result (self.new.broken ≡ false) }
         ensures on { OnOk result (GoesOn self.old.net self.new.net) }
         ensures numbers { OnOk result (self.new.numbers ≡ self.old.numbers) }
+        ensures places { OnOk result (self.new.places ≡ self.old.places) }
         ensures used { IfOk result (λ used. self.new.used ≡ self.old.used + used) }
         ensures uses { IfOk result (λ used. Uses self.old.net self.new.net used) }
         ensures within { IfOk result (λ used. used ≤ limit) }
@@ -127,21 +136,24 @@ impl<S: Source, D: Drain> Island<S, D> {
         self.engine.is_at_rest()
     }
 
-    /// Takes it apart: how its sinks ended, what its wires carried, and its handles. It takes no memory, also after a call that
-    /// answered `NoMemory`.
+    /// Takes it apart: how its sinks ended, what its wires carried, what its stages chose, and its handles. It takes no memory,
+    /// also after a call that answered `NoMemory`.
     pub fn finish(self) -> Result<IslandEnd<S, D>, NoMemory>
         ensures answers { IsOk result }
         ensures sinks { IfOk result (λ e. e.sinks.items ≡ sinks_of self.net.nodes) }
         ensures wires { IfOk result (λ e. e.wires.items ≡ counts_of self.numbers self.net.wires) }
-        ensures picks { IfOk result (λ e. e.picks.items ≡ []) }
+        ensures picks { IfOk result (λ e. map pick_of e.picks.items ≡ picks_of self.places self.net.nodes) }
         ensures readers { IfOk result (λ e. e.readers.items ≡ readers_of self.net.nodes) }
         ensures writers { IfOk result (λ e. e.writers.items ≡ writers_of self.net.nodes) }
     {
         let (nodes, wires) = self.engine.into_parts();
         let mut end = self.room;
         count_wires(&self.numbers, &wires, &mut end.wires);
+        let places = self.places;
+        let mut place = 0;
         for node in nodes {
-            end.add(node);
+            end.add(places[place], node);
+            place += 1;
         }
         Ok(end)
     }
@@ -192,30 +204,35 @@ impl<S: Source, D: Drain> IslandEnd<S, D> {
         Ok(IslandEnd {
             sinks: Vec::with_capacity(alloc, nodes)?,
             wires: Vec::with_capacity(alloc, wires)?,
-            picks: Vec::new(alloc),
+            picks: Vec::with_capacity(alloc, nodes)?,
             readers: Vec::with_capacity(alloc, nodes)?,
             writers: Vec::with_capacity(alloc, nodes)?,
         })
     }
 
-    // What a node leaves, into lists that have room for it.
-    fn add(&mut self, node: Node<S, D>)
+    // What node `number` leaves, into lists that have room for it.
+    fn add(&mut self, number: u32, node: Node<S, D>)
         requires sinks_room { vec_len self.old.sinks < vec_capacity self.old.sinks }
+        requires picks_room { vec_len self.old.picks < vec_capacity self.old.picks }
         requires readers_room { vec_len self.old.readers < vec_capacity self.old.readers }
         requires writers_room { vec_len self.old.writers < vec_capacity self.old.writers }
         ensures sinks { self.new.sinks.items ≡ self.old.sinks.items ++ sinks_of (node ∷ []) }
+        ensures picks { map pick_of self.new.picks.items ≡ map pick_of self.old.picks.items ++ picks_of (number ∷ []) (node ∷ []) }
         ensures readers { self.new.readers.items ≡ self.old.readers.items ++ readers_of (node ∷ []) }
         ensures writers { self.new.writers.items ≡ self.old.writers.items ++ writers_of (node ∷ []) }
         ensures wires { self.new.wires ≡ self.old.wires }
-        ensures picks { self.new.picks ≡ self.old.picks }
         ensures few_sinks { vec_len self.new.sinks ≤ vec_len self.old.sinks + 1 }
+        ensures few_picks { vec_len self.new.picks ≤ vec_len self.old.picks + 1 }
         ensures few_readers { vec_len self.new.readers ≤ vec_len self.old.readers + 1 }
         ensures few_writers { vec_len self.new.writers ≤ vec_len self.old.writers + 1 }
         ensures sinks_stay { vec_capacity self.new.sinks ≡ vec_capacity self.old.sinks }
+        ensures picks_stay { vec_capacity self.new.picks ≡ vec_capacity self.old.picks }
         ensures readers_stay { vec_capacity self.new.readers ≡ vec_capacity self.old.readers }
         ensures writers_stay { vec_capacity self.new.writers ≡ vec_capacity self.old.writers }
     {
-        match node.close() {
+        let (end, log) = node.close();
+        add_picks(&mut self.picks, number, log);
+        match end {
             NodeEnd::Read(source) => self.readers.push_reserved(source),
             NodeEnd::Staged => {}
             NodeEnd::Wrote(sink) => {
@@ -225,5 +242,20 @@ impl<S: Source, D: Drain> IslandEnd<S, D> {
                 }
             }
         }
+    }
+}
+
+// The moves of node `number`, where it chooses, into a list that has room for them.
+fn add_picks(picks: &mut Vec<PickList>, number: u32, log: Option<PickLog>)
+    requires { vec_len picks.old < vec_capacity picks.old }
+    ensures picks { map pick_of picks.new.items ≡ map pick_of picks.old.items ++ with_picks number (option_map (λ log. log.moves) log) [] }
+    ensures few { vec_len picks.new ≤ vec_len picks.old + 1 }
+    ensures stay { vec_capacity picks.new ≡ vec_capacity picks.old }
+{
+    if let Some(log) = log {
+        picks.push_reserved(PickList {
+            stage: number,
+            moves: log.into_moves(),
+        });
     }
 }

@@ -4,6 +4,7 @@ ghost use Rattle.fused_net.specs.Net.{port_at};
 ghost use Rattle.fused_net.specs.Laws.{Wired};
 ghost use Rattle.nodes.specs.Kinds.{IsMaker, maker_of, writes_of};
 ghost use Rattle.interpreter.specs.Parts.{work_inputs, work_outputs, inputs_at, outputs_at, IsUnused, AllUnused, IsWiring, IsSized, ends_of, number_of, Becomes, AllBecome, written};
+ghost use Rattle.interpreter.specs.Picks.{node_number};
 
 use elem_core::why::NoMemory;
 use fused_net::net::{Ends, Ports};
@@ -197,6 +198,20 @@ pub fn all_numbers(alloc: Global, links: &[Link]) -> Result<Vec<u32>, NoMemory>
     let mut numbers = Vec::new(alloc);
     for link in links {
         numbers.push(link.wire)?;
+    }
+    Ok(numbers)
+}
+
+// The numbers of the places' nodes in the blueprint.
+pub fn all_places<S: Source, D: Drain>(
+    alloc: Global,
+    places: &[Seated<S, D>],
+) -> Result<Vec<u32>, NoMemory>
+    ensures { IfOk result (λ numbers. numbers.items ≡ map node_number places.now) }
+{
+    let mut numbers = Vec::new(alloc);
+    for seated in places {
+        numbers.push(seated.node)?;
     }
     Ok(numbers)
 }

@@ -7,11 +7,13 @@ use Rattle.port_core.specs.declared.act.Act.{Act}
 use Rattle.port_core.specs.declared.view.InView.{InView}
 use Rattle.port_core.specs.declared.view.InView.TheVariants.{Left}
 use Rattle.port_core.specs.declared.view.OutView.{OutView}
-use Rattle.port_core.specs.View.{View}
-use Rattle.port_core.specs.Call.{Meets, MayCome, brings}
+use Rattle.port_core.specs.declared.view.OutView.TheVariants.{Shut}
+use Rattle.port_core.specs.View.{View, IsOutOpen}
+use Rattle.port_core.specs.Call.{Call, Meets, MayCome, brings, cancels}
 use Rattle.stage_core.specs.Handling.{Handles}
 use Rattle.stream_io.specs.State.{SourceState, DrainState}
-use Rattle.nodes.specs.Ports.{OneIn, OneInOf}
+use Rattle.nodes.specs.Ports.{OneIn, OneInOf, OneOut, OneOutOf}
+use Rattle.nodes.specs.Source.{Lines, lines_row, lines_row_in, LinesLaw}
 use Rattle.nodes.specs.Sink.{Sink, sink_row, sink_row_in, SinkLaw}
 use Rattle.nodes.specs.declared.node.Node.{Node}
 use Rattle.nodes.specs.declared.node.Node.TheVariants.{Reading, Making, Linear, State, FanIn, FanOut, Writing, Ignoring}
@@ -34,6 +36,17 @@ port_lists P (suc p) x (y ∷ w ∷ xs) ys r h = absurd r
 -- what comes to a node with one input comes there
 pub port_is : (P : InView → Type 0) (p : ℕ) (x : Item) → Meets (brings p x) (λ v. OneIn P v) → p ≡ 0
 port_is P p x m = port_lists P p x m.0.ins m.0.outs m.1.1 m.1.0
+
+out_lists : (P : OutView → Type 0) (p : ℕ) (xs : List InView) (ys : List OutView) → OneOutOf P xs ys → IsOutOpen (slice_index_or ys p Shut) → p ≡ 0
+out_lists P zero xs ys r h = refl
+out_lists P (suc p) [] (y ∷ []) r h = absurd h
+out_lists P (suc p) [] [] r h = absurd r
+out_lists P (suc p) [] (y ∷ z ∷ ys) r h = absurd r
+out_lists P (suc p) (x ∷ xs) ys r h = absurd r
+
+-- where a node with one output is cancelled, that one is
+out_is : (P : OutView → Type 0) (p : ℕ) → Meets (cancels p) (λ v. OneOut P v) → p ≡ 0
+out_is P p m = out_lists P p m.0.ins m.0.outs m.1.1 m.1.0
 
 module _ {S D : Type 0} (sources : S → SourceState) (drains : D → DrainState) where
   -- a sink with a file
@@ -58,3 +71,26 @@ module _ {S D : Type 0} (sources : S → SourceState) (drains : D → DrainState
   pub writing_handles : {T E : Type 0} (p : ℕ) (x : Item) (old new : Sink D) (acts : List Act) (r : Result T E) → Meets (brings p x) (sink_row old) → OnOk r (Handles sink_row (SinkLaw drains) (brings 0 x) old new acts)
       → OnOk r (Handles node_row (node_law sources drains) (brings p x) (Writing old) (Writing new) acts)
   writing_handles p x old new acts r m h = rw (port_is (sink_row_in old.started old.end) p x m) (on_ok_two r h h (λ a b. writing_at x old new acts a))
+
+  -- a source of lines
+  reading_law : (first : Node S D) (old new : Lines S) (v w : View) (took gave more given : List (List Item)) → ((f : Lines S) → LinesLaw sources f old v took gave → LinesLaw sources f new w more given)
+      → node_law sources drains first (Reading old) v took gave → node_law sources drains first (Reading new) w more given
+  reading_law (Reading f) old new v w took gave more given keeps law = keeps f law
+  reading_law (Writing f) old new v w took gave more given keeps law = absurd law
+  reading_law (Making f) old new v w took gave more given keeps law = absurd law
+  reading_law (Linear f) old new v w took gave more given keeps law = absurd law
+  reading_law (State f) old new v w took gave more given keeps law = absurd law
+  reading_law (FanIn f) old new v w took gave more given keeps law = absurd law
+  reading_law (FanOut f) old new v w took gave more given keeps law = absurd law
+  reading_law (Ignoring f) old new v w took gave more given keeps law = absurd law
+
+  reading_at : (call : Call) (old new : Lines S) (acts : List Act) → Handles lines_row (LinesLaw sources) call old new acts → Handles node_row (node_law sources drains) call (Reading old) (Reading new) acts
+  reading_at call old new acts h = record {
+    obeys = record { allowed = h.obeys.allowed; row = h.obeys.row };
+    stands = h.stands;
+    keeps = λ first v took gave a r law. reading_law first old new v _ took gave _ _ (λ f l. h.keeps f v took gave a r l) law;
+  }
+
+  pub reading_cancelled : {T E : Type 0} (p : ℕ) (old new : Lines S) (acts : List Act) (r : Result T E) → Meets (cancels p) (lines_row old) → OnOk r (Handles lines_row (LinesLaw sources) (cancels 0) old new acts)
+      → OnOk r (Handles node_row (node_law sources drains) (cancels p) (Reading old) (Reading new) acts)
+  reading_cancelled p old new acts r m h = rw (out_is (lines_row_in old.phase) p m) (on_ok_two r h h (λ a b. reading_at (cancels 0) old new acts a))

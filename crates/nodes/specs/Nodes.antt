@@ -1,13 +1,17 @@
 -- A node of an island, by its kind: each predicate cites that of the kind.
-use Rattle.std.specs.Prelude.{ℕ, List, [], None, Some, ⊤}
+use Rattle.std.specs.Prelude.{ℕ, List, [], Option, None, Some, ⊤}
+use Rattle.std.specs.Option.{unwrap_or}
 use Rattle.elem_core.specs.declared.item.Item.{Item}
 use Rattle.port_core.specs.View.{View}
 use Rattle.stream_io.specs.State.{SourceState, DrainState}
 use Rattle.stage_linear.specs.Handling.{LinearFresh, LinearRow, LinearLaw}
 use Rattle.stage_state.specs.Handling.{StateFresh, StateRow, StateLaw}
+use Rattle.stage_state.specs.Moves.{state_picks}
 use Rattle.stage_in.specs.Logics.{InFresh, InRow, InLaw}
+use Rattle.stage_in.specs.Moves.{in_picks}
+use Rattle.stage_out.specs.OutLogics.{OutFresh, OutAsking, OutLaw}
 use Rattle.stage_out.specs.OutLogics as out
-use Rattle.stage_out.specs.OutNodes.{OutFresh, OutLaw}
+use Rattle.stage_out.specs.Moves.{out_picks}
 use Rattle.nodes.specs.declared.node.Node.{Node}
 use Rattle.nodes.specs.declared.node.Node.TheVariants.{Reading, Making, Linear, State, FanIn, FanOut, Writing, Ignoring}
 use Rattle.nodes.specs.declared.node.NodeEnd.{NodeEnd}
@@ -52,13 +56,25 @@ node_law sources drains (Writing first) (Writing x) v took gave = SinkLaw drains
 node_law sources drains (Ignoring first) (Ignoring x) v took gave = IgnoreLaw first x v took gave
 node_law sources drains _ _ v took gave = ⊥
 
--- what it knows of its ports whenever it has just asked: nothing more is told of these kinds
+-- what it knows of its ports whenever it has just asked: only a stage with several outputs tells of it
 abbrev pub node_asking : {S D : Type 0} → Node S D → View → Type 0
+node_asking (FanOut x) v = OutAsking x v
 node_asking x v = ⊤
 
--- the moves that it has recorded: these kinds choose nothing
+-- the moves that it has recorded, where it is a stage whose kind chooses
+abbrev pub node_picks : {S D : Type 0} → Node S D → Option (List ℕ)
+node_picks (Reading x) = None
+node_picks (Making x) = None
+node_picks (Linear x) = None
+node_picks (State x) = state_picks x
+node_picks (FanIn x) = in_picks x
+node_picks (FanOut x) = out_picks x
+node_picks (Writing x) = None
+node_picks (Ignoring x) = None
+
+-- the moves that it has recorded, and none where it does not choose
 abbrev pub node_moves : {S D : Type 0} → Node S D → List ℕ
-node_moves x = []
+node_moves x = unwrap_or (node_picks x) []
 
 -- what it leaves at the end
 abbrev pub node_end : {S D : Type 0} → Node S D → NodeEnd S D

@@ -1,6 +1,7 @@
 // A node of an island, whatever its kind is.
 ghost use Rattle.std.specs.Prelude.{◌≡◌, []};
-ghost use Rattle.nodes.specs.Nodes.{node_fresh, node_row, node_law, node_asking, node_moves, node_end, node_keeps};
+ghost use Rattle.std.specs.Option.{option_map};
+ghost use Rattle.nodes.specs.Nodes.{node_fresh, node_row, node_law, node_asking, node_moves, node_picks, node_end, node_keeps};
 
 use crate::ignoring::IgnoreSink;
 use crate::maker::Maker;
@@ -10,6 +11,7 @@ use elem_core::elem::Elem;
 use elem_core::item::Item;
 use elem_core::why::{Cause, NoMemory};
 use port_core::acts::Acts;
+use port_core::pick_log::PickLog;
 use stage_core::stage::Stage;
 use stage_in::logic::InLogic;
 use stage_linear::logic::LinearLogic;
@@ -51,16 +53,19 @@ pub enum NodeEnd<S: Source, D: Drain> {
 }
 
 impl<S: Source, D: Drain> Node<S, D> {
-    /// What it leaves. It takes no memory.
-    pub fn close(self) -> NodeEnd<S, D>
-        ensures { result ≡ node_end self }
+    /// What it leaves, and the log of its moves where it is a stage whose kind chooses. It takes no memory.
+    pub fn close(self) -> (NodeEnd<S, D>, Option<PickLog>)
+        ensures end { result.0 ≡ node_end self }
+        ensures picks { option_map (λ log. log.moves) result.1 ≡ node_picks self }
     {
         match self {
-            Node::Reading(source) => NodeEnd::Read(source.into_source()),
-            Node::Making(_) | Node::Linear(_) | Node::State(_) | Node::FanIn(_) | Node::FanOut(_) =>
-                NodeEnd::Staged,
-            Node::Writing(sink) => NodeEnd::Wrote(sink.close()),
-            Node::Ignoring(sink) => NodeEnd::Wrote(sink.close()),
+            Node::Reading(source) => (NodeEnd::Read(source.into_source()), None),
+            Node::Making(_) | Node::Linear(_) => (NodeEnd::Staged, None),
+            Node::State(logic) => (NodeEnd::Staged, logic.picks()),
+            Node::FanIn(logic) => (NodeEnd::Staged, logic.picks()),
+            Node::FanOut(logic) => (NodeEnd::Staged, logic.picks()),
+            Node::Writing(sink) => (NodeEnd::Wrote(sink.close()), None),
+            Node::Ignoring(sink) => (NodeEnd::Wrote(sink.close()), None),
         }
     }
 }

@@ -16,10 +16,11 @@ use Rattle.nodes.specs.Ignoring.{ignore_row_in}
 use Rattle.run_account.specs.KindLaws.{PictureLaws}
 use Rattle.run_account.specs.Ports.{InPort, OutPort}
 use Rattle.run_laws.specs.Made.{FirstOf}
+use Rattle.run_laws.specs.Telling.{TellsMoves}
 use Rattle.picture_laws.specs.Picture.{sink_ended}
 use Rattle.picture_laws.proofs.EndRows.{SourceRows, maker_rows, lines_rows, SinkRows, file_sink_rows, ignore_rows, first_wants, source_picture, sink_picture}
 use Rattle.fan_laws.proofs.InPictures.{in_picture}
-use Rattle.fan_laws.proofs.OutPictures.{out_picture}
+use Rattle.fan_laws.proofs.OutStages.{out_picture}
 use Rattle.picture_laws.proofs.FanRows.{fan_in_picture, fan_out_picture}
 use Rattle.picture_laws.proofs.LinearRows.{linear_picture}
 use Rattle.picture_laws.proofs.StateRows.{state_picture}
@@ -29,19 +30,19 @@ module _ {S D : Type 0} (sources : S → SourceState) (drains : D → DrainState
   abbrev Views : List InPort → List OutPort → View
   Views is os = record { ins = map (λ (i : InPort). i.view) is; outs = map (λ (o : OutPort). o.view) os }
 
-  pub node_picture : (first x : Node S D) (is : List InPort) (os : List OutPort) → FirstOf sources k n first → node_row x (Views is os)
+  pub node_picture : (first x : Node S D) (is : List InPort) (os : List OutPort) → FirstOf sources k n first → TellsMoves w k x → node_row x (Views is os)
       → node_law sources drains first x (Views is os) (map (λ (i : InPort). i.got) is) (map (λ (o : OutPort). o.sent) os)
       → PictureLaws node_row (node_law sources drains) node_asking node_moves sink_ended g w k n first x is os
-  node_picture (Reading first) (Reading x) is os f r law = source_picture sources drains g w k n (Reading first) (Reading x) x.phase is os (subst (λ (kd : Kind). SourceRows g w kd) (sym f.kind_is) (lines_rows g w f.name)) r
-  node_picture (Making first) (Making x) is os f r law = source_picture sources drains g w k n (Making first) (Making x) x.phase is os (maker_rows g w n.kind f.is_maker) r
-  node_picture (Linear first) (Linear x) is os f r law = linear_picture sources drains g w k n first x is os f r law
-  node_picture (State first) (State x) is os f r law = state_picture sources drains g w k n first x is os f r law
-  node_picture (FanIn first) (FanIn x) is os f r law = fan_in_picture sources drains g w k n first x is os (in_picture g w k n first x is os f.begins r law)
-  node_picture (FanOut first) (FanOut x) is os f r law = fan_out_picture sources drains g w k n first x is os (out_picture g w k n first x is os f.is_out f.begins r law)
-  node_picture (Writing first) (Writing x) is os f r law =
+  node_picture (Reading first) (Reading x) is os f t r law = source_picture sources drains g w k n (Reading first) (Reading x) x.phase is os (subst (λ (kd : Kind). SourceRows g w kd) (sym f.kind_is) (lines_rows g w f.name)) r
+  node_picture (Making first) (Making x) is os f t r law = source_picture sources drains g w k n (Making first) (Making x) x.phase is os (maker_rows g w n.kind f.is_maker) r
+  node_picture (Linear first) (Linear x) is os f t r law = linear_picture sources drains g w k n first x is os f r law
+  node_picture (State first) (State x) is os f t r law = state_picture sources drains g w k n first x is os f r law
+  node_picture (FanIn first) (FanIn x) is os f t r law = fan_in_picture sources drains g w k n first x is os (in_picture g w k n first x is os f.begins t r law)
+  node_picture (FanOut first) (FanOut x) is os f t r law = fan_out_picture sources drains g w k n first x is os (out_picture g w k n first x is os f.begins t r law)
+  node_picture (Writing first) (Writing x) is os f t r law =
       sink_picture sources drains g w k n (Writing first) (Writing x) (writes_of n.kind ≡ First) (sink_row_in x.started x.end) is os (file_sink_rows g w n.kind f.is_sink) r (sink_ports x.started x.end)
       (λ i ii oo s m is_first. first_wants sources drains g w k n first x i (f.writes ∙ is_first) s m)
-  node_picture (Ignoring first) (Ignoring x) is os f r law =
+  node_picture (Ignoring first) (Ignoring x) is os f t r law =
       sink_picture sources drains g w k n (Ignoring first) (Ignoring x) ⊥ (ignore_row_in x.started x.end) is os (subst (λ (kd : Kind). SinkRows g w kd ⊥) (sym f.kind_is) (ignore_rows g w)) r (ignore_ports x.started x.end)
       (λ i ii oo s m none. absurd none)
-  node_picture first x is os f r law = absurd law
+  node_picture first x is os f t r law = absurd law

@@ -3,6 +3,7 @@ use Rattle.std.proofs.Common.{◌≡◌, ℕ, ap}
 use Rattle.std.specs.Prelude.{slice_get, Some}
 use Rattle.stream_io.specs.State.{SourceState, DrainState}
 use Rattle.stream_model.specs.Composed.{composed, IsRanked}
+use Rattle.stream_model.specs.Fits.{Fits}
 use Rattle.stream_model.specs.Graph.{Graph}
 use Rattle.stream_model.specs.Graph as graph
 use Rattle.stream_model.specs.Node.{World}
@@ -14,11 +15,12 @@ use Rattle.nodes.specs.Nodes.{node_row, node_law, node_asking, node_moves}
 use Rattle.run_account.specs.Account.{Account, knows, took, gave, IsStill}
 use Rattle.run_account.specs.KindLaws.{HearsAll}
 use Rattle.run_account.specs.Pictures.{counts_of, AllPass}
-use Rattle.run_account.proofs.Drawing.{all_lawful, all_rest, all_match}
+use Rattle.run_account.proofs.Drawing.{no_order, all_lawful, all_rest, all_match}
 use Rattle.run_laws.specs.Made.{FirstOf}
 use Rattle.run_laws.specs.Runs.{IsRun}
-use Rattle.run_laws.specs.Telling.{Tells}
-use Rattle.run_laws.proofs.Agreeing.{every_wire_of}
+use Rattle.run_laws.specs.Telling.{TellsMoves, TellsPicks, Tells, chosen_world}
+use Rattle.run_laws.proofs.Agreeing.{every_wire_of, every_move_fits}
+use Rattle.run_laws.proofs.Choosing.{chosen_told}
 use Rattle.run_laws.proofs.Hearing.{node_hears}
 use Rattle.picture_laws.specs.Picture.{sink_ended, ended_there}
 use Rattle.picture_laws.proofs.AnyPicture.{node_picture}
@@ -32,12 +34,27 @@ module _ {S D : Type 0} (sources : S → SourceState) (drains : D → DrainState
   pub all_pass : (rank : ℕ → ℕ) → Tells sources g w a → IsRanked g rank → AllPass a g (composed g w)
   all_pass rank tells ranked u h = agrees_passes (composed g w u) (a.near u).wire.sent (every_wire_of sources drains g a run w tells rank ranked u h)
 
-  module _ (outlook : ℕ → Outlook) where
+  -- the moves of a run fit
+  pub fits : (rank : ℕ → ℕ) → Tells sources g w a → IsRanked g rank → Fits g w
+  fits rank tells ranked =
+      let none = no_order node_row (node_law sources drains) node_asking node_moves sink_ended (FirstOf sources) (λ k x. TellsMoves w k x) g w a run.joined run.keeps run.made tells.picks hears (λ k n. node_picture sources drains g w k n) (composed g w) in
+      record {
+        each = every_move_fits sources drains g a run w tells rank ranked;
+        given = λ k n v e order. absurd (none k n v e order);
+        one = λ k j n m v u e f order later same. absurd (none k n v e order);
+      }
+
+  module _ (chose : TellsPicks w a) (outlook : ℕ → Outlook) where
     pub lawful : AllPass a g outlook → IsLawful g w (counts_of a g) outlook
-    lawful = all_lawful node_row (node_law sources drains) node_asking node_moves sink_ended (FirstOf sources) g w a run.joined run.keeps run.made hears (λ k n. node_picture sources drains g w k n) outlook
+    lawful = all_lawful node_row (node_law sources drains) node_asking node_moves sink_ended (FirstOf sources) (λ k x. TellsMoves w k x) g w a run.joined run.keeps run.made chose hears (λ k n. node_picture sources drains g w k n) outlook
 
     pub rests : IsStill g a → AllPass a g outlook → Rests g w (counts_of a g) outlook
-    rests = all_rest node_row (node_law sources drains) node_asking node_moves sink_ended (FirstOf sources) g w a run.joined run.keeps run.made hears (λ k n. node_picture sources drains g w k n) outlook
+    rests = all_rest node_row (node_law sources drains) node_asking node_moves sink_ended (FirstOf sources) (λ k x. TellsMoves w k x) g w a run.joined run.keeps run.made chose hears (λ k n. node_picture sources drains g w k n) outlook
 
-    pub matches : IsStill g a → SinksMatch g w (counts_of a g) outlook (λ k. ended_there (a.nodes k))
-    matches still = all_match node_row (node_law sources drains) node_asking node_moves sink_ended (FirstOf sources) g w a run.joined run.keeps run.made hears (λ k n. node_picture sources drains g w k n) outlook still (λ k. ended_there (a.nodes k)) (λ k x e. ap ended_there e)
+    pub matches_by : IsStill g a → SinksMatch g w (counts_of a g) outlook (λ k. ended_there (a.nodes k))
+    matches_by still = all_match node_row (node_law sources drains) node_asking node_moves sink_ended (FirstOf sources) (λ k x. TellsMoves w k x) g w a run.joined run.keeps run.made chose hears (λ k n. node_picture sources drains g w k n) outlook still (λ k. ended_there (a.nodes k)) (λ k x e. ap ended_there e)
+
+-- how the sinks match has nothing to do with what a world tells
+pub matches : {S D : Type 0} (sources : S → SourceState) (drains : D → DrainState) (g : Graph) (a : Account (Node S D)) → IsRun sources drains g a → (w : World) (outlook : ℕ → Outlook) → IsStill g a
+    → SinksMatch g w (counts_of a g) outlook (λ k. ended_there (a.nodes k))
+matches sources drains g a run w outlook still = matches_by sources drains g a run (chosen_world w.book w.file a) (chosen_told w.book w.file a) outlook still

@@ -37,21 +37,24 @@ use Rattle.stage_state.specs.declared.ending.Ending.{Ending}
 use Rattle.stage_state.specs.declared.ending.Ending.TheVariants.{Lasting, Ended, Failed}
 use Rattle.stage_state.specs.Buffering.{buffer}
 use Rattle.stage_state.specs.Resting.{begin_buffer}
-use Rattle.stage_state.specs.States.{Logic, held, held_in, keep_row, buffer_row, row_by}
+use Rattle.stage_state.specs.States.{Logic, held, held_in, keep_row, buffer_row, row_by, IsMachine, Begins}
 use Rattle.stage_state.proofs.Buffers.{buffer_carries}
 use Rattle.stage_state.proofs.Rows.{counts}
 use Rattle.wire_core.specs.Counts.{elements}
 use Rattle.nodes.specs.declared.node.Node.{Node}
 use Rattle.nodes.specs.declared.node.Node.TheVariants as node
 use Rattle.nodes.specs.Nodes.{node_row, node_law, node_asking, node_moves}
+use Rattle.stage_state.specs.declared.logic.StateLogic.{StateLogic}
+use Rattle.stage_state.specs.declared.logic.StateLogic.TheVariants.{Machine, Dropping, Recovering}
 use Rattle.stage_state.specs.Handling.{StateRow, StateLaw}
+use Rattle.stage_state.specs.MachineNodes.{MachineRow, MachineLaw}
 use Rattle.run_account.specs.KindLaws.{IsOneMachine, Moments, PictureLaws}
 use Rattle.run_account.specs.Ports.{InPort, OutPort, InStands, OutStands, InRests, OutRests}
 use Rattle.run_account.proofs.Coming.{elements_told, elements_prefix}
 use Rattle.run_account.proofs.Nodes.{begins_one}
 use Rattle.run_laws.specs.Made.{FirstState}
 use Rattle.run_laws.proofs.Machines.{IsKeeping, keeping_machine}
-use Rattle.run_laws.proofs.States.{KeepsFirst, BuffersFirst, state_cases, keeps_law, buffers_law}
+use Rattle.run_laws.proofs.States.{KeepsFirst, BuffersFirst, state_cases, keeps_law, buffers_law, drops_apart, recovers_apart}
 use Rattle.picture_laws.specs.Picture.{sink_ended}
 use Rattle.picture_laws.proofs.MachineRows.{stage_given, stage_asked, waited_rests, idles}
 use Rattle.picture_laws.proofs.OnePorts.{one_views, one_same, began, given_one, reached, not_both}
@@ -109,7 +112,7 @@ busy_held l on lasts none = open_held l on ∙ ap (λ (e : Ending). held_in Open
 
 -- ---- its law, over its two ports
 
-module _ (first now : Logic) (v : View) (took gave : List (List Item)) (law : StateLaw first now v took gave) (book : Book) (t g : List Item) (ti : took ≡ t ∷ []) (gi : gave ≡ g ∷ []) where
+module _ (first now : Logic) (v : View) (took gave : List (List Item)) (law : MachineLaw first now v took gave) (book : Book) (t g : List Item) (ti : took ≡ t ∷ []) (gi : gave ≡ g ∷ []) where
   keeps_at : (k : ℕ) (kd : Kind) (d : Decider) → KeepsFirst k kd d first → Law (linear book first.stage.work) (begin_work k d first.stage.work) (held now) (in_at v 0) (out_at v 0) t g
   keeps_at k kd d f =
       law_at (linear book first.stage.work) law.start _ (held now) _ (in_at v 0) _ (out_at v 0) _ law.took_list t law.gave_list g
@@ -205,11 +208,11 @@ module _ {S D : Type 0} (sources : S → SourceState) (drains : D → DrainState
   -- its kind stays the same
   record StateNow (first : Logic) (v : View) (took gave : List (List Item)) : Type 0 where
     now : Logic
-    row_holds : StateRow now v
-    law_holds : StateLaw first now v took gave
+    row_holds : MachineRow now v
+    law_holds : MachineLaw first now v took gave
 
-  state_now : (first : Logic) (x : Node S D) (v : View) (took gave : List (List Item)) → node_row x v → node_law sources drains (node.State first) x v took gave → StateNow first v took gave
-  state_now first (node.State x) v took gave r law = record { now = x; row_holds = r; law_holds = law }
+  state_now : (first : Logic) (x : Node S D) (v : View) (took gave : List (List Item)) → node_row x v → node_law sources drains (node.State (Machine first)) x v took gave → StateNow first v took gave
+  state_now first (node.State (Machine x)) v took gave r law = record { now = x; row_holds = r; law_holds = law }
   state_now first x v took gave r law = absurd law
 
   keeps_ports : (l first : Logic) (x : InView) (y : OutView) → l.size ≡ first.size → first.size ≡ None → l.phase ≢ New → row_by l.size l.phase l.ending l.asked l.pending l.stage.work x y → KeepPorts l.phase l.ending l.pending x y
@@ -223,10 +226,10 @@ module _ {S D : Type 0} (sources : S → SourceState) (drains : D → DrainState
   abbrev Laws : Node S D → Node S D → List InPort → List OutPort → Type 0
   Laws first x is os = PictureLaws node_row (node_law sources drains) node_asking node_moves sink_ended g w k n first x is os
 
-  module _ (first x : Logic) (i : InPort) (o : OutPort) (f : FirstState k n first) (r : StateRow x (record { ins = i.view ∷ []; outs = o.view ∷ [] }))
-      (law : StateLaw first x (record { ins = i.view ∷ []; outs = o.view ∷ [] }) (i.got ∷ []) (o.sent ∷ [])) where
+  module _ (first x : Logic) (i : InPort) (o : OutPort) (is_machine : IsMachine n.kind) (begins : Begins k n.kind n.decider first) (r : MachineRow x (record { ins = i.view ∷ []; outs = o.view ∷ [] }))
+      (law : MachineLaw first x (record { ins = i.view ∷ []; outs = o.view ∷ [] }) (i.got ∷ []) (o.sent ∷ [])) where
     abbrev LastAsks : Type 0
-    LastAsks = Moments node_row (node_law sources drains) node_asking node_moves (node.State first) (node.State x) (i ∷ []) (o ∷ []) 0
+    LastAsks = Moments node_row (node_law sources drains) node_asking node_moves (node.State (Machine first)) (node.State (Machine x)) (i ∷ []) (o ∷ []) 0
 
     abbrev Still : Type 0
     Still = (EachWire IsShut (i.wire ∷ []) × EachWire IsShut (o.wire ∷ [])) ⊎ RowRests g w k n.kind n.decider (i.wire ∷ []) (o.wire ∷ [])
@@ -264,7 +267,7 @@ module _ {S D : Type 0} (sources : S → SourceState) (drains : D → DrainState
           inr (machine.rests g w k n.decider (i.wire ∷ []) (o.wire ∷ []) (inr (inr (keeping_holds n.kind first.stage.work c.is_keeping c.work, ro.unasked yo, ri.shut (subst InClosed (sym xi) tt)))))
       keeps_rest si so ri ro (over xi yo) = inl ((ri.shut xi, tt), (ro.shut yo, tt))
 
-      keeps_picture : Laws (node.State first) (node.State x) (i ∷ []) (o ∷ [])
+      keeps_picture : Laws (node.State (Machine first)) (node.State (Machine x)) (i ∷ []) (o ∷ [])
       keeps_picture = record {
         lawful = λ si so m. machine.lawful g w k n.decider (i.wire ∷ []) (o.wire ∷ []) (
           stage_given (linear w.book first.stage.work) (begin_work k n.decider first.stage.work) (held x) i o kept si.0 so.0,
@@ -300,7 +303,7 @@ module _ {S D : Type 0} (sources : S → SourceState) (drains : D → DrainState
           omega (arith, holds, one, reach, count, room, more)
 
       -- one that asked for nothing asked for no more than that
-      buffers_demand : InStands i → OutStands o → ((p : ℕ) → 1 ≤ slice_index_or (i.want ∷ []) p 0 → Moments node_row (node_law sources drains) node_asking node_moves (node.State first) (node.State x) (i ∷ []) (o ∷ []) p)
+      buffers_demand : InStands i → OutStands o → ((p : ℕ) → 1 ≤ slice_index_or (i.want ∷ []) p 0 → Moments node_row (node_law sources drains) node_asking node_moves (node.State (Machine first)) (node.State (Machine x)) (i ∷ []) (o ∷ []) p)
           → (d : ℕ) → d ≡ demand i.wire → d ≤ o.wire.sent + c.room
       buffers_demand si so m zero e = omega arith
       buffers_demand si so m (suc d) e = rw e (buffers_asked si so (m 0 (reached i si (omega (arith, e)))))
@@ -336,7 +339,7 @@ module _ {S D : Type 0} (sources : S → SourceState) (drains : D → DrainState
       in_row (inl h) = inl h
       in_row (inr h) = inr (subst (λ (kd : Kind). RowRests g w k kd n.decider (i.wire ∷ []) (o.wire ∷ [])) (sym c.kind_is) h)
 
-      buffers_picture : Laws (node.State first) (node.State x) (i ∷ []) (o ∷ [])
+      buffers_picture : Laws (node.State (Machine first)) (node.State (Machine x)) (i ∷ []) (o ∷ [])
       buffers_picture = record {
         lawful = λ si so m. subst (λ (kd : Kind). RowLawful g w k kd n.decider (i.wire ∷ []) (o.wire ∷ [])) (sym c.kind_is) (buffer_given c.room first.stage (held x) i o si.0 so.0 buffered, buffers_demand si.0 so.0 m (demand i.wire) refl);
         no_valve = λ moved. ap (λ (kd : Kind). valve_order kd moved) c.kind_is;
@@ -344,13 +347,45 @@ module _ {S D : Type 0} (sources : S → SourceState) (drains : D → DrainState
         matches = λ sink ri. let no : is_sink (Buffer c.room Backpressure) ≡ true = rw c.kind_is at sink in cc;
       }
 
-    one_picture : Laws (node.State first) (node.State x) (i ∷ []) (o ∷ [])
-    one_picture = elim (state_cases k n.kind n.decider first f.is_state f.begins) [ inl c ↦ keeps_picture c | inr c ↦ buffers_picture c ]
+    one_picture : Laws (node.State (Machine first)) (node.State (Machine x)) (i ∷ []) (o ∷ [])
+    one_picture = elim (state_cases k n.kind n.decider first is_machine begins) [ inl c ↦ keeps_picture c | inr c ↦ buffers_picture c ]
 
-  pub state_picture : (first x : Logic) (is : List InPort) (os : List OutPort) → FirstState k n first → StateRow x (record { ins = map (λ (i : InPort). i.view) is; outs = map (λ (o : OutPort). o.view) os })
+  one_picture_of : (first x : StateLogic) (i : InPort) (o : OutPort) → FirstState k n first → StateRow x (record { ins = i.view ∷ []; outs = o.view ∷ [] })
+      → StateLaw first x (record { ins = i.view ∷ []; outs = o.view ∷ [] }) (i.got ∷ []) (o.sent ∷ []) → Laws (node.State first) (node.State x) (i ∷ []) (o ∷ [])
+  one_picture_of (Machine first) (Machine x) i o f r law = one_picture first x i o f.is_state f.begins.as_kind.1 r law
+  one_picture_of (Dropping first) x i o f r law = absurd (drops_apart k n.kind n.decider first f.is_state f.begins.as_kind)
+  one_picture_of (Recovering first) x i o f r law = absurd (recovers_apart k n.kind n.decider first f.is_state f.begins.as_kind)
+  one_picture_of (Machine first) (Dropping x) i o f r law = absurd law
+  one_picture_of (Machine first) (Recovering x) i o f r law = absurd law
+
+  -- it has one input and one output
+  abbrev NotOne : StateLogic → List InPort → List OutPort → Type 0
+  NotOne x is os = StateRow x (record { ins = map (λ (i : InPort). i.view) is; outs = map (λ (o : OutPort). o.view) os }) → ⊥
+
+  no_input : (x : StateLogic) (os : List OutPort) → NotOne x [] os
+  no_input (Machine x) os r = r.row
+  no_input (Dropping x) os r = r.row
+  no_input (Recovering x) os r = r.row
+
+  no_output : (x : StateLogic) (i : InPort) → NotOne x (i ∷ []) []
+  no_output (Machine x) i r = r.row
+  no_output (Dropping x) i r = r.row
+  no_output (Recovering x) i r = r.row
+
+  two_outputs : (x : StateLogic) (i : InPort) (o p : OutPort) (os : List OutPort) → NotOne x (i ∷ []) (o ∷ p ∷ os)
+  two_outputs (Machine x) i o p os r = r.row
+  two_outputs (Dropping x) i o p os r = r.row
+  two_outputs (Recovering x) i o p os r = r.row
+
+  two_inputs : (x : StateLogic) (i j : InPort) (is : List InPort) (os : List OutPort) → NotOne x (i ∷ j ∷ is) os
+  two_inputs (Machine x) i j is os r = r.row
+  two_inputs (Dropping x) i j is os r = r.row
+  two_inputs (Recovering x) i j is os r = r.row
+
+  pub state_picture : (first x : StateLogic) (is : List InPort) (os : List OutPort) → FirstState k n first → StateRow x (record { ins = map (λ (i : InPort). i.view) is; outs = map (λ (o : OutPort). o.view) os })
       → StateLaw first x (record { ins = map (λ (i : InPort). i.view) is; outs = map (λ (o : OutPort). o.view) os }) (map (λ (i : InPort). i.got) is) (map (λ (o : OutPort). o.sent) os) → Laws (node.State first) (node.State x) is os
-  state_picture first x (i ∷ []) (o ∷ []) f r law = one_picture first x i o f r law
-  state_picture first x [] os f r law = absurd r.row
-  state_picture first x (i ∷ []) [] f r law = absurd r.row
-  state_picture first x (i ∷ []) (o ∷ p ∷ os) f r law = absurd r.row
-  state_picture first x (i ∷ j ∷ is) os f r law = absurd r.row
+  state_picture first x (i ∷ []) (o ∷ []) f r law = one_picture_of first x i o f r law
+  state_picture first x [] os f r law = absurd (no_input x os r)
+  state_picture first x (i ∷ []) [] f r law = absurd (no_output x i r)
+  state_picture first x (i ∷ []) (o ∷ p ∷ os) f r law = absurd (two_outputs x i o p os r)
+  state_picture first x (i ∷ j ∷ is) os f r law = absurd (two_inputs x i j is os r)

@@ -3,6 +3,7 @@
 ghost use Rattle.std.specs.Prelude.{ℕ, List};
 ghost use Rattle.elem_core.specs.declared.item.Item.{Item};
 ghost use Rattle.stream_model.specs.Composed.{composed, IsRanked};
+ghost use Rattle.stream_model.specs.Fits.{Fits};
 ghost use Rattle.stream_model.specs.Graph.{Graph};
 ghost use Rattle.stream_model.specs.Node.{World};
 ghost use Rattle.stream_model.specs.Outlook.{Outlook};
@@ -13,7 +14,7 @@ ghost use Rattle.run_account.specs.Account.{Account, IsStill};
 ghost use Rattle.run_account.specs.Items.{AgreesWith, Passes};
 ghost use Rattle.run_account.specs.Pictures.{counts_of, AllPass};
 ghost use Rattle.run_laws.specs.Runs.{IsRun};
-ghost use Rattle.run_laws.specs.Telling.{Tells};
+ghost use Rattle.run_laws.specs.Telling.{TellsPicks, Tells};
 ghost use Rattle.picture_laws.specs.Picture.{ended_there};
 
 use stream_io::outside::{Drain, Source};
@@ -25,9 +26,9 @@ pub fn what_agrees_passes()
 
 /// The picture of a graph is lawful: no node gave more than it may, and each asks only while it goes on and where what it was
 /// sent gives less than is wanted of it. So it is by any outlooks of whose lists the wires carried first parts (`any`), and by
-/// the composed outlooks (`composed`).
+/// the composed outlooks (`composed`), where the world tells what the stages chose.
 pub fn every_picture_is_lawful<S: Source, D: Drain>()
-    ensures any { (g : Graph) (w : World) (a : Account (Node S D)) (outlook : ℕ → Outlook) → IsRun S.state D.state g a
+    ensures any { (g : Graph) (w : World) (a : Account (Node S D)) (outlook : ℕ → Outlook) → IsRun S.state D.state g a → TellsPicks w a
         → AllPass a g outlook → IsLawful g w (counts_of a g) outlook }
     ensures composed { (g : Graph) (w : World) (rank : ℕ → ℕ) (a : Account (Node S D)) → IsRun S.state D.state g a
         → Tells S.state g w a → IsRanked g rank → IsLawful g w (counts_of a g) (composed g w) }
@@ -37,10 +38,17 @@ pub fn every_picture_is_lawful<S: Source, D: Drain>()
 /// any outlooks of whose lists the wires carried first parts (`any`), and by the composed outlooks (`composed`). A sink's
 /// input is shut exactly where the sink has ended (`sinks`).
 pub fn a_picture_without_events_rests<S: Source, D: Drain>()
-    ensures any { (g : Graph) (w : World) (a : Account (Node S D)) (outlook : ℕ → Outlook) → IsRun S.state D.state g a → IsStill g a
+    ensures any { (g : Graph) (w : World) (a : Account (Node S D)) (outlook : ℕ → Outlook) → IsRun S.state D.state g a → IsStill g a → TellsPicks w a
         → AllPass a g outlook → Rests g w (counts_of a g) outlook }
     ensures composed { (g : Graph) (w : World) (rank : ℕ → ℕ) (a : Account (Node S D)) → IsRun S.state D.state g a → IsStill g a
         → Tells S.state g w a → IsRanked g rank → Rests g w (counts_of a g) (composed g w) }
     ensures sinks { (g : Graph) (w : World) (a : Account (Node S D)) (outlook : ℕ → Outlook) → IsRun S.state D.state g a → IsStill g a
         → SinksMatch g w (counts_of a g) outlook (λ k. ended_there (a.nodes k)) }
+{}
+
+/// The moves of a run fit: each stage could have made them of what may come in on its inputs, and the orders by which valves
+/// acted were given.
+pub fn every_move_fits<S: Source, D: Drain>()
+    ensures { (g : Graph) (w : World) (rank : ℕ → ℕ) (a : Account (Node S D)) → IsRun S.state D.state g a
+        → Tells S.state g w a → IsRanked g rank → Fits g w }
 {}

@@ -12,9 +12,9 @@ use Rattle.nodes.specs.declared.node.Node.TheVariants.{Reading, Making, Linear, 
 use Rattle.nodes.specs.Nodes.{node_law}
 use Rattle.run_account.specs.KindLaws.{RunLaws}
 use Rattle.fan_laws.proofs.InRuns.{in_laws}
-use Rattle.fan_laws.proofs.OutRuns.{out_laws}
+use Rattle.fan_laws.proofs.OutStages.{out_laws}
 use Rattle.run_laws.specs.Made.{FirstOf}
-use Rattle.run_laws.specs.Telling.{TellsNode}
+use Rattle.run_laws.specs.Telling.{TellsNode, TellsMoves}
 use Rattle.run_laws.proofs.Readings.{reading_laws}
 use Rattle.run_laws.proofs.Stages.{stage_laws}
 use Rattle.run_laws.proofs.States.{state_laws}
@@ -22,13 +22,13 @@ use Rattle.run_laws.proofs.Makings.{making_laws}
 use Rattle.run_laws.proofs.Writings.{writing_laws, ignoring_laws}
 
 module _ {S D : Type 0} (sources : S → SourceState) (drains : D → DrainState) (g : Graph) (w : World) (k : ℕ) (n : graph.Node) where
-  pub node_laws : (first now : Node S D) (v : View) (took gave : List (List Item)) → FirstOf sources k n first → TellsNode sources w n first now → length took ≡ inputs_of n.kind → node_law sources drains first now v took gave → RunLaws g w k n took gave
-  node_laws (Reading first) (Reading now) v took gave made tells many law = reading_laws sources first now v took gave law g w k n made tells
+  pub node_laws : (first now : Node S D) (v : View) (took gave : List (List Item)) → FirstOf sources k n first → TellsNode sources w n first now × TellsMoves w k now → length took ≡ inputs_of n.kind → node_law sources drains first now v took gave → RunLaws g w k n took gave
+  node_laws (Reading first) (Reading now) v took gave made tells many law = reading_laws sources first now v took gave law g w k n made tells.0
   node_laws (Making first) (Making now) v took gave made tells many law = making_laws g w k n first now v took gave made law
   node_laws (Linear first) (Linear now) v took gave made tells many law = stage_laws g w k n first now v took gave made law
   node_laws (State first) (State now) v took gave made tells many law = state_laws g w k n first now v took gave made law
-  node_laws (FanIn first) (FanIn now) v took gave made tells many law = in_laws g w k n first now v took gave made.begins many law
-  node_laws (FanOut first) (FanOut now) v took gave made tells many law = out_laws g w k n first now v took gave made.is_out made.begins law
+  node_laws (FanIn first) (FanIn now) v took gave made tells many law = in_laws g w k n first now v took gave made.begins many tells.1 law
+  node_laws (FanOut first) (FanOut now) v took gave made tells many law = out_laws g w k n first now v took gave made.begins tells.1 law
   node_laws (Writing first) (Writing now) v took gave made tells many law = writing_laws g w k n drains first now v took gave made law
   node_laws (Ignoring first) (Ignoring now) v took gave made tells many law = ignoring_laws g w k n first now v took gave made law
   node_laws first now v took gave made tells many law = absurd law

@@ -1,5 +1,7 @@
 -- What came at each input of a node is a list and an end, which is known there.
-use Rattle.std.proofs.Common.{ℕ, List, refl}
+use Rattle.std.proofs.Common.{ℕ, List, refl, sym, ◌∙◌, arith}
+use Rattle.std.proofs.lemmas.Option.{slice_get_within}
+use Rattle.elem_core.specs.Tree.{Tree}
 use Rattle.elem_core.specs.declared.item.Item.{Item}
 use Rattle.port_core.specs.View.{View}
 use Rattle.stream_io.specs.State.{SourceState, DrainState}
@@ -9,10 +11,39 @@ use Rattle.nodes.specs.Nodes.{node_law}
 use Rattle.stream_model.specs.Graph as graph
 use Rattle.stream_model.specs.Linear.{Book}
 use Rattle.run_account.specs.KindLaws.{HearsAll}
-use Rattle.fan_laws.proofs.InRuns.{in_hears}
-use Rattle.fan_laws.proofs.OutRuns.{out_hears}
+use Rattle.stream_model.specs.Outlook.{End}
+use Rattle.stream_model.specs.FanIn.{Inflow}
+use Rattle.stage_fans.specs.PortsLaws.{InPortsLaw}
+use Rattle.stage_state.specs.declared.logic.StateLogic.{StateLogic}
+use Rattle.stage_state.specs.declared.logic.StateLogic.TheVariants.{Machine, Dropping, Recovering}
+use Rattle.stage_state.specs.Handling.{StateLaw}
+use Rattle.fused_net.proofs.Reading.{get_there}
+use Rattle.fan_laws.proofs.InRuns.{in_hears, at_index}
+use Rattle.fan_laws.proofs.OutStages.{out_hears}
 use Rattle.run_laws.specs.Made.{FirstOf}
 use Rattle.run_laws.proofs.Ports.{none_at, heard_one}
+
+-- the law by ports tells what came at each input
+ports_hear : (K : List Inflow → List Tree → End → Type 0) (v : View) (took gave : List (List Item)) → InPortsLaw K v took gave → HearsAll v took
+ports_hear K v took gave law p h at =
+    let l = law.law in
+    let within = slice_get_within took p h at in
+    let ports = l.ports in
+    let histories = law.ports in
+    let f = get_there l.ins p (omega (arith, within, ports, histories)) in
+    record { list = f.0.list; end = f.0.end; is = sym (at_index took p h at) ∙ l.took_is p f.0 f.1; as_seen = l.took_as p f.0 f.1 }
+
+state_hears : (book : Book) (first now : StateLogic) (v : View) (took gave : List (List Item)) → StateLaw first now v took gave → HearsAll v took
+state_hears book (Machine first) (Machine now) v took gave law p h at =
+    let its = law.law book in heard_one v took law.took_list law.took_is (record { list = its.in_list; end = its.in_end; is = its.took_is; as_seen = its.took_as }) p h at
+state_hears book (Dropping first) (Dropping now) v took gave law p h at = ports_hear _ v took gave law.by p h at
+state_hears book (Recovering first) (Recovering now) v took gave law p h at = ports_hear _ v took gave law.by p h at
+state_hears book (Machine first) (Dropping now) v took gave law p h at = absurd law
+state_hears book (Machine first) (Recovering now) v took gave law p h at = absurd law
+state_hears book (Dropping first) (Machine now) v took gave law p h at = absurd law
+state_hears book (Dropping first) (Recovering now) v took gave law p h at = absurd law
+state_hears book (Recovering first) (Machine now) v took gave law p h at = absurd law
+state_hears book (Recovering first) (Dropping now) v took gave law p h at = absurd law
 
 module _ {S D : Type 0} (sources : S → SourceState) (drains : D → DrainState) (book : Book) (k : ℕ) (n : graph.Node) where
   pub node_hears : (first now : Node S D) (v : View) (took gave : List (List Item)) → FirstOf sources k n first → node_law sources drains first now v took gave → HearsAll v took
@@ -20,10 +51,9 @@ module _ {S D : Type 0} (sources : S → SourceState) (drains : D → DrainState
   node_hears (Making first) (Making now) v took gave made law p h at = absurd (none_at took p h law.took_is at)
   node_hears (Linear first) (Linear now) v took gave made law p h at =
       let its = law.law book in heard_one v took law.took_list law.took_is (record { list = its.in_list; end = its.in_end; is = its.took_is; as_seen = its.took_as }) p h at
-  node_hears (State first) (State now) v took gave made law p h at =
-      let its = law.law book in heard_one v took law.took_list law.took_is (record { list = its.in_list; end = its.in_end; is = its.took_is; as_seen = its.took_as }) p h at
+  node_hears (State first) (State now) v took gave made law p h at = state_hears book first now v took gave law p h at
   node_hears (FanIn first) (FanIn now) v took gave made law p h at = in_hears first now v took gave law p h at
-  node_hears (FanOut first) (FanOut now) v took gave made law p h at = out_hears book k n.kind first now v took gave made.is_out made.begins law p h at
+  node_hears (FanOut first) (FanOut now) v took gave made law p h at = out_hears book k n.kind first now v took gave made.begins law p h at
   node_hears (Writing first) (Writing now) v took gave made law p h at = heard_one v took _ law.took_is (record { list = law.elems; end = law.in_end; is = refl; as_seen = law.took_as }) p h at
   node_hears (Ignoring first) (Ignoring now) v took gave made law p h at = heard_one v took _ law.took_is (record { list = law.elems; end = law.in_end; is = refl; as_seen = law.took_as }) p h at
   node_hears first now v took gave made law p h at = absurd law

@@ -8,6 +8,7 @@ pub mod Makings
 pub mod AnyKind
 pub mod Hearing
 pub mod Islands
+pub mod Choosing
 pub mod Agreeing
 pub mod Counting
 pub mod Faults
@@ -18,3 +19,4 @@ pub mod AgreeingSinks
 pub mod Untold
 pub mod ReadingAhead
 pub mod AgreeingSources
+pub mod StateChoices

@@ -20,9 +20,15 @@ use Rattle.stage_law.specs.Law.{Law}
 use Rattle.stage_law.proofs.Whole.{stage_stands, stage_agrees}
 use Rattle.stage_state.specs.Buffering.{buffer}
 use Rattle.stage_state.specs.Resting.{begin_buffer}
-use Rattle.stage_state.specs.States.{Logic, machine_by, held, IsStateful, Begins}
+use Rattle.stage_state.specs.States.{Logic, machine_by, held, IsMachine, Begins}
 use Rattle.stage_state.proofs.Buffers.{buffer_agrees}
+use Rattle.stage_state.specs.declared.logic.StateLogic.{StateLogic}
+use Rattle.stage_state.specs.declared.logic.StateLogic.TheVariants.{Machine, Dropping, Recovering}
+use Rattle.stage_state.specs.Logics.{BeginsAs}
 use Rattle.stage_state.specs.Handling.{StateLaw}
+use Rattle.stage_state.specs.MachineNodes.{MachineLaw}
+use Rattle.stage_dropping.specs.Droppings as dropping
+use Rattle.stage_recover.specs.Recoverings as recover
 use Rattle.run_account.specs.KindLaws.{RunLaws}
 use Rattle.run_laws.specs.Made.{FirstState}
 use Rattle.run_account.specs.Items.{MayPass, AllMayPass, AgreesWith}
@@ -30,7 +36,7 @@ use Rattle.run_laws.proofs.Machines.{IsKeeping, keeping_machine}
 use Rattle.run_laws.proofs.Readings.{one_port}
 use Rattle.run_laws.proofs.Stages.{one_input, begins_so}
 
--- ---- a stage with state keeps a group or a value, or is a buffer
+-- ---- a stage that chooses nothing keeps a group or a value, or is a buffer that holds its input back
 
 -- one that keeps, at its start
 pub record KeepsFirst (k : ℕ) (kd : Kind) (d : Decider) (x : Logic) : Type 0 where
@@ -48,7 +54,7 @@ pub record BuffersFirst (kd : Kind) (x : Logic) : Type 0 where
   pub owes : held x ≡ owing (begin_buffer x.stage)
 
 -- it is one of the two
-pub state_cases : (k : ℕ) (kd : Kind) (d : Decider) (x : Logic) → IsStateful kd → Begins k kd d x → KeepsFirst k kd d x ⊎ BuffersFirst kd x
+pub state_cases : (k : ℕ) (kd : Kind) (d : Decider) (x : Logic) → IsMachine kd → Begins k kd d x → KeepsFirst k kd d x ⊎ BuffersFirst kd x
 state_cases k (Grouped n) d x h b = inl (record { is_keeping = tt; size = b.owes.0; work = b.owes.1.0; owes = b.owes.1.1 })
 state_cases k (Fold o) d x h b = inl (record { is_keeping = tt; size = b.owes.0; work = b.owes.1.0; owes = b.owes.1.1 })
 state_cases k (Reduce r) d x h b = inl (record { is_keeping = tt; size = b.owes.0; work = b.owes.1.0; owes = b.owes.1.1 })
@@ -58,7 +64,7 @@ state_cases k _ d x h b = absurd h
 
 -- ---- its law is of its machine
 
-module _ (first now : Logic) (v : View) (took gave : List (List Item)) (law : StateLaw first now v took gave) (book : Book) where
+module _ (first now : Logic) (v : View) (took gave : List (List Item)) (law : MachineLaw first now v took gave) (book : Book) where
   pub keeps_law : first.size ≡ None → Law (linear book first.stage.work) law.start (held now) (in_at v 0) (out_at v 0) law.took_list law.gave_list
   keeps_law e = subst (λ (z : Option ℕ). Law (machine_by book z first.stage.work) law.start (held now) (in_at v 0) (out_at v 0) law.took_list law.gave_list) e (law.law book)
 
@@ -67,7 +73,7 @@ module _ (first now : Logic) (v : View) (took gave : List (List Item)) (law : St
 
 -- ---- what it gave
 
-module _ (g : Graph) (w : World) (k : ℕ) (n : graph.Node) (first now : Logic) (v : View) (took gave : List (List Item)) (made : FirstState k n first) (law : StateLaw first now v took gave) where
+module _ (g : Graph) (w : World) (k : ℕ) (n : graph.Node) (first now : Logic) (v : View) (took gave : List (List Item)) (is_machine : IsMachine n.kind) (begins : Begins k n.kind n.decider first) (law : MachineLaw first now v took gave) where
   abbrev Gives : List Outlook → ℕ → List Item → Type 0
   Gives os p h = AgreesWith (node_outlook g w k n.kind n.decider os p) h
 
@@ -100,21 +106,46 @@ module _ (g : Graph) (w : World) (k : ℕ) (n : graph.Node) (first now : Logic) 
         agrees = rw (f.kind_is, one) agrees;
       }
 
-  state_gives : (os : List Outlook) → AllMayPass os took → (p : ℕ) (h : List Item) → slice_get gave p ≡ Some h → Gives os p h
-  state_gives os a p h at =
+  machine_gives : (os : List Outlook) → AllMayPass os took → (p : ℕ) (h : List Item) → slice_get gave p ≡ Some h → Gives os p h
+  machine_gives os a p h at =
       let one = one_input os law.took_list (rw law.took_is at a) in
       let here : slice_get (law.gave_list ∷ []) p ≡ Some h = rw law.gave_is at at in
-      elim (state_cases k n.kind n.decider first made.is_state made.begins) [
+      elim (state_cases k n.kind n.decider first is_machine begins) [
         | inl f ↦ keeps_give os one.0 p h one.1.0 one.1.1 (one_port law.gave_list p h here) f
         | inr f ↦ buffers_give os one.0 p h one.1.0 one.1.1 (one_port law.gave_list p h here) f
       ]
 
   -- it chooses nothing
   no_moves : (os : List Outlook) → moves_fit g w k n.kind os ≡ true
-  no_moves os = elim (state_cases k n.kind n.decider first made.is_state made.begins) [
+  no_moves os = elim (state_cases k n.kind n.decider first is_machine begins) [
     | inl f ↦ (keeping_machine n.kind first.stage.work f.is_keeping f.work).no_moves g w k os
     | inr f ↦ rw f.kind_is refl
   ]
 
-  pub state_laws : RunLaws g w k n took gave
-  state_laws = record { gives = state_gives; fits = λ os a. no_moves os }
+  machine_laws : RunLaws g w k n took gave
+  machine_laws = record { gives = machine_gives; fits = λ os a. no_moves os }
+
+-- ---- a stage of such a kind is no other
+
+pub drops_apart : (k : ℕ) (kd : Kind) (d : Decider) (x : dropping.Dropping) → IsMachine kd → BeginsAs kd k d (Dropping x) → ⊥
+drops_apart k (Grouped n) d x h b = b
+drops_apart k (Fold o) d x h b = b
+drops_apart k (Reduce r) d x h b = b
+drops_apart k (Scan o) d x h b = b
+drops_apart k (Buffer n Backpressure) d x h b = b.0 refl
+drops_apart k _ d x h b = absurd h
+
+pub recovers_apart : (k : ℕ) (kd : Kind) (d : Decider) (x : recover.Recover) → IsMachine kd → BeginsAs kd k d (Recovering x) → ⊥
+recovers_apart k (Grouped n) d x h b = b
+recovers_apart k (Fold o) d x h b = b
+recovers_apart k (Reduce r) d x h b = b
+recovers_apart k (Scan o) d x h b = b
+recovers_apart k (Buffer n Backpressure) d x h b = b
+recovers_apart k _ d x h b = absurd h
+
+pub state_laws : (g : Graph) (w : World) (k : ℕ) (n : graph.Node) (first now : StateLogic) (v : View) (took gave : List (List Item)) → FirstState k n first → StateLaw first now v took gave → RunLaws g w k n took gave
+state_laws g w k n (Machine first) (Machine now) v took gave made law = machine_laws g w k n first now v took gave made.is_state made.begins.as_kind.1 law
+state_laws g w k n (Dropping first) now v took gave made law = absurd (drops_apart k n.kind n.decider first made.is_state made.begins.as_kind)
+state_laws g w k n (Recovering first) now v took gave made law = absurd (recovers_apart k n.kind n.decider first made.is_state made.begins.as_kind)
+state_laws g w k n (Machine first) (Dropping now) v took gave made law = absurd law
+state_laws g w k n (Machine first) (Recovering now) v took gave made law = absurd law

@@ -1,8 +1,9 @@
--- What a world tells of the input files of a run, by the sources of its nodes at the start and as they are now.
-use Rattle.std.specs.Prelude.{◌≡◌, ℕ, IsTrue, List, Some, slice_get, ⊤}
+-- What a world tells of a run: its input files, by the sources of its nodes at the start and as they are now, and what its stages chose.
+use Rattle.std.specs.Prelude.{◌≡◌, ℕ, IsTrue, List, [], Option, Some, None, slice_get, ⊤}
 use Rattle.stream_model.specs.declared.kind.Kind.TheVariants as kind
 use Rattle.stream_model.specs.Graph.{Graph}
 use Rattle.stream_model.specs.Graph as graph
+use Rattle.stream_model.specs.Linear.{Book}
 use Rattle.stream_model.specs.Node.{World}
 use Rattle.stream_model.specs.Sources.{File}
 use Rattle.stream_io.specs.Counts.{Rose}
@@ -10,12 +11,31 @@ use Rattle.stream_io.specs.State.{SourceState}
 use Rattle.run_account.specs.Account.{Account}
 use Rattle.nodes.specs.declared.node.Node.{Node}
 use Rattle.nodes.specs.declared.node.Node.TheVariants.{Reading}
+use Rattle.nodes.specs.Nodes.{node_picks, node_moves}
 
 -- the file's bytes are told; so many of them were handed out by now; and it tells a fault where the count of failed reads rose
 pub record TellsFile (first now : SourceState) (f : File) : Type 0 where
   pub bytes : first.whole ≡ Some f.bytes
   pub read : f.read ≡ now.given
   pub faulted : Rose first.faults now.faults → IsTrue f.faulted
+
+module _ {S D : Type 0} where
+  -- the moves of node k, where it is a stage whose kind chooses
+  abbrev pub TellsMoves : World → ℕ → Node S D → Type 0
+  TellsMoves w k now = (moves : List ℕ) → node_picks now ≡ Some moves → w.moves k ≡ moves
+
+  -- the moves of all stages whose kinds choose
+  abbrev pub TellsPicks : World → Account (Node S D) → Type 0
+  TellsPicks w a = (k : ℕ) (now : Node S D) → a.nodes k ≡ Some now → TellsMoves w k now
+
+-- the moves of a node, where there is one
+abbrev pub moves_at : {S D : Type 0} → Option (Node S D) → List ℕ
+moves_at None = []
+moves_at (Some x) = node_moves x
+
+-- the world with these plugs and files in which each node has made the moves of the account's
+abbrev pub chosen_world : {S D : Type 0} → Book → (List ℕ → File) → Account (Node S D) → World
+chosen_world book file a = record { book = book; file = file; moves = λ k. moves_at (a.nodes k) }
 
 module _ {S D : Type 0} (sources : S → SourceState) where
   -- a source's file, by its name
@@ -24,5 +44,10 @@ module _ {S D : Type 0} (sources : S → SourceState) where
   TellsNode w n _ _ = ⊤
 
   -- the files of all nodes
-  abbrev pub Tells : Graph → World → Account (Node S D) → Type 0
-  Tells g w a = (k : ℕ) (n : graph.Node) (first now : Node S D) → slice_get g.nodes k ≡ Some n → a.firsts k ≡ Some first → a.nodes k ≡ Some now → TellsNode w n first now
+  abbrev pub TellsFiles : Graph → World → Account (Node S D) → Type 0
+  TellsFiles g w a = (k : ℕ) (n : graph.Node) (first now : Node S D) → slice_get g.nodes k ≡ Some n → a.firsts k ≡ Some first → a.nodes k ≡ Some now → TellsNode w n first now
+
+  -- the files of all nodes, and what they chose
+  pub record Tells (g : Graph) (w : World) (a : Account (Node S D)) : Type 0 where
+    pub files : TellsFiles g w a
+    pub picks : TellsPicks w a

@@ -28,7 +28,7 @@ ghost use Rattle.run_laws.specs.Made.{Materializes};
 ghost use Rattle.run_laws.specs.Runs.{IsRun};
 ghost use Rattle.run_laws.specs.Reads.{IsSourceAt, SentLines, GivesTexts};
 ghost use Rattle.run_laws.specs.Sinks.{TookList, SinkTells, SinkWrote, SentTo, IsSinkAt, IgnoreTells, IsIgnorerAt};
-ghost use Rattle.run_laws.specs.Telling.{Tells};
+ghost use Rattle.run_laws.specs.Telling.{TellsPicks, Tells};
 
 use stream_io::outside::{Drain, Source};
 
@@ -101,11 +101,12 @@ pub fn every_source_reads_little_ahead<S: Source, D: Drain>()
 {}
 
 /// Whatever a folder tells of its files, a source of lines sent texts (`lines`), and what any other node sent on a wire agrees
-/// with what it gives of all outlooks with which what was sent on the wires into it agrees (`others`).
+/// with what it gives of all outlooks with which what was sent on the wires into it agrees, where the world tells what the
+/// stages chose (`others`).
 pub fn every_node_gives_of_what_came<S: Source, D: Drain>()
     ensures lines { (g : Graph) (a : Account (Node S D)) → IsRun S.state D.state g a
         → (u : ℕ) (v : Wire) (n : graph.Node) (name : List ℕ) → slice_get g.wires u ≡ Some v → slice_get g.nodes v.from ≡ Some n → n.kind ≡ kind.Lines name → GivesTexts (a.near u).wire.sent }
-    ensures others { (g : Graph) (w : World) (a : Account (Node S D)) → IsRun S.state D.state g a
+    ensures others { (g : Graph) (w : World) (a : Account (Node S D)) → IsRun S.state D.state g a → TellsPicks w a
         → (sent : ℕ → Outlook) (j : ℕ) (v : Wire) (n : graph.Node) → slice_get g.wires j ≡ Some v → slice_get g.nodes v.from ≡ Some n → ((name : List ℕ) → n.kind ≢ kind.Lines name)
         → ((u : ℕ) (x : Wire) → slice_get g.wires u ≡ Some x → x.to ≡ v.from → AgreesWith (sent u) (a.near u).wire.sent) → AgreesWith (next g w sent j) (a.near j).wire.sent }
 {}

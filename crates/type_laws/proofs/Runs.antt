@@ -15,6 +15,7 @@ use Rattle.run_account.specs.Account.{Account}
 use Rattle.run_account.specs.Seats.{account_of}
 use Rattle.run_laws.specs.Made.{Materializes}
 use Rattle.run_laws.specs.Runs.{IsRun}
+use Rattle.run_laws.specs.Telling.{TellsPicks}
 use Rattle.run_laws.proofs.Agreeing.{given_of}
 use Rattle.run_laws.proofs.AgreeingSources.{source_texts}
 use Rattle.run_laws.proofs.Islands.{island_run}
@@ -34,13 +35,13 @@ rules_join plugs chains nodes g passes =
     (joined nodes g.wires g.chains passes.no_missing passes.no_twice passes.no_open)
 
 module _ {S D : Type 0} (sources : S → SourceState) (drains : D → DrainState) (plugs : List PlugHead) (chains : List ChainDecl) (nodes : List Node) (g : Graph) (w : World) (rank : ℕ → ℕ) where
-  pub run_sends : (a : Account (stage.Node S D)) → IsRun sources drains g a → PassesRules plugs chains nodes g → KeepsPlugTypes plugs w.book → IsRanked g rank
+  pub run_sends : (a : Account (stage.Node S D)) → IsRun sources drains g a → TellsPicks w a → PassesRules plugs chains nodes g → KeepsPlugTypes plugs w.book → IsRanked g rank
       → (i : ℕ) (v : Wire) → slice_get g.wires i ≡ Some v → SendsItsType plugs chains nodes g w i v (a.near i).wire.sent
-  run_sends a run passes keeps ranked =
-      every_wire_sends plugs chains nodes g w rank ranked passes keeps (λ u. (a.near u).wire.sent) (source_texts sources drains g a run) (given_of sources drains g a run w)
+  run_sends a run chose passes keeps ranked =
+      every_wire_sends plugs chains nodes g w rank ranked passes keeps (λ u. (a.near u).wire.sent) (source_texts sources drains g a run) (given_of sources drains g a run w chose)
 
-  pub island_sends : (net : Net (stage.Node S D)) → Settled node_row (node_law sources drains) node_asking node_moves net → Materializes sources g net.firsts net.ends
+  pub island_sends : (net : Net (stage.Node S D)) → Settled node_row (node_law sources drains) node_asking node_moves net → Materializes sources g net.firsts net.ends → TellsPicks w (account_of net)
       → PassesRules plugs chains nodes g → KeepsPlugTypes plugs w.book → IsRanked g rank
       → (i : ℕ) (v : Wire) → slice_get g.wires i ≡ Some v → SendsItsType plugs chains nodes g w i v (wire_at net i).wire.sent
-  island_sends net settled made passes keeps ranked =
-      run_sends (account_of net) (island_run sources drains g net settled made (rules_join plugs chains nodes g passes)) passes keeps ranked
+  island_sends net settled made chose passes keeps ranked =
+      run_sends (account_of net) (island_run sources drains g net settled made (rules_join plugs chains nodes g passes)) chose passes keeps ranked

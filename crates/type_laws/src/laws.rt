@@ -23,8 +23,10 @@ ghost use Rattle.fused_net.specs.Net.{Net, wire_at};
 ghost use Rattle.nodes.specs.Nodes.{node_row, node_law, node_asking, node_moves};
 ghost use Rattle.nodes.specs.declared.node.Node as stage;
 ghost use Rattle.run_account.specs.Account.{Account};
+ghost use Rattle.run_account.specs.Seats.{account_of};
 ghost use Rattle.run_laws.specs.Made.{Materializes};
 ghost use Rattle.run_laws.specs.Runs.{IsRun};
+ghost use Rattle.run_laws.specs.Telling.{TellsPicks};
 ghost use Rattle.blue_core.specs.declared.blueprint.Blueprint.{Blueprint};
 ghost use Rattle.blue_core.specs.declared.blueprint.ChainDecl.{ChainDecl};
 ghost use Rattle.blue_core.specs.declared.blueprint.Node.{Node};
@@ -92,12 +94,12 @@ pub fn every_list_is_typed()
 {}
 
 /// What was sent on each wire of such a graph, at any moment of its run, has only elements of the type that is settled for the
-/// wire, whatever the folder tells of its files (`run`); so it is of an island that was made of it (`island`).
+/// wire, whatever the folder tells of its files, where the world tells what the stages chose (`run`); so it is of an island that was made of it (`island`).
 pub fn every_wire_carries_its_type<S: Source, D: Drain>()
-    ensures run { (plugs : List PlugHead) (chains : List ChainDecl) (nodes : List Node) (g : Graph) (w : World) (rank : ℕ → ℕ) (a : Account (stage.Node S D)) → IsRun S.state D.state g a
+    ensures run { (plugs : List PlugHead) (chains : List ChainDecl) (nodes : List Node) (g : Graph) (w : World) (rank : ℕ → ℕ) (a : Account (stage.Node S D)) → IsRun S.state D.state g a → TellsPicks w a
         → PassesRules plugs chains nodes g → KeepsPlugTypes plugs w.book → IsRanked g rank
         → (i : ℕ) (v : Wire) → slice_get g.wires i ≡ Some v → SendsItsType plugs chains nodes g w i v (a.near i).wire.sent }
     ensures island { (plugs : List PlugHead) (chains : List ChainDecl) (nodes : List Node) (g : Graph) (w : World) (rank : ℕ → ℕ) (net : Net (stage.Node S D)) → Settled node_row (node_law S.state D.state) node_asking node_moves net
-        → Materializes S.state g net.firsts net.ends → PassesRules plugs chains nodes g → KeepsPlugTypes plugs w.book → IsRanked g rank
+        → Materializes S.state g net.firsts net.ends → TellsPicks w (account_of net) → PassesRules plugs chains nodes g → KeepsPlugTypes plugs w.book → IsRanked g rank
         → (i : ℕ) (v : Wire) → slice_get g.wires i ≡ Some v → SendsItsType plugs chains nodes g w i v (wire_at net i).wire.sent }
 {}

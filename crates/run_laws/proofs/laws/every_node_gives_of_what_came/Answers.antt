@@ -5,5 +5,5 @@ use Rattle.run_laws.proofs.laws.every_node_gives_of_what_came.Goals as goal
 pub returns : goal.returns
 returns g c = record {
   lines = λ graph a run. source_texts g.S.Source.state g.D.Drain.state graph a run;
-  others = λ graph w a run. given_of g.S.Source.state g.D.Drain.state graph a run w;
+  others = λ graph w a run chose. given_of g.S.Source.state g.D.Drain.state graph a run w chose;
 }

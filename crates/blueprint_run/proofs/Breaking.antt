@@ -50,7 +50,7 @@ use Rattle.blueprint_run.proofs.Profiles.{reader_in, writer_in, Profile}
 use Rattle.blueprint_run.proofs.Worlds.{world_of}
 use Rattle.blueprint_run.proofs.Handles.{HandleLaws, Between, SourceFacts, SinkFacts, source_facts, sink_facts, is_run, profiles, as_many}
 use Rattle.blueprint_run.proofs.Shutting.{TakenApart, read_grew, faults_grew, writes_grew, file_held, other_files, other_reads, other_writes, other_draws, refused, tells_old}
-use Rattle.blueprint_run.proofs.Drawns.{drawn_of, Draws, draws_all, reads_of}
+use Rattle.blueprint_run.proofs.Drawns.{drawn_of, made_moves, picks_stand, Draws, draws_all, reads_of}
 use Rattle.blueprint_run.proofs.Closing.{WroteLaw, stands_writes}
 
 -- ---- a first part of a text
@@ -193,7 +193,7 @@ module _ {S D : Type 0} (sources : S → SourceState) (drains : D → DrainState
   abbrev g : Graph
   g = graph_of b
 
-  between : Between sources drains b ss ds net
+  abbrev between : Between sources drains b ss ds net
   between = record { places = l.places; seats = l.seats; settled = l.breaks.settled; firsts = l.breaks.firsts; ends = l.breaks.ends }
 
   abbrev left : Account (Node S D)
@@ -215,7 +215,7 @@ module _ {S D : Type 0} (sources : S → SourceState) (drains : D → DrainState
   }
 
   abbrev drawn : Drawn
-  drawn = drawn_of sources net
+  drawn = drawn_of sources l.places net
 
   module _ (tells_was : IsTrue old.tells) where
     drew : Draws sources drains handles b can ss ds net between old mid opens
@@ -266,8 +266,9 @@ module _ {S D : Type 0} (sources : S → SourceState) (drains : D → DrainState
     breaks_files : BreaksFiles old new b
     breaks_files = record {
       drawn = drawn;
+      chose = picks_stand sources drains handles b can ss ds net between old mid opens;
       read = source_breaks;
-      world = world_of nodes drawn;
+      world = world_of nodes drawn (made_moves sources drains handles b can ss ds net between old mid opens);
       has_files = drew.has_files;
       sink = sink_breaks;
       others = other_files sources drains b can final e.readers.items e.writers.items apart old mid _ _ opens new closes;

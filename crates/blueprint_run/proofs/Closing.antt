@@ -17,6 +17,7 @@ use Rattle.stream_model.specs.Graph as graph
 use Rattle.stream_model.specs.Node.{World}
 use Rattle.stream_model.specs.Outlook.{Outlook, End}
 use Rattle.stream_model.specs.Composed.{next, composed, sink_outlook, IsRanked, inputs_of}
+use Rattle.stream_model.specs.Fits.{Fits}
 use Rattle.stream_model.proofs.Compositions.{found_first}
 use Rattle.stream_model.specs.Sources.{File, whole_lines}
 use Rattle.stream_picture.specs.Lawful.{IsLawful}
@@ -46,6 +47,7 @@ use Rattle.nodes.specs.declared.node.Node.TheVariants as node
 use Rattle.interpreter.specs.Parts.{number_of, ends_of}
 use Rattle.interpreter.specs.declared.parts.Link.{Link}
 use Rattle.interpreter.specs.Island as island
+use Rattle.interpreter.specs.Picks.{pick_of}
 use Rattle.run_account.specs.Account.{Account, IsStill}
 use Rattle.run_account.specs.Items.{AgreesWith}
 use Rattle.run_account.specs.Pictures as pictures
@@ -54,7 +56,8 @@ use Rattle.run_account.specs.Seats.{account_of}
 use Rattle.run_account.proofs.Coming.{elements_told}
 use Rattle.run_laws.specs.Made.{Materializes}
 use Rattle.run_laws.specs.Runs.{IsRun}
-use Rattle.run_laws.specs.Telling.{TellsFile, TellsNode, Tells}
+use Rattle.run_laws.specs.Telling.{TellsPicks, Tells}
+use Rattle.run_laws.proofs.Choosing.{chosen_told}
 use Rattle.run_laws.specs.Sinks.{SinkWrote, SentTo, IsSinkAt, IgnoreTells, IsIgnorerAt}
 use Rattle.run_laws.specs.Reads.{IsSourceAt, ReadsAhead, SentLines}
 use Rattle.blue_core.specs.declared.blueprint.Blueprint.{Blueprint}
@@ -75,6 +78,7 @@ use Rattle.type_laws.specs.Checked.{plain, plain_chain, PassesRules}
 use Rattle.type_laws.specs.Plugs.{KeepsPlugTypes}
 use Rattle.type_laws.specs.Sent.{SendsItsType}
 use Rattle.blueprint_run.specs.Carrying.{Carries}
+use Rattle.blueprint_run.specs.Choosing.{picked}
 use Rattle.blueprint_run.proofs.Carried.{silent, silent_keeps, carries}
 use Rattle.blueprint_run.specs.Drawing.{Drawn, IsSource, WasRead, IsWorldOf, DrawsFirst}
 use Rattle.blueprint_run.specs.Leaving.{Leaves}
@@ -92,7 +96,7 @@ use Rattle.blueprint_run.proofs.Places.{all_at, contains_at, contained_at, mappe
 use Rattle.blueprint_run.proofs.Profiles.{some_one, stand_in, writer_there, sinks_filtered, StandsAt, Profile, ended_along}
 use Rattle.blueprint_run.proofs.Handles.{IsSinkInto, HandleLaws, Between, fault_kind, writer_kind, SourceFacts, SinkFacts, source_facts, sink_facts, made, is_run, profiles, as_many, stands_are}
 use Rattle.blueprint_run.proofs.Shutting.{TakenApart, read_grew, faults_grew, writes_grew, file_held, other_files, other_reads, other_writes, other_draws, refused, tells_old}
-use Rattle.blueprint_run.proofs.Drawns.{drawn_of, Draws, draws_all, reads_of}
+use Rattle.blueprint_run.proofs.Drawns.{drawn_of, made_moves, picks_told, picks_stand, Draws, draws_all, reads_of}
 
 -- ---- the wires' counts
 
@@ -221,6 +225,10 @@ module _ {S D : Type 0} (sources : S → SourceState) (drains : D → DrainState
   RestsLaw = (g : Graph) (w : World) (rank : ℕ → ℕ) (a : Account (Node S D)) → IsRun sources drains g a → IsStill g a
       → Tells sources g w a → IsRanked g rank → Rests g w (pictures.counts_of a g) (composed g w)
 
+  abbrev MovesLaw : Type 0
+  MovesLaw = (g : Graph) (w : World) (rank : ℕ → ℕ) (a : Account (Node S D)) → IsRun sources drains g a
+      → Tells sources g w a → IsRanked g rank → Fits g w
+
   abbrev MatchLaw : Type 0
   MatchLaw = (g : Graph) (w : World) (a : Account (Node S D)) (outlook : ℕ → Outlook) → IsRun sources drains g a → IsStill g a
       → SinksMatch g w (pictures.counts_of a g) outlook (λ k. ended_there (a.nodes k))
@@ -253,12 +261,12 @@ module _ {S D : Type 0} (sources : S → SourceState) (drains : D → DrainState
       → PassesRules plugs b.chains.items b.nodes.items g
 
   abbrev TypesLaw : Type 0
-  TypesLaw = (plugs : List PlugHead) (chains : List ChainDecl) (nodes : List blue.Node) (g : Graph) (w : World) (rank : ℕ → ℕ) (a : Account (Node S D)) → IsRun sources drains g a
+  TypesLaw = (plugs : List PlugHead) (chains : List ChainDecl) (nodes : List blue.Node) (g : Graph) (w : World) (rank : ℕ → ℕ) (a : Account (Node S D)) → IsRun sources drains g a → TellsPicks w a
       → PassesRules plugs chains nodes g → KeepsPlugTypes plugs w.book → IsRanked g rank
       → (i : ℕ) (v : Wire) → slice_get g.wires i ≡ Some v → SendsItsType plugs chains nodes g w i v (a.near i).wire.sent
 
   abbrev GivesLaw : Type 0
-  GivesLaw = (g : Graph) (w : World) (a : Account (Node S D)) → IsRun sources drains g a
+  GivesLaw = (g : Graph) (w : World) (a : Account (Node S D)) → IsRun sources drains g a → TellsPicks w a
       → (sent : ℕ → Outlook) (j : ℕ) (v : Wire) (n : graph.Node) → slice_get g.wires j ≡ Some v → slice_get g.nodes v.from ≡ Some n → ((name : List ℕ) → n.kind ≢ kind.Lines name)
       → ((u : ℕ) (x : Wire) → slice_get g.wires u ≡ Some x → x.to ≡ v.from → AgreesWith (sent u) (a.near u).wire.sent) → AgreesWith (next g w sent j) (a.near j).wire.sent
 
@@ -277,6 +285,7 @@ module _ {S D : Type 0} (sources : S → SourceState) (drains : D → DrainState
     pub reads : ReadsLaw
     pub lawful : LawfulLaw
     pub rests : RestsLaw
+    pub moves : MovesLaw
     pub match : MatchLaw
     pub ignorer : IgnorerThere
     pub ignores : IgnoresLaw
@@ -291,7 +300,7 @@ module _ {S D : Type 0} (sources : S → SourceState) (drains : D → DrainState
   abbrev net : Net (Node S D)
   net = l.stops.net
 
-  between : Between sources drains b ss ds net
+  abbrev between : Between sources drains b ss ds net
   between = record { places = l.places; seats = l.seats; settled = l.stops.settled; firsts = l.stops.firsts; ends = l.stops.ends }
 
   abbrev g : Graph
@@ -425,7 +434,7 @@ module _ {S D : Type 0} (sources : S → SourceState) (drains : D → DrainState
 
   -- what the sources drew
   abbrev drawn : Drawn
-  drawn = drawn_of sources net
+  drawn = drawn_of sources l.places net
 
   -- the stand of a sink of lines, by its place among the stands
   stand_of : (i : ℕ) (s : Stand) (n : blue.Node) (file : List ℕ) → slice_get st.end.sinks.items i ≡ Some s → slice_get nodes s.0 ≡ Some n → output_of n.kind ≡ Some file → (f : ASink s.0 file) × (s ≡ (s.0, f.now.count, f.now.end))
@@ -505,7 +514,7 @@ module _ {S D : Type 0} (sources : S → SourceState) (drains : D → DrainState
 
     -- one world that has the files
     abbrev world : World
-    world = world_of nodes drawn
+    world = world_of nodes drawn (made_moves sources drains handles b can ss ds net between old mid opens)
 
     has_files : IsWorldOf nodes drawn world
     has_files = drew.has_files
@@ -548,11 +557,13 @@ module _ {S D : Type 0} (sources : S → SourceState) (drains : D → DrainState
         let le : sent_at st.wires.items (0 + k) ≤ length (composed g w (0 + k)).list = omega (arith, sent, within) in
         le)
 
-    leaves_files : LeavesFiles old new b st.end.sinks.items st.wires.items st.at_rest
+    leaves_files : LeavesFiles old new b st.end.sinks.items (map pick_of st.end.picks.items) st.wires.items st.at_rest
     leaves_files =
         let ranked = laws.ranked b can.plugs can.taken can.fit in
         record {
           drawn = drawn;
+          chose = sym l.stops.picks;
+          fits = λ w is. laws.moves g w ranked.0 left run (world_tells w is) ranked.1;
           read = λ k file is. was_read k file (source_at k file is);
           world = world;
           has_files = has_files;
@@ -609,20 +620,25 @@ module _ {S D : Type 0} (sources : S → SourceState) (drains : D → DrainState
     | inr never ↦ (other_writes sources drains b can net.nodes st.end.readers.items st.end.writers.items apart old mid _ _ opens new closes n never)
   ]
 
+  -- what the nodes chose
+  abbrev moved : ℕ → List ℕ
+  moved = made_moves sources drains handles b can ss ds net between old mid opens
+
   -- what passed each wire is of its type
-  carried : Carries b st.wires.items
+  carried : Carries b st.wires.items drawn.picks
   carried =
-      carries b can st.wires.items (λ u. (left.near u).wire.sent) wire_count
+      carries b can st.wires.items drawn.picks moved (λ u. (left.near u).wire.sent) wire_count
       (λ plugs taken fit i v at.
       let ranks = laws.ranked b plugs taken fit in
-      laws.types plugs b.chains.items nodes g silent ranks.0 left run (laws.fits b plugs taken g fit refl refl refl) (silent_keeps plugs) ranks.1 i v at)
-      (λ w sent j v n at is other came. laws.gives g w left run sent j v n at is other came)
+      laws.types plugs b.chains.items nodes g (silent moved) ranks.0 left run (chosen_told (silent moved).book (silent moved).file left) (laws.fits b plugs taken g fit refl refl refl) (silent_keeps moved plugs) ranks.1 i v at)
+      (λ w has sent j v n at is other came. laws.gives g w left run (picks_told sources drains handles b can ss ds net between old mid opens w has) sent j v n at is other came)
 
-  pub runs_of : (ran : Ran) → ran.sinks.items ≡ st.end.sinks.items → ran.wires.items ≡ st.wires.items → ran.used ≡ st.used → ran.at_rest ≡ st.at_rest → Runs old new b budget ran
-  runs_of ran sinks wires used rest = record {
+  pub runs_of : (ran : Ran) → ran.sinks.items ≡ st.end.sinks.items → ran.picks.items ≡ st.end.picks.items → ran.wires.items ≡ st.wires.items → ran.used ≡ st.used → ran.at_rest ≡ st.at_rest → Runs old new b budget ran
+  runs_of ran sinks chosen wires used rest = record {
     sinks_are = ap (map (λ (s : Stand). s.0)) (sinks ∙ l.stops.sinks) ∙ stands_are sources drains handles b can ss ds net between old mid opens;
+    picks_are = ap picked (ap (map pick_of) chosen ∙ l.stops.picks) ∙ picks_stand sources drains handles b can ss ds net between old mid opens;
     told = tells_old sources drains b can net.nodes st.end.readers.items st.end.writers.items apart old mid _ _ opens new closes;
-    leaves = λ h. rw (sinks, wires, rest) (leaves_files h);
+    leaves = λ h. rw (sinks, chosen, wires, rest) (leaves_files h);
     refusals = refused sources drains b can net.nodes st.end.readers.items st.end.writers.items apart old mid _ _ opens new closes;
     reads = other_reads sources drains b can net.nodes st.end.readers.items st.end.writers.items apart old mid _ _ opens new closes;
     writes = λ i s n file at here shape.
@@ -654,6 +670,6 @@ module _ {S D : Type 0} (sources : S → SourceState) (drains : D → DrainState
     within = rw used l.stops.within;
     spent = λ h. used ∙ l.stops.spent (sym rest ∙ h);
     pays = rw (wires, used) pays;
-    carries = rw wires carried;
+    carries = rw (wires, chosen, l.stops.picks) carried;
     wired = λ some. sinks_wired (subst (λ (x : List Stand). 1 ≤ length x) sinks some);
   }

@@ -1,17 +1,21 @@
--- What the sources of an island of a blueprint had drawn at a moment between two events, and the worlds that tell of it.
-use Rattle.std.proofs.Common.{◌≡◌, ℕ, Bool, List, [], map, slice_get, refl, sym, ap, ◌∙◌, subst}
+-- What the sources of an island of a blueprint had drawn at a moment between two events and what its stages had chosen, and the worlds
+-- that tell of it.
+use Rattle.std.proofs.Common.{◌≡◌, ℕ, ◌+◌, ◌<◌, Bool, List, [], map, length, slice_get, refl, sym, ap, ◌∙◌, subst, arith}
 use Rattle.std.specs.Prelude.{IsTrue, IsSome, Option, Some, None, unwrap_or}
 use Rattle.stream_model.specs.declared.kind.Kind.TheVariants as kind
 use Rattle.stream_model.specs.Graph as graph
 use Rattle.stream_model.specs.Node.{World}
 use Rattle.stream_io.specs.Counts.{Rose, Grew}
 use Rattle.stream_io.specs.State.{FolderState, SourceState, DrainState}
-use Rattle.fused_net.specs.Net.{Net}
+use Rattle.stream_model.proofs.Compositions.{slice_get-below}
+use Rattle.fused_net.specs.Net.{Net, view_of, took, gave}
 use Rattle.nodes.specs.Source.{Lines}
 use Rattle.nodes.specs.declared.node.Node.{Node}
 use Rattle.nodes.specs.declared.node.Node.TheVariants as node
 use Rattle.run_account.specs.Seats.{account_of}
-use Rattle.run_laws.specs.Telling.{TellsFile, TellsNode, Tells}
+use Rattle.interpreter.specs.declared.parts.Seated.{Seated}
+use Rattle.interpreter.specs.Picks.{node_number, picks_of}
+use Rattle.run_laws.specs.Telling.{TellsFile, TellsNode, TellsFiles, TellsPicks, Tells, moves_at}
 use Rattle.blue_core.specs.declared.blueprint.Blueprint.{Blueprint}
 use Rattle.blue_rules.specs.Names.{file_of}
 use Rattle.blue_core.specs.declared.blueprint.Node as blue
@@ -19,12 +23,14 @@ use Rattle.materializer.specs.Built.{CanRun}
 use Rattle.materializer.specs.Files.{inputs_of_nodes, outputs_of_nodes}
 use Rattle.materializer.specs.Graphs.{node_of, graph_of}
 use Rattle.run_files.specs.Opening.{OpensAll}
+use Rattle.blueprint_run.specs.Choosing.{pick_places, picked, HasPicks}
 use Rattle.blueprint_run.specs.Drawing.{Drawn, IsSource, WasRead, IsWorldOf}
+use Rattle.blueprint_run.proofs.Choosing.{node_chooses, picked_along, told_along, has_along}
 use Rattle.blueprint_run.proofs.Counts.{rose_by, rose_from_none, is_positive, positive, above_none, not_positive, some_of}
 use Rattle.blueprint_run.proofs.Apart.{one_file}
 use Rattle.blueprint_run.proofs.Worlds.{world_of, world_has}
-use Rattle.blueprint_run.proofs.Places.{unmapped_at, place_one}
-use Rattle.blueprint_run.proofs.Handles.{HandleLaws, Between, SourceFacts, source_facts, reading_same}
+use Rattle.blueprint_run.proofs.Places.{mapped_at, unmapped_at, place_of, place_one}
+use Rattle.blueprint_run.proofs.Handles.{HandleLaws, Between, SourceFacts, source_facts, reading_same, made, as_many}
 
 -- the state of the source at a place, where one is there
 abbrev blank : SourceState
@@ -46,11 +52,12 @@ tells_node : {S D : Type 0} (sources : S → SourceState) (w : World) (n : graph
 tells_node sources w n (node.Reading a) (node.Reading c) tells = λ name shape. tells a c name refl refl shape
 tells_node sources w n first now tells = tt
 
-abbrev pub drawn_of : {S D : Type 0} → (S → SourceState) → Net (Node S D) → Drawn
-drawn_of sources net = record {
+abbrev pub drawn_of : {S D : Type 0} → (S → SourceState) → List (Seated S D) → Net (Node S D) → Drawn
+drawn_of sources places net = record {
   bytes = λ k. unwrap_or (source_in sources (slice_get net.firsts k)).whole [];
   given = λ k. (source_in sources (slice_get net.nodes k)).given;
   faulted = λ k. is_positive (source_in sources (slice_get net.nodes k)).faults;
+  picks = picks_of (map node_number places) net.nodes;
 }
 
 module _ {S D : Type 0} (sources : S → SourceState) (drains : D → DrainState) (handles : HandleLaws sources drains) (b : Blueprint) (can : CanRun b) (ss : List S) (ds : List D) (net : Net (Node S D)) (l : Between sources drains b ss ds net)
@@ -62,7 +69,33 @@ module _ {S D : Type 0} (sources : S → SourceState) (drains : D → DrainState
   Source k file = SourceFacts sources drains handles b can ss ds net l old mid opens k file
 
   abbrev drawn : Drawn
-  drawn = drawn_of sources net
+  drawn = drawn_of sources l.places net
+
+  -- the moves of each node
+  abbrev pub made_moves : ℕ → List ℕ
+  made_moves k = moves_at (slice_get net.nodes k)
+
+  -- a world that has the moves tells of every stage
+  pub picks_told : (w : World) → HasPicks drawn.picks w → TellsPicks w (account_of net)
+  picks_told w has k now at moves is =
+      let none : 0 + k ≡ k = omega arith in
+      ap w.moves (sym none) ∙ told_along 0 nodes ss ds l.places net.nodes l.seats (as_many sources drains handles b can ss ds net l old mid opens) w has k now moves at is
+
+  -- and so has one in which each node made its own
+  pub has_made : (w : World) → ((k : ℕ) → w.moves k ≡ made_moves k) → HasPicks drawn.picks w
+  has_made w made =
+      has_along 0 nodes ss ds l.places net.nodes l.seats w (λ i x at. let none : 0 + i ≡ i = omega arith in ap w.moves none ∙ made i ∙ ap moves_at at)
+
+  -- there is a list of moves for each stage whose kind chooses, and no other
+  pub picks_stand : picked drawn.picks ≡ pick_places 0 nodes
+  picks_stand =
+      picked_along 0 nodes ss ds l.places net.nodes l.seats (as_many sources drains handles b can ss ds net l old mid opens)
+      (λ i n x at here.
+      let below : i < length net.nodes = slice_get-below net.nodes i x here in
+      let f = place_of net.firsts i (subst (λ m. i < m) (sym l.settled.each_first) below) in
+      let law = (l.settled.minded i below x f.0 here f.1).law_holds in
+      node_chooses sources drains i n f.0 x (view_of net i) (took net i) (gave net i)
+      ((made sources drains handles b can ss ds net l old mid opens).each_node i (node_of n) f.0 (mapped_at node_of nodes i n at) f.1) law)
 
   -- what a source drew of its file, which was there
   pub record DrawsOf (k : ℕ) (file : List ℕ) (f : Source k file) : Type 0 where
@@ -77,7 +110,7 @@ module _ {S D : Type 0} (sources : S → SourceState) (drains : D → DrainState
   pub record Draws : Type 0 where
     pub source : (k : ℕ) (file : List ℕ) (f : Source k file) → DrawsOf k file f
     pub tells : (w : World) → IsWorldOf nodes drawn w → Tells sources (graph_of b) w (account_of net)
-    pub has_files : IsWorldOf nodes drawn (world_of nodes drawn)
+    pub has_files : IsWorldOf nodes drawn (world_of nodes drawn made_moves)
 
   module _ (tells_was : IsTrue old.tells) where
     draws_of : (k : ℕ) (file : List ℕ) (f : Source k file) → DrawsOf k file f
@@ -114,19 +147,23 @@ module _ {S D : Type 0} (sources : S → SourceState) (drains : D → DrainState
           faulted = λ rose. subst IsTrue (sym d.faulted) (positive (sources f.now.reader.source).faults (rose_from_none (sources f.first.reader.source).faults (sources f.now.reader.source).faults f.start.faults rose));
         })
 
-    world_tells : (w : World) → IsWorldOf nodes drawn w → Tells sources (graph_of b) w (account_of net)
-    world_tells w is k n first now gi fi ni = tells_node sources w n first now (λ a c name fa nc shape.
+    files_told : (w : World) → IsWorldOf nodes drawn w → TellsFiles sources (graph_of b) w (account_of net)
+    files_told w is k n first now gi fi ni = tells_node sources w n first now (λ a c name fa nc shape.
         let m = unmapped_at node_of nodes k n gi in
         let place : IsSource nodes k name = record { node = m.0; at = m.1.0; kind_is = ap (λ (x : graph.Node). x.kind) (sym m.1.1) ∙ shape } in
         let f = source_facts sources drains handles b can ss ds net l old mid opens k name place in
         let first_is : f.first ≡ a = reading_same f.first a first (place_one net.firsts k first (node.Reading f.first) fi f.there.at_first) fa in
         let now_is : f.now ≡ c = reading_same f.now c now (place_one net.nodes k now (node.Reading f.now) ni f.there.at_last) nc in
         subst (λ (x : Lines S). TellsFile (sources x.reader.source) (sources c.reader.source) (w.file name)) first_is
-        (subst (λ (x : Lines S). TellsFile (sources f.first.reader.source) (sources x.reader.source) (w.file name)) now_is (file_told k name f w (is k name place))))
+        (subst (λ (x : Lines S). TellsFile (sources f.first.reader.source) (sources x.reader.source) (w.file name)) now_is (file_told k name f w (is.files k name place))))
+
+    world_tells : (w : World) → IsWorldOf nodes drawn w → Tells sources (graph_of b) w (account_of net)
+    world_tells w is = record { files = files_told w is; picks = picks_told w is.moves }
 
     pub draws_all : Draws
     draws_all = record {
       source = draws_of;
       tells = world_tells;
-      has_files = world_has nodes drawn (λ i k m n name at here p q. one_file b can.plugs can.taken can.fit i k m n name at here (ap file_of p) (ap file_of q));
+      has_files = world_has nodes drawn made_moves (λ i k m n name at here p q. one_file b can.plugs can.taken can.fit i k m n name at here (ap file_of p) (ap file_of q))
+          (has_made (world_of nodes drawn made_moves) (λ k. refl));
     }

@@ -7,6 +7,7 @@ pub mod Shutting
 pub mod Stopping
 pub mod Units
 pub mod Worlds
+pub mod Choosing
 pub mod Carried
 pub mod Drawns
 pub mod Closing

@@ -14,7 +14,7 @@ use Rattle.stream_picture.specs.View.{outputs_of}
 use Rattle.stream_picture.specs.OneWay as oneway
 use Rattle.stream_io.specs.State.{SourceState, DrainState}
 use Rattle.stage_linear.specs.States.{IsLinear}
-use Rattle.stage_state.specs.States.{IsStateful}
+use Rattle.stage_state.specs.States.{IsMachine}
 use Rattle.stage_in.specs.Logics.{IsFanIn}
 use Rattle.stage_out.specs.OutLogics.{IsOut}
 use Rattle.nodes.specs.Nodes.{node_law}
@@ -115,7 +115,7 @@ linear_inner (kind.Limit n) h = record { input = refl; output = refl; outputs = 
 linear_inner (kind.MapConcat x) h = record { input = refl; output = refl; outputs = refl }
 linear_inner _ h = absurd h
 
-state_inner : (shape : Kind) → IsStateful shape → IsInner shape
+state_inner : (shape : Kind) → IsMachine shape → IsInner shape
 state_inner (kind.Grouped n) h = record { input = refl; output = refl; outputs = refl }
 state_inner (kind.Fold o) h = record { input = refl; output = refl; outputs = refl }
 state_inner (kind.Reduce r) h = record { input = refl; output = refl; outputs = refl }
@@ -128,6 +128,7 @@ fan_in_inner (kind.Concat n) h = record { input = refl; output = refl; outputs =
 fan_in_inner (kind.Interleave n s) h = record { input = refl; output = refl; outputs = refl }
 fan_in_inner kind.MergeSorted h = record { input = refl; output = refl; outputs = refl }
 fan_in_inner kind.Zip h = record { input = refl; output = refl; outputs = refl }
+fan_in_inner (kind.Merge n) h = record { input = refl; output = refl; outputs = refl }
 fan_in_inner _ h = absurd h
 
 some_outputs : (n : ℕ) → 2 ≤ n → (n == 0) ≡ false
@@ -137,6 +138,7 @@ fan_out_inner : (shape : Kind) → IsOut shape → IsInner shape
 fan_out_inner (kind.Broadcast n) h = record { input = refl; output = refl; outputs = some_outputs n h.0 }
 fan_out_inner (kind.Partition n f) h = record { input = refl; output = refl; outputs = some_outputs n h.0 }
 fan_out_inner kind.Unzip h = record { input = refl; output = refl; outputs = refl }
+fan_out_inner (kind.Balance n) h = record { input = refl; output = refl; outputs = some_outputs n h.0 }
 fan_out_inner _ h = absurd h
 
 maker_inner : (shape : Kind) → IsMaker shape → IsInner shape

@@ -14,6 +14,7 @@ use Rattle.interpreter.specs.declared.island.IslandEnd.{IslandEnd}
 use Rattle.interpreter.specs.declared.parts.Link.{Link}
 use Rattle.interpreter.specs.declared.parts.Seated.{Seated}
 use Rattle.interpreter.specs.Parts.{ends_of, number_of, AllBecome}
+use Rattle.interpreter.specs.Picks.{node_number, pick_of, picks_of}
 use Rattle.interpreter.specs.Island.{Keeps, counts_of, sinks_of, readers_of, writers_of}
 use Rattle.blueprint_run.specs.Leaving.{Stops, Breaks}
 use Rattle.blueprint_run.specs.declared.run.Stopped.{Stopped}
@@ -30,15 +31,16 @@ spent_by used budget h never = elim (less_or_same used budget h) [ inl l ↦ abs
 paid_for : (a b c : ℕ) → a + b ≤ c → b ≤ c
 paid_for a b c h = omega (arith, h)
 
-pub stops_of : {S D : Type 0} (sources : S → SourceState) (drains : D → DrainState) (places : List (Seated S D)) (links : List Link) (budget : ℕ) (old net : Net (Node S D)) (numbers : List ℕ) (s : Stopped S D) → Keeps sources drains net s.used → Uses old net s.used → GoesOn old net → AllBecome places old.firsts → old.ends ≡ map ends_of links → numbers ≡ map number_of links
-    → s.end.sinks.items ≡ sinks_of net.nodes → s.wires.items ≡ map (λ (w : ℕ × WireCount). w.1) (counts_of numbers net.wires) → s.end.readers.items ≡ readers_of net.nodes → s.end.writers.items ≡ writers_of net.nodes
+pub stops_of : {S D : Type 0} (sources : S → SourceState) (drains : D → DrainState) (places : List (Seated S D)) (links : List Link) (budget : ℕ) (old net : Net (Node S D)) (numbers at : List ℕ) (s : Stopped S D) → Keeps sources drains net s.used → Uses old net s.used → GoesOn old net → AllBecome places old.firsts → old.ends ≡ map ends_of links → numbers ≡ map number_of links → at ≡ map node_number places
+    → s.end.sinks.items ≡ sinks_of net.nodes → map pick_of s.end.picks.items ≡ picks_of at net.nodes → s.wires.items ≡ map (λ (w : ℕ × WireCount). w.1) (counts_of numbers net.wires) → s.end.readers.items ≡ readers_of net.nodes → s.end.writers.items ≡ writers_of net.nodes
     → s.used ≤ budget → (s.used < budget → net.queue ≡ []) → (IsTrue s.at_rest ↔ (net.queue ≡ [])) → Stops sources drains places links budget s
-stops_of sources drains places links budget old net numbers s keeps uses on firsts ends named sinks wires readers writers within less rest = record {
+stops_of sources drains places links budget old net numbers at s keeps uses on firsts ends named seated sinks picks wires readers writers within less rest = record {
   net = net;
   settled = keeps.laws;
   firsts = subst (λ f. AllBecome places f) (sym on.firsts) firsts;
   ends = on.ends ∙ ends;
   sinks = sinks;
+  picks = picks ∙ ap (λ n. picks_of n net.nodes) seated;
   wires = wires ∙ ap (λ n. map (λ (w : ℕ × WireCount). w.1) (counts_of n net.wires)) named;
   readers = readers;
   writers = writers;

@@ -12,6 +12,7 @@ use Rattle.stream_model.specs.Sources.{File}
 use Rattle.stream_picture.specs.Shape.{Joins, Walk, stay, along, IsPolytree}
 use Rattle.blue_core.specs.declared.blueprint.Node as blue
 use Rattle.blue_walks.specs.Forest.{wiring}
+use Rattle.blueprint_run.specs.Choosing.{HasPicks}
 use Rattle.blueprint_run.specs.Drawing.{Drawn, IsSource, IsWorldOf}
 
 -- a kind that reads the file of that name
@@ -62,15 +63,19 @@ file_found (m ∷ ms) j (suc k) n d name at is one =
     by_other (reads m.kind name) (file_at d j) (file_of ms (j + 1) d name) (λ e. let never : zero ≡ suc k = one 0 m refl (reads_same m.kind name e) in omega (arith, never))
     ∙ file_found ms (j + 1) k n d name at is (λ i x a b. suc_one i k (one (suc i) x a b)) ∙ ap (file_at d) place
 
--- the world of a run
-abbrev pub world_of : List blue.Node → Drawn → World
-world_of nodes d = record { book = book; file = file_of nodes 0 d; moves = λ k. [] }
+-- the world of a run in which the nodes made these moves
+abbrev pub world_of : List blue.Node → Drawn → (ℕ → List ℕ) → World
+world_of nodes d moves = record { book = book; file = file_of nodes 0 d; moves = moves }
 
 -- has each file as it was read, where no two sources have one
-pub world_has : (nodes : List blue.Node) (d : Drawn) → ((i k : ℕ) (m n : blue.Node) (name : List ℕ) → slice_get nodes i ≡ Some m → slice_get nodes k ≡ Some n → m.kind ≡ kind.Lines name → n.kind ≡ kind.Lines name → i ≡ k) → IsWorldOf nodes d (world_of nodes d)
-world_has nodes d one k name is =
-    let place : 0 + k ≡ k = omega arith in
-    file_found nodes 0 k is.node d name is.at is.kind_is (λ i m at shape. one i k m is.node name at is.at shape is.kind_is) ∙ ap (file_at d) place
+pub world_has : (nodes : List blue.Node) (d : Drawn) (moves : ℕ → List ℕ) → ((i k : ℕ) (m n : blue.Node) (name : List ℕ) → slice_get nodes i ≡ Some m → slice_get nodes k ≡ Some n → m.kind ≡ kind.Lines name → n.kind ≡ kind.Lines name → i ≡ k) → HasPicks d.picks (world_of nodes d moves)
+    → IsWorldOf nodes d (world_of nodes d moves)
+world_has nodes d moves one picks = record {
+  files = λ k name is.
+      let place : 0 + k ≡ k = omega arith in
+      file_found nodes 0 k is.node d name is.at is.kind_is (λ i m at shape. one i k m is.node name at is.at shape is.kind_is) ∙ ap (file_at d) place;
+  moves = picks;
+}
 
 -- ---- walks go by the wires alone
 

@@ -1,4 +1,4 @@
--- What the sources of a run drew of their files.
+-- What the sources of a run drew of their files, and what its stages chose.
 use Rattle.std.specs.Prelude.{◌≡◌, ℕ, ◌+◌, ◌≤◌, ◌⊎◌, Bool, false, IsTrue, List, ◌++◌, length, slice_get, Some}
 use Rattle.elem_core.specs.Text.{lines}
 use Rattle.blue_core.specs.declared.blueprint.Node.{Node}
@@ -8,12 +8,16 @@ use Rattle.stream_io.specs.Counts.{Rose, Grew}
 use Rattle.stream_io.specs.State.{FolderState}
 use Rattle.stream_io.specs.Reading.{FirstTooLong}
 use Rattle.nodes.specs.Drawing.{ended_lines}
+use Rattle.interpreter.specs.Picks.{Pick}
+use Rattle.blueprint_run.specs.Choosing.{HasPicks}
 
--- of the source that is node k: the bytes of its file, how many of them were read, and whether a read failed
+-- of the source that is node k: the bytes of its file, how many of them were read, and whether a read failed; and the moves of
+-- the stages that choose
 pub record Drawn : Type 0 where
   pub bytes : ℕ → List ℕ
   pub given : ℕ → ℕ
   pub faulted : ℕ → Bool
+  pub picks : List Pick
 
 -- node k is a source of the lines of that file
 pub record IsSource (nodes : List Node) (k : ℕ) (file : List ℕ) : Type 0 where
@@ -32,9 +36,11 @@ pub record WasRead (old new : FolderState) (file bytes : List ℕ) (given : ℕ)
 abbrev pub WereRead : FolderState → FolderState → List Node → Drawn → Type 0
 WereRead old new nodes d = (k : ℕ) (file : List ℕ) → IsSource nodes k file → WasRead old new file (d.bytes k) (d.given k) (d.faulted k)
 
--- the world has each input file as it was read
-abbrev pub IsWorldOf : List Node → Drawn → World → Type 0
-IsWorldOf nodes d w = (k : ℕ) (file : List ℕ) → IsSource nodes k file → w.file file ≡ record { bytes = d.bytes k; read = d.given k; faulted = d.faulted k }
+-- The world has each input file as it was read, and of each stage that chose the moves that it made. Of a run whose stages have no
+-- choice it need have the files alone.
+pub record IsWorldOf (nodes : List Node) (d : Drawn) (w : World) : Type 0 where
+  pub files : (k : ℕ) (file : List ℕ) → IsSource nodes k file → w.file file ≡ record { bytes = d.bytes k; read = d.given k; faulted = d.faulted k }
+  pub moves : HasPicks d.picks w
 
 -- So many lines were drawn, the first of the file, and no more was read than those and one piece; or than one longest line and
 -- its LF besides, where a read failed or the next line is too long.

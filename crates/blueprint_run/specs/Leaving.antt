@@ -12,6 +12,7 @@ use Rattle.interpreter.specs.declared.island.IslandEnd.{IslandEnd}
 use Rattle.interpreter.specs.declared.parts.Link.{Link}
 use Rattle.interpreter.specs.declared.parts.Seated.{Seated}
 use Rattle.interpreter.specs.Parts.{AllBecome, ends_of, number_of}
+use Rattle.interpreter.specs.Picks.{node_number, pick_of, picks_of}
 use Rattle.interpreter.specs.Island.{counts_of, sinks_of, readers_of, writers_of}
 use Rattle.materializer.specs.Seats.{AreSeats, links_from}
 use Rattle.blue_check.specs.Wires.{blueprint_wires}
@@ -27,6 +28,7 @@ pub record Stops {S D : Type 0} (sources : S → SourceState) (drains : D → Dr
   pub firsts : AllBecome places net.firsts
   pub ends : net.ends ≡ map ends_of links
   pub sinks : s.end.sinks.items ≡ sinks_of net.nodes
+  pub picks : map pick_of s.end.picks.items ≡ picks_of (map node_number places) net.nodes
   pub wires : s.wires.items ≡ map (λ (w : ℕ × WireCount). w.1) (counts_of (map number_of links) net.wires)
   pub readers : s.end.readers.items ≡ readers_of net.nodes
   pub writers : s.end.writers.items ≡ writers_of net.nodes

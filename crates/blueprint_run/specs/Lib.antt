@@ -1,3 +1,4 @@
+pub mod Choosing
 pub mod Drawing
 pub mod Stands
 pub mod Units

@@ -14,6 +14,7 @@ use Rattle.stream_model.specs.declared.outcome.EndState.TheVariants.{Unended, Wr
 use Rattle.stream_model.specs.Graph.{Wire}
 use Rattle.stream_model.specs.Node.{World}
 use Rattle.stream_model.specs.Composed.{composed, sink_outlook}
+use Rattle.stream_model.specs.Fits.{Fits}
 use Rattle.stream_model.specs.Sources.{whole_lines}
 use Rattle.stream_picture.specs.Lawful.{IsLawful}
 use Rattle.stream_picture.specs.Rests.{Rests, SinksMatch}
@@ -25,15 +26,17 @@ use Rattle.materializer.specs.Graphs.{node_of, graph_of}
 use Rattle.materializer.specs.Files.{output_of, inputs_of_nodes, outputs_of_nodes}
 use Rattle.run_files.specs.Quiet.{Quiet}
 use Rattle.run_files.specs.Opening.{GivesUp}
+use Rattle.interpreter.specs.Picks.{Pick, pick_of}
 use Rattle.blueprint_run.specs.Carrying.{Carries}
+use Rattle.blueprint_run.specs.Choosing.{pick_places, picked}
 use Rattle.blueprint_run.specs.Drawing.{Drawn, IsSource, WasRead, WereRead, IsWorldOf, DrawsFirst}
 use Rattle.blueprint_run.specs.Stands.{Stand, sink_places, has_ended_at, is_write_fault, is_unended}
 use Rattle.blueprint_run.specs.Units.{Pays}
 use Rattle.blueprint_run.specs.declared.run.Ran.{Ran}
 
 -- What is told of the sink with a file that is node k, which stands so: it wrote what the composed outlook of the sink lets it
--- write, by every world that has the input files as they were read, and so many whole lines. Where the folder still tells its
--- files, the sink's file holds just that. To a sink of lines as many
+-- write, by every world that has the input files as they were read and what the stages chose, and so many whole lines. Where the
+-- folder still tells its files, the sink's file holds just that. To a sink of lines as many
 -- elements were sent, or one more while it has not ended, and just one more where a write failed; where no event was left no
 -- more than it wrote.
 pub record SinkLeaves (new : FolderState) (b : Blueprint) (d : Drawn) (wires : List WireCount) (at_rest : Bool) (k : ℕ) (n : Node) (file : List ℕ) (count : ℕ) (end : EndState) : Type 0 where
@@ -54,10 +57,12 @@ pub record IgnoreLeaves (b : Blueprint) (d : Drawn) (wires : List WireCount) (k 
 -- The inputs were read, and each sink wrote what its outlook lets it write. No other file is changed, where the folder still tells
 -- its files. The lines that were
 -- drawn are the first of each input, and little more than those was read. The picture is lawful; and where no event was left it
--- rests, and a sink's input is shut exactly where the sink has ended; in a polytree every sink has ended then. There is a world
--- that has the input files as they were read.
-pub record LeavesFiles (old new : FolderState) (b : Blueprint) (sinks : List Stand) (wires : List WireCount) (at_rest : Bool) : Type 0 where
+-- rests, and a sink's input is shut exactly where the sink has ended; in a polytree every sink has ended then. The stages chose
+-- these moves, which fit what may come in on their inputs. There is a world that has the input files as they were read, and these
+-- moves.
+pub record LeavesFiles (old new : FolderState) (b : Blueprint) (sinks : List Stand) (picks : List Pick) (wires : List WireCount) (at_rest : Bool) : Type 0 where
   pub drawn : Drawn
+  pub chose : drawn.picks ≡ picks
   pub read : WereRead old new b.nodes.items drawn
   pub world : World
   pub has_files : IsWorldOf b.nodes.items drawn world
@@ -67,6 +72,7 @@ pub record LeavesFiles (old new : FolderState) (b : Blueprint) (sinks : List Sta
   pub others : IsTrue new.tells → (n : List ℕ) → ¬ (Contains (outputs_of_nodes b.nodes.items) n) → new.file n ≡ old.file n
   pub draws : (k : ℕ) (file : List ℕ) (u : ℕ) (v : Wire) → IsSource b.nodes.items k file → slice_get (blueprint_wires b) u ≡ Some v → v.from ≡ k
       → DrawsFirst (drawn.bytes k) (drawn.given k) (drawn.faulted k) (sent_at wires u)
+  pub fits : (w : World) → IsWorldOf b.nodes.items drawn w → Fits (graph_of b) w
   -- the picture, by the composed outlooks
   pub lawful : (w : World) → IsWorldOf b.nodes.items drawn w → IsLawful (graph_of b) w wires (composed (graph_of b) w)
   pub rest : IsTrue at_rest → (w : World) → IsWorldOf b.nodes.items drawn w → Rests (graph_of b) w wires (composed (graph_of b) w)
@@ -86,11 +92,13 @@ pub record SomeWriteRose (old new : FolderState) (b : Blueprint) : Type 0 where
   pub output : Contains (outputs_of_nodes b.nodes.items) file
   pub rose : Rose (old.wfaults file) (new.wfaults file)
 
--- what is told of a run where the folder told its files before it, and how its counts rose
+-- What is told of a run where the folder told its files before it, and how its counts rose. There is a list of moves for each
+-- stage whose kind chooses, in order of nodes, and no other.
 pub record Runs (old new : FolderState) (b : Blueprint) (budget : ℕ) (ran : Ran) : Type 0 where
   pub sinks_are : map (λ (s : Stand). s.0) ran.sinks.items ≡ sink_places 0 b.nodes.items
+  pub picks_are : picked (map pick_of ran.picks.items) ≡ pick_places 0 b.nodes.items
   pub told : IsTrue new.tells → IsTrue old.tells
-  pub leaves : IsTrue old.tells → LeavesFiles old new b ran.sinks.items ran.wires.items ran.at_rest
+  pub leaves : IsTrue old.tells → LeavesFiles old new b ran.sinks.items (map pick_of ran.picks.items) ran.wires.items ran.at_rest
   pub refusals : Quiet old.refusals new.refusals
   pub reads : (n : List ℕ) → ¬ (Contains (inputs_of_nodes b.nodes.items) n) → Grew (old.rfaults n) 0 (new.rfaults n)
   pub writes : (i : ℕ) (s : Stand) (n : Node) (file : List ℕ) → slice_get ran.sinks.items i ≡ Some s → slice_get b.nodes.items s.0 ≡ Some n → output_of n.kind ≡ Some file → WritesOf s.2 (old.wfaults file) (new.wfaults file)
@@ -101,7 +109,7 @@ pub record Runs (old new : FolderState) (b : Blueprint) (budget : ℕ) (ran : Ra
   pub within : ran.used ≤ budget
   pub spent : ran.at_rest ≡ false → ran.used ≡ budget
   pub pays : Pays b ran.wires.items ran.used
-  pub carries : Carries b ran.wires.items
+  pub carries : Carries b ran.wires.items (map pick_of ran.picks.items)
   pub wired : 1 ≤ length ran.sinks.items → 1 ≤ length (blueprint_wires b)
 
 -- A source of a run in which memory was wanting: its file was there with these bytes, so many of them were read, and at most one
@@ -113,7 +121,7 @@ pub record WasReadOn (old new : FolderState) (file bytes : List ℕ) (given : �
   pub read : WasRead old new file bytes more faulted
 
 -- What is told of the sink with a file that is node k, in a run in which memory was wanting: it stood so, and wrote what the composed
--- outlook of the sink lets it write, by every world that has the input files as they were read; so that is a first part of the text
+-- outlook of the sink lets it write, by every world that has the input files as they were read and what the stages chose; so that is a first part of the text
 -- of all that may pass. Where the folder still tells its files, the sink's file holds just that.
 pub record SinkBreaks (old new : FolderState) (b : Blueprint) (d : Drawn) (k : ℕ) (n : Node) (file : List ℕ) : Type 0 where
   pub held : List ℕ
@@ -123,9 +131,11 @@ pub record SinkBreaks (old new : FolderState) (b : Blueprint) (d : Drawn) (k : �
   pub part : (w : World) → IsWorldOf b.nodes.items d w → IsPrefix held (text_lines (sink_outlook (graph_of b) w k (node_of n)).list)
   pub writes : WritesOf end (old.wfaults file) (new.wfaults file)
 
--- the inputs were read, and each sink wrote a first part of what it may write; no other file is changed
+-- The inputs were read, and each sink wrote a first part of what it may write; no other file is changed. What the stages chose is
+-- not answered; there is a list of moves for each stage whose kind chooses, and no other.
 pub record BreaksFiles (old new : FolderState) (b : Blueprint) : Type 0 where
   pub drawn : Drawn
+  pub chose : picked drawn.picks ≡ pick_places 0 b.nodes.items
   pub read : (k : ℕ) (file : List ℕ) → IsSource b.nodes.items k file → WasReadOn old new file (drawn.bytes k) (drawn.given k) (drawn.faulted k)
   pub world : World
   pub has_files : IsWorldOf b.nodes.items drawn world

@@ -3,6 +3,7 @@ ghost use Rattle.std.specs.Prelude.{◌≡◌, ◌≤◌, ℕ, List, IfOk, IfErr
 ghost use Rattle.blue_core.specs.declared.blueprint.Blueprint as plan;
 ghost use Rattle.stream_io.specs.State.{FolderState};
 ghost use Rattle.interpreter.specs.Island.{counts_of, sinks_of, readers_of, writers_of};
+ghost use Rattle.interpreter.specs.Picks.{pick_of, picks_of};
 ghost use Rattle.interpreter.specs.Parts.{AreParts};
 ghost use Rattle.materializer.specs.Built.{CanRun};
 ghost use Rattle.materializer.specs.Files.{inputs_of_nodes, outputs_of_nodes};
@@ -20,7 +21,9 @@ use materializer::laws::{
 };
 use materializer::names::{input_names, output_names};
 use materializer::parts::parts_of;
-use picture_laws::laws::{a_picture_without_events_rests, every_picture_is_lawful};
+use picture_laws::laws::{
+    a_picture_without_events_rests, every_move_fits, every_picture_is_lawful,
+};
 use run_files::close::close_all;
 use run_files::open::{OpenEnd, Opened, open_all};
 use run_laws::laws::{
@@ -30,15 +33,16 @@ use run_laws::laws::{
 };
 use std::alloc::{AllocError, Global};
 use stream_io::outside::{Drain, Folder, Source};
-use stream_model::outcome::{EndState, WireCount};
+use stream_model::outcome::{EndState, PickList, WireCount};
 use stream_picture::laws::polytrees_end;
 use type_laws::laws::{every_wire_carries_its_type, fit_blueprints_pass_the_rules};
 
-/// What a run came to: of each sink, in order of nodes, its node, how many whole lines it wrote and how it stands; what each
-/// wire carried; how many units were used, and whether no event was left.
+/// What a run came to: of each sink, in order of nodes, its node, how many whole lines it wrote and how it stands; the moves of
+/// each stage whose kind chooses, in order of nodes; what each wire carried; how many units were used, and whether no event was left.
 #[derive(Drop)]
 pub struct Ran {
     pub sinks: Vec<(u32, u64, EndState)>,
+    pub picks: Vec<PickList>,
     pub wires: Vec<WireCount>,
     pub used: u32,
     pub at_rest: bool,
@@ -76,6 +80,7 @@ enum Broken<S: Source, D: Drain> {
 /// Takes an island apart, which takes no memory.
 fn take_apart<S: Source, D: Drain>(island: Island<S, D>) -> IslandEnd<S, D>
     ensures sinks { result.sinks.items ≡ sinks_of island.net.nodes }
+    ensures picks { map pick_of result.picks.items ≡ picks_of island.places island.net.nodes }
     ensures wires { result.wires.items ≡ counts_of island.numbers island.net.wires }
     ensures readers { result.readers.items ≡ readers_of island.net.nodes }
     ensures writers { result.writers.items ≡ writers_of island.net.nodes }
@@ -152,6 +157,7 @@ fn close<F: Folder>(folder: &mut F, stopped: Stopped<F::Inp, F::Out>) -> Ran
     every_source_reads_little_ahead::<F::Inp, F::Out>();
     every_picture_is_lawful::<F::Inp, F::Out>();
     a_picture_without_events_rests::<F::Inp, F::Out>();
+    every_move_fits::<F::Inp, F::Out>();
     polytrees_end();
     fit_blueprints_are_whole();
     fit_blueprints_pass_the_rules();
@@ -168,6 +174,7 @@ fn close<F: Folder>(folder: &mut F, stopped: Stopped<F::Inp, F::Out>) -> Ran
     close_all(folder, end.readers, end.writers);
     Ran {
         sinks: end.sinks,
+        picks: end.picks,
         wires,
         used,
         at_rest,

@@ -2,15 +2,16 @@
 use Rattle.std.proofs.Common.{◌≡◌, ℕ, zero, suc, ◌+◌, List, [], ◌∷◌, length, Some, None, refl, ap, sym, ◌∙◌, subst}
 use Rattle.std.specs.Prelude.{slice_get}
 use Rattle.stream_model.specs.declared.kind.Kind.{Kind}
-use Rattle.stream_model.specs.declared.kind.Kind.TheVariants.{Lines, Range, Empty, Failed, Map, Filter, FilterNot, TakeWhile, DropWhile, Take, Drop, Limit, MapConcat, Grouped, Fold, Reduce, Scan, Buffer, Concat, Interleave, MergeSorted, Zip, Broadcast, Partition, Unzip, ToLines, Head, Last}
+use Rattle.stream_model.specs.declared.kind.Kind.TheVariants.{Lines, Range, Empty, Failed, Map, Filter, FilterNot, TakeWhile, DropWhile, Take, Drop, Limit, MapConcat, Grouped, Fold, Reduce, Scan, Buffer, Merge, Concat, Interleave, MergeSorted, Zip, Broadcast, Balance, Partition, Unzip, ToLines, Head, Last}
 use Rattle.stream_model.specs.declared.kind.Policy.TheVariants.{Backpressure}
 use Rattle.stream_model.specs.Composed.{inputs_of}
 use Rattle.stream_picture.specs.View.{outputs_of}
 use Rattle.stage_linear.specs.States.{IsLinear}
-use Rattle.stage_state.specs.States.{IsStateful}
+use Rattle.stage_state.specs.States.{IsMachine}
 use Rattle.stage_in.specs.Logics.{IsFanIn}
 use Rattle.stage_in.specs.Logics as fan_in
-use Rattle.stage_out.specs.OutLogics.{IsOut}
+use Rattle.stage_out.specs.Machines.{unasked_ports}
+use Rattle.stage_out.specs.OutLogics.{OutFresh, IsOut}
 use Rattle.stage_out.specs.OutLogics as fan_out
 use Rattle.nodes.specs.Kinds.{IsMaker, IsFileSink}
 use Rattle.interpreter.specs.declared.parts.Seated.{Seated}
@@ -52,7 +53,7 @@ linear_ports (Limit n) h = (refl, refl)
 linear_ports (MapConcat x) h = (refl, refl)
 linear_ports _ h = absurd h
 
-state_ports : (k : Kind) → IsStateful k → (inputs_of k ≡ 1) × (outputs_of k ≡ 1)
+state_ports : (k : Kind) → IsMachine k → (inputs_of k ≡ 1) × (outputs_of k ≡ 1)
 state_ports (Grouped n) h = (refl, refl)
 state_ports (Fold o) h = (refl, refl)
 state_ports (Reduce r) h = (refl, refl)
@@ -66,6 +67,7 @@ fan_in_ports (Concat n) h = (refl, refl)
 fan_in_ports (Interleave n s) h = (refl, refl)
 fan_in_ports MergeSorted h = (refl, refl)
 fan_in_ports Zip h = (refl, refl)
+fan_in_ports (Merge n) h = (refl, refl)
 fan_in_ports _ h = absurd h
 
 -- a stage with several outputs has those of its kind, and one input
@@ -73,6 +75,7 @@ fan_out_ports : (k : Kind) → IsOut k → (inputs_of k ≡ 1) × (outputs_of k 
 fan_out_ports (Broadcast n) h = (refl, refl)
 fan_out_ports (Partition n f) h = (refl, refl)
 fan_out_ports Unzip h = (refl, refl)
+fan_out_ports (Balance n) h = (refl, refl)
 fan_out_ports _ h = absurd h
 
 -- only sinks write a file
@@ -88,8 +91,8 @@ maker_no_file k name h e = file_apart IsMaker (λ _ i. i) (λ _ i. i) (λ _ i. i
 pub linear_no_file : (k : Kind) (name : List ℕ) → IsLinear k → output_of k ≡ Some name → ⊥
 linear_no_file k name h e = file_apart IsLinear (λ _ i. i) (λ _ i. i) (λ _ i. i) k name h e
 
-pub state_no_file : (k : Kind) (name : List ℕ) → IsStateful k → output_of k ≡ Some name → ⊥
-state_no_file k name h e = file_apart IsStateful (λ _ i. i) (λ _ i. i) (λ _ i. i) k name h e
+pub state_no_file : (k : Kind) (name : List ℕ) → IsMachine k → output_of k ≡ Some name → ⊥
+state_no_file k name h e = file_apart IsMachine (λ _ i. i) (λ _ i. i) (λ _ i. i) k name h e
 
 pub fan_in_no_file : (k : Kind) (name : List ℕ) → IsFanIn k → output_of k ≡ Some name → ⊥
 fan_in_no_file k name h e = file_apart IsFanIn (λ _ i. i) (λ _ i. i) (λ _ i. i) k name h e
@@ -114,7 +117,7 @@ module _ {S D : Type 0} where
   work_unused k n ss ds (work.Reading r) is = is.kept
   work_unused k n ss ds (work.Making shape) is = subst IsMaker (sym is.shape_is) is.is_maker
   work_unused k n ss ds (work.Linear l) is = let b = is.begins in record { phase = b.phase; row = rw b.phase tt }
-  work_unused k n ss ds (work.State l) is = let b = is.begins in record { phase = b.phase; row = b.ready }
+  work_unused k n ss ds (work.State l) is = is.begins.fresh
   work_unused k n ss ds (work.FanIn l inputs) is =
       let b = is.begins in
       let same : fan_in.inputs_of n.kind ≡ inputs = sym (is.inputs_are ∙ (fan_in_ports n.kind is.is_in).0) in
@@ -122,7 +125,7 @@ module _ {S D : Type 0} where
   work_unused k n ss ds (work.FanOut l outputs) is =
       let b = is.begins in
       let same : fan_out.outputs_of n.kind ≡ outputs = sym (is.outputs_are ∙ (fan_out_ports n.kind is.is_out).1) in
-      record { row = subst (λ m. fan_out.row l (fan_out.unasked_ports m)) same b.ready; fresh = b.fresh }
+      subst (λ m. OutFresh l (unasked_ports m)) same b.fresh
   work_unused k n ss ds (work.Writing shape (Some d)) is = subst IsFileSink (sym is.shape_is) is.is_sink
   work_unused k n ss ds (work.Writing shape None) is = is.shape_is ∙ is.is_ignore
 

@@ -3,6 +3,8 @@ ghost use Rattle.std.specs.Prelude.{◌≡◌, ◌+◌, ◌<◌, ◌≤◌, ◌�
 ghost use Rattle.std.specs.List.{list_all};
 ghost use Rattle.std.specs.Vec.Iter.{into_iter_items, into_iter_len};
 ghost use Rattle.blue_rules.specs.Sizes.{sizes_fit};
+ghost use Rattle.stage_in.specs.Logics.{IsFanIn};
+ghost use Rattle.stage_out.specs.OutLogics.{IsOut};
 ghost use Rattle.materializer.specs.Built.{is_built};
 ghost use Rattle.materializer.specs.Files.{input_of, output_of, inputs_of_nodes, outputs_of_nodes};
 ghost use Rattle.materializer.specs.Seats.{handles_left, IsFreeWork, IsWork, AreSeats};
@@ -34,6 +36,34 @@ fn take_next<T: Drop>(handles: &mut IntoIter<T, Global>) -> T
     }
 }
 
+/// What a stage with several inputs does at node k.
+fn fan_in_work<S: Source, D: Drain>(
+    alloc: Global,
+    k: u32,
+    kind: Kind,
+    decider: Decider,
+) -> Result<Work<S, D>, NoMemory>
+    requires { IsFanIn kind }
+    ensures { IfOk result (IsFreeWork k kind decider) }
+{
+    let inputs = inputs_of(&kind);
+    Ok(Work::FanIn(InLogic::new(alloc, k, kind, decider)?, inputs))
+}
+
+/// What a stage with several outputs does at node k.
+fn fan_out_work<S: Source, D: Drain>(
+    alloc: Global,
+    k: u32,
+    kind: Kind,
+    decider: Decider,
+) -> Result<Work<S, D>, NoMemory>
+    requires { IsOut kind }
+    ensures { IfOk result (IsFreeWork k kind decider) }
+{
+    let outputs = outputs_of(&kind);
+    Ok(Work::FanOut(OutLogic::new(alloc, k, kind, decider)?, outputs))
+}
+
 /// What node k does, where it has no file.
 fn free_work<S: Source, D: Drain>(
     alloc: Global,
@@ -59,13 +89,10 @@ fn free_work<S: Source, D: Drain>(
         | Kind::Buffer(_, Policy::Backpressure) => {
             Work::State(StateLogic::new(alloc, k, kind, decider)?)
         }
-        Kind::Concat(_) | Kind::Interleave(_, _) | Kind::MergeSorted | Kind::Zip => {
-            let inputs = inputs_of(&kind);
-            Work::FanIn(InLogic::new(alloc, k, kind, decider)?, inputs)
-        }
-        Kind::Broadcast(_) | Kind::Partition(_, _) | Kind::Unzip => {
-            let outputs = outputs_of(&kind);
-            Work::FanOut(OutLogic::new(alloc, k, kind, decider)?, outputs)
+        Kind::Merge(_) | Kind::Concat(_) | Kind::Interleave(_, _) | Kind::MergeSorted | Kind::Zip =>
+            fan_in_work(alloc, k, kind, decider)?,
+        Kind::Broadcast(_) | Kind::Balance(_) | Kind::Partition(_, _) | Kind::Unzip => {
+            fan_out_work(alloc, k, kind, decider)?
         }
         _ => Work::Linear(LinearLogic::new(k, kind, decider)?),
     })

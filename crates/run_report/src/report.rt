@@ -1,5 +1,5 @@
 // The report on the console.
-ghost use Rattle.std.specs.Prelude.{◌≡◌, ◌++◌, codes, if◌then◌else◌, OnOk, OnErr};
+ghost use Rattle.std.specs.Prelude.{◌≡◌, [], ◌++◌, codes, if◌then◌else◌, OnOk, OnErr};
 ghost use Rattle.std.specs.Fmt.{decimal};
 ghost use Rattle.std.specs.List.{flat_map};
 ghost use Rattle.blue_words.specs.Fault.{number_of_kind};
@@ -329,8 +329,8 @@ pub fn put_report<D: Drain>(
     used: u64,
 ) -> Result<(), Failed>
     requires { detail.now ≡ detail_of status.now }
-    ensures ok { OnOk result (Puts (D.state console.old) (D.state console.new) (report_of (record { status = status.now; sinks = sinks.now; wires = wires.now; used = used }))) }
-    ensures err { OnErr result (PutsPart (D.state console.old) (D.state console.new) (report_of (record { status = status.now; sinks = sinks.now; wires = wires.now; used = used }))) }
+    ensures ok { OnOk result (Puts (D.state console.old) (D.state console.new) (report_of (record { status = status.now; sinks = sinks.now; wires = wires.now; picks = []; used = used }))) }
+    ensures err { OnErr result (PutsPart (D.state console.old) (D.state console.new) (report_of (record { status = status.now; sinks = sinks.now; wires = wires.now; picks = []; used = used }))) }
 {
     put_status(console, status, detail, used)?;
     put_run(console, status, sinks, wires)

@@ -30,8 +30,9 @@ returns g c = λ old b budget ss ds can opens leaves.
       reads = c.every_source_reads_little_ahead.ensures.reads;
       lawful = c.every_picture_is_lawful.ensures.composed;
       rests = c.a_picture_without_events_rests.ensures.composed;
+      moves = c.every_move_fits.ensures;
       match = c.a_picture_without_events_rests.ensures.sinks;
       ignorer = c.every_sink_agrees.ensures.ignorer;
       ignores = c.every_sink_agrees.ensures.ignores;
     })
-    b can ss ds budget _ leaves old _ opens _ c.close_all.ensures.closes _ refl refl refl refl
+    b can ss ds budget _ leaves old _ opens _ c.close_all.ensures.closes _ refl refl refl refl refl

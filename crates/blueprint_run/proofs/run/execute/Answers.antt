@@ -18,7 +18,7 @@ returns-in-Ok-counts-clause-stops g c =
     let same : new.used ≡ c.in-Ok-execute.used = search rules in
     let keeps = c.laws.ensures e.whole in
     let end = c.take_apart-end.ensures in
-    stops_of _ _ _ _ _ old.net new.net new.numbers _ (subst (λ u. Keeps g.S.Source.state g.D.Drain.state new.net u) same keeps) e.uses e.on i.firsts i.ends (e.numbers ∙ i.numbers) end.sinks (c.in-Ok-counts.ensures ∙ ap (map (λ w. w.1)) (c.deref.ensures.value ∙ end.wires)) end.readers end.writers e.within e.rest c.at_rest-at_rest.ensures
+    stops_of _ _ _ _ _ old.net new.net new.numbers new.places _ (subst (λ u. Keeps g.S.Source.state g.D.Drain.state new.net u) same keeps) e.uses e.on i.firsts i.ends (e.numbers ∙ i.numbers) (e.places ∙ i.places) end.sinks end.picks (c.in-Ok-counts.ensures ∙ ap (map (λ w. w.1)) (c.deref.ensures.value ∙ end.wires)) end.readers end.writers e.within e.rest c.at_rest-at_rest.ensures
 
 pub returns-in-Err-clause-breaks : goal.returns-in-Err-clause-breaks
 returns-in-Err-clause-breaks g c =

@@ -9,8 +9,8 @@ use std::alloc::{AllocError, Global};
 use std::process::ExitCode;
 use std::rt::Env;
 use std::{env, io};
+use stream_command::run::run_streams;
 use stream_io::real::{DirFolder, StdConsole};
-use stream_top::top::run_streams;
 
 /// The exit code where the words cannot be read for want of memory.
 const NO_MEMORY: u8 = 9;

@@ -13,8 +13,7 @@ const TEXT: &str =
 #[test]
 fn sure_calls_run(rt: HostRuntime) -> Result<(), Fail> {
     let alloc = rt.alloc();
-    let mut words = Vec::new(alloc);
-    words.push(line_of(alloc, "log.blue")?)?;
+    let file = line_of(alloc, "log.blue")?;
     let mut files = Vec::new(alloc);
     for (name, text) in [("log.blue", TEXT), ("in.txt", "disk full\nok\n")] {
         files.push(NamedFile {
@@ -24,7 +23,7 @@ fn sure_calls_run(rt: HostRuntime) -> Result<(), Fail> {
     }
     let mut folder = SureFolder::new(files, 3);
     let mut console = SureDrain::new(3);
-    let end = run_surely(alloc, &words, &mut folder, &mut console);
+    let end = run_surely(alloc, &file, 1000, &mut folder, &mut console);
     assert_eq!(rt; end.code, 0);
     assert!(rt; matches!(end.status, Status::Done));
     assert_eq!(rt; end.sinks.len(), 1);

@@ -35,7 +35,9 @@ use Rattle.materializer.specs.Graphs.{graph_of, node_of}
 use Rattle.materializer.specs.Files.{input_of, output_of, is_sink, sinks_of_nodes, inputs_of_nodes, outputs_of_nodes}
 use Rattle.run_files.specs.Quiet.{Quiet, QuietBut}
 use Rattle.run_files.specs.Opening.{MissesInput, RefusesOutput, Empties}
+use Rattle.interpreter.specs.Picks.{Pick, pick_of}
 use Rattle.blueprint_run.specs.Carrying.{Carries}
+use Rattle.blueprint_run.specs.Choosing.{pick_places, picked}
 use Rattle.blueprint_run.specs.Drawing.{Drawn, IsSource, WasRead, IsWorldOf}
 use Rattle.blueprint_run.specs.Stands.{Stand, sink_places, is_write_fault, is_unended, is_failed}
 use Rattle.blueprint_run.specs.Units.{Pays}
@@ -50,7 +52,7 @@ use Rattle.run_report.specs.declared.outcome.SinkEnd.{SinkEnd}
 use Rattle.run_report.specs.declared.outcome.Status.{Status}
 use Rattle.run_report.specs.declared.outcome.Status.TheVariants as status
 use Rattle.stream_top.specs.AfterRun.{AfterRun, status_after, ends_of, name_of, told_end, told_ends, is_ended, all_ended, some_failed, some_unended, some_fault, is_stalled, is_over}
-use Rattle.stream_top.specs.Command.{Asked}
+use Rattle.stream_top.specs.Asked.{Asked}
 use Rattle.stream_top.specs.Text.{text_limit, text_of_file, ReadsFile}
 use Rattle.stream_top.specs.Outcome.{SaysFile, SaysFit, SaysBuilt, Blank, RanNothing, RanTo, FallsShort, SinksWrote, GaveUp, LacksInput, LacksOutput, IsAbsent, EndedRun, EndedBefore, Told, Causes, CausesBefore, QuietButAll, QuietAmong, RunCauses, SinksOf, MissesFile}
 use Rattle.stream_top.specs.Texts.{NotRun, EndedFit, NotFit, EndedParsed, NotSaid, EndedText, AllQuiet, CausesQuiet, CausesFit, CausesText}
@@ -193,7 +195,7 @@ must_end state.Unended o held old new goes tells none writes calm = absurd cc
 must_end state.WriteFault o held old new goes tells none writes calm = absurd (calm writes)
 
 -- what holds of a run where no event was left holds where that is told less often
-module _ (old new : FolderState) (b : Blueprint) (stands : List Stand) (wires : List WireCount) (less rest : Bool) (more : IsTrue less → IsTrue rest) where
+module _ (old new : FolderState) (b : Blueprint) (stands : List Stand) (picks : List Pick) (wires : List WireCount) (less rest : Bool) (more : IsTrue less → IsTrue rest) where
   sink_less : (d : Drawn) (k : ℕ) (n : Node) (file : List ℕ) (count : ℕ) (end : EndState) → SinkLeaves new b d wires rest k n file count end → SinkLeaves new b d wires less k n file count end
   sink_less d k n file count end s = record {
     held = s.held;
@@ -204,9 +206,10 @@ module _ (old new : FolderState) (b : Blueprint) (stands : List Stand) (wires : 
     rests = λ shape h. s.rests shape (more h);
   }
 
-  abbrev leaves_less : LeavesFiles old new b stands wires rest → LeavesFiles old new b stands wires less
+  abbrev leaves_less : LeavesFiles old new b stands picks wires rest → LeavesFiles old new b stands picks wires less
   leaves_less l = record {
     drawn = l.drawn;
+    chose = l.chose;
     read = l.read;
     world = l.world;
     has_files = l.has_files;
@@ -214,6 +217,7 @@ module _ (old new : FolderState) (b : Blueprint) (stands : List Stand) (wires : 
     ignores = l.ignores;
     others = l.others;
     draws = l.draws;
+    fits = l.fits;
     lawful = l.lawful;
     rest = λ h. l.rest (more h);
     matching = λ h. l.matching (more h);
@@ -258,8 +262,11 @@ module _ (b : Blueprint) (ran : Ran) (turns : ℕ) (a : Answer) (old new : Folde
   pays : Pays b a.wires a.used
   pays = subst (λ (u : ℕ). Pays b a.wires u) (sym after.used) (subst (λ (w : List WireCount). Pays b w ran.used) (sym after.wires) runs.pays)
 
-  carries : Carries b a.wires
-  carries = subst (λ (w : List WireCount). Carries b w) (sym after.wires) runs.carries
+  carries : Carries b a.wires a.picks
+  carries = rw (after.wires, after.picks) runs.carries
+
+  picks_are : picked a.picks ≡ pick_places 0 b.nodes.items
+  picks_are = ap picked after.picks ∙ runs.picks_are
 
   -- some sink stands, so there is a wire, and the units are below the count
   below_count : 1 ≤ length stands → a.used < count_needed (graph_of b) a.wires
@@ -269,8 +276,9 @@ module _ (b : Blueprint) (ran : Ran) (turns : ℕ) (a : Answer) (old new : Folde
       omega (arith, wired, most)
 
   module _ (tells : IsTrue old.tells) where
-    leaves_at : LeavesFiles old new b stands a.wires ran.at_rest
-    leaves_at = subst (λ (w : List WireCount). LeavesFiles old new b stands w ran.at_rest) (sym after.wires) (runs.leaves tells)
+    leaves_at : LeavesFiles old new b stands a.picks a.wires ran.at_rest
+    leaves_at = subst (λ (p : List Pick). LeavesFiles old new b stands p a.wires ran.at_rest) (sym after.picks)
+        (subst (λ (w : List WireCount). LeavesFiles old new b stands (map pick_of ran.picks.items) w ran.at_rest) (sym after.wires) (runs.leaves tells))
 
     below_need : 1 ≤ length stands → (w : World) → IsWorldOf b.nodes.items leaves_at.drawn w → a.used < need (graph_of b) (composed (graph_of b) w)
     below_need some w is =
@@ -299,7 +307,8 @@ module _ (b : Blueprint) (ran : Ran) (turns : ℕ) (a : Answer) (old new : Folde
       stands = stands;
       stands_are = runs.sinks_are;
       sinks = told;
-      leaves = leaves_less old new b stands a.wires (is_over a turns) ran.at_rest over_rests leaves_at;
+      picks_are = picks_are;
+      leaves = leaves_less old new b stands a.picks a.wires (is_over a turns) ran.at_rest over_rests leaves_at;
       writes = runs.writes;
       within = subst (λ n. n ≤ turns) (sym after.used) runs.within;
       pays = pays;
@@ -332,7 +341,7 @@ module _ (b : Blueprint) (ran : Ran) (turns : ℕ) (a : Answer) (old new : Folde
   run_told tells = subst (λ x. EndedRun x a b turns old new) (sym after.status) (told_by (list_any (λ (s : Stand). is_write_fault s.2) stands) (list_any (λ (s : Stand). is_unended s.2) stands) (list_any (λ (s : Stand). is_failed s.2) stands) ran.at_rest refl refl refl refl tells)
 
   wrote : SinksWrote old new b a
-  wrote = record { stands = stands; stands_are = runs.sinks_are; sinks = told; writes = runs.writes; carries = carries }
+  wrote = record { stands = stands; stands_are = runs.sinks_are; sinks = told; picks_are = picks_are; writes = runs.writes; carries = carries }
 
   causes_by : (f u d rest : Bool) → list_any (λ (s : Stand). is_write_fault s.2) stands ≡ f → RunCauses (if f then status.WriteFault else (if u then (if rest then status.Stalled else status.OutOfTurns) else (if d then status.StreamFailed else status.Done))) a b old new
   causes_by true u d rest p = (runs.refusals, runs.reads, some_rose p, runs.other_writes, wrote)
@@ -512,9 +521,10 @@ module _ (old mid new : FolderState) (file t : List ℕ) (r : ReadsFile old mid 
     empties_later : (names : List (List ℕ)) → Empties mid new names → Empties old new names
     empties_later names h = record { told = λ x. tells_before old mid r.files (h.told x); still = λ e. h.still e ∙ r.files.telling; emptied = h.emptied; others = λ x m never. h.others x m never ∙ r.files.files tells m }
 
-    abbrev leaves_later : (ends : List Stand) (wires : List WireCount) (rest : Bool) → LeavesFiles mid new b ends wires rest → LeavesFiles old new b ends wires rest
-    leaves_later ends wires rest l = record {
+    abbrev leaves_later : (ends : List Stand) (picks : List Pick) (wires : List WireCount) (rest : Bool) → LeavesFiles mid new b ends picks wires rest → LeavesFiles old new b ends picks wires rest
+    leaves_later ends picks wires rest l = record {
       drawn = l.drawn;
+      chose = l.chose;
       read = λ k n is. read_later n (l.drawn.bytes k) (l.drawn.given k) (l.drawn.faulted k) (read_apart k n is) (l.read k n is);
       world = l.world;
       has_files = l.has_files;
@@ -522,6 +532,7 @@ module _ (old mid new : FolderState) (file t : List ℕ) (r : ReadsFile old mid 
       ignores = l.ignores;
       others = λ still n never. l.others still n never ∙ r.files.files tells n;
       draws = l.draws;
+      fits = l.fits;
       lawful = l.lawful;
       rest = l.rest;
       matching = l.matching;
@@ -534,7 +545,8 @@ module _ (old mid new : FolderState) (file t : List ℕ) (r : ReadsFile old mid 
       stands = ran.stands;
       stands_are = ran.stands_are;
       sinks = ran.sinks;
-      leaves = leaves_later ran.stands a.wires (is_over a turns) ran.leaves;
+      picks_are = ran.picks_are;
+      leaves = leaves_later ran.stands a.picks a.wires (is_over a turns) ran.leaves;
       writes = λ i s n f at here shape. writes_later s.2 (old.wfaults f) (mid.wfaults f) (new.wfaults f) (r.wfaults f) (ran.writes i s n f at here shape);
       within = ran.within;
       pays = ran.pays;
@@ -568,6 +580,7 @@ module _ (old mid new : FolderState) (file t : List ℕ) (r : ReadsFile old mid 
     breaks_later : BreaksFiles mid new b → BreaksFiles old new b
     breaks_later l = record {
       drawn = l.drawn;
+      chose = l.chose;
       read = λ k n is.
           let w = l.read k n is in
           record {
@@ -617,6 +630,7 @@ module _ (old mid new : FolderState) (file t : List ℕ) (r : ReadsFile old mid 
     stands = w.stands;
     stands_are = w.stands_are;
     sinks = w.sinks;
+    picks_are = w.picks_are;
     writes = λ i s n f at here shape. writes_later s.2 (old.wfaults f) (mid.wfaults f) (new.wfaults f) (r.wfaults f) (w.writes i s n f at here shape);
     carries = w.carries;
   }

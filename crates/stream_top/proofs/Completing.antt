@@ -1,4 +1,4 @@
--- Valid words, text and inputs and no fault leave the answers of a run.
+-- A valid text and inputs and no fault leave the answers of a run.
 use Rattle.std.proofs.Common.{◌≡◌, ℕ, suc, ◌∷◌, ◌++◌, [], List, ◌⊎◌, inl, inr, refl, sym, ap, ◌∙◌, subst, slice_get}
 use Rattle.std.specs.Prelude.{Option, Some, None, IsTrue, IsSome}
 use Rattle.std.specs.List.{All}
@@ -17,7 +17,7 @@ use Rattle.blueprint_run.proofs.Places.{all_at}
 use Rattle.run_report.specs.Answer.{Answer}
 use Rattle.run_report.specs.declared.outcome.Status.{Status}
 use Rattle.run_report.specs.declared.outcome.Status.TheVariants as status
-use Rattle.stream_top.specs.Command.{Asked, command_of}
+use Rattle.stream_top.specs.Asked.{Asked}
 use Rattle.stream_top.specs.Outcome.{IsAbsent, LacksInput, LacksOutput, EndedBefore, EndedRun, SaysFile, SaysBuilt, Told, IsValid, RoseNowhere, WasRun}
 
 some_same : {A : Type 0} {a b : A} → Some a ≡ Some b → a ≡ b
@@ -59,15 +59,15 @@ fit_never : (b : Blueprint) (taken : List (List ℕ)) (f : CheckFault) → IsFit
 fit_never b taken f fit (inl h) = none_some _ f fit.early h
 fit_never b taken f fit (inr h) = closed_never (blueprint_wires b) f fit.open_walks h.1
 
-module _ (words : List (List ℕ)) (old new : FolderState) (v : IsValid words old) (calm : RoseNowhere old new) (a : Answer) where
-  absent_never : (b : Blueprint) (n : List ℕ) → SaysFile old v.asked.file b → LacksInput old new b n a ⊎ LacksOutput old new b n a → ⊥
+module _ (c : Asked) (old new : FolderState) (v : IsValid c.file old) (calm : RoseNowhere old new) (a : Answer) where
+  absent_never : (b : Blueprint) (n : List ℕ) → SaysFile old c.file b → LacksInput old new b n a ⊎ LacksOutput old new b n a → ⊥
   absent_never b n says (inl h) =
       let at = at_middle h.before h.after n in
       let among : slice_get (inputs_of_nodes b.nodes.items) at.0 ≡ Some n = ap (λ (x : List (List ℕ)). slice_get x at.0) h.place ∙ at.1 in
       there_absent old new n (all_at (λ m. IsSome (old.file m)) (inputs_of_nodes b.nodes.items) at.0 n (v.inputs b says) among) calm h.absent
   absent_never b n says (inr h) = calm.refusals n h.refused
 
-  completes : (s : Status) → EndedBefore s a v.asked.file old new ⊎ ((b : Blueprint) × (SaysBuilt old v.asked.file b × EndedRun s a b v.asked.turns old new)) → WasRun s
+  completes : (s : Status) → EndedBefore s a c.file old new ⊎ ((b : Blueprint) × (SaysBuilt old c.file b × EndedRun s a b c.turns old new)) → WasRun s
   completes status.Done t = tt
   completes status.StreamFailed t = tt
   completes status.Stalled t = tt
@@ -75,7 +75,7 @@ module _ (words : List (List ℕ)) (old new : FolderState) (v : IsValid words ol
   completes status.NoMemory t = tt
   completes status.Usage (inl h) = absurd h
   completes status.Usage (inr h) = absurd h.1.1
-  completes status.ReadFault (inl h) = absurd (calm.rfaults v.asked.file h.1)
+  completes status.ReadFault (inl h) = absurd (calm.rfaults c.file h.1)
   completes status.ReadFault (inr h) = absurd h.1.1
   completes status.WriteFault (inl h) = absurd h
   completes status.WriteFault (inr h) = absurd (calm.wfaults h.1.1.2.file h.1.1.2.rose)
@@ -83,13 +83,13 @@ module _ (words : List (List ℕ)) (old new : FolderState) (v : IsValid words ol
       let same : h.1.0 ≡ v.says.whole = some_same (sym h.1.1.0 ∙ v.says.there) in
       absurd (none_some _ f v.says.says.faultless (subst (λ x. language.fault_of x ≡ Some f) same h.1.1.1))
   completes (status.Refused f) (inr h) = absurd h.1.1
-  completes (status.Unfit f) (inl h) = absurd (fit_never h.1.0 (v.asked.file ∷ []) f (v.fit h.1.0 h.1.1.0) h.1.1.1)
+  completes (status.Unfit f) (inl h) = absurd (fit_never h.1.0 (c.file ∷ []) f (v.fit h.1.0 h.1.1.0) h.1.1.1)
   completes (status.Unfit f) (inr h) = absurd h.1.1
   completes (status.Unbuilt k) (inl h) = absurd (none_some (unbuilt_node h.1.0) k (v.built h.1.0 h.1.1.0.says) h.1.1.1)
   completes (status.Unbuilt k) (inr h) = absurd h.1.1
-  completes (status.Missing n) (inl h) = absurd (there_absent old new v.asked.file (some_there (old.file v.asked.file) v.says.whole v.says.there) calm h.2)
+  completes (status.Missing n) (inl h) = absurd (there_absent old new c.file (some_there (old.file c.file) v.says.whole v.says.there) calm h.2)
   completes (status.Missing n) (inr h) = absurd (absent_never h.0 n h.1.0.fit.says h.1.1)
 
 -- the answer to a valid call without faults
-pub complete : (words : List (List ℕ)) (old new : FolderState) (a : Answer) → ((c : Asked) → command_of words ≡ Some c → IsTrue old.tells → Told a c old new) → IsTrue old.tells → IsValid words old → RoseNowhere old new → WasRun a.status
-complete words old new a told tells v calm = completes words old new v calm a a.status (told v.asked v.command tells)
+pub complete : (c : Asked) (old new : FolderState) (a : Answer) → (IsTrue old.tells → Told a c old new) → IsTrue old.tells → IsValid c.file old → RoseNowhere old new → WasRun a.status
+complete c old new a told tells v calm = completes c old new v calm a a.status (told tells)

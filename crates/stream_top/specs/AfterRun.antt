@@ -4,6 +4,7 @@ use Rattle.std.specs.List.{list_any, list_all}
 use Rattle.stream_model.specs.declared.outcome.EndState.{EndState}
 use Rattle.stream_model.specs.declared.outcome.EndState.TheVariants as state
 use Rattle.blue_core.specs.declared.blueprint.Node.{Node}
+use Rattle.interpreter.specs.Picks.{pick_of}
 use Rattle.blueprint_run.specs.Stands.{Stand, is_write_fault, is_unended, is_failed}
 use Rattle.blueprint_run.specs.declared.run.Ran.{Ran}
 use Rattle.run_report.specs.Answer.{Answer}
@@ -14,7 +15,7 @@ use Rattle.stream_top.specs.declared.answer.Outcome.{Outcome}
 
 -- the answer that an outcome is
 abbrev pub of_outcome : Outcome → Answer
-of_outcome o = record { status = o.status; sinks = o.sinks.items; wires = o.picture.wires.items; used = o.used }
+of_outcome o = record { status = o.status; sinks = o.sinks.items; wires = o.picture.wires.items; picks = map pick_of o.picks.items; used = o.used }
 
 -- the name of a node
 abbrev pub name_of : Option Node → List ℕ
@@ -73,4 +74,5 @@ pub record AfterRun (names : List (List ℕ)) (ran : Ran) (a : Answer) : Type 0 
   pub status : a.status ≡ status_after ran.sinks.items ran.at_rest
   pub sinks : a.sinks ≡ ends_of names ran.sinks.items
   pub wires : a.wires ≡ ran.wires.items
+  pub picks : a.picks ≡ map pick_of ran.picks.items
   pub used : a.used ≡ ran.used

@@ -22,6 +22,7 @@ use Rattle.materializer.specs.Graphs.{graph_of, node_of}
 use Rattle.run_files.specs.Quiet.{Quiet, QuietBut}
 use Rattle.run_files.specs.Opening.{Empties}
 use Rattle.blueprint_run.specs.Carrying.{Carries}
+use Rattle.blueprint_run.specs.Choosing.{pick_places, picked}
 use Rattle.blueprint_run.specs.Drawing.{Drawn, IsWorldOf}
 use Rattle.blueprint_run.specs.Stands.{Stand, sink_places, is_write_fault, is_unended, is_failed}
 use Rattle.blueprint_run.specs.Units.{Pays}
@@ -30,7 +31,7 @@ use Rattle.run_report.specs.Answer.{Answer}
 use Rattle.run_report.specs.declared.outcome.Status.{Status}
 use Rattle.run_report.specs.declared.outcome.Status.TheVariants as status
 use Rattle.run_report.specs.declared.outcome.SinkEnd.{SinkEnd}
-use Rattle.stream_top.specs.Command.{Asked, command_of}
+use Rattle.stream_top.specs.Asked.{Asked}
 use Rattle.stream_top.specs.AfterRun.{told_ends, all_ended, some_failed, some_unended, some_fault, is_over}
 
 -- the command's file says this blueprint
@@ -53,6 +54,7 @@ pub record SaysBuilt (folder : FolderState) (file : List ℕ) (b : Blueprint) : 
 pub record Blank (a : Answer) : Type 0 where
   pub no_sinks : a.sinks ≡ []
   pub no_wires : a.wires ≡ []
+  pub no_picks : a.picks ≡ []
   pub unused : a.used ≡ 0
 
 -- and no file is changed
@@ -61,19 +63,21 @@ pub record RanNothing (old new : FolderState) (a : Answer) : Type 0 where
   pub blank : Blank a
 
 -- The blueprint was run, by so many units at most, and its sinks stand so; the files are left as a run leaves them. No event was
--- left where it stalled or used fewer units. The units pay for what passed the wires, and each wire carried only elements of its
--- type. In a polytree a sink has not ended only
+-- left where it stalled or used fewer units. There is a list of moves for each stage whose kind chooses, in order of nodes, and no
+-- other, by which the sinks and the picture are told; where no kind chooses there is none, and all of it is told by the input files
+-- alone. The units pay for what passed the wires, and each wire carried only elements of its type. In a polytree a sink has not ended only
 -- where the units were used up; and where they suffice for all that may pass, each sink of whose outlook no failure is part has
 -- ended, unless a write to its file failed.
 pub record RanTo (old new : FolderState) (b : Blueprint) (turns : ℕ) (a : Answer) : Type 0 where
   pub stands : List Stand
   pub stands_are : map (λ (s : Stand). s.0) stands ≡ sink_places 0 b.nodes.items
   pub sinks : a.sinks ≡ told_ends b.nodes.items stands
-  pub leaves : LeavesFiles old new b stands a.wires (is_over a turns)
+  pub picks_are : picked a.picks ≡ pick_places 0 b.nodes.items
+  pub leaves : LeavesFiles old new b stands a.picks a.wires (is_over a turns)
   pub writes : (i : ℕ) (s : Stand) (n : Node) (file : List ℕ) → slice_get stands i ≡ Some s → slice_get b.nodes.items s.0 ≡ Some n → output_of n.kind ≡ Some file → WritesOf s.2 (old.wfaults file) (new.wfaults file)
   pub within : a.used ≤ turns
   pub pays : Pays b a.wires a.used
-  pub carries : Carries b a.wires
+  pub carries : Carries b a.wires a.picks
   pub ending : IsPolytree (wiring (blueprint_wires b)) → some_unended a.sinks ≡ true → a.used ≡ turns
   pub enough : IsPolytree (wiring (blueprint_wires b)) → (w : World) → IsWorldOf b.nodes.items leaves.drawn w → need (graph_of b) (composed (graph_of b) w) ≤ turns
       → (i : ℕ) (s : Stand) (n : Node) (file : List ℕ) → slice_get stands i ≡ Some s → slice_get b.nodes.items s.0 ≡ Some n → output_of n.kind ≡ Some file
@@ -159,13 +163,15 @@ abbrev pub MissesFile : FolderState → FolderState → Blueprint → List ℕ �
 MissesFile old new b n = (Contains (inputs_of_nodes b.nodes.items) n × IsAbsent old new n) ⊎ (Contains (outputs_of_nodes b.nodes.items) n × Rose (old.refusals n) (new.refusals n))
 
 -- The sinks of a run stand so, and the count of failed writes of a sink's file rose exactly where that sink stands at a failed
--- write. Each wire carried only elements of its type, also where the folder tells nothing.
+-- write. There is a list of moves for each stage whose kind chooses, and each wire carried only elements of its type, also where the
+-- folder tells nothing.
 pub record SinksWrote (old new : FolderState) (b : Blueprint) (a : Answer) : Type 0 where
   pub stands : List Stand
   pub stands_are : map (λ (s : Stand). s.0) stands ≡ sink_places 0 b.nodes.items
   pub sinks : a.sinks ≡ told_ends b.nodes.items stands
+  pub picks_are : picked a.picks ≡ pick_places 0 b.nodes.items
   pub writes : (i : ℕ) (s : Stand) (n : Node) (file : List ℕ) → slice_get stands i ≡ Some s → slice_get b.nodes.items s.0 ≡ Some n → output_of n.kind ≡ Some file → WritesOf s.2 (old.wfaults file) (new.wfaults file)
-  pub carries : Carries b a.wires
+  pub carries : Carries b a.wires a.picks
 
 -- which counts a run raised: of failed reads at most those of its inputs, and of failed writes those of its outputs, each exactly
 -- where its sink stands at a failed write
@@ -204,16 +210,14 @@ SinksOf status.OutOfTurns a = (some_fault a.sinks ≡ false) × (some_unended a.
 SinksOf status.WriteFault a = some_fault a.sinks ≡ true
 SinksOf _ a = Blank a
 
--- the words name a file that says a blueprint; it is fit and built, and its inputs are there. A text says one blueprint, so this is
--- said of each value that the text says.
-pub record IsValid (words : List (List ℕ)) (folder : FolderState) : Type 0 where
-  pub asked : Asked
-  pub command : command_of words ≡ Some asked
+-- the file says a blueprint; it is fit and built, and its inputs are there. A text says one blueprint, so this is said of each value
+-- that the text says.
+pub record IsValid (file : List ℕ) (folder : FolderState) : Type 0 where
   pub blueprint : Blueprint
-  pub says : SaysFile folder asked.file blueprint
-  pub fit : (b : Blueprint) → SaysFile folder asked.file b → IsFit b [] (asked.file ∷ [])
-  pub built : (b : Blueprint) → SaysFile folder asked.file b → unbuilt_node b ≡ None
-  pub inputs : (b : Blueprint) → SaysFile folder asked.file b → All (λ n. IsSome (folder.file n)) (inputs_of_nodes b.nodes.items)
+  pub says : SaysFile folder file blueprint
+  pub fit : (b : Blueprint) → SaysFile folder file b → IsFit b [] (file ∷ [])
+  pub built : (b : Blueprint) → SaysFile folder file b → unbuilt_node b ≡ None
+  pub inputs : (b : Blueprint) → SaysFile folder file b → All (λ n. IsSome (folder.file n)) (inputs_of_nodes b.nodes.items)
 
 -- no count rose
 pub record RoseNowhere (old new : FolderState) : Type 0 where

@@ -29,7 +29,7 @@ use run_files::open::OpenEnd;
 use run_report::outcome::{SinkEnd, Status};
 use std::alloc::Global;
 use stream_io::outside::Folder;
-use stream_model::outcome::{EndState, Picture};
+use stream_model::outcome::{EndState, PickList, Picture};
 
 /// How a call ended, what is told of a rule that is broken, and what is told of a run where a blueprint was run.
 #[derive(Drop)]
@@ -38,6 +38,7 @@ pub struct Outcome {
     pub detail: Vec<u8>,
     pub sinks: Vec<SinkEnd>,
     pub picture: Picture,
+    pub picks: Vec<PickList>,
     pub used: u64,
 }
 
@@ -65,6 +66,7 @@ fn told_without_run(alloc: Global, status: Status, detail: Vec<u8>) -> Outcome
         picture: Picture {
             wires: Vec::new(alloc),
         },
+        picks: Vec::new(alloc),
         used: 0,
     }
 }
@@ -159,6 +161,7 @@ fn after_run(alloc: Global, names: Vec<Line>, room: Vec<SinkEnd>, ran: Ran) -> O
 {
     let Ran {
         sinks,
+        picks,
         wires,
         used,
         at_rest,
@@ -168,6 +171,7 @@ fn after_run(alloc: Global, names: Vec<Line>, room: Vec<SinkEnd>, ran: Ran) -> O
         detail: Vec::new(alloc),
         sinks: told_ends(names, &sinks, room),
         picture: Picture { wires },
+        picks,
         used: u64::from(used),
     }
 }

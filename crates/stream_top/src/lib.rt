@@ -1,8 +1,7 @@
-//! The top call: it reads the command's words and the blueprint, runs it, and writes the report.
+//! The run of a file: its blueprint is read and run, and the report is written.
 #![tactic(auto)]
 
 mod answer;
-mod command;
 pub mod sure;
 mod text;
 pub mod top;

@@ -1,21 +1,23 @@
-// The top call over a folder of which no call fails.
-ghost use Rattle.std.specs.Prelude.{IsTrue};
+// The run of a file over a folder of which no call fails.
+ghost use Rattle.std.specs.Prelude.{◌≤◌, IsTrue};
 ghost use Rattle.stream_top.specs.Outcome.{IsValid, WasRun};
 
-use crate::top::{RunEnd, run_streams};
+use crate::top::{RunEnd, run_file};
 use elem_core::line::Line;
 use std::alloc::Global;
 use stream_io::outside::{Drain, Folder};
 use stream_io::sure::SureFolder;
 
-/// The same over a folder whose counts never rise: valid words, text and inputs give a run, and no write of it failed, or memory was wanting. So no answer of a run is hidden behind a fault that did not happen. Rule: own.
+/// The same over a folder whose counts never rise: a valid text and inputs give a run, and no write of it failed, or memory was wanting. So no answer of a run is hidden behind a fault that did not happen. Rule: own.
 pub fn run_surely<C: Drain>(
     alloc: Global,
-    words: &[Line],
+    file: &Line,
+    turns: u32,
     folder: &mut SureFolder,
     console: &mut C,
 ) -> RunEnd
-    ensures runs { IsTrue (⟦<SureFolder as Folder>⟧.state folder.old).tells → IsValid words.now (⟦<SureFolder as Folder>⟧.state folder.old) → WasRun result.status }
+    requires { turns ≤ 4000000000 }
+    ensures runs { IsTrue (⟦<SureFolder as Folder>⟧.state folder.old).tells → IsValid file.now (⟦<SureFolder as Folder>⟧.state folder.old) → WasRun result.status }
 {
-    run_streams(alloc, words, folder, console)
+    run_file(alloc, file, turns, folder, console)
 }

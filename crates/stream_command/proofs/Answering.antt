@@ -1,0 +1,190 @@
+-- What follows from what is answered, by what the words ask for.
+use Rattle.std.proofs.Common.{◌≡◌, ℕ, ◌≤◌, ◌<◌, List, ◌⊎◌, inl, inr, refl, sym, subst, arith}
+use Rattle.std.specs.Prelude.{Option, Some, None, IsTrue, option_and_then}
+use Rattle.stream_io.specs.Counts.{Rose, Grew, GrewAtMost}
+use Rattle.stream_io.specs.State.{FolderState}
+use Rattle.run_files.specs.Quiet.{Quiet}
+use Rattle.run_files.proofs.Counts.{quiet_same}
+use Rattle.run_report.specs.Answer.{Answer}
+use Rattle.run_report.specs.declared.outcome.Status.{Status}
+use Rattle.run_report.specs.declared.outcome.Status.TheVariants as status
+use Rattle.command_words.specs.Asking.{Asked, asked_of}
+use Rattle.generator.specs.Generated.{Generates, StopsGenerating}
+use Rattle.generator.specs.Texts.{lines_file, blueprint_file}
+use Rattle.stream_top.specs.Outcome.{Blank, EndedBefore, CausesBefore, SinksOf, IsValid, RoseNowhere, WasRun}
+use Rattle.stream_top.specs.Text.{text_limit}
+use Rattle.stream_top.proofs.Quiets.{read_none}
+use Rattle.stream_command.specs.Answers.{Answers, AnswersTo, IsNoCommand, RunsFile, StopsBefore, EndsGenerating, GeneratesAndRuns, IsValidFor}
+use Rattle.stream_command.specs.Command.{untraced, without_trace, command_of}
+
+none_some : (c : Asked) (o : Option Asked) → o ≡ None → o ≡ Some c → ⊥
+none_some c o e f = cc
+
+some_same : {A : Type 0} {a b : A} → Some a ≡ Some b → a ≡ b
+some_same e = cc
+
+-- ---- the generator ended the call
+
+-- it read nothing, and told its files before where it tells them now
+record LeavesReads (old new : FolderState) : Type 0 where
+  told : IsTrue new.tells → IsTrue old.tells
+  read : (n : List ℕ) → new.read n ≡ old.read n
+
+stopped : (s : Status) (n : ℕ) (old new : FolderState) → StopsBefore s n old new → LeavesReads old new
+stopped (status.Missing name) n old new (inl h) = record { told = λ t. subst (λ b. IsTrue b) h.1.files.telling t; read = h.1.read }
+stopped (status.Missing name) n old new (inr h) = record { told = h.1.two.told; read = h.1.two.read }
+stopped status.WriteFault n old new (inl h) = record { told = h.only.told; read = h.only.read }
+stopped status.WriteFault n old new (inr h) = record { told = h.two.told; read = h.two.read }
+stopped status.NoMemory n old new h = record { told = h.two.told; read = h.two.read }
+stopped status.Done n old new h = absurd h
+stopped status.Usage n old new h = absurd h
+stopped (status.Refused f) n old new h = absurd h
+stopped (status.Unfit f) n old new h = absurd h
+stopped status.StreamFailed n old new h = absurd h
+stopped status.Stalled n old new h = absurd h
+stopped status.OutOfTurns n old new h = absurd h
+stopped status.ReadFault n old new h = absurd h
+stopped (status.Unbuilt k) n old new h = absurd h
+
+-- where no count rose only want of memory ends it
+calm_stops : (s : Status) (n : ℕ) (old new : FolderState) → RoseNowhere old new → StopsBefore s n old new → WasRun s
+calm_stops (status.Missing name) n old new calm (inl h) = absurd (calm.refusals lines_file h.1.rose)
+calm_stops (status.Missing name) n old new calm (inr h) = absurd (calm.refusals blueprint_file h.1.rose)
+calm_stops status.WriteFault n old new calm (inl h) = absurd (calm.wfaults lines_file h.rose)
+calm_stops status.WriteFault n old new calm (inr h) = absurd (calm.wfaults blueprint_file h.rose)
+calm_stops status.NoMemory n old new calm h = tt
+calm_stops status.Done n old new calm h = tt
+calm_stops status.Usage n old new calm h = absurd h
+calm_stops (status.Refused f) n old new calm h = absurd h
+calm_stops (status.Unfit f) n old new calm h = absurd h
+calm_stops status.StreamFailed n old new calm h = tt
+calm_stops status.Stalled n old new calm h = tt
+calm_stops status.OutOfTurns n old new calm h = tt
+calm_stops status.ReadFault n old new calm h = absurd h
+calm_stops (status.Unbuilt k) n old new calm h = absurd h
+
+-- ---- the files were generated
+
+-- a count that rose behind the generator rose in the call
+rose_before : (old between new : ℕ) → Grew old 0 between → Rose between new → Rose old new
+rose_before old between new g rose = λ h. let above : between < new = rose h in omega (arith, g.stays, above)
+
+calm_behind : (old between new : FolderState) (n : ℕ) → Generates old between n → RoseNowhere old new → RoseNowhere between new
+calm_behind old between new n g calm = record {
+  refusals = λ m rose. calm.refusals m (rose_before (old.refusals m) (between.refusals m) (new.refusals m) (g.refusals m) rose);
+  rfaults = λ m rose. calm.rfaults m (rose_before (old.rfaults m) (between.rfaults m) (new.rfaults m) (g.two.rfaults m) rose);
+  wfaults = λ m rose. calm.wfaults m (rose_before (old.wfaults m) (between.wfaults m) (new.wfaults m) (g.wfaults m) rose);
+}
+
+-- ---- the whole call
+
+-- it told its files before where it tells them now
+told_to : (g : Option ℕ) (c : Asked) (a : Answer) (old new : FolderState) → AnswersTo g c a old new → IsTrue new.tells → IsTrue old.tells
+told_to None c a old new h t = h.tells t
+told_to (Some n) c a old new (inl h) t = (stopped a.status n old new h.stops).told t
+told_to (Some n) c a old new (inr h) t = h.generates.two.told (h.runs.tells t)
+
+pub told_before : (o : Option Asked) (a : Answer) (old new : FolderState) → Answers o a old new → IsTrue new.tells → IsTrue old.tells
+told_before None a old new h t = subst (λ (f : FolderState). IsTrue f.tells) h.same t
+told_before (Some c) a old new h t = told_to c.generated c a old new h t
+
+-- how much of the blueprint's file is read
+read_to : (g : Option ℕ) (c : Asked) (a : Answer) (old new : FolderState) → AnswersTo g c a old new → GrewAtMost (old.read c.file) text_limit (new.read c.file)
+read_to None c a old new h = h.reads
+read_to (Some n) c a old new (inl h) = read_none (old.read c.file) (new.read c.file) text_limit ((stopped a.status n old new h.stops).read c.file)
+read_to (Some n) c a old new (inr h) = subst (λ k. GrewAtMost k text_limit (new.read c.file)) (h.generates.two.read c.file) h.runs.reads
+
+pub reads_little : (o : Option Asked) (a : Answer) (old new : FolderState) → Answers o a old new → (c : Asked) → o ≡ Some c → GrewAtMost (old.read c.file) text_limit (new.read c.file)
+reads_little None a old new h c e = absurd (none_some c None refl e)
+reads_little (Some d) a old new h c e = subst (λ (x : Asked). GrewAtMost (old.read x.file) text_limit (new.read x.file)) (some_same e) (read_to d.generated d a old new h)
+
+-- a valid blueprint and no fault give a run
+complete_to : (g : Option ℕ) (c : Asked) (a : Answer) (old new : FolderState) → AnswersTo g c a old new → IsValidFor g c.file old new → RoseNowhere old new → WasRun a.status
+complete_to None c a old new h v calm = h.complete v.0 v.1 calm
+complete_to (Some n) c a old new (inl h) v calm = calm_stops a.status n old new calm h.stops
+complete_to (Some n) c a old new (inr h) v calm =
+    let tells = h.runs.tells v.0 in
+    h.runs.complete tells (v.1 h.between h.generates tells) (calm_behind old h.between new n h.generates calm)
+
+pub completes : (o : Option Asked) (a : Answer) (old new : FolderState) → Answers o a old new → (c : Asked) → o ≡ Some c → IsValidFor c.generated c.file old new → RoseNowhere old new → WasRun a.status
+completes None a old new h c e v calm = absurd (none_some c None refl e)
+completes (Some d) a old new h c e v calm =
+    complete_to d.generated d a old new h (subst (λ (x : Asked). IsValidFor x.generated x.file old new) (sym (some_same e)) v) calm
+
+-- usage is told of words that are no command alone
+no_usage_to : (g : Option ℕ) (c : Asked) (a : Answer) (old new : FolderState) → AnswersTo g c a old new → a.status ≡ status.Usage → ⊥
+no_usage_to None c a old new h e = h.no_usage e
+no_usage_to (Some n) c a old new (inl h) e = subst (λ s. StopsBefore s n old new) e h.stops
+no_usage_to (Some n) c a old new (inr h) e = h.runs.no_usage e
+
+pub usage_of : (o : Option Asked) (a : Answer) (old new : FolderState) → Answers o a old new → a.status ≡ status.Usage → o ≡ None
+usage_of None a old new h e = refl
+usage_of (Some c) a old new h e = absurd (no_usage_to c.generated c a old new h e)
+
+-- ---- memory was wanting as the words were read
+
+none_stops : (n : ℕ) (s : FolderState) → StopsGenerating s s n
+none_stops n s = record {
+  two = record { told = λ t. t; others = λ t m p q. refl; read = λ m. refl; rfaults = quiet_same s.rfaults s.rfaults (λ m. refl) };
+  lines = λ t. inl refl;
+  blueprint = λ t. inl refl;
+  refusals = quiet_same s.refusals s.refusals (λ m. refl);
+  wfaults = quiet_same s.wfaults s.wfaults (λ m. refl);
+}
+
+no_memory_usage : (s : Status) → s ≡ status.NoMemory → s ≡ status.Usage → ⊥
+no_memory_usage s e f = cc
+
+none_runs : (file : List ℕ) (turns : ℕ) (a : Answer) (s : FolderState) → a.status ≡ status.NoMemory → Blank a → RunsFile file turns a s s
+none_runs file turns a s e blank = record {
+  tells = λ t. t;
+  told = λ t. inl (subst (λ x. EndedBefore x a file s s) (sym e) (record { files = record { telling = refl; files = λ h n. refl }; blank = blank }));
+  complete = λ t v calm. subst (λ x. WasRun x) (sym e) tt;
+  causes = inl (subst (λ x. CausesBefore x file s s) (sym e) (quiet_same s.refusals s.refusals (λ m. refl), quiet_same s.rfaults s.rfaults (λ m. refl), quiet_same s.wfaults s.wfaults (λ m. refl)));
+  sinks = subst (λ x. SinksOf x a) (sym e) blank;
+  no_usage = no_memory_usage a.status e;
+  reads = read_none (s.read file) (s.read file) text_limit refl;
+}
+
+none_to : (g : Option ℕ) (c : Asked) (a : Answer) (s : FolderState) → a.status ≡ status.NoMemory → Blank a → AnswersTo g c a s s
+none_to None c a s e blank = none_runs c.file c.turns a s e blank
+none_to (Some n) c a s e blank = inl (record { blank = blank; stops = subst (λ x. StopsBefore x n s s) (sym e) (none_stops n s) })
+
+pub gave_up : (o : Option Asked) (a : Answer) (s : FolderState) → a.status ≡ status.NoMemory → Blank a → Answers o a s s
+gave_up None a s e blank = record { status = inr e; blank = blank; same = refl }
+gave_up (Some c) a s e blank = none_to c.generated c a s e blank
+
+-- ---- steps of the call
+
+pub refused : (o : Option Asked) (a : Answer) (s : FolderState) → o ≡ None → a.status ≡ status.Usage → Blank a → Answers o a s s
+refused None a s none e blank = record { status = inl e; blank = blank; same = refl }
+refused (Some c) a s none e blank = absurd (none_some c (Some c) none refl)
+
+-- the generator ended it
+pub ended : (n : ℕ) (c : Asked) (s : Status) (a : Answer) (old new : FolderState) → StopsBefore s n old new → a.status ≡ s → Blank a → AnswersTo (Some n) c a old new
+ended n c s a old new stops e blank = inl (record { blank = blank; stops = subst (λ x. StopsBefore x n old new) (sym e) stops })
+
+-- the generated files were run
+pub ran : (n : ℕ) (c : Asked) (a : Answer) (old between new : FolderState) → Generates old between n → RunsFile c.file c.turns a between new → AnswersTo (Some n) c a old new
+ran n c a old between new g r = inr (record { between = between; generates = g; runs = r })
+
+-- a command with a file for the trace
+pub traced : (c : Asked) (path : List ℕ) (a : Answer) (s : FolderState) → c.trace ≡ Some path → a.status ≡ status.Usage → Blank a → Answers (without_trace c) a s s
+traced c path a s e usage blank = subst (λ (o : Option (List ℕ)). Answers (untraced o c) a s s) (sym e) (record { status = inl usage; blank = blank; same = refl })
+
+-- one with a file to run
+pub file_was_run : (c : Asked) (a : Answer) (old new : FolderState) → c.trace ≡ None → c.generated ≡ None → RunsFile c.file c.turns a old new → Answers (without_trace c) a old new
+file_was_run c a old new e g r =
+    subst (λ (o : Option (List ℕ)). Answers (untraced o c) a old new) (sym e) (subst (λ (o : Option ℕ). AnswersTo o c a old new) (sym g) r)
+
+-- one with lines to generate
+pub was_generated : (n : ℕ) (c : Asked) (a : Answer) (old new : FolderState) → c.trace ≡ None → c.generated ≡ Some n → AnswersTo (Some n) c a old new → Answers (without_trace c) a old new
+was_generated n c a old new e g r =
+    subst (λ (o : Option (List ℕ)). Answers (untraced o c) a old new) (sym e) (subst (λ (o : Option ℕ). AnswersTo o c a old new) (sym g) r)
+
+-- what the words ask for, by what was read of them
+pub as_asked : (words : List (List ℕ)) (c : Asked) (a : Answer) (old new : FolderState) → asked_of words ≡ Some c → Answers (without_trace c) a old new → Answers (command_of words) a old new
+as_asked words c a old new e h = subst (λ (o : Option Asked). Answers (option_and_then without_trace o) a old new) (sym e) h
+
+pub no_words : (words : List (List ℕ)) → asked_of words ≡ None → command_of words ≡ None
+no_words words e = subst (λ (o : Option Asked). option_and_then without_trace o ≡ None) (sym e) refl

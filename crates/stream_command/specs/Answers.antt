@@ -1,0 +1,62 @@
+-- What the command answers and leaves, by what its words ask for. Rule: own.
+use Rattle.std.specs.Prelude.{◌≡◌, ℕ, ◌⊎◌, IsTrue, List, Option, Some, None}
+use Rattle.stream_io.specs.Counts.{GrewAtMost}
+use Rattle.stream_io.specs.State.{FolderState}
+use Rattle.run_report.specs.Answer.{Answer}
+use Rattle.run_report.specs.declared.outcome.Status.{Status}
+use Rattle.run_report.specs.declared.outcome.Status.TheVariants as status
+use Rattle.command_words.specs.Asking.{Asked}
+use Rattle.generator.specs.Generated.{Generates, MissesFile, FailsAtFile, StopsGenerating}
+use Rattle.stream_top.specs.Outcome.{Blank, Told, Causes, SinksOf, IsValid, RoseNowhere, WasRun}
+use Rattle.stream_top.specs.Text.{text_limit}
+
+-- no command: nothing is touched. Want of memory may be told in place of the usage.
+pub record IsNoCommand (a : Answer) (old new : FolderState) : Type 0 where
+  pub status : (a.status ≡ status.Usage) ⊎ (a.status ≡ status.NoMemory)
+  pub blank : Blank a
+  pub same : new ≡ old
+
+-- the blueprint of a file was run, or the call ended before
+pub record RunsFile (file : List ℕ) (turns : ℕ) (a : Answer) (old new : FolderState) : Type 0 where
+  pub tells : IsTrue new.tells → IsTrue old.tells
+  pub told : IsTrue old.tells → Told a (record { file = file; turns = turns }) old new
+  pub complete : IsTrue old.tells → IsValid file old → RoseNowhere old new → WasRun a.status
+  pub causes : Causes a.status a file old new
+  pub sinks : SinksOf a.status a
+  pub no_usage : a.status ≡ status.Usage → ⊥
+  pub reads : GrewAtMost (old.read file) text_limit (new.read file)
+
+-- why the generator ended the call, and what it left
+abbrev pub StopsBefore : Status → ℕ → FolderState → FolderState → Type 0
+StopsBefore (status.Missing name) n old new = MissesFile old new n name
+StopsBefore status.WriteFault n old new = FailsAtFile old new n
+StopsBefore status.NoMemory n old new = StopsGenerating old new n
+StopsBefore _ n old new = ⊥
+
+-- The generator ended the call, and nothing was run.
+pub record EndsGenerating (n : ℕ) (a : Answer) (old new : FolderState) : Type 0 where
+  pub blank : Blank a
+  pub stops : StopsBefore a.status n old new
+
+-- The files were generated, and then the blueprint was run. Between the two each generated file holds its text and every other file is
+-- as before, and no count rose; this is told wherever the folder still tells its files after the run, since it tells them then in between.
+pub record GeneratesAndRuns (n : ℕ) (file : List ℕ) (turns : ℕ) (a : Answer) (old new : FolderState) : Type 0 where
+  pub between : FolderState
+  pub generates : Generates old between n
+  pub runs : RunsFile file turns a between new
+
+-- the command with a file, or with lines to generate
+abbrev pub AnswersTo : Option ℕ → Asked → Answer → FolderState → FolderState → Type 0
+AnswersTo None c a old new = RunsFile c.file c.turns a old new
+AnswersTo (Some n) c a old new = EndsGenerating n a old new ⊎ GeneratesAndRuns n c.file c.turns a old new
+
+-- what is answered and left
+abbrev pub Answers : Option Asked → Answer → FolderState → FolderState → Type 0
+Answers None a old new = IsNoCommand a old new
+Answers (Some c) a old new = AnswersTo c.generated c a old new
+
+-- The command's blueprint is valid: that of its file, in a folder that tells its files before the call; or, where lines are generated,
+-- that of its file in whatever folder the generator leaves, and the folder tells its files after the call.
+abbrev pub IsValidFor : Option ℕ → List ℕ → FolderState → FolderState → Type 0
+IsValidFor None file old new = IsTrue old.tells × IsValid file old
+IsValidFor (Some n) file old new = IsTrue new.tells × ((between : FolderState) → Generates old between n → IsTrue between.tells → IsValid file between)

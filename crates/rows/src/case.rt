@@ -1,5 +1,6 @@
 // A case, and how it is read from the lines of a file.
 use crate::text::{Fault, line_of, number, put_line};
+use blue_words::words::is_word;
 use elem_core::line::Line;
 use std::alloc::{AllocError, Global};
 use stream_io::fail_at::{FailAt, Op};
@@ -135,42 +136,92 @@ impl Case {
         }
         self.part = Part::Nothing;
         match words.as_slice() {
-            [b"words"] => {
-                self.words.clear();
-                self.part = Part::Words;
+            [word] => self.take_one(word),
+            [first, second] => self.take_two(alloc, first, second),
+            [first, second, third] => self.take_three(first, second, third),
+            [first, second, third, fourth] => self.take_four(alloc, first, second, third, fourth),
+            [first, wire, third, fourth, count] => {
+                want_word(first, b"sent")?;
+                want_word(third, b"at")?;
+                want_word(fourth, b"most")?;
+                self.add_most(number(wire)?, number(count)?)
             }
-            [b"file", name] => {
-                add_file(alloc, &mut self.files, name)?;
-                self.part = Part::File;
-            }
-            [b"after", name] => self.add_after(alloc, name)?,
-            [b"says", code] => self.add_wanted(alloc, number(code)?)?,
-            [b"sent", wire, b"at", b"most", count] => {
-                self.add_most(number(wire)?, number(count)?)?;
-            }
-            _ => self.take_setting(alloc, &words)?,
+            _ => Err(Fault::Malformed),
         }
+    }
+
+    fn take_one(&mut self, word: &[u8]) -> Result<(), Fault> {
+        if is_word(word, b"words") {
+            self.words.clear();
+            self.part = Part::Words;
+            return Ok(());
+        }
+        want_word(word, b"text")?;
+        Ok(self.set_kind(Kind::Print)?)
+    }
+
+    fn take_two(&mut self, alloc: Global, first: &[u8], second: &[u8]) -> Result<(), Fault> {
+        if is_word(first, b"file") {
+            add_file(alloc, &mut self.files, second)?;
+            self.part = Part::File;
+            return Ok(());
+        }
+        if is_word(first, b"after") {
+            return self.add_after(alloc, second);
+        }
+        if is_word(first, b"says") {
+            return Ok(self.add_wanted(alloc, number(second)?)?);
+        }
+        self.take_setting(first, second)
+    }
+
+    fn take_setting(&mut self, first: &[u8], second: &[u8]) -> Result<(), Fault> {
+        if is_word(first, b"step") {
+            self.steps.push(number(second)?.max(1))?;
+            return Ok(());
+        }
+        if is_word(first, b"room") {
+            self.room = number(second)?;
+            return Ok(());
+        }
+        want_word(first, b"must")?;
+        want_word(second, b"fail")?;
+        self.verdict = Verdict::Fails;
         Ok(())
     }
 
-    fn take_setting(&mut self, alloc: Global, words: &[&[u8]]) -> Result<(), Fault> {
-        match words {
-            [b"text"] => self.set_kind(Kind::Print)?,
-            [b"blueprint", b"with", count, b"plugs"] => self.set_kind(Kind::Check(number(count)?))?,
-            [b"fails", b"console", nth] => self.console_fails.push(number(nth)?)?,
-            [b"fails", op, name, nth] => {
-                let name = line_of(alloc, name)?;
-                let op = operation(op)?;
-                let nth = number(nth)?;
-                self.fails.push(FailAt { name, op, nth })?;
-            }
-            [b"step", step] => self.steps.push(number(step)?.max(1))?,
-            [b"room", room] => self.room = number(room)?,
-            [b"must", b"fail"] => self.verdict = Verdict::Fails,
-            [b"must", b"be", b"malformed"] => self.verdict = Verdict::Malformed,
-            _ => return Err(Fault::Malformed),
+    fn take_three(&mut self, first: &[u8], second: &[u8], third: &[u8]) -> Result<(), Fault> {
+        if is_word(first, b"fails") {
+            want_word(second, b"console")?;
+            self.console_fails.push(number(third)?)?;
+            return Ok(());
         }
+        want_word(first, b"must")?;
+        want_word(second, b"be")?;
+        want_word(third, b"malformed")?;
+        self.verdict = Verdict::Malformed;
         Ok(())
+    }
+
+    fn take_four(
+        &mut self,
+        alloc: Global,
+        first: &[u8],
+        second: &[u8],
+        third: &[u8],
+        fourth: &[u8],
+    ) -> Result<(), Fault> {
+        if is_word(first, b"fails") {
+            let op = operation(second)?;
+            let name = line_of(alloc, third)?;
+            let nth = number(fourth)?;
+            self.fails.push(FailAt { name, op, nth })?;
+            return Ok(());
+        }
+        want_word(first, b"blueprint")?;
+        want_word(second, b"with")?;
+        want_word(fourth, b"plugs")?;
+        Ok(self.set_kind(Kind::Check(number(third)?))?)
     }
 
     /// Sets another kind than a whole call. It reads no file, so that one step is as good as another.
@@ -241,12 +292,25 @@ fn is_passed_over(line: &[u8]) -> bool {
 }
 
 fn operation(word: &[u8]) -> Result<Op, Fault> {
-    match word {
-        b"open_in" => Ok(Op::OpenIn),
-        b"open_out" => Ok(Op::OpenOut),
-        b"read" => Ok(Op::Read),
-        b"write" => Ok(Op::Write),
-        _ => Err(Fault::Malformed),
+    if is_word(word, b"open_in") {
+        return Ok(Op::OpenIn);
+    }
+    if is_word(word, b"open_out") {
+        return Ok(Op::OpenOut);
+    }
+    if is_word(word, b"read") {
+        return Ok(Op::Read);
+    }
+    want_word(word, b"write")?;
+    Ok(Op::Write)
+}
+
+/// A heading with another word in this place is malformed.
+fn want_word(word: &[u8], fixed: &[u8]) -> Result<(), Fault> {
+    if is_word(word, fixed) {
+        Ok(())
+    } else {
+        Err(Fault::Malformed)
     }
 }
 

@@ -68,6 +68,7 @@ fn node_of(event: &Delivered, ends: Ends) -> u32
     }
 }
 
+#[inline(always)]
 fn call<S: Stage>(
     node: &mut S,
     alloc: Global,

@@ -1,0 +1,3 @@
+pub mod Histories
+pub mod Enters
+pub mod Leaves

@@ -1,0 +1,13 @@
+use Rattle.std.proofs.Common.{rules, ap, ◌∙◌}
+use Rattle.stage_boundary.proofs.Enters.{starts_entering}
+use Rattle.stage_boundary.proofs.entering.EnteringStage.TheImpl.Goals as goal
+
+pub start-tells : goal.start-tells
+start-tells x c = record {
+  starts = starts_entering c.result _ _ _ c.ensures.same.0 (ap (λ a. a.items) c.ensures.same.1 ∙ c.requires.empty);
+  asks = search rules;
+  grows = search rules;
+  gone = search rules;
+  room = search rules;
+  kept = search rules;
+}

@@ -1,0 +1,8 @@
+use Rattle.lane_account.proofs.Standing.{rests_in, rests_out}
+use Rattle.lane_account.proofs.laws.a_quiet_lane_rests.Goals as goal
+
+pub returns-clause-input : goal.returns-clause-input
+returns-clause-input c = rests_in
+
+pub returns-clause-output : goal.returns-clause-output
+returns-clause-output c = rests_out

@@ -1,11 +1,11 @@
 // Nodes joined by wires: one action, one event, and `execute`.
-ghost use Rattle.std.specs.Prelude.{◌≡◌, ◌≢◌, ℕ, ◌+◌, ◌^◌, ◌<◌, ◌≤◌, [], ◌∷◌, false, Some, OnOk, OnErr, IfOk, IfNone, IfSome, IsTrue, ◌↔◌, if◌then◌else◌, length, map, slice_get};
+ghost use Rattle.std.specs.Prelude.{◌≡◌, ◌≢◌, ℕ, ◌+◌, ◌<◌, ◌≤◌, [], ◌∷◌, false, Some, OnOk, OnErr, IfOk, IfNone, IfSome, IsTrue, ◌↔◌, if◌then◌else◌, length, map, replicate, slice_get};
 ghost use Rattle.elem_core.specs.Prefix.{IsPrefix};
 ghost use Rattle.port_core.specs.Call.{Meets};
 ghost use Rattle.port_core.specs.Ring.{holds};
 ghost use Rattle.port_core.specs.Wire.{nothing, delivery_of};
 ghost use Rattle.stage_core.specs.Handling.{most_acts, AsksAs, Handles};
-ghost use Rattle.wire_core.specs.Cell.{delivery_in};
+ghost use Rattle.wire_core.specs.Cell.{new_cell, delivery_in};
 ghost use Rattle.fused_net.specs.Net.{acted, acted_all, event_told, wire_at, end_at, wire_for, HasPort, Able, port_at, target, call_of, before};
 ghost use Rattle.fused_net.specs.Laws.{AnyRow, AnyLaw, Wired, first_view, Settled, Busy, Starting, GoesOn, Awaits, TellsAsking, MeetsAt, Responds, AllKept, BreaksOff, IsMinded};
 ghost use Rattle.fused_net.specs.Costs.{all_asks, Uses};
@@ -47,6 +47,17 @@ impl<S: Stage> Model for Engine<S> {
     ghost view = { λ e. record { nodes = e.nodes.items; firsts = e.firsts.value.items; wires = e.wires.items; ends = e.ends.items; ports = e.ports.items; queue = e.ring.queue } };
 
     ghost invariant = { λ e. e.ring.size ≡ length e.wires.items };
+}
+
+/// So many wires on which nothing happened.
+pub fn unused_wires(alloc: Global, count: usize) -> Result<Vec<Wire>, NoMemory>
+    ensures { IfOk result (λ wires. wires.items ≡ replicate count new_cell) }
+{
+    let mut wires = Vec::with_capacity(alloc, count)?;
+    for _i in 0..count {
+        wires.push_reserved(Wire::new());
+    }
+    Ok(wires)
 }
 
 fn wire_of(act: &Act, ports: &Ports) -> u32
@@ -98,38 +109,35 @@ fn call<S: Stage>(
 }
 
 impl<S: Stage> Engine<S> {
-    /// Joins nodes that were not started by wires on which nothing happened. `ends` has the ports at the ends of each wire,
-    /// and `ports` the wires of each node.
+    /// Joins nodes that were not started by wires on which nothing happened, with an empty ring for them. `ends` has the ports at
+    /// the ends of each wire, and `ports` the wires of each node. It takes no memory.
     pub fn new(
-        alloc: Global,
         nodes: Vec<S>,
         ends: Vec<Ends>,
         ports: Vec<Ports>,
-    ) -> Result<Engine<S>, NoMemory>
+        wires: Vec<Wire>,
+        ring: EventRing,
+    ) -> Engine<S>
         requires wired { Wired ends.items ports.items (length nodes.items) (length ends.items) }
-        requires few { length ends.items < 2 ^ 32 }
+        requires wires { wires.items ≡ replicate (length ends.items) new_cell }
+        requires ring { ring ≡ record { size = length ends.items; queue = [] } }
         requires fresh { (n : ℕ) (x : S) → slice_get nodes.items n ≡ Some x → S.fresh x (first_view (port_at ports.items n)) }
-        ensures starting { IfOk result (λ e. Starting S.rests S.law S.asking S.moves S.fresh e 0) }
-        ensures nodes { IfOk result (λ e. e.nodes ≡ nodes.items) }
-        ensures firsts { IfOk result (λ e. e.firsts ≡ nodes.items) }
-        ensures ends { IfOk result (λ e. e.ends ≡ ends.items) }
-        ensures ports { IfOk result (λ e. e.ports ≡ ports.items) }
-        ensures asks { IfOk result (λ e. all_asks e ≡ 0) }
+        ensures starting { Starting S.rests S.law S.asking S.moves S.fresh result 0 }
+        ensures nodes { result.nodes ≡ nodes.items }
+        ensures firsts { result.firsts ≡ nodes.items }
+        ensures ends { result.ends ≡ ends.items }
+        ensures ports { result.ports ≡ ports.items }
+        ensures asks { all_asks result ≡ 0 }
     {
-        let mut wires = Vec::new(alloc);
-        for _i in 0..ends.len() {
-            wires.push(Wire::new())?;
-        }
-        let ring = EventRing::new(alloc, ends.len() as u32)?;
         let firsts = Snapshot::of(&nodes);
-        Ok(Engine {
+        Engine {
             nodes,
             wires,
             ends,
             ports,
             ring,
             firsts,
-        })
+        }
     }
 
     // Starts node n.
@@ -137,6 +145,7 @@ impl<S: Stage> Engine<S> {
         requires starting { Starting S.rests S.law S.asking S.moves S.fresh self.old n }
         requires within { n < length self.old.nodes }
         requires few { all_asks self.old ≤ 4000000000 }
+        requires kept { AllKept S.keeps self.old.firsts self.old.nodes }
         requires empty { acts.old.items ≡ [] }
         requires room { most_acts ≤ acts.old.room }
         ensures starting { OnOk result (Starting S.rests S.law S.asking S.moves S.fresh self.new (n + 1)) }
@@ -144,13 +153,15 @@ impl<S: Stage> Engine<S> {
         ensures asks { OnOk result (all_asks self.new ≤ all_asks self.old) }
         ensures gone { OnOk result (map S.gone self.new.nodes ≡ map S.gone self.old.nodes) }
         ensures acts { OnOk result (acts.new ≡ acts.old) }
+        ensures kept { AllKept S.keeps self.old.firsts self.new.nodes }
     {
         self.nodes[n].start(alloc, acts)?;
         self.perform(n, acts);
         Ok(())
     }
 
-    /// Starts every node, in their order.
+    /// Starts every node, in their order. Also after `NoMemory` each node is as it was handed in, or has kept what outlives
+    /// its start, and the graph is only taken apart.
     pub fn start(&mut self, alloc: Global, acts: &mut Acts) -> Result<(), NoMemory>
         requires starting { Starting S.rests S.law S.asking S.moves S.fresh self.old 0 }
         requires few { all_asks self.old ≤ 4000000000 }
@@ -161,6 +172,8 @@ impl<S: Stage> Engine<S> {
         ensures asks { OnOk result (all_asks self.new ≤ all_asks self.old) }
         ensures gone { OnOk result (map S.gone self.new.nodes ≡ map S.gone self.old.nodes) }
         ensures acts { OnOk result (acts.new ≡ acts.old) }
+        ensures kept { AllKept S.keeps self.old.firsts self.new.nodes }
+        ensures count { length self.new.nodes ≡ length self.old.nodes }
     {
         let count = self.nodes.len();
         for n in 0..count {

@@ -1,7 +1,22 @@
 -- The goals of `engine::Engine::start` that the search leaves.
-use Rattle.std.proofs.Common.{rules, arith}
+use Rattle.std.proofs.Common.{◌∙◌, refl, rules, arith}
+use Rattle.fused_net.proofs.Ongoing.{goes_same}
 use Rattle.fused_net.proofs.Starting.{all_started}
+use Rattle.fused_net.proofs.Keeping.{kept_starting, all_count}
 use Rattle.fused_net.proofs.engine.Engine.start.Goals as goal
+
+pub loop-n-init : goal.loop-n-init
+loop-n-init g c = (
+  c.requires.starting,
+  goes_same _,
+  omega arith,
+  refl,
+  refl,
+  kept_starting g.S.Stage.rests g.S.Stage.law g.S.Stage.asking g.S.Stage.moves g.S.Stage.fresh g.S.Stage.keeps _ c.requires.starting,
+)
 
 pub returns-clause-laws : goal.returns-clause-laws
 returns-clause-laws g c = all_started g.S.Stage.rests g.S.Stage.law g.S.Stage.asking g.S.Stage.moves g.S.Stage.fresh _ _ c.loop-n.invariant.0 (search (rules, arith))
+
+pub returns-in_err-start_at-clause-count : goal.returns-in_err-start_at-clause-count
+returns-in_err-start_at-clause-count g c = all_count g.S.Stage.keeps _ _ _ c.start_at.ensures.kept (c.loop-n.invariant.0.each_first ∙ c.loop-n.invariant.1.nodes)

@@ -1,5 +1,6 @@
 -- The goals of `engine::Engine::start_at` that the search leaves.
 use Rattle.fused_net.proofs.Responding.{start_meets, start_awaited, started}
+use Rattle.fused_net.proofs.Keeping.{kept_called_first, kept_started}
 use Rattle.fused_net.proofs.Poking.{gone_acts}
 use Rattle.fused_net.proofs.engine.Engine.start_at.Goals as goal
 
@@ -20,3 +21,9 @@ returns-clause-asks g c = (started g.S.Stage.rests g.S.Stage.law g.S.Stage.askin
 
 pub returns-clause-gone : goal.returns-clause-gone
 returns-clause-gone g c = gone_acts g.S.Stage.gone _ _ _ _ _ _ c.start.new.acts.items c.self.view_is c.requires.within c.index_mut.ensures.value c.in_ok-start.ensures.gone c.perform.ensures.after
+
+pub returns-clause-kept : goal.returns-clause-kept
+returns-clause-kept g c = kept_started g.S.Stage.rests g.S.Stage.law g.S.Stage.asking g.S.Stage.moves g.S.Stage.fresh g.S.Stage.keeps _ _ _ _ _ _ c.start.new.acts.items c.requires.starting c.self.view_is c.requires.within c.index_mut.ensures.value c.requires.kept c.start.ensures.kept c.perform.ensures.after
+
+pub returns-in_err-start-clause-kept : goal.returns-in_err-start-clause-kept
+returns-in_err-start-clause-kept g c = kept_called_first g.S.Stage.rests g.S.Stage.law g.S.Stage.asking g.S.Stage.moves g.S.Stage.fresh g.S.Stage.keeps _ _ _ _ _ c.requires.starting c.self.view_is c.requires.within c.index_mut.ensures.value c.requires.kept c.start.ensures.kept

@@ -1,5 +1,5 @@
 -- A node of an island, by its kind: each predicate cites that of the kind.
-use Rattle.std.specs.Prelude.{ℕ, List, [], Option, None, Some, ⊤}
+use Rattle.std.specs.Prelude.{◌≡◌, ℕ, List, [], Option, None, Some, ⊤}
 use Rattle.std.specs.Option.{unwrap_or}
 use Rattle.elem_core.specs.declared.item.Item.{Item}
 use Rattle.port_core.specs.View.{View}
@@ -16,6 +16,7 @@ use Rattle.nodes.specs.declared.node.Node.{Node}
 use Rattle.nodes.specs.declared.node.Node.TheVariants.{Reading, Making, Linear, State, FanIn, FanOut, Writing, Ignoring}
 use Rattle.nodes.specs.declared.node.NodeEnd.{NodeEnd}
 use Rattle.nodes.specs.declared.node.NodeEnd.TheVariants.{Read, Staged, Wrote}
+use Rattle.stage_linear.specs.declared.phase.Phase.TheVariants.{New}
 use Rattle.nodes.specs.Keeping.{KeepsEnd}
 use Rattle.nodes.specs.Source.{LinesFresh, lines_row, LinesLaw}
 use Rattle.nodes.specs.Maker.{MadeFresh, made_row, MadeLaw}
@@ -87,6 +88,13 @@ node_end (FanOut x) = Staged
 node_end (Writing x) = Wrote (record { node = x.node; count = x.count; end = x.end; drain = Some x.drain })
 node_end (Ignoring x) = Wrote (record { node = x.node; count = 0; end = x.end; drain = None })
 
--- what of it outlives want of memory: the handle that it would leave
-abbrev pub node_keeps : {S D : Type 0} → (S → SourceState) → (D → DrainState) → Node S D → Node S D → Type 0
-node_keeps sources drains x y = KeepsEnd sources drains (node_end x) (node_end y)
+-- one that was not started has not read
+abbrev pub ReadsLater : {S D : Type 0} → (S → SourceState) → Node S D → Node S D → Type 0
+ReadsLater sources (Reading x) (Reading y) = x.phase ≡ New → sources y.reader.source ≡ sources x.reader.source
+ReadsLater sources _ _ = ⊤
+
+-- what of it outlives want of memory: the handle that it would leave, which is as it was handed in where the node was not
+-- started
+pub record KeepsNode {S D : Type 0} (sources : S → SourceState) (drains : D → DrainState) (x y : Node S D) : Type 0 where
+  pub ends : KeepsEnd sources drains (node_end x) (node_end y)
+  pub first : ReadsLater sources x y

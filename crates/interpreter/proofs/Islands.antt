@@ -1,5 +1,5 @@
 -- What an island is made of is what its engine needs.
-use Rattle.std.proofs.Common.{◌≡◌, ℕ, zero, suc, ◌+◌, ◌^◌, ◌<◌, ◌≤◌, Bool, not, Some, None, List, [], ◌∷◌, ◌++◌, length, map, take, get_or, slice_get, replicate, refl, sym, ap, ◌∙◌, subst, arith, append_assoc, min}
+use Rattle.std.proofs.Common.{◌≡◌, ℕ, zero, suc, ◌+◌, ◌<◌, ◌≤◌, Bool, not, Some, None, List, [], ◌∷◌, ◌++◌, length, map, take, get_or, slice_get, replicate, refl, sym, ap, ◌∙◌, subst, arith, append_assoc, min}
 use Rattle.std.proofs.lemmas.List.{length-map}
 use Rattle.std.proofs.lemmas.Option.{slice_get_within}
 use Rattle.port_core.specs.declared.view.InView.TheVariants.{Idle}
@@ -15,10 +15,11 @@ use Rattle.fused_net.specs.Laws.{first_view, Wired, Settled}
 use Rattle.fused_net.specs.Costs.{all_asks}
 use Rattle.interpreter.specs.declared.island.IslandEnd.{IslandEnd}
 use Rattle.interpreter.specs.declared.parts.Link.{Link}
+use Rattle.interpreter.specs.declared.parts.Place.{Place}
 use Rattle.interpreter.specs.declared.parts.Seated.{Seated}
 use Rattle.interpreter.specs.declared.parts.Work.{Work}
 use Rattle.interpreter.specs.declared.parts.Work.TheVariants.{Reading, Making, Linear, State, FanIn, FanOut, Writing}
-use Rattle.interpreter.specs.Parts.{work_inputs, work_outputs, inputs_at, outputs_at, IsUnused, AllUnused, BecomesOf, AllBecome, AreParts, IsWiring, IsSized, ends_of}
+use Rattle.interpreter.specs.Parts.{work_inputs, work_outputs, inputs_at, outputs_at, IsUnused, AllUnused, BecomesOf, AllBecome, IsSized, place_of, ends_of}
 use Rattle.stream_model.specs.declared.kind.Kind.{Kind}
 use Rattle.stream_model.specs.declared.kind.Kind.TheVariants as kind
 use Rattle.stage_linear.specs.declared.phase.Phase.TheVariants.{New}
@@ -28,6 +29,7 @@ use Rattle.port_core.specs.Decoding.{is_open}
 use Rattle.wire_core.specs.Cell.{Cell}
 use Rattle.wire_core.specs.Counts.{elements}
 use Rattle.interpreter.specs.Island.{Keeps, count_of, counts_of, sinks_of, readers_of, writers_of}
+use Rattle.interpreter.specs.Picks.{node_number}
 use Rattle.interpreter.specs.Room.{HasRoom}
 
 some_same : {A : Type 0} (x y : A) → Some x ≡ Some y → x ≡ y
@@ -63,25 +65,18 @@ fresh_at (s ∷ ss) [] n x u b e = absurd b
 fresh_at (s ∷ ss) (y ∷ ys) zero x u b e = let same : y ≡ x = some_same y x e in becomes_fresh s.node s.work x u.0 (subst (λ z. BecomesOf s.node s.work z) same b.0)
 fresh_at (s ∷ ss) (y ∷ ys) (suc n) x u b e = fresh_at ss ys n x u.1 b.1 e
 
-pub all_fresh : {S D : Type 0} (places : List (Seated S D)) (nodes : List (Node S D)) (ports : List PortLists) → AllUnused places → AllBecome places nodes → IsSized places ports
+pub all_fresh : {S D : Type 0} (places : List (Seated S D)) (nodes : List (Node S D)) (ports : List PortLists) → AllUnused places → AllBecome places nodes → IsSized (inputs_at places) (outputs_at places) (length places) ports
     → (n : ℕ) (x : Node S D) → slice_get nodes n ≡ Some x → node_fresh x (first_view (port_at ports n))
 all_fresh places nodes ports u b z n x e =
     let h : n < length places = rw (sym (same_count places nodes b)) (slice_get_within nodes n x e) in
-    rw (z.ins n h, z.outs n h) (fresh_at places nodes n x u b e)
+    rw (z.ins_are n h, z.outs_are n h) (fresh_at places nodes n x u b e)
 
-pub few_ends : (links : List Link) (ends : List Ends) → ends ≡ map ends_of links → length links < 2 ^ 32 → length ends < 2 ^ 32
-few_ends links ends e h = rw e (rw length-map h)
+-- as many wires as links
+pub ends_many : {X : Type 0} (links : List Link) (ends : List Ends) (f : ℕ → X) → ends ≡ map ends_of links → f (length links) ≡ f (length ends)
+ends_many links ends f e = rw e (rw length-map refl)
 
-pub parts_wiring : {S D : Type 0} (places read : List (Seated S D)) (links told : List Link) (ends seen : List Ends) → AreParts places links → read ≡ places → seen ≡ ends → ends ≡ map ends_of told → told ≡ links
-    → IsWiring (inputs_at read) (outputs_at read) (length read) seen
-parts_wiring places read links told ends seen parts r e m t = rw (r, e, m, t) parts.wiring
-
-pub parts_few : {S D : Type 0} (places : List (Seated S D)) (links told : List Link) (ends : List Ends) → AreParts places links → ends ≡ map ends_of told → told ≡ links → length ends < 2 ^ 32
-parts_few places links told ends parts m t = rw (m, t) (rw length-map parts.few)
-
-pub parts_wired : {S D : Type 0} (places read : List (Seated S D)) (nodes : List (Node S D)) (ends seen : List Ends) (ports : List PortLists) → read ≡ places → seen ≡ ends → AllBecome places nodes
-    → Wired seen ports (length read) (length seen) → Wired ends ports (length nodes) (length ends)
-parts_wired places read nodes ends seen ports r e b w = let at : Wired ends ports (length places) (length ends) = rw (r, e) at w in rw (same_count places nodes b) at
+pub parts_wired : {S D : Type 0} (seats : List (Seated S D)) (nodes : List (Node S D)) (ends : List Ends) (rows ports : List PortLists) → AllBecome seats nodes → length rows ≡ length seats → Wired ends ports (length rows) (length ends) → Wired ends ports (length nodes) (length ends)
+parts_wired seats nodes ends rows ports b e w = rw (same_count seats nodes b) (rw e at w)
 
 -- the counts of the first wires
 counts_next : (ns : List ℕ) (cs : List Cell) (i d : ℕ) (e : Cell) → i < length ns → i < length cs
@@ -146,3 +141,8 @@ keeps_new sources drains old new s h e = record { laws = s; asks = omega (arith,
 -- the room is for these numbers of nodes and wires
 pub room_as : {S D : Type 0} (room : IslandEnd S D) (nodes wires more_nodes more_wires : ℕ) → HasRoom room nodes wires → more_nodes ≡ nodes → more_wires ≡ wires → HasRoom room more_nodes more_wires
 room_as room nodes wires more_nodes more_wires h e f = rw (e, f) h
+
+-- the numbers of places are those of their works
+pub numbers_same : {S D : Type 0} (seats : List (Seated S D)) → map (λ (p : Place). p.node) (map place_of seats) ≡ map node_number seats
+numbers_same [] = refl
+numbers_same (s ∷ ss) = ap (λ (l : List ℕ). s.node ∷ l) (numbers_same ss)

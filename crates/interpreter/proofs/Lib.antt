@@ -1,3 +1,5 @@
 pub mod Tables
 pub mod Islands
 pub mod Picking
+pub mod Handing
+pub mod Gathering

@@ -1,30 +1,42 @@
 -- The tables of the wires at the ports of each place.
-use Rattle.std.proofs.Common.{◌≡◌, ◌≢◌, inl, inr, ℕ, zero, suc, ◌+◌, ◌<◌, Some, List, [], ◌∷◌, ◌++◌, length, get_or, slice_get, refl, sym, ap, ◌∙◌, arith, get_or-set_same, get_or-set_other, append_assoc, append-nil}
+use Rattle.std.proofs.Common.{◌≡◌, ◌≢◌, inl, inr, ℕ, zero, suc, ◌+◌, ◌<◌, Some, List, [], ◌∷◌, ◌++◌, length, map, get_or, slice_get, refl, sym, ap, ◌∙◌, arith, get_or-set_same, get_or-set_other, append_assoc, append-nil}
 use Rattle.std.proofs.Math.ListN.{set}
-use Rattle.std.proofs.lemmas.List.{length-set, length-append}
+use Rattle.std.proofs.lemmas.List.{length-set, length-append, length-map}
 use Rattle.std.proofs.lemmas.Option.{slice_get_within}
 use Rattle.fused_net.specs.PortLists.{PortLists}
 use Rattle.fused_net.specs.declared.net.Ends.{Ends}
 use Rattle.fused_net.specs.Net.{end_at, port_at, no_ports}
 use Rattle.fused_net.specs.Laws.{Wired}
 use Rattle.fused_net.proofs.Reading.{same_or_not, get_set_same, get_set_other}
+use Rattle.interpreter.specs.declared.parts.Place.{Place}
 use Rattle.interpreter.specs.declared.parts.Seated.{Seated}
-use Rattle.interpreter.specs.Parts.{work_inputs, work_outputs, inputs_at, outputs_at, AllUnused, Becomes, AllBecome, IsWiring, IsSized, IsFilled, written}
+use Rattle.interpreter.specs.Parts.{inputs_at, outputs_at, place_of, ins_at, outs_at, ins_in, outs_in, AllUnused, Becomes, AllBecome, IsWiring, IsSized, IsFilled, written}
 use Rattle.nodes.specs.declared.node.Node.{Node}
 
 some_is : {A : Type 0} (x y : A) → Some x ≡ Some y → x ≡ y
 some_is x y e = cc
 
 -- one place more
-pub inputs_here : {S D : Type 0} (places : List (Seated S D)) (n : ℕ) (d : Seated S D) → n < length places → inputs_at places n ≡ work_inputs (get_or places n d).work
+pub inputs_here : (places : List Place) (n : ℕ) (d : Place) → n < length places → ins_at places n ≡ (get_or places n d).inputs
 inputs_here [] n d h = absurd (omega arith)
 inputs_here (y ∷ ys) zero d h = refl
 inputs_here (y ∷ ys) (suc n) d h = inputs_here ys n d (omega arith)
 
-pub outputs_here : {S D : Type 0} (places : List (Seated S D)) (n : ℕ) (d : Seated S D) → n < length places → outputs_at places n ≡ work_outputs (get_or places n d).work
+pub outputs_here : (places : List Place) (n : ℕ) (d : Place) → n < length places → outs_at places n ≡ (get_or places n d).outputs
 outputs_here [] n d h = absurd (omega arith)
 outputs_here (y ∷ ys) zero d h = refl
 outputs_here (y ∷ ys) (suc n) d h = outputs_here ys n d (omega arith)
+
+-- the places of works
+ins_of_places : {S D : Type 0} (seats : List (Seated S D)) (n : ℕ) → ins_at (map place_of seats) n ≡ inputs_at seats n
+ins_of_places [] n = refl
+ins_of_places (y ∷ ys) zero = refl
+ins_of_places (y ∷ ys) (suc n) = ins_of_places ys n
+
+outs_of_places : {S D : Type 0} (seats : List (Seated S D)) (n : ℕ) → outs_at (map place_of seats) n ≡ outputs_at seats n
+outs_of_places [] n = refl
+outs_of_places (y ∷ ys) zero = refl
+outs_of_places (y ∷ ys) (suc n) = outs_of_places ys n
 
 -- a row that is read behind rows
 get_or_before : {A : Type 0} (xs : List A) (y d : A) (k : ℕ) → k < length xs → get_or (xs ++ y ∷ []) k d ≡ get_or xs k d
@@ -77,29 +89,29 @@ module _ (ports : List PortLists) (e : Ends) (w : ℕ) where
   length_written : length (written ports e w) ≡ length ports
   length_written = length-set _ _ _ ∙ length-set _ _ _
 
-module _ {S D : Type 0} (places : List (Seated S D)) (ends : List Ends) (wiring : IsWiring (inputs_at places) (outputs_at places) (length places) ends) where
-  pub sized_next : (ports : List PortLists) (k : ℕ) → k < length ends → IsSized places ports → IsSized places (written ports (end_at ends k) k)
+module _ (sizes_in sizes_out : ℕ → ℕ) (places : ℕ) (ends : List Ends) (wiring : IsWiring sizes_in sizes_out places ends) where
+  pub sized_next : (ports : List PortLists) (k : ℕ) → k < length ends → IsSized sizes_in sizes_out places ports → IsSized sizes_in sizes_out places (written ports (end_at ends k) k)
   sized_next ports k h z =
       let hf : (end_at ends k).from < length ports = rw z.count (wiring.from_within k h) in
       let ht : (end_at ends k).to < length ports = rw z.count (wiring.to_within k h) in
       record {
         count = length_written ports (end_at ends k) k ∙ z.count;
-        ins = λ n hn. elim (same_or_not n (end_at ends k).to) [
-          | inl same ↦ rw same (ap (λ (l : List ℕ). length l) (ins_here ports (end_at ends k) k hf ht) ∙ length-set _ _ _ ∙ z.ins _ (wiring.to_within k h))
-          | inr ne ↦ ap (λ (l : List ℕ). length l) (ins_other ports (end_at ends k) k n ne hf) ∙ z.ins n hn
+        ins_are = λ n hn. elim (same_or_not n (end_at ends k).to) [
+          | inl same ↦ rw same (ap (λ (l : List ℕ). length l) (ins_here ports (end_at ends k) k hf ht) ∙ length-set _ _ _ ∙ z.ins_are _ (wiring.to_within k h))
+          | inr ne ↦ ap (λ (l : List ℕ). length l) (ins_other ports (end_at ends k) k n ne hf) ∙ z.ins_are n hn
         ];
-        outs = λ n hn. elim (same_or_not n (end_at ends k).from) [
-          | inl same ↦ rw same (ap (λ (l : List ℕ). length l) (outs_here ports (end_at ends k) k hf ht) ∙ length-set _ _ _ ∙ z.outs _ (wiring.from_within k h))
-          | inr ne ↦ ap (λ (l : List ℕ). length l) (outs_other ports (end_at ends k) k n ne ht) ∙ z.outs n hn
+        outs_are = λ n hn. elim (same_or_not n (end_at ends k).from) [
+          | inl same ↦ rw same (ap (λ (l : List ℕ). length l) (outs_here ports (end_at ends k) k hf ht) ∙ length-set _ _ _ ∙ z.outs_are _ (wiring.from_within k h))
+          | inr ne ↦ ap (λ (l : List ℕ). length l) (outs_other ports (end_at ends k) k n ne ht) ∙ z.outs_are n hn
         ];
       }
 
-  pub filled_next : (ports : List PortLists) (k : ℕ) → k < length ends → IsSized places ports → IsFilled ends ports k → IsFilled ends (written ports (end_at ends k) k) (k + 1)
+  pub filled_next : (ports : List PortLists) (k : ℕ) → k < length ends → IsSized sizes_in sizes_out places ports → IsFilled ends ports k → IsFilled ends (written ports (end_at ends k) k) (k + 1)
   filled_next ports k h z f =
       let hf : (end_at ends k).from < length ports = rw z.count (wiring.from_within k h) in
       let ht : (end_at ends k).to < length ports = rw z.count (wiring.to_within k h) in
-      let ho : (end_at ends k).output < length (port_at ports (end_at ends k).from).outs = rw (z.outs _ (wiring.from_within k h)) (wiring.output_within k h) in
-      let hi : (end_at ends k).input < length (port_at ports (end_at ends k).to).ins = rw (z.ins _ (wiring.to_within k h)) (wiring.input_within k h) in
+      let ho : (end_at ends k).output < length (port_at ports (end_at ends k).from).outs = rw (z.outs_are _ (wiring.from_within k h)) (wiring.output_within k h) in
+      let hi : (end_at ends k).input < length (port_at ports (end_at ends k).to).ins = rw (z.ins_are _ (wiring.to_within k h)) (wiring.input_within k h) in
       record {
         outs = λ w hw. elim (same_or_not w k) [
           | inl e ↦ rw e (rw (outs_here ports (end_at ends k) k hf ht) (get_set_same _ _ k ho))
@@ -121,7 +133,7 @@ module _ {S D : Type 0} (places : List (Seated S D)) (ends : List Ends) (wiring 
         ];
       }
 
-  pub wired_of : (ports : List PortLists) → IsSized places ports → IsFilled ends ports (length ends) → Wired ends ports (length places) (length ends)
+  pub wired_of : (ports : List PortLists) → IsSized sizes_in sizes_out places ports → IsFilled ends ports (length ends) → Wired ends ports places (length ends)
   wired_of ports z f = record {
     each_node = z.count;
     each_wire = refl;
@@ -130,12 +142,12 @@ module _ {S D : Type 0} (places : List (Seated S D)) (ends : List Ends) (wiring 
     from_output = f.outs;
     to_input = f.ins;
     input_to = λ n i w hn e.
-        let a = wiring.each_input n i hn (rw (sym (z.ins n hn)) (slice_get_within (port_at ports n).ins i w e)) in
+        let a = wiring.each_input n i hn (rw (sym (z.ins_are n hn)) (slice_get_within (port_at ports n).ins i w e)) in
         let at : slice_get (port_at ports n).ins i ≡ Some a.0 = rw (a.1.1.0, a.1.1.1) at (f.ins a.0 a.1.0) in
         let same : w ≡ a.0 = some_is w a.0 (sym e ∙ at) in
         rw same a.1;
     output_from = λ n j w hn e.
-        let a = wiring.each_output n j hn (rw (sym (z.outs n hn)) (slice_get_within (port_at ports n).outs j w e)) in
+        let a = wiring.each_output n j hn (rw (sym (z.outs_are n hn)) (slice_get_within (port_at ports n).outs j w e)) in
         let at : slice_get (port_at ports n).outs j ≡ Some a.0 = rw (a.1.1.0, a.1.1.1) at (f.outs a.0 a.1.0) in
         let same : w ≡ a.0 = some_is w a.0 (sym e ∙ at) in
         rw same a.1;
@@ -161,9 +173,47 @@ none_left (x ∷ xs) n e h = absurd (omega arith)
 pub len_next : {A : Type 0} (old new : List A) (x : A) (n m : ℕ) → old ≡ x ∷ new → m + 1 ≡ n → n ≡ length old → m ≡ length new
 len_next old new x n m e l h = let c : length old ≡ suc (length new) = ap (λ (l : List _). length l) e in omega arith
 
-pub sized_of : {S D : Type 0} (places : List (Seated S D)) (ports : List PortLists) (n : ℕ) → n ≡ length places → length ports ≡ n
-    → ((k : ℕ) → k < n → length (port_at ports k).ins ≡ inputs_at places k) → ((k : ℕ) → k < n → length (port_at ports k).outs ≡ outputs_at places k) → IsSized places ports
-sized_of places ports n e count ins outs = record { count = count ∙ e; ins = λ k h. ins k (rw e h); outs = λ k h. outs k (rw e h) }
+pub sized_of : (places : List Place) (ports : List PortLists) (n : ℕ) → n ≡ length places → length ports ≡ n
+    → ((k : ℕ) → k < n → length (port_at ports k).ins ≡ ins_at places k) → ((k : ℕ) → k < n → length (port_at ports k).outs ≡ outs_at places k) → IsSized (ins_at places) (outs_at places) (length places) ports
+sized_of places ports n e count ins outs = record { count = count ∙ e; ins_are = λ k h. ins k (rw e h); outs_are = λ k h. outs k (rw e h) }
 
 pub length_next : {A : Type 0} (xs : List A) (x : A) (n : ℕ) → length xs ≡ n → length (xs ++ x ∷ []) ≡ n + 1
 length_next xs x n e = length-append xs (x ∷ []) ∙ (let h : length xs ≡ n = e in omega arith)
+
+-- tables have a row for each of their own rows
+pub sized_self : (ports : List PortLists) → IsSized (ins_in ports) (outs_in ports) (length ports) ports
+sized_self ports = record { count = refl; ins_are = λ n h. refl; outs_are = λ n h. refl }
+
+module _ {S D : Type 0} (seats : List (Seated S D)) (rows : List PortLists) (sized : IsSized (ins_at (map place_of seats)) (outs_at (map place_of seats)) (length (map place_of seats)) rows) where
+  count_is : length (map place_of seats) ≡ length seats
+  count_is = length-map seats place_of
+
+  pub rows_count : length rows ≡ length seats
+  rows_count = sized.count ∙ count_is
+
+  rows_ins : (n : ℕ) → n < length seats → ins_in rows n ≡ inputs_at seats n
+  rows_ins n h = sized.ins_are n (rw count_is h) ∙ ins_of_places seats n
+
+  rows_outs : (n : ℕ) → n < length seats → outs_in rows n ≡ outputs_at seats n
+  rows_outs n h = sized.outs_are n (rw count_is h) ∙ outs_of_places seats n
+
+  -- a wiring of the works is one of the rows
+  pub rows_wiring : (told ends : List Ends) → ends ≡ told → IsWiring (inputs_at seats) (outputs_at seats) (length seats) told → IsWiring (ins_in rows) (outs_in rows) (length rows) ends
+  rows_wiring told ends e w = rw (e, rows_count) (record {
+    from_within = w.from_within;
+    to_within = w.to_within;
+    output_within = λ i h. let o : outs_in rows (end_at told i).from ≡ outputs_at seats (end_at told i).from = rows_outs _ (w.from_within i h) in let lt : (end_at told i).output < outputs_at seats (end_at told i).from = w.output_within i h in omega (arith, o, lt);
+    input_within = λ i h. let o : ins_in rows (end_at told i).to ≡ inputs_at seats (end_at told i).to = rows_ins _ (w.to_within i h) in let lt : (end_at told i).input < inputs_at seats (end_at told i).to = w.input_within i h in omega (arith, o, lt);
+    one_output = w.one_output;
+    one_input = w.one_input;
+    each_output = λ n j h lt. w.each_output n j h (let o : outs_in rows n ≡ outputs_at seats n = rows_outs n h in omega (arith, o, lt));
+    each_input = λ n i h lt. w.each_input n i h (let o : ins_in rows n ≡ inputs_at seats n = rows_ins n h in omega (arith, o, lt));
+  })
+
+  -- and what has a row for each of theirs has one for each port of the works
+  pub rows_sized : (ports : List PortLists) → IsSized (ins_in rows) (outs_in rows) (length rows) ports → IsSized (inputs_at seats) (outputs_at seats) (length seats) ports
+  rows_sized ports z = record {
+    count = z.count ∙ rows_count;
+    ins_are = λ n h. z.ins_are n (rw rows_count h) ∙ rows_ins n h;
+    outs_are = λ n h. z.outs_are n (rw rows_count h) ∙ rows_outs n h;
+  }

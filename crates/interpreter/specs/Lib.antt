@@ -1,4 +1,5 @@
 pub mod Parts
 pub mod Island
 pub mod Room
+pub mod Handles
 pub mod Picks

@@ -2,7 +2,6 @@
 use Rattle.std.specs.Prelude.{◌≡◌, ℕ, zero, suc, ◌<◌, ◌^◌, false, None, Some, List, [], ◌∷◌, map, length, slice_get, slice_set, ⊤}
 use Rattle.port_core.specs.declared.view.InView.TheVariants.{Idle}
 use Rattle.port_core.specs.declared.view.OutView.TheVariants.{Unasked}
-use Rattle.stream_model.specs.declared.kind.Kind.{Kind}
 use Rattle.stream_model.specs.declared.kind.Kind.TheVariants.{Ignore}
 use Rattle.stream_model.specs.declared.outcome.EndState.TheVariants.{Unended}
 use Rattle.stage_linear.specs.declared.phase.Phase.TheVariants.{New}
@@ -19,6 +18,7 @@ use Rattle.fused_net.specs.declared.net.Ends.{Ends}
 use Rattle.fused_net.specs.PortLists.{PortLists}
 use Rattle.fused_net.specs.Net.{end_at, port_at}
 use Rattle.interpreter.specs.declared.parts.Link.{Link}
+use Rattle.interpreter.specs.declared.parts.Place.{Place}
 use Rattle.interpreter.specs.declared.parts.Seated.{Seated}
 use Rattle.interpreter.specs.declared.parts.Work.{Work}
 use Rattle.interpreter.specs.declared.parts.Work.TheVariants.{Reading, Making, Linear, State, FanIn, FanOut, Writing}
@@ -60,6 +60,21 @@ abbrev pub outputs_at : {S D : Type 0} → List (Seated S D) → ℕ → ℕ
 outputs_at [] n = 0
 outputs_at (x ∷ xs) zero = work_outputs x.work
 outputs_at (x ∷ xs) (suc n) = outputs_at xs n
+
+-- what is known of a place before its work holds its handle
+abbrev pub place_of : {S D : Type 0} → Seated S D → Place
+place_of s = record { node = s.node; inputs = work_inputs s.work; outputs = work_outputs s.work }
+
+-- how many inputs and outputs place n has
+abbrev pub ins_at : List Place → ℕ → ℕ
+ins_at [] n = 0
+ins_at (p ∷ ps) zero = p.inputs
+ins_at (p ∷ ps) (suc n) = ins_at ps n
+
+abbrev pub outs_at : List Place → ℕ → ℕ
+outs_at [] n = 0
+outs_at (p ∷ ps) zero = p.outputs
+outs_at (p ∷ ps) (suc n) = outs_at ps n
 
 -- a work that did nothing yet: no reader has read, no logic was started, and a sink has a drain exactly where it has a file
 abbrev pub IsUnused : {S D : Type 0} → Work S D → Type 0
@@ -114,10 +129,17 @@ AllBecome (s ∷ ss) (x ∷ xs) = Becomes s x × AllBecome ss xs
 AllBecome _ _ = ⊥
 
 -- the tables of the wires at the ports of each place have a row for each port
-pub record IsSized {S D : Type 0} (places : List (Seated S D)) (ports : List PortLists) : Type 0 where
-  pub count : length ports ≡ length places
-  pub ins : (n : ℕ) → n < length places → length (port_at ports n).ins ≡ inputs_at places n
-  pub outs : (n : ℕ) → n < length places → length (port_at ports n).outs ≡ outputs_at places n
+pub record IsSized (ins outs : ℕ → ℕ) (places : ℕ) (ports : List PortLists) : Type 0 where
+  pub count : length ports ≡ places
+  pub ins_are : (n : ℕ) → n < places → length (port_at ports n).ins ≡ ins n
+  pub outs_are : (n : ℕ) → n < places → length (port_at ports n).outs ≡ outs n
+
+-- how many rows a place has in them
+abbrev pub ins_in : List PortLists → ℕ → ℕ
+ins_in ports n = length (port_at ports n).ins
+
+abbrev pub outs_in : List PortLists → ℕ → ℕ
+outs_in ports n = length (port_at ports n).outs
 
 -- the first k links stand in the tables
 pub record IsFilled (ends : List Ends) (ports : List PortLists) (k : ℕ) : Type 0 where

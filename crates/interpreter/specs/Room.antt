@@ -1,6 +1,13 @@
--- Room for what an island leaves at its end.
-use Rattle.std.specs.Prelude.{◌≡◌, ℕ, ◌≤◌, [], vec_capacity}
+-- Room for an island: what it takes of memory before its nodes hold their handles.
+use Rattle.std.specs.Prelude.{◌≡◌, ℕ, ◌+◌, ◌≤◌, List, [], map, length, replicate, vec_len, vec_capacity}
+use Rattle.wire_core.specs.Cell.{new_cell}
+use Rattle.stage_core.specs.Handling.{most_acts}
 use Rattle.interpreter.specs.declared.island.IslandEnd.{IslandEnd}
+use Rattle.interpreter.specs.declared.parts.Link.{Link}
+use Rattle.interpreter.specs.declared.parts.Place.{Place}
+use Rattle.interpreter.specs.declared.room.Blank.{Blank}
+use Rattle.interpreter.specs.declared.room.Room.{Room}
+use Rattle.interpreter.specs.Parts.{ends_of, number_of, ins_at, outs_at, IsSized}
 
 -- its lists are empty, and have room for what so many nodes and wires leave
 pub record HasRoom {S D : Type 0} (room : IslandEnd S D) (nodes wires : ℕ) : Type 0 where
@@ -14,3 +21,28 @@ pub record HasRoom {S D : Type 0} (room : IslandEnd S D) (nodes wires : ℕ) : T
   pub room_for_readers : nodes ≤ vec_capacity room.readers
   pub room_for_writers : nodes ≤ vec_capacity room.writers
   pub room_for_picks : nodes ≤ vec_capacity room.picks
+
+-- there is room for what so many nodes more leave
+pub record RoomFor {S D : Type 0} (room : IslandEnd S D) (nodes : ℕ) : Type 0 where
+  pub sinks : vec_len room.sinks + nodes ≤ vec_capacity room.sinks
+  pub picks : vec_len room.picks + nodes ≤ vec_capacity room.picks
+  pub readers : vec_len room.readers + nodes ≤ vec_capacity room.readers
+  pub writers : vec_len room.writers + nodes ≤ vec_capacity room.writers
+
+-- the engine of these places and links, before its nodes are there
+pub record IsBlank {S D : Type 0} (blank : Blank S D) (places : List Place) (links : List Link) : Type 0 where
+  pub ends : blank.ends.items ≡ map ends_of links
+  pub rows : IsSized (ins_at places) (outs_at places) (length places) blank.ports.items
+  pub wires : blank.wires.items ≡ replicate (length links) new_cell
+  pub ring : blank.ring ≡ record { size = length links; queue = [] }
+  pub no_nodes : blank.nodes.items ≡ []
+  pub room_for_nodes : length places ≤ vec_capacity blank.nodes
+
+-- the room for an island of these places and links
+pub record IsRoom {S D : Type 0} (room : Room S D) (places : List Place) (links : List Link) : Type 0 where
+  pub no_acts : room.acts.items ≡ []
+  pub room_for_acts : most_acts ≤ room.acts.room
+  pub numbers : room.numbers.items ≡ map number_of links
+  pub places_are : room.places.items ≡ map (λ (p : Place). p.node) places
+  pub blank : IsBlank room.blank places links
+  pub end : HasRoom room.end (length places) (length links)

@@ -1,22 +1,23 @@
 // An island of nodes that runs event by event.
-ghost use Rattle.std.specs.Prelude.{◌≡◌, ◌+◌, ◌<◌, ◌≤◌, ◌↔◌, ◌∷◌, ◌++◌, [], false, length, IsTrue, IsOk, IfOk, OnOk, OnErr, map, vec_len, vec_capacity};
+ghost use Rattle.std.specs.Prelude.{◌≡◌, ◌+◌, ◌<◌, ◌≤◌, ◌↔◌, ◌∷◌, ◌++◌, [], false, length, ℕ, IsTrue, IsOk, IfOk, IfErr, OnOk, OnErr, map, vec_len, vec_capacity};
 ghost use Rattle.fused_net.specs.Laws.{Starting, GoesOn, BreaksOff};
 ghost use Rattle.fused_net.specs.Costs.{all_asks, Uses};
-ghost use Rattle.nodes.specs.Nodes.{node_fresh, node_row, node_law, node_asking, node_moves, node_keeps};
-ghost use Rattle.interpreter.specs.Parts.{AreParts, AllBecome, ends_of, number_of};
+ghost use Rattle.nodes.specs.Nodes.{node_fresh, node_row, node_law, node_asking, node_moves, KeepsNode};
+ghost use Rattle.interpreter.specs.Parts.{AreParts, AllBecome, ends_of, number_of, place_of};
 ghost use Rattle.interpreter.specs.Picks.{node_number, pick_of, with_picks, picks_of};
 ghost use Rattle.interpreter.specs.Island.{Keeps, counts_of, sinks_of, readers_of, writers_of};
 ghost use Rattle.std.specs.Option.{option_map};
-ghost use Rattle.interpreter.specs.Room.{HasRoom};
+ghost use Rattle.interpreter.specs.Room.{HasRoom, RoomFor, IsBlank, IsRoom};
+ghost use Rattle.interpreter.specs.Handles.{DidNotStart};
 
-use crate::parts::{Parts, all_ends, all_numbers, all_places, join, seat_all};
+use crate::parts::{Parts, join, seat_all};
+use crate::room::{Blank, Room};
 use elem_core::why::NoMemory;
 use fused_net::engine::Engine;
 use nodes::node::{Node, NodeEnd};
 use port_core::acts::Acts;
 use port_core::pick_log::PickLog;
-use stage_core::stage::MOST_ACTS;
-use std::alloc::Global;
+use std::alloc::{AllocError, Global};
 use std::cmp::min;
 use std::marker::Model;
 use stream_io::outside::{Drain, Source};
@@ -70,10 +71,23 @@ pub struct IslandEnd<S: Source, D: Drain> {
     pub writers: Vec<D>,
 }
 
+/// Why an island did not start.
+#[derive(Drop)]
+pub enum StartEnd<S: Source, D: Drain> {
+    /// Memory was wanting: it was taken apart.
+    NoMemory(IslandEnd<S, D>),
+}
+
 impl<S: Source, D: Drain> Island<S, D> {
-    /// Makes the island of these parts and starts every node.
-    pub fn start(alloc: Global, parts: Parts<S, D>) -> Result<Island<S, D>, NoMemory>
-        requires { AreParts parts.nodes.items parts.links.items }
+    /// Makes the island of these parts, for which this room was taken, and starts every node. Only a node may want memory then.
+    /// On want of memory nothing was read or written, and it hands all handles back as they were handed in.
+    pub fn start(
+        alloc: Global,
+        parts: Parts<S, D>,
+        room: Room<S, D>,
+    ) -> Result<Island<S, D>, StartEnd<S, D>>
+        requires parts { AreParts parts.nodes.items parts.links.items }
+        requires room { IsRoom room (map place_of parts.nodes.items) parts.links.items }
         ensures whole { IfOk result (λ i. i.broken ≡ false) }
         ensures unused { IfOk result (λ i. i.used ≡ 0) }
         ensures laws { IfOk result (λ i. Keeps S.state D.state i.net 0) }
@@ -81,22 +95,28 @@ impl<S: Source, D: Drain> Island<S, D> {
         ensures ends { IfOk result (λ i. i.net.ends ≡ map ends_of parts.links.items) }
         ensures numbers { IfOk result (λ i. i.numbers ≡ map number_of parts.links.items) }
         ensures places { IfOk result (λ i. i.places ≡ map node_number parts.nodes.items) }
+        ensures no_memory { IfErr result (DidNotStart S.state D.state parts.nodes.items) }
     {
-        let mut acts = Acts::new(alloc, MOST_ACTS)?;
-        let numbers = all_numbers(alloc, &parts.links)?;
-        let places = all_places(alloc, &parts.nodes)?;
-        let room = IslandEnd::sized(alloc, parts.nodes.len(), numbers.len())?;
-        let mut engine = assemble(alloc, parts)?;
-        engine.start(alloc, &mut acts)?;
-        Ok(Island {
-            engine,
-            acts,
+        let Room {
+            mut acts,
             numbers,
             places,
-            used: 0,
-            broken: false,
-            room,
-        })
+            blank,
+            end,
+        } = room;
+        let mut engine = assemble(alloc, parts, blank);
+        match engine.start(alloc, &mut acts) {
+            Ok(()) => Ok(Island {
+                engine,
+                acts,
+                numbers,
+                places,
+                used: 0,
+                broken: false,
+                room: end,
+            }),
+            Err(AllocError) => Err(StartEnd::NoMemory(leave(engine, &numbers, &places, end))),
+        }
     }
 
     /// Handles at most `limit` events, one unit each, and fewer only where none is left. It answers how many. On want of memory
@@ -112,7 +132,7 @@ impl<S: Source, D: Drain> Island<S, D> {
         ensures uses { IfOk result (λ used. Uses self.old.net self.new.net used) }
         ensures within { IfOk result (λ used. used ≤ limit) }
         ensures rest { IfOk result (λ used. used < limit → self.new.net.queue ≡ []) }
-        ensures breaks { OnErr result (BreaksOff node_row (node_law S.state D.state) node_asking node_moves (node_keeps S.state D.state) self.old.net self.new.net.nodes) }
+        ensures breaks { OnErr result (BreaksOff node_row (node_law S.state D.state) node_asking node_moves (KeepsNode S.state D.state) self.old.net self.new.net.nodes) }
     {
         self.broken = true;
         let used = self.engine.execute(alloc, limit, &mut self.acts)?;
@@ -146,36 +166,84 @@ impl<S: Source, D: Drain> Island<S, D> {
         ensures readers { IfOk result (λ e. e.readers.items ≡ readers_of self.net.nodes) }
         ensures writers { IfOk result (λ e. e.writers.items ≡ writers_of self.net.nodes) }
     {
-        let (nodes, wires) = self.engine.into_parts();
-        let mut end = self.room;
-        count_wires(&self.numbers, &wires, &mut end.wires);
+        let numbers = self.numbers;
         let places = self.places;
-        let mut place = 0;
-        for node in nodes {
-            end.add(places[place], node);
-            place += 1;
-        }
-        Ok(end)
+        Ok(leave(self.engine, &numbers, &places, self.room))
     }
 }
 
-// The engine of these parts, of which no node was started.
+// The engine of these parts, of which no node was started. It takes no memory.
 fn assemble<S: Source, D: Drain>(
     alloc: Global,
     parts: Parts<S, D>,
-) -> Result<Engine<Node<S, D>>, NoMemory>
-    requires { AreParts parts.nodes.items parts.links.items }
-    ensures starting { IfOk result (λ e. Starting node_row (node_law S.state D.state) node_asking node_moves node_fresh e 0) }
-    ensures firsts { IfOk result (λ e. AllBecome parts.nodes.items e.firsts) }
-    ensures ends { IfOk result (λ e. e.ends ≡ map ends_of parts.links.items) }
-    ensures asks { IfOk result (λ e. all_asks e ≡ 0) }
-    ensures count { IfOk result (λ e. length e.nodes ≡ vec_len parts.nodes) }
+    blank: Blank<S, D>,
+) -> Engine<Node<S, D>>
+    requires parts { AreParts parts.nodes.items parts.links.items }
+    requires blank { IsBlank blank (map place_of parts.nodes.items) parts.links.items }
+    ensures starting { Starting node_row (node_law S.state D.state) node_asking node_moves node_fresh result 0 }
+    ensures firsts { AllBecome parts.nodes.items result.firsts }
+    ensures ends { result.ends ≡ map ends_of parts.links.items }
+    ensures asks { all_asks result ≡ 0 }
+    ensures count { length result.nodes ≡ vec_len parts.nodes }
 {
-    let ends = all_ends(alloc, &parts.links)?;
-    let ports = join(alloc, &parts.nodes, &ends)?;
-    let nodes = seat_all(alloc, parts.nodes)?;
-    let engine = Engine::new(alloc, nodes, ends, ports)?;
-    Ok(engine)
+    let Blank {
+        ends,
+        mut ports,
+        wires,
+        ring,
+        nodes,
+    } = blank;
+    join(&mut ports, &ends);
+    let nodes = seat_all(alloc, parts.nodes, nodes);
+    Engine::new(nodes, ends, ports, wires, ring)
+}
+
+// Takes an engine apart, into lists that have room for what it leaves.
+fn leave<S: Source, D: Drain>(
+    engine: Engine<Node<S, D>>,
+    numbers: &[u32],
+    places: &[u32],
+    end: IslandEnd<S, D>,
+) -> IslandEnd<S, D>
+    requires room { HasRoom end (length engine.nodes) (length numbers.now) }
+    requires places { length places.now ≡ length engine.nodes }
+    ensures sinks { result.sinks.items ≡ sinks_of engine.nodes }
+    ensures wires { result.wires.items ≡ counts_of numbers.now engine.wires }
+    ensures picks { map pick_of result.picks.items ≡ picks_of places.now engine.nodes }
+    ensures readers { result.readers.items ≡ readers_of engine.nodes }
+    ensures writers { result.writers.items ≡ writers_of engine.nodes }
+{
+    let (nodes, wires) = engine.into_parts();
+    let mut end = gather(nodes, places, end);
+    count_wires(numbers, &wires, &mut end.wires);
+    end
+}
+
+// What these nodes leave, of which these are the numbers, into lists that are empty and have room for it.
+fn gather<S: Source, D: Drain>(
+    nodes: Vec<Node<S, D>>,
+    places: &[u32],
+    end: IslandEnd<S, D>,
+) -> IslandEnd<S, D>
+    requires no_sinks { end.sinks.items ≡ [] }
+    requires no_picks { end.picks.items ≡ [] }
+    requires no_readers { end.readers.items ≡ [] }
+    requires no_writers { end.writers.items ≡ [] }
+    requires room { RoomFor end (vec_len nodes) }
+    requires places { length places.now ≡ vec_len nodes }
+    ensures sinks { result.sinks.items ≡ sinks_of nodes.items }
+    ensures picks { map pick_of result.picks.items ≡ picks_of places.now nodes.items }
+    ensures readers { result.readers.items ≡ readers_of nodes.items }
+    ensures writers { result.writers.items ≡ writers_of nodes.items }
+    ensures wires { result.wires ≡ end.wires }
+{
+    let mut end = end;
+    let mut place = 0;
+    for node in nodes {
+        end.add(places[place], node);
+        place += 1;
+    }
+    end
 }
 
 // What each wire carried, with its number, into an empty list that has room for it.
@@ -198,7 +266,11 @@ fn count_wires(numbers: &[u32], wires: &[Wire], counts: &mut Vec<(u32, WireCount
 
 impl<S: Source, D: Drain> IslandEnd<S, D> {
     // Nothing, with room for what so many nodes and wires leave.
-    fn sized(alloc: Global, nodes: usize, wires: usize) -> Result<IslandEnd<S, D>, NoMemory>
+    pub(crate) fn sized(
+        alloc: Global,
+        nodes: usize,
+        wires: usize,
+    ) -> Result<IslandEnd<S, D>, NoMemory>
         ensures { IfOk result (λ e. HasRoom e nodes wires) }
     {
         Ok(IslandEnd {
@@ -212,23 +284,13 @@ impl<S: Source, D: Drain> IslandEnd<S, D> {
 
     // What node `number` leaves, into lists that have room for it.
     fn add(&mut self, number: u32, node: Node<S, D>)
-        requires sinks_room { vec_len self.old.sinks < vec_capacity self.old.sinks }
-        requires picks_room { vec_len self.old.picks < vec_capacity self.old.picks }
-        requires readers_room { vec_len self.old.readers < vec_capacity self.old.readers }
-        requires writers_room { vec_len self.old.writers < vec_capacity self.old.writers }
+        requires { RoomFor self.old 1 }
         ensures sinks { self.new.sinks.items ≡ self.old.sinks.items ++ sinks_of (node ∷ []) }
         ensures picks { map pick_of self.new.picks.items ≡ map pick_of self.old.picks.items ++ picks_of (number ∷ []) (node ∷ []) }
         ensures readers { self.new.readers.items ≡ self.old.readers.items ++ readers_of (node ∷ []) }
         ensures writers { self.new.writers.items ≡ self.old.writers.items ++ writers_of (node ∷ []) }
         ensures wires { self.new.wires ≡ self.old.wires }
-        ensures few_sinks { vec_len self.new.sinks ≤ vec_len self.old.sinks + 1 }
-        ensures few_picks { vec_len self.new.picks ≤ vec_len self.old.picks + 1 }
-        ensures few_readers { vec_len self.new.readers ≤ vec_len self.old.readers + 1 }
-        ensures few_writers { vec_len self.new.writers ≤ vec_len self.old.writers + 1 }
-        ensures sinks_stay { vec_capacity self.new.sinks ≡ vec_capacity self.old.sinks }
-        ensures picks_stay { vec_capacity self.new.picks ≡ vec_capacity self.old.picks }
-        ensures readers_stay { vec_capacity self.new.readers ≡ vec_capacity self.old.readers }
-        ensures writers_stay { vec_capacity self.new.writers ≡ vec_capacity self.old.writers }
+        ensures room { (n : ℕ) → RoomFor self.old (n + 1) → RoomFor self.new n }
     {
         let (end, log) = node.close();
         add_picks(&mut self.picks, number, log);

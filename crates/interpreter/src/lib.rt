@@ -3,3 +3,4 @@
 
 pub mod island;
 pub mod parts;
+pub mod room;

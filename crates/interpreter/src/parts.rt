@@ -1,10 +1,10 @@
 // What an island is made of, and the wiring of its ports.
-ghost use Rattle.std.specs.Prelude.{◌≡◌, ◌<◌, ◌^◌, IfOk, length, map};
+ghost use Rattle.std.specs.Prelude.{◌≡◌, ◌<◌, ◌≤◌, ◌^◌, [], IfOk, length, map, vec_len, vec_capacity};
 ghost use Rattle.fused_net.specs.Net.{port_at};
 ghost use Rattle.fused_net.specs.Laws.{Wired};
 ghost use Rattle.nodes.specs.Kinds.{IsMaker, maker_of, writes_of};
-ghost use Rattle.interpreter.specs.Parts.{work_inputs, work_outputs, inputs_at, outputs_at, IsUnused, AllUnused, IsWiring, IsSized, ends_of, number_of, Becomes, AllBecome, written};
-ghost use Rattle.interpreter.specs.Picks.{node_number};
+ghost use Rattle.interpreter.specs.Parts.{ins_at, outs_at, ins_in, outs_in, IsUnused, AllUnused, IsWiring, IsSized, ends_of, number_of, Becomes, AllBecome, written};
+ghost use Rattle.interpreter.specs.declared.parts.Place.{Place};
 
 use elem_core::why::NoMemory;
 use fused_net::net::{Ends, Ports};
@@ -75,30 +75,15 @@ pub struct Parts<S: Source, D: Drain> {
     pub links: Vec<Link>,
 }
 
-impl<S: Source, D: Drain> Work<S, D> {
-    fn inputs(&self) -> usize
-        ensures { result ≡ work_inputs self.now }
-    {
-        match self {
-            Work::Reading(_) | Work::Making(_) => 0,
-            Work::Linear(_) | Work::State(_) | Work::FanOut(_, _) | Work::Writing(_, _) => 1,
-            Work::FanIn(_, inputs) => *inputs as usize,
-        }
-    }
-
-    fn outputs(&self) -> usize
-        ensures { result ≡ work_outputs self.now }
-    {
-        match self {
-            Work::Reading(_)
-            | Work::Making(_)
-            | Work::Linear(_)
-            | Work::State(_)
-            | Work::FanIn(_, _) => 1,
-            Work::FanOut(_, outputs) => *outputs as usize,
-            Work::Writing(_, _) => 0,
-        }
-    }
+/// What is known of a place before its work holds its handle.
+#[derive(Clone, Copy, PartialEq, Eq, Debug)]
+pub struct Place {
+    /// The number of its node.
+    pub node: u32,
+    /// How many inputs it has.
+    pub inputs: u32,
+    /// How many outputs it has.
+    pub outputs: u32,
 }
 
 // The node of a work that did nothing yet.
@@ -160,19 +145,22 @@ fn written_by(kind: &Kind) -> Writes
     }
 }
 
-// The nodes of works that did nothing yet.
+// The nodes of works that did nothing yet, in an empty list that has room for them. It takes no memory.
 pub fn seat_all<S: Source, D: Drain>(
     alloc: Global,
     places: Vec<Seated<S, D>>,
-) -> Result<Vec<Node<S, D>>, NoMemory>
-    requires { AllUnused places.items }
-    ensures { IfOk result (λ nodes. AllBecome places.items nodes.items) }
+    nodes: Vec<Node<S, D>>,
+) -> Vec<Node<S, D>>
+    requires unused { AllUnused places.items }
+    requires empty { nodes.items ≡ [] }
+    requires room { vec_len places ≤ vec_capacity nodes }
+    ensures { AllBecome places.items result.items }
 {
-    let mut nodes = Vec::new(alloc);
+    let mut nodes = nodes;
     for seated in places {
-        nodes.push(seat(alloc, seated))?;
+        nodes.push_reserved(seat(alloc, seated));
     }
-    Ok(nodes)
+    nodes
 }
 
 // The ports at the ends of each link.
@@ -203,30 +191,31 @@ pub fn all_numbers(alloc: Global, links: &[Link]) -> Result<Vec<u32>, NoMemory>
 }
 
 // The numbers of the places' nodes in the blueprint.
-pub fn all_places<S: Source, D: Drain>(
-    alloc: Global,
-    places: &[Seated<S, D>],
-) -> Result<Vec<u32>, NoMemory>
-    ensures { IfOk result (λ numbers. numbers.items ≡ map node_number places.now) }
+pub fn all_places(alloc: Global, places: &[Place]) -> Result<Vec<u32>, NoMemory>
+    ensures { IfOk result (λ numbers. numbers.items ≡ map (λ (p : Place). p.node) places.now) }
 {
     let mut numbers = Vec::new(alloc);
-    for seated in places {
-        numbers.push(seated.node)?;
+    for place in places {
+        numbers.push(place.node)?;
     }
     Ok(numbers)
 }
 
+// The rows of a place.
+fn blank_row(alloc: Global, place: Place) -> Result<Ports, NoMemory>
+    ensures ins { IfOk result (λ row. length row.ins ≡ place.inputs) }
+    ensures outs { IfOk result (λ row. length row.outs ≡ place.outputs) }
+{
+    Ports::sized(alloc, place.inputs as usize, place.outputs as usize)
+}
+
 // A table with a row for each port of each place.
-fn blank_ports<S: Source, D: Drain>(
-    alloc: Global,
-    places: &[Seated<S, D>],
-) -> Result<Vec<Ports>, NoMemory>
-    ensures { IfOk result (λ ports. IsSized places.now ports.items) }
+pub fn blank_ports(alloc: Global, places: &[Place]) -> Result<Vec<Ports>, NoMemory>
+    ensures { IfOk result (λ ports. IsSized (ins_at places.now) (outs_at places.now) (length places.now) ports.items) }
 {
     let mut ports = Vec::new(alloc);
     for n in 0..places.len() {
-        let work = &places[n].work;
-        ports.push(Ports::sized(alloc, work.inputs(), work.outputs())?)?;
+        ports.push(blank_row(alloc, places[n])?)?;
     }
     Ok(ports)
 }
@@ -243,20 +232,14 @@ fn write_wire(ports: &mut Vec<Ports>, ends: Ends, w: u32)
     ports[ends.to as usize].set_input(ends.input, w);
 }
 
-// The wires of each place, by its ports.
-pub fn join<S: Source, D: Drain>(
-    alloc: Global,
-    places: &[Seated<S, D>],
-    ends: &[Ends],
-) -> Result<Vec<Ports>, NoMemory>
-    requires wiring { IsWiring (inputs_at places.now) (outputs_at places.now) (length places.now) ends.now }
+// The wires of each place, by its ports, into the table. It takes no memory.
+pub fn join(ports: &mut Vec<Ports>, ends: &[Ends])
+    requires wiring { IsWiring (ins_in ports.old.items) (outs_in ports.old.items) (length ports.old.items) ends.now }
     requires few { length ends.now < 2 ^ 32 }
-    ensures sized { IfOk result (λ ports. IsSized places.now ports.items) }
-    ensures wired { IfOk result (λ ports. Wired ends.now ports.items (length places.now) (length ends.now)) }
+    ensures sized { IsSized (ins_in ports.old.items) (outs_in ports.old.items) (length ports.old.items) ports.new.items }
+    ensures wired { Wired ends.now ports.new.items (length ports.old.items) (length ends.now) }
 {
-    let mut ports = blank_ports(alloc, places)?;
     for w in 0..ends.len() {
-        write_wire(&mut ports, ends[w], w as u32);
+        write_wire(ports, ends[w], w as u32);
     }
-    Ok(ports)
 }

@@ -1,11 +1,12 @@
 -- The goals of `parts::seat_all` that the search leaves.
+use Rattle.std.proofs.Common.{arith}
 use Rattle.interpreter.proofs.Tables.{seat_next, seat_last, none_left, len_next}
 use Rattle.interpreter.proofs.parts.seat_all.Goals as goal
 
 pub loop-seated-preserved : goal.loop-seated-preserved
 loop-seated-preserved g c =
-    let n = seat_next _ _ _ _ _ _ _ c.in-Some.ensures.steps.0 c.loop-seated.invariant.3 c.seat.ensures c.in_ok-push.ensures.items c.loop-seated.invariant.4 in
-    (tt, tt, len_next _ _ _ _ _ c.in-Some.ensures.steps.0 c.in-Some.ensures.steps.1 c.loop-seated.invariant.2, n.0, n.1)
+    let n = seat_next _ _ _ _ _ _ _ c.in-Some.ensures.steps.0 c.loop-seated.invariant.3 c.seat.ensures c.push_reserved.ensures.items c.loop-seated.invariant.4 in
+    (tt, tt, len_next _ _ _ _ _ c.in-Some.ensures.steps.0 c.in-Some.ensures.steps.1 c.loop-seated.invariant.2, n.0, n.1, omega (arith, c.loop-seated.invariant.5, c.in-Some.ensures.steps.1, c.push_reserved.ensures.len, c.push_reserved.ensures.capacity))
 
 pub returns : goal.returns
 returns g c = seat_last _ _ _ (none_left _ _ c.in-None.ensures.steps.0 c.loop-seated.invariant.2) c.loop-seated.invariant.4

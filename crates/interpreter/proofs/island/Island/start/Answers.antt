@@ -1,17 +1,26 @@
 -- The goals of `island::Island::start` that the search leaves.
-use Rattle.std.proofs.Common.{◌∙◌, ap, length, arith}
+use Rattle.std.proofs.Common.{◌≡◌, ◌∙◌, ap, length, map, sym, arith}
 use Rattle.std.proofs.lemmas.List.{length-map}
-use Rattle.interpreter.specs.Picks.{node_number}
-use Rattle.interpreter.proofs.Islands.{keeps_new, room_as}
+use Rattle.interpreter.specs.Parts.{number_of, place_of}
+use Rattle.interpreter.proofs.Islands.{keeps_new, room_as, numbers_same}
+use Rattle.interpreter.proofs.Handing.{hands_back}
 use Rattle.interpreter.proofs.island.Island.start.Goals as goal
 
 pub invariant_of-result : goal.invariant_of-result
-invariant_of-result g c = (
-  room_as _ _ _ _ _ c.in_ok-room.ensures (omega (arith, c.in_ok-start.ensures.on.nodes, c.in_ok-engine.ensures.count, c.len.ensures)) (omega (arith, c.len-2.ensures, c.in_ok-numbers.numbers.ok)),
-  ap length c.in_ok-places.ensures ∙ (length-map c.deref-2.result.now node_number ∙ omega (arith, c.deref-2.ensures.len, c.in_ok-start.ensures.on.nodes, c.in_ok-engine.ensures.count)),
-  λ _. (
-    keeps_new _ _ c.in_ok-engine.engine c.start.new.self c.in_ok-start.ensures.laws c.in_ok-start.ensures.asks c.in_ok-engine.ensures.asks,
-    ap (λ a. a.items) c.in_ok-start.ensures.acts ∙ ap (λ a. a.items) c.in_ok-acts.ensures,
-    omega (arith, ap (λ a. a.room) c.in_ok-start.ensures.acts, ap (λ a. a.room) c.in_ok-acts.ensures),
-  ),
-)
+invariant_of-result g c =
+    let places : length (map place_of c.args.parts.nodes.items) ≡ length c.args.parts.nodes.items = length-map c.args.parts.nodes.items place_of in
+    let nodes : length c.start.new.self.nodes ≡ length (map place_of c.args.parts.nodes.items) = c.start.ensures.count ∙ c.assemble-engine.ensures.count ∙ c.args.parts.nodes.ok.0 ∙ sym places in (
+      room_as _ _ _ _ _ c.requires.room.end nodes (ap length c.requires.room.numbers ∙ length-map c.args.parts.links.items number_of),
+      ap length c.requires.room.places_are ∙ length-map (map place_of c.args.parts.nodes.items) _ ∙ sym nodes,
+      λ _. (
+        keeps_new _ _ c.assemble-engine.result c.start.new.self c.in-Ok.ensures.laws c.in-Ok.ensures.asks c.assemble-engine.ensures.asks,
+        ap (λ a. a.items) c.in-Ok.ensures.acts ∙ c.requires.room.no_acts,
+        omega (arith, ap (λ a. a.room) c.in-Ok.ensures.acts, c.requires.room.room_for_acts),
+      ),
+    )
+
+pub returns-in-Ok-clause-places : goal.returns-in-Ok-clause-places
+returns-in-Ok-clause-places g c = c.requires.room.places_are ∙ numbers_same c.args.parts.nodes.items
+
+pub returns-in-Err-clause-no_memory : goal.returns-in-Err-clause-no_memory
+returns-in-Err-clause-no_memory g c = hands_back g.S.Source.state g.D.Drain.state _ _ _ _ c.assemble-engine.ensures.firsts c.start.ensures.kept c.leave.ensures.readers c.leave.ensures.writers

@@ -1,0 +1,48 @@
+-- The handles of an island's places, and of what is handed back where it did not start.
+use Rattle.std.specs.Prelude.{◌≡◌, Some, None, List, [], ◌∷◌, map}
+use Rattle.stream_io.specs.State.{SourceState, DrainState}
+use Rattle.interpreter.specs.declared.island.IslandEnd.{IslandEnd}
+use Rattle.interpreter.specs.declared.island.StartEnd.{StartEnd}
+use Rattle.interpreter.specs.declared.island.StartEnd.TheVariants.{NoMemory}
+use Rattle.interpreter.specs.declared.parts.Seated.{Seated}
+use Rattle.interpreter.specs.declared.parts.Work.{Work}
+use Rattle.interpreter.specs.declared.parts.Work.TheVariants.{Reading, Making, Linear, State, FanIn, FanOut, Writing}
+
+-- the source of a reader, in front of others
+abbrev pub with_source : {S D : Type 0} → Work S D → List S → List S
+with_source (Reading r) rest = r.source ∷ rest
+with_source (Making k) rest = rest
+with_source (Linear l) rest = rest
+with_source (State l) rest = rest
+with_source (FanIn l n) rest = rest
+with_source (FanOut l n) rest = rest
+with_source (Writing k d) rest = rest
+
+-- the drain of a sink with a file, in front of others
+abbrev pub with_drain : {S D : Type 0} → Work S D → List D → List D
+with_drain (Reading r) rest = rest
+with_drain (Making k) rest = rest
+with_drain (Linear l) rest = rest
+with_drain (State l) rest = rest
+with_drain (FanIn l n) rest = rest
+with_drain (FanOut l n) rest = rest
+with_drain (Writing k (Some d)) rest = d ∷ rest
+with_drain (Writing k None) rest = rest
+
+-- those of all places, in their order
+abbrev pub sources_in : {S D : Type 0} → List (Seated S D) → List S
+sources_in [] = []
+sources_in (s ∷ ss) = with_source s.work (sources_in ss)
+
+abbrev pub drains_in : {S D : Type 0} → List (Seated S D) → List D
+drains_in [] = []
+drains_in (s ∷ ss) = with_drain s.work (drains_in ss)
+
+-- Its handles are those that stand at these places, in their order, each as it was handed in.
+pub record HandsBack {S D : Type 0} (sources : S → SourceState) (drains : D → DrainState) (places : List (Seated S D)) (e : IslandEnd S D) : Type 0 where
+  pub readers : map sources e.readers.items ≡ map sources (sources_in places)
+  pub writers : map drains e.writers.items ≡ map drains (drains_in places)
+
+-- an island of these places did not start
+abbrev pub DidNotStart : {S D : Type 0} → (S → SourceState) → (D → DrainState) → List (Seated S D) → StartEnd S D → Type 0
+DidNotStart sources drains places (NoMemory e) = HandsBack sources drains places e

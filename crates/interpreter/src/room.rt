@@ -1,0 +1,77 @@
+// What an island takes of memory before its nodes hold their handles.
+ghost use Rattle.std.specs.Prelude.{◌≡◌, ◌<◌, ◌^◌, IfOk, length};
+ghost use Rattle.interpreter.specs.Room.{IsBlank, IsRoom};
+
+use crate::island::IslandEnd;
+use crate::parts::{Link, Place, all_ends, all_numbers, all_places, blank_ports};
+use elem_core::why::NoMemory;
+use fused_net::engine::unused_wires;
+use fused_net::net::{Ends, Ports};
+use nodes::node::Node;
+use port_core::acts::Acts;
+use port_core::ring::EventRing;
+use stage_core::stage::MOST_ACTS;
+use std::alloc::Global;
+use stream_io::outside::{Drain, Source};
+use wire_core::wire::Wire;
+
+/// An engine before its nodes are there: tables with a row for each of their ports, and an empty list that has room for them.
+#[derive(Drop)]
+pub struct Blank<S: Source, D: Drain> {
+    pub(crate) ends: Vec<Ends>,
+    pub(crate) ports: Vec<Ports>,
+    pub(crate) wires: Vec<Wire>,
+    pub(crate) ring: EventRing,
+    pub(crate) nodes: Vec<Node<S, D>>,
+}
+
+/// All that an island takes of memory but what its nodes themselves need, so that it is made and taken apart without any.
+#[derive(Drop)]
+pub struct Room<S: Source, D: Drain> {
+    pub(crate) acts: Acts,
+    pub(crate) numbers: Vec<u32>,
+    pub(crate) places: Vec<u32>,
+    pub(crate) blank: Blank<S, D>,
+    pub(crate) end: IslandEnd<S, D>,
+}
+
+impl<S: Source, D: Drain> Blank<S, D> {
+    fn of(alloc: Global, places: &[Place], links: &[Link]) -> Result<Blank<S, D>, NoMemory>
+        requires { length links.now < 2 ^ 32 }
+        ensures { IfOk result (λ blank. IsBlank blank places.now links.now) }
+    {
+        let ends = all_ends(alloc, links)?;
+        let ports = blank_ports(alloc, places)?;
+        let wires = unused_wires(alloc, links.len())?;
+        let ring = EventRing::new(alloc, links.len() as u32)?;
+        let nodes = Vec::with_capacity(alloc, places.len())?;
+        Ok(Blank {
+            ends,
+            ports,
+            wires,
+            ring,
+            nodes,
+        })
+    }
+}
+
+impl<S: Source, D: Drain> Room<S, D> {
+    /// The room for an island of these places and links.
+    pub fn of(alloc: Global, places: &[Place], links: &[Link]) -> Result<Room<S, D>, NoMemory>
+        requires { length links.now < 2 ^ 32 }
+        ensures { IfOk result (λ room. IsRoom room places.now links.now) }
+    {
+        let acts = Acts::new(alloc, MOST_ACTS)?;
+        let numbers = all_numbers(alloc, links)?;
+        let blank = Blank::of(alloc, places, links)?;
+        let end = IslandEnd::sized(alloc, places.len(), links.len())?;
+        let places = all_places(alloc, places)?;
+        Ok(Room {
+            acts,
+            numbers,
+            places,
+            blank,
+            end,
+        })
+    }
+}

@@ -8,6 +8,8 @@ mod lanes;
 #[cfg(test)]
 mod plans;
 #[cfg(test)]
+mod policies;
+#[cfg(test)]
 mod real_folder;
 #[cfg(test)]
 mod switches;

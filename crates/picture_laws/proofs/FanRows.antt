@@ -13,7 +13,7 @@ use Rattle.stage_out.specs.declared.logic.OutLogic.{OutLogic}
 use Rattle.stage_out.specs.OutLogics.{OutAsking, OutLaw}
 use Rattle.stage_out.specs.OutLogics as out
 use Rattle.nodes.specs.declared.node.Node.{Node}
-use Rattle.nodes.specs.declared.node.Node.TheVariants.{Reading, Making, Linear, State, FanIn, FanOut, Writing, Ignoring}
+use Rattle.nodes.specs.declared.node.Node.TheVariants.{FanIn, FanOut}
 use Rattle.nodes.specs.Nodes.{node_row, node_law, node_asking, node_moves}
 use Rattle.run_account.specs.KindLaws.{PictureLaws}
 use Rattle.run_account.specs.Ports.{InPort, OutPort}

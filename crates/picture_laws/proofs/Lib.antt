@@ -3,6 +3,9 @@ pub mod OnePorts
 pub mod Stages
 pub mod MachineRows
 pub mod LinearRows
+pub mod OneFlows
+pub mod DropRows
+pub mod RecoverRows
 pub mod StateRows
 pub mod EndRows
 pub mod FanRows

@@ -16,7 +16,7 @@ use Rattle.stream_model.specs.declared.outcome.EndState.{EndState}
 use Rattle.stream_model.specs.declared.outcome.EndState.TheVariants.{Ended, Failed, Unended, WriteFault}
 use Rattle.stage_law.specs.Held.{told, Held, owing}
 use Rattle.stage_law.specs.Law.{ends_by, Law}
-use Rattle.stage_law.specs.Row.{InClosed, OutClosed}
+use Rattle.stage_law.specs.Row.{InClosed, OutClosed, BothClosed}
 use Rattle.stage_linear.specs.declared.phase.Phase.{Phase}
 use Rattle.stage_linear.specs.declared.phase.Phase.TheVariants.{New, Open, Closed}
 use Rattle.stage_linear.specs.Tasks.{Spreads}
@@ -27,6 +27,14 @@ use Rattle.nodes.specs.Sink.{sink_row_in}
 use Rattle.nodes.specs.Ignoring.{ignore_row_in}
 use Rattle.picture_laws.specs.Picture.{has_ended}
 use Rattle.picture_laws.proofs.OnePorts.{one_same}
+
+-- a stage that has closed its ports
+pub closed_both : (x : InView) (y : OutView) → BothClosed x y → InClosed x × OutClosed y
+closed_both Over Shut r = (tt, tt)
+closed_both Over Refused r = (tt, tt)
+closed_both Left Shut r = (tt, tt)
+closed_both Left Refused r = (tt, tt)
+closed_both x y r = absurd r
 
 -- a source of lines
 pub lines_ports : (p : Phase) (y : OutView) → lines_row_in p y → (y ≡ Unasked) ⊎ OutClosed y

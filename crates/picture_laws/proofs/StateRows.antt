@@ -10,7 +10,7 @@ use Rattle.port_core.specs.View.{View, in_at, out_at}
 use Rattle.port_core.specs.declared.view.InView.{InView}
 use Rattle.port_core.specs.declared.view.InView.TheVariants.{Idle, Waiting, Over, Left}
 use Rattle.port_core.specs.declared.view.OutView.{OutView}
-use Rattle.port_core.specs.declared.view.OutView.TheVariants.{Unasked, Asked, Shut, Refused}
+use Rattle.port_core.specs.declared.view.OutView.TheVariants.{Unasked, Asked}
 use Rattle.stream_io.specs.State.{SourceState, DrainState}
 use Rattle.stream_model.specs.declared.kind.Kind.{Kind}
 use Rattle.stream_model.specs.declared.kind.Kind.TheVariants.{Grouped, Fold, Reduce, Scan, Buffer}
@@ -21,15 +21,16 @@ use Rattle.stream_model.specs.Graph as graph
 use Rattle.stream_model.specs.Linear.{Book, Stage, Work, linear, begin_work, work_of}
 use Rattle.stream_model.specs.Machine.{State, going, is_going, run, Stands}
 use Rattle.stream_model.specs.Node.{World}
+use Rattle.stream_model.specs.Picks as picks
 use Rattle.stream_model.specs.Lane.{Carries}
 use Rattle.stream_model.specs.Outlook.{End, unended, ended, failed}
-use Rattle.stream_picture.specs.Lawful.{RowLawful}
-use Rattle.stream_picture.specs.OneWay.{holds_at_end, is_sink}
-use Rattle.stream_picture.specs.Rests.{IsShut, BufferRests, RowRests}
+use Rattle.stream_picture.specs.Lawful.{RowLawful, RecoverLawful}
+use Rattle.stream_picture.specs.OneWay.{as_it_is, holds_at_end, is_sink}
+use Rattle.stream_picture.specs.Rests.{IsShut, BufferRests, DroppingRests, StageRests, RowRests}
 use Rattle.stream_picture.specs.View.{EachWire, demand, wanted}
 use Rattle.stage_law.specs.Held.{Held, owing}
 use Rattle.stage_law.specs.Law.{TookAs, Law}
-use Rattle.stage_law.specs.Row.{InClosed, OutClosed, BothClosed}
+use Rattle.stage_law.specs.Row.{InClosed, OutClosed}
 use Rattle.stage_law.proofs.Whole.{stage_stands}
 use Rattle.stage_linear.specs.declared.phase.Phase.{Phase}
 use Rattle.stage_linear.specs.declared.phase.Phase.TheVariants.{New, Open, Closed}
@@ -47,6 +48,10 @@ use Rattle.nodes.specs.Nodes.{node_row, node_law, node_asking, node_moves}
 use Rattle.stage_state.specs.declared.logic.StateLogic.{StateLogic}
 use Rattle.stage_state.specs.declared.logic.StateLogic.TheVariants.{Machine, Dropping, Recovering}
 use Rattle.stage_state.specs.Handling.{StateRow, StateLaw}
+use Rattle.stage_state.specs.Logics.{BeginsAs}
+use Rattle.stage_dropping.specs.Droppings as drop
+use Rattle.stage_dropping.specs.Droppings.{DropRow, DropsAs}
+use Rattle.stage_recover.specs.Recoverings.{Recover, recover_at, RecoverRow, RecoversAs}
 use Rattle.stage_state.specs.MachineNodes.{MachineRow, MachineLaw}
 use Rattle.run_account.specs.KindLaws.{IsOneMachine, Moments, PictureLaws}
 use Rattle.run_account.specs.Ports.{InPort, OutPort, InStands, OutStands, InRests, OutRests}
@@ -54,20 +59,16 @@ use Rattle.run_account.proofs.Coming.{elements_told, elements_prefix}
 use Rattle.run_account.proofs.Nodes.{begins_one}
 use Rattle.run_laws.specs.Made.{FirstState}
 use Rattle.run_laws.proofs.Machines.{IsKeeping, keeping_machine}
-use Rattle.run_laws.proofs.States.{KeepsFirst, BuffersFirst, state_cases, keeps_law, buffers_law, drops_apart, recovers_apart}
+use Rattle.run_laws.proofs.States.{KeepsFirst, BuffersFirst, state_cases, keeps_law, buffers_law, Told}
+use Rattle.run_laws.proofs.StateChoices.{DropsFirst, drops_first, IsRecover, recovers_first}
 use Rattle.picture_laws.specs.Picture.{sink_ended}
 use Rattle.picture_laws.proofs.MachineRows.{stage_given, stage_asked, waited_rests, idles}
 use Rattle.picture_laws.proofs.OnePorts.{one_views, one_same, began, given_one, reached, not_both}
-use Rattle.picture_laws.proofs.Stages.{law_at, same_start, Waited, waited_of}
+use Rattle.picture_laws.proofs.DropRows.{row_lawful, row_rests, drops_lawful, drops_rest}
+use Rattle.picture_laws.proofs.RecoverRows.{recover_ports, waits_asked, take_few, passed_all, recover_given, recover_moved, recover_rests}
+use Rattle.picture_laws.proofs.Stages.{closed_both, law_at, same_start, Waited, waited_of}
 
 -- ---- what the rows say
-
-closed_both : (x : InView) (y : OutView) → BothClosed x y → InClosed x × OutClosed y
-closed_both Over Shut r = (tt, tt)
-closed_both Over Refused r = (tt, tt)
-closed_both Left Shut r = (tt, tt)
-closed_both Left Refused r = (tt, tt)
-closed_both x y r = absurd r
 
 -- one that keeps: it waits and owes nothing, nobody asks it, it owes a value behind the end of its input, or all is closed
 data KeepPorts (p : Phase) (e : Ending) (k : List Tree) (x : InView) (y : OutView) : Type 0 where
@@ -350,13 +351,103 @@ module _ {S D : Type 0} (sources : S → SourceState) (drains : D → DrainState
     one_picture : Laws (node.State (Machine first)) (node.State (Machine x)) (i ∷ []) (o ∷ [])
     one_picture = elim (state_cases k n.kind n.decider first is_machine begins) [ inl c ↦ keeps_picture c | inr c ↦ buffers_picture c ]
 
-  one_picture_of : (first x : StateLogic) (i : InPort) (o : OutPort) → FirstState k n first → StateRow x (record { ins = i.view ∷ []; outs = o.view ∷ [] })
+  -- ---- one that drops
+
+  module _ (first x : drop.Dropping) (i : InPort) (o : OutPort) (begins : BeginsAs n.kind k n.decider (Dropping first)) (same : w.moves k ≡ x.moves) (r : DropRow x (record { ins = i.view ∷ []; outs = o.view ∷ [] }))
+      (law : DropsAs first x (record { ins = i.view ∷ []; outs = o.view ∷ [] }) (i.got ∷ []) (o.sent ∷ [])) where
+    drop_kind : DropsFirst k n.kind first
+    drop_kind = drops_first k n.kind n.decider first begins
+
+    drop_row : InStands i → InRests i → OutRests o
+        → (EachWire IsShut (i.wire ∷ []) × EachWire IsShut (o.wire ∷ [])) ⊎ DroppingRests (picks.nothing_held (picks.buffered drop_kind.policy drop_kind.room x.moves i.wire.list picks.empty_buffer).held) i.wire o.wire
+    drop_row si ri ro =
+        subst (λ (z : drop.Dropping). (EachWire IsShut (i.wire ∷ []) × EachWire IsShut (o.wire ∷ [])) ⊎ DroppingRests (picks.nothing_held (picks.buffered z.policy z.size x.moves i.wire.list picks.empty_buffer).held) i.wire o.wire) drop_kind.is
+        (drops_rest first x i o law si ri ro r)
+
+    drop_still : (EachWire IsShut (i.wire ∷ []) × EachWire IsShut (o.wire ∷ [])) ⊎ DroppingRests (picks.nothing_held (picks.buffered drop_kind.policy drop_kind.room x.moves i.wire.list picks.empty_buffer).held) i.wire o.wire
+        → (EachWire IsShut (i.wire ∷ []) × EachWire IsShut (o.wire ∷ [])) ⊎ RowRests g w k n.kind n.decider (i.wire ∷ []) (o.wire ∷ [])
+    drop_still (inl h) = inl h
+    drop_still (inr h) = inr (subst (λ (kd : Kind). RowRests g w k kd n.decider (i.wire ∷ []) (o.wire ∷ [])) (sym drop_kind.kind_is) (row_rests g w k n.decider drop_kind.room x.moves same drop_kind.policy i.wire o.wire drop_kind.drops h))
+
+    drops_picture : Laws (node.State (Dropping first)) (node.State (Dropping x)) (i ∷ []) (o ∷ [])
+    drops_picture = record {
+      lawful = λ si so m. subst (λ (kd : Kind). RowLawful g w k kd n.decider (i.wire ∷ []) (o.wire ∷ [])) (sym drop_kind.kind_is)
+          (row_lawful g w k n.decider drop_kind.room x.moves same drop_kind.policy i.wire o.wire drop_kind.drops (drops_lawful first x i o law si.0 so.0));
+      no_valve = λ moved. ap (λ (kd : Kind). valve_order kd moved) drop_kind.kind_is;
+      rests = λ si so ri ro. drop_still (drop_row si.0 ri.0 ro.0);
+      matches = λ sink ri. let no : is_sink (Buffer drop_kind.room drop_kind.policy) ≡ true = rw drop_kind.kind_is at sink in cc;
+    }
+
+  -- ---- a recover
+
+  record RecoverNow (first : Recover) (v : View) (took gave : List (List Item)) : Type 0 where
+    now : Recover
+    row_holds : RecoverRow now v
+    law_holds : RecoversAs first now v took gave
+
+  recover_now : (first : Recover) (x : Node S D) (v : View) (took gave : List (List Item)) → node_row x v → node_law sources drains (node.State (Recovering first)) x v took gave → RecoverNow first v took gave
+  recover_now first (node.State (Recovering x)) v took gave r law = record { now = x; row_holds = r; law_holds = law }
+  recover_now first x v took gave r law = absurd law
+
+  module _ (first x : Recover) (i : InPort) (o : OutPort) (begins : BeginsAs n.kind k n.decider (Recovering first)) (same : w.moves k ≡ x.moves) (r : RecoverRow x (record { ins = i.view ∷ []; outs = o.view ∷ [] }))
+      (law : RecoversAs first x (record { ins = i.view ∷ []; outs = o.view ∷ [] }) (i.got ∷ []) (o.sent ∷ [])) where
+    recover_kind : IsRecover n.kind first
+    recover_kind = recovers_first k n.kind n.decider first begins
+
+    abbrev LastAsk : Type 0
+    LastAsk = Moments node_row (node_law sources drains) node_asking node_moves (node.State (Recovering first)) (node.State (Recovering x)) (i ∷ []) (o ∷ []) 0
+
+    -- when it last asked it had given all that came, and was asked for more
+    recover_asked : InStands i → OutStands o → LastAsk → demand i.wire ≤ wanted o.wire
+    recover_asked si so m =
+        let e = m.0 in
+        let l = recover_now first e.old e.knew e.had e.given e.row_held e.law_held in
+        let p = one_views (recover_at l.now l.now.phase l.now.over l.now.asked) e.knew l.row_holds.row in
+        let ports = recover_ports l.now p.x p.y l.row_holds.started p.holds in
+        let was = waits_asked l.now p.x p.y ports (sym p.inp ∙ e.waited) in
+        let asked : out_at e.knew 0 ≡ Asked = p.out ∙ was.1.1 in
+        let b = began e.had i.got i.want e.took_on e.one_more in
+        let q = given_one e.given o.sent o.want e.gave_on (e.wants 0 asked) in
+        let all = passed_all first l.now e.knew e.had e.given l.law_holds b.part q.0 b.is q.1.0 was.0 was.1.0 in
+        let one = b.one_more in
+        let reach = si.reach in
+        let more = q.1.1.1 in
+        let wants = so.wants in
+        omega (arith, all, one, reach, more, wants)
+
+    recover_wants : InStands i → OutStands o → LastAsk → 1 ≤ demand i.wire → (true ≡ true) × (length (take (demand i.wire - 1) i.wire.list) < wanted o.wire)
+    recover_wants si so m some =
+        let few = take_few (demand i.wire - 1) i.wire.list in
+        let asked = recover_asked si so m in
+        (refl, omega (arith, few, asked, some))
+
+    recover_still : (EachWire IsShut (i.wire ∷ []) × EachWire IsShut (o.wire ∷ [])) ⊎ StageRests (as_it_is 1 true) i.wire o.wire
+        → (EachWire IsShut (i.wire ∷ []) × EachWire IsShut (o.wire ∷ [])) ⊎ RowRests g w k n.kind n.decider (i.wire ∷ []) (o.wire ∷ [])
+    recover_still (inl h) = inl h
+    recover_still (inr h) = inr (recover_kind.rests g w k n.decider (i.wire ∷ []) (o.wire ∷ []) h)
+
+    recover_picture : Laws (node.State (Recovering first)) (node.State (Recovering x)) (i ∷ []) (o ∷ [])
+    recover_picture = record {
+      lawful = λ si so m. recover_kind.lawful g w k n.decider (i.wire ∷ []) (o.wire ∷ []) (
+        (recover_given first x i o law si.0 so.0, λ some. recover_wants si.0 so.0 (m 0 (reached i si.0 some)) some),
+        subst (λ (ms : List ℕ). RecoverLawful ms i.wire o.wire) (sym same) (recover_moved first x i o law si.0 so.0),
+      );
+      no_valve = recover_kind.no_valve;
+      rests = λ si so ri ro. recover_still (recover_rests first x i o law si.0 so.0 ri.0 ro.0 r);
+      matches = λ sink ri. absurd (not_both recover_kind.no_sink sink);
+    }
+
+  one_picture_of : (first x : StateLogic) (i : InPort) (o : OutPort) → FirstState k n first → Told w k x → StateRow x (record { ins = i.view ∷ []; outs = o.view ∷ [] })
       → StateLaw first x (record { ins = i.view ∷ []; outs = o.view ∷ [] }) (i.got ∷ []) (o.sent ∷ []) → Laws (node.State first) (node.State x) (i ∷ []) (o ∷ [])
-  one_picture_of (Machine first) (Machine x) i o f r law = one_picture first x i o f.is_state f.begins.as_kind.1 r law
-  one_picture_of (Dropping first) x i o f r law = absurd (drops_apart k n.kind n.decider first f.is_state f.begins.as_kind)
-  one_picture_of (Recovering first) x i o f r law = absurd (recovers_apart k n.kind n.decider first f.is_state f.begins.as_kind)
-  one_picture_of (Machine first) (Dropping x) i o f r law = absurd law
-  one_picture_of (Machine first) (Recovering x) i o f r law = absurd law
+  one_picture_of (Machine first) (Machine x) i o f told r law = one_picture first x i o f.begins.as_kind.0 f.begins.as_kind.1 r law
+  one_picture_of (Dropping first) (Dropping x) i o f told r law = drops_picture first x i o f.begins.as_kind (told x.moves refl) r law
+  one_picture_of (Recovering first) (Recovering x) i o f told r law = recover_picture first x i o f.begins.as_kind (told x.moves refl) r law
+  one_picture_of (Machine first) (Dropping x) i o f told r law = absurd law
+  one_picture_of (Machine first) (Recovering x) i o f told r law = absurd law
+  one_picture_of (Dropping first) (Machine x) i o f told r law = absurd law
+  one_picture_of (Dropping first) (Recovering x) i o f told r law = absurd law
+  one_picture_of (Recovering first) (Machine x) i o f told r law = absurd law
+  one_picture_of (Recovering first) (Dropping x) i o f told r law = absurd law
 
   -- it has one input and one output
   abbrev NotOne : StateLogic → List InPort → List OutPort → Type 0
@@ -382,10 +473,10 @@ module _ {S D : Type 0} (sources : S → SourceState) (drains : D → DrainState
   two_inputs (Dropping x) i j is os r = r.row
   two_inputs (Recovering x) i j is os r = r.row
 
-  pub state_picture : (first x : StateLogic) (is : List InPort) (os : List OutPort) → FirstState k n first → StateRow x (record { ins = map (λ (i : InPort). i.view) is; outs = map (λ (o : OutPort). o.view) os })
+  pub state_picture : (first x : StateLogic) (is : List InPort) (os : List OutPort) → FirstState k n first → Told w k x → StateRow x (record { ins = map (λ (i : InPort). i.view) is; outs = map (λ (o : OutPort). o.view) os })
       → StateLaw first x (record { ins = map (λ (i : InPort). i.view) is; outs = map (λ (o : OutPort). o.view) os }) (map (λ (i : InPort). i.got) is) (map (λ (o : OutPort). o.sent) os) → Laws (node.State first) (node.State x) is os
-  state_picture first x (i ∷ []) (o ∷ []) f r law = one_picture_of first x i o f r law
-  state_picture first x [] os f r law = absurd (no_input x os r)
-  state_picture first x (i ∷ []) [] f r law = absurd (no_output x i r)
-  state_picture first x (i ∷ []) (o ∷ p ∷ os) f r law = absurd (two_outputs x i o p os r)
-  state_picture first x (i ∷ j ∷ is) os f r law = absurd (two_inputs x i j is os r)
+  state_picture first x (i ∷ []) (o ∷ []) f told r law = one_picture_of first x i o f told r law
+  state_picture first x [] os f told r law = absurd (no_input x os r)
+  state_picture first x (i ∷ []) [] f told r law = absurd (no_output x i r)
+  state_picture first x (i ∷ []) (o ∷ p ∷ os) f told r law = absurd (two_outputs x i o p os r)
+  state_picture first x (i ∷ j ∷ is) os f told r law = absurd (two_inputs x i j is os r)

@@ -24,7 +24,7 @@ use Rattle.stream_model.specs.Linear.{Work, passing, work_of}
 use Rattle.stage_law.specs.Held.{told}
 use Rattle.stage_law.specs.Law.{TookAs}
 use Rattle.stage_linear.specs.States.{IsLinear}
-use Rattle.stage_state.specs.States.{IsMachine}
+use Rattle.stage_state.specs.Logics.{IsStateful}
 use Rattle.wire_core.specs.Marks.{wanted}
 use Rattle.wire_core.specs.Reading.{inp_of, got_of}
 use Rattle.nodes.specs.declared.node.Node.{Node}
@@ -62,7 +62,7 @@ not_linear (kind.Head name) h i = i
 not_linear (kind.Last name) h i = i
 not_linear _ h i = h
 
-not_stateful : (shape : Kind) → IsFileSink shape → IsMachine shape → ⊥
+not_stateful : (shape : Kind) → IsFileSink shape → IsStateful shape → ⊥
 not_stateful (kind.ToLines name) h i = i
 not_stateful (kind.Head name) h i = i
 not_stateful (kind.Last name) h i = i
@@ -106,7 +106,7 @@ ignore_cases sources drains k n (Ignoring first) (Ignoring now) v took gave is m
 ignore_cases sources drains k n (Reading first) now v took gave is made law = let e : kind.Lines made.name ≡ kind.Ignore = sym made.kind_is ∙ is in absurd cc
 ignore_cases sources drains k n (Making first) now v took gave is made law = let e : IsMaker kind.Ignore = subst IsMaker is made.is_maker in absurd e
 ignore_cases sources drains k n (Linear first) now v took gave is made law = let e : IsLinear kind.Ignore = subst IsLinear is made.is_linear in absurd e
-ignore_cases sources drains k n (State first) now v took gave is made law = let e : IsMachine kind.Ignore = subst IsMachine is made.is_state in absurd e
+ignore_cases sources drains k n (State first) now v took gave is made law = let e : IsStateful kind.Ignore = subst IsStateful is made.is_state in absurd e
 ignore_cases sources drains k n (FanIn first) now v took gave is made law = let e : IsFanIn kind.Ignore = subst IsFanIn is made.is_in in absurd e
 ignore_cases sources drains k n (FanOut first) now v took gave is made law = let e : IsOut kind.Ignore = subst IsOut is made.is_out in absurd e
 ignore_cases sources drains k n (Writing first) now v took gave is made law = let e : IsFileSink kind.Ignore = subst IsFileSink is made.is_sink in absurd e

@@ -5,7 +5,7 @@ use Rattle.elem_core.specs.Tree.{text}
 use Rattle.elem_core.specs.declared.item.Item.{Item}
 use Rattle.port_core.specs.View.{View}
 use Rattle.stage_linear.specs.States.{IsLinear}
-use Rattle.stage_state.specs.States.{IsMachine}
+use Rattle.stage_state.specs.Logics.{IsStateful}
 use Rattle.stream_model.specs.declared.kind.Kind.TheVariants as kind
 use Rattle.stream_model.specs.Graph.{Graph, Wire, find_source}
 use Rattle.stream_model.specs.Graph as graph
@@ -38,7 +38,7 @@ source_cases sources drains k n name (Making first) now v took gave is made law 
 source_cases sources drains k n name (Writing first) now v took gave is made law = let e : IsFileSink (kind.Lines name) = subst IsFileSink is made.is_sink in absurd e
 source_cases sources drains k n name (Ignoring first) now v took gave is made law = let e : kind.Ignore ≡ kind.Lines name = sym made.kind_is ∙ is in absurd cc
 source_cases sources drains k n name (Linear first) now v took gave is made law = let e : IsLinear (kind.Lines name) = subst IsLinear is made.is_linear in absurd e
-source_cases sources drains k n name (State first) now v took gave is made law = let e : IsMachine (kind.Lines name) = subst IsMachine is made.is_state in absurd e
+source_cases sources drains k n name (State first) now v took gave is made law = let e : IsStateful (kind.Lines name) = subst IsStateful is made.is_state in absurd e
 source_cases sources drains k n name (FanIn first) now v took gave is made law = let e : IsFanIn (kind.Lines name) = subst IsFanIn is made.is_in in absurd e
 source_cases sources drains k n name (FanOut first) now v took gave is made law = let e : IsOut (kind.Lines name) = subst IsOut is made.is_out in absurd e
 source_cases sources drains k n name (Reading first) now v took gave is made law = absurd law

@@ -26,7 +26,7 @@ module _ {S D : Type 0} (sources : S → SourceState) (drains : D → DrainState
   node_laws (Reading first) (Reading now) v took gave made tells many law = reading_laws sources first now v took gave law g w k n made tells.0
   node_laws (Making first) (Making now) v took gave made tells many law = making_laws g w k n first now v took gave made law
   node_laws (Linear first) (Linear now) v took gave made tells many law = stage_laws g w k n first now v took gave made law
-  node_laws (State first) (State now) v took gave made tells many law = state_laws g w k n first now v took gave made law
+  node_laws (State first) (State now) v took gave made tells many law = state_laws g w k n first now v took gave made tells.1 law
   node_laws (FanIn first) (FanIn now) v took gave made tells many law = in_laws g w k n first now v took gave made.begins many tells.1 law
   node_laws (FanOut first) (FanOut now) v took gave made tells many law = out_laws g w k n first now v took gave made.begins tells.1 law
   node_laws (Writing first) (Writing now) v took gave made tells many law = writing_laws g w k n drains first now v took gave made law

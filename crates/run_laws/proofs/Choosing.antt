@@ -1,10 +1,9 @@
 -- The world in which each node has made the moves of an account's tells what its stages chose.
-use Rattle.std.proofs.Common.{◌≡◌, ◌∙◌, ℕ, List, [], Some, ap}
+use Rattle.std.proofs.Common.{◌∙◌, ℕ, List, [], ap}
 use Rattle.std.specs.Prelude.{Option}
 use Rattle.std.specs.Option.{unwrap_or}
 use Rattle.stream_model.specs.Linear.{Book}
 use Rattle.stream_model.specs.Sources.{File}
-use Rattle.nodes.specs.Nodes.{node_picks}
 use Rattle.nodes.specs.declared.node.Node.{Node}
 use Rattle.run_account.specs.Account.{Account}
 use Rattle.run_laws.specs.Telling.{moves_at, TellsPicks, chosen_world}

@@ -1,6 +1,6 @@
 -- What a buffer that drops and a recover gave agrees with the outlook of their output by their moves, where what they took does.
 use Rattle.std.specs.Prelude.{slice_get, slice_index_or}
-use Rattle.std.proofs.Common.{◌≡◌, ◌≢◌, ℕ, suc, List, [], ◌∷◌, length, true, Some, refl, sym, ap, subst, ◌∙◌, arith}
+use Rattle.std.proofs.Common.{◌≡◌, ◌≢◌, ℕ, suc, List, [], ◌∷◌, length, true, false, None, Some, refl, sym, ap, subst, ◌∙◌, arith}
 use Rattle.elem_core.specs.Tree.{Tree, num, text}
 use Rattle.elem_core.specs.declared.item.Item.{Item}
 use Rattle.elem_core.specs.declared.why.Decider.{Decider}
@@ -9,13 +9,17 @@ use Rattle.stream_model.specs.declared.kind.Kind.{Kind}
 use Rattle.stream_model.specs.declared.kind.Kind.TheVariants.{Buffer, RecoverNum, RecoverText}
 use Rattle.stream_model.specs.declared.kind.Policy.{Policy}
 use Rattle.stream_model.specs.declared.kind.Policy.TheVariants.{Backpressure}
-use Rattle.stream_model.specs.Fits.{moves_fit}
+use Rattle.stream_model.specs.Fits.{moves_fit, valve_order}
 use Rattle.stream_model.specs.Graph.{Graph}
 use Rattle.stream_model.specs.Graph as graph
 use Rattle.stream_model.specs.Node.{World, head_of, node_outlook}
 use Rattle.stream_model.specs.Outlook.{Outlook, End, Agrees}
 use Rattle.stream_model.specs.FanIn.{Inflow, AllAgree}
 use Rattle.stream_model.specs.Picks.{recover_fits, recover_outlook}
+use Rattle.stream_picture.specs.View as picture
+use Rattle.stream_picture.specs.OneWay.{as_it_is, is_sink}
+use Rattle.stream_picture.specs.Lawful.{RowLawful, StageLawful, RecoverLawful}
+use Rattle.stream_picture.specs.Rests.{RowRests, StageRests, OneToOne}
 use Rattle.stage_law.specs.Held.{told}
 use Rattle.stage_fans.specs.PortsLaws.{InPortsLaw}
 use Rattle.stage_dropping.specs.Droppings as dropping
@@ -46,14 +50,14 @@ flows_agree K v took gave os law a = let l = law.law in all_agree os took l.ins 
 -- ---- a buffer that drops
 
 -- at its start
-record DropsFirst (k : ℕ) (kd : Kind) (x : dropping.Dropping) : Type 0 where
-  room : ℕ
-  policy : Policy
-  kind_is : kd ≡ Buffer room policy
-  drops : policy ≢ Backpressure
-  is : x ≡ dropping.begun k room policy
+pub record DropsFirst (k : ℕ) (kd : Kind) (x : dropping.Dropping) : Type 0 where
+  pub room : ℕ
+  pub policy : Policy
+  pub kind_is : kd ≡ Buffer room policy
+  pub drops : policy ≢ Backpressure
+  pub is : x ≡ dropping.begun k room policy
 
-drops_first : (k : ℕ) (kd : Kind) (d : Decider) (x : dropping.Dropping) → BeginsAs kd k d (Dropping x) → DropsFirst k kd x
+pub drops_first : (k : ℕ) (kd : Kind) (d : Decider) (x : dropping.Dropping) → BeginsAs kd k d (Dropping x) → DropsFirst k kd x
 drops_first k (Buffer n p) d x b = record { room = n; policy = p; kind_is = refl; drops = b.0; is = b.1 }
 drops_first k _ d x b = absurd b
 
@@ -92,16 +96,20 @@ module _ (g : Graph) (w : World) (k : ℕ) (n : graph.Node) (first now : droppin
 
 -- ---- a recover
 
--- what a recover of this element gives, and that its moves fit
-record IsRecover (kd : Kind) (x : recover.Recover) : Type 0 where
-  element : Tree
-  outlook : (g : Graph) (w : World) (k : ℕ) (d : Decider) (os : List Outlook) (p : ℕ) → node_outlook g w k kd d os p ≡ recover_outlook element (w.moves k) (head_of os)
-  fits_by : (g : Graph) (w : World) (k : ℕ) (os : List Outlook) → moves_fit g w k kd os ≡ recover_fits (w.moves k) (head_of os)
-  is : x ≡ recover.begun element
+-- what a recover of this element gives, that its moves fit, and its rows in a picture
+pub record IsRecover (kd : Kind) (x : recover.Recover) : Type 0 where
+  pub element : Tree
+  pub outlook : (g : Graph) (w : World) (k : ℕ) (d : Decider) (os : List Outlook) (p : ℕ) → node_outlook g w k kd d os p ≡ recover_outlook element (w.moves k) (head_of os)
+  pub fits_by : (g : Graph) (w : World) (k : ℕ) (os : List Outlook) → moves_fit g w k kd os ≡ recover_fits (w.moves k) (head_of os)
+  pub is : x ≡ recover.begun element
+  pub no_sink : is_sink kd ≡ false
+  pub no_valve : (moves : List ℕ) → valve_order kd moves ≡ None
+  pub lawful : (g : Graph) (w : World) (k : ℕ) (d : Decider) (is os : List picture.View) → OneToOne (StageLawful (as_it_is 1 true)) is os × OneToOne (RecoverLawful (w.moves k)) is os → RowLawful g w k kd d is os
+  pub rests : (g : Graph) (w : World) (k : ℕ) (d : Decider) (is os : List picture.View) → OneToOne (StageRests (as_it_is 1 true)) is os → RowRests g w k kd d is os
 
-recovers_first : (k : ℕ) (kd : Kind) (d : Decider) (x : recover.Recover) → BeginsAs kd k d (Recovering x) → IsRecover kd x
-recovers_first k (RecoverNum z) d x b = record { element = num z; outlook = λ g w k d os p. refl; fits_by = λ g w k os. refl; is = b }
-recovers_first k (RecoverText l) d x b = record { element = text l; outlook = λ g w k d os p. refl; fits_by = λ g w k os. refl; is = b }
+pub recovers_first : (k : ℕ) (kd : Kind) (d : Decider) (x : recover.Recover) → BeginsAs kd k d (Recovering x) → IsRecover kd x
+recovers_first k (RecoverNum z) d x b = record { element = num z; outlook = λ g w k d os p. refl; fits_by = λ g w k os. refl; is = b; no_sink = refl; no_valve = λ moves. refl; lawful = λ g w k d is os r. r; rests = λ g w k d is os r. r }
+recovers_first k (RecoverText l) d x b = record { element = text l; outlook = λ g w k d os p. refl; fits_by = λ g w k os. refl; is = b; no_sink = refl; no_valve = λ moves. refl; lawful = λ g w k d is os r. r; rests = λ g w k d is os r. r }
 recovers_first k _ d x b = absurd b
 
 some_is : (t u : Tree) → Some t ≡ Some u → t ≡ u

@@ -24,17 +24,16 @@ use Rattle.stage_state.specs.States.{Logic, machine_by, held, IsMachine, Begins}
 use Rattle.stage_state.proofs.Buffers.{buffer_agrees}
 use Rattle.stage_state.specs.declared.logic.StateLogic.{StateLogic}
 use Rattle.stage_state.specs.declared.logic.StateLogic.TheVariants.{Machine, Dropping, Recovering}
-use Rattle.stage_state.specs.Logics.{BeginsAs}
+use Rattle.stage_state.specs.Moves.{state_picks}
 use Rattle.stage_state.specs.Handling.{StateLaw}
 use Rattle.stage_state.specs.MachineNodes.{MachineLaw}
-use Rattle.stage_dropping.specs.Droppings as dropping
-use Rattle.stage_recover.specs.Recoverings as recover
 use Rattle.run_account.specs.KindLaws.{RunLaws}
 use Rattle.run_laws.specs.Made.{FirstState}
 use Rattle.run_account.specs.Items.{MayPass, AllMayPass, AgreesWith}
 use Rattle.run_laws.proofs.Machines.{IsKeeping, keeping_machine}
 use Rattle.run_laws.proofs.Readings.{one_port}
 use Rattle.run_laws.proofs.Stages.{one_input, begins_so}
+use Rattle.run_laws.proofs.StateChoices.{dropping_laws, recover_laws}
 
 -- ---- a stage that chooses nothing keeps a group or a value, or is a buffer that holds its input back
 
@@ -125,27 +124,19 @@ module _ (g : Graph) (w : World) (k : ℕ) (n : graph.Node) (first now : Logic) 
   machine_laws : RunLaws g w k n took gave
   machine_laws = record { gives = machine_gives; fits = λ os a. no_moves os }
 
--- ---- a stage of such a kind is no other
+-- ---- by its kind
 
-pub drops_apart : (k : ℕ) (kd : Kind) (d : Decider) (x : dropping.Dropping) → IsMachine kd → BeginsAs kd k d (Dropping x) → ⊥
-drops_apart k (Grouped n) d x h b = b
-drops_apart k (Fold o) d x h b = b
-drops_apart k (Reduce r) d x h b = b
-drops_apart k (Scan o) d x h b = b
-drops_apart k (Buffer n Backpressure) d x h b = b.0 refl
-drops_apart k _ d x h b = absurd h
+-- the moves that it has recorded, where its kind chooses
+abbrev pub Told : World → ℕ → StateLogic → Type 0
+Told w k now = (moves : List ℕ) → state_picks now ≡ Some moves → w.moves k ≡ moves
 
-pub recovers_apart : (k : ℕ) (kd : Kind) (d : Decider) (x : recover.Recover) → IsMachine kd → BeginsAs kd k d (Recovering x) → ⊥
-recovers_apart k (Grouped n) d x h b = b
-recovers_apart k (Fold o) d x h b = b
-recovers_apart k (Reduce r) d x h b = b
-recovers_apart k (Scan o) d x h b = b
-recovers_apart k (Buffer n Backpressure) d x h b = b
-recovers_apart k _ d x h b = absurd h
-
-pub state_laws : (g : Graph) (w : World) (k : ℕ) (n : graph.Node) (first now : StateLogic) (v : View) (took gave : List (List Item)) → FirstState k n first → StateLaw first now v took gave → RunLaws g w k n took gave
-state_laws g w k n (Machine first) (Machine now) v took gave made law = machine_laws g w k n first now v took gave made.is_state made.begins.as_kind.1 law
-state_laws g w k n (Dropping first) now v took gave made law = absurd (drops_apart k n.kind n.decider first made.is_state made.begins.as_kind)
-state_laws g w k n (Recovering first) now v took gave made law = absurd (recovers_apart k n.kind n.decider first made.is_state made.begins.as_kind)
-state_laws g w k n (Machine first) (Dropping now) v took gave made law = absurd law
-state_laws g w k n (Machine first) (Recovering now) v took gave made law = absurd law
+pub state_laws : (g : Graph) (w : World) (k : ℕ) (n : graph.Node) (first now : StateLogic) (v : View) (took gave : List (List Item)) → FirstState k n first → Told w k now → StateLaw first now v took gave → RunLaws g w k n took gave
+state_laws g w k n (Machine first) (Machine now) v took gave made told law = machine_laws g w k n first now v took gave made.begins.as_kind.0 made.begins.as_kind.1 law
+state_laws g w k n (Dropping first) (Dropping now) v took gave made told law = dropping_laws g w k n first now v took gave made.begins.as_kind (told now.moves refl) law
+state_laws g w k n (Recovering first) (Recovering now) v took gave made told law = recover_laws g w k n first now v took gave made.begins.as_kind (told now.moves refl) law
+state_laws g w k n (Machine first) (Dropping now) v took gave made told law = absurd law
+state_laws g w k n (Machine first) (Recovering now) v took gave made told law = absurd law
+state_laws g w k n (Dropping first) (Machine now) v took gave made told law = absurd law
+state_laws g w k n (Dropping first) (Recovering now) v took gave made told law = absurd law
+state_laws g w k n (Recovering first) (Machine now) v took gave made told law = absurd law
+state_laws g w k n (Recovering first) (Dropping now) v took gave made told law = absurd law

@@ -8,7 +8,7 @@ use Rattle.stream_model.specs.Graph as graph
 use Rattle.stream_io.specs.State.{SourceState}
 use Rattle.stage_linear.specs.States.{Logic, IsLinear, Begins}
 use Rattle.stage_state.specs.declared.logic.StateLogic.{StateLogic}
-use Rattle.stage_state.specs.States.{IsMachine}
+use Rattle.stage_state.specs.Logics.{IsStateful}
 use Rattle.stage_state.specs.Handling as state
 use Rattle.stage_in.specs.declared.logic.InLogic.{InLogic}
 use Rattle.stage_in.specs.Logics as fan_in
@@ -37,9 +37,9 @@ pub record FirstLinear (k : ℕ) (n : graph.Node) (x : Logic) : Type 0 where
   pub is_linear : IsLinear n.kind
   pub begins : Begins k n.kind n.decider x
 
--- a stage with state at its start, of a kind that chooses nothing
+-- a stage with state at its start
 pub record FirstState (k : ℕ) (n : graph.Node) (x : StateLogic) : Type 0 where
-  pub is_state : IsMachine n.kind
+  pub is_state : IsStateful n.kind
   pub begins : state.Begins k n.kind n.decider x
 
 -- a stage with several inputs at its start

@@ -4,7 +4,7 @@ use Rattle.std.specs.Prelude.{slice_get}
 use Rattle.std.specs.List.{cons_option}
 use Rattle.stream_model.specs.declared.kind.Kind.TheVariants as kind
 use Rattle.stage_linear.specs.States.{IsLinear}
-use Rattle.stage_state.specs.States.{IsMachine}
+use Rattle.stage_state.specs.Logics.{IsStateful}
 use Rattle.stage_in.specs.Logics.{IsFanIn}
 use Rattle.stage_out.specs.OutLogics.{IsOut}
 use Rattle.nodes.specs.declared.node.Node.{Node}
@@ -48,7 +48,7 @@ module _ {S D : Type 0} where
   reader_at k n ss ds (work.Reading r) x names name is b e = (_, (b, (refl, handed_next (input_of n.kind) ss names r.source name (ap input_of e) is.source)))
   reader_at k n ss ds (work.Making shape) x names name is b e = absurd (subst IsMaker e is.is_maker)
   reader_at k n ss ds (work.Linear l) x names name is b e = absurd (subst IsLinear e is.is_linear)
-  reader_at k n ss ds (work.State l) x names name is b e = absurd (subst IsMachine e is.is_state)
+  reader_at k n ss ds (work.State l) x names name is b e = absurd (subst IsStateful e is.is_state)
   reader_at k n ss ds (work.FanIn l inputs) x names name is b e = absurd (subst IsFanIn e is.is_in)
   reader_at k n ss ds (work.FanOut l outputs) x names name is b e = absurd (subst IsOut e is.is_out)
   reader_at k n ss ds (work.Writing shape (Some d)) x names name is b e = absurd (subst IsFileSink e is.is_sink)
@@ -130,7 +130,7 @@ module _ {S D : Type 0} where
       let no : kind.Lines l.0 ≡ kind.Ignore = sym l.1 ∙ e in absurd cc
   ignorer_at k n ss ds (work.Making shape) x is b e = absurd (subst IsMaker e is.is_maker)
   ignorer_at k n ss ds (work.Linear l) x is b e = absurd (subst IsLinear e is.is_linear)
-  ignorer_at k n ss ds (work.State l) x is b e = absurd (subst IsMachine e is.is_state)
+  ignorer_at k n ss ds (work.State l) x is b e = absurd (subst IsStateful e is.is_state)
   ignorer_at k n ss ds (work.FanIn l inputs) x is b e = absurd (subst IsFanIn e is.is_in)
   ignorer_at k n ss ds (work.FanOut l outputs) x is b e = absurd (subst IsOut e is.is_out)
   ignorer_at k n ss ds (work.Writing shape (Some d)) x is b e = absurd (subst IsFileSink e is.is_sink)

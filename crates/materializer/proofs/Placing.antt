@@ -2,12 +2,11 @@
 use Rattle.std.proofs.Common.{◌≡◌, ℕ, zero, suc, ◌+◌, List, [], ◌∷◌, length, Some, None, refl, ap, sym, ◌∙◌, subst}
 use Rattle.std.specs.Prelude.{slice_get}
 use Rattle.stream_model.specs.declared.kind.Kind.{Kind}
-use Rattle.stream_model.specs.declared.kind.Kind.TheVariants.{Lines, Range, Empty, Failed, Map, Filter, FilterNot, TakeWhile, DropWhile, Take, Drop, Limit, MapConcat, Grouped, Fold, Reduce, Scan, Buffer, Merge, Concat, Interleave, MergeSorted, Zip, Broadcast, Balance, Partition, Unzip, ToLines, Head, Last}
-use Rattle.stream_model.specs.declared.kind.Policy.TheVariants.{Backpressure}
+use Rattle.stream_model.specs.declared.kind.Kind.TheVariants.{Lines, Range, Empty, Failed, Map, Filter, FilterNot, TakeWhile, DropWhile, Take, Drop, Limit, MapConcat, Grouped, Fold, Reduce, Scan, Buffer, RecoverNum, RecoverText, Merge, Concat, Interleave, MergeSorted, Zip, Broadcast, Balance, Partition, Unzip, ToLines, Head, Last}
 use Rattle.stream_model.specs.Composed.{inputs_of}
 use Rattle.stream_picture.specs.View.{outputs_of}
 use Rattle.stage_linear.specs.States.{IsLinear}
-use Rattle.stage_state.specs.States.{IsMachine}
+use Rattle.stage_state.specs.Logics.{IsStateful}
 use Rattle.stage_in.specs.Logics.{IsFanIn}
 use Rattle.stage_in.specs.Logics as fan_in
 use Rattle.stage_out.specs.Machines.{unasked_ports}
@@ -53,12 +52,14 @@ linear_ports (Limit n) h = (refl, refl)
 linear_ports (MapConcat x) h = (refl, refl)
 linear_ports _ h = absurd h
 
-state_ports : (k : Kind) → IsMachine k → (inputs_of k ≡ 1) × (outputs_of k ≡ 1)
+state_ports : (k : Kind) → IsStateful k → (inputs_of k ≡ 1) × (outputs_of k ≡ 1)
 state_ports (Grouped n) h = (refl, refl)
 state_ports (Fold o) h = (refl, refl)
 state_ports (Reduce r) h = (refl, refl)
 state_ports (Scan o) h = (refl, refl)
-state_ports (Buffer n Backpressure) h = (refl, refl)
+state_ports (Buffer n p) h = (refl, refl)
+state_ports (RecoverNum z) h = (refl, refl)
+state_ports (RecoverText l) h = (refl, refl)
 state_ports _ h = absurd h
 
 -- a stage with several inputs has those of its kind, and one output
@@ -91,8 +92,8 @@ maker_no_file k name h e = file_apart IsMaker (λ _ i. i) (λ _ i. i) (λ _ i. i
 pub linear_no_file : (k : Kind) (name : List ℕ) → IsLinear k → output_of k ≡ Some name → ⊥
 linear_no_file k name h e = file_apart IsLinear (λ _ i. i) (λ _ i. i) (λ _ i. i) k name h e
 
-pub state_no_file : (k : Kind) (name : List ℕ) → IsMachine k → output_of k ≡ Some name → ⊥
-state_no_file k name h e = file_apart IsMachine (λ _ i. i) (λ _ i. i) (λ _ i. i) k name h e
+pub state_no_file : (k : Kind) (name : List ℕ) → IsStateful k → output_of k ≡ Some name → ⊥
+state_no_file k name h e = file_apart IsStateful (λ _ i. i) (λ _ i. i) (λ _ i. i) k name h e
 
 pub fan_in_no_file : (k : Kind) (name : List ℕ) → IsFanIn k → output_of k ≡ Some name → ⊥
 fan_in_no_file k name h e = file_apart IsFanIn (λ _ i. i) (λ _ i. i) (λ _ i. i) k name h e

@@ -3,8 +3,6 @@ use Rattle.std.specs.Prelude.{◌≡◌, ℕ, ◌==◌, Bool, true, false, not, 
 use Rattle.std.specs.List.{list_any}
 use Rattle.stream_model.specs.declared.kind.Kind.{Kind}
 use Rattle.stream_model.specs.declared.kind.Kind.TheVariants.{Lines, Range, Empty, Failed, Map, Filter, FilterNot, TakeWhile, DropWhile, Take, Drop, Limit, Grouped, MapConcat, Fold, Scan, Reduce, Buffer, RecoverNum, RecoverText, Valve, TripShutdown, TripAbort, Plug, GroupBy, SplitWhen, SplitAfter, Merge, Concat, Interleave, MergeSorted, Zip, Broadcast, Balance, Partition, Unzip, ToLines, Head, Last, Ignore}
-use Rattle.stream_model.specs.declared.kind.Policy.{Policy}
-use Rattle.stream_model.specs.declared.kind.Policy.TheVariants.{Backpressure, DropHead, DropTail, DropBuffer, DropNew, Fail}
 use Rattle.stream_model.specs.Graph.{Wire}
 use Rattle.blue_core.specs.declared.blueprint.Blueprint.{Blueprint}
 use Rattle.blue_core.specs.declared.blueprint.Node.{Node}
@@ -13,16 +11,7 @@ use Rattle.blue_rules.specs.First.{first_from, when}
 use Rattle.blue_check.specs.Fitness.{IsFit}
 use Rattle.blue_check.specs.Wires.{blueprint_wires}
 
--- a buffer that holds its input back
-abbrev holds_back : Policy → Bool
-holds_back Backpressure = true
-holds_back DropHead = false
-holds_back DropTail = false
-holds_back DropBuffer = false
-holds_back DropNew = false
-holds_back Fail = false
-
--- the kinds that have been built; of buffers only those that hold their input back
+-- the kinds that have been built
 abbrev pub is_built : Kind → Bool
 is_built (Lines file) = true
 is_built (Range low high) = true
@@ -41,9 +30,9 @@ is_built (MapConcat x) = true
 is_built (Fold o) = true
 is_built (Scan o) = true
 is_built (Reduce r) = true
-is_built (Buffer n p) = holds_back p
-is_built (RecoverNum k) = false
-is_built (RecoverText l) = false
+is_built (Buffer n p) = true
+is_built (RecoverNum k) = true
+is_built (RecoverText l) = true
 is_built (Valve name) = false
 is_built (TripShutdown name n) = false
 is_built (TripAbort name n) = false

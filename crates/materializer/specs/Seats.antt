@@ -9,7 +9,7 @@ use Rattle.stream_picture.specs.View.{outputs_of}
 use Rattle.stream_io.specs.Reading.{Reading}
 use Rattle.stage_linear.specs.States.{Logic, IsLinear, Begins}
 use Rattle.stage_state.specs.declared.logic.StateLogic.{StateLogic}
-use Rattle.stage_state.specs.States.{IsMachine}
+use Rattle.stage_state.specs.Logics.{IsStateful}
 use Rattle.stage_state.specs.Handling as state
 use Rattle.stage_in.specs.declared.logic.InLogic.{InLogic}
 use Rattle.stage_in.specs.Logics.{IsFanIn}
@@ -46,9 +46,9 @@ pub record Stages (k : ℕ) (kind : Kind) (d : Decider) (l : Logic) : Type 0 whe
   pub is_linear : IsLinear kind
   pub begins : Begins k kind d l
 
--- a stage with state is at its start, and chooses nothing
+-- a stage with state is at its start
 pub record StagesState (k : ℕ) (kind : Kind) (d : Decider) (l : StateLogic) : Type 0 where
-  pub is_state : IsMachine kind
+  pub is_state : IsStateful kind
   pub begins : state.Begins k kind d l
 
 -- a stage with several inputs is at its start, and has so many

@@ -10,7 +10,7 @@ use blue_core::blueprint::{Blueprint, Node};
 use blue_names::links::{Link, links_of};
 use elem_core::why::NoMemory;
 use std::alloc::Global;
-use stream_model::kind::{Kind, Policy};
+use stream_model::kind::Kind;
 
 /// Whether nodes of this kind can be run so far. Rule: own.
 pub fn is_built(kind: &Kind) -> bool
@@ -34,7 +34,9 @@ pub fn is_built(kind: &Kind) -> bool
         Kind::Fold(_) => true,
         Kind::Reduce(_) => true,
         Kind::Scan(_) => true,
-        Kind::Buffer(_, Policy::Backpressure) => true,
+        Kind::Buffer(_, _) => true,
+        Kind::RecoverNum(_) => true,
+        Kind::RecoverText(_) => true,
         Kind::Merge(_) => true,
         Kind::Concat(_) => true,
         Kind::Interleave(_, _) => true,

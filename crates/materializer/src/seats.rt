@@ -3,6 +3,7 @@ ghost use Rattle.std.specs.Prelude.{◌≡◌, ◌+◌, ◌<◌, ◌≤◌, ◌�
 ghost use Rattle.std.specs.List.{list_all};
 ghost use Rattle.std.specs.Vec.Iter.{into_iter_items, into_iter_len};
 ghost use Rattle.blue_rules.specs.Sizes.{sizes_fit};
+ghost use Rattle.stage_state.specs.Logics.{IsStateful};
 ghost use Rattle.stage_in.specs.Logics.{IsFanIn};
 ghost use Rattle.stage_out.specs.OutLogics.{IsOut};
 ghost use Rattle.materializer.specs.Built.{is_built};
@@ -22,7 +23,7 @@ use std::alloc::Global;
 use std::vec::IntoIter;
 use stream_io::line_reader::LineReader;
 use stream_io::outside::{Drain, Source};
-use stream_model::kind::{Kind, Policy};
+use stream_model::kind::Kind;
 
 /// The next handle of some.
 fn take_next<T: Drop>(handles: &mut IntoIter<T, Global>) -> T
@@ -34,6 +35,19 @@ fn take_next<T: Drop>(handles: &mut IntoIter<T, Global>) -> T
         Some(handle) => handle,
         None => unreachable!(),
     }
+}
+
+/// What a stage with state does at node k.
+fn state_work<S: Source, D: Drain>(
+    alloc: Global,
+    k: u32,
+    kind: Kind,
+    decider: Decider,
+) -> Result<Work<S, D>, NoMemory>
+    requires { IsStateful kind }
+    ensures { IfOk result (IsFreeWork k kind decider) }
+{
+    Ok(Work::State(StateLogic::new(alloc, k, kind, decider)?))
 }
 
 /// What a stage with several inputs does at node k.
@@ -86,9 +100,9 @@ fn free_work<S: Source, D: Drain>(
         | Kind::Fold(_)
         | Kind::Reduce(_)
         | Kind::Scan(_)
-        | Kind::Buffer(_, Policy::Backpressure) => {
-            Work::State(StateLogic::new(alloc, k, kind, decider)?)
-        }
+        | Kind::Buffer(_, _)
+        | Kind::RecoverNum(_)
+        | Kind::RecoverText(_) => state_work(alloc, k, kind, decider)?,
         Kind::Merge(_) | Kind::Concat(_) | Kind::Interleave(_, _) | Kind::MergeSorted | Kind::Zip =>
             fan_in_work(alloc, k, kind, decider)?,
         Kind::Broadcast(_) | Kind::Balance(_) | Kind::Partition(_, _) | Kind::Unzip => {

@@ -1,5 +1,5 @@
 -- What the stages of an island chose: a list of moves for each node whose kind chooses, and the worlds that tell of it.
-use Rattle.std.proofs.Common.{◌≡◌, ℕ, zero, suc, ◌+◌, Bool, true, false, List, [], ◌∷◌, length, map, slice_get, refl, sym, ap, ◌∙◌, subst, arith}
+use Rattle.std.proofs.Common.{◌≡◌, ◌≢◌, ℕ, zero, suc, ◌+◌, Bool, true, false, List, [], ◌∷◌, length, map, slice_get, refl, sym, ap, ◌∙◌, subst, arith}
 use Rattle.std.specs.Prelude.{Option, Some, None, if◌then◌else◌}
 use Rattle.std.specs.Option.{unwrap_or}
 use Rattle.elem_core.specs.declared.item.Item.{Item}
@@ -7,13 +7,16 @@ use Rattle.elem_core.specs.declared.why.Decider.{Decider}
 use Rattle.port_core.specs.View.{View}
 use Rattle.stream_model.specs.declared.kind.Kind.{Kind}
 use Rattle.stream_model.specs.declared.kind.Kind.TheVariants as kind
-use Rattle.stream_model.specs.declared.kind.Policy.TheVariants.{Backpressure}
+use Rattle.stream_model.specs.declared.kind.Policy.{Policy}
+use Rattle.stream_model.specs.declared.kind.Policy.TheVariants.{Backpressure, DropHead, DropTail, DropBuffer, DropNew, Fail}
 use Rattle.stream_model.specs.Node.{World}
 use Rattle.stream_io.specs.State.{SourceState, DrainState}
 use Rattle.stage_linear.specs.States.{IsLinear}
+use Rattle.stage_dropping.specs.Droppings.{Dropping}
+use Rattle.stage_recover.specs.Recoverings.{Recover}
 use Rattle.stage_state.specs.States.{IsMachine}
 use Rattle.stage_state.specs.declared.logic.StateLogic.{StateLogic}
-use Rattle.stage_state.specs.declared.logic.StateLogic.TheVariants.{Machine, Dropping, Recovering}
+use Rattle.stage_state.specs.declared.logic.StateLogic.TheVariants as state
 use Rattle.stage_state.specs.Handling.{StateLaw}
 use Rattle.stage_state.specs.Logics.{BeginsAs}
 use Rattle.stage_state.specs.Moves.{state_picks}
@@ -35,7 +38,6 @@ use Rattle.nodes.specs.declared.node.Node.TheVariants as node
 use Rattle.interpreter.specs.declared.parts.Seated.{Seated}
 use Rattle.interpreter.specs.Picks.{node_number, Pick, with_picks, picks_of}
 use Rattle.run_laws.specs.Made.{FirstOf}
-use Rattle.run_laws.proofs.States.{drops_apart, recovers_apart}
 use Rattle.blue_core.specs.declared.blueprint.Node as blue
 use Rattle.blue_rules.specs.Picks.{picks}
 use Rattle.materializer.specs.Graphs.{node_of}
@@ -79,12 +81,34 @@ machine_free (kind.Scan o) h = refl
 machine_free (kind.Buffer n Backpressure) h = refl
 machine_free _ h = absurd h
 
-state_chooses : (k : ℕ) (shape : Kind) (d : Decider) (first now : StateLogic) (v : View) (took gave : List (List Item)) → IsMachine shape → BeginsAs shape k d first → StateLaw first now v took gave → ChoosesAs (picks shape) (state_picks now)
-state_chooses k shape d (Machine f) (Machine x) v took gave m b law = no_choice (picks shape) None (machine_free shape m) refl
-state_chooses k shape d (Dropping f) now v took gave m b law = absurd (drops_apart k shape d f m b)
-state_chooses k shape d (Recovering f) now v took gave m b law = absurd (recovers_apart k shape d f m b)
-state_chooses k shape d (Machine f) (Dropping x) v took gave m b law = absurd law
-state_chooses k shape d (Machine f) (Recovering x) v took gave m b law = absurd law
+-- a buffer chooses where it drops
+drop_picks : (n : ℕ) (p : Policy) → p ≢ Backpressure → picks (kind.Buffer n p) ≡ true
+drop_picks n Backpressure drops = absurd (drops refl)
+drop_picks n DropHead drops = refl
+drop_picks n DropTail drops = refl
+drop_picks n DropBuffer drops = refl
+drop_picks n DropNew drops = refl
+drop_picks n Fail drops = refl
+
+drop_chooses : (k : ℕ) (shape : Kind) (d : Decider) (first : Dropping) → BeginsAs shape k d (state.Dropping first) → picks shape ≡ true
+drop_chooses k (kind.Buffer n p) d first b = drop_picks n p b.0
+drop_chooses k shape d first b = absurd b
+
+recover_chooses : (k : ℕ) (shape : Kind) (d : Decider) (first : Recover) → BeginsAs shape k d (state.Recovering first) → picks shape ≡ true
+recover_chooses k (kind.RecoverNum z) d first b = refl
+recover_chooses k (kind.RecoverText l) d first b = refl
+recover_chooses k shape d first b = absurd b
+
+state_chooses : (k : ℕ) (shape : Kind) (d : Decider) (first now : StateLogic) (v : View) (took gave : List (List Item)) → BeginsAs shape k d first → StateLaw first now v took gave → ChoosesAs (picks shape) (state_picks now)
+state_chooses k shape d (state.Machine f) (state.Machine x) v took gave b law = no_choice (picks shape) None (machine_free shape b.0) refl
+state_chooses k shape d (state.Dropping f) (state.Dropping x) v took gave b law = subst (λ (c : Bool). ChoosesAs c (Some x.moves)) (sym (drop_chooses k shape d f b)) (x.moves, refl)
+state_chooses k shape d (state.Recovering f) (state.Recovering x) v took gave b law = subst (λ (c : Bool). ChoosesAs c (Some x.moves)) (sym (recover_chooses k shape d f b)) (x.moves, refl)
+state_chooses k shape d (state.Machine f) (state.Dropping x) v took gave b law = absurd law
+state_chooses k shape d (state.Machine f) (state.Recovering x) v took gave b law = absurd law
+state_chooses k shape d (state.Dropping f) (state.Machine x) v took gave b law = absurd law
+state_chooses k shape d (state.Dropping f) (state.Recovering x) v took gave b law = absurd law
+state_chooses k shape d (state.Recovering f) (state.Machine x) v took gave b law = absurd law
+state_chooses k shape d (state.Recovering f) (state.Dropping x) v took gave b law = absurd law
 
 fan_in_chooses : (shape : Kind) (first now : InLogic) → TakesAs shape first → SameKind first now → ChoosesAs (picks shape) (in_picks now)
 fan_in_chooses (kind.Concat n) (Taking f) (Taking l) t s = refl
@@ -127,7 +151,7 @@ pub node_chooses : {S D : Type 0} (sources : S → SourceState) (drains : D → 
 node_chooses sources drains k n (node.Reading f) (node.Reading x) v took gave made law = no_choice (picks n.kind) None (ap picks made.kind_is) refl
 node_chooses sources drains k n (node.Making f) (node.Making x) v took gave made law = no_choice (picks n.kind) None (maker_free n.kind made.is_maker) refl
 node_chooses sources drains k n (node.Linear f) (node.Linear x) v took gave made law = no_choice (picks n.kind) None (linear_free n.kind made.is_linear) refl
-node_chooses sources drains k n (node.State f) (node.State x) v took gave made law = state_chooses k n.kind n.decider f x v took gave made.is_state made.begins.as_kind law
+node_chooses sources drains k n (node.State f) (node.State x) v took gave made law = state_chooses k n.kind n.decider f x v took gave made.begins.as_kind law
 node_chooses sources drains k n (node.FanIn f) (node.FanIn x) v took gave made law = fan_in_chooses n.kind f x made.begins.takes law.same
 node_chooses sources drains k n (node.FanOut f) (node.FanOut x) v took gave made law = fan_out_chooses k n.kind f x v took gave made.begins.as_kind law
 node_chooses sources drains k n (node.Writing f) (node.Writing x) v took gave made law = no_choice (picks n.kind) None (sink_free n.kind made.is_sink) refl

@@ -14,7 +14,7 @@ use Rattle.stream_picture.specs.View.{outputs_of}
 use Rattle.stream_picture.specs.OneWay as oneway
 use Rattle.stream_io.specs.State.{SourceState, DrainState}
 use Rattle.stage_linear.specs.States.{IsLinear}
-use Rattle.stage_state.specs.States.{IsMachine}
+use Rattle.stage_state.specs.Logics.{IsStateful}
 use Rattle.stage_in.specs.Logics.{IsFanIn}
 use Rattle.stage_out.specs.OutLogics.{IsOut}
 use Rattle.nodes.specs.Nodes.{node_law}
@@ -115,12 +115,14 @@ linear_inner (kind.Limit n) h = record { input = refl; output = refl; outputs = 
 linear_inner (kind.MapConcat x) h = record { input = refl; output = refl; outputs = refl }
 linear_inner _ h = absurd h
 
-state_inner : (shape : Kind) → IsMachine shape → IsInner shape
+state_inner : (shape : Kind) → IsStateful shape → IsInner shape
 state_inner (kind.Grouped n) h = record { input = refl; output = refl; outputs = refl }
 state_inner (kind.Fold o) h = record { input = refl; output = refl; outputs = refl }
 state_inner (kind.Reduce r) h = record { input = refl; output = refl; outputs = refl }
 state_inner (kind.Scan o) h = record { input = refl; output = refl; outputs = refl }
 state_inner (kind.Buffer n p) h = record { input = refl; output = refl; outputs = refl }
+state_inner (kind.RecoverNum z) h = record { input = refl; output = refl; outputs = refl }
+state_inner (kind.RecoverText l) h = record { input = refl; output = refl; outputs = refl }
 state_inner _ h = absurd h
 
 fan_in_inner : (shape : Kind) → IsFanIn shape → IsInner shape

@@ -86,6 +86,8 @@ reader_ends (node.FanIn x) = refl
 reader_ends (node.FanOut x) = refl
 reader_ends (node.Writing x) = refl
 reader_ends (node.Ignoring x) = refl
+reader_ends (node.Entering x) = refl
+reader_ends (node.Leaving x) = refl
 
 writer_ends : {S D : Type 0} (x : Node S D) → writer_in x ≡ drain_end (node_end x)
 writer_ends (node.Reading x) = refl
@@ -96,6 +98,8 @@ writer_ends (node.FanIn x) = refl
 writer_ends (node.FanOut x) = refl
 writer_ends (node.Writing x) = refl
 writer_ends (node.Ignoring x) = refl
+writer_ends (node.Entering x) = refl
+writer_ends (node.Leaving x) = refl
 
 keeps_self : (s : SourceState) → KeepsSource s s
 keeps_self s = record { name = refl; whole = refl; given = omega arith; ahead = omega arith; faults = refl }

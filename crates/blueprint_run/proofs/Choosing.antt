@@ -156,6 +156,8 @@ node_chooses sources drains k n (node.FanIn f) (node.FanIn x) v took gave made l
 node_chooses sources drains k n (node.FanOut f) (node.FanOut x) v took gave made law = fan_out_chooses k n.kind f x v took gave made.begins.as_kind law
 node_chooses sources drains k n (node.Writing f) (node.Writing x) v took gave made law = no_choice (picks n.kind) None (sink_free n.kind made.is_sink) refl
 node_chooses sources drains k n (node.Ignoring f) (node.Ignoring x) v took gave made law = no_choice (picks n.kind) None (ap picks made.kind_is) refl
+node_chooses sources drains k n (node.Entering f) x v took gave made law = absurd made
+node_chooses sources drains k n (node.Leaving f) x v took gave made law = absurd made
 node_chooses sources drains k n f x v took gave made law = absurd law
 
 -- ---- the lists of moves stand in the order of their nodes

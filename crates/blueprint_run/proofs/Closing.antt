@@ -154,6 +154,8 @@ ended_stand (node.Linear x) s f = absurd cc
 ended_stand (node.State x) s f = absurd cc
 ended_stand (node.FanIn x) s f = absurd cc
 ended_stand (node.FanOut x) s f = absurd cc
+ended_stand (node.Entering x) s f = absurd cc
+ended_stand (node.Leaving x) s f = absurd cc
 
 ended_as : {S D : Type 0} (nodes : List (Node S D)) (k : ℕ) (x : Node S D) (s : Stand) → slice_get nodes k ≡ Some x → stand_in x ≡ Some s → ended_there (slice_get nodes k) ≡ has_ended s.2
 ended_as nodes k x s e f = ap ended_there e ∙ ended_stand x s f

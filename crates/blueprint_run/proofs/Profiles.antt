@@ -57,6 +57,8 @@ readers_filtered (node.Making x ∷ xs) = readers_filtered xs
 readers_filtered (node.State x ∷ xs) = readers_filtered xs
 readers_filtered (node.FanIn x ∷ xs) = readers_filtered xs
 readers_filtered (node.FanOut x ∷ xs) = readers_filtered xs
+readers_filtered (node.Entering x ∷ xs) = readers_filtered xs
+readers_filtered (node.Leaving x ∷ xs) = readers_filtered xs
 readers_filtered (node.Ignoring x ∷ xs) = readers_filtered xs
 
 pub writers_filtered : {S D : Type 0} (xs : List (Node S D)) → writers_of xs ≡ filter_map writer_in xs
@@ -68,6 +70,8 @@ writers_filtered (node.Making x ∷ xs) = writers_filtered xs
 writers_filtered (node.State x ∷ xs) = writers_filtered xs
 writers_filtered (node.FanIn x ∷ xs) = writers_filtered xs
 writers_filtered (node.FanOut x ∷ xs) = writers_filtered xs
+writers_filtered (node.Entering x ∷ xs) = writers_filtered xs
+writers_filtered (node.Leaving x ∷ xs) = writers_filtered xs
 writers_filtered (node.Ignoring x ∷ xs) = writers_filtered xs
 
 pub sinks_filtered : {S D : Type 0} (xs : List (Node S D)) → sinks_of xs ≡ filter_map stand_in xs
@@ -79,6 +83,8 @@ sinks_filtered (node.Making x ∷ xs) = sinks_filtered xs
 sinks_filtered (node.State x ∷ xs) = sinks_filtered xs
 sinks_filtered (node.FanIn x ∷ xs) = sinks_filtered xs
 sinks_filtered (node.FanOut x ∷ xs) = sinks_filtered xs
+sinks_filtered (node.Entering x ∷ xs) = sinks_filtered xs
+sinks_filtered (node.Leaving x ∷ xs) = sinks_filtered xs
 sinks_filtered (node.Ignoring x ∷ xs) = ap (λ (l : List Stand). (x.node, 0, x.end) ∷ l) (sinks_filtered xs)
 
 pub some_one : {A : Type 0} (x y : A) → Some x ≡ Some y → x ≡ y
@@ -226,6 +232,8 @@ module _ {S D : Type 0} (sources : S → SourceState) (drains : D → DrainState
   node_profile (node.FanOut f) (node.FanOut x) v took gave made law reads writes = inner_profile (node.FanOut x) refl refl refl (fan_out_inner n.kind made.is_out)
   node_profile (node.Writing f) (node.Writing x) v took gave made law reads writes = writing_profile x made.is_sink (law.node ∙ made.node) (λ name e. writes name x e refl)
   node_profile (node.Ignoring f) (node.Ignoring x) v took gave made law reads writes = ignoring_profile x made.kind_is (law.node ∙ made.node)
+  node_profile (node.Entering f) x v took gave made law reads writes = absurd made
+  node_profile (node.Leaving f) x v took gave made law reads writes = absurd made
   node_profile f x v took gave made law reads writes = absurd law
 
   -- a sink with a file is one by its kind
@@ -238,6 +246,8 @@ module _ {S D : Type 0} (sources : S → SourceState) (drains : D → DrainState
   writing_kind (node.FanIn f) (node.FanIn y) x v took gave made law is = absurd cc
   writing_kind (node.FanOut f) (node.FanOut y) x v took gave made law is = absurd cc
   writing_kind (node.Ignoring f) (node.Ignoring y) x v took gave made law is = absurd cc
+  writing_kind (node.Entering f) y x v took gave made law is = absurd made
+  writing_kind (node.Leaving f) y x v took gave made law is = absurd made
   writing_kind f y x v took gave made law is = absurd law
 
   -- no write of a sink without a file fails
@@ -253,6 +263,8 @@ module _ {S D : Type 0} (sources : S → SourceState) (drains : D → DrainState
   never_faults (node.State f) (node.State y) s v took gave law stands fault = absurd cc
   never_faults (node.FanIn f) (node.FanIn y) s v took gave law stands fault = absurd cc
   never_faults (node.FanOut f) (node.FanOut y) s v took gave law stands fault = absurd cc
+  never_faults (node.Entering f) (node.Entering y) s v took gave law stands fault = absurd cc
+  never_faults (node.Leaving f) (node.Leaving y) s v took gave law stands fault = absurd cc
   never_faults f y s v took gave law stands fault = absurd law
 
 -- a node that leaves a drain is a sink with a file
@@ -264,6 +276,8 @@ writer_there name (node.Linear y) n e = absurd cc
 writer_there name (node.State y) n e = absurd cc
 writer_there name (node.FanIn y) n e = absurd cc
 writer_there name (node.FanOut y) n e = absurd cc
+writer_there name (node.Entering y) n e = absurd cc
+writer_there name (node.Leaving y) n e = absurd cc
 writer_there name (node.Ignoring y) n e = absurd cc
 
 -- the sinks stand in the order of their nodes

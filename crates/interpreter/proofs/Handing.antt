@@ -39,6 +39,8 @@ readers_end (node.FanIn x) xs = refl
 readers_end (node.FanOut x) xs = refl
 readers_end (node.Writing x) xs = refl
 readers_end (node.Ignoring x) xs = refl
+readers_end (node.Entering x) xs = refl
+readers_end (node.Leaving x) xs = refl
 
 writers_end : {S D : Type 0} (x : Node S D) (xs : List (Node S D)) → writers_of (x ∷ xs) ≡ with_write (node_end x) (writers_of xs)
 writers_end (node.Reading x) xs = refl
@@ -49,6 +51,8 @@ writers_end (node.FanIn x) xs = refl
 writers_end (node.FanOut x) xs = refl
 writers_end (node.Writing x) xs = refl
 writers_end (node.Ignoring x) xs = refl
+writers_end (node.Entering x) xs = refl
+writers_end (node.Leaving x) xs = refl
 
 -- a source of lines that was not started, or another node
 abbrev IsNew : {S D : Type 0} → Node S D → Type 0
@@ -60,6 +64,8 @@ IsNew (node.FanIn x) = ⊤
 IsNew (node.FanOut x) = ⊤
 IsNew (node.Writing x) = ⊤
 IsNew (node.Ignoring x) = ⊤
+IsNew (node.Entering x) = ⊤
+IsNew (node.Leaving x) = ⊤
 
 becomes_new : {S D : Type 0} (k : ℕ) (w : Work S D) (x : Node S D) → BecomesOf k w x → IsNew x
 becomes_new k (work.Reading r) x b = subst IsNew (sym b) refl
@@ -70,6 +76,8 @@ becomes_new k (work.FanIn l n) x b = subst IsNew (sym b) tt
 becomes_new k (work.FanOut l n) x b = subst IsNew (sym b) tt
 becomes_new k (work.Writing kind (Some d)) x b = subst IsNew (sym b) tt
 becomes_new k (work.Writing kind None) x b = subst IsNew (sym b) tt
+becomes_new k (work.LaneIn u) x b = subst IsNew (sym b) tt
+becomes_new k (work.LaneOut u) x b = subst IsNew (sym b) tt
 
 -- the handle of a work is that of its node
 source_becomes : {S D : Type 0} (k : ℕ) (w : Work S D) (x : Node S D) (rest : List S) → BecomesOf k w x → with_read (node_end x) rest ≡ with_source w rest
@@ -81,6 +89,8 @@ source_becomes k (work.FanIn l n) x rest b = ap (λ (y : Node _ _). with_read (n
 source_becomes k (work.FanOut l n) x rest b = ap (λ (y : Node _ _). with_read (node_end y) rest) b
 source_becomes k (work.Writing kind (Some d)) x rest b = ap (λ (y : Node _ _). with_read (node_end y) rest) b
 source_becomes k (work.Writing kind None) x rest b = ap (λ (y : Node _ _). with_read (node_end y) rest) b
+source_becomes k (work.LaneIn u) x rest b = ap (λ (y : Node _ _). with_read (node_end y) rest) b
+source_becomes k (work.LaneOut u) x rest b = ap (λ (y : Node _ _). with_read (node_end y) rest) b
 
 drain_becomes : {S D : Type 0} (k : ℕ) (w : Work S D) (x : Node S D) (rest : List D) → BecomesOf k w x → with_write (node_end x) rest ≡ with_drain w rest
 drain_becomes k (work.Reading r) x rest b = ap (λ (y : Node _ _). with_write (node_end y) rest) b
@@ -91,6 +101,8 @@ drain_becomes k (work.FanIn l n) x rest b = ap (λ (y : Node _ _). with_write (n
 drain_becomes k (work.FanOut l n) x rest b = ap (λ (y : Node _ _). with_write (node_end y) rest) b
 drain_becomes k (work.Writing kind (Some d)) x rest b = ap (λ (y : Node _ _). with_write (node_end y) rest) b
 drain_becomes k (work.Writing kind None) x rest b = ap (λ (y : Node _ _). with_write (node_end y) rest) b
+drain_becomes k (work.LaneIn u) x rest b = ap (λ (y : Node _ _). with_write (node_end y) rest) b
+drain_becomes k (work.LaneOut u) x rest b = ap (λ (y : Node _ _). with_write (node_end y) rest) b
 
 module _ {S D : Type 0} (sources : S → SourceState) (drains : D → DrainState) where
   -- a node that leaves no source leaves none later
@@ -116,6 +128,8 @@ module _ {S D : Type 0} (sources : S → SourceState) (drains : D → DrainState
   source_kept (node.FanOut x) y rest n k = ap (map sources) (none_read (node_end {S = S} {D = D} (node.FanOut x)) (node_end y) rest (tt {0}) k.ends)
   source_kept (node.Writing x) y rest n k = ap (map sources) (none_read (node_end {S = S} {D = D} (node.Writing x)) (node_end y) rest (tt {0}) k.ends)
   source_kept (node.Ignoring x) y rest n k = ap (map sources) (none_read (node_end {S = S} {D = D} (node.Ignoring x)) (node_end y) rest (tt {0}) k.ends)
+  source_kept (node.Entering x) y rest n k = ap (map sources) (none_read (node_end {S = S} {D = D} (node.Entering x)) (node_end y) rest (tt {0}) k.ends)
+  source_kept (node.Leaving x) y rest n k = ap (map sources) (none_read (node_end {S = S} {D = D} (node.Leaving x)) (node_end y) rest (tt {0}) k.ends)
 
   option_kept : (o p : Option D) (rest : List D) → KeepsDrain sources drains o p → map drains (cons_option p rest) ≡ map drains (cons_option o rest)
   option_kept None None rest k = refl

@@ -18,7 +18,7 @@ use Rattle.interpreter.specs.declared.parts.Link.{Link}
 use Rattle.interpreter.specs.declared.parts.Place.{Place}
 use Rattle.interpreter.specs.declared.parts.Seated.{Seated}
 use Rattle.interpreter.specs.declared.parts.Work.{Work}
-use Rattle.interpreter.specs.declared.parts.Work.TheVariants.{Reading, Making, Linear, State, FanIn, FanOut, Writing}
+use Rattle.interpreter.specs.declared.parts.Work.TheVariants.{Reading, Making, Linear, State, FanIn, FanOut, Writing, LaneIn, LaneOut}
 use Rattle.interpreter.specs.Parts.{work_inputs, work_outputs, inputs_at, outputs_at, IsUnused, AllUnused, BecomesOf, AllBecome, IsSized, place_of, ends_of}
 use Rattle.stream_model.specs.declared.kind.Kind.{Kind}
 use Rattle.stream_model.specs.declared.kind.Kind.TheVariants as kind
@@ -55,6 +55,8 @@ becomes_fresh k (FanIn l n) x u b = rw b u
 becomes_fresh k (FanOut l n) x u b = rw b u
 becomes_fresh k (Writing kind (Some d)) x u b = rw b (record { started = refl; end = refl; kept = refl; count = refl; port = refl })
 becomes_fresh k (Writing kind None) x u b = rw b (record { started = refl; end = refl; port = refl })
+becomes_fresh k (LaneIn u) x t b = rw b refl
+becomes_fresh k (LaneOut u) x t b = rw b (record { waits = refl; gone = refl; port = refl })
 
 -- the node at place n
 fresh_at : {S D : Type 0} (places : List (Seated S D)) (nodes : List (Node S D)) (n : ℕ) (x : Node S D) → AllUnused places → AllBecome places nodes → slice_get nodes n ≡ Some x
@@ -113,6 +115,8 @@ sinks_cut (node.FanIn x) xs = refl
 sinks_cut (node.FanOut x) xs = refl
 sinks_cut (node.Writing x) xs = refl
 sinks_cut (node.Ignoring x) xs = refl
+sinks_cut (node.Entering x) xs = refl
+sinks_cut (node.Leaving x) xs = refl
 
 pub readers_cut : {S D : Type 0} (x : Node S D) (xs : List (Node S D)) → readers_of (x ∷ xs) ≡ readers_of (x ∷ []) ++ readers_of xs
 readers_cut (node.Reading x) xs = refl
@@ -123,6 +127,8 @@ readers_cut (node.FanIn x) xs = refl
 readers_cut (node.FanOut x) xs = refl
 readers_cut (node.Writing x) xs = refl
 readers_cut (node.Ignoring x) xs = refl
+readers_cut (node.Entering x) xs = refl
+readers_cut (node.Leaving x) xs = refl
 
 pub writers_cut : {S D : Type 0} (x : Node S D) (xs : List (Node S D)) → writers_of (x ∷ xs) ≡ writers_of (x ∷ []) ++ writers_of xs
 writers_cut (node.Reading x) xs = refl
@@ -133,6 +139,8 @@ writers_cut (node.FanIn x) xs = refl
 writers_cut (node.FanOut x) xs = refl
 writers_cut (node.Writing x) xs = refl
 writers_cut (node.Ignoring x) xs = refl
+writers_cut (node.Entering x) xs = refl
+writers_cut (node.Leaving x) xs = refl
 
 -- an island that was started
 pub keeps_new : {S D : Type 0} (sources : S → SourceState) (drains : D → DrainState) (old new : Net (Node S D)) → Settled node_row (node_law sources drains) node_asking node_moves new → all_asks new ≤ all_asks old → all_asks old ≡ 0 → Keeps sources drains new 0

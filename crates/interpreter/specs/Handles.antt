@@ -6,7 +6,7 @@ use Rattle.interpreter.specs.declared.island.StartEnd.{StartEnd}
 use Rattle.interpreter.specs.declared.island.StartEnd.TheVariants.{NoMemory}
 use Rattle.interpreter.specs.declared.parts.Seated.{Seated}
 use Rattle.interpreter.specs.declared.parts.Work.{Work}
-use Rattle.interpreter.specs.declared.parts.Work.TheVariants.{Reading, Making, Linear, State, FanIn, FanOut, Writing}
+use Rattle.interpreter.specs.declared.parts.Work.TheVariants.{Reading, Making, Linear, State, FanIn, FanOut, Writing, LaneIn, LaneOut}
 
 -- the source of a reader, in front of others
 abbrev pub with_source : {S D : Type 0} → Work S D → List S → List S
@@ -17,6 +17,8 @@ with_source (State l) rest = rest
 with_source (FanIn l n) rest = rest
 with_source (FanOut l n) rest = rest
 with_source (Writing k d) rest = rest
+with_source (LaneIn u) rest = rest
+with_source (LaneOut u) rest = rest
 
 -- the drain of a sink with a file, in front of others
 abbrev pub with_drain : {S D : Type 0} → Work S D → List D → List D
@@ -28,6 +30,8 @@ with_drain (FanIn l n) rest = rest
 with_drain (FanOut l n) rest = rest
 with_drain (Writing k (Some d)) rest = d ∷ rest
 with_drain (Writing k None) rest = rest
+with_drain (LaneIn u) rest = rest
+with_drain (LaneOut u) rest = rest
 
 -- those of all places, in their order
 abbrev pub sources_in : {S D : Type 0} → List (Seated S D) → List S

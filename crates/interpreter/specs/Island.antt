@@ -48,6 +48,8 @@ sinks_of (node.FanIn x ∷ xs) = sinks_of xs
 sinks_of (node.FanOut x ∷ xs) = sinks_of xs
 sinks_of (node.Writing x ∷ xs) = (x.node, x.count, x.end) ∷ sinks_of xs
 sinks_of (node.Ignoring x ∷ xs) = (x.node, 0, x.end) ∷ sinks_of xs
+sinks_of (node.Entering x ∷ xs) = sinks_of xs
+sinks_of (node.Leaving x ∷ xs) = sinks_of xs
 
 -- the sources of bytes that its readers read
 abbrev pub readers_of : {S D : Type 0} → List (Node S D) → List S
@@ -60,6 +62,8 @@ readers_of (node.FanIn x ∷ xs) = readers_of xs
 readers_of (node.FanOut x ∷ xs) = readers_of xs
 readers_of (node.Writing x ∷ xs) = readers_of xs
 readers_of (node.Ignoring x ∷ xs) = readers_of xs
+readers_of (node.Entering x ∷ xs) = readers_of xs
+readers_of (node.Leaving x ∷ xs) = readers_of xs
 
 -- the drains that its sinks with a file wrote
 abbrev pub writers_of : {S D : Type 0} → List (Node S D) → List D
@@ -72,3 +76,5 @@ writers_of (node.FanIn x ∷ xs) = writers_of xs
 writers_of (node.FanOut x ∷ xs) = writers_of xs
 writers_of (node.Writing x ∷ xs) = x.drain ∷ writers_of xs
 writers_of (node.Ignoring x ∷ xs) = writers_of xs
+writers_of (node.Entering x ∷ xs) = writers_of xs
+writers_of (node.Leaving x ∷ xs) = writers_of xs

@@ -21,7 +21,7 @@ use Rattle.interpreter.specs.declared.parts.Link.{Link}
 use Rattle.interpreter.specs.declared.parts.Place.{Place}
 use Rattle.interpreter.specs.declared.parts.Seated.{Seated}
 use Rattle.interpreter.specs.declared.parts.Work.{Work}
-use Rattle.interpreter.specs.declared.parts.Work.TheVariants.{Reading, Making, Linear, State, FanIn, FanOut, Writing}
+use Rattle.interpreter.specs.declared.parts.Work.TheVariants.{Reading, Making, Linear, State, FanIn, FanOut, Writing, LaneIn, LaneOut}
 
 -- the ports at the ends of a link
 abbrev pub ends_of : Link → Ends
@@ -40,6 +40,8 @@ work_inputs (State l) = 1
 work_inputs (FanIn l n) = n
 work_inputs (FanOut l n) = 1
 work_inputs (Writing k d) = 1
+work_inputs (LaneIn u) = 0
+work_inputs (LaneOut u) = 1
 
 abbrev pub work_outputs : {S D : Type 0} → Work S D → ℕ
 work_outputs (Reading r) = 1
@@ -49,6 +51,8 @@ work_outputs (State l) = 1
 work_outputs (FanIn l n) = 1
 work_outputs (FanOut l n) = n
 work_outputs (Writing k d) = 0
+work_outputs (LaneIn u) = 1
+work_outputs (LaneOut u) = 0
 
 -- the same of the work at place n
 abbrev pub inputs_at : {S D : Type 0} → List (Seated S D) → ℕ → ℕ
@@ -86,6 +90,8 @@ IsUnused (FanIn l n) = InFresh l (fan_in.unasked_ports n)
 IsUnused (FanOut l n) = OutFresh l (unasked_ports n)
 IsUnused (Writing k (Some d)) = IsFileSink k
 IsUnused (Writing k None) = k ≡ Ignore
+IsUnused (LaneIn u) = ⊤
+IsUnused (LaneOut u) = ⊤
 
 abbrev pub AllUnused : {S D : Type 0} → List (Seated S D) → Type 0
 AllUnused [] = ⊤
@@ -118,6 +124,8 @@ BecomesOf k (FanIn l n) x = x ≡ node.FanIn l
 BecomesOf k (FanOut l n) x = x ≡ node.FanOut l
 BecomesOf k (Writing kind (Some d)) x = x ≡ node.Writing (record { node = k; drain = d; writes = writes_of kind; kept = None; count = 0; started = false; end = Unended })
 BecomesOf k (Writing kind None) x = x ≡ node.Ignoring (record { node = k; started = false; end = Unended })
+BecomesOf k (LaneIn u) x = x ≡ node.Entering (record { wire = u })
+BecomesOf k (LaneOut u) x = x ≡ node.Leaving (record { wire = u; waits = []; gone = [] })
 
 -- the node that stands at a place
 abbrev pub Becomes : {S D : Type 0} → Seated S D → Node S D → Type 0

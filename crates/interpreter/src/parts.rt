@@ -13,6 +13,8 @@ use nodes::maker::Maker;
 use nodes::node::Node;
 use nodes::sink::{FileSink, Writes};
 use nodes::source::LinesSource;
+use stage_boundary::entering::Entering;
+use stage_boundary::leaving::Leaving;
 use stage_in::logic::InLogic;
 use stage_linear::logic::LinearLogic;
 use stage_out::logic::OutLogic;
@@ -55,6 +57,10 @@ pub enum Work<S: Source, D: Drain> {
     FanOut(OutLogic, u32),
     /// A sink of this kind, with the drain of its file, if it has one.
     Writing(Kind, Option<D>),
+    /// The stage at which the lane that is this wire comes in; the number of its node is not used.
+    LaneIn(u32),
+    /// The stage at which the lane that is this wire goes out; the number of its node is not used.
+    LaneOut(u32),
 }
 
 /// A work with the number of its node in the blueprint.
@@ -99,6 +105,8 @@ pub fn seat<S: Source, D: Drain>(alloc: Global, seated: Seated<S, D>) -> Node<S,
         Work::State(logic) => Node::State(logic),
         Work::FanIn(logic, _) => Node::FanIn(logic),
         Work::FanOut(logic, _) => Node::FanOut(logic),
+        Work::LaneIn(wire) => Node::Entering(Entering::new(wire)),
+        Work::LaneOut(wire) => Node::Leaving(Leaving::new(wire)),
         Work::Writing(kind, drain) => {
             let writes = written(kind);
             match drain {

@@ -10,14 +10,17 @@ use Rattle.port_core.specs.declared.view.OutView.{OutView}
 use Rattle.port_core.specs.declared.view.OutView.TheVariants.{Shut}
 use Rattle.port_core.specs.View.{View, IsOutOpen}
 use Rattle.port_core.specs.Call.{Call, Meets, MayCome, brings, cancels}
-use Rattle.stage_core.specs.Handling.{Handles}
+use Rattle.stage_core.specs.Handling.{Starts, Handles}
 use Rattle.stream_io.specs.State.{SourceState, DrainState}
+use Rattle.stage_boundary.specs.Entering.{Entering, EnteringFresh, EnteringRow, EnteringLaw}
+use Rattle.stage_boundary.specs.Leaving.{Leaving, LeavingFresh, LeavingRow, LeavingLaw}
 use Rattle.nodes.specs.Ports.{OneIn, OneInOf, OneOut, OneOutOf}
 use Rattle.nodes.specs.Source.{Lines, lines_row, lines_row_in, LinesLaw}
 use Rattle.nodes.specs.Sink.{Sink, sink_row, sink_row_in, SinkLaw}
 use Rattle.nodes.specs.declared.node.Node.{Node}
 use Rattle.nodes.specs.declared.node.Node.TheVariants.{Reading, Making, Linear, State, FanIn, FanOut, Writing, Ignoring}
-use Rattle.nodes.specs.Nodes.{node_row, node_law}
+use Rattle.nodes.specs.declared.node.Node.TheVariants as node
+use Rattle.nodes.specs.Nodes.{node_fresh, node_row, node_law}
 use Rattle.nodes.proofs.Acting.{on_ok_two}
 
 -- nothing comes to a port that is not there
@@ -60,6 +63,8 @@ module _ {S D : Type 0} (sources : S → SourceState) (drains : D → DrainState
   writing_law (FanIn f) old new v w took gave more given keeps law = absurd law
   writing_law (FanOut f) old new v w took gave more given keeps law = absurd law
   writing_law (Ignoring f) old new v w took gave more given keeps law = absurd law
+  writing_law (node.Entering f) old new v w took gave more given keeps law = absurd law
+  writing_law (node.Leaving f) old new v w took gave more given keeps law = absurd law
 
   writing_at : (x : Item) (old new : Sink D) (acts : List Act) → Handles sink_row (SinkLaw drains) (brings 0 x) old new acts → Handles node_row (node_law sources drains) (brings 0 x) (Writing old) (Writing new) acts
   writing_at x old new acts h = record {
@@ -83,6 +88,8 @@ module _ {S D : Type 0} (sources : S → SourceState) (drains : D → DrainState
   reading_law (FanIn f) old new v w took gave more given keeps law = absurd law
   reading_law (FanOut f) old new v w took gave more given keeps law = absurd law
   reading_law (Ignoring f) old new v w took gave more given keeps law = absurd law
+  reading_law (node.Entering f) old new v w took gave more given keeps law = absurd law
+  reading_law (node.Leaving f) old new v w took gave more given keeps law = absurd law
 
   reading_at : (call : Call) (old new : Lines S) (acts : List Act) → Handles lines_row (LinesLaw sources) call old new acts → Handles node_row (node_law sources drains) call (Reading old) (Reading new) acts
   reading_at call old new acts h = record {
@@ -94,3 +101,43 @@ module _ {S D : Type 0} (sources : S → SourceState) (drains : D → DrainState
   pub reading_cancelled : {T E : Type 0} (p : ℕ) (old new : Lines S) (acts : List Act) (r : Result T E) → Meets (cancels p) (lines_row old) → OnOk r (Handles lines_row (LinesLaw sources) (cancels 0) old new acts)
       → OnOk r (Handles node_row (node_law sources drains) (cancels p) (Reading old) (Reading new) acts)
   reading_cancelled p old new acts r m h = rw (out_is (lines_row_in old.phase) p m) (on_ok_two r h h (λ a b. reading_at (cancels 0) old new acts a))
+
+  -- the stage where a lane goes out
+  leaving_law : (first : Node S D) (old new : Leaving) (v w : View) (took gave more given : List (List Item)) → ((f : Leaving) → LeavingLaw f old v took gave → LeavingLaw f new w more given)
+      → node_law sources drains first (node.Leaving old) v took gave → node_law sources drains first (node.Leaving new) w more given
+  leaving_law (node.Leaving f) old new v w took gave more given keeps law = keeps f law
+  leaving_law (node.Reading f) old new v w took gave more given keeps law = absurd law
+  leaving_law (node.Making f) old new v w took gave more given keeps law = absurd law
+  leaving_law (node.Linear f) old new v w took gave more given keeps law = absurd law
+  leaving_law (node.State f) old new v w took gave more given keeps law = absurd law
+  leaving_law (node.FanIn f) old new v w took gave more given keeps law = absurd law
+  leaving_law (node.FanOut f) old new v w took gave more given keeps law = absurd law
+  leaving_law (node.Writing f) old new v w took gave more given keeps law = absurd law
+  leaving_law (node.Ignoring f) old new v w took gave more given keeps law = absurd law
+  leaving_law (node.Entering f) old new v w took gave more given keeps law = absurd law
+
+  leaving_at : (call : Call) (old new : Leaving) (acts : List Act) → Handles LeavingRow LeavingLaw call old new acts → Handles node_row (node_law sources drains) call (node.Leaving old) (node.Leaving new) acts
+  leaving_at call old new acts h = record {
+    obeys = record { allowed = h.obeys.allowed; row = h.obeys.row };
+    stands = h.stands;
+    keeps = λ first v took gave a r law. leaving_law first old new v _ took gave _ _ (λ f l. h.keeps f v took gave a r l) law;
+  }
+
+  pub leaving_handles : {T E : Type 0} (call : Call) (old new : Leaving) (acts : List Act) (r : Result T E) → OnOk r (Handles LeavingRow LeavingLaw call old new acts)
+      → OnOk r (Handles node_row (node_law sources drains) call (node.Leaving old) (node.Leaving new) acts)
+  leaving_handles call old new acts r h = on_ok_two r h h (λ a b. leaving_at call old new acts a)
+
+  leaving_begins : (old new : Leaving) (acts : List Act) → Starts LeavingRow LeavingLaw LeavingFresh old new acts → Starts node_row (node_law sources drains) node_fresh (node.Leaving old) (node.Leaving new) acts
+  leaving_begins old new acts h = record { obeys = record { allowed = h.obeys.allowed; row = h.obeys.row }; stands = h.stands; begins = h.begins }
+
+  pub leaving_starts : {T E : Type 0} (old new : Leaving) (acts : List Act) (r : Result T E) → OnOk r (Starts LeavingRow LeavingLaw LeavingFresh old new acts)
+      → OnOk r (Starts node_row (node_law sources drains) node_fresh (node.Leaving old) (node.Leaving new) acts)
+  leaving_starts old new acts r h = on_ok_two r h h (λ a b. leaving_begins old new acts a)
+
+  -- the stage where a lane comes in
+  entering_begins : (old new : Entering) (acts : List Act) → Starts EnteringRow EnteringLaw EnteringFresh old new acts → Starts node_row (node_law sources drains) node_fresh (node.Entering old) (node.Entering new) acts
+  entering_begins old new acts h = record { obeys = record { allowed = h.obeys.allowed; row = h.obeys.row }; stands = h.stands; begins = h.begins }
+
+  pub entering_starts : {T E : Type 0} (old new : Entering) (acts : List Act) (r : Result T E) → OnOk r (Starts EnteringRow EnteringLaw EnteringFresh old new acts)
+      → OnOk r (Starts node_row (node_law sources drains) node_fresh (node.Entering old) (node.Entering new) acts)
+  entering_starts old new acts r h = on_ok_two r h h (λ a b. entering_begins old new acts a)

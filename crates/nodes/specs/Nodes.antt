@@ -13,9 +13,11 @@ use Rattle.stage_out.specs.OutLogics.{OutFresh, OutAsking, OutLaw}
 use Rattle.stage_out.specs.OutLogics as out
 use Rattle.stage_out.specs.Moves.{out_picks}
 use Rattle.nodes.specs.declared.node.Node.{Node}
-use Rattle.nodes.specs.declared.node.Node.TheVariants.{Reading, Making, Linear, State, FanIn, FanOut, Writing, Ignoring}
+use Rattle.nodes.specs.declared.node.Node.TheVariants.{Reading, Making, Linear, State, FanIn, FanOut, Writing, Ignoring, Entering, Leaving}
 use Rattle.nodes.specs.declared.node.NodeEnd.{NodeEnd}
 use Rattle.nodes.specs.declared.node.NodeEnd.TheVariants.{Read, Staged, Wrote}
+use Rattle.stage_boundary.specs.Entering.{EnteringFresh, EnteringRow, EnteringLaw}
+use Rattle.stage_boundary.specs.Leaving.{LeavingFresh, LeavingRow, LeavingLaw}
 use Rattle.stage_linear.specs.declared.phase.Phase.TheVariants.{New}
 use Rattle.nodes.specs.Keeping.{KeepsEnd}
 use Rattle.nodes.specs.Source.{LinesFresh, lines_row, LinesLaw}
@@ -33,6 +35,8 @@ node_fresh (FanIn x) v = InFresh x v
 node_fresh (FanOut x) v = OutFresh x v
 node_fresh (Writing x) v = SinkFresh x v
 node_fresh (Ignoring x) v = IgnoreFresh x v
+node_fresh (Entering x) v = EnteringFresh x v
+node_fresh (Leaving x) v = LeavingFresh x v
 
 -- what one that was started may know of them between two calls
 abbrev pub node_row : {S D : Type 0} → Node S D → View → Type 0
@@ -44,6 +48,8 @@ node_row (FanIn x) v = InRow x v
 node_row (FanOut x) v = out.row x v
 node_row (Writing x) v = sink_row x v
 node_row (Ignoring x) v = ignore_row x v
+node_row (Entering x) v = EnteringRow x v
+node_row (Leaving x) v = LeavingRow x v
 
 -- what holds of the histories of its ports; its kind stays the same
 abbrev pub node_law : {S D : Type 0} → (S → SourceState) → (D → DrainState) → Node S D → Node S D → View → List (List Item) → List (List Item) → Type 0
@@ -55,6 +61,8 @@ node_law sources drains (FanIn first) (FanIn x) v took gave = InLaw first x v to
 node_law sources drains (FanOut first) (FanOut x) v took gave = OutLaw first x v took gave
 node_law sources drains (Writing first) (Writing x) v took gave = SinkLaw drains first x v took gave
 node_law sources drains (Ignoring first) (Ignoring x) v took gave = IgnoreLaw first x v took gave
+node_law sources drains (Entering first) (Entering x) v took gave = EnteringLaw first x v took gave
+node_law sources drains (Leaving first) (Leaving x) v took gave = LeavingLaw first x v took gave
 node_law sources drains _ _ v took gave = ⊥
 
 -- what it knows of its ports whenever it has just asked: only a stage with several outputs tells of it
@@ -72,6 +80,8 @@ node_picks (FanIn x) = in_picks x
 node_picks (FanOut x) = out_picks x
 node_picks (Writing x) = None
 node_picks (Ignoring x) = None
+node_picks (Entering x) = None
+node_picks (Leaving x) = None
 
 -- the moves that it has recorded, and none where it does not choose
 abbrev pub node_moves : {S D : Type 0} → Node S D → List ℕ
@@ -87,6 +97,8 @@ node_end (FanIn x) = Staged
 node_end (FanOut x) = Staged
 node_end (Writing x) = Wrote (record { node = x.node; count = x.count; end = x.end; drain = Some x.drain })
 node_end (Ignoring x) = Wrote (record { node = x.node; count = 0; end = x.end; drain = None })
+node_end (Entering x) = Staged
+node_end (Leaving x) = Staged
 
 -- one that was not started has not read
 abbrev pub ReadsLater : {S D : Type 0} → (S → SourceState) → Node S D → Node S D → Type 0
@@ -98,3 +110,12 @@ ReadsLater sources _ _ = ⊤
 pub record KeepsNode {S D : Type 0} (sources : S → SourceState) (drains : D → DrainState) (x y : Node S D) : Type 0 where
   pub ends : KeepsEnd sources drains (node_end x) (node_end y)
   pub first : ReadsLater sources x y
+
+-- what was handed out of the island at it or dropped there, and what waits there: only where a lane goes out
+abbrev pub node_gone : {S D : Type 0} → Node S D → List Item
+node_gone (Leaving x) = x.gone
+node_gone x = []
+
+abbrev pub node_waits : {S D : Type 0} → Node S D → List Item
+node_waits (Leaving x) = x.waits
+node_waits x = []

@@ -1,7 +1,7 @@
 // A node of an island, whatever its kind is.
 ghost use Rattle.std.specs.Prelude.{◌≡◌, []};
 ghost use Rattle.std.specs.Option.{option_map};
-ghost use Rattle.nodes.specs.Nodes.{node_fresh, node_row, node_law, node_asking, node_moves, node_picks, node_end, KeepsNode};
+ghost use Rattle.nodes.specs.Nodes.{node_fresh, node_row, node_law, node_asking, node_moves, node_picks, node_end, node_gone, node_waits, KeepsNode};
 
 use crate::ignoring::IgnoreSink;
 use crate::maker::Maker;
@@ -12,6 +12,8 @@ use elem_core::item::Item;
 use elem_core::why::{Cause, NoMemory};
 use port_core::acts::Acts;
 use port_core::pick_log::PickLog;
+use stage_boundary::entering::Entering;
+use stage_boundary::leaving::Leaving;
 use stage_core::stage::Stage;
 use stage_in::logic::InLogic;
 use stage_linear::logic::LinearLogic;
@@ -39,6 +41,10 @@ pub enum Node<S: Source, D: Drain> {
     Writing(FileSink<D>),
     /// A sink that keeps nothing.
     Ignoring(IgnoreSink),
+    /// The stage at which what a lane brings enters the island.
+    Entering(Entering),
+    /// The stage at which what leaves the island for a lane waits.
+    Leaving(Leaving),
 }
 
 /// What a node leaves at the end of a run.
@@ -46,7 +52,7 @@ pub enum Node<S: Source, D: Drain> {
 pub enum NodeEnd<S: Source, D: Drain> {
     /// The source of bytes of a source of lines.
     Read(S),
-    /// A stage, or a source without a file, leaves nothing.
+    /// A stage, a source without a file, or the end of a lane leaves nothing.
     Staged,
     /// What a sink leaves.
     Wrote(SinkEnd<D>),
@@ -60,7 +66,9 @@ impl<S: Source, D: Drain> Node<S, D> {
     {
         match self {
             Node::Reading(source) => (NodeEnd::Read(source.into_source()), None),
-            Node::Making(_) | Node::Linear(_) => (NodeEnd::Staged, None),
+            Node::Making(_) | Node::Linear(_) | Node::Entering(_) | Node::Leaving(_) => {
+                (NodeEnd::Staged, None)
+            }
             Node::State(logic) => (NodeEnd::Staged, logic.picks()),
             Node::FanIn(logic) => (NodeEnd::Staged, logic.picks()),
             Node::FanOut(logic) => (NodeEnd::Staged, logic.picks()),
@@ -83,9 +91,9 @@ impl<S: Source, D: Drain> Stage for Node<S, D> {
 
     ghost keeps = { KeepsNode S.state D.state };
 
-    ghost gone = { λ n. [] };
+    ghost gone = { node_gone };
 
-    ghost waits = { λ n. [] };
+    ghost waits = { node_waits };
 
     fn start(&mut self, alloc: Global, acts: &mut Acts) -> Result<(), NoMemory> {
         match self {
@@ -97,6 +105,8 @@ impl<S: Source, D: Drain> Stage for Node<S, D> {
             Node::FanOut(logic) => Stage::start(logic, alloc, acts),
             Node::Writing(sink) => sink.start(acts),
             Node::Ignoring(sink) => sink.start(acts),
+            Node::Entering(stage) => Stage::start(stage, alloc, acts),
+            Node::Leaving(stage) => Stage::start(stage, alloc, acts),
         }
     }
 
@@ -108,6 +118,8 @@ impl<S: Source, D: Drain> Stage for Node<S, D> {
             Node::State(logic) => Stage::on_pull(logic, alloc, port, acts),
             Node::FanIn(logic) => Stage::on_pull(logic, alloc, port, acts),
             Node::FanOut(logic) => Stage::on_pull(logic, alloc, port, acts),
+            Node::Entering(stage) => Stage::on_pull(stage, alloc, port, acts),
+            Node::Leaving(stage) => Stage::on_pull(stage, alloc, port, acts),
             Node::Writing(_) | Node::Ignoring(_) => unreachable!(),
         }
     }
@@ -127,6 +139,8 @@ impl<S: Source, D: Drain> Stage for Node<S, D> {
             Node::FanOut(logic) => Stage::on_push(logic, alloc, port, e, acts),
             Node::Writing(sink) => sink.on_push(e, acts),
             Node::Ignoring(sink) => sink.on_push(e, acts),
+            Node::Entering(stage) => Stage::on_push(stage, alloc, port, e, acts),
+            Node::Leaving(stage) => Stage::on_push(stage, alloc, port, e, acts),
         }
     }
 
@@ -139,6 +153,8 @@ impl<S: Source, D: Drain> Stage for Node<S, D> {
             Node::FanOut(logic) => Stage::on_finish(logic, alloc, port, acts),
             Node::Writing(sink) => sink.on_finish(acts),
             Node::Ignoring(sink) => sink.on_finish(acts),
+            Node::Entering(stage) => Stage::on_finish(stage, alloc, port, acts),
+            Node::Leaving(stage) => Stage::on_finish(stage, alloc, port, acts),
         }
     }
 
@@ -157,6 +173,8 @@ impl<S: Source, D: Drain> Stage for Node<S, D> {
             Node::FanOut(logic) => Stage::on_fail(logic, alloc, port, cause, acts),
             Node::Writing(sink) => sink.on_fail(cause, acts),
             Node::Ignoring(sink) => sink.on_fail(cause, acts),
+            Node::Entering(stage) => Stage::on_fail(stage, alloc, port, cause, acts),
+            Node::Leaving(stage) => Stage::on_fail(stage, alloc, port, cause, acts),
         }
     }
 
@@ -168,17 +186,29 @@ impl<S: Source, D: Drain> Stage for Node<S, D> {
             Node::State(logic) => Stage::on_cancel(logic, alloc, port, acts),
             Node::FanIn(logic) => Stage::on_cancel(logic, alloc, port, acts),
             Node::FanOut(logic) => Stage::on_cancel(logic, alloc, port, acts),
+            Node::Entering(stage) => Stage::on_cancel(stage, alloc, port, acts),
+            Node::Leaving(stage) => Stage::on_cancel(stage, alloc, port, acts),
             Node::Writing(_) | Node::Ignoring(_) => unreachable!(),
         }
     }
 
     fn hand_out(&mut self) -> Option<Item> {
-        None
+        match self {
+            Node::Leaving(stage) => stage.hand_out(),
+            _ => None,
+        }
     }
 
-    fn let_go(&mut self) {}
+    fn let_go(&mut self) {
+        if let Node::Leaving(stage) = self {
+            stage.let_go();
+        }
+    }
 
     fn is_clear(&self) -> bool {
-        true
+        match self {
+            Node::Leaving(stage) => stage.is_clear(),
+            _ => true,
+        }
     }
 }

@@ -7,7 +7,7 @@ use Rattle.stream_model.specs.Graph.{Graph}
 use Rattle.stream_model.specs.Graph as graph
 use Rattle.stream_model.specs.Node.{World}
 use Rattle.nodes.specs.declared.node.Node.{Node}
-use Rattle.nodes.specs.declared.node.Node.TheVariants.{Reading, Making, Linear, State, FanIn, FanOut, Writing, Ignoring}
+use Rattle.nodes.specs.declared.node.Node.TheVariants.{Reading, Making, Linear, State, FanIn, FanOut, Writing, Ignoring, Entering, Leaving}
 use Rattle.nodes.specs.declared.sink.Writes.TheVariants.{First}
 use Rattle.nodes.specs.Kinds.{writes_of}
 use Rattle.nodes.specs.Nodes.{node_row, node_law, node_asking, node_moves}
@@ -45,4 +45,6 @@ module _ {S D : Type 0} (sources : S → SourceState) (drains : D → DrainState
   node_picture (Ignoring first) (Ignoring x) is os f t r law =
       sink_picture sources drains g w k n (Ignoring first) (Ignoring x) ⊥ (ignore_row_in x.started x.end) is os (subst (λ (kd : Kind). SinkRows g w kd ⊥) (sym f.kind_is) (ignore_rows g w)) r (ignore_ports x.started x.end)
       (λ i ii oo s m none. absurd none)
+  node_picture (Entering first) x is os f t r law = absurd f
+  node_picture (Leaving first) x is os f t r law = absurd f
   node_picture first x is os f t r law = absurd law

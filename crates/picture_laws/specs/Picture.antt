@@ -3,7 +3,7 @@ use Rattle.std.specs.Prelude.{Bool, true, false, Option, None, Some}
 use Rattle.stream_model.specs.declared.outcome.EndState.{EndState}
 use Rattle.stream_model.specs.declared.outcome.EndState.TheVariants.{Ended, Failed, Unended, WriteFault}
 use Rattle.nodes.specs.declared.node.Node.{Node}
-use Rattle.nodes.specs.declared.node.Node.TheVariants.{Reading, Making, Linear, State, FanIn, FanOut, Writing, Ignoring}
+use Rattle.nodes.specs.declared.node.Node.TheVariants.{Reading, Making, Linear, State, FanIn, FanOut, Writing, Ignoring, Entering, Leaving}
 
 -- it does not go on
 abbrev pub has_ended : EndState → Bool
@@ -22,6 +22,8 @@ sink_ended (FanIn x) = false
 sink_ended (FanOut x) = false
 sink_ended (Writing x) = has_ended x.end
 sink_ended (Ignoring x) = has_ended x.end
+sink_ended (Entering x) = false
+sink_ended (Leaving x) = false
 
 -- the same of a node that may be there
 abbrev pub ended_there : {S D : Type 0} → Option (Node S D) → Bool

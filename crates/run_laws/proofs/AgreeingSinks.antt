@@ -28,7 +28,7 @@ use Rattle.stage_state.specs.Logics.{IsStateful}
 use Rattle.wire_core.specs.Marks.{wanted}
 use Rattle.wire_core.specs.Reading.{inp_of, got_of}
 use Rattle.nodes.specs.declared.node.Node.{Node}
-use Rattle.nodes.specs.declared.node.Node.TheVariants.{Reading, Making, Linear, State, FanIn, FanOut, Writing, Ignoring}
+use Rattle.nodes.specs.declared.node.Node.TheVariants.{Reading, Making, Linear, State, FanIn, FanOut, Writing, Ignoring, Entering, Leaving}
 use Rattle.nodes.specs.Nodes.{node_row, node_law, node_asking, node_moves}
 use Rattle.nodes.specs.Ports.{OneInOf}
 use Rattle.nodes.specs.Kinds.{IsMaker, IsFileSink, writes_of}
@@ -97,6 +97,8 @@ sink_cases sources drains k n (State first) now v took gave is made law = absurd
 sink_cases sources drains k n (FanIn first) now v took gave is made law = absurd (not_fan_in n.kind is made.is_in)
 sink_cases sources drains k n (FanOut first) now v took gave is made law = absurd (not_fan_out n.kind is made.is_out)
 sink_cases sources drains k n (Ignoring first) now v took gave is made law = let e : IsFileSink kind.Ignore = subst IsFileSink made.kind_is is in absurd e
+sink_cases sources drains k n (Entering first) now v took gave is made law = absurd made
+sink_cases sources drains k n (Leaving first) now v took gave is made law = absurd made
 sink_cases sources drains k n (Writing first) now v took gave is made law = absurd law
 
 -- and one that keeps nothing
@@ -110,6 +112,8 @@ ignore_cases sources drains k n (State first) now v took gave is made law = let 
 ignore_cases sources drains k n (FanIn first) now v took gave is made law = let e : IsFanIn kind.Ignore = subst IsFanIn is made.is_in in absurd e
 ignore_cases sources drains k n (FanOut first) now v took gave is made law = let e : IsOut kind.Ignore = subst IsOut is made.is_out in absurd e
 ignore_cases sources drains k n (Writing first) now v took gave is made law = let e : IsFileSink kind.Ignore = subst IsFileSink is made.is_sink in absurd e
+ignore_cases sources drains k n (Entering first) now v took gave is made law = absurd made
+ignore_cases sources drains k n (Leaving first) now v took gave is made law = absurd made
 ignore_cases sources drains k n (Ignoring first) now v took gave is made law = absurd law
 
 module _ {S D : Type 0} (sources : S → SourceState) (drains : D → DrainState) (g : Graph) (a : Account (Node S D)) (run : IsRun sources drains g a) where

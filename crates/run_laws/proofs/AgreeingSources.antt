@@ -15,7 +15,7 @@ use Rattle.stage_law.specs.Held.{told}
 use Rattle.wire_core.specs.Reading.{sent_of}
 use Rattle.fused_net.proofs.Reading.{some_same}
 use Rattle.nodes.specs.declared.node.Node.{Node}
-use Rattle.nodes.specs.declared.node.Node.TheVariants.{Reading, Making, Linear, State, FanIn, FanOut, Writing, Ignoring}
+use Rattle.nodes.specs.declared.node.Node.TheVariants.{Reading, Making, Linear, State, FanIn, FanOut, Writing, Ignoring, Entering, Leaving}
 use Rattle.nodes.specs.Kinds.{IsMaker, IsFileSink}
 use Rattle.nodes.specs.Nodes.{node_row, node_law, node_asking, node_moves}
 use Rattle.nodes.specs.Source.{Lines, LinesLaw}
@@ -41,6 +41,8 @@ source_cases sources drains k n name (Linear first) now v took gave is made law 
 source_cases sources drains k n name (State first) now v took gave is made law = let e : IsStateful (kind.Lines name) = subst IsStateful is made.is_state in absurd e
 source_cases sources drains k n name (FanIn first) now v took gave is made law = let e : IsFanIn (kind.Lines name) = subst IsFanIn is made.is_in in absurd e
 source_cases sources drains k n name (FanOut first) now v took gave is made law = let e : IsOut (kind.Lines name) = subst IsOut is made.is_out in absurd e
+source_cases sources drains k n name (Entering first) now v took gave is made law = absurd made
+source_cases sources drains k n name (Leaving first) now v took gave is made law = absurd made
 source_cases sources drains k n name (Reading first) now v took gave is made law = absurd law
 
 module _ {S D : Type 0} (sources : S → SourceState) (drains : D → DrainState) (g : Graph) (a : Account (Node S D)) (run : IsRun sources drains g a) where

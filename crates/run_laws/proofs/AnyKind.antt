@@ -8,7 +8,7 @@ use Rattle.stream_model.specs.Node.{World}
 use Rattle.stream_model.specs.Composed.{inputs_of}
 use Rattle.stream_io.specs.State.{SourceState, DrainState}
 use Rattle.nodes.specs.declared.node.Node.{Node}
-use Rattle.nodes.specs.declared.node.Node.TheVariants.{Reading, Making, Linear, State, FanIn, FanOut, Writing, Ignoring}
+use Rattle.nodes.specs.declared.node.Node.TheVariants.{Reading, Making, Linear, State, FanIn, FanOut, Writing, Ignoring, Entering, Leaving}
 use Rattle.nodes.specs.Nodes.{node_law}
 use Rattle.run_account.specs.KindLaws.{RunLaws}
 use Rattle.fan_laws.proofs.InRuns.{in_laws}
@@ -31,4 +31,6 @@ module _ {S D : Type 0} (sources : S → SourceState) (drains : D → DrainState
   node_laws (FanOut first) (FanOut now) v took gave made tells many law = out_laws g w k n first now v took gave made.begins tells.1 law
   node_laws (Writing first) (Writing now) v took gave made tells many law = writing_laws g w k n drains first now v took gave made law
   node_laws (Ignoring first) (Ignoring now) v took gave made tells many law = ignoring_laws g w k n first now v took gave made law
+  node_laws (Entering first) now v took gave made tells many law = absurd made
+  node_laws (Leaving first) now v took gave made tells many law = absurd made
   node_laws first now v took gave made tells many law = absurd law

@@ -6,7 +6,7 @@ use Rattle.elem_core.specs.declared.item.Item.{Item}
 use Rattle.port_core.specs.View.{View}
 use Rattle.stream_io.specs.State.{SourceState, DrainState}
 use Rattle.nodes.specs.declared.node.Node.{Node}
-use Rattle.nodes.specs.declared.node.Node.TheVariants.{Reading, Making, Linear, State, FanIn, FanOut, Writing, Ignoring}
+use Rattle.nodes.specs.declared.node.Node.TheVariants.{Reading, Making, Linear, State, FanIn, FanOut, Writing, Ignoring, Entering, Leaving}
 use Rattle.nodes.specs.Nodes.{node_law}
 use Rattle.stream_model.specs.Graph as graph
 use Rattle.stream_model.specs.Linear.{Book}
@@ -56,4 +56,6 @@ module _ {S D : Type 0} (sources : S → SourceState) (drains : D → DrainState
   node_hears (FanOut first) (FanOut now) v took gave made law p h at = out_hears book k n.kind first now v took gave made.begins law p h at
   node_hears (Writing first) (Writing now) v took gave made law p h at = heard_one v took _ law.took_is (record { list = law.elems; end = law.in_end; is = refl; as_seen = law.took_as }) p h at
   node_hears (Ignoring first) (Ignoring now) v took gave made law p h at = heard_one v took _ law.took_is (record { list = law.elems; end = law.in_end; is = refl; as_seen = law.took_as }) p h at
+  node_hears (Entering first) now v took gave made law p h at = absurd made
+  node_hears (Leaving first) now v took gave made law p h at = absurd made
   node_hears first now v took gave made law p h at = absurd law

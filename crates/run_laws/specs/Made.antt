@@ -17,7 +17,7 @@ use Rattle.stage_out.specs.OutLogics as fan_out
 use Rattle.fused_net.specs.declared.net.Ends.{Ends}
 use Rattle.fused_net.specs.Net.{end_at}
 use Rattle.nodes.specs.declared.node.Node.{Node}
-use Rattle.nodes.specs.declared.node.Node.TheVariants.{Reading, Making, Linear, State, FanIn, FanOut, Writing, Ignoring}
+use Rattle.nodes.specs.declared.node.Node.TheVariants.{Reading, Making, Linear, State, FanIn, FanOut, Writing, Ignoring, Entering, Leaving}
 use Rattle.nodes.specs.Source.{Lines}
 use Rattle.nodes.specs.Maker.{Made}
 use Rattle.nodes.specs.Sink.{Sink}
@@ -71,7 +71,7 @@ pub record FirstIgnoring (k : ℕ) (shape : Kind) (x : Ignorer) : Type 0 where
   pub node : x.node ≡ k
   pub end : x.end ≡ Unended
 
--- node k of the blueprint, as it is handed in
+-- node k of the blueprint, as it is handed in; the ends of a lane are no nodes of it
 abbrev pub FirstOf : {S D : Type 0} → (S → SourceState) → ℕ → graph.Node → Node S D → Type 0
 FirstOf sources k n (Reading x) = FirstReading sources k n.kind x
 FirstOf sources k n (Making x) = FirstMaking k n.kind x
@@ -81,6 +81,8 @@ FirstOf sources k n (FanIn x) = FirstFanIn k n x
 FirstOf sources k n (FanOut x) = FirstFanOut k n x
 FirstOf sources k n (Writing x) = FirstWriting k n.kind x
 FirstOf sources k n (Ignoring x) = FirstIgnoring k n.kind x
+FirstOf sources k n (Entering x) = ⊥
+FirstOf sources k n (Leaving x) = ⊥
 
 -- a wire between the same ports, which is no lane
 pub record IsFused (v : Wire) (e : Ends) : Type 0 where

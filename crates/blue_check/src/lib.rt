@@ -6,5 +6,5 @@ pub mod checked;
 pub mod detail;
 pub mod fault;
 mod judge;
-mod picks;
+pub mod picks;
 mod rules;

@@ -25,8 +25,8 @@ fn is_merged(joining: Joining) -> bool
     }
 }
 
-/// Whether the moves of a kind depend on what comes first.
-fn picks(kind: &Kind) -> bool
+/// Whether the moves of a kind depend on what comes first. Rule: own.
+pub fn picks(kind: &Kind) -> bool
     ensures { result ≡ picks kind.now }
 {
     match kind {

@@ -1,70 +1,140 @@
 // The trace of a run: what its stages chose.
-ghost use Rattle.std.specs.Prelude.{◌≡◌, ◌++◌, codes, length, map, OnOk, OnErr};
+ghost use Rattle.std.specs.Prelude.{◌≡◌, ◌+◌, ◌≤◌, ◌++◌, [], IsTrue, codes, length, map, vec_capacity, OnOk, OnErr};
 ghost use Rattle.std.specs.List.{flat_map};
 ghost use Rattle.run_report.specs.Trace.{move_text, pick_line, trace_text, moves_in};
-ghost use Rattle.run_report.specs.Writing.{Puts, PutsPart};
+ghost use Rattle.run_report.specs.Writing.{Puts, PutsPart, Leaves};
 
-use crate::put::{put_all, put_parts};
+use crate::put::put_all;
 use elem_core::line::Line;
 use itoa::Buffer;
 use stream_io::outside::{Drain, Failed};
 use stream_model::outcome::PickList;
 
-/// Puts a move behind a space.
-fn put_move<D: Drain>(file: &mut D, m: u32) -> Result<(), Failed>
-    ensures ok { OnOk result (Puts (D.state file.old) (D.state file.new) (move_text m)) }
-    ensures err { OnErr result (PutsPart (D.state file.old) (D.state file.new) (move_text m)) }
+/// Whether there is room for a piece behind what is gathered.
+fn has_room(gathered: &Vec<u8>, piece: &[u8]) -> bool
+    ensures { IsTrue result → length gathered.now.items + length piece.now ≤ vec_capacity gathered.now }
 {
-    let mut buffer = Buffer::new();
-    put_parts(file, &[b" ", buffer.format(m).as_bytes()])
+    piece.len() <= gathered.capacity() - gathered.len()
 }
 
-/// Puts moves, each behind a space.
-fn put_moves<D: Drain>(file: &mut D, moves: &[u32]) -> Result<(), Failed>
-    ensures ok { OnOk result (Puts (D.state file.old) (D.state file.new) (flat_map move_text moves.now)) }
-    ensures err { OnErr result (PutsPart (D.state file.old) (D.state file.new) (flat_map move_text moves.now)) }
+/// Gathers a piece for which there is room.
+fn gather(gathered: &mut Vec<u8>, piece: &[u8])
+    requires { length gathered.old.items + length piece.now ≤ vec_capacity gathered.old }
+    ensures { gathered.new.items ≡ gathered.old.items ++ piece.now }
+{
+    for byte in piece {
+        gathered.push_reserved(*byte);
+    }
+}
+
+/// Puts what is gathered, and then gathers from the start.
+fn flush<D: Drain>(file: &mut D, gathered: &mut Vec<u8>) -> Result<(), Failed>
+    ensures ok { OnOk result (Puts (D.state file.old) (D.state file.new) gathered.old.items) }
+    ensures err { OnErr result (PutsPart (D.state file.old) (D.state file.new) gathered.old.items) }
+    ensures emptied { OnOk result (gathered.new.items ≡ []) }
+{
+    put_all(file, gathered)?;
+    gathered.clear();
+    Ok(())
+}
+
+/// Gathers a piece, or puts it behind what is gathered where there is no room for it.
+fn add<D: Drain>(file: &mut D, gathered: &mut Vec<u8>, piece: &[u8]) -> Result<(), Failed>
+    ensures ok { OnOk result (Leaves (D.state file.old) (D.state file.new) (gathered.old.items ++ piece.now) gathered.new.items) }
+    ensures err { OnErr result (PutsPart (D.state file.old) (D.state file.new) (gathered.old.items ++ piece.now)) }
+{
+    if has_room(gathered, piece) {
+        gather(gathered, piece);
+        Ok(())
+    } else {
+        flush(file, gathered)?;
+        put_all(file, piece)
+    }
+}
+
+/// Adds a move behind a space.
+fn add_move<D: Drain>(file: &mut D, gathered: &mut Vec<u8>, m: u32) -> Result<(), Failed>
+    ensures ok { OnOk result (Leaves (D.state file.old) (D.state file.new) (gathered.old.items ++ move_text m) gathered.new.items) }
+    ensures err { OnErr result (PutsPart (D.state file.old) (D.state file.new) (gathered.old.items ++ move_text m)) }
+{
+    let mut buffer = Buffer::new();
+    add(file, gathered, b" ")?;
+    add(file, gathered, buffer.format(m).as_bytes())
+}
+
+/// Adds moves, each behind a space.
+fn add_moves<D: Drain>(file: &mut D, gathered: &mut Vec<u8>, moves: &[u32]) -> Result<(), Failed>
+    ensures ok { OnOk result (Leaves (D.state file.old) (D.state file.new) (gathered.old.items ++ flat_map move_text moves.now) gathered.new.items) }
+    ensures err { OnErr result (PutsPart (D.state file.old) (D.state file.new) (gathered.old.items ++ flat_map move_text moves.now)) }
 {
     for m in moves {
-        put_move(file, *m)?;
+        add_move(file, gathered, *m)?;
     }
     Ok(())
 }
 
-/// Puts moves and the end of their line.
-fn put_rest<D: Drain>(file: &mut D, moves: &[u32]) -> Result<(), Failed>
-    ensures ok { OnOk result (Puts (D.state file.old) (D.state file.new) (flat_map move_text moves.now ++ codes "\n")) }
-    ensures err { OnErr result (PutsPart (D.state file.old) (D.state file.new) (flat_map move_text moves.now ++ codes "\n")) }
+/// Adds moves and the end of their line.
+fn add_rest<D: Drain>(file: &mut D, gathered: &mut Vec<u8>, moves: &[u32]) -> Result<(), Failed>
+    ensures ok { OnOk result (Leaves (D.state file.old) (D.state file.new) (gathered.old.items ++ (flat_map move_text moves.now ++ codes "\n")) gathered.new.items) }
+    ensures err { OnErr result (PutsPart (D.state file.old) (D.state file.new) (gathered.old.items ++ (flat_map move_text moves.now ++ codes "\n"))) }
 {
-    put_moves(file, moves)?;
-    put_all(file, b"\n")
+    add_moves(file, gathered, moves)?;
+    add(file, gathered, b"\n")
 }
 
-/// Puts the beginning of a stage's line.
-fn put_head<D: Drain>(file: &mut D, name: &Line) -> Result<(), Failed>
-    ensures ok { OnOk result (Puts (D.state file.old) (D.state file.new) (codes "pick " ++ name.now)) }
-    ensures err { OnErr result (PutsPart (D.state file.old) (D.state file.new) (codes "pick " ++ name.now)) }
+/// Adds the beginning of a stage's line.
+fn add_head<D: Drain>(file: &mut D, gathered: &mut Vec<u8>, name: &Line) -> Result<(), Failed>
+    ensures ok { OnOk result (Leaves (D.state file.old) (D.state file.new) (gathered.old.items ++ (codes "pick " ++ name.now)) gathered.new.items) }
+    ensures err { OnErr result (PutsPart (D.state file.old) (D.state file.new) (gathered.old.items ++ (codes "pick " ++ name.now))) }
 {
-    put_parts(file, &[b"pick ", name.bytes()])
+    add(file, gathered, b"pick ")?;
+    add(file, gathered, name.bytes())
 }
 
-/// Puts the line of a stage.
-fn put_pick<D: Drain>(file: &mut D, name: &Line, picks: &PickList) -> Result<(), Failed>
-    ensures ok { OnOk result (Puts (D.state file.old) (D.state file.new) (pick_line name.now (moves_in picks.now))) }
-    ensures err { OnErr result (PutsPart (D.state file.old) (D.state file.new) (pick_line name.now (moves_in picks.now))) }
+/// Adds the line of a stage.
+fn add_pick<D: Drain>(
+    file: &mut D,
+    gathered: &mut Vec<u8>,
+    name: &Line,
+    picks: &PickList,
+) -> Result<(), Failed>
+    ensures ok { OnOk result (Leaves (D.state file.old) (D.state file.new) (gathered.old.items ++ pick_line name.now (moves_in picks.now)) gathered.new.items) }
+    ensures err { OnErr result (PutsPart (D.state file.old) (D.state file.new) (gathered.old.items ++ pick_line name.now (moves_in picks.now))) }
 {
-    put_head(file, name)?;
-    put_rest(file, &picks.moves)
+    add_head(file, gathered, name)?;
+    add_rest(file, gathered, &picks.moves)
 }
 
-/// Puts the trace of stages of these names, which made these moves: a line for each, with its name and its moves in decimal. On
-/// a failed write a first part of it was put. It takes no memory. Rule: own.
-pub fn put_trace<D: Drain>(file: &mut D, names: &[Line], picks: &[PickList]) -> Result<(), Failed>
-    requires { length names.now ≡ length picks.now }
+/// Adds the lines of stages, as many as there are both names and moves.
+fn add_picks<D: Drain>(
+    file: &mut D,
+    gathered: &mut Vec<u8>,
+    names: &[Line],
+    picks: &[PickList],
+) -> Result<(), Failed>
+    ensures ok { OnOk result (Leaves (D.state file.old) (D.state file.new) (gathered.old.items ++ trace_text names.now (map moves_in picks.now)) gathered.new.items) }
+    ensures err { OnErr result (PutsPart (D.state file.old) (D.state file.new) (gathered.old.items ++ trace_text names.now (map moves_in picks.now))) }
+{
+    for i in 0..names.len().min(picks.len()) {
+        add_pick(file, gathered, &names[i], &picks[i])?;
+    }
+    Ok(())
+}
+
+/// Puts the trace of stages of these names, which made these moves: a line for each, with its name and its moves in decimal. It is
+/// gathered in `room` and put in pieces of that room's size, without taking memory. On a failed write a first part of it was put.
+/// Where there are more names than lists of moves, or more lists, those that are over have no line. Rule: own.
+pub fn put_trace<D: Drain>(
+    file: &mut D,
+    names: &[Line],
+    picks: &[PickList],
+    room: Vec<u8>,
+) -> Result<(), Failed>
+    requires { room.items ≡ [] }
     ensures ok { OnOk result (Puts (D.state file.old) (D.state file.new) (trace_text names.now (map moves_in picks.now))) }
     ensures err { OnErr result (PutsPart (D.state file.old) (D.state file.new) (trace_text names.now (map moves_in picks.now))) }
 {
-    for i in 0..picks.len() {
-        put_pick(file, &names[i], &picks[i])?;
-    }
-    Ok(())
+    let mut gathered = room;
+    add_picks(file, &mut gathered, names, picks)?;
+    put_all(file, &gathered)
 }

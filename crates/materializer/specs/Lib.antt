@@ -3,3 +3,4 @@ pub mod Built
 pub mod Files
 pub mod Seats
 pub mod Handed
+pub mod Choices

@@ -1,8 +1,10 @@
-// The files that a blueprint reads and writes, and its sinks.
+// The files that a blueprint reads and writes, its sinks, and its stages that choose.
 ghost use Rattle.std.specs.Prelude.{◌≡◌, IfOk};
 ghost use Rattle.std.specs.Option.{option_map};
+ghost use Rattle.materializer.specs.Choices.{pick_names};
 ghost use Rattle.materializer.specs.Files.{input_of, output_of, inputs_of_nodes, outputs_of_nodes, is_sink, sinks_of_nodes};
 
+use blue_check::picks::picks;
 use blue_core::blueprint::{Blueprint, Node};
 use blue_names::ports::outputs_of;
 use elem_core::line::Line;
@@ -76,6 +78,19 @@ fn sinks_of(alloc: Global, nodes: &[Node]) -> Result<Vec<Line>, NoMemory>
     Ok(names)
 }
 
+/// The names of the stages among these nodes whose kinds choose.
+fn picks_of(alloc: Global, nodes: &[Node]) -> Result<Vec<Line>, NoMemory>
+    ensures { IfOk result (λ names. names.items ≡ pick_names nodes.now) }
+{
+    let mut names = Vec::new(alloc);
+    for node in nodes {
+        if picks(&node.kind) {
+            names.push(node.name.copy(alloc)?)?;
+        }
+    }
+    Ok(names)
+}
+
 /// The names of the files that its sources read, in the order of nodes. Rule: own.
 pub fn input_names(alloc: Global, b: &Blueprint) -> Result<Vec<Line>, NoMemory>
     ensures { IfOk result (λ names. names.items ≡ inputs_of_nodes b.now.nodes.items) }
@@ -95,4 +110,11 @@ pub fn sink_names(alloc: Global, b: &Blueprint) -> Result<Vec<Line>, NoMemory>
     ensures { IfOk result (λ names. names.items ≡ sinks_of_nodes b.now.nodes.items) }
 {
     sinks_of(alloc, &b.nodes)
+}
+
+/// The names of its stages whose kinds choose, in the order of nodes. Rule: own.
+pub fn pick_names(alloc: Global, b: &Blueprint) -> Result<Vec<Line>, NoMemory>
+    ensures { IfOk result (λ names. names.items ≡ pick_names b.now.nodes.items) }
+{
+    picks_of(alloc, &b.nodes)
 }

@@ -1,0 +1,8 @@
+-- The stages of a blueprint whose kinds choose, in the order of nodes.
+use Rattle.std.specs.Prelude.{ℕ, List, map, filter}
+use Rattle.blue_core.specs.declared.blueprint.Node.{Node}
+use Rattle.blue_rules.specs.Picks.{picks}
+
+-- their names
+abbrev pub pick_names : List Node → List (List ℕ)
+pick_names nodes = map (λ n. n.name) (filter (λ n. picks n.kind) nodes)

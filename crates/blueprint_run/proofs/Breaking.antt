@@ -1,7 +1,7 @@
 -- A run in which memory was wanting: its island was taken apart, and its handles were closed.
-use Rattle.std.proofs.Common.{◌≡◌, ◌⊎◌, inl, inr, ℕ, zero, suc, ◌+◌, ◌≤◌, List, [], ◌∷◌, ◌++◌, map, length, slice_get, refl, sym, ap, ◌∙◌, subst, arith}
+use Rattle.std.proofs.Common.{◌≡◌, ◌⊎◌, inl, inr, ℕ, zero, suc, ◌+◌, ◌≤◌, List, [], ◌∷◌, map, length, slice_get, refl, sym, ap, ◌∙◌, subst, arith}
 use Rattle.std.specs.Prelude.{IsTrue, Option, Some, None}
-use Rattle.std.specs.Option.{option_map}
+use Rattle.std.specs.Option.{option_map, option_to_list}
 use Rattle.std.specs.List.{Contains}
 use Rattle.std.proofs.lemmas.List.{append-nil}
 use Rattle.elem_core.specs.Prefix.{IsPrefix}
@@ -39,17 +39,22 @@ use Rattle.plug_core.specs.declared.head.PlugHead.{PlugHead}
 use Rattle.materializer.specs.Built.{CanRun}
 use Rattle.materializer.specs.Files.{output_of, inputs_of_nodes, outputs_of_nodes}
 use Rattle.materializer.specs.Graphs.{node_of, graph_of}
-use Rattle.run_files.specs.Opening.{OpensAll, GivesUp}
-use Rattle.run_files.specs.Closing.{ClosesAll}
+use Rattle.run_files.specs.Opening.{OpensAll}
+use Rattle.run_files.specs.Names.{drain_names}
 use Rattle.run_files.proofs.Counts.{grew_same}
 use Rattle.blueprint_run.specs.Drawing.{Drawn, IsSource, IsWorldOf}
 use Rattle.blueprint_run.specs.Leaving.{LeavesBroken}
+use Rattle.blueprint_run.specs.Opening.{Opens}
+use Rattle.blueprint_run.specs.Tracing.{written_files, IsApart}
 use Rattle.blueprint_run.specs.Running.{WasReadOn, SinkBreaks, BreaksFiles, WantsWithin, Wants}
 use Rattle.blueprint_run.proofs.Places.{mapped_at}
 use Rattle.blueprint_run.proofs.Profiles.{reader_in, writer_in, Profile}
 use Rattle.blueprint_run.proofs.Worlds.{world_of}
-use Rattle.blueprint_run.proofs.Handles.{HandleLaws, Between, SourceFacts, SinkFacts, source_facts, sink_facts, is_run, profiles, as_many}
-use Rattle.blueprint_run.proofs.Shutting.{TakenApart, read_grew, faults_grew, writes_grew, file_held, other_files, other_reads, other_writes, other_draws, refused, tells_old}
+use Rattle.blueprint_run.proofs.Handles.{HandleLaws, Between, source_facts, sink_facts, is_run, profiles, as_many}
+use Rattle.blueprint_run.proofs.Counts.{contains_or_not}
+use Rattle.blueprint_run.proofs.Shuts.{Shuts}
+use Rattle.blueprint_run.proofs.Traces.{LeftEmpty, listed, unlisted, lone_of}
+use Rattle.blueprint_run.proofs.Shutting.{TakenApart, unwritten, read_grew, faults_grew, writes_grew, file_held, other_files, other_reads, other_writes, other_draws, refused, tells_old}
 use Rattle.blueprint_run.proofs.Drawns.{drawn_of, made_moves, picks_stand, Draws, draws_all, reads_of}
 use Rattle.blueprint_run.proofs.Closing.{WroteLaw, stands_writes}
 
@@ -184,7 +189,8 @@ module _ {S D : Type 0} (sources : S → SourceState) (drains : D → DrainState
 module _ {S D : Type 0} (sources : S → SourceState) (drains : D → DrainState) (handles : HandleLaws sources drains) (wrote_law : WroteLaw sources drains)
     (ranked_law : (b : Blueprint) (plugs : List PlugHead) (taken : List (List ℕ)) → IsFit b plugs taken → (rank : ℕ → ℕ) × IsRanked (graph_of b) rank)
     (b : Blueprint) (can : CanRun b) (ss : List S) (ds : List D) (e : IslandEnd S D) (l : LeavesBroken sources drains b ss ds e)
-    (old mid : FolderState) (opens : OpensAll old mid (inputs_of_nodes b.nodes.items) (outputs_of_nodes b.nodes.items) (map sources ss) (map drains ds)) (new : FolderState) (closes : ClosesAll mid new (map sources e.readers.items) (map drains e.writers.items)) where
+    (old mid : FolderState) (trace : Option (List ℕ)) (separate : IsApart b trace) (opens : Opens old mid (inputs_of_nodes b.nodes.items) (outputs_of_nodes b.nodes.items) (option_to_list trace) (map sources ss) (map drains ds)) (new : FolderState)
+    (closes : Shuts mid new (option_to_list trace) (map sources e.readers.items) (map drains e.writers.items)) where
   abbrev nodes : List blue.Node
   nodes = b.nodes.items
 
@@ -209,6 +215,9 @@ module _ {S D : Type 0} (sources : S → SourceState) (drains : D → DrainState
   profile : (k : ℕ) (n : blue.Node) (x : Node S D) → slice_get nodes k ≡ Some n → slice_get net.nodes k ≡ Some x → Profile sources drains k n x
   profile = profiles sources drains handles b can ss ds net between old mid opens
 
+  lone : (n : List ℕ) → Contains (outputs_of_nodes nodes) n → Contains (option_to_list trace) n → ⊥
+  lone = lone_of b trace separate
+
   apart : TakenApart sources drains b final e.readers.items e.writers.items
   apart = record {
     as_many = as_many sources drains handles b can ss ds net between old mid opens ∙ kept_many sources drains net.nodes final l.breaks.kept;
@@ -217,6 +226,13 @@ module _ {S D : Type 0} (sources : S → SourceState) (drains : D → DrainState
     readers_are = l.breaks.readers;
     writers_are = l.breaks.writers;
   }
+
+  -- the trace's file, as it was left where none of the sinks' drains has its name
+  abbrev Emptied : Type 0
+  Emptied = ((n : List ℕ) → Contains (option_to_list trace) n → Contains (drain_names (map drains e.writers.items)) n → ⊥) → (t : List ℕ) → trace ≡ Some t → LeftEmpty old new t
+
+  trace_left : Emptied → (t : List ℕ) → trace ≡ Some t → LeftEmpty old new t
+  trace_left ended = ended (unwritten sources drains b can final e.readers.items e.writers.items apart old mid _ _ opens new closes lone)
 
   abbrev drawn : Drawn
   drawn = drawn_of sources l.places net
@@ -233,8 +249,8 @@ module _ {S D : Type 0} (sources : S → SourceState) (drains : D → DrainState
         let here : slice_get final k ≡ Some (node.Reading z.0) = y.1.0 ∙ ap Some z.1.0 in
         let named : (sources z.0.reader.source).name ≡ file = z.1.1.name ∙ f.law.name ∙ f.first_named in
         let given = (drew.source k file f).given in
-        let read = read_grew sources drains b can final e.readers.items e.writers.items apart old mid _ _ opens new closes k file z.0 here named in
-        let faults = faults_grew sources drains b can final e.readers.items e.writers.items apart old mid _ _ opens new closes k file z.0 here named in
+        let read = read_grew sources drains b can final e.readers.items e.writers.items apart old mid _ _ opens new closes lone k file z.0 here named in
+        let faults = faults_grew sources drains b can final e.readers.items e.writers.items apart old mid _ _ opens new closes lone k file z.0 here named in
         record {
           more = (sources z.0.reader.source).given;
           given_less = subst (λ (m : ℕ). m ≤ (sources z.0.reader.source).given) (sym given) z.1.1.given;
@@ -253,49 +269,56 @@ module _ {S D : Type 0} (sources : S → SourceState) (drains : D → DrainState
         let wrote : SinkWrote sources drains g left k (node_of n) f.first f.now = wrote_law g left run k (node_of n) f.first f.now (mapped_at node_of nodes k n at) f.there in
         let ranked = ranked_law b can.plugs can.taken can.fit in
         let tells : (w : World) → IsWorldOf nodes drawn w → SinkTells (sink_outlook g w k (node_of n)) f.now.end wrote.written = λ w is. wrote.tells w ranked.0 (drew.tells w is) ranked.1 in
-        let grew = writes_grew sources drains b can final e.readers.items e.writers.items apart old mid _ _ opens new closes k file z.0 here named in
+        let grew = writes_grew sources drains b can final e.readers.items e.writers.items apart old mid _ _ opens new closes lone k file z.0 here named in
         record {
           held = wrote.written;
           end = f.now.end;
           there = λ told.
-              file_held sources drains b can final e.readers.items e.writers.items apart old mid _ _ opens new closes k file z.0 here named told
+              file_held sources drains b can final e.readers.items e.writers.items apart old mid _ _ opens new closes lone k file z.0 here named told
               ∙ ap (λ (s : DrainState). s.holds) z.1.1
-              ∙ wrote.holds (f.start.holds (closes.files.told told));
+              ∙ wrote.holds (f.start.holds (closes.told told));
           tells = tells;
           part = λ w is. part_of (sink_outlook g w k (node_of n)) f.now.end wrote.written (tells w is);
           writes = stands_writes f.now.end (drains f.first.drain) (drains f.now.drain) f.law.wrote f.now.count (old.wfaults file) (new.wfaults file) f.law.stands f.start.faults
               (subst (λ (s : DrainState). Grew (old.wfaults file) s.faults (new.wfaults file)) z.1.1 grew);
         }
 
-    breaks_files : BreaksFiles old new b
-    breaks_files = record {
+    breaks_files : Emptied → BreaksFiles old new b trace
+    breaks_files ended = record {
       drawn = drawn;
       chose = picks_stand sources drains handles b can ss ds net between old mid opens;
       read = source_breaks;
       world = world_of nodes drawn (made_moves sources drains handles b can ss ds net between old mid opens);
       has_files = drew.has_files;
       sink = sink_breaks;
-      others = other_files sources drains b can final e.readers.items e.writers.items apart old mid _ _ opens new closes;
+      others = λ tells n never aside. other_files sources drains b can final e.readers.items e.writers.items apart old mid _ _ opens new closes lone tells n never (unlisted trace n aside);
+      empty = λ tells t is. (trace_left ended t is).empty tells;
     }
 
-  pub wants_within : WantsWithin old new b
-  wants_within = record {
-    told = tells_old sources drains b can final e.readers.items e.writers.items apart old mid _ _ opens new closes;
-    leaves = breaks_files;
-    refusals = refused sources drains b can final e.readers.items e.writers.items apart old mid _ _ opens new closes;
-    reads = other_reads sources drains b can final e.readers.items e.writers.items apart old mid _ _ opens new closes;
-    other_writes = other_writes sources drains b can final e.readers.items e.writers.items apart old mid _ _ opens new closes;
-    other_draws = other_draws sources drains b can final e.readers.items e.writers.items apart old mid _ _ opens new closes;
+  other_calm : Emptied → (n : List ℕ) → (Contains (outputs_of_nodes nodes) n → ⊥) → Grew (old.wfaults n) 0 (new.wfaults n)
+  other_calm ended n never = elim (contains_or_not (option_to_list trace) n) [
+    | inl c ↦ ((trace_left ended n (listed trace n c)).calm)
+    | inr aside ↦ (other_writes sources drains b can final e.readers.items e.writers.items apart old mid _ _ opens new closes lone n never aside)
+  ]
+
+  pub wants_within : Emptied → WantsWithin old new b trace
+  wants_within ended = record {
+    told = tells_old sources drains b can final e.readers.items e.writers.items apart old mid _ _ opens new closes lone;
+    leaves = λ tells. breaks_files tells ended;
+    refusals = refused sources drains b can final e.readers.items e.writers.items apart old mid _ _ opens new closes lone;
+    reads = other_reads sources drains b can final e.readers.items e.writers.items apart old mid _ _ opens new closes lone;
+    other_writes = other_calm ended;
+    other_draws = other_draws sources drains b can final e.readers.items e.writers.items apart old mid _ _ opens new closes lone;
   }
 
 -- ---- before the run
 
 -- the files were opened, and then memory was wanting
-pub gives_up_open : (old new : FolderState) (b : Blueprint) (is : List SourceState) (os : List DrainState) → OpensAll old new (inputs_of_nodes b.nodes.items) (outputs_of_nodes b.nodes.items) is os → Wants old new b
-gives_up_open old new b is os h = inl (record {
-  before = outputs_of_nodes b.nodes.items;
+pub gives_up_open : (old new : FolderState) (b : Blueprint) (trace : Option (List ℕ)) (is : List SourceState) (os : List DrainState) → OpensAll old new (inputs_of_nodes b.nodes.items) (written_files b trace) is os → Wants old new b trace
+gives_up_open old new b trace is os h = inl (record {
+  before = written_files b trace;
   after = [];
-  place = sym (append-nil (outputs_of_nodes b.nodes.items));
+  place = sym (append-nil (written_files b trace));
   files = h.files;
   refusals = h.refusals;
   read = λ n. grew_same (old.read n) (new.read n) (h.read n);

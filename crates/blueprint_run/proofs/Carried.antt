@@ -1,5 +1,5 @@
 -- What passed the wires of a run, by what was sent on each.
-use Rattle.std.proofs.Common.{◌≡◌, ◌≢◌, ℕ, false, List, [], length, Some, refl, sym, ap, subst, ◌∙◌}
+use Rattle.std.proofs.Common.{◌≡◌, ◌≢◌, ℕ, false, List, [], length, Some, sym, ap, subst, ◌∙◌}
 use Rattle.std.specs.Prelude.{slice_get}
 use Rattle.elem_core.specs.Tree.{Tree}
 use Rattle.elem_core.specs.declared.item.Item.{Item}
@@ -10,14 +10,13 @@ use Rattle.stream_model.specs.Graph.{Wire}
 use Rattle.stream_model.specs.Graph as graph
 use Rattle.stream_model.specs.Linear.{go}
 use Rattle.stream_model.specs.Node.{World}
-use Rattle.stream_model.specs.Outlook.{Outlook, End, Agrees}
+use Rattle.stream_model.specs.Outlook.{Outlook, End}
 use Rattle.stream_picture.specs.Shape.{sent_at}
 use Rattle.wire_core.specs.Counts.{elements}
 use Rattle.run_account.specs.Items.{list_of, standing, AgreesWith}
 use Rattle.run_account.proofs.Coming.{elements_told}
 use Rattle.run_account.proofs.Histories.{list_of_told, standing_told}
 use Rattle.blue_core.specs.declared.blueprint.Blueprint.{Blueprint}
-use Rattle.blue_core.specs.declared.blueprint.Node.{Node}
 use Rattle.plug_core.specs.declared.head.PlugHead.{PlugHead}
 use Rattle.blue_check.specs.Fitness.{IsFit}
 use Rattle.blue_check.specs.Wires.{blueprint_wires}

@@ -1,11 +1,10 @@
 -- From the island of a blueprint at its end to what the run leaves in the folder.
-use Rattle.std.proofs.Common.{◌≡◌, ◌≢◌, ◌⊎◌, inl, inr, ℕ, zero, suc, ◌+◌, ◌*◌, ◌<◌, ◌≤◌, Bool, true, false, List, [], ◌∷◌, ◌++◌, map, length, slice_get, refl, sym, ap, ◌∙◌, subst, arith}
-use Rattle.std.specs.Prelude.{IsTrue, IsSome, Option, Some, None, slice_index_or, unwrap_or, ◌==◌, ◌&&◌, ◌||◌}
-use Rattle.std.specs.Option.{option_map}
-use Rattle.std.specs.List.{All, Contains, filter_map, list_any, list_all}
+use Rattle.std.proofs.Common.{◌≡◌, ◌≢◌, ◌⊎◌, inl, inr, ℕ, zero, suc, ◌+◌, ◌*◌, ◌<◌, ◌≤◌, Bool, true, false, List, [], ◌∷◌, map, length, slice_get, refl, sym, ap, ◌∙◌, subst, arith}
+use Rattle.std.specs.Prelude.{IsTrue, Option, Some, slice_index_or, ◌==◌, ◌||◌}
+use Rattle.std.specs.Option.{option_to_list}
+use Rattle.std.specs.List.{Contains, filter_map, list_any}
 use Rattle.std.proofs.lemmas.List.{length-map}
 use Rattle.elem_core.specs.Tree.{Tree, text}
-use Rattle.elem_core.specs.Text.{text_lines}
 use Rattle.elem_core.specs.declared.item.Item.{Item}
 use Rattle.stream_model.specs.declared.kind.Kind.{Kind}
 use Rattle.stream_model.specs.declared.kind.Kind.TheVariants as kind
@@ -15,18 +14,17 @@ use Rattle.stream_model.specs.declared.outcome.EndState.TheVariants.{Ended, Fail
 use Rattle.stream_model.specs.Graph.{Graph, Wire, find_wire}
 use Rattle.stream_model.specs.Graph as graph
 use Rattle.stream_model.specs.Node.{World}
-use Rattle.stream_model.specs.Outlook.{Outlook, End}
+use Rattle.stream_model.specs.Outlook.{Outlook}
 use Rattle.stream_model.specs.Composed.{next, composed, sink_outlook, IsRanked, inputs_of}
 use Rattle.stream_model.specs.Fits.{Fits}
 use Rattle.stream_model.proofs.Compositions.{found_first}
-use Rattle.stream_model.specs.Sources.{File, whole_lines}
 use Rattle.stream_picture.specs.Lawful.{IsLawful}
 use Rattle.stream_picture.specs.OneWay as oneway
 use Rattle.stream_picture.specs.Rests.{Rests, SinksMatch}
 use Rattle.stream_picture.specs.Shape.{IsPolytree, IsWired, sent_at, need, count_needed, need_from}
 use Rattle.stream_picture.specs.View.{EachWire, ins, outputs_of}
 use Rattle.picture_laws.specs.Picture.{has_ended, sink_ended, ended_there}
-use Rattle.stream_io.specs.Counts.{Rose, Grew}
+use Rattle.stream_io.specs.Counts.{Grew}
 use Rattle.stream_io.specs.State.{FolderState, SourceState, DrainState}
 use Rattle.stream_io.specs.Reading.{FirstTooLong}
 use Rattle.wire_core.specs.Cell.{Cell}
@@ -61,7 +59,6 @@ use Rattle.run_laws.proofs.Choosing.{chosen_told}
 use Rattle.run_laws.specs.Sinks.{SinkWrote, SentTo, IsSinkAt, IgnoreTells, IsIgnorerAt}
 use Rattle.run_laws.specs.Reads.{IsSourceAt, ReadsAhead, SentLines}
 use Rattle.blue_core.specs.declared.blueprint.Blueprint.{Blueprint}
-use Rattle.blue_rules.specs.Names.{file_of}
 use Rattle.blue_core.specs.declared.blueprint.ChainDecl.{ChainDecl}
 use Rattle.blue_core.specs.declared.blueprint.Node as blue
 use Rattle.blue_check.specs.Fitness.{IsFit}
@@ -72,8 +69,7 @@ use Rattle.materializer.specs.Built.{CanRun}
 use Rattle.materializer.specs.Files.{output_of, inputs_of_nodes, outputs_of_nodes, is_sink}
 use Rattle.materializer.specs.Graphs.{node_of, graph_of}
 use Rattle.materializer.specs.Seats.{links_from}
-use Rattle.run_files.specs.Opening.{AtStart, HoldsNone, OpensAll, GivesUp}
-use Rattle.run_files.specs.Closing.{ClosesAll}
+use Rattle.run_files.specs.Names.{drain_names}
 use Rattle.type_laws.specs.Checked.{plain, plain_chain, PassesRules}
 use Rattle.type_laws.specs.Plugs.{KeepsPlugTypes}
 use Rattle.type_laws.specs.Sent.{SendsItsType}
@@ -82,20 +78,22 @@ use Rattle.blueprint_run.specs.Choosing.{picked}
 use Rattle.blueprint_run.proofs.Carried.{silent, silent_keeps, carries}
 use Rattle.blueprint_run.specs.Drawing.{Drawn, IsSource, WasRead, IsWorldOf, DrawsFirst}
 use Rattle.blueprint_run.specs.Leaving.{Leaves}
-use Rattle.blueprint_run.specs.Running.{SinkLeaves, IgnoreLeaves, LeavesFiles, WritesOf, Runs, Wants}
+use Rattle.blueprint_run.specs.Opening.{Opens}
+use Rattle.blueprint_run.specs.Tracing.{IsApart, Traces}
+use Rattle.blueprint_run.specs.Running.{SinkLeaves, IgnoreLeaves, LeavesFiles, WritesOf, Runs}
 use Rattle.blueprint_run.specs.Stands.{Stand, has_ended_at, is_write_fault, is_unended}
 use Rattle.blueprint_run.specs.Units.{all_sent, Pays}
 use Rattle.blueprint_run.specs.declared.run.Stopped.{Stopped}
 use Rattle.blueprint_run.specs.declared.run.Ran.{Ran}
-use Rattle.run_files.proofs.Counts.{grew_same}
-use Rattle.blueprint_run.proofs.Counts.{rose_by, rose_from_none, is_positive, positive, above_none, not_positive, some_of, contains_or_not}
-use Rattle.blueprint_run.proofs.Apart.{one_file}
+use Rattle.blueprint_run.proofs.Counts.{rose_by, rose_from_none, is_positive, positive, contains_or_not}
 use Rattle.blueprint_run.proofs.Units.{spent_most, sent_asked, count_most, need_more, passed_within}
-use Rattle.blueprint_run.proofs.Worlds.{world_of, world_has, tree_by_wires}
-use Rattle.blueprint_run.proofs.Places.{all_at, contains_at, contained_at, mapped_at, unmapped_at, filtered_at, unfiltered_at, place_of, place_one, place_within}
+use Rattle.blueprint_run.proofs.Worlds.{world_of, tree_by_wires}
+use Rattle.blueprint_run.proofs.Places.{contains_at, contained_at, mapped_at, unmapped_at, filtered_at, unfiltered_at, place_of, place_one, place_within}
 use Rattle.blueprint_run.proofs.Profiles.{some_one, stand_in, writer_there, sinks_filtered, StandsAt, Profile, ended_along}
 use Rattle.blueprint_run.proofs.Handles.{IsSinkInto, HandleLaws, Between, fault_kind, writer_kind, SourceFacts, SinkFacts, source_facts, sink_facts, made, is_run, profiles, as_many, stands_are}
-use Rattle.blueprint_run.proofs.Shutting.{TakenApart, read_grew, faults_grew, writes_grew, file_held, other_files, other_reads, other_writes, other_draws, refused, tells_old}
+use Rattle.blueprint_run.proofs.Shuts.{Shuts}
+use Rattle.blueprint_run.proofs.Traces.{unlisted, lone_of, calm_trace}
+use Rattle.blueprint_run.proofs.Shutting.{TakenApart, unwritten, read_grew, faults_grew, writes_grew, file_held, other_files, other_reads, other_writes, other_draws, refused, tells_old}
 use Rattle.blueprint_run.proofs.Drawns.{drawn_of, made_moves, picks_told, picks_stand, Draws, draws_all, reads_of}
 
 -- ---- the wires' counts
@@ -295,7 +293,8 @@ module _ {S D : Type 0} (sources : S → SourceState) (drains : D → DrainState
 -- ---- what a run leaves
 
 module _ {S D : Type 0} (sources : S → SourceState) (drains : D → DrainState) (handles : HandleLaws sources drains) (laws : RunLaws sources drains) (b : Blueprint) (can : CanRun b) (ss : List S) (ds : List D) (budget : ℕ) (st : Stopped S D) (l : Leaves sources drains b ss ds budget st)
-    (old mid : FolderState) (opens : OpensAll old mid (inputs_of_nodes b.nodes.items) (outputs_of_nodes b.nodes.items) (map sources ss) (map drains ds)) (new : FolderState) (closes : ClosesAll mid new (map sources st.end.readers.items) (map drains st.end.writers.items)) where
+    (old mid : FolderState) (trace : Option (List ℕ)) (separate : IsApart b trace) (opens : Opens old mid (inputs_of_nodes b.nodes.items) (outputs_of_nodes b.nodes.items) (option_to_list trace) (map sources ss) (map drains ds)) (new : FolderState)
+    (closes : Shuts mid new (option_to_list trace) (map sources st.end.readers.items) (map drains st.end.writers.items)) where
   abbrev nodes : List blue.Node
   nodes = b.nodes.items
 
@@ -326,6 +325,9 @@ module _ {S D : Type 0} (sources : S → SourceState) (drains : D → DrainState
   profile : (k : ℕ) (n : blue.Node) (x : Node S D) → slice_get nodes k ≡ Some n → slice_get net.nodes k ≡ Some x → Profile sources drains k n x
   profile = profiles sources drains handles b can ss ds net between old mid opens
 
+  lone : (n : List ℕ) → Contains (outputs_of_nodes nodes) n → Contains (option_to_list trace) n → ⊥
+  lone = lone_of b trace separate
+
   -- its handles were closed
   apart : TakenApart sources drains b net.nodes st.end.readers.items st.end.writers.items
   apart = record {
@@ -337,10 +339,10 @@ module _ {S D : Type 0} (sources : S → SourceState) (drains : D → DrainState
   }
 
   sink_writes : (k : ℕ) (file : List ℕ) (f : ASink k file) → Grew (old.wfaults file) (drains f.now.drain).faults (new.wfaults file)
-  sink_writes k file f = writes_grew sources drains b can net.nodes st.end.readers.items st.end.writers.items apart old mid _ _ opens new closes k file f.now f.there.at_last (f.law.name ∙ f.first_named)
+  sink_writes k file f = writes_grew sources drains b can net.nodes st.end.readers.items st.end.writers.items apart old mid _ _ opens new closes lone k file f.now f.there.at_last (f.law.name ∙ f.first_named)
 
   sink_held : (k : ℕ) (file : List ℕ) (f : ASink k file) → IsTrue new.tells → new.file file ≡ (drains f.now.drain).holds
-  sink_held k file f = file_held sources drains b can net.nodes st.end.readers.items st.end.writers.items apart old mid _ _ opens new closes k file f.now f.there.at_last (f.law.name ∙ f.first_named)
+  sink_held k file f = file_held sources drains b can net.nodes st.end.readers.items st.end.writers.items apart old mid _ _ opens new closes lone k file f.now f.there.at_last (f.law.name ∙ f.first_named)
 
   abbrev left : Account (Node S D)
   left = account_of net
@@ -464,8 +466,8 @@ module _ {S D : Type 0} (sources : S → SourceState) (drains : D → DrainState
       was_read : WasRead old new file (drawn.bytes k) (drawn.given k) (drawn.faulted k)
       was_read =
           let given = (drew.source k file f).given in
-          let read = read_grew sources drains b can net.nodes st.end.readers.items st.end.writers.items apart old mid _ _ opens new closes k file f.now f.there.at_last (f.law.name ∙ f.first_named) in
-          let faults = faults_grew sources drains b can net.nodes st.end.readers.items st.end.writers.items apart old mid _ _ opens new closes k file f.now f.there.at_last (f.law.name ∙ f.first_named) in
+          let read = read_grew sources drains b can net.nodes st.end.readers.items st.end.writers.items apart old mid _ _ opens new closes lone k file f.now f.there.at_last (f.law.name ∙ f.first_named) in
+          let faults = faults_grew sources drains b can net.nodes st.end.readers.items st.end.writers.items apart old mid _ _ opens new closes lone k file f.now f.there.at_last (f.law.name ∙ f.first_named) in
           reads_of sources drains handles b can ss ds net between old mid opens tells_was k file f new (drawn.given k) (subst (λ n. Grew (old.read file) n (new.read file)) (sym given) read) faults
 
     -- the world tells of every source
@@ -483,7 +485,7 @@ module _ {S D : Type 0} (sources : S → SourceState) (drains : D → DrainState
       sink_leaves : SinkLeaves new b drawn st.wires.items st.at_rest k n file f.now.count f.now.end
       sink_leaves = record {
         held = wrote.written;
-        there = λ tells. sink_held k file f tells ∙ wrote.holds (f.start.holds (closes.files.told tells));
+        there = λ tells. sink_held k file f tells ∙ wrote.holds (f.start.holds (closes.told tells));
         tells = λ w is. let ranked = laws.ranked b can.plugs can.taken can.fit in wrote.tells w ranked.0 (world_tells w is) ranked.1;
         lines_are = wrote.lines_are;
         sent = λ shape u v at to. subst (λ (m : ℕ). SentTo f.now.end m f.now.count) (sym (wire_count u)) (laws.sent g left run k (node_of n) file f.first f.now u v at_graph shape f.there at to);
@@ -559,7 +561,7 @@ module _ {S D : Type 0} (sources : S → SourceState) (drains : D → DrainState
         let le : sent_at st.wires.items (0 + k) ≤ length (composed g w (0 + k)).list = omega (arith, sent, within) in
         le)
 
-    leaves_files : LeavesFiles old new b st.end.sinks.items (map pick_of st.end.picks.items) st.wires.items st.at_rest
+    leaves_files : LeavesFiles old new b trace st.end.sinks.items (map pick_of st.end.picks.items) st.wires.items st.at_rest
     leaves_files =
         let ranked = laws.ranked b can.plugs can.taken can.fit in
         record {
@@ -575,7 +577,7 @@ module _ {S D : Type 0} (sources : S → SourceState) (drains : D → DrainState
               let found = stand_of i s n file at here shape in
               subst (λ (t : Stand). SinkLeaves new b drawn st.wires.items st.at_rest s.0 n file t.1 t.2) (sym found.1) (sink_leaves s.0 n file here found.0);
           ignores = λ i s n at here shape. ignore_leaves i s n at here shape;
-          others = other_files sources drains b can net.nodes st.end.readers.items st.end.writers.items apart old mid _ _ opens new closes;
+          others = λ tells n never aside. other_files sources drains b can net.nodes st.end.readers.items st.end.writers.items apart old mid _ _ opens new closes lone tells n never (unlisted trace n aside);
           draws = λ k file u v is at from.
               let f = source_at k file is in
               let d = drew.source k file f in
@@ -615,11 +617,17 @@ module _ {S D : Type 0} (sources : S → SourceState) (drains : D → DrainState
       (stands_writes f.now.end (drains f.first.drain) (drains f.now.drain) f.law.wrote f.now.count (old.wfaults shape.0) (new.wfaults shape.0) f.law.stands f.start.faults (sink_writes from.0 shape.0 f)) in
       subst (λ m. Grew (old.wfaults m) 0 (new.wfaults m)) named grew
 
-  -- where no sink's write failed, no count of failed writes rose
-  calm_writes : ((i : ℕ) (s : Stand) → slice_get st.end.sinks.items i ≡ Some s → is_write_fault s.2 ≡ false) → (n : List ℕ) → Grew (old.wfaults n) 0 (new.wfaults n)
-  calm_writes none n = elim (contains_or_not (outputs_of_nodes nodes) n) [
+  -- where no sink's write failed, and none to the trace's file, no count of failed writes rose
+  calm_other : ((n : List ℕ) → Contains (option_to_list trace) n → Grew (old.wfaults n) 0 (new.wfaults n)) → (n : List ℕ) → (Contains (outputs_of_nodes nodes) n → ⊥) → Grew (old.wfaults n) 0 (new.wfaults n)
+  calm_other calm n never = elim (contains_or_not (option_to_list trace) n) [
+    | inl c ↦ (calm n c)
+    | inr aside ↦ (other_writes sources drains b can net.nodes st.end.readers.items st.end.writers.items apart old mid _ _ opens new closes lone n never aside)
+  ]
+
+  calm_writes : ((i : ℕ) (s : Stand) → slice_get st.end.sinks.items i ≡ Some s → is_write_fault s.2 ≡ false) → ((n : List ℕ) → Contains (option_to_list trace) n → Grew (old.wfaults n) 0 (new.wfaults n)) → (n : List ℕ) → Grew (old.wfaults n) 0 (new.wfaults n)
+  calm_writes none calm n = elim (contains_or_not (outputs_of_nodes nodes) n) [
     | inl c ↦ (calm_output none n c)
-    | inr never ↦ (other_writes sources drains b can net.nodes st.end.readers.items st.end.writers.items apart old mid _ _ opens new closes n never)
+    | inr never ↦ (calm_other calm n never)
   ]
 
   -- what the nodes chose
@@ -635,14 +643,22 @@ module _ {S D : Type 0} (sources : S → SourceState) (drains : D → DrainState
       laws.types plugs b.chains.items nodes g (silent moved) ranks.0 left run (chosen_told (silent moved).book (silent moved).file left) (laws.fits b plugs taken g fit refl refl refl) (silent_keeps moved plugs) ranks.1 i v at)
       (λ w has sent j v n at is other came. laws.gives g w left run (picks_told sources drains handles b can ss ds net between old mid opens w has) sent j v n at is other came)
 
-  pub runs_of : (ran : Ran) → ran.sinks.items ≡ st.end.sinks.items → ran.picks.items ≡ st.end.picks.items → ran.wires.items ≡ st.wires.items → ran.used ≡ st.used → ran.at_rest ≡ st.at_rest → Runs old new b budget ran
-  runs_of ran sinks chosen wires used rest = record {
+  -- the trace, as it was left where none of the sinks' drains has its name
+  abbrev Traced : Ran → Type 0
+  Traced ran = ((n : List ℕ) → Contains (option_to_list trace) n → Contains (drain_names (map drains st.end.writers.items)) n → ⊥) → Traces old new b trace (map pick_of ran.picks.items) ran.trace_failed
+
+  traced_so : (ran : Ran) → Traced ran → Traces old new b trace (map pick_of ran.picks.items) ran.trace_failed
+  traced_so ran traced = traced (unwritten sources drains b can net.nodes st.end.readers.items st.end.writers.items apart old mid _ _ opens new closes lone)
+
+  pub runs_of : (ran : Ran) → Traced ran → ran.sinks.items ≡ st.end.sinks.items → ran.picks.items ≡ st.end.picks.items → ran.wires.items ≡ st.wires.items → ran.used ≡ st.used → ran.at_rest ≡ st.at_rest → Runs old new b trace budget ran
+  runs_of ran traced sinks chosen wires used rest = record {
     sinks_are = ap (map (λ (s : Stand). s.0)) (sinks ∙ l.stops.sinks) ∙ stands_are sources drains handles b can ss ds net between old mid opens;
     picks_are = ap picked (ap (map pick_of) chosen ∙ l.stops.picks) ∙ picks_stand sources drains handles b can ss ds net between old mid opens;
-    told = tells_old sources drains b can net.nodes st.end.readers.items st.end.writers.items apart old mid _ _ opens new closes;
+    told = tells_old sources drains b can net.nodes st.end.readers.items st.end.writers.items apart old mid _ _ opens new closes lone;
+    traces = traced_so ran traced;
     leaves = λ h. rw (sinks, chosen, wires, rest) (leaves_files h);
-    refusals = refused sources drains b can net.nodes st.end.readers.items st.end.writers.items apart old mid _ _ opens new closes;
-    reads = other_reads sources drains b can net.nodes st.end.readers.items st.end.writers.items apart old mid _ _ opens new closes;
+    refusals = refused sources drains b can net.nodes st.end.readers.items st.end.writers.items apart old mid _ _ opens new closes lone;
+    reads = other_reads sources drains b can net.nodes st.end.readers.items st.end.writers.items apart old mid _ _ opens new closes lone;
     writes = λ i s n file at here shape.
         let found = stand_of i s n file (subst (λ (x : List Stand). slice_get x i ≡ Some s) sinks at) here shape in
         let f = found.0 in
@@ -666,9 +682,9 @@ module _ {S D : Type 0} (sources : S → SourceState) (drains : D → DrainState
           rose = subst (λ (e : EndState). WritesOf e (old.wfaults shape.0) (new.wfaults shape.0)) failed
               (stands_writes f.now.end (drains f.first.drain) (drains f.now.drain) f.law.wrote f.now.count (old.wfaults shape.0) (new.wfaults shape.0) f.law.stands f.start.faults (sink_writes from.0 shape.0 f));
         };
-    calm = λ none. calm_writes (λ i s at. none i s (subst (λ (x : List Stand). slice_get x i ≡ Some s) (sym sinks) at));
-    other_writes = other_writes sources drains b can net.nodes st.end.readers.items st.end.writers.items apart old mid _ _ opens new closes;
-    other_draws = other_draws sources drains b can net.nodes st.end.readers.items st.end.writers.items apart old mid _ _ opens new closes;
+    calm = λ none calm. calm_writes (λ i s at. none i s (subst (λ (x : List Stand). slice_get x i ≡ Some s) (sym sinks) at)) (calm_trace old new b trace _ ran.trace_failed (traced_so ran traced) calm);
+    other_writes = λ n never aside. other_writes sources drains b can net.nodes st.end.readers.items st.end.writers.items apart old mid _ _ opens new closes lone n never (unlisted trace n aside);
+    other_draws = other_draws sources drains b can net.nodes st.end.readers.items st.end.writers.items apart old mid _ _ opens new closes lone;
     within = rw used l.stops.within;
     spent = λ h. used ∙ l.stops.spent (sym rest ∙ h);
     pays = rw (wires, used) pays;

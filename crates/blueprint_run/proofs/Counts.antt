@@ -1,5 +1,5 @@
 -- Counts of the folder that follow one another.
-use Rattle.std.proofs.Common.{◌≡◌, ◌≢◌, ◌⊎◌, inl, inr, ℕ, zero, suc, ◌+◌, ◌<◌, ◌≤◌, Bool, true, false, List, [], ◌∷◌, length, refl, sym, ap, ◌∙◌, subst, arith, lit<}
+use Rattle.std.proofs.Common.{◌≡◌, ◌≢◌, ◌⊎◌, inl, inr, ℕ, zero, suc, ◌+◌, ◌<◌, Bool, true, false, List, [], ◌∷◌, length, refl, subst, arith, lit<}
 use Rattle.std.specs.Prelude.{IsTrue, Option, Some, None, IsSome, slice_index_or}
 use Rattle.std.specs.List.{Contains}
 use Rattle.stream_io.specs.Counts.{Rose, Grew, last_count}

@@ -1,11 +1,11 @@
 -- What the sources of an island of a blueprint had drawn at a moment between two events and what its stages had chosen, and the worlds
 -- that tell of it.
-use Rattle.std.proofs.Common.{◌≡◌, ℕ, ◌+◌, ◌<◌, Bool, List, [], map, length, slice_get, refl, sym, ap, ◌∙◌, subst, arith}
+use Rattle.std.proofs.Common.{◌≡◌, ℕ, ◌+◌, ◌<◌, List, [], map, length, slice_get, refl, sym, ap, ◌∙◌, subst, arith}
 use Rattle.std.specs.Prelude.{IsTrue, IsSome, Option, Some, None, unwrap_or}
 use Rattle.stream_model.specs.declared.kind.Kind.TheVariants as kind
 use Rattle.stream_model.specs.Graph as graph
 use Rattle.stream_model.specs.Node.{World}
-use Rattle.stream_io.specs.Counts.{Rose, Grew}
+use Rattle.stream_io.specs.Counts.{Grew}
 use Rattle.stream_io.specs.State.{FolderState, SourceState, DrainState}
 use Rattle.stream_model.proofs.Compositions.{slice_get-below}
 use Rattle.fused_net.specs.Net.{Net, view_of, took, gave}
@@ -22,8 +22,8 @@ use Rattle.blue_core.specs.declared.blueprint.Node as blue
 use Rattle.materializer.specs.Built.{CanRun}
 use Rattle.materializer.specs.Files.{inputs_of_nodes, outputs_of_nodes}
 use Rattle.materializer.specs.Graphs.{node_of, graph_of}
-use Rattle.run_files.specs.Opening.{OpensAll}
 use Rattle.blueprint_run.specs.Choosing.{pick_places, picked, HasPicks}
+use Rattle.blueprint_run.specs.Opening.{Opens}
 use Rattle.blueprint_run.specs.Drawing.{Drawn, IsSource, WasRead, IsWorldOf}
 use Rattle.blueprint_run.proofs.Choosing.{node_chooses, picked_along, told_along, has_along}
 use Rattle.blueprint_run.proofs.Counts.{rose_by, rose_from_none, is_positive, positive, above_none, not_positive, some_of}
@@ -61,7 +61,7 @@ drawn_of sources places net = record {
 }
 
 module _ {S D : Type 0} (sources : S → SourceState) (drains : D → DrainState) (handles : HandleLaws sources drains) (b : Blueprint) (can : CanRun b) (ss : List S) (ds : List D) (net : Net (Node S D)) (l : Between sources drains b ss ds net)
-    (old mid : FolderState) (opens : OpensAll old mid (inputs_of_nodes b.nodes.items) (outputs_of_nodes b.nodes.items) (map sources ss) (map drains ds)) where
+    (old mid : FolderState) {others : List (List ℕ)} (opens : Opens old mid (inputs_of_nodes b.nodes.items) (outputs_of_nodes b.nodes.items) others (map sources ss) (map drains ds)) where
   abbrev nodes : List blue.Node
   nodes = b.nodes.items
 

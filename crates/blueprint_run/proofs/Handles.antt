@@ -1,16 +1,14 @@
 -- The sources and the sinks of a blueprint's island at the end of its run, by the files that were opened for them and closed behind it.
-use Rattle.std.proofs.Common.{◌≡◌, ◌≢◌, ◌⊎◌, inl, inr, ℕ, ◌+◌, ◌<◌, ◌≤◌, Bool, true, false, List, [], ◌∷◌, map, length, slice_get, refl, sym, ap, ◌∙◌, subst, arith}
-use Rattle.std.specs.Prelude.{IsTrue, IsSome, Option, Some, None}
-use Rattle.std.specs.List.{All, Contains, filter_map}
+use Rattle.std.proofs.Common.{◌≡◌, ℕ, ◌<◌, List, map, length, slice_get, sym, ap, ◌∙◌, subst, arith}
+use Rattle.std.specs.Prelude.{Some}
+use Rattle.std.specs.List.{All}
 use Rattle.std.proofs.lemmas.List.{length-map}
 use Rattle.stream_model.specs.declared.kind.Kind.TheVariants as kind
 use Rattle.stream_model.specs.declared.outcome.EndState.TheVariants.{WriteFault}
 use Rattle.stream_model.specs.Graph.{Graph}
 use Rattle.stream_model.specs.Graph as graph
-use Rattle.stream_model.specs.Composed.{IsRanked}
 use Rattle.stream_model.proofs.Compositions.{slice_get-below}
 use Rattle.stream_picture.specs.Joined.{IsJoined}
-use Rattle.stream_io.specs.Counts.{Rose, Grew}
 use Rattle.stream_io.specs.State.{FolderState, SourceState, DrainState}
 use Rattle.fused_net.specs.declared.net.Ends.{Ends}
 use Rattle.fused_net.specs.Net.{Net, view_of, took, gave}
@@ -23,7 +21,7 @@ use Rattle.nodes.specs.declared.node.Node.{Node}
 use Rattle.nodes.specs.declared.node.Node.TheVariants as node
 use Rattle.interpreter.specs.declared.parts.Seated.{Seated}
 use Rattle.interpreter.specs.Parts.{ends_of, AllBecome}
-use Rattle.interpreter.specs.Island.{sinks_of, readers_of, writers_of}
+use Rattle.interpreter.specs.Island.{sinks_of}
 use Rattle.run_account.specs.Account.{Account}
 use Rattle.run_account.specs.Seats.{account_of}
 use Rattle.run_laws.specs.Made.{Materializes}
@@ -36,22 +34,17 @@ use Rattle.blue_check.specs.Fitness.{IsFit}
 use Rattle.blue_check.specs.Wires.{blueprint_wires}
 use Rattle.plug_core.specs.declared.head.PlugHead.{PlugHead}
 use Rattle.materializer.specs.Built.{CanRun}
-use Rattle.materializer.specs.Files.{input_of, output_of, inputs_of_nodes, outputs_of_nodes, is_sink}
+use Rattle.materializer.specs.Files.{output_of, inputs_of_nodes, outputs_of_nodes, is_sink}
 use Rattle.materializer.specs.Graphs.{node_of, graph_of}
 use Rattle.materializer.specs.Handed.{ReadsFile, WritesFile}
 use Rattle.materializer.specs.Seats.{AreSeats, links_from}
-use Rattle.run_files.specs.Names.{source_names, drain_names, Distinct}
-use Rattle.run_files.specs.Opening.{AtStart, HoldsNone, OpensAll}
-use Rattle.run_files.specs.Closing.{ClosesAll}
+use Rattle.run_files.specs.Names.{source_names, drain_names}
+use Rattle.run_files.specs.Opening.{AtStart, HoldsNone}
+use Rattle.blueprint_run.specs.Opening.{Opens}
 use Rattle.blueprint_run.specs.Drawing.{IsSource}
-use Rattle.blueprint_run.specs.Leaving.{Stops, Leaves}
-use Rattle.blueprint_run.specs.Stands.{Stand, sink_places, has_ended_at}
-use Rattle.blueprint_run.specs.declared.run.Stopped.{Stopped}
-use Rattle.blueprint_run.proofs.Places.{all_at, all_unmapped, contains_at, mapped_at, filtered_at, filtered_along, map_two, place_of, place_one}
-use Rattle.run_files.proofs.Counts.{grew_same}
-use Rattle.blueprint_run.proofs.Counts.{grew_behind}
-use Rattle.blueprint_run.proofs.Apart.{inputs_distinct, outputs_distinct}
-use Rattle.blueprint_run.proofs.Profiles.{reader_in, writer_in, stand_in, readers_filtered, writers_filtered, sinks_filtered, Profile, node_profile, stands_along, StandsAt, some_one, writes_file, never_faults, writing_kind}
+use Rattle.blueprint_run.specs.Stands.{Stand, sink_places}
+use Rattle.blueprint_run.proofs.Places.{all_at, all_unmapped, mapped_at, place_of, place_one}
+use Rattle.blueprint_run.proofs.Profiles.{stand_in, sinks_filtered, Profile, node_profile, stands_along, StandsAt, writes_file, never_faults, writing_kind}
 
 -- node k is a sink into that file
 pub record IsSinkInto (nodes : List blue.Node) (k : ℕ) (file : List ℕ) : Type 0 where
@@ -115,7 +108,7 @@ pub record Between {S D : Type 0} (sources : S → SourceState) (drains : D → 
 -- ---- the handles of an island
 
 module _ {S D : Type 0} (sources : S → SourceState) (drains : D → DrainState) (laws : HandleLaws sources drains) (b : Blueprint) (can : CanRun b) (ss : List S) (ds : List D) (net : Net (Node S D)) (l : Between sources drains b ss ds net)
-    (old mid : FolderState) (opens : OpensAll old mid (inputs_of_nodes b.nodes.items) (outputs_of_nodes b.nodes.items) (map sources ss) (map drains ds)) where
+    (old mid : FolderState) {others : List (List ℕ)} (opens : Opens old mid (inputs_of_nodes b.nodes.items) (outputs_of_nodes b.nodes.items) others (map sources ss) (map drains ds)) where
   abbrev pub nodes : List blue.Node
   nodes = b.nodes.items
 

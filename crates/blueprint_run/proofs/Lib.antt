@@ -3,6 +3,8 @@ pub mod Counts
 pub mod Apart
 pub mod Profiles
 pub mod Handles
+pub mod Shuts
+pub mod Traces
 pub mod Shutting
 pub mod Stopping
 pub mod Units

@@ -1,5 +1,5 @@
 -- What each node of an island leaves at its end, by the kind of its node in the blueprint.
-use Rattle.std.proofs.Common.{◌≡◌, ◌≢◌, ◌⊎◌, inl, inr, ℕ, zero, suc, ◌+◌, ◌≤◌, ◌<◌, Bool, true, false, List, [], ◌∷◌, length, map, slice_get, refl, sym, ap, ◌∙◌, subst, arith}
+use Rattle.std.proofs.Common.{◌≡◌, ◌≢◌, inl, inr, ℕ, zero, suc, ◌+◌, ◌≤◌, Bool, true, false, List, [], ◌∷◌, length, map, slice_get, refl, sym, ap, ◌∙◌, subst, arith}
 use Rattle.std.specs.Prelude.{Option, Some, None, ◌==◌, if◌then◌else◌}
 use Rattle.std.specs.Option.{option_map}
 use Rattle.std.specs.List.{filter_map, cons_option}
@@ -8,7 +8,6 @@ use Rattle.elem_core.specs.declared.item.Item.{Item}
 use Rattle.port_core.specs.View.{View}
 use Rattle.stream_model.specs.declared.kind.Kind.{Kind}
 use Rattle.stream_model.specs.declared.kind.Kind.TheVariants as kind
-use Rattle.stream_model.specs.declared.outcome.EndState.{EndState}
 use Rattle.stream_model.specs.declared.outcome.EndState.TheVariants.{WriteFault}
 use Rattle.stream_picture.specs.View.{outputs_of}
 use Rattle.stream_picture.specs.OneWay as oneway
@@ -19,7 +18,6 @@ use Rattle.stage_in.specs.Logics.{IsFanIn}
 use Rattle.stage_out.specs.OutLogics.{IsOut}
 use Rattle.nodes.specs.Nodes.{node_law}
 use Rattle.nodes.specs.Kinds.{IsMaker, IsFileSink}
-use Rattle.nodes.specs.Maker.{Made}
 use Rattle.nodes.specs.Sink.{Sink}
 use Rattle.nodes.specs.Ignoring.{Ignorer, EndsWith}
 use Rattle.nodes.specs.Source.{Lines}
@@ -29,10 +27,9 @@ use Rattle.interpreter.specs.Island.{sinks_of, readers_of, writers_of}
 use Rattle.run_laws.specs.Made.{FirstOf}
 use Rattle.picture_laws.specs.Picture.{has_ended}
 use Rattle.blue_core.specs.declared.blueprint.Node as blue
-use Rattle.materializer.specs.Files.{input_of, output_of, inputs_of_nodes, outputs_of_nodes, is_sink}
+use Rattle.materializer.specs.Files.{input_of, output_of, is_sink}
 use Rattle.materializer.specs.Graphs.{node_of}
 use Rattle.blueprint_run.specs.Stands.{Stand, sink_places, has_ended_at}
-use Rattle.blueprint_run.proofs.Places.{filtered_along, filtered_at, unfiltered_at}
 
 -- what a node leaves
 abbrev pub reader_in : {S D : Type 0} → Node S D → Option S

@@ -1,8 +1,8 @@
 -- The folder once the handles of an island that was taken apart were closed, by the names of the files of its blueprint.
-use Rattle.std.proofs.Common.{◌≡◌, ℕ, List, [], ◌∷◌, map, length, slice_get, refl, sym, ap, ◌∙◌, subst}
+use Rattle.std.proofs.Common.{◌≡◌, ℕ, List, map, length, slice_get, refl, sym, ap, ◌∙◌, subst}
 use Rattle.std.specs.Prelude.{IsTrue, Some}
 use Rattle.std.specs.Option.{option_map}
-use Rattle.std.specs.List.{Contains, filter_map}
+use Rattle.std.specs.List.{Contains}
 use Rattle.stream_io.specs.Counts.{Grew}
 use Rattle.stream_io.specs.State.{FolderState, SourceState, DrainState}
 use Rattle.nodes.specs.Source.{Lines}
@@ -15,8 +15,8 @@ use Rattle.blue_core.specs.declared.blueprint.Node as blue
 use Rattle.materializer.specs.Built.{CanRun}
 use Rattle.materializer.specs.Files.{input_of, output_of, inputs_of_nodes, outputs_of_nodes}
 use Rattle.run_files.specs.Names.{source_names, drain_names, Distinct}
-use Rattle.run_files.specs.Opening.{OpensAll}
-use Rattle.run_files.specs.Closing.{ClosesAll}
+use Rattle.blueprint_run.specs.Opening.{Opens}
+use Rattle.blueprint_run.proofs.Shuts.{Shuts}
 use Rattle.run_files.proofs.Counts.{grew_same}
 use Rattle.blueprint_run.proofs.Places.{all_at, mapped_at, filtered_at, filtered_along, map_two}
 use Rattle.blueprint_run.proofs.Counts.{grew_behind}
@@ -32,7 +32,8 @@ pub record TakenApart {S D : Type 0} (sources : S → SourceState) (drains : D �
   pub writers_are : writers ≡ writers_of final
 
 module _ {S D : Type 0} (sources : S → SourceState) (drains : D → DrainState) (b : Blueprint) (can : CanRun b) (final : List (Node S D)) (readers : List S) (writers : List D) (apart : TakenApart sources drains b final readers writers)
-    (old mid : FolderState) (is : List SourceState) (os : List DrainState) (opens : OpensAll old mid (inputs_of_nodes b.nodes.items) (outputs_of_nodes b.nodes.items) is os) (new : FolderState) (closes : ClosesAll mid new (map sources readers) (map drains writers)) where
+    (old mid : FolderState) (is : List SourceState) (os : List DrainState) {others : List (List ℕ)} (opens : Opens old mid (inputs_of_nodes b.nodes.items) (outputs_of_nodes b.nodes.items) others is os) (new : FolderState) (closes : Shuts mid new others (map sources readers) (map drains writers))
+    (lone : (n : List ℕ) → Contains (outputs_of_nodes b.nodes.items) n → Contains others n → ⊥) where
   abbrev nodes : List blue.Node
   nodes = b.nodes.items
 
@@ -55,6 +56,12 @@ module _ {S D : Type 0} (sources : S → SourceState) (drains : D → DrainState
   writers_distinct : Distinct (drain_names (map drains writers))
   writers_distinct = subst Distinct (sym writers_named) (outputs_distinct b can.plugs can.taken can.fit)
 
+  writers_lone : (n : List ℕ) → Contains (drain_names (map drains writers)) n → Contains others n → ⊥
+  writers_lone n c = lone n (subst (λ (l : List (List ℕ)). Contains l n) writers_named c)
+
+  pub unwritten : (n : List ℕ) → Contains others n → Contains (drain_names (map drains writers)) n → ⊥
+  unwritten n aside c = writers_lone n c aside
+
   module _ (k : ℕ) (file : List ℕ) (x : Lines S) (at : slice_get final k ≡ Some (node.Reading x)) (named : (sources x.reader.source).name ≡ file) where
     -- the reader of a source is among those that were closed
     reader_closed : (i : ℕ) × (slice_get (map sources readers) i ≡ Some (sources x.reader.source))
@@ -66,13 +73,13 @@ module _ {S D : Type 0} (sources : S → SourceState) (drains : D → DrainState
     -- what was read, and the reads that failed
     pub read_grew : Grew (old.read file) (sources x.reader.source).given (new.read file)
     read_grew =
-        let grew = all_at (λ (i : SourceState). Grew (mid.read i.name) i.given (new.read i.name)) (map sources readers) reader_closed.0 (sources x.reader.source) (closes.read.each readers_distinct) reader_closed.1 in
+        let grew = all_at (λ (i : SourceState). Grew (mid.read i.name) i.given (new.read i.name)) (map sources readers) reader_closed.0 (sources x.reader.source) (closes.read_each readers_distinct) reader_closed.1 in
         subst (λ m. Grew m (sources x.reader.source).given (new.read file)) (opens.read file)
         (subst (λ n. Grew (mid.read n) (sources x.reader.source).given (new.read n)) named grew)
 
     pub faults_grew : Grew (old.rfaults file) (sources x.reader.source).faults (new.rfaults file)
     faults_grew =
-        let grew = all_at (λ (i : SourceState). Grew (mid.rfaults i.name) i.faults (new.rfaults i.name)) (map sources readers) reader_closed.0 (sources x.reader.source) (closes.rfaults.each readers_distinct) reader_closed.1 in
+        let grew = all_at (λ (i : SourceState). Grew (mid.rfaults i.name) i.faults (new.rfaults i.name)) (map sources readers) reader_closed.0 (sources x.reader.source) (closes.rfaults_each readers_distinct) reader_closed.1 in
         grew_behind (old.rfaults file) (mid.rfaults file) (new.rfaults file) (sources x.reader.source).faults (opens.rfaults file)
         (subst (λ n. Grew (mid.rfaults n) (sources x.reader.source).faults (new.rfaults n)) named grew)
 
@@ -86,31 +93,31 @@ module _ {S D : Type 0} (sources : S → SourceState) (drains : D → DrainState
 
     pub writes_grew : Grew (old.wfaults file) (drains x.drain).faults (new.wfaults file)
     writes_grew =
-        let grew = all_at (λ (o : DrainState). Grew (mid.wfaults o.name) o.faults (new.wfaults o.name)) (map drains writers) drain_closed.0 (drains x.drain) (closes.wfaults.each writers_distinct) drain_closed.1 in
+        let grew = all_at (λ (o : DrainState). Grew (mid.wfaults o.name) o.faults (new.wfaults o.name)) (map drains writers) drain_closed.0 (drains x.drain) (closes.wfaults_each writers_distinct writers_lone) drain_closed.1 in
         grew_behind (old.wfaults file) (mid.wfaults file) (new.wfaults file) (drains x.drain).faults (opens.wfaults file)
         (subst (λ n. Grew (mid.wfaults n) (drains x.drain).faults (new.wfaults n)) named grew)
 
     -- the file is what the drain held
     pub file_held : IsTrue new.tells → new.file file ≡ (drains x.drain).holds
     file_held tells =
-        let held = all_at (λ (o : DrainState). new.file o.name ≡ o.holds) (map drains writers) drain_closed.0 (drains x.drain) (closes.files.each writers_distinct tells) drain_closed.1 in
+        let held = all_at (λ (o : DrainState). new.file o.name ≡ o.holds) (map drains writers) drain_closed.0 (drains x.drain) (closes.held writers_distinct writers_lone tells) drain_closed.1 in
         subst (λ n. new.file n ≡ (drains x.drain).holds) named held
 
-  pub other_files : IsTrue new.tells → (n : List ℕ) → (Contains (outputs_of_nodes nodes) n → ⊥) → new.file n ≡ old.file n
-  other_files tells n never =
-      closes.files.others tells n (λ c. never (subst (λ (x : List (List ℕ)). Contains x n) writers_named c)) ∙ opens.files.others (closes.files.told tells) n never
+  pub other_files : IsTrue new.tells → (n : List ℕ) → (Contains (outputs_of_nodes nodes) n → ⊥) → (Contains others n → ⊥) → new.file n ≡ old.file n
+  other_files tells n never aside =
+      closes.held_others tells n (λ c. never (subst (λ (x : List (List ℕ)). Contains x n) writers_named c)) aside ∙ opens.apart (closes.told tells) n never aside
 
   pub other_reads : (n : List ℕ) → (Contains (inputs_of_nodes nodes) n → ⊥) → Grew (old.rfaults n) 0 (new.rfaults n)
-  other_reads n never = grew_behind (old.rfaults n) (mid.rfaults n) (new.rfaults n) 0 (opens.rfaults n) (grew_same (mid.rfaults n) (new.rfaults n) (closes.rfaults.others n (λ c. never (subst (λ (x : List (List ℕ)). Contains x n) readers_named c))))
+  other_reads n never = grew_behind (old.rfaults n) (mid.rfaults n) (new.rfaults n) 0 (opens.rfaults n) (grew_same (mid.rfaults n) (new.rfaults n) (closes.rfaults_others n (λ c. never (subst (λ (x : List (List ℕ)). Contains x n) readers_named c))))
 
   pub other_draws : (n : List ℕ) → (Contains (inputs_of_nodes nodes) n → ⊥) → Grew (old.read n) 0 (new.read n)
-  other_draws n never = grew_same (old.read n) (new.read n) (closes.read.others n (λ c. never (subst (λ (x : List (List ℕ)). Contains x n) readers_named c)) ∙ opens.read n)
+  other_draws n never = grew_same (old.read n) (new.read n) (closes.read_others n (λ c. never (subst (λ (x : List (List ℕ)). Contains x n) readers_named c)) ∙ opens.read n)
 
-  pub other_writes : (n : List ℕ) → (Contains (outputs_of_nodes nodes) n → ⊥) → Grew (old.wfaults n) 0 (new.wfaults n)
-  other_writes n never = grew_behind (old.wfaults n) (mid.wfaults n) (new.wfaults n) 0 (opens.wfaults n) (grew_same (mid.wfaults n) (new.wfaults n) (closes.wfaults.others n (λ c. never (subst (λ (x : List (List ℕ)). Contains x n) writers_named c))))
+  pub other_writes : (n : List ℕ) → (Contains (outputs_of_nodes nodes) n → ⊥) → (Contains others n → ⊥) → Grew (old.wfaults n) 0 (new.wfaults n)
+  other_writes n never aside = grew_behind (old.wfaults n) (mid.wfaults n) (new.wfaults n) 0 (opens.wfaults n) (grew_same (mid.wfaults n) (new.wfaults n) (closes.wfaults_others n (λ c. never (subst (λ (x : List (List ℕ)). Contains x n) writers_named c)) aside))
 
   pub refused : (n : List ℕ) → Grew (old.refusals n) 0 (new.refusals n)
   refused n = grew_behind (old.refusals n) (mid.refusals n) (new.refusals n) 0 (opens.refusals n) (grew_same (mid.refusals n) (new.refusals n) (closes.refusals n))
 
   pub tells_old : IsTrue new.tells → IsTrue old.tells
-  tells_old h = opens.files.told (closes.files.told h)
+  tells_old h = opens.told (closes.told h)

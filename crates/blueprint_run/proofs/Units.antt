@@ -1,5 +1,5 @@
 -- What the wires of a net have cost, by its picture.
-use Rattle.std.proofs.Common.{◌≡◌, ℕ, zero, suc, ◌+◌, ◌*◌, ◌<◌, ◌≤◌, Bool, true, false, List, [], ◌∷◌, ◌++◌, map, length, slice_get, refl, sym, ap, ◌∙◌, subst, arith}
+use Rattle.std.proofs.Common.{◌≡◌, ℕ, zero, suc, ◌+◌, ◌*◌, ◌<◌, ◌≤◌, Bool, true, false, List, [], ◌∷◌, ◌++◌, map, length, sym, ap, ◌∙◌, subst, arith}
 use Rattle.std.specs.Prelude.{Option, Some, None, slice_index_or}
 use Rattle.elem_core.specs.Tree.{Tree}
 use Rattle.elem_core.specs.declared.item.Item.{Item}
@@ -13,7 +13,6 @@ use Rattle.port_core.specs.Wire as port
 use Rattle.port_core.specs.Joint.{Joint, idle, asking, asked, moving, ending, closing, leaving, finished, parted, refused, wire_of, under_way, Histories, IsSound}
 use Rattle.wire_core.specs.Cell.{Cell}
 use Rattle.wire_core.specs.Counts.{elements, ready_bit, free_bit, spent, asks}
-use Rattle.wire_core.proofs.Counting.{elements_elem}
 use Rattle.wire_core.specs.Reading.{no_wire}
 use Rattle.fused_net.specs.Costs.{sum_below}
 use Rattle.fused_net.proofs.Sums.{sum_le}

@@ -1,6 +1,6 @@
 -- The world that has the input files as the sources of a run read them, and walks along the wires of a blueprint.
-use Rattle.std.proofs.Common.{◌≡◌, ◌⊎◌, inl, inr, ℕ, zero, suc, ◌+◌, Bool, true, false, List, [], ◌∷◌, slice_get, refl, sym, ap, ◌∙◌, subst, arith}
-use Rattle.std.specs.Prelude.{Option, Some, None, if◌then◌else◌}
+use Rattle.std.proofs.Common.{◌≡◌, ℕ, zero, suc, ◌+◌, Bool, true, false, List, [], ◌∷◌, slice_get, refl, ap, ◌∙◌, arith}
+use Rattle.std.specs.Prelude.{Some, if◌then◌else◌}
 use Rattle.std.specs.Cmp.Lexicographic.{bytes_decides}
 use Rattle.elem_core.specs.Values.{same_text}
 use Rattle.stream_model.specs.declared.kind.Kind.{Kind}
@@ -9,11 +9,11 @@ use Rattle.stream_model.specs.Graph.{Graph}
 use Rattle.stream_model.specs.Node.{World}
 use Rattle.stream_model.specs.Samples.{book}
 use Rattle.stream_model.specs.Sources.{File}
-use Rattle.stream_picture.specs.Shape.{Joins, Walk, stay, along, IsPolytree}
+use Rattle.stream_picture.specs.Shape.{Walk, stay, along, IsPolytree}
 use Rattle.blue_core.specs.declared.blueprint.Node as blue
 use Rattle.blue_walks.specs.Forest.{wiring}
 use Rattle.blueprint_run.specs.Choosing.{HasPicks}
-use Rattle.blueprint_run.specs.Drawing.{Drawn, IsSource, IsWorldOf}
+use Rattle.blueprint_run.specs.Drawing.{Drawn, IsWorldOf}
 
 -- a kind that reads the file of that name
 abbrev reads : Kind → List ℕ → Bool

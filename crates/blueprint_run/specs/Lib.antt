@@ -3,5 +3,7 @@ pub mod Drawing
 pub mod Stands
 pub mod Units
 pub mod Carrying
+pub mod Tracing
+pub mod Opening
 pub mod Running
 pub mod Leaving

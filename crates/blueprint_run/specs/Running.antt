@@ -1,5 +1,5 @@
 -- What a run of a blueprint leaves in the folder.
-use Rattle.std.specs.Prelude.{◌≡◌, ◌≢◌, ℕ, ◌+◌, ◌≤◌, ◌⊎◌, Bool, false, IsTrue, List, [], length, map, slice_get, Some}
+use Rattle.std.specs.Prelude.{◌≡◌, ◌≢◌, ℕ, ◌+◌, ◌≤◌, ◌⊎◌, Bool, false, IsTrue, List, [], length, map, slice_get, Option, Some}
 use Rattle.std.specs.List.{Contains, list_any}
 use Rattle.elem_core.specs.Prefix.{IsPrefix}
 use Rattle.elem_core.specs.Text.{text_lines}
@@ -31,6 +31,7 @@ use Rattle.blueprint_run.specs.Carrying.{Carries}
 use Rattle.blueprint_run.specs.Choosing.{pick_places, picked}
 use Rattle.blueprint_run.specs.Drawing.{Drawn, IsSource, WasRead, WereRead, IsWorldOf, DrawsFirst}
 use Rattle.blueprint_run.specs.Stands.{Stand, sink_places, has_ended_at, is_write_fault, is_unended}
+use Rattle.blueprint_run.specs.Tracing.{Traces, written_files}
 use Rattle.blueprint_run.specs.Units.{Pays}
 use Rattle.blueprint_run.specs.declared.run.Ran.{Ran}
 
@@ -54,13 +55,13 @@ pub record IgnoreLeaves (b : Blueprint) (d : Drawn) (wires : List WireCount) (k 
   pub tells : (w : World) → IsWorldOf b.nodes.items d w → (u : ℕ) (v : Wire) → slice_get (blueprint_wires b) u ≡ Some v → v.to ≡ k
       → IgnoreTells (sink_outlook (graph_of b) w k (node_of n)) end (sent_at wires u)
 
--- The inputs were read, and each sink wrote what its outlook lets it write. No other file is changed, where the folder still tells
--- its files. The lines that were
+-- The inputs were read, and each sink wrote what its outlook lets it write. No other file but that of the trace is changed, where the
+-- folder still tells its files. The lines that were
 -- drawn are the first of each input, and little more than those was read. The picture is lawful; and where no event was left it
 -- rests, and a sink's input is shut exactly where the sink has ended; in a polytree every sink has ended then. The stages chose
 -- these moves, which fit what may come in on their inputs. There is a world that has the input files as they were read, and these
 -- moves.
-pub record LeavesFiles (old new : FolderState) (b : Blueprint) (sinks : List Stand) (picks : List Pick) (wires : List WireCount) (at_rest : Bool) : Type 0 where
+pub record LeavesFiles (old new : FolderState) (b : Blueprint) (trace : Option (List ℕ)) (sinks : List Stand) (picks : List Pick) (wires : List WireCount) (at_rest : Bool) : Type 0 where
   pub drawn : Drawn
   pub chose : drawn.picks ≡ picks
   pub read : WereRead old new b.nodes.items drawn
@@ -69,7 +70,7 @@ pub record LeavesFiles (old new : FolderState) (b : Blueprint) (sinks : List Sta
   pub sink : (i : ℕ) (s : Stand) (n : Node) (file : List ℕ) → slice_get sinks i ≡ Some s → slice_get b.nodes.items s.0 ≡ Some n → output_of n.kind ≡ Some file
       → SinkLeaves new b drawn wires at_rest s.0 n file s.1 s.2
   pub ignores : (i : ℕ) (s : Stand) (n : Node) → slice_get sinks i ≡ Some s → slice_get b.nodes.items s.0 ≡ Some n → n.kind ≡ Ignore → IgnoreLeaves b drawn wires s.0 n s.1 s.2
-  pub others : IsTrue new.tells → (n : List ℕ) → ¬ (Contains (outputs_of_nodes b.nodes.items) n) → new.file n ≡ old.file n
+  pub others : IsTrue new.tells → (n : List ℕ) → ¬ (Contains (outputs_of_nodes b.nodes.items) n) → trace ≢ Some n → new.file n ≡ old.file n
   pub draws : (k : ℕ) (file : List ℕ) (u : ℕ) (v : Wire) → IsSource b.nodes.items k file → slice_get (blueprint_wires b) u ≡ Some v → v.from ≡ k
       → DrawsFirst (drawn.bytes k) (drawn.given k) (drawn.faulted k) (sent_at wires u)
   pub fits : (w : World) → IsWorldOf b.nodes.items drawn w → Fits (graph_of b) w
@@ -93,18 +94,20 @@ pub record SomeWriteRose (old new : FolderState) (b : Blueprint) : Type 0 where
   pub rose : Rose (old.wfaults file) (new.wfaults file)
 
 -- What is told of a run where the folder told its files before it, and how its counts rose. There is a list of moves for each
--- stage whose kind chooses, in order of nodes, and no other.
-pub record Runs (old new : FolderState) (b : Blueprint) (budget : ℕ) (ran : Ran) : Type 0 where
+-- stage whose kind chooses, in order of nodes, and no other; the trace's file, where one is wanted, holds the text of these moves, or
+-- a first part where a write to it failed.
+pub record Runs (old new : FolderState) (b : Blueprint) (trace : Option (List ℕ)) (budget : ℕ) (ran : Ran) : Type 0 where
   pub sinks_are : map (λ (s : Stand). s.0) ran.sinks.items ≡ sink_places 0 b.nodes.items
   pub picks_are : picked (map pick_of ran.picks.items) ≡ pick_places 0 b.nodes.items
   pub told : IsTrue new.tells → IsTrue old.tells
-  pub leaves : IsTrue old.tells → LeavesFiles old new b ran.sinks.items (map pick_of ran.picks.items) ran.wires.items ran.at_rest
+  pub traces : Traces old new b trace (map pick_of ran.picks.items) ran.trace_failed
+  pub leaves : IsTrue old.tells → LeavesFiles old new b trace ran.sinks.items (map pick_of ran.picks.items) ran.wires.items ran.at_rest
   pub refusals : Quiet old.refusals new.refusals
   pub reads : (n : List ℕ) → ¬ (Contains (inputs_of_nodes b.nodes.items) n) → Grew (old.rfaults n) 0 (new.rfaults n)
   pub writes : (i : ℕ) (s : Stand) (n : Node) (file : List ℕ) → slice_get ran.sinks.items i ≡ Some s → slice_get b.nodes.items s.0 ≡ Some n → output_of n.kind ≡ Some file → WritesOf s.2 (old.wfaults file) (new.wfaults file)
   pub faults : (i : ℕ) (s : Stand) → slice_get ran.sinks.items i ≡ Some s → s.2 ≡ WriteFault → SomeWriteRose old new b
-  pub calm : ((i : ℕ) (s : Stand) → slice_get ran.sinks.items i ≡ Some s → is_write_fault s.2 ≡ false) → Quiet old.wfaults new.wfaults
-  pub other_writes : (n : List ℕ) → ¬ (Contains (outputs_of_nodes b.nodes.items) n) → Grew (old.wfaults n) 0 (new.wfaults n)
+  pub calm : ((i : ℕ) (s : Stand) → slice_get ran.sinks.items i ≡ Some s → is_write_fault s.2 ≡ false) → ran.trace_failed ≡ false → Quiet old.wfaults new.wfaults
+  pub other_writes : (n : List ℕ) → ¬ (Contains (outputs_of_nodes b.nodes.items) n) → trace ≢ Some n → Grew (old.wfaults n) 0 (new.wfaults n)
   pub other_draws : (n : List ℕ) → ¬ (Contains (inputs_of_nodes b.nodes.items) n) → Grew (old.read n) 0 (new.read n)
   pub within : ran.used ≤ budget
   pub spent : ran.at_rest ≡ false → ran.used ≡ budget
@@ -131,26 +134,27 @@ pub record SinkBreaks (old new : FolderState) (b : Blueprint) (d : Drawn) (k : �
   pub part : (w : World) → IsWorldOf b.nodes.items d w → IsPrefix held (text_lines (sink_outlook (graph_of b) w k (node_of n)).list)
   pub writes : WritesOf end (old.wfaults file) (new.wfaults file)
 
--- The inputs were read, and each sink wrote a first part of what it may write; no other file is changed. What the stages chose is
--- not answered; there is a list of moves for each stage whose kind chooses, and no other.
-pub record BreaksFiles (old new : FolderState) (b : Blueprint) : Type 0 where
+-- The inputs were read, and each sink wrote a first part of what it may write; the trace's file is empty, and no other file is
+-- changed. What the stages chose is not answered; there is a list of moves for each stage whose kind chooses, and no other.
+pub record BreaksFiles (old new : FolderState) (b : Blueprint) (trace : Option (List ℕ)) : Type 0 where
   pub drawn : Drawn
   pub chose : picked drawn.picks ≡ pick_places 0 b.nodes.items
   pub read : (k : ℕ) (file : List ℕ) → IsSource b.nodes.items k file → WasReadOn old new file (drawn.bytes k) (drawn.given k) (drawn.faulted k)
   pub world : World
   pub has_files : IsWorldOf b.nodes.items drawn world
   pub sink : (k : ℕ) (n : Node) (file : List ℕ) → slice_get b.nodes.items k ≡ Some n → output_of n.kind ≡ Some file → SinkBreaks old new b drawn k n file
-  pub others : IsTrue new.tells → (n : List ℕ) → ¬ (Contains (outputs_of_nodes b.nodes.items) n) → new.file n ≡ old.file n
+  pub others : IsTrue new.tells → (n : List ℕ) → ¬ (Contains (outputs_of_nodes b.nodes.items) n) → trace ≢ Some n → new.file n ≡ old.file n
+  pub empty : IsTrue new.tells → (t : List ℕ) → trace ≡ Some t → new.file t ≡ Some []
 
 -- memory was wanting in the run: what is told of it where the folder told its files before it, and which counts may have risen
-pub record WantsWithin (old new : FolderState) (b : Blueprint) : Type 0 where
+pub record WantsWithin (old new : FolderState) (b : Blueprint) (trace : Option (List ℕ)) : Type 0 where
   pub told : IsTrue new.tells → IsTrue old.tells
-  pub leaves : IsTrue old.tells → BreaksFiles old new b
+  pub leaves : IsTrue old.tells → BreaksFiles old new b trace
   pub refusals : Quiet old.refusals new.refusals
   pub reads : (n : List ℕ) → ¬ (Contains (inputs_of_nodes b.nodes.items) n) → Grew (old.rfaults n) 0 (new.rfaults n)
   pub other_writes : (n : List ℕ) → ¬ (Contains (outputs_of_nodes b.nodes.items) n) → Grew (old.wfaults n) 0 (new.wfaults n)
   pub other_draws : (n : List ℕ) → ¬ (Contains (inputs_of_nodes b.nodes.items) n) → Grew (old.read n) 0 (new.read n)
 
--- memory was wanting before the run, and then the first of the outputs are empty, and no other file is changed and no count rose; or in it
-abbrev pub Wants : FolderState → FolderState → Blueprint → Type 0
-Wants old new b = GivesUp old new (outputs_of_nodes b.nodes.items) ⊎ WantsWithin old new b
+-- memory was wanting before the run, and then the first of the files that it opens to write them are empty, and no other file is changed and no count rose; or in it
+abbrev pub Wants : FolderState → FolderState → Blueprint → Option (List ℕ) → Type 0
+Wants old new b trace = GivesUp old new (written_files b trace) ⊎ WantsWithin old new b trace

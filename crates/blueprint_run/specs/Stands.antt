@@ -2,7 +2,7 @@
 use Rattle.std.specs.Prelude.{ℕ, ◌+◌, ◌==◌, Bool, true, false, if◌then◌else◌, List, [], ◌∷◌}
 use Rattle.blue_core.specs.declared.blueprint.Node.{Node}
 use Rattle.stream_model.specs.declared.outcome.EndState.{EndState}
-use Rattle.stream_model.specs.declared.outcome.EndState.TheVariants.{Ended, Failed, Unended, WriteFault}
+use Rattle.stream_model.specs.declared.outcome.EndState.TheVariants.{Failed, Unended, WriteFault}
 use Rattle.materializer.specs.Files.{is_sink}
 use Rattle.picture_laws.specs.Picture.{has_ended}
 

@@ -1,25 +1,31 @@
 // The run of a blueprint over a folder.
-ghost use Rattle.std.specs.Prelude.{◌≡◌, ◌≤◌, ℕ, List, IfOk, IfErr, Err, map, length, vec_len};
+ghost use Rattle.std.specs.Prelude.{◌≡◌, ◌+◌, ◌-◌, ◌≤◌, ◌++◌, [], ℕ, List, Option, IfOk, IfErr, Err, Bool, true, false, IsTrue, map, length, vec_len, is_some};
+ghost use Rattle.std.specs.Option.{option_map, option_to_list};
 ghost use Rattle.blue_core.specs.declared.blueprint.Blueprint as plan;
 ghost use Rattle.stream_io.specs.State.{FolderState};
 ghost use Rattle.interpreter.specs.Island.{counts_of, sinks_of, readers_of, writers_of};
 ghost use Rattle.interpreter.specs.Picks.{pick_of, picks_of};
 ghost use Rattle.interpreter.specs.Parts.{AreParts};
 ghost use Rattle.materializer.specs.Built.{CanRun};
+ghost use Rattle.materializer.specs.Choices.{pick_names};
 ghost use Rattle.materializer.specs.Files.{inputs_of_nodes, outputs_of_nodes};
-ghost use Rattle.run_files.specs.Opening.{OpensAll, MissesInput, RefusesOutput};
+ghost use Rattle.run_files.specs.Opening.{MissesInput, RefusesOutput};
 ghost use Rattle.run_files.specs.Closing.{ClosesAll};
+ghost use Rattle.run_report.specs.Trace.{trace_text, moves_in};
 ghost use Rattle.blueprint_run.specs.Leaving.{Stops, Leaves, BreaksAs, LeavesBroken, LeavesBrokenAs};
+ghost use Rattle.blueprint_run.specs.Opening.{Opens, OpensAs, WritesAs, ClosesAs};
 ghost use Rattle.blueprint_run.specs.Running.{Runs, Wants, WantsWithin};
+ghost use Rattle.blueprint_run.specs.Tracing.{written_files, IsApart};
 
 use blue_core::blueprint::Blueprint;
+use elem_core::line::Line;
 use elem_core::why::NoMemory;
 use interpreter::island::{Island, IslandEnd};
 use interpreter::parts::Parts;
 use materializer::laws::{
     fit_blueprints_are_whole, parts_are_made_of_their_blueprint, parts_hold_their_files,
 };
-use materializer::names::{input_names, output_names};
+use materializer::names::{input_names, output_names, pick_names};
 use materializer::parts::parts_of;
 use picture_laws::laws::{
     a_picture_without_events_rests, every_move_fits, every_picture_is_lawful,
@@ -31,6 +37,7 @@ use run_laws::laws::{
     every_sink_counts_its_lines, every_sink_writes, every_source_reads_little_ahead,
     every_wire_agrees,
 };
+use run_report::trace::put_trace;
 use std::alloc::{AllocError, Global};
 use stream_io::outside::{Drain, Folder, Source};
 use stream_model::outcome::{EndState, PickList, WireCount};
@@ -38,7 +45,8 @@ use stream_picture::laws::polytrees_end;
 use type_laws::laws::{every_wire_carries_its_type, fit_blueprints_pass_the_rules};
 
 /// What a run came to: of each sink, in order of nodes, its node, how many whole lines it wrote and how it stands; the moves of
-/// each stage whose kind chooses, in order of nodes; what each wire carried; how many units were used, and whether no event was left.
+/// each stage whose kind chooses, in order of nodes; what each wire carried; how many units were used, and whether no event was left;
+/// and whether a write to the trace's file failed.
 #[derive(Drop)]
 pub struct Ran {
     pub sinks: Vec<(u32, u64, EndState)>,
@@ -46,6 +54,20 @@ pub struct Ran {
     pub wires: Vec<WireCount>,
     pub used: u32,
     pub at_rest: bool,
+    pub trace_failed: bool,
+}
+
+/// How many bytes of a trace are written at once.
+const PIECE: usize = 4096;
+
+/// What a run needs before its files are opened: the names of its inputs and of the files that it writes, that of its trace behind
+/// those of its sinks; the names of the stages whose kinds choose, and room to gather their lines.
+#[derive(Drop)]
+struct Prepared {
+    inputs: Vec<Line>,
+    outputs: Vec<Line>,
+    choosers: Vec<Line>,
+    room: Vec<u8>,
 }
 
 /// An island that was run and taken apart.
@@ -143,11 +165,82 @@ fn run_open<S: Source, D: Drain>(
     }
 }
 
-/// Closes what a run had opened.
-fn close<F: Folder>(folder: &mut F, stopped: Stopped<F::Inp, F::Out>) -> Ran
-    ensures { (old : FolderState) (b : plan.Blueprint) (budget : ℕ) (ss : List F.Inp) (ds : List F.Out) → CanRun b
-        → OpensAll old (F.state folder.old) (inputs_of_nodes b.nodes.items) (outputs_of_nodes b.nodes.items) (map F.Inp.state ss) (map F.Out.state ds)
-        → Leaves F.Inp.state F.Out.state b ss ds budget stopped → Runs old (F.state folder.new) b budget result }
+/// The files that a run writes: those of its sinks, and that of its trace where one is wanted.
+fn written_names(alloc: Global, b: &Blueprint, trace: Option<Line>) -> Result<Vec<Line>, NoMemory>
+    ensures { IfOk result (λ names. names.items ≡ written_files b.now trace) }
+{
+    let mut names = output_names(alloc, b)?;
+    if let Some(file) = trace {
+        names.push(file)?;
+    }
+    Ok(names)
+}
+
+/// Makes what a run needs before its files are opened.
+fn prepare(alloc: Global, b: &Blueprint, trace: Option<Line>) -> Result<Prepared, NoMemory>
+    ensures inputs { IfOk result (λ p. p.inputs.items ≡ inputs_of_nodes b.now.nodes.items) }
+    ensures outputs { IfOk result (λ p. p.outputs.items ≡ written_files b.now trace) }
+    ensures choosers { IfOk result (λ p. p.choosers.items ≡ pick_names b.now.nodes.items) }
+    ensures room { IfOk result (λ p. p.room.items ≡ []) }
+{
+    Ok(Prepared {
+        inputs: input_names(alloc, b)?,
+        outputs: written_names(alloc, b, trace)?,
+        choosers: pick_names(alloc, b)?,
+        room: Vec::with_capacity(alloc, PIECE)?,
+    })
+}
+
+/// The drain of the trace's file, which was opened last, where a trace is wanted.
+fn take_last<D: Drain>(drains: &mut Vec<D>, wanted: bool) -> Option<D>
+    requires { IsTrue wanted → 1 ≤ length drains.old.items }
+    ensures all { drains.old.items ≡ drains.new.items ++ option_to_list result }
+    ensures wanted { is_some result ≡ wanted }
+{
+    if wanted { drains.pop() } else { None }
+}
+
+/// Writes the trace, where one is wanted, and says whether a write failed.
+fn write_trace<D: Drain>(
+    drain: Option<D>,
+    choosers: &[Line],
+    picks: &[PickList],
+    room: Vec<u8>,
+) -> (Option<D>, bool)
+    requires { room.items ≡ [] }
+    ensures { WritesAs (option_map D.state drain) (option_map D.state result.0) (trace_text choosers.now (map moves_in picks.now)) result.1 }
+{
+    match drain {
+        Some(mut file) => {
+            let failed = put_trace(&mut file, choosers, picks, room).is_err();
+            (Some(file), failed)
+        }
+        None => (None, false),
+    }
+}
+
+/// Closes the trace's file, where there is one.
+fn close_trace<F: Folder>(folder: &mut F, drain: Option<F::Out>)
+    ensures closes { ClosesAs (F.state folder.old) (F.state folder.new) (option_map F.Out.state drain) }
+    ensures handles { F.handles folder.new ≡ F.handles folder.old - length (option_to_list drain) }
+{
+    if let Some(file) = drain {
+        folder.close_out(file);
+    }
+}
+
+/// Writes the trace of a run, and closes what it had opened.
+fn close<F: Folder>(
+    folder: &mut F,
+    stopped: Stopped<F::Inp, F::Out>,
+    drain: Option<F::Out>,
+    choosers: &[Line],
+    room: Vec<u8>,
+) -> Ran
+    requires { room.items ≡ [] }
+    ensures { (old : FolderState) (b : plan.Blueprint) (trace : Option (List ℕ)) (budget : ℕ) (ss : List F.Inp) (ds : List F.Out) → CanRun b → IsApart b trace → choosers.now ≡ pick_names b.nodes.items
+        → Opens old (F.state folder.old) (inputs_of_nodes b.nodes.items) (outputs_of_nodes b.nodes.items) (option_to_list trace) (map F.Inp.state ss) (map F.Out.state ds) → OpensAs (F.state folder.old) trace (option_map F.Out.state drain)
+        → Leaves F.Inp.state F.Out.state b ss ds budget stopped → Runs old (F.state folder.new) b trace budget result }
 {
     an_island_leaves_a_run::<F::Inp, F::Out>();
     every_wire_agrees::<F::Inp, F::Out>();
@@ -171,22 +264,32 @@ fn close<F: Folder>(folder: &mut F, stopped: Stopped<F::Inp, F::Out>) -> Ran
         used,
         at_rest,
     } = stopped;
+    let (drain, trace_failed) = write_trace(drain, choosers, &end.picks, room);
     close_all(folder, end.readers, end.writers);
+    close_trace(folder, drain);
     Ran {
         sinks: end.sinks,
         picks: end.picks,
         wires,
         used,
         at_rest,
+        trace_failed,
     }
 }
 
-/// Closes what a run had opened in which memory was wanting.
+/// Closes the files of the nodes of a run in which memory was wanting.
 fn close_broken<F: Folder>(folder: &mut F, end: IslandEnd<F::Inp, F::Out>)
     ensures closes { ClosesAll (F.state folder.old) (F.state folder.new) (map F.Inp.state end.readers.items) (map F.Out.state end.writers.items) }
-    ensures wants { (old : FolderState) (b : plan.Blueprint) (ss : List F.Inp) (ds : List F.Out) → CanRun b
-        → OpensAll old (F.state folder.old) (inputs_of_nodes b.nodes.items) (outputs_of_nodes b.nodes.items) (map F.Inp.state ss) (map F.Out.state ds)
-        → LeavesBroken F.Inp.state F.Out.state b ss ds end → WantsWithin old (F.state folder.new) b }
+{
+    let (readers, writers) = (end.readers, end.writers);
+    close_all(folder, readers, writers);
+}
+
+/// Closes what a run had opened in which memory was wanting. Its trace is not written.
+fn give_up<F: Folder>(folder: &mut F, end: IslandEnd<F::Inp, F::Out>, drain: Option<F::Out>)
+    ensures { (old : FolderState) (b : plan.Blueprint) (trace : Option (List ℕ)) (ss : List F.Inp) (ds : List F.Out) → CanRun b → IsApart b trace
+        → Opens old (F.state folder.old) (inputs_of_nodes b.nodes.items) (outputs_of_nodes b.nodes.items) (option_to_list trace) (map F.Inp.state ss) (map F.Out.state ds) → OpensAs (F.state folder.old) trace (option_map F.Out.state drain)
+        → LeavesBroken F.Inp.state F.Out.state b ss ds end → WantsWithin old (F.state folder.new) b trace }
 {
     an_island_leaves_a_run::<F::Inp, F::Out>();
     every_sink_agrees::<F::Inp, F::Out>();
@@ -195,40 +298,51 @@ fn close_broken<F: Folder>(folder: &mut F, end: IslandEnd<F::Inp, F::Out>)
     fit_blueprints_are_whole();
     parts_are_made_of_their_blueprint::<F::Inp, F::Out>();
     parts_hold_their_files::<F::Inp, F::Out>();
-    let (readers, writers) = (end.readers, end.writers);
-    close_all(folder, readers, writers);
+    close_broken(folder, end);
+    close_trace(folder, drain);
 }
 
-/// Opens the files of a blueprint, its inputs in order and then its outputs in order, lets its island run by at most `budget` units, and
-/// closes them, also where memory is wanting in the run.
+/// Opens the files of a blueprint, its inputs in order and then its outputs in order, and behind them the file of its trace where one is
+/// wanted; lets its island run by at most `budget` units; writes the trace, which takes no memory, and closes the files, also where
+/// memory is wanting in the run. The trace is then left empty. Rule: own.
 pub fn run<F: Folder>(
     alloc: Global,
     folder: &mut F,
     b: Blueprint,
+    trace: Option<Line>,
     budget: u32,
 ) -> Result<Ran, OpenEnd>
     requires runs { CanRun b }
+    requires apart { IsApart b trace }
     requires budget { budget ≤ 4000000000 }
-    ensures ran { IfOk result (λ ran. Runs (F.state folder.old) (F.state folder.new) b budget ran) }
+    ensures ran { IfOk result (λ ran. Runs (F.state folder.old) (F.state folder.new) b trace budget ran) }
     ensures no_input { (n : List ℕ) → result ≡ Err (OpenEnd.MissingInput n) → MissesInput (F.state folder.old) (F.state folder.new) (inputs_of_nodes b.nodes.items) n }
-    ensures no_output { (n : List ℕ) → result ≡ Err (OpenEnd.MissingOutput n) → RefusesOutput (F.state folder.old) (F.state folder.new) (inputs_of_nodes b.nodes.items) (outputs_of_nodes b.nodes.items) n }
-    ensures no_memory { result ≡ Err OpenEnd.NoMemory → Wants (F.state folder.old) (F.state folder.new) b }
+    ensures no_output { (n : List ℕ) → result ≡ Err (OpenEnd.MissingOutput n) → RefusesOutput (F.state folder.old) (F.state folder.new) (inputs_of_nodes b.nodes.items) (written_files b trace) n }
+    ensures no_memory { result ≡ Err OpenEnd.NoMemory → Wants (F.state folder.old) (F.state folder.new) b trace }
 {
-    let Ok(inputs) = input_names(alloc, &b) else {
+    let wanted = trace.is_some();
+    let Ok(prepared) = prepare(alloc, &b, trace) else {
         return Err(OpenEnd::NoMemory);
     };
-    let Ok(outputs) = output_names(alloc, &b) else {
-        return Err(OpenEnd::NoMemory);
-    };
-    let Opened { inputs, outputs } = match open_all(alloc, folder, inputs, outputs) {
+    let Prepared {
+        inputs,
+        outputs,
+        choosers,
+        room,
+    } = prepared;
+    let Opened {
+        inputs,
+        mut outputs,
+    } = match open_all(alloc, folder, inputs, outputs) {
         Ok(opened) => opened,
         Err(end) => return Err(end),
     };
+    let drain = take_last(&mut outputs, wanted);
     match run_open(alloc, b, inputs, outputs, budget) {
-        Ok(stopped) => Ok(close(folder, stopped)),
+        Ok(stopped) => Ok(close(folder, stopped, drain, &choosers, room)),
         Err(Broken::Unmade) => Err(OpenEnd::NoMemory),
         Err(Broken::Within(end)) => {
-            close_broken(folder, end);
+            give_up(folder, end, drain);
             Err(OpenEnd::NoMemory)
         }
     }

@@ -1,10 +1,16 @@
--- The goal of `run::close`.
+-- The goal of `run::close` that the search leaves.
 use Rattle.std.proofs.Common.{refl}
+use Rattle.std.specs.Option.{option_to_list}
 use Rattle.blueprint_run.proofs.Closing.{runs_of}
+use Rattle.blueprint_run.proofs.Shuts.{shuts_of}
+use Rattle.blueprint_run.proofs.Traces.{traces_of, text_written, name_opened, name_written}
 use Rattle.blueprint_run.proofs.run.close.Goals as goal
 
 pub returns : goal.returns
-returns g c = λ old b budget ss ds can opens leaves.
+returns g c = λ old b trace budget ss ds can separate named opens opened leaves.
+    let wrote = c.write_trace-drain.ensures in
+    let shut = c.close_all.ensures.closes in
+    let closed = c.close_trace.ensures.closes in
     runs_of g.F.Inp.Source.state g.F.Out.Drain.state
     (record {
       made_law = c.parts_are_made_of_their_blueprint.ensures;
@@ -35,4 +41,8 @@ returns g c = λ old b budget ss ds can opens leaves.
       ignorer = c.every_sink_agrees.ensures.ignorer;
       ignores = c.every_sink_agrees.ensures.ignores;
     })
-    b can ss ds budget _ leaves old _ opens _ c.close_all.ensures.closes _ refl refl refl refl refl
+    b can ss ds budget _ leaves old _ trace separate opens _
+    (shuts_of _ _ _ (option_to_list trace) _ _ _ shut closed (name_written (option_to_list trace) _ _ _ _ wrote (name_opened _ trace _ opened)))
+    _
+    (traces_of old _ _ _ b _ _ _ trace _ _ _ opened opens.wfaults (text_written b _ _ _ _ _ _ named c.deref.ensures.value wrote) shut closed)
+    refl refl refl refl refl

@@ -1,0 +1,72 @@
+-- What the words of the workbench ask for. Rule: own.
+use Rattle.std.specs.Prelude.{◌≡◌, ℕ, Bool, true, false, ◌&&◌, if◌then◌else◌, List, [], ◌∷◌, map, Option, Some, None, Result, Ok, Err, codes}
+use Rattle.std.specs.List.{list_all}
+use Rattle.std.specs.Str.{bytes_eq}
+use Rattle.blue_words.specs.declared.fault.BlueKind.{BlueKind}
+use Rattle.blue_words.specs.Names.{is_file_name}
+use Rattle.blue_words.specs.Numbers.{count_of}
+use Rattle.workbench_words.specs.declared.task.Task.{Task}
+use Rattle.workbench_words.specs.declared.task.WordsEnd.{WordsEnd}
+use Rattle.workbench_words.specs.declared.task.WordsEnd.TheVariants.{NoMemory}
+use Rattle.workbench_words.specs.declared.task.Work.{Work}
+use Rattle.workbench_words.specs.declared.task.Work.TheVariants.{Check, Format, Draw, Explain, Turns}
+
+-- the work of that name
+abbrev pub work_of : List ℕ → Option Work
+work_of word =
+    if bytes_eq word (codes "check") then Some Check
+    else (if bytes_eq word (codes "fmt") then Some Format
+    else (if bytes_eq word (codes "draw") then Some Draw
+    else (if bytes_eq word (codes "explain") then Some Explain
+    else (if bytes_eq word (codes "turns") then Some Turns else None))))
+
+-- the place is a number
+abbrev pub is_read : Result ℕ BlueKind → Bool
+is_read (Ok n) = true
+is_read (Err k) = false
+
+-- each word is a number of 64 bits
+abbrev pub are_numbers : List (List ℕ) → Bool
+are_numbers ws = list_all (λ w. is_read (count_of 64 w)) ws
+
+-- no word
+abbrev pub is_nothing : List (List ℕ) → Bool
+is_nothing [] = true
+is_nothing (w ∷ ws) = false
+
+-- words may stand behind the file: of `turns` alone
+abbrev pub allows : Work → List (List ℕ) → Bool
+allows Turns rest = true
+allows _ rest = is_nothing rest
+
+-- the file is the name of one, and the words behind it are what the work wants
+abbrev pub is_rest : Work → List ℕ → List (List ℕ) → Bool
+is_rest work file rest = is_file_name file && allows work rest && are_numbers rest
+
+abbrev pub is_rest_of : Option Work → List ℕ → List (List ℕ) → Bool
+is_rest_of None file rest = false
+is_rest_of (Some work) file rest = is_rest work file rest
+
+-- the words are in the grammar: a work, a file, and what the work wants
+abbrev pub is_task : List (List ℕ) → Bool
+is_task (name ∷ file ∷ rest) = is_rest_of (work_of name) file rest
+is_task _ = false
+
+-- the words ask for this task, where these are the words behind the work's name
+abbrev pub task_words : List (List ℕ) → Task → Type 0
+task_words (file ∷ rest) t = (t.file ≡ file) × (map (λ n. Ok n) t.counts.items ≡ map (count_of 64) rest)
+task_words _ t = ⊥
+
+abbrev pub asks_for : List (List ℕ) → Task → Type 0
+asks_for [] t = ⊥
+asks_for (name ∷ ws) t = (work_of name ≡ Some t.work) × task_words ws t
+
+-- the words are in the grammar, and ask for this task
+pub record Asks (words : List (List ℕ)) (t : Task) : Type 0 where
+  pub grammar : is_task words ≡ true
+  pub task : asks_for words t
+
+-- the words ask for nothing; memory may be wanting at any words
+abbrev pub Ends : List (List ℕ) → WordsEnd → Type 0
+Ends words NoMemory = Unit {0}
+Ends words _ = is_task words ≡ false

@@ -1,0 +1,153 @@
+// What the words of the workbench ask for.
+ghost use Rattle.std.specs.Prelude.{◌≡◌, false, true, map, IfOk, IfErr, IfSome, Ok, None};
+ghost use Rattle.blue_words.specs.Numbers.{count_of};
+ghost use Rattle.workbench_words.specs.Task.{Asks, Ends, work_of, are_numbers, allows, is_rest, is_task};
+
+use crate::texts::no_task;
+use blue_words::names::is_file_name;
+use blue_words::places::count_place;
+use blue_words::words::is_word;
+use elem_core::line::Line;
+use std::alloc::{AllocError, Global};
+
+/// What is to be done with a blueprint. Rule: own.
+#[derive(Clone, Copy, PartialEq, Eq)]
+pub enum Work {
+    /// Its first fault is told.
+    Check,
+    /// Its canonical text is printed.
+    Format,
+    /// Its graph is drawn.
+    Draw,
+    /// A report of its run is said in words.
+    Explain,
+    /// The units that suffice for its run are counted.
+    Turns,
+}
+
+/// What the words ask for. Rule: own.
+#[derive(Drop)]
+pub struct Task {
+    /// What is to be done.
+    pub work: Work,
+    /// The blueprint's file.
+    pub file: Line,
+    /// How many elements the sources give, in their order; for `Turns` alone.
+    pub counts: Vec<u64>,
+}
+
+/// Why the words ask for nothing.
+#[derive(Drop)]
+pub enum WordsEnd {
+    /// They ask for help, which is this text.
+    Help(String),
+    /// They are no command; this text says so.
+    Usage(String),
+    /// Memory was refused.
+    NoMemory,
+}
+
+impl From<AllocError> for WordsEnd {
+    ghost use Rattle.std.specs.Prelude.{◌≡◌};
+    ghost use Rattle.workbench_words.specs.declared.task.WordsEnd.TheVariants.{NoMemory};
+
+    ghost from_gives = { λ _ e. e ≡ NoMemory };
+
+    fn from(_error: AllocError) -> WordsEnd {
+        WordsEnd::NoMemory
+    }
+}
+
+/// The work of that name.
+fn work_of(word: &[u8]) -> Option<Work>
+    ensures { result ≡ work_of word.now }
+{
+    if is_word(word, b"check") {
+        Some(Work::Check)
+    } else if is_word(word, b"fmt") {
+        Some(Work::Format)
+    } else if is_word(word, b"draw") {
+        Some(Work::Draw)
+    } else if is_word(word, b"explain") {
+        Some(Work::Explain)
+    } else if is_word(word, b"turns") {
+        Some(Work::Turns)
+    } else {
+        None
+    }
+}
+
+/// The numbers of words, where each is one.
+fn counts_of(alloc: Global, words: &[Line]) -> Result<Option<Vec<u64>>, AllocError>
+    ensures numbers { IfOk result (λ counts. IfSome counts (λ counts. map (λ n. Ok n) counts.items ≡ map (count_of 64) words.now)) }
+    ensures all { IfOk result (λ counts. IfSome counts (λ _. are_numbers words.now ≡ true)) }
+    ensures other { result ≡ Ok None → are_numbers words.now ≡ false }
+{
+    let mut counts = Vec::new(alloc);
+    for word in words {
+        match count_place(word.bytes()) {
+            Ok(n) => counts.push(n)?,
+            Err(_) => return Ok(None),
+        }
+    }
+    Ok(Some(counts))
+}
+
+/// Whether so many words may stand behind the file.
+fn allows(work: Work, rest: &[Line]) -> bool
+    ensures { result ≡ allows work rest.now }
+{
+    match work {
+        Work::Turns => true,
+        _ => rest.is_empty(),
+    }
+}
+
+/// The task of that work and file, with the words that stand behind them.
+fn task_of(
+    alloc: Global,
+    work: Work,
+    file: &Line,
+    rest: &[Line],
+) -> Result<Option<Task>, AllocError>
+    ensures task { IfOk result (λ task. IfSome task (λ t. (t.work ≡ work) × (t.file ≡ file.now) × (map (λ n. Ok n) t.counts.items ≡ map (count_of 64) rest.now))) }
+    ensures fits { IfOk result (λ task. IfSome task (λ _. is_rest work file.now rest.now ≡ true)) }
+    ensures other { result ≡ Ok None → is_rest work file.now rest.now ≡ false }
+{
+    if !is_file_name(file.bytes()) || !allows(work, rest) {
+        return Ok(None);
+    }
+    match counts_of(alloc, rest)? {
+        Some(counts) => {
+            let file = file.copy(alloc)?;
+            Ok(Some(Task { work, file, counts }))
+        }
+        None => Ok(None),
+    }
+}
+
+/// The task of the words, where they are in the grammar.
+fn task_in(alloc: Global, words: &[Line]) -> Result<Option<Task>, AllocError>
+    ensures task { IfOk result (λ task. IfSome task (Asks words.now)) }
+    ensures other { result ≡ Ok None → is_task words.now ≡ false }
+{
+    match words {
+        [name, file, rest @ ..] => match work_of(name.bytes()) {
+            Some(work) => task_of(alloc, work, file, rest),
+            None => Ok(None),
+        },
+        _ => Ok(None),
+    }
+}
+
+/// What the words ask for: `check FILE`, `fmt FILE`, `draw FILE`, `explain FILE` or `turns FILE N..`, where FILE is the name of a
+/// file and each N a number of 64 bits. For all other words the parser of commands says what is wrong, or helps. Rule: own.
+pub fn read_words(alloc: Global, words: &[Line]) -> Result<Task, WordsEnd>
+    ensures task { IfOk result (Asks words.now) }
+    ensures end { IfErr result (Ends words.now) }
+{
+    match task_in(alloc, words)? {
+        Some(task) => Ok(task),
+        None => Err(no_task(alloc, words)),
+    }
+}

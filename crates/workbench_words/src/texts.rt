@@ -1,0 +1,98 @@
+// What is said of words that ask for nothing, by `clap`: help, or what is wrong with them.
+use crate::task::WordsEnd;
+use clap::error::ErrorKind;
+use clap::{Arg, ArgAction, Command, Error};
+use elem_core::line::Line;
+use std::alloc::{AllocError, Global};
+
+/// What is said of words that clap takes and the grammar does not.
+const NO_PLACE: &str =
+    "FILE is the name of a file in this folder (a letter or a digit, and letters, digits, `.`, `_` and `-`), and N a number";
+
+/// A command on one file.
+fn command<'a>(alloc: Global, name: &'a str, about: &'a str) -> Result<Command<'a>, AllocError> {
+    let file = Arg::new(alloc, "FILE")
+        .required(true)
+        .help("The blueprint's file");
+    Command::new(alloc, name).about(about).arg(file)
+}
+
+/// The command that counts units.
+fn turns<'a>(alloc: Global) -> Result<Command<'a>, AllocError> {
+    let counts = Arg::new(alloc, "N")
+        .action(ArgAction::Append)
+        .num_args(0..)
+        .help("How many elements each source gives, in the order of sources");
+    command(
+        alloc,
+        "turns",
+        "Counts the units that suffice, for --turns of streams",
+    )?
+    .arg(counts)
+}
+
+/// The workbench as clap is told of it.
+fn workbench<'a>(alloc: Global) -> Result<Command<'a>, AllocError> {
+    Command::new(alloc, "blueprint")
+        .no_binary_name(true)
+        .about("Looks at the blueprints that streams runs")
+        .subcommand_required(true)
+        .subcommand(command(alloc, "check", "Tells the first fault, or nothing")?)?
+        .subcommand(command(alloc, "fmt", "Prints the canonical text")?)?
+        .subcommand(command(alloc, "draw", "Prints the graph in the DOT language")?)?
+        .subcommand(command(
+            alloc,
+            "explain",
+            "Says a report of streams, read from standard input, in words",
+        )?)?
+        .subcommand(turns(alloc)?)
+}
+
+/// The texts of the words; None where one is no text.
+fn texts_of(alloc: Global, words: &[Line]) -> Result<Option<Vec<&str>>, AllocError> {
+    let mut texts = Vec::new(alloc);
+    for word in words {
+        match std::str::from_utf8(word.bytes()) {
+            Ok(text) => texts.push(text)?,
+            Err(_) => return Ok(None),
+        }
+    }
+    Ok(Some(texts))
+}
+
+/// What clap says of texts.
+fn said<'a>(alloc: Global, texts: &'a [&'a str]) -> Result<Error, AllocError> {
+    match workbench(alloc)?.try_get_matches_from(texts) {
+        Ok(_) => workbench(alloc)?.error(ErrorKind::ValueValidation, NO_PLACE),
+        Err(error) => Ok(error),
+    }
+}
+
+/// How a reading ends of which clap says this.
+fn end_of(alloc: Global, error: &Error) -> Result<WordsEnd, AllocError> {
+    let text = format!(in alloc; "{error}")?;
+    match error.kind() {
+        ErrorKind::OutOfMemory => Ok(WordsEnd::NoMemory),
+        ErrorKind::DisplayHelp => Ok(WordsEnd::Help(text)),
+        _ => Ok(WordsEnd::Usage(text)),
+    }
+}
+
+/// The same of words.
+fn said_of_words(alloc: Global, words: &[Line]) -> Result<WordsEnd, AllocError> {
+    match texts_of(alloc, words)? {
+        Some(texts) => end_of(alloc, &said(alloc, &texts)?),
+        None => end_of(
+            alloc,
+            &workbench(alloc)?.error(ErrorKind::InvalidValue, NO_PLACE)?,
+        ),
+    }
+}
+
+/// How a reading of such words ends: with help where they ask for it, else with what is wrong.
+pub(crate) fn no_task(alloc: Global, words: &[Line]) -> WordsEnd {
+    match said_of_words(alloc, words) {
+        Ok(end) => end,
+        Err(_) => WordsEnd::NoMemory,
+    }
+}

@@ -1,0 +1,112 @@
+// What each fault means and what to do about it, in words.
+use blue_check::fault::CheckFault;
+use blue_words::fault::BlueKind;
+
+/// What a fault means, and what to do about it. Rule: own.
+#[derive(Clone, Copy)]
+pub struct Saying {
+    /// What is wrong.
+    pub means: &'static [u8],
+    /// What to do.
+    pub advice: &'static [u8],
+}
+
+/// What a fault of a text means. Rule: own.
+pub fn of_text(kind: BlueKind) -> Saying {
+    match kind {
+        BlueKind::BadVersion => Saying {
+            means: b"The first line that says something is not the version line.",
+            advice: b"Begin the blueprint with the line `streams 1`.",
+        },
+        BlueKind::BadLine => Saying {
+            means: b"The line has not the form of a declaration: a word is unknown, missing or too many, or a byte is none of a word.",
+            advice: b"Compare it with the forms of switch, chain, source, stage, sink and wire.",
+        },
+        BlueKind::BadName => Saying {
+            means: b"Where a name or the name of a file is to stand is a word that is none.",
+            advice: b"A name has a lower-case letter and up to 31 lower-case letters, digits and `_`; that of a file a letter or a digit and up to 63 letters, digits, `.`, `_` and `-`.",
+        },
+        BlueKind::BadNumber => Saying {
+            means: b"Where a number is to stand is a word that is none, or one out of its range.",
+            advice: b"Write 1 to 20 digits; a port and a size are below 2 to the power of 32.",
+        },
+        BlueKind::TooLong => Saying {
+            means: b"The text has more than 1048576 bytes, or the line more than 1024.",
+            advice: b"Make it shorter.",
+        },
+        BlueKind::TooMany => Saying {
+            means: b"More is declared than the limits allow.",
+            advice: b"A blueprint has at most 1024 nodes, 2048 wires, 64 switches and 256 chains, and a chain at most 32 steps.",
+        },
+    }
+}
+
+/// What a fault of names means, or of what names stand for.
+fn of_names(fault: &CheckFault) -> Option<Saying> {
+    match fault {
+        CheckFault::TwoNames(_) => Some(Saying {
+            means: b"The name is declared twice, or the file is wanted twice.",
+            advice: b"Give one of the two another name; to use what comes of a file twice, send it through a broadcast.",
+        }),
+        CheckFault::NoSuchName(_) => Some(Saying {
+            means: b"The name is used and not declared.",
+            advice: b"Declare it, or mend its spelling.",
+        }),
+        CheckFault::NoSuchPlug(_) => Some(Saying {
+            means: b"The plug is not handed in: `streams` has none.",
+            advice: b"Use a stage of the language, or a program that hands the plug in.",
+        }),
+        CheckFault::PlugTwice(_) => Some(Saying {
+            means: b"Two plugs have this name, or two stages name this plug.",
+            advice: b"Name each plug once.",
+        }),
+        _ => None,
+    }
+}
+
+/// What a fault of ports means.
+fn of_ports(fault: &CheckFault) -> Option<Saying> {
+    match fault {
+        CheckFault::NoSuchPort(_) => Some(Saying {
+            means: b"The wire uses an output or an input that its node does not have.",
+            advice: b"Outputs and inputs are numbered from 0; a fan has as many as its number says.",
+        }),
+        CheckFault::PortTwice(_) => Some(Saying {
+            means: b"The wire uses an output or an input that an earlier wire uses.",
+            advice: b"Each port has one wire: send to several by a broadcast, and take from several by a merge.",
+        }),
+        CheckFault::PortOpen(_, _, _) => Some(Saying {
+            means: b"This output or input of the node has no wire.",
+            advice: b"Add a wire there; for an output that is not wanted one to a sink `ignore`.",
+        }),
+        _ => None,
+    }
+}
+
+/// What a fault of a blueprint means: the rule that it breaks. Rule: own.
+pub fn of_rule(fault: &CheckFault) -> Saying {
+    if let Some(saying) = of_names(fault) {
+        return saying;
+    }
+    if let Some(saying) = of_ports(fault) {
+        return saying;
+    }
+    match fault {
+        CheckFault::TypeClash(_, _, _) => Saying {
+            means: b"The type that arrives, the first of the two, is not what is wanted there, the second.",
+            advice: b"Put a stage in between that gives what is wanted, as `map num` or `map show`.",
+        },
+        CheckFault::TooDeep(_) => Saying {
+            means: b"A type would nest deeper here than 4 lists and pairs.",
+            advice: b"Take lists and pairs apart before, as by `map_concat flat`, `map first` or `unzip`.",
+        },
+        CheckFault::ClosedWalk(_) => Saying {
+            means: b"The wire lies on a closed walk: elements would come back to where they were.",
+            advice: b"Take a wire of that walk out.",
+        },
+        _ => Saying {
+            means: b"A size is out of its limits.",
+            advice: b"Groups and buffers hold 1 to 4096, a fan has 2 to 16 ports, a segment and a trip 1 to 4000000000, a group_by 1 to 1024 keys; a lane is a power of two up to 1024.",
+        },
+    }
+}

@@ -26,7 +26,8 @@ pub struct Place {
 }
 
 impl Place {
-    fn of(sort: Sort, number: usize) -> Place {
+    /// The declaration of that sort and number.
+    pub fn of(sort: Sort, number: usize) -> Place {
         Place { sort, number }
     }
 }

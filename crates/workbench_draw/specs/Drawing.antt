@@ -1,0 +1,24 @@
+-- Drawings in the DOT language. Rule: own.
+use Rattle.std.specs.Prelude.{◌≡◌, ℕ, List, ◌++◌, length, vec_len, codes}
+use Rattle.std.specs.List.{flat_map}
+use Rattle.std.specs.declared.alloc.Global.{Global}
+use Rattle.std.specs.declared.vec.Vec.{Vec}
+use Rattle.blue_core.specs.declared.blueprint.Blueprint.{Blueprint}
+use Rattle.workbench_draw.specs.declared.draw.Drawing.{Drawing}
+
+-- lines, one behind another
+abbrev pub lines_text : List (Vec ℕ Global) → List ℕ
+lines_text lines = flat_map (λ line. line.items) lines
+
+-- the lines of a drawing in its braces
+abbrev pub drawing_text : Drawing → List ℕ
+drawing_text d =
+    codes "digraph blueprint {\n  rankdir=LR;\n  node [shape=box];\n" ++ lines_text d.islands.items ++ lines_text d.nodes.items
+    ++ lines_text d.others.items ++ lines_text d.wires.items ++ codes "}\n"
+
+-- the text is a drawing with a line for each node and a line for each wire
+pub record Draws (b : Blueprint) (text : List ℕ) : Type 0 where
+  pub drawing : Drawing
+  pub nodes : vec_len drawing.nodes ≡ length b.nodes.items
+  pub wires : vec_len drawing.wires ≡ length b.wires.items
+  pub is : text ≡ drawing_text drawing

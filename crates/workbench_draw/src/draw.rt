@@ -1,0 +1,99 @@
+// The drawing of a blueprint.
+ghost use Rattle.std.specs.Prelude.{◌≡◌, ◌++◌, IfOk, OnOk, length, vec_len};
+ghost use Rattle.std.specs.List.{flat_map};
+ghost use Rattle.blue_check.specs.Checked.{blueprint_of};
+ghost use Rattle.workbench_draw.specs.Drawing.{Draws, drawing_text};
+
+use crate::lines::{Blamed, island_lines, node_lines, other_lines, wire_lines};
+use crate::types::types_of;
+use blue_check::checked::Checked;
+use blue_check::fault::CheckFault;
+use blue_core::blueprint::Blueprint;
+use elem_core::line::Line;
+use elem_core::why::NoMemory;
+use std::alloc::Global;
+use traversal::islands::islands;
+use workbench_faults::place::place_of;
+
+/// The lines of a drawing. Rule: own.
+#[derive(Drop)]
+struct Drawing {
+    islands: Vec<Vec<u8>>,
+    nodes: Vec<Vec<u8>>,
+    others: Vec<Vec<u8>>,
+    wires: Vec<Vec<u8>>,
+}
+
+/// Appends lines.
+fn put_lines(out: &mut Vec<u8>, lines: &[Vec<u8>]) -> Result<(), NoMemory>
+    ensures { OnOk result (out.new.items ≡ out.old.items ++ flat_map (λ line. line.items) lines.now) }
+{
+    for line in lines {
+        out.extend_from_slice(line)?;
+    }
+    Ok(())
+}
+
+/// The text of a drawing.
+fn text_of(alloc: Global, drawing: &Drawing) -> Result<Vec<u8>, NoMemory>
+    ensures { IfOk result (λ text. text.items ≡ drawing_text drawing.now) }
+{
+    let mut out = Vec::new(alloc);
+    out.extend_from_slice(b"digraph blueprint {\n  rankdir=LR;\n  node [shape=box];\n")?;
+    put_lines(&mut out, &drawing.islands)?;
+    put_lines(&mut out, &drawing.nodes)?;
+    put_lines(&mut out, &drawing.others)?;
+    put_lines(&mut out, &drawing.wires)?;
+    out.extend_from_slice(b"}\n")?;
+    Ok(out)
+}
+
+/// The text of a drawing of a blueprint.
+fn drawn(alloc: Global, b: &Blueprint, drawing: &Drawing) -> Result<Vec<u8>, NoMemory>
+    requires nodes { vec_len drawing.now.nodes ≡ length b.now.nodes.items }
+    requires wires { vec_len drawing.now.wires ≡ length b.now.wires.items }
+    ensures { IfOk result (λ text. Draws b.now text.items) }
+{
+    text_of(alloc, drawing)
+}
+
+/// The graph of a checked blueprint in the DOT language: a box round each island, a line for each node with its kind, and one for
+/// each wire with its type; a lane is dashed and has its size. Rule: own.
+pub fn draw(alloc: Global, c: &Checked) -> Result<Vec<u8>, NoMemory>
+    ensures { IfOk result (λ text. Draws (blueprint_of c.now) text.items) }
+{
+    let b = c.blueprint();
+    let plan = islands(alloc, c)?;
+    let types = types_of(alloc, c)?;
+    let drawing = Drawing {
+        islands: island_lines(alloc, &b.nodes, &plan.islands)?,
+        nodes: node_lines(alloc, &b.nodes, None)?,
+        others: Vec::new(alloc),
+        wires: wire_lines(alloc, &b.wires, &types, None)?,
+    };
+    drawn(alloc, b, &drawing)
+}
+
+/// The graph of a blueprint that breaks a rule: the same without islands and types, and the place of the fault is red and has the
+/// words of `told` in its label. `own` is the blueprint's own file. Rule: own.
+pub fn draw_unfit(
+    alloc: Global,
+    b: &Blueprint,
+    own: &Line,
+    fault: &CheckFault,
+    told: &[u8],
+) -> Result<Vec<u8>, NoMemory>
+    ensures { IfOk result (λ text. Draws b.now text.items) }
+{
+    let blamed = match place_of(b, own, fault) {
+        Some(place) => Some(Blamed { place, fault: told }),
+        None => None,
+    };
+    let drawing = Drawing {
+        islands: Vec::new(alloc),
+        nodes: node_lines(alloc, &b.nodes, blamed)?,
+        others: other_lines(alloc, blamed)?,
+        wires: wire_lines(alloc, &b.wires, &[], blamed)?,
+    };
+    drawn(alloc, b, &drawing)
+}

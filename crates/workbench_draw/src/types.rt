@@ -1,0 +1,47 @@
+// The types on the wires of a checked blueprint.
+ghost use Rattle.blue_names.specs.Links.{AreInRange};
+
+use blue_check::checked::Checked;
+use blue_core::blueprint::{ChainDecl, Node};
+use blue_names::links::{Link, links_of};
+use blue_names::outs::outs_of;
+use blue_names::ports::targets_of;
+use blue_types::library::Library;
+use blue_types::net::{Net, type_on};
+use blue_types::rounds::settle;
+use elem_core::elem_type::ElemType;
+use elem_core::why::NoMemory;
+use std::alloc::Global;
+
+/// The type on each wire of a net of so many nodes, where it is settled.
+fn types_in(
+    alloc: Global,
+    nodes: &[Node],
+    chains: &[ChainDecl],
+    count: usize,
+    links: &[Link],
+) -> Result<Vec<Option<ElemType>>, NoMemory>
+    requires { AreInRange count links.now }
+{
+    let targets = targets_of(alloc, links)?;
+    let outs = outs_of(alloc, count, links)?;
+    let library = Library::new(alloc, &[], chains)?;
+    let net = Net {
+        nodes,
+        links,
+        targets: &targets,
+    };
+    let settled = settle(alloc, &library, &net, &outs)?;
+    let mut types = Vec::new(alloc);
+    for link in links {
+        types.push(type_on(alloc, &net, &settled, *link)?)?;
+    }
+    Ok(types)
+}
+
+/// The type on each wire, in the order of wires.
+pub(crate) fn types_of(alloc: Global, c: &Checked) -> Result<Vec<Option<ElemType>>, NoMemory> {
+    let b = c.blueprint();
+    let links = links_of(alloc, &b.nodes, &b.wires)?;
+    types_in(alloc, &b.nodes, &b.chains, b.nodes.len(), &links)
+}

@@ -1,0 +1,45 @@
+// The reasons of failures, in words.
+use blue_words::places::count_place;
+use elem_core::why::NoMemory;
+
+/// What happened, by the number of the reason.
+fn text_of(number: u64) -> Option<&'static [u8]> {
+    let text: &'static [u8] = match number {
+        1 => b"a text is no number, or an element of another type came than its function takes",
+        2 => b"a number is out of 64 bits",
+        3 => b"a divisor is 0",
+        4 => b"a number is below 0",
+        5 => b"a text has no word with that number",
+        6 => b"more elements came than its limit allows",
+        7 => b"its reduction had no element",
+        8 => b"it keeps one element and none came",
+        9 => b"more keys came than it has room for",
+        10 => b"an element came while its buffer was full",
+        11 => b"it is a source that fails",
+        12 => b"its file could not be read",
+        13 => b"a line or a text has more than 65536 bytes",
+        14 => b"its switch was told to abort",
+        _ => return None,
+    };
+    Some(text)
+}
+
+/// Appends what happened, by the word of a report, and says whether it is one.
+pub(crate) fn put_reason(out: &mut Vec<u8>, word: &[u8]) -> Result<bool, NoMemory> {
+    if let Some(code) = word.strip_prefix(b"15/") {
+        out.extend_from_slice(b"its plug failed with its code ")?;
+        out.extend_from_slice(code)?;
+        return Ok(count_place(code).is_ok());
+    }
+    let text = match count_place(word) {
+        Ok(number) => text_of(number),
+        Err(_) => None,
+    };
+    match text {
+        Some(text) => {
+            out.extend_from_slice(text)?;
+            Ok(true)
+        }
+        None => Ok(false),
+    }
+}

@@ -1,0 +1,73 @@
+// The blueprint of which a report tells, with its text.
+use blue_core::blueprint::{Blueprint, Node, WireDecl};
+use elem_core::why::NoMemory;
+use itoa::Buffer;
+use workbench_faults::message::put_source_line;
+use workbench_faults::place::{Place, Sort};
+use workbench_faults::source::line_of;
+
+/// A blueprint and its text.
+#[derive(Clone, Copy)]
+pub(crate) struct Scene<'a> {
+    pub(crate) text: &'a [u8],
+    pub(crate) blueprint: &'a Blueprint,
+}
+
+/// Appends a number.
+pub(crate) fn put_number(out: &mut Vec<u8>, n: u64) -> Result<(), NoMemory> {
+    let mut buffer = Buffer::new();
+    out.extend_from_slice(buffer.format(n).as_bytes())
+}
+
+/// Appends what is declared in a line of the text, in parentheses.
+fn put_place(
+    out: &mut Vec<u8>,
+    scene: Scene<'_>,
+    sort: Sort,
+    number: usize,
+) -> Result<(), NoMemory> {
+    if let Some(line) = line_of(scene.text, Place::of(sort, number)) {
+        out.extend_from_slice(b" (")?;
+        put_source_line(out, &line)?;
+        out.push(b')')?;
+    }
+    Ok(())
+}
+
+impl<'a> Scene<'a> {
+    /// The number of the node of that name.
+    pub(crate) fn number_of(&self, name: &[u8]) -> Option<usize> {
+        for i in 0..self.blueprint.nodes.len() {
+            if self.blueprint.nodes[i].name.bytes() == name {
+                return Some(i);
+            }
+        }
+        None
+    }
+
+    /// The node of that number.
+    pub(crate) fn node(&self, number: usize) -> Option<&'a Node> {
+        self.blueprint.nodes.get(number)
+    }
+
+    /// The wire of that number.
+    pub(crate) fn wire(&self, number: usize) -> Option<&'a WireDecl> {
+        self.blueprint.wires.get(number)
+    }
+}
+
+/// Appends the name of a node, and its line; says whether there is such a node.
+pub(crate) fn put_node(
+    out: &mut Vec<u8>,
+    scene: Scene<'_>,
+    number: usize,
+) -> Result<bool, NoMemory> {
+    match scene.node(number) {
+        Some(node) => {
+            out.extend_from_slice(node.name.bytes())?;
+            put_place(out, scene, Sort::Node, number)?;
+            Ok(true)
+        }
+        None => Ok(false),
+    }
+}

@@ -1,0 +1,28 @@
+-- Answers on a text that says a blueprint which breaks no rule.
+use Rattle.std.proofs.Common.{◌≡◌, ◌⊎◌, inl, inr, ℕ, List, [], sym, subst}
+use Rattle.blue_core.specs.declared.blueprint.Blueprint.{Blueprint}
+use Rattle.workbench_faults.specs.Judging.{IsFitText}
+use Rattle.workbench_draw.specs.Drawing.{Draws}
+use Rattle.workbench_turns.specs.Turns.{Suffices}
+use Rattle.workbench_answers.specs.Answer.{Checks, Counts, DrawsFit}
+use Rattle.workbench_answers.specs.declared.answer.Answer.{Answer}
+use Rattle.workbench_answers.specs.declared.answer.Ending.TheVariants as ending
+
+-- nothing is said and told
+pub passes : (text file : List ℕ) (b : Blueprint) (a : Answer) → IsFitText text file b → a.ending ≡ ending.Done → a.said.items ≡ [] → a.told.items ≡ [] → Checks text file a
+passes text file b a fit done said told = inl (record { ending = done; blueprint = b; fit = fit; said = said; told = told })
+
+-- a drawing is said
+pub draws_fit : (text file drawing : List ℕ) (b : Blueprint) (a : Answer) → IsFitText text file b → a.ending ≡ ending.Done → a.said.items ≡ drawing → Draws b drawing → DrawsFit text file a
+draws_fit text file drawing b a fit done said draws = record { ending = done; blueprint = b; fit = fit; said = subst (λ t. Draws b t) (sym said) draws }
+
+-- the units are said
+pub says_units : (text file counts units : List ℕ) (b : Blueprint) (a : Answer) → IsFitText text file b → a.ending ≡ ending.Done → a.said.items ≡ units → Suffices b counts units → Counts text file counts a
+says_units text file counts units b a fit done said suffices = inl (record { ending = done; blueprint = b; fit = fit; said = subst (λ t. Suffices b counts t) (sym said) suffices })
+
+-- no units are said
+pub misses : (text file counts : List ℕ) (b : Blueprint) (a : Answer) → IsFitText text file b → (a.ending ≡ ending.Words) ⊎ (a.ending ≡ ending.NoMemory) → (a.ending ≡ ending.Words → a.said.items ≡ []) → Counts text file counts a
+misses text file counts b a fit ends said = elim ends [
+  | inl words ↦ inr (inl (record { ending = words; blueprint = b; fit = fit; said = said words }))
+  | inr memory ↦ inr (inr (inr memory))
+]

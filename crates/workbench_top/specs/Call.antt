@@ -1,0 +1,52 @@
+-- What a call of the workbench answers and leaves. Rule: own.
+use Rattle.std.specs.Prelude.{◌≡◌, ℕ, ◌⊎◌, IsTrue, false, List, Some}
+use Rattle.std.specs.Option.{option_map}
+use Rattle.stream_io.specs.State.{FolderState, DrainState, SameFiles}
+use Rattle.stream_top.specs.Text.{text_of_file, StaysMissing, FailsToRead}
+use Rattle.run_report.specs.Writing.{Puts}
+use Rattle.workbench_words.specs.Task.{Asks, is_task}
+use Rattle.workbench_words.specs.declared.task.Task.{Task}
+use Rattle.workbench_words.specs.declared.task.Work.TheVariants.{Explain}
+use Rattle.workbench_answers.specs.Answer.{AnswersText, code_of}
+use Rattle.workbench_answers.specs.declared.answer.Answer.{Answer}
+use Rattle.workbench_answers.specs.declared.answer.Ending.TheVariants as ending
+
+-- the answer to a task is that to its work on the text of its file, in a folder that tells its files
+pub record AnswersFile (t : Task) (old : FolderState) (a : Answer) : Type 0 where
+  pub text : List ℕ
+  pub is : option_map text_of_file (old.file t.file) ≡ Some text
+  pub answers : AnswersText t.work text t.file t.counts.items a
+
+-- The file is not there; it, or the report, could not be read; memory was wanting; or the text is answered.
+abbrev pub AnswersTask : Task → FolderState → FolderState → Answer → Type 0
+AnswersTask t old new a =
+    ((a.ending ≡ ending.Missing) × StaysMissing old new t.file)
+    ⊎ (((a.ending ≡ ending.ReadFault) × (FailsToRead old new t.file ⊎ (t.work ≡ Explain)))
+    ⊎ ((a.ending ≡ ending.NoMemory) ⊎ (IsTrue old.tells → AnswersFile t old a)))
+
+-- the answer to a task that the words ask for
+pub record AnswersAsked (words : List (List ℕ)) (old new : FolderState) (a : Answer) : Type 0 where
+  pub task : Task
+  pub asks : Asks words task
+  pub answers : AnswersTask task old new a
+
+-- the words are no command: help is said, or what is wrong is told
+pub record AnswersNothing (words : List (List ℕ)) (a : Answer) : Type 0 where
+  pub grammar : is_task words ≡ false
+  pub ending : (a.ending ≡ ending.Done) ⊎ (a.ending ≡ ending.Words)
+
+-- what is answered to words; memory may be wanting at any words
+abbrev pub AnswersWords : List (List ℕ) → FolderState → FolderState → Answer → Type 0
+AnswersWords words old new a = AnswersNothing words a ⊎ ((a.ending ≡ ending.NoMemory) ⊎ AnswersAsked words old new a)
+
+-- the answer is put: what is said on the console, and what is told where faults are told; or a write failed, which is code 8
+abbrev pub IsPut : Answer → DrainState → DrainState → DrainState → DrainState → ℕ → Type 0
+IsPut a said_old said_new told_old told_new code =
+    (Puts said_old said_new a.said.items × (Puts told_old told_new a.told.items × (code ≡ code_of a.ending))) ⊎ (code ≡ 8)
+
+-- no file is changed, and the answer is put
+pub record Works (words : List (List ℕ)) (old new : FolderState) (said_old said_new told_old told_new : DrainState) (code : ℕ) : Type 0 where
+  pub answer : Answer
+  pub answers : AnswersWords words old new answer
+  pub files : SameFiles old new
+  pub put : IsPut answer said_old said_new told_old told_new code

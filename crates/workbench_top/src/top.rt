@@ -1,0 +1,133 @@
+// A call of the workbench.
+ghost use Rattle.std.specs.Prelude.{◌≡◌, ◌⊎◌};
+ghost use Rattle.stream_io.specs.State.{SameFiles};
+ghost use Rattle.workbench_words.specs.Task.{Asks, Ends};
+ghost use Rattle.workbench_answers.specs.Answer.{AnswersText};
+ghost use Rattle.workbench_top.specs.Call.{AnswersTask, AnswersNothing, AnswersWords, IsPut, Works};
+
+use crate::report::{ReportEnd, read_report};
+use elem_core::line::Line;
+use run_report::put::put_all;
+use std::alloc::Global;
+use stream_io::outside::{Drain, Folder, Source};
+use stream_top::text::{ReadEnd, read_file};
+use workbench_answers::answer::{Answer, Ending, code};
+use workbench_answers::texts::{check_text, count_text, draw_text, explain_text, format_text};
+use workbench_words::task::{Task, WordsEnd, Work, read_words};
+
+/// The answer that tells these words.
+fn telling(alloc: Global, ending: Ending, words: &[u8]) -> Answer
+    ensures { (result.ending ≡ ending) ⊎ (result.ending ≡ Ending.NoMemory) }
+{
+    match Vec::from_slice(alloc, words) {
+        Ok(told) => Answer::telling(alloc, ending, told),
+        Err(_) => Answer::without_memory(alloc),
+    }
+}
+
+/// The answer to a report that is read from the input.
+fn explain_input<S: Source>(alloc: Global, text: &[u8], file: &Line, input: &mut S) -> Answer {
+    match read_report(alloc, input) {
+        Ok(report) => explain_text(alloc, text, file, &report),
+        Err(ReportEnd::Fault) => telling(
+            alloc,
+            Ending::ReadFault,
+            b"the report could not be read\n",
+        ),
+        Err(ReportEnd::NoMemory) => Answer::without_memory(alloc),
+    }
+}
+
+/// The answer to a task on the text of its file.
+fn answer_text<S: Source>(alloc: Global, task: &Task, text: &[u8], input: &mut S) -> Answer
+    ensures { AnswersText task.now.work text.now task.now.file task.now.counts.items result }
+{
+    match task.work {
+        Work::Check => check_text(alloc, text, &task.file),
+        Work::Format => format_text(alloc, text, &task.file),
+        Work::Draw => draw_text(alloc, text, &task.file),
+        Work::Explain => explain_input(alloc, text, &task.file, input),
+        Work::Turns => count_text(alloc, text, &task.file, &task.counts),
+    }
+}
+
+/// The answer to a task.
+fn answer_task<S: Source, F: Folder>(
+    alloc: Global,
+    task: &Task,
+    input: &mut S,
+    folder: &mut F,
+) -> Answer
+    ensures answers { AnswersTask task.now (F.state folder.old) (F.state folder.new) result }
+    ensures files { SameFiles (F.state folder.old) (F.state folder.new) }
+{
+    match read_file(alloc, folder, &task.file) {
+        Ok(text) => answer_text(alloc, task, &text, input),
+        Err(ReadEnd::Missing) => telling(
+            alloc,
+            Ending::Missing,
+            b"the blueprint's file is not there, or was refused\n",
+        ),
+        Err(ReadEnd::Fault) => telling(
+            alloc,
+            Ending::ReadFault,
+            b"the blueprint's file could not be read\n",
+        ),
+        Err(ReadEnd::NoMemory) => Answer::without_memory(alloc),
+    }
+}
+
+/// The answer to words that ask for nothing.
+fn answer_end(alloc: Global, end: WordsEnd) -> Answer
+    ensures { (result.ending ≡ Ending.Done) ⊎ ((result.ending ≡ Ending.Words) ⊎ (result.ending ≡ Ending.NoMemory)) }
+{
+    match end {
+        WordsEnd::Help(text) => Answer::saying(alloc, text.into_bytes()),
+        WordsEnd::Usage(text) => Answer::telling(alloc, Ending::Words, text.into_bytes()),
+        WordsEnd::NoMemory => Answer::without_memory(alloc),
+    }
+}
+
+/// The answer to words.
+fn answer_words<S: Source, F: Folder>(
+    alloc: Global,
+    words: &[Line],
+    input: &mut S,
+    folder: &mut F,
+) -> Answer
+    ensures answers { AnswersWords words.now (F.state folder.old) (F.state folder.new) result }
+    ensures files { SameFiles (F.state folder.old) (F.state folder.new) }
+{
+    match read_words(alloc, words) {
+        Ok(task) => answer_task(alloc, &task, input, folder),
+        Err(end) => answer_end(alloc, end),
+    }
+}
+
+/// Puts an answer, and gives the exit code: 8 where a write failed.
+fn put_answer<C: Drain, D: Drain>(answer: &Answer, console: &mut C, faults: &mut D) -> u8
+    ensures { IsPut answer.now (C.state console.old) (C.state console.new) (D.state faults.old) (D.state faults.new) result }
+{
+    if put_all(console, &answer.said).is_err() || put_all(faults, &answer.told).is_err() {
+        return 8;
+    }
+    code(answer.ending)
+}
+
+/// A call of the workbench: `check FILE`, `fmt FILE`, `draw FILE`, `explain FILE` or `turns FILE N..`. It reads the blueprint of that
+/// file, and for `explain` a report from the input; it changes no file. What was wanted goes to the console, faults go where faults
+/// are told. The exit code is 0, 1 for the words, 2 for the blueprint, and those of `streams` for the outside and for memory: 6, 7, 8
+/// and 9. Rule: own.
+pub fn run_workbench<S: Source, F: Folder, C: Drain, D: Drain>(
+    alloc: Global,
+    words: &[Line],
+    input: &mut S,
+    folder: &mut F,
+    console: &mut C,
+    faults: &mut D,
+) -> u8
+    ensures { Works words.now (F.state folder.old) (F.state folder.new) (C.state console.old) (C.state console.new) (D.state faults.old) (D.state faults.new) result }
+{
+    let answer = answer_words(alloc, words, input, folder);
+    put_answer(&answer, console, faults)
+}

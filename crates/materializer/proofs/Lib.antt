@@ -6,3 +6,4 @@ pub mod Linking
 pub mod Making
 pub mod Handing
 pub mod SeatLoops
+pub mod Filling

@@ -135,12 +135,20 @@ module _ {S D : Type 0} (sources : S → SourceState) (b : Blueprint) (ss : List
 
 -- ---- parts
 
+pub links_many : (k : ℕ) (ws : List Wire) → length (links_from k ws) ≡ length ws
+links_many k [] = refl
+links_many k (w ∷ ws) = ap suc (links_many (k + 1) ws)
+
+-- as few links as wires
+pub few_links : (wires : List WireLink) (links told : List Link) → told ≡ links → links ≡ links_from 0 (wires_of_links wires) → length wires < 2 ^ 32 → length told < 2 ^ 32
+few_links wires links told e is few =
+    let size : length told ≡ length wires = ap length e ∙ ap length is ∙ links_many 0 (wires_of_links wires) ∙ length-map wires wire_of_link in
+    omega (arith, size, few)
+
 -- links of the blueprint's wires, and places of its nodes, are parts of an island
-pub parts_made : {S D : Type 0} (b : Blueprint) (ss : List S) (ds : List D) (places : List (Seated S D)) (wires : List WireLink) (links : List Link) → CanRun b → wires_of_links wires ≡ blueprint_wires b
-    → links ≡ links_from 0 (wires_of_links wires) → length wires < 2 ^ 32 → AreSeats 0 b.nodes.items ss ds places → AreParts places links
-parts_made {S = S} {D = D} b ss ds places wires links r e is few a =
-    let all : links ≡ links_from 0 (blueprint_wires b) = is ∙ ap (links_from 0) e in
-    let size : length (blueprint_wires b) ≡ length wires = sym (ap length e) ∙ length-map wires wire_of_link in
-    let few_wires : length (blueprint_wires b) < 2 ^ 32 = rw size few in
-    subst (λ l. AreParts {S = S} {D = D} places l) (sym all)
+pub parts_made : {S D : Type 0} (b : Blueprint) (ss : List S) (ds : List D) (places : List (Seated S D)) (links : List Link) → CanRun b → links ≡ links_from 0 (blueprint_wires b) → length links < 2 ^ 32 → AreSeats 0 b.nodes.items ss ds places → AreParts places links
+parts_made {S = S} {D = D} b ss ds places links r is few a =
+    let size : length links ≡ length (blueprint_wires b) = ap length is ∙ links_many 0 (blueprint_wires b) in
+    let few_wires : length (blueprint_wires b) < 2 ^ 32 = rw (sym size) few in
+    subst (λ l. AreParts {S = S} {D = D} places l) (sym is)
     (are_parts b.nodes.items (blueprint_wires b) (map chain_of b.chains.items) ss ds places (fit_joined b r.plugs r.taken r.fit) a few_wires)

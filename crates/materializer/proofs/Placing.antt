@@ -104,7 +104,7 @@ fan_out_no_file k name h e = file_apart IsOut (λ _ i. i) (λ _ i. i) (λ _ i. i
 module _ {S D : Type 0} where
   -- ---- works
 
-  work_ports : (k : ℕ) (n : Node) (ss : List S) (ds : List D) (w : Work S D) → IsWork k n ss ds w → (work_inputs w ≡ inputs_of n.kind) × (work_outputs w ≡ outputs_of n.kind)
+  pub work_ports : (k : ℕ) (n : Node) (ss : List S) (ds : List D) (w : Work S D) → IsWork k n ss ds w → (work_inputs w ≡ inputs_of n.kind) × (work_outputs w ≡ outputs_of n.kind)
   work_ports k n ss ds (work.Reading r) is = let l = reads_lines n.kind ss r.source is.source in (sym (ap inputs_of l.1), sym (ap outputs_of l.1))
   work_ports k n ss ds (work.Making shape) is = let p = maker_ports n.kind is.is_maker in (sym p.0, sym p.1)
   work_ports k n ss ds (work.Linear l) is = let p = linear_ports n.kind is.is_linear in (sym p.0, sym p.1)

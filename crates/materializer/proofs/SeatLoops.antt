@@ -1,12 +1,13 @@
 -- The places of an island, one after another.
-use Rattle.std.proofs.Common.{◌≡◌, ℕ, suc, ◌+◌, ◌≤◌, Bool, true, List, [], ◌∷◌, ◌++◌, length, Option, Some, None, refl, sym, ap, ◌∙◌, subst, arith, append_assoc, append-nil, length-append}
-use Rattle.std.specs.Prelude.{option_to_list}
-use Rattle.std.specs.List.{list_all, cons_option}
+use Rattle.std.proofs.Common.{◌≡◌, ℕ, ◌+◌, ◌≤◌, Bool, true, List, [], ◌∷◌, ◌++◌, length, Option, Some, None, refl, sym, ap, ◌∙◌, subst, arith, append_assoc, append-nil, length-append}
+use Rattle.std.specs.List.{list_all}
 use Rattle.std.proofs.lemmas.Bool.{and_parts}
 use Rattle.interpreter.specs.declared.parts.Seated.{Seated}
 use Rattle.blue_core.specs.declared.blueprint.Node.{Node}
 use Rattle.materializer.specs.Files.{input_of, output_of}
 use Rattle.materializer.specs.Seats.{handles_left, IsWork, AreSeats}
+use Rattle.materializer.specs.Planned.{IsSeat, ArePlanned, Fills, reads, writes, reads_in, writes_in}
+use Rattle.materializer.specs.declared.seats.Seat.{Seat}
 
 -- a node of those that are left has been built, and so have those behind it
 pub all_next : (test : Node → Bool) (n : Node) (old rest : List Node) → old ≡ n ∷ rest → list_all test old ≡ true → (test n ≡ true) × (list_all test rest ≡ true)
@@ -17,30 +18,30 @@ pub none_left_out : {X : Type 0} (o : Option (List ℕ)) (xs : List X) → o ≡
 none_left_out None xs e = refl
 none_left_out (Some file) xs e = cc
 
-pub none_counted : (o : Option (List ℕ)) (n : ℕ) → o ≡ None → n ≡ n + length (option_to_list o)
-none_counted None n e = omega arith
-none_counted (Some file) n e = cc
+-- ---- seats, whose handles are not there yet
 
--- there is a handle for a node that takes one
-pub enough : (o : Option (List ℕ)) (names later : List (List ℕ)) (a : ℕ) → names ≡ cons_option o later → a ≡ length names → length (option_to_list o) ≤ a
-enough None names later a e h = omega arith
-enough (Some file) names later a e h = let size : length names ≡ suc (length later) = ap length e in omega (arith, size, h)
+module _ {S D : Type 0} (all : List Node) where
+  pub planned_start : (ns : List Node) (seats xs : List (Seat S D)) → ns ≡ all → seats ≡ [] → ArePlanned (length seats) ns xs → ArePlanned 0 all (seats ++ xs)
+  planned_start ns seats xs e none h =
+      let at_none : ArePlanned 0 ns xs = subst (λ (p : List (Seat S D)). ArePlanned (length p) ns xs) none h in
+      subst (λ (p : List (Seat S D)). ArePlanned 0 all (p ++ xs)) (sym none) (subst (λ n. ArePlanned 0 n xs) e at_none)
 
--- and as many are left as files
-pub count_next : (o : Option (List ℕ)) (names later : List (List ℕ)) (a b : ℕ) → names ≡ cons_option o later → a ≡ length names → a ≡ b + length (option_to_list o) → b ≡ length later
-count_next None names later a b e h took = let size : length names ≡ length later = ap length e in omega (arith, size, h, took)
-count_next (Some file) names later a b e h took = let size : length names ≡ suc (length later) = ap length e in omega (arith, size, h, took)
+  -- one seat more
+  pub planned_next : (n : Node) (old rest : List Node) (k : ℕ) (s : Seat S D) (was now : List (Seat S D)) → old ≡ n ∷ rest → k ≡ length was → IsSeat k n s → now ≡ was ++ s ∷ []
+      → ((xs : List (Seat S D)) → ArePlanned (length was) old xs → ArePlanned 0 all (was ++ xs)) → (xs : List (Seat S D)) → ArePlanned (length now) rest xs → ArePlanned 0 all (now ++ xs)
+  planned_next n old rest k s was now e at is more so xs h =
+      let size : length now ≡ length was + 1 = ap length more ∙ length-append was (s ∷ []) in
+      let later : ArePlanned (length was + 1) rest xs = subst (λ i. ArePlanned i rest xs) size h in
+      let here : IsSeat (length was) n s = subst (λ i. IsSeat i n s) at is in
+      let whole : ArePlanned (length was) old (s ∷ xs) = subst (λ r. ArePlanned (length was) r (s ∷ xs)) (sym e) (here, later) in
+      subst (λ l. ArePlanned 0 all l) (sym (ap (λ l. l ++ xs) more ∙ append_assoc was (s ∷ []) xs)) (so (s ∷ xs) whole)
+
+  -- all of them
+  pub planned_end : (rest : List Node) (seats : List (Seat S D)) → rest ≡ [] → ((xs : List (Seat S D)) → ArePlanned (length seats) rest xs → ArePlanned 0 all (seats ++ xs)) → ArePlanned 0 all seats
+  planned_end rest seats e so =
+      subst (λ l. ArePlanned 0 all l) (append-nil seats) (so [] (subst (λ r. ArePlanned {S = S} {D = D} (length seats) r []) (sym e) tt))
 
 module _ {S D : Type 0} (all : List Node) (sources : List S) (drains : List D) where
-  -- nothing stands at the places yet
-  pub seats_start : (ns : List Node) (ss : List S) (ds : List D) (places xs : List (Seated S D)) → ns ≡ all → ss ≡ sources → ds ≡ drains → places ≡ [] → AreSeats (length places) ns ss ds xs → AreSeats 0 all sources drains (places ++ xs)
-  seats_start ns ss ds places xs e s d none h =
-      let at_none : AreSeats 0 ns ss ds xs = subst (λ (p : List (Seated S D)). AreSeats (length p) ns ss ds xs) none h in
-      let whole : AreSeats 0 all ss ds xs = subst (λ x. AreSeats 0 x ss ds xs) e at_none in
-      let of_sources : AreSeats 0 all sources ds xs = subst (λ x. AreSeats 0 all x ds xs) s whole in
-      let of_all : AreSeats 0 all sources drains xs = subst (λ x. AreSeats 0 all sources x xs) d of_sources in
-      subst (λ (p : List (Seated S D)). AreSeats 0 all sources drains (p ++ xs)) (sym none) of_all
-
   -- one place more
   pub seats_next : (n : Node) (old rest : List Node) (ss later_ss : List S) (ds later_ds : List D) (k : ℕ) (p : Seated S D) (was now : List (Seated S D))
       → old ≡ n ∷ rest → k ≡ length was → p.node ≡ k → IsWork k n ss ds p.work → later_ss ≡ handles_left (input_of n.kind) ss → later_ds ≡ handles_left (output_of n.kind) ds → now ≡ was ++ p ∷ []
@@ -59,3 +60,49 @@ module _ {S D : Type 0} (all : List Node) (sources : List S) (drains : List D) w
   pub seats_end : (rest : List Node) (ss : List S) (ds : List D) (places : List (Seated S D)) → rest ≡ [] → ((xs : List (Seated S D)) → AreSeats (length places) rest ss ds xs → AreSeats 0 all sources drains (places ++ xs)) → AreSeats 0 all sources drains places
   seats_end rest ss ds places e so =
       subst (λ l. AreSeats 0 all sources drains l) (append-nil places) (so [] (subst (λ r. AreSeats {S = S} {D = D} (length places) r ss ds []) (sym e) tt))
+
+  -- the seats that are left are those of the nodes that are left, and behind the places that there are they complete all
+  pub record FillsRest (seats : List (Seat S D)) (ss : List S) (ds : List D) (places : List (Seated S D)) : Type 0 where
+    pub rest : List Node
+    pub planned : ArePlanned (length places) rest seats
+    pub so : (xs : List (Seated S D)) → AreSeats (length places) rest ss ds xs → AreSeats 0 all sources drains (places ++ xs)
+
+  pub fills_first : (seats : List (Seat S D)) (ss : List S) (ds : List D) (places : List (Seated S D)) → ss ≡ sources → ds ≡ drains → places ≡ [] → ArePlanned 0 all seats → FillsRest seats ss ds places
+  fills_first seats ss ds places s d none h =
+      rw (s, d, none) (record { rest = all; planned = h; so = λ xs a. a })
+
+  fills_with : (rest : List Node) (s : Seat S D) (later : List (Seat S D)) (ss later_ss : List S) (ds later_ds : List D) (p : Seated S D) (was now : List (Seated S D)) → ArePlanned (length was) rest (s ∷ later) → Fills s ss ds p later_ss later_ds → now ≡ was ++ p ∷ []
+      → ((xs : List (Seated S D)) → AreSeats (length was) rest ss ds xs → AreSeats 0 all sources drains (was ++ xs)) → FillsRest later later_ss later_ds now
+  fills_with [] s later ss later_ss ds later_ds p was now h fills more so = absurd h
+  fills_with (n ∷ ns) s later ss later_ss ds later_ds p was now h fills more so =
+      let f = fills (length was) n h.0 in
+      let size : length was + 1 ≡ length now = sym (ap length more ∙ length-append was (p ∷ [])) in
+      record {
+        rest = ns;
+        planned = subst (λ i. ArePlanned i ns later) size h.1;
+        so = seats_next n (n ∷ ns) ns ss later_ss ds later_ds (length was) p was now refl refl f.node f.work f.sources_left f.drains_left more so;
+      }
+
+  pub fills_next : (old later : List (Seat S D)) (s : Seat S D) (ss later_ss : List S) (ds later_ds : List D) (p : Seated S D) (was now : List (Seated S D)) → FillsRest old ss ds was → old ≡ s ∷ later → Fills s ss ds p later_ss later_ds → now ≡ was ++ p ∷ [] → FillsRest later later_ss later_ds now
+  fills_next old later s ss later_ss ds later_ds p was now f e fills more =
+      fills_with f.rest s later ss later_ss ds later_ds p was now (subst (λ l. ArePlanned (length was) f.rest l) e f.planned) fills more f.so
+
+  none_planned : (k : ℕ) (rest : List Node) → ArePlanned {S = S} {D = D} k rest [] → rest ≡ []
+  none_planned k [] h = refl
+  none_planned k (n ∷ ns) h = absurd h
+
+  pub fills_last : (seats : List (Seat S D)) (ss : List S) (ds : List D) (places : List (Seated S D)) → FillsRest seats ss ds places → seats ≡ [] → AreSeats 0 all sources drains places
+  fills_last seats ss ds places f e = seats_end f.rest ss ds places (none_planned (length places) f.rest (subst (λ l. ArePlanned (length places) f.rest l) e f.planned)) f.so
+
+-- how many handles are wanted
+pub reads_next : {S D : Type 0} (old later : List (Seat S D)) (s : Seat S D) (a b : ℕ) → old ≡ s ∷ later → a ≡ reads_in old → a ≡ b + reads s.planned → b ≡ reads_in later
+reads_next old later s a b e h k = let size : reads_in old ≡ reads s.planned + reads_in later = ap reads_in e in omega (arith, size, h, k)
+
+pub reads_enough : {S D : Type 0} (old later : List (Seat S D)) (s : Seat S D) (a : ℕ) → old ≡ s ∷ later → a ≡ reads_in old → reads s.planned ≤ a
+reads_enough old later s a e h = let size : reads_in old ≡ reads s.planned + reads_in later = ap reads_in e in omega (arith, size, h)
+
+pub writes_next : {S D : Type 0} (old later : List (Seat S D)) (s : Seat S D) (a b : ℕ) → old ≡ s ∷ later → a ≡ writes_in old → a ≡ b + writes s.planned → b ≡ writes_in later
+writes_next old later s a b e h k = let size : writes_in old ≡ writes s.planned + writes_in later = ap writes_in e in omega (arith, size, h, k)
+
+pub writes_enough : {S D : Type 0} (old later : List (Seat S D)) (s : Seat S D) (a : ℕ) → old ≡ s ∷ later → a ≡ writes_in old → writes s.planned ≤ a
+writes_enough old later s a e h = let size : writes_in old ≡ writes s.planned + writes_in later = ap writes_in e in omega (arith, size, h)

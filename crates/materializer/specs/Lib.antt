@@ -4,3 +4,4 @@ pub mod Files
 pub mod Seats
 pub mod Handed
 pub mod Choices
+pub mod Planned

@@ -1,5 +1,5 @@
 // What stands at each place of an island.
-ghost use Rattle.std.specs.Prelude.{◌≡◌, ◌+◌, ◌<◌, ◌≤◌, ◌∷◌, true, None, IfOk, length, vec_len, option_to_list};
+ghost use Rattle.std.specs.Prelude.{◌≡◌, ◌+◌, ◌<◌, ◌≤◌, List, [], ◌∷◌, true, None, IfOk, vec_len, vec_capacity};
 ghost use Rattle.std.specs.List.{list_all};
 ghost use Rattle.std.specs.Vec.Iter.{into_iter_items, into_iter_len};
 ghost use Rattle.blue_rules.specs.Sizes.{sizes_fit};
@@ -7,8 +7,10 @@ ghost use Rattle.stage_state.specs.Logics.{IsStateful};
 ghost use Rattle.stage_in.specs.Logics.{IsFanIn};
 ghost use Rattle.stage_out.specs.OutLogics.{IsOut};
 ghost use Rattle.materializer.specs.Built.{is_built};
-ghost use Rattle.materializer.specs.Files.{input_of, output_of, inputs_of_nodes, outputs_of_nodes};
-ghost use Rattle.materializer.specs.Seats.{handles_left, IsFreeWork, IsWork, AreSeats};
+ghost use Rattle.blue_core.specs.declared.blueprint.Node as blue;
+ghost use Rattle.materializer.specs.Files.{input_of, output_of};
+ghost use Rattle.materializer.specs.Seats.{IsFreeWork, AreSeats};
+ghost use Rattle.materializer.specs.Planned.{IsSeat, ArePlanned, Fills, reads, writes, reads_in, writes_in};
 
 use crate::number::numbered;
 use blue_core::blueprint::Node;
@@ -24,6 +26,24 @@ use std::vec::IntoIter;
 use stream_io::line_reader::LineReader;
 use stream_io::outside::{Drain, Source};
 use stream_model::kind::Kind;
+
+/// What is to stand at a place, before its handle is there.
+#[derive(Drop)]
+pub enum Planned<S: Source, D: Drain> {
+    /// A source of lines.
+    Reads,
+    /// A sink of this kind, which has a file.
+    Writes(Kind),
+    /// A work that wants no handle.
+    Works(Work<S, D>),
+}
+
+/// The same, with the number of its node in the blueprint.
+#[derive(Drop)]
+pub struct Seat<S: Source, D: Drain> {
+    pub(crate) node: u32,
+    pub(crate) planned: Planned<S, D>,
+}
 
 /// The next handle of some.
 fn take_next<T: Drop>(handles: &mut IntoIter<T, Global>) -> T
@@ -112,25 +132,11 @@ fn free_work<S: Source, D: Drain>(
     })
 }
 
-/// A node at its place k: a source of lines reads the next of the sources, a sink with a file writes the next of the drains.
-#[tactic(auto, using(crate::proofs::SeatLoops::none_left_out, crate::proofs::SeatLoops::none_counted))]
-fn seat<S: Source, D: Drain>(
-    alloc: Global,
-    k: u32,
-    node: Node,
-    sources: &mut IntoIter<S, Global>,
-    drains: &mut IntoIter<D, Global>,
-) -> Result<Seated<S, D>, NoMemory>
+/// What stands at the place of node k, whose handle is not there yet.
+fn plan<S: Source, D: Drain>(alloc: Global, k: u32, node: Node) -> Result<Seat<S, D>, NoMemory>
     requires built { is_built node.kind ≡ true }
     requires sized { sizes_fit node.kind ≡ true }
-    requires source { length (option_to_list (input_of node.kind)) ≤ into_iter_len sources.old }
-    requires drain { length (option_to_list (output_of node.kind)) ≤ into_iter_len drains.old }
-    ensures node { IfOk result (λ p. p.node ≡ k) }
-    ensures work { IfOk result (λ p. IsWork k node (into_iter_items sources.old) (into_iter_items drains.old) p.work) }
-    ensures sources { into_iter_items sources.new ≡ handles_left (input_of node.kind) (into_iter_items sources.old) }
-    ensures drains { into_iter_items drains.new ≡ handles_left (output_of node.kind) (into_iter_items drains.old) }
-    ensures fewer_sources { into_iter_len sources.old ≡ into_iter_len sources.new + length (option_to_list (input_of node.kind)) }
-    ensures fewer_drains { into_iter_len drains.old ≡ into_iter_len drains.new + length (option_to_list (output_of node.kind)) }
+    ensures { IfOk result (IsSeat k node) }
 {
     let Node {
         name,
@@ -138,36 +144,73 @@ fn seat<S: Source, D: Drain>(
         decider,
     } = node;
     let _ = name;
-    let work = match kind {
-        Kind::Lines(_) => Work::Reading(LineReader::new(alloc, take_next(sources))),
-        Kind::ToLines(_) | Kind::Head(_) | Kind::Last(_) => {
-            Work::Writing(kind, Some(take_next(drains)))
-        }
-        _ => free_work(alloc, k, kind, decider)?,
+    let planned = match kind {
+        Kind::Lines(_) => Planned::Reads,
+        Kind::ToLines(_) | Kind::Head(_) | Kind::Last(_) => Planned::Writes(kind),
+        _ => Planned::Works(free_work(alloc, k, kind, decider)?),
     };
-    Ok(Seated { node: k, work })
+    Ok(Seat { node: k, planned })
 }
 
-/// The nodes in order, each at its place. In their order, each source of lines reads the next of `sources`, and each sink with
-/// a file writes the next of `drains`.
+/// The nodes in order, each at its place, whose handles are not there yet.
 pub fn seat_all<S: Source, D: Drain>(
     alloc: Global,
     nodes: Vec<Node>,
-    sources: Vec<S>,
-    drains: Vec<D>,
-) -> Result<Vec<Seated<S, D>>, NoMemory>
+) -> Result<Vec<Seat<S, D>>, NoMemory>
     requires built { list_all (λ n. is_built n.kind) nodes.items ≡ true }
     requires sized { list_all (λ n. sizes_fit n.kind) nodes.items ≡ true }
-    requires sources { vec_len sources ≡ length (inputs_of_nodes nodes.items) }
-    requires drains { vec_len drains ≡ length (outputs_of_nodes nodes.items) }
-    ensures { IfOk result (λ places. AreSeats 0 nodes.items sources.items drains.items places.items) }
+    ensures { IfOk result (λ seats. ArePlanned 0 nodes.items seats.items) }
+{
+    let mut seats = Vec::new(alloc);
+    for node in nodes {
+        let k = numbered(seats.len())?;
+        seats.push(plan(alloc, k, node)?)?;
+    }
+    Ok(seats)
+}
+
+/// The work of a seat: a source of lines reads the next of the sources, a sink with a file writes the next of the drains.
+fn fill<S: Source, D: Drain>(
+    alloc: Global,
+    seat: Seat<S, D>,
+    sources: &mut IntoIter<S, Global>,
+    drains: &mut IntoIter<D, Global>,
+) -> Seated<S, D>
+    requires source { reads seat.planned ≤ into_iter_len sources.old }
+    requires drain { writes seat.planned ≤ into_iter_len drains.old }
+    ensures fills { Fills seat (into_iter_items sources.old) (into_iter_items drains.old) result (into_iter_items sources.new) (into_iter_items drains.new) }
+    ensures fewer_sources { into_iter_len sources.old ≡ into_iter_len sources.new + reads seat.planned }
+    ensures fewer_drains { into_iter_len drains.old ≡ into_iter_len drains.new + writes seat.planned }
+{
+    let Seat { node, planned } = seat;
+    let work = match planned {
+        Planned::Reads => Work::Reading(LineReader::new(alloc, take_next(sources))),
+        Planned::Writes(kind) => Work::Writing(kind, Some(take_next(drains))),
+        Planned::Works(work) => work,
+    };
+    Seated { node, work }
+}
+
+/// The seats in order, with their handles, into an empty list that has room for them. In their order, each source of lines reads
+/// the next of `sources`, and each sink with a file writes the next of `drains`. It takes no memory.
+pub fn fill_all<S: Source, D: Drain>(
+    alloc: Global,
+    seats: Vec<Seat<S, D>>,
+    places: Vec<Seated<S, D>>,
+    sources: Vec<S>,
+    drains: Vec<D>,
+) -> Vec<Seated<S, D>>
+    requires empty { places.items ≡ [] }
+    requires room { vec_len seats ≤ vec_capacity places }
+    requires sources { vec_len sources ≡ reads_in seats.items }
+    requires drains { vec_len drains ≡ writes_in seats.items }
+    ensures { (nodes : List blue.Node) → ArePlanned 0 nodes seats.items → AreSeats 0 nodes sources.items drains.items result.items }
 {
     let mut unread = sources.into_iter();
     let mut unwritten = drains.into_iter();
-    let mut places = Vec::new(alloc);
-    for node in nodes {
-        let k = numbered(places.len())?;
-        places.push(seat(alloc, k, node, &mut unread, &mut unwritten)?)?;
+    let mut places = places;
+    for seat in seats {
+        places.push_reserved(fill(alloc, seat, &mut unread, &mut unwritten));
     }
-    Ok(places)
+    places
 }

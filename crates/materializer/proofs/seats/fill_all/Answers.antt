@@ -1,0 +1,46 @@
+-- The goals of `seats::fill_all` that the search leaves.
+use Rattle.std.proofs.Common.{◌≡◌, ◌∙◌, List, length, vec_len, ap, sym, subst, rules, arith}
+use Rattle.std.specs.Vec.Iter.{into_iter_items, into_iter_len}
+use Rattle.materializer.specs.Planned.{ArePlanned, reads_in, writes_in}
+use Rattle.materializer.specs.declared.seats.Seat.{Seat}
+use Rattle.interpreter.proofs.Tables.{none_left, len_next}
+use Rattle.materializer.proofs.SeatLoops.{reads_enough, writes_enough, reads_next, writes_next, fills_first, fills_next, fills_last}
+use Rattle.materializer.proofs.seats.fill_all.Goals as goal
+
+pub loop-seat-init : goal.loop-seat-init
+loop-seat-init g c =
+    let r = c.into_iter-seat-iterator.result in
+    let all : into_iter_items r ≡ c.args.seats.items = search rules in
+    let left : into_iter_len r ≡ length (into_iter_items r) = search rules in
+    let none : vec_len c.args.places ≡ 0 = c.args.places.ok.0 ∙ ap length c.requires.empty in
+    let many : length (into_iter_items r) ≡ vec_len c.args.seats = ap length all ∙ sym c.args.seats.ok.0 in (
+      tt,
+      tt,
+      left,
+      c.into_iter-unread.ensures.len ∙ c.requires.sources ∙ ap reads_in (sym all),
+      c.into_iter-unwritten.ensures.len ∙ c.requires.drains ∙ ap writes_in (sym all),
+      omega (arith, none, left, many, c.requires.room),
+      λ nodes planned. fills_first nodes _ _ (into_iter_items r) _ _ _ c.into_iter-unread.ensures.rest c.into_iter-unwritten.ensures.rest c.requires.empty (subst (λ (l : List (Seat _ _)). ArePlanned 0 nodes l) (sym all) planned),
+    )
+
+pub fill-requires-clause-source : goal.fill-requires-clause-source
+fill-requires-clause-source g c = reads_enough _ _ _ _ c.in-Some.ensures.steps.0 c.loop-seat.invariant.3
+
+pub fill-requires-clause-drain : goal.fill-requires-clause-drain
+fill-requires-clause-drain g c = writes_enough _ _ _ _ c.in-Some.ensures.steps.0 c.loop-seat.invariant.4
+
+pub loop-seat-preserved : goal.loop-seat-preserved
+loop-seat-preserved g c =
+    let kept = c.loop-seat.invariant in
+    let next = c.in-Some.ensures.steps in (
+      tt,
+      tt,
+      len_next _ _ _ _ _ next.0 next.1 kept.2,
+      reads_next _ _ _ _ _ next.0 kept.3 c.fill.ensures.fewer_sources,
+      writes_next _ _ _ _ _ next.0 kept.4 c.fill.ensures.fewer_drains,
+      omega (arith, kept.5, next.1, c.push_reserved.ensures.len, c.push_reserved.ensures.capacity),
+      λ nodes planned. fills_next nodes _ _ _ _ _ _ _ _ _ _ _ _ (kept.6 nodes planned) next.0 c.fill.ensures.fills c.push_reserved.ensures.items,
+    )
+
+pub returns : goal.returns
+returns g c = λ nodes planned. fills_last nodes _ _ _ _ _ _ (c.loop-seat.invariant.6 nodes planned) (none_left _ _ c.in-None.ensures.steps.0 c.loop-seat.invariant.2)

@@ -1,0 +1,18 @@
+-- The loop of `seats::fill_all`.
+use Rattle.std.proofs.Common.{◌≡◌, ◌+◌, ◌≤◌, List, length, vec_len, vec_capacity}
+use Rattle.std.specs.Vec.Iter.{into_iter_items, into_iter_len}
+use Rattle.blue_core.specs.declared.blueprint.Node.{Node}
+use Rattle.materializer.specs.Planned.{ArePlanned, reads_in, writes_in}
+use Rattle.materializer.proofs.SeatLoops.{FillsRest}
+use Rattle.materializer.proofs.seats.fill_all.Given as goal
+
+-- there are handles for the seats that are left, and room for their works
+abbrev pub invariant-loop-seat : goal.invariant-loop-seat
+invariant-loop-seat g l =
+    (goal.iterator-loop-seat g).can_next l.seat-iterator
+    × (goal.iterator-loop-seat g).is_finite l.seat-iterator
+    × (into_iter_len l.seat-iterator ≡ length (into_iter_items l.seat-iterator))
+    × (into_iter_len l.unread ≡ reads_in (into_iter_items l.seat-iterator))
+    × (into_iter_len l.unwritten ≡ writes_in (into_iter_items l.seat-iterator))
+    × (vec_len l.places + into_iter_len l.seat-iterator ≤ vec_capacity l.places)
+    × ((nodes : List Node) → ArePlanned 0 nodes l.fn.seats.items → FillsRest nodes l.fn.sources.items l.fn.drains.items (into_iter_items l.seat-iterator) (into_iter_items l.unread) (into_iter_items l.unwritten) l.places.items)

@@ -1,0 +1,96 @@
+-- The plan of a blueprint's island: what it takes of memory, before its files are opened.
+use Rattle.std.specs.Prelude.{◌≡◌, ℕ, ◌+◌, ◌≤◌, ◌<◌, ◌^◌, List, [], ◌∷◌, None, length, vec_len, vec_capacity, ⊤}
+use Rattle.stream_model.specs.declared.kind.Kind.{Kind}
+use Rattle.stream_model.specs.declared.kind.Kind.TheVariants.{Lines}
+use Rattle.stream_model.specs.Composed.{inputs_of}
+use Rattle.stream_picture.specs.View.{outputs_of}
+use Rattle.nodes.specs.Kinds.{IsFileSink}
+use Rattle.interpreter.specs.declared.parts.Place.{Place}
+use Rattle.interpreter.specs.declared.parts.Seated.{Seated}
+use Rattle.interpreter.specs.declared.parts.Work.{Work}
+use Rattle.interpreter.specs.Room.{IsRoom}
+use Rattle.blue_core.specs.declared.blueprint.Node.{Node}
+use Rattle.blue_check.specs.Wires.{blueprint_wires}
+use Rattle.materializer.specs.Built.{CanRun}
+use Rattle.materializer.specs.Files.{input_of, output_of}
+use Rattle.materializer.specs.Seats.{handles_left, IsFreeWork, IsWork, links_from}
+use Rattle.materializer.specs.declared.seats.Planned.{Planned}
+use Rattle.materializer.specs.declared.seats.Planned.TheVariants.{Reads, Writes, Works}
+use Rattle.materializer.specs.declared.seats.Seat.{Seat}
+use Rattle.materializer.specs.declared.parts.Plan.{Plan}
+
+-- the places of these nodes, of which the first is node k
+abbrev pub places_from : ℕ → List Node → List Place
+places_from k [] = []
+places_from k (n ∷ ns) = record { node = k; inputs = inputs_of n.kind; outputs = outputs_of n.kind } ∷ places_from (k + 1) ns
+
+-- a source of lines
+pub record PlansReader (n : Node) : Type 0 where
+  pub file : List ℕ
+  pub kind_is : n.kind ≡ Lines file
+
+-- a sink with a file
+pub record PlansWriter (n : Node) (shape : Kind) : Type 0 where
+  pub shape_is : shape ≡ n.kind
+  pub is_sink : IsFileSink n.kind
+
+-- a node without a file
+pub record PlansWork {S D : Type 0} (k : ℕ) (n : Node) (w : Work S D) : Type 0 where
+  pub work : IsFreeWork k n.kind n.decider w
+  pub no_input : input_of n.kind ≡ None
+  pub no_output : output_of n.kind ≡ None
+
+-- what is to stand at the place of node k
+abbrev pub IsPlanned : {S D : Type 0} → ℕ → Node → Planned S D → Type 0
+IsPlanned k n Reads = PlansReader n
+IsPlanned k n (Writes shape) = PlansWriter n shape
+IsPlanned k n (Works w) = PlansWork k n w
+
+pub record IsSeat {S D : Type 0} (k : ℕ) (n : Node) (s : Seat S D) : Type 0 where
+  pub node : s.node ≡ k
+  pub planned : IsPlanned k n s.planned
+
+-- these nodes, of which the first is node k, each at its place
+abbrev pub ArePlanned : {S D : Type 0} → ℕ → List Node → List (Seat S D) → Type 0
+ArePlanned k [] [] = ⊤
+ArePlanned k (n ∷ ns) (s ∷ ss) = IsSeat k n s × ArePlanned (k + 1) ns ss
+ArePlanned k _ _ = ⊥
+
+-- how many sources and how many drains a seat takes
+abbrev pub reads : {S D : Type 0} → Planned S D → ℕ
+reads Reads = 1
+reads (Writes shape) = 0
+reads (Works w) = 0
+
+abbrev pub writes : {S D : Type 0} → Planned S D → ℕ
+writes Reads = 0
+writes (Writes shape) = 1
+writes (Works w) = 0
+
+abbrev pub reads_in : {S D : Type 0} → List (Seat S D) → ℕ
+reads_in [] = 0
+reads_in (s ∷ ss) = reads s.planned + reads_in ss
+
+abbrev pub writes_in : {S D : Type 0} → List (Seat S D) → ℕ
+writes_in [] = 0
+writes_in (s ∷ ss) = writes s.planned + writes_in ss
+
+-- whichever node the seat is for, it stands there with its handle, if it has a file, and leaves the other handles
+pub record FillsAs {S D : Type 0} (k : ℕ) (n : Node) (sources : List S) (drains : List D) (p : Seated S D) (later_sources : List S) (later_drains : List D) : Type 0 where
+  pub node : p.node ≡ k
+  pub work : IsWork k n sources drains p.work
+  pub sources_left : later_sources ≡ handles_left (input_of n.kind) sources
+  pub drains_left : later_drains ≡ handles_left (output_of n.kind) drains
+
+abbrev pub Fills : {S D : Type 0} → Seat S D → List S → List D → Seated S D → List S → List D → Type 0
+Fills s sources drains p later_sources later_drains = (k : ℕ) (n : Node) → IsSeat k n s → FillsAs k n sources drains p later_sources later_drains
+
+-- the plan of its blueprint, which can be run
+pub record IsPlan {S D : Type 0} (p : Plan S D) : Type 0 where
+  pub runs : CanRun p.blueprint.value
+  pub seats : ArePlanned 0 p.blueprint.value.nodes.items p.seats.items
+  pub empty : p.places.items ≡ []
+  pub room_for_places : vec_len p.seats ≤ vec_capacity p.places
+  pub links_are : p.links.items ≡ links_from 0 (blueprint_wires p.blueprint.value)
+  pub few : length p.links.items < 2 ^ 32
+  pub room_is : IsRoom p.room (places_from 0 p.blueprint.value.nodes.items) p.links.items

@@ -7,7 +7,7 @@ use Rattle.stream_model.specs.Composed.{inputs_of}
 use Rattle.stream_picture.specs.View.{outputs_of}
 use Rattle.nodes.specs.Kinds.{IsFileSink, IsMaker}
 use Rattle.stage_linear.specs.States.{IsLinear}
-use Rattle.stage_state.specs.States.{IsMachine}
+use Rattle.stage_state.specs.Logics.{IsStateful}
 use Rattle.stage_in.specs.Logics.{IsFanIn}
 use Rattle.stage_out.specs.OutLogics.{IsOut}
 use Rattle.interpreter.specs.declared.parts.Place.{Place}
@@ -102,9 +102,11 @@ module _ {S D : Type 0} where
   source_in k n ss ds (work.Reading r) names rest is so count = let l = reads_lines n.kind ss r.source is.source in all_next (input_of n.kind) l.0 names ss r.source rest (ap input_of l.1) is.source so count
   source_in k n ss ds (work.Making shape) names rest is so count = all_left (input_of n.kind) names ss rest (no_input IsMaker (λ _ i. i) n.kind is.is_maker) so count
   source_in k n ss ds (work.Linear l) names rest is so count = all_left (input_of n.kind) names ss rest (no_input IsLinear (λ _ i. i) n.kind is.is_linear) so count
-  source_in k n ss ds (work.State l) names rest is so count = all_left (input_of n.kind) names ss rest (no_input IsMachine (λ _ i. i) n.kind is.is_state) so count
+  source_in k n ss ds (work.State l) names rest is so count = all_left (input_of n.kind) names ss rest (no_input IsStateful (λ _ i. i) n.kind is.is_state) so count
   source_in k n ss ds (work.FanIn l m) names rest is so count = all_left (input_of n.kind) names ss rest (no_input IsFanIn (λ _ i. i) n.kind is.is_in) so count
   source_in k n ss ds (work.FanOut l m) names rest is so count = all_left (input_of n.kind) names ss rest (no_input IsOut (λ _ i. i) n.kind is.is_out) so count
+  source_in k n ss ds (work.LaneIn u) names rest is so count = absurd is
+  source_in k n ss ds (work.LaneOut u) names rest is so count = absurd is
   source_in k n ss ds (work.Writing shape (Some d)) names rest is so count = all_left (input_of n.kind) names ss rest (no_input IsFileSink (λ _ i. i) n.kind is.is_sink) so count
   source_in k n ss ds (work.Writing shape None) names rest is so count = all_left (input_of n.kind) names ss rest (ap input_of is.is_ignore) so count
 
@@ -123,6 +125,8 @@ module _ {S D : Type 0} where
   drain_in k n ss ds (work.State l) names rest is so count = all_left (output_of n.kind) names ds rest (none_of _ (λ name e. state_no_file n.kind name is.is_state e)) so count
   drain_in k n ss ds (work.FanIn l m) names rest is so count = all_left (output_of n.kind) names ds rest (none_of _ (λ name e. fan_in_no_file n.kind name is.is_in e)) so count
   drain_in k n ss ds (work.FanOut l m) names rest is so count = all_left (output_of n.kind) names ds rest (none_of _ (λ name e. fan_out_no_file n.kind name is.is_out e)) so count
+  drain_in k n ss ds (work.LaneIn u) names rest is so count = absurd is
+  drain_in k n ss ds (work.LaneOut u) names rest is so count = absurd is
   drain_in k n ss ds (work.Writing shape (Some d)) names rest is so count = let f = sink_file n.kind is.is_sink in all_next (output_of n.kind) f.0 names ds d rest f.1.0 is.next so count
   drain_in k n ss ds (work.Writing shape None) names rest is so count = all_left (output_of n.kind) names ds rest (ap output_of is.is_ignore) so count
 

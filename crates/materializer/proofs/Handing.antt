@@ -51,6 +51,8 @@ module _ {S D : Type 0} where
   reader_at k n ss ds (work.State l) x names name is b e = absurd (subst IsStateful e is.is_state)
   reader_at k n ss ds (work.FanIn l inputs) x names name is b e = absurd (subst IsFanIn e is.is_in)
   reader_at k n ss ds (work.FanOut l outputs) x names name is b e = absurd (subst IsOut e is.is_out)
+  reader_at k n ss ds (work.LaneIn u) x names name is b e = absurd is
+  reader_at k n ss ds (work.LaneOut u) x names name is b e = absurd is
   reader_at k n ss ds (work.Writing shape (Some d)) x names name is b e = absurd (subst IsFileSink e is.is_sink)
   reader_at k n ss ds (work.Writing shape None) x names name is b e = let no : kind.Lines name ≡ kind.Ignore = sym e ∙ is.is_ignore in absurd cc
 
@@ -93,6 +95,8 @@ module _ {S D : Type 0} where
   writer_at k n ss ds (work.State l) x names name is b e = absurd (state_no_file n.kind name is.is_state e)
   writer_at k n ss ds (work.FanIn l inputs) x names name is b e = absurd (fan_in_no_file n.kind name is.is_in e)
   writer_at k n ss ds (work.FanOut l outputs) x names name is b e = absurd (fan_out_no_file n.kind name is.is_out e)
+  writer_at k n ss ds (work.LaneIn u) x names name is b e = absurd is
+  writer_at k n ss ds (work.LaneOut u) x names name is b e = absurd is
   writer_at k n ss ds (work.Writing shape (Some d)) x names name is b e = (_, (b, (refl, handed_next (output_of n.kind) ds names d name e is.next)))
   writer_at k n ss ds (work.Writing shape None) x names name is b e = let no : output_of kind.Ignore ≡ Some name = sym (ap output_of is.is_ignore) ∙ e in absurd cc
 
@@ -133,6 +137,8 @@ module _ {S D : Type 0} where
   ignorer_at k n ss ds (work.State l) x is b e = absurd (subst IsStateful e is.is_state)
   ignorer_at k n ss ds (work.FanIn l inputs) x is b e = absurd (subst IsFanIn e is.is_in)
   ignorer_at k n ss ds (work.FanOut l outputs) x is b e = absurd (subst IsOut e is.is_out)
+  ignorer_at k n ss ds (work.LaneIn u) x is b e = absurd is
+  ignorer_at k n ss ds (work.LaneOut u) x is b e = absurd is
   ignorer_at k n ss ds (work.Writing shape (Some d)) x is b e = absurd (subst IsFileSink e is.is_sink)
   ignorer_at k n ss ds (work.Writing shape None) x is b e = (_, (b, refl))
 

@@ -62,6 +62,8 @@ module _ {S D : Type 0} (sources : S → SourceState) where
   work_first k n ss ds (work.State l) x is b none = subst (λ y. FirstOf sources k (node_of n) y) (sym b) (record { is_state = is.is_state; begins = is.begins })
   work_first k n ss ds (work.FanIn l inputs) x is b none = subst (λ y. FirstOf sources k (node_of n) y) (sym b) (record { is_in = is.is_in; begins = is.begins })
   work_first k n ss ds (work.FanOut l outputs) x is b none = subst (λ y. FirstOf sources k (node_of n) y) (sym b) (record { is_out = is.is_out; begins = is.begins })
+  work_first k n ss ds (work.LaneIn u) x is b none = absurd is
+  work_first k n ss ds (work.LaneOut u) x is b none = absurd is
   work_first k n ss ds (work.Writing shape (Some d)) x is b none = subst (λ y. FirstOf sources k (node_of n) y) (sym b) (record { is_sink = is.is_sink; node = refl; writes = ap writes_of is.shape_is; count = refl; end = refl })
   work_first k n ss ds (work.Writing shape None) x is b none = subst (λ y. FirstOf sources k (node_of n) y) (sym b) (record { kind_is = is.is_ignore; node = refl; end = refl })
 

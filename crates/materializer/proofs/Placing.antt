@@ -111,6 +111,8 @@ module _ {S D : Type 0} where
   work_ports k n ss ds (work.State l) is = let p = state_ports n.kind is.is_state in (sym p.0, sym p.1)
   work_ports k n ss ds (work.FanIn l inputs) is = let p = fan_in_ports n.kind is.is_in in (is.inputs_are, sym p.1)
   work_ports k n ss ds (work.FanOut l outputs) is = let p = fan_out_ports n.kind is.is_out in (sym p.0, is.outputs_are)
+  work_ports k n ss ds (work.LaneIn u) is = absurd is
+  work_ports k n ss ds (work.LaneOut u) is = absurd is
   work_ports k n ss ds (work.Writing shape (Some d)) is = let p = file_sink_ports n.kind is.is_sink in (sym p.0, sym p.1)
   work_ports k n ss ds (work.Writing shape None) is = (sym (ap inputs_of is.is_ignore), sym (ap outputs_of is.is_ignore))
 
@@ -127,6 +129,8 @@ module _ {S D : Type 0} where
       let b = is.begins in
       let same : fan_out.outputs_of n.kind ≡ outputs = sym (is.outputs_are ∙ (fan_out_ports n.kind is.is_out).1) in
       subst (λ m. OutFresh l (unasked_ports m)) same b.fresh
+  work_unused k n ss ds (work.LaneIn u) is = absurd is
+  work_unused k n ss ds (work.LaneOut u) is = absurd is
   work_unused k n ss ds (work.Writing shape (Some d)) is = subst IsFileSink (sym is.shape_is) is.is_sink
   work_unused k n ss ds (work.Writing shape None) is = is.shape_is ∙ is.is_ignore
 

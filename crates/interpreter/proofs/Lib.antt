@@ -3,3 +3,5 @@ pub mod Islands
 pub mod Picking
 pub mod Handing
 pub mod Gathering
+pub mod Marking
+pub mod Bounding

@@ -13,12 +13,15 @@ use Rattle.fused_net.specs.Net.{Net}
 use Rattle.fused_net.specs.Laws.{Settled}
 use Rattle.fused_net.specs.Costs.{all_asks}
 
--- its nodes and wires, the numbers of its wires and of its nodes in the blueprint, the units that it used, and whether a call gave up for want
--- of memory, after which nothing is known of it
+-- its nodes and wires, the numbers of its wires and of its nodes in the blueprint, the places of the connections at which lanes come in
+-- and go out, by the numbers of their wires, the units that it used, and whether a call gave up for want of memory, after which nothing is
+-- known of it
 pub record Kept (S D : Type 0) : Type 0 where
   pub net : Net (Node S D)
   pub numbers : List ℕ
   pub places : List ℕ
+  pub ins : List ℕ
+  pub outs : List ℕ
   pub used : ℕ
   pub broken : Bool
 

@@ -22,6 +22,7 @@ use Rattle.interpreter.specs.declared.parts.Place.{Place}
 use Rattle.interpreter.specs.declared.parts.Seated.{Seated}
 use Rattle.interpreter.specs.declared.parts.Work.{Work}
 use Rattle.interpreter.specs.declared.parts.Work.TheVariants.{Reading, Making, Linear, State, FanIn, FanOut, Writing, LaneIn, LaneOut}
+use Rattle.interpreter.specs.Ways.{IsOnce}
 
 -- the ports at the ends of a link
 abbrev pub ends_of : Link → Ends
@@ -108,10 +109,11 @@ pub record IsWiring (ins outs : ℕ → ℕ) (places : ℕ) (ends : List Ends) :
   pub each_output : (n j : ℕ) → n < places → j < outs n → (w : ℕ) × ((w < length ends) × (((end_at ends w).from ≡ n) × ((end_at ends w).output ≡ j)))
   pub each_input : (n i : ℕ) → n < places → i < ins n → (w : ℕ) × ((w < length ends) × (((end_at ends w).to ≡ n) × ((end_at ends w).input ≡ i)))
 
--- What an island is made of: works that did nothing yet, and links that join all their ports.
+-- What an island is made of: works that did nothing yet, and links that join all their ports, each end of a lane in a link of its own.
 pub record AreParts {S D : Type 0} (places : List (Seated S D)) (links : List Link) : Type 0 where
   pub unused : AllUnused places
   pub wiring : IsWiring (inputs_at places) (outputs_at places) (length places) (map ends_of links)
+  pub once : IsOnce places links
   pub few : length links < 2 ^ 32
 
 -- the node of a work, with its number

@@ -8,6 +8,7 @@ use Rattle.interpreter.specs.declared.parts.Place.{Place}
 use Rattle.interpreter.specs.declared.room.Blank.{Blank}
 use Rattle.interpreter.specs.declared.room.Room.{Room}
 use Rattle.interpreter.specs.Parts.{ends_of, number_of, ins_at, outs_at, IsSized}
+use Rattle.interpreter.specs.Ways.{HasRows}
 
 -- its lists are empty, and have room for what so many nodes and wires leave
 pub record HasRoom {S D : Type 0} (room : IslandEnd S D) (nodes wires : ℕ) : Type 0 where
@@ -45,4 +46,5 @@ pub record IsRoom {S D : Type 0} (room : Room S D) (places : List Place) (links 
   pub numbers : room.numbers.items ≡ map number_of links
   pub places_are : room.places.items ≡ map (λ (p : Place). p.node) places
   pub blank : IsBlank room.blank places links
+  pub ways : HasRows room.ways links
   pub end : HasRoom room.end (length places) (length links)

@@ -1,18 +1,29 @@
 // An island of nodes that runs event by event.
-ghost use Rattle.std.specs.Prelude.{◌≡◌, ◌+◌, ◌<◌, ◌≤◌, ◌↔◌, ◌∷◌, ◌++◌, [], false, length, ℕ, IsTrue, IsOk, IfOk, IfErr, OnOk, OnErr, map, vec_len, vec_capacity};
+ghost use Rattle.std.specs.Prelude.{◌≡◌, ◌+◌, ◌<◌, ◌≤◌, ◌↔◌, ◌∷◌, ◌++◌, [], true, false, Some, length, slice_get, ℕ, IsTrue, IsOk, IfOk, IfErr, OnOk, OnErr, map, vec_len, vec_capacity};
 ghost use Rattle.fused_net.specs.Laws.{Starting, GoesOn, BreaksOff};
 ghost use Rattle.fused_net.specs.Costs.{all_asks, Uses};
-ghost use Rattle.nodes.specs.Nodes.{node_fresh, node_row, node_law, node_asking, node_moves, KeepsNode};
+ghost use Rattle.nodes.specs.Nodes.{node_fresh, node_row, node_law, node_asking, node_moves, node_gone, KeepsNode};
 ghost use Rattle.interpreter.specs.Parts.{AreParts, AllBecome, ends_of, number_of, place_of};
 ghost use Rattle.interpreter.specs.Picks.{node_number, pick_of, with_picks, picks_of};
 ghost use Rattle.interpreter.specs.Island.{Keeps, counts_of, sinks_of, readers_of, writers_of};
 ghost use Rattle.std.specs.Option.{option_map};
 ghost use Rattle.interpreter.specs.Room.{HasRoom, RoomFor, IsBlank, IsRoom};
 ghost use Rattle.interpreter.specs.Handles.{DidNotStart};
+ghost use Rattle.interpreter.specs.declared.parts.Link as wiring;
+ghost use Rattle.interpreter.specs.Ways.{comes_in, goes_out};
+ghost use Rattle.interpreter.specs.Boundary.{Enters, Leaves, EntersBy, LeavesBy, HandsOut, Drops, way_in, way_out, cell_in, cell_out, with_net};
+ghost use Rattle.boundary_calls.specs.Boundary.{IsClearAt, CameTo, GivenIs, wanted_at, moved_at, ended_at};
+ghost use Rattle.boundary_calls.specs.declared.given.Wanted.TheVariants as wanted;
+ghost use Rattle.port_core.specs.Decoding.{can_pull};
+ghost use Rattle.port_core.specs.declared.act.Act.TheVariants as act;
 
 use crate::parts::{Parts, join, seat_all};
 use crate::room::{Blank, Room};
-use elem_core::why::NoMemory;
+use crate::ways::Ways;
+use boundary_calls::calls;
+use boundary_calls::given::{Given, Wanted};
+use elem_core::elem::Elem;
+use elem_core::why::{Cause, NoMemory};
 use fused_net::engine::Engine;
 use nodes::node::{Node, NodeEnd};
 use port_core::acts::Acts;
@@ -33,6 +44,8 @@ pub struct Island<S: Source, D: Drain> {
     numbers: Vec<u32>,
     // The number in the blueprint of each of its nodes.
     places: Vec<u32>,
+    // The connections at which lanes come in and go out.
+    ways: Ways,
     used: u32,
     broken: bool,
     // The lists of its end, which are empty and have room for all of it: it is taken apart without memory.
@@ -51,7 +64,7 @@ impl<S: Source, D: Drain> Model for Island<S, D> {
 
     ghost coded = { Prim.hlevel (codes, tree_coded) };
 
-    ghost view = { λ i. record { net = i.engine; numbers = i.numbers.items; places = i.places.items; used = i.used; broken = i.broken } };
+    ghost view = { λ i. record { net = i.engine; numbers = i.numbers.items; places = i.places.items; ins = i.ways.ins.items; outs = i.ways.outs.items; used = i.used; broken = i.broken } };
 
     ghost invariant = { λ i. HasRoom i.room (length i.engine.nodes) (length i.numbers.items) × (length i.places.items ≡ length i.engine.nodes) × (i.broken ≡ false → Keeps S.state D.state i.engine i.used × (i.acts.items ≡ []) × (most_acts ≤ i.acts.room)) };
 }
@@ -95,6 +108,8 @@ impl<S: Source, D: Drain> Island<S, D> {
         ensures ends { IfOk result (λ i. i.net.ends ≡ map ends_of parts.links.items) }
         ensures numbers { IfOk result (λ i. i.numbers ≡ map number_of parts.links.items) }
         ensures places { IfOk result (λ i. i.places ≡ map node_number parts.nodes.items) }
+        ensures enters { IfOk result (λ i. (q : ℕ) (l : wiring.Link) → slice_get parts.links.items q ≡ Some l → comes_in parts.nodes.items l.from ≡ true → EntersBy i l.wire q) }
+        ensures leaves { IfOk result (λ i. (q : ℕ) (l : wiring.Link) → slice_get parts.links.items q ≡ Some l → goes_out parts.nodes.items l.to ≡ true → LeavesBy i l.wire q) }
         ensures no_memory { IfErr result (DidNotStart S.state D.state parts.nodes.items) }
     {
         let Room {
@@ -102,8 +117,10 @@ impl<S: Source, D: Drain> Island<S, D> {
             numbers,
             places,
             blank,
+            mut ways,
             end,
         } = room;
+        ways.mark_all(&parts.nodes, &parts.links);
         let mut engine = assemble(alloc, parts, blank);
         match engine.start(alloc, &mut acts) {
             Ok(()) => Ok(Island {
@@ -111,6 +128,7 @@ impl<S: Source, D: Drain> Island<S, D> {
                 acts,
                 numbers,
                 places,
+                ways,
                 used: 0,
                 broken: false,
                 room: end,
@@ -128,6 +146,8 @@ impl<S: Source, D: Drain> Island<S, D> {
         ensures on { OnOk result (GoesOn self.old.net self.new.net) }
         ensures numbers { OnOk result (self.new.numbers ≡ self.old.numbers) }
         ensures places { OnOk result (self.new.places ≡ self.old.places) }
+        ensures ways { OnOk result ((self.new.ins ≡ self.old.ins) × (self.new.outs ≡ self.old.outs)) }
+        ensures gone { OnOk result (map node_gone self.new.net.nodes ≡ map node_gone self.old.net.nodes) }
         ensures used { IfOk result (λ used. self.new.used ≡ self.old.used + used) }
         ensures uses { IfOk result (λ used. Uses self.old.net self.new.net used) }
         ensures within { IfOk result (λ used. used ≤ limit) }
@@ -154,6 +174,82 @@ impl<S: Source, D: Drain> Island<S, D> {
         ensures { IsTrue result ↔ (self.now.net.queue ≡ []) }
     {
         self.engine.is_at_rest()
+    }
+
+    /// What the stage at which the lane that is wire `wire` comes in was asked: it was cancelled, its connection lets it push, or
+    /// neither. It takes no memory.
+    pub fn wanted(&self, wire: u32) -> Wanted
+        requires { Enters self.now wire }
+        ensures { result ≡ wanted_at (cell_in self.now wire) }
+    {
+        calls::wanted(&self.engine, self.ways.ins[wire as usize])
+    }
+
+    /// Pushes an element where that lane comes in. It takes no memory and costs no unit.
+    pub fn push_in(&mut self, wire: u32, e: Elem)
+        requires whole { self.old.broken ≡ false }
+        requires enters { Enters self.old wire }
+        requires asked { wanted_at (cell_in self.old wire) ≡ wanted.Asked }
+        ensures { self.new ≡ with_net self.old (moved_at self.old.net (way_in self.old wire) (act.Push 0 e)) }
+    {
+        calls::push_in(&mut self.engine, self.ways.ins[wire as usize], e);
+    }
+
+    /// Completes what comes in there, or fails it; no change where its output is closed. It takes no memory and costs no unit.
+    pub fn end_in(&mut self, wire: u32, cause: Option<Cause>)
+        requires whole { self.old.broken ≡ false }
+        requires enters { Enters self.old wire }
+        ensures { self.new ≡ with_net self.old (ended_at self.old.net (way_in self.old wire) cause) }
+    {
+        calls::end_in(&mut self.engine, self.ways.ins[wire as usize], cause);
+    }
+
+    /// Whether the stage at which the lane that is wire `wire` goes out may ask: its connection lets it, and nothing waits to be
+    /// handed out. It takes no memory.
+    pub fn can_pull_out(&self, wire: u32) -> bool
+        requires whole { self.now.broken ≡ false }
+        requires leaves { Leaves self.now wire }
+        ensures { IsTrue result ↔ (IsTrue (can_pull (cell_out self.now wire).wire.conn) × IsClearAt self.now.net (way_out self.now wire)) }
+    {
+        calls::can_pull_out(&self.engine, self.ways.outs[wire as usize])
+    }
+
+    /// Asks there. It takes no memory and costs no unit.
+    pub fn pull_out(&mut self, wire: u32)
+        requires whole { self.old.broken ≡ false }
+        requires leaves { Leaves self.old wire }
+        requires can { IsTrue (can_pull (cell_out self.old wire).wire.conn) × IsClearAt self.old.net (way_out self.old wire) }
+        ensures { self.new ≡ with_net self.old (moved_at self.old.net (way_out self.old wire) (act.Pull 0)) }
+    {
+        calls::pull_out(&mut self.engine, self.ways.outs[wire as usize]);
+    }
+
+    /// Cancels there, without change where its input is closed, and drops what waits to be handed out. It takes no memory and
+    /// costs no unit.
+    pub fn cancel_out(&mut self, wire: u32)
+        requires whole { self.old.broken ≡ false }
+        requires leaves { Leaves self.old wire }
+        ensures { Drops self.old wire self.new }
+    {
+        calls::cancel_out(&mut self.engine, self.ways.outs[wire as usize]);
+    }
+
+    /// Hands out what came there, each element and the end once and in order. It takes no memory and costs no unit.
+    pub fn given(&mut self, wire: u32) -> Given
+        requires whole { self.old.broken ≡ false }
+        requires leaves { Leaves self.old wire }
+        ensures { GivenIs result (IsClearAt self.old.net (way_out self.old wire) × (self.new ≡ self.old)) (λ x. HandsOut self.old wire (x ∷ []) self.new) }
+    {
+        calls::given(&mut self.engine, self.ways.outs[wire as usize])
+    }
+
+    /// What came where that lane goes out: what was handed out or dropped, and then what waits. The call does nothing.
+    pub fn came_out(&self, wire: u32)
+        requires whole { self.now.broken ≡ false }
+        requires leaves { Leaves self.now wire }
+        ensures { CameTo self.now.net (way_out self.now wire) }
+    {
+        calls::came_to(&self.engine, self.ways.outs[wire as usize]);
     }
 
     /// Takes it apart: how its sinks ended, what its wires carried, what its stages chose, and its handles. It takes no memory,

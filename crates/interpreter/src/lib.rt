@@ -4,3 +4,4 @@
 pub mod island;
 pub mod parts;
 pub mod room;
+pub mod ways;

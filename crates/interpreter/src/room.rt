@@ -4,6 +4,7 @@ ghost use Rattle.interpreter.specs.Room.{IsBlank, IsRoom};
 
 use crate::island::IslandEnd;
 use crate::parts::{Link, Place, all_ends, all_numbers, all_places, blank_ports};
+use crate::ways::Ways;
 use elem_core::why::NoMemory;
 use fused_net::engine::unused_wires;
 use fused_net::net::{Ends, Ports};
@@ -32,6 +33,7 @@ pub struct Room<S: Source, D: Drain> {
     pub(crate) numbers: Vec<u32>,
     pub(crate) places: Vec<u32>,
     pub(crate) blank: Blank<S, D>,
+    pub(crate) ways: Ways,
     pub(crate) end: IslandEnd<S, D>,
 }
 
@@ -64,6 +66,7 @@ impl<S: Source, D: Drain> Room<S, D> {
         let acts = Acts::new(alloc, MOST_ACTS)?;
         let numbers = all_numbers(alloc, links)?;
         let blank = Blank::of(alloc, places, links)?;
+        let ways = Ways::of(alloc, links)?;
         let end = IslandEnd::sized(alloc, places.len(), links.len())?;
         let places = all_places(alloc, places)?;
         Ok(Room {
@@ -71,6 +74,7 @@ impl<S: Source, D: Drain> Room<S, D> {
             numbers,
             places,
             blank,
+            ways,
             end,
         })
     }

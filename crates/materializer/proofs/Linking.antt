@@ -11,7 +11,9 @@ use Rattle.stream_model.specs.Composed.{inputs_of}
 use Rattle.stream_picture.specs.View.{outputs_of}
 use Rattle.fused_net.specs.declared.net.Ends.{Ends}
 use Rattle.fused_net.specs.Net.{end_at}
+use Rattle.interpreter.specs.declared.parts.Link.{Link}
 use Rattle.interpreter.specs.declared.parts.Seated.{Seated}
+use Rattle.interpreter.specs.Ways.{IsOnce}
 use Rattle.interpreter.specs.Parts.{ends_of, inputs_at, outputs_at, IsWiring, AreParts}
 use Rattle.blue_core.specs.declared.blueprint.Node.{Node}
 use Rattle.materializer.specs.Graphs.{node_of}
@@ -59,6 +61,18 @@ at_port place port a b n (w ∷ ws) k h =
     let r = at_port place port a b (n + 1) ws k (sym (cond-false _ (Some n) (find_by place port a b (n + 1) ws) f) ∙ h) in
     record { at = suc r.at; wire = r.wire; is = r.is; number = let e : k ≡ n + 1 + r.at = r.number in omega (arith, e); place_is = r.place_is; port_is = r.port_is })
     (cases_Bool ((place w == a) && (port w == b)))
+
+-- a link has the number of its wire, so no two are of one wire
+wire_number : (i : ℕ) (ws : List Wire) (p : ℕ) (l : Link) → slice_get (links_from i ws) p ≡ Some l → l.wire ≡ i + p
+wire_number i [] p l e = absurd cc
+wire_number i (w ∷ ws) zero l e = let same : record { wire = i; from = w.from; output = w.output; to = w.to; input = w.input } ≡ l = cc in let is = ap (λ (x : Link). x.wire) same in omega (arith, is)
+wire_number i (w ∷ ws) (suc p) l e = let next = wire_number (i + 1) ws p l e in omega (arith, next)
+
+each_once : {S D : Type 0} (places : List (Seated S D)) (i : ℕ) (ws : List Wire) → IsOnce places (links_from i ws)
+each_once places i ws = record {
+  ins = λ p q l m a b c d e. let x = wire_number i ws p l a in let y = wire_number i ws q m b in omega (arith, x, y, e);
+  outs = λ p q l m a b c d e. let x = wire_number i ws p l a in let y = wire_number i ws q m b in omega (arith, x, y, e);
+}
 
 module _ {S D : Type 0} (nodes : List Node) (ws : List Wire) (cs : List Chain) (ss : List S) (ds : List D) (places : List (Seated S D))
     (j : IsJoined (record { nodes = map node_of nodes; wires = ws; chains = cs })) (a : AreSeats 0 nodes ss ds places) where
@@ -173,7 +187,7 @@ module _ {S D : Type 0} (nodes : List Node) (ws : List Wire) (cs : List Chain) (
   }
 
   pub are_parts : length ws < 2 ^ 32 → AreParts places (links_from 0 ws)
-  are_parts few = record { unused = seats_unused 0 nodes ss ds places a; wiring = wiring; few = let e : length (links_from 0 ws) ≡ length ws = links_count 0 ws in omega (arith, e, few) }
+  are_parts few = record { unused = seats_unused 0 nodes ss ds places a; wiring = wiring; once = each_once places 0 ws; few = let e : length (links_from 0 ws) ≡ length ws = links_count 0 ws in omega (arith, e, few) }
     where
       links_count : (k : ℕ) (us : List Wire) → length (links_from k us) ≡ length us
       links_count k [] = refl

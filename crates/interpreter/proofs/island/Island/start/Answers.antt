@@ -2,8 +2,10 @@
 use Rattle.std.proofs.Common.{◌≡◌, ◌∙◌, ap, length, map, sym, arith}
 use Rattle.std.proofs.lemmas.List.{length-map}
 use Rattle.interpreter.specs.Parts.{number_of, place_of}
+use Rattle.interpreter.specs.Ways.{Leads}
 use Rattle.interpreter.proofs.Islands.{keeps_new, room_as, numbers_same}
 use Rattle.interpreter.proofs.Handing.{hands_back}
+use Rattle.interpreter.proofs.Bounding.{enters_new, leaves_new}
 use Rattle.interpreter.proofs.island.Island.start.Goals as goal
 
 pub invariant_of-result : goal.invariant_of-result
@@ -24,3 +26,25 @@ returns-in-Ok-clause-places g c = c.requires.room.places_are ∙ numbers_same c.
 
 pub returns-in-Err-clause-no_memory : goal.returns-in-Err-clause-no_memory
 returns-in-Err-clause-no_memory g c = hands_back g.S.Source.state g.D.Drain.state _ _ _ _ c.assemble-engine.ensures.firsts c.start.ensures.kept c.leave.ensures.readers c.leave.ensures.writers
+
+pub returns-in-Ok-clause-enters : goal.returns-in-Ok-clause-enters
+returns-in-Ok-clause-enters g c =
+    let places = c.args.parts.nodes.items in
+    let links = c.args.parts.links.items in
+    let keeps = keeps_new _ _ c.assemble-engine.result c.start.new.self c.in-Ok.ensures.laws c.in-Ok.ensures.asks c.assemble-engine.ensures.asks in
+    let leads : Leads places links (length links) c.mark_all.new.self.ins.items c.mark_all.new.self.outs.items = rw (c.deref.ensures.value, c.deref-2.ensures.value) at c.mark_all.ensures in
+    enters_new g.S.Source.state g.D.Drain.state _ places links keeps (rw c.in-Ok.ensures.on.firsts c.assemble-engine.ensures.firsts) (c.in-Ok.ensures.on.ends ∙ c.assemble-engine.ensures.ends) leads
+
+pub returns-in-Ok-clause-leaves : goal.returns-in-Ok-clause-leaves
+returns-in-Ok-clause-leaves g c =
+    let places = c.args.parts.nodes.items in
+    let links = c.args.parts.links.items in
+    let keeps = keeps_new _ _ c.assemble-engine.result c.start.new.self c.in-Ok.ensures.laws c.in-Ok.ensures.asks c.assemble-engine.ensures.asks in
+    let leads : Leads places links (length links) c.mark_all.new.self.ins.items c.mark_all.new.self.outs.items = rw (c.deref.ensures.value, c.deref-2.ensures.value) at c.mark_all.ensures in
+    leaves_new g.S.Source.state g.D.Drain.state _ places links keeps (rw c.in-Ok.ensures.on.firsts c.assemble-engine.ensures.firsts) (c.in-Ok.ensures.on.ends ∙ c.assemble-engine.ensures.ends) leads
+
+pub leave-requires-clause-places : goal.leave-requires-clause-places
+leave-requires-clause-places g c =
+    let places : length (map place_of c.args.parts.nodes.items) ≡ length c.args.parts.nodes.items = length-map c.args.parts.nodes.items place_of in
+    let nodes : length c.start.new.self.nodes ≡ length (map place_of c.args.parts.nodes.items) = c.start.ensures.count ∙ c.assemble-engine.ensures.count ∙ c.args.parts.nodes.ok.0 ∙ sym places in
+    ap length c.deref-in-Err-2.ensures.value ∙ ap length c.requires.room.places_are ∙ length-map (map place_of c.args.parts.nodes.items) _ ∙ sym nodes

@@ -9,5 +9,6 @@ returns g c = record {
   numbers = c.in_ok-numbers.ensures;
   places_are = c.in_ok-places.ensures;
   blank = c.in_ok-blank.ensures;
+  ways = c.in_ok-ways.ensures;
   end = c.in_ok-end.ensures;
 }

@@ -1,0 +1,59 @@
+-- The boundary stages of an island, each by the number of the wire that its lane is.
+use Rattle.std.specs.Prelude.{◌≡◌, ℕ, ◌<◌, List, [], ◌∷◌, length, slice_index_or}
+use Rattle.elem_core.specs.declared.item.Item.{Item}
+use Rattle.port_core.specs.declared.act.Act.{Act}
+use Rattle.wire_core.specs.Cell.{Cell}
+use Rattle.nodes.specs.declared.node.Node.{Node}
+use Rattle.nodes.specs.Nodes.{node_gone, node_waits}
+use Rattle.fused_net.specs.Net.{Net, end_at, wire_at}
+use Rattle.fused_net.specs.Poking.{AtNode, HandsAt}
+use Rattle.boundary_calls.specs.Boundary.{EntersAt, LeavesAt, moved_at, cancelled_at}
+use Rattle.interpreter.specs.Island.{Kept}
+
+module _ {S D : Type 0} where
+  -- the place of the connection at which the lane that is wire u comes in, and of that at which it goes out
+  abbrev pub way_in : Kept S D → ℕ → ℕ
+  way_in i u = slice_index_or i.ins u 0
+
+  abbrev pub way_out : Kept S D → ℕ → ℕ
+  way_out i u = slice_index_or i.outs u 0
+
+  -- the connections there
+  abbrev pub cell_in : Kept S D → ℕ → Cell
+  cell_in i u = wire_at i.net (way_in i u)
+
+  abbrev pub cell_out : Kept S D → ℕ → Cell
+  cell_out i u = wire_at i.net (way_out i u)
+
+  -- the island has a stage at which the lane that is wire u comes in, and one at which it goes out
+  pub record Enters (i : Kept S D) (u : ℕ) : Type 0 where
+    pub row : u < length i.ins
+    pub place : way_in i u < length i.net.wires
+    pub stage : EntersAt i.net (way_in i u)
+
+  pub record Leaves (i : Kept S D) (u : ℕ) : Type 0 where
+    pub row : u < length i.outs
+    pub place : way_out i u < length i.net.wires
+    pub stage : LeavesAt i.net (way_out i u)
+
+  -- these stand at the connection of place q
+  abbrev pub EntersBy : Kept S D → ℕ → ℕ → Type 0
+  EntersBy i u q = Enters i u × (way_in i u ≡ q)
+
+  abbrev pub LeavesBy : Kept S D → ℕ → ℕ → Type 0
+  LeavesBy i u q = Leaves i u × (way_out i u ≡ q)
+
+  -- the island with another graph
+  abbrev pub with_net : Kept S D → Net (Node S D) → Kept S D
+  with_net i net = record i { net = net }
+
+  -- these items, which waited where the lane goes out, were handed out
+  pub record HandsOut (old : Kept S D) (u : ℕ) (items : List Item) (new : Kept S D) : Type 0 where
+    pub hands : HandsAt node_gone node_waits old.net (end_at old.net.ends (way_out old u)).to items new.net
+    pub rest : new ≡ with_net old new.net
+
+  -- the input there is cancelled where it is open, and what waited there is dropped
+  pub record Drops (old : Kept S D) (u : ℕ) (new : Kept S D) : Type 0 where
+    pub drops : AtNode (cancelled_at old.net (way_out old u)) (end_at old.net.ends (way_out old u)).to
+        (λ x. HandsAt node_gone node_waits (cancelled_at old.net (way_out old u)) (end_at old.net.ends (way_out old u)).to (node_waits x) new.net)
+    pub rest : new ≡ with_net old new.net

@@ -76,18 +76,25 @@ impl Stage for Entering {
         Ok(())
     }
 
+    // Nothing comes, since it has no input.
     fn on_push(
         &mut self,
         _alloc: Global,
         _port: u8,
         _e: Elem,
         _acts: &mut Acts,
-    ) -> Result<(), NoMemory> {
-        unreachable!()
+    ) -> Result<(), NoMemory>
+        ensures same { (self.new ≡ self.old) × (_acts.new ≡ _acts.old) }
+        ensures answers { IsOk result }
+    {
+        Ok(())
     }
 
-    fn on_finish(&mut self, _alloc: Global, _port: u8, _acts: &mut Acts) -> Result<(), NoMemory> {
-        unreachable!()
+    fn on_finish(&mut self, _alloc: Global, _port: u8, _acts: &mut Acts) -> Result<(), NoMemory>
+        ensures same { (self.new ≡ self.old) × (_acts.new ≡ _acts.old) }
+        ensures answers { IsOk result }
+    {
+        Ok(())
     }
 
     fn on_fail(
@@ -96,8 +103,11 @@ impl Stage for Entering {
         _port: u8,
         _cause: Cause,
         _acts: &mut Acts,
-    ) -> Result<(), NoMemory> {
-        unreachable!()
+    ) -> Result<(), NoMemory>
+        ensures same { (self.new ≡ self.old) × (_acts.new ≡ _acts.old) }
+        ensures answers { IsOk result }
+    {
+        Ok(())
     }
 
     fn on_cancel(&mut self, _alloc: Global, _port: u8, _acts: &mut Acts) -> Result<(), NoMemory>

@@ -110,8 +110,12 @@ impl Stage for Leaving {
         Ok(())
     }
 
-    fn on_pull(&mut self, _alloc: Global, _port: u8, _acts: &mut Acts) -> Result<(), NoMemory> {
-        unreachable!()
+    // Nobody asks or cancels, since it has no output.
+    fn on_pull(&mut self, _alloc: Global, _port: u8, _acts: &mut Acts) -> Result<(), NoMemory>
+        ensures same { (self.new ≡ self.old) × (_acts.new ≡ _acts.old) }
+        ensures answers { IsOk result }
+    {
+        Ok(())
     }
 
     fn on_push(
@@ -156,8 +160,11 @@ impl Stage for Leaving {
         Ok(())
     }
 
-    fn on_cancel(&mut self, _alloc: Global, _port: u8, _acts: &mut Acts) -> Result<(), NoMemory> {
-        unreachable!()
+    fn on_cancel(&mut self, _alloc: Global, _port: u8, _acts: &mut Acts) -> Result<(), NoMemory>
+        ensures same { (self.new ≡ self.old) × (_acts.new ≡ _acts.old) }
+        ensures answers { IsOk result }
+    {
+        Ok(())
     }
 
     fn hand_out(&mut self) -> Option<Item> {

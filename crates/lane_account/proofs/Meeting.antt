@@ -1,5 +1,5 @@
--- The history of a lane tells what is known of its two ends.
-use Rattle.std.proofs.Common.{◌≡◌, ◌≤◌, ℕ, Bool, true, false, cond, List, [], ◌∷◌, refl, arith}
+-- The history of a lane tells what is known of its two ends, and an input boundary what is kept of the one.
+use Rattle.std.proofs.Common.{◌≡◌, ◌≤◌, ℕ, Bool, true, false, cond, List, [], ◌∷◌, refl, sym, ap, subst, ◌∙◌, arith}
 use Rattle.elem_core.specs.declared.item.Item.{Item}
 use Rattle.elem_core.specs.declared.item.Item.TheVariants as item
 use Rattle.lane_core.specs.declared.lane_out.LaneOut.{LaneOut}
@@ -7,7 +7,16 @@ use Rattle.lane_core.specs.declared.lane_in.LaneIn.{LaneIn}
 use Rattle.lane_core.specs.Lane as lane
 use Rattle.lane_core.specs.Ends.{IsLaneHistory, in_size, sent, taken, has_cancelled}
 use Rattle.wire_core.specs.Counts.{elements}
-use Rattle.lane_account.specs.Ends.{Met, out_end, in_end}
+use Rattle.elem_core.specs.Tree.{Tree}
+use Rattle.wire_core.specs.Cell.{Cell}
+use Rattle.stream_model.specs.Outlook.{End}
+use Rattle.stage_law.specs.Held.{told}
+use Rattle.stage_law.specs.Law.{GaveAs}
+use Rattle.run_account.specs.Items.{standing}
+use Rattle.run_account.proofs.Histories.{standing_told}
+use Rattle.input_boundary.specs.declared.boundary.InputBoundary.{InputBoundary}
+use Rattle.input_boundary.specs.Boundary.{given, BoundaryKeeps}
+use Rattle.lane_account.specs.Ends.{InKeeps, Met, out_end, in_end}
 
 -- both count elements alike
 counts_same : (l : List Item) → lane.elements l ≡ elements l
@@ -29,3 +38,21 @@ are_met o i h = record {
   finds = h.finds;
   once = zero_or_one i.cancelled (has_cancelled i) i.asked_is.1;
 }
+
+pub boundary_keeps : (b : InputBoundary) (c : Cell) (l : List Tree) (e : End) → BoundaryKeeps b → c.wire.sent ≡ given b → c.wire.sent ≡ told l e → GaveAs c.wire.out e → InKeeps (in_size b.lane) c (in_end b.lane)
+boundary_keeps b c l e k is told_is as_known =
+    let same : e ≡ k.given_end = sym (standing_told l e) ∙ (ap standing (sym told_is ∙ (is ∙ k.given_is)) ∙ standing_told k.given_list k.given_end) in
+    let count : elements c.wire.sent ≡ lane.elements (given b) = ap elements is ∙ sym (counts_same (given b)) in
+    record {
+      taken_list = k.taken_list;
+      taken_end = k.taken_end;
+      pushed_list = k.given_list;
+      pushed_end = k.given_end;
+      taken_is = k.taken_is;
+      pushed_is = is ∙ k.given_is;
+      pushed_as = subst (λ (x : End). GaveAs c.wire.out x) same as_known;
+      carries = k.carries;
+      asks = let a = k.asked_for in omega (arith, a, count);
+      least = k.least;
+      calls = let a = k.calls in omega (arith, a, count);
+    }

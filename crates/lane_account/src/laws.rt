@@ -11,9 +11,12 @@ ghost use Rattle.lane_core.specs.declared.lane_in.LaneIn.{LaneIn};
 ghost use Rattle.lane_core.specs.Ends.{IsLaneHistory, in_size};
 ghost use Rattle.stream_model.specs.Outlook.{End};
 ghost use Rattle.stage_law.specs.Held.{told};
+ghost use Rattle.stage_law.specs.Law.{GaveAs};
+ghost use Rattle.input_boundary.specs.declared.boundary.InputBoundary.{InputBoundary};
+ghost use Rattle.input_boundary.specs.Boundary.{given, BoundaryKeeps};
 ghost use Rattle.run_account.specs.Items.{Brought};
 ghost use Rattle.run_account.specs.Ports.{InStands, OutStands, InRests, OutRests};
-ghost use Rattle.lane_account.specs.Ends.{LaneKeeps, Met, out_end, in_end};
+ghost use Rattle.lane_account.specs.Ends.{InKeeps, LaneKeeps, Met, out_end, in_end};
 ghost use Rattle.lane_account.specs.Quiet.{LaneQuiet};
 ghost use Rattle.lane_account.specs.Wires.{far_port, near_port};
 
@@ -52,4 +55,9 @@ pub fn a_quiet_lane_rests()
 pub fn a_lane_is_paid()
     ensures { (s : ℕ) (near far : Cell) (p q : Bool) (asked : ℕ) → IsSound near.wire p → IsSound far.wire q → (k : LaneKeeps s near far asked)
         → (spent near.wire p + spent far.wire q) + (length k.inp.taken + k.out.finds) < 6 * elements near.wire.sent + 12 }
+{}
+
+/// An input boundary is what these laws want of an input end, where the connection behind its stage carries what it handed on.
+pub fn an_input_boundary_keeps_its_end()
+    ensures { (b : InputBoundary) (c : Cell) (l : List Tree) (e : End) → BoundaryKeeps b → c.wire.sent ≡ given b → c.wire.sent ≡ told l e → GaveAs c.wire.out e → InKeeps (in_size b.lane) c (in_end b.lane) }
 {}

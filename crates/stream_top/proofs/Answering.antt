@@ -1,7 +1,7 @@
 -- From the end of a run to the answer of a call.
 use Rattle.std.proofs.Common.{◌≡◌, ◌≢◌, ℕ, zero, suc, ◌+◌, ◌<◌, ◌≤◌, Bool, true, false, List, [], ◌∷◌, ◌++◌, ◌⊎◌, inl, inr, refl, sym, ap, ◌∙◌, subst, arith, length, map, slice_get, length-take}
 use Rattle.std.specs.Prelude.{slice_index_or, IsTrue, IsSome, Option, Some, None, ◌||◌, ◌&&◌, if◌then◌else◌, nat_lt}
-use Rattle.std.specs.Option.{option_map}
+use Rattle.std.specs.Option.{option_map, option_to_list}
 use Rattle.std.specs.List.{All, Contains, list_any, list_all, filter}
 use Rattle.std.proofs.lemmas.List.{take_all, append_assoc, length-map}
 use Rattle.std.proofs.lemmas.Bool.{ltb-true, ltb-false, lt-ltb}
@@ -42,11 +42,13 @@ use Rattle.blueprint_run.specs.Drawing.{Drawn, IsSource, WasRead, IsWorldOf}
 use Rattle.blueprint_run.specs.Stands.{Stand, sink_places, is_write_fault, is_unended, is_failed}
 use Rattle.blueprint_run.specs.Units.{Pays}
 use Rattle.blueprint_run.specs.Running.{SinkLeaves, LeavesFiles, WritesOf, SomeWriteRose, Runs, BreaksFiles, Wants}
+use Rattle.blueprint_run.specs.Tracing.{written_files, IsApart, HoldsTrace, BreaksTrace, Traces}
 use Rattle.blueprint_run.specs.declared.run.Ran.{Ran}
 use Rattle.run_files.proofs.Counts.{grew_same, quiet_two}
 use Rattle.blueprint_run.proofs.Counts.{grew_behind}
 use Rattle.blueprint_run.proofs.Places.{contains_at, filtered_at, place_within}
 use Rattle.blueprint_run.proofs.Apart.{inputs_untaken, outputs_untaken}
+use Rattle.blueprint_run.proofs.Traces.{listed, in_list}
 use Rattle.run_report.specs.Answer.{Answer}
 use Rattle.run_report.specs.declared.outcome.SinkEnd.{SinkEnd}
 use Rattle.run_report.specs.declared.outcome.Status.{Status}
@@ -54,7 +56,7 @@ use Rattle.run_report.specs.declared.outcome.Status.TheVariants as status
 use Rattle.stream_top.specs.AfterRun.{AfterRun, status_after, ends_of, name_of, told_end, told_ends, is_ended, all_ended, some_failed, some_unended, some_fault, is_stalled, is_over}
 use Rattle.stream_top.specs.Asked.{Asked}
 use Rattle.stream_top.specs.Text.{text_limit, text_of_file, ReadsFile}
-use Rattle.stream_top.specs.Outcome.{SaysFile, SaysFit, SaysBuilt, Blank, RanNothing, RanTo, FallsShort, SinksWrote, GaveUp, LacksInput, LacksOutput, IsAbsent, EndedRun, EndedBefore, Told, Causes, CausesBefore, QuietButAll, QuietAmong, RunCauses, SinksOf, MissesFile}
+use Rattle.stream_top.specs.Outcome.{taken_files, SaysFile, SaysFit, SaysBuilt, Blank, RanNothing, RanTo, FallsShort, SinksWrote, SomeCountRose, SomeWriteFailed, GaveUp, LacksInput, LacksOutput, IsAbsent, EndedRun, EndedBefore, Told, Causes, CausesBefore, QuietButAll, QuietAmong, RunCauses, SinksOf, MissesFile}
 use Rattle.stream_top.specs.Texts.{NotRun, EndedFit, NotFit, EndedParsed, NotSaid, EndedText, AllQuiet, CausesQuiet, CausesFit, CausesText}
 use Rattle.stream_top.proofs.Quiets.{tells_before, files_two, most_later}
 
@@ -195,7 +197,7 @@ must_end state.Unended o held old new goes tells none writes calm = absurd cc
 must_end state.WriteFault o held old new goes tells none writes calm = absurd (calm writes)
 
 -- what holds of a run where no event was left holds where that is told less often
-module _ (old new : FolderState) (b : Blueprint) (stands : List Stand) (picks : List Pick) (wires : List WireCount) (less rest : Bool) (more : IsTrue less → IsTrue rest) where
+module _ (old new : FolderState) (b : Blueprint) (trace : Option (List ℕ)) (stands : List Stand) (picks : List Pick) (wires : List WireCount) (less rest : Bool) (more : IsTrue less → IsTrue rest) where
   sink_less : (d : Drawn) (k : ℕ) (n : Node) (file : List ℕ) (count : ℕ) (end : EndState) → SinkLeaves new b d wires rest k n file count end → SinkLeaves new b d wires less k n file count end
   sink_less d k n file count end s = record {
     held = s.held;
@@ -206,7 +208,7 @@ module _ (old new : FolderState) (b : Blueprint) (stands : List Stand) (picks : 
     rests = λ shape h. s.rests shape (more h);
   }
 
-  abbrev leaves_less : LeavesFiles old new b stands picks wires rest → LeavesFiles old new b stands picks wires less
+  abbrev leaves_less : LeavesFiles old new b trace stands picks wires rest → LeavesFiles old new b trace stands picks wires less
   leaves_less l = record {
     drawn = l.drawn;
     chose = l.chose;
@@ -227,7 +229,40 @@ module _ (old new : FolderState) (b : Blueprint) (stands : List Stand) (picks : 
 
 -- ---- the end of a run
 
-module _ (b : Blueprint) (ran : Ran) (turns : ℕ) (a : Answer) (old new : FolderState) (after : AfterRun (sinks_of_nodes b.nodes.items) ran a) (runs : Runs old new b turns ran) where
+-- the files of the sinks, and that of the trace, are those that are written
+contains_front : (xs ys : List (List ℕ)) (n : List ℕ) (k : ℕ) → k < length xs → slice_index_or xs k n ≡ n → Contains (xs ++ ys) n
+contains_front [] ys n k h e = absurd (omega (arith, h))
+contains_front (x ∷ xs) ys n zero h e = (0, omega arith, e)
+contains_front (x ∷ xs) ys n (suc k) h e = let later = contains_front xs ys n k (omega (arith, h)) e in (suc later.0, omega (arith, later.1), later.2)
+
+contains_back : (xs ys : List (List ℕ)) (n : List ℕ) → Contains ys n → Contains (xs ++ ys) n
+contains_back [] ys n c = c
+contains_back (x ∷ xs) ys n c = let later = contains_back xs ys n c in (suc later.0, omega (arith, later.1), later.2)
+
+sink_written : (b : Blueprint) (trace : Option (List ℕ)) (n : List ℕ) → Contains (outputs_of_nodes b.nodes.items) n → Contains (written_files b trace) n
+sink_written b trace n c = contains_front (outputs_of_nodes b.nodes.items) (option_to_list trace) n c.0 c.1 c.2
+
+trace_written : (b : Blueprint) (trace : Option (List ℕ)) (n : List ℕ) → trace ≡ Some n → Contains (written_files b trace) n
+trace_written b trace n e = subst (λ (o : Option (List ℕ)). Contains (written_files b o) n) (sym e) (contains_back (outputs_of_nodes b.nodes.items) (n ∷ []) n (in_list n))
+
+-- a count of failed writes of no file that is written stays
+pub other_counts : (b : Blueprint) (trace : Option (List ℕ)) (old new : List ℕ → ℕ) → ((n : List ℕ) → (Contains (outputs_of_nodes b.nodes.items) n → ⊥) → trace ≢ Some n → Grew (old n) 0 (new n)) → QuietButAll (written_files b trace) old new
+other_counts b trace old new quiet n never = quiet n (λ c. never (sink_written b trace n c)) (λ e. never (trace_written b trace n e))
+
+-- a trace that was not written whole raised the count of its file
+trace_rose : (old new : FolderState) (b : Blueprint) (trace : Option (List ℕ)) (picks : List Pick) → Traces old new b trace picks true → SomeCountRose old new b trace
+trace_rose old new b None picks h = absurd h
+trace_rose old new b (Some t) picks h = record { file = t; written = trace_written b (Some t) t refl; rose = h.rose }
+
+trace_wanted : (old new : FolderState) (b : Blueprint) (trace : Option (List ℕ)) (picks : List Pick) → Traces old new b trace picks true → IsSome trace
+trace_wanted old new b None picks h = absurd h
+trace_wanted old new b (Some t) picks h = refl
+
+or_false : (a : Bool) → a || false ≡ true → a ≡ true
+or_false true e = refl
+or_false false e = absurd cc
+
+module _ (b : Blueprint) (trace : Option (List ℕ)) (ran : Ran) (turns : ℕ) (a : Answer) (old new : FolderState) (after : AfterRun (sinks_of_nodes b.nodes.items) ran a) (runs : Runs old new b trace turns ran) where
   abbrev stands : List Stand
   stands = ran.sinks.items
 
@@ -243,11 +278,42 @@ module _ (b : Blueprint) (ran : Ran) (turns : ℕ) (a : Answer) (old new : Folde
   failed_told : some_failed a.sinks ≡ list_any (λ (s : Stand). is_failed s.2) stands
   failed_told = ap some_failed told ∙ any_told is_failed b.nodes.items stands
 
-  some_rose : list_any (λ (s : Stand). is_write_fault s.2) stands ≡ true → SomeWriteRose old new b
-  some_rose e = let at = fault_at stands e in runs.faults at.0 at.1.0 at.1.1.0 at.1.1.1
+  abbrev sink_fault : Bool
+  sink_fault = list_any (λ (s : Stand). is_write_fault s.2) stands
 
-  no_rise : list_any (λ (s : Stand). is_write_fault s.2) stands ≡ false → Quiet old.wfaults new.wfaults
-  no_rise e = runs.calm (λ i s at. no_fault_at stands i s e at)
+  abbrev fault : Bool
+  fault = sink_fault || ran.trace_failed
+
+  -- what became of the trace, by the moves that are answered
+  traced : (how : Bool) → ran.trace_failed ≡ how → Traces old new b trace a.picks how
+  traced how e = subst (λ (p : List Pick). Traces old new b trace p how) (sym after.picks) (subst (Traces old new b trace (map pick_of ran.picks.items)) e runs.traces)
+
+  trace_whole : fault ≡ false → Traces old new b trace a.picks false
+  trace_whole e = traced false (or_right sink_fault ran.trace_failed e)
+
+  sink_rose : sink_fault ≡ true → SomeCountRose old new b trace
+  sink_rose e =
+      let at = fault_at stands e in
+      let rose = runs.faults at.0 at.1.0 at.1.1.0 at.1.1.1 in
+      record { file = rose.file; written = sink_written b trace rose.file rose.output; rose = rose.rose }
+
+  some_rose : (how : Bool) → ran.trace_failed ≡ how → sink_fault || how ≡ true → SomeCountRose old new b trace
+  some_rose true is e = trace_rose old new b trace a.picks (traced true is)
+  some_rose false is e = sink_rose (or_false sink_fault e)
+
+  some_failure : (how : Bool) → ran.trace_failed ≡ how → sink_fault || how ≡ true → SomeWriteFailed old new b trace a
+  some_failure true is e = inr (traced true is)
+  some_failure false is e = inl (fault_told ∙ or_false sink_fault e, traced false is)
+
+  fault_sinks : (how : Bool) → ran.trace_failed ≡ how → sink_fault || how ≡ true → (some_fault a.sinks ≡ true) ⊎ IsSome trace
+  fault_sinks true is e = inr (trace_wanted old new b trace a.picks (traced true is))
+  fault_sinks false is e = inl (fault_told ∙ or_false sink_fault e)
+
+  no_sink_fault : fault ≡ false → sink_fault ≡ false
+  no_sink_fault e = or_left sink_fault ran.trace_failed e
+
+  no_rise : fault ≡ false → Quiet old.wfaults new.wfaults
+  no_rise e = runs.calm (λ i s at. no_fault_at stands i s (no_sink_fault e) at) (or_right sink_fault ran.trace_failed e)
 
   spent : ran.at_rest ≡ false → a.used ≡ turns
   spent h = after.used ∙ runs.spent h
@@ -255,7 +321,7 @@ module _ (b : Blueprint) (ran : Ran) (turns : ℕ) (a : Answer) (old new : Folde
   -- no event was left where the answer tells so
   over_rests : IsTrue (is_over a turns) → IsTrue ran.at_rest
   over_rests h = elim (or_either (is_stalled a.status) (nat_lt a.used turns) h) [
-    | inl e ↦ (stalled_rests (list_any (λ (s : Stand). is_write_fault s.2) stands) (list_any (λ (s : Stand). is_unended s.2) stands) (list_any (λ (s : Stand). is_failed s.2) stands) ran.at_rest (ap is_stalled (sym after.status) ∙ e))
+    | inl e ↦ (stalled_rests fault (list_any (λ (s : Stand). is_unended s.2) stands) (list_any (λ (s : Stand). is_failed s.2) stands) ran.at_rest (ap is_stalled (sym after.status) ∙ e))
     | inr e ↦ (less_rests ran.at_rest a.used turns (ltb-true a.used turns e) spent)
   ]
 
@@ -276,9 +342,9 @@ module _ (b : Blueprint) (ran : Ran) (turns : ℕ) (a : Answer) (old new : Folde
       omega (arith, wired, most)
 
   module _ (tells : IsTrue old.tells) where
-    leaves_at : LeavesFiles old new b stands a.picks a.wires ran.at_rest
-    leaves_at = subst (λ (p : List Pick). LeavesFiles old new b stands p a.wires ran.at_rest) (sym after.picks)
-        (subst (λ (w : List WireCount). LeavesFiles old new b stands (map pick_of ran.picks.items) w ran.at_rest) (sym after.wires) (runs.leaves tells))
+    leaves_at : LeavesFiles old new b trace stands a.picks a.wires ran.at_rest
+    leaves_at = subst (λ (p : List Pick). LeavesFiles old new b trace stands p a.wires ran.at_rest) (sym after.picks)
+        (subst (λ (w : List WireCount). LeavesFiles old new b trace stands (map pick_of ran.picks.items) w ran.at_rest) (sym after.wires) (runs.leaves tells))
 
     below_need : 1 ≤ length stands → (w : World) → IsWorldOf b.nodes.items leaves_at.drawn w → a.used < need (graph_of b) (composed (graph_of b) w)
     below_need some w is =
@@ -302,13 +368,13 @@ module _ (b : Blueprint) (ran : Ran) (turns : ℕ) (a : Answer) (old new : Folde
         let l = leaves_at.sink i s n file at here shape in
         must_end s.2 (sink_outlook (graph_of b) w s.0 (node_of n)) l.held (old.wfaults file) (new.wfaults file) (no_unended_at stands i s (leaves_at.ending tree rest) at) (l.tells w is) fails (runs.writes i s n file at here shape) calm
 
-    abbrev ran_to : RanTo old new b turns a
+    abbrev ran_to : RanTo old new b trace turns a
     ran_to = record {
       stands = stands;
       stands_are = runs.sinks_are;
       sinks = told;
       picks_are = picks_are;
-      leaves = leaves_less old new b stands a.picks a.wires (is_over a turns) ran.at_rest over_rests leaves_at;
+      leaves = leaves_less old new b trace stands a.picks a.wires (is_over a turns) ran.at_rest over_rests leaves_at;
       writes = runs.writes;
       within = subst (λ n. n ≤ turns) (sym after.used) runs.within;
       pays = pays;
@@ -328,48 +394,48 @@ module _ (b : Blueprint) (ran : Ran) (turns : ℕ) (a : Answer) (old new : Folde
           need = λ w is. subst (λ (u : ℕ). u < need (graph_of b) (composed (graph_of b) w)) used (below_need some w is);
         }
 
-  told_by : (f u d rest : Bool) → list_any (λ (s : Stand). is_write_fault s.2) stands ≡ f → list_any (λ (s : Stand). is_unended s.2) stands ≡ u → list_any (λ (s : Stand). is_failed s.2) stands ≡ d → ran.at_rest ≡ rest → IsTrue old.tells
-      → EndedRun (if f then status.WriteFault else (if u then (if rest then status.Stalled else status.OutOfTurns) else (if d then status.StreamFailed else status.Done))) a b turns old new
-  told_by true u d rest p q r s tells = (ran_to tells, fault_told ∙ p, some_rose p)
-  told_by false true d true p q r s tells = (ran_to tells, (λ tree. not_both_bools (some_unended a.sinks) (unended_told ∙ q) (unended_told ∙ (leaves_at tells).ending tree s)), fault_told ∙ p, unended_told ∙ q)
-  told_by false true d false p q r s tells = (ran_to tells, short tells q s, fault_told ∙ p, unended_told ∙ q)
-  told_by false false true rest p q r s tells = (ran_to tells, fault_told ∙ p, unended_told ∙ q, failed_told ∙ r)
-  told_by false false false rest p q r s tells = (ran_to tells, all_done a.sinks (fault_told ∙ p) (unended_told ∙ q) (failed_told ∙ r))
+  told_by : (f u d rest : Bool) → fault ≡ f → list_any (λ (s : Stand). is_unended s.2) stands ≡ u → list_any (λ (s : Stand). is_failed s.2) stands ≡ d → ran.at_rest ≡ rest → IsTrue old.tells
+      → EndedRun (if f then status.WriteFault else (if u then (if rest then status.Stalled else status.OutOfTurns) else (if d then status.StreamFailed else status.Done))) a b trace turns old new
+  told_by true u d rest p q r s tells = (ran_to tells, some_failure ran.trace_failed refl p, some_rose ran.trace_failed refl p)
+  told_by false true d true p q r s tells = (ran_to tells, trace_whole p, (λ tree. not_both_bools (some_unended a.sinks) (unended_told ∙ q) (unended_told ∙ (leaves_at tells).ending tree s)), fault_told ∙ no_sink_fault p, unended_told ∙ q)
+  told_by false true d false p q r s tells = (ran_to tells, trace_whole p, short tells q s, fault_told ∙ no_sink_fault p, unended_told ∙ q)
+  told_by false false true rest p q r s tells = (ran_to tells, trace_whole p, fault_told ∙ no_sink_fault p, unended_told ∙ q, failed_told ∙ r)
+  told_by false false false rest p q r s tells = (ran_to tells, trace_whole p, all_done a.sinks (fault_told ∙ no_sink_fault p) (unended_told ∙ q) (failed_told ∙ r))
 
   -- what a run answers, where the folder tells its files
-  pub run_told : IsTrue old.tells → EndedRun a.status a b turns old new
-  run_told tells = subst (λ x. EndedRun x a b turns old new) (sym after.status) (told_by (list_any (λ (s : Stand). is_write_fault s.2) stands) (list_any (λ (s : Stand). is_unended s.2) stands) (list_any (λ (s : Stand). is_failed s.2) stands) ran.at_rest refl refl refl refl tells)
+  pub run_told : IsTrue old.tells → EndedRun a.status a b trace turns old new
+  run_told tells = subst (λ x. EndedRun x a b trace turns old new) (sym after.status) (told_by fault (list_any (λ (s : Stand). is_unended s.2) stands) (list_any (λ (s : Stand). is_failed s.2) stands) ran.at_rest refl refl refl refl tells)
 
   wrote : SinksWrote old new b a
   wrote = record { stands = stands; stands_are = runs.sinks_are; sinks = told; picks_are = picks_are; writes = runs.writes; carries = carries }
 
-  causes_by : (f u d rest : Bool) → list_any (λ (s : Stand). is_write_fault s.2) stands ≡ f → RunCauses (if f then status.WriteFault else (if u then (if rest then status.Stalled else status.OutOfTurns) else (if d then status.StreamFailed else status.Done))) a b old new
-  causes_by true u d rest p = (runs.refusals, runs.reads, some_rose p, runs.other_writes, wrote)
+  causes_by : (f u d rest : Bool) → fault ≡ f → RunCauses (if f then status.WriteFault else (if u then (if rest then status.Stalled else status.OutOfTurns) else (if d then status.StreamFailed else status.Done))) a b trace old new
+  causes_by true u d rest p = (runs.refusals, runs.reads, some_rose ran.trace_failed refl p, other_counts b trace old.wfaults new.wfaults runs.other_writes, wrote)
   causes_by false true d true p = (runs.refusals, runs.reads, no_rise p, wrote)
   causes_by false true d false p = (runs.refusals, runs.reads, no_rise p, wrote)
   causes_by false false true rest p = (runs.refusals, runs.reads, no_rise p, wrote)
   causes_by false false false rest p = (runs.refusals, runs.reads, no_rise p, wrote)
 
   -- which counts a run raised
-  pub run_causes : RunCauses a.status a b old new
-  run_causes = subst (λ x. RunCauses x a b old new) (sym after.status) (causes_by (list_any (λ (s : Stand). is_write_fault s.2) stands) (list_any (λ (s : Stand). is_unended s.2) stands) (list_any (λ (s : Stand). is_failed s.2) stands) ran.at_rest refl)
+  pub run_causes : RunCauses a.status a b trace old new
+  run_causes = subst (λ x. RunCauses x a b trace old new) (sym after.status) (causes_by fault (list_any (λ (s : Stand). is_unended s.2) stands) (list_any (λ (s : Stand). is_failed s.2) stands) ran.at_rest refl)
 
-  sinks_by : (f u d rest : Bool) → list_any (λ (s : Stand). is_write_fault s.2) stands ≡ f → list_any (λ (s : Stand). is_unended s.2) stands ≡ u → list_any (λ (s : Stand). is_failed s.2) stands ≡ d
-      → SinksOf (if f then status.WriteFault else (if u then (if rest then status.Stalled else status.OutOfTurns) else (if d then status.StreamFailed else status.Done))) a
-  sinks_by true u d rest p q r = fault_told ∙ p
-  sinks_by false true d true p q r = (fault_told ∙ p, unended_told ∙ q)
-  sinks_by false true d false p q r = (fault_told ∙ p, unended_told ∙ q)
-  sinks_by false false true rest p q r = (fault_told ∙ p, unended_told ∙ q, failed_told ∙ r)
-  sinks_by false false false rest p q r = all_done a.sinks (fault_told ∙ p) (unended_told ∙ q) (failed_told ∙ r)
+  sinks_by : (f u d rest : Bool) → fault ≡ f → list_any (λ (s : Stand). is_unended s.2) stands ≡ u → list_any (λ (s : Stand). is_failed s.2) stands ≡ d
+      → SinksOf (if f then status.WriteFault else (if u then (if rest then status.Stalled else status.OutOfTurns) else (if d then status.StreamFailed else status.Done))) a trace
+  sinks_by true u d rest p q r = fault_sinks ran.trace_failed refl p
+  sinks_by false true d true p q r = (fault_told ∙ no_sink_fault p, unended_told ∙ q)
+  sinks_by false true d false p q r = (fault_told ∙ no_sink_fault p, unended_told ∙ q)
+  sinks_by false false true rest p q r = (fault_told ∙ no_sink_fault p, unended_told ∙ q, failed_told ∙ r)
+  sinks_by false false false rest p q r = all_done a.sinks (fault_told ∙ no_sink_fault p) (unended_told ∙ q) (failed_told ∙ r)
 
   -- how the sinks stand by the status
-  pub run_sinks : SinksOf a.status a
-  run_sinks = subst (λ x. SinksOf x a) (sym after.status) (sinks_by (list_any (λ (s : Stand). is_write_fault s.2) stands) (list_any (λ (s : Stand). is_unended s.2) stands) (list_any (λ (s : Stand). is_failed s.2) stands) ran.at_rest refl refl refl)
+  pub run_sinks : SinksOf a.status a trace
+  run_sinks = subst (λ x. SinksOf x a trace) (sym after.status) (sinks_by fault (list_any (λ (s : Stand). is_unended s.2) stands) (list_any (λ (s : Stand). is_failed s.2) stands) ran.at_rest refl refl refl)
 
 -- ---- files that were not opened
 
-pub missing_input : (old new : FolderState) (b : Blueprint) (n : List ℕ) (turns : ℕ) (a : Answer) → MissesInput old new (inputs_of_nodes b.nodes.items) n → a.status ≡ status.Missing n → Blank a → IsTrue old.tells → EndedRun a.status a b turns old new
-missing_input old new b n turns a h is blank tells = subst (λ x. EndedRun x a b turns old new) (sym is) (inl (record {
+pub missing_input : (old new : FolderState) (b : Blueprint) (trace : Option (List ℕ)) (n : List ℕ) (turns : ℕ) (a : Answer) → MissesInput old new (inputs_of_nodes b.nodes.items) n → a.status ≡ status.Missing n → Blank a → IsTrue old.tells → EndedRun a.status a b trace turns old new
+missing_input old new b trace n turns a h is blank tells = subst (λ x. EndedRun x a b trace turns old new) (sym is) (inl (record {
   before = h.before;
   after = h.after;
   place = h.place;
@@ -378,8 +444,8 @@ missing_input old new b n turns a h is blank tells = subst (λ x. EndedRun x a b
   nothing = record { files = h.files; blank = blank };
 }))
 
-pub missing_output : (old new : FolderState) (b : Blueprint) (n : List ℕ) (turns : ℕ) (a : Answer) → RefusesOutput old new (inputs_of_nodes b.nodes.items) (outputs_of_nodes b.nodes.items) n → a.status ≡ status.Missing n → Blank a → IsTrue old.tells → EndedRun a.status a b turns old new
-missing_output old new b n turns a h is blank tells = subst (λ x. EndedRun x a b turns old new) (sym is) (inr (record {
+pub missing_output : (old new : FolderState) (b : Blueprint) (trace : Option (List ℕ)) (n : List ℕ) (turns : ℕ) (a : Answer) → RefusesOutput old new (inputs_of_nodes b.nodes.items) (written_files b trace) n → a.status ≡ status.Missing n → Blank a → IsTrue old.tells → EndedRun a.status a b trace turns old new
+missing_output old new b trace n turns a h is blank tells = subst (λ x. EndedRun x a b trace turns old new) (sym is) (inr (record {
   before = h.before;
   after = h.after;
   place = h.place;
@@ -389,17 +455,17 @@ missing_output old new b n turns a h is blank tells = subst (λ x. EndedRun x a 
   blank = blank;
 }))
 
-pub wanted : (old new : FolderState) (b : Blueprint) (turns : ℕ) (a : Answer) → Wants old new b → a.status ≡ status.NoMemory → Blank a → IsTrue old.tells → EndedRun a.status a b turns old new
-wanted old new b turns a (inl h) is blank tells = subst (λ x. EndedRun x a b turns old new) (sym is) (blank, inl (record { before = h.before; after = h.after; place = h.place; files = h.files }))
-wanted old new b turns a (inr h) is blank tells = subst (λ x. EndedRun x a b turns old new) (sym is) (blank, inr (h.leaves tells))
+pub wanted : (old new : FolderState) (b : Blueprint) (trace : Option (List ℕ)) (turns : ℕ) (a : Answer) → Wants old new b trace → a.status ≡ status.NoMemory → Blank a → IsTrue old.tells → EndedRun a.status a b trace turns old new
+wanted old new b trace turns a (inl h) is blank tells = subst (λ x. EndedRun x a b trace turns old new) (sym is) (blank, inl (record { before = h.before; after = h.after; place = h.place; files = h.files }))
+wanted old new b trace turns a (inr h) is blank tells = subst (λ x. EndedRun x a b trace turns old new) (sym is) (blank, inr (h.leaves tells))
 
-pub wanted_tells : (old new : FolderState) (b : Blueprint) → Wants old new b → IsTrue new.tells → IsTrue old.tells
-wanted_tells old new b (inl h) = h.files.told
-wanted_tells old new b (inr h) = h.told
+pub wanted_tells : (old new : FolderState) (b : Blueprint) (trace : Option (List ℕ)) → Wants old new b trace → IsTrue new.tells → IsTrue old.tells
+wanted_tells old new b trace (inl h) = h.files.told
+wanted_tells old new b trace (inr h) = h.told
 
-pub wanted_draws : (old new : FolderState) (b : Blueprint) → Wants old new b → QuietButAll (inputs_of_nodes b.nodes.items) old.read new.read
-wanted_draws old new b (inl h) = λ n never. h.read n
-wanted_draws old new b (inr h) = h.other_draws
+pub wanted_draws : (old new : FolderState) (b : Blueprint) (trace : Option (List ℕ)) → Wants old new b trace → QuietButAll (inputs_of_nodes b.nodes.items) old.read new.read
+wanted_draws old new b trace (inl h) = λ n never. h.read n
+wanted_draws old new b trace (inr h) = h.other_draws
 
 -- a name at its place among others
 at_middle : (before after : List (List ℕ)) (n : List ℕ) → (i : ℕ) × (slice_get (before ++ n ∷ after) i ≡ Some n)
@@ -409,13 +475,13 @@ at_middle (x ∷ xs) after n = let h = at_middle xs after n in (suc h.0, h.1)
 in_place : (names before after : List (List ℕ)) (n : List ℕ) → names ≡ before ++ n ∷ after → Contains names n
 in_place names before after n e = let at = at_middle before after n in contains_at names at.0 n (ap (λ (l : List (List ℕ)). slice_get l at.0) e ∙ at.1)
 
-pub missing_causes : (old new : FolderState) (b : Blueprint) (n : List ℕ) (s : Status) (a : Answer) → (MissesInput old new (inputs_of_nodes b.nodes.items) n) ⊎ (RefusesOutput old new (inputs_of_nodes b.nodes.items) (outputs_of_nodes b.nodes.items) n) → s ≡ status.Missing n → RunCauses s a b old new
-missing_causes old new b n s a (inl h) is = subst (λ x. RunCauses x a b old new) (sym is) (inl (in_place (inputs_of_nodes b.nodes.items) h.before h.after n h.place, h.why), h.refusals, h.rfaults, h.wfaults)
-missing_causes old new b n s a (inr h) is = subst (λ x. RunCauses x a b old new) (sym is) (inr (in_place (outputs_of_nodes b.nodes.items) h.before h.after n h.place, h.rose), h.refusals, h.rfaults, h.wfaults)
+pub missing_causes : (old new : FolderState) (b : Blueprint) (trace : Option (List ℕ)) (n : List ℕ) (s : Status) (a : Answer) → (MissesInput old new (inputs_of_nodes b.nodes.items) n) ⊎ (RefusesOutput old new (inputs_of_nodes b.nodes.items) (written_files b trace) n) → s ≡ status.Missing n → RunCauses s a b trace old new
+missing_causes old new b trace n s a (inl h) is = subst (λ x. RunCauses x a b trace old new) (sym is) (inl (in_place (inputs_of_nodes b.nodes.items) h.before h.after n h.place, h.why), h.refusals, h.rfaults, h.wfaults)
+missing_causes old new b trace n s a (inr h) is = subst (λ x. RunCauses x a b trace old new) (sym is) (inr (in_place (written_files b trace) h.before h.after n h.place, h.rose), h.refusals, h.rfaults, h.wfaults)
 
-pub wanted_causes : (old new : FolderState) (b : Blueprint) (s : Status) (a : Answer) → Wants old new b → s ≡ status.NoMemory → RunCauses s a b old new
-wanted_causes old new b s a (inl h) is = subst (λ x. RunCauses x a b old new) (sym is) (h.refusals, (λ n never. h.rfaults n), (λ n never. h.wfaults n))
-wanted_causes old new b s a (inr h) is = subst (λ x. RunCauses x a b old new) (sym is) (h.refusals, h.reads, h.other_writes)
+pub wanted_causes : (old new : FolderState) (b : Blueprint) (trace : Option (List ℕ)) (s : Status) (a : Answer) → Wants old new b trace → s ≡ status.NoMemory → RunCauses s a b trace old new
+wanted_causes old new b trace s a (inl h) is = subst (λ x. RunCauses x a b trace old new) (sym is) (h.refusals, (λ n never. h.rfaults n), (λ n never. h.wfaults n))
+wanted_causes old new b trace s a (inr h) is = subst (λ x. RunCauses x a b trace old new) (sym is) (h.refusals, h.reads, h.other_writes)
 
 -- ---- the text of the blueprint
 
@@ -498,17 +564,27 @@ writes_later state.WriteFault a b c p q = rose_later a b c p q
 quiet_all_later : (names : List (List ℕ)) (f g h : List ℕ → ℕ) → Quiet f g → QuietButAll names g h → QuietButAll names f h
 quiet_all_later names f g h p q n never = grew_behind (f n) (g n) (h n) 0 (p n) (q n never)
 
-some_rose_later : (old mid new : FolderState) (b : Blueprint) → Quiet old.wfaults mid.wfaults → SomeWriteRose mid new b → SomeWriteRose old new b
-some_rose_later old mid new b q s = record { file = s.file; output = s.output; rose = rose_later (old.wfaults s.file) (mid.wfaults s.file) (new.wfaults s.file) (q s.file) s.rose }
+some_rose_later : (old mid new : FolderState) (b : Blueprint) (trace : Option (List ℕ)) → Quiet old.wfaults mid.wfaults → SomeCountRose mid new b trace → SomeCountRose old new b trace
+some_rose_later old mid new b trace q s = record { file = s.file; written = s.written; rose = rose_later (old.wfaults s.file) (mid.wfaults s.file) (new.wfaults s.file) (q s.file) s.rose }
 
-module _ (old mid new : FolderState) (file t : List ℕ) (r : ReadsFile old mid file t) (b : Blueprint) (fit : IsFit b [] (file ∷ [])) (turns : ℕ) (a : Answer) where
+traces_later : (old mid new : FolderState) (b : Blueprint) (trace : Option (List ℕ)) (picks : List Pick) (how : Bool) → Quiet old.wfaults mid.wfaults → Traces mid new b trace picks how → Traces old new b trace picks how
+traces_later old mid new b None picks false q h = h
+traces_later old mid new b None picks true q h = h
+traces_later old mid new b (Some t) picks false q h = record { holds = h.holds; calm = grew_behind (old.wfaults t) (mid.wfaults t) (new.wfaults t) 0 (q t) h.calm }
+traces_later old mid new b (Some t) picks true q h = record { part = h.part; is_part = h.is_part; not_all = h.not_all; holds = h.holds; rose = rose_later (old.wfaults t) (mid.wfaults t) (new.wfaults t) (q t) h.rose }
+
+failure_later : (old mid new : FolderState) (b : Blueprint) (trace : Option (List ℕ)) (a : Answer) → Quiet old.wfaults mid.wfaults → SomeWriteFailed mid new b trace a → SomeWriteFailed old new b trace a
+failure_later old mid new b trace a q (inl h) = inl (h.0, traces_later old mid new b trace a.picks false q h.1)
+failure_later old mid new b trace a q (inr h) = inr (traces_later old mid new b trace a.picks true q h)
+
+module _ (old mid new : FolderState) (file t : List ℕ) (r : ReadsFile old mid file t) (b : Blueprint) (trace : Option (List ℕ)) (fit : IsFit b [] (taken_files file trace)) (turns : ℕ) (a : Answer) where
   module _ (tells : IsTrue old.tells) where
     -- the file that was read is none of the sources'
     read_apart : (k : ℕ) (n : List ℕ) → IsSource b.nodes.items k n → mid.read n ≡ old.read n
     read_apart k n is =
         r.read n (λ same.
         let at = filtered_at (λ (m : Node). input_of m.kind) b.nodes.items k is.node n is.at (ap input_of is.kind_is) in
-        inputs_untaken b [] (file ∷ []) fit n (contains_at (inputs_of_nodes b.nodes.items) at.0 n at.1) (0, omega arith, sym same))
+        inputs_untaken b [] (taken_files file trace) fit n (contains_at (inputs_of_nodes b.nodes.items) at.0 n at.1) (0, omega arith, sym same))
 
     read_later : (n bytes : List ℕ) (given : ℕ) (faulted : Bool) → mid.read n ≡ old.read n → WasRead mid new n bytes given faulted → WasRead old new n bytes given faulted
     read_later n bytes given faulted apart w = record {
@@ -521,7 +597,7 @@ module _ (old mid new : FolderState) (file t : List ℕ) (r : ReadsFile old mid 
     empties_later : (names : List (List ℕ)) → Empties mid new names → Empties old new names
     empties_later names h = record { told = λ x. tells_before old mid r.files (h.told x); still = λ e. h.still e ∙ r.files.telling; emptied = h.emptied; others = λ x m never. h.others x m never ∙ r.files.files tells m }
 
-    abbrev leaves_later : (ends : List Stand) (picks : List Pick) (wires : List WireCount) (rest : Bool) → LeavesFiles mid new b ends picks wires rest → LeavesFiles old new b ends picks wires rest
+    abbrev leaves_later : (ends : List Stand) (picks : List Pick) (wires : List WireCount) (rest : Bool) → LeavesFiles mid new b trace ends picks wires rest → LeavesFiles old new b trace ends picks wires rest
     leaves_later ends picks wires rest l = record {
       drawn = l.drawn;
       chose = l.chose;
@@ -530,7 +606,7 @@ module _ (old mid new : FolderState) (file t : List ℕ) (r : ReadsFile old mid 
       has_files = l.has_files;
       sink = l.sink;
       ignores = l.ignores;
-      others = λ still n never. l.others still n never ∙ r.files.files tells n;
+      others = λ still n never aside. l.others still n never aside ∙ r.files.files tells n;
       draws = l.draws;
       fits = l.fits;
       lawful = l.lawful;
@@ -540,7 +616,7 @@ module _ (old mid new : FolderState) (file t : List ℕ) (r : ReadsFile old mid 
       needed = l.needed;
     }
 
-    abbrev ran_later : RanTo mid new b turns a → RanTo old new b turns a
+    abbrev ran_later : RanTo mid new b trace turns a → RanTo old new b trace turns a
     ran_later ran = record {
       stands = ran.stands;
       stands_are = ran.stands_are;
@@ -558,7 +634,7 @@ module _ (old mid new : FolderState) (file t : List ℕ) (r : ReadsFile old mid 
     there_later : (names : List (List ℕ)) → All (λ m. IsSome (mid.file m)) names → All (λ m. IsSome (old.file m)) names
     there_later names all = λ k d h. subst (λ o. IsSome o) (r.files.files tells (slice_index_or names k d)) (all k d h)
 
-    missing_later : (n : List ℕ) → LacksInput mid new b n a ⊎ LacksOutput mid new b n a → LacksInput old new b n a ⊎ LacksOutput old new b n a
+    missing_later : (n : List ℕ) → LacksInput mid new b n a ⊎ LacksOutput mid new b trace n a → LacksInput old new b n a ⊎ LacksOutput old new b trace n a
     missing_later n (inl h) = inl (record {
       before = h.before;
       after = h.after;
@@ -577,7 +653,7 @@ module _ (old mid new : FolderState) (file t : List ℕ) (r : ReadsFile old mid 
       blank = h.blank;
     })
 
-    breaks_later : BreaksFiles mid new b → BreaksFiles old new b
+    breaks_later : BreaksFiles mid new b trace → BreaksFiles old new b trace
     breaks_later l = record {
       drawn = l.drawn;
       chose = l.chose;
@@ -601,20 +677,21 @@ module _ (old mid new : FolderState) (file t : List ℕ) (r : ReadsFile old mid 
             part = w.part;
             writes = writes_later w.end (old.wfaults f) (mid.wfaults f) (new.wfaults f) (r.wfaults f) w.writes;
           };
-      others = λ still n never. l.others still n never ∙ r.files.files tells n;
+      others = λ still n never aside. l.others still n never aside ∙ r.files.files tells n;
+      empty = l.empty;
     }
 
-    gave_later : GaveUp mid new b → GaveUp old new b
+    gave_later : GaveUp mid new b trace → GaveUp old new b trace
     gave_later (inl h) = inl (record { before = h.before; after = h.after; place = h.place; files = empties_later h.before h.files })
     gave_later (inr h) = inr (breaks_later h)
 
     -- what a run answers is told of the folder before the blueprint was read
-    run_later : (s : Status) → EndedRun s a b turns mid new → EndedRun s a b turns old new
-    run_later status.Done e = (ran_later e.0, e.1)
-    run_later status.StreamFailed e = (ran_later e.0, e.1, e.2, e.3)
-    run_later status.Stalled e = (ran_later e.0, e.1, e.2, e.3)
-    run_later status.OutOfTurns e = (ran_later e.0, e.1, e.2, e.3)
-    run_later status.WriteFault e = (ran_later e.0, e.1, some_rose_later old mid new b r.wfaults e.2)
+    run_later : (s : Status) → EndedRun s a b trace turns mid new → EndedRun s a b trace turns old new
+    run_later status.Done e = (ran_later e.0, traces_later old mid new b trace a.picks false r.wfaults e.1, e.2)
+    run_later status.StreamFailed e = (ran_later e.0, traces_later old mid new b trace a.picks false r.wfaults e.1, e.2, e.3, e.4)
+    run_later status.Stalled e = (ran_later e.0, traces_later old mid new b trace a.picks false r.wfaults e.1, e.2, e.3, e.4)
+    run_later status.OutOfTurns e = (ran_later e.0, traces_later old mid new b trace a.picks false r.wfaults e.1, e.2, e.3, e.4)
+    run_later status.WriteFault e = (ran_later e.0, failure_later old mid new b trace a r.wfaults e.1, some_rose_later old mid new b trace r.wfaults e.2)
     run_later (status.Missing n) e = missing_later n e
     run_later status.NoMemory e = (e.0, gave_later e.1)
     run_later status.ReadFault e = e
@@ -624,7 +701,7 @@ module _ (old mid new : FolderState) (file t : List ℕ) (r : ReadsFile old mid 
     run_later status.Usage e = e
 
 -- what rose in the run rose in the call
-module _ (old mid new : FolderState) (file t : List ℕ) (r : ReadsFile old mid file t) (b : Blueprint) (fit : IsFit b [] (file ∷ [])) (a : Answer) where
+module _ (old mid new : FolderState) (file t : List ℕ) (r : ReadsFile old mid file t) (b : Blueprint) (trace : Option (List ℕ)) (fit : IsFit b [] (taken_files file trace)) (a : Answer) where
   wrote_later : SinksWrote mid new b a → SinksWrote old new b a
   wrote_later w = record {
     stands = w.stands;
@@ -635,13 +712,13 @@ module _ (old mid new : FolderState) (file t : List ℕ) (r : ReadsFile old mid 
     carries = w.carries;
   }
 
-  misses_later : (n : List ℕ) → MissesFile mid new b n → MissesFile old new b n
+  misses_later : (n : List ℕ) → MissesFile mid new b trace n → MissesFile old new b trace n
   misses_later n (inl h) = inl (h.0, absent_later old mid new n r.files r.refusals h.1)
   misses_later n (inr h) = inr (h.0, rose_later (old.refusals n) (mid.refusals n) (new.refusals n) (r.refusals n) h.1)
 
-  causes_later : (s : Status) → RunCauses s a b mid new → RunCauses s a b old new
+  causes_later : (s : Status) → RunCauses s a b trace mid new → RunCauses s a b trace old new
   causes_later (status.Missing n) c = (misses_later n c.0, quiet_but_later n _ _ _ r.refusals c.1, quiet_two _ _ _ r.rfaults c.2, quiet_two _ _ _ r.wfaults c.3)
-  causes_later status.WriteFault c = (quiet_two _ _ _ r.refusals c.0, quiet_all_later _ _ _ _ r.rfaults c.1, some_rose_later old mid new b r.wfaults c.2, quiet_all_later _ _ _ _ r.wfaults c.3, wrote_later c.4)
+  causes_later status.WriteFault c = (quiet_two _ _ _ r.refusals c.0, quiet_all_later _ _ _ _ r.rfaults c.1, some_rose_later old mid new b trace r.wfaults c.2, quiet_all_later _ _ _ _ r.wfaults c.3, wrote_later c.4)
   causes_later status.Done c = (quiet_two _ _ _ r.refusals c.0, quiet_all_later _ _ _ _ r.rfaults c.1, quiet_two _ _ _ r.wfaults c.2, wrote_later c.3)
   causes_later status.StreamFailed c = (quiet_two _ _ _ r.refusals c.0, quiet_all_later _ _ _ _ r.rfaults c.1, quiet_two _ _ _ r.wfaults c.2, wrote_later c.3)
   causes_later status.Stalled c = (quiet_two _ _ _ r.refusals c.0, quiet_all_later _ _ _ _ r.rfaults c.1, quiet_two _ _ _ r.wfaults c.2, wrote_later c.3)
@@ -659,7 +736,7 @@ nothing_since : (old mid new : FolderState) (file t : List ℕ) (r : ReadsFile o
 nothing_since old mid new file t r a h = record { files = files_two old mid new r.files h.files; blank = h.blank }
 
 module _ (a : Answer) (c : Asked) (old mid new : FolderState) (t : List ℕ) (r : ReadsFile old mid c.file t) (tells : IsTrue old.tells) where
-  not_said : (s : Status) → NotSaid s a t mid new → EndedBefore s a c.file old new
+  not_said : (s : Status) → NotSaid s a t mid new → EndedBefore s a c.file c.trace old new
   not_said (status.Refused f) h = (nothing_since old mid new c.file t r a h.0, refused_read old mid c.file t f tells r h.1)
   not_said status.NoMemory h = nothing_since old mid new c.file t r a h
   not_said status.Done h = absurd h
@@ -674,7 +751,7 @@ module _ (a : Answer) (c : Asked) (old mid new : FolderState) (t : List ℕ) (r 
   not_said (status.Unbuilt k) h = absurd h
 
   module _ (b : Blueprint) (says : language.Says t (plain b)) where
-    not_fit : (s : Status) → NotFit s a b (c.file ∷ []) mid new → EndedBefore s a c.file old new
+    not_fit : (s : Status) → NotFit s a b (taken_files c.file c.trace) mid new → EndedBefore s a c.file c.trace old new
     not_fit (status.Unfit f) h = (nothing_since old mid new c.file t r a h.0, (b, (says_read old mid c.file t b tells r says, h.1)))
     not_fit status.NoMemory h = nothing_since old mid new c.file t r a h
     not_fit status.Done h = absurd h
@@ -688,11 +765,11 @@ module _ (a : Answer) (c : Asked) (old mid new : FolderState) (t : List ℕ) (r 
     not_fit (status.Refused f) h = absurd h
     not_fit (status.Unbuilt k) h = absurd h
 
-    module _ (fit : IsFit b [] (c.file ∷ [])) where
-      said_fit : SaysFit old c.file b
+    module _ (fit : IsFit b [] (taken_files c.file c.trace)) where
+      said_fit : SaysFit old c.file c.trace b
       said_fit = record { says = says_read old mid c.file t b tells r says; fit = fit }
 
-      not_run : (s : Status) → NotRun s a b mid new → EndedBefore s a c.file old new
+      not_run : (s : Status) → NotRun s a b mid new → EndedBefore s a c.file c.trace old new
       not_run (status.Unbuilt k) h = (nothing_since old mid new c.file t r a h.0, (b, (said_fit, h.1)))
       not_run status.NoMemory h = nothing_since old mid new c.file t r a h
       not_run status.Done h = absurd h
@@ -706,16 +783,16 @@ module _ (a : Answer) (c : Asked) (old mid new : FolderState) (t : List ℕ) (r 
       not_run (status.Refused f) h = absurd h
       not_run (status.Unfit f) h = absurd h
 
-      told_fit : EndedFit a.status a b c.turns mid new → Told a c old new
+      told_fit : EndedFit a.status a b c.trace c.turns mid new → Told a c old new
       told_fit (inl h) = inl (not_run a.status h)
-      told_fit (inr h) = inr (b, (record { fit = said_fit; built = h.0 }, run_later old mid new c.file t r b fit c.turns a tells a.status h.1))
+      told_fit (inr h) = inr (b, (record { fit = said_fit; built = h.0 }, run_later old mid new c.file t r b c.trace fit c.turns a tells a.status h.1))
 
-    told_parsed : EndedParsed a.status a b (c.file ∷ []) c.turns mid new → Told a c old new
+    told_parsed : EndedParsed a.status a b (taken_files c.file c.trace) c.trace c.turns mid new → Told a c old new
     told_parsed (inl h) = inl (not_fit a.status h)
     told_parsed (inr h) = told_fit h.0 h.1
 
   -- what is told of the text is told of the call
-  pub told_text : EndedText a.status a t (c.file ∷ []) c.turns mid new → Told a c old new
+  pub told_text : EndedText a.status a t (taken_files c.file c.trace) c.trace c.turns mid new → Told a c old new
   told_text (inl h) = inl (not_said a.status h)
   told_text (inr h) = told_parsed h.0 h.1.0 h.1.1
 
@@ -738,13 +815,13 @@ module _ (old mid new : FolderState) (file t : List ℕ) (r : ReadsFile old mid 
   quiet_before (status.Missing n) h = absurd h
 
   -- which counts the call raised
-  pub causes_text : (s : Status) (a : Answer) → CausesText s a (file ∷ []) mid new → Causes s a file old new
-  causes_text s a (inl h) = inl (quiet_before s h)
-  causes_text s a (inr h) = inr (h.0, (h.1.0, causes_later old mid new file t r h.0 h.1.0 a s h.1.1))
+  pub causes_text : (s : Status) (a : Answer) (trace : Option (List ℕ)) → CausesText s a (taken_files file trace) trace mid new → Causes s a file trace old new
+  causes_text s a trace (inl h) = inl (quiet_before s h)
+  causes_text s a trace (inr h) = inr (h.0, (h.1.0, causes_later old mid new file t r h.0 trace h.1.0 a s h.1.1))
 
 -- what is said of the counts before a run, by the status
-pub causes_before : (s t : Status) (a : Answer) (file : List ℕ) (old new : FolderState) → s ≡ t → CausesBefore t file old new → Causes s a file old new
-causes_before s t a file old new e h = inl (subst (λ x. CausesBefore x file old new) (sym e) h)
+pub causes_before : (s t : Status) (a : Answer) (file : List ℕ) (trace : Option (List ℕ)) (old new : FolderState) → s ≡ t → CausesBefore t file old new → Causes s a file trace old new
+causes_before s t a file trace old new e h = inl (subst (λ x. CausesBefore x file old new) (sym e) h)
 
 -- ---- statuses before a run
 
@@ -755,13 +832,18 @@ nothing_here : (s : FolderState) (a : Answer) → Blank a → RanNothing s s a
 nothing_here s a b = record { files = record { telling = refl; files = λ h n. refl }; blank = b }
 
 -- a blueprint of which some node has not been built is not run
-pub unbuilt_told : (s : FolderState) (a : Answer) (b : Blueprint) (k turns : ℕ) → a.status ≡ status.Unbuilt k → Blank a → unbuilt_node b ≡ Some k → EndedFit a.status a b turns s s
-unbuilt_told s a b k turns is blank e = subst (λ x. EndedFit x a b turns s s) (sym is) (inl (nothing_here s a blank, e))
+pub unbuilt_told : (s : FolderState) (a : Answer) (b : Blueprint) (trace : Option (List ℕ)) (k turns : ℕ) → a.status ≡ status.Unbuilt k → Blank a → unbuilt_node b ≡ Some k → EndedFit a.status a b trace turns s s
+unbuilt_told s a b trace k turns is blank e = subst (λ x. EndedFit x a b trace turns s s) (sym is) (inl (nothing_here s a blank, e))
 
 -- a blueprint that was found fit is the one that was parsed
-pub causes_parsed : (s : Status) (a : Answer) (b c : Blueprint) (taken : List (List ℕ)) (old new : FolderState) → IsFit b [] taken → c ≡ b → CausesFit s a c old new → CausesText s a taken old new
-causes_parsed s a b c taken old new fit same (inl h) = inl h
-causes_parsed s a b c taken old new fit same (inr h) = inr (b, (fit, subst (λ x. RunCauses s a x old new) same h))
+pub causes_parsed : (s : Status) (a : Answer) (b c : Blueprint) (taken : List (List ℕ)) (trace : Option (List ℕ)) (old new : FolderState) → IsFit b [] taken → c ≡ b → CausesFit s a c trace old new → CausesText s a taken trace old new
+causes_parsed s a b c taken trace old new fit same (inl h) = inl h
+causes_parsed s a b c taken trace old new fit same (inr h) = inr (b, (fit, subst (λ x. RunCauses s a x trace old new) same h))
+
+-- the trace's file is taken, so it is none of the blueprint's
+pub apart_of : (b c : Blueprint) (taken : List (List ℕ)) (trace : Option (List ℕ)) → IsFit b [] taken → c ≡ b → ((t : List ℕ) → trace ≡ Some t → Contains taken t) → IsApart c trace
+apart_of b c taken trace fit same among = subst (λ x. IsApart x trace) (sym same)
+    (λ t e. ((λ input. inputs_untaken b [] taken fit t input (among t e)), (λ output. outputs_untaken b [] taken fit t output (among t e))))
 
 -- of a file that is taken no more is read
 pub reads_parsed : (b c : Blueprint) (taken : List (List ℕ)) (old new : List ℕ → ℕ) → IsFit b [] taken → c ≡ b → QuietButAll (inputs_of_nodes c.nodes.items) old new → QuietAmong taken old new
@@ -773,6 +855,18 @@ pub reads_checked : (b c : Blueprint) (old new : List ℕ → ℕ) → c ≡ b �
 reads_checked b c old new same quiet = subst (λ x. QuietButAll (inputs_of_nodes x.nodes.items) old new) same quiet
 
 -- the file that was read is taken
-pub reads_text : (old mid new : List ℕ → ℕ) (file : List ℕ) (taken : List (List ℕ)) → taken ≡ file ∷ [] → GrewAtMost (old file) text_limit (mid file) → QuietAmong taken mid new → GrewAtMost (old file) text_limit (new file)
-reads_text old mid new file taken is most quiet =
+pub reads_text : (old mid new : List ℕ → ℕ) (file : List ℕ) (trace : Option (List ℕ)) (taken : List (List ℕ)) → taken ≡ taken_files file trace → GrewAtMost (old file) text_limit (mid file) → QuietAmong taken mid new → GrewAtMost (old file) text_limit (new file)
+reads_text old mid new file trace taken is most quiet =
     most_later (old file) (mid file) (new file) text_limit most (quiet file (subst (λ (l : List (List ℕ)). Contains l file) (sym is) (0, omega arith, refl)))
+
+-- how the sinks stand, where the trace's name is a copy
+pub sinks_text : (s : Status) (a : Answer) (path trace : Option (List ℕ)) → path ≡ trace → SinksOf s a path → SinksOf s a trace
+sinks_text s a path trace e h = subst (SinksOf s a) e h
+
+-- the trace's file is among those that are taken
+behind_file : (file : List ℕ) (trace : Option (List ℕ)) (t : List ℕ) → trace ≡ Some t → Contains (taken_files file trace) t
+behind_file file None t e = absurd cc
+behind_file file (Some u) t e = let same : u ≡ t = cc in (1, omega arith, same)
+
+pub among_of : (file : List ℕ) (trace path : Option (List ℕ)) (taken : List (List ℕ)) → path ≡ trace → taken ≡ taken_files file trace → (t : List ℕ) → path ≡ Some t → Contains taken t
+among_of file trace path taken e is t at = subst (λ (l : List (List ℕ)). Contains l t) (sym is) (behind_file file trace t (sym e ∙ at))

@@ -52,11 +52,11 @@ abbrev pub ends_of : List (List ℕ) → List Stand → List SinkEnd
 ends_of (n ∷ ns) (s ∷ ss) = record { name = n; count = s.1; end = s.2 } ∷ ends_of ns ss
 ends_of _ _ = []
 
--- the status, by how the sinks stand and whether no event was left: a failed write comes first, then a sink that goes on, then one
--- that failed
-abbrev pub status_after : List Stand → Bool → Status
-status_after stands rest =
-    if list_any (λ s. is_write_fault s.2) stands then status.WriteFault
+-- the status, by how the sinks stand, whether a write to the trace's file failed and whether no event was left: a failed write comes
+-- first, then a sink that goes on, then one that failed
+abbrev pub status_after : List Stand → Bool → Bool → Status
+status_after stands trace_failed rest =
+    if list_any (λ s. is_write_fault s.2) stands || trace_failed then status.WriteFault
     else (if list_any (λ s. is_unended s.2) stands then (if rest then status.Stalled else status.OutOfTurns)
     else (if list_any (λ s. is_failed s.2) stands then status.StreamFailed else status.Done))
 
@@ -71,7 +71,7 @@ is_over a turns = is_stalled a.status || nat_lt a.used turns
 
 -- what is told of the run
 pub record AfterRun (names : List (List ℕ)) (ran : Ran) (a : Answer) : Type 0 where
-  pub status : a.status ≡ status_after ran.sinks.items ran.at_rest
+  pub status : a.status ≡ status_after ran.sinks.items ran.trace_failed ran.at_rest
   pub sinks : a.sinks ≡ ends_of names ran.sinks.items
   pub wires : a.wires ≡ ran.wires.items
   pub picks : a.picks ≡ map pick_of ran.picks.items

@@ -1,5 +1,6 @@
 -- What a call answers and what it leaves, status by status.
 use Rattle.std.specs.Prelude.{◌≡◌, ◌≢◌, ℕ, ◌<◌, ◌≤◌, ◌⊎◌, Bool, true, false, IsTrue, IsSome, List, [], ◌∷◌, ◌++◌, map, slice_get, Option, Some, None, ⊤}
+use Rattle.std.specs.Option.{option_to_list}
 use Rattle.std.specs.List.{All, Contains, list_any, list_all}
 use Rattle.elem_core.specs.declared.why.Cause.{Cause}
 use Rattle.stream_model.specs.declared.outcome.EndState.{EndState}
@@ -25,8 +26,9 @@ use Rattle.blueprint_run.specs.Carrying.{Carries}
 use Rattle.blueprint_run.specs.Choosing.{pick_places, picked}
 use Rattle.blueprint_run.specs.Drawing.{Drawn, IsWorldOf}
 use Rattle.blueprint_run.specs.Stands.{Stand, sink_places, is_write_fault, is_unended, is_failed}
+use Rattle.blueprint_run.specs.Tracing.{Traces, written_files}
 use Rattle.blueprint_run.specs.Units.{Pays}
-use Rattle.blueprint_run.specs.Running.{LeavesFiles, WritesOf, SomeWriteRose, BreaksFiles}
+use Rattle.blueprint_run.specs.Running.{LeavesFiles, WritesOf, BreaksFiles}
 use Rattle.run_report.specs.Answer.{Answer}
 use Rattle.run_report.specs.declared.outcome.Status.{Status}
 use Rattle.run_report.specs.declared.outcome.Status.TheVariants as status
@@ -40,14 +42,18 @@ pub record SaysFile (folder : FolderState) (file : List ℕ) (b : Blueprint) : T
   pub there : folder.file file ≡ Some whole
   pub says : language.Says whole (plain b)
 
--- and it breaks no rule, where no plugs are handed in and the command's own file is taken
-pub record SaysFit (folder : FolderState) (file : List ℕ) (b : Blueprint) : Type 0 where
+-- the files that no source and no sink may name: the command's own, and that of the trace, where one is wanted
+abbrev pub taken_files : List ℕ → Option (List ℕ) → List (List ℕ)
+taken_files file trace = file ∷ option_to_list trace
+
+-- and it breaks no rule, where no plugs are handed in and these files are taken
+pub record SaysFit (folder : FolderState) (file : List ℕ) (trace : Option (List ℕ)) (b : Blueprint) : Type 0 where
   pub says : SaysFile folder file b
-  pub fit : IsFit b [] (file ∷ [])
+  pub fit : IsFit b [] (taken_files file trace)
 
 -- and all of it has been built
-pub record SaysBuilt (folder : FolderState) (file : List ℕ) (b : Blueprint) : Type 0 where
-  pub fit : SaysFit folder file b
+pub record SaysBuilt (folder : FolderState) (file : List ℕ) (trace : Option (List ℕ)) (b : Blueprint) : Type 0 where
+  pub fit : SaysFit folder file trace b
   pub built : unbuilt_node b ≡ None
 
 -- nothing was run: there is nothing to tell of a run
@@ -68,12 +74,12 @@ pub record RanNothing (old new : FolderState) (a : Answer) : Type 0 where
 -- alone. The units pay for what passed the wires, and each wire carried only elements of its type. In a polytree a sink has not ended only
 -- where the units were used up; and where they suffice for all that may pass, each sink of whose outlook no failure is part has
 -- ended, unless a write to its file failed.
-pub record RanTo (old new : FolderState) (b : Blueprint) (turns : ℕ) (a : Answer) : Type 0 where
+pub record RanTo (old new : FolderState) (b : Blueprint) (trace : Option (List ℕ)) (turns : ℕ) (a : Answer) : Type 0 where
   pub stands : List Stand
   pub stands_are : map (λ (s : Stand). s.0) stands ≡ sink_places 0 b.nodes.items
   pub sinks : a.sinks ≡ told_ends b.nodes.items stands
   pub picks_are : picked a.picks ≡ pick_places 0 b.nodes.items
-  pub leaves : LeavesFiles old new b stands a.picks a.wires (is_over a turns)
+  pub leaves : LeavesFiles old new b trace stands a.picks a.wires (is_over a turns)
   pub writes : (i : ℕ) (s : Stand) (n : Node) (file : List ℕ) → slice_get stands i ≡ Some s → slice_get b.nodes.items s.0 ≡ Some n → output_of n.kind ≡ Some file → WritesOf s.2 (old.wfaults file) (new.wfaults file)
   pub within : a.used ≤ turns
   pub pays : Pays b a.wires a.used
@@ -94,14 +100,14 @@ abbrev pub IsAbsent : FolderState → FolderState → List ℕ → Type 0
 IsAbsent old new n = Lacks old n ⊎ Rose (old.refusals n) (new.refusals n)
 
 -- what a call that ended before its blueprint's files were opened answers, where the folder told its files before it
-abbrev pub EndedBefore : Status → Answer → List ℕ → FolderState → FolderState → Type 0
-EndedBefore (status.Missing n) a file old new = RanNothing old new a × (n ≡ file) × IsAbsent old new file
-EndedBefore status.ReadFault a file old new = RanNothing old new a × Rose (old.rfaults file) (new.rfaults file)
-EndedBefore (status.Refused f) a file old new = RanNothing old new a × ((whole : List ℕ) × ((old.file file ≡ Some whole) × (language.fault_of whole ≡ Some f)))
-EndedBefore (status.Unfit f) a file old new = RanNothing old new a × ((b : Blueprint) × (SaysFile old file b × IsFirstFault b [] (file ∷ []) f))
-EndedBefore (status.Unbuilt k) a file old new = RanNothing old new a × ((b : Blueprint) × (SaysFit old file b × (unbuilt_node b ≡ Some k)))
-EndedBefore status.NoMemory a file old new = RanNothing old new a
-EndedBefore _ a file old new = ⊥
+abbrev pub EndedBefore : Status → Answer → List ℕ → Option (List ℕ) → FolderState → FolderState → Type 0
+EndedBefore (status.Missing n) a file trace old new = RanNothing old new a × (n ≡ file) × IsAbsent old new file
+EndedBefore status.ReadFault a file trace old new = RanNothing old new a × Rose (old.rfaults file) (new.rfaults file)
+EndedBefore (status.Refused f) a file trace old new = RanNothing old new a × ((whole : List ℕ) × ((old.file file ≡ Some whole) × (language.fault_of whole ≡ Some f)))
+EndedBefore (status.Unfit f) a file trace old new = RanNothing old new a × ((b : Blueprint) × (SaysFile old file b × IsFirstFault b [] (taken_files file trace) f))
+EndedBefore (status.Unbuilt k) a file trace old new = RanNothing old new a × ((b : Blueprint) × (SaysFit old file trace b × (unbuilt_node b ≡ Some k)))
+EndedBefore status.NoMemory a file trace old new = RanNothing old new a
+EndedBefore _ a file trace old new = ⊥
 
 -- the first of the inputs that is not there, or whose opening was refused, has this name; no file is changed
 pub record LacksInput (old new : FolderState) (b : Blueprint) (n : List ℕ) (a : Answer) : Type 0 where
@@ -112,43 +118,56 @@ pub record LacksInput (old new : FolderState) (b : Blueprint) (n : List ℕ) (a 
   pub absent : IsAbsent old new n
   pub nothing : RanNothing old new a
 
--- the inputs are there, and the first of the outputs whose opening was refused has this name; those before it are empty
-pub record LacksOutput (old new : FolderState) (b : Blueprint) (n : List ℕ) (a : Answer) : Type 0 where
+-- the inputs are there, and the first of the outputs, or behind them the trace's file, whose opening was refused has this name; those
+-- before it are empty
+pub record LacksOutput (old new : FolderState) (b : Blueprint) (trace : Option (List ℕ)) (n : List ℕ) (a : Answer) : Type 0 where
   pub before : List (List ℕ)
   pub after : List (List ℕ)
-  pub place : outputs_of_nodes b.nodes.items ≡ before ++ n ∷ after
+  pub place : written_files b trace ≡ before ++ n ∷ after
   pub there : All (λ m. IsSome (old.file m)) (inputs_of_nodes b.nodes.items)
   pub refused : Rose (old.refusals n) (new.refusals n)
   pub files : Empties old new before
   pub blank : Blank a
 
--- memory was wanting before the run, as its files were opened or its island was made: the first of the outputs are empty, and no other
--- file is changed
-pub record GaveUpBefore (old new : FolderState) (b : Blueprint) : Type 0 where
+-- memory was wanting before the run, as its files were opened or its island was made: the first of the files that it opens to write
+-- them are empty, and no other file is changed
+pub record GaveUpBefore (old new : FolderState) (b : Blueprint) (trace : Option (List ℕ)) : Type 0 where
   pub before : List (List ℕ)
   pub after : List (List ℕ)
-  pub place : outputs_of_nodes b.nodes.items ≡ before ++ after
+  pub place : written_files b trace ≡ before ++ after
   pub files : Empties old new before
 
--- memory was wanting before the run or in it; in it each sink wrote a first part of what it may write, and no other file is changed
-abbrev pub GaveUp : FolderState → FolderState → Blueprint → Type 0
-GaveUp old new b = GaveUpBefore old new b ⊎ BreaksFiles old new b
+-- memory was wanting before the run or in it; in it each sink wrote a first part of what it may write, the trace's file is empty, and
+-- no other file is changed
+abbrev pub GaveUp : FolderState → FolderState → Blueprint → Option (List ℕ) → Type 0
+GaveUp old new b trace = GaveUpBefore old new b trace ⊎ BreaksFiles old new b trace
+
+-- the count of failed writes of some sink's file, or of the trace's, rose
+pub record SomeCountRose (old new : FolderState) (b : Blueprint) (trace : Option (List ℕ)) : Type 0 where
+  pub file : List ℕ
+  pub written : Contains (written_files b trace) file
+  pub rose : Rose (old.wfaults file) (new.wfaults file)
+
+-- some sink stands at a failed write, or the trace was not written whole
+abbrev pub SomeWriteFailed : FolderState → FolderState → Blueprint → Option (List ℕ) → Answer → Type 0
+SomeWriteFailed old new b trace a = ((some_fault a.sinks ≡ true) × Traces old new b trace a.picks false) ⊎ Traces old new b trace a.picks true
 
 -- What the run of a blueprint answers, where the folder told its files before it. A failed write stands before a sink that has not ended,
--- and that before one that failed. A polytree never stalls, and units that suffice for all that may pass are not used up.
-abbrev pub EndedRun : Status → Answer → Blueprint → ℕ → FolderState → FolderState → Type 0
-EndedRun status.Done a b turns old new = RanTo old new b turns a × (all_ended a.sinks ≡ true)
-EndedRun status.StreamFailed a b turns old new = RanTo old new b turns a × (some_fault a.sinks ≡ false) × (some_unended a.sinks ≡ false) × (some_failed a.sinks ≡ true)
-EndedRun status.Stalled a b turns old new = RanTo old new b turns a × (IsPolytree (wiring (blueprint_wires b)) → ⊥) × (some_fault a.sinks ≡ false) × (some_unended a.sinks ≡ true)
-EndedRun status.OutOfTurns a b turns old new = (ran : RanTo old new b turns a) × FallsShort b turns a ran.leaves.drawn × (some_fault a.sinks ≡ false) × (some_unended a.sinks ≡ true)
-EndedRun status.WriteFault a b turns old new = RanTo old new b turns a × (some_fault a.sinks ≡ true) × SomeWriteRose old new b
-EndedRun (status.Missing n) a b turns old new = LacksInput old new b n a ⊎ LacksOutput old new b n a
-EndedRun status.NoMemory a b turns old new = Blank a × GaveUp old new b
-EndedRun _ a b turns old new = ⊥
+-- and that before one that failed. The trace's file holds the text of the moves, where no write to it failed. A polytree never stalls,
+-- and units that suffice for all that may pass are not used up.
+abbrev pub EndedRun : Status → Answer → Blueprint → Option (List ℕ) → ℕ → FolderState → FolderState → Type 0
+EndedRun status.Done a b trace turns old new = RanTo old new b trace turns a × Traces old new b trace a.picks false × (all_ended a.sinks ≡ true)
+EndedRun status.StreamFailed a b trace turns old new = RanTo old new b trace turns a × Traces old new b trace a.picks false × (some_fault a.sinks ≡ false) × (some_unended a.sinks ≡ false) × (some_failed a.sinks ≡ true)
+EndedRun status.Stalled a b trace turns old new = RanTo old new b trace turns a × Traces old new b trace a.picks false × (IsPolytree (wiring (blueprint_wires b)) → ⊥) × (some_fault a.sinks ≡ false) × (some_unended a.sinks ≡ true)
+EndedRun status.OutOfTurns a b trace turns old new = (ran : RanTo old new b trace turns a) × Traces old new b trace a.picks false × FallsShort b turns a ran.leaves.drawn × (some_fault a.sinks ≡ false) × (some_unended a.sinks ≡ true)
+EndedRun status.WriteFault a b trace turns old new = RanTo old new b trace turns a × SomeWriteFailed old new b trace a × SomeCountRose old new b trace
+EndedRun (status.Missing n) a b trace turns old new = LacksInput old new b n a ⊎ LacksOutput old new b trace n a
+EndedRun status.NoMemory a b trace turns old new = Blank a × GaveUp old new b trace
+EndedRun _ a b trace turns old new = ⊥
 
 -- what a call with that file answers: it ended before a run, or it ran the blueprint that the file says
 abbrev pub Told : Answer → Asked → FolderState → FolderState → Type 0
-Told a c old new = EndedBefore a.status a c.file old new ⊎ ((b : Blueprint) × (SaysBuilt old c.file b × EndedRun a.status a b c.turns old new))
+Told a c old new = EndedBefore a.status a c.file c.trace old new ⊎ ((b : Blueprint) × (SaysBuilt old c.file c.trace b × EndedRun a.status a b c.trace c.turns old new))
 
 -- only counts of these names rose
 abbrev pub QuietButAll : List (List ℕ) → (List ℕ → ℕ) → (List ℕ → ℕ) → Type 0
@@ -158,9 +177,9 @@ QuietButAll names old new = (n : List ℕ) → ¬ (Contains names n) → Grew (o
 abbrev pub QuietAmong : List (List ℕ) → (List ℕ → ℕ) → (List ℕ → ℕ) → Type 0
 QuietAmong names old new = (n : List ℕ) → Contains names n → Grew (old n) 0 (new n)
 
--- an input of this name is absent, or the opening of an output of this name was refused
-abbrev pub MissesFile : FolderState → FolderState → Blueprint → List ℕ → Type 0
-MissesFile old new b n = (Contains (inputs_of_nodes b.nodes.items) n × IsAbsent old new n) ⊎ (Contains (outputs_of_nodes b.nodes.items) n × Rose (old.refusals n) (new.refusals n))
+-- an input of this name is absent, or the opening of an output or of the trace's file of this name was refused
+abbrev pub MissesFile : FolderState → FolderState → Blueprint → Option (List ℕ) → List ℕ → Type 0
+MissesFile old new b trace n = (Contains (inputs_of_nodes b.nodes.items) n × IsAbsent old new n) ⊎ (Contains (written_files b trace) n × Rose (old.refusals n) (new.refusals n))
 
 -- The sinks of a run stand so, and the count of failed writes of a sink's file rose exactly where that sink stands at a failed
 -- write. There is a list of moves for each stage whose kind chooses, and each wire carried only elements of its type, also where the
@@ -174,17 +193,17 @@ pub record SinksWrote (old new : FolderState) (b : Blueprint) (a : Answer) : Typ
   pub carries : Carries b a.wires a.picks
 
 -- which counts a run raised: of failed reads at most those of its inputs, and of failed writes those of its outputs, each exactly
--- where its sink stands at a failed write
-abbrev pub RunCauses : Status → Answer → Blueprint → FolderState → FolderState → Type 0
-RunCauses status.Usage a b old new = ⊥
-RunCauses status.ReadFault a b old new = ⊥
-RunCauses (status.Refused f) a b old new = ⊥
-RunCauses (status.Unfit f) a b old new = ⊥
-RunCauses (status.Unbuilt k) a b old new = ⊥
-RunCauses (status.Missing n) a b old new = MissesFile old new b n × QuietBut n old.refusals new.refusals × Quiet old.rfaults new.rfaults × Quiet old.wfaults new.wfaults
-RunCauses status.NoMemory a b old new = Quiet old.refusals new.refusals × QuietButAll (inputs_of_nodes b.nodes.items) old.rfaults new.rfaults × QuietButAll (outputs_of_nodes b.nodes.items) old.wfaults new.wfaults
-RunCauses status.WriteFault a b old new = Quiet old.refusals new.refusals × QuietButAll (inputs_of_nodes b.nodes.items) old.rfaults new.rfaults × SomeWriteRose old new b × QuietButAll (outputs_of_nodes b.nodes.items) old.wfaults new.wfaults × SinksWrote old new b a
-RunCauses _ a b old new = Quiet old.refusals new.refusals × QuietButAll (inputs_of_nodes b.nodes.items) old.rfaults new.rfaults × Quiet old.wfaults new.wfaults × SinksWrote old new b a
+-- where its sink stands at a failed write, and that of the trace's file
+abbrev pub RunCauses : Status → Answer → Blueprint → Option (List ℕ) → FolderState → FolderState → Type 0
+RunCauses status.Usage a b trace old new = ⊥
+RunCauses status.ReadFault a b trace old new = ⊥
+RunCauses (status.Refused f) a b trace old new = ⊥
+RunCauses (status.Unfit f) a b trace old new = ⊥
+RunCauses (status.Unbuilt k) a b trace old new = ⊥
+RunCauses (status.Missing n) a b trace old new = MissesFile old new b trace n × QuietBut n old.refusals new.refusals × Quiet old.rfaults new.rfaults × Quiet old.wfaults new.wfaults
+RunCauses status.NoMemory a b trace old new = Quiet old.refusals new.refusals × QuietButAll (inputs_of_nodes b.nodes.items) old.rfaults new.rfaults × QuietButAll (outputs_of_nodes b.nodes.items) old.wfaults new.wfaults
+RunCauses status.WriteFault a b trace old new = Quiet old.refusals new.refusals × QuietButAll (inputs_of_nodes b.nodes.items) old.rfaults new.rfaults × SomeCountRose old new b trace × QuietButAll (written_files b trace) old.wfaults new.wfaults × SinksWrote old new b a
+RunCauses _ a b trace old new = Quiet old.refusals new.refusals × QuietButAll (inputs_of_nodes b.nodes.items) old.rfaults new.rfaults × Quiet old.wfaults new.wfaults × SinksWrote old new b a
 
 -- what a call raised before a run
 abbrev pub CausesBefore : Status → List ℕ → FolderState → FolderState → Type 0
@@ -197,25 +216,25 @@ CausesBefore status.NoMemory file old new = Quiet old.refusals new.refusals × Q
 CausesBefore _ file old new = ⊥
 
 -- Which counts rose, whether the folder tells its files or not: before a run, or in the run of a blueprint that is fit where the
--- command's own file is taken, so that its files are other ones.
-abbrev pub Causes : Status → Answer → List ℕ → FolderState → FolderState → Type 0
-Causes s a file old new = CausesBefore s file old new ⊎ ((b : Blueprint) × (IsFit b [] (file ∷ []) × RunCauses s a b old new))
+-- command's own file and that of the trace are taken, so that its files are other ones.
+abbrev pub Causes : Status → Answer → List ℕ → Option (List ℕ) → FolderState → FolderState → Type 0
+Causes s a file trace old new = CausesBefore s file old new ⊎ ((b : Blueprint) × (IsFit b [] (taken_files file trace) × RunCauses s a b trace old new))
 
--- what a status comes with
-abbrev pub SinksOf : Status → Answer → Type 0
-SinksOf status.Done a = all_ended a.sinks ≡ true
-SinksOf status.StreamFailed a = (some_fault a.sinks ≡ false) × (some_unended a.sinks ≡ false) × (some_failed a.sinks ≡ true)
-SinksOf status.Stalled a = (some_fault a.sinks ≡ false) × (some_unended a.sinks ≡ true)
-SinksOf status.OutOfTurns a = (some_fault a.sinks ≡ false) × (some_unended a.sinks ≡ true)
-SinksOf status.WriteFault a = some_fault a.sinks ≡ true
-SinksOf _ a = Blank a
+-- what a status comes with; only where a trace is wanted a failed write may be no sink's
+abbrev pub SinksOf : Status → Answer → Option (List ℕ) → Type 0
+SinksOf status.Done a trace = all_ended a.sinks ≡ true
+SinksOf status.StreamFailed a trace = (some_fault a.sinks ≡ false) × (some_unended a.sinks ≡ false) × (some_failed a.sinks ≡ true)
+SinksOf status.Stalled a trace = (some_fault a.sinks ≡ false) × (some_unended a.sinks ≡ true)
+SinksOf status.OutOfTurns a trace = (some_fault a.sinks ≡ false) × (some_unended a.sinks ≡ true)
+SinksOf status.WriteFault a trace = (some_fault a.sinks ≡ true) ⊎ IsSome trace
+SinksOf _ a trace = Blank a
 
 -- the file says a blueprint; it is fit and built, and its inputs are there. A text says one blueprint, so this is said of each value
 -- that the text says.
-pub record IsValid (file : List ℕ) (folder : FolderState) : Type 0 where
+pub record IsValid (file : List ℕ) (trace : Option (List ℕ)) (folder : FolderState) : Type 0 where
   pub blueprint : Blueprint
   pub says : SaysFile folder file blueprint
-  pub fit : (b : Blueprint) → SaysFile folder file b → IsFit b [] (file ∷ [])
+  pub fit : (b : Blueprint) → SaysFile folder file b → IsFit b [] (taken_files file trace)
   pub built : (b : Blueprint) → SaysFile folder file b → unbuilt_node b ≡ None
   pub inputs : (b : Blueprint) → SaysFile folder file b → All (λ n. IsSome (folder.file n)) (inputs_of_nodes b.nodes.items)
 

@@ -1,5 +1,5 @@
 -- What a text comes to: it is refused, or the blueprint that it says is unfit, unbuilt or run.
-use Rattle.std.specs.Prelude.{◌≡◌, ℕ, ◌⊎◌, List, [], Some, None}
+use Rattle.std.specs.Prelude.{◌≡◌, ℕ, ◌⊎◌, List, [], Option, Some, None}
 use Rattle.stream_io.specs.State.{FolderState}
 use Rattle.blue_core.specs.declared.blueprint.Blueprint.{Blueprint}
 use Rattle.blue_lang.specs.Blueprints as language
@@ -19,8 +19,8 @@ NotRun status.NoMemory a b old new = RanNothing old new a
 NotRun _ a b old new = ⊥
 
 -- it was not run, or all of it has been built and it was run
-abbrev pub EndedFit : Status → Answer → Blueprint → ℕ → FolderState → FolderState → Type 0
-EndedFit s a b turns old new = NotRun s a b old new ⊎ ((unbuilt_node b ≡ None) × EndedRun s a b turns old new)
+abbrev pub EndedFit : Status → Answer → Blueprint → Option (List ℕ) → ℕ → FolderState → FolderState → Type 0
+EndedFit s a b trace turns old new = NotRun s a b old new ⊎ ((unbuilt_node b ≡ None) × EndedRun s a b trace turns old new)
 
 -- a blueprint that is not fit, or memory was wanting
 abbrev pub NotFit : Status → Answer → Blueprint → List (List ℕ) → FolderState → FolderState → Type 0
@@ -28,8 +28,8 @@ NotFit (status.Unfit f) a b taken old new = RanNothing old new a × IsFirstFault
 NotFit status.NoMemory a b taken old new = RanNothing old new a
 NotFit _ a b taken old new = ⊥
 
-abbrev pub EndedParsed : Status → Answer → Blueprint → List (List ℕ) → ℕ → FolderState → FolderState → Type 0
-EndedParsed s a b taken turns old new = NotFit s a b taken old new ⊎ (IsFit b [] taken × EndedFit s a b turns old new)
+abbrev pub EndedParsed : Status → Answer → Blueprint → List (List ℕ) → Option (List ℕ) → ℕ → FolderState → FolderState → Type 0
+EndedParsed s a b taken trace turns old new = NotFit s a b taken old new ⊎ (IsFit b [] taken × EndedFit s a b trace turns old new)
 
 -- a text that says no blueprint, or memory was wanting
 abbrev pub NotSaid : Status → Answer → List ℕ → FolderState → FolderState → Type 0
@@ -37,8 +37,8 @@ NotSaid (status.Refused f) a text old new = RanNothing old new a × (language.fa
 NotSaid status.NoMemory a text old new = RanNothing old new a
 NotSaid _ a text old new = ⊥
 
-abbrev pub EndedText : Status → Answer → List ℕ → List (List ℕ) → ℕ → FolderState → FolderState → Type 0
-EndedText s a text taken turns old new = NotSaid s a text old new ⊎ ((b : Blueprint) × (language.Says text (plain b) × EndedParsed s a b taken turns old new))
+abbrev pub EndedText : Status → Answer → List ℕ → List (List ℕ) → Option (List ℕ) → ℕ → FolderState → FolderState → Type 0
+EndedText s a text taken trace turns old new = NotSaid s a text old new ⊎ ((b : Blueprint) × (language.Says text (plain b) × EndedParsed s a b taken trace turns old new))
 
 -- no count rose
 pub record AllQuiet (old new : FolderState) : Type 0 where
@@ -55,8 +55,8 @@ CausesQuiet status.NoMemory old new = AllQuiet old new
 CausesQuiet _ old new = ⊥
 
 -- which counts rose
-abbrev pub CausesFit : Status → Answer → Blueprint → FolderState → FolderState → Type 0
-CausesFit s a b old new = CausesQuiet s old new ⊎ RunCauses s a b old new
+abbrev pub CausesFit : Status → Answer → Blueprint → Option (List ℕ) → FolderState → FolderState → Type 0
+CausesFit s a b trace old new = CausesQuiet s old new ⊎ RunCauses s a b trace old new
 
-abbrev pub CausesText : Status → Answer → List (List ℕ) → FolderState → FolderState → Type 0
-CausesText s a taken old new = CausesQuiet s old new ⊎ ((b : Blueprint) × (IsFit b [] taken × RunCauses s a b old new))
+abbrev pub CausesText : Status → Answer → List (List ℕ) → Option (List ℕ) → FolderState → FolderState → Type 0
+CausesText s a taken trace old new = CausesQuiet s old new ⊎ ((b : Blueprint) × (IsFit b [] taken × RunCauses s a b trace old new))

@@ -1,15 +1,17 @@
 // The answer of a call, from the blueprint's file to the status and what is told of a run.
-ghost use Rattle.std.specs.Prelude.{ℕ, List, ◌≡◌, ◌≤◌, ◌∷◌, [], ◌⊎◌, map, length, IfOk, IsTrue, Some, None, vec_len, vec_capacity};
+ghost use Rattle.std.specs.Prelude.{ℕ, List, ◌≡◌, ◌≤◌, ◌||◌, [], ◌⊎◌, Option, map, length, IfOk, IsTrue, Some, None, vec_len, vec_capacity};
 ghost use Rattle.blue_check.specs.Checked.{blueprint_of};
 ghost use Rattle.blue_check.specs.Fitness.{IsFit};
 ghost use Rattle.blueprint_run.specs.Stands.{is_unended, is_write_fault, is_failed};
+ghost use Rattle.blueprint_run.specs.Tracing.{IsApart};
 ghost use Rattle.run_report.specs.Report.{detail_of};
-ghost use Rattle.std.specs.List.{list_any};
+ghost use Rattle.std.specs.List.{Contains, list_any};
+ghost use Rattle.std.specs.Option.{option_copied};
 ghost use Rattle.materializer.specs.Built.{CanRun};
 ghost use Rattle.materializer.specs.Files.{inputs_of_nodes, sinks_of_nodes};
 ghost use Rattle.stream_top.specs.AfterRun.{AfterRun, of_outcome, status_after, ends_of};
 ghost use Rattle.stream_io.specs.Counts.{GrewAtMost};
-ghost use Rattle.stream_top.specs.Outcome.{Blank, EndedRun, Told, RunCauses, Causes, SinksOf, QuietButAll, QuietAmong};
+ghost use Rattle.stream_top.specs.Outcome.{taken_files, Blank, EndedRun, Told, RunCauses, Causes, SinksOf, QuietButAll, QuietAmong};
 ghost use Rattle.stream_top.specs.Text.{text_limit};
 ghost use Rattle.stream_top.specs.Texts.{EndedFit, EndedParsed, EndedText, CausesFit, CausesText};
 
@@ -132,11 +134,11 @@ fn some_failed(sinks: &[(u32, u64, EndState)]) -> bool
         .any(|sink| matches!(sink.2, EndState::Failed(_)))
 }
 
-/// The status of a run, by how its sinks stand and whether no event was left.
-fn status_of(sinks: &[(u32, u64, EndState)], at_rest: bool) -> Status
-    ensures { result ≡ status_after sinks.now at_rest }
+/// The status of a run, by how its sinks stand, whether a write to the trace's file failed and whether no event was left.
+fn status_of(sinks: &[(u32, u64, EndState)], trace_failed: bool, at_rest: bool) -> Status
+    ensures { result ≡ status_after sinks.now trace_failed at_rest }
 {
-    if some_write_fault(sinks) {
+    if some_write_fault(sinks) || trace_failed {
         Status::WriteFault
     } else if some_unended(sinks) {
         if at_rest {
@@ -165,9 +167,10 @@ fn after_run(alloc: Global, names: Vec<Line>, room: Vec<SinkEnd>, ran: Ran) -> O
         wires,
         used,
         at_rest,
+        trace_failed,
     } = ran;
     Outcome {
-        status: status_of(&sinks, at_rest),
+        status: status_of(&sinks, trace_failed, at_rest),
         detail: Vec::new(alloc),
         sinks: told_ends(names, &sinks, room),
         picture: Picture { wires },
@@ -188,13 +191,20 @@ fn sinks_to_tell(alloc: Global, b: &Blueprint) -> Result<(Vec<Line>, Vec<SinkEnd
 }
 
 /// Runs a blueprint of which all has been built.
-fn run_blueprint<F: Folder>(alloc: Global, folder: &mut F, b: Blueprint, turns: u32) -> Outcome
+fn run_blueprint<F: Folder>(
+    alloc: Global,
+    folder: &mut F,
+    b: Blueprint,
+    trace: Option<Line>,
+    turns: u32,
+) -> Outcome
     requires runs { CanRun b }
+    requires apart { IsApart b trace }
     requires turns { turns ≤ 4000000000 }
-    ensures told { IsTrue (F.state folder.old).tells → EndedRun result.status (of_outcome result) b turns (F.state folder.old) (F.state folder.new) }
+    ensures told { IsTrue (F.state folder.old).tells → EndedRun result.status (of_outcome result) b trace turns (F.state folder.old) (F.state folder.new) }
     ensures tells { IsTrue (F.state folder.new).tells → IsTrue (F.state folder.old).tells }
-    ensures causes { RunCauses result.status (of_outcome result) b (F.state folder.old) (F.state folder.new) }
-    ensures sinks { SinksOf result.status (of_outcome result) }
+    ensures causes { RunCauses result.status (of_outcome result) b trace (F.state folder.old) (F.state folder.new) }
+    ensures sinks { SinksOf result.status (of_outcome result) trace }
     ensures detail { result.detail.items ≡ detail_of result.status }
     ensures reads { QuietButAll (inputs_of_nodes b.nodes.items) (F.state folder.old).read (F.state folder.new).read }
 {
@@ -202,7 +212,7 @@ fn run_blueprint<F: Folder>(alloc: Global, folder: &mut F, b: Blueprint, turns: 
     let Ok((names, room)) = sinks_to_tell(alloc, &b) else {
         return without_run(alloc, Status::NoMemory);
     };
-    match run(alloc, folder, b, turns) {
+    match run(alloc, folder, b, trace, turns) {
         Ok(ran) => after_run(alloc, names, room, ran),
         Err(OpenEnd::MissingInput(name)) => without_run(alloc, Status::Missing(name)),
         Err(OpenEnd::MissingOutput(name)) => without_run(alloc, Status::Missing(name)),
@@ -211,18 +221,25 @@ fn run_blueprint<F: Folder>(alloc: Global, folder: &mut F, b: Blueprint, turns: 
 }
 
 /// Runs a blueprint that was checked, where all of it has been built.
-fn run_checked<F: Folder>(alloc: Global, folder: &mut F, checked: Checked, turns: u32) -> Outcome
+fn run_checked<F: Folder>(
+    alloc: Global,
+    folder: &mut F,
+    checked: Checked,
+    trace: Option<Line>,
+    turns: u32,
+) -> Outcome
     requires fit { (taken : List (List ℕ)) × IsFit (blueprint_of checked) [] taken }
+    requires apart { IsApart (blueprint_of checked) trace }
     requires turns { turns ≤ 4000000000 }
-    ensures told { IsTrue (F.state folder.old).tells → EndedFit result.status (of_outcome result) (blueprint_of checked) turns (F.state folder.old) (F.state folder.new) }
+    ensures told { IsTrue (F.state folder.old).tells → EndedFit result.status (of_outcome result) (blueprint_of checked) trace turns (F.state folder.old) (F.state folder.new) }
     ensures tells { IsTrue (F.state folder.new).tells → IsTrue (F.state folder.old).tells }
-    ensures causes { CausesFit result.status (of_outcome result) (blueprint_of checked) (F.state folder.old) (F.state folder.new) }
-    ensures sinks { SinksOf result.status (of_outcome result) }
+    ensures causes { CausesFit result.status (of_outcome result) (blueprint_of checked) trace (F.state folder.old) (F.state folder.new) }
+    ensures sinks { SinksOf result.status (of_outcome result) trace }
     ensures detail { result.detail.items ≡ detail_of result.status }
     ensures reads { QuietButAll (inputs_of_nodes (blueprint_of checked).nodes.items) (F.state folder.old).read (F.state folder.new).read }
 {
     match first_unbuilt(alloc, checked.blueprint()) {
-        Ok(None) => run_blueprint(alloc, folder, checked.into_blueprint(), turns),
+        Ok(None) => run_blueprint(alloc, folder, checked.into_blueprint(), trace, turns),
         Ok(Some(node)) => without_run(alloc, Status::Unbuilt(node)),
         Err(_) => without_run(alloc, Status::NoMemory),
     }
@@ -234,18 +251,20 @@ fn run_parsed<F: Folder>(
     folder: &mut F,
     b: Blueprint,
     taken: &[Line],
+    trace: Option<Line>,
     turns: u32,
 ) -> Outcome
-    requires { turns ≤ 4000000000 }
-    ensures told { IsTrue (F.state folder.old).tells → EndedParsed result.status (of_outcome result) b taken.now turns (F.state folder.old) (F.state folder.new) }
+    requires taken { (t : List ℕ) → trace ≡ Some t → Contains taken.now t }
+    requires turns { turns ≤ 4000000000 }
+    ensures told { IsTrue (F.state folder.old).tells → EndedParsed result.status (of_outcome result) b taken.now trace turns (F.state folder.old) (F.state folder.new) }
     ensures tells { IsTrue (F.state folder.new).tells → IsTrue (F.state folder.old).tells }
-    ensures causes { CausesText result.status (of_outcome result) taken.now (F.state folder.old) (F.state folder.new) }
-    ensures sinks { SinksOf result.status (of_outcome result) }
+    ensures causes { CausesText result.status (of_outcome result) taken.now trace (F.state folder.old) (F.state folder.new) }
+    ensures sinks { SinksOf result.status (of_outcome result) trace }
     ensures detail { result.detail.items ≡ detail_of result.status }
     ensures reads { QuietAmong taken.now (F.state folder.old).read (F.state folder.new).read }
 {
     match check(alloc, b, &[], taken) {
-        Ok(checked) => run_checked(alloc, folder, checked, turns),
+        Ok(checked) => run_checked(alloc, folder, checked, trace, turns),
         Err(CheckEnd::Fault(fault)) => unfit(alloc, fault),
         Err(CheckEnd::NoMemory) => without_run(alloc, Status::NoMemory),
     }
@@ -257,50 +276,95 @@ fn run_text<F: Folder>(
     folder: &mut F,
     text: &[u8],
     taken: &[Line],
+    trace: Option<Line>,
     turns: u32,
 ) -> Outcome
-    requires { turns ≤ 4000000000 }
-    ensures told { IsTrue (F.state folder.old).tells → EndedText result.status (of_outcome result) text.now taken.now turns (F.state folder.old) (F.state folder.new) }
+    requires taken { (t : List ℕ) → trace ≡ Some t → Contains taken.now t }
+    requires turns { turns ≤ 4000000000 }
+    ensures told { IsTrue (F.state folder.old).tells → EndedText result.status (of_outcome result) text.now taken.now trace turns (F.state folder.old) (F.state folder.new) }
     ensures tells { IsTrue (F.state folder.new).tells → IsTrue (F.state folder.old).tells }
-    ensures causes { CausesText result.status (of_outcome result) taken.now (F.state folder.old) (F.state folder.new) }
-    ensures sinks { SinksOf result.status (of_outcome result) }
+    ensures causes { CausesText result.status (of_outcome result) taken.now trace (F.state folder.old) (F.state folder.new) }
+    ensures sinks { SinksOf result.status (of_outcome result) trace }
     ensures detail { result.detail.items ≡ detail_of result.status }
     ensures reads { QuietAmong taken.now (F.state folder.old).read (F.state folder.new).read }
 {
     match parse(alloc, text) {
-        Ok(b) => run_parsed(alloc, folder, b, taken, turns),
+        Ok(b) => run_parsed(alloc, folder, b, taken, trace, turns),
         Err(ParseEnd::Fault(fault)) => without_run(alloc, Status::Refused(fault)),
         Err(ParseEnd::NoMemory) => without_run(alloc, Status::NoMemory),
     }
 }
 
-/// The name of a file twice: one to tell that it is missing, and one in the list of the files that are taken.
-fn names_of(alloc: Global, file: &Line) -> Result<(Line, Vec<Line>), NoMemory>
-    ensures name { IfOk result (λ names. names.0 ≡ file.now) }
-    ensures taken { IfOk result (λ names. names.1.items ≡ file.now ∷ []) }
+/// A copy of a name, where there is one.
+fn copy_of(alloc: Global, name: Option<&Line>) -> Result<Option<Line>, NoMemory>
+    ensures { IfOk result (λ copy. copy ≡ option_copied name.entry) }
 {
-    let name = file.copy(alloc)?;
-    let mut taken = Vec::new(alloc);
-    taken.push(file.copy(alloc)?)?;
-    Ok((name, taken))
+    match name {
+        Some(line) => Ok(Some(line.copy(alloc)?)),
+        None => Ok(None),
+    }
 }
 
-/// Reads the blueprint of that name's file, and runs it by at most so many units.
-pub fn run_file<F: Folder>(alloc: Global, folder: &mut F, file: &Line, turns: u32) -> Outcome
+/// The files that no source and no sink may name.
+fn taken_by(alloc: Global, file: &Line, trace: Option<&Line>) -> Result<Vec<Line>, NoMemory>
+    ensures { IfOk result (λ names. names.items ≡ taken_files file.now (option_copied trace.entry)) }
+{
+    let mut taken = Vec::new(alloc);
+    taken.push(file.copy(alloc)?)?;
+    if let Some(name) = trace {
+        taken.push(name.copy(alloc)?)?;
+    }
+    Ok(taken)
+}
+
+/// The names of a call: that of its file, to tell that it is missing, that of its trace, and those of the files that are taken.
+#[derive(Drop)]
+struct Names {
+    file: Line,
+    trace: Option<Line>,
+    taken: Vec<Line>,
+}
+
+/// Copies the names of a call.
+fn names_of(alloc: Global, file: &Line, trace: Option<&Line>) -> Result<Names, NoMemory>
+    ensures file { IfOk result (λ names. names.file ≡ file.now) }
+    ensures trace { IfOk result (λ names. names.trace ≡ option_copied trace.entry) }
+    ensures taken { IfOk result (λ names. names.taken.items ≡ taken_files file.now (option_copied trace.entry)) }
+{
+    Ok(Names {
+        file: file.copy(alloc)?,
+        trace: copy_of(alloc, trace)?,
+        taken: taken_by(alloc, file, trace)?,
+    })
+}
+
+/// Reads the blueprint of that name's file, and runs it by at most so many units; the file of the trace, where one is wanted, is another.
+pub fn run_file<F: Folder>(
+    alloc: Global,
+    folder: &mut F,
+    file: &Line,
+    trace: Option<&Line>,
+    turns: u32,
+) -> Outcome
     requires { turns ≤ 4000000000 }
-    ensures told { IsTrue (F.state folder.old).tells → Told (of_outcome result) (record { file = file.now; turns = turns }) (F.state folder.old) (F.state folder.new) }
-    ensures causes { Causes result.status (of_outcome result) file.now (F.state folder.old) (F.state folder.new) }
-    ensures sinks { SinksOf result.status (of_outcome result) }
+    ensures told { IsTrue (F.state folder.old).tells → Told (of_outcome result) (record { file = file.now; trace = option_copied trace.entry; turns = turns }) (F.state folder.old) (F.state folder.new) }
+    ensures causes { Causes result.status (of_outcome result) file.now (option_copied trace.entry) (F.state folder.old) (F.state folder.new) }
+    ensures sinks { SinksOf result.status (of_outcome result) (option_copied trace.entry) }
     ensures no_usage { result.status ≡ Status.Usage → ⊥ }
     ensures tells { IsTrue (F.state folder.new).tells → IsTrue (F.state folder.old).tells }
     ensures detail { result.detail.items ≡ detail_of result.status }
     ensures reads { GrewAtMost ((F.state folder.old).read file.now) text_limit ((F.state folder.new).read file.now) }
 {
-    let Ok((name, taken)) = names_of(alloc, file) else {
+    let Ok(names) = names_of(alloc, file, trace) else {
         return without_run(alloc, Status::NoMemory);
     };
+    let Names {
+        file: name,
+        trace: path,
+        taken,
+    } = names;
     match read_file(alloc, folder, file) {
-        Ok(text) => run_text(alloc, folder, &text, &taken, turns),
+        Ok(text) => run_text(alloc, folder, &text, &taken, path, turns),
         Err(ReadEnd::Missing) => without_run(alloc, Status::Missing(name)),
         Err(ReadEnd::Fault) => without_run(alloc, Status::ReadFault),
         Err(ReadEnd::NoMemory) => without_run(alloc, Status::NoMemory),

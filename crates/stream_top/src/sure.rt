@@ -1,5 +1,6 @@
 // The run of a file over a folder of which no call fails.
 ghost use Rattle.std.specs.Prelude.{◌≤◌, IsTrue};
+ghost use Rattle.std.specs.Option.{option_copied};
 ghost use Rattle.stream_top.specs.Outcome.{IsValid, WasRun};
 
 use crate::top::{RunEnd, run_file};
@@ -12,12 +13,13 @@ use stream_io::sure::SureFolder;
 pub fn run_surely<C: Drain>(
     alloc: Global,
     file: &Line,
+    trace: Option<&Line>,
     turns: u32,
     folder: &mut SureFolder,
     console: &mut C,
 ) -> RunEnd
     requires { turns ≤ 4000000000 }
-    ensures runs { IsTrue (⟦<SureFolder as Folder>⟧.state folder.old).tells → IsValid file.now (⟦<SureFolder as Folder>⟧.state folder.old) → WasRun result.status }
+    ensures runs { IsTrue (⟦<SureFolder as Folder>⟧.state folder.old).tells → IsValid file.now (option_copied trace.entry) (⟦<SureFolder as Folder>⟧.state folder.old) → WasRun result.status }
 {
-    run_file(alloc, file, turns, folder, console)
+    run_file(alloc, file, trace, turns, folder, console)
 }

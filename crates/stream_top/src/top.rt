@@ -1,5 +1,6 @@
 // The run of a file, and the report of a call.
 ghost use Rattle.std.specs.Prelude.{◌≡◌, ◌≤◌, ◌⊎◌, ℕ, [], IsTrue};
+ghost use Rattle.std.specs.Option.{option_copied};
 ghost use Rattle.stream_io.specs.Counts.{GrewAtMost};
 ghost use Rattle.stream_top.specs.Calls.{answer_of};
 ghost use Rattle.stream_top.specs.Outcome.{Blank, Told, Causes, SinksOf, IsValid, RoseNowhere, WasRun};
@@ -27,10 +28,11 @@ pub struct RunEnd {
     pub used: u64,
 }
 
-/// Reads and runs the blueprint of the file of that name by at most so many units, 4,000,000,000 at most, and writes the report to the console. Rule: own.
+/// Reads and runs the blueprint of the file of that name by at most so many units, 4,000,000,000 at most, and writes the report to the console. Where a file for the trace is given, it is opened behind those of the sinks, and what the stages chose is written into it after the run, a line for each stage whose kind chooses, in order of nodes. No source and no sink may name it, nor the blueprint's file. Rule: own.
 pub fn run_file<F: Folder, C: Drain>(
     alloc: Global,
     file: &Line,
+    trace: Option<&Line>,
     turns: u32,
     folder: &mut F,
     console: &mut C,
@@ -39,14 +41,14 @@ pub fn run_file<F: Folder, C: Drain>(
 
     // What is answered and left where the folder told its files before. What files hold then is said where it still tells them.
     ensures tells { IsTrue (F.state folder.new).tells → IsTrue (F.state folder.old).tells }
-    ensures told { IsTrue (F.state folder.old).tells → Told (answer_of result) (record { file = file.now; turns = turns }) (F.state folder.old) (F.state folder.new) }
+    ensures told { IsTrue (F.state folder.old).tells → Told (answer_of result) (record { file = file.now; trace = option_copied trace.entry; turns = turns }) (F.state folder.old) (F.state folder.new) }
 
     // A valid text and inputs and no fault give a run, or memory was wanting.
-    ensures complete { IsTrue (F.state folder.old).tells → IsValid file.now (F.state folder.old) → RoseNowhere (F.state folder.old) (F.state folder.new) → WasRun result.status }
+    ensures complete { IsTrue (F.state folder.old).tells → IsValid file.now (option_copied trace.entry) (F.state folder.old) → RoseNowhere (F.state folder.old) (F.state folder.new) → WasRun result.status }
 
     // Which counts rose, whether it tells them or not.
-    ensures causes { Causes result.status (answer_of result) file.now (F.state folder.old) (F.state folder.new) }
-    ensures sinks { SinksOf result.status (answer_of result) }
+    ensures causes { Causes result.status (answer_of result) file.now (option_copied trace.entry) (F.state folder.old) (F.state folder.new) }
+    ensures sinks { SinksOf result.status (answer_of result) (option_copied trace.entry) }
 
     // A file is no want of words.
     ensures no_usage { result.status ≡ Status.Usage → ⊥ }
@@ -65,7 +67,7 @@ pub fn run_file<F: Folder, C: Drain>(
         picture,
         picks,
         used,
-    } = answer::run_file(alloc, folder, file, turns);
+    } = answer::run_file(alloc, folder, file, trace, turns);
     let code = match put_report(console, &status, &detail, &sinks, &picture.wires, used) {
         Ok(()) => code(&status),
         Err(Failed) => 8,

@@ -11,12 +11,12 @@ pub returns-in-Ok-None-clause-told : goal.returns-in-Ok-None-clause-told
 returns-in-Ok-None-clause-told g c =
     let none : unbuilt_node (blueprint_of c.args.checked) ≡ None = sym (ap unbuilt_node c.blueprint.ensures) ∙ sym c.in-Ok-None.ensures ∙ c.in-Ok-None.field-0-is in
     λ tells.
-    inr (none, subst (λ b. EndedRun c.run_blueprint.result.status (of_outcome c.run_blueprint.result) b c.args.turns (g.F.Folder.state c.args.folder.now) (g.F.Folder.state c.run_blueprint.new.folder)) c.into_blueprint.ensures (c.run_blueprint.ensures.told tells))
+    inr (none, subst (λ b. EndedRun c.run_blueprint.result.status (of_outcome c.run_blueprint.result) b c.args.trace c.args.turns (g.F.Folder.state c.args.folder.now) (g.F.Folder.state c.run_blueprint.new.folder)) c.into_blueprint.ensures (c.run_blueprint.ensures.told tells))
 
 pub returns-in-Ok-Some-clause-told : goal.returns-in-Ok-Some-clause-told
 returns-in-Ok-Some-clause-told g c =
     let some : unbuilt_node (blueprint_of c.args.checked) ≡ Some c.in-Ok-Some.node = sym (ap unbuilt_node c.blueprint.ensures) ∙ sym c.in-Ok-Some.ensures ∙ c.in-Ok-Some.field-0-is in
-    λ tells. unbuilt_told (g.F.Folder.state c.args.folder.now) (of_outcome c.without_run.result) (blueprint_of c.args.checked) c.in-Ok-Some.node c.args.turns c.without_run.ensures.status c.without_run.ensures.blank some
+    λ tells. unbuilt_told (g.F.Folder.state c.args.folder.now) (of_outcome c.without_run.result) (blueprint_of c.args.checked) c.args.trace c.in-Ok-Some.node c.args.turns c.without_run.ensures.status c.without_run.ensures.blank some
 
 pub returns-in-Ok-None-clause-reads : goal.returns-in-Ok-None-clause-reads
 returns-in-Ok-None-clause-reads g c = reads_checked _ _ _ _ c.into_blueprint.ensures c.run_blueprint.ensures.reads

@@ -1,10 +1,17 @@
 -- The goals of `answer::run_file` that the search leaves.
-use Rattle.std.proofs.Common.{◌∙◌, [], ◌∷◌, subst}
+use Rattle.std.proofs.Common.{◌∙◌, ap, subst, sym}
+use Rattle.std.specs.Option.{option_copied}
 use Rattle.stream_top.specs.AfterRun.{of_outcome}
+use Rattle.stream_top.specs.Outcome.{taken_files}
 use Rattle.stream_top.specs.Texts.{EndedText, CausesText}
 use Rattle.stream_top.proofs.Quiets.{tells_before, tells_behind}
-use Rattle.stream_top.proofs.Answering.{told_text, causes_text, reads_text}
+use Rattle.stream_top.proofs.Answering.{told_text, causes_text, reads_text, sinks_text, among_of}
 use Rattle.stream_top.proofs.answer.run_file.Goals as goal
+
+pub run_text-requires-clause-taken : goal.run_text-requires-clause-taken
+run_text-requires-clause-taken g c =
+    let taken = c.deref-in-Ok-read_file.ensures.value ∙ c.in-Ok.ensures.taken in
+    λ κs lives. among_of c.args.file.now (option_copied c.args.trace) c.in-Ok.names.trace _ c.in-Ok.ensures.trace taken
 
 pub returns-in-Ok-read_file-clause-told : goal.returns-in-Ok-read_file-clause-told
 returns-in-Ok-read_file-clause-told g c =
@@ -12,19 +19,28 @@ returns-in-Ok-read_file-clause-told g c =
     let mid = g.F.Folder.state c.read_file.new.folder in
     let new = g.F.Folder.state c.run_text.new.folder in
     let a = of_outcome c.run_text.result in
+    let s = c.run_text.result.status in
     let file = c.args.file.now in
+    let trace = option_copied c.args.trace in
     let taken = c.deref-in-Ok-read_file.ensures.value ∙ c.in-Ok.ensures.taken in
-    λ tells. told_text a (record { file = file; turns = c.args.turns }) old mid new c.in-Ok-read_file.text.items c.in-Ok-read_file.ensures.ok tells
-    (subst (λ x. EndedText c.run_text.result.status a x (file ∷ []) c.args.turns mid new) c.deref.ensures.value
-    (subst (λ y. EndedText c.run_text.result.status a c.deref.result.now y c.args.turns mid new) taken (c.run_text.ensures.told (tells_behind old mid c.in-Ok-read_file.ensures.ok.files tells))))
+    λ tells. told_text a (record { file = file; trace = trace; turns = c.args.turns }) old mid new c.in-Ok-read_file.text.items c.in-Ok-read_file.ensures.ok tells
+    (subst (λ x. EndedText s a x (taken_files file trace) trace c.args.turns mid new) c.deref.ensures.value
+    (subst (λ y. EndedText s a c.deref.result.now y trace c.args.turns mid new) taken
+    (subst (λ z. EndedText s a c.deref.result.now c.deref-in-Ok-read_file.result.now z c.args.turns mid new) c.in-Ok.ensures.trace (c.run_text.ensures.told (tells_behind old mid c.in-Ok-read_file.ensures.ok.files tells)))))
 
 pub returns-in-Ok-read_file-clause-causes : goal.returns-in-Ok-read_file-clause-causes
 returns-in-Ok-read_file-clause-causes g c =
     let mid = g.F.Folder.state c.read_file.new.folder in
     let new = g.F.Folder.state c.run_text.new.folder in
+    let a = of_outcome c.run_text.result in
+    let s = c.run_text.result.status in
+    let trace = option_copied c.args.trace in
     let taken = c.deref-in-Ok-read_file.ensures.value ∙ c.in-Ok.ensures.taken in
-    causes_text (g.F.Folder.state c.args.folder.now) mid new c.args.file.now c.in-Ok-read_file.text.items c.in-Ok-read_file.ensures.ok c.run_text.result.status (of_outcome c.run_text.result)
-    (subst (λ y. CausesText c.run_text.result.status (of_outcome c.run_text.result) y mid new) taken c.run_text.ensures.causes)
+    causes_text (g.F.Folder.state c.args.folder.now) mid new c.args.file.now c.in-Ok-read_file.text.items c.in-Ok-read_file.ensures.ok s a trace
+    (subst (λ y. CausesText s a y trace mid new) taken (subst (λ z. CausesText s a c.deref-in-Ok-read_file.result.now z mid new) c.in-Ok.ensures.trace c.run_text.ensures.causes))
+
+pub returns-in-Ok-read_file-clause-sinks : goal.returns-in-Ok-read_file-clause-sinks
+returns-in-Ok-read_file-clause-sinks g c = sinks_text c.run_text.result.status (of_outcome c.run_text.result) _ _ c.in-Ok.ensures.trace c.run_text.ensures.sinks
 
 pub returns-in-Ok-read_file-clause-tells : goal.returns-in-Ok-read_file-clause-tells
 returns-in-Ok-read_file-clause-tells g c =
@@ -32,5 +48,6 @@ returns-in-Ok-read_file-clause-tells g c =
 
 pub returns-in-Ok-read_file-clause-reads : goal.returns-in-Ok-read_file-clause-reads
 returns-in-Ok-read_file-clause-reads g c =
+    let trace = option_copied c.args.trace in
     let taken = c.deref-in-Ok-read_file.ensures.value ∙ c.in-Ok.ensures.taken in
-    reads_text (g.F.Folder.state c.args.folder.now).read (g.F.Folder.state c.read_file.new.folder).read (g.F.Folder.state c.run_text.new.folder).read c.args.file.now _ taken c.in-Ok-read_file.ensures.most c.run_text.ensures.reads
+    reads_text (g.F.Folder.state c.args.folder.now).read (g.F.Folder.state c.read_file.new.folder).read (g.F.Folder.state c.run_text.new.folder).read c.args.file.now trace _ taken c.in-Ok-read_file.ensures.most c.run_text.ensures.reads

@@ -2,17 +2,15 @@
 use Rattle.std.proofs.Common.{◌≡◌, ◌≢◌, ℕ, zero, suc, ◌+◌, ◌<◌, ◌≤◌, Bool, true, false, List, [], ◌∷◌, ◌++◌, ◌⊎◌, inl, inr, refl, sym, ap, ◌∙◌, subst, arith, length, map, slice_get, length-take}
 use Rattle.std.specs.Prelude.{slice_index_or, IsTrue, IsSome, Option, Some, None, ◌||◌, ◌&&◌, if◌then◌else◌, nat_lt}
 use Rattle.std.specs.Option.{option_map, option_to_list}
-use Rattle.std.specs.List.{All, Contains, list_any, list_all, filter}
+use Rattle.std.specs.List.{All, Contains, list_any, filter}
 use Rattle.std.proofs.lemmas.List.{take_all, append_assoc, length-map}
 use Rattle.std.proofs.lemmas.Bool.{ltb-true, ltb-false, lt-ltb}
 use Rattle.std.proofs.lemmas.Bool.Decides.{leb_tells}
 use Rattle.elem_core.specs.Text.{lines}
 use Rattle.blue_words.specs.declared.fault.BlueKind.TheVariants.{TooLong}
-use Rattle.stream_model.specs.declared.kind.Kind.TheVariants.{Lines, ToLines}
 use Rattle.stream_model.specs.declared.outcome.WireCount.{WireCount}
 use Rattle.stream_model.specs.declared.outcome.EndState.{EndState}
 use Rattle.stream_model.specs.declared.outcome.EndState.TheVariants as state
-use Rattle.stream_model.specs.Graph.{Graph}
 use Rattle.stream_model.specs.Node.{World}
 use Rattle.stream_model.specs.Outlook.{Outlook, Entry, failed, Allows, Agrees}
 use Rattle.elem_core.specs.Tree.{Tree}
@@ -30,7 +28,7 @@ use Rattle.blue_lang.specs.Plain.{plain}
 use Rattle.blue_check.specs.Fitness.{IsFit}
 use Rattle.blue_check.specs.Wires.{blueprint_wires}
 use Rattle.blue_walks.specs.Forest.{wiring}
-use Rattle.materializer.specs.Built.{CanRun, unbuilt_node}
+use Rattle.materializer.specs.Built.{unbuilt_node}
 use Rattle.materializer.specs.Graphs.{graph_of, node_of}
 use Rattle.materializer.specs.Files.{input_of, output_of, is_sink, sinks_of_nodes, inputs_of_nodes, outputs_of_nodes}
 use Rattle.run_files.specs.Quiet.{Quiet, QuietBut}
@@ -41,22 +39,22 @@ use Rattle.blueprint_run.specs.Choosing.{pick_places, picked}
 use Rattle.blueprint_run.specs.Drawing.{Drawn, IsSource, WasRead, IsWorldOf}
 use Rattle.blueprint_run.specs.Stands.{Stand, sink_places, is_write_fault, is_unended, is_failed}
 use Rattle.blueprint_run.specs.Units.{Pays}
-use Rattle.blueprint_run.specs.Running.{SinkLeaves, LeavesFiles, WritesOf, SomeWriteRose, Runs, BreaksFiles, Wants}
-use Rattle.blueprint_run.specs.Tracing.{written_files, IsApart, HoldsTrace, BreaksTrace, Traces}
+use Rattle.blueprint_run.specs.Running.{SinkLeaves, LeavesFiles, WritesOf, Runs, BreaksFiles, Wants}
+use Rattle.blueprint_run.specs.Tracing.{written_files, IsApart, Traces}
 use Rattle.blueprint_run.specs.declared.run.Ran.{Ran}
 use Rattle.run_files.proofs.Counts.{grew_same, quiet_two}
 use Rattle.blueprint_run.proofs.Counts.{grew_behind}
 use Rattle.blueprint_run.proofs.Places.{contains_at, filtered_at, place_within}
 use Rattle.blueprint_run.proofs.Apart.{inputs_untaken, outputs_untaken}
-use Rattle.blueprint_run.proofs.Traces.{listed, in_list}
+use Rattle.blueprint_run.proofs.Traces.{in_list}
 use Rattle.run_report.specs.Answer.{Answer}
 use Rattle.run_report.specs.declared.outcome.SinkEnd.{SinkEnd}
 use Rattle.run_report.specs.declared.outcome.Status.{Status}
 use Rattle.run_report.specs.declared.outcome.Status.TheVariants as status
-use Rattle.stream_top.specs.AfterRun.{AfterRun, status_after, ends_of, name_of, told_end, told_ends, is_ended, all_ended, some_failed, some_unended, some_fault, is_stalled, is_over}
+use Rattle.stream_top.specs.AfterRun.{AfterRun, ends_of, name_of, told_end, told_ends, is_ended, all_ended, some_failed, some_unended, some_fault, is_stalled, is_over}
 use Rattle.stream_top.specs.Asked.{Asked}
 use Rattle.stream_top.specs.Text.{text_limit, text_of_file, ReadsFile}
-use Rattle.stream_top.specs.Outcome.{taken_files, SaysFile, SaysFit, SaysBuilt, Blank, RanNothing, RanTo, FallsShort, SinksWrote, SomeCountRose, SomeWriteFailed, GaveUp, LacksInput, LacksOutput, IsAbsent, EndedRun, EndedBefore, Told, Causes, CausesBefore, QuietButAll, QuietAmong, RunCauses, SinksOf, MissesFile}
+use Rattle.stream_top.specs.Outcome.{taken_files, SaysFile, SaysFit, Blank, RanNothing, RanTo, FallsShort, SinksWrote, SomeCountRose, SomeWriteFailed, GaveUp, LacksInput, LacksOutput, IsAbsent, EndedRun, EndedBefore, Told, Causes, CausesBefore, QuietButAll, QuietAmong, RunCauses, SinksOf, MissesFile}
 use Rattle.stream_top.specs.Texts.{NotRun, EndedFit, NotFit, EndedParsed, NotSaid, EndedText, AllQuiet, CausesQuiet, CausesFit, CausesText}
 use Rattle.stream_top.proofs.Quiets.{tells_before, files_two, most_later}
 

@@ -1,7 +1,6 @@
 -- A valid text and inputs and no fault leave the answers of a run.
 use Rattle.std.proofs.Common.{◌≡◌, ℕ, suc, ◌∷◌, ◌++◌, [], List, ◌⊎◌, inl, inr, refl, sym, ap, ◌∙◌, subst, slice_get}
 use Rattle.std.specs.Prelude.{Option, Some, None, IsTrue, IsSome}
-use Rattle.std.specs.List.{All}
 use Rattle.stream_model.specs.Graph.{Wire}
 use Rattle.stream_io.specs.State.{FolderState}
 use Rattle.blue_core.specs.declared.blueprint.Blueprint.{Blueprint}

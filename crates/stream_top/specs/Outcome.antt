@@ -1,9 +1,7 @@
 -- What a call answers and what it leaves, status by status.
-use Rattle.std.specs.Prelude.{◌≡◌, ◌≢◌, ℕ, ◌<◌, ◌≤◌, ◌⊎◌, Bool, true, false, IsTrue, IsSome, List, [], ◌∷◌, ◌++◌, map, slice_get, Option, Some, None, ⊤}
+use Rattle.std.specs.Prelude.{◌≡◌, ℕ, ◌<◌, ◌≤◌, ◌⊎◌, true, false, IsSome, List, [], ◌∷◌, ◌++◌, map, slice_get, Option, Some, None, ⊤}
 use Rattle.std.specs.Option.{option_to_list}
-use Rattle.std.specs.List.{All, Contains, list_any, list_all}
-use Rattle.elem_core.specs.declared.why.Cause.{Cause}
-use Rattle.stream_model.specs.declared.outcome.EndState.{EndState}
+use Rattle.std.specs.List.{All, Contains}
 use Rattle.stream_model.specs.declared.outcome.EndState.TheVariants as state
 use Rattle.stream_model.specs.Node.{World}
 use Rattle.stream_model.specs.Composed.{composed, sink_outlook}
@@ -25,14 +23,13 @@ use Rattle.run_files.specs.Opening.{Empties}
 use Rattle.blueprint_run.specs.Carrying.{Carries}
 use Rattle.blueprint_run.specs.Choosing.{pick_places, picked}
 use Rattle.blueprint_run.specs.Drawing.{Drawn, IsWorldOf}
-use Rattle.blueprint_run.specs.Stands.{Stand, sink_places, is_write_fault, is_unended, is_failed}
+use Rattle.blueprint_run.specs.Stands.{Stand, sink_places}
 use Rattle.blueprint_run.specs.Tracing.{Traces, written_files}
 use Rattle.blueprint_run.specs.Units.{Pays}
 use Rattle.blueprint_run.specs.Running.{LeavesFiles, WritesOf, BreaksFiles}
 use Rattle.run_report.specs.Answer.{Answer}
 use Rattle.run_report.specs.declared.outcome.Status.{Status}
 use Rattle.run_report.specs.declared.outcome.Status.TheVariants as status
-use Rattle.run_report.specs.declared.outcome.SinkEnd.{SinkEnd}
 use Rattle.stream_top.specs.Asked.{Asked}
 use Rattle.stream_top.specs.AfterRun.{told_ends, all_ended, some_failed, some_unended, some_fault, is_over}
 

@@ -1,5 +1,5 @@
 -- The goals of `answer::run_checked` that the search leaves.
-use Rattle.std.proofs.Common.{◌≡◌, ◌∙◌, inl, inr, sym, ap, subst, Some, None}
+use Rattle.std.proofs.Common.{◌≡◌, ◌∙◌, inr, sym, ap, subst, Some, None}
 use Rattle.blue_check.specs.Checked.{blueprint_of}
 use Rattle.materializer.specs.Built.{unbuilt_node}
 use Rattle.stream_top.specs.AfterRun.{of_outcome}

@@ -1,5 +1,5 @@
 -- The goals of `answer::run_file` that the search leaves.
-use Rattle.std.proofs.Common.{◌∙◌, ap, subst, sym}
+use Rattle.std.proofs.Common.{◌∙◌, subst}
 use Rattle.std.specs.Option.{option_copied}
 use Rattle.stream_top.specs.AfterRun.{of_outcome}
 use Rattle.stream_top.specs.Outcome.{taken_files}

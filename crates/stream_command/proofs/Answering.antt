@@ -1,6 +1,6 @@
 -- What follows from what is answered, by what the words ask for.
-use Rattle.std.proofs.Common.{◌≡◌, ℕ, ◌≤◌, ◌<◌, List, ◌⊎◌, inl, inr, refl, sym, subst, arith}
-use Rattle.std.specs.Prelude.{Option, Some, None, IsTrue, option_and_then}
+use Rattle.std.proofs.Common.{◌≡◌, ◌≢◌, ℕ, ◌≤◌, ◌<◌, List, ◌⊎◌, inl, inr, refl, sym, subst, arith}
+use Rattle.std.specs.Prelude.{Option, Some, None, IsTrue, ◌↔◌}
 use Rattle.stream_io.specs.Counts.{Rose, Grew, GrewAtMost}
 use Rattle.stream_io.specs.State.{FolderState}
 use Rattle.run_files.specs.Quiet.{Quiet}
@@ -15,7 +15,6 @@ use Rattle.stream_top.specs.Outcome.{Blank, EndedBefore, CausesBefore, SinksOf, 
 use Rattle.stream_top.specs.Text.{text_limit}
 use Rattle.stream_top.proofs.Quiets.{read_none}
 use Rattle.stream_command.specs.Answers.{Answers, AnswersTo, IsNoCommand, RunsFile, StopsBefore, EndsGenerating, GeneratesAndRuns, IsValidFor}
-use Rattle.stream_command.specs.Command.{untraced, without_trace, command_of}
 
 none_some : (c : Asked) (o : Option Asked) → o ≡ None → o ≡ Some c → ⊥
 none_some c o e f = cc
@@ -99,17 +98,17 @@ reads_little None a old new h c e = absurd (none_some c None refl e)
 reads_little (Some d) a old new h c e = subst (λ (x : Asked). GrewAtMost (old.read x.file) text_limit (new.read x.file)) (some_same e) (read_to d.generated d a old new h)
 
 -- a valid blueprint and no fault give a run
-complete_to : (g : Option ℕ) (c : Asked) (a : Answer) (old new : FolderState) → AnswersTo g c a old new → IsValidFor g c.file old new → RoseNowhere old new → WasRun a.status
+complete_to : (g : Option ℕ) (c : Asked) (a : Answer) (old new : FolderState) → AnswersTo g c a old new → IsValidFor g c.file c.trace old new → RoseNowhere old new → WasRun a.status
 complete_to None c a old new h v calm = h.complete v.0 v.1 calm
 complete_to (Some n) c a old new (inl h) v calm = calm_stops a.status n old new calm h.stops
 complete_to (Some n) c a old new (inr h) v calm =
     let tells = h.runs.tells v.0 in
     h.runs.complete tells (v.1 h.between h.generates tells) (calm_behind old h.between new n h.generates calm)
 
-pub completes : (o : Option Asked) (a : Answer) (old new : FolderState) → Answers o a old new → (c : Asked) → o ≡ Some c → IsValidFor c.generated c.file old new → RoseNowhere old new → WasRun a.status
+pub completes : (o : Option Asked) (a : Answer) (old new : FolderState) → Answers o a old new → (c : Asked) → o ≡ Some c → IsValidFor c.generated c.file c.trace old new → RoseNowhere old new → WasRun a.status
 completes None a old new h c e v calm = absurd (none_some c None refl e)
 completes (Some d) a old new h c e v calm =
-    complete_to d.generated d a old new h (subst (λ (x : Asked). IsValidFor x.generated x.file old new) (sym (some_same e)) v) calm
+    complete_to d.generated d a old new h (subst (λ (x : Asked). IsValidFor x.generated x.file x.trace old new) (sym (some_same e)) v) calm
 
 -- usage is told of words that are no command alone
 no_usage_to : (g : Option ℕ) (c : Asked) (a : Answer) (old new : FolderState) → AnswersTo g c a old new → a.status ≡ status.Usage → ⊥
@@ -117,9 +116,21 @@ no_usage_to None c a old new h e = h.no_usage e
 no_usage_to (Some n) c a old new (inl h) e = subst (λ s. StopsBefore s n old new) e h.stops
 no_usage_to (Some n) c a old new (inr h) e = h.runs.no_usage e
 
-pub usage_of : (o : Option Asked) (a : Answer) (old new : FolderState) → Answers o a old new → a.status ≡ status.Usage → o ≡ None
-usage_of None a old new h e = refl
-usage_of (Some c) a old new h e = absurd (no_usage_to c.generated c a old new h e)
+only_usage : (o : Option Asked) (a : Answer) (old new : FolderState) → Answers o a old new → a.status ≡ status.Usage → o ≡ None
+only_usage None a old new h e = refl
+only_usage (Some c) a old new h e = absurd (no_usage_to c.generated c a old new h e)
+
+told_usage : (s : Status) → (s ≡ status.NoMemory → ⊥) → (s ≡ status.Usage) ⊎ (s ≡ status.NoMemory) → s ≡ status.Usage
+told_usage s room (inl e) = e
+told_usage s room (inr e) = absurd (room e)
+
+each_usage : (o : Option Asked) (a : Answer) (old new : FolderState) → Answers o a old new → (a.status ≡ status.NoMemory → ⊥) → o ≡ None → a.status ≡ status.Usage
+each_usage None a old new h room e = told_usage a.status room h.status
+each_usage (Some c) a old new h room e = absurd (none_some c (Some c) e refl)
+
+-- and of each of them, unless memory was wanting
+pub usage_of : (o : Option Asked) (a : Answer) (old new : FolderState) → Answers o a old new → a.status ≢ status.NoMemory → (a.status ≡ status.Usage) ↔ (o ≡ None)
+usage_of o a old new h room = (only_usage o a old new h, each_usage o a old new h room)
 
 -- ---- memory was wanting as the words were read
 
@@ -135,19 +146,19 @@ none_stops n s = record {
 no_memory_usage : (s : Status) → s ≡ status.NoMemory → s ≡ status.Usage → ⊥
 no_memory_usage s e f = cc
 
-none_runs : (file : List ℕ) (turns : ℕ) (a : Answer) (s : FolderState) → a.status ≡ status.NoMemory → Blank a → RunsFile file turns a s s
-none_runs file turns a s e blank = record {
+none_runs : (file : List ℕ) (trace : Option (List ℕ)) (turns : ℕ) (a : Answer) (s : FolderState) → a.status ≡ status.NoMemory → Blank a → RunsFile file trace turns a s s
+none_runs file trace turns a s e blank = record {
   tells = λ t. t;
-  told = λ t. inl (subst (λ x. EndedBefore x a file s s) (sym e) (record { files = record { telling = refl; files = λ h n. refl }; blank = blank }));
+  told = λ t. inl (subst (λ x. EndedBefore x a file trace s s) (sym e) (record { files = record { telling = refl; files = λ h n. refl }; blank = blank }));
   complete = λ t v calm. subst (λ x. WasRun x) (sym e) tt;
   causes = inl (subst (λ x. CausesBefore x file s s) (sym e) (quiet_same s.refusals s.refusals (λ m. refl), quiet_same s.rfaults s.rfaults (λ m. refl), quiet_same s.wfaults s.wfaults (λ m. refl)));
-  sinks = subst (λ x. SinksOf x a) (sym e) blank;
+  sinks = subst (λ x. SinksOf x a trace) (sym e) blank;
   no_usage = no_memory_usage a.status e;
   reads = read_none (s.read file) (s.read file) text_limit refl;
 }
 
 none_to : (g : Option ℕ) (c : Asked) (a : Answer) (s : FolderState) → a.status ≡ status.NoMemory → Blank a → AnswersTo g c a s s
-none_to None c a s e blank = none_runs c.file c.turns a s e blank
+none_to None c a s e blank = none_runs c.file c.trace c.turns a s e blank
 none_to (Some n) c a s e blank = inl (record { blank = blank; stops = subst (λ x. StopsBefore x n s s) (sym e) (none_stops n s) })
 
 pub gave_up : (o : Option Asked) (a : Answer) (s : FolderState) → a.status ≡ status.NoMemory → Blank a → Answers o a s s
@@ -165,26 +176,21 @@ pub ended : (n : ℕ) (c : Asked) (s : Status) (a : Answer) (old new : FolderSta
 ended n c s a old new stops e blank = inl (record { blank = blank; stops = subst (λ x. StopsBefore x n old new) (sym e) stops })
 
 -- the generated files were run
-pub ran : (n : ℕ) (c : Asked) (a : Answer) (old between new : FolderState) → Generates old between n → RunsFile c.file c.turns a between new → AnswersTo (Some n) c a old new
+pub ran : (n : ℕ) (c : Asked) (a : Answer) (old between new : FolderState) → Generates old between n → RunsFile c.file c.trace c.turns a between new → AnswersTo (Some n) c a old new
 ran n c a old between new g r = inr (record { between = between; generates = g; runs = r })
 
--- a command with a file for the trace
-pub traced : (c : Asked) (path : List ℕ) (a : Answer) (s : FolderState) → c.trace ≡ Some path → a.status ≡ status.Usage → Blank a → Answers (without_trace c) a s s
-traced c path a s e usage blank = subst (λ (o : Option (List ℕ)). Answers (untraced o c) a s s) (sym e) (record { status = inl usage; blank = blank; same = refl })
+-- the run of a file, where the trace's name is lent
+pub runs_as : (file : List ℕ) (lent trace : Option (List ℕ)) (turns : ℕ) (a : Answer) (old new : FolderState) → lent ≡ trace → RunsFile file lent turns a old new → RunsFile file trace turns a old new
+runs_as file lent trace turns a old new e h = subst (λ (t : Option (List ℕ)). RunsFile file t turns a old new) e h
 
 -- one with a file to run
-pub file_was_run : (c : Asked) (a : Answer) (old new : FolderState) → c.trace ≡ None → c.generated ≡ None → RunsFile c.file c.turns a old new → Answers (without_trace c) a old new
-file_was_run c a old new e g r =
-    subst (λ (o : Option (List ℕ)). Answers (untraced o c) a old new) (sym e) (subst (λ (o : Option ℕ). AnswersTo o c a old new) (sym g) r)
+pub file_was_run : (c : Asked) (a : Answer) (old new : FolderState) → c.generated ≡ None → RunsFile c.file c.trace c.turns a old new → Answers (Some c) a old new
+file_was_run c a old new g r = subst (λ (o : Option ℕ). AnswersTo o c a old new) (sym g) r
 
 -- one with lines to generate
-pub was_generated : (n : ℕ) (c : Asked) (a : Answer) (old new : FolderState) → c.trace ≡ None → c.generated ≡ Some n → AnswersTo (Some n) c a old new → Answers (without_trace c) a old new
-was_generated n c a old new e g r =
-    subst (λ (o : Option (List ℕ)). Answers (untraced o c) a old new) (sym e) (subst (λ (o : Option ℕ). AnswersTo o c a old new) (sym g) r)
+pub was_generated : (n : ℕ) (c : Asked) (a : Answer) (old new : FolderState) → c.generated ≡ Some n → AnswersTo (Some n) c a old new → Answers (Some c) a old new
+was_generated n c a old new g r = subst (λ (o : Option ℕ). AnswersTo o c a old new) (sym g) r
 
 -- what the words ask for, by what was read of them
-pub as_asked : (words : List (List ℕ)) (c : Asked) (a : Answer) (old new : FolderState) → asked_of words ≡ Some c → Answers (without_trace c) a old new → Answers (command_of words) a old new
-as_asked words c a old new e h = subst (λ (o : Option Asked). Answers (option_and_then without_trace o) a old new) (sym e) h
-
-pub no_words : (words : List (List ℕ)) → asked_of words ≡ None → command_of words ≡ None
-no_words words e = subst (λ (o : Option Asked). option_and_then without_trace o ≡ None) (sym e) refl
+pub as_asked : (words : List (List ℕ)) (c : Asked) (a : Answer) (old new : FolderState) → asked_of words ≡ Some c → Answers (Some c) a old new → Answers (asked_of words) a old new
+as_asked words c a old new e h = subst (λ (o : Option Asked). Answers o a old new) (sym e) h

@@ -1,7 +1,7 @@
 // The whole call.
-ghost use Rattle.std.specs.Prelude.{◌≡◌, ◌≤◌, ◌⊎◌, ◌↔◌, List, ℕ, Some, None, IsTrue};
+ghost use Rattle.std.specs.Prelude.{◌≡◌, ◌≤◌, ◌⊎◌, ◌↔◌, ◌≢◌, List, ℕ, Some, None, IsTrue};
 ghost use Rattle.stream_io.specs.Counts.{GrewAtMost};
-ghost use Rattle.command_words.specs.Asking.{Asked};
+ghost use Rattle.command_words.specs.Asking.{Asked, asked_of};
 ghost use Rattle.command_words.specs.Commands.{asked};
 ghost use Rattle.stream_top.specs.Calls.{answer_of};
 ghost use Rattle.stream_top.specs.Outcome.{RoseNowhere, WasRun};
@@ -9,7 +9,6 @@ ghost use Rattle.stream_top.specs.Text.{text_limit};
 ghost use Rattle.run_report.specs.Report.{report_of, code_of};
 ghost use Rattle.run_report.specs.Writing.{Puts, PutsPart};
 ghost use Rattle.stream_command.specs.Answers.{Answers, AnswersTo, RunsFile, IsValidFor};
-ghost use Rattle.stream_command.specs.Command.{command_of, without_trace};
 
 use command_words::command::{Command, WordsEnd, read_words};
 use elem_core::line::Line;
@@ -20,7 +19,7 @@ use stream_io::outside::{Drain, Folder};
 use stream_top::top::{RunEnd, end_before_run, run_file};
 
 /// Reads the command's words, generates the files that they ask for, reads and runs the blueprint of the file that they name, and writes the report to the console. Rule: own.
-#[tactic(auto, using(crate::proofs::Answering::told_before, crate::proofs::Answering::reads_little, crate::proofs::Answering::completes, crate::proofs::Answering::usage_of, crate::proofs::Answering::gave_up, crate::proofs::Answering::refused, crate::proofs::Answering::as_asked, crate::proofs::Answering::no_words))]
+#[tactic(auto, using(crate::proofs::Answering::told_before, crate::proofs::Answering::reads_little, crate::proofs::Answering::completes, crate::proofs::Answering::usage_of, crate::proofs::Answering::gave_up, crate::proofs::Answering::refused, crate::proofs::Answering::as_asked))]
 pub fn run_streams<F: Folder, C: Drain>(
     alloc: Global,
     words: &[Line],
@@ -28,16 +27,16 @@ pub fn run_streams<F: Folder, C: Drain>(
     console: &mut C,
 ) -> RunEnd
     // Words that are no command, and no others, have this answer, or memory was wanting.
-    ensures usage { result.status ≡ Status.Usage → command_of words.now ≡ None }
+    ensures usage { result.status ≢ Status.NoMemory → (result.status ≡ Status.Usage ↔ asked_of words.now ≡ None) }
 
     // What is answered and left, by what the words ask for.
-    ensures answers { Answers (command_of words.now) (answer_of result) (F.state folder.old) (F.state folder.new) }
+    ensures answers { Answers (asked_of words.now) (answer_of result) (F.state folder.old) (F.state folder.new) }
 
     // A valid blueprint and no fault give a run, or memory was wanting.
-    ensures complete { (c : Asked) → command_of words.now ≡ Some c → IsValidFor c.generated c.file (F.state folder.old) (F.state folder.new) → RoseNowhere (F.state folder.old) (F.state folder.new) → WasRun result.status }
+    ensures complete { (c : Asked) → asked_of words.now ≡ Some c → IsValidFor c.generated c.file c.trace (F.state folder.old) (F.state folder.new) → RoseNowhere (F.state folder.old) (F.state folder.new) → WasRun result.status }
 
     // Reading the blueprint's file stops after so many bytes.
-    ensures reads { (c : Asked) → command_of words.now ≡ Some c → GrewAtMost ((F.state folder.old).read c.file) text_limit ((F.state folder.new).read c.file) }
+    ensures reads { (c : Asked) → asked_of words.now ≡ Some c → GrewAtMost ((F.state folder.old).read c.file) text_limit ((F.state folder.new).read c.file) }
 
     // The folder never begins to tell its files.
     ensures tells { IsTrue (F.state folder.new).tells → IsTrue (F.state folder.old).tells }
@@ -53,8 +52,8 @@ pub fn run_streams<F: Folder, C: Drain>(
     }
 }
 
-/// Does what a command asks for. One with a file for the trace is none yet.
-#[tactic(auto, using(crate::proofs::Answering::traced, crate::proofs::Answering::file_was_run, crate::proofs::Answering::was_generated))]
+/// Does what a command asks for.
+#[tactic(auto, using(crate::proofs::Answering::file_was_run, crate::proofs::Answering::was_generated))]
 fn run_command<F: Folder, C: Drain>(
     alloc: Global,
     command: &Command,
@@ -62,16 +61,13 @@ fn run_command<F: Folder, C: Drain>(
     console: &mut C,
 ) -> RunEnd
     requires { command.now.turns ≤ 4000000000 }
-    ensures answers { Answers (without_trace (asked command.now)) (answer_of result) (F.state folder.old) (F.state folder.new) }
+    ensures answers { Answers (Some (asked command.now)) (answer_of result) (F.state folder.old) (F.state folder.new) }
     ensures console { (Puts (C.state console.old) (C.state console.new) (report_of (answer_of result)) × (result.code ≡ code_of result.status))
         ⊎ (PutsPart (C.state console.old) (C.state console.new) (report_of (answer_of result)) × (result.code ≡ 8)) }
 {
-    match command.trace {
-        Some(_) => end_before_run(alloc, Status::Usage, console),
-        None => match command.generated {
-            Some(n) => run_generated(alloc, n, command, folder, console),
-            None => run_command_file(alloc, command, folder, console),
-        },
+    match command.generated {
+        Some(n) => run_generated(alloc, n, command, folder, console),
+        None => run_command_file(alloc, command, folder, console),
     }
 }
 
@@ -83,11 +79,18 @@ fn run_command_file<F: Folder, C: Drain>(
     console: &mut C,
 ) -> RunEnd
     requires { command.now.turns ≤ 4000000000 }
-    ensures runs { RunsFile command.now.file command.now.turns (answer_of result) (F.state folder.old) (F.state folder.new) }
+    ensures runs { RunsFile command.now.file command.now.trace command.now.turns (answer_of result) (F.state folder.old) (F.state folder.new) }
     ensures console { (Puts (C.state console.old) (C.state console.new) (report_of (answer_of result)) × (result.code ≡ code_of result.status))
         ⊎ (PutsPart (C.state console.old) (C.state console.new) (report_of (answer_of result)) × (result.code ≡ 8)) }
 {
-    run_file(alloc, &command.file, command.turns, folder, console)
+    run_file(
+        alloc,
+        &command.file,
+        command.trace.as_ref(),
+        command.turns,
+        folder,
+        console,
+    )
 }
 
 /// Generates so many lines and their blueprint, and runs it.

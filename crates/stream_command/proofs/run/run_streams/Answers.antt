@@ -1,0 +1,13 @@
+-- The goals of `run::run_streams` that the search leaves.
+use Rattle.command_words.specs.Commands.{asked}
+use Rattle.stream_top.specs.Calls.{answer_of}
+use Rattle.stream_command.proofs.Answering.{as_asked, completes, reads_little}
+use Rattle.stream_command.proofs.run.run_streams.Goals as goal
+
+pub returns-in-Ok-clause-complete : goal.returns-in-Ok-clause-complete
+returns-in-Ok-clause-complete g c =
+    completes _ (answer_of c.run_command.result) _ _ (as_asked c.args.words.now (asked c.in-Ok.command) (answer_of c.run_command.result) _ _ c.in-Ok.ensures.command c.run_command.ensures.answers)
+
+pub returns-in-Ok-clause-reads : goal.returns-in-Ok-clause-reads
+returns-in-Ok-clause-reads g c =
+    reads_little _ (answer_of c.run_command.result) _ _ (as_asked c.args.words.now (asked c.in-Ok.command) (answer_of c.run_command.result) _ _ c.in-Ok.ensures.command c.run_command.ensures.answers)

@@ -2,7 +2,7 @@
 use Rattle.std.specs.Prelude.{◌≡◌, ℕ, ◌⊎◌, IsTrue, false, List, Some}
 use Rattle.std.specs.Option.{option_map}
 use Rattle.stream_io.specs.State.{FolderState, DrainState, SameFiles}
-use Rattle.stream_top.specs.Text.{text_of_file, StaysMissing, FailsToRead}
+use Rattle.file_text.specs.Text.{text_of_file, StaysMissing, FailsToRead}
 use Rattle.run_report.specs.Writing.{Puts}
 use Rattle.workbench_words.specs.Task.{Asks, is_task}
 use Rattle.workbench_words.specs.declared.task.Task.{Task}

@@ -7,10 +7,10 @@ ghost use Rattle.workbench_top.specs.Call.{AnswersTask, AnswersNothing, AnswersW
 
 use crate::report::{ReportEnd, read_report};
 use elem_core::line::Line;
+use file_text::text::{ReadEnd, read_file};
 use run_report::put::put_all;
 use std::alloc::Global;
 use stream_io::outside::{Drain, Folder, Source};
-use stream_top::text::{ReadEnd, read_file};
 use workbench_answers::answer::{Answer, Ending, code};
 use workbench_answers::texts::{check_text, count_text, draw_text, explain_text, format_text};
 use workbench_words::task::{Task, WordsEnd, Work, read_words};
@@ -78,8 +78,9 @@ fn answer_task<S: Source, F: Folder>(
 }
 
 /// The answer to words that ask for nothing.
-fn answer_end(alloc: Global, end: WordsEnd) -> Answer
-    ensures { (result.ending ≡ Ending.Done) ⊎ ((result.ending ≡ Ending.Words) ⊎ (result.ending ≡ Ending.NoMemory)) }
+fn answer_end(alloc: Global, words: &[Line], end: WordsEnd) -> Answer
+    requires { Ends words.now end }
+    ensures { AnswersNothing words.now result ⊎ (result.ending ≡ Ending.NoMemory) }
 {
     match end {
         WordsEnd::Help(text) => Answer::saying(alloc, text.into_bytes()),
@@ -100,7 +101,7 @@ fn answer_words<S: Source, F: Folder>(
 {
     match read_words(alloc, words) {
         Ok(task) => answer_task(alloc, &task, input, folder),
-        Err(end) => answer_end(alloc, end),
+        Err(end) => answer_end(alloc, words, end),
     }
 }
 

@@ -1,0 +1,67 @@
+// Standard input and standard error, which tell no contents.
+ghost use Rattle.std.specs.Prelude.{[], None};
+
+use std::io::{Read, Write};
+use stream_io::outside::{Drain, Failed, Source};
+
+/// A reader as a source.
+#[derive(Drop)]
+pub struct Input<R> {
+    reader: R,
+    given: u64,
+    faults: u64,
+}
+
+impl<R: Read + Drop> Input<R> {
+    /// The source of this reader. It takes no memory.
+    pub fn new(reader: R) -> Input<R> {
+        Input {
+            reader,
+            given: 0,
+            faults: 0,
+        }
+    }
+}
+
+impl<R: Read + Drop> Source for Input<R> {
+    ghost state = { λ s. record { name = []; whole = None; given = s.given; faults = s.faults } };
+
+    fn next_piece(&mut self, buf: &mut [u8]) -> Result<usize, Failed> {
+        if let Ok(size) = self.reader.read(buf) {
+            if let Some(given) = self.given.checked_add(size as u64) {
+                self.given = given;
+                return Ok(size);
+            }
+        }
+        self.faults = self.faults.saturating_add(1);
+        Err(Failed)
+    }
+}
+
+/// A writer as a drain. A put writes straight to it.
+#[derive(Drop)]
+pub struct Told<W> {
+    writer: W,
+    faults: u64,
+}
+
+impl<W: Write + Drop> Told<W> {
+    /// The drain of this writer. It takes no memory.
+    pub fn new(writer: W) -> Told<W> {
+        Told { writer, faults: 0 }
+    }
+}
+
+impl<W: Write + Drop> Drain for Told<W> {
+    ghost state = { λ d. record { name = []; holds = None; faults = d.faults } };
+
+    fn put(&mut self, piece: &[u8]) -> Result<usize, Failed> {
+        if let Ok(size) = self.writer.write(piece) {
+            if size != 0 {
+                return Ok(size);
+            }
+        }
+        self.faults = self.faults.saturating_add(1);
+        Err(Failed)
+    }
+}

@@ -1,9 +1,9 @@
 -- A run in which memory was wanting: its island was taken apart, and its handles were closed.
-use Rattle.std.proofs.Common.{◌≡◌, ◌⊎◌, inl, inr, ℕ, zero, suc, ◌+◌, ◌≤◌, List, [], ◌∷◌, map, length, slice_get, refl, sym, ap, ◌∙◌, subst, arith}
+use Rattle.std.proofs.Common.{◌≡◌, ◌⊎◌, inl, inr, ℕ, zero, suc, ◌+◌, ◌-◌, ◌≤◌, List, [], ◌∷◌, ◌++◌, map, length, slice_get, refl, sym, ap, ◌∙◌, subst, arith}
 use Rattle.std.specs.Prelude.{IsTrue, Option, Some, None}
 use Rattle.std.specs.Option.{option_map, option_to_list}
 use Rattle.std.specs.List.{Contains}
-use Rattle.std.proofs.lemmas.List.{append-nil}
+use Rattle.std.proofs.lemmas.List.{append-nil, length-map, length-append}
 use Rattle.elem_core.specs.Prefix.{IsPrefix}
 use Rattle.elem_core.specs.Text.{text_lines}
 use Rattle.elem_core.specs.Tree.{Tree}
@@ -15,11 +15,11 @@ use Rattle.stream_model.specs.Node.{World}
 use Rattle.stream_model.specs.Outlook.{Outlook}
 use Rattle.stream_model.specs.Composed.{IsRanked, sink_outlook}
 use Rattle.stream_io.specs.Counts.{Grew}
-use Rattle.stream_io.specs.State.{FolderState, SourceState, DrainState}
+use Rattle.stream_io.specs.State.{FolderState, SourceState, DrainState, ClosesDrain}
 use Rattle.fused_net.specs.Net.{Net}
 use Rattle.fused_net.specs.Laws.{AllKept}
 use Rattle.nodes.specs.Keeping.{KeepsSource, KeepsDrain, KeepsEnd}
-use Rattle.nodes.specs.Nodes.{node_keeps, node_end}
+use Rattle.nodes.specs.Nodes.{KeepsNode, node_end}
 use Rattle.nodes.specs.Source.{Lines}
 use Rattle.nodes.specs.Sink.{Sink}
 use Rattle.nodes.specs.declared.node.Node.{Node}
@@ -39,12 +39,15 @@ use Rattle.plug_core.specs.declared.head.PlugHead.{PlugHead}
 use Rattle.materializer.specs.Built.{CanRun}
 use Rattle.materializer.specs.Files.{output_of, inputs_of_nodes, outputs_of_nodes}
 use Rattle.materializer.specs.Graphs.{node_of, graph_of}
-use Rattle.run_files.specs.Opening.{OpensAll}
+use Rattle.run_files.specs.Opening.{OpensAll, GivesUp}
+use Rattle.run_files.specs.Closing.{ClosesAll}
+use Rattle.run_files.proofs.Stoppings.{gives_up}
+use Rattle.run_files.proofs.Closings.{adds_more, adds_behind, keeps_more}
 use Rattle.run_files.specs.Names.{drain_names}
 use Rattle.run_files.proofs.Counts.{grew_same}
 use Rattle.blueprint_run.specs.Drawing.{Drawn, IsSource, IsWorldOf}
-use Rattle.blueprint_run.specs.Leaving.{LeavesBroken}
-use Rattle.blueprint_run.specs.Opening.{Opens}
+use Rattle.blueprint_run.specs.Leaving.{LeavesBroken, HasHandles, HasAsMany}
+use Rattle.blueprint_run.specs.Opening.{Opens, ClosesAs}
 use Rattle.blueprint_run.specs.Tracing.{written_files, IsApart}
 use Rattle.blueprint_run.specs.Running.{WasReadOn, SinkBreaks, BreaksFiles, WantsWithin, Wants}
 use Rattle.blueprint_run.proofs.Places.{mapped_at}
@@ -53,8 +56,8 @@ use Rattle.blueprint_run.proofs.Worlds.{world_of}
 use Rattle.blueprint_run.proofs.Handles.{HandleLaws, Between, source_facts, sink_facts, is_run, profiles, as_many}
 use Rattle.blueprint_run.proofs.Counts.{contains_or_not}
 use Rattle.blueprint_run.proofs.Shuts.{Shuts}
-use Rattle.blueprint_run.proofs.Traces.{LeftEmpty, listed, unlisted, lone_of}
-use Rattle.blueprint_run.proofs.Shutting.{TakenApart, unwritten, read_grew, faults_grew, writes_grew, file_held, other_files, other_reads, other_writes, other_draws, refused, tells_old}
+use Rattle.blueprint_run.proofs.Traces.{LeftEmpty, listed, unlisted, lone_of, map_taken}
+use Rattle.blueprint_run.proofs.Shutting.{TakenApart, unwritten, read_grew, faults_grew, writes_grew, file_held, other_files, other_reads, other_writes, other_draws, refused, tells_old, readers_many, writers_many}
 use Rattle.blueprint_run.proofs.Drawns.{drawn_of, made_moves, picks_stand, Draws, draws_all, reads_of}
 use Rattle.blueprint_run.proofs.Closing.{WroteLaw, stands_writes}
 
@@ -112,7 +115,7 @@ keeps_self s = record { name = refl; whole = refl; given = omega arith; ahead = 
 module _ {S D : Type 0} (sources : S → SourceState) (drains : D → DrainState) where
   -- a node is the same, or it has kept what outlives want of memory
   abbrev Kept : Node S D → Node S D → Type 0
-  Kept x y = (y ≡ x) ⊎ node_keeps sources drains x y
+  Kept x y = (y ≡ x) ⊎ KeepsNode sources drains x y
 
   abbrev source_name : S → List ℕ
   source_name s = (sources s).name
@@ -141,44 +144,44 @@ module _ {S D : Type 0} (sources : S → SourceState) (drains : D → DrainState
   -- its handle has the same name
   reads_same : (x y : Node S D) → Kept x y → option_map source_name (reader_in y) ≡ option_map source_name (reader_in x)
   reads_same x y (inl e) = ap (λ (z : Node S D). option_map source_name (reader_in z)) e
-  reads_same x y (inr k) = ap (option_map source_name) (reader_ends y) ∙ read_named (node_end x) (node_end y) k ∙ ap (option_map source_name) (sym (reader_ends x))
+  reads_same x y (inr k) = ap (option_map source_name) (reader_ends y) ∙ read_named (node_end x) (node_end y) k.ends ∙ ap (option_map source_name) (sym (reader_ends x))
 
   writes_same : (x y : Node S D) → Kept x y → option_map drain_name (writer_in y) ≡ option_map drain_name (writer_in x)
   writes_same x y (inl e) = ap (λ (z : Node S D). option_map drain_name (writer_in z)) e
-  writes_same x y (inr k) = ap (option_map drain_name) (writer_ends y) ∙ written_named (node_end x) (node_end y) k ∙ ap (option_map drain_name) (sym (writer_ends x))
+  writes_same x y (inr k) = ap (option_map drain_name) (writer_ends y) ∙ written_named (node_end x) (node_end y) k.ends ∙ ap (option_map drain_name) (sym (writer_ends x))
 
   -- a source is still there, as far as it was read
-  reading_by : (x : Lines S) (y : Node S D) → node_keeps sources drains (node.Reading x) y → (z : Lines S) × ((y ≡ node.Reading z) × KeepsSource (sources x.reader.source) (sources z.reader.source))
-  reading_by x (node.Reading z) k = (z, (refl, k))
-  reading_by x y k = absurd k
+  reading_by : (x : Lines S) (y : Node S D) → KeepsNode sources drains (node.Reading x) y → (z : Lines S) × ((y ≡ node.Reading z) × KeepsSource (sources x.reader.source) (sources z.reader.source))
+  reading_by x (node.Reading z) k = (z, (refl, k.ends))
+  reading_by x y k = absurd k.ends
 
   reading_kept : (x : Lines S) (y : Node S D) → Kept (node.Reading x) y → (z : Lines S) × ((y ≡ node.Reading z) × KeepsSource (sources x.reader.source) (sources z.reader.source))
   reading_kept x y (inl e) = (x, (e, keeps_self (sources x.reader.source)))
   reading_kept x y (inr k) = reading_by x y k
 
   -- and a drain has what it had
-  writing_by : (x : Sink D) (y : Node S D) → node_keeps sources drains (node.Writing x) y → (z : Sink D) × ((y ≡ node.Writing z) × (drains z.drain ≡ drains x.drain))
-  writing_by x (node.Writing z) k = (z, (refl, k))
-  writing_by x y k = absurd k
+  writing_by : (x : Sink D) (y : Node S D) → KeepsNode sources drains (node.Writing x) y → (z : Sink D) × ((y ≡ node.Writing z) × (drains z.drain ≡ drains x.drain))
+  writing_by x (node.Writing z) k = (z, (refl, k.ends))
+  writing_by x y k = absurd k.ends
 
   writing_kept : (x : Sink D) (y : Node S D) → Kept (node.Writing x) y → (z : Sink D) × ((y ≡ node.Writing z) × (drains z.drain ≡ drains x.drain))
   writing_kept x y (inl e) = (x, (e, refl))
   writing_kept x y (inr k) = writing_by x y k
 
   -- the nodes by their places
-  kept_many : (xs ys : List (Node S D)) → AllKept (node_keeps sources drains) xs ys → length xs ≡ length ys
+  kept_many : (xs ys : List (Node S D)) → AllKept (KeepsNode sources drains) xs ys → length xs ≡ length ys
   kept_many [] [] k = refl
   kept_many [] (y ∷ ys) k = absurd k
   kept_many (x ∷ xs) [] k = absurd k
   kept_many (x ∷ xs) (y ∷ ys) k = ap suc (kept_many xs ys k.1)
 
-  kept_at : (xs ys : List (Node S D)) (i : ℕ) (x : Node S D) → AllKept (node_keeps sources drains) xs ys → slice_get xs i ≡ Some x → (y : Node S D) × ((slice_get ys i ≡ Some y) × Kept x y)
+  kept_at : (xs ys : List (Node S D)) (i : ℕ) (x : Node S D) → AllKept (KeepsNode sources drains) xs ys → slice_get xs i ≡ Some x → (y : Node S D) × ((slice_get ys i ≡ Some y) × Kept x y)
   kept_at [] ys i x k e = absurd cc
   kept_at (z ∷ xs) [] i x k e = absurd k
   kept_at (z ∷ xs) (y ∷ ys) zero x k e = let same : z ≡ x = cc in (y, (refl, subst (λ (w : Node S D). Kept w y) same k.0))
   kept_at (z ∷ xs) (y ∷ ys) (suc i) x k e = kept_at xs ys i x k.1 e
 
-  kept_from : (xs ys : List (Node S D)) (i : ℕ) (y : Node S D) → AllKept (node_keeps sources drains) xs ys → slice_get ys i ≡ Some y → (x : Node S D) × ((slice_get xs i ≡ Some x) × Kept x y)
+  kept_from : (xs ys : List (Node S D)) (i : ℕ) (y : Node S D) → AllKept (KeepsNode sources drains) xs ys → slice_get ys i ≡ Some y → (x : Node S D) × ((slice_get xs i ≡ Some x) × Kept x y)
   kept_from xs [] i y k e = absurd cc
   kept_from [] (z ∷ ys) i y k e = absurd k
   kept_from (x ∷ xs) (z ∷ ys) zero y k e = let same : z ≡ y = cc in (x, (refl, subst (λ (w : Node S D). Kept x w) same k.0))
@@ -233,6 +236,13 @@ module _ {S D : Type 0} (sources : S → SourceState) (drains : D → DrainState
 
   trace_left : Emptied → (t : List ℕ) → trace ≡ Some t → LeftEmpty old new t
   trace_left ended = ended (unwritten sources drains b can final e.readers.items e.writers.items apart old mid _ _ opens new closes lone)
+
+  -- all of them
+  pub closes_broken : HasAsMany ss ds e
+  closes_broken = record {
+    readers = readers_many sources drains b final e.readers.items e.writers.items apart ss opens.input_names;
+    writers = writers_many sources drains b final e.readers.items e.writers.items apart ds opens.output_names;
+  }
 
   abbrev drawn : Drawn
   drawn = drawn_of sources l.places net
@@ -313,15 +323,51 @@ module _ {S D : Type 0} (sources : S → SourceState) (drains : D → DrainState
 
 -- ---- before the run
 
--- the files were opened, and then memory was wanting
-pub gives_up_open : (old new : FolderState) (b : Blueprint) (trace : Option (List ℕ)) (is : List SourceState) (os : List DrainState) → OpensAll old new (inputs_of_nodes b.nodes.items) (written_files b trace) is os → Wants old new b trace
-gives_up_open old new b trace is os h = inl (record {
-  before = written_files b trace;
-  after = [];
-  place = sym (append-nil (written_files b trace));
-  files = h.files;
-  refusals = h.refusals;
-  read = λ n. grew_same (old.read n) (new.read n) (h.read n);
-  rfaults = h.rfaults;
-  wfaults = h.wfaults;
-})
+-- what was opened was closed as it was
+pub unmade : {S D : Type 0} (sources : S → SourceState) (drains : D → DrainState) (old mid new : FolderState) (b : Blueprint) (trace : Option (List ℕ)) (ss : List S) (all ds : List D) (o : Option D) (e : IslandEnd S D)
+    → OpensAll old mid (inputs_of_nodes b.nodes.items) (written_files b trace) (map sources ss) (map drains all) → all ≡ ds ++ option_to_list o → HasHandles sources drains ss ds e → ClosesAll mid new (map sources e.readers.items) (map drains e.writers.items ++ option_to_list (option_map drains o))
+    → GivesUp old new (written_files b trace)
+unmade sources drains old mid new b trace ss all ds o e opens taken h closes =
+    let written : map drains e.writers.items ++ option_to_list (option_map drains o) ≡ map drains all = ap (λ l. l ++ option_to_list (option_map drains o)) h.writers ∙ sym (ap (map drains) taken ∙ map_taken drains ds o) in
+    let closed : ClosesAll mid new (map sources ss) (map drains e.writers.items ++ option_to_list (option_map drains o)) = subst (λ is. ClosesAll mid new is (map drains e.writers.items ++ option_to_list (option_map drains o))) h.readers closes in
+    gives_up old mid new (written_files b trace) (map sources ss) (map drains all)
+    (record {
+      inputs = inputs_of_nodes b.nodes.items;
+      before = written_files b trace;
+      after = [];
+      place = sym (append-nil (written_files b trace));
+      mid = mid;
+      opens = opens;
+      files = record { telling = refl; files = λ told n. refl };
+      faults = record { read = λ n. refl; rfaults = λ n. refl; wfaults = λ n. refl };
+      refusals = λ n. refl;
+    })
+    (subst (λ os. ClosesAll mid new (map sources ss) os) written closed)
+
+same_many : {X Y : Type 0} (f : X → Y) (xs ys : List X) → map f xs ≡ map f ys → length xs ≡ length ys
+same_many f xs ys e = sym (length-map xs f) ∙ ap length e ∙ length-map ys f
+
+pub closes_unmade : {S D : Type 0} (sources : S → SourceState) (drains : D → DrainState) (ss : List S) (ds : List D) (e : IslandEnd S D) → HasHandles sources drains ss ds e → HasAsMany ss ds e
+closes_unmade sources drains ss ds e h = record { readers = same_many sources e.readers.items ss h.readers; writers = same_many drains e.writers.items ds h.writers }
+
+-- the handles that were opened were closed
+pub none_open : {S D : Type 0} (ss : List S) (all ds : List D) (o : Option D) (e : IslandEnd S D) (old mid new : ℕ) → mid ≡ old + (length ss + length all) → all ≡ ds ++ option_to_list o → HasAsMany ss ds e → new ≡ mid - (length e.readers.items + length e.writers.items + length (option_to_list o)) → new ≡ old
+none_open ss all ds o e old mid new opened taken many closed =
+    let size : length all ≡ length ds + length (option_to_list o) = ap length taken ∙ length-append ds (option_to_list o) in
+    let readers : length e.readers.items ≡ length ss = many.readers in
+    let writers : length e.writers.items ≡ length ds = many.writers in
+    omega (arith, opened, size, readers, writers, closed)
+
+-- the drain of the trace was closed too
+closes_more : (s t u : FolderState) (is : List SourceState) (os : List DrainState) (o : DrainState) → ClosesAll s t is os → ClosesDrain t u o → ClosesAll s u is (os ++ o ∷ [])
+closes_more s t u is os o c d = record {
+  read = adds_behind (λ (i : SourceState). i.name) (λ (i : SourceState). i.given) is s.read t.read u.read c.read d.read;
+  rfaults = adds_behind (λ (i : SourceState). i.name) (λ (i : SourceState). i.faults) is s.rfaults t.rfaults u.rfaults c.rfaults d.rfaults;
+  wfaults = adds_more (λ (p : DrainState). p.name) (λ (p : DrainState). p.faults) os o s.wfaults t.wfaults u.wfaults c.wfaults d.wfaults d.other_wfaults;
+  files = keeps_more s t u os o c.files d;
+  refusals = λ n. d.refusals n ∙ c.refusals n;
+}
+
+pub closes_with : (s t u : FolderState) (is : List SourceState) (os : List DrainState) (o : Option DrainState) → ClosesAll s t is os → ClosesAs t u o → ClosesAll s u is (os ++ option_to_list o)
+closes_with s t u is os None c d = subst (λ l. ClosesAll s u is l) (sym (append-nil os)) (subst (λ v. ClosesAll s v is os) (sym d) c)
+closes_with s t u is os (Some o) c d = closes_more s t u is os o c d

@@ -77,7 +77,7 @@ use Rattle.blueprint_run.specs.Carrying.{Carries}
 use Rattle.blueprint_run.specs.Choosing.{picked}
 use Rattle.blueprint_run.proofs.Carried.{silent, silent_keeps, carries}
 use Rattle.blueprint_run.specs.Drawing.{Drawn, IsSource, WasRead, IsWorldOf, DrawsFirst}
-use Rattle.blueprint_run.specs.Leaving.{Leaves}
+use Rattle.blueprint_run.specs.Leaving.{Leaves, HasAsMany}
 use Rattle.blueprint_run.specs.Opening.{Opens}
 use Rattle.blueprint_run.specs.Tracing.{IsApart, Traces}
 use Rattle.blueprint_run.specs.Running.{SinkLeaves, IgnoreLeaves, LeavesFiles, WritesOf, Runs}
@@ -93,7 +93,7 @@ use Rattle.blueprint_run.proofs.Profiles.{some_one, stand_in, writer_there, sink
 use Rattle.blueprint_run.proofs.Handles.{IsSinkInto, HandleLaws, Between, fault_kind, writer_kind, SourceFacts, SinkFacts, source_facts, sink_facts, made, is_run, profiles, as_many, stands_are}
 use Rattle.blueprint_run.proofs.Shuts.{Shuts}
 use Rattle.blueprint_run.proofs.Traces.{unlisted, lone_of, calm_trace}
-use Rattle.blueprint_run.proofs.Shutting.{TakenApart, unwritten, read_grew, faults_grew, writes_grew, file_held, other_files, other_reads, other_writes, other_draws, refused, tells_old}
+use Rattle.blueprint_run.proofs.Shutting.{TakenApart, unwritten, read_grew, faults_grew, writes_grew, file_held, other_files, other_reads, other_writes, other_draws, refused, tells_old, readers_many, writers_many}
 use Rattle.blueprint_run.proofs.Drawns.{drawn_of, made_moves, picks_told, picks_stand, Draws, draws_all, reads_of}
 
 -- ---- the wires' counts
@@ -336,6 +336,13 @@ module _ {S D : Type 0} (sources : S → SourceState) (drains : D → DrainState
     output = λ k n x at here. (profile k n x at here).output;
     readers_are = l.stops.readers;
     writers_are = l.stops.writers;
+  }
+
+  -- all of them
+  pub closes_run : HasAsMany ss ds st.end
+  closes_run = record {
+    readers = readers_many sources drains b net.nodes st.end.readers.items st.end.writers.items apart ss opens.input_names;
+    writers = writers_many sources drains b net.nodes st.end.readers.items st.end.writers.items apart ds opens.output_names;
   }
 
   sink_writes : (k : ℕ) (file : List ℕ) (f : ASink k file) → Grew (old.wfaults file) (drains f.now.drain).faults (new.wfaults file)

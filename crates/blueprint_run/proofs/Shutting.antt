@@ -1,5 +1,6 @@
 -- The folder once the handles of an island that was taken apart were closed, by the names of the files of its blueprint.
 use Rattle.std.proofs.Common.{◌≡◌, ℕ, List, map, length, slice_get, refl, sym, ap, ◌∙◌, subst}
+use Rattle.std.proofs.lemmas.List.{length-map}
 use Rattle.std.specs.Prelude.{IsTrue, Some}
 use Rattle.std.specs.Option.{option_map}
 use Rattle.std.specs.List.{Contains}
@@ -31,24 +32,42 @@ pub record TakenApart {S D : Type 0} (sources : S → SourceState) (drains : D �
   pub readers_are : readers ≡ readers_of final
   pub writers_are : writers ≡ writers_of final
 
+-- lists whose elements have the same names
+many_names : {X Y : Type 0} (f : X → Y) (name : Y → List ℕ) (xs ys : List X) → map name (map f xs) ≡ map name (map f ys) → length xs ≡ length ys
+many_names f name xs ys e = sym (length-map xs f) ∙ sym (length-map (map f xs) name) ∙ ap length e ∙ length-map (map f ys) name ∙ length-map ys f
+
+module _ {S D : Type 0} (sources : S → SourceState) (drains : D → DrainState) (b : Blueprint) (final : List (Node S D)) (readers : List S) (writers : List D) (apart : TakenApart sources drains b final readers writers) where
+  -- the readers have the names of the inputs, and the drains those of the outputs
+  reader_names : source_names (map sources readers) ≡ inputs_of_nodes b.nodes.items
+  reader_names =
+      map_two (λ (i : SourceState). i.name) sources readers
+      ∙ ap (map (λ (s : S). (sources s).name)) (apart.readers_are ∙ readers_filtered final)
+      ∙ sym (filtered_along (λ (n : blue.Node). input_of n.kind) reader_in (λ (s : S). (sources s).name) b.nodes.items final apart.as_many apart.input)
+
+  writer_names : drain_names (map drains writers) ≡ outputs_of_nodes b.nodes.items
+  writer_names =
+      map_two (λ (o : DrainState). o.name) drains writers
+      ∙ ap (map (λ (d : D). (drains d).name)) (apart.writers_are ∙ writers_filtered final)
+      ∙ sym (filtered_along (λ (n : blue.Node). output_of n.kind) writer_in (λ (d : D). (drains d).name) b.nodes.items final apart.as_many apart.output)
+
+  -- so there are as many as were handed in
+  pub readers_many : (ss : List S) → source_names (map sources ss) ≡ inputs_of_nodes b.nodes.items → length readers ≡ length ss
+  readers_many ss e = many_names sources (λ (i : SourceState). i.name) readers ss (reader_names ∙ sym e)
+
+  pub writers_many : (ds : List D) → drain_names (map drains ds) ≡ outputs_of_nodes b.nodes.items → length writers ≡ length ds
+  writers_many ds e = many_names drains (λ (o : DrainState). o.name) writers ds (writer_names ∙ sym e)
+
 module _ {S D : Type 0} (sources : S → SourceState) (drains : D → DrainState) (b : Blueprint) (can : CanRun b) (final : List (Node S D)) (readers : List S) (writers : List D) (apart : TakenApart sources drains b final readers writers)
     (old mid : FolderState) (is : List SourceState) (os : List DrainState) {others : List (List ℕ)} (opens : Opens old mid (inputs_of_nodes b.nodes.items) (outputs_of_nodes b.nodes.items) others is os) (new : FolderState) (closes : Shuts mid new others (map sources readers) (map drains writers))
     (lone : (n : List ℕ) → Contains (outputs_of_nodes b.nodes.items) n → Contains others n → ⊥) where
   abbrev nodes : List blue.Node
   nodes = b.nodes.items
 
-  -- the readers have the names of the inputs, and the drains those of the outputs
   readers_named : source_names (map sources readers) ≡ inputs_of_nodes nodes
-  readers_named =
-      map_two (λ (i : SourceState). i.name) sources readers
-      ∙ ap (map (λ (s : S). (sources s).name)) (apart.readers_are ∙ readers_filtered final)
-      ∙ sym (filtered_along (λ (n : blue.Node). input_of n.kind) reader_in (λ (s : S). (sources s).name) nodes final apart.as_many apart.input)
+  readers_named = reader_names sources drains b final readers writers apart
 
   writers_named : drain_names (map drains writers) ≡ outputs_of_nodes nodes
-  writers_named =
-      map_two (λ (o : DrainState). o.name) drains writers
-      ∙ ap (map (λ (d : D). (drains d).name)) (apart.writers_are ∙ writers_filtered final)
-      ∙ sym (filtered_along (λ (n : blue.Node). output_of n.kind) writer_in (λ (d : D). (drains d).name) nodes final apart.as_many apart.output)
+  writers_named = writer_names sources drains b final readers writers apart
 
   readers_distinct : Distinct (source_names (map sources readers))
   readers_distinct = subst Distinct (sym readers_named) (inputs_distinct b can.plugs can.taken can.fit)

@@ -1,6 +1,6 @@
 -- What an island leaves that was started, executed and taken apart.
 use Rattle.std.proofs.Common.{◌≡◌, ◌⊎◌, inl, inr, ℕ, ◌+◌, ◌<◌, ◌≤◌, Bool, false, List, [], map, sym, ap, ◌∙◌, subst, arith}
-use Rattle.std.specs.Prelude.{IsTrue, ◌↔◌}
+use Rattle.std.specs.Prelude.{IsTrue, ◌↔◌, Result, Ok, Err, IfOk, IfErr}
 use Rattle.std.proofs.lemmas.Bool.Decides.{eqb_tells}
 use Rattle.stream_model.specs.declared.outcome.WireCount.{WireCount}
 use Rattle.stream_io.specs.State.{SourceState, DrainState}
@@ -8,7 +8,7 @@ use Rattle.fused_net.specs.Net.{Net}
 use Rattle.fused_net.specs.Laws.{GoesOn, BreaksOff}
 use Rattle.fused_net.specs.Costs.{total, Uses}
 use Rattle.fused_net.proofs.Keeping.{kept_same}
-use Rattle.nodes.specs.Nodes.{node_row, node_law, node_asking, node_moves, node_keeps}
+use Rattle.nodes.specs.Nodes.{node_row, node_law, node_asking, node_moves, KeepsNode}
 use Rattle.nodes.specs.declared.node.Node.{Node}
 use Rattle.interpreter.specs.declared.island.IslandEnd.{IslandEnd}
 use Rattle.interpreter.specs.declared.parts.Link.{Link}
@@ -16,7 +16,13 @@ use Rattle.interpreter.specs.declared.parts.Seated.{Seated}
 use Rattle.interpreter.specs.Parts.{ends_of, number_of, AllBecome}
 use Rattle.interpreter.specs.Picks.{node_number, pick_of, picks_of}
 use Rattle.interpreter.specs.Island.{Keeps, counts_of, sinks_of, readers_of, writers_of}
-use Rattle.blueprint_run.specs.Leaving.{Stops, Breaks}
+use Rattle.interpreter.specs.Handles.{sources_in, drains_in}
+use Rattle.blue_core.specs.declared.blueprint.Blueprint.{Blueprint}
+use Rattle.blue_check.specs.Wires.{blueprint_wires}
+use Rattle.materializer.specs.Seats.{AreSeats, links_from}
+use Rattle.blueprint_run.specs.Leaving.{Stops, Leaves, Breaks, BreaksAs, LeavesBrokenAs}
+use Rattle.blueprint_run.specs.declared.run.Broken.{Broken}
+use Rattle.blueprint_run.specs.declared.run.Broken.TheVariants.{Unmade, Within}
 use Rattle.blueprint_run.specs.declared.run.Stopped.{Stopped}
 
 true_false : (b : Bool) → IsTrue b → b ≡ false → ⊥
@@ -52,7 +58,7 @@ stops_of sources drains places links budget old net numbers at s keeps uses on f
 }
 
 -- and of one in which memory was wanting
-pub breaks_of : {S D : Type 0} (sources : S → SourceState) (drains : D → DrainState) (places : List (Seated S D)) (links : List Link) (old : Net (Node S D)) (nodes : List (Node S D)) (e : IslandEnd S D) → BreaksOff node_row (node_law sources drains) node_asking node_moves (node_keeps sources drains) old nodes
+pub breaks_of : {S D : Type 0} (sources : S → SourceState) (drains : D → DrainState) (places : List (Seated S D)) (links : List Link) (old : Net (Node S D)) (nodes : List (Node S D)) (e : IslandEnd S D) → BreaksOff node_row (node_law sources drains) node_asking node_moves (KeepsNode sources drains) old nodes
     → AllBecome places old.firsts → old.ends ≡ map ends_of links → e.readers.items ≡ readers_of nodes → e.writers.items ≡ writers_of nodes → Breaks sources drains places links e
 breaks_of sources drains places links old nodes e off firsts ends readers writers = record {
   net = off.last;
@@ -69,4 +75,20 @@ breaks_of sources drains places links old nodes e off firsts ends readers writer
 pub breaks_behind : {S D : Type 0} (sources : S → SourceState) (drains : D → DrainState) (places : List (Seated S D)) (links : List Link) (old net : Net (Node S D)) (used : ℕ) (e : IslandEnd S D) → Keeps sources drains net used → GoesOn old net
     → AllBecome places old.firsts → old.ends ≡ map ends_of links → e.readers.items ≡ readers_of net.nodes → e.writers.items ≡ writers_of net.nodes → Breaks sources drains places links e
 breaks_behind sources drains places links old net used e keeps on firsts ends readers writers =
-    breaks_of sources drains places links old net.nodes e (record { last = net; settled = keeps.laws; on = on; kept = kept_same (node_keeps sources drains) net.nodes }) firsts ends readers writers
+    breaks_of sources drains places links old net.nodes e (record { last = net; settled = keeps.laws; on = on; kept = kept_same (KeepsNode sources drains) net.nodes }) firsts ends readers writers
+
+-- the same of the island of a blueprint
+pub leaves_all : {S D E : Type 0} (sources : S → SourceState) (drains : D → DrainState) (b : Blueprint) (ss : List S) (ds : List D) (places : List (Seated S D)) (links : List Link) (budget : ℕ) (r : Result (Stopped S D) E) → AreSeats 0 b.nodes.items ss ds places → links ≡ links_from 0 (blueprint_wires b)
+    → IfOk r (λ s. Stops sources drains places links budget s) → IfOk r (λ s. Leaves sources drains b ss ds budget s)
+leaves_all sources drains b ss ds places links budget (Ok s) seats e h = record { places = places; seats = seats; stops = subst (λ l. Stops sources drains places l budget s) e h }
+leaves_all sources drains b ss ds places links budget (Err e) seats l h = tt
+
+broken_one : {S D : Type 0} (sources : S → SourceState) (drains : D → DrainState) (b : Blueprint) (ss : List S) (ds : List D) (places : List (Seated S D)) (links : List Link) (x : Broken S D) → AreSeats 0 b.nodes.items ss ds places → links ≡ links_from 0 (blueprint_wires b) → sources_in places ≡ ss → drains_in places ≡ ds
+    → BreaksAs sources drains places links x → LeavesBrokenAs sources drains b ss ds x
+broken_one sources drains b ss ds places links (Unmade e) seats l s d h = record { readers = h.readers ∙ ap (map sources) s; writers = h.writers ∙ ap (map drains) d }
+broken_one sources drains b ss ds places links (Within e) seats l s d h = record { places = places; seats = seats; breaks = subst (λ k. Breaks sources drains places k e) l h }
+
+pub broken_all : {S D T : Type 0} (sources : S → SourceState) (drains : D → DrainState) (b : Blueprint) (ss : List S) (ds : List D) (places : List (Seated S D)) (links : List Link) (r : Result T (Broken S D)) → AreSeats 0 b.nodes.items ss ds places → links ≡ links_from 0 (blueprint_wires b) → sources_in places ≡ ss → drains_in places ≡ ds
+    → IfErr r (λ x. BreaksAs sources drains places links x) → IfErr r (λ x. LeavesBrokenAs sources drains b ss ds x)
+broken_all sources drains b ss ds places links (Ok s) seats l so dr h = tt
+broken_all sources drains b ss ds places links (Err x) seats l so dr h = broken_one sources drains b ss ds places links x seats l so dr h

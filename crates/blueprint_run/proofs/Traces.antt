@@ -1,9 +1,9 @@
 -- The trace's file beside those of the nodes: opened last, written after the run and closed last.
-use Rattle.std.proofs.Common.{◌≡◌, ◌≢◌, ◌⊎◌, inl, inr, ℕ, zero, suc, ◌<◌, Bool, true, false, List, [], ◌∷◌, ◌++◌, map, length, slice_get, refl, sym, ap, ◌∙◌, subst, arith}
+use Rattle.std.proofs.Common.{◌≡◌, ◌≢◌, ◌⊎◌, inl, inr, ℕ, zero, suc, ◌+◌, ◌<◌, ◌≤◌, Bool, true, false, List, [], ◌∷◌, ◌++◌, map, length, slice_get, refl, sym, ap, ◌∙◌, subst, arith}
 use Rattle.std.specs.Prelude.{IsTrue, Option, Some, None, slice_index_or, is_some}
 use Rattle.std.specs.Option.{option_map, option_to_list}
 use Rattle.std.specs.List.{All, Contains}
-use Rattle.std.proofs.lemmas.List.{append-nil, length-map}
+use Rattle.std.proofs.lemmas.List.{append-nil, length-map, length-append}
 use Rattle.stream_io.specs.Counts.{Rose, Grew}
 use Rattle.stream_io.specs.State.{FolderState, SourceState, DrainState, ClosesDrain}
 use Rattle.stream_model.specs.declared.outcome.PickList.{PickList}
@@ -136,7 +136,7 @@ opens_of old mid ins outs trace is all os o h e same =
       p.opened,
     )
 
-map_taken : {D : Type 0} (f : D → DrainState) (ys : List D) (o : Option D) → map f (ys ++ option_to_list o) ≡ map f ys ++ option_to_list (option_map f o)
+pub map_taken : {D : Type 0} (f : D → DrainState) (ys : List D) (o : Option D) → map f (ys ++ option_to_list o) ≡ map f ys ++ option_to_list (option_map f o)
 map_taken f [] None = refl
 map_taken f [] (Some d) = refl
 map_taken f (y ∷ ys) o = ap (λ (l : List DrainState). f y ∷ l) (map_taken f ys o)
@@ -158,6 +158,21 @@ opened_apart drains old mid b trace is all rest o wanted ins outs i e h taken w 
 -- so there are as many drains of nodes as they have outputs
 pub as_many_drains : {D : Type 0} (drains : D → DrainState) (os : List D) (outs : List (List ℕ)) → drain_names (map drains os) ≡ outs → length os ≡ length outs
 as_many_drains drains os outs e = sym (length-map os drains) ∙ sym (length-map (map drains os) (λ (o : DrainState). o.name)) ∙ ap length e
+
+never_true : (b : Bool) → IsTrue b → b ≡ false → ⊥
+never_true b h e = cc
+
+-- and the trace's file is the last of them
+some_last : (outs : List (List ℕ)) (trace : Option (List ℕ)) → IsTrue (is_some trace) → 1 ≤ length (outs ++ option_to_list trace)
+some_last outs None h = absurd (never_true (is_some {T = List ℕ} None) h refl)
+some_last outs (Some t) h = let size : length (outs ++ t ∷ []) ≡ length outs + 1 = length-append outs (t ∷ []) in omega (arith, size)
+
+pub last_there : {D : Type 0} (drains : D → DrainState) (old mid : FolderState) (b : Blueprint) (trace : Option (List ℕ)) (is : List SourceState) (all : List D) (wanted : Bool) (ins outs : List (List ℕ))
+    → outs ≡ written_files b trace → OpensAll old mid ins outs is (map drains all) → wanted ≡ is_some trace → IsTrue wanted → 1 ≤ length all
+last_there drains old mid b trace is all wanted ins outs e opens w h =
+    let many : length all ≡ length (written_files b trace) = as_many_drains drains all outs opens.output_names ∙ ap length e in
+    let some : 1 ≤ length (written_files b trace) = some_last (outputs_of_nodes b.nodes.items) trace (subst IsTrue w h) in
+    omega (arith, many, some)
 
 -- ---- what was written
 

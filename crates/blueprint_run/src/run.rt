@@ -5,14 +5,16 @@ ghost use Rattle.blue_core.specs.declared.blueprint.Blueprint as plan;
 ghost use Rattle.stream_io.specs.State.{FolderState};
 ghost use Rattle.interpreter.specs.Island.{counts_of, sinks_of, readers_of, writers_of};
 ghost use Rattle.interpreter.specs.Picks.{pick_of, picks_of};
-ghost use Rattle.interpreter.specs.Parts.{AreParts};
+ghost use Rattle.interpreter.specs.Parts.{AreParts, place_of};
+ghost use Rattle.interpreter.specs.Room.{IsRoom};
 ghost use Rattle.materializer.specs.Built.{CanRun};
 ghost use Rattle.materializer.specs.Choices.{pick_names};
 ghost use Rattle.materializer.specs.Files.{inputs_of_nodes, outputs_of_nodes};
+ghost use Rattle.materializer.specs.Planned.{IsPlan};
 ghost use Rattle.run_files.specs.Opening.{MissesInput, RefusesOutput};
 ghost use Rattle.run_files.specs.Closing.{ClosesAll};
 ghost use Rattle.run_report.specs.Trace.{trace_text, moves_in};
-ghost use Rattle.blueprint_run.specs.Leaving.{Stops, Leaves, BreaksAs, LeavesBroken, LeavesBrokenAs};
+ghost use Rattle.blueprint_run.specs.Leaving.{Stops, Leaves, BreaksAs, LeavesBroken, LeavesBrokenAs, HasAsMany};
 ghost use Rattle.blueprint_run.specs.Opening.{Opens, OpensAs, WritesAs, ClosesAs};
 ghost use Rattle.blueprint_run.specs.Running.{Runs, Wants, WantsWithin};
 ghost use Rattle.blueprint_run.specs.Tracing.{written_files, IsApart};
@@ -20,13 +22,14 @@ ghost use Rattle.blueprint_run.specs.Tracing.{written_files, IsApart};
 use blue_core::blueprint::Blueprint;
 use elem_core::line::Line;
 use elem_core::why::NoMemory;
-use interpreter::island::{Island, IslandEnd};
+use interpreter::island::{Island, IslandEnd, StartEnd};
 use interpreter::parts::Parts;
+use interpreter::room::Room;
 use materializer::laws::{
     fit_blueprints_are_whole, parts_are_made_of_their_blueprint, parts_hold_their_files,
 };
 use materializer::names::{input_names, output_names, pick_names};
-use materializer::parts::parts_of;
+use materializer::parts::{Plan, plan_of};
 use picture_laws::laws::{
     a_picture_without_events_rests, every_move_fits, every_picture_is_lawful,
 };
@@ -93,8 +96,8 @@ fn counts(alloc: Global, wires: &[(u32, WireCount)]) -> Result<Vec<WireCount>, N
 /// Where memory was wanting.
 #[derive(Drop)]
 enum Broken<S: Source, D: Drain> {
-    /// Before the island ran: nothing was read or written, and its handles are dropped.
-    Unmade,
+    /// As the island started: nothing was read or written, and its handles are as they were handed in.
+    Unmade(IslandEnd<S, D>),
     /// In its run: it was taken apart.
     Within(IslandEnd<S, D>),
 }
@@ -113,19 +116,22 @@ fn take_apart<S: Source, D: Drain>(island: Island<S, D>) -> IslandEnd<S, D>
     }
 }
 
-/// Starts an island, runs it by at most so many units, and takes it apart.
+/// Starts an island in its room, runs it by at most so many units, and takes it apart.
 fn execute<S: Source, D: Drain>(
     alloc: Global,
     parts: Parts<S, D>,
+    room: Room<S, D>,
     budget: u32,
 ) -> Result<Stopped<S, D>, Broken<S, D>>
     requires parts { AreParts parts.nodes.items parts.links.items }
+    requires room { IsRoom room (map place_of parts.nodes.items) parts.links.items }
     requires budget { budget ≤ 4000000000 }
     ensures stops { IfOk result (λ stopped. Stops S.state D.state parts.nodes.items parts.links.items budget stopped) }
     ensures breaks { IfErr result (λ broken. BreaksAs S.state D.state parts.nodes.items parts.links.items broken) }
 {
-    let Ok(mut island) = Island::start(alloc, parts) else {
-        return Err(Broken::Unmade);
+    let mut island = match Island::start(alloc, parts, room) {
+        Ok(island) => island,
+        Err(StartEnd::NoMemory(end)) => return Err(Broken::Unmade(end)),
     };
     let Ok(used) = island.execute(alloc, budget) else {
         return Err(Broken::Within(take_apart(island)));
@@ -144,25 +150,23 @@ fn execute<S: Source, D: Drain>(
     }
 }
 
-/// Makes the island of a blueprint over its open files, runs it by at most so many units, and takes it apart.
+/// Makes the island of a plan over its open files, runs it by at most so many units, and takes it apart.
 fn run_open<S: Source, D: Drain>(
     alloc: Global,
-    b: Blueprint,
+    plan: Plan<S, D>,
     sources: Vec<S>,
     drains: Vec<D>,
     budget: u32,
 ) -> Result<Stopped<S, D>, Broken<S, D>>
-    requires runs { CanRun b }
+    requires plan { IsPlan plan }
     requires budget { budget ≤ 4000000000 }
-    requires sources { vec_len sources ≡ length (inputs_of_nodes b.nodes.items) }
-    requires drains { vec_len drains ≡ length (outputs_of_nodes b.nodes.items) }
-    ensures leaves { IfOk result (λ stopped. Leaves S.state D.state b sources.items drains.items budget stopped) }
-    ensures breaks { IfErr result (λ broken. LeavesBrokenAs S.state D.state b sources.items drains.items broken) }
+    requires sources { vec_len sources ≡ length (inputs_of_nodes plan.blueprint.value.nodes.items) }
+    requires drains { vec_len drains ≡ length (outputs_of_nodes plan.blueprint.value.nodes.items) }
+    ensures leaves { IfOk result (λ stopped. Leaves S.state D.state plan.blueprint.value sources.items drains.items budget stopped) }
+    ensures breaks { IfErr result (λ broken. LeavesBrokenAs S.state D.state plan.blueprint.value sources.items drains.items broken) }
 {
-    match parts_of(alloc, b, sources, drains) {
-        Ok(parts) => execute(alloc, parts, budget),
-        Err(AllocError) => Err(Broken::Unmade),
-    }
+    let (parts, room) = plan.fill(alloc, sources, drains);
+    execute(alloc, parts, room, budget)
 }
 
 /// The files that a run writes: those of its sinks, and that of its trace where one is wanted.
@@ -208,7 +212,8 @@ fn write_trace<D: Drain>(
     room: Vec<u8>,
 ) -> (Option<D>, bool)
     requires { room.items ≡ [] }
-    ensures { WritesAs (option_map D.state drain) (option_map D.state result.0) (trace_text choosers.now (map moves_in picks.now)) result.1 }
+    ensures writes { WritesAs (option_map D.state drain) (option_map D.state result.0) (trace_text choosers.now (map moves_in picks.now)) result.1 }
+    ensures same { length (option_to_list result.0) ≡ length (option_to_list drain) }
 {
     match drain {
         Some(mut file) => {
@@ -238,9 +243,13 @@ fn close<F: Folder>(
     room: Vec<u8>,
 ) -> Ran
     requires { room.items ≡ [] }
-    ensures { (old : FolderState) (b : plan.Blueprint) (trace : Option (List ℕ)) (budget : ℕ) (ss : List F.Inp) (ds : List F.Out) → CanRun b → IsApart b trace → choosers.now ≡ pick_names b.nodes.items
+    ensures runs { (old : FolderState) (b : plan.Blueprint) (trace : Option (List ℕ)) (budget : ℕ) (ss : List F.Inp) (ds : List F.Out) → CanRun b → IsApart b trace → choosers.now ≡ pick_names b.nodes.items
         → Opens old (F.state folder.old) (inputs_of_nodes b.nodes.items) (outputs_of_nodes b.nodes.items) (option_to_list trace) (map F.Inp.state ss) (map F.Out.state ds) → OpensAs (F.state folder.old) trace (option_map F.Out.state drain)
         → Leaves F.Inp.state F.Out.state b ss ds budget stopped → Runs old (F.state folder.new) b trace budget result }
+    ensures handles { F.handles folder.new ≡ F.handles folder.old - (length stopped.end.readers.items + length stopped.end.writers.items + length (option_to_list drain)) }
+    ensures all { (old : FolderState) (b : plan.Blueprint) (trace : Option (List ℕ)) (budget : ℕ) (ss : List F.Inp) (ds : List F.Out) → CanRun b → IsApart b trace
+        → Opens old (F.state folder.old) (inputs_of_nodes b.nodes.items) (outputs_of_nodes b.nodes.items) (option_to_list trace) (map F.Inp.state ss) (map F.Out.state ds) → OpensAs (F.state folder.old) trace (option_map F.Out.state drain)
+        → Leaves F.Inp.state F.Out.state b ss ds budget stopped → HasAsMany ss ds stopped.end }
 {
     an_island_leaves_a_run::<F::Inp, F::Out>();
     every_wire_agrees::<F::Inp, F::Out>();
@@ -280,6 +289,7 @@ fn close<F: Folder>(
 /// Closes the files of the nodes of a run in which memory was wanting.
 fn close_broken<F: Folder>(folder: &mut F, end: IslandEnd<F::Inp, F::Out>)
     ensures closes { ClosesAll (F.state folder.old) (F.state folder.new) (map F.Inp.state end.readers.items) (map F.Out.state end.writers.items) }
+    ensures handles { F.handles folder.new ≡ F.handles folder.old - (length end.readers.items + length end.writers.items) }
 {
     let (readers, writers) = (end.readers, end.writers);
     close_all(folder, readers, writers);
@@ -287,9 +297,13 @@ fn close_broken<F: Folder>(folder: &mut F, end: IslandEnd<F::Inp, F::Out>)
 
 /// Closes what a run had opened in which memory was wanting. Its trace is not written.
 fn give_up<F: Folder>(folder: &mut F, end: IslandEnd<F::Inp, F::Out>, drain: Option<F::Out>)
-    ensures { (old : FolderState) (b : plan.Blueprint) (trace : Option (List ℕ)) (ss : List F.Inp) (ds : List F.Out) → CanRun b → IsApart b trace
+    ensures wants { (old : FolderState) (b : plan.Blueprint) (trace : Option (List ℕ)) (ss : List F.Inp) (ds : List F.Out) → CanRun b → IsApart b trace
         → Opens old (F.state folder.old) (inputs_of_nodes b.nodes.items) (outputs_of_nodes b.nodes.items) (option_to_list trace) (map F.Inp.state ss) (map F.Out.state ds) → OpensAs (F.state folder.old) trace (option_map F.Out.state drain)
         → LeavesBroken F.Inp.state F.Out.state b ss ds end → WantsWithin old (F.state folder.new) b trace }
+    ensures handles { F.handles folder.new ≡ F.handles folder.old - (length end.readers.items + length end.writers.items + length (option_to_list drain)) }
+    ensures all { (old : FolderState) (b : plan.Blueprint) (trace : Option (List ℕ)) (ss : List F.Inp) (ds : List F.Out) → CanRun b → IsApart b trace
+        → Opens old (F.state folder.old) (inputs_of_nodes b.nodes.items) (outputs_of_nodes b.nodes.items) (option_to_list trace) (map F.Inp.state ss) (map F.Out.state ds) → OpensAs (F.state folder.old) trace (option_map F.Out.state drain)
+        → LeavesBroken F.Inp.state F.Out.state b ss ds end → HasAsMany ss ds end }
 {
     an_island_leaves_a_run::<F::Inp, F::Out>();
     every_sink_agrees::<F::Inp, F::Out>();
@@ -302,9 +316,19 @@ fn give_up<F: Folder>(folder: &mut F, end: IslandEnd<F::Inp, F::Out>, drain: Opt
     close_trace(folder, drain);
 }
 
+/// Closes what was opened for an island that did not start.
+fn close_unmade<F: Folder>(folder: &mut F, end: IslandEnd<F::Inp, F::Out>, drain: Option<F::Out>)
+    ensures closes { ClosesAll (F.state folder.old) (F.state folder.new) (map F.Inp.state end.readers.items) (map F.Out.state end.writers.items ++ option_to_list (option_map F.Out.state drain)) }
+    ensures handles { F.handles folder.new ≡ F.handles folder.old - (length end.readers.items + length end.writers.items + length (option_to_list drain)) }
+{
+    close_broken(folder, end);
+    close_trace(folder, drain);
+}
+
 /// Opens the files of a blueprint, its inputs in order and then its outputs in order, and behind them the file of its trace where one is
 /// wanted; lets its island run by at most `budget` units; writes the trace, which takes no memory, and closes the files, also where
-/// memory is wanting in the run. The trace is then left empty. Rule: own.
+/// memory is wanting. The trace is then left empty. But for what its nodes want as they start and run all memory is taken before
+/// the first opening. It leaves as many open handles as there were. Rule: own.
 pub fn run<F: Folder>(
     alloc: Global,
     folder: &mut F,
@@ -319,6 +343,7 @@ pub fn run<F: Folder>(
     ensures no_input { (n : List ℕ) → result ≡ Err (OpenEnd.MissingInput n) → MissesInput (F.state folder.old) (F.state folder.new) (inputs_of_nodes b.nodes.items) n }
     ensures no_output { (n : List ℕ) → result ≡ Err (OpenEnd.MissingOutput n) → RefusesOutput (F.state folder.old) (F.state folder.new) (inputs_of_nodes b.nodes.items) (written_files b trace) n }
     ensures no_memory { result ≡ Err OpenEnd.NoMemory → Wants (F.state folder.old) (F.state folder.new) b trace }
+    ensures handles { F.handles folder.new ≡ F.handles folder.old }
 {
     let wanted = trace.is_some();
     let Ok(prepared) = prepare(alloc, &b, trace) else {
@@ -330,6 +355,9 @@ pub fn run<F: Folder>(
         choosers,
         room,
     } = prepared;
+    let Ok(plan) = plan_of(alloc, b) else {
+        return Err(OpenEnd::NoMemory);
+    };
     let Opened {
         inputs,
         mut outputs,
@@ -338,9 +366,12 @@ pub fn run<F: Folder>(
         Err(end) => return Err(end),
     };
     let drain = take_last(&mut outputs, wanted);
-    match run_open(alloc, b, inputs, outputs, budget) {
+    match run_open(alloc, plan, inputs, outputs, budget) {
         Ok(stopped) => Ok(close(folder, stopped, drain, &choosers, room)),
-        Err(Broken::Unmade) => Err(OpenEnd::NoMemory),
+        Err(Broken::Unmade(end)) => {
+            close_unmade(folder, end, drain);
+            Err(OpenEnd::NoMemory)
+        }
         Err(Broken::Within(end)) => {
             give_up(folder, end, drain);
             Err(OpenEnd::NoMemory)

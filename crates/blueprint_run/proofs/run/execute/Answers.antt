@@ -4,10 +4,10 @@ use Rattle.interpreter.specs.Island.{Keeps}
 use Rattle.blueprint_run.proofs.Stopping.{stops_of, breaks_of, breaks_behind}
 use Rattle.blueprint_run.proofs.run.execute.Goals as goal
 
-pub returns-in_default-execute-clause-breaks : goal.returns-in_default-execute-clause-breaks
-returns-in_default-execute-clause-breaks g c =
+pub returns-in_default-clause-breaks : goal.returns-in_default-clause-breaks
+returns-in_default-clause-breaks g c =
     let i = c.in-Ok.ensures in
-    breaks_of _ _ _ _ c.in-Ok.island.net _ _ c.in_default-execute.ensures.breaks i.firsts i.ends c.take_apart.ensures.readers c.take_apart.ensures.writers
+    breaks_of _ _ _ _ c.in-Ok.island.net _ _ c.in_default.ensures.breaks i.firsts i.ends c.take_apart.ensures.readers c.take_apart.ensures.writers
 
 pub returns-in-Ok-counts-clause-stops : goal.returns-in-Ok-counts-clause-stops
 returns-in-Ok-counts-clause-stops g c =

@@ -1,6 +1,6 @@
 -- A boundary stage acts between two events: the net keeps its laws.
 use Rattle.std.specs.Prelude.{IsTrue, Option, if◌then◌else◌}
-use Rattle.std.proofs.Common.{◌≡◌, ◌≢◌, ◌⊎◌, inl, inr, ℕ, zero, suc, ◌+◌, ◌<◌, ◌≤◌, Bool, true, false, None, Some, List, [], ◌∷◌, ◌++◌, length, get_or, slice_get, refl, sym, ap, ◌∙◌, subst, arith}
+use Rattle.std.proofs.Common.{◌≡◌, ℕ, zero, suc, ◌+◌, ◌<◌, ◌≤◌, Bool, true, false, None, Some, List, [], ◌∷◌, ◌++◌, length, get_or, slice_get, refl, sym, ap, ◌∙◌, arith}
 use Rattle.elem_core.specs.Tree.{Tree}
 use Rattle.elem_core.specs.declared.why.Cause.{Cause}
 use Rattle.elem_core.specs.declared.item.Item.{Item}
@@ -12,7 +12,6 @@ use Rattle.port_core.specs.Decoding.{can_push, can_pull}
 use Rattle.port_core.specs.Joint.{Joint, idle, asking, asked, moving, ending, closing, leaving, finished, parted, refused, wire_of, IsSound, Histories, under_way}
 use Rattle.port_core.specs.Wire.{Wire, end_of}
 use Rattle.port_core.specs.View.{View, in_at, out_at, IsInOpen, IsOutOpen}
-use Rattle.port_core.specs.View as view
 use Rattle.port_core.specs.declared.act.Act.{Act}
 use Rattle.port_core.specs.declared.act.Act.TheVariants.{Pull, Push, Complete, FailOut, Cancel}
 use Rattle.port_core.specs.declared.view.InView.{InView}
@@ -31,12 +30,10 @@ use Rattle.stage_boundary.proofs.Leaves.{may_pull as leaves_pull, may_cancel as 
 use Rattle.nodes.specs.Nodes.{node_row, node_law, node_asking, node_moves, node_waits, node_gone}
 use Rattle.nodes.specs.declared.node.Node.{Node}
 use Rattle.nodes.specs.declared.node.Node.TheVariants as node
-use Rattle.fused_net.specs.declared.net.Ends.{Ends}
-use Rattle.fused_net.specs.Net.{Net, read_all, end_at, wire_at, ports_at, view_of, took, gave, wire_for, put, acted}
+use Rattle.fused_net.specs.Net.{Net, read_all, end_at, wire_at, ports_at, view_of, took, gave, put, acted}
 use Rattle.fused_net.specs.Laws.{Minds, IsMinded, Settled}
 use Rattle.fused_net.specs.Poking.{AtNode, TellsPoked}
 use Rattle.fused_net.proofs.Reading.{read_at, get_there, some_same}
-use Rattle.boundary_calls.specs.declared.given.Wanted.{Wanted}
 use Rattle.boundary_calls.specs.declared.given.Wanted.TheVariants as wanted
 use Rattle.boundary_calls.specs.Boundary.{IsEntering, IsLeaving, EntersAt, LeavesAt, CameTo, wanted_by, wanted_at, ends_at, is_shut, is_over, moved_at}
 

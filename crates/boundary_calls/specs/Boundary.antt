@@ -1,5 +1,5 @@
 -- The boundary stages of a net of nodes, each by the place of the connection that it has.
-use Rattle.std.specs.Prelude.{◌≡◌, ◌≤◌, ◌++◌, ℕ, Bool, true, false, if◌then◌else◌, Option, None, Some, List, [], ◌∷◌, slice_get, ⊤}
+use Rattle.std.specs.Prelude.{◌≡◌, ◌≤◌, ◌++◌, ℕ, Bool, true, false, if◌then◌else◌, Option, None, Some, List, [], slice_get, ⊤}
 use Rattle.elem_core.specs.declared.why.Cause.{Cause}
 use Rattle.elem_core.specs.Tree.{Tree}
 use Rattle.elem_core.specs.declared.item.Item.{Item}

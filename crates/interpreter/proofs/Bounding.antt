@@ -1,15 +1,11 @@
 -- The boundary stages of a new island, and what an island keeps where they act.
-use Rattle.std.proofs.Common.{◌≡◌, ℕ, zero, suc, ◌<◌, ◌≤◌, Bool, true, false, None, Some, List, [], ◌∷◌, length, map, get_or, slice_get, refl, sym, ap, ◌∙◌, subst, arith}
+use Rattle.std.proofs.Common.{◌≡◌, ℕ, zero, suc, ◌<◌, true, Some, List, [], ◌∷◌, length, map, get_or, slice_get, sym, ap, ◌∙◌, subst}
 use Rattle.std.proofs.lemmas.Option.{slice_get_within, get_or_from_slice_get}
 use Rattle.std.proofs.lemmas.List.{length-map}
 use Rattle.stream_io.specs.State.{SourceState, DrainState}
 use Rattle.nodes.specs.declared.node.Node.{Node}
-use Rattle.nodes.specs.declared.node.Node.TheVariants as node
-use Rattle.nodes.specs.Nodes.{node_row, node_law, node_asking, node_moves}
-use Rattle.fused_net.specs.Net.{Net, end_at, no_ends}
-use Rattle.fused_net.specs.Laws.{Settled}
-use Rattle.fused_net.specs.Costs.{Uses}
-use Rattle.boundary_calls.specs.Boundary.{IsEntering, IsLeaving, EntersAt, LeavesAt}
+use Rattle.fused_net.specs.Net.{end_at}
+use Rattle.boundary_calls.specs.Boundary.{IsEntering, IsLeaving}
 use Rattle.interpreter.specs.declared.parts.Link.{Link}
 use Rattle.interpreter.specs.declared.parts.Seated.{Seated}
 use Rattle.interpreter.specs.declared.parts.Work.{Work}
@@ -17,7 +13,7 @@ use Rattle.interpreter.specs.declared.parts.Work.TheVariants as work
 use Rattle.interpreter.specs.Parts.{AllBecome, BecomesOf, ends_of}
 use Rattle.interpreter.specs.Ways.{Leads, comes_in, goes_out, is_lane_in, is_lane_out}
 use Rattle.interpreter.specs.Island.{Kept, Keeps}
-use Rattle.interpreter.specs.Boundary.{Enters, Leaves, EntersBy, LeavesBy}
+use Rattle.interpreter.specs.Boundary.{EntersBy, LeavesBy}
 
 module _ {S D : Type 0} where
   entering_becomes : (k : ℕ) (w : Work S D) (x : Node S D) → BecomesOf k w x → is_lane_in w ≡ true → IsEntering x

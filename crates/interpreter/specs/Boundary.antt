@@ -1,13 +1,12 @@
 -- The boundary stages of an island, each by the number of the wire that its lane is.
-use Rattle.std.specs.Prelude.{◌≡◌, ℕ, ◌<◌, List, [], ◌∷◌, length, slice_index_or}
+use Rattle.std.specs.Prelude.{◌≡◌, ℕ, ◌<◌, List, length, slice_index_or}
 use Rattle.elem_core.specs.declared.item.Item.{Item}
-use Rattle.port_core.specs.declared.act.Act.{Act}
 use Rattle.wire_core.specs.Cell.{Cell}
 use Rattle.nodes.specs.declared.node.Node.{Node}
 use Rattle.nodes.specs.Nodes.{node_gone, node_waits}
 use Rattle.fused_net.specs.Net.{Net, end_at, wire_at}
 use Rattle.fused_net.specs.Poking.{AtNode, HandsAt}
-use Rattle.boundary_calls.specs.Boundary.{EntersAt, LeavesAt, moved_at, cancelled_at}
+use Rattle.boundary_calls.specs.Boundary.{EntersAt, LeavesAt, cancelled_at}
 use Rattle.interpreter.specs.Island.{Kept}
 
 module _ {S D : Type 0} where

@@ -1,7 +1,6 @@
 -- What of a node outlives want of memory: the handle that it holds.
-use Rattle.std.specs.Prelude.{◌≡◌, ℕ, ◌+◌, ◌≤◌, Option, None, Some, ⊤}
+use Rattle.std.specs.Prelude.{◌≡◌, ◌+◌, ◌≤◌, Option, None, Some, ⊤}
 use Rattle.stream_io.specs.State.{SourceState, DrainState}
-use Rattle.nodes.specs.declared.sink.SinkEnd.{SinkEnd}
 use Rattle.nodes.specs.declared.node.NodeEnd.{NodeEnd}
 use Rattle.nodes.specs.declared.node.NodeEnd.TheVariants.{Read, Staged, Wrote}
 

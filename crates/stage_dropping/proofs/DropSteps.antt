@@ -1,24 +1,22 @@
 -- What each handler of a buffer that drops does is a step of its buffer.
-use Rattle.std.proofs.Common.{◌≡◌, ◌≢◌, ℕ, zero, suc, ◌+◌, ◌<◌, Bool, true, false, List, [], ◌∷◌, ◌++◌, length, refl, sym, ap, ◌∙◌, subst, append-nil, append_assoc, Some, None, arith}
+use Rattle.std.proofs.Common.{◌≡◌, ℕ, ◌+◌, ◌<◌, Bool, true, false, List, [], ◌∷◌, ◌++◌, refl, sym, ap, ◌∙◌, subst, append-nil, append_assoc, Some, None, arith}
 use Rattle.std.specs.Prelude.{Option, nat_lt, if◌then◌else◌}
 use Rattle.elem_core.specs.Tree.{Tree}
-use Rattle.elem_core.specs.declared.item.Item.{Item}
 use Rattle.elem_core.specs.declared.item.Item.TheVariants as item
 use Rattle.elem_core.specs.declared.why.Cause.{Cause}
-use Rattle.stream_model.specs.Outlook.{End, unended, ended, failed}
+use Rattle.stream_model.specs.Outlook.{End, unended, ended}
 use Rattle.stream_model.specs.declared.kind.Policy.{Policy}
 use Rattle.stream_model.specs.declared.kind.Policy.TheVariants.{Backpressure, DropHead, DropTail, DropBuffer, DropNew, Fail}
-use Rattle.stream_model.specs.Picks.{Buffered, buffered, arrives, leaves, comes}
+use Rattle.stream_model.specs.Picks.{buffered, arrives, comes}
 use Rattle.port_core.specs.declared.act.Act.{Act}
 use Rattle.port_core.specs.declared.act.Act.TheVariants.{Pull, Push, Complete, FailOut, Cancel}
-use Rattle.port_core.specs.Call.{Call, starts, asks, brings, cancels, given_on}
+use Rattle.port_core.specs.Call.{Call, starts, asks, brings}
 use Rattle.stage_law.specs.Held.{told}
-use Rattle.stage_law.specs.Inflows.{nothing, joined_at}
 use Rattle.stage_linear.specs.declared.phase.Phase.{Phase}
 use Rattle.stage_linear.specs.declared.phase.Phase.TheVariants.{New, Open, Closed}
-use Rattle.stage_dropping.specs.Drops.{DropHeld, holds, shut, buffer_at, overflow_at, overflow_of, DropMoves, DropTurn, DropClose, completes, fails, overflows, DropStep, DropTurnAt}
+use Rattle.stage_dropping.specs.Drops.{holds, shut, buffer_at, overflow_at, overflow_of, DropTurn, completes, fails, overflows, DropTurnAt}
 use Rattle.std.proofs.Common.{rules}
-use Rattle.stage_dropping.specs.Droppings.{Dropping, Took, GaveIts, GaveFirst, Turned, first_acts, first_phase, end_of, held_in}
+use Rattle.stage_dropping.specs.Droppings.{Dropping, Took, GaveIts, GaveFirst, Turned, first_acts, first_phase, end_of}
 
 -- an element finds room in a buffer that holds nothing
 comes_by : (p : Policy) (n : ℕ) (t : Tree) → nat_lt 0 n ≡ true → comes p n [] t ≡ Some (t ∷ [])

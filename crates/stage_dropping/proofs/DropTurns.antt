@@ -1,7 +1,7 @@
 -- A turn of a buffer that drops keeps its law, and what its moves give, for every further list of moves and every rest; and the
 -- law says what it may have given.
 use Rattle.std.specs.Prelude.{Option, ◌||◌, not, ◌==◌, if◌then◌else◌}
-use Rattle.std.proofs.Common.{◌≡◌, ◌≢◌, ℕ, zero, suc, ◌+◌, Bool, true, false, List, [], ◌∷◌, ◌++◌, length, refl, sym, ap, ◌∙◌, subst, append-nil, append_assoc, arith, Some, None, inl, inr, rules}
+use Rattle.std.proofs.Common.{◌≡◌, ℕ, zero, suc, ◌+◌, Bool, true, false, List, [], ◌∷◌, ◌++◌, length, refl, sym, ap, ◌∙◌, subst, append-nil, arith, Some, None, inl, inr}
 use Rattle.std.proofs.lemmas.List.{length-append}
 use Rattle.elem_core.specs.Tree.{Tree}
 use Rattle.elem_core.specs.declared.item.Item.{Item}
@@ -16,7 +16,7 @@ use Rattle.port_core.specs.Call.{Call, starts, asks, brings, cancels, AllIdle, C
 use Rattle.stage_law.specs.Law.{GaveAs}
 use Rattle.stage_law.specs.Inflows.{nothing, joined, joined_at, joined_all, coming}
 use Rattle.stage_law.proofs.Inflows.{Stepped, ports_law, new_ports}
-use Rattle.stage_dropping.specs.Drops.{DropHeld, holds, shut, buffer_at, overflow_at, overflow_of, DropMoves, DropTurn, DropClose, completes, fails, overflows, DropStep, DropRefused, DropTurnAt, DropKeeps, DropLaw, DropRest, DropStandsOf, drop_moves}
+use Rattle.stage_dropping.specs.Drops.{DropHeld, holds, shut, buffer_at, overflow_at, overflow_of, DropTurn, completes, fails, overflows, DropStep, DropRefused, DropTurnAt, DropKeeps, DropLaw, DropRest, DropStandsOf, drop_moves}
 
 -- what came joins what had come: it adds what the end lets through
 joined_is : (f c : Inflow) (e : End) → f.end ≡ e → joined f c ≡ record { list = f.list ++ (joined_at e [] c).list; end = (joined_at e [] c).end }

@@ -1,23 +1,21 @@
 -- A recover as a node: where it is open, how calls keep its law over its histories, and what it gave against its outlook.
 use Rattle.std.specs.Prelude.{Option, slice_index_or}
-use Rattle.std.proofs.Common.{◌≡◌, ◌≢◌, ℕ, suc, ◌+◌, ◌≤◌, ◌⊎◌, inl, inr, Bool, true, false, Some, None, List, [], ◌∷◌, ◌++◌, length, take, refl, sym, ap, ◌∙◌, subst, arith}
+use Rattle.std.proofs.Common.{◌≡◌, ◌≢◌, ℕ, ◌+◌, ◌≤◌, ◌⊎◌, inl, Bool, true, false, Some, None, List, [], ◌∷◌, length, take, refl, sym, ap, ◌∙◌, subst, arith}
 use Rattle.std.proofs.lemmas.List.{length-append, length-take-le}
 use Rattle.elem_core.proofs.Prefixes.{prefix_length}
 use Rattle.elem_core.specs.Tree.{Tree}
 use Rattle.elem_core.specs.declared.item.Item.{Item}
-use Rattle.elem_core.specs.declared.why.Decider.{Decider}
 use Rattle.port_core.specs.declared.act.Act.{Act}
 use Rattle.port_core.specs.declared.view.InView.{InView}
-use Rattle.port_core.specs.declared.view.InView.TheVariants.{Idle, Waiting, Over, Left}
+use Rattle.port_core.specs.declared.view.InView.TheVariants.{Idle, Waiting, Over}
 use Rattle.port_core.specs.declared.view.OutView.{OutView}
-use Rattle.port_core.specs.declared.view.OutView.TheVariants.{Unasked, Asked, Shut, Refused}
+use Rattle.port_core.specs.declared.view.OutView.TheVariants.{Unasked, Asked, Shut}
 use Rattle.port_core.specs.View.{View, OneOneOf, IsInOpen, IsOutOpen, ActsAllowed, acted_all}
 use Rattle.port_core.specs.Call.{Call, starts, asks, brings, cancels, CallAllowed, seen, Obeys, given_on}
-use Rattle.stream_model.specs.Graph.{Graph}
-use Rattle.stream_model.specs.Node.{World, head_of}
+use Rattle.stream_model.specs.Node.{head_of}
 use Rattle.stream_model.specs.Outlook.{Outlook, End, unended, ended, failed, Agrees}
 use Rattle.stream_model.specs.FanIn.{Inflow, AllAgree}
-use Rattle.stream_model.specs.Picks.{Turned, RecoverStands, recover_fits, recover_outlook}
+use Rattle.stream_model.specs.Picks.{RecoverStands, recover_fits, recover_outlook}
 use Rattle.stream_model.proofs.Fitting.{recover_fitting}
 use Rattle.stream_model.proofs.PickTraces.{recover_trace}
 use Rattle.stage_core.specs.Handling.{Starts, Handles}
@@ -31,7 +29,7 @@ use Rattle.stage_linear.specs.declared.phase.Phase.TheVariants.{New, Open, Close
 use Rattle.stage_fans.specs.PortsLaws.{InPortsLaw}
 use Rattle.stage_fans.proofs.Histories as histories
 use Rattle.stage_fans.proofs.Histories.{in_node, ins_seen, ins_acted}
-use Rattle.stage_recover.specs.Recovers.{RecoverHeld, passes, turned, shut, RecoverTurnAt, RecoverKeeps, RecoverStandsOf, RecoverRest, RecoverCounts, recover_moves}
+use Rattle.stage_recover.specs.Recovers.{RecoverHeld, passes, RecoverTurnAt, RecoverKeeps, RecoverStandsOf, RecoverRest, RecoverCounts, recover_moves}
 use Rattle.stage_recover.specs.Recoverings as stage
 use Rattle.stage_recover.specs.Recoverings.{Recover, recover_at, row, held_in, held_of, RecoverFresh, RecoverRow, RecoversAs, unasked_ports, begun}
 use Rattle.stage_recover.proofs.RecoverTurns.{recover_new, recover_call, recover_rest, recover_stands}

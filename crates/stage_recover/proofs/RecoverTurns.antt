@@ -1,12 +1,11 @@
 -- A turn of a recover keeps its law and what it gives, for every rest; and the law says what a recover may have given.
-use Rattle.std.proofs.Common.{◌≡◌, ◌≢◌, ℕ, ◌+◌, ◌≤◌, List, [], ◌∷◌, ◌++◌, length, take, refl, sym, ap, ◌∙◌, subst, arith, append-nil, append_assoc}
+use Rattle.std.proofs.Common.{◌≡◌, ℕ, ◌+◌, ◌≤◌, List, [], ◌∷◌, ◌++◌, length, take, refl, sym, ap, ◌∙◌, subst, arith, append-nil, append_assoc}
 use Rattle.std.proofs.Math.Seq.{take-append_seam}
 use Rattle.std.proofs.lemmas.List.{length-append}
 use Rattle.elem_core.specs.Prefix.{IsPrefix}
 use Rattle.elem_core.proofs.Prefixes.{prefix_refl}
 use Rattle.elem_core.specs.Tree.{Tree}
 use Rattle.elem_core.specs.declared.item.Item.{Item}
-use Rattle.elem_core.specs.declared.item.Item.TheVariants as item
 use Rattle.elem_core.specs.declared.why.Cause.{Cause}
 use Rattle.stream_model.specs.Outlook.{End, unended, ended, failed}
 use Rattle.stream_model.specs.FanIn.{Inflow}

@@ -4,7 +4,6 @@ use Rattle.std.specs.Prelude.{◌⊎◌, ◌≡◌, ◌≤◌, ◌+◌, ℕ, Lis
 use Rattle.elem_core.specs.Tree.{Tree}
 use Rattle.elem_core.specs.declared.item.Item.{Item}
 use Rattle.elem_core.specs.declared.item.Item.TheVariants as item
-use Rattle.elem_core.specs.declared.why.Cause.{Cause}
 use Rattle.stream_model.specs.Outlook.{End, unended, ended, failed}
 use Rattle.stream_model.specs.FanIn.{Inflow}
 use Rattle.stream_model.specs.Picks.{Turned, RecoverStands}

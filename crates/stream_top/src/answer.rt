@@ -207,6 +207,7 @@ fn run_blueprint<F: Folder>(
     ensures sinks { SinksOf result.status (of_outcome result) trace }
     ensures detail { result.detail.items ≡ detail_of result.status }
     ensures reads { QuietButAll (inputs_of_nodes b.nodes.items) (F.state folder.old).read (F.state folder.new).read }
+    ensures handles { F.handles folder.new ≡ F.handles folder.old }
 {
     // The names and the room for the ends of its sinks are made before a file is opened, so that want of memory hides no fault.
     let Ok((names, room)) = sinks_to_tell(alloc, &b) else {
@@ -237,6 +238,7 @@ fn run_checked<F: Folder>(
     ensures sinks { SinksOf result.status (of_outcome result) trace }
     ensures detail { result.detail.items ≡ detail_of result.status }
     ensures reads { QuietButAll (inputs_of_nodes (blueprint_of checked).nodes.items) (F.state folder.old).read (F.state folder.new).read }
+    ensures handles { F.handles folder.new ≡ F.handles folder.old }
 {
     match first_unbuilt(alloc, checked.blueprint()) {
         Ok(None) => run_blueprint(alloc, folder, checked.into_blueprint(), trace, turns),
@@ -262,6 +264,7 @@ fn run_parsed<F: Folder>(
     ensures sinks { SinksOf result.status (of_outcome result) trace }
     ensures detail { result.detail.items ≡ detail_of result.status }
     ensures reads { QuietAmong taken.now (F.state folder.old).read (F.state folder.new).read }
+    ensures handles { F.handles folder.new ≡ F.handles folder.old }
 {
     match check(alloc, b, &[], taken) {
         Ok(checked) => run_checked(alloc, folder, checked, trace, turns),
@@ -287,6 +290,7 @@ fn run_text<F: Folder>(
     ensures sinks { SinksOf result.status (of_outcome result) trace }
     ensures detail { result.detail.items ≡ detail_of result.status }
     ensures reads { QuietAmong taken.now (F.state folder.old).read (F.state folder.new).read }
+    ensures handles { F.handles folder.new ≡ F.handles folder.old }
 {
     match parse(alloc, text) {
         Ok(b) => run_parsed(alloc, folder, b, taken, trace, turns),
@@ -354,6 +358,7 @@ pub fn run_file<F: Folder>(
     ensures tells { IsTrue (F.state folder.new).tells → IsTrue (F.state folder.old).tells }
     ensures detail { result.detail.items ≡ detail_of result.status }
     ensures reads { GrewAtMost ((F.state folder.old).read file.now) text_limit ((F.state folder.new).read file.now) }
+    ensures handles { F.handles folder.new ≡ F.handles folder.old }
 {
     let Ok(names) = names_of(alloc, file, trace) else {
         return without_run(alloc, Status::NoMemory);

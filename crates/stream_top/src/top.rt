@@ -56,6 +56,9 @@ pub fn run_file<F: Folder, C: Drain>(
     // Reading the blueprint's file stops after so many bytes.
     ensures reads { GrewAtMost ((F.state folder.old).read file.now) text_limit ((F.state folder.new).read file.now) }
 
+    // Every file that it opened is closed, whatever is answered.
+    ensures handles { F.handles folder.new ≡ F.handles folder.old }
+
     // The console has the report behind what it held, or a first part of it where a write to it failed.
     ensures console { (Puts (C.state console.old) (C.state console.new) (report_of (answer_of result)) × (result.code ≡ code_of result.status))
         ⊎ (PutsPart (C.state console.old) (C.state console.new) (report_of (answer_of result)) × (result.code ≡ 8)) }

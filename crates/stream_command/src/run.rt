@@ -41,6 +41,9 @@ pub fn run_streams<F: Folder, C: Drain>(
     // The folder never begins to tell its files.
     ensures tells { IsTrue (F.state folder.new).tells → IsTrue (F.state folder.old).tells }
 
+    // Every file that it opened is closed, whatever is answered.
+    ensures handles { F.handles folder.new ≡ F.handles folder.old }
+
     // The console has the report behind what it held, or a first part of it where a write to it failed.
     ensures console { (Puts (C.state console.old) (C.state console.new) (report_of (answer_of result)) × (result.code ≡ code_of result.status))
         ⊎ (PutsPart (C.state console.old) (C.state console.new) (report_of (answer_of result)) × (result.code ≡ 8)) }
@@ -62,6 +65,7 @@ fn run_command<F: Folder, C: Drain>(
 ) -> RunEnd
     requires { command.now.turns ≤ 4000000000 }
     ensures answers { Answers (Some (asked command.now)) (answer_of result) (F.state folder.old) (F.state folder.new) }
+    ensures handles { F.handles folder.new ≡ F.handles folder.old }
     ensures console { (Puts (C.state console.old) (C.state console.new) (report_of (answer_of result)) × (result.code ≡ code_of result.status))
         ⊎ (PutsPart (C.state console.old) (C.state console.new) (report_of (answer_of result)) × (result.code ≡ 8)) }
 {
@@ -80,6 +84,7 @@ fn run_command_file<F: Folder, C: Drain>(
 ) -> RunEnd
     requires { command.now.turns ≤ 4000000000 }
     ensures runs { RunsFile command.now.file command.now.trace command.now.turns (answer_of result) (F.state folder.old) (F.state folder.new) }
+    ensures handles { F.handles folder.new ≡ F.handles folder.old }
     ensures console { (Puts (C.state console.old) (C.state console.new) (report_of (answer_of result)) × (result.code ≡ code_of result.status))
         ⊎ (PutsPart (C.state console.old) (C.state console.new) (report_of (answer_of result)) × (result.code ≡ 8)) }
 {
@@ -104,6 +109,7 @@ fn run_generated<F: Folder, C: Drain>(
 ) -> RunEnd
     requires { command.now.turns ≤ 4000000000 }
     ensures answers { AnswersTo (Some n) (asked command.now) (answer_of result) (F.state folder.old) (F.state folder.new) }
+    ensures handles { F.handles folder.new ≡ F.handles folder.old }
     ensures console { (Puts (C.state console.old) (C.state console.new) (report_of (answer_of result)) × (result.code ≡ code_of result.status))
         ⊎ (PutsPart (C.state console.old) (C.state console.new) (report_of (answer_of result)) × (result.code ≡ 8)) }
 {

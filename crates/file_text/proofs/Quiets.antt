@@ -1,11 +1,9 @@
 -- Counts that follow one another, and files that no step changed.
-use Rattle.std.proofs.Common.{◌≡◌, ◌≢◌, ℕ, ◌+◌, ◌<◌, ◌≤◌, List, [], ◌∷◌, ◌⊎◌, inl, inr, refl, sym, ap, ◌∙◌, subst, arith, lit<}
+use Rattle.std.proofs.Common.{◌≡◌, ℕ, ◌+◌, ◌≤◌, List, inl, inr, sym, ap, ◌∙◌, subst, arith}
 use Rattle.std.specs.Prelude.{Option, Some, None, IfSome, IsSome, IsTrue}
 use Rattle.std.specs.Option.{option_map}
-use Rattle.std.proofs.lemmas.Bool.Decides.{eqb_tells}
-use Rattle.stream_io.specs.Counts.{Rose, Grew, GrewAtMost, last_count}
+use Rattle.stream_io.specs.Counts.{Grew, GrewAtMost}
 use Rattle.stream_io.specs.State.{FolderState, SourceState, SameFiles, SameFaults, SameRefusals, OpensSource, ClosesSource}
-use Rattle.run_files.specs.Quiet.{Quiet}
 use Rattle.run_files.proofs.Counts.{grew_same, grew_two, quiet_same, quiet_two, same_name}
 use Rattle.file_text.specs.Text.{text_limit, text_of_file, ReadsFile, StaysQuiet}
 

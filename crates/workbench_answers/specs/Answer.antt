@@ -1,5 +1,5 @@
 -- What the workbench answers to a work on the text of a blueprint's file. Rule: own.
-use Rattle.std.specs.Prelude.{◌≡◌, ◌≢◌, ℕ, ◌⊎◌, List, [], length, Some}
+use Rattle.std.specs.Prelude.{◌≡◌, ℕ, ◌⊎◌, List, [], Some}
 use Rattle.blue_core.specs.declared.blueprint.Blueprint.{Blueprint}
 use Rattle.blue_words.specs.declared.fault.BlueFault.{BlueFault}
 use Rattle.blue_lang.specs.Blueprints.{Says, fault_of}
@@ -12,7 +12,6 @@ use Rattle.workbench_faults.specs.declared.judge.Unready.TheVariants as unready
 use Rattle.workbench_faults.specs.Judging.{IsFitText, IsUnready}
 use Rattle.workbench_faults.specs.Message.{Tells}
 use Rattle.workbench_draw.specs.Drawing.{Draws}
-use Rattle.workbench_turns.specs.Carried.{sources_in}
 use Rattle.workbench_turns.specs.Turns.{Suffices}
 use Rattle.workbench_answers.specs.declared.answer.Answer.{Answer}
 use Rattle.workbench_answers.specs.declared.answer.Ending.{Ending}

@@ -1,5 +1,5 @@
 -- What is said of a fault: the line that a report has of it, and then words.
-use Rattle.std.specs.Prelude.{◌≡◌, ℕ, List, [], ◌++◌, codes}
+use Rattle.std.specs.Prelude.{ℕ, List, ◌++◌, codes}
 use Rattle.elem_core.specs.Prefix.{IsPrefix}
 use Rattle.run_report.specs.Report.{status_text}
 use Rattle.run_report.specs.declared.outcome.Status.{Status}

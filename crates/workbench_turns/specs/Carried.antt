@@ -1,5 +1,5 @@
 -- How many elements each wire carries, where sources give so many and every stage passes all on. Rule: own.
-use Rattle.std.specs.Prelude.{◌≡◌, ℕ, ◌+◌, ◌==◌, if◌then◌else◌, List, [], ◌∷◌, map, Option, Some, None, slice_get, unwrap_or}
+use Rattle.std.specs.Prelude.{ℕ, ◌+◌, ◌==◌, if◌then◌else◌, List, [], ◌∷◌, map, slice_get, unwrap_or}
 use Rattle.stream_model.specs.Graph.{Wire}
 use Rattle.blue_core.specs.declared.blueprint.Node.{Node}
 use Rattle.stream_model.specs.Composed.{inputs_of}

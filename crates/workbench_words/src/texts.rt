@@ -34,6 +34,7 @@ fn turns<'a>(alloc: Global) -> Result<Command<'a>, AllocError> {
 /// The workbench as clap is told of it.
 fn workbench<'a>(alloc: Global) -> Result<Command<'a>, AllocError> {
     Command::new(alloc, "blueprint")
+        .bin_name("blueprint")?
         .no_binary_name(true)
         .about("Looks at the blueprints that streams runs")
         .subcommand_required(true)

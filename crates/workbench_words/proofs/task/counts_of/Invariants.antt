@@ -1,5 +1,4 @@
 use Rattle.std.proofs.Common.{◌≡◌, map, take, drop, Ok}
-use Rattle.std.specs.List.{list_all}
 use Rattle.blue_words.specs.Numbers.{count_of}
 use Rattle.workbench_words.specs.Task.{are_numbers}
 use Rattle.workbench_words.proofs.task.counts_of.Given as goal

@@ -12,8 +12,8 @@ use Rattle.command_words.specs.Asking.{Asked, asked_of}
 use Rattle.generator.specs.Generated.{Generates, StopsGenerating}
 use Rattle.generator.specs.Texts.{lines_file, blueprint_file}
 use Rattle.stream_top.specs.Outcome.{Blank, EndedBefore, CausesBefore, SinksOf, IsValid, RoseNowhere, WasRun}
-use Rattle.stream_top.specs.Text.{text_limit}
-use Rattle.stream_top.proofs.Quiets.{read_none}
+use Rattle.file_text.specs.Text.{text_limit}
+use Rattle.file_text.proofs.Quiets.{read_none}
 use Rattle.stream_command.specs.Answers.{Answers, AnswersTo, IsNoCommand, RunsFile, StopsBefore, EndsGenerating, GeneratesAndRuns, IsValidFor}
 
 none_some : (c : Asked) (o : Option Asked) → o ≡ None → o ≡ Some c → ⊥

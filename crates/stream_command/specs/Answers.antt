@@ -8,7 +8,7 @@ use Rattle.run_report.specs.declared.outcome.Status.TheVariants as status
 use Rattle.command_words.specs.Asking.{Asked}
 use Rattle.generator.specs.Generated.{Generates, MissesFile, FailsAtFile, StopsGenerating}
 use Rattle.stream_top.specs.Outcome.{Blank, Told, Causes, SinksOf, IsValid, RoseNowhere, WasRun}
-use Rattle.stream_top.specs.Text.{text_limit}
+use Rattle.file_text.specs.Text.{text_limit}
 
 -- no command: nothing is touched. Want of memory may be told in place of the usage.
 pub record IsNoCommand (a : Answer) (old new : FolderState) : Type 0 where

@@ -5,7 +5,7 @@ ghost use Rattle.command_words.specs.Asking.{Asked, asked_of};
 ghost use Rattle.command_words.specs.Commands.{asked};
 ghost use Rattle.stream_top.specs.Calls.{answer_of};
 ghost use Rattle.stream_top.specs.Outcome.{RoseNowhere, WasRun};
-ghost use Rattle.stream_top.specs.Text.{text_limit};
+ghost use Rattle.file_text.specs.Text.{text_limit};
 ghost use Rattle.run_report.specs.Report.{report_of, code_of};
 ghost use Rattle.run_report.specs.Writing.{Puts, PutsPart};
 ghost use Rattle.stream_command.specs.Answers.{Answers, AnswersTo, RunsFile, IsValidFor};

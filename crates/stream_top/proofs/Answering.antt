@@ -53,10 +53,10 @@ use Rattle.run_report.specs.declared.outcome.Status.{Status}
 use Rattle.run_report.specs.declared.outcome.Status.TheVariants as status
 use Rattle.stream_top.specs.AfterRun.{AfterRun, ends_of, name_of, told_end, told_ends, is_ended, all_ended, some_failed, some_unended, some_fault, is_stalled, is_over}
 use Rattle.stream_top.specs.Asked.{Asked}
-use Rattle.stream_top.specs.Text.{text_limit, text_of_file, ReadsFile}
+use Rattle.file_text.specs.Text.{text_limit, text_of_file, ReadsFile}
 use Rattle.stream_top.specs.Outcome.{taken_files, SaysFile, SaysFit, Blank, RanNothing, RanTo, FallsShort, SinksWrote, SomeCountRose, SomeWriteFailed, GaveUp, LacksInput, LacksOutput, IsAbsent, EndedRun, EndedBefore, Told, Causes, CausesBefore, QuietButAll, QuietAmong, RunCauses, SinksOf, MissesFile}
 use Rattle.stream_top.specs.Texts.{NotRun, EndedFit, NotFit, EndedParsed, NotSaid, EndedText, AllQuiet, CausesQuiet, CausesFit, CausesText}
-use Rattle.stream_top.proofs.Quiets.{tells_before, files_two, most_later}
+use Rattle.file_text.proofs.Quiets.{tells_before, files_two, most_later}
 
 -- ---- the ends of sinks
 

@@ -12,10 +12,10 @@ ghost use Rattle.materializer.specs.Files.{inputs_of_nodes, sinks_of_nodes};
 ghost use Rattle.stream_top.specs.AfterRun.{AfterRun, of_outcome, status_after, ends_of};
 ghost use Rattle.stream_io.specs.Counts.{GrewAtMost};
 ghost use Rattle.stream_top.specs.Outcome.{taken_files, Blank, EndedRun, Told, RunCauses, Causes, SinksOf, QuietButAll, QuietAmong};
-ghost use Rattle.stream_top.specs.Text.{text_limit};
+ghost use Rattle.file_text.specs.Text.{text_limit};
 ghost use Rattle.stream_top.specs.Texts.{EndedFit, EndedParsed, EndedText, CausesFit, CausesText};
 
-use crate::text::{ReadEnd, read_file};
+use file_text::text::{ReadEnd, read_file};
 use blue_check::check::{CheckEnd, check};
 use blue_check::checked::Checked;
 use blue_check::detail::put_detail;

@@ -3,7 +3,6 @@
 
 mod answer;
 pub mod sure;
-mod text;
 pub mod top;
 
 pub use run_report::outcome;

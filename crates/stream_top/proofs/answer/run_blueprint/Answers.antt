@@ -1,7 +1,7 @@
 -- The goals of `answer::run_blueprint` that the search leaves.
 use Rattle.std.proofs.Common.{◌≡◌, ◌∙◌, inl, inr, ap, subst, Err, length, rules}
 use Rattle.stream_top.specs.AfterRun.{AfterRun, of_outcome}
-use Rattle.stream_top.proofs.Quiets.{tells_before}
+use Rattle.file_text.proofs.Quiets.{tells_before}
 use Rattle.stream_top.proofs.Answering.{as_many_stands, run_told, run_causes, run_sinks, missing_input, missing_output, missing_causes, wanted, wanted_tells, wanted_causes, wanted_draws}
 use Rattle.stream_top.proofs.answer.run_blueprint.Goals as goal
 

@@ -4,7 +4,7 @@ use Rattle.std.specs.Option.{option_copied}
 use Rattle.stream_top.specs.AfterRun.{of_outcome}
 use Rattle.stream_top.specs.Outcome.{taken_files}
 use Rattle.stream_top.specs.Texts.{EndedText, CausesText}
-use Rattle.stream_top.proofs.Quiets.{tells_before, tells_behind}
+use Rattle.file_text.proofs.Quiets.{tells_before, tells_behind}
 use Rattle.stream_top.proofs.Answering.{told_text, causes_text, reads_text, sinks_text, among_of}
 use Rattle.stream_top.proofs.answer.run_file.Goals as goal
 

@@ -15,7 +15,6 @@ ghost use Rattle.stream_top.specs.Outcome.{taken_files, Blank, EndedRun, Told, R
 ghost use Rattle.file_text.specs.Text.{text_limit};
 ghost use Rattle.stream_top.specs.Texts.{EndedFit, EndedParsed, EndedText, CausesFit, CausesText};
 
-use file_text::text::{ReadEnd, read_file};
 use blue_check::check::{CheckEnd, check};
 use blue_check::checked::Checked;
 use blue_check::detail::put_detail;
@@ -25,6 +24,7 @@ use blue_lang::parse::{ParseEnd, parse};
 use blueprint_run::run::{Ran, run};
 use elem_core::line::Line;
 use elem_core::why::NoMemory;
+use file_text::text::{ReadEnd, read_file};
 use materializer::built::first_unbuilt;
 use materializer::names::sink_names;
 use run_files::open::OpenEnd;

@@ -1,0 +1,106 @@
+// The end of a lane at which what leaves an island is sent.
+ghost use Rattle.std.specs.Prelude.{◌≡◌, ◌≤◌, ◌<◌, ◌+◌, [], ◌∷◌, ◌++◌, true, false, IsTrue};
+ghost use Rattle.fused_net.specs.Laws.{GoesOn};
+ghost use Rattle.lane_core.specs.Ends.{sent, seen, saw_cancel, finds, has_ended, IsSameOut};
+ghost use Rattle.lane_core.specs.Lane.{elements, weight, ends, is_new};
+ghost use Rattle.interpreter.specs.Boundary.{Leaves, Drops, way_out};
+ghost use Rattle.output_boundary.specs.Sending.{Sends, FoundIs};
+ghost use Rattle.output_boundary.specs.declared.found.Found.TheVariants as found;
+
+use crate::found::Found;
+use boundary_calls::given::Given;
+use elem_core::item::Item;
+use interpreter::island::Island;
+use lane_core::lane_out::LaneOut;
+use lane_core::room::Room;
+use stream_io::outside::{Drain, Source};
+
+/// The end of a lane that sends, and the number of the wire that the lane is. What its island hands out is sent at once: the
+/// stage there is asked only where demand is left. Rule: Akka Streams 2.6 reference, chapter on asynchronous boundaries.
+#[derive(Drop)]
+pub struct OutputBoundary {
+    pub(crate) wire: u32,
+    pub(crate) lane: LaneOut,
+}
+
+impl OutputBoundary {
+    /// The boundary of wire `wire` at this end of its lane. It takes no memory.
+    pub fn new(wire: u32, lane: LaneOut) -> OutputBoundary
+        ensures { (result.wire ≡ wire) × (result.lane ≡ lane) }
+    {
+        OutputBoundary { wire, lane }
+    }
+
+    /// Looks once at the lane: whether more is asked for than was known, or whether the other end has cancelled. It takes no memory.
+    pub fn look<S: Source, D: Drain>(&mut self, island: &Island<S, D>) -> Found
+        requires keeps { Sends self.old.lane island.now self.old.wire }
+        ensures wire { (self.new.wire ≡ self.old.wire) × IsSameOut self.old.lane self.new.lane }
+        ensures sent { (sent self.new.lane ≡ sent self.old.lane) × (has_ended self.new.lane ≡ has_ended self.old.lane) × (seen self.old.lane ≤ seen self.new.lane) }
+        ensures found { FoundIs result (seen self.old.lane) (seen self.new.lane) (saw_cancel self.new.lane) }
+        ensures finds { finds self.new.lane ≡ finds self.old.lane + is_new (seen self.old.lane) (saw_cancel self.old.lane) (seen self.new.lane) (saw_cancel self.new.lane) }
+        ensures keeps { saw_cancel self.new.lane ≡ 0 → Sends self.new.lane island.now self.new.wire }
+    {
+        let _ = island;
+        let left = self.lane.left();
+        match self.lane.room() {
+            Room::Cancelled => Found::Cancelled,
+            Room::Asked(now) => {
+                if left < now {
+                    Found::Demand
+                } else {
+                    Found::Nothing
+                }
+            }
+        }
+    }
+
+    // Sends an item that was handed out.
+    fn send(&mut self, item: Item)
+        requires open { (has_ended self.old.lane ≡ false) × (saw_cancel self.old.lane ≡ 0) }
+        requires room { elements (sent self.old.lane) + weight item ≤ seen self.old.lane }
+        ensures sent { sent self.new.lane ≡ sent self.old.lane ++ item ∷ [] }
+        ensures ended { has_ended self.new.lane ≡ ends item }
+        ensures rest { (self.new.wire ≡ self.old.wire) × IsSameOut self.old.lane self.new.lane × (seen self.new.lane ≡ seen self.old.lane) × (saw_cancel self.new.lane ≡ saw_cancel self.old.lane) }
+    {
+        match self.lane.offer(item) {
+            Ok(()) => {}
+            Err(_) => unreachable!(),
+        }
+    }
+
+    /// Sends the next item that came to the stage there, if one waits; true comes exactly where one did. It takes no memory.
+    pub fn send_one<S: Source, D: Drain>(&mut self, island: &mut Island<S, D>) -> bool
+        requires whole { island.old.broken ≡ false }
+        requires leaves { Leaves island.old self.old.wire }
+        requires keeps { Sends self.old.lane island.old self.old.wire }
+        ensures keeps { Sends self.new.lane island.new self.new.wire }
+        ensures wire { (self.new.wire ≡ self.old.wire) × IsSameOut self.old.lane self.new.lane × (seen self.new.lane ≡ seen self.old.lane) }
+        ensures rest { result ≡ false → (self.new ≡ self.old) × (island.new ≡ island.old) }
+    {
+        island.came_out(self.wire);
+        match island.given(self.wire) {
+            Given::Nothing => return false,
+            Given::Elem(e) => self.send(Item::Elem(e)),
+            Given::Ended => self.send(Item::Ended),
+            Given::Failed(cause) => self.send(Item::Failed(cause)),
+        }
+        true
+    }
+
+    /// Asks the stage there where demand is left and it may be asked; true comes exactly where it did. It takes no memory.
+    pub fn ask<S: Source, D: Drain>(&self, island: &mut Island<S, D>) -> bool
+        requires whole { island.old.broken ≡ false }
+        requires leaves { Leaves island.old self.now.wire }
+        requires keeps { Sends self.now.lane island.old self.now.wire }
+        ensures keeps { Sends self.now.lane island.new self.now.wire }
+        ensures rest { result ≡ false → island.new ≡ island.old }
+    {
+        island.came_out(self.wire);
+        island.laws();
+        if self.lane.left() == 0 || !island.can_pull_out(self.wire) {
+            return false;
+        }
+        island.pull_out(self.wire);
+        true
+    }
+}

@@ -220,6 +220,7 @@ impl<S: Stage> Engine<S> {
     }
 
     // Calls the handler of node n, and does what it wants done.
+    #[inline(always)]
     fn respond(
         &mut self,
         alloc: Global,

@@ -11,3 +11,4 @@ pub mod Starting
 pub mod Responding
 pub mod Keeping
 pub mod Poking
+pub mod Still

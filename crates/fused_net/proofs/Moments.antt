@@ -89,7 +89,7 @@ no_pull_first (FailOut j d) acts h = (λ e. e, h)
 no_pull_first (Cancel i) acts h = (λ e. e, h)
 
 module _ {N : Type 0} where
-  pull_to : (net : Net N) (n : ℕ) (a : Act) (w : ℕ) → IsPull a → PortAt a (ports_at net n) w → (i : ℕ) × (slice_get (ports_at net n).ins i ≡ Some w)
+  pub pull_to : (net : Net N) (n : ℕ) (a : Act) (w : ℕ) → IsPull a → PortAt a (ports_at net n) w → (i : ℕ) × (slice_get (ports_at net n).ins i ≡ Some w)
   pull_to net n (Pull i) w p at = (i, at)
   pull_to net n (Push j x) w p at = absurd p
   pull_to net n (Complete j) w p at = absurd p
@@ -122,7 +122,7 @@ module _ {N : Type 0} where
       let at : wire_for a (ports_at net n) < length net.wires = port_within net n a _ busy.wired busy.within f.0 in
       grown_put net (wire_for a (ports_at net n)) (moved_by a (wire_at net (wire_for a (ports_at net n)))) (queued net n a) at (move_grown a (wire_at net (wire_for a (ports_at net n))) f.1 (busy.marked _ at)) u
 
-  acts_wanted : (acts : List Act) (net : Net N) (n u : ℕ) → Busy AnyRow AnyLaw net n acts → (Pulls acts → ⊥) ⊎ ((end_at net.ends u).to ≢ n) → wanted (wire_at (acted_all net n acts) u) ≡ wanted (wire_at net u)
+  pub acts_wanted : (acts : List Act) (net : Net N) (n u : ℕ) → Busy AnyRow AnyLaw net n acts → (Pulls acts → ⊥) ⊎ ((end_at net.ends u).to ≢ n) → wanted (wire_at (acted_all net n acts) u) ≡ wanted (wire_at net u)
   acts_wanted [] net n u busy h = refl
   acts_wanted (a ∷ acts) net n u busy (inl h) =
       let first = no_pull_first a acts h in

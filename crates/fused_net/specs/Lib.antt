@@ -3,3 +3,4 @@ pub mod Net
 pub mod Laws
 pub mod Costs
 pub mod Poking
+pub mod Outside

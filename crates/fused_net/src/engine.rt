@@ -4,12 +4,13 @@ ghost use Rattle.elem_core.specs.Prefix.{IsPrefix};
 ghost use Rattle.port_core.specs.Call.{Meets};
 ghost use Rattle.port_core.specs.Ring.{holds};
 ghost use Rattle.port_core.specs.Wire.{nothing, delivery_of};
-ghost use Rattle.stage_core.specs.Handling.{most_acts, AsksAs, Handles};
+ghost use Rattle.stage_core.specs.Handling.{most_acts, AsksAs, StaysPassive, Handles};
 ghost use Rattle.wire_core.specs.Cell.{new_cell, delivery_in};
 ghost use Rattle.fused_net.specs.Net.{acted, acted_all, event_told, wire_at, end_at, wire_for, HasPort, Able, port_at, target, call_of, before};
 ghost use Rattle.fused_net.specs.Laws.{AnyRow, AnyLaw, Wired, first_view, Settled, Busy, Starting, GoesOn, Awaits, TellsAsking, MeetsAt, Responds, AllKept, BreaksOff, IsMinded};
 ghost use Rattle.fused_net.specs.Costs.{all_asks, Uses};
 ghost use Rattle.fused_net.specs.Poking.{AtNode, HandsAt, TellsPoked};
+ghost use Rattle.fused_net.specs.Outside.{StandsStill};
 
 use crate::net::{Ends, Ports};
 use elem_core::item::Item;
@@ -94,6 +95,7 @@ fn call<S: Stage>(
     ensures handles { OnOk result (Handles S.rests S.law (call_of (delivery_in event) ends) node.old node.new acts.new.items) }
     ensures asks { OnOk result (AsksAs (call_of (delivery_in event) ends) (S.rests node.old) (S.asking node.new) acts.new.items) }
     ensures grows { OnOk result (IsPrefix (S.moves node.old) (S.moves node.new)) }
+    ensures passive { OnOk result (StaysPassive (S.passive node.old) (S.passive node.new) acts.new.items) }
     ensures gone { OnOk result (S.gone node.new ≡ S.gone node.old) }
     ensures room { OnOk result (acts.new.room ≡ acts.old.room) }
     ensures kept { OnErr result (S.keeps node.old node.new) }
@@ -239,6 +241,7 @@ impl<S: Stage> Engine<S> {
         requires room { most_acts ≤ acts.old.room }
         ensures responds { OnOk result (Responds S.rests S.law S.asking S.moves self.old self.new n) }
         ensures gone { OnOk result (map S.gone self.new.nodes ≡ map S.gone self.old.nodes) }
+        ensures still { OnOk result (StandsStill S.passive self.old self.new) }
         ensures acts { OnOk result (acts.new ≡ acts.old) }
         ensures kept { OnErr result (AllKept S.keeps self.old.nodes self.new.nodes) }
     {
@@ -248,6 +251,7 @@ impl<S: Stage> Engine<S> {
     }
 
     // Handles the event of a wire that was taken from the ring.
+    #[inline(always)]
     fn handle(&mut self, alloc: Global, w: u32, acts: &mut Acts) -> Result<(), NoMemory>
         requires within { w < length self.old.wires }
         requires absent { holds self.old.queue w ≡ false }
@@ -259,6 +263,7 @@ impl<S: Stage> Engine<S> {
         ensures on { OnOk result (GoesOn self.old self.new) }
         ensures uses { OnOk result (Uses (before self.old w) self.new 1) }
         ensures gone { OnOk result (map S.gone self.new.nodes ≡ map S.gone self.old.nodes) }
+        ensures still { OnOk result (StandsStill S.passive self.old self.new) }
         ensures acts { OnOk result (acts.new ≡ acts.old) }
         ensures kept { OnErr result (AllKept S.keeps self.old.nodes self.new.nodes) }
     {
@@ -291,6 +296,7 @@ impl<S: Stage> Engine<S> {
         ensures uses { IfOk result (λ went. Uses self.old self.new (if went then 1 else 0)) }
         ensures rest { IfOk result (λ went. went ≡ false → self.new.queue ≡ []) }
         ensures gone { OnOk result (map S.gone self.new.nodes ≡ map S.gone self.old.nodes) }
+        ensures still { OnOk result (StandsStill S.passive self.old self.new) }
         ensures acts { OnOk result (acts.new ≡ acts.old) }
         ensures kept { OnErr result (AllKept S.keeps self.old.nodes self.new.nodes) }
     {
@@ -316,6 +322,7 @@ impl<S: Stage> Engine<S> {
         ensures within { IfOk result (λ used. used ≤ limit) }
         ensures rest { IfOk result (λ used. used < limit → self.new.queue ≡ []) }
         ensures gone { OnOk result (map S.gone self.new.nodes ≡ map S.gone self.old.nodes) }
+        ensures still { OnOk result (StandsStill S.passive self.old self.new) }
         ensures acts { OnOk result (acts.new ≡ acts.old) }
         ensures breaks { OnErr result (BreaksOff S.rests S.law S.asking S.moves S.keeps self.old self.new.nodes) }
         ensures count { length self.new.nodes ≡ length self.old.nodes }

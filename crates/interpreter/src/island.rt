@@ -2,7 +2,8 @@
 ghost use Rattle.std.specs.Prelude.{◌≡◌, ◌+◌, ◌<◌, ◌≤◌, ◌↔◌, ◌∷◌, ◌++◌, [], true, false, Some, length, slice_get, ℕ, IsTrue, IsOk, IfOk, IfErr, OnOk, OnErr, map, vec_len, vec_capacity};
 ghost use Rattle.fused_net.specs.Laws.{Starting, GoesOn, BreaksOff};
 ghost use Rattle.fused_net.specs.Costs.{all_asks, Uses};
-ghost use Rattle.nodes.specs.Nodes.{node_fresh, node_row, node_law, node_asking, node_moves, node_gone, KeepsNode};
+ghost use Rattle.fused_net.specs.Outside.{StandsStill};
+ghost use Rattle.nodes.specs.Nodes.{node_fresh, node_row, node_law, node_asking, node_moves, node_gone, node_passive, KeepsNode};
 ghost use Rattle.interpreter.specs.Parts.{AreParts, AllBecome, ends_of, number_of, place_of};
 ghost use Rattle.interpreter.specs.Picks.{node_number, pick_of, with_picks, picks_of};
 ghost use Rattle.interpreter.specs.Island.{Keeps, counts_of, sinks_of, readers_of, writers_of};
@@ -148,6 +149,7 @@ impl<S: Source, D: Drain> Island<S, D> {
         ensures places { OnOk result (self.new.places ≡ self.old.places) }
         ensures ways { OnOk result ((self.new.ins ≡ self.old.ins) × (self.new.outs ≡ self.old.outs)) }
         ensures gone { OnOk result (map node_gone self.new.net.nodes ≡ map node_gone self.old.net.nodes) }
+        ensures still { OnOk result (StandsStill node_passive self.old.net self.new.net) }
         ensures used { IfOk result (λ used. self.new.used ≡ self.old.used + used) }
         ensures uses { IfOk result (λ used. Uses self.old.net self.new.net used) }
         ensures within { IfOk result (λ used. used ≤ limit) }

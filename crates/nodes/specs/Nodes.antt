@@ -1,5 +1,5 @@
 -- A node of an island, by its kind: each predicate cites that of the kind.
-use Rattle.std.specs.Prelude.{◌≡◌, ℕ, List, [], Option, None, Some, ⊤}
+use Rattle.std.specs.Prelude.{◌≡◌, ℕ, Bool, true, false, List, [], Option, None, Some, ⊤}
 use Rattle.std.specs.Option.{unwrap_or}
 use Rattle.elem_core.specs.declared.item.Item.{Item}
 use Rattle.port_core.specs.View.{View}
@@ -110,6 +110,12 @@ ReadsLater sources _ _ = ⊤
 pub record KeepsNode {S D : Type 0} (sources : S → SourceState) (drains : D → DrainState) (x y : Node S D) : Type 0 where
   pub ends : KeepsEnd sources drains (node_end x) (node_end y)
   pub first : ReadsLater sources x y
+
+-- only where a lane comes in or goes out it acts from outside alone
+abbrev pub node_passive : {S D : Type 0} → Node S D → Bool
+node_passive (Entering x) = true
+node_passive (Leaving x) = true
+node_passive x = false
 
 -- what was handed out of the island at it or dropped there, and what waits there: only where a lane goes out
 abbrev pub node_gone : {S D : Type 0} → Node S D → List Item

@@ -1,7 +1,7 @@
 // A node of an island, whatever its kind is.
 ghost use Rattle.std.specs.Prelude.{◌≡◌, []};
 ghost use Rattle.std.specs.Option.{option_map};
-ghost use Rattle.nodes.specs.Nodes.{node_fresh, node_row, node_law, node_asking, node_moves, node_picks, node_end, node_gone, node_waits, KeepsNode};
+ghost use Rattle.nodes.specs.Nodes.{node_fresh, node_row, node_law, node_asking, node_moves, node_picks, node_end, node_passive, node_gone, node_waits, KeepsNode};
 
 use crate::ignoring::IgnoreSink;
 use crate::maker::Maker;
@@ -90,6 +90,8 @@ impl<S: Source, D: Drain> Stage for Node<S, D> {
     ghost moves = { node_moves };
 
     ghost keeps = { KeepsNode S.state D.state };
+
+    ghost passive = { node_passive };
 
     ghost gone = { node_gone };
 

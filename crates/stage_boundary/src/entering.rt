@@ -1,5 +1,5 @@
 // The boundary stage at the input end of a lane.
-ghost use Rattle.std.specs.Prelude.{◌≡◌, [], IsOk, ⊤};
+ghost use Rattle.std.specs.Prelude.{◌≡◌, true, [], IsOk, ⊤};
 ghost use Rattle.port_core.specs.declared.view.OutView.TheVariants.{Unasked};
 ghost use Rattle.stage_boundary.specs.Ports.{output_only};
 ghost use Rattle.stage_boundary.specs.Entering.{EnteringFresh, EnteringRow, EnteringLaw};
@@ -57,6 +57,8 @@ impl Stage for Entering {
     ghost moves = { λ x. [] };
 
     ghost keeps = { λ old new. new ≡ old };
+
+    ghost passive = { λ x. true };
 
     ghost gone = { λ x. [] };
 

@@ -1,5 +1,5 @@
 // The boundary stage at the output end of a lane.
-ghost use Rattle.std.specs.Prelude.{◌≡◌, ◌≤◌, ◌++◌, [], ◌∷◌, IsOk, IfSome, IfNone, length, ⊤};
+ghost use Rattle.std.specs.Prelude.{◌≡◌, ◌≤◌, ◌++◌, true, [], ◌∷◌, IsOk, IfSome, IfNone, length, ⊤};
 ghost use Rattle.elem_core.specs.declared.item.Item.TheVariants as item;
 ghost use Rattle.port_core.specs.declared.view.InView.TheVariants.{Idle};
 ghost use Rattle.stage_boundary.specs.Ports.{input_only};
@@ -98,6 +98,8 @@ impl Stage for Leaving {
     ghost moves = { λ x. [] };
 
     ghost keeps = { λ old new. new ≡ old };
+
+    ghost passive = { λ x. true };
 
     ghost gone = { λ x. x.gone };
 

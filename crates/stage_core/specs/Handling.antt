@@ -2,9 +2,9 @@
 -- not started may know of its ports (`fresh`); what one that was started may know of them between two calls (`row`, in the trait `rests`); and
 -- what holds of the histories of its ports, by the stage as it was handed in and as it is now (`law`). Two more are told of
 -- the moments at which it asks: what it knows of its ports whenever it has just asked (`asking`), and the moves that it has
--- recorded, which only grow (`moves`). And one is told of want of memory: what a stage keeps of itself through a call that
+-- recorded, which only grow (`moves`). One is told of whether it acts by itself at all (`passive`). And one is told of want of memory: what a stage keeps of itself through a call that
 -- answers it (`keeps`).
-use Rattle.std.specs.Prelude.{◌≡◌, ℕ, List, [], ◌∷◌, length, ⊤}
+use Rattle.std.specs.Prelude.{◌≡◌, ℕ, Bool, true, false, List, [], ◌∷◌, length, ⊤}
 use Rattle.elem_core.specs.declared.item.Item.{Item}
 use Rattle.port_core.specs.declared.act.Act.{Act}
 use Rattle.port_core.specs.declared.act.Act.TheVariants.{Pull, Push, Complete, FailOut, Cancel}
@@ -29,6 +29,11 @@ Pulls (Cancel i ∷ acts) = Pulls acts
 -- Wherever the call may come and `Before` holds, actions that ask some input leave `Asking` of what the stage knows once they are done.
 abbrev pub AsksAs : Call → (View → Type 0) → (View → Type 0) → List Act → Type 0
 AsksAs call Before Asking acts = (v : View) → CallAllowed call v → Before v → Pulls acts → Asking (acted_all (seen call v) acts)
+
+-- A stage stays passive or not; one that is has appended no action.
+abbrev pub StaysPassive : Bool → Bool → List Act → Type 0
+StaysPassive false now acts = now ≡ false
+StaysPassive true now acts = (now ≡ true) × (acts ≡ [])
 
 module _ {N : Type 0} (row : N → View → Type 0) (law : N → N → View → List (List Item) → List (List Item) → Type 0) where
   -- The stage was started: its actions obey the port rules, none of them cancels an input that an earlier one asked, and once they are done its row and its law hold.

@@ -1,10 +1,10 @@
-ghost use Rattle.std.specs.Prelude.{◌≡◌, ◌≤◌, ◌↔◌, ℕ, List, [], ◌∷◌, OnOk, OnErr, IfNone, IfSome, IsTrue};
+ghost use Rattle.std.specs.Prelude.{◌≡◌, ◌≤◌, ◌↔◌, ℕ, Bool, List, [], ◌∷◌, OnOk, OnErr, IfNone, IfSome, IsTrue};
 ghost use Rattle.elem_core.specs.Prefix.{IsPrefix};
 ghost use Rattle.elem_core.specs.declared.item.Item.{Item};
 ghost use Rattle.elem_core.specs.declared.item.Item.TheVariants as item;
 ghost use Rattle.port_core.specs.View.{View};
 ghost use Rattle.port_core.specs.Call.{Meets, starts, asks, brings, cancels};
-ghost use Rattle.stage_core.specs.Handling.{most_acts, AsksAs, Starts, Handles};
+ghost use Rattle.stage_core.specs.Handling.{most_acts, AsksAs, StaysPassive, Starts, Handles};
 ghost use Rattle.stage_core.specs.Handing.{Hands};
 
 use elem_core::elem::Elem;
@@ -17,7 +17,7 @@ use std::alloc::Global;
 pub const MOST_ACTS: u32 = 34;
 
 /// A node of a fused graph: a source, a stage or a sink. Each call is a handler; what it wants done at its ports it appends
-/// to `acts`, which is empty and has room. The moves that it has recorded are a log of its choices, which only grows. After `NoMemory` a stage is
+/// to `acts`, which is empty and has room; a passive one appends nothing, since it acts only between two events, from outside. The moves that it has recorded are a log of its choices, which only grows. After `NoMemory` a stage is
 /// only dropped or taken apart, and `keeps` says what of it is as it was before that call. Rule: Akka Streams 2.6 reference,
 /// chapter on custom stream processing; want of memory: own.
 pub trait Stage: Drop {
@@ -33,6 +33,8 @@ pub trait Stage: Drop {
 
     ghost keeps: { Self → Self → Type 0 };
 
+    ghost passive: { Self → Bool };
+
     ghost gone: { Self → List Item };
 
     ghost waits: { Self → List Item };
@@ -45,6 +47,7 @@ pub trait Stage: Drop {
         ensures starts { OnOk result (Starts rests law fresh self.old self.new acts.new.items) }
         ensures asks { OnOk result (AsksAs starts (fresh self.old) (asking self.new) acts.new.items) }
         ensures grows { OnOk result (IsPrefix (moves self.old) (moves self.new)) }
+        ensures passive { OnOk result (StaysPassive (passive self.old) (passive self.new) acts.new.items) }
         ensures gone { OnOk result (gone self.new ≡ gone self.old) }
         ensures room { OnOk result (acts.new.room ≡ acts.old.room) }
         ensures kept { keeps self.old self.new };
@@ -57,6 +60,7 @@ pub trait Stage: Drop {
         ensures handles { OnOk result (Handles rests law (asks port) self.old self.new acts.new.items) }
         ensures asks { OnOk result (AsksAs (asks port) (rests self.old) (asking self.new) acts.new.items) }
         ensures grows { OnOk result (IsPrefix (moves self.old) (moves self.new)) }
+        ensures passive { OnOk result (StaysPassive (passive self.old) (passive self.new) acts.new.items) }
         ensures gone { OnOk result (gone self.new ≡ gone self.old) }
         ensures room { OnOk result (acts.new.room ≡ acts.old.room) }
         ensures kept { OnErr result (keeps self.old self.new) };
@@ -69,6 +73,7 @@ pub trait Stage: Drop {
         ensures handles { OnOk result (Handles rests law (brings port (item.Elem e)) self.old self.new acts.new.items) }
         ensures asks { OnOk result (AsksAs (brings port (item.Elem e)) (rests self.old) (asking self.new) acts.new.items) }
         ensures grows { OnOk result (IsPrefix (moves self.old) (moves self.new)) }
+        ensures passive { OnOk result (StaysPassive (passive self.old) (passive self.new) acts.new.items) }
         ensures gone { OnOk result (gone self.new ≡ gone self.old) }
         ensures room { OnOk result (acts.new.room ≡ acts.old.room) }
         ensures kept { OnErr result (keeps self.old self.new) };
@@ -81,6 +86,7 @@ pub trait Stage: Drop {
         ensures handles { OnOk result (Handles rests law (brings port item.Ended) self.old self.new acts.new.items) }
         ensures asks { OnOk result (AsksAs (brings port item.Ended) (rests self.old) (asking self.new) acts.new.items) }
         ensures grows { OnOk result (IsPrefix (moves self.old) (moves self.new)) }
+        ensures passive { OnOk result (StaysPassive (passive self.old) (passive self.new) acts.new.items) }
         ensures gone { OnOk result (gone self.new ≡ gone self.old) }
         ensures room { OnOk result (acts.new.room ≡ acts.old.room) }
         ensures kept { OnErr result (keeps self.old self.new) };
@@ -99,6 +105,7 @@ pub trait Stage: Drop {
         ensures handles { OnOk result (Handles rests law (brings port (item.Failed cause)) self.old self.new acts.new.items) }
         ensures asks { OnOk result (AsksAs (brings port (item.Failed cause)) (rests self.old) (asking self.new) acts.new.items) }
         ensures grows { OnOk result (IsPrefix (moves self.old) (moves self.new)) }
+        ensures passive { OnOk result (StaysPassive (passive self.old) (passive self.new) acts.new.items) }
         ensures gone { OnOk result (gone self.new ≡ gone self.old) }
         ensures room { OnOk result (acts.new.room ≡ acts.old.room) }
         ensures kept { OnErr result (keeps self.old self.new) };
@@ -111,6 +118,7 @@ pub trait Stage: Drop {
         ensures handles { OnOk result (Handles rests law (cancels port) self.old self.new acts.new.items) }
         ensures asks { OnOk result (AsksAs (cancels port) (rests self.old) (asking self.new) acts.new.items) }
         ensures grows { OnOk result (IsPrefix (moves self.old) (moves self.new)) }
+        ensures passive { OnOk result (StaysPassive (passive self.old) (passive self.new) acts.new.items) }
         ensures gone { OnOk result (gone self.new ≡ gone self.old) }
         ensures room { OnOk result (acts.new.room ≡ acts.old.room) }
         ensures kept { OnErr result (keeps self.old self.new) };

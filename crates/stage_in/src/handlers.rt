@@ -1,5 +1,5 @@
 // A stage with several inputs as the interpreter calls it: its calls keep the law of its histories.
-ghost use Rattle.std.specs.Prelude.{[], ⊤};
+ghost use Rattle.std.specs.Prelude.{[], false, ⊤};
 ghost use Rattle.stage_in.specs.Logics.{InFresh, InRow, InLaw};
 ghost use Rattle.stage_in.specs.Moves.{in_moves};
 
@@ -23,6 +23,8 @@ impl Stage for InLogic {
     ghost moves = { in_moves };
 
     ghost keeps = { λ old new. ⊤ };
+
+    ghost passive = { λ l. false };
 
     ghost gone = { λ l. [] };
 

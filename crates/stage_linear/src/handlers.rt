@@ -1,5 +1,5 @@
 // A linear stage as the interpreter calls it: its calls keep the law of its output over its whole history.
-ghost use Rattle.std.specs.Prelude.{[], ⊤};
+ghost use Rattle.std.specs.Prelude.{[], false, ⊤};
 ghost use Rattle.stage_linear.specs.Handling.{LinearFresh, LinearRow, LinearLaw};
 
 use crate::laws::a_called_stage_is_open;
@@ -23,6 +23,8 @@ impl Stage for LinearLogic {
     ghost moves = { λ l. [] };
 
     ghost keeps = { λ old new. ⊤ };
+
+    ghost passive = { λ l. false };
 
     ghost gone = { λ l. [] };
 

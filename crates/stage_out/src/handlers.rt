@@ -1,5 +1,5 @@
 // A stage with several outputs as the interpreter calls it: its calls keep the law of each output over its whole history.
-ghost use Rattle.std.specs.Prelude.{[], ⊤};
+ghost use Rattle.std.specs.Prelude.{[], false, ⊤};
 ghost use Rattle.stage_out.specs.OutLogics.{row, OutAsking, OutFresh, OutLaw};
 ghost use Rattle.stage_out.specs.Moves.{out_moves};
 
@@ -23,6 +23,8 @@ impl Stage for OutLogic {
     ghost moves = { out_moves };
 
     ghost keeps = { λ old new. ⊤ };
+
+    ghost passive = { λ l. false };
 
     ghost gone = { λ l. [] };
 

@@ -1,5 +1,5 @@
 // A stage with state as the interpreter calls it: its calls keep the law of its output over its whole history.
-ghost use Rattle.std.specs.Prelude.{[], ⊤};
+ghost use Rattle.std.specs.Prelude.{[], false, ⊤};
 ghost use Rattle.stage_state.specs.Handling.{StateFresh, StateRow, StateLaw};
 ghost use Rattle.stage_state.specs.Moves.{state_moves};
 
@@ -24,6 +24,8 @@ impl Stage for StateLogic {
     ghost moves = { state_moves };
 
     ghost keeps = { λ old new. ⊤ };
+
+    ghost passive = { λ l. false };
 
     ghost gone = { λ l. [] };
 

@@ -1,5 +1,5 @@
 // A valve and a trip as the interpreter calls them: their calls keep the law of their histories and of their seats.
-ghost use Rattle.std.specs.Prelude.{[], ⊤};
+ghost use Rattle.std.specs.Prelude.{[], false, ⊤};
 ghost use Rattle.stage_switch.specs.Handling.{ValveFresh, ValveRow, ValveAs, KeepsValve, TripFresh, TripRow, TripAs, KeepsTrip};
 
 use crate::laws::a_called_stage_is_open;
@@ -24,6 +24,8 @@ impl Stage for Valve {
     ghost moves = { λ l. l.moves };
 
     ghost keeps = { KeepsValve };
+
+    ghost passive = { λ l. false };
 
     ghost gone = { λ l. [] };
 
@@ -93,6 +95,8 @@ impl Stage for Trip {
     ghost moves = { λ l. [] };
 
     ghost keeps = { KeepsTrip };
+
+    ghost passive = { λ l. false };
 
     ghost gone = { λ l. [] };
 

@@ -1,10 +1,12 @@
 -- The goals of `engine::Engine::handle` that the search leaves.
-use Rattle.std.proofs.Common.{◌≢◌, ◌∙◌, sym, refl}
+use Rattle.std.proofs.Common.{◌≢◌, ◌∙◌, sym, ap, refl}
 use Rattle.port_core.specs.Wire.{nothing}
 use Rattle.wire_core.specs.Cell.{delivery_in}
 use Rattle.fused_net.proofs.Delivering.{call_at}
 use Rattle.fused_net.proofs.Going.{handled, handled_nothing}
 use Rattle.fused_net.proofs.Responding.{the_ends, few_told}
+use Rattle.fused_net.specs.Net.{Net}
+use Rattle.fused_net.proofs.Still.{still_told, still_trans}
 use Rattle.fused_net.proofs.engine.Engine.handle.Goals as goal
 
 pub returns-then-is_nothing-clause-laws : goal.returns-then-is_nothing-clause-laws
@@ -57,3 +59,10 @@ returns-clause-uses g c =
     let some : delivery_in c.deliver-event.result ≢ nothing = λ e. let t = (c.if-is_nothing.ensures).1 e in cc in
     (handled g.S.Stage.rests g.S.Stage.law g.S.Stage.asking g.S.Stage.moves _ _ _ _ _ _ _ c.requires.laws c.requires.within c.requires.absent c.deliver-event.ensures.event some c.deliver-event.ensures.after
     (the_ends _ _ _ _ c.self.view_is c.requires.laws.wired.each_wire c.requires.within c.index-ends.ensures) c.node_of-n.ensures c.in_ok-respond.ensures.responds).uses
+
+pub returns-then-is_nothing-clause-still : goal.returns-then-is_nothing-clause-still
+returns-then-is_nothing-clause-still g c = still_told g.S.Stage.passive _ _ _ c.requires.within c.deliver-event.ensures.after
+
+pub returns-clause-still : goal.returns-clause-still
+returns-clause-still g c =
+    still_trans g.S.Stage.passive _ _ _ (ap (λ (n : Net _). n.ends) c.deliver-event.ensures.after) (still_told g.S.Stage.passive _ _ _ c.requires.within c.deliver-event.ensures.after) c.in_ok-respond.ensures.still

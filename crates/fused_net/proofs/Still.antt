@@ -1,5 +1,6 @@
 -- What stands still at the wires of passive nodes while the graph runs by itself.
-use Rattle.std.proofs.Common.{◌≡◌, ◌≢◌, ◌⊎◌, inl, inr, ℕ, zero, suc, ◌+◌, ◌<◌, ◌≤◌, Bool, true, false, Some, List, [], ◌∷◌, length, map, get_or, slice_get, slice_set, refl, sym, ap, ◌∙◌, subst, arith, get_or-set_same, get_or-set_other}
+use Rattle.std.specs.Prelude.{Option, None}
+use Rattle.std.proofs.Common.{◌≡◌, ◌≢◌, ◌⊎◌, inl, inr, ℕ, zero, suc, ◌+◌, ◌<◌, ◌≤◌, Bool, true, false, Some, List, [], ◌∷◌, ◌++◌, length, map, get_or, slice_get, slice_set, refl, sym, ap, ◌∙◌, subst, arith, get_or-set_same, get_or-set_other}
 use Rattle.elem_core.specs.declared.item.Item.{Item}
 use Rattle.elem_core.specs.declared.item.Item.TheVariants as item
 use Rattle.port_core.specs.Wire.{Wire, Delivery, nothing, ask, refusal, brought, after_delivery, again}
@@ -12,10 +13,13 @@ use Rattle.wire_core.specs.Marks.{wanted}
 use Rattle.wire_core.specs.Reading.{no_wire}
 use Rattle.stage_core.specs.Handling.{StaysPassive}
 use Rattle.fused_net.specs.declared.net.Ends.{Ends}
-use Rattle.fused_net.specs.Net.{Net, end_at, wire_at, ports_at, wire_for, acted, acted_all, told_by, told, event_told, with_node, before}
+use Rattle.fused_net.specs.Net.{Net, end_at, target, wire_at, ports_at, wire_for, acted, acted_all, told_by, told, event_told, with_node, before}
 use Rattle.port_core.specs.Wire.{delivery_of}
-use Rattle.fused_net.specs.Laws.{AnyRow, AnyLaw, Busy}
-use Rattle.fused_net.specs.Outside.{IsPassiveAt, StandsStill}
+use Rattle.fused_net.specs.Laws.{AnyRow, AnyLaw, Wired, Busy}
+use Rattle.fused_net.specs.PortLists.{PortLists}
+use Rattle.fused_net.specs.declared.engine.Step.{Step}
+use Rattle.fused_net.specs.Steps.{at_step}
+use Rattle.fused_net.specs.Outside.{IsPassiveAt, StandsStill, touched, IsElse, HasOnly, Untouched, HeardBy}
 use Rattle.fused_net.proofs.Reading.{same_or_not, some_same, get_there, get_within, get_set_same, get_set_other}
 use Rattle.fused_net.proofs.Ongoing.{nodes-acts}
 use Rattle.fused_net.proofs.Acting.{PortAt, fits, act_allowed, port_within, acted_busy}
@@ -204,3 +208,229 @@ module _ {N : Type 0} (passive : N → Bool) where
   -- the first wire was taken out of the queue
   pub still_before : (old net new : Net N) (w : ℕ) → old ≡ before net w → StandsStill passive net new → StandsStill passive old new
   still_before old net new w e s = rw e (record { kinds = s.kinds; sent = s.sent; asks = s.asks; left = s.left })
+
+-- ---- which passive nodes have heard
+
+-- an action changes no history of what came, and one at an input leaves what the output knows
+move_got : (a : Act) (c : Cell) → (moved_by a c).wire.got ≡ c.wire.got
+move_got (Pull i) c = refl
+move_got (Push j e) c = refl
+move_got (Complete j) c = refl
+move_got (FailOut j d) c = refl
+move_got (Cancel i) c = refl
+
+in_out : (a : Act) (c : Cell) → (AtOutput a → ⊥) → (moved_by a c).wire.out ≡ c.wire.out
+in_out (Pull i) c n = refl
+in_out (Push j e) c n = absurd (n tt)
+in_out (Complete j) c n = absurd (n tt)
+in_out (FailOut j d) c n = absurd (n tt)
+in_out (Cancel i) c n = refl
+
+module _ {N : Type 0} where
+  act_got : (net : Net N) (n : ℕ) (a : Act) (acts : List Act) (u : ℕ) → Busy AnyRow AnyLaw net n (a ∷ acts) → (wire_at (acted net n a) u).wire.got ≡ (wire_at net u).wire.got
+  act_got net n a acts u busy =
+      let x = get_there net.nodes n busy.within in
+      let first = get_there net.firsts n (rw busy.each_first busy.within) in
+      let f = fits net n a (act_allowed AnyRow AnyLaw net n a acts x.0 first.0 busy x.1 first.1) in
+      let at : wire_for a (ports_at net n) < length net.wires = port_within net n a _ busy.wired busy.within f.0 in
+      elim (same_or_not u (wire_for a (ports_at net n))) [
+        | inl here ↦ rw here (ap (λ (c : Cell). c.wire.got) (get_or-set_same net.wires (wire_for a (ports_at net n)) (moved_by a (wire_at net (wire_for a (ports_at net n)))) no_wire at) ∙ move_got a _)
+        | inr there ↦ ap (λ (c : Cell). c.wire.got) (get_or-set_other net.wires (wire_for a (ports_at net n)) u _ no_wire there)
+      ]
+
+  act_out : (net : Net N) (n : ℕ) (a : Act) (acts : List Act) (u : ℕ) → Busy AnyRow AnyLaw net n (a ∷ acts) → (end_at net.ends u).from ≢ n → (wire_at (acted net n a) u).wire.out ≡ (wire_at net u).wire.out
+  act_out net n a acts u busy other =
+      let x = get_there net.nodes n busy.within in
+      let first = get_there net.firsts n (rw busy.each_first busy.within) in
+      let f = fits net n a (act_allowed AnyRow AnyLaw net n a acts x.0 first.0 busy x.1 first.1) in
+      let at : wire_for a (ports_at net n) < length net.wires = port_within net n a _ busy.wired busy.within f.0 in
+      elim (same_or_not u (wire_for a (ports_at net n))) [
+        | inl here ↦ elim (at_output a) [
+          | inl o ↦ absurd (other (rw here (from_of net n a (wire_for a (ports_at net n)) (λ k j w h e. (busy.wired.output_from k j w h e).1.0) busy.within o f.0)))
+          | inr none ↦ rw here (ap (λ (c : Cell). c.wire.out) (get_or-set_same net.wires (wire_for a (ports_at net n)) (moved_by a (wire_at net (wire_for a (ports_at net n)))) no_wire at) ∙ in_out a _ none)
+        ]
+        | inr there ↦ ap (λ (c : Cell). c.wire.out) (get_or-set_other net.wires (wire_for a (ports_at net n)) u _ no_wire there)
+      ]
+
+  acts_got : (acts : List Act) (net : Net N) (n u : ℕ) → Busy AnyRow AnyLaw net n acts → (wire_at (acted_all net n acts) u).wire.got ≡ (wire_at net u).wire.got
+  acts_got [] net n u busy = refl
+  acts_got (a ∷ acts) net n u busy = acts_got acts (acted net n a) n u (acted_busy AnyRow AnyLaw net n a acts busy) ∙ act_got net n a acts u busy
+
+  acts_out : (acts : List Act) (net : Net N) (n u : ℕ) → Busy AnyRow AnyLaw net n acts → (end_at net.ends u).from ≢ n → (wire_at (acted_all net n acts) u).wire.out ≡ (wire_at net u).wire.out
+  acts_out [] net n u busy other = refl
+  acts_out (a ∷ acts) net n u busy other = acts_out acts (acted net n a) n u (acted_busy AnyRow AnyLaw net n a acts busy) other ∙ act_out net n a acts u busy other
+
+-- the one wire of a node
+in_only : (p : PortLists) (u w i : ℕ) → HasOnly p u → slice_get p.ins i ≡ Some w → u ≡ w
+in_only p u w i only at = first p.ins p.outs i only at
+  where
+    rest_none : (xs ys : List ℕ) (i : ℕ) → xs ++ ys ≡ [] → slice_get xs i ≡ Some w → u ≡ w
+    rest_none [] ys i e at = cc
+    rest_none (x ∷ xs) ys i e at = cc
+
+    first : (xs ys : List ℕ) (i : ℕ) → xs ++ ys ≡ u ∷ [] → slice_get xs i ≡ Some w → u ≡ w
+    first [] ys i e at = cc
+    first (x ∷ xs) ys zero e at = cc
+    first (x ∷ xs) ys (suc i) e at = let none : xs ++ ys ≡ [] = cc in rest_none xs ys i none at
+
+out_only : (p : PortLists) (u w i : ℕ) → HasOnly p u → slice_get p.outs i ≡ Some w → u ≡ w
+out_only p u w i only at = behind p.ins p.outs i only at
+  where
+    one : (ys : List ℕ) (i : ℕ) → ys ≡ u ∷ [] → slice_get ys i ≡ Some w → u ≡ w
+    one [] i e at = cc
+    one (y ∷ ys) zero e at = cc
+    one (y ∷ []) (suc i) e at = cc
+    one (y ∷ z ∷ ys) (suc i) e at = cc
+
+    none : (xs ys : List ℕ) (i : ℕ) → xs ++ ys ≡ [] → slice_get ys i ≡ Some w → u ≡ w
+    none [] [] i e at = cc
+    none [] (y ∷ ys) i e at = cc
+    none (x ∷ xs) ys i e at = cc
+
+    behind : (xs ys : List ℕ) (i : ℕ) → xs ++ ys ≡ u ∷ [] → slice_get ys i ≡ Some w → u ≡ w
+    behind [] ys i e at = one ys i e at
+    behind (x ∷ xs) ys i e at = let t : xs ++ ys ≡ [] = cc in none xs ys i t at
+
+module _ {N : Type 0} (passive : N → Bool) where
+  -- node n was called, and did what it wants done
+  pub heard_acts : (net v new : Net N) (n : ℕ) (x y : N) (acts : List Act) → v ≡ net → n < length net.nodes → x ≡ get_or v.nodes n x → Busy AnyRow AnyLaw (with_node v n y) n acts → StaysPassive (passive x) (passive y) acts → new ≡ acted_all (with_node v n y) n acts → HeardBy passive n net new
+  heard_acts net v new n x y acts e h is busy stays on =
+      let at : slice_get net.nodes n ≡ Some x = node_is net v n x e h is in
+      let b : Busy AnyRow AnyLaw (with_node net n y) n acts = rw e at busy in
+      let now : new ≡ acted_all (with_node net n y) n acts = rw e at on in
+      rw now (record {
+        outs = λ u p. elim (same_or_not (end_at net.ends u).from n) [
+          | inl here ↦ let none : acts ≡ [] = no_acts passive (passive x) (passive y) acts (p x (rw here at)) stays in rw none refl
+          | inr there ↦ acts_out acts (with_node net n y) n u b there
+        ];
+        ins = λ u p. elim (same_or_not (end_at net.ends u).to n) [
+          | inl here ↦ let none : acts ≡ [] = no_acts passive (passive x) (passive y) acts (p x (rw here at)) stays in rw none (refl, refl)
+          | inr there ↦ (acts_inp acts (with_node net n y) n u b there, acts_got acts (with_node net n y) n u b)
+        ];
+        nodes = λ k ne. ap (λ (l : List N). slice_get l k) (nodes-acts acts (with_node net n y) n) ∙ get_set_other net.nodes n k y ne;
+      })
+
+  -- nothing was heard
+  pub untouched_same : (net : Net N) → Untouched passive None net net
+  untouched_same net = record { outs = λ u e p. refl; ins = λ u e p. (refl, refl); nodes = λ u k e p o. refl }
+
+  pub untouched_trans : (at : Option ℕ) (a b c : Net N) → b.ends ≡ a.ends → b.ports ≡ a.ports → map passive b.nodes ≡ map passive a.nodes → Untouched passive None a b → Untouched passive at b c → Untouched passive at a c
+  untouched_trans at a b c ends ports kinds f g =
+      let on : (n : ℕ) → IsPassiveAt passive a n → IsPassiveAt passive b n = λ n p y yi. passive_as passive a.nodes b.nodes n y kinds p yi in
+      record {
+        outs = λ u e p. g.outs u e (rw ends (on _ p)) ∙ f.outs u tt p;
+        ins = λ u e p. let x = g.ins u e (rw ends (on _ p)) in let y = f.ins u tt p in (x.0 ∙ y.0, x.1 ∙ y.1);
+        nodes = λ u k e p o. g.nodes u k e (on k p) (rw ports o) ∙ f.nodes u k tt p o;
+      }
+
+  out_told : (d : Delivery) (w : Wire) (from to n : ℕ) (e : Ends) → n ≡ target d e → d ≢ nothing → (e.from ≡ n → ⊥) → (after_delivery d w).out ≡ w.out
+  out_told nothing w from to n e is some ne = refl
+  out_told ask w from to n e is some ne = absurd (ne (sym is))
+  out_told refusal w from to n e is some ne = absurd (ne (sym is))
+  out_told (brought (item.Elem x) more) w from to n e is some ne = refl
+  out_told (brought item.Ended more) w from to n e is some ne = refl
+  out_told (brought (item.Failed c) more) w from to n e is some ne = refl
+
+  in_told : (d : Delivery) (w : Wire) (n : ℕ) (e : Ends) → n ≡ target d e → d ≢ nothing → (e.to ≡ n → ⊥) → ((after_delivery d w).inp ≡ w.inp) × ((after_delivery d w).got ≡ w.got)
+  in_told nothing w n e is some ne = (refl, refl)
+  in_told ask w n e is some ne = (refl, refl)
+  in_told refusal w n e is some ne = (refl, refl)
+  in_told (brought x more) w n e is some ne = absurd (ne (sym is))
+
+  -- a node that hears of a wire has it
+  heard_only : (d : Delivery) (net : Net N) (w u n : ℕ) → Wired net.ends net.ports (length net.nodes) (length net.wires) → w < length net.wires → n ≡ target d (end_at net.ends w) → d ≢ nothing → HasOnly (ports_at net n) u → u ≡ w
+  heard_only nothing net w u n wired h is some only = absurd (some refl)
+  heard_only ask net w u n wired h is some only = out_only (ports_at net n) u w (end_at net.ends w).output only (rw is (wired.from_output w h))
+  heard_only refusal net w u n wired h is some only = out_only (ports_at net n) u w (end_at net.ends w).output only (rw is (wired.from_output w h))
+  heard_only (brought x more) net w u n wired h is some only = in_only (ports_at net n) u w (end_at net.ends w).input only (rw is (wired.to_input w h))
+
+  -- the node at its place in another list of the same kinds
+  kind_there : (xs ys : List N) (n : ℕ) (y : N) → map passive xs ≡ map passive ys → slice_get ys n ≡ Some y → (x : N) × ((slice_get xs n ≡ Some x) × (passive x ≡ passive y))
+  kind_there [] [] n y e at = cc
+  kind_there [] (z ∷ ys) n y e at = cc
+  kind_there (x ∷ xs) [] n y e at = cc
+  kind_there (x ∷ xs) (z ∷ ys) zero y e at = let same : z ≡ y = some_same z y at in let both : passive x ≡ passive z = cc in (x, (refl, both ∙ ap passive same))
+  kind_there (x ∷ xs) (z ∷ ys) (suc n) y e at = let t : map passive xs ≡ map passive ys = cc in kind_there xs ys n y t at
+
+  else_not : (b : Bool) (w : ℕ) → IsElse (touched b w) w → b ≡ true → ⊥
+  else_not true w e t = e refl
+  else_not false w e t = cc
+
+  -- the event of wire w was delivered, and node n heard of it
+  pub untouched_handled : (net v new : Net N) (w n : ℕ) (heard : Bool) → Wired net.ends net.ports (length net.nodes) (length net.wires) → w < length net.wires → v ≡ event_told net w → delivery_of (wire_at net w).wire ≢ nothing → n ≡ target (delivery_of (wire_at net w).wire) (end_at net.ends w)
+      → HeardBy passive n v new → map passive new.nodes ≡ map passive v.nodes → ((y : N) → slice_get new.nodes n ≡ Some y → heard ≡ passive y) → n < length net.nodes → Untouched passive (touched heard w) net new
+  untouched_handled net v new w n heard wired h is some to by kinds known within =
+      let d : Delivery = delivery_of (wire_at net w).wire in
+      let told_here : wire_at (event_told net w) w ≡ told_by (delivery_of (wire_at net w).wire) (wire_at net w) = get_or-set_same net.wires w (told_by (delivery_of (wire_at net w).wire) (wire_at net w)) no_wire h in
+      let b : HeardBy passive n (event_told net w) new = rw is at by in
+      let kinds_here : map passive new.nodes ≡ map passive net.nodes = kinds ∙ ap (λ (a : Net N). map passive a.nodes) is in
+      let know : (y : N) → slice_get net.nodes n ≡ Some y → heard ≡ passive y = λ y yi. let z = kind_there new.nodes net.nodes n y kinds_here yi in known z.0 z.1.0 ∙ z.1.1 in
+      let there = get_there net.nodes n within in
+      let was : (k : ℕ) → IsPassiveAt passive net k → k ≡ n → heard ≡ true = λ k p e. know there.0 there.1 ∙ p there.0 (rw e there.1) in
+      record {
+        outs = λ u e p. b.outs u p ∙ elim (same_or_not u w) [
+          | inl same ↦
+              let here : IsElse (touched heard w) w = rw same at e in
+              let q : IsPassiveAt passive net (end_at net.ends w).from = rw same at p in
+              rw same (ap (λ (c : Cell). c.wire.out) told_here ∙ out_told (delivery_of (wire_at net w).wire) (wire_at net w).wire 0 0 n (end_at net.ends w) to some (λ t. else_not heard w here (was _ q t)))
+          | inr ne ↦ ap (λ (c : Cell). c.wire.out) (get_or-set_other net.wires w u _ no_wire ne)
+        ];
+        ins = λ u e p. let f = b.ins u p in let g : ((wire_at (event_told net w) u).wire.inp ≡ (wire_at net u).wire.inp) × ((wire_at (event_told net w) u).wire.got ≡ (wire_at net u).wire.got) = elim (same_or_not u w) [
+          | inl same ↦
+              let here : IsElse (touched heard w) w = rw same at e in
+              let q : IsPassiveAt passive net (end_at net.ends w).to = rw same at p in
+              let r = in_told (delivery_of (wire_at net w).wire) (wire_at net w).wire n (end_at net.ends w) to some (λ t. else_not heard w here (was _ q t)) in
+              rw same (ap (λ (c : Cell). c.wire.inp) told_here ∙ r.0, ap (λ (c : Cell). c.wire.got) told_here ∙ r.1)
+          | inr ne ↦ let o = get_or-set_other net.wires w u (told_by (delivery_of (wire_at net w).wire) (wire_at net w)) no_wire ne in (ap (λ (c : Cell). c.wire.inp) o, ap (λ (c : Cell). c.wire.got) o)
+        ] in (f.0 ∙ g.0, f.1 ∙ g.1);
+        nodes = λ u k e p o. b.nodes k (λ t.
+            let only : HasOnly (ports_at net n) u = rw t at o in
+            let same : u ≡ w = heard_only (delivery_of (wire_at net w).wire) net w u n wired h to some only in
+            let here : IsElse (touched heard w) w = rw same at e in
+            else_not heard w here (was k p t));
+      }
+
+  -- an event that brings nothing
+  nothing_told : (d : Delivery) (c : Cell) → d ≡ nothing → told_by d c ≡ c
+  nothing_told d c e = rw e refl
+
+  pub untouched_nothing : (net v : Net N) (w : ℕ) → w < length net.wires → v ≡ event_told net w → delivery_of (wire_at net w).wire ≡ nothing → Untouched passive None net v
+  untouched_nothing net v w h is none =
+      let same : (u : ℕ) → wire_at (event_told net w) u ≡ wire_at net u = λ u. elim (same_or_not u w) [
+        | inl e ↦ rw e (get_or-set_same net.wires w (told_by (delivery_of (wire_at net w).wire) (wire_at net w)) no_wire h ∙ nothing_told (delivery_of (wire_at net w).wire) (wire_at net w) none)
+        | inr ne ↦ get_or-set_other net.wires w u _ no_wire ne
+      ] in
+      rw is (record {
+        outs = λ u e p. ap (λ (c : Cell). c.wire.out) (same u);
+        ins = λ u e p. (ap (λ (c : Cell). c.wire.inp) (same u), ap (λ (c : Cell). c.wire.got) (same u));
+        nodes = λ u k e p o. refl;
+      })
+
+  pub untouched_before : (at : Option ℕ) (old net new : Net N) (w : ℕ) → old ≡ before net w → Untouched passive at net new → Untouched passive at old new
+  untouched_before at old net new w e s = rw e (record { outs = s.outs; ins = s.ins; nodes = s.nodes })
+
+  -- over what a step made of it
+  pub untouched_on : (s t : Step) (a b c : Net N) → s ≡ t → b.ends ≡ a.ends → b.ports ≡ a.ports → map passive b.nodes ≡ map passive a.nodes → Untouched passive None a b → Untouched passive (at_step s) b c → Untouched passive (at_step t) a c
+  untouched_on s t a b c e ends ports kinds f g = untouched_trans (at_step t) a b c ends ports kinds f (subst (λ (z : Step). Untouched passive (at_step z) b c) e g)
+
+  untouched_as : (b c : Bool) (w : ℕ) (old new : Net N) → b ≡ c → Untouched passive (touched b w) old new → Untouched passive (touched c w) old new
+  untouched_as b c w old new e u = subst (λ (z : Bool). Untouched passive (touched z w) old new) e u
+
+  pub untouched_next : (b c : Bool) (w : ℕ) (old net new : Net N) → b ≡ c → old ≡ before net w → Untouched passive (touched b w) net new → Untouched passive (touched c w) old new
+  untouched_next b c w old net new e is u = untouched_before (touched c w) old net new w is (untouched_as b c w net new e u)
+
+  -- the same by what the code of it reads
+  pub handle_untouched : (net v new : Net N) (w n : ℕ) (event : Delivery) (ends : Ends) (heard : Bool) → Wired net.ends net.ports (length net.nodes) (length net.wires) → w < length net.wires → v ≡ event_told net w → event ≡ delivery_of (wire_at net w).wire → event ≢ nothing → ends ≡ end_at net.ends w → n ≡ target event ends
+      → HeardBy passive n v new → map passive new.nodes ≡ map passive v.nodes → n < length v.nodes → (a : Net N) (x : N) → a ≡ new → x ≡ get_or a.nodes n x → heard ≡ passive x → Untouched passive (touched heard w) net new
+  handle_untouched net v new w n event ends heard wired h is event_is some ends_is to by kinds within a x view at known =
+      let target_is : n ≡ target (delivery_of (wire_at net w).wire) (end_at net.ends w) = rw (sym event_is, sym ends_is) to in
+      let there : n < length net.nodes = rw is at within in
+      let count : length new.nodes ≡ length v.nodes = map_count new.nodes v.nodes kinds in
+      let here : slice_get new.nodes n ≡ Some x = node_is new a n x view (rw count within) at in
+      untouched_handled net v new w n heard wired h is (λ e. some (event_is ∙ e)) target_is by kinds (λ y yi. known ∙ ap passive (some_same x y (sym here ∙ yi))) there
+    where
+      map_count : (xs ys : List N) → map passive xs ≡ map passive ys → length xs ≡ length ys
+      map_count [] [] e = refl
+      map_count [] (y ∷ ys) e = cc
+      map_count (x ∷ xs) [] e = cc
+      map_count (x ∷ xs) (y ∷ ys) e = let t : map passive xs ≡ map passive ys = cc in ap suc (map_count xs ys t)

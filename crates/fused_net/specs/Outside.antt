@@ -1,9 +1,10 @@
 -- What stays where a passive node stands, which acts only from outside: while the graph runs by itself nothing is pushed or closed
 -- at its outputs, and its inputs are neither asked nor cancelled.
-use Rattle.std.specs.Prelude.{◌≡◌, ℕ, Bool, true, map}
+use Rattle.std.specs.Prelude.{◌≡◌, ◌≢◌, ℕ, Bool, true, false, Option, None, Some, [], ◌∷◌, ◌++◌, map, slice_get, ⊤}
 use Rattle.port_core.specs.declared.view.InView.TheVariants.{Left}
 use Rattle.wire_core.specs.Marks.{wanted}
-use Rattle.fused_net.specs.Net.{Net, end_at, wire_at}
+use Rattle.fused_net.specs.PortLists.{PortLists}
+use Rattle.fused_net.specs.Net.{Net, end_at, wire_at, ports_at}
 use Rattle.fused_net.specs.Poking.{AtNode}
 
 module _ {N : Type 0} (passive : N → Bool) where
@@ -17,3 +18,30 @@ module _ {N : Type 0} (passive : N → Bool) where
     pub sent : (w : ℕ) → IsPassiveAt old (end_at old.ends w).from → (wire_at new w).wire.sent ≡ (wire_at old w).wire.sent
     pub asks : (w : ℕ) → IsPassiveAt old (end_at old.ends w).to → wanted (wire_at new w) ≡ wanted (wire_at old w)
     pub left : (w : ℕ) → IsPassiveAt old (end_at old.ends w).to → (wire_at new w).wire.inp ≡ Left → (wire_at old w).wire.inp ≡ Left
+
+-- an event of wire w touched a passive node, or not
+abbrev pub touched : Bool → ℕ → Option ℕ
+touched true w = Some w
+touched false w = None
+
+-- another wire than that one, if there is one
+abbrev pub IsElse : Option ℕ → ℕ → Type 0
+IsElse None u = ⊤
+IsElse (Some w) u = u ≢ w
+
+-- a node has this wire alone
+abbrev pub HasOnly : PortLists → ℕ → Type 0
+HasOnly p u = p.ins ++ p.outs ≡ u ∷ []
+
+module _ {N : Type 0} (passive : N → Bool) where
+  -- the graph went on, and no passive node heard of any wire but that one, if there is one
+  pub record Untouched (at : Option ℕ) (old new : Net N) : Type 0 where
+    pub outs : (u : ℕ) → IsElse at u → IsPassiveAt passive old (end_at old.ends u).from → (wire_at new u).wire.out ≡ (wire_at old u).wire.out
+    pub ins : (u : ℕ) → IsElse at u → IsPassiveAt passive old (end_at old.ends u).to → ((wire_at new u).wire.inp ≡ (wire_at old u).wire.inp) × ((wire_at new u).wire.got ≡ (wire_at old u).wire.got)
+    pub nodes : (u k : ℕ) → IsElse at u → IsPassiveAt passive old k → HasOnly (ports_at old k) u → slice_get new.nodes k ≡ slice_get old.nodes k
+
+  -- node n heard of an event, and did what it wants done: the passive nodes know of their ports what they knew, and the other nodes are as they were
+  pub record HeardBy (n : ℕ) (old new : Net N) : Type 0 where
+    pub outs : (u : ℕ) → IsPassiveAt passive old (end_at old.ends u).from → (wire_at new u).wire.out ≡ (wire_at old u).wire.out
+    pub ins : (u : ℕ) → IsPassiveAt passive old (end_at old.ends u).to → ((wire_at new u).wire.inp ≡ (wire_at old u).wire.inp) × ((wire_at new u).wire.got ≡ (wire_at old u).wire.got)
+    pub nodes : (k : ℕ) → k ≢ n → slice_get new.nodes k ≡ slice_get old.nodes k

@@ -1,5 +1,5 @@
 // Nodes joined by wires: one action, one event, and `execute`.
-ghost use Rattle.std.specs.Prelude.{◌≡◌, ◌≢◌, ℕ, ◌+◌, ◌<◌, ◌≤◌, [], ◌∷◌, false, Some, OnOk, OnErr, IfOk, IfNone, IfSome, IsTrue, ◌↔◌, if◌then◌else◌, length, map, replicate, slice_get};
+ghost use Rattle.std.specs.Prelude.{◌≡◌, ◌≢◌, ℕ, ◌+◌, ◌<◌, ◌≤◌, [], ◌∷◌, false, None, Some, OnOk, OnErr, IfOk, IfNone, IfSome, IsTrue, ◌↔◌, length, map, replicate, slice_get};
 ghost use Rattle.elem_core.specs.Prefix.{IsPrefix};
 ghost use Rattle.port_core.specs.Call.{Meets};
 ghost use Rattle.port_core.specs.Ring.{holds};
@@ -10,7 +10,9 @@ ghost use Rattle.fused_net.specs.Net.{acted, acted_all, event_told, wire_at, end
 ghost use Rattle.fused_net.specs.Laws.{AnyRow, AnyLaw, Wired, first_view, Settled, Busy, Starting, GoesOn, Awaits, TellsAsking, MeetsAt, Responds, AllKept, BreaksOff, IsMinded};
 ghost use Rattle.fused_net.specs.Costs.{all_asks, Uses};
 ghost use Rattle.fused_net.specs.Poking.{AtNode, HandsAt, TellsPoked};
-ghost use Rattle.fused_net.specs.Outside.{StandsStill};
+ghost use Rattle.fused_net.specs.Outside.{StandsStill, HeardBy, Untouched, touched};
+ghost use Rattle.fused_net.specs.Steps.{unit_of, at_step};
+ghost use Rattle.fused_net.specs.declared.engine.Step.TheVariants as step;
 
 use crate::net::{Ends, Ports};
 use elem_core::item::Item;
@@ -48,6 +50,26 @@ impl<S: Stage> Model for Engine<S> {
     ghost view = { λ e. record { nodes = e.nodes.items; firsts = e.firsts.value.items; wires = e.wires.items; ends = e.ends.items; ports = e.ports.items; queue = e.ring.queue } };
 
     ghost invariant = { λ e. e.ring.size ≡ length e.wires.items };
+}
+
+/// How far a graph went.
+#[derive(Clone, Copy, PartialEq, Eq, Debug)]
+pub struct Advance {
+    /// How many events were handled.
+    pub used: u32,
+    /// The wire of the last of them, where a passive node heard of it.
+    pub heard: Option<u32>,
+}
+
+// What became of a step.
+#[derive(Clone, Copy, PartialEq, Eq, Debug)]
+enum Step {
+    // No event is left.
+    Rest,
+    // An event was handled by a node that is not passive.
+    Inner,
+    // A passive node heard of an event of this wire.
+    Outer(u32),
 }
 
 /// So many wires on which nothing happened.
@@ -240,6 +262,7 @@ impl<S: Stage> Engine<S> {
         requires empty { acts.old.items ≡ [] }
         requires room { most_acts ≤ acts.old.room }
         ensures responds { OnOk result (Responds S.rests S.law S.asking S.moves self.old self.new n) }
+        ensures heard { OnOk result (HeardBy S.passive n self.old self.new) }
         ensures gone { OnOk result (map S.gone self.new.nodes ≡ map S.gone self.old.nodes) }
         ensures still { OnOk result (StandsStill S.passive self.old self.new) }
         ensures acts { OnOk result (acts.new ≡ acts.old) }
@@ -250,9 +273,9 @@ impl<S: Stage> Engine<S> {
         Ok(())
     }
 
-    // Handles the event of a wire that was taken from the ring.
+    // Handles the event of a wire that was taken from the ring, and says whether the node that heard of it is passive.
     #[inline(always)]
-    fn handle(&mut self, alloc: Global, w: u32, acts: &mut Acts) -> Result<(), NoMemory>
+    fn handle(&mut self, alloc: Global, w: u32, acts: &mut Acts) -> Result<bool, NoMemory>
         requires within { w < length self.old.wires }
         requires absent { holds self.old.queue w ≡ false }
         requires laws { Settled S.rests S.law S.asking S.moves (before self.old w) }
@@ -264,17 +287,18 @@ impl<S: Stage> Engine<S> {
         ensures uses { OnOk result (Uses (before self.old w) self.new 1) }
         ensures gone { OnOk result (map S.gone self.new.nodes ≡ map S.gone self.old.nodes) }
         ensures still { OnOk result (StandsStill S.passive self.old self.new) }
+        ensures untouched { IfOk result (λ heard. Untouched S.passive (touched heard w) self.old self.new) }
         ensures acts { OnOk result (acts.new ≡ acts.old) }
         ensures kept { OnErr result (AllKept S.keeps self.old.nodes self.new.nodes) }
     {
         let ends = self.ends[w as usize];
         let event = self.deliver(w);
         if event.is_nothing() {
-            return Ok(());
+            return Ok(false);
         }
         let n = node_of(&event, ends);
         self.respond(alloc, n as usize, ends, event, acts)?;
-        Ok(())
+        Ok(self.nodes[n as usize].is_passive())
     }
 
     // Takes the first wire out of the ring.
@@ -285,27 +309,30 @@ impl<S: Stage> Engine<S> {
         self.ring.dequeue()
     }
 
-    // Handles one event. False comes exactly where none is left.
-    fn step(&mut self, alloc: Global, acts: &mut Acts) -> Result<bool, NoMemory>
+    // Handles one event.
+    #[inline(always)]
+    fn step(&mut self, alloc: Global, acts: &mut Acts) -> Result<Step, NoMemory>
         requires laws { Settled S.rests S.law S.asking S.moves self.old }
         requires few { all_asks self.old + 1 ≤ 4000000000 }
         requires empty { acts.old.items ≡ [] }
         requires room { most_acts ≤ acts.old.room }
         ensures laws { OnOk result (Settled S.rests S.law S.asking S.moves self.new) }
         ensures on { OnOk result (GoesOn self.old self.new) }
-        ensures uses { IfOk result (λ went. Uses self.old self.new (if went then 1 else 0)) }
-        ensures rest { IfOk result (λ went. went ≡ false → self.new.queue ≡ []) }
+        ensures uses { IfOk result (λ went. Uses self.old self.new (unit_of went)) }
+        ensures rest { IfOk result (λ went. went ≡ step.Rest → self.new.queue ≡ []) }
         ensures gone { OnOk result (map S.gone self.new.nodes ≡ map S.gone self.old.nodes) }
         ensures still { OnOk result (StandsStill S.passive self.old self.new) }
+        ensures untouched { IfOk result (λ went. Untouched S.passive (at_step went) self.old self.new) }
         ensures acts { OnOk result (acts.new ≡ acts.old) }
         ensures kept { OnErr result (AllKept S.keeps self.old.nodes self.new.nodes) }
     {
-        match self.next() {
-            None => Ok(false),
-            Some(w) => {
-                self.handle(alloc, w, acts)?;
-                Ok(true)
-            }
+        let Some(w) = self.next() else {
+            return Ok(Step::Rest);
+        };
+        if self.handle(alloc, w, acts)? {
+            Ok(Step::Outer(w))
+        } else {
+            Ok(Step::Inner)
         }
     }
 
@@ -328,11 +355,54 @@ impl<S: Stage> Engine<S> {
         ensures count { length self.new.nodes ≡ length self.old.nodes }
     {
         for used in 0..limit {
-            if !self.step(alloc, acts)? {
+            if let Step::Rest = self.step(alloc, acts)? {
                 return Ok(used);
             }
         }
         Ok(limit)
+    }
+
+    /// Handles events as `execute` does, but stops behind one that a passive node has heard of, and says on which wire that was: so
+    /// whoever acts for the passive nodes has to look at that wire alone. Fewer than `limit` without such a wire only where no event
+    /// is left.
+    pub fn advance(
+        &mut self,
+        alloc: Global,
+        limit: u32,
+        acts: &mut Acts,
+    ) -> Result<Advance, NoMemory>
+        requires laws { Settled S.rests S.law S.asking S.moves self.old }
+        requires few { all_asks self.old + limit ≤ 4000000000 }
+        requires empty { acts.old.items ≡ [] }
+        requires room { most_acts ≤ acts.old.room }
+        ensures laws { OnOk result (Settled S.rests S.law S.asking S.moves self.new) }
+        ensures on { OnOk result (GoesOn self.old self.new) }
+        ensures uses { IfOk result (λ a. Uses self.old self.new a.used) }
+        ensures within { IfOk result (λ a. a.used ≤ limit) }
+        ensures rest { IfOk result (λ a. a.used < limit → a.heard ≡ None → self.new.queue ≡ []) }
+        ensures gone { OnOk result (map S.gone self.new.nodes ≡ map S.gone self.old.nodes) }
+        ensures still { OnOk result (StandsStill S.passive self.old self.new) }
+        ensures untouched { IfOk result (λ a. Untouched S.passive a.heard self.old self.new) }
+        ensures acts { OnOk result (acts.new ≡ acts.old) }
+        ensures breaks { OnErr result (BreaksOff S.rests S.law S.asking S.moves S.keeps self.old self.new.nodes) }
+        ensures count { length self.new.nodes ≡ length self.old.nodes }
+    {
+        for used in 0..limit {
+            match self.step(alloc, acts)? {
+                Step::Rest => return Ok(Advance { used, heard: None }),
+                Step::Inner => {}
+                Step::Outer(w) => {
+                    return Ok(Advance {
+                        used: used + 1,
+                        heard: Some(w),
+                    });
+                }
+            }
+        }
+        Ok(Advance {
+            used: limit,
+            heard: None,
+        })
     }
 
     /// What is known of wire w.

@@ -1,8 +1,8 @@
 // An island of nodes that runs event by event.
-ghost use Rattle.std.specs.Prelude.{◌≡◌, ◌+◌, ◌<◌, ◌≤◌, ◌↔◌, ◌∷◌, ◌++◌, [], true, false, Some, length, slice_get, ℕ, IsTrue, IsOk, IfOk, IfErr, OnOk, OnErr, map, vec_len, vec_capacity};
+ghost use Rattle.std.specs.Prelude.{◌≡◌, ◌+◌, ◌<◌, ◌≤◌, ◌↔◌, ◌∷◌, ◌++◌, [], true, false, None, Some, length, slice_get, ℕ, IsTrue, IsOk, IfOk, IfErr, OnOk, OnErr, map, vec_len, vec_capacity};
 ghost use Rattle.fused_net.specs.Laws.{Starting, GoesOn, BreaksOff};
 ghost use Rattle.fused_net.specs.Costs.{all_asks, Uses};
-ghost use Rattle.fused_net.specs.Outside.{StandsStill};
+ghost use Rattle.fused_net.specs.Outside.{StandsStill, Untouched};
 ghost use Rattle.nodes.specs.Nodes.{node_fresh, node_row, node_law, node_asking, node_moves, node_gone, node_passive, KeepsNode};
 ghost use Rattle.interpreter.specs.Parts.{AreParts, AllBecome, ends_of, number_of, place_of};
 ghost use Rattle.interpreter.specs.Picks.{node_number, pick_of, with_picks, picks_of};
@@ -25,7 +25,7 @@ use boundary_calls::calls;
 use boundary_calls::given::{Given, Wanted};
 use elem_core::elem::Elem;
 use elem_core::why::{Cause, NoMemory};
-use fused_net::engine::Engine;
+use fused_net::engine::{Advance, Engine};
 use nodes::node::{Node, NodeEnd};
 use port_core::acts::Acts;
 use port_core::pick_log::PickLog;
@@ -161,6 +161,48 @@ impl<S: Source, D: Drain> Island<S, D> {
         self.used += used;
         self.broken = false;
         Ok(used)
+    }
+
+    /// Handles events as `execute` does, but stops behind one of which a stage at an end of a lane has heard, and says at which
+    /// connection: so whoever serves the ends of lanes has to look at that one alone.
+    pub fn advance(&mut self, alloc: Global, limit: u32) -> Result<Advance, NoMemory>
+        requires whole { self.old.broken ≡ false }
+        requires few { self.old.used + limit ≤ 4000000000 }
+        ensures whole { OnOk result (self.new.broken ≡ false) }
+        ensures on { OnOk result (GoesOn self.old.net self.new.net) }
+        ensures numbers { OnOk result (self.new.numbers ≡ self.old.numbers) }
+        ensures places { OnOk result (self.new.places ≡ self.old.places) }
+        ensures ways { OnOk result ((self.new.ins ≡ self.old.ins) × (self.new.outs ≡ self.old.outs)) }
+        ensures gone { OnOk result (map node_gone self.new.net.nodes ≡ map node_gone self.old.net.nodes) }
+        ensures still { OnOk result (StandsStill node_passive self.old.net self.new.net) }
+        ensures untouched { IfOk result (λ a. Untouched node_passive a.heard self.old.net self.new.net) }
+        ensures used { IfOk result (λ a. self.new.used ≡ self.old.used + a.used) }
+        ensures uses { IfOk result (λ a. Uses self.old.net self.new.net a.used) }
+        ensures within { IfOk result (λ a. a.used ≤ limit) }
+        ensures rest { IfOk result (λ a. a.used < limit → a.heard ≡ None → self.new.net.queue ≡ []) }
+        ensures breaks { OnErr result (BreaksOff node_row (node_law S.state D.state) node_asking node_moves (KeepsNode S.state D.state) self.old.net self.new.net.nodes) }
+    {
+        self.broken = true;
+        let advance = self.engine.advance(alloc, limit, &mut self.acts)?;
+        self.used += advance.used;
+        self.broken = false;
+        Ok(advance)
+    }
+
+    /// The place of the connection at which the lane that is wire `wire` comes in.
+    pub fn way_in(&self, wire: u32) -> u32
+        requires { wire < length self.now.ins }
+        ensures { result ≡ way_in self.now wire }
+    {
+        self.ways.ins[wire as usize]
+    }
+
+    /// The place of the connection at which the lane that is wire `wire` goes out.
+    pub fn way_out(&self, wire: u32) -> u32
+        requires { wire < length self.now.outs }
+        ensures { result ≡ way_out self.now wire }
+    {
+        self.ways.outs[wire as usize]
     }
 
     /// What it keeps between two calls: the law of each node over the histories of its wires, the joint state of each wire,

@@ -213,4 +213,8 @@ impl<S: Source, D: Drain> Stage for Node<S, D> {
             _ => true,
         }
     }
+
+    fn is_passive(&self) -> bool {
+        matches!(self, Node::Entering(_) | Node::Leaving(_))
+    }
 }

@@ -128,4 +128,8 @@ impl Stage for Entering {
     fn is_clear(&self) -> bool {
         true
     }
+
+    fn is_passive(&self) -> bool {
+        true
+    }
 }

@@ -182,4 +182,8 @@ impl Stage for Leaving {
     fn is_clear(&self) -> bool {
         self.first.is_none()
     }
+
+    fn is_passive(&self) -> bool {
+        true
+    }
 }

@@ -136,4 +136,8 @@ pub trait Stage: Drop {
     /// Whether nothing waits there.
     fn is_clear(&self) -> bool
         ensures { IsTrue result ↔ (waits self.now ≡ []) };
+
+    /// Whether it is passive.
+    fn is_passive(&self) -> bool
+        ensures { result ≡ passive self.now };
 }

@@ -75,4 +75,8 @@ impl Stage for InLogic {
     fn is_clear(&self) -> bool {
         true
     }
+
+    fn is_passive(&self) -> bool {
+        false
+    }
 }

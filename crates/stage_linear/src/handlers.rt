@@ -80,4 +80,8 @@ impl Stage for LinearLogic {
     fn is_clear(&self) -> bool {
         true
     }
+
+    fn is_passive(&self) -> bool {
+        false
+    }
 }

@@ -81,4 +81,8 @@ impl Stage for StateLogic {
     fn is_clear(&self) -> bool {
         true
     }
+
+    fn is_passive(&self) -> bool {
+        false
+    }
 }

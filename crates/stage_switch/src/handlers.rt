@@ -81,6 +81,10 @@ impl Stage for Valve {
     fn is_clear(&self) -> bool {
         true
     }
+
+    fn is_passive(&self) -> bool {
+        false
+    }
 }
 
 impl Stage for Trip {
@@ -151,5 +155,9 @@ impl Stage for Trip {
 
     fn is_clear(&self) -> bool {
         true
+    }
+
+    fn is_passive(&self) -> bool {
+        false
     }
 }

@@ -7,8 +7,8 @@ use Rattle.fused_net.proofs.engine.Engine.execute.Goals as goal
 pub returns-in_err-step-clause-count : goal.returns-in_err-step-clause-count
 returns-in_err-step-clause-count g c = step_count g.S.Stage.keeps _ c.loop-used.self _ c.loop-used.invariant.1 c.in_err-step.ensures.kept
 
-pub returns-then-not-branch-clause-still : goal.returns-then-not-branch-clause-still
-returns-then-not-branch-clause-still g c = still_trans g.S.Stage.passive _ _ _ c.loop-used.invariant.1.ends c.loop-used.invariant.5 c.in_ok-step.ensures.still
+pub returns-in-Rest-clause-still : goal.returns-in-Rest-clause-still
+returns-in-Rest-clause-still g c = still_trans g.S.Stage.passive _ _ _ c.loop-used.invariant.1.ends c.loop-used.invariant.5 c.in_ok-step.ensures.still
 
 pub loop-used-preserved : goal.loop-used-preserved
 loop-used-preserved g c = (

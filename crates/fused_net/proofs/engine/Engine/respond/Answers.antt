@@ -2,7 +2,7 @@
 use Rattle.fused_net.proofs.Keeping.{on_err, kept_called}
 use Rattle.fused_net.proofs.Responding.{awaited, responded}
 use Rattle.fused_net.proofs.Poking.{gone_acts}
-use Rattle.fused_net.proofs.Still.{still_acts}
+use Rattle.fused_net.proofs.Still.{still_acts, heard_acts}
 use Rattle.fused_net.proofs.engine.Engine.respond.Goals as goal
 
 pub perform-requires-clause-busy : goal.perform-requires-clause-busy
@@ -19,3 +19,6 @@ returns-clause-gone g c = gone_acts g.S.Stage.gone _ _ _ _ _ _ c.call.new.acts.i
 
 pub returns-clause-still : goal.returns-clause-still
 returns-clause-still g c = still_acts g.S.Stage.passive _ _ _ _ _ _ c.call.new.acts.items c.self.view_is c.requires.within c.index_mut.ensures.value (awaited g.S.Stage.rests g.S.Stage.law _ _ _ _ _ _ _ c.self.view_is c.requires.within c.index_mut.ensures.value c.requires.awaits c.in_ok-call.ensures.handles) c.in_ok-call.ensures.passive c.perform.ensures.after
+
+pub returns-clause-heard : goal.returns-clause-heard
+returns-clause-heard g c = heard_acts g.S.Stage.passive _ _ _ _ _ _ c.call.new.acts.items c.self.view_is c.requires.within c.index_mut.ensures.value (awaited g.S.Stage.rests g.S.Stage.law _ _ _ _ _ _ _ c.self.view_is c.requires.within c.index_mut.ensures.value c.requires.awaits c.in_ok-call.ensures.handles) c.in_ok-call.ensures.passive c.perform.ensures.after

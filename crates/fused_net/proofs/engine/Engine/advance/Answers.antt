@@ -1,0 +1,32 @@
+-- The goals of `engine::Engine::advance` that the search leaves.
+use Rattle.std.proofs.Common.{◌∙◌, rules, arith}
+use Rattle.fused_net.specs.declared.engine.Step.TheVariants.{Rest, Inner, Outer}
+use Rattle.fused_net.proofs.Keeping.{step_count}
+use Rattle.fused_net.proofs.Still.{still_trans, untouched_on}
+use Rattle.fused_net.proofs.engine.Engine.advance.Goals as goal
+
+pub returns-in_err-step-clause-count : goal.returns-in_err-step-clause-count
+returns-in_err-step-clause-count g c = step_count g.S.Stage.keeps _ c.loop-used.self _ c.loop-used.invariant.1 c.in_err-step.ensures.kept
+
+pub returns-in-Rest-clause-still : goal.returns-in-Rest-clause-still
+returns-in-Rest-clause-still g c = still_trans g.S.Stage.passive _ _ _ c.loop-used.invariant.1.ends c.loop-used.invariant.5 c.in_ok-step.ensures.still
+
+pub returns-in-Rest-clause-untouched : goal.returns-in-Rest-clause-untouched
+returns-in-Rest-clause-untouched g c = untouched_on g.S.Stage.passive _ Rest _ _ _ c.in-Rest.is c.loop-used.invariant.1.ends c.loop-used.invariant.1.ports c.loop-used.invariant.5.kinds c.loop-used.invariant.6 c.in_ok-step.ensures.untouched
+
+pub returns-in-Outer-clause-still : goal.returns-in-Outer-clause-still
+returns-in-Outer-clause-still g c = still_trans g.S.Stage.passive _ _ _ c.loop-used.invariant.1.ends c.loop-used.invariant.5 c.in_ok-step.ensures.still
+
+pub returns-in-Outer-clause-untouched : goal.returns-in-Outer-clause-untouched
+returns-in-Outer-clause-untouched g c = untouched_on g.S.Stage.passive _ (Outer c.in-Outer.w) _ _ _ c.in-Outer.is c.loop-used.invariant.1.ends c.loop-used.invariant.1.ports c.loop-used.invariant.5.kinds c.loop-used.invariant.6 c.in_ok-step.ensures.untouched
+
+pub loop-used-preserved : goal.loop-used-preserved
+loop-used-preserved g c = (
+  c.in_ok-step.ensures.laws,
+  search (rules, arith),
+  search (rules, arith),
+  search (rules, arith),
+  c.in_ok-step.ensures.gone ∙ c.loop-used.invariant.4,
+  still_trans g.S.Stage.passive _ _ _ c.loop-used.invariant.1.ends c.loop-used.invariant.5 c.in_ok-step.ensures.still,
+  untouched_on g.S.Stage.passive _ Inner _ _ _ c.in-Inner.is c.loop-used.invariant.1.ends c.loop-used.invariant.1.ports c.loop-used.invariant.5.kinds c.loop-used.invariant.6 c.in_ok-step.ensures.untouched,
+)

@@ -1,3 +1,4 @@
 pub mod Histories
 pub mod Enters
 pub mod Leaves
+pub mod Passive

@@ -1,4 +1,5 @@
 use Rattle.std.proofs.Common.{rules, ap, ◌∙◌}
+use Rattle.stage_boundary.proofs.Passive.{stays}
 use Rattle.stage_boundary.proofs.Enters.{starts_entering}
 use Rattle.stage_boundary.proofs.entering.EnteringStage.TheImpl.Goals as goal
 
@@ -7,6 +8,7 @@ start-tells x c = record {
   starts = starts_entering c.result _ _ _ c.ensures.same.0 (ap (λ a. a.items) c.ensures.same.1 ∙ c.requires.empty);
   asks = search rules;
   grows = search rules;
+  passive = stays c.result _ (ap (λ a. a.items) c.ensures.same.1 ∙ c.requires.empty);
   gone = search rules;
   room = search rules;
   kept = search rules;

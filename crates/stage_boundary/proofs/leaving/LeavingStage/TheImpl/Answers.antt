@@ -1,5 +1,6 @@
 use Rattle.std.proofs.Common.{rules, ap, ◌∙◌}
 use Rattle.elem_core.specs.declared.item.Item.TheVariants as item
+use Rattle.stage_boundary.proofs.Passive.{stays}
 use Rattle.stage_boundary.proofs.Leaves.{starts_leaving, leaves_got}
 use Rattle.stage_boundary.proofs.leaving.LeavingStage.TheImpl.Goals as goal
 
@@ -8,6 +9,7 @@ start-tells x c = record {
   starts = starts_leaving c.result _ _ _ c.ensures.same.0 (ap (λ a. a.items) c.ensures.same.1 ∙ c.requires.empty);
   asks = search rules;
   grows = search rules;
+  passive = stays c.result _ (ap (λ a. a.items) c.ensures.same.1 ∙ c.requires.empty);
   gone = search rules;
   room = search rules;
   kept = search rules;
@@ -18,6 +20,7 @@ on_push-tells x c = record {
   handles = leaves_got c.result c.args.port (item.Elem c.args.e) _ _ _ c.ensures.waits (ap (λ a. a.items) c.ensures.nothing ∙ c.requires.empty);
   asks = search rules;
   grows = search rules;
+  passive = stays c.result _ (ap (λ a. a.items) c.ensures.nothing ∙ c.requires.empty);
   gone = search rules;
   room = search rules;
   kept = search rules;
@@ -28,6 +31,7 @@ on_finish-tells x c = record {
   handles = leaves_got c.result c.args.port item.Ended _ _ _ c.ensures.waits (ap (λ a. a.items) c.ensures.nothing ∙ c.requires.empty);
   asks = search rules;
   grows = search rules;
+  passive = stays c.result _ (ap (λ a. a.items) c.ensures.nothing ∙ c.requires.empty);
   gone = search rules;
   room = search rules;
   kept = search rules;
@@ -38,6 +42,7 @@ on_fail-tells x c = record {
   handles = leaves_got c.result c.args.port (item.Failed c.args.cause) _ _ _ c.ensures.waits (ap (λ a. a.items) c.ensures.nothing ∙ c.requires.empty);
   asks = search rules;
   grows = search rules;
+  passive = stays c.result _ (ap (λ a. a.items) c.ensures.nothing ∙ c.requires.empty);
   gone = search rules;
   room = search rules;
   kept = search rules;

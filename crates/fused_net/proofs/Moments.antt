@@ -129,7 +129,7 @@ module _ {N : Type 0} where
       acts_wanted acts (acted net n a) n u (acted_busy AnyRow AnyLaw net n a acts busy) (inl first.1) ∙ act_wanted net n a acts u busy (λ p. absurd (first.0 p))
   acts_wanted (a ∷ acts) net n u busy (inr h) = acts_wanted acts (acted net n a) n u (acted_busy AnyRow AnyLaw net n a acts busy) (inr h) ∙ act_wanted net n a acts u busy (λ p. h)
 
-  acts_grown : (acts : List Act) (net : Net N) (n : ℕ) → Busy AnyRow AnyLaw net n acts → (u : ℕ) → Grown (wire_at net u) (wire_at (acted_all net n acts) u)
+  pub acts_grown : (acts : List Act) (net : Net N) (n : ℕ) → Busy AnyRow AnyLaw net n acts → (u : ℕ) → Grown (wire_at net u) (wire_at (acted_all net n acts) u)
   acts_grown [] net n busy u = grown_same (wire_at net u)
   acts_grown (a ∷ acts) net n busy u = grown_trans (wire_at net u) (wire_at (acted net n a) u) _ (act_grown net n a acts busy u) (acts_grown acts (acted net n a) n (acted_busy AnyRow AnyLaw net n a acts busy) u)
 

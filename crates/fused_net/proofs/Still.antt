@@ -10,6 +10,7 @@ use Rattle.port_core.specs.declared.view.InView.{InView}
 use Rattle.port_core.specs.declared.view.InView.TheVariants.{Left}
 use Rattle.wire_core.specs.Cell.{Cell, moved_by}
 use Rattle.wire_core.specs.Marks.{wanted}
+use Rattle.wire_core.proofs.Marking.{grown_same, grown_trans}
 use Rattle.wire_core.specs.Reading.{no_wire}
 use Rattle.stage_core.specs.Handling.{StaysPassive}
 use Rattle.fused_net.specs.declared.net.Ends.{Ends}
@@ -23,8 +24,8 @@ use Rattle.fused_net.specs.Outside.{IsPassiveAt, StandsStill, touched, IsElse, H
 use Rattle.fused_net.proofs.Reading.{same_or_not, some_same, get_there, get_within, get_set_same, get_set_other}
 use Rattle.fused_net.proofs.Ongoing.{nodes-acts}
 use Rattle.fused_net.proofs.Acting.{PortAt, fits, act_allowed, port_within, acted_busy}
-use Rattle.fused_net.proofs.Asking.{told_wanted}
-use Rattle.fused_net.proofs.Moments.{acts_wanted}
+use Rattle.fused_net.proofs.Asking.{told_wanted, told_grown}
+use Rattle.fused_net.proofs.Moments.{acts_wanted, acts_grown}
 use Rattle.fused_net.proofs.Responding.{node_is}
 
 -- ---- one wire
@@ -132,7 +133,7 @@ module _ {N : Type 0} where
 
 module _ {N : Type 0} (passive : N → Bool) where
   pub still_same : (net : Net N) → StandsStill passive net net
-  still_same net = record { kinds = refl; sent = λ w p. refl; asks = λ w p. refl; left = λ w p e. e }
+  still_same net = record { kinds = refl; grown = λ w. grown_same (wire_at net w); sent = λ w p. refl; asks = λ w p. refl; left = λ w p e. e }
 
   -- of which a node is depends only on whether each is passive
   passive_as : (xs ys : List N) (n : ℕ) (y : N) → map passive ys ≡ map passive xs → ((x : N) → slice_get xs n ≡ Some x → passive x ≡ true) → slice_get ys n ≡ Some y → passive y ≡ true
@@ -147,6 +148,7 @@ module _ {N : Type 0} (passive : N → Bool) where
       let on : (n : ℕ) → IsPassiveAt passive a n → IsPassiveAt passive b n = λ n p y at. passive_as a.nodes b.nodes n y f.kinds p at in
       record {
         kinds = g.kinds ∙ f.kinds;
+        grown = λ w. grown_trans (wire_at a w) (wire_at b w) (wire_at c w) (f.grown w) (g.grown w);
         sent = λ w p. g.sent w (rw ends (on _ p)) ∙ f.sent w p;
         asks = λ w p. g.asks w (rw ends (on _ p)) ∙ f.asks w p;
         left = λ w p e. f.left w p (g.left w (rw ends (on _ p)) e);
@@ -158,6 +160,7 @@ module _ {N : Type 0} (passive : N → Bool) where
       let d : Delivery = delivery_of (wire_at net w).wire in
       rw is (record {
         kinds = refl;
+        grown = λ u. told_grown net w (delivery_of (wire_at net w).wire) h u;
         sent = λ u p. elim (same_or_not u w) [
           | inl e ↦ rw e (ap (λ (c : Cell). c.wire.sent) (get_or-set_same net.wires w (told_by (delivery_of (wire_at net w).wire) (wire_at net w)) no_wire h) ∙ told_sent (delivery_of (wire_at net w).wire) (wire_at net w).wire)
           | inr ne ↦ ap (λ (c : Cell). c.wire.sent) (get_or-set_other net.wires w u _ no_wire ne)
@@ -191,6 +194,7 @@ module _ {N : Type 0} (passive : N → Bool) where
       let now : new ≡ acted_all (with_node net n y) n acts = rw e at on in
       rw now (record {
         kinds = ap (map passive) (nodes-acts acts (with_node net n y) n) ∙ kinds_set net.nodes n x y at (stays_kind (passive x) (passive y) acts stays);
+        grown = λ u. acts_grown acts (with_node net n y) n b u;
         sent = λ w p. elim (same_or_not (end_at net.ends w).from n) [
           | inl here ↦ let none : acts ≡ [] = no_acts (passive x) (passive y) acts (p x (rw here at)) stays in rw none refl
           | inr there ↦ acts_sent acts (with_node net n y) n w b there
@@ -207,7 +211,7 @@ module _ {N : Type 0} (passive : N → Bool) where
 
   -- the first wire was taken out of the queue
   pub still_before : (old net new : Net N) (w : ℕ) → old ≡ before net w → StandsStill passive net new → StandsStill passive old new
-  still_before old net new w e s = rw e (record { kinds = s.kinds; sent = s.sent; asks = s.asks; left = s.left })
+  still_before old net new w e s = rw e (record { kinds = s.kinds; grown = s.grown; sent = s.sent; asks = s.asks; left = s.left })
 
 -- ---- which passive nodes have heard
 

@@ -16,7 +16,8 @@ use Rattle.run_account.specs.Items.{standing}
 use Rattle.run_account.proofs.Histories.{standing_told}
 use Rattle.input_boundary.specs.declared.boundary.InputBoundary.{InputBoundary}
 use Rattle.input_boundary.specs.Boundary.{given, BoundaryKeeps}
-use Rattle.lane_account.specs.Ends.{InKeeps, Met, out_end, in_end}
+use Rattle.run_account.specs.Ends.{InKeeps, Met}
+use Rattle.lane_account.specs.Ends.{out_end, in_end}
 
 -- both count elements alike
 counts_same : (l : List Item) → lane.elements l ≡ elements l

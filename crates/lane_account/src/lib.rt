@@ -1,5 +1,4 @@
-//! What the two ends of a lane tell of the nodes beside them: of one lane what run_account tells of a wire inside an island. Laws
-//! alone.
+//! The two ends of a lane of lane_core, and the input boundary, as an account of a run tells of them. Laws alone.
 #![tactic(auto)]
 
 pub mod laws;

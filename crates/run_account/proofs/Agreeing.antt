@@ -24,7 +24,7 @@ use Rattle.run_account.specs.Account.{Account, cell_by, read_ins, read_outs, kno
 use Rattle.stream_model.specs.Fits.{moves_fit, inputs}
 use Rattle.stream_picture.specs.Joined.{IsJoined}
 use Rattle.run_account.specs.KindLaws.{RunLaws}
-use Rattle.run_account.proofs.Bringing.{wire_brings}
+use Rattle.run_account.proofs.Carrying.{wire_brings}
 use Rattle.run_account.proofs.Histories.{list_of_told, standing_told}
 use Rattle.run_account.proofs.Reading.{length_ins}
 
@@ -81,7 +81,8 @@ module _ {N : Type 0} (row : N → View → Type 0) (law : N → N → View → 
   brings u v e =
       let h = slice_get-below g.wires u v e in
       let n = keeps.near_sound u h in
-      wire_brings v.lane (a.near u) (a.far u) n.0 n.1 (keeps.wires u v e)
+      let f = keeps.far_sound u h in
+      wire_brings v.lane (a.near u) (a.far u) (a.asked u) n.0 f.0 n.1 f.1 (keeps.wires u v e)
 
   -- by any outlooks of the wires
   module _ (sent : ℕ → Outlook) where

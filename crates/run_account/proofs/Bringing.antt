@@ -1,5 +1,5 @@
--- What the input of a wire got, of what was sent at its output.
-use Rattle.std.proofs.Common.{◌∙◌, ℕ, List, refl, sym, arith, Option, None, Some}
+-- What the input of a wire that is no lane got, of what was sent at its output.
+use Rattle.std.proofs.Common.{◌∙◌, ℕ, List, refl, sym, arith, None}
 use Rattle.elem_core.specs.Prefix.{IsPrefix}
 use Rattle.elem_core.specs.Tree.{Tree}
 use Rattle.elem_core.specs.declared.item.Item.{Item}
@@ -8,9 +8,7 @@ use Rattle.port_core.specs.Wire.{Wire}
 use Rattle.port_core.specs.Joint.{IsSound}
 use Rattle.stream_model.specs.Outlook.{End, unended, ended, failed}
 use Rattle.stream_model.specs.Lane.{Carries}
-use Rattle.wire_core.specs.Cell.{Cell}
 use Rattle.run_account.specs.Items.{list_of, standing, Brought}
-use Rattle.run_account.specs.Account.{WireKeeps}
 use Rattle.run_account.proofs.Histories.{Begun, begun, got_begins}
 
 -- what is carried on of a first part of a history is so of the history
@@ -29,10 +27,5 @@ plain l unended = prefix_refl l
 plain l ended = (refl, refl)
 plain l (failed c) = (refl, prefix_refl l, omega arith)
 
-fused_brings : (w : Wire) (q : _) → IsSound w q → Brought None w.sent w.got
+pub fused_brings : (w : Wire) (q : _) → IsSound w q → Brought None w.sent w.got
 fused_brings w q h l e is = carries_sent 0 l e l e w.sent (plain l e) (begun l e w.got w.sent is (got_begins w q h))
-
--- any wire
-pub wire_brings : (lane : Option ℕ) (near far : Cell) (p : _) → IsSound near.wire p → WireKeeps lane near far → Brought lane near.wire.sent far.wire.got
-wire_brings None near far p sn k = rw k (fused_brings near.wire p sn)
-wire_brings (Some s) near far p sn k = absurd k

@@ -1,7 +1,7 @@
 -- The nets of several islands tell of the blueprint what one net would: each node keeps its row and
 -- its law over its wires, each wire brings what it may, and each ask has its moment.
 use Rattle.std.specs.Prelude.{slice_get, slice_index_or}
-use Rattle.std.proofs.Common.{◌≡◌, ℕ, ◌<◌, ◌≤◌, List, length, Some, refl, ap, subst, ◌∙◌}
+use Rattle.std.proofs.Common.{◌≡◌, ℕ, ◌<◌, ◌≤◌, List, [], length, Option, None, Some, refl, ap, subst, ◌∙◌}
 use Rattle.elem_core.specs.declared.item.Item.{Item}
 use Rattle.port_core.specs.Ring.{holds}
 use Rattle.port_core.specs.View.{View}
@@ -16,9 +16,9 @@ use Rattle.fused_net.specs.Net.{Net, read_all, end_at, ports_at, wire_at, view_o
 use Rattle.fused_net.specs.Net as net
 use Rattle.fused_net.specs.Laws.{Settled}
 use Rattle.fused_net.proofs.Reading.{get_there, read_at}
-use Rattle.run_account.specs.Account.{Account, knows, took, gave, WireKeeps, NodeKeeps, ins_wanted, outs_wanted, KeepsLaws, outs_shut, shut_of}
+use Rattle.run_account.specs.Account.{Account, knows, took, gave, WireKeeps, WireQuiet, NodeKeeps, ins_wanted, outs_wanted, KeepsLaws, outs_shut, shut_of, IsStill}
 use Rattle.stream_picture.specs.Joined.{IsJoined}
-use Rattle.run_account.specs.Seats.{Seats, Covers, joined}
+use Rattle.run_account.specs.Seats.{Seats, Covers, LanesKeep, LanesRest, joined}
 use Rattle.run_account.proofs.Earlier.{want_in, want_out, shut_out, earlier, last}
 use Rattle.run_account.proofs.Reading.{far_slot, read_in, read_out}
 
@@ -26,11 +26,19 @@ use Rattle.run_account.proofs.Reading.{far_slot, read_in, read_out}
 view_same : {v w : View} → v.ins ≡ w.ins → v.outs ≡ w.outs → v ≡ w
 view_same {v = v} {w = w} a b = ap (λ (x : List InView). record { ins = x; outs = v.outs }) a ∙ ap (λ (y : List OutView). record { ins = w.ins; outs = y }) b
 
+-- each connection stands in its net
+module _ {N : Type 0} (g : Graph) (nets : ℕ → Net N) (s : Seats) (covers : Covers g nets s) where
+  near_there : (u : ℕ) → u < length g.wires → (s.near u).at < length (nets (s.near u).island).wires
+  near_there u h = let v = get_there g.wires u h in covers.near_within u v.0 v.1
+
+  far_there : (u : ℕ) → u < length g.wires → (s.far u).at < length (nets (s.far u).island).wires
+  far_there u h = let v = get_there g.wires u h in covers.far_within u v.0 v.1
+
 module _ {N : Type 0} (row : N → View → Type 0) (law : N → N → View → List (List Item) → List (List Item) → Type 0) (asking : N → View → Type 0) (moves : N → List ℕ)
     (g : Graph) (nets : ℕ → Net N) (s : Seats) (is_joined : IsJoined g) (covers : Covers g nets s)
-    (settled : (b : ℕ) → Settled row law asking moves (nets b)) where
+    (asked : ℕ → ℕ) (settled : (b : ℕ) → Settled row law asking moves (nets b)) (lanes : LanesKeep g nets s asked) where
   abbrev all : Account N
-  all = joined nets s
+  all = joined nets s asked
 
   abbrev home : ℕ → ℕ
   home k = (s.node k).island
@@ -89,23 +97,35 @@ module _ {N : Type 0} (row : N → View → Type 0) (law : N → N → View → 
             rw (took_same k n e, gave_same k n e, ins_same k n e, outs_same k n e, shut_same k n e) at (last row law asking moves (nets (home k)) (settled (home k)).wired (seat k) h first.0 first.1 x.0 x.1 a);
       }
 
-  near_there : (u : ℕ) → u < length g.wires → (s.near u).at < length (nets (s.near u).island).wires
-  near_there u h = let v = get_there g.wires u h in covers.near_within u v.0 v.1
-
-  far_there : (u : ℕ) → u < length g.wires → (s.far u).at < length (nets (s.far u).island).wires
-  far_there u h = let v = get_there g.wires u h in covers.far_within u v.0 v.1
-
   -- each wire keeps what it does
-  wires_keep : (u : ℕ) (v : Wire) → slice_get g.wires u ≡ Some v → WireKeeps v.lane (all.near u) (all.far u)
-  wires_keep u v e = rw (covers.no_lane u v e, covers.fused u v e) refl
+  wires_keep : (u : ℕ) (v : Wire) → slice_get g.wires u ≡ Some v → WireKeeps v.lane (all.near u) (all.far u) (all.asked u)
+  wires_keep u v e = by v.lane refl
+    where
+      by : (lane : Option ℕ) → v.lane ≡ lane → WireKeeps lane (all.near u) (all.far u) (all.asked u)
+      by None is = rw (covers.fused u v e is) refl
+      by (Some size) is = lanes u v size e is
 
   -- together they keep what one net would
   pub all_keep : KeepsLaws row law asking moves g all
   all_keep = record {
     each_node = node_keeps;
-    near_sound = λ u h. (holds (nets (s.near u).island).queue (s.near u).at, (settled (s.near u).island).sound (s.near u).at (near_there u h));
-    far_sound = λ u h. (holds (nets (s.far u).island).queue (s.far u).at, (settled (s.far u).island).sound (s.far u).at (far_there u h));
-    near_marked = λ u h. (settled (s.near u).island).marked (s.near u).at (near_there u h);
-    far_marked = λ u h. (settled (s.far u).island).marked (s.far u).at (far_there u h);
+    near_sound = λ u h. (holds (nets (s.near u).island).queue (s.near u).at, (settled (s.near u).island).sound (s.near u).at (near_there g nets s covers u h));
+    far_sound = λ u h. (holds (nets (s.far u).island).queue (s.far u).at, (settled (s.far u).island).sound (s.far u).at (far_there g nets s covers u h));
+    near_marked = λ u h. (settled (s.near u).island).marked (s.near u).at (near_there g nets s covers u h);
+    far_marked = λ u h. (settled (s.far u).island).marked (s.far u).at (far_there g nets s covers u h);
     wires = wires_keep;
   }
+
+module _ {N : Type 0} (row : N → View → Type 0) (law : N → N → View → List (List Item) → List (List Item) → Type 0) (asking : N → View → Type 0) (moves : N → List ℕ)
+    (g : Graph) (nets : ℕ → Net N) (s : Seats) (covers : Covers g nets s) (asked : ℕ → ℕ) (settled : (b : ℕ) → Settled row law asking moves (nets b)) where
+  -- where no event is left in any of them and each lane rests, none is left on any wire
+  pub all_still : ((b : ℕ) → (nets b).queue ≡ []) → LanesRest g nets s asked → IsStill g (joined nets s asked)
+  all_still empty rest = record {
+    near = λ u h. rw (empty (s.near u).island) at ((settled (s.near u).island).sound (s.near u).at (near_there g nets s covers u h));
+    far = λ u h. rw (empty (s.far u).island) at ((settled (s.far u).island).sound (s.far u).at (far_there g nets s covers u h));
+    quiet = λ u v e. by u v e v.lane refl;
+  }
+    where
+      by : (u : ℕ) (v : Wire) → slice_get g.wires u ≡ Some v → (lane : Option ℕ) → v.lane ≡ lane → WireQuiet lane ((joined nets s asked).near u) ((joined nets s asked).far u) (asked u)
+      by u v e None is = tt
+      by u v e (Some size) is = rest u v size e is

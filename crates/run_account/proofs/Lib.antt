@@ -2,6 +2,11 @@ pub mod Histories
 pub mod Coming
 pub mod Resting
 pub mod Bringing
+pub mod Carrying
+pub mod Joints
+pub mod Marks
+pub mod Lanes
+pub mod Costs
 pub mod Reading
 pub mod Earlier
 pub mod Joining

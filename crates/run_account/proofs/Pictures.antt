@@ -1,19 +1,20 @@
 -- The rows of a picture speak of a node's ports: its wires in the picture are those of the ports, and what the node knows, took
 -- and gave is theirs too.
 use Rattle.std.specs.Prelude.{slice_get}
-use Rattle.std.proofs.Common.{◌≡◌, ℕ, zero, suc, ◌+◌, List, [], ◌∷◌, map, Option, Some, refl, arith}
+use Rattle.std.proofs.Common.{◌≡◌, ℕ, zero, suc, ◌+◌, List, [], ◌∷◌, map, Option, Some, refl, sym, arith}
 use Rattle.wire_core.specs.Cell.{Cell}
 use Rattle.stream_model.specs.Graph.{Graph, Wire, find_wire, find_source}
 use Rattle.stream_model.specs.Outlook.{Outlook}
 use Rattle.stream_picture.specs.View.{ins_at, outs_at}
+use Rattle.fused_net.proofs.Reading.{some_same}
 use Rattle.run_account.specs.Account.{Account, read_ins, read_outs}
-use Rattle.run_account.specs.Ports.{InPort, OutPort, EachPort, count_of}
+use Rattle.run_account.specs.Ports.{InPort, OutPort, EachPort, wire_count}
 use Rattle.run_account.specs.Pictures.{counts_from, in_port, out_port, in_ports, out_ports}
 
 module _ {N : Type 0} (a : Account N) where
-  counts_at : (i : ℕ) (ws : List Wire) (u : ℕ) (v : Wire) → slice_get ws u ≡ Some v → slice_get (counts_from a i ws) u ≡ Some (count_of (a.near (i + u)))
+  counts_at : (i : ℕ) (ws : List Wire) (u : ℕ) (v : Wire) → slice_get ws u ≡ Some v → slice_get (counts_from a i ws) u ≡ Some (wire_count v.lane (a.near (i + u)) (a.asked (i + u)))
   counts_at i [] u v e = cc
-  counts_at i (w ∷ ws) zero v e = let here : i + 0 ≡ i = omega arith in rw here refl
+  counts_at i (w ∷ ws) zero v e = let here : i + 0 ≡ i = omega arith in let same : v ≡ w = some_same v w (sym e) in rw (here, same) refl
   counts_at i (w ∷ ws) (suc u) v e = let later : i + suc u ≡ (i + 1) + u = omega arith in rw later (counts_at (i + 1) ws u v e)
 
   module _ (g : Graph) (outlook : ℕ → Outlook) (k : ℕ) where

@@ -18,13 +18,17 @@ use Rattle.stream_model.specs.Composed.{inputs_of, count_from}
 use Rattle.stream_picture.specs.View.{outputs_of}
 use Rattle.stage_law.specs.Row.{OutClosed}
 use Rattle.wire_core.specs.Reading.{no_wire, inp_of, out_of, got_of, sent_of}
+use Rattle.run_account.specs.Ends.{LaneKeeps}
+use Rattle.run_account.specs.Quiet.{LaneQuiet}
 
--- Of each node, as it was handed in and as it is; of each wire the connection at its output and the one at its input.
+-- Of each node, as it was handed in and as it is; of each wire the connection at its output and the one at its input, which are
+-- one where the wire is no lane; and of a lane how many elements its input end asked for in all.
 pub record Account (N : Type 0) : Type 0 where
   pub firsts : ℕ → Option N
   pub nodes : ℕ → Option N
   pub near : ℕ → Cell
   pub far : ℕ → Cell
+  pub asked : ℕ → ℕ
 
 -- either end has closed the wire
 abbrev pub shut_of : Cell → Bool
@@ -78,10 +82,15 @@ Stood Waiting want had = want ≤ had + 1
 Stood Idle want had = want ≤ had
 Stood _ want had = ⊤
 
--- A wire that is no lane has one connection. Lanes are not run yet.
-abbrev pub WireKeeps : Option ℕ → Cell → Cell → Type 0
-WireKeeps None near far = far ≡ near
-WireKeeps (Some size) near far = ⊥
+-- A wire that is no lane has one connection. A lane has two, and what is kept of its two ends and known of both joins them.
+abbrev pub WireKeeps : Option ℕ → Cell → Cell → ℕ → Type 0
+WireKeeps None near far asked = far ≡ near
+WireKeeps (Some size) near far asked = LaneKeeps size near far asked
+
+-- where no island has an event, a lane rests
+abbrev pub WireQuiet : Option ℕ → Cell → Cell → ℕ → Type 0
+WireQuiet None near far asked = ⊤
+WireQuiet (Some size) near far asked = (keeps : LaneKeeps size near far asked) × LaneQuiet size near far asked keeps
 
 module _ {N : Type 0} (row : N → View → Type 0) (law : N → N → View → List (List Item) → List (List Item) → Type 0) (asking : N → View → Type 0) (moves : N → List ℕ) where
   -- The moment at which a node last asked at its p-th input, by what it took and gave and by what is wanted of its inputs and
@@ -143,13 +152,14 @@ module _ {N : Type 0} (row : N → View → Type 0) (law : N → N → View → 
       pub far_sound : (u : ℕ) → u < length g.wires → (q : _) × IsSound (a.far u).wire q
       pub near_marked : (u : ℕ) → u < length g.wires → IsMarked (a.near u)
       pub far_marked : (u : ℕ) → u < length g.wires → IsMarked (a.far u)
-      pub wires : (u : ℕ) (v : Wire) → slice_get g.wires u ≡ Some v → WireKeeps v.lane (a.near u) (a.far u)
+      pub wires : (u : ℕ) (v : Wire) → slice_get g.wires u ≡ Some v → WireKeeps v.lane (a.near u) (a.far u) (a.asked u)
 
 -- the nodes as they were handed in are those of the blueprint, by what a kind of nodes says of its first
 abbrev pub AllMade : {N : Type 0} → (ℕ → graph.Node → N → Type 0) → Graph → Account N → Type 0
 AllMade FirstOf g a = (k : ℕ) (n : graph.Node) (first : _) → slice_get g.nodes k ≡ Some n → a.firsts k ≡ Some first → FirstOf k n first
 
--- no event is left on any wire
+-- no event is left on any wire, and each lane rests
 pub record IsStill {N : Type 0} (g : Graph) (a : Account N) : Type 0 where
   pub near : (u : ℕ) → u < length g.wires → IsSound (a.near u).wire false
   pub far : (u : ℕ) → u < length g.wires → IsSound (a.far u).wire false
+  pub quiet : (u : ℕ) (v : Wire) → slice_get g.wires u ≡ Some v → WireQuiet v.lane (a.near u) (a.far u) (a.asked u)

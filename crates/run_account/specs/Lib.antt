@@ -1,6 +1,9 @@
 pub mod Items
+pub mod Ends
+pub mod Quiet
 pub mod Account
 pub mod Seats
 pub mod Ports
+pub mod Wires
 pub mod Pictures
 pub mod KindLaws

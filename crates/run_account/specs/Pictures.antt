@@ -7,13 +7,13 @@ use Rattle.stream_model.specs.declared.outcome.WireCount.{WireCount}
 use Rattle.stream_picture.specs.View.{view_of}
 use Rattle.run_account.specs.Items.{Passes}
 use Rattle.run_account.specs.Account.{Account}
-use Rattle.run_account.specs.Ports.{InPort, OutPort, count_of}
+use Rattle.run_account.specs.Ports.{InPort, OutPort, wire_count}
 
 module _ {N : Type 0} (a : Account N) where
   -- how the wires from number i on stand
   abbrev pub counts_from : ℕ → List Wire → List WireCount
   counts_from i [] = []
-  counts_from i (v ∷ vs) = count_of (a.near i) ∷ counts_from (i + 1) vs
+  counts_from i (v ∷ vs) = wire_count v.lane (a.near i) (a.asked i) ∷ counts_from (i + 1) vs
 
   -- the picture of a graph
   abbrev pub counts_of : Graph → List WireCount
@@ -25,10 +25,10 @@ module _ {N : Type 0} (a : Account N) where
 
   module _ (g : Graph) (outlook : ℕ → Outlook) where
     abbrev pub in_port : ℕ → Wire → InPort
-    in_port u v = record { view = (a.far u).wire.inp; got = (a.far u).wire.got; want = wanted (a.far u); wire = view_of u v (count_of (a.near u)) (outlook u) }
+    in_port u v = record { view = (a.far u).wire.inp; got = (a.far u).wire.got; want = wanted (a.far u); wire = view_of u v (wire_count v.lane (a.near u) (a.asked u)) (outlook u) }
 
     abbrev pub out_port : ℕ → Wire → OutPort
-    out_port u v = record { view = (a.near u).wire.out; sent = (a.near u).wire.sent; want = wanted (a.near u); wire = view_of u v (count_of (a.near u)) (outlook u) }
+    out_port u v = record { view = (a.near u).wire.out; sent = (a.near u).wire.sent; want = wanted (a.near u); wire = view_of u v (wire_count v.lane (a.near u) (a.asked u)) (outlook u) }
 
     abbrev cons_in : Option ℕ → Option Wire → List InPort → List InPort
     cons_in (Some u) (Some v) is = in_port u v ∷ is

@@ -1,6 +1,6 @@
 -- How the wires of a node stand in the picture, as the node's own ports tell it: what the rows of each kind rest on. Whether a
 -- wire is a lane, and where its other end is, is told by no more than its size.
-use Rattle.std.specs.Prelude.{◌≡◌, ◌≢◌, ℕ, ◌+◌, ◌≤◌, not, ◌⊎◌, true, false, List, [], ◌∷◌, map, length}
+use Rattle.std.specs.Prelude.{◌≡◌, ◌≢◌, ℕ, suc, ◌+◌, ◌≤◌, nat_le, not, ◌⊎◌, Bool, true, false, List, [], ◌∷◌, map, length, Option, None, Some}
 use Rattle.elem_core.specs.Prefix.{IsPrefix}
 use Rattle.elem_core.specs.Tree.{Tree}
 use Rattle.elem_core.specs.declared.item.Item.{Item}
@@ -20,9 +20,19 @@ use Rattle.stream_picture.specs.Rests.{Waits, IsShut, IsLane, IsAsked, IsUnasked
 use Rattle.stage_law.specs.Held.{told}
 use Rattle.stage_law.specs.Row.{InClosed, OutClosed}
 
--- how a wire stands: the elements that were pushed, whether its input waits for one, and whether either end has closed it
+-- how a wire that is no lane stands: the elements that were pushed, whether its input waits for one, and whether either end has
+-- closed it
 abbrev pub count_of : Cell → WireCount
 count_of c = record { sent = elements c.wire.sent; asked = c.asked; shut = not (is_open c.wire.conn) }
+
+-- the mark of a wire that is no lane is the connection's; of a lane, whether its input end asked for more than was pushed
+abbrev pub asked_of : Option ℕ → Cell → ℕ → Bool
+asked_of None near asked = near.asked
+asked_of (Some size) near asked = nat_le (suc (elements near.wire.sent)) asked
+
+-- how any wire stands, by the connection at its output and by what the input end of a lane asked for in all
+abbrev pub wire_count : Option ℕ → Cell → ℕ → WireCount
+wire_count lane near asked = record { sent = elements near.wire.sent; asked = asked_of lane near asked; shut = not (is_open near.wire.conn) }
 
 -- an input of a node: what the node knows of it and took there, what it has asked for in all, and the wire of the picture
 pub record InPort : Type 0 where

@@ -5,7 +5,8 @@ use Rattle.stream_model.specs.Graph as graph
 use Rattle.stream_model.specs.Composed.{inputs_of}
 use Rattle.stream_picture.specs.View.{outputs_of}
 use Rattle.fused_net.specs.Net.{Net, end_at, ports_at, wire_at}
-use Rattle.run_account.specs.Account.{Account}
+use Rattle.run_account.specs.Account.{Account, WireQuiet}
+use Rattle.run_account.specs.Ends.{LaneKeeps}
 
 -- an island, and a place in it
 pub record Place : Type 0 where
@@ -18,17 +19,19 @@ pub record Seats : Type 0 where
   pub near : ℕ → Place
   pub far : ℕ → Place
 
--- what the nets tell together
-abbrev pub joined : {N : Type 0} → (ℕ → Net N) → Seats → Account N
-joined nets s = record {
+-- what the nets tell together, where the input ends of the lanes asked for so many elements
+abbrev pub joined : {N : Type 0} → (ℕ → Net N) → Seats → (ℕ → ℕ) → Account N
+joined nets s asked = record {
   firsts = λ k. slice_get (nets (s.node k).island).firsts (s.node k).at;
   nodes = λ k. slice_get (nets (s.node k).island).nodes (s.node k).at;
   near = λ u. wire_at (nets (s.near u).island) (s.near u).at;
   far = λ u. wire_at (nets (s.far u).island) (s.far u).at;
+  asked = asked;
 }
 
 module _ {N : Type 0} (g : Graph) (nets : ℕ → Net N) (s : Seats) where
-  -- Each node stands at its place, with its ports, and each wire between its ports. None is a lane.
+  -- Each node stands at its place, with its ports; and each connection at the port of its wire that is in its island, one that is
+  -- no lane's between both.
   pub record Covers : Type 0 where
     pub node_within : (k : ℕ) (n : graph.Node) → slice_get g.nodes k ≡ Some n → (s.node k).at < length (nets (s.node k).island).nodes
     pub ins : (k : ℕ) (n : graph.Node) → slice_get g.nodes k ≡ Some n → length (ports_at (nets (s.node k).island) (s.node k).at).ins ≡ inputs_of n.kind
@@ -41,8 +44,17 @@ module _ {N : Type 0} (g : Graph) (nets : ℕ → Net N) (s : Seats) where
     pub far_home : (u : ℕ) (v : Wire) → slice_get g.wires u ≡ Some v → (s.far u).island ≡ (s.node v.to).island
     pub far_to : (u : ℕ) (v : Wire) → slice_get g.wires u ≡ Some v → (end_at (nets (s.far u).island).ends (s.far u).at).to ≡ (s.node v.to).at
     pub far_input : (u : ℕ) (v : Wire) → slice_get g.wires u ≡ Some v → (end_at (nets (s.far u).island).ends (s.far u).at).input ≡ v.input
-    pub fused : (u : ℕ) (v : Wire) → slice_get g.wires u ≡ Some v → s.far u ≡ s.near u
-    pub no_lane : (u : ℕ) (v : Wire) → slice_get g.wires u ≡ Some v → v.lane ≡ None
+    pub fused : (u : ℕ) (v : Wire) → slice_get g.wires u ≡ Some v → v.lane ≡ None → s.far u ≡ s.near u
+
+  -- of each lane what is kept of its ends and known of both, between the connections at its places
+  abbrev pub LanesKeep : (ℕ → ℕ) → Type 0
+  LanesKeep asked = (u : ℕ) (v : Wire) (size : ℕ) → slice_get g.wires u ≡ Some v → v.lane ≡ Some size
+      → LaneKeeps size (wire_at (nets (s.near u).island) (s.near u).at) (wire_at (nets (s.far u).island) (s.far u).at) (asked u)
+
+  -- and where no island has an event, each lane rests
+  abbrev pub LanesRest : (ℕ → ℕ) → Type 0
+  LanesRest asked = (u : ℕ) (v : Wire) (size : ℕ) → slice_get g.wires u ≡ Some v → v.lane ≡ Some size
+      → WireQuiet (Some size) (wire_at (nets (s.near u).island) (s.near u).at) (wire_at (nets (s.far u).island) (s.far u).at) (asked u)
 
 -- one island of all nodes and wires, each at its number
 abbrev pub at_home : ℕ → Place
@@ -51,6 +63,6 @@ at_home k = record { island = 0; at = k }
 abbrev pub one_seat : Seats
 one_seat = record { node = at_home; near = at_home; far = at_home }
 
--- what one island tells
+-- what one island tells, in which no wire is a lane
 abbrev pub account_of : {N : Type 0} → Net N → Account N
-account_of net = joined (λ b. net) one_seat
+account_of net = joined (λ b. net) one_seat (λ u. 0)

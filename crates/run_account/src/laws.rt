@@ -1,17 +1,68 @@
 // Laws: each function has no body, and its contract is the law.
-ghost use Rattle.std.specs.Prelude.{ℕ};
+ghost use Rattle.std.specs.Prelude.{◌≡◌, ℕ, ◌+◌, ◌*◌, ◌<◌, Bool, false, List, [], Some, length};
+ghost use Rattle.elem_core.specs.Prefix.{IsPrefix};
+ghost use Rattle.elem_core.specs.Tree.{Tree};
+ghost use Rattle.port_core.specs.Joint.{IsSound};
+ghost use Rattle.wire_core.specs.Cell.{Cell};
+ghost use Rattle.wire_core.specs.Counts.{elements, spent};
+ghost use Rattle.wire_core.specs.Marks.{IsMarked};
+ghost use Rattle.stream_model.specs.Outlook.{End};
+ghost use Rattle.stage_law.specs.Held.{told};
+ghost use Rattle.run_account.specs.Ends.{LaneKeeps};
+ghost use Rattle.run_account.specs.Items.{Brought};
+ghost use Rattle.run_account.specs.Ports.{InStands, OutStands, InRests, OutRests};
+ghost use Rattle.run_account.specs.Quiet.{LaneQuiet};
+ghost use Rattle.run_account.specs.Wires.{far_port, near_port};
 ghost use Rattle.stream_model.specs.Graph.{Graph};
 ghost use Rattle.stream_picture.specs.Joined.{IsJoined};
 ghost use Rattle.fused_net.specs.Net.{Net};
 ghost use Rattle.fused_net.specs.Laws.{Settled};
-ghost use Rattle.run_account.specs.Account.{KeepsLaws};
-ghost use Rattle.run_account.specs.Seats.{Seats, Covers, joined};
+ghost use Rattle.run_account.specs.Account.{KeepsLaws, IsStill};
+ghost use Rattle.run_account.specs.Seats.{Seats, Covers, LanesKeep, LanesRest, joined};
 
 use stage_core::stage::Stage;
 
 /// Nets of nodes of any type that is a stage, between two events, in which the nodes and the wires of a blueprint have their
 /// places, keep its laws: each node its row, its law and the moments of its asks, and each wire what it does.
 pub fn nets_keep<S: Stage>()
-    ensures { (g : Graph) (nets : ℕ → Net S) (s : Seats) → IsJoined g → Covers g nets s → ((b : ℕ) → Settled S.rests S.law S.asking S.moves (nets b))
-        → KeepsLaws S.rests S.law S.asking S.moves g (joined nets s) }
+    ensures { (g : Graph) (nets : ℕ → Net S) (s : Seats) (asked : ℕ → ℕ) → IsJoined g → Covers g nets s → ((b : ℕ) → Settled S.rests S.law S.asking S.moves (nets b)) → LanesKeep g nets s asked
+        → KeepsLaws S.rests S.law S.asking S.moves g (joined nets s asked) }
+{}
+
+/// Where moreover no net has an event and each lane rests, no event is left on any wire.
+pub fn nets_rest<S: Stage>()
+    ensures { (g : Graph) (nets : ℕ → Net S) (s : Seats) (asked : ℕ → ℕ) → Covers g nets s → ((b : ℕ) → Settled S.rests S.law S.asking S.moves (nets b)) → ((b : ℕ) → (nets b).queue ≡ []) → LanesRest g nets s asked
+        → IsStill g (joined nets s asked) }
+{}
+
+/// Of what was sent at the output of a lane, the node at its input got a first part; where a normal end came all, and where a
+/// failure came all but as many elements as the lane has places.
+pub fn a_lane_brings_what_was_sent()
+    ensures { (s : ℕ) (near far : Cell) (p q : Bool) (asked : ℕ) → IsSound near.wire p → IsSound far.wire q → LaneKeeps s near far asked → Brought (Some s) near.wire.sent far.wire.got }
+{}
+
+/// At every moment a lane stands for the nodes at its ends as any wire does: no more came than was sent; a lane that is not asked
+/// was sent as many elements as it has places; what is wanted of it beyond its places the node at its input has asked for; and
+/// what the node at its output was asked for is wanted of it.
+pub fn a_lane_stands_as_a_wire()
+    ensures input { (u s : ℕ) (near far : Cell) (p q : Bool) (asked : ℕ) (list m l : List Tree) (f e : End) → IsSound near.wire p → IsSound far.wire q → near.wire.sent ≡ told m f → IsPrefix m list → far.wire.got ≡ told l e
+        → LaneKeeps s near far asked → InStands (far_port u s near far asked list) }
+    ensures output { (u s : ℕ) (near far : Cell) (asked : ℕ) (list : List Tree) → LaneKeeps s near far asked → OutStands (near_port u s near far asked list) }
+{}
+
+/// Where no island has an event, it also rests as any wire does: a node that waits at its input has got all that was sent, and
+/// the lane is asked and open; one that was asked at its output finds it asked, one that was not finds it not asked; and a lane
+/// that either of the two nodes has closed is shut.
+pub fn a_quiet_lane_rests()
+    ensures input { (u s : ℕ) (near far : Cell) (asked : ℕ) (list : List Tree) → IsSound near.wire false → IsSound far.wire false → IsMarked near → IsMarked far
+        → (k : LaneKeeps s near far asked) → LaneQuiet s near far asked k → InRests (far_port u s near far asked list) }
+    ensures output { (u s : ℕ) (near far : Cell) (asked : ℕ) (list : List Tree) → IsSound near.wire false → IsSound far.wire false → IsMarked near → IsMarked far
+        → (k : LaneKeeps s near far asked) → LaneQuiet s near far asked k → OutRests (near_port u s near far asked list) }
+{}
+
+/// What a lane costs: the events of its two connections, the items that were taken off it, and the finds of new demand or a
+/// cancel are together below six times the elements that were sent, and twelve.
+pub fn a_lane_is_paid()
+    ensures { (s : ℕ) (near far : Cell) (p q : Bool) (asked : ℕ) → IsSound near.wire p → IsSound far.wire q → (k : LaneKeeps s near far asked)
+        → (spent near.wire p + spent far.wire q) + (length k.inp.taken + k.out.finds) < 6 * elements near.wire.sent + 12 }
 {}

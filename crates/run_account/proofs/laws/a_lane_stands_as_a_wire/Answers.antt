@@ -1,5 +1,5 @@
-use Rattle.lane_account.proofs.Standing.{stands_in, stands_out}
-use Rattle.lane_account.proofs.laws.a_lane_stands_as_a_wire.Goals as goal
+use Rattle.run_account.proofs.Lanes.{stands_in, stands_out}
+use Rattle.run_account.proofs.laws.a_lane_stands_as_a_wire.Goals as goal
 
 pub returns-clause-input : goal.returns-clause-input
 returns-clause-input c = stands_in

@@ -5,7 +5,7 @@ use Rattle.port_core.specs.declared.view.OutView.TheVariants.{Asked, Refused}
 use Rattle.wire_core.specs.Cell.{Cell}
 use Rattle.wire_core.specs.Counts.{elements}
 use Rattle.stage_law.specs.Row.{InClosed}
-use Rattle.lane_account.specs.Ends.{OutEnd, InEnd, LaneKeeps}
+use Rattle.run_account.specs.Ends.{OutEnd, InEnd, LaneKeeps}
 
 -- All that came was sent, or a cancel was seen; one that asks for nothing has used all demand that it saw; one that saw a cancel
 -- has closed its connection, and no other cancelled it.

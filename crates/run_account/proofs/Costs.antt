@@ -15,8 +15,8 @@ use Rattle.stream_model.specs.Outlook.{End, unended, ended, failed}
 use Rattle.stage_law.specs.Held.{told}
 use Rattle.run_account.proofs.Coming.{elements_told, elements_prefix, no_fewer}
 use Rattle.run_account.proofs.Histories.{got_begins}
-use Rattle.lane_account.specs.Ends.{LaneKeeps}
-use Rattle.lane_account.proofs.Carrying.{carries_part}
+use Rattle.run_account.specs.Ends.{LaneKeeps}
+use Rattle.run_account.proofs.Carrying.{carries_part}
 
 few_ready : (t : Step) → ready_bit t ≤ 1
 few_ready quiet = omega arith

@@ -1,5 +1,5 @@
-use Rattle.lane_account.proofs.Standing.{rests_in, rests_out}
-use Rattle.lane_account.proofs.laws.a_quiet_lane_rests.Goals as goal
+use Rattle.run_account.proofs.Lanes.{rests_in, rests_out}
+use Rattle.run_account.proofs.laws.a_quiet_lane_rests.Goals as goal
 
 pub returns-clause-input : goal.returns-clause-input
 returns-clause-input c = rests_in

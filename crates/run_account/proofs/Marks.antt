@@ -22,9 +22,9 @@ use Rattle.stage_law.specs.Row.{InClosed, OutClosed}
 use Rattle.run_account.specs.Items.{standing}
 use Rattle.run_account.proofs.Histories.{begun, standing_told}
 use Rattle.run_account.proofs.Resting.{waits, is_asked, is_unasked, all_idle, in_shut}
-use Rattle.lane_account.specs.Ends.{OutEnd, InEnd, OutKeeps, InKeeps, Met}
-use Rattle.lane_account.specs.Quiet.{OutQuiet, InQuiet, MetQuiet}
-use Rattle.lane_account.proofs.Joints.{over_shut, waiting_asked, left_closed, unasked_idle}
+use Rattle.run_account.specs.Ends.{OutEnd, InEnd, OutKeeps, InKeeps, Met}
+use Rattle.run_account.specs.Quiet.{OutQuiet, InQuiet, MetQuiet}
+use Rattle.run_account.proofs.Joints.{over_shut, waiting_asked, left_closed, unasked_idle}
 
 -- ---- ends
 

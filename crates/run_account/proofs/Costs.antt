@@ -44,7 +44,7 @@ few_extra Refused Over t q = omega arith
 few_extra Unasked x t q = omega arith
 
 -- the events of a connection
-connection_cost : (w : Wire) (q : Bool) → IsSound w q → spent w q ≤ 2 * elements w.sent + 3
+pub connection_cost : (w : Wire) (q : Bool) → IsSound w q → spent w q ≤ 2 * elements w.sent + 3
 connection_cost w q h = let few = few_extra w.out w.inp w.conn.step q in let less = no_fewer w q h in omega (arith, few, less)
 
 -- one end at most is no element

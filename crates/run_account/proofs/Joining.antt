@@ -28,10 +28,10 @@ view_same {v = v} {w = w} a b = ap (λ (x : List InView). record { ins = x; outs
 
 -- each connection stands in its net
 module _ {N : Type 0} (g : Graph) (nets : ℕ → Net N) (s : Seats) (covers : Covers g nets s) where
-  near_there : (u : ℕ) → u < length g.wires → (s.near u).at < length (nets (s.near u).island).wires
+  pub near_there : (u : ℕ) → u < length g.wires → (s.near u).at < length (nets (s.near u).island).wires
   near_there u h = let v = get_there g.wires u h in covers.near_within u v.0 v.1
 
-  far_there : (u : ℕ) → u < length g.wires → (s.far u).at < length (nets (s.far u).island).wires
+  pub far_there : (u : ℕ) → u < length g.wires → (s.far u).at < length (nets (s.far u).island).wires
   far_there u h = let v = get_there g.wires u h in covers.far_within u v.0 v.1
 
 module _ {N : Type 0} (row : N → View → Type 0) (law : N → N → View → List (List Item) → List (List Item) → Type 0) (asking : N → View → Type 0) (moves : N → List ℕ)

@@ -16,3 +16,4 @@ pub mod Pictures
 pub mod Agreeing
 pub mod Drawing
 pub mod Bounds
+pub mod Units

@@ -12,7 +12,7 @@ use Rattle.run_account.specs.Ports.{InPort, OutPort, EachPort, wire_count}
 use Rattle.run_account.specs.Pictures.{counts_from, in_port, out_port, in_ports, out_ports}
 
 module _ {N : Type 0} (a : Account N) where
-  counts_at : (i : ℕ) (ws : List Wire) (u : ℕ) (v : Wire) → slice_get ws u ≡ Some v → slice_get (counts_from a i ws) u ≡ Some (wire_count v.lane (a.near (i + u)) (a.asked (i + u)))
+  pub counts_at : (i : ℕ) (ws : List Wire) (u : ℕ) (v : Wire) → slice_get ws u ≡ Some v → slice_get (counts_from a i ws) u ≡ Some (wire_count v.lane (a.near (i + u)) (a.asked (i + u)))
   counts_at i [] u v e = cc
   counts_at i (w ∷ ws) zero v e = let here : i + 0 ≡ i = omega arith in let same : v ≡ w = some_same v w (sym e) in rw (here, same) refl
   counts_at i (w ∷ ws) (suc u) v e = let later : i + suc u ≡ (i + 1) + u = omega arith in rw later (counts_at (i + 1) ws u v e)

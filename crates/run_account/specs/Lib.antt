@@ -3,6 +3,7 @@ pub mod Ends
 pub mod Quiet
 pub mod Account
 pub mod Seats
+pub mod Units
 pub mod Ports
 pub mod Wires
 pub mod Pictures

@@ -1,5 +1,5 @@
 // Laws: each function has no body, and its contract is the law.
-ghost use Rattle.std.specs.Prelude.{◌≡◌, ℕ, ◌+◌, ◌*◌, ◌<◌, Bool, false, List, [], Some, length};
+ghost use Rattle.std.specs.Prelude.{◌≡◌, ℕ, ◌+◌, ◌*◌, ◌<◌, ◌≤◌, Bool, false, List, [], Some, length};
 ghost use Rattle.elem_core.specs.Prefix.{IsPrefix};
 ghost use Rattle.elem_core.specs.Tree.{Tree};
 ghost use Rattle.port_core.specs.Joint.{IsSound};
@@ -10,11 +10,15 @@ ghost use Rattle.stream_model.specs.Outlook.{End};
 ghost use Rattle.stage_law.specs.Held.{told};
 ghost use Rattle.run_account.specs.Ends.{LaneKeeps};
 ghost use Rattle.run_account.specs.Items.{Brought};
+ghost use Rattle.run_account.specs.Pictures.{counts_of};
 ghost use Rattle.run_account.specs.Ports.{InStands, OutStands, InRests, OutRests};
 ghost use Rattle.run_account.specs.Quiet.{LaneQuiet};
+ghost use Rattle.run_account.specs.Units.{over_lanes, Owned, LanesCost};
 ghost use Rattle.run_account.specs.Wires.{far_port, near_port};
 ghost use Rattle.stream_model.specs.Graph.{Graph};
 ghost use Rattle.stream_picture.specs.Joined.{IsJoined};
+ghost use Rattle.stream_picture.specs.Shape.{count_needed};
+ghost use Rattle.fused_net.specs.Costs.{sum_below, total};
 ghost use Rattle.fused_net.specs.Net.{Net};
 ghost use Rattle.fused_net.specs.Laws.{Settled};
 ghost use Rattle.run_account.specs.Account.{KeepsLaws, IsStill};
@@ -65,4 +69,12 @@ pub fn a_quiet_lane_rests()
 pub fn a_lane_is_paid()
     ensures { (s : ℕ) (near far : Cell) (p q : Bool) (asked : ℕ) → IsSound near.wire p → IsSound far.wire q → (k : LaneKeeps s near far asked)
         → (spent near.wire p + spent far.wire q) + (length k.inp.taken + k.out.finds) < 6 * elements near.wire.sent + 12 }
+{}
+
+/// What islands cost: where each connection of so many islands is one of a wire's, the events of all of them, the items that were
+/// taken off the lanes and the finds of new demand or a cancel are together below the count of the blueprint's wires over what
+/// they were sent, which is 2n + 4 for a wire with n elements and 6n + 12 for a lane; below it by one for each wire.
+pub fn islands_are_paid<S: Stage>()
+    ensures { (g : Graph) (nets : ℕ → Net S) (s : Seats) (asked cost : ℕ → ℕ) (islands : ℕ) → Covers g nets s → ((b : ℕ) → Settled S.rests S.law S.asking S.moves (nets b)) → Owned g nets s islands → LanesCost g nets s asked cost
+        → (sum_below (λ b. total (nets b)) islands + over_lanes g cost) + length g.wires ≤ count_needed g (counts_of (joined nets s asked) g) }
 {}

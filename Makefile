@@ -45,13 +45,19 @@ test: listed
 	@echo "The first run proves every crate from nothing and takes long ($(FIRST_RUN)); later runs prove only what changed."
 	bash .ci/run
 
-# Writes the cases of examples/ anew, and how many cases there are.
+# The pages whose examples are cases.
+PAGES = README.md docs/book/*.md
+
+# Writes the cases of the pages and of examples/ anew, and how many cases there are.
 cases:
-	tools/example_cases > crates/rows/data/book.txt
+	tools/page_cases $(PAGES) > crates/rows/data/book.txt
+	tools/example_cases >> crates/rows/data/book.txt
 	echo "$$(cat crates/rows/data/*.txt | grep -c '^case ') passed, 0 failed" > crates/rows/stdout
 
-# Each file of cases is named among the words of the program that tries them, and those of examples/ say what the folders say.
+# Each file of cases is named among the words of the program that tries them, and those of the pages say what the pages and examples/ say.
 listed:
-	@tools/example_cases | diff - crates/rows/data/book.txt
+	@tools/blocks_are_cases crates/rows/data docs/LANGUAGE.md
+	@tools/blocks_are_cases crates/workbench_rows/data docs/WORKBENCH.md
+	@{ tools/page_cases $(PAGES) && tools/example_cases; } | diff - crates/rows/data/book.txt
 	@LC_ALL=C ls crates/rows/data | diff - crates/rows/args
 	@LC_ALL=C ls crates/workbench_rows/data | diff - crates/workbench_rows/args

@@ -2,8 +2,8 @@
 ghost use Rattle.std.specs.Prelude.{◌≡◌, ◌⊎◌, ◌+◌, ◌<◌, ◌≤◌, ◌/◌, ◌^◌, ◌++◌, [], ◌∷◌, ℕ, max, true, false, cond, length, IfOk, IfSome, IfNone, IsOk};
 ghost use Rattle.elem_core.specs.declared.item.Item.{Item};
 ghost use Rattle.lane_core.specs.Lane.{elements, ends};
-ghost use Rattle.lane_core.specs.Ends.{taken, asked, asks, has_cancelled, found_sent, in_size, learnt, IsSameIn, AreOneLane, IsLaneHistory, WaitsAre};
-ghost use Rattle.lane_meet.specs.Meeting.{KeepsIn, KeepsOut};
+ghost use Rattle.lane_core.specs.Ends.{taken, asked, asks, has_cancelled, found_sent, told_sent, in_size, learnt, IsSameIn, AreOneLane, IsLaneHistory, WaitsAre};
+ghost use Rattle.lane_meet.specs.Meeting.{KeepsIn, KeepsOut, Told};
 ghost use Rattle.input_boundary.specs.Flow.{Flow, AsksByHalves};
 ghost use Rattle.input_boundary.specs.declared.state.State.TheVariants.{Flowing, Closed, Cancelled};
 
@@ -93,7 +93,7 @@ impl InputBoundary {
         ensures lane { IsSameIn self.old.lane self.new.lane × (asked self.new.lane ≡ asked self.old.lane) × (asks self.new.lane ≡ asks self.old.lane) × (has_cancelled self.new.lane ≡ has_cancelled self.old.lane) }
         ensures given { (given self.new ≡ given self.old) × (state self.new ≡ state self.old) }
         ensures took { result ≡ true → (is_over self.old ≡ false) × ((x : Item) × ((taken self.new.lane ≡ taken self.old.lane ++ x ∷ []) × (is_over self.new ≡ ends x))) }
-        ensures none { result ≡ false → (taken self.new.lane ≡ taken self.old.lane) × ((is_over self.old ≡ true) ⊎ (found_sent self.new.lane ≡ length (taken self.new.lane))) }
+        ensures none { result ≡ false → (taken self.new.lane ≡ taken self.old.lane) × ((is_over self.old ≡ true) ⊎ ((found_sent self.new.lane ≡ length (taken self.new.lane)) × (told_sent self.old.lane ≤ found_sent self.new.lane))) }
     {
         if self.over {
             return false;
@@ -122,7 +122,7 @@ impl InputBoundary {
     /// The next that is to be handed on: an element only where one is asked for; an end behind the elements, also where none is.
     /// Where half of the places were handed on, the lane is asked for as many. It takes no memory.
     pub fn next(&mut self, asked: bool) -> Option<Passed>
-        requires few { elements (given self.old) < 4000000000 }
+        requires few { asked ≡ true → elements (given self.old) < 4000000000 }
         ensures lane { IsSameIn self.old.lane self.new.lane × (taken self.new.lane ≡ taken self.old.lane) × (has_cancelled self.new.lane ≡ has_cancelled self.old.lane) }
         ensures some { IfSome result (λ r. given self.new ≡ given self.old ++ r.item ∷ []) }
         ensures ends { IfSome result (λ r. state self.new ≡ cond (ends r.item) Closed Flowing) }
@@ -175,6 +175,7 @@ impl InputBoundary {
         ensures given { (given self.new ≡ given self.old) × (waits self.new ≡ waits self.old) × (is_over self.new ≡ is_over self.old) × (state self.new ≡ state self.old) }
         ensures ok { IsOk result }
         ensures learnt { learnt out.new ≡ asked self.new.lane }
+        ensures told { Told out.new self.new.lane }
         ensures waits { IfOk result (WaitsAre out.new self.new.lane) }
         ensures history { IsLaneHistory out.new self.new.lane }
     {

@@ -6,6 +6,7 @@ use native.Mathlib.Decide.{dec_lt}
 use lib.ListN.{get_elem?}
 use Rattle.atomic_table.specs.Table.{Me, step, Act, keeps, takes, chain, Valid, carried_after, homes_after, stepped, Allows}
 use Rattle.elem_core.specs.Prefix.{IsPrefix}
+use Rattle.elem_core.proofs.Prefixes.{prefix_length}
 use Rattle.elem_core.specs.declared.item.Item.{Item}
 use Rattle.lane_core.specs.declared.sight.Sight.{Sight}
 use Rattle.lane_core.specs.Lane.{elements, Sound, Stored, Fits, IsLane, words_of, empty_hand, saw_sent, asked_more, cancelled}
@@ -192,7 +193,7 @@ fetches size id me hand s h wide at lt = found (dec_lt (length (h.core.taken ++ 
                 sends = λ e. absurd (true≢false (sym e ∙ hand.1));
                 gets = λ _. (g.0, same, refl, g.3, g.4, g.5);
               },
-          inr (omega (arith, wd, len, more), ((x, ap (λ (l : List (ℕ × Option Item)). (w, (length v.items % (size + 1), Some x) ∷ l)) b.2), few_taken (v.items ++ x ∷ []) ((c.taken ++ c.hand) ++ x ∷ []) c.sent c.asked v.number same l.2.order h.sound.used g.3)),
+          (omega (arith, wd, prefix_length f.told), inr (omega (arith, wd, len, more), ((x, ap (λ (l : List (ℕ × Option Item)). (w, (length v.items % (size + 1), Some x) ∷ l)) b.2), few_taken (v.items ++ x ∷ []) ((c.taken ++ c.hand) ++ x ∷ []) c.sent c.asked v.number same l.2.order h.sound.used g.3))),
         )
     found (no less) =
         let v = me.0 in
@@ -227,5 +228,5 @@ fetches size id me hand s h wide at lt = found (dec_lt (length (h.core.taken ++ 
                 sends = λ e. absurd (true≢false (sym e ∙ hand.1));
                 gets = λ _. (g.0, g.1 ∙ sym (append-nil (c.taken ++ c.hand)), refl, g.3, g.4, g.5);
               },
-          inl (omega (arith, wd, len, less, le), ap (λ (l : List (ℕ × Option Item)). (w, l)) b.2),
+          (omega (arith, wd, prefix_length f.told), inl (omega (arith, wd, len, less, le), ap (λ (l : List (ℕ × Option Item)). (w, l)) b.2)),
         )

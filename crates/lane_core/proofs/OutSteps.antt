@@ -28,6 +28,8 @@ sees size id me sends gets s h wide at lt =
     let rem : n % 2 ≡ c.cancel = omega (arith, wd, one) in
     let fn = f.number in
     let fc = f.cancel in
+    let tn = f.told_number in
+    let tc = f.told_cancel in
     let news : is_new v.number v.cancel (n / 2) (n % 2) ≡ is_new v.number v.cancel c.asked c.cancel = λ i. is_new v.number v.cancel (half i) (rem i) in
     let none_left : is_new (n / 2) (n % 2) c.asked c.cancel ≡ 0 = (λ i. is_new (half i) (rem i) c.asked c.cancel) ∙ nothing_new c.asked c.cancel in
     let paid = mine.3 in
@@ -48,7 +50,7 @@ sees size id me sends gets s h wide at lt =
         sends = λ _. (mine.0, mine.1, mine.2, omega (arith, news, none_left, paid));
         gets = λ e. absurd (true≢false (sym e ∙ gets));
       },
-      (refl, omega (arith, half, fn), omega (arith, rem, fc)),
+      (refl, omega (arith, half, fn), omega (arith, rem, fc), omega (arith, half, tn), omega (arith, rem, tc)),
     )
 
 -- the output end's first place

@@ -47,13 +47,13 @@ first_of_hand d [] = d
 first_of_hand d (p ∷ ps) = p
 
 pub took_one : (st : Step (Option Item)) (m : Me (Option Item) Sight) (r : ℕ) (n : Me (Option Item) Sight) → saw_sent st m r n → ¬ (r ≡ length m.0.items) → (x : Item) × (n ≡ (record m.0 { items = m.0.items ++ x ∷ []; looks = m.0.looks + 1; slots = 1; known = r }, (length m.0.items % st.slots, Some x) ∷ []))
-took_one st m r n (inl t) ne = absurd (ne t.0)
-took_one st m r n (inr t) ne = t.1.0
+took_one st m r n (told, inl t) ne = absurd (ne t.0)
+took_one st m r n (told, inr t) ne = t.1.0
 
 -- no more elements are taken than were asked
 pub took_few : (st : Step (Option Item)) (m : Me (Option Item) Sight) (r : ℕ) (n : Me (Option Item) Sight) → saw_sent st m r n → ¬ (r ≡ length m.0.items) → elements n.0.items ≤ m.0.number
-took_few st m r n (inl t) ne = absurd (ne t.0)
-took_few st m r n (inr t) ne = t.1.1
+took_few st m r n (told, inl t) ne = absurd (ne t.0)
+took_few st m r n (told, inr t) ne = t.1.1
 
 pub has_taken : (size slots k r : ℕ) (m m1 n : Me (Option Item) Sight) (res : Option Item) (x : Item) → slots ≡ size + 1
     → m1 ≡ (record m.0 { items = m.0.items ++ x ∷ []; looks = m.0.looks + 1; slots = 1; known = r }, (length m.0.items % slots, Some x) ∷ [])

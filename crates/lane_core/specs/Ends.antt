@@ -35,6 +35,13 @@ learnt o = o.learnt
 abbrev pub out_looks : LaneOut → ℕ
 out_looks o = o.seat.me.0.looks
 
+-- what was asked in all, and whether the lane was cancelled, 0 or 1, as the other end last told it
+abbrev pub told_asked : LaneOut → ℕ
+told_asked o = o.seat.me.0.told_number
+
+abbrev pub told_cancel : LaneOut → ℕ
+told_cancel o = o.seat.me.0.told_cancel
+
 -- whether it sent an end
 abbrev pub has_ended : LaneOut → Bool
 has_ended o = o.ended
@@ -65,6 +72,10 @@ has_cancelled i = i.seat.me.0.cancel
 
 abbrev pub found_sent : LaneIn → ℕ
 found_sent i = i.seat.me.0.known
+
+-- how many items were sent, as the other end last told it
+abbrev pub told_sent : LaneIn → ℕ
+told_sent i = length i.seat.me.0.told
 
 -- how often it has looked what was sent
 abbrev pub in_looks : LaneIn → ℕ

@@ -137,21 +137,22 @@ in_hand (p ∷ ps) = items_of p.1
 abbrev pub sat : TableStep → SeatView → ℕ → SeatView → Type 0
 sat st m r n = n ≡ (record m.0 { slots = 1 }, (0, None) ∷ [])
 
--- the output end looks at what was asked and cancelled, and counts what it finds new
+-- the output end looks at what was asked and cancelled, finds no less than it was told, and counts what it finds new
 abbrev pub saw_asked : TableStep → SeatView → ℕ → SeatView → Type 0
 saw_asked st m r n =
     (n ≡ (record m.0 { number = r / 2; cancel = r % 2; finds = m.0.finds + is_new m.0.number m.0.cancel (r / 2) (r % 2); looks = m.0.looks + 1 }, m.1))
-    × (m.0.number ≤ r / 2) × (m.0.cancel ≤ r % 2)
+    × (m.0.number ≤ r / 2) × (m.0.cancel ≤ r % 2) × (m.0.told_number ≤ r / 2) × (m.0.told_cancel ≤ r % 2)
 
 -- it counts the item in hand as sent, lets its place go, and takes the next place where the item was no end
 abbrev pub sent_one : TableStep → SeatView → ℕ → SeatView → Type 0
 sent_one st m r n = n ≡ (record m.0 { items = m.0.items ++ in_hand m.1; slots = elements (in_hand m.1) }, empty_hand (elements (in_hand m.1)) ((length m.0.items + 1) % st.slots))
 
--- the input end looks how many were sent, lets the place of the item that it took last go, and takes the next item if there is one
+-- the input end looks how many were sent, which are no fewer than it was told, lets the place of the item that it took last go, and takes the next item if there is one
 abbrev pub saw_sent : TableStep → SeatView → ℕ → SeatView → Type 0
 saw_sent st m r n =
-    ((r ≡ length m.0.items) × (n ≡ (record m.0 { looks = m.0.looks + 1; slots = 0; known = r }, [])))
-    ⊎ ((length m.0.items < r) × (((x : Item) × (n ≡ (record m.0 { items = m.0.items ++ x ∷ []; looks = m.0.looks + 1; slots = 1; known = r }, (length m.0.items % st.slots, Some x) ∷ []))) × (elements n.0.items ≤ m.0.number)))
+    (length m.0.told ≤ r)
+    × (((r ≡ length m.0.items) × (n ≡ (record m.0 { looks = m.0.looks + 1; slots = 0; known = r }, [])))
+    ⊎ ((length m.0.items < r) × (((x : Item) × (n ≡ (record m.0 { items = m.0.items ++ x ∷ []; looks = m.0.looks + 1; slots = 1; known = r }, (length m.0.items % st.slots, Some x) ∷ []))) × (elements n.0.items ≤ m.0.number))))
 
 -- it asks once for more
 abbrev pub asked_more : TableStep → SeatView → ℕ → SeatView → Type 0

@@ -1,7 +1,7 @@
 // A lane is made, and its ends are brought together.
 ghost use Rattle.std.specs.Prelude.{◌≡◌, ℕ, ◌+◌, ◌*◌, ◌<◌, ◌≤◌, [], false, IfOk, IsOk, IsTrue, length, replicate, None};
 ghost use Rattle.lane_core.specs.Lane.{IsLane, both_ends};
-ghost use Rattle.lane_core.specs.Ends.{sent, seen, saw_cancel, finds, has_ended, learnt, out_lane, out_size, taken, asked, asks, has_cancelled, out_looks, in_looks, in_lane, in_size, AreOneLane, IsSameOut, IsSameIn, IsLaneHistory, WaitsAre};
+ghost use Rattle.lane_core.specs.Ends.{sent, seen, saw_cancel, finds, has_ended, learnt, told_asked, told_cancel, told_sent, out_lane, out_size, taken, asked, asks, has_cancelled, out_looks, in_looks, in_lane, in_size, AreOneLane, IsSameOut, IsSameIn, IsLaneHistory, WaitsAre};
 
 use crate::lane_in::LaneIn;
 use crate::lane_out::LaneOut;
@@ -31,13 +31,15 @@ pub fn lane(alloc: Global, size: u32) -> Result<(LaneOut, LaneIn), AllocError>
 }
 
 /// Brings the two ends of a lane together, and says what one did that the other has not seen. From then on the caller knows what holds
-/// of both. Nothing that an end keeps changes, but what the output end has learnt of all that was asked. It takes no memory. Rule: own.
+/// of both, and the next look of each end finds what waits. Nothing that an end keeps changes, but what the output end has learnt of all
+/// that was asked. It takes no memory. Rule: own.
 pub fn meet(out: &mut LaneOut, inp: &mut LaneIn) -> Result<Waits, AllocError>
     requires { AreOneLane out.old inp.old }
     ensures out { IsSameOut out.old out.new × (sent out.new ≡ sent out.old) × (has_ended out.new ≡ has_ended out.old) × (seen out.new ≡ seen out.old) × (saw_cancel out.new ≡ saw_cancel out.old) × (finds out.new ≡ finds out.old) × (out_looks out.new ≡ out_looks out.old) }
     ensures inp { IsSameIn inp.old inp.new × (taken inp.new ≡ taken inp.old) × (asked inp.new ≡ asked inp.old) × (asks inp.new ≡ asks inp.old) × (has_cancelled inp.new ≡ has_cancelled inp.old) × (in_looks inp.new ≡ in_looks inp.old) }
     ensures ok { IsOk result }
     ensures learnt { learnt out.new ≡ asked inp.new }
+    ensures told { (told_asked out.new ≡ asked inp.new) × (told_cancel out.new ≡ has_cancelled inp.new) × (told_sent inp.new ≡ length (sent out.new)) }
     ensures waits { IfOk result (WaitsAre out.new inp.new) }
     ensures history { IsLaneHistory out.new inp.new }
 {

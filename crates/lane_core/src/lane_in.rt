@@ -36,7 +36,7 @@ pub struct LaneIn {
 impl LaneIn {
     ghost use Rattle.std.specs.Prelude.{[], ◌∷◌, ◌++◌};
     ghost use Rattle.lane_core.specs.Lane.{note, informed, input_end, both_ends};
-    ghost use Rattle.lane_core.specs.Ends.{taken, asked, asks, has_cancelled, found_sent, in_looks, in_lane, in_size, IsSameIn};
+    ghost use Rattle.lane_core.specs.Ends.{taken, asked, asks, has_cancelled, found_sent, told_sent, in_looks, in_lane, in_size, IsSameIn};
 
     pub(crate) fn new(table: Arc<LaneTable>, seat: LaneSeat, size: u64) -> LaneIn
         requires table { (seat.table_id ≡ (arc_value table).shared.table_id) × ((arc_value table).shared.key ≡ size) × (seat.table_id.words ≡ 17) × (seat.table_id.slots ≡ size + 1) }
@@ -83,7 +83,7 @@ impl LaneIn {
         ensures some { IfSome result (λ x. taken self.new ≡ taken self.old ++ x ∷ []) }
         ensures counts { IfSome result (λ x. elements (taken self.new) ≡ elements (taken self.old) + weight x) }
         ensures few { IfSome result (λ _. elements (taken self.new) ≤ asked self.new) }
-        ensures none { IfNone result ((taken self.new ≡ taken self.old) × (found_sent self.new ≡ length (taken self.new))) }
+        ensures none { IfNone result ((taken self.new ≡ taken self.old) × (found_sent self.new ≡ length (taken self.new)) × (told_sent self.old ≤ found_sent self.new)) }
     {
         let item = fetch(&self.table.shared, &mut self.seat, self.taken, self.place)?;
         self.taken += 1;
@@ -138,7 +138,7 @@ fn fetch(
     ensures some { IfSome result (λ x. (r : ℕ) × HasTaken shared.now.key seat.old.me x r seat.new.me) }
     ensures below { IfSome result (λ _. taken + 1 < 2 ^ 64) }
     ensures few { IfSome result (λ _. elements seat.new.me.0.items ≤ seat.old.me.0.number) }
-    ensures none { IfNone result (HasFound seat.old.me seat.new.me) }
+    ensures none { IfNone result (HasFound seat.old.me seat.new.me × (length seat.old.me.0.told ≤ length seat.old.me.0.items)) }
 {
     let sent = shared.load::<SeeSent>(seat, SENT);
     if sent == taken {

@@ -42,7 +42,7 @@ impl LaneOut {
     ghost use Rattle.std.specs.Prelude.{◌++◌, IfOk, IfErr};
     ghost use Rattle.elem_core.specs.Prefix.{IsPrefix};
     ghost use Rattle.lane_core.specs.Lane.{note, informed, first_out, is_new};
-    ghost use Rattle.lane_core.specs.Ends.{sent, seen, saw_cancel, finds, has_ended, learnt, out_looks, out_lane, out_size, IsSameOut, RoomIs};
+    ghost use Rattle.lane_core.specs.Ends.{sent, seen, saw_cancel, finds, has_ended, learnt, told_asked, told_cancel, out_looks, out_lane, out_size, IsSameOut, RoomIs};
 
     pub(crate) fn new(table: Arc<LaneTable>, seat: LaneSeat, size: u64) -> LaneOut
         requires table { (seat.table_id ≡ (arc_value table).shared.table_id) × ((arc_value table).shared.key ≡ size) × (seat.table_id.words ≡ 17) × (seat.table_id.slots ≡ size + 1) }
@@ -124,6 +124,7 @@ impl LaneOut {
     pub fn room(&mut self) -> Room
         ensures lane { IsSameOut self.old self.new × (sent self.new ≡ sent self.old) × (has_ended self.new ≡ has_ended self.old) }
         ensures later { (learnt self.new ≡ seen self.new) × (seen self.old ≤ seen self.new) × (saw_cancel self.old ≤ saw_cancel self.new) }
+        ensures told { (told_asked self.old ≤ seen self.new) × (told_cancel self.old ≤ saw_cancel self.new) }
         ensures looks { out_looks self.new ≡ out_looks self.old + 1 }
         ensures finds { finds self.new ≡ finds self.old + is_new (seen self.old) (saw_cancel self.old) (seen self.new) (saw_cancel self.new) }
         ensures room { RoomIs result (λ n. (saw_cancel self.new ≡ 0) × (elements (sent self.new) + n ≡ seen self.new)) (saw_cancel self.new ≡ 1) }

@@ -3,7 +3,7 @@ use Rattle.std.specs.Prelude.{◌≡◌, ◌≢◌, ◌<◌, ℕ, Some, length, 
 use Rattle.lane_core.specs.declared.lane_out.LaneOut.{LaneOut}
 use Rattle.lane_core.specs.declared.lane_in.LaneIn.{LaneIn}
 use Rattle.lane_core.specs.declared.room.Waits.{Waits}
-use Rattle.lane_core.specs.Ends.{sent, seen, saw_cancel, finds, learnt, has_ended, out_looks, taken, asked, asks, has_cancelled, in_looks, AreOneLane, IsSameOut, IsSameIn, IsLaneHistory, WaitsAre}
+use Rattle.lane_core.specs.Ends.{sent, seen, saw_cancel, finds, learnt, told_asked, told_cancel, told_sent, has_ended, out_looks, taken, asked, asks, has_cancelled, in_looks, AreOneLane, IsSameOut, IsSameIn, IsLaneHistory, WaitsAre}
 use Rattle.lane_meet.specs.declared.ends.LaneEnds.{LaneEnds}
 
 -- an output end that a meeting leaves as it is: only what was asked for in all may be learnt
@@ -25,6 +25,12 @@ pub record KeepsIn (i j : LaneIn) : Type 0 where
   pub cancel : has_cancelled j ≡ has_cancelled i
   pub looks : in_looks j ≡ in_looks i
 
+-- each end was told what the other did
+pub record Told (o : LaneOut) (i : LaneIn) : Type 0 where
+  pub asked_is : told_asked o ≡ asked i
+  pub cancel_is : told_cancel o ≡ has_cancelled i
+  pub sent_is : told_sent i ≡ length (sent o)
+
 -- the two ends are there, and are of one lane
 pub record MayMeet (from : LaneEnds) (out : ℕ) (to : LaneEnds) (inp : ℕ) : Type 0 where
   pub out_there : out < length from.outs.items
@@ -40,5 +46,6 @@ pub record MeetsOne (from : LaneEnds) (out : ℕ) (to : LaneEnds) (inp : ℕ) (f
   pub keeps_out : (o p : LaneOut) → slice_get from.outs.items out ≡ Some o → slice_get from'.outs.items out ≡ Some p → KeepsOut o p
   pub keeps_in : (i j : LaneIn) → slice_get to.ins.items inp ≡ Some i → slice_get to'.ins.items inp ≡ Some j → KeepsIn i j
   pub learnt : (p : LaneOut) (j : LaneIn) → slice_get from'.outs.items out ≡ Some p → slice_get to'.ins.items inp ≡ Some j → learnt p ≡ asked j
+  pub told : (p : LaneOut) (j : LaneIn) → slice_get from'.outs.items out ≡ Some p → slice_get to'.ins.items inp ≡ Some j → Told p j
   pub waits : (p : LaneOut) (j : LaneIn) → slice_get from'.outs.items out ≡ Some p → slice_get to'.ins.items inp ≡ Some j → WaitsAre p j w
   pub history : (p : LaneOut) (j : LaneIn) → slice_get from'.outs.items out ≡ Some p → slice_get to'.ins.items inp ≡ Some j → IsLaneHistory p j

@@ -22,4 +22,4 @@ returns-clause-met c =
       cancel = c.in_ok-waits.ensures.inp.4;
       looks = c.in_ok-waits.ensures.inp.5;
     })
-    c.in_ok-waits.ensures.learnt c.in_ok-waits.ensures.waits c.in_ok-waits.ensures.history
+    c.in_ok-waits.ensures.learnt c.in_ok-waits.ensures.told c.in_ok-waits.ensures.waits c.in_ok-waits.ensures.history

@@ -3,7 +3,7 @@ ghost use Rattle.std.specs.Prelude.{◌≡◌, ◌⊎◌, ◌+◌, ◌<◌, ◌�
 ghost use Rattle.elem_core.specs.declared.item.Item.{Item};
 ghost use Rattle.lane_core.specs.Lane.{elements, ends};
 ghost use Rattle.lane_core.specs.Ends.{taken, asked, asks, has_cancelled, found_sent, told_sent, in_size, learnt, IsSameIn, AreOneLane, IsLaneHistory, WaitsAre};
-ghost use Rattle.lane_meet.specs.Meeting.{KeepsIn, KeepsOut, Told};
+ghost use Rattle.lane_meet.specs.Meeting.{KeepsIn, KeepsOut, AreTold};
 ghost use Rattle.input_boundary.specs.Flow.{Flow, AsksByHalves};
 ghost use Rattle.input_boundary.specs.declared.state.State.TheVariants.{Flowing, Closed, Cancelled};
 
@@ -175,7 +175,7 @@ impl InputBoundary {
         ensures given { (given self.new ≡ given self.old) × (waits self.new ≡ waits self.old) × (is_over self.new ≡ is_over self.old) × (state self.new ≡ state self.old) }
         ensures ok { IsOk result }
         ensures learnt { learnt out.new ≡ asked self.new.lane }
-        ensures told { Told out.new self.new.lane }
+        ensures told { AreTold out.new self.new.lane }
         ensures waits { IfOk result (WaitsAre out.new self.new.lane) }
         ensures history { IsLaneHistory out.new self.new.lane }
     {

@@ -6,7 +6,7 @@ use Rattle.lane_core.specs.declared.lane_in.LaneIn.{LaneIn}
 use Rattle.lane_core.specs.declared.room.Waits.{Waits}
 use Rattle.lane_core.specs.Ends.{sent, learnt, asked, has_cancelled, told_asked, told_cancel, told_sent, IsLaneHistory, WaitsAre}
 use Rattle.lane_meet.specs.declared.ends.LaneEnds.{LaneEnds}
-use Rattle.lane_meet.specs.Meeting.{KeepsOut, KeepsIn, Told, MeetsOne}
+use Rattle.lane_meet.specs.Meeting.{KeepsOut, KeepsIn, AreTold, MeetsOne}
 
 some_is : {A : Type 0} (x y : A) → Some x ≡ Some y → x ≡ y
 some_is x y e = cc
@@ -39,7 +39,7 @@ meets_one from to from' to' out inp o p i j w oi ii os is ko ki l td wa h = reco
   keeps_out = λ a b ea eb. subst (λ x. KeepsOut x b) (oi ∙ get_here from.outs.items out o a ea) (subst (λ x. KeepsOut o x) (there b eb) ko);
   keeps_in = λ a b ea eb. subst (λ x. KeepsIn x b) (ii ∙ get_here to.ins.items inp i a ea) (subst (λ x. KeepsIn i x) (here b eb) ki);
   learnt = λ a b ea eb. subst (λ x. learnt x ≡ asked b) (there a ea) (subst (λ x. learnt p ≡ asked x) (here b eb) l);
-  told = λ a b ea eb. subst (λ x. Told x b) (there a ea) (subst (λ x. Told p x) (here b eb) (record { asked_is = td.0; cancel_is = td.1; sent_is = td.2 }));
+  told = λ a b ea eb. subst (λ x. AreTold x b) (there a ea) (subst (λ x. AreTold p x) (here b eb) (record { asked_is = td.0; cancel_is = td.1; sent_is = td.2 }));
   waits = λ a b ea eb. subst (λ x. WaitsAre x b w) (there a ea) (subst (λ x. WaitsAre p x w) (here b eb) wa);
   history = λ a b ea eb. subst (λ x. IsLaneHistory x b) (there a ea) (subst (λ x. IsLaneHistory p x) (here b eb) h);
 }

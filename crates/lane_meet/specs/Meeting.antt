@@ -26,7 +26,7 @@ pub record KeepsIn (i j : LaneIn) : Type 0 where
   pub looks : in_looks j ≡ in_looks i
 
 -- each end was told what the other did
-pub record Told (o : LaneOut) (i : LaneIn) : Type 0 where
+pub record AreTold (o : LaneOut) (i : LaneIn) : Type 0 where
   pub asked_is : told_asked o ≡ asked i
   pub cancel_is : told_cancel o ≡ has_cancelled i
   pub sent_is : told_sent i ≡ length (sent o)
@@ -46,6 +46,6 @@ pub record MeetsOne (from : LaneEnds) (out : ℕ) (to : LaneEnds) (inp : ℕ) (f
   pub keeps_out : (o p : LaneOut) → slice_get from.outs.items out ≡ Some o → slice_get from'.outs.items out ≡ Some p → KeepsOut o p
   pub keeps_in : (i j : LaneIn) → slice_get to.ins.items inp ≡ Some i → slice_get to'.ins.items inp ≡ Some j → KeepsIn i j
   pub learnt : (p : LaneOut) (j : LaneIn) → slice_get from'.outs.items out ≡ Some p → slice_get to'.ins.items inp ≡ Some j → learnt p ≡ asked j
-  pub told : (p : LaneOut) (j : LaneIn) → slice_get from'.outs.items out ≡ Some p → slice_get to'.ins.items inp ≡ Some j → Told p j
+  pub told : (p : LaneOut) (j : LaneIn) → slice_get from'.outs.items out ≡ Some p → slice_get to'.ins.items inp ≡ Some j → AreTold p j
   pub waits : (p : LaneOut) (j : LaneIn) → slice_get from'.outs.items out ≡ Some p → slice_get to'.ins.items inp ≡ Some j → WaitsAre p j w
   pub history : (p : LaneOut) (j : LaneIn) → slice_get from'.outs.items out ≡ Some p → slice_get to'.ins.items inp ≡ Some j → IsLaneHistory p j

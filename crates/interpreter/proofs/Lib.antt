@@ -5,3 +5,4 @@ pub mod Handing
 pub mod Gathering
 pub mod Marking
 pub mod Bounding
+pub mod Running

@@ -1,0 +1,14 @@
+-- What stands at the ends of lanes while an island runs, said of the island.
+use Rattle.std.proofs.Common.{◌≡◌, ℕ, subst}
+use Rattle.std.specs.Prelude.{Option}
+use Rattle.fused_net.specs.Net.{Net}
+use Rattle.fused_net.specs.Outside.{StandsStill, Untouched}
+use Rattle.nodes.specs.declared.node.Node.{Node}
+use Rattle.nodes.specs.Nodes.{node_passive}
+use Rattle.interpreter.specs.Island.{Kept}
+
+pub still_in : {S D : Type 0} (i k : Kept S D) (new : Net (Node S D)) → i ≡ k → StandsStill node_passive i.net new → StandsStill node_passive k.net new
+still_in {S = S} {D = D} i k new e s = subst (λ (z : Kept S D). StandsStill node_passive z.net new) e s
+
+pub untouched_in : {S D : Type 0} (at : Option ℕ) (i k : Kept S D) (new : Net (Node S D)) → i ≡ k → Untouched node_passive at i.net new → Untouched node_passive at k.net new
+untouched_in {S = S} {D = D} at i k new e s = subst (λ (z : Kept S D). Untouched node_passive at z.net new) e s

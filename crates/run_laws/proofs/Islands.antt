@@ -1,6 +1,6 @@
--- An island that was made of a blueprint, between two events, leaves a run of it.
+-- Islands that were made of a blueprint, between two events, leave a run of it.
 use Rattle.std.specs.Prelude.{slice_get}
-use Rattle.std.proofs.Common.{◌≡◌, false, ℕ, zero, suc, ◌+◌, ◌<◌, List, [], ◌∷◌, map, length, get_or, Some, refl, sym, subst, ◌∙◌, arith}
+use Rattle.std.proofs.Common.{◌≡◌, false, ℕ, zero, suc, ◌+◌, ◌<◌, List, [], ◌∷◌, map, length, get_or, Option, None, Some, refl, sym, subst, ◌∙◌, arith}
 use Rattle.port_core.specs.Joint.{IsSound}
 use Rattle.stream_model.specs.Graph.{Graph, Wire, find_wire, find_source}
 use Rattle.stream_model.specs.Graph as graph
@@ -16,14 +16,17 @@ use Rattle.nodes.specs.declared.node.Node.{Node}
 use Rattle.nodes.specs.Nodes.{node_row, node_law, node_asking, node_moves}
 use Rattle.wire_core.specs.Cell.{Cell}
 use Rattle.wire_core.specs.Reading.{no_wire}
-use Rattle.run_account.specs.Account.{Account, IsStill}
+use Rattle.run_account.specs.Account.{Account, AllMade, IsStill}
 use Rattle.run_account.specs.Pictures.{counts_from, counts_of}
 use Rattle.run_account.specs.Ports.{count_of}
-use Rattle.run_account.specs.Seats.{Covers, one_seat, account_of}
-use Rattle.run_account.proofs.Joining.{all_keep}
+use Rattle.run_account.specs.Seats.{Seats, Covers, LanesKeep, LanesRest, joined, one_seat, account_of}
+use Rattle.run_account.proofs.Joining.{all_keep, all_still}
 use Rattle.run_account.proofs.Reading.{found_both}
-use Rattle.run_laws.specs.Made.{Materializes}
+use Rattle.run_laws.specs.Made.{FirstOf, Materializes}
 use Rattle.run_laws.specs.Runs.{IsRun}
+
+fused_or_lane : {lane : Option ℕ} {size : ℕ} → lane ≡ None → lane ≡ Some size → ⊥
+fused_or_lane a b = cc
 
 -- a list is as long as a number, where each place below one is below the other
 as_long : (xs : List ℕ) (n : ℕ) → ((p : ℕ) → p < n → p < length xs) → ((p : ℕ) → p < length xs → p < n) → length xs ≡ n
@@ -35,17 +38,32 @@ as_long xs n most least = by (length xs) n most least
     by (suc m) zero f g = absurd (omega (arith, g 0 (omega arith)))
     by (suc m) (suc n) f g = let a = f n (omega arith) in let b = g m (omega arith) in omega (arith, a, b)
 
--- the picture of wires whose connections stand in this order
-counts_same : {N : Type 0} (a : Account N) (i : ℕ) (ws : List Wire) (cells : List Cell) → length ws ≡ length cells → ((k : ℕ) → k < length cells → a.near (i + k) ≡ get_or cells k no_wire) → counts_from a i ws ≡ map count_of cells
-counts_same a i [] [] e f = refl
-counts_same a i [] (c ∷ cells) e f = cc
-counts_same a i (v ∷ ws) [] e f = cc
-counts_same a i (v ∷ ws) (c ∷ cells) e f =
+-- the picture of wires that are no lanes, whose connections stand in this order
+counts_same : {N : Type 0} (a : Account N) (i : ℕ) (ws : List Wire) (cells : List Cell) → ((k : ℕ) (v : Wire) → slice_get ws k ≡ Some v → v.lane ≡ None) → length ws ≡ length cells → ((k : ℕ) → k < length cells → a.near (i + k) ≡ get_or cells k no_wire) → counts_from a i ws ≡ map count_of cells
+counts_same a i [] [] fused e f = refl
+counts_same a i [] (c ∷ cells) fused e f = cc
+counts_same a i (v ∷ ws) [] fused e f = cc
+counts_same a i (v ∷ ws) (c ∷ cells) fused e f =
     let none : i + 0 ≡ i = omega arith in
     let here : a.near i ≡ c = rw none at (f 0 (omega arith)) in
-    let rest = counts_same a (i + 1) ws cells (omega (arith, e)) (λ k h. let later : i + suc k ≡ (i + 1) + k = omega arith in rw later at (f (suc k) (omega (arith, h)))) in
-    rw (here, rest) refl
+    let is_fused : v.lane ≡ None = fused 0 v refl in
+    let rest = counts_same a (i + 1) ws cells (λ k x. fused (suc k) x) (omega (arith, e)) (λ k h. let later : i + suc k ≡ (i + 1) + k = omega arith in rw later at (f (suc k) (omega (arith, h)))) in
+    rw (is_fused, here, rest) refl
 
+-- any number of islands, with lanes
+module _ {S D : Type 0} (sources : S → SourceState) (drains : D → DrainState) (g : Graph) (nets : ℕ → Net (Node S D)) (seats : Seats) (asked : ℕ → ℕ) (covers : Covers g nets seats)
+    (settled : (b : ℕ) → Settled node_row (node_law sources drains) node_asking node_moves (nets b)) where
+  pub all_run : IsJoined g → LanesKeep g nets seats asked → AllMade (FirstOf sources) g (joined nets seats asked) → IsRun sources drains g (joined nets seats asked)
+  all_run is_joined lanes made = record {
+    joined = is_joined;
+    keeps = all_keep node_row (node_law sources drains) node_asking node_moves g nets seats is_joined covers asked settled lanes;
+    made = made;
+  }
+
+  pub all_rest : ((b : ℕ) → (nets b).queue ≡ []) → LanesRest g nets seats asked → IsStill g (joined nets seats asked)
+  all_rest = all_still node_row (node_law sources drains) node_asking node_moves g nets seats covers asked settled
+
+-- one island, in which no wire is a lane
 module _ {S D : Type 0} (sources : S → SourceState) (drains : D → DrainState) (g : Graph) (net : Net (Node S D)) (settled : Settled node_row (node_law sources drains) node_asking node_moves net) (made : Materializes sources g net.firsts net.ends) where
   within : (k : ℕ) (n : graph.Node) → slice_get g.nodes k ≡ Some n → k < length net.nodes
   within k n e = let h = slice_get-below g.nodes k n e in let a = settled.each_first in let b = made.nodes in omega (arith, h, a, b)
@@ -59,14 +77,14 @@ module _ {S D : Type 0} (sources : S → SourceState) (drains : D → DrainState
   the_wire : (u : ℕ) → u < length net.wires → (v : Wire) × (slice_get g.wires u ≡ Some v)
   the_wire u h = let a = settled.wired.each_wire in let b = made.wires in get_there g.wires u (omega (arith, h, a, b))
 
-  module _ (joined : IsJoined g) where
+  module _ (is_joined : IsJoined g) where
     -- a node has as many inputs in the island as its kind has
     ins_count : (k : ℕ) (n : graph.Node) → slice_get g.nodes k ≡ Some n → length (ports_at net k).ins ≡ inputs_of n.kind
     ins_count k n e = as_long (ports_at net k).ins (inputs_of n.kind) most least
       where
         most : (p : ℕ) → p < inputs_of n.kind → p < length (ports_at net k).ins
         most p h =
-            let u = joined.each_input k n p e h in
+            let u = is_joined.each_input k n p e h in
             let f = found_both (λ (x : Wire). x.to) (λ (x : Wire). x.input) k p g.wires u.0 u.1 in
             let w = made.each_wire u.0 f.wire f.at in
             let slot : slice_get (port_at net.ports k).ins p ≡ Some u.0 = rw (w.to ∙ f.here, w.input ∙ f.port_is) at (settled.wired.to_input u.0 (below u.0 f.wire f.at)) in
@@ -78,7 +96,7 @@ module _ {S D : Type 0} (sources : S → SourceState) (drains : D → DrainState
             let t = settled.wired.input_to k p q.0 (within k n e) q.1 in
             let v = the_wire q.0 t.0 in
             let w = made.each_wire q.0 v.0 v.1 in
-            let j = joined.target q.0 v.0 v.1 in
+            let j = is_joined.target q.0 v.0 v.1 in
             let to : v.0.to ≡ k = sym w.to ∙ t.1.0 in
             let input : v.0.input ≡ p = sym w.input ∙ t.1.1 in
             let same : j.0 ≡ n = some_same j.0 n (sym j.1 ∙ subst (λ (i : ℕ). slice_get g.nodes i ≡ Some n) (sym to) e) in
@@ -89,7 +107,7 @@ module _ {S D : Type 0} (sources : S → SourceState) (drains : D → DrainState
       where
         most : (p : ℕ) → p < outputs_of n.kind → p < length (ports_at net k).outs
         most p h =
-            let u = joined.each_output k n p e h in
+            let u = is_joined.each_output k n p e h in
             let f = found_both (λ (x : Wire). x.from) (λ (x : Wire). x.output) k p g.wires u.0 u.1 in
             let w = made.each_wire u.0 f.wire f.at in
             let slot : slice_get (port_at net.ports k).outs p ≡ Some u.0 = rw (w.from ∙ f.here, w.output ∙ f.port_is) at (settled.wired.from_output u.0 (below u.0 f.wire f.at)) in
@@ -101,7 +119,7 @@ module _ {S D : Type 0} (sources : S → SourceState) (drains : D → DrainState
             let t = settled.wired.output_from k p q.0 (within k n e) q.1 in
             let v = the_wire q.0 t.0 in
             let w = made.each_wire q.0 v.0 v.1 in
-            let j = joined.source q.0 v.0 v.1 in
+            let j = is_joined.source q.0 v.0 v.1 in
             let from : v.0.from ≡ k = sym w.from ∙ t.1.0 in
             let output : v.0.output ≡ p = sym w.output ∙ t.1.1 in
             let same : j.0 ≡ n = some_same j.0 n (sym j.1 ∙ subst (λ (i : ℕ). slice_get g.nodes i ≡ Some n) (sym from) e) in
@@ -120,23 +138,21 @@ module _ {S D : Type 0} (sources : S → SourceState) (drains : D → DrainState
       far_home = λ u v e. refl;
       far_to = λ u v e. (made.each_wire u v e).to;
       far_input = λ u v e. (made.each_wire u v e).input;
-      fused = λ u v e. refl;
-      no_lane = λ u v e. (made.each_wire u v e).no_lane;
+      fused = λ u v e no. refl;
     }
+
+    no_lane : (u : ℕ) (v : Wire) → slice_get g.wires u ≡ Some v → v.lane ≡ None
+    no_lane u v e = (made.each_wire u v e).no_lane
 
     pub island_run : IsRun sources drains g (account_of net)
-    island_run = record {
-      joined = joined;
-      keeps = all_keep node_row (node_law sources drains) node_asking node_moves g (λ (b : ℕ). net) one_seat joined covers (λ (b : ℕ). settled);
-      made = made.each_node;
-    }
+    island_run = all_run sources drains g (λ (b : ℕ). net) one_seat (λ u. 0) covers (λ (b : ℕ). settled) is_joined (λ u v size e lane. absurd (fused_or_lane (no_lane u v e) lane)) made.each_node
 
   pub island_still : net.queue ≡ [] → IsStill g (account_of net)
-  island_still empty = record { near = λ u h. still u (wire_within u h); far = λ u h. still u (wire_within u h) }
+  island_still empty = record { near = λ u h. still u (wire_within u h); far = λ u h. still u (wire_within u h); quiet = λ u v e. rw (made.each_wire u v e).no_lane tt }
     where
       still : (u : ℕ) → u < length net.wires → IsSound (wire_at net u).wire false
       still u h = rw empty at (settled.sound u h)
 
   -- its picture is that of the island's wires
   pub island_counts : counts_of (account_of net) g ≡ map count_of net.wires
-  island_counts = counts_same (account_of net) 0 g.wires net.wires (let a = settled.wired.each_wire in let b = made.wires in omega (arith, a, b)) (λ k h. let none : 0 + k ≡ k = omega arith in rw none refl)
+  island_counts = counts_same (account_of net) 0 g.wires net.wires (λ u v e. (made.each_wire u v e).no_lane) (let a = settled.wired.each_wire in let b = made.wires in omega (arith, a, b)) (λ k h. let none : 0 + k ≡ k = omega arith in rw none refl)

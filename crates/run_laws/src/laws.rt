@@ -19,12 +19,12 @@ ghost use Rattle.nodes.specs.Kinds.{IsFileSink};
 ghost use Rattle.nodes.specs.Sink.{Sink};
 ghost use Rattle.nodes.specs.Source.{Lines};
 ghost use Rattle.nodes.specs.declared.node.Node.{Node};
-ghost use Rattle.run_account.specs.Account.{Account, took, IsStill};
+ghost use Rattle.run_account.specs.Account.{Account, AllMade, took, IsStill};
 ghost use Rattle.run_account.specs.Items.{AgreesWith};
 ghost use Rattle.run_account.specs.Pictures.{counts_of};
 ghost use Rattle.run_account.specs.Ports.{count_of};
-ghost use Rattle.run_account.specs.Seats.{account_of};
-ghost use Rattle.run_laws.specs.Made.{Materializes};
+ghost use Rattle.run_account.specs.Seats.{Seats, Covers, LanesKeep, LanesRest, joined, account_of};
+ghost use Rattle.run_laws.specs.Made.{FirstOf, Materializes};
 ghost use Rattle.run_laws.specs.Runs.{IsRun};
 ghost use Rattle.run_laws.specs.Reads.{IsSourceAt, SentLines, GivesTexts};
 ghost use Rattle.run_laws.specs.Sinks.{TookList, SinkTells, SinkWrote, SentTo, IsSinkAt, IgnoreTells, IsIgnorerAt};
@@ -38,6 +38,18 @@ pub fn an_island_leaves_a_run<S: Source, D: Drain>()
     ensures run { (g : Graph) (net : Net (Node S D)) → IsJoined g → Settled node_row (node_law S.state D.state) node_asking node_moves net → Materializes S.state g net.firsts net.ends → IsRun S.state D.state g (account_of net) }
     ensures still { (g : Graph) (net : Net (Node S D)) → Settled node_row (node_law S.state D.state) node_asking node_moves net → Materializes S.state g net.firsts net.ends → net.queue ≡ [] → IsStill g (account_of net) }
     ensures counts { (g : Graph) (net : Net (Node S D)) → Settled node_row (node_law S.state D.state) node_asking node_moves net → Materializes S.state g net.firsts net.ends → counts_of (account_of net) g ≡ map count_of net.wires }
+{}
+
+/// Islands in which the nodes and wires of a blueprint have their places, between two events, leave a run of it where its nodes
+/// were handed in as it names them and of each lane that is kept which its two ends keep (`run`); and no event is left on any wire
+/// where none is left in any island and each lane rests (`still`). An island without lanes is the case above.
+pub fn islands_leave_a_run<S: Source, D: Drain>()
+    ensures run { (g : Graph) (nets : ℕ → Net (Node S D)) (seats : Seats) (asked : ℕ → ℕ) → IsJoined g → Covers g nets seats
+        → ((b : ℕ) → Settled node_row (node_law S.state D.state) node_asking node_moves (nets b)) → LanesKeep g nets seats asked
+        → AllMade (FirstOf S.state) g (joined nets seats asked) → IsRun S.state D.state g (joined nets seats asked) }
+    ensures still { (g : Graph) (nets : ℕ → Net (Node S D)) (seats : Seats) (asked : ℕ → ℕ) → Covers g nets seats
+        → ((b : ℕ) → Settled node_row (node_law S.state D.state) node_asking node_moves (nets b)) → ((b : ℕ) → (nets b).queue ≡ []) → LanesRest g nets seats asked
+        → IsStill g (joined nets seats asked) }
 {}
 
 /// What was sent on each wire, its elements and its end, agrees with the composed outlook of that wire, over the input files

@@ -1,10 +1,13 @@
 // The end of a lane at which what leaves an island is sent.
-ghost use Rattle.std.specs.Prelude.{◌≡◌, ◌≤◌, ◌<◌, ◌+◌, [], ◌∷◌, ◌++◌, true, false, IsTrue};
+ghost use Rattle.std.specs.Prelude.{◌≡◌, ◌≤◌, ◌<◌, ◌+◌, [], ◌∷◌, ◌++◌, true, false, IsTrue, length};
 ghost use Rattle.fused_net.specs.Laws.{GoesOn};
-ghost use Rattle.lane_core.specs.Ends.{sent, seen, saw_cancel, finds, has_ended, IsSameOut};
+ghost use Rattle.lane_core.specs.Ends.{sent, seen, saw_cancel, finds, has_ended, told_asked, told_cancel, IsSameOut};
 ghost use Rattle.lane_core.specs.Lane.{elements, weight, ends, is_new};
-ghost use Rattle.interpreter.specs.Boundary.{Leaves, Drops, way_out};
-ghost use Rattle.output_boundary.specs.Sending.{Sends, FoundIs};
+ghost use Rattle.interpreter.specs.Boundary.{Leaves, Drops, way_out, cell_out};
+ghost use Rattle.port_core.specs.declared.view.InView.TheVariants.{Waiting, Left};
+ghost use Rattle.output_boundary.specs.Beside.{Beside, out_node, waiting};
+ghost use Rattle.output_boundary.specs.Sending.{Sends, FoundIs, VisitIs, unit_of};
+ghost use Rattle.output_boundary.specs.Serving.{MayNotAsk, Serves, IsServed};
 ghost use Rattle.output_boundary.specs.declared.found.Found.TheVariants as found;
 
 use crate::found::Found;
@@ -38,6 +41,7 @@ impl OutputBoundary {
         ensures sent { (sent self.new.lane ≡ sent self.old.lane) × (has_ended self.new.lane ≡ has_ended self.old.lane) × (seen self.old.lane ≤ seen self.new.lane) }
         ensures found { FoundIs result (seen self.old.lane) (seen self.new.lane) (saw_cancel self.new.lane) }
         ensures finds { finds self.new.lane ≡ finds self.old.lane + is_new (seen self.old.lane) (saw_cancel self.old.lane) (seen self.new.lane) (saw_cancel self.new.lane) }
+        ensures told { (told_asked self.old.lane ≤ seen self.new.lane) × (told_cancel self.old.lane ≤ saw_cancel self.new.lane) }
         ensures keeps { saw_cancel self.new.lane ≡ 0 → Sends self.new.lane island.now self.new.wire }
     {
         let _ = island;
@@ -60,7 +64,7 @@ impl OutputBoundary {
         requires room { elements (sent self.old.lane) + weight item ≤ seen self.old.lane }
         ensures sent { sent self.new.lane ≡ sent self.old.lane ++ item ∷ [] }
         ensures ended { has_ended self.new.lane ≡ ends item }
-        ensures rest { (self.new.wire ≡ self.old.wire) × IsSameOut self.old.lane self.new.lane × (seen self.new.lane ≡ seen self.old.lane) × (saw_cancel self.new.lane ≡ saw_cancel self.old.lane) }
+        ensures rest { (self.new.wire ≡ self.old.wire) × IsSameOut self.old.lane self.new.lane × (seen self.new.lane ≡ seen self.old.lane) × (saw_cancel self.new.lane ≡ saw_cancel self.old.lane) × (finds self.new.lane ≡ finds self.old.lane) }
     {
         match self.lane.offer(item) {
             Ok(()) => {}
@@ -74,8 +78,12 @@ impl OutputBoundary {
         requires leaves { Leaves island.old self.old.wire }
         requires keeps { Sends self.old.lane island.old self.old.wire }
         ensures keeps { Sends self.new.lane island.new self.new.wire }
-        ensures wire { (self.new.wire ≡ self.old.wire) × IsSameOut self.old.lane self.new.lane × (seen self.new.lane ≡ seen self.old.lane) }
-        ensures rest { result ≡ false → (self.new ≡ self.old) × (island.new ≡ island.old) }
+        ensures wire { (self.new.wire ≡ self.old.wire) × IsSameOut self.old.lane self.new.lane × (seen self.new.lane ≡ seen self.old.lane) × (finds self.new.lane ≡ finds self.old.lane) }
+        ensures more { result ≡ true → length (sent self.new.lane) ≡ length (sent self.old.lane) + 1 }
+        ensures cell { cell_out island.new self.old.wire ≡ cell_out island.old self.old.wire }
+        ensures rest { result ≡ false → (self.new ≡ self.old) × (island.new ≡ island.old) × (waiting island.old self.old.wire ≡ []) }
+        ensures less { result ≡ true → length (waiting island.new self.old.wire) < length (waiting island.old self.old.wire) }
+        ensures beside { Beside (way_out island.old self.old.wire) (out_node island.old self.old.wire) island.old island.new }
     {
         island.came_out(self.wire);
         match island.given(self.wire) {
@@ -93,7 +101,12 @@ impl OutputBoundary {
         requires leaves { Leaves island.old self.now.wire }
         requires keeps { Sends self.now.lane island.old self.now.wire }
         ensures keeps { Sends self.now.lane island.new self.now.wire }
-        ensures rest { result ≡ false → island.new ≡ island.old }
+        ensures rest { result ≡ false → (island.new ≡ island.old) × (waiting island.old self.now.wire ≡ [] → MayNotAsk self.now.lane island.old self.now.wire) }
+        ensures asked { result ≡ true → (cell_out island.new self.now.wire).wire.inp ≡ Waiting }
+        ensures waiting { waiting island.new self.now.wire ≡ waiting island.old self.now.wire }
+        ensures got { (cell_out island.new self.now.wire).wire.got ≡ (cell_out island.old self.now.wire).wire.got }
+        ensures left { (cell_out island.new self.now.wire).wire.inp ≡ Left → (cell_out island.old self.now.wire).wire.inp ≡ Left }
+        ensures beside { Beside (way_out island.old self.now.wire) (out_node island.old self.now.wire) island.old island.new }
     {
         island.came_out(self.wire);
         island.laws();
@@ -102,5 +115,65 @@ impl OutputBoundary {
         }
         island.pull_out(self.wire);
         true
+    }
+
+    /// Sends all that waits at the stage there, and asks it where demand is left and it may be asked. Then nothing is left to do before
+    /// something comes to the stage, or to this end of the lane. True comes exactly where something was sent, so that the other end
+    /// has to be woken. It takes no memory.
+    pub fn serve<S: Source, D: Drain>(&mut self, island: &mut Island<S, D>) -> bool
+        requires whole { island.old.broken ≡ false }
+        requires leaves { Leaves island.old self.old.wire }
+        requires serves { Serves self.old.lane island.old self.old.wire }
+        ensures serves { Serves self.new.lane island.new self.new.wire }
+        ensures served { IsServed self.new.lane island.new self.new.wire }
+        ensures wire { (self.new.wire ≡ self.old.wire) × IsSameOut self.old.lane self.new.lane × (seen self.new.lane ≡ seen self.old.lane) × (saw_cancel self.new.lane ≡ saw_cancel self.old.lane) × (finds self.new.lane ≡ finds self.old.lane) }
+        ensures sent { result ≡ true → length (sent self.old.lane) < length (sent self.new.lane) }
+        ensures same { result ≡ false → sent self.new.lane ≡ sent self.old.lane }
+        ensures beside { Beside (way_out island.old self.old.wire) (out_node island.old self.old.wire) island.old island.new }
+    {
+        if self.lane.is_refused() {
+            return false;
+        }
+        let mut sent = false;
+        while self.send_one(island) {
+            sent = true;
+        }
+        island.came_out(self.wire);
+        island.laws();
+        self.ask(island);
+        sent
+    }
+
+    /// Looks once at the lane, unless a cancel was seen, and does what is found: new demand lets it ask, and a cancel is handed on, which
+    /// drops what waits. It takes no memory.
+    pub fn visit<S: Source, D: Drain>(&mut self, island: &mut Island<S, D>) -> Found
+        requires whole { island.old.broken ≡ false }
+        requires leaves { Leaves island.old self.old.wire }
+        requires serves { Serves self.old.lane island.old self.old.wire }
+        requires served { IsServed self.old.lane island.old self.old.wire }
+        ensures serves { Serves self.new.lane island.new self.new.wire }
+        ensures served { IsServed self.new.lane island.new self.new.wire }
+        ensures wire { (self.new.wire ≡ self.old.wire) × IsSameOut self.old.lane self.new.lane × (sent self.new.lane ≡ sent self.old.lane) × (seen self.old.lane ≤ seen self.new.lane) }
+        ensures found { VisitIs result (seen self.old.lane) (saw_cancel self.old.lane) (seen self.new.lane) (saw_cancel self.new.lane) }
+        ensures told { saw_cancel self.old.lane ≡ 0 → (told_asked self.old.lane ≤ seen self.new.lane) × (told_cancel self.old.lane ≤ saw_cancel self.new.lane) }
+        ensures finds { finds self.new.lane ≡ finds self.old.lane + unit_of result }
+        ensures beside { Beside (way_out island.old self.old.wire) (out_node island.old self.old.wire) island.old island.new }
+    {
+        if self.lane.is_refused() {
+            return Found::Nothing;
+        }
+        let found = self.look(island);
+        match found {
+            Found::Nothing => {}
+            Found::Demand => {
+                self.ask(island);
+            }
+            Found::Cancelled => {
+                island.came_out(self.wire);
+                island.laws();
+                island.cancel_out(self.wire);
+            }
+        }
+        found
     }
 }

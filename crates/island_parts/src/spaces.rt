@@ -1,0 +1,63 @@
+// The links of islands, and the room that each takes.
+ghost use Rattle.std.specs.Prelude.{◌≡◌, ◌<◌, ◌+◌, ◌^◌, ◌∷◌, ℕ, IfOk, length, vec_len};
+ghost use Rattle.std.specs.Vec.Iter.{into_iter_items, into_iter_len};
+ghost use Rattle.scatter.specs.Shares.{items_at};
+ghost use Rattle.island_parts.specs.Split.{IsSpace, AreSpaces};
+
+use elem_core::why::NoMemory;
+use interpreter::parts::{Link, Place};
+use interpreter::room::Room;
+use std::alloc::Global;
+use std::vec::IntoIter;
+use stream_io::outside::{Drain, Source};
+
+/// An island before its places are there.
+#[derive(Drop)]
+pub struct Space<S: Source, D: Drain> {
+    pub(crate) links: Vec<Link>,
+    pub(crate) room: Room<S, D>,
+}
+
+/// The space of an island of these places and links.
+fn space_of<S: Source, D: Drain>(
+    alloc: Global,
+    places: &[Place],
+    links: Vec<Link>,
+) -> Result<Space<S, D>, NoMemory>
+    requires { length links.items < 2 ^ 32 }
+    ensures { IfOk result (IsSpace places.now links.items) }
+{
+    let room = Room::of(alloc, places, &links)?;
+    Ok(Space { links, room })
+}
+
+/// The spaces of all islands.
+pub fn spaces_of<S: Source, D: Drain>(
+    alloc: Global,
+    places: &[Vec<Place>],
+    links: Vec<Vec<Link>>,
+) -> Result<Vec<Space<S, D>>, NoMemory>
+    requires many { length places.now ≡ vec_len links }
+    requires few { (k : ℕ) → length (items_at links.items k) < 2 ^ 32 }
+    ensures { IfOk result (λ spaces. AreSpaces places.now links.items spaces.items) }
+{
+    let mut spaces = Vec::new(alloc);
+    let mut k = 0;
+    for list in links {
+        spaces.push(space_of(alloc, &places[k], list)?)?;
+        k += 1;
+    }
+    Ok(spaces)
+}
+
+/// The next of some.
+pub fn take_next<T: Drop>(rest: &mut IntoIter<T, Global>) -> T
+    requires { 0 < into_iter_len rest.old }
+    ensures items { into_iter_items rest.old ≡ result ∷ into_iter_items rest.new }
+    ensures len { into_iter_len rest.old ≡ into_iter_len rest.new + 1 }
+{
+    match rest.next() {
+        Some(next) => next,
+        None => unreachable!(),
+    }
+}

@@ -1,0 +1,129 @@
+// The islands of places and wires.
+ghost use Rattle.std.specs.Prelude.{◌≡◌, ◌+◌, ◌<◌, ◌≤◌, ◌^◌, [], IfOk, All, length, vec_len, vec_capacity};
+ghost use Rattle.blue_names.specs.Links.{AreInRange, wires_of_links};
+ghost use Rattle.traversal.specs.Plan.{lanes_from};
+ghost use Rattle.island_parts.specs.Split.{IsReady, IsSplit, AreJoined, AreIslands};
+
+use crate::links::{all_links, link_homes, local_links};
+use crate::spaces::{Space, spaces_of, take_next};
+use crate::whole::{whole_homes, whole_places};
+use blue_names::links::Link as WireLink;
+use elem_core::why::NoMemory;
+use interpreter::parts::{Parts, Place, Seated};
+use interpreter::room::Room;
+use scatter::ranks::ranks_of;
+use scatter::shares::{rooms, scatter};
+use std::alloc::{AllocError, Global};
+use stream_io::outside::{Drain, Source};
+use traversal::plan::LanePlan;
+
+/// All that the islands of a blueprint take of memory before they start, but what their nodes need.
+#[derive(Drop)]
+pub struct Split<S: Source, D: Drain> {
+    // The island of each place: of the nodes, of those where lanes come in, of those where they go out.
+    pub(crate) homes: Vec<usize>,
+    // They are empty, and have room for the places of each island.
+    pub(crate) lists: Vec<Vec<Seated<S, D>>>,
+    pub(crate) spaces: Vec<Space<S, D>>,
+    // It is empty, and has room for all islands.
+    pub(crate) islands: Vec<(Parts<S, D>, Room<S, D>)>,
+}
+
+/// The sum of two numbers of places; one that is out of range is want of memory.
+fn sum(a: usize, b: usize) -> Result<usize, NoMemory>
+    ensures { IfOk result (λ n. n ≡ a + b) }
+{
+    match a.checked_add(b) {
+        Some(n) => Ok(n),
+        None => Err(AllocError),
+    }
+}
+
+/// The islands of these nodes, of which each has one of so many homes, where these wires join them, and these of them have a lane.
+/// Rule: own.
+pub fn split_of<S: Source, D: Drain>(
+    alloc: Global,
+    nodes: Vec<Place>,
+    wires: &[WireLink],
+    homes: Vec<usize>,
+    count: usize,
+    lanes: &[LanePlan],
+) -> Result<Split<S, D>, NoMemory>
+    requires each { vec_len homes ≡ vec_len nodes }
+    requires below { All (λ h. h < count) homes.items }
+    requires ports { All (λ w. (w.output < 2 ^ 8) × (w.input < 2 ^ 8)) wires.now }
+    requires ends { AreInRange (vec_len nodes) wires.now }
+    requires lanes { lanes.now ≡ lanes_from homes.items 0 (wires_of_links wires.now) }
+    ensures { IfOk result (IsSplit homes.items count (wires_of_links wires.now) nodes.items) }
+{
+    let n = nodes.len();
+    let homes = whole_homes(homes, lanes)?;
+    let places = whole_places(nodes, lanes)?;
+    let links = all_links(alloc, wires, n, sum(n, lanes.len())?)?;
+    let ranks = ranks_of(alloc, &homes, count)?;
+    let homes_of_links = link_homes(alloc, &links, &homes)?;
+    let local = local_links(alloc, &links, &ranks.ranks)?;
+    let link_ranks = ranks_of(alloc, &homes_of_links, count)?;
+    let link_lists = scatter(&homes_of_links, local, rooms(alloc, &link_ranks.counts)?);
+    let place_lists = scatter(&homes, places, rooms(alloc, &ranks.counts)?);
+    let spaces = spaces_of(alloc, &place_lists, link_lists)?;
+    let lists = rooms(alloc, &ranks.counts)?;
+    let islands = Vec::with_capacity(alloc, count)?;
+    Ok(Split {
+        homes,
+        lists,
+        spaces,
+        islands,
+    })
+}
+
+/// The parts and the room of an island.
+fn island<S: Source, D: Drain>(
+    nodes: Vec<Seated<S, D>>,
+    space: Space<S, D>,
+) -> (Parts<S, D>, Room<S, D>)
+    ensures nodes { result.0.nodes.items ≡ nodes.items }
+    ensures links { result.0.links.items ≡ space.links.items }
+    ensures room { result.1 ≡ space.room }
+{
+    let Space { links, room } = space;
+    (Parts { nodes, links }, room)
+}
+
+/// The parts and the rooms of islands, in order, into an empty list that has room for them.
+fn join_lists<S: Source, D: Drain>(
+    lists: Vec<Vec<Seated<S, D>>>,
+    spaces: Vec<Space<S, D>>,
+    islands: Vec<(Parts<S, D>, Room<S, D>)>,
+) -> Vec<(Parts<S, D>, Room<S, D>)>
+    requires many { vec_len lists ≡ vec_len spaces }
+    requires empty { islands.items ≡ [] }
+    requires room { vec_len lists ≤ vec_capacity islands }
+    ensures { AreJoined lists.items spaces.items result.items }
+{
+    let mut rest = spaces.into_iter();
+    let mut islands = islands;
+    for nodes in lists {
+        islands.push_reserved(island(nodes, take_next(&mut rest)));
+    }
+    islands
+}
+
+/// The parts and the room of each island, in order, once all places are there, those of nodes first, then those where lanes come
+/// in, then those where they go out. It takes no memory. Rule: own.
+pub fn join<S: Source, D: Drain>(
+    split: Split<S, D>,
+    seats: Vec<Seated<S, D>>,
+) -> Vec<(Parts<S, D>, Room<S, D>)>
+    requires ready { IsReady (vec_len split.lists) split }
+    requires each { vec_len seats ≡ vec_len split.homes }
+    ensures { AreIslands split seats.items result.items }
+{
+    let Split {
+        homes,
+        lists,
+        spaces,
+        islands,
+    } = split;
+    join_lists(scatter(&homes, seats, lists), spaces, islands)
+}

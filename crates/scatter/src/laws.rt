@@ -4,7 +4,7 @@ ghost use Rattle.scatter.specs.Shares.{of_home, count_of, rank_of};
 
 /// The shares of a list, in the order of its homes, hold all of it: two lists with the same shares are one (`one`). An item
 /// stands in the share of its home at its rank (`at`), and the share of a home has as many items as the home has (`count`).
-/// What is read off each item goes with it (`each`), and two lists one behind the other share as they do (`both`).
+/// Two lists one behind the other share as they do (`both`).
 pub fn shares_hold_all<T>()
     ensures one { (homes : List ℕ) (xs : List T) (ys : List T) → length xs ≡ length homes → length ys ≡ length homes → ((k : ℕ) → of_home homes k xs ≡ of_home homes k ys) → xs ≡ ys }
     ensures at { (homes : List ℕ) (xs : List T) (i : ℕ) (h : ℕ) (x : T) → slice_get xs i ≡ Some x → slice_get homes i ≡ Some h → slice_get (of_home homes h xs) (rank_of homes i) ≡ Some x }

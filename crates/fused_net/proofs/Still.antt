@@ -4,6 +4,7 @@ use Rattle.std.proofs.Common.{◌≡◌, ◌≢◌, ◌⊎◌, inl, inr, ℕ, ze
 use Rattle.elem_core.specs.declared.item.Item.{Item}
 use Rattle.elem_core.specs.declared.item.Item.TheVariants as item
 use Rattle.port_core.specs.Wire.{Wire, Delivery, nothing, ask, refusal, brought, after_delivery, again}
+use Rattle.port_core.specs.View.{View}
 use Rattle.port_core.specs.declared.act.Act.{Act}
 use Rattle.port_core.specs.declared.act.Act.TheVariants.{Pull, Push, Complete, FailOut, Cancel}
 use Rattle.port_core.specs.declared.view.InView.{InView}
@@ -16,11 +17,11 @@ use Rattle.stage_core.specs.Handling.{StaysPassive}
 use Rattle.fused_net.specs.declared.net.Ends.{Ends}
 use Rattle.fused_net.specs.Net.{Net, end_at, target, wire_at, ports_at, wire_for, acted, acted_all, told_by, told, event_told, with_node, before}
 use Rattle.port_core.specs.Wire.{delivery_of}
-use Rattle.fused_net.specs.Laws.{AnyRow, AnyLaw, Wired, Busy}
+use Rattle.fused_net.specs.Laws.{AnyRow, AnyLaw, Wired, Busy, Settled, GoesOn, AllKept}
 use Rattle.fused_net.specs.PortLists.{PortLists}
 use Rattle.fused_net.specs.declared.engine.Step.{Step}
 use Rattle.fused_net.specs.Steps.{at_step}
-use Rattle.fused_net.specs.Outside.{IsPassiveAt, StandsStill, touched, IsElse, HasOnly, Untouched, HeardBy}
+use Rattle.fused_net.specs.Outside.{BreaksAside, IsPassiveAt, StandsStill, touched, IsElse, HasOnly, Untouched, HeardBy}
 use Rattle.fused_net.proofs.Reading.{same_or_not, some_same, get_there, get_within, get_set_same, get_set_other}
 use Rattle.fused_net.proofs.Ongoing.{nodes-acts}
 use Rattle.fused_net.proofs.Acting.{PortAt, fits, act_allowed, port_within, acted_busy}
@@ -438,3 +439,8 @@ module _ {N : Type 0} (passive : N → Bool) where
       map_count [] (y ∷ ys) e = cc
       map_count (x ∷ xs) [] e = cc
       map_count (x ∷ xs) (y ∷ ys) e = let t : map passive xs ≡ map passive ys = cc in ap suc (map_count xs ys t)
+
+-- memory was wanting behind that moment
+pub breaks_aside : {N : Type 0} (row : N → View → Type 0) (law : N → N → View → List (List Item) → List (List Item) → Type 0) (asking : N → View → Type 0) (moves : N → List ℕ) (gone : N → List Item) (passive : N → Bool) (keeps : N → N → Type 0) (old last : Net N) (nodes : List N)
+    → Settled row law asking moves last → GoesOn old last → AllKept keeps last.nodes nodes → map gone last.nodes ≡ map gone old.nodes → StandsStill passive old last → BreaksAside row law asking moves gone passive keeps old nodes
+breaks_aside row law asking moves gone passive keeps old last nodes settled on kept none still = record { breaks = record { last = last; settled = settled; on = on; kept = kept }; none_gone = none; still = still }

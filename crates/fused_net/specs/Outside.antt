@@ -1,10 +1,13 @@
 -- What stays where a passive node stands, which acts only from outside: while the graph runs by itself nothing is pushed or closed
 -- at its outputs, and its inputs are neither asked nor cancelled.
-use Rattle.std.specs.Prelude.{◌≡◌, ◌≢◌, ℕ, Bool, true, false, Option, None, Some, [], ◌∷◌, ◌++◌, map, slice_get, ⊤}
+use Rattle.std.specs.Prelude.{◌≡◌, ◌≢◌, ℕ, Bool, true, false, Option, None, Some, List, [], ◌∷◌, ◌++◌, map, slice_get, ⊤}
+use Rattle.elem_core.specs.declared.item.Item.{Item}
+use Rattle.port_core.specs.View.{View}
 use Rattle.port_core.specs.declared.view.InView.TheVariants.{Left}
 use Rattle.wire_core.specs.Marks.{wanted, Grown}
 use Rattle.fused_net.specs.PortLists.{PortLists}
 use Rattle.fused_net.specs.Net.{Net, end_at, wire_at, ports_at}
+use Rattle.fused_net.specs.Laws.{BreaksOff}
 use Rattle.fused_net.specs.Poking.{AtNode}
 
 module _ {N : Type 0} (passive : N → Bool) where
@@ -46,3 +49,11 @@ module _ {N : Type 0} (passive : N → Bool) where
     pub outs : (u : ℕ) → IsPassiveAt passive old (end_at old.ends u).from → (wire_at new u).wire.out ≡ (wire_at old u).wire.out
     pub ins : (u : ℕ) → IsPassiveAt passive old (end_at old.ends u).to → ((wire_at new u).wire.inp ≡ (wire_at old u).wire.inp) × ((wire_at new u).wire.got ≡ (wire_at old u).wire.got)
     pub nodes : (k : ℕ) → k ≢ n → slice_get new.nodes k ≡ slice_get old.nodes k
+
+module _ {N : Type 0} (row : N → View → Type 0) (law : N → N → View → List (List Item) → List (List Item) → Type 0) (asking : N → View → Type 0) (moves : N → List ℕ) (gone : N → List Item) (passive : N → Bool) where
+  -- Memory was wanting in a handler: up to the last moment between two events only their peers acted at the wires of passive nodes,
+  -- from which nothing left the graph.
+  pub record BreaksAside (keeps : N → N → Type 0) (old : Net N) (nodes : List N) : Type 0 where
+    pub breaks : BreaksOff row law asking moves keeps old nodes
+    pub none_gone : map gone breaks.last.nodes ≡ map gone old.nodes
+    pub still : StandsStill passive old breaks.last

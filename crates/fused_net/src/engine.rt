@@ -10,7 +10,7 @@ ghost use Rattle.fused_net.specs.Net.{acted, acted_all, event_told, wire_at, end
 ghost use Rattle.fused_net.specs.Laws.{AnyRow, AnyLaw, Wired, first_view, Settled, Busy, Starting, GoesOn, Awaits, TellsAsking, MeetsAt, Responds, AllKept, BreaksOff, IsMinded};
 ghost use Rattle.fused_net.specs.Costs.{all_asks, Uses};
 ghost use Rattle.fused_net.specs.Poking.{AtNode, HandsAt, TellsPoked};
-ghost use Rattle.fused_net.specs.Outside.{StandsStill, HeardBy, Untouched, touched};
+ghost use Rattle.fused_net.specs.Outside.{BreaksAside, StandsStill, HeardBy, Untouched, touched};
 ghost use Rattle.fused_net.specs.Steps.{unit_of, at_step};
 ghost use Rattle.fused_net.specs.declared.engine.Step.TheVariants as step;
 
@@ -151,6 +151,7 @@ impl<S: Stage> Engine<S> {
         ensures firsts { result.firsts ≡ nodes.items }
         ensures ends { result.ends ≡ ends.items }
         ensures ports { result.ports ≡ ports.items }
+        ensures wires { result.wires ≡ wires.items }
         ensures asks { all_asks result ≡ 0 }
     {
         let firsts = Snapshot::of(&nodes);
@@ -176,6 +177,7 @@ impl<S: Stage> Engine<S> {
         ensures on { OnOk result (GoesOn self.old self.new) }
         ensures asks { OnOk result (all_asks self.new ≤ all_asks self.old) }
         ensures gone { OnOk result (map S.gone self.new.nodes ≡ map S.gone self.old.nodes) }
+        ensures still { OnOk result (StandsStill S.passive self.old self.new) }
         ensures acts { OnOk result (acts.new ≡ acts.old) }
         ensures kept { AllKept S.keeps self.old.firsts self.new.nodes }
     {
@@ -195,6 +197,7 @@ impl<S: Stage> Engine<S> {
         ensures on { OnOk result (GoesOn self.old self.new) }
         ensures asks { OnOk result (all_asks self.new ≤ all_asks self.old) }
         ensures gone { OnOk result (map S.gone self.new.nodes ≡ map S.gone self.old.nodes) }
+        ensures still { OnOk result (StandsStill S.passive self.old self.new) }
         ensures acts { OnOk result (acts.new ≡ acts.old) }
         ensures kept { AllKept S.keeps self.old.firsts self.new.nodes }
         ensures count { length self.new.nodes ≡ length self.old.nodes }
@@ -320,6 +323,8 @@ impl<S: Stage> Engine<S> {
         ensures on { OnOk result (GoesOn self.old self.new) }
         ensures uses { IfOk result (λ went. Uses self.old self.new (unit_of went)) }
         ensures rest { IfOk result (λ went. went ≡ step.Rest → self.new.queue ≡ []) }
+        ensures same { IfOk result (λ went. went ≡ step.Rest → self.new ≡ self.old) }
+        ensures outer { IfOk result (λ went. (w : ℕ) → went ≡ step.Outer w → w < length self.new.wires) }
         ensures gone { OnOk result (map S.gone self.new.nodes ≡ map S.gone self.old.nodes) }
         ensures still { OnOk result (StandsStill S.passive self.old self.new) }
         ensures untouched { IfOk result (λ went. Untouched S.passive (at_step went) self.old self.new) }
@@ -384,7 +389,9 @@ impl<S: Stage> Engine<S> {
         ensures still { OnOk result (StandsStill S.passive self.old self.new) }
         ensures untouched { IfOk result (λ a. Untouched S.passive a.heard self.old self.new) }
         ensures acts { OnOk result (acts.new ≡ acts.old) }
-        ensures breaks { OnErr result (BreaksOff S.rests S.law S.asking S.moves S.keeps self.old self.new.nodes) }
+        ensures none { IfOk result (λ a. a.used ≡ 0 → self.new ≡ self.old) }
+        ensures heard { IfOk result (λ a. (w : ℕ) → a.heard ≡ Some w → (1 ≤ a.used) × (w < length self.new.wires)) }
+        ensures breaks { OnErr result (BreaksAside S.rests S.law S.asking S.moves S.gone S.passive S.keeps self.old self.new.nodes) }
         ensures count { length self.new.nodes ≡ length self.old.nodes }
     {
         for used in 0..limit {

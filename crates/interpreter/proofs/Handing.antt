@@ -17,7 +17,7 @@ use Rattle.interpreter.specs.declared.parts.Work.{Work}
 use Rattle.interpreter.specs.declared.parts.Work.TheVariants as work
 use Rattle.interpreter.specs.Parts.{BecomesOf, AllBecome}
 use Rattle.interpreter.specs.Island.{readers_of, writers_of}
-use Rattle.interpreter.specs.Handles.{with_source, with_drain, sources_in, drains_in, HandsBack}
+use Rattle.interpreter.specs.Handles.{HoldsHandles, with_source, with_drain, sources_in, drains_in, HandsBack}
 
 -- what a node leaves, in front of what others do
 abbrev with_read : {S D : Type 0} → NodeEnd S D → List S → List S
@@ -195,3 +195,7 @@ module _ {S D : Type 0} (sources : S → SourceState) (drains : D → DrainState
     readers = ap (map sources) readers ∙ readers_back places firsts nodes b k;
     writers = ap (map drains) writers ∙ writers_back places firsts nodes b k;
   }
+
+  -- before the island is taken apart
+  pub holds_handles : (places : List (Seated S D)) (firsts nodes : List (Node S D)) → AllBecome places firsts → AllKept (KeepsNode sources drains) firsts nodes → HoldsHandles sources drains places nodes
+  holds_handles places firsts nodes b k = record { readers = readers_back places firsts nodes b k; writers = writers_back places firsts nodes b k }

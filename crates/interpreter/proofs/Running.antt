@@ -1,10 +1,11 @@
 -- What stands at the ends of lanes while an island runs, said of the island.
 use Rattle.std.proofs.Common.{◌≡◌, ℕ, subst}
-use Rattle.std.specs.Prelude.{Option}
+use Rattle.std.specs.Prelude.{List, Option}
+use Rattle.stream_io.specs.State.{SourceState, DrainState}
 use Rattle.fused_net.specs.Net.{Net}
-use Rattle.fused_net.specs.Outside.{StandsStill, Untouched}
+use Rattle.fused_net.specs.Outside.{BreaksAside, StandsStill, Untouched}
 use Rattle.nodes.specs.declared.node.Node.{Node}
-use Rattle.nodes.specs.Nodes.{node_passive}
+use Rattle.nodes.specs.Nodes.{node_row, node_law, node_asking, node_moves, node_gone, node_passive, KeepsNode}
 use Rattle.interpreter.specs.Island.{Kept}
 
 pub still_in : {S D : Type 0} (i k : Kept S D) (new : Net (Node S D)) → i ≡ k → StandsStill node_passive i.net new → StandsStill node_passive k.net new
@@ -12,3 +13,7 @@ still_in {S = S} {D = D} i k new e s = subst (λ (z : Kept S D). StandsStill nod
 
 pub untouched_in : {S D : Type 0} (at : Option ℕ) (i k : Kept S D) (new : Net (Node S D)) → i ≡ k → Untouched node_passive at i.net new → Untouched node_passive at k.net new
 untouched_in {S = S} {D = D} at i k new e s = subst (λ (z : Kept S D). Untouched node_passive at z.net new) e s
+
+pub breaks_in : {S D : Type 0} (sources : S → SourceState) (drains : D → DrainState) (i k : Kept S D) (nodes : List (Node S D)) → i ≡ k → BreaksAside node_row (node_law sources drains) node_asking node_moves node_gone node_passive (KeepsNode sources drains) i.net nodes
+    → BreaksAside node_row (node_law sources drains) node_asking node_moves node_gone node_passive (KeepsNode sources drains) k.net nodes
+breaks_in {S = S} {D = D} sources drains i k nodes e b = subst (λ (z : Kept S D). BreaksAside node_row (node_law sources drains) node_asking node_moves node_gone node_passive (KeepsNode sources drains) z.net nodes) e b

@@ -1,7 +1,9 @@
 -- The boundary stages of an island, each by the number of the wire that its lane is.
-use Rattle.std.specs.Prelude.{◌≡◌, ℕ, ◌<◌, List, length, slice_index_or}
+use Rattle.std.specs.Prelude.{◌≡◌, ◌≢◌, ℕ, ◌<◌, List, [], length, slice_index_or}
 use Rattle.elem_core.specs.declared.item.Item.{Item}
+use Rattle.port_core.specs.declared.view.InView.TheVariants.{Left}
 use Rattle.wire_core.specs.Cell.{Cell}
+use Rattle.wire_core.specs.Marks.{wanted}
 use Rattle.nodes.specs.declared.node.Node.{Node}
 use Rattle.nodes.specs.Nodes.{node_gone, node_waits}
 use Rattle.fused_net.specs.Net.{Net, end_at, wire_at}
@@ -41,6 +43,12 @@ module _ {S D : Type 0} where
 
   abbrev pub LeavesBy : Kept S D → ℕ → ℕ → Type 0
   LeavesBy i u q = Leaves i u × (way_out i u ≡ q)
+
+  -- where a lane goes out at place q nothing was asked, cancelled or handed out
+  pub record BeginsOut (net : Net (Node S D)) (q : ℕ) : Type 0 where
+    pub unasked : wanted (wire_at net q) ≡ 0
+    pub stays : (wire_at net q).wire.inp ≢ Left
+    pub none_gone : AtNode net (end_at net.ends q).to (λ x. node_gone x ≡ [])
 
   -- the island with another graph
   abbrev pub with_net : Kept S D → Net (Node S D) → Kept S D

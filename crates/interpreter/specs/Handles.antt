@@ -6,6 +6,8 @@ use Rattle.interpreter.specs.declared.island.StartEnd.{StartEnd}
 use Rattle.interpreter.specs.declared.island.StartEnd.TheVariants.{NoMemory}
 use Rattle.interpreter.specs.declared.parts.Seated.{Seated}
 use Rattle.interpreter.specs.declared.parts.Work.{Work}
+use Rattle.interpreter.specs.Island.{readers_of, writers_of}
+use Rattle.nodes.specs.declared.node.Node.{Node}
 use Rattle.interpreter.specs.declared.parts.Work.TheVariants.{Reading, Making, Linear, State, FanIn, FanOut, Writing, LaneIn, LaneOut}
 
 -- the source of a reader, in front of others
@@ -46,6 +48,11 @@ drains_in (s ∷ ss) = with_drain s.work (drains_in ss)
 pub record HandsBack {S D : Type 0} (sources : S → SourceState) (drains : D → DrainState) (places : List (Seated S D)) (e : IslandEnd S D) : Type 0 where
   pub readers : map sources e.readers.items ≡ map sources (sources_in places)
   pub writers : map drains e.writers.items ≡ map drains (drains_in places)
+
+-- the handles of these nodes are those that stand at these places, in their order, each as it was handed in
+pub record HoldsHandles {S D : Type 0} (sources : S → SourceState) (drains : D → DrainState) (places : List (Seated S D)) (nodes : List (Node S D)) : Type 0 where
+  pub readers : map sources (readers_of nodes) ≡ map sources (sources_in places)
+  pub writers : map drains (writers_of nodes) ≡ map drains (drains_in places)
 
 -- an island of these places did not start
 abbrev pub DidNotStart : {S D : Type 0} → (S → SourceState) → (D → DrainState) → List (Seated S D) → StartEnd S D → Type 0

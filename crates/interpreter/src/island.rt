@@ -1,18 +1,20 @@
 // An island of nodes that runs event by event.
-ghost use Rattle.std.specs.Prelude.{◌≡◌, ◌+◌, ◌<◌, ◌≤◌, ◌↔◌, ◌∷◌, ◌++◌, [], true, false, None, Some, length, slice_get, ℕ, IsTrue, IsOk, IfOk, IfErr, OnOk, OnErr, map, vec_len, vec_capacity};
+ghost use Rattle.std.specs.Prelude.{◌≡◌, ◌+◌, ◌<◌, ◌≤◌, ◌↔◌, ◌∷◌, ◌++◌, [], true, false, None, Some, length, replicate, slice_get, ℕ, IsTrue, IsOk, IfOk, IfErr, OnOk, OnErr, map, vec_len, vec_capacity};
 ghost use Rattle.fused_net.specs.Laws.{Starting, GoesOn, BreaksOff};
+ghost use Rattle.fused_net.specs.Net.{wire_at};
 ghost use Rattle.fused_net.specs.Costs.{all_asks, Uses};
-ghost use Rattle.fused_net.specs.Outside.{StandsStill, Untouched};
+ghost use Rattle.fused_net.specs.Outside.{BreaksAside, StandsStill, Untouched};
 ghost use Rattle.nodes.specs.Nodes.{node_fresh, node_row, node_law, node_asking, node_moves, node_gone, node_passive, KeepsNode};
 ghost use Rattle.interpreter.specs.Parts.{AreParts, AllBecome, ends_of, number_of, place_of};
 ghost use Rattle.interpreter.specs.Picks.{node_number, pick_of, with_picks, picks_of};
 ghost use Rattle.interpreter.specs.Island.{Keeps, counts_of, sinks_of, readers_of, writers_of};
 ghost use Rattle.std.specs.Option.{option_map};
 ghost use Rattle.interpreter.specs.Room.{HasRoom, RoomFor, IsBlank, IsRoom};
-ghost use Rattle.interpreter.specs.Handles.{DidNotStart};
+ghost use Rattle.wire_core.specs.Cell.{new_cell};
+ghost use Rattle.interpreter.specs.Handles.{DidNotStart, HandsBack, HoldsHandles};
 ghost use Rattle.interpreter.specs.declared.parts.Link as wiring;
 ghost use Rattle.interpreter.specs.Ways.{comes_in, goes_out};
-ghost use Rattle.interpreter.specs.Boundary.{Enters, Leaves, EntersBy, LeavesBy, HandsOut, Drops, way_in, way_out, cell_in, cell_out, with_net};
+ghost use Rattle.interpreter.specs.Boundary.{BeginsOut, Enters, Leaves, EntersBy, LeavesBy, HandsOut, Drops, way_in, way_out, cell_in, cell_out, with_net};
 ghost use Rattle.boundary_calls.specs.Boundary.{IsClearAt, CameTo, GivenIs, wanted_at, moved_at, ended_at};
 ghost use Rattle.boundary_calls.specs.declared.given.Wanted.TheVariants as wanted;
 ghost use Rattle.port_core.specs.Decoding.{can_pull};
@@ -111,6 +113,9 @@ impl<S: Source, D: Drain> Island<S, D> {
         ensures places { IfOk result (λ i. i.places ≡ map node_number parts.nodes.items) }
         ensures enters { IfOk result (λ i. (q : ℕ) (l : wiring.Link) → slice_get parts.links.items q ≡ Some l → comes_in parts.nodes.items l.from ≡ true → EntersBy i l.wire q) }
         ensures leaves { IfOk result (λ i. (q : ℕ) (l : wiring.Link) → slice_get parts.links.items q ≡ Some l → goes_out parts.nodes.items l.to ≡ true → LeavesBy i l.wire q) }
+        ensures begins_in { IfOk result (λ i. (q : ℕ) (l : wiring.Link) → slice_get parts.links.items q ≡ Some l → comes_in parts.nodes.items l.from ≡ true → (wire_at i.net q).wire.sent ≡ []) }
+        ensures begins_out { IfOk result (λ i. (q : ℕ) (l : wiring.Link) → slice_get parts.links.items q ≡ Some l → goes_out parts.nodes.items l.to ≡ true → BeginsOut i.net q) }
+        ensures handles { IfOk result (λ i. HoldsHandles S.state D.state parts.nodes.items i.net.nodes) }
         ensures no_memory { IfErr result (DidNotStart S.state D.state parts.nodes.items) }
     {
         let Room {
@@ -180,7 +185,9 @@ impl<S: Source, D: Drain> Island<S, D> {
         ensures uses { IfOk result (λ a. Uses self.old.net self.new.net a.used) }
         ensures within { IfOk result (λ a. a.used ≤ limit) }
         ensures rest { IfOk result (λ a. a.used < limit → a.heard ≡ None → self.new.net.queue ≡ []) }
-        ensures breaks { OnErr result (BreaksOff node_row (node_law S.state D.state) node_asking node_moves (KeepsNode S.state D.state) self.old.net self.new.net.nodes) }
+        ensures none { IfOk result (λ a. a.used ≡ 0 → self.new ≡ self.old) }
+        ensures heard { IfOk result (λ a. (w : ℕ) → a.heard ≡ Some w → (1 ≤ a.used) × (w < length self.new.net.wires)) }
+        ensures breaks { OnErr result (BreaksAside node_row (node_law S.state D.state) node_asking node_moves node_gone node_passive (KeepsNode S.state D.state) self.old.net self.new.net.nodes) }
     {
         self.broken = true;
         let advance = self.engine.advance(alloc, limit, &mut self.acts)?;
@@ -234,7 +241,8 @@ impl<S: Source, D: Drain> Island<S, D> {
         requires whole { self.old.broken ≡ false }
         requires enters { Enters self.old wire }
         requires asked { wanted_at (cell_in self.old wire) ≡ wanted.Asked }
-        ensures { self.new ≡ with_net self.old (moved_at self.old.net (way_in self.old wire) (act.Push 0 e)) }
+        ensures after { self.new ≡ with_net self.old (moved_at self.old.net (way_in self.old wire) (act.Push 0 e)) }
+        ensures uses { Uses self.old.net self.new.net 0 }
     {
         calls::push_in(&mut self.engine, self.ways.ins[wire as usize], e);
     }
@@ -243,7 +251,8 @@ impl<S: Source, D: Drain> Island<S, D> {
     pub fn end_in(&mut self, wire: u32, cause: Option<Cause>)
         requires whole { self.old.broken ≡ false }
         requires enters { Enters self.old wire }
-        ensures { self.new ≡ with_net self.old (ended_at self.old.net (way_in self.old wire) cause) }
+        ensures after { self.new ≡ with_net self.old (ended_at self.old.net (way_in self.old wire) cause) }
+        ensures uses { Uses self.old.net self.new.net 0 }
     {
         calls::end_in(&mut self.engine, self.ways.ins[wire as usize], cause);
     }
@@ -263,7 +272,8 @@ impl<S: Source, D: Drain> Island<S, D> {
         requires whole { self.old.broken ≡ false }
         requires leaves { Leaves self.old wire }
         requires can { IsTrue (can_pull (cell_out self.old wire).wire.conn) × IsClearAt self.old.net (way_out self.old wire) }
-        ensures { self.new ≡ with_net self.old (moved_at self.old.net (way_out self.old wire) (act.Pull 0)) }
+        ensures after { self.new ≡ with_net self.old (moved_at self.old.net (way_out self.old wire) (act.Pull 0)) }
+        ensures uses { Uses self.old.net self.new.net 0 }
     {
         calls::pull_out(&mut self.engine, self.ways.outs[wire as usize]);
     }
@@ -273,7 +283,8 @@ impl<S: Source, D: Drain> Island<S, D> {
     pub fn cancel_out(&mut self, wire: u32)
         requires whole { self.old.broken ≡ false }
         requires leaves { Leaves self.old wire }
-        ensures { Drops self.old wire self.new }
+        ensures drops { Drops self.old wire self.new }
+        ensures uses { Uses self.old.net self.new.net 0 }
     {
         calls::cancel_out(&mut self.engine, self.ways.outs[wire as usize]);
     }
@@ -282,7 +293,8 @@ impl<S: Source, D: Drain> Island<S, D> {
     pub fn given(&mut self, wire: u32) -> Given
         requires whole { self.old.broken ≡ false }
         requires leaves { Leaves self.old wire }
-        ensures { GivenIs result (IsClearAt self.old.net (way_out self.old wire) × (self.new ≡ self.old)) (λ x. HandsOut self.old wire (x ∷ []) self.new) }
+        ensures given { GivenIs result (IsClearAt self.old.net (way_out self.old wire) × (self.new ≡ self.old)) (λ x. HandsOut self.old wire (x ∷ []) self.new) }
+        ensures uses { Uses self.old.net self.new.net 0 }
     {
         calls::given(&mut self.engine, self.ways.outs[wire as usize])
     }
@@ -312,6 +324,27 @@ impl<S: Source, D: Drain> Island<S, D> {
     }
 }
 
+/// Takes an island apart that is not to be started: its handles come back as they were handed in. It takes no memory.
+pub fn hand_back<S: Source, D: Drain>(
+    alloc: Global,
+    parts: Parts<S, D>,
+    room: Room<S, D>,
+) -> IslandEnd<S, D>
+    requires parts { AreParts parts.nodes.items parts.links.items }
+    requires room { IsRoom room (map place_of parts.nodes.items) parts.links.items }
+    ensures { HandsBack S.state D.state parts.nodes.items result }
+{
+    let Room {
+        numbers,
+        places,
+        blank,
+        end,
+        ..
+    } = room;
+    let engine = assemble(alloc, parts, blank);
+    leave(engine, &numbers, &places, end)
+}
+
 // The engine of these parts, of which no node was started. It takes no memory.
 fn assemble<S: Source, D: Drain>(
     alloc: Global,
@@ -325,6 +358,8 @@ fn assemble<S: Source, D: Drain>(
     ensures ends { result.ends ≡ map ends_of parts.links.items }
     ensures asks { all_asks result ≡ 0 }
     ensures count { length result.nodes ≡ vec_len parts.nodes }
+    ensures nodes { result.nodes ≡ result.firsts }
+    ensures wires { result.wires ≡ replicate (length parts.links.items) new_cell }
 {
     let Blank {
         ends,

@@ -1,5 +1,6 @@
 // The end of a lane at which what leaves an island is sent.
 ghost use Rattle.std.specs.Prelude.{◌≡◌, ◌≤◌, ◌<◌, ◌+◌, [], ◌∷◌, ◌++◌, true, false, IsTrue, length};
+ghost use Rattle.fused_net.specs.Costs.{Uses};
 ghost use Rattle.fused_net.specs.Laws.{GoesOn};
 ghost use Rattle.lane_core.specs.Ends.{sent, seen, saw_cancel, finds, has_ended, told_asked, told_cancel, IsSameOut};
 ghost use Rattle.lane_core.specs.Lane.{elements, weight, ends, is_new};
@@ -22,8 +23,10 @@ use stream_io::outside::{Drain, Source};
 /// stage there is asked only where demand is left. Rule: Akka Streams 2.6 reference, chapter on asynchronous boundaries.
 #[derive(Drop)]
 pub struct OutputBoundary {
-    pub(crate) wire: u32,
-    pub(crate) lane: LaneOut,
+    /// The number of the wire that the lane is.
+    pub wire: u32,
+    /// The end of the lane that sends.
+    pub lane: LaneOut,
 }
 
 impl OutputBoundary {
@@ -83,6 +86,7 @@ impl OutputBoundary {
         ensures cell { cell_out island.new self.old.wire ≡ cell_out island.old self.old.wire }
         ensures rest { result ≡ false → (self.new ≡ self.old) × (island.new ≡ island.old) × (waiting island.old self.old.wire ≡ []) }
         ensures less { result ≡ true → length (waiting island.new self.old.wire) < length (waiting island.old self.old.wire) }
+        ensures uses { Uses island.old.net island.new.net 0 }
         ensures beside { Beside (way_out island.old self.old.wire) (out_node island.old self.old.wire) island.old island.new }
     {
         island.came_out(self.wire);
@@ -106,6 +110,7 @@ impl OutputBoundary {
         ensures waiting { waiting island.new self.now.wire ≡ waiting island.old self.now.wire }
         ensures got { (cell_out island.new self.now.wire).wire.got ≡ (cell_out island.old self.now.wire).wire.got }
         ensures left { (cell_out island.new self.now.wire).wire.inp ≡ Left → (cell_out island.old self.now.wire).wire.inp ≡ Left }
+        ensures uses { Uses island.old.net island.new.net 0 }
         ensures beside { Beside (way_out island.old self.now.wire) (out_node island.old self.now.wire) island.old island.new }
     {
         island.came_out(self.wire);
@@ -129,6 +134,7 @@ impl OutputBoundary {
         ensures wire { (self.new.wire ≡ self.old.wire) × IsSameOut self.old.lane self.new.lane × (seen self.new.lane ≡ seen self.old.lane) × (saw_cancel self.new.lane ≡ saw_cancel self.old.lane) × (finds self.new.lane ≡ finds self.old.lane) }
         ensures sent { result ≡ true → length (sent self.old.lane) < length (sent self.new.lane) }
         ensures same { result ≡ false → sent self.new.lane ≡ sent self.old.lane }
+        ensures uses { Uses island.old.net island.new.net 0 }
         ensures beside { Beside (way_out island.old self.old.wire) (out_node island.old self.old.wire) island.old island.new }
     {
         if self.lane.is_refused() {
@@ -157,6 +163,7 @@ impl OutputBoundary {
         ensures found { VisitIs result (seen self.old.lane) (saw_cancel self.old.lane) (seen self.new.lane) (saw_cancel self.new.lane) }
         ensures told { saw_cancel self.old.lane ≡ 0 → (told_asked self.old.lane ≤ seen self.new.lane) × (told_cancel self.old.lane ≤ saw_cancel self.new.lane) }
         ensures finds { finds self.new.lane ≡ finds self.old.lane + unit_of result }
+        ensures uses { Uses island.old.net island.new.net 0 }
         ensures beside { Beside (way_out island.old self.old.wire) (out_node island.old self.old.wire) island.old island.new }
     {
         if self.lane.is_refused() {

@@ -1,8 +1,8 @@
 -- The goals of `engine::Engine::advance` that the search leaves.
 use Rattle.std.proofs.Common.{◌∙◌, rules, arith}
 use Rattle.fused_net.specs.declared.engine.Step.TheVariants.{Rest, Inner, Outer}
-use Rattle.fused_net.proofs.Keeping.{step_count}
-use Rattle.fused_net.proofs.Still.{still_trans, untouched_on}
+use Rattle.fused_net.proofs.Keeping.{on_err, step_count}
+use Rattle.fused_net.proofs.Still.{breaks_aside, still_trans, untouched_on}
 use Rattle.fused_net.proofs.engine.Engine.advance.Goals as goal
 
 pub returns-in_err-step-clause-count : goal.returns-in_err-step-clause-count
@@ -29,4 +29,8 @@ loop-used-preserved g c = (
   c.in_ok-step.ensures.gone ∙ c.loop-used.invariant.4,
   still_trans g.S.Stage.passive _ _ _ c.loop-used.invariant.1.ends c.loop-used.invariant.5 c.in_ok-step.ensures.still,
   untouched_on g.S.Stage.passive _ Inner _ _ _ c.in-Inner.is c.loop-used.invariant.1.ends c.loop-used.invariant.1.ports c.loop-used.invariant.5.kinds c.loop-used.invariant.6 c.in_ok-step.ensures.untouched,
+  search (rules, arith),
 )
+
+pub returns-in_err-step-clause-breaks : goal.returns-in_err-step-clause-breaks
+returns-in_err-step-clause-breaks g c = on_err _ (breaks_aside g.S.Stage.rests g.S.Stage.law g.S.Stage.asking g.S.Stage.moves g.S.Stage.gone g.S.Stage.passive g.S.Stage.keeps _ c.loop-used.self _ c.loop-used.invariant.0 c.loop-used.invariant.1 c.in_err-step.ensures.kept c.loop-used.invariant.4 c.loop-used.invariant.5)

@@ -2,6 +2,7 @@
 use Rattle.fused_net.proofs.Responding.{start_meets, start_awaited, started}
 use Rattle.fused_net.proofs.Keeping.{kept_called_first, kept_started}
 use Rattle.fused_net.proofs.Poking.{gone_acts}
+use Rattle.fused_net.proofs.Still.{still_acts}
 use Rattle.fused_net.proofs.engine.Engine.start_at.Goals as goal
 
 pub start-requires-clause-meets : goal.start-requires-clause-meets
@@ -27,3 +28,6 @@ returns-clause-kept g c = kept_started g.S.Stage.rests g.S.Stage.law g.S.Stage.a
 
 pub returns-in_err-start-clause-kept : goal.returns-in_err-start-clause-kept
 returns-in_err-start-clause-kept g c = kept_called_first g.S.Stage.rests g.S.Stage.law g.S.Stage.asking g.S.Stage.moves g.S.Stage.fresh g.S.Stage.keeps _ _ _ _ _ c.requires.starting c.self.view_is c.requires.within c.index_mut.ensures.value c.requires.kept c.start.ensures.kept
+
+pub returns-clause-still : goal.returns-clause-still
+returns-clause-still g c = still_acts g.S.Stage.passive _ _ _ _ _ _ c.start.new.acts.items c.self.view_is c.requires.within c.index_mut.ensures.value (start_awaited g.S.Stage.rests g.S.Stage.law g.S.Stage.asking g.S.Stage.moves g.S.Stage.fresh _ _ _ _ _ _ c.requires.starting c.self.view_is c.requires.within c.index_mut.ensures.value c.in_ok-start.ensures.starts) c.in_ok-start.ensures.passive c.perform.ensures.after

@@ -4,8 +4,8 @@ use Rattle.std.proofs.lemmas.List.{length-map}
 use Rattle.interpreter.specs.Parts.{number_of, place_of}
 use Rattle.interpreter.specs.Ways.{Leads}
 use Rattle.interpreter.proofs.Islands.{keeps_new, room_as, numbers_same}
-use Rattle.interpreter.proofs.Handing.{hands_back}
-use Rattle.interpreter.proofs.Bounding.{enters_new, leaves_new}
+use Rattle.interpreter.proofs.Handing.{hands_back, holds_handles}
+use Rattle.interpreter.proofs.Bounding.{enters_new, leaves_new, begins_in_new, begins_out_new}
 use Rattle.interpreter.proofs.island.Island.start.Goals as goal
 
 pub invariant_of-result : goal.invariant_of-result
@@ -48,3 +48,12 @@ leave-requires-clause-places g c =
     let places : length (map place_of c.args.parts.nodes.items) ≡ length c.args.parts.nodes.items = length-map c.args.parts.nodes.items place_of in
     let nodes : length c.start.new.self.nodes ≡ length (map place_of c.args.parts.nodes.items) = c.start.ensures.count ∙ c.assemble-engine.ensures.count ∙ c.args.parts.nodes.ok.0 ∙ sym places in
     ap length c.deref-in-Err-2.ensures.value ∙ ap length c.requires.room.places_are ∙ length-map (map place_of c.args.parts.nodes.items) _ ∙ sym nodes
+
+pub returns-in-Ok-clause-handles : goal.returns-in-Ok-clause-handles
+returns-in-Ok-clause-handles g c = holds_handles g.S.Source.state g.D.Drain.state _ _ _ c.assemble-engine.ensures.firsts c.start.ensures.kept
+
+pub returns-in-Ok-clause-begins_in : goal.returns-in-Ok-clause-begins_in
+returns-in-Ok-clause-begins_in g c = begins_in_new c.assemble-engine.result c.start.new.self c.args.parts.nodes.items c.args.parts.links.items c.assemble-engine.ensures.nodes c.assemble-engine.ensures.firsts c.assemble-engine.ensures.ends c.assemble-engine.ensures.wires c.in-Ok.ensures.on c.in-Ok.ensures.still
+
+pub returns-in-Ok-clause-begins_out : goal.returns-in-Ok-clause-begins_out
+returns-in-Ok-clause-begins_out g c = begins_out_new c.assemble-engine.result c.start.new.self c.args.parts.nodes.items c.args.parts.links.items c.assemble-engine.ensures.nodes c.assemble-engine.ensures.firsts c.assemble-engine.ensures.ends c.assemble-engine.ensures.wires c.in-Ok.ensures.on c.in-Ok.ensures.still c.in-Ok.ensures.gone

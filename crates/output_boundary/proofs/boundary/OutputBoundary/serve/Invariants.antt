@@ -1,5 +1,6 @@
 -- The loop of `boundary::OutputBoundary::serve`.
 use Rattle.std.proofs.Common.{◌≡◌, ◌≤◌, ◌<◌, true, false, length}
+use Rattle.fused_net.specs.Costs.{Uses}
 use Rattle.lane_core.specs.Ends.{sent, seen, finds, IsSameOut}
 use Rattle.interpreter.specs.Boundary.{Leaves, way_out, cell_out}
 use Rattle.output_boundary.specs.Beside.{Beside, out_node, waiting}
@@ -20,6 +21,7 @@ invariant-loop-sent g l =
     × (length (sent l.initial.self.lane) ≤ length (sent l.self.lane))
     × (l.sent ≡ true → length (sent l.initial.self.lane) < length (sent l.self.lane))
     × (l.sent ≡ false → sent l.self.lane ≡ sent l.initial.self.lane)
+    × Uses l.initial.island.net l.island.net 0
 
 -- each turn hands out one of those that wait
 abbrev pub decreases-loop-sent : goal.decreases-loop-sent

@@ -80,6 +80,13 @@ impl InputBoundary {
         })
     }
 
+    /// How many elements its lane was asked for in all.
+    pub fn asked(&self) -> u64
+        ensures { result ≡ asked self.now.lane }
+    {
+        self.lane.asked()
+    }
+
     /// Whether it still hands on what it takes.
     pub fn state(&self) -> State
         ensures { result ≡ state self.now }
@@ -93,6 +100,7 @@ impl InputBoundary {
         ensures lane { IsSameIn self.old.lane self.new.lane × (asked self.new.lane ≡ asked self.old.lane) × (asks self.new.lane ≡ asks self.old.lane) × (has_cancelled self.new.lane ≡ has_cancelled self.old.lane) }
         ensures given { (given self.new ≡ given self.old) × (state self.new ≡ state self.old) }
         ensures took { result ≡ true → (is_over self.old ≡ false) × ((x : Item) × ((taken self.new.lane ≡ taken self.old.lane ++ x ∷ []) × (is_over self.new ≡ ends x))) }
+        ensures still { result ≡ false → waits self.new ≡ waits self.old }
         ensures none { result ≡ false → (taken self.new.lane ≡ taken self.old.lane) × ((is_over self.old ≡ true) ⊎ ((found_sent self.new.lane ≡ length (taken self.new.lane)) × (told_sent self.old.lane ≤ found_sent self.new.lane))) }
     {
         if self.over {

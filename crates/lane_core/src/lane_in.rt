@@ -116,6 +116,13 @@ impl LaneIn {
         self.cancelled = true;
     }
 
+    /// How many elements were asked for in all. It does not look at the lane.
+    pub fn asked(&self) -> u64
+        ensures { result ≡ asked self.now }
+    {
+        self.asked
+    }
+
     /// The size with which the lane was made, in elements.
     pub fn size(&self) -> u32
         ensures { result ≡ in_size self.now }

@@ -15,18 +15,18 @@ use Rattle.lane_core.proofs.Moves.{Homes, new_le, with_got, Pays, later_got, ord
 use Rattle.lane_core.proofs.Words.{St, or_one, words_0, same_1}
 
 -- what the rule says after a step of the input end
-pub got_rule : (size id i n : ℕ) (s : St) (h : IsLane size s) (v w : Sight) (taken hand : List Item) (asked asks cancel : ℕ) (homes : Homes) → get_elem? s.views id ≡ some v → v.gets ≡ true → h.core.asked ≤ asked → h.core.asks ≤ asks → h.core.cancel ≤ cancel → Pays h.core asked asks cancel
+pub got_rule : (size id i n : ℕ) (s : St) (h : IsLane size s) (v w : Sight) (taken hand : List Item) (asked asks cancel : ℕ) (homes : Homes) → get_elem? s.views id ≡ some v → v.gets ≡ true → h.core.asked ≤ asked → h.core.asks ≤ asks → h.core.cancel ≤ cancel → (1 ≤ h.core.cancel → asked ≡ h.core.asked) → Pays h.core asked asks cancel
     → set s.words i n ≡ words_of (asked * 2 + cancel) (length h.core.sent) → length homes ≡ size + 1
     → Sound size (with_got h.core taken hand asked asks cancel) → Stored (size + 1) (with_got h.core taken hand asked asks cancel) homes → Fits (with_got h.core taken hand asked asks cancel) id w
     → IsLane size record { words = set s.words i n; homes = homes; views = set s.views id w }
-got_rule size id i n s h v w taken hand asked asks cancel homes at gets more again once pays words wide sound stored fits = record {
+got_rule size id i n s h v w taken hand asked asks cancel homes at gets more again once frozen pays words wide sound stored fits = record {
   core = with_got h.core taken hand asked asks cancel;
   words = words;
   wide = wide;
   sound = sound;
   stored = stored;
   each = views_after (Fits (with_got h.core taken hand asked asks cancel)) s.views id w fits
-      (λ j u ne e. later_got h.core taken hand asked asks cancel j u more again once pays (λ k. ne (k ∙ sym ((h.each id v at).gets gets).0)) (h.each j u e));
+      (λ j u ne e. later_got h.core taken hand asked asks cancel j u more again once frozen pays (λ k. ne (k ∙ sym ((h.each id v at).gets gets).0)) (h.each j u e));
 }
 
 -- the place that the input end's seat has in hand
@@ -68,11 +68,12 @@ asks size id k me hand bound small live s h wide at lt =
     let count = g.5 in
     let ff = f.finds in
     let ftf = f.told_finds in
+    let ftc = f.told_cancel in
     let ft = f.told_number in (
       w,
       b.0,
       b.1,
-      got_rule size id 0 ((slice_index s.words 0 + 2 * k) % 2 ^ 64) s h v w (c.taken ++ c.hand) [] (c.asked + k) (c.asks + 1) c.cancel (homes_after s.homes me.1 b.0) at hand.0 (omega arith) (omega arith) (omega arith) (λ number mark. let few = new_le number mark (c.asked + k) c.cancel in omega (arith, few))
+      got_rule size id 0 ((slice_index s.words 0 + 2 * k) % 2 ^ 64) s h v w (c.taken ++ c.hand) [] (c.asked + k) (c.asks + 1) c.cancel (homes_after s.homes me.1 b.0) at hand.0 (omega arith) (omega arith) (omega arith) (λ one. absurd (omega (arith, one, can, live))) (λ number mark. let few = new_le number mark (c.asked + k) c.cancel in omega (arith, few))
           (words_0 s.words (c.asked * 2 + c.cancel) (length c.sent) ((slice_index s.words 0 + 2 * k) % 2 ^ 64) h.words ∙ ap (λ (n : ℕ). words_of n (length c.sent)) wd)
           (b.3 ∙ h.wide)
           record {
@@ -95,6 +96,8 @@ asks size id k me hand bound small live s h wide at lt =
             told_cancel = f.told_cancel;
             finds = omega (arith, ff);
             told_finds = omega (arith, ftf);
+            closed = λ e. absurd (omega (arith, e, live));
+            told_closed = λ e. absurd (omega (arith, e, ftc, can, live));
             sends = λ e. absurd (true≢false (sym e ∙ hand.1));
             gets = λ _. (g.0, g.1 ∙ sym (append-nil (c.taken ++ c.hand)), refl, omega (arith, num, half), can, omega (arith, count));
           },
@@ -124,7 +127,7 @@ cancels size id me gets sends small live s h wide at lt =
       w,
       keeps,
       tt,
-      got_rule size id 0 (bit_or (slice_index s.words 0) 1) s h v w c.taken c.hand c.asked c.asks 1 s.homes at gets (omega arith) (omega arith) (omega (arith, no)) (λ number mark. let few = new_le number mark c.asked 1 in omega (arith, few, no))
+      got_rule size id 0 (bit_or (slice_index s.words 0) 1) s h v w c.taken c.hand c.asked c.asks 1 s.homes at gets (omega arith) (omega arith) (omega (arith, no)) (λ one. refl) (λ number mark. let few = new_le number mark c.asked 1 in omega (arith, few, no))
           (words_0 s.words (c.asked * 2 + c.cancel) (length c.sent) (bit_or (slice_index s.words 0) 1) h.words ∙ ap (λ (n : ℕ). words_of n (length c.sent)) wd)
           h.wide
           record { order = r.order; hand_one = r.hand_one; held_one = r.held_one; cancel_one = omega arith; open_end = r.open_end; used = r.used; bound = r.bound }
@@ -139,6 +142,8 @@ cancels size id me gets sends small live s h wide at lt =
             told_cancel = omega (arith, fc, no);
             finds = omega (arith, ff, no);
             told_finds = omega (arith, ftf, no);
+            closed = λ _. g.3;
+            told_closed = f.told_closed;
             sends = λ e. absurd (true≢false (sym e ∙ sends));
             gets = λ _. (g.0, g.1, g.2, g.3, refl, g.5);
           },
@@ -175,7 +180,7 @@ fetches size id me hand s h wide at lt = found (dec_lt (length (h.core.taken ++ 
           w,
           chain b.0 (takes (length v.items % (size + 1)) (Some x)),
           (b.1, subst (λ k. get_elem? (homes_after s.homes me.1 b.0) k ≡ some (some (Some x))) k_is l.1),
-          got_rule size id 16 r s h v w (c.taken ++ c.hand) (x ∷ []) c.asked c.asks c.cancel (set (homes_after s.homes me.1 b.0) (length v.items % (size + 1)) none) at hand.0 (omega arith) (omega arith) (omega arith) (λ _ _. omega arith)
+          got_rule size id 16 r s h v w (c.taken ++ c.hand) (x ∷ []) c.asked c.asks c.cancel (set (homes_after s.homes me.1 b.0) (length v.items % (size + 1)) none) at hand.0 (omega arith) (omega arith) (omega arith) (λ one. refl) (λ _ _. omega arith)
               (same_1 size s h ∙ h.words)
               (length-set (homes_after s.homes me.1 b.0) (length v.items % (size + 1)) none ∙ b.3 ∙ h.wide)
               l.2
@@ -190,6 +195,8 @@ fetches size id me hand s h wide at lt = found (dec_lt (length (h.core.taken ++ 
                 told_cancel = f.told_cancel;
                 finds = f.finds;
                 told_finds = f.told_finds;
+                closed = f.closed;
+                told_closed = f.told_closed;
                 sends = λ e. absurd (true≢false (sym e ∙ hand.1));
                 gets = λ _. (g.0, same, refl, g.3, g.4, g.5);
               },
@@ -210,7 +217,7 @@ fetches size id me hand s h wide at lt = found (dec_lt (length (h.core.taken ++ 
           w,
           b.0,
           b.1,
-          got_rule size id 16 r s h v w (c.taken ++ c.hand) [] c.asked c.asks c.cancel (homes_after s.homes me.1 b.0) at hand.0 (omega arith) (omega arith) (omega arith) (λ _ _. omega arith)
+          got_rule size id 16 r s h v w (c.taken ++ c.hand) [] c.asked c.asks c.cancel (homes_after s.homes me.1 b.0) at hand.0 (omega arith) (omega arith) (omega arith) (λ one. refl) (λ _ _. omega arith)
               (same_1 size s h ∙ h.words)
               (b.3 ∙ h.wide)
               sb
@@ -225,6 +232,8 @@ fetches size id me hand s h wide at lt = found (dec_lt (length (h.core.taken ++ 
                 told_cancel = f.told_cancel;
                 finds = f.finds;
                 told_finds = f.told_finds;
+                closed = f.closed;
+                told_closed = f.told_closed;
                 sends = λ e. absurd (true≢false (sym e ∙ hand.1));
                 gets = λ _. (g.0, g.1 ∙ sym (append-nil (c.taken ++ c.hand)), refl, g.3, g.4, g.5);
               },

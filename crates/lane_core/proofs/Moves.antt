@@ -49,6 +49,8 @@ later_sent c xs h j u ne f = record {
   told_cancel = f.told_cancel;
   finds = f.finds;
   told_finds = f.told_finds;
+  closed = f.closed;
+  told_closed = f.told_closed;
   sends = λ e. absurd (ne (f.sends e).0);
   gets = f.gets;
 }
@@ -57,8 +59,8 @@ later_sent c xs h j u ne f = record {
 abbrev pub Pays : Core → ℕ → ℕ → ℕ → Type 0
 Pays c asked asks cancel = (number mark : ℕ) → is_new number mark asked cancel + (c.asks + c.cancel) ≤ is_new number mark c.asked c.cancel + (asks + cancel)
 
-pub later_got : (c : Core) (taken hand : List Item) (asked asks cancel j : ℕ) (u : Sight) → c.asked ≤ asked → c.asks ≤ asks → c.cancel ≤ cancel → Pays c asked asks cancel → j ≢ c.receiver → Fits c j u → Fits (with_got c taken hand asked asks cancel) j u
-later_got c taken hand asked asks cancel j u more again once pays ne f = record {
+pub later_got : (c : Core) (taken hand : List Item) (asked asks cancel j : ℕ) (u : Sight) → c.asked ≤ asked → c.asks ≤ asks → c.cancel ≤ cancel → (1 ≤ c.cancel → asked ≡ c.asked) → Pays c asked asks cancel → j ≢ c.receiver → Fits c j u → Fits (with_got c taken hand asked asks cancel) j u
+later_got c taken hand asked asks cancel j u more again once frozen pays ne f = record {
   items = f.items;
   number = let k = f.number in omega (arith, k);
   cancel = let k = f.cancel in omega (arith, k);
@@ -68,6 +70,8 @@ later_got c taken hand asked asks cancel j u more again once pays ne f = record 
   told_cancel = let k = f.told_cancel in omega (arith, k);
   finds = let k = f.finds in omega (arith, k);
   told_finds = let k = f.told_finds in omega (arith, k);
+  closed = λ e. let k = f.cancel in f.closed e ∙ sym (frozen (omega (arith, e, k)));
+  told_closed = λ e. let k = f.told_cancel in f.told_closed e ∙ sym (frozen (omega (arith, e, k)));
   sends = λ e. let g = f.sends e in let k = g.3 in let p = pays u.number u.cancel in (g.0, g.1, g.2, omega (arith, k, p));
   gets = λ e. absurd (ne (f.gets e).0);
 }

@@ -45,6 +45,8 @@ opens size = record {
       told_cancel = omega arith;
       finds = omega arith;
       told_finds = omega arith;
+      closed = λ k. absurd (omega (arith, k));
+      told_closed = λ k. absurd (omega (arith, k));
       sends = λ _. (refl, refl, refl, omega arith);
       gets = λ _. (refl, refl, refl, refl, refl, refl);
     }
@@ -62,7 +64,7 @@ compares size id me s h wide at lt =
       (
         refl,
         λ e. subst (λ (l : List Item). IsPrefix v.told l) (sym (f.sends e).1) f.told,
-        λ e. let g = f.gets e in let gn = g.3 in let gc = g.4 in let ga = g.5 in let tn = f.told_number in let tc = f.told_cancel in let tf = f.told_finds in (omega (arith, gn, tn), omega (arith, gc, tc), omega (arith, gc, ga, tf)),
+        λ e. let g = f.gets e in let gn = g.3 in let gc = g.4 in let ga = g.5 in let tn = f.told_number in let tc = f.told_cancel in let tf = f.told_finds in (omega (arith, gn, tn), omega (arith, gc, tc), omega (arith, gc, ga, tf), λ k. f.told_closed k ∙ sym gn),
       ),
     )
 
@@ -86,6 +88,8 @@ notes size id v s h at = viewed size s h (set s.views id v ++ note v ∷ []) (λ
           told_cancel = omega arith;
           finds = f.finds;
           told_finds = omega arith;
+          closed = f.closed;
+          told_closed = λ k. absurd (omega (arith, k));
           sends = λ e. absurd (true≢false (sym e));
           gets = λ e. absurd (true≢false (sym e));
         }
@@ -108,6 +112,8 @@ joins size id v other w s h at ne there =
       told_cancel = t.cancel;
       finds = f.finds;
       told_finds = t.finds;
+      closed = f.closed;
+      told_closed = t.closed;
       sends = f.sends;
       gets = f.gets;
     }
@@ -124,6 +130,8 @@ joins size id v other w s h at ne there =
       told_cancel = omega arith;
       finds = omega arith;
       told_finds = omega arith;
+      closed = λ k. absurd (omega (arith, k));
+      told_closed = λ k. absurd (omega (arith, k));
       sends = λ e. absurd (true≢false (sym e));
       gets = λ e. absurd (true≢false (sym e));
     }
@@ -152,6 +160,8 @@ parts size id v sends gets s h at = record {
           told_cancel = f.told_cancel;
           finds = f.finds;
           told_finds = f.told_finds;
+          closed = f.closed;
+          told_closed = f.told_closed;
           sends = λ _. (here, m.1, m.2, m.3);
           gets = λ e. absurd (true≢false (sym e));
         }
@@ -168,6 +178,8 @@ parts size id v sends gets s h at = record {
           told_cancel = f.told_cancel;
           finds = f.finds;
           told_finds = f.told_finds;
+          closed = f.closed;
+          told_closed = f.told_closed;
           sends = λ e. absurd (true≢false (sym e));
           gets = f.gets;
         })
@@ -181,6 +193,8 @@ parts size id v sends gets s h at = record {
           told_cancel = f.told_cancel;
           finds = f.finds;
           told_finds = f.told_finds;
+          closed = f.closed;
+          told_closed = f.told_closed;
           sends = λ y. absurd (ne ((f.sends y).0 ∙ sym ((h.each id v at).sends sends).0));
           gets = f.gets;
         })

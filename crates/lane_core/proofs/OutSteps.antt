@@ -47,6 +47,8 @@ sees size id me sends gets s h wide at lt =
         told_cancel = f.told_cancel;
         finds = omega (arith, news, paid);
         told_finds = f.told_finds;
+        closed = λ _. half;
+        told_closed = f.told_closed;
         sends = λ _. (mine.0, mine.1, mine.2, omega (arith, news, none_left, paid));
         gets = λ e. absurd (true≢false (sym e ∙ gets));
       },
@@ -94,6 +96,8 @@ sits size id me sends gets empty no_slots no_hand s h wide at lt =
               told_cancel = f.told_cancel;
               finds = f.finds;
               told_finds = f.told_finds;
+              closed = f.closed;
+              told_closed = f.told_closed;
               sends = λ _. (mine.0, mine.1, refl, mine.3);
               gets = λ e. absurd (true≢false (sym e ∙ gets));
             }
@@ -113,6 +117,8 @@ sits size id me sends gets empty no_slots no_hand s h wide at lt =
       told_cancel = f.told_cancel;
       finds = f.finds;
       told_finds = f.told_finds;
+      closed = f.closed;
+      told_closed = f.told_closed;
       sends = λ e. absurd (ne (f.sends e).0);
       gets = f.gets;
     }
@@ -149,6 +155,8 @@ sent_rule size id s h v x homes at sends gets wide small sound stored =
             told_cancel = f.told_cancel;
             finds = f.finds;
             told_finds = f.told_finds;
+            closed = f.closed;
+            told_closed = f.told_closed;
             sends = λ _. (mine.0, same, refl, mine.3);
             gets = λ e. absurd (true≢false (sym e ∙ gets));
           }

@@ -103,6 +103,7 @@ EndIsLast l = (elements (take (elements l) l) ≡ elements l) × (length l ≤ e
 -- What holds of the lists and numbers of the two ends of one lane: what was taken is a beginning of what was sent, an end is the last
 -- that was sent; no more elements were sent than the output end saw asked for, none seen that was not asked, and none asked beyond
 -- what was taken and the size. Each find is paid by an ask or by the cancel.
+-- An output end that saw the cancel saw all asks, since none comes behind it.
 pub record IsLaneHistory (o : LaneOut) (i : LaneIn) : Type 0 where
   pub prefix : IsPrefix (taken i) (sent o)
   pub last : EndIsLast (sent o)
@@ -111,6 +112,7 @@ pub record IsLaneHistory (o : LaneOut) (i : LaneIn) : Type 0 where
   pub bound : asked i ≤ elements (taken i) + in_size i
   pub cancel : saw_cancel o ≤ has_cancelled i
   pub finds : finds o ≤ asks i + has_cancelled i
+  pub closed : saw_cancel o ≡ 1 → seen o ≡ asked i
   pub sizes : out_size o ≡ in_size i
 
 -- what one end did that the other has not seen

@@ -76,6 +76,8 @@ pub record Fits (c : Core) (j : ℕ) (v : Sight) : Type 0 where
   pub told_cancel : v.told_cancel ≤ c.cancel
   pub finds : v.finds ≤ c.asks + c.cancel
   pub told_finds : v.told_finds ≤ c.asks + c.cancel
+  pub closed : v.cancel ≡ 1 → v.number ≡ c.asked
+  pub told_closed : v.told_cancel ≡ 1 → v.told_number ≡ c.asked
   pub sends : v.sends ≡ true → (j ≡ c.sender) × (v.items ≡ c.sent) × (v.slots ≡ c.held) × (v.finds + is_new v.number v.cancel c.asked c.cancel ≤ c.asks + c.cancel)
   pub gets : v.gets ≡ true → (j ≡ c.receiver) × (v.items ≡ c.taken ++ c.hand) × (v.slots ≡ length c.hand) × (v.number ≡ c.asked) × (v.cancel ≡ c.cancel) × (v.asks ≡ c.asks)
 
@@ -167,7 +169,7 @@ abbrev pub compared : TableStep → SeatView → ℕ → SeatView → Type 0
 compared st m r n =
     (n ≡ m)
     × (m.0.sends ≡ true → IsPrefix m.0.told m.0.items)
-    × (m.0.gets ≡ true → (m.0.told_number ≤ m.0.number) × (m.0.told_cancel ≤ m.0.cancel) × (m.0.told_finds ≤ m.0.asks + m.0.cancel))
+    × (m.0.gets ≡ true → (m.0.told_number ≤ m.0.number) × (m.0.told_cancel ≤ m.0.cancel) × (m.0.told_finds ≤ m.0.asks + m.0.cancel) × (m.0.told_cancel ≡ 1 → m.0.told_number ≡ m.0.number))
 
 -- the seat after an item was sent
 abbrev pub HasSent : ℕ → SeatView → Item → SeatView → Type 0

@@ -68,7 +68,7 @@ impl LaneIn {
         requires { (told.table_id ≡ in_lane self.old) × (told.me.1 ≡ []) }
         ensures same { IsSameIn self.old self.new × (self.new.taken ≡ self.old.taken) × (self.new.asked ≡ self.old.asked) × (self.new.cancelled ≡ self.old.cancelled) }
         ensures seat { self.new.seat.me ≡ (informed self.old.seat.me.0 told.me.0, self.old.seat.me.1) }
-        ensures told { (told.me.0.number ≤ asked self.new) × (told.me.0.cancel ≤ has_cancelled self.new) × (told.me.0.finds ≤ asks self.new + has_cancelled self.new) }
+        ensures told { (told.me.0.number ≤ asked self.new) × (told.me.0.cancel ≤ has_cancelled self.new) × (told.me.0.finds ≤ asks self.new + has_cancelled self.new) × (told.me.0.cancel ≡ 1 → told.me.0.number ≡ asked self.new) }
     {
         let shared = &self.table.shared;
         shared.join_seat::<Note>(&mut self.seat, told);

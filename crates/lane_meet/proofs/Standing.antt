@@ -21,6 +21,7 @@ history_stands o p i j ko ki h =
       seen_asked = let a = h.seen_asked in let s = ko.seen in let t = ki.asked in omega (arith, a, s, t);
       bound = let b = h.bound in let t = ki.asked in let n = ki.same.1 in omega (arith, b, t, n, takes);
       cancel = let c = h.cancel in let s = ko.cancel in let t = ki.cancel in omega (arith, c, s, t);
+      closed = λ e. ko.seen ∙ h.closed (sym ko.cancel ∙ e) ∙ sym ki.asked;
       finds = let f = h.finds in let s = ko.finds in let t = ki.asks in let c = ki.cancel in omega (arith, f, s, t, c);
       sizes = ko.same.1 ∙ (h.sizes ∙ sym ki.same.1);
     }

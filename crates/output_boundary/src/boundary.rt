@@ -161,6 +161,7 @@ impl OutputBoundary {
         ensures served { IsServed self.new.lane island.new self.new.wire }
         ensures wire { (self.new.wire ≡ self.old.wire) × IsSameOut self.old.lane self.new.lane × (sent self.new.lane ≡ sent self.old.lane) × (seen self.old.lane ≤ seen self.new.lane) }
         ensures found { VisitIs result (seen self.old.lane) (saw_cancel self.old.lane) (seen self.new.lane) (saw_cancel self.new.lane) }
+        ensures nothing { result ≡ found.Nothing → island.new ≡ island.old }
         ensures told { saw_cancel self.old.lane ≡ 0 → (told_asked self.old.lane ≤ seen self.new.lane) × (told_cancel self.old.lane ≤ saw_cancel self.new.lane) }
         ensures finds { finds self.new.lane ≡ finds self.old.lane + unit_of result }
         ensures uses { Uses island.old.net island.new.net 0 }

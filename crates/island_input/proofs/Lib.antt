@@ -1,0 +1,3 @@
+pub mod Wires
+pub mod Stage
+pub mod Feeding

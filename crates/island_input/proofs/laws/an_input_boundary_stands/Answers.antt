@@ -1,0 +1,18 @@
+-- The law of an input boundary at its stage, from its lemmas.
+use Rattle.island_input.proofs.Feeding.{feeds_looked, feeds_beside, fed_beside, feeds_ran, fed_ran}
+use Rattle.island_input.proofs.laws.an_input_boundary_stands.Goals as goal
+
+pub returns-clause-looked : goal.returns-clause-looked
+returns-clause-looked g k b c i u given state f = feeds_looked b i u c given state f
+
+pub returns-clause-beside : goal.returns-clause-beside
+returns-clause-beside g k b q n old new u s apart f = feeds_beside b q n old new u s apart f
+
+pub returns-clause-fed : goal.returns-clause-fed
+returns-clause-fed g k b q n old new u s apart f = fed_beside b q n old new u s apart f
+
+pub returns-clause-ran : goal.returns-clause-ran
+returns-clause-ran g k b old new u before after l on ins still f = feeds_ran g.S.Source.state g.D.Drain.state b old new u before l ins still after on f
+
+pub returns-clause-untouched : goal.returns-clause-untouched
+returns-clause-untouched g k b old new u before l ins still at un other f = fed_ran g.S.Source.state g.D.Drain.state b old new u before l ins still at un other f

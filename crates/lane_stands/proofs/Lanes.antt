@@ -1,14 +1,13 @@
 -- What an account wants of a lane, from what its two ends keep at their stages.
-use Rattle.std.specs.Prelude.{slice_get, IsTrue}
-use Rattle.std.proofs.Common.{◌≡◌, ◌⊎◌, inl, inr, ◌↔◌, ℕ, zero, suc, ◌+◌, ◌<◌, ◌≤◌, Bool, true, false, List, [], ◌∷◌, ◌++◌, length, refl, sym, ap, ◌∙◌, subst, arith, append-nil}
+use Rattle.std.specs.Prelude.{◌↔◌, slice_get, IsTrue}
+use Rattle.std.proofs.Common.{◌≡◌, ◌⊎◌, inl, inr, ℕ, zero, suc, ◌+◌, ◌<◌, ◌≤◌, Bool, true, false, List, [], ◌∷◌, ◌++◌, length, refl, sym, ap, ◌∙◌, subst, arith, append-nil}
 use Rattle.elem_core.specs.Prefix.{IsPrefix}
 use Rattle.elem_core.proofs.Prefixes.{prefix_whole}
 use Rattle.elem_core.specs.declared.item.Item.{Item}
 use Rattle.elem_core.specs.declared.item.Item.TheVariants as item
 use Rattle.stream_io.specs.State.{SourceState, DrainState}
 use Rattle.port_core.specs.Ring.{holds}
-use Rattle.port_core.specs.Joint.{Joint, idle, asking, asked as asked_joint, moving, ending, closing, leaving, finished, parted, refused, wire_of, IsSound, Histories, Queues}
-use Rattle.port_core.specs.Wire.{Wire}
+use Rattle.port_core.specs.Joint.{IsSound}
 use Rattle.port_core.specs.declared.view.InView.{InView}
 use Rattle.port_core.specs.declared.view.InView.TheVariants.{Idle}
 use Rattle.port_core.specs.declared.view.OutView.{OutView}
@@ -40,7 +39,7 @@ use Rattle.lane_account.specs.Ends.{out_end, in_end}
 use Rattle.lane_account.proofs.Meeting.{are_met, boundary_keeps}
 use Rattle.run_account.specs.Ends.{OutKeeps, InKeeps, LaneKeeps}
 use Rattle.run_account.specs.Quiet.{OutQuiet, InQuiet, MetQuiet, LaneQuiet}
-use Rattle.lane_stands.proofs.Leaving.{Took, took_there, there}
+use Rattle.lane_stands.proofs.Leaving.{Took, took_there, there, idle_rest}
 
 -- both count elements alike
 counts_same : (l : List Item) → lane.elements l ≡ elements l
@@ -48,25 +47,6 @@ counts_same [] = refl
 counts_same (item.Elem e ∷ l) = let r = counts_same l in omega (arith, r)
 counts_same (item.Ended ∷ l) = let r = counts_same l in omega (arith, r)
 counts_same (item.Failed c ∷ l) = let r = counts_same l in omega (arith, r)
-
--- an idle input of a wire without an event is open at both ends, and has got all that was sent
-idle_j : (j : Joint) (s g : List Item) → (wire_of j s g).inp ≡ Idle → Queues j false → Histories j s g → ((wire_of j s g).conn.out_closed ≡ false) × (s ≡ g)
-idle_j idle s g e q h = (refl, h)
-idle_j asking s g e q h = absurd cc
-idle_j asked_joint s g e q h = absurd cc
-idle_j (moving x) s g e q h = absurd cc
-idle_j (ending c) s g e q h = absurd cc
-idle_j (closing t c) s g e q h = absurd cc
-idle_j (leaving true t) s g e q h = absurd cc
-idle_j (leaving false t) s g e q h = absurd cc
-idle_j (finished t c) s g e q h = absurd cc
-idle_j (parted t c) s g e q h = absurd cc
-idle_j (refused t c) s g e q h = absurd cc
-
-idle_rest : (w : Wire) → IsSound w false → w.inp ≡ Idle → (w.conn.out_closed ≡ false) × (w.sent ≡ w.got)
-idle_rest w s e =
-    let both = idle_j s.joint w.sent w.got (sym (ap (λ (v : Wire). v.inp) s.is) ∙ e) s.queues s.histories in
-    (ap (λ (v : Wire). v.conn.out_closed) s.is ∙ both.0, both.1)
 
 -- no wire is queued where no event is left
 sound_rest : {S D : Type 0} {sources : S → SourceState} {drains : D → DrainState} (net : Net (Node S D)) → Settled node_row (node_law sources drains) node_asking node_moves net → net.queue ≡ [] → (q : ℕ) → q < length net.wires → IsSound (wire_at net q).wire false

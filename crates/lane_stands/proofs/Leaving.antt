@@ -1,15 +1,17 @@
 -- The stage at which a lane goes out: what its law tells of the connection before it.
 use Rattle.std.specs.Prelude.{slice_get}
-use Rattle.std.proofs.Common.{◌≡◌, ℕ, zero, suc, ◌<◌, List, [], ◌∷◌, ◌++◌, Some, length, get_or, refl, sym, ap, ◌∙◌, subst}
+use Rattle.std.proofs.Common.{◌≡◌, ℕ, zero, suc, ◌<◌, Bool, true, false, List, [], ◌∷◌, ◌++◌, Some, length, get_or, refl, sym, ap, ◌∙◌, subst}
 use Rattle.elem_core.specs.Tree.{Tree}
 use Rattle.elem_core.specs.declared.item.Item.{Item}
 use Rattle.stream_io.specs.State.{SourceState, DrainState}
 use Rattle.stream_model.specs.Outlook.{End}
 use Rattle.stage_law.specs.Held.{told}
 use Rattle.stage_law.specs.Law.{TookAs}
+use Rattle.port_core.specs.Joint.{Joint, idle, asking, asked, moving, ending, closing, leaving, finished, parted, refused, wire_of, IsSound, Histories, Queues}
+use Rattle.port_core.specs.Wire.{Wire}
 use Rattle.port_core.specs.View.{View, in_at}
 use Rattle.port_core.specs.declared.view.InView.{InView}
-use Rattle.port_core.specs.declared.view.InView.TheVariants.{Left}
+use Rattle.port_core.specs.declared.view.InView.TheVariants.{Idle, Left}
 use Rattle.wire_core.specs.Cell.{Cell}
 use Rattle.wire_core.specs.Reading.{no_wire, inp_of, got_of}
 use Rattle.nodes.specs.declared.node.Node.{Node}
@@ -19,6 +21,29 @@ use Rattle.fused_net.specs.Net.{Net, read_all, end_at, wire_at, ports_at, view_o
 use Rattle.fused_net.specs.Laws.{Settled}
 use Rattle.fused_net.proofs.Reading.{get_there, read_at, some_same}
 use Rattle.boundary_calls.specs.Boundary.{IsLeaving, LeavesAt}
+
+-- ---- one wire
+
+-- an idle input of a wire without an event is open at both ends, and has got all that was sent
+idle_j : (j : Joint) (s g : List Item) → (wire_of j s g).inp ≡ Idle → Queues j false → Histories j s g → ((wire_of j s g).conn.out_closed ≡ false) × (s ≡ g)
+idle_j idle s g e q h = (refl, h)
+idle_j asking s g e q h = absurd cc
+idle_j asked s g e q h = absurd cc
+idle_j (moving x) s g e q h = absurd cc
+idle_j (ending c) s g e q h = absurd cc
+idle_j (closing t c) s g e q h = absurd cc
+idle_j (leaving true t) s g e q h = absurd cc
+idle_j (leaving false t) s g e q h = absurd cc
+idle_j (finished t c) s g e q h = absurd cc
+idle_j (parted t c) s g e q h = absurd cc
+idle_j (refused t c) s g e q h = absurd cc
+
+pub idle_rest : (w : Wire) → IsSound w false → w.inp ≡ Idle → (w.conn.out_closed ≡ false) × (w.sent ≡ w.got)
+idle_rest w s e =
+    let both = idle_j s.joint w.sent w.got (sym (ap (λ (v : Wire). v.inp) s.is) ∙ e) s.queues s.histories in
+    (ap (λ (v : Wire). v.conn.out_closed) s.is ∙ both.0, both.1)
+
+-- ---- the stage
 
 -- What came at the one input of the stage, and what it knows of it: what left there or was dropped, and then what waits.
 pub record Took (gone waits got : List Item) (y : InView) : Type 0 where

@@ -5,6 +5,7 @@ use Rattle.elem_core.specs.declared.item.Item.{Item}
 use Rattle.elem_core.specs.declared.item.Item.TheVariants as item
 use Rattle.elem_core.specs.declared.why.Cause.{Cause}
 use Rattle.stream_io.specs.State.{SourceState, DrainState}
+use Rattle.stream_model.specs.Outlook.{unended}
 use Rattle.stage_law.specs.Held.{told}
 use Rattle.port_core.specs.Decoding.{can_push}
 use Rattle.port_core.specs.declared.act.Act.{Act}
@@ -34,7 +35,7 @@ use Rattle.interpreter.specs.Boundary.{way_in, cell_in, Enters, with_net}
 use Rattle.output_boundary.specs.Beside.{Beside, in_node}
 use Rattle.output_boundary.proofs.Beside.{beside_same, beside_trans, beside_moved, enters_beside, way_in_beside, in_node_beside}
 use Rattle.island_input.specs.Feeding.{act_of, Feeds, HasGiven, IsFed}
-use Rattle.island_input.proofs.Wires.{push_asked, cancel_away, was_refused, refused_closed, shut_stays, open_stays}
+use Rattle.island_input.proofs.Wires.{push_asked, cancel_away, was_refused, refused_closed, one_end, unended_open, shut_stays, open_stays}
 use Rattle.island_input.proofs.Stage.{Gave, gave_there, passive_there, few_there}
 
 -- ---- what was wanted
@@ -190,6 +191,18 @@ module _ {S D : Type 0} (b : InputBoundary) (i : Kept S D) (u : ℕ) where
     closed = λ e. f.closed (sym s ∙ e);
     cancelled = λ e. f.cancelled (sym s ∙ e);
   }
+
+-- where nothing was pushed yet, the stage has closed nothing
+pub feeds_begun : {S D : Type 0} (sources : S → SourceState) (drains : D → DrainState) (b : InputBoundary) (i : Kept S D) (u : ℕ) → Settled node_row (node_law sources drains) node_asking node_moves i.net → Enters i u → (cell_in i u).wire.sent ≡ [] → given b ≡ [] → state b ≡ Flowing → Feeds b i u
+feeds_begun sources drains b i u s l none nothing flows =
+    let g = gave_there sources drains i.net s (way_in i u) l.place l.stage in
+    let open_end : g.end ≡ unended = one_end g.list [] g.end unended (sym g.is ∙ none) in
+    record {
+      given_is = none ∙ sym nothing;
+      flowing = λ e. unended_open (cell_in i u).wire.out g.end g.known open_end;
+      closed = λ e. absurd cc;
+      cancelled = λ e. absurd cc;
+    }
 
 -- as many asks, as much asked
 pub asked_by_calls : (b c : InputBoundary) → BoundaryKeeps b → BoundaryKeeps c → in_size c.lane ≡ in_size b.lane → asks c.lane ≡ asks b.lane → asked c.lane ≡ asked b.lane

@@ -1,21 +1,25 @@
 // Laws of an input boundary at its stage: the function has no body, and its contract is the law.
-ghost use Rattle.std.specs.Prelude.{◌≡◌, ◌≢◌, ℕ, Option};
+ghost use Rattle.std.specs.Prelude.{◌≡◌, ◌≢◌, ℕ, Option, []};
 ghost use Rattle.nodes.specs.Nodes.{node_row, node_law, node_asking, node_moves, node_passive};
 ghost use Rattle.fused_net.specs.Laws.{Settled, GoesOn};
 ghost use Rattle.fused_net.specs.Outside.{StandsStill, Untouched, IsElse};
 ghost use Rattle.input_boundary.specs.declared.boundary.InputBoundary.{InputBoundary};
+ghost use Rattle.input_boundary.specs.declared.state.State.TheVariants.{Flowing};
 ghost use Rattle.input_boundary.specs.Boundary.{given, state};
 ghost use Rattle.interpreter.specs.Island.{Kept};
-ghost use Rattle.interpreter.specs.Boundary.{Enters, way_in};
+ghost use Rattle.interpreter.specs.Boundary.{Enters, way_in, cell_in};
 ghost use Rattle.output_boundary.specs.Beside.{Beside};
 ghost use Rattle.island_input.specs.Feeding.{Feeds, IsFed};
 
 use stream_io::outside::{Drain, Source};
 
-/// What an input boundary keeps at its stage stands while items come off its lane (`looked`), while another end of a lane acts
-/// (`beside`) and while its island runs (`ran`). One that has nothing to do has nothing to do after the other acted (`fed`), nor
-/// after the island ran to where it heard of nothing (`untouched`).
+/// What an input boundary keeps at its stage holds where nothing was pushed yet (`begins`). It stands while items come
+/// off its lane (`looked`), while another end of a lane acts (`beside`), which leaves the stage where it is (`enters`), and while
+/// its island runs (`ran`). One that has nothing to do has nothing to do after the other acted (`fed`), nor after the island
+/// ran to where it heard of nothing (`untouched`).
 pub fn an_input_boundary_stands<S: Source, D: Drain>()
+    ensures begins { (b : InputBoundary) (i : Kept S D) (u : ℕ) → Settled node_row (node_law S.state D.state) node_asking node_moves i.net → Enters i u → (cell_in i u).wire.sent ≡ [] → given b ≡ [] → state b ≡ Flowing → Feeds b i u }
+    ensures enters { (q n : ℕ) (old new : Kept S D) (u : ℕ) → Beside q n old new → Enters old u → Enters new u }
     ensures looked { (b c : InputBoundary) (i : Kept S D) (u : ℕ) → given c ≡ given b → state c ≡ state b → Feeds b i u → Feeds c i u }
     ensures beside { (b : InputBoundary) (q n : ℕ) (old new : Kept S D) (u : ℕ) → Beside q n old new → way_in old u ≢ q → Feeds b old u → Feeds b new u }
     ensures fed { (b : InputBoundary) (q n : ℕ) (old new : Kept S D) (u : ℕ) → Beside q n old new → way_in old u ≢ q → IsFed b old u → IsFed b new u }

@@ -1,6 +1,13 @@
 -- The law of an input boundary at its stage, from its lemmas.
-use Rattle.island_input.proofs.Feeding.{feeds_looked, feeds_beside, fed_beside, feeds_ran, fed_ran}
+use Rattle.output_boundary.proofs.Beside.{enters_beside}
+use Rattle.island_input.proofs.Feeding.{feeds_begun, feeds_looked, feeds_beside, fed_beside, feeds_ran, fed_ran}
 use Rattle.island_input.proofs.laws.an_input_boundary_stands.Goals as goal
+
+pub returns-clause-begins : goal.returns-clause-begins
+returns-clause-begins g k b i u settled l none nothing flows = feeds_begun g.S.Source.state g.D.Drain.state b i u settled l none nothing flows
+
+pub returns-clause-enters : goal.returns-clause-enters
+returns-clause-enters g k q n old new u s l = enters_beside q n old new u s l
 
 pub returns-clause-looked : goal.returns-clause-looked
 returns-clause-looked g k b c i u given state f = feeds_looked b i u c given state f

@@ -1,7 +1,6 @@
 -- What an account wants of a lane, from what its two ends keep at their stages.
-use Rattle.std.specs.Prelude.{◌↔◌, slice_get, IsTrue}
-use Rattle.std.proofs.Common.{◌≡◌, ◌⊎◌, inl, inr, ℕ, zero, suc, ◌+◌, ◌<◌, ◌≤◌, Bool, true, false, List, [], ◌∷◌, ◌++◌, length, refl, sym, ap, ◌∙◌, subst, arith, append-nil}
-use Rattle.elem_core.specs.Prefix.{IsPrefix}
+use Rattle.std.specs.Prelude.{◌↔◌, IsTrue}
+use Rattle.std.proofs.Common.{◌≡◌, inl, inr, ℕ, zero, suc, ◌<◌, ◌≤◌, Bool, true, false, List, [], ◌∷◌, ◌++◌, length, refl, sym, ap, ◌∙◌, subst, arith, append-nil}
 use Rattle.elem_core.proofs.Prefixes.{prefix_whole}
 use Rattle.elem_core.specs.declared.item.Item.{Item}
 use Rattle.elem_core.specs.declared.item.Item.TheVariants as item
@@ -10,8 +9,7 @@ use Rattle.port_core.specs.Ring.{holds}
 use Rattle.port_core.specs.Joint.{IsSound}
 use Rattle.port_core.specs.declared.view.InView.{InView}
 use Rattle.port_core.specs.declared.view.InView.TheVariants.{Idle}
-use Rattle.port_core.specs.declared.view.OutView.{OutView}
-use Rattle.port_core.specs.declared.view.OutView.TheVariants.{Asked, Shut, Refused}
+use Rattle.port_core.specs.declared.view.OutView.TheVariants.{Asked, Refused}
 use Rattle.stage_law.specs.Row.{InClosed}
 use Rattle.wire_core.specs.Counts.{elements}
 use Rattle.nodes.specs.declared.node.Node.{Node}
@@ -29,17 +27,16 @@ use Rattle.input_boundary.specs.Boundary.{given, state, BoundaryKeeps}
 use Rattle.input_boundary.specs.Flow.{cancelled_by}
 use Rattle.interpreter.specs.Island.{Kept}
 use Rattle.interpreter.specs.Boundary.{Enters, Leaves, way_in, way_out, cell_in, cell_out}
-use Rattle.output_boundary.specs.Beside.{out_node, waiting, waits_of}
-use Rattle.output_boundary.specs.Sending.{Sends}
+use Rattle.output_boundary.specs.Beside.{waits_of}
 use Rattle.output_boundary.specs.Serving.{Serves, IsServed}
 use Rattle.island_input.specs.Feeding.{Feeds, IsFed}
 use Rattle.island_input.proofs.Wires.{rest_open}
-use Rattle.island_input.proofs.Stage.{Gave, gave_there}
+use Rattle.island_input.proofs.Stage.{gave_there}
 use Rattle.lane_account.specs.Ends.{out_end, in_end}
 use Rattle.lane_account.proofs.Meeting.{are_met, boundary_keeps}
 use Rattle.run_account.specs.Ends.{OutKeeps, InKeeps, LaneKeeps}
 use Rattle.run_account.specs.Quiet.{OutQuiet, InQuiet, MetQuiet, LaneQuiet}
-use Rattle.lane_stands.proofs.Leaving.{Took, took_there, there, idle_rest}
+use Rattle.lane_stands.proofs.Leaving.{took_there, there, idle_rest}
 
 -- both count elements alike
 counts_same : (l : List Item) → lane.elements l ≡ elements l
@@ -155,18 +152,17 @@ met_quiet o b w h waits item demand = record {
 
 module _ {S D : Type 0} (sources : S → SourceState) (drains : D → DrainState) (o : LaneOut) (b : InputBoundary) (i j : Kept S D) (u : ℕ) (s : Settled node_row (node_law sources drains) node_asking node_moves i.net) (t : Settled node_row (node_law sources drains) node_asking node_moves j.net) (l : Leaves i u) (e : Enters j u) (k : BoundaryKeeps b) (h : IsLaneHistory o b.lane) (serves : Serves o i u) (feeds : Feeds b j u) where
   pub lane_keeps : (k : LaneKeeps (in_size b.lane) (cell_out i u) (cell_in j u) (asked b.lane)) × ((k.out ≡ out_end o) × (k.inp ≡ in_end b.lane))
-  lane_keeps =
-      (
-        record {
-          out = out_end o;
-          inp = in_end b.lane;
-          out_keeps = out_keeps sources drains o i u s l serves;
-          in_keeps = in_keeps sources drains b j u t e k feeds;
-          met = are_met o b.lane h;
-          asked_is = refl;
-        },
-        (refl, refl),
-      )
+  lane_keeps = (
+    record {
+      out = out_end o;
+      inp = in_end b.lane;
+      out_keeps = out_keeps sources drains o i u s l serves;
+      in_keeps = in_keeps sources drains b j u t e k feeds;
+      met = are_met o b.lane h;
+      asked_is = refl;
+    },
+    (refl, refl),
+  )
 
   pub lane_quiet : i.net.queue ≡ [] → j.net.queue ≡ [] → IsServed o i u → IsFed b j u → (w : Waits) → WaitsAre o b.lane w → w.item ≡ false → w.demand ≡ false
       → (x : LaneKeeps (in_size b.lane) (cell_out i u) (cell_in j u) (asked b.lane)) → x.out ≡ out_end o → x.inp ≡ in_end b.lane → LaneQuiet (in_size b.lane) (cell_out i u) (cell_in j u) (asked b.lane) x

@@ -1,6 +1,6 @@
 -- What an input boundary keeps as it hands on, while others act, and while its island runs.
 use Rattle.std.specs.Prelude.{Option}
-use Rattle.std.proofs.Common.{◌≡◌, ◌≢◌, ◌⊎◌, inl, inr, ℕ, ◌+◌, ◌*◌, ◌/◌, ◌<◌, ◌≤◌, max, Bool, true, false, cond, List, [], ◌∷◌, ◌++◌, Some, None, length, refl, sym, ap, ◌∙◌, subst, arith, get_or-set_same}
+use Rattle.std.proofs.Common.{◌≡◌, ◌≢◌, inl, inr, ℕ, ◌+◌, ◌*◌, ◌/◌, ◌<◌, max, Bool, true, false, cond, List, [], ◌∷◌, ◌++◌, length, refl, sym, ap, ◌∙◌, subst, arith, get_or-set_same}
 use Rattle.elem_core.specs.declared.item.Item.{Item}
 use Rattle.elem_core.specs.declared.item.Item.TheVariants as item
 use Rattle.elem_core.specs.declared.why.Cause.{Cause}
@@ -8,16 +8,13 @@ use Rattle.stream_io.specs.State.{SourceState, DrainState}
 use Rattle.stream_model.specs.Outlook.{unended}
 use Rattle.stage_law.specs.Held.{told}
 use Rattle.port_core.specs.Decoding.{can_push}
-use Rattle.port_core.specs.declared.act.Act.{Act}
-use Rattle.port_core.specs.declared.act.Act.TheVariants as act
 use Rattle.port_core.specs.declared.view.OutView.{OutView}
 use Rattle.port_core.specs.declared.view.OutView.TheVariants.{Unasked, Asked, Shut, Refused}
 use Rattle.wire_core.specs.Cell.{Cell, moved_by}
 use Rattle.wire_core.specs.Counts.{elements}
 use Rattle.wire_core.specs.Reading.{no_wire}
-use Rattle.nodes.specs.declared.node.Node.{Node}
 use Rattle.nodes.specs.Nodes.{node_row, node_law, node_asking, node_moves, node_passive}
-use Rattle.fused_net.specs.Net.{Net, wire_at}
+use Rattle.fused_net.specs.Net.{wire_at}
 use Rattle.fused_net.specs.Laws.{Settled, GoesOn}
 use Rattle.fused_net.specs.Outside.{StandsStill, Untouched, IsElse}
 use Rattle.lane_core.specs.Lane.{ends}
@@ -27,13 +24,12 @@ use Rattle.input_boundary.specs.declared.boundary.InputBoundary.{InputBoundary}
 use Rattle.input_boundary.specs.declared.state.State.{State}
 use Rattle.input_boundary.specs.declared.state.State.TheVariants.{Flowing, Closed, Cancelled}
 use Rattle.input_boundary.specs.Boundary.{given, waits, state, BoundaryKeeps}
-use Rattle.boundary_calls.specs.declared.given.Wanted.{Wanted}
 use Rattle.boundary_calls.specs.declared.given.Wanted.TheVariants as wanted
 use Rattle.boundary_calls.specs.Boundary.{is_shut, wanted_by, wanted_at, moved_at, ended_at, ends_at}
 use Rattle.interpreter.specs.Island.{Kept, Keeps}
 use Rattle.interpreter.specs.Boundary.{way_in, cell_in, Enters, with_net}
 use Rattle.output_boundary.specs.Beside.{Beside, in_node}
-use Rattle.output_boundary.proofs.Beside.{beside_same, beside_trans, beside_moved, enters_beside, way_in_beside, in_node_beside}
+use Rattle.output_boundary.proofs.Beside.{beside_trans, beside_moved, way_in_beside, in_node_beside}
 use Rattle.island_input.specs.Feeding.{act_of, Feeds, HasGiven, IsFed}
 use Rattle.island_input.proofs.Wires.{push_asked, cancel_away, was_refused, refused_closed, one_end, unended_open, shut_stays, open_stays}
 use Rattle.island_input.proofs.Stage.{Gave, gave_there, passive_there, few_there}
@@ -148,10 +144,10 @@ module _ {S D : Type 0} (b : InputBoundary) (i : Kept S D) (u : ℕ) where
   -- one that hands on no more
   pub fed_over : Feeds b i u → state b ≢ Flowing → IsFed b i u
   fed_over f n = record {
-      given_all = λ e. absurd (never (state b) refl e);
-      no_end = λ e. absurd (n e);
-      refused = λ e. n;
-    }
+    given_all = λ e. absurd (never (state b) refl e);
+    no_end = λ e. absurd (n e);
+    refused = λ e. n;
+  }
     where
       never : (s : State) → state b ≡ s → (cell_in i u).wire.out ≡ Asked → ⊥
       never Flowing s e = n s
@@ -190,6 +186,17 @@ module _ {S D : Type 0} (b : InputBoundary) (i : Kept S D) (u : ℕ) where
     flowing = λ e. f.flowing (sym s ∙ e);
     closed = λ e. f.closed (sym s ∙ e);
     cancelled = λ e. f.cancelled (sym s ∙ e);
+  }
+
+  -- nothing came off the lane
+  pub fed_same : (c : InputBoundary) → taken c.lane ≡ taken b.lane → given c ≡ given b → waits c ≡ waits b → state c ≡ state b → IsFed b i u → IsFed c i u
+  fed_same c t g w s f = record {
+    given_all = λ e. elim (f.given_all e) [
+      | inl h ↦ inl (t ∙ h ∙ sym g)
+      | inr h ↦ inr h
+    ];
+    no_end = λ e n. t ∙ f.no_end (sym s ∙ e) (sym w ∙ n) ∙ sym g;
+    refused = λ e z. f.refused e (sym s ∙ z);
   }
 
 -- where nothing was pushed yet, the stage has closed nothing
@@ -272,14 +279,14 @@ module _ {S D : Type 0} (sources : S → SourceState) (drains : D → DrainState
 
     pub feeds_ran : Feeds b old u → Feeds b new u
     feeds_ran f = record {
-        given_is = sent_same ∙ f.given_is;
-        flowing = λ e. open_stays (cell_in old u).wire.out (cell_in new u).wire.out gave_old.list gave_new.list gave_old.end gave_new.end told_is gave_old.known gave_new.known (f.flowing e);
-        closed = λ e. shut_stays (cell_in old u).wire.out (cell_in new u).wire.out gave_old.list gave_new.list gave_old.end gave_new.end told_is gave_old.known gave_new.known (f.closed e);
-        cancelled = λ e.
-            let was : (cell_in old u).wire.conn.out_closed ≡ true = refused_closed (cell_in old u).wire _ (before.sound (way_in old u) l.place) (f.cancelled e) in
-            was_refused (cell_in new u).wire _ (after.sound (way_in new u) enters_new.place) (rw way_same ((still.grown (way_in old u)).out_closed was))
-            (open_stays (cell_in old u).wire.out (cell_in new u).wire.out gave_old.list gave_new.list gave_old.end gave_new.end told_is gave_old.known gave_new.known (not_shut (cell_in old u).wire.out (f.cancelled e)));
-      }
+      given_is = sent_same ∙ f.given_is;
+      flowing = λ e. open_stays (cell_in old u).wire.out (cell_in new u).wire.out gave_old.list gave_new.list gave_old.end gave_new.end told_is gave_old.known gave_new.known (f.flowing e);
+      closed = λ e. shut_stays (cell_in old u).wire.out (cell_in new u).wire.out gave_old.list gave_new.list gave_old.end gave_new.end told_is gave_old.known gave_new.known (f.closed e);
+      cancelled = λ e.
+          let was : (cell_in old u).wire.conn.out_closed ≡ true = refused_closed (cell_in old u).wire _ (before.sound (way_in old u) l.place) (f.cancelled e) in
+          was_refused (cell_in new u).wire _ (after.sound (way_in new u) enters_new.place) (rw way_same ((still.grown (way_in old u)).out_closed was))
+          (open_stays (cell_in old u).wire.out (cell_in new u).wire.out gave_old.list gave_new.list gave_old.end gave_new.end told_is gave_old.known gave_new.known (not_shut (cell_in old u).wire.out (f.cancelled e)));
+    }
       where
         not_shut : (y : OutView) → y ≡ Refused → y ≡ Shut → ⊥
         not_shut y e g = cc

@@ -1,6 +1,6 @@
 -- The law of an input boundary at its stage, from its lemmas.
 use Rattle.output_boundary.proofs.Beside.{enters_beside}
-use Rattle.island_input.proofs.Feeding.{feeds_begun, feeds_looked, feeds_beside, fed_beside, feeds_ran, fed_ran}
+use Rattle.island_input.proofs.Feeding.{feeds_begun, feeds_looked, feeds_beside, fed_beside, fed_same, feeds_ran, fed_ran}
 use Rattle.island_input.proofs.laws.an_input_boundary_stands.Goals as goal
 
 pub returns-clause-begins : goal.returns-clause-begins
@@ -17,6 +17,9 @@ returns-clause-beside g k b q n old new u s apart f = feeds_beside b q n old new
 
 pub returns-clause-fed : goal.returns-clause-fed
 returns-clause-fed g k b q n old new u s apart f = fed_beside b q n old new u s apart f
+
+pub returns-clause-same : goal.returns-clause-same
+returns-clause-same g k b c i u taken given waits state f = fed_same b i u c taken given waits state f
 
 pub returns-clause-ran : goal.returns-clause-ran
 returns-clause-ran g k b old new u before after l on ins still f = feeds_ran g.S.Source.state g.D.Drain.state b old new u before l ins still after on f

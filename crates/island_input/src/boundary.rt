@@ -50,6 +50,7 @@ impl IslandInput {
     pub fn look(&mut self) -> bool
         ensures wire { (self.new.wire ≡ self.old.wire) × IsSameIn self.old.boundary.lane self.new.boundary.lane × (asked self.new.boundary.lane ≡ asked self.old.boundary.lane) × (asks self.new.boundary.lane ≡ asks self.old.boundary.lane) × (has_cancelled self.new.boundary.lane ≡ has_cancelled self.old.boundary.lane) }
         ensures given { (given self.new.boundary ≡ given self.old.boundary) × (state self.new.boundary ≡ state self.old.boundary) }
+        ensures still { result ≡ false → waits self.new.boundary ≡ waits self.old.boundary }
         ensures took { result ≡ true → (is_over self.old.boundary ≡ false) × ((x : Item) × ((taken self.new.boundary.lane ≡ taken self.old.boundary.lane ++ x ∷ []) × (is_over self.new.boundary ≡ ends x))) }
         ensures none { result ≡ false → (taken self.new.boundary.lane ≡ taken self.old.boundary.lane) × ((is_over self.old.boundary ≡ true) ⊎ ((found_sent self.new.boundary.lane ≡ length (taken self.new.boundary.lane)) × (told_sent self.old.boundary.lane ≤ found_sent self.new.boundary.lane))) }
     {

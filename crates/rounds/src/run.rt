@@ -1,0 +1,197 @@
+// Rounds of turns.
+ghost use Rattle.std.specs.Prelude.{◌≡◌, ◌≤◌, ◌<◌, ◌+◌, ◌-◌, ℕ, true, false, IfNone, IfSome, IfOk, OnOk, OnErr, Some, length, slice_get};
+ghost use Rattle.std.specs.List.{sum_by};
+ghost use Rattle.rounds.specs.Bodies.{AllOf, EachOf, BrokeOff};
+ghost use Rattle.rounds.specs.Crossings.{AreCrossings, AllJoined, AtRest, FirstEvent};
+
+use crate::crossing::Crossing;
+use crate::settle::settle;
+use crate::turning::Turning;
+use elem_core::why::NoMemory;
+use std::alloc::Global;
+
+/// The most units of one turn.
+pub const TURN_UNITS: u32 = 1000;
+
+/// How a run in rounds ended.
+#[derive(Clone, Copy, PartialEq, Eq)]
+pub struct RoundsEnd {
+    /// The units that all bodies used.
+    pub used: u32,
+    /// Whether no body has an event; else the budget is used.
+    pub at_rest: bool,
+}
+
+// One body's turn.
+fn turn_at<B: Turning>(
+    alloc: Global,
+    bodies: &mut [B],
+    k: usize,
+    limit: u32,
+) -> Result<u32, NoMemory>
+    requires there { k < length bodies.old }
+    requires keeps { AllOf B.keeps bodies.old }
+    requires few { sum_by B.spent bodies.old + limit ≤ 4000000000 }
+    ensures keeps { OnOk result (AllOf B.keeps bodies.new) }
+    ensures goes { OnOk result (EachOf B.goes bodies.old bodies.new) }
+    ensures spent { IfOk result (λ used. sum_by B.spent bodies.new ≡ sum_by B.spent bodies.old + used) }
+    ensures within { IfOk result (λ used. used ≤ limit) }
+    ensures idle { IfOk result (λ used. used ≡ 0 → 1 ≤ limit → (a : B) → slice_get bodies.old k ≡ Some a → (b : B) × B.idle a b) }
+    ensures broke { OnErr result (BrokeOff B.keeps B.goes B.breaks bodies.old bodies.new) }
+{
+    let body = &mut bodies[k];
+    body.turn(alloc, limit)
+}
+
+// What one turn may use of what is left.
+fn portion(left: u32) -> u32
+    ensures within { result ≤ left }
+    ensures some { 0 < left → 0 < result }
+{
+    if left < TURN_UNITS { left } else { TURN_UNITS }
+}
+
+// A turn of each body, in order.
+fn round<B: Turning>(alloc: Global, bodies: &mut [B], left: u32) -> Result<u32, NoMemory>
+    requires keeps { AllOf B.keeps bodies.old }
+    requires few { sum_by B.spent bodies.old + left ≤ 4000000000 }
+    ensures keeps { OnOk result (AllOf B.keeps bodies.new) }
+    ensures goes { OnOk result (EachOf B.goes bodies.old bodies.new) }
+    ensures spent { IfOk result (λ used. sum_by B.spent bodies.new ≡ sum_by B.spent bodies.old + used) }
+    ensures within { IfOk result (λ used. used ≤ left) }
+    ensures broke { OnErr result (BrokeOff B.keeps B.goes B.breaks bodies.old bodies.new) }
+{
+    let mut used = 0;
+    for k in 0..bodies.len() {
+        let limit = portion(left - used);
+        used += turn_at(alloc, bodies, k, limit)?;
+    }
+    Ok(used)
+}
+
+// Rounds until one uses no unit.
+fn rounds<B: Turning>(alloc: Global, bodies: &mut [B], left: u32) -> Result<u32, NoMemory>
+    requires keeps { AllOf B.keeps bodies.old }
+    requires few { sum_by B.spent bodies.old + left ≤ 4000000000 }
+    ensures keeps { OnOk result (AllOf B.keeps bodies.new) }
+    ensures goes { OnOk result (EachOf B.goes bodies.old bodies.new) }
+    ensures spent { IfOk result (λ used. sum_by B.spent bodies.new ≡ sum_by B.spent bodies.old + used) }
+    ensures within { IfOk result (λ used. used ≤ left) }
+    ensures broke { OnErr result (BrokeOff B.keeps B.goes B.breaks bodies.old bodies.new) }
+{
+    let mut used = 0;
+    let mut last = 1;
+    while last > 0 && used < left {
+        last = round(alloc, bodies, left - used)?;
+        used += last;
+    }
+    Ok(used)
+}
+
+// The ends of all lanes are brought together, and the bodies stay whole.
+fn settle_whole<B: Turning>(bodies: &mut [B], lanes: &[Crossing]) -> Option<usize>
+    requires keeps { AllOf B.keeps bodies.old }
+    requires lanes { AreCrossings B.may_meet bodies.old lanes.now }
+    ensures keeps { AllOf B.keeps bodies.new }
+    ensures goes { EachOf B.goes bodies.old bodies.new }
+    ensures spent { sum_by B.spent bodies.new ≡ sum_by B.spent bodies.old }
+    ensures lanes { AreCrossings B.may_meet bodies.new lanes.now }
+    ensures joined { AllJoined B.joined bodies.new lanes.now }
+    ensures none { IfNone result (AtRest B.pending B.joined bodies.new lanes.now) }
+    ensures some { IfSome result (λ k. FirstEvent B.pending B.joined bodies.new lanes.now k) }
+{
+    settle(bodies, lanes)
+}
+
+// The body that has an event takes a turn, and rounds follow.
+fn serve<B: Turning>(
+    alloc: Global,
+    bodies: &mut [B],
+    lanes: &[Crossing],
+    k: usize,
+    left: u32,
+) -> Result<u32, NoMemory>
+    requires keeps { AllOf B.keeps bodies.old }
+    requires few { sum_by B.spent bodies.old + left ≤ 4000000000 }
+    requires some { 0 < left }
+    requires lanes { AreCrossings B.may_meet bodies.old lanes.now }
+    requires event { FirstEvent B.pending B.joined bodies.old lanes.now k }
+    ensures keeps { OnOk result (AllOf B.keeps bodies.new) }
+    ensures goes { OnOk result (EachOf B.goes bodies.old bodies.new) }
+    ensures spent { IfOk result (λ used. sum_by B.spent bodies.new ≡ sum_by B.spent bodies.old + used) }
+    ensures within { IfOk result (λ used. (1 ≤ used) × (used ≤ left)) }
+    ensures broke { OnErr result (BrokeOff B.keeps B.goes B.breaks bodies.old bodies.new) }
+{
+    let limit = portion(left);
+    let first = turn_at(alloc, bodies, k, limit)?;
+    let rest = rounds(alloc, bodies, left - first)?;
+    Ok(first + rest)
+}
+
+// Rounds, and then a meeting of all lanes: none has an event, or the body that has one takes a turn, which uses a unit at least.
+fn run_on<B: Turning>(
+    alloc: Global,
+    bodies: &mut [B],
+    lanes: &[Crossing],
+    budget: u32,
+) -> Result<RoundsEnd, NoMemory>
+    requires keeps { AllOf B.keeps bodies.old }
+    requires unspent { sum_by B.spent bodies.old ≡ 0 }
+    requires few { budget ≤ 4000000000 }
+    requires lanes { AreCrossings B.may_meet bodies.old lanes.now }
+    ensures keeps { OnOk result (AllOf B.keeps bodies.new) }
+    ensures goes { OnOk result (EachOf B.goes bodies.old bodies.new) }
+    ensures joined { OnOk result (AllJoined B.joined bodies.new lanes.now) }
+    ensures spent { IfOk result (λ end. end.used ≡ sum_by B.spent bodies.new) }
+    ensures within { IfOk result (λ end. end.used ≤ budget) }
+    ensures rest { IfOk result (λ end. end.at_rest ≡ true → AtRest B.pending B.joined bodies.new lanes.now) }
+    ensures more { IfOk result (λ end. end.at_rest ≡ false → (end.used ≡ budget) × ((k : ℕ) × FirstEvent B.pending B.joined bodies.new lanes.now k)) }
+    ensures broke { OnErr result (BrokeOff B.keeps B.goes B.breaks bodies.old bodies.new) }
+{
+    let mut used = rounds(alloc, bodies, budget)?;
+    while let Some(k) = settle_whole(bodies, lanes) {
+        if used >= budget {
+            return Ok(RoundsEnd {
+                used,
+                at_rest: false,
+            });
+        }
+        used += serve(alloc, bodies, lanes, k, budget - used)?;
+    }
+    Ok(RoundsEnd {
+        used,
+        at_rest: true,
+    })
+}
+
+/// Runs the bodies until none has an event or `budget` units are used: rounds of turns in order, each of at most `TURN_UNITS` units,
+/// until one uses none; then the ends of all lanes are brought together, and where a body has an event, it takes a turn at once and
+/// rounds follow. After `NoMemory` one body broke off, all others are whole, and the ends of all lanes are brought together too.
+/// Rule: own.
+pub fn run<B: Turning>(
+    alloc: Global,
+    bodies: &mut [B],
+    lanes: &[Crossing],
+    budget: u32,
+) -> Result<RoundsEnd, NoMemory>
+    requires keeps { AllOf B.keeps bodies.old }
+    requires unspent { AllOf (λ b. B.spent b ≡ 0) bodies.old }
+    requires few { budget ≤ 4000000000 }
+    requires lanes { AreCrossings B.may_meet bodies.old lanes.now }
+    ensures joined { AllJoined B.joined bodies.new lanes.now }
+    ensures keeps { OnOk result (AllOf B.keeps bodies.new) }
+    ensures goes { OnOk result (EachOf B.goes bodies.old bodies.new) }
+    ensures spent { IfOk result (λ end. end.used ≡ sum_by B.spent bodies.new) }
+    ensures within { IfOk result (λ end. end.used ≤ budget) }
+    ensures rest { IfOk result (λ end. end.at_rest ≡ true → AtRest B.pending B.joined bodies.new lanes.now) }
+    ensures more { IfOk result (λ end. end.at_rest ≡ false → (end.used ≡ budget) × ((k : ℕ) × FirstEvent B.pending B.joined bodies.new lanes.now k)) }
+    ensures broke { OnErr result (BrokeOff B.keeps B.goes B.breaks bodies.old bodies.new) }
+{
+    match run_on(alloc, bodies, lanes, budget) {
+        Ok(end) => Ok(end),
+        Err(lack) => {
+            settle(bodies, lanes);
+            Err(lack)
+        }
+    }
+}

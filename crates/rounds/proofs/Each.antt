@@ -1,5 +1,5 @@
 -- Several bodies, each as it was and as it is.
-use Rattle.std.specs.Prelude.{Result, Ok, Err, IfOk, OnErr}
+use Rattle.std.specs.Prelude.{Result, Ok, Err, IfOk, OnOk, OnErr}
 use Rattle.std.proofs.Common.{◌≡◌, ◌≢◌, ◌≤◌, ◌<◌, ◌+◌, ◌⊎◌, inl, inr, ℕ, zero, suc, Some, List, [], ◌∷◌, length, get_or, set, slice_get, refl, sym, ap, subst, ◌∙◌, arith}
 use Rattle.std.specs.List.{sum_by}
 use Rattle.std.proofs.lemmas.List.{length-set}
@@ -131,10 +131,24 @@ module _ {B : Type 0} where
     others_keep = λ k c ne ec. let m = at_count zs ys k c (sym s.count) ec in v m.0 c (s.each k m.0 c m.1 ec) (q.others_keep k m.0 ne m.1);
   }
 
+  get_set_here : (xs : List B) (k : ℕ) (y : B) → k < length xs → slice_get (set xs k y) k ≡ Some y
+  get_set_here [] k y l = absurd (omega (arith, l))
+  get_set_here (x ∷ xs) zero y l = refl
+  get_set_here (x ∷ xs) (suc k) y l = get_set_here xs k y (omega (arith, l))
+
+  -- what a turn of the body at k tells that used nothing
+  abbrev pub IdleAt : {E : Type 0} → (B → B → Type 0) → (B → B → Type 0) → Result ℕ E → ℕ → List B → List B → ℕ → Type 0
+  IdleAt goes idle r limit xs ys k = IfOk r (λ used. used ≡ 0 → 1 ≤ limit → (a : B) → slice_get xs k ≡ Some a → (b : B) × ((slice_get ys k ≡ Some b) × (goes a b × idle a b)))
+
   -- of the answer of a turn of the body at k
-  pub idle_at : {E : Type 0} (idle : B → B → Type 0) (r : Result ℕ E) (limit : ℕ) (xs : List B) (k : ℕ) (d y : B) → k < length xs → IfOk r (λ used. used ≡ 0 → 1 ≤ limit → idle (get_or xs k d) y) → IfOk r (λ used. used ≡ 0 → 1 ≤ limit → (a : B) → slice_get xs k ≡ Some a → (b : B) × idle a b)
-  idle_at idle (Ok used) limit xs k d y l h = λ z m a ea. (y, subst (λ v. idle v y) (one_there xs k (get_or xs k d) a (slice_get-get_or xs k d l) ea) (h z m))
-  idle_at idle (Err lack) limit xs k d y l h = tt
+  pub idle_at : {E : Type 0} (goes idle : B → B → Type 0) (r : Result ℕ E) (limit : ℕ) (xs ys : List B) (k : ℕ) (d y : B) → k < length xs → ys ≡ set xs k y → OnOk r (goes (get_or xs k d) y) → IfOk r (λ used. used ≡ 0 → 1 ≤ limit → idle (get_or xs k d) y) → IdleAt goes idle r limit xs ys k
+  idle_at goes idle (Ok used) limit xs ys k d y l s g h = λ z m a ea. let e = one_there xs k (get_or xs k d) a (slice_get-get_or xs k d l) ea in (y, (ap (λ (zs : List B). slice_get zs k) s ∙ get_set_here xs k y l, (subst (λ v. goes v y) e g, subst (λ v. idle v y) e (h z m))))
+  idle_at goes idle (Err lack) limit xs ys k d y l s g h = tt
+
+  -- a turn that had something to do used a unit
+  pub never : {E : Type 0} (goes idle : B → B → Type 0) (r : Result ℕ E) (limit : ℕ) (xs ys : List B) (k : ℕ) (x : B) (X : Type 0) → 0 < limit → slice_get xs k ≡ Some x → ((b : B) → slice_get ys k ≡ Some b → goes x b → idle x b → ⊥) → IdleAt goes idle r limit xs ys k → IfOk r (λ used. used ≡ 0 → X)
+  never goes idle (Ok used) limit xs ys k x X some at stirs h = λ z. let b = h z (omega (arith, some)) x at in absurd (stirs b.0 b.1.0 b.1.1.0 b.1.1.1)
+  never goes idle (Err lack) limit xs ys k x X some at stirs h = tt
 
   pub broke_at : {E : Type 0} (keeps : B → Type 0) (goes breaks : B → B → Type 0) (r : Result ℕ E) → ((a : B) → goes a a) → (xs ys : List B) (k : ℕ) (d y : B) → k < length xs → ys ≡ set xs k y → AllOf keeps xs → OnErr r (breaks (get_or xs k d) y) → OnErr r (BrokeOff keeps goes breaks xs ys)
   broke_at keeps goes breaks (Ok used) g xs ys k d y l s h q = tt
@@ -147,3 +161,16 @@ on_err (Err e) x = x
 pub some_used : (n : ℕ) → (n ≡ 0 → ⊥) → 1 ≤ n
 some_used zero h = absurd (h refl)
 some_used (suc n) h = omega arith
+
+-- more of an answer
+pub ok_then : {A E : Type 0} (r : Result A E) {P Q : Type 0} → (P → Q) → OnOk r P → OnOk r Q
+ok_then (Ok a) f p = f p
+ok_then (Err e) f p = tt
+
+pub if_then : {E : Type 0} (r : Result ℕ E) (P Q : ℕ → Type 0) → ((n : ℕ) → P n → Q n) → IfOk r (λ n. P n) → IfOk r (λ n. Q n)
+if_then (Ok n) P Q f p = f n p
+if_then (Err e) P Q f p = tt
+
+pub err_then : {A E : Type 0} (r : Result A E) {P Q : Type 0} → (P → Q) → OnErr r P → OnErr r Q
+err_then (Ok a) f p = tt
+err_then (Err e) f p = f p

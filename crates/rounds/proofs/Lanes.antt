@@ -1,12 +1,12 @@
 -- The lanes between several bodies, while these meet and go on.
-use Rattle.std.specs.Prelude.{IsTrue, Ok, true, Bool}
-use Rattle.std.proofs.Common.{◌≡◌, ◌≤◌, ◌<◌, ◌+◌, ◌⊎◌, inl, inr, ℕ, Some, List, length, get_or, slice_get, sym, ap, subst, ◌∙◌, arith}
-use Rattle.std.proofs.lemmas.Option.{slice_get-get_or}
+use Rattle.std.specs.Prelude.{IsTrue, Ok, true, false, Bool}
+use Rattle.std.proofs.Common.{refl, ◌≡◌, ◌≤◌, ◌<◌, ◌+◌, ◌⊎◌, inl, inr, ℕ, Some, List, length, get_or, slice_get, sym, ap, subst, ◌∙◌, arith}
+use Rattle.std.proofs.lemmas.Option.{slice_get-get_or, slice_get_within}
 use Rattle.lane_core.specs.declared.room.Waits.{Waits}
 use Rattle.lane_meet.specs.Pairs.{MetAt}
 use Rattle.rounds.specs.declared.crossing.Crossing.{Crossing}
-use Rattle.rounds.specs.Bodies.{EachOf, BrokeOff}
-use Rattle.rounds.specs.Crossings.{IsWithin, AreCrossings, JoinedAt, LanesFrom, LaneEvent, FirstEvent}
+use Rattle.rounds.specs.Bodies.{AllOf, EachOf, BrokeOff}
+use Rattle.rounds.specs.Crossings.{Meets, QuietBelow, AtRest, IsWithin, AreCrossings, JoinedAt, LanesFrom, LaneEvent, FirstEvent}
 use Rattle.rounds.proofs.Each.{same_or, one_there, at_place, at_count}
 
 module _ {B : Type 0} where
@@ -107,22 +107,49 @@ module _ {B : Type 0} where
       let b = at_count ys xs cr.to d (sym h.count) ed in
       m a.0 b.0 c d (h.meets a.0 b.0 c d a.1 b.1 ec ed)
 
-  -- a turn that used nothing was not one of a body that has an event
-  pub not_idle : (pending : B → Bool) (joined : B → ℕ → B → ℕ → Waits → Type 0) (idle : B → B → Type 0) → ((a b c : B) (o i : ℕ) (w : Waits) → joined a o b i w → IsTrue w.item → idle b c → ⊥) → ((a b c : B) (o i : ℕ) (w : Waits) → joined a o b i w → IsTrue w.demand → idle a c → ⊥) → ((a b : B) → pending a ≡ true → idle a b → ⊥)
-      → (may : B → ℕ → B → ℕ → Type 0) (xs : List B) (lanes : List Crossing) (k : ℕ) → AreCrossings may xs lanes → FirstEvent pending joined xs lanes k → ((a : B) → slice_get xs k ≡ Some a → (b : B) × idle a b) → ⊥
-  not_idle pending joined idle li ld lr may xs lanes k cr f z =
-      let a = at_place xs k f.there in
-      let b = z a.0 a.1 in
-      elim f.event [
-        | inl r ↦ lr a.0 b.0 (r a.0 a.1) b.1
-        | inr e ↦
-            let q = cr e.lane e.crossing e.there in
-            elim e.event [
-              | inl s ↦
-                  let g = at_place xs e.crossing.from q.from_there in
-                  li g.0 a.0 b.0 e.crossing.out e.crossing.inp e.waits (e.joined_there g.0 a.0 g.1 (ap (λ n. slice_get xs n) s.0 ∙ a.1)) s.1 b.1
-              | inr s ↦
-                  let g = at_place xs e.crossing.to q.to_there in
-                  ld a.0 g.0 b.0 e.crossing.out e.crossing.inp e.waits (e.joined_there a.0 g.0 (ap (λ n. slice_get xs n) s.0 ∙ a.1) g.1) s.1 b.1
-            ]
-      ]
+  -- the two bodies that met are known by their places
+  pub meets_at : {E : Type 0} (met : B → ℕ → B → ℕ → B → B → Waits → Type 0) (c : Crossing) (w : Waits) (xs ys : List B) → MetAt {E = E} met xs c.from c.out c.to c.inp ys (Ok w) → Meets met xs c ys w
+  meets_at met c w xs ys h = λ a b d e ea eb ed ee. h.meets a b d e ea eb ed ee
+
+  -- one more lane at which nothing waits
+  pub quiet_more : (joined : B → ℕ → B → ℕ → Waits → Type 0) (S : B → B → Type 0) → ((a b c : B) (o i : ℕ) (w : Waits) → S a c → joined a o b i w → joined c o b i w) → ((a b d : B) (o i : ℕ) (w : Waits) → S b d → joined a o b i w → joined a o d i w)
+      → (xs ys : List B) (lanes : List Crossing) (n : ℕ) (c : Crossing) (w : Waits) → slice_get lanes n ≡ Some c → EachOf S xs ys → QuietBelow joined xs lanes n → JoinedAt joined ys c w → w.item ≡ false → w.demand ≡ false → QuietBelow joined ys lanes (n + 1)
+  quiet_more joined S jo ji xs ys lanes n c w t e h j item demand = λ m d b td. elim (same_or m n) [
+    | inl s ↦ (let v = one_there lanes n c d t (ap (λ x. slice_get lanes x) (sym s) ∙ td) in (w, subst (λ x. JoinedAt joined ys x w) v j, item, demand))
+    | inr ne ↦ (let p = h m d (omega (arith, b, ne)) td in (p.0, joined_each joined S jo ji xs ys d p.0 e p.1, p.2, p.3))
+  ]
+
+  -- a lane at which an item waits has something to do for the body that takes from it
+  pub item_stirs : (may : B → ℕ → B → ℕ → Type 0) (met : B → ℕ → B → ℕ → B → B → Waits → Type 0) (goes idle : B → B → Type 0) → ((a b c d e : B) (o i : ℕ) (w : Waits) → may a o b i → met a o b i c d w → IsTrue w.item → goes d e → idle d e → ⊥)
+      → (xs ys zs : List B) (c : Crossing) (w : Waits) → IsWithin may xs c → length ys ≡ length xs → Meets met xs c ys w → w.item ≡ true → (y z : B) → slice_get ys c.to ≡ Some y → slice_get zs c.to ≡ Some z → goes y z → idle y z → ⊥
+  item_stirs may met goes idle law xs ys zs c w within count m item y z ey ez g i =
+      let a = at_place xs c.from within.from_there in
+      let b = at_place xs c.to within.to_there in
+      let d = at_count xs ys c.from a.0 count a.1 in
+      law a.0 b.0 d.0 y z c.out c.inp w (within.may a.0 b.0 a.1 b.1) (m a.0 b.0 d.0 y a.1 b.1 d.1 ey) (is_true w.item item) g i
+    where
+      is_true : (t : Bool) → t ≡ true → IsTrue t
+      is_true t e = cc
+
+  -- and one at which demand waits for the body that sends on it
+  pub demand_stirs : (may : B → ℕ → B → ℕ → Type 0) (met : B → ℕ → B → ℕ → B → B → Waits → Type 0) (goes idle : B → B → Type 0) → ((a b c d e : B) (o i : ℕ) (w : Waits) → may a o b i → met a o b i c d w → IsTrue w.demand → goes c e → idle c e → ⊥)
+      → (xs ys zs : List B) (c : Crossing) (w : Waits) → IsWithin may xs c → length ys ≡ length xs → Meets met xs c ys w → w.demand ≡ true → (y z : B) → slice_get ys c.from ≡ Some y → slice_get zs c.from ≡ Some z → goes y z → idle y z → ⊥
+  demand_stirs may met goes idle law xs ys zs c w within count m demand y z ey ez g i =
+      let a = at_place xs c.from within.from_there in
+      let b = at_place xs c.to within.to_there in
+      let e = at_count xs ys c.to b.0 count b.1 in
+      law a.0 b.0 y e.0 z c.out c.inp w (within.may a.0 b.0 a.1 b.1) (m a.0 b.0 y e.0 a.1 b.1 ey e.1) (is_true w.demand demand) g i
+    where
+      is_true : (t : Bool) → t ≡ true → IsTrue t
+      is_true t e = cc
+
+  -- no body has an event
+  pub at_rest : (pending : B → Bool) (joined : B → ℕ → B → ℕ → Waits → Type 0) (xs : List B) (lanes : List Crossing) → AllOf (λ b. pending b ≡ false) xs → QuietBelow joined xs lanes (length lanes) → AtRest pending joined xs lanes
+  at_rest pending joined xs lanes p q = record { rings = p; nothing_waits = λ n c e. q n c (slice_get_within lanes n c e) e }
+
+  pub none_pending : (pending : B → Bool) (xs : List B) (found : ℕ) → ((k : ℕ) (b : B) → slice_get xs k ≡ Some b → pending b ≡ true → k < length xs → found ≤ k) → (found < length xs → ⊥) → AllOf (λ b. pending b ≡ false) xs
+  none_pending pending xs found h all k b e = by_case (pending b) refl
+    where
+      by_case : (t : Bool) → pending b ≡ t → pending b ≡ false
+      by_case false p = p
+      by_case true p = let l = slice_get_within xs k b e in let f = h k b e p l in absurd (all (omega (arith, l, f)))

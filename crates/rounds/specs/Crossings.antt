@@ -18,6 +18,10 @@ AreCrossings may_meet bodies lanes = (n : ℕ) (c : Crossing) → slice_get lane
 abbrev pub JoinedAt : {B : Type 0} → (B → ℕ → B → ℕ → Waits → Type 0) → List B → Crossing → Waits → Type 0
 JoinedAt joined bodies c w = (a b : _) → slice_get bodies c.from ≡ Some a → slice_get bodies c.to ≡ Some b → joined a c.out b c.inp w
 
+-- this meeting did it
+abbrev pub Meets : {B : Type 0} → (B → ℕ → B → ℕ → B → B → Waits → Type 0) → List B → Crossing → List B → Waits → Type 0
+Meets met old c new w = (a b d e : _) → slice_get old c.from ≡ Some a → slice_get old c.to ≡ Some b → slice_get new c.from ≡ Some d → slice_get new c.to ≡ Some e → met a c.out b c.inp d e w
+
 -- and so were those of each lane
 abbrev pub AllJoined : {B : Type 0} → (B → ℕ → B → ℕ → Waits → Type 0) → List B → List Crossing → Type 0
 AllJoined joined bodies lanes = (n : ℕ) (c : Crossing) → slice_get lanes n ≡ Some c → (w : Waits) × JoinedAt joined bodies c w
@@ -39,6 +43,10 @@ pub record LaneEvent {B : Type 0} (joined : B → ℕ → B → ℕ → Waits �
 -- an event is pending in the ring of the body at k
 abbrev pub RingEvent : {B : Type 0} → (B → Bool) → List B → ℕ → Type 0
 RingEvent pending bodies k = (b : _) → slice_get bodies k ≡ Some b → pending b ≡ true
+
+-- the ends of the first `count` lanes were brought together, and nothing waits there
+abbrev pub QuietBelow : {B : Type 0} → (B → ℕ → B → ℕ → Waits → Type 0) → List B → List Crossing → ℕ → Type 0
+QuietBelow joined bodies lanes count = (n : ℕ) (c : Crossing) → n < count → slice_get lanes n ≡ Some c → (w : Waits) × (JoinedAt joined bodies c w) × (w.item ≡ false) × (w.demand ≡ false)
 
 -- No body has an event: none is pending in a ring, and nothing waits at a lane.
 pub record AtRest {B : Type 0} (pending : B → Bool) (joined : B → ℕ → B → ℕ → Waits → Type 0) (bodies : List B) (lanes : List Crossing) : Type 0 where

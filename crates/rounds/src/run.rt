@@ -2,10 +2,10 @@
 ghost use Rattle.std.specs.Prelude.{◌≡◌, ◌≤◌, ◌<◌, ◌+◌, ◌-◌, ℕ, true, false, IfNone, IfSome, IfOk, OnOk, OnErr, Some, length, slice_get};
 ghost use Rattle.std.specs.List.{sum_by};
 ghost use Rattle.rounds.specs.Bodies.{AllOf, EachOf, BrokeOff};
-ghost use Rattle.rounds.specs.Crossings.{AreCrossings, AllJoined, AtRest, FirstEvent};
+ghost use Rattle.rounds.specs.Crossings.{QuietBelow, AreCrossings, AllJoined, AtRest, FirstEvent};
 
 use crate::crossing::Crossing;
-use crate::settle::settle;
+use crate::settle::{first_pending, join, settle};
 use crate::turning::Turning;
 use elem_core::why::NoMemory;
 use std::alloc::Global;
@@ -36,7 +36,7 @@ fn turn_at<B: Turning>(
     ensures goes { OnOk result (EachOf B.goes bodies.old bodies.new) }
     ensures spent { IfOk result (λ used. sum_by B.spent bodies.new ≡ sum_by B.spent bodies.old + used) }
     ensures within { IfOk result (λ used. used ≤ limit) }
-    ensures idle { IfOk result (λ used. used ≡ 0 → 1 ≤ limit → (a : B) → slice_get bodies.old k ≡ Some a → (b : B) × B.idle a b) }
+    ensures idle { IfOk result (λ used. used ≡ 0 → 1 ≤ limit → (a : B) → slice_get bodies.old k ≡ Some a → (b : B) × ((slice_get bodies.new k ≡ Some b) × (B.goes a b × B.idle a b))) }
     ensures broke { OnErr result (BrokeOff B.keeps B.goes B.breaks bodies.old bodies.new) }
 {
     let body = &mut bodies[k];
@@ -103,32 +103,84 @@ fn settle_whole<B: Turning>(bodies: &mut [B], lanes: &[Crossing]) -> Option<usiz
     settle(bodies, lanes)
 }
 
-// The body that has an event takes a turn, and rounds follow.
-fn serve<B: Turning>(
+// Brings the ends of the lanes together, one after another, and lets the first body take a turn for which something waits there. It
+// uses a unit at least where there is one.
+fn stir_lanes<B: Turning>(
     alloc: Global,
     bodies: &mut [B],
     lanes: &[Crossing],
-    k: usize,
-    left: u32,
+    limit: u32,
 ) -> Result<u32, NoMemory>
     requires keeps { AllOf B.keeps bodies.old }
-    requires few { sum_by B.spent bodies.old + left ≤ 4000000000 }
-    requires some { 0 < left }
+    requires few { sum_by B.spent bodies.old + limit ≤ 4000000000 }
+    requires some { 0 < limit }
     requires lanes { AreCrossings B.may_meet bodies.old lanes.now }
-    requires event { FirstEvent B.pending B.joined bodies.old lanes.now k }
     ensures keeps { OnOk result (AllOf B.keeps bodies.new) }
     ensures goes { OnOk result (EachOf B.goes bodies.old bodies.new) }
     ensures spent { IfOk result (λ used. sum_by B.spent bodies.new ≡ sum_by B.spent bodies.old + used) }
-    ensures within { IfOk result (λ used. (1 ≤ used) × (used ≤ left)) }
+    ensures within { IfOk result (λ used. used ≤ limit) }
+    ensures none { IfOk result (λ used. used ≡ 0 → QuietBelow B.joined bodies.new lanes.now (length lanes.now)) }
     ensures broke { OnErr result (BrokeOff B.keeps B.goes B.breaks bodies.old bodies.new) }
 {
-    let limit = portion(left);
-    let first = turn_at(alloc, bodies, k, limit)?;
-    let rest = rounds(alloc, bodies, left - first)?;
-    Ok(first + rest)
+    for n in 0..lanes.len() {
+        let lane = &lanes[n];
+        let waits = join(bodies, lane);
+        if waits.item {
+            return turn_at(alloc, bodies, lane.to as usize, limit);
+        }
+        if waits.demand {
+            return turn_at(alloc, bodies, lane.from as usize, limit);
+        }
+    }
+    Ok(0)
 }
 
-// Rounds, and then a meeting of all lanes: none has an event, or the body that has one takes a turn, which uses a unit at least.
+// Lets the first body take a turn in whose ring an event is pending. It uses a unit at least where there is one.
+fn stir_rings<B: Turning>(alloc: Global, bodies: &mut [B], limit: u32) -> Result<u32, NoMemory>
+    requires keeps { AllOf B.keeps bodies.old }
+    requires few { sum_by B.spent bodies.old + limit ≤ 4000000000 }
+    requires some { 0 < limit }
+    ensures keeps { OnOk result (AllOf B.keeps bodies.new) }
+    ensures goes { OnOk result (EachOf B.goes bodies.old bodies.new) }
+    ensures spent { IfOk result (λ used. sum_by B.spent bodies.new ≡ sum_by B.spent bodies.old + used) }
+    ensures within { IfOk result (λ used. used ≤ limit) }
+    ensures none { IfOk result (λ used. used ≡ 0 → (bodies.new ≡ bodies.old) × AllOf (λ b. B.pending b ≡ false) bodies.old) }
+    ensures broke { OnErr result (BrokeOff B.keeps B.goes B.breaks bodies.old bodies.new) }
+{
+    let count = bodies.len();
+    let k = first_pending(bodies, count);
+    if k < count {
+        return turn_at(alloc, bodies, k, limit);
+    }
+    Ok(0)
+}
+
+// Lets a body that has an event take a turn, which uses a unit at least; none is used where no body has one.
+fn stir<B: Turning>(
+    alloc: Global,
+    bodies: &mut [B],
+    lanes: &[Crossing],
+    limit: u32,
+) -> Result<u32, NoMemory>
+    requires keeps { AllOf B.keeps bodies.old }
+    requires few { sum_by B.spent bodies.old + limit ≤ 4000000000 }
+    requires some { 0 < limit }
+    requires lanes { AreCrossings B.may_meet bodies.old lanes.now }
+    ensures keeps { OnOk result (AllOf B.keeps bodies.new) }
+    ensures goes { OnOk result (EachOf B.goes bodies.old bodies.new) }
+    ensures spent { IfOk result (λ used. sum_by B.spent bodies.new ≡ sum_by B.spent bodies.old + used) }
+    ensures within { IfOk result (λ used. used ≤ limit) }
+    ensures none { IfOk result (λ used. used ≡ 0 → AtRest B.pending B.joined bodies.new lanes.now) }
+    ensures broke { OnErr result (BrokeOff B.keeps B.goes B.breaks bodies.old bodies.new) }
+{
+    let used = stir_lanes(alloc, bodies, lanes, limit)?;
+    if used > 0 {
+        return Ok(used);
+    }
+    stir_rings(alloc, bodies, limit)
+}
+
+// Rounds, and behind them a turn of a body that has an event and rounds again, until no body has one or the budget is used.
 fn run_on<B: Turning>(
     alloc: Global,
     bodies: &mut [B],
@@ -149,23 +201,23 @@ fn run_on<B: Turning>(
     ensures broke { OnErr result (BrokeOff B.keeps B.goes B.breaks bodies.old bodies.new) }
 {
     let mut used = rounds(alloc, bodies, budget)?;
-    while let Some(k) = settle_whole(bodies, lanes) {
-        if used >= budget {
+    while used < budget {
+        let stirred = stir(alloc, bodies, lanes, portion(budget - used))?;
+        if stirred == 0 {
             return Ok(RoundsEnd {
                 used,
-                at_rest: false,
+                at_rest: true,
             });
         }
-        used += serve(alloc, bodies, lanes, k, budget - used)?;
+        used += stirred;
+        used += rounds(alloc, bodies, budget - used)?;
     }
-    Ok(RoundsEnd {
-        used,
-        at_rest: true,
-    })
+    let at_rest = settle_whole(bodies, lanes).is_none();
+    Ok(RoundsEnd { used, at_rest })
 }
 
 /// Runs the bodies until none has an event or `budget` units are used: rounds of turns in order, each of at most `TURN_UNITS` units,
-/// until one uses none; then the ends of all lanes are brought together, and where a body has an event, it takes a turn at once and
+/// until one uses none; then the ends of the lanes are brought together, and where a body has an event, it takes a turn at once and
 /// rounds follow. After `NoMemory` one body broke off, all others are whole, and the ends of all lanes are brought together too.
 /// Rule: own.
 pub fn run<B: Turning>(

@@ -1,7 +1,7 @@
 // The ends of all lanes are brought together, and the first body that has an event is found.
 ghost use Rattle.std.specs.Prelude.{◌≡◌, ◌≤◌, ◌<◌, ◌⊎◌, ℕ, Bool, true, IsTrue, IfNone, IfSome, Some, length, slice_get};
 ghost use Rattle.rounds.specs.Bodies.{EachOf};
-ghost use Rattle.rounds.specs.Crossings.{IsWithin, AreCrossings, JoinedAt, AllJoined, LanesFrom, LaneEvent, AtRest, FirstEvent};
+ghost use Rattle.rounds.specs.Crossings.{Meets, IsWithin, AreCrossings, JoinedAt, AllJoined, LanesFrom, LaneEvent, AtRest, FirstEvent};
 
 use crate::crossing::Crossing;
 use crate::turning::Turning;
@@ -9,11 +9,12 @@ use lane_core::room::Waits;
 use lane_meet::pairs::meet_at;
 
 // The two ends of one lane.
-fn join<B: Turning>(bodies: &mut [B], lane: &Crossing) -> Waits
+pub(crate) fn join<B: Turning>(bodies: &mut [B], lane: &Crossing) -> Waits
     requires within { IsWithin B.may_meet bodies.old lane.now }
     ensures stands { EachOf B.stands bodies.old bodies.new }
     ensures goes { EachOf B.goes bodies.old bodies.new }
     ensures joined { JoinedAt B.joined bodies.new lane.now result }
+    ensures met { Meets B.met bodies.old lane.now bodies.new result }
 {
     match meet_at(
         bodies,
@@ -68,7 +69,7 @@ fn join_all<B: Turning>(bodies: &mut [B], lanes: &[Crossing]) -> usize
 }
 
 // The first body in whose ring an event is pending, below `end`, or `end`.
-fn first_pending<B: Turning>(bodies: &[B], end: usize) -> usize
+pub(crate) fn first_pending<B: Turning>(bodies: &[B], end: usize) -> usize
     requires { end ≤ length bodies.now }
     ensures within { result ≤ end }
     ensures before { (k : ℕ) (b : B) → slice_get bodies.now k ≡ Some b → B.pending b ≡ true → k < end → result ≤ k }

@@ -84,10 +84,10 @@ pub trait Turning: Meet {
 
     ghost goes_breaks: { (a b c : Self) → goes a b → breaks b c → breaks a c };
 
-    // A turn that found nothing to do found no item and no demand at a lane, and no event.
-    ghost idle_item: { (a b c : Self) (o i : ℕ) (w : Waits) → joined a o b i w → IsTrue w.item → idle b c → ⊥ };
+    // A turn behind a meeting that found nothing to do came where neither an item nor demand waited, and no event was pending.
+    ghost idle_item: { (a b c d e : Self) (o i : ℕ) (w : Waits) → Self.may_meet a o b i → Self.met a o b i c d w → IsTrue w.item → goes d e → idle d e → ⊥ };
 
-    ghost idle_demand: { (a b c : Self) (o i : ℕ) (w : Waits) → joined a o b i w → IsTrue w.demand → idle a c → ⊥ };
+    ghost idle_demand: { (a b c d e : Self) (o i : ℕ) (w : Waits) → Self.may_meet a o b i → Self.met a o b i c d w → IsTrue w.demand → goes c e → idle c e → ⊥ };
 
     ghost idle_event: { (a b : Self) → pending a ≡ true → idle a b → ⊥ };
 }

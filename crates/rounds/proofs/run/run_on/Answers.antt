@@ -1,10 +1,11 @@
+-- The goals of `run::run_on` that the search leaves.
 use Rattle.std.proofs.Common.{arith}
 use Rattle.rounds.proofs.Each.{each_on, broke_after, on_err}
 use Rattle.rounds.proofs.Lanes.{crossings_each}
 use Rattle.rounds.proofs.run.run_on.Goals as goal
 
-pub loop-k-init : goal.loop-k-init
-loop-k-init g c =
+pub loop-used-init : goal.loop-used-init
+loop-used-init g c =
     let e = c.in_ok-used.ensures in
     record {
       keeps = e.keeps;
@@ -14,35 +15,33 @@ loop-k-init g c =
       lanes = crossings_each g.B.Meet.may_meet g.B.Turning.goes g.met.B.Turning.meet_goes_out g.met.B.Turning.meet_goes_inp _ _ c.args.lanes.now e.goes c.requires.lanes;
     }
 
-pub serve-requires-clause-few : goal.serve-requires-clause-few
-serve-requires-clause-few g c =
-    let a = c.settle_whole.ensures.spent in
-    let b = c.loop-k.invariant.spent in
-    let d = c.loop-k.invariant.within in
-    let f = c.requires.few in
-    omega (arith, a, b, d, f)
+pub returns-in_err-stirred-clause-broke : goal.returns-in_err-stirred-clause-broke
+returns-in_err-stirred-clause-broke g c =
+    let t = g.B.Turning in
+    on_err c.from_residual-in_err-stirred.result (broke_after t.keeps t.goes t.breaks g.met.B.Turning.goes_on g.met.B.Turning.goes_breaks c.args.bodies.now c.loop-used.bodies c.stir.new.bodies c.loop-used.invariant.goes c.in_err-stirred.ensures.broke)
+
+pub returns-then-stirred-eq0-clause-goes : goal.returns-then-stirred-eq0-clause-goes
+returns-then-stirred-eq0-clause-goes g c = let t = g.B.Turning in each_on t.goes t.goes t.goes g.met.B.Turning.goes_on _ _ _ c.loop-used.invariant.goes c.in_ok-stirred.ensures.goes
 
 pub returns-in_err-used-2-clause-broke : goal.returns-in_err-used-2-clause-broke
 returns-in_err-used-2-clause-broke g c =
     let t = g.B.Turning in
-    on_err c.from_residual-in_err-used-2.result (broke_after t.keeps t.goes t.breaks g.met.B.Turning.goes_on g.met.B.Turning.goes_breaks c.args.bodies.now c.settle_whole.new.bodies c.serve.new.bodies (each_on t.goes t.goes t.goes g.met.B.Turning.goes_on _ _ _ c.loop-k.invariant.goes c.settle_whole.ensures.goes) c.in_err-used-2.ensures.broke)
+    on_err c.from_residual-in_err-used-2.result (broke_after t.keeps t.goes t.breaks g.met.B.Turning.goes_on g.met.B.Turning.goes_breaks c.args.bodies.now c.stir.new.bodies c.rounds-in-loop-used.new.bodies (each_on t.goes t.goes t.goes g.met.B.Turning.goes_on _ _ _ c.loop-used.invariant.goes c.in_ok-stirred.ensures.goes) c.in_err-used-2.ensures.broke)
 
-pub loop-k-preserved : goal.loop-k-preserved
-loop-k-preserved g c =
+pub loop-used-preserved : goal.loop-used-preserved
+loop-used-preserved g c =
     let t = g.B.Turning in
-    let i = c.loop-k.invariant in
-    let s = c.settle_whole.ensures in
+    let i = c.loop-used.invariant in
+    let s = c.in_ok-stirred.ensures in
     let e = c.in_ok-used-2.ensures in
+    let goes = each_on t.goes t.goes t.goes g.met.B.Turning.goes_on _ _ _ s.goes e.goes in
     record {
       keeps = e.keeps;
-      goes = each_on t.goes t.goes t.goes g.met.B.Turning.goes_on _ _ _ i.goes (each_on t.goes t.goes t.goes g.met.B.Turning.goes_on _ _ _ s.goes e.goes);
+      goes = each_on t.goes t.goes t.goes g.met.B.Turning.goes_on _ _ _ i.goes goes;
       spent = let a = e.spent in let b = s.spent in let d = i.spent in omega (arith, a, b, d);
-      within = let a = e.within in let d = i.within in omega (arith, a, d);
-      lanes = crossings_each g.B.Meet.may_meet t.goes g.met.B.Turning.meet_goes_out g.met.B.Turning.meet_goes_inp _ _ c.args.lanes.now e.goes s.lanes;
+      within = let a = e.within in let b = s.within in let d = i.within in let p = c.portion.ensures.within in omega (arith, a, b, d, p);
+      lanes = crossings_each g.B.Meet.may_meet t.goes g.met.B.Turning.meet_goes_out g.met.B.Turning.meet_goes_inp _ _ c.args.lanes.now goes i.lanes;
     }
 
 pub returns-clause-goes : goal.returns-clause-goes
-returns-clause-goes g c = let t = g.B.Turning in each_on t.goes t.goes t.goes g.met.B.Turning.goes_on _ _ _ c.loop-k.invariant.goes c.settle_whole.ensures.goes
-
-pub returns-then-used-budget-clause-goes : goal.returns-then-used-budget-clause-goes
-returns-then-used-budget-clause-goes g c = let t = g.B.Turning in each_on t.goes t.goes t.goes g.met.B.Turning.goes_on _ _ _ c.loop-k.invariant.goes c.settle_whole.ensures.goes
+returns-clause-goes g c = let t = g.B.Turning in each_on t.goes t.goes t.goes g.met.B.Turning.goes_on _ _ _ c.loop-used.invariant.goes c.settle_whole.ensures.goes

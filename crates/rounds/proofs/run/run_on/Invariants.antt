@@ -5,8 +5,8 @@ use Rattle.rounds.specs.Bodies.{AllOf, EachOf}
 use Rattle.rounds.specs.Crossings.{AreCrossings}
 use Rattle.rounds.proofs.run.run_on.Given as goal
 
-abbrev pub invariant-loop-k : goal.invariant-loop-k
-invariant-loop-k g l = record {
+abbrev pub invariant-loop-used : goal.invariant-loop-used
+invariant-loop-used g l = record {
   keeps : AllOf g.B.Turning.keeps l.bodies;
   goes : EachOf g.B.Turning.goes l.fn.bodies l.bodies;
   spent : l.used ≡ sum_by g.B.Turning.spent l.bodies;
@@ -14,5 +14,5 @@ invariant-loop-k g l = record {
   lanes : AreCrossings g.B.Meet.may_meet l.bodies l.lanes;
 }
 
-abbrev pub decreases-loop-k : goal.decreases-loop-k
-decreases-loop-k g l = l.budget - l.used
+abbrev pub decreases-loop-used : goal.decreases-loop-used
+decreases-loop-used g l = l.budget - l.used

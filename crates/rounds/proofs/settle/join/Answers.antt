@@ -1,4 +1,4 @@
-use Rattle.rounds.proofs.Lanes.{met_each, met_joined}
+use Rattle.rounds.proofs.Lanes.{met_each, met_joined, meets_at}
 use Rattle.rounds.proofs.settle.join.Goals as goal
 
 pub returns-in-Ok-clause-stands : goal.returns-in-Ok-clause-stands
@@ -15,3 +15,6 @@ pub returns-in-Ok-clause-joined : goal.returns-in-Ok-clause-joined
 returns-in-Ok-clause-joined g c =
     let l = c.args.lane.now in
     met_joined g.B.Meet.met g.B.Turning.joined l c.in-Ok.waits (λ a b d e m. (g.met.B.Turning.meets a b d e l.out l.inp c.in-Ok.waits m).4) _ _ c.in-Ok.ensures
+
+pub returns-in-Ok-clause-met : goal.returns-in-Ok-clause-met
+returns-in-Ok-clause-met g c = meets_at g.B.Meet.met c.args.lane.now c.in-Ok.waits _ _ c.in-Ok.ensures

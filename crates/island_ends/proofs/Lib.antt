@@ -1,0 +1,4 @@
+pub mod Joining
+pub mod Leaving
+pub mod Listing
+pub mod OfNodes

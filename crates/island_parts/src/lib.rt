@@ -5,4 +5,4 @@ pub mod laws;
 mod links;
 pub mod spaces;
 pub mod split;
-mod whole;
+pub mod whole;

@@ -4,4 +4,5 @@ pub mod Files
 pub mod Seats
 pub mod Handed
 pub mod Choices
+pub mod Firsts
 pub mod Planned

@@ -11,7 +11,7 @@ use Rattle.interpreter.specs.declared.parts.Work.{Work}
 use Rattle.interpreter.specs.Room.{IsRoom}
 use Rattle.blue_core.specs.declared.blueprint.Node.{Node}
 use Rattle.blue_check.specs.Wires.{blueprint_wires}
-use Rattle.materializer.specs.Built.{CanRun}
+use Rattle.materializer.specs.Built.{CanRunAlone}
 use Rattle.materializer.specs.Files.{input_of, output_of}
 use Rattle.materializer.specs.Seats.{handles_left, IsFreeWork, IsWork, links_from}
 use Rattle.materializer.specs.declared.seats.Planned.{Planned}
@@ -85,9 +85,9 @@ pub record FillsAs {S D : Type 0} (k : ℕ) (n : Node) (sources : List S) (drain
 abbrev pub Fills : {S D : Type 0} → Seat S D → List S → List D → Seated S D → List S → List D → Type 0
 Fills s sources drains p later_sources later_drains = (k : ℕ) (n : Node) → IsSeat k n s → FillsAs k n sources drains p later_sources later_drains
 
--- the plan of its blueprint, which can be run
+-- the plan of its blueprint, which can be run as one island
 pub record IsPlan {S D : Type 0} (p : Plan S D) : Type 0 where
-  pub runs : CanRun p.blueprint.value
+  pub alone : CanRunAlone p.blueprint.value
   pub seats : ArePlanned 0 p.blueprint.value.nodes.items p.seats.items
   pub empty : p.places.items ≡ []
   pub room_for_places : vec_len p.seats ≤ vec_capacity p.places

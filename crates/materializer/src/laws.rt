@@ -12,8 +12,9 @@ ghost use Rattle.plug_core.specs.declared.head.PlugHead.{PlugHead};
 ghost use Rattle.run_laws.specs.Made.{Materializes};
 ghost use Rattle.stream_model.specs.Composed.{IsRanked};
 ghost use Rattle.stream_model.specs.declared.kind.Kind.TheVariants as kind;
-ghost use Rattle.materializer.specs.Built.{CanRun};
+ghost use Rattle.materializer.specs.Built.{CanRunAlone};
 ghost use Rattle.materializer.specs.Files.{output_of, inputs_of_nodes, outputs_of_nodes};
+ghost use Rattle.materializer.specs.Firsts.{AreFirsts};
 ghost use Rattle.materializer.specs.Graphs.{graph_of};
 ghost use Rattle.materializer.specs.Handed.{ReadsFile, WritesFile, WritesNoFile};
 ghost use Rattle.stream_picture.specs.Joined.{IsJoined};
@@ -28,10 +29,13 @@ pub fn fit_blueprints_are_whole()
     ensures joined { (b : Blueprint) (plugs : List PlugHead) (taken : List (List ℕ)) → IsFit b plugs taken → IsJoined (graph_of b) }
 {}
 
-/// The nodes of such parts, as they are handed in, and the ends of their wires are those of the blueprint's graph, where no
-/// source has handed out a byte.
+/// Where no source has handed out a byte, the nodes at the places of a blueprint, as they are handed in, are those of its graph,
+/// each in its order, also where lanes join them (`firsts`). Where no wire has a lane, the ends of the wires are those of the
+/// graph too (`alone`).
 pub fn parts_are_made_of_their_blueprint<S: Source, D: Drain>()
-    ensures { (b : Blueprint) (sources : List S) (drains : List D) (places : List (Seated S D)) (firsts : List (Node S D)) (ends : List Ends) → CanRun b → AreSeats 0 b.nodes.items sources drains places
+    ensures firsts { (b : Blueprint) (sources : List S) (drains : List D) (places : List (Seated S D)) (firsts : List (Node S D)) → AreSeats 0 b.nodes.items sources drains places
+        → AllBecome places firsts → All (λ s. (S.state s).given ≡ 0) sources → AreFirsts S.state (graph_of b).nodes firsts }
+    ensures alone { (b : Blueprint) (sources : List S) (drains : List D) (places : List (Seated S D)) (firsts : List (Node S D)) (ends : List Ends) → CanRunAlone b → AreSeats 0 b.nodes.items sources drains places
         → AllBecome places firsts → ends ≡ map ends_of (links_from 0 (blueprint_wires b)) → All (λ s. (S.state s).given ≡ 0) sources → Materializes S.state (graph_of b) firsts ends }
 {}
 

@@ -5,6 +5,6 @@ pub mod built;
 pub mod laws;
 pub mod links;
 pub mod names;
-mod number;
+pub mod number;
 pub mod parts;
 pub mod seats;

@@ -12,8 +12,8 @@ use elem_core::why::NoMemory;
 use std::alloc::Global;
 use stream_model::kind::Kind;
 
-/// The file that a source reads.
-fn input_of(kind: &Kind) -> Option<&Line>
+/// The file that a source reads. Rule: own.
+pub fn input_of(kind: &Kind) -> Option<&Line>
     ensures { option_map (λ l. l.now) result ≡ input_of kind.now }
 {
     match kind {
@@ -22,8 +22,8 @@ fn input_of(kind: &Kind) -> Option<&Line>
     }
 }
 
-/// The file that a sink writes.
-fn output_of(kind: &Kind) -> Option<&Line>
+/// The file that a sink writes. Rule: own.
+pub fn output_of(kind: &Kind) -> Option<&Line>
     ensures { option_map (λ l. l.now) result ≡ output_of kind.now }
 {
     match kind {
@@ -32,8 +32,8 @@ fn output_of(kind: &Kind) -> Option<&Line>
     }
 }
 
-/// Whether a node has no output.
-fn is_sink(node: &Node) -> bool
+/// Whether a node has no output. Rule: own.
+pub fn is_sink(node: &Node) -> bool
     ensures { result ≡ is_sink node.now }
 {
     outputs_of(&node.kind) == 0

@@ -4,7 +4,7 @@ ghost use Rattle.blue_check.specs.Wires.{blueprint_wires};
 ghost use Rattle.interpreter.specs.Handles.{sources_in, drains_in};
 ghost use Rattle.interpreter.specs.Parts.{AreParts, place_of};
 ghost use Rattle.interpreter.specs.Room.{IsRoom};
-ghost use Rattle.materializer.specs.Built.{CanRun};
+ghost use Rattle.materializer.specs.Built.{CanRunAlone};
 ghost use Rattle.materializer.specs.Files.{inputs_of_nodes, outputs_of_nodes};
 ghost use Rattle.materializer.specs.Planned.{IsPlan, places_from};
 ghost use Rattle.materializer.specs.Seats.{AreSeats, links_from};
@@ -33,8 +33,8 @@ pub struct Plan<S: Source, D: Drain> {
     blueprint: Snapshot<Blueprint>,
 }
 
-/// The places of these nodes, in order.
-fn places_of(alloc: Global, nodes: &[Node]) -> Result<Vec<Place>, NoMemory>
+/// The places of these nodes, in order. A number that is out of 32 bits is want of memory.
+pub fn places_of(alloc: Global, nodes: &[Node]) -> Result<Vec<Place>, NoMemory>
     ensures { IfOk result (λ places. places.items ≡ places_from 0 nodes.now) }
 {
     let mut places = Vec::new(alloc);
@@ -48,9 +48,9 @@ fn places_of(alloc: Global, nodes: &[Node]) -> Result<Vec<Place>, NoMemory>
     Ok(places)
 }
 
-/// The plan of a blueprint. A number that is out of 32 bits is want of memory. Rule: own.
+/// The plan of a blueprint of one island. A number that is out of 32 bits is want of memory. Rule: own.
 pub fn plan_of<S: Source, D: Drain>(alloc: Global, b: Blueprint) -> Result<Plan<S, D>, NoMemory>
-    requires { CanRun b }
+    requires { CanRunAlone b }
     ensures blueprint { IfOk result (λ plan. plan.blueprint.value ≡ b) }
     ensures plan { IfOk result IsPlan }
 {

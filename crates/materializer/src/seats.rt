@@ -204,7 +204,9 @@ pub fn fill_all<S: Source, D: Drain>(
     requires room { vec_len seats ≤ vec_capacity places }
     requires sources { vec_len sources ≡ reads_in seats.items }
     requires drains { vec_len drains ≡ writes_in seats.items }
-    ensures { (nodes : List blue.Node) → ArePlanned 0 nodes seats.items → AreSeats 0 nodes sources.items drains.items result.items }
+    ensures seats { (nodes : List blue.Node) → ArePlanned 0 nodes seats.items → AreSeats 0 nodes sources.items drains.items result.items }
+    ensures room { vec_capacity result ≡ vec_capacity places }
+    ensures each { vec_len result ≡ vec_len seats }
 {
     let mut unread = sources.into_iter();
     let mut unwritten = drains.into_iter();

@@ -142,3 +142,16 @@ Numbering-more labels homes firsts firsts' table table' label node number n long
 pub same_table : (firsts firsts' : List ℕ) (table table' : List (Option ℕ)) (label node number : ℕ) → IsNumbered table table' firsts firsts' label node number → length table' ≡ length table
 same_table firsts firsts' table table' label node number done =
     ⊎_elim (λ (o : IsOld table table' firsts firsts' label number). ap length o.kept) (λ (w : IsNew table table' firsts firsts' label node number). ap length w.set ∙ length-set table label (Some number)) done.either
+
+-- of all nodes
+pub numbered : (labels homes firsts : List ℕ) (table : List (Option ℕ)) → Numbering labels homes firsts table → AreNumbered labels homes firsts
+numbered labels homes firsts table n = record {
+  here = n.here;
+  alike = n.alike;
+  least = n.least;
+  first = n.first;
+  rising = n.rising;
+  apart = λ j k lj lk e.
+      let two : Some (Some j) ≡ Some (Some k) = sym (n.known j lj) ∙ ap (slice_get table) e ∙ n.known k lk in
+      cc;
+}

@@ -1,9 +1,9 @@
 // Which nodes of a blueprint run together: its islands, and the lanes that join them.
 #![tactic(auto)]
 
-mod classes;
+pub mod classes;
 mod fill;
-mod homes;
+pub mod homes;
 pub mod islands;
-mod lanes;
+pub mod lanes;
 pub mod plan;

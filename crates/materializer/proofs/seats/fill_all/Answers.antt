@@ -1,5 +1,5 @@
 -- The goals of `seats::fill_all` that the search leaves.
-use Rattle.std.proofs.Common.{◌≡◌, ◌∙◌, List, length, vec_len, ap, sym, subst, rules, arith}
+use Rattle.std.proofs.Common.{◌≡◌, ◌∙◌, List, length, vec_len, refl, ap, sym, subst, rules, arith}
 use Rattle.std.specs.Vec.Iter.{into_iter_items, into_iter_len}
 use Rattle.materializer.specs.Planned.{ArePlanned, reads_in, writes_in}
 use Rattle.materializer.specs.declared.seats.Seat.{Seat}
@@ -20,6 +20,8 @@ loop-seat-init g c =
       c.into_iter-unread.ensures.len ∙ c.requires.sources ∙ ap reads_in (sym all),
       c.into_iter-unwritten.ensures.len ∙ c.requires.drains ∙ ap writes_in (sym all),
       omega (arith, none, left, many, c.requires.room),
+      refl,
+      omega (arith, none, left, many),
       λ nodes planned. fills_first nodes _ _ (into_iter_items r) _ _ _ c.into_iter-unread.ensures.rest c.into_iter-unwritten.ensures.rest c.requires.empty (subst (λ (l : List (Seat _ _)). ArePlanned 0 nodes l) (sym all) planned),
     )
 
@@ -39,8 +41,19 @@ loop-seat-preserved g c =
       reads_next _ _ _ _ _ next.0 kept.3 c.fill.ensures.fewer_sources,
       writes_next _ _ _ _ _ next.0 kept.4 c.fill.ensures.fewer_drains,
       omega (arith, kept.5, next.1, c.push_reserved.ensures.len, c.push_reserved.ensures.capacity),
-      λ nodes planned. fills_next nodes _ _ _ _ _ _ _ _ _ _ _ _ (kept.6 nodes planned) next.0 c.fill.ensures.fills c.push_reserved.ensures.items,
+      omega (arith, kept.6, c.push_reserved.ensures.capacity),
+      omega (arith, kept.7, next.1, c.push_reserved.ensures.len),
+      λ nodes planned. fills_next nodes _ _ _ _ _ _ _ _ _ _ _ _ (kept.8 nodes planned) next.0 c.fill.ensures.fills c.push_reserved.ensures.items,
     )
 
-pub returns : goal.returns
-returns g c = λ nodes planned. fills_last nodes _ _ _ _ _ _ (c.loop-seat.invariant.6 nodes planned) (none_left _ _ c.in-None.ensures.steps.0 c.loop-seat.invariant.2)
+pub returns-clause-seats : goal.returns-clause-seats
+returns-clause-seats g c = λ nodes planned. fills_last nodes _ _ _ _ _ _ (c.loop-seat.invariant.8 nodes planned) (none_left _ _ c.in-None.ensures.steps.0 c.loop-seat.invariant.2)
+
+pub returns-clause-room : goal.returns-clause-room
+returns-clause-room g c = c.loop-seat.invariant.6
+
+pub returns-clause-each : goal.returns-clause-each
+returns-clause-each g c =
+    let rest = c.loop-seat.seat-iterator in
+    let none : into_iter_len rest ≡ 0 = c.loop-seat.invariant.2 ∙ ap length (none_left _ _ c.in-None.ensures.steps.0 c.loop-seat.invariant.2) in
+    omega (arith, none, c.loop-seat.invariant.7)

@@ -15,4 +15,6 @@ invariant-loop-seat g l =
     × (into_iter_len l.unread ≡ reads_in (into_iter_items l.seat-iterator))
     × (into_iter_len l.unwritten ≡ writes_in (into_iter_items l.seat-iterator))
     × (vec_len l.places + into_iter_len l.seat-iterator ≤ vec_capacity l.places)
+    × (vec_capacity l.places ≡ vec_capacity l.fn.places)
+    × (vec_len l.places + into_iter_len l.seat-iterator ≡ vec_len l.fn.seats)
     × ((nodes : List Node) → ArePlanned 0 nodes l.fn.seats.items → FillsRest nodes l.fn.sources.items l.fn.drains.items (into_iter_items l.seat-iterator) (into_iter_items l.unread) (into_iter_items l.unwritten) l.places.items)

@@ -1,5 +1,6 @@
-use Rattle.std.proofs.Common.{◌≡◌, length, refl, sym, ◌∙◌, subst, arith}
-use Rattle.traversal.proofs.Numbering.{Numbering, Numbering-more, same_table}
+use Rattle.std.proofs.Common.{◌≡◌, length, refl, sym, ◌∙◌, subst, arith, rules}
+use Rattle.traversal.proofs.Numbering.{Numbering, Numbering-more, same_table, numbered}
+use Rattle.traversal.proofs.Planning.{AreHomes-numbered}
 use Rattle.traversal.proofs.homes.homes_of.Goals as goal
 
 pub loop-node-preserved : goal.loop-node-preserved
@@ -16,3 +17,11 @@ loop-node-preserved c =
       table = omega (arith, same, v.table, table.ok.0, table'.ok.0);
       numbering = subst (λ hs. Numbering c.args.labels.now hs c.home_of.new.firsts.items table'.items) (sym c.in_ok-push.ensures.items) more;
     }
+
+pub returns-clause-homes : goal.returns-clause-homes
+returns-clause-homes c = λ count links are range.
+    let v = c.loop-node.invariant in
+    let homes = c.loop-node.homes in
+    let labels = c.args.labels.now in
+    let long : length homes.items ≡ length labels = search (rules, arith) in
+    AreHomes-numbered count links labels homes.items c.loop-node.firsts.items are (numbered labels homes.items c.loop-node.firsts.items c.loop-node.numbers.items v.numbering) long range

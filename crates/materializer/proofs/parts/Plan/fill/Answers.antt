@@ -13,25 +13,25 @@ pub fill_all-nodes-requires-clause-drains : goal.fill_all-nodes-requires-clause-
 fill_all-nodes-requires-clause-drains g c = c.requires.drains ∙ sym (writes_all 0 c.args.self.blueprint.value.nodes.items c.args.self.seats.items c.requires.plan.seats)
 
 pub returns-clause-seats : goal.returns-clause-seats
-returns-clause-seats g c = c.fill_all-nodes.ensures c.args.self.blueprint.value.nodes.items c.requires.plan.seats
+returns-clause-seats g c = c.fill_all-nodes.ensures.seats c.args.self.blueprint.value.nodes.items c.requires.plan.seats
 
 pub returns-clause-parts : goal.returns-clause-parts
 returns-clause-parts g c =
     let p = c.requires.plan in
-    parts_made c.args.self.blueprint.value c.args.sources.items c.args.drains.items _ _ p.runs p.links_are p.few (c.fill_all-nodes.ensures c.args.self.blueprint.value.nodes.items p.seats)
+    parts_made c.args.self.blueprint.value c.args.sources.items c.args.drains.items _ _ p.alone.runs p.links_are p.few (c.fill_all-nodes.ensures.seats c.args.self.blueprint.value.nodes.items p.seats)
 
 pub returns-clause-room : goal.returns-clause-room
 returns-clause-room g c =
     let p = c.requires.plan in
     let nodes = c.args.self.blueprint.value.nodes.items in
-    subst (λ (l : List Place). IsRoom c.args.self.room l c.args.self.links.items) (sym (places_same 0 nodes c.args.sources.items c.args.drains.items c.fill_all-nodes.result.items (c.fill_all-nodes.ensures nodes p.seats))) p.room_is
+    subst (λ (l : List Place). IsRoom c.args.self.room l c.args.self.links.items) (sym (places_same 0 nodes c.args.sources.items c.args.drains.items c.fill_all-nodes.result.items (c.fill_all-nodes.ensures.seats nodes p.seats))) p.room_is
 
 pub returns-clause-sources : goal.returns-clause-sources
 returns-clause-sources g c =
     let nodes = c.args.self.blueprint.value.nodes.items in
-    all_sources 0 nodes c.args.sources.items c.args.drains.items _ (c.fill_all-nodes.ensures nodes c.requires.plan.seats) (sym c.args.sources.ok.0 ∙ c.requires.sources)
+    all_sources 0 nodes c.args.sources.items c.args.drains.items _ (c.fill_all-nodes.ensures.seats nodes c.requires.plan.seats) (sym c.args.sources.ok.0 ∙ c.requires.sources)
 
 pub returns-clause-drains : goal.returns-clause-drains
 returns-clause-drains g c =
     let nodes = c.args.self.blueprint.value.nodes.items in
-    all_drains 0 nodes c.args.sources.items c.args.drains.items _ (c.fill_all-nodes.ensures nodes c.requires.plan.seats) (sym c.args.drains.ok.0 ∙ c.requires.drains)
+    all_drains 0 nodes c.args.sources.items c.args.drains.items _ (c.fill_all-nodes.ensures.seats nodes c.requires.plan.seats) (sym c.args.drains.ok.0 ∙ c.requires.drains)

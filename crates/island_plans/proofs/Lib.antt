@@ -1,0 +1,4 @@
+pub mod Numbered
+pub mod Listing
+pub mod Standing
+pub mod Islands

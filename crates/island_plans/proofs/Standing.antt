@@ -1,0 +1,92 @@
+-- What a blueprint that can be run tells of the places of its nodes.
+use Rattle.std.proofs.Common.{◌≡◌, ℕ, zero, suc, ◌+◌, ◌<◌, false, List, [], ◌∷◌, length, map, Some, None, refl, ap, sym, ◌∙◌, subst, arith}
+use Rattle.std.specs.Prelude.{slice_get, is_none}
+use Rattle.std.proofs.lemmas.List.{length-map}
+use Rattle.std.proofs.lemmas.Option.{slice_get_within}
+use Rattle.stream_model.specs.Graph.{Wire}
+use Rattle.blue_core.specs.declared.blueprint.Blueprint.{Blueprint}
+use Rattle.blue_core.specs.declared.blueprint.Node.{Node}
+use Rattle.blue_check.specs.Fitness.{IsFit}
+use Rattle.blue_check.specs.Wires.{blueprint_wires}
+use Rattle.blue_names.specs.declared.links.Link.{Link}
+use Rattle.blue_names.specs.Links.{AreInRange, wires_of_links}
+use Rattle.blue_walks.proofs.ClosedWalks.{link_at_place}
+use Rattle.plug_core.specs.declared.head.PlugHead.{PlugHead}
+use Rattle.interpreter.specs.Parts.{ends_of}
+use Rattle.interpreter.specs.Ways.{is_lane_in, is_lane_out}
+use Rattle.interpreter.specs.declared.parts.Seated.{Seated}
+use Rattle.interpreter.specs.declared.parts.Work.{Work}
+use Rattle.interpreter.specs.declared.parts.Work.TheVariants as work
+use Rattle.traversal.specs.Plan.{AreHomes}
+use Rattle.island_parts.specs.Whole.{AreNodes, KeepsInside}
+use Rattle.materializer.specs.Built.{CanRun}
+use Rattle.materializer.specs.Graphs.{graph_of, node_of, chain_of}
+use Rattle.materializer.specs.Planned.{places_from}
+use Rattle.materializer.specs.Seats.{IsWork, AreSeats, links_from}
+use Rattle.materializer.proofs.Fitting.{fit_joined}
+use Rattle.materializer.proofs.Linking.{ends_count, ends_at, wiring}
+use Rattle.materializer.proofs.Placing.{seats_unused}
+use Rattle.stream_picture.specs.Joined.{IsJoined}
+
+-- ---- wires
+
+module _ (b : Blueprint) (plugs : List PlugHead) (taken : List (List ℕ)) (fit : IsFit b plugs taken) where
+  -- a wire joins nodes that are there
+  ends_within : (i : ℕ) (v : Wire) → slice_get (blueprint_wires b) i ≡ Some v → (v.from < length b.nodes.items) × (v.to < length b.nodes.items)
+  ends_within i v at =
+      let j : IsJoined (graph_of b) = fit_joined b plugs taken fit in
+      let s = j.source i v at in
+      let t = j.target i v at in
+      let size : length (map node_of b.nodes.items) ≡ length b.nodes.items = length-map b.nodes.items node_of in
+      let from : v.from < length (map node_of b.nodes.items) = slice_get_within (map node_of b.nodes.items) v.from s.0 s.1 in
+      let to : v.to < length (map node_of b.nodes.items) = slice_get_within (map node_of b.nodes.items) v.to t.0 t.1 in
+      (omega (arith, from, size), omega (arith, to, size))
+
+  pub in_range : (ls : List Link) → wires_of_links ls ≡ blueprint_wires b → AreInRange (length b.nodes.items) ls
+  in_range ls e = λ k d lt. ends_within k _ (ap (λ x. slice_get x k) (sym e) ∙ link_at_place ls k d lt)
+
+-- a wire without a lane is inside one island
+pub keeps_inside : (count : ℕ) (ws : List Wire) (homes : List ℕ) → AreHomes count ws homes → KeepsInside homes ws
+keeps_inside count ws homes h = record { inside = λ i w at none. h.inside i w at (ap is_none none) }
+
+-- ---- places
+
+pub places_count : (k : ℕ) (ns : List Node) → length (places_from k ns) ≡ length ns
+places_count k [] = refl
+places_count k (n ∷ ns) = ap suc (places_count (k + 1) ns)
+
+module _ {S D : Type 0} where
+  -- a node of a blueprint is no end of a lane
+  no_end : (k : ℕ) (n : Node) (ss : List S) (ds : List D) (w : Work S D) → IsWork k n ss ds w → (is_lane_in w ≡ false) × (is_lane_out w ≡ false)
+  no_end k n ss ds (work.Reading r) is = (refl, refl)
+  no_end k n ss ds (work.Making shape) is = (refl, refl)
+  no_end k n ss ds (work.Linear l) is = (refl, refl)
+  no_end k n ss ds (work.State l) is = (refl, refl)
+  no_end k n ss ds (work.FanIn l inputs) is = (refl, refl)
+  no_end k n ss ds (work.FanOut l outputs) is = (refl, refl)
+  no_end k n ss ds (work.LaneIn u) is = absurd is
+  no_end k n ss ds (work.LaneOut u) is = absurd is
+  no_end k n ss ds (work.Writing shape (Some d)) is = (refl, refl)
+  no_end k n ss ds (work.Writing shape None) is = (refl, refl)
+
+  no_ends : (k : ℕ) (ns : List Node) (ss : List S) (ds : List D) (ps : List (Seated S D)) (j : ℕ) (p : Seated S D) → AreSeats k ns ss ds ps → slice_get ps j ≡ Some p → (is_lane_in p.work ≡ false) × (is_lane_out p.work ≡ false)
+  no_ends k [] ss ds [] j p a at = absurd cc
+  no_ends k [] ss ds (q ∷ ps) j p a at = absurd a
+  no_ends k (n ∷ ns) ss ds [] j p a at = absurd a
+  no_ends k (n ∷ ns) ss ds (q ∷ ps) zero p a at =
+      let e : q ≡ p = cc in
+      subst (λ (x : Seated S D). (is_lane_in x.work ≡ false) × (is_lane_out x.work ≡ false)) e (no_end k n ss ds q.work a.1.0)
+  no_ends k (n ∷ ns) ss ds (q ∷ ps) (suc j) p a at = no_ends (k + 1) ns _ _ ps j p a.1.1 at
+
+  -- the wires of a blueprint join every port of its nodes
+  pub are_nodes : (b : Blueprint) (ss : List S) (ds : List D) (nodes : List (Seated S D)) → CanRun b → AreSeats 0 b.nodes.items ss ds nodes → AreNodes (blueprint_wires b) nodes
+  are_nodes b ss ds nodes r a =
+      let ws = blueprint_wires b in
+      record {
+        no_ends = λ k p at. no_ends 0 b.nodes.items ss ds nodes k p a at;
+        unused = seats_unused 0 b.nodes.items ss ds nodes a;
+        ends = map ends_of (links_from 0 ws);
+        wiring = wiring b.nodes.items ws (map chain_of b.chains.items) ss ds nodes (fit_joined b r.plugs r.taken r.fit) a;
+        each_wire = ends_count 0 ws;
+        ends_are = λ i v at. ends_at 0 ws i v at;
+      }

@@ -1,0 +1,116 @@
+-- The goals of `plans::plans_of` that the search leaves.
+use Rattle.std.proofs.Common.{◌≡◌, ◌∙◌, ◌<◌, ℕ, List, length, vec_len, ap, sym, subst, rules, arith}
+use Rattle.std.specs.List.{All}
+use Rattle.stream_model.specs.Graph.{Wire}
+use Rattle.blue_core.specs.declared.blueprint.Blueprint.{Blueprint}
+use Rattle.blue_core.specs.declared.blueprint.Node.{Node}
+use Rattle.blue_core.specs.declared.blueprint.WireDecl.{WireDecl}
+use Rattle.blue_names.specs.declared.links.Link.{Link}
+use Rattle.blue_names.specs.Links.{AreInRange, wires_of_links}
+use Rattle.blue_check.specs.Wires.{blueprint_wires}
+use Rattle.blue_rules.specs.Links.{wires_of}
+use Rattle.interpreter.specs.declared.parts.Place.{Place}
+use Rattle.traversal.specs.Plan.{lanes_from}
+use Rattle.island_parts.specs.Split.{IsSplit}
+use Rattle.materializer.specs.Built.{CanRun}
+use Rattle.materializer.specs.Planned.{ArePlanned, places_from}
+use Rattle.materializer.proofs.Fitting.{few_link_ports, all_built, all_sized}
+use Rattle.island_plans.specs.Ends.{AreEndHomes}
+use Rattle.island_plans.specs.Homes.{AreNumberedHomes}
+use Rattle.island_plans.proofs.Standing.{in_range, places_count}
+use Rattle.island_plans.proofs.plans.plans_of.Goals as goal
+
+pub homes_of_links-requires : goal.homes_of_links-requires
+homes_of_links-requires g c =
+    let r = c.requires in
+    let b = c.args.b in
+    let same : wires_of_links c.deref-3.result.now ≡ blueprint_wires b = search rules in
+    subst (λ (n : ℕ). AreInRange n c.deref-3.result.now) (sym (c.len.ensures ∙ b.nodes.ok.0)) (in_range b r.plugs r.taken r.fit c.deref-3.result.now same)
+
+pub end_homes-requires : goal.end_homes-requires
+end_homes-requires g c = ap length c.deref-8.ensures.value ∙ c.in_ok-found.ensures.are.each ∙ c.len.ensures ∙ c.args.b.nodes.ok.0 ∙ sym (ap length c.deref-6.ensures.value)
+
+pub split_of-requires-clause-each : goal.split_of-requires-clause-each
+split_of-requires-clause-each g c =
+    let own = c.in_ok-own.own in
+    let nodes = c.in_ok-nodes.nodes in
+    let b = c.args.b in
+    let homes : length own.items ≡ length b.nodes.items = ap length (c.in_ok-own.ensures ∙ c.deref-10.ensures.value) ∙ c.in_ok-found.ensures.are.each ∙ c.len.ensures ∙ b.nodes.ok.0 in
+    let places : length nodes.items ≡ length b.nodes.items = ap length c.in_ok-nodes.ensures ∙ places_count 0 c.deref-9.result.now ∙ ap length c.deref-9.ensures.value in
+    own.ok.0 ∙ homes ∙ sym places ∙ sym nodes.ok.0
+
+pub split_of-requires-clause-below : goal.split_of-requires-clause-below
+split_of-requires-clause-below g c =
+    let own = c.in_ok-own.own in
+    subst (λ (n : ℕ). All (λ h. h < n) own.items) (sym c.len-count.ensures) (subst (λ (l : List ℕ). All (λ h. h < vec_len c.in_ok-found.found.firsts) l) (sym (c.in_ok-own.ensures ∙ c.deref-10.ensures.value)) c.in_ok-found.ensures.below)
+
+pub split_of-requires-clause-ports : goal.split_of-requires-clause-ports
+split_of-requires-clause-ports g c =
+    let r = c.requires in
+    let same : wires_of_links c.deref-11.result.now ≡ blueprint_wires c.args.b = search rules in
+    few_link_ports c.args.b r.plugs r.taken r.fit c.deref-11.result.now same
+
+pub split_of-requires-clause-ends : goal.split_of-requires-clause-ends
+split_of-requires-clause-ends g c =
+    let r = c.requires in
+    let b = c.args.b in
+    let nodes = c.in_ok-nodes.nodes in
+    let same : wires_of_links c.deref-11.result.now ≡ blueprint_wires b = search rules in
+    let places : length nodes.items ≡ length b.nodes.items = ap length c.in_ok-nodes.ensures ∙ places_count 0 c.deref-9.result.now ∙ ap length c.deref-9.ensures.value in
+    subst (λ (n : ℕ). AreInRange n c.deref-11.result.now) (sym (nodes.ok.0 ∙ places)) (in_range b r.plugs r.taken r.fit c.deref-11.result.now same)
+
+pub split_of-requires-clause-lanes : goal.split_of-requires-clause-lanes
+split_of-requires-clause-lanes g c =
+    let own = c.in_ok-own.own.items in
+    let homes : c.deref-5.result.now ≡ own = c.deref-5.ensures.value ∙ sym (c.in_ok-own.ensures ∙ c.deref-10.ensures.value) in
+    let links : c.deref-4.result.now ≡ c.deref-11.result.now = c.deref-4.ensures.value ∙ sym c.deref-11.ensures.value in
+    c.deref-12.ensures.value ∙ c.in_ok-lanes.ensures ∙ ap (λ (hs : List ℕ). lanes_from hs 0 (wires_of_links c.deref-4.result.now)) homes ∙ ap (λ (ls : List Link). lanes_from own 0 (wires_of_links ls)) links
+
+pub seat_all-requires-clause-built : goal.seat_all-requires-clause-built
+seat_all-requires-clause-built g c = c.requires.built
+
+pub seat_all-requires-clause-sized : goal.seat_all-requires-clause-sized
+seat_all-requires-clause-sized g c = all_sized c.args.b c.requires.plugs c.requires.taken c.requires.fit
+
+pub returns-clause-plans : goal.returns-clause-plans
+returns-clause-plans g c =
+    let b = c.args.b in
+    let p = c.of-blueprint.result.value in
+    let is : b ≡ p = sym c.of-blueprint.ensures in
+    let ns = b.nodes.items in
+    let ws = blueprint_wires b in
+    let found = c.in_ok-found.found in
+    let homes = found.homes.items in
+    let count = c.len-count.result in
+    let own : c.in_ok-own.own.items ≡ homes = c.in_ok-own.ensures ∙ c.deref-10.ensures.value in
+    let same : wires_of_links c.in_ok-wires.wires.items ≡ ws = c.in_ok-wires.ensures ∙ ap (λ (l : List Node). wires_of l c.deref-2.result.now) c.deref.ensures.value ∙ ap (λ (l : List WireDecl). wires_of ns l) c.deref-2.ensures.value in
+    let same-3 : wires_of_links c.deref-3.result.now ≡ ws = ap wires_of_links c.deref-3.ensures.value ∙ same in
+    let same-4 : wires_of_links c.deref-4.result.now ≡ ws = ap wires_of_links c.deref-4.ensures.value ∙ same in
+    let same-7 : wires_of_links c.deref-7.result.now ≡ ws = ap wires_of_links c.deref-7.ensures.value ∙ same in
+    let same-11 : wires_of_links c.deref-11.result.now ≡ ws = ap wires_of_links c.deref-11.ensures.value ∙ same in
+    let size : c.len.result ≡ length ns = c.len.ensures ∙ b.nodes.ok.0 in
+    let homes_are : AreNumberedHomes (length ns) count ws homes =
+    subst (λ (us : List Wire). AreNumberedHomes (length ns) count us homes) same-3
+    (subst (λ (n : ℕ). AreNumberedHomes (length ns) n (wires_of_links c.deref-3.result.now) homes) (sym c.len-count.ensures)
+    (subst (λ (n : ℕ). AreNumberedHomes n (vec_len found.firsts) (wires_of_links c.deref-3.result.now) homes) size c.in_ok-found.ensures)) in
+    let lanes : c.in_ok-lanes.lanes.items ≡ lanes_from homes 0 ws =
+    c.in_ok-lanes.ensures ∙ ap (λ (hs : List ℕ). lanes_from hs 0 (wires_of_links c.deref-4.result.now)) c.deref-5.ensures.value ∙ ap (λ (us : List Wire). lanes_from homes 0 us) same-4 in
+    let ends : AreEndHomes homes ns ws c.in_ok-ends.ends =
+    subst (λ (us : List Wire). AreEndHomes homes ns us c.in_ok-ends.ends) same-7
+    (subst (λ (ms : List Node). AreEndHomes homes ms (wires_of_links c.deref-7.result.now) c.in_ok-ends.ends) c.deref-6.ensures.value
+    (subst (λ (hs : List ℕ). AreEndHomes hs c.deref-6.result.now (wires_of_links c.deref-7.result.now) c.in_ok-ends.ends) c.deref-8.ensures.value c.in_ok-ends.ensures)) in
+    let places : c.in_ok-nodes.nodes.items ≡ places_from 0 ns = c.in_ok-nodes.ensures ∙ ap (places_from 0) c.deref-9.ensures.value in
+    let split : IsSplit homes count ws (places_from 0 ns) c.in_ok-split.split =
+    subst (λ (l : List Place). IsSplit homes count ws l c.in_ok-split.split) places
+    (subst (λ (us : List Wire). IsSplit homes count us c.in_ok-nodes.nodes.items c.in_ok-split.split) same-11
+    (subst (λ (hs : List ℕ). IsSplit hs count (wires_of_links c.deref-11.result.now) c.in_ok-nodes.nodes.items c.in_ok-split.split) own c.in_ok-split.ensures)) in
+    record {
+      runs = subst CanRun is c.requires;
+      homes_are = subst (λ (x : Blueprint). AreNumberedHomes (length x.nodes.items) count (blueprint_wires x) homes) is homes_are;
+      lanes_are = lanes ∙ ap (λ (x : Blueprint). lanes_from homes 0 (blueprint_wires x)) is;
+      ends_are = subst (λ (x : Blueprint). AreEndHomes homes x.nodes.items (blueprint_wires x) c.in_ok-ends.ends) is ends;
+      seats = subst (λ (x : Blueprint). ArePlanned 0 x.nodes.items c.in_ok-seats.seats.items) is c.in_ok-seats.ensures;
+      split = subst (λ (x : Blueprint). IsSplit homes count (blueprint_wires x) (places_from 0 x.nodes.items) c.in_ok-split.split) is split;
+      empty = search rules;
+      room_for_places = search (rules, arith);
+    }

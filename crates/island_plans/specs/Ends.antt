@@ -1,0 +1,38 @@
+-- Which island's end has what nodes and wires leave.
+use Rattle.std.specs.Prelude.{◌≡◌, ℕ, Bool, is_some, if◌then◌else◌, List, [], ◌∷◌, ◌++◌, map, slice_index}
+use Rattle.stream_model.specs.Graph.{Wire}
+use Rattle.blue_core.specs.declared.blueprint.Node.{Node}
+use Rattle.blue_rules.specs.Picks.{picks}
+use Rattle.materializer.specs.Files.{input_of, output_of, is_sink}
+use Rattle.island_plans.specs.declared.ends.EndHomes.{EndHomes}
+use Rattle.island_plans.specs.declared.ends.EndList.{EndList}
+use Rattle.island_plans.specs.declared.ends.EndList.TheVariants.{Sinks, Picks, Readers, Writers}
+
+-- a node that leaves an item in this list of its island's end: a sink, a stage whose kind chooses, a source of lines, and a sink
+-- with a file
+abbrev pub leaves_in : EndList → Node → Bool
+leaves_in Sinks n = is_sink n
+leaves_in Picks n = picks n.kind
+leaves_in Readers n = is_some (input_of n.kind)
+leaves_in Writers n = is_some (output_of n.kind)
+
+-- the islands of the nodes that leave one, in order of nodes, where these are the islands of all
+abbrev pub own_home : EndList → Node → ℕ → List ℕ
+own_home list n h = if leaves_in list n then h ∷ [] else []
+
+abbrev pub homes_in : EndList → List Node → List ℕ → List ℕ
+homes_in list [] homes = []
+homes_in list (n ∷ ns) [] = []
+homes_in list (n ∷ ns) (h ∷ hs) = own_home list n h ++ homes_in list ns hs
+
+-- the island in which a wire begins
+abbrev pub wire_home : List ℕ → Wire → ℕ
+wire_home homes w = slice_index homes w.from
+
+-- those of all lists, and of all wires in their order
+pub record AreEndHomes (homes : List ℕ) (nodes : List Node) (ws : List Wire) (e : EndHomes) : Type 0 where
+  pub sinks_are : e.sinks.items ≡ homes_in Sinks nodes homes
+  pub picks_are : e.picks.items ≡ homes_in Picks nodes homes
+  pub readers_are : e.readers.items ≡ homes_in Readers nodes homes
+  pub writers_are : e.writers.items ≡ homes_in Writers nodes homes
+  pub wires_are : e.wires.items ≡ map (wire_home homes) ws

@@ -1,0 +1,110 @@
+// Which island's end has what nodes and wires leave.
+ghost use Rattle.std.specs.Prelude.{◌≡◌, ◌++◌, IfOk, OnOk, length, map};
+ghost use Rattle.blue_names.specs.Links.{wires_of_links};
+ghost use Rattle.island_plans.specs.Ends.{leaves_in, own_home, homes_in, wire_home, AreEndHomes};
+
+use blue_check::picks::picks;
+use blue_core::blueprint::Node;
+use blue_names::links::Link;
+use blue_walks::ranks::rank_of;
+use elem_core::why::NoMemory;
+use materializer::names::{input_of, is_sink, output_of};
+use std::alloc::Global;
+
+/// A list of an island's end in which some of its nodes leave one item each, in order.
+#[derive(Clone, Copy, PartialEq, Eq, Debug)]
+pub enum EndList {
+    /// How its sinks stand.
+    Sinks,
+    /// The moves of its stages whose kinds choose.
+    Picks,
+    /// The sources of bytes that its sources of lines read.
+    Readers,
+    /// The drains that its sinks with a file wrote.
+    Writers,
+}
+
+/// The islands whose ends list what the nodes and wires of a blueprint leave, each in the order of nodes or of wires. Rule: own.
+#[derive(Drop)]
+pub struct EndHomes {
+    /// Of each sink.
+    pub sinks: Vec<usize>,
+    /// Of each stage whose kind chooses.
+    pub picks: Vec<usize>,
+    /// Of each source of lines.
+    pub readers: Vec<usize>,
+    /// Of each sink with a file.
+    pub writers: Vec<usize>,
+    /// Of each wire, where it begins.
+    pub wires: Vec<usize>,
+}
+
+/// Whether a node leaves an item in this list of its island's end. It takes no memory. Rule: own.
+pub fn leaves_in(list: EndList, node: &Node) -> bool
+    ensures { result ≡ leaves_in list node.now }
+{
+    match list {
+        EndList::Sinks => is_sink(node),
+        EndList::Picks => picks(&node.kind),
+        EndList::Readers => input_of(&node.kind).is_some(),
+        EndList::Writers => output_of(&node.kind).is_some(),
+    }
+}
+
+/// Puts the island of a node last, where it leaves an item in this list.
+fn put_home(all: &mut Vec<usize>, list: EndList, node: &Node, home: usize) -> Result<(), NoMemory>
+    ensures { OnOk result (all.new.items ≡ all.old.items ++ own_home list node.now home) }
+{
+    if leaves_in(list, node) {
+        all.push(home)?;
+    }
+    Ok(())
+}
+
+/// The islands of the nodes that leave an item in this list.
+fn homes_in(
+    alloc: Global,
+    list: EndList,
+    nodes: &[Node],
+    homes: &[usize],
+) -> Result<Vec<usize>, NoMemory>
+    requires { length homes.now ≡ length nodes.now }
+    ensures { IfOk result (λ all. all.items ≡ homes_in list nodes.now homes.now) }
+{
+    let mut all = Vec::new(alloc);
+    for (i, node) in nodes.iter().enumerate() {
+        put_home(&mut all, list, node, homes[i])?;
+    }
+    Ok(all)
+}
+
+/// The islands in which wires begin.
+fn wire_homes(alloc: Global, links: &[Link], homes: &[usize]) -> Result<Vec<usize>, NoMemory>
+    ensures { IfOk result (λ all. all.items ≡ map (wire_home homes.now) (wires_of_links links.now)) }
+{
+    let mut all = Vec::new(alloc);
+    for link in links {
+        all.push(rank_of(homes, link.from))?;
+    }
+    Ok(all)
+}
+
+/// The islands whose ends list what these nodes and wires leave, where the nodes have these islands. It takes memory for a number
+/// of each. Rule: own.
+pub fn end_homes(
+    alloc: Global,
+    nodes: &[Node],
+    links: &[Link],
+    homes: &[usize],
+) -> Result<EndHomes, NoMemory>
+    requires { length homes.now ≡ length nodes.now }
+    ensures { IfOk result (AreEndHomes homes.now nodes.now (wires_of_links links.now)) }
+{
+    Ok(EndHomes {
+        sinks: homes_in(alloc, EndList::Sinks, nodes, homes)?,
+        picks: homes_in(alloc, EndList::Picks, nodes, homes)?,
+        readers: homes_in(alloc, EndList::Readers, nodes, homes)?,
+        writers: homes_in(alloc, EndList::Writers, nodes, homes)?,
+        wires: wire_homes(alloc, links, homes)?,
+    })
+}

@@ -1,0 +1,127 @@
+// The plans of a blueprint's islands, and their parts.
+ghost use Rattle.std.specs.Prelude.{◌≡◌, ◌+◌, IfOk, length, vec_len};
+ghost use Rattle.materializer.specs.Built.{CanRun};
+ghost use Rattle.materializer.specs.Files.{inputs_of_nodes, outputs_of_nodes};
+ghost use Rattle.island_plans.specs.Plans.{IsPlans, IsFilled};
+
+use crate::ends::{EndHomes, end_homes};
+use crate::homes::{copy_of, homes_of_links};
+use blue_core::blueprint::Blueprint;
+use blue_names::links::links_of;
+use elem_core::why::NoMemory;
+use interpreter::parts::{Parts, Seated};
+use interpreter::room::Room;
+use island_parts::laws::islands_have_parts;
+use island_parts::split::{Split, join, split_of};
+use island_parts::whole::whole_seats;
+use materializer::parts::places_of;
+use materializer::seats::{Seat, fill_all, seat_all};
+use std::alloc::{AllocError, Global};
+use std::snapshot::Snapshot;
+use stream_io::outside::{Drain, Source};
+use traversal::lanes::lanes_of;
+use traversal::plan::LanePlan;
+
+/// The islands of a blueprint, but for their handles: all that they take of memory before its files are opened. Rule: own.
+#[derive(Drop)]
+pub struct Plans<S: Source, D: Drain> {
+    seats: Vec<Seat<S, D>>,
+    // It is empty, and has room for what stands at all places: the nodes, and both ends of each lane.
+    places: Vec<Seated<S, D>>,
+    split: Split<S, D>,
+    blueprint: Snapshot<Blueprint>,
+    /// The wires that have a lane, in order.
+    pub lanes: Vec<LanePlan>,
+    /// The island of each node.
+    pub homes: Vec<usize>,
+    /// How many islands there are.
+    pub count: usize,
+    /// The islands of what their ends list.
+    pub ends: EndHomes,
+}
+
+/// The islands of a blueprint, whose nodes hold their handles. Rule: own.
+#[derive(Drop)]
+pub struct Filled<S: Source, D: Drain> {
+    /// The parts of each island, and the room that it takes.
+    pub islands: Vec<(Parts<S, D>, Room<S, D>)>,
+    /// The wires that have a lane, in order.
+    pub lanes: Vec<LanePlan>,
+    /// The island of each node.
+    pub homes: Vec<usize>,
+    /// How many islands there are.
+    pub count: usize,
+    /// The islands of what their ends list.
+    pub ends: EndHomes,
+}
+
+/// How many places so many nodes and lanes take; a number that is out of range is want of memory.
+fn all_places(nodes: usize, lanes: usize) -> Result<usize, NoMemory>
+    ensures { IfOk result (λ n. n ≡ nodes + lanes + lanes) }
+{
+    match nodes.checked_add(lanes) {
+        Some(entries) => match entries.checked_add(lanes) {
+            Some(all) => Ok(all),
+            None => Err(AllocError),
+        },
+        None => Err(AllocError),
+    }
+}
+
+/// The plans of the islands of a blueprint. They take all memory that islands want before their nodes hold their handles; a number
+/// that is out of 32 bits is want of memory. Rule: own.
+pub fn plans_of<S: Source, D: Drain>(alloc: Global, b: Blueprint) -> Result<Plans<S, D>, NoMemory>
+    requires { CanRun b }
+    ensures blueprint { IfOk result (λ plans. plans.blueprint.value ≡ b) }
+    ensures plans { IfOk result IsPlans }
+{
+    let blueprint = Snapshot::of(&b);
+    let wires = links_of(alloc, &b.nodes, &b.wires)?;
+    let found = homes_of_links(alloc, b.nodes.len(), &wires)?;
+    let count = found.firsts.len();
+    let homes = found.homes;
+    let lanes = lanes_of(alloc, &wires, &homes)?;
+    let ends = end_homes(alloc, &b.nodes, &wires, &homes)?;
+    let nodes = places_of(alloc, &b.nodes)?;
+    let own = copy_of(alloc, &homes)?;
+    let split = split_of(alloc, nodes, &wires, own, count, &lanes)?;
+    let seats = seat_all(alloc, b.nodes)?;
+    let places = Vec::with_capacity(alloc, all_places(seats.len(), lanes.len())?)?;
+    Ok(Plans {
+        seats,
+        places,
+        split,
+        blueprint,
+        lanes,
+        homes,
+        count,
+        ends,
+    })
+}
+
+impl<S: Source, D: Drain> Plans<S, D> {
+    /// The parts and the room of each island: the nodes at their places, the ends of lanes at the places behind them, and the links
+    /// of the wires, where each lane is cut. In the order of nodes, each source of lines reads the next of `sources`, and each sink
+    /// with a file writes the next of `drains`. It takes no memory. Rule: own.
+    pub fn fill(self, alloc: Global, sources: Vec<S>, drains: Vec<D>) -> Filled<S, D>
+        requires plans { IsPlans self }
+        requires sources { vec_len sources ≡ length (inputs_of_nodes self.blueprint.value.nodes.items) }
+        requires drains { vec_len drains ≡ length (outputs_of_nodes self.blueprint.value.nodes.items) }
+        ensures filled { IsFilled self.blueprint.value sources.items drains.items result }
+        ensures lanes { result.lanes ≡ self.lanes }
+        ensures homes { result.homes ≡ self.homes }
+        ensures count { result.count ≡ self.count }
+        ensures ends { result.ends ≡ self.ends }
+    {
+        islands_have_parts::<S, D>();
+        let nodes = fill_all(alloc, self.seats, self.places, sources, drains);
+        let islands = join(self.split, whole_seats(nodes, &self.lanes));
+        Filled {
+            islands,
+            lanes: self.lanes,
+            homes: self.homes,
+            count: self.count,
+            ends: self.ends,
+        }
+    }
+}

@@ -1,0 +1,11 @@
+-- The nodes of a blueprint as they are handed in, whatever joins them.
+use Rattle.std.specs.Prelude.{◌≡◌, ℕ, List, length, slice_get, Some}
+use Rattle.stream_model.specs.Graph as graph
+use Rattle.stream_io.specs.State.{SourceState}
+use Rattle.nodes.specs.declared.node.Node.{Node}
+use Rattle.run_laws.specs.Made.{FirstOf}
+
+-- each of these nodes of a blueprint's graph stands at its place, as it is handed in
+pub record AreFirsts {S D : Type 0} (sources : S → SourceState) (nodes : List graph.Node) (firsts : List (Node S D)) : Type 0 where
+  pub many : length firsts ≡ length nodes
+  pub each : (k : ℕ) (n : graph.Node) (x : Node S D) → slice_get nodes k ≡ Some n → slice_get firsts k ≡ Some x → FirstOf sources k n x

@@ -16,7 +16,6 @@ use Rattle.stream_model.specs.Outlook.{Outlook}
 use Rattle.stream_model.specs.Composed.{IsRanked, sink_outlook}
 use Rattle.stream_io.specs.Counts.{Grew}
 use Rattle.stream_io.specs.State.{FolderState, SourceState, DrainState, ClosesDrain}
-use Rattle.fused_net.specs.Net.{Net}
 use Rattle.fused_net.specs.Laws.{AllKept}
 use Rattle.nodes.specs.Keeping.{KeepsSource, KeepsDrain, KeepsEnd}
 use Rattle.nodes.specs.Nodes.{KeepsNode, node_end}
@@ -29,7 +28,6 @@ use Rattle.nodes.specs.declared.node.NodeEnd.TheVariants.{Read, Staged, Wrote}
 use Rattle.nodes.proofs.Drawings.{text_lines-append}
 use Rattle.interpreter.specs.declared.island.IslandEnd.{IslandEnd}
 use Rattle.run_account.specs.Account.{Account}
-use Rattle.run_account.specs.Seats.{account_of}
 use Rattle.run_laws.specs.Runs.{IsRun}
 use Rattle.run_laws.specs.Sinks.{SinkTells, SinkWrote}
 use Rattle.blue_core.specs.declared.blueprint.Blueprint.{Blueprint}
@@ -44,16 +42,15 @@ use Rattle.run_files.specs.Closing.{ClosesAll}
 use Rattle.run_files.proofs.Stoppings.{gives_up}
 use Rattle.run_files.proofs.Closings.{adds_more, adds_behind, keeps_more}
 use Rattle.run_files.specs.Names.{drain_names}
-use Rattle.run_files.proofs.Counts.{grew_same}
 use Rattle.blueprint_run.specs.Drawing.{Drawn, IsSource, IsWorldOf}
-use Rattle.blueprint_run.specs.Leaving.{LeavesBroken, HasHandles, HasAsMany}
+use Rattle.blueprint_run.specs.Leaving.{Moment, LeavesBroken, HasHandles, HasAsMany}
 use Rattle.blueprint_run.specs.Opening.{Opens, ClosesAs}
 use Rattle.blueprint_run.specs.Tracing.{written_files, IsApart}
-use Rattle.blueprint_run.specs.Running.{WasReadOn, SinkBreaks, BreaksFiles, WantsWithin, Wants}
+use Rattle.blueprint_run.specs.Running.{WasReadOn, SinkBreaks, BreaksFiles, WantsWithin}
 use Rattle.blueprint_run.proofs.Places.{mapped_at}
 use Rattle.blueprint_run.proofs.Profiles.{reader_in, writer_in, Profile}
 use Rattle.blueprint_run.proofs.Worlds.{world_of}
-use Rattle.blueprint_run.proofs.Handles.{HandleLaws, Between, source_facts, sink_facts, is_run, profiles, as_many}
+use Rattle.blueprint_run.proofs.Handles.{HandleLaws, source_facts, sink_facts, profiles, as_many}
 use Rattle.blueprint_run.proofs.Counts.{contains_or_not}
 use Rattle.blueprint_run.proofs.Shuts.{Shuts}
 use Rattle.blueprint_run.proofs.Traces.{LeftEmpty, listed, unlisted, lone_of, map_taken}
@@ -197,37 +194,37 @@ module _ {S D : Type 0} (sources : S → SourceState) (drains : D → DrainState
   abbrev nodes : List blue.Node
   nodes = b.nodes.items
 
-  abbrev net : Net (Node S D)
-  net = l.breaks.net
+  abbrev left : Account (Node S D)
+  left = l.account
+
+  abbrev last : List (Node S D)
+  last = l.last
 
   abbrev final : List (Node S D)
-  final = l.breaks.nodes
+  final = l.nodes
 
   abbrev g : Graph
   g = graph_of b
 
-  abbrev between : Between sources drains b ss ds net
-  between = record { places = l.places; seats = l.seats; settled = l.breaks.settled; firsts = l.breaks.firsts; ends = l.breaks.ends }
-
-  abbrev left : Account (Node S D)
-  left = account_of net
+  abbrev between : Moment sources drains b ss ds left last
+  between = l.moment
 
   run : IsRun sources drains g left
-  run = is_run sources drains handles b can ss ds net between old mid opens
+  run = l.moment.run
 
-  profile : (k : ℕ) (n : blue.Node) (x : Node S D) → slice_get nodes k ≡ Some n → slice_get net.nodes k ≡ Some x → Profile sources drains k n x
-  profile = profiles sources drains handles b can ss ds net between old mid opens
+  profile : (k : ℕ) (n : blue.Node) (x : Node S D) → slice_get nodes k ≡ Some n → slice_get last k ≡ Some x → Profile sources drains k n x
+  profile = profiles sources drains handles b ss ds left last between old mid opens
 
   lone : (n : List ℕ) → Contains (outputs_of_nodes nodes) n → Contains (option_to_list trace) n → ⊥
   lone = lone_of b trace separate
 
   apart : TakenApart sources drains b final e.readers.items e.writers.items
   apart = record {
-    as_many = as_many sources drains handles b can ss ds net between old mid opens ∙ kept_many sources drains net.nodes final l.breaks.kept;
-    input = λ k n y at here. let f = kept_from sources drains net.nodes final k y l.breaks.kept here in (profile k n f.0 at f.1.0).input ∙ sym (reads_same sources drains f.0 y f.1.1);
-    output = λ k n y at here. let f = kept_from sources drains net.nodes final k y l.breaks.kept here in (profile k n f.0 at f.1.0).output ∙ sym (writes_same sources drains f.0 y f.1.1);
-    readers_are = l.breaks.readers;
-    writers_are = l.breaks.writers;
+    as_many = as_many sources drains handles b ss ds left last between old mid opens ∙ kept_many sources drains last final l.kept;
+    input = λ k n y at here. let f = kept_from sources drains last final k y l.kept here in (profile k n f.0 at f.1.0).input ∙ sym (reads_same sources drains f.0 y f.1.1);
+    output = λ k n y at here. let f = kept_from sources drains last final k y l.kept here in (profile k n f.0 at f.1.0).output ∙ sym (writes_same sources drains f.0 y f.1.1);
+    readers_are = l.readers;
+    writers_are = l.writers;
   }
 
   -- the trace's file, as it was left where none of the sinks' drains has its name
@@ -245,16 +242,16 @@ module _ {S D : Type 0} (sources : S → SourceState) (drains : D → DrainState
   }
 
   abbrev drawn : Drawn
-  drawn = drawn_of sources l.places net
+  drawn = drawn_of sources left last
 
   module _ (tells_was : IsTrue old.tells) where
-    drew : Draws sources drains handles b can ss ds net between old mid opens
-    drew = draws_all sources drains handles b can ss ds net between old mid opens tells_was
+    drew : Draws sources drains handles b can ss ds left last between old mid opens
+    drew = draws_all sources drains handles b can ss ds left last between old mid opens tells_was
 
     source_breaks : (k : ℕ) (file : List ℕ) → IsSource nodes k file → WasReadOn old new file (drawn.bytes k) (drawn.given k) (drawn.faulted k)
     source_breaks k file is =
-        let f = source_facts sources drains handles b can ss ds net between old mid opens k file is in
-        let y = kept_at sources drains net.nodes final k (node.Reading f.now) l.breaks.kept f.there.at_last in
+        let f = source_facts sources drains handles b ss ds left last between old mid opens k file is in
+        let y = kept_at sources drains last final k (node.Reading f.now) l.kept f.at in
         let z = reading_kept sources drains f.now y.0 y.1.1 in
         let here : slice_get final k ≡ Some (node.Reading z.0) = y.1.0 ∙ ap Some z.1.0 in
         let named : (sources z.0.reader.source).name ≡ file = z.1.1.name ∙ f.law.name ∙ f.first_named in
@@ -265,14 +262,14 @@ module _ {S D : Type 0} (sources : S → SourceState) (drains : D → DrainState
           more = (sources z.0.reader.source).given;
           given_less = subst (λ (m : ℕ). m ≤ (sources z.0.reader.source).given) (sym given) z.1.1.given;
           ahead = subst (λ (m : ℕ). (sources z.0.reader.source).given ≤ m + 69632) (sym given) z.1.1.ahead;
-          read = reads_of sources drains handles b can ss ds net between old mid opens tells_was k file f new (sources z.0.reader.source).given read
+          read = reads_of sources drains handles b can ss ds left last between old mid opens tells_was k file f new (sources z.0.reader.source).given read
               (subst (λ (m : ℕ). Grew (old.rfaults file) m (new.rfaults file)) z.1.1.faults faults);
         }
 
     sink_breaks : (k : ℕ) (n : blue.Node) (file : List ℕ) → slice_get nodes k ≡ Some n → output_of n.kind ≡ Some file → SinkBreaks old new b drawn k n file
     sink_breaks k n file at shape =
-        let f = sink_facts sources drains handles b can ss ds net between old mid opens k file (record { node = n; at = at; file_is = shape }) in
-        let y = kept_at sources drains net.nodes final k (node.Writing f.now) l.breaks.kept f.there.at_last in
+        let f = sink_facts sources drains handles b ss ds left last between old mid opens k file (record { node = n; at = at; file_is = shape }) in
+        let y = kept_at sources drains last final k (node.Writing f.now) l.kept f.at in
         let z = writing_kept sources drains f.now y.0 y.1.1 in
         let here : slice_get final k ≡ Some (node.Writing z.0) = y.1.0 ∙ ap Some z.1.0 in
         let named : (drains z.0.drain).name ≡ file = ap (λ (s : DrainState). s.name) z.1.1 ∙ f.law.name ∙ f.first_named in
@@ -296,9 +293,9 @@ module _ {S D : Type 0} (sources : S → SourceState) (drains : D → DrainState
     breaks_files : Emptied → BreaksFiles old new b trace
     breaks_files ended = record {
       drawn = drawn;
-      chose = picks_stand sources drains handles b can ss ds net between old mid opens;
+      chose = picks_stand sources drains handles b can ss ds left last between old mid opens;
       read = source_breaks;
-      world = world_of nodes drawn (made_moves sources drains handles b can ss ds net between old mid opens);
+      world = world_of nodes drawn (made_moves sources drains handles b can ss ds left last between old mid opens);
       has_files = drew.has_files;
       sink = sink_breaks;
       others = λ tells n never aside. other_files sources drains b can final e.readers.items e.writers.items apart old mid _ _ opens new closes lone tells n never (unlisted trace n aside);

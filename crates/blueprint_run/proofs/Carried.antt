@@ -42,7 +42,7 @@ silent moves = record {
 pub silent_keeps : (moves : ℕ → List ℕ) (plugs : List PlugHead) → KeepsPlugTypes plugs (silent moves).book
 silent_keeps moves plugs = record { reply = λ name p named taken x held fits. tt; closing = λ name p named taken held. tt }
 
-module _ (b : Blueprint) (can : CanRun b) (wires : List WireCount) (picks : List Pick) (moves : ℕ → List ℕ) (items : ℕ → List Item) (counts : (u : ℕ) → sent_at wires u ≡ elements (items u))
+module _ (b : Blueprint) (can : CanRun b) (wires : List WireCount) (picks : List Pick) (moves : ℕ → List ℕ) (items : ℕ → List Item) (counts : (u : ℕ) (v : Wire) → slice_get (blueprint_wires b) u ≡ Some v → sent_at wires u ≡ elements (items u))
     (sends : (plugs : List PlugHead) (taken : List (List ℕ)) → IsFit b plugs taken → (i : ℕ) (v : Wire) → slice_get (blueprint_wires b) i ≡ Some v → SendsItsType plugs b.chains.items b.nodes.items (graph_of b) (silent moves) i v (items i))
     (gives : (w : World) → HasPicks picks w → (sent : ℕ → Outlook) (j : ℕ) (v : Wire) (n : graph.Node) → slice_get (blueprint_wires b) j ≡ Some v → slice_get (graph_of b).nodes v.from ≡ Some n → ((name : List ℕ) → n.kind ≢ Lines name)
     → ((u : ℕ) (x : Wire) → slice_get (blueprint_wires b) u ≡ Some x → x.to ≡ v.from → AgreesWith (sent u) (items u)) → AgreesWith (next (graph_of b) w sent j) (items j)) where
@@ -56,7 +56,7 @@ module _ (b : Blueprint) (can : CanRun b) (wires : List WireCount) (picks : List
   counted i v at =
       let s = sends can.plugs can.taken can.fit i v at in
       let list : lists i ≡ s.list = ap list_of s.is ∙ list_of_told s.list s.end in
-      counts i ∙ ap elements s.is ∙ elements_told s.list s.end ∙ ap length (sym list)
+      counts i v at ∙ ap elements s.is ∙ elements_told s.list s.end ∙ ap length (sym list)
 
   agrees : (u : ℕ) (x : Wire) → slice_get (blueprint_wires b) u ≡ Some x → AgreesWith (exact (lists u) (ends u)) (items u)
   agrees u x at =

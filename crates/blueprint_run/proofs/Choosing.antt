@@ -1,5 +1,5 @@
 -- What the stages of an island chose: a list of moves for each node whose kind chooses, and the worlds that tell of it.
-use Rattle.std.proofs.Common.{◌≡◌, ◌≢◌, ℕ, zero, suc, ◌+◌, Bool, true, false, List, [], ◌∷◌, length, map, slice_get, refl, sym, ap, ◌∙◌, subst, arith}
+use Rattle.std.proofs.Common.{◌≡◌, ◌≢◌, ℕ, zero, suc, ◌+◌, Bool, true, false, List, [], ◌∷◌, length, slice_get, refl, sym, ap, ◌∙◌, subst, arith}
 use Rattle.std.specs.Prelude.{Option, Some, None, if◌then◌else◌}
 use Rattle.std.specs.Option.{unwrap_or}
 use Rattle.elem_core.specs.declared.item.Item.{Item}
@@ -9,6 +9,7 @@ use Rattle.stream_model.specs.declared.kind.Kind.{Kind}
 use Rattle.stream_model.specs.declared.kind.Kind.TheVariants as kind
 use Rattle.stream_model.specs.declared.kind.Policy.{Policy}
 use Rattle.stream_model.specs.declared.kind.Policy.TheVariants.{Backpressure, DropHead, DropTail, DropBuffer, DropNew, Fail}
+use Rattle.stream_model.specs.Composed.{count_from}
 use Rattle.stream_model.specs.Node.{World}
 use Rattle.stream_io.specs.State.{SourceState, DrainState}
 use Rattle.stage_linear.specs.States.{IsLinear}
@@ -35,13 +36,11 @@ use Rattle.nodes.specs.Nodes.{node_law, node_picks, node_moves}
 use Rattle.nodes.specs.Kinds.{IsMaker, IsFileSink}
 use Rattle.nodes.specs.declared.node.Node.{Node}
 use Rattle.nodes.specs.declared.node.Node.TheVariants as node
-use Rattle.interpreter.specs.declared.parts.Seated.{Seated}
-use Rattle.interpreter.specs.Picks.{node_number, Pick, with_picks, picks_of}
+use Rattle.interpreter.specs.Picks.{Pick, with_picks, picks_of}
 use Rattle.run_laws.specs.Made.{FirstOf}
 use Rattle.blue_core.specs.declared.blueprint.Node as blue
 use Rattle.blue_rules.specs.Picks.{picks}
 use Rattle.materializer.specs.Graphs.{node_of}
-use Rattle.materializer.specs.Seats.{AreSeats}
 use Rattle.blueprint_run.specs.Choosing.{pick_places, picked, HasPicks}
 
 -- what a node whose kind chooses recorded, and what no other does
@@ -166,15 +165,14 @@ picked_cons : (k j : ℕ) (b : Bool) (o : Option (List ℕ)) (later : List ℕ) 
 picked_cons k j true o later rest h e f = rw h.1 (ap (λ m. m ∷ picked rest) e ∙ ap (λ l. k ∷ l) f)
 picked_cons k j false o later rest h e f = rw h f
 
-pub picked_along : {S D : Type 0} (k : ℕ) (ns : List blue.Node) (ss : List S) (ds : List D) (ps : List (Seated S D)) (xs : List (Node S D)) → AreSeats k ns ss ds ps → length ns ≡ length xs
-    → ((i : ℕ) (n : blue.Node) (x : Node S D) → slice_get ns i ≡ Some n → slice_get xs i ≡ Some x → ChoosesAs (picks n.kind) (node_picks x)) → picked (picks_of (map node_number ps) xs) ≡ pick_places k ns
-picked_along k [] ss ds [] xs seats e each = refl
-picked_along k [] ss ds (p ∷ ps) xs seats e each = absurd seats
-picked_along k (n ∷ ns) ss ds [] xs seats e each = absurd seats
-picked_along k (n ∷ ns) ss ds (p ∷ ps) [] seats e each = absurd (omega (arith, e))
-picked_along k (n ∷ ns) ss ds (p ∷ ps) (x ∷ xs) seats e each =
-    picked_cons k p.node (picks n.kind) (node_picks x) (pick_places (k + 1) ns) (picks_of (map node_number ps) xs) (each 0 n x refl refl) seats.0
-    (picked_along (k + 1) ns _ _ ps xs seats.1.1 (omega (arith, e)) (λ i m y a b. each (suc i) m y a b))
+pub picked_along : {S D : Type 0} (k : ℕ) (ns : List blue.Node) (xs : List (Node S D)) → length ns ≡ length xs
+    → ((i : ℕ) (n : blue.Node) (x : Node S D) → slice_get ns i ≡ Some n → slice_get xs i ≡ Some x → ChoosesAs (picks n.kind) (node_picks x)) → picked (picks_of (count_from k (length xs)) xs) ≡ pick_places k ns
+picked_along k [] [] e each = refl
+picked_along k [] (x ∷ xs) e each = absurd (omega (arith, e))
+picked_along k (n ∷ ns) [] e each = absurd (omega (arith, e))
+picked_along k (n ∷ ns) (x ∷ xs) e each =
+    picked_cons k k (picks n.kind) (node_picks x) (pick_places (k + 1) ns) (picks_of (count_from (k + 1) (length xs)) xs) (each 0 n x refl refl) refl
+    (picked_along (k + 1) ns xs (omega (arith, e)) (λ i m y a b. each (suc i) m y a b))
 
 -- ---- a world that has the moves tells of every stage
 
@@ -186,19 +184,16 @@ later_told : (j : ℕ) (o : Option (List ℕ)) (rest : List Pick) (w : World) �
 later_told j None rest w h = h
 later_told j (Some m) rest w h = λ i p e. h (suc i) p e
 
-pub told_along : {S D : Type 0} (k : ℕ) (ns : List blue.Node) (ss : List S) (ds : List D) (ps : List (Seated S D)) (xs : List (Node S D)) → AreSeats k ns ss ds ps → length ns ≡ length xs
-    → (w : World) → HasPicks (picks_of (map node_number ps) xs) w → (i : ℕ) (x : Node S D) (moves : List ℕ) → slice_get xs i ≡ Some x → node_picks x ≡ Some moves → w.moves (k + i) ≡ moves
-told_along k [] ss ds ps [] seats e w has i x moves at is = absurd cc
-told_along k [] ss ds ps (y ∷ xs) seats e w has i x moves at is = absurd (omega (arith, e))
-told_along k (n ∷ ns) ss ds [] xs seats e w has i x moves at is = absurd seats
-told_along k (n ∷ ns) ss ds (p ∷ ps) [] seats e w has i x moves at is = absurd cc
-told_along k (n ∷ ns) ss ds (p ∷ ps) (y ∷ xs) seats e w has zero x moves at is =
+pub told_along : {S D : Type 0} (k : ℕ) (xs : List (Node S D)) (w : World) → HasPicks (picks_of (count_from k (length xs)) xs) w
+    → (i : ℕ) (x : Node S D) (moves : List ℕ) → slice_get xs i ≡ Some x → node_picks x ≡ Some moves → w.moves (k + i) ≡ moves
+told_along k [] w has i x moves at is = absurd cc
+told_along k (y ∷ xs) w has zero x moves at is =
     let same : y ≡ x = cc in
     let place : k + 0 ≡ k = omega arith in
-    first_told p.node (k + 0) (node_picks y) (picks_of (map node_number ps) xs) w moves has (ap node_picks same ∙ is) (seats.0 ∙ sym place)
-told_along k (n ∷ ns) ss ds (p ∷ ps) (y ∷ xs) seats e w has (suc i) x moves at is =
+    first_told k (k + 0) (node_picks y) (picks_of (count_from (k + 1) (length xs)) xs) w moves has (ap node_picks same ∙ is) (sym place)
+told_along k (y ∷ xs) w has (suc i) x moves at is =
     let place : (k + 1) + i ≡ k + suc i = omega arith in
-    ap w.moves (sym place) ∙ told_along (k + 1) ns _ _ ps xs seats.1.1 (omega (arith, e)) w (later_told p.node (node_picks y) (picks_of (map node_number ps) xs) w has) i x moves at is
+    ap w.moves (sym place) ∙ told_along (k + 1) xs w (later_told k (node_picks y) (picks_of (count_from (k + 1) (length xs)) xs) w has) i x moves at is
 
 -- ---- a world in which each node made its moves has them
 
@@ -207,13 +202,10 @@ has_cons j k None rest w e f h i p at = h i p at
 has_cons j k (Some m) rest w e f h zero p at = let same : (j, m) ≡ p = cc in subst (λ (q : Pick). w.moves q.0 ≡ q.1) same (ap w.moves e ∙ f)
 has_cons j k (Some m) rest w e f h (suc i) p at = h i p at
 
-pub has_along : {S D : Type 0} (k : ℕ) (ns : List blue.Node) (ss : List S) (ds : List D) (ps : List (Seated S D)) (xs : List (Node S D)) → AreSeats k ns ss ds ps → (w : World)
-    → ((i : ℕ) (x : Node S D) → slice_get xs i ≡ Some x → w.moves (k + i) ≡ node_moves x) → HasPicks (picks_of (map node_number ps) xs) w
-has_along k [] ss ds [] xs seats w each = λ i p at. absurd cc
-has_along k [] ss ds (q ∷ ps) xs seats w each = absurd seats
-has_along k (n ∷ ns) ss ds [] xs seats w each = absurd seats
-has_along k (n ∷ ns) ss ds (q ∷ ps) [] seats w each = λ i p at. absurd cc
-has_along k (n ∷ ns) ss ds (q ∷ ps) (x ∷ xs) seats w each =
+pub has_along : {S D : Type 0} (k : ℕ) (xs : List (Node S D)) (w : World)
+    → ((i : ℕ) (x : Node S D) → slice_get xs i ≡ Some x → w.moves (k + i) ≡ node_moves x) → HasPicks (picks_of (count_from k (length xs)) xs) w
+has_along k [] w each = λ i p at. absurd cc
+has_along k (x ∷ xs) w each =
     let place : k + 0 ≡ k = omega arith in
-    has_cons q.node k (node_picks x) (picks_of (map node_number ps) xs) w seats.0 (ap w.moves (sym place) ∙ each 0 x refl)
-    (has_along (k + 1) ns _ _ ps xs seats.1.1 w (λ i y at. let later : (k + 1) + i ≡ k + suc i = omega arith in ap w.moves later ∙ each (suc i) y at))
+    has_cons k k (node_picks x) (picks_of (count_from (k + 1) (length xs)) xs) w refl (ap w.moves (sym place) ∙ each 0 x refl)
+    (has_along (k + 1) xs w (λ i y at. let later : (k + 1) + i ≡ k + suc i = omega arith in ap w.moves later ∙ each (suc i) y at))

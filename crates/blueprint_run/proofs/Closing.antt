@@ -1,6 +1,6 @@
--- From the island of a blueprint at its end to what the run leaves in the folder.
-use Rattle.std.proofs.Common.{◌≡◌, ◌≢◌, ◌⊎◌, inl, inr, ℕ, zero, suc, ◌+◌, ◌*◌, ◌<◌, ◌≤◌, Bool, true, false, List, [], ◌∷◌, map, length, slice_get, refl, sym, ap, ◌∙◌, subst, arith}
-use Rattle.std.specs.Prelude.{IsTrue, Option, Some, slice_index_or, ◌==◌, ◌||◌}
+-- From the account of a blueprint's run at its end to what the run leaves in the folder.
+use Rattle.std.proofs.Common.{◌≡◌, ◌≢◌, ◌⊎◌, inl, inr, ℕ, suc, ◌+◌, ◌<◌, ◌≤◌, Bool, true, false, List, [], ◌∷◌, map, length, slice_get, refl, sym, ap, ◌∙◌, subst, arith}
+use Rattle.std.specs.Prelude.{IsTrue, Option, None, Some, ◌==◌, ◌||◌}
 use Rattle.std.specs.Option.{option_to_list}
 use Rattle.std.specs.List.{Contains, filter_map, list_any}
 use Rattle.std.proofs.lemmas.List.{length-map}
@@ -21,42 +21,30 @@ use Rattle.stream_model.proofs.Compositions.{found_first}
 use Rattle.stream_picture.specs.Lawful.{IsLawful}
 use Rattle.stream_picture.specs.OneWay as oneway
 use Rattle.stream_picture.specs.Rests.{Rests, SinksMatch}
-use Rattle.stream_picture.specs.Shape.{IsPolytree, IsWired, sent_at, need, count_needed, need_from}
+use Rattle.stream_picture.specs.Shape.{IsPolytree, IsWired, sent_at, need, count_needed}
 use Rattle.stream_picture.specs.View.{EachWire, ins, outputs_of}
 use Rattle.picture_laws.specs.Picture.{has_ended, sink_ended, ended_there}
 use Rattle.stream_io.specs.Counts.{Grew}
 use Rattle.stream_io.specs.State.{FolderState, SourceState, DrainState}
 use Rattle.stream_io.specs.Reading.{FirstTooLong}
-use Rattle.wire_core.specs.Cell.{Cell}
-use Rattle.wire_core.specs.Counts.{elements, spent, asks}
-use Rattle.port_core.specs.Ring.{holds}
-use Rattle.wire_core.specs.Reading.{no_wire}
-use Rattle.fused_net.specs.Net.{Net, wire_at}
-use Rattle.fused_net.specs.Laws.{Settled}
-use Rattle.fused_net.specs.Costs.{sum_below, total}
-use Rattle.fused_net.proofs.Sums.{sum_le}
-use Rattle.nodes.specs.Nodes.{node_row, node_law, node_asking, node_moves}
+use Rattle.wire_core.specs.Counts.{elements}
 use Rattle.nodes.specs.Drawing.{ended_lines}
 use Rattle.nodes.specs.Source.{Lines}
 use Rattle.nodes.specs.Sink.{Sink, StandsAs}
 use Rattle.nodes.specs.Ignoring.{Ignorer}
 use Rattle.nodes.specs.declared.node.Node.{Node}
 use Rattle.nodes.specs.declared.node.Node.TheVariants as node
-use Rattle.interpreter.specs.Parts.{number_of, ends_of}
-use Rattle.interpreter.specs.declared.parts.Link.{Link}
-use Rattle.interpreter.specs.Island as island
 use Rattle.interpreter.specs.Picks.{pick_of}
-use Rattle.run_account.specs.Account.{Account, IsStill}
+use Rattle.run_account.specs.Account.{Account, IsStill, took}
 use Rattle.run_account.specs.Items.{AgreesWith}
 use Rattle.run_account.specs.Pictures as pictures
-use Rattle.run_account.specs.Ports.{count_of}
-use Rattle.run_account.specs.Seats.{account_of}
+use Rattle.run_account.specs.Ports.{wire_count}
 use Rattle.run_account.proofs.Coming.{elements_told}
-use Rattle.run_laws.specs.Made.{Materializes}
+use Rattle.run_account.proofs.Pictures.{counts_at}
 use Rattle.run_laws.specs.Runs.{IsRun}
 use Rattle.run_laws.specs.Telling.{TellsPicks, Tells}
 use Rattle.run_laws.proofs.Choosing.{chosen_told}
-use Rattle.run_laws.specs.Sinks.{SinkWrote, SentTo, IsSinkAt, IgnoreTells, IsIgnorerAt}
+use Rattle.run_laws.specs.Sinks.{TookList, SinkWrote, SentTo, IsSinkAt, IgnoreTells, IsIgnorerAt}
 use Rattle.run_laws.specs.Reads.{IsSourceAt, ReadsAhead, SentLines}
 use Rattle.blue_core.specs.declared.blueprint.Blueprint.{Blueprint}
 use Rattle.blue_core.specs.declared.blueprint.ChainDecl.{ChainDecl}
@@ -68,7 +56,6 @@ use Rattle.plug_core.specs.declared.head.PlugHead.{PlugHead}
 use Rattle.materializer.specs.Built.{CanRun}
 use Rattle.materializer.specs.Files.{output_of, inputs_of_nodes, outputs_of_nodes, is_sink}
 use Rattle.materializer.specs.Graphs.{node_of, graph_of}
-use Rattle.materializer.specs.Seats.{links_from}
 use Rattle.run_files.specs.Names.{drain_names}
 use Rattle.type_laws.specs.Checked.{plain, plain_chain, PassesRules}
 use Rattle.type_laws.specs.Plugs.{KeepsPlugTypes}
@@ -77,20 +64,22 @@ use Rattle.blueprint_run.specs.Carrying.{Carries}
 use Rattle.blueprint_run.specs.Choosing.{picked}
 use Rattle.blueprint_run.proofs.Carried.{silent, silent_keeps, carries}
 use Rattle.blueprint_run.specs.Drawing.{Drawn, IsSource, WasRead, IsWorldOf, DrawsFirst}
-use Rattle.blueprint_run.specs.Leaving.{Leaves, HasAsMany}
+use Rattle.blueprint_run.specs.Leaving.{Moment, Leaves, HasAsMany}
 use Rattle.blueprint_run.specs.Opening.{Opens}
 use Rattle.blueprint_run.specs.Tracing.{IsApart, Traces}
+use Rattle.blueprint_run.specs.Sending.{SentOn}
 use Rattle.blueprint_run.specs.Running.{SinkLeaves, IgnoreLeaves, LeavesFiles, WritesOf, Runs}
 use Rattle.blueprint_run.specs.Stands.{Stand, has_ended_at, is_write_fault, is_unended}
 use Rattle.blueprint_run.specs.Units.{all_sent, Pays}
 use Rattle.blueprint_run.specs.declared.run.Stopped.{Stopped}
 use Rattle.blueprint_run.specs.declared.run.Ran.{Ran}
 use Rattle.blueprint_run.proofs.Counts.{rose_by, rose_from_none, is_positive, positive, contains_or_not}
-use Rattle.blueprint_run.proofs.Units.{spent_most, sent_asked, count_most, need_more, passed_within}
+use Rattle.blueprint_run.proofs.Units.{need_more, passed_within}
 use Rattle.blueprint_run.proofs.Worlds.{world_of, tree_by_wires}
 use Rattle.blueprint_run.proofs.Places.{contains_at, contained_at, mapped_at, unmapped_at, filtered_at, unfiltered_at, place_of, place_one, place_within}
 use Rattle.blueprint_run.proofs.Profiles.{some_one, stand_in, writer_there, sinks_filtered, StandsAt, Profile, ended_along}
-use Rattle.blueprint_run.proofs.Handles.{IsSinkInto, HandleLaws, Between, fault_kind, writer_kind, SourceFacts, SinkFacts, source_facts, sink_facts, made, is_run, profiles, as_many, stands_are}
+use Rattle.blueprint_run.proofs.Handles.{IsSinkInto, HandleLaws, fault_kind, writer_kind, SourceFacts, SinkFacts, source_facts, sink_facts, profiles, as_many, stands_are}
+use Rattle.blueprint_run.proofs.Sending.{sink_sent, sink_rests, ignorer_told}
 use Rattle.blueprint_run.proofs.Shuts.{Shuts}
 use Rattle.blueprint_run.proofs.Traces.{unlisted, lone_of, calm_trace}
 use Rattle.blueprint_run.proofs.Shutting.{TakenApart, unwritten, read_grew, faults_grew, writes_grew, file_held, other_files, other_reads, other_writes, other_draws, refused, tells_old, readers_many, writers_many}
@@ -98,16 +87,17 @@ use Rattle.blueprint_run.proofs.Drawns.{drawn_of, made_moves, picks_told, picks_
 
 -- ---- the wires' counts
 
-sent_count : (cells : List Cell) (i : ℕ) → sent_at (map count_of cells) i ≡ elements (slice_index_or cells i no_wire).wire.sent
-sent_count [] i = refl
-sent_count (c ∷ cs) zero = refl
-sent_count (c ∷ cs) (suc i) = sent_count cs i
+-- the count of a wire in a picture is what was sent at its output
+sent_there : {N : Type 0} (a : Account N) (g : Graph) (u : ℕ) (v : Wire) → slice_get g.wires u ≡ Some v → sent_at (pictures.counts_of a g) u ≡ elements (a.near u).wire.sent
+sent_there a g u v at =
+    let place : 0 + u ≡ u = omega arith in
+    let there : slice_get (pictures.counts_of a g) u ≡ Some (wire_count v.lane (a.near u) (a.asked u)) = subst (λ (k : ℕ). slice_get (pictures.counts_of a g) u ≡ Some (wire_count v.lane (a.near k) (a.asked k))) place (counts_at a 0 g.wires u v at) in
+    ap (λ (o : Option WireCount). elim o as (λ _. ℕ) [ Some c ↦ c.sent | None ↦ 0 ]) there
 
-counts_second : (links : List Link) (cells : List Cell) → length links ≡ length cells → map (λ (w : ℕ × WireCount). w.1) (island.counts_of (map number_of links) cells) ≡ map count_of cells
-counts_second [] [] e = refl
-counts_second [] (c ∷ cs) e = absurd (omega (arith, e))
-counts_second (l ∷ ls) [] e = absurd (omega (arith, e))
-counts_second (l ∷ ls) (c ∷ cs) e = ap (λ (x : List WireCount). island.count_of c ∷ x) (counts_second ls cs (omega (arith, e)))
+-- a picture has a count for each wire
+counts_many : {N : Type 0} (a : Account N) (i : ℕ) (vs : List Wire) → length (pictures.counts_from a i vs) ≡ length vs
+counts_many a i [] = refl
+counts_many a i (v ∷ vs) = ap suc (counts_many a (i + 1) vs)
 
 -- ---- the drain of a sink
 
@@ -155,8 +145,8 @@ ended_stand (node.FanOut x) s f = absurd cc
 ended_stand (node.Entering x) s f = absurd cc
 ended_stand (node.Leaving x) s f = absurd cc
 
-ended_as : {S D : Type 0} (nodes : List (Node S D)) (k : ℕ) (x : Node S D) (s : Stand) → slice_get nodes k ≡ Some x → stand_in x ≡ Some s → ended_there (slice_get nodes k) ≡ has_ended s.2
-ended_as nodes k x s e f = ap ended_there e ∙ ended_stand x s f
+ended_as : {S D : Type 0} (o : Option (Node S D)) (x : Node S D) (s : Stand) → o ≡ Some x → stand_in x ≡ Some s → ended_there o ≡ has_ended s.2
+ended_as o x s e f = ap ended_there e ∙ ended_stand x s f
 
 sink_shape : (k : Kind) → oneway.is_sink k ≡ true → (outputs_of k == 0) ≡ true
 sink_shape (kind.ToLines f) e = refl
@@ -202,6 +192,10 @@ module _ {S D : Type 0} (sources : S → SourceState) (drains : D → DrainState
   WroteLaw = (g : Graph) (a : Account (Node S D)) → IsRun sources drains g a
       → (k : ℕ) (n : graph.Node) (first now : Sink D) → slice_get g.nodes k ≡ Some n → IsSinkAt a k first now → SinkWrote sources drains g a k n first now
 
+  abbrev TookLaw : Type 0
+  TookLaw = (g : Graph) (w : World) (rank : ℕ → ℕ) (a : Account (Node S D)) → IsRun sources drains g a → Tells sources g w a → IsRanked g rank
+      → (k : ℕ) (n : graph.Node) (name : List ℕ) (first now : Sink D) → slice_get g.nodes k ≡ Some n → n.kind ≡ kind.ToLines name → IsSinkAt a k first now → TookList (sink_outlook g w k n) now.end (took g a k n)
+
   abbrev SentLaw : Type 0
   SentLaw = (g : Graph) (a : Account (Node S D)) → IsRun sources drains g a
       → (k : ℕ) (n : graph.Node) (name : List ℕ) (first now : Sink D) (u : ℕ) (v : Wire) → slice_get g.nodes k ≡ Some n → n.kind ≡ kind.ToLines name → IsSinkAt a k first now → slice_get g.wires u ≡ Some v → v.to ≡ k
@@ -245,17 +239,6 @@ module _ {S D : Type 0} (sources : S → SourceState) (drains : D → DrainState
   IgnorerThere = (g : Graph) (a : Account (Node S D)) → IsRun sources drains g a
       → (k : ℕ) (n : graph.Node) → slice_get g.nodes k ≡ Some n → n.kind ≡ kind.Ignore → (first : Ignorer) × ((now : Ignorer) × IsIgnorerAt a k first now)
 
-  abbrev IgnoresLaw : Type 0
-  IgnoresLaw = (g : Graph) (w : World) (rank : ℕ → ℕ) (a : Account (Node S D)) → IsRun sources drains g a → Tells sources g w a → IsRanked g rank
-      → (k : ℕ) (n : graph.Node) (first now : Ignorer) (u : ℕ) (v : Wire) → slice_get g.nodes k ≡ Some n → IsIgnorerAt a k first now → slice_get g.wires u ≡ Some v → v.to ≡ k
-      → IgnoreTells (sink_outlook g w k n) now.end (elements (a.far u).wire.sent)
-
-  abbrev StillLaw : Type 0
-  StillLaw = (g : Graph) (net : Net (Node S D)) → Settled node_row (node_law sources drains) node_asking node_moves net → Materializes sources g net.firsts net.ends → net.queue ≡ [] → IsStill g (account_of net)
-
-  abbrev CountsLaw : Type 0
-  CountsLaw = (g : Graph) (net : Net (Node S D)) → Settled node_row (node_law sources drains) node_asking node_moves net → Materializes sources g net.firsts net.ends → pictures.counts_of (account_of net) g ≡ map count_of net.wires
-
   abbrev FitsLaw : Type 0
   FitsLaw = (b : Blueprint) (plugs : List PlugHead) (taken : List (List ℕ)) (g : Graph) → IsFit b plugs taken → g.nodes ≡ map plain b.nodes.items → g.wires ≡ blueprint_wires b → g.chains ≡ map plain_chain b.chains.items
       → PassesRules plugs b.chains.items b.nodes.items g
@@ -274,8 +257,6 @@ module _ {S D : Type 0} (sources : S → SourceState) (drains : D → DrainState
     pub fits : FitsLaw
     pub types : TypesLaw
     pub gives : GivesLaw
-    pub still : StillLaw
-    pub counts : CountsLaw
     pub ranked : (b : Blueprint) (plugs : List PlugHead) (taken : List (List ℕ)) → IsFit b plugs taken → (rank : ℕ → ℕ) × IsRanked (graph_of b) rank
     pub agree : AgreeLaw
     pub trees : TreesLaw
@@ -288,7 +269,7 @@ module _ {S D : Type 0} (sources : S → SourceState) (drains : D → DrainState
     pub moves : MovesLaw
     pub match : MatchLaw
     pub ignorer : IgnorerThere
-    pub ignores : IgnoresLaw
+    pub took : TookLaw
 
 -- ---- what a run leaves
 
@@ -298,115 +279,85 @@ module _ {S D : Type 0} (sources : S → SourceState) (drains : D → DrainState
   abbrev nodes : List blue.Node
   nodes = b.nodes.items
 
-  abbrev net : Net (Node S D)
-  net = l.stops.net
+  abbrev left : Account (Node S D)
+  left = l.account
 
-  abbrev between : Between sources drains b ss ds net
-  between = record { places = l.places; seats = l.seats; settled = l.stops.settled; firsts = l.stops.firsts; ends = l.stops.ends }
+  abbrev last : List (Node S D)
+  last = l.nodes
+
+  abbrev between : Moment sources drains b ss ds left last
+  between = l.moment
 
   abbrev g : Graph
   g = graph_of b
 
-  net_made : Materializes sources g net.firsts net.ends
-  net_made = made sources drains handles b can ss ds net between old mid opens
-
   abbrev Source : ℕ → List ℕ → Type 0
-  Source k file = SourceFacts sources drains handles b can ss ds net between old mid opens k file
+  Source k file = SourceFacts sources drains handles b ss ds left last between old mid opens k file
 
   abbrev ASink : ℕ → List ℕ → Type 0
-  ASink k file = SinkFacts sources drains handles b can ss ds net between old mid opens k file
+  ASink k file = SinkFacts sources drains handles b ss ds left last between old mid opens k file
 
   source_at : (k : ℕ) (file : List ℕ) → IsSource nodes k file → Source k file
-  source_at = source_facts sources drains handles b can ss ds net between old mid opens
+  source_at = source_facts sources drains handles b ss ds left last between old mid opens
 
   sink_at : (k : ℕ) (file : List ℕ) → IsSinkInto nodes k file → ASink k file
-  sink_at = sink_facts sources drains handles b can ss ds net between old mid opens
+  sink_at = sink_facts sources drains handles b ss ds left last between old mid opens
 
-  profile : (k : ℕ) (n : blue.Node) (x : Node S D) → slice_get nodes k ≡ Some n → slice_get net.nodes k ≡ Some x → Profile sources drains k n x
-  profile = profiles sources drains handles b can ss ds net between old mid opens
+  profile : (k : ℕ) (n : blue.Node) (x : Node S D) → slice_get nodes k ≡ Some n → slice_get last k ≡ Some x → Profile sources drains k n x
+  profile = profiles sources drains handles b ss ds left last between old mid opens
 
   lone : (n : List ℕ) → Contains (outputs_of_nodes nodes) n → Contains (option_to_list trace) n → ⊥
   lone = lone_of b trace separate
 
   -- its handles were closed
-  apart : TakenApart sources drains b net.nodes st.end.readers.items st.end.writers.items
+  apart : TakenApart sources drains b last st.end.readers.items st.end.writers.items
   apart = record {
-    as_many = as_many sources drains handles b can ss ds net between old mid opens;
+    as_many = as_many sources drains handles b ss ds left last between old mid opens;
     input = λ k n x at here. (profile k n x at here).input;
     output = λ k n x at here. (profile k n x at here).output;
-    readers_are = l.stops.readers;
-    writers_are = l.stops.writers;
+    readers_are = l.readers;
+    writers_are = l.writers;
   }
 
   -- all of them
   pub closes_run : HasAsMany ss ds st.end
   closes_run = record {
-    readers = readers_many sources drains b net.nodes st.end.readers.items st.end.writers.items apart ss opens.input_names;
-    writers = writers_many sources drains b net.nodes st.end.readers.items st.end.writers.items apart ds opens.output_names;
+    readers = readers_many sources drains b last st.end.readers.items st.end.writers.items apart ss opens.input_names;
+    writers = writers_many sources drains b last st.end.readers.items st.end.writers.items apart ds opens.output_names;
   }
 
   sink_writes : (k : ℕ) (file : List ℕ) (f : ASink k file) → Grew (old.wfaults file) (drains f.now.drain).faults (new.wfaults file)
-  sink_writes k file f = writes_grew sources drains b can net.nodes st.end.readers.items st.end.writers.items apart old mid _ _ opens new closes lone k file f.now f.there.at_last (f.law.name ∙ f.first_named)
+  sink_writes k file f = writes_grew sources drains b can last st.end.readers.items st.end.writers.items apart old mid _ _ opens new closes lone k file f.now f.at (f.law.name ∙ f.first_named)
 
   sink_held : (k : ℕ) (file : List ℕ) (f : ASink k file) → IsTrue new.tells → new.file file ≡ (drains f.now.drain).holds
-  sink_held k file f = file_held sources drains b can net.nodes st.end.readers.items st.end.writers.items apart old mid _ _ opens new closes lone k file f.now f.there.at_last (f.law.name ∙ f.first_named)
-
-  abbrev left : Account (Node S D)
-  left = account_of net
+  sink_held k file f = file_held sources drains b can last st.end.readers.items st.end.writers.items apart old mid _ _ opens new closes lone k file f.now f.at (f.law.name ∙ f.first_named)
 
   run : IsRun sources drains g left
-  run = is_run sources drains handles b can ss ds net between old mid opens
+  run = l.moment.run
 
   still : IsTrue st.at_rest → IsStill g left
-  still rest = laws.still g net l.stops.settled net_made (l.stops.rests.0 rest)
-
-  -- the wires' counts are those of the net
-  wires_net : st.wires.items ≡ map count_of net.wires
-  wires_net =
-      let count : length (links_from 0 (blueprint_wires b)) ≡ length net.wires = sym (length-map (links_from 0 (blueprint_wires b)) ends_of) ∙ ap length (sym l.stops.ends) ∙ l.stops.settled.wired.each_wire in
-      l.stops.wires ∙ counts_second (links_from 0 (blueprint_wires b)) net.wires count
+  still rest = l.still rest
 
   wires_are : st.wires.items ≡ pictures.counts_of left g
-  wires_are = wires_net ∙ sym (laws.counts g net l.stops.settled net_made)
+  wires_are = l.wires
 
-  wire_count : (u : ℕ) → sent_at st.wires.items u ≡ elements (wire_at net u).wire.sent
-  wire_count u = ap (λ (c : List WireCount). sent_at c u) wires_net ∙ sent_count net.wires u
+  wire_count_at : (u : ℕ) (v : Wire) → slice_get (blueprint_wires b) u ≡ Some v → sent_at st.wires.items u ≡ elements (left.near u).wire.sent
+  wire_count_at u v at = ap (λ (c : List WireCount). sent_at c u) wires_are ∙ sent_there left g u v at
 
-  -- there are as many as wires
-  wire_number : length net.wires ≡ length (blueprint_wires b)
-  wire_number = sym l.stops.settled.wired.each_wire ∙ net_made.wires
-
-  cost_most : (k : ℕ) → k < length net.wires → spent (wire_at net k).wire (holds net.queue k) ≤ 2 * sent_at st.wires.items (0 + k) + 3
-  cost_most k lt =
-      let h : spent (wire_at net k).wire (holds net.queue k) ≤ 2 * elements (wire_at net k).wire.sent + 3 = spent_most (wire_at net k).wire (holds net.queue k) (l.stops.settled.sound k lt) in
-      let place : 0 + k ≡ k = omega arith in
-      let same : sent_at st.wires.items (0 + k) ≡ elements (wire_at net k).wire.sent = ap (sent_at st.wires.items) place ∙ wire_count k in
-      omega (arith, h, same)
-
-  -- and the units are tied to what passed
+  -- the units are tied to what passed
   pays : Pays b st.wires.items st.used
-  pays =
-      let asked : all_sent st.wires.items ≤ sum_below (λ w. asks (wire_at net w).wire) (length net.wires) = subst (λ (c : List WireCount). all_sent c ≤ sum_below (λ w. asks (wire_at net w).wire) (length net.wires)) (sym wires_net) (sent_asked net.wires) in
-      let used : sum_below (λ w. asks (wire_at net w).wire) (length net.wires) ≤ st.used = l.stops.asks in
-      let paid : st.used ≤ total net = l.stops.paid in
-      let cost : total net ≤ sum_below (λ k. 2 * sent_at st.wires.items (0 + k) + 3) (length net.wires) =
-      sum_le (λ w. spent (wire_at net w).wire (holds net.queue w)) (λ k. 2 * sent_at st.wires.items (0 + k) + 3) (length net.wires) cost_most in
-      let count : sum_below (λ k. 2 * sent_at st.wires.items (0 + k) + 3) (length net.wires) + length net.wires ≤ need_from 0 (blueprint_wires b) (sent_at st.wires.items) =
-      subst (λ (n : ℕ). sum_below (λ k. 2 * sent_at st.wires.items (0 + k) + 3) n + n ≤ need_from 0 (blueprint_wires b) (sent_at st.wires.items)) (sym wire_number) (count_most (blueprint_wires b) 0 (sent_at st.wires.items)) in
-      let most : st.used + length (blueprint_wires b) ≤ need_from 0 (blueprint_wires b) (sent_at st.wires.items) = omega (arith, paid, cost, count, wire_number) in
-      let least : all_sent st.wires.items ≤ st.used = omega (arith, asked, used) in
-      record {
-        counted = ap length wires_net ∙ length-map net.wires count_of ∙ wire_number;
-        least = least;
-        most = most;
-      }
+  pays = record {
+    counted = ap length wires_are ∙ counts_many left 0 (blueprint_wires b);
+    least = subst (λ (c : List WireCount). all_sent c ≤ st.used) (sym wires_are) l.least;
+    most = subst (λ (c : List WireCount). st.used + length (blueprint_wires b) ≤ count_needed g c) (sym wires_are) l.most;
+  }
 
   -- a sink among the stands, its node, and the wire of its input
   record SinkHere (s : Stand) : Type 0 where
     node : blue.Node
     at : slice_get nodes s.0 ≡ Some node
     shape : oneway.is_sink node.kind ≡ true
-    ended : ended_there (slice_get net.nodes s.0) ≡ has_ended s.2
+    ended : ended_there (left.nodes s.0) ≡ has_ended s.2
     wire : ℕ
     is : Wire
     there : slice_get (blueprint_wires b) wire ≡ Some is
@@ -414,22 +365,22 @@ module _ {S D : Type 0} (sources : S → SourceState) (drains : D → DrainState
 
   sink_here : (i : ℕ) (s : Stand) → slice_get st.end.sinks.items i ≡ Some s → SinkHere s
   sink_here i s at =
-      let among : slice_get (filter_map stand_in net.nodes) i ≡ Some s = subst (λ (x : List Stand). slice_get x i ≡ Some s) (l.stops.sinks ∙ sinks_filtered net.nodes) at in
-      let from = unfiltered_at stand_in net.nodes i s among in
-      let below : from.0 < length nodes = subst (λ m. from.0 < m) (sym (as_many sources drains handles b can ss ds net between old mid opens)) (place_within net.nodes from.0 from.1.0 from.1.1.0) in
+      let among : slice_get (filter_map stand_in last) i ≡ Some s = subst (λ (x : List Stand). slice_get x i ≡ Some s) (l.sinks ∙ sinks_filtered last) at in
+      let from = unfiltered_at stand_in last i s among in
+      let below : from.0 < length nodes = subst (λ m. from.0 < m) (sym (as_many sources drains handles b ss ds left last between old mid opens)) (place_within last from.0 from.1.0 from.1.1.0) in
       let m = place_of nodes from.0 below in
       let stand = (profile from.0 m.0 from.1.0 m.1 from.1.1.0).stand in
       let place : s.0 ≡ from.0 = no_stand from.0 (is_sink m.0) (stand_in from.1.0) s stand from.1.1.1 in
       let here : slice_get nodes s.0 ≡ Some m.0 = subst (λ j. slice_get nodes j ≡ Some m.0) (sym place) m.1 in
-      let found : slice_get net.nodes s.0 ≡ Some from.1.0 = subst (λ j. slice_get net.nodes j ≡ Some from.1.0) (sym place) from.1.1.0 in
+      let found : slice_get last s.0 ≡ Some from.1.0 = subst (λ j. slice_get last j ≡ Some from.1.0) (sym place) from.1.1.0 in
       let shape : oneway.is_sink m.0.kind ≡ true = (profile from.0 m.0 from.1.0 m.1 from.1.1.0).sink s from.1.1.1 in
-      let input = (handles.joined_law b can.plugs can.taken can.fit).each_input s.0 (node_of m.0) 0 (mapped_at node_of nodes s.0 m.0 here) (sink_input m.0.kind shape) in
+      let input = run.joined.each_input s.0 (node_of m.0) 0 (mapped_at node_of nodes s.0 m.0 here) (sink_input m.0.kind shape) in
       let wire = found_first (λ w. w.to) (λ w. w.input) s.0 0 (blueprint_wires b) input.0 input.1 in
       record {
         node = m.0;
         at = here;
         shape = shape;
-        ended = ended_as net.nodes s.0 from.1.0 s found from.1.1.1;
+        ended = ended_as (left.nodes s.0) from.1.0 s (between.node_at s.0 ∙ found) from.1.1.1;
         wire = input.0;
         is = wire.wire;
         there = wire.at;
@@ -445,41 +396,52 @@ module _ {S D : Type 0} (sources : S → SourceState) (drains : D → DrainState
 
   -- what the sources drew
   abbrev drawn : Drawn
-  drawn = drawn_of sources l.places net
+  drawn = drawn_of sources left last
 
   -- the stand of a sink of lines, by its place among the stands
   stand_of : (i : ℕ) (s : Stand) (n : blue.Node) (file : List ℕ) → slice_get st.end.sinks.items i ≡ Some s → slice_get nodes s.0 ≡ Some n → output_of n.kind ≡ Some file → (f : ASink s.0 file) × (s ≡ (s.0, f.now.count, f.now.end))
   stand_of i s n file at here shape =
-      let among : slice_get (filter_map stand_in net.nodes) i ≡ Some s = subst (λ (x : List Stand). slice_get x i ≡ Some s) (l.stops.sinks ∙ sinks_filtered net.nodes) at in
-      let from = unfiltered_at stand_in net.nodes i s among in
-      let below : from.0 < length nodes = subst (λ m. from.0 < m) (sym (as_many sources drains handles b can ss ds net between old mid opens)) (place_within net.nodes from.0 from.1.0 from.1.1.0) in
+      let among : slice_get (filter_map stand_in last) i ≡ Some s = subst (λ (x : List Stand). slice_get x i ≡ Some s) (l.sinks ∙ sinks_filtered last) at in
+      let from = unfiltered_at stand_in last i s among in
+      let below : from.0 < length nodes = subst (λ m. from.0 < m) (sym (as_many sources drains handles b ss ds left last between old mid opens)) (place_within last from.0 from.1.0 from.1.1.0) in
       let m = place_of nodes from.0 below in
       let place : s.0 ≡ from.0 = no_stand from.0 (is_sink m.0) (stand_in from.1.0) s (profile from.0 m.0 from.1.0 m.1 from.1.1.0).stand from.1.1.1 in
-      let there : slice_get net.nodes s.0 ≡ Some from.1.0 = subst (λ j. slice_get net.nodes j ≡ Some from.1.0) (sym place) from.1.1.0 in
+      let there : slice_get last s.0 ≡ Some from.1.0 = subst (λ j. slice_get last j ≡ Some from.1.0) (sym place) from.1.1.0 in
       let f = sink_at s.0 file (record { node = n; at = here; file_is = shape }) in
-      let is : from.1.0 ≡ node.Writing f.now = place_one net.nodes s.0 from.1.0 (node.Writing f.now) there f.there.at_last in
+      let is : from.1.0 ≡ node.Writing f.now = place_one last s.0 from.1.0 (node.Writing f.now) there f.at in
       let told : stand_in {S = S} (node.Writing f.now) ≡ Some s = ap stand_in (sym is) ∙ from.1.1.1 in
       let same : (f.now.node, f.now.count, f.now.end) ≡ s = some_one (f.now.node, f.now.count, f.now.end) s told in
       (f, sym same ∙ ap (λ (j : ℕ). (j, f.now.count, f.now.end)) f.place)
 
   module _ (tells_was : IsTrue old.tells) where
     abbrev Drew : Type 0
-    Drew = Draws sources drains handles b can ss ds net between old mid opens
+    Drew = Draws sources drains handles b can ss ds left last between old mid opens
 
     drew : Drew
-    drew = draws_all sources drains handles b can ss ds net between old mid opens tells_was
+    drew = draws_all sources drains handles b can ss ds left last between old mid opens tells_was
 
     module _ (k : ℕ) (file : List ℕ) (f : Source k file) where
       was_read : WasRead old new file (drawn.bytes k) (drawn.given k) (drawn.faulted k)
       was_read =
           let given = (drew.source k file f).given in
-          let read = read_grew sources drains b can net.nodes st.end.readers.items st.end.writers.items apart old mid _ _ opens new closes lone k file f.now f.there.at_last (f.law.name ∙ f.first_named) in
-          let faults = faults_grew sources drains b can net.nodes st.end.readers.items st.end.writers.items apart old mid _ _ opens new closes lone k file f.now f.there.at_last (f.law.name ∙ f.first_named) in
-          reads_of sources drains handles b can ss ds net between old mid opens tells_was k file f new (drawn.given k) (subst (λ n. Grew (old.read file) n (new.read file)) (sym given) read) faults
+          let read = read_grew sources drains b can last st.end.readers.items st.end.writers.items apart old mid _ _ opens new closes lone k file f.now f.at (f.law.name ∙ f.first_named) in
+          let faults = faults_grew sources drains b can last st.end.readers.items st.end.writers.items apart old mid _ _ opens new closes lone k file f.now f.at (f.law.name ∙ f.first_named) in
+          reads_of sources drains handles b can ss ds left last between old mid opens tells_was k file f new (drawn.given k) (subst (λ n. Grew (old.read file) n (new.read file)) (sym given) read) faults
 
     -- the world tells of every source
     world_tells : (w : World) → IsWorldOf nodes drawn w → Tells sources g w left
     world_tells w is = drew.tells w is
+
+    -- what was sent on each wire may pass
+    sent_agrees : (u : ℕ) (v : Wire) → slice_get (blueprint_wires b) u ≡ Some v → (w : World) → IsWorldOf nodes drawn w → AgreesWith (composed g w u) (left.near u).wire.sent
+    sent_agrees u v at w is = let ranked = laws.ranked b can.plugs can.taken can.fit in laws.agree g w ranked.0 left run (world_tells w is) ranked.1 u (place_within (blueprint_wires b) u v at)
+
+    -- one world that has the files
+    abbrev world : World
+    world = world_of nodes drawn (made_moves sources drains handles b can ss ds left last between old mid opens)
+
+    has_files : IsWorldOf nodes drawn world
+    has_files = drew.has_files
 
     -- a sink's file
     module _ (k : ℕ) (n : blue.Node) (file : List ℕ) (at : slice_get nodes k ≡ Some n) (f : ASink k file) where
@@ -495,40 +457,39 @@ module _ {S D : Type 0} (sources : S → SourceState) (drains : D → DrainState
         there = λ tells. sink_held k file f tells ∙ wrote.holds (f.start.holds (closes.told tells));
         tells = λ w is. let ranked = laws.ranked b can.plugs can.taken can.fit in wrote.tells w ranked.0 (world_tells w is) ranked.1;
         lines_are = wrote.lines_are;
-        sent = λ shape u v at to. subst (λ (m : ℕ). SentTo f.now.end m f.now.count) (sym (wire_count u)) (laws.sent g left run k (node_of n) file f.first f.now u v at_graph shape f.there at to);
-        rests = λ shape rest unended u v at to. wire_count u ∙ laws.rest g left run k (node_of n) file f.first f.now u v at_graph shape f.there at to (still rest) unended;
+        sent = λ shape u v at to.
+            let ranked = laws.ranked b can.plugs can.taken can.fit in
+            let list = laws.took g world ranked.0 left run (world_tells world has_files) ranked.1 k (node_of n) file f.first f.now at_graph shape f.there in
+            subst (λ (m : ℕ). SentOn v.lane f.now.end m f.now.count) (sym (wire_count_at u v at))
+            (sink_sent sources drains g left run u v at (composed g world u) (sent_agrees u v at world has_files) k (node_of n) at_graph (ap inputs_of shape) to f.now.end (sink_outlook g world k (node_of n)) list f.now.count
+            (laws.sent g left run k (node_of n) file f.first f.now u v at_graph shape f.there at to));
+        rests = λ shape rest unended u v at to.
+            wire_count_at u v at ∙ sink_rests sources drains g left run u v at (composed g world u) (sent_agrees u v at world has_files) k (node_of n) at_graph (ap inputs_of shape) to f.first f.now f.there (still rest) unended
+            ∙ laws.rest g left run k (node_of n) file f.first f.now u v at_graph shape f.there at to (still rest) unended;
       }
 
     -- a sink without a file
     ignore_leaves : (i : ℕ) (s : Stand) (n : blue.Node) → slice_get st.end.sinks.items i ≡ Some s → slice_get nodes s.0 ≡ Some n → n.kind ≡ kind.Ignore → IgnoreLeaves b drawn st.wires.items s.0 n s.1 s.2
     ignore_leaves i s n at here shape =
-        let ranked = laws.ranked b can.plugs can.taken can.fit in
         let at_graph : slice_get g.nodes s.0 ≡ Some (node_of n) = mapped_at node_of nodes s.0 n here in
         let there = laws.ignorer g left run s.0 (node_of n) at_graph shape in
         let now = there.1.0 in
-        let among : slice_get (filter_map stand_in net.nodes) i ≡ Some s = subst (λ (x : List Stand). slice_get x i ≡ Some s) (l.stops.sinks ∙ sinks_filtered net.nodes) at in
-        let from = unfiltered_at stand_in net.nodes i s among in
-        let below : from.0 < length nodes = subst (λ m. from.0 < m) (sym (as_many sources drains handles b can ss ds net between old mid opens)) (place_within net.nodes from.0 from.1.0 from.1.1.0) in
+        let among : slice_get (filter_map stand_in last) i ≡ Some s = subst (λ (x : List Stand). slice_get x i ≡ Some s) (l.sinks ∙ sinks_filtered last) at in
+        let from = unfiltered_at stand_in last i s among in
+        let below : from.0 < length nodes = subst (λ m. from.0 < m) (sym (as_many sources drains handles b ss ds left last between old mid opens)) (place_within last from.0 from.1.0 from.1.1.0) in
         let m = place_of nodes from.0 below in
         let place : s.0 ≡ from.0 = no_stand from.0 (is_sink m.0) (stand_in from.1.0) s (profile from.0 m.0 from.1.0 m.1 from.1.1.0).stand from.1.1.1 in
-        let found : slice_get net.nodes s.0 ≡ Some from.1.0 = subst (λ j. slice_get net.nodes j ≡ Some from.1.0) (sym place) from.1.1.0 in
-        let is : from.1.0 ≡ node.Ignoring now = place_one net.nodes s.0 from.1.0 (node.Ignoring now) found there.1.1.at_last in
+        let found : slice_get last s.0 ≡ Some from.1.0 = subst (λ j. slice_get last j ≡ Some from.1.0) (sym place) from.1.1.0 in
+        let is : from.1.0 ≡ node.Ignoring now = place_one last s.0 from.1.0 (node.Ignoring now) found (sym (between.node_at s.0) ∙ there.1.1.at_last) in
         let told : stand_in {S = S} {D = D} (node.Ignoring now) ≡ Some s = ap stand_in (sym is) ∙ from.1.1.1 in
         let same : (now.node, 0, now.end) ≡ s = some_one (now.node, 0, now.end) s told in
         record {
           none = ap (λ (t : Stand). t.1) (sym same);
           tells = λ w is_world u v wire to.
               subst (λ (e : EndState). IgnoreTells (sink_outlook g w s.0 (node_of n)) e (sent_at st.wires.items u)) (ap (λ (t : Stand). t.2) same)
-              (subst (λ (c : ℕ). IgnoreTells (sink_outlook g w s.0 (node_of n)) now.end c) (sym (wire_count u))
-              (laws.ignores g w ranked.0 left run (world_tells w is_world) ranked.1 s.0 (node_of n) there.0 now u v at_graph there.1.1 wire to));
+              (subst (λ (c : ℕ). IgnoreTells (sink_outlook g w s.0 (node_of n)) now.end c) (sym (wire_count_at u v wire))
+              (ignorer_told sources drains g left run u v wire w (sent_agrees u v wire w is_world) s.0 (node_of n) at_graph shape to there.0 now there.1.1));
         }
-
-    -- one world that has the files
-    abbrev world : World
-    world = world_of nodes drawn (made_moves sources drains handles b can ss ds net between old mid opens)
-
-    has_files : IsWorldOf nodes drawn world
-    has_files = drew.has_files
 
     -- the picture of the run
     abbrev picture : List WireCount
@@ -536,14 +497,14 @@ module _ {S D : Type 0} (sources : S → SourceState) (drains : D → DrainState
 
     picture_wired : IsWired g picture
     picture_wired =
-        let joined = handles.joined_law b can.plugs can.taken can.fit in
+        let joined = run.joined in
         record {
           target = joined.target;
           source = joined.source;
           counted = λ i v at.
               let within : i < length (blueprint_wires b) = place_within (blueprint_wires b) i v at in
-              let count : length picture ≡ length net.wires = ap length (laws.counts g net l.stops.settled net_made) ∙ length-map net.wires count_of in
-              place_of picture i (omega (arith, within, count, wire_number));
+              let count : length picture ≡ length (blueprint_wires b) = counts_many left 0 (blueprint_wires b) in
+              place_of picture i (omega (arith, within, count));
         }
 
     -- in a polytree every sink has ended where no event was left
@@ -553,18 +514,17 @@ module _ {S D : Type 0} (sources : S → SourceState) (drains : D → DrainState
         none_unended st.end.sinks.items (λ i s at.
         let h = sink_here i s at in
         let n : slice_get g.nodes h.is.to ≡ Some (node_of h.node) = subst (λ j. slice_get g.nodes j ≡ Some (node_of h.node)) (sym h.to) (mapped_at node_of nodes s.0 h.node h.at) in
-        let over : ended_there (slice_get net.nodes h.is.to) ≡ true =
+        let over : ended_there (left.nodes h.is.to) ≡ true =
         laws.trees g world picture (composed g world) picture_wired (laws.rests g world ranked.0 left run (still rest) (world_tells world has_files) ranked.1) (tree_by_wires g tree)
-        (λ k. ended_there (slice_get net.nodes k)) (laws.match g world left (composed g world) run (still rest)) h.wire h.is (node_of h.node) h.there n h.shape in
-        ended_goes s.2 (sym h.ended ∙ ap (λ (k : ℕ). ended_there (slice_get net.nodes k)) (sym h.to) ∙ over))
+        (λ k. ended_there (left.nodes k)) (laws.match g world left (composed g world) run (still rest)) h.wire h.is (node_of h.node) h.there n h.shape in
+        ended_goes s.2 (sym h.ended ∙ ap (λ (k : ℕ). ended_there (left.nodes k)) (sym h.to) ∙ over))
 
     needed : (w : World) → IsWorldOf nodes drawn w → count_needed g st.wires.items ≤ need g (composed g w)
     needed w is =
-        let ranked = laws.ranked b can.plugs can.taken can.fit in
         need_more (blueprint_wires b) 0 (sent_at st.wires.items) (λ i. length (composed g w i).list) (λ k lt.
-        let sent : sent_at st.wires.items (0 + k) ≡ elements (wire_at net (0 + k)).wire.sent = wire_count (0 + k) in
-        let place : 0 + k < length g.wires = omega (arith, lt) in
-        let within : elements (wire_at net (0 + k)).wire.sent ≤ length (composed g w (0 + k)).list = passed_within (composed g w (0 + k)) (wire_at net (0 + k)).wire.sent (laws.agree g w ranked.0 left run (world_tells w is) ranked.1 (0 + k) place) in
+        let here = place_of (blueprint_wires b) (0 + k) (omega (arith, lt)) in
+        let sent : sent_at st.wires.items (0 + k) ≡ elements (left.near (0 + k)).wire.sent = wire_count_at (0 + k) here.0 here.1 in
+        let within : elements (left.near (0 + k)).wire.sent ≤ length (composed g w (0 + k)).list = passed_within (composed g w (0 + k)) (left.near (0 + k)).wire.sent (sent_agrees (0 + k) here.0 here.1 w is) in
         let le : sent_at st.wires.items (0 + k) ≤ length (composed g w (0 + k)).list = omega (arith, sent, within) in
         le)
 
@@ -573,7 +533,7 @@ module _ {S D : Type 0} (sources : S → SourceState) (drains : D → DrainState
         let ranked = laws.ranked b can.plugs can.taken can.fit in
         record {
           drawn = drawn;
-          chose = sym l.stops.picks;
+          chose = sym l.picks;
           fits = λ w is. laws.moves g w ranked.0 left run (world_tells w is) ranked.1;
           read = λ k file is. was_read k file (source_at k file is);
           world = world;
@@ -584,11 +544,11 @@ module _ {S D : Type 0} (sources : S → SourceState) (drains : D → DrainState
               let found = stand_of i s n file at here shape in
               subst (λ (t : Stand). SinkLeaves new b drawn st.wires.items st.at_rest s.0 n file t.1 t.2) (sym found.1) (sink_leaves s.0 n file here found.0);
           ignores = λ i s n at here shape. ignore_leaves i s n at here shape;
-          others = λ tells n never aside. other_files sources drains b can net.nodes st.end.readers.items st.end.writers.items apart old mid _ _ opens new closes lone tells n never (unlisted trace n aside);
+          others = λ tells n never aside. other_files sources drains b can last st.end.readers.items st.end.writers.items apart old mid _ _ opens new closes lone tells n never (unlisted trace n aside);
           draws = λ k file u v is at from.
               let f = source_at k file is in
               let d = drew.source k file f in
-              let told = draws_told d.bytes (sources f.first.reader.source) (sources f.now.reader.source) (wire_at net u).wire.sent (sent_at st.wires.items u) f.start.faults (wire_count u)
+              let told = draws_told d.bytes (sources f.first.reader.source) (sources f.now.reader.source) (left.near u).wire.sent (sent_at st.wires.items u) f.start.faults (wire_count_at u v at)
               (laws.reads g left run k (node_of is.node) f.first f.now u v d.bytes (mapped_at node_of nodes k is.node is.at) f.there at from d.whole) in
               rw (d.drawn_bytes, d.given, d.faulted) told;
           lawful = λ w is. subst (λ (c : List WireCount). IsLawful g w c (composed g w)) (sym wires_are) (laws.lawful g w ranked.0 left run (world_tells w is) ranked.1);
@@ -596,13 +556,13 @@ module _ {S D : Type 0} (sources : S → SourceState) (drains : D → DrainState
           matching = λ rest w k n at is.
               let m = unmapped_at node_of nodes k n at in
               let shape : oneway.is_sink m.0.kind ≡ true = ap (λ (x : graph.Node). oneway.is_sink x.kind) (sym m.1.1) ∙ is in
-              let below : k < length net.nodes = subst (λ j. k < j) (as_many sources drains handles b can ss ds net between old mid opens) (place_within nodes k m.0 m.1.0) in
-              let x = place_of net.nodes k below in
+              let below : k < length last = subst (λ j. k < j) (as_many sources drains handles b ss ds left last between old mid opens) (place_within nodes k m.0 m.1.0) in
+              let x = place_of last k below in
               let stand = stand_there k (is_sink m.0) (stand_in x.0) (profile k m.0 x.0 m.1.0 x.1).stand (sink_shape m.0.kind shape) in
-              let by_place : has_ended_at (filter_map stand_in net.nodes) k ≡ has_ended stand.0.2 =
-              ended_along 0 nodes net.nodes (as_many sources drains handles b can ss ds net between old mid opens) (λ i y z p q. subst (λ j. StandsAt j (is_sink y) (stand_in z)) (omega arith) (profile i y z p q).stand) k k x.0 stand.0 (omega arith) x.1 stand.1.0 in
-              let ended : ended_there (slice_get net.nodes k) ≡ has_ended_at st.end.sinks.items k =
-              ended_as net.nodes k x.0 stand.0 x.1 stand.1.0 ∙ sym by_place ∙ ap (λ (y : List Stand). has_ended_at y k) (sym (l.stops.sinks ∙ sinks_filtered net.nodes)) in
+              let by_place : has_ended_at (filter_map stand_in last) k ≡ has_ended stand.0.2 =
+              ended_along 0 nodes last (as_many sources drains handles b ss ds left last between old mid opens) (λ i y z p q. subst (λ j. StandsAt j (is_sink y) (stand_in z)) (omega arith) (profile i y z p q).stand) k k x.0 stand.0 (omega arith) x.1 stand.1.0 in
+              let ended : ended_there (left.nodes k) ≡ has_ended_at st.end.sinks.items k =
+              ended_as (left.nodes k) x.0 stand.0 (between.node_at k ∙ x.1) stand.1.0 ∙ sym by_place ∙ ap (λ (y : List Stand). has_ended_at y k) (sym (l.sinks ∙ sinks_filtered last)) in
               subst (λ (c : List WireCount). EachWire (λ i. i.shut ≡ has_ended_at st.end.sinks.items k) (ins g c (composed g w) k n.kind)) (sym wires_are)
               (subst (λ (e : Bool). EachWire (λ i. i.shut ≡ e) (ins g (pictures.counts_of left g) (composed g w) k n.kind)) ended
               (laws.match g w left (composed g w) run (still rest) k n at is));
@@ -612,14 +572,14 @@ module _ {S D : Type 0} (sources : S → SourceState) (drains : D → DrainState
   calm_output none n c =
       let at = contained_at (outputs_of_nodes nodes) n c in
       let from = unfiltered_at (λ (m : blue.Node). output_of m.kind) nodes at.0 n at.1 in
-      let below : from.0 < length net.nodes = subst (λ j. from.0 < j) (as_many sources drains handles b can ss ds net between old mid opens) (place_within nodes from.0 from.1.0 from.1.1.0) in
-      let x = place_of net.nodes from.0 below in
+      let below : from.0 < length last = subst (λ j. from.0 < j) (as_many sources drains handles b ss ds left last between old mid opens) (place_within nodes from.0 from.1.0 from.1.1.0) in
+      let x = place_of last from.0 below in
       let y = writer_there (λ d. (drains d).name) x.0 n (sym from.1.1.1 ∙ (profile from.0 from.1.0 x.0 from.1.1.0 x.1).output) in
-      let shape = writer_kind sources drains handles b can ss ds net between old mid opens from.0 from.1.0 x.0 y.0 from.1.1.0 x.1 y.1 in
+      let shape = writer_kind sources drains handles b ss ds left last between old mid opens from.0 from.1.0 x.0 y.0 from.1.1.0 x.1 y.1 in
       let named : shape.0 ≡ n = some_one shape.0 n (sym shape.1 ∙ from.1.1.1) in
       let f = sink_at from.0 shape.0 (record { node = from.1.0; at = from.1.1.0; file_is = shape.1 }) in
-      let told = filtered_at stand_in net.nodes from.0 (node.Writing f.now) (f.now.node, f.now.count, f.now.end) f.there.at_last refl in
-      let among : slice_get st.end.sinks.items told.0 ≡ Some (f.now.node, f.now.count, f.now.end) = subst (λ (z : List Stand). slice_get z told.0 ≡ Some (f.now.node, f.now.count, f.now.end)) (sym (l.stops.sinks ∙ sinks_filtered net.nodes)) told.1 in
+      let told = filtered_at stand_in last from.0 (node.Writing f.now) (f.now.node, f.now.count, f.now.end) f.at refl in
+      let among : slice_get st.end.sinks.items told.0 ≡ Some (f.now.node, f.now.count, f.now.end) = subst (λ (z : List Stand). slice_get z told.0 ≡ Some (f.now.node, f.now.count, f.now.end)) (sym (l.sinks ∙ sinks_filtered last)) told.1 in
       let grew : Grew (old.wfaults shape.0) 0 (new.wfaults shape.0) = calm_write f.now.end (old.wfaults shape.0) (new.wfaults shape.0) (none told.0 (f.now.node, f.now.count, f.now.end) among)
       (stands_writes f.now.end (drains f.first.drain) (drains f.now.drain) f.law.wrote f.now.count (old.wfaults shape.0) (new.wfaults shape.0) f.law.stands f.start.faults (sink_writes from.0 shape.0 f)) in
       subst (λ m. Grew (old.wfaults m) 0 (new.wfaults m)) named grew
@@ -628,7 +588,7 @@ module _ {S D : Type 0} (sources : S → SourceState) (drains : D → DrainState
   calm_other : ((n : List ℕ) → Contains (option_to_list trace) n → Grew (old.wfaults n) 0 (new.wfaults n)) → (n : List ℕ) → (Contains (outputs_of_nodes nodes) n → ⊥) → Grew (old.wfaults n) 0 (new.wfaults n)
   calm_other calm n never = elim (contains_or_not (option_to_list trace) n) [
     | inl c ↦ (calm n c)
-    | inr aside ↦ (other_writes sources drains b can net.nodes st.end.readers.items st.end.writers.items apart old mid _ _ opens new closes lone n never aside)
+    | inr aside ↦ (other_writes sources drains b can last st.end.readers.items st.end.writers.items apart old mid _ _ opens new closes lone n never aside)
   ]
 
   calm_writes : ((i : ℕ) (s : Stand) → slice_get st.end.sinks.items i ≡ Some s → is_write_fault s.2 ≡ false) → ((n : List ℕ) → Contains (option_to_list trace) n → Grew (old.wfaults n) 0 (new.wfaults n)) → (n : List ℕ) → Grew (old.wfaults n) 0 (new.wfaults n)
@@ -639,46 +599,46 @@ module _ {S D : Type 0} (sources : S → SourceState) (drains : D → DrainState
 
   -- what the nodes chose
   abbrev moved : ℕ → List ℕ
-  moved = made_moves sources drains handles b can ss ds net between old mid opens
+  moved = made_moves sources drains handles b can ss ds left last between old mid opens
 
   -- what passed each wire is of its type
   carried : Carries b st.wires.items drawn.picks
   carried =
-      carries b can st.wires.items drawn.picks moved (λ u. (left.near u).wire.sent) wire_count
+      carries b can st.wires.items drawn.picks moved (λ u. (left.near u).wire.sent) wire_count_at
       (λ plugs taken fit i v at.
       let ranks = laws.ranked b plugs taken fit in
       laws.types plugs b.chains.items nodes g (silent moved) ranks.0 left run (chosen_told (silent moved).book (silent moved).file left) (laws.fits b plugs taken g fit refl refl refl) (silent_keeps moved plugs) ranks.1 i v at)
-      (λ w has sent j v n at is other came. laws.gives g w left run (picks_told sources drains handles b can ss ds net between old mid opens w has) sent j v n at is other came)
+      (λ w has sent j v n at is other came. laws.gives g w left run (picks_told sources drains handles b can ss ds left last between old mid opens w has) sent j v n at is other came)
 
   -- the trace, as it was left where none of the sinks' drains has its name
   abbrev Traced : Ran → Type 0
   Traced ran = ((n : List ℕ) → Contains (option_to_list trace) n → Contains (drain_names (map drains st.end.writers.items)) n → ⊥) → Traces old new b trace (map pick_of ran.picks.items) ran.trace_failed
 
   traced_so : (ran : Ran) → Traced ran → Traces old new b trace (map pick_of ran.picks.items) ran.trace_failed
-  traced_so ran traced = traced (unwritten sources drains b can net.nodes st.end.readers.items st.end.writers.items apart old mid _ _ opens new closes lone)
+  traced_so ran traced = traced (unwritten sources drains b can last st.end.readers.items st.end.writers.items apart old mid _ _ opens new closes lone)
 
   pub runs_of : (ran : Ran) → Traced ran → ran.sinks.items ≡ st.end.sinks.items → ran.picks.items ≡ st.end.picks.items → ran.wires.items ≡ st.wires.items → ran.used ≡ st.used → ran.at_rest ≡ st.at_rest → Runs old new b trace budget ran
   runs_of ran traced sinks chosen wires used rest = record {
-    sinks_are = ap (map (λ (s : Stand). s.0)) (sinks ∙ l.stops.sinks) ∙ stands_are sources drains handles b can ss ds net between old mid opens;
-    picks_are = ap picked (ap (map pick_of) chosen ∙ l.stops.picks) ∙ picks_stand sources drains handles b can ss ds net between old mid opens;
-    told = tells_old sources drains b can net.nodes st.end.readers.items st.end.writers.items apart old mid _ _ opens new closes lone;
+    sinks_are = ap (map (λ (s : Stand). s.0)) (sinks ∙ l.sinks) ∙ stands_are sources drains handles b ss ds left last between old mid opens;
+    picks_are = ap picked (ap (map pick_of) chosen ∙ l.picks) ∙ picks_stand sources drains handles b can ss ds left last between old mid opens;
+    told = tells_old sources drains b can last st.end.readers.items st.end.writers.items apart old mid _ _ opens new closes lone;
     traces = traced_so ran traced;
     leaves = λ h. rw (sinks, chosen, wires, rest) (leaves_files h);
-    refusals = refused sources drains b can net.nodes st.end.readers.items st.end.writers.items apart old mid _ _ opens new closes lone;
-    reads = other_reads sources drains b can net.nodes st.end.readers.items st.end.writers.items apart old mid _ _ opens new closes lone;
+    refusals = refused sources drains b can last st.end.readers.items st.end.writers.items apart old mid _ _ opens new closes lone;
+    reads = other_reads sources drains b can last st.end.readers.items st.end.writers.items apart old mid _ _ opens new closes lone;
     writes = λ i s n file at here shape.
         let found = stand_of i s n file (subst (λ (x : List Stand). slice_get x i ≡ Some s) sinks at) here shape in
         let f = found.0 in
         subst (λ (t : Stand). WritesOf t.2 (old.wfaults file) (new.wfaults file)) (sym found.1)
         (stands_writes f.now.end (drains f.first.drain) (drains f.now.drain) f.law.wrote f.now.count (old.wfaults file) (new.wfaults file) f.law.stands f.start.faults (sink_writes s.0 file f));
     faults = λ i s at fault.
-        let among : slice_get (filter_map stand_in net.nodes) i ≡ Some s = subst (λ (x : List Stand). slice_get x i ≡ Some s) (sinks ∙ l.stops.sinks ∙ sinks_filtered net.nodes) at in
-        let from = unfiltered_at stand_in net.nodes i s among in
-        let below : from.0 < length nodes = subst (λ m. from.0 < m) (sym (as_many sources drains handles b can ss ds net between old mid opens)) (place_within net.nodes from.0 from.1.0 from.1.1.0) in
+        let among : slice_get (filter_map stand_in last) i ≡ Some s = subst (λ (x : List Stand). slice_get x i ≡ Some s) (sinks ∙ l.sinks ∙ sinks_filtered last) at in
+        let from = unfiltered_at stand_in last i s among in
+        let below : from.0 < length nodes = subst (λ m. from.0 < m) (sym (as_many sources drains handles b ss ds left last between old mid opens)) (place_within last from.0 from.1.0 from.1.1.0) in
         let m = place_of nodes from.0 below in
-        let shape = fault_kind sources drains handles b can ss ds net between old mid opens from.0 m.0 from.1.0 s m.1 from.1.1.0 from.1.1.1 fault in
+        let shape = fault_kind sources drains handles b ss ds left last between old mid opens from.0 m.0 from.1.0 s m.1 from.1.1.0 from.1.1.1 fault in
         let f = sink_at from.0 shape.0 (record { node = m.0; at = m.1; file_is = shape.1 }) in
-        let is : from.1.0 ≡ node.Writing f.now = place_one net.nodes from.0 from.1.0 (node.Writing f.now) from.1.1.0 f.there.at_last in
+        let is : from.1.0 ≡ node.Writing f.now = place_one last from.0 from.1.0 (node.Writing f.now) from.1.1.0 f.at in
         let told : stand_in {S = S} (node.Writing f.now) ≡ Some s = ap stand_in (sym is) ∙ from.1.1.1 in
         let same : (f.now.node, f.now.count, f.now.end) ≡ s = some_one (f.now.node, f.now.count, f.now.end) s told in
         let failed : f.now.end ≡ WriteFault = ap (λ (t : Stand). t.2) same ∙ fault in
@@ -690,11 +650,11 @@ module _ {S D : Type 0} (sources : S → SourceState) (drains : D → DrainState
               (stands_writes f.now.end (drains f.first.drain) (drains f.now.drain) f.law.wrote f.now.count (old.wfaults shape.0) (new.wfaults shape.0) f.law.stands f.start.faults (sink_writes from.0 shape.0 f));
         };
     calm = λ none calm. calm_writes (λ i s at. none i s (subst (λ (x : List Stand). slice_get x i ≡ Some s) (sym sinks) at)) (calm_trace old new b trace _ ran.trace_failed (traced_so ran traced) calm);
-    other_writes = λ n never aside. other_writes sources drains b can net.nodes st.end.readers.items st.end.writers.items apart old mid _ _ opens new closes lone n never (unlisted trace n aside);
-    other_draws = other_draws sources drains b can net.nodes st.end.readers.items st.end.writers.items apart old mid _ _ opens new closes lone;
-    within = rw used l.stops.within;
-    spent = λ h. used ∙ l.stops.spent (sym rest ∙ h);
+    other_writes = λ n never aside. other_writes sources drains b can last st.end.readers.items st.end.writers.items apart old mid _ _ opens new closes lone n never (unlisted trace n aside);
+    other_draws = other_draws sources drains b can last st.end.readers.items st.end.writers.items apart old mid _ _ opens new closes lone;
+    within = rw used l.within;
+    spent = λ h. used ∙ l.spent (sym rest ∙ h);
     pays = rw (wires, used) pays;
-    carries = rw (wires, chosen, l.stops.picks) carried;
+    carries = rw (wires, chosen, l.picks) carried;
     wired = λ some. sinks_wired (subst (λ (x : List Stand). 1 ≤ length x) sinks some);
   }

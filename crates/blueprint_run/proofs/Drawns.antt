@@ -1,20 +1,18 @@
--- What the sources of an island of a blueprint had drawn at a moment between two events and what its stages had chosen, and the worlds
+-- What the sources of a blueprint had drawn at a moment of its run between two events and what its stages had chosen, and the worlds
 -- that tell of it.
-use Rattle.std.proofs.Common.{◌≡◌, ℕ, ◌+◌, ◌<◌, List, [], map, length, slice_get, refl, sym, ap, ◌∙◌, subst, arith}
+use Rattle.std.proofs.Common.{◌≡◌, ℕ, ◌+◌, List, [], map, length, refl, sym, ap, ◌∙◌, subst, arith}
 use Rattle.std.specs.Prelude.{IsTrue, IsSome, Option, Some, None, unwrap_or}
 use Rattle.stream_model.specs.declared.kind.Kind.TheVariants as kind
+use Rattle.stream_model.specs.Composed.{count_from}
 use Rattle.stream_model.specs.Graph as graph
 use Rattle.stream_model.specs.Node.{World}
 use Rattle.stream_io.specs.Counts.{Grew}
 use Rattle.stream_io.specs.State.{FolderState, SourceState, DrainState}
-use Rattle.stream_model.proofs.Compositions.{slice_get-below}
-use Rattle.fused_net.specs.Net.{Net, view_of, took, gave}
 use Rattle.nodes.specs.Source.{Lines}
 use Rattle.nodes.specs.declared.node.Node.{Node}
 use Rattle.nodes.specs.declared.node.Node.TheVariants as node
-use Rattle.run_account.specs.Seats.{account_of}
-use Rattle.interpreter.specs.declared.parts.Seated.{Seated}
-use Rattle.interpreter.specs.Picks.{node_number, picks_of}
+use Rattle.run_account.specs.Account.{Account}
+use Rattle.interpreter.specs.Picks.{picks_of}
 use Rattle.run_laws.specs.Telling.{TellsFile, TellsNode, TellsFiles, TellsPicks, Tells, moves_at}
 use Rattle.blue_core.specs.declared.blueprint.Blueprint.{Blueprint}
 use Rattle.blue_rules.specs.Names.{file_of}
@@ -25,12 +23,13 @@ use Rattle.materializer.specs.Graphs.{node_of, graph_of}
 use Rattle.blueprint_run.specs.Choosing.{pick_places, picked, HasPicks}
 use Rattle.blueprint_run.specs.Opening.{Opens}
 use Rattle.blueprint_run.specs.Drawing.{Drawn, IsSource, WasRead, IsWorldOf}
+use Rattle.blueprint_run.specs.Leaving.{Moment}
 use Rattle.blueprint_run.proofs.Choosing.{node_chooses, picked_along, told_along, has_along}
 use Rattle.blueprint_run.proofs.Counts.{rose_by, rose_from_none, is_positive, positive, above_none, not_positive, some_of}
 use Rattle.blueprint_run.proofs.Apart.{one_file}
 use Rattle.blueprint_run.proofs.Worlds.{world_of, world_has}
-use Rattle.blueprint_run.proofs.Places.{mapped_at, unmapped_at, place_of, place_one}
-use Rattle.blueprint_run.proofs.Handles.{HandleLaws, Between, SourceFacts, source_facts, reading_same, made, as_many}
+use Rattle.blueprint_run.proofs.Places.{unmapped_at}
+use Rattle.blueprint_run.proofs.Handles.{HandleLaws, SourceFacts, source_facts, node_facts, reading_same, as_many}
 
 -- the state of the source at a place, where one is there
 abbrev blank : SourceState
@@ -43,6 +42,9 @@ source_in sources _ = blank
 source_there : {S D : Type 0} (sources : S → SourceState) (o : Option (Node S D)) (x : Lines S) → o ≡ Some (node.Reading x) → source_in sources o ≡ sources x.reader.source
 source_there sources o x e = rw e refl
 
+one_node : {A : Type 0} {o : Option A} (x y : A) → o ≡ Some x → o ≡ Some y → x ≡ y
+one_node x y a b = cc
+
 told_whole : (o : Option (List ℕ)) (bytes : List ℕ) → o ≡ Some bytes → unwrap_or o [] ≡ bytes
 told_whole o bytes e = rw e refl
 
@@ -52,50 +54,46 @@ tells_node : {S D : Type 0} (sources : S → SourceState) (w : World) (n : graph
 tells_node sources w n (node.Reading a) (node.Reading c) tells = λ name shape. tells a c name refl refl shape
 tells_node sources w n first now tells = tt
 
-abbrev pub drawn_of : {S D : Type 0} → (S → SourceState) → List (Seated S D) → Net (Node S D) → Drawn
-drawn_of sources places net = record {
-  bytes = λ k. unwrap_or (source_in sources (slice_get net.firsts k)).whole [];
-  given = λ k. (source_in sources (slice_get net.nodes k)).given;
-  faulted = λ k. is_positive (source_in sources (slice_get net.nodes k)).faults;
-  picks = picks_of (map node_number places) net.nodes;
+abbrev pub drawn_of : {S D : Type 0} → (S → SourceState) → Account (Node S D) → List (Node S D) → Drawn
+drawn_of sources left last = record {
+  bytes = λ k. unwrap_or (source_in sources (left.firsts k)).whole [];
+  given = λ k. (source_in sources (left.nodes k)).given;
+  faulted = λ k. is_positive (source_in sources (left.nodes k)).faults;
+  picks = picks_of (count_from 0 (length last)) last;
 }
 
-module _ {S D : Type 0} (sources : S → SourceState) (drains : D → DrainState) (handles : HandleLaws sources drains) (b : Blueprint) (can : CanRun b) (ss : List S) (ds : List D) (net : Net (Node S D)) (l : Between sources drains b ss ds net)
+module _ {S D : Type 0} (sources : S → SourceState) (drains : D → DrainState) (handles : HandleLaws sources drains) (b : Blueprint) (can : CanRun b) (ss : List S) (ds : List D) (left : Account (Node S D)) (last : List (Node S D)) (l : Moment sources drains b ss ds left last)
     (old mid : FolderState) {others : List (List ℕ)} (opens : Opens old mid (inputs_of_nodes b.nodes.items) (outputs_of_nodes b.nodes.items) others (map sources ss) (map drains ds)) where
   abbrev nodes : List blue.Node
   nodes = b.nodes.items
 
   abbrev Source : ℕ → List ℕ → Type 0
-  Source k file = SourceFacts sources drains handles b can ss ds net l old mid opens k file
+  Source k file = SourceFacts sources drains handles b ss ds left last l old mid opens k file
 
   abbrev drawn : Drawn
-  drawn = drawn_of sources l.places net
+  drawn = drawn_of sources left last
 
   -- the moves of each node
   abbrev pub made_moves : ℕ → List ℕ
-  made_moves k = moves_at (slice_get net.nodes k)
+  made_moves k = moves_at (left.nodes k)
 
   -- a world that has the moves tells of every stage
-  pub picks_told : (w : World) → HasPicks drawn.picks w → TellsPicks w (account_of net)
+  pub picks_told : (w : World) → HasPicks drawn.picks w → TellsPicks w left
   picks_told w has k now at moves is =
       let none : 0 + k ≡ k = omega arith in
-      ap w.moves (sym none) ∙ told_along 0 nodes ss ds l.places net.nodes l.seats (as_many sources drains handles b can ss ds net l old mid opens) w has k now moves at is
+      ap w.moves (sym none) ∙ told_along 0 last w has k now moves (sym (l.node_at k) ∙ at) is
 
   -- and so has one in which each node made its own
   pub has_made : (w : World) → ((k : ℕ) → w.moves k ≡ made_moves k) → HasPicks drawn.picks w
-  has_made w made =
-      has_along 0 nodes ss ds l.places net.nodes l.seats w (λ i x at. let none : 0 + i ≡ i = omega arith in ap w.moves none ∙ made i ∙ ap moves_at at)
+  has_made w made = has_along 0 last w (λ i x at. let none : 0 + i ≡ i = omega arith in ap w.moves none ∙ made i ∙ ap moves_at (l.node_at i ∙ at))
 
   -- there is a list of moves for each stage whose kind chooses, and no other
   pub picks_stand : picked drawn.picks ≡ pick_places 0 nodes
   picks_stand =
-      picked_along 0 nodes ss ds l.places net.nodes l.seats (as_many sources drains handles b can ss ds net l old mid opens)
+      picked_along 0 nodes last (as_many sources drains handles b ss ds left last l old mid opens)
       (λ i n x at here.
-      let below : i < length net.nodes = slice_get-below net.nodes i x here in
-      let f = place_of net.firsts i (subst (λ m. i < m) (sym l.settled.each_first) below) in
-      let law = (l.settled.minded i below x f.0 here f.1).law_holds in
-      node_chooses sources drains i n f.0 x (view_of net i) (took net i) (gave net i)
-      ((made sources drains handles b can ss ds net l old mid opens).each_node i (node_of n) f.0 (mapped_at node_of nodes i n at) f.1) law)
+      let f = node_facts sources drains handles b ss ds left last l old mid opens i n x at here in
+      node_chooses sources drains i n f.first x f.knew f.came f.went f.made f.law)
 
   -- what a source drew of its file, which was there
   pub record DrawsOf (k : ℕ) (file : List ℕ) (f : Source k file) : Type 0 where
@@ -109,7 +107,7 @@ module _ {S D : Type 0} (sources : S → SourceState) (drains : D → DrainState
   -- the same of every source; and a world that has the files as they were read tells of them
   pub record Draws : Type 0 where
     pub source : (k : ℕ) (file : List ℕ) (f : Source k file) → DrawsOf k file f
-    pub tells : (w : World) → IsWorldOf nodes drawn w → Tells sources (graph_of b) w (account_of net)
+    pub tells : (w : World) → IsWorldOf nodes drawn w → Tells sources (graph_of b) w left
     pub has_files : IsWorldOf nodes drawn (world_of nodes drawn made_moves)
 
   module _ (tells_was : IsTrue old.tells) where
@@ -121,9 +119,9 @@ module _ {S D : Type 0} (sources : S → SourceState) (drains : D → DrainState
           bytes = there.0;
           there = there.1;
           whole = whole;
-          drawn_bytes = ap (λ (i : SourceState). unwrap_or i.whole []) (source_there sources (slice_get net.firsts k) f.first f.there.at_first) ∙ told_whole (sources f.first.reader.source).whole there.0 whole;
-          given = ap (λ (i : SourceState). i.given) (source_there sources (slice_get net.nodes k) f.now f.there.at_last);
-          faulted = ap (λ (i : SourceState). is_positive i.faults) (source_there sources (slice_get net.nodes k) f.now f.there.at_last);
+          drawn_bytes = ap (λ (i : SourceState). unwrap_or i.whole []) (source_there sources (left.firsts k) f.first f.there.at_first) ∙ told_whole (sources f.first.reader.source).whole there.0 whole;
+          given = ap (λ (i : SourceState). i.given) (source_there sources (left.nodes k) f.now f.there.at_last);
+          faulted = ap (λ (i : SourceState). is_positive i.faults) (source_there sources (left.nodes k) f.now f.there.at_last);
         }
 
     -- so much was read of its file, and its reads that failed were counted
@@ -147,17 +145,17 @@ module _ {S D : Type 0} (sources : S → SourceState) (drains : D → DrainState
           faulted = λ rose. subst IsTrue (sym d.faulted) (positive (sources f.now.reader.source).faults (rose_from_none (sources f.first.reader.source).faults (sources f.now.reader.source).faults f.start.faults rose));
         })
 
-    files_told : (w : World) → IsWorldOf nodes drawn w → TellsFiles sources (graph_of b) w (account_of net)
+    files_told : (w : World) → IsWorldOf nodes drawn w → TellsFiles sources (graph_of b) w left
     files_told w is k n first now gi fi ni = tells_node sources w n first now (λ a c name fa nc shape.
         let m = unmapped_at node_of nodes k n gi in
         let place : IsSource nodes k name = record { node = m.0; at = m.1.0; kind_is = ap (λ (x : graph.Node). x.kind) (sym m.1.1) ∙ shape } in
-        let f = source_facts sources drains handles b can ss ds net l old mid opens k name place in
-        let first_is : f.first ≡ a = reading_same f.first a first (place_one net.firsts k first (node.Reading f.first) fi f.there.at_first) fa in
-        let now_is : f.now ≡ c = reading_same f.now c now (place_one net.nodes k now (node.Reading f.now) ni f.there.at_last) nc in
+        let f = source_facts sources drains handles b ss ds left last l old mid opens k name place in
+        let first_is : f.first ≡ a = reading_same f.first a first (one_node first (node.Reading f.first) fi f.there.at_first) fa in
+        let now_is : f.now ≡ c = reading_same f.now c now (one_node now (node.Reading f.now) ni f.there.at_last) nc in
         subst (λ (x : Lines S). TellsFile (sources x.reader.source) (sources c.reader.source) (w.file name)) first_is
         (subst (λ (x : Lines S). TellsFile (sources f.first.reader.source) (sources x.reader.source) (w.file name)) now_is (file_told k name f w (is.files k name place))))
 
-    world_tells : (w : World) → IsWorldOf nodes drawn w → Tells sources (graph_of b) w (account_of net)
+    world_tells : (w : World) → IsWorldOf nodes drawn w → Tells sources (graph_of b) w left
     world_tells w is = record { files = files_told w is; picks = picks_told w is.moves }
 
     pub draws_all : Draws

@@ -6,8 +6,9 @@ pub mod Handles
 pub mod Shuts
 pub mod Traces
 pub mod Shutting
-pub mod Stopping
 pub mod Units
+pub mod Stopping
+pub mod Sending
 pub mod Worlds
 pub mod Choosing
 pub mod Carried

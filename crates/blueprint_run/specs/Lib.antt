@@ -5,5 +5,7 @@ pub mod Units
 pub mod Carrying
 pub mod Tracing
 pub mod Opening
+pub mod Sending
 pub mod Running
 pub mod Leaving
+pub mod Islands

@@ -21,7 +21,7 @@ use Rattle.stream_picture.specs.Rests.{Rests, SinksMatch}
 use Rattle.stream_picture.specs.Shape.{IsPolytree, sent_at, need, count_needed}
 use Rattle.stream_io.specs.Counts.{Rose, Grew}
 use Rattle.stream_io.specs.State.{FolderState}
-use Rattle.run_laws.specs.Sinks.{SinkTells, SentTo, IgnoreTells}
+use Rattle.run_laws.specs.Sinks.{SinkTells, IgnoreTells}
 use Rattle.materializer.specs.Graphs.{node_of, graph_of}
 use Rattle.materializer.specs.Files.{output_of, inputs_of_nodes, outputs_of_nodes}
 use Rattle.run_files.specs.Quiet.{Quiet}
@@ -30,6 +30,7 @@ use Rattle.interpreter.specs.Picks.{Pick, pick_of}
 use Rattle.blueprint_run.specs.Carrying.{Carries}
 use Rattle.blueprint_run.specs.Choosing.{pick_places, picked}
 use Rattle.blueprint_run.specs.Drawing.{Drawn, IsSource, WasRead, WereRead, IsWorldOf, DrawsFirst}
+use Rattle.blueprint_run.specs.Sending.{SentOn}
 use Rattle.blueprint_run.specs.Stands.{Stand, sink_places, has_ended_at, is_write_fault, is_unended}
 use Rattle.blueprint_run.specs.Tracing.{Traces, written_files}
 use Rattle.blueprint_run.specs.Units.{Pays}
@@ -38,14 +39,14 @@ use Rattle.blueprint_run.specs.declared.run.Ran.{Ran}
 -- What is told of the sink with a file that is node k, which stands so: it wrote what the composed outlook of the sink lets it
 -- write, by every world that has the input files as they were read and what the stages chose, and so many whole lines. Where the
 -- folder still tells its files, the sink's file holds just that. To a sink of lines as many
--- elements were sent, or one more while it has not ended, and just one more where a write failed; where no event was left no
--- more than it wrote.
+-- elements were sent, or one more while it has not ended, and just one more where a write failed, but for what a lane to it may
+-- hold; where no event was left no more than it wrote, also on a lane.
 pub record SinkLeaves (new : FolderState) (b : Blueprint) (d : Drawn) (wires : List WireCount) (at_rest : Bool) (k : ℕ) (n : Node) (file : List ℕ) (count : ℕ) (end : EndState) : Type 0 where
   pub held : List ℕ
   pub there : IsTrue new.tells → new.file file ≡ Some held
   pub tells : (w : World) → IsWorldOf b.nodes.items d w → SinkTells (sink_outlook (graph_of b) w k (node_of n)) end held
   pub lines_are : whole_lines (length held) held ≡ count
-  pub sent : n.kind ≡ ToLines file → (u : ℕ) (v : Wire) → slice_get (blueprint_wires b) u ≡ Some v → v.to ≡ k → SentTo end (sent_at wires u) count
+  pub sent : n.kind ≡ ToLines file → (u : ℕ) (v : Wire) → slice_get (blueprint_wires b) u ≡ Some v → v.to ≡ k → SentOn v.lane end (sent_at wires u) count
   pub rests : n.kind ≡ ToLines file → IsTrue at_rest → end ≡ Unended → (u : ℕ) (v : Wire) → slice_get (blueprint_wires b) u ≡ Some v → v.to ≡ k → sent_at wires u ≡ count
 
 -- What is told of a sink that keeps nothing: it counts none, and how it stands and how many elements were sent to it are as its

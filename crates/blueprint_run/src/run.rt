@@ -1,5 +1,6 @@
 // The run of a blueprint over a folder.
 ghost use Rattle.std.specs.Prelude.{◌≡◌, ◌+◌, ◌-◌, ◌≤◌, ◌++◌, [], ℕ, List, Option, IfOk, IfErr, Err, Bool, true, false, IsTrue, map, length, vec_len, is_some};
+ghost use Rattle.std.specs.List.{All};
 ghost use Rattle.std.specs.Option.{option_map, option_to_list};
 ghost use Rattle.blue_core.specs.declared.blueprint.Blueprint as plan;
 ghost use Rattle.stream_io.specs.State.{FolderState};
@@ -7,14 +8,15 @@ ghost use Rattle.interpreter.specs.Island.{counts_of, sinks_of, readers_of, writ
 ghost use Rattle.interpreter.specs.Picks.{pick_of, picks_of};
 ghost use Rattle.interpreter.specs.Parts.{AreParts, place_of};
 ghost use Rattle.interpreter.specs.Room.{IsRoom};
-ghost use Rattle.materializer.specs.Built.{CanRun};
+ghost use Rattle.materializer.specs.Built.{CanRun, CanRunAlone};
 ghost use Rattle.materializer.specs.Choices.{pick_names};
 ghost use Rattle.materializer.specs.Files.{inputs_of_nodes, outputs_of_nodes};
 ghost use Rattle.materializer.specs.Planned.{IsPlan};
 ghost use Rattle.run_files.specs.Opening.{MissesInput, RefusesOutput};
 ghost use Rattle.run_files.specs.Closing.{ClosesAll};
 ghost use Rattle.run_report.specs.Trace.{trace_text, moves_in};
-ghost use Rattle.blueprint_run.specs.Leaving.{Stops, Leaves, BreaksAs, LeavesBroken, LeavesBrokenAs, HasAsMany};
+ghost use Rattle.blueprint_run.specs.Islands.{Stops, BreaksAs};
+ghost use Rattle.blueprint_run.specs.Leaving.{Leaves, LeavesBroken, LeavesBrokenAs, HasAsMany};
 ghost use Rattle.blueprint_run.specs.Opening.{Opens, OpensAs, WritesAs, ClosesAs};
 ghost use Rattle.blueprint_run.specs.Running.{Runs, Wants, WantsWithin};
 ghost use Rattle.blueprint_run.specs.Tracing.{written_files, IsApart};
@@ -150,7 +152,8 @@ fn execute<S: Source, D: Drain>(
     }
 }
 
-/// Makes the island of a plan over its open files, runs it by at most so many units, and takes it apart.
+/// Makes the island of a plan over its open files, of which nothing was read, runs it by at most so many units, and takes it apart.
+/// What it leaves it tells as any run of the blueprint does, in one island or in many.
 fn run_open<S: Source, D: Drain>(
     alloc: Global,
     plan: Plan<S, D>,
@@ -162,9 +165,13 @@ fn run_open<S: Source, D: Drain>(
     requires budget { budget ≤ 4000000000 }
     requires sources { vec_len sources ≡ length (inputs_of_nodes plan.blueprint.value.nodes.items) }
     requires drains { vec_len drains ≡ length (outputs_of_nodes plan.blueprint.value.nodes.items) }
+    requires started { All (λ s. (S.state s).given ≡ 0) sources.items }
     ensures leaves { IfOk result (λ stopped. Leaves S.state D.state plan.blueprint.value sources.items drains.items budget stopped) }
     ensures breaks { IfErr result (λ broken. LeavesBrokenAs S.state D.state plan.blueprint.value sources.items drains.items broken) }
 {
+    an_island_leaves_a_run::<S, D>();
+    fit_blueprints_are_whole();
+    parts_are_made_of_their_blueprint::<S, D>();
     let (parts, room) = plan.fill(alloc, sources, drains);
     execute(alloc, parts, room, budget)
 }
@@ -251,7 +258,6 @@ fn close<F: Folder>(
         → Opens old (F.state folder.old) (inputs_of_nodes b.nodes.items) (outputs_of_nodes b.nodes.items) (option_to_list trace) (map F.Inp.state ss) (map F.Out.state ds) → OpensAs (F.state folder.old) trace (option_map F.Out.state drain)
         → Leaves F.Inp.state F.Out.state b ss ds budget stopped → HasAsMany ss ds stopped.end }
 {
-    an_island_leaves_a_run::<F::Inp, F::Out>();
     every_wire_agrees::<F::Inp, F::Out>();
     every_sink_agrees::<F::Inp, F::Out>();
     every_sink_counts_its_lines::<F::Inp, F::Out>();
@@ -265,7 +271,6 @@ fn close<F: Folder>(
     fit_blueprints_pass_the_rules();
     every_wire_carries_its_type::<F::Inp, F::Out>();
     every_node_gives_of_what_came::<F::Inp, F::Out>();
-    parts_are_made_of_their_blueprint::<F::Inp, F::Out>();
     parts_hold_their_files::<F::Inp, F::Out>();
     let Stopped {
         end,
@@ -305,12 +310,10 @@ fn give_up<F: Folder>(folder: &mut F, end: IslandEnd<F::Inp, F::Out>, drain: Opt
         → Opens old (F.state folder.old) (inputs_of_nodes b.nodes.items) (outputs_of_nodes b.nodes.items) (option_to_list trace) (map F.Inp.state ss) (map F.Out.state ds) → OpensAs (F.state folder.old) trace (option_map F.Out.state drain)
         → LeavesBroken F.Inp.state F.Out.state b ss ds end → HasAsMany ss ds end }
 {
-    an_island_leaves_a_run::<F::Inp, F::Out>();
     every_sink_agrees::<F::Inp, F::Out>();
     every_sink_writes::<F::Inp, F::Out>();
     every_source_reads_little_ahead::<F::Inp, F::Out>();
     fit_blueprints_are_whole();
-    parts_are_made_of_their_blueprint::<F::Inp, F::Out>();
     parts_hold_their_files::<F::Inp, F::Out>();
     close_broken(folder, end);
     close_trace(folder, drain);
@@ -336,7 +339,7 @@ pub fn run<F: Folder>(
     trace: Option<Line>,
     budget: u32,
 ) -> Result<Ran, OpenEnd>
-    requires runs { CanRun b }
+    requires runs { CanRunAlone b }
     requires apart { IsApart b trace }
     requires budget { budget ≤ 4000000000 }
     ensures ran { IfOk result (λ ran. Runs (F.state folder.old) (F.state folder.new) b trace budget ran) }

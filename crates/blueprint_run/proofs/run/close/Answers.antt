@@ -13,9 +13,6 @@ returns-clause-runs g c = λ old b trace budget ss ds can separate named opens o
     let closed = c.close_trace.ensures.closes in
     runs_of g.F.Inp.Source.state g.F.Out.Drain.state
     (record {
-      made_law = c.parts_are_made_of_their_blueprint.ensures;
-      joined_law = c.fit_blueprints_are_whole.ensures.joined;
-      run_law = c.an_island_leaves_a_run.ensures.run;
       reads_law = c.parts_hold_their_files.ensures.sources;
       writes_law = c.parts_hold_their_files.ensures.files;
       source_there = c.every_source_reads_little_ahead.ensures.there;
@@ -25,8 +22,6 @@ returns-clause-runs g c = λ old b trace budget ss ds can separate named opens o
       fits = c.fit_blueprints_pass_the_rules.ensures;
       types = c.every_wire_carries_its_type.ensures.run;
       gives = c.every_node_gives_of_what_came.ensures.others;
-      still = c.an_island_leaves_a_run.ensures.still;
-      counts = c.an_island_leaves_a_run.ensures.counts;
       ranked = c.fit_blueprints_are_whole.ensures.ranked;
       agree = c.every_wire_agrees.ensures;
       trees = c.polytrees_end.ensures;
@@ -39,7 +34,7 @@ returns-clause-runs g c = λ old b trace budget ss ds can separate named opens o
       moves = c.every_move_fits.ensures;
       match = c.a_picture_without_events_rests.ensures.sinks;
       ignorer = c.every_sink_agrees.ensures.ignorer;
-      ignores = c.every_sink_agrees.ensures.ignores;
+      took = c.every_sink_agrees.ensures.took;
     })
     b can ss ds budget _ leaves old _ trace separate opens _
     (shuts_of _ _ _ (option_to_list trace) _ _ _ shut closed (name_written (option_to_list trace) _ _ _ _ wrote (name_opened _ trace _ opened)))
@@ -51,9 +46,6 @@ pub returns-clause-all : goal.returns-clause-all
 returns-clause-all g c = λ old b trace budget ss ds can separate opens opened leaves.
     closes_run g.F.Inp.Source.state g.F.Out.Drain.state
     (record {
-      made_law = c.parts_are_made_of_their_blueprint.ensures;
-      joined_law = c.fit_blueprints_are_whole.ensures.joined;
-      run_law = c.an_island_leaves_a_run.ensures.run;
       reads_law = c.parts_hold_their_files.ensures.sources;
       writes_law = c.parts_hold_their_files.ensures.files;
       source_there = c.every_source_reads_little_ahead.ensures.there;
@@ -63,8 +55,6 @@ returns-clause-all g c = λ old b trace budget ss ds can separate opens opened l
       fits = c.fit_blueprints_pass_the_rules.ensures;
       types = c.every_wire_carries_its_type.ensures.run;
       gives = c.every_node_gives_of_what_came.ensures.others;
-      still = c.an_island_leaves_a_run.ensures.still;
-      counts = c.an_island_leaves_a_run.ensures.counts;
       ranked = c.fit_blueprints_are_whole.ensures.ranked;
       agree = c.every_wire_agrees.ensures;
       trees = c.polytrees_end.ensures;
@@ -77,7 +67,7 @@ returns-clause-all g c = λ old b trace budget ss ds can separate opens opened l
       moves = c.every_move_fits.ensures;
       match = c.a_picture_without_events_rests.ensures.sinks;
       ignorer = c.every_sink_agrees.ensures.ignorer;
-      ignores = c.every_sink_agrees.ensures.ignores;
+      took = c.every_sink_agrees.ensures.took;
     })
     b can ss ds budget _ leaves old _ trace separate opens _
     (shuts_of _ _ _ (option_to_list trace) _ _ _ c.close_all.ensures.closes c.close_trace.ensures.closes (name_written (option_to_list trace) _ _ _ _ c.write_trace-drain.ensures.writes (name_opened _ trace _ opened)))

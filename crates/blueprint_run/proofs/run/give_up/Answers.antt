@@ -11,9 +11,6 @@ returns-clause-wants g c = λ old b trace ss ds can separate opens opened leaves
     let closed = c.close_trace.ensures.closes in
     wants_within g.F.Inp.Source.state g.F.Out.Drain.state
     (record {
-      made_law = c.parts_are_made_of_their_blueprint.ensures;
-      joined_law = c.fit_blueprints_are_whole.ensures.joined;
-      run_law = c.an_island_leaves_a_run.ensures.run;
       reads_law = c.parts_hold_their_files.ensures.sources;
       writes_law = c.parts_hold_their_files.ensures.files;
       source_there = c.every_source_reads_little_ahead.ensures.there;
@@ -27,9 +24,6 @@ pub returns-clause-all : goal.returns-clause-all
 returns-clause-all g c = λ old b trace ss ds can separate opens opened leaves.
     closes_broken g.F.Inp.Source.state g.F.Out.Drain.state
     (record {
-      made_law = c.parts_are_made_of_their_blueprint.ensures;
-      joined_law = c.fit_blueprints_are_whole.ensures.joined;
-      run_law = c.an_island_leaves_a_run.ensures.run;
       reads_law = c.parts_hold_their_files.ensures.sources;
       writes_law = c.parts_hold_their_files.ensures.files;
       source_there = c.every_source_reads_little_ahead.ensures.there;

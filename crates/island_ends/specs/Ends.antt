@@ -1,5 +1,5 @@
 -- What the islands of a blueprint leave at their ends, and all of it in one.
-use Rattle.std.specs.Prelude.{◌≡◌, ◌<◌, ℕ, Option, None, Some, List, [], ◌∷◌, ◌++◌, All, length, map, slice_get}
+use Rattle.std.specs.Prelude.{◌≡◌, ◌<◌, ℕ, Bool, true, false, Option, None, Some, List, [], ◌∷◌, ◌++◌, All, length, map, slice_get}
 use Rattle.stream_model.specs.declared.outcome.EndState.{EndState}
 use Rattle.stream_model.specs.declared.outcome.WireCount.{WireCount}
 use Rattle.nodes.specs.Nodes.{node_picks}
@@ -21,6 +21,11 @@ abbrev pub homes_left : {X Y : Type 0} → (X → Option Y) → List ℕ → Lis
 homes_left f [] xs = []
 homes_left f (h ∷ hs) [] = []
 homes_left f (h ∷ hs) (x ∷ xs) = with_home (f x) h (homes_left f hs xs)
+
+-- whether something is left
+abbrev pub leaves : {Y : Type 0} → Option Y → Bool
+leaves None = false
+leaves (Some y) = true
 
 -- what a node leaves: how a sink ended, the source of a reader, the drain of a sink that has a file
 abbrev pub sink_of : {S D : Type 0} → Node S D → Option (ℕ × ℕ × EndState)
@@ -58,6 +63,22 @@ writer_of (node.Writing x) = Some x.drain
 writer_of (node.Ignoring x) = None
 writer_of (node.Entering x) = None
 writer_of (node.Leaving x) = None
+
+-- a stage at an end of a lane, and nodes that are such
+abbrev pub is_lane_end : {S D : Type 0} → Node S D → Bool
+is_lane_end (node.Reading x) = false
+is_lane_end (node.Making x) = false
+is_lane_end (node.Linear x) = false
+is_lane_end (node.State x) = false
+is_lane_end (node.FanIn x) = false
+is_lane_end (node.FanOut x) = false
+is_lane_end (node.Writing x) = false
+is_lane_end (node.Ignoring x) = false
+is_lane_end (node.Entering x) = true
+is_lane_end (node.Leaving x) = true
+
+abbrev pub AreLaneEnds : {S D : Type 0} → List (Node S D) → Type 0
+AreLaneEnds nodes = (k : ℕ) (x : Node _ _) → slice_get nodes k ≡ Some x → is_lane_end x ≡ true
 
 -- the nodes of all islands in order, with the island and the number of each: those of the blueprint, and behind them the ends of lanes;
 -- and the counts at the outputs of all wires in order, with the island of each

@@ -2,5 +2,6 @@
 #![tactic(auto)]
 
 pub mod join;
+pub mod laws;
 pub mod lists;
 pub mod room;

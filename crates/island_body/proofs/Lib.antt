@@ -1,0 +1,4 @@
+pub mod Joining
+pub mod Lists
+pub mod Standing
+pub mod Acting

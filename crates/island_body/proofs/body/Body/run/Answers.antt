@@ -1,0 +1,34 @@
+-- The goals of `body::Body::run` that the search leaves.
+use Rattle.std.proofs.Common.{◌∙◌, ap, arith}
+use Rattle.fused_net.proofs.Keeping.{on_err}
+use Rattle.std.specs.declared.vec.Vec.{Vec}
+use Rattle.output_boundary.specs.declared.boundary.OutputBoundary.{OutputBoundary}
+use Rattle.island_input.specs.declared.boundary.IslandInput.{IslandInput}
+use Rattle.island_body.specs.Ends.{all_taken, all_finds}
+use Rattle.island_body.specs.Lasting.{goes_on, goes_breaks}
+use Rattle.island_body.proofs.body.Body.run.Goals as goal
+
+pub returns-in_err-heard-clause-breaks : goal.returns-in_err-heard-clause-breaks
+returns-in_err-heard-clause-breaks g c = on_err c.from_residual.result (goes_breaks g.S.Source.state g.D.Drain.state _ _ _ c.loop-heard.invariant.goes c.in_err-heard.ensures.breaks)
+
+pub loop-heard-preserved : goal.loop-heard-preserved
+loop-heard-preserved g c =
+    let i = c.loop-heard.invariant in
+    let e = c.in_ok-heard.ensures in
+    let s = c.serve_at.ensures in
+    let few = (e.heard c.in-Some.w c.in-Some.is).0 in
+    record {
+      stands = s.stands;
+      served = s.served;
+      goes = goes_on _ _ _ i.goes (goes_on _ _ _ e.goes s.goes);
+      more = let a = i.more in omega (arith, a);
+      less = let a = i.less in let b = e.within in omega (arith, a, b);
+      uses = let a = i.uses in let b = e.uses.least in let d = s.uses.least in omega (arith, a, b, d);
+      used = let a = i.used in let b = e.used in let d = s.rest.0 in omega (arith, a, b, d);
+      costs = (
+        s.costs.0 ∙ (ap (λ (v : Vec IslandInput _). all_taken v.items) e.lanes.0 ∙ i.costs.0),
+        s.costs.1 ∙ (ap (λ (v : Vec OutputBoundary _). all_finds v.items) e.lanes.1 ∙ i.costs.1),
+        s.rest.1 ∙ (e.lanes.3 ∙ i.costs.2),
+      );
+      same = λ z. let a = i.more in absurd (omega (arith, z, a, few));
+    }

@@ -1,0 +1,10 @@
+-- The goals of `body::Body::take_at` that the search leaves.
+use Rattle.island_body.specs.Lasting.{goes_on}
+use Rattle.island_body.proofs.Acting.{done_as}
+use Rattle.island_body.proofs.body.Body.take_at.Goals as goal
+
+pub returns-then-took-clause-served : goal.returns-then-took-clause-served
+returns-then-took-clause-served g c = done_as _ _ _ _ _ c.serve_in.ensures.count.0 c.serve_in.ensures.count.1 (c.serve_in.ensures.served _ _ c.look_in-took.ensures.served)
+
+pub returns-then-took-clause-goes : goal.returns-then-took-clause-goes
+returns-then-took-clause-goes g c = goes_on _ _ _ c.look_in-took.ensures.goes c.serve_in.ensures.goes

@@ -1,0 +1,23 @@
+-- The goal of `body::Body::visit_all` that the search leaves.
+use Rattle.std.proofs.Common.{◌≡◌, ◌∙◌, sym, arith}
+use Rattle.island_body.specs.Lasting.{goes_on}
+use Rattle.island_body.proofs.Acting.{uses_then, found_more}
+use Rattle.island_body.proofs.body.Body.visit_all.Goals as goal
+
+pub loop-k-preserved : goal.loop-k-preserved
+loop-k-preserved g c =
+    let i = c.loop-k.invariant in
+    let t = c.visit_from-count.ensures in
+    record {
+      stands = t.stands;
+      served = t.served;
+      ends = t.count ∙ i.ends;
+      goes = goes_on _ _ _ i.goes t.goes;
+      uses = uses_then _ _ _ i.uses t.uses;
+      more = let a = t.between.0 in let b = i.more in omega (arith, a, b);
+      less = t.between.1;
+      taken = t.taken ∙ i.taken;
+      finds = let a = t.finds in let b = i.finds in omega (arith, a, b);
+      rest = (t.rest.0 ∙ i.rest.0, t.rest.1 ∙ i.rest.1);
+      none = λ e h. let a = t.between.0 in let b = i.more in let z : c.loop-k.count ≡ c.args.used = omega (arith, e, a, b) in found_more _ _ _ _ (i.none z h) (t.none (e ∙ sym z) (omega (arith, z, h)));
+    }

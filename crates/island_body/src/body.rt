@@ -1,0 +1,372 @@
+// The body of an island.
+ghost use Rattle.std.specs.Prelude.{◌≡◌, ◌+◌, ◌<◌, ◌≤◌, [], ℕ, true, false, None, Some, IsTrue, ◌↔◌, map, IfOk, OnOk, OnErr, length, slice_get, replicate, vec_len};
+ghost use Rattle.fused_net.specs.Costs.{Uses, total};
+ghost use Rattle.lane_core.specs.Ends.{asked};
+ghost use Rattle.interpreter.specs.Island.{counts_of, sinks_of, readers_of, writers_of};
+ghost use Rattle.interpreter.specs.Picks.{pick_of, picks_of};
+ghost use Rattle.output_boundary.specs.Sending.{unit_of};
+ghost use Rattle.output_boundary.specs.declared.found.Found.TheVariants as found;
+ghost use Rattle.output_boundary.specs.declared.boundary.OutputBoundary as outputs;
+ghost use Rattle.island_input.specs.declared.boundary.IslandInput as inputs;
+ghost use Rattle.interpreter.specs.Boundary.{way_in, way_out};
+ghost use Rattle.island_body.specs.Ends.{in_wires, out_wires, all_taken, all_finds, AllServed, AllDone};
+ghost use Rattle.island_body.specs.Keeping.{is_pending, BodyStands, BodyKeeps, BodyGoes, BodyBreaks, IsIdle, cost_of};
+ghost use Rattle.island_body.specs.Moving.{TookNoneAt, TookNoneBelow, FoundNoneAt, FoundNoneBelow};
+
+use crate::way::Way;
+use elem_core::why::NoMemory;
+use fused_net::engine::Advance;
+use interpreter::island::{Island, IslandEnd};
+use island_input::boundary::IslandInput;
+use output_boundary::boundary::OutputBoundary;
+use output_boundary::found::Found;
+use std::alloc::{AllocError, Global};
+use stream_io::outside::{Drain, Source};
+
+/// An island with the ends of its lanes. Rule: Akka Streams 2.6 reference, chapter on asynchronous boundaries.
+#[derive(Drop)]
+pub struct Body<S: Source, D: Drain> {
+    pub(crate) island: Island<S, D>,
+    // Those that take, and those that send, each in the order of their wires.
+    pub(crate) ins: Vec<IslandInput>,
+    pub(crate) outs: Vec<OutputBoundary>,
+    // Which end stands at each connection of the island.
+    pub(crate) ways: Vec<Way>,
+    // The units of all its turns.
+    pub(crate) spent: u32,
+}
+
+impl<S: Source, D: Drain> Body<S, D> {
+    // The input end at place k does what it has to do.
+    fn serve_in(&mut self, k: usize)
+        requires within { k < length self.old.ins.items }
+        requires stands { BodyStands self.old }
+        ensures stands { BodyStands self.new }
+        ensures served { (n m : ℕ) → ((x : inputs.IslandInput) → slice_get self.old.ins.items k ≡ Some x → AllServed (Some (way_in self.old.island x.wire)) n m self.old.island self.old.ins.items self.old.outs.items) → AllServed None n m self.new.island self.new.ins.items self.new.outs.items }
+        ensures count { (length self.new.ins.items ≡ length self.old.ins.items) × (length self.new.outs.items ≡ length self.old.outs.items) }
+        ensures goes { BodyGoes self.old self.new }
+        ensures uses { Uses self.old.island.net self.new.island.net 0 }
+        ensures costs { (all_taken self.new.ins.items ≡ all_taken self.old.ins.items) × (all_finds self.new.outs.items ≡ all_finds self.old.outs.items) }
+        ensures rest { (self.new.island.used ≡ self.old.island.used) × (self.new.spent ≡ self.old.spent) }
+    {
+        self.ins[k].serve(&mut self.island);
+    }
+
+    // The output end at place k does what it has to do.
+    fn serve_out(&mut self, k: usize)
+        requires within { k < length self.old.outs.items }
+        requires stands { BodyStands self.old }
+        ensures stands { BodyStands self.new }
+        ensures served { (n m : ℕ) → ((o : outputs.OutputBoundary) → slice_get self.old.outs.items k ≡ Some o → AllServed (Some (way_out self.old.island o.wire)) n m self.old.island self.old.ins.items self.old.outs.items) → AllServed None n m self.new.island self.new.ins.items self.new.outs.items }
+        ensures count { (length self.new.ins.items ≡ length self.old.ins.items) × (length self.new.outs.items ≡ length self.old.outs.items) }
+        ensures goes { BodyGoes self.old self.new }
+        ensures uses { Uses self.old.island.net self.new.island.net 0 }
+        ensures costs { (all_taken self.new.ins.items ≡ all_taken self.old.ins.items) × (all_finds self.new.outs.items ≡ all_finds self.old.outs.items) }
+        ensures rest { (self.new.island.used ≡ self.old.island.used) × (self.new.spent ≡ self.old.spent) }
+    {
+        self.outs[k].serve(&mut self.island);
+    }
+
+    // The end of a lane at connection w, if there is one, does what it has to do.
+    fn serve_at(&mut self, w: u32)
+        requires within { w < length self.old.ways.items }
+        requires stands { BodyStands self.old }
+        requires served { AllServed (Some w) (length self.old.ins.items) (length self.old.outs.items) self.old.island self.old.ins.items self.old.outs.items }
+        ensures stands { BodyStands self.new }
+        ensures served { AllDone self.new.island self.new.ins.items self.new.outs.items }
+        ensures goes { BodyGoes self.old self.new }
+        ensures uses { Uses self.old.island.net self.new.island.net 0 }
+        ensures costs { (all_taken self.new.ins.items ≡ all_taken self.old.ins.items) × (all_finds self.new.outs.items ≡ all_finds self.old.outs.items) }
+        ensures rest { (self.new.island.used ≡ self.old.island.used) × (self.new.spent ≡ self.old.spent) }
+    {
+        match self.ways[w as usize] {
+            Way::Inner => {}
+            Way::In(k) => self.serve_in(k as usize),
+            Way::Out(k) => self.serve_out(k as usize),
+        }
+    }
+
+    // Looks at the lane of the input end at place k, and does not yet hand on what it takes.
+    fn look_in(&mut self, k: usize) -> bool
+        requires within { k < length self.old.ins.items }
+        requires stands { BodyStands self.old }
+        requires served { AllDone self.old.island self.old.ins.items self.old.outs.items }
+        ensures stands { BodyStands self.new }
+        ensures served { (x : inputs.IslandInput) → slice_get self.new.ins.items k ≡ Some x → AllServed (Some (way_in self.new.island x.wire)) (length self.new.ins.items) (length self.new.outs.items) self.new.island self.new.ins.items self.new.outs.items }
+        ensures still { result ≡ false → AllDone self.new.island self.new.ins.items self.new.outs.items }
+        ensures count { length self.new.ins.items ≡ length self.old.ins.items }
+        ensures goes { BodyGoes self.old self.new }
+        ensures took { result ≡ true → all_taken self.new.ins.items ≡ all_taken self.old.ins.items + 1 }
+        ensures none { result ≡ false → TookNoneAt self.old self.new k × (all_taken self.new.ins.items ≡ all_taken self.old.ins.items) }
+        ensures rest { (self.new.island ≡ self.old.island) × (self.new.outs ≡ self.old.outs) × (self.new.spent ≡ self.old.spent) }
+    {
+        self.ins[k].look()
+    }
+
+    // Takes an item at the input end at place k, where one was sent, and hands on what may be handed on.
+    fn take_at(&mut self, k: usize) -> bool
+        requires within { k < length self.old.ins.items }
+        requires stands { BodyStands self.old }
+        requires served { AllDone self.old.island self.old.ins.items self.old.outs.items }
+        ensures stands { BodyStands self.new }
+        ensures served { AllDone self.new.island self.new.ins.items self.new.outs.items }
+        ensures count { length self.new.ins.items ≡ length self.old.ins.items }
+        ensures goes { BodyGoes self.old self.new }
+        ensures uses { Uses self.old.island.net self.new.island.net 0 }
+        ensures took { result ≡ true → all_taken self.new.ins.items ≡ all_taken self.old.ins.items + 1 }
+        ensures none { result ≡ false → TookNoneAt self.old self.new k × (all_taken self.new.ins.items ≡ all_taken self.old.ins.items) }
+        ensures finds { all_finds self.new.outs.items ≡ all_finds self.old.outs.items }
+        ensures rest { (self.new.island.used ≡ self.old.island.used) × (self.new.spent ≡ self.old.spent) }
+    {
+        let took = self.look_in(k);
+        if took {
+            self.serve_in(k);
+        }
+        took
+    }
+
+    // Takes items at the input end at place k, where they were sent, until so many units were used.
+    fn take_from(&mut self, k: usize, used: u32, limit: u32) -> u32
+        requires within { k < length self.old.ins.items }
+        requires less { used ≤ limit }
+        requires stands { BodyStands self.old }
+        requires served { AllDone self.old.island self.old.ins.items self.old.outs.items }
+        ensures stands { BodyStands self.new }
+        ensures served { AllDone self.new.island self.new.ins.items self.new.outs.items }
+        ensures count { length self.new.ins.items ≡ length self.old.ins.items }
+        ensures goes { BodyGoes self.old self.new }
+        ensures uses { Uses self.old.island.net self.new.island.net 0 }
+        ensures between { (used ≤ result) × (result ≤ limit) }
+        ensures took { all_taken self.new.ins.items + used ≡ all_taken self.old.ins.items + result }
+        ensures finds { all_finds self.new.outs.items ≡ all_finds self.old.outs.items }
+        ensures rest { (self.new.island.used ≡ self.old.island.used) × (self.new.spent ≡ self.old.spent) }
+        ensures none { result ≡ used → used < limit → TookNoneAt self.old self.new k }
+    {
+        let mut count = used;
+        while count < limit {
+            if !self.take_at(k) {
+                return count;
+            }
+            count += 1;
+        }
+        count
+    }
+
+    // Looks at all input ends, in order, and takes what was sent, until so many units were used.
+    fn take_all(&mut self, limit: u32) -> u32
+        requires stands { BodyStands self.old }
+        requires served { AllDone self.old.island self.old.ins.items self.old.outs.items }
+        ensures stands { BodyStands self.new }
+        ensures served { AllDone self.new.island self.new.ins.items self.new.outs.items }
+        ensures goes { BodyGoes self.old self.new }
+        ensures uses { Uses self.old.island.net self.new.island.net 0 }
+        ensures within { result ≤ limit }
+        ensures took { all_taken self.new.ins.items ≡ all_taken self.old.ins.items + result }
+        ensures finds { all_finds self.new.outs.items ≡ all_finds self.old.outs.items }
+        ensures rest { (self.new.island.used ≡ self.old.island.used) × (self.new.spent ≡ self.old.spent) }
+        ensures none { result ≡ 0 → 1 ≤ limit → TookNoneBelow self.old self.new (length self.old.ins.items) }
+    {
+        let mut used = 0;
+        for k in 0..self.ins.len() {
+            used = self.take_from(k, used, limit);
+        }
+        used
+    }
+
+    // Looks once at the output end at place k, and does what is found.
+    fn visit_out(&mut self, k: usize) -> Found
+        requires within { k < length self.old.outs.items }
+        requires stands { BodyStands self.old }
+        requires served { AllDone self.old.island self.old.ins.items self.old.outs.items }
+        ensures stands { BodyStands self.new }
+        ensures served { AllDone self.new.island self.new.ins.items self.new.outs.items }
+        ensures count { length self.new.outs.items ≡ length self.old.outs.items }
+        ensures goes { BodyGoes self.old self.new }
+        ensures uses { Uses self.old.island.net self.new.island.net 0 }
+        ensures taken { all_taken self.new.ins.items ≡ all_taken self.old.ins.items }
+        ensures finds { all_finds self.new.outs.items ≡ all_finds self.old.outs.items + unit_of result }
+        ensures rest { (self.new.island.used ≡ self.old.island.used) × (self.new.spent ≡ self.old.spent) }
+        ensures none { unit_of result ≡ 0 → FoundNoneAt self.old self.new k }
+    {
+        self.outs[k].visit(&mut self.island)
+    }
+
+    // The same, by the units that it uses: one where something is found.
+    fn visit_at(&mut self, k: usize) -> u32
+        requires within { k < length self.old.outs.items }
+        requires stands { BodyStands self.old }
+        requires served { AllDone self.old.island self.old.ins.items self.old.outs.items }
+        ensures stands { BodyStands self.new }
+        ensures served { AllDone self.new.island self.new.ins.items self.new.outs.items }
+        ensures count { length self.new.outs.items ≡ length self.old.outs.items }
+        ensures goes { BodyGoes self.old self.new }
+        ensures uses { Uses self.old.island.net self.new.island.net 0 }
+        ensures one { result ≤ 1 }
+        ensures taken { all_taken self.new.ins.items ≡ all_taken self.old.ins.items }
+        ensures finds { all_finds self.new.outs.items ≡ all_finds self.old.outs.items + result }
+        ensures rest { (self.new.island.used ≡ self.old.island.used) × (self.new.spent ≡ self.old.spent) }
+        ensures none { result ≡ 0 → FoundNoneAt self.old self.new k }
+    {
+        let found = self.visit_out(k);
+        units(found)
+    }
+
+    // The same where not so many units were used, and by the units that were used then.
+    fn visit_from(&mut self, k: usize, used: u32, limit: u32) -> u32
+        requires within { k < length self.old.outs.items }
+        requires less { used ≤ limit }
+        requires stands { BodyStands self.old }
+        requires served { AllDone self.old.island self.old.ins.items self.old.outs.items }
+        ensures stands { BodyStands self.new }
+        ensures served { AllDone self.new.island self.new.ins.items self.new.outs.items }
+        ensures count { length self.new.outs.items ≡ length self.old.outs.items }
+        ensures goes { BodyGoes self.old self.new }
+        ensures uses { Uses self.old.island.net self.new.island.net 0 }
+        ensures between { (used ≤ result) × (result ≤ limit) }
+        ensures taken { all_taken self.new.ins.items ≡ all_taken self.old.ins.items }
+        ensures finds { all_finds self.new.outs.items + used ≡ all_finds self.old.outs.items + result }
+        ensures rest { (self.new.island.used ≡ self.old.island.used) × (self.new.spent ≡ self.old.spent) }
+        ensures none { result ≡ used → used < limit → FoundNoneAt self.old self.new k }
+    {
+        if used == limit {
+            return used;
+        }
+        let found = self.visit_at(k);
+        used + found
+    }
+
+    // Looks at all output ends, in order, until so many units were used.
+    fn visit_all(&mut self, used: u32, limit: u32) -> u32
+        requires less { used ≤ limit }
+        requires stands { BodyStands self.old }
+        requires served { AllDone self.old.island self.old.ins.items self.old.outs.items }
+        ensures stands { BodyStands self.new }
+        ensures served { AllDone self.new.island self.new.ins.items self.new.outs.items }
+        ensures goes { BodyGoes self.old self.new }
+        ensures uses { Uses self.old.island.net self.new.island.net 0 }
+        ensures between { (used ≤ result) × (result ≤ limit) }
+        ensures taken { all_taken self.new.ins.items ≡ all_taken self.old.ins.items }
+        ensures finds { all_finds self.new.outs.items + used ≡ all_finds self.old.outs.items + result }
+        ensures rest { (self.new.island.used ≡ self.old.island.used) × (self.new.spent ≡ self.old.spent) }
+        ensures none { result ≡ used → used < limit → FoundNoneBelow self.old self.new (length self.old.outs.items) }
+    {
+        let mut count = used;
+        for k in 0..self.outs.len() {
+            count = self.visit_from(k, count, limit);
+        }
+        count
+    }
+
+    // Handles the events of the island, and lets each end of a lane that hears of one do what it has to do, until so many units were
+    // used.
+    fn run(&mut self, alloc: Global, used: u32, limit: u32) -> Result<u32, NoMemory>
+        requires less { used ≤ limit }
+        requires few { self.old.island.used + limit ≤ 4000000000 + used }
+        requires stands { BodyStands self.old }
+        requires served { AllDone self.old.island self.old.ins.items self.old.outs.items }
+        ensures stands { OnOk result (BodyStands self.new) }
+        ensures served { OnOk result (AllDone self.new.island self.new.ins.items self.new.outs.items) }
+        ensures goes { OnOk result (BodyGoes self.old self.new) }
+        ensures between { IfOk result (λ count. (used ≤ count) × (count ≤ limit)) }
+        ensures uses { IfOk result (λ count. total self.old.island.net + count ≤ total self.new.island.net + used) }
+        ensures used { IfOk result (λ count. self.new.island.used + used ≡ self.old.island.used + count) }
+        ensures costs { OnOk result ((all_taken self.new.ins.items ≡ all_taken self.old.ins.items) × (all_finds self.new.outs.items ≡ all_finds self.old.outs.items) × (self.new.spent ≡ self.old.spent)) }
+        ensures none { IfOk result (λ count. count ≡ used → used < limit → (self.new ≡ self.old) × (self.old.island.net.queue ≡ [])) }
+        ensures breaks { OnErr result (BodyBreaks S.state D.state self.old self.new) }
+    {
+        let mut count = used;
+        loop {
+            let heard = self.step(alloc, limit - count)?;
+            count += heard.used;
+            match heard.heard {
+                None => return Ok(count),
+                Some(w) => self.serve_at(w),
+            }
+        }
+    }
+
+    // Handles events of the island, up to one of which the stage at an end of a lane has heard.
+    fn step(&mut self, alloc: Global, limit: u32) -> Result<Advance, NoMemory>
+        requires few { self.old.island.used + limit ≤ 4000000000 }
+        requires stands { BodyStands self.old }
+        requires served { AllDone self.old.island self.old.ins.items self.old.outs.items }
+        ensures stands { OnOk result (BodyStands self.new) }
+        ensures served { IfOk result (λ a. AllServed a.heard (length self.new.ins.items) (length self.new.outs.items) self.new.island self.new.ins.items self.new.outs.items) }
+        ensures goes { OnOk result (BodyGoes self.old self.new) }
+        ensures heard { IfOk result (λ a. (w : ℕ) → a.heard ≡ Some w → (1 ≤ a.used) × (w < length self.new.ways.items)) }
+        ensures within { IfOk result (λ a. a.used ≤ limit) }
+        ensures none { IfOk result (λ a. a.used ≡ 0 → self.new ≡ self.old) }
+        ensures rest { IfOk result (λ a. a.used < limit → a.heard ≡ None → self.new.island.net.queue ≡ []) }
+        ensures uses { IfOk result (λ a. Uses self.old.island.net self.new.island.net a.used) }
+        ensures used { IfOk result (λ a. self.new.island.used ≡ self.old.island.used + a.used) }
+        ensures lanes { OnOk result ((self.new.ins ≡ self.old.ins) × (self.new.outs ≡ self.old.outs) × (self.new.ways ≡ self.old.ways) × (self.new.spent ≡ self.old.spent)) }
+        ensures breaks { OnErr result (BodyBreaks S.state D.state self.old self.new) }
+    {
+        self.island.laws();
+        let advance = self.island.advance(alloc, limit)?;
+        self.island.laws();
+        Ok(advance)
+    }
+
+    /// Takes a turn: takes what its lanes brought, looks once whether more is asked of it, and lets the island run, by at most so many
+    /// units in all; one for each event, each item that it takes, and each look that finds new demand or a cancel. It answers how
+    /// many. After `NoMemory` it takes no turn any more; its lanes stand, and its handles hold what they held at the last moment
+    /// between two events, but for what a source read ahead.
+    pub fn take_turn(&mut self, alloc: Global, limit: u32) -> Result<u32, NoMemory>
+        requires keeps { BodyKeeps S.state D.state self.old }
+        requires few { self.old.spent + limit ≤ 4000000000 }
+        ensures keeps { OnOk result (BodyKeeps S.state D.state self.new) }
+        ensures goes { OnOk result (BodyGoes self.old self.new) }
+        ensures spent { IfOk result (λ used. self.new.spent ≡ self.old.spent + used) }
+        ensures within { IfOk result (λ used. used ≤ limit) }
+        ensures idle { IfOk result (λ used. used ≡ 0 → 1 ≤ limit → IsIdle self.old self.new) }
+        ensures breaks { OnErr result (BodyBreaks S.state D.state self.old self.new) }
+    {
+        let taken = self.take_all(limit);
+        let found = self.visit_all(taken, limit);
+        let used = self.run(alloc, found, limit)?;
+        self.island.laws();
+        self.spent += used;
+        Ok(used)
+    }
+
+    /// Whether an event is pending in its island. It takes no memory.
+    pub fn is_pending(&self) -> bool
+        ensures { result ≡ is_pending self.now }
+    {
+        !self.island.at_rest()
+    }
+
+    /// How many elements the input end at place `k` has asked its lane for in all.
+    pub fn asked(&self, k: usize) -> u64
+        requires { k < length self.now.ins.items }
+        ensures { (x : inputs.IslandInput) → slice_get self.now.ins.items k ≡ Some x → result ≡ asked x.boundary.lane }
+    {
+        self.ins[k].boundary.asked()
+    }
+
+    /// Takes it apart: what its island leaves. It takes no memory, also after a turn that answered `NoMemory`.
+    pub fn finish(self) -> IslandEnd<S, D>
+        ensures sinks { result.sinks.items ≡ sinks_of self.island.net.nodes }
+        ensures wires { result.wires.items ≡ counts_of self.island.numbers self.island.net.wires }
+        ensures picks { map pick_of result.picks.items ≡ picks_of self.island.places self.island.net.nodes }
+        ensures readers { result.readers.items ≡ readers_of self.island.net.nodes }
+        ensures writers { result.writers.items ≡ writers_of self.island.net.nodes }
+    {
+        match self.island.finish() {
+            Ok(end) => end,
+            Err(AllocError) => unreachable!(),
+        }
+    }
+}
+
+// How many units a find is.
+fn units(found: Found) -> u32
+    ensures units { result ≡ unit_of found }
+    ensures one { result ≤ 1 }
+{
+    match found {
+        Found::Nothing => 0,
+        Found::Demand | Found::Cancelled => 1,
+    }
+}

@@ -1,0 +1,103 @@
+// Bodies whose lanes are brought together, and which take turns.
+ghost use Rattle.island_body.specs.Keeping.{is_pending, BodyKeeps, BodyGoes, BodyBreaks, IsIdle};
+ghost use Rattle.island_body.specs.Meeting.{BodiesMayMeet, BodiesMeet, BodiesJoined, OnlyMet};
+ghost use Rattle.island_body.specs.Lasting as lasting;
+ghost use Rattle.island_body.specs.Waking as waking;
+ghost use Rattle.std.specs.Prelude.{◌≡◌, refl};
+
+use crate::body::Body;
+use elem_core::why::NoMemory;
+use lane_core::room::Waits;
+use lane_meet::pairs::Meet;
+use rounds::turning::Turning;
+use std::alloc::{AllocError, Global};
+use stream_io::outside::{Drain, Source};
+
+impl<S: Source, D: Drain> Meet for Body<S, D> {
+    ghost may_meet = { BodiesMayMeet };
+
+    ghost met = { BodiesMeet };
+
+    fn meet_other(
+        &mut self,
+        out: usize,
+        other: &mut Body<S, D>,
+        inp: usize,
+    ) -> Result<Waits, AllocError> {
+        let waits = other.ins[inp].boundary.meet(&mut self.outs[out].lane)?;
+        Ok(waits)
+    }
+
+    fn meet_own(&mut self, out: usize, inp: usize) -> Result<Waits, AllocError> {
+        let waits = self.ins[inp].boundary.meet(&mut self.outs[out].lane)?;
+        Ok(waits)
+    }
+}
+
+impl<S: Source, D: Drain> Turning for Body<S, D> {
+    ghost keeps = { BodyKeeps S.state D.state };
+
+    ghost goes = { BodyGoes };
+
+    ghost stands = { OnlyMet };
+
+    ghost breaks = { BodyBreaks S.state D.state };
+
+    ghost joined = { BodiesJoined };
+
+    ghost idle = { IsIdle };
+
+    ghost pending = { is_pending };
+
+    ghost spent = { λ b. b.spent };
+
+    fn turn(&mut self, alloc: Global, limit: u32) -> Result<u32, NoMemory> {
+        self.take_turn(alloc, limit)
+    }
+
+    fn has_event(&self) -> bool {
+        self.is_pending()
+    }
+
+    ghost goes_still = { lasting.goes_still };
+
+    ghost goes_on = { lasting.goes_on };
+
+    ghost stands_still = { lasting.only_still };
+
+    ghost stands_on = { lasting.only_on };
+
+    ghost meets = { lasting.meets_tells };
+
+    ghost keeps_stands = { lasting.keeps_met S.state D.state };
+
+    ghost pending_stands = { lasting.pending_met };
+
+    ghost spent_stands = { λ a b m. m.spent };
+
+    ghost joined_out = { lasting.joined_out };
+
+    ghost joined_inp = { lasting.joined_in };
+
+    ghost meet_goes_out = { lasting.may_goes_out };
+
+    ghost meet_goes_inp = { lasting.may_goes_in };
+
+    ghost meet_stands_out = { lasting.may_stands_out };
+
+    ghost meet_stands_inp = { lasting.may_stands_in };
+
+    ghost meet_breaks_out = { lasting.may_breaks_out S.state D.state };
+
+    ghost meet_breaks_inp = { lasting.may_breaks_in S.state D.state };
+
+    ghost breaks_stands = { lasting.breaks_met S.state D.state };
+
+    ghost goes_breaks = { lasting.goes_breaks S.state D.state };
+
+    ghost idle_item = { waking.idle_item };
+
+    ghost idle_demand = { waking.idle_demand };
+
+    ghost idle_event = { waking.idle_event };
+}

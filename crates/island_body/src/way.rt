@@ -1,0 +1,10 @@
+/// Which end of a lane stands at a connection, by its place among the ends of its island.
+#[derive(Clone, Copy, PartialEq, Eq, Debug)]
+pub enum Way {
+    /// None: both its stages are nodes of the blueprint.
+    Inner,
+    /// The input end of that place.
+    In(u32),
+    /// The output end of that place.
+    Out(u32),
+}

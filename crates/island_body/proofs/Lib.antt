@@ -1,4 +1,5 @@
 pub mod Joining
+pub mod Marking
 pub mod Lists
 pub mod Standing
 pub mod Acting

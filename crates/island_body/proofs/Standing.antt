@@ -182,6 +182,9 @@ module _ {S D : Type 0} where
     ];
   }
 
+  pub served_none : (i : Kept S D) (ins : List IslandInput) (outs : List OutputBoundary) → AllServed None 0 0 i ins outs
+  served_none i ins outs = record { ins_fed = λ k x h e other. absurd (omega (arith, h)); outs_served = λ k o h e other. absurd (omega (arith, h)) }
+
   -- no end stands at the connection that is named
   pub served_inner : (q n m : ℕ) (i : Kept S D) (ins : List IslandInput) (outs : List OutputBoundary) (ws : List Way) → IsTable i (in_wires ins) (out_wires outs) ws → slice_get ws q ≡ Some Inner → AllServed (Some q) n m i ins outs → AllServed None n m i ins outs
   served_inner q n m i ins outs ws t at s = record {

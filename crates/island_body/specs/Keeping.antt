@@ -1,11 +1,12 @@
 -- What a body keeps between two turns, how it goes on, and what it leaves where memory was wanting.
-use Rattle.std.specs.Prelude.{◌≡◌, ℕ, ◌+◌, ◌≤◌, Bool, true, false, List, [], ◌∷◌, slice_get, Some}
+use Rattle.std.specs.Prelude.{◌≡◌, ◌≢◌, ℕ, ◌+◌, ◌≤◌, Bool, true, false, List, [], ◌∷◌, slice_get, Some}
 use Rattle.stream_io.specs.State.{SourceState, DrainState}
 use Rattle.fused_net.specs.Costs.{total}
 use Rattle.fused_net.specs.Laws.{Settled, AllKept}
 use Rattle.nodes.specs.Nodes.{node_row, node_law, node_asking, node_moves, KeepsNode}
 use Rattle.lane_core.specs.Ends.{IsSameIn, IsSameOut}
 use Rattle.interpreter.specs.Island.{Kept, Keeps}
+use Rattle.interpreter.specs.Boundary.{way_in, way_out}
 use Rattle.output_boundary.specs.declared.boundary.OutputBoundary.{OutputBoundary}
 use Rattle.island_input.specs.declared.boundary.IslandInput.{IslandInput}
 use Rattle.island_body.specs.Ends.{in_wires, out_wires, all_taken, all_finds, AllStand, AllDone, AreApart, IsTable, IslandGoes}
@@ -47,6 +48,14 @@ module _ {S D : Type 0} where
     pub served : AllDone b.island b.ins.items b.outs.items
     pub used_less : b.island.used ≤ b.spent
     pub paid : b.spent ≤ cost_of b
+
+  -- An island that has started, and ends of lanes that stand there: each at a stage and at a connection of its own, as at the start.
+  pub record BodyBegins (i : Kept S D) (ins : List IslandInput) (outs : List OutputBoundary) : Type 0 where
+    pub whole : i.broken ≡ false
+    pub unused : i.used ≡ 0
+    pub stand : AllStand i ins outs
+    pub apart : AreApart i (in_wires ins) (out_wires outs)
+    pub differ : (j k u v : ℕ) → slice_get (in_wires ins) j ≡ Some u → slice_get (out_wires outs) k ≡ Some v → way_in i u ≢ way_out i v
 
   -- a body goes on
   pub record BodyGoes (old new : Body S D) : Type 0 where

@@ -9,10 +9,12 @@ ghost use Rattle.output_boundary.specs.declared.found.Found.TheVariants as found
 ghost use Rattle.output_boundary.specs.declared.boundary.OutputBoundary as outputs;
 ghost use Rattle.island_input.specs.declared.boundary.IslandInput as inputs;
 ghost use Rattle.interpreter.specs.Boundary.{way_in, way_out};
-ghost use Rattle.island_body.specs.Ends.{in_wires, out_wires, all_taken, all_finds, AllServed, AllDone};
-ghost use Rattle.island_body.specs.Keeping.{is_pending, BodyStands, BodyKeeps, BodyGoes, BodyBreaks, IsIdle, cost_of};
+ghost use Rattle.island_body.specs.Ends.{in_wires, out_wires, all_taken, all_finds, AllServed, AllDone, IslandGoes};
+ghost use Rattle.island_body.specs.Keeping.{is_pending, BodyBegins, BodyStands, BodyKeeps, BodyGoes, BodyBreaks, IsIdle, SameLanes};
+ghost use Rattle.island_body.specs.declared.way.Way.TheVariants.{Inner};
 ghost use Rattle.island_body.specs.Moving.{TookNoneAt, TookNoneBelow, FoundNoneAt, FoundNoneBelow};
 
+use crate::table::mark;
 use crate::way::Way;
 use elem_core::why::NoMemory;
 use fused_net::engine::Advance;
@@ -37,6 +39,38 @@ pub struct Body<S: Source, D: Drain> {
 }
 
 impl<S: Source, D: Drain> Body<S, D> {
+    /// The body of an island that has started, with the ends of its lanes, each list in the order of their wires. `ways` is a blank
+    /// table with a row for each connection of the island. Each end does what it has to do at the start: what is asked for is
+    /// asked for, and what has ended has ended. It takes no memory, and no unit.
+    pub fn new(
+        island: Island<S, D>,
+        ways: Vec<Way>,
+        ins: Vec<IslandInput>,
+        outs: Vec<OutputBoundary>,
+    ) -> Self
+        requires begins { BodyBegins island ins.items outs.items }
+        requires blank { ways.items ≡ replicate (length island.net.wires) Inner }
+        requires few { (length ins.items ≤ 4294967295) × (length outs.items ≤ 4294967295) }
+        ensures keeps { BodyKeeps S.state D.state result }
+        ensures goes { IslandGoes island result.island }
+        ensures lanes { SameLanes ins.items result.ins.items outs.items result.outs.items }
+        ensures spent { result.spent ≡ 0 }
+    {
+        let mut ways = ways;
+        mark(&mut ways, &island, &ins, &outs);
+        let mut body = Body {
+            island,
+            ins,
+            outs,
+            ways,
+            spent: 0,
+        };
+        body.serve_ins();
+        body.serve_outs();
+        body.island.laws();
+        body
+    }
+
     // The input end at place k does what it has to do.
     fn serve_in(&mut self, k: usize)
         requires within { k < length self.old.ins.items }
@@ -83,6 +117,33 @@ impl<S: Source, D: Drain> Body<S, D> {
             Way::Inner => {}
             Way::In(k) => self.serve_in(k as usize),
             Way::Out(k) => self.serve_out(k as usize),
+        }
+    }
+
+    // Each input end does what it has to do.
+    fn serve_ins(&mut self)
+        requires stands { BodyStands self.old }
+        ensures stands { BodyStands self.new }
+        ensures served { AllServed None (length self.new.ins.items) 0 self.new.island self.new.ins.items self.new.outs.items }
+        ensures goes { BodyGoes self.old self.new }
+        ensures rest { (self.new.island.used ≡ self.old.island.used) × (self.new.spent ≡ self.old.spent) }
+    {
+        for k in 0..self.ins.len() {
+            self.serve_in(k);
+        }
+    }
+
+    // And then each output end.
+    fn serve_outs(&mut self)
+        requires stands { BodyStands self.old }
+        requires served { AllServed None (length self.old.ins.items) 0 self.old.island self.old.ins.items self.old.outs.items }
+        ensures stands { BodyStands self.new }
+        ensures served { AllDone self.new.island self.new.ins.items self.new.outs.items }
+        ensures goes { BodyGoes self.old self.new }
+        ensures rest { (self.new.island.used ≡ self.old.island.used) × (self.new.spent ≡ self.old.spent) }
+    {
+        for k in 0..self.outs.len() {
+            self.serve_out(k);
         }
     }
 

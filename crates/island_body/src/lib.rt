@@ -3,4 +3,5 @@
 
 pub mod body;
 pub mod meeting;
+pub mod table;
 pub mod way;

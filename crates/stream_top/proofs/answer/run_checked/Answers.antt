@@ -11,7 +11,7 @@ use Rattle.stream_top.proofs.answer.run_checked.Goals as goal
 pub run_blueprint-requires-clause-runs : goal.run_blueprint-requires-clause-runs
 run_blueprint-requires-clause-runs g c =
     let none : unbuilt_node (blueprint_of c.args.checked) ≡ None = sym (ap unbuilt_node c.blueprint.ensures) ∙ sym c.in-Ok-None.ensures ∙ c.in-Ok-None.field-0-is in
-    λ k. subst CanRunAlone (sym c.into_blueprint.ensures) (runs_alone (blueprint_of c.args.checked) [] c.requires.fit.0 c.requires.fit.1 none)
+    λ k l. subst CanRunAlone (sym c.into_blueprint.ensures) (runs_alone (blueprint_of c.args.checked) [] c.requires.fit.0 c.requires.fit.1 none)
 
 pub returns-in-Ok-None-clause-told : goal.returns-in-Ok-None-clause-told
 returns-in-Ok-None-clause-told g c =

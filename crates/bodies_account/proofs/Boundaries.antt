@@ -1,0 +1,31 @@
+-- What an input boundary keeps between any two calls.
+use Rattle.std.proofs.Common.{◌≤◌, ◌<◌, ◌+◌, ◌/◌, max, sym, subst}
+use Rattle.lane_core.specs.Lane.{elements}
+use Rattle.lane_core.specs.Ends.{asked, asks, in_size}
+use Rattle.input_boundary.specs.Boundary.{BoundaryKeeps}
+use Rattle.input_boundary.specs.Flow.{AsksByHalves}
+use Rattle.input_boundary.specs.declared.boundary.InputBoundary.{InputBoundary}
+use Rattle.input_boundary.proofs.Keeps.{carried, given_count, most, more, least, few_calls}
+
+pub boundary_keeps : (b : InputBoundary) → BoundaryKeeps b
+boundary_keeps b =
+    let k = carried _ _ _ _ _ _ _ _ _ _ b.flow in
+    let n = given_count _ _ _ _ _ _ _ _ _ _ b.flow in
+    record {
+      taken_list = k.taken_list;
+      taken_end = k.taken_end;
+      given_list = k.given_list;
+      given_end = k.given_end;
+      taken_is = k.taken_is;
+      given_is = k.given_is;
+      carries = k.carries;
+      goes_on = k.goes_on;
+      closed = k.closed;
+      cancelled = b.flow.cancelled_is;
+      since = b.passed;
+      by_halves = subst (λ m. AsksByHalves (in_size b.lane) (max 1 (in_size b.lane / 2)) (asked b.lane) (asks b.lane) m b.passed) (sym n) (subst (λ h. AsksByHalves (in_size b.lane) h (asked b.lane) (asks b.lane) (elements b.gave.items) b.passed) b.halves b.asking);
+      asked_for = subst (λ m. asked b.lane ≤ m + in_size b.lane) (sym n) (most _ _ _ _ _ _ b.asking);
+      more = subst (λ m. m < asked b.lane) (sym n) (more _ _ _ _ _ _ b.asking b.halves b.lane.sized.0);
+      least = least _ _ _ _ _ _ b.asking;
+      calls = subst (λ m. asks b.lane ≤ m + 1) (sym n) (few_calls _ _ _ _ _ _ b.asking);
+    }

@@ -1,0 +1,107 @@
+// Laws of the bodies of a blueprint's islands: each function has no body, and its contract is the law.
+ghost use Rattle.std.specs.Prelude.{◌≡◌, ◌+◌, ◌<◌, ◌≤◌, [], ℕ, true, List, length, slice_get, slice_index, Some};
+ghost use Rattle.std.specs.List.{sum_by};
+ghost use Rattle.stream_model.specs.Graph.{Graph, Wire};
+ghost use Rattle.stream_picture.specs.Shape.{count_needed};
+ghost use Rattle.fused_net.specs.Costs.{sum_below, total, all_asks};
+ghost use Rattle.fused_net.specs.Laws.{AllKept};
+ghost use Rattle.nodes.specs.Nodes.{KeepsNode};
+ghost use Rattle.nodes.specs.declared.node.Node.{Node};
+ghost use Rattle.interpreter.specs.Island.{Kept};
+ghost use Rattle.interpreter.specs.Boundary.{EntersBy, LeavesBy, way_in, way_out};
+ghost use Rattle.interpreter.specs.Parts.{AllBecome};
+ghost use Rattle.interpreter.specs.Ways.{comes_in, goes_out};
+ghost use Rattle.interpreter.specs.declared.parts.Link.{Link};
+ghost use Rattle.interpreter.specs.declared.parts.Seated.{Seated};
+ghost use Rattle.run_account.specs.Pictures.{counts_of};
+ghost use Rattle.run_account.specs.Seats.{Covers, LanesKeep, LanesRest, joined};
+ghost use Rattle.run_account.specs.Units.{Owned, LanesCost, over_lanes};
+ghost use Rattle.rounds.specs.Bodies.{AllOf, EachOf, BrokeOff};
+ghost use Rattle.rounds.specs.Crossings.{AllJoined, AtRest};
+ghost use Rattle.rounds.specs.declared.crossing.Crossing.{Crossing};
+ghost use Rattle.island_seats.specs.Islands.{seats_of, seats_in, links_in, AreSeated, AreNets};
+ghost use Rattle.island_body.specs.Keeping.{is_pending, BodyKeeps, BodyGoes, BodyBreaks};
+ghost use Rattle.island_body.specs.Meeting.{BodiesJoined};
+ghost use Rattle.island_body.specs.declared.body.Body.{Body};
+ghost use Rattle.bodies_account.specs.Bodies.{net_of, with_island, AreLanes, AskedAre, AreBodiesOf, AllSettled, IsLastOf};
+
+use stream_io::outside::{Drain, Source};
+
+/// An island whose lanes come in and go out at its links has the stage of each at the place of its wire's connection: at the output
+/// (`out`), and at the input (`inp`). Rule: own.
+pub fn lanes_lie_at_their_places<S: Source, D: Drain>()
+    ensures out { (homes : List ℕ) (count : ℕ) (ws : List Wire) (nodes : List (Seated S D)) (u : ℕ) (v : Wire) (size : ℕ) (i : Kept S D) → AreSeated homes count ws nodes → slice_get ws u ≡ Some v → v.lane ≡ Some size
+        → ((q : ℕ) (l : Link) → slice_get (links_in homes ws nodes (slice_index homes v.from)) q ≡ Some l → goes_out (seats_in homes ws nodes (slice_index homes v.from)) l.to ≡ true → LeavesBy i l.wire q)
+        → ((seats_of homes ws).near u).at ≡ way_out i u }
+    ensures inp { (homes : List ℕ) (count : ℕ) (ws : List Wire) (nodes : List (Seated S D)) (u : ℕ) (v : Wire) (size : ℕ) (i : Kept S D) → AreSeated homes count ws nodes → slice_get ws u ≡ Some v → v.lane ≡ Some size
+        → ((q : ℕ) (l : Link) → slice_get (links_in homes ws nodes (slice_index homes v.to)) q ≡ Some l → comes_in (seats_in homes ws nodes (slice_index homes v.to)) l.from ≡ true → EntersBy i l.wire q)
+        → ((seats_of homes ws).far u).at ≡ way_in i u }
+{}
+
+/// The nets of the bodies' islands cover the graph of the blueprint (`covers`), and each of their connections is one of a wire's
+/// (`owned`): they are nets of its islands (`nets`), and each net is between two events (`settled`). Their nodes began as what stands at
+/// the nodes of the blueprint (`began`), and their crossings are its lanes (`lanes`). Rule: own.
+pub fn bodies_cover<S: Source, D: Drain>()
+    ensures covers { (g : Graph) (homes : List ℕ) (count : ℕ) (ws : List Wire) (nodes : List (Seated S D)) (crossings : List Crossing) (begun now : List (Body S D)) → AreBodiesOf S.state D.state g homes count ws nodes crossings begun → EachOf BodyGoes begun now → AllOf (BodyKeeps S.state D.state) now
+        → Covers g (net_of now) (seats_of homes ws) }
+    ensures owned { (g : Graph) (homes : List ℕ) (count : ℕ) (ws : List Wire) (nodes : List (Seated S D)) (crossings : List Crossing) (begun now : List (Body S D)) → AreBodiesOf S.state D.state g homes count ws nodes crossings begun → EachOf BodyGoes begun now → AllOf (BodyKeeps S.state D.state) now
+        → Owned g (net_of now) (seats_of homes ws) count }
+    ensures nets { (g : Graph) (homes : List ℕ) (count : ℕ) (ws : List Wire) (nodes : List (Seated S D)) (crossings : List Crossing) (begun now : List (Body S D)) → AreBodiesOf S.state D.state g homes count ws nodes crossings begun → EachOf BodyGoes begun now → AllOf (BodyKeeps S.state D.state) now
+        → AreNets homes ws nodes count (net_of now) }
+    ensures began { (g : Graph) (homes : List ℕ) (count : ℕ) (ws : List Wire) (nodes : List (Seated S D)) (crossings : List Crossing) (begun now : List (Body S D)) (all : ℕ → ℕ) → AreBodiesOf S.state D.state g homes count ws nodes crossings begun → EachOf BodyGoes begun now → AllOf (BodyKeeps S.state D.state) now
+        → (firsts : List (Node S D)) × (AllBecome nodes firsts × ((k : ℕ) → k < length g.nodes → (joined (net_of now) (seats_of homes ws) all).firsts k ≡ slice_get firsts k)) }
+    ensures lanes { (g : Graph) (homes : List ℕ) (count : ℕ) (ws : List Wire) (nodes : List (Seated S D)) (crossings : List Crossing) (begun now : List (Body S D)) → AreBodiesOf S.state D.state g homes count ws nodes crossings begun → EachOf BodyGoes begun now → AllOf (BodyKeeps S.state D.state) now
+        → AreLanes homes ws now crossings }
+    ensures settled { (now : List (Body S D)) → AllOf (BodyKeeps S.state D.state) now → AllSettled S.state D.state now }
+{}
+
+/// Where the ends of all lanes were brought together, of each lane is kept and known what an account wants, between the connections of
+/// its wire. Rule: own.
+pub fn their_lanes_keep<S: Source, D: Drain>()
+    ensures { (g : Graph) (homes : List ℕ) (count : ℕ) (ws : List Wire) (nodes : List (Seated S D)) (crossings : List Crossing) (begun now : List (Body S D)) (all : ℕ → ℕ) → AreBodiesOf S.state D.state g homes count ws nodes crossings begun → EachOf BodyGoes begun now → AllOf (BodyKeeps S.state D.state) now → AskedAre now crossings all → AllJoined BodiesJoined now crossings
+        → LanesKeep g (net_of now) (seats_of homes ws) all }
+{}
+
+/// Where no body has an event, no net has one (`queues`), and each lane rests (`lanes`). Rule: own.
+pub fn their_lanes_rest<S: Source, D: Drain>()
+    ensures queues { (crossings : List Crossing) (now : List (Body S D)) → AtRest is_pending BodiesJoined now crossings → (k : ℕ) → (net_of now k).queue ≡ [] }
+    ensures lanes { (g : Graph) (homes : List ℕ) (count : ℕ) (ws : List Wire) (nodes : List (Seated S D)) (crossings : List Crossing) (begun now : List (Body S D)) (all : ℕ → ℕ) → AreBodiesOf S.state D.state g homes count ws nodes crossings begun → EachOf BodyGoes begun now → AllOf (BodyKeeps S.state D.state) now → AskedAre now crossings all → AtRest is_pending BodiesJoined now crossings
+        → LanesRest g (net_of now) (seats_of homes ws) all }
+{}
+
+/// What bodies spent: `cost` is what was taken off each lane, with the finds of new demand or a cancel there, and the events of all nets
+/// and these costs are at least what was spent (`costs`). So all that was spent is below the count of the blueprint's wires over what
+/// they were sent, by one for each wire (`paid`). The asks that came to outputs are no more than what was spent (`asks`). Rule: own.
+pub fn bodies_are_paid<S: Source, D: Drain>()
+    ensures costs { (g : Graph) (homes : List ℕ) (count : ℕ) (ws : List Wire) (nodes : List (Seated S D)) (crossings : List Crossing) (begun now : List (Body S D)) (all : ℕ → ℕ) → AreBodiesOf S.state D.state g homes count ws nodes crossings begun → EachOf BodyGoes begun now → AllOf (BodyKeeps S.state D.state) now → AskedAre now crossings all → AllJoined BodiesJoined now crossings
+        → (cost : ℕ → ℕ) × (LanesCost g (net_of now) (seats_of homes ws) all cost × (sum_by (λ b. b.spent) now ≤ sum_below (λ b. total (net_of now b)) count + over_lanes g cost)) }
+    ensures paid { (g : Graph) (homes : List ℕ) (count : ℕ) (ws : List Wire) (nodes : List (Seated S D)) (crossings : List Crossing) (begun now : List (Body S D)) (all : ℕ → ℕ) → AreBodiesOf S.state D.state g homes count ws nodes crossings begun → EachOf BodyGoes begun now → AllOf (BodyKeeps S.state D.state) now → AskedAre now crossings all → AllJoined BodiesJoined now crossings
+        → sum_by (λ b. b.spent) now + length g.wires ≤ count_needed g (counts_of (joined (net_of now) (seats_of homes ws) all) g) }
+    ensures asks { (count : ℕ) (now : List (Body S D)) → length now ≡ count → AllOf (BodyKeeps S.state D.state) now → sum_below (λ b. all_asks (net_of now b)) count ≤ sum_by (λ b. b.spent) now }
+{}
+
+/// Where memory was wanting in a turn of one body, its island had a last moment between two events (`last`). With the island as it was
+/// then, the nets of all bodies cover the graph of the blueprint (`covers`, `owned`, `nets`, `began`), each net is between two events (`settled`), and
+/// their lanes keep what an account wants (`lanes`). Since then each node has kept what outlives want of memory (`kept`). Rule: own.
+pub fn broken_bodies_cover<S: Source, D: Drain>()
+    ensures last { (begun now : List (Body S D)) → (broke : BrokeOff (BodyKeeps S.state D.state) BodyGoes (BodyBreaks S.state D.state) begun now) → (i : Kept S D) × IsLastOf S.state D.state begun now broke.at i }
+    ensures covers { (g : Graph) (homes : List ℕ) (count : ℕ) (ws : List Wire) (nodes : List (Seated S D)) (crossings : List Crossing) (begun now : List (Body S D)) (i : Kept S D) → AreBodiesOf S.state D.state g homes count ws nodes crossings begun
+        → (broke : BrokeOff (BodyKeeps S.state D.state) BodyGoes (BodyBreaks S.state D.state) begun now) → IsLastOf S.state D.state begun now broke.at i
+        → Covers g (net_of (with_island now broke.at i)) (seats_of homes ws) }
+    ensures owned { (g : Graph) (homes : List ℕ) (count : ℕ) (ws : List Wire) (nodes : List (Seated S D)) (crossings : List Crossing) (begun now : List (Body S D)) (i : Kept S D) → AreBodiesOf S.state D.state g homes count ws nodes crossings begun
+        → (broke : BrokeOff (BodyKeeps S.state D.state) BodyGoes (BodyBreaks S.state D.state) begun now) → IsLastOf S.state D.state begun now broke.at i
+        → Owned g (net_of (with_island now broke.at i)) (seats_of homes ws) count }
+    ensures nets { (g : Graph) (homes : List ℕ) (count : ℕ) (ws : List Wire) (nodes : List (Seated S D)) (crossings : List Crossing) (begun now : List (Body S D)) (i : Kept S D) → AreBodiesOf S.state D.state g homes count ws nodes crossings begun
+        → (broke : BrokeOff (BodyKeeps S.state D.state) BodyGoes (BodyBreaks S.state D.state) begun now) → IsLastOf S.state D.state begun now broke.at i
+        → AreNets homes ws nodes count (net_of (with_island now broke.at i)) }
+    ensures began { (g : Graph) (homes : List ℕ) (count : ℕ) (ws : List Wire) (nodes : List (Seated S D)) (crossings : List Crossing) (begun now : List (Body S D)) (i : Kept S D) (all : ℕ → ℕ) → AreBodiesOf S.state D.state g homes count ws nodes crossings begun
+        → (broke : BrokeOff (BodyKeeps S.state D.state) BodyGoes (BodyBreaks S.state D.state) begun now) → IsLastOf S.state D.state begun now broke.at i
+        → (firsts : List (Node S D)) × (AllBecome nodes firsts × ((k : ℕ) → k < length g.nodes → (joined (net_of (with_island now broke.at i)) (seats_of homes ws) all).firsts k ≡ slice_get firsts k)) }
+    ensures settled { (begun now : List (Body S D)) (i : Kept S D) → (broke : BrokeOff (BodyKeeps S.state D.state) BodyGoes (BodyBreaks S.state D.state) begun now) → IsLastOf S.state D.state begun now broke.at i
+        → AllSettled S.state D.state (with_island now broke.at i) }
+    ensures lanes { (g : Graph) (homes : List ℕ) (count : ℕ) (ws : List Wire) (nodes : List (Seated S D)) (crossings : List Crossing) (begun now : List (Body S D)) (i : Kept S D) (all : ℕ → ℕ) → AreBodiesOf S.state D.state g homes count ws nodes crossings begun
+        → (broke : BrokeOff (BodyKeeps S.state D.state) BodyGoes (BodyBreaks S.state D.state) begun now) → IsLastOf S.state D.state begun now broke.at i → AskedAre now crossings all → AllJoined BodiesJoined now crossings
+        → LanesKeep g (net_of (with_island now broke.at i)) (seats_of homes ws) all }
+    ensures kept { (begun now : List (Body S D)) (i : Kept S D) → (broke : BrokeOff (BodyKeeps S.state D.state) BodyGoes (BodyBreaks S.state D.state) begun now) → IsLastOf S.state D.state begun now broke.at i
+        → (k : ℕ) → AllKept (KeepsNode S.state D.state) (net_of (with_island now broke.at i) k).nodes (net_of now k).nodes }
+{}

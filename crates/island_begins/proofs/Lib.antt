@@ -1,0 +1,4 @@
+pub mod Stages
+pub mod Lanes
+pub mod Beginning
+pub mod Making

@@ -1,0 +1,35 @@
+-- The bodies that were made of a blueprint's islands and of the ends of the lanes between them.
+use Rattle.std.specs.Prelude.{◌≡◌, ℕ, List, Some, length, slice_get}
+use Rattle.stream_io.specs.State.{SourceState, DrainState}
+use Rattle.stream_model.specs.Graph.{Wire}
+use Rattle.interpreter.specs.Island.{Kept}
+use Rattle.interpreter.specs.declared.parts.Parts.{Parts}
+use Rattle.interpreter.specs.declared.parts.Seated.{Seated}
+use Rattle.scatter.specs.Shares.{items_at}
+use Rattle.lane_ends.specs.declared.ends.AllEnds.{AllEnds}
+use Rattle.island_seats.specs.Islands.{seats_in, links_in}
+use Rattle.island_starts.specs.Starts.{HasStarted}
+use Rattle.island_body.specs.Ends.{IslandGoes}
+use Rattle.island_body.specs.Keeping.{BodyKeeps, SameLanes}
+use Rattle.island_body.specs.declared.body.Body.{Body}
+
+-- these are the parts of island k
+pub record ArePartsOf {S D : Type 0} (homes : List ℕ) (ws : List Wire) (nodes : List (Seated S D)) (k : ℕ) (x : Parts S D) : Type 0 where
+  pub nodes_are : x.nodes.items ≡ seats_in homes ws nodes k
+  pub links_are : x.links.items ≡ links_in homes ws nodes k
+
+module _ {S D : Type 0} (sources : S → SourceState) (drains : D → DrainState) (homes : List ℕ) (ws : List Wire) (nodes : List (Seated S D)) where
+  -- Island k had started, and this body was made of it and of those ends of lanes that are its own.
+  pub record IsMadeOf (e : AllEnds) (k : ℕ) (b : Body S D) : Type 0 where
+    pub parts : Parts S D
+    pub island : Kept S D
+    pub parts_are : ArePartsOf homes ws nodes k parts
+    pub started : HasStarted sources drains parts island
+    pub keeps : BodyKeeps sources drains b
+    pub goes : IslandGoes island b.island
+    pub lanes : SameLanes (items_at e.ins.items k) b.ins.items (items_at e.outs.items k) b.outs.items
+
+  -- of each of so many islands a body
+  pub record AreMadeOf (count : ℕ) (e : AllEnds) (bodies : List (Body S D)) : Type 0 where
+    pub many : length bodies ≡ count
+    pub each : (k : ℕ) (b : Body S D) → slice_get bodies k ≡ Some b → IsMadeOf e k b

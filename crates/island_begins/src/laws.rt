@@ -1,0 +1,34 @@
+// Laws of islands that have started, and of the ends of the lanes between them: each function has no body, and its contract is the law.
+ghost use Rattle.std.specs.Prelude.{◌≡◌, ℕ, List};
+ghost use Rattle.stream_model.specs.Graph.{Wire};
+ghost use Rattle.interpreter.specs.Island.{Kept};
+ghost use Rattle.interpreter.specs.declared.parts.Parts.{Parts};
+ghost use Rattle.interpreter.specs.declared.parts.Seated.{Seated};
+ghost use Rattle.traversal.specs.Plan.{lanes_from};
+ghost use Rattle.scatter.specs.Shares.{items_at};
+ghost use Rattle.lane_ends.specs.Ends.{AreAllEnds};
+ghost use Rattle.lane_ends.specs.declared.ends.AllEnds.{AllEnds};
+ghost use Rattle.island_seats.specs.Islands.{AreSeated};
+ghost use Rattle.island_starts.specs.Starts.{HasStarted};
+ghost use Rattle.island_body.specs.Keeping.{BodyBegins};
+ghost use Rattle.island_body.specs.declared.body.Body.{Body};
+ghost use Rattle.bodies_account.specs.Bodies.{AreBegun, AreLanes};
+ghost use Rattle.island_begins.specs.Made.{ArePartsOf, AreMadeOf};
+
+use stream_io::outside::{Drain, Source};
+
+/// An island of a blueprint that has started, and those ends of lanes that are its own, as they were made, are fit to be a body: each end
+/// stands at a stage and at a connection of its own, and nothing has passed there. Rule: own.
+pub fn an_island_begins_a_body<S: Source, D: Drain>()
+    ensures { (homes : List ℕ) (count : ℕ) (ws : List Wire) (nodes : List (Seated S D)) (k : ℕ) (x : Parts S D) (i : Kept S D) (e : AllEnds) → AreSeated homes count ws nodes → ArePartsOf homes ws nodes k x → HasStarted S.state D.state x i → AreAllEnds (lanes_from homes 0 ws) count e
+        → BodyBegins i (items_at e.ins.items k) (items_at e.outs.items k) }
+{}
+
+/// The bodies that were made of a blueprint's islands and of the ends of all its lanes are its bodies as they begin (`begun`), and the
+/// crossings at which those ends lie are its lanes (`lanes`). Rule: own.
+pub fn made_bodies_are_of_their_blueprint<S: Source, D: Drain>()
+    ensures begun { (homes : List ℕ) (count : ℕ) (ws : List Wire) (nodes : List (Seated S D)) (e : AllEnds) (bodies : List (Body S D)) → AreSeated homes count ws nodes → AreAllEnds (lanes_from homes 0 ws) count e → AreMadeOf S.state D.state homes ws nodes count e bodies
+        → AreBegun S.state D.state homes count ws nodes bodies }
+    ensures lanes { (homes : List ℕ) (count : ℕ) (ws : List Wire) (nodes : List (Seated S D)) (e : AllEnds) (bodies : List (Body S D)) → AreSeated homes count ws nodes → AreAllEnds (lanes_from homes 0 ws) count e → AreMadeOf S.state D.state homes ws nodes count e bodies
+        → AreLanes homes ws bodies e.crossings.items }
+{}

@@ -1,19 +1,27 @@
-// Laws of islands that have started, and of the ends of the lanes between them: each function has no body, and its contract is the law.
-ghost use Rattle.std.specs.Prelude.{◌≡◌, ℕ, List};
+// Laws of islands that are filled and have started, and of the ends of the lanes between them: each function has no body, and its contract is the law.
+ghost use Rattle.std.specs.Prelude.{◌≡◌, ℕ, List, slice_get, Some};
 ghost use Rattle.stream_model.specs.Graph.{Wire};
+ghost use Rattle.blue_core.specs.declared.blueprint.Blueprint.{Blueprint};
+ghost use Rattle.blue_check.specs.Wires.{blueprint_wires};
 ghost use Rattle.interpreter.specs.Island.{Kept};
 ghost use Rattle.interpreter.specs.declared.parts.Parts.{Parts};
 ghost use Rattle.interpreter.specs.declared.parts.Seated.{Seated};
+ghost use Rattle.interpreter.specs.declared.room.Room.{Room};
 ghost use Rattle.traversal.specs.Plan.{lanes_from};
 ghost use Rattle.scatter.specs.Shares.{items_at};
-ghost use Rattle.lane_ends.specs.Ends.{AreAllEnds};
+ghost use Rattle.lane_ends.specs.Ends.{CanAllBeMade, AreRising, AreAllEnds};
 ghost use Rattle.lane_ends.specs.declared.ends.AllEnds.{AllEnds};
-ghost use Rattle.island_seats.specs.Islands.{AreSeated};
+ghost use Rattle.island_seats.specs.Islands.{AreSeated, IsGraphOf};
 ghost use Rattle.island_starts.specs.Starts.{HasStarted};
 ghost use Rattle.island_body.specs.Keeping.{BodyBegins};
 ghost use Rattle.island_body.specs.declared.body.Body.{Body};
 ghost use Rattle.bodies_account.specs.Bodies.{AreBegun, AreLanes};
+ghost use Rattle.materializer.specs.Graphs.{graph_of};
+ghost use Rattle.island_plans.specs.Plans.{IsPlans, IsFilled};
+ghost use Rattle.island_plans.specs.declared.plans.Filled.{Filled};
+ghost use Rattle.island_plans.specs.declared.plans.Plans.{Plans};
 ghost use Rattle.island_begins.specs.Made.{ArePartsOf, AreMadeOf};
+ghost use Rattle.island_begins.specs.Sized.{HasFewLinks};
 
 use stream_io::outside::{Drain, Source};
 
@@ -31,4 +39,17 @@ pub fn made_bodies_are_of_their_blueprint<S: Source, D: Drain>()
         → AreBegun S.state D.state homes count ws nodes bodies }
     ensures lanes { (homes : List ℕ) (count : ℕ) (ws : List Wire) (nodes : List (Seated S D)) (e : AllEnds) (bodies : List (Body S D)) → AreSeated homes count ws nodes → AreAllEnds (lanes_from homes 0 ws) count e → AreMadeOf S.state D.state homes ws nodes count e bodies
         → AreLanes homes ws bodies e.crossings.items }
+{}
+
+/// Plans of the islands of a blueprint have few links (`few`); both ends of each lane can be made (`lanes`), and the lanes are in the
+/// order of their wires (`rise`). Where links are few, the nodes of its islands that hold their handles are seated (`seated`); they are
+/// those of its graph (`graph`), and its islands have the parts of them (`parts`). Rule: own.
+pub fn filled_islands_are_seated<S: Source, D: Drain>()
+    ensures few { (p : Plans S D) → IsPlans p → HasFewLinks p.blueprint.value }
+    ensures seated { (b : Blueprint) (ss : List S) (ds : List D) (f : Filled S D) → HasFewLinks b → (filled : IsFilled b ss ds f) → AreSeated f.homes.items f.count (blueprint_wires b) filled.nodes }
+    ensures graph { (b : Blueprint) (ss : List S) (ds : List D) (f : Filled S D) → (filled : IsFilled b ss ds f) → IsGraphOf (graph_of b) (blueprint_wires b) filled.nodes }
+    ensures parts { (b : Blueprint) (ss : List S) (ds : List D) (f : Filled S D) (k : ℕ) (x : Parts S D × Room S D) → (filled : IsFilled b ss ds f) → slice_get f.islands.items k ≡ Some x
+        → ArePartsOf f.homes.items (blueprint_wires b) filled.nodes k x.0 }
+    ensures lanes { (p : Plans S D) → IsPlans p → CanAllBeMade p.count p.lanes.items }
+    ensures rise { (p : Plans S D) → IsPlans p → AreRising p.lanes.items }
 {}

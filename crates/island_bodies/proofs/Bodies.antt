@@ -1,0 +1,53 @@
+-- What is known of bodies, and of their ends, by their places.
+use Rattle.std.proofs.Common.{◌≡◌, ℕ, List, length, Some, sym, subst, ◌∙◌}
+use Rattle.std.specs.Prelude.{slice_get, replicate}
+use Rattle.std.specs.declared.vec.Vec.{Vec}
+use Rattle.std.specs.declared.alloc.Global.{Global}
+use Rattle.stream_io.specs.State.{SourceState, DrainState}
+use Rattle.interpreter.specs.declared.island.IslandEnd.{IslandEnd}
+use Rattle.interpreter.specs.declared.parts.Parts.{Parts}
+use Rattle.interpreter.specs.declared.room.Room.{Room}
+use Rattle.interpreter.specs.Island.{Kept}
+use Rattle.output_boundary.specs.declared.boundary.OutputBoundary.{OutputBoundary}
+use Rattle.island_input.specs.declared.boundary.IslandInput.{IslandInput}
+use Rattle.island_body.specs.declared.body.Body.{Body}
+use Rattle.island_body.specs.declared.way.Way.{Way}
+use Rattle.island_body.specs.declared.way.Way.TheVariants.{Inner}
+use Rattle.island_bodies.specs.Making.{IsBodyOf, AreAllBodies, IsEndOfBody, AreEndsOfBodies, AreBlank}
+use Rattle.island_bodies.proofs.Making.{EachIs, same_item}
+
+module _ {S D : Type 0} (sources : S → SourceState) (drains : D → DrainState) (islands : List (Kept S D)) (ins : List (Vec IslandInput Global)) (outs : List (Vec OutputBoundary Global)) where
+  -- the body at a place is that of the island there
+  abbrev pub MadeAt : ℕ → Body S D → Type 0
+  MadeAt k b = (i : Kept S D) (x : Vec IslandInput Global) (o : Vec OutputBoundary Global) → slice_get islands k ≡ Some i → slice_get ins k ≡ Some x → slice_get outs k ≡ Some o → IsBodyOf sources drains i x.items o.items b
+
+  pub made_at : (k : ℕ) (i : Kept S D) (x : Vec IslandInput Global) (o : Vec OutputBoundary Global) (b : Body S D) → slice_get islands k ≡ Some i → slice_get ins k ≡ Some x → slice_get outs k ≡ Some o → IsBodyOf sources drains i x.items o.items b → MadeAt k b
+  made_at k i x o b ai ax ao m j y p aj ay aq =
+      subst (λ v. IsBodyOf sources drains v y.items p.items b) (same_item i j (sym ai ∙ aj))
+      (subst (λ v. IsBodyOf sources drains i v.items p.items b) (same_item x y (sym ax ∙ ay))
+      (subst (λ v. IsBodyOf sources drains i x.items v.items b) (same_item o p (sym ao ∙ aq)) m))
+
+  pub all_made : (bodies : List (Body S D)) → length bodies ≡ length islands → EachIs MadeAt bodies → AreAllBodies sources drains islands ins outs bodies
+  all_made bodies n e = record { many = n; each = λ k i x o b ai ax ao ab. e k b ab i x o ai ax ao }
+
+module _ {S D : Type 0} (bodies : List (Body S D)) where
+  -- the end at a place is that of the body there
+  abbrev pub EndsAt : ℕ → IslandEnd S D → Type 0
+  EndsAt k e = (b : Body S D) → slice_get bodies k ≡ Some b → IsEndOfBody b e
+
+  pub ends_at : (k : ℕ) (b : Body S D) (e : IslandEnd S D) → slice_get bodies k ≡ Some b → IsEndOfBody b e → EndsAt k e
+  ends_at k b e ab is c ac = subst (λ v. IsEndOfBody v e) (same_item b c (sym ab ∙ ac)) is
+
+  pub all_ended : (ends : List (IslandEnd S D)) → length ends ≡ length bodies → EachIs EndsAt ends → AreEndsOfBodies bodies ends
+  all_ended ends n e = record { many = n; each = λ k b x ab ax. e k x ax b ab }
+
+module _ {S D : Type 0} (islands : List (Parts S D × Room S D)) where
+  -- the table at a place is a blank one for the links of the island there
+  abbrev pub BlankAt : ℕ → Vec Way Global → Type 0
+  BlankAt k t = (x : Parts S D × Room S D) → slice_get islands k ≡ Some x → t.items ≡ replicate (length x.0.links.items) Inner
+
+  pub blank_at : (k : ℕ) (x : Parts S D × Room S D) (t : Vec Way Global) → slice_get islands k ≡ Some x → t.items ≡ replicate (length x.0.links.items) Inner → BlankAt k t
+  blank_at k x t at is y ay = subst (λ v. t.items ≡ replicate (length v.0.links.items) Inner) (same_item x y (sym at ∙ ay)) is
+
+  pub all_blank : (tables : List (Vec Way Global)) → length tables ≡ length islands → EachIs BlankAt tables → AreBlank islands tables
+  all_blank tables n e = record { many = n; each = λ k x t ax at. e k t at x ax }

@@ -1,0 +1,70 @@
+// The bodies of islands are made, and taken apart.
+ghost use Rattle.std.specs.Prelude.{◌≡◌, ◌≤◌, ◌<◌, ◌+◌, ◌∷◌, [], length, vec_len, vec_capacity};
+ghost use Rattle.std.specs.Vec.Iter.{into_iter_items, into_iter_len};
+ghost use Rattle.island_bodies.specs.Making.{CanAllBegin, AreAllBodies, AreEndsOfBodies};
+
+use interpreter::island::{Island, IslandEnd};
+use island_body::body::Body;
+use island_body::way::Way;
+use island_input::boundary::IslandInput;
+use output_boundary::boundary::OutputBoundary;
+use std::alloc::Global;
+use std::vec::IntoIter;
+use stream_io::outside::{Drain, Source};
+
+/// Makes the bodies of these islands, in their order, each with the ends of its lanes and with its blank table. Each end has then done
+/// what it has to do at the start. `bodies` is empty and has room for all: it takes no memory, and no unit. Rule: own.
+pub fn make_all<S: Source, D: Drain>(
+    islands: Vec<Island<S, D>>,
+    ins: Vec<Vec<IslandInput>>,
+    outs: Vec<Vec<OutputBoundary>>,
+    tables: Vec<Vec<Way>>,
+    bodies: Vec<Body<S, D>>,
+) -> Vec<Body<S, D>>
+    requires begin { CanAllBegin islands.items ins.items outs.items tables.items }
+    requires none_made { bodies.items ≡ [] }
+    requires room { vec_len islands ≤ vec_capacity bodies }
+    ensures { AreAllBodies S.state D.state islands.items ins.items outs.items result.items }
+{
+    let mut bodies = bodies;
+    let mut takers = ins.into_iter();
+    let mut senders = outs.into_iter();
+    let mut blanks = tables.into_iter();
+    for island in islands {
+        let table = first(&mut blanks);
+        let takes = first(&mut takers);
+        let sends = first(&mut senders);
+        bodies.push_reserved(Body::new(island, table, takes, sends));
+    }
+    bodies
+}
+
+// The first of some, where there is one.
+fn first<T>(rest: &mut IntoIter<T, Global>) -> T
+    requires len { into_iter_len rest.old ≡ length (into_iter_items rest.old) }
+    requires some { 0 < into_iter_len rest.old }
+    ensures items { into_iter_items rest.old ≡ result ∷ into_iter_items rest.new }
+    ensures len { into_iter_len rest.old ≡ into_iter_len rest.new + 1 }
+{
+    match rest.next() {
+        Some(item) => item,
+        None => unreachable!(),
+    }
+}
+
+/// Takes these bodies apart: what the island of each leaves, in their order. `ends` is empty and has room for all: it takes no memory,
+/// also after a turn that answered `NoMemory`. Rule: own.
+pub fn finish_all<S: Source, D: Drain>(
+    bodies: Vec<Body<S, D>>,
+    ends: Vec<IslandEnd<S, D>>,
+) -> Vec<IslandEnd<S, D>>
+    requires none_ended { ends.items ≡ [] }
+    requires room { vec_len bodies ≤ vec_capacity ends }
+    ensures { AreEndsOfBodies bodies.items result.items }
+{
+    let mut ends = ends;
+    for body in bodies {
+        ends.push_reserved(body.finish());
+    }
+    ends
+}

@@ -1,0 +1,4 @@
+pub mod Leaving
+pub mod Running
+pub mod Breaking
+pub mod Alone

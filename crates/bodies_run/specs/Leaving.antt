@@ -1,0 +1,28 @@
+-- What the bodies of a blueprint's islands leave: an account of its wires, and its nodes in their order.
+use Rattle.std.specs.Prelude.{◌≡◌, ℕ, ◌<◌, List, length, slice_get}
+use Rattle.stream_model.specs.Graph.{Wire}
+use Rattle.nodes.specs.declared.node.Node.{Node}
+use Rattle.interpreter.specs.Parts.{AllBecome}
+use Rattle.interpreter.specs.declared.parts.Seated.{Seated}
+use Rattle.run_account.specs.Account.{Account}
+use Rattle.run_account.specs.Seats.{joined}
+use Rattle.island_seats.specs.Islands.{seats_of}
+use Rattle.island_body.specs.declared.body.Body.{Body}
+use Rattle.bodies_account.specs.Bodies.{net_of}
+
+-- what bodies tell together, where the input ends of the lanes asked for so many elements
+abbrev pub account_in : {S D : Type 0} → List ℕ → List Wire → List (Body S D) → (ℕ → ℕ) → Account (Node S D)
+account_in homes ws bodies all = joined (net_of bodies) (seats_of homes ws) all
+
+-- The account is of these nodes, in the order of the blueprint, and they began as what stands at these places. Beyond them it says
+-- nothing of nodes.
+pub record AreLeft {S D : Type 0} (places : List (Seated S D)) (account : Account (Node S D)) (nodes : List (Node S D)) : Type 0 where
+  pub firsts : List (Node S D)
+  pub become : AllBecome places firsts
+  pub first_at : (k : ℕ) → k < length firsts → account.firsts k ≡ slice_get firsts k
+  pub node_at : (k : ℕ) → k < length nodes → account.nodes k ≡ slice_get nodes k
+  pub as_many : length nodes ≡ length firsts
+
+-- an account of the same wires, and of these nodes alone, by how they began and as they are
+abbrev pub of_lists : {N : Type 0} → Account N → List N → List N → Account N
+of_lists a firsts nodes = record { firsts = λ k. slice_get firsts k; nodes = λ k. slice_get nodes k; near = a.near; far = a.far; asked = a.asked }

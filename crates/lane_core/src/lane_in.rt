@@ -84,6 +84,7 @@ impl LaneIn {
         ensures counts { IfSome result (λ x. elements (taken self.new) ≡ elements (taken self.old) + weight x) }
         ensures few { IfSome result (λ _. elements (taken self.new) ≤ asked self.new) }
         ensures none { IfNone result ((taken self.new ≡ taken self.old) × (found_sent self.new ≡ length (taken self.new)) × (told_sent self.old ≤ found_sent self.new)) }
+        ensures told { told_sent self.new ≡ told_sent self.old }
     {
         let item = fetch(&self.table.shared, &mut self.seat, self.taken, self.place)?;
         self.taken += 1;
@@ -97,6 +98,7 @@ impl LaneIn {
         requires { (1 ≤ n) × (asked self.old + n ≤ elements (taken self.old) + in_size self.old) × (asked self.old + n < 2 ^ 62) × (has_cancelled self.old ≡ 0) }
         ensures lane { IsSameIn self.old self.new × (taken self.new ≡ taken self.old) × (has_cancelled self.new ≡ 0) }
         ensures asked { (asked self.new ≡ asked self.old + n) × (asks self.new ≡ asks self.old + 1) × (in_looks self.new ≡ in_looks self.old) }
+        ensures known { (found_sent self.new ≡ found_sent self.old) × (told_sent self.new ≡ told_sent self.old) }
     {
         self.table
             .shared
@@ -109,6 +111,7 @@ impl LaneIn {
         requires { has_cancelled self.old ≡ 0 }
         ensures lane { IsSameIn self.old self.new × (taken self.new ≡ taken self.old) × (asked self.new ≡ asked self.old) × (asks self.new ≡ asks self.old) }
         ensures cancelled { (has_cancelled self.new ≡ 1) × (in_looks self.new ≡ in_looks self.old) }
+        ensures known { (found_sent self.new ≡ found_sent self.old) × (told_sent self.new ≡ told_sent self.old) }
     {
         self.table
             .shared

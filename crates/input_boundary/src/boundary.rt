@@ -102,6 +102,8 @@ impl InputBoundary {
         ensures took { result ≡ true → (is_over self.old ≡ false) × ((x : Item) × ((taken self.new.lane ≡ taken self.old.lane ++ x ∷ []) × (is_over self.new ≡ ends x))) }
         ensures still { result ≡ false → waits self.new ≡ waits self.old }
         ensures none { result ≡ false → (taken self.new.lane ≡ taken self.old.lane) × ((is_over self.old ≡ true) ⊎ ((found_sent self.new.lane ≡ length (taken self.new.lane)) × (told_sent self.old.lane ≤ found_sent self.new.lane))) }
+        ensures over { result ≡ false → is_over self.new ≡ is_over self.old }
+        ensures told { told_sent self.new.lane ≡ told_sent self.old.lane }
     {
         if self.over {
             return false;
@@ -136,6 +138,7 @@ impl InputBoundary {
         ensures ends { IfSome result (λ r. state self.new ≡ cond (ends r.item) Closed Flowing) }
         ensures wanted { IfSome result (λ r. ends r.item ≡ false → asked ≡ true) }
         ensures asks { IfSome result (λ r. asks self.new.lane ≡ asks self.old.lane + cond r.asks 1 0) }
+        ensures known { (found_sent self.new.lane ≡ found_sent self.old.lane) × (told_sent self.new.lane ≡ told_sent self.old.lane) × (is_over self.new ≡ is_over self.old) }
         ensures none { IfNone result ((self.new ≡ self.old) × (state self.old ≡ Flowing → (asked ≡ true) ⊎ (waits self.old ≡ []) → taken self.old.lane ≡ given self.old)) }
     {
         if self.buffer.is_empty() {
@@ -154,6 +157,7 @@ impl InputBoundary {
     fn next_end(&mut self) -> Option<Passed>
         requires none { waits self.old ≡ [] }
         ensures lane { self.new.lane ≡ self.old.lane }
+        ensures over { is_over self.new ≡ is_over self.old }
         ensures some { IfSome result (λ r. (given self.new ≡ given self.old ++ r.item ∷ []) × (ends r.item ≡ true) × (r.asks ≡ false) × (state self.new ≡ Closed)) }
         ensures none { IfNone result ((self.new ≡ self.old) × (state self.old ≡ Flowing → taken self.old.lane ≡ given self.old)) }
     {
@@ -167,6 +171,7 @@ impl InputBoundary {
         requires flowing { state self.old ≡ Flowing }
         ensures lane { IsSameIn self.old.lane self.new.lane × (taken self.new.lane ≡ taken self.old.lane) × (asked self.new.lane ≡ asked self.old.lane) × (asks self.new.lane ≡ asks self.old.lane) × (has_cancelled self.new.lane ≡ 1) }
         ensures given { (given self.new ≡ given self.old) × (state self.new ≡ Cancelled) × (waits self.new ≡ []) }
+        ensures known { (found_sent self.new.lane ≡ found_sent self.old.lane) × (told_sent self.new.lane ≡ told_sent self.old.lane) × (is_over self.new ≡ is_over self.old) }
     {
         self.lane.cancel();
         self.state = State::Cancelled;
@@ -203,6 +208,7 @@ fn refill(lane: &mut LaneIn, passed: &mut u64, half: u64) -> bool
     ensures lane { IsSameIn lane.old lane.new × (taken lane.new ≡ taken lane.old) × (has_cancelled lane.new ≡ has_cancelled lane.old) }
     ensures asked { result ≡ true → (passed.old + 1 ≡ half) × (passed.new ≡ 0) × (asked lane.new ≡ asked lane.old + half) × (asks lane.new ≡ asks lane.old + 1) }
     ensures less { result ≡ false → (passed.new ≡ passed.old + 1) × (passed.new < half) × (asked lane.new ≡ asked lane.old) × (asks lane.new ≡ asks lane.old) }
+    ensures known { (found_sent lane.new ≡ found_sent lane.old) × (told_sent lane.new ≡ told_sent lane.old) }
 {
     *passed += 1;
     if *passed < half {

@@ -53,6 +53,8 @@ impl IslandInput {
         ensures still { result ≡ false → waits self.new.boundary ≡ waits self.old.boundary }
         ensures took { result ≡ true → (is_over self.old.boundary ≡ false) × ((x : Item) × ((taken self.new.boundary.lane ≡ taken self.old.boundary.lane ++ x ∷ []) × (is_over self.new.boundary ≡ ends x))) }
         ensures none { result ≡ false → (taken self.new.boundary.lane ≡ taken self.old.boundary.lane) × ((is_over self.old.boundary ≡ true) ⊎ ((found_sent self.new.boundary.lane ≡ length (taken self.new.boundary.lane)) × (told_sent self.old.boundary.lane ≤ found_sent self.new.boundary.lane))) }
+        ensures over { result ≡ false → is_over self.new.boundary ≡ is_over self.old.boundary }
+        ensures told { told_sent self.new.boundary.lane ≡ told_sent self.old.boundary.lane }
     {
         self.boundary.look()
     }
@@ -80,6 +82,7 @@ impl IslandInput {
         ensures live { (cell_in island.new self.new.wire).wire.out ≢ Refused }
         ensures wire { (self.new.wire ≡ self.old.wire) × IsSameIn self.old.boundary.lane self.new.boundary.lane × (taken self.new.boundary.lane ≡ taken self.old.boundary.lane) × (has_cancelled self.new.boundary.lane ≡ has_cancelled self.old.boundary.lane) }
         ensures asks { asks self.new.boundary.lane ≡ asks self.old.boundary.lane + cond result 1 0 }
+        ensures known { (found_sent self.new.boundary.lane ≡ found_sent self.old.boundary.lane) × (told_sent self.new.boundary.lane ≡ told_sent self.old.boundary.lane) × (is_over self.new.boundary ≡ is_over self.old.boundary) }
         ensures asked { asked ≡ true → HasGiven self.new.boundary island.new self.new.wire }
         ensures ended { asked ≡ false → state self.new.boundary ≡ Flowing → (self.new ≡ self.old) × (island.new ≡ island.old) × (waits self.new.boundary ≡ [] → taken self.new.boundary.lane ≡ given self.new.boundary) }
         ensures uses { Uses island.old.net island.new.net 0 }
@@ -107,6 +110,7 @@ impl IslandInput {
         ensures fed { IsFed self.new.boundary island.new self.new.wire }
         ensures wire { (self.new.wire ≡ self.old.wire) × IsSameIn self.old.boundary.lane self.new.boundary.lane × (taken self.new.boundary.lane ≡ taken self.old.boundary.lane) × (has_cancelled self.new.boundary.lane ≡ has_cancelled self.old.boundary.lane) }
         ensures asks { asks self.new.boundary.lane ≡ asks self.old.boundary.lane + cond result 1 0 }
+        ensures known { (found_sent self.new.boundary.lane ≡ found_sent self.old.boundary.lane) × (told_sent self.new.boundary.lane ≡ told_sent self.old.boundary.lane) × (is_over self.new.boundary ≡ is_over self.old.boundary) }
         ensures uses { Uses island.old.net island.new.net 0 }
         ensures beside { Beside (way_in island.old self.old.wire) (in_node island.old self.old.wire) island.old island.new }
     {
@@ -131,6 +135,7 @@ impl IslandInput {
         ensures least { (asks self.old.boundary.lane ≤ asks self.new.boundary.lane) × (has_cancelled self.old.boundary.lane ≤ has_cancelled self.new.boundary.lane) }
         ensures told { result ≡ true → (asks self.old.boundary.lane < asks self.new.boundary.lane) ⊎ (has_cancelled self.old.boundary.lane < has_cancelled self.new.boundary.lane) }
         ensures quiet { result ≡ false → (asks self.new.boundary.lane ≡ asks self.old.boundary.lane) × (asked self.new.boundary.lane ≡ asked self.old.boundary.lane) × (has_cancelled self.new.boundary.lane ≡ has_cancelled self.old.boundary.lane) }
+        ensures known { (found_sent self.new.boundary.lane ≡ found_sent self.old.boundary.lane) × (told_sent self.new.boundary.lane ≡ told_sent self.old.boundary.lane) × (is_over self.new.boundary ≡ is_over self.old.boundary) }
         ensures uses { Uses island.old.net island.new.net 0 }
         ensures beside { Beside (way_in island.old self.old.wire) (in_node island.old self.old.wire) island.old island.new }
     {
@@ -152,6 +157,7 @@ impl IslandInput {
         ensures least { (asks self.old.boundary.lane ≤ asks self.new.boundary.lane) × (has_cancelled self.old.boundary.lane ≤ has_cancelled self.new.boundary.lane) }
         ensures told { result ≡ true → (asks self.old.boundary.lane < asks self.new.boundary.lane) ⊎ (has_cancelled self.old.boundary.lane < has_cancelled self.new.boundary.lane) }
         ensures quiet { result ≡ false → (asks self.new.boundary.lane ≡ asks self.old.boundary.lane) × (has_cancelled self.new.boundary.lane ≡ has_cancelled self.old.boundary.lane) }
+        ensures known { (found_sent self.new.boundary.lane ≡ found_sent self.old.boundary.lane) × (told_sent self.new.boundary.lane ≡ told_sent self.old.boundary.lane) × (is_over self.new.boundary ≡ is_over self.old.boundary) }
         ensures uses { Uses island.old.net island.new.net 0 }
         ensures beside { Beside (way_in island.old self.old.wire) (in_node island.old self.old.wire) island.old island.new }
     {

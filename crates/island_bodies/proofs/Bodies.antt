@@ -1,19 +1,17 @@
 -- What is known of bodies, and of their ends, by their places.
-use Rattle.std.proofs.Common.{◌≡◌, ℕ, List, length, Some, sym, subst, ◌∙◌}
-use Rattle.std.specs.Prelude.{slice_get, replicate}
+use Rattle.std.proofs.Common.{◌≡◌, ℕ, List, length, Some, sym, ap, subst, ◌∙◌}
+use Rattle.std.specs.Prelude.{slice_get}
 use Rattle.std.specs.declared.vec.Vec.{Vec}
 use Rattle.std.specs.declared.alloc.Global.{Global}
 use Rattle.stream_io.specs.State.{SourceState, DrainState}
 use Rattle.interpreter.specs.declared.island.IslandEnd.{IslandEnd}
-use Rattle.interpreter.specs.declared.parts.Parts.{Parts}
-use Rattle.interpreter.specs.declared.room.Room.{Room}
 use Rattle.interpreter.specs.Island.{Kept}
 use Rattle.output_boundary.specs.declared.boundary.OutputBoundary.{OutputBoundary}
 use Rattle.island_input.specs.declared.boundary.IslandInput.{IslandInput}
 use Rattle.island_body.specs.declared.body.Body.{Body}
-use Rattle.island_body.specs.declared.way.Way.{Way}
-use Rattle.island_body.specs.declared.way.Way.TheVariants.{Inner}
-use Rattle.island_bodies.specs.Making.{IsBodyOf, AreAllBodies, IsEndOfBody, AreEndsOfBodies, AreBlank}
+use Rattle.island_body.specs.declared.peers.Peers.{Peers}
+use Rattle.island_bodies.specs.Peers.{HavePeers}
+use Rattle.island_bodies.specs.Making.{IsBodyOf, AreAllBodies, IsEndOfBody, AreEndsOfBodies}
 use Rattle.island_bodies.proofs.Making.{EachIs, same_item}
 
 module _ {S D : Type 0} (sources : S → SourceState) (drains : D → DrainState) (islands : List (Kept S D)) (ins : List (Vec IslandInput Global)) (outs : List (Vec OutputBoundary Global)) where
@@ -41,13 +39,13 @@ module _ {S D : Type 0} (bodies : List (Body S D)) where
   pub all_ended : (ends : List (IslandEnd S D)) → length ends ≡ length bodies → EachIs EndsAt ends → AreEndsOfBodies bodies ends
   all_ended ends n e = record { many = n; each = λ k b x ab ax. e k x ax b ab }
 
-module _ {S D : Type 0} (islands : List (Parts S D × Room S D)) where
-  -- the table at a place is a blank one for the links of the island there
-  abbrev pub BlankAt : ℕ → Vec Way Global → Type 0
-  BlankAt k t = (x : Parts S D × Room S D) → slice_get islands k ≡ Some x → t.items ≡ replicate (length x.0.links.items) Inner
+module _ {S D : Type 0} (peers : List Peers) where
+  -- the body at a place has the peers there
+  abbrev pub PeersAt : ℕ → Body S D → Type 0
+  PeersAt k b = (p : Peers) → slice_get peers k ≡ Some p → (b.peers.ins ≡ p.ins) × (b.peers.outs ≡ p.outs)
 
-  pub blank_at : (k : ℕ) (x : Parts S D × Room S D) (t : Vec Way Global) → slice_get islands k ≡ Some x → t.items ≡ replicate (length x.0.links.items) Inner → BlankAt k t
-  blank_at k x t at is y ay = subst (λ v. t.items ≡ replicate (length v.0.links.items) Inner) (same_item x y (sym at ∙ ay)) is
+  pub peers_at : (k : ℕ) (p : Peers) (b : Body S D) → slice_get peers k ≡ Some p → b.peers.ins ≡ p.ins → b.peers.outs ≡ p.outs → PeersAt k b
+  peers_at k p b ap_ ei eo q aq = let same = same_item p q (sym ap_ ∙ aq) in (ei ∙ ap (λ (v : Peers). v.ins) same, eo ∙ ap (λ (v : Peers). v.outs) same)
 
-  pub all_blank : (tables : List (Vec Way Global)) → length tables ≡ length islands → EachIs BlankAt tables → AreBlank islands tables
-  all_blank tables n e = record { many = n; each = λ k x t ax at. e k t at x ax }
+  pub all_have : (bodies : List (Body S D)) → EachIs PeersAt bodies → HavePeers peers bodies
+  all_have bodies e = record { each = λ k p b at ab. e k b ab p at }

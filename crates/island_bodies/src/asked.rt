@@ -1,10 +1,10 @@
 // What the lanes between bodies are asked for.
-ghost use Rattle.std.specs.Prelude.{◌≡◌, length, slice_get, Some};
+ghost use Rattle.std.specs.Prelude.{◌≡◌, ◌≤◌, [], length, slice_get, Some, vec_capacity};
 ghost use Rattle.lane_core.specs.Ends.{asked};
 ghost use Rattle.lane_ends.specs.Ends.{AreRising};
 ghost use Rattle.island_body.specs.declared.body.Body as island;
 ghost use Rattle.island_input.specs.declared.boundary.IslandInput as inputs;
-ghost use Rattle.island_bodies.specs.Asked.{LiesThere, LieThere, AreWithin, AreNoted, noted};
+ghost use Rattle.island_bodies.specs.Asked.{LiesThere, LieThere, AreWithin, AreAsked, AreNoted, noted};
 
 use island_body::body::Body;
 use rounds::crossing::Crossing;
@@ -12,24 +12,23 @@ use stream_io::outside::{Drain, Source};
 use stream_model::outcome::WireCount;
 use traversal::plan::LanePlan;
 
-/// Notes of each lane, at the count of its wire, whether its input end has asked for more elements in all than were sent: `crossings`
-/// says of each lane where its two ends lie. The counts of other wires stay. It takes no memory. Rule: own.
-pub fn note_asked<S: Source, D: Drain>(
+/// Of each lane how many elements its input end has asked for in all: `crossings` says where its two ends lie. `all` is empty and has
+/// room for each: it takes no memory. Rule: own.
+pub fn asked_of<S: Source, D: Drain>(
     bodies: &[Body<S, D>],
     crossings: &[Crossing],
-    lanes: &[LanePlan],
-    counts: &mut [WireCount],
-)
-    requires many { length crossings.now ≡ length lanes.now }
+    all: Vec<u64>,
+) -> Vec<u64>
     requires lie { LieThere bodies.now crossings.now }
-    requires within { AreWithin (length counts.old) lanes.now }
-    requires order { AreRising lanes.now }
-    ensures { AreNoted bodies.now crossings.now lanes.now counts.old counts.new }
+    requires none { all.items ≡ [] }
+    requires room { length crossings.now ≤ vec_capacity all }
+    ensures { AreAsked bodies.now crossings.now result.items }
 {
-    for n in 0..lanes.len() {
-        let all = asked_at(bodies, &crossings[n]);
-        note(&mut counts[lanes[n].wire as usize], all);
+    let mut all = all;
+    for crossing in crossings {
+        all.push_reserved(asked_at(bodies, crossing));
     }
+    all
 }
 
 // How many elements the input end at a crossing has asked for in all.
@@ -38,6 +37,19 @@ fn asked_at<S: Source, D: Drain>(bodies: &[Body<S, D>], crossing: &Crossing) -> 
     ensures { (b : island.Body S D) (x : inputs.IslandInput) → slice_get bodies.now crossing.now.to ≡ Some b → slice_get b.ins.items crossing.now.inp ≡ Some x → result ≡ asked x.boundary.lane }
 {
     bodies[crossing.to as usize].asked(crossing.inp as usize)
+}
+
+/// Notes of each lane, at the count of its wire, whether more elements were asked for in all than were sent: `all` says how many were.
+/// The counts of other wires stay. It takes no memory. Rule: own.
+pub fn note_asked(all: &[u64], lanes: &[LanePlan], counts: &mut [WireCount])
+    requires many { length all.now ≡ length lanes.now }
+    requires within { AreWithin (length counts.old) lanes.now }
+    requires order { AreRising lanes.now }
+    ensures { AreNoted all.now lanes.now counts.old counts.new }
+{
+    for n in 0..lanes.len() {
+        note(&mut counts[lanes[n].wire as usize], all[n]);
+    }
 }
 
 // The count of a lane of which so much was asked in all.

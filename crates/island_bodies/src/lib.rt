@@ -3,4 +3,5 @@
 
 pub mod asked;
 pub mod make;
+pub mod peers;
 pub mod room;

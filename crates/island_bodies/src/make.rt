@@ -2,9 +2,11 @@
 ghost use Rattle.std.specs.Prelude.{◌≡◌, ◌≤◌, ◌<◌, ◌+◌, ◌∷◌, [], length, vec_len, vec_capacity};
 ghost use Rattle.std.specs.Vec.Iter.{into_iter_items, into_iter_len};
 ghost use Rattle.island_bodies.specs.Making.{CanAllBegin, AreAllBodies, AreEndsOfBodies};
+ghost use Rattle.island_bodies.specs.Peers.{HavePeers};
 
 use interpreter::island::{Island, IslandEnd};
 use island_body::body::Body;
+use island_body::peers::Peers;
 use island_body::way::Way;
 use island_input::boundary::IslandInput;
 use output_boundary::boundary::OutputBoundary;
@@ -12,29 +14,33 @@ use std::alloc::Global;
 use std::vec::IntoIter;
 use stream_io::outside::{Drain, Source};
 
-/// Makes the bodies of these islands, in their order, each with the ends of its lanes and with its blank table. Each end has then done
-/// what it has to do at the start. `bodies` is empty and has room for all: it takes no memory, and no unit. Rule: own.
+/// Makes the bodies of these islands, in their order, each with the ends of its lanes, with its blank table, and with the islands at the
+/// other ends of its lanes. Each end has then done what it has to do at the start. `bodies` is empty and has room for all: it takes no memory, and no unit. Rule: own.
 pub fn make_all<S: Source, D: Drain>(
     islands: Vec<Island<S, D>>,
     ins: Vec<Vec<IslandInput>>,
     outs: Vec<Vec<OutputBoundary>>,
     tables: Vec<Vec<Way>>,
+    peers: Vec<Peers>,
     bodies: Vec<Body<S, D>>,
 ) -> Vec<Body<S, D>>
-    requires begin { CanAllBegin islands.items ins.items outs.items tables.items }
+    requires begin { CanAllBegin islands.items ins.items outs.items tables.items peers.items }
     requires none_made { bodies.items ≡ [] }
     requires room { vec_len islands ≤ vec_capacity bodies }
-    ensures { AreAllBodies S.state D.state islands.items ins.items outs.items result.items }
+    ensures all { AreAllBodies S.state D.state islands.items ins.items outs.items result.items }
+    ensures peers { HavePeers peers.items result.items }
 {
     let mut bodies = bodies;
     let mut takers = ins.into_iter();
     let mut senders = outs.into_iter();
     let mut blanks = tables.into_iter();
+    let mut others = peers.into_iter();
     for island in islands {
         let table = first(&mut blanks);
         let takes = first(&mut takers);
         let sends = first(&mut senders);
-        bodies.push_reserved(Body::new(island, table, takes, sends));
+        let peers = first(&mut others);
+        bodies.push_reserved(Body::new(island, table, takes, sends, peers));
     }
     bodies
 }

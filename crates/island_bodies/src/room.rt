@@ -1,23 +1,27 @@
 // What the bodies of islands take of memory before they are made.
-ghost use Rattle.std.specs.Prelude.{◌≡◌, IfOk, length, replicate};
-ghost use Rattle.island_body.specs.declared.way.Way.TheVariants.{Inner};
-ghost use Rattle.island_bodies.specs.Making.{AreBlank, IsRoomFor};
+ghost use Rattle.std.specs.Prelude.{◌≡◌, ◌<◌, IfOk, All};
+ghost use Rattle.lane_ends.specs.Ends.{CanAllBeMade};
+ghost use Rattle.island_bodies.specs.Making.{way_homes, AreTables, IsRoomFor};
 
+use crate::peers::peers_of;
 use elem_core::why::NoMemory;
 use interpreter::island::IslandEnd;
-use interpreter::parts::Parts;
-use interpreter::room::Room;
 use island_body::body::Body;
+use island_body::peers::Peers;
 use island_body::table::blank_ways;
 use island_body::way::Way;
+use scatter::ranks::ranks_of;
 use std::alloc::Global;
 use stream_io::outside::{Drain, Source};
+use traversal::plan::LanePlan;
 
 /// All that the bodies of islands, and their ends, take of memory.
 #[derive(Drop)]
 pub struct BodyRoom<S: Source, D: Drain> {
     /// Of each island a blank table, with a row for each of its connections.
     pub tables: Vec<Vec<Way>>,
+    /// Of each the islands at the other ends of its lanes.
+    pub peers: Vec<Peers>,
     /// Empty, with room for the body of each.
     pub bodies: Vec<Body<S, D>>,
     /// Empty, with room for the end of each.
@@ -25,42 +29,48 @@ pub struct BodyRoom<S: Source, D: Drain> {
 }
 
 impl<S: Source, D: Drain> BodyRoom<S, D> {
-    /// The room for the bodies of islands of these parts, and for their ends. Rule: own.
+    /// The room for the bodies of so many islands, and for their ends. `wires` is of each wire the island in which it begins: there is
+    /// one connection for each wire, and one more for each lane, in the island that it leads to. Rule: own.
     pub fn of(
         alloc: Global,
-        islands: &[(Parts<S, D>, Room<S, D>)],
+        wires: &[usize],
+        lanes: &[LanePlan],
+        count: usize,
     ) -> Result<BodyRoom<S, D>, NoMemory>
-        ensures { IfOk result (IsRoomFor islands.now) }
+        requires wires { All (λ h. h < count) wires.now }
+        requires lanes { CanAllBeMade count lanes.now }
+        ensures { IfOk result (IsRoomFor wires.now lanes.now count) }
     {
+        let homes = way_homes(alloc, wires, lanes)?;
+        let counts = ranks_of(alloc, &homes, count)?.counts;
         Ok(BodyRoom {
-            tables: blank_tables(alloc, islands)?,
-            bodies: Vec::with_capacity(alloc, islands.len())?,
-            ends: Vec::with_capacity(alloc, islands.len())?,
+            tables: blank_tables(alloc, &counts)?,
+            peers: peers_of(alloc, lanes, count)?,
+            bodies: Vec::with_capacity(alloc, count)?,
+            ends: Vec::with_capacity(alloc, count)?,
         })
     }
 }
 
-// Of each island a blank table.
-fn blank_tables<S: Source, D: Drain>(
-    alloc: Global,
-    islands: &[(Parts<S, D>, Room<S, D>)],
-) -> Result<Vec<Vec<Way>>, NoMemory>
-    ensures { IfOk result (λ tables. AreBlank islands.now tables.items) }
+// The islands of all connections: of each wire, and then of the input end of each lane.
+fn way_homes(alloc: Global, wires: &[usize], lanes: &[LanePlan]) -> Result<Vec<usize>, NoMemory>
+    ensures { IfOk result (λ homes. homes.items ≡ way_homes wires.now lanes.now) }
 {
-    let mut tables = Vec::new(alloc);
-    for k in 0..islands.len() {
-        let table = blank_for(alloc, &islands[k])?;
-        tables.push(table)?;
+    let mut homes = Vec::new(alloc);
+    homes.extend_from_slice(wires)?;
+    for lane in lanes {
+        homes.push(lane.to as usize)?;
     }
-    Ok(tables)
+    Ok(homes)
 }
 
-// Of one.
-fn blank_for<S: Source, D: Drain>(
-    alloc: Global,
-    island: &(Parts<S, D>, Room<S, D>),
-) -> Result<Vec<Way>, NoMemory>
-    ensures { IfOk result (λ table. table.items ≡ replicate (length island.now.0.links.items) Inner) }
+// Of each island a blank table, with so many rows.
+fn blank_tables(alloc: Global, counts: &[usize]) -> Result<Vec<Vec<Way>>, NoMemory>
+    ensures { IfOk result (λ tables. AreTables counts.now tables.items) }
 {
-    blank_ways(alloc, island.0.links.len())
+    let mut tables = Vec::new(alloc);
+    for count in counts {
+        tables.push(blank_ways(alloc, *count)?)?;
+    }
+    Ok(tables)
 }

@@ -21,12 +21,13 @@ set_here xs k x y z at e = elim (at_set xs k k x y z at e) [
 
 module _ {S D : Type 0} where
   -- the output end at place k met, and no other end of the body
-  pub out_only : (b nb : Body S D) (k : ℕ) (o p : OutputBoundary) → slice_get b.outs.items k ≡ Some o → OutMet o p → nb.island ≡ b.island → nb.ways ≡ b.ways → nb.spent ≡ b.spent
+  pub out_only : (b nb : Body S D) (k : ℕ) (o p : OutputBoundary) → slice_get b.outs.items k ≡ Some o → OutMet o p → nb.island ≡ b.island → nb.ways ≡ b.ways → nb.spent ≡ b.spent → nb.peers ≡ b.peers
       → nb.ins ≡ b.ins → nb.outs.items ≡ set b.outs.items k p → OnlyMet b nb
-  out_only b nb k o p at m island_is ways_is spent_is ins_is outs_is = record {
+  out_only b nb k o p at m island_is ways_is spent_is peers_is ins_is outs_is = record {
     island = island_is;
     ways = ways_is;
     spent = spent_is;
+    peers = peers_is;
     outs_count = ap length outs_is ∙ length-set b.outs.items k p;
     ins_count = ap (λ (v : Vec IslandInput _). length v.items) ins_is;
     outs_met = λ j u v eu ev. elim (at_set b.outs.items k j o p v at (ap (λ (l : List OutputBoundary). slice_get l j) (sym outs_is) ∙ ev)) [
@@ -37,12 +38,13 @@ module _ {S D : Type 0} where
   }
 
   -- the input end at place k
-  pub in_only : (b nb : Body S D) (k : ℕ) (x y : IslandInput) → slice_get b.ins.items k ≡ Some x → InMet x y → nb.island ≡ b.island → nb.ways ≡ b.ways → nb.spent ≡ b.spent
+  pub in_only : (b nb : Body S D) (k : ℕ) (x y : IslandInput) → slice_get b.ins.items k ≡ Some x → InMet x y → nb.island ≡ b.island → nb.ways ≡ b.ways → nb.spent ≡ b.spent → nb.peers ≡ b.peers
       → nb.outs ≡ b.outs → nb.ins.items ≡ set b.ins.items k y → OnlyMet b nb
-  in_only b nb k x y at m island_is ways_is spent_is outs_is ins_is = record {
+  in_only b nb k x y at m island_is ways_is spent_is peers_is outs_is ins_is = record {
     island = island_is;
     ways = ways_is;
     spent = spent_is;
+    peers = peers_is;
     outs_count = ap (λ (v : Vec OutputBoundary _). length v.items) outs_is;
     ins_count = ap length ins_is ∙ length-set b.ins.items k y;
     outs_met = λ j u v eu ev. let is : u ≡ v = some_same u v (sym eu ∙ (ap (λ (w : Vec OutputBoundary _). slice_get w.items j) (sym outs_is) ∙ ev)) in subst (λ (z : OutputBoundary). OutMet u z) is (out_met_still u);
@@ -53,11 +55,11 @@ module _ {S D : Type 0} where
   }
 
   -- one of each of one body
-  pub both_only : (b nb : Body S D) (k j : ℕ) (o p : OutputBoundary) (x y : IslandInput) → slice_get b.outs.items k ≡ Some o → slice_get b.ins.items j ≡ Some x → OutMet o p → InMet x y → nb.island ≡ b.island → nb.ways ≡ b.ways → nb.spent ≡ b.spent
+  pub both_only : (b nb : Body S D) (k j : ℕ) (o p : OutputBoundary) (x y : IslandInput) → slice_get b.outs.items k ≡ Some o → slice_get b.ins.items j ≡ Some x → OutMet o p → InMet x y → nb.island ≡ b.island → nb.ways ≡ b.ways → nb.spent ≡ b.spent → nb.peers ≡ b.peers
       → nb.outs.items ≡ set b.outs.items k p → nb.ins.items ≡ set b.ins.items j y → OnlyMet b nb
-  both_only b nb k j o p x y at_out at_in m n island_is ways_is spent_is outs_is ins_is =
+  both_only b nb k j o p x y at_out at_in m n island_is ways_is spent_is peers_is outs_is ins_is =
       let mid : Body S D = record b { outs = nb.outs } in
-      only_on b mid nb (out_only b mid k o p at_out m refl refl refl refl outs_is) (in_only mid nb j x y at_in n island_is ways_is spent_is refl ins_is)
+      only_on b mid nb (out_only b mid k o p at_out m refl refl refl refl refl outs_is) (in_only mid nb j x y at_in n island_is ways_is spent_is peers_is refl ins_is)
 
   -- the meeting, from what the ends say of it
   pub they_meet : (a b na nb : Body S D) (k j : ℕ) (o p : OutputBoundary) (x y : IslandInput) (w : Waits) → slice_get a.outs.items k ≡ Some o → slice_get b.ins.items j ≡ Some x

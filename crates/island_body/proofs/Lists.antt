@@ -1,5 +1,5 @@
 -- One of a list was put in place of another.
-use Rattle.std.proofs.Common.{◌≡◌, ◌≢◌, ◌⊎◌, inl, inr, ℕ, zero, suc, ◌+◌, ◌<◌, Some, List, [], ◌∷◌, length, map, set, slice_get, refl, sym, ap, ◌∙◌, arith}
+use Rattle.std.proofs.Common.{◌≡◌, ◌≢◌, ◌⊎◌, inl, inr, ℕ, zero, suc, ◌+◌, ◌<◌, Some, List, [], ◌∷◌, length, map, set, slice_get, refl, sym, ap, ◌∙◌, subst, arith}
 use Rattle.std.specs.Prelude.{get_or}
 use Rattle.std.proofs.lemmas.Option.{slice_get_within}
 use Rattle.fused_net.proofs.Reading.{same_or_not, get_set_same, get_set_other}
@@ -22,6 +22,13 @@ pub at_set : {A : Type 0} (xs : List A) (k j : ℕ) (x y z : A) → slice_get xs
 at_set xs k j x y z at e = elim (same_or_not j k) [
   | inl same ↦ (let here : slice_get (set xs k y) k ≡ Some z = rw same at e in inl (same, some_same z y (sym here ∙ get_set_same xs k y (slice_get_within xs k x at))))
   | inr other ↦ inr (other, sym (get_set_other xs k j y other) ∙ e)
+]
+
+-- what holds of each and of the one that was put holds at each place
+pub at_one : {A : Type 0} (R : A → A → Type 0) (xs : List A) (k : ℕ) (x y : A) → slice_get xs k ≡ Some x → ((z : A) → R z z) → R x y → (j : ℕ) (u v : A) → slice_get xs j ≡ Some u → slice_get (set xs k y) j ≡ Some v → R u v
+at_one R xs k x y at still r j u v eu ev = elim (at_set xs k j x y v at ev) [
+  | inl here ↦ (let was : x ≡ u = some_same x u (sym at ∙ (ap (λ (n : ℕ). slice_get xs n) (sym here.0) ∙ eu)) in subst (λ z. R z v) was (subst (λ z. R x z) (sym here.1) r))
+  | inr there ↦ (let is : u ≡ v = some_same u v (sym eu ∙ there.1) in subst (λ z. R u z) is (still u))
 ]
 
 pub map_set : {A B : Type 0} (f : A → B) (xs : List A) (k : ℕ) (x y : A) → slice_get xs k ≡ Some x → f y ≡ f x → map f (set xs k y) ≡ map f xs

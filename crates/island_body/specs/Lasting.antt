@@ -163,6 +163,7 @@ module _ {S D : Type 0} where
     island = refl;
     ways = refl;
     spent = refl;
+    peers = refl;
     outs_count = refl;
     ins_count = refl;
     outs_met = λ k o p eo ep. subst (λ (z : OutputBoundary). OutMet o z) (some_is o p (sym eo ∙ ep)) (out_met_still o);
@@ -174,6 +175,7 @@ module _ {S D : Type 0} where
     island = g.island ∙ f.island;
     ways = g.ways ∙ f.ways;
     spent = g.spent ∙ f.spent;
+    peers = g.peers ∙ f.peers;
     outs_count = g.outs_count ∙ f.outs_count;
     ins_count = g.ins_count ∙ f.ins_count;
     outs_met = λ k o p eo ep. let m = get_there b.outs.items k (subst (λ (n : ℕ). k < n) (sym f.outs_count) (slice_get_within a.outs.items k o eo)) in out_met_on o m.0 p (f.outs_met k o m.0 eo m.1) (g.outs_met k m.0 p m.1 ep);

@@ -1,5 +1,7 @@
 pub mod Ends
 pub mod Moving
+pub mod Waked
+pub mod Telling
 pub mod Keeping
 pub mod Meeting
 pub mod Lasting

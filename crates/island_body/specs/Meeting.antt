@@ -27,6 +27,7 @@ module _ {S D : Type 0} where
     pub island : new.island ≡ old.island
     pub ways : new.ways ≡ old.ways
     pub spent : new.spent ≡ old.spent
+    pub peers : new.peers ≡ old.peers
     pub outs_count : length new.outs.items ≡ length old.outs.items
     pub ins_count : length new.ins.items ≡ length old.ins.items
     pub outs_met : (k : ℕ) (o p : OutputBoundary) → slice_get old.outs.items k ≡ Some o → slice_get new.outs.items k ≡ Some p → OutMet o p

@@ -12,8 +12,10 @@ ghost use Rattle.interpreter.specs.Boundary.{way_in, way_out};
 ghost use Rattle.island_body.specs.Ends.{in_wires, out_wires, all_taken, all_finds, AllServed, AllDone, IslandGoes};
 ghost use Rattle.island_body.specs.Keeping.{is_pending, BodyBegins, BodyStands, BodyKeeps, BodyGoes, BodyBreaks, IsIdle, SameLanes};
 ghost use Rattle.island_body.specs.declared.way.Way.TheVariants.{Inner};
-ghost use Rattle.island_body.specs.Moving.{TookNoneAt, TookNoneBelow, FoundNoneAt, FoundNoneBelow};
+ghost use Rattle.island_body.specs.Telling.{Wakes, WakesOn};
+ghost use Rattle.island_body.specs.Moving.{TookNoneAt, TookNoneBelow, FoundNoneAt, FoundNoneBelow, OnlyIn, OnlyOut, KeepsLooks, LeftNoneAt, SawAllAt, HasLooked};
 
+use crate::peers::Peers;
 use crate::table::mark;
 use crate::way::Way;
 use elem_core::why::NoMemory;
@@ -36,25 +38,30 @@ pub struct Body<S: Source, D: Drain> {
     pub(crate) ways: Vec<Way>,
     // The units of all its turns.
     pub(crate) spent: u32,
+    // The islands at the other ends, and which of them are to be woken.
+    pub(crate) peers: Peers,
 }
 
 impl<S: Source, D: Drain> Body<S, D> {
     /// The body of an island that has started, with the ends of its lanes, each list in the order of their wires. `ways` is a blank
-    /// table with a row for each connection of the island. Each end does what it has to do at the start: what is asked for is
-    /// asked for, and what has ended has ended. It takes no memory, and no unit.
+    /// table with a row for each connection of the island, and `peers` the island at the other end of each. Each end does what it has
+    /// to do at the start: what is asked for is asked for, and what has ended has ended. It takes no memory, and no unit.
     pub fn new(
         island: Island<S, D>,
         ways: Vec<Way>,
         ins: Vec<IslandInput>,
         outs: Vec<OutputBoundary>,
+        peers: Peers,
     ) -> Self
         requires begins { BodyBegins island ins.items outs.items }
         requires blank { ways.items ≡ replicate (length island.net.wires) Inner }
         requires few { (length ins.items ≤ 4294967295) × (length outs.items ≤ 4294967295) }
+        requires peers { (length peers.ins.items ≡ length ins.items) × (length peers.outs.items ≡ length outs.items) }
         ensures keeps { BodyKeeps S.state D.state result }
         ensures goes { IslandGoes island result.island }
         ensures lanes { SameLanes ins.items result.ins.items outs.items result.outs.items }
         ensures spent { result.spent ≡ 0 }
+        ensures peers { (result.peers.ins ≡ peers.ins) × (result.peers.outs ≡ peers.outs) × (result.peers.woken.queue ≡ []) }
     {
         let mut ways = ways;
         mark(&mut ways, &island, &ins, &outs);
@@ -64,9 +71,11 @@ impl<S: Source, D: Drain> Body<S, D> {
             outs,
             ways,
             spent: 0,
+            peers,
         };
         body.serve_ins();
         body.serve_outs();
+        body.peers.clear();
         body.island.laws();
         body
     }
@@ -82,8 +91,13 @@ impl<S: Source, D: Drain> Body<S, D> {
         ensures uses { Uses self.old.island.net self.new.island.net 0 }
         ensures costs { (all_taken self.new.ins.items ≡ all_taken self.old.ins.items) × (all_finds self.new.outs.items ≡ all_finds self.old.outs.items) }
         ensures rest { (self.new.island.used ≡ self.old.island.used) × (self.new.spent ≡ self.old.spent) }
+        ensures only { OnlyIn self.old self.new k }
+        ensures looks { KeepsLooks self.old self.new }
+        ensures wakes { WakesOn self.old self.new }
+        ensures peers { (self.new.peers.ins ≡ self.old.peers.ins) × (self.new.peers.outs ≡ self.old.peers.outs) }
     {
-        self.ins[k].serve(&mut self.island);
+        let told = self.ins[k].serve(&mut self.island);
+        self.peers.tell_in(k, told);
     }
 
     // The output end at place k does what it has to do.
@@ -97,8 +111,12 @@ impl<S: Source, D: Drain> Body<S, D> {
         ensures uses { Uses self.old.island.net self.new.island.net 0 }
         ensures costs { (all_taken self.new.ins.items ≡ all_taken self.old.ins.items) × (all_finds self.new.outs.items ≡ all_finds self.old.outs.items) }
         ensures rest { (self.new.island.used ≡ self.old.island.used) × (self.new.spent ≡ self.old.spent) }
+        ensures looks { KeepsLooks self.old self.new }
+        ensures wakes { WakesOn self.old self.new }
+        ensures peers { (self.new.peers.ins ≡ self.old.peers.ins) × (self.new.peers.outs ≡ self.old.peers.outs) }
     {
-        self.outs[k].serve(&mut self.island);
+        let told = self.outs[k].serve(&mut self.island);
+        self.peers.tell_out(k, told);
     }
 
     // The end of a lane at connection w, if there is one, does what it has to do.
@@ -112,6 +130,8 @@ impl<S: Source, D: Drain> Body<S, D> {
         ensures uses { Uses self.old.island.net self.new.island.net 0 }
         ensures costs { (all_taken self.new.ins.items ≡ all_taken self.old.ins.items) × (all_finds self.new.outs.items ≡ all_finds self.old.outs.items) }
         ensures rest { (self.new.island.used ≡ self.old.island.used) × (self.new.spent ≡ self.old.spent) }
+        ensures looks { KeepsLooks self.old self.new }
+        ensures wakes { WakesOn self.old self.new }
     {
         match self.ways[w as usize] {
             Way::Inner => {}
@@ -127,6 +147,7 @@ impl<S: Source, D: Drain> Body<S, D> {
         ensures served { AllServed None (length self.new.ins.items) 0 self.new.island self.new.ins.items self.new.outs.items }
         ensures goes { BodyGoes self.old self.new }
         ensures rest { (self.new.island.used ≡ self.old.island.used) × (self.new.spent ≡ self.old.spent) }
+        ensures peers { (self.new.peers.ins ≡ self.old.peers.ins) × (self.new.peers.outs ≡ self.old.peers.outs) }
     {
         for k in 0..self.ins.len() {
             self.serve_in(k);
@@ -141,6 +162,7 @@ impl<S: Source, D: Drain> Body<S, D> {
         ensures served { AllDone self.new.island self.new.ins.items self.new.outs.items }
         ensures goes { BodyGoes self.old self.new }
         ensures rest { (self.new.island.used ≡ self.old.island.used) × (self.new.spent ≡ self.old.spent) }
+        ensures peers { (self.new.peers.ins ≡ self.old.peers.ins) × (self.new.peers.outs ≡ self.old.peers.outs) }
     {
         for k in 0..self.outs.len() {
             self.serve_out(k);
@@ -160,6 +182,9 @@ impl<S: Source, D: Drain> Body<S, D> {
         ensures took { result ≡ true → all_taken self.new.ins.items ≡ all_taken self.old.ins.items + 1 }
         ensures none { result ≡ false → TookNoneAt self.old self.new k × (all_taken self.new.ins.items ≡ all_taken self.old.ins.items) }
         ensures rest { (self.new.island ≡ self.old.island) × (self.new.outs ≡ self.old.outs) × (self.new.spent ≡ self.old.spent) }
+        ensures only { OnlyIn self.old self.new k }
+        ensures last { result ≡ false → LeftNoneAt self.old.ins.items self.new.ins.items k }
+        ensures wakes { WakesOn self.old self.new }
     {
         self.ins[k].look()
     }
@@ -178,6 +203,9 @@ impl<S: Source, D: Drain> Body<S, D> {
         ensures none { result ≡ false → TookNoneAt self.old self.new k × (all_taken self.new.ins.items ≡ all_taken self.old.ins.items) }
         ensures finds { all_finds self.new.outs.items ≡ all_finds self.old.outs.items }
         ensures rest { (self.new.island.used ≡ self.old.island.used) × (self.new.spent ≡ self.old.spent) }
+        ensures only { OnlyIn self.old self.new k }
+        ensures last { result ≡ false → LeftNoneAt self.old.ins.items self.new.ins.items k }
+        ensures wakes { WakesOn self.old self.new }
     {
         let took = self.look_in(k);
         if took {
@@ -202,6 +230,9 @@ impl<S: Source, D: Drain> Body<S, D> {
         ensures finds { all_finds self.new.outs.items ≡ all_finds self.old.outs.items }
         ensures rest { (self.new.island.used ≡ self.old.island.used) × (self.new.spent ≡ self.old.spent) }
         ensures none { result ≡ used → used < limit → TookNoneAt self.old self.new k }
+        ensures only { OnlyIn self.old self.new k }
+        ensures last { result < limit → LeftNoneAt self.old.ins.items self.new.ins.items k }
+        ensures wakes { WakesOn self.old self.new }
     {
         let mut count = used;
         while count < limit {
@@ -226,6 +257,9 @@ impl<S: Source, D: Drain> Body<S, D> {
         ensures finds { all_finds self.new.outs.items ≡ all_finds self.old.outs.items }
         ensures rest { (self.new.island.used ≡ self.old.island.used) × (self.new.spent ≡ self.old.spent) }
         ensures none { result ≡ 0 → 1 ≤ limit → TookNoneBelow self.old self.new (length self.old.ins.items) }
+        ensures outs { self.new.outs ≡ self.old.outs }
+        ensures last { result < limit → (k : ℕ) → LeftNoneAt self.old.ins.items self.new.ins.items k }
+        ensures wakes { WakesOn self.old self.new }
     {
         let mut used = 0;
         for k in 0..self.ins.len() {
@@ -248,6 +282,9 @@ impl<S: Source, D: Drain> Body<S, D> {
         ensures finds { all_finds self.new.outs.items ≡ all_finds self.old.outs.items + unit_of result }
         ensures rest { (self.new.island.used ≡ self.old.island.used) × (self.new.spent ≡ self.old.spent) }
         ensures none { unit_of result ≡ 0 → FoundNoneAt self.old self.new k }
+        ensures only { OnlyOut self.old self.new k }
+        ensures last { SawAllAt self.old.outs.items self.new.outs.items k }
+        ensures wakes { WakesOn self.old self.new }
     {
         self.outs[k].visit(&mut self.island)
     }
@@ -267,6 +304,9 @@ impl<S: Source, D: Drain> Body<S, D> {
         ensures finds { all_finds self.new.outs.items ≡ all_finds self.old.outs.items + result }
         ensures rest { (self.new.island.used ≡ self.old.island.used) × (self.new.spent ≡ self.old.spent) }
         ensures none { result ≡ 0 → FoundNoneAt self.old self.new k }
+        ensures only { OnlyOut self.old self.new k }
+        ensures last { SawAllAt self.old.outs.items self.new.outs.items k }
+        ensures wakes { WakesOn self.old self.new }
     {
         let found = self.visit_out(k);
         units(found)
@@ -288,6 +328,9 @@ impl<S: Source, D: Drain> Body<S, D> {
         ensures finds { all_finds self.new.outs.items + used ≡ all_finds self.old.outs.items + result }
         ensures rest { (self.new.island.used ≡ self.old.island.used) × (self.new.spent ≡ self.old.spent) }
         ensures none { result ≡ used → used < limit → FoundNoneAt self.old self.new k }
+        ensures only { OnlyOut self.old self.new k }
+        ensures last { result < limit → SawAllAt self.old.outs.items self.new.outs.items k }
+        ensures wakes { WakesOn self.old self.new }
     {
         if used == limit {
             return used;
@@ -310,6 +353,9 @@ impl<S: Source, D: Drain> Body<S, D> {
         ensures finds { all_finds self.new.outs.items + used ≡ all_finds self.old.outs.items + result }
         ensures rest { (self.new.island.used ≡ self.old.island.used) × (self.new.spent ≡ self.old.spent) }
         ensures none { result ≡ used → used < limit → FoundNoneBelow self.old self.new (length self.old.outs.items) }
+        ensures ins { self.new.ins ≡ self.old.ins }
+        ensures last { result < limit → (k : ℕ) → SawAllAt self.old.outs.items self.new.outs.items k }
+        ensures wakes { WakesOn self.old self.new }
     {
         let mut count = used;
         for k in 0..self.outs.len() {
@@ -333,6 +379,9 @@ impl<S: Source, D: Drain> Body<S, D> {
         ensures used { IfOk result (λ count. self.new.island.used + used ≡ self.old.island.used + count) }
         ensures costs { OnOk result ((all_taken self.new.ins.items ≡ all_taken self.old.ins.items) × (all_finds self.new.outs.items ≡ all_finds self.old.outs.items) × (self.new.spent ≡ self.old.spent)) }
         ensures none { IfOk result (λ count. count ≡ used → used < limit → (self.new ≡ self.old) × (self.old.island.net.queue ≡ [])) }
+        ensures looks { OnOk result (KeepsLooks self.old self.new) }
+        ensures wakes { OnOk result (WakesOn self.old self.new) }
+        ensures rest { IfOk result (λ count. count < limit → self.new.island.net.queue ≡ []) }
         ensures breaks { OnErr result (BodyBreaks S.state D.state self.old self.new) }
     {
         let mut count = used;
@@ -360,7 +409,7 @@ impl<S: Source, D: Drain> Body<S, D> {
         ensures rest { IfOk result (λ a. a.used < limit → a.heard ≡ None → self.new.island.net.queue ≡ []) }
         ensures uses { IfOk result (λ a. Uses self.old.island.net self.new.island.net a.used) }
         ensures used { IfOk result (λ a. self.new.island.used ≡ self.old.island.used + a.used) }
-        ensures lanes { OnOk result ((self.new.ins ≡ self.old.ins) × (self.new.outs ≡ self.old.outs) × (self.new.ways ≡ self.old.ways) × (self.new.spent ≡ self.old.spent)) }
+        ensures lanes { OnOk result ((self.new.ins ≡ self.old.ins) × (self.new.outs ≡ self.old.outs) × (self.new.ways ≡ self.old.ways) × (self.new.spent ≡ self.old.spent) × (self.new.peers ≡ self.old.peers)) }
         ensures breaks { OnErr result (BodyBreaks S.state D.state self.old self.new) }
     {
         self.island.laws();
@@ -381,14 +430,24 @@ impl<S: Source, D: Drain> Body<S, D> {
         ensures spent { IfOk result (λ used. self.new.spent ≡ self.old.spent + used) }
         ensures within { IfOk result (λ used. used ≤ limit) }
         ensures idle { IfOk result (λ used. used ≡ 0 → 1 ≤ limit → IsIdle self.old self.new) }
+        ensures found { IfOk result (λ used. used < limit → HasLooked self.old self.new) }
+        ensures wakes { OnOk result (Wakes self.old self.new) }
         ensures breaks { OnErr result (BodyBreaks S.state D.state self.old self.new) }
     {
+        self.peers.clear();
         let taken = self.take_all(limit);
         let found = self.visit_all(taken, limit);
         let used = self.run(alloc, found, limit)?;
         self.island.laws();
         self.spent += used;
         Ok(used)
+    }
+
+    /// The islands that the last turn sent an item, demand or a cancel to, each once. It takes no memory.
+    pub fn wakes(&self) -> &[u32]
+        ensures { result.now ≡ self.now.peers.woken.queue }
+    {
+        self.peers.woken()
     }
 
     /// Whether an event is pending in its island. It takes no memory.

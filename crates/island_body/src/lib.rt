@@ -3,5 +3,7 @@
 
 pub mod body;
 pub mod meeting;
+pub mod peers;
 pub mod table;
 pub mod way;
+mod woken;

@@ -14,7 +14,7 @@ use Rattle.island_input.specs.declared.boundary.IslandInput.{IslandInput}
 use Rattle.output_boundary.specs.declared.boundary.OutputBoundary.{OutputBoundary}
 use Rattle.rounds.specs.declared.crossing.Crossing.{Crossing}
 use Rattle.scatter.specs.Shares.{of_home, count_of, rank_of, items_at, AreShares}
-use Rattle.scatter.proofs.Sharing.{count_here, count_elsewhere, share_at, share_from}
+use Rattle.scatter.proofs.Sharing.{count_here, count_elsewhere, count_within, share_count, share_at, share_from}
 use Rattle.traversal.specs.declared.plan.LanePlan.{LanePlan}
 use Rattle.lane_ends.specs.declared.ends.AllEnds.{AllEnds}
 use Rattle.lane_ends.specs.Ends.{AreRising, AreMade, AreCrossings, IsEndOf, LieBy, AreAllEnds}
@@ -78,6 +78,18 @@ module _ {X : Type 0} (lanes : List LanePlan) (home : LanePlan → ℕ) (homes :
       let h = home_at n l at in
       let is : slice_index homes n ≡ home l = get_or_from_slice_get homes n (home l) 0 h in
       ap (λ ys. slice_get ys (rank_of homes n)) (shares.shares (home l)) ∙ ap (λ k. slice_get (of_home homes (home l) xs) (count_of k (take n homes))) is ∙ share_at homes xs n (home l) x here h
+
+  -- no list is longer than that of the lanes
+  pub few_at : (k : ℕ) → length (items_at lists k) ≤ length lanes
+  few_at k =
+      let own : length (items_at lists k) ≡ length (of_home homes k xs) = ap length (shares.shares k) in
+      let counted : length (of_home homes k xs) ≡ count_of k homes = share_count homes xs k shares.each in
+      let within : count_of k homes ≤ length homes = count_within k homes in
+      omega (arith, own, counted, within, shares.each, many)
+
+  -- each has as many as there are lanes of its island
+  pub count_at : (k : ℕ) → length (items_at lists k) ≡ count_of k (map home lanes)
+  count_at k = ap length (shares.shares k) ∙ (share_count homes xs k shares.each ∙ ap (λ hs. count_of k hs) homes_are)
 
   module _ (island place : Crossing → ℕ) (wire : X → ℕ) (crossings : List Crossing) (crossings_many : length crossings ≡ length lanes)
       (islands_are : (n : ℕ) (l : LanePlan) (c : Crossing) → slice_get lanes n ≡ Some l → slice_get crossings n ≡ Some c → island c ≡ home l)
@@ -167,6 +179,10 @@ all_ends lanes count e outs ins froms tos out_ranks in_ranks rising made froms_a
             inp_at = ap (λ (x : Crossing). slice_get (items_at e.ins.items x.to) x.inp) is ∙ ap (λ r. slice_get (items_at e.ins.items l.to) r) (in_rank n l at) ∙ lies_at lanes to_of tos tos_are ins made.ins_many e.ins.items si n l i.0 at i.1;
             ends = made.each n l o.0 i.0 at o.1 i.1;
           };
+      outs_few = few_at lanes from_of froms froms_are outs made.outs_many e.outs.items so;
+      ins_few = few_at lanes to_of tos tos_are ins made.ins_many e.ins.items si;
+      outs_count = count_at lanes from_of froms froms_are outs made.outs_many e.outs.items so;
+      ins_count = count_at lanes to_of tos tos_are ins made.ins_many e.ins.items si;
       outs_lie = lie_by lanes from_of froms froms_are outs made.outs_many e.outs.items so (λ c. c.from) (λ c. c.out) (λ (o : OutputBoundary). o.wire) crossings cs.many
           (λ n l c at here. ap (λ (x : Crossing). x.from) (cs.each n l c at here))
           (λ n l c at here. ap (λ (x : Crossing). x.out) (cs.each n l c at here) ∙ out_rank n l at)

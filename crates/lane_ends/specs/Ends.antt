@@ -1,5 +1,5 @@
 -- Both ends of every lane of a blueprint, and where they lie.
-use Rattle.std.specs.Prelude.{◌≡◌, ℕ, ◌<◌, ◌≤◌, false, List, [], Some, length, slice_get, slice_index}
+use Rattle.std.specs.Prelude.{◌≡◌, ℕ, ◌<◌, ◌≤◌, false, List, [], Some, length, map, slice_get, slice_index}
 use Rattle.std.specs.declared.vec.Vec.{Vec}
 use Rattle.std.specs.declared.alloc.Global.{Global}
 use Rattle.lane_core.specs.Ends.{sent, seen, saw_cancel, finds, has_ended, out_size, taken, asked, has_cancelled, in_size, AreOneLane}
@@ -8,7 +8,7 @@ use Rattle.input_boundary.specs.declared.state.State.TheVariants.{Flowing}
 use Rattle.island_input.specs.declared.boundary.IslandInput.{IslandInput}
 use Rattle.output_boundary.specs.declared.boundary.OutputBoundary.{OutputBoundary}
 use Rattle.rounds.specs.declared.crossing.Crossing.{Crossing}
-use Rattle.scatter.specs.Shares.{items_at}
+use Rattle.scatter.specs.Shares.{count_of, items_at}
 use Rattle.traversal.specs.declared.plan.LanePlan.{LanePlan}
 use Rattle.lane_ends.specs.declared.ends.AllEnds.{AllEnds}
 
@@ -91,5 +91,9 @@ pub record AreAllEnds (lanes : List LanePlan) (count : ℕ) (e : AllEnds) : Type
   pub ins_many : length e.ins.items ≡ count
   pub many : length e.crossings.items ≡ length lanes
   pub each : (n : ℕ) (l : LanePlan) (c : Crossing) → slice_get lanes n ≡ Some l → slice_get e.crossings.items n ≡ Some c → Joins e l c
+  pub outs_few : (k : ℕ) → length (items_at e.outs.items k) ≤ length lanes
+  pub ins_few : (k : ℕ) → length (items_at e.ins.items k) ≤ length lanes
+  pub outs_count : (k : ℕ) → length (items_at e.outs.items k) ≡ count_of k (map (λ (l : LanePlan). l.from) lanes)
+  pub ins_count : (k : ℕ) → length (items_at e.ins.items k) ≡ count_of k (map (λ (l : LanePlan). l.to) lanes)
   pub outs_lie : LieBy (λ c. c.from) (λ c. c.out) (λ (o : OutputBoundary). o.wire) e.crossings.items e.outs.items
   pub ins_lie : LieBy (λ c. c.to) (λ c. c.inp) (λ (i : IslandInput). i.wire) e.crossings.items e.ins.items

@@ -4,4 +4,4 @@ use Rattle.island_bodies.proofs.asked.note_asked.Given as goal
 
 -- the lanes so far are noted
 abbrev pub invariant-loop-n : goal.invariant-loop-n
-invariant-loop-n g l = NotedTo l.bodies l.crossings l.lanes l.initial.counts l.n l.counts
+invariant-loop-n l = NotedTo l.all l.lanes l.initial.counts l.n l.counts

@@ -1,8 +1,8 @@
 -- The loop of `make::make_all`.
 use Rattle.std.proofs.Common.{◌≡◌, ◌+◌, ◌≤◌, length, vec_len, vec_capacity}
 use Rattle.std.specs.Vec.Iter.{into_iter_items, into_iter_len}
-use Rattle.island_bodies.proofs.Making.{Behind, Going}
-use Rattle.island_bodies.proofs.Bodies.{MadeAt}
+use Rattle.island_bodies.proofs.Making.{Behind, Going, EachIs}
+use Rattle.island_bodies.proofs.Bodies.{MadeAt, PeersAt}
 use Rattle.island_bodies.proofs.make.make_all.Given as goal
 
 -- the bodies of the islands so far
@@ -19,3 +19,6 @@ invariant-loop-island g l =
     × Behind l.fn.outs.items (length l.bodies.items) (into_iter_items l.senders)
     × Behind l.fn.tables.items (length l.bodies.items) (into_iter_items l.blanks)
     × Going (MadeAt g.S.Source.state g.D.Drain.state l.fn.islands.items l.fn.ins.items l.fn.outs.items) l.fn.islands.items (into_iter_items l.island-iterator) l.bodies.items
+    × (into_iter_len l.others ≡ length (into_iter_items l.others))
+    × Behind l.fn.peers.items (length l.bodies.items) (into_iter_items l.others)
+    × EachIs (PeersAt l.fn.peers.items) l.bodies.items

@@ -1,10 +1,12 @@
 -- The goals of `body::Body::look_in` that the search leaves.
-use Rattle.std.proofs.Common.{refl, ap, ◌∙◌, arith, length-append}
+use Rattle.std.proofs.Common.{inl, inr, refl, ap, ◌∙◌, arith, length-append}
 use Rattle.std.specs.Prelude.{length}
 use Rattle.fused_net.proofs.Reading.{get_set_other}
 use Rattle.island_body.proofs.Lists.{taken_set}
 use Rattle.island_body.proofs.Standing.{goes_here}
 use Rattle.island_body.proofs.Acting.{at_index, in_looked, in_goes, looked_but, looked_none, took_none_here}
+use Rattle.island_body.proofs.Looking.{only_in_here, left_none_here}
+use Rattle.island_body.proofs.Telling.{wakes_looked_in}
 use Rattle.island_body.proofs.body.Body.look_in.Goals as goal
 
 pub returns-clause-stands : goal.returns-clause-stands
@@ -52,3 +54,27 @@ returns-clause-none g c e =
       },
       omega (arith, t),
     )
+
+pub returns-clause-only : goal.returns-clause-only
+returns-clause-only g c =
+    let b = c.args.self.now in
+    let at = at_index b.ins.items c.args.k c.index_mut.result.now c.requires.within c.index_mut.ensures.value in
+    only_in_here b _ c.args.k c.index_mut.result.now c.look.new.self at c.look.ensures.told refl refl
+
+pub returns-clause-last : goal.returns-clause-last
+returns-clause-last g c e =
+    let b = c.args.self.now in
+    let at = at_index b.ins.items c.args.k c.index_mut.result.now c.requires.within c.index_mut.ensures.value in
+    left_none_here b.ins.items c.args.k c.index_mut.result.now c.look.new.self at (record {
+      why = elim (c.look.ensures.none e).1 [
+        | inl over ↦ inl (c.look.ensures.over e ∙ over)
+        | inr found ↦ inr found
+      ];
+    })
+
+pub returns-clause-wakes : goal.returns-clause-wakes
+returns-clause-wakes g c =
+    let b = c.args.self.now in
+    let w = c.look.ensures.wire in
+    let at = at_index b.ins.items c.args.k c.index_mut.result.now c.requires.within c.index_mut.ensures.value in
+    wakes_looked_in b _ c.args.k c.index_mut.result.now c.look.new.self at refl refl refl w.3 w.4

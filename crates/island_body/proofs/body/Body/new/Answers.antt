@@ -1,5 +1,5 @@
 -- The goals of `body::Body::new` that the search leaves.
-use Rattle.std.proofs.Common.{List, subst, arith}
+use Rattle.std.proofs.Common.{List, ◌∙◌, subst, arith}
 use Rattle.output_boundary.specs.declared.boundary.OutputBoundary.{OutputBoundary}
 use Rattle.island_input.specs.declared.boundary.IslandInput.{IslandInput}
 use Rattle.island_body.specs.Ends.{in_wires, out_wires, IsTable}
@@ -18,7 +18,7 @@ returns-clause-keeps g c =
     let r = c.serve_ins.ensures.rest in
     record {
       laws = c.laws.ensures s.stands.whole;
-      stands = s.stands;
+      stands = record { whole = s.stands.whole; stand = s.stands.stand; apart = s.stands.apart; table = s.stands.table };
       served = s.served;
       used_less = let a = s.rest.0 in let b = r.0 in let d = c.requires.begins.unused in omega (arith, a, b, d);
       paid = let a = s.rest.1 in let b = r.1 in omega (arith, a, b);
@@ -26,3 +26,10 @@ returns-clause-keeps g c =
 
 pub returns-clause-lanes : goal.returns-clause-lanes
 returns-clause-lanes g c = (goes_on _ _ _ c.serve_ins.ensures.goes c.serve_outs.ensures.goes).lanes
+
+pub returns-clause-peers : goal.returns-clause-peers
+returns-clause-peers g c =
+    let k = c.clear.ensures in
+    let o = c.serve_outs.ensures.peers in
+    let i = c.serve_ins.ensures.peers in
+    (k.same.0 ∙ (o.0 ∙ i.0), k.same.1 ∙ (o.1 ∙ i.1), k.none)

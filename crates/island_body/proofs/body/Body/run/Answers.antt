@@ -6,6 +6,8 @@ use Rattle.output_boundary.specs.declared.boundary.OutputBoundary.{OutputBoundar
 use Rattle.island_input.specs.declared.boundary.IslandInput.{IslandInput}
 use Rattle.island_body.specs.Ends.{all_taken, all_finds}
 use Rattle.island_body.specs.Lasting.{goes_on, goes_breaks}
+use Rattle.island_body.proofs.Looking.{keeps_looks_same, keeps_looks_on}
+use Rattle.island_body.proofs.Telling.{wakes_same, wakes_on}
 use Rattle.island_body.proofs.body.Body.run.Goals as goal
 
 pub returns-in_err-heard-clause-breaks : goal.returns-in_err-heard-clause-breaks
@@ -21,6 +23,8 @@ loop-heard-preserved g c =
       stands = s.stands;
       served = s.served;
       goes = goes_on _ _ _ i.goes (goes_on _ _ _ e.goes s.goes);
+      wakes = wakes_on _ _ _ i.wakes (wakes_on _ _ _ (wakes_same _ _ e.lanes.0 e.lanes.1 e.lanes.4) s.wakes);
+      looks = keeps_looks_on _ _ _ i.goes i.looks (keeps_looks_on _ _ _ e.goes (keeps_looks_same _ _ e.lanes.0 e.lanes.1) s.looks);
       more = let a = i.more in omega (arith, a);
       less = let a = i.less in let b = e.within in omega (arith, a, b);
       uses = let a = i.uses in let b = e.uses.least in let d = s.uses.least in omega (arith, a, b, d);
@@ -32,3 +36,13 @@ loop-heard-preserved g c =
       );
       same = λ z. let a = i.more in absurd (omega (arith, z, a, few));
     }
+
+pub returns-in-None-clause-looks : goal.returns-in-None-clause-looks
+returns-in-None-clause-looks g c =
+    let e = c.in_ok-heard.ensures in
+    keeps_looks_on _ _ _ c.loop-heard.invariant.goes c.loop-heard.invariant.looks (keeps_looks_same _ _ e.lanes.0 e.lanes.1)
+
+pub returns-in-None-clause-wakes : goal.returns-in-None-clause-wakes
+returns-in-None-clause-wakes g c =
+    let e = c.in_ok-heard.ensures in
+    wakes_on _ _ _ c.loop-heard.invariant.wakes (wakes_same _ _ e.lanes.0 e.lanes.1 e.lanes.4)

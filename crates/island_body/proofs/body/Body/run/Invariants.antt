@@ -3,6 +3,8 @@ use Rattle.std.proofs.Common.{◌≡◌, ◌≤◌, ◌+◌, ◌-◌}
 use Rattle.fused_net.specs.Costs.{total}
 use Rattle.island_body.specs.Ends.{all_taken, all_finds, AllDone}
 use Rattle.island_body.specs.Keeping.{BodyStands, BodyGoes}
+use Rattle.island_body.specs.Telling.{WakesOn}
+use Rattle.island_body.specs.Moving.{KeepsLooks}
 use Rattle.island_body.proofs.body.Body.run.Given as goal
 
 abbrev pub invariant-loop-heard : goal.invariant-loop-heard
@@ -10,6 +12,8 @@ invariant-loop-heard g l = record {
   stands : BodyStands l.self;
   served : AllDone l.self.island l.self.ins.items l.self.outs.items;
   goes : BodyGoes l.fn.self l.self;
+  wakes : WakesOn l.fn.self l.self;
+  looks : KeepsLooks l.fn.self l.self;
   more : l.fn.used ≤ l.count;
   less : l.count ≤ l.limit;
   uses : total l.fn.self.island.net + l.count ≤ total l.self.island.net + l.fn.used;

@@ -4,6 +4,8 @@ use Rattle.std.specs.Prelude.{length}
 use Rattle.island_body.proofs.Lists.{get_here}
 use Rattle.island_body.proofs.Standing.{served_inner, served_in, served_out}
 use Rattle.island_body.proofs.Acting.{done_as}
+use Rattle.island_body.proofs.Looking.{keeps_looks_still}
+use Rattle.island_body.proofs.Telling.{wakes_still}
 use Rattle.island_body.proofs.body.Body.serve_at.Goals as goal
 
 pub returns-in-Inner-clause-served : goal.returns-in-Inner-clause-served
@@ -24,3 +26,9 @@ returns-in-Out-clause-served g c =
     let n = length b.ins.items in
     let m = length b.outs.items in
     done_as n m _ _ _ c.serve_out.ensures.count.0 c.serve_out.ensures.count.1 (c.serve_out.ensures.served n m (served_out c.args.w c.in-Out.k n m b.island b.ins.items b.outs.items b.ways.items c.requires.stands.table (get_here b.ways.items c.args.w c.index.result.now c.requires.within ∙ ap (λ z. Some z) (sym c.index.ensures ∙ c.in-Out.is)) c.requires.served))
+
+pub returns-in-Inner-clause-looks : goal.returns-in-Inner-clause-looks
+returns-in-Inner-clause-looks g c = keeps_looks_still _
+
+pub returns-in-Inner-clause-wakes : goal.returns-in-Inner-clause-wakes
+returns-in-Inner-clause-wakes g c = wakes_still _

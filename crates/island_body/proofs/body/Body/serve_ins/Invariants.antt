@@ -10,5 +10,6 @@ invariant-loop-k g l = record {
   served : AllServed None l.k 0 l.self.island l.self.ins.items l.self.outs.items;
   ends : length l.self.ins.items ≡ length l.fn.self.ins.items;
   goes : BodyGoes l.fn.self l.self;
+  peers : (l.self.peers.ins ≡ l.fn.self.peers.ins) × (l.self.peers.outs ≡ l.fn.self.peers.outs);
   rest : (l.self.island.used ≡ l.fn.self.island.used) × (l.self.spent ≡ l.fn.self.spent);
 }

@@ -14,6 +14,7 @@ loop-k-preserved g c =
       served = subst (λ (n : ℕ). AllServed None n (c.loop-k.k + 1) c.serve_out.new.self.island c.serve_out.new.self.ins.items c.serve_out.new.self.outs.items) (sym t.count.0) (t.served (length c.loop-k.self.ins.items) (c.loop-k.k + 1) (λ x at. served_next_out (length c.loop-k.self.ins.items) c.loop-k.k x _ _ _ at i.served));
       ends = t.count.1 ∙ i.ends;
       goes = goes_on _ _ _ i.goes t.goes;
+      peers = (t.peers.0 ∙ i.peers.0, t.peers.1 ∙ i.peers.1);
       rest = (t.rest.0 ∙ i.rest.0, t.rest.1 ∙ i.rest.1);
     }
 

@@ -3,6 +3,8 @@ use Rattle.std.proofs.Common.{◌≡◌, ◌≤◌, ◌+◌, ◌-◌, length}
 use Rattle.fused_net.specs.Costs.{Uses}
 use Rattle.island_body.specs.Ends.{all_taken, all_finds, AllDone}
 use Rattle.island_body.specs.Keeping.{BodyStands, BodyGoes}
+use Rattle.island_body.specs.Telling.{WakesOn}
+use Rattle.island_body.specs.Moving.{OnlyIn}
 use Rattle.island_body.proofs.body.Body.take_from.Given as goal
 
 abbrev pub invariant-loop-count : goal.invariant-loop-count
@@ -11,6 +13,8 @@ invariant-loop-count g l = record {
   served : AllDone l.self.island l.self.ins.items l.self.outs.items;
   ends : length l.self.ins.items ≡ length l.fn.self.ins.items;
   goes : BodyGoes l.fn.self l.self;
+  wakes : WakesOn l.fn.self l.self;
+  only : OnlyIn l.fn.self l.self l.k;
   uses : Uses l.fn.self.island.net l.self.island.net 0;
   more : l.fn.used ≤ l.count;
   less : l.count ≤ l.limit;

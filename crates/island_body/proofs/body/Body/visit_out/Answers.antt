@@ -11,6 +11,8 @@ use Rattle.std.specs.Prelude.{ℕ}
 use Rattle.output_boundary.specs.Sending.{VisitIs, unit_of}
 use Rattle.output_boundary.specs.declared.found.Found.{Found}
 use Rattle.output_boundary.specs.declared.found.Found.TheVariants.{Nothing, Demand, Cancelled}
+use Rattle.island_body.proofs.Looking.{only_out_here, saw_all_here}
+use Rattle.island_body.proofs.Telling.{wakes_looked_out}
 use Rattle.island_body.proofs.body.Body.visit_out.Goals as goal
 
 is_nothing : (f : Found) → unit_of f ≡ 0 → f ≡ Nothing
@@ -71,3 +73,18 @@ returns-clause-none g c z =
       here = found_none_here b.outs.items c.args.k c.index_mut.result.now c.visit.new.self at (record { seen_is = f.0; cancel_is = f.1; told = c.visit.ensures.told });
       others = λ j ne. get_set_other b.outs.items c.args.k j c.visit.new.self ne;
     }
+
+pub returns-clause-only : goal.returns-clause-only
+returns-clause-only g c = only_out_here c.args.self.now _ c.args.k c.visit.new.self refl refl
+
+pub returns-clause-last : goal.returns-clause-last
+returns-clause-last g c =
+    let b = c.args.self.now in
+    let at = at_index b.outs.items c.args.k c.index_mut.result.now c.requires.within c.index_mut.ensures.value in
+    saw_all_here b.outs.items c.args.k c.index_mut.result.now c.visit.new.self at (record { told = c.visit.ensures.told })
+
+pub returns-clause-wakes : goal.returns-clause-wakes
+returns-clause-wakes g c =
+    let b = c.args.self.now in
+    let at = at_index b.outs.items c.args.k c.index_mut.result.now c.requires.within c.index_mut.ensures.value in
+    wakes_looked_out b _ c.args.k c.index_mut.result.now c.visit.new.self at refl refl refl c.visit.ensures.wire.2

@@ -1,0 +1,69 @@
+// The islands that a body wakes.
+ghost use Rattle.std.specs.Prelude.{◌≡◌, ◌<◌, ◌∷◌, ◌++◌, [], ℕ, IfOk, ◌||◌, ◌==◌};
+ghost use Rattle.port_core.specs.Ring.{holds, Distinct};
+
+use elem_core::why::NoMemory;
+use std::alloc::Global;
+use std::marker::Model;
+
+/// The islands that are to be woken, each once. Rule: own.
+#[derive(Drop)]
+pub struct Woken {
+    islands: Vec<u32>,
+    // Whether each island is among them, so that this is known without a search.
+    marks: Vec<bool>,
+}
+
+impl Model for Woken {
+    ghost use Rattle.std.specs.Prelude.{length, vec_capacity};
+    ghost use Rattle.port_core.specs.Ring.{Ring, Marked};
+
+    ghost Value = { Ring };
+
+    ghost view = { λ w. record { size = length w.marks.items; queue = w.islands.items } };
+
+    ghost invariant = { λ w. Marked w.islands.items w.marks.items (vec_capacity w.islands) };
+}
+
+impl Woken {
+    // None of the islands 0 to `n` - 1.
+    pub(crate) fn none_of(alloc: Global, n: usize) -> Result<Woken, NoMemory>
+        ensures { IfOk result (λ w. w ≡ record { size = n; queue = [] }) }
+    {
+        let islands = Vec::with_capacity(alloc, n)?;
+        let marks = vec![in alloc; false; n]?;
+        Ok(Woken { islands, marks })
+    }
+
+    // This island, too. It takes no memory.
+    pub(crate) fn add(&mut self, island: u32)
+        requires within { island < self.old.size }
+        ensures size { self.new.size ≡ self.old.size }
+        ensures holds { (w : ℕ) → holds self.new.queue w ≡ (holds self.old.queue w || (island == w)) }
+        ensures once { Distinct self.new.queue }
+    {
+        let place = island as usize;
+        if self.marks[place] {
+            return;
+        }
+        self.marks[place] = true;
+        self.islands.push_reserved(island);
+    }
+
+    // None any more. It takes no memory.
+    pub(crate) fn clear(&mut self)
+        ensures { self.new ≡ record self.old { queue = [] } }
+    {
+        while let Some(island) = self.islands.pop() {
+            self.marks[island as usize] = false;
+        }
+    }
+
+    // Those that are, in the order in which they were added.
+    pub(crate) fn islands(&self) -> &[u32]
+        ensures islands { result.now ≡ self.now.queue }
+        ensures once { Distinct self.now.queue }
+    {
+        &self.islands
+    }
+}

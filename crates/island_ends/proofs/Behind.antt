@@ -23,7 +23,8 @@ those_none : {X Y : Type 0} (f : X → Option Y) (more : List X) → ((k : ℕ) 
 those_none f [] h = refl
 those_none f (x ∷ more) h = ap (λ o. with_one o (those f more)) (h 0 x refl) ∙ those_none f more (λ k y e. h (suc k) y e)
 
-no_more : {X Y : Type 0} (f : X → Option Y) (xs more : List X) → ((k : ℕ) (x : X) → slice_get more k ≡ Some x → f x ≡ None) → those f (xs ++ more) ≡ those f xs
+-- items that leave nothing behind others change nothing
+pub no_more : {X Y : Type 0} (f : X → Option Y) (xs more : List X) → ((k : ℕ) (x : X) → slice_get more k ≡ Some x → f x ≡ None) → those f (xs ++ more) ≡ those f xs
 no_more f xs more h = those_behind f xs more ∙ (ap (λ t. those f xs ++ t) (those_none f more h) ∙ append-nil (those f xs))
 
 module _ {S D : Type 0} where

@@ -26,12 +26,14 @@ take_front [] [] = refl
 take_front [] (y ∷ ys) = refl
 take_front (x ∷ xs) ys = ap (λ t. x ∷ t) (take_front xs ys)
 
-at_place : {X : Type 0} (xs : List X) (k : ℕ) → k < length xs → (x : X) × (slice_get xs k ≡ Some x)
+-- an item stands at each place
+pub at_place : {X : Type 0} (xs : List X) (k : ℕ) → k < length xs → (x : X) × (slice_get xs k ≡ Some x)
 at_place [] k l = absurd (omega (arith, l))
 at_place (x ∷ xs) zero l = (x, refl)
 at_place (x ∷ xs) (suc k) l = at_place xs k (omega (arith, l))
 
-items_there : {E Z : Type 0} (g : E → Vec Z Global) (ends : List E) (k : ℕ) (e : E) → slice_get ends k ≡ Some e → items_at (map g ends) k ≡ (g e).items
+-- the items of the list of the end at a place
+pub items_there : {E Z : Type 0} (g : E → Vec Z Global) (ends : List E) (k : ℕ) (e : E) → slice_get ends k ≡ Some e → items_at (map g ends) k ≡ (g e).items
 items_there g [] k e t = cc
 items_there g (x ∷ ends) zero e t = let s : x ≡ e = cc in ap (λ y. (g y).items) s
 items_there g (x ∷ ends) (suc k) e t = items_there g ends k e t
@@ -39,6 +41,17 @@ items_there g (x ∷ ends) (suc k) e t = items_there g ends k e t
 -- the lists can be gathered, and all of it is in what is gathered
 abbrev pub Joins : {Y Z : Type 0} → (Z → Y) → List ℕ → List (Vec Z Global) → List Y → Type 0
 Joins v hs lists ys = (AreWhole hs lists) × ((r : List _) → AreShares hs r lists → map v r ≡ ys)
+
+-- the same where each list is known by the share that it is
+pub join_shares : {E Z : Type 0} (g : E → Vec Z Global) (ends : List E) (homes : List ℕ) (ys : List Z) → All (λ h. h < length ends) homes → length ys ≡ length homes → ((k : ℕ) (e : E) → slice_get ends k ≡ Some e → (g e).items ≡ of_home homes k ys)
+    → (hs : List ℕ) → hs ≡ homes → (lists : List (Vec Z Global)) → lists ≡ map g ends → (AreWhole hs lists) × ((r : List Z) → AreShares hs r lists → r ≡ ys)
+join_shares {Z = Z} g ends homes ys below each shares hs eh lists el =
+    let many = length-map ends g in
+    let under : All (λ h. h < length (map g ends)) homes = subst (λ m. All (λ h. h < m) homes) (sym many) below in
+    let is : (k : ℕ) → k < length (map g ends) → map (λ (z : Z). z) (items_at (map g ends) k) ≡ of_home homes k ys =
+    λ k l. items_of (λ (z : Z). z) g ends k (of_home homes k ys) (omega (arith, l, many)) (λ e t. map_same (g e).items ∙ shares k e t) in
+    let w : AreWhole homes lists = subst (AreWhole homes) (sym el) (whole (λ (z : Z). z) homes ys (map g ends) under each is) in
+    (subst (λ hs. AreWhole hs lists) (sym eh) w, λ r s. sym (map_same r) ∙ gathered (λ (z : Z). z) homes ys (map g ends) under each is r (subst (AreShares homes r) el (subst (λ hs. AreShares hs r lists) eh s)))
 
 module _ {S D : Type 0} (w : Whole S D) (ends : List (IslandEnd S D)) (a : AreEndsOf w ends) where
   joins : {X Y Z : Type 0} (v : Z → Y) (g : IslandEnd S D → Vec Z Global) (f : X → Option Y) (xs : List X) → length xs ≡ length w.homes → ((k : ℕ) (e : IslandEnd S D) → slice_get ends k ≡ Some e → map v (g e).items ≡ those f (of_home w.homes k xs))

@@ -76,7 +76,8 @@ items_of v g [] k ys l h = absurd (omega (arith, l))
 items_of v g (e ∷ ends) zero ys l h = h e refl
 items_of v g (e ∷ ends) (suc k) ys l h = items_of v g ends k ys (omega (arith, l)) h
 
-less_or : (j w : ℕ) → (P : Type 0) → (j < w → P) → (w ≤ j → P) → P
+-- a number is below another or not
+pub less_or : (j w : ℕ) → (P : Type 0) → (j < w → P) → (w ≤ j → P) → P
 less_or zero zero P f g = g (omega arith)
 less_or zero (suc w) P f g = f (omega arith)
 less_or (suc j) zero P f g = g (omega arith)

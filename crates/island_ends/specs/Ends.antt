@@ -122,3 +122,12 @@ pub record IsWholeEnd {S D : Type 0} (w : Whole S D) (e : IslandEnd S D) : Type 
   pub picks : map pick_of e.picks.items ≡ picks_of w.numbers w.nodes
   pub readers : e.readers.items ≡ readers_of w.nodes
   pub writers : e.writers.items ≡ writers_of w.nodes
+
+-- The ends of all islands have these handles, each the share of its island.
+pub record AreHandlesOf {S D : Type 0} (homes : EndHomes) (readers : List S) (writers : List D) (ends : List (IslandEnd S D)) : Type 0 where
+  pub readers_below : All (λ h. h < length ends) homes.readers.items
+  pub writers_below : All (λ h. h < length ends) homes.writers.items
+  pub readers_each : length readers ≡ length homes.readers.items
+  pub writers_each : length writers ≡ length homes.writers.items
+  pub reader_shares : (k : ℕ) (e : IslandEnd S D) → slice_get ends k ≡ Some e → e.readers.items ≡ of_home homes.readers.items k readers
+  pub writer_shares : (k : ℕ) (e : IslandEnd S D) → slice_get ends k ≡ Some e → e.writers.items ≡ of_home homes.writers.items k writers

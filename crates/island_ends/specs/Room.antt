@@ -53,9 +53,9 @@ pub record IsEmptyEnd {S D : Type 0} (homes : EndHomes) (e : IslandEnd S D) : Ty
   pub room_for_readers : length homes.readers.items ≤ vec_capacity e.readers
   pub room_for_writers : length homes.writers.items ≤ vec_capacity e.writers
 
--- there is all memory for the ends of so many islands
-pub record IsRoomFor {S D : Type 0} (count : ℕ) (r : EndRoom S D) : Type 0 where
+-- there is all memory for the ends of so many islands, which leave what has these homes
+pub record IsRoomFor {S D : Type 0} (homes : EndHomes) (count : ℕ) (r : EndRoom S D) : Type 0 where
   pub counts_many : length r.counts.items ≡ count
-  pub counts_are : (k : ℕ) → k < count → slice_index r.counts.items k ≡ count_of k r.homes.wires.items
+  pub counts_are : (k : ℕ) → k < count → slice_index r.counts.items k ≡ count_of k homes.wires.items
   pub lists : AreEmptyLists count r.lists
-  pub end : IsEmptyEnd r.homes r.end
+  pub end : IsEmptyEnd homes r.end

@@ -1,10 +1,10 @@
 // The ends of islands are brought back into one.
-ghost use Rattle.std.specs.Prelude.{◌≡◌, ℕ, vec_len};
-ghost use Rattle.island_ends.specs.Ends.{Whole, AreEndsOf, AreHomesOf, IsWholeEnd};
+ghost use Rattle.std.specs.Prelude.{◌≡◌, List, vec_len};
+ghost use Rattle.island_ends.specs.Ends.{Whole, AreEndsOf, AreHomesOf, AreHandlesOf, IsWholeEnd};
 ghost use Rattle.island_ends.specs.Room.{IsRoomFor};
 
 use crate::lists::{cut, sort};
-use crate::room::EndRoom;
+use crate::room::{EndHomes, EndRoom};
 use interpreter::island::IslandEnd;
 use scatter::shares::gather;
 use stream_io::outside::{Drain, Source};
@@ -13,18 +13,14 @@ use stream_io::outside::{Drain, Source};
 /// are those at the outputs of its wires, in their order. It takes no memory. Rule: own.
 pub fn join_ends<S: Source, D: Drain>(
     ends: Vec<IslandEnd<S, D>>,
+    homes: &EndHomes,
     room: EndRoom<S, D>,
 ) -> IslandEnd<S, D>
-    requires room { IsRoomFor (vec_len ends) room }
-    requires ends { (w : Whole S D) × (AreEndsOf w ends.items) × (AreHomesOf w room.homes) }
-    ensures { (w : Whole S D) → AreEndsOf w ends.items → AreHomesOf w room.homes → IsWholeEnd w result }
+    requires room { IsRoomFor homes.now (vec_len ends) room }
+    requires ends { (w : Whole S D) × (AreEndsOf w ends.items) × (AreHomesOf w homes.now) }
+    ensures { (w : Whole S D) → AreEndsOf w ends.items → AreHomesOf w homes.now → IsWholeEnd w result }
 {
-    let EndRoom {
-        homes,
-        counts,
-        lists,
-        end,
-    } = room;
+    let EndRoom { counts, lists, end } = room;
     let mut lists = sort(ends, lists);
     cut(&mut lists.wires, &counts);
     IslandEnd {
@@ -33,5 +29,34 @@ pub fn join_ends<S: Source, D: Drain>(
         picks: gather(&homes.picks, lists.picks, end.picks),
         readers: gather(&homes.readers, lists.readers, end.readers),
         writers: gather(&homes.writers, lists.writers, end.writers),
+    }
+}
+
+/// Brings the handles of all islands, whose ends stand in their order, back into one end: each list is in order of the blueprint's nodes,
+/// and the end lists nothing else. It takes no memory. Rule: own.
+pub fn join_handles<S: Source, D: Drain>(
+    ends: Vec<IslandEnd<S, D>>,
+    homes: &EndHomes,
+    room: EndRoom<S, D>,
+) -> IslandEnd<S, D>
+    requires room { IsRoomFor homes.now (vec_len ends) room }
+    requires ends { (readers : List S) × ((writers : List D) × AreHandlesOf homes.now readers writers ends.items) }
+    ensures readers { (readers : List S) (writers : List D) → AreHandlesOf homes.now readers writers ends.items → result.readers.items ≡ readers }
+    ensures writers { (readers : List S) (writers : List D) → AreHandlesOf homes.now readers writers ends.items → result.writers.items ≡ writers }
+{
+    let EndRoom {
+        counts: _,
+        lists,
+        end,
+    } = room;
+    let lists = sort(ends, lists);
+    let readers = gather(&homes.readers, lists.readers, end.readers);
+    let writers = gather(&homes.writers, lists.writers, end.writers);
+    IslandEnd {
+        sinks: end.sinks,
+        wires: end.wires,
+        picks: end.picks,
+        readers,
+        writers,
     }
 }

@@ -27,7 +27,6 @@ pub struct EndHomes {
 /// All that bringing back takes of memory.
 #[derive(Drop)]
 pub struct EndRoom<S: Source, D: Drain> {
-    pub homes: EndHomes,
     /// Of each island how many wires have their output there.
     pub counts: Vec<usize>,
     pub lists: EndLists<S, D>,
@@ -52,19 +51,13 @@ fn empty_end<S: Source, D: Drain>(
 
 impl<S: Source, D: Drain> EndRoom<S, D> {
     /// The room for the ends of so many islands, which leave what has these homes. Rule: own.
-    pub fn of(alloc: Global, homes: EndHomes, count: usize) -> Result<EndRoom<S, D>, NoMemory>
-        requires { All (λ h. h < count) homes.wires.items }
-        ensures homes { IfOk result (λ room. room.homes ≡ homes) }
-        ensures room { IfOk result (λ room. IsRoomFor count room) }
+    pub fn of(alloc: Global, homes: &EndHomes, count: usize) -> Result<EndRoom<S, D>, NoMemory>
+        requires { All (λ h. h < count) homes.now.wires.items }
+        ensures { IfOk result (IsRoomFor homes.now count) }
     {
         let counts = ranks_of(alloc, &homes.wires, count)?.counts;
         let lists = EndLists::of(alloc, count)?;
-        let end = empty_end(alloc, &homes)?;
-        Ok(EndRoom {
-            homes,
-            counts,
-            lists,
-            end,
-        })
+        let end = empty_end(alloc, homes)?;
+        Ok(EndRoom { counts, lists, end })
     }
 }

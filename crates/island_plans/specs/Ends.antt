@@ -4,7 +4,7 @@ use Rattle.stream_model.specs.Graph.{Wire}
 use Rattle.blue_core.specs.declared.blueprint.Node.{Node}
 use Rattle.blue_rules.specs.Picks.{picks}
 use Rattle.materializer.specs.Files.{input_of, output_of, is_sink}
-use Rattle.island_plans.specs.declared.ends.EndHomes.{EndHomes}
+use Rattle.island_ends.specs.declared.room.EndHomes.{EndHomes}
 use Rattle.island_plans.specs.declared.ends.EndList.{EndList}
 use Rattle.island_plans.specs.declared.ends.EndList.TheVariants.{Sinks, Picks, Readers, Writers}
 

@@ -8,6 +8,7 @@ use blue_core::blueprint::Node;
 use blue_names::links::Link;
 use blue_walks::ranks::rank_of;
 use elem_core::why::NoMemory;
+use island_ends::room::EndHomes;
 use materializer::names::{input_of, is_sink, output_of};
 use std::alloc::Global;
 
@@ -22,21 +23,6 @@ pub enum EndList {
     Readers,
     /// The drains that its sinks with a file wrote.
     Writers,
-}
-
-/// The islands whose ends list what the nodes and wires of a blueprint leave, each in the order of nodes or of wires. Rule: own.
-#[derive(Drop)]
-pub struct EndHomes {
-    /// Of each sink.
-    pub sinks: Vec<usize>,
-    /// Of each stage whose kind chooses.
-    pub picks: Vec<usize>,
-    /// Of each source of lines.
-    pub readers: Vec<usize>,
-    /// Of each sink with a file.
-    pub writers: Vec<usize>,
-    /// Of each wire, where it begins.
-    pub wires: Vec<usize>,
 }
 
 /// Whether a node leaves an item in this list of its island's end. It takes no memory. Rule: own.

@@ -4,13 +4,14 @@ ghost use Rattle.materializer.specs.Built.{CanRun};
 ghost use Rattle.materializer.specs.Files.{inputs_of_nodes, outputs_of_nodes};
 ghost use Rattle.island_plans.specs.Plans.{IsPlans, IsFilled};
 
-use crate::ends::{EndHomes, end_homes};
+use crate::ends::end_homes;
 use crate::homes::{copy_of, homes_of_links};
 use blue_core::blueprint::Blueprint;
 use blue_names::links::links_of;
 use elem_core::why::NoMemory;
 use interpreter::parts::{Parts, Seated};
 use interpreter::room::Room;
+use island_ends::room::EndHomes;
 use island_parts::laws::islands_have_parts;
 use island_parts::split::{Split, join, split_of};
 use island_parts::whole::whole_seats;

@@ -1,12 +1,13 @@
 -- The islands of a blueprint, whose nodes hold their handles, are seated, and its lanes can be made.
-use Rattle.std.specs.Prelude.{slice_get, slice_index, nat_le}
+use Rattle.std.specs.Prelude.{slice_get, slice_index, map, nat_le}
+use Rattle.std.specs.List.{All}
 use Rattle.std.specs.Option.{option_or, option_map}
 use Rattle.std.proofs.Common.{◌≡◌, ℕ, zero, suc, ◌+◌, ◌<◌, ◌≤◌, ◌^◌, Bool, true, false, not, List, [], ◌∷◌, ◌++◌, length, Option, Some, None, refl, sym, ap, ◌∙◌, subst, arith}
 use Rattle.std.proofs.lemmas.Bool.{and_parts}
 use Rattle.std.proofs.lemmas.Bool.Decides.{nat_tests}
 use Rattle.std.proofs.lemmas.List.{length-map}
-use Rattle.std.proofs.lemmas.List.Elements.{All-get_or}
-use Rattle.std.proofs.lemmas.Option.{slice_get_within}
+use Rattle.std.proofs.lemmas.List.Elements.{All-get_or, All-from_get_or}
+use Rattle.std.proofs.lemmas.Option.{slice_get_within, slice_get-map, get_or_from_slice_get}
 use Rattle.stream_model.specs.Graph.{Wire}
 use Rattle.stream_model.specs.Graph as graph
 use Rattle.stream_model.specs.Composed.{inputs_of}
@@ -32,6 +33,7 @@ use Rattle.materializer.specs.Graphs.{graph_of, node_of}
 use Rattle.materializer.proofs.Fitting.{fit_joined}
 use Rattle.materializer.proofs.Joining.{both_none, none_here, not_when, mapped_from}
 use Rattle.materializer.proofs.Placing.{seats_count, seats_ports}
+use Rattle.island_plans.specs.Ends.{wire_home}
 use Rattle.island_plans.specs.Plans.{IsPlans, IsFilled}
 use Rattle.island_plans.specs.declared.plans.Filled.{Filled}
 use Rattle.island_plans.specs.declared.plans.Plans.{Plans}
@@ -119,6 +121,12 @@ module _ (b : Blueprint) (plugs : List PlugHead) (taken : List (List ℕ)) (fit 
       let fits : lane_fits (m.0).lane ≡ true = not_true (lane_fits (m.0).lane) (not_when (not (lane_fits (m.0).lane)) i (none_here (λ k (w : WireDecl). when (not (lane_fits w.lane)) k) b.wires.items i m.0 no_wrong_wire m.1.0)) in
       lane_within (m.0).lane size is fits
 
+-- what stands at a place of a list
+wire_there : (ws : List Wire) (n : ℕ) → n < length ws → (w : Wire) × (slice_get ws n ≡ Some w)
+wire_there [] n lt = absurd (omega (arith, lt))
+wire_there (w ∷ ws) zero lt = (w, refl)
+wire_there (w ∷ ws) (suc n) lt = wire_there ws n (omega (arith, lt))
+
 -- ---- islands whose nodes hold their handles
 
 module _ {S D : Type 0} where
@@ -161,6 +169,24 @@ module _ {S D : Type 0} where
   -- plans of islands have the lanes of their blueprint
   pub lanes_rise : (p : Plans S D) → IsPlans p → AreRising p.lanes.items
   lanes_rise p is = subst AreRising (sym is.lanes_are) (λ m n l k lt at bt. rising p.homes.items 0 (blueprint_wires p.blueprint.value) m n l k lt at bt)
+
+  -- each wire begins in an island
+  pub wires_begin : (p : Plans S D) → IsPlans p → All (λ h. h < p.count) p.ends.wires.items
+  wires_begin p is =
+      let b = p.blueprint.value in
+      let homes = p.homes.items in
+      let ws = blueprint_wires b in
+      let joined : IsJoined (graph_of b) = fit_joined b is.runs.plugs is.runs.taken is.runs.fit in
+      All-from_get_or (λ h. h < p.count) p.ends.wires.items 0 (λ i lt.
+      let size : length p.ends.wires.items ≡ length ws = ap length is.ends_are.wires_are ∙ length-map ws (wire_home homes) in
+      let w = wire_there ws i (omega (arith, size, lt)) in
+      let source = joined.source i w.0 w.1 in
+      let first = mapped_from node_of b.nodes.items w.0.from source.0 source.1 in
+      let out = slice_get_within b.nodes.items w.0.from first.0 first.1.0 in
+      let many = is.homes_are.are.each in
+      let below : slice_index homes w.0.from < p.count = All-get_or (λ h. h < p.count) homes w.0.from 0 (omega (arith, out, many)) is.homes_are.below in
+      let here : slice_get p.ends.wires.items i ≡ Some (wire_home homes w.0) = ap (λ (hs : List ℕ). slice_get hs i) is.ends_are.wires_are ∙ slice_get-map (wire_home homes) ws i ∙ ap (option_map (wire_home homes)) w.1 in
+      subst (λ (h : ℕ). h < p.count) (sym (get_or_from_slice_get p.ends.wires.items i (wire_home homes w.0) 0 here)) below)
 
   pub lanes_made : (p : Plans S D) → IsPlans p → CanAllBeMade p.count p.lanes.items
   lanes_made p is = λ n l here.

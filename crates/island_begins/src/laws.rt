@@ -1,5 +1,5 @@
 // Laws of islands that are filled and have started, and of the ends of the lanes between them: each function has no body, and its contract is the law.
-ghost use Rattle.std.specs.Prelude.{◌≡◌, ℕ, List, slice_get, Some};
+ghost use Rattle.std.specs.Prelude.{◌≡◌, ◌<◌, ℕ, List, All, slice_get, Some};
 ghost use Rattle.stream_model.specs.Graph.{Wire};
 ghost use Rattle.blue_core.specs.declared.blueprint.Blueprint.{Blueprint};
 ghost use Rattle.blue_check.specs.Wires.{blueprint_wires};
@@ -41,8 +41,8 @@ pub fn made_bodies_are_of_their_blueprint<S: Source, D: Drain>()
         → AreLanes homes ws bodies e.crossings.items }
 {}
 
-/// Plans of the islands of a blueprint have few links (`few`); both ends of each lane can be made (`lanes`), and the lanes are in the
-/// order of their wires (`rise`). Where links are few, the nodes of its islands that hold their handles are seated (`seated`); they are
+/// Plans of the islands of a blueprint have few links (`few`); each wire begins in one of them (`homes`); both ends of each lane can be
+/// made (`lanes`), and the lanes are in the order of their wires (`rise`). Where links are few, the nodes of its islands that hold their handles are seated (`seated`); they are
 /// those of its graph (`graph`), and its islands have the parts of them (`parts`). Rule: own.
 pub fn filled_islands_are_seated<S: Source, D: Drain>()
     ensures few { (p : Plans S D) → IsPlans p → HasFewLinks p.blueprint.value }
@@ -50,6 +50,7 @@ pub fn filled_islands_are_seated<S: Source, D: Drain>()
     ensures graph { (b : Blueprint) (ss : List S) (ds : List D) (f : Filled S D) → (filled : IsFilled b ss ds f) → IsGraphOf (graph_of b) (blueprint_wires b) filled.nodes }
     ensures parts { (b : Blueprint) (ss : List S) (ds : List D) (f : Filled S D) (k : ℕ) (x : Parts S D × Room S D) → (filled : IsFilled b ss ds f) → slice_get f.islands.items k ≡ Some x
         → ArePartsOf f.homes.items (blueprint_wires b) filled.nodes k x.0 }
+    ensures homes { (p : Plans S D) → IsPlans p → All (λ h. h < p.count) p.ends.wires.items }
     ensures lanes { (p : Plans S D) → IsPlans p → CanAllBeMade p.count p.lanes.items }
     ensures rise { (p : Plans S D) → IsPlans p → AreRising p.lanes.items }
 {}

@@ -1,0 +1,5 @@
+pub mod Lists
+pub mod Ways
+pub mod Starting
+pub mod Making
+pub mod Staying

@@ -1,0 +1,23 @@
+-- What each wire is told to have carried, and of how many elements its lane was asked.
+use Rattle.std.specs.Prelude.{ℕ, ◌+◌, ◌==◌, if◌then◌else◌, List, [], ◌∷◌}
+use Rattle.stream_model.specs.Graph.{Wire}
+use Rattle.stream_model.specs.declared.outcome.WireCount.{WireCount}
+use Rattle.wire_core.specs.Cell.{Cell}
+use Rattle.interpreter.specs.Island.{count_of}
+use Rattle.traversal.specs.declared.plan.LanePlan.{LanePlan}
+
+-- the number of each wire, and how its connection at the output stands, where the first is wire u
+abbrev pub told_from : (ℕ → Cell) → ℕ → List Wire → List (ℕ × WireCount)
+told_from near u [] = []
+told_from near u (v ∷ vs) = (u, count_of (near u)) ∷ told_from near (u + 1) vs
+
+-- of the wire of a number how many elements its lane was asked for in all, where these were asked of the lanes; 0 where it is no lane
+abbrev pub asked_by : List LanePlan → List ℕ → ℕ → ℕ
+asked_by [] all u = 0
+asked_by (l ∷ ls) [] u = 0
+asked_by (l ∷ ls) (a ∷ more) u = if l.wire == u then a else asked_by ls more u
+
+-- how many elements passed all wires
+abbrev pub all_sent : List WireCount → ℕ
+all_sent [] = 0
+all_sent (c ∷ cs) = c.sent + all_sent cs

@@ -1,0 +1,4 @@
+pub mod Asking
+pub mod Drawing
+pub mod Places
+pub mod Spending

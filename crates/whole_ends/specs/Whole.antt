@@ -1,0 +1,35 @@
+-- All that the bodies of a blueprint's islands leave, in order of its nodes and wires.
+use Rattle.std.specs.Prelude.{◌≡◌, ℕ, List, ◌++◌, length, map}
+use Rattle.stream_model.specs.Composed.{count_from}
+use Rattle.stream_model.specs.Graph.{Wire}
+use Rattle.wire_core.specs.Cell.{Cell}
+use Rattle.nodes.specs.declared.node.Node.{Node}
+use Rattle.interpreter.specs.Island.{sinks_of, readers_of, writers_of}
+use Rattle.interpreter.specs.Picks.{node_number, pick_of, picks_of}
+use Rattle.interpreter.specs.declared.island.IslandEnd.{IslandEnd}
+use Rattle.interpreter.specs.declared.parts.Seated.{Seated}
+use Rattle.traversal.specs.Plan.{lanes_from}
+use Rattle.island_parts.specs.Whole.{whole_seats}
+use Rattle.island_plans.specs.Ends.{wire_home}
+use Rattle.island_seats.specs.Islands.{place_homes}
+use Rattle.island_ends.specs.Ends.{Whole}
+use Rattle.bodies_run.specs.Counts.{told_from}
+
+-- the nodes of the blueprint and the ends of its lanes, with the numbers of what was handed in for them, and its wires, which stand so at
+-- their outputs
+abbrev pub whole_of : {S D : Type 0} → List ℕ → List Wire → List (Seated S D) → (ℕ → Cell) → List (Node S D) → List (Node S D) → Whole S D
+whole_of homes ws nodes near last ends = record {
+  homes = place_homes homes ws;
+  nodes = last ++ ends;
+  numbers = map node_number (whole_seats nodes (lanes_from homes 0 ws));
+  wire_homes = map (wire_home homes) ws;
+  counts = told_from near 0 ws;
+}
+
+-- this is left by these nodes, in their order, and by wires that stand so at their outputs
+pub record IsLeftBy {S D : Type 0} (ws : List Wire) (near : ℕ → Cell) (nodes : List (Node S D)) (e : IslandEnd S D) : Type 0 where
+  pub sinks : e.sinks.items ≡ sinks_of nodes
+  pub picks : map pick_of e.picks.items ≡ picks_of (count_from 0 (length nodes)) nodes
+  pub wires : e.wires.items ≡ told_from near 0 ws
+  pub readers : e.readers.items ≡ readers_of nodes
+  pub writers : e.writers.items ≡ writers_of nodes

@@ -1,0 +1,84 @@
+-- What bodies that ran leave is what a run of their blueprint leaves.
+use Rattle.std.specs.Prelude.{slice_get}
+use Rattle.std.specs.List.{All}
+use Rattle.std.proofs.Common.{◌≡◌, ℕ, ◌+◌, ◌≤◌, Bool, true, false, IsTrue, List, length, map, refl, sym, ap, ◌∙◌, subst}
+use Rattle.blue_check.specs.Wires.{blueprint_wires}
+use Rattle.blue_core.specs.declared.blueprint.Blueprint.{Blueprint}
+use Rattle.stream_io.specs.State.{SourceState, DrainState}
+use Rattle.stream_model.specs.declared.outcome.WireCount.{WireCount}
+use Rattle.stream_picture.specs.Shape.{count_needed}
+use Rattle.wire_core.specs.Cell.{Cell}
+use Rattle.nodes.specs.Nodes.{KeepsNode}
+use Rattle.nodes.specs.declared.node.Node.{Node}
+use Rattle.fused_net.specs.Laws.{AllKept}
+use Rattle.interpreter.specs.Island.{readers_of, writers_of}
+use Rattle.interpreter.specs.declared.island.IslandEnd.{IslandEnd}
+use Rattle.interpreter.specs.declared.parts.Seated.{Seated}
+use Rattle.run_account.specs.Account.{Account, IsStill}
+use Rattle.run_account.specs.Pictures.{counts_of}
+use Rattle.run_laws.specs.Runs.{IsRun}
+use Rattle.materializer.specs.Graphs.{graph_of}
+use Rattle.materializer.specs.Seats.{AreSeats}
+use Rattle.bodies_run.specs.Leaving.{AreLeft, of_lists}
+use Rattle.bodies_run.proofs.Alone.{run_alone, still_alone, counts_alone}
+use Rattle.bodies_run.specs.Counts.{all_sent}
+use Rattle.whole_ends.specs.Whole.{IsLeftBy}
+use Rattle.island_runs.specs.Leaving.{Moment, Leaves, LeavesBroken}
+use Rattle.island_runs.specs.declared.run.Stopped.{Stopped}
+
+-- a condition that holds is true
+is_so : (t : Bool) → IsTrue t → t ≡ true
+is_so t h = cc
+
+module _ {S D : Type 0} (sources : S → SourceState) (drains : D → DrainState) (b : Blueprint) (ss : List S) (ds : List D) (nodes : List (Seated S D)) (seats : AreSeats 0 b.nodes.items ss ds nodes) (many : length nodes ≡ length (graph_of b).nodes)
+    (acc : Account (Node S D)) (last : List (Node S D)) (left : AreLeft nodes acc last) (run : IsRun sources drains (graph_of b) acc) where
+  -- the account of the nodes alone
+  abbrev alone : Account (Node S D)
+  alone = of_lists acc left.firsts last
+
+  same : counts_of alone (graph_of b) ≡ counts_of acc (graph_of b)
+  same = counts_alone acc left.firsts last 0 (graph_of b).wires
+
+  -- it is one of the run at this moment
+  moment : Moment sources drains b ss ds alone last
+  moment = record {
+    places = nodes;
+    seats = seats;
+    firsts = left.firsts;
+    become = left.become;
+    first_at = λ k. refl;
+    node_at = λ k. refl;
+    as_many = left.as_many;
+    run = run_alone sources drains (graph_of b) acc nodes last left many run;
+  }
+
+  -- bodies that were taken apart between two events
+  pub leaves : (budget : ℕ) (s : Stopped S D) (near : ℕ → Cell) → (s.at_rest ≡ true → IsStill (graph_of b) acc) → IsLeftBy (blueprint_wires b) near last s.end → s.wires.items ≡ counts_of acc (graph_of b) → s.used ≤ budget → (s.at_rest ≡ false → s.used ≡ budget)
+      → all_sent (counts_of acc (graph_of b)) ≤ s.used → s.used + length (blueprint_wires b) ≤ count_needed (graph_of b) (counts_of acc (graph_of b)) → Leaves sources drains b ss ds budget s
+  leaves budget s near still e wires within spent least most = record {
+    account = alone;
+    nodes = last;
+    moment = moment;
+    still = λ h. still_alone (graph_of b) acc left.firsts last (still (is_so s.at_rest h));
+    sinks = e.sinks;
+    picks = e.picks;
+    wires = wires ∙ sym same;
+    readers = e.readers;
+    writers = e.writers;
+    within = within;
+    spent = spent;
+    least = subst (λ (cs : List WireCount). all_sent cs ≤ s.used) (sym same) least;
+    most = subst (λ (cs : List WireCount). s.used + length (blueprint_wires b) ≤ count_needed (graph_of b) cs) (sym same) most;
+  }
+
+  -- and such as one of which broke off in a turn
+  pub broken : (e : IslandEnd S D) (later : List (Node S D)) → AllKept (KeepsNode sources drains) last later → e.readers.items ≡ readers_of later → e.writers.items ≡ writers_of later → LeavesBroken sources drains b ss ds e
+  broken e later kept readers writers = record {
+    account = alone;
+    last = last;
+    moment = moment;
+    nodes = later;
+    kept = kept;
+    readers = readers;
+    writers = writers;
+  }

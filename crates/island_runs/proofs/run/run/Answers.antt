@@ -1,0 +1,11 @@
+-- The goals of `run::run` that the search leaves.
+use Rattle.island_runs.proofs.run.run.Goals as goal
+
+pub run_bodies-requires-clause-begun : goal.run_bodies-requires-clause-begun
+run_bodies-requires-clause-begun g c = (c.args.prepared.plans.blueprint.value, (c.args.sources.items, (c.args.drains.items, c.in-Ok.ensures.begun)))
+
+pub returns-in-Ok-run_bodies-clause-leaves : goal.returns-in-Ok-run_bodies-clause-leaves
+returns-in-Ok-run_bodies-clause-leaves g c = c.in-Ok-run_bodies.ensures.leaves c.args.prepared.plans.blueprint.value c.args.sources.items c.args.drains.items c.in-Ok.ensures.begun
+
+pub returns-in-Err-run_bodies-clause-breaks : goal.returns-in-Err-run_bodies-clause-breaks
+returns-in-Err-run_bodies-clause-breaks g c = c.in-Err-run_bodies.ensures.breaks c.args.prepared.plans.blueprint.value c.args.sources.items c.args.drains.items c.in-Ok.ensures.begun

@@ -1,0 +1,71 @@
+-- The bodies of a blueprint's islands as they began, as they stand when they are taken apart, and what they go back into.
+use Rattle.std.specs.Prelude.{◌≡◌, ℕ, ◌≤◌, Bool, true, false, List, [], length, vec_capacity}
+use Rattle.std.specs.List.{All, sum_by}
+use Rattle.stream_io.specs.State.{SourceState, DrainState}
+use Rattle.blue_core.specs.declared.blueprint.Blueprint.{Blueprint}
+use Rattle.blue_check.specs.Fitness.{IsFit}
+use Rattle.blue_check.specs.Wires.{blueprint_wires}
+use Rattle.plug_core.specs.declared.head.PlugHead.{PlugHead}
+use Rattle.interpreter.specs.declared.parts.Seated.{Seated}
+use Rattle.traversal.specs.Plan.{lanes_from}
+use Rattle.rounds.specs.Bodies.{AllOf, EachOf, BrokeOff}
+use Rattle.rounds.specs.Crossings.{AreCrossings, AllJoined, AtRest}
+use Rattle.rounds.specs.declared.crossing.Crossing.{Crossing}
+use Rattle.lane_ends.specs.Ends.{AreRising}
+use Rattle.island_ends.specs.Room.{IsRoomFor}
+use Rattle.island_plans.specs.Ends.{AreEndHomes}
+use Rattle.island_body.specs.Keeping.{is_pending, BodyKeeps, BodyGoes, BodyBreaks}
+use Rattle.island_body.specs.Meeting.{BodiesMayMeet, BodiesJoined}
+use Rattle.island_body.specs.declared.body.Body.{Body}
+use Rattle.bodies_account.specs.Bodies.{AreBodiesOf}
+use Rattle.bodies_account.specs.Begun.{AreNumbered, AreAligned}
+use Rattle.materializer.specs.Graphs.{graph_of}
+use Rattle.materializer.specs.Seats.{AreSeats}
+use Rattle.island_runs.specs.declared.run.Remains.{Remains}
+
+module _ {S D : Type 0} (sources : S → SourceState) (drains : D → DrainState) (b : Blueprint) (ss : List S) (ds : List D) where
+  -- These bodies are those of the islands of a blueprint that breaks no rule, over these sources, of which none has handed out a byte,
+  -- and these drains: they were made, and used no unit. These are the crossings of its lanes, and `r` has room for all that they leave.
+  pub record HaveBegun (bodies : List (Body S D)) (crossings : List Crossing) (r : Remains S D) : Type 0 where
+    pub plugs : List PlugHead
+    pub taken : List (List ℕ)
+    pub fit : IsFit b plugs taken
+    pub unread : All (λ s. (sources s).given ≡ 0) ss
+    pub homes : List ℕ
+    pub count : ℕ
+    pub nodes : List (Seated S D)
+    pub seats : AreSeats 0 b.nodes.items ss ds nodes
+    pub bodies_are : AreBodiesOf sources drains (graph_of b) homes count (blueprint_wires b) nodes crossings bodies
+    pub numbered : AreNumbered homes (blueprint_wires b) nodes bodies
+    pub unspent : AllOf (λ (x : Body S D). x.spent ≡ 0) bodies
+    pub meet : AreCrossings BodiesMayMeet bodies crossings
+    pub lanes_are : r.lanes.items ≡ lanes_from homes 0 (blueprint_wires b)
+    pub rise : AreRising r.lanes.items
+    pub many : length crossings ≡ length r.lanes.items
+    pub aligned : AreAligned r.lanes.items crossings bodies
+    pub homes_are : AreEndHomes homes b.nodes.items (blueprint_wires b) r.homes
+    pub room : IsRoomFor r.homes count r.room
+    pub none_ended : r.ends.items ≡ []
+    pub room_to_end : count ≤ vec_capacity r.ends
+    pub none_asked : r.asked.items ≡ []
+    pub room_to_ask : length r.lanes.items ≤ vec_capacity r.asked
+    pub none_counted : r.counts.items ≡ []
+    pub room_to_count : length (blueprint_wires b) ≤ vec_capacity r.counts
+
+  -- They ran in rounds, and these are they now: so many units of a budget were used, and no body has an event where it says so; else all
+  -- units were used.
+  pub record HaveRun (begun now : List (Body S D)) (crossings : List Crossing) (r : Remains S D) (budget used : ℕ) (at_rest : Bool) : Type 0 where
+    pub began : HaveBegun begun crossings r
+    pub keep : AllOf (BodyKeeps sources drains) now
+    pub went : EachOf BodyGoes begun now
+    pub joined : AllJoined BodiesJoined now crossings
+    pub used_is : used ≡ sum_by (λ (x : Body S D). x.spent) now
+    pub within : used ≤ budget
+    pub rest : at_rest ≡ true → AtRest is_pending BodiesJoined now crossings
+    pub more : at_rest ≡ false → used ≡ budget
+
+  -- they ran, and memory was wanting in a turn of one
+  pub record HaveBroken (begun now : List (Body S D)) (crossings : List Crossing) (r : Remains S D) : Type 0 where
+    pub began : HaveBegun begun crossings r
+    pub joined : AllJoined BodiesJoined now crossings
+    pub broke : BrokeOff (BodyKeeps sources drains) BodyGoes (BodyBreaks sources drains) begun now

@@ -1,0 +1,81 @@
+-- What the run of a blueprint leaves, by an account of its nodes and wires at its end. Where they stood, in one island or in many,
+-- it does not say.
+use Rattle.std.specs.Prelude.{◌≡◌, ℕ, ◌+◌, ◌≤◌, false, IsTrue, List, map, length, slice_get}
+use Rattle.blue_core.specs.declared.blueprint.Blueprint.{Blueprint}
+use Rattle.blue_check.specs.Wires.{blueprint_wires}
+use Rattle.stream_model.specs.Composed.{count_from}
+use Rattle.stream_picture.specs.Shape.{count_needed}
+use Rattle.stream_io.specs.State.{SourceState, DrainState}
+use Rattle.nodes.specs.declared.node.Node.{Node}
+use Rattle.nodes.specs.Nodes.{KeepsNode}
+use Rattle.fused_net.specs.Laws.{AllKept}
+use Rattle.interpreter.specs.declared.island.IslandEnd.{IslandEnd}
+use Rattle.interpreter.specs.declared.parts.Seated.{Seated}
+use Rattle.interpreter.specs.Parts.{AllBecome}
+use Rattle.interpreter.specs.Picks.{pick_of, picks_of}
+use Rattle.interpreter.specs.Island.{sinks_of, readers_of, writers_of}
+use Rattle.run_account.specs.Account.{Account, IsStill}
+use Rattle.run_account.specs.Pictures.{counts_of}
+use Rattle.run_laws.specs.Runs.{IsRun}
+use Rattle.materializer.specs.Graphs.{graph_of}
+use Rattle.materializer.specs.Seats.{AreSeats}
+use Rattle.bodies_run.specs.Counts.{all_sent}
+use Rattle.island_runs.specs.declared.run.Stopped.{Stopped}
+use Rattle.island_runs.specs.declared.run.Broken.{Broken}
+use Rattle.island_runs.specs.declared.run.Broken.TheVariants.{Unmade, Within}
+
+-- A moment of the run of a blueprint between two events, by its account: in the order of the blueprint the nodes were handed in as
+-- what stands at these places, over these sources and these drains, and are these now.
+pub record Moment {S D : Type 0} (sources : S → SourceState) (drains : D → DrainState) (b : Blueprint) (ss : List S) (ds : List D) (account : Account (Node S D)) (nodes : List (Node S D)) : Type 0 where
+  pub places : List (Seated S D)
+  pub seats : AreSeats 0 b.nodes.items ss ds places
+  pub firsts : List (Node S D)
+  pub become : AllBecome places firsts
+  pub first_at : (k : ℕ) → account.firsts k ≡ slice_get firsts k
+  pub node_at : (k : ℕ) → account.nodes k ≡ slice_get nodes k
+  pub as_many : length nodes ≡ length firsts
+  pub run : IsRun sources drains (graph_of b) account
+
+-- The run was one of so many units at most, and was taken apart. No event is left where it says so, and else all units were used.
+-- At least so many were used as elements were pushed, and one less at least for each wire than its part of the count over what was
+-- sent.
+pub record Leaves {S D : Type 0} (sources : S → SourceState) (drains : D → DrainState) (b : Blueprint) (ss : List S) (ds : List D) (budget : ℕ) (s : Stopped S D) : Type 0 where
+  pub account : Account (Node S D)
+  pub nodes : List (Node S D)
+  pub moment : Moment sources drains b ss ds account nodes
+  pub still : IsTrue s.at_rest → IsStill (graph_of b) account
+  pub sinks : s.end.sinks.items ≡ sinks_of nodes
+  pub picks : map pick_of s.end.picks.items ≡ picks_of (count_from 0 (length nodes)) nodes
+  pub wires : s.wires.items ≡ counts_of account (graph_of b)
+  pub readers : s.end.readers.items ≡ readers_of nodes
+  pub writers : s.end.writers.items ≡ writers_of nodes
+  pub within : s.used ≤ budget
+  pub spent : s.at_rest ≡ false → s.used ≡ budget
+  pub least : all_sent (counts_of account (graph_of b)) ≤ s.used
+  pub most : s.used + length (blueprint_wires b) ≤ count_needed (graph_of b) (counts_of account (graph_of b))
+
+-- The run is one in which memory was wanting, and was taken apart. Since a last moment between two events each of its nodes has kept
+-- what outlives that.
+pub record LeavesBroken {S D : Type 0} (sources : S → SourceState) (drains : D → DrainState) (b : Blueprint) (ss : List S) (ds : List D) (e : IslandEnd S D) : Type 0 where
+  pub account : Account (Node S D)
+  pub last : List (Node S D)
+  pub moment : Moment sources drains b ss ds account last
+  pub nodes : List (Node S D)
+  pub kept : AllKept (KeepsNode sources drains) last nodes
+  pub readers : e.readers.items ≡ readers_of nodes
+  pub writers : e.writers.items ≡ writers_of nodes
+
+-- these are the handles, each as it was handed in
+pub record HasHandles {S D : Type 0} (sources : S → SourceState) (drains : D → DrainState) (ss : List S) (ds : List D) (e : IslandEnd S D) : Type 0 where
+  pub readers : map sources e.readers.items ≡ map sources ss
+  pub writers : map drains e.writers.items ≡ map drains ds
+
+-- memory was wanting as the run started, or in it
+abbrev pub LeavesBrokenAs : {S D : Type 0} → (S → SourceState) → (D → DrainState) → Blueprint → List S → List D → Broken S D → Type 0
+LeavesBrokenAs sources drains b ss ds (Unmade e) = HasHandles sources drains ss ds e
+LeavesBrokenAs sources drains b ss ds (Within e) = LeavesBroken sources drains b ss ds e
+
+-- as many handles are in it as these
+pub record HasAsMany {S D : Type 0} (ss : List S) (ds : List D) (e : IslandEnd S D) : Type 0 where
+  pub readers : length e.readers.items ≡ length ss
+  pub writers : length e.writers.items ≡ length ds

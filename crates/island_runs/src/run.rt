@@ -1,0 +1,258 @@
+// The run of a blueprint's islands, on one thread.
+ghost use Rattle.std.specs.Prelude.{◌≡◌, ◌≤◌, [], ℕ, List, IfOk, IfErr, All, length, map, vec_len, vec_capacity};
+ghost use Rattle.blue_core.specs.declared.blueprint.Blueprint as plan;
+ghost use Rattle.island_body.specs.declared.body.Body as island;
+ghost use Rattle.materializer.specs.Files.{inputs_of_nodes, outputs_of_nodes};
+ghost use Rattle.island_runs.specs.Begun.{HaveBegun, HaveRun, HaveBroken};
+ghost use Rattle.island_runs.specs.Leaving.{HasHandles, Leaves, LeavesBroken, LeavesBrokenAs};
+ghost use Rattle.island_runs.specs.Prepared.{IsPrepared};
+
+use crate::prepare::Prepared;
+use bodies_account::laws::broken_bodies_cover;
+use bodies_begin::laws::{
+    ends_stay_at_their_crossings, made_bodies_begin_their_blueprint, started_islands_begin_bodies,
+};
+use bodies_run::laws::{bodies_leave_a_run, broken_bodies_leave_a_run, nodes_alone_are_a_run};
+use handles_back::laws::unmade_islands_hand_back;
+use interpreter::island::IslandEnd;
+use island_begins::laws::filled_islands_are_seated;
+use island_bodies::asked::{asked_of, note_asked};
+use island_bodies::make::{finish_all, make_all};
+use island_body::body::Body;
+use island_ends::join::{join_ends, join_handles};
+use island_ends::room::{EndHomes, EndRoom};
+use island_starts::start::start_all;
+use lane_counts::laws::{
+    bodies_spent_what_was_sent, noted_counts_are_the_picture, told_asks_are_those_of_lanes,
+};
+use rounds::crossing::Crossing;
+use std::alloc::{AllocError, Global};
+use stream_io::outside::{Drain, Source};
+use stream_model::outcome::WireCount;
+use traversal::plan::LanePlan;
+use whole_ends::laws::{bodies_leave_what_their_nodes_do, broken_bodies_leave_their_handles};
+
+/// A run that was taken apart: what its nodes left, in order of nodes, what each wire carried, how many units were used, and whether no
+/// event was left.
+#[derive(Drop)]
+pub struct Stopped<S: Source, D: Drain> {
+    pub end: IslandEnd<S, D>,
+    pub wires: Vec<WireCount>,
+    pub used: u32,
+    pub at_rest: bool,
+}
+
+/// Where memory was wanting. What was taken apart lists its handles alone.
+#[derive(Drop)]
+pub enum Broken<S: Source, D: Drain> {
+    /// As an island started: nothing was read or written, and the handles are as they were handed in.
+    Unmade(IslandEnd<S, D>),
+    /// In the run: it was taken apart.
+    Within(IslandEnd<S, D>),
+}
+
+/// What the bodies of a blueprint go back into.
+#[derive(Drop)]
+struct Remains<S: Source, D: Drain> {
+    lanes: Vec<LanePlan>,
+    homes: EndHomes,
+    room: EndRoom<S, D>,
+    // Empty, with room for the end of each island.
+    ends: Vec<IslandEnd<S, D>>,
+    // Empty, with room for the asks of each lane.
+    asked: Vec<u64>,
+    // Empty, with room for the count of each wire.
+    counts: Vec<WireCount>,
+}
+
+/// The bodies of a blueprint that were made, and the crossings of its lanes.
+#[derive(Drop)]
+struct Begun<S: Source, D: Drain> {
+    bodies: Vec<Body<S, D>>,
+    crossings: Vec<Crossing>,
+    remains: Remains<S, D>,
+}
+
+/// Starts all islands, and makes their bodies.
+fn begin<S: Source, D: Drain>(
+    alloc: Global,
+    prepared: Prepared<S, D>,
+    sources: Vec<S>,
+    drains: Vec<D>,
+) -> Result<Begun<S, D>, IslandEnd<S, D>>
+    requires prepared { IsPrepared prepared }
+    requires sources { vec_len sources ≡ length (inputs_of_nodes prepared.plans.blueprint.value.nodes.items) }
+    requires drains { vec_len drains ≡ length (outputs_of_nodes prepared.plans.blueprint.value.nodes.items) }
+    requires unread { All (λ s. (S.state s).given ≡ 0) sources.items }
+    ensures begun { IfOk result (λ begun. HaveBegun S.state D.state prepared.plans.blueprint.value sources.items drains.items begun.bodies.items begun.crossings.items begun.remains) }
+    ensures unmade { IfErr result (HasHandles S.state D.state sources.items drains.items) }
+{
+    filled_islands_are_seated::<S, D>();
+    started_islands_begin_bodies::<S, D>();
+    made_bodies_begin_their_blueprint::<S, D>();
+    unmade_islands_hand_back::<S, D>();
+    let Prepared {
+        plans,
+        ends: lane_ends,
+        started,
+        unmade,
+        bodies,
+        room,
+        asked,
+        counts,
+    } = prepared;
+    let filled = plans.fill(alloc, sources, drains);
+    let islands = match start_all(alloc, filled.islands, started, unmade) {
+        Ok(islands) => islands,
+        Err(ends) => return Err(join_handles(ends, &filled.ends, room)),
+    };
+    let bodies_made = make_all(
+        islands,
+        lane_ends.ins,
+        lane_ends.outs,
+        bodies.tables,
+        bodies.peers,
+        bodies.bodies,
+    );
+    Ok(Begun {
+        bodies: bodies_made,
+        crossings: lane_ends.crossings,
+        remains: Remains {
+            lanes: filled.lanes,
+            homes: filled.ends,
+            room,
+            ends: bodies.ends,
+            asked,
+            counts,
+        },
+    })
+}
+
+/// What each wire carried, without its number.
+fn counts_of(wires: &[(u32, WireCount)], counts: Vec<WireCount>) -> Vec<WireCount>
+    requires none { counts.items ≡ [] }
+    requires room { length wires.now ≤ vec_capacity counts }
+    ensures { result.items ≡ map (λ wire. wire.1) wires.now }
+{
+    let mut counts = counts;
+    for wire in wires {
+        counts.push_reserved(wire.1);
+    }
+    counts
+}
+
+/// Takes bodies apart that ran in rounds.
+fn stop<S: Source, D: Drain>(
+    bodies: Vec<Body<S, D>>,
+    crossings: &[Crossing],
+    remains: Remains<S, D>,
+    used: u32,
+    at_rest: bool,
+) -> Stopped<S, D>
+    requires { (b : plan.Blueprint) × ((ss : List S) × ((ds : List D) × ((begun : List (island.Body S D)) × ((budget : ℕ) × HaveRun S.state D.state b ss ds begun bodies.items crossings.now remains budget used at_rest)))) }
+    ensures { (b : plan.Blueprint) (ss : List S) (ds : List D) (begun : List (island.Body S D)) (budget : ℕ) → HaveRun S.state D.state b ss ds begun bodies.items crossings.now remains budget used at_rest → Leaves S.state D.state b ss ds budget result }
+{
+    ends_stay_at_their_crossings::<S, D>();
+    bodies_leave_a_run::<S, D>();
+    nodes_alone_are_a_run::<S, D>();
+    bodies_leave_what_their_nodes_do::<S, D>();
+    told_asks_are_those_of_lanes::<S, D>();
+    noted_counts_are_the_picture::<S, D>();
+    bodies_spent_what_was_sent::<S, D>();
+    let Remains {
+        lanes,
+        homes,
+        room,
+        ends,
+        asked,
+        counts,
+    } = remains;
+    let all = asked_of(&bodies, crossings, asked);
+    let ends = finish_all(bodies, ends);
+    let end = join_ends(ends, &homes, room);
+    let mut wires = counts_of(&end.wires, counts);
+    note_asked(&all, &lanes, &mut wires);
+    Stopped {
+        end,
+        wires,
+        used,
+        at_rest,
+    }
+}
+
+/// Takes bodies apart of which one broke off.
+fn give_up<S: Source, D: Drain>(
+    bodies: Vec<Body<S, D>>,
+    crossings: &[Crossing],
+    remains: Remains<S, D>,
+) -> IslandEnd<S, D>
+    requires { (b : plan.Blueprint) × ((ss : List S) × ((ds : List D) × ((begun : List (island.Body S D)) × HaveBroken S.state D.state b ss ds begun bodies.items crossings.now remains))) }
+    ensures { (b : plan.Blueprint) (ss : List S) (ds : List D) (begun : List (island.Body S D)) → HaveBroken S.state D.state b ss ds begun bodies.items crossings.now remains → LeavesBroken S.state D.state b ss ds result }
+{
+    ends_stay_at_their_crossings::<S, D>();
+    broken_bodies_cover::<S, D>();
+    broken_bodies_leave_a_run::<S, D>();
+    nodes_alone_are_a_run::<S, D>();
+    broken_bodies_leave_their_handles::<S, D>();
+    told_asks_are_those_of_lanes::<S, D>();
+    let Remains {
+        lanes: _,
+        homes,
+        room,
+        ends,
+        asked: _,
+        counts: _,
+    } = remains;
+    let ends = finish_all(bodies, ends);
+    join_handles(ends, &homes, room)
+}
+
+/// Runs bodies that were made, by at most `budget` units, and takes them apart.
+fn run_bodies<S: Source, D: Drain>(
+    alloc: Global,
+    begun: Begun<S, D>,
+    budget: u32,
+) -> Result<Stopped<S, D>, IslandEnd<S, D>>
+    requires budget { budget ≤ 4000000000 }
+    requires begun { (b : plan.Blueprint) × ((ss : List S) × ((ds : List D) × HaveBegun S.state D.state b ss ds begun.bodies.items begun.crossings.items begun.remains)) }
+    ensures leaves { (b : plan.Blueprint) (ss : List S) (ds : List D) → HaveBegun S.state D.state b ss ds begun.bodies.items begun.crossings.items begun.remains → IfOk result (λ stopped. Leaves S.state D.state b ss ds budget stopped) }
+    ensures breaks { (b : plan.Blueprint) (ss : List S) (ds : List D) → HaveBegun S.state D.state b ss ds begun.bodies.items begun.crossings.items begun.remains → IfErr result (LeavesBroken S.state D.state b ss ds) }
+{
+    let Begun {
+        bodies,
+        crossings,
+        remains,
+    } = begun;
+    let mut bodies = bodies;
+    match rounds::run::run(alloc, &mut bodies, &crossings, budget) {
+        Ok(end) => Ok(stop(bodies, &crossings, remains, end.used, end.at_rest)),
+        Err(AllocError) => Err(give_up(bodies, &crossings, remains)),
+    }
+}
+
+/// Runs the islands of a blueprint over its open files, of which nothing was read, by at most `budget` units: turns of at most 1000 units
+/// for each island in order, until no island has an event or all units are used. It is taken apart then. In the order of nodes, each
+/// source of lines reads the next of `sources`, and each sink with a file writes the next of `drains`. Rule: own.
+pub fn run<S: Source, D: Drain>(
+    alloc: Global,
+    prepared: Prepared<S, D>,
+    sources: Vec<S>,
+    drains: Vec<D>,
+    budget: u32,
+) -> Result<Stopped<S, D>, Broken<S, D>>
+    requires prepared { IsPrepared prepared }
+    requires budget { budget ≤ 4000000000 }
+    requires sources { vec_len sources ≡ length (inputs_of_nodes prepared.plans.blueprint.value.nodes.items) }
+    requires drains { vec_len drains ≡ length (outputs_of_nodes prepared.plans.blueprint.value.nodes.items) }
+    requires unread { All (λ s. (S.state s).given ≡ 0) sources.items }
+    ensures leaves { IfOk result (λ stopped. Leaves S.state D.state prepared.plans.blueprint.value sources.items drains.items budget stopped) }
+    ensures breaks { IfErr result (λ broken. LeavesBrokenAs S.state D.state prepared.plans.blueprint.value sources.items drains.items broken) }
+{
+    match begin(alloc, prepared, sources, drains) {
+        Ok(begun) => match run_bodies(alloc, begun, budget) {
+            Ok(stopped) => Ok(stopped),
+            Err(end) => Err(Broken::Within(end)),
+        },
+        Err(end) => Err(Broken::Unmade(end)),
+    }
+}

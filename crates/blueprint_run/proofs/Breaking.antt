@@ -43,7 +43,7 @@ use Rattle.run_files.proofs.Stoppings.{gives_up}
 use Rattle.run_files.proofs.Closings.{adds_more, adds_behind, keeps_more}
 use Rattle.run_files.specs.Names.{drain_names}
 use Rattle.blueprint_run.specs.Drawing.{Drawn, IsSource, IsWorldOf}
-use Rattle.blueprint_run.specs.Leaving.{Moment, LeavesBroken, HasHandles, HasAsMany}
+use Rattle.island_runs.specs.Leaving.{Moment, LeavesBroken, HasHandles, HasAsMany}
 use Rattle.blueprint_run.specs.Opening.{Opens, ClosesAs}
 use Rattle.blueprint_run.specs.Tracing.{written_files, IsApart}
 use Rattle.blueprint_run.specs.Running.{WasReadOn, SinkBreaks, BreaksFiles, WantsWithin}

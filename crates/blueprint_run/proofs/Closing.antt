@@ -64,14 +64,15 @@ use Rattle.blueprint_run.specs.Carrying.{Carries}
 use Rattle.blueprint_run.specs.Choosing.{picked}
 use Rattle.blueprint_run.proofs.Carried.{silent, silent_keeps, carries}
 use Rattle.blueprint_run.specs.Drawing.{Drawn, IsSource, WasRead, IsWorldOf, DrawsFirst}
-use Rattle.blueprint_run.specs.Leaving.{Moment, Leaves, HasAsMany}
+use Rattle.island_runs.specs.Leaving.{Moment, Leaves, HasAsMany}
 use Rattle.blueprint_run.specs.Opening.{Opens}
 use Rattle.blueprint_run.specs.Tracing.{IsApart, Traces}
 use Rattle.blueprint_run.specs.Sending.{SentOn}
 use Rattle.blueprint_run.specs.Running.{SinkLeaves, IgnoreLeaves, LeavesFiles, WritesOf, Runs}
 use Rattle.blueprint_run.specs.Stands.{Stand, has_ended_at, is_write_fault, is_unended}
-use Rattle.blueprint_run.specs.Units.{all_sent, Pays}
-use Rattle.blueprint_run.specs.declared.run.Stopped.{Stopped}
+use Rattle.bodies_run.specs.Counts.{all_sent}
+use Rattle.blueprint_run.specs.Units.{Pays}
+use Rattle.island_runs.specs.declared.run.Stopped.{Stopped}
 use Rattle.blueprint_run.specs.declared.run.Ran.{Ran}
 use Rattle.blueprint_run.proofs.Counts.{rose_by, rose_from_none, is_positive, positive, contains_or_not}
 use Rattle.blueprint_run.proofs.Units.{need_more, passed_within}

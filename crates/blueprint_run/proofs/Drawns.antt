@@ -23,7 +23,7 @@ use Rattle.materializer.specs.Graphs.{node_of, graph_of}
 use Rattle.blueprint_run.specs.Choosing.{pick_places, picked, HasPicks}
 use Rattle.blueprint_run.specs.Opening.{Opens}
 use Rattle.blueprint_run.specs.Drawing.{Drawn, IsSource, WasRead, IsWorldOf}
-use Rattle.blueprint_run.specs.Leaving.{Moment}
+use Rattle.island_runs.specs.Leaving.{Moment}
 use Rattle.blueprint_run.proofs.Choosing.{node_chooses, picked_along, told_along, has_along}
 use Rattle.blueprint_run.proofs.Counts.{rose_by, rose_from_none, is_positive, positive, above_none, not_positive, some_of}
 use Rattle.blueprint_run.proofs.Apart.{one_file}

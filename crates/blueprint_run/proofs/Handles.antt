@@ -33,7 +33,7 @@ use Rattle.run_files.specs.Names.{source_names, drain_names}
 use Rattle.run_files.specs.Opening.{AtStart, HoldsNone}
 use Rattle.blueprint_run.specs.Opening.{Opens}
 use Rattle.blueprint_run.specs.Drawing.{IsSource}
-use Rattle.blueprint_run.specs.Leaving.{Moment}
+use Rattle.island_runs.specs.Leaving.{Moment}
 use Rattle.blueprint_run.specs.Stands.{Stand, sink_places}
 use Rattle.blueprint_run.proofs.Places.{all_at, mapped_at, place_one}
 use Rattle.blueprint_run.proofs.Profiles.{some_one, stand_in, sinks_filtered, Profile, node_profile, stands_along, StandsAt, writes_file, never_faults, writing_kind}

@@ -7,7 +7,6 @@ pub mod Shuts
 pub mod Traces
 pub mod Shutting
 pub mod Units
-pub mod Stopping
 pub mod Sending
 pub mod Worlds
 pub mod Choosing

@@ -7,5 +7,3 @@ pub mod Tracing
 pub mod Opening
 pub mod Sending
 pub mod Running
-pub mod Leaving
-pub mod Islands

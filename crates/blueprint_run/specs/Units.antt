@@ -1,15 +1,11 @@
 -- What the picture of a run says of the units that were used.
-use Rattle.std.specs.Prelude.{◌≡◌, ℕ, ◌+◌, ◌≤◌, List, [], ◌∷◌, length}
+use Rattle.std.specs.Prelude.{◌≡◌, ℕ, ◌+◌, ◌≤◌, List, length}
 use Rattle.blue_core.specs.declared.blueprint.Blueprint.{Blueprint}
 use Rattle.blue_check.specs.Wires.{blueprint_wires}
 use Rattle.stream_model.specs.declared.outcome.WireCount.{WireCount}
 use Rattle.stream_picture.specs.Shape.{count_needed}
 use Rattle.materializer.specs.Graphs.{graph_of}
-
--- how many elements passed all wires
-abbrev pub all_sent : List WireCount → ℕ
-all_sent [] = 0
-all_sent (c ∷ cs) = c.sent + all_sent cs
+use Rattle.bodies_run.specs.Counts.{all_sent}
 
 -- The picture has a count for each wire. Each element that was pushed took a unit of its own, that of the ask before it; and each
 -- wire took one unit less at least than its part of the count over what was sent. So with a wire the units are below that count.

@@ -1,4 +1,4 @@
-//! The run of a blueprint over a folder: its files are opened, its island runs, and the files are closed.
+//! The run of a blueprint over a folder: its files are opened, its islands run, and the files are closed.
 #![tactic(auto)]
 
 pub mod run;

@@ -1,22 +1,15 @@
 // The run of a blueprint over a folder.
 ghost use Rattle.std.specs.Prelude.{◌≡◌, ◌+◌, ◌-◌, ◌≤◌, ◌++◌, [], ℕ, List, Option, IfOk, IfErr, Err, Bool, true, false, IsTrue, map, length, vec_len, is_some};
-ghost use Rattle.std.specs.List.{All};
 ghost use Rattle.std.specs.Option.{option_map, option_to_list};
 ghost use Rattle.blue_core.specs.declared.blueprint.Blueprint as plan;
 ghost use Rattle.stream_io.specs.State.{FolderState};
-ghost use Rattle.interpreter.specs.Island.{counts_of, sinks_of, readers_of, writers_of};
-ghost use Rattle.interpreter.specs.Picks.{pick_of, picks_of};
-ghost use Rattle.interpreter.specs.Parts.{AreParts, place_of};
-ghost use Rattle.interpreter.specs.Room.{IsRoom};
-ghost use Rattle.materializer.specs.Built.{CanRun, CanRunAlone};
+ghost use Rattle.materializer.specs.Built.{CanRun};
 ghost use Rattle.materializer.specs.Choices.{pick_names};
 ghost use Rattle.materializer.specs.Files.{inputs_of_nodes, outputs_of_nodes};
-ghost use Rattle.materializer.specs.Planned.{IsPlan};
 ghost use Rattle.run_files.specs.Opening.{MissesInput, RefusesOutput};
 ghost use Rattle.run_files.specs.Closing.{ClosesAll};
 ghost use Rattle.run_report.specs.Trace.{trace_text, moves_in};
-ghost use Rattle.blueprint_run.specs.Islands.{Stops, BreaksAs};
-ghost use Rattle.blueprint_run.specs.Leaving.{Leaves, LeavesBroken, LeavesBrokenAs, HasAsMany};
+ghost use Rattle.island_runs.specs.Leaving.{Leaves, LeavesBroken, HasAsMany};
 ghost use Rattle.blueprint_run.specs.Opening.{Opens, OpensAs, WritesAs, ClosesAs};
 ghost use Rattle.blueprint_run.specs.Running.{Runs, Wants, WantsWithin};
 ghost use Rattle.blueprint_run.specs.Tracing.{written_files, IsApart};
@@ -24,27 +17,23 @@ ghost use Rattle.blueprint_run.specs.Tracing.{written_files, IsApart};
 use blue_core::blueprint::Blueprint;
 use elem_core::line::Line;
 use elem_core::why::NoMemory;
-use interpreter::island::{Island, IslandEnd, StartEnd};
-use interpreter::parts::Parts;
-use interpreter::room::Room;
-use materializer::laws::{
-    fit_blueprints_are_whole, parts_are_made_of_their_blueprint, parts_hold_their_files,
-};
+use interpreter::island::IslandEnd;
+use island_runs::prepare::prepare;
+use island_runs::run::{Broken, Stopped};
+use materializer::laws::{fit_blueprints_are_whole, parts_hold_their_files};
 use materializer::names::{input_names, output_names, pick_names};
-use materializer::parts::{Plan, plan_of};
 use picture_laws::laws::{
     a_picture_without_events_rests, every_move_fits, every_picture_is_lawful,
 };
 use run_files::close::close_all;
 use run_files::open::{OpenEnd, Opened, open_all};
 use run_laws::laws::{
-    an_island_leaves_a_run, every_node_gives_of_what_came, every_sink_agrees,
-    every_sink_counts_its_lines, every_sink_writes, every_source_reads_little_ahead,
-    every_wire_agrees,
+    every_node_gives_of_what_came, every_sink_agrees, every_sink_counts_its_lines,
+    every_sink_writes, every_source_reads_little_ahead, every_wire_agrees,
 };
 use run_report::trace::put_trace;
-use std::alloc::{AllocError, Global};
-use stream_io::outside::{Drain, Folder, Source};
+use std::alloc::Global;
+use stream_io::outside::{Drain, Folder};
 use stream_model::outcome::{EndState, PickList, WireCount};
 use stream_picture::laws::polytrees_end;
 use type_laws::laws::{every_wire_carries_its_type, fit_blueprints_pass_the_rules};
@@ -65,115 +54,14 @@ pub struct Ran {
 /// How many bytes of a trace are written at once.
 const PIECE: usize = 4096;
 
-/// What a run needs before its files are opened: the names of its inputs and of the files that it writes, that of its trace behind
+/// What a run names before its files are opened: the names of its inputs and of the files that it writes, that of its trace behind
 /// those of its sinks; the names of the stages whose kinds choose, and room to gather their lines.
 #[derive(Drop)]
-struct Prepared {
+struct Named {
     inputs: Vec<Line>,
     outputs: Vec<Line>,
     choosers: Vec<Line>,
     room: Vec<u8>,
-}
-
-/// An island that was run and taken apart.
-#[derive(Drop)]
-struct Stopped<S: Source, D: Drain> {
-    end: IslandEnd<S, D>,
-    wires: Vec<WireCount>,
-    used: u32,
-    at_rest: bool,
-}
-
-/// What each wire carried, without its number.
-fn counts(alloc: Global, wires: &[(u32, WireCount)]) -> Result<Vec<WireCount>, NoMemory>
-    ensures { IfOk result (λ counts. counts.items ≡ map (λ wire. wire.1) wires.now) }
-{
-    let mut counts = Vec::new(alloc);
-    for wire in wires {
-        counts.push(wire.1)?;
-    }
-    Ok(counts)
-}
-
-/// Where memory was wanting.
-#[derive(Drop)]
-enum Broken<S: Source, D: Drain> {
-    /// As the island started: nothing was read or written, and its handles are as they were handed in.
-    Unmade(IslandEnd<S, D>),
-    /// In its run: it was taken apart.
-    Within(IslandEnd<S, D>),
-}
-
-/// Takes an island apart, which takes no memory.
-fn take_apart<S: Source, D: Drain>(island: Island<S, D>) -> IslandEnd<S, D>
-    ensures sinks { result.sinks.items ≡ sinks_of island.net.nodes }
-    ensures picks { map pick_of result.picks.items ≡ picks_of island.places island.net.nodes }
-    ensures wires { result.wires.items ≡ counts_of island.numbers island.net.wires }
-    ensures readers { result.readers.items ≡ readers_of island.net.nodes }
-    ensures writers { result.writers.items ≡ writers_of island.net.nodes }
-{
-    match island.finish() {
-        Ok(end) => end,
-        Err(AllocError) => unreachable!(),
-    }
-}
-
-/// Starts an island in its room, runs it by at most so many units, and takes it apart.
-fn execute<S: Source, D: Drain>(
-    alloc: Global,
-    parts: Parts<S, D>,
-    room: Room<S, D>,
-    budget: u32,
-) -> Result<Stopped<S, D>, Broken<S, D>>
-    requires parts { AreParts parts.nodes.items parts.links.items }
-    requires room { IsRoom room (map place_of parts.nodes.items) parts.links.items }
-    requires budget { budget ≤ 4000000000 }
-    ensures stops { IfOk result (λ stopped. Stops S.state D.state parts.nodes.items parts.links.items budget stopped) }
-    ensures breaks { IfErr result (λ broken. BreaksAs S.state D.state parts.nodes.items parts.links.items broken) }
-{
-    let mut island = match Island::start(alloc, parts, room) {
-        Ok(island) => island,
-        Err(StartEnd::NoMemory(end)) => return Err(Broken::Unmade(end)),
-    };
-    let Ok(used) = island.execute(alloc, budget) else {
-        return Err(Broken::Within(take_apart(island)));
-    };
-    island.laws();
-    let at_rest = island.at_rest();
-    let end = take_apart(island);
-    match counts(alloc, &end.wires) {
-        Ok(wires) => Ok(Stopped {
-            end,
-            wires,
-            used,
-            at_rest,
-        }),
-        Err(AllocError) => Err(Broken::Within(end)),
-    }
-}
-
-/// Makes the island of a plan over its open files, of which nothing was read, runs it by at most so many units, and takes it apart.
-/// What it leaves it tells as any run of the blueprint does, in one island or in many.
-fn run_open<S: Source, D: Drain>(
-    alloc: Global,
-    plan: Plan<S, D>,
-    sources: Vec<S>,
-    drains: Vec<D>,
-    budget: u32,
-) -> Result<Stopped<S, D>, Broken<S, D>>
-    requires plan { IsPlan plan }
-    requires budget { budget ≤ 4000000000 }
-    requires sources { vec_len sources ≡ length (inputs_of_nodes plan.blueprint.value.nodes.items) }
-    requires drains { vec_len drains ≡ length (outputs_of_nodes plan.blueprint.value.nodes.items) }
-    requires started { All (λ s. (S.state s).given ≡ 0) sources.items }
-    ensures leaves { IfOk result (λ stopped. Leaves S.state D.state plan.blueprint.value sources.items drains.items budget stopped) }
-    ensures breaks { IfErr result (λ broken. LeavesBrokenAs S.state D.state plan.blueprint.value sources.items drains.items broken) }
-{
-    an_island_leaves_a_run::<S, D>();
-    fit_blueprints_are_whole();
-    parts_are_made_of_their_blueprint::<S, D>();
-    let (parts, room) = plan.fill(alloc, sources, drains);
-    execute(alloc, parts, room, budget)
 }
 
 /// The files that a run writes: those of its sinks, and that of its trace where one is wanted.
@@ -187,14 +75,14 @@ fn written_names(alloc: Global, b: &Blueprint, trace: Option<Line>) -> Result<Ve
     Ok(names)
 }
 
-/// Makes what a run needs before its files are opened.
-fn prepare(alloc: Global, b: &Blueprint, trace: Option<Line>) -> Result<Prepared, NoMemory>
-    ensures inputs { IfOk result (λ p. p.inputs.items ≡ inputs_of_nodes b.now.nodes.items) }
-    ensures outputs { IfOk result (λ p. p.outputs.items ≡ written_files b.now trace) }
-    ensures choosers { IfOk result (λ p. p.choosers.items ≡ pick_names b.now.nodes.items) }
-    ensures room { IfOk result (λ p. p.room.items ≡ []) }
+/// The names of a run's files and of its stages that choose, and room for its trace.
+fn names_of(alloc: Global, b: &Blueprint, trace: Option<Line>) -> Result<Named, NoMemory>
+    ensures inputs { IfOk result (λ n. n.inputs.items ≡ inputs_of_nodes b.now.nodes.items) }
+    ensures outputs { IfOk result (λ n. n.outputs.items ≡ written_files b.now trace) }
+    ensures choosers { IfOk result (λ n. n.choosers.items ≡ pick_names b.now.nodes.items) }
+    ensures room { IfOk result (λ n. n.room.items ≡ []) }
 {
-    Ok(Prepared {
+    Ok(Named {
         inputs: input_names(alloc, b)?,
         outputs: written_names(alloc, b, trace)?,
         choosers: pick_names(alloc, b)?,
@@ -319,7 +207,7 @@ fn give_up<F: Folder>(folder: &mut F, end: IslandEnd<F::Inp, F::Out>, drain: Opt
     close_trace(folder, drain);
 }
 
-/// Closes what was opened for an island that did not start.
+/// Closes what was opened for islands of which one did not start.
 fn close_unmade<F: Folder>(folder: &mut F, end: IslandEnd<F::Inp, F::Out>, drain: Option<F::Out>)
     ensures closes { ClosesAll (F.state folder.old) (F.state folder.new) (map F.Inp.state end.readers.items) (map F.Out.state end.writers.items ++ option_to_list (option_map F.Out.state drain)) }
     ensures handles { F.handles folder.new ≡ F.handles folder.old - (length end.readers.items + length end.writers.items + length (option_to_list drain)) }
@@ -329,7 +217,7 @@ fn close_unmade<F: Folder>(folder: &mut F, end: IslandEnd<F::Inp, F::Out>, drain
 }
 
 /// Opens the files of a blueprint, its inputs in order and then its outputs in order, and behind them the file of its trace where one is
-/// wanted; lets its island run by at most `budget` units; writes the trace, which takes no memory, and closes the files, also where
+/// wanted; lets its islands run by at most `budget` units; writes the trace, which takes no memory, and closes the files, also where
 /// memory is wanting. The trace is then left empty. But for what its nodes want as they start and run all memory is taken before
 /// the first opening. It leaves as many open handles as there were. Rule: own.
 pub fn run<F: Folder>(
@@ -339,7 +227,7 @@ pub fn run<F: Folder>(
     trace: Option<Line>,
     budget: u32,
 ) -> Result<Ran, OpenEnd>
-    requires runs { CanRunAlone b }
+    requires runs { CanRun b }
     requires apart { IsApart b trace }
     requires budget { budget ≤ 4000000000 }
     ensures ran { IfOk result (λ ran. Runs (F.state folder.old) (F.state folder.new) b trace budget ran) }
@@ -349,16 +237,16 @@ pub fn run<F: Folder>(
     ensures handles { F.handles folder.new ≡ F.handles folder.old }
 {
     let wanted = trace.is_some();
-    let Ok(prepared) = prepare(alloc, &b, trace) else {
+    let Ok(named) = names_of(alloc, &b, trace) else {
         return Err(OpenEnd::NoMemory);
     };
-    let Prepared {
+    let Named {
         inputs,
         outputs,
         choosers,
         room,
-    } = prepared;
-    let Ok(plan) = plan_of(alloc, b) else {
+    } = named;
+    let Ok(prepared) = prepare(alloc, b) else {
         return Err(OpenEnd::NoMemory);
     };
     let Opened {
@@ -369,7 +257,7 @@ pub fn run<F: Folder>(
         Err(end) => return Err(end),
     };
     let drain = take_last(&mut outputs, wanted);
-    match run_open(alloc, plan, inputs, outputs, budget) {
+    match island_runs::run::run(alloc, prepared, inputs, outputs, budget) {
         Ok(stopped) => Ok(close(folder, stopped, drain, &choosers, room)),
         Err(Broken::Unmade(end)) => {
             close_unmade(folder, end, drain);

@@ -12,7 +12,6 @@ use Rattle.blue_names.specs.declared.links.Link.{Link}
 use Rattle.blue_names.specs.Links.{AreInRange, wires_of_links}
 use Rattle.blue_walks.proofs.ClosedWalks.{link_at_place}
 use Rattle.plug_core.specs.declared.head.PlugHead.{PlugHead}
-use Rattle.interpreter.specs.Parts.{ends_of}
 use Rattle.interpreter.specs.Ways.{is_lane_in, is_lane_out}
 use Rattle.interpreter.specs.declared.parts.Seated.{Seated}
 use Rattle.interpreter.specs.declared.parts.Work.{Work}
@@ -22,9 +21,9 @@ use Rattle.island_parts.specs.Whole.{AreNodes, KeepsInside}
 use Rattle.materializer.specs.Built.{CanRun}
 use Rattle.materializer.specs.Graphs.{graph_of, node_of, chain_of}
 use Rattle.materializer.specs.Planned.{places_from}
-use Rattle.materializer.specs.Seats.{IsWork, AreSeats, links_from}
+use Rattle.materializer.specs.Seats.{IsWork, AreSeats}
 use Rattle.materializer.proofs.Fitting.{fit_joined}
-use Rattle.materializer.proofs.Linking.{ends_count, ends_at, wiring}
+use Rattle.materializer.proofs.Linking.{wire_ends, ends_at, wiring}
 use Rattle.materializer.proofs.Placing.{seats_unused}
 use Rattle.stream_picture.specs.Joined.{IsJoined}
 
@@ -85,8 +84,8 @@ module _ {S D : Type 0} where
       record {
         no_ends = λ k p at. no_ends 0 b.nodes.items ss ds nodes k p a at;
         unused = seats_unused 0 b.nodes.items ss ds nodes a;
-        ends = map ends_of (links_from 0 ws);
+        ends = map wire_ends ws;
         wiring = wiring b.nodes.items ws (map chain_of b.chains.items) ss ds nodes (fit_joined b r.plugs r.taken r.fit) a;
-        each_wire = ends_count 0 ws;
-        ends_are = λ i v at. ends_at 0 ws i v at;
+        each_wire = length-map ws wire_ends;
+        ends_are = λ i v at. ends_at ws i v at;
       }

@@ -3,7 +3,7 @@ use Rattle.std.proofs.Common.{◌≡◌, ℕ, ◌+◌, ◌<◌, ◌^◌, Bool, t
 use Rattle.std.specs.Prelude.{slice_get, nat_le}
 use Rattle.std.specs.List.{list_all, All}
 use Rattle.std.specs.Option.{option_or, option_map}
-use Rattle.std.proofs.lemmas.Bool.{or_parts, and_parts}
+use Rattle.std.proofs.lemmas.Bool.{and_parts}
 use Rattle.std.proofs.lemmas.Bool.Decides.{nat_tests}
 use Rattle.stream_model.specs.Graph.{Graph, Wire}
 use Rattle.stream_model.specs.Graph as graph
@@ -23,7 +23,7 @@ use Rattle.blue_check.specs.Fitness.{open_fault, names_fault, ports_fault, plugs
 use Rattle.blue_check.specs.declared.fault.CheckFault.TheVariants as fault
 use Rattle.blue_check.specs.Wires.{blueprint_wires}
 use Rattle.plug_core.specs.declared.head.PlugHead.{PlugHead}
-use Rattle.materializer.specs.Built.{is_built, is_unbuilt, unbuilt_in}
+use Rattle.materializer.specs.Built.{is_built, unbuilt_in, unbuilt_node, CanRun}
 use Rattle.materializer.specs.Graphs.{graph_of, node_of, chain_of}
 use Rattle.stream_picture.specs.Joined.{IsJoined}
 use Rattle.blue_names.specs.declared.links.Link.{Link}
@@ -133,12 +133,15 @@ module _ (b : Blueprint) (plugs : List PlugHead) (taken : List (List ℕ)) (fit 
 
 -- ---- kinds that have been built
 
-all_built_from : (nodes : List Node) (ws : List Wire) (i : ℕ) → first_from (λ k n. when (is_unbuilt ws k n) k) i nodes ≡ None → list_all (λ n. is_built n.kind) nodes ≡ true
-all_built_from [] ws i h = refl
-all_built_from (n ∷ ns) ws i h =
+all_built_from : (nodes : List Node) (i : ℕ) → first_from (λ k n. when (not (is_built n.kind)) k) i nodes ≡ None → list_all (λ n. is_built n.kind) nodes ≡ true
+all_built_from [] i h = refl
+all_built_from (n ∷ ns) i h =
     let both = both_none _ _ h in
-    let here = or_parts _ _ (not_when _ i both.0) in
-    and_both (is_built n.kind) (list_all (λ m. is_built m.kind) ns) (not_true (is_built n.kind) here.0) (all_built_from ns ws (i + 1) both.1)
+    and_both (is_built n.kind) (list_all (λ m. is_built m.kind) ns) (not_true (is_built n.kind) (not_when _ i both.0)) (all_built_from ns (i + 1) both.1)
 
-pub all_built : (nodes : List Node) (ws : List Wire) → unbuilt_in nodes ws ≡ None → list_all (λ n. is_built n.kind) nodes ≡ true
-all_built nodes ws h = all_built_from nodes ws 0 h
+pub all_built : (nodes : List Node) → unbuilt_in nodes ≡ None → list_all (λ n. is_built n.kind) nodes ≡ true
+all_built nodes h = all_built_from nodes 0 h
+
+-- so a blueprint that breaks no rule, and of which no node is unbuilt, can be run
+pub can_run : (b : Blueprint) (plugs : List PlugHead) (taken : List (List ℕ)) → IsFit b plugs taken → unbuilt_node b ≡ None → CanRun b
+can_run b plugs taken fit none = record { plugs = plugs; taken = taken; fit = fit; built = all_built b.nodes.items none }

@@ -1,5 +1,5 @@
--- The links of wires that join every port of a graph are a wiring of its places.
-use Rattle.std.proofs.Common.{◌≡◌, ℕ, zero, suc, ◌+◌, ◌<◌, ◌^◌, true, false, ◌==◌, ◌&&◌, List, [], ◌∷◌, map, length, Option, Some, refl, ap, sym, ◌∙◌, subst, ⊎_elim, arith}
+-- Wires that join every port of a graph are a wiring of its places.
+use Rattle.std.proofs.Common.{◌≡◌, ℕ, zero, suc, ◌+◌, ◌<◌, true, false, ◌==◌, ◌&&◌, List, [], ◌∷◌, map, length, Option, Some, refl, ap, sym, ◌∙◌, subst, ⊎_elim, arith}
 use Rattle.std.specs.Prelude.{slice_get}
 use Rattle.std.proofs.lemmas.Bool.{and_parts, eqb-true, cases_Bool, cond-true, cond-false}
 use Rattle.std.proofs.lemmas.List.{length-map}
@@ -11,16 +11,14 @@ use Rattle.stream_model.specs.Composed.{inputs_of}
 use Rattle.stream_picture.specs.View.{outputs_of}
 use Rattle.fused_net.specs.declared.net.Ends.{Ends}
 use Rattle.fused_net.specs.Net.{end_at}
-use Rattle.interpreter.specs.declared.parts.Link.{Link}
 use Rattle.interpreter.specs.declared.parts.Seated.{Seated}
-use Rattle.interpreter.specs.Ways.{IsOnce}
-use Rattle.interpreter.specs.Parts.{ends_of, inputs_at, outputs_at, IsWiring, AreParts}
+use Rattle.interpreter.specs.Parts.{inputs_at, outputs_at, IsWiring}
 use Rattle.blue_core.specs.declared.blueprint.Node.{Node}
 use Rattle.materializer.specs.Graphs.{node_of}
 use Rattle.stream_picture.specs.Joined.{IsJoined}
-use Rattle.materializer.specs.Seats.{AreSeats, links_from}
+use Rattle.materializer.specs.Seats.{AreSeats}
 use Rattle.materializer.proofs.Joining.{mapped_from}
-use Rattle.materializer.proofs.Placing.{seats_count, seats_unused, seats_ports}
+use Rattle.materializer.proofs.Placing.{seats_count, seats_ports}
 
 pub some_at : {X : Type 0} (xs : List X) (i : ℕ) → i < length xs → (x : X) × (slice_get xs i ≡ Some x)
 some_at [] i h = absurd (omega arith)
@@ -31,14 +29,10 @@ some_at (x ∷ xs) (suc i) h = some_at xs i (omega (arith, h))
 abbrev pub wire_ends : Wire → Ends
 wire_ends v = record { from = v.from; output = v.output; to = v.to; input = v.input }
 
-pub ends_count : (k : ℕ) (ws : List Wire) → length (map ends_of (links_from k ws)) ≡ length ws
-ends_count k [] = refl
-ends_count k (w ∷ ws) = ap suc (ends_count (k + 1) ws)
-
-pub ends_at : (k : ℕ) (ws : List Wire) (i : ℕ) (v : Wire) → slice_get ws i ≡ Some v → end_at (map ends_of (links_from k ws)) i ≡ wire_ends v
-ends_at k [] i v h = absurd cc
-ends_at k (w ∷ ws) zero v h = let e : w ≡ v = cc in ap wire_ends e
-ends_at k (w ∷ ws) (suc i) v h = ends_at (k + 1) ws i v h
+pub ends_at : (ws : List Wire) (i : ℕ) (v : Wire) → slice_get ws i ≡ Some v → end_at (map wire_ends ws) i ≡ wire_ends v
+ends_at [] i v h = absurd cc
+ends_at (w ∷ ws) zero v h = let e : w ≡ v = cc in ap wire_ends e
+ends_at (w ∷ ws) (suc i) v h = ends_at ws i v h
 
 -- the wire that was found at a port is at that port
 record AtPort (place port : Wire → ℕ) (a b n : ℕ) (ws : List Wire) (k : ℕ) : Type 0 where
@@ -62,25 +56,13 @@ at_port place port a b n (w ∷ ws) k h =
     record { at = suc r.at; wire = r.wire; is = r.is; number = let e : k ≡ n + 1 + r.at = r.number in omega (arith, e); place_is = r.place_is; port_is = r.port_is })
     (cases_Bool ((place w == a) && (port w == b)))
 
--- a link has the number of its wire, so no two are of one wire
-wire_number : (i : ℕ) (ws : List Wire) (p : ℕ) (l : Link) → slice_get (links_from i ws) p ≡ Some l → l.wire ≡ i + p
-wire_number i [] p l e = absurd cc
-wire_number i (w ∷ ws) zero l e = let same : record { wire = i; from = w.from; output = w.output; to = w.to; input = w.input } ≡ l = cc in let is = ap (λ (x : Link). x.wire) same in omega (arith, is)
-wire_number i (w ∷ ws) (suc p) l e = let next = wire_number (i + 1) ws p l e in omega (arith, next)
-
-each_once : {S D : Type 0} (places : List (Seated S D)) (i : ℕ) (ws : List Wire) → IsOnce places (links_from i ws)
-each_once places i ws = record {
-  ins = λ p q l m a b c d e. let x = wire_number i ws p l a in let y = wire_number i ws q m b in omega (arith, x, y, e);
-  outs = λ p q l m a b c d e. let x = wire_number i ws p l a in let y = wire_number i ws q m b in omega (arith, x, y, e);
-}
-
 module _ {S D : Type 0} (nodes : List Node) (ws : List Wire) (cs : List Chain) (ss : List S) (ds : List D) (places : List (Seated S D))
     (j : IsJoined (record { nodes = map node_of nodes; wires = ws; chains = cs })) (a : AreSeats 0 nodes ss ds places) where
   abbrev ends : List Ends
-  ends = map ends_of (links_from 0 ws)
+  ends = map wire_ends ws
 
   wire_of : (i : ℕ) → i < length ends → (v : Wire) × (slice_get ws i ≡ Some v)
-  wire_of i h = let e : length ends ≡ length ws = ends_count 0 ws in some_at ws i (omega (arith, h, e))
+  wire_of i h = let e : length ends ≡ length ws = length-map ws wire_ends in some_at ws i (omega (arith, h, e))
 
   is_place : (k : ℕ) (n : graph.Node) → slice_get (map node_of nodes) k ≡ Some n → k < length places
   is_place k n at =
@@ -116,23 +98,23 @@ module _ {S D : Type 0} (nodes : List Node) (ws : List Wire) (cs : List Chain) (
 
   -- a fact of a wire's ends
   by_wire : (P : Ends → Type 0) (i : ℕ) (v : Wire) → slice_get ws i ≡ Some v → P (wire_ends v) → P (end_at ends i)
-  by_wire P i v at h = subst P (sym (ends_at 0 ws i v at)) h
+  by_wire P i v at h = subst P (sym (ends_at ws i v at)) h
 
   same_found : (i k : ℕ) (o p : Option ℕ) → o ≡ Some i → p ≡ Some k → o ≡ p → i ≡ k
   same_found i k o p a b e = cc
 
   -- each end by its wire's
   from_is : (i : ℕ) (v : Wire) → slice_get ws i ≡ Some v → (end_at ends i).from ≡ v.from
-  from_is i v at = ap (λ (e : Ends). e.from) (ends_at 0 ws i v at)
+  from_is i v at = ap (λ (e : Ends). e.from) (ends_at ws i v at)
 
   output_is : (i : ℕ) (v : Wire) → slice_get ws i ≡ Some v → (end_at ends i).output ≡ v.output
-  output_is i v at = ap (λ (e : Ends). e.output) (ends_at 0 ws i v at)
+  output_is i v at = ap (λ (e : Ends). e.output) (ends_at ws i v at)
 
   to_is : (i : ℕ) (v : Wire) → slice_get ws i ≡ Some v → (end_at ends i).to ≡ v.to
-  to_is i v at = ap (λ (e : Ends). e.to) (ends_at 0 ws i v at)
+  to_is i v at = ap (λ (e : Ends). e.to) (ends_at ws i v at)
 
   input_is : (i : ℕ) (v : Wire) → slice_get ws i ≡ Some v → (end_at ends i).input ≡ v.input
-  input_is i v at = ap (λ (e : Ends). e.input) (ends_at 0 ws i v at)
+  input_is i v at = ap (λ (e : Ends). e.input) (ends_at ws i v at)
 
   meet : (a b c d : ℕ) → a ≡ c → b ≡ d → a ≡ b → c ≡ d
   meet a b c d p q e = sym p ∙ e ∙ q
@@ -156,7 +138,7 @@ module _ {S D : Type 0} (nodes : List Node) (ws : List Wire) (cs : List Chain) (
   in_ends : (i : ℕ) (v : Wire) → slice_get ws i ≡ Some v → i < length ends
   in_ends i v at =
       let lt : i < length ws = slice_get_within ws i v at in
-      let e : length ends ≡ length ws = ends_count 0 ws in
+      let e : length ends ≡ length ws = length-map ws wire_ends in
       omega (arith, lt, e)
 
   -- each port has a wire
@@ -185,10 +167,3 @@ module _ {S D : Type 0} (nodes : List Node) (ws : List Wire) (cs : List Chain) (
     each_output = λ k p h lt. let n = node_at k h in a_source k p n.0 n.1 lt;
     each_input = λ k p h lt. let n = node_at k h in a_target k p n.0 n.1 lt;
   }
-
-  pub are_parts : length ws < 2 ^ 32 → AreParts places (links_from 0 ws)
-  are_parts few = record { unused = seats_unused 0 nodes ss ds places a; wiring = wiring; once = each_once places 0 ws; few = let e : length (links_from 0 ws) ≡ length ws = links_count 0 ws in omega (arith, e, few) }
-    where
-      links_count : (k : ℕ) (us : List Wire) → length (links_from k us) ≡ length us
-      links_count k [] = refl
-      links_count k (u ∷ us) = ap suc (links_count (k + 1) us)

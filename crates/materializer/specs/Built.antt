@@ -1,15 +1,13 @@
 -- What of a blueprint can be run so far, and which blueprints can be.
-use Rattle.std.specs.Prelude.{◌≡◌, ℕ, ◌==◌, Bool, true, false, not, ◌||◌, ◌&&◌, is_some, List, slice_get, Option, None, Some}
-use Rattle.std.specs.List.{list_all, list_any}
+use Rattle.std.specs.Prelude.{◌≡◌, ℕ, Bool, true, false, not, List, Option}
+use Rattle.std.specs.List.{list_all}
 use Rattle.stream_model.specs.declared.kind.Kind.{Kind}
 use Rattle.stream_model.specs.declared.kind.Kind.TheVariants.{Lines, Range, Empty, Failed, Map, Filter, FilterNot, TakeWhile, DropWhile, Take, Drop, Limit, Grouped, MapConcat, Fold, Scan, Reduce, Buffer, RecoverNum, RecoverText, Valve, TripShutdown, TripAbort, Plug, GroupBy, SplitWhen, SplitAfter, Merge, Concat, Interleave, MergeSorted, Zip, Broadcast, Balance, Partition, Unzip, ToLines, Head, Last, Ignore}
-use Rattle.stream_model.specs.Graph.{Wire}
 use Rattle.blue_core.specs.declared.blueprint.Blueprint.{Blueprint}
 use Rattle.blue_core.specs.declared.blueprint.Node.{Node}
 use Rattle.plug_core.specs.declared.head.PlugHead.{PlugHead}
 use Rattle.blue_rules.specs.First.{first_from, when}
 use Rattle.blue_check.specs.Fitness.{IsFit}
-use Rattle.blue_check.specs.Wires.{blueprint_wires}
 
 -- the kinds that have been built
 abbrev pub is_built : Kind → Bool
@@ -54,30 +52,17 @@ is_built (Head file) = true
 is_built (Last file) = true
 is_built Ignore = true
 
--- a lane that leads into this node
-abbrev pub leads_into : ℕ → Wire → Bool
-leads_into i w = is_some w.lane && (w.to == i)
-
--- a node that cannot be run yet: its kind has not been built, or a lane leads into it
-abbrev pub is_unbuilt : List Wire → ℕ → Node → Bool
-is_unbuilt ws i n = not (is_built n.kind) || list_any (leads_into i) ws
-
--- the least such node
-abbrev pub unbuilt_in : List Node → List Wire → Option ℕ
-unbuilt_in nodes ws = first_from (λ i n. when (is_unbuilt ws i n) i) 0 nodes
+-- the least of these nodes that cannot be run yet: its kind has not been built
+abbrev pub unbuilt_in : List Node → Option ℕ
+unbuilt_in nodes = first_from (λ i n. when (not (is_built n.kind)) i) 0 nodes
 
 abbrev pub unbuilt_node : Blueprint → Option ℕ
-unbuilt_node b = unbuilt_in b.nodes.items (blueprint_wires b)
+unbuilt_node b = unbuilt_in b.nodes.items
 
--- a blueprint that can be run in islands: it breaks no rule, by some plugs and some files that were taken, and the kinds of its nodes
--- have been built
+-- a blueprint that can be run, whether its wires have lanes or not: it breaks no rule, by some plugs and some files that were taken,
+-- and the kinds of its nodes have been built
 pub record CanRun (b : Blueprint) : Type 0 where
   pub plugs : List PlugHead
   pub taken : List (List ℕ)
   pub fit : IsFit b plugs taken
   pub built : list_all (λ n. is_built n.kind) b.nodes.items ≡ true
-
--- one that can be run as one island: no wire has a lane
-pub record CanRunAlone (b : Blueprint) : Type 0 where
-  pub runs : CanRun b
-  pub alone : (i : ℕ) (w : Wire) → slice_get (blueprint_wires b) i ≡ Some w → w.lane ≡ None

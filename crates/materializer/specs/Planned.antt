@@ -1,5 +1,5 @@
--- The plan of a blueprint's island: what it takes of memory, before its files are opened.
-use Rattle.std.specs.Prelude.{◌≡◌, ℕ, ◌+◌, ◌≤◌, ◌<◌, ◌^◌, List, [], ◌∷◌, None, length, vec_len, vec_capacity, ⊤}
+-- The nodes of a blueprint at their places, before its files are opened.
+use Rattle.std.specs.Prelude.{◌≡◌, ℕ, ◌+◌, List, [], ◌∷◌, None, ⊤}
 use Rattle.stream_model.specs.declared.kind.Kind.{Kind}
 use Rattle.stream_model.specs.declared.kind.Kind.TheVariants.{Lines}
 use Rattle.stream_model.specs.Composed.{inputs_of}
@@ -8,16 +8,12 @@ use Rattle.nodes.specs.Kinds.{IsFileSink}
 use Rattle.interpreter.specs.declared.parts.Place.{Place}
 use Rattle.interpreter.specs.declared.parts.Seated.{Seated}
 use Rattle.interpreter.specs.declared.parts.Work.{Work}
-use Rattle.interpreter.specs.Room.{IsRoom}
 use Rattle.blue_core.specs.declared.blueprint.Node.{Node}
-use Rattle.blue_check.specs.Wires.{blueprint_wires}
-use Rattle.materializer.specs.Built.{CanRunAlone}
 use Rattle.materializer.specs.Files.{input_of, output_of}
-use Rattle.materializer.specs.Seats.{handles_left, IsFreeWork, IsWork, links_from}
+use Rattle.materializer.specs.Seats.{handles_left, IsFreeWork, IsWork}
 use Rattle.materializer.specs.declared.seats.Planned.{Planned}
 use Rattle.materializer.specs.declared.seats.Planned.TheVariants.{Reads, Writes, Works}
 use Rattle.materializer.specs.declared.seats.Seat.{Seat}
-use Rattle.materializer.specs.declared.parts.Plan.{Plan}
 
 -- the places of these nodes, of which the first is node k
 abbrev pub places_from : ℕ → List Node → List Place
@@ -84,13 +80,3 @@ pub record FillsAs {S D : Type 0} (k : ℕ) (n : Node) (sources : List S) (drain
 
 abbrev pub Fills : {S D : Type 0} → Seat S D → List S → List D → Seated S D → List S → List D → Type 0
 Fills s sources drains p later_sources later_drains = (k : ℕ) (n : Node) → IsSeat k n s → FillsAs k n sources drains p later_sources later_drains
-
--- the plan of its blueprint, which can be run as one island
-pub record IsPlan {S D : Type 0} (p : Plan S D) : Type 0 where
-  pub alone : CanRunAlone p.blueprint.value
-  pub seats : ArePlanned 0 p.blueprint.value.nodes.items p.seats.items
-  pub empty : p.places.items ≡ []
-  pub room_for_places : vec_len p.seats ≤ vec_capacity p.places
-  pub links_are : p.links.items ≡ links_from 0 (blueprint_wires p.blueprint.value)
-  pub few : length p.links.items < 2 ^ 32
-  pub room_is : IsRoom p.room (places_from 0 p.blueprint.value.nodes.items) p.links.items

@@ -1,10 +1,9 @@
--- The parts of the island of a blueprint: which place each node gets, and the link of each wire.
+-- What stands at the place of each node of a blueprint, in whichever island it is.
 use Rattle.std.specs.Prelude.{◌≡◌, ℕ, ◌+◌, List, [], ◌∷◌, slice_get, Option, Some, None, ⊤}
 use Rattle.elem_core.specs.declared.why.Decider.{Decider}
 use Rattle.stream_model.specs.declared.kind.Kind.{Kind}
 use Rattle.stream_model.specs.declared.kind.Kind.TheVariants.{Ignore}
 use Rattle.stream_model.specs.Composed.{inputs_of}
-use Rattle.stream_model.specs.Graph.{Wire}
 use Rattle.stream_picture.specs.View.{outputs_of}
 use Rattle.stream_io.specs.Reading.{Reading}
 use Rattle.stage_linear.specs.States.{Logic, IsLinear, Begins}
@@ -18,7 +17,6 @@ use Rattle.stage_out.specs.declared.logic.OutLogic.{OutLogic}
 use Rattle.stage_out.specs.OutLogics.{IsOut}
 use Rattle.stage_out.specs.OutLogics as fan_out
 use Rattle.nodes.specs.Kinds.{IsMaker, IsFileSink}
-use Rattle.interpreter.specs.declared.parts.Link.{Link}
 use Rattle.interpreter.specs.declared.parts.Seated.{Seated}
 use Rattle.interpreter.specs.declared.parts.Work.{Work}
 use Rattle.interpreter.specs.declared.parts.Work.TheVariants as work
@@ -101,8 +99,3 @@ AreSeats k [] sources drains [] = ⊤
 AreSeats k (n ∷ ns) sources drains (p ∷ ps) =
     (p.node ≡ k) × (IsWork k n sources drains p.work × AreSeats (k + 1) ns (handles_left (input_of n.kind) sources) (handles_left (output_of n.kind) drains) ps)
 AreSeats k _ sources drains _ = ⊥
-
--- the links of these wires, of which the first is wire i
-abbrev pub links_from : ℕ → List Wire → List Link
-links_from i [] = []
-links_from i (w ∷ ws) = record { wire = i; from = w.from; output = w.output; to = w.to; input = w.input } ∷ links_from (i + 1) ws

@@ -1,24 +1,20 @@
-// Laws of the parts of a blueprint: each function has no body, and its contract is the law.
-ghost use Rattle.std.specs.Prelude.{◌≡◌, ℕ, List, map, slice_get, Some, All};
+// Laws of what stands at the places of a blueprint's nodes: each function has no body, and its contract is the law.
+ghost use Rattle.std.specs.Prelude.{◌≡◌, ℕ, List, slice_get, Some, All};
 ghost use Rattle.blue_check.specs.Fitness.{IsFit};
-ghost use Rattle.blue_check.specs.Wires.{blueprint_wires};
 ghost use Rattle.blue_core.specs.declared.blueprint.Blueprint.{Blueprint};
 ghost use Rattle.blue_core.specs.declared.blueprint.Node as blue;
-ghost use Rattle.fused_net.specs.declared.net.Ends.{Ends};
-ghost use Rattle.interpreter.specs.Parts.{ends_of, AllBecome};
+ghost use Rattle.interpreter.specs.Parts.{AllBecome};
 ghost use Rattle.interpreter.specs.declared.parts.Seated.{Seated};
 ghost use Rattle.nodes.specs.declared.node.Node.{Node};
 ghost use Rattle.plug_core.specs.declared.head.PlugHead.{PlugHead};
-ghost use Rattle.run_laws.specs.Made.{Materializes};
 ghost use Rattle.stream_model.specs.Composed.{IsRanked};
 ghost use Rattle.stream_model.specs.declared.kind.Kind.TheVariants as kind;
-ghost use Rattle.materializer.specs.Built.{CanRunAlone};
 ghost use Rattle.materializer.specs.Files.{output_of, inputs_of_nodes, outputs_of_nodes};
 ghost use Rattle.materializer.specs.Firsts.{AreFirsts};
 ghost use Rattle.materializer.specs.Graphs.{graph_of};
 ghost use Rattle.materializer.specs.Handed.{ReadsFile, WritesFile, WritesNoFile};
 ghost use Rattle.stream_picture.specs.Joined.{IsJoined};
-ghost use Rattle.materializer.specs.Seats.{AreSeats, links_from};
+ghost use Rattle.materializer.specs.Seats.{AreSeats};
 
 use stream_io::outside::{Drain, Source};
 
@@ -30,13 +26,10 @@ pub fn fit_blueprints_are_whole()
 {}
 
 /// Where no source has handed out a byte, the nodes at the places of a blueprint, as they are handed in, are those of its graph,
-/// each in its order, also where lanes join them (`firsts`). Where no wire has a lane, the ends of the wires are those of the
-/// graph too (`alone`).
+/// each in its order, whether wires or lanes join them.
 pub fn parts_are_made_of_their_blueprint<S: Source, D: Drain>()
-    ensures firsts { (b : Blueprint) (sources : List S) (drains : List D) (places : List (Seated S D)) (firsts : List (Node S D)) → AreSeats 0 b.nodes.items sources drains places
+    ensures { (b : Blueprint) (sources : List S) (drains : List D) (places : List (Seated S D)) (firsts : List (Node S D)) → AreSeats 0 b.nodes.items sources drains places
         → AllBecome places firsts → All (λ s. (S.state s).given ≡ 0) sources → AreFirsts S.state (graph_of b).nodes firsts }
-    ensures alone { (b : Blueprint) (sources : List S) (drains : List D) (places : List (Seated S D)) (firsts : List (Node S D)) (ends : List Ends) → CanRunAlone b → AreSeats 0 b.nodes.items sources drains places
-        → AllBecome places firsts → ends ≡ map ends_of (links_from 0 (blueprint_wires b)) → All (λ s. (S.state s).given ≡ 0) sources → Materializes S.state (graph_of b) firsts ends }
 {}
 
 /// Each source of lines reads the source that was handed in for its file (`sources`), and each sink of lines writes the drain

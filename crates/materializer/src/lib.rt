@@ -1,9 +1,8 @@
-// The parts of the island of a blueprint, and what ties them to the model.
+// What stands at the places of a blueprint's nodes, and what ties it to the model.
 #![tactic(auto)]
 
 pub mod built;
 pub mod laws;
-pub mod links;
 pub mod names;
 pub mod number;
 pub mod parts;

@@ -25,7 +25,7 @@ pub enum Status {
     Missing(Line),
     /// A read of the blueprint's file failed.
     ReadFault,
-    /// This version does not run the node of that number, or a lane that leads into it; it is the least such node.
+    /// This version does not run the kind of the node of that number; it is the least such node.
     Unbuilt(u32),
     /// A write to a sink's file failed.
     WriteFault,

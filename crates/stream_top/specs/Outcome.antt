@@ -126,7 +126,7 @@ pub record LacksOutput (old new : FolderState) (b : Blueprint) (trace : Option (
   pub files : Empties old new before
   pub blank : Blank a
 
--- memory was wanting before the run, as its files were opened or its island was made: the first of the files that it opens to write
+-- memory was wanting before the run, as its files were opened or its islands were made: the first of the files that it opens to write
 -- them are empty, and no other file is changed
 pub record GaveUpBefore (old new : FolderState) (b : Blueprint) (trace : Option (List ℕ)) : Type 0 where
   pub before : List (List ℕ)

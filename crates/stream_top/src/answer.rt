@@ -7,7 +7,7 @@ ghost use Rattle.blueprint_run.specs.Tracing.{IsApart};
 ghost use Rattle.run_report.specs.Report.{detail_of};
 ghost use Rattle.std.specs.List.{Contains, list_any};
 ghost use Rattle.std.specs.Option.{option_copied};
-ghost use Rattle.materializer.specs.Built.{CanRunAlone};
+ghost use Rattle.materializer.specs.Built.{CanRun};
 ghost use Rattle.materializer.specs.Files.{inputs_of_nodes, sinks_of_nodes};
 ghost use Rattle.stream_top.specs.AfterRun.{AfterRun, of_outcome, status_after, ends_of};
 ghost use Rattle.stream_io.specs.Counts.{GrewAtMost};
@@ -198,7 +198,7 @@ fn run_blueprint<F: Folder>(
     trace: Option<Line>,
     turns: u32,
 ) -> Outcome
-    requires runs { CanRunAlone b }
+    requires runs { CanRun b }
     requires apart { IsApart b trace }
     requires turns { turns ≤ 4000000000 }
     ensures told { IsTrue (F.state folder.old).tells → EndedRun result.status (of_outcome result) b trace turns (F.state folder.old) (F.state folder.new) }
@@ -240,7 +240,7 @@ fn run_checked<F: Folder>(
     ensures reads { QuietButAll (inputs_of_nodes (blueprint_of checked).nodes.items) (F.state folder.old).read (F.state folder.new).read }
     ensures handles { F.handles folder.new ≡ F.handles folder.old }
 {
-    match first_unbuilt(alloc, checked.blueprint()) {
+    match first_unbuilt(checked.blueprint()) {
         Ok(None) => run_blueprint(alloc, folder, checked.into_blueprint(), trace, turns),
         Ok(Some(node)) => without_run(alloc, Status::Unbuilt(node)),
         Err(_) => without_run(alloc, Status::NoMemory),

@@ -55,9 +55,7 @@ fn put_unbuilt(out: &mut Vec<u8>, scene: Option<Scene<'_>>, word: &[u8]) -> Resu
     };
     out.extend_from_slice(b"This version of streams does not run ")?;
     let is_node = put_node(out, scene, number as usize)?;
-    out.extend_from_slice(
-        b", or a lane that leads into it. Nothing was run, and no file was changed.\n",
-    )?;
+    out.extend_from_slice(b". Nothing was run, and no file was changed.\n")?;
     Ok(is_node)
 }
 

@@ -3,7 +3,7 @@ use Rattle.std.proofs.Common.{◌≡◌, ◌∙◌, inl, inr, Err, Result, refl,
 use Rattle.blue_core.specs.declared.blueprint.Blueprint.{Blueprint}
 use Rattle.run_files.specs.Opening.{OpensAll, GivesUp}
 use Rattle.materializer.specs.Files.{inputs_of_nodes, outputs_of_nodes}
-use Rattle.blueprint_run.specs.Leaving.{Leaves, LeavesBrokenAs}
+use Rattle.island_runs.specs.Leaving.{Leaves, LeavesBrokenAs}
 use Rattle.blueprint_run.proofs.Breaking.{unmade, closes_unmade, none_open}
 use Rattle.blueprint_run.proofs.Places.{all_unmapped}
 use Rattle.blueprint_run.proofs.Traces.{opened_apart, as_many_drains, last_there}
@@ -20,8 +20,8 @@ returns-in-Err-clause-no_memory g c =
 pub take_last-drain-requires : goal.take_last-drain-requires
 take_last-drain-requires g c = last_there g.F.Out.Drain.state (g.F.Folder.state c.args.folder.now) (g.F.Folder.state c.open_all.new.folder) c.args.b c.args.trace (map g.F.Inp.Source.state c.in-Ok-open_all.opened.inputs.items) c.in-Ok-open_all.opened.outputs.items _ _ _ c.in-Ok.ensures.outputs c.in-Ok-open_all.ensures.opened c.is_some-wanted.ensures
 
-pub run_open-requires-clause-drains : goal.run_open-requires-clause-drains
-run_open-requires-clause-drains g c =
+pub run-requires-clause-drains : goal.run-requires-clause-drains
+run-requires-clause-drains g c =
     let old = g.F.Folder.state c.args.folder.now in
     let mid = g.F.Folder.state c.open_all.new.folder in
     let ss = c.in-Ok-open_all.opened.inputs.items in
@@ -29,10 +29,10 @@ run_open-requires-clause-drains g c =
     let ds = c.take_last-drain.new.drains.items in
     let drain = c.take_last-drain.result in
     let both = opened_apart g.F.Out.Drain.state old mid c.args.b c.args.trace (map g.F.Inp.Source.state ss) all ds drain _ _ _ c.in-Ok.ensures.inputs c.in-Ok.ensures.outputs c.in-Ok-open_all.ensures.opened c.take_last-drain.ensures.all c.take_last-drain.ensures.wanted c.is_some-wanted.ensures in
-    c.take_last-drain.new.drains.ok.0 ∙ as_many_drains g.F.Out.Drain.state ds _ both.0.output_names ∙ ap (λ (p : Blueprint). length (outputs_of_nodes p.nodes.items)) (sym c.in-Ok-plan_of.ensures.blueprint)
+    c.take_last-drain.new.drains.ok.0 ∙ as_many_drains g.F.Out.Drain.state ds _ both.0.output_names ∙ ap (λ (p : Blueprint). length (outputs_of_nodes p.nodes.items)) (sym c.in-Ok-prepare.ensures.blueprint)
 
-pub run_open-requires-clause-started : goal.run_open-requires-clause-started
-run_open-requires-clause-started g c =
+pub run-requires-clause-unread : goal.run-requires-clause-unread
+run-requires-clause-unread g c =
     let old = g.F.Folder.state c.args.folder.now in
     let mid = g.F.Folder.state c.open_all.new.folder in
     let ss = c.in-Ok-open_all.opened.inputs.items in
@@ -42,8 +42,8 @@ run_open-requires-clause-started g c =
     let both = opened_apart g.F.Out.Drain.state old mid c.args.b c.args.trace (map g.F.Inp.Source.state ss) all ds drain _ _ _ c.in-Ok.ensures.inputs c.in-Ok.ensures.outputs c.in-Ok-open_all.ensures.opened c.take_last-drain.ensures.all c.take_last-drain.ensures.wanted c.is_some-wanted.ensures in
     all_unmapped (λ i. i.given ≡ 0) g.F.Inp.Source.state ss (λ k d h. (both.0.sources k d h).given)
 
-pub returns-in-Ok-run_open-clause-ran : goal.returns-in-Ok-run_open-clause-ran
-returns-in-Ok-run_open-clause-ran g c =
+pub returns-in-Ok-run-clause-ran : goal.returns-in-Ok-run-clause-ran
+returns-in-Ok-run-clause-ran g c =
     let old = g.F.Folder.state c.args.folder.now in
     let mid = g.F.Folder.state c.open_all.new.folder in
     let ss = c.in-Ok-open_all.opened.inputs.items in
@@ -51,11 +51,11 @@ returns-in-Ok-run_open-clause-ran g c =
     let ds = c.take_last-drain.new.drains.items in
     let drain = c.take_last-drain.result in
     let both = opened_apart g.F.Out.Drain.state old mid c.args.b c.args.trace (map g.F.Inp.Source.state ss) all ds drain _ _ _ c.in-Ok.ensures.inputs c.in-Ok.ensures.outputs c.in-Ok-open_all.ensures.opened c.take_last-drain.ensures.all c.take_last-drain.ensures.wanted c.is_some-wanted.ensures in
-    let leaves = subst (λ p. Leaves g.F.Inp.Source.state g.F.Out.Drain.state p ss ds c.args.budget c.in-Ok-run_open.stopped) c.in-Ok-plan_of.ensures.blueprint c.in-Ok-run_open.ensures.leaves in
-    c.close.ensures.runs old c.args.b c.args.trace c.args.budget ss ds c.requires.runs.runs c.requires.apart (c.deref.ensures.value ∙ c.in-Ok.ensures.choosers) both.0 both.1 leaves
+    let leaves = subst (λ p. Leaves g.F.Inp.Source.state g.F.Out.Drain.state p ss ds c.args.budget c.in-Ok-run.stopped) c.in-Ok-prepare.ensures.blueprint c.in-Ok-run.ensures.leaves in
+    c.close.ensures.runs old c.args.b c.args.trace c.args.budget ss ds c.requires.runs c.requires.apart (c.deref.ensures.value ∙ c.in-Ok.ensures.choosers) both.0 both.1 leaves
 
-pub returns-in-Ok-run_open-clause-handles : goal.returns-in-Ok-run_open-clause-handles
-returns-in-Ok-run_open-clause-handles g c =
+pub returns-in-Ok-run-clause-handles : goal.returns-in-Ok-run-clause-handles
+returns-in-Ok-run-clause-handles g c =
     let old = g.F.Folder.state c.args.folder.now in
     let mid = g.F.Folder.state c.open_all.new.folder in
     let ss = c.in-Ok-open_all.opened.inputs.items in
@@ -63,8 +63,8 @@ returns-in-Ok-run_open-clause-handles g c =
     let ds = c.take_last-drain.new.drains.items in
     let drain = c.take_last-drain.result in
     let both = opened_apart g.F.Out.Drain.state old mid c.args.b c.args.trace (map g.F.Inp.Source.state ss) all ds drain _ _ _ c.in-Ok.ensures.inputs c.in-Ok.ensures.outputs c.in-Ok-open_all.ensures.opened c.take_last-drain.ensures.all c.take_last-drain.ensures.wanted c.is_some-wanted.ensures in
-    let leaves = subst (λ p. Leaves g.F.Inp.Source.state g.F.Out.Drain.state p ss ds c.args.budget c.in-Ok-run_open.stopped) c.in-Ok-plan_of.ensures.blueprint c.in-Ok-run_open.ensures.leaves in
-    none_open ss all ds drain _ _ _ _ c.in-Ok-open_all.ensures.handles c.take_last-drain.ensures.all (c.close.ensures.all old c.args.b c.args.trace c.args.budget ss ds c.requires.runs.runs c.requires.apart both.0 both.1 leaves) c.close.ensures.handles
+    let leaves = subst (λ p. Leaves g.F.Inp.Source.state g.F.Out.Drain.state p ss ds c.args.budget c.in-Ok-run.stopped) c.in-Ok-prepare.ensures.blueprint c.in-Ok-run.ensures.leaves in
+    none_open ss all ds drain _ _ _ _ c.in-Ok-open_all.ensures.handles c.take_last-drain.ensures.all (c.close.ensures.all old c.args.b c.args.trace c.args.budget ss ds c.requires.runs c.requires.apart both.0 both.1 leaves) c.close.ensures.handles
 
 pub returns-in-Err-Unmade-clause-no_memory : goal.returns-in-Err-Unmade-clause-no_memory
 returns-in-Err-Unmade-clause-no_memory g c =
@@ -76,8 +76,8 @@ returns-in-Err-Unmade-clause-no_memory g c =
     let is = map g.F.Inp.Source.state ss in
     let os = map g.F.Out.Drain.state all in
     let opens = subst (λ names. OpensAll old mid (inputs_of_nodes c.args.b.nodes.items) names is os) c.in-Ok.ensures.outputs
-    (subst (λ names. OpensAll old mid names c.in-Ok.prepared.outputs.items is os) c.in-Ok.ensures.inputs c.in-Ok-open_all.ensures.opened) in
-    let told = subst (λ p. LeavesBrokenAs g.F.Inp.Source.state g.F.Out.Drain.state p ss ds c.in-Err-Unmade.field-0) c.in-Ok-plan_of.ensures.blueprint c.in-Err-Unmade.ensures.breaks in
+    (subst (λ names. OpensAll old mid names c.in-Ok.named.outputs.items is os) c.in-Ok.ensures.inputs c.in-Ok-open_all.ensures.opened) in
+    let told = subst (λ p. LeavesBrokenAs g.F.Inp.Source.state g.F.Out.Drain.state p ss ds c.in-Err-Unmade.field-0) c.in-Ok-prepare.ensures.blueprint c.in-Err-Unmade.ensures.breaks in
     let broken = subst (λ x. LeavesBrokenAs g.F.Inp.Source.state g.F.Out.Drain.state c.args.b ss ds x) c.in-Err-Unmade.field-0-is told in
     λ e. inl (unmade g.F.Inp.Source.state g.F.Out.Drain.state old mid _ c.args.b c.args.trace ss all ds c.take_last-drain.result _ opens c.take_last-drain.ensures.all broken c.close_unmade.ensures.closes)
 
@@ -85,7 +85,7 @@ pub returns-in-Err-Unmade-clause-handles : goal.returns-in-Err-Unmade-clause-han
 returns-in-Err-Unmade-clause-handles g c =
     let ss = c.in-Ok-open_all.opened.inputs.items in
     let ds = c.take_last-drain.new.drains.items in
-    let told = subst (λ p. LeavesBrokenAs g.F.Inp.Source.state g.F.Out.Drain.state p ss ds c.in-Err-Unmade.field-0) c.in-Ok-plan_of.ensures.blueprint c.in-Err-Unmade.ensures.breaks in
+    let told = subst (λ p. LeavesBrokenAs g.F.Inp.Source.state g.F.Out.Drain.state p ss ds c.in-Err-Unmade.field-0) c.in-Ok-prepare.ensures.blueprint c.in-Err-Unmade.ensures.breaks in
     let broken = subst (λ x. LeavesBrokenAs g.F.Inp.Source.state g.F.Out.Drain.state c.args.b ss ds x) c.in-Err-Unmade.field-0-is told in
     none_open ss c.in-Ok-open_all.opened.outputs.items ds c.take_last-drain.result _ _ _ _ c.in-Ok-open_all.ensures.handles c.take_last-drain.ensures.all (closes_unmade g.F.Inp.Source.state g.F.Out.Drain.state ss ds _ broken) c.close_unmade.ensures.handles
 
@@ -98,9 +98,9 @@ returns-clause-no_memory g c =
     let ds = c.take_last-drain.new.drains.items in
     let drain = c.take_last-drain.result in
     let both = opened_apart g.F.Out.Drain.state old mid c.args.b c.args.trace (map g.F.Inp.Source.state ss) all ds drain _ _ _ c.in-Ok.ensures.inputs c.in-Ok.ensures.outputs c.in-Ok-open_all.ensures.opened c.take_last-drain.ensures.all c.take_last-drain.ensures.wanted c.is_some-wanted.ensures in
-    let told = subst (λ p. LeavesBrokenAs g.F.Inp.Source.state g.F.Out.Drain.state p ss ds c.in-Err-Within.field-0) c.in-Ok-plan_of.ensures.blueprint c.in-Err-Within.ensures.breaks in
+    let told = subst (λ p. LeavesBrokenAs g.F.Inp.Source.state g.F.Out.Drain.state p ss ds c.in-Err-Within.field-0) c.in-Ok-prepare.ensures.blueprint c.in-Err-Within.ensures.breaks in
     let broken = subst (λ x. LeavesBrokenAs g.F.Inp.Source.state g.F.Out.Drain.state c.args.b ss ds x) c.in-Err-Within.field-0-is told in
-    λ e. inr (c.give_up.ensures.wants old c.args.b c.args.trace ss ds c.requires.runs.runs c.requires.apart both.0 both.1 broken)
+    λ e. inr (c.give_up.ensures.wants old c.args.b c.args.trace ss ds c.requires.runs c.requires.apart both.0 both.1 broken)
 
 pub returns-clause-handles : goal.returns-clause-handles
 returns-clause-handles g c =
@@ -111,6 +111,6 @@ returns-clause-handles g c =
     let ds = c.take_last-drain.new.drains.items in
     let drain = c.take_last-drain.result in
     let both = opened_apart g.F.Out.Drain.state old mid c.args.b c.args.trace (map g.F.Inp.Source.state ss) all ds drain _ _ _ c.in-Ok.ensures.inputs c.in-Ok.ensures.outputs c.in-Ok-open_all.ensures.opened c.take_last-drain.ensures.all c.take_last-drain.ensures.wanted c.is_some-wanted.ensures in
-    let told = subst (λ p. LeavesBrokenAs g.F.Inp.Source.state g.F.Out.Drain.state p ss ds c.in-Err-Within.field-0) c.in-Ok-plan_of.ensures.blueprint c.in-Err-Within.ensures.breaks in
+    let told = subst (λ p. LeavesBrokenAs g.F.Inp.Source.state g.F.Out.Drain.state p ss ds c.in-Err-Within.field-0) c.in-Ok-prepare.ensures.blueprint c.in-Err-Within.ensures.breaks in
     let broken = subst (λ x. LeavesBrokenAs g.F.Inp.Source.state g.F.Out.Drain.state c.args.b ss ds x) c.in-Err-Within.field-0-is told in
-    none_open ss all ds drain _ _ _ _ c.in-Ok-open_all.ensures.handles c.take_last-drain.ensures.all (c.give_up.ensures.all old c.args.b c.args.trace ss ds c.requires.runs.runs c.requires.apart both.0 both.1 broken) c.give_up.ensures.handles
+    none_open ss all ds drain _ _ _ _ c.in-Ok-open_all.ensures.handles c.take_last-drain.ensures.all (c.give_up.ensures.all old c.args.b c.args.trace ss ds c.requires.runs c.requires.apart both.0 both.1 broken) c.give_up.ensures.handles

@@ -1,8 +1,8 @@
 -- The goals of `answer::run_checked` that the search leaves.
 use Rattle.std.proofs.Common.{◌≡◌, ◌∙◌, inr, sym, ap, subst, Some, None, []}
 use Rattle.blue_check.specs.Checked.{blueprint_of}
-use Rattle.materializer.specs.Built.{CanRunAlone, unbuilt_node}
-use Rattle.materializer.proofs.Making.{runs_alone}
+use Rattle.materializer.specs.Built.{CanRun, unbuilt_node}
+use Rattle.materializer.proofs.Fitting.{can_run}
 use Rattle.stream_top.specs.AfterRun.{of_outcome}
 use Rattle.stream_top.specs.Outcome.{EndedRun}
 use Rattle.stream_top.proofs.Answering.{unbuilt_told, reads_checked}
@@ -11,7 +11,7 @@ use Rattle.stream_top.proofs.answer.run_checked.Goals as goal
 pub run_blueprint-requires-clause-runs : goal.run_blueprint-requires-clause-runs
 run_blueprint-requires-clause-runs g c =
     let none : unbuilt_node (blueprint_of c.args.checked) ≡ None = sym (ap unbuilt_node c.blueprint.ensures) ∙ sym c.in-Ok-None.ensures ∙ c.in-Ok-None.field-0-is in
-    λ k l. subst CanRunAlone (sym c.into_blueprint.ensures) (runs_alone (blueprint_of c.args.checked) [] c.requires.fit.0 c.requires.fit.1 none)
+    λ k l. subst CanRun (sym c.into_blueprint.ensures) (can_run (blueprint_of c.args.checked) [] c.requires.fit.0 c.requires.fit.1 none)
 
 pub returns-in-Ok-None-clause-told : goal.returns-in-Ok-None-clause-told
 returns-in-Ok-None-clause-told g c =

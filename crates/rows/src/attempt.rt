@@ -12,12 +12,12 @@ use blue_words::fault::{BlueFault, kind_number};
 use elem_core::elem_type::{ElemType, TypeForm};
 use plug_core::head::PlugHead;
 use std::alloc::Global;
+use stream_command::RunEnd;
 use stream_command::run::run_streams;
 use stream_io::fail_at::FailAt;
 use stream_io::mem_drain::MemDrain;
 use stream_io::mem_folder::MemFolder;
 use stream_io::named_file::{NamedFile, bytes_of};
-use stream_top::top::RunEnd;
 
 /// The code that stands for want of memory.
 const NO_MEMORY: u32 = 9;

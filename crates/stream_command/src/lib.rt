@@ -2,3 +2,7 @@
 #![tactic(auto)]
 
 pub mod run;
+
+pub use stream_top::outcome::Status;
+pub use stream_top::sure::run_surely;
+pub use stream_top::top::RunEnd;

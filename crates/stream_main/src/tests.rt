@@ -1,11 +1,10 @@
 // A whole call over a folder and a console that never fail. What other calls come to is told by the cases of `rows`.
 use crate::line_of;
 use std::test::Fail;
+use stream_command::{Status, run_surely};
 use stream_io::named_file::NamedFile;
 use stream_io::sure::{SureDrain, SureFolder};
 use stream_model::outcome::EndState;
-use stream_top::outcome::Status;
-use stream_top::sure::run_surely;
 
 const TEXT: &str =
     "streams 1\nsource src lines in.txt\nstage size map len\nsink out lines out.txt\nwire src.0 -> size.0\nwire size.0 -> out.0\n";

@@ -1,0 +1,69 @@
+-- The plugs that the program ships, and their book.
+use Rattle.std.specs.Prelude.{◌==◌, if◌then◌else◌, ℕ, List, [], ◌∷◌, Option, None, Some, Result, Ok, Err, codes}
+use Rattle.std.specs.Cmp.Lexicographic.{pointwise}
+use Rattle.std.specs.Ordering.{is_eq}
+use Rattle.elem_core.specs.Tree.{Tree}
+use Rattle.elem_core.specs.Order.{tree_cmp}
+use Rattle.elem_core.specs.Values.{sum_step}
+use Rattle.elem_core.specs.declared.why.Why.{Why}
+use Rattle.stream_model.specs.Linear.{Book, Reply, go, fail}
+use Rattle.plug_logic.specs.Gives.{Gives}
+
+-- these outputs, and it goes on
+abbrev pub gave : List Tree → Reply
+gave l = record { gave = l; verdict = go }
+
+-- ---- dedup
+
+-- the last element that came, of a list behind one that came before it
+abbrev pub last_behind : Option Tree → List Tree → Option Tree
+last_behind x [] = x
+last_behind x (t ∷ l) = last_behind (Some t) l
+
+-- an element that is equal to the one before it is left out
+abbrev pub unrepeated : Option Tree → Tree → List Tree
+unrepeated None t = t ∷ []
+unrepeated (Some last) t = if is_eq (tree_cmp last t) then [] else t ∷ []
+
+-- what it gives where this element came last
+abbrev pub dedup_after : Option Tree → Gives
+dedup_after x = record { reply = λ l t. gave (unrepeated (last_behind x l) t); closing = λ l. gave [] }
+
+-- ---- pairsum
+
+-- the number that waits for its neighbour, behind a list
+abbrev pub waiting : Option Tree → List Tree → Option Tree
+waiting x [] = x
+waiting None (t ∷ l) = waiting (Some t) l
+waiting (Some a) (t ∷ l) = waiting None l
+
+-- a sum, or code 1 where it is out of range
+abbrev pub summed : Result Tree Why → Reply
+summed (Ok s) = gave (s ∷ [])
+summed (Err w) = record { gave = []; verdict = fail 1 }
+
+abbrev pub paired : Option Tree → Tree → Reply
+paired None t = gave []
+paired (Some a) t = summed (sum_step a t)
+
+-- an odd last number
+abbrev pub odd : Option Tree → Reply
+odd None = gave []
+odd (Some a) = gave (a ∷ [])
+
+-- what it gives where this number waits
+abbrev pub sums_after : Option Tree → Gives
+sums_after x = record { reply = λ l. paired (waiting x l); closing = λ l. odd (waiting x l) }
+
+-- ---- the book
+
+-- a plug that gives nothing
+abbrev pub silent : Gives
+silent = record { reply = λ l t. gave []; closing = λ l. gave [] }
+
+-- what the plug of this name gives
+abbrev pub shipped : List ℕ → Gives
+shipped name = if pointwise ◌==◌ name (codes "dedup") then dedup_after None else if pointwise ◌==◌ name (codes "pairsum") then sums_after None else silent
+
+abbrev pub shipped_book : Book
+shipped_book = record { reply = λ name. (shipped name).reply; closing = λ name. (shipped name).closing }

@@ -1,0 +1,12 @@
+// A stage that a caller hands in.
+use crate::logic::Logic;
+use plug_core::head::PlugHead;
+
+/// A plug: what blueprints have to know of it, and its logic, which is boxed where no other type is named. Rule: own.
+#[derive(Drop)]
+pub struct Plug<L = Box<dyn Logic + Send>> {
+    /// Its name and its types.
+    pub head: PlugHead,
+    /// What it does.
+    pub logic: L,
+}

@@ -1,5 +1,5 @@
 // Laws of the switches of a blueprint: each function has no body, and its contract is the law.
-ghost use Rattle.std.specs.Prelude.{◌≡◌, ◌≤◌, ℕ, List, Some, length, slice_get, true};
+ghost use Rattle.std.specs.Prelude.{◌≡◌, ◌≤◌, ℕ, List, Option, Some, length, slice_get, true};
 ghost use Rattle.kill_core.specs.Public.{SeatState, IsSeatOf};
 ghost use Rattle.stream_model.specs.declared.kind.Kind.{Kind};
 ghost use Rattle.stream_model.specs.Graph.{Graph, Node};
@@ -10,14 +10,14 @@ ghost use Rattle.elem_core.specs.declared.item.Item.{Item};
 ghost use Rattle.port_core.specs.View.{View};
 ghost use Rattle.stage_switch.specs.States.{Valve, Trip};
 ghost use Rattle.stage_switch.specs.Handling.{ValveAs, elements, TripAs, trip_kind};
-ghost use Rattle.switch_laws.specs.Settling.{SeatTold, AllSettled, OneOrderShown};
+ghost use Rattle.switch_laws.specs.Settling.{SeatTold, AllSettled, OneOrderShown, kinds_of};
 
 /// Where the laws of the nodes tell what each seat knows and gave, and the seats of each switch were settled, over however
 /// many islands: all valves of a switch with moves show one order, that of a trip of the switch which took its element. So,
 /// where each node's moves fit and no trip took more elements than came, all moves of the blueprint fit. A trip that took so
 /// many elements can trip where more may come.
 pub fn switches_show_one_order()
-    ensures shown { (g : Graph) (w : World) (took : ℕ → ℕ) (seat : ℕ → SeatState) → ((node : ℕ) (n : Node) → slice_get g.nodes node ≡ Some n → SeatTold n.kind (w.moves node) (took node) (seat node)) → AllSettled g seat → OneOrderShown g w took }
+    ensures shown { (g : Graph) (w : World) (took : ℕ → ℕ) (seat : ℕ → Option SeatState) → ((node : ℕ) (n : Node) → slice_get g.nodes node ≡ Some n → (s : SeatState) → seat node ≡ Some s → SeatTold n.kind (w.moves node) (took node) s) → AllSettled (kinds_of g) seat → OneOrderShown g w took }
     ensures fits { (g : Graph) (w : World) (took : ℕ → ℕ) → OneOrderShown g w took
         → ((node : ℕ) (n : Node) → slice_get g.nodes node ≡ Some n → moves_fit g w node n.kind (inputs g w node n) ≡ true)
         → ((node : ℕ) (n : Node) → slice_get g.nodes node ≡ Some n → took node ≤ length (head_of (inputs g w node n)).list) → Fits g w }

@@ -1,0 +1,5 @@
+pub mod Places
+pub mod Sitting
+pub mod Dealt
+pub mod Settled
+pub mod Put

@@ -139,14 +139,14 @@ fn gives_two<S: Stage>(
 
 // Whether these are the moves that a buffer made.
 fn moved(alloc: Global, stage: StateLogic, moves: &[u32]) -> bool {
-    stage.close(alloc).into_moves().as_slice() == moves
+    stage.close(alloc).0.into_moves().as_slice() == moves
 }
 
 #[test]
 fn a_full_buffer_drops_its_oldest(rt: HostRuntime) -> Result<(), Fail> {
     let alloc = rt.alloc();
     let kind = Kind::Buffer(2, Policy::DropHead);
-    let mut stage = StateLogic::new(alloc, 0, kind, Decider::Stop)?;
+    let mut stage = StateLogic::new(alloc, 0, kind, Decider::Stop, None)?;
     let mut acts = Acts::new(alloc, MOST_ACTS)?;
     assert!(rt; gives_two(alloc, &mut stage, 2, 3, &mut acts)?);
     assert!(rt; gives(alloc, &mut stage, 4, &mut acts)?);
@@ -158,7 +158,7 @@ fn a_full_buffer_drops_its_oldest(rt: HostRuntime) -> Result<(), Fail> {
 fn a_full_buffer_drops_its_youngest(rt: HostRuntime) -> Result<(), Fail> {
     let alloc = rt.alloc();
     let kind = Kind::Buffer(2, Policy::DropTail);
-    let mut stage = StateLogic::new(alloc, 0, kind, Decider::Stop)?;
+    let mut stage = StateLogic::new(alloc, 0, kind, Decider::Stop, None)?;
     let mut acts = Acts::new(alloc, MOST_ACTS)?;
     assert!(rt; gives_two(alloc, &mut stage, 1, 3, &mut acts)?);
     assert!(rt; gives(alloc, &mut stage, 4, &mut acts)?);
@@ -170,7 +170,7 @@ fn a_full_buffer_drops_its_youngest(rt: HostRuntime) -> Result<(), Fail> {
 fn a_full_buffer_drops_the_new_element(rt: HostRuntime) -> Result<(), Fail> {
     let alloc = rt.alloc();
     let kind = Kind::Buffer(2, Policy::DropNew);
-    let mut stage = StateLogic::new(alloc, 0, kind, Decider::Stop)?;
+    let mut stage = StateLogic::new(alloc, 0, kind, Decider::Stop, None)?;
     let mut acts = Acts::new(alloc, MOST_ACTS)?;
     assert!(rt; gives_two(alloc, &mut stage, 1, 2, &mut acts)?);
     assert!(rt; gives(alloc, &mut stage, 4, &mut acts)?);
@@ -182,7 +182,7 @@ fn a_full_buffer_drops_the_new_element(rt: HostRuntime) -> Result<(), Fail> {
 fn a_full_buffer_drops_all(rt: HostRuntime) -> Result<(), Fail> {
     let alloc = rt.alloc();
     let kind = Kind::Buffer(2, Policy::DropBuffer);
-    let mut stage = StateLogic::new(alloc, 0, kind, Decider::Stop)?;
+    let mut stage = StateLogic::new(alloc, 0, kind, Decider::Stop, None)?;
     let mut acts = Acts::new(alloc, MOST_ACTS)?;
     assert!(rt; gives_two(alloc, &mut stage, 3, 4, &mut acts)?);
     assert!(rt; moved(alloc, stage, &[0, 0, 0, 1, 0, 1]));
@@ -218,7 +218,7 @@ fn fails_at_three<S: Stage>(alloc: Global, stage: &mut S, acts: &mut Acts) -> Re
 fn a_full_buffer_fails(rt: HostRuntime) -> Result<(), Fail> {
     let alloc = rt.alloc();
     let kind = Kind::Buffer(2, Policy::Fail);
-    let mut stage = StateLogic::new(alloc, 7, kind, Decider::Stop)?;
+    let mut stage = StateLogic::new(alloc, 7, kind, Decider::Stop, None)?;
     let mut acts = Acts::new(alloc, MOST_ACTS)?;
     assert!(rt; fails_at_three(alloc, &mut stage, &mut acts)?);
     assert!(rt; moved(alloc, stage, &[0, 0, 0]));

@@ -1,9 +1,8 @@
 -- Each call of a stage with state keeps the law of its histories, whatever its kind.
-use Rattle.std.specs.Prelude.{Result, Ok, Err, OnOk}
-use Rattle.std.proofs.Common.{◌≡◌, ◌≢◌, ℕ, List, [], ◌++◌, refl, sym, ap, subst, ◌∙◌, append-nil}
+use Rattle.std.specs.Prelude.{⊤, Result, Ok, Err, OnOk}
+use Rattle.std.proofs.Common.{◌≡◌, ◌≢◌, ℕ, List, [], ◌++◌, refl, sym, subst}
 use Rattle.elem_core.specs.Prefix.{IsPrefix}
 use Rattle.elem_core.specs.declared.item.Item.{Item}
-use Rattle.elem_core.specs.declared.why.Decider.{Decider}
 use Rattle.port_core.specs.declared.act.Act.{Act}
 use Rattle.port_core.specs.View.{View}
 use Rattle.port_core.specs.Call.{Call, starts, CallAllowed, Meets, Obeys}
@@ -20,10 +19,14 @@ use Rattle.stage_dropping.proofs.DropNodes as drops
 use Rattle.stage_recover.specs.Recoverings as recover
 use Rattle.stage_recover.specs.Recoverings.{RecoverFresh, RecoverRow, RecoversAs}
 use Rattle.stage_recover.proofs.RecoverNodes as recovers
+use Rattle.stage_switch.specs.States as switch
+use Rattle.stage_switch.specs.Handling.{ValveRow, ValveAs, TripRow, TripAs}
+use Rattle.stage_switch.proofs.Handling as switches
+use Rattle.stage_switch.proofs.Rows as switch_rows
 use Rattle.stage_state.specs.States as machine
-use Rattle.stage_state.specs.MachineNodes.{MachineFresh, MachineRow, MachineLaw}
+use Rattle.stage_state.specs.MachineNodes.{MachineRow, MachineLaw}
 use Rattle.stage_state.specs.declared.logic.StateLogic.{StateLogic}
-use Rattle.stage_state.specs.declared.logic.StateLogic.TheVariants.{Machine, Dropping, Recovering}
+use Rattle.stage_state.specs.declared.logic.StateLogic.TheVariants.{Machine, Dropping, Recovering, Obeying, Tripping}
 use Rattle.stage_state.specs.Handling.{StateFresh, StateRow, StateLaw}
 use Rattle.stage_state.specs.Logics.{phase_of, row, Turned}
 use Rattle.stage_state.specs.Moves.{state_moves}
@@ -36,6 +39,8 @@ pub called_open : (l : StateLogic) (call : Call) (v : View) → call ≢ starts 
 called_open (Machine l) call v s h r = rows.called_open l call v r.started s h r.row
 called_open (Dropping l) call v s h r = drops.called_open l call v r.started h r.row
 called_open (Recovering l) call v s h r = recovers.called_open l call v r.started h r.row
+called_open (Obeying l) call v s h r = switch_rows.called_valve l call v s h r
+called_open (Tripping l) call v s h r = switch_rows.called_trip l call v s h r
 
 -- ---- a handler's law is that of its kind
 
@@ -51,6 +56,8 @@ machine_handles call old new acts h = record {
     by_first (Machine f) v took gave may r law = h.keeps f v took gave may r law
     by_first (Dropping f) v took gave may r law = absurd law
     by_first (Recovering f) v took gave may r law = absurd law
+    by_first (Obeying f) v took gave may r law = absurd law
+    by_first (Tripping f) v took gave may r law = absurd law
 
 dropping_handles : (call : Call) (old new : dropping.Dropping) (acts : List Act) → Handles DropRow DropsAs call old new acts → Handles StateRow StateLaw call (Dropping old) (Dropping new) acts
 dropping_handles call old new acts h = record {
@@ -64,6 +71,8 @@ dropping_handles call old new acts h = record {
     by_first (Dropping f) v took gave may r law = h.keeps f v took gave may r law
     by_first (Machine f) v took gave may r law = absurd law
     by_first (Recovering f) v took gave may r law = absurd law
+    by_first (Obeying f) v took gave may r law = absurd law
+    by_first (Tripping f) v took gave may r law = absurd law
 
 recover_handles : (call : Call) (old new : recover.Recover) (acts : List Act) → Handles RecoverRow RecoversAs call old new acts → Handles StateRow StateLaw call (Recovering old) (Recovering new) acts
 recover_handles call old new acts h = record {
@@ -77,17 +86,46 @@ recover_handles call old new acts h = record {
     by_first (Recovering f) v took gave may r law = h.keeps f v took gave may r law
     by_first (Machine f) v took gave may r law = absurd law
     by_first (Dropping f) v took gave may r law = absurd law
+    by_first (Obeying f) v took gave may r law = absurd law
+    by_first (Tripping f) v took gave may r law = absurd law
+
+valve_handles : (call : Call) (old new : switch.Valve) (acts : List Act) → Handles ValveRow ValveAs call old new acts → Handles StateRow StateLaw call (Obeying old) (Obeying new) acts
+valve_handles call old new acts h = record {
+  obeys = record { allowed = h.obeys.allowed; row = h.obeys.row };
+  stands = h.stands;
+  keeps = λ first v took gave may r law. by_first first v took gave may r law;
+}
+  where
+    by_first : (first : StateLogic) (v : View) (took gave : List (List Item)) → CallAllowed call v → ValveRow old v → StateLaw first (Obeying old) v took gave
+        → StateLaw first (Obeying new) (port.acted_all (port_call.seen call v) acts) (histories.brought_by call took) (histories.given_all acts gave)
+    by_first (Obeying f) v took gave may r law = h.keeps f v took gave may r law
+    by_first (Machine f) v took gave may r law = absurd law
+    by_first (Dropping f) v took gave may r law = absurd law
+    by_first (Recovering f) v took gave may r law = absurd law
+    by_first (Tripping f) v took gave may r law = absurd law
+
+trip_handles : (call : Call) (old new : switch.Trip) (acts : List Act) → Handles TripRow TripAs call old new acts → Handles StateRow StateLaw call (Tripping old) (Tripping new) acts
+trip_handles call old new acts h = record {
+  obeys = record { allowed = h.obeys.allowed; row = h.obeys.row };
+  stands = h.stands;
+  keeps = λ first v took gave may r law. by_first first v took gave may r law;
+}
+  where
+    by_first : (first : StateLogic) (v : View) (took gave : List (List Item)) → CallAllowed call v → TripRow old v → StateLaw first (Tripping old) v took gave
+        → StateLaw first (Tripping new) (port.acted_all (port_call.seen call v) acts) (histories.brought_by call took) (histories.given_all acts gave)
+    by_first (Tripping f) v took gave may r law = h.keeps f v took gave may r law
+    by_first (Machine f) v took gave may r law = absurd law
+    by_first (Dropping f) v took gave may r law = absurd law
+    by_first (Recovering f) v took gave may r law = absurd law
+    by_first (Obeying f) v took gave may r law = absurd law
 
 pub handled : (call : Call) (old new : StateLogic) (acts : List Act) → Obeys call (row old) (row new) acts → Turned call old acts new → Handles StateRow StateLaw call old new acts
 handled call (Machine l) (Machine m) acts o t = machine_handles call l m acts (machines.handled call l m acts o t)
 handled call (Dropping l) (Dropping m) acts o t = dropping_handles call l m acts (drops.handled call l m acts o t)
 handled call (Recovering l) (Recovering m) acts o t = recover_handles call l m acts (recovers.handled call l m acts o t)
-handled call (Machine l) (Dropping m) acts o t = absurd t
-handled call (Machine l) (Recovering m) acts o t = absurd t
-handled call (Dropping l) (Machine m) acts o t = absurd t
-handled call (Dropping l) (Recovering m) acts o t = absurd t
-handled call (Recovering l) (Machine m) acts o t = absurd t
-handled call (Recovering l) (Dropping m) acts o t = absurd t
+handled call (Obeying l) (Obeying m) acts o t = valve_handles call l m acts (switches.valve_handled call l m acts o t)
+handled call (Tripping l) (Tripping m) acts o t = trip_handles call l m acts (switches.trip_handled call l m acts o t)
+handled call old new acts o t = absurd t
 
 -- ---- a call of a handler is of its one input or output
 
@@ -95,11 +133,15 @@ plain_row : (l : StateLogic) (v : View) → StateRow l v → row l v
 plain_row (Machine l) v r = r.row
 plain_row (Dropping l) v r = r.row
 plain_row (Recovering l) v r = r.row
+plain_row (Obeying l) v r = r.row
+plain_row (Tripping l) v r = r.row
 
 first_call : (call : Call) (l : StateLogic) (v : View) → CallAllowed call v → StateRow l v → at_first call ≡ call
 first_call call (Machine l) v h r = first_port (machine.row_by l.size l.phase l.ending l.asked l.pending l.stage.work) call v h r.row
 first_call call (Dropping l) v h r = first_port (dropping.drop_at l l.phase l.over l.asked) call v h r.row
 first_call call (Recovering l) v h r = first_port (recover.recover_at l l.phase l.over l.asked) call v h r.row
+first_call call (Obeying l) v h r = first_port (switch.passing_row l.phase) call v h r.row.0
+first_call call (Tripping l) v h r = first_port (switch.passing_row l.phase) call v h r.row
 
 pub met_first : (call : Call) (l : StateLogic) → Meets call (StateRow l) → Meets (at_first call) (row l)
 met_first call l m = subst (λ c. Meets c (row l)) (sym (first_call call l m.0 m.1.0 m.1.1)) (m.0, (m.1.0, plain_row l m.0 m.1.1))
@@ -121,32 +163,55 @@ started (Dropping l) (Dropping m) acts o t =
 started (Recovering l) (Recovering m) acts o t =
     let s = recovers.started l m acts o t in
     record { obeys = record { allowed = s.obeys.allowed; row = s.obeys.row }; stands = s.stands; begins = s.begins }
-started (Machine l) (Dropping m) acts o t = absurd t
-started (Machine l) (Recovering m) acts o t = absurd t
-started (Dropping l) (Machine m) acts o t = absurd t
-started (Dropping l) (Recovering m) acts o t = absurd t
-started (Recovering l) (Machine m) acts o t = absurd t
-started (Recovering l) (Dropping m) acts o t = absurd t
+started (Obeying l) (Obeying m) acts o t =
+    let s = switches.valve_started l m acts o t in
+    record { obeys = record { allowed = s.obeys.allowed; row = s.obeys.row }; stands = s.stands; begins = s.begins }
+started (Tripping l) (Tripping m) acts o t =
+    let s = switches.trip_started l m acts o t in
+    record { obeys = record { allowed = s.obeys.allowed; row = s.obeys.row }; stands = s.stands; begins = s.begins }
+started old new acts o t = absurd t
 
 -- ---- its log only grows
 
 longer : (now was more : List ℕ) → now ≡ was ++ more → IsPrefix was now
 longer now was more e = record { rest = more; is = e }
 
-moves_grow : (call : Call) (old new : StateLogic) (acts : List Act) → Turned call old acts new → IsPrefix (state_moves old) (state_moves new)
-moves_grow call (Machine l) (Machine m) acts t = longer [] [] [] refl
-moves_grow call (Dropping l) (Dropping m) acts t = longer m.moves l.moves t.more t.grows
-moves_grow call (Recovering l) (Recovering m) acts t = longer m.moves l.moves t.more t.grows
-moves_grow call (Machine l) (Dropping m) acts t = absurd t
-moves_grow call (Machine l) (Recovering m) acts t = absurd t
-moves_grow call (Dropping l) (Machine m) acts t = absurd t
-moves_grow call (Dropping l) (Recovering m) acts t = absurd t
-moves_grow call (Recovering l) (Machine m) acts t = absurd t
-moves_grow call (Recovering l) (Dropping m) acts t = absurd t
+-- a valve that has not closed made no move
+abbrev MayMove : StateLogic → Type 0
+MayMove (Obeying l) = l.moves ≡ []
+MayMove l = ⊤
 
-pub grew : {T E : Type 0} (call : Call) (old new : StateLogic) (acts : List Act) (r : Result T E) → OnOk r (Turned call old acts new) → OnOk r (IsPrefix (state_moves old) (state_moves new))
-grew call old new acts (Ok x) t = moves_grow call old new acts t
-grew call old new acts (Err e) t = tt
+moves_grow : (call : Call) (old new : StateLogic) (acts : List Act) → MayMove old → Turned call old acts new → IsPrefix (state_moves old) (state_moves new)
+moves_grow call (Machine l) (Machine m) acts u t = longer [] [] [] refl
+moves_grow call (Dropping l) (Dropping m) acts u t = longer m.moves l.moves t.more t.grows
+moves_grow call (Recovering l) (Recovering m) acts u t = longer m.moves l.moves t.more t.grows
+moves_grow call (Obeying l) (Obeying m) acts u t = rw u (longer m.moves [] m.moves refl)
+moves_grow call (Tripping l) (Tripping m) acts u t = longer [] [] [] refl
+moves_grow call old new acts u t = absurd t
+
+grew : {T E : Type 0} (call : Call) (old new : StateLogic) (acts : List Act) (r : Result T E) → MayMove old → OnOk r (Turned call old acts new) → OnOk r (IsPrefix (state_moves old) (state_moves new))
+grew call old new acts (Ok x) u t = moves_grow call old new acts u t
+grew call old new acts (Err e) u t = tt
+
+fresh_moves : (l : StateLogic) → Meets starts (StateFresh l) → MayMove l
+fresh_moves (Obeying l) m = switch_rows.none_new starts l m.1.1.phase (m.0, (m.1.0, m.1.1.row))
+fresh_moves (Machine l) m = tt
+fresh_moves (Dropping l) m = tt
+fresh_moves (Recovering l) m = tt
+fresh_moves (Tripping l) m = tt
+
+called_moves : (call : Call) (l : StateLogic) → call ≢ starts → Meets call (StateRow l) → MayMove l
+called_moves call (Obeying l) s m = switch_rows.none_open call l (switch_rows.called_valve l call m.0 s m.1.0 m.1.1) (m.0, (m.1.0, m.1.1.row))
+called_moves call (Machine l) s m = tt
+called_moves call (Dropping l) s m = tt
+called_moves call (Recovering l) s m = tt
+called_moves call (Tripping l) s m = tt
+
+pub grew_at_start : {T E : Type 0} (old new : StateLogic) (acts : List Act) (r : Result T E) → Meets starts (StateFresh old) → OnOk r (Turned starts old acts new) → OnOk r (IsPrefix (state_moves old) (state_moves new))
+grew_at_start old new acts r m t = grew starts old new acts r (fresh_moves old m) t
+
+pub grew_at : {T E : Type 0} (call : Call) (old new : StateLogic) (acts : List Act) (r : Result T E) → call ≢ starts → Meets call (StateRow old) → OnOk r (Turned (at_first call) old acts new) → OnOk r (IsPrefix (state_moves old) (state_moves new))
+grew_at call old new acts r s m t = grew (at_first call) old new acts r (called_moves call old s m) t
 
 -- ---- one that may be started
 
@@ -154,8 +219,12 @@ pub fresh_new : (l : StateLogic) → Meets starts (StateFresh l) → phase_of l 
 fresh_new (Machine l) m = m.1.1.phase
 fresh_new (Dropping l) m = m.1.1.fresh
 fresh_new (Recovering l) m = m.1.1.fresh
+fresh_new (Obeying l) m = m.1.1.phase
+fresh_new (Tripping l) m = m.1.1.phase
 
 pub fresh_met : (l : StateLogic) → Meets starts (StateFresh l) → Meets starts (row l)
 fresh_met (Machine l) m = (m.0, (m.1.0, m.1.1.row))
 fresh_met (Dropping l) m = (m.0, (m.1.0, m.1.1.row))
 fresh_met (Recovering l) m = (m.0, (m.1.0, m.1.1.row))
+fresh_met (Obeying l) m = (m.0, (m.1.0, m.1.1.row))
+fresh_met (Tripping l) m = (m.0, (m.1.0, m.1.1.row))

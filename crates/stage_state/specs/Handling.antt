@@ -6,9 +6,10 @@ use Rattle.port_core.specs.View.{View}
 use Rattle.stream_model.specs.declared.kind.Kind.{Kind}
 use Rattle.stage_dropping.specs.Droppings.{DropFresh, DropRow, DropsAs}
 use Rattle.stage_recover.specs.Recoverings.{RecoverFresh, RecoverRow, RecoversAs}
+use Rattle.stage_switch.specs.Handling.{ValveFresh, ValveRow, ValveAs, TripFresh, TripRow, TripAs}
 use Rattle.stage_state.specs.MachineNodes.{MachineFresh, MachineRow, MachineLaw}
 use Rattle.stage_state.specs.declared.logic.StateLogic.{StateLogic}
-use Rattle.stage_state.specs.declared.logic.StateLogic.TheVariants.{Machine, Dropping, Recovering}
+use Rattle.stage_state.specs.declared.logic.StateLogic.TheVariants.{Machine, Dropping, Recovering, Obeying, Tripping}
 use Rattle.stage_state.specs.Logics.{BeginsAs, unasked_ports}
 
 -- it was not started, and its row holds
@@ -16,18 +17,24 @@ abbrev pub StateFresh : StateLogic → View → Type 0
 StateFresh (Machine l) v = MachineFresh l v
 StateFresh (Dropping l) v = DropFresh l v
 StateFresh (Recovering l) v = RecoverFresh l v
+StateFresh (Obeying l) v = ValveFresh l v
+StateFresh (Tripping l) v = TripFresh l v
 
 -- it was started, and its row holds
 abbrev pub StateRow : StateLogic → View → Type 0
 StateRow (Machine l) v = MachineRow l v
 StateRow (Dropping l) v = DropRow l v
 StateRow (Recovering l) v = RecoverRow l v
+StateRow (Obeying l) v = ValveRow l v
+StateRow (Tripping l) v = TripRow l v
 
 -- the law of its histories, by the stage as it was at first and as it is now; it stays of its kind
 abbrev pub StateLaw : StateLogic → StateLogic → View → List (List Item) → List (List Item) → Type 0
 StateLaw (Machine first) (Machine l) v took gave = MachineLaw first l v took gave
 StateLaw (Dropping first) (Dropping l) v took gave = DropsAs first l v took gave
 StateLaw (Recovering first) (Recovering l) v took gave = RecoversAs first l v took gave
+StateLaw (Obeying first) (Obeying l) v took gave = ValveAs first l v took gave
+StateLaw (Tripping first) (Tripping l) v took gave = TripAs first l v took gave
 StateLaw _ _ v took gave = ⊥
 
 -- a new stage of node `node` is of its kind, and may be started

@@ -1,6 +1,7 @@
--- The stages with one input and one output that keep elements, whatever their kind: machines, which choose nothing, buffers
--- that drop, and recovers. Each predicate cites that of the kind.
-use Rattle.std.specs.Prelude.{◌≡◌, ◌≢◌, ◌<◌, ℕ, List, [], ◌∷◌, ⊤}
+-- The stages with one input and one output that keep a state, whatever their kind: machines, which choose nothing, buffers that
+-- drop, recovers, valves and trips. Each predicate cites that of the kind.
+use Rattle.std.specs.Prelude.{◌≡◌, ◌≢◌, ◌<◌, ◌≤◌, ℕ, List, [], ◌∷◌, Option, Some, None, ⊤}
+use Rattle.std.specs.Arc.{arc_value}
 use Rattle.elem_core.specs.Tree.{num, text}
 use Rattle.elem_core.specs.declared.why.Decider.{Decider}
 use Rattle.port_core.specs.declared.act.Act.{Act}
@@ -9,14 +10,17 @@ use Rattle.port_core.specs.declared.view.OutView.TheVariants.{Unasked}
 use Rattle.port_core.specs.View.{View}
 use Rattle.port_core.specs.Call.{Call}
 use Rattle.stream_model.specs.declared.kind.Kind.{Kind}
-use Rattle.stream_model.specs.declared.kind.Kind.TheVariants.{Grouped, Fold, Reduce, Scan, Buffer, RecoverNum, RecoverText}
+use Rattle.stream_model.specs.declared.kind.Kind.TheVariants.{Buffer, RecoverNum, RecoverText, Valve, TripShutdown, TripAbort}
 use Rattle.stream_model.specs.declared.kind.Policy.TheVariants.{Backpressure}
 use Rattle.stage_linear.specs.declared.phase.Phase.{Phase}
-use Rattle.stage_linear.specs.declared.phase.Phase.TheVariants.{New, Open}
 use Rattle.stage_dropping.specs.Droppings as dropping
 use Rattle.stage_recover.specs.Recoverings as recover
+use Rattle.kill_core.specs.declared.end.SwitchEnd.{SwitchEnd}
+use Rattle.kill_core.specs.declared.order.Order.TheVariants.{Shutdown, Abort}
+use Rattle.stage_switch.specs.States.{IsUnused, new_valve_of, new_trip_of}
+use Rattle.stage_switch.specs.States as switch
 use Rattle.stage_state.specs.declared.logic.StateLogic.{StateLogic}
-use Rattle.stage_state.specs.declared.logic.StateLogic.TheVariants.{Machine, Dropping, Recovering}
+use Rattle.stage_state.specs.declared.logic.StateLogic.TheVariants.{Machine, Dropping, Recovering, Obeying, Tripping}
 use Rattle.stage_state.specs.States as machine
 
 -- where it stands
@@ -24,49 +28,89 @@ abbrev pub phase_of : StateLogic → Phase
 phase_of (Machine l) = l.phase
 phase_of (Dropping l) = l.phase
 phase_of (Recovering l) = l.phase
+phase_of (Obeying l) = l.phase
+phase_of (Tripping l) = l.phase
 
 -- what it knows of its ports
 abbrev pub row : StateLogic → View → Type 0
 row (Machine l) v = machine.row l v
 row (Dropping l) v = dropping.row l v
 row (Recovering l) v = recover.row l v
+row (Obeying l) v = switch.valve_row l v
+row (Tripping l) v = switch.trip_row l v
 
 -- what a handler owes to the law; the stage stays of its kind
 abbrev pub Turned : Call → StateLogic → List Act → StateLogic → Type 0
 Turned call (Machine l) acts (Machine m) = machine.Turned call l acts m
 Turned call (Dropping l) acts (Dropping m) = dropping.Turned call l acts m
 Turned call (Recovering l) acts (Recovering m) = recover.Turned call l acts m
+Turned call (Obeying l) acts (Obeying m) = switch.ValveTurned call l acts m
+Turned call (Tripping l) acts (Tripping m) = switch.TripTurned call l acts m
 Turned _ _ _ _ = ⊥
 
--- where a handler takes no memory: an ask of all but a buffer that drops, and a failure of all but a recover
+-- where a handler takes no memory: a valve takes some at each call, for the moves that it may have to note; a buffer that drops
+-- at an ask, a recover at a failure, and a machine may where its input ends
+abbrev pub TakesNone : StateLogic → Type 0
+TakesNone (Obeying l) = ⊥
+TakesNone _ = ⊤
+
 abbrev pub TakesNoneAsked : StateLogic → Type 0
 TakesNoneAsked (Dropping l) = ⊥
+TakesNoneAsked (Obeying l) = ⊥
 TakesNoneAsked _ = ⊤
+
+abbrev pub TakesNoneEnded : StateLogic → Type 0
+TakesNoneEnded (Machine l) = ⊥
+TakesNoneEnded (Obeying l) = ⊥
+TakesNoneEnded _ = ⊤
 
 abbrev pub TakesNoneFailed : StateLogic → Type 0
 TakesNoneFailed (Recovering l) = ⊥
+TakesNoneFailed (Obeying l) = ⊥
 TakesNoneFailed _ = ⊤
 
 -- it chooses, and so it keeps a log of its moves
 abbrev pub Chooses : StateLogic → Type 0
 Chooses (Machine l) = ⊥
+Chooses (Tripping l) = ⊥
 Chooses _ = ⊤
 
 -- ---- a new stage
 
--- the kinds that these stages are; a buffer has room for something
+-- the kinds that these stages are; a buffer has room for something, and a trip counts from 1
 abbrev pub IsStateful : Kind → Type 0
 IsStateful (Buffer n p) = 0 < n
 IsStateful (RecoverNum k) = ⊤
 IsStateful (RecoverText l) = ⊤
+IsStateful (Valve name) = ⊤
+IsStateful (TripShutdown name n) = 1 ≤ n
+IsStateful (TripAbort name n) = 1 ≤ n
 IsStateful kind = machine.IsMachine kind
 
--- a new stage of this kind: what a machine owes at its start; a buffer or a recover to which nothing came
+-- a seat at its switch is there exactly for a valve or a trip; it is of its switch, gave nothing and knows nothing
+abbrev pub IsUnusedEnd : SwitchEnd → Type 0
+IsUnusedEnd e = IsUnused (arc_value e.switch) e.seat
+
+abbrev pub IsHanded : Kind → Option SwitchEnd → Type 0
+IsHanded (Valve name) None = ⊥
+IsHanded (Valve name) (Some e) = IsUnusedEnd e
+IsHanded (TripShutdown name n) None = ⊥
+IsHanded (TripShutdown name n) (Some e) = IsUnusedEnd e
+IsHanded (TripAbort name n) None = ⊥
+IsHanded (TripAbort name n) (Some e) = IsUnusedEnd e
+IsHanded kind None = ⊤
+IsHanded kind (Some e) = ⊥
+
+-- a new stage of this kind: what a machine owes at its start; a buffer or a recover to which nothing came; a valve or a trip
+-- to which nothing came, whose seat is of its switch, gave nothing and knows nothing
 abbrev pub BeginsAs : Kind → ℕ → Decider → StateLogic → Type 0
 BeginsAs kind node d (Machine l) = machine.IsMachine kind × machine.Begins node kind d l
 BeginsAs (Buffer n p) node d (Dropping l) = (p ≢ Backpressure) × (l ≡ dropping.begun node n p)
 BeginsAs (RecoverNum k) node d (Recovering l) = l ≡ recover.begun (num k)
 BeginsAs (RecoverText w) node d (Recovering l) = l ≡ recover.begun (text w)
+BeginsAs (Valve name) node d (Obeying l) = IsUnused l.switch l.seat × (l ≡ new_valve_of node l.switch l.seat)
+BeginsAs (TripShutdown name n) node d (Tripping l) = (1 ≤ n) × (IsUnused l.switch l.seat × (l ≡ new_trip_of node Shutdown n l.switch l.seat))
+BeginsAs (TripAbort name n) node d (Tripping l) = (1 ≤ n) × (IsUnused l.switch l.seat × (l ≡ new_trip_of node Abort n l.switch l.seat))
 BeginsAs _ node d _ = ⊥
 
 -- it was not started, nobody asks it, and it has not asked

@@ -1,15 +1,26 @@
--- What stages with state choose. A stage that chooses keeps a log of its moves.
+-- What stages with state choose, and their seats at kill switches. A stage that chooses keeps a log of its moves.
 use Rattle.std.specs.Prelude.{ℕ, List, [], Option, Some, None}
 use Rattle.std.specs.Option.{unwrap_or}
+use Rattle.kill_core.specs.Public.{SeatState}
 use Rattle.stage_state.specs.declared.logic.StateLogic.{StateLogic}
-use Rattle.stage_state.specs.declared.logic.StateLogic.TheVariants.{Machine, Dropping, Recovering}
+use Rattle.stage_state.specs.declared.logic.StateLogic.TheVariants.{Machine, Dropping, Recovering, Obeying, Tripping}
 
 -- the moves that it has recorded, where its kind chooses
 abbrev pub state_picks : StateLogic → Option (List ℕ)
 state_picks (Machine l) = None
 state_picks (Dropping l) = Some l.moves
 state_picks (Recovering l) = Some l.moves
+state_picks (Obeying l) = Some l.moves
+state_picks (Tripping l) = None
 
 -- the moves that it has recorded, and none where its kind does not choose
 abbrev pub state_moves : StateLogic → List ℕ
 state_moves l = unwrap_or (state_picks l) []
+
+-- the seat that a valve or a trip has at its switch
+abbrev pub state_seat : StateLogic → Option SeatState
+state_seat (Machine l) = None
+state_seat (Dropping l) = None
+state_seat (Recovering l) = None
+state_seat (Obeying l) = Some l.seat
+state_seat (Tripping l) = Some l.seat

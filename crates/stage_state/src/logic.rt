@@ -1,24 +1,29 @@
-ghost use Rattle.std.specs.Prelude.{◌≡◌, ◌≤◌, [], OnOk, OnErr, IfOk, IsOk};
+ghost use Rattle.std.specs.Prelude.{◌≡◌, ◌≢◌, ◌≤◌, [], Some, None, OnOk, OnErr, IfOk, IsOk};
 ghost use Rattle.std.specs.Option.{option_map};
 ghost use Rattle.elem_core.specs.declared.item.Item.TheVariants as item;
 ghost use Rattle.port_core.specs.Call.{Obeys, Meets, starts, asks, brings, cancels};
 ghost use Rattle.stage_linear.specs.declared.phase.Phase.TheVariants.{New, Open};
 ghost use Rattle.stage_state.specs.Handling.{Begins};
-ghost use Rattle.stage_state.specs.Logics.{Chooses, IsStateful, TakesNoneAsked, TakesNoneFailed, phase_of, row, Turned};
-ghost use Rattle.stage_state.specs.Moves.{state_moves, state_picks};
+ghost use Rattle.stage_state.specs.Logics.{Chooses, IsHanded, IsStateful, TakesNone, TakesNoneAsked, TakesNoneEnded, TakesNoneFailed, phase_of, row, Turned};
+ghost use Rattle.stage_state.specs.Moves.{state_moves, state_picks, state_seat};
 
 use crate::machine::MachineLogic;
 use elem_core::elem::{Elem, Form};
 use elem_core::why::{Cause, Decider, NoMemory};
+use kill_core::end::SwitchEnd;
+use kill_core::order::Order;
+use kill_core::seat::SwitchSeat;
 use port_core::acts::Acts;
 use port_core::pick_log::PickLog;
 use stage_dropping::dropping::Dropping;
 use stage_recover::recover::Recovering;
+use stage_switch::trip::Trip;
+use stage_switch::valve::Valve;
 use std::alloc::Global;
 use stream_model::kind::{Kind, Policy};
 
-/// The logic of a stage with one input and one output that keeps elements: a grouped, a fold, a reduce, a scan, a buffer or a
-/// recover. Rule: Akka Streams 2.6 reference.
+/// The logic of a stage with one input and one output that keeps a state: a grouped, a fold, a reduce, a scan, a buffer, a
+/// recover, or a valve or a trip of a kill switch. Rule: Akka Streams 2.6 reference; the trip: own.
 #[derive(Drop)]
 pub enum StateLogic {
     /// One that chooses nothing: it keeps a group or a value, or is a buffer that holds its input back.
@@ -27,18 +32,26 @@ pub enum StateLogic {
     Dropping(Dropping),
     /// A recover.
     Recovering(Recovering),
+    /// A valve, which obeys the order of its switch.
+    Obeying(Valve),
+    /// A trip, which gives its switch an order.
+    Tripping(Trip),
 }
 
 impl StateLogic {
-    /// The logic of node `stage`. It takes the memory of a buffer, and of the first value of a fold or a scan.
+    /// The logic of node `stage`. It takes the memory of a buffer, and of the first value of a fold or a scan. A valve and a trip
+    /// are handed a seat of their own at their switch, which gave nothing and knows nothing; no other kind is.
     pub fn new(
         alloc: Global,
         stage: u32,
         kind: Kind,
         decider: Decider,
+        switch: Option<SwitchEnd>,
     ) -> Result<StateLogic, NoMemory>
-        requires { IsStateful kind }
-        ensures { IfOk result (Begins stage kind decider) }
+        requires kind { IsStateful kind }
+        requires handed { IsHanded kind switch }
+        ensures begins { IfOk result (Begins stage kind decider) }
+        ensures seat { IfOk result (λ l. state_seat l ≡ option_map (λ e. e.seat) switch) }
     {
         Ok(match kind {
             Kind::Buffer(size, Policy::Backpressure) => {
@@ -54,6 +67,19 @@ impl StateLogic {
             Kind::RecoverText(text) => {
                 StateLogic::Recovering(Recovering::new(alloc, Elem::of(Form::Text(text))))
             }
+            Kind::Valve(_) => StateLogic::Obeying(Valve::new(alloc, stage, end_of(switch))),
+            Kind::TripShutdown(_, count) => StateLogic::Tripping(Trip::new(
+                stage,
+                Order::Shutdown,
+                count,
+                end_of(switch),
+            )),
+            Kind::TripAbort(_, count) => StateLogic::Tripping(Trip::new(
+                stage,
+                Order::Abort,
+                count,
+                end_of(switch),
+            )),
             kind => StateLogic::Machine(MachineLogic::new(alloc, stage, kind, decider)?),
         })
     }
@@ -64,7 +90,7 @@ impl StateLogic {
         requires meets { Meets starts (row self.old) }
         requires empty { acts.old.items ≡ [] }
         requires room { 4 ≤ acts.old.room }
-        ensures answers { IsOk result }
+        ensures answers { TakesNone self.old → IsOk result }
         ensures ports { OnOk result (Obeys starts (row self.old) (row self.new) acts.new.items) }
         ensures gives { OnOk result (Turned starts self.old acts.new.items self.new) }
         ensures room { acts.new.room ≡ acts.old.room }
@@ -73,6 +99,8 @@ impl StateLogic {
             StateLogic::Machine(logic) => logic.start(acts),
             StateLogic::Dropping(logic) => logic.start(acts),
             StateLogic::Recovering(logic) => logic.start(acts),
+            StateLogic::Obeying(logic) => logic.start(acts),
+            StateLogic::Tripping(logic) => logic.start(acts),
         }
     }
 
@@ -98,6 +126,8 @@ impl StateLogic {
             StateLogic::Machine(logic) => logic.on_push(alloc, port, e, acts),
             StateLogic::Dropping(logic) => logic.on_push(port, e, acts),
             StateLogic::Recovering(logic) => logic.on_push(port, e, acts),
+            StateLogic::Obeying(logic) => logic.on_push(e, acts),
+            StateLogic::Tripping(logic) => logic.on_push(e, acts),
         }
     }
 
@@ -118,6 +148,8 @@ impl StateLogic {
             StateLogic::Machine(logic) => logic.on_pull(port, acts),
             StateLogic::Dropping(logic) => logic.on_pull(port, acts),
             StateLogic::Recovering(logic) => logic.on_pull(port, acts),
+            StateLogic::Obeying(logic) => logic.on_pull(acts),
+            StateLogic::Tripping(logic) => logic.on_pull(acts),
         }
     }
 
@@ -128,7 +160,7 @@ impl StateLogic {
         requires meets { Meets (brings 0 item.Ended) (row self.old) }
         requires empty { acts.old.items ≡ [] }
         requires room { 4 ≤ acts.old.room }
-        ensures answers { Chooses self.old → IsOk result }
+        ensures answers { TakesNoneEnded self.old → IsOk result }
         ensures ports { OnOk result (Obeys (brings 0 item.Ended) (row self.old) (row self.new) acts.new.items) }
         ensures gives { OnOk result (Turned (brings 0 item.Ended) self.old acts.new.items self.new) }
         ensures room { acts.new.room ≡ acts.old.room }
@@ -137,6 +169,8 @@ impl StateLogic {
             StateLogic::Machine(logic) => logic.on_finish(alloc, port, acts),
             StateLogic::Dropping(logic) => logic.on_finish(port, acts),
             StateLogic::Recovering(logic) => logic.on_finish(port, acts),
+            StateLogic::Obeying(logic) => logic.on_finish(acts),
+            StateLogic::Tripping(logic) => logic.on_finish(acts),
         }
     }
 
@@ -157,6 +191,8 @@ impl StateLogic {
             StateLogic::Machine(logic) => logic.on_fail(port, cause, acts),
             StateLogic::Dropping(logic) => logic.on_fail(port, cause, acts),
             StateLogic::Recovering(logic) => logic.on_fail(port, cause, acts),
+            StateLogic::Obeying(logic) => logic.on_fail(cause, acts),
+            StateLogic::Tripping(logic) => logic.on_fail(cause, acts),
         }
     }
 
@@ -167,7 +203,7 @@ impl StateLogic {
         requires meets { Meets (cancels 0) (row self.old) }
         requires empty { acts.old.items ≡ [] }
         requires room { 4 ≤ acts.old.room }
-        ensures answers { IsOk result }
+        ensures answers { TakesNone self.old → IsOk result }
         ensures ports { OnOk result (Obeys (cancels 0) (row self.old) (row self.new) acts.new.items) }
         ensures gives { OnOk result (Turned (cancels 0) self.old acts.new.items self.new) }
         ensures room { acts.new.room ≡ acts.old.room }
@@ -176,28 +212,47 @@ impl StateLogic {
             StateLogic::Machine(logic) => logic.on_cancel(port, acts),
             StateLogic::Dropping(logic) => logic.on_cancel(port, acts),
             StateLogic::Recovering(logic) => logic.on_cancel(port, acts),
+            StateLogic::Obeying(logic) => logic.on_cancel(acts),
+            StateLogic::Tripping(logic) => logic.on_cancel(acts),
         }
     }
 
-    /// The run is over: the log of its moves, which is empty where its kind does not choose. It takes no memory.
-    pub fn close(self, alloc: Global) -> PickLog
-        ensures { result.moves ≡ state_moves self }
+    /// The run is over: the log of its moves, which is empty where its kind does not choose, and the seat that a valve or a trip
+    /// has at its switch. It takes no memory.
+    pub fn close(self, alloc: Global) -> (PickLog, Option<SwitchSeat>)
+        ensures moves { result.0.moves ≡ state_moves self }
+        ensures seat { result.1 ≡ state_seat self }
     {
-        match self {
-            StateLogic::Machine(_) => PickLog::new(alloc),
-            StateLogic::Dropping(logic) => logic.close(),
-            StateLogic::Recovering(logic) => logic.close(),
-        }
+        let (log, seat) = self.leave();
+        (log.unwrap_or(PickLog::new(alloc)), seat)
     }
 
-    /// The run is over: the log of its moves where its kind chooses. It takes no memory.
-    pub fn picks(self) -> Option<PickLog>
-        ensures { option_map (λ log. log.moves) result ≡ state_picks self }
+    /// The run is over: the log of its moves where its kind chooses, and the seat that a valve or a trip has at its switch. It
+    /// takes no memory.
+    pub fn leave(self) -> (Option<PickLog>, Option<SwitchSeat>)
+        ensures picks { option_map (λ log. log.moves) result.0 ≡ state_picks self }
+        ensures seat { result.1 ≡ state_seat self }
     {
         match self {
-            StateLogic::Machine(_) => None,
-            StateLogic::Dropping(logic) => Some(logic.close()),
-            StateLogic::Recovering(logic) => Some(logic.close()),
+            StateLogic::Machine(_) => (None, None),
+            StateLogic::Dropping(logic) => (Some(logic.close()), None),
+            StateLogic::Recovering(logic) => (Some(logic.close()), None),
+            StateLogic::Obeying(logic) => {
+                let (log, seat) = logic.close();
+                (Some(log), Some(seat))
+            }
+            StateLogic::Tripping(logic) => (None, Some(logic.close())),
         }
+    }
+}
+
+// The seat that was handed in.
+fn end_of(switch: Option<SwitchEnd>) -> SwitchEnd
+    requires { switch ≢ None }
+    ensures { switch ≡ Some result }
+{
+    match switch {
+        Some(end) => end,
+        None => unreachable!(),
     }
 }

@@ -1,6 +1,5 @@
 use Rattle.port_core.specs.Call.{cancels}
-use Rattle.stage_state.proofs.Handling.{handles, met_first, grew}
-use Rattle.stage_core.proofs.OneOnes.{at_first}
+use Rattle.stage_state.proofs.Handling.{handles, met_first, grew_at}
 use Rattle.stage_state.proofs.handlers.StateLogicStage.on_cancel.Goals as goal
 
 pub on_cancel-requires-clause-meets : goal.on_cancel-requires-clause-meets
@@ -10,4 +9,4 @@ pub returns-clause-handles : goal.returns-clause-handles
 returns-clause-handles c = handles (cancels c.args._port) _ _ _ _ c.requires.meets c.on_cancel.ensures.ports c.on_cancel.ensures.gives
 
 pub returns-clause-grows : goal.returns-clause-grows
-returns-clause-grows c = grew (at_first (cancels c.args._port)) c.args.self.now c.on_cancel.new.self c.on_cancel.new.acts.items c.on_cancel.result c.on_cancel.ensures.gives
+returns-clause-grows c = grew_at (cancels c.args._port) _ _ _ _ (λ s. cc) c.requires.meets c.on_cancel.ensures.gives

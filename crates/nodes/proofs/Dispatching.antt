@@ -7,9 +7,9 @@ use Rattle.port_core.specs.declared.act.Act.{Act}
 use Rattle.port_core.specs.declared.view.InView.{InView}
 use Rattle.port_core.specs.declared.view.InView.TheVariants.{Left}
 use Rattle.port_core.specs.declared.view.OutView.{OutView}
-use Rattle.port_core.specs.declared.view.OutView.TheVariants.{Shut}
+use Rattle.port_core.specs.declared.view.OutView.TheVariants.{Unasked, Shut}
 use Rattle.port_core.specs.View.{View, IsOutOpen}
-use Rattle.port_core.specs.Call.{Call, Meets, MayCome, brings, cancels}
+use Rattle.port_core.specs.Call.{Call, Meets, MayCome, asks, brings, cancels}
 use Rattle.stage_core.specs.Handling.{Starts, Handles}
 use Rattle.stream_io.specs.State.{SourceState, DrainState}
 use Rattle.stage_boundary.specs.Entering.{Entering, EnteringFresh, EnteringRow, EnteringLaw}
@@ -50,6 +50,17 @@ out_lists P (suc p) (x ∷ xs) ys r h = absurd r
 -- where a node with one output is cancelled, that one is
 out_is : (P : OutView → Type 0) (p : ℕ) → Meets (cancels p) (λ v. OneOut P v) → p ≡ 0
 out_is P p m = out_lists P p m.0.ins m.0.outs m.1.1 m.1.0
+
+asked_lists : (P : OutView → Type 0) (p : ℕ) (xs : List InView) (ys : List OutView) → OneOutOf P xs ys → slice_index_or ys p Shut ≡ Unasked → p ≡ 0
+asked_lists P zero xs ys r h = refl
+asked_lists P (suc p) [] (y ∷ []) r h = cc
+asked_lists P (suc p) [] [] r h = absurd r
+asked_lists P (suc p) [] (y ∷ z ∷ ys) r h = absurd r
+asked_lists P (suc p) (x ∷ xs) ys r h = absurd r
+
+-- where a node with one output is asked, that one is
+pub asked_is : (P : OutView → Type 0) (p : ℕ) → Meets (asks p) (λ v. OneOut P v) → p ≡ 0
+asked_is P p m = asked_lists P p m.0.ins m.0.outs m.1.1 m.1.0
 
 module _ {S D : Type 0} (sources : S → SourceState) (drains : D → DrainState) where
   -- a sink with a file
@@ -101,6 +112,10 @@ module _ {S D : Type 0} (sources : S → SourceState) (drains : D → DrainState
   pub reading_cancelled : {T E : Type 0} (p : ℕ) (old new : Lines S) (acts : List Act) (r : Result T E) → Meets (cancels p) (lines_row old) → OnOk r (Handles lines_row (LinesLaw sources) (cancels 0) old new acts)
       → OnOk r (Handles node_row (node_law sources drains) (cancels p) (Reading old) (Reading new) acts)
   reading_cancelled p old new acts r m h = rw (out_is (lines_row_in old.phase) p m) (on_ok_two r h h (λ a b. reading_at (cancels 0) old new acts a))
+
+  pub reading_asked : {T E : Type 0} (p : ℕ) (old new : Lines S) (acts : List Act) (r : Result T E) → Meets (asks p) (lines_row old) → OnOk r (Handles lines_row (LinesLaw sources) (asks 0) old new acts)
+      → OnOk r (Handles node_row (node_law sources drains) (asks p) (Reading old) (Reading new) acts)
+  reading_asked p old new acts r m h = rw (asked_is (lines_row_in old.phase) p m) (on_ok_two r h h (λ a b. reading_at (asks 0) old new acts a))
 
   -- the stage where a lane goes out
   leaving_law : (first : Node S D) (old new : Leaving) (v w : View) (took gave more given : List (List Item)) → ((f : Leaving) → LeavingLaw f old v took gave → LeavingLaw f new w more given)

@@ -6,7 +6,8 @@ use Rattle.port_core.specs.View.{View}
 use Rattle.stream_io.specs.State.{SourceState, DrainState}
 use Rattle.stage_linear.specs.Handling.{LinearFresh, LinearRow, LinearLaw}
 use Rattle.stage_state.specs.Handling.{StateFresh, StateRow, StateLaw}
-use Rattle.stage_state.specs.Moves.{state_picks}
+use Rattle.kill_core.specs.Public.{SeatState}
+use Rattle.stage_state.specs.Moves.{state_picks, state_seat}
 use Rattle.stage_in.specs.Logics.{InFresh, InRow, InLaw}
 use Rattle.stage_in.specs.Moves.{in_picks}
 use Rattle.stage_out.specs.OutLogics.{OutFresh, OutAsking, OutLaw}
@@ -86,6 +87,19 @@ node_picks (Leaving x) = None
 -- the moves that it has recorded, and none where it does not choose
 abbrev pub node_moves : {S D : Type 0} → Node S D → List ℕ
 node_moves x = unwrap_or (node_picks x) []
+
+-- the seat that it has at a kill switch, where it is a valve or a trip
+abbrev pub node_seat : {S D : Type 0} → Node S D → Option SeatState
+node_seat (Reading x) = None
+node_seat (Making x) = None
+node_seat (Linear x) = None
+node_seat (State x) = state_seat x
+node_seat (FanIn x) = None
+node_seat (FanOut x) = None
+node_seat (Writing x) = None
+node_seat (Ignoring x) = None
+node_seat (Entering x) = None
+node_seat (Leaving x) = None
 
 -- what it leaves at the end
 abbrev pub node_end : {S D : Type 0} → Node S D → NodeEnd S D

@@ -1,7 +1,7 @@
 // A node of an island, whatever its kind is.
 ghost use Rattle.std.specs.Prelude.{◌≡◌, []};
 ghost use Rattle.std.specs.Option.{option_map};
-ghost use Rattle.nodes.specs.Nodes.{node_fresh, node_row, node_law, node_asking, node_moves, node_picks, node_end, node_passive, node_gone, node_waits, KeepsNode};
+ghost use Rattle.nodes.specs.Nodes.{node_fresh, node_row, node_law, node_asking, node_moves, node_picks, node_seat, node_end, node_passive, node_gone, node_waits, KeepsNode};
 
 use crate::ignoring::IgnoreSink;
 use crate::maker::Maker;
@@ -10,6 +10,7 @@ use crate::source::LinesSource;
 use elem_core::elem::Elem;
 use elem_core::item::Item;
 use elem_core::why::{Cause, NoMemory};
+use kill_core::seat::SwitchSeat;
 use port_core::acts::Acts;
 use port_core::pick_log::PickLog;
 use stage_boundary::entering::Entering;
@@ -59,21 +60,26 @@ pub enum NodeEnd<S: Source, D: Drain> {
 }
 
 impl<S: Source, D: Drain> Node<S, D> {
-    /// What it leaves, and the log of its moves where it is a stage whose kind chooses. It takes no memory.
-    pub fn close(self) -> (NodeEnd<S, D>, Option<PickLog>)
+    /// What it leaves, the log of its moves where it is a stage whose kind chooses, and its seat where it is a valve or a trip. It
+    /// takes no memory.
+    pub fn close(self) -> (NodeEnd<S, D>, Option<PickLog>, Option<SwitchSeat>)
         ensures end { result.0 ≡ node_end self }
         ensures picks { option_map (λ log. log.moves) result.1 ≡ node_picks self }
+        ensures seat { result.2 ≡ node_seat self }
     {
         match self {
-            Node::Reading(source) => (NodeEnd::Read(source.into_source()), None),
+            Node::Reading(source) => (NodeEnd::Read(source.into_source()), None, None),
             Node::Making(_) | Node::Linear(_) | Node::Entering(_) | Node::Leaving(_) => {
-                (NodeEnd::Staged, None)
+                (NodeEnd::Staged, None, None)
             }
-            Node::State(logic) => (NodeEnd::Staged, logic.picks()),
-            Node::FanIn(logic) => (NodeEnd::Staged, logic.picks()),
-            Node::FanOut(logic) => (NodeEnd::Staged, logic.picks()),
-            Node::Writing(sink) => (NodeEnd::Wrote(sink.close()), None),
-            Node::Ignoring(sink) => (NodeEnd::Wrote(sink.close()), None),
+            Node::State(logic) => {
+                let (log, seat) = logic.leave();
+                (NodeEnd::Staged, log, seat)
+            }
+            Node::FanIn(logic) => (NodeEnd::Staged, logic.picks(), None),
+            Node::FanOut(logic) => (NodeEnd::Staged, logic.picks(), None),
+            Node::Writing(sink) => (NodeEnd::Wrote(sink.close()), None, None),
+            Node::Ignoring(sink) => (NodeEnd::Wrote(sink.close()), None, None),
         }
     }
 }

@@ -1,14 +1,17 @@
 -- What the nodes of an island leave, gathered one after another.
 use Rattle.std.proofs.Common.{◌≡◌, ℕ, ◌+◌, ◌<◌, List, [], ◌∷◌, ◌++◌, length, map, drop, get_or, refl, sym, ap, ◌∙◌, arith, append-nil}
 use Rattle.std.proofs.lemmas.List.{get_or_default}
+use Rattle.kill_core.specs.Public.{SeatState}
 use Rattle.nodes.specs.declared.node.Node.{Node}
 use Rattle.interpreter.specs.declared.island.IslandEnd.{IslandEnd}
 use Rattle.interpreter.specs.Island.{sinks_of, readers_of, writers_of}
 use Rattle.interpreter.specs.Picks.{Pick, pick_of, picks_of}
+use Rattle.interpreter.specs.Seats.{seats_of}
 use Rattle.interpreter.specs.Room.{RoomFor}
 use Rattle.interpreter.proofs.Tables.{len_next, none_left}
 use Rattle.interpreter.proofs.Islands.{left_next, sinks_cut, readers_cut, writers_cut}
 use Rattle.interpreter.proofs.Picking.{picks_next}
+use Rattle.interpreter.proofs.Seating.{seats_next, seats_none}
 
 picks_none : (S D : Type 0) (places : List ℕ) → picks_of {S = S} {D = D} places [] ≡ []
 picks_none S D [] = refl
@@ -22,6 +25,7 @@ pub record Gathers {S D : Type 0} (nodes : List (Node S D)) (places : List ℕ) 
   pub writers : end.writers.items ++ writers_of rest ≡ writers_of nodes
   pub wires : end.wires ≡ start.wires
   pub picks : map pick_of end.picks.items ++ picks_of (drop place places) rest ≡ picks_of places nodes
+  pub seats : end.seats.items ++ seats_of (drop place places) rest ≡ seats_of places nodes
   pub at : place + left ≡ length places
   pub room : RoomFor end left
 
@@ -29,14 +33,15 @@ pub record Gathers {S D : Type 0} (nodes : List (Node S D)) (places : List ℕ) 
 pub record Added {S D : Type 0} (was now : IslandEnd S D) (number : ℕ) (x : Node S D) : Type 0 where
   pub sinks : now.sinks.items ≡ was.sinks.items ++ sinks_of (x ∷ [])
   pub picks : map pick_of now.picks.items ≡ map pick_of was.picks.items ++ picks_of (number ∷ []) (x ∷ [])
+  pub seats : now.seats.items ≡ was.seats.items ++ seats_of (number ∷ []) (x ∷ [])
   pub readers : now.readers.items ≡ was.readers.items ++ readers_of (x ∷ [])
   pub writers : now.writers.items ≡ was.writers.items ++ writers_of (x ∷ [])
   pub wires : now.wires ≡ was.wires
   pub room : (n : ℕ) → RoomFor was (n + 1) → RoomFor now n
 
 module _ {S D : Type 0} (nodes : List (Node S D)) (places : List ℕ) (start : IslandEnd S D) where
-  pub gathers_first : (rest : List (Node S D)) (left m : ℕ) → rest ≡ nodes → left ≡ length rest → m ≡ length nodes → length places ≡ m → start.sinks.items ≡ [] → start.picks.items ≡ [] → start.readers.items ≡ [] → start.writers.items ≡ [] → RoomFor start m → Gathers nodes places start rest left 0 start
-  gathers_first rest left m e l k count sinks picks readers writers room =
+  pub gathers_first : (rest : List (Node S D)) (left m : ℕ) → rest ≡ nodes → left ≡ length rest → m ≡ length nodes → length places ≡ m → start.sinks.items ≡ [] → start.picks.items ≡ [] → start.seats.items ≡ [] → start.readers.items ≡ [] → start.writers.items ≡ [] → RoomFor start m → Gathers nodes places start rest left 0 start
+  gathers_first rest left m e l k count sinks picks seats readers writers room =
       let same : left ≡ m = l ∙ ap length e ∙ sym k in
       record {
         left_is = l;
@@ -45,6 +50,7 @@ module _ {S D : Type 0} (nodes : List (Node S D)) (places : List ℕ) (start : I
         writers = rw (writers, e) refl;
         wires = refl;
         picks = rw (picks, e) refl;
+        seats = rw (seats, e) refl;
         at = omega (arith, same, count);
         room = rw same room;
       }
@@ -60,22 +66,27 @@ module _ {S D : Type 0} (nodes : List (Node S D)) (places : List ℕ) (start : I
         writers = left_next writers_of writers_cut rest later x _ _ _ e a.writers g.writers;
         wires = a.wires ∙ g.wires;
         picks = rw p (picks_next places place number rest later x _ _ _ within (n ∙ get_or_default places place 0 number within) e a.picks g.picks);
+        seats = rw p (seats_next places place number rest later x _ _ _ within (n ∙ get_or_default places place 0 number within) e a.seats g.seats);
         at = omega (arith, g.at, l, p);
         room = a.room fewer (rw l g.room);
       }
 
   -- all of them
   pub gathers_last : (rest : List (Node S D)) (left place : ℕ) (end : IslandEnd S D) → Gathers nodes places start rest left place end → left ≡ 0
-      → (end.sinks.items ≡ sinks_of nodes) × ((map pick_of end.picks.items ≡ picks_of places nodes) × ((end.readers.items ≡ readers_of nodes) × ((end.writers.items ≡ writers_of nodes) × (end.wires ≡ start.wires))))
+      → (end.sinks.items ≡ sinks_of nodes) × ((map pick_of end.picks.items ≡ picks_of places nodes) × ((end.seats.items ≡ seats_of places nodes) × ((end.readers.items ≡ readers_of nodes) × ((end.writers.items ≡ writers_of nodes) × (end.wires ≡ start.wires)))))
   gathers_last rest left place end g l =
       let none : rest ≡ [] = none_left rest left l g.left_is in
       let sinks : end.sinks.items ++ sinks_of {S = S} {D = D} [] ≡ sinks_of nodes = rw none at g.sinks in
       let readers : end.readers.items ++ readers_of {S = S} {D = D} [] ≡ readers_of nodes = rw none at g.readers in
       let writers : end.writers.items ++ writers_of {S = S} {D = D} [] ≡ writers_of nodes = rw none at g.writers in
-      let picks : map pick_of end.picks.items ++ picks_of {S = S} {D = D} (drop place places) [] ≡ picks_of places nodes = rw none at g.picks in (
+      let picks : map pick_of end.picks.items ++ picks_of {S = S} {D = D} (drop place places) [] ≡ picks_of places nodes = rw none at g.picks in
+      let seats : end.seats.items ++ seats_of {S = S} {D = D} (drop place places) [] ≡ seats_of places nodes = rw none at g.seats in (
         sym (append-nil _) ∙ sinks,
         (
           sym (append-nil _) ∙ ap (λ (l : List Pick). map pick_of end.picks.items ++ l) (sym (picks_none S D (drop place places))) ∙ picks,
-          (sym (append-nil _) ∙ readers, (sym (append-nil _) ∙ writers, g.wires)),
+          (
+            sym (append-nil _) ∙ ap (λ (l : List (ℕ × SeatState)). end.seats.items ++ l) (sym (seats_none S D (drop place places))) ∙ seats,
+            (sym (append-nil _) ∙ readers, (sym (append-nil _) ∙ writers, g.wires)),
+          ),
         ),
       )

@@ -1,6 +1,7 @@
 pub mod Tables
 pub mod Islands
 pub mod Picking
+pub mod Seating
 pub mod Handing
 pub mod Gathering
 pub mod Marking

@@ -4,4 +4,5 @@ pub mod Room
 pub mod Ways
 pub mod Handles
 pub mod Picks
+pub mod Seats
 pub mod Boundary

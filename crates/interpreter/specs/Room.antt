@@ -15,6 +15,7 @@ pub record HasRoom {S D : Type 0} (room : IslandEnd S D) (nodes wires : ℕ) : T
   pub no_sinks : room.sinks.items ≡ []
   pub no_wires : room.wires.items ≡ []
   pub no_picks : room.picks.items ≡ []
+  pub no_seats : room.seats.items ≡ []
   pub no_readers : room.readers.items ≡ []
   pub no_writers : room.writers.items ≡ []
   pub room_for_sinks : nodes ≤ vec_capacity room.sinks
@@ -22,11 +23,13 @@ pub record HasRoom {S D : Type 0} (room : IslandEnd S D) (nodes wires : ℕ) : T
   pub room_for_readers : nodes ≤ vec_capacity room.readers
   pub room_for_writers : nodes ≤ vec_capacity room.writers
   pub room_for_picks : nodes ≤ vec_capacity room.picks
+  pub room_for_seats : nodes ≤ vec_capacity room.seats
 
 -- there is room for what so many nodes more leave
 pub record RoomFor {S D : Type 0} (room : IslandEnd S D) (nodes : ℕ) : Type 0 where
   pub sinks : vec_len room.sinks + nodes ≤ vec_capacity room.sinks
   pub picks : vec_len room.picks + nodes ≤ vec_capacity room.picks
+  pub seats : vec_len room.seats + nodes ≤ vec_capacity room.seats
   pub readers : vec_len room.readers + nodes ≤ vec_capacity room.readers
   pub writers : vec_len room.writers + nodes ≤ vec_capacity room.writers
 

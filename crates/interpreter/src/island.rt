@@ -7,6 +7,7 @@ ghost use Rattle.fused_net.specs.Outside.{BreaksAside, StandsStill, Untouched};
 ghost use Rattle.nodes.specs.Nodes.{node_fresh, node_row, node_law, node_asking, node_moves, node_gone, node_passive, KeepsNode};
 ghost use Rattle.interpreter.specs.Parts.{AreParts, AllBecome, ends_of, number_of, place_of};
 ghost use Rattle.interpreter.specs.Picks.{node_number, pick_of, with_picks, picks_of};
+ghost use Rattle.interpreter.specs.Seats.{with_seat, seats_of};
 ghost use Rattle.interpreter.specs.Island.{Keeps, counts_of, sinks_of, readers_of, writers_of};
 ghost use Rattle.std.specs.Option.{option_map};
 ghost use Rattle.interpreter.specs.Room.{HasRoom, RoomFor, IsBlank, IsRoom};
@@ -28,6 +29,7 @@ use boundary_calls::given::{Given, Wanted};
 use elem_core::elem::Elem;
 use elem_core::why::{Cause, NoMemory};
 use fused_net::engine::{Advance, Engine};
+use kill_core::seat::SwitchSeat;
 use nodes::node::{Node, NodeEnd};
 use port_core::acts::Acts;
 use port_core::pick_log::PickLog;
@@ -81,6 +83,8 @@ pub struct IslandEnd<S: Source, D: Drain> {
     pub wires: Vec<(u32, WireCount)>,
     /// The moves of each stage whose kind chooses, also where it made none.
     pub picks: Vec<PickList>,
+    /// Of each valve and each trip its node, and its seat at its kill switch.
+    pub seats: Vec<(u32, SwitchSeat)>,
     /// The sources of bytes of its readers.
     pub readers: Vec<S>,
     /// The drains of its sinks that have a file.
@@ -308,13 +312,14 @@ impl<S: Source, D: Drain> Island<S, D> {
         calls::came_to(&self.engine, self.ways.outs[wire as usize]);
     }
 
-    /// Takes it apart: how its sinks ended, what its wires carried, what its stages chose, and its handles. It takes no memory,
-    /// also after a call that answered `NoMemory`.
+    /// Takes it apart: how its sinks ended, what its wires carried, what its stages chose, the seats of its valves and trips, and its
+    /// handles. It takes no memory, also after a call that answered `NoMemory`.
     pub fn finish(self) -> Result<IslandEnd<S, D>, NoMemory>
         ensures answers { IsOk result }
         ensures sinks { IfOk result (λ e. e.sinks.items ≡ sinks_of self.net.nodes) }
         ensures wires { IfOk result (λ e. e.wires.items ≡ counts_of self.numbers self.net.wires) }
         ensures picks { IfOk result (λ e. map pick_of e.picks.items ≡ picks_of self.places self.net.nodes) }
+        ensures seats { IfOk result (λ e. e.seats.items ≡ seats_of self.places self.net.nodes) }
         ensures readers { IfOk result (λ e. e.readers.items ≡ readers_of self.net.nodes) }
         ensures writers { IfOk result (λ e. e.writers.items ≡ writers_of self.net.nodes) }
     {
@@ -385,6 +390,7 @@ fn leave<S: Source, D: Drain>(
     ensures sinks { result.sinks.items ≡ sinks_of engine.nodes }
     ensures wires { result.wires.items ≡ counts_of numbers.now engine.wires }
     ensures picks { map pick_of result.picks.items ≡ picks_of places.now engine.nodes }
+    ensures seats { result.seats.items ≡ seats_of places.now engine.nodes }
     ensures readers { result.readers.items ≡ readers_of engine.nodes }
     ensures writers { result.writers.items ≡ writers_of engine.nodes }
 {
@@ -402,12 +408,14 @@ fn gather<S: Source, D: Drain>(
 ) -> IslandEnd<S, D>
     requires no_sinks { end.sinks.items ≡ [] }
     requires no_picks { end.picks.items ≡ [] }
+    requires no_seats { end.seats.items ≡ [] }
     requires no_readers { end.readers.items ≡ [] }
     requires no_writers { end.writers.items ≡ [] }
     requires room { RoomFor end (vec_len nodes) }
     requires places { length places.now ≡ vec_len nodes }
     ensures sinks { result.sinks.items ≡ sinks_of nodes.items }
     ensures picks { map pick_of result.picks.items ≡ picks_of places.now nodes.items }
+    ensures seats { result.seats.items ≡ seats_of places.now nodes.items }
     ensures readers { result.readers.items ≡ readers_of nodes.items }
     ensures writers { result.writers.items ≡ writers_of nodes.items }
     ensures wires { result.wires ≡ end.wires }
@@ -452,6 +460,7 @@ impl<S: Source, D: Drain> IslandEnd<S, D> {
             sinks: Vec::with_capacity(alloc, nodes)?,
             wires: Vec::with_capacity(alloc, wires)?,
             picks: Vec::with_capacity(alloc, nodes)?,
+            seats: Vec::with_capacity(alloc, nodes)?,
             readers: Vec::with_capacity(alloc, nodes)?,
             writers: Vec::with_capacity(alloc, nodes)?,
         })
@@ -462,13 +471,15 @@ impl<S: Source, D: Drain> IslandEnd<S, D> {
         requires { RoomFor self.old 1 }
         ensures sinks { self.new.sinks.items ≡ self.old.sinks.items ++ sinks_of (node ∷ []) }
         ensures picks { map pick_of self.new.picks.items ≡ map pick_of self.old.picks.items ++ picks_of (number ∷ []) (node ∷ []) }
+        ensures seats { self.new.seats.items ≡ self.old.seats.items ++ seats_of (number ∷ []) (node ∷ []) }
         ensures readers { self.new.readers.items ≡ self.old.readers.items ++ readers_of (node ∷ []) }
         ensures writers { self.new.writers.items ≡ self.old.writers.items ++ writers_of (node ∷ []) }
         ensures wires { self.new.wires ≡ self.old.wires }
         ensures room { (n : ℕ) → RoomFor self.old (n + 1) → RoomFor self.new n }
     {
-        let (end, log) = node.close();
+        let (end, log, seat) = node.close();
         add_picks(&mut self.picks, number, log);
+        add_seat(&mut self.seats, number, seat);
         match end {
             NodeEnd::Read(source) => self.readers.push_reserved(source),
             NodeEnd::Staged => {}
@@ -494,5 +505,17 @@ fn add_picks(picks: &mut Vec<PickList>, number: u32, log: Option<PickLog>)
             stage: number,
             moves: log.into_moves(),
         });
+    }
+}
+
+// The seat of node `number`, where it has one, into a list that has room for it.
+fn add_seat(seats: &mut Vec<(u32, SwitchSeat)>, number: u32, seat: Option<SwitchSeat>)
+    requires { vec_len seats.old < vec_capacity seats.old }
+    ensures seats { seats.new.items ≡ seats.old.items ++ with_seat number seat [] }
+    ensures few { vec_len seats.new ≤ vec_len seats.old + 1 }
+    ensures stay { vec_capacity seats.new ≡ vec_capacity seats.old }
+{
+    if let Some(seat) = seat {
+        seats.push_reserved((number, seat));
     }
 }

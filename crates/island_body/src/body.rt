@@ -4,6 +4,7 @@ ghost use Rattle.fused_net.specs.Costs.{Uses, total};
 ghost use Rattle.lane_core.specs.Ends.{asked};
 ghost use Rattle.interpreter.specs.Island.{counts_of, sinks_of, readers_of, writers_of};
 ghost use Rattle.interpreter.specs.Picks.{pick_of, picks_of};
+ghost use Rattle.interpreter.specs.Seats.{seats_of};
 ghost use Rattle.output_boundary.specs.Sending.{unit_of};
 ghost use Rattle.output_boundary.specs.declared.found.Found.TheVariants as found;
 ghost use Rattle.output_boundary.specs.declared.boundary.OutputBoundary as outputs;
@@ -470,6 +471,7 @@ impl<S: Source, D: Drain> Body<S, D> {
         ensures sinks { result.sinks.items ≡ sinks_of self.island.net.nodes }
         ensures wires { result.wires.items ≡ counts_of self.island.numbers self.island.net.wires }
         ensures picks { map pick_of result.picks.items ≡ picks_of self.island.places self.island.net.nodes }
+        ensures seats { result.seats.items ≡ seats_of self.island.places self.island.net.nodes }
         ensures readers { result.readers.items ≡ readers_of self.island.net.nodes }
         ensures writers { result.writers.items ≡ writers_of self.island.net.nodes }
     {

@@ -2,11 +2,12 @@
 use Rattle.std.specs.Prelude.{slice_get}
 use Rattle.std.proofs.Common.{◌≡◌, ℕ, suc, true, List, [], ◌∷◌, ◌++◌, length, Option, Some, None, refl, ap, sym, ◌∙◌, arith}
 use Rattle.std.proofs.lemmas.List.{append-nil}
-use Rattle.nodes.specs.Nodes.{node_picks}
+use Rattle.nodes.specs.Nodes.{node_picks, node_seat}
 use Rattle.nodes.specs.declared.node.Node.{Node}
 use Rattle.nodes.specs.declared.node.Node.TheVariants as node
 use Rattle.interpreter.specs.Island.{sinks_of, readers_of, writers_of}
 use Rattle.interpreter.specs.Picks.{with_picks, picks_of}
+use Rattle.interpreter.specs.Seats.{with_seat, seats_of}
 use Rattle.island_ends.specs.Ends.{with_home, homes_left, leaves, sink_of, reader_of, writer_of, is_lane_end, AreLaneEnds}
 use Rattle.island_ends.proofs.Leaving.{with_one, those}
 use Rattle.island_ends.proofs.OfNodes.{sinks_are, readers_are, writers_are}
@@ -76,6 +77,18 @@ module _ {S D : Type 0} where
   no_picks (node.Entering x) e = refl
   no_picks (node.Leaving x) e = refl
 
+  no_seat : (x : Node S D) → is_lane_end x ≡ true → node_seat x ≡ None
+  no_seat (node.Reading x) e = refl
+  no_seat (node.Making x) e = refl
+  no_seat (node.Linear x) e = refl
+  no_seat (node.State x) e = cc
+  no_seat (node.FanIn x) e = refl
+  no_seat (node.FanOut x) e = refl
+  no_seat (node.Writing x) e = refl
+  no_seat (node.Ignoring x) e = refl
+  no_seat (node.Entering x) e = refl
+  no_seat (node.Leaving x) e = refl
+
   pub sinks_behind : (nodes more : List (Node S D)) → AreLaneEnds more → sinks_of (nodes ++ more) ≡ sinks_of nodes
   sinks_behind nodes more h = sinks_are (nodes ++ more) ∙ (no_more sink_of nodes more (λ k x e. no_sink x (h k x e)) ∙ sym (sinks_are nodes))
 
@@ -95,6 +108,17 @@ module _ {S D : Type 0} where
   picks_behind [] ms (x ∷ nodes) more e h = absurd (omega (arith, e))
   picks_behind (n ∷ ns) ms [] more e h = absurd (omega (arith, e))
   picks_behind (n ∷ ns) ms (x ∷ nodes) more e h = ap (with_picks n (node_picks x)) (picks_behind ns ms nodes more (omega (arith, e)) h)
+
+  seats_none : (ms : List ℕ) (more : List (Node S D)) → AreLaneEnds more → seats_of ms more ≡ []
+  seats_none [] more h = refl
+  seats_none (m ∷ ms) [] h = refl
+  seats_none (m ∷ ms) (x ∷ more) h = ap (λ o. with_seat m o (seats_of ms more)) (no_seat x (h 0 x refl)) ∙ seats_none ms more (λ k y e. h (suc k) y e)
+
+  pub seats_behind : (ns ms : List ℕ) (nodes more : List (Node S D)) → length ns ≡ length nodes → AreLaneEnds more → seats_of (ns ++ ms) (nodes ++ more) ≡ seats_of ns nodes
+  seats_behind [] ms [] more e h = seats_none ms more h
+  seats_behind [] ms (x ∷ nodes) more e h = absurd (omega (arith, e))
+  seats_behind (n ∷ ns) ms [] more e h = absurd (omega (arith, e))
+  seats_behind (n ∷ ns) ms (x ∷ nodes) more e h = ap (with_seat n (node_seat x)) (seats_behind ns ms nodes more (omega (arith, e)) h)
 
 home_same : {Y W : Type 0} (o : Option Y) (p : Option W) (h : ℕ) (hs gs : List ℕ) → leaves o ≡ leaves p → hs ≡ gs → with_home o h hs ≡ with_home p h gs
 home_same None None h hs gs l e = e

@@ -7,15 +7,17 @@ use Rattle.std.proofs.lemmas.List.{length-map}
 use Rattle.stream_model.specs.declared.outcome.EndState.{EndState}
 use Rattle.stream_model.specs.declared.outcome.PickList.{PickList}
 use Rattle.stream_model.specs.declared.outcome.WireCount.{WireCount}
-use Rattle.nodes.specs.Nodes.{node_picks}
+use Rattle.kill_core.specs.Public.{SeatState}
+use Rattle.nodes.specs.Nodes.{node_picks, node_seat}
 use Rattle.interpreter.specs.declared.island.IslandEnd.{IslandEnd}
 use Rattle.interpreter.specs.Island.{sinks_of, readers_of, writers_of}
 use Rattle.interpreter.specs.Picks.{pick_of, picks_of}
+use Rattle.interpreter.specs.Seats.{seats_of}
 use Rattle.scatter.specs.Shares.{of_home, count_of, items_at, AreShares, AreWhole}
 use Rattle.scatter.proofs.Sharing.{share_count}
 use Rattle.island_ends.specs.Ends.{Whole, AreEndsOf, homes_left, sink_of, reader_of, writer_of}
 use Rattle.island_ends.proofs.Leaving.{those, share_those, those_count, all_left, items_of, whole, gathered}
-use Rattle.island_ends.proofs.OfNodes.{sinks_are, readers_are, writers_are, numbered, pick_at, picks_are, pick_homes, numbered_count, share_numbered}
+use Rattle.island_ends.proofs.OfNodes.{sinks_are, readers_are, writers_are, numbered, pick_at, picks_are, pick_homes, seat_at, seats_are, seat_homes, numbered_count, share_numbered}
 
 map_same : {X : Type 0} (xs : List X) → map (λ x. x) xs ≡ xs
 map_same [] = refl
@@ -85,6 +87,14 @@ module _ {S D : Type 0} (w : Whole S D) (ends : List (IslandEnd S D)) (a : AreEn
       (λ k e t. (a.each k e t).picks ∙ (picks_are (of_home w.homes k w.numbers) (of_home w.homes k w.nodes) ∙ ap (those pick_at) (sym (share_numbered w.homes w.numbers k w.nodes a.numbers_each a.nodes_each))))
       hs (eh ∙ pick_homes w.homes w.numbers w.nodes a.numbers_each a.nodes_each) lists el in
       (j.0, λ r s. j.1 r s ∙ sym (picks_are w.numbers w.nodes))
+
+  pub join_seats : (hs : List ℕ) → hs ≡ homes_left node_seat w.homes w.nodes → (lists : List (Vec (ℕ × SeatState) Global)) → lists ≡ map (λ (e : IslandEnd S D). e.seats) ends → (AreWhole hs lists) × ((r : List (ℕ × SeatState)) → AreShares hs r lists → r ≡ seats_of w.numbers w.nodes)
+  join_seats hs eh lists el =
+      let xs = numbered w.numbers w.nodes in
+      let j = joins (λ x. x) (λ (e : IslandEnd S D). e.seats) seat_at xs (numbered_count w.homes w.numbers w.nodes a.numbers_each a.nodes_each)
+      (λ k e t. map_same _ ∙ ((a.each k e t).seats ∙ (seats_are (of_home w.homes k w.numbers) (of_home w.homes k w.nodes) ∙ ap (those seat_at) (sym (share_numbered w.homes w.numbers k w.nodes a.numbers_each a.nodes_each)))))
+      hs (eh ∙ seat_homes w.homes w.numbers w.nodes a.numbers_each a.nodes_each) lists el in
+      (j.0, λ r s. sym (map_same r) ∙ (j.1 r s ∙ sym (seats_are w.numbers w.nodes)))
 
   pub join_wires : (hs : List ℕ) → hs ≡ w.wire_homes → (counts : List ℕ) → ((k : ℕ) → k < length ends → slice_index counts k ≡ count_of k hs) → (sorted lists : List (Vec (ℕ × WireCount) Global)) → sorted ≡ map (λ (e : IslandEnd S D). e.wires) ends → length lists ≡ length ends → ((k : ℕ) → k < length ends → items_at lists k ≡ take (slice_index counts k) (items_at sorted k)) → (AreWhole hs lists) × ((r : List (ℕ × WireCount)) → AreShares hs r lists → r ≡ w.counts)
   join_wires hs eh counts ec sorted lists es many cuts =

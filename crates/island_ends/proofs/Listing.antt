@@ -14,6 +14,7 @@ pub record SortedSoFar {S D : Type 0} (ends : List (IslandEnd S D)) (l : EndList
   pub sinks : map (λ (e : IslandEnd S D). e.sinks) ends ≡ l.sinks.items ++ map (λ (e : IslandEnd S D). e.sinks) rest
   pub wires : map (λ (e : IslandEnd S D). e.wires) ends ≡ l.wires.items ++ map (λ (e : IslandEnd S D). e.wires) rest
   pub picks : map (λ (e : IslandEnd S D). e.picks) ends ≡ l.picks.items ++ map (λ (e : IslandEnd S D). e.picks) rest
+  pub seats : map (λ (e : IslandEnd S D). e.seats) ends ≡ l.seats.items ++ map (λ (e : IslandEnd S D). e.seats) rest
   pub readers : map (λ (e : IslandEnd S D). e.readers) ends ≡ l.readers.items ++ map (λ (e : IslandEnd S D). e.readers) rest
   pub writers : map (λ (e : IslandEnd S D). e.writers) ends ≡ l.writers.items ++ map (λ (e : IslandEnd S D). e.writers) rest
 
@@ -29,6 +30,7 @@ module _ {S D : Type 0} where
     sinks = begins _ _ a.no_sinks;
     wires = begins _ _ a.no_wires;
     picks = begins _ _ a.no_picks;
+    seats = begins _ _ a.no_seats;
     readers = begins _ _ a.no_readers;
     writers = begins _ _ a.no_writers;
   }
@@ -38,6 +40,7 @@ module _ {S D : Type 0} where
     sinks = moves _ _ _ _ e.sinks s.sinks p.sinks;
     wires = moves _ _ _ _ e.wires s.wires p.wires;
     picks = moves _ _ _ _ e.picks s.picks p.picks;
+    seats = moves _ _ _ _ e.seats s.seats p.seats;
     readers = moves _ _ _ _ e.readers s.readers p.readers;
     writers = moves _ _ _ _ e.writers s.writers p.writers;
   }
@@ -47,6 +50,7 @@ module _ {S D : Type 0} where
     sinks = sym (s.sinks ∙ append-nil _);
     wires = sym (s.wires ∙ append-nil _);
     picks = sym (s.picks ∙ append-nil _);
+    seats = sym (s.seats ∙ append-nil _);
     readers = sym (s.readers ∙ append-nil _);
     writers = sym (s.writers ∙ append-nil _);
   }

@@ -1,11 +1,13 @@
 -- What nodes leave of each kind.
 use Rattle.std.specs.Prelude.{if◌then◌else◌}
 use Rattle.std.proofs.Common.{◌≡◌, ℕ, Bool, true, false, ◌==◌, List, [], ◌∷◌, length, Option, Some, None, refl, ap, suc, arith}
-use Rattle.nodes.specs.Nodes.{node_picks}
+use Rattle.kill_core.specs.Public.{SeatState}
+use Rattle.nodes.specs.Nodes.{node_picks, node_seat}
 use Rattle.nodes.specs.declared.node.Node.{Node}
 use Rattle.nodes.specs.declared.node.Node.TheVariants as node
 use Rattle.interpreter.specs.Island.{sinks_of, readers_of, writers_of}
 use Rattle.interpreter.specs.Picks.{Pick, with_picks, picks_of}
+use Rattle.interpreter.specs.Seats.{with_seat, seats_of}
 use Rattle.scatter.specs.Shares.{of_home}
 use Rattle.island_ends.specs.Ends.{with_home, homes_left, sink_of, reader_of, writer_of}
 use Rattle.island_ends.proofs.Leaving.{with_one, those}
@@ -62,6 +64,14 @@ pick_in (Some moves) n = Some (n, moves)
 abbrev pub pick_at : {S D : Type 0} → ℕ × Node S D → Option Pick
 pick_at p = pick_in (node_picks p.1) p.0
 
+-- the same of its seat
+abbrev pub seat_in : Option SeatState → ℕ → Option (ℕ × SeatState)
+seat_in None n = None
+seat_in (Some seat) n = Some (n, seat)
+
+abbrev pub seat_at : {S D : Type 0} → ℕ × Node S D → Option (ℕ × SeatState)
+seat_at p = seat_in (node_seat p.1) p.0
+
 with_is : (o : Option (List ℕ)) (n : ℕ) (ps qs : List Pick) → ps ≡ qs → with_picks n o ps ≡ with_one (pick_in o n) qs
 with_is None n ps qs e = e
 with_is (Some moves) n ps qs e = ap (λ t. (n, moves) ∷ t) e
@@ -69,6 +79,14 @@ with_is (Some moves) n ps qs e = ap (λ t. (n, moves) ∷ t) e
 home_is : (o : Option (List ℕ)) (n h : ℕ) (hs gs : List ℕ) → hs ≡ gs → with_home o h hs ≡ with_home (pick_in o n) h gs
 home_is None n h hs gs e = e
 home_is (Some moves) n h hs gs e = ap (λ t. h ∷ t) e
+
+with_seat_is : (o : Option SeatState) (n : ℕ) (ps qs : List (ℕ × SeatState)) → ps ≡ qs → with_seat n o ps ≡ with_one (seat_in o n) qs
+with_seat_is None n ps qs e = e
+with_seat_is (Some seat) n ps qs e = ap (λ t. (n, seat) ∷ t) e
+
+seat_home_is : (o : Option SeatState) (n h : ℕ) (hs gs : List ℕ) → hs ≡ gs → with_home o h hs ≡ with_home (seat_in o n) h gs
+seat_home_is None n h hs gs e = e
+seat_home_is (Some seat) n h hs gs e = ap (λ t. h ∷ t) e
 
 module _ {S D : Type 0} where
   pub picks_are : (ns : List ℕ) (xs : List (Node S D)) → picks_of ns xs ≡ those pick_at (numbered ns xs)
@@ -82,6 +100,18 @@ module _ {S D : Type 0} where
   pick_homes (h ∷ hs) ns [] d e = absurd (omega (arith, e))
   pick_homes (h ∷ hs) [] (x ∷ xs) d e = absurd (omega (arith, d))
   pick_homes (h ∷ hs) (n ∷ ns) (x ∷ xs) d e = home_is (node_picks x) n h (homes_left node_picks hs xs) (homes_left pick_at hs (numbered ns xs)) (pick_homes hs ns xs (omega (arith, d)) (omega (arith, e)))
+
+  pub seats_are : (ns : List ℕ) (xs : List (Node S D)) → seats_of ns xs ≡ those seat_at (numbered ns xs)
+  seats_are [] [] = refl
+  seats_are [] (x ∷ xs) = refl
+  seats_are (n ∷ ns) [] = refl
+  seats_are (n ∷ ns) (x ∷ xs) = with_seat_is (node_seat x) n (seats_of ns xs) (those seat_at (numbered ns xs)) (seats_are ns xs)
+
+  pub seat_homes : (hs ns : List ℕ) (xs : List (Node S D)) → length ns ≡ length hs → length xs ≡ length hs → homes_left node_seat hs xs ≡ homes_left seat_at hs (numbered ns xs)
+  seat_homes [] ns xs d e = refl
+  seat_homes (h ∷ hs) ns [] d e = absurd (omega (arith, e))
+  seat_homes (h ∷ hs) [] (x ∷ xs) d e = absurd (omega (arith, d))
+  seat_homes (h ∷ hs) (n ∷ ns) (x ∷ xs) d e = seat_home_is (node_seat x) n h (homes_left node_seat hs xs) (homes_left seat_at hs (numbered ns xs)) (seat_homes hs ns xs (omega (arith, d)) (omega (arith, e)))
 
 pub numbered_count : {X : Type 0} (hs ns : List ℕ) (xs : List X) → length ns ≡ length hs → length xs ≡ length hs → length (numbered ns xs) ≡ length hs
 numbered_count [] [] [] d e = refl

@@ -2,12 +2,13 @@
 use Rattle.std.specs.Prelude.{◌≡◌, ◌<◌, ℕ, Bool, true, false, Option, None, Some, List, [], ◌∷◌, ◌++◌, All, length, map, slice_get}
 use Rattle.stream_model.specs.declared.outcome.EndState.{EndState}
 use Rattle.stream_model.specs.declared.outcome.WireCount.{WireCount}
-use Rattle.nodes.specs.Nodes.{node_picks}
+use Rattle.nodes.specs.Nodes.{node_picks, node_seat}
 use Rattle.nodes.specs.declared.node.Node.{Node}
 use Rattle.nodes.specs.declared.node.Node.TheVariants as node
 use Rattle.interpreter.specs.declared.island.IslandEnd.{IslandEnd}
 use Rattle.interpreter.specs.Island.{sinks_of, readers_of, writers_of}
 use Rattle.interpreter.specs.Picks.{pick_of, picks_of}
+use Rattle.interpreter.specs.Seats.{seats_of}
 use Rattle.scatter.specs.Shares.{of_home}
 use Rattle.island_ends.specs.declared.room.EndHomes.{EndHomes}
 
@@ -93,6 +94,7 @@ pub record Whole (S D : Type 0) : Type 0 where
 pub record IsEndOf {S D : Type 0} (w : Whole S D) (k : ℕ) (e : IslandEnd S D) : Type 0 where
   pub sinks : e.sinks.items ≡ sinks_of (of_home w.homes k w.nodes)
   pub picks : map pick_of e.picks.items ≡ picks_of (of_home w.homes k w.numbers) (of_home w.homes k w.nodes)
+  pub seats : e.seats.items ≡ seats_of (of_home w.homes k w.numbers) (of_home w.homes k w.nodes)
   pub readers : e.readers.items ≡ readers_of (of_home w.homes k w.nodes)
   pub writers : e.writers.items ≡ writers_of (of_home w.homes k w.nodes)
   pub fars : List (ℕ × WireCount)
@@ -112,6 +114,7 @@ pub record AreHomesOf {S D : Type 0} (w : Whole S D) (homes : EndHomes) : Type 0
   pub sinks : homes.sinks.items ≡ homes_left sink_of w.homes w.nodes
   pub wires : homes.wires.items ≡ w.wire_homes
   pub picks : homes.picks.items ≡ homes_left node_picks w.homes w.nodes
+  pub seats : homes.seats.items ≡ homes_left node_seat w.homes w.nodes
   pub readers : homes.readers.items ≡ homes_left reader_of w.homes w.nodes
   pub writers : homes.writers.items ≡ homes_left writer_of w.homes w.nodes
 
@@ -120,6 +123,7 @@ pub record IsWholeEnd {S D : Type 0} (w : Whole S D) (e : IslandEnd S D) : Type 
   pub sinks : e.sinks.items ≡ sinks_of w.nodes
   pub wires : e.wires.items ≡ w.counts
   pub picks : map pick_of e.picks.items ≡ picks_of w.numbers w.nodes
+  pub seats : e.seats.items ≡ seats_of w.numbers w.nodes
   pub readers : e.readers.items ≡ readers_of w.nodes
   pub writers : e.writers.items ≡ writers_of w.nodes
 

@@ -11,6 +11,7 @@ pub record HasMore {S D : Type 0} (count : ℕ) (l : EndLists S D) : Type 0 wher
   pub sinks : vec_len l.sinks + count ≤ vec_capacity l.sinks
   pub wires : vec_len l.wires + count ≤ vec_capacity l.wires
   pub picks : vec_len l.picks + count ≤ vec_capacity l.picks
+  pub seats : vec_len l.seats + count ≤ vec_capacity l.seats
   pub readers : vec_len l.readers + count ≤ vec_capacity l.readers
   pub writers : vec_len l.writers + count ≤ vec_capacity l.writers
 
@@ -19,6 +20,7 @@ pub record AreEmptyLists {S D : Type 0} (count : ℕ) (l : EndLists S D) : Type 
   pub no_sinks : l.sinks.items ≡ []
   pub no_wires : l.wires.items ≡ []
   pub no_picks : l.picks.items ≡ []
+  pub no_seats : l.seats.items ≡ []
   pub no_readers : l.readers.items ≡ []
   pub no_writers : l.writers.items ≡ []
   pub room : HasMore count l
@@ -28,6 +30,7 @@ pub record IsPut {S D : Type 0} (old : EndLists S D) (e : IslandEnd S D) (new : 
   pub sinks : new.sinks.items ≡ old.sinks.items ++ e.sinks ∷ []
   pub wires : new.wires.items ≡ old.wires.items ++ e.wires ∷ []
   pub picks : new.picks.items ≡ old.picks.items ++ e.picks ∷ []
+  pub seats : new.seats.items ≡ old.seats.items ++ e.seats ∷ []
   pub readers : new.readers.items ≡ old.readers.items ++ e.readers ∷ []
   pub writers : new.writers.items ≡ old.writers.items ++ e.writers ∷ []
   pub room : (n : ℕ) → HasMore (n + 1) old → HasMore n new
@@ -37,6 +40,7 @@ pub record AreSorted {S D : Type 0} (ends : List (IslandEnd S D)) (l : EndLists 
   pub sinks : l.sinks.items ≡ map (λ (e : IslandEnd S D). e.sinks) ends
   pub wires : l.wires.items ≡ map (λ (e : IslandEnd S D). e.wires) ends
   pub picks : l.picks.items ≡ map (λ (e : IslandEnd S D). e.picks) ends
+  pub seats : l.seats.items ≡ map (λ (e : IslandEnd S D). e.seats) ends
   pub readers : l.readers.items ≡ map (λ (e : IslandEnd S D). e.readers) ends
   pub writers : l.writers.items ≡ map (λ (e : IslandEnd S D). e.writers) ends
 
@@ -45,11 +49,13 @@ pub record IsEmptyEnd {S D : Type 0} (homes : EndHomes) (e : IslandEnd S D) : Ty
   pub no_sinks : e.sinks.items ≡ []
   pub no_wires : e.wires.items ≡ []
   pub no_picks : e.picks.items ≡ []
+  pub no_seats : e.seats.items ≡ []
   pub no_readers : e.readers.items ≡ []
   pub no_writers : e.writers.items ≡ []
   pub room_for_sinks : length homes.sinks.items ≤ vec_capacity e.sinks
   pub room_for_wires : length homes.wires.items ≤ vec_capacity e.wires
   pub room_for_picks : length homes.picks.items ≤ vec_capacity e.picks
+  pub room_for_seats : length homes.seats.items ≤ vec_capacity e.seats
   pub room_for_readers : length homes.readers.items ≤ vec_capacity e.readers
   pub room_for_writers : length homes.writers.items ≤ vec_capacity e.writers
 

@@ -27,6 +27,7 @@ pub fn join_ends<S: Source, D: Drain>(
         sinks: gather(&homes.sinks, lists.sinks, end.sinks),
         wires: gather(&homes.wires, lists.wires, end.wires),
         picks: gather(&homes.picks, lists.picks, end.picks),
+        seats: gather(&homes.seats, lists.seats, end.seats),
         readers: gather(&homes.readers, lists.readers, end.readers),
         writers: gather(&homes.writers, lists.writers, end.writers),
     }
@@ -56,6 +57,7 @@ pub fn join_handles<S: Source, D: Drain>(
         sinks: end.sinks,
         wires: end.wires,
         picks: end.picks,
+        seats: end.seats,
         readers,
         writers,
     }

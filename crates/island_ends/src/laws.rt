@@ -2,6 +2,7 @@
 ghost use Rattle.std.specs.Prelude.{◌≡◌, ◌++◌, ℕ, List, Option, None, Some, length, slice_get};
 ghost use Rattle.interpreter.specs.Island.{sinks_of, readers_of, writers_of};
 ghost use Rattle.interpreter.specs.Picks.{picks_of};
+ghost use Rattle.interpreter.specs.Seats.{seats_of};
 ghost use Rattle.nodes.specs.declared.node.Node.{Node};
 ghost use Rattle.scatter.specs.Shares.{of_home, count_of};
 ghost use Rattle.island_ends.specs.Ends.{homes_left, leaves, AreLaneEnds};
@@ -15,6 +16,7 @@ pub fn lane_ends_leave_nothing<S: Source, D: Drain>()
     ensures readers { (nodes more : List (Node S D)) → AreLaneEnds more → readers_of (nodes ++ more) ≡ readers_of nodes }
     ensures writers { (nodes more : List (Node S D)) → AreLaneEnds more → writers_of (nodes ++ more) ≡ writers_of nodes }
     ensures picks { (numbers others : List ℕ) (nodes more : List (Node S D)) → length numbers ≡ length nodes → AreLaneEnds more → picks_of (numbers ++ others) (nodes ++ more) ≡ picks_of numbers nodes }
+    ensures seats { (numbers others : List ℕ) (nodes more : List (Node S D)) → length numbers ≡ length nodes → AreLaneEnds more → seats_of (numbers ++ others) (nodes ++ more) ≡ seats_of numbers nodes }
 {}
 
 /// The homes of what is left are known by any list of things of which each leaves something where the other does (`same`), and those

@@ -5,6 +5,7 @@ ghost use Rattle.island_ends.specs.Room.{AreEmptyLists, AreSorted, HasMore, IsPu
 
 use elem_core::why::NoMemory;
 use interpreter::island::IslandEnd;
+use kill_core::seat::SwitchSeat;
 use std::alloc::Global;
 use stream_io::outside::{Drain, Source};
 use stream_model::outcome::{EndState, PickList, WireCount};
@@ -15,6 +16,7 @@ pub struct EndLists<S: Source, D: Drain> {
     pub sinks: Vec<Vec<(u32, u64, EndState)>>,
     pub wires: Vec<Vec<(u32, WireCount)>>,
     pub picks: Vec<Vec<PickList>>,
+    pub seats: Vec<Vec<(u32, SwitchSeat)>>,
     pub readers: Vec<Vec<S>>,
     pub writers: Vec<Vec<D>>,
 }
@@ -28,6 +30,7 @@ impl<S: Source, D: Drain> EndLists<S, D> {
             sinks: Vec::with_capacity(alloc, count)?,
             wires: Vec::with_capacity(alloc, count)?,
             picks: Vec::with_capacity(alloc, count)?,
+            seats: Vec::with_capacity(alloc, count)?,
             readers: Vec::with_capacity(alloc, count)?,
             writers: Vec::with_capacity(alloc, count)?,
         })
@@ -42,12 +45,14 @@ impl<S: Source, D: Drain> EndLists<S, D> {
             sinks,
             wires,
             picks,
+            seats,
             readers,
             writers,
         } = end;
         self.sinks.push_reserved(sinks);
         self.wires.push_reserved(wires);
         self.picks.push_reserved(picks);
+        self.seats.push_reserved(seats);
         self.readers.push_reserved(readers);
         self.writers.push_reserved(writers);
     }

@@ -18,6 +18,8 @@ pub struct EndHomes {
     pub wires: Vec<usize>,
     /// Of each stage whose kind chooses.
     pub picks: Vec<usize>,
+    /// Of each valve and each trip.
+    pub seats: Vec<usize>,
     /// Of each reader.
     pub readers: Vec<usize>,
     /// Of each sink that has a file.
@@ -44,6 +46,7 @@ fn empty_end<S: Source, D: Drain>(
         sinks: Vec::with_capacity(alloc, homes.sinks.len())?,
         wires: Vec::with_capacity(alloc, homes.wires.len())?,
         picks: Vec::with_capacity(alloc, homes.picks.len())?,
+        seats: Vec::with_capacity(alloc, homes.seats.len())?,
         readers: Vec::with_capacity(alloc, homes.readers.len())?,
         writers: Vec::with_capacity(alloc, homes.writers.len())?,
     })

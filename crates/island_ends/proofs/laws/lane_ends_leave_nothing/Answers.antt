@@ -1,4 +1,4 @@
-use Rattle.island_ends.proofs.Behind.{sinks_behind, readers_behind, writers_behind, picks_behind}
+use Rattle.island_ends.proofs.Behind.{sinks_behind, readers_behind, writers_behind, picks_behind, seats_behind}
 use Rattle.island_ends.proofs.laws.lane_ends_leave_nothing.Goals as goal
 
 pub returns-clause-sinks : goal.returns-clause-sinks
@@ -12,3 +12,6 @@ returns-clause-writers g c = writers_behind
 
 pub returns-clause-picks : goal.returns-clause-picks
 returns-clause-picks g c = picks_behind
+
+pub returns-clause-seats : goal.returns-clause-seats
+returns-clause-seats g c = seats_behind

@@ -15,7 +15,7 @@ use Rattle.wire_core.specs.Counts.{elements}
 use Rattle.stream_model.specs.declared.kind.Kind.{Kind}
 use Rattle.stream_model.specs.declared.kind.Kind.TheVariants.{Balance}
 use Rattle.stream_model.specs.FanIn.{Inflow}
-use Rattle.stream_model.specs.Fits.{moves_fit, valve_order}
+use Rattle.stream_model.specs.Fits.{moves_fit}
 use Rattle.stream_model.specs.Graph.{Graph}
 use Rattle.stream_model.specs.Graph as graph
 use Rattle.stream_model.specs.Node.{World, head_of, node_outlook}
@@ -193,10 +193,6 @@ no_sink : (kd : Kind) (l : Balancing) → BeginsBalance kd l → is_sink kd ≡ 
 no_sink (Balance n) l b = refl
 no_sink kd l b = absurd b
 
-no_order : (kd : Kind) (l : Balancing) → BeginsBalance kd l → (moved : List ℕ) → valve_order kd moved ≡ None
-no_order (Balance n) l b moved = refl
-no_order kd l b moved = absurd b
-
 module _ (g : Graph) (w : World) (k : ℕ) (n : graph.Node) where
   pub balance_picture : (first now : Balancing) (is : List InPort) (os : List OutPort) → BeginsBalance n.kind first → w.moves k ≡ now.log.moves → row now (record { ins = map (λ (i : InPort). i.view) is; outs = map (λ (o : OutPort). o.view) os })
       → BalancesAs first now (record { ins = map (λ (i : InPort). i.view) is; outs = map (λ (o : OutPort). o.view) os }) (map (λ (i : InPort). i.got) is) (Sents os) → PictureLaws row BalancesAs BalanceAsking no_moves never_ends g w k n first now is os
@@ -204,7 +200,6 @@ module _ (g : Graph) (w : World) (k : ℕ) (n : graph.Node) where
   balance_picture first now (i ∷ j ∷ is) os b told r law = let more = law.took_is in absurd cc
   balance_picture first now (i ∷ []) os b told r law = record {
     lawful = λ s so m. lawful_by g w k n.decider n.kind first now.log.moves i.wire (OutWires os) b told (lawful first now i os law s.0 so m);
-    no_valve = no_order n.kind first b;
     rests = λ s so ri ro. elim (stays first now i os law s.0 so ri.0 ro r) [ inl h ↦ inl h | inr h ↦ inr (rests_by g w k n.decider n.kind first i.wire (OutWires os) b h) ];
     matches = λ sink ri. let no = no_sink n.kind first b in let z : true ≡ false = sym sink ∙ no in absurd cc;
   }

@@ -7,7 +7,6 @@ use Rattle.port_core.specs.declared.view.InView.{InView}
 use Rattle.port_core.specs.declared.view.InView.TheVariants.{Idle, Waiting, Over, Left}
 use Rattle.stream_model.specs.declared.kind.Kind.{Kind}
 use Rattle.stream_model.specs.declared.kind.Kind.TheVariants.{Merge, Concat, Interleave, MergeSorted, Zip}
-use Rattle.stream_model.specs.Fits.{valve_order}
 use Rattle.stream_model.specs.FanIn.{Inflow}
 use Rattle.stream_model.specs.Graph.{Graph}
 use Rattle.stream_model.specs.Graph as graph
@@ -154,14 +153,6 @@ no_sink Zip (logic.Zipping f) t = refl
 no_sink (Merge n) (logic.Merging f) t = refl
 no_sink kd first t = absurd t
 
-no_order : (kd : Kind) (first : InLogic) → TakesAs kd first → (moved : List ℕ) → valve_order kd moved ≡ None
-no_order (Concat n) (logic.Taking f) t moved = refl
-no_order (Interleave n c) (logic.Taking f) t moved = refl
-no_order MergeSorted (logic.Sorting f) t moved = refl
-no_order Zip (logic.Zipping f) t moved = refl
-no_order (Merge n) (logic.Merging f) t moved = refl
-no_order kd first t moved = absurd t
-
 module _ (g : Graph) (w : World) (k : ℕ) (n : graph.Node) where
   pub in_picture : (first now : InLogic) (is : List InPort) (os : List OutPort) → Begins k n.kind n.decider first → TellsMoves w k now → InRow now (record { ins = Views is; outs = map (λ (o : OutPort). o.view) os })
       → InLaw first now (record { ins = Views is; outs = map (λ (o : OutPort). o.view) os }) (Gots is) (map (λ (o : OutPort). o.sent) os) → PictureLaws InRow InLaw NoAsking in_moves never_ends g w k n first now is os
@@ -169,7 +160,6 @@ module _ (g : Graph) (w : World) (k : ℕ) (n : graph.Node) where
   in_picture first now is (o ∷ p ∷ os) b tells r law = let more = law.by.gave_is in absurd cc
   in_picture first now is (o ∷ []) b tells r law = record {
     lawful = λ s so m. lawful_by g w k n.decider is o n.kind first now b.takes tells law s so.0 m;
-    no_valve = no_order n.kind first b.takes;
     rests = λ s so ri ro. stays_by g w k n.decider is o ri ro.0 n.kind first now b.takes r law s so.0;
     matches = λ sink ri. let no = no_sink n.kind first b.takes in let z : true ≡ false = sym sink ∙ no in absurd cc;
   }

@@ -18,7 +18,6 @@ use Rattle.stage_law.specs.Row.{OutClosed}
 use Rattle.wire_core.specs.Counts.{elements}
 use Rattle.stream_model.specs.declared.kind.Kind.{Kind}
 use Rattle.stream_model.specs.declared.kind.Kind.TheVariants.{Broadcast, Partition, Unzip}
-use Rattle.stream_model.specs.Fits.{valve_order}
 use Rattle.stream_model.specs.Graph.{Graph}
 use Rattle.stream_model.specs.Graph as graph
 use Rattle.stream_model.specs.Linear.{Book}
@@ -433,12 +432,6 @@ no_sink (Partition n f) ok = refl
 no_sink Unzip ok = refl
 no_sink kd ok = absurd ok
 
-no_order : (kd : Kind) → IsMachines kd → (moved : List ℕ) → valve_order kd moved ≡ None
-no_order (Broadcast n) ok moved = refl
-no_order (Partition n f) ok moved = refl
-no_order Unzip ok moved = refl
-no_order kd ok moved = absurd ok
-
 module _ (g : Graph) (w : World) (k : ℕ) (n : graph.Node) where
   pub machines_picture : (first now : OutMachines) (is : List InPort) (os : List OutPort) → IsMachines n.kind → Begins k n.kind first → row now (record { ins = map (λ (i : InPort). i.view) is; outs = map (λ (o : OutPort). o.view) os })
       → MachinesLaw first now (record { ins = map (λ (i : InPort). i.view) is; outs = map (λ (o : OutPort). o.view) os }) (map (λ (i : InPort). i.got) is) (Sents os) → PictureLaws row MachinesLaw NoAsking no_moves never_ends g w k n first now is os
@@ -446,7 +439,6 @@ module _ (g : Graph) (w : World) (k : ℕ) (n : graph.Node) where
   machines_picture first now (i ∷ j ∷ is) os ok b r law = let more = law.took_is in absurd cc
   machines_picture first now (i ∷ []) os ok b r law = record {
     lawful = λ s so m. lawful_by g w k n.decider i os n.kind first now ok b law s.0 so m;
-    no_valve = no_order n.kind ok;
     rests = λ s so ri ro. elim (out_stays i os s.0 so ri.0 ro w.book first now law (some_outputs k n.kind first now ok b law.outputs) r) [ inl h ↦ inl h | inr h ↦ inr (b.rests g w n.decider (i.wire ∷ []) (OutWires os) h) ];
     matches = λ sink ri. let no = no_sink n.kind ok in let z : true ≡ false = sym sink ∙ no in absurd cc;
   }

@@ -56,7 +56,6 @@ module _ (g : Graph) (w : World) (k : ℕ) (n : graph.Node) where
       let p = machines_picture g w k n f l is os b.as_kind.0 b.as_kind.1 r law in
       record {
         lawful = λ s so m. p.lawful s so (λ q some. moments_of row OutLaw OutAsking no_moves no_moves machines.row MachinesLaw NoAsking Machines machines_same f (machines_stand f) l is os q (m q some));
-        no_valve = p.no_valve;
         rests = p.rests;
         matches = p.matches;
       }
@@ -64,7 +63,6 @@ module _ (g : Graph) (w : World) (k : ℕ) (n : graph.Node) where
       let p = balance_picture g w k n f l is os b.as_kind (told l.log.moves refl) r law in
       record {
         lawful = λ s so m. p.lawful s so (λ q some. moments_of row OutLaw OutAsking no_moves no_moves balance.row BalancesAs BalanceAsking Balances balance_same f (balance_stand f) l is os q (m q some));
-        no_valve = p.no_valve;
         rests = p.rests;
         matches = p.matches;
       }

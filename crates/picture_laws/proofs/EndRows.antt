@@ -1,6 +1,6 @@
 -- What the sources and the sinks give of their laws for a picture.
 use Rattle.std.specs.Prelude.{slice_index_or}
-use Rattle.std.proofs.Common.{◌≡◌, ◌⊎◌, inl, inr, ℕ, zero, suc, ◌≤◌, Bool, true, false, None, List, [], ◌∷◌, map, get_or, refl, sym, ap, ◌∙◌, arith}
+use Rattle.std.proofs.Common.{◌≡◌, ◌⊎◌, inl, inr, ℕ, zero, suc, ◌≤◌, Bool, true, false, List, [], ◌∷◌, map, get_or, refl, sym, ap, ◌∙◌, arith}
 use Rattle.elem_core.specs.declared.item.Item.{Item}
 use Rattle.elem_core.specs.declared.why.Decider.{Decider}
 use Rattle.elem_core.specs.Tree.{Tree}
@@ -13,7 +13,6 @@ use Rattle.stream_model.specs.declared.kind.Kind.{Kind}
 use Rattle.stream_model.specs.declared.kind.Kind.TheVariants as kind
 use Rattle.stream_model.specs.declared.outcome.EndState.{EndState}
 use Rattle.stream_model.specs.declared.outcome.EndState.TheVariants.{Ended, Failed, Unended, WriteFault}
-use Rattle.stream_model.specs.Fits.{valve_order}
 use Rattle.stream_model.specs.Graph.{Graph}
 use Rattle.stream_model.specs.Graph as graph
 use Rattle.stream_model.specs.Node.{World}
@@ -47,33 +46,31 @@ use Rattle.picture_laws.proofs.Stages.{lines_ports}
 -- a kind of sources: it has no row of a lawful picture, and rests while it is not asked
 pub record SourceRows (g : Graph) (w : World) (kd : Kind) : Type 0 where
   pub lawful : (k : ℕ) (d : Decider) (is os : List picture.View) → RowLawful g w k kd d is os
-  pub no_valve : (moved : List ℕ) → valve_order kd moved ≡ None
   pub no_sink : is_sink kd ≡ false
   pub rests : (k : ℕ) (d : Decider) (is os : List picture.View) → SourceRests os → RowRests g w k kd d is os
 
 pub maker_rows : (g : Graph) (w : World) (kd : Kind) → IsMaker kd → SourceRows g w kd
-maker_rows g w (kind.Range low high) m = record { lawful = λ k d is os. tt; no_valve = λ moved. refl; no_sink = refl; rests = λ k d is os r. r }
-maker_rows g w (kind.Empty b) m = record { lawful = λ k d is os. tt; no_valve = λ moved. refl; no_sink = refl; rests = λ k d is os r. r }
-maker_rows g w (kind.Failed b) m = record { lawful = λ k d is os. tt; no_valve = λ moved. refl; no_sink = refl; rests = λ k d is os r. r }
+maker_rows g w (kind.Range low high) m = record { lawful = λ k d is os. tt; no_sink = refl; rests = λ k d is os r. r }
+maker_rows g w (kind.Empty b) m = record { lawful = λ k d is os. tt; no_sink = refl; rests = λ k d is os r. r }
+maker_rows g w (kind.Failed b) m = record { lawful = λ k d is os. tt; no_sink = refl; rests = λ k d is os r. r }
 maker_rows g w _ m = absurd m
 
 pub lines_rows : (g : Graph) (w : World) (name : List ℕ) → SourceRows g w (kind.Lines name)
-lines_rows g w name = record { lawful = λ k d is os. tt; no_valve = λ moved. refl; no_sink = refl; rests = λ k d is os r. r }
+lines_rows g w name = record { lawful = λ k d is os. tt; no_sink = refl; rests = λ k d is os r. r }
 
 -- a kind of sinks: of them only one that takes the first has a row of a lawful picture, and all wait where they rest
 pub record SinkRows (g : Graph) (w : World) (kd : Kind) (first : Type 0) : Type 0 where
   pub lawful : (k : ℕ) (d : Decider) (is os : List picture.View) → (first → EachWire (λ i. demand i ≤ 1) is) → RowLawful g w k kd d is os
-  pub no_valve : (moved : List ℕ) → valve_order kd moved ≡ None
   pub rests : (k : ℕ) (d : Decider) (is os : List picture.View) → SinkRests is → RowRests g w k kd d is os
 
 pub file_sink_rows : (g : Graph) (w : World) (kd : Kind) → IsFileSink kd → SinkRows g w kd (writes_of kd ≡ First)
-file_sink_rows g w (kind.ToLines name) m = record { lawful = λ k d is os f. tt; no_valve = λ moved. refl; rests = λ k d is os r. r }
-file_sink_rows g w (kind.Head name) m = record { lawful = λ k d is os f. f refl; no_valve = λ moved. refl; rests = λ k d is os r. r }
-file_sink_rows g w (kind.Last name) m = record { lawful = λ k d is os f. tt; no_valve = λ moved. refl; rests = λ k d is os r. r }
+file_sink_rows g w (kind.ToLines name) m = record { lawful = λ k d is os f. tt; rests = λ k d is os r. r }
+file_sink_rows g w (kind.Head name) m = record { lawful = λ k d is os f. f refl; rests = λ k d is os r. r }
+file_sink_rows g w (kind.Last name) m = record { lawful = λ k d is os f. tt; rests = λ k d is os r. r }
 file_sink_rows g w _ m = absurd m
 
 pub ignore_rows : (g : Graph) (w : World) → SinkRows g w kind.Ignore ⊥
-ignore_rows g w = record { lawful = λ k d is os f. tt; no_valve = λ moved. refl; rests = λ k d is os r. r }
+ignore_rows g w = record { lawful = λ k d is os f. tt; rests = λ k d is os r. r }
 
 -- ---- one that takes the first, when it last asked
 
@@ -143,7 +140,6 @@ module _ {S D : Type 0} (sources : S → SourceState) (drains : D → DrainState
   pub source_picture : (first x : Node S D) (p : Phase) (is : List InPort) (os : List OutPort) → SourceRows g w n.kind → OneOutOf (lines_row_in p) (map (λ (i : InPort). i.view) is) (map (λ (o : OutPort). o.view) os) → Laws first x is os
   source_picture first x p [] (o ∷ []) rows r = record {
     lawful = λ si so m. rows.lawful k n.decider [] (o.wire ∷ []);
-    no_valve = rows.no_valve;
     rests = λ si so ri ro. in_row [] (o.wire ∷ []) rows (source_rests o p ro.0 r);
     matches = λ sink ri. absurd (not_both rows.no_sink sink);
   }
@@ -167,7 +163,6 @@ module _ {S D : Type 0} (sources : S → SourceState) (drains : D → DrainState
       → Laws first x is os
   sink_picture first x F P (i ∷ []) [] rows r ports few = record {
     lawful = λ si so m. rows.lawful k n.decider (i.wire ∷ []) [] (λ f. (few i refl refl si.0 m f, tt));
-    no_valve = rows.no_valve;
     rests = λ si so ri ro. sink_row i F rows (sink_waits i (sink_ended x) ri.0 (ports i.view r)).0;
     matches = λ sink ri. ((sink_waits i (sink_ended x) ri.0 (ports i.view r)).1, tt);
   }

@@ -44,7 +44,6 @@ module _ {S D : Type 0} (sources : S → SourceState) (drains : D → DrainState
   pub fan_in_picture : (first x : InLogic) (is : List InPort) (os : List OutPort) → PictureLaws InRow InLaw NoAsking in_moves never_ends g w k n first x is os → Laws (FanIn first) (FanIn x) is os
   fan_in_picture first x is os p = record {
     lawful = λ s so m. p.lawful s so (λ q some. moments_of node_row (node_law sources drains) node_asking node_moves in_moves InRow InLaw NoAsking FanIn in_same first (in_stands first) x is os q (m q some));
-    no_valve = p.no_valve;
     rests = p.rests;
     matches = p.matches;
   }
@@ -52,7 +51,6 @@ module _ {S D : Type 0} (sources : S → SourceState) (drains : D → DrainState
   pub fan_out_picture : (first x : OutLogic) (is : List InPort) (os : List OutPort) → PictureLaws out.row OutLaw OutAsking no_moves never_ends g w k n first x is os → Laws (FanOut first) (FanOut x) is os
   fan_out_picture first x is os p = record {
     lawful = λ s so m. p.lawful s so (λ q some. moments_of node_row (node_law sources drains) node_asking node_moves no_moves out.row OutLaw OutAsking FanOut out_same first (out_stands first) x is os q (m q some));
-    no_valve = p.no_valve;
     rests = p.rests;
     matches = p.matches;
   }

@@ -6,8 +6,10 @@ pub mod LinearRows
 pub mod OneFlows
 pub mod DropRows
 pub mod RecoverRows
+pub mod SwitchRows
 pub mod StateRows
 pub mod EndRows
 pub mod FanRows
 pub mod AnyPicture
+pub mod Orders
 pub mod Pictures

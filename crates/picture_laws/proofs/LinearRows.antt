@@ -118,7 +118,6 @@ module _ {S D : Type 0} (sources : S → SourceState) (drains : D → DrainState
         stage_given (linear w.book first.stage.work) (begin_work k n.decider first.stage.work) (held x) i o at si.0 so.0,
         λ some. asked_then si.0 so.0 (m 0 (reached i si.0 some)) some,
       );
-      no_valve = machine.no_valve;
       rests = λ si so ri ro. still si.0 so.0 ri.0 ro.0 (linear_ports x.phase x.over x.pending x.stage.work i.view o.view r.started r.row);
       matches = λ sink ri. absurd (not_both machine.no_sink sink);
     }

@@ -1,29 +1,32 @@
 -- The picture of a run: it is lawful at every moment, and where no event is left it rests and its sinks match.
-use Rattle.std.proofs.Common.{◌≡◌, ℕ, ap}
+use Rattle.std.proofs.Common.{◌≡◌, ℕ, ◌≤◌, List, ap, arith}
 use Rattle.std.specs.Prelude.{slice_get, Some}
 use Rattle.stream_io.specs.State.{SourceState, DrainState}
 use Rattle.stream_model.specs.Composed.{composed, IsRanked}
-use Rattle.stream_model.specs.Fits.{Fits}
+use Rattle.stream_model.specs.Fits.{CanTrip, Fits, valve_order}
 use Rattle.stream_model.specs.Graph.{Graph}
 use Rattle.stream_model.specs.Graph as graph
 use Rattle.stream_model.specs.Node.{World}
 use Rattle.stream_model.specs.Outlook.{Outlook}
-use Rattle.stream_picture.specs.Lawful.{IsLawful}
+use Rattle.stream_picture.specs.Lawful.{sent_in, IsLawful}
 use Rattle.stream_picture.specs.Rests.{Rests, SinksMatch}
+use Rattle.stream_picture.specs.View.{ins}
 use Rattle.nodes.specs.declared.node.Node.{Node}
 use Rattle.nodes.specs.Nodes.{node_row, node_law, node_asking, node_moves}
 use Rattle.run_account.specs.Account.{Account, knows, took, gave, IsStill}
 use Rattle.run_account.specs.KindLaws.{HearsAll}
 use Rattle.run_account.specs.Pictures.{counts_of, AllPass}
-use Rattle.run_account.proofs.Drawing.{no_order, all_lawful, all_rest, all_match}
+use Rattle.run_account.proofs.Drawing.{first_sent, all_lawful, all_rest, all_match}
 use Rattle.run_laws.specs.Made.{FirstOf}
 use Rattle.run_laws.specs.Runs.{IsRun}
-use Rattle.run_laws.specs.Telling.{TellsMoves, TellsPicks, Tells, chosen_world}
+use Rattle.run_laws.specs.Telling.{AreSettled, TellsMoves, TellsPicks, Tells, chosen_world}
 use Rattle.run_laws.proofs.Agreeing.{every_wire_of, every_move_fits}
 use Rattle.run_laws.proofs.Choosing.{chosen_told}
 use Rattle.run_laws.proofs.Hearing.{node_hears}
+use Rattle.switch_laws.proofs.Shown.{can_still, all_fit}
 use Rattle.picture_laws.specs.Picture.{sink_ended, ended_there}
 use Rattle.picture_laws.proofs.AnyPicture.{node_picture}
+use Rattle.picture_laws.proofs.Orders.{took_at, took_there, shown, few_came}
 use Rattle.picture_laws.proofs.Telling.{agrees_passes}
 
 module _ {S D : Type 0} (sources : S → SourceState) (drains : D → DrainState) (g : Graph) (a : Account (Node S D)) (run : IsRun sources drains g a) (w : World) where
@@ -35,18 +38,24 @@ module _ {S D : Type 0} (sources : S → SourceState) (drains : D → DrainState
   all_pass rank tells ranked u h = agrees_passes (composed g w u) (a.near u).wire.sent (every_wire_of sources drains g a run w tells rank ranked u h)
 
   -- the moves of a run fit
-  pub fits : (rank : ℕ → ℕ) → Tells sources g w a → IsRanked g rank → Fits g w
-  fits rank tells ranked =
-      let none = no_order node_row (node_law sources drains) node_asking node_moves sink_ended (FirstOf sources) (λ k x. TellsMoves w k x) g w a run.joined run.keeps run.made tells.picks hears (λ k n. node_picture sources drains g w k n) (composed g w) in
-      record {
-        each = every_move_fits sources drains g a run w tells rank ranked;
-        given = λ k n v e order. absurd (none k n v e order);
-        one = λ k j n m v u e f order later same. absurd (none k n v e order);
-      }
+  pub fits : AreSettled g a → (rank : ℕ → ℕ) → Tells sources g w a → IsRanked g rank → Fits g w
+  fits settled rank tells ranked =
+      all_fit g w (took_at g a) (shown sources drains g a run w tells.picks settled) (every_move_fits sources drains g a run w tells rank ranked) (few_came sources drains g a run w tells rank ranked)
 
   module _ (chose : TellsPicks w a) (outlook : ℕ → Outlook) where
-    pub lawful : AllPass a g outlook → IsLawful g w (counts_of a g) outlook
-    lawful = all_lawful node_row (node_law sources drains) node_asking node_moves sink_ended (FirstOf sources) (λ k x. TellsMoves w k x) g w a run.joined run.keeps run.made chose hears (λ k n. node_picture sources drains g w k n) outlook
+    pub lawful : AreSettled g a → AllPass a g outlook → IsLawful g w (counts_of a g) outlook
+    lawful settled passes =
+        all_lawful node_row (node_law sources drains) node_asking node_moves sink_ended (FirstOf sources) (λ k x. TellsMoves w k x) g w a run.joined run.keeps run.made chose hears (λ k n. node_picture sources drains g w k n) outlook passes orders
+      where
+        -- the trip took no more elements than were sent to it
+        orders : (k : ℕ) (n : graph.Node) (v : List ℕ × ℕ) → slice_get g.nodes k ≡ Some n → valve_order n.kind (w.moves k) ≡ Some v
+            → (trip : ℕ) × (t : graph.Node) × (slice_get g.nodes trip ≡ Some t) × CanTrip v.0 v.1 t.kind (sent_in (ins g (counts_of a g) outlook trip t.kind))
+        orders k n v e order =
+            let t = (shown sources drains g a run w chose settled).given k n v e order in
+            let sent = first_sent node_row (node_law sources drains) node_asking node_moves sink_ended (FirstOf sources) (λ k x. TellsMoves w k x) g w a run.joined run.keeps run.made chose hears (λ k n. node_picture sources drains g w k n) outlook passes t.0 t.1.0 t.1.1.0 in
+            let same = took_there g a t.0 t.1.0 t.1.1.0 in
+            let few : took_at g a t.0 ≤ sent_in (ins g (counts_of a g) outlook t.0 t.1.0.kind) = omega (arith, sent, same) in
+            (t.0, t.1.0, t.1.1.0, can_still v.0 v.1 t.1.0.kind (took_at g a t.0) (sent_in (ins g (counts_of a g) outlook t.0 t.1.0.kind)) few t.1.1.1)
 
     pub rests : IsStill g a → AllPass a g outlook → Rests g w (counts_of a g) outlook
     rests = all_rest node_row (node_law sources drains) node_asking node_moves sink_ended (FirstOf sources) (λ k x. TellsMoves w k x) g w a run.joined run.keeps run.made chose hears (λ k n. node_picture sources drains g w k n) outlook

@@ -15,7 +15,6 @@ use Rattle.stream_io.specs.State.{SourceState, DrainState}
 use Rattle.stream_model.specs.declared.kind.Kind.{Kind}
 use Rattle.stream_model.specs.declared.kind.Kind.TheVariants.{Grouped, Fold, Reduce, Scan, Buffer}
 use Rattle.stream_model.specs.declared.kind.Policy.TheVariants.{Backpressure}
-use Rattle.stream_model.specs.Fits.{valve_order}
 use Rattle.stream_model.specs.Graph.{Graph}
 use Rattle.stream_model.specs.Graph as graph
 use Rattle.stream_model.specs.Linear.{Book, Stage, Work, linear, begin_work, work_of}
@@ -46,7 +45,7 @@ use Rattle.nodes.specs.declared.node.Node.{Node}
 use Rattle.nodes.specs.declared.node.Node.TheVariants as node
 use Rattle.nodes.specs.Nodes.{node_row, node_law, node_asking, node_moves}
 use Rattle.stage_state.specs.declared.logic.StateLogic.{StateLogic}
-use Rattle.stage_state.specs.declared.logic.StateLogic.TheVariants.{Machine, Dropping, Recovering}
+use Rattle.stage_state.specs.declared.logic.StateLogic.TheVariants.{Machine, Dropping, Recovering, Obeying, Tripping}
 use Rattle.stage_state.specs.Handling.{StateRow, StateLaw}
 use Rattle.stage_state.specs.Logics.{BeginsAs}
 use Rattle.stage_dropping.specs.Droppings as drop
@@ -67,6 +66,7 @@ use Rattle.picture_laws.proofs.OnePorts.{one_views, one_same, began, given_one, 
 use Rattle.picture_laws.proofs.DropRows.{row_lawful, row_rests, drops_lawful, drops_rest}
 use Rattle.picture_laws.proofs.RecoverRows.{recover_ports, waits_asked, take_few, passed_all, recover_given, recover_moved, recover_rests}
 use Rattle.picture_laws.proofs.Stages.{closed_both, law_at, same_start, Waited, waited_of}
+use Rattle.picture_laws.proofs.SwitchRows.{valve_picture, trip_picture}
 
 -- ---- what the rows say
 
@@ -274,7 +274,6 @@ module _ {S D : Type 0} (sources : S → SourceState) (drains : D → DrainState
           stage_given (linear w.book first.stage.work) (begin_work k n.decider first.stage.work) (held x) i o kept si.0 so.0,
           λ some. keeps_asked si.0 so.0 (m 0 (reached i si.0 some)) some,
         );
-        no_valve = machine.no_valve;
         rests = λ si so ri ro. keeps_rest si.0 so.0 ri.0 ro.0 (keeps_ports x first i.view o.view law.size c.size r.started r.row);
         matches = λ sink ri. absurd (not_both machine.no_sink sink);
       }
@@ -343,7 +342,6 @@ module _ {S D : Type 0} (sources : S → SourceState) (drains : D → DrainState
       buffers_picture : Laws (node.State (Machine first)) (node.State (Machine x)) (i ∷ []) (o ∷ [])
       buffers_picture = record {
         lawful = λ si so m. subst (λ (kd : Kind). RowLawful g w k kd n.decider (i.wire ∷ []) (o.wire ∷ [])) (sym c.kind_is) (buffer_given c.room first.stage (held x) i o si.0 so.0 buffered, buffers_demand si.0 so.0 m (demand i.wire) refl);
-        no_valve = λ moved. ap (λ (kd : Kind). valve_order kd moved) c.kind_is;
         rests = λ si so ri ro. in_row (buffer_rest si.0 so.0 ri.0 ro.0 (buffers_ports c.room x first i.view o.view law.size c.size r.started r.row));
         matches = λ sink ri. let no : is_sink (Buffer c.room Backpressure) ≡ true = rw c.kind_is at sink in cc;
       }
@@ -373,7 +371,6 @@ module _ {S D : Type 0} (sources : S → SourceState) (drains : D → DrainState
     drops_picture = record {
       lawful = λ si so m. subst (λ (kd : Kind). RowLawful g w k kd n.decider (i.wire ∷ []) (o.wire ∷ [])) (sym drop_kind.kind_is)
           (row_lawful g w k n.decider drop_kind.room x.moves same drop_kind.policy i.wire o.wire drop_kind.drops (drops_lawful first x i o law si.0 so.0));
-      no_valve = λ moved. ap (λ (kd : Kind). valve_order kd moved) drop_kind.kind_is;
       rests = λ si so ri ro. drop_still (drop_row si.0 ri.0 ro.0);
       matches = λ sink ri. let no : is_sink (Buffer drop_kind.room drop_kind.policy) ≡ true = rw drop_kind.kind_is at sink in cc;
     }
@@ -432,7 +429,6 @@ module _ {S D : Type 0} (sources : S → SourceState) (drains : D → DrainState
         (recover_given first x i o law si.0 so.0, λ some. recover_wants si.0 so.0 (m 0 (reached i si.0 some)) some),
         subst (λ (ms : List ℕ). RecoverLawful ms i.wire o.wire) (sym same) (recover_moved first x i o law si.0 so.0),
       );
-      no_valve = recover_kind.no_valve;
       rests = λ si so ri ro. recover_still (recover_rests first x i o law si.0 so.0 ri.0 ro.0 r);
       matches = λ sink ri. absurd (not_both recover_kind.no_sink sink);
     }
@@ -442,12 +438,9 @@ module _ {S D : Type 0} (sources : S → SourceState) (drains : D → DrainState
   one_picture_of (Machine first) (Machine x) i o f told r law = one_picture first x i o f.begins.as_kind.0 f.begins.as_kind.1 r law
   one_picture_of (Dropping first) (Dropping x) i o f told r law = drops_picture first x i o f.begins.as_kind (told x.moves refl) r law
   one_picture_of (Recovering first) (Recovering x) i o f told r law = recover_picture first x i o f.begins.as_kind (told x.moves refl) r law
-  one_picture_of (Machine first) (Dropping x) i o f told r law = absurd law
-  one_picture_of (Machine first) (Recovering x) i o f told r law = absurd law
-  one_picture_of (Dropping first) (Machine x) i o f told r law = absurd law
-  one_picture_of (Dropping first) (Recovering x) i o f told r law = absurd law
-  one_picture_of (Recovering first) (Machine x) i o f told r law = absurd law
-  one_picture_of (Recovering first) (Dropping x) i o f told r law = absurd law
+  one_picture_of (Obeying first) (Obeying x) i o f told r law = valve_picture sources drains g w k n first x i o f.begins.as_kind (told x.moves refl) r law
+  one_picture_of (Tripping first) (Tripping x) i o f told r law = trip_picture sources drains g w k n first x i o f.begins.as_kind r law
+  one_picture_of first x i o f told r law = absurd law
 
   -- it has one input and one output
   abbrev NotOne : StateLogic → List InPort → List OutPort → Type 0
@@ -457,21 +450,29 @@ module _ {S D : Type 0} (sources : S → SourceState) (drains : D → DrainState
   no_input (Machine x) os r = r.row
   no_input (Dropping x) os r = r.row
   no_input (Recovering x) os r = r.row
+  no_input (Obeying x) os r = r.row.0
+  no_input (Tripping x) os r = r.row
 
   no_output : (x : StateLogic) (i : InPort) → NotOne x (i ∷ []) []
   no_output (Machine x) i r = r.row
   no_output (Dropping x) i r = r.row
   no_output (Recovering x) i r = r.row
+  no_output (Obeying x) i r = r.row.0
+  no_output (Tripping x) i r = r.row
 
   two_outputs : (x : StateLogic) (i : InPort) (o p : OutPort) (os : List OutPort) → NotOne x (i ∷ []) (o ∷ p ∷ os)
   two_outputs (Machine x) i o p os r = r.row
   two_outputs (Dropping x) i o p os r = r.row
   two_outputs (Recovering x) i o p os r = r.row
+  two_outputs (Obeying x) i o p os r = r.row.0
+  two_outputs (Tripping x) i o p os r = r.row
 
   two_inputs : (x : StateLogic) (i j : InPort) (is : List InPort) (os : List OutPort) → NotOne x (i ∷ j ∷ is) os
   two_inputs (Machine x) i j is os r = r.row
   two_inputs (Dropping x) i j is os r = r.row
   two_inputs (Recovering x) i j is os r = r.row
+  two_inputs (Obeying x) i j is os r = r.row.0
+  two_inputs (Tripping x) i j is os r = r.row
 
   pub state_picture : (first x : StateLogic) (is : List InPort) (os : List OutPort) → FirstState k n first → Told w k x → StateRow x (record { ins = map (λ (i : InPort). i.view) is; outs = map (λ (o : OutPort). o.view) os })
       → StateLaw first x (record { ins = map (λ (i : InPort). i.view) is; outs = map (λ (o : OutPort). o.view) os }) (map (λ (i : InPort). i.got) is) (map (λ (o : OutPort). o.sent) os) → Laws (node.State first) (node.State x) is os

@@ -23,7 +23,8 @@ told_part (t ∷ l) (u ∷ k) e f r h =
 pub told_prefix : (l k : List Tree) (e f : End) → IsPrefix (told l e) (told k f) → IsPrefix l k
 told_prefix l k e f p = told_part l k e f p.rest p.is
 
-agrees_part : (o : Outlook) (l : List Tree) (e : End) → Agrees o l e → IsPrefix l o.list
+-- what may pass by an outlook is a first part of its list
+pub agrees_part : (o : Outlook) (l : List Tree) (e : End) → Agrees o l e → IsPrefix l o.list
 agrees_part o l unended h = h
 agrees_part o l ended h = rw h.1 (prefix_refl o.list)
 agrees_part o l (failed c) h = h.0

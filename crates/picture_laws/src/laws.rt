@@ -14,7 +14,7 @@ ghost use Rattle.run_account.specs.Account.{Account, IsStill};
 ghost use Rattle.run_account.specs.Items.{AgreesWith, Passes};
 ghost use Rattle.run_account.specs.Pictures.{counts_of, AllPass};
 ghost use Rattle.run_laws.specs.Runs.{IsRun};
-ghost use Rattle.run_laws.specs.Telling.{TellsPicks, Tells};
+ghost use Rattle.run_laws.specs.Telling.{AreSettled, TellsPicks, Tells};
 ghost use Rattle.picture_laws.specs.Picture.{ended_there};
 
 use stream_io::outside::{Drain, Source};
@@ -25,12 +25,13 @@ pub fn what_agrees_passes()
 {}
 
 /// The picture of a graph is lawful: no node gave more than it may, and each asks only while it goes on and where what it was
-/// sent gives less than is wanted of it. So it is by any outlooks of whose lists the wires carried first parts (`any`), and by
-/// the composed outlooks (`composed`), where the world tells what the stages chose.
+/// sent gives less than is wanted of it; and where the seats of its switches were settled, each order by which a valve acted was
+/// given by a trip. So it is by any outlooks of whose lists the wires carried first parts (`any`), and by the composed outlooks
+/// (`composed`), where the world tells what the stages chose.
 pub fn every_picture_is_lawful<S: Source, D: Drain>()
-    ensures any { (g : Graph) (w : World) (a : Account (Node S D)) (outlook : ℕ → Outlook) → IsRun S.state D.state g a → TellsPicks w a
+    ensures any { (g : Graph) (w : World) (a : Account (Node S D)) (outlook : ℕ → Outlook) → IsRun S.state D.state g a → AreSettled g a → TellsPicks w a
         → AllPass a g outlook → IsLawful g w (counts_of a g) outlook }
-    ensures composed { (g : Graph) (w : World) (rank : ℕ → ℕ) (a : Account (Node S D)) → IsRun S.state D.state g a
+    ensures composed { (g : Graph) (w : World) (rank : ℕ → ℕ) (a : Account (Node S D)) → IsRun S.state D.state g a → AreSettled g a
         → Tells S.state g w a → IsRanked g rank → IsLawful g w (counts_of a g) (composed g w) }
 {}
 
@@ -47,8 +48,8 @@ pub fn a_picture_without_events_rests<S: Source, D: Drain>()
 {}
 
 /// The moves of a run fit: each stage could have made them of what may come in on its inputs, and the orders by which valves
-/// acted were given.
+/// acted were given, where the seats of its switches were settled.
 pub fn every_move_fits<S: Source, D: Drain>()
-    ensures { (g : Graph) (w : World) (rank : ℕ → ℕ) (a : Account (Node S D)) → IsRun S.state D.state g a
+    ensures { (g : Graph) (w : World) (rank : ℕ → ℕ) (a : Account (Node S D)) → IsRun S.state D.state g a → AreSettled g a
         → Tells S.state g w a → IsRanked g rank → Fits g w }
 {}

@@ -1,12 +1,13 @@
 -- The picture of an account: lawful at every moment, and resting where no event is left, by what each kind tells of its ports.
 use Rattle.std.specs.Prelude.{slice_get, slice_index_or}
-use Rattle.std.proofs.Common.{◌≡◌, ℕ, zero, suc, ◌+◌, ◌<◌, ◌≤◌, Bool, List, [], ◌∷◌, map, length, None, Some, refl, sym, ap, subst, ◌∙◌, arith}
+use Rattle.std.proofs.Common.{◌≡◌, ℕ, zero, suc, ◌+◌, ◌<◌, ◌≤◌, Bool, List, [], ◌∷◌, map, length, Some, refl, ap, subst, ◌∙◌, arith}
 use Rattle.elem_core.specs.Tree.{Tree}
 use Rattle.elem_core.specs.declared.item.Item.{Item}
 use Rattle.port_core.specs.View.{View}
 use Rattle.port_core.specs.declared.view.InView.{InView}
 use Rattle.port_core.specs.declared.view.OutView.{OutView}
 use Rattle.wire_core.specs.Cell.{Cell}
+use Rattle.wire_core.specs.Counts.{elements}
 use Rattle.wire_core.specs.Marks.{wanted}
 use Rattle.stream_model.specs.Outlook.{Outlook, End}
 use Rattle.stream_model.specs.declared.outcome.WireCount.{WireCount}
@@ -14,11 +15,11 @@ use Rattle.stream_model.specs.Graph.{Graph, Wire, find_wire, find_source}
 use Rattle.stream_model.specs.Graph as graph
 use Rattle.stream_model.specs.Node.{World}
 use Rattle.stream_model.specs.Composed.{inputs_of, count_from}
-use Rattle.stream_model.specs.Fits.{valve_order}
+use Rattle.stream_model.specs.Fits.{CanTrip, valve_order}
 use Rattle.stream_model.proofs.Compositions.{slice_get-below}
 use Rattle.stream_picture.specs.View.{outputs_of, EachWire, ins, outs, ins_at, outs_at}
 use Rattle.stream_picture.specs.View as picture
-use Rattle.stream_picture.specs.Lawful.{WireLawful, RowLawful, IsLawful}
+use Rattle.stream_picture.specs.Lawful.{WireLawful, RowLawful, sent_in, IsLawful}
 use Rattle.stream_picture.specs.Rests.{Rests, SinksMatch}
 use Rattle.stage_law.specs.Held.{told}
 use Rattle.wire_core.specs.Reading.{inp_of, out_of, got_of, sent_of}
@@ -48,6 +49,11 @@ some_within (x ∷ l) (suc p) h = omega (arith, some_within l p h)
 each_wire : (P : InPort → Type 0) (Q : picture.View → Type 0) → ((i : InPort) → P i → Q i.wire) → (is : List InPort) → EachPort P is → EachWire Q (map (λ (i : InPort). i.wire) is)
 each_wire P Q f [] h = tt
 each_wire P Q f (i ∷ is) h = (f i h.0, each_wire P Q f is h.1)
+
+-- of the first of these inputs
+first_came : (is : List InPort) → EachPort InStands is → elements (slice_index_or (map (λ (i : InPort). i.got) is) 0 []) ≤ sent_in (map (λ (i : InPort). i.wire) is)
+first_came [] h = omega arith
+first_came (i ∷ is) h = let came = h.0.came in omega (arith, came)
 
 module _ {N : Type 0} (row : N → View → Type 0) (law : N → N → View → List (List Item) → List (List Item) → Type 0) (asking : N → View → Type 0) (moves : N → List ℕ) (has_ended : N → Bool)
     (FirstOf : ℕ → graph.Node → N → Type 0) (Tells : ℕ → N → Type 0) (g : Graph) (w : World) (a : Account N) (joined : IsJoined g) (keeps : KeepsLaws row law asking moves g a) (made : AllMade FirstOf g a)
@@ -145,13 +151,6 @@ module _ {N : Type 0} (row : N → View → Type 0) (law : N → N → View → 
     kind : PictureLaws row law asking moves has_ended g w k n kept.first kept.now (In k n) (Out k n)
     kind = pictures k n kept.first kept.now (In k n) (Out k n) (made k n kept.first e kept.first_at) (tells k kept.now kept.now_at) (subst (λ (v : View). row kept.now v) views kept.row_holds) (rw (views, tooks, gaves) at kept.law_holds)
 
-  none_some : {A : Type 0} (v : A) → None ≡ Some v → ⊥
-  none_some v e = cc
-
-  -- no node is a valve that acted
-  pub no_order : (k : ℕ) (n : graph.Node) (v : List ℕ × ℕ) → slice_get g.nodes k ≡ Some n → valve_order n.kind (w.moves k) ≡ Some v → ⊥
-  no_order k n v e order = none_some v (sym ((kind k n e).no_valve (w.moves k)) ∙ order)
-
   module _ (passes : AllPass a g outlook) where
     port_in : (u : ℕ) (v : Wire) → slice_get g.wires u ≡ Some v → InStands (in_port a g outlook u v)
     port_in u v e =
@@ -187,8 +186,14 @@ module _ {N : Type 0} (row : N → View → Type 0) (law : N → N → View → 
     wires_lawful : (k : ℕ) (n : graph.Node) → slice_get g.nodes k ≡ Some n → EachWire WireLawful (ins g counts outlook k n.kind)
     wires_lawful k n e = rw (ins_same k n e) (each_wire InStands WireLawful (λ i s. (s.within, s.least)) (In k n) (ins_stand k n e))
 
-    pub all_lawful : IsLawful g w counts outlook
-    all_lawful = record { wires = wires_lawful; nodes = row_lawful; valves = λ k n v e order. absurd (no_order k n v e order) }
+    -- what came at a node's first input was sent to it
+    pub first_sent : (k : ℕ) (n : graph.Node) → slice_get g.nodes k ≡ Some n → elements (slice_index_or (took g a k n) 0 []) ≤ sent_in (ins g counts outlook k n.kind)
+    first_sent k n e = rw (tooks k n e, ins_same k n e) (first_came (In k n) (ins_stand k n e))
+
+    -- where the order of each valve that acted was given by a trip
+    pub all_lawful : ((k : ℕ) (n : graph.Node) (v : List ℕ × ℕ) → slice_get g.nodes k ≡ Some n → valve_order n.kind (w.moves k) ≡ Some v
+        → (trip : ℕ) × (t : graph.Node) × (slice_get g.nodes trip ≡ Some t) × CanTrip v.0 v.1 t.kind (sent_in (ins g counts outlook trip t.kind))) → IsLawful g w counts outlook
+    all_lawful orders = record { wires = wires_lawful; nodes = row_lawful; valves = orders }
 
   -- ---- where no event is left
 

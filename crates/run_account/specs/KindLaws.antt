@@ -1,5 +1,5 @@
 -- What each kind of node gives of its law, over lists of ports alone: the laws of runs and of their pictures ask no more of it.
-use Rattle.std.specs.Prelude.{◌≡◌, ℕ, ◌≤◌, ◌⊎◌, Bool, true, false, List, map, None, Some, slice_get, slice_index_or}
+use Rattle.std.specs.Prelude.{◌≡◌, ℕ, ◌≤◌, ◌⊎◌, Bool, true, false, List, map, Some, slice_get, slice_index_or}
 use Rattle.elem_core.specs.declared.item.Item.{Item}
 use Rattle.elem_core.specs.declared.why.Decider.{Decider}
 use Rattle.elem_core.specs.Tree.{Tree}
@@ -8,7 +8,7 @@ use Rattle.port_core.specs.declared.view.InView.{InView}
 use Rattle.stage_law.specs.Held.{told}
 use Rattle.stage_law.specs.Law.{TookAs}
 use Rattle.stream_model.specs.declared.kind.Kind.{Kind}
-use Rattle.stream_model.specs.Fits.{moves_fit, valve_order}
+use Rattle.stream_model.specs.Fits.{moves_fit}
 use Rattle.stream_model.specs.Graph.{Graph}
 use Rattle.stream_model.specs.Graph as graph
 use Rattle.stream_model.specs.Linear.{Work, linear, begin_work}
@@ -29,7 +29,6 @@ pub record IsOneMachine (kd : Kind) (wk : Work) : Type 0 where
   pub no_sink : is_sink kd ≡ false
   pub outlook : (g : Graph) (w : World) (k : ℕ) (d : Decider) (os : List Outlook) (p : ℕ) → node_outlook g w k kd d os p ≡ of_work w.book k d (Some wk) os
   pub no_moves : (g : Graph) (w : World) (k : ℕ) (os : List Outlook) → moves_fit g w k kd os ≡ true
-  pub no_valve : (moves : List ℕ) → valve_order kd moves ≡ None
   pub lawful : (g : Graph) (w : World) (k : ℕ) (d : Decider) (is os : List picture.View) → OneToOne (StageLawful (of_machine (linear w.book wk) (begin_work k d wk) (holds_at_end wk))) is os → RowLawful g w k kd d is os
   pub rests : (g : Graph) (w : World) (k : ℕ) (d : Decider) (is os : List picture.View) → OneToOne (StageRests (of_machine (linear w.book wk) (begin_work k d wk) (holds_at_end wk))) is os → RowRests g w k kd d is os
 
@@ -55,14 +54,13 @@ Moments row law asking moves first now is os p =
     Earlier row law asking moves p first now (map (λ (i : InPort). i.got) is) (map (λ (o : OutPort). o.sent) os) (map (λ (i : InPort). i.want) is) (map (λ (o : OutPort). o.want) os) (map (λ (o : OutPort). o.wire.shut) os)
     × Last row law asking moves first now (map (λ (i : InPort). i.got) is) (map (λ (o : OutPort). o.sent) os) (map (λ (i : InPort). i.want) is) (map (λ (o : OutPort). o.want) os) (map (λ (o : OutPort). o.wire.shut) os)
 
--- In a picture, by the ports and by the moments of the node's asks: its row of a lawful one, that it gives no order to a valve,
--- its row of one that rests, and that the input of a sink is shut exactly where it has ended.
+-- In a picture, by the ports and by the moments of the node's asks: its row of a lawful one, its row of one that rests, and that
+-- the input of a sink is shut exactly where it has ended.
 pub record PictureLaws {N : Type 0} (row : N → View → Type 0) (law : N → N → View → List (List Item) → List (List Item) → Type 0) (asking : N → View → Type 0) (moves : N → List ℕ) (ended : N → Bool)
     (g : Graph) (w : World) (k : ℕ) (n : graph.Node) (first now : N) (is : List InPort) (os : List OutPort) : Type 0 where
   pub lawful : EachPort InStands is → EachPort OutStands os
       → ((p : ℕ) → 1 ≤ slice_index_or (map (λ (i : InPort). i.want) is) p 0 → Moments row law asking moves first now is os p)
       → RowLawful g w k n.kind n.decider (map (λ (i : InPort). i.wire) is) (map (λ (o : OutPort). o.wire) os)
-  pub no_valve : (moved : List ℕ) → valve_order n.kind moved ≡ None
   pub rests : EachPort InStands is → EachPort OutStands os → EachPort InRests is → EachPort OutRests os
       → (EachWire IsShut (map (λ (i : InPort). i.wire) is) × EachWire IsShut (map (λ (o : OutPort). o.wire) os)) ⊎ RowRests g w k n.kind n.decider (map (λ (i : InPort). i.wire) is) (map (λ (o : OutPort). o.wire) os)
   pub matches : is_sink n.kind ≡ true → EachPort InRests is → EachWire (λ (i : picture.View). i.shut ≡ ended now) (map (λ (i : InPort). i.wire) is)

@@ -3,6 +3,7 @@ use Rattle.std.proofs.Common.{ℕ, List, refl, sym, ◌∙◌, arith}
 use Rattle.std.proofs.lemmas.Option.{slice_get_within}
 use Rattle.elem_core.specs.Tree.{Tree}
 use Rattle.elem_core.specs.declared.item.Item.{Item}
+use Rattle.elem_core.specs.declared.why.Decider.TheVariants.{Stop}
 use Rattle.port_core.specs.View.{View}
 use Rattle.stream_io.specs.State.{SourceState, DrainState}
 use Rattle.nodes.specs.declared.node.Node.{Node}
@@ -15,7 +16,7 @@ use Rattle.stream_model.specs.Outlook.{End}
 use Rattle.stream_model.specs.FanIn.{Inflow}
 use Rattle.stage_fans.specs.PortsLaws.{InPortsLaw}
 use Rattle.stage_state.specs.declared.logic.StateLogic.{StateLogic}
-use Rattle.stage_state.specs.declared.logic.StateLogic.TheVariants.{Machine, Dropping, Recovering}
+use Rattle.stage_state.specs.declared.logic.StateLogic.TheVariants.{Machine, Dropping, Recovering, Obeying, Tripping}
 use Rattle.stage_state.specs.Handling.{StateLaw}
 use Rattle.fused_net.proofs.Reading.{get_there}
 use Rattle.fan_laws.proofs.InRuns.{in_hears, at_index}
@@ -38,12 +39,10 @@ state_hears book (Machine first) (Machine now) v took gave law p h at =
     let its = law.law book in heard_one v took law.took_list law.took_is (record { list = its.in_list; end = its.in_end; is = its.took_is; as_seen = its.took_as }) p h at
 state_hears book (Dropping first) (Dropping now) v took gave law p h at = ports_hear _ v took gave law.by p h at
 state_hears book (Recovering first) (Recovering now) v took gave law p h at = ports_hear _ v took gave law.by p h at
-state_hears book (Machine first) (Dropping now) v took gave law p h at = absurd law
-state_hears book (Machine first) (Recovering now) v took gave law p h at = absurd law
-state_hears book (Dropping first) (Machine now) v took gave law p h at = absurd law
-state_hears book (Dropping first) (Recovering now) v took gave law p h at = absurd law
-state_hears book (Recovering first) (Machine now) v took gave law p h at = absurd law
-state_hears book (Recovering first) (Dropping now) v took gave law p h at = absurd law
+state_hears book (Obeying first) (Obeying now) v took gave law p h at = ports_hear _ v took gave law.by p h at
+state_hears book (Tripping first) (Tripping now) v took gave law p h at =
+    let its = law.law book Stop in heard_one v took law.took_list law.took_is (record { list = its.in_list; end = its.in_end; is = its.took_is; as_seen = its.took_as }) p h at
+state_hears book first now v took gave law p h at = absurd law
 
 module _ {S D : Type 0} (sources : S → SourceState) (drains : D → DrainState) (book : Book) (k : ℕ) (n : graph.Node) where
   pub node_hears : (first now : Node S D) (v : View) (took gave : List (List Item)) → FirstOf sources k n first → node_law sources drains first now v took gave → HearsAll v took

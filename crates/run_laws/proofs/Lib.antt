@@ -20,3 +20,4 @@ pub mod Untold
 pub mod ReadingAhead
 pub mod AgreeingSources
 pub mod StateChoices
+pub mod StateSwitches

@@ -12,15 +12,15 @@ some_is a b e = cc
 
 -- the linear stages
 pub linear_machine : (kd : Kind) (wk : Work) → IsLinear kd → work_of kd ≡ Some wk → IsOneMachine kd wk
-linear_machine (Map f) wk h e = subst (λ (x : Work). IsOneMachine (Map f) x) (some_is _ wk e) (record { no_sink = refl; outlook = λ g w k d os q. refl; no_moves = λ g w k os. refl; no_valve = λ moves. refl; lawful = λ g w k d is os r. r; rests = λ g w k d is os r. r })
-linear_machine (Filter f) wk h e = subst (λ (x : Work). IsOneMachine (Filter f) x) (some_is _ wk e) (record { no_sink = refl; outlook = λ g w k d os q. refl; no_moves = λ g w k os. refl; no_valve = λ moves. refl; lawful = λ g w k d is os r. r; rests = λ g w k d is os r. r })
-linear_machine (FilterNot f) wk h e = subst (λ (x : Work). IsOneMachine (FilterNot f) x) (some_is _ wk e) (record { no_sink = refl; outlook = λ g w k d os q. refl; no_moves = λ g w k os. refl; no_valve = λ moves. refl; lawful = λ g w k d is os r. r; rests = λ g w k d is os r. r })
-linear_machine (Take n) wk h e = subst (λ (x : Work). IsOneMachine (Take n) x) (some_is _ wk e) (record { no_sink = refl; outlook = λ g w k d os q. refl; no_moves = λ g w k os. refl; no_valve = λ moves. refl; lawful = λ g w k d is os r. r; rests = λ g w k d is os r. r })
-linear_machine (TakeWhile f) wk h e = subst (λ (x : Work). IsOneMachine (TakeWhile f) x) (some_is _ wk e) (record { no_sink = refl; outlook = λ g w k d os q. refl; no_moves = λ g w k os. refl; no_valve = λ moves. refl; lawful = λ g w k d is os r. r; rests = λ g w k d is os r. r })
-linear_machine (Drop n) wk h e = subst (λ (x : Work). IsOneMachine (Drop n) x) (some_is _ wk e) (record { no_sink = refl; outlook = λ g w k d os q. refl; no_moves = λ g w k os. refl; no_valve = λ moves. refl; lawful = λ g w k d is os r. r; rests = λ g w k d is os r. r })
-linear_machine (DropWhile f) wk h e = subst (λ (x : Work). IsOneMachine (DropWhile f) x) (some_is _ wk e) (record { no_sink = refl; outlook = λ g w k d os q. refl; no_moves = λ g w k os. refl; no_valve = λ moves. refl; lawful = λ g w k d is os r. r; rests = λ g w k d is os r. r })
-linear_machine (Limit n) wk h e = subst (λ (x : Work). IsOneMachine (Limit n) x) (some_is _ wk e) (record { no_sink = refl; outlook = λ g w k d os q. refl; no_moves = λ g w k os. refl; no_valve = λ moves. refl; lawful = λ g w k d is os r. r; rests = λ g w k d is os r. r })
-linear_machine (MapConcat f) wk h e = subst (λ (x : Work). IsOneMachine (MapConcat f) x) (some_is _ wk e) (record { no_sink = refl; outlook = λ g w k d os q. refl; no_moves = λ g w k os. refl; no_valve = λ moves. refl; lawful = λ g w k d is os r. r; rests = λ g w k d is os r. r })
+linear_machine (Map f) wk h e = subst (λ (x : Work). IsOneMachine (Map f) x) (some_is _ wk e) (record { no_sink = refl; outlook = λ g w k d os q. refl; no_moves = λ g w k os. refl; lawful = λ g w k d is os r. r; rests = λ g w k d is os r. r })
+linear_machine (Filter f) wk h e = subst (λ (x : Work). IsOneMachine (Filter f) x) (some_is _ wk e) (record { no_sink = refl; outlook = λ g w k d os q. refl; no_moves = λ g w k os. refl; lawful = λ g w k d is os r. r; rests = λ g w k d is os r. r })
+linear_machine (FilterNot f) wk h e = subst (λ (x : Work). IsOneMachine (FilterNot f) x) (some_is _ wk e) (record { no_sink = refl; outlook = λ g w k d os q. refl; no_moves = λ g w k os. refl; lawful = λ g w k d is os r. r; rests = λ g w k d is os r. r })
+linear_machine (Take n) wk h e = subst (λ (x : Work). IsOneMachine (Take n) x) (some_is _ wk e) (record { no_sink = refl; outlook = λ g w k d os q. refl; no_moves = λ g w k os. refl; lawful = λ g w k d is os r. r; rests = λ g w k d is os r. r })
+linear_machine (TakeWhile f) wk h e = subst (λ (x : Work). IsOneMachine (TakeWhile f) x) (some_is _ wk e) (record { no_sink = refl; outlook = λ g w k d os q. refl; no_moves = λ g w k os. refl; lawful = λ g w k d is os r. r; rests = λ g w k d is os r. r })
+linear_machine (Drop n) wk h e = subst (λ (x : Work). IsOneMachine (Drop n) x) (some_is _ wk e) (record { no_sink = refl; outlook = λ g w k d os q. refl; no_moves = λ g w k os. refl; lawful = λ g w k d is os r. r; rests = λ g w k d is os r. r })
+linear_machine (DropWhile f) wk h e = subst (λ (x : Work). IsOneMachine (DropWhile f) x) (some_is _ wk e) (record { no_sink = refl; outlook = λ g w k d os q. refl; no_moves = λ g w k os. refl; lawful = λ g w k d is os r. r; rests = λ g w k d is os r. r })
+linear_machine (Limit n) wk h e = subst (λ (x : Work). IsOneMachine (Limit n) x) (some_is _ wk e) (record { no_sink = refl; outlook = λ g w k d os q. refl; no_moves = λ g w k os. refl; lawful = λ g w k d is os r. r; rests = λ g w k d is os r. r })
+linear_machine (MapConcat f) wk h e = subst (λ (x : Work). IsOneMachine (MapConcat f) x) (some_is _ wk e) (record { no_sink = refl; outlook = λ g w k d os q. refl; no_moves = λ g w k os. refl; lawful = λ g w k d is os r. r; rests = λ g w k d is os r. r })
 linear_machine _ wk h e = absurd h
 
 -- the stages with state that keep a group or a value
@@ -32,8 +32,8 @@ IsKeeping (Scan o) = Unit {0}
 IsKeeping _ = ⊥
 
 pub keeping_machine : (kd : Kind) (wk : Work) → IsKeeping kd → work_of kd ≡ Some wk → IsOneMachine kd wk
-keeping_machine (Grouped n) wk h e = subst (λ (x : Work). IsOneMachine (Grouped n) x) (some_is _ wk e) (record { no_sink = refl; outlook = λ g w k d os q. refl; no_moves = λ g w k os. refl; no_valve = λ moves. refl; lawful = λ g w k d is os r. r; rests = λ g w k d is os r. r })
-keeping_machine (Fold o) wk h e = subst (λ (x : Work). IsOneMachine (Fold o) x) (some_is _ wk e) (record { no_sink = refl; outlook = λ g w k d os q. refl; no_moves = λ g w k os. refl; no_valve = λ moves. refl; lawful = λ g w k d is os r. r; rests = λ g w k d is os r. r })
-keeping_machine (Reduce o) wk h e = subst (λ (x : Work). IsOneMachine (Reduce o) x) (some_is _ wk e) (record { no_sink = refl; outlook = λ g w k d os q. refl; no_moves = λ g w k os. refl; no_valve = λ moves. refl; lawful = λ g w k d is os r. r; rests = λ g w k d is os r. r })
-keeping_machine (Scan o) wk h e = subst (λ (x : Work). IsOneMachine (Scan o) x) (some_is _ wk e) (record { no_sink = refl; outlook = λ g w k d os q. refl; no_moves = λ g w k os. refl; no_valve = λ moves. refl; lawful = λ g w k d is os r. r; rests = λ g w k d is os r. r })
+keeping_machine (Grouped n) wk h e = subst (λ (x : Work). IsOneMachine (Grouped n) x) (some_is _ wk e) (record { no_sink = refl; outlook = λ g w k d os q. refl; no_moves = λ g w k os. refl; lawful = λ g w k d is os r. r; rests = λ g w k d is os r. r })
+keeping_machine (Fold o) wk h e = subst (λ (x : Work). IsOneMachine (Fold o) x) (some_is _ wk e) (record { no_sink = refl; outlook = λ g w k d os q. refl; no_moves = λ g w k os. refl; lawful = λ g w k d is os r. r; rests = λ g w k d is os r. r })
+keeping_machine (Reduce o) wk h e = subst (λ (x : Work). IsOneMachine (Reduce o) x) (some_is _ wk e) (record { no_sink = refl; outlook = λ g w k d os q. refl; no_moves = λ g w k os. refl; lawful = λ g w k d is os r. r; rests = λ g w k d is os r. r })
+keeping_machine (Scan o) wk h e = subst (λ (x : Work). IsOneMachine (Scan o) x) (some_is _ wk e) (record { no_sink = refl; outlook = λ g w k d os q. refl; no_moves = λ g w k os. refl; lawful = λ g w k d is os r. r; rests = λ g w k d is os r. r })
 keeping_machine _ wk h e = absurd h

@@ -1,6 +1,6 @@
 -- What a buffer that drops and a recover gave agrees with the outlook of their output by their moves, where what they took does.
 use Rattle.std.specs.Prelude.{slice_get, slice_index_or}
-use Rattle.std.proofs.Common.{◌≡◌, ◌≢◌, ℕ, suc, List, [], ◌∷◌, length, true, false, None, Some, refl, sym, ap, subst, ◌∙◌, arith}
+use Rattle.std.proofs.Common.{◌≡◌, ◌≢◌, ℕ, suc, List, [], ◌∷◌, length, true, false, Some, refl, sym, ap, subst, ◌∙◌, arith}
 use Rattle.elem_core.specs.Tree.{Tree, num, text}
 use Rattle.elem_core.specs.declared.item.Item.{Item}
 use Rattle.elem_core.specs.declared.why.Decider.{Decider}
@@ -9,7 +9,7 @@ use Rattle.stream_model.specs.declared.kind.Kind.{Kind}
 use Rattle.stream_model.specs.declared.kind.Kind.TheVariants.{Buffer, RecoverNum, RecoverText}
 use Rattle.stream_model.specs.declared.kind.Policy.{Policy}
 use Rattle.stream_model.specs.declared.kind.Policy.TheVariants.{Backpressure}
-use Rattle.stream_model.specs.Fits.{moves_fit, valve_order}
+use Rattle.stream_model.specs.Fits.{moves_fit}
 use Rattle.stream_model.specs.Graph.{Graph}
 use Rattle.stream_model.specs.Graph as graph
 use Rattle.stream_model.specs.Node.{World, head_of, node_outlook}
@@ -44,7 +44,7 @@ all_agree (o ∷ os) (h ∷ hs) [] n t a = absurd (omega (arith, n))
 all_agree (o ∷ os) (h ∷ hs) (f ∷ fs) n t a = (a.0 f.list f.end (t 0 f refl), all_agree os hs fs (omega (arith, n)) (λ i x e. t (suc i) x e) a.1)
 
 -- the same of a law by ports
-flows_agree : (K : List Inflow → List Tree → End → Type 0) (v : View) (took gave : List (List Item)) (os : List Outlook) → (law : InPortsLaw K v took gave) → AllMayPass os took → AllAgree os law.law.ins
+pub flows_agree : (K : List Inflow → List Tree → End → Type 0) (v : View) (took gave : List (List Item)) (os : List Outlook) → (law : InPortsLaw K v took gave) → AllMayPass os took → AllAgree os law.law.ins
 flows_agree K v took gave os law a = let l = law.law in all_agree os took l.ins (l.ports ∙ sym law.ports) l.took_is a
 
 -- ---- a buffer that drops
@@ -103,13 +103,12 @@ pub record IsRecover (kd : Kind) (x : recover.Recover) : Type 0 where
   pub fits_by : (g : Graph) (w : World) (k : ℕ) (os : List Outlook) → moves_fit g w k kd os ≡ recover_fits (w.moves k) (head_of os)
   pub is : x ≡ recover.begun element
   pub no_sink : is_sink kd ≡ false
-  pub no_valve : (moves : List ℕ) → valve_order kd moves ≡ None
   pub lawful : (g : Graph) (w : World) (k : ℕ) (d : Decider) (is os : List picture.View) → OneToOne (StageLawful (as_it_is 1 true)) is os × OneToOne (RecoverLawful (w.moves k)) is os → RowLawful g w k kd d is os
   pub rests : (g : Graph) (w : World) (k : ℕ) (d : Decider) (is os : List picture.View) → OneToOne (StageRests (as_it_is 1 true)) is os → RowRests g w k kd d is os
 
 pub recovers_first : (k : ℕ) (kd : Kind) (d : Decider) (x : recover.Recover) → BeginsAs kd k d (Recovering x) → IsRecover kd x
-recovers_first k (RecoverNum z) d x b = record { element = num z; outlook = λ g w k d os p. refl; fits_by = λ g w k os. refl; is = b; no_sink = refl; no_valve = λ moves. refl; lawful = λ g w k d is os r. r; rests = λ g w k d is os r. r }
-recovers_first k (RecoverText l) d x b = record { element = text l; outlook = λ g w k d os p. refl; fits_by = λ g w k os. refl; is = b; no_sink = refl; no_valve = λ moves. refl; lawful = λ g w k d is os r. r; rests = λ g w k d is os r. r }
+recovers_first k (RecoverNum z) d x b = record { element = num z; outlook = λ g w k d os p. refl; fits_by = λ g w k os. refl; is = b; no_sink = refl; lawful = λ g w k d is os r. r; rests = λ g w k d is os r. r }
+recovers_first k (RecoverText l) d x b = record { element = text l; outlook = λ g w k d os p. refl; fits_by = λ g w k os. refl; is = b; no_sink = refl; lawful = λ g w k d is os r. r; rests = λ g w k d is os r. r }
 recovers_first k _ d x b = absurd b
 
 some_is : (t u : Tree) → Some t ≡ Some u → t ≡ u

@@ -23,7 +23,7 @@ use Rattle.stage_state.specs.Resting.{begin_buffer}
 use Rattle.stage_state.specs.States.{Logic, machine_by, held, IsMachine, Begins}
 use Rattle.stage_state.proofs.Buffers.{buffer_agrees}
 use Rattle.stage_state.specs.declared.logic.StateLogic.{StateLogic}
-use Rattle.stage_state.specs.declared.logic.StateLogic.TheVariants.{Machine, Dropping, Recovering}
+use Rattle.stage_state.specs.declared.logic.StateLogic.TheVariants.{Machine, Dropping, Recovering, Obeying, Tripping}
 use Rattle.stage_state.specs.Moves.{state_picks}
 use Rattle.stage_state.specs.Handling.{StateLaw}
 use Rattle.stage_state.specs.MachineNodes.{MachineLaw}
@@ -34,6 +34,7 @@ use Rattle.run_laws.proofs.Machines.{IsKeeping, keeping_machine}
 use Rattle.run_laws.proofs.Readings.{one_port}
 use Rattle.run_laws.proofs.Stages.{one_input, begins_so}
 use Rattle.run_laws.proofs.StateChoices.{dropping_laws, recover_laws}
+use Rattle.run_laws.proofs.StateSwitches.{valve_laws, trip_laws}
 
 -- ---- a stage that chooses nothing keeps a group or a value, or is a buffer that holds its input back
 
@@ -134,9 +135,6 @@ pub state_laws : (g : Graph) (w : World) (k : ℕ) (n : graph.Node) (first now :
 state_laws g w k n (Machine first) (Machine now) v took gave made told law = machine_laws g w k n first now v took gave made.begins.as_kind.0 made.begins.as_kind.1 law
 state_laws g w k n (Dropping first) (Dropping now) v took gave made told law = dropping_laws g w k n first now v took gave made.begins.as_kind (told now.moves refl) law
 state_laws g w k n (Recovering first) (Recovering now) v took gave made told law = recover_laws g w k n first now v took gave made.begins.as_kind (told now.moves refl) law
-state_laws g w k n (Machine first) (Dropping now) v took gave made told law = absurd law
-state_laws g w k n (Machine first) (Recovering now) v took gave made told law = absurd law
-state_laws g w k n (Dropping first) (Machine now) v took gave made told law = absurd law
-state_laws g w k n (Dropping first) (Recovering now) v took gave made told law = absurd law
-state_laws g w k n (Recovering first) (Machine now) v took gave made told law = absurd law
-state_laws g w k n (Recovering first) (Dropping now) v took gave made told law = absurd law
+state_laws g w k n (Obeying first) (Obeying now) v took gave made told law = valve_laws g w k n first now v took gave made.begins.as_kind (told now.moves refl) law
+state_laws g w k n (Tripping first) (Tripping now) v took gave made told law = trip_laws g w k n first now v took gave made.begins.as_kind law
+state_laws g w k n first now v took gave made told law = absurd law

@@ -1,5 +1,7 @@
--- What a world tells of a run: its input files, by the sources of its nodes at the start and as they are now, and what its stages chose.
+-- What a world tells of a run: its input files, by the sources of its nodes at the start and as they are now, and what its stages
+-- chose. And what the seats of its nodes at kill switches tell, once each switch was settled.
 use Rattle.std.specs.Prelude.{◌≡◌, ℕ, IsTrue, List, [], Option, Some, None, slice_get, ⊤}
+use Rattle.kill_core.specs.Public.{SeatState}
 use Rattle.stream_model.specs.declared.kind.Kind.TheVariants as kind
 use Rattle.stream_model.specs.Graph.{Graph}
 use Rattle.stream_model.specs.Graph as graph
@@ -11,7 +13,8 @@ use Rattle.stream_io.specs.State.{SourceState}
 use Rattle.run_account.specs.Account.{Account}
 use Rattle.nodes.specs.declared.node.Node.{Node}
 use Rattle.nodes.specs.declared.node.Node.TheVariants.{Reading}
-use Rattle.nodes.specs.Nodes.{node_picks, node_moves}
+use Rattle.nodes.specs.Nodes.{node_picks, node_moves, node_seat}
+use Rattle.switch_laws.specs.Settling.{AllSettled, kinds_of}
 
 -- the file's bytes are told; so many of them were handed out by now; and it tells a fault where the count of failed reads rose
 pub record TellsFile (first now : SourceState) (f : File) : Type 0 where
@@ -32,6 +35,15 @@ module _ {S D : Type 0} where
 abbrev pub moves_at : {S D : Type 0} → Option (Node S D) → List ℕ
 moves_at None = []
 moves_at (Some x) = node_moves x
+
+-- the seat of a node at a kill switch, where there is a node, and it is a valve or a trip
+abbrev pub seat_at : {S D : Type 0} → Option (Node S D) → Option SeatState
+seat_at None = None
+seat_at (Some x) = node_seat x
+
+-- the seats of the valves and trips of a run were settled, at each switch that one of them names
+abbrev pub AreSettled : {S D : Type 0} → Graph → Account (Node S D) → Type 0
+AreSettled g a = AllSettled (kinds_of g) (λ k. seat_at (a.nodes k))
 
 -- the world with these plugs and files in which each node has made the moves of the account's
 abbrev pub chosen_world : {S D : Type 0} → Book → (List ℕ → File) → Account (Node S D) → World

@@ -4,15 +4,17 @@ use Rattle.stream_model.specs.Graph.{Wire}
 use Rattle.blue_core.specs.declared.blueprint.Node.{Node}
 use Rattle.blue_rules.specs.Picks.{picks}
 use Rattle.materializer.specs.Files.{input_of, output_of, is_sink}
+use Rattle.switch_board.specs.Board.{switch_of}
 use Rattle.island_ends.specs.declared.room.EndHomes.{EndHomes}
 use Rattle.island_plans.specs.declared.ends.EndList.{EndList}
-use Rattle.island_plans.specs.declared.ends.EndList.TheVariants.{Sinks, Picks, Readers, Writers}
+use Rattle.island_plans.specs.declared.ends.EndList.TheVariants.{Sinks, Picks, Seats, Readers, Writers}
 
--- a node that leaves an item in this list of its island's end: a sink, a stage whose kind chooses, a source of lines, and a sink
--- with a file
+-- a node that leaves an item in this list of its island's end: a sink, a stage whose kind chooses, a valve or a trip, a source of
+-- lines, and a sink with a file
 abbrev pub leaves_in : EndList → Node → Bool
 leaves_in Sinks n = is_sink n
 leaves_in Picks n = picks n.kind
+leaves_in Seats n = is_some (switch_of n.kind)
 leaves_in Readers n = is_some (input_of n.kind)
 leaves_in Writers n = is_some (output_of n.kind)
 
@@ -33,6 +35,7 @@ wire_home homes w = slice_index homes w.from
 pub record AreEndHomes (homes : List ℕ) (nodes : List Node) (ws : List Wire) (e : EndHomes) : Type 0 where
   pub sinks_are : e.sinks.items ≡ homes_in Sinks nodes homes
   pub picks_are : e.picks.items ≡ homes_in Picks nodes homes
+  pub seats_are : e.seats.items ≡ homes_in Seats nodes homes
   pub readers_are : e.readers.items ≡ homes_in Readers nodes homes
   pub writers_are : e.writers.items ≡ homes_in Writers nodes homes
   pub wires_are : e.wires.items ≡ map (wire_home homes) ws

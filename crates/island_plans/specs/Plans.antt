@@ -2,6 +2,7 @@
 use Rattle.std.specs.Prelude.{◌≡◌, ℕ, ◌+◌, ◌≤◌, List, [], length, map, slice_get, Some, vec_len, vec_capacity}
 use Rattle.stream_model.specs.Graph.{Wire}
 use Rattle.blue_core.specs.declared.blueprint.Blueprint.{Blueprint}
+use Rattle.blue_core.specs.declared.blueprint.Node.{Node}
 use Rattle.blue_check.specs.Wires.{blueprint_wires}
 use Rattle.interpreter.specs.Handles.{sources_in, drains_in}
 use Rattle.interpreter.specs.Parts.{AreParts, place_of}
@@ -15,15 +16,17 @@ use Rattle.scatter.specs.Shares.{of_home}
 use Rattle.island_parts.specs.Split.{IsSplit}
 use Rattle.island_parts.specs.Whole.{AreNodes, own_links, whole_homes, whole_links, whole_seats}
 use Rattle.materializer.specs.Built.{CanRun}
-use Rattle.materializer.specs.Planned.{ArePlanned, places_from}
-use Rattle.materializer.specs.Seats.{AreSeats}
+use Rattle.switch_board.specs.Board.{IsBoard, AreAtSwitches}
+use Rattle.materializer.specs.Planned.{ArePlanned, places_from, planned_seat}
+use Rattle.materializer.specs.Seats.{AreSeats, place_seat}
 use Rattle.island_plans.specs.Ends.{AreEndHomes}
 use Rattle.island_plans.specs.Homes.{AreNumberedHomes}
 use Rattle.island_plans.specs.declared.plans.Filled.{Filled}
 use Rattle.island_plans.specs.declared.plans.Plans.{Plans}
 
 -- the plans of the islands of their blueprint, which can be run: its seats, the memory of all islands, an empty list with room for
--- its nodes and for both ends of each lane, the lanes, and the islands of its nodes and of what their ends list
+-- its nodes and for both ends of each lane, the lanes, the islands of its nodes and of what their ends list, and the board of its
+-- kill switches, at which its seats are
 pub record IsPlans {S D : Type 0} (p : Plans S D) : Type 0 where
   pub runs : CanRun p.blueprint.value
   pub homes_are : AreNumberedHomes (length p.blueprint.value.nodes.items) p.count (blueprint_wires p.blueprint.value) p.homes.items
@@ -31,6 +34,8 @@ pub record IsPlans {S D : Type 0} (p : Plans S D) : Type 0 where
   pub ends_are : AreEndHomes p.homes.items p.blueprint.value.nodes.items (blueprint_wires p.blueprint.value) p.ends
   pub seats : ArePlanned 0 p.blueprint.value.nodes.items p.seats.items
   pub split : IsSplit p.homes.items p.count (blueprint_wires p.blueprint.value) (places_from 0 p.blueprint.value.nodes.items) p.split
+  pub board_is : IsBoard (map (λ (n : Node). n.kind) p.blueprint.value.nodes.items) p.board
+  pub at_switches : AreAtSwitches (map (λ (n : Node). n.kind) p.blueprint.value.nodes.items) p.board (map planned_seat p.seats.items)
   pub empty : p.places.items ≡ []
   pub room_for_places : vec_len p.seats + length p.lanes.items + length p.lanes.items ≤ vec_capacity p.places
 
@@ -41,7 +46,8 @@ pub record IsIslandOf {S D : Type 0} (homes : List ℕ) (ws : List Wire) (lanes 
   pub parts : AreParts x.0.nodes.items x.0.links.items
   pub room : IsRoom x.1 (map place_of x.0.nodes.items) x.0.links.items
 
--- the islands of a blueprint, whose nodes hold these sources and drains, each in the order of nodes
+-- the islands of a blueprint, whose nodes hold these sources and drains, each in the order of nodes, and their seats at the board of
+-- its kill switches
 pub record IsFilled {S D : Type 0} (b : Blueprint) (sources : List S) (drains : List D) (f : Filled S D) : Type 0 where
   pub nodes : List (Seated S D)
   pub seats : AreSeats 0 b.nodes.items sources drains nodes
@@ -51,5 +57,7 @@ pub record IsFilled {S D : Type 0} (b : Blueprint) (sources : List S) (drains : 
   pub homes_are : AreNumberedHomes (length b.nodes.items) f.count (blueprint_wires b) f.homes.items
   pub lanes_are : f.lanes.items ≡ lanes_from f.homes.items 0 (blueprint_wires b)
   pub ends_are : AreEndHomes f.homes.items b.nodes.items (blueprint_wires b) f.ends
+  pub board_is : IsBoard (map (λ (n : Node). n.kind) b.nodes.items) f.board
+  pub at_switches : AreAtSwitches (map (λ (n : Node). n.kind) b.nodes.items) f.board (map place_seat nodes)
   pub many : length f.islands.items ≡ f.count
   pub each : (k : ℕ) (x : Parts S D × Room S D) → slice_get f.islands.items k ≡ Some x → IsIslandOf f.homes.items (blueprint_wires b) f.lanes.items nodes k x

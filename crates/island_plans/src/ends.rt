@@ -11,6 +11,7 @@ use elem_core::why::NoMemory;
 use island_ends::room::EndHomes;
 use materializer::names::{input_of, is_sink, output_of};
 use std::alloc::Global;
+use switch_board::names::switch_of;
 
 /// A list of an island's end in which some of its nodes leave one item each, in order.
 #[derive(Clone, Copy, PartialEq, Eq, Debug)]
@@ -19,6 +20,8 @@ pub enum EndList {
     Sinks,
     /// The moves of its stages whose kinds choose.
     Picks,
+    /// The seats of its valves and trips.
+    Seats,
     /// The sources of bytes that its sources of lines read.
     Readers,
     /// The drains that its sinks with a file wrote.
@@ -32,6 +35,7 @@ pub fn leaves_in(list: EndList, node: &Node) -> bool
     match list {
         EndList::Sinks => is_sink(node),
         EndList::Picks => picks(&node.kind),
+        EndList::Seats => switch_of(&node.kind).is_some(),
         EndList::Readers => input_of(&node.kind).is_some(),
         EndList::Writers => output_of(&node.kind).is_some(),
     }
@@ -89,6 +93,7 @@ pub fn end_homes(
     Ok(EndHomes {
         sinks: homes_in(alloc, EndList::Sinks, nodes, homes)?,
         picks: homes_in(alloc, EndList::Picks, nodes, homes)?,
+        seats: homes_in(alloc, EndList::Seats, nodes, homes)?,
         readers: homes_in(alloc, EndList::Readers, nodes, homes)?,
         writers: homes_in(alloc, EndList::Writers, nodes, homes)?,
         wires: wire_homes(alloc, links, homes)?,

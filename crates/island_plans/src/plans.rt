@@ -20,6 +20,7 @@ use materializer::seats::{Seat, fill_all, seat_all};
 use std::alloc::{AllocError, Global};
 use std::snapshot::Snapshot;
 use stream_io::outside::{Drain, Source};
+use switch_board::board::Board;
 use traversal::lanes::lanes_of;
 use traversal::plan::LanePlan;
 
@@ -39,6 +40,8 @@ pub struct Plans<S: Source, D: Drain> {
     pub count: usize,
     /// The islands of what their ends list.
     pub ends: EndHomes,
+    /// The kill switches.
+    pub board: Board,
 }
 
 /// The islands of a blueprint, whose nodes hold their handles. Rule: own.
@@ -54,6 +57,8 @@ pub struct Filled<S: Source, D: Drain> {
     pub count: usize,
     /// The islands of what their ends list.
     pub ends: EndHomes,
+    /// The kill switches.
+    pub board: Board,
 }
 
 /// How many places so many nodes and lanes take; a number that is out of range is want of memory.
@@ -86,7 +91,8 @@ pub fn plans_of<S: Source, D: Drain>(alloc: Global, b: Blueprint) -> Result<Plan
     let nodes = places_of(alloc, &b.nodes)?;
     let own = copy_of(alloc, &homes)?;
     let split = split_of(alloc, nodes, &wires, own, count, &lanes)?;
-    let seats = seat_all(alloc, b.nodes)?;
+    let (board, switches) = Board::of(alloc, &b.nodes)?;
+    let seats = seat_all(alloc, b.nodes, switches)?;
     let places = Vec::with_capacity(alloc, all_places(seats.len(), lanes.len())?)?;
     Ok(Plans {
         seats,
@@ -97,6 +103,7 @@ pub fn plans_of<S: Source, D: Drain>(alloc: Global, b: Blueprint) -> Result<Plan
         homes,
         count,
         ends,
+        board,
     })
 }
 
@@ -113,6 +120,7 @@ impl<S: Source, D: Drain> Plans<S, D> {
         ensures homes { result.homes ≡ self.homes }
         ensures count { result.count ≡ self.count }
         ensures ends { result.ends ≡ self.ends }
+        ensures board { result.board ≡ self.board }
     {
         islands_have_parts::<S, D>();
         let nodes = fill_all(alloc, self.seats, self.places, sources, drains);
@@ -123,6 +131,7 @@ impl<S: Source, D: Drain> Plans<S, D> {
             homes: self.homes,
             count: self.count,
             ends: self.ends,
+            board: self.board,
         }
     }
 }

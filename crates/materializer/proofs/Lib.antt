@@ -6,4 +6,5 @@ pub mod Linking
 pub mod Making
 pub mod Handing
 pub mod SeatLoops
+pub mod Switches
 pub mod Filling

@@ -2,7 +2,7 @@
 use Rattle.std.proofs.Common.{◌≡◌, ℕ, zero, suc, ◌+◌, List, [], ◌∷◌, length, Some, None, refl, ap, sym, ◌∙◌, subst}
 use Rattle.std.specs.Prelude.{slice_get}
 use Rattle.stream_model.specs.declared.kind.Kind.{Kind}
-use Rattle.stream_model.specs.declared.kind.Kind.TheVariants.{Lines, Range, Empty, Failed, Map, Filter, FilterNot, TakeWhile, DropWhile, Take, Drop, Limit, MapConcat, Grouped, Fold, Reduce, Scan, Buffer, RecoverNum, RecoverText, Merge, Concat, Interleave, MergeSorted, Zip, Broadcast, Balance, Partition, Unzip, ToLines, Head, Last}
+use Rattle.stream_model.specs.declared.kind.Kind.TheVariants.{Lines, Range, Empty, Failed, Map, Filter, FilterNot, TakeWhile, DropWhile, Take, Drop, Limit, MapConcat, Grouped, Fold, Reduce, Scan, Buffer, RecoverNum, RecoverText, Valve, TripShutdown, TripAbort, Merge, Concat, Interleave, MergeSorted, Zip, Broadcast, Balance, Partition, Unzip, ToLines, Head, Last}
 use Rattle.stream_model.specs.Composed.{inputs_of}
 use Rattle.stream_picture.specs.View.{outputs_of}
 use Rattle.stage_linear.specs.States.{IsLinear}
@@ -60,6 +60,9 @@ state_ports (Scan o) h = (refl, refl)
 state_ports (Buffer n p) h = (refl, refl)
 state_ports (RecoverNum z) h = (refl, refl)
 state_ports (RecoverText l) h = (refl, refl)
+state_ports (Valve name) h = (refl, refl)
+state_ports (TripShutdown name n) h = (refl, refl)
+state_ports (TripAbort name n) h = (refl, refl)
 state_ports _ h = absurd h
 
 -- a stage with several inputs has those of its kind, and one output

@@ -1,5 +1,6 @@
 -- The nodes of a blueprint at their places, before its files are opened.
-use Rattle.std.specs.Prelude.{◌≡◌, ℕ, ◌+◌, List, [], ◌∷◌, None, ⊤}
+use Rattle.std.specs.Prelude.{◌≡◌, ℕ, ◌+◌, List, [], ◌∷◌, Option, None, ⊤}
+use Rattle.kill_core.specs.Public.{SeatState}
 use Rattle.stream_model.specs.declared.kind.Kind.{Kind}
 use Rattle.stream_model.specs.declared.kind.Kind.TheVariants.{Lines}
 use Rattle.stream_model.specs.Composed.{inputs_of}
@@ -10,7 +11,7 @@ use Rattle.interpreter.specs.declared.parts.Seated.{Seated}
 use Rattle.interpreter.specs.declared.parts.Work.{Work}
 use Rattle.blue_core.specs.declared.blueprint.Node.{Node}
 use Rattle.materializer.specs.Files.{input_of, output_of}
-use Rattle.materializer.specs.Seats.{handles_left, IsFreeWork, IsWork}
+use Rattle.materializer.specs.Seats.{handles_left, IsFreeWork, IsWork, work_seat}
 use Rattle.materializer.specs.declared.seats.Planned.{Planned}
 use Rattle.materializer.specs.declared.seats.Planned.TheVariants.{Reads, Writes, Works}
 use Rattle.materializer.specs.declared.seats.Seat.{Seat}
@@ -80,3 +81,12 @@ pub record FillsAs {S D : Type 0} (k : ℕ) (n : Node) (sources : List S) (drain
 
 abbrev pub Fills : {S D : Type 0} → Seat S D → List S → List D → Seated S D → List S → List D → Type 0
 Fills s sources drains p later_sources later_drains = (k : ℕ) (n : Node) → IsSeat k n s → FillsAs k n sources drains p later_sources later_drains
+
+-- the seat at its switch that stands at a place, where it is that of a valve or a trip
+abbrev pub seat_of_plan : {S D : Type 0} → Planned S D → Option SeatState
+seat_of_plan Reads = None
+seat_of_plan (Writes shape) = None
+seat_of_plan (Works w) = work_seat w
+
+abbrev pub planned_seat : {S D : Type 0} → Seat S D → Option SeatState
+planned_seat s = seat_of_plan s.planned

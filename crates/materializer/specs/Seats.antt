@@ -6,9 +6,11 @@ use Rattle.stream_model.specs.declared.kind.Kind.TheVariants.{Ignore}
 use Rattle.stream_model.specs.Composed.{inputs_of}
 use Rattle.stream_picture.specs.View.{outputs_of}
 use Rattle.stream_io.specs.Reading.{Reading}
+use Rattle.kill_core.specs.Public.{SeatState}
 use Rattle.stage_linear.specs.States.{Logic, IsLinear, Begins}
 use Rattle.stage_state.specs.declared.logic.StateLogic.{StateLogic}
 use Rattle.stage_state.specs.Logics.{IsStateful}
+use Rattle.stage_state.specs.Moves.{state_seat}
 use Rattle.stage_state.specs.Handling as state
 use Rattle.stage_in.specs.declared.logic.InLogic.{InLogic}
 use Rattle.stage_in.specs.Logics.{IsFanIn}
@@ -99,3 +101,11 @@ AreSeats k [] sources drains [] = ⊤
 AreSeats k (n ∷ ns) sources drains (p ∷ ps) =
     (p.node ≡ k) × (IsWork k n sources drains p.work × AreSeats (k + 1) ns (handles_left (input_of n.kind) sources) (handles_left (output_of n.kind) drains) ps)
 AreSeats k _ sources drains _ = ⊥
+
+-- the seat at its switch that a work has, where it is that of a valve or a trip
+abbrev pub work_seat : {S D : Type 0} → Work S D → Option SeatState
+work_seat (work.State l) = state_seat l
+work_seat _ = None
+
+abbrev pub place_seat : {S D : Type 0} → Seated S D → Option SeatState
+place_seat p = work_seat p.work

@@ -1,5 +1,5 @@
 // What stands at the place of each node.
-ghost use Rattle.std.specs.Prelude.{◌≡◌, ◌+◌, ◌<◌, ◌≤◌, List, [], ◌∷◌, true, None, IfOk, vec_len, vec_capacity};
+ghost use Rattle.std.specs.Prelude.{◌≡◌, ◌+◌, ◌<◌, ◌≤◌, List, [], ◌∷◌, true, None, IfOk, map, vec_len, vec_capacity};
 ghost use Rattle.std.specs.List.{list_all};
 ghost use Rattle.std.specs.Vec.Iter.{into_iter_items, into_iter_len};
 ghost use Rattle.blue_rules.specs.Sizes.{sizes_fit};
@@ -9,14 +9,16 @@ ghost use Rattle.stage_out.specs.OutLogics.{IsOut};
 ghost use Rattle.materializer.specs.Built.{is_built};
 ghost use Rattle.blue_core.specs.declared.blueprint.Node as blue;
 ghost use Rattle.materializer.specs.Files.{input_of, output_of};
-ghost use Rattle.materializer.specs.Seats.{IsFreeWork, AreSeats};
-ghost use Rattle.materializer.specs.Planned.{IsSeat, ArePlanned, Fills, reads, writes, reads_in, writes_in};
+ghost use Rattle.switch_board.specs.Board.{switch_of, IsHandedAt, AreHanded, seat_of_end};
+ghost use Rattle.materializer.specs.Seats.{IsFreeWork, AreSeats, work_seat, place_seat};
+ghost use Rattle.materializer.specs.Planned.{IsPlanned, IsSeat, ArePlanned, Fills, seat_of_plan, planned_seat, reads, writes, reads_in, writes_in};
 
 use crate::number::numbered;
 use blue_core::blueprint::Node;
 use blue_names::ports::{inputs_of, outputs_of};
 use elem_core::why::{Decider, NoMemory};
 use interpreter::parts::{Seated, Work};
+use kill_core::end::SwitchEnd;
 use stage_in::logic::InLogic;
 use stage_linear::logic::LinearLogic;
 use stage_out::logic::OutLogic;
@@ -57,17 +59,20 @@ fn take_next<T: Drop>(handles: &mut IntoIter<T, Global>) -> T
     }
 }
 
-/// What a stage with state does at node k.
+/// What a stage with state does at node k. A valve and a trip have this of their switch.
 fn state_work<S: Source, D: Drain>(
     alloc: Global,
     k: u32,
     kind: Kind,
     decider: Decider,
+    switch: Option<SwitchEnd>,
 ) -> Result<Work<S, D>, NoMemory>
-    requires { IsStateful kind }
-    ensures { IfOk result (IsFreeWork k kind decider) }
+    requires kind { IsStateful kind }
+    requires handed { IsHandedAt (switch_of kind) switch }
+    ensures work { IfOk result (IsFreeWork k kind decider) }
+    ensures seat { IfOk result (λ w. work_seat w ≡ seat_of_end switch) }
 {
-    Ok(Work::State(StateLogic::new(alloc, k, kind, decider)?))
+    Ok(Work::State(StateLogic::new(alloc, k, kind, decider, switch)?))
 }
 
 /// What a stage with several inputs does at node k.
@@ -78,7 +83,8 @@ fn fan_in_work<S: Source, D: Drain>(
     decider: Decider,
 ) -> Result<Work<S, D>, NoMemory>
     requires { IsFanIn kind }
-    ensures { IfOk result (IsFreeWork k kind decider) }
+    ensures work { IfOk result (IsFreeWork k kind decider) }
+    ensures seat { IfOk result (λ w. work_seat w ≡ None) }
 {
     let inputs = inputs_of(&kind);
     Ok(Work::FanIn(InLogic::new(alloc, k, kind, decider)?, inputs))
@@ -92,13 +98,14 @@ fn fan_out_work<S: Source, D: Drain>(
     decider: Decider,
 ) -> Result<Work<S, D>, NoMemory>
     requires { IsOut kind }
-    ensures { IfOk result (IsFreeWork k kind decider) }
+    ensures work { IfOk result (IsFreeWork k kind decider) }
+    ensures seat { IfOk result (λ w. work_seat w ≡ None) }
 {
     let outputs = outputs_of(&kind);
     Ok(Work::FanOut(OutLogic::new(alloc, k, kind, decider)?, outputs))
 }
 
-/// What node k does, where it has no file.
+/// What node k does, where it has no file and is at no switch.
 fn free_work<S: Source, D: Drain>(
     alloc: Global,
     k: u32,
@@ -109,7 +116,9 @@ fn free_work<S: Source, D: Drain>(
     requires sized { sizes_fit kind ≡ true }
     requires no_input { input_of kind ≡ None }
     requires no_output { output_of kind ≡ None }
+    requires no_switch { switch_of kind ≡ None }
     ensures work { IfOk result (IsFreeWork k kind decider) }
+    ensures seat { IfOk result (λ w. work_seat w ≡ None) }
     ensures no_input { input_of kind ≡ None }
     ensures no_output { output_of kind ≡ None }
 {
@@ -122,7 +131,7 @@ fn free_work<S: Source, D: Drain>(
         | Kind::Scan(_)
         | Kind::Buffer(_, _)
         | Kind::RecoverNum(_)
-        | Kind::RecoverText(_) => state_work(alloc, k, kind, decider)?,
+        | Kind::RecoverText(_) => state_work(alloc, k, kind, decider, None)?,
         Kind::Merge(_) | Kind::Concat(_) | Kind::Interleave(_, _) | Kind::MergeSorted | Kind::Zip =>
             fan_in_work(alloc, k, kind, decider)?,
         Kind::Broadcast(_) | Kind::Balance(_) | Kind::Partition(_, _) | Kind::Unzip => {
@@ -132,11 +141,62 @@ fn free_work<S: Source, D: Drain>(
     })
 }
 
-/// What stands at the place of node k, whose handle is not there yet.
-fn plan<S: Source, D: Drain>(alloc: Global, k: u32, node: Node) -> Result<Seat<S, D>, NoMemory>
+/// What stands at the place of node k, which is at no switch, and whose handle is not there yet.
+fn free_seat<S: Source, D: Drain>(
+    alloc: Global,
+    k: u32,
+    kind: Kind,
+    decider: Decider,
+) -> Result<Planned<S, D>, NoMemory>
+    requires built { is_built kind ≡ true }
+    requires sized { sizes_fit kind ≡ true }
+    requires no_switch { switch_of kind ≡ None }
+    ensures planned { IfOk result (λ p. (node : blue.Node) → node.kind ≡ kind → node.decider ≡ decider → IsPlanned k node p) }
+    ensures seat { IfOk result (λ p. seat_of_plan p ≡ None) }
+{
+    Ok(match kind {
+        Kind::Lines(_) => Planned::Reads,
+        Kind::ToLines(_) | Kind::Head(_) | Kind::Last(_) => Planned::Writes(kind),
+        _ => Planned::Works(free_work(alloc, k, kind, decider)?),
+    })
+}
+
+/// What is to stand at the place of node k. A valve and a trip have this of their switch.
+#[tactic(auto, using(crate::proofs::Switches::plans_at_switch, crate::proofs::Switches::at_no_switch, crate::proofs::Switches::at_switch_keeps))]
+fn stand<S: Source, D: Drain>(
+    alloc: Global,
+    k: u32,
+    kind: Kind,
+    decider: Decider,
+    switch: Option<SwitchEnd>,
+) -> Result<Planned<S, D>, NoMemory>
+    requires built { is_built kind ≡ true }
+    requires sized { sizes_fit kind ≡ true }
+    requires handed { IsHandedAt (switch_of kind) switch }
+    ensures planned { IfOk result (λ p. (node : blue.Node) → node.kind ≡ kind → node.decider ≡ decider → IsPlanned k node p) }
+    ensures seat { IfOk result (λ p. seat_of_plan p ≡ seat_of_end switch) }
+{
+    match switch {
+        Some(end) => Ok(Planned::Works(state_work(alloc, k, kind, decider, Some(end))?)),
+        None => {
+            let planned = free_seat(alloc, k, kind, decider)?;
+            Ok(planned)
+        }
+    }
+}
+
+/// What stands at the place of node k, whose handle is not there yet. A valve and a trip have this of their switch.
+fn plan<S: Source, D: Drain>(
+    alloc: Global,
+    k: u32,
+    node: Node,
+    switch: Option<SwitchEnd>,
+) -> Result<Seat<S, D>, NoMemory>
     requires built { is_built node.kind ≡ true }
     requires sized { sizes_fit node.kind ≡ true }
-    ensures { IfOk result (IsSeat k node) }
+    requires handed { IsHandedAt (switch_of node.kind) switch }
+    ensures planned { IfOk result (IsSeat k node) }
+    ensures seat { IfOk result (λ s. planned_seat s ≡ seat_of_end switch) }
 {
     let Node {
         name,
@@ -144,27 +204,28 @@ fn plan<S: Source, D: Drain>(alloc: Global, k: u32, node: Node) -> Result<Seat<S
         decider,
     } = node;
     let _ = name;
-    let planned = match kind {
-        Kind::Lines(_) => Planned::Reads,
-        Kind::ToLines(_) | Kind::Head(_) | Kind::Last(_) => Planned::Writes(kind),
-        _ => Planned::Works(free_work(alloc, k, kind, decider)?),
-    };
+    let planned = stand(alloc, k, kind, decider, switch)?;
     Ok(Seat { node: k, planned })
 }
 
-/// The nodes in order, each at its place, whose handles are not there yet.
+/// The nodes in order, each at its place, whose handles are not there yet. Each is handed what it has of its switch: a valve and a
+/// trip a seat that gave nothing and knows nothing.
 pub fn seat_all<S: Source, D: Drain>(
     alloc: Global,
     nodes: Vec<Node>,
+    ends: Vec<Option<SwitchEnd>>,
 ) -> Result<Vec<Seat<S, D>>, NoMemory>
     requires built { list_all (λ n. is_built n.kind) nodes.items ≡ true }
     requires sized { list_all (λ n. sizes_fit n.kind) nodes.items ≡ true }
-    ensures { IfOk result (λ seats. ArePlanned 0 nodes.items seats.items) }
+    requires handed { AreHanded (map (λ n. n.kind) nodes.items) ends.items }
+    ensures planned { IfOk result (λ seats. ArePlanned 0 nodes.items seats.items) }
+    ensures seats { IfOk result (λ seats. map planned_seat seats.items ≡ map seat_of_end ends.items) }
 {
+    let mut unhanded = ends.into_iter();
     let mut seats = Vec::new(alloc);
     for node in nodes {
         let k = numbered(seats.len())?;
-        seats.push(plan(alloc, k, node)?)?;
+        seats.push(plan(alloc, k, node, take_next(&mut unhanded))?)?;
     }
     Ok(seats)
 }
@@ -179,6 +240,7 @@ fn fill<S: Source, D: Drain>(
     requires source { reads seat.planned ≤ into_iter_len sources.old }
     requires drain { writes seat.planned ≤ into_iter_len drains.old }
     ensures fills { Fills seat (into_iter_items sources.old) (into_iter_items drains.old) result (into_iter_items sources.new) (into_iter_items drains.new) }
+    ensures seat { place_seat result ≡ planned_seat seat }
     ensures fewer_sources { into_iter_len sources.old ≡ into_iter_len sources.new + reads seat.planned }
     ensures fewer_drains { into_iter_len drains.old ≡ into_iter_len drains.new + writes seat.planned }
 {
@@ -207,6 +269,7 @@ pub fn fill_all<S: Source, D: Drain>(
     ensures seats { (nodes : List blue.Node) → ArePlanned 0 nodes seats.items → AreSeats 0 nodes sources.items drains.items result.items }
     ensures room { vec_capacity result ≡ vec_capacity places }
     ensures each { vec_len result ≡ vec_len seats }
+    ensures kept { map place_seat result.items ≡ map planned_seat seats.items }
 {
     let mut unread = sources.into_iter();
     let mut unwritten = drains.into_iter();

@@ -19,7 +19,8 @@ use Rattle.stage_state.specs.declared.logic.StateLogic.{StateLogic}
 use Rattle.stage_state.specs.declared.logic.StateLogic.TheVariants as state
 use Rattle.stage_state.specs.Handling.{StateLaw}
 use Rattle.stage_state.specs.Logics.{IsStateful, BeginsAs}
-use Rattle.stage_state.specs.Moves.{state_picks}
+use Rattle.stage_state.specs.Moves.{state_picks, state_seat}
+use Rattle.stage_switch.specs.States.{Valve, Trip}
 use Rattle.stage_in.specs.declared.logic.InLogic.{InLogic}
 use Rattle.stage_in.specs.declared.logic.InLogic.TheVariants.{Taking, Sorting, Zipping, Merging}
 use Rattle.stage_in.specs.Logics.{IsFanIn, TakesAs, SameKind}
@@ -36,7 +37,7 @@ use Rattle.nodes.specs.Kinds.{IsMaker, maker_of, IsFileSink}
 use Rattle.nodes.specs.Keeping.{KeepsDrain, KeepsEnd}
 use Rattle.nodes.specs.Sink.{Sink}
 use Rattle.nodes.specs.Source.{Lines}
-use Rattle.nodes.specs.Nodes.{node_law, node_picks, node_end, KeepsNode}
+use Rattle.nodes.specs.Nodes.{node_law, node_picks, node_seat, node_end, KeepsNode}
 use Rattle.nodes.specs.declared.node.Node.{Node}
 use Rattle.nodes.specs.declared.node.Node.TheVariants as node
 use Rattle.nodes.specs.declared.node.NodeEnd.{NodeEnd}
@@ -47,6 +48,7 @@ use Rattle.interpreter.specs.declared.parts.Work.{Work}
 use Rattle.interpreter.specs.declared.parts.Work.TheVariants as work
 use Rattle.blue_core.specs.declared.blueprint.Node as blue
 use Rattle.blue_rules.specs.Picks.{picks}
+use Rattle.switch_board.specs.Board.{switch_of}
 use Rattle.materializer.specs.Files.{input_of, output_of}
 use Rattle.materializer.specs.Seats.{IsWork, AreSeats}
 use Rattle.materializer.proofs.Placing.{reads_lines}
@@ -61,6 +63,7 @@ pub record HandlesAs {S D : Type 0} (x y : Node S D) : Type 0 where
 pub record LeavesAs {S D : Type 0} (x y : Node S D) : Type 0 where
   pub sinks : leaves (sink_of y) ≡ leaves (sink_of x)
   pub picks : leaves (node_picks y) ≡ leaves (node_picks x)
+  pub seats : leaves (node_seat y) ≡ leaves (node_seat x)
   pub handles : HandlesAs x y
   pub ends : is_lane_end y ≡ is_lane_end x
 
@@ -73,13 +76,14 @@ pub record HandlesBy {S D : Type 0} (shape : Kind) (x : Node S D) : Type 0 where
 pub record LeavesBy {S D : Type 0} (shape : Kind) (x : Node S D) : Type 0 where
   pub sinks : leaves (sink_of x) ≡ (outputs_of shape == 0)
   pub picks : leaves (node_picks x) ≡ picks shape
+  pub seats : leaves (node_seat x) ≡ is_some (switch_of shape)
   pub handles : HandlesBy shape x
 
 pub handles_on : {S D : Type 0} (shape : Kind) (x y : Node S D) → HandlesBy shape x → HandlesAs x y → HandlesBy shape y
 handles_on shape x y b s = record { readers = s.readers ∙ b.readers; writers = s.writers ∙ b.writers }
 
 pub leaves_on : {S D : Type 0} (shape : Kind) (x y : Node S D) → LeavesBy shape x → LeavesAs x y → LeavesBy shape y
-leaves_on shape x y b s = record { sinks = s.sinks ∙ b.sinks; picks = s.picks ∙ b.picks; handles = handles_on shape x y b.handles s.handles }
+leaves_on shape x y b s = record { sinks = s.sinks ∙ b.sinks; picks = s.picks ∙ b.picks; seats = s.seats ∙ b.seats; handles = handles_on shape x y b.handles s.handles }
 
 pub handles_both : {S D : Type 0} (x y z : Node S D) → HandlesAs x y → HandlesAs y z → HandlesAs x z
 handles_both x y z a b = record { readers = b.readers ∙ a.readers; writers = b.writers ∙ a.writers }
@@ -88,12 +92,13 @@ handles_both x y z a b = record { readers = b.readers ∙ a.readers; writers = b
 pub record IsBare {S D : Type 0} (x : Node S D) : Type 0 where
   pub sinks : sink_of x ≡ None
   pub picks : node_picks x ≡ None
+  pub seats : node_seat x ≡ None
   pub readers : reader_of x ≡ None
   pub writers : writer_of x ≡ None
 
 pub lane_bare : {S D : Type 0} (x : Node S D) → is_lane_end x ≡ true → IsBare x
-lane_bare (node.Entering x) e = record { sinks = refl; picks = refl; readers = refl; writers = refl }
-lane_bare (node.Leaving x) e = record { sinks = refl; picks = refl; readers = refl; writers = refl }
+lane_bare (node.Entering x) e = record { sinks = refl; picks = refl; seats = refl; readers = refl; writers = refl }
+lane_bare (node.Leaving x) e = record { sinks = refl; picks = refl; seats = refl; readers = refl; writers = refl }
 lane_bare _ e = absurd cc
 
 -- ---- what a node's law keeps
@@ -102,7 +107,17 @@ state_stays : (f x : StateLogic) (v : View) (took gave : List (List Item)) → S
 state_stays (state.Machine f) (state.Machine x) v took gave law = refl
 state_stays (state.Dropping f) (state.Dropping x) v took gave law = refl
 state_stays (state.Recovering f) (state.Recovering x) v took gave law = refl
+state_stays (state.Obeying f) (state.Obeying x) v took gave law = refl
+state_stays (state.Tripping f) (state.Tripping x) v took gave law = refl
 state_stays f x v took gave law = absurd law
+
+state_seated : (f x : StateLogic) (v : View) (took gave : List (List Item)) → StateLaw f x v took gave → leaves (state_seat x) ≡ leaves (state_seat f)
+state_seated (state.Machine f) (state.Machine x) v took gave law = refl
+state_seated (state.Dropping f) (state.Dropping x) v took gave law = refl
+state_seated (state.Recovering f) (state.Recovering x) v took gave law = refl
+state_seated (state.Obeying f) (state.Obeying x) v took gave law = refl
+state_seated (state.Tripping f) (state.Tripping x) v took gave law = refl
+state_seated f x v took gave law = absurd law
 
 in_stays : (f x : InLogic) → SameKind f x → leaves (in_picks x) ≡ leaves (in_picks f)
 in_stays (Taking f) (Taking x) law = refl
@@ -119,16 +134,16 @@ out_stays f x v took gave law = absurd law
 module _ {S D : Type 0} (sources : S → SourceState) (drains : D → DrainState) where
   -- a node stays of its kind
   pub law_stays : (f x : Node S D) (v : View) (took gave : List (List Item)) → node_law sources drains f x v took gave → LeavesAs f x
-  law_stays (node.Reading f) (node.Reading x) v took gave law = record { sinks = refl; picks = refl; handles = record { readers = refl; writers = refl }; ends = refl }
-  law_stays (node.Making f) (node.Making x) v took gave law = record { sinks = refl; picks = refl; handles = record { readers = refl; writers = refl }; ends = refl }
-  law_stays (node.Linear f) (node.Linear x) v took gave law = record { sinks = refl; picks = refl; handles = record { readers = refl; writers = refl }; ends = refl }
-  law_stays (node.State f) (node.State x) v took gave law = record { sinks = refl; picks = state_stays f x v took gave law; handles = record { readers = refl; writers = refl }; ends = refl }
-  law_stays (node.FanIn f) (node.FanIn x) v took gave law = record { sinks = refl; picks = in_stays f x law.same; handles = record { readers = refl; writers = refl }; ends = refl }
-  law_stays (node.FanOut f) (node.FanOut x) v took gave law = record { sinks = refl; picks = out_stays f x v took gave law; handles = record { readers = refl; writers = refl }; ends = refl }
-  law_stays (node.Writing f) (node.Writing x) v took gave law = record { sinks = refl; picks = refl; handles = record { readers = refl; writers = refl }; ends = refl }
-  law_stays (node.Ignoring f) (node.Ignoring x) v took gave law = record { sinks = refl; picks = refl; handles = record { readers = refl; writers = refl }; ends = refl }
-  law_stays (node.Entering f) (node.Entering x) v took gave law = record { sinks = refl; picks = refl; handles = record { readers = refl; writers = refl }; ends = refl }
-  law_stays (node.Leaving f) (node.Leaving x) v took gave law = record { sinks = refl; picks = refl; handles = record { readers = refl; writers = refl }; ends = refl }
+  law_stays (node.Reading f) (node.Reading x) v took gave law = record { sinks = refl; picks = refl; seats = refl; handles = record { readers = refl; writers = refl }; ends = refl }
+  law_stays (node.Making f) (node.Making x) v took gave law = record { sinks = refl; picks = refl; seats = refl; handles = record { readers = refl; writers = refl }; ends = refl }
+  law_stays (node.Linear f) (node.Linear x) v took gave law = record { sinks = refl; picks = refl; seats = refl; handles = record { readers = refl; writers = refl }; ends = refl }
+  law_stays (node.State f) (node.State x) v took gave law = record { sinks = refl; picks = state_stays f x v took gave law; seats = state_seated f x v took gave law; handles = record { readers = refl; writers = refl }; ends = refl }
+  law_stays (node.FanIn f) (node.FanIn x) v took gave law = record { sinks = refl; picks = in_stays f x law.same; seats = refl; handles = record { readers = refl; writers = refl }; ends = refl }
+  law_stays (node.FanOut f) (node.FanOut x) v took gave law = record { sinks = refl; picks = out_stays f x v took gave law; seats = refl; handles = record { readers = refl; writers = refl }; ends = refl }
+  law_stays (node.Writing f) (node.Writing x) v took gave law = record { sinks = refl; picks = refl; seats = refl; handles = record { readers = refl; writers = refl }; ends = refl }
+  law_stays (node.Ignoring f) (node.Ignoring x) v took gave law = record { sinks = refl; picks = refl; seats = refl; handles = record { readers = refl; writers = refl }; ends = refl }
+  law_stays (node.Entering f) (node.Entering x) v took gave law = record { sinks = refl; picks = refl; seats = refl; handles = record { readers = refl; writers = refl }; ends = refl }
+  law_stays (node.Leaving f) (node.Leaving x) v took gave law = record { sinks = refl; picks = refl; seats = refl; handles = record { readers = refl; writers = refl }; ends = refl }
   law_stays f x v took gave law = absurd law
 
 -- ---- what outlives want of memory
@@ -230,6 +245,9 @@ state_plain (kind.Scan o) h = record { sinks = refl; reads = refl; writes = refl
 state_plain (kind.Buffer n p) h = record { sinks = refl; reads = refl; writes = refl }
 state_plain (kind.RecoverNum z) h = record { sinks = refl; reads = refl; writes = refl }
 state_plain (kind.RecoverText l) h = record { sinks = refl; reads = refl; writes = refl }
+state_plain (kind.Valve name) h = record { sinks = refl; reads = refl; writes = refl }
+state_plain (kind.TripShutdown name n) h = record { sinks = refl; reads = refl; writes = refl }
+state_plain (kind.TripAbort name n) h = record { sinks = refl; reads = refl; writes = refl }
 state_plain _ h = absurd h
 
 fan_in_plain : (shape : Kind) → IsFanIn shape → IsPlain shape
@@ -254,13 +272,14 @@ fan_out_plain _ h = absurd h
 record IsFiled (shape : Kind) : Type 0 where
   sinks : (outputs_of shape == 0) ≡ true
   picked : picks shape ≡ false
+  shut : is_some (switch_of shape) ≡ false
   reads : is_some (input_of shape) ≡ false
   writes : is_some (output_of shape) ≡ true
 
 file_sink : (shape : Kind) → IsFileSink shape → IsFiled shape
-file_sink (kind.ToLines name) h = record { sinks = refl; picked = refl; reads = refl; writes = refl }
-file_sink (kind.Head name) h = record { sinks = refl; picked = refl; reads = refl; writes = refl }
-file_sink (kind.Last name) h = record { sinks = refl; picked = refl; reads = refl; writes = refl }
+file_sink (kind.ToLines name) h = record { sinks = refl; picked = refl; shut = refl; reads = refl; writes = refl }
+file_sink (kind.Head name) h = record { sinks = refl; picked = refl; shut = refl; reads = refl; writes = refl }
+file_sink (kind.Last name) h = record { sinks = refl; picked = refl; shut = refl; reads = refl; writes = refl }
 file_sink _ h = absurd h
 
 -- ---- which stages choose, as they begin
@@ -291,10 +310,21 @@ recover_chooses k (kind.RecoverNum z) d f b = refl
 recover_chooses k (kind.RecoverText l) d f b = refl
 recover_chooses k shape d f b = absurd b
 
+valve_chooses : (k : ℕ) (shape : Kind) (d : Decider) (f : Valve) → BeginsAs shape k d (state.Obeying f) → picks shape ≡ true
+valve_chooses k (kind.Valve name) d f b = refl
+valve_chooses k shape d f b = absurd b
+
+trip_free : (k : ℕ) (shape : Kind) (d : Decider) (f : Trip) → BeginsAs shape k d (state.Tripping f) → picks shape ≡ false
+trip_free k (kind.TripShutdown name n) d f b = refl
+trip_free k (kind.TripAbort name n) d f b = refl
+trip_free k shape d f b = absurd b
+
 state_chooses : (k : ℕ) (shape : Kind) (d : Decider) (f : StateLogic) → BeginsAs shape k d f → leaves (state_picks f) ≡ picks shape
 state_chooses k shape d (state.Machine f) b = sym (machine_free shape b.0)
 state_chooses k shape d (state.Dropping f) b = sym (drop_chooses k shape d f b)
 state_chooses k shape d (state.Recovering f) b = sym (recover_chooses k shape d f b)
+state_chooses k shape d (state.Obeying f) b = sym (valve_chooses k shape d f b)
+state_chooses k shape d (state.Tripping f) b = sym (trip_free k shape d f b)
 
 fan_in_chooses : (shape : Kind) (f : InLogic) → TakesAs shape f → leaves (in_picks f) ≡ picks shape
 fan_in_chooses (kind.Concat n) (Taking f) t = refl
@@ -318,16 +348,85 @@ fan_out_chooses : (k : ℕ) (shape : Kind) (f : OutLogic) → fan_out.BeginsAs k
 fan_out_chooses k shape (Machines f) b = sym (copies_free shape b.0)
 fan_out_chooses k shape (Balances f) b = sym (balance_chooses shape f b)
 
+-- ---- which stages have a seat, as they begin
+
+maker_unseated : (shape : Kind) → IsMaker shape → is_some (switch_of shape) ≡ false
+maker_unseated (kind.Range low high) h = refl
+maker_unseated (kind.Empty b) h = refl
+maker_unseated (kind.Failed b) h = refl
+maker_unseated _ h = absurd h
+
+linear_unseated : (shape : Kind) → IsLinear shape → is_some (switch_of shape) ≡ false
+linear_unseated (kind.Map f) h = refl
+linear_unseated (kind.Filter p) h = refl
+linear_unseated (kind.FilterNot p) h = refl
+linear_unseated (kind.Take n) h = refl
+linear_unseated (kind.TakeWhile p) h = refl
+linear_unseated (kind.Drop n) h = refl
+linear_unseated (kind.DropWhile p) h = refl
+linear_unseated (kind.Limit n) h = refl
+linear_unseated (kind.MapConcat x) h = refl
+linear_unseated _ h = absurd h
+
+machine_unseated : (shape : Kind) → IsMachine shape → is_some (switch_of shape) ≡ false
+machine_unseated (kind.Grouped n) h = refl
+machine_unseated (kind.Fold o) h = refl
+machine_unseated (kind.Reduce r) h = refl
+machine_unseated (kind.Scan o) h = refl
+machine_unseated (kind.Buffer n p) h = refl
+machine_unseated _ h = absurd h
+
+fan_in_unseated : (shape : Kind) → IsFanIn shape → is_some (switch_of shape) ≡ false
+fan_in_unseated (kind.Concat n) h = refl
+fan_in_unseated (kind.Interleave n s) h = refl
+fan_in_unseated kind.MergeSorted h = refl
+fan_in_unseated kind.Zip h = refl
+fan_in_unseated (kind.Merge n) h = refl
+fan_in_unseated _ h = absurd h
+
+fan_out_unseated : (shape : Kind) → IsOut shape → is_some (switch_of shape) ≡ false
+fan_out_unseated (kind.Broadcast n) h = refl
+fan_out_unseated (kind.Partition n f) h = refl
+fan_out_unseated kind.Unzip h = refl
+fan_out_unseated (kind.Balance n) h = refl
+fan_out_unseated _ h = absurd h
+
+drop_unseated : (k : ℕ) (shape : Kind) (d : Decider) (f : Dropping) → BeginsAs shape k d (state.Dropping f) → is_some (switch_of shape) ≡ false
+drop_unseated k (kind.Buffer n p) d f b = refl
+drop_unseated k shape d f b = absurd b
+
+recover_unseated : (k : ℕ) (shape : Kind) (d : Decider) (f : Recover) → BeginsAs shape k d (state.Recovering f) → is_some (switch_of shape) ≡ false
+recover_unseated k (kind.RecoverNum z) d f b = refl
+recover_unseated k (kind.RecoverText l) d f b = refl
+recover_unseated k shape d f b = absurd b
+
+valve_seated : (k : ℕ) (shape : Kind) (d : Decider) (f : Valve) → BeginsAs shape k d (state.Obeying f) → is_some (switch_of shape) ≡ true
+valve_seated k (kind.Valve name) d f b = refl
+valve_seated k shape d f b = absurd b
+
+trip_seated : (k : ℕ) (shape : Kind) (d : Decider) (f : Trip) → BeginsAs shape k d (state.Tripping f) → is_some (switch_of shape) ≡ true
+trip_seated k (kind.TripShutdown name n) d f b = refl
+trip_seated k (kind.TripAbort name n) d f b = refl
+trip_seated k shape d f b = absurd b
+
+state_seats : (k : ℕ) (shape : Kind) (d : Decider) (f : StateLogic) → BeginsAs shape k d f → leaves (state_seat f) ≡ is_some (switch_of shape)
+state_seats k shape d (state.Machine f) b = sym (machine_unseated shape b.0)
+state_seats k shape d (state.Dropping f) b = sym (drop_unseated k shape d f b)
+state_seats k shape d (state.Recovering f) b = sym (recover_unseated k shape d f b)
+state_seats k shape d (state.Obeying f) b = sym (valve_seated k shape d f b)
+state_seats k shape d (state.Tripping f) b = sym (trip_seated k shape d f b)
+
 -- ---- a node as it begins
 
 module _ {S D : Type 0} where
-  inner : (shape : Kind) (x : Node S D) → leaves (sink_of x) ≡ false → leaves (reader_of x) ≡ false → leaves (writer_of x) ≡ false → leaves (node_picks x) ≡ picks shape → IsPlain shape → LeavesBy shape x
-  inner shape x s r w p is = record { sinks = s ∙ sym is.sinks; picks = p; handles = record { readers = r ∙ sym is.reads; writers = w ∙ sym is.writes } }
+  inner : (shape : Kind) (x : Node S D) → leaves (sink_of x) ≡ false → leaves (reader_of x) ≡ false → leaves (writer_of x) ≡ false → leaves (node_picks x) ≡ picks shape → leaves (node_seat x) ≡ is_some (switch_of shape) → IsPlain shape → LeavesBy shape x
+  inner shape x s r w p t is = record { sinks = s ∙ sym is.sinks; picks = p; seats = t; handles = record { readers = r ∙ sym is.reads; writers = w ∙ sym is.writes } }
 
   reading_leaves : (shape : Kind) (name : List ℕ) (y : Lines S) → shape ≡ kind.Lines name → LeavesBy {S = S} {D = D} shape (node.Reading y)
   reading_leaves shape name y e = record {
     sinks = sym (ap (λ (t : Kind). outputs_of t == 0) e);
     picks = sym (ap picks e);
+    seats = sym (ap (λ (t : Kind). is_some (switch_of t)) e);
     handles = record { readers = sym (ap (λ (t : Kind). is_some (input_of t)) e); writers = sym (ap (λ (t : Kind). is_some (output_of t)) e) };
   }
 
@@ -335,22 +434,23 @@ module _ {S D : Type 0} where
   ignoring_leaves shape y e = record {
     sinks = sym (ap (λ (t : Kind). outputs_of t == 0) e);
     picks = sym (ap picks e);
+    seats = sym (ap (λ (t : Kind). is_some (switch_of t)) e);
     handles = record { readers = sym (ap (λ (t : Kind). is_some (input_of t)) e); writers = sym (ap (λ (t : Kind). is_some (output_of t)) e) };
   }
 
   writing_leaves : (shape : Kind) (y : Sink D) → IsFileSink shape → LeavesBy {S = S} {D = D} shape (node.Writing y)
-  writing_leaves shape y is = let f = file_sink shape is in record { sinks = sym f.sinks; picks = sym f.picked; handles = record { readers = sym f.reads; writers = sym f.writes } }
+  writing_leaves shape y is = let f = file_sink shape is in record { sinks = sym f.sinks; picks = sym f.picked; seats = sym f.shut; handles = record { readers = sym f.reads; writers = sym f.writes } }
 
   work_leaves : (k m : ℕ) (n : blue.Node) (ss : List S) (ds : List D) (w : Work S D) (x : Node S D) → IsWork k n ss ds w → BecomesOf m w x → LeavesBy n.kind x
   work_leaves k m n ss ds (work.Reading r) x is b = let l = reads_lines n.kind ss r.source is.source in subst (λ (y : Node S D). LeavesBy n.kind y) (sym b) (reading_leaves n.kind l.0 _ l.1)
-  work_leaves k m n ss ds (work.Making shape) x is b = let p = maker_plain n.kind is.is_maker in subst (λ (y : Node S D). LeavesBy n.kind y) (sym b) (inner n.kind (node.Making (maker_of m shape)) refl refl refl (sym p.1) p.0)
-  work_leaves k m n ss ds (work.Linear l) x is b = let p = linear_plain n.kind is.is_linear in subst (λ (y : Node S D). LeavesBy n.kind y) (sym b) (inner n.kind (node.Linear l) refl refl refl (sym p.1) p.0)
+  work_leaves k m n ss ds (work.Making shape) x is b = let p = maker_plain n.kind is.is_maker in subst (λ (y : Node S D). LeavesBy n.kind y) (sym b) (inner n.kind (node.Making (maker_of m shape)) refl refl refl (sym p.1) (sym (maker_unseated n.kind is.is_maker)) p.0)
+  work_leaves k m n ss ds (work.Linear l) x is b = let p = linear_plain n.kind is.is_linear in subst (λ (y : Node S D). LeavesBy n.kind y) (sym b) (inner n.kind (node.Linear l) refl refl refl (sym p.1) (sym (linear_unseated n.kind is.is_linear)) p.0)
   work_leaves k m n ss ds (work.State l) x is b =
-      subst (λ (y : Node S D). LeavesBy n.kind y) (sym b) (inner n.kind (node.State l) refl refl refl (state_chooses k n.kind n.decider l is.begins.as_kind) (state_plain n.kind is.is_state))
+      subst (λ (y : Node S D). LeavesBy n.kind y) (sym b) (inner n.kind (node.State l) refl refl refl (state_chooses k n.kind n.decider l is.begins.as_kind) (state_seats k n.kind n.decider l is.begins.as_kind) (state_plain n.kind is.is_state))
   work_leaves k m n ss ds (work.FanIn l inputs) x is b =
-      subst (λ (y : Node S D). LeavesBy n.kind y) (sym b) (inner n.kind (node.FanIn l) refl refl refl (fan_in_chooses n.kind l is.begins.takes) (fan_in_plain n.kind is.is_in))
+      subst (λ (y : Node S D). LeavesBy n.kind y) (sym b) (inner n.kind (node.FanIn l) refl refl refl (fan_in_chooses n.kind l is.begins.takes) (sym (fan_in_unseated n.kind is.is_in)) (fan_in_plain n.kind is.is_in))
   work_leaves k m n ss ds (work.FanOut l outputs) x is b =
-      subst (λ (y : Node S D). LeavesBy n.kind y) (sym b) (inner n.kind (node.FanOut l) refl refl refl (fan_out_chooses k n.kind l is.begins.as_kind) (fan_out_plain n.kind is.is_out))
+      subst (λ (y : Node S D). LeavesBy n.kind y) (sym b) (inner n.kind (node.FanOut l) refl refl refl (fan_out_chooses k n.kind l is.begins.as_kind) (sym (fan_out_unseated n.kind is.is_out)) (fan_out_plain n.kind is.is_out))
   work_leaves k m n ss ds (work.LaneIn u) x is b = absurd is
   work_leaves k m n ss ds (work.LaneOut u) x is b = absurd is
   work_leaves k m n ss ds (work.Writing shape (Some d)) x is b = subst (λ (y : Node S D). LeavesBy n.kind y) (sym b) (writing_leaves n.kind _ is.is_sink)

@@ -8,11 +8,12 @@ use Rattle.stream_model.specs.Composed.{count_from}
 use Rattle.stream_model.specs.Graph.{Graph, Wire}
 use Rattle.fused_net.proofs.Reading.{get_there}
 use Rattle.fused_net.specs.Net.{Net, view_of, took, gave}
-use Rattle.nodes.specs.Nodes.{node_picks}
+use Rattle.nodes.specs.Nodes.{node_picks, node_seat}
 use Rattle.nodes.specs.declared.node.Node.{Node}
 use Rattle.interpreter.specs.Island.{counts_of, sinks_of, readers_of, writers_of}
 use Rattle.interpreter.specs.Parts.{number_of}
 use Rattle.interpreter.specs.Picks.{node_number, picks_of}
+use Rattle.interpreter.specs.Seats.{seats_of}
 use Rattle.interpreter.specs.declared.island.IslandEnd.{IslandEnd}
 use Rattle.interpreter.specs.declared.parts.Seated.{Seated}
 use Rattle.blue_core.specs.declared.blueprint.Node as blue
@@ -28,10 +29,10 @@ use Rattle.island_parts.specs.Whole.{whole_seats}
 use Rattle.island_parts.proofs.Wiring.{there}
 use Rattle.island_ends.specs.Ends.{Whole, sink_of, reader_of, writer_of, leaves, homes_left, AreLaneEnds, AreEndsOf, AreHomesOf, IsEndOf, IsWholeEnd}
 use Rattle.island_ends.specs.declared.room.EndHomes.{EndHomes}
-use Rattle.island_ends.proofs.Behind.{sinks_behind, readers_behind, writers_behind, picks_behind, homes_behind}
+use Rattle.island_ends.proofs.Behind.{sinks_behind, readers_behind, writers_behind, picks_behind, seats_behind, homes_behind}
 use Rattle.island_plans.specs.Ends.{wire_home, homes_in, leaves_in, AreEndHomes}
 use Rattle.island_plans.specs.declared.ends.EndList.{EndList}
-use Rattle.island_plans.specs.declared.ends.EndList.TheVariants.{Sinks, Picks, Readers, Writers}
+use Rattle.island_plans.specs.declared.ends.EndList.TheVariants.{Sinks, Picks, Seats, Readers, Writers}
 use Rattle.island_seats.specs.Islands.{place_homes, links_in, AreNets, AreBroughtBack}
 use Rattle.island_seats.proofs.Gathering.{whole}
 use Rattle.island_seats.proofs.Standing.{all_below, all_seats, from_node, home_below}
@@ -113,6 +114,7 @@ module _ {S D : Type 0} (sources : S → SourceState) (drains : D → DrainState
         record {
           sinks = i.sinks ∙ ap sinks_of (sym share);
           picks = i.picks ∙ (ap (λ (ns : List ℕ). picks_of ns b.0.island.net.nodes) places ∙ ap (λ (xs : List (Node S D)). picks_of (of_home (place_homes homes ws) k (map node_number (whole_seats nodes (lanes_from homes 0 ws)))) xs) (sym share));
+          seats = i.seats ∙ (ap (λ (ns : List ℕ). seats_of ns b.0.island.net.nodes) places ∙ ap (λ (xs : List (Node S D)). seats_of (of_home (place_homes homes ws) k (map node_number (whole_seats nodes (lanes_from homes 0 ws)))) xs) (sym share));
           readers = i.readers ∙ ap readers_of (sym share);
           writers = i.writers ∙ ap writers_of (sym share);
           fars = wires.0;
@@ -147,6 +149,7 @@ module _ {S D : Type 0} (sources : S → SourceState) (drains : D → DrainState
       sinks = are.sinks_are ∙ list_homes Sinks sink_of ns homes others last more r.each_node as_many (λ k n x en ex. (by_kind k n x en ex).sinks) (λ k x at. (lane_bare x (lane_ends k x at)).sinks);
       wires = are.wires_are;
       picks = are.picks_are ∙ list_homes Picks node_picks ns homes others last more r.each_node as_many (λ k n x en ex. (by_kind k n x en ex).picks) (λ k x at. (lane_bare x (lane_ends k x at)).picks);
+      seats = are.seats_are ∙ list_homes Seats node_seat ns homes others last more r.each_node as_many (λ k n x en ex. (by_kind k n x en ex).seats) (λ k x at. (lane_bare x (lane_ends k x at)).seats);
       readers = are.readers_are ∙ list_homes Readers reader_of ns homes others last more r.each_node as_many (λ k n x en ex. (by_kind k n x en ex).handles.readers) (λ k x at. (lane_bare x (lane_ends k x at)).readers);
       writers = are.writers_are ∙ list_homes Writers writer_of ns homes others last more r.each_node as_many (λ k n x en ex. (by_kind k n x en ex).handles.writers) (λ k x at. (lane_bare x (lane_ends k x at)).writers);
     }
@@ -156,6 +159,8 @@ module _ {S D : Type 0} (sources : S → SourceState) (drains : D → DrainState
       sinks = is.sinks ∙ sinks_behind last more lane_ends;
       picks = is.picks ∙ (ap (λ (l : List ℕ). picks_of l (last ++ more)) (map_both node_number nodes (ends_at (lanes_from homes 0 ws))) ∙ (picks_behind (map node_number nodes) (map node_number (ends_at {S = S} {D = D} (lanes_from homes 0 ws))) last more (length-map nodes node_number ∙ sym same) lane_ends
           ∙ ap (λ (l : List ℕ). picks_of l last) (seat_numbers 0 ns ss ds nodes seats ∙ ap (count_from 0) (sym same))));
+      seats = is.seats ∙ (ap (λ (l : List ℕ). seats_of l (last ++ more)) (map_both node_number nodes (ends_at (lanes_from homes 0 ws))) ∙ (seats_behind (map node_number nodes) (map node_number (ends_at {S = S} {D = D} (lanes_from homes 0 ws))) last more (length-map nodes node_number ∙ sym same) lane_ends
+          ∙ ap (λ (l : List ℕ). seats_of l last) (seat_numbers 0 ns ss ds nodes seats ∙ ap (count_from 0) (sym same))));
       wires = is.wires;
       readers = is.readers ∙ readers_behind last more lane_ends;
       writers = is.writers ∙ writers_behind last more lane_ends;

@@ -6,6 +6,7 @@ use Rattle.wire_core.specs.Cell.{Cell}
 use Rattle.nodes.specs.declared.node.Node.{Node}
 use Rattle.interpreter.specs.Island.{sinks_of, readers_of, writers_of}
 use Rattle.interpreter.specs.Picks.{node_number, pick_of, picks_of}
+use Rattle.interpreter.specs.Seats.{seats_of}
 use Rattle.interpreter.specs.declared.island.IslandEnd.{IslandEnd}
 use Rattle.interpreter.specs.declared.parts.Seated.{Seated}
 use Rattle.traversal.specs.Plan.{lanes_from}
@@ -30,6 +31,7 @@ whole_of homes ws nodes near last ends = record {
 pub record IsLeftBy {S D : Type 0} (ws : List Wire) (near : ℕ → Cell) (nodes : List (Node S D)) (e : IslandEnd S D) : Type 0 where
   pub sinks : e.sinks.items ≡ sinks_of nodes
   pub picks : map pick_of e.picks.items ≡ picks_of (count_from 0 (length nodes)) nodes
+  pub seats : e.seats.items ≡ seats_of (count_from 0 (length nodes)) nodes
   pub wires : e.wires.items ≡ told_from near 0 ws
   pub readers : e.readers.items ≡ readers_of nodes
   pub writers : e.writers.items ≡ writers_of nodes

@@ -1,5 +1,5 @@
 -- The goals of `plans::plans_of` that the search leaves.
-use Rattle.std.proofs.Common.{◌≡◌, ◌∙◌, ◌<◌, ℕ, List, length, vec_len, ap, sym, subst, rules, arith}
+use Rattle.std.proofs.Common.{◌≡◌, ◌∙◌, ◌<◌, ℕ, List, length, map, vec_len, ap, sym, subst, rules, arith}
 use Rattle.std.specs.List.{All}
 use Rattle.stream_model.specs.Graph.{Wire}
 use Rattle.blue_core.specs.declared.blueprint.Blueprint.{Blueprint}
@@ -13,7 +13,8 @@ use Rattle.interpreter.specs.declared.parts.Place.{Place}
 use Rattle.traversal.specs.Plan.{lanes_from}
 use Rattle.island_parts.specs.Split.{IsSplit}
 use Rattle.materializer.specs.Built.{CanRun}
-use Rattle.materializer.specs.Planned.{ArePlanned, places_from}
+use Rattle.switch_board.specs.Board.{IsBoard, AreAtSwitches, AreHanded, seat_of_end}
+use Rattle.materializer.specs.Planned.{ArePlanned, places_from, planned_seat}
 use Rattle.materializer.proofs.Fitting.{few_link_ports, all_built, all_sized}
 use Rattle.island_plans.specs.Ends.{AreEndHomes}
 use Rattle.island_plans.specs.Homes.{AreNumberedHomes}
@@ -72,6 +73,9 @@ seat_all-requires-clause-built g c = c.requires.built
 pub seat_all-requires-clause-sized : goal.seat_all-requires-clause-sized
 seat_all-requires-clause-sized g c = all_sized c.args.b c.requires.plugs c.requires.taken c.requires.fit
 
+pub seat_all-requires-clause-handed : goal.seat_all-requires-clause-handed
+seat_all-requires-clause-handed g c = subst (λ (l : List Node). AreHanded (map (λ (n : Node). n.kind) l) c.in_ok-board.switches.items) c.deref-13.ensures.value c.in_ok-board.ensures.handed
+
 pub returns-clause-plans : goal.returns-clause-plans
 returns-clause-plans g c =
     let b = c.args.b in
@@ -104,13 +108,21 @@ returns-clause-plans g c =
     subst (λ (l : List Place). IsSplit homes count ws l c.in_ok-split.split) places
     (subst (λ (us : List Wire). IsSplit homes count us c.in_ok-nodes.nodes.items c.in_ok-split.split) same-11
     (subst (λ (hs : List ℕ). IsSplit hs count (wires_of_links c.deref-11.result.now) c.in_ok-nodes.nodes.items c.in_ok-split.split) own c.in_ok-split.ensures)) in
+    let board = c.in_ok-board.board in
+    let board_is : IsBoard (map (λ (n : Node). n.kind) ns) board = subst (λ (l : List Node). IsBoard (map (λ (n : Node). n.kind) l) board) c.deref-13.ensures.value c.in_ok-board.ensures.board in
+    let switches : AreAtSwitches (map (λ (n : Node). n.kind) ns) board (map seat_of_end c.in_ok-board.switches.items) =
+    subst (λ (l : List Node). AreAtSwitches (map (λ (n : Node). n.kind) l) board (map seat_of_end c.in_ok-board.switches.items)) c.deref-13.ensures.value c.in_ok-board.ensures.ends in
+    let at_switches : AreAtSwitches (map (λ (n : Node). n.kind) ns) board (map planned_seat c.in_ok-seats.seats.items) =
+    subst (λ l. AreAtSwitches (map (λ (n : Node). n.kind) ns) board l) (sym c.in_ok-seats.ensures.seats) switches in
     record {
       runs = subst CanRun is c.requires;
       homes_are = subst (λ (x : Blueprint). AreNumberedHomes (length x.nodes.items) count (blueprint_wires x) homes) is homes_are;
       lanes_are = lanes ∙ ap (λ (x : Blueprint). lanes_from homes 0 (blueprint_wires x)) is;
       ends_are = subst (λ (x : Blueprint). AreEndHomes homes x.nodes.items (blueprint_wires x) c.in_ok-ends.ends) is ends;
-      seats = subst (λ (x : Blueprint). ArePlanned 0 x.nodes.items c.in_ok-seats.seats.items) is c.in_ok-seats.ensures;
+      seats = subst (λ (x : Blueprint). ArePlanned 0 x.nodes.items c.in_ok-seats.seats.items) is c.in_ok-seats.ensures.planned;
       split = subst (λ (x : Blueprint). IsSplit homes count (blueprint_wires x) (places_from 0 x.nodes.items) c.in_ok-split.split) is split;
+      board_is = subst (λ (x : Blueprint). IsBoard (map (λ (n : Node). n.kind) x.nodes.items) board) is board_is;
+      at_switches = subst (λ (x : Blueprint). AreAtSwitches (map (λ (n : Node). n.kind) x.nodes.items) board (map planned_seat c.in_ok-seats.seats.items)) is at_switches;
       empty = search rules;
       room_for_places = search (rules, arith);
     }

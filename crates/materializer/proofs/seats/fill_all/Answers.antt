@@ -1,7 +1,9 @@
 -- The goals of `seats::fill_all` that the search leaves.
-use Rattle.std.proofs.Common.{◌≡◌, ◌∙◌, List, length, vec_len, refl, ap, sym, subst, rules, arith}
+use Rattle.std.proofs.Common.{◌≡◌, ◌∙◌, List, ◌++◌, length, map, vec_len, refl, ap, sym, subst, rules, arith}
 use Rattle.std.specs.Vec.Iter.{into_iter_items, into_iter_len}
-use Rattle.materializer.specs.Planned.{ArePlanned, reads_in, writes_in}
+use Rattle.materializer.specs.Planned.{ArePlanned, planned_seat, reads_in, writes_in}
+use Rattle.materializer.specs.Seats.{place_seat}
+use Rattle.materializer.proofs.Switches.{map_next, map_end}
 use Rattle.materializer.specs.declared.seats.Seat.{Seat}
 use Rattle.interpreter.proofs.Tables.{none_left, len_next}
 use Rattle.materializer.proofs.SeatLoops.{reads_enough, writes_enough, reads_next, writes_next, fills_first, fills_next, fills_last}
@@ -23,6 +25,7 @@ loop-seat-init g c =
       refl,
       omega (arith, none, left, many),
       λ nodes planned. fills_first nodes _ _ (into_iter_items r) _ _ _ c.into_iter-unread.ensures.rest c.into_iter-unwritten.ensures.rest c.requires.empty (subst (λ (l : List (Seat _ _)). ArePlanned 0 nodes l) (sym all) planned),
+      ap (λ l. map place_seat l ++ map planned_seat (into_iter_items r)) c.requires.empty ∙ ap (map planned_seat) all,
     )
 
 pub fill-requires-clause-source : goal.fill-requires-clause-source
@@ -44,6 +47,7 @@ loop-seat-preserved g c =
       omega (arith, kept.6, c.push_reserved.ensures.capacity),
       omega (arith, kept.7, next.1, c.push_reserved.ensures.len),
       λ nodes planned. fills_next nodes _ _ _ _ _ _ _ _ _ _ _ _ (kept.8 nodes planned) next.0 c.fill.ensures.fills c.push_reserved.ensures.items,
+      map_next place_seat planned_seat _ _ _ _ _ _ _ next.0 c.push_reserved.ensures.items c.fill.ensures.seat kept.9,
     )
 
 pub returns-clause-seats : goal.returns-clause-seats
@@ -57,3 +61,6 @@ returns-clause-each g c =
     let rest = c.loop-seat.seat-iterator in
     let none : into_iter_len rest ≡ 0 = c.loop-seat.invariant.2 ∙ ap length (none_left _ _ c.in-None.ensures.steps.0 c.loop-seat.invariant.2) in
     omega (arith, none, c.loop-seat.invariant.7)
+
+pub returns-clause-kept : goal.returns-clause-kept
+returns-clause-kept g c = map_end place_seat planned_seat _ _ _ (none_left _ _ c.in-None.ensures.steps.0 c.loop-seat.invariant.2) c.loop-seat.invariant.9

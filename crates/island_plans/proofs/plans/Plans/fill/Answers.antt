@@ -1,6 +1,8 @@
 -- The goals of `plans::Plans::fill` that the search leaves.
-use Rattle.std.proofs.Common.{◌≡◌, ◌∙◌, ℕ, length, ap, sym, subst, arith}
+use Rattle.std.proofs.Common.{◌≡◌, ◌∙◌, ℕ, List, length, map, ap, sym, subst, arith}
+use Rattle.blue_core.specs.declared.blueprint.Node.{Node}
 use Rattle.blue_check.specs.Wires.{blueprint_wires}
+use Rattle.switch_board.specs.Board.{AreAtSwitches}
 use Rattle.interpreter.specs.Parts.{AreParts}
 use Rattle.traversal.specs.Plan.{lanes_from}
 use Rattle.scatter.specs.Shares.{of_home}
@@ -74,6 +76,8 @@ returns-clause-filled g c =
       homes_are = p.homes_are;
       lanes_are = p.lanes_are;
       ends_are = p.ends_are;
+      board_is = p.board_is;
+      at_switches = subst (λ l. AreAtSwitches (map (λ (n : Node). n.kind) ns) self.board l) (sym c.fill_all-nodes.ensures.kept) p.at_switches;
       many = islands.many ∙ p.split.ready.spaces_many;
       each = λ k x at. island_is homes self.count ws ns nodes self.split p.split same self.lanes.items c.deref.result.now c.whole_seats.result.items parts (laws.places nodes cut) p.lanes_are c.deref.ensures.value c.whole_seats.ensures k x (islands.each k x at);
     }

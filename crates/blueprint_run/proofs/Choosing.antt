@@ -15,6 +15,7 @@ use Rattle.stream_io.specs.State.{SourceState, DrainState}
 use Rattle.stage_linear.specs.States.{IsLinear}
 use Rattle.stage_dropping.specs.Droppings.{Dropping}
 use Rattle.stage_recover.specs.Recoverings.{Recover}
+use Rattle.stage_switch.specs.States.{Valve, Trip}
 use Rattle.stage_state.specs.States.{IsMachine}
 use Rattle.stage_state.specs.declared.logic.StateLogic.{StateLogic}
 use Rattle.stage_state.specs.declared.logic.StateLogic.TheVariants as state
@@ -98,16 +99,22 @@ recover_chooses k (kind.RecoverNum z) d first b = refl
 recover_chooses k (kind.RecoverText l) d first b = refl
 recover_chooses k shape d first b = absurd b
 
+valve_chooses : (k : ℕ) (shape : Kind) (d : Decider) (first : Valve) → BeginsAs shape k d (state.Obeying first) → picks shape ≡ true
+valve_chooses k (kind.Valve name) d first b = refl
+valve_chooses k shape d first b = absurd b
+
+trip_free : (k : ℕ) (shape : Kind) (d : Decider) (first : Trip) → BeginsAs shape k d (state.Tripping first) → picks shape ≡ false
+trip_free k (kind.TripShutdown name n) d first b = refl
+trip_free k (kind.TripAbort name n) d first b = refl
+trip_free k shape d first b = absurd b
+
 state_chooses : (k : ℕ) (shape : Kind) (d : Decider) (first now : StateLogic) (v : View) (took gave : List (List Item)) → BeginsAs shape k d first → StateLaw first now v took gave → ChoosesAs (picks shape) (state_picks now)
 state_chooses k shape d (state.Machine f) (state.Machine x) v took gave b law = no_choice (picks shape) None (machine_free shape b.0) refl
 state_chooses k shape d (state.Dropping f) (state.Dropping x) v took gave b law = subst (λ (c : Bool). ChoosesAs c (Some x.moves)) (sym (drop_chooses k shape d f b)) (x.moves, refl)
 state_chooses k shape d (state.Recovering f) (state.Recovering x) v took gave b law = subst (λ (c : Bool). ChoosesAs c (Some x.moves)) (sym (recover_chooses k shape d f b)) (x.moves, refl)
-state_chooses k shape d (state.Machine f) (state.Dropping x) v took gave b law = absurd law
-state_chooses k shape d (state.Machine f) (state.Recovering x) v took gave b law = absurd law
-state_chooses k shape d (state.Dropping f) (state.Machine x) v took gave b law = absurd law
-state_chooses k shape d (state.Dropping f) (state.Recovering x) v took gave b law = absurd law
-state_chooses k shape d (state.Recovering f) (state.Machine x) v took gave b law = absurd law
-state_chooses k shape d (state.Recovering f) (state.Dropping x) v took gave b law = absurd law
+state_chooses k shape d (state.Obeying f) (state.Obeying x) v took gave b law = subst (λ (c : Bool). ChoosesAs c (Some x.moves)) (sym (valve_chooses k shape d f b)) (x.moves, refl)
+state_chooses k shape d (state.Tripping f) (state.Tripping x) v took gave b law = no_choice (picks shape) None (trip_free k shape d f b) refl
+state_chooses k shape d f x v took gave b law = absurd law
 
 fan_in_chooses : (shape : Kind) (first now : InLogic) → TakesAs shape first → SameKind first now → ChoosesAs (picks shape) (in_picks now)
 fan_in_chooses (kind.Concat n) (Taking f) (Taking l) t s = refl

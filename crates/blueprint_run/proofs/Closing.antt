@@ -42,7 +42,7 @@ use Rattle.run_account.specs.Ports.{wire_count}
 use Rattle.run_account.proofs.Coming.{elements_told}
 use Rattle.run_account.proofs.Pictures.{counts_at}
 use Rattle.run_laws.specs.Runs.{IsRun}
-use Rattle.run_laws.specs.Telling.{TellsPicks, Tells}
+use Rattle.run_laws.specs.Telling.{TellsPicks, Tells, AreSettled}
 use Rattle.run_laws.proofs.Choosing.{chosen_told}
 use Rattle.run_laws.specs.Sinks.{TookList, SinkWrote, SentTo, IsSinkAt, IgnoreTells, IsIgnorerAt}
 use Rattle.run_laws.specs.Reads.{IsSourceAt, ReadsAhead, SentLines}
@@ -213,7 +213,7 @@ module _ {S D : Type 0} (sources : S → SourceState) (drains : D → DrainState
       → (sources first.reader.source).whole ≡ Some bytes → SentLines bytes (sources first.reader.source) (sources now.reader.source) (a.near u).wire.sent
 
   abbrev LawfulLaw : Type 0
-  LawfulLaw = (g : Graph) (w : World) (rank : ℕ → ℕ) (a : Account (Node S D)) → IsRun sources drains g a
+  LawfulLaw = (g : Graph) (w : World) (rank : ℕ → ℕ) (a : Account (Node S D)) → IsRun sources drains g a → AreSettled g a
       → Tells sources g w a → IsRanked g rank → IsLawful g w (pictures.counts_of a g) (composed g w)
 
   abbrev RestsLaw : Type 0
@@ -221,7 +221,7 @@ module _ {S D : Type 0} (sources : S → SourceState) (drains : D → DrainState
       → Tells sources g w a → IsRanked g rank → Rests g w (pictures.counts_of a g) (composed g w)
 
   abbrev MovesLaw : Type 0
-  MovesLaw = (g : Graph) (w : World) (rank : ℕ → ℕ) (a : Account (Node S D)) → IsRun sources drains g a
+  MovesLaw = (g : Graph) (w : World) (rank : ℕ → ℕ) (a : Account (Node S D)) → IsRun sources drains g a → AreSettled g a
       → Tells sources g w a → IsRanked g rank → Fits g w
 
   abbrev MatchLaw : Type 0
@@ -338,6 +338,9 @@ module _ {S D : Type 0} (sources : S → SourceState) (drains : D → DrainState
 
   still : IsTrue st.at_rest → IsStill g left
   still rest = l.still rest
+
+  settled : AreSettled g left
+  settled = l.settled
 
   wires_are : st.wires.items ≡ pictures.counts_of left g
   wires_are = l.wires
@@ -535,7 +538,7 @@ module _ {S D : Type 0} (sources : S → SourceState) (drains : D → DrainState
         record {
           drawn = drawn;
           chose = sym l.picks;
-          fits = λ w is. laws.moves g w ranked.0 left run (world_tells w is) ranked.1;
+          fits = λ w is. laws.moves g w ranked.0 left run settled (world_tells w is) ranked.1;
           read = λ k file is. was_read k file (source_at k file is);
           world = world;
           has_files = has_files;
@@ -552,7 +555,7 @@ module _ {S D : Type 0} (sources : S → SourceState) (drains : D → DrainState
               let told = draws_told d.bytes (sources f.first.reader.source) (sources f.now.reader.source) (left.near u).wire.sent (sent_at st.wires.items u) f.start.faults (wire_count_at u v at)
               (laws.reads g left run k (node_of is.node) f.first f.now u v d.bytes (mapped_at node_of nodes k is.node is.at) f.there at from d.whole) in
               rw (d.drawn_bytes, d.given, d.faulted) told;
-          lawful = λ w is. subst (λ (c : List WireCount). IsLawful g w c (composed g w)) (sym wires_are) (laws.lawful g w ranked.0 left run (world_tells w is) ranked.1);
+          lawful = λ w is. subst (λ (c : List WireCount). IsLawful g w c (composed g w)) (sym wires_are) (laws.lawful g w ranked.0 left run settled (world_tells w is) ranked.1);
           rest = λ rest w is. subst (λ (c : List WireCount). Rests g w c (composed g w)) (sym wires_are) (laws.rests g w ranked.0 left run (still rest) (world_tells w is) ranked.1);
           matching = λ rest w k n at is.
               let m = unmapped_at node_of nodes k n at in

@@ -126,6 +126,9 @@ state_inner (kind.Scan o) h = record { input = refl; output = refl; outputs = re
 state_inner (kind.Buffer n p) h = record { input = refl; output = refl; outputs = refl }
 state_inner (kind.RecoverNum z) h = record { input = refl; output = refl; outputs = refl }
 state_inner (kind.RecoverText l) h = record { input = refl; output = refl; outputs = refl }
+state_inner (kind.Valve name) h = record { input = refl; output = refl; outputs = refl }
+state_inner (kind.TripShutdown name n) h = record { input = refl; output = refl; outputs = refl }
+state_inner (kind.TripAbort name n) h = record { input = refl; output = refl; outputs = refl }
 state_inner _ h = absurd h
 
 fan_in_inner : (shape : Kind) → IsFanIn shape → IsInner shape

@@ -1,3 +1,4 @@
 pub mod Preparing
 pub mod Running
+pub mod Settling
 pub mod Stopping

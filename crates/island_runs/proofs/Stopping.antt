@@ -4,31 +4,42 @@ use Rattle.std.specs.List.{All}
 use Rattle.std.proofs.Common.{◌≡◌, ℕ, ◌+◌, ◌≤◌, Bool, true, false, IsTrue, List, length, map, refl, sym, ap, ◌∙◌, subst}
 use Rattle.blue_check.specs.Wires.{blueprint_wires}
 use Rattle.blue_core.specs.declared.blueprint.Blueprint.{Blueprint}
+use Rattle.blue_core.specs.declared.blueprint.Node as blue
 use Rattle.stream_io.specs.State.{SourceState, DrainState}
+use Rattle.stream_model.specs.Graph.{Wire}
 use Rattle.stream_model.specs.declared.outcome.WireCount.{WireCount}
 use Rattle.stream_picture.specs.Shape.{count_needed}
 use Rattle.wire_core.specs.Cell.{Cell}
-use Rattle.nodes.specs.Nodes.{KeepsNode}
+use Rattle.nodes.specs.Nodes.{KeepsNode, node_seat}
 use Rattle.nodes.specs.declared.node.Node.{Node}
 use Rattle.fused_net.specs.Laws.{AllKept}
 use Rattle.interpreter.specs.Island.{readers_of, writers_of}
+use Rattle.interpreter.specs.Picks.{pick_of}
 use Rattle.interpreter.specs.declared.island.IslandEnd.{IslandEnd}
 use Rattle.interpreter.specs.declared.parts.Seated.{Seated}
 use Rattle.run_account.specs.Account.{Account, IsStill}
 use Rattle.run_account.specs.Pictures.{counts_of}
 use Rattle.run_laws.specs.Runs.{IsRun}
 use Rattle.materializer.specs.Graphs.{graph_of}
-use Rattle.materializer.specs.Seats.{AreSeats}
+use Rattle.materializer.specs.Seats.{AreSeats, place_seat}
 use Rattle.bodies_run.specs.Leaving.{AreLeft, of_lists}
 use Rattle.bodies_run.proofs.Alone.{run_alone, still_alone, counts_alone}
 use Rattle.bodies_run.specs.Counts.{all_sent}
 use Rattle.whole_ends.specs.Whole.{IsLeftBy}
+use Rattle.switch_laws.specs.Settling.{AllSettled}
+use Rattle.switch_board.specs.Board.{AreAtSwitches, numbered_from, seat_in}
+use Rattle.switch_board.specs.declared.board.Board.{Board}
 use Rattle.island_runs.specs.Leaving.{Moment, Leaves, LeavesBroken}
 use Rattle.island_runs.specs.declared.run.Stopped.{Stopped}
+use Rattle.island_runs.proofs.Settling.{kept_seats, seats_numbered, settled_run}
 
 -- a condition that holds is true
 is_so : (t : Bool) → IsTrue t → t ≡ true
 is_so t h = cc
+
+-- the seats that nodes leave, by their numbers
+pub left_seats : {S D : Type 0} (ws : List Wire) (near : ℕ → Cell) (last : List (Node S D)) (e : IslandEnd S D) → IsLeftBy ws near last e → e.seats.items ≡ numbered_from 0 (map node_seat last)
+left_seats ws near last e l = l.seats ∙ seats_numbered 0 last
 
 module _ {S D : Type 0} (sources : S → SourceState) (drains : D → DrainState) (b : Blueprint) (ss : List S) (ds : List D) (nodes : List (Seated S D)) (seats : AreSeats 0 b.nodes.items ss ds nodes) (many : length nodes ≡ length (graph_of b).nodes)
     (acc : Account (Node S D)) (last : List (Node S D)) (left : AreLeft nodes acc last) (run : IsRun sources drains (graph_of b) acc) where
@@ -52,24 +63,30 @@ module _ {S D : Type 0} (sources : S → SourceState) (drains : D → DrainState
     run = run_alone sources drains (graph_of b) acc nodes last left many run;
   }
 
-  -- bodies that were taken apart between two events
-  pub leaves : (budget : ℕ) (s : Stopped S D) (near : ℕ → Cell) → (s.at_rest ≡ true → IsStill (graph_of b) acc) → IsLeftBy (blueprint_wires b) near last s.end → s.wires.items ≡ counts_of acc (graph_of b) → s.used ≤ budget → (s.at_rest ≡ false → s.used ≡ budget)
+  -- bodies that were taken apart between two events, where the seats that their nodes left were settled
+  pub leaves : (budget : ℕ) (s : Stopped S D) (e : IslandEnd S D) (near : ℕ → Cell) → (s.at_rest ≡ true → IsStill (graph_of b) acc) → IsLeftBy (blueprint_wires b) near last e → s.end ≡ record e { seats = s.end.seats }
+      → AllSettled (map (λ (n : blue.Node). n.kind) b.nodes.items) (seat_in (map node_seat last)) → s.wires.items ≡ counts_of acc (graph_of b) → s.used ≤ budget → (s.at_rest ≡ false → s.used ≡ budget)
       → all_sent (counts_of acc (graph_of b)) ≤ s.used → s.used + length (blueprint_wires b) ≤ count_needed (graph_of b) (counts_of acc (graph_of b)) → Leaves sources drains b ss ds budget s
-  leaves budget s near still e wires within spent least most = record {
+  leaves budget s e near still l same_end settled wires within spent least most = record {
     account = alone;
     nodes = last;
     moment = moment;
     still = λ h. still_alone (graph_of b) acc left.firsts last (still (is_so s.at_rest h));
-    sinks = e.sinks;
-    picks = e.picks;
+    settled = settled_run b last alone (λ (k : ℕ). refl) settled;
+    sinks = ap (λ (x : IslandEnd S D). x.sinks.items) same_end ∙ l.sinks;
+    picks = ap (λ (x : IslandEnd S D). map pick_of x.picks.items) same_end ∙ l.picks;
     wires = wires ∙ sym same;
-    readers = e.readers;
-    writers = e.writers;
+    readers = ap (λ (x : IslandEnd S D). x.readers.items) same_end ∙ l.readers;
+    writers = ap (λ (x : IslandEnd S D). x.writers.items) same_end ∙ l.writers;
     within = within;
     spent = spent;
     least = subst (λ (cs : List WireCount). all_sent cs ≤ s.used) (sym same) least;
     most = subst (λ (cs : List WireCount). s.used + length (blueprint_wires b) ≤ count_needed (graph_of b) cs) (sym same) most;
   }
+
+  -- their nodes have their seats at the switches of the board at which they were handed in
+  pub kept : (board : Board) → AreAtSwitches (map (λ (n : blue.Node). n.kind) b.nodes.items) board (map place_seat nodes) → AreAtSwitches (map (λ (n : blue.Node). n.kind) b.nodes.items) board (map node_seat last)
+  kept board at = kept_seats sources drains b board nodes left.firsts last alone left.become (λ (k : ℕ). refl) (λ (k : ℕ). refl) left.as_many moment.run at
 
   -- and such as one of which broke off in a turn
   pub broken : (e : IslandEnd S D) (later : List (Node S D)) → AllKept (KeepsNode sources drains) last later → e.readers.items ≡ readers_of later → e.writers.items ≡ writers_of later → LeavesBroken sources drains b ss ds e

@@ -1,8 +1,9 @@
 -- The bodies of a blueprint's islands as they began, as they stand when they are taken apart, and what they go back into.
-use Rattle.std.specs.Prelude.{◌≡◌, ℕ, ◌≤◌, Bool, true, false, List, [], length, vec_capacity}
+use Rattle.std.specs.Prelude.{◌≡◌, ℕ, ◌≤◌, Bool, true, false, List, [], length, map, vec_capacity}
 use Rattle.std.specs.List.{All, sum_by}
 use Rattle.stream_io.specs.State.{SourceState, DrainState}
 use Rattle.blue_core.specs.declared.blueprint.Blueprint.{Blueprint}
+use Rattle.blue_core.specs.declared.blueprint.Node.{Node}
 use Rattle.blue_check.specs.Fitness.{IsFit}
 use Rattle.blue_check.specs.Wires.{blueprint_wires}
 use Rattle.plug_core.specs.declared.head.PlugHead.{PlugHead}
@@ -20,12 +21,14 @@ use Rattle.island_body.specs.declared.body.Body.{Body}
 use Rattle.bodies_account.specs.Bodies.{AreBodiesOf}
 use Rattle.bodies_account.specs.Begun.{AreNumbered, AreAligned}
 use Rattle.materializer.specs.Graphs.{graph_of}
-use Rattle.materializer.specs.Seats.{AreSeats}
+use Rattle.materializer.specs.Seats.{AreSeats, place_seat}
+use Rattle.switch_board.specs.Board.{IsBoard, AreAtSwitches}
 use Rattle.island_runs.specs.declared.run.Remains.{Remains}
 
 module _ {S D : Type 0} (sources : S → SourceState) (drains : D → DrainState) (b : Blueprint) (ss : List S) (ds : List D) where
   -- These bodies are those of the islands of a blueprint that breaks no rule, over these sources, of which none has handed out a byte,
-  -- and these drains: they were made, and used no unit. These are the crossings of its lanes, and `r` has room for all that they leave.
+  -- and these drains: they were made, and used no unit. These are the crossings of its lanes, and `r` has room for all that they leave,
+  -- and the switches at which their seats are.
   pub record HaveBegun (bodies : List (Body S D)) (crossings : List Crossing) (r : Remains S D) : Type 0 where
     pub plugs : List PlugHead
     pub taken : List (List ℕ)
@@ -51,6 +54,8 @@ module _ {S D : Type 0} (sources : S → SourceState) (drains : D → DrainState
     pub room_to_ask : length r.lanes.items ≤ vec_capacity r.asked
     pub none_counted : r.counts.items ≡ []
     pub room_to_count : length (blueprint_wires b) ≤ vec_capacity r.counts
+    pub board_is : IsBoard (map (λ (n : Node). n.kind) b.nodes.items) r.board
+    pub at_switches : AreAtSwitches (map (λ (n : Node). n.kind) b.nodes.items) r.board (map place_seat nodes)
 
   -- They ran in rounds, and these are they now: so many units of a budget were used, and no body has an event where it says so; else all
   -- units were used.

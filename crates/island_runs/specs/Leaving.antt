@@ -17,6 +17,7 @@ use Rattle.interpreter.specs.Island.{sinks_of, readers_of, writers_of}
 use Rattle.run_account.specs.Account.{Account, IsStill}
 use Rattle.run_account.specs.Pictures.{counts_of}
 use Rattle.run_laws.specs.Runs.{IsRun}
+use Rattle.run_laws.specs.Telling.{AreSettled}
 use Rattle.materializer.specs.Graphs.{graph_of}
 use Rattle.materializer.specs.Seats.{AreSeats}
 use Rattle.bodies_run.specs.Counts.{all_sent}
@@ -36,7 +37,8 @@ pub record Moment {S D : Type 0} (sources : S → SourceState) (drains : D → D
   pub as_many : length nodes ≡ length firsts
   pub run : IsRun sources drains (graph_of b) account
 
--- The run was one of so many units at most, and was taken apart. No event is left where it says so, and else all units were used.
+-- The run was one of so many units at most, and was taken apart. No event is left where it says so, and else all units were used. The
+-- seats of its valves and trips were settled.
 -- At least so many were used as elements were pushed, and one less at least for each wire than its part of the count over what was
 -- sent.
 pub record Leaves {S D : Type 0} (sources : S → SourceState) (drains : D → DrainState) (b : Blueprint) (ss : List S) (ds : List D) (budget : ℕ) (s : Stopped S D) : Type 0 where
@@ -44,6 +46,7 @@ pub record Leaves {S D : Type 0} (sources : S → SourceState) (drains : D → D
   pub nodes : List (Node S D)
   pub moment : Moment sources drains b ss ds account nodes
   pub still : IsTrue s.at_rest → IsStill (graph_of b) account
+  pub settled : AreSettled (graph_of b) account
   pub sinks : s.end.sinks.items ≡ sinks_of nodes
   pub picks : map pick_of s.end.picks.items ≡ picks_of (count_from 0 (length nodes)) nodes
   pub wires : s.wires.items ≡ counts_of account (graph_of b)

@@ -29,11 +29,12 @@ use rounds::crossing::Crossing;
 use std::alloc::{AllocError, Global};
 use stream_io::outside::{Drain, Source};
 use stream_model::outcome::WireCount;
+use switch_board::board::Board;
 use traversal::plan::LanePlan;
 use whole_ends::laws::{bodies_leave_what_their_nodes_do, broken_bodies_leave_their_handles};
 
-/// A run that was taken apart: what its nodes left, in order of nodes, what each wire carried, how many units were used, and whether no
-/// event was left.
+/// A run that was taken apart: what its nodes left, in order of nodes, but for the seats at its kill switches, which were settled; what
+/// each wire carried, how many units were used, and whether no event was left.
 #[derive(Drop)]
 pub struct Stopped<S: Source, D: Drain> {
     pub end: IslandEnd<S, D>,
@@ -63,6 +64,8 @@ struct Remains<S: Source, D: Drain> {
     asked: Vec<u64>,
     // Empty, with room for the count of each wire.
     counts: Vec<WireCount>,
+    // The kill switches at which its nodes have their seats.
+    board: Board,
 }
 
 /// The bodies of a blueprint that were made, and the crossings of its lanes.
@@ -124,6 +127,7 @@ fn begin<S: Source, D: Drain>(
             ends: bodies.ends,
             asked,
             counts,
+            board: filled.board,
         },
     })
 }
@@ -141,8 +145,9 @@ fn counts_of(wires: &[(u32, WireCount)], counts: Vec<WireCount>) -> Vec<WireCoun
     counts
 }
 
-/// Takes bodies apart that ran in rounds.
+/// Takes bodies apart that ran in rounds, and settles the seats of their kill switches.
 fn stop<S: Source, D: Drain>(
+    alloc: Global,
     bodies: Vec<Body<S, D>>,
     crossings: &[Crossing],
     remains: Remains<S, D>,
@@ -166,14 +171,31 @@ fn stop<S: Source, D: Drain>(
         ends,
         asked,
         counts,
+        board,
     } = remains;
     let all = asked_of(&bodies, crossings, asked);
     let ends = finish_all(bodies, ends);
     let end = join_ends(ends, &homes, room);
     let mut wires = counts_of(&end.wires, counts);
     note_asked(&all, &lanes, &mut wires);
+    let IslandEnd {
+        sinks,
+        wires: told,
+        picks,
+        seats,
+        readers,
+        writers,
+    } = end;
+    board.settle(seats);
     Stopped {
-        end,
+        end: IslandEnd {
+            sinks,
+            wires: told,
+            picks,
+            seats: Vec::new(alloc),
+            readers,
+            writers,
+        },
         wires,
         used,
         at_rest,
@@ -202,6 +224,7 @@ fn give_up<S: Source, D: Drain>(
         ends,
         asked: _,
         counts: _,
+        board: _,
     } = remains;
     let ends = finish_all(bodies, ends);
     join_handles(ends, &homes, room)
@@ -225,7 +248,7 @@ fn run_bodies<S: Source, D: Drain>(
     } = begun;
     let mut bodies = bodies;
     match rounds::run::run(alloc, &mut bodies, &crossings, budget) {
-        Ok(end) => Ok(stop(bodies, &crossings, remains, end.used, end.at_rest)),
+        Ok(end) => Ok(stop(alloc, bodies, &crossings, remains, end.used, end.at_rest)),
         Err(AllocError) => Err(give_up(bodies, &crossings, remains)),
     }
 }

@@ -83,4 +83,6 @@ returns-clause-begun g c =
       room_to_ask = let same : length f.lanes.items ≡ length p.plans.lanes.items = ap (λ l. length l.items) e.lanes in omega (arith, same, is.room_to_ask);
       none_counted = is.none_counted;
       room_to_count = is.room_to_count;
+      board_is = e.filled.board_is;
+      at_switches = e.filled.at_switches;
     }

@@ -1,20 +1,22 @@
 -- The goals of `run::stop` that the search leaves.
-use Rattle.std.proofs.Common.{◌≡◌, ◌∙◌, ℕ, List, ap, map, length, sym, subst, arith}
+use Rattle.std.proofs.Common.{◌≡◌, ◌∙◌, ℕ, List, ap, map, length, refl, sym, subst, arith}
 use Rattle.std.proofs.lemmas.List.{length-map}
 use Rattle.std.specs.Vec.{with_items}
 use Rattle.blue_check.specs.Wires.{blueprint_wires}
+use Rattle.blue_core.specs.declared.blueprint.Node as blue
 use Rattle.stream_model.specs.declared.outcome.WireCount.{WireCount}
 use Rattle.run_account.specs.Pictures.{counts_of}
 use Rattle.materializer.specs.Graphs.{graph_of}
 use Rattle.traversal.specs.Plan.{lanes_from}
 use Rattle.lane_ends.specs.Ends.{AreRising}
+use Rattle.nodes.specs.Nodes.{node_seat}
 use Rattle.island_bodies.specs.Asked.{LieThere, AreAsked, AreNoted, AreWithin}
 use Rattle.bodies_run.specs.Counts.{asked_by, told_from}
 use Rattle.bodies_run.specs.Leaving.{account_in}
 use Rattle.whole_ends.specs.Whole.{whole_of}
 use Rattle.island_runs.proofs.Preparing.{told_many}
 use Rattle.island_runs.proofs.Running.{came_back}
-use Rattle.island_runs.proofs.Stopping.{leaves}
+use Rattle.island_runs.proofs.Stopping.{left_seats, leaves, kept}
 use Rattle.island_runs.proofs.run.stop.Goals as goal
 
 pub asked_of-all-requires-clause-lie : goal.asked_of-all-requires-clause-lie
@@ -113,7 +115,39 @@ returns g c = λ b ss ds begun budget r.
     let whole_list = came_back c.counts_of-wires.result.len c.note_asked.new.counts c.counts_of-wires.result.items (c.note_asked.ensures.many ∙ ap length c.deref_mut.ensures.value ∙ size) size in
     let is_run = run.run b m.homes m.count m.nodes crossings begun now all m.plugs m.taken ss ds m.fit m.seats m.unread m.bodies_are r.went r.keep are r.joined in
     let left_by = run.nodes b m.homes m.count m.nodes crossings begun now all back.0 back.1.0 m.bodies_are r.went r.keep back.1.1 in
+    let at = kept g.S.Source.state g.D.Drain.state b ss ds m.nodes m.seats (sym m.bodies_are.graph.each_node) account back.0 left_by is_run c.args.remains.board m.at_switches in
+    let settled = c.settle.ensures (map (λ (n : blue.Node). n.kind) b.nodes.items) (map node_seat back.0) m.board_is at (left_seats ws account.near back.0 c.join_ends-end.result left) in
     let spent = c.bodies_spent_what_was_sent.ensures b m.homes m.count m.nodes crossings begun now all m.bodies_are r.went r.keep in
     let most = run.most b m.homes m.count m.nodes crossings begun now all m.bodies_are r.went r.keep are r.joined in
-    leaves g.S.Source.state g.D.Drain.state b ss ds m.nodes m.seats (sym m.bodies_are.graph.each_node) account back.0 left_by is_run budget (record { end = c.join_ends-end.result; wires = with_items c.counts_of-wires.result c.note_asked.new.counts; used = c.args.used; at_rest = c.args.at_rest }) account.near
-    (λ rest. run.still b m.homes m.count m.nodes crossings begun now all m.bodies_are r.went r.keep are (r.rest rest)) left (whole_list ∙ counts) r.within r.more (omega (arith, spent, r.used_is)) (omega (arith, most, r.used_is))
+    leaves g.S.Source.state g.D.Drain.state b ss ds m.nodes m.seats (sym m.bodies_are.graph.each_node) account back.0 left_by is_run budget
+    (record { end = record c.join_ends-end.result { seats = c.new.result }; wires = with_items c.counts_of-wires.result c.note_asked.new.counts; used = c.args.used; at_rest = c.args.at_rest }) c.join_ends-end.result account.near
+    (λ rest. run.still b m.homes m.count m.nodes crossings begun now all m.bodies_are r.went r.keep are (r.rest rest)) left refl settled (whole_list ∙ counts) r.within r.more (omega (arith, spent, r.used_is)) (omega (arith, most, r.used_is))
+
+pub settle-requires : goal.settle-requires
+settle-requires g c =
+    let b = c.requires.0 in
+    let begun = c.requires.1.1.1.0 in
+    let r = c.requires.1.1.1.1.1 in
+    let m = r.began in
+    let ws = blueprint_wires b in
+    let now = c.args.bodies.items in
+    let crossings = c.args.crossings.now in
+    let lanes = c.args.remains.lanes.items in
+    let asks = c.asked_of-all.result.items in
+    let all = asked_by lanes asks in
+    let account = account_in m.homes ws now all in
+    let run = c.bodies_leave_a_run.ensures in
+    let back = run.back b m.homes m.count m.nodes crossings begun now m.bodies_are r.went r.keep in
+    let law = c.bodies_leave_what_their_nodes_do.ensures in
+    let ends = law.ends b m.homes m.count m.nodes crossings begun now all back.0 back.1.0 c.finish_all-ends.result.items m.bodies_are m.numbered r.went r.keep back.1.1 c.finish_all-ends.ensures in
+    let homes = law.homes b m.homes m.count m.nodes crossings begun now all back.0 back.1.0 c.requires.1.0 c.requires.1.1.0 c.args.remains.homes m.seats m.bodies_are r.went r.keep back.1.1 m.homes_are in
+    let whole = c.join_ends-end.ensures (whole_of m.homes ws m.nodes account.near back.0 back.1.0) ends homes in
+    let left = law.left b m.homes m.count m.nodes crossings begun now all back.0 back.1.0 c.requires.1.0 c.requires.1.1.0 c.join_ends-end.result m.seats m.bodies_are r.went r.keep back.1.1 whole in
+    let stay = c.ends_stay_at_their_crossings.ensures in
+    let told = c.told_asks_are_those_of_lanes.ensures in
+    let asked = subst (λ bodies. AreAsked bodies crossings asks) c.deref.ensures.value c.asked_of-all.ensures in
+    let are = told.are lanes crossings now asks m.many m.rise (stay.aligned lanes crossings begun now m.aligned (stay.went begun now r.went)) asked in
+    let is_run = run.run b m.homes m.count m.nodes crossings begun now all m.plugs m.taken c.requires.1.0 c.requires.1.1.0 m.fit m.seats m.unread m.bodies_are r.went r.keep are r.joined in
+    let left_by = run.nodes b m.homes m.count m.nodes crossings begun now all back.0 back.1.0 m.bodies_are r.went r.keep back.1.1 in
+    let at = kept g.S.Source.state g.D.Drain.state b c.requires.1.0 c.requires.1.1.0 m.nodes m.seats (sym m.bodies_are.graph.each_node) account back.0 left_by is_run c.args.remains.board m.at_switches in
+    (map (λ (n : blue.Node). n.kind) b.nodes.items, (map node_seat back.0, (m.board_is, (at, left_seats ws account.near back.0 c.join_ends-end.result left))))

@@ -1,5 +1,5 @@
 -- How a table begins and how it ends.
-use Rattle.std.proofs.Common.{◌≡◌, ℕ, zero, suc, ◌+◌, ◌/◌, ◌<◌, ◌≤◌, List, [], ◌∷◌, ◌++◌, map, length, get_or, take, replicate, sym, refl, ap, ◌∙◌, subst, arith, Option, Some, slice_get, IfSome}
+use Rattle.std.proofs.Common.{◌≡◌, ℕ, zero, suc, ◌+◌, ◌/◌, ◌<◌, ◌≤◌, List, [], ◌∷◌, ◌++◌, map, length, get_or, take, drop, replicate, sym, refl, ap, ◌∙◌, subst, arith, Option, Some, slice_get, IfSome, IsSome}
 use Rattle.std.proofs.lemmas.List.{length-replicate, get_or-replicate}
 use Rattle.std.specs.Option.{unwrap_or}
 use mathlib.Core.Logic.{dite}
@@ -36,6 +36,27 @@ taken_all vs l n e h = e ∙ take_whole l n h
 
 pub popped : {A : Type 0} (P : A → Type 0) (r : Option A) (x : A) → IfSome r P → r ≡ Some x → P x
 popped {A} P r x p e = subst (λ (o : Option A). IfSome o P) e p
+
+-- lists are the same where their values in slots are
+pub same_wrapped : {T : Type 0} (xs ys : List T) → map Some xs ≡ map Some ys → xs ≡ ys
+same_wrapped [] [] e = refl
+same_wrapped [] (y ∷ ys) e = let h = ap length e in absurd (omega arith)
+same_wrapped (x ∷ xs) [] e = let h = ap length e in absurd (omega arith)
+same_wrapped (x ∷ xs) (y ∷ ys) e =
+    let first : x ≡ y = some_same x y (ap (λ l. get_or l 0 (Some x)) e) in let later = same_wrapped xs ys (ap (drop 1) e) in λ i. first i ∷ later i
+
+wrapped_each : {T : Type 0} (vs : List T) (k : ℕ) (d : Option T) → k < length (map Some vs) → IsSome (get_or (map Some vs) k d)
+wrapped_each [] k d h = absurd (omega arith)
+wrapped_each (v ∷ vs) zero d h = refl
+wrapped_each (v ∷ vs) (suc k) d h = wrapped_each vs k d (omega arith)
+
+-- each slot has a value
+pub some_each : {T : Type 0} (vs : List T) (slots : List (Option T)) → slots ≡ map Some vs → (k : ℕ) (d : Option T) → k < length slots → IsSome (get_or slots k d)
+some_each {T} vs slots e = subst (λ (l : List (Option T)). (k : ℕ) (d : Option T) → k < length l → IsSome (get_or l k d)) (sym e) (wrapped_each vs)
+
+pub app_next : {A : Type 0} (xs : List A) (x : A) (ys : List A) → (xs ++ x ∷ []) ++ ys ≡ xs ++ x ∷ ys
+app_next [] x ys = refl
+app_next (y ∷ zs) x ys = ap (λ l. y ∷ l) (app_next zs x ys)
 
 pub seat_is : {C : Type 0} (m : Hold × List C) → m.0.held ≡ [] → m.0.out ≡ 0 → m.1 ≡ [] → m ≡ (hold m.0.parts [] 0 m.0.found m.0.began m.0.woke, [])
 seat_is m h o e = λ i. (record { parts = m.0.parts; held = h i; out = o i; found = m.0.found; began = m.0.began; woke = m.0.woke }, e i)

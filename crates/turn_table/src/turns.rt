@@ -1,5 +1,5 @@
 // Turn tables. `wake`, `begin` and `end` take no memory, wait for nobody, and work through a shared reference.
-ghost use Rattle.std.specs.Prelude.{◌≡◌, ◌==◌, ◌%◌, ◌≢◌, ℕ, ◌+◌, ◌^◌, ◌<◌, ◌≤◌, [], ◌∷◌, length, map, slice_get, IfOk, IfErr, Some, vec_len, vec_capacity, slice_index_or, IsTrue, false};
+ghost use Rattle.std.specs.Prelude.{◌≡◌, ◌==◌, ◌%◌, ◌≢◌, ℕ, ◌+◌, ◌^◌, ◌<◌, ◌≤◌, [], ◌∷◌, length, map, slice_get, IfOk, IfErr, Some, vec_len, vec_capacity, slice_index_or, IsTrue, IsSome, false, replicate};
 ghost use Rattle.std.specs.Slots.{slots_items, slots_filled, slots_len, IsFull};
 ghost use mathlib.Core.Option.{some};
 ghost use lib.ListN.{get_elem?};
@@ -57,32 +57,40 @@ impl<T: Kept> Turns<T> {
     ghost use Rattle.turn_table.specs.Public.{turns_of, found_by, began_by, woke_by, NoneBegan, Woke, Finds, handed_in, seats_of, IsSeatOf, IsFree};
 
     /// A table of these values, at places from 0, each in its slot and not wanted, and so many seats, on which no turn has begun.
-    /// Where memory was wanting the values are dropped. Rule: own.
+    /// Where memory was wanting the values come back, in order. Rule: own.
     pub fn new(
         alloc: Global,
         values: Vec<T>,
         seats: u32,
-    ) -> Result<(Turns<T>, Vec<TurnSeat>), AllocError>
+    ) -> Result<(Turns<T>, Vec<TurnSeat>), Vec<T>>
         requires some { 0 < vec_len values }
         requires few { vec_len values < 2 ^ 32 }
         requires seats { 0 < seats }
         ensures values { IfOk result (λ r. handed_in r.0 ≡ values.items) }
         ensures seats { IfOk result (λ r. (seats_of r.0 ≡ seats) × (vec_len r.1 ≡ seats) × All (IsFree r.0) r.1.items) }
+        ensures refused { IfErr result (λ back. back.items ≡ values.items) }
     {
+        let Ok(room) = Room::of(alloc, values.len(), seats) else {
+            return Err(values);
+        };
+        let Room {
+            words,
+            slots,
+            seats: free,
+            back,
+        } = room;
         let plan = Plan {
             values: Snapshot::of(&values),
             seats: seats as u64,
         };
-        let words = Vec::from_elem(alloc, 0u64, values.len())?;
-        let slots = wrap(alloc, values)?;
-        let room = Vec::with_capacity(alloc, seats as usize)?;
-        let (table, first) = match Table::new(alloc, words.as_slice(), slots, &plan) {
-            Ok(made) => made,
-            Err(Refused { slots: _ }) => return Err(AllocError),
-        };
-        let turns = Turns { table };
-        let seats = turns.deal(first, seats, room);
-        Ok((turns, seats))
+        match Table::new(alloc, words.as_slice(), wrap(values, slots), &plan) {
+            Ok((table, first)) => {
+                let turns = Turns { table };
+                let seats = turns.deal(first, seats, free);
+                Ok((turns, seats))
+            }
+            Err(Refused { slots }) => Err(unwrap_all(slots, back)),
+        }
     }
 
     /// The first seat, which has all parts, is cut into so many.
@@ -110,19 +118,19 @@ impl<T: Kept> Turns<T> {
         seats
     }
 
-    /// The values in order, each with the origin that was handed in for its place. It wants all seats of the table, and that
-    /// each turn has ended. Where memory was wanting the values are dropped. Rule: own.
-    pub fn close(self, alloc: Global, seats: Vec<TurnSeat>) -> Result<Vec<T>, AllocError>
+    /// The values in order, each with the origin that was handed in for its place, in the room that is handed in: it takes no
+    /// memory. It wants all seats of the table, and that each turn has ended. Rule: own.
+    pub fn close(self, seats: Vec<TurnSeat>, room: Vec<T>) -> Vec<T>
         requires all { vec_len seats ≡ seats_of self }
         requires free { All (IsFree self) seats.items }
         requires some { (0 < vec_len seats) × (0 < length (handed_in self)) }
-        ensures { IfOk result (λ values. map T.origin values.items ≡ map T.origin (handed_in self)) }
+        requires room { (room.items ≡ []) × (length (handed_in self) ≤ vec_capacity room) }
+        ensures { map T.origin result.items ≡ map T.origin (handed_in self) }
     {
-        let values = Vec::with_capacity(alloc, self.table.slot_count())?;
         let seat = self.gather(seats);
         let Turns { table } = self;
         let closed = table.close_with(seat);
-        Ok(take_all(closed, values))
+        take_all(closed, room)
     }
 
     /// All these seats as one.
@@ -219,11 +227,51 @@ impl<T: Kept> Turns<T> {
     }
 }
 
-// Each value as it stands in a slot.
-fn wrap<T: Drop>(alloc: Global, values: Vec<T>) -> Result<Vec<Option<T>>, AllocError>
-    ensures { IfOk result (λ slots. slots.items ≡ map Some values.items) }
+// All the memory that a table of so many values takes but the table itself.
+struct Room<T> {
+    words: Vec<u64>,
+    slots: Vec<Option<T>>,
+    seats: Vec<TurnSeat>,
+    back: Vec<T>,
+}
+
+impl<T: Drop> Room<T> {
+    fn of(alloc: Global, count: usize, seats: u32) -> Result<Room<T>, AllocError>
+        ensures words { IfOk result (λ r. r.words.items ≡ replicate count 0) }
+        ensures slots { IfOk result (λ r. (r.slots.items ≡ []) × (count ≤ vec_capacity r.slots)) }
+        ensures seats { IfOk result (λ r. (r.seats.items ≡ []) × (seats ≤ vec_capacity r.seats)) }
+        ensures back { IfOk result (λ r. (r.back.items ≡ []) × (count ≤ vec_capacity r.back)) }
+    {
+        Ok(Room {
+            words: Vec::from_elem(alloc, 0u64, count)?,
+            slots: Vec::with_capacity(alloc, count)?,
+            seats: Vec::with_capacity(alloc, seats as usize)?,
+            back: Vec::with_capacity(alloc, count)?,
+        })
+    }
+}
+
+// Each value as it stands in a slot, in order.
+fn wrap<T: Drop>(values: Vec<T>, mut slots: Vec<Option<T>>) -> Vec<Option<T>>
+    requires room { (slots.items ≡ []) × (vec_len values ≤ vec_capacity slots) }
+    ensures { result.items ≡ map Some values.items }
 {
-    values.into_iter().map(|x| Some(x)).collect(alloc)
+    for value in values {
+        slots.push_reserved(Some(value));
+    }
+    slots
+}
+
+// The values as they stood in the slots, in order.
+fn unwrap_all<T: Drop>(slots: Vec<Option<T>>, mut values: Vec<T>) -> Vec<T>
+    requires full { All IsSome slots.items }
+    requires room { (values.items ≡ []) × (vec_len slots ≤ vec_capacity values) }
+    ensures { map Some result.items ≡ slots.items }
+{
+    for slot in slots {
+        values.push_reserved(slot.unwrap());
+    }
+    values
 }
 
 // The values out of all slots, in order.

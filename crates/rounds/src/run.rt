@@ -185,11 +185,12 @@ fn run_on<B: Turning>(
     alloc: Global,
     bodies: &mut [B],
     lanes: &[Crossing],
+    before: u32,
     budget: u32,
 ) -> Result<RoundsEnd, NoMemory>
     requires keeps { AllOf B.keeps bodies.old }
-    requires unspent { sum_by B.spent bodies.old ≡ 0 }
-    requires few { budget ≤ 4000000000 }
+    requires spent { before ≡ sum_by B.spent bodies.old }
+    requires few { (before ≤ budget) × (budget ≤ 4000000000) }
     requires lanes { AreCrossings B.may_meet bodies.old lanes.now }
     ensures keeps { OnOk result (AllOf B.keeps bodies.new) }
     ensures goes { OnOk result (EachOf B.goes bodies.old bodies.new) }
@@ -200,7 +201,7 @@ fn run_on<B: Turning>(
     ensures more { IfOk result (λ end. end.at_rest ≡ false → (end.used ≡ budget) × ((k : ℕ) × FirstEvent B.pending B.joined bodies.new lanes.now k)) }
     ensures broke { OnErr result (BrokeOff B.keeps B.goes B.breaks bodies.old bodies.new) }
 {
-    let mut used = rounds(alloc, bodies, budget)?;
+    let mut used = before + rounds(alloc, bodies, budget - before)?;
     while used < budget {
         let stirred = stir(alloc, bodies, lanes, portion(budget - used))?;
         if stirred == 0 {
@@ -216,19 +217,20 @@ fn run_on<B: Turning>(
     Ok(RoundsEnd { used, at_rest })
 }
 
-/// Runs the bodies until none has an event or `budget` units are used: rounds of turns in order, each of at most `TURN_UNITS` units,
-/// until one uses none; then the ends of the lanes are brought together, and where a body has an event, it takes a turn at once and
-/// rounds follow. After `NoMemory` one body broke off, all others are whole, and the ends of all lanes are brought together too.
-/// Rule: own.
-pub fn run<B: Turning>(
+/// Goes on with bodies that used `before` units in earlier turns, until none has an event or `budget` units are used in all: rounds of
+/// turns in order, each of at most `TURN_UNITS` units, until one uses none; then the ends of the lanes are brought together, and where
+/// a body has an event, it takes a turn at once and rounds follow. After `NoMemory` one body broke off, all others are whole, and the
+/// ends of all lanes are brought together too. Rule: own.
+pub fn go_on<B: Turning>(
     alloc: Global,
     bodies: &mut [B],
     lanes: &[Crossing],
+    before: u32,
     budget: u32,
 ) -> Result<RoundsEnd, NoMemory>
     requires keeps { AllOf B.keeps bodies.old }
-    requires unspent { AllOf (λ b. B.spent b ≡ 0) bodies.old }
-    requires few { budget ≤ 4000000000 }
+    requires spent { before ≡ sum_by B.spent bodies.old }
+    requires few { (before ≤ budget) × (budget ≤ 4000000000) }
     requires lanes { AreCrossings B.may_meet bodies.old lanes.now }
     ensures joined { AllJoined B.joined bodies.new lanes.now }
     ensures keeps { OnOk result (AllOf B.keeps bodies.new) }
@@ -239,7 +241,7 @@ pub fn run<B: Turning>(
     ensures more { IfOk result (λ end. end.at_rest ≡ false → (end.used ≡ budget) × ((k : ℕ) × FirstEvent B.pending B.joined bodies.new lanes.now k)) }
     ensures broke { OnErr result (BrokeOff B.keeps B.goes B.breaks bodies.old bodies.new) }
 {
-    match run_on(alloc, bodies, lanes, budget) {
+    match run_on(alloc, bodies, lanes, before, budget) {
         Ok(end) => Ok(end),
         Err(lack) => {
             settle(bodies, lanes);

@@ -10,8 +10,8 @@ loop-used-init g c =
     record {
       keeps = e.keeps;
       goes = e.goes;
-      spent = let a = e.spent in let b = c.requires.unspent in omega (arith, a, b);
-      within = e.within;
+      spent = let a = e.spent in let b = c.requires.spent in omega (arith, a, b);
+      within = let a = e.within in let b = c.requires.few in omega (arith, a, b.0);
       lanes = crossings_each g.B.Meet.may_meet g.B.Turning.goes g.met.B.Turning.meet_goes_out g.met.B.Turning.meet_goes_inp _ _ c.args.lanes.now e.goes c.requires.lanes;
     }
 

@@ -1,9 +1,6 @@
-use Rattle.rounds.proofs.Each.{sum_none, broke_met}
+use Rattle.rounds.proofs.Each.{broke_met}
 use Rattle.rounds.proofs.Lanes.{crossings_broke}
-use Rattle.rounds.proofs.run.run.Goals as goal
-
-pub run_on-requires-clause-unspent : goal.run_on-requires-clause-unspent
-run_on-requires-clause-unspent g c = sum_none g.B.Turning.spent c.args.bodies.now c.requires.unspent
+use Rattle.rounds.proofs.run.go_on.Goals as goal
 
 pub settle-requires : goal.settle-requires
 settle-requires g c =

@@ -1,0 +1,12 @@
+-- What the workers share.
+use Rattle.std.specs.Prelude.{◌≡◌, ℕ, length}
+use Rattle.std.specs.List.{All}
+use Rattle.atomic_table.specs.Seated.{TableId}
+use Rattle.turn_table.specs.declared.turns.Turns.{Turns}
+use Rattle.turn_table.specs.Public.{handed_in}
+use Rattle.dispatcher.specs.declared.origin.PlaceOrigin.{PlaceOrigin}
+use Rattle.dispatcher.specs.Places.{Belongs}
+
+-- n places of one budget
+abbrev pub IsCrew : {B : Type 0} → Turns (PlaceOrigin B) (PlaceOrigin B) → TableId → ℕ → ℕ → Type 0
+IsCrew turns table limit n = (length (handed_in turns) ≡ n) × All (Belongs table limit) (handed_in turns)

@@ -1,0 +1,148 @@
+// A body beside its seat of the budget.
+ghost use Rattle.std.specs.Prelude.{◌≡◌, ◌≤◌, false};
+ghost use Rattle.unit_budget.specs.Public.{budget_id, seat_id, limit_of};
+ghost use Rattle.dispatcher.specs.Places.{Paid, Stands, Belongs};
+
+use crate::origin::PlaceOrigin;
+use crate::waking::Waking;
+use rounds::turning::Turning;
+use std::alloc::Global;
+use std::marker::Model;
+use std::snapshot::Snapshot;
+use turn_table::rule::Kept;
+use unit_budget::budget::{Budget, BudgetSeat};
+
+/// A body with its seat of the budget, and the units that its turns used. Where memory was wanting in one it is broken, and takes no
+/// turn any more. Rule: own.
+#[derive(Drop)]
+pub struct Place<B: Turning> {
+    body: B,
+    seat: BudgetSeat,
+    start: Snapshot<B>,
+    used: u32,
+    broken: bool,
+}
+
+impl<B: Turning> Model for Place<B> {
+    ghost use Rattle.std.specs.Coded.{codes};
+    ghost use Rattle.unit_budget.specs.Public.{seat_id, limit_of};
+    ghost use Rattle.dispatcher.specs.Places.{Holds, place_origin};
+    ghost use Rattle.dispatcher.specs.declared.origin.PlaceOrigin.{PlaceOrigin};
+
+    ghost Value = { PlaceOrigin B };
+
+    ghost view = { λ p. place_origin p.start (seat_id p.seat) (limit_of p.seat) };
+
+    ghost invariant = { λ p. Holds B.keeps B.goes B.breaks B.spent p.start.value p.body p.seat p.used p.broken };
+}
+
+impl<B: Turning> Kept for Place<B> {
+    type Origin = PlaceOrigin<B>;
+
+    ghost origin = { λ p. p };
+}
+
+/// What a turn came to.
+#[derive(Clone, Copy)]
+pub struct Came {
+    /// Whether it used some unit.
+    pub told: bool,
+    /// Whether it used up what it claimed, and that was some.
+    pub again: bool,
+    /// Whether memory was wanting.
+    pub broke: bool,
+}
+
+/// What a place is made of.
+pub struct Parts<B> {
+    /// The body.
+    pub body: B,
+    /// Its seat.
+    pub seat: BudgetSeat,
+    /// The units that its turns used.
+    pub used: u32,
+    /// Whether memory was wanting in one.
+    pub broken: bool,
+}
+
+impl<B: Turning> Place<B> {
+    /// A body that took no turn yet.
+    pub fn new(body: B, seat: BudgetSeat) -> Place<B>
+        requires keeps { B.keeps body }
+        requires unspent { B.spent body ≡ 0 }
+        requires seat { Paid 0 seat }
+        ensures is { (result.start.value ≡ body) × (result.table ≡ seat_id seat) × (result.limit ≡ limit_of seat) }
+    {
+        let start = Snapshot::of(&body);
+        Place {
+            body,
+            seat,
+            start,
+            used: 0,
+            broken: false,
+        }
+    }
+
+    /// One turn of at most 1000 units, all of which the budget has. After a turn in which memory was wanting there is none.
+    pub fn turn(&mut self, alloc: Global, budget: &Budget) -> Came
+        requires belongs { Belongs (budget_id budget.now) budget.now.limit self.old }
+        requires few { budget.now.limit ≤ 4000000000 }
+        ensures same { self.new ≡ self.old }
+    {
+        if self.broken {
+            return Came {
+                told: false,
+                again: false,
+                broke: false,
+            };
+        }
+        let granted = budget.claim(&mut self.seat);
+        match self.body.turn(alloc, granted as u32) {
+            Ok(used) => {
+                budget.settle(&mut self.seat, used as u64);
+                self.used += used;
+                Came {
+                    told: used > 0,
+                    again: granted > 0 && used as u64 == granted,
+                    broke: false,
+                }
+            }
+            Err(_) => {
+                budget.settle(&mut self.seat, 0);
+                self.broken = true;
+                Came {
+                    told: false,
+                    again: false,
+                    broke: true,
+                }
+            }
+        }
+    }
+
+    /// The body and its seat.
+    pub fn into_parts(self) -> Parts<B>
+        ensures seat { (seat_id result.seat ≡ self.table) × (limit_of result.seat ≡ self.limit) × Paid result.used result.seat }
+        ensures stands { Stands B.keeps B.goes B.breaks B.spent self.start.value result.body result.used result.broken }
+    {
+        let Place {
+            body,
+            seat,
+            start: _,
+            used,
+            broken,
+        } = self;
+        Parts {
+            body,
+            seat,
+            used,
+            broken,
+        }
+    }
+}
+
+impl<B: Waking> Place<B> {
+    /// The islands that are to be woken behind a turn: none where it used no unit.
+    pub fn wakes(&self, came: &Came) -> &[u32] {
+        if came.told { self.body.wakes() } else { &[] }
+    }
+}

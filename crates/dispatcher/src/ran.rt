@@ -1,0 +1,41 @@
+// The receipt of a run.
+ghost use Rattle.std.specs.Prelude.{◌≡◌};
+
+/// The receipt of a run, which `run` alone makes. Rule: own.
+#[derive(Clone, Copy, PartialEq, Eq)]
+pub struct Ran {
+    pub(crate) workers: u32,
+    pub(crate) islands: u32,
+    pub(crate) used: u32,
+    pub(crate) more: bool,
+}
+
+impl Ran {
+    /// How many workers the run had.
+    pub fn workers(&self) -> u32
+        ensures { result ≡ self.now.workers }
+    {
+        self.workers
+    }
+
+    /// How many islands took turns.
+    pub fn islands(&self) -> u32
+        ensures { result ≡ self.now.islands }
+    {
+        self.islands
+    }
+
+    /// The units that all turns used.
+    pub fn used(&self) -> u32
+        ensures { result ≡ self.now.used }
+    {
+        self.used
+    }
+
+    /// Whether an event is left, for which the budget had no unit.
+    pub fn more(&self) -> bool
+        ensures { result ≡ self.now.more }
+    {
+        self.more
+    }
+}

@@ -1,0 +1,210 @@
+// Runs by workers.
+ghost use Rattle.std.specs.Prelude.{◌≡◌, ◌+◌, ◌<◌, ◌≤◌, [], ℕ, true, false, map, length, vec_len, vec_capacity, IfOk, IfErr};
+ghost use Rattle.std.specs.List.{All, sum_by};
+ghost use Rattle.turn_table.specs.Public.{IsFree, handed_in, seats_of};
+ghost use Rattle.unit_budget.specs.Public.{budget_id, seat_id, used_by, parts_of, limit_of, IsIdle};
+ghost use Rattle.rounds.specs.Bodies.{AllOf, EachOf};
+ghost use Rattle.rounds.specs.Crossings.{AreCrossings, AllJoined, AtRest, FirstEvent};
+ghost use Rattle.dispatcher.specs.Broken.{WholeOrBroken};
+ghost use Rattle.dispatcher.specs.Places.{WentOn, WentOrBroke};
+ghost use Rattle.dispatcher.specs.Crew.{IsCrew};
+
+use crate::crew::{ReadyList, wake_each, work_all};
+use crate::finish::{Finish, finish_all, settled};
+use crate::place::Place;
+use crate::ran::Ran;
+use crate::taken::{Taken, place_all, take_apart};
+use crate::waking::Waking;
+use elem_core::why::NoMemory;
+use rounds::crossing::Crossing;
+use std::alloc::Global;
+use std::sync::Wait;
+use std::thread::Threads;
+use turn_table::turns::{TurnSeat, Turns};
+use unit_budget::budget::{Budget, BudgetSeat};
+
+// All the memory that a run takes before bodies move, but the turn table.
+struct Room<B: Waking> {
+    purse: Budget,
+    first: BudgetSeat,
+    list: ReadyList,
+    places: Vec<Place<B>>,
+    back: Vec<Place<B>>,
+    bodies: Vec<B>,
+}
+
+impl<B: Waking> Room<B> {
+    fn of(alloc: Global, count: u32, workers: u32, budget: u32) -> Result<Room<B>, NoMemory>
+        requires some { 0 < count }
+        requires few { count < 4294967295 }
+        ensures seat { IfOk result (λ r. (seat_id r.first ≡ budget_id r.purse) × IsIdle r.first × (parts_of r.first ≡ count + 1) × (used_by r.first ≡ 0) × (limit_of r.first ≡ budget)) }
+        ensures limit { IfOk result (λ r. (r.purse.limit ≡ budget) × (r.list.count ≡ count)) }
+        ensures places { IfOk result (λ r. (r.places.items ≡ []) × (count ≤ vec_capacity r.places)) }
+        ensures back { IfOk result (λ r. (r.back.items ≡ []) × (count ≤ vec_capacity r.back)) }
+        ensures bodies { IfOk result (λ r. (r.bodies.items ≡ []) × (count ≤ vec_capacity r.bodies)) }
+    {
+        let (purse, first) = Budget::new(alloc, budget as u64, count + 1)?;
+        Ok(Room {
+            purse,
+            first,
+            list: ReadyList::new(alloc, count, workers)?,
+            places: Vec::with_capacity(alloc, count as usize)?,
+            back: Vec::with_capacity(alloc, count as usize)?,
+            bodies: Vec::with_capacity(alloc, count as usize)?,
+        })
+    }
+}
+
+// All islands are woken, the workers take turns until they find none, and the table is closed.
+fn take_turns<B: Waking + Send, R: Threads + Wait + Sync>(
+    rt: &R,
+    alloc: Global,
+    turns: Turns<Place<B>>,
+    mut seats: Vec<TurnSeat>,
+    purse: &Budget,
+    list: &ReadyList,
+    back: Vec<Place<B>>,
+) -> Vec<Place<B>>
+    requires crew { IsCrew turns (budget_id purse.now) purse.now.limit list.now.count }
+    requires few { purse.now.limit ≤ 4000000000 }
+    requires some { (0 < list.now.count) × (1 < vec_len seats) }
+    requires seats { (vec_len seats ≡ seats_of turns) × All (IsFree turns) seats.items }
+    requires back { (back.items ≡ []) × (list.now.count ≤ vec_capacity back) }
+    ensures { result.items ≡ handed_in turns }
+{
+    let mut mine = seats.pop().unwrap();
+    wake_each(rt, &turns, list, &mut mine);
+    work_all(rt, alloc, &turns, purse, list, seats.as_mut_slice());
+    seats.push_reserved(mine);
+    turns.close(seats, back)
+}
+
+// The workers' part of a run. Where memory was wanting at first no turn was taken.
+fn run_workers<B: Waking + Send, R: Threads + Wait + Sync>(
+    rt: &R,
+    alloc: Global,
+    bodies: Vec<B>,
+    workers: u32,
+    budget: u32,
+) -> Taken<B>
+    requires workers { (0 < workers) × (workers ≤ 64) }
+    requires few { (0 < vec_len bodies) × (vec_len bodies < 4294967295) }
+    requires budget { budget ≤ 4000000000 }
+    requires keeps { AllOf B.keeps bodies.items }
+    requires unspent { AllOf (λ b. B.spent b ≡ 0) bodies.items }
+    ensures each { EachOf (WentOrBroke B.keeps B.goes B.breaks) bodies.items result.bodies.items }
+    ensures whole { result.lack ≡ false → EachOf (WentOn B.keeps B.goes) bodies.items result.bodies.items }
+    ensures spent { result.lack ≡ false → result.used ≡ sum_by B.spent result.bodies.items }
+    ensures within { result.used ≤ budget }
+{
+    let count = bodies.len() as u32;
+    let Ok(room) = Room::of(alloc, count, workers, budget) else {
+        return Taken {
+            bodies,
+            used: 0,
+            lack: true,
+        };
+    };
+    let Room {
+        purse,
+        mut first,
+        list,
+        places,
+        back,
+        bodies: room,
+    } = room;
+    let places = place_all(&purse, &mut first, bodies, places);
+    match Turns::new(alloc, places, workers + 1) {
+        Ok((turns, seats)) => {
+            let places = take_turns(rt, alloc, turns, seats, &purse, &list, back);
+            take_apart(&purse, first, places, room, false)
+        }
+        Err(places) => take_apart(&purse, first, places, room, true),
+    }
+}
+
+// A run of as many bodies as a table has places for.
+fn run_few<B: Waking + Send, R: Threads + Wait + Sync>(
+    rt: &R,
+    alloc: Global,
+    bodies: Vec<B>,
+    lanes: &[Crossing],
+    workers: u32,
+    budget: u32,
+) -> Result<Finish<B>, Vec<B>>
+    requires workers { (0 < workers) × (workers ≤ 64) }
+    requires few { vec_len bodies < 4294967295 }
+    requires budget { budget ≤ 4000000000 }
+    requires keeps { AllOf B.keeps bodies.items }
+    requires unspent { AllOf (λ b. B.spent b ≡ 0) bodies.items }
+    requires lanes { AreCrossings B.may_meet bodies.items lanes.now }
+    ensures keeps { IfOk result (λ f. AllOf B.keeps f.bodies.items) }
+    ensures goes { IfOk result (λ f. EachOf B.goes bodies.items f.bodies.items) }
+    ensures joined { IfOk result (λ f. AllJoined B.joined f.bodies.items lanes.now) }
+    ensures spent { IfOk result (λ f. f.used ≡ sum_by B.spent f.bodies.items) }
+    ensures within { IfOk result (λ f. f.used ≤ budget) }
+    ensures rest { IfOk result (λ f. f.more ≡ false → AtRest B.pending B.joined f.bodies.items lanes.now) }
+    ensures more { IfOk result (λ f. f.more ≡ true → (f.used ≡ budget) × ((k : ℕ) × FirstEvent B.pending B.joined f.bodies.items lanes.now k)) }
+    ensures ran { IfOk result (λ f. (f.ran.workers ≡ workers) × (f.ran.islands ≡ vec_len bodies) × (f.ran.used ≡ f.used) × (f.ran.more ≡ f.more)) }
+    ensures broke { IfErr result (λ bs. WholeOrBroken B.keeps B.goes B.breaks bodies.items bs.items) }
+    ensures broke_joined { IfErr result (λ bs. AllJoined B.joined bs.items lanes.now) }
+{
+    let islands = bodies.len() as u32;
+    if islands == 0 {
+        return Ok(Finish {
+            bodies,
+            used: 0,
+            more: false,
+            ran: Ran {
+                workers,
+                islands: 0,
+                used: 0,
+                more: false,
+            },
+        });
+    }
+    let Taken { bodies, used, lack } = run_workers(rt, alloc, bodies, workers, budget);
+    if lack {
+        return Err(settled(bodies, lanes));
+    }
+    finish_all(alloc, bodies, lanes, workers, islands, used, budget)
+}
+
+// The greatest number of bodies of a run.
+const MOST_BODIES: usize = 4294967294;
+
+/// Runs bodies by workers until none has an event or `budget` units are used: each worker takes a body that is ready, and gives it a
+/// turn of at most 1000 units, until it finds none; what is left the caller's thread does, once the ends of all lanes were brought
+/// together. Where no thread can be made the caller's thread works. Where memory was wanting all bodies come back, in order, each whole
+/// or broken off in a turn, and the ends of all lanes are brought together too. That their number is out of 32 bits is want of memory.
+/// Rule: own.
+pub fn run<B: Waking + Send, R: Threads + Wait + Sync>(
+    rt: &R,
+    alloc: Global,
+    bodies: Vec<B>,
+    lanes: &[Crossing],
+    workers: u32,
+    budget: u32,
+) -> Result<Finish<B>, Vec<B>>
+    requires workers { (0 < workers) × (workers ≤ 64) }
+    requires budget { budget ≤ 4000000000 }
+    requires keeps { AllOf B.keeps bodies.items }
+    requires unspent { AllOf (λ b. B.spent b ≡ 0) bodies.items }
+    requires lanes { AreCrossings B.may_meet bodies.items lanes.now }
+    ensures keeps { IfOk result (λ f. AllOf B.keeps f.bodies.items) }
+    ensures goes { IfOk result (λ f. EachOf B.goes bodies.items f.bodies.items) }
+    ensures joined { IfOk result (λ f. AllJoined B.joined f.bodies.items lanes.now) }
+    ensures spent { IfOk result (λ f. f.used ≡ sum_by B.spent f.bodies.items) }
+    ensures within { IfOk result (λ f. f.used ≤ budget) }
+    ensures rest { IfOk result (λ f. f.more ≡ false → AtRest B.pending B.joined f.bodies.items lanes.now) }
+    ensures more { IfOk result (λ f. f.more ≡ true → (f.used ≡ budget) × ((k : ℕ) × FirstEvent B.pending B.joined f.bodies.items lanes.now k)) }
+    ensures ran { IfOk result (λ f. (f.ran.workers ≡ workers) × (f.ran.islands ≡ vec_len bodies) × (f.ran.used ≡ f.used) × (f.ran.more ≡ f.more)) }
+    ensures broke { IfErr result (λ bs. WholeOrBroken B.keeps B.goes B.breaks bodies.items bs.items) }
+    ensures broke_joined { IfErr result (λ bs. AllJoined B.joined bs.items lanes.now) }
+{
+    if bodies.len() > MOST_BODIES {
+        Err(settled(bodies, lanes))
+    } else {
+        run_few(rt, alloc, bodies, lanes, workers, budget)
+    }
+}

@@ -1,0 +1,90 @@
+// Bodies are put in places, and the places taken apart behind the workers.
+ghost use Rattle.std.specs.Prelude.{◌≡◌, ◌+◌, ◌≤◌, [], ℕ, false, map, vec_len, vec_capacity, IfOk};
+ghost use Rattle.std.specs.List.{All, sum_by};
+ghost use Rattle.unit_budget.specs.Public.{budget_id, seat_id, used_by, parts_of, limit_of, IsIdle};
+ghost use Rattle.rounds.specs.Bodies.{AllOf, EachOf};
+ghost use Rattle.dispatcher.specs.Places.{Paid, Belongs, WentOn, WentOrBroke, start_of};
+
+use crate::place::{Parts, Place};
+use rounds::turning::Turning;
+use unit_budget::budget::{Budget, BudgetSeat};
+
+/// What the workers left: the bodies in order, the units that all used, and whether memory was wanting.
+pub struct Taken<B> {
+    /// The bodies, in order.
+    pub bodies: Vec<B>,
+    /// The units that all turns used.
+    pub used: u32,
+    /// Whether memory was wanting.
+    pub lack: bool,
+}
+
+// Whether one of them holds.
+fn either(a: bool, b: bool) -> bool
+    ensures none { result ≡ false → (a ≡ false) × (b ≡ false) }
+{
+    a || b
+}
+
+/// Each body with a seat of its own, in the room that is handed in.
+pub fn place_all<B: Turning>(
+    purse: &Budget,
+    first: &mut BudgetSeat,
+    bodies: Vec<B>,
+    mut places: Vec<Place<B>>,
+) -> Vec<Place<B>>
+    requires seat { (seat_id first.old ≡ budget_id purse.now) × IsIdle first.old × (parts_of first.old ≡ vec_len bodies + 1) × (used_by first.old ≡ 0) × (limit_of first.old ≡ purse.now.limit) }
+    requires room { (places.items ≡ []) × (vec_len bodies ≤ vec_capacity places) }
+    requires keeps { AllOf B.keeps bodies.items }
+    requires unspent { AllOf (λ b. B.spent b ≡ 0) bodies.items }
+    ensures seat { (seat_id first.new ≡ budget_id purse.now) × IsIdle first.new × (parts_of first.new ≡ 1) × (used_by first.new ≡ 0) × (limit_of first.new ≡ purse.now.limit) }
+    ensures starts { map start_of result.items ≡ bodies.items }
+    ensures belong { All (Belongs (budget_id purse.now) purse.now.limit) result.items }
+    ensures len { vec_len result ≡ vec_len bodies }
+{
+    for body in bodies {
+        let seat = purse.split(first);
+        places.push_reserved(Place::new(body, seat));
+    }
+    places
+}
+
+/// The bodies of places, in the room that is handed in, and the units that all of them used.
+pub fn take_apart<B: Turning>(
+    purse: &Budget,
+    mut first: BudgetSeat,
+    places: Vec<Place<B>>,
+    room: Vec<B>,
+    refused: bool,
+) -> Taken<B>
+    requires seat { (seat_id first ≡ budget_id purse.now) × IsIdle first × (parts_of first ≡ 1) × (used_by first ≡ 0) × (limit_of first ≡ purse.now.limit) }
+    requires limit { purse.now.limit ≤ 4000000000 }
+    requires belong { All (Belongs (budget_id purse.now) purse.now.limit) places.items }
+    requires room { (room.items ≡ []) × (vec_len places ≤ vec_capacity room) }
+    ensures each { EachOf (WentOrBroke B.keeps B.goes B.breaks) (map start_of places.items) result.bodies.items }
+    ensures whole { result.lack ≡ false → EachOf (WentOn B.keeps B.goes) (map start_of places.items) result.bodies.items }
+    ensures spent { result.lack ≡ false → result.used ≡ sum_by B.spent result.bodies.items }
+    ensures within { result.used ≤ purse.now.limit }
+{
+    let mut bodies = room;
+    let mut total = 0u32;
+    let mut lack = refused;
+    for place in places {
+        let Parts {
+            body,
+            seat,
+            used,
+            broken,
+        } = place.into_parts();
+        purse.join(&mut first, seat);
+        purse.look(&mut first);
+        total += used;
+        lack = either(lack, broken);
+        bodies.push_reserved(body);
+    }
+    Taken {
+        bodies,
+        used: total,
+        lack,
+    }
+}

@@ -6,3 +6,4 @@ pub mod Acting
 pub mod Looking
 pub mod Wakes
 pub mod Telling
+pub mod Sending

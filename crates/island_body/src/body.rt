@@ -445,7 +445,7 @@ impl<S: Source, D: Drain> Body<S, D> {
     }
 
     /// The islands that the last turn sent an item, demand or a cancel to, each once. It takes no memory.
-    pub fn wakes(&self) -> &[u32]
+    pub fn woken(&self) -> &[u32]
         ensures { result.now ≡ self.now.peers.woken.queue }
     {
         self.peers.woken()

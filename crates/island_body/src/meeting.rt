@@ -6,6 +6,7 @@ ghost use Rattle.island_body.specs.Waking as waking;
 ghost use Rattle.std.specs.Prelude.{◌≡◌, refl};
 
 use crate::body::Body;
+use dispatcher::waking::Waking;
 use elem_core::why::NoMemory;
 use lane_core::room::Waits;
 use lane_meet::pairs::Meet;
@@ -100,4 +101,10 @@ impl<S: Source, D: Drain> Turning for Body<S, D> {
     ghost idle_demand = { waking.idle_demand };
 
     ghost idle_event = { waking.idle_event };
+}
+
+impl<S: Source, D: Drain> Waking for Body<S, D> {
+    fn wakes(&self) -> &[u32] {
+        self.woken()
+    }
 }

@@ -1,5 +1,5 @@
 -- The bodies of a blueprint's islands: how they were made, the lanes between them, and the nets of their islands.
-use Rattle.std.specs.Prelude.{◌≡◌, ℕ, zero, suc, List, [], ◌∷◌, Option, Some, None, length, map, slice_get, slice_index}
+use Rattle.std.specs.Prelude.{◌≡◌, ℕ, List, [], Option, Some, None, length, map, slice_get, slice_index}
 use Rattle.stream_io.specs.State.{SourceState, DrainState}
 use Rattle.stream_model.specs.Graph.{Graph, Wire}
 use Rattle.fused_net.specs.Laws.{Settled, AllKept}
@@ -7,7 +7,6 @@ use Rattle.fused_net.specs.Net.{Net}
 use Rattle.nodes.specs.Nodes.{node_row, node_law, node_asking, node_moves, KeepsNode}
 use Rattle.nodes.specs.declared.node.Node.{Node}
 use Rattle.interpreter.specs.Boundary.{way_in, way_out}
-use Rattle.interpreter.specs.Island.{Kept}
 use Rattle.interpreter.specs.Parts.{ends_of, AllBecome}
 use Rattle.interpreter.specs.declared.parts.Seated.{Seated}
 use Rattle.lane_core.specs.Ends.{asked, in_size}
@@ -32,12 +31,6 @@ net_in (Some b) = b.island.net
 -- the nets of bodies, by their places
 abbrev pub net_of : {S D : Type 0} → List (Body S D) → ℕ → Net (Node S D)
 net_of bodies k = net_in (slice_get bodies k)
-
--- the body at a place with its island as it was at another moment
-abbrev pub with_island : {S D : Type 0} → List (Body S D) → ℕ → Kept S D → List (Body S D)
-with_island [] at i = []
-with_island (b ∷ bs) zero i = record b { island = i } ∷ bs
-with_island (b ∷ bs) (suc at) i = b ∷ with_island bs at i
 
 -- wire u is a lane that comes into island k, or goes out of it
 pub record ComesInto (homes : List ℕ) (ws : List Wire) (k u : ℕ) : Type 0 where
@@ -104,10 +97,17 @@ module _ {S D : Type 0} where
     abbrev pub AllSettled : List (Body S D) → Type 0
     AllSettled bodies = (k : ℕ) → Settled node_row (node_law sources drains) node_asking node_moves (net_of bodies k)
 
-    -- Memory was wanting in a turn of the body at this place. At a last moment between two events its island was this one: it had gone on,
-    -- its laws held and the ends of its lanes stood; since then each of its nodes has kept what outlives that.
-    pub record IsLastOf (begun now : List (Body S D)) (at : ℕ) (i : Kept S D) : Type 0 where
-      pub goes : (a : Body S D) → slice_get begun at ≡ Some a → IslandGoes a.island i
-      pub settled : Settled node_row (node_law sources drains) node_asking node_moves i.net
-      pub stand : (b : Body S D) → slice_get now at ≡ Some b → AllStand i b.ins.items b.outs.items
-      pub kept : (b : Body S D) → slice_get now at ≡ Some b → AllKept (KeepsNode sources drains) i.net.nodes b.island.net.nodes
+    -- A body as it began, as it is now, and as it was at the last moment between two events, with the ends of its lanes as they are now:
+    -- its island had gone on, its laws held, and these ends stood. Since then each of its nodes has kept what outlives want of memory.
+    pub record IsLastMoment (begun now then : Body S D) : Type 0 where
+      pub goes : IslandGoes begun.island then.island
+      pub settled : Settled node_row (node_law sources drains) node_asking node_moves then.island.net
+      pub stand : AllStand then.island then.ins.items then.outs.items
+      pub ins : then.ins ≡ now.ins
+      pub outs : then.outs ≡ now.outs
+      pub kept : AllKept (KeepsNode sources drains) then.island.net.nodes now.island.net.nodes
+
+    -- such is each of them
+    pub record AreLastOf (begun now then : List (Body S D)) : Type 0 where
+      pub count : length then ≡ length now
+      pub each : (k : ℕ) (a b c : Body S D) → slice_get begun k ≡ Some a → slice_get now k ≡ Some b → slice_get then k ≡ Some c → IsLastMoment a b c

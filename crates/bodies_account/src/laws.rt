@@ -16,14 +16,15 @@ ghost use Rattle.interpreter.specs.declared.parts.Seated.{Seated};
 ghost use Rattle.run_account.specs.Pictures.{counts_of};
 ghost use Rattle.run_account.specs.Seats.{Covers, LanesKeep, LanesRest, joined};
 ghost use Rattle.run_account.specs.Units.{Owned, LanesCost, over_lanes};
-ghost use Rattle.rounds.specs.Bodies.{AllOf, EachOf, BrokeOff};
+ghost use Rattle.rounds.specs.Bodies.{AllOf, EachOf};
 ghost use Rattle.rounds.specs.Crossings.{AllJoined, AtRest};
 ghost use Rattle.rounds.specs.declared.crossing.Crossing.{Crossing};
+ghost use Rattle.dispatcher.specs.Broken.{WholeOrBroken};
 ghost use Rattle.island_seats.specs.Islands.{seats_of, seats_in, links_in, AreSeated, AreNets};
 ghost use Rattle.island_body.specs.Keeping.{is_pending, BodyKeeps, BodyGoes, BodyBreaks};
 ghost use Rattle.island_body.specs.Meeting.{BodiesJoined};
 ghost use Rattle.island_body.specs.declared.body.Body.{Body};
-ghost use Rattle.bodies_account.specs.Bodies.{net_of, with_island, AreLanes, AskedAre, AreBodiesOf, AllSettled, IsLastOf};
+ghost use Rattle.bodies_account.specs.Bodies.{net_of, AreLanes, AskedAre, AreBodiesOf, AllSettled, AreLastOf};
 
 use stream_io::outside::{Drain, Source};
 
@@ -80,28 +81,29 @@ pub fn bodies_are_paid<S: Source, D: Drain>()
     ensures asks { (count : ℕ) (now : List (Body S D)) → length now ≡ count → AllOf (BodyKeeps S.state D.state) now → sum_below (λ b. all_asks (net_of now b)) count ≤ sum_by (λ b. b.spent) now }
 {}
 
-/// Where memory was wanting in a turn of one body, its island had a last moment between two events (`last`). With the island as it was
-/// then, the nets of all bodies cover the graph of the blueprint (`covers`, `owned`, `nets`, `began`), each net is between two events (`settled`), and
-/// their lanes keep what an account wants (`lanes`). Since then each node has kept what outlives want of memory (`kept`). Rule: own.
+/// Where memory was wanting, each body that broke off had a last moment between two events, and each other one is at such a moment
+/// (`last`). With all islands as they were then, the nets of the bodies cover the graph of the blueprint (`covers`, `owned`, `nets`, `began`), each
+/// net is between two events (`settled`), and their lanes keep what an account wants (`lanes`). Since then each node has kept what outlives
+/// want of memory (`kept`). Rule: own.
 pub fn broken_bodies_cover<S: Source, D: Drain>()
-    ensures last { (begun now : List (Body S D)) → (broke : BrokeOff (BodyKeeps S.state D.state) BodyGoes (BodyBreaks S.state D.state) begun now) → (i : Kept S D) × IsLastOf S.state D.state begun now broke.at i }
-    ensures covers { (g : Graph) (homes : List ℕ) (count : ℕ) (ws : List Wire) (nodes : List (Seated S D)) (crossings : List Crossing) (begun now : List (Body S D)) (i : Kept S D) → AreBodiesOf S.state D.state g homes count ws nodes crossings begun
-        → (broke : BrokeOff (BodyKeeps S.state D.state) BodyGoes (BodyBreaks S.state D.state) begun now) → IsLastOf S.state D.state begun now broke.at i
-        → Covers g (net_of (with_island now broke.at i)) (seats_of homes ws) }
-    ensures owned { (g : Graph) (homes : List ℕ) (count : ℕ) (ws : List Wire) (nodes : List (Seated S D)) (crossings : List Crossing) (begun now : List (Body S D)) (i : Kept S D) → AreBodiesOf S.state D.state g homes count ws nodes crossings begun
-        → (broke : BrokeOff (BodyKeeps S.state D.state) BodyGoes (BodyBreaks S.state D.state) begun now) → IsLastOf S.state D.state begun now broke.at i
-        → Owned g (net_of (with_island now broke.at i)) (seats_of homes ws) count }
-    ensures nets { (g : Graph) (homes : List ℕ) (count : ℕ) (ws : List Wire) (nodes : List (Seated S D)) (crossings : List Crossing) (begun now : List (Body S D)) (i : Kept S D) → AreBodiesOf S.state D.state g homes count ws nodes crossings begun
-        → (broke : BrokeOff (BodyKeeps S.state D.state) BodyGoes (BodyBreaks S.state D.state) begun now) → IsLastOf S.state D.state begun now broke.at i
-        → AreNets homes ws nodes count (net_of (with_island now broke.at i)) }
-    ensures began { (g : Graph) (homes : List ℕ) (count : ℕ) (ws : List Wire) (nodes : List (Seated S D)) (crossings : List Crossing) (begun now : List (Body S D)) (i : Kept S D) (all : ℕ → ℕ) → AreBodiesOf S.state D.state g homes count ws nodes crossings begun
-        → (broke : BrokeOff (BodyKeeps S.state D.state) BodyGoes (BodyBreaks S.state D.state) begun now) → IsLastOf S.state D.state begun now broke.at i
-        → (firsts : List (Node S D)) × (AllBecome nodes firsts × ((k : ℕ) → k < length g.nodes → (joined (net_of (with_island now broke.at i)) (seats_of homes ws) all).firsts k ≡ slice_get firsts k)) }
-    ensures settled { (begun now : List (Body S D)) (i : Kept S D) → (broke : BrokeOff (BodyKeeps S.state D.state) BodyGoes (BodyBreaks S.state D.state) begun now) → IsLastOf S.state D.state begun now broke.at i
-        → AllSettled S.state D.state (with_island now broke.at i) }
-    ensures lanes { (g : Graph) (homes : List ℕ) (count : ℕ) (ws : List Wire) (nodes : List (Seated S D)) (crossings : List Crossing) (begun now : List (Body S D)) (i : Kept S D) (all : ℕ → ℕ) → AreBodiesOf S.state D.state g homes count ws nodes crossings begun
-        → (broke : BrokeOff (BodyKeeps S.state D.state) BodyGoes (BodyBreaks S.state D.state) begun now) → IsLastOf S.state D.state begun now broke.at i → AskedAre now crossings all → AllJoined BodiesJoined now crossings
-        → LanesKeep g (net_of (with_island now broke.at i)) (seats_of homes ws) all }
-    ensures kept { (begun now : List (Body S D)) (i : Kept S D) → (broke : BrokeOff (BodyKeeps S.state D.state) BodyGoes (BodyBreaks S.state D.state) begun now) → IsLastOf S.state D.state begun now broke.at i
-        → (k : ℕ) → AllKept (KeepsNode S.state D.state) (net_of (with_island now broke.at i) k).nodes (net_of now k).nodes }
+    ensures last { (begun now : List (Body S D)) → WholeOrBroken (BodyKeeps S.state D.state) BodyGoes (BodyBreaks S.state D.state) begun now → (then : List (Body S D)) × AreLastOf S.state D.state begun now then }
+    ensures covers { (g : Graph) (homes : List ℕ) (count : ℕ) (ws : List Wire) (nodes : List (Seated S D)) (crossings : List Crossing) (begun now then : List (Body S D)) → AreBodiesOf S.state D.state g homes count ws nodes crossings begun
+        → WholeOrBroken (BodyKeeps S.state D.state) BodyGoes (BodyBreaks S.state D.state) begun now → AreLastOf S.state D.state begun now then
+        → Covers g (net_of then) (seats_of homes ws) }
+    ensures owned { (g : Graph) (homes : List ℕ) (count : ℕ) (ws : List Wire) (nodes : List (Seated S D)) (crossings : List Crossing) (begun now then : List (Body S D)) → AreBodiesOf S.state D.state g homes count ws nodes crossings begun
+        → WholeOrBroken (BodyKeeps S.state D.state) BodyGoes (BodyBreaks S.state D.state) begun now → AreLastOf S.state D.state begun now then
+        → Owned g (net_of then) (seats_of homes ws) count }
+    ensures nets { (g : Graph) (homes : List ℕ) (count : ℕ) (ws : List Wire) (nodes : List (Seated S D)) (crossings : List Crossing) (begun now then : List (Body S D)) → AreBodiesOf S.state D.state g homes count ws nodes crossings begun
+        → WholeOrBroken (BodyKeeps S.state D.state) BodyGoes (BodyBreaks S.state D.state) begun now → AreLastOf S.state D.state begun now then
+        → AreNets homes ws nodes count (net_of then) }
+    ensures began { (g : Graph) (homes : List ℕ) (count : ℕ) (ws : List Wire) (nodes : List (Seated S D)) (crossings : List Crossing) (begun now then : List (Body S D)) (all : ℕ → ℕ) → AreBodiesOf S.state D.state g homes count ws nodes crossings begun
+        → WholeOrBroken (BodyKeeps S.state D.state) BodyGoes (BodyBreaks S.state D.state) begun now → AreLastOf S.state D.state begun now then
+        → (firsts : List (Node S D)) × (AllBecome nodes firsts × ((k : ℕ) → k < length g.nodes → (joined (net_of then) (seats_of homes ws) all).firsts k ≡ slice_get firsts k)) }
+    ensures settled { (begun now then : List (Body S D)) → WholeOrBroken (BodyKeeps S.state D.state) BodyGoes (BodyBreaks S.state D.state) begun now → AreLastOf S.state D.state begun now then
+        → AllSettled S.state D.state then }
+    ensures lanes { (g : Graph) (homes : List ℕ) (count : ℕ) (ws : List Wire) (nodes : List (Seated S D)) (crossings : List Crossing) (begun now then : List (Body S D)) (all : ℕ → ℕ) → AreBodiesOf S.state D.state g homes count ws nodes crossings begun
+        → WholeOrBroken (BodyKeeps S.state D.state) BodyGoes (BodyBreaks S.state D.state) begun now → AreLastOf S.state D.state begun now then → AskedAre now crossings all → AllJoined BodiesJoined now crossings
+        → LanesKeep g (net_of then) (seats_of homes ws) all }
+    ensures kept { (begun now then : List (Body S D)) → WholeOrBroken (BodyKeeps S.state D.state) BodyGoes (BodyBreaks S.state D.state) begun now → AreLastOf S.state D.state begun now then
+        → (k : ℕ) → AllKept (KeepsNode S.state D.state) (net_of then k).nodes (net_of now k).nodes }
 {}

@@ -1,15 +1,14 @@
 -- Bodies that go on keep the lanes of their ends, where they lie.
-use Rattle.std.specs.Prelude.{slice_get}
-use Rattle.std.proofs.Common.{◌≡◌, ◌<◌, List, length, sym, ap, ◌∙◌, ⊎_elim, arith}
-use Rattle.std.proofs.lemmas.Bool.{cases_eq}
+use Rattle.std.proofs.Common.{◌≡◌, ◌⊎◌, inl, inr, ◌<◌, List, length, ◌∙◌, arith}
 use Rattle.std.proofs.lemmas.Option.{slice_get_within}
 use Rattle.stream_io.specs.State.{SourceState, DrainState}
 use Rattle.traversal.specs.declared.plan.LanePlan.{LanePlan}
 use Rattle.island_parts.proofs.Wiring.{there}
 use Rattle.island_input.specs.declared.boundary.IslandInput.{IslandInput}
-use Rattle.rounds.specs.Bodies.{EachOf, BrokeOff}
+use Rattle.rounds.specs.Bodies.{EachOf}
 use Rattle.rounds.specs.Crossings.{AreCrossings}
 use Rattle.rounds.specs.declared.crossing.Crossing.{Crossing}
+use Rattle.dispatcher.specs.Broken.{WholeOrBroken}
 use Rattle.island_body.specs.Keeping.{BodyKeeps, BodyGoes, BodyBreaks}
 use Rattle.island_body.specs.Meeting.{BodiesMayMeet}
 use Rattle.island_body.specs.declared.body.Body.{Body}
@@ -25,15 +24,12 @@ module _ {S D : Type 0} where
   pub went : (begun now : List (Body S D)) → EachOf BodyGoes begun now → EachOf HaveSameLanes begun now
   went begun now e = record { count = e.count; each = λ k a b old new. (e.each k a b old new).lanes }
 
-  pub broke : (sources : S → SourceState) (drains : D → DrainState) (begun now : List (Body S D)) → BrokeOff (BodyKeeps sources drains) BodyGoes (BodyBreaks sources drains) begun now → EachOf HaveSameLanes begun now
-  broke sources drains begun now e = record {
-    count = e.count;
-    each = λ k a b old new.
-        ⊎_elim
-        (λ (same : k ≡ e.at). (e.broke a b (ap (slice_get begun) (sym same) ∙ old) (ap (slice_get now) (sym same) ∙ new)).lanes)
-        (λ (other : k ≡ e.at → ⊥). (e.others_go k a b other old new).lanes)
-        (cases_eq k e.at);
-  }
+  same_lanes : (sources : S → SourceState) (drains : D → DrainState) (a b : Body S D) → ((BodyGoes a b) × (BodyKeeps sources drains b)) ⊎ (BodyBreaks sources drains a b) → HaveSameLanes a b
+  same_lanes sources drains a b (inl whole) = whole.0.lanes
+  same_lanes sources drains a b (inr broken) = broken.lanes
+
+  pub broke : (sources : S → SourceState) (drains : D → DrainState) (begun now : List (Body S D)) → WholeOrBroken (BodyKeeps sources drains) BodyGoes (BodyBreaks sources drains) begun now → EachOf HaveSameLanes begun now
+  broke sources drains begun now e = record { count = e.count; each = λ k a b old new. same_lanes sources drains a b (e.each k a b old new) }
 
   module _ (begun now : List (Body S D)) (e : EachOf HaveSameLanes begun now) where
     pub still_aligned : (lanes : List LanePlan) (crossings : List Crossing) → AreAligned lanes crossings begun → AreAligned lanes crossings now

@@ -5,8 +5,9 @@ ghost use Rattle.std.specs.declared.alloc.Global.{Global};
 ghost use Rattle.blue_core.specs.declared.blueprint.Blueprint.{Blueprint};
 ghost use Rattle.blue_check.specs.Wires.{blueprint_wires};
 ghost use Rattle.interpreter.specs.Island.{Kept};
-ghost use Rattle.rounds.specs.Bodies.{AllOf, EachOf, BrokeOff};
+ghost use Rattle.rounds.specs.Bodies.{AllOf, EachOf};
 ghost use Rattle.rounds.specs.declared.crossing.Crossing.{Crossing};
+ghost use Rattle.dispatcher.specs.Broken.{WholeOrBroken};
 ghost use Rattle.traversal.specs.declared.plan.LanePlan.{LanePlan};
 ghost use Rattle.rounds.specs.Crossings.{AreCrossings};
 ghost use Rattle.lane_ends.specs.Ends.{AreAllEnds};
@@ -49,11 +50,11 @@ pub fn made_bodies_begin_their_blueprint<S: Source, D: Drain>()
     ensures aligned { (f : Filled S D) (started : List (Kept S D)) (e : AllEnds) (bodies : List (Body S D)) → length started ≡ length f.islands.items → length f.islands.items ≡ f.count → AreAllEnds f.lanes.items f.count e → AreAllBodies S.state D.state started e.ins.items e.outs.items bodies → AreAligned f.lanes.items e.crossings.items bodies }
 {}
 
-/// Bodies that go on keep the lanes of their ends (`went`), also one that broke off (`broke`). So at the crossing of each lane still lies
+/// Bodies that go on keep the lanes of their ends (`went`), also where some broke off (`broke`). So at the crossing of each lane still lies
 /// the input end of its wire (`aligned`), and it is there (`lie`). Rule: own.
 pub fn ends_stay_at_their_crossings<S: Source, D: Drain>()
     ensures went { (begun now : List (Body S D)) → EachOf BodyGoes begun now → EachOf HaveSameLanes begun now }
-    ensures broke { (begun now : List (Body S D)) → BrokeOff (BodyKeeps S.state D.state) BodyGoes (BodyBreaks S.state D.state) begun now → EachOf HaveSameLanes begun now }
+    ensures broke { (begun now : List (Body S D)) → WholeOrBroken (BodyKeeps S.state D.state) BodyGoes (BodyBreaks S.state D.state) begun now → EachOf HaveSameLanes begun now }
     ensures aligned { (lanes : List LanePlan) (crossings : List Crossing) (begun now : List (Body S D)) → AreAligned lanes crossings begun → EachOf HaveSameLanes begun now → AreAligned lanes crossings now }
     ensures lie { (crossings : List Crossing) (begun now : List (Body S D)) → AreCrossings BodiesMayMeet begun crossings → EachOf HaveSameLanes begun now → LieThere now crossings }
 {}

@@ -10,21 +10,21 @@ ghost use Rattle.stream_picture.specs.Shape.{count_needed};
 ghost use Rattle.fused_net.specs.Laws.{AllKept};
 ghost use Rattle.nodes.specs.Nodes.{KeepsNode};
 ghost use Rattle.nodes.specs.declared.node.Node.{Node};
-ghost use Rattle.interpreter.specs.Island.{Kept};
 ghost use Rattle.interpreter.specs.declared.parts.Seated.{Seated};
 ghost use Rattle.run_account.specs.Account.{Account, IsStill};
 ghost use Rattle.run_account.specs.Pictures.{counts_of};
 ghost use Rattle.run_laws.specs.Runs.{IsRun};
 ghost use Rattle.materializer.specs.Graphs.{graph_of};
 ghost use Rattle.materializer.specs.Seats.{AreSeats};
-ghost use Rattle.rounds.specs.Bodies.{AllOf, EachOf, BrokeOff};
+ghost use Rattle.rounds.specs.Bodies.{AllOf, EachOf};
 ghost use Rattle.rounds.specs.Crossings.{AllJoined, AtRest};
 ghost use Rattle.rounds.specs.declared.crossing.Crossing.{Crossing};
+ghost use Rattle.dispatcher.specs.Broken.{WholeOrBroken};
 ghost use Rattle.island_seats.specs.Islands.{AreBroughtBack};
 ghost use Rattle.island_body.specs.Keeping.{is_pending, BodyKeeps, BodyGoes, BodyBreaks};
 ghost use Rattle.island_body.specs.Meeting.{BodiesJoined};
 ghost use Rattle.island_body.specs.declared.body.Body.{Body};
-ghost use Rattle.bodies_account.specs.Bodies.{net_of, with_island, AskedAre, AreBodiesOf, IsLastOf};
+ghost use Rattle.bodies_account.specs.Bodies.{net_of, AskedAre, AreBodiesOf, AreLastOf};
 ghost use Rattle.bodies_run.specs.Leaving.{account_in, AreLeft, of_lists};
 
 use stream_io::outside::{Drain, Source};
@@ -47,20 +47,20 @@ pub fn bodies_leave_a_run<S: Source, D: Drain>()
         → sum_by (λ b. b.spent) now + length (blueprint_wires b) ≤ count_needed (graph_of b) (counts_of (account_in homes (blueprint_wires b) now all) (graph_of b)) }
 {}
 
-/// Bodies of which one broke off leave a run too, with its island as it was at a last moment between two events (`run`). The nodes of the
-/// islands come back into one list, as they were then and as they are (`back`); the run is of those of the blueprint's nodes as they
-/// were then (`nodes`), and since then each has kept what outlives want of memory (`kept`). Rule: own.
+/// Bodies of which some broke off leave a run too, with their islands as they were at a last moment between two events (`run`). The nodes
+/// of the islands come back into one list, as they were then and as they are (`back`); the run is of those of the blueprint's nodes as
+/// they were then (`nodes`), and since then each has kept what outlives want of memory (`kept`). Rule: own.
 pub fn broken_bodies_leave_a_run<S: Source, D: Drain>()
-    ensures run { (b : Blueprint) (homes : List ℕ) (count : ℕ) (nodes : List (Seated S D)) (crossings : List Crossing) (begun now : List (Body S D)) (i : Kept S D) (all : ℕ → ℕ) (plugs : List PlugHead) (taken : List (List ℕ)) (ss : List S) (ds : List D) → IsFit b plugs taken → AreSeats 0 b.nodes.items ss ds nodes → All (λ s. (S.state s).given ≡ 0) ss
-        → AreBodiesOf S.state D.state (graph_of b) homes count (blueprint_wires b) nodes crossings begun → (broke : BrokeOff (BodyKeeps S.state D.state) BodyGoes (BodyBreaks S.state D.state) begun now) → IsLastOf S.state D.state begun now broke.at i
-        → AskedAre now crossings all → AllJoined BodiesJoined now crossings → IsRun S.state D.state (graph_of b) (account_in homes (blueprint_wires b) (with_island now broke.at i) all) }
-    ensures back { (b : Blueprint) (homes : List ℕ) (count : ℕ) (nodes : List (Seated S D)) (crossings : List Crossing) (begun now : List (Body S D)) (i : Kept S D) → AreBodiesOf S.state D.state (graph_of b) homes count (blueprint_wires b) nodes crossings begun → (broke : BrokeOff (BodyKeeps S.state D.state) BodyGoes (BodyBreaks S.state D.state) begun now) → IsLastOf S.state D.state begun now broke.at i
-        → ((last : List (Node S D)) × ((ends : List (Node S D)) × AreBroughtBack homes count (blueprint_wires b) (λ k. (net_of (with_island now broke.at i) k).nodes) last ends))
+    ensures run { (b : Blueprint) (homes : List ℕ) (count : ℕ) (nodes : List (Seated S D)) (crossings : List Crossing) (begun now then : List (Body S D)) (all : ℕ → ℕ) (plugs : List PlugHead) (taken : List (List ℕ)) (ss : List S) (ds : List D) → IsFit b plugs taken → AreSeats 0 b.nodes.items ss ds nodes → All (λ s. (S.state s).given ≡ 0) ss
+        → AreBodiesOf S.state D.state (graph_of b) homes count (blueprint_wires b) nodes crossings begun → WholeOrBroken (BodyKeeps S.state D.state) BodyGoes (BodyBreaks S.state D.state) begun now → AreLastOf S.state D.state begun now then
+        → AskedAre now crossings all → AllJoined BodiesJoined now crossings → IsRun S.state D.state (graph_of b) (account_in homes (blueprint_wires b) then all) }
+    ensures back { (b : Blueprint) (homes : List ℕ) (count : ℕ) (nodes : List (Seated S D)) (crossings : List Crossing) (begun now then : List (Body S D)) → AreBodiesOf S.state D.state (graph_of b) homes count (blueprint_wires b) nodes crossings begun → WholeOrBroken (BodyKeeps S.state D.state) BodyGoes (BodyBreaks S.state D.state) begun now → AreLastOf S.state D.state begun now then
+        → ((last : List (Node S D)) × ((ends : List (Node S D)) × AreBroughtBack homes count (blueprint_wires b) (λ k. (net_of then k).nodes) last ends))
         × ((broken : List (Node S D)) × ((ends : List (Node S D)) × AreBroughtBack homes count (blueprint_wires b) (λ k. (net_of now k).nodes) broken ends)) }
-    ensures nodes { (b : Blueprint) (homes : List ℕ) (count : ℕ) (nodes : List (Seated S D)) (crossings : List Crossing) (begun now : List (Body S D)) (i : Kept S D) (all : ℕ → ℕ) (last ends : List (Node S D)) → AreBodiesOf S.state D.state (graph_of b) homes count (blueprint_wires b) nodes crossings begun → (broke : BrokeOff (BodyKeeps S.state D.state) BodyGoes (BodyBreaks S.state D.state) begun now) → IsLastOf S.state D.state begun now broke.at i
-        → AreBroughtBack homes count (blueprint_wires b) (λ k. (net_of (with_island now broke.at i) k).nodes) last ends → AreLeft nodes (account_in homes (blueprint_wires b) (with_island now broke.at i) all) last }
-    ensures kept { (homes : List ℕ) (count : ℕ) (b : Blueprint) (begun now : List (Body S D)) (i : Kept S D) (last ends broken later : List (Node S D)) → (broke : BrokeOff (BodyKeeps S.state D.state) BodyGoes (BodyBreaks S.state D.state) begun now) → IsLastOf S.state D.state begun now broke.at i
-        → AreBroughtBack homes count (blueprint_wires b) (λ k. (net_of (with_island now broke.at i) k).nodes) last ends → AreBroughtBack homes count (blueprint_wires b) (λ k. (net_of now k).nodes) broken later
+    ensures nodes { (b : Blueprint) (homes : List ℕ) (count : ℕ) (nodes : List (Seated S D)) (crossings : List Crossing) (begun now then : List (Body S D)) (all : ℕ → ℕ) (last ends : List (Node S D)) → AreBodiesOf S.state D.state (graph_of b) homes count (blueprint_wires b) nodes crossings begun → WholeOrBroken (BodyKeeps S.state D.state) BodyGoes (BodyBreaks S.state D.state) begun now → AreLastOf S.state D.state begun now then
+        → AreBroughtBack homes count (blueprint_wires b) (λ k. (net_of then k).nodes) last ends → AreLeft nodes (account_in homes (blueprint_wires b) then all) last }
+    ensures kept { (homes : List ℕ) (count : ℕ) (b : Blueprint) (begun now then : List (Body S D)) (last ends broken later : List (Node S D)) → WholeOrBroken (BodyKeeps S.state D.state) BodyGoes (BodyBreaks S.state D.state) begun now → AreLastOf S.state D.state begun now then
+        → AreBroughtBack homes count (blueprint_wires b) (λ k. (net_of then k).nodes) last ends → AreBroughtBack homes count (blueprint_wires b) (λ k. (net_of now k).nodes) broken later
         → AllKept (KeepsNode S.state D.state) last broken }
 {}
 

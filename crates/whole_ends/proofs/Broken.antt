@@ -1,4 +1,4 @@
--- What bodies leave of which one broke off are the handles of their blueprint's nodes.
+-- What bodies leave of which some broke off are the handles of their blueprint's nodes.
 use Rattle.std.specs.Prelude.{slice_get, Option, All}
 use Rattle.std.proofs.Common.{◌≡◌, ◌⊎◌, ℕ, zero, suc, ◌<◌, List, [], ◌∷◌, ◌++◌, length, map, Some, None, ap, sym, ◌∙◌, subst}
 use Rattle.std.proofs.lemmas.Option.{slice_get_within}
@@ -9,13 +9,12 @@ use Rattle.fused_net.specs.Laws.{AllKept}
 use Rattle.fused_net.specs.Net.{Net}
 use Rattle.nodes.specs.Nodes.{KeepsNode}
 use Rattle.nodes.specs.declared.node.Node.{Node}
-use Rattle.interpreter.specs.Island.{Kept, readers_of, writers_of}
+use Rattle.interpreter.specs.Island.{readers_of, writers_of}
 use Rattle.interpreter.specs.declared.island.IslandEnd.{IslandEnd}
 use Rattle.interpreter.specs.declared.parts.Seated.{Seated}
 use Rattle.blue_core.specs.declared.blueprint.Node as blue
 use Rattle.materializer.proofs.Placing.{seats_count}
 use Rattle.materializer.specs.Seats.{AreSeats}
-use Rattle.rounds.specs.Bodies.{BrokeOff}
 use Rattle.rounds.specs.declared.crossing.Crossing.{Crossing}
 use Rattle.traversal.specs.Plan.{lanes_from}
 use Rattle.traversal.specs.declared.plan.LanePlan.{LanePlan}
@@ -27,9 +26,10 @@ use Rattle.island_ends.proofs.OfNodes.{readers_are, writers_are}
 use Rattle.island_plans.specs.Ends.{AreEndHomes}
 use Rattle.island_plans.specs.declared.ends.EndList.TheVariants.{Readers, Writers}
 use Rattle.island_seats.specs.Islands.{place_homes, AreNets, AreBroughtBack}
+use Rattle.dispatcher.specs.Broken.{WholeOrBroken}
 use Rattle.island_body.specs.Keeping.{BodyKeeps, BodyGoes, BodyBreaks}
 use Rattle.island_body.specs.declared.body.Body.{Body}
-use Rattle.bodies_account.specs.Bodies.{net_in, net_of, with_island, AreBodiesOf, IsLastOf}
+use Rattle.bodies_account.specs.Bodies.{net_in, net_of, AreBodiesOf, AreLastOf}
 use Rattle.bodies_account.proofs.Breaking.{last_settled, last_kept, last_nets}
 use Rattle.island_bodies.specs.Making.{AreEndsOfBodies}
 use Rattle.whole_ends.proofs.Homes.{homes_kept, none_left, AreLeftOf, own_below, own_each, own_share}
@@ -51,24 +51,21 @@ kept_at keeps (v ∷ xs) (w ∷ ys) h (suc k) x y ex ey = kept_at keeps xs ys h.
 bare_as : {Y Z : Type 0} (o : Option Y) (p : Option Z) → leaves p ≡ leaves o → o ≡ None → p ≡ None
 bare_as o p e n = none_left p (e ∙ ap leaves n)
 
-module _ {S D : Type 0} (sources : S → SourceState) (drains : D → DrainState) (g : Graph) (homes : List ℕ) (count : ℕ) (ws : List Wire) (nodes : List (Seated S D)) (crossings : List Crossing) (begun now : List (Body S D)) (i : Kept S D) (broken later : List (Node S D))
-    (m : AreBodiesOf sources drains g homes count ws nodes crossings begun) (broke : BrokeOff (BodyKeeps sources drains) BodyGoes (BodyBreaks sources drains) begun now) (l : IsLastOf sources drains begun now broke.at i) (r : AreBroughtBack homes count ws (λ k. (net_of now k).nodes) broken later) where
-  abbrev then : List (Body S D)
-  then = with_island now broke.at i
-
+module _ {S D : Type 0} (sources : S → SourceState) (drains : D → DrainState) (g : Graph) (homes : List ℕ) (count : ℕ) (ws : List Wire) (nodes : List (Seated S D)) (crossings : List Crossing) (begun now then : List (Body S D)) (broken later : List (Node S D))
+    (m : AreBodiesOf sources drains g homes count ws nodes crossings begun) (broke : WholeOrBroken (BodyKeeps sources drains) BodyGoes (BodyBreaks sources drains) begun now) (l : AreLastOf sources drains begun now then) (r : AreBroughtBack homes count ws (λ k. (net_of now k).nodes) broken later) where
   abbrev nodes_now : ℕ → List (Node S D)
   nodes_now k = (net_of now k).nodes
 
   nets : AreNets homes ws nodes count (net_of then)
-  nets = last_nets sources drains begun now broke i l g homes count ws nodes crossings m
+  nets = last_nets sources drains begun now broke then l g homes count ws nodes crossings m
 
   -- what is left of a node leaves a handle where it left one as it began
   stays : (k : ℕ) → k < count → (p : ℕ) (first x : Node S D) → slice_get (net_of then k).firsts p ≡ Some first → slice_get (nodes_now k) p ≡ Some x → HandlesAs first x
   stays k lt p first x ef ex =
       let within : p < length (net_of then k).firsts = slice_get_within (net_of then k).firsts p first ef in
       let y = there (net_of then k).nodes p (subst (λ (n : ℕ). p < n) (nets.each_first k lt) within) in
-      let a = settled_stays sources drains then (last_settled sources drains begun now broke i l) k p first y.0 ef y.1 in
-      handles_both first y.0 x a.handles (kept_stays sources drains y.0 x (kept_at (KeepsNode sources drains) (net_of then k).nodes (nodes_now k) (last_kept sources drains begun now broke i l k) p y.0 x y.1 ex))
+      let a = settled_stays sources drains then (last_settled sources drains begun now broke then l) k p first y.0 ef y.1 in
+      handles_both first y.0 x a.handles (kept_stays sources drains y.0 x (kept_at (KeepsNode sources drains) (net_of then k).nodes (nodes_now k) (last_kept sources drains begun now broke then l k) p y.0 x y.1 ex))
 
   module _ (ns : List blue.Node) (ss : List S) (ds : List D) (seats : AreSeats 0 ns ss ds nodes) (e : EndHomes) (ends_are : AreEndHomes homes ns ws e) (ends : List (IslandEnd S D)) (are : AreEndsOfBodies now ends) where
     by_kind : (k : ℕ) (n : blue.Node) (x : Node S D) → slice_get ns k ≡ Some n → slice_get broken k ≡ Some x → HandlesBy n.kind x

@@ -3,18 +3,19 @@ ghost use Rattle.std.specs.Prelude.{◌≡◌, ℕ, List};
 ghost use Rattle.blue_core.specs.declared.blueprint.Blueprint.{Blueprint};
 ghost use Rattle.blue_check.specs.Wires.{blueprint_wires};
 ghost use Rattle.nodes.specs.declared.node.Node.{Node};
-ghost use Rattle.interpreter.specs.Island.{Kept, readers_of, writers_of};
+ghost use Rattle.interpreter.specs.Island.{readers_of, writers_of};
 ghost use Rattle.interpreter.specs.declared.island.IslandEnd.{IslandEnd};
 ghost use Rattle.interpreter.specs.declared.parts.Seated.{Seated};
-ghost use Rattle.rounds.specs.Bodies.{AllOf, EachOf, BrokeOff};
+ghost use Rattle.rounds.specs.Bodies.{AllOf, EachOf};
 ghost use Rattle.rounds.specs.declared.crossing.Crossing.{Crossing};
+ghost use Rattle.dispatcher.specs.Broken.{WholeOrBroken};
 ghost use Rattle.island_ends.specs.Ends.{AreEndsOf, AreHomesOf, AreHandlesOf, IsWholeEnd};
 ghost use Rattle.island_ends.specs.declared.room.EndHomes.{EndHomes};
 ghost use Rattle.island_plans.specs.Ends.{AreEndHomes};
 ghost use Rattle.island_seats.specs.Islands.{AreBroughtBack};
 ghost use Rattle.island_body.specs.Keeping.{BodyKeeps, BodyGoes, BodyBreaks};
 ghost use Rattle.island_body.specs.declared.body.Body.{Body};
-ghost use Rattle.bodies_account.specs.Bodies.{net_of, with_island, AreBodiesOf, IsLastOf};
+ghost use Rattle.bodies_account.specs.Bodies.{net_of, AreBodiesOf, AreLastOf};
 ghost use Rattle.bodies_run.specs.Leaving.{account_in};
 ghost use Rattle.materializer.specs.Graphs.{graph_of};
 ghost use Rattle.materializer.specs.Seats.{AreSeats};
@@ -38,11 +39,11 @@ pub fn bodies_leave_what_their_nodes_do<S: Source, D: Drain>()
         → IsWholeEnd (whole_of homes (blueprint_wires b) nodes (account_in homes (blueprint_wires b) now all).near last more) x → IsLeftBy (blueprint_wires b) (account_in homes (blueprint_wires b) now all).near last x }
 {}
 
-/// What bodies leave of which one broke off are the handles of the blueprint's nodes, in shares, with the homes that were planned. Rule:
+/// What bodies leave of which some broke off are the handles of the blueprint's nodes, in shares, with the homes that were planned. Rule:
 /// own.
 pub fn broken_bodies_leave_their_handles<S: Source, D: Drain>()
-    ensures { (b : Blueprint) (homes : List ℕ) (count : ℕ) (nodes : List (Seated S D)) (crossings : List Crossing) (begun now : List (Body S D)) (i : Kept S D) (last more broken later : List (Node S D)) (ss : List S) (ds : List D) (e : EndHomes) (ends : List (IslandEnd S D)) → AreSeats 0 b.nodes.items ss ds nodes
-        → AreBodiesOf S.state D.state (graph_of b) homes count (blueprint_wires b) nodes crossings begun → (broke : BrokeOff (BodyKeeps S.state D.state) BodyGoes (BodyBreaks S.state D.state) begun now) → IsLastOf S.state D.state begun now broke.at i
-        → AreBroughtBack homes count (blueprint_wires b) (λ k. (net_of (with_island now broke.at i) k).nodes) last more → AreBroughtBack homes count (blueprint_wires b) (λ k. (net_of now k).nodes) broken later
+    ensures { (b : Blueprint) (homes : List ℕ) (count : ℕ) (nodes : List (Seated S D)) (crossings : List Crossing) (begun now then : List (Body S D)) (last more broken later : List (Node S D)) (ss : List S) (ds : List D) (e : EndHomes) (ends : List (IslandEnd S D)) → AreSeats 0 b.nodes.items ss ds nodes
+        → AreBodiesOf S.state D.state (graph_of b) homes count (blueprint_wires b) nodes crossings begun → WholeOrBroken (BodyKeeps S.state D.state) BodyGoes (BodyBreaks S.state D.state) begun now → AreLastOf S.state D.state begun now then
+        → AreBroughtBack homes count (blueprint_wires b) (λ k. (net_of then k).nodes) last more → AreBroughtBack homes count (blueprint_wires b) (λ k. (net_of now k).nodes) broken later
         → AreEndHomes homes b.nodes.items (blueprint_wires b) e → AreEndsOfBodies now ends → AreHandlesOf e (readers_of broken) (writers_of broken) ends }
 {}

@@ -73,7 +73,7 @@ use Rattle.blueprint_run.specs.Stands.{Stand, has_ended_at, is_write_fault, is_u
 use Rattle.bodies_run.specs.Counts.{all_sent}
 use Rattle.blueprint_run.specs.Units.{Pays}
 use Rattle.island_runs.specs.declared.run.Stopped.{Stopped}
-use Rattle.blueprint_run.specs.declared.run.Ran.{Ran}
+use Rattle.blueprint_run.specs.declared.run.RunResult.{RunResult}
 use Rattle.blueprint_run.proofs.Counts.{rose_by, rose_from_none, is_positive, positive, contains_or_not}
 use Rattle.blueprint_run.proofs.Units.{need_more, passed_within}
 use Rattle.blueprint_run.proofs.Worlds.{world_of, tree_by_wires}
@@ -615,13 +615,13 @@ module _ {S D : Type 0} (sources : S → SourceState) (drains : D → DrainState
       (λ w has sent j v n at is other came. laws.gives g w left run (picks_told sources drains handles b can ss ds left last between old mid opens w has) sent j v n at is other came)
 
   -- the trace, as it was left where none of the sinks' drains has its name
-  abbrev Traced : Ran → Type 0
+  abbrev Traced : RunResult → Type 0
   Traced ran = ((n : List ℕ) → Contains (option_to_list trace) n → Contains (drain_names (map drains st.end.writers.items)) n → ⊥) → Traces old new b trace (map pick_of ran.picks.items) ran.trace_failed
 
-  traced_so : (ran : Ran) → Traced ran → Traces old new b trace (map pick_of ran.picks.items) ran.trace_failed
+  traced_so : (ran : RunResult) → Traced ran → Traces old new b trace (map pick_of ran.picks.items) ran.trace_failed
   traced_so ran traced = traced (unwritten sources drains b can last st.end.readers.items st.end.writers.items apart old mid _ _ opens new closes lone)
 
-  pub runs_of : (ran : Ran) → Traced ran → ran.sinks.items ≡ st.end.sinks.items → ran.picks.items ≡ st.end.picks.items → ran.wires.items ≡ st.wires.items → ran.used ≡ st.used → ran.at_rest ≡ st.at_rest → Runs old new b trace budget ran
+  pub runs_of : (ran : RunResult) → Traced ran → ran.sinks.items ≡ st.end.sinks.items → ran.picks.items ≡ st.end.picks.items → ran.wires.items ≡ st.wires.items → ran.used ≡ st.used → ran.at_rest ≡ st.at_rest → Runs old new b trace budget ran
   runs_of ran traced sinks chosen wires used rest = record {
     sinks_are = ap (map (λ (s : Stand). s.0)) (sinks ∙ l.sinks) ∙ stands_are sources drains handles b ss ds left last between old mid opens;
     picks_are = ap picked (ap (map pick_of) chosen ∙ l.picks) ∙ picks_stand sources drains handles b can ss ds left last between old mid opens;

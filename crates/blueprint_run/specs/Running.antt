@@ -34,7 +34,7 @@ use Rattle.blueprint_run.specs.Sending.{SentOn}
 use Rattle.blueprint_run.specs.Stands.{Stand, sink_places, has_ended_at, is_write_fault, is_unended}
 use Rattle.blueprint_run.specs.Tracing.{Traces, written_files}
 use Rattle.blueprint_run.specs.Units.{Pays}
-use Rattle.blueprint_run.specs.declared.run.Ran.{Ran}
+use Rattle.blueprint_run.specs.declared.run.RunResult.{RunResult}
 
 -- What is told of the sink with a file that is node k, which stands so: it wrote what the composed outlook of the sink lets it
 -- write, by every world that has the input files as they were read and what the stages chose, and so many whole lines. Where the
@@ -97,7 +97,7 @@ pub record SomeWriteRose (old new : FolderState) (b : Blueprint) : Type 0 where
 -- What is told of a run where the folder told its files before it, and how its counts rose. There is a list of moves for each
 -- stage whose kind chooses, in order of nodes, and no other; the trace's file, where one is wanted, holds the text of these moves, or
 -- a first part where a write to it failed.
-pub record Runs (old new : FolderState) (b : Blueprint) (trace : Option (List ℕ)) (budget : ℕ) (ran : Ran) : Type 0 where
+pub record Runs (old new : FolderState) (b : Blueprint) (trace : Option (List ℕ)) (budget : ℕ) (ran : RunResult) : Type 0 where
   pub sinks_are : map (λ (s : Stand). s.0) ran.sinks.items ≡ sink_places 0 b.nodes.items
   pub picks_are : picked (map pick_of ran.picks.items) ≡ pick_places 0 b.nodes.items
   pub told : IsTrue new.tells → IsTrue old.tells

@@ -1,5 +1,5 @@
 // The run of a blueprint over a folder.
-ghost use Rattle.std.specs.Prelude.{◌≡◌, ◌+◌, ◌-◌, ◌≤◌, ◌++◌, [], ℕ, List, Option, IfOk, IfErr, Err, Bool, true, false, IsTrue, map, length, vec_len, is_some};
+ghost use Rattle.std.specs.Prelude.{◌≡◌, ◌+◌, ◌-◌, ◌<◌, ◌≤◌, ◌++◌, [], ℕ, List, Option, IfOk, IfErr, Err, Bool, true, false, IsTrue, map, length, vec_len, is_some};
 ghost use Rattle.std.specs.Option.{option_map, option_to_list};
 ghost use Rattle.blue_core.specs.declared.blueprint.Blueprint as plan;
 ghost use Rattle.stream_io.specs.State.{FolderState};
@@ -10,11 +10,13 @@ ghost use Rattle.run_files.specs.Opening.{MissesInput, RefusesOutput};
 ghost use Rattle.run_files.specs.Closing.{ClosesAll};
 ghost use Rattle.run_report.specs.Trace.{trace_text, moves_in};
 ghost use Rattle.island_runs.specs.Leaving.{Leaves, LeavesBroken, HasAsMany};
+ghost use Rattle.island_runs.specs.Receipt.{IsReceipt};
 ghost use Rattle.blueprint_run.specs.Opening.{Opens, OpensAs, WritesAs, ClosesAs};
 ghost use Rattle.blueprint_run.specs.Running.{Runs, Wants, WantsWithin};
 ghost use Rattle.blueprint_run.specs.Tracing.{written_files, IsApart};
 
 use blue_core::blueprint::Blueprint;
+use dispatcher::ran::Ran;
 use elem_core::line::Line;
 use elem_core::why::NoMemory;
 use interpreter::island::IslandEnd;
@@ -33,6 +35,8 @@ use run_laws::laws::{
 };
 use run_report::trace::put_trace;
 use std::alloc::Global;
+use std::sync::Wait;
+use std::thread::Threads;
 use stream_io::outside::{Drain, Folder};
 use stream_model::outcome::{EndState, PickList, WireCount};
 use stream_picture::laws::polytrees_end;
@@ -40,15 +44,16 @@ use type_laws::laws::{every_wire_carries_its_type, fit_blueprints_pass_the_rules
 
 /// What a run came to: of each sink, in order of nodes, its node, how many whole lines it wrote and how it stands; the moves of
 /// each stage whose kind chooses, in order of nodes; what each wire carried; how many units were used, and whether no event was left;
-/// and whether a write to the trace's file failed.
+/// whether a write to the trace's file failed; and the receipt of the run.
 #[derive(Drop)]
-pub struct Ran {
+pub struct RunResult {
     pub sinks: Vec<(u32, u64, EndState)>,
     pub picks: Vec<PickList>,
     pub wires: Vec<WireCount>,
     pub used: u32,
     pub at_rest: bool,
     pub trace_failed: bool,
+    pub ran: Ran,
 }
 
 /// How many bytes of a trace are written at once.
@@ -136,7 +141,7 @@ fn close<F: Folder>(
     drain: Option<F::Out>,
     choosers: &[Line],
     room: Vec<u8>,
-) -> Ran
+) -> RunResult
     requires { room.items ≡ [] }
     ensures runs { (old : FolderState) (b : plan.Blueprint) (trace : Option (List ℕ)) (budget : ℕ) (ss : List F.Inp) (ds : List F.Out) → CanRun b → IsApart b trace → choosers.now ≡ pick_names b.nodes.items
         → Opens old (F.state folder.old) (inputs_of_nodes b.nodes.items) (outputs_of_nodes b.nodes.items) (option_to_list trace) (map F.Inp.state ss) (map F.Out.state ds) → OpensAs (F.state folder.old) trace (option_map F.Out.state drain)
@@ -145,6 +150,7 @@ fn close<F: Folder>(
     ensures all { (old : FolderState) (b : plan.Blueprint) (trace : Option (List ℕ)) (budget : ℕ) (ss : List F.Inp) (ds : List F.Out) → CanRun b → IsApart b trace
         → Opens old (F.state folder.old) (inputs_of_nodes b.nodes.items) (outputs_of_nodes b.nodes.items) (option_to_list trace) (map F.Inp.state ss) (map F.Out.state ds) → OpensAs (F.state folder.old) trace (option_map F.Out.state drain)
         → Leaves F.Inp.state F.Out.state b ss ds budget stopped → HasAsMany ss ds stopped.end }
+    ensures same { (result.used ≡ stopped.used) × (result.at_rest ≡ stopped.at_rest) × (result.ran ≡ stopped.ran) }
 {
     every_wire_agrees::<F::Inp, F::Out>();
     every_sink_agrees::<F::Inp, F::Out>();
@@ -165,17 +171,19 @@ fn close<F: Folder>(
         wires,
         used,
         at_rest,
+        ran,
     } = stopped;
     let (drain, trace_failed) = write_trace(drain, choosers, &end.picks, room);
     close_all(folder, end.readers, end.writers);
     close_trace(folder, drain);
-    Ran {
+    RunResult {
         sinks: end.sinks,
         picks: end.picks,
         wires,
         used,
         at_rest,
         trace_failed,
+        ran,
     }
 }
 
@@ -217,20 +225,24 @@ fn close_unmade<F: Folder>(folder: &mut F, end: IslandEnd<F::Inp, F::Out>, drain
 }
 
 /// Opens the files of a blueprint, its inputs in order and then its outputs in order, and behind them the file of its trace where one is
-/// wanted; lets its islands run by at most `budget` units; writes the trace, which takes no memory, and closes the files, also where
+/// wanted; lets so many workers, 1 to 64, run its islands by at most `budget` units; writes the trace, which takes no memory, and closes the files, also where
 /// memory is wanting. The trace is then left empty. But for what its nodes want as they start and run all memory is taken before
 /// the first opening. It leaves as many open handles as there were. Rule: own.
-pub fn run<F: Folder>(
+pub fn run<R: Threads + Wait + Sync, F: Folder>(
+    rt: &R,
     alloc: Global,
     folder: &mut F,
     b: Blueprint,
     trace: Option<Line>,
+    workers: u32,
     budget: u32,
-) -> Result<Ran, OpenEnd>
+) -> Result<RunResult, OpenEnd>
     requires runs { CanRun b }
     requires apart { IsApart b trace }
+    requires workers { (0 < workers) × (workers ≤ 64) }
     requires budget { budget ≤ 4000000000 }
     ensures ran { IfOk result (λ ran. Runs (F.state folder.old) (F.state folder.new) b trace budget ran) }
+    ensures receipt { IfOk result (λ ran. IsReceipt b workers ran.used ran.at_rest ran.ran) }
     ensures no_input { (n : List ℕ) → result ≡ Err (OpenEnd.MissingInput n) → MissesInput (F.state folder.old) (F.state folder.new) (inputs_of_nodes b.nodes.items) n }
     ensures no_output { (n : List ℕ) → result ≡ Err (OpenEnd.MissingOutput n) → RefusesOutput (F.state folder.old) (F.state folder.new) (inputs_of_nodes b.nodes.items) (written_files b trace) n }
     ensures no_memory { result ≡ Err OpenEnd.NoMemory → Wants (F.state folder.old) (F.state folder.new) b trace }
@@ -257,7 +269,7 @@ pub fn run<F: Folder>(
         Err(end) => return Err(end),
     };
     let drain = take_last(&mut outputs, wanted);
-    match island_runs::run::run(alloc, prepared, inputs, outputs, budget) {
+    match island_runs::run::run(rt, alloc, prepared, inputs, outputs, workers, budget) {
         Ok(stopped) => Ok(close(folder, stopped, drain, &choosers, room)),
         Err(Broken::Unmade(end)) => {
             close_unmade(folder, end, drain);

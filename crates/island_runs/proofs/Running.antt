@@ -1,10 +1,21 @@
--- Bodies that ran, where they stand in their list.
-use Rattle.std.proofs.Common.{◌≡◌, ℕ, zero, suc, ◌+◌, Bool, List, [], ◌∷◌, ◌++◌, length, take, drop, refl, ap, sym, subst, arith}
+-- Bodies that ran: what is told of them, and the receipt.
+use Rattle.std.proofs.Common.{◌≡◌, ◌∙◌, ℕ, zero, suc, ◌+◌, ◌≤◌, Bool, true, false, List, [], ◌∷◌, ◌++◌, length, take, drop, refl, ap, sym, subst, arith}
+use Rattle.std.specs.Prelude.{not}
+use Rattle.std.specs.List.{sum_by}
 use Rattle.blue_core.specs.declared.blueprint.Blueprint.{Blueprint}
 use Rattle.stream_io.specs.State.{SourceState, DrainState}
+use Rattle.blue_check.specs.Wires.{blueprint_wires}
+use Rattle.dispatcher.specs.Broken.{WholeOrBroken}
+use Rattle.dispatcher.specs.declared.ran.Ran.{Ran}
+use Rattle.rounds.specs.Bodies.{AllOf, EachOf}
+use Rattle.rounds.specs.Crossings.{AllJoined, AtRest}
 use Rattle.rounds.specs.declared.crossing.Crossing.{Crossing}
+use Rattle.island_body.specs.Keeping.{is_pending, BodyKeeps, BodyGoes, BodyBreaks}
+use Rattle.island_body.specs.Meeting.{BodiesJoined}
 use Rattle.island_body.specs.declared.body.Body.{Body}
-use Rattle.island_runs.specs.Begun.{HaveRun, HaveBroken}
+use Rattle.island_plans.specs.Homes.{AreNumberedHomes}
+use Rattle.island_runs.specs.Begun.{HaveBegun, HaveRun, HaveBroken}
+use Rattle.island_runs.specs.Receipt.{IsReceipt}
 use Rattle.island_runs.specs.declared.run.Remains.{Remains}
 
 -- a list that was lent whole comes back as it is now
@@ -16,11 +27,51 @@ came_back (suc n) [] ys p q = absurd (omega (arith, p))
 came_back (suc n) (x ∷ xs) [] p q = absurd (omega (arith, q))
 came_back (suc n) (x ∷ xs) (y ∷ ys) p q = ap (λ zs. x ∷ zs) (came_back n xs ys (omega (arith, p)) (omega (arith, q)))
 
-module _ {S D : Type 0} (sources : S → SourceState) (drains : D → DrainState) (b : Blueprint) (ss : List S) (ds : List D) (begun now new : List (Body S D)) (lanes crossings : List Crossing) (r : Remains S D) where
-  -- by equal lists they ran, or broke
-  pub same_run : (budget used : ℕ) (at_rest : Bool) → now ≡ new → lanes ≡ crossings → HaveRun sources drains b ss ds begun new crossings r budget used at_rest → HaveRun sources drains b ss ds begun now lanes r budget used at_rest
-  same_run budget used at_rest p q h =
-      subst (λ (bs : List (Body S D)). HaveRun sources drains b ss ds begun bs lanes r budget used at_rest) (sym p) (subst (λ (cs : List Crossing). HaveRun sources drains b ss ds begun new cs r budget used at_rest) (sym q) h)
+-- what is told the other way about
+no_more : (more : Bool) → not more ≡ true → more ≡ false
+no_more true e = absurd cc
+no_more false e = refl
 
-  pub same_break : now ≡ new → lanes ≡ crossings → HaveBroken sources drains b ss ds begun new crossings r → HaveBroken sources drains b ss ds begun now lanes r
-  same_break p q h = subst (λ (bs : List (Body S D)). HaveBroken sources drains b ss ds begun bs lanes r) (sym p) (subst (λ (cs : List Crossing). HaveBroken sources drains b ss ds begun new cs r) (sym q) h)
+some_more : (more : Bool) → not more ≡ false → more ≡ true
+some_more true e = refl
+some_more false e = absurd cc
+
+twice_not : (more : Bool) → more ≡ not (not more)
+twice_not true = refl
+twice_not false = refl
+
+module _ {S D : Type 0} (sources : S → SourceState) (drains : D → DrainState) (b : Blueprint) (ss : List S) (ds : List D) (begun now : List (Body S D)) (lanes crossings lent : List Crossing) (r : Remains S D)
+    (h : HaveBegun sources drains b ss ds begun crossings r) (ran_on : lanes ≡ crossings) (same : lent ≡ crossings) (joined : AllJoined BodiesJoined now lanes) where
+  -- they ran over the crossings that were lent
+  pub have_run : (budget used : ℕ) (more : Bool) → AllOf (BodyKeeps sources drains) now → EachOf BodyGoes begun now → used ≡ sum_by (λ (x : Body S D). x.spent) now → used ≤ budget
+      → (more ≡ false → AtRest is_pending BodiesJoined now lanes) → (more ≡ true → used ≡ budget) → HaveRun sources drains b ss ds begun now lent r budget used (not more)
+  have_run budget used more keep went spent within rest all =
+      subst (λ (cs : List Crossing). HaveRun sources drains b ss ds begun now cs r budget used (not more)) (sym same)
+      (record {
+        began = h;
+        keep = keep;
+        went = went;
+        joined = subst (λ (cs : List Crossing). AllJoined BodiesJoined now cs) ran_on joined;
+        used_is = spent;
+        within = within;
+        rest = λ still. subst (λ (cs : List Crossing). AtRest is_pending BodiesJoined now cs) ran_on (rest (no_more more still));
+        more = λ left. all (some_more more left);
+      })
+
+  -- or memory was wanting
+  pub have_broken : WholeOrBroken (BodyKeeps sources drains) BodyGoes (BodyBreaks sources drains) begun now → HaveBroken sources drains b ss ds begun now lent r
+  have_broken broke =
+      subst (λ (cs : List Crossing). HaveBroken sources drains b ss ds begun now cs r) (sym same)
+      (record { began = h; joined = subst (λ (cs : List Crossing). AllJoined BodiesJoined now cs) ran_on joined; broke = broke })
+
+-- the receipt of a run that was taken apart
+pub receipt_of : (b : Blueprint) (workers many used told : ℕ) (more at_rest : Bool) (r t : Ran) (homes : List ℕ) → AreNumberedHomes (length b.nodes.items) many (blueprint_wires b) homes
+    → t.workers ≡ workers → t.islands ≡ many → t.used ≡ used → t.more ≡ more → told ≡ used → at_rest ≡ not more → r ≡ t → IsReceipt b workers told at_rest r
+receipt_of b workers many used told more at_rest r t homes are w i u m same rest is =
+    subst (λ (x : Ran). IsReceipt b workers told at_rest x) (sym is)
+    (record {
+      workers_are = w;
+      islands_are = record { homes = homes; numbered = subst (λ (n : ℕ). AreNumberedHomes (length b.nodes.items) n (blueprint_wires b) homes) (sym i) are };
+      used_is = u ∙ sym same;
+      more_is = m ∙ (twice_not more ∙ ap not (sym rest));
+    })

@@ -88,7 +88,7 @@ module _ {S D : Type 0} (sources : S → SourceState) (drains : D → DrainState
   pub kept : (board : Board) → AreAtSwitches (map (λ (n : blue.Node). n.kind) b.nodes.items) board (map place_seat nodes) → AreAtSwitches (map (λ (n : blue.Node). n.kind) b.nodes.items) board (map node_seat last)
   kept board at = kept_seats sources drains b board nodes left.firsts last alone left.become (λ (k : ℕ). refl) (λ (k : ℕ). refl) left.as_many moment.run at
 
-  -- and such as one of which broke off in a turn
+  -- and such as those of which some broke off in a turn
   pub broken : (e : IslandEnd S D) (later : List (Node S D)) → AllKept (KeepsNode sources drains) last later → e.readers.items ≡ readers_of later → e.writers.items ≡ writers_of later → LeavesBroken sources drains b ss ds e
   broken e later kept readers writers = record {
     account = alone;

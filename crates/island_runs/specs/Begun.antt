@@ -9,12 +9,14 @@ use Rattle.blue_check.specs.Wires.{blueprint_wires}
 use Rattle.plug_core.specs.declared.head.PlugHead.{PlugHead}
 use Rattle.interpreter.specs.declared.parts.Seated.{Seated}
 use Rattle.traversal.specs.Plan.{lanes_from}
-use Rattle.rounds.specs.Bodies.{AllOf, EachOf, BrokeOff}
+use Rattle.dispatcher.specs.Broken.{WholeOrBroken}
+use Rattle.rounds.specs.Bodies.{AllOf, EachOf}
 use Rattle.rounds.specs.Crossings.{AreCrossings, AllJoined, AtRest}
 use Rattle.rounds.specs.declared.crossing.Crossing.{Crossing}
 use Rattle.lane_ends.specs.Ends.{AreRising}
 use Rattle.island_ends.specs.Room.{IsRoomFor}
 use Rattle.island_plans.specs.Ends.{AreEndHomes}
+use Rattle.island_plans.specs.Homes.{AreNumberedHomes}
 use Rattle.island_body.specs.Keeping.{is_pending, BodyKeeps, BodyGoes, BodyBreaks}
 use Rattle.island_body.specs.Meeting.{BodiesMayMeet, BodiesJoined}
 use Rattle.island_body.specs.declared.body.Body.{Body}
@@ -36,6 +38,7 @@ module _ {S D : Type 0} (sources : S → SourceState) (drains : D → DrainState
     pub unread : All (λ s. (sources s).given ≡ 0) ss
     pub homes : List ℕ
     pub count : ℕ
+    pub islands : AreNumberedHomes (length b.nodes.items) count (blueprint_wires b) homes
     pub nodes : List (Seated S D)
     pub seats : AreSeats 0 b.nodes.items ss ds nodes
     pub bodies_are : AreBodiesOf sources drains (graph_of b) homes count (blueprint_wires b) nodes crossings bodies
@@ -57,7 +60,7 @@ module _ {S D : Type 0} (sources : S → SourceState) (drains : D → DrainState
     pub board_is : IsBoard (map (λ (n : Node). n.kind) b.nodes.items) r.board
     pub at_switches : AreAtSwitches (map (λ (n : Node). n.kind) b.nodes.items) r.board (map place_seat nodes)
 
-  -- They ran in rounds, and these are they now: so many units of a budget were used, and no body has an event where it says so; else all
+  -- They ran, and these are they now: so many units of a budget were used, and no body has an event where it says so; else all
   -- units were used.
   pub record HaveRun (begun now : List (Body S D)) (crossings : List Crossing) (r : Remains S D) (budget used : ℕ) (at_rest : Bool) : Type 0 where
     pub began : HaveBegun begun crossings r
@@ -69,8 +72,8 @@ module _ {S D : Type 0} (sources : S → SourceState) (drains : D → DrainState
     pub rest : at_rest ≡ true → AtRest is_pending BodiesJoined now crossings
     pub more : at_rest ≡ false → used ≡ budget
 
-  -- they ran, and memory was wanting in a turn of one
+  -- they ran, and memory was wanting
   pub record HaveBroken (begun now : List (Body S D)) (crossings : List Crossing) (r : Remains S D) : Type 0 where
     pub began : HaveBegun begun crossings r
     pub joined : AllJoined BodiesJoined now crossings
-    pub broke : BrokeOff (BodyKeeps sources drains) BodyGoes (BodyBreaks sources drains) begun now
+    pub broke : WholeOrBroken (BodyKeeps sources drains) BodyGoes (BodyBreaks sources drains) begun now

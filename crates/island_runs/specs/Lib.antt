@@ -1,3 +1,4 @@
 pub mod Leaving
 pub mod Prepared
 pub mod Begun
+pub mod Receipt

@@ -1,4 +1,4 @@
-//! The islands of a blueprint are run on one thread, over handles that are open.
+//! The islands of a blueprint are run by workers, over handles that are open.
 #![tactic(auto)]
 
 pub mod prepare;

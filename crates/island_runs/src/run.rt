@@ -1,11 +1,12 @@
-// The run of a blueprint's islands, on one thread.
-ghost use Rattle.std.specs.Prelude.{◌≡◌, ◌≤◌, [], ℕ, List, IfOk, IfErr, All, length, map, vec_len, vec_capacity};
+// The run of a blueprint's islands, by workers.
+ghost use Rattle.std.specs.Prelude.{◌≡◌, ◌<◌, ◌≤◌, [], ℕ, List, IfOk, IfErr, All, length, map, vec_len, vec_capacity};
 ghost use Rattle.blue_core.specs.declared.blueprint.Blueprint as plan;
 ghost use Rattle.island_body.specs.declared.body.Body as island;
 ghost use Rattle.materializer.specs.Files.{inputs_of_nodes, outputs_of_nodes};
 ghost use Rattle.island_runs.specs.Begun.{HaveBegun, HaveRun, HaveBroken};
 ghost use Rattle.island_runs.specs.Leaving.{HasHandles, Leaves, LeavesBroken, LeavesBrokenAs};
 ghost use Rattle.island_runs.specs.Prepared.{IsPrepared};
+ghost use Rattle.island_runs.specs.Receipt.{HasIslands, IsReceipt};
 
 use crate::prepare::Prepared;
 use bodies_account::laws::broken_bodies_cover;
@@ -13,6 +14,8 @@ use bodies_begin::laws::{
     ends_stay_at_their_crossings, made_bodies_begin_their_blueprint, started_islands_begin_bodies,
 };
 use bodies_run::laws::{bodies_leave_a_run, broken_bodies_leave_a_run, nodes_alone_are_a_run};
+use dispatcher::finish::Finish;
+use dispatcher::ran::Ran;
 use handles_back::laws::unmade_islands_hand_back;
 use interpreter::island::IslandEnd;
 use island_begins::laws::filled_islands_are_seated;
@@ -26,7 +29,9 @@ use lane_counts::laws::{
     bodies_spent_what_was_sent, noted_counts_are_the_picture, told_asks_are_those_of_lanes,
 };
 use rounds::crossing::Crossing;
-use std::alloc::{AllocError, Global};
+use std::alloc::Global;
+use std::sync::Wait;
+use std::thread::Threads;
 use stream_io::outside::{Drain, Source};
 use stream_model::outcome::WireCount;
 use switch_board::board::Board;
@@ -34,13 +39,14 @@ use traversal::plan::LanePlan;
 use whole_ends::laws::{bodies_leave_what_their_nodes_do, broken_bodies_leave_their_handles};
 
 /// A run that was taken apart: what its nodes left, in order of nodes, but for the seats at its kill switches, which were settled; what
-/// each wire carried, how many units were used, and whether no event was left.
+/// each wire carried, how many units were used, whether no event was left, and the receipt of the run.
 #[derive(Drop)]
 pub struct Stopped<S: Source, D: Drain> {
     pub end: IslandEnd<S, D>,
     pub wires: Vec<WireCount>,
     pub used: u32,
     pub at_rest: bool,
+    pub ran: Ran,
 }
 
 /// Where memory was wanting. What was taken apart lists its handles alone.
@@ -145,7 +151,7 @@ fn counts_of(wires: &[(u32, WireCount)], counts: Vec<WireCount>) -> Vec<WireCoun
     counts
 }
 
-/// Takes bodies apart that ran in rounds, and settles the seats of their kill switches.
+/// Takes bodies apart that ran, and settles the seats of their kill switches.
 fn stop<S: Source, D: Drain>(
     alloc: Global,
     bodies: Vec<Body<S, D>>,
@@ -153,9 +159,11 @@ fn stop<S: Source, D: Drain>(
     remains: Remains<S, D>,
     used: u32,
     at_rest: bool,
+    ran: Ran,
 ) -> Stopped<S, D>
     requires { (b : plan.Blueprint) × ((ss : List S) × ((ds : List D) × ((begun : List (island.Body S D)) × ((budget : ℕ) × HaveRun S.state D.state b ss ds begun bodies.items crossings.now remains budget used at_rest)))) }
-    ensures { (b : plan.Blueprint) (ss : List S) (ds : List D) (begun : List (island.Body S D)) (budget : ℕ) → HaveRun S.state D.state b ss ds begun bodies.items crossings.now remains budget used at_rest → Leaves S.state D.state b ss ds budget result }
+    ensures leaves { (b : plan.Blueprint) (ss : List S) (ds : List D) (begun : List (island.Body S D)) (budget : ℕ) → HaveRun S.state D.state b ss ds begun bodies.items crossings.now remains budget used at_rest → Leaves S.state D.state b ss ds budget result }
+    ensures same { (result.used ≡ used) × (result.at_rest ≡ at_rest) × (result.ran ≡ ran) }
 {
     ends_stay_at_their_crossings::<S, D>();
     bodies_leave_a_run::<S, D>();
@@ -199,10 +207,11 @@ fn stop<S: Source, D: Drain>(
         wires,
         used,
         at_rest,
+        ran,
     }
 }
 
-/// Takes bodies apart of which one broke off.
+/// Takes bodies apart of which some may have broken off.
 fn give_up<S: Source, D: Drain>(
     bodies: Vec<Body<S, D>>,
     crossings: &[Crossing],
@@ -230,15 +239,19 @@ fn give_up<S: Source, D: Drain>(
     join_handles(ends, &homes, room)
 }
 
-/// Runs bodies that were made, by at most `budget` units, and takes them apart.
-fn run_bodies<S: Source, D: Drain>(
+/// Lets so many workers run bodies that were made, by at most `budget` units, and takes them apart.
+fn run_bodies<S: Source + Send, D: Drain + Send, R: Threads + Wait + Sync>(
+    rt: &R,
     alloc: Global,
     begun: Begun<S, D>,
+    workers: u32,
     budget: u32,
 ) -> Result<Stopped<S, D>, IslandEnd<S, D>>
+    requires workers { (0 < workers) × (workers ≤ 64) }
     requires budget { budget ≤ 4000000000 }
     requires begun { (b : plan.Blueprint) × ((ss : List S) × ((ds : List D) × HaveBegun S.state D.state b ss ds begun.bodies.items begun.crossings.items begun.remains)) }
     ensures leaves { (b : plan.Blueprint) (ss : List S) (ds : List D) → HaveBegun S.state D.state b ss ds begun.bodies.items begun.crossings.items begun.remains → IfOk result (λ stopped. Leaves S.state D.state b ss ds budget stopped) }
+    ensures receipt { (b : plan.Blueprint) (ss : List S) (ds : List D) → HaveBegun S.state D.state b ss ds begun.bodies.items begun.crossings.items begun.remains → IfOk result (λ stopped. IsReceipt b workers stopped.used stopped.at_rest stopped.ran) }
     ensures breaks { (b : plan.Blueprint) (ss : List S) (ds : List D) → HaveBegun S.state D.state b ss ds begun.bodies.items begun.crossings.items begun.remains → IfErr result (LeavesBroken S.state D.state b ss ds) }
 {
     let Begun {
@@ -246,33 +259,44 @@ fn run_bodies<S: Source, D: Drain>(
         crossings,
         remains,
     } = begun;
-    let mut bodies = bodies;
-    match rounds::run::run(alloc, &mut bodies, &crossings, budget) {
-        Ok(end) => Ok(stop(alloc, bodies, &crossings, remains, end.used, end.at_rest)),
-        Err(AllocError) => Err(give_up(bodies, &crossings, remains)),
+    match dispatcher::run::run(rt, alloc, bodies, &crossings, workers, budget) {
+        Ok(finish) => {
+            let Finish {
+                bodies,
+                used,
+                more,
+                ran,
+            } = finish;
+            Ok(stop(alloc, bodies, &crossings, remains, used, !more, ran))
+        }
+        Err(bodies) => Err(give_up(bodies, &crossings, remains)),
     }
 }
 
-/// Runs the islands of a blueprint over its open files, of which nothing was read, by at most `budget` units: turns of at most 1000 units
-/// for each island in order, until no island has an event or all units are used. It is taken apart then. In the order of nodes, each
+/// Lets so many workers, 1 to 64, run the islands of a blueprint over its open files, of which nothing was read, by at most `budget` units:
+/// turns of at most 1000 units, until no island has an event or all units are used. It is taken apart then. In the order of nodes, each
 /// source of lines reads the next of `sources`, and each sink with a file writes the next of `drains`. Rule: own.
-pub fn run<S: Source, D: Drain>(
+pub fn run<S: Source + Send, D: Drain + Send, R: Threads + Wait + Sync>(
+    rt: &R,
     alloc: Global,
     prepared: Prepared<S, D>,
     sources: Vec<S>,
     drains: Vec<D>,
+    workers: u32,
     budget: u32,
 ) -> Result<Stopped<S, D>, Broken<S, D>>
     requires prepared { IsPrepared prepared }
+    requires workers { (0 < workers) × (workers ≤ 64) }
     requires budget { budget ≤ 4000000000 }
     requires sources { vec_len sources ≡ length (inputs_of_nodes prepared.plans.blueprint.value.nodes.items) }
     requires drains { vec_len drains ≡ length (outputs_of_nodes prepared.plans.blueprint.value.nodes.items) }
     requires unread { All (λ s. (S.state s).given ≡ 0) sources.items }
     ensures leaves { IfOk result (λ stopped. Leaves S.state D.state prepared.plans.blueprint.value sources.items drains.items budget stopped) }
+    ensures receipt { IfOk result (λ stopped. IsReceipt prepared.plans.blueprint.value workers stopped.used stopped.at_rest stopped.ran) }
     ensures breaks { IfErr result (λ broken. LeavesBrokenAs S.state D.state prepared.plans.blueprint.value sources.items drains.items broken) }
 {
     match begin(alloc, prepared, sources, drains) {
-        Ok(begun) => match run_bodies(alloc, begun, budget) {
+        Ok(begun) => match run_bodies(rt, alloc, begun, workers, budget) {
             Ok(stopped) => Ok(stopped),
             Err(end) => Err(Broken::Within(end)),
         },

@@ -1,13 +1,18 @@
 -- The goals of `run::run` that the search leaves.
-use Rattle.std.proofs.Common.{◌≡◌, ◌∙◌, inl, inr, Err, Result, refl, sym, ap, map, length, subst}
+use Rattle.std.proofs.Common.{◌≡◌, ◌∙◌, inl, inr, ℕ, Bool, Err, Result, refl, sym, ap, map, length, subst}
 use Rattle.blue_core.specs.declared.blueprint.Blueprint.{Blueprint}
+use Rattle.dispatcher.specs.declared.ran.Ran.{Ran}
 use Rattle.run_files.specs.Opening.{OpensAll, GivesUp}
 use Rattle.materializer.specs.Files.{inputs_of_nodes, outputs_of_nodes}
 use Rattle.island_runs.specs.Leaving.{Leaves, LeavesBrokenAs}
+use Rattle.island_runs.specs.Receipt.{IsReceipt}
 use Rattle.blueprint_run.proofs.Breaking.{unmade, closes_unmade, none_open}
 use Rattle.blueprint_run.proofs.Places.{all_unmapped}
 use Rattle.blueprint_run.proofs.Traces.{opened_apart, as_many_drains, last_there}
 use Rattle.blueprint_run.proofs.run.run.Goals as goal
+
+receipt_as : (b : Blueprint) (workers m n : ℕ) (p q : Bool) (r t : Ran) → m ≡ n → p ≡ q → r ≡ t → IsReceipt b workers n q t → IsReceipt b workers m p r
+receipt_as b workers m n p q r t e f h its = subst (λ (x : ℕ). IsReceipt b workers x p r) (sym e) (subst (λ (x : Bool). IsReceipt b workers n x r) (sym f) (subst (λ (x : Ran). IsReceipt b workers n q x) (sym h) its))
 
 err_same : {T E : Type 0} (x y : Result T E) (a b : E) → x ≡ Err a → y ≡ Err b → x ≡ y → a ≡ b
 err_same x y a b p q e = cc
@@ -21,7 +26,7 @@ pub take_last-drain-requires : goal.take_last-drain-requires
 take_last-drain-requires g c = last_there g.F.Out.Drain.state (g.F.Folder.state c.args.folder.now) (g.F.Folder.state c.open_all.new.folder) c.args.b c.args.trace (map g.F.Inp.Source.state c.in-Ok-open_all.opened.inputs.items) c.in-Ok-open_all.opened.outputs.items _ _ _ c.in-Ok.ensures.outputs c.in-Ok-open_all.ensures.opened c.is_some-wanted.ensures
 
 pub run-requires-clause-drains : goal.run-requires-clause-drains
-run-requires-clause-drains g c =
+run-requires-clause-drains g c = λ κs lives.
     let old = g.F.Folder.state c.args.folder.now in
     let mid = g.F.Folder.state c.open_all.new.folder in
     let ss = c.in-Ok-open_all.opened.inputs.items in
@@ -32,7 +37,7 @@ run-requires-clause-drains g c =
     c.take_last-drain.new.drains.ok.0 ∙ as_many_drains g.F.Out.Drain.state ds _ both.0.output_names ∙ ap (λ (p : Blueprint). length (outputs_of_nodes p.nodes.items)) (sym c.in-Ok-prepare.ensures.blueprint)
 
 pub run-requires-clause-unread : goal.run-requires-clause-unread
-run-requires-clause-unread g c =
+run-requires-clause-unread g c = λ κs lives.
     let old = g.F.Folder.state c.args.folder.now in
     let mid = g.F.Folder.state c.open_all.new.folder in
     let ss = c.in-Ok-open_all.opened.inputs.items in
@@ -114,3 +119,9 @@ returns-clause-handles g c =
     let told = subst (λ p. LeavesBrokenAs g.F.Inp.Source.state g.F.Out.Drain.state p ss ds c.in-Err-Within.field-0) c.in-Ok-prepare.ensures.blueprint c.in-Err-Within.ensures.breaks in
     let broken = subst (λ x. LeavesBrokenAs g.F.Inp.Source.state g.F.Out.Drain.state c.args.b ss ds x) c.in-Err-Within.field-0-is told in
     none_open ss all ds drain _ _ _ _ c.in-Ok-open_all.ensures.handles c.take_last-drain.ensures.all (c.give_up.ensures.all old c.args.b c.args.trace ss ds c.requires.runs c.requires.apart both.0 both.1 broken) c.give_up.ensures.handles
+
+pub returns-in-Ok-run-clause-receipt : goal.returns-in-Ok-run-clause-receipt
+returns-in-Ok-run-clause-receipt g c =
+    let same = c.close.ensures.same in
+    let its = subst (λ p. IsReceipt p c.args.workers c.in-Ok-run.stopped.used c.in-Ok-run.stopped.at_rest c.in-Ok-run.stopped.ran) c.in-Ok-prepare.ensures.blueprint c.in-Ok-run.ensures.receipt in
+    receipt_as c.args.b c.args.workers _ _ _ _ _ _ same.0 same.1 same.2 its

@@ -65,6 +65,7 @@ returns-clause-begun g c =
       unread = c.requires.unread;
       homes = f.homes.items;
       count = f.count;
+      islands = e.filled.homes_are;
       nodes = e.filled.nodes;
       seats = e.filled.seats;
       bodies_are = law.are b ss ds f started p.ends bodies few e.filled all ends made;

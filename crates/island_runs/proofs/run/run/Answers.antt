@@ -2,10 +2,13 @@
 use Rattle.island_runs.proofs.run.run.Goals as goal
 
 pub run_bodies-requires-clause-begun : goal.run_bodies-requires-clause-begun
-run_bodies-requires-clause-begun g c = (c.args.prepared.plans.blueprint.value, (c.args.sources.items, (c.args.drains.items, c.in-Ok.ensures.begun)))
+run_bodies-requires-clause-begun g c = λ κs lives. (c.args.prepared.plans.blueprint.value, (c.args.sources.items, (c.args.drains.items, c.in-Ok.ensures.begun)))
 
 pub returns-in-Ok-run_bodies-clause-leaves : goal.returns-in-Ok-run_bodies-clause-leaves
 returns-in-Ok-run_bodies-clause-leaves g c = c.in-Ok-run_bodies.ensures.leaves c.args.prepared.plans.blueprint.value c.args.sources.items c.args.drains.items c.in-Ok.ensures.begun
+
+pub returns-in-Ok-run_bodies-clause-receipt : goal.returns-in-Ok-run_bodies-clause-receipt
+returns-in-Ok-run_bodies-clause-receipt g c = c.in-Ok-run_bodies.ensures.receipt c.args.prepared.plans.blueprint.value c.args.sources.items c.args.drains.items c.in-Ok.ensures.begun
 
 pub returns-in-Err-run_bodies-clause-breaks : goal.returns-in-Err-run_bodies-clause-breaks
 returns-in-Err-run_bodies-clause-breaks g c = c.in-Err-run_bodies.ensures.breaks c.args.prepared.plans.blueprint.value c.args.sources.items c.args.drains.items c.in-Ok.ensures.begun

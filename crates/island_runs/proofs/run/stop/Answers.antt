@@ -83,8 +83,8 @@ note_asked-requires-clause-within g c =
 pub note_asked-requires-clause-order : goal.note_asked-requires-clause-order
 note_asked-requires-clause-order g c = subst AreRising (sym c.deref-4.ensures.value) c.requires.1.1.1.1.1.began.rise
 
-pub returns : goal.returns
-returns g c = λ b ss ds begun budget r.
+pub returns-clause-leaves : goal.returns-clause-leaves
+returns-clause-leaves g c = λ b ss ds begun budget r.
     let m = r.began in
     let ws = blueprint_wires b in
     let now = c.args.bodies.items in
@@ -120,7 +120,7 @@ returns g c = λ b ss ds begun budget r.
     let spent = c.bodies_spent_what_was_sent.ensures b m.homes m.count m.nodes crossings begun now all m.bodies_are r.went r.keep in
     let most = run.most b m.homes m.count m.nodes crossings begun now all m.bodies_are r.went r.keep are r.joined in
     leaves g.S.Source.state g.D.Drain.state b ss ds m.nodes m.seats (sym m.bodies_are.graph.each_node) account back.0 left_by is_run budget
-    (record { end = record c.join_ends-end.result { seats = c.new.result }; wires = with_items c.counts_of-wires.result c.note_asked.new.counts; used = c.args.used; at_rest = c.args.at_rest }) c.join_ends-end.result account.near
+    (record { end = record c.join_ends-end.result { seats = c.new.result }; wires = with_items c.counts_of-wires.result c.note_asked.new.counts; used = c.args.used; at_rest = c.args.at_rest; ran = c.args.ran }) c.join_ends-end.result account.near
     (λ rest. run.still b m.homes m.count m.nodes crossings begun now all m.bodies_are r.went r.keep are (r.rest rest)) left refl settled (whole_list ∙ counts) r.within r.more (omega (arith, spent, r.used_is)) (omega (arith, most, r.used_is))
 
 pub settle-requires : goal.settle-requires

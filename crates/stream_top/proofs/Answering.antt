@@ -41,7 +41,7 @@ use Rattle.blueprint_run.specs.Stands.{Stand, sink_places, is_write_fault, is_un
 use Rattle.blueprint_run.specs.Units.{Pays}
 use Rattle.blueprint_run.specs.Running.{SinkLeaves, LeavesFiles, WritesOf, Runs, BreaksFiles, Wants}
 use Rattle.blueprint_run.specs.Tracing.{written_files, IsApart, Traces}
-use Rattle.blueprint_run.specs.declared.run.Ran.{Ran}
+use Rattle.blueprint_run.specs.declared.run.RunResult.{RunResult}
 use Rattle.run_files.proofs.Counts.{grew_same, quiet_two}
 use Rattle.blueprint_run.proofs.Counts.{grew_behind}
 use Rattle.blueprint_run.proofs.Places.{contains_at, filtered_at, place_within}
@@ -260,7 +260,7 @@ or_false : (a : Bool) → a || false ≡ true → a ≡ true
 or_false true e = refl
 or_false false e = absurd cc
 
-module _ (b : Blueprint) (trace : Option (List ℕ)) (ran : Ran) (turns : ℕ) (a : Answer) (old new : FolderState) (after : AfterRun (sinks_of_nodes b.nodes.items) ran a) (runs : Runs old new b trace turns ran) where
+module _ (b : Blueprint) (trace : Option (List ℕ)) (ran : RunResult) (turns : ℕ) (a : Answer) (old new : FolderState) (after : AfterRun (sinks_of_nodes b.nodes.items) ran a) (runs : Runs old new b trace turns ran) where
   abbrev stands : List Stand
   stands = ran.sinks.items
 
@@ -520,7 +520,7 @@ fault_whole whole t e = elim (leb_tells (length whole) 1048576) [
 ]
 
 -- the blueprint that the bytes say is the one that the file says
-says_read : (old mid : FolderState) (file t : List ℕ) (b : Blueprint) → IsTrue old.tells → ReadsFile old mid file t → language.Says t (plain b) → SaysFile old file b
+pub says_read : (old mid : FolderState) (file t : List ℕ) (b : Blueprint) → IsTrue old.tells → ReadsFile old mid file t → language.Says t (plain b) → SaysFile old file b
 says_read old mid file t b tells r s =
     let w = whole_of (old.file file) t (r.text_is tells) in
     record {

@@ -6,7 +6,7 @@ use Rattle.stream_model.specs.declared.outcome.EndState.TheVariants as state
 use Rattle.blue_core.specs.declared.blueprint.Node.{Node}
 use Rattle.interpreter.specs.Picks.{pick_of}
 use Rattle.blueprint_run.specs.Stands.{Stand, is_write_fault, is_unended, is_failed}
-use Rattle.blueprint_run.specs.declared.run.Ran.{Ran}
+use Rattle.blueprint_run.specs.declared.run.RunResult.{RunResult}
 use Rattle.run_report.specs.Answer.{Answer}
 use Rattle.run_report.specs.declared.outcome.SinkEnd.{SinkEnd}
 use Rattle.run_report.specs.declared.outcome.Status.{Status}
@@ -70,7 +70,7 @@ abbrev pub is_over : Answer → ℕ → Bool
 is_over a turns = is_stalled a.status || nat_lt a.used turns
 
 -- what is told of the run
-pub record AfterRun (names : List (List ℕ)) (ran : Ran) (a : Answer) : Type 0 where
+pub record AfterRun (names : List (List ℕ)) (ran : RunResult) (a : Answer) : Type 0 where
   pub status : a.status ≡ status_after ran.sinks.items ran.trace_failed ran.at_rest
   pub sinks : a.sinks ≡ ends_of names ran.sinks.items
   pub wires : a.wires ≡ ran.wires.items

@@ -1,5 +1,5 @@
 // The answer of a call, from the blueprint's file to the status and what is told of a run.
-ghost use Rattle.std.specs.Prelude.{ℕ, List, ◌≡◌, ◌≤◌, ◌||◌, [], ◌⊎◌, Option, map, length, IfOk, IsTrue, Some, None, vec_len, vec_capacity};
+ghost use Rattle.std.specs.Prelude.{ℕ, List, ◌≡◌, ◌<◌, ◌≤◌, ◌||◌, [], ◌⊎◌, Option, map, length, IfOk, IfSome, IsTrue, Some, None, vec_len, vec_capacity};
 ghost use Rattle.blue_check.specs.Checked.{blueprint_of};
 ghost use Rattle.blue_check.specs.Fitness.{IsFit};
 ghost use Rattle.blueprint_run.specs.Stands.{is_unended, is_write_fault, is_failed};
@@ -13,6 +13,8 @@ ghost use Rattle.stream_top.specs.AfterRun.{AfterRun, of_outcome, status_after, 
 ghost use Rattle.stream_io.specs.Counts.{GrewAtMost};
 ghost use Rattle.stream_top.specs.Outcome.{taken_files, Blank, EndedRun, Told, RunCauses, Causes, SinksOf, QuietButAll, QuietAmong};
 ghost use Rattle.file_text.specs.Text.{text_limit};
+ghost use Rattle.island_runs.specs.Receipt.{HasIslands};
+ghost use Rattle.stream_top.specs.Receipts.{Receipts, RanIslands, RanText, RanFile};
 ghost use Rattle.stream_top.specs.Texts.{EndedFit, EndedParsed, EndedText, CausesFit, CausesText};
 
 use blue_check::check::{CheckEnd, check};
@@ -21,7 +23,8 @@ use blue_check::detail::put_detail;
 use blue_check::fault::CheckFault;
 use blue_core::blueprint::Blueprint;
 use blue_lang::parse::{ParseEnd, parse};
-use blueprint_run::run::{Ran, run};
+use blueprint_run::run::{RunResult, run};
+use dispatcher::ran::Ran;
 use elem_core::line::Line;
 use elem_core::why::NoMemory;
 use file_text::text::{ReadEnd, read_file};
@@ -30,10 +33,12 @@ use materializer::names::sink_names;
 use run_files::open::OpenEnd;
 use run_report::outcome::{SinkEnd, Status};
 use std::alloc::Global;
+use std::sync::Wait;
+use std::thread::Threads;
 use stream_io::outside::Folder;
 use stream_model::outcome::{EndState, PickList, Picture};
 
-/// How a call ended, what is told of a rule that is broken, and what is told of a run where a blueprint was run.
+/// How a call ended, what is told of a rule that is broken, and what is told of a run where a blueprint was run, with its receipt.
 #[derive(Drop)]
 pub struct Outcome {
     pub status: Status,
@@ -42,6 +47,7 @@ pub struct Outcome {
     pub picture: Picture,
     pub picks: Vec<PickList>,
     pub used: u64,
+    pub ran: Option<Ran>,
 }
 
 /// A status without a run, of which nothing more is told.
@@ -50,6 +56,7 @@ pub fn without_run(alloc: Global, status: Status) -> Outcome
     ensures status { result.status ≡ status }
     ensures detail { result.detail.items ≡ detail_of result.status }
     ensures blank { Blank (of_outcome result) }
+    ensures ran { result.ran ≡ None }
 {
     told_without_run(alloc, status, Vec::new(alloc))
 }
@@ -60,6 +67,7 @@ fn told_without_run(alloc: Global, status: Status, detail: Vec<u8>) -> Outcome
     ensures status { result.status ≡ status }
     ensures detail { result.detail.items ≡ detail_of result.status }
     ensures blank { Blank (of_outcome result) }
+    ensures ran { result.ran ≡ None }
 {
     Outcome {
         status,
@@ -70,6 +78,7 @@ fn told_without_run(alloc: Global, status: Status, detail: Vec<u8>) -> Outcome
         },
         picks: Vec::new(alloc),
         used: 0,
+        ran: None,
     }
 }
 
@@ -87,6 +96,7 @@ fn unfit(alloc: Global, fault: CheckFault) -> Outcome
     ensures status { (result.status ≡ Status.Unfit fault) ⊎ (result.status ≡ Status.NoMemory) }
     ensures detail { result.detail.items ≡ detail_of result.status }
     ensures blank { Blank (of_outcome result) }
+    ensures ran { result.ran ≡ None }
 {
     match detail(alloc, &fault) {
         Ok(detail) => told_without_run(alloc, Status::Unfit(fault), detail),
@@ -154,20 +164,22 @@ fn status_of(sinks: &[(u32, u64, EndState)], trace_failed: bool, at_rest: bool) 
 }
 
 /// What is told of a run, in a list that has room for its sinks.
-fn after_run(alloc: Global, names: Vec<Line>, room: Vec<SinkEnd>, ran: Ran) -> Outcome
+fn after_run(alloc: Global, names: Vec<Line>, room: Vec<SinkEnd>, ran: RunResult) -> Outcome
     requires empty { room.items ≡ [] }
     requires room { vec_len names ≤ vec_capacity room }
     requires as_many { vec_len names ≡ vec_len ran.sinks }
     ensures run { AfterRun names.items ran (of_outcome result) }
+    ensures ran { result.ran ≡ Some ran.ran }
     ensures detail { result.detail.items ≡ detail_of result.status }
 {
-    let Ran {
+    let RunResult {
         sinks,
         picks,
         wires,
         used,
         at_rest,
         trace_failed,
+        ran,
     } = ran;
     Outcome {
         status: status_of(&sinks, trace_failed, at_rest),
@@ -176,6 +188,7 @@ fn after_run(alloc: Global, names: Vec<Line>, room: Vec<SinkEnd>, ran: Ran) -> O
         picture: Picture { wires },
         picks,
         used: u64::from(used),
+        ran: Some(ran),
     }
 }
 
@@ -191,15 +204,18 @@ fn sinks_to_tell(alloc: Global, b: &Blueprint) -> Result<(Vec<Line>, Vec<SinkEnd
 }
 
 /// Runs a blueprint of which all has been built.
-fn run_blueprint<F: Folder>(
+fn run_blueprint<R: Threads + Wait + Sync, F: Folder>(
+    rt: &R,
     alloc: Global,
     folder: &mut F,
     b: Blueprint,
     trace: Option<Line>,
+    workers: u32,
     turns: u32,
 ) -> Outcome
     requires runs { CanRun b }
     requires apart { IsApart b trace }
+    requires workers { (0 < workers) × (workers ≤ 64) }
     requires turns { turns ≤ 4000000000 }
     ensures told { IsTrue (F.state folder.old).tells → EndedRun result.status (of_outcome result) b trace turns (F.state folder.old) (F.state folder.new) }
     ensures tells { IsTrue (F.state folder.new).tells → IsTrue (F.state folder.old).tells }
@@ -207,13 +223,15 @@ fn run_blueprint<F: Folder>(
     ensures sinks { SinksOf result.status (of_outcome result) trace }
     ensures detail { result.detail.items ≡ detail_of result.status }
     ensures reads { QuietButAll (inputs_of_nodes b.nodes.items) (F.state folder.old).read (F.state folder.new).read }
+    ensures ran { Receipts result.status workers result.used result.ran }
+    ensures islands { IfSome result.ran (λ r. HasIslands b r.islands) }
     ensures handles { F.handles folder.new ≡ F.handles folder.old }
 {
     // The names and the room for the ends of its sinks are made before a file is opened, so that want of memory hides no fault.
     let Ok((names, room)) = sinks_to_tell(alloc, &b) else {
         return without_run(alloc, Status::NoMemory);
     };
-    match run(alloc, folder, b, trace, turns) {
+    match run(rt, alloc, folder, b, trace, workers, turns) {
         Ok(ran) => after_run(alloc, names, room, ran),
         Err(OpenEnd::MissingInput(name)) => without_run(alloc, Status::Missing(name)),
         Err(OpenEnd::MissingOutput(name)) => without_run(alloc, Status::Missing(name)),
@@ -222,15 +240,18 @@ fn run_blueprint<F: Folder>(
 }
 
 /// Runs a blueprint that was checked, where all of it has been built.
-fn run_checked<F: Folder>(
+fn run_checked<R: Threads + Wait + Sync, F: Folder>(
+    rt: &R,
     alloc: Global,
     folder: &mut F,
     checked: Checked,
     trace: Option<Line>,
+    workers: u32,
     turns: u32,
 ) -> Outcome
     requires fit { (taken : List (List ℕ)) × IsFit (blueprint_of checked) [] taken }
     requires apart { IsApart (blueprint_of checked) trace }
+    requires workers { (0 < workers) × (workers ≤ 64) }
     requires turns { turns ≤ 4000000000 }
     ensures told { IsTrue (F.state folder.old).tells → EndedFit result.status (of_outcome result) (blueprint_of checked) trace turns (F.state folder.old) (F.state folder.new) }
     ensures tells { IsTrue (F.state folder.new).tells → IsTrue (F.state folder.old).tells }
@@ -238,25 +259,38 @@ fn run_checked<F: Folder>(
     ensures sinks { SinksOf result.status (of_outcome result) trace }
     ensures detail { result.detail.items ≡ detail_of result.status }
     ensures reads { QuietButAll (inputs_of_nodes (blueprint_of checked).nodes.items) (F.state folder.old).read (F.state folder.new).read }
+    ensures ran { Receipts result.status workers result.used result.ran }
+    ensures islands { (taken : List (List ℕ)) → IsFit (blueprint_of checked) [] taken → IfSome result.ran (λ r. RanIslands (blueprint_of checked) taken r) }
     ensures handles { F.handles folder.new ≡ F.handles folder.old }
 {
     match first_unbuilt(checked.blueprint()) {
-        Ok(None) => run_blueprint(alloc, folder, checked.into_blueprint(), trace, turns),
+        Ok(None) => run_blueprint(
+            rt,
+            alloc,
+            folder,
+            checked.into_blueprint(),
+            trace,
+            workers,
+            turns,
+        ),
         Ok(Some(node)) => without_run(alloc, Status::Unbuilt(node)),
         Err(_) => without_run(alloc, Status::NoMemory),
     }
 }
 
 /// Checks a blueprint, where these files are taken, and runs it.
-fn run_parsed<F: Folder>(
+fn run_parsed<R: Threads + Wait + Sync, F: Folder>(
+    rt: &R,
     alloc: Global,
     folder: &mut F,
     b: Blueprint,
     taken: &[Line],
     trace: Option<Line>,
+    workers: u32,
     turns: u32,
 ) -> Outcome
     requires taken { (t : List ℕ) → trace ≡ Some t → Contains taken.now t }
+    requires workers { (0 < workers) × (workers ≤ 64) }
     requires turns { turns ≤ 4000000000 }
     ensures told { IsTrue (F.state folder.old).tells → EndedParsed result.status (of_outcome result) b taken.now trace turns (F.state folder.old) (F.state folder.new) }
     ensures tells { IsTrue (F.state folder.new).tells → IsTrue (F.state folder.old).tells }
@@ -264,25 +298,30 @@ fn run_parsed<F: Folder>(
     ensures sinks { SinksOf result.status (of_outcome result) trace }
     ensures detail { result.detail.items ≡ detail_of result.status }
     ensures reads { QuietAmong taken.now (F.state folder.old).read (F.state folder.new).read }
+    ensures ran { Receipts result.status workers result.used result.ran }
+    ensures islands { IfSome result.ran (λ r. RanIslands b taken.now r) }
     ensures handles { F.handles folder.new ≡ F.handles folder.old }
 {
     match check(alloc, b, &[], taken) {
-        Ok(checked) => run_checked(alloc, folder, checked, trace, turns),
+        Ok(checked) => run_checked(rt, alloc, folder, checked, trace, workers, turns),
         Err(CheckEnd::Fault(fault)) => unfit(alloc, fault),
         Err(CheckEnd::NoMemory) => without_run(alloc, Status::NoMemory),
     }
 }
 
 /// Runs the blueprint that a text says, where these files are taken.
-fn run_text<F: Folder>(
+fn run_text<R: Threads + Wait + Sync, F: Folder>(
+    rt: &R,
     alloc: Global,
     folder: &mut F,
     text: &[u8],
     taken: &[Line],
     trace: Option<Line>,
+    workers: u32,
     turns: u32,
 ) -> Outcome
     requires taken { (t : List ℕ) → trace ≡ Some t → Contains taken.now t }
+    requires workers { (0 < workers) × (workers ≤ 64) }
     requires turns { turns ≤ 4000000000 }
     ensures told { IsTrue (F.state folder.old).tells → EndedText result.status (of_outcome result) text.now taken.now trace turns (F.state folder.old) (F.state folder.new) }
     ensures tells { IsTrue (F.state folder.new).tells → IsTrue (F.state folder.old).tells }
@@ -290,10 +329,12 @@ fn run_text<F: Folder>(
     ensures sinks { SinksOf result.status (of_outcome result) trace }
     ensures detail { result.detail.items ≡ detail_of result.status }
     ensures reads { QuietAmong taken.now (F.state folder.old).read (F.state folder.new).read }
+    ensures ran { Receipts result.status workers result.used result.ran }
+    ensures islands { RanText text.now taken.now result.ran }
     ensures handles { F.handles folder.new ≡ F.handles folder.old }
 {
     match parse(alloc, text) {
-        Ok(b) => run_parsed(alloc, folder, b, taken, trace, turns),
+        Ok(b) => run_parsed(rt, alloc, folder, b, taken, trace, workers, turns),
         Err(ParseEnd::Fault(fault)) => without_run(alloc, Status::Refused(fault)),
         Err(ParseEnd::NoMemory) => without_run(alloc, Status::NoMemory),
     }
@@ -342,15 +383,18 @@ fn names_of(alloc: Global, file: &Line, trace: Option<&Line>) -> Result<Names, N
     })
 }
 
-/// Reads the blueprint of that name's file, and runs it by at most so many units; the file of the trace, where one is wanted, is another.
-pub fn run_file<F: Folder>(
+/// Reads the blueprint of that name's file, and lets so many workers run it by at most so many units; the file of the trace, where one is wanted, is another.
+pub fn run_file<R: Threads + Wait + Sync, F: Folder>(
+    rt: &R,
     alloc: Global,
     folder: &mut F,
     file: &Line,
     trace: Option<&Line>,
+    workers: u32,
     turns: u32,
 ) -> Outcome
-    requires { turns ≤ 4000000000 }
+    requires workers { (0 < workers) × (workers ≤ 64) }
+    requires turns { turns ≤ 4000000000 }
     ensures told { IsTrue (F.state folder.old).tells → Told (of_outcome result) (record { file = file.now; trace = option_copied trace.entry; turns = turns }) (F.state folder.old) (F.state folder.new) }
     ensures causes { Causes result.status (of_outcome result) file.now (option_copied trace.entry) (F.state folder.old) (F.state folder.new) }
     ensures sinks { SinksOf result.status (of_outcome result) (option_copied trace.entry) }
@@ -358,6 +402,8 @@ pub fn run_file<F: Folder>(
     ensures tells { IsTrue (F.state folder.new).tells → IsTrue (F.state folder.old).tells }
     ensures detail { result.detail.items ≡ detail_of result.status }
     ensures reads { GrewAtMost ((F.state folder.old).read file.now) text_limit ((F.state folder.new).read file.now) }
+    ensures ran { Receipts result.status workers result.used result.ran }
+    ensures islands { IsTrue (F.state folder.old).tells → RanFile (F.state folder.old) file.now (option_copied trace.entry) result.ran }
     ensures handles { F.handles folder.new ≡ F.handles folder.old }
 {
     let Ok(names) = names_of(alloc, file, trace) else {
@@ -369,7 +415,7 @@ pub fn run_file<F: Folder>(
         taken,
     } = names;
     match read_file(alloc, folder, file) {
-        Ok(text) => run_text(alloc, folder, &text, &taken, path, turns),
+        Ok(text) => run_text(rt, alloc, folder, &text, &taken, path, workers, turns),
         Err(ReadEnd::Missing) => without_run(alloc, Status::Missing(name)),
         Err(ReadEnd::Fault) => without_run(alloc, Status::ReadFault),
         Err(ReadEnd::NoMemory) => without_run(alloc, Status::NoMemory),

@@ -1,23 +1,28 @@
 // The run of a file, and the report of a call.
-ghost use Rattle.std.specs.Prelude.{◌≡◌, ◌≤◌, ◌⊎◌, ℕ, [], IsTrue};
+ghost use Rattle.std.specs.Prelude.{◌≡◌, ◌<◌, ◌≤◌, ◌⊎◌, ℕ, [], None, IsTrue};
 ghost use Rattle.std.specs.Option.{option_copied};
 ghost use Rattle.stream_io.specs.Counts.{GrewAtMost};
 ghost use Rattle.stream_top.specs.Calls.{answer_of};
 ghost use Rattle.stream_top.specs.Outcome.{Blank, Told, Causes, SinksOf, IsValid, RoseNowhere, WasRun};
 ghost use Rattle.file_text.specs.Text.{text_limit};
+ghost use Rattle.stream_top.specs.Receipts.{Receipts, RanFile};
 ghost use Rattle.run_report.specs.Report.{detail_of, report_of, code_of};
 ghost use Rattle.run_report.specs.Writing.{Puts, PutsPart};
 
 use crate::answer::{self, Outcome};
+use dispatcher::ran::Ran;
 use elem_core::line::Line;
 use run_report::outcome::{SinkEnd, Status};
 use run_report::report::{code, put_report};
 use std::alloc::Global;
+use std::sync::Wait;
+use std::thread::Threads;
 use stream_io::outside::{Drain, Failed, Folder};
 use stream_model::outcome::{PickList, Picture};
 
 /// What a call comes to: the exit code, the status, and where a blueprint was run its sinks, what its wires carried, the moves of
-/// each stage whose kind chooses, in order of nodes, and how many units were used.
+/// each stage whose kind chooses, in order of nodes, how many units were used, and the receipt of the run, which names its workers and
+/// its islands.
 #[derive(Drop)]
 pub struct RunEnd {
     pub code: u8,
@@ -26,18 +31,22 @@ pub struct RunEnd {
     pub picture: Picture,
     pub picks: Vec<PickList>,
     pub used: u64,
+    pub ran: Option<Ran>,
 }
 
-/// Reads and runs the blueprint of the file of that name by at most so many units, 4,000,000,000 at most, and writes the report to the console. Where a file for the trace is given, it is opened behind those of the sinks, and what the stages chose is written into it after the run, a line for each stage whose kind chooses, in order of nodes. No source and no sink may name it, nor the blueprint's file. Rule: own.
-pub fn run_file<F: Folder, C: Drain>(
+/// Reads the blueprint of the file of that name, lets so many workers, 1 to 64, run it by at most so many units, 4,000,000,000 at most, and writes the report to the console. Where a file for the trace is given, it is opened behind those of the sinks, and what the stages chose is written into it after the run, a line for each stage whose kind chooses, in order of nodes. No source and no sink may name it, nor the blueprint's file. Rule: own.
+pub fn run_file<R: Threads + Wait + Sync, F: Folder, C: Drain>(
+    rt: &R,
     alloc: Global,
     file: &Line,
     trace: Option<&Line>,
+    workers: u32,
     turns: u32,
     folder: &mut F,
     console: &mut C,
 ) -> RunEnd
-    requires { turns ≤ 4000000000 }
+    requires workers { (0 < workers) × (workers ≤ 64) }
+    requires turns { turns ≤ 4000000000 }
 
     // What is answered and left where the folder told its files before. What files hold then is said where it still tells them.
     ensures tells { IsTrue (F.state folder.new).tells → IsTrue (F.state folder.old).tells }
@@ -49,6 +58,10 @@ pub fn run_file<F: Folder, C: Drain>(
     // Which counts rose, whether it tells them or not.
     ensures causes { Causes result.status (answer_of result) file.now (option_copied trace.entry) (F.state folder.old) (F.state folder.new) }
     ensures sinks { SinksOf result.status (answer_of result) (option_copied trace.entry) }
+
+    // After a run, and only there, there is a receipt, of so many workers and as many islands as the blueprint of the file has.
+    ensures ran { Receipts result.status workers result.used result.ran }
+    ensures islands { IsTrue (F.state folder.old).tells → RanFile (F.state folder.old) file.now (option_copied trace.entry) result.ran }
 
     // A file is no want of words.
     ensures no_usage { result.status ≡ Status.Usage → ⊥ }
@@ -70,7 +83,8 @@ pub fn run_file<F: Folder, C: Drain>(
         picture,
         picks,
         used,
-    } = answer::run_file(alloc, folder, file, trace, turns);
+        ran,
+    } = answer::run_file(rt, alloc, folder, file, trace, workers, turns);
     let code = match put_report(console, &status, &detail, &sinks, &picture.wires, used) {
         Ok(()) => code(&status),
         Err(Failed) => 8,
@@ -82,6 +96,7 @@ pub fn run_file<F: Folder, C: Drain>(
         picture,
         picks,
         used,
+        ran,
     }
 }
 
@@ -90,6 +105,7 @@ pub fn end_before_run<C: Drain>(alloc: Global, status: Status, console: &mut C) 
     requires { detail_of status ≡ [] }
     ensures status { result.status ≡ status }
     ensures blank { Blank (answer_of result) }
+    ensures ran { result.ran ≡ None }
     ensures console { (Puts (C.state console.old) (C.state console.new) (report_of (answer_of result)) × (result.code ≡ code_of result.status))
         ⊎ (PutsPart (C.state console.old) (C.state console.new) (report_of (answer_of result)) × (result.code ≡ 8)) }
 {
@@ -106,5 +122,6 @@ pub fn end_before_run<C: Drain>(alloc: Global, status: Status, console: &mut C) 
         },
         picks: Vec::new(alloc),
         used: 0,
+        ran: None,
     }
 }

@@ -1,8 +1,10 @@
 -- The goals of `answer::run_blueprint` that the search leaves.
-use Rattle.std.proofs.Common.{◌≡◌, ◌∙◌, inl, inr, ap, subst, Err, length, rules}
+use Rattle.std.proofs.Common.{◌≡◌, ◌∙◌, inl, inr, ap, sym, subst, Err, length, rules}
 use Rattle.stream_top.specs.AfterRun.{AfterRun, of_outcome}
 use Rattle.file_text.proofs.Quiets.{tells_before}
 use Rattle.stream_top.proofs.Answering.{as_many_stands, run_told, run_causes, run_sinks, missing_input, missing_output, missing_causes, wanted, wanted_tells, wanted_causes, wanted_draws}
+use Rattle.stream_top.proofs.Receipts.{after_run}
+use Rattle.stream_top.specs.Receipts.{Receipts}
 use Rattle.stream_top.proofs.answer.run_blueprint.Goals as goal
 
 pub after_run-requires-clause-as_many : goal.after_run-requires-clause-as_many
@@ -91,3 +93,10 @@ pub returns-clause-reads : goal.returns-clause-reads
 returns-clause-reads g c =
     let e = c.in-Err-NoMemory in
     wanted_draws _ _ c.args.b c.args.trace (e.ensures.no_memory (ap Err e.field-0-is))
+
+pub returns-in-Ok-run-clause-ran : goal.returns-in-Ok-run-clause-ran
+returns-in-Ok-run-clause-ran g c =
+    let ran = c.in-Ok-run.ran in
+    let made = c.after_run in
+    subst (λ n. Receipts made.result.status c.args.workers n made.result.ran) (sym made.ensures.run.used)
+    (after_run c.args.b c.args.workers ran.used ran.ran made.result.ran made.ensures.ran made.result.status ran.sinks.items ran.trace_failed ran.at_rest made.ensures.run.status c.in-Ok-run.ensures.receipt)

@@ -6,6 +6,8 @@ use Rattle.stream_top.specs.Outcome.{taken_files}
 use Rattle.stream_top.specs.Texts.{EndedText, CausesText}
 use Rattle.file_text.proofs.Quiets.{tells_before, tells_behind}
 use Rattle.stream_top.proofs.Answering.{told_text, causes_text, reads_text, sinks_text, among_of}
+use Rattle.stream_top.proofs.Receipts.{of_file}
+use Rattle.stream_top.specs.Receipts.{RanText}
 use Rattle.stream_top.proofs.answer.run_file.Goals as goal
 
 pub run_text-requires-clause-taken : goal.run_text-requires-clause-taken
@@ -51,3 +53,9 @@ returns-in-Ok-read_file-clause-reads g c =
     let trace = option_copied c.args.trace in
     let taken = c.deref-in-Ok-read_file.ensures.value ∙ c.in-Ok.ensures.taken in
     reads_text (g.F.Folder.state c.args.folder.now).read (g.F.Folder.state c.read_file.new.folder).read (g.F.Folder.state c.run_text.new.folder).read c.args.file.now trace _ taken c.in-Ok-read_file.ensures.most c.run_text.ensures.reads
+
+pub returns-in-Ok-read_file-clause-islands : goal.returns-in-Ok-read_file-clause-islands
+returns-in-Ok-read_file-clause-islands g c =
+    let taken = c.deref-in-Ok-read_file.ensures.value ∙ c.in-Ok.ensures.taken in
+    λ tells. of_file (g.F.Folder.state c.args.folder.now) (g.F.Folder.state c.read_file.new.folder) c.args.file.now c.in-Ok-read_file.text.items (option_copied c.args.trace) c.deref-in-Ok-read_file.result.now c.run_text.result.ran tells c.in-Ok-read_file.ensures.ok taken
+    (subst (λ x. RanText x c.deref-in-Ok-read_file.result.now c.run_text.result.ran) c.deref.ensures.value c.run_text.ensures.islands)

@@ -1,0 +1,44 @@
+-- The receipt of a run: what it tells, by the status of the call.
+use Rattle.std.specs.Prelude.{◌≡◌, ℕ, true, false, List, [], Option, Some, None, IfSome}
+use Rattle.blue_core.specs.declared.blueprint.Blueprint.{Blueprint}
+use Rattle.blue_check.specs.Fitness.{IsFit}
+use Rattle.blue_lang.specs.Blueprints as language
+use Rattle.blue_lang.specs.Plain.{plain}
+use Rattle.dispatcher.specs.declared.ran.Ran.{Ran}
+use Rattle.island_runs.specs.Receipt.{HasIslands}
+use Rattle.materializer.specs.Built.{unbuilt_node}
+use Rattle.run_report.specs.declared.outcome.Status.{Status}
+use Rattle.run_report.specs.declared.outcome.Status.TheVariants as status
+use Rattle.stream_io.specs.State.{FolderState}
+use Rattle.stream_top.specs.Outcome.{SaysBuilt}
+
+-- there is a receipt of so many workers and so many units
+pub record HasReceipt (workers used : ℕ) (ran : Option Ran) : Type 0 where
+  pub receipt : Ran
+  pub there : ran ≡ Some receipt
+  pub workers_are : receipt.workers ≡ workers
+  pub used_is : receipt.used ≡ used
+
+-- After a run there is one; where all units were used before the sinks had ended it says that events were left, and where the run stalled
+-- that none was. Else there is none.
+abbrev pub Receipts : Status → ℕ → ℕ → Option Ran → Type 0
+Receipts status.Done workers used ran = HasReceipt workers used ran
+Receipts status.StreamFailed workers used ran = HasReceipt workers used ran
+Receipts status.Stalled workers used ran = (r : HasReceipt workers used ran) × (r.receipt.more ≡ false)
+Receipts status.OutOfTurns workers used ran = (r : HasReceipt workers used ran) × (r.receipt.more ≡ true)
+Receipts status.WriteFault workers used ran = HasReceipt workers used ran
+Receipts _ workers used ran = ran ≡ None
+
+-- the islands of this blueprint were run, which breaks no rule where these files are taken, and of which all has been built
+pub record RanIslands (b : Blueprint) (taken : List (List ℕ)) (r : Ran) : Type 0 where
+  pub fit : IsFit b [] taken
+  pub built : unbuilt_node b ≡ None
+  pub islands : HasIslands b r.islands
+
+-- those of the blueprint that this text says
+abbrev pub RanText : List ℕ → List (List ℕ) → Option Ran → Type 0
+RanText text taken ran = IfSome ran (λ r. (b : Blueprint) × (language.Says text (plain b) × RanIslands b taken r))
+
+-- those of the blueprint that this file says
+abbrev pub RanFile : FolderState → List ℕ → Option (List ℕ) → Option Ran → Type 0
+RanFile folder file trace ran = IfSome ran (λ r. (b : Blueprint) × (SaysBuilt folder file trace b × HasIslands b r.islands))

@@ -1,5 +1,5 @@
 // The whole call.
-ghost use Rattle.std.specs.Prelude.{◌≡◌, ◌≤◌, ◌⊎◌, ◌↔◌, ◌≢◌, List, ℕ, Some, None, IsTrue};
+ghost use Rattle.std.specs.Prelude.{◌≡◌, ◌<◌, ◌≤◌, ◌⊎◌, ◌↔◌, ◌≢◌, List, ℕ, Some, None, IsTrue};
 ghost use Rattle.stream_io.specs.Counts.{GrewAtMost};
 ghost use Rattle.command_words.specs.Asking.{Asked, asked_of};
 ghost use Rattle.command_words.specs.Commands.{asked};
@@ -9,18 +9,23 @@ ghost use Rattle.file_text.specs.Text.{text_limit};
 ghost use Rattle.run_report.specs.Report.{report_of, code_of};
 ghost use Rattle.run_report.specs.Writing.{Puts, PutsPart};
 ghost use Rattle.stream_command.specs.Answers.{Answers, AnswersTo, RunsFile, IsValidFor};
+ghost use Rattle.stream_command.specs.Receipts.{ReceiptsOf, ReceiptsFor, IslandsOf, IslandsFor};
+ghost use Rattle.stream_top.specs.Receipts.{Receipts, RanFile};
 
 use command_words::command::{Command, WordsEnd, read_words};
 use elem_core::line::Line;
 use generator::generate::{GenerateEnd, generate};
 use run_report::outcome::Status;
 use std::alloc::Global;
+use std::sync::Wait;
+use std::thread::Threads;
 use stream_io::outside::{Drain, Folder};
 use stream_top::top::{RunEnd, end_before_run, run_file};
 
-/// Reads the command's words, generates the files that they ask for, reads and runs the blueprint of the file that they name, and writes the report to the console. Rule: own.
+/// Reads the command's words, generates the files that they ask for, reads the blueprint of the file that they name and lets as many workers run it as they say, and writes the report to the console. Rule: own.
 #[tactic(auto, using(crate::proofs::Answering::told_before, crate::proofs::Answering::reads_little, crate::proofs::Answering::completes, crate::proofs::Answering::usage_of, crate::proofs::Answering::gave_up, crate::proofs::Answering::refused, crate::proofs::Answering::as_asked))]
-pub fn run_streams<F: Folder, C: Drain>(
+pub fn run_streams<R: Threads + Wait + Sync, F: Folder, C: Drain>(
+    rt: &R,
     alloc: Global,
     words: &[Line],
     folder: &mut F,
@@ -34,6 +39,10 @@ pub fn run_streams<F: Folder, C: Drain>(
 
     // A valid blueprint and no fault give a run, or memory was wanting.
     ensures complete { (c : Asked) → asked_of words.now ≡ Some c → IsValidFor c.generated c.file c.trace (F.state folder.old) (F.state folder.new) → RoseNowhere (F.state folder.old) (F.state folder.new) → WasRun result.status }
+
+    // After a run, and only there, there is a receipt, of the command's workers and as many islands as the file's blueprint has.
+    ensures ran { ReceiptsOf (asked_of words.now) (answer_of result) result.ran }
+    ensures islands { IslandsOf (asked_of words.now) result.ran (F.state folder.old) (F.state folder.new) }
 
     // Reading the blueprint's file stops after so many bytes.
     ensures reads { (c : Asked) → asked_of words.now ≡ Some c → GrewAtMost ((F.state folder.old).read c.file) text_limit ((F.state folder.new).read c.file) }
@@ -49,7 +58,7 @@ pub fn run_streams<F: Folder, C: Drain>(
         ⊎ (PutsPart (C.state console.old) (C.state console.new) (report_of (answer_of result)) × (result.code ≡ 8)) }
 {
     match read_words(alloc, words) {
-        Ok(command) => run_command(alloc, &command, folder, console),
+        Ok(command) => run_command(rt, alloc, &command, folder, console),
         Err(WordsEnd::Usage) => end_before_run(alloc, Status::Usage, console),
         Err(WordsEnd::NoMemory) => end_before_run(alloc, Status::NoMemory, console),
     }
@@ -57,41 +66,51 @@ pub fn run_streams<F: Folder, C: Drain>(
 
 /// Does what a command asks for.
 #[tactic(auto, using(crate::proofs::Answering::file_was_run, crate::proofs::Answering::was_generated))]
-fn run_command<F: Folder, C: Drain>(
+fn run_command<R: Threads + Wait + Sync, F: Folder, C: Drain>(
+    rt: &R,
     alloc: Global,
     command: &Command,
     folder: &mut F,
     console: &mut C,
 ) -> RunEnd
-    requires { command.now.turns ≤ 4000000000 }
+    requires workers { (0 < command.now.workers) × (command.now.workers ≤ 64) }
+    requires turns { command.now.turns ≤ 4000000000 }
     ensures answers { Answers (Some (asked command.now)) (answer_of result) (F.state folder.old) (F.state folder.new) }
+    ensures ran { ReceiptsOf (Some (asked command.now)) (answer_of result) result.ran }
+    ensures islands { IslandsOf (Some (asked command.now)) result.ran (F.state folder.old) (F.state folder.new) }
     ensures handles { F.handles folder.new ≡ F.handles folder.old }
     ensures console { (Puts (C.state console.old) (C.state console.new) (report_of (answer_of result)) × (result.code ≡ code_of result.status))
         ⊎ (PutsPart (C.state console.old) (C.state console.new) (report_of (answer_of result)) × (result.code ≡ 8)) }
 {
     match command.generated {
-        Some(n) => run_generated(alloc, n, command, folder, console),
-        None => run_command_file(alloc, command, folder, console),
+        Some(n) => run_generated(rt, alloc, n, command, folder, console),
+        None => run_command_file(rt, alloc, command, folder, console),
     }
 }
 
 /// Runs the file of a command.
-fn run_command_file<F: Folder, C: Drain>(
+fn run_command_file<R: Threads + Wait + Sync, F: Folder, C: Drain>(
+    rt: &R,
     alloc: Global,
     command: &Command,
     folder: &mut F,
     console: &mut C,
 ) -> RunEnd
-    requires { command.now.turns ≤ 4000000000 }
+    requires workers { (0 < command.now.workers) × (command.now.workers ≤ 64) }
+    requires turns { command.now.turns ≤ 4000000000 }
     ensures runs { RunsFile command.now.file command.now.trace command.now.turns (answer_of result) (F.state folder.old) (F.state folder.new) }
+    ensures ran { Receipts result.status command.now.workers result.used result.ran }
+    ensures islands { IsTrue (F.state folder.old).tells → RanFile (F.state folder.old) command.now.file command.now.trace result.ran }
     ensures handles { F.handles folder.new ≡ F.handles folder.old }
     ensures console { (Puts (C.state console.old) (C.state console.new) (report_of (answer_of result)) × (result.code ≡ code_of result.status))
         ⊎ (PutsPart (C.state console.old) (C.state console.new) (report_of (answer_of result)) × (result.code ≡ 8)) }
 {
     run_file(
+        rt,
         alloc,
         &command.file,
         command.trace.as_ref(),
+        command.workers,
         command.turns,
         folder,
         console,
@@ -100,21 +119,25 @@ fn run_command_file<F: Folder, C: Drain>(
 
 /// Generates so many lines and their blueprint, and runs it.
 #[tactic(auto, using(crate::proofs::Answering::ended, crate::proofs::Answering::ran))]
-fn run_generated<F: Folder, C: Drain>(
+fn run_generated<R: Threads + Wait + Sync, F: Folder, C: Drain>(
+    rt: &R,
     alloc: Global,
     n: u32,
     command: &Command,
     folder: &mut F,
     console: &mut C,
 ) -> RunEnd
-    requires { command.now.turns ≤ 4000000000 }
+    requires workers { (0 < command.now.workers) × (command.now.workers ≤ 64) }
+    requires turns { command.now.turns ≤ 4000000000 }
     ensures answers { AnswersTo (Some n) (asked command.now) (answer_of result) (F.state folder.old) (F.state folder.new) }
+    ensures ran { ReceiptsFor (Some n) (answer_of result) command.now.workers result.ran }
+    ensures islands { IslandsFor (Some n) command.now.file command.now.trace result.ran (F.state folder.old) (F.state folder.new) }
     ensures handles { F.handles folder.new ≡ F.handles folder.old }
     ensures console { (Puts (C.state console.old) (C.state console.new) (report_of (answer_of result)) × (result.code ≡ code_of result.status))
         ⊎ (PutsPart (C.state console.old) (C.state console.new) (report_of (answer_of result)) × (result.code ≡ 8)) }
 {
     match generate(alloc, folder, n) {
-        Ok(()) => run_command_file(alloc, command, folder, console),
+        Ok(()) => run_command_file(rt, alloc, command, folder, console),
         Err(GenerateEnd::Missing(name)) => end_before_run(alloc, Status::Missing(name), console),
         Err(GenerateEnd::WriteFault) => end_before_run(alloc, Status::WriteFault, console),
         Err(GenerateEnd::NoMemory) => end_before_run(alloc, Status::NoMemory, console),

@@ -48,6 +48,6 @@ fn main(rt: HostRuntime) -> io::Result<ExitCode> {
     };
     let mut folder = DirFolder::new(rt.alloc(), rt.clone()?);
     let mut console = StdConsole::new(rt.clone()?);
-    let end = run_streams(rt.alloc(), &words, &mut folder, &mut console);
+    let end = run_streams(&rt, rt.alloc(), &words, &mut folder, &mut console);
     Ok(ExitCode::from(end.code))
 }

@@ -22,7 +22,7 @@ fn sure_calls_run(rt: HostRuntime) -> Result<(), Fail> {
     }
     let mut folder = SureFolder::new(files, 3);
     let mut console = SureDrain::new(3);
-    let end = run_surely(alloc, &file, None, 1000, &mut folder, &mut console);
+    let end = run_surely(&rt, alloc, &file, None, 2, 1000, &mut folder, &mut console);
     assert_eq!(rt; end.code, 0);
     assert!(rt; matches!(end.status, Status::Done));
     assert_eq!(rt; end.sinks.len(), 1);

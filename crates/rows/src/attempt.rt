@@ -12,6 +12,8 @@ use blue_words::fault::{BlueFault, kind_number};
 use elem_core::elem_type::{ElemType, TypeForm};
 use plug_core::head::PlugHead;
 use std::alloc::Global;
+use std::sync::Wait;
+use std::thread::Threads;
 use stream_command::RunEnd;
 use stream_command::run::run_streams;
 use stream_io::fail_at::FailAt;
@@ -35,9 +37,13 @@ pub struct Came {
 }
 
 /// What came at the first step at which it is nothing that the case wants; None where there is no such step.
-pub fn first_miss(alloc: Global, case: &Case) -> Result<Option<Came>, Fault> {
+pub fn first_miss<R: Threads + Wait + Sync>(
+    rt: &R,
+    alloc: Global,
+    case: &Case,
+) -> Result<Option<Came>, Fault> {
     for step in &case.steps {
-        let came = attempt(alloc, case, *step)?;
+        let came = attempt(rt, alloc, case, *step)?;
         if !case
             .wanted
             .iter()
@@ -85,16 +91,26 @@ fn sent_at_most(sent: &[u64], wire: u32, count: u32) -> bool {
     }
 }
 
-fn attempt(alloc: Global, case: &Case, step: u32) -> Result<Came, Fault> {
+fn attempt<R: Threads + Wait + Sync>(
+    rt: &R,
+    alloc: Global,
+    case: &Case,
+    step: u32,
+) -> Result<Came, Fault> {
     match case.kind {
-        Kind::Call => call(alloc, case, step.max(1)),
+        Kind::Call => call(rt, alloc, case, step.max(1)),
         Kind::Print => printed(alloc, &case.text),
         Kind::Check(plugs) => checked(alloc, &case.text, plugs),
     }
 }
 
 /// A whole call over a folder and a console in memory.
-fn call(alloc: Global, case: &Case, step: u32) -> Result<Came, Fault>
+fn call<R: Threads + Wait + Sync>(
+    rt: &R,
+    alloc: Global,
+    case: &Case,
+    step: u32,
+) -> Result<Came, Fault>
     requires { 0 < step }
 {
     let mut fails = Vec::new(alloc);
@@ -108,7 +124,7 @@ fn call(alloc: Global, case: &Case, step: u32) -> Result<Came, Fault>
     let mut folder = MemFolder::new(copies(alloc, &case.files)?, fails, step, case.room);
     let console_fails = Vec::from_slice(alloc, &case.console_fails)?;
     let mut console = MemDrain::new(alloc, console_fails, step, 100_000)?;
-    let end = run_streams(alloc, &case.words, &mut folder, &mut console);
+    let end = run_streams(rt, alloc, &case.words, &mut folder, &mut console);
     Ok(Came {
         step,
         tells: folder.tells(),

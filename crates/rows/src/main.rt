@@ -9,9 +9,11 @@ mod text;
 use attempt::first_miss;
 use case::{Case, Verdict, read_cases};
 use show::put_miss;
-use std::alloc::{AllocError, Global};
+use std::alloc::AllocError;
 use std::process::ExitCode;
 use std::rt::{Env, Files};
+use std::sync::Wait;
+use std::thread::Threads;
 use std::{env, fs, io};
 use text::Fault;
 
@@ -25,11 +27,17 @@ struct Count {
 
 impl Count {
     /// Tries a case of this file.
-    fn add(&mut self, alloc: Global, file: &str, case: &Case) -> Result<(), Fault> {
+    fn add<R: AllocGlobal + Threads + Wait + Sync>(
+        &mut self,
+        rt: &R,
+        file: &str,
+        case: &Case,
+    ) -> Result<(), Fault> {
+        let alloc = rt.alloc();
         let miss = if case.is_malformed {
             None
         } else {
-            first_miss(alloc, case)?
+            first_miss(rt, alloc, case)?
         };
         let came = match &miss {
             _ if case.is_malformed => Verdict::Malformed,
@@ -64,7 +72,11 @@ impl Count {
     }
 
     /// Tries the cases of a file. One that can't be read, or has no case, fails.
-    fn add_file<R: Files + AllocGlobal>(&mut self, rt: &R, file: &str) -> Result<(), Fault> {
+    fn add_file<R: Files + AllocGlobal + Threads + Wait + Sync>(
+        &mut self,
+        rt: &R,
+        file: &str,
+    ) -> Result<(), Fault> {
         let alloc = rt.alloc();
         let Ok(text) = fs::read(rt, file) else {
             return Ok(self.fail(file, b"the file cannot be read", Verdict::Fails)?);
@@ -74,14 +86,14 @@ impl Count {
             self.fail(file, b"the file has no case", Verdict::Malformed)?;
         }
         for case in &cases {
-            self.add(alloc, file, case)?;
+            self.add(rt, file, case)?;
         }
         Ok(())
     }
 }
 
 /// Tries the cases of all files that the words name.
-fn count_all<R: Env + Files + AllocGlobal>(rt: &R) -> io::Result<Count> {
+fn count_all<R: Env + Files + AllocGlobal + Threads + Wait + Sync>(rt: &R) -> io::Result<Count> {
     let mut count = Count {
         passed: 0,
         failed: 0,

@@ -1,5 +1,5 @@
 -- Lists that grow at their end, and lists with the same origins.
-use Rattle.std.proofs.Common.{rules, ◌≡◌, ℕ, zero, suc, ◌+◌, ◌⊎◌, inl, inr, List, [], ◌∷◌, ◌++◌, map, length, take, sym, refl, ap, ◌∙◌, subst, arith, Some, slice_get, Result, Ok, Err, IfOk, IfErr}
+use Rattle.std.proofs.Common.{rules, ◌≡◌, ℕ, zero, suc, ◌+◌, ◌⊎◌, inl, inr, List, [], ◌∷◌, ◌++◌, map, length, take, sym, refl, ap, ◌∙◌, subst, arith, Some, slice_get}
 use Rattle.std.specs.List.{All}
 use Rattle.std.proofs.lemmas.List.Elements.{All-head, All-tail}
 use Rattle.std.proofs.lemmas.Option.{slice_get_within}
@@ -83,15 +83,6 @@ map_same (x ∷ xs) = ap (λ l. x ∷ l) (map_same xs)
 
 pub each_grown : {B : Type 0} (R : B → B → Type 0) (xs ys zs ws : List B) (x y : B) → zs ≡ xs ++ x ∷ [] → ws ≡ ys ++ y ∷ [] → EachOf R xs ys → R x y → EachOf R zs ws
 each_grown R xs ys zs ws x y ez ew e r = subst (λ l. EachOf R zs l) (sym ew) (subst (λ l. EachOf R l (ys ++ y ∷ [])) (sym ez) (each_snoc R xs ys x y e r))
-
--- more of an answer
-pub if_ok : {A E : Type 0} (P Q : A → Type 0) (r : Result A E) → ((x : A) → P x → Q x) → IfOk r P → IfOk r Q
-if_ok P Q (Ok x) h p = h x p
-if_ok P Q (Err e) h p = p
-
-pub if_err : {A E : Type 0} (P Q : E → Type 0) (r : Result A E) → ((x : E) → P x → Q x) → IfErr r P → IfErr r Q
-if_err P Q (Ok x) h p = p
-if_err P Q (Err e) h p = h e p
 
 take_none : {A : Type 0} (ys : List A) → take 0 ys ≡ []
 take_none [] = refl

@@ -1,10 +1,8 @@
 -- Bodies that went on or broke off.
-use Rattle.std.proofs.Common.{◌≡◌, inl, inr, ℕ, Bool, true, false, not, List, length, sym, refl, ap, ◌∙◌, subst, arith, Some, slice_get}
-use Rattle.std.proofs.lemmas.Option.{slice_get_within}
-use Rattle.lane_core.specs.declared.room.Waits.{Waits}
+use Rattle.std.proofs.Common.{◌≡◌, inl, inr, ℕ, Bool, true, false, not, List, sym, refl, ap, ◌∙◌, slice_get}
 use Rattle.rounds.specs.declared.crossing.Crossing.{Crossing}
 use Rattle.rounds.specs.Bodies.{AllOf, EachOf, BrokeOff}
-use Rattle.rounds.specs.Crossings.{AreCrossings, AllJoined, AtRest}
+use Rattle.rounds.specs.Crossings.{AreCrossings}
 use Rattle.rounds.proofs.Each.{same_or, at_count}
 use Rattle.rounds.proofs.Lanes.{crossings_each}
 use Rattle.dispatcher.specs.Broken.{WholeOrBroken}
@@ -20,13 +18,6 @@ module _ {B : Type 0} (keeps : B → Type 0) (goes breaks : B → B → Type 0) 
 
   pub went_keeps : (xs ys : List B) → EachOf (WentOn keeps goes) xs ys → AllOf keeps ys
   went_keeps xs ys e = λ k b eb. let a = at_count ys xs k b (sym e.count) eb in (e.each k a.0 b a.1 eb).1
-
-  -- all that are whole stay as they were
-  pub whole_still : ((a : B) → goes a a) → (xs : List B) → AllOf keeps xs → EachOf (WentOrBroke keeps goes breaks) xs xs
-  whole_still still xs all = record { count = refl; each = λ k a b ea eb. subst (λ v. WentOrBroke keeps goes breaks a v) (one a b (sym ea ∙ eb)) (inl (still a, all k a ea)) }
-    where
-      one : (x y : B) → Some x ≡ Some y → x ≡ y
-      one x y e = cc
 
   -- all met afterwards
   pub either_met : (stands : B → B → Type 0) → ((a b c : B) → goes a b → goes b c → goes a c) → ((a b c : B) → breaks a b → stands b c → breaks a c) → ((a b : B) → stands a b → keeps a → keeps b) → (xs ys zs : List B) → EachOf (WentOrBroke keeps goes breaks) xs ys → EachOf stands ys zs → EachOf goes ys zs → WholeOrBroken keeps goes breaks xs zs
@@ -57,20 +48,6 @@ module _ {B : Type 0} (keeps : B → Type 0) (goes breaks : B → B → Type 0) 
       (λ a b c o i r m. elim r [ inl g ↦ go a b c o i g.0 m | inr k ↦ bo a b c o i k m ])
       (λ a b d o i r m. elim r [ inl g ↦ gi a b d o i g.0 m | inr k ↦ bi a b d o i k m ])
       xs ys lanes e h
-
--- without bodies there are no lanes
-pub none_joined : {B : Type 0} (may : B → ℕ → B → ℕ → Type 0) (joined : B → ℕ → B → ℕ → Waits → Type 0) (xs : List B) (lanes : List Crossing) → length xs ≡ 0 → AreCrossings may xs lanes → AllJoined joined xs lanes
-none_joined may joined xs lanes none h = λ n c t. absurd (let l = (h n c t).from_there in omega (arith, l, none))
-
-pub none_rest : {B : Type 0} (pending : B → Bool) (may : B → ℕ → B → ℕ → Type 0) (joined : B → ℕ → B → ℕ → Waits → Type 0) (xs : List B) (lanes : List Crossing) → length xs ≡ 0 → AreCrossings may xs lanes → AtRest pending joined xs lanes
-none_rest pending may joined xs lanes none h = record {
-  rings = λ k b e. absurd (let l = slice_get_within xs k b e in omega (arith, l, none));
-  nothing_waits = λ n c t. absurd (let l = (h n c t).from_there in omega (arith, l, none));
-}
-
-pub not_true : (t : Bool) → not t ≡ false → t ≡ true
-not_true true e = refl
-not_true false e = sym e
 
 pub not_false : (t : Bool) → not t ≡ true → t ≡ false
 not_false false e = refl

@@ -20,24 +20,20 @@ use unit_budget::budget::Budget;
 pub struct ReadyList {
     queue: ArrayQueue<u32, Global>,
     count: u32,
-    // How many tries in a row find no island before a worker leaves.
-    tries: u32,
 }
 
-// How many tries in a row find no island before one of several workers leaves.
+// How many tries in a row find no island before a worker leaves.
 const TRIES: u32 = 1000;
 
 impl ReadyList {
-    /// A list of so many islands, none of which is ready, for so many workers. One worker by itself leaves as soon as it finds no island,
-    /// since no other can put one there.
-    pub fn new(alloc: Global, count: u32, workers: u32) -> Result<ReadyList, AllocError>
+    /// A list of so many islands, none of which is ready.
+    pub fn new(alloc: Global, count: u32) -> Result<ReadyList, AllocError>
         requires { 0 < count }
         ensures { IfOk result (λ l. l.count ≡ count) }
     {
         Ok(ReadyList {
             queue: ArrayQueue::new(alloc, count as usize)?,
             count,
-            tries: if workers > 1 { TRIES } else { 1 },
         })
     }
 }
@@ -156,7 +152,7 @@ fn work<B: Waking, R: Wait>(
     let backoff = Backoff::new();
     let mut missed = 0u32;
     for _ in rt.forever() {
-        if missed >= list.tries {
+        if missed >= TRIES {
             break;
         }
         match take(rt, list) {

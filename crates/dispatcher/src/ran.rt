@@ -11,7 +11,7 @@ pub struct Ran {
 }
 
 impl Ran {
-    /// How many workers the run had.
+    /// How many workers the run was given.
     pub fn workers(&self) -> u32
         ensures { result ≡ self.now.workers }
     {

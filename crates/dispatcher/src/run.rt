@@ -10,13 +10,14 @@ ghost use Rattle.dispatcher.specs.Places.{WentOn, WentOrBroke};
 ghost use Rattle.dispatcher.specs.Crew.{IsCrew};
 
 use crate::crew::{ReadyList, wake_each, work_all};
-use crate::finish::{Finish, finish_all, settled};
+use crate::finish::{Finish, settled};
 use crate::place::Place;
 use crate::ran::Ran;
-use crate::taken::{Taken, place_all, take_apart};
+use crate::taken::{Taken, place_all, take_apart, untaken};
 use crate::waking::Waking;
 use elem_core::why::NoMemory;
 use rounds::crossing::Crossing;
+use rounds::run::go_on;
 use std::alloc::Global;
 use std::sync::Wait;
 use std::thread::Threads;
@@ -34,7 +35,7 @@ struct Room<B: Waking> {
 }
 
 impl<B: Waking> Room<B> {
-    fn of(alloc: Global, count: u32, workers: u32, budget: u32) -> Result<Room<B>, NoMemory>
+    fn of(alloc: Global, count: u32, budget: u32) -> Result<Room<B>, NoMemory>
         requires some { 0 < count }
         requires few { count < 4294967295 }
         ensures seat { IfOk result (λ r. (seat_id r.first ≡ budget_id r.purse) × IsIdle r.first × (parts_of r.first ≡ count + 1) × (used_by r.first ≡ 0) × (limit_of r.first ≡ budget)) }
@@ -47,7 +48,7 @@ impl<B: Waking> Room<B> {
         Ok(Room {
             purse,
             first,
-            list: ReadyList::new(alloc, count, workers)?,
+            list: ReadyList::new(alloc, count)?,
             places: Vec::with_capacity(alloc, count as usize)?,
             back: Vec::with_capacity(alloc, count as usize)?,
             bodies: Vec::with_capacity(alloc, count as usize)?,
@@ -79,7 +80,11 @@ fn take_turns<B: Waking + Send, R: Threads + Wait + Sync>(
     turns.close(seats, back)
 }
 
-// The workers' part of a run. Where memory was wanting at first no turn was taken.
+// The greatest number of bodies of a run.
+const MOST_BODIES: usize = 4294967294;
+
+// The workers' part of a run. There is none where one worker runs, or one body at most: nobody takes a turn beside another then, and
+// the caller's thread needs no table for it. Where memory was wanting at first no turn was taken.
 fn run_workers<B: Waking + Send, R: Threads + Wait + Sync>(
     rt: &R,
     alloc: Global,
@@ -88,22 +93,24 @@ fn run_workers<B: Waking + Send, R: Threads + Wait + Sync>(
     budget: u32,
 ) -> Taken<B>
     requires workers { (0 < workers) × (workers ≤ 64) }
-    requires few { (0 < vec_len bodies) × (vec_len bodies < 4294967295) }
     requires budget { budget ≤ 4000000000 }
     requires keeps { AllOf B.keeps bodies.items }
     requires unspent { AllOf (λ b. B.spent b ≡ 0) bodies.items }
+    ensures few { result.lack ≡ false → vec_len bodies < 4294967295 }
     ensures each { EachOf (WentOrBroke B.keeps B.goes B.breaks) bodies.items result.bodies.items }
     ensures whole { result.lack ≡ false → EachOf (WentOn B.keeps B.goes) bodies.items result.bodies.items }
     ensures spent { result.lack ≡ false → result.used ≡ sum_by B.spent result.bodies.items }
     ensures within { result.used ≤ budget }
 {
+    if bodies.len() > MOST_BODIES {
+        return untaken(bodies, true);
+    }
     let count = bodies.len() as u32;
-    let Ok(room) = Room::of(alloc, count, workers, budget) else {
-        return Taken {
-            bodies,
-            used: 0,
-            lack: true,
-        };
+    if workers == 1 || count < 2 {
+        return untaken(bodies, false);
+    }
+    let Ok(room) = Room::of(alloc, count, budget) else {
+        return untaken(bodies, true);
     };
     let Room {
         purse,
@@ -123,61 +130,11 @@ fn run_workers<B: Waking + Send, R: Threads + Wait + Sync>(
     }
 }
 
-// A run of as many bodies as a table has places for.
-fn run_few<B: Waking + Send, R: Threads + Wait + Sync>(
-    rt: &R,
-    alloc: Global,
-    bodies: Vec<B>,
-    lanes: &[Crossing],
-    workers: u32,
-    budget: u32,
-) -> Result<Finish<B>, Vec<B>>
-    requires workers { (0 < workers) × (workers ≤ 64) }
-    requires few { vec_len bodies < 4294967295 }
-    requires budget { budget ≤ 4000000000 }
-    requires keeps { AllOf B.keeps bodies.items }
-    requires unspent { AllOf (λ b. B.spent b ≡ 0) bodies.items }
-    requires lanes { AreCrossings B.may_meet bodies.items lanes.now }
-    ensures keeps { IfOk result (λ f. AllOf B.keeps f.bodies.items) }
-    ensures goes { IfOk result (λ f. EachOf B.goes bodies.items f.bodies.items) }
-    ensures joined { IfOk result (λ f. AllJoined B.joined f.bodies.items lanes.now) }
-    ensures spent { IfOk result (λ f. f.used ≡ sum_by B.spent f.bodies.items) }
-    ensures within { IfOk result (λ f. f.used ≤ budget) }
-    ensures rest { IfOk result (λ f. f.more ≡ false → AtRest B.pending B.joined f.bodies.items lanes.now) }
-    ensures more { IfOk result (λ f. f.more ≡ true → (f.used ≡ budget) × ((k : ℕ) × FirstEvent B.pending B.joined f.bodies.items lanes.now k)) }
-    ensures ran { IfOk result (λ f. (f.ran.workers ≡ workers) × (f.ran.islands ≡ vec_len bodies) × (f.ran.used ≡ f.used) × (f.ran.more ≡ f.more)) }
-    ensures broke { IfErr result (λ bs. WholeOrBroken B.keeps B.goes B.breaks bodies.items bs.items) }
-    ensures broke_joined { IfErr result (λ bs. AllJoined B.joined bs.items lanes.now) }
-{
-    let islands = bodies.len() as u32;
-    if islands == 0 {
-        return Ok(Finish {
-            bodies,
-            used: 0,
-            more: false,
-            ran: Ran {
-                workers,
-                islands: 0,
-                used: 0,
-                more: false,
-            },
-        });
-    }
-    let Taken { bodies, used, lack } = run_workers(rt, alloc, bodies, workers, budget);
-    if lack {
-        return Err(settled(bodies, lanes));
-    }
-    finish_all(alloc, bodies, lanes, workers, islands, used, budget)
-}
-
-// The greatest number of bodies of a run.
-const MOST_BODIES: usize = 4294967294;
-
 /// Runs bodies by workers until none has an event or `budget` units are used: each worker takes a body that is ready, and gives it a
-/// turn of at most 1000 units, until it finds none; what is left the caller's thread does, once the ends of all lanes were brought
-/// together. Where no thread can be made the caller's thread works. Where memory was wanting all bodies come back, in order, each whole
-/// or broken off in a turn, and the ends of all lanes are brought together too. That their number is out of 32 bits is want of memory.
-/// Rule: own.
+/// turn of at most 1000 units, until it finds none; what is left the caller's thread does, in rounds, and it does all of it where there
+/// is one worker or one body at most. Where no thread can be made the caller's thread works. Where memory was wanting all bodies come
+/// back, in order, each whole or broken off in a turn, and the ends of all lanes are brought together too. That their number is out of
+/// 32 bits is want of memory. Rule: own.
 pub fn run<B: Waking + Send, R: Threads + Wait + Sync>(
     rt: &R,
     alloc: Global,
@@ -202,9 +159,29 @@ pub fn run<B: Waking + Send, R: Threads + Wait + Sync>(
     ensures broke { IfErr result (λ bs. WholeOrBroken B.keeps B.goes B.breaks bodies.items bs.items) }
     ensures broke_joined { IfErr result (λ bs. AllJoined B.joined bs.items lanes.now) }
 {
-    if bodies.len() > MOST_BODIES {
-        Err(settled(bodies, lanes))
-    } else {
-        run_few(rt, alloc, bodies, lanes, workers, budget)
+    let islands = bodies.len();
+    let Taken {
+        mut bodies,
+        used,
+        lack,
+    } = run_workers(rt, alloc, bodies, workers, budget);
+    if lack {
+        return Err(settled(bodies, lanes));
     }
+    let Ok(end) = go_on(alloc, bodies.as_mut_slice(), lanes, used, budget) else {
+        return Err(bodies);
+    };
+    let used = end.used;
+    let more = !end.at_rest;
+    Ok(Finish {
+        bodies,
+        used,
+        more,
+        ran: Ran {
+            workers,
+            islands: islands as u32,
+            used,
+            more,
+        },
+    })
 }

@@ -26,6 +26,22 @@ fn either(a: bool, b: bool) -> bool
     a || b
 }
 
+/// Bodies that took no turn.
+pub fn untaken<B: Turning>(bodies: Vec<B>, lack: bool) -> Taken<B>
+    requires keeps { AllOf B.keeps bodies.items }
+    requires unspent { AllOf (λ b. B.spent b ≡ 0) bodies.items }
+    ensures lack { result.lack ≡ lack }
+    ensures used { result.used ≡ 0 }
+    ensures spent { result.used ≡ sum_by B.spent result.bodies.items }
+    ensures each { EachOf (WentOn B.keeps B.goes) bodies.items result.bodies.items }
+{
+    Taken {
+        bodies,
+        used: 0,
+        lack,
+    }
+}
+
 /// Each body with a seat of its own, in the room that is handed in.
 pub fn place_all<B: Turning>(
     purse: &Budget,

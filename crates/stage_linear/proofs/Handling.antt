@@ -1,6 +1,6 @@
 -- Each call of a linear stage keeps the law of its output.
 use Rattle.std.specs.Prelude.{Result, OnOk}
-use Rattle.std.proofs.Common.{Bool, ◌≡◌, ◌≤◌, List, [], ◌∷◌, ◌++◌, length, refl, sym, ap, subst, ◌∙◌}
+use Rattle.std.proofs.Common.{Bool, ◌≡◌, List, [], ◌∷◌, ◌++◌, length, refl, sym, ap, subst, ◌∙◌}
 use Rattle.elem_core.specs.Tree.{Tree}
 use Rattle.elem_core.specs.declared.item.Item.{Item}
 use Rattle.port_core.specs.declared.act.Act.{Act}
@@ -16,85 +16,86 @@ use Rattle.stage_core.proofs.OneOnes.{given_one, brought_one, one_input, at_firs
 use Rattle.stage_core.proofs.OnOks.{on_ok_two}
 use Rattle.stream_model.specs.Outlook.{unended}
 use Rattle.stream_model.specs.Machine.{Run, Machine}
-use Rattle.stream_model.specs.Linear.{Stage, Work, linear}
+use Rattle.stream_model.specs.Linear.{Book, Stage, Work, linear}
 use Rattle.stage_law.specs.Held.{Held, owing}
 use Rattle.stage_law.specs.Turn.{TurnAt}
 use Rattle.stage_law.specs.Law.{TookAs, GaveAs, Law}
 use Rattle.stage_law.proofs.Calls.{new_law, call_law}
 use Rattle.stage_linear.specs.declared.phase.Phase.{Phase}
 use Rattle.stage_linear.specs.declared.phase.Phase.TheVariants.{New, Open, Closed}
+use Rattle.stage_linear.specs.declared.course.Course.{Course}
 use Rattle.stage_linear.specs.States.{Logic, held, held_in, row, row_in, Turned}
 use Rattle.stage_linear.specs.Handling.{LinearFresh, LinearRow, LinearLaw}
 
 -- the law of its output once a call's actions are done
-law_after : (call : Call) (first old new : Logic) (v : View) (acts : List Act) (took gave : List (List Item)) → row old v → CallAllowed call v → ActsAllowed (seen call v) acts → Turned call old acts new → LinearLaw first old v took gave
-    → LinearLaw first new (acted_all (seen call v) acts) (histories.brought_by call took) (histories.given_all acts gave)
-law_after call first old new v acts took gave r h allowed t law = record {
+law_after : (book : Book) (call : Call) (first old new : Logic) (v : View) (acts : List Act) (took gave : List (List Item)) → row old v → CallAllowed call v → ActsAllowed (seen call v) acts → Turned book call old acts new → LinearLaw book first old v took gave
+    → LinearLaw book first new (acted_all (seen call v) acts) (histories.brought_by call took) (histories.given_all acts gave)
+law_after book call first old new v acts took gave r h allowed t law = record {
   took_list = law.took_list ++ brought_to 0 call;
   gave_list = law.gave_list ++ given_on 0 acts;
   took_is = ap (histories.brought_by call) law.took_is ∙ brought_one call law.took_list;
   gave_is = ap (histories.given_all acts) law.gave_is ∙ given_one acts law.gave_list;
   start = law.start;
   owes = law.owes;
-  law = λ book.
-      let turn : TurnAt (linear book first.stage.work) 0 call (held old) (given_on 0 acts) (held new) = subst (λ m. TurnAt m 0 call (held old) (given_on 0 acts) (held new)) (law.same book) (t.turn book) in
-      call_law (linear book first.stage.work) law.start 0 call (held old) (held new) v law.took_list law.gave_list acts (one_input (row_in old.phase old.over old.pending old.stage.work) v.ins v.outs r) h allowed turn (law.law book);
-  same = λ book. t.same book ∙ law.same book;
+  law =
+      let turn : TurnAt (linear book first.stage.work) 0 call (held book old) (given_on 0 acts) (held book new) = subst (λ m. TurnAt m 0 call (held book old) (given_on 0 acts) (held book new)) (law.same book) t.turn in
+      call_law (linear book first.stage.work) law.start 0 call (held book old) (held book new) v law.took_list law.gave_list acts (one_input (row_in old.phase old.course old.pending old.stage.work old.ready) v.ins v.outs r) h allowed turn law.law;
+  same = λ b. t.same b ∙ law.same b;
 }
 
 -- a call was handled
-pub handled : (call : Call) (old new : Logic) (acts : List Act) → Obeys call (row old) (row new) acts → Turned call old acts new → Handles LinearRow LinearLaw call old new acts
-handled call old new acts o t = record {
+pub handled : (book : Book) (call : Call) (old new : Logic) (acts : List Act) → Obeys call (row old) (row new) acts → Turned book call old acts new → Handles LinearRow (LinearLaw book) call old new acts
+handled book call old new acts o t = record {
   obeys = record {
     allowed = λ v h r. o.allowed v h r.row;
     row = λ v h r. record { started = t.started; row = o.row v h r.row };
   };
   stands = t.stands;
-  keeps = λ first v took gave h r law. law_after call first old new v acts took gave r.row h (o.allowed v h r.row) t law;
+  keeps = λ first v took gave h r law. law_after book call first old new v acts took gave r.row h (o.allowed v h r.row) t law;
 }
 
 -- ---- a call of a handler is of its one input or output
 
 first_call : (call : Call) (l : Logic) (v : View) → CallAllowed call v → LinearRow l v → at_first call ≡ call
-first_call call l v h r = first_port (row_in l.phase l.over l.pending l.stage.work) call v h r.row
+first_call call l v h r = first_port (row_in l.phase l.course l.pending l.stage.work l.ready) call v h r.row
 
 pub met_first : (call : Call) (l : Logic) → Meets call (LinearRow l) → Meets (at_first call) (row l)
 met_first call l m = subst (λ c. Meets c (row l)) (sym (first_call call l m.0 m.1.0 m.1.1)) (m.0, (m.1.0, m.1.1.row))
 
-pub handles : {T E : Type 0} (call : Call) (old new : Logic) (acts : List Act) (r : Result T E) → Meets call (LinearRow old) → OnOk r (Obeys (at_first call) (row old) (row new) acts) → OnOk r (Turned (at_first call) old acts new)
-    → OnOk r (Handles LinearRow LinearLaw call old new acts)
-handles call old new acts r m o t =
-    subst (λ c. OnOk r (Handles LinearRow LinearLaw c old new acts)) (first_call call old m.0 m.1.0 m.1.1) (on_ok_two r o t (λ a b. handled (at_first call) old new acts a b))
+pub handles : {T E : Type 0} (book : Book) (call : Call) (old new : Logic) (acts : List Act) (r : Result T E) → Meets call (LinearRow old) → OnOk r (Obeys (at_first call) (row old) (row new) acts) → OnOk r (Turned book (at_first call) old acts new)
+    → OnOk r (Handles LinearRow (LinearLaw book) call old new acts)
+handles book call old new acts r m o t =
+    subst (λ c. OnOk r (Handles LinearRow (LinearLaw book) c old new acts)) (first_call call old m.0 m.1.0 m.1.1) (on_ok_two r o t (λ a b. handled book (at_first call) old new acts a b))
 
 -- ---- the run begins
 
 -- a new stage: it owes what its machine gives from the start, and gave nothing of it
-new_start : (p : Phase) (over : Bool) (k : List Tree) (s : Stage) → p ≡ New → (start : Run Stage Tree) × ((held_in p over k s ≡ owing start) × (start.gave ≡ []))
-new_start New over k s e = (_, (refl, refl))
-new_start Open over k s e = cc
-new_start Closed over k s e = cc
+new_start : (book : Book) (p : Phase) (c : Course) (k : List Tree) (s : Stage) → p ≡ New → (start : Run Stage Tree) × ((held_in book p c k s ≡ owing start) × (start.gave ≡ []))
+new_start book New c k s e = (_, (refl, refl))
+new_start book Open c k s e = cc
+new_start book Closed c k s e = cc
 
 -- its ports are open and not asked
-new_ports : (p : Phase) (over : Bool) (k : List Tree) (w : Work) (x : InView) (y : OutView) → p ≡ New → row_in p over k w x y → TookAs x unended × GaveAs y unended
-new_ports New over k w Idle Unasked e r = (refl, refl)
-new_ports New over k w Idle Asked e r = absurd r
-new_ports New over k w Idle Shut e r = absurd r
-new_ports New over k w Idle Refused e r = absurd r
-new_ports New over k w Waiting y e r = absurd r
-new_ports New over k w Over y e r = absurd r
-new_ports New over k w Left y e r = absurd r
-new_ports Open over k w x y e r = cc
-new_ports Closed over k w x y e r = cc
+new_ports : (p : Phase) (c : Course) (k : List Tree) (w : Work) (g : Bool) (x : InView) (y : OutView) → p ≡ New → row_in p c k w g x y → TookAs x unended × GaveAs y unended
+new_ports New c k w g Idle Unasked e r = (refl, refl)
+new_ports New c k w g Idle Asked e r = absurd r
+new_ports New c k w g Idle Shut e r = absurd r
+new_ports New c k w g Idle Refused e r = absurd r
+new_ports New c k w g Waiting y e r = absurd r
+new_ports New c k w g Over y e r = absurd r
+new_ports New c k w g Left y e r = absurd r
+new_ports Open c k w g x y e r = cc
+new_ports Closed c k w g x y e r = cc
 
 -- the law at its two ports
 at_ports : (m : Machine Stage Tree) (start : Run Stage Tree) (h : Held Stage) (v : View) (x : InView) (y : OutView) → v.ins ≡ x ∷ [] → v.outs ≡ y ∷ [] → Law m start h x y [] [] → Law m start h (in_at v 0) (out_at v 0) [] []
 at_ports m start h v x y a b law = rw (a, b) law
 
-fresh_law : (l : Logic) (v : View) (took gave : List (List Item)) → LinearFresh l v → histories.AllEmpty took → histories.AllEmpty gave → length took ≡ length v.ins → length gave ≡ length v.outs → LinearLaw l l v took gave
-fresh_law l v took gave f a b m n =
-    let p = fresh_ports (row_in l.phase l.over l.pending l.stage.work) v.ins v.outs took gave f.row a b m n in
-    let s = new_start l.phase l.over l.pending l.stage f.phase in
-    let ports = new_ports l.phase l.over l.pending l.stage.work p.x p.y f.phase p.holds in
+fresh_law : (book : Book) (l : Logic) (v : View) (took gave : List (List Item)) → LinearFresh l v → histories.AllEmpty took → histories.AllEmpty gave → length took ≡ length v.ins → length gave ≡ length v.outs → LinearLaw book l l v took gave
+fresh_law book l v took gave f a b m n =
+    let p = fresh_ports (row_in l.phase l.course l.pending l.stage.work l.ready) v.ins v.outs took gave f.row a b m n in
+    let s = new_start book l.phase l.course l.pending l.stage f.phase in
+    let ports = new_ports l.phase l.course l.pending l.stage.work l.ready p.x p.y f.phase p.holds in
     record {
       took_list = [];
       gave_list = [];
@@ -102,19 +103,19 @@ fresh_law l v took gave f a b m n =
       gave_is = p.gave_is;
       start = s.0;
       owes = s.1.0;
-      law = λ book.
-          at_ports (linear book l.stage.work) s.0 (held l) v p.x p.y p.ins p.outs
+      law =
+          at_ports (linear book l.stage.work) s.0 (held book l) v p.x p.y p.ins p.outs
           (subst (λ (h : Held Stage). Law (linear book l.stage.work) s.0 h p.x p.y [] []) (sym s.1.0) (new_law (linear book l.stage.work) s.0 p.x p.y ports.0 ports.1 (λ h. s.1.1)));
-      same = λ book. refl;
+      same = λ b. refl;
     }
 
 -- the stage was started
-pub started : (old new : Logic) (acts : List Act) → Obeys starts (row old) (row new) acts → Turned starts old acts new → Starts LinearRow LinearLaw LinearFresh old new acts
-started old new acts o t = record {
+pub started : (book : Book) (old new : Logic) (acts : List Act) → Obeys starts (row old) (row new) acts → Turned book starts old acts new → Starts LinearRow (LinearLaw book) LinearFresh old new acts
+started book old new acts o t = record {
   obeys = record {
     allowed = λ v h f. o.allowed v h f.row;
     row = λ v h f. record { started = t.started; row = o.row v h f.row };
   };
   stands = t.stands;
-  begins = λ v took gave h f a b m n. law_after starts old old new v acts took gave f.row h (o.allowed v h f.row) t (fresh_law old v took gave f a b m n);
+  begins = λ v took gave h f a b m n. law_after book starts old old new v acts took gave f.row h (o.allowed v h f.row) t (fresh_law book old v took gave f a b m n);
 }

@@ -1,8 +1,7 @@
 -- A linear stage that was started has nothing to do over its own ports.
 use Rattle.std.specs.Prelude.{slice_index_or}
-use Rattle.std.proofs.Common.{◌≡◌, zero, suc, Bool, true, false, ◌⊎◌, inl, inr, List, [], ◌∷◌, refl, sym, subst}
+use Rattle.std.proofs.Common.{◌≡◌, zero, suc, Bool, ◌⊎◌, inl, inr, List, [], ◌∷◌, refl, sym, subst}
 use Rattle.elem_core.specs.Tree.{Tree}
-use Rattle.elem_core.specs.declared.why.Cause.{Cause}
 use Rattle.elem_core.specs.declared.item.Item.{Item}
 use Rattle.elem_core.specs.declared.item.Item.TheVariants as item
 use Rattle.port_core.specs.declared.view.InView.{InView}
@@ -12,7 +11,7 @@ use Rattle.port_core.specs.declared.view.OutView.TheVariants.{Unasked, Asked, Sh
 use Rattle.port_core.specs.View.{View, in_at, out_at, OneOneOf, IsInOpen, IsOutOpen}
 use Rattle.port_core.specs.Call.{Call, starts, asks, brings, cancels, CallAllowed}
 use Rattle.stream_model.specs.Machine.{going, Run, Machine}
-use Rattle.stream_model.specs.Linear.{Stage, Work}
+use Rattle.stream_model.specs.Linear.{Book, Stage, Work}
 use Rattle.stage_law.specs.Law.{Law}
 use Rattle.stage_law.specs.OwnPorts.{OwnRests}
 use Rattle.stage_law.specs.Held.{owing}
@@ -21,6 +20,8 @@ use Rattle.stream_picture.specs.OneWay.{holds_at_end}
 use Rattle.stage_law.proofs.OwnRows.{waiting_rests, idle_rests, closed_rests}
 use Rattle.stage_linear.specs.declared.phase.Phase.{Phase}
 use Rattle.stage_linear.specs.declared.phase.Phase.TheVariants.{New, Open, Closed}
+use Rattle.stage_linear.specs.declared.course.Course.{Course}
+use Rattle.stage_linear.specs.declared.course.Course.TheVariants as course
 use Rattle.stage_linear.specs.States.{Logic, held, held_in, row, row_in}
 
 module _ (m : Machine Stage Tree) (start : Run Stage Tree) (took gave : List Item) where
@@ -28,38 +29,56 @@ module _ (m : Machine Stage Tree) (start : Run Stage Tree) (took gave : List Ite
   waiting h s none law = subst (λ (k : List Tree). (law : Law m start (owing (record { gave = k; state = going s })) Waiting Asked took gave) → OwnRests m start (holds_at_end s.work) Waiting Asked law.in_list law.out_list) (sym none)
       (λ law. waiting_rests m start (holds_at_end s.work) (going s) took gave law) law
 
-  at_ports : (p : Phase) (over : Bool) (h : List Tree) (s : Stage) (x : InView) (y : OutView) → (p ≡ New → ⊥) → row_in p over h s.work x y → (law : Law m start (held_in p over h s) x y took gave)
+  at_ports : (b : Book) (p : Phase) (c : Course) (h : List Tree) (s : Stage) (g : Bool) (x : InView) (y : OutView) → (p ≡ New → ⊥) → row_in p c h s.work g x y → (law : Law m start (held_in b p c h s) x y took gave)
       → OwnRests m start (holds_at_end s.work) x y law.in_list law.out_list
-  at_ports New over h s x y n r law = absurd (n refl)
-  at_ports Closed over h s x y n r law = closed_rests m start (holds_at_end s.work) x y law.in_list law.out_list r
-  at_ports Open false h s Waiting Asked n r law = waiting h s r.0 law
-  at_ports Open false h s Idle Unasked n r law = idle_rests m start (holds_at_end s.work) law.in_list law.out_list
-  at_ports Open true h s Over Unasked n r law = inr (inr (inr (r.1.1, (refl, refl), refl)))
-  at_ports Open false h s Waiting Unasked n r law = absurd r
-  at_ports Open false h s Waiting Shut n r law = absurd r
-  at_ports Open false h s Waiting Refused n r law = absurd r
-  at_ports Open false h s Idle Asked n r law = absurd r
-  at_ports Open false h s Idle Shut n r law = absurd r
-  at_ports Open false h s Idle Refused n r law = absurd r
-  at_ports Open false h s Over y n r law = absurd r
-  at_ports Open false h s Left y n r law = absurd r
-  at_ports Open true h s Over Asked n r law = absurd r
-  at_ports Open true h s Over Shut n r law = absurd r
-  at_ports Open true h s Over Refused n r law = absurd r
-  at_ports Open true h s Waiting y n r law = absurd r
-  at_ports Open true h s Idle y n r law = absurd r
-  at_ports Open true h s Left y n r law = absurd r
+  at_ports b New c h s g x y n r law = absurd (n refl)
+  at_ports b Closed c h s g x y n r law = closed_rests m start (holds_at_end s.work) x y law.in_list law.out_list r
+  at_ports b Open course.Waits h s g Waiting Asked n r law = waiting h s r.0 law
+  at_ports b Open course.Idles h s g Idle Unasked n r law = idle_rests m start (holds_at_end s.work) law.in_list law.out_list
+  at_ports b Open course.Leaves h s g Idle Unasked n r law = idle_rests m start (holds_at_end s.work) law.in_list law.out_list
+  at_ports b Open course.Closes h s g Over Unasked n r law = inr (inr (inr (r.0.1.1, (refl, refl), refl)))
+  at_ports b Open course.Ends h s g Over Unasked n r law = inr (inr (inr (r.1.1, (refl, refl), refl)))
+  at_ports b Open course.Waits h s g Waiting Unasked n r law = absurd r
+  at_ports b Open course.Waits h s g Waiting Shut n r law = absurd r
+  at_ports b Open course.Waits h s g Waiting Refused n r law = absurd r
+  at_ports b Open course.Waits h s g Idle y n r law = absurd r
+  at_ports b Open course.Waits h s g Over y n r law = absurd r
+  at_ports b Open course.Waits h s g Left y n r law = absurd r
+  at_ports b Open course.Idles h s g Idle Asked n r law = absurd r
+  at_ports b Open course.Idles h s g Idle Shut n r law = absurd r
+  at_ports b Open course.Idles h s g Idle Refused n r law = absurd r
+  at_ports b Open course.Idles h s g Waiting y n r law = absurd r
+  at_ports b Open course.Idles h s g Over y n r law = absurd r
+  at_ports b Open course.Idles h s g Left y n r law = absurd r
+  at_ports b Open course.Leaves h s g Idle Asked n r law = absurd r
+  at_ports b Open course.Leaves h s g Idle Shut n r law = absurd r
+  at_ports b Open course.Leaves h s g Idle Refused n r law = absurd r
+  at_ports b Open course.Leaves h s g Waiting y n r law = absurd r
+  at_ports b Open course.Leaves h s g Over y n r law = absurd r
+  at_ports b Open course.Leaves h s g Left y n r law = absurd r
+  at_ports b Open course.Closes h s g Over Asked n r law = absurd r
+  at_ports b Open course.Closes h s g Over Shut n r law = absurd r
+  at_ports b Open course.Closes h s g Over Refused n r law = absurd r
+  at_ports b Open course.Closes h s g Idle y n r law = absurd r
+  at_ports b Open course.Closes h s g Waiting y n r law = absurd r
+  at_ports b Open course.Closes h s g Left y n r law = absurd r
+  at_ports b Open course.Ends h s g Over Asked n r law = absurd r
+  at_ports b Open course.Ends h s g Over Shut n r law = absurd r
+  at_ports b Open course.Ends h s g Over Refused n r law = absurd r
+  at_ports b Open course.Ends h s g Idle y n r law = absurd r
+  at_ports b Open course.Ends h s g Waiting y n r law = absurd r
+  at_ports b Open course.Ends h s g Left y n r law = absurd r
 
-  at_lists : (p : Phase) (over : Bool) (h : List Tree) (s : Stage) (xs : List InView) (ys : List OutView) → (p ≡ New → ⊥) → OneOneOf (row_in p over h s.work) xs ys
-      → (law : Law m start (held_in p over h s) (slice_index_or xs 0 Left) (slice_index_or ys 0 Shut) took gave) → OwnRests m start (holds_at_end s.work) (slice_index_or xs 0 Left) (slice_index_or ys 0 Shut) law.in_list law.out_list
-  at_lists p over h s (x ∷ []) (y ∷ []) n r law = at_ports p over h s x y n r law
-  at_lists p over h s [] ys n r law = absurd r
-  at_lists p over h s (x ∷ []) [] n r law = absurd r
-  at_lists p over h s (x ∷ []) (y ∷ z ∷ ys) n r law = absurd r
-  at_lists p over h s (x ∷ w ∷ xs) ys n r law = absurd r
+  at_lists : (b : Book) (p : Phase) (c : Course) (h : List Tree) (s : Stage) (g : Bool) (xs : List InView) (ys : List OutView) → (p ≡ New → ⊥) → OneOneOf (row_in p c h s.work g) xs ys
+      → (law : Law m start (held_in b p c h s) (slice_index_or xs 0 Left) (slice_index_or ys 0 Shut) took gave) → OwnRests m start (holds_at_end s.work) (slice_index_or xs 0 Left) (slice_index_or ys 0 Shut) law.in_list law.out_list
+  at_lists b p c h s g (x ∷ []) (y ∷ []) n r law = at_ports b p c h s g x y n r law
+  at_lists b p c h s g [] ys n r law = absurd r
+  at_lists b p c h s g (x ∷ []) [] n r law = absurd r
+  at_lists b p c h s g (x ∷ []) (y ∷ z ∷ ys) n r law = absurd r
+  at_lists b p c h s g (x ∷ w ∷ xs) ys n r law = absurd r
 
-  pub started_rests : (l : Logic) (v : View) → (l.phase ≡ New → ⊥) → row l v → (law : Law m start (held l) (in_at v 0) (out_at v 0) took gave) → OwnRests m start (holds_at_end l.stage.work) (in_at v 0) (out_at v 0) law.in_list law.out_list
-  started_rests l v n r law = at_lists l.phase l.over l.pending l.stage v.ins v.outs n r law
+  pub started_rests : (b : Book) (l : Logic) (v : View) → (l.phase ≡ New → ⊥) → row l v → (law : Law m start (held b l) (in_at v 0) (out_at v 0) took gave) → OwnRests m start (holds_at_end l.stage.work) (in_at v 0) (out_at v 0) law.in_list law.out_list
+  started_rests b l v n r law = at_lists b l.phase l.course l.pending l.stage l.ready v.ins v.outs n r law
 
 -- ---- where a call may come, a stage that was started is open
 
@@ -79,10 +98,10 @@ closed_ports Left Asked h r = r
 closed_ports Idle y h r = r
 closed_ports Waiting y h r = r
 
-open_at : (p : Phase) (over : Bool) (k : List Tree) (w : Work) (x : InView) (y : OutView) → (p ≡ New → ⊥) → (IsInOpen x ⊎ IsOutOpen y) → row_in p over k w x y → p ≡ Open
-open_at Open over k w x y n h r = refl
-open_at New over k w x y n h r = absurd (n refl)
-open_at Closed over k w x y n h r = absurd (closed_ports x y h r)
+open_at : (p : Phase) (c : Course) (k : List Tree) (w : Work) (g : Bool) (x : InView) (y : OutView) → (p ≡ New → ⊥) → (IsInOpen x ⊎ IsOutOpen y) → row_in p c k w g x y → p ≡ Open
+open_at Open c k w g x y n h r = refl
+open_at New c k w g x y n h r = absurd (n refl)
+open_at Closed c k w g x y n h r = absurd (closed_ports x y h r)
 
 -- some port of a stage with one input and one output is open, where a call may come
 pub may_come : (call : Call) (x : InView) (y : OutView) → (call ≡ starts → ⊥) → CallAllowed call (record { ins = x ∷ []; outs = y ∷ [] }) → IsInOpen x ⊎ IsOutOpen y
@@ -98,12 +117,12 @@ may_come (brings (suc i) (item.Failed c)) x y n h = absurd h
 may_come (cancels zero) x y n h = inr h
 may_come (cancels (suc j)) x y n h = absurd h
 
-open_lists : (p : Phase) (over : Bool) (k : List Tree) (w : Work) (call : Call) (xs : List InView) (ys : List OutView) → (p ≡ New → ⊥) → (call ≡ starts → ⊥) → CallAllowed call (record { ins = xs; outs = ys }) → OneOneOf (row_in p over k w) xs ys → p ≡ Open
-open_lists p over k w call (x ∷ []) (y ∷ []) n s h r = open_at p over k w x y n (may_come call x y s h) r
-open_lists p over k w call [] ys n s h r = absurd r
-open_lists p over k w call (x ∷ []) [] n s h r = absurd r
-open_lists p over k w call (x ∷ []) (y ∷ z ∷ ys) n s h r = absurd r
-open_lists p over k w call (x ∷ u ∷ xs) ys n s h r = absurd r
+open_lists : (p : Phase) (c : Course) (k : List Tree) (w : Work) (g : Bool) (call : Call) (xs : List InView) (ys : List OutView) → (p ≡ New → ⊥) → (call ≡ starts → ⊥) → CallAllowed call (record { ins = xs; outs = ys }) → OneOneOf (row_in p c k w g) xs ys → p ≡ Open
+open_lists p c k w g call (x ∷ []) (y ∷ []) n s h r = open_at p c k w g x y n (may_come call x y s h) r
+open_lists p c k w g call [] ys n s h r = absurd r
+open_lists p c k w g call (x ∷ []) [] n s h r = absurd r
+open_lists p c k w g call (x ∷ []) (y ∷ z ∷ ys) n s h r = absurd r
+open_lists p c k w g call (x ∷ u ∷ xs) ys n s h r = absurd r
 
 pub called_open : (l : Logic) (call : Call) (v : View) → (l.phase ≡ New → ⊥) → (call ≡ starts → ⊥) → CallAllowed call v → row l v → l.phase ≡ Open
-called_open l call v n s h r = open_lists l.phase l.over l.pending l.stage.work call v.ins v.outs n s h r
+called_open l call v n s h r = open_lists l.phase l.course l.pending l.stage.work l.ready call v.ins v.outs n s h r

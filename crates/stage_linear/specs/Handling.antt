@@ -20,14 +20,13 @@ pub record LinearRow (l : Logic) (v : View) : Type 0 where
   pub started : l.phase ≢ New
   pub row : row l v
 
--- The law of its output, by any book of plugs, since it asks none: from what it owed at first to what it owes now. Its
--- machine stays the same.
-pub record LinearLaw (first now : Logic) (v : View) (took gave : List (List Item)) : Type 0 where
+-- The law of its output by this book of plugs, from what it owed at first to what it owes now. Its machine stays the same.
+pub record LinearLaw (book : Book) (first now : Logic) (v : View) (took gave : List (List Item)) : Type 0 where
   pub took_list : List Item
   pub gave_list : List Item
   pub took_is : took ≡ took_list ∷ []
   pub gave_is : gave ≡ gave_list ∷ []
   pub start : Run Stage Tree
-  pub owes : held first ≡ owing start
-  pub law : (book : Book) → Law (linear book first.stage.work) start (held now) (in_at v 0) (out_at v 0) took_list gave_list
-  pub same : (book : Book) → linear book now.stage.work ≡ linear book first.stage.work
+  pub owes : held book first ≡ owing start
+  pub law : Law (linear book first.stage.work) start (held book now) (in_at v 0) (out_at v 0) took_list gave_list
+  pub same : (b : Book) → linear b now.stage.work ≡ linear b first.stage.work

@@ -1,4 +1,6 @@
 pub mod Tasks
+pub mod Plugs
+pub mod Workers
 pub mod States
 pub mod Pending
 pub mod Outcomes

@@ -1,38 +1,100 @@
--- The outputs of one element that a linear stage holds, and gives one by one.
-use Rattle.std.specs.Prelude.{Bool, true, false, ◌&&◌, if◌then◌else◌, List, [], ◌∷◌, Option, Some, None}
+-- The outputs that a linear stage holds, and gives one by one, and what it does once it gave the last of them.
+use Rattle.std.specs.Prelude.{◌≡◌, ⊤, ℕ, Bool, List, [], ◌∷◌, Option, Some, None}
 use Rattle.elem_core.specs.Tree.{Tree}
 use Rattle.port_core.specs.declared.act.Act.{Act}
-use Rattle.port_core.specs.declared.act.Act.TheVariants.{Pull, Push, Complete}
-use Rattle.stage_linear.specs.declared.phase.Phase.TheVariants.{Closed}
-use Rattle.stage_linear.specs.States.{Logic}
+use Rattle.port_core.specs.declared.act.Act.TheVariants.{Pull, Push, Complete, FailOut, Cancel}
+use Rattle.stream_model.specs.Machine.{Finish, adds, refuses}
+use Rattle.stage_linear.specs.declared.phase.Phase.{Phase}
+use Rattle.stage_linear.specs.declared.phase.Phase.TheVariants.{Open, Closed}
+use Rattle.stage_linear.specs.declared.course.Course.{Course}
+use Rattle.stage_linear.specs.declared.course.Course.TheVariants.{Waits, Idles, Leaves, Closes, Ends}
+use Rattle.stage_linear.specs.States.{Logic, counted, skipped}
 
 -- what is held; where there is no list yet, nothing is
-abbrev pub listed : Option (List Tree) → List Tree
-listed None = []
-listed (Some l) = l
+abbrev pub outputs_in : Option (List Tree) → List Tree
+outputs_in None = []
+outputs_in (Some l) = l
 
--- the elements behind the first
-abbrev pub behind_first : List Tree → List Tree
-behind_first [] = []
-behind_first (t ∷ l) = l
+-- ---- what one element gave
 
--- the first goes out; where there is none the stage asks again
+-- the first goes out, and the others are held; where there is none the stage asks again
+abbrev pub spread : Logic → ℕ → List Tree → Logic
+spread l n [] = skipped l n
+spread l n (t ∷ l₁) = record (counted l n) { pending = l₁ }
+
 abbrev pub first_acts : List Tree → List Act
 first_acts [] = Pull 0 ∷ []
 first_acts (t ∷ l) = Push 0 t ∷ []
 
--- nothing is held
-abbrev is_none : List Tree → Bool
-is_none [] = true
-is_none (t ∷ l) = false
+-- the same, and it is done: it ends with the last of them
+abbrev pub leaving : Logic → ℕ → List Tree → Logic
+leaving l n [] = record l { phase = Closed }
+leaving l n (t ∷ []) = record l { phase = Closed }
+leaving l n (t ∷ u ∷ l₁) = record (counted l n) { pending = u ∷ l₁; course = Leaves }
 
--- the input has ended, and nothing is held any more
-abbrev pub is_done : Logic → Bool
-is_done l = l.over && is_none l.pending
+abbrev pub leaving_acts : List Tree → List Act
+leaving_acts [] = Complete 0 ∷ Cancel 0 ∷ []
+leaving_acts (t ∷ []) = Push 0 t ∷ Complete 0 ∷ Cancel 0 ∷ []
+leaving_acts (t ∷ u ∷ l) = Push 0 t ∷ []
 
--- the stage ends then
-abbrev pub given_on_from : Logic → Logic
-given_on_from l = if is_done l then record l { phase = Closed } else l
+-- ---- the last outputs, once its input has ended and nothing is held
 
-abbrev pub last_acts : Logic → List Act
-last_acts l = if is_done l then Complete 0 ∷ [] else []
+-- where its output is asked, the first goes out; the others are held
+abbrev pub ended_with : Logic → Course → List Tree → Logic
+ended_with l c [] = record l { phase = Closed }
+ended_with l Waits (t ∷ []) = record l { phase = Closed }
+ended_with l Waits (t ∷ u ∷ l₁) = record l { pending = u ∷ l₁; course = Ends }
+ended_with l _ (t ∷ l₁) = record l { pending = t ∷ l₁; course = Ends }
+
+abbrev pub ended_acts : Course → List Tree → List Act
+ended_acts c [] = Complete 0 ∷ []
+ended_acts Waits (t ∷ []) = Push 0 t ∷ Complete 0 ∷ []
+ended_acts Waits (t ∷ u ∷ l) = Push 0 t ∷ []
+ended_acts _ (t ∷ l) = []
+
+abbrev pub closed_by : Logic → Finish Tree → Logic
+closed_by l (adds us) = ended_with l l.course us
+closed_by l (refuses c) = record l { phase = Closed }
+
+abbrev pub closed_acts : Logic → Finish Tree → List Act
+closed_acts l (adds us) = ended_acts l.course us
+closed_acts l (refuses c) = FailOut 0 c ∷ []
+
+-- ---- once the first of what is held went out
+
+-- it is done with the last, and this is what its input's end adds then
+abbrev pub behind_last : Logic → Course → Finish Tree → Logic
+behind_last l Leaves f = record l { phase = Closed }
+behind_last l Closes f = closed_by l f
+behind_last l Ends f = record l { phase = Closed }
+behind_last l _ f = l
+
+abbrev pub behind_last_acts : Logic → Course → Finish Tree → List Act
+behind_last_acts l Leaves f = Complete 0 ∷ Cancel 0 ∷ []
+behind_last_acts l Closes f = closed_acts l f
+behind_last_acts l Ends f = Complete 0 ∷ []
+behind_last_acts l _ f = []
+
+abbrev given_on_at : Logic → List Tree → Finish Tree → Logic
+given_on_at l [] f = behind_last l l.course f
+given_on_at l (t ∷ p) f = l
+
+abbrev given_acts_at : Logic → List Tree → Finish Tree → List Act
+given_acts_at l [] f = behind_last_acts l l.course f
+given_acts_at l (t ∷ p) f = []
+
+abbrev pub given_on_from : Logic → Finish Tree → Logic
+given_on_from l f = given_on_at l l.pending f
+
+abbrev pub last_acts : Logic → Finish Tree → List Act
+last_acts l f = given_acts_at l l.pending f
+
+-- its plug may be called as before, where the stage goes on to call it
+abbrev stays_ready : Phase → Course → Bool → Bool → Type 0
+stays_ready Open Waits b c = c ≡ b
+stays_ready Open Idles b c = c ≡ b
+stays_ready Open Closes b c = c ≡ b
+stays_ready _ _ b c = ⊤
+
+abbrev pub StaysReady : Logic → Logic → Type 0
+StaysReady old new = stays_ready new.phase new.course old.ready new.ready

@@ -1,13 +1,13 @@
 -- The tasks of the linear stages, in the words of the model.
 use Rattle.std.specs.Prelude.{◌≡◌, ◌<◌, ⊤, Bool, true, false, [], ◌∷◌}
 use Rattle.elem_core.specs.Tree.{Tree}
-use Rattle.stream_model.specs.Linear.{Book, Work, mapping, filtering, taking, taking_while, dropping, dropping_while, passing, limiting, expanding, gives, ends, blames, breaks, reaction, holds, restarted, first_of, linear}
+use Rattle.stream_model.specs.Linear.{Book, Work, mapping, filtering, taking, taking_while, dropping, dropping_while, passing, limiting, grouping, folding, scanning, reducing, heading, lasting, numbering, expanding, gives, ends, blames, breaks, reaction, holds, restarted, first_of, linear}
 use Rattle.stream_picture.specs.OneWay.{holds_at_end}
 use Rattle.elem_core.specs.declared.function.Pred.{Pred}
 use Rattle.stage_linear.specs.declared.task.Task.{Task}
 use Rattle.stage_linear.specs.declared.task.Task.TheVariants.{Map, Filter, FilterNot, Take, TakeWhile, Drop, DropWhile, Limit, Expand}
 use Rattle.stage_linear.specs.declared.task.Outcome.{Outcome}
-use Rattle.stage_linear.specs.declared.task.Outcome.TheVariants.{Gives, GivesAll, Skips, EndsWith, Ends, Blames, Fails}
+use Rattle.stage_linear.specs.declared.task.Outcome.TheVariants.{Gives, GivesAll, Skips, EndsWith, EndsWithAll, Ends, Blames, Fails}
 
 -- a drop_while passes every element once it gave one
 abbrev pub dropping_by : Pred → Bool → Work
@@ -26,9 +26,16 @@ work_in (DropWhile p passes) = dropping_by p passes
 work_in (Limit n) = limiting n
 work_in (Expand x) = expanding x
 
--- a take has an element to take
+-- it is a work of these stages, and a take has an element to take
 abbrev pub HasMore : Work → Type 0
 HasMore (taking n) = 0 < n
+HasMore (grouping n held) = ⊥
+HasMore (folding o a) = ⊥
+HasMore (scanning o a) = ⊥
+HasMore (reducing r a) = ⊥
+HasMore heading = ⊥
+HasMore (lasting a) = ⊥
+HasMore (numbering n f i) = ⊥
 HasMore _ = ⊤
 
 -- they are works of the same machine
@@ -47,13 +54,18 @@ Spreads w = (holds w ≡ true) × (holds_at_end w ≡ true)
 abbrev pub Stays : Work → Work → Type 0
 Stays old new = (new ≡ old) × ((restarted old ≡ old) × (first_of old ≡ []))
 
--- What came of the element t, as the model's reaction: what is given, and the stage goes on; or that it ends; or why the
--- function has no value, at which the work stays as it was; or why the stage fails, whatever its decider.
+-- What came of the element t by a book of plugs, as the model's reaction: what is given, and the stage goes on; or that it ends;
+-- or why the function has no value, at which the work stays as it was; or why the stage fails, whatever its decider.
+abbrev pub ReactedBy : Book → Work → Tree → Work → Outcome → Type 0
+ReactedBy book old t new (Gives u) = (reaction book old t ≡ gives (u ∷ []) new) × GoesOn old new
+ReactedBy book old t new (GivesAll us) = (reaction book old t ≡ gives us new) × (GoesOn old new × Spreads new)
+ReactedBy book old t new Skips = (reaction book old t ≡ gives [] new) × GoesOn old new
+ReactedBy book old t new (EndsWith u) = (reaction book old t ≡ ends (u ∷ [])) × SameMachine old new
+ReactedBy book old t new (EndsWithAll us) = (reaction book old t ≡ ends us) × (SameMachine old new × (Spreads old × Spreads new))
+ReactedBy book old t new Ends = (reaction book old t ≡ ends []) × SameMachine old new
+ReactedBy book old t new (Blames why) = (reaction book old t ≡ blames why) × Stays old new
+ReactedBy book old t new (Fails why) = (reaction book old t ≡ breaks why) × SameMachine old new
+
+-- the same by every book, since the task asks none
 abbrev pub Reacted : Work → Tree → Work → Outcome → Type 0
-Reacted old t new (Gives u) = ((book : Book) → reaction book old t ≡ gives (u ∷ []) new) × GoesOn old new
-Reacted old t new (GivesAll us) = ((book : Book) → reaction book old t ≡ gives us new) × (GoesOn old new × Spreads new)
-Reacted old t new Skips = ((book : Book) → reaction book old t ≡ gives [] new) × GoesOn old new
-Reacted old t new (EndsWith u) = ((book : Book) → reaction book old t ≡ ends (u ∷ [])) × SameMachine old new
-Reacted old t new Ends = ((book : Book) → reaction book old t ≡ ends []) × SameMachine old new
-Reacted old t new (Blames why) = ((book : Book) → reaction book old t ≡ blames why) × Stays old new
-Reacted old t new (Fails why) = ((book : Book) → reaction book old t ≡ breaks why) × SameMachine old new
+Reacted old t new o = (book : Book) → ReactedBy book old t new o

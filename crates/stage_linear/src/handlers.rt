@@ -1,4 +1,4 @@
-// A linear stage as the interpreter calls it: its calls keep the law of its output over its whole history.
+// A linear stage as the interpreter calls it: its calls keep the law of its output over its whole history, by its book of plugs.
 ghost use Rattle.std.specs.Prelude.{[], false, ⊤};
 ghost use Rattle.stage_linear.specs.Handling.{LinearFresh, LinearRow, LinearLaw};
 
@@ -7,16 +7,18 @@ use crate::logic::LinearLogic;
 use elem_core::elem::Elem;
 use elem_core::item::Item;
 use elem_core::why::{Cause, NoMemory};
+use plug_logic::book::PlugBook;
+use plug_logic::logic::Logic;
 use port_core::acts::Acts;
 use stage_core::stage::Stage;
 use std::alloc::Global;
 
-impl Stage for LinearLogic {
+impl<L: Logic, B: PlugBook> Stage for LinearLogic<L, B> {
     ghost fresh = { LinearFresh };
 
     ghost rests = { LinearRow };
 
-    ghost law = { LinearLaw };
+    ghost law = { LinearLaw B.lists };
 
     ghost asking = { λ l v. ⊤ };
 
@@ -34,9 +36,9 @@ impl Stage for LinearLogic {
         self.start(acts)
     }
 
-    fn on_pull(&mut self, _alloc: Global, _port: u8, acts: &mut Acts) -> Result<(), NoMemory> {
+    fn on_pull(&mut self, alloc: Global, _port: u8, acts: &mut Acts) -> Result<(), NoMemory> {
         a_called_stage_is_open();
-        self.on_pull(0, acts)
+        self.on_pull(alloc, 0, acts)
     }
 
     fn on_push(
@@ -50,9 +52,9 @@ impl Stage for LinearLogic {
         self.on_push(alloc, 0, e, acts)
     }
 
-    fn on_finish(&mut self, _alloc: Global, _port: u8, acts: &mut Acts) -> Result<(), NoMemory> {
+    fn on_finish(&mut self, alloc: Global, _port: u8, acts: &mut Acts) -> Result<(), NoMemory> {
         a_called_stage_is_open();
-        self.on_finish(0, acts)
+        self.on_finish(alloc, 0, acts)
     }
 
     fn on_fail(

@@ -4,7 +4,7 @@ ghost use Rattle.elem_core.specs.Tree.{Tree};
 ghost use Rattle.elem_core.specs.declared.item.Item.{Item};
 ghost use Rattle.port_core.specs.View.{View, in_at, out_at};
 ghost use Rattle.port_core.specs.Call.{Call, starts, CallAllowed};
-ghost use Rattle.stream_model.specs.Linear.{Stage};
+ghost use Rattle.stream_model.specs.Linear.{Book, Stage};
 ghost use Rattle.stream_model.specs.Machine.{Run, Machine};
 ghost use Rattle.stage_law.specs.Law.{Law};
 ghost use Rattle.stage_law.specs.OwnPorts.{OwnRests};
@@ -13,10 +13,10 @@ ghost use Rattle.stage_linear.specs.declared.phase.Phase.TheVariants.{New, Open}
 ghost use Rattle.stage_linear.specs.States.{Logic, held, row};
 
 /// Where its row and its law hold, a stage that was started has closed all its ports, or has nothing to do: it waits for its
-/// input and has given all that it may, or nobody asks it, where a map_concat may hold outputs behind the end of its input.
+/// input and has given all that it may, or nobody asks it, where a map_concat or a plug may hold outputs behind the end of its input.
 pub fn a_started_stage_rests()
-    ensures { (m : Machine Stage Tree) (start : Run Stage Tree) (took gave : List Item) (l : Logic) (v : View) → l.phase ≢ New → row l v
-        → (law : Law m start (held l) (in_at v 0) (out_at v 0) took gave) → OwnRests m start (holds_at_end l.stage.work) (in_at v 0) (out_at v 0) law.in_list law.out_list }
+    ensures { (b : Book) (m : Machine Stage Tree) (start : Run Stage Tree) (took gave : List Item) (l : Logic) (v : View) → l.phase ≢ New → row l v
+        → (law : Law m start (held b l) (in_at v 0) (out_at v 0) took gave) → OwnRests m start (holds_at_end l.stage.work) (in_at v 0) (out_at v 0) law.in_list law.out_list }
 {}
 
 /// Where the port rules allow a call of a handler and the row holds, a stage that was started is open.

@@ -1,17 +1,28 @@
-ghost use Rattle.std.specs.Prelude.{◌≡◌, ◌≤◌, ◌<◌, ◌∷◌, ◌++◌, ◌+◌, [], length, OnOk, IfOk, IsOk, IfSome, IfNone, IsTrue, ◌↔◌};
+ghost use Rattle.std.specs.Prelude.{true, ◌≡◌, ◌≤◌, ◌<◌, ◌∷◌, ◌++◌, ◌+◌, [], length, OnOk, IfOk, IsOk, IfSome, IfNone, IsTrue, ◌↔◌};
 ghost use Rattle.elem_core.specs.declared.item.Item.TheVariants as item;
 ghost use Rattle.port_core.specs.declared.act.Act.TheVariants as act;
 ghost use Rattle.port_core.specs.Call.{Obeys, Meets, starts, asks, brings, cancels};
 ghost use Rattle.stage_linear.specs.declared.phase.Phase.TheVariants.{New, Open, Closed};
+ghost use Rattle.plug_logic.specs.Gives.{listed};
+ghost use Rattle.stream_model.specs.Linear.{finish_of};
+ghost use Rattle.stream_model.specs.declared.kind.Kind.TheVariants as kind;
+ghost use Rattle.stage_linear.specs.declared.course.Course.TheVariants as course;
 ghost use Rattle.stage_linear.specs.Outcomes.{answered, answer_acts};
-ghost use Rattle.stage_linear.specs.Pending.{behind_first, first_acts, given_on_from, last_acts};
-ghost use Rattle.stage_linear.specs.States.{Begins, row, Turned, IsLinear, counted, decided_by, decided_acts, failing_acts};
+ghost use Rattle.stage_linear.specs.Plugs.{Is};
+ghost use Rattle.stage_linear.specs.Pending.{spread, first_acts, leaving, leaving_acts, ended_with, ended_acts, closed_by, closed_acts, given_on_from, last_acts, behind_last, behind_last_acts, StaysReady};
+ghost use Rattle.stage_linear.specs.States.{Begins, row, Turned, HasTask, counted, skipped, decided_by, decided_acts, failing_acts};
 
+use crate::course::Course;
 use crate::phase::Phase;
-use crate::task::{Outcome, Task};
+use crate::plug::PlugTask;
+use crate::task::{Last, Outcome, Task};
+use crate::worker::Worker;
 use elem_core::elem::Elem;
 use elem_core::elems::Elems;
 use elem_core::why::{Cause, Decider, NoMemory, Why};
+use plug_logic::book::PlugBook;
+use plug_logic::logic::Logic;
+use plug_logic::plug::Plug;
 use port_core::act::Act;
 use port_core::acts::Acts;
 use port_core::pick_log::PickLog;
@@ -19,23 +30,25 @@ use std::alloc::{AllocError, Global};
 use std::marker::Model;
 use stream_model::kind::Kind;
 
-/// The logic of a map, a filter, a filter_not, a take, a take_while, a drop, a drop_while, a limit or a map_concat. It asks
-/// its input when its output is asked, and again where an element gave nothing; it passes an end on, and a cancel. A
-/// map_concat gives the items of one element one by one, and asks when none is left; it ends with the last of them.
-/// Rule: Akka Streams 2.6 reference.
+/// The logic of a map, a filter, a filter_not, a take, a take_while, a drop, a drop_while, a limit, a map_concat or a plug. It
+/// asks its input when its output is asked, and again where an element gave nothing; it passes an end on, and a cancel. A
+/// map_concat and a plug give the items of one element one by one, and ask when none is left. Where the input ends while items
+/// are held, these go out first; then a plug is asked for its last outputs, and the stage ends with the last of all. A plug that
+/// is done gives what it holds; then the stage ends and cancels its input. Rule: Akka Streams 2.6 reference; when a plug is
+/// asked for its last outputs: own.
 #[derive(Drop)]
-pub struct LinearLogic {
+pub struct LinearLogic<L: Logic, B: PlugBook> {
     node: u32,
     decider: Decider,
     taken: u64,
-    task: Task,
+    worker: Worker<L, B>,
     phase: Phase,
     // No list until outputs were first held.
     pending: Option<Elems>,
-    over: bool,
+    course: Course,
 }
 
-impl Model for LinearLogic {
+impl<L: Logic, B: PlugBook> Model for LinearLogic<L, B> {
     ghost use Rattle.std.specs.Coded.{codes};
     ghost use Rattle.elem_core.specs.TreeCode.{tree_coded};
     ghost use Rattle.stage_linear.specs.States.{Logic};
@@ -44,17 +57,16 @@ impl Model for LinearLogic {
 
     ghost coded = { Prim.hlevel (codes, tree_coded) };
 
-    ghost use Rattle.stage_linear.specs.Tasks.{work_in};
-    ghost use Rattle.stage_linear.specs.Outcomes.{answered, answer_acts};
-    ghost use Rattle.stage_linear.specs.Pending.{listed};
+    ghost use Rattle.stage_linear.specs.Workers.{work_by, ready_by};
+    ghost use Rattle.stage_linear.specs.Pending.{outputs_in};
 
-    ghost view = { λ l. record { phase = l.phase; stage = record { node = l.node; decider = l.decider; taken = l.taken; work = work_in l.task }; pending = listed l.pending; over = l.over } };
+    ghost view = { λ l. record { phase = l.phase; stage = record { node = l.node; decider = l.decider; taken = l.taken; work = work_by l.worker }; pending = outputs_in l.pending; course = l.course; ready = ready_by l.worker } };
 }
 
-impl LinearLogic {
+impl<L: Logic, B: PlugBook> LinearLogic<L, B> {
     /// The logic of node `stage`. It holds nothing and knows nothing yet; it takes no memory.
-    pub fn new(stage: u32, kind: Kind, decider: Decider) -> Result<LinearLogic, NoMemory>
-        requires { IsLinear kind }
+    pub fn new(stage: u32, kind: Kind, decider: Decider) -> Result<LinearLogic<L, B>, NoMemory>
+        requires { HasTask kind }
         ensures answers { IsOk result }
         ensures begins { IfOk result (Begins stage kind decider) }
     {
@@ -74,11 +86,28 @@ impl LinearLogic {
             node: stage,
             decider,
             taken: 0,
-            task,
+            worker: Worker::Plain(task),
             phase: Phase::New,
             pending: None,
-            over: false,
+            course: Course::Idles,
         })
+    }
+
+    /// The logic of node `stage` that holds this plug, which gives what the book lists of its name. It takes no memory.
+    pub fn of_plug(stage: u32, plug: Plug<L>, decider: Decider) -> LinearLogic<L, B>
+        requires { Is (L.gives plug.logic) [] (listed B.lists plug.head.name) }
+        ensures { Begins stage (kind.Plug plug.head.name) decider result }
+    {
+        let Plug { head, logic } = plug;
+        LinearLogic {
+            node: stage,
+            decider,
+            taken: 0,
+            worker: Worker::Plug(PlugTask::of(head.name, logic)),
+            phase: Phase::New,
+            pending: None,
+            course: Course::Idles,
+        }
     }
 
     /// The run begins. A take of nothing ends at once.
@@ -89,12 +118,12 @@ impl LinearLogic {
         requires room { 4 ≤ acts.old.room }
         ensures answers { IsOk result }
         ensures ports { OnOk result (Obeys starts (row self.old) (row self.new) acts.new.items) }
-        ensures gives { OnOk result (Turned starts self.old acts.new.items self.new) }
+        ensures gives { OnOk result (Turned B.lists starts self.old acts.new.items self.new) }
         ensures room { acts.new.room ≡ acts.old.room }
     {
         self.pending = None;
-        self.over = false;
-        if let Task::Take(0) = self.task {
+        self.course = Course::Idles;
+        if let Worker::Plain(Task::Take(0)) = self.worker {
             self.complete(acts);
         } else {
             self.phase = Phase::Open;
@@ -103,41 +132,44 @@ impl LinearLogic {
     }
 
     /// The output was asked.
-    pub fn on_pull(&mut self, port: u8, acts: &mut Acts) -> Result<(), NoMemory>
+    pub fn on_pull(&mut self, alloc: Global, port: u8, acts: &mut Acts) -> Result<(), NoMemory>
         requires open { self.old.phase ≡ Open }
         requires port { port ≡ 0 }
         requires meets { Meets (asks 0) (row self.old) }
         requires empty { acts.old.items ≡ [] }
         requires room { 4 ≤ acts.old.room }
-        ensures answers { IsOk result }
         ensures ports { OnOk result (Obeys (asks 0) (row self.old) (row self.new) acts.new.items) }
-        ensures gives { OnOk result (Turned (asks 0) self.old acts.new.items self.new) }
+        ensures gives { OnOk result (Turned B.lists (asks 0) self.old acts.new.items self.new) }
         ensures room { acts.new.room ≡ acts.old.room }
     {
         match self.next_pending() {
-            Some(e) => self.give_pending(e, acts),
-            None => acts.add(Act::Pull(port)),
+            Some(e) => self.give_pending(alloc, e, acts),
+            None => {
+                self.course = Course::Waits;
+                acts.add(Act::Pull(port));
+                Ok(())
+            }
         }
-        Ok(())
     }
 
     /// The input has ended.
-    pub fn on_finish(&mut self, port: u8, acts: &mut Acts) -> Result<(), NoMemory>
+    pub fn on_finish(&mut self, alloc: Global, port: u8, acts: &mut Acts) -> Result<(), NoMemory>
         requires open { self.old.phase ≡ Open }
         requires port { port ≡ 0 }
         requires meets { Meets (brings 0 item.Ended) (row self.old) }
         requires empty { acts.old.items ≡ [] }
         requires room { 4 ≤ acts.old.room }
-        ensures answers { IsOk result }
         ensures ports { OnOk result (Obeys (brings 0 item.Ended) (row self.old) (row self.new) acts.new.items) }
-        ensures gives { OnOk result (Turned (brings 0 item.Ended) self.old acts.new.items self.new) }
+        ensures gives { OnOk result (Turned B.lists (brings 0 item.Ended) self.old acts.new.items self.new) }
         ensures room { acts.new.room ≡ acts.old.room }
     {
         if self.holds_none() {
-            self.shut(Act::Complete(port), acts);
-        } else {
-            self.over = true;
+            return self.close_input(alloc, acts);
         }
+        self.course = match self.course {
+            Course::Leaves => Course::Ends,
+            _ => Course::Closes,
+        };
         Ok(())
     }
 
@@ -150,10 +182,13 @@ impl LinearLogic {
         requires room { 4 ≤ acts.old.room }
         ensures answers { IsOk result }
         ensures ports { OnOk result (Obeys (brings 0 (item.Failed cause)) (row self.old) (row self.new) acts.new.items) }
-        ensures gives { OnOk result (Turned (brings 0 (item.Failed cause)) self.old acts.new.items self.new) }
+        ensures gives { OnOk result (Turned B.lists (brings 0 (item.Failed cause)) self.old acts.new.items self.new) }
         ensures room { acts.new.room ≡ acts.old.room }
     {
-        self.shut(Act::FailOut(port, cause), acts);
+        match self.course {
+            Course::Leaves => self.course = Course::Ends,
+            _ => self.shut(Act::FailOut(port, cause), acts),
+        }
         Ok(())
     }
 
@@ -166,13 +201,12 @@ impl LinearLogic {
         requires room { 4 ≤ acts.old.room }
         ensures answers { IsOk result }
         ensures ports { OnOk result (Obeys (cancels 0) (row self.old) (row self.new) acts.new.items) }
-        ensures gives { OnOk result (Turned (cancels 0) self.old acts.new.items self.new) }
+        ensures gives { OnOk result (Turned B.lists (cancels 0) self.old acts.new.items self.new) }
         ensures room { acts.new.room ≡ acts.old.room }
     {
-        if self.over {
-            self.phase = Phase::Closed;
-        } else {
-            self.shut(Act::Cancel(port), acts);
+        match self.course {
+            Course::Closes | Course::Ends => self.phase = Phase::Closed,
+            _ => self.shut(Act::Cancel(port), acts),
         }
         Ok(())
     }
@@ -191,11 +225,11 @@ impl LinearLogic {
         requires empty { acts.old.items ≡ [] }
         requires room { 4 ≤ acts.old.room }
         ensures ports { OnOk result (Obeys (brings 0 (item.Elem e)) (row self.old) (row self.new) acts.new.items) }
-        ensures gives { OnOk result (Turned (brings 0 (item.Elem e)) self.old acts.new.items self.new) }
+        ensures gives { OnOk result (Turned B.lists (brings 0 (item.Elem e)) self.old acts.new.items self.new) }
         ensures room { acts.new.room ≡ acts.old.room }
     {
         let taken = one_more(self.taken)?;
-        let outcome = self.task.react(alloc, e)?;
+        let outcome = self.worker.react(alloc, e)?;
         self.answer(taken, outcome, acts);
         Ok(())
     }
@@ -223,6 +257,7 @@ impl LinearLogic {
                 self.give(taken, value, acts);
                 self.complete(acts);
             }
+            Outcome::EndsWithAll(values) => self.leave(taken, values, acts),
             Outcome::Ends => self.complete(acts),
             Outcome::Blames(why) => self.decide(taken, why, acts),
             Outcome::Fails(why) => self.fail(taken, why, acts),
@@ -283,6 +318,7 @@ impl LinearLogic {
         ensures acts { acts.new ≡ record acts.old { items = acts.old.items ++ act.Push 0 value ∷ [] } }
     {
         self.taken = taken;
+        self.course = Course::Idles;
         acts.add(Act::Push(0, value));
     }
 
@@ -291,7 +327,7 @@ impl LinearLogic {
         requires none { self.old.pending ≡ [] }
         requires empty { acts.old.items ≡ [] }
         requires room { 4 ≤ acts.old.room }
-        ensures stage { self.new ≡ record (counted self.old taken) { pending = behind_first values } }
+        ensures stage { self.new ≡ spread self.old taken values }
         ensures acts { acts.new ≡ record acts.old { items = first_acts values } }
     {
         match values.take() {
@@ -303,16 +339,101 @@ impl LinearLogic {
         }
     }
 
-    // The first of what is held goes out; the stage ends with the last, where its input has ended.
-    fn give_pending(&mut self, e: Elem, acts: &mut Acts)
+    // Element number `taken` gave these, and it is the last: the first goes out, and the others are held.
+    fn leave(&mut self, taken: u64, mut values: Elems, acts: &mut Acts)
+        requires none { self.old.pending ≡ [] }
         requires empty { acts.old.items ≡ [] }
         requires room { 4 ≤ acts.old.room }
-        ensures stage { self.new ≡ given_on_from self.old }
-        ensures acts { acts.new ≡ record acts.old { items = act.Push 0 e ∷ last_acts self.old } }
+        ensures stage { self.new ≡ leaving self.old taken values }
+        ensures acts { acts.new ≡ record acts.old { items = leaving_acts values } }
+    {
+        let Some(first) = values.take() else {
+            self.complete(acts);
+            return;
+        };
+        if values.is_empty() {
+            acts.add(Act::Push(0, first));
+            self.complete(acts);
+        } else {
+            self.give(taken, first, acts);
+            self.pending = Some(values);
+            self.course = Course::Leaves;
+        }
+    }
+
+    // The first of what is held goes out; with the last, the stage does what its course says.
+    fn give_pending(&mut self, alloc: Global, e: Elem, acts: &mut Acts) -> Result<(), NoMemory>
+        requires ready { self.old.course ≡ course.Closes → self.old.ready ≡ true }
+        requires empty { acts.old.items ≡ [] }
+        requires room { 4 ≤ acts.old.room }
+        ensures stage { OnOk result (self.new ≡ record (given_on_from self.old (finish_of B.lists self.old.stage self.old.stage.work)) { ready = self.new.ready }) }
+        ensures acts { OnOk result (acts.new.items ≡ act.Push 0 e ∷ last_acts self.old (finish_of B.lists self.old.stage self.old.stage.work)) }
+        ensures ready { OnOk result (StaysReady self.old self.new) }
+        ensures room { acts.new.room ≡ acts.old.room }
     {
         acts.add(Act::Push(0, e));
-        if self.over && self.holds_none() {
+        if self.holds_none() {
+            return self.end_course(alloc, acts);
+        }
+        Ok(())
+    }
+
+    // The last of what was held went out.
+    fn end_course(&mut self, alloc: Global, acts: &mut Acts) -> Result<(), NoMemory>
+        requires ready { self.old.course ≡ course.Closes → self.old.ready ≡ true }
+        requires room { length acts.old.items + 3 ≤ acts.old.room }
+        ensures stage { OnOk result (self.new ≡ record (behind_last self.old self.old.course (finish_of B.lists self.old.stage self.old.stage.work)) { ready = self.new.ready }) }
+        ensures acts { OnOk result (acts.new ≡ record acts.old { items = acts.old.items ++ behind_last_acts self.old self.old.course (finish_of B.lists self.old.stage self.old.stage.work) }) }
+        ensures ready { OnOk result (StaysReady self.old self.new) }
+        ensures room { acts.new.room ≡ acts.old.room }
+    {
+        match self.course {
+            Course::Waits | Course::Idles => {}
+            Course::Leaves => self.complete(acts),
+            Course::Closes => return self.close_input(alloc, acts),
+            Course::Ends => self.shut(Act::Complete(0), acts),
+        }
+        Ok(())
+    }
+
+    // The input has ended and nothing is held: the last outputs. Where the output is asked the first goes out.
+    fn close_input(&mut self, alloc: Global, acts: &mut Acts) -> Result<(), NoMemory>
+        requires ready { self.old.ready ≡ true }
+        requires room { length acts.old.items + 3 ≤ acts.old.room }
+        ensures stage { OnOk result (self.new ≡ record (closed_by self.old (finish_of B.lists self.old.stage self.old.stage.work)) { ready = self.new.ready }) }
+        ensures acts { OnOk result (acts.new ≡ record acts.old { items = acts.old.items ++ closed_acts self.old (finish_of B.lists self.old.stage self.old.stage.work) }) }
+        ensures room { acts.new.room ≡ acts.old.room }
+    {
+        match self.worker.end(alloc)? {
+            Last::Adds(values) => self.end_with(values, acts),
+            Last::Refuses(why) => {
+                let cause = Cause {
+                    stage: self.node,
+                    nth: 0,
+                    why,
+                };
+                self.shut(Act::FailOut(0, cause), acts);
+            }
+        }
+        Ok(())
+    }
+
+    // The last outputs.
+    fn end_with(&mut self, mut values: Elems, acts: &mut Acts)
+        requires room { length acts.old.items + 3 ≤ acts.old.room }
+        ensures stage { self.new ≡ ended_with self.old self.old.course values }
+        ensures acts { acts.new ≡ record acts.old { items = acts.old.items ++ ended_acts self.old.course values } }
+    {
+        if let Course::Waits = self.course {
+            if let Some(first) = values.take() {
+                acts.add(Act::Push(0, first));
+            }
+        }
+        if values.is_empty() {
             self.shut(Act::Complete(0), acts);
+        } else {
+            self.pending = Some(values);
+            self.course = Course::Ends;
         }
     }
 
@@ -339,10 +460,11 @@ impl LinearLogic {
     // Element number `taken` gave nothing: the stage asks for the next.
     fn skip(&mut self, taken: u64, acts: &mut Acts)
         requires room { length acts.old.items < acts.old.room }
-        ensures stage { self.new ≡ counted self.old taken }
+        ensures stage { self.new ≡ skipped self.old taken }
         ensures acts { acts.new ≡ record acts.old { items = acts.old.items ++ act.Pull 0 ∷ [] } }
     {
         self.taken = taken;
+        self.course = Course::Waits;
         acts.add(Act::Pull(0));
     }
 }

@@ -4,4 +4,4 @@ use Rattle.stage_linear.proofs.Handling.{handles}
 use Rattle.stage_linear.proofs.handlers.LinearLogicStage.on_finish.Goals as goal
 
 pub returns-clause-handles : goal.returns-clause-handles
-returns-clause-handles c = handles (brings c.args._port item.Ended) _ _ _ _ c.requires.meets c.on_finish.ensures.ports c.on_finish.ensures.gives
+returns-clause-handles g c = handles g.B.PlugBook.lists (brings c.args._port item.Ended) _ _ _ _ c.requires.meets c.on_finish.ensures.ports c.on_finish.ensures.gives

@@ -1,0 +1,49 @@
+ghost use Rattle.std.specs.Prelude.{◌≡◌, IfOk};
+ghost use Rattle.stage_linear.specs.Tasks.{HasMore, ReactedBy};
+ghost use Rattle.stage_linear.specs.Plugs.{EndsAs};
+ghost use Rattle.stage_linear.specs.Workers.{work_by, CanTake, GoesOnReady};
+
+use crate::plug::PlugTask;
+use crate::task::{Last, Outcome, Task};
+use elem_core::elem::Elem;
+use elem_core::elems::Elems;
+use elem_core::why::NoMemory;
+use plug_logic::book::PlugBook;
+use plug_logic::logic::Logic;
+use std::alloc::Global;
+
+/// What does the work of a linear stage. Rule: own.
+#[derive(Drop)]
+pub enum Worker<L: Logic, B: PlugBook> {
+    /// A task of the program's own stages.
+    Plain(Task),
+    /// A logic that a caller made.
+    Plug(PlugTask<L, B>),
+}
+
+impl<L: Logic, B: PlugBook> Worker<L, B> {
+    /// One more element.
+    pub fn react(&mut self, alloc: Global, e: Elem) -> Result<Outcome, NoMemory>
+        requires more { HasMore (work_by self.old) }
+        requires ready { CanTake self.old }
+        ensures reacts { IfOk result (ReactedBy B.lists (work_by self.old) e (work_by self.new)) }
+        ensures ready { IfOk result (GoesOnReady self.new) }
+    {
+        match self {
+            Worker::Plain(task) => task.react(alloc, e),
+            Worker::Plug(plug) => plug.react(alloc, e),
+        }
+    }
+
+    /// The end of the input: what it gives then. A task gives nothing, and takes no memory.
+    pub fn end(&mut self, alloc: Global) -> Result<Last, NoMemory>
+        requires ready { CanTake self.old }
+        ensures last { IfOk result (EndsAs B.lists (work_by self.old)) }
+        ensures work { work_by self.new ≡ work_by self.old }
+    {
+        match self {
+            Worker::Plain(_) => Ok(Last::Adds(Elems::new(alloc))),
+            Worker::Plug(plug) => plug.end(alloc),
+        }
+    }
+}

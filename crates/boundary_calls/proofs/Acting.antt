@@ -7,6 +7,7 @@ use Rattle.elem_core.specs.declared.item.Item.{Item}
 use Rattle.elem_core.specs.declared.item.Item.TheVariants as item
 use Rattle.stream_io.specs.State.{SourceState, DrainState}
 use Rattle.stream_model.specs.Outlook.{End}
+use Rattle.stream_model.specs.Linear.{Book}
 use Rattle.stage_law.specs.Held.{told}
 use Rattle.port_core.specs.Decoding.{can_push, can_pull}
 use Rattle.port_core.specs.Joint.{Joint, idle, asking, asked, moving, ending, closing, leaving, finished, parted, refused, wire_of, IsSound, Histories, under_way}
@@ -80,9 +81,9 @@ wanted_push Refused false e = cc
 
 -- ---- one node
 
-module _ {S D : Type 0} (sources : S → SourceState) (drains : D → DrainState) (v : View) (t g : List (List Item)) (a : Act) where
-  entering_does : (x first : Node S D) → IsEntering first → ((e f : Entering) → EnteringRow e v → EnteringLaw f e v t g → Does EnteringRow EnteringLaw e f v t g a)
-      → Minds node_row (node_law sources drains) x first v t g [] → Minds node_row (node_law sources drains) x first v t g (a ∷ [])
+module _ {S D L B : Type 0} (sources : S → SourceState) (drains : D → DrainState) (book : Book) (v : View) (t g : List (List Item)) (a : Act) where
+  entering_does : (x first : Node S D L B) → IsEntering first → ((e f : Entering) → EnteringRow e v → EnteringLaw f e v t g → Does EnteringRow EnteringLaw e f v t g a)
+      → Minds node_row (node_law sources drains book) x first v t g [] → Minds node_row (node_law sources drains book) x first v t g (a ∷ [])
   entering_does (node.Entering x) (node.Entering f) h d m = let y = d x f m.row_holds m.law_holds in record { allowed = (y.allowed, tt); row_holds = y.row_holds; law_holds = y.law_holds }
   entering_does (node.Reading x) (node.Entering f) h d m = absurd m.law_holds
   entering_does (node.Making x) (node.Entering f) h d m = absurd m.law_holds
@@ -103,8 +104,8 @@ module _ {S D : Type 0} (sources : S → SourceState) (drains : D → DrainState
   entering_does x (node.Ignoring f) h d m = absurd h
   entering_does x (node.Leaving f) h d m = absurd h
 
-  leaving_does : (x first : Node S D) → IsLeaving first → ((e f : Leaving) → x ≡ node.Leaving e → LeavingRow e v → LeavingLaw f e v t g → Does LeavingRow LeavingLaw e f v t g a)
-      → Minds node_row (node_law sources drains) x first v t g [] → Minds node_row (node_law sources drains) x first v t g (a ∷ [])
+  leaving_does : (x first : Node S D L B) → IsLeaving first → ((e f : Leaving) → x ≡ node.Leaving e → LeavingRow e v → LeavingLaw f e v t g → Does LeavingRow LeavingLaw e f v t g a)
+      → Minds node_row (node_law sources drains book) x first v t g [] → Minds node_row (node_law sources drains book) x first v t g (a ∷ [])
   leaving_does (node.Leaving x) (node.Leaving f) h d m = let y = d x f refl m.row_holds m.law_holds in record { allowed = (y.allowed, tt); row_holds = y.row_holds; law_holds = y.law_holds }
   leaving_does (node.Reading x) (node.Leaving f) h d m = absurd m.law_holds
   leaving_does (node.Making x) (node.Leaving f) h d m = absurd m.law_holds
@@ -165,7 +166,7 @@ asks_least false n = omega arith
 pub few_came : (c : Cell) (q : Bool) → IsSound c.wire q → elements c.wire.got ≤ asks_of c
 few_came c q s = let a = few_j s.joint c.wire.sent c.wire.got s.histories in let b = asks_least c.asked (elements c.wire.sent) in omega (arith, a, b)
 
-module _ {S D : Type 0} (sources : S → SourceState) (drains : D → DrainState) (net : Net (Node S D)) (s : Settled node_row (node_law sources drains) node_asking node_moves net) (q : ℕ) (h : q < length net.wires) where
+module _ {S D L B : Type 0} (sources : S → SourceState) (drains : D → DrainState) (book : Book) (net : Net (Node S D L B)) (s : Settled node_row (node_law sources drains book) node_asking node_moves net) (q : ℕ) (h : q < length net.wires) where
   abbrev from : ℕ
   from = (end_at net.ends q).from
 
@@ -178,11 +179,11 @@ module _ {S D : Type 0} (sources : S → SourceState) (drains : D → DrainState
   inp_is : in_at (view_of net to) (end_at net.ends q).input ≡ (wire_at net q).wire.inp
   inp_is = read_at inp_of net.wires (ports_at net to).ins (end_at net.ends q).input q Left (s.wired.to_input q h)
 
-  pub may_push : (t : Tree) → EntersAt net q → wanted_at (wire_at net q) ≡ wanted.Asked → IsMinded node_row (node_law sources drains) net from (Push (end_at net.ends q).output t ∷ [])
+  pub may_push : (t : Tree) → EntersAt net q → wanted_at (wire_at net q) ≡ wanted.Asked → IsMinded node_row (node_law sources drains book) net from (Push (end_at net.ends q).output t ∷ [])
   may_push t stage e x first xi fi =
       let p : can_push (wire_at net q).wire.conn ≡ true = wanted_push (wire_at net q).wire.out _ e in
       let y : (wire_at net q).wire.out ≡ Asked = can_push_asked (wire_at net q).wire _ (s.sound q h) p in
-      entering_does sources drains (view_of net from) (took net from) (gave net from) _ x first (stage first fi)
+      entering_does sources drains book (view_of net from) (took net from) (gave net from) _ x first (stage first fi)
       (λ e f r law. enters_push f e (view_of net from) (took net from) (gave net from) r law (end_at net.ends q).output t (out_is ∙ y))
       (s.minded from (s.wired.from_within q h) x first xi fi)
 
@@ -192,20 +193,20 @@ module _ {S D : Type 0} (sources : S → SourceState) (drains : D → DrainState
   open_out Shut e = cc
   open_out Refused e = cc
 
-  pub may_end : (c : Option Cause) → EntersAt net q → is_shut (wire_at net q).wire.out ≡ false → IsMinded node_row (node_law sources drains) net from (ends_at (end_at net.ends q).output c ∷ [])
+  pub may_end : (c : Option Cause) → EntersAt net q → is_shut (wire_at net q).wire.out ≡ false → IsMinded node_row (node_law sources drains book) net from (ends_at (end_at net.ends q).output c ∷ [])
   may_end None stage e x first xi fi =
-      entering_does sources drains (view_of net from) (took net from) (gave net from) _ x first (stage first fi)
+      entering_does sources drains book (view_of net from) (took net from) (gave net from) _ x first (stage first fi)
       (λ z f r law. enters_complete f z (view_of net from) (took net from) (gave net from) r law (end_at net.ends q).output (rw out_is (open_out _ e)))
       (s.minded from (s.wired.from_within q h) x first xi fi)
   may_end (Some c) stage e x first xi fi =
-      entering_does sources drains (view_of net from) (took net from) (gave net from) _ x first (stage first fi)
+      entering_does sources drains book (view_of net from) (took net from) (gave net from) _ x first (stage first fi)
       (λ z f r law. enters_fail f z (view_of net from) (took net from) (gave net from) r law (end_at net.ends q).output c (rw out_is (open_out _ e)))
       (s.minded from (s.wired.from_within q h) x first xi fi)
 
-  pub may_pull : LeavesAt net q → AtNode net to (λ x. node_waits x ≡ []) → can_pull (wire_at net q).wire.conn ≡ true → IsMinded node_row (node_law sources drains) net to (Pull (end_at net.ends q).input ∷ [])
+  pub may_pull : LeavesAt net q → AtNode net to (λ x. node_waits x ≡ []) → can_pull (wire_at net q).wire.conn ≡ true → IsMinded node_row (node_law sources drains book) net to (Pull (end_at net.ends q).input ∷ [])
   may_pull stage clear p x first xi fi =
       let y : (wire_at net q).wire.inp ≡ Idle = can_pull_idle (wire_at net q).wire _ (s.sound q h) p in
-      leaving_does sources drains (view_of net to) (took net to) (gave net to) _ x first (stage first fi)
+      leaving_does sources drains book (view_of net to) (took net to) (gave net to) _ x first (stage first fi)
       (λ e f at r law. leaves_pull f e (view_of net to) (took net to) (gave net to) r law (end_at net.ends q).input (sym (ap node_waits at) ∙ clear x xi) (inp_is ∙ y))
       (s.minded to (s.wired.to_within q h) x first xi fi)
 
@@ -215,13 +216,13 @@ module _ {S D : Type 0} (sources : S → SourceState) (drains : D → DrainState
   open_in Over e = cc
   open_in Left e = cc
 
-  pub may_cancel : LeavesAt net q → is_over (wire_at net q).wire.inp ≡ false → IsMinded node_row (node_law sources drains) net to (Cancel (end_at net.ends q).input ∷ [])
+  pub may_cancel : LeavesAt net q → is_over (wire_at net q).wire.inp ≡ false → IsMinded node_row (node_law sources drains book) net to (Cancel (end_at net.ends q).input ∷ [])
   may_cancel stage e x first xi fi =
-      leaving_does sources drains (view_of net to) (took net to) (gave net to) _ x first (stage first fi)
+      leaving_does sources drains book (view_of net to) (took net to) (gave net to) _ x first (stage first fi)
       (λ z f at r law. leaves_cancel f z (view_of net to) (took net to) (gave net to) r law (end_at net.ends q).input (rw inp_is (open_in _ e)))
       (s.minded to (s.wired.to_within q h) x first xi fi)
 
-  exit_got : (x first : Node S D) → IsLeaving first → (v : View) (t g : List (List Item)) (i : ℕ) (l : List Item) → slice_get t i ≡ Some l → Minds node_row (node_law sources drains) x first v t g [] → l ≡ node_gone x ++ node_waits x
+  exit_got : (x first : Node S D L B) → IsLeaving first → (v : View) (t g : List (List Item)) (i : ℕ) (l : List Item) → slice_get t i ≡ Some l → Minds node_row (node_law sources drains book) x first v t g [] → l ≡ node_gone x ++ node_waits x
   exit_got (node.Leaving x) (node.Leaving f) k v t g i l at m = sym (one_item _ l t i m.law_holds.took_is at) ∙ m.law_holds.parts
   exit_got (node.Reading x) (node.Leaving f) k v t g i l at m = absurd m.law_holds
   exit_got (node.Making x) (node.Leaving f) k v t g i l at m = absurd m.law_holds
@@ -242,7 +243,7 @@ module _ {S D : Type 0} (sources : S → SourceState) (drains : D → DrainState
   exit_got x (node.Ignoring f) k v t g i l at m = absurd k
   exit_got x (node.Entering f) k v t g i l at m = absurd k
 
-  exit_told : (x first : Node S D) → IsLeaving first → (v : View) (t g : List (List Item)) (i : ℕ) (l : List Item) → slice_get t i ≡ Some l → Minds node_row (node_law sources drains) x first v t g [] → (list : List Tree) × ((end : End) × (l ≡ told list end))
+  exit_told : (x first : Node S D L B) → IsLeaving first → (v : View) (t g : List (List Item)) (i : ℕ) (l : List Item) → slice_get t i ≡ Some l → Minds node_row (node_law sources drains book) x first v t g [] → (list : List Tree) × ((end : End) × (l ≡ told list end))
   exit_told (node.Leaving x) (node.Leaving f) k v t g i l at m = (m.law_holds.list, (m.law_holds.end, sym (one_item _ l t i m.law_holds.took_is at)))
   exit_told (node.Reading x) (node.Leaving f) k v t g i l at m = absurd m.law_holds
   exit_told (node.Making x) (node.Leaving f) k v t g i l at m = absurd m.law_holds
@@ -263,7 +264,7 @@ module _ {S D : Type 0} (sources : S → SourceState) (drains : D → DrainState
   exit_told x (node.Ignoring f) k v t g i l at m = absurd k
   exit_told x (node.Entering f) k v t g i l at m = absurd k
 
-  pub exit_there : (x : Node S D) × (slice_get net.nodes to ≡ Some x)
+  pub exit_there : (x : Node S D L B) × (slice_get net.nodes to ≡ Some x)
   exit_there = get_there net.nodes to (s.wired.to_within q h)
 
   pub came_told : LeavesAt net q → (list : List Tree) × ((end : End) × ((wire_at net q).wire.got ≡ told list end))
@@ -297,7 +298,7 @@ module _ {S D : Type 0} (sources : S → SourceState) (drains : D → DrainState
       get_of (x ∷ ws) zero w e = cc
       get_of (x ∷ ws) (suc i) w e = get_of ws i w e
 
-  abbrev moved : Act → Net (Node S D)
+  abbrev moved : Act → Net (Node S D L B)
   moved a = moved_at net q a
 
   moved_to : (a : Act) (w : ℕ) → w ≡ q → put net w (moved_by a (wire_at net w)) (queues_by a (wire_at net w).wire.conn) ≡ moved a
@@ -316,51 +317,51 @@ module _ {S D : Type 0} (sources : S → SourceState) (drains : D → DrainState
   pub cancelled_is : acted net to (Cancel (end_at net.ends q).input) ≡ moved (Cancel 0)
   cancelled_is = moved_to (Cancel 0) _ in_wire
 
-pub clear_both : {S D : Type 0} (net : Net (Node S D)) (n : ℕ) (r : Bool) (P : Type 0) → n < length net.nodes → P → AtNode net n (λ x. (IsTrue r → node_waits x ≡ []) × (node_waits x ≡ [] → IsTrue r))
+pub clear_both : {S D L B : Type 0} (net : Net (Node S D L B)) (n : ℕ) (r : Bool) (P : Type 0) → n < length net.nodes → P → AtNode net n (λ x. (IsTrue r → node_waits x ≡ []) × (node_waits x ≡ [] → IsTrue r))
     → (IsTrue r → P × AtNode net n (λ x. node_waits x ≡ [])) × (P × AtNode net n (λ x. node_waits x ≡ []) → IsTrue r)
 clear_both net n r P h p at =
     let there = get_there net.nodes n h in
     (λ t. (p, λ x xi. (at x xi).0 t), λ b. (at there.0 there.1).1 (b.1 there.0 there.1))
 
 -- the stage where a lane goes out has nothing to tell when it asks
-asking_free : {S D : Type 0} (sources : S → SourceState) (drains : D → DrainState) (x first : Node S D) (v w : View) (t g : List (List Item)) → IsLeaving first → node_law sources drains first x v t g → node_asking x w
-asking_free sources drains (node.Leaving x) (node.Leaving f) v w t g h law = tt
-asking_free sources drains (node.Reading x) (node.Leaving f) v w t g h law = absurd law
-asking_free sources drains (node.Making x) (node.Leaving f) v w t g h law = absurd law
-asking_free sources drains (node.Linear x) (node.Leaving f) v w t g h law = absurd law
-asking_free sources drains (node.State x) (node.Leaving f) v w t g h law = absurd law
-asking_free sources drains (node.FanIn x) (node.Leaving f) v w t g h law = absurd law
-asking_free sources drains (node.FanOut x) (node.Leaving f) v w t g h law = absurd law
-asking_free sources drains (node.Writing x) (node.Leaving f) v w t g h law = absurd law
-asking_free sources drains (node.Ignoring x) (node.Leaving f) v w t g h law = absurd law
-asking_free sources drains (node.Entering x) (node.Leaving f) v w t g h law = absurd law
-asking_free sources drains x (node.Reading f) v w t g h law = absurd h
-asking_free sources drains x (node.Making f) v w t g h law = absurd h
-asking_free sources drains x (node.Linear f) v w t g h law = absurd h
-asking_free sources drains x (node.State f) v w t g h law = absurd h
-asking_free sources drains x (node.FanIn f) v w t g h law = absurd h
-asking_free sources drains x (node.FanOut f) v w t g h law = absurd h
-asking_free sources drains x (node.Writing f) v w t g h law = absurd h
-asking_free sources drains x (node.Ignoring f) v w t g h law = absurd h
-asking_free sources drains x (node.Entering f) v w t g h law = absurd h
+asking_free : {S D L B : Type 0} (sources : S → SourceState) (drains : D → DrainState) (book : Book) (x first : Node S D L B) (v w : View) (t g : List (List Item)) → IsLeaving first → node_law sources drains book first x v t g → node_asking x w
+asking_free sources drains book (node.Leaving x) (node.Leaving f) v w t g h law = tt
+asking_free sources drains book (node.Reading x) (node.Leaving f) v w t g h law = absurd law
+asking_free sources drains book (node.Making x) (node.Leaving f) v w t g h law = absurd law
+asking_free sources drains book (node.Linear x) (node.Leaving f) v w t g h law = absurd law
+asking_free sources drains book (node.State x) (node.Leaving f) v w t g h law = absurd law
+asking_free sources drains book (node.FanIn x) (node.Leaving f) v w t g h law = absurd law
+asking_free sources drains book (node.FanOut x) (node.Leaving f) v w t g h law = absurd law
+asking_free sources drains book (node.Writing x) (node.Leaving f) v w t g h law = absurd law
+asking_free sources drains book (node.Ignoring x) (node.Leaving f) v w t g h law = absurd law
+asking_free sources drains book (node.Entering x) (node.Leaving f) v w t g h law = absurd law
+asking_free sources drains book x (node.Reading f) v w t g h law = absurd h
+asking_free sources drains book x (node.Making f) v w t g h law = absurd h
+asking_free sources drains book x (node.Linear f) v w t g h law = absurd h
+asking_free sources drains book x (node.State f) v w t g h law = absurd h
+asking_free sources drains book x (node.FanIn f) v w t g h law = absurd h
+asking_free sources drains book x (node.FanOut f) v w t g h law = absurd h
+asking_free sources drains book x (node.Writing f) v w t g h law = absurd h
+asking_free sources drains book x (node.Ignoring f) v w t g h law = absurd h
+asking_free sources drains book x (node.Entering f) v w t g h law = absurd h
 
 -- to end an output asks nothing
-pub end_tells : {S D : Type 0} (net : Net (Node S D)) (n j : ℕ) (cause : Option Cause) → TellsPoked node_asking net n (ends_at j cause)
+pub end_tells : {S D L B : Type 0} (net : Net (Node S D L B)) (n j : ℕ) (cause : Option Cause) → TellsPoked node_asking net n (ends_at j cause)
 end_tells net n j None p = absurd p
 end_tells net n j (Some c) p = absurd p
 
-pub leaving_tells : {S D : Type 0} (sources : S → SourceState) (drains : D → DrainState) (net : Net (Node S D)) → Settled node_row (node_law sources drains) node_asking node_moves net → (q : ℕ) → q < length net.wires → LeavesAt net q → (a : Act)
+pub leaving_tells : {S D L B : Type 0} (sources : S → SourceState) (drains : D → DrainState) (book : Book) (net : Net (Node S D L B)) → Settled node_row (node_law sources drains book) node_asking node_moves net → (q : ℕ) → q < length net.wires → LeavesAt net q → (a : Act)
     → TellsPoked node_asking net (end_at net.ends q).to a
-leaving_tells sources drains net s q h stage a p x xi =
+leaving_tells sources drains book net s q h stage a p x xi =
     let to = (end_at net.ends q).to in
     let first = get_there net.firsts to (rw s.each_first (s.wired.to_within q h)) in
-    asking_free sources drains x first.0 (view_of net to) _ (took net to) (gave net to) (stage first.0 first.1) (s.minded to (s.wired.to_within q h) x first.0 xi first.1).law_holds
+    asking_free sources drains book x first.0 (view_of net to) _ (took net to) (gave net to) (stage first.0 first.1) (s.minded to (s.wired.to_within q h) x first.0 xi first.1).law_holds
 
-pub came_at : {S D : Type 0} (sources : S → SourceState) (drains : D → DrainState) (net : Net (Node S D)) (q : ℕ) → Settled node_row (node_law sources drains) node_asking node_moves net → q < length net.wires → LeavesAt net q → CameTo net q
-came_at sources drains net q s h l = record {
-  got = came_there sources drains net s q h l;
+pub came_at : {S D L B : Type 0} (sources : S → SourceState) (drains : D → DrainState) (book : Book) (net : Net (Node S D L B)) (q : ℕ) → Settled node_row (node_law sources drains book) node_asking node_moves net → q < length net.wires → LeavesAt net q → CameTo net q
+came_at sources drains book net q s h l = record {
+  got = came_there sources drains book net s q h l;
   few = few_came _ _ (s.sound q h);
-  list = (came_told sources drains net s q h l).0;
-  end = (came_told sources drains net s q h l).1.0;
-  told_is = (came_told sources drains net s q h l).1.1;
+  list = (came_told sources drains book net s q h l).0;
+  end = (came_told sources drains book net s q h l).1.0;
+  told_is = (came_told sources drains book net s q h l).1.1;
 }

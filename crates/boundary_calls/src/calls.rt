@@ -16,13 +16,18 @@ use elem_core::item::Item;
 use elem_core::why::Cause;
 use fused_net::engine::Engine;
 use nodes::node::Node;
+use plug_logic::book::PlugBook;
+use plug_logic::logic::Logic;
 use port_core::act::Act;
 use port_core::view::{InView, OutView};
 use stream_io::outside::{Drain, Source};
 
 /// What the stage at the output end of the connection at place `place` was asked, where a lane comes in. It takes no memory.
 /// Rule: Akka Streams 2.6 reference, chapter on asynchronous boundaries.
-pub fn wanted<S: Source, D: Drain>(engine: &Engine<Node<S, D>>, place: u32) -> Wanted
+pub fn wanted<S: Source, D: Drain, L: Logic, B: PlugBook>(
+    engine: &Engine<Node<S, D, L, B>>,
+    place: u32,
+) -> Wanted
     requires { place < length engine.now.wires }
     ensures { result ≡ wanted_at (wire_at engine.now place) }
 {
@@ -40,14 +45,18 @@ pub fn wanted<S: Source, D: Drain>(engine: &Engine<Node<S, D>>, place: u32) -> W
 }
 
 /// Pushes an element where a lane comes in. It takes no memory and costs no unit.
-pub fn push_in<S: Source, D: Drain>(engine: &mut Engine<Node<S, D>>, place: u32, e: Elem)
-    requires laws { Settled node_row (node_law S.state D.state) node_asking node_moves engine.old }
+pub fn push_in<S: Source, D: Drain, L: Logic, B: PlugBook>(
+    engine: &mut Engine<Node<S, D, L, B>>,
+    place: u32,
+    e: Elem,
+)
+    requires laws { Settled node_row (node_law S.state D.state B.lists) node_asking node_moves engine.old }
     requires within { place < length engine.old.wires }
     requires stage { EntersAt engine.old place }
     requires asked { wanted_at (wire_at engine.old place) ≡ wanted.Asked }
     requires few { all_asks engine.old ≤ 4000000000 }
     ensures after { engine.new ≡ moved_at engine.old place (act.Push 0 e) }
-    ensures laws { Settled node_row (node_law S.state D.state) node_asking node_moves engine.new }
+    ensures laws { Settled node_row (node_law S.state D.state B.lists) node_asking node_moves engine.new }
     ensures on { GoesOn engine.old engine.new }
     ensures uses { Uses engine.old engine.new 0 }
 {
@@ -56,17 +65,17 @@ pub fn push_in<S: Source, D: Drain>(engine: &mut Engine<Node<S, D>>, place: u32,
 }
 
 /// Completes what comes in there, or fails it; no change where its output is closed. It takes no memory and costs no unit.
-pub fn end_in<S: Source, D: Drain>(
-    engine: &mut Engine<Node<S, D>>,
+pub fn end_in<S: Source, D: Drain, L: Logic, B: PlugBook>(
+    engine: &mut Engine<Node<S, D, L, B>>,
     place: u32,
     cause: Option<Cause>,
 )
-    requires laws { Settled node_row (node_law S.state D.state) node_asking node_moves engine.old }
+    requires laws { Settled node_row (node_law S.state D.state B.lists) node_asking node_moves engine.old }
     requires within { place < length engine.old.wires }
     requires stage { EntersAt engine.old place }
     requires few { all_asks engine.old ≤ 4000000000 }
     ensures after { engine.new ≡ ended_at engine.old place cause }
-    ensures laws { Settled node_row (node_law S.state D.state) node_asking node_moves engine.new }
+    ensures laws { Settled node_row (node_law S.state D.state B.lists) node_asking node_moves engine.new }
     ensures on { GoesOn engine.old engine.new }
     ensures uses { Uses engine.old engine.new 0 }
 {
@@ -108,8 +117,11 @@ fn end_act(port: u8, cause: Option<Cause>) -> Act
 
 /// Whether the stage at the input end may ask, where a lane goes out: its connection lets it, and nothing waits to be handed
 /// out. It takes no memory.
-pub fn can_pull_out<S: Source, D: Drain>(engine: &Engine<Node<S, D>>, place: u32) -> bool
-    requires laws { Settled node_row (node_law S.state D.state) node_asking node_moves engine.now }
+pub fn can_pull_out<S: Source, D: Drain, L: Logic, B: PlugBook>(
+    engine: &Engine<Node<S, D, L, B>>,
+    place: u32,
+) -> bool
+    requires laws { Settled node_row (node_law S.state D.state B.lists) node_asking node_moves engine.now }
     requires within { place < length engine.now.wires }
     ensures { IsTrue result ↔ (IsTrue (can_pull (wire_at engine.now place).wire.conn) × IsClearAt engine.now place) }
 {
@@ -118,14 +130,17 @@ pub fn can_pull_out<S: Source, D: Drain>(engine: &Engine<Node<S, D>>, place: u32
 }
 
 /// Asks there. It takes no memory and costs no unit.
-pub fn pull_out<S: Source, D: Drain>(engine: &mut Engine<Node<S, D>>, place: u32)
-    requires laws { Settled node_row (node_law S.state D.state) node_asking node_moves engine.old }
+pub fn pull_out<S: Source, D: Drain, L: Logic, B: PlugBook>(
+    engine: &mut Engine<Node<S, D, L, B>>,
+    place: u32,
+)
+    requires laws { Settled node_row (node_law S.state D.state B.lists) node_asking node_moves engine.old }
     requires within { place < length engine.old.wires }
     requires stage { LeavesAt engine.old place }
     requires can { IsTrue (can_pull (wire_at engine.old place).wire.conn) × IsClearAt engine.old place }
     requires few { all_asks engine.old ≤ 4000000000 }
     ensures after { engine.new ≡ moved_at engine.old place (act.Pull 0) }
-    ensures laws { Settled node_row (node_law S.state D.state) node_asking node_moves engine.new }
+    ensures laws { Settled node_row (node_law S.state D.state B.lists) node_asking node_moves engine.new }
     ensures on { GoesOn engine.old engine.new }
     ensures uses { Uses engine.old engine.new 0 }
 {
@@ -134,11 +149,14 @@ pub fn pull_out<S: Source, D: Drain>(engine: &mut Engine<Node<S, D>>, place: u32
 }
 
 /// Hands out what came where a lane goes out, each element and the end once and in order. It takes no memory and costs no unit.
-pub fn given<S: Source, D: Drain>(engine: &mut Engine<Node<S, D>>, place: u32) -> Given
-    requires laws { Settled node_row (node_law S.state D.state) node_asking node_moves engine.old }
+pub fn given<S: Source, D: Drain, L: Logic, B: PlugBook>(
+    engine: &mut Engine<Node<S, D, L, B>>,
+    place: u32,
+) -> Given
+    requires laws { Settled node_row (node_law S.state D.state B.lists) node_asking node_moves engine.old }
     requires within { place < length engine.old.wires }
     ensures given { GivenIs result (IsClearAt engine.old place × (engine.new ≡ engine.old)) (λ x. HandsAt node_gone node_waits engine.old (end_at engine.old.ends place).to (x ∷ []) engine.new) }
-    ensures laws { Settled node_row (node_law S.state D.state) node_asking node_moves engine.new }
+    ensures laws { Settled node_row (node_law S.state D.state B.lists) node_asking node_moves engine.new }
     ensures on { GoesOn engine.old engine.new }
     ensures uses { Uses engine.old engine.new 0 }
 {
@@ -152,13 +170,16 @@ pub fn given<S: Source, D: Drain>(engine: &mut Engine<Node<S, D>>, place: u32) -
 }
 
 /// Cancels there, without change where its input is closed. It takes no memory and costs no unit.
-fn cancel<S: Source, D: Drain>(engine: &mut Engine<Node<S, D>>, place: u32)
-    requires laws { Settled node_row (node_law S.state D.state) node_asking node_moves engine.old }
+fn cancel<S: Source, D: Drain, L: Logic, B: PlugBook>(
+    engine: &mut Engine<Node<S, D, L, B>>,
+    place: u32,
+)
+    requires laws { Settled node_row (node_law S.state D.state B.lists) node_asking node_moves engine.old }
     requires within { place < length engine.old.wires }
     requires stage { LeavesAt engine.old place }
     requires few { all_asks engine.old ≤ 4000000000 }
     ensures after { engine.new ≡ cancelled_at engine.old place }
-    ensures laws { Settled node_row (node_law S.state D.state) node_asking node_moves engine.new }
+    ensures laws { Settled node_row (node_law S.state D.state B.lists) node_asking node_moves engine.new }
     ensures on { GoesOn engine.old engine.new }
     ensures uses { Uses engine.old engine.new 0 }
 {
@@ -170,13 +191,16 @@ fn cancel<S: Source, D: Drain>(engine: &mut Engine<Node<S, D>>, place: u32)
 
 /// Cancels there, without change where its input is closed, and drops what waits to be handed out. It takes no memory and costs
 /// no unit.
-pub fn cancel_out<S: Source, D: Drain>(engine: &mut Engine<Node<S, D>>, place: u32)
-    requires laws { Settled node_row (node_law S.state D.state) node_asking node_moves engine.old }
+pub fn cancel_out<S: Source, D: Drain, L: Logic, B: PlugBook>(
+    engine: &mut Engine<Node<S, D, L, B>>,
+    place: u32,
+)
+    requires laws { Settled node_row (node_law S.state D.state B.lists) node_asking node_moves engine.old }
     requires within { place < length engine.old.wires }
     requires stage { LeavesAt engine.old place }
     requires few { all_asks engine.old ≤ 4000000000 }
     ensures drops { AtNode (cancelled_at engine.old place) (end_at engine.old.ends place).to (λ x. HandsAt node_gone node_waits (cancelled_at engine.old place) (end_at engine.old.ends place).to (node_waits x) engine.new) }
-    ensures laws { Settled node_row (node_law S.state D.state) node_asking node_moves engine.new }
+    ensures laws { Settled node_row (node_law S.state D.state B.lists) node_asking node_moves engine.new }
     ensures on { GoesOn engine.old engine.new }
     ensures uses { Uses engine.old engine.new 0 }
 {
@@ -186,8 +210,11 @@ pub fn cancel_out<S: Source, D: Drain>(engine: &mut Engine<Node<S, D>>, place: u
 }
 
 /// What came where a lane goes out is what was handed out or dropped, and then what waits. The call does nothing.
-pub fn came_to<S: Source, D: Drain>(engine: &Engine<Node<S, D>>, place: u32)
-    requires laws { Settled node_row (node_law S.state D.state) node_asking node_moves engine.now }
+pub fn came_to<S: Source, D: Drain, L: Logic, B: PlugBook>(
+    engine: &Engine<Node<S, D, L, B>>,
+    place: u32,
+)
+    requires laws { Settled node_row (node_law S.state D.state B.lists) node_asking node_moves engine.now }
     requires within { place < length engine.now.wires }
     requires stage { LeavesAt engine.now place }
     ensures { CameTo engine.now place }

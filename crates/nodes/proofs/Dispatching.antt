@@ -10,6 +10,7 @@ use Rattle.port_core.specs.declared.view.OutView.{OutView}
 use Rattle.port_core.specs.declared.view.OutView.TheVariants.{Unasked, Shut}
 use Rattle.port_core.specs.View.{View, IsOutOpen}
 use Rattle.port_core.specs.Call.{Call, Meets, MayCome, asks, brings, cancels}
+use Rattle.stream_model.specs.Linear.{Book}
 use Rattle.stage_core.specs.Handling.{Starts, Handles}
 use Rattle.stream_io.specs.State.{SourceState, DrainState}
 use Rattle.stage_boundary.specs.Entering.{Entering, EnteringFresh, EnteringRow, EnteringLaw}
@@ -62,10 +63,17 @@ asked_lists P (suc p) (x ∷ xs) ys r h = absurd r
 pub asked_is : (P : OutView → Type 0) (p : ℕ) → Meets (asks p) (λ v. OneOut P v) → p ≡ 0
 asked_is P p m = asked_lists P p m.0.ins m.0.outs m.1.1 m.1.0
 
-module _ {S D : Type 0} (sources : S → SourceState) (drains : D → DrainState) where
+module _ {S D : Type 0} (L B : Type 0) (sources : S → SourceState) (drains : D → DrainState) (book : Book) where
+  -- what a node owes at a call, and at its start
+  abbrev CallOf : Call → Node S D L B → Node S D L B → List Act → Type 0
+  CallOf call old new acts = Handles node_row (node_law sources drains book) call old new acts
+
+  abbrev StartOf : Node S D L B → Node S D L B → List Act → Type 0
+  StartOf old new acts = Starts node_row (node_law sources drains book) node_fresh old new acts
+
   -- a sink with a file
-  writing_law : (first : Node S D) (old new : Sink D) (v w : View) (took gave more given : List (List Item)) → ((f : Sink D) → SinkLaw drains f old v took gave → SinkLaw drains f new w more given)
-      → node_law sources drains first (Writing old) v took gave → node_law sources drains first (Writing new) w more given
+  writing_law : (first : Node S D L B) (old new : Sink D) (v w : View) (took gave more given : List (List Item)) → ((f : Sink D) → SinkLaw drains f old v took gave → SinkLaw drains f new w more given)
+      → node_law sources drains book first (Writing old) v took gave → node_law sources drains book first (Writing new) w more given
   writing_law (Writing f) old new v w took gave more given keeps law = keeps f law
   writing_law (Reading f) old new v w took gave more given keeps law = absurd law
   writing_law (Making f) old new v w took gave more given keeps law = absurd law
@@ -77,7 +85,7 @@ module _ {S D : Type 0} (sources : S → SourceState) (drains : D → DrainState
   writing_law (node.Entering f) old new v w took gave more given keeps law = absurd law
   writing_law (node.Leaving f) old new v w took gave more given keeps law = absurd law
 
-  writing_at : (x : Item) (old new : Sink D) (acts : List Act) → Handles sink_row (SinkLaw drains) (brings 0 x) old new acts → Handles node_row (node_law sources drains) (brings 0 x) (Writing old) (Writing new) acts
+  writing_at : (x : Item) (old new : Sink D) (acts : List Act) → Handles sink_row (SinkLaw drains) (brings 0 x) old new acts → CallOf (brings 0 x) (Writing old) (Writing new) acts
   writing_at x old new acts h = record {
     obeys = record { allowed = h.obeys.allowed; row = h.obeys.row };
     stands = h.stands;
@@ -85,12 +93,12 @@ module _ {S D : Type 0} (sources : S → SourceState) (drains : D → DrainState
   }
 
   pub writing_handles : {T E : Type 0} (p : ℕ) (x : Item) (old new : Sink D) (acts : List Act) (r : Result T E) → Meets (brings p x) (sink_row old) → OnOk r (Handles sink_row (SinkLaw drains) (brings 0 x) old new acts)
-      → OnOk r (Handles node_row (node_law sources drains) (brings p x) (Writing old) (Writing new) acts)
+      → OnOk r (CallOf (brings p x) (Writing old) (Writing new) acts)
   writing_handles p x old new acts r m h = rw (port_is (sink_row_in old.started old.end) p x m) (on_ok_two r h h (λ a b. writing_at x old new acts a))
 
   -- a source of lines
-  reading_law : (first : Node S D) (old new : Lines S) (v w : View) (took gave more given : List (List Item)) → ((f : Lines S) → LinesLaw sources f old v took gave → LinesLaw sources f new w more given)
-      → node_law sources drains first (Reading old) v took gave → node_law sources drains first (Reading new) w more given
+  reading_law : (first : Node S D L B) (old new : Lines S) (v w : View) (took gave more given : List (List Item)) → ((f : Lines S) → LinesLaw sources f old v took gave → LinesLaw sources f new w more given)
+      → node_law sources drains book first (Reading old) v took gave → node_law sources drains book first (Reading new) w more given
   reading_law (Reading f) old new v w took gave more given keeps law = keeps f law
   reading_law (Writing f) old new v w took gave more given keeps law = absurd law
   reading_law (Making f) old new v w took gave more given keeps law = absurd law
@@ -102,7 +110,7 @@ module _ {S D : Type 0} (sources : S → SourceState) (drains : D → DrainState
   reading_law (node.Entering f) old new v w took gave more given keeps law = absurd law
   reading_law (node.Leaving f) old new v w took gave more given keeps law = absurd law
 
-  reading_at : (call : Call) (old new : Lines S) (acts : List Act) → Handles lines_row (LinesLaw sources) call old new acts → Handles node_row (node_law sources drains) call (Reading old) (Reading new) acts
+  reading_at : (call : Call) (old new : Lines S) (acts : List Act) → Handles lines_row (LinesLaw sources) call old new acts → CallOf call (Reading old) (Reading new) acts
   reading_at call old new acts h = record {
     obeys = record { allowed = h.obeys.allowed; row = h.obeys.row };
     stands = h.stands;
@@ -110,16 +118,16 @@ module _ {S D : Type 0} (sources : S → SourceState) (drains : D → DrainState
   }
 
   pub reading_cancelled : {T E : Type 0} (p : ℕ) (old new : Lines S) (acts : List Act) (r : Result T E) → Meets (cancels p) (lines_row old) → OnOk r (Handles lines_row (LinesLaw sources) (cancels 0) old new acts)
-      → OnOk r (Handles node_row (node_law sources drains) (cancels p) (Reading old) (Reading new) acts)
+      → OnOk r (CallOf (cancels p) (Reading old) (Reading new) acts)
   reading_cancelled p old new acts r m h = rw (out_is (lines_row_in old.phase) p m) (on_ok_two r h h (λ a b. reading_at (cancels 0) old new acts a))
 
   pub reading_asked : {T E : Type 0} (p : ℕ) (old new : Lines S) (acts : List Act) (r : Result T E) → Meets (asks p) (lines_row old) → OnOk r (Handles lines_row (LinesLaw sources) (asks 0) old new acts)
-      → OnOk r (Handles node_row (node_law sources drains) (asks p) (Reading old) (Reading new) acts)
+      → OnOk r (CallOf (asks p) (Reading old) (Reading new) acts)
   reading_asked p old new acts r m h = rw (asked_is (lines_row_in old.phase) p m) (on_ok_two r h h (λ a b. reading_at (asks 0) old new acts a))
 
   -- the stage where a lane goes out
-  leaving_law : (first : Node S D) (old new : Leaving) (v w : View) (took gave more given : List (List Item)) → ((f : Leaving) → LeavingLaw f old v took gave → LeavingLaw f new w more given)
-      → node_law sources drains first (node.Leaving old) v took gave → node_law sources drains first (node.Leaving new) w more given
+  leaving_law : (first : Node S D L B) (old new : Leaving) (v w : View) (took gave more given : List (List Item)) → ((f : Leaving) → LeavingLaw f old v took gave → LeavingLaw f new w more given)
+      → node_law sources drains book first (node.Leaving old) v took gave → node_law sources drains book first (node.Leaving new) w more given
   leaving_law (node.Leaving f) old new v w took gave more given keeps law = keeps f law
   leaving_law (node.Reading f) old new v w took gave more given keeps law = absurd law
   leaving_law (node.Making f) old new v w took gave more given keeps law = absurd law
@@ -131,7 +139,7 @@ module _ {S D : Type 0} (sources : S → SourceState) (drains : D → DrainState
   leaving_law (node.Ignoring f) old new v w took gave more given keeps law = absurd law
   leaving_law (node.Entering f) old new v w took gave more given keeps law = absurd law
 
-  leaving_at : (call : Call) (old new : Leaving) (acts : List Act) → Handles LeavingRow LeavingLaw call old new acts → Handles node_row (node_law sources drains) call (node.Leaving old) (node.Leaving new) acts
+  leaving_at : (call : Call) (old new : Leaving) (acts : List Act) → Handles LeavingRow LeavingLaw call old new acts → CallOf call (node.Leaving old) (node.Leaving new) acts
   leaving_at call old new acts h = record {
     obeys = record { allowed = h.obeys.allowed; row = h.obeys.row };
     stands = h.stands;
@@ -139,20 +147,20 @@ module _ {S D : Type 0} (sources : S → SourceState) (drains : D → DrainState
   }
 
   pub leaving_handles : {T E : Type 0} (call : Call) (old new : Leaving) (acts : List Act) (r : Result T E) → OnOk r (Handles LeavingRow LeavingLaw call old new acts)
-      → OnOk r (Handles node_row (node_law sources drains) call (node.Leaving old) (node.Leaving new) acts)
+      → OnOk r (CallOf call (node.Leaving old) (node.Leaving new) acts)
   leaving_handles call old new acts r h = on_ok_two r h h (λ a b. leaving_at call old new acts a)
 
-  leaving_begins : (old new : Leaving) (acts : List Act) → Starts LeavingRow LeavingLaw LeavingFresh old new acts → Starts node_row (node_law sources drains) node_fresh (node.Leaving old) (node.Leaving new) acts
+  leaving_begins : (old new : Leaving) (acts : List Act) → Starts LeavingRow LeavingLaw LeavingFresh old new acts → StartOf (node.Leaving old) (node.Leaving new) acts
   leaving_begins old new acts h = record { obeys = record { allowed = h.obeys.allowed; row = h.obeys.row }; stands = h.stands; begins = h.begins }
 
   pub leaving_starts : {T E : Type 0} (old new : Leaving) (acts : List Act) (r : Result T E) → OnOk r (Starts LeavingRow LeavingLaw LeavingFresh old new acts)
-      → OnOk r (Starts node_row (node_law sources drains) node_fresh (node.Leaving old) (node.Leaving new) acts)
+      → OnOk r (StartOf (node.Leaving old) (node.Leaving new) acts)
   leaving_starts old new acts r h = on_ok_two r h h (λ a b. leaving_begins old new acts a)
 
   -- the stage where a lane comes in
-  entering_begins : (old new : Entering) (acts : List Act) → Starts EnteringRow EnteringLaw EnteringFresh old new acts → Starts node_row (node_law sources drains) node_fresh (node.Entering old) (node.Entering new) acts
+  entering_begins : (old new : Entering) (acts : List Act) → Starts EnteringRow EnteringLaw EnteringFresh old new acts → StartOf (node.Entering old) (node.Entering new) acts
   entering_begins old new acts h = record { obeys = record { allowed = h.obeys.allowed; row = h.obeys.row }; stands = h.stands; begins = h.begins }
 
   pub entering_starts : {T E : Type 0} (old new : Entering) (acts : List Act) (r : Result T E) → OnOk r (Starts EnteringRow EnteringLaw EnteringFresh old new acts)
-      → OnOk r (Starts node_row (node_law sources drains) node_fresh (node.Entering old) (node.Entering new) acts)
+      → OnOk r (StartOf (node.Entering old) (node.Entering new) acts)
   entering_starts old new acts r h = on_ok_two r h h (λ a b. entering_begins old new acts a)

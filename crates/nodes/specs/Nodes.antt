@@ -4,6 +4,7 @@ use Rattle.std.specs.Option.{unwrap_or}
 use Rattle.elem_core.specs.declared.item.Item.{Item}
 use Rattle.port_core.specs.View.{View}
 use Rattle.stream_io.specs.State.{SourceState, DrainState}
+use Rattle.stream_model.specs.Linear.{Book}
 use Rattle.stage_linear.specs.Handling.{LinearFresh, LinearRow, LinearLaw}
 use Rattle.stage_state.specs.Handling.{StateFresh, StateRow, StateLaw}
 use Rattle.kill_core.specs.Public.{SeatState}
@@ -27,7 +28,7 @@ use Rattle.nodes.specs.Sink.{SinkFresh, sink_row, SinkLaw}
 use Rattle.nodes.specs.Ignoring.{IgnoreFresh, ignore_row, IgnoreLaw}
 
 -- what one that was not started may know of its ports
-abbrev pub node_fresh : {S D : Type 0} → Node S D → View → Type 0
+abbrev pub node_fresh : {S D L B : Type 0} → Node S D L B → View → Type 0
 node_fresh (Reading x) v = LinesFresh x v
 node_fresh (Making x) v = MadeFresh x v
 node_fresh (Linear x) v = LinearFresh x v
@@ -40,7 +41,7 @@ node_fresh (Entering x) v = EnteringFresh x v
 node_fresh (Leaving x) v = LeavingFresh x v
 
 -- what one that was started may know of them between two calls
-abbrev pub node_row : {S D : Type 0} → Node S D → View → Type 0
+abbrev pub node_row : {S D L B : Type 0} → Node S D L B → View → Type 0
 node_row (Reading x) v = lines_row x v
 node_row (Making x) v = made_row x v
 node_row (Linear x) v = LinearRow x v
@@ -53,26 +54,26 @@ node_row (Entering x) v = EnteringRow x v
 node_row (Leaving x) v = LeavingRow x v
 
 -- what holds of the histories of its ports; its kind stays the same
-abbrev pub node_law : {S D : Type 0} → (S → SourceState) → (D → DrainState) → Node S D → Node S D → View → List (List Item) → List (List Item) → Type 0
-node_law sources drains (Reading first) (Reading x) v took gave = LinesLaw sources first x v took gave
-node_law sources drains (Making first) (Making x) v took gave = MadeLaw first x v took gave
-node_law sources drains (Linear first) (Linear x) v took gave = LinearLaw first x v took gave
-node_law sources drains (State first) (State x) v took gave = StateLaw first x v took gave
-node_law sources drains (FanIn first) (FanIn x) v took gave = InLaw first x v took gave
-node_law sources drains (FanOut first) (FanOut x) v took gave = OutLaw first x v took gave
-node_law sources drains (Writing first) (Writing x) v took gave = SinkLaw drains first x v took gave
-node_law sources drains (Ignoring first) (Ignoring x) v took gave = IgnoreLaw first x v took gave
-node_law sources drains (Entering first) (Entering x) v took gave = EnteringLaw first x v took gave
-node_law sources drains (Leaving first) (Leaving x) v took gave = LeavingLaw first x v took gave
-node_law sources drains _ _ v took gave = ⊥
+abbrev pub node_law : {S D L B : Type 0} → (S → SourceState) → (D → DrainState) → Book → Node S D L B → Node S D L B → View → List (List Item) → List (List Item) → Type 0
+node_law sources drains book (Reading first) (Reading x) v took gave = LinesLaw sources first x v took gave
+node_law sources drains book (Making first) (Making x) v took gave = MadeLaw first x v took gave
+node_law sources drains book (Linear first) (Linear x) v took gave = LinearLaw book first x v took gave
+node_law sources drains book (State first) (State x) v took gave = StateLaw first x v took gave
+node_law sources drains book (FanIn first) (FanIn x) v took gave = InLaw first x v took gave
+node_law sources drains book (FanOut first) (FanOut x) v took gave = OutLaw first x v took gave
+node_law sources drains book (Writing first) (Writing x) v took gave = SinkLaw drains first x v took gave
+node_law sources drains book (Ignoring first) (Ignoring x) v took gave = IgnoreLaw first x v took gave
+node_law sources drains book (Entering first) (Entering x) v took gave = EnteringLaw first x v took gave
+node_law sources drains book (Leaving first) (Leaving x) v took gave = LeavingLaw first x v took gave
+node_law sources drains book _ _ v took gave = ⊥
 
 -- what it knows of its ports whenever it has just asked: only a stage with several outputs tells of it
-abbrev pub node_asking : {S D : Type 0} → Node S D → View → Type 0
+abbrev pub node_asking : {S D L B : Type 0} → Node S D L B → View → Type 0
 node_asking (FanOut x) v = OutAsking x v
 node_asking x v = ⊤
 
 -- the moves that it has recorded, where it is a stage whose kind chooses
-abbrev pub node_picks : {S D : Type 0} → Node S D → Option (List ℕ)
+abbrev pub node_picks : {S D L B : Type 0} → Node S D L B → Option (List ℕ)
 node_picks (Reading x) = None
 node_picks (Making x) = None
 node_picks (Linear x) = None
@@ -85,11 +86,11 @@ node_picks (Entering x) = None
 node_picks (Leaving x) = None
 
 -- the moves that it has recorded, and none where it does not choose
-abbrev pub node_moves : {S D : Type 0} → Node S D → List ℕ
+abbrev pub node_moves : {S D L B : Type 0} → Node S D L B → List ℕ
 node_moves x = unwrap_or (node_picks x) []
 
 -- the seat that it has at a kill switch, where it is a valve or a trip
-abbrev pub node_seat : {S D : Type 0} → Node S D → Option SeatState
+abbrev pub node_seat : {S D L B : Type 0} → Node S D L B → Option SeatState
 node_seat (Reading x) = None
 node_seat (Making x) = None
 node_seat (Linear x) = None
@@ -102,7 +103,7 @@ node_seat (Entering x) = None
 node_seat (Leaving x) = None
 
 -- what it leaves at the end
-abbrev pub node_end : {S D : Type 0} → Node S D → NodeEnd S D
+abbrev pub node_end : {S D L B : Type 0} → Node S D L B → NodeEnd S D
 node_end (Reading x) = Read x.reader.source
 node_end (Making x) = Staged
 node_end (Linear x) = Staged
@@ -115,27 +116,27 @@ node_end (Entering x) = Staged
 node_end (Leaving x) = Staged
 
 -- one that was not started has not read
-abbrev pub ReadsLater : {S D : Type 0} → (S → SourceState) → Node S D → Node S D → Type 0
+abbrev pub ReadsLater : {S D L B : Type 0} → (S → SourceState) → Node S D L B → Node S D L B → Type 0
 ReadsLater sources (Reading x) (Reading y) = x.phase ≡ New → sources y.reader.source ≡ sources x.reader.source
 ReadsLater sources _ _ = ⊤
 
 -- what of it outlives want of memory: the handle that it would leave, which is as it was handed in where the node was not
 -- started
-pub record KeepsNode {S D : Type 0} (sources : S → SourceState) (drains : D → DrainState) (x y : Node S D) : Type 0 where
+pub record KeepsNode {S D L B : Type 0} (sources : S → SourceState) (drains : D → DrainState) (x y : Node S D L B) : Type 0 where
   pub ends : KeepsEnd sources drains (node_end x) (node_end y)
   pub first : ReadsLater sources x y
 
 -- only where a lane comes in or goes out it acts from outside alone
-abbrev pub node_passive : {S D : Type 0} → Node S D → Bool
+abbrev pub node_passive : {S D L B : Type 0} → Node S D L B → Bool
 node_passive (Entering x) = true
 node_passive (Leaving x) = true
 node_passive x = false
 
 -- what was handed out of the island at it or dropped there, and what waits there: only where a lane goes out
-abbrev pub node_gone : {S D : Type 0} → Node S D → List Item
+abbrev pub node_gone : {S D L B : Type 0} → Node S D L B → List Item
 node_gone (Leaving x) = x.gone
 node_gone x = []
 
-abbrev pub node_waits : {S D : Type 0} → Node S D → List Item
+abbrev pub node_waits : {S D L B : Type 0} → Node S D L B → List Item
 node_waits (Leaving x) = x.waits
 node_waits x = []

@@ -11,6 +11,8 @@ use elem_core::elem::Elem;
 use elem_core::item::Item;
 use elem_core::why::{Cause, NoMemory};
 use kill_core::seat::SwitchSeat;
+use plug_logic::book::PlugBook;
+use plug_logic::logic::Logic;
 use port_core::acts::Acts;
 use port_core::pick_log::PickLog;
 use stage_boundary::entering::Entering;
@@ -25,13 +27,13 @@ use stream_io::outside::{Drain, Source};
 
 /// A node of an island.
 #[derive(Drop)]
-pub enum Node<S: Source, D: Drain> {
+pub enum Node<S: Source, D: Drain, L: Logic, B: PlugBook> {
     /// A source of the lines of a file.
     Reading(LinesSource<S>),
     /// A source without a file.
     Making(Maker),
     /// A linear stage.
-    Linear(LinearLogic),
+    Linear(LinearLogic<L, B>),
     /// A stage with state.
     State(StateLogic),
     /// A stage with several inputs.
@@ -59,7 +61,7 @@ pub enum NodeEnd<S: Source, D: Drain> {
     Wrote(SinkEnd<D>),
 }
 
-impl<S: Source, D: Drain> Node<S, D> {
+impl<S: Source, D: Drain, L: Logic, B: PlugBook> Node<S, D, L, B> {
     /// What it leaves, the log of its moves where it is a stage whose kind chooses, and its seat where it is a valve or a trip. It
     /// takes no memory.
     pub fn close(self) -> (NodeEnd<S, D>, Option<PickLog>, Option<SwitchSeat>)
@@ -84,12 +86,12 @@ impl<S: Source, D: Drain> Node<S, D> {
     }
 }
 
-impl<S: Source, D: Drain> Stage for Node<S, D> {
+impl<S: Source, D: Drain, L: Logic, B: PlugBook> Stage for Node<S, D, L, B> {
     ghost fresh = { node_fresh };
 
     ghost rests = { node_row };
 
-    ghost law = { node_law S.state D.state };
+    ghost law = { node_law S.state D.state B.lists };
 
     ghost asking = { node_asking };
 

@@ -7,4 +7,4 @@ use Rattle.boundary_calls.proofs.calls.cancel.Goals as goal
 pub poke-requires-clause-may : goal.poke-requires-clause-may
 poke-requires-clause-may g c =
     let free : is_over (wire_at c.args.engine.now c.args.place).wire.inp ≡ false = search rules in
-    rw c.ends-ends.ensures (may_cancel g.S.Source.state g.D.Drain.state _ c.requires.laws _ c.requires.within c.requires.stage free)
+    rw c.ends-ends.ensures (may_cancel g.S.Source.state g.D.Drain.state g.B.PlugBook.lists _ c.requires.laws _ c.requires.within c.requires.stage free)

@@ -40,7 +40,7 @@ module _ (lane : Link → Bool) (links : List Link) (once : (p q : ℕ) (l m : L
   ]
 
 -- both kinds of marks: the k-th link is marked next
-pub leads_next : {S D : Type 0} (places : List (Seated S D)) (links : List Link) (ways new : Ways) (k : ℕ) (m : Link) → slice_get links k ≡ Some m → IsOnce places links → HasRows ways links → Leads places links k ways.ins.items ways.outs.items
+pub leads_next : {S D L B : Type 0} (places : List (Seated S D L B)) (links : List Link) (ways new : Ways) (k : ℕ) (m : Link) → slice_get links k ≡ Some m → IsOnce places links → HasRows ways links → Leads places links k ways.ins.items ways.outs.items
     → new.ins.items ≡ (if comes_in places m.from then slice_set ways.ins.items m.wire k else ways.ins.items) → new.outs.items ≡ (if goes_out places m.to then slice_set ways.outs.items m.wire k else ways.outs.items)
     → Leads places links (k + 1) new.ins.items new.outs.items × HasRows new links
 leads_next places links ways new k m at once rows leads i o =

@@ -28,12 +28,12 @@ outputs_here (y ∷ ys) zero d h = refl
 outputs_here (y ∷ ys) (suc n) d h = outputs_here ys n d (omega arith)
 
 -- the places of works
-ins_of_places : {S D : Type 0} (seats : List (Seated S D)) (n : ℕ) → ins_at (map place_of seats) n ≡ inputs_at seats n
+ins_of_places : {S D L B : Type 0} (seats : List (Seated S D L B)) (n : ℕ) → ins_at (map place_of seats) n ≡ inputs_at seats n
 ins_of_places [] n = refl
 ins_of_places (y ∷ ys) zero = refl
 ins_of_places (y ∷ ys) (suc n) = ins_of_places ys n
 
-outs_of_places : {S D : Type 0} (seats : List (Seated S D)) (n : ℕ) → outs_at (map place_of seats) n ≡ outputs_at seats n
+outs_of_places : {S D L B : Type 0} (seats : List (Seated S D L B)) (n : ℕ) → outs_at (map place_of seats) n ≡ outputs_at seats n
 outs_of_places [] n = refl
 outs_of_places (y ∷ ys) zero = refl
 outs_of_places (y ∷ ys) (suc n) = outs_of_places ys n
@@ -154,16 +154,16 @@ module _ (sizes_in sizes_out : ℕ → ℕ) (places : ℕ) (ends : List Ends) (w
   }
 
 -- the places that are left to seat
-pub seat_next : {S D : Type 0} (places rest later : List (Seated S D)) (s : Seated S D) (nodes more : List (Node S D)) (x : Node S D) → rest ≡ s ∷ later → AllUnused rest → Becomes s x → more ≡ nodes ++ x ∷ []
-    → ((xs : List (Node S D)) → AllBecome rest xs → AllBecome places (nodes ++ xs))
-    → AllUnused later × ((xs : List (Node S D)) → AllBecome later xs → AllBecome places (more ++ xs))
+pub seat_next : {S D L B : Type 0} (places rest later : List (Seated S D L B)) (s : Seated S D L B) (nodes more : List (Node S D L B)) (x : Node S D L B) → rest ≡ s ∷ later → AllUnused rest → Becomes s x → more ≡ nodes ++ x ∷ []
+    → ((xs : List (Node S D L B)) → AllBecome rest xs → AllBecome places (nodes ++ xs))
+    → AllUnused later × ((xs : List (Node S D L B)) → AllBecome later xs → AllBecome places (more ++ xs))
 seat_next places rest later s nodes more x e unused becomes is all =
     let u : AllUnused (s ∷ later) = rw e at unused in
-    let a : (xs : List (Node _ _)) → AllBecome (s ∷ later) xs → AllBecome places (nodes ++ xs) = rw e at all in
+    let a : (xs : List (Node _ _ _ _)) → AllBecome (s ∷ later) xs → AllBecome places (nodes ++ xs) = rw e at all in
     (u.1, λ xs h. rw is (rw (append_assoc nodes (x ∷ []) xs) (a (x ∷ xs) (becomes, h))))
 
-pub seat_last : {S D : Type 0} (places rest : List (Seated S D)) (nodes : List (Node S D)) → rest ≡ [] → ((xs : List (Node S D)) → AllBecome rest xs → AllBecome places (nodes ++ xs)) → AllBecome places nodes
-seat_last places rest nodes e all = let a : (xs : List (Node _ _)) → AllBecome [] xs → AllBecome places (nodes ++ xs) = rw e at all in rw (append-nil nodes) at (a [] tt)
+pub seat_last : {S D L B : Type 0} (places rest : List (Seated S D L B)) (nodes : List (Node S D L B)) → rest ≡ [] → ((xs : List (Node S D L B)) → AllBecome rest xs → AllBecome places (nodes ++ xs)) → AllBecome places nodes
+seat_last places rest nodes e all = let a : (xs : List (Node _ _ _ _)) → AllBecome [] xs → AllBecome places (nodes ++ xs) = rw e at all in rw (append-nil nodes) at (a [] tt)
 
 -- none is left where there are 0
 pub none_left : {A : Type 0} (xs : List A) (n : ℕ) → n ≡ 0 → n ≡ length xs → xs ≡ []
@@ -184,7 +184,7 @@ length_next xs x n e = length-append xs (x ∷ []) ∙ (let h : length xs ≡ n 
 pub sized_self : (ports : List PortLists) → IsSized (ins_in ports) (outs_in ports) (length ports) ports
 sized_self ports = record { count = refl; ins_are = λ n h. refl; outs_are = λ n h. refl }
 
-module _ {S D : Type 0} (seats : List (Seated S D)) (rows : List PortLists) (sized : IsSized (ins_at (map place_of seats)) (outs_at (map place_of seats)) (length (map place_of seats)) rows) where
+module _ {S D L B : Type 0} (seats : List (Seated S D L B)) (rows : List PortLists) (sized : IsSized (ins_at (map place_of seats)) (outs_at (map place_of seats)) (length (map place_of seats)) rows) where
   count_is : length (map place_of seats) ≡ length seats
   count_is = length-map seats place_of
 

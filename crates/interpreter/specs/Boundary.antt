@@ -11,56 +11,56 @@ use Rattle.fused_net.specs.Poking.{AtNode, HandsAt}
 use Rattle.boundary_calls.specs.Boundary.{EntersAt, LeavesAt, cancelled_at}
 use Rattle.interpreter.specs.Island.{Kept}
 
-module _ {S D : Type 0} where
+module _ {S D L B : Type 0} where
   -- the place of the connection at which the lane that is wire u comes in, and of that at which it goes out
-  abbrev pub way_in : Kept S D → ℕ → ℕ
+  abbrev pub way_in : Kept S D L B → ℕ → ℕ
   way_in i u = slice_index_or i.ins u 0
 
-  abbrev pub way_out : Kept S D → ℕ → ℕ
+  abbrev pub way_out : Kept S D L B → ℕ → ℕ
   way_out i u = slice_index_or i.outs u 0
 
   -- the connections there
-  abbrev pub cell_in : Kept S D → ℕ → Cell
+  abbrev pub cell_in : Kept S D L B → ℕ → Cell
   cell_in i u = wire_at i.net (way_in i u)
 
-  abbrev pub cell_out : Kept S D → ℕ → Cell
+  abbrev pub cell_out : Kept S D L B → ℕ → Cell
   cell_out i u = wire_at i.net (way_out i u)
 
   -- the island has a stage at which the lane that is wire u comes in, and one at which it goes out
-  pub record Enters (i : Kept S D) (u : ℕ) : Type 0 where
+  pub record Enters (i : Kept S D L B) (u : ℕ) : Type 0 where
     pub row : u < length i.ins
     pub place : way_in i u < length i.net.wires
     pub stage : EntersAt i.net (way_in i u)
 
-  pub record Leaves (i : Kept S D) (u : ℕ) : Type 0 where
+  pub record Leaves (i : Kept S D L B) (u : ℕ) : Type 0 where
     pub row : u < length i.outs
     pub place : way_out i u < length i.net.wires
     pub stage : LeavesAt i.net (way_out i u)
 
   -- these stand at the connection of place q
-  abbrev pub EntersBy : Kept S D → ℕ → ℕ → Type 0
+  abbrev pub EntersBy : Kept S D L B → ℕ → ℕ → Type 0
   EntersBy i u q = Enters i u × (way_in i u ≡ q)
 
-  abbrev pub LeavesBy : Kept S D → ℕ → ℕ → Type 0
+  abbrev pub LeavesBy : Kept S D L B → ℕ → ℕ → Type 0
   LeavesBy i u q = Leaves i u × (way_out i u ≡ q)
 
   -- where a lane goes out at place q nothing was asked, cancelled or handed out
-  pub record BeginsOut (net : Net (Node S D)) (q : ℕ) : Type 0 where
+  pub record BeginsOut (net : Net (Node S D L B)) (q : ℕ) : Type 0 where
     pub unasked : wanted (wire_at net q) ≡ 0
     pub stays : (wire_at net q).wire.inp ≢ Left
     pub none_gone : AtNode net (end_at net.ends q).to (λ x. node_gone x ≡ [])
 
   -- the island with another graph
-  abbrev pub with_net : Kept S D → Net (Node S D) → Kept S D
+  abbrev pub with_net : Kept S D L B → Net (Node S D L B) → Kept S D L B
   with_net i net = record i { net = net }
 
   -- these items, which waited where the lane goes out, were handed out
-  pub record HandsOut (old : Kept S D) (u : ℕ) (items : List Item) (new : Kept S D) : Type 0 where
+  pub record HandsOut (old : Kept S D L B) (u : ℕ) (items : List Item) (new : Kept S D L B) : Type 0 where
     pub hands : HandsAt node_gone node_waits old.net (end_at old.net.ends (way_out old u)).to items new.net
     pub rest : new ≡ with_net old new.net
 
   -- the input there is cancelled where it is open, and what waited there is dropped
-  pub record Drops (old : Kept S D) (u : ℕ) (new : Kept S D) : Type 0 where
+  pub record Drops (old : Kept S D L B) (u : ℕ) (new : Kept S D L B) : Type 0 where
     pub drops : AtNode (cancelled_at old.net (way_out old u)) (end_at old.net.ends (way_out old u)).to
         (λ x. HandsAt node_gone node_waits (cancelled_at old.net (way_out old u)) (end_at old.net.ends (way_out old u)).to (node_waits x) new.net)
     pub rest : new ≡ with_net old new.net

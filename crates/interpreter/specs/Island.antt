@@ -12,12 +12,13 @@ use Rattle.nodes.specs.declared.node.Node.TheVariants as node
 use Rattle.fused_net.specs.Net.{Net}
 use Rattle.fused_net.specs.Laws.{Settled}
 use Rattle.fused_net.specs.Costs.{all_asks}
+use Rattle.stream_model.specs.Linear.{Book}
 
 -- its nodes and wires, the numbers of its wires and of its nodes in the blueprint, the places of the connections at which lanes come in
 -- and go out, by the numbers of their wires, the units that it used, and whether a call gave up for want of memory, after which nothing is
 -- known of it
-pub record Kept (S D : Type 0) : Type 0 where
-  pub net : Net (Node S D)
+pub record Kept (S D L B : Type 0) : Type 0 where
+  pub net : Net (Node S D L B)
   pub numbers : List ℕ
   pub places : List ℕ
   pub ins : List ℕ
@@ -26,8 +27,8 @@ pub record Kept (S D : Type 0) : Type 0 where
   pub broken : Bool
 
 -- what an island keeps between two calls
-pub record Keeps {S D : Type 0} (sources : S → SourceState) (drains : D → DrainState) (net : Net (Node S D)) (used : ℕ) : Type 0 where
-  pub laws : Settled node_row (node_law sources drains) node_asking node_moves net
+pub record Keeps {S D L B : Type 0} (sources : S → SourceState) (drains : D → DrainState) (book : Book) (net : Net (Node S D L B)) (used : ℕ) : Type 0 where
+  pub laws : Settled node_row (node_law sources drains book) node_asking node_moves net
   pub asks : all_asks net ≤ used
   pub within : used ≤ 4000000000
 
@@ -41,7 +42,7 @@ counts_of (n ∷ ns) (c ∷ cs) = (n, count_of c) ∷ counts_of ns cs
 counts_of _ _ = []
 
 -- the sinks' ends: node, lines written, how it stands
-abbrev pub sinks_of : {S D : Type 0} → List (Node S D) → List (ℕ × ℕ × EndState)
+abbrev pub sinks_of : {S D L B : Type 0} → List (Node S D L B) → List (ℕ × ℕ × EndState)
 sinks_of [] = []
 sinks_of (node.Reading x ∷ xs) = sinks_of xs
 sinks_of (node.Making x ∷ xs) = sinks_of xs
@@ -55,7 +56,7 @@ sinks_of (node.Entering x ∷ xs) = sinks_of xs
 sinks_of (node.Leaving x ∷ xs) = sinks_of xs
 
 -- the sources of bytes that its readers read
-abbrev pub readers_of : {S D : Type 0} → List (Node S D) → List S
+abbrev pub readers_of : {S D L B : Type 0} → List (Node S D L B) → List S
 readers_of [] = []
 readers_of (node.Reading x ∷ xs) = x.reader.source ∷ readers_of xs
 readers_of (node.Making x ∷ xs) = readers_of xs
@@ -69,7 +70,7 @@ readers_of (node.Entering x ∷ xs) = readers_of xs
 readers_of (node.Leaving x ∷ xs) = readers_of xs
 
 -- the drains that its sinks with a file wrote
-abbrev pub writers_of : {S D : Type 0} → List (Node S D) → List D
+abbrev pub writers_of : {S D L B : Type 0} → List (Node S D L B) → List D
 writers_of [] = []
 writers_of (node.Reading x ∷ xs) = writers_of xs
 writers_of (node.Making x ∷ xs) = writers_of xs

@@ -33,7 +33,7 @@ abbrev pub number_of : Link → ℕ
 number_of l = l.wire
 
 -- how many inputs and outputs a work has
-abbrev pub work_inputs : {S D : Type 0} → Work S D → ℕ
+abbrev pub work_inputs : {S D L B : Type 0} → Work S D L B → ℕ
 work_inputs (Reading r) = 0
 work_inputs (Making k) = 0
 work_inputs (Linear l) = 1
@@ -44,7 +44,7 @@ work_inputs (Writing k d) = 1
 work_inputs (LaneIn u) = 0
 work_inputs (LaneOut u) = 1
 
-abbrev pub work_outputs : {S D : Type 0} → Work S D → ℕ
+abbrev pub work_outputs : {S D L B : Type 0} → Work S D L B → ℕ
 work_outputs (Reading r) = 1
 work_outputs (Making k) = 1
 work_outputs (Linear l) = 1
@@ -56,18 +56,18 @@ work_outputs (LaneIn u) = 1
 work_outputs (LaneOut u) = 0
 
 -- the same of the work at place n
-abbrev pub inputs_at : {S D : Type 0} → List (Seated S D) → ℕ → ℕ
+abbrev pub inputs_at : {S D L B : Type 0} → List (Seated S D L B) → ℕ → ℕ
 inputs_at [] n = 0
 inputs_at (x ∷ xs) zero = work_inputs x.work
 inputs_at (x ∷ xs) (suc n) = inputs_at xs n
 
-abbrev pub outputs_at : {S D : Type 0} → List (Seated S D) → ℕ → ℕ
+abbrev pub outputs_at : {S D L B : Type 0} → List (Seated S D L B) → ℕ → ℕ
 outputs_at [] n = 0
 outputs_at (x ∷ xs) zero = work_outputs x.work
 outputs_at (x ∷ xs) (suc n) = outputs_at xs n
 
 -- what is known of a place before its work holds its handle
-abbrev pub place_of : {S D : Type 0} → Seated S D → Place
+abbrev pub place_of : {S D L B : Type 0} → Seated S D L B → Place
 place_of s = record { node = s.node; inputs = work_inputs s.work; outputs = work_outputs s.work }
 
 -- how many inputs and outputs place n has
@@ -82,7 +82,7 @@ outs_at (p ∷ ps) zero = p.outputs
 outs_at (p ∷ ps) (suc n) = outs_at ps n
 
 -- a work that did nothing yet: no reader has read, no logic was started, and a sink has a drain exactly where it has a file
-abbrev pub IsUnused : {S D : Type 0} → Work S D → Type 0
+abbrev pub IsUnused : {S D L B : Type 0} → Work S D L B → Type 0
 IsUnused (Reading r) = r.kept ≡ []
 IsUnused (Making k) = IsMaker k
 IsUnused (Linear l) = LinearFresh l (record { ins = Idle ∷ []; outs = Unasked ∷ [] })
@@ -94,7 +94,7 @@ IsUnused (Writing k None) = k ≡ Ignore
 IsUnused (LaneIn u) = ⊤
 IsUnused (LaneOut u) = ⊤
 
-abbrev pub AllUnused : {S D : Type 0} → List (Seated S D) → Type 0
+abbrev pub AllUnused : {S D L B : Type 0} → List (Seated S D L B) → Type 0
 AllUnused [] = ⊤
 AllUnused (x ∷ xs) = IsUnused x.work × AllUnused xs
 
@@ -110,14 +110,14 @@ pub record IsWiring (ins outs : ℕ → ℕ) (places : ℕ) (ends : List Ends) :
   pub each_input : (n i : ℕ) → n < places → i < ins n → (w : ℕ) × ((w < length ends) × (((end_at ends w).to ≡ n) × ((end_at ends w).input ≡ i)))
 
 -- What an island is made of: works that did nothing yet, and links that join all their ports, each end of a lane in a link of its own.
-pub record AreParts {S D : Type 0} (places : List (Seated S D)) (links : List Link) : Type 0 where
+pub record AreParts {S D L B : Type 0} (places : List (Seated S D L B)) (links : List Link) : Type 0 where
   pub unused : AllUnused places
   pub wiring : IsWiring (inputs_at places) (outputs_at places) (length places) (map ends_of links)
   pub once : IsOnce places links
   pub few : length links < 2 ^ 32
 
 -- the node of a work, with its number
-abbrev pub BecomesOf : {S D : Type 0} → ℕ → Work S D → Node S D → Type 0
+abbrev pub BecomesOf : {S D L B : Type 0} → ℕ → Work S D L B → Node S D L B → Type 0
 BecomesOf k (Reading r) x = x ≡ node.Reading (record { node = k; reader = r; drawn = 0; phase = New })
 BecomesOf k (Making kind) x = x ≡ node.Making (maker_of k kind)
 BecomesOf k (Linear l) x = x ≡ node.Linear l
@@ -130,10 +130,10 @@ BecomesOf k (LaneIn u) x = x ≡ node.Entering (record { wire = u })
 BecomesOf k (LaneOut u) x = x ≡ node.Leaving (record { wire = u; waits = []; gone = [] })
 
 -- the node that stands at a place
-abbrev pub Becomes : {S D : Type 0} → Seated S D → Node S D → Type 0
+abbrev pub Becomes : {S D L B : Type 0} → Seated S D L B → Node S D L B → Type 0
 Becomes s x = BecomesOf s.node s.work x
 
-abbrev pub AllBecome : {S D : Type 0} → List (Seated S D) → List (Node S D) → Type 0
+abbrev pub AllBecome : {S D L B : Type 0} → List (Seated S D L B) → List (Node S D L B) → Type 0
 AllBecome [] [] = ⊤
 AllBecome (s ∷ ss) (x ∷ xs) = Becomes s x × AllBecome ss xs
 AllBecome _ _ = ⊥

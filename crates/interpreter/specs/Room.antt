@@ -34,7 +34,7 @@ pub record RoomFor {S D : Type 0} (room : IslandEnd S D) (nodes : ℕ) : Type 0 
   pub writers : vec_len room.writers + nodes ≤ vec_capacity room.writers
 
 -- the engine of these places and links, before its nodes are there
-pub record IsBlank {S D : Type 0} (blank : Blank S D) (places : List Place) (links : List Link) : Type 0 where
+pub record IsBlank {S D L B : Type 0} (blank : Blank S D L B) (places : List Place) (links : List Link) : Type 0 where
   pub ends : blank.ends.items ≡ map ends_of links
   pub rows : IsSized (ins_at places) (outs_at places) (length places) blank.ports.items
   pub wires : blank.wires.items ≡ replicate (length links) new_cell
@@ -43,7 +43,7 @@ pub record IsBlank {S D : Type 0} (blank : Blank S D) (places : List Place) (lin
   pub room_for_nodes : length places ≤ vec_capacity blank.nodes
 
 -- the room for an island of these places and links
-pub record IsRoom {S D : Type 0} (room : Room S D) (places : List Place) (links : List Link) : Type 0 where
+pub record IsRoom {S D L B : Type 0} (room : Room S D L B) (places : List Place) (links : List Link) : Type 0 where
   pub no_acts : room.acts.items ≡ []
   pub room_for_acts : most_acts ≤ room.acts.room
   pub numbers : room.numbers.items ≡ map number_of links

@@ -31,6 +31,8 @@ use elem_core::why::{Cause, NoMemory};
 use fused_net::engine::{Advance, Engine};
 use kill_core::seat::SwitchSeat;
 use nodes::node::{Node, NodeEnd};
+use plug_logic::book::PlugBook;
+use plug_logic::logic::Logic;
 use port_core::acts::Acts;
 use port_core::pick_log::PickLog;
 use std::alloc::{AllocError, Global};
@@ -43,8 +45,8 @@ use wire_core::wire::Wire;
 /// The nodes and wires of one island, and the wires that have an event. After `NoMemory` it is only dropped or taken apart.
 /// Rule: Akka Streams 2.6 reference.
 #[derive(Drop)]
-pub struct Island<S: Source, D: Drain> {
-    engine: Engine<Node<S, D>>,
+pub struct Island<S: Source, D: Drain, L: Logic, B: PlugBook> {
+    engine: Engine<Node<S, D, L, B>>,
     acts: Acts,
     numbers: Vec<u32>,
     // The number in the blueprint of each of its nodes.
@@ -57,7 +59,7 @@ pub struct Island<S: Source, D: Drain> {
     room: IslandEnd<S, D>,
 }
 
-impl<S: Source, D: Drain> Model for Island<S, D> {
+impl<S: Source, D: Drain, L: Logic, B: PlugBook> Model for Island<S, D, L, B> {
     ghost use Rattle.std.specs.Prelude.{◌≡◌, ◌≤◌, [], false, length};
     ghost use Rattle.stage_core.specs.Handling.{most_acts};
     ghost use Rattle.interpreter.specs.Island.{Kept, Keeps};
@@ -65,13 +67,13 @@ impl<S: Source, D: Drain> Model for Island<S, D> {
     ghost use Rattle.std.specs.Coded.{codes};
     ghost use Rattle.elem_core.specs.TreeCode.{tree_coded};
 
-    ghost Value = { Kept S D };
+    ghost Value = { Kept S D L B };
 
     ghost coded = { Prim.hlevel (codes, tree_coded) };
 
     ghost view = { λ i. record { net = i.engine; numbers = i.numbers.items; places = i.places.items; ins = i.ways.ins.items; outs = i.ways.outs.items; used = i.used; broken = i.broken } };
 
-    ghost invariant = { λ i. HasRoom i.room (length i.engine.nodes) (length i.numbers.items) × (length i.places.items ≡ length i.engine.nodes) × (i.broken ≡ false → Keeps S.state D.state i.engine i.used × (i.acts.items ≡ []) × (most_acts ≤ i.acts.room)) };
+    ghost invariant = { λ i. HasRoom i.room (length i.engine.nodes) (length i.numbers.items) × (length i.places.items ≡ length i.engine.nodes) × (i.broken ≡ false → Keeps S.state D.state B.lists i.engine i.used × (i.acts.items ≡ []) × (most_acts ≤ i.acts.room)) };
 }
 
 /// What an island leaves at its end, each list in order of its nodes or wires.
@@ -98,19 +100,19 @@ pub enum StartEnd<S: Source, D: Drain> {
     NoMemory(IslandEnd<S, D>),
 }
 
-impl<S: Source, D: Drain> Island<S, D> {
+impl<S: Source, D: Drain, L: Logic, B: PlugBook> Island<S, D, L, B> {
     /// Makes the island of these parts, for which this room was taken, and starts every node. Only a node may want memory then.
     /// On want of memory nothing was read or written, and it hands all handles back as they were handed in.
     pub fn start(
         alloc: Global,
-        parts: Parts<S, D>,
-        room: Room<S, D>,
-    ) -> Result<Island<S, D>, StartEnd<S, D>>
+        parts: Parts<S, D, L, B>,
+        room: Room<S, D, L, B>,
+    ) -> Result<Island<S, D, L, B>, StartEnd<S, D>>
         requires parts { AreParts parts.nodes.items parts.links.items }
         requires room { IsRoom room (map place_of parts.nodes.items) parts.links.items }
         ensures whole { IfOk result (λ i. i.broken ≡ false) }
         ensures unused { IfOk result (λ i. i.used ≡ 0) }
-        ensures laws { IfOk result (λ i. Keeps S.state D.state i.net 0) }
+        ensures laws { IfOk result (λ i. Keeps S.state D.state B.lists i.net 0) }
         ensures firsts { IfOk result (λ i. AllBecome parts.nodes.items i.net.firsts) }
         ensures ends { IfOk result (λ i. i.net.ends ≡ map ends_of parts.links.items) }
         ensures numbers { IfOk result (λ i. i.numbers ≡ map number_of parts.links.items) }
@@ -163,7 +165,7 @@ impl<S: Source, D: Drain> Island<S, D> {
         ensures uses { IfOk result (λ used. Uses self.old.net self.new.net used) }
         ensures within { IfOk result (λ used. used ≤ limit) }
         ensures rest { IfOk result (λ used. used < limit → self.new.net.queue ≡ []) }
-        ensures breaks { OnErr result (BreaksOff node_row (node_law S.state D.state) node_asking node_moves (KeepsNode S.state D.state) self.old.net self.new.net.nodes) }
+        ensures breaks { OnErr result (BreaksOff node_row (node_law S.state D.state B.lists) node_asking node_moves (KeepsNode S.state D.state) self.old.net self.new.net.nodes) }
     {
         self.broken = true;
         let used = self.engine.execute(alloc, limit, &mut self.acts)?;
@@ -191,7 +193,7 @@ impl<S: Source, D: Drain> Island<S, D> {
         ensures rest { IfOk result (λ a. a.used < limit → a.heard ≡ None → self.new.net.queue ≡ []) }
         ensures none { IfOk result (λ a. a.used ≡ 0 → self.new ≡ self.old) }
         ensures heard { IfOk result (λ a. (w : ℕ) → a.heard ≡ Some w → (1 ≤ a.used) × (w < length self.new.net.wires)) }
-        ensures breaks { OnErr result (BreaksAside node_row (node_law S.state D.state) node_asking node_moves node_gone node_passive (KeepsNode S.state D.state) self.old.net self.new.net.nodes) }
+        ensures breaks { OnErr result (BreaksAside node_row (node_law S.state D.state B.lists) node_asking node_moves node_gone node_passive (KeepsNode S.state D.state) self.old.net self.new.net.nodes) }
     {
         self.broken = true;
         let advance = self.engine.advance(alloc, limit, &mut self.acts)?;
@@ -219,7 +221,7 @@ impl<S: Source, D: Drain> Island<S, D> {
     /// What it keeps between two calls: the law of each node over the histories of its wires, the joint state of each wire,
     /// and the units that it used, which bound the elements that were pushed. The call does nothing.
     pub fn laws(&self)
-        ensures { self.now.broken ≡ false → Keeps S.state D.state self.now.net self.now.used }
+        ensures { self.now.broken ≡ false → Keeps S.state D.state B.lists self.now.net self.now.used }
     {
         let _ = &self.broken;
     }
@@ -330,10 +332,10 @@ impl<S: Source, D: Drain> Island<S, D> {
 }
 
 /// Takes an island apart that is not to be started: its handles come back as they were handed in. It takes no memory.
-pub fn hand_back<S: Source, D: Drain>(
+pub fn hand_back<S: Source, D: Drain, L: Logic, B: PlugBook>(
     alloc: Global,
-    parts: Parts<S, D>,
-    room: Room<S, D>,
+    parts: Parts<S, D, L, B>,
+    room: Room<S, D, L, B>,
 ) -> IslandEnd<S, D>
     requires parts { AreParts parts.nodes.items parts.links.items }
     requires room { IsRoom room (map place_of parts.nodes.items) parts.links.items }
@@ -351,14 +353,14 @@ pub fn hand_back<S: Source, D: Drain>(
 }
 
 // The engine of these parts, of which no node was started. It takes no memory.
-fn assemble<S: Source, D: Drain>(
+fn assemble<S: Source, D: Drain, L: Logic, B: PlugBook>(
     alloc: Global,
-    parts: Parts<S, D>,
-    blank: Blank<S, D>,
-) -> Engine<Node<S, D>>
+    parts: Parts<S, D, L, B>,
+    blank: Blank<S, D, L, B>,
+) -> Engine<Node<S, D, L, B>>
     requires parts { AreParts parts.nodes.items parts.links.items }
     requires blank { IsBlank blank (map place_of parts.nodes.items) parts.links.items }
-    ensures starting { Starting node_row (node_law S.state D.state) node_asking node_moves node_fresh result 0 }
+    ensures starting { Starting node_row (node_law S.state D.state B.lists) node_asking node_moves node_fresh result 0 }
     ensures firsts { AllBecome parts.nodes.items result.firsts }
     ensures ends { result.ends ≡ map ends_of parts.links.items }
     ensures asks { all_asks result ≡ 0 }
@@ -379,8 +381,8 @@ fn assemble<S: Source, D: Drain>(
 }
 
 // Takes an engine apart, into lists that have room for what it leaves.
-fn leave<S: Source, D: Drain>(
-    engine: Engine<Node<S, D>>,
+fn leave<S: Source, D: Drain, L: Logic, B: PlugBook>(
+    engine: Engine<Node<S, D, L, B>>,
     numbers: &[u32],
     places: &[u32],
     end: IslandEnd<S, D>,
@@ -401,8 +403,8 @@ fn leave<S: Source, D: Drain>(
 }
 
 // What these nodes leave, of which these are the numbers, into lists that are empty and have room for it.
-fn gather<S: Source, D: Drain>(
-    nodes: Vec<Node<S, D>>,
+fn gather<S: Source, D: Drain, L: Logic, B: PlugBook>(
+    nodes: Vec<Node<S, D, L, B>>,
     places: &[u32],
     end: IslandEnd<S, D>,
 ) -> IslandEnd<S, D>
@@ -467,7 +469,7 @@ impl<S: Source, D: Drain> IslandEnd<S, D> {
     }
 
     // What node `number` leaves, into lists that have room for it.
-    fn add(&mut self, number: u32, node: Node<S, D>)
+    fn add<L: Logic, B: PlugBook>(&mut self, number: u32, node: Node<S, D, L, B>)
         requires { RoomFor self.old 1 }
         ensures sinks { self.new.sinks.items ≡ self.old.sinks.items ++ sinks_of (node ∷ []) }
         ensures picks { map pick_of self.new.picks.items ≡ map pick_of self.old.picks.items ++ picks_of (number ∷ []) (node ∷ []) }

@@ -13,6 +13,8 @@ use nodes::maker::Maker;
 use nodes::node::Node;
 use nodes::sink::{FileSink, Writes};
 use nodes::source::LinesSource;
+use plug_logic::book::PlugBook;
+use plug_logic::logic::Logic;
 use stage_boundary::entering::Entering;
 use stage_boundary::leaving::Leaving;
 use stage_in::logic::InLogic;
@@ -42,13 +44,13 @@ pub struct Link {
 
 /// What stands at a place of an island.
 #[derive(Drop)]
-pub enum Work<S: Source, D: Drain> {
+pub enum Work<S: Source, D: Drain, L: Logic, B: PlugBook> {
     /// A source of the lines that a reader reads.
     Reading(LineReader<S>),
     /// A source of this kind, which has no file.
     Making(Kind),
     /// A linear stage.
-    Linear(LinearLogic),
+    Linear(LinearLogic<L, B>),
     /// A stage with state.
     State(StateLogic),
     /// A stage with so many inputs.
@@ -65,18 +67,18 @@ pub enum Work<S: Source, D: Drain> {
 
 /// A work with the number of its node in the blueprint.
 #[derive(Drop)]
-pub struct Seated<S: Source, D: Drain> {
+pub struct Seated<S: Source, D: Drain, L: Logic, B: PlugBook> {
     /// The number of its node.
     pub node: u32,
     /// What it does.
-    pub work: Work<S, D>,
+    pub work: Work<S, D, L, B>,
 }
 
 /// The parts of an island.
 #[derive(Drop)]
-pub struct Parts<S: Source, D: Drain> {
+pub struct Parts<S: Source, D: Drain, L: Logic, B: PlugBook> {
     /// What stands at each of its places.
-    pub nodes: Vec<Seated<S, D>>,
+    pub nodes: Vec<Seated<S, D, L, B>>,
     /// Its wires.
     pub links: Vec<Link>,
 }
@@ -93,7 +95,10 @@ pub struct Place {
 }
 
 // The node of a work that did nothing yet.
-pub fn seat<S: Source, D: Drain>(alloc: Global, seated: Seated<S, D>) -> Node<S, D>
+pub fn seat<S: Source, D: Drain, L: Logic, B: PlugBook>(
+    alloc: Global,
+    seated: Seated<S, D, L, B>,
+) -> Node<S, D, L, B>
     requires { IsUnused seated.work }
     ensures { Becomes seated result }
 {
@@ -154,11 +159,11 @@ fn written_by(kind: &Kind) -> Writes
 }
 
 // The nodes of works that did nothing yet, in an empty list that has room for them. It takes no memory.
-pub fn seat_all<S: Source, D: Drain>(
+pub fn seat_all<S: Source, D: Drain, L: Logic, B: PlugBook>(
     alloc: Global,
-    places: Vec<Seated<S, D>>,
-    nodes: Vec<Node<S, D>>,
-) -> Vec<Node<S, D>>
+    places: Vec<Seated<S, D, L, B>>,
+    nodes: Vec<Node<S, D, L, B>>,
+) -> Vec<Node<S, D, L, B>>
     requires unused { AllUnused places.items }
     requires empty { nodes.items ≡ [] }
     requires room { vec_len places ≤ vec_capacity nodes }

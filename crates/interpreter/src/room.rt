@@ -9,6 +9,8 @@ use elem_core::why::NoMemory;
 use fused_net::engine::unused_wires;
 use fused_net::net::{Ends, Ports};
 use nodes::node::Node;
+use plug_logic::book::PlugBook;
+use plug_logic::logic::Logic;
 use port_core::acts::Acts;
 use port_core::ring::EventRing;
 use stage_core::stage::MOST_ACTS;
@@ -18,27 +20,27 @@ use wire_core::wire::Wire;
 
 /// An engine before its nodes are there: tables with a row for each of their ports, and an empty list that has room for them.
 #[derive(Drop)]
-pub struct Blank<S: Source, D: Drain> {
+pub struct Blank<S: Source, D: Drain, L: Logic, B: PlugBook> {
     pub(crate) ends: Vec<Ends>,
     pub(crate) ports: Vec<Ports>,
     pub(crate) wires: Vec<Wire>,
     pub(crate) ring: EventRing,
-    pub(crate) nodes: Vec<Node<S, D>>,
+    pub(crate) nodes: Vec<Node<S, D, L, B>>,
 }
 
 /// All that an island takes of memory but what its nodes themselves need, so that it is made and taken apart without any.
 #[derive(Drop)]
-pub struct Room<S: Source, D: Drain> {
+pub struct Room<S: Source, D: Drain, L: Logic, B: PlugBook> {
     pub(crate) acts: Acts,
     pub(crate) numbers: Vec<u32>,
     pub(crate) places: Vec<u32>,
-    pub(crate) blank: Blank<S, D>,
+    pub(crate) blank: Blank<S, D, L, B>,
     pub(crate) ways: Ways,
     pub(crate) end: IslandEnd<S, D>,
 }
 
-impl<S: Source, D: Drain> Blank<S, D> {
-    fn of(alloc: Global, places: &[Place], links: &[Link]) -> Result<Blank<S, D>, NoMemory>
+impl<S: Source, D: Drain, L: Logic, B: PlugBook> Blank<S, D, L, B> {
+    fn of(alloc: Global, places: &[Place], links: &[Link]) -> Result<Blank<S, D, L, B>, NoMemory>
         requires { length links.now < 2 ^ 32 }
         ensures { IfOk result (λ blank. IsBlank blank places.now links.now) }
     {
@@ -57,9 +59,9 @@ impl<S: Source, D: Drain> Blank<S, D> {
     }
 }
 
-impl<S: Source, D: Drain> Room<S, D> {
+impl<S: Source, D: Drain, L: Logic, B: PlugBook> Room<S, D, L, B> {
     /// The room for an island of these places and links.
-    pub fn of(alloc: Global, places: &[Place], links: &[Link]) -> Result<Room<S, D>, NoMemory>
+    pub fn of(alloc: Global, places: &[Place], links: &[Link]) -> Result<Room<S, D, L, B>, NoMemory>
         requires { length links.now < 2 ^ 32 }
         ensures { IfOk result (λ room. IsRoom room places.now links.now) }
     {

@@ -5,6 +5,8 @@ ghost use Rattle.interpreter.specs.Ways.{HasRows, Leads, IsOnce, comes_in, goes_
 
 use crate::parts::{Link, Seated, Work};
 use elem_core::why::NoMemory;
+use plug_logic::book::PlugBook;
+use plug_logic::logic::Logic;
 use std::alloc::Global;
 use std::cmp::max;
 use stream_io::outside::{Drain, Source};
@@ -39,7 +41,10 @@ fn zeros(alloc: Global, count: usize) -> Result<Vec<u32>, NoMemory>
 }
 
 // Whether a lane comes in at a place.
-fn comes_in<S: Source, D: Drain>(works: &[Seated<S, D>], place: u32) -> bool
+fn comes_in<S: Source, D: Drain, L: Logic, B: PlugBook>(
+    works: &[Seated<S, D, L, B>],
+    place: u32,
+) -> bool
     ensures { result ≡ comes_in works.now place }
 {
     match works.get(place as usize) {
@@ -49,12 +54,25 @@ fn comes_in<S: Source, D: Drain>(works: &[Seated<S, D>], place: u32) -> bool
 }
 
 // Whether a lane goes out at a place.
-fn goes_out<S: Source, D: Drain>(works: &[Seated<S, D>], place: u32) -> bool
+fn goes_out<S: Source, D: Drain, L: Logic, B: PlugBook>(
+    works: &[Seated<S, D, L, B>],
+    place: u32,
+) -> bool
     ensures { result ≡ goes_out works.now place }
 {
     match works.get(place as usize) {
         Some(seated) => matches!(seated.work, Work::LaneOut(_)),
         None => false,
+    }
+}
+
+// Marks the row of a wire by the place `q` of its connection, where that is at the end of a lane.
+fn mark_row(rows: &mut Vec<u32>, wire: u32, q: u32, is_end: bool)
+    requires { wire < length rows.old.items }
+    ensures { rows.new.items ≡ (if is_end then slice_set rows.old.items wire q else rows.old.items) }
+{
+    if is_end {
+        rows[wire as usize] = q;
     }
 }
 
@@ -71,22 +89,27 @@ impl Ways {
     }
 
     // Marks the connection at place `q`, which is that of `link`, where it is at the end of a lane.
-    fn mark<S: Source, D: Drain>(&mut self, works: &[Seated<S, D>], link: Link, q: u32)
+    fn mark<S: Source, D: Drain, L: Logic, B: PlugBook>(
+        &mut self,
+        works: &[Seated<S, D, L, B>],
+        link: Link,
+        q: u32,
+    )
         requires ins_row { link.wire < length self.old.ins.items }
         requires outs_row { link.wire < length self.old.outs.items }
         ensures ins { self.new.ins.items ≡ (if comes_in works.now link.from then slice_set self.old.ins.items link.wire q else self.old.ins.items) }
         ensures outs { self.new.outs.items ≡ (if goes_out works.now link.to then slice_set self.old.outs.items link.wire q else self.old.outs.items) }
     {
-        if comes_in(works, link.from) {
-            self.ins[link.wire as usize] = q;
-        }
-        if goes_out(works, link.to) {
-            self.outs[link.wire as usize] = q;
-        }
+        mark_row(&mut self.ins, link.wire, q, comes_in(works, link.from));
+        mark_row(&mut self.outs, link.wire, q, goes_out(works, link.to));
     }
 
     // Marks each connection that is at the end of a lane. It takes no memory.
-    pub(crate) fn mark_all<S: Source, D: Drain>(&mut self, works: &[Seated<S, D>], links: &[Link])
+    pub(crate) fn mark_all<S: Source, D: Drain, L: Logic, B: PlugBook>(
+        &mut self,
+        works: &[Seated<S, D, L, B>],
+        links: &[Link],
+    )
         requires rows { HasRows self.old links.now }
         requires few { length links.now < 2 ^ 32 }
         requires once { IsOnce works.now links.now }

@@ -29,7 +29,7 @@ leaves None = false
 leaves (Some y) = true
 
 -- what a node leaves: how a sink ended, the source of a reader, the drain of a sink that has a file
-abbrev pub sink_of : {S D : Type 0} → Node S D → Option (ℕ × ℕ × EndState)
+abbrev pub sink_of : {S D L B : Type 0} → Node S D L B → Option (ℕ × ℕ × EndState)
 sink_of (node.Reading x) = None
 sink_of (node.Making x) = None
 sink_of (node.Linear x) = None
@@ -41,7 +41,7 @@ sink_of (node.Ignoring x) = Some (x.node, 0, x.end)
 sink_of (node.Entering x) = None
 sink_of (node.Leaving x) = None
 
-abbrev pub reader_of : {S D : Type 0} → Node S D → Option S
+abbrev pub reader_of : {S D L B : Type 0} → Node S D L B → Option S
 reader_of (node.Reading x) = Some x.reader.source
 reader_of (node.Making x) = None
 reader_of (node.Linear x) = None
@@ -53,7 +53,7 @@ reader_of (node.Ignoring x) = None
 reader_of (node.Entering x) = None
 reader_of (node.Leaving x) = None
 
-abbrev pub writer_of : {S D : Type 0} → Node S D → Option D
+abbrev pub writer_of : {S D L B : Type 0} → Node S D L B → Option D
 writer_of (node.Reading x) = None
 writer_of (node.Making x) = None
 writer_of (node.Linear x) = None
@@ -66,7 +66,7 @@ writer_of (node.Entering x) = None
 writer_of (node.Leaving x) = None
 
 -- a stage at an end of a lane, and nodes that are such
-abbrev pub is_lane_end : {S D : Type 0} → Node S D → Bool
+abbrev pub is_lane_end : {S D L B : Type 0} → Node S D L B → Bool
 is_lane_end (node.Reading x) = false
 is_lane_end (node.Making x) = false
 is_lane_end (node.Linear x) = false
@@ -78,20 +78,20 @@ is_lane_end (node.Ignoring x) = false
 is_lane_end (node.Entering x) = true
 is_lane_end (node.Leaving x) = true
 
-abbrev pub AreLaneEnds : {S D : Type 0} → List (Node S D) → Type 0
-AreLaneEnds nodes = (k : ℕ) (x : Node _ _) → slice_get nodes k ≡ Some x → is_lane_end x ≡ true
+abbrev pub AreLaneEnds : {S D L B : Type 0} → List (Node S D L B) → Type 0
+AreLaneEnds nodes = (k : ℕ) (x : Node _ _ _ _) → slice_get nodes k ≡ Some x → is_lane_end x ≡ true
 
 -- the nodes of all islands in order, with the island and the number of each: those of the blueprint, and behind them the ends of lanes;
 -- and the counts at the outputs of all wires in order, with the island of each
-pub record Whole (S D : Type 0) : Type 0 where
+pub record Whole (S D L B : Type 0) : Type 0 where
   pub homes : List ℕ
-  pub nodes : List (Node S D)
+  pub nodes : List (Node S D L B)
   pub numbers : List ℕ
   pub wire_homes : List ℕ
   pub counts : List (ℕ × WireCount)
 
 -- The end of island k: what its nodes leave, and the counts of its wires, those at the inputs of lanes last.
-pub record IsEndOf {S D : Type 0} (w : Whole S D) (k : ℕ) (e : IslandEnd S D) : Type 0 where
+pub record IsEndOf {S D L B : Type 0} (w : Whole S D L B) (k : ℕ) (e : IslandEnd S D) : Type 0 where
   pub sinks : e.sinks.items ≡ sinks_of (of_home w.homes k w.nodes)
   pub picks : map pick_of e.picks.items ≡ picks_of (of_home w.homes k w.numbers) (of_home w.homes k w.nodes)
   pub seats : e.seats.items ≡ seats_of (of_home w.homes k w.numbers) (of_home w.homes k w.nodes)
@@ -101,7 +101,7 @@ pub record IsEndOf {S D : Type 0} (w : Whole S D) (k : ℕ) (e : IslandEnd S D) 
   pub wires : e.wires.items ≡ of_home w.wire_homes k w.counts ++ fars
 
 -- the ends of all islands
-pub record AreEndsOf {S D : Type 0} (w : Whole S D) (ends : List (IslandEnd S D)) : Type 0 where
+pub record AreEndsOf {S D L B : Type 0} (w : Whole S D L B) (ends : List (IslandEnd S D)) : Type 0 where
   pub below : All (λ h. h < length ends) w.homes
   pub wires_below : All (λ h. h < length ends) w.wire_homes
   pub nodes_each : length w.nodes ≡ length w.homes
@@ -110,7 +110,7 @@ pub record AreEndsOf {S D : Type 0} (w : Whole S D) (ends : List (IslandEnd S D)
   pub each : (k : ℕ) (e : IslandEnd S D) → slice_get ends k ≡ Some e → IsEndOf w k e
 
 -- these are the homes of what is left
-pub record AreHomesOf {S D : Type 0} (w : Whole S D) (homes : EndHomes) : Type 0 where
+pub record AreHomesOf {S D L B : Type 0} (w : Whole S D L B) (homes : EndHomes) : Type 0 where
   pub sinks : homes.sinks.items ≡ homes_left sink_of w.homes w.nodes
   pub wires : homes.wires.items ≡ w.wire_homes
   pub picks : homes.picks.items ≡ homes_left node_picks w.homes w.nodes
@@ -119,7 +119,7 @@ pub record AreHomesOf {S D : Type 0} (w : Whole S D) (homes : EndHomes) : Type 0
   pub writers : homes.writers.items ≡ homes_left writer_of w.homes w.nodes
 
 -- all that the islands leave in one end
-pub record IsWholeEnd {S D : Type 0} (w : Whole S D) (e : IslandEnd S D) : Type 0 where
+pub record IsWholeEnd {S D L B : Type 0} (w : Whole S D L B) (e : IslandEnd S D) : Type 0 where
   pub sinks : e.sinks.items ≡ sinks_of w.nodes
   pub wires : e.wires.items ≡ w.counts
   pub picks : map pick_of e.picks.items ≡ picks_of w.numbers w.nodes

@@ -6,19 +6,21 @@ ghost use Rattle.island_ends.specs.Room.{IsRoomFor};
 use crate::lists::{cut, sort};
 use crate::room::{EndHomes, EndRoom};
 use interpreter::island::IslandEnd;
+use plug_logic::book::PlugBook;
+use plug_logic::logic::Logic;
 use scatter::shares::gather;
 use stream_io::outside::{Drain, Source};
 
 /// Brings the ends of all islands, in their order, back into one: each list is in order of the blueprint's nodes, and the counts
 /// are those at the outputs of its wires, in their order. It takes no memory. Rule: own.
-pub fn join_ends<S: Source, D: Drain>(
+pub fn join_ends<S: Source, D: Drain, L: Logic, B: PlugBook>(
     ends: Vec<IslandEnd<S, D>>,
     homes: &EndHomes,
     room: EndRoom<S, D>,
 ) -> IslandEnd<S, D>
     requires room { IsRoomFor homes.now (vec_len ends) room }
-    requires ends { (w : Whole S D) × (AreEndsOf w ends.items) × (AreHomesOf w homes.now) }
-    ensures { (w : Whole S D) → AreEndsOf w ends.items → AreHomesOf w homes.now → IsWholeEnd w result }
+    requires ends { (w : Whole S D L B) × (AreEndsOf w ends.items) × (AreHomesOf w homes.now) }
+    ensures { (w : Whole S D L B) → AreEndsOf w ends.items → AreHomesOf w homes.now → IsWholeEnd w result }
 {
     let EndRoom { counts, lists, end } = room;
     let mut lists = sort(ends, lists);

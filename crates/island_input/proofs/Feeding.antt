@@ -6,6 +6,7 @@ use Rattle.elem_core.specs.declared.item.Item.TheVariants as item
 use Rattle.elem_core.specs.declared.why.Cause.{Cause}
 use Rattle.stream_io.specs.State.{SourceState, DrainState}
 use Rattle.stream_model.specs.Outlook.{unended}
+use Rattle.stream_model.specs.Linear.{Book}
 use Rattle.stage_law.specs.Held.{told}
 use Rattle.port_core.specs.Decoding.{can_push}
 use Rattle.port_core.specs.declared.view.OutView.{OutView}
@@ -111,12 +112,12 @@ shut_unasked true e = cc
 shut_unasked false e = cc
 
 -- an end is handed on by a call of its own
-pub ended_moved : {S D : Type 0} (i : Kept S D) (q : ℕ) (cause : Option Cause) (new : Kept S D) → is_shut (wire_at i.net q).wire.out ≡ false → new ≡ with_net i (ended_at i.net q cause) → new ≡ with_net i (moved_at i.net q (ends_at 0 cause))
+pub ended_moved : {S D L B : Type 0} (i : Kept S D L B) (q : ℕ) (cause : Option Cause) (new : Kept S D L B) → is_shut (wire_at i.net q).wire.out ≡ false → new ≡ with_net i (ended_at i.net q cause) → new ≡ with_net i (moved_at i.net q (ends_at 0 cause))
 ended_moved i q cause new free is = rw free at is
 
-module _ {S D : Type 0} (b : InputBoundary) (i : Kept S D) (u : ℕ) (x : Item) (new : Kept S D) (is : new ≡ with_net i (moved_at i.net (way_in i u) (act_of x))) (h : way_in i u < length i.net.wires) where
+module _ {S D L B : Type 0} (b : InputBoundary) (i : Kept S D L B) (u : ℕ) (x : Item) (new : Kept S D L B) (is : new ≡ with_net i (moved_at i.net (way_in i u) (act_of x))) (h : way_in i u < length i.net.wires) where
   cell_moved : cell_in new u ≡ moved_by (act_of x) (cell_in i u)
-  cell_moved = subst (λ (z : Kept S D). cell_in z u ≡ moved_by (act_of x) (cell_in i u)) (sym is) (get_or-set_same i.net.wires (way_in i u) (moved_by (act_of x) (cell_in i u)) no_wire h)
+  cell_moved = subst (λ (z : Kept S D L B). cell_in z u ≡ moved_by (act_of x) (cell_in i u)) (sym is) (get_or-set_same i.net.wires (way_in i u) (moved_by (act_of x) (cell_in i u)) no_wire h)
 
   out_moved : (cell_in new u).wire.out ≡ cond (ends x) Shut Unasked
   out_moved = ap (λ (c : Cell). c.wire.out) cell_moved ∙ act_out x (cell_in i u)
@@ -140,7 +141,7 @@ module _ {S D : Type 0} (b : InputBoundary) (i : Kept S D) (u : ℕ) (x : Item) 
 
 -- ---- one who has nothing to do
 
-module _ {S D : Type 0} (b : InputBoundary) (i : Kept S D) (u : ℕ) where
+module _ {S D L B : Type 0} (b : InputBoundary) (i : Kept S D L B) (u : ℕ) where
   -- one that hands on no more
   pub fed_over : Feeds b i u → state b ≢ Flowing → IsFed b i u
   fed_over f n = record {
@@ -168,11 +169,11 @@ module _ {S D : Type 0} (b : InputBoundary) (i : Kept S D) (u : ℕ) where
   }
 
   -- where an output was asked, and may not push, a cancel is on its way
-  pub given_away : {sources : S → SourceState} {drains : D → DrainState} → Settled node_row (node_law sources drains) node_asking node_moves i.net → Enters i u → wanted_at (cell_in i u) ≡ wanted.Quiet → HasGiven b i u
+  pub given_away : {sources : S → SourceState} {drains : D → DrainState} {book : Book} → Settled node_row (node_law sources drains book) node_asking node_moves i.net → Enters i u → wanted_at (cell_in i u) ≡ wanted.Quiet → HasGiven b i u
   given_away s en w e = inr (cancel_away (cell_in i u).wire _ (s.sound (way_in i u) en.place) e (wanted_quiet (cell_in i u).wire.out (can_push (cell_in i u).wire.conn) w).0)
 
   -- so few elements were handed on
-  pub few_given : {sources : S → SourceState} {drains : D → DrainState} → Keeps sources drains i.net i.used → Enters i u → Feeds b i u → wanted_at (cell_in i u) ≡ wanted.Asked → lane.elements (given b) < 4000000000
+  pub few_given : {sources : S → SourceState} {drains : D → DrainState} {book : Book} → Keeps sources drains book i.net i.used → Enters i u → Feeds b i u → wanted_at (cell_in i u) ≡ wanted.Asked → lane.elements (given b) < 4000000000
   few_given k en f w =
       let p = wanted_push (cell_in i u).wire.out (can_push (cell_in i u).wire.conn) w in
       let y : (cell_in i u).wire.out ≡ Asked = push_asked (cell_in i u).wire _ (k.laws.sound (way_in i u) en.place) p.0 in
@@ -200,9 +201,9 @@ module _ {S D : Type 0} (b : InputBoundary) (i : Kept S D) (u : ℕ) where
   }
 
 -- where nothing was pushed yet, the stage has closed nothing
-pub feeds_begun : {S D : Type 0} (sources : S → SourceState) (drains : D → DrainState) (b : InputBoundary) (i : Kept S D) (u : ℕ) → Settled node_row (node_law sources drains) node_asking node_moves i.net → Enters i u → (cell_in i u).wire.sent ≡ [] → given b ≡ [] → state b ≡ Flowing → Feeds b i u
-feeds_begun sources drains b i u s l none nothing flows =
-    let g = gave_there sources drains i.net s (way_in i u) l.place l.stage in
+pub feeds_begun : {S D L B : Type 0} (sources : S → SourceState) (drains : D → DrainState) (book : Book) (b : InputBoundary) (i : Kept S D L B) (u : ℕ) → Settled node_row (node_law sources drains book) node_asking node_moves i.net → Enters i u → (cell_in i u).wire.sent ≡ [] → given b ≡ [] → state b ≡ Flowing → Feeds b i u
+feeds_begun sources drains book b i u s l none nothing flows =
+    let g = gave_there sources drains book i.net s (way_in i u) l.place l.stage in
     let open_end : g.end ≡ unended = one_end g.list [] g.end unended (sym g.is ∙ none) in
     record {
       given_is = none ∙ sym nothing;
@@ -225,13 +226,13 @@ asked_by_calls b c k l size calls =
 
 -- ---- one call behind another
 
-pub beside_next : {S D : Type 0} (u : ℕ) (a b c : Kept S D) → Beside (way_in a u) (in_node a u) a b → Beside (way_in b u) (in_node b u) b c → Beside (way_in a u) (in_node a u) a c
+pub beside_next : {S D L B : Type 0} (u : ℕ) (a b c : Kept S D L B) → Beside (way_in a u) (in_node a u) a b → Beside (way_in b u) (in_node b u) b c → Beside (way_in a u) (in_node a u) a c
 beside_next {S = S} {D = D} u a b c f g =
     beside_trans (way_in a u) (in_node a u) a b c f (subst (λ (z : ℕ × ℕ). Beside z.0 z.1 b c) (λ i. (way_in_beside (way_in a u) (in_node a u) a b u f i, in_node_beside (way_in a u) (in_node a u) a b u f i)) g)
 
 -- ---- while another end of a lane acts
 
-module _ {S D : Type 0} (b : InputBoundary) (q n : ℕ) (old new : Kept S D) (u : ℕ) (s : Beside q n old new) (apart : way_in old u ≢ q) where
+module _ {S D L B : Type 0} (b : InputBoundary) (q n : ℕ) (old new : Kept S D L B) (u : ℕ) (s : Beside q n old new) (apart : way_in old u ≢ q) where
   cell_same : cell_in new u ≡ cell_in old u
   cell_same = rw (way_in_beside q n old new u s) (s.cells (way_in old u) apart)
 
@@ -252,15 +253,15 @@ module _ {S D : Type 0} (b : InputBoundary) (q n : ℕ) (old new : Kept S D) (u 
 
 -- ---- while the island runs
 
-module _ {S D : Type 0} (sources : S → SourceState) (drains : D → DrainState) (b : InputBoundary) (old new : Kept S D) (u : ℕ) (before : Settled node_row (node_law sources drains) node_asking node_moves old.net) (l : Enters old u) (ins : new.ins ≡ old.ins) (still : StandsStill node_passive old.net new.net) where
+module _ {S D L B : Type 0} (sources : S → SourceState) (drains : D → DrainState) (book : Book) (b : InputBoundary) (old new : Kept S D L B) (u : ℕ) (before : Settled node_row (node_law sources drains book) node_asking node_moves old.net) (l : Enters old u) (ins : new.ins ≡ old.ins) (still : StandsStill node_passive old.net new.net) where
   way_same : way_in new u ≡ way_in old u
   way_same = rw ins refl
 
   sent_same : (cell_in new u).wire.sent ≡ (cell_in old u).wire.sent
-  sent_same = rw way_same (still.sent (way_in old u) (passive_there sources drains old.net before (way_in old u) l.place l.stage))
+  sent_same = rw way_same (still.sent (way_in old u) (passive_there sources drains book old.net before (way_in old u) l.place l.stage))
 
   -- what is kept stands while the island runs
-  module _ (after : Settled node_row (node_law sources drains) node_asking node_moves new.net) (on : GoesOn old.net new.net) where
+  module _ (after : Settled node_row (node_law sources drains book) node_asking node_moves new.net) (on : GoesOn old.net new.net) where
     enters_new : Enters new u
     enters_new = record {
       row = rw ins l.row;
@@ -269,10 +270,10 @@ module _ {S D : Type 0} (sources : S → SourceState) (drains : D → DrainState
     }
 
     gave_old : Gave (cell_in old u).wire.sent (cell_in old u).wire.out
-    gave_old = gave_there sources drains old.net before (way_in old u) l.place l.stage
+    gave_old = gave_there sources drains book old.net before (way_in old u) l.place l.stage
 
     gave_new : Gave (cell_in new u).wire.sent (cell_in new u).wire.out
-    gave_new = gave_there sources drains new.net after (way_in new u) enters_new.place enters_new.stage
+    gave_new = gave_there sources drains book new.net after (way_in new u) enters_new.place enters_new.stage
 
     told_is : told gave_old.list gave_old.end ≡ told gave_new.list gave_new.end
     told_is = sym gave_old.is ∙ (sym sent_same ∙ gave_new.is)
@@ -294,7 +295,7 @@ module _ {S D : Type 0} (sources : S → SourceState) (drains : D → DrainState
   -- and one that heard of nothing has nothing to do
   pub fed_ran : (at : _) → Untouched node_passive at old.net new.net → IsElse at (way_in old u) → IsFed b old u → IsFed b new u
   fed_ran at un other f =
-      let out_same : (cell_in new u).wire.out ≡ (cell_in old u).wire.out = rw way_same (un.outs (way_in old u) other (passive_there sources drains old.net before (way_in old u) l.place l.stage)) in
+      let out_same : (cell_in new u).wire.out ≡ (cell_in old u).wire.out = rw way_same (un.outs (way_in old u) other (passive_there sources drains book old.net before (way_in old u) l.place l.stage)) in
       record {
         given_all = λ e. elim (f.given_all (sym out_same ∙ e)) [
           | inl g ↦ inl g

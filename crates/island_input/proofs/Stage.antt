@@ -5,6 +5,7 @@ use Rattle.elem_core.specs.Tree.{Tree}
 use Rattle.elem_core.specs.declared.item.Item.{Item}
 use Rattle.stream_io.specs.State.{SourceState, DrainState}
 use Rattle.stream_model.specs.Outlook.{End}
+use Rattle.stream_model.specs.Linear.{Book}
 use Rattle.stage_law.specs.Held.{told}
 use Rattle.stage_law.specs.Law.{GaveAs}
 use Rattle.port_core.specs.View.{View, out_at}
@@ -42,9 +43,9 @@ sent_there wires [] i w e = absurd cc
 sent_there wires (x ∷ ws) zero w e = ap (λ (k : ℕ). Some (get_or wires k no_wire).wire.sent) (some_same x w e)
 sent_there wires (x ∷ ws) (suc i) w e = sent_there wires ws i w e
 
-module _ {S D : Type 0} (sources : S → SourceState) (drains : D → DrainState) where
+module _ {S D L B : Type 0} (sources : S → SourceState) (drains : D → DrainState) (book : Book) where
   -- the stage's law at port i of it
-  gave_by : (x first : Node S D) → IsEntering first → (v : View) (t g : List (List Item)) (i : ℕ) (l : List Item) (y : OutView) → slice_get g i ≡ Some l → out_at v i ≡ y → node_law sources drains first x v t g → Gave l y
+  gave_by : (x first : Node S D L B) → IsEntering first → (v : View) (t g : List (List Item)) (i : ℕ) (l : List Item) (y : OutView) → slice_get g i ≡ Some l → out_at v i ≡ y → node_law sources drains book first x v t g → Gave l y
   gave_by (node.Entering x) (node.Entering f) h v t g i l y at out law =
       let one = one_item (told law.list law.end) l g i law.gave_is at in
       record {
@@ -72,7 +73,7 @@ module _ {S D : Type 0} (sources : S → SourceState) (drains : D → DrainState
   gave_by x (node.Ignoring f) h v t g i l y at out law = absurd h
   gave_by x (node.Leaving f) h v t g i l y at out law = absurd h
 
-  entering_passive : (x first : Node S D) → IsEntering first → (v : View) (t g : List (List Item)) → node_law sources drains first x v t g → node_passive x ≡ true
+  entering_passive : (x first : Node S D L B) → IsEntering first → (v : View) (t g : List (List Item)) → node_law sources drains book first x v t g → node_passive x ≡ true
   entering_passive (node.Entering x) (node.Entering f) h v t g law = refl
   entering_passive (node.Leaving x) (node.Entering f) h v t g law = refl
   entering_passive (node.Reading x) (node.Entering f) h v t g law = absurd law
@@ -93,7 +94,7 @@ module _ {S D : Type 0} (sources : S → SourceState) (drains : D → DrainState
   entering_passive x (node.Ignoring f) h v t g law = absurd h
   entering_passive x (node.Leaving f) h v t g law = absurd h
 
-  module _ (net : Net (Node S D)) (s : Settled node_row (node_law sources drains) node_asking node_moves net) (q : ℕ) (h : q < length net.wires) (stage : EntersAt net q) where
+  module _ (net : Net (Node S D L B)) (s : Settled node_row (node_law sources drains book) node_asking node_moves net) (q : ℕ) (h : q < length net.wires) (stage : EntersAt net q) where
     abbrev from : ℕ
     from = (end_at net.ends q).from
 

@@ -18,6 +18,8 @@ use elem_core::item::Item;
 use input_boundary::boundary::{InputBoundary, Passed};
 use input_boundary::state::State;
 use interpreter::island::Island;
+use plug_logic::book::PlugBook;
+use plug_logic::logic::Logic;
 use stream_io::outside::{Drain, Source};
 
 /// The end of a lane that takes, and the number of the wire that the lane is. What it takes is handed on to its island where the
@@ -71,7 +73,11 @@ impl IslandInput {
 
     // Hands on the next item: an element only where the stage is asked, an end behind the elements also where it is not. True comes
     // exactly where the lane was asked for more.
-    fn hand_on<S: Source, D: Drain>(&mut self, island: &mut Island<S, D>, asked: bool) -> bool
+    fn hand_on<S: Source, D: Drain, L: Logic, B: PlugBook>(
+        &mut self,
+        island: &mut Island<S, D, L, B>,
+        asked: bool,
+    ) -> bool
         requires whole { island.old.broken ≡ false }
         requires enters { Enters island.old self.old.wire }
         requires feeds { Feeds self.old.boundary island.old self.old.wire }
@@ -100,7 +106,10 @@ impl IslandInput {
 
     // Hands on an end that waits where no element does. Then nothing is left to do where nothing was but this. True comes exactly
     // where the lane was asked for more.
-    fn hand_on_end<S: Source, D: Drain>(&mut self, island: &mut Island<S, D>) -> bool
+    fn hand_on_end<S: Source, D: Drain, L: Logic, B: PlugBook>(
+        &mut self,
+        island: &mut Island<S, D, L, B>,
+    ) -> bool
         requires whole { island.old.broken ≡ false }
         requires enters { Enters island.old self.old.wire }
         requires feeds { Feeds self.old.boundary island.old self.old.wire }
@@ -125,7 +134,10 @@ impl IslandInput {
     /// it is not. A cancel of its connection cancels the lane. Then nothing is left to do before something comes off the lane, or
     /// to the stage. True comes exactly where the lane was asked for more or cancelled, so that the other end has to be woken.
     /// It takes no memory.
-    pub fn serve<S: Source, D: Drain>(&mut self, island: &mut Island<S, D>) -> bool
+    pub fn serve<S: Source, D: Drain, L: Logic, B: PlugBook>(
+        &mut self,
+        island: &mut Island<S, D, L, B>,
+    ) -> bool
         requires whole { island.old.broken ≡ false }
         requires enters { Enters island.old self.old.wire }
         requires feeds { Feeds self.old.boundary island.old self.old.wire }
@@ -146,7 +158,10 @@ impl IslandInput {
     }
 
     // The same, of which the count of what was asked is told by the calls that asked.
-    fn serve_now<S: Source, D: Drain>(&mut self, island: &mut Island<S, D>) -> bool
+    fn serve_now<S: Source, D: Drain, L: Logic, B: PlugBook>(
+        &mut self,
+        island: &mut Island<S, D, L, B>,
+    ) -> bool
         requires whole { island.old.broken ≡ false }
         requires enters { Enters island.old self.old.wire }
         requires feeds { Feeds self.old.boundary island.old self.old.wire }
@@ -181,7 +196,11 @@ impl IslandInput {
 }
 
 // The stage at which the lane that is wire `wire` comes in hands an item on.
-fn give<S: Source, D: Drain>(island: &mut Island<S, D>, wire: u32, item: Item)
+fn give<S: Source, D: Drain, L: Logic, B: PlugBook>(
+    island: &mut Island<S, D, L, B>,
+    wire: u32,
+    item: Item,
+)
     requires whole { island.old.broken ≡ false }
     requires enters { Enters island.old wire }
     requires asked { ends item ≡ false → wanted_at (cell_in island.old wire) ≡ wanted.Asked }

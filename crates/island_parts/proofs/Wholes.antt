@@ -44,33 +44,33 @@ module _ {X : Type 0} {Y : Type 0} (first : List Y) (f g : X → Y) (xs : List X
       get_right first (map f xs ++ map g xs) i (length xs + j) (omega (arith, e)) ∙ get_right (map f xs) (map g xs) (length xs + j) j (omega (arith, c)) ∙ slice_get-map g xs j ∙ ap (option_map g) at
 
 -- the places before the nodes hold their handles
-pub places_whole : {S D : Type 0} (nodes : List (Seated S D)) (lanes : List LanePlan) → map place_of (whole_seats nodes lanes) ≡ whole_places (map place_of nodes) lanes
-places_whole {S = S} {D = D} nodes lanes = map_both nodes (map in_seat lanes ++ map out_seat lanes) ∙ ap (λ l. map place_of nodes ++ l) (map_both (map in_seat lanes) (map out_seat lanes) ∙ ap (λ l. l ++ map place_of (map (out_seat {S = S} {D = D}) lanes)) (ins lanes) ∙ ap (λ l. map in_place lanes ++ l) (outs lanes))
+pub places_whole : {S D L B : Type 0} (nodes : List (Seated S D L B)) (lanes : List LanePlan) → map place_of (whole_seats nodes lanes) ≡ whole_places (map place_of nodes) lanes
+places_whole {S = S} {D = D} {L = L} {B = B} nodes lanes = map_both nodes (map in_seat lanes ++ map out_seat lanes) ∙ ap (λ l. map place_of nodes ++ l) (map_both (map in_seat lanes) (map out_seat lanes) ∙ ap (λ l. l ++ map place_of (map (out_seat {S = S} {D = D} {L = L} {B = B}) lanes)) (ins lanes) ∙ ap (λ l. map in_place lanes ++ l) (outs lanes))
   where
-    map_both : (xs ys : List (Seated S D)) → map place_of (xs ++ ys) ≡ map place_of xs ++ map place_of ys
+    map_both : (xs ys : List (Seated S D L B)) → map place_of (xs ++ ys) ≡ map place_of xs ++ map place_of ys
     map_both [] ys = refl
     map_both (x ∷ xs) ys = ap (λ l. place_of x ∷ l) (map_both xs ys)
 
-    ins : (ls : List LanePlan) → map place_of (map (in_seat {S = S} {D = D}) ls) ≡ map in_place ls
+    ins : (ls : List LanePlan) → map place_of (map (in_seat {S = S} {D = D} {L = L} {B = B}) ls) ≡ map in_place ls
     ins [] = refl
     ins (l ∷ ls) = ap (λ r. in_place l ∷ r) (ins ls)
 
-    outs : (ls : List LanePlan) → map place_of (map (out_seat {S = S} {D = D}) ls) ≡ map out_place ls
+    outs : (ls : List LanePlan) → map place_of (map (out_seat {S = S} {D = D} {L = L} {B = B}) ls) ≡ map out_place ls
     outs [] = refl
     outs (l ∷ ls) = ap (λ r. out_place l ∷ r) (outs ls)
 
-pub unused_whole : {S D : Type 0} (nodes : List (Seated S D)) (lanes : List LanePlan) → AllUnused nodes → AllUnused (whole_seats nodes lanes)
-unused_whole {S = S} {D = D} nodes lanes a = unused_both nodes (map in_seat lanes ++ map out_seat lanes) a (unused_both (map in_seat lanes) (map out_seat lanes) (ins lanes) (outs lanes))
+pub unused_whole : {S D L B : Type 0} (nodes : List (Seated S D L B)) (lanes : List LanePlan) → AllUnused nodes → AllUnused (whole_seats nodes lanes)
+unused_whole {S = S} {D = D} {L = L} {B = B} nodes lanes a = unused_both nodes (map in_seat lanes ++ map out_seat lanes) a (unused_both (map in_seat lanes) (map out_seat lanes) (ins lanes) (outs lanes))
   where
-    unused_both : (xs ys : List (Seated S D)) → AllUnused xs → AllUnused ys → AllUnused (xs ++ ys)
+    unused_both : (xs ys : List (Seated S D L B)) → AllUnused xs → AllUnused ys → AllUnused (xs ++ ys)
     unused_both [] ys a b = b
     unused_both (x ∷ xs) ys a b = (a.0, unused_both xs ys a.1 b)
 
-    ins : (ls : List LanePlan) → AllUnused (map (in_seat {S = S} {D = D}) ls)
+    ins : (ls : List LanePlan) → AllUnused (map (in_seat {S = S} {D = D} {L = L} {B = B}) ls)
     ins [] = tt
     ins (l ∷ ls) = (tt, ins ls)
 
-    outs : (ls : List LanePlan) → AllUnused (map (out_seat {S = S} {D = D}) ls)
+    outs : (ls : List LanePlan) → AllUnused (map (out_seat {S = S} {D = D} {L = L} {B = B}) ls)
     outs [] = tt
     outs (l ∷ ls) = (tt, outs ls)
 
@@ -110,9 +110,9 @@ module _ (homes : List ℕ) (ws : List Wire) (n : ℕ) (each_home : length homes
   pub exit_home : (k j : ℕ) (x : IsLane ws j) → k ≡ n + lanes_in ws + j → slice_index all_homes k ≡ slice_index homes x.wire.from
   exit_home k j x e = get_or_from_slice_get all_homes k _ 0 (three_third homes (λ (l : LanePlan). l.to) (λ (l : LanePlan). l.from) lanes k j _ (omega (arith, e, each_home, many)) (plan_at j x))
 
-module _ {S D : Type 0} (homes : List ℕ) (ws : List Wire) (nodes : List (Seated S D)) (n : ℕ) (size : length nodes ≡ n) (each_home : length homes ≡ n)
+module _ {S D L B : Type 0} (homes : List ℕ) (ws : List Wire) (nodes : List (Seated S D L B)) (n : ℕ) (size : length nodes ≡ n) (each_home : length homes ≡ n)
     (from_node : (i : ℕ) (v : Wire) → slice_get ws i ≡ Some v → v.from < n) (to_node : (i : ℕ) (v : Wire) → slice_get ws i ≡ Some v → v.to < n) where
-  abbrev seats : List (Seated S D)
+  abbrev seats : List (Seated S D L B)
   seats = whole_seats nodes (lanes_from homes 0 ws)
 
   pub seats_count : length seats ≡ n + lanes_in ws + lanes_in ws
@@ -120,7 +120,7 @@ module _ {S D : Type 0} (homes : List ℕ) (ws : List Wire) (nodes : List (Seate
 
   -- ---- what stands where
 
-  pub node_seat : (k : ℕ) (p : Seated S D) → slice_get nodes k ≡ Some p → slice_get seats k ≡ Some p
+  pub node_seat : (k : ℕ) (p : Seated S D L B) → slice_get nodes k ≡ Some p → slice_get seats k ≡ Some p
   node_seat k p at = three_first nodes in_seat out_seat (lanes_from homes 0 ws) k p at
 
   pub entry_seat : (k j : ℕ) (l : LanePlan) → k ≡ n + j → slice_get (lanes_from homes 0 ws) j ≡ Some l → slice_get seats k ≡ Some (in_seat l)
@@ -177,7 +177,7 @@ module _ {S D : Type 0} (homes : List ℕ) (ws : List Wire) (nodes : List (Seate
         entry_home homes ws n each_home l.from e.j e.lane from ∙ sym (ap (slice_index (whole_homes homes (lanes_from homes 0 ws))) to ∙ node_home homes ws n each_home e.lane.wire.to (to_node e.lane.at e.lane.wire e.lane.is)))
         (out_side n ws p l at)
 
-    module _ (no_ends : (k : ℕ) (p : Seated S D) → slice_get nodes k ≡ Some p → (is_lane_in p.work ≡ false) × (is_lane_out p.work ≡ false)) where
+    module _ (no_ends : (k : ℕ) (p : Seated S D L B) → slice_get nodes k ≡ Some p → (is_lane_in p.work ≡ false) × (is_lane_out p.work ≡ false)) where
       no_entry : (k : ℕ) → k < n → comes_in seats k ≡ true → ⊥
       no_entry k lt t =
           let p = there nodes k (omega (arith, lt, size)) in

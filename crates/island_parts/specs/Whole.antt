@@ -47,13 +47,13 @@ abbrev pub whole_links : ℕ → List Wire → List Link
 whole_links n ws = nears_from (n + lanes_in ws) 0 ws ++ fars_from n 0 ws
 
 -- the stages at the ends of a lane
-abbrev pub in_seat : {S D : Type 0} → LanePlan → Seated S D
+abbrev pub in_seat : {S D L B : Type 0} → LanePlan → Seated S D L B
 in_seat l = record { node = 0; work = LaneIn l.wire }
 
-abbrev pub out_seat : {S D : Type 0} → LanePlan → Seated S D
+abbrev pub out_seat : {S D L B : Type 0} → LanePlan → Seated S D L B
 out_seat l = record { node = 0; work = LaneOut l.wire }
 
-abbrev pub whole_seats : {S D : Type 0} → List (Seated S D) → List LanePlan → List (Seated S D)
+abbrev pub whole_seats : {S D L B : Type 0} → List (Seated S D L B) → List LanePlan → List (Seated S D L B)
 whole_seats nodes lanes = nodes ++ (map in_seat lanes ++ map out_seat lanes)
 
 -- the same before the nodes hold their handles
@@ -94,8 +94,8 @@ pub record KeepsInside (homes : List ℕ) (ws : List Wire) : Type 0 where
   pub inside : (i : ℕ) (w : Wire) → slice_get ws i ≡ Some w → w.lane ≡ None → slice_index homes w.from ≡ slice_index homes w.to
 
 -- places of nodes, at which no lane comes in or goes out, whose ports these wires join, each wire a wire of the blueprint
-pub record AreNodes {S D : Type 0} (ws : List Wire) (nodes : List (Seated S D)) : Type 0 where
-  pub no_ends : (k : ℕ) (p : Seated S D) → slice_get nodes k ≡ Some p → (is_lane_in p.work ≡ false) × (is_lane_out p.work ≡ false)
+pub record AreNodes {S D L B : Type 0} (ws : List Wire) (nodes : List (Seated S D L B)) : Type 0 where
+  pub no_ends : (k : ℕ) (p : Seated S D L B) → slice_get nodes k ≡ Some p → (is_lane_in p.work ≡ false) × (is_lane_out p.work ≡ false)
   pub unused : AllUnused nodes
   pub ends : List Ends
   pub wiring : IsWiring (inputs_at nodes) (outputs_at nodes) (length nodes) ends

@@ -7,23 +7,25 @@ ghost use Rattle.island_parts.specs.Split.{IsSpace, AreSpaces};
 use elem_core::why::NoMemory;
 use interpreter::parts::{Link, Place};
 use interpreter::room::Room;
+use plug_logic::book::PlugBook;
+use plug_logic::logic::Logic;
 use std::alloc::Global;
 use std::vec::IntoIter;
 use stream_io::outside::{Drain, Source};
 
 /// An island before its places are there.
 #[derive(Drop)]
-pub struct Space<S: Source, D: Drain> {
+pub struct Space<S: Source, D: Drain, L: Logic, B: PlugBook> {
     pub(crate) links: Vec<Link>,
-    pub(crate) room: Room<S, D>,
+    pub(crate) room: Room<S, D, L, B>,
 }
 
 /// The space of an island of these places and links.
-fn space_of<S: Source, D: Drain>(
+fn space_of<S: Source, D: Drain, L: Logic, B: PlugBook>(
     alloc: Global,
     places: &[Place],
     links: Vec<Link>,
-) -> Result<Space<S, D>, NoMemory>
+) -> Result<Space<S, D, L, B>, NoMemory>
     requires { length links.items < 2 ^ 32 }
     ensures { IfOk result (IsSpace places.now links.items) }
 {
@@ -32,11 +34,11 @@ fn space_of<S: Source, D: Drain>(
 }
 
 /// The spaces of all islands.
-pub fn spaces_of<S: Source, D: Drain>(
+pub fn spaces_of<S: Source, D: Drain, L: Logic, B: PlugBook>(
     alloc: Global,
     places: &[Vec<Place>],
     links: Vec<Vec<Link>>,
-) -> Result<Vec<Space<S, D>>, NoMemory>
+) -> Result<Vec<Space<S, D, L, B>>, NoMemory>
     requires many { length places.now ≡ vec_len links }
     requires few { (k : ℕ) → length (items_at links.items k) < 2 ^ 32 }
     ensures { IfOk result (λ spaces. AreSpaces places.now links.items spaces.items) }

@@ -11,6 +11,8 @@ use blue_names::links::Link as WireLink;
 use elem_core::why::NoMemory;
 use interpreter::parts::{Parts, Place, Seated};
 use interpreter::room::Room;
+use plug_logic::book::PlugBook;
+use plug_logic::logic::Logic;
 use scatter::ranks::ranks_of;
 use scatter::shares::{rooms, scatter};
 use std::alloc::{AllocError, Global};
@@ -19,14 +21,14 @@ use traversal::plan::LanePlan;
 
 /// All that the islands of a blueprint take of memory before they start, but what their nodes need.
 #[derive(Drop)]
-pub struct Split<S: Source, D: Drain> {
+pub struct Split<S: Source, D: Drain, L: Logic, B: PlugBook> {
     // The island of each place: of the nodes, of those where lanes come in, of those where they go out.
     pub(crate) homes: Vec<usize>,
     // They are empty, and have room for the places of each island.
-    pub(crate) lists: Vec<Vec<Seated<S, D>>>,
-    pub(crate) spaces: Vec<Space<S, D>>,
+    pub(crate) lists: Vec<Vec<Seated<S, D, L, B>>>,
+    pub(crate) spaces: Vec<Space<S, D, L, B>>,
     // It is empty, and has room for all islands.
-    pub(crate) islands: Vec<(Parts<S, D>, Room<S, D>)>,
+    pub(crate) islands: Vec<(Parts<S, D, L, B>, Room<S, D, L, B>)>,
 }
 
 /// The sum of two numbers of places; one that is out of range is want of memory.
@@ -41,14 +43,14 @@ fn sum(a: usize, b: usize) -> Result<usize, NoMemory>
 
 /// The islands of these nodes, of which each has one of so many homes, where these wires join them, and these of them have a lane.
 /// Rule: own.
-pub fn split_of<S: Source, D: Drain>(
+pub fn split_of<S: Source, D: Drain, L: Logic, B: PlugBook>(
     alloc: Global,
     nodes: Vec<Place>,
     wires: &[WireLink],
     homes: Vec<usize>,
     count: usize,
     lanes: &[LanePlan],
-) -> Result<Split<S, D>, NoMemory>
+) -> Result<Split<S, D, L, B>, NoMemory>
     requires each { vec_len homes ≡ vec_len nodes }
     requires below { All (λ h. h < count) homes.items }
     requires ports { All (λ w. (w.output < 2 ^ 8) × (w.input < 2 ^ 8)) wires.now }
@@ -78,10 +80,10 @@ pub fn split_of<S: Source, D: Drain>(
 }
 
 /// The parts and the room of an island.
-fn island<S: Source, D: Drain>(
-    nodes: Vec<Seated<S, D>>,
-    space: Space<S, D>,
-) -> (Parts<S, D>, Room<S, D>)
+fn island<S: Source, D: Drain, L: Logic, B: PlugBook>(
+    nodes: Vec<Seated<S, D, L, B>>,
+    space: Space<S, D, L, B>,
+) -> (Parts<S, D, L, B>, Room<S, D, L, B>)
     ensures nodes { result.0.nodes.items ≡ nodes.items }
     ensures links { result.0.links.items ≡ space.links.items }
     ensures room { result.1 ≡ space.room }
@@ -91,11 +93,11 @@ fn island<S: Source, D: Drain>(
 }
 
 /// The parts and the rooms of islands, in order, into an empty list that has room for them.
-fn join_lists<S: Source, D: Drain>(
-    lists: Vec<Vec<Seated<S, D>>>,
-    spaces: Vec<Space<S, D>>,
-    islands: Vec<(Parts<S, D>, Room<S, D>)>,
-) -> Vec<(Parts<S, D>, Room<S, D>)>
+fn join_lists<S: Source, D: Drain, L: Logic, B: PlugBook>(
+    lists: Vec<Vec<Seated<S, D, L, B>>>,
+    spaces: Vec<Space<S, D, L, B>>,
+    islands: Vec<(Parts<S, D, L, B>, Room<S, D, L, B>)>,
+) -> Vec<(Parts<S, D, L, B>, Room<S, D, L, B>)>
     requires many { vec_len lists ≡ vec_len spaces }
     requires empty { islands.items ≡ [] }
     requires room { vec_len lists ≤ vec_capacity islands }
@@ -111,10 +113,10 @@ fn join_lists<S: Source, D: Drain>(
 
 /// The parts and the room of each island, in order, once all places are there, those of nodes first, then those where lanes come
 /// in, then those where they go out. It takes no memory. Rule: own.
-pub fn join<S: Source, D: Drain>(
-    split: Split<S, D>,
-    seats: Vec<Seated<S, D>>,
-) -> Vec<(Parts<S, D>, Room<S, D>)>
+pub fn join<S: Source, D: Drain, L: Logic, B: PlugBook>(
+    split: Split<S, D, L, B>,
+    seats: Vec<Seated<S, D, L, B>>,
+) -> Vec<(Parts<S, D, L, B>, Room<S, D, L, B>)>
     requires ready { IsReady (vec_len split.lists) split }
     requires each { vec_len seats ≡ vec_len split.homes }
     ensures { AreIslands split seats.items result.items }

@@ -4,6 +4,8 @@ ghost use Rattle.island_parts.specs.Whole.{in_place, out_place, whole_homes, who
 
 use elem_core::why::NoMemory;
 use interpreter::parts::{Place, Seated, Work};
+use plug_logic::book::PlugBook;
+use plug_logic::logic::Logic;
 use stream_io::outside::{Drain, Source};
 use traversal::plan::LanePlan;
 
@@ -58,10 +60,10 @@ pub fn whole_places(nodes: Vec<Place>, lanes: &[LanePlan]) -> Result<Vec<Place>,
 }
 
 /// The same with what stands there, in a list that has room for them. It takes no memory.
-pub fn whole_seats<S: Source, D: Drain>(
-    nodes: Vec<Seated<S, D>>,
+pub fn whole_seats<S: Source, D: Drain, L: Logic, B: PlugBook>(
+    nodes: Vec<Seated<S, D, L, B>>,
     lanes: &[LanePlan],
-) -> Vec<Seated<S, D>>
+) -> Vec<Seated<S, D, L, B>>
     requires room { vec_len nodes + length lanes.now + length lanes.now ≤ vec_capacity nodes }
     ensures { result.items ≡ whole_seats nodes.items lanes.now }
 {

@@ -13,6 +13,7 @@ use Rattle.interpreter.specs.Parts.{AreParts, AllBecome, ends_of, number_of, pla
 use Rattle.interpreter.specs.Picks.{node_number}
 use Rattle.interpreter.specs.Room.{IsRoom}
 use Rattle.interpreter.specs.Ways.{comes_in, goes_out}
+use Rattle.stream_model.specs.Linear.{Book}
 
 -- there are as many as of the others, and each is so of the one at its place
 pub record AreOf {X Y : Type 0} (r : X → Y → Type 0) (xs : List X) (ys : List Y) : Type 0 where
@@ -25,27 +26,27 @@ pub record Adds {X Y : Type 0} (r : X → Y → Type 0) (xs : List X) (old new :
   pub new_is : new ≡ old ++ more
   pub are : AreOf r xs more
 
-module _ {S D : Type 0} where
+module _ {S D L B : Type 0} where
   -- the parts of an island, and room for it
-  pub record CanStart (x : Parts S D × Room S D) : Type 0 where
+  pub record CanStart (x : Parts S D L B × Room S D L B) : Type 0 where
     pub parts : AreParts x.0.nodes.items x.0.links.items
     pub room : IsRoom x.1 (map place_of x.0.nodes.items) x.0.links.items
 
-  abbrev pub CanAllStart : List (Parts S D × Room S D) → Type 0
-  CanAllStart islands = (k : ℕ) (x : Parts S D × Room S D) → slice_get islands k ≡ Some x → CanStart x
+  abbrev pub CanAllStart : List (Parts S D L B × Room S D L B) → Type 0
+  CanAllStart islands = (k : ℕ) (x : Parts S D L B × Room S D L B) → slice_get islands k ≡ Some x → CanStart x
 
   -- what an island leaves has the handles of its nodes
-  pub record Leaves (i : Kept S D) (e : IslandEnd S D) : Type 0 where
+  pub record Leaves (i : Kept S D L B) (e : IslandEnd S D) : Type 0 where
     pub readers : e.readers.items ≡ readers_of i.net.nodes
     pub writers : e.writers.items ≡ writers_of i.net.nodes
 
-  module _ (sources : S → SourceState) (drains : D → DrainState) where
+  module _ (sources : S → SourceState) (drains : D → DrainState) (book : Book) where
     -- An island of these parts has started: it keeps its laws, no unit was used, its nodes began as what stands at its places, and hold
     -- their handles as they were handed in; its connections are its links, and where lanes come in and go out nothing has passed.
-    pub record HasStarted (parts : Parts S D) (i : Kept S D) : Type 0 where
+    pub record HasStarted (parts : Parts S D L B) (i : Kept S D L B) : Type 0 where
       pub whole : i.broken ≡ false
       pub unused : i.used ≡ 0
-      pub laws : Keeps sources drains i.net 0
+      pub laws : Keeps sources drains book i.net 0
       pub firsts : AllBecome parts.nodes.items i.net.firsts
       pub ends : i.net.ends ≡ map ends_of parts.links.items
       pub numbers : i.numbers ≡ map number_of parts.links.items
@@ -56,18 +57,19 @@ module _ {S D : Type 0} where
       pub begins_out : (q : ℕ) (l : Link) → slice_get parts.links.items q ≡ Some l → goes_out parts.nodes.items l.to ≡ true → BeginsOut i.net q
       pub handles : HoldsHandles sources drains parts.nodes.items i.net.nodes
 
-    abbrev pub AllStarted : List (Parts S D × Room S D) → List (Kept S D) → Type 0
-    AllStarted islands started = AreOf (λ (x : Parts S D × Room S D). HasStarted x.0) islands started
+    abbrev pub AllStarted : List (Parts S D L B × Room S D L B) → List (Kept S D L B) → Type 0
+    AllStarted islands started = AreOf (λ (x : Parts S D L B × Room S D L B). HasStarted x.0) islands started
 
+  module _ (sources : S → SourceState) (drains : D → DrainState) where
     -- an island was taken apart, and hands its handles back as they were handed in
-    abbrev pub GivesBack : Parts S D × Room S D → IslandEnd S D → Type 0
+    abbrev pub GivesBack : Parts S D L B × Room S D L B → IslandEnd S D → Type 0
     GivesBack x e = HandsBack sources drains x.0.nodes.items e
 
-    abbrev pub AllGiveBack : List (Parts S D × Room S D) → List (IslandEnd S D) → Type 0
+    abbrev pub AllGiveBack : List (Parts S D L B × Room S D L B) → List (IslandEnd S D) → Type 0
     AllGiveBack islands ends = AreOf GivesBack islands ends
 
     -- what these islands leave that had started, then this, and then what those leave that were not to be started
-    pub record TakenApart (started : List (Kept S D)) (end : IslandEnd S D) (rest : List (Parts S D × Room S D)) (ends : List (IslandEnd S D)) : Type 0 where
+    pub record TakenApart (started : List (Kept S D L B)) (end : IslandEnd S D) (rest : List (Parts S D L B × Room S D L B)) (ends : List (IslandEnd S D)) : Type 0 where
       pub front : List (IslandEnd S D)
       pub behind : List (IslandEnd S D)
       pub all_are : ends ≡ front ++ (end ∷ behind)

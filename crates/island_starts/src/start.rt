@@ -6,6 +6,8 @@ ghost use Rattle.island_starts.specs.Starts.{CanStart, CanAllStart, HasStarted, 
 use interpreter::island::{Island, IslandEnd, StartEnd, hand_back};
 use interpreter::parts::Parts;
 use interpreter::room::Room;
+use plug_logic::book::PlugBook;
+use plug_logic::logic::Logic;
 use std::alloc::Global;
 use std::vec::IntoIter;
 use stream_io::outside::{Drain, Source};
@@ -13,18 +15,18 @@ use stream_io::outside::{Drain, Source};
 /// Starts the islands of these parts, in order, each in the room that was taken for it. Where memory was wanting all are taken apart,
 /// those that had started and those that had not: what each leaves stands in order, with its handles as they were handed in. `started`
 /// and `ends` are empty and have room for all islands, so only a node may want memory. Rule: own.
-pub fn start_all<S: Source, D: Drain>(
+pub fn start_all<S: Source, D: Drain, L: Logic, B: PlugBook>(
     alloc: Global,
-    islands: Vec<(Parts<S, D>, Room<S, D>)>,
-    started: Vec<Island<S, D>>,
+    islands: Vec<(Parts<S, D, L, B>, Room<S, D, L, B>)>,
+    started: Vec<Island<S, D, L, B>>,
     ends: Vec<IslandEnd<S, D>>,
-) -> Result<Vec<Island<S, D>>, Vec<IslandEnd<S, D>>>
+) -> Result<Vec<Island<S, D, L, B>>, Vec<IslandEnd<S, D>>>
     requires can { CanAllStart islands.items }
     requires none_started { started.items ≡ [] }
     requires room_to_start { vec_len islands ≤ vec_capacity started }
     requires none_ended { ends.items ≡ [] }
     requires room_to_end { vec_len islands ≤ vec_capacity ends }
-    ensures started { IfOk result (λ all. AllStarted S.state D.state islands.items all.items) }
+    ensures started { IfOk result (λ all. AllStarted S.state D.state B.lists islands.items all.items) }
     ensures ended { IfErr result (λ all. AllGiveBack S.state D.state islands.items all.items) }
 {
     let mut started = started;
@@ -39,12 +41,12 @@ pub fn start_all<S: Source, D: Drain>(
 }
 
 // One island, which gives its handles back where it did not start.
-fn start_one<S: Source, D: Drain>(
+fn start_one<S: Source, D: Drain, L: Logic, B: PlugBook>(
     alloc: Global,
-    island: (Parts<S, D>, Room<S, D>),
-) -> Result<Island<S, D>, IslandEnd<S, D>>
+    island: (Parts<S, D, L, B>, Room<S, D, L, B>),
+) -> Result<Island<S, D, L, B>, IslandEnd<S, D>>
     requires { CanStart island }
-    ensures started { IfOk result (HasStarted S.state D.state island.0) }
+    ensures started { IfOk result (HasStarted S.state D.state B.lists island.0) }
     ensures ended { IfErr result (GivesBack S.state D.state island) }
 {
     let (parts, room) = island;
@@ -55,11 +57,11 @@ fn start_one<S: Source, D: Drain>(
 }
 
 // What all leave: the islands that had started, the one that did not, and those behind it.
-fn take_apart<S: Source, D: Drain>(
+fn take_apart<S: Source, D: Drain, L: Logic, B: PlugBook>(
     alloc: Global,
-    started: Vec<Island<S, D>>,
+    started: Vec<Island<S, D, L, B>>,
     end: IslandEnd<S, D>,
-    rest: IntoIter<(Parts<S, D>, Room<S, D>), Global>,
+    rest: IntoIter<(Parts<S, D, L, B>, Room<S, D, L, B>), Global>,
     ends: Vec<IslandEnd<S, D>>,
 ) -> Vec<IslandEnd<S, D>>
     requires can { CanAllStart (into_iter_items rest) }
@@ -76,7 +78,10 @@ fn take_apart<S: Source, D: Drain>(
 }
 
 // What each of these islands leaves goes behind what others left.
-fn finish_all<S: Source, D: Drain>(islands: Vec<Island<S, D>>, ends: &mut Vec<IslandEnd<S, D>>)
+fn finish_all<S: Source, D: Drain, L: Logic, B: PlugBook>(
+    islands: Vec<Island<S, D, L, B>>,
+    ends: &mut Vec<IslandEnd<S, D>>,
+)
     requires room { vec_len ends.old + vec_len islands ≤ vec_capacity ends.old }
     ensures adds { Adds Leaves islands.items ends.old.items ends.new.items }
     ensures len { vec_len ends.new ≡ vec_len ends.old + vec_len islands }
@@ -88,7 +93,7 @@ fn finish_all<S: Source, D: Drain>(islands: Vec<Island<S, D>>, ends: &mut Vec<Is
 }
 
 // What an island leaves.
-fn finish<S: Source, D: Drain>(island: Island<S, D>) -> IslandEnd<S, D>
+fn finish<S: Source, D: Drain, L: Logic, B: PlugBook>(island: Island<S, D, L, B>) -> IslandEnd<S, D>
     ensures { Leaves island result }
 {
     match island.finish() {
@@ -98,9 +103,9 @@ fn finish<S: Source, D: Drain>(island: Island<S, D>) -> IslandEnd<S, D>
 }
 
 // The same of islands that are not to be started.
-fn hand_all_back<S: Source, D: Drain>(
+fn hand_all_back<S: Source, D: Drain, L: Logic, B: PlugBook>(
     alloc: Global,
-    islands: IntoIter<(Parts<S, D>, Room<S, D>), Global>,
+    islands: IntoIter<(Parts<S, D, L, B>, Room<S, D, L, B>), Global>,
     ends: &mut Vec<IslandEnd<S, D>>,
 )
     requires can { CanAllStart (into_iter_items islands) }
@@ -115,9 +120,9 @@ fn hand_all_back<S: Source, D: Drain>(
 }
 
 // One of them.
-fn hand_one_back<S: Source, D: Drain>(
+fn hand_one_back<S: Source, D: Drain, L: Logic, B: PlugBook>(
     alloc: Global,
-    island: (Parts<S, D>, Room<S, D>),
+    island: (Parts<S, D, L, B>, Room<S, D, L, B>),
 ) -> IslandEnd<S, D>
     requires { CanStart island }
     ensures { GivesBack S.state D.state island result }

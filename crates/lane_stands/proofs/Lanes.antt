@@ -10,6 +10,7 @@ use Rattle.port_core.specs.Joint.{IsSound}
 use Rattle.port_core.specs.declared.view.InView.{InView}
 use Rattle.port_core.specs.declared.view.InView.TheVariants.{Idle}
 use Rattle.port_core.specs.declared.view.OutView.TheVariants.{Asked, Refused}
+use Rattle.stream_model.specs.Linear.{Book}
 use Rattle.stage_law.specs.Row.{InClosed}
 use Rattle.wire_core.specs.Counts.{elements}
 use Rattle.nodes.specs.declared.node.Node.{Node}
@@ -46,7 +47,7 @@ counts_same (item.Ended ∷ l) = let r = counts_same l in omega (arith, r)
 counts_same (item.Failed c ∷ l) = let r = counts_same l in omega (arith, r)
 
 -- no wire is queued where no event is left
-sound_rest : {S D : Type 0} {sources : S → SourceState} {drains : D → DrainState} (net : Net (Node S D)) → Settled node_row (node_law sources drains) node_asking node_moves net → net.queue ≡ [] → (q : ℕ) → q < length net.wires → IsSound (wire_at net q).wire false
+sound_rest : {S D L B : Type 0} {sources : S → SourceState} {drains : D → DrainState} {book : Book} (net : Net (Node S D L B)) → Settled node_row (node_law sources drains book) node_asking node_moves net → net.queue ≡ [] → (q : ℕ) → q < length net.wires → IsSound (wire_at net q).wire false
 sound_rest net s none q h = subst (λ (l : List ℕ). IsSound (wire_at net q).wire (holds l q)) none (s.sound q h)
 
 -- ---- small facts
@@ -64,18 +65,18 @@ false_true b e f = cc
 
 -- ---- the end that sends
 
-module _ {S D : Type 0} (sources : S → SourceState) (drains : D → DrainState) (o : LaneOut) (i : Kept S D) (u : ℕ) (s : Settled node_row (node_law sources drains) node_asking node_moves i.net) (l : Leaves i u) (serves : Serves o i u) where
+module _ {S D L B : Type 0} (sources : S → SourceState) (drains : D → DrainState) (book : Book) (o : LaneOut) (i : Kept S D L B) (u : ℕ) (s : Settled node_row (node_law sources drains book) node_asking node_moves i.net) (l : Leaves i u) (serves : Serves o i u) where
   pub out_keeps : OutKeeps (cell_out i u) (out_end o)
   out_keeps =
-      let x = there sources drains i.net s (way_out i u) l.place l.stage in
-      let t = took_there sources drains i.net s (way_out i u) l.place l.stage x.0 x.1 in
+      let x = there sources drains book i.net s (way_out i u) l.place l.stage in
+      let t = took_there sources drains book i.net s (way_out i u) l.place l.stage x.0 x.1 in
       record { came_list = t.list; came_end = t.end; came_is = t.is; came_as = t.known; part = serves.part; wants = serves.wants }
 
   -- all that came was sent, where nothing waits
   sent_all : IsServed o i u → saw_cancel o ≡ 0 → sent o ≡ (cell_out i u).wire.got
   sent_all served z =
-      let x = there sources drains i.net s (way_out i u) l.place l.stage in
-      let t = took_there sources drains i.net s (way_out i u) l.place l.stage x.0 x.1 in
+      let x = there sources drains book i.net s (way_out i u) l.place l.stage in
+      let t = took_there sources drains book i.net s (way_out i u) l.place l.stage x.0 x.1 in
       let none : node_waits x.0 ≡ [] = sym (ap waits_of x.1) ∙ served.sent_all z in
       sym (t.parts ∙ ap (λ (r : List Item). node_gone x.0 ++ r) none ∙ append-nil (node_gone x.0) ∙ (serves.live z).gone x.0 x.1)
 
@@ -98,10 +99,10 @@ module _ {S D : Type 0} (sources : S → SourceState) (drains : D → DrainState
 
 -- ---- the end that takes
 
-module _ {S D : Type 0} (sources : S → SourceState) (drains : D → DrainState) (b : InputBoundary) (j : Kept S D) (u : ℕ) (s : Settled node_row (node_law sources drains) node_asking node_moves j.net) (l : Enters j u) (k : BoundaryKeeps b) (f : Feeds b j u) where
+module _ {S D L B : Type 0} (sources : S → SourceState) (drains : D → DrainState) (book : Book) (b : InputBoundary) (j : Kept S D L B) (u : ℕ) (s : Settled node_row (node_law sources drains book) node_asking node_moves j.net) (l : Enters j u) (k : BoundaryKeeps b) (f : Feeds b j u) where
   pub in_keeps : InKeeps (in_size b.lane) (cell_in j u) (in_end b.lane)
   in_keeps =
-      let g = gave_there sources drains j.net s (way_in j u) l.place l.stage in
+      let g = gave_there sources drains book j.net s (way_in j u) l.place l.stage in
       boundary_keeps b (cell_in j u) g.list g.end k f.given_is g.is g.known
 
   -- where the stage is asked, it still hands on
@@ -150,14 +151,14 @@ met_quiet o b w h waits item demand = record {
   refused_is = let n : has_cancelled b.lane ≤ saw_cancel o = no_less (saw_cancel o) (has_cancelled b.lane) (λ e. not_true w.demand _ waits.1 demand (inr e)) in let m = h.cancel in omega (arith, m, n);
 }
 
-module _ {S D : Type 0} (sources : S → SourceState) (drains : D → DrainState) (o : LaneOut) (b : InputBoundary) (i j : Kept S D) (u : ℕ) (s : Settled node_row (node_law sources drains) node_asking node_moves i.net) (t : Settled node_row (node_law sources drains) node_asking node_moves j.net) (l : Leaves i u) (e : Enters j u) (k : BoundaryKeeps b) (h : IsLaneHistory o b.lane) (serves : Serves o i u) (feeds : Feeds b j u) where
+module _ {S D L B : Type 0} (sources : S → SourceState) (drains : D → DrainState) (book : Book) (o : LaneOut) (b : InputBoundary) (i j : Kept S D L B) (u : ℕ) (s : Settled node_row (node_law sources drains book) node_asking node_moves i.net) (t : Settled node_row (node_law sources drains book) node_asking node_moves j.net) (l : Leaves i u) (e : Enters j u) (k : BoundaryKeeps b) (h : IsLaneHistory o b.lane) (serves : Serves o i u) (feeds : Feeds b j u) where
   pub lane_keeps : (k : LaneKeeps (in_size b.lane) (cell_out i u) (cell_in j u) (asked b.lane)) × ((k.out ≡ out_end o) × (k.inp ≡ in_end b.lane))
   lane_keeps = (
     record {
       out = out_end o;
       inp = in_end b.lane;
-      out_keeps = out_keeps sources drains o i u s l serves;
-      in_keeps = in_keeps sources drains b j u t e k feeds;
+      out_keeps = out_keeps sources drains book o i u s l serves;
+      in_keeps = in_keeps sources drains book b j u t e k feeds;
       met = are_met o b.lane h;
       asked_is = refl;
     },
@@ -167,7 +168,7 @@ module _ {S D : Type 0} (sources : S → SourceState) (drains : D → DrainState
   pub lane_quiet : i.net.queue ≡ [] → j.net.queue ≡ [] → IsServed o i u → IsFed b j u → (w : Waits) → WaitsAre o b.lane w → w.item ≡ false → w.demand ≡ false
       → (x : LaneKeeps (in_size b.lane) (cell_out i u) (cell_in j u) (asked b.lane)) → x.out ≡ out_end o → x.inp ≡ in_end b.lane → LaneQuiet (in_size b.lane) (cell_out i u) (cell_in j u) (asked b.lane) x
   lane_quiet none none' served fed w waits item demand x out inp = record {
-    out = rw out (out_quiet sources drains o i u s l serves b none h served);
-    inp = rw inp (in_quiet sources drains b j u t e k feeds none' fed);
+    out = rw out (out_quiet sources drains book o i u s l serves b none h served);
+    inp = rw inp (in_quiet sources drains book b j u t e k feeds none' fed);
     met = rw (out, inp) (met_quiet o b w h waits item demand);
   }

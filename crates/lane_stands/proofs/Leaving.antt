@@ -5,6 +5,7 @@ use Rattle.elem_core.specs.Tree.{Tree}
 use Rattle.elem_core.specs.declared.item.Item.{Item}
 use Rattle.stream_io.specs.State.{SourceState, DrainState}
 use Rattle.stream_model.specs.Outlook.{End}
+use Rattle.stream_model.specs.Linear.{Book}
 use Rattle.stage_law.specs.Held.{told}
 use Rattle.stage_law.specs.Law.{TookAs}
 use Rattle.port_core.specs.Joint.{Joint, idle, asking, asked, moving, ending, closing, leaving, finished, parted, refused, wire_of, IsSound, Histories, Queues}
@@ -65,9 +66,9 @@ got_there wires [] i w e = absurd cc
 got_there wires (x ∷ ws) zero w e = ap (λ (k : ℕ). Some (get_or wires k no_wire).wire.got) (some_same x w e)
 got_there wires (x ∷ ws) (suc i) w e = got_there wires ws i w e
 
-module _ {S D : Type 0} (sources : S → SourceState) (drains : D → DrainState) where
+module _ {S D L B : Type 0} (sources : S → SourceState) (drains : D → DrainState) (book : Book) where
   -- the stage's law at port i of it
-  took_by : (x first : Node S D) → IsLeaving first → (v : View) (t g : List (List Item)) (i : ℕ) (l : List Item) (y : InView) → slice_get t i ≡ Some l → in_at v i ≡ y → node_law sources drains first x v t g → Took (node_gone x) (node_waits x) l y
+  took_by : (x first : Node S D L B) → IsLeaving first → (v : View) (t g : List (List Item)) (i : ℕ) (l : List Item) (y : InView) → slice_get t i ≡ Some l → in_at v i ≡ y → node_law sources drains book first x v t g → Took (node_gone x) (node_waits x) l y
   took_by (node.Leaving x) (node.Leaving f) h v t g i l y at inp law =
       let one = one_item (told law.list law.end) l t i law.took_is at in
       record {
@@ -96,12 +97,12 @@ module _ {S D : Type 0} (sources : S → SourceState) (drains : D → DrainState
   took_by x (node.Ignoring f) h v t g i l y at inp law = absurd h
   took_by x (node.Entering f) h v t g i l y at inp law = absurd h
 
-  module _ (net : Net (Node S D)) (s : Settled node_row (node_law sources drains) node_asking node_moves net) (q : ℕ) (h : q < length net.wires) (stage : LeavesAt net q) where
+  module _ (net : Net (Node S D L B)) (s : Settled node_row (node_law sources drains book) node_asking node_moves net) (q : ℕ) (h : q < length net.wires) (stage : LeavesAt net q) where
     abbrev to : ℕ
     to = (end_at net.ends q).to
 
     -- what came there is a list and its end, as the stage knows
-    pub took_there : (x : Node S D) → slice_get net.nodes to ≡ Some x → Took (node_gone x) (node_waits x) (wire_at net q).wire.got (wire_at net q).wire.inp
+    pub took_there : (x : Node S D L B) → slice_get net.nodes to ≡ Some x → Took (node_gone x) (node_waits x) (wire_at net q).wire.got (wire_at net q).wire.inp
     took_there x at =
         let first = get_there net.firsts to (rw s.each_first (s.wired.to_within q h)) in
         took_by x first.0 (stage first.0 first.1) (view_of net to) (took net to) (gave net to) (end_at net.ends q).input (wire_at net q).wire.got (wire_at net q).wire.inp
@@ -109,5 +110,5 @@ module _ {S D : Type 0} (sources : S → SourceState) (drains : D → DrainState
         (read_at inp_of net.wires (ports_at net to).ins (end_at net.ends q).input q Left (s.wired.to_input q h))
         (s.minded to (s.wired.to_within q h) x first.0 at first.1).law_holds
 
-    pub there : (x : Node S D) × (slice_get net.nodes to ≡ Some x)
+    pub there : (x : Node S D L B) × (slice_get net.nodes to ≡ Some x)
     there = get_there net.nodes to (s.wired.to_within q h)

@@ -11,6 +11,7 @@ use Rattle.port_core.specs.Wire.{Wire}
 use Rattle.port_core.specs.declared.act.Act.TheVariants as act
 use Rattle.stream_io.specs.State.{SourceState, DrainState}
 use Rattle.stream_model.specs.Outlook.{End, unended, ended, failed}
+use Rattle.stream_model.specs.Linear.{Book}
 use Rattle.stage_law.specs.Held.{told}
 use Rattle.wire_core.specs.Cell.{Cell, moved_by}
 use Rattle.wire_core.specs.Counts.{elements}
@@ -86,9 +87,9 @@ end_new (item.Failed c ∷ a) x h = absurd cc
 some_same : {A : Type 0} (x y : A) → Some x ≡ Some y → x ≡ y
 some_same x y e = cc
 
-module _ {S D : Type 0} (o : LaneOut) (i : Kept S D) (u : ℕ) (came : CameTo i.net (way_out i u)) (s : Sends o i u) where
+module _ {S D L B : Type 0} (o : LaneOut) (i : Kept S D L B) (u : ℕ) (came : CameTo i.net (way_out i u)) (s : Sends o i u) where
   -- an item that was handed out there
-  module _ (new : Kept S D) (x : Item) (h : HandsOut i u (x ∷ []) new) where
+  module _ (new : Kept S D L B) (x : Item) (h : HandsOut i u (x ∷ []) new) where
     got_is : (cell_out i u).wire.got ≡ sent o ++ x ∷ node_waits h.hands.next
     got_is = came.got h.hands.node h.hands.at ∙ ap (λ (l : List Item). l ++ node_waits h.hands.node) (s.gone h.hands.node h.hands.at) ∙ ap (λ (l : List Item). sent o ++ l) h.hands.waits_is
 
@@ -109,7 +110,7 @@ module _ {S D : Type 0} (o : LaneOut) (i : Kept S D) (u : ℕ) (came : CameTo i.
     sent_keeps p e f g k =
         let net_is : new ≡ record i { net = with_node i.net (end_at i.net.ends (way_out i u)).to h.hands.next } = h.rest ∙ ap (λ (n : Net _). record i { net = n }) h.hands.is in
         let within = slice_get_within i.net.nodes (end_at i.net.ends (way_out i u)).to h.hands.node h.hands.at in
-        subst (λ (z : Kept S D). Sends p z u) (sym net_is) (record {
+        subst (λ (z : Kept S D L B). Sends p z u) (sym net_is) (record {
           gone = λ y yi.
               let same : h.hands.next ≡ y = some_same h.hands.next y (sym (get_set_same i.net.nodes (end_at i.net.ends (way_out i u)).to h.hands.next within) ∙ yi) in
               ap node_gone (sym same) ∙ h.hands.gone_is ∙ ap (λ (l : List Item). l ++ x ∷ []) (s.gone h.hands.node h.hands.at) ∙ sym e;
@@ -119,15 +120,15 @@ module _ {S D : Type 0} (o : LaneOut) (i : Kept S D) (u : ℕ) (came : CameTo i.
         })
 
   -- it asks
-  pub ask_keeps : (sources : S → SourceState) (drains : D → DrainState) → Keeps sources drains i.net i.used → (new : Kept S D) (left : ℕ) → new ≡ with_net i (moved_at i.net (way_out i u) (act.Pull 0)) → Leaves i u → can_pull (cell_out i u).wire.conn ≡ true → IsClearAt i.net (way_out i u) → lane.elements (sent o) + left ≡ seen o → left ≢ 0 → Sends o new u
-  ask_keeps sources drains k new left is l can clear unused some =
+  pub ask_keeps : (sources : S → SourceState) (drains : D → DrainState) (book : Book) → Keeps sources drains book i.net i.used → (new : Kept S D L B) (left : ℕ) → new ≡ with_net i (moved_at i.net (way_out i u) (act.Pull 0)) → Leaves i u → can_pull (cell_out i u).wire.conn ≡ true → IsClearAt i.net (way_out i u) → lane.elements (sent o) + left ≡ seen o → left ≢ 0 → Sends o new u
+  ask_keeps sources drains book k new left is l can clear unused some =
       let c = cell_out i u in
       let there = get_there i.net.nodes (end_at i.net.ends (way_out i u)).to (k.laws.wired.to_within (way_out i u) l.place) in
       let all : c.wire.sent ≡ sent o = all_came c.wire _ (k.laws.sound (way_out i u) l.place) can ∙ came.got there.0 there.1 ∙ ap (λ (w : List Item). node_gone there.0 ++ w) (clear there.0 there.1) ∙ append-nil (node_gone there.0) ∙ s.gone there.0 there.1 in
       let count : elements c.wire.sent ≡ lane.elements (sent o) = ap elements all ∙ sym (elems_is (sent o)) in
       let asks : wanted (moved_by (act.Pull 0) c) ≡ elements c.wire.sent + 1 = rw can refl in
       let few : wanted (moved_by (act.Pull 0) c) ≤ seen o = omega (arith, asks, count, unused, some) in
-      subst (λ (z : Kept S D). Sends o z u) (sym is) (record {
+      subst (λ (z : Kept S D L B). Sends o z u) (sym is) (record {
         gone = s.gone;
         wants = subst (λ (z : Cell). wanted z ≤ seen o) (sym (get_or-set_same i.net.wires (way_out i u) (moved_by (act.Pull 0) c) no_wire l.place)) few;
         live = s.live;
@@ -135,7 +136,7 @@ module _ {S D : Type 0} (o : LaneOut) (i : Kept S D) (u : ℕ) (came : CameTo i.
       })
 
 -- more is seen asked, and no cancel
-pub look_keeps : {S D : Type 0} (o p : LaneOut) (i : Kept S D) (u : ℕ) → Sends o i u → sent p ≡ sent o → has_ended p ≡ has_ended o → seen o ≤ seen p → saw_cancel p ≡ 0 → Sends p i u
+pub look_keeps : {S D L B : Type 0} (o p : LaneOut) (i : Kept S D L B) (u : ℕ) → Sends o i u → sent p ≡ sent o → has_ended p ≡ has_ended o → seen o ≤ seen p → saw_cancel p ≡ 0 → Sends p i u
 look_keeps o p i u s e f g h = let w = s.wants in record {
   gone = λ x at. s.gone x at ∙ sym e;
   wants = omega (arith, w, g);

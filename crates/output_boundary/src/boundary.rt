@@ -17,6 +17,8 @@ use elem_core::item::Item;
 use interpreter::island::Island;
 use lane_core::lane_out::LaneOut;
 use lane_core::room::Room;
+use plug_logic::book::PlugBook;
+use plug_logic::logic::Logic;
 use stream_io::outside::{Drain, Source};
 
 /// The end of a lane that sends, and the number of the wire that the lane is. What its island hands out is sent at once: the
@@ -38,7 +40,10 @@ impl OutputBoundary {
     }
 
     /// Looks once at the lane: whether more is asked for than was known, or whether the other end has cancelled. It takes no memory.
-    pub fn look<S: Source, D: Drain>(&mut self, island: &Island<S, D>) -> Found
+    pub fn look<S: Source, D: Drain, L: Logic, B: PlugBook>(
+        &mut self,
+        island: &Island<S, D, L, B>,
+    ) -> Found
         requires keeps { Sends self.old.lane island.now self.old.wire }
         ensures wire { (self.new.wire ≡ self.old.wire) × IsSameOut self.old.lane self.new.lane }
         ensures sent { (sent self.new.lane ≡ sent self.old.lane) × (has_ended self.new.lane ≡ has_ended self.old.lane) × (seen self.old.lane ≤ seen self.new.lane) }
@@ -76,7 +81,10 @@ impl OutputBoundary {
     }
 
     /// Sends the next item that came to the stage there, if one waits; true comes exactly where one did. It takes no memory.
-    pub fn send_one<S: Source, D: Drain>(&mut self, island: &mut Island<S, D>) -> bool
+    pub fn send_one<S: Source, D: Drain, L: Logic, B: PlugBook>(
+        &mut self,
+        island: &mut Island<S, D, L, B>,
+    ) -> bool
         requires whole { island.old.broken ≡ false }
         requires leaves { Leaves island.old self.old.wire }
         requires keeps { Sends self.old.lane island.old self.old.wire }
@@ -100,7 +108,10 @@ impl OutputBoundary {
     }
 
     /// Asks the stage there where demand is left and it may be asked; true comes exactly where it did. It takes no memory.
-    pub fn ask<S: Source, D: Drain>(&self, island: &mut Island<S, D>) -> bool
+    pub fn ask<S: Source, D: Drain, L: Logic, B: PlugBook>(
+        &self,
+        island: &mut Island<S, D, L, B>,
+    ) -> bool
         requires whole { island.old.broken ≡ false }
         requires leaves { Leaves island.old self.now.wire }
         requires keeps { Sends self.now.lane island.old self.now.wire }
@@ -125,7 +136,10 @@ impl OutputBoundary {
     /// Sends all that waits at the stage there, and asks it where demand is left and it may be asked. Then nothing is left to do before
     /// something comes to the stage, or to this end of the lane. True comes exactly where something was sent, so that the other end
     /// has to be woken. It takes no memory.
-    pub fn serve<S: Source, D: Drain>(&mut self, island: &mut Island<S, D>) -> bool
+    pub fn serve<S: Source, D: Drain, L: Logic, B: PlugBook>(
+        &mut self,
+        island: &mut Island<S, D, L, B>,
+    ) -> bool
         requires whole { island.old.broken ≡ false }
         requires leaves { Leaves island.old self.old.wire }
         requires serves { Serves self.old.lane island.old self.old.wire }
@@ -152,7 +166,10 @@ impl OutputBoundary {
 
     /// Looks once at the lane, unless a cancel was seen, and does what is found: new demand lets it ask, and a cancel is handed on, which
     /// drops what waits. It takes no memory.
-    pub fn visit<S: Source, D: Drain>(&mut self, island: &mut Island<S, D>) -> Found
+    pub fn visit<S: Source, D: Drain, L: Logic, B: PlugBook>(
+        &mut self,
+        island: &mut Island<S, D, L, B>,
+    ) -> Found
         requires whole { island.old.broken ≡ false }
         requires leaves { Leaves island.old self.old.wire }
         requires serves { Serves self.old.lane island.old self.old.wire }

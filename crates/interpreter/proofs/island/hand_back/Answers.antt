@@ -1,10 +1,18 @@
--- The goal of `island::hand_back` that the search leaves.
-use Rattle.std.proofs.Common.{sym, subst}
+-- The goals of `island::hand_back` that the search leaves.
+use Rattle.std.proofs.Common.{◌≡◌, ◌∙◌, ap, length, map, sym, subst}
+use Rattle.std.proofs.lemmas.List.{length-map}
 use Rattle.fused_net.specs.Laws.{AllKept}
 use Rattle.fused_net.proofs.Keeping.{kept_same}
 use Rattle.nodes.specs.Nodes.{KeepsNode}
+use Rattle.interpreter.specs.Parts.{place_of}
 use Rattle.interpreter.proofs.Handing.{hands_back}
 use Rattle.interpreter.proofs.island.hand_back.Goals as goal
+
+pub leave-requires-clause-places : goal.leave-requires-clause-places
+leave-requires-clause-places g c =
+    let places : length (map place_of c.args.parts.nodes.items) ≡ length c.args.parts.nodes.items = length-map c.args.parts.nodes.items place_of in
+    let nodes : length c.assemble-engine.result.nodes ≡ length (map place_of c.args.parts.nodes.items) = c.assemble-engine.ensures.count ∙ c.args.parts.nodes.ok.0 ∙ sym places in
+    ap length c.deref-2.ensures.value ∙ ap length c.requires.room.places_are ∙ length-map (map place_of c.args.parts.nodes.items) _ ∙ sym nodes
 
 pub returns : goal.returns
 returns g c =

@@ -4,7 +4,7 @@ use Rattle.island_input.proofs.Feeding.{feeds_begun, feeds_looked, feeds_beside,
 use Rattle.island_input.proofs.laws.an_input_boundary_stands.Goals as goal
 
 pub returns-clause-begins : goal.returns-clause-begins
-returns-clause-begins g k b i u settled l none nothing flows = feeds_begun g.S.Source.state g.D.Drain.state b i u settled l none nothing flows
+returns-clause-begins g k b i u settled l none nothing flows = feeds_begun g.S.Source.state g.D.Drain.state g.B.PlugBook.lists b i u settled l none nothing flows
 
 pub returns-clause-enters : goal.returns-clause-enters
 returns-clause-enters g k q n old new u s l = enters_beside q n old new u s l
@@ -22,7 +22,7 @@ pub returns-clause-same : goal.returns-clause-same
 returns-clause-same g k b c i u taken given waits state f = fed_same b i u c taken given waits state f
 
 pub returns-clause-ran : goal.returns-clause-ran
-returns-clause-ran g k b old new u before after l on ins still f = feeds_ran g.S.Source.state g.D.Drain.state b old new u before l ins still after on f
+returns-clause-ran g k b old new u before after l on ins still f = feeds_ran g.S.Source.state g.D.Drain.state g.B.PlugBook.lists b old new u before l ins still after on f
 
 pub returns-clause-untouched : goal.returns-clause-untouched
-returns-clause-untouched g k b old new u before l ins still at un other f = fed_ran g.S.Source.state g.D.Drain.state b old new u before l ins still at un other f
+returns-clause-untouched g k b old new u before l ins still at un other f = fed_ran g.S.Source.state g.D.Drain.state g.B.PlugBook.lists b old new u before l ins still at un other f

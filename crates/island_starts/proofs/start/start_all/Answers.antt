@@ -16,7 +16,7 @@ loop-next-init g c =
       omega (arith, none, left, size, c.args.started.ok.0, c.args.islands.ok.0),
       omega (arith, none, left, size, c.args.started.ok.0, c.args.islands.ok.0, c.requires.room_to_start),
       subst CanAllStart (sym all) c.requires.can,
-      going_first (Started g.S.Source.state g.D.Drain.state) c.args.islands.items [] _ _ all c.requires.none_started,
+      going_first (Started g.S.Source.state g.D.Drain.state g.B.PlugBook.lists) c.args.islands.items [] _ _ all c.requires.none_started,
     )
 
 pub start_one-requires : goal.start_one-requires
@@ -30,7 +30,7 @@ loop-next-preserved g c =
       omega (arith, kept.1, next.len, c.push_reserved.ensures.len),
       omega (arith, kept.2, next.len, c.push_reserved.ensures.len, c.push_reserved.ensures.capacity),
       later_can _ _ _ kept.3 next.items,
-      going_next (Started g.S.Source.state g.D.Drain.state) c.args.islands.items [] _ _ _ _ _ _ kept.4 next.items c.push_reserved.ensures.items c.in-Ok.ensures.started,
+      going_next (Started g.S.Source.state g.D.Drain.state g.B.PlugBook.lists) c.args.islands.items [] _ _ _ _ _ _ kept.4 next.items c.push_reserved.ensures.items c.in-Ok.ensures.started,
     )
 
 pub take_apart-requires : goal.take_apart-requires
@@ -45,10 +45,10 @@ take_apart-requires g c =
     }
 
 pub returns-in-Err-clause-ended : goal.returns-in-Err-clause-ended
-returns-in-Err-clause-ended g c = all_apart g.S.Source.state g.D.Drain.state c.args.islands.items _ _ _ _ _ _ c.loop-next.invariant.4 c.in-Some.ensures.items c.in-Err.ensures.ended c.take_apart.ensures
+returns-in-Err-clause-ended g c = all_apart g.S.Source.state g.D.Drain.state g.B.PlugBook.lists c.args.islands.items _ _ _ _ _ _ c.loop-next.invariant.4 c.in-Some.ensures.items c.in-Err.ensures.ended c.take_apart.ensures
 
 pub returns-clause-started : goal.returns-clause-started
 returns-clause-started g c =
     let kept = c.loop-next.invariant in
-    let started = Started g.S.Source.state g.D.Drain.state in
+    let started = Started g.S.Source.state g.D.Drain.state g.B.PlugBook.lists in
     all_added started c.args.islands.items [] _ refl (going_last started c.args.islands.items [] _ _ kept.4 (none_more _ _ c.in_default.ensures.variant.1 kept.0))

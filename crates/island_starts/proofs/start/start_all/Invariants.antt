@@ -12,7 +12,7 @@ invariant-loop-next g l =
     × (vec_len l.started + into_iter_len l.rest ≡ vec_len l.fn.islands)
     × (vec_len l.started + into_iter_len l.rest ≤ vec_capacity l.started)
     × CanAllStart (into_iter_items l.rest)
-    × Going (Started g.S.Source.state g.D.Drain.state) l.fn.islands.items [] (into_iter_items l.rest) l.started.items
+    × Going (Started g.S.Source.state g.D.Drain.state g.B.PlugBook.lists) l.fn.islands.items [] (into_iter_items l.rest) l.started.items
 
 abbrev pub decreases-loop-next : goal.decreases-loop-next
 decreases-loop-next g l = into_iter_len l.rest

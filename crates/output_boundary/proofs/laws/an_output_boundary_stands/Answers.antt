@@ -9,7 +9,7 @@ pub returns-clause-served : goal.returns-clause-served
 returns-clause-served g c o q n old new u b apart other s = served_beside o q n old new u b apart other s
 
 pub returns-clause-ran : goal.returns-clause-ran
-returns-clause-ran g c o old new u before after l on outs gone still s = serves_ran g.S.Source.state g.D.Drain.state o old new u before after l on outs gone still s
+returns-clause-ran g c o old new u before after l on outs gone still s = serves_ran g.S.Source.state g.D.Drain.state g.B.PlugBook.lists o old new u before after l on outs gone still s
 
 pub returns-clause-untouched : goal.returns-clause-untouched
-returns-clause-untouched g c o old new u before after l on outs gone still at un other only s = served_ran g.S.Source.state g.D.Drain.state o old new u before after l on outs gone still at un other only s
+returns-clause-untouched g c o old new u before after l on outs gone still at un other only s = served_ran g.S.Source.state g.D.Drain.state g.B.PlugBook.lists o old new u before after l on outs gone still at un other only s

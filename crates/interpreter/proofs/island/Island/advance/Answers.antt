@@ -10,4 +10,4 @@ pub returns-clause-untouched : goal.returns-clause-untouched
 returns-clause-untouched g c = untouched_in _ _ _ _ c.self.view_is c.in_ok-advance.ensures.untouched
 
 pub returns-in_err-advance-clause-breaks : goal.returns-in_err-advance-clause-breaks
-returns-in_err-advance-clause-breaks g c = on_err _ (breaks_in g.S.Source.state g.D.Drain.state _ _ _ c.self.view_is c.in_err-advance.ensures.breaks)
+returns-in_err-advance-clause-breaks g c = on_err _ (breaks_in g.S.Source.state g.D.Drain.state _ _ _ _ c.self.view_is c.in_err-advance.ensures.breaks)

@@ -15,7 +15,7 @@ invariant_of-result g c =
       room_as _ _ _ _ _ c.requires.room.end nodes (ap length c.requires.room.numbers ∙ length-map c.args.parts.links.items number_of),
       ap length c.requires.room.places_are ∙ length-map (map place_of c.args.parts.nodes.items) _ ∙ sym nodes,
       λ _. (
-        keeps_new _ _ c.assemble-engine.result c.start.new.self c.in-Ok.ensures.laws c.in-Ok.ensures.asks c.assemble-engine.ensures.asks,
+        keeps_new _ _ _ c.assemble-engine.result c.start.new.self c.in-Ok.ensures.laws c.in-Ok.ensures.asks c.assemble-engine.ensures.asks,
         ap (λ a. a.items) c.in-Ok.ensures.acts ∙ c.requires.room.no_acts,
         omega (arith, ap (λ a. a.room) c.in-Ok.ensures.acts, c.requires.room.room_for_acts),
       ),
@@ -31,17 +31,23 @@ pub returns-in-Ok-clause-enters : goal.returns-in-Ok-clause-enters
 returns-in-Ok-clause-enters g c =
     let places = c.args.parts.nodes.items in
     let links = c.args.parts.links.items in
-    let keeps = keeps_new _ _ c.assemble-engine.result c.start.new.self c.in-Ok.ensures.laws c.in-Ok.ensures.asks c.assemble-engine.ensures.asks in
+    let keeps = keeps_new _ _ _ c.assemble-engine.result c.start.new.self c.in-Ok.ensures.laws c.in-Ok.ensures.asks c.assemble-engine.ensures.asks in
     let leads : Leads places links (length links) c.mark_all.new.self.ins.items c.mark_all.new.self.outs.items = rw (c.deref.ensures.value, c.deref-2.ensures.value) at c.mark_all.ensures in
-    enters_new g.S.Source.state g.D.Drain.state _ places links keeps (rw c.in-Ok.ensures.on.firsts c.assemble-engine.ensures.firsts) (c.in-Ok.ensures.on.ends ∙ c.assemble-engine.ensures.ends) leads
+    enters_new g.S.Source.state g.D.Drain.state _ _ places links keeps (rw c.in-Ok.ensures.on.firsts c.assemble-engine.ensures.firsts) (c.in-Ok.ensures.on.ends ∙ c.assemble-engine.ensures.ends) leads
 
 pub returns-in-Ok-clause-leaves : goal.returns-in-Ok-clause-leaves
 returns-in-Ok-clause-leaves g c =
     let places = c.args.parts.nodes.items in
     let links = c.args.parts.links.items in
-    let keeps = keeps_new _ _ c.assemble-engine.result c.start.new.self c.in-Ok.ensures.laws c.in-Ok.ensures.asks c.assemble-engine.ensures.asks in
+    let keeps = keeps_new _ _ _ c.assemble-engine.result c.start.new.self c.in-Ok.ensures.laws c.in-Ok.ensures.asks c.assemble-engine.ensures.asks in
     let leads : Leads places links (length links) c.mark_all.new.self.ins.items c.mark_all.new.self.outs.items = rw (c.deref.ensures.value, c.deref-2.ensures.value) at c.mark_all.ensures in
-    leaves_new g.S.Source.state g.D.Drain.state _ places links keeps (rw c.in-Ok.ensures.on.firsts c.assemble-engine.ensures.firsts) (c.in-Ok.ensures.on.ends ∙ c.assemble-engine.ensures.ends) leads
+    leaves_new g.S.Source.state g.D.Drain.state _ _ places links keeps (rw c.in-Ok.ensures.on.firsts c.assemble-engine.ensures.firsts) (c.in-Ok.ensures.on.ends ∙ c.assemble-engine.ensures.ends) leads
+
+pub leave-requires-clause-room : goal.leave-requires-clause-room
+leave-requires-clause-room g c =
+    let places : length (map place_of c.args.parts.nodes.items) ≡ length c.args.parts.nodes.items = length-map c.args.parts.nodes.items place_of in
+    let nodes : length c.start.new.self.nodes ≡ length (map place_of c.args.parts.nodes.items) = c.start.ensures.count ∙ c.assemble-engine.ensures.count ∙ c.args.parts.nodes.ok.0 ∙ sym places in
+    room_as _ _ _ _ _ c.requires.room.end nodes (ap length c.deref-in-Err.ensures.value ∙ ap length c.requires.room.numbers ∙ length-map c.args.parts.links.items number_of)
 
 pub leave-requires-clause-places : goal.leave-requires-clause-places
 leave-requires-clause-places g c =

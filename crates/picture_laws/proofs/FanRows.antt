@@ -21,36 +21,36 @@ use Rattle.fan_laws.specs.Unmoved.{NoAsking, no_moves, never_ends}
 use Rattle.fan_laws.proofs.Standing.{Stands, moments_of}
 use Rattle.picture_laws.specs.Picture.{sink_ended}
 
-module _ {S D : Type 0} (sources : S → SourceState) (drains : D → DrainState) (g : Graph) (w : World) (k : ℕ) (n : graph.Node) where
-  abbrev Laws : Node S D → Node S D → List InPort → List OutPort → Type 0
-  Laws first x is os = PictureLaws node_row (node_law sources drains) node_asking node_moves sink_ended g w k n first x is os
+module _ {S D L B : Type 0} (sources : S → SourceState) (drains : D → DrainState) (g : Graph) (w : World) (k : ℕ) (n : graph.Node) where
+  abbrev Laws : Node S D L B → Node S D L B → List InPort → List OutPort → Type 0
+  Laws first x is os = PictureLaws node_row (node_law sources drains w.book) node_asking node_moves sink_ended g w k n first x is os
 
-  in_same : (a b : InLogic) → ◌≡◌ {A = Node S D} (FanIn a) (FanIn b) → a ≡ b
+  in_same : (a b : InLogic) → ◌≡◌ {A = Node S D L B} (FanIn a) (FanIn b) → a ≡ b
   in_same a b e = cc
 
-  out_same : (a b : OutLogic) → ◌≡◌ {A = Node S D} (FanOut a) (FanOut b) → a ≡ b
+  out_same : (a b : OutLogic) → ◌≡◌ {A = Node S D L B} (FanOut a) (FanOut b) → a ≡ b
   out_same a b e = cc
 
-  in_stands : (first : InLogic) (old : Node S D) (v : View) (took gave : List (List Item)) → node_row old v → node_law sources drains (FanIn first) old v took gave
-      → Stands node_row (node_law sources drains) node_asking node_moves in_moves InRow InLaw NoAsking FanIn in_same first old v took gave
+  in_stands : (first : InLogic) (old : Node S D L B) (v : View) (took gave : List (List Item)) → node_row old v → node_law sources drains w.book (FanIn first) old v took gave
+      → Stands node_row (node_law sources drains w.book) node_asking node_moves in_moves InRow InLaw NoAsking FanIn in_same first old v took gave
   in_stands first (FanIn l) v took gave r law = record { stage = l; is = refl; row_holds = r; law_holds = law; asking_holds = λ a. tt; moves_on = λ now on. on }
   in_stands first old v took gave r law = absurd law
 
-  out_stands : (first : OutLogic) (old : Node S D) (v : View) (took gave : List (List Item)) → node_row old v → node_law sources drains (FanOut first) old v took gave
-      → Stands node_row (node_law sources drains) node_asking node_moves no_moves out.row OutLaw OutAsking FanOut out_same first old v took gave
+  out_stands : (first : OutLogic) (old : Node S D L B) (v : View) (took gave : List (List Item)) → node_row old v → node_law sources drains w.book (FanOut first) old v took gave
+      → Stands node_row (node_law sources drains w.book) node_asking node_moves no_moves out.row OutLaw OutAsking FanOut out_same first old v took gave
   out_stands first (FanOut l) v took gave r law = record { stage = l; is = refl; row_holds = r; law_holds = law; asking_holds = λ a. a; moves_on = λ now on. record { rest = []; is = refl } }
   out_stands first old v took gave r law = absurd law
 
   pub fan_in_picture : (first x : InLogic) (is : List InPort) (os : List OutPort) → PictureLaws InRow InLaw NoAsking in_moves never_ends g w k n first x is os → Laws (FanIn first) (FanIn x) is os
   fan_in_picture first x is os p = record {
-    lawful = λ s so m. p.lawful s so (λ q some. moments_of node_row (node_law sources drains) node_asking node_moves in_moves InRow InLaw NoAsking FanIn in_same first (in_stands first) x is os q (m q some));
+    lawful = λ s so m. p.lawful s so (λ q some. moments_of node_row (node_law sources drains w.book) node_asking node_moves in_moves InRow InLaw NoAsking FanIn in_same first (in_stands first) x is os q (m q some));
     rests = p.rests;
     matches = p.matches;
   }
 
   pub fan_out_picture : (first x : OutLogic) (is : List InPort) (os : List OutPort) → PictureLaws out.row OutLaw OutAsking no_moves never_ends g w k n first x is os → Laws (FanOut first) (FanOut x) is os
   fan_out_picture first x is os p = record {
-    lawful = λ s so m. p.lawful s so (λ q some. moments_of node_row (node_law sources drains) node_asking node_moves no_moves out.row OutLaw OutAsking FanOut out_same first (out_stands first) x is os q (m q some));
+    lawful = λ s so m. p.lawful s so (λ q some. moments_of node_row (node_law sources drains w.book) node_asking node_moves no_moves out.row OutLaw OutAsking FanOut out_same first (out_stands first) x is os q (m q some));
     rests = p.rests;
     matches = p.matches;
   }

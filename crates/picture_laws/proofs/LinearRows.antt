@@ -1,5 +1,5 @@
 -- What a linear stage gives of its law for a picture.
-use Rattle.std.proofs.Common.{◌≡◌, ◌⊎◌, inl, inr, ℕ, ◌-◌, ◌<◌, ◌≤◌, Bool, true, false, Some, if◌then◌else◌, List, [], ◌∷◌, length, take, map, refl, sym, ap, ◌∙◌, subst, arith}
+use Rattle.std.proofs.Common.{◌≡◌, ◌⊎◌, inl, inr, ℕ, ◌-◌, ◌<◌, ◌≤◌, Bool, true, Some, if◌then◌else◌, List, [], ◌∷◌, length, take, map, refl, sym, ap, ◌∙◌, subst, arith}
 use Rattle.elem_core.specs.declared.item.Item.{Item}
 use Rattle.port_core.specs.View.{View, in_at, out_at}
 use Rattle.port_core.specs.declared.view.InView.{InView}
@@ -8,7 +8,7 @@ use Rattle.port_core.specs.declared.view.OutView.{OutView}
 use Rattle.port_core.specs.declared.view.OutView.TheVariants.{Asked}
 use Rattle.stream_io.specs.State.{SourceState, DrainState}
 use Rattle.stream_model.specs.declared.kind.Kind.{Kind}
-use Rattle.stream_model.specs.declared.kind.Kind.TheVariants.{Map, Filter, FilterNot, Take, TakeWhile, Drop, DropWhile, Limit, MapConcat}
+use Rattle.stream_model.specs.declared.kind.Kind.TheVariants.{Map, Filter, FilterNot, Take, TakeWhile, Drop, DropWhile, Limit, MapConcat, Plug}
 use Rattle.stream_model.specs.Graph.{Graph}
 use Rattle.stream_model.specs.Graph as graph
 use Rattle.stream_model.specs.Linear.{Book, Stage, Work, linear, begin_work, work_of}
@@ -21,6 +21,7 @@ use Rattle.elem_core.specs.Tree.{Tree}
 use Rattle.stage_law.specs.Law.{Law}
 use Rattle.stage_law.specs.Row.{InClosed}
 use Rattle.stage_linear.specs.declared.phase.Phase.TheVariants.{Open}
+use Rattle.stage_linear.specs.declared.course.Course.TheVariants.{Waits}
 use Rattle.stage_linear.specs.States.{Logic, held, row_in, IsLinear}
 use Rattle.nodes.specs.declared.node.Node.{Node}
 use Rattle.nodes.specs.declared.node.Node.TheVariants.{Linear}
@@ -49,10 +50,11 @@ holds_first book (Drop f) wk h e one = let no : 0 ≡ 1 = subst (λ (x : Work). 
 holds_first book (DropWhile f) wk h e one = let no : 0 ≡ 1 = subst (λ (x : Work). (linear book x).hold ≡ 1) (sym (some_work _ wk e)) one in absurd (omega (arith, no))
 holds_first book (Limit f) wk h e one = let no : 0 ≡ 1 = subst (λ (x : Work). (linear book x).hold ≡ 1) (sym (some_work _ wk e)) one in absurd (omega (arith, no))
 holds_first book (MapConcat x) wk h e one = subst (λ (z : Work). holds_at_end z ≡ true) (some_work _ wk e) refl
+holds_first book (Plug name) wk h e one = subst (λ (z : Work). holds_at_end z ≡ true) (some_work _ wk e) refl
 holds_first book _ wk h e one = absurd h
 
 -- one that waits was asked, and is open
-waits_busy : (l : Logic) (x : InView) (y : OutView) → LinearPorts l.phase l.over l.pending l.stage.work x y → x ≡ Waiting → (l.phase ≡ Open) × ((y ≡ Asked) × ((l.over ≡ false) × (l.pending ≡ [])))
+waits_busy : (l : Logic) (x : InView) (y : OutView) → LinearPorts l.phase l.course l.pending l.stage.work x y → x ≡ Waiting → (l.phase ≡ Open) × ((y ≡ Asked) × ((l.course ≡ Waits) × (l.pending ≡ [])))
 waits_busy l x y (busy po on none xi yo) e = (po, (yo, (on, none)))
 waits_busy l x y (behind sp xi yo) e = cc
 waits_busy l x y (free xi yo) e = cc
@@ -63,34 +65,34 @@ record Moment (book : Book) (k : ℕ) (n : graph.Node) (first : Logic) (v : View
   asked : out_at v 0 ≡ Asked
   waited : (t g : List Item) → took ≡ t ∷ [] → gave ≡ g ∷ [] → Waited book k n.decider first.stage.work t g
 
-moment_of : (book : Book) (k : ℕ) (n : graph.Node) (first l : Logic) (v : View) (took gave : List (List Item)) → FirstLinear k n first → LinearRow l v → LinearLaw first l v took gave → in_at v 0 ≡ Waiting → Moment book k n first v took gave
+moment_of : (book : Book) (k : ℕ) (n : graph.Node) (first l : Logic) (v : View) (took gave : List (List Item)) → FirstLinear k n first → LinearRow l v → LinearLaw book first l v took gave → in_at v 0 ≡ Waiting → Moment book k n first v took gave
 moment_of book k n first l v took gave f r law waits =
-    let o = one_views (row_in l.phase l.over l.pending l.stage.work) v r.row in
-    let s = waits_busy l o.x o.y (linear_ports l.phase l.over l.pending l.stage.work o.x o.y r.started o.holds) (sym o.inp ∙ waits) in
+    let o = one_views (row_in l.phase l.course l.pending l.stage.work l.ready) v r.row in
+    let s = waits_busy l o.x o.y (linear_ports l.phase l.course l.pending l.stage.work l.ready o.x o.y r.started o.holds) (sym o.inp ∙ waits) in
     record {
       asked = o.out ∙ s.1.0;
       waited = λ t g ti gi. linear_waited book k n.kind n.decider first l v took gave t g f.begins law s.0 s.1.1.0 s.1.1.1 waits (o.out ∙ s.1.0) ti gi;
     }
 
-module _ {S D : Type 0} (sources : S → SourceState) (drains : D → DrainState) (g : Graph) (w : World) (k : ℕ) (n : graph.Node) where
+module _ {S D : Type 0} (L B : Type 0) (sources : S → SourceState) (drains : D → DrainState) (g : Graph) (w : World) (k : ℕ) (n : graph.Node) where
   -- by its kind, which stays the same
-  moment_by : (first : Logic) (x : Node S D) (v : View) (took gave : List (List Item)) → FirstLinear k n first → node_row x v → node_law sources drains (Linear first) x v took gave → in_at v 0 ≡ Waiting → Moment w.book k n first v took gave
+  moment_by : (first : Logic) (x : Node S D L B) (v : View) (took gave : List (List Item)) → FirstLinear k n first → node_row x v → node_law sources drains w.book (Linear first) x v took gave → in_at v 0 ≡ Waiting → Moment w.book k n first v took gave
   moment_by first (Linear l) v took gave f r law waits = moment_of w.book k n first l v took gave f r law waits
   moment_by first x v took gave f r law waits = absurd law
 
-  abbrev Laws : Node S D → Node S D → List InPort → List OutPort → Type 0
-  Laws first x is os = PictureLaws node_row (node_law sources drains) node_asking node_moves sink_ended g w k n first x is os
+  abbrev Laws : Node S D L B → Node S D L B → List InPort → List OutPort → Type 0
+  Laws first x is os = PictureLaws node_row (node_law sources drains w.book) node_asking node_moves sink_ended g w k n first x is os
 
   module _ (first x : Logic) (i : InPort) (o : OutPort) (f : FirstLinear k n first) (r : LinearRow x (record { ins = i.view ∷ []; outs = o.view ∷ [] }))
-      (law : LinearLaw first x (record { ins = i.view ∷ []; outs = o.view ∷ [] }) (i.got ∷ []) (o.sent ∷ [])) where
+      (law : LinearLaw w.book first x (record { ins = i.view ∷ []; outs = o.view ∷ [] }) (i.got ∷ []) (o.sent ∷ [])) where
     machine : IsOneMachine n.kind first.stage.work
     machine = linear_machine n.kind first.stage.work f.is_linear f.begins.work
 
-    at : Law (linear w.book first.stage.work) (begin_work k n.decider first.stage.work) (held x) i.view o.view i.got o.sent
-    at = law_at (linear w.book first.stage.work) law.start _ (held x) _ i.view _ o.view _ law.took_list i.got law.gave_list o.sent
-        (same_start _ _ (sym law.owes ∙ f.begins.owes)) refl refl refl (one_same _ _ (sym law.took_is)) (one_same _ _ (sym law.gave_is)) (law.law w.book)
+    at : Law (linear w.book first.stage.work) (begin_work k n.decider first.stage.work) (held w.book x) i.view o.view i.got o.sent
+    at = law_at (linear w.book first.stage.work) law.start _ (held w.book x) _ i.view _ o.view _ law.took_list i.got law.gave_list o.sent
+        (same_start _ _ (sym law.owes ∙ f.begins.owes w.book)) refl refl refl (one_same _ _ (sym law.took_is)) (one_same _ _ (sym law.gave_is)) law.law
 
-    asked_then : InStands i → OutStands o → Moments node_row (node_law sources drains) node_asking node_moves (Linear first) (Linear x) (i ∷ []) (o ∷ []) 0 → 1 ≤ demand i.wire
+    asked_then : InStands i → OutStands o → Moments {N = Node S D L B} node_row (node_law sources drains w.book) node_asking node_moves (Linear first) (Linear x) (i ∷ []) (o ∷ []) 0 → 1 ≤ demand i.wire
         → (is_going (run (linear w.book first.stage.work) (begin_work k n.decider first.stage.work) (take (demand i.wire - 1) i.wire.list)).state ≡ true)
         × (length (run (linear w.book first.stage.work) (begin_work k n.decider first.stage.work) (take (demand i.wire - 1) i.wire.list)).gave < wanted o.wire)
     asked_then si so m some =
@@ -100,7 +102,7 @@ module _ {S D : Type 0} (sources : S → SourceState) (drains : D → DrainState
         let q = given_one e.given o.sent o.want e.gave_on (e.wants 0 t.asked) in
         stage_asked w.book k n.decider first.stage.work i o si so at.in_list at.in_end at.took_is b.part q.0 (t.waited b.part q.0 b.is q.1.0) b.begins b.one_more q.1.1.1 some
 
-    still : InStands i → OutStands o → InRests i → OutRests o → LinearPorts x.phase x.over x.pending x.stage.work i.view o.view
+    still : InStands i → OutStands o → InRests i → OutRests o → LinearPorts x.phase x.course x.pending x.stage.work i.view o.view
         → (EachWire IsShut (i.wire ∷ []) × EachWire IsShut (o.wire ∷ [])) ⊎ RowRests g w k n.kind n.decider (i.wire ∷ []) (o.wire ∷ [])
     still si so ri ro (busy po on none xi yo) =
         inr (machine.rests g w k n.decider (i.wire ∷ []) (o.wire ∷ [])
@@ -115,15 +117,15 @@ module _ {S D : Type 0} (sources : S → SourceState) (drains : D → DrainState
     one_picture : Laws (Linear first) (Linear x) (i ∷ []) (o ∷ [])
     one_picture = record {
       lawful = λ si so m. machine.lawful g w k n.decider (i.wire ∷ []) (o.wire ∷ []) (
-        stage_given (linear w.book first.stage.work) (begin_work k n.decider first.stage.work) (held x) i o at si.0 so.0,
+        stage_given (linear w.book first.stage.work) (begin_work k n.decider first.stage.work) (held w.book x) i o at si.0 so.0,
         λ some. asked_then si.0 so.0 (m 0 (reached i si.0 some)) some,
       );
-      rests = λ si so ri ro. still si.0 so.0 ri.0 ro.0 (linear_ports x.phase x.over x.pending x.stage.work i.view o.view r.started r.row);
+      rests = λ si so ri ro. still si.0 so.0 ri.0 ro.0 (linear_ports x.phase x.course x.pending x.stage.work x.ready i.view o.view r.started r.row);
       matches = λ sink ri. absurd (not_both machine.no_sink sink);
     }
 
   pub linear_picture : (first x : Logic) (is : List InPort) (os : List OutPort) → FirstLinear k n first → LinearRow x (record { ins = map (λ (i : InPort). i.view) is; outs = map (λ (o : OutPort). o.view) os })
-      → LinearLaw first x (record { ins = map (λ (i : InPort). i.view) is; outs = map (λ (o : OutPort). o.view) os }) (map (λ (i : InPort). i.got) is) (map (λ (o : OutPort). o.sent) os) → Laws (Linear first) (Linear x) is os
+      → LinearLaw w.book first x (record { ins = map (λ (i : InPort). i.view) is; outs = map (λ (o : OutPort). o.view) os }) (map (λ (i : InPort). i.got) is) (map (λ (o : OutPort). o.sent) os) → Laws (Linear first) (Linear x) is os
   linear_picture first x (i ∷ []) (o ∷ []) f r law = one_picture first x i o f r law
   linear_picture first x [] os f r law = absurd r.row
   linear_picture first x (i ∷ []) [] f r law = absurd r.row

@@ -41,6 +41,7 @@ use Rattle.switch_laws.specs.Settling.{SeatTold, OneOrderShown}
 use Rattle.switch_laws.proofs.Nodes.{valve_tells, trip_tells}
 use Rattle.switch_laws.proofs.Shown as shown_by
 use Rattle.picture_laws.proofs.Telling.{agrees_part}
+use Rattle.stream_model.specs.Linear.{Book}
 
 -- ---- what a node's law tells of its seat
 
@@ -80,19 +81,19 @@ module _ (w : World) (k : ℕ) (n : graph.Node) (v : View) (took gave : List (Li
       subst (λ (r : SeatState). SeatTold n.kind (w.moves k) Count r) (some_same now.seat s at) here
   state_told first now made told law s at = absurd law
 
-  node_told : {S D : Type 0} (sources : S → SourceState) (drains : D → DrainState) (first now : Node S D) → FirstOf sources k n first → TellsMoves w k now → node_law sources drains first now v took gave
+  node_told : {S D L B : Type 0} (sources : S → SourceState) (drains : D → DrainState) (book : Book) (first now : Node S D L B) → FirstOf sources k n first → TellsMoves w k now → node_law sources drains book first now v took gave
       → (s : SeatState) → node_seat now ≡ Some s → SeatTold n.kind (w.moves k) Count s
-  node_told sources drains first (Reading now) made told law s at = absurd (no_seat s at)
-  node_told sources drains first (Making now) made told law s at = absurd (no_seat s at)
-  node_told sources drains first (Linear now) made told law s at = absurd (no_seat s at)
-  node_told sources drains first (FanIn now) made told law s at = absurd (no_seat s at)
-  node_told sources drains first (FanOut now) made told law s at = absurd (no_seat s at)
-  node_told sources drains first (Writing now) made told law s at = absurd (no_seat s at)
-  node_told sources drains first (Ignoring now) made told law s at = absurd (no_seat s at)
-  node_told sources drains first (Entering now) made told law s at = absurd (no_seat s at)
-  node_told sources drains first (Leaving now) made told law s at = absurd (no_seat s at)
-  node_told sources drains (State first) (State now) made told law s at = state_told first now made told law s at
-  node_told sources drains first now made told law s at = absurd law
+  node_told sources drains book first (Reading now) made told law s at = absurd (no_seat s at)
+  node_told sources drains book first (Making now) made told law s at = absurd (no_seat s at)
+  node_told sources drains book first (Linear now) made told law s at = absurd (no_seat s at)
+  node_told sources drains book first (FanIn now) made told law s at = absurd (no_seat s at)
+  node_told sources drains book first (FanOut now) made told law s at = absurd (no_seat s at)
+  node_told sources drains book first (Writing now) made told law s at = absurd (no_seat s at)
+  node_told sources drains book first (Ignoring now) made told law s at = absurd (no_seat s at)
+  node_told sources drains book first (Entering now) made told law s at = absurd (no_seat s at)
+  node_told sources drains book first (Leaving now) made told law s at = absurd (no_seat s at)
+  node_told sources drains book (State first) (State now) made told law s at = state_told first now made told law s at
+  node_told sources drains book first now made told law s at = absurd law
 
 -- what was heard at the first input, of what may pass there
 few_heard : (os : List Outlook) (hs : List (List Item)) (v : View) → AllMayPass os hs → HearsAll v hs → elements (slice_index_or hs 0 []) ≤ length (head_of os).list
@@ -104,7 +105,7 @@ few_heard (o ∷ os) (x ∷ hs) v a h =
     let count : elements x ≡ length t.list = ap elements t.is ∙ elements_told t.list t.end in
     omega (arith, few, count)
 
-module _ {S D : Type 0} (g : Graph) (a : Account (Node S D)) where
+module _ {S D L B : Type 0} (g : Graph) (a : Account (Node S D L B)) where
   abbrev took_by : ℕ → Option graph.Node → ℕ
   took_by k None = 0
   took_by k (Some n) = elements (slice_index_or (took g a k n) 0 [])
@@ -116,7 +117,7 @@ module _ {S D : Type 0} (g : Graph) (a : Account (Node S D)) where
   pub took_there : (k : ℕ) (n : graph.Node) → slice_get g.nodes k ≡ Some n → took_at k ≡ elements (slice_index_or (took g a k n) 0 [])
   took_there k n e = ap (took_by k) e
 
-module _ {S D : Type 0} (sources : S → SourceState) (drains : D → DrainState) (g : Graph) (a : Account (Node S D)) (run : IsRun sources drains g a) (w : World) where
+module _ {S D L B : Type 0} (sources : S → SourceState) (drains : D → DrainState) (g : Graph) (w : World) (a : Account (Node S D L B)) (run : IsRun sources drains w.book g a) where
   -- all valves of a switch with moves show one order, that of a trip of the switch which took its element
   pub shown : TellsPicks w a → AreSettled g a → OneOrderShown g w (took_at g a)
   shown chose settled = shown_by.shown g w (took_at g a) (λ k. seat_at (a.nodes k)) told settled
@@ -126,13 +127,13 @@ module _ {S D : Type 0} (sources : S → SourceState) (drains : D → DrainState
           let m = run.keeps.each_node k n e in
           let here : node_seat m.now ≡ Some s = sym (ap seat_at m.now_at) ∙ at in
           subst (λ (c : ℕ). SeatTold n.kind (w.moves k) c s) (sym (took_there g a k n e))
-          (node_told w k n (knows g a k n) (took g a k n) (gave g a k n) sources drains m.first m.now (run.made k n m.first e m.first_at) (chose k m.now m.now_at) m.law_holds s here)
+          (node_told w k n (knows g a k n) (took g a k n) (gave g a k n) sources drains w.book m.first m.now (run.made k n m.first e m.first_at) (chose k m.now m.now_at) m.law_holds s here)
 
   -- no node took more elements than may come in there
   pub few_came : Tells sources g w a → (rank : ℕ → ℕ) → IsRanked g rank → (k : ℕ) (n : graph.Node) → slice_get g.nodes k ≡ Some n → took_at g a k ≤ length (head_of (inputs g w k n)).list
   few_came tells rank ranked k n e =
       let m = run.keeps.each_node k n e in
       let hears = node_hears sources drains w.book k n m.first m.now (knows g a k n) (took g a k n) (gave g a k n) (run.made k n m.first e m.first_at) m.law_holds in
-      let few = few_heard (inputs g w k n) (took g a k n) (knows g a k n) (every_input_of sources drains g a run w tells rank ranked k n e) hears in
+      let few = few_heard (inputs g w k n) (took g a k n) (knows g a k n) (every_input_of sources drains g w a run tells rank ranked k n e) hears in
       let same = took_there g a k n e in
       omega (arith, few, same)

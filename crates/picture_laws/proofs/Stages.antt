@@ -19,6 +19,8 @@ use Rattle.stage_law.specs.Law.{ends_by, Law}
 use Rattle.stage_law.specs.Row.{InClosed, OutClosed, BothClosed}
 use Rattle.stage_linear.specs.declared.phase.Phase.{Phase}
 use Rattle.stage_linear.specs.declared.phase.Phase.TheVariants.{New, Open, Closed}
+use Rattle.stage_linear.specs.declared.course.Course.{Course}
+use Rattle.stage_linear.specs.declared.course.Course.TheVariants.{Waits, Idles, Leaves, Closes, Ends}
 use Rattle.stage_linear.specs.Tasks.{Spreads}
 use Rattle.stage_linear.specs.States.{Logic, held, held_in, row_in, Begins}
 use Rattle.stage_linear.specs.Handling.{LinearLaw}
@@ -49,41 +51,24 @@ lines_ports Closed Unasked r = absurd r
 lines_ports Closed Asked r = absurd r
 
 -- a linear stage: it waits and holds nothing, nobody asks it, it holds outputs behind the end of its input, or all is closed
-pub data LinearPorts (p : Phase) (ended : Bool) (h : List Tree) (k : Work) (x : InView) (y : OutView) : Type 0 where
-  busy : p ≡ Open → ended ≡ false → h ≡ [] → x ≡ Waiting → y ≡ Asked → LinearPorts p ended h k x y
-  free : x ≡ Idle → y ≡ Unasked → LinearPorts p ended h k x y
-  behind : Spreads k → x ≡ Over → y ≡ Unasked → LinearPorts p ended h k x y
-  over : InClosed x → OutClosed y → LinearPorts p ended h k x y
+pub data LinearPorts (p : Phase) (c : Course) (h : List Tree) (k : Work) (x : InView) (y : OutView) : Type 0 where
+  busy : p ≡ Open → c ≡ Waits → h ≡ [] → x ≡ Waiting → y ≡ Asked → LinearPorts p c h k x y
+  free : x ≡ Idle → y ≡ Unasked → LinearPorts p c h k x y
+  behind : Spreads k → x ≡ Over → y ≡ Unasked → LinearPorts p c h k x y
+  over : InClosed x → OutClosed y → LinearPorts p c h k x y
 
-pub linear_ports : (p : Phase) (t : Bool) (h : List Tree) (k : Work) (x : InView) (y : OutView) → p ≢ New → row_in p t h k x y → LinearPorts p t h k x y
-linear_ports New t h k x y n r = absurd (n refl)
-linear_ports Open false h k Waiting Asked n r = busy refl refl r.0 refl refl
-linear_ports Open false h k Idle Unasked n r = free refl refl
-linear_ports Open true h k Over Unasked n r = behind r.1 refl refl
-linear_ports Open false h k Waiting Unasked n r = absurd r
-linear_ports Open false h k Waiting Shut n r = absurd r
-linear_ports Open false h k Waiting Refused n r = absurd r
-linear_ports Open false h k Idle Asked n r = absurd r
-linear_ports Open false h k Idle Shut n r = absurd r
-linear_ports Open false h k Idle Refused n r = absurd r
-linear_ports Open false h k Over y n r = absurd r
-linear_ports Open false h k Left y n r = absurd r
-linear_ports Open true h k Over Asked n r = absurd r
-linear_ports Open true h k Over Shut n r = absurd r
-linear_ports Open true h k Over Refused n r = absurd r
-linear_ports Open true h k Waiting y n r = absurd r
-linear_ports Open true h k Idle y n r = absurd r
-linear_ports Open true h k Left y n r = absurd r
-linear_ports Closed t h k Over Shut n r = over tt tt
-linear_ports Closed t h k Over Refused n r = over tt tt
-linear_ports Closed t h k Left Shut n r = over tt tt
-linear_ports Closed t h k Left Refused n r = over tt tt
-linear_ports Closed t h k Over Unasked n r = absurd r
-linear_ports Closed t h k Over Asked n r = absurd r
-linear_ports Closed t h k Left Unasked n r = absurd r
-linear_ports Closed t h k Left Asked n r = absurd r
-linear_ports Closed t h k Idle y n r = absurd r
-linear_ports Closed t h k Waiting y n r = absurd r
+pub linear_ports : (p : Phase) (c : Course) (h : List Tree) (k : Work) (ready : Bool) (x : InView) (y : OutView) → p ≢ New → row_in p c h k ready x y → LinearPorts p c h k x y
+linear_ports New c h k b x y n r = absurd (n refl)
+linear_ports Open Waits h k b Waiting Asked n r = busy refl refl r.0 refl refl
+linear_ports Open Idles h k b Idle Unasked n r = free refl refl
+linear_ports Open Leaves h k b Idle Unasked n r = free refl refl
+linear_ports Open Closes h k b Over Unasked n r = behind r.0.1 refl refl
+linear_ports Open Ends h k b Over Unasked n r = behind r.1 refl refl
+linear_ports Closed c h k b Over Shut n r = over tt tt
+linear_ports Closed c h k b Over Refused n r = over tt tt
+linear_ports Closed c h k b Left Shut n r = over tt tt
+linear_ports Closed c h k b Left Refused n r = over tt tt
+linear_ports p c h k b x y n r = absurd r
 
 -- a sink with a file
 pub sink_ports : (started : Bool) (e : EndState) (x : InView) → sink_row_in started e x → ((x ≡ Waiting) × (has_ended e ≡ false)) ⊎ (InClosed x × (has_ended e ≡ true))
@@ -140,14 +125,14 @@ waited_of book k d wk s t g at = record {
   runs = waiting_run (linear book wk) (begin_work k d wk) (going s) t g at;
 }
 
-pub linear_waited : (book : Book) (k : ℕ) (kd : Kind) (d : Decider) (first l : Logic) (v : View) (took gave : List (List Item)) (t g : List Item) → Begins k kd d first → LinearLaw first l v took gave
-    → l.phase ≡ Open → l.over ≡ false → l.pending ≡ [] → in_at v 0 ≡ Waiting → out_at v 0 ≡ Asked → took ≡ t ∷ [] → gave ≡ g ∷ [] → Waited book k d first.stage.work t g
+pub linear_waited : (book : Book) (k : ℕ) (kd : Kind) (d : Decider) (first l : Logic) (v : View) (took gave : List (List Item)) (t g : List Item) → Begins k kd d first → LinearLaw book first l v took gave
+    → l.phase ≡ Open → l.course ≡ Waits → l.pending ≡ [] → in_at v 0 ≡ Waiting → out_at v 0 ≡ Asked → took ≡ t ∷ [] → gave ≡ g ∷ [] → Waited book k d first.stage.work t g
 linear_waited book k kd d first l v took gave t g begins law going_on on none waits_in asked_out took_at gave_at =
     waited_of book k d first.stage.work l.stage t g
-    (law_at (linear book first.stage.work) law.start _ (held l) _ (in_at v 0) _ (out_at v 0) _ law.took_list t law.gave_list g
-    (same_start _ _ (sym law.owes ∙ begins.owes))
-    (ap (λ (p : Phase). held_in p l.over l.pending l.stage) going_on ∙ ap (λ (t : Bool). held_in Open t l.pending l.stage) on ∙ ap (λ (h : List Tree). held_in Open false h l.stage) none)
+    (law_at (linear book first.stage.work) law.start _ (held book l) _ (in_at v 0) _ (out_at v 0) _ law.took_list t law.gave_list g
+    (same_start _ _ (sym law.owes ∙ begins.owes book))
+    (ap (λ (p : Phase). held_in book p l.course l.pending l.stage) going_on ∙ ap (λ (c : Course). held_in book Open c l.pending l.stage) on ∙ ap (λ (h : List Tree). held_in book Open Waits h l.stage) none)
     waits_in asked_out
     (one_same _ _ (sym law.took_is ∙ took_at))
     (one_same _ _ (sym law.gave_is ∙ gave_at))
-    (law.law book))
+    law.law)

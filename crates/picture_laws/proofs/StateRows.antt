@@ -205,14 +205,14 @@ waits_busy l x y (over xi yo) e = let no : InClosed Waiting = subst InClosed e x
 
 -- ---- the node
 
-module _ {S D : Type 0} (sources : S → SourceState) (drains : D → DrainState) (g : Graph) (w : World) (k : ℕ) (n : graph.Node) where
+module _ {S D : Type 0} (L B : Type 0) (sources : S → SourceState) (drains : D → DrainState) (g : Graph) (w : World) (k : ℕ) (n : graph.Node) where
   -- its kind stays the same
   record StateNow (first : Logic) (v : View) (took gave : List (List Item)) : Type 0 where
     now : Logic
     row_holds : MachineRow now v
     law_holds : MachineLaw first now v took gave
 
-  state_now : (first : Logic) (x : Node S D) (v : View) (took gave : List (List Item)) → node_row x v → node_law sources drains (node.State (Machine first)) x v took gave → StateNow first v took gave
+  state_now : (first : Logic) (x : Node S D L B) (v : View) (took gave : List (List Item)) → node_row x v → node_law sources drains w.book (node.State (Machine first)) x v took gave → StateNow first v took gave
   state_now first (node.State (Machine x)) v took gave r law = record { now = x; row_holds = r; law_holds = law }
   state_now first x v took gave r law = absurd law
 
@@ -224,13 +224,13 @@ module _ {S D : Type 0} (sources : S → SourceState) (drains : D → DrainState
   buffers_ports m l first x y e some started r =
       buffer_ports m l.phase l.ending l.asked l.pending x y started (subst (λ z. row_by z l.phase l.ending l.asked l.pending l.stage.work x y) (e ∙ some) r)
 
-  abbrev Laws : Node S D → Node S D → List InPort → List OutPort → Type 0
-  Laws first x is os = PictureLaws node_row (node_law sources drains) node_asking node_moves sink_ended g w k n first x is os
+  abbrev Laws : Node S D L B → Node S D L B → List InPort → List OutPort → Type 0
+  Laws first x is os = PictureLaws node_row (node_law sources drains w.book) node_asking node_moves sink_ended g w k n first x is os
 
   module _ (first x : Logic) (i : InPort) (o : OutPort) (is_machine : IsMachine n.kind) (begins : Begins k n.kind n.decider first) (r : MachineRow x (record { ins = i.view ∷ []; outs = o.view ∷ [] }))
       (law : MachineLaw first x (record { ins = i.view ∷ []; outs = o.view ∷ [] }) (i.got ∷ []) (o.sent ∷ [])) where
     abbrev LastAsks : Type 0
-    LastAsks = Moments node_row (node_law sources drains) node_asking node_moves (node.State (Machine first)) (node.State (Machine x)) (i ∷ []) (o ∷ []) 0
+    LastAsks = Moments {N = Node S D L B} node_row (node_law sources drains w.book) node_asking node_moves (node.State (Machine first)) (node.State (Machine x)) (i ∷ []) (o ∷ []) 0
 
     abbrev Still : Type 0
     Still = (EachWire IsShut (i.wire ∷ []) × EachWire IsShut (o.wire ∷ [])) ⊎ RowRests g w k n.kind n.decider (i.wire ∷ []) (o.wire ∷ [])
@@ -303,7 +303,7 @@ module _ {S D : Type 0} (sources : S → SourceState) (drains : D → DrainState
           omega (arith, holds, one, reach, count, room, more)
 
       -- one that asked for nothing asked for no more than that
-      buffers_demand : InStands i → OutStands o → ((p : ℕ) → 1 ≤ slice_index_or (i.want ∷ []) p 0 → Moments node_row (node_law sources drains) node_asking node_moves (node.State (Machine first)) (node.State (Machine x)) (i ∷ []) (o ∷ []) p)
+      buffers_demand : InStands i → OutStands o → ((p : ℕ) → 1 ≤ slice_index_or (i.want ∷ []) p 0 → Moments {N = Node S D L B} node_row (node_law sources drains w.book) node_asking node_moves (node.State (Machine first)) (node.State (Machine x)) (i ∷ []) (o ∷ []) p)
           → (d : ℕ) → d ≡ demand i.wire → d ≤ o.wire.sent + c.room
       buffers_demand si so m zero e = omega arith
       buffers_demand si so m (suc d) e = rw e (buffers_asked si so (m 0 (reached i si (omega (arith, e)))))
@@ -382,7 +382,7 @@ module _ {S D : Type 0} (sources : S → SourceState) (drains : D → DrainState
     row_holds : RecoverRow now v
     law_holds : RecoversAs first now v took gave
 
-  recover_now : (first : Recover) (x : Node S D) (v : View) (took gave : List (List Item)) → node_row x v → node_law sources drains (node.State (Recovering first)) x v took gave → RecoverNow first v took gave
+  recover_now : (first : Recover) (x : Node S D L B) (v : View) (took gave : List (List Item)) → node_row x v → node_law sources drains w.book (node.State (Recovering first)) x v took gave → RecoverNow first v took gave
   recover_now first (node.State (Recovering x)) v took gave r law = record { now = x; row_holds = r; law_holds = law }
   recover_now first x v took gave r law = absurd law
 
@@ -392,7 +392,7 @@ module _ {S D : Type 0} (sources : S → SourceState) (drains : D → DrainState
     recover_kind = recovers_first k n.kind n.decider first begins
 
     abbrev LastAsk : Type 0
-    LastAsk = Moments node_row (node_law sources drains) node_asking node_moves (node.State (Recovering first)) (node.State (Recovering x)) (i ∷ []) (o ∷ []) 0
+    LastAsk = Moments {N = Node S D L B} node_row (node_law sources drains w.book) node_asking node_moves (node.State (Recovering first)) (node.State (Recovering x)) (i ∷ []) (o ∷ []) 0
 
     -- when it last asked it had given all that came, and was asked for more
     recover_asked : InStands i → OutStands o → LastAsk → demand i.wire ≤ wanted o.wire
@@ -438,8 +438,8 @@ module _ {S D : Type 0} (sources : S → SourceState) (drains : D → DrainState
   one_picture_of (Machine first) (Machine x) i o f told r law = one_picture first x i o f.begins.as_kind.0 f.begins.as_kind.1 r law
   one_picture_of (Dropping first) (Dropping x) i o f told r law = drops_picture first x i o f.begins.as_kind (told x.moves refl) r law
   one_picture_of (Recovering first) (Recovering x) i o f told r law = recover_picture first x i o f.begins.as_kind (told x.moves refl) r law
-  one_picture_of (Obeying first) (Obeying x) i o f told r law = valve_picture sources drains g w k n first x i o f.begins.as_kind (told x.moves refl) r law
-  one_picture_of (Tripping first) (Tripping x) i o f told r law = trip_picture sources drains g w k n first x i o f.begins.as_kind r law
+  one_picture_of (Obeying first) (Obeying x) i o f told r law = valve_picture L B sources drains g w k n first x i o f.begins.as_kind (told x.moves refl) r law
+  one_picture_of (Tripping first) (Tripping x) i o f told r law = trip_picture L B sources drains g w k n first x i o f.begins.as_kind r law
   one_picture_of first x i o f told r law = absurd law
 
   -- it has one input and one output

@@ -20,7 +20,7 @@ use Rattle.stream_model.specs.Node.{World, nothing, head_of, of_work}
 use Rattle.stream_model.specs.Composed.{inputs_of, count_from, ports_of, composed, sink_outlook, IsRanked}
 use Rattle.stream_model.proofs.Compositions.{slice_get-below}
 use Rattle.stream_io.specs.State.{SourceState, DrainState}
-use Rattle.stream_model.specs.Linear.{Work, passing, work_of}
+use Rattle.stream_model.specs.Linear.{Book, Work, passing, work_of}
 use Rattle.stage_law.specs.Held.{told}
 use Rattle.stage_law.specs.Law.{TookAs}
 use Rattle.stage_linear.specs.States.{IsLinear}
@@ -87,49 +87,49 @@ not_fan_out (kind.Last name) h i = i
 not_fan_out _ h i = h
 
 -- a node of such a kind is a sink with a file
-sink_cases : {S D : Type 0} (sources : S → SourceState) (drains : D → DrainState) (k : ℕ) (n : graph.Node) (first now : Node S D) (v : View) (took gave : List (List Item))
-    → IsFileSink n.kind → FirstOf sources k n first → node_law sources drains first now v took gave → (a : Sink D) × ((b : Sink D) × ((first ≡ Writing a) × (now ≡ Writing b)))
-sink_cases sources drains k n (Writing first) (Writing now) v took gave is made law = (first, (now, (refl, refl)))
-sink_cases sources drains k n (Reading first) now v took gave is made law = let e : IsFileSink (kind.Lines made.name) = subst IsFileSink made.kind_is is in absurd e
-sink_cases sources drains k n (Making first) now v took gave is made law = absurd (not_maker n.kind is made.is_maker)
-sink_cases sources drains k n (Linear first) now v took gave is made law = absurd (not_linear n.kind is made.is_linear)
-sink_cases sources drains k n (State first) now v took gave is made law = absurd (not_stateful n.kind is made.is_state)
-sink_cases sources drains k n (FanIn first) now v took gave is made law = absurd (not_fan_in n.kind is made.is_in)
-sink_cases sources drains k n (FanOut first) now v took gave is made law = absurd (not_fan_out n.kind is made.is_out)
-sink_cases sources drains k n (Ignoring first) now v took gave is made law = let e : IsFileSink kind.Ignore = subst IsFileSink made.kind_is is in absurd e
-sink_cases sources drains k n (Entering first) now v took gave is made law = absurd made
-sink_cases sources drains k n (Leaving first) now v took gave is made law = absurd made
-sink_cases sources drains k n (Writing first) now v took gave is made law = absurd law
+sink_cases : {S D L B : Type 0} (sources : S → SourceState) (drains : D → DrainState) (book : Book) (k : ℕ) (n : graph.Node) (first now : Node S D L B) (v : View) (took gave : List (List Item))
+    → IsFileSink n.kind → FirstOf sources k n first → node_law sources drains book first now v took gave → (a : Sink D) × ((b : Sink D) × ((first ≡ Writing a) × (now ≡ Writing b)))
+sink_cases sources drains book k n (Writing first) (Writing now) v took gave is made law = (first, (now, (refl, refl)))
+sink_cases sources drains book k n (Reading first) now v took gave is made law = let e : IsFileSink (kind.Lines made.name) = subst IsFileSink made.kind_is is in absurd e
+sink_cases sources drains book k n (Making first) now v took gave is made law = absurd (not_maker n.kind is made.is_maker)
+sink_cases sources drains book k n (Linear first) now v took gave is made law = absurd (not_linear n.kind is made.is_linear)
+sink_cases sources drains book k n (State first) now v took gave is made law = absurd (not_stateful n.kind is made.is_state)
+sink_cases sources drains book k n (FanIn first) now v took gave is made law = absurd (not_fan_in n.kind is made.is_in)
+sink_cases sources drains book k n (FanOut first) now v took gave is made law = absurd (not_fan_out n.kind is made.is_out)
+sink_cases sources drains book k n (Ignoring first) now v took gave is made law = let e : IsFileSink kind.Ignore = subst IsFileSink made.kind_is is in absurd e
+sink_cases sources drains book k n (Entering first) now v took gave is made law = absurd made
+sink_cases sources drains book k n (Leaving first) now v took gave is made law = absurd made
+sink_cases sources drains book k n (Writing first) now v took gave is made law = absurd law
 
 -- and one that keeps nothing
-ignore_cases : {S D : Type 0} (sources : S → SourceState) (drains : D → DrainState) (k : ℕ) (n : graph.Node) (first now : Node S D) (v : View) (took gave : List (List Item))
-    → n.kind ≡ kind.Ignore → FirstOf sources k n first → node_law sources drains first now v took gave → (a : Ignorer) × ((b : Ignorer) × ((first ≡ Ignoring a) × (now ≡ Ignoring b)))
-ignore_cases sources drains k n (Ignoring first) (Ignoring now) v took gave is made law = (first, (now, (refl, refl)))
-ignore_cases sources drains k n (Reading first) now v took gave is made law = let e : kind.Lines made.name ≡ kind.Ignore = sym made.kind_is ∙ is in absurd cc
-ignore_cases sources drains k n (Making first) now v took gave is made law = let e : IsMaker kind.Ignore = subst IsMaker is made.is_maker in absurd e
-ignore_cases sources drains k n (Linear first) now v took gave is made law = let e : IsLinear kind.Ignore = subst IsLinear is made.is_linear in absurd e
-ignore_cases sources drains k n (State first) now v took gave is made law = let e : IsStateful kind.Ignore = subst IsStateful is made.is_state in absurd e
-ignore_cases sources drains k n (FanIn first) now v took gave is made law = let e : IsFanIn kind.Ignore = subst IsFanIn is made.is_in in absurd e
-ignore_cases sources drains k n (FanOut first) now v took gave is made law = let e : IsOut kind.Ignore = subst IsOut is made.is_out in absurd e
-ignore_cases sources drains k n (Writing first) now v took gave is made law = let e : IsFileSink kind.Ignore = subst IsFileSink is made.is_sink in absurd e
-ignore_cases sources drains k n (Entering first) now v took gave is made law = absurd made
-ignore_cases sources drains k n (Leaving first) now v took gave is made law = absurd made
-ignore_cases sources drains k n (Ignoring first) now v took gave is made law = absurd law
+ignore_cases : {S D L B : Type 0} (sources : S → SourceState) (drains : D → DrainState) (book : Book) (k : ℕ) (n : graph.Node) (first now : Node S D L B) (v : View) (took gave : List (List Item))
+    → n.kind ≡ kind.Ignore → FirstOf sources k n first → node_law sources drains book first now v took gave → (a : Ignorer) × ((b : Ignorer) × ((first ≡ Ignoring a) × (now ≡ Ignoring b)))
+ignore_cases sources drains book k n (Ignoring first) (Ignoring now) v took gave is made law = (first, (now, (refl, refl)))
+ignore_cases sources drains book k n (Reading first) now v took gave is made law = let e : kind.Lines made.name ≡ kind.Ignore = sym made.kind_is ∙ is in absurd cc
+ignore_cases sources drains book k n (Making first) now v took gave is made law = let e : IsMaker kind.Ignore = subst IsMaker is made.is_maker in absurd e
+ignore_cases sources drains book k n (Linear first) now v took gave is made law = let e : IsLinear kind.Ignore = subst IsLinear is made.is_linear in absurd e
+ignore_cases sources drains book k n (State first) now v took gave is made law = let e : IsStateful kind.Ignore = subst IsStateful is made.is_state in absurd e
+ignore_cases sources drains book k n (FanIn first) now v took gave is made law = let e : IsFanIn kind.Ignore = subst IsFanIn is made.is_in in absurd e
+ignore_cases sources drains book k n (FanOut first) now v took gave is made law = let e : IsOut kind.Ignore = subst IsOut is made.is_out in absurd e
+ignore_cases sources drains book k n (Writing first) now v took gave is made law = let e : IsFileSink kind.Ignore = subst IsFileSink is made.is_sink in absurd e
+ignore_cases sources drains book k n (Entering first) now v took gave is made law = absurd made
+ignore_cases sources drains book k n (Leaving first) now v took gave is made law = absurd made
+ignore_cases sources drains book k n (Ignoring first) now v took gave is made law = absurd law
 
-module _ {S D : Type 0} (sources : S → SourceState) (drains : D → DrainState) (g : Graph) (a : Account (Node S D)) (run : IsRun sources drains g a) where
+module _ {S D L B : Type 0} (sources : S → SourceState) (drains : D → DrainState) (book : Book) (g : Graph) (a : Account (Node S D L B)) (run : IsRun sources drains book g a) where
   -- node k, which was handed in as one and is the other now
-  abbrev At : ℕ → graph.Node → Node S D → Node S D → Type 0
-  At k n first now = KeptAs node_row (node_law sources drains) node_asking node_moves g a k n first now
+  abbrev At : ℕ → graph.Node → Node S D L B → Node S D L B → Type 0
+  At k n first now = KeptAs node_row (node_law sources drains book) node_asking node_moves g a k n first now
 
   -- it is there
   pub sink_there : (k : ℕ) (n : graph.Node) → slice_get g.nodes k ≡ Some n → IsFileSink n.kind → (first : Sink D) × ((now : Sink D) × IsSinkAt a k first now)
   sink_there k n ni is =
       let m = run.keeps.each_node k n ni in
-      let c = sink_cases sources drains k n m.first m.now (knows g a k n) (took g a k n) (gave g a k n) is (run.made k n m.first ni m.first_at) m.law_holds in
-      (c.0, (c.1.0, record { at_first = m.first_at ∙ ap (λ (y : Node S D). Some y) c.1.1.0; at_last = m.now_at ∙ ap (λ (y : Node S D). Some y) c.1.1.1 }))
+      let c = sink_cases sources drains book k n m.first m.now (knows g a k n) (took g a k n) (gave g a k n) is (run.made k n m.first ni m.first_at) m.law_holds in
+      (c.0, (c.1.0, record { at_first = m.first_at ∙ ap (λ (y : Node S D L B). Some y) c.1.1.0; at_last = m.now_at ∙ ap (λ (y : Node S D L B). Some y) c.1.1.1 }))
 
   sink_at : (k : ℕ) (n : graph.Node) (first now : Sink D) → slice_get g.nodes k ≡ Some n → IsSinkAt a k first now → At k n (Writing first) (Writing now)
-  sink_at k n first now ni at = kept_as node_row (node_law sources drains) node_asking node_moves g a run.keeps k n (Writing first) (Writing now) ni at.at_first at.at_last
+  sink_at k n first now ni at = kept_as node_row (node_law sources drains book) node_asking node_moves g a run.keeps k n (Writing first) (Writing now) ni at.at_first at.at_last
 
   -- its law
   pub sink_law : (k : ℕ) (n : graph.Node) (first now : Sink D) → slice_get g.nodes k ≡ Some n → IsSinkAt a k first now → SinkLaw drains first now (knows g a k n) (took g a k n) (gave g a k n)
@@ -138,11 +138,11 @@ module _ {S D : Type 0} (sources : S → SourceState) (drains : D → DrainState
   pub ignorer_there : (k : ℕ) (n : graph.Node) → slice_get g.nodes k ≡ Some n → n.kind ≡ kind.Ignore → (first : Ignorer) × ((now : Ignorer) × IsIgnorerAt a k first now)
   ignorer_there k n ni is =
       let m = run.keeps.each_node k n ni in
-      let c = ignore_cases sources drains k n m.first m.now (knows g a k n) (took g a k n) (gave g a k n) is (run.made k n m.first ni m.first_at) m.law_holds in
-      (c.0, (c.1.0, record { at_first = m.first_at ∙ ap (λ (y : Node S D). Some y) c.1.1.0; at_last = m.now_at ∙ ap (λ (y : Node S D). Some y) c.1.1.1 }))
+      let c = ignore_cases sources drains book k n m.first m.now (knows g a k n) (took g a k n) (gave g a k n) is (run.made k n m.first ni m.first_at) m.law_holds in
+      (c.0, (c.1.0, record { at_first = m.first_at ∙ ap (λ (y : Node S D L B). Some y) c.1.1.0; at_last = m.now_at ∙ ap (λ (y : Node S D L B). Some y) c.1.1.1 }))
 
   ignore_at : (k : ℕ) (n : graph.Node) (first now : Ignorer) → slice_get g.nodes k ≡ Some n → IsIgnorerAt a k first now → At k n (Ignoring first) (Ignoring now)
-  ignore_at k n first now ni at = kept_as node_row (node_law sources drains) node_asking node_moves g a run.keeps k n (Ignoring first) (Ignoring now) ni at.at_first at.at_last
+  ignore_at k n first now ni at = kept_as node_row (node_law sources drains book) node_asking node_moves g a run.keeps k n (Ignoring first) (Ignoring now) ni at.at_first at.at_last
 
   its_first : (k : ℕ) (n : graph.Node) (first now : Sink D) → slice_get g.nodes k ≡ Some n → IsSinkAt a k first now → FirstWriting k n.kind first
   its_first k n first now ni at = run.made k n (Writing first) ni at.at_first
@@ -205,9 +205,9 @@ module _ {S D : Type 0} (sources : S → SourceState) (drains : D → DrainState
         let one : inputs_of n.kind ≡ 1 = ap inputs_of is in
         let asked : 1 ≤ slice_index_or (ins_wanted g a k n) 0 0 = omega (arith, some, same, length-append part.before (part.last ∷ []), all, came, least, wants) in
         let e = (sink_at k n first now ni at).asks 0 (omega (arith, one)) asked in
-        let e' = subst (λ (l : List (List Item)). Earlier node_row (node_law sources drains) node_asking node_moves 0 (Writing first) (Writing now) l [] (ins_wanted g a k n) (outs_wanted g a k n) (outs_shut g a k n)) wire.came
-        (subst (λ (l : List (List Item)). Earlier node_row (node_law sources drains) node_asking node_moves 0 (Writing first) (Writing now) (took g a k n) l (ins_wanted g a k n) (outs_wanted g a k n) (outs_shut g a k n)) law.gave_is e) in
-        let few = none_behind sources drains first now fault (a.far u).wire.got (ins_wanted g a k n) (outs_wanted g a k n) (outs_shut g a k n) e' law.elems open_got in
+        let e' = subst (λ (l : List (List Item)). Earlier {N = Node S D L B} node_row (node_law sources drains book) node_asking node_moves 0 (Writing first) (Writing now) l [] (ins_wanted g a k n) (outs_wanted g a k n) (outs_shut g a k n)) wire.came
+        (subst (λ (l : List (List Item)). Earlier {N = Node S D L B} node_row (node_law sources drains book) node_asking node_moves 0 (Writing first) (Writing now) (took g a k n) l (ins_wanted g a k n) (outs_wanted g a k n) (outs_shut g a k n)) law.gave_is e) in
+        let few = none_behind sources drains book first now fault (a.far u).wire.got (ins_wanted g a k n) (outs_wanted g a k n) (outs_shut g a k n) e' law.elems open_got in
         omega (arith, few, least, wants)
 
     -- how many elements were sent to it
@@ -223,7 +223,11 @@ module _ {S D : Type 0} (sources : S → SourceState) (drains : D → DrainState
       → whole_lines (length written) written ≡ now.count
   sink_lines k n first now written ni at h l = (has_lines drains first now (knows g a k n) (took g a k n) (gave g a k n) written (sink_law k n first now ni at) h l).0
 
-  module _ (w : World) (tells : Tells sources g w a) (rank : ℕ → ℕ) (ranked : IsRanked g rank) where
+  module _ (w : World) (same : w.book ≡ book) (tells : Tells sources g w a) (rank : ℕ → ℕ) (ranked : IsRanked g rank) where
+    -- the run, by the book of this world
+    its_run : IsRun sources drains w.book g a
+    its_run = subst (λ (b : Book). IsRun sources drains b g a) (sym same) run
+
     -- the outlook of what comes to a sink
     abbrev comes_in : ℕ → Outlook
     comes_in k = head_of (ports_of g w (composed g w) k (count_from 0 1))
@@ -231,7 +235,7 @@ module _ {S D : Type 0} (sources : S → SourceState) (drains : D → DrainState
     -- what came to its input agrees with that
     input_agrees : (k : ℕ) (n : graph.Node) (l : List Tree) (e : End) → slice_get g.nodes k ≡ Some n → inputs_of n.kind ≡ 1 → took g a k n ≡ told l e ∷ [] → Agrees (comes_in k) l e
     input_agrees k n l e ni one_in is =
-        let all : AllMayPass (ports_of g w (composed g w) k (count_from 0 (inputs_of n.kind))) (told l e ∷ []) = subst (λ (h : List (List Item)). AllMayPass (ports_of g w (composed g w) k (count_from 0 (inputs_of n.kind))) h) is (every_input_of sources drains g a run w tells rank ranked k n ni) in
+        let all : AllMayPass (ports_of g w (composed g w) k (count_from 0 (inputs_of n.kind))) (told l e ∷ []) = subst (λ (h : List (List Item)). AllMayPass (ports_of g w (composed g w) k (count_from 0 (inputs_of n.kind))) h) is (every_input_of sources drains g w a its_run tells rank ranked k n ni) in
         let one : AllMayPass (ports_of g w (composed g w) k (count_from 0 1)) (told l e ∷ []) = subst (λ (c : ℕ). AllMayPass (ports_of g w (composed g w) k (count_from 0 c)) (told l e ∷ [])) one_in all in
         one.0 l e refl
 

@@ -29,34 +29,35 @@ use Rattle.run_laws.specs.Runs.{IsRun}
 use Rattle.run_laws.specs.Reads.{IsSourceAt, SentLines, GivesTexts}
 use Rattle.run_laws.proofs.ReadingAhead.{sent_lines}
 use Rattle.run_laws.proofs.Readings.{one_port}
+use Rattle.stream_model.specs.Linear.{Book}
 
 -- a node of a source's kind is a source
-source_cases : {S D : Type 0} (sources : S → SourceState) (drains : D → DrainState) (k : ℕ) (n : graph.Node) (name : List ℕ) (first now : Node S D) (v : View) (took gave : List (List Item))
-    → n.kind ≡ kind.Lines name → FirstOf sources k n first → node_law sources drains first now v took gave → (a : Lines S) × ((b : Lines S) × ((first ≡ Reading a) × (now ≡ Reading b)))
-source_cases sources drains k n name (Reading first) (Reading now) v took gave is made law = (first, (now, (refl, refl)))
-source_cases sources drains k n name (Making first) now v took gave is made law = let e : IsMaker (kind.Lines name) = subst IsMaker is made.is_maker in absurd e
-source_cases sources drains k n name (Writing first) now v took gave is made law = let e : IsFileSink (kind.Lines name) = subst IsFileSink is made.is_sink in absurd e
-source_cases sources drains k n name (Ignoring first) now v took gave is made law = let e : kind.Ignore ≡ kind.Lines name = sym made.kind_is ∙ is in absurd cc
-source_cases sources drains k n name (Linear first) now v took gave is made law = let e : IsLinear (kind.Lines name) = subst IsLinear is made.is_linear in absurd e
-source_cases sources drains k n name (State first) now v took gave is made law = let e : IsStateful (kind.Lines name) = subst IsStateful is made.is_state in absurd e
-source_cases sources drains k n name (FanIn first) now v took gave is made law = let e : IsFanIn (kind.Lines name) = subst IsFanIn is made.is_in in absurd e
-source_cases sources drains k n name (FanOut first) now v took gave is made law = let e : IsOut (kind.Lines name) = subst IsOut is made.is_out in absurd e
-source_cases sources drains k n name (Entering first) now v took gave is made law = absurd made
-source_cases sources drains k n name (Leaving first) now v took gave is made law = absurd made
-source_cases sources drains k n name (Reading first) now v took gave is made law = absurd law
+source_cases : {S D L B : Type 0} (sources : S → SourceState) (drains : D → DrainState) (book : Book) (k : ℕ) (n : graph.Node) (name : List ℕ) (first now : Node S D L B) (v : View) (took gave : List (List Item))
+    → n.kind ≡ kind.Lines name → FirstOf sources k n first → node_law sources drains book first now v took gave → (a : Lines S) × ((b : Lines S) × ((first ≡ Reading a) × (now ≡ Reading b)))
+source_cases sources drains book k n name (Reading first) (Reading now) v took gave is made law = (first, (now, (refl, refl)))
+source_cases sources drains book k n name (Making first) now v took gave is made law = let e : IsMaker (kind.Lines name) = subst IsMaker is made.is_maker in absurd e
+source_cases sources drains book k n name (Writing first) now v took gave is made law = let e : IsFileSink (kind.Lines name) = subst IsFileSink is made.is_sink in absurd e
+source_cases sources drains book k n name (Ignoring first) now v took gave is made law = let e : kind.Ignore ≡ kind.Lines name = sym made.kind_is ∙ is in absurd cc
+source_cases sources drains book k n name (Linear first) now v took gave is made law = let e : IsLinear (kind.Lines name) = subst IsLinear is made.is_linear in absurd e
+source_cases sources drains book k n name (State first) now v took gave is made law = let e : IsStateful (kind.Lines name) = subst IsStateful is made.is_state in absurd e
+source_cases sources drains book k n name (FanIn first) now v took gave is made law = let e : IsFanIn (kind.Lines name) = subst IsFanIn is made.is_in in absurd e
+source_cases sources drains book k n name (FanOut first) now v took gave is made law = let e : IsOut (kind.Lines name) = subst IsOut is made.is_out in absurd e
+source_cases sources drains book k n name (Entering first) now v took gave is made law = absurd made
+source_cases sources drains book k n name (Leaving first) now v took gave is made law = absurd made
+source_cases sources drains book k n name (Reading first) now v took gave is made law = absurd law
 
-module _ {S D : Type 0} (sources : S → SourceState) (drains : D → DrainState) (g : Graph) (a : Account (Node S D)) (run : IsRun sources drains g a) where
+module _ {S D L B : Type 0} (sources : S → SourceState) (drains : D → DrainState) (book : Book) (g : Graph) (a : Account (Node S D L B)) (run : IsRun sources drains book g a) where
   -- it is there
   pub source_there : (k : ℕ) (n : graph.Node) (name : List ℕ) → slice_get g.nodes k ≡ Some n → n.kind ≡ kind.Lines name → (first : Lines S) × ((now : Lines S) × IsSourceAt a k first now)
   source_there k n name ni is =
       let m = run.keeps.each_node k n ni in
-      let c = source_cases sources drains k n name m.first m.now (knows g a k n) (took g a k n) (gave g a k n) is (run.made k n m.first ni m.first_at) m.law_holds in
-      (c.0, (c.1.0, record { at_first = m.first_at ∙ ap (λ (y : Node S D). Some y) c.1.1.0; at_last = m.now_at ∙ ap (λ (y : Node S D). Some y) c.1.1.1 }))
+      let c = source_cases sources drains book k n name m.first m.now (knows g a k n) (took g a k n) (gave g a k n) is (run.made k n m.first ni m.first_at) m.law_holds in
+      (c.0, (c.1.0, record { at_first = m.first_at ∙ ap (λ (y : Node S D L B). Some y) c.1.1.0; at_last = m.now_at ∙ ap (λ (y : Node S D L B). Some y) c.1.1.1 }))
 
   pub every_source : (k : ℕ) (n : graph.Node) (first now : Lines S) (u : ℕ) (v : Wire) (bytes : List ℕ) → slice_get g.nodes k ≡ Some n → IsSourceAt a k first now → slice_get g.wires u ≡ Some v → v.from ≡ k
       → (sources first.reader.source).whole ≡ Some bytes → SentLines bytes (sources first.reader.source) (sources now.reader.source) (a.near u).wire.sent
   every_source k n first now u v bytes ni at ui from whole =
-      let m = kept_as node_row (node_law sources drains) node_asking node_moves g a run.keeps k n (Reading first) (Reading now) ni at.at_first at.at_last in
+      let m = kept_as node_row (node_law sources drains book) node_asking node_moves g a run.keeps k n (Reading first) (Reading now) ni at.at_first at.at_last in
       let its : FirstReading sources k n.kind first = run.made k n (Reading first) ni at.at_first in
       let s = run.joined.source u v ui in
       let same : s.0 ≡ n = some_same s.0 n (sym s.1 ∙ subst (λ (j : ℕ). slice_get g.nodes j ≡ Some n) (sym from) ni) in
@@ -70,7 +71,7 @@ module _ {S D : Type 0} (sources : S → SourceState) (drains : D → DrainState
   pub source_texts : (u : ℕ) (v : Wire) (n : graph.Node) (name : List ℕ) → slice_get g.wires u ≡ Some v → slice_get g.nodes v.from ≡ Some n → n.kind ≡ kind.Lines name → GivesTexts (a.near u).wire.sent
   source_texts u v n name ui ni is =
       let at = source_there v.from n name ni is in
-      let m = kept_as node_row (node_law sources drains) node_asking node_moves g a run.keeps v.from n (Reading at.0) (Reading at.1.0) ni at.1.1.at_first at.1.1.at_last in
+      let m = kept_as node_row (node_law sources drains book) node_asking node_moves g a run.keeps v.from n (Reading at.0) (Reading at.1.0) ni at.1.1.at_first at.1.1.at_last in
       let law : LinesLaw sources at.0 at.1.0 (knows g a v.from n) (took g a v.from n) (gave g a v.from n) = m.law_holds in
       let s = run.joined.source u v ui in
       let same : s.0 ≡ n = some_same s.0 n (sym s.1 ∙ ni) in

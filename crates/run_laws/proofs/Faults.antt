@@ -23,6 +23,7 @@ use Rattle.run_account.specs.Account.{Earlier}
 use Rattle.run_account.proofs.Coming.{elements_told}
 use Rattle.run_account.proofs.Nodes.{begins_one}
 use Rattle.run_laws.proofs.Counting.{fault_waits}
+use Rattle.stream_model.specs.Linear.{Book}
 
 -- a history has no more elements than items, and as many where no end passed
 elements_most : (s : List Item) → elements s ≤ length s
@@ -46,12 +47,12 @@ no_wait b [] outs r e = absurd r
 no_wait b (x ∷ []) outs r e = fault_waits b x outs r e
 no_wait b (x ∷ y ∷ ins) outs r e = absurd r
 
-module _ {S D : Type 0} (sources : S → SourceState) (drains : D → DrainState) (first now : Sink D) (fault : now.end ≡ WriteFault) (got : List Item) (ins_want outs_want : List ℕ) (outs_closed : List Bool)
-    (e : Earlier {N = Node S D} node_row (node_law sources drains) node_asking node_moves 0 (Writing first) (Writing now) (got ∷ []) [] ins_want outs_want outs_closed) where
+module _ {S D L B : Type 0} (sources : S → SourceState) (drains : D → DrainState) (book : Book) (first now : Sink D) (fault : now.end ≡ WriteFault) (got : List Item) (ins_want outs_want : List ℕ) (outs_closed : List Bool)
+    (e : Earlier {N = Node S D L B} node_row (node_law sources drains book) node_asking node_moves 0 (Writing first) (Writing now) (got ∷ []) [] ins_want outs_want outs_closed) where
   -- when it asked last it stood otherwise, since it waited
   stood_otherwise : e.had ≡ got ∷ [] → ⊥
   stood_otherwise same =
-      let row : sink_row now e.knew = subst (λ (x : Node S D). node_row x e.knew) (sym (e.stays refl refl same)) e.row_held in
+      let row : sink_row now e.knew = subst (λ (x : Node S D L B). node_row x e.knew) (sym (e.stays refl refl same)) e.row_held in
       let here : OneInOf (sink_row_in now.started WriteFault) e.knew.ins e.knew.outs = rw fault at row in
       no_wait now.started e.knew.ins e.knew.outs here e.waited
 

@@ -44,12 +44,12 @@ state_hears book (Tripping first) (Tripping now) v took gave law p h at =
     let its = law.law book Stop in heard_one v took law.took_list law.took_is (record { list = its.in_list; end = its.in_end; is = its.took_is; as_seen = its.took_as }) p h at
 state_hears book first now v took gave law p h at = absurd law
 
-module _ {S D : Type 0} (sources : S → SourceState) (drains : D → DrainState) (book : Book) (k : ℕ) (n : graph.Node) where
-  pub node_hears : (first now : Node S D) (v : View) (took gave : List (List Item)) → FirstOf sources k n first → node_law sources drains first now v took gave → HearsAll v took
+module _ {S D L B : Type 0} (sources : S → SourceState) (drains : D → DrainState) (book : Book) (k : ℕ) (n : graph.Node) where
+  pub node_hears : (first now : Node S D L B) (v : View) (took gave : List (List Item)) → FirstOf sources k n first → node_law sources drains book first now v took gave → HearsAll v took
   node_hears (Reading first) (Reading now) v took gave made law p h at = absurd (none_at took p h law.took_is at)
   node_hears (Making first) (Making now) v took gave made law p h at = absurd (none_at took p h law.took_is at)
   node_hears (Linear first) (Linear now) v took gave made law p h at =
-      let its = law.law book in heard_one v took law.took_list law.took_is (record { list = its.in_list; end = its.in_end; is = its.took_is; as_seen = its.took_as }) p h at
+      let its = law.law in heard_one v took law.took_list law.took_is (record { list = its.in_list; end = its.in_end; is = its.took_is; as_seen = its.took_as }) p h at
   node_hears (State first) (State now) v took gave made law p h at = state_hears book first now v took gave law p h at
   node_hears (FanIn first) (FanIn now) v took gave made law p h at = in_hears first now v took gave law p h at
   node_hears (FanOut first) (FanOut now) v took gave made law p h at = out_hears book k n.kind first now v took gave made.begins law p h at

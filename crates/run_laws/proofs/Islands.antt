@@ -24,6 +24,7 @@ use Rattle.run_account.proofs.Joining.{all_keep, all_still}
 use Rattle.run_account.proofs.Reading.{found_both}
 use Rattle.run_laws.specs.Made.{FirstOf, Materializes}
 use Rattle.run_laws.specs.Runs.{IsRun}
+use Rattle.stream_model.specs.Linear.{Book}
 
 fused_or_lane : {lane : Option ℕ} {size : ℕ} → lane ≡ None → lane ≡ Some size → ⊥
 fused_or_lane a b = cc
@@ -51,20 +52,20 @@ counts_same a i (v ∷ ws) (c ∷ cells) fused e f =
     rw (is_fused, here, rest) refl
 
 -- any number of islands, with lanes
-module _ {S D : Type 0} (sources : S → SourceState) (drains : D → DrainState) (g : Graph) (nets : ℕ → Net (Node S D)) (seats : Seats) (asked : ℕ → ℕ) (covers : Covers g nets seats)
-    (settled : (b : ℕ) → Settled node_row (node_law sources drains) node_asking node_moves (nets b)) where
-  pub all_run : IsJoined g → LanesKeep g nets seats asked → AllMade (FirstOf sources) g (joined nets seats asked) → IsRun sources drains g (joined nets seats asked)
+module _ {S D L B : Type 0} (sources : S → SourceState) (drains : D → DrainState) (book : Book) (g : Graph) (nets : ℕ → Net (Node S D L B)) (seats : Seats) (asked : ℕ → ℕ) (covers : Covers g nets seats)
+    (settled : (b : ℕ) → Settled node_row (node_law sources drains book) node_asking node_moves (nets b)) where
+  pub all_run : IsJoined g → LanesKeep g nets seats asked → AllMade (FirstOf sources) g (joined nets seats asked) → IsRun sources drains book g (joined nets seats asked)
   all_run is_joined lanes made = record {
     joined = is_joined;
-    keeps = all_keep node_row (node_law sources drains) node_asking node_moves g nets seats is_joined covers asked settled lanes;
+    keeps = all_keep node_row (node_law sources drains book) node_asking node_moves g nets seats is_joined covers asked settled lanes;
     made = made;
   }
 
   pub all_rest : ((b : ℕ) → (nets b).queue ≡ []) → LanesRest g nets seats asked → IsStill g (joined nets seats asked)
-  all_rest = all_still node_row (node_law sources drains) node_asking node_moves g nets seats covers asked settled
+  all_rest = all_still node_row (node_law sources drains book) node_asking node_moves g nets seats covers asked settled
 
 -- one island, in which no wire is a lane
-module _ {S D : Type 0} (sources : S → SourceState) (drains : D → DrainState) (g : Graph) (net : Net (Node S D)) (settled : Settled node_row (node_law sources drains) node_asking node_moves net) (made : Materializes sources g net.firsts net.ends) where
+module _ {S D L B : Type 0} (sources : S → SourceState) (drains : D → DrainState) (book : Book) (g : Graph) (net : Net (Node S D L B)) (settled : Settled node_row (node_law sources drains book) node_asking node_moves net) (made : Materializes sources g net.firsts net.ends) where
   within : (k : ℕ) (n : graph.Node) → slice_get g.nodes k ≡ Some n → k < length net.nodes
   within k n e = let h = slice_get-below g.nodes k n e in let a = settled.each_first in let b = made.nodes in omega (arith, h, a, b)
 
@@ -144,8 +145,8 @@ module _ {S D : Type 0} (sources : S → SourceState) (drains : D → DrainState
     no_lane : (u : ℕ) (v : Wire) → slice_get g.wires u ≡ Some v → v.lane ≡ None
     no_lane u v e = (made.each_wire u v e).no_lane
 
-    pub island_run : IsRun sources drains g (account_of net)
-    island_run = all_run sources drains g (λ (b : ℕ). net) one_seat (λ u. 0) covers (λ (b : ℕ). settled) is_joined (λ u v size e lane. absurd (fused_or_lane (no_lane u v e) lane)) made.each_node
+    pub island_run : IsRun sources drains book g (account_of net)
+    island_run = all_run sources drains book g (λ (b : ℕ). net) one_seat (λ u. 0) covers (λ (b : ℕ). settled) is_joined (λ u v size e lane. absurd (fused_or_lane (no_lane u v e) lane)) made.each_node
 
   pub island_still : net.queue ≡ [] → IsStill g (account_of net)
   island_still empty = record { near = λ u h. still u (wire_within u h); far = λ u h. still u (wire_within u h); quiet = λ u v e. rw (made.each_wire u v e).no_lane tt }

@@ -2,7 +2,7 @@
 -- their pictures ask of it.
 use Rattle.std.proofs.Common.{◌≡◌, Some, refl, subst}
 use Rattle.stream_model.specs.declared.kind.Kind.{Kind}
-use Rattle.stream_model.specs.declared.kind.Kind.TheVariants.{Map, Filter, FilterNot, Take, TakeWhile, Drop, DropWhile, Limit, MapConcat, Grouped, Fold, Reduce, Scan}
+use Rattle.stream_model.specs.declared.kind.Kind.TheVariants.{Map, Filter, FilterNot, Take, TakeWhile, Drop, DropWhile, Limit, MapConcat, Plug, Grouped, Fold, Reduce, Scan}
 use Rattle.stream_model.specs.Linear.{Work, work_of}
 use Rattle.stage_linear.specs.States.{IsLinear}
 use Rattle.run_account.specs.KindLaws.{IsOneMachine}
@@ -21,6 +21,7 @@ linear_machine (Drop n) wk h e = subst (λ (x : Work). IsOneMachine (Drop n) x) 
 linear_machine (DropWhile f) wk h e = subst (λ (x : Work). IsOneMachine (DropWhile f) x) (some_is _ wk e) (record { no_sink = refl; outlook = λ g w k d os q. refl; no_moves = λ g w k os. refl; lawful = λ g w k d is os r. r; rests = λ g w k d is os r. r })
 linear_machine (Limit n) wk h e = subst (λ (x : Work). IsOneMachine (Limit n) x) (some_is _ wk e) (record { no_sink = refl; outlook = λ g w k d os q. refl; no_moves = λ g w k os. refl; lawful = λ g w k d is os r. r; rests = λ g w k d is os r. r })
 linear_machine (MapConcat f) wk h e = subst (λ (x : Work). IsOneMachine (MapConcat f) x) (some_is _ wk e) (record { no_sink = refl; outlook = λ g w k d os q. refl; no_moves = λ g w k os. refl; lawful = λ g w k d is os r. r; rests = λ g w k d is os r. r })
+linear_machine (Plug name) wk h e = subst (λ (x : Work). IsOneMachine (Plug name) x) (some_is _ wk e) (record { no_sink = refl; outlook = λ g w k d os q. refl; no_moves = λ g w k os. refl; lawful = λ g w k d is os r. r; rests = λ g w k d is os r. r })
 linear_machine _ wk h e = absurd h
 
 -- the stages with state that keep a group or a value

@@ -30,7 +30,7 @@ one_input (o ∷ x ∷ os) h a = absurd a.1
 pub begins_so : (a b : Run Stage Tree) → owing a ≡ owing b → a ≡ b
 begins_so a b h = cc
 
-module _ (g : Graph) (w : World) (k : ℕ) (n : graph.Node) (first now : Logic) (v : View) (took gave : List (List Item)) (made : FirstLinear k n first) (law : LinearLaw first now v took gave) where
+module _ (g : Graph) (w : World) (k : ℕ) (n : graph.Node) (first now : Logic) (v : View) (took gave : List (List Item)) (made : FirstLinear k n first) (law : LinearLaw w.book first now v took gave) where
   machine : IsOneMachine n.kind first.stage.work
   machine = linear_machine n.kind first.stage.work made.is_linear made.begins.work
 
@@ -38,10 +38,10 @@ module _ (g : Graph) (w : World) (k : ℕ) (n : graph.Node) (first now : Logic) 
   stage_gives os a p h at =
       let one = one_input os law.took_list (rw law.took_is at a) in
       let here : slice_get (law.gave_list ∷ []) p ≡ Some h = rw law.gave_is at at in
-      let its : Law (linear w.book first.stage.work) law.start (held now) (in_at v 0) (out_at v 0) law.took_list law.gave_list = law.law w.book in
-      let start : law.start ≡ begin_work k n.decider first.stage.work = begins_so law.start (begin_work k n.decider first.stage.work) (sym law.owes ∙ made.begins.owes) in
+      let its : Law (linear w.book first.stage.work) law.start (held w.book now) (in_at v 0) (out_at v 0) law.took_list law.gave_list = law.law in
+      let start : law.start ≡ begin_work k n.decider first.stage.work = begins_so law.start (begin_work k n.decider first.stage.work) (sym law.owes ∙ made.begins.owes w.book) in
       let agrees : Agrees (output (linear w.book first.stage.work) law.start one.0) its.out_list its.out_end =
-      stage_agrees (linear w.book first.stage.work) law.start one.0 (held now) (in_at v 0) (out_at v 0) law.took_list law.gave_list its (one.1.1 its.in_list its.in_end its.took_is) in
+      stage_agrees (linear w.book first.stage.work) law.start one.0 (held w.book now) (in_at v 0) (out_at v 0) law.took_list law.gave_list its (one.1.1 its.in_list its.in_end its.took_is) in
       record {
         list = its.out_list;
         end = its.out_end;

@@ -20,6 +20,7 @@ use Rattle.run_laws.specs.Runs.{IsRun}
 use Rattle.run_laws.specs.Sinks.{IsSinkAt, SinkWrote}
 use Rattle.run_laws.proofs.AgreeingSinks.{sink_law, its_list}
 use Rattle.run_laws.proofs.Sinks.{sink_tells}
+use Rattle.stream_model.specs.Linear.{Book}
 
 -- a drain that tells that it holds these bytes, and else tells the same
 abbrev holding : DrainState → List ℕ → DrainState
@@ -72,11 +73,11 @@ module _ {D : Type 0} (drains : D → DrainState) (first now : Sink D) (v : View
     stands = its_bytes.stands;
   }
 
-module _ {S D : Type 0} (sources : S → SourceState) (drains : D → DrainState) (g : Graph) (a : Account (Node S D)) (run : IsRun sources drains g a) where
-  pub sink_wrote : (k : ℕ) (n : graph.Node) (first now : Sink D) → slice_get g.nodes k ≡ Some n → IsSinkAt a k first now → SinkWrote sources drains g a k n first now
+module _ {S D L B : Type 0} (sources : S → SourceState) (drains : D → DrainState) (book : Book) (g : Graph) (a : Account (Node S D L B)) (run : IsRun sources drains book g a) where
+  pub sink_wrote : (k : ℕ) (n : graph.Node) (first now : Sink D) → slice_get g.nodes k ≡ Some n → IsSinkAt a k first now → SinkWrote sources drains book g a k n first now
   unfolding law_over
   sink_wrote k n first now ni at =
-      let law = sink_law sources drains g a run k n first now ni at in
+      let law = sink_law sources drains book g a run k n first now ni at in
       let its = its_bytes drains first now (knows g a k n) (took g a k n) (gave g a k n) law in
       let then = law_over drains first now (knows g a k n) (took g a k n) (gave g a k n) law in
       let before = over first (holding (drains first.drain) []) in
@@ -85,7 +86,7 @@ module _ {S D : Type 0} (sources : S → SourceState) (drains : D → DrainState
         written = its.bytes;
         lines_are = (has_lines (λ (s : DrainState). s) before after (knows g a k n) (took g a k n) (gave g a k n) its.bytes then refl refl).0;
         holds = its.holds;
-        tells = λ w rank tells ranked.
+        tells = λ w rank same tells ranked.
             sink_tells (λ (s : DrainState). s) before after (knows g a k n) (took g a k n) (gave g a k n) then (sink_outlook g w k n)
-            (its_list sources drains g a run w tells rank ranked k n first now ni at) its.bytes refl refl;
+            (its_list sources drains book g a run w same tells rank ranked k n first now ni at) its.bytes refl refl;
       }

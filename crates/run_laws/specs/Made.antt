@@ -72,7 +72,7 @@ pub record FirstIgnoring (k : ℕ) (shape : Kind) (x : Ignorer) : Type 0 where
   pub end : x.end ≡ Unended
 
 -- node k of the blueprint, as it is handed in; the ends of a lane are no nodes of it
-abbrev pub FirstOf : {S D : Type 0} → (S → SourceState) → ℕ → graph.Node → Node S D → Type 0
+abbrev pub FirstOf : {S D L B : Type 0} → (S → SourceState) → ℕ → graph.Node → Node S D L B → Type 0
 FirstOf sources k n (Reading x) = FirstReading sources k n.kind x
 FirstOf sources k n (Making x) = FirstMaking k n.kind x
 FirstOf sources k n (Linear x) = FirstLinear k n x
@@ -93,8 +93,8 @@ pub record IsFused (v : Wire) (e : Ends) : Type 0 where
   pub no_lane : v.lane ≡ None
 
 -- the nodes, as they are handed in, and the wires' ends are those of the blueprint, each at its place
-pub record Materializes {S D : Type 0} (sources : S → SourceState) (g : Graph) (firsts : List (Node S D)) (ends : List Ends) : Type 0 where
+pub record Materializes {S D L B : Type 0} (sources : S → SourceState) (g : Graph) (firsts : List (Node S D L B)) (ends : List Ends) : Type 0 where
   pub nodes : length firsts ≡ length g.nodes
   pub wires : length ends ≡ length g.wires
-  pub each_node : (k : ℕ) (n : graph.Node) (x : Node S D) → slice_get g.nodes k ≡ Some n → slice_get firsts k ≡ Some x → FirstOf sources k n x
+  pub each_node : (k : ℕ) (n : graph.Node) (x : Node S D L B) → slice_get g.nodes k ≡ Some n → slice_get firsts k ≡ Some x → FirstOf sources k n x
   pub each_wire : (i : ℕ) (v : Wire) → slice_get g.wires i ≡ Some v → IsFused v (end_at ends i)

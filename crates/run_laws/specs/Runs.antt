@@ -6,9 +6,11 @@ use Rattle.nodes.specs.declared.node.Node.{Node}
 use Rattle.nodes.specs.Nodes.{node_row, node_law, node_asking, node_moves}
 use Rattle.run_account.specs.Account.{Account, KeepsLaws, AllMade}
 use Rattle.run_laws.specs.Made.{FirstOf}
+use Rattle.stream_model.specs.Linear.{Book}
 
--- The ports of the blueprint are joined; its nodes and wires keep their laws; and its nodes were handed in as it names them.
-pub record IsRun {S D : Type 0} (sources : S → SourceState) (drains : D → DrainState) (g : Graph) (a : Account (Node S D)) : Type 0 where
+-- The ports of the blueprint are joined; its nodes and wires keep their laws, by this book of plugs; and its nodes were handed in
+-- as it names them.
+pub record IsRun {S D L B : Type 0} (sources : S → SourceState) (drains : D → DrainState) (book : Book) (g : Graph) (a : Account (Node S D L B)) : Type 0 where
   pub joined : IsJoined g
-  pub keeps : KeepsLaws node_row (node_law sources drains) node_asking node_moves g a
+  pub keeps : KeepsLaws node_row (node_law sources drains book) node_asking node_moves g a
   pub made : AllMade (FirstOf sources) g a

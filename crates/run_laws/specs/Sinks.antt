@@ -8,6 +8,7 @@ use Rattle.stream_io.specs.State.{SourceState, DrainState}
 use Rattle.stream_model.specs.Composed.{sink_outlook, IsRanked}
 use Rattle.stream_model.specs.Graph.{Graph}
 use Rattle.stream_model.specs.Graph as graph
+use Rattle.stream_model.specs.Linear.{Book}
 use Rattle.stream_model.specs.Node.{World}
 use Rattle.stream_model.specs.Sources.{whole_lines}
 use Rattle.stream_model.specs.Outlook.{Outlook, End, unended, ended, failed, Agrees}
@@ -49,18 +50,18 @@ SentTo Unended sent count = (count ≤ sent) × (sent ≤ count + 1)
 SentTo WriteFault sent count = sent ≡ count + 1
 
 -- a sink with a file is node k, as it was handed in and now
-pub record IsSinkAt {S D : Type 0} (a : Account (Node S D)) (k : ℕ) (first now : Sink D) : Type 0 where
+pub record IsSinkAt {S D L B : Type 0} (a : Account (Node S D L B)) (k : ℕ) (first now : Sink D) : Type 0 where
   pub at_first : a.firsts k ≡ Some (Writing first)
   pub at_last : a.nodes k ≡ Some (Writing now)
 
 -- What a sink with a file wrote, whether its drain tells what it holds or not: so many whole lines as it counts, and bytes that its
--- outlook lets it write, by every world that tells of the files of the sources. A drain that was empty at first, and tells what it
--- holds, holds just those bytes.
-pub record SinkWrote {S D : Type 0} (sources : S → SourceState) (drains : D → DrainState) (g : Graph) (a : Account (Node S D)) (k : ℕ) (n : graph.Node) (first now : Sink D) : Type 0 where
+-- outlook lets it write, by every world of this book of plugs that tells of the files of the sources. A drain that was empty at
+-- first, and tells what it holds, holds just those bytes.
+pub record SinkWrote {S D L B : Type 0} (sources : S → SourceState) (drains : D → DrainState) (book : Book) (g : Graph) (a : Account (Node S D L B)) (k : ℕ) (n : graph.Node) (first now : Sink D) : Type 0 where
   pub written : List ℕ
   pub lines_are : whole_lines (length written) written ≡ now.count
   pub holds : (drains first.drain).holds ≡ Some [] → (drains now.drain).holds ≡ Some written
-  pub tells : (w : World) (rank : ℕ → ℕ) → Tells sources g w a → IsRanked g rank → SinkTells (sink_outlook g w k n) now.end written
+  pub tells : (w : World) (rank : ℕ → ℕ) → w.book ≡ book → Tells sources g w a → IsRanked g rank → SinkTells (sink_outlook g w k n) now.end written
 
 -- So many elements were sent to a sink that keeps nothing: they are a list that may pass and stand so; while it waits, the
 -- list that it took, and one element more at most.
@@ -71,6 +72,6 @@ IgnoreTells o Unended sent = (list : List Tree) × (Agrees o list unended × ((l
 IgnoreTells o WriteFault sent = ⊥
 
 -- a sink that keeps nothing is node k, as it was handed in and now
-pub record IsIgnorerAt {S D : Type 0} (a : Account (Node S D)) (k : ℕ) (first now : Ignorer) : Type 0 where
+pub record IsIgnorerAt {S D L B : Type 0} (a : Account (Node S D L B)) (k : ℕ) (first now : Ignorer) : Type 0 where
   pub at_first : a.firsts k ≡ Some (Ignoring first)
   pub at_last : a.nodes k ≡ Some (Ignoring now)

@@ -34,14 +34,14 @@ rules_join plugs chains nodes g passes =
     subst (λ (ns : List graph.Node). IsJoined (record { nodes = ns; wires = g.wires; chains = g.chains })) (sym passes.nodes_are)
     (joined nodes g.wires g.chains passes.no_missing passes.no_twice passes.no_open)
 
-module _ {S D : Type 0} (sources : S → SourceState) (drains : D → DrainState) (plugs : List PlugHead) (chains : List ChainDecl) (nodes : List Node) (g : Graph) (w : World) (rank : ℕ → ℕ) where
-  pub run_sends : (a : Account (stage.Node S D)) → IsRun sources drains g a → TellsPicks w a → PassesRules plugs chains nodes g → KeepsPlugTypes plugs w.book → IsRanked g rank
+module _ {S D L B : Type 0} (sources : S → SourceState) (drains : D → DrainState) (plugs : List PlugHead) (chains : List ChainDecl) (nodes : List Node) (g : Graph) (w : World) (rank : ℕ → ℕ) where
+  pub run_sends : (a : Account (stage.Node S D L B)) → IsRun sources drains w.book g a → TellsPicks w a → PassesRules plugs chains nodes g → KeepsPlugTypes plugs w.book → IsRanked g rank
       → (i : ℕ) (v : Wire) → slice_get g.wires i ≡ Some v → SendsItsType plugs chains nodes g w i v (a.near i).wire.sent
   run_sends a run chose passes keeps ranked =
-      every_wire_sends plugs chains nodes g w rank ranked passes keeps (λ u. (a.near u).wire.sent) (source_texts sources drains g a run) (given_of sources drains g a run w chose)
+      every_wire_sends plugs chains nodes g w rank ranked passes keeps (λ u. (a.near u).wire.sent) (source_texts sources drains w.book g a run) (given_of sources drains g w a run chose)
 
-  pub island_sends : (net : Net (stage.Node S D)) → Settled node_row (node_law sources drains) node_asking node_moves net → Materializes sources g net.firsts net.ends → TellsPicks w (account_of net)
+  pub island_sends : (net : Net (stage.Node S D L B)) → Settled node_row (node_law sources drains w.book) node_asking node_moves net → Materializes sources g net.firsts net.ends → TellsPicks w (account_of net)
       → PassesRules plugs chains nodes g → KeepsPlugTypes plugs w.book → IsRanked g rank
       → (i : ℕ) (v : Wire) → slice_get g.wires i ≡ Some v → SendsItsType plugs chains nodes g w i v (wire_at net i).wire.sent
   island_sends net settled made chose passes keeps ranked =
-      run_sends (account_of net) (island_run sources drains g net settled made (rules_join plugs chains nodes g passes)) chose passes keeps ranked
+      run_sends (account_of net) (island_run sources drains w.book g net settled made (rules_join plugs chains nodes g passes)) chose passes keeps ranked

@@ -43,6 +43,8 @@ ghost use Rattle.type_laws.specs.Plugs.{KeepsPlugTypes};
 ghost use Rattle.type_laws.specs.Sent.{SendsItsType};
 ghost use Rattle.type_laws.specs.Types.{HasType, AllTyped, OutlooksTyped, Takes};
 
+use plug_logic::book::PlugBook;
+use plug_logic::logic::Logic;
 use stream_io::outside::{Drain, Source};
 
 /// Each function gives an element of the type that its table says, where it has a value for an element of a type that it
@@ -94,12 +96,13 @@ pub fn every_list_is_typed()
 {}
 
 /// What was sent on each wire of such a graph, at any moment of its run, has only elements of the type that is settled for the
-/// wire, whatever the folder tells of its files, where the world tells what the stages chose (`run`); so it is of an island that was made of it (`island`).
-pub fn every_wire_carries_its_type<S: Source, D: Drain>()
-    ensures run { (plugs : List PlugHead) (chains : List ChainDecl) (nodes : List Node) (g : Graph) (w : World) (rank : ℕ → ℕ) (a : Account (stage.Node S D)) → IsRun S.state D.state g a → TellsPicks w a
+/// wire, whatever the folder tells of its files, where the world tells what the stages chose and its book what the plugs of the
+/// run give (`run`); so it is of an island that was made of it (`island`).
+pub fn every_wire_carries_its_type<S: Source, D: Drain, L: Logic, B: PlugBook>()
+    ensures run { (plugs : List PlugHead) (chains : List ChainDecl) (nodes : List Node) (g : Graph) (w : World) (rank : ℕ → ℕ) (a : Account (stage.Node S D L B)) → IsRun S.state D.state w.book g a → TellsPicks w a
         → PassesRules plugs chains nodes g → KeepsPlugTypes plugs w.book → IsRanked g rank
         → (i : ℕ) (v : Wire) → slice_get g.wires i ≡ Some v → SendsItsType plugs chains nodes g w i v (a.near i).wire.sent }
-    ensures island { (plugs : List PlugHead) (chains : List ChainDecl) (nodes : List Node) (g : Graph) (w : World) (rank : ℕ → ℕ) (net : Net (stage.Node S D)) → Settled node_row (node_law S.state D.state) node_asking node_moves net
+    ensures island { (plugs : List PlugHead) (chains : List ChainDecl) (nodes : List Node) (g : Graph) (w : World) (rank : ℕ → ℕ) (net : Net (stage.Node S D L B)) → Settled node_row (node_law S.state D.state w.book) node_asking node_moves net
         → Materializes S.state g net.firsts net.ends → TellsPicks w (account_of net) → PassesRules plugs chains nodes g → KeepsPlugTypes plugs w.book → IsRanked g rank
         → (i : ℕ) (v : Wire) → slice_get g.wires i ≡ Some v → SendsItsType plugs chains nodes g w i v (wire_at net i).wire.sent }
 {}

@@ -3,10 +3,10 @@ use Rattle.picture_laws.proofs.Pictures.{all_pass, rests, matches}
 use Rattle.picture_laws.proofs.laws.a_picture_without_events_rests.Goals as goal
 
 pub returns-clause-any : goal.returns-clause-any
-returns-clause-any g c = λ graph w a outlook run still chose. rests g.S.Source.state g.D.Drain.state graph a run w chose outlook still
+returns-clause-any g c = λ graph w a outlook run still chose. rests g.S.Source.state g.D.Drain.state graph w a run chose outlook still
 
 pub returns-clause-composed : goal.returns-clause-composed
-returns-clause-composed g c = λ graph w rank a run still tells ranked. rests g.S.Source.state g.D.Drain.state graph a run w tells.picks (composed graph w) still (all_pass g.S.Source.state g.D.Drain.state graph a run w rank tells ranked)
+returns-clause-composed g c = λ graph w rank a run still tells ranked. rests g.S.Source.state g.D.Drain.state graph w a run tells.picks (composed graph w) still (all_pass g.S.Source.state g.D.Drain.state graph w a run rank tells ranked)
 
 pub returns-clause-sinks : goal.returns-clause-sinks
-returns-clause-sinks g c = λ graph w a outlook run still. matches g.S.Source.state g.D.Drain.state graph a run w outlook still
+returns-clause-sinks g c = λ graph w a outlook run still. matches g.S.Source.state g.D.Drain.state g.B.PlugBook.lists graph a run w outlook still

@@ -22,6 +22,7 @@ use Rattle.island_body.specs.declared.body.Body.{Body}
 use Rattle.bodies_account.specs.Bodies.{net_of, AskedAre, AreBodiesOf, AllSettled, IsLastMoment, AreLastOf}
 use Rattle.bodies_account.proofs.Lanes.{lanes_on, lanes_keep}
 use Rattle.bodies_account.proofs.Nets.{Went, Stood, all_settled, now_nets, nets_began, nets_cover, nets_owned}
+use Rattle.stream_model.specs.Linear.{Book}
 
 all_kept : {N : Type 0} (keeps : N → N → Type 0) (xs : List N) → AllKept keeps xs xs
 all_kept keeps [] = tt
@@ -48,54 +49,54 @@ module _ {X : Type 0} (R : X → X → X → Type 0) where
       (here.0 ∷ rest.0, (ap suc rest.1.0, with_first x y here.0 xs ys rest.0 here.1 rest.1.1))
 
 -- the nets of bodies, of which each node is kept
-kept_nets : {S D : Type 0} (keeps : Node S D → Node S D → Type 0) (then now : List (Body S D)) → length then ≡ length now
-    → ((k : ℕ) (c b : Body S D) → slice_get then k ≡ Some c → slice_get now k ≡ Some b → AllKept keeps c.island.net.nodes b.island.net.nodes) → (k : ℕ) → AllKept keeps (net_of then k).nodes (net_of now k).nodes
+kept_nets : {S D L B : Type 0} (keeps : Node S D L B → Node S D L B → Type 0) (then now : List (Body S D L B)) → length then ≡ length now
+    → ((k : ℕ) (c b : Body S D L B) → slice_get then k ≡ Some c → slice_get now k ≡ Some b → AllKept keeps c.island.net.nodes b.island.net.nodes) → (k : ℕ) → AllKept keeps (net_of then k).nodes (net_of now k).nodes
 kept_nets keeps [] [] e h k = tt
 kept_nets keeps [] (b ∷ bs) e h k = absurd (omega (arith, e))
 kept_nets keeps (c ∷ cs) [] e h k = absurd (omega (arith, e))
 kept_nets keeps (c ∷ cs) (b ∷ bs) e h zero = h 0 c b refl refl
 kept_nets keeps (c ∷ cs) (b ∷ bs) e h (suc k) = kept_nets keeps cs bs (omega (arith, e)) (λ j x y ex ey. h (suc j) x y ex ey) k
 
-module _ {S D : Type 0} where
+module _ {S D L B : Type 0} where
   -- a body that is whole is at a moment between two events, and one that broke off was
-  last_moment : (sources : S → SourceState) (drains : D → DrainState) (a b : Body S D) → ((BodyGoes a b) × (BodyKeeps sources drains b)) ⊎ (BodyBreaks sources drains a b) → (c : Body S D) × IsLastMoment sources drains a b c
-  last_moment sources drains a b (inl w) =
+  last_moment : (sources : S → SourceState) (drains : D → DrainState) (book : Book) (a b : Body S D L B) → ((BodyGoes a b) × (BodyKeeps sources drains book b)) ⊎ (BodyBreaks sources drains book a b) → (c : Body S D L B) × IsLastMoment sources drains book a b c
+  last_moment sources drains book a b (inl w) =
       (b, record { goes = w.0.island; settled = w.1.laws.laws; stand = w.1.stands.stand; ins = refl; outs = refl; kept = all_kept (KeepsNode sources drains) b.island.net.nodes })
-  last_moment sources drains a b (inr w) =
+  last_moment sources drains book a b (inr w) =
       (record b { island = w.last }, record { goes = w.island; settled = w.laws; stand = w.stand; ins = refl; outs = refl; kept = w.kept })
 
   -- and the ends of its lanes are of the same lanes
-  same_lanes : (sources : S → SourceState) (drains : D → DrainState) (a b : Body S D) → ((BodyGoes a b) × (BodyKeeps sources drains b)) ⊎ (BodyBreaks sources drains a b) → SameLanes a.ins.items b.ins.items a.outs.items b.outs.items
-  same_lanes sources drains a b (inl w) = w.0.lanes
-  same_lanes sources drains a b (inr w) = w.lanes
+  same_lanes : (sources : S → SourceState) (drains : D → DrainState) (book : Book) (a b : Body S D L B) → ((BodyGoes a b) × (BodyKeeps sources drains book b)) ⊎ (BodyBreaks sources drains book a b) → SameLanes a.ins.items b.ins.items a.outs.items b.outs.items
+  same_lanes sources drains book a b (inl w) = w.0.lanes
+  same_lanes sources drains book a b (inr w) = w.lanes
 
-  module _ (sources : S → SourceState) (drains : D → DrainState) (begun now : List (Body S D)) (broke : WholeOrBroken (BodyKeeps sources drains) BodyGoes (BodyBreaks sources drains) begun now) where
-    pub last : (then : List (Body S D)) × AreLastOf sources drains begun now then
+  module _ (sources : S → SourceState) (drains : D → DrainState) (book : Book) (begun now : List (Body S D L B)) (broke : WholeOrBroken (BodyKeeps sources drains book) BodyGoes (BodyBreaks sources drains book) begun now) where
+    pub last : (then : List (Body S D L B)) × AreLastOf sources drains book begun now then
     last =
-        let l = chosen (IsLastMoment sources drains) begun now broke.count (λ k a b ea eb. last_moment sources drains a b (broke.each k a b ea eb)) in
+        let l = chosen (IsLastMoment sources drains book) begun now broke.count (λ k a b ea eb. last_moment sources drains book a b (broke.each k a b ea eb)) in
         (l.0, record { count = l.1.0; each = l.1.1 })
 
-    module _ (then : List (Body S D)) (l : AreLastOf sources drains begun now then) where
+    module _ (then : List (Body S D L B)) (l : AreLastOf sources drains book begun now then) where
       many : length then ≡ length begun
       many = l.count ∙ broke.count
 
-      moment : (k : ℕ) (b c : Body S D) → slice_get now k ≡ Some b → slice_get then k ≡ Some c → (a : Body S D) × IsLastMoment sources drains a b c
+      moment : (k : ℕ) (b c : Body S D L B) → slice_get now k ≡ Some b → slice_get then k ≡ Some c → (a : Body S D L B) × IsLastMoment sources drains book a b c
       moment k b c eb ec =
           let a = get_there begun k (subst (λ (n : ℕ). k < n) broke.count (slice_get_within now k b eb)) in
           (a.0, l.each k a.0 b c a.1 eb ec)
 
-      now_at : (k : ℕ) (c : Body S D) → slice_get then k ≡ Some c → (b : Body S D) × (slice_get now k ≡ Some b)
+      now_at : (k : ℕ) (c : Body S D L B) → slice_get then k ≡ Some c → (b : Body S D L B) × (slice_get now k ≡ Some b)
       now_at k c ec = get_there now k (subst (λ (n : ℕ). k < n) l.count (slice_get_within then k c ec))
 
-      then_goes : (k : ℕ) (a c : Body S D) → slice_get begun k ≡ Some a → slice_get then k ≡ Some c → Went a c
+      then_goes : (k : ℕ) (a c : Body S D L B) → slice_get begun k ≡ Some a → slice_get then k ≡ Some c → Went a c
       then_goes k a c ea ec =
           let b = now_at k c ec in
           let is = l.each k a b.0 c ea b.1 ec in
-          let lanes = same_lanes sources drains a b.0 (broke.each k a b.0 ea b.1) in
+          let lanes = same_lanes sources drains book a b.0 (broke.each k a b.0 ea b.1) in
           let outs = subst (λ (v : _). SameLanes a.ins.items b.0.ins.items a.outs.items v.items) (sym is.outs) lanes in
           record { island = is.goes; lanes = subst (λ (v : _). SameLanes a.ins.items v.items a.outs.items c.outs.items) (sym is.ins) outs }
 
-      then_stood : (k : ℕ) (c : Body S D) → slice_get then k ≡ Some c → Stood sources drains c
+      then_stood : (k : ℕ) (c : Body S D L B) → slice_get then k ≡ Some c → Stood sources drains book c
       then_stood k c ec =
           let b = now_at k c ec in
           let m = moment k b.0 c b.1 ec in
@@ -123,26 +124,26 @@ module _ {S D : Type 0} where
           let m = moment c.to t.0 b t.1 eb in
           asked n c t.0 x e t.1 (ap (λ (v : _). slice_get v.items c.inp) (sym m.1.ins) ∙ ex)
 
-      pub last_settled : AllSettled sources drains then
-      last_settled = all_settled sources drains then then_stood
+      pub last_settled : AllSettled sources drains book then
+      last_settled = all_settled sources drains book then then_stood
 
       pub last_kept : (k : ℕ) → AllKept (KeepsNode sources drains) (net_of then k).nodes (net_of now k).nodes
       last_kept k = kept_nets (KeepsNode sources drains) then now l.count (λ j c b ec eb. let m = moment j b c eb ec in m.1.kept) k
 
-      module _ (g : Graph) (homes : List ℕ) (count : ℕ) (ws : List Wire) (nodes : List (Seated S D)) (crossings : List Crossing) (m : AreBodiesOf sources drains g homes count ws nodes crossings begun) where
+      module _ (g : Graph) (homes : List ℕ) (count : ℕ) (ws : List Wire) (nodes : List (Seated S D L B)) (crossings : List Crossing) (m : AreBodiesOf sources drains book g homes count ws nodes crossings begun) where
         pub last_cover : Covers g (net_of then) (seats_of homes ws)
-        last_cover = nets_cover sources drains g homes count ws nodes crossings begun m then many then_goes
+        last_cover = nets_cover sources drains book g homes count ws nodes crossings begun m then many then_goes
 
         pub last_nets : AreNets homes ws nodes count (net_of then)
-        last_nets = now_nets sources drains g homes count ws nodes crossings begun m then many then_goes
+        last_nets = now_nets sources drains book g homes count ws nodes crossings begun m then many then_goes
 
-        pub last_began : (all : ℕ → ℕ) → (firsts : List (Node S D)) × (AllBecome nodes firsts × ((k : ℕ) → k < length g.nodes → (joined (net_of then) (seats_of homes ws) all).firsts k ≡ slice_get firsts k))
-        last_began = nets_began sources drains g homes count ws nodes crossings begun m then many then_goes
+        pub last_began : (all : ℕ → ℕ) → (firsts : List (Node S D L B)) × (AllBecome nodes firsts × ((k : ℕ) → k < length g.nodes → (joined (net_of then) (seats_of homes ws) all).firsts k ≡ slice_get firsts k))
+        last_began = nets_began sources drains book g homes count ws nodes crossings begun m then many then_goes
 
         pub last_owned : Owned g (net_of then) (seats_of homes ws) count
-        last_owned = nets_owned sources drains g homes count ws nodes crossings begun m then many then_goes
+        last_owned = nets_owned sources drains book g homes count ws nodes crossings begun m then many then_goes
 
         pub last_lanes : (all : ℕ → ℕ) → AskedAre now crossings all → AllJoined BodiesJoined now crossings → LanesKeep g (net_of then) (seats_of homes ws) all
         last_lanes all asked_are j =
-            lanes_keep sources drains g homes count ws nodes m.seated m.graph.wires_are then then_stood crossings (lanes_on homes ws begun then many then_goes crossings m.lanes_are) all
+            lanes_keep sources drains book g homes count ws nodes m.seated m.graph.wires_are then then_stood crossings (lanes_on homes ws begun then many then_goes crossings m.lanes_are) all
             (asked_on crossings all asked_are) (joined_on crossings j)

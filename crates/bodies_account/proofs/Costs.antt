@@ -28,6 +28,7 @@ use Rattle.bodies_account.specs.Bodies.{net_of, IsCrossingOf, AreLanes, AskedAre
 use Rattle.bodies_account.proofs.Lanes.{kept_here, asked_here}
 use Rattle.bodies_account.proofs.Nets.{stood}
 use Rattle.bodies_account.proofs.Sums.{add_up, when_same, same_hit, other_hit, map_get, by_sum, add_le, add_both, none_up, only_one, sum_first, over, over_add, lane_there, over_one, over_all}
+use Rattle.stream_model.specs.Linear.{Book}
 
 -- the items that an input end took, where its lane is wire u, and the finds of an output end
 abbrev took_of : IslandInput → ℕ
@@ -53,39 +54,39 @@ finds_up (x ∷ xs) = ap (λ (n : ℕ). found_of x + n) (finds_up xs)
 same_wire : (ws : List Wire) (u w : ℕ) (v z : Wire) → slice_get ws u ≡ Some v → slice_get ws w ≡ Some z → w ≡ u → z ≡ v
 same_wire ws u w v z a b e = some_same z v (sym b ∙ (ap (slice_get ws) e ∙ a))
 
-module _ {S D : Type 0} where
+module _ {S D L B : Type 0} where
   -- what a number read off each net is in all
-  by_nets : (F : Net (Node S D) → ℕ) (now : List (Body S D)) → add_up (λ (b : Body S D). F b.island.net) now ≡ sum_below (λ k. F (net_of now k)) (length now)
+  by_nets : (F : Net (Node S D L B) → ℕ) (now : List (Body S D L B)) → add_up (λ (b : Body S D L B). F b.island.net) now ≡ sum_below (λ k. F (net_of now k)) (length now)
   by_nets F [] = refl
   by_nets F (b ∷ bs) =
-      let rest : add_up (λ (b : Body S D). F b.island.net) bs ≡ sum_below (λ k. F (net_of bs k)) (length bs) = by_nets F bs in
+      let rest : add_up (λ (b : Body S D L B). F b.island.net) bs ≡ sum_below (λ k. F (net_of bs k)) (length bs) = by_nets F bs in
       let first : sum_below (λ k. F (net_of (b ∷ bs) k)) (suc (length bs)) ≡ F b.island.net + sum_below (λ k. F (net_of bs k)) (length bs) = sum_first (λ k. F (net_of (b ∷ bs) k)) (length bs) in
       omega (arith, rest, first)
 
-  pub asks_paid : (sources : S → SourceState) (drains : D → DrainState) (now : List (Body S D)) → AllOf (BodyKeeps sources drains) now → sum_below (λ k. all_asks (net_of now k)) (length now) ≤ sum_by (λ (b : Body S D). b.spent) now
-  asks_paid sources drains now keep =
-      let spent = by_sum (λ (b : Body S D). b.spent) now in
-      let nets : add_up (λ (b : Body S D). all_asks b.island.net) now ≡ sum_below (λ k. all_asks (net_of now k)) (length now) = by_nets all_asks now in
-      let most : add_up (λ (b : Body S D). all_asks b.island.net) now ≤ add_up (λ (b : Body S D). b.spent) now = add_le (λ (b : Body S D). all_asks b.island.net) (λ (b : Body S D). b.spent) now (λ k b at.
+  pub asks_paid : (sources : S → SourceState) (drains : D → DrainState) (book : Book) (now : List (Body S D L B)) → AllOf (BodyKeeps sources drains book) now → sum_below (λ k. all_asks (net_of now k)) (length now) ≤ sum_by (λ (b : Body S D L B). b.spent) now
+  asks_paid sources drains book now keep =
+      let spent = by_sum (λ (b : Body S D L B). b.spent) now in
+      let nets : add_up (λ (b : Body S D L B). all_asks b.island.net) now ≡ sum_below (λ k. all_asks (net_of now k)) (length now) = by_nets all_asks now in
+      let most : add_up (λ (b : Body S D L B). all_asks b.island.net) now ≤ add_up (λ (b : Body S D L B). b.spent) now = add_le (λ (b : Body S D L B). all_asks b.island.net) (λ (b : Body S D L B). b.spent) now (λ k b at.
       let a = (keep k b at).laws.asks in let u = (keep k b at).used_less in omega (arith, a, u)) in
       omega (arith, spent, nets, most)
 
-  abbrev took_in : ℕ → Body S D → ℕ
+  abbrev took_in : ℕ → Body S D L B → ℕ
   took_in u b = add_up (took_at u) b.ins.items
 
-  abbrev found_in : ℕ → Body S D → ℕ
+  abbrev found_in : ℕ → Body S D L B → ℕ
   found_in u b = add_up (found_at u) b.outs.items
 
   -- what the ends of wire u cost
-  abbrev pub cost_at : List (Body S D) → ℕ → ℕ
+  abbrev pub cost_at : List (Body S D L B) → ℕ → ℕ
   cost_at now u = add_up (took_in u) now + add_up (found_in u) now
 
-  module _ (sources : S → SourceState) (drains : D → DrainState) (g : Graph) (homes : List ℕ) (count : ℕ) (ws : List Wire) (nodes : List (Seated S D)) (seated : AreSeated homes count ws nodes) (same : g.wires ≡ ws) (now : List (Body S D)) (keep : AllOf (BodyKeeps sources drains) now)
+  module _ (sources : S → SourceState) (drains : D → DrainState) (book : Book) (g : Graph) (homes : List ℕ) (count : ℕ) (ws : List Wire) (nodes : List (Seated S D L B)) (seated : AreSeated homes count ws nodes) (same : g.wires ≡ ws) (now : List (Body S D L B)) (keep : AllOf (BodyKeeps sources drains book) now)
       (crossings : List Crossing) (l : AreLanes homes ws now crossings) where
     -- ---- all that was spent is spread over the lanes
 
-    ins_over : add_up (λ (b : Body S D). all_taken b.ins.items) now ≤ over ws (λ u. add_up (took_in u) now) (length ws)
-    ins_over = over_all ws (λ (b : Body S D). all_taken b.ins.items) took_in (length ws) now (λ k b at.
+    ins_over : add_up (λ (b : Body S D L B). all_taken b.ins.items) now ≤ over ws (λ u. add_up (took_in u) now) (length ws)
+    ins_over = over_all ws (λ (b : Body S D L B). all_taken b.ins.items) took_in (length ws) now (λ k b at.
         let all : add_up took_of b.ins.items ≤ over ws (λ u. took_in u b) (length ws) =
         over_all ws took_of took_at (length ws) b.ins.items (λ j x here.
         let c = l.ins_are k j b x at here in
@@ -93,8 +94,8 @@ module _ {S D : Type 0} where
         let is = taken_up b.ins.items in
         omega (arith, all, is))
 
-    outs_over : add_up (λ (b : Body S D). all_finds b.outs.items) now ≤ over ws (λ u. add_up (found_in u) now) (length ws)
-    outs_over = over_all ws (λ (b : Body S D). all_finds b.outs.items) found_in (length ws) now (λ k b at.
+    outs_over : add_up (λ (b : Body S D L B). all_finds b.outs.items) now ≤ over ws (λ u. add_up (found_in u) now) (length ws)
+    outs_over = over_all ws (λ (b : Body S D L B). all_finds b.outs.items) found_in (length ws) now (λ k b at.
         let all : add_up found_of b.outs.items ≤ over ws (λ u. found_in u b) (length ws) =
         over_all ws found_of found_at (length ws) b.outs.items (λ j x here.
         let c = l.outs_are k j b x at here in
@@ -102,13 +103,13 @@ module _ {S D : Type 0} where
         let is = finds_up b.outs.items in
         omega (arith, all, is))
 
-    pub spent_over : sum_by (λ (b : Body S D). b.spent) now ≤ sum_below (λ k. total (net_of now k)) (length now) + over_lanes g (cost_at now)
+    pub spent_over : sum_by (λ (b : Body S D L B). b.spent) now ≤ sum_below (λ k. total (net_of now k)) (length now) + over_lanes g (cost_at now)
     spent_over =
-        let spent = by_sum (λ (b : Body S D). b.spent) now in
-        let most : add_up (λ (b : Body S D). b.spent) now ≤ add_up cost_of now = add_le (λ (b : Body S D). b.spent) cost_of now (λ k b at. (keep k b at).paid) in
-        let one : add_up cost_of now ≡ add_up (λ (b : Body S D). total b.island.net) now + add_up (λ (b : Body S D). all_taken b.ins.items + all_finds b.outs.items) now = add_both (λ (b : Body S D). total b.island.net) (λ (b : Body S D). all_taken b.ins.items + all_finds b.outs.items) now in
-        let two : add_up (λ (b : Body S D). all_taken b.ins.items + all_finds b.outs.items) now ≡ add_up (λ (b : Body S D). all_taken b.ins.items) now + add_up (λ (b : Body S D). all_finds b.outs.items) now = add_both (λ (b : Body S D). all_taken b.ins.items) (λ (b : Body S D). all_finds b.outs.items) now in
-        let nets : add_up (λ (b : Body S D). total b.island.net) now ≡ sum_below (λ k. total (net_of now k)) (length now) = by_nets total now in
+        let spent = by_sum (λ (b : Body S D L B). b.spent) now in
+        let most : add_up (λ (b : Body S D L B). b.spent) now ≤ add_up cost_of now = add_le (λ (b : Body S D L B). b.spent) cost_of now (λ k b at. (keep k b at).paid) in
+        let one : add_up cost_of now ≡ add_up (λ (b : Body S D L B). total b.island.net) now + add_up (λ (b : Body S D L B). all_taken b.ins.items + all_finds b.outs.items) now = add_both (λ (b : Body S D L B). total b.island.net) (λ (b : Body S D L B). all_taken b.ins.items + all_finds b.outs.items) now in
+        let two : add_up (λ (b : Body S D L B). all_taken b.ins.items + all_finds b.outs.items) now ≡ add_up (λ (b : Body S D L B). all_taken b.ins.items) now + add_up (λ (b : Body S D L B). all_finds b.outs.items) now = add_both (λ (b : Body S D L B). all_taken b.ins.items) (λ (b : Body S D L B). all_finds b.outs.items) now in
+        let nets : add_up (λ (b : Body S D L B). total b.island.net) now ≡ sum_below (λ k. total (net_of now k)) (length now) = by_nets total now in
         let ins = ins_over in
         let outs = outs_over in
         let both : over ws (cost_at now) (length ws) ≡ over ws (λ u. add_up (took_in u) now) (length ws) + over ws (λ u. add_up (found_in u) now) (length ws) = over_add ws (λ u. add_up (took_in u) now) (λ u. add_up (found_in u) now) (length ws) in
@@ -148,6 +149,6 @@ module _ {S D : Type 0} where
           let x = l.each u v size there s in
           let y = x.1.1.1 in
           let w = joined x.0 x.1.0 x.1.1.0 in
-          let k = kept_here sources drains homes count ws nodes seated now (λ k b at. stood sources drains b (keep k b at)) u v size there s x.1.0 y w.0 (w.1 y.from y.to y.from_at y.to_at) (all u)
-          (asked_here sources drains g homes count ws nodes seated same now (λ k b at. stood sources drains b (keep k b at)) crossings l all asked_are x.0 u v size x.1.0 y x.1.1.0) in
+          let k = kept_here sources drains book homes count ws nodes seated now (λ k b at. stood sources drains book b (keep k b at)) u v size there s x.1.0 y w.0 (w.1 y.from y.to y.from_at y.to_at) (all u)
+          (asked_here sources drains book g homes count ws nodes seated same now (λ k b at. stood sources drains book b (keep k b at)) crossings l all asked_are x.0 u v size x.1.0 y x.1.1.0) in
           (k.0, cost_is u v size there x.1.0 y ∙ (ap (λ (i : InEnd). length i.taken + found_of y.out) (sym k.1.1) ∙ ap (λ (o : OutEnd). length k.0.inp.taken + o.finds) (sym k.1.0)))

@@ -33,6 +33,7 @@ use Rattle.island_body.specs.declared.body.Body.{Body}
 use Rattle.bodies_account.specs.Bodies.{net_in, net_of, ComesInto, GoesOutOf, IsCrossingOf, AreLanes, AskedAre}
 use Rattle.bodies_account.proofs.Boundaries.{boundary_keeps}
 use Rattle.bodies_account.proofs.Nets.{Went, Stood}
+use Rattle.stream_model.specs.Linear.{Book}
 
 -- ---- lists whose items agree
 
@@ -52,19 +53,19 @@ map_there f (z ∷ xs) (y ∷ ys) (suc k) x e at = let t : map f ys ≡ map f xs
 four : (P : ℕ → Cell → Cell → ℕ → Type 0) (s s' n n' : ℕ) (a a' b b' : Cell) → s ≡ s' → a ≡ a' → b ≡ b' → n ≡ n' → P s a b n → P s' a' b' n'
 four P s s' n n' a a' b b' e f g h p = subst (λ (x : ℕ). P x a' b' n') e (subst (λ (x : Cell). P s x b' n') f (subst (λ (x : Cell). P s a x n') g (subst (λ (x : ℕ). P s a b x) h p)))
 
-module _ {S D : Type 0} where
-  there_after : (xs ys : List (Body S D)) (k : ℕ) (x : Body S D) → length ys ≡ length xs → slice_get xs k ≡ Some x → (y : Body S D) × (slice_get ys k ≡ Some y)
+module _ {S D L B : Type 0} where
+  there_after : (xs ys : List (Body S D L B)) (k : ℕ) (x : Body S D L B) → length ys ≡ length xs → slice_get xs k ≡ Some x → (y : Body S D L B) × (slice_get ys k ≡ Some y)
   there_after xs ys k x e at = get_there ys k (subst (λ (n : ℕ). k < n) (sym e) (slice_get_within xs k x at))
 
-  ins_way : (i j : Kept S D) (u : ℕ) → j.ins ≡ i.ins → way_in j u ≡ way_in i u
+  ins_way : (i j : Kept S D L B) (u : ℕ) → j.ins ≡ i.ins → way_in j u ≡ way_in i u
   ins_way i j u e = ap (λ (l : List ℕ). way_in (record i { ins = l }) u) e
 
-  outs_way : (i j : Kept S D) (u : ℕ) → j.outs ≡ i.outs → way_out j u ≡ way_out i u
+  outs_way : (i j : Kept S D L B) (u : ℕ) → j.outs ≡ i.outs → way_out j u ≡ way_out i u
   outs_way i j u e = ap (λ (l : List ℕ). way_out (record i { outs = l }) u) e
 
   -- ---- the crossings, once the bodies went on
 
-  module _ (homes : List ℕ) (ws : List Wire) (begun now : List (Body S D)) (many : length now ≡ length begun) (goes : (k : ℕ) (a b : Body S D) → slice_get begun k ≡ Some a → slice_get now k ≡ Some b → Went a b) where
+  module _ (homes : List ℕ) (ws : List Wire) (begun now : List (Body S D L B)) (many : length now ≡ length begun) (goes : (k : ℕ) (a b : Body S D L B) → slice_get begun k ≡ Some a → slice_get now k ≡ Some b → Went a b) where
     crossing_on : (u : ℕ) (v : Wire) (size : ℕ) (c : Crossing) → IsCrossingOf homes ws begun u v size c → IsCrossingOf homes ws now u v size c
     crossing_on u v size c x =
         let a = there_after begun now c.from x.from many x.from_at in
@@ -106,7 +107,7 @@ module _ {S D : Type 0} where
 
   -- ---- one lane
 
-  module _ (sources : S → SourceState) (drains : D → DrainState) (homes : List ℕ) (count : ℕ) (ws : List Wire) (nodes : List (Seated S D)) (seated : AreSeated homes count ws nodes) (now : List (Body S D)) (stood : (k : ℕ) (b : Body S D) → slice_get now k ≡ Some b → Stood sources drains b)
+  module _ (sources : S → SourceState) (drains : D → DrainState) (book : Book) (homes : List ℕ) (count : ℕ) (ws : List Wire) (nodes : List (Seated S D L B)) (seated : AreSeated homes count ws nodes) (now : List (Body S D L B)) (stood : (k : ℕ) (b : Body S D L B) → slice_get now k ≡ Some b → Stood sources drains book b)
       (u : ℕ) (v : Wire) (size : ℕ) (e : slice_get ws u ≡ Some v) (s : v.lane ≡ Some size) (c : Crossing) (x : IsCrossingOf homes ws now u v size c) where
     abbrev near_here : Cell
     near_here = wire_at (net_of now ((seats_of homes ws).near u).island) ((seats_of homes ws).near u).at
@@ -124,10 +125,10 @@ module _ {S D : Type 0} where
     far_island = ways.in_island ∙ sym x.to_is
 
     near_cell : cell_out x.from.island u ≡ near_here
-    near_cell = sym (ap (λ (k : ℕ). wire_at (net_of now k) ((seats_of homes ws).near u).at) near_island ∙ (ap (λ (o : Option (Body S D)). wire_at (net_in o) ((seats_of homes ws).near u).at) x.from_at ∙ ap (λ (q : ℕ). wire_at x.from.island.net q) x.near_is))
+    near_cell = sym (ap (λ (k : ℕ). wire_at (net_of now k) ((seats_of homes ws).near u).at) near_island ∙ (ap (λ (o : Option (Body S D L B)). wire_at (net_in o) ((seats_of homes ws).near u).at) x.from_at ∙ ap (λ (q : ℕ). wire_at x.from.island.net q) x.near_is))
 
     far_cell : cell_in x.to.island u ≡ far_here
-    far_cell = sym (ap (λ (k : ℕ). wire_at (net_of now k) ((seats_of homes ws).far u).at) far_island ∙ (ap (λ (o : Option (Body S D)). wire_at (net_in o) ((seats_of homes ws).far u).at) x.to_at ∙ ap (λ (q : ℕ). wire_at x.to.island.net q) x.far_is))
+    far_cell = sym (ap (λ (k : ℕ). wire_at (net_of now k) ((seats_of homes ws).far u).at) far_island ∙ (ap (λ (o : Option (Body S D L B)). wire_at (net_in o) ((seats_of homes ws).far u).at) x.to_at ∙ ap (λ (q : ℕ). wire_at x.to.island.net q) x.far_is))
 
     out_stands : OutStands x.from.island x.out
     out_stands = (stood c.from x.from x.from_at).stand.outs_stand c.out x.out x.out_at
@@ -141,7 +142,7 @@ module _ {S D : Type 0} where
 
       kept_there : Kept_by (in_size x.inp.boundary.lane) (cell_out x.from.island u) (cell_in x.to.island u) (asked x.inp.boundary.lane)
       kept_there =
-          lane_keeps sources drains x.out.lane x.inp.boundary x.from.island x.to.island u (stood c.from x.from x.from_at).settled (stood c.to x.to x.to_at).settled
+          lane_keeps sources drains book x.out.lane x.inp.boundary x.from.island x.to.island u (stood c.from x.from x.from_at).settled (stood c.to x.to x.to_at).settled
           (subst (λ (q : ℕ). Leaves x.from.island q) x.out_wire out_stands.leaves) (subst (λ (q : ℕ). Enters x.to.island q) x.inp_wire in_stands.enters) (boundary_keeps x.inp.boundary) (joined.history x.out x.inp x.out_at x.inp_at)
           (subst (λ (q : ℕ). Serves x.out.lane x.from.island q) x.out_wire out_stands.serves) (subst (λ (q : ℕ). Feeds x.inp.boundary x.to.island q) x.inp_wire in_stands.feeds)
 
@@ -151,11 +152,11 @@ module _ {S D : Type 0} where
       abbrev Quiet_by : ℕ → Cell → Cell → ℕ → Type 0
       Quiet_by z near far n = WireQuiet (Some z) near far n
 
-      pub quiet_here : AllOf (BodyKeeps sources drains) now → x.from.island.net.queue ≡ [] → x.to.island.net.queue ≡ [] → w.item ≡ false → w.demand ≡ false → (n : ℕ) → n ≡ asked x.inp.boundary.lane → Quiet_by size near_here far_here n
+      pub quiet_here : AllOf (BodyKeeps sources drains book) now → x.from.island.net.queue ≡ [] → x.to.island.net.queue ≡ [] → w.item ≡ false → w.demand ≡ false → (n : ℕ) → n ≡ asked x.inp.boundary.lane → Quiet_by size near_here far_here n
       quiet_here keep none none' item demand n is =
           let from = (keep c.from x.from x.from_at).served.outs_served c.out x.out (slice_get_within x.from.outs.items c.out x.out x.out_at) x.out_at tt in
           let to = (keep c.to x.to x.to_at).served.ins_fed c.inp x.inp (slice_get_within x.to.ins.items c.inp x.inp x.inp_at) x.inp_at tt in
-          let quiet = lane_quiet sources drains x.out.lane x.inp.boundary x.from.island x.to.island u (stood c.from x.from x.from_at).settled (stood c.to x.to x.to_at).settled
+          let quiet = lane_quiet sources drains book x.out.lane x.inp.boundary x.from.island x.to.island u (stood c.from x.from x.from_at).settled (stood c.to x.to x.to_at).settled
           (subst (λ (q : ℕ). Leaves x.from.island q) x.out_wire out_stands.leaves) (subst (λ (q : ℕ). Enters x.to.island q) x.inp_wire in_stands.enters) (boundary_keeps x.inp.boundary) (joined.history x.out x.inp x.out_at x.inp_at)
           (subst (λ (q : ℕ). Serves x.out.lane x.from.island q) x.out_wire out_stands.serves) (subst (λ (q : ℕ). Feeds x.inp.boundary x.to.island q) x.inp_wire in_stands.feeds)
           none none' (subst (λ (q : ℕ). IsServed x.out.lane x.from.island q) x.out_wire from) (subst (λ (q : ℕ). IsFed x.inp.boundary x.to.island q) x.inp_wire to)
@@ -163,7 +164,7 @@ module _ {S D : Type 0} where
           four Quiet_by (in_size x.inp.boundary.lane) size (asked x.inp.boundary.lane) n (cell_out x.from.island u) near_here (cell_in x.to.island u) far_here x.size_is near_cell far_cell (sym is) (kept_there.0, quiet)
 
   -- nothing is pending
-  no_queue : (b : Body S D) → is_pending b ≡ false → b.island.net.queue ≡ []
+  no_queue : (b : Body S D L B) → is_pending b ≡ false → b.island.net.queue ≡ []
   no_queue b e = by b.island.net.queue e
     where
       by : (q : List ℕ) → has_some q ≡ false → q ≡ []
@@ -172,7 +173,7 @@ module _ {S D : Type 0} where
 
   -- ---- all lanes
 
-  module _ (sources : S → SourceState) (drains : D → DrainState) (g : Graph) (homes : List ℕ) (count : ℕ) (ws : List Wire) (nodes : List (Seated S D)) (seated : AreSeated homes count ws nodes) (same : g.wires ≡ ws) (now : List (Body S D)) (stood : (k : ℕ) (b : Body S D) → slice_get now k ≡ Some b → Stood sources drains b)
+  module _ (sources : S → SourceState) (drains : D → DrainState) (book : Book) (g : Graph) (homes : List ℕ) (count : ℕ) (ws : List Wire) (nodes : List (Seated S D L B)) (seated : AreSeated homes count ws nodes) (same : g.wires ≡ ws) (now : List (Body S D L B)) (stood : (k : ℕ) (b : Body S D L B) → slice_get now k ≡ Some b → Stood sources drains book b)
       (crossings : List Crossing) (l : AreLanes homes ws now crossings) (all : ℕ → ℕ) (asked_are : AskedAre now crossings all) where
     here : (u : ℕ) (v : Wire) → slice_get g.wires u ≡ Some v → slice_get ws u ≡ Some v
     here u v e = subst (λ (l : List Wire). slice_get l u ≡ Some v) same e
@@ -184,19 +185,19 @@ module _ {S D : Type 0} where
     lanes_keep joined = λ u v size e s.
         let x = l.each u v size (here u v e) s in
         let w = joined x.0 x.1.0 x.1.1.0 in
-        (kept_here sources drains homes count ws nodes seated now stood u v size (here u v e) s x.1.0 x.1.1.1 w.0 (w.1 x.1.1.1.from x.1.1.1.to x.1.1.1.from_at x.1.1.1.to_at) (all u) (asked_here x.0 u v size x.1.0 x.1.1.1 x.1.1.0)).0
+        (kept_here sources drains book homes count ws nodes seated now stood u v size (here u v e) s x.1.0 x.1.1.1 w.0 (w.1 x.1.1.1.from x.1.1.1.to x.1.1.1.from_at x.1.1.1.to_at) (all u) (asked_here x.0 u v size x.1.0 x.1.1.1 x.1.1.0)).0
 
-    pub lanes_rest : AllOf (BodyKeeps sources drains) now → AtRest is_pending BodiesJoined now crossings → LanesRest g (net_of now) (seats_of homes ws) all
+    pub lanes_rest : AllOf (BodyKeeps sources drains book) now → AtRest is_pending BodiesJoined now crossings → LanesRest g (net_of now) (seats_of homes ws) all
     lanes_rest keep rest = λ u v size e s.
         let x = l.each u v size (here u v e) s in
         let y = x.1.1.1 in
         let w = rest.nothing_waits x.0 x.1.0 x.1.1.0 in
-        quiet_here sources drains homes count ws nodes seated now stood u v size (here u v e) s x.1.0 y w.0 (w.1 y.from y.to y.from_at y.to_at) keep
+        quiet_here sources drains book homes count ws nodes seated now stood u v size (here u v e) s x.1.0 y w.0 (w.1 y.from y.to y.from_at y.to_at) keep
         (no_queue y.from (rest.rings x.1.0.from y.from y.from_at)) (no_queue y.to (rest.rings x.1.0.to y.to y.to_at)) w.2 w.3 (all u) (asked_here x.0 u v size x.1.0 y x.1.1.0)
 
-  pub no_queues : (now : List (Body S D)) → ((k : ℕ) (b : Body S D) → slice_get now k ≡ Some b → is_pending b ≡ false) → (k : ℕ) → (net_of now k).queue ≡ []
+  pub no_queues : (now : List (Body S D L B)) → ((k : ℕ) (b : Body S D L B) → slice_get now k ≡ Some b → is_pending b ≡ false) → (k : ℕ) → (net_of now k).queue ≡ []
   no_queues now none k = by (slice_get now k) (λ b at. no_queue b (none k b at))
     where
-      by : (o : Option (Body S D)) → ((b : Body S D) → o ≡ Some b → b.island.net.queue ≡ []) → (net_in o).queue ≡ []
+      by : (o : Option (Body S D L B)) → ((b : Body S D L B) → o ≡ Some b → b.island.net.queue ≡ []) → (net_in o).queue ≡ []
       by None h = refl
       by (Some b) h = h b refl

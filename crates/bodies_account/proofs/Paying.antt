@@ -23,31 +23,32 @@ use Rattle.bodies_account.specs.Bodies.{net_of, AreLanes, AskedAre, AreBodiesOf}
 use Rattle.bodies_account.proofs.Costs.{cost_at, spent_over, asks_paid, lanes_cost}
 use Rattle.bodies_account.proofs.Lanes.{lanes_on}
 use Rattle.bodies_account.proofs.Nets.{Went, went, stood, all_settled, nets_cover, nets_owned}
+use Rattle.stream_model.specs.Linear.{Book}
 
-module _ {S D : Type 0} (sources : S → SourceState) (drains : D → DrainState) where
-  pub asks : (count : ℕ) (now : List (Body S D)) → length now ≡ count → AllOf (BodyKeeps sources drains) now → sum_below (λ b. all_asks (net_of now b)) count ≤ sum_by (λ (b : Body S D). b.spent) now
-  asks count now many keep = subst (λ (n : ℕ). sum_below (λ b. all_asks (net_of now b)) n ≤ sum_by (λ (b : Body S D). b.spent) now) many (asks_paid sources drains now keep)
+module _ {S D L B : Type 0} (sources : S → SourceState) (drains : D → DrainState) (book : Book) where
+  pub asks : (count : ℕ) (now : List (Body S D L B)) → length now ≡ count → AllOf (BodyKeeps sources drains book) now → sum_below (λ b. all_asks (net_of now b)) count ≤ sum_by (λ (b : Body S D L B). b.spent) now
+  asks count now many keep = subst (λ (n : ℕ). sum_below (λ b. all_asks (net_of now b)) n ≤ sum_by (λ (b : Body S D L B). b.spent) now) many (asks_paid sources drains book now keep)
 
-module _ {S D : Type 0} (sources : S → SourceState) (drains : D → DrainState) (g : Graph) (homes : List ℕ) (count : ℕ) (ws : List Wire) (nodes : List (Seated S D)) (crossings : List Crossing) (begun now : List (Body S D))
-    (m : AreBodiesOf sources drains g homes count ws nodes crossings begun) (goes : EachOf BodyGoes begun now) (keep : AllOf (BodyKeeps sources drains) now) (all : ℕ → ℕ) (asked_are : AskedAre now crossings all) (all_joined : AllJoined BodiesJoined now crossings) where
-  goes_on : (k : ℕ) (a b : Body S D) → slice_get begun k ≡ Some a → slice_get now k ≡ Some b → Went a b
+module _ {S D L B : Type 0} (sources : S → SourceState) (drains : D → DrainState) (book : Book) (g : Graph) (homes : List ℕ) (count : ℕ) (ws : List Wire) (nodes : List (Seated S D L B)) (crossings : List Crossing) (begun now : List (Body S D L B))
+    (m : AreBodiesOf sources drains book g homes count ws nodes crossings begun) (goes : EachOf BodyGoes begun now) (keep : AllOf (BodyKeeps sources drains book) now) (all : ℕ → ℕ) (asked_are : AskedAre now crossings all) (all_joined : AllJoined BodiesJoined now crossings) where
+  goes_on : (k : ℕ) (a b : Body S D L B) → slice_get begun k ≡ Some a → slice_get now k ≡ Some b → Went a b
   goes_on k a b x y = went a b (goes.each k a b x y)
 
   lanes : AreLanes homes ws now crossings
   lanes = lanes_on homes ws begun now goes.count goes_on crossings m.lanes_are
 
   cost_there : LanesCost g (net_of now) (seats_of homes ws) all (cost_at now)
-  cost_there = lanes_cost sources drains g homes count ws nodes m.seated m.graph.wires_are now keep crossings lanes all asked_are all_joined
+  cost_there = lanes_cost sources drains book g homes count ws nodes m.seated m.graph.wires_are now keep crossings lanes all asked_are all_joined
 
-  most : sum_by (λ (b : Body S D). b.spent) now ≤ sum_below (λ b. total (net_of now b)) count + over_lanes g (cost_at now)
-  most = subst (λ (n : ℕ). sum_by (λ (b : Body S D). b.spent) now ≤ sum_below (λ b. total (net_of now b)) n + over_lanes g (cost_at now)) (goes.count ∙ m.begun_are.many) (spent_over sources drains g homes count ws nodes m.seated m.graph.wires_are now keep crossings lanes)
+  most : sum_by (λ (b : Body S D L B). b.spent) now ≤ sum_below (λ b. total (net_of now b)) count + over_lanes g (cost_at now)
+  most = subst (λ (n : ℕ). sum_by (λ (b : Body S D L B). b.spent) now ≤ sum_below (λ b. total (net_of now b)) n + over_lanes g (cost_at now)) (goes.count ∙ m.begun_are.many) (spent_over sources drains book g homes count ws nodes m.seated m.graph.wires_are now keep crossings lanes)
 
-  pub costs : (cost : ℕ → ℕ) × (LanesCost g (net_of now) (seats_of homes ws) all cost × (sum_by (λ (b : Body S D). b.spent) now ≤ sum_below (λ b. total (net_of now b)) count + over_lanes g cost))
+  pub costs : (cost : ℕ → ℕ) × (LanesCost g (net_of now) (seats_of homes ws) all cost × (sum_by (λ (b : Body S D L B). b.spent) now ≤ sum_below (λ b. total (net_of now b)) count + over_lanes g cost))
   costs = (cost_at now, (cost_there, most))
 
-  pub paid : sum_by (λ (b : Body S D). b.spent) now + length g.wires ≤ count_needed g (counts_of (joined (net_of now) (seats_of homes ws) all) g)
+  pub paid : sum_by (λ (b : Body S D L B). b.spent) now + length g.wires ≤ count_needed g (counts_of (joined (net_of now) (seats_of homes ws) all) g)
   paid =
-      let nets = all_paid node_row (node_law sources drains) node_asking node_moves g (net_of now) (seats_of homes ws) all (cost_at now) count (nets_cover sources drains g homes count ws nodes crossings begun m now goes.count goes_on)
-      (all_settled sources drains now (λ k b at. stood sources drains b (keep k b at))) (nets_owned sources drains g homes count ws nodes crossings begun m now goes.count goes_on) cost_there in
+      let nets = all_paid node_row (node_law sources drains book) node_asking node_moves g (net_of now) (seats_of homes ws) all (cost_at now) count (nets_cover sources drains book g homes count ws nodes crossings begun m now goes.count goes_on)
+      (all_settled sources drains book now (λ k b at. stood sources drains book b (keep k b at))) (nets_owned sources drains book g homes count ws nodes crossings begun m now goes.count goes_on) cost_there in
       let a = most in
       omega (arith, nets, a)

@@ -26,15 +26,17 @@ ghost use Rattle.island_body.specs.Meeting.{BodiesJoined};
 ghost use Rattle.island_body.specs.declared.body.Body.{Body};
 ghost use Rattle.bodies_account.specs.Bodies.{net_of, AreLanes, AskedAre, AreBodiesOf, AllSettled, AreLastOf};
 
+use plug_logic::book::PlugBook;
+use plug_logic::logic::Logic;
 use stream_io::outside::{Drain, Source};
 
 /// An island whose lanes come in and go out at its links has the stage of each at the place of its wire's connection: at the output
 /// (`out`), and at the input (`inp`). Rule: own.
-pub fn lanes_lie_at_their_places<S: Source, D: Drain>()
-    ensures out { (homes : List ℕ) (count : ℕ) (ws : List Wire) (nodes : List (Seated S D)) (u : ℕ) (v : Wire) (size : ℕ) (i : Kept S D) → AreSeated homes count ws nodes → slice_get ws u ≡ Some v → v.lane ≡ Some size
+pub fn lanes_lie_at_their_places<S: Source, D: Drain, L: Logic, B: PlugBook>()
+    ensures out { (homes : List ℕ) (count : ℕ) (ws : List Wire) (nodes : List (Seated S D L B)) (u : ℕ) (v : Wire) (size : ℕ) (i : Kept S D L B) → AreSeated homes count ws nodes → slice_get ws u ≡ Some v → v.lane ≡ Some size
         → ((q : ℕ) (l : Link) → slice_get (links_in homes ws nodes (slice_index homes v.from)) q ≡ Some l → goes_out (seats_in homes ws nodes (slice_index homes v.from)) l.to ≡ true → LeavesBy i l.wire q)
         → ((seats_of homes ws).near u).at ≡ way_out i u }
-    ensures inp { (homes : List ℕ) (count : ℕ) (ws : List Wire) (nodes : List (Seated S D)) (u : ℕ) (v : Wire) (size : ℕ) (i : Kept S D) → AreSeated homes count ws nodes → slice_get ws u ≡ Some v → v.lane ≡ Some size
+    ensures inp { (homes : List ℕ) (count : ℕ) (ws : List Wire) (nodes : List (Seated S D L B)) (u : ℕ) (v : Wire) (size : ℕ) (i : Kept S D L B) → AreSeated homes count ws nodes → slice_get ws u ≡ Some v → v.lane ≡ Some size
         → ((q : ℕ) (l : Link) → slice_get (links_in homes ws nodes (slice_index homes v.to)) q ≡ Some l → comes_in (seats_in homes ws nodes (slice_index homes v.to)) l.from ≡ true → EntersBy i l.wire q)
         → ((seats_of homes ws).far u).at ≡ way_in i u }
 {}
@@ -42,68 +44,68 @@ pub fn lanes_lie_at_their_places<S: Source, D: Drain>()
 /// The nets of the bodies' islands cover the graph of the blueprint (`covers`), and each of their connections is one of a wire's
 /// (`owned`): they are nets of its islands (`nets`), and each net is between two events (`settled`). Their nodes began as what stands at
 /// the nodes of the blueprint (`began`), and their crossings are its lanes (`lanes`). Rule: own.
-pub fn bodies_cover<S: Source, D: Drain>()
-    ensures covers { (g : Graph) (homes : List ℕ) (count : ℕ) (ws : List Wire) (nodes : List (Seated S D)) (crossings : List Crossing) (begun now : List (Body S D)) → AreBodiesOf S.state D.state g homes count ws nodes crossings begun → EachOf BodyGoes begun now → AllOf (BodyKeeps S.state D.state) now
+pub fn bodies_cover<S: Source, D: Drain, L: Logic, B: PlugBook>()
+    ensures covers { (g : Graph) (homes : List ℕ) (count : ℕ) (ws : List Wire) (nodes : List (Seated S D L B)) (crossings : List Crossing) (begun now : List (Body S D L B)) → AreBodiesOf S.state D.state B.lists g homes count ws nodes crossings begun → EachOf BodyGoes begun now → AllOf (BodyKeeps S.state D.state B.lists) now
         → Covers g (net_of now) (seats_of homes ws) }
-    ensures owned { (g : Graph) (homes : List ℕ) (count : ℕ) (ws : List Wire) (nodes : List (Seated S D)) (crossings : List Crossing) (begun now : List (Body S D)) → AreBodiesOf S.state D.state g homes count ws nodes crossings begun → EachOf BodyGoes begun now → AllOf (BodyKeeps S.state D.state) now
+    ensures owned { (g : Graph) (homes : List ℕ) (count : ℕ) (ws : List Wire) (nodes : List (Seated S D L B)) (crossings : List Crossing) (begun now : List (Body S D L B)) → AreBodiesOf S.state D.state B.lists g homes count ws nodes crossings begun → EachOf BodyGoes begun now → AllOf (BodyKeeps S.state D.state B.lists) now
         → Owned g (net_of now) (seats_of homes ws) count }
-    ensures nets { (g : Graph) (homes : List ℕ) (count : ℕ) (ws : List Wire) (nodes : List (Seated S D)) (crossings : List Crossing) (begun now : List (Body S D)) → AreBodiesOf S.state D.state g homes count ws nodes crossings begun → EachOf BodyGoes begun now → AllOf (BodyKeeps S.state D.state) now
+    ensures nets { (g : Graph) (homes : List ℕ) (count : ℕ) (ws : List Wire) (nodes : List (Seated S D L B)) (crossings : List Crossing) (begun now : List (Body S D L B)) → AreBodiesOf S.state D.state B.lists g homes count ws nodes crossings begun → EachOf BodyGoes begun now → AllOf (BodyKeeps S.state D.state B.lists) now
         → AreNets homes ws nodes count (net_of now) }
-    ensures began { (g : Graph) (homes : List ℕ) (count : ℕ) (ws : List Wire) (nodes : List (Seated S D)) (crossings : List Crossing) (begun now : List (Body S D)) (all : ℕ → ℕ) → AreBodiesOf S.state D.state g homes count ws nodes crossings begun → EachOf BodyGoes begun now → AllOf (BodyKeeps S.state D.state) now
-        → (firsts : List (Node S D)) × (AllBecome nodes firsts × ((k : ℕ) → k < length g.nodes → (joined (net_of now) (seats_of homes ws) all).firsts k ≡ slice_get firsts k)) }
-    ensures lanes { (g : Graph) (homes : List ℕ) (count : ℕ) (ws : List Wire) (nodes : List (Seated S D)) (crossings : List Crossing) (begun now : List (Body S D)) → AreBodiesOf S.state D.state g homes count ws nodes crossings begun → EachOf BodyGoes begun now → AllOf (BodyKeeps S.state D.state) now
+    ensures began { (g : Graph) (homes : List ℕ) (count : ℕ) (ws : List Wire) (nodes : List (Seated S D L B)) (crossings : List Crossing) (begun now : List (Body S D L B)) (all : ℕ → ℕ) → AreBodiesOf S.state D.state B.lists g homes count ws nodes crossings begun → EachOf BodyGoes begun now → AllOf (BodyKeeps S.state D.state B.lists) now
+        → (firsts : List (Node S D L B)) × (AllBecome nodes firsts × ((k : ℕ) → k < length g.nodes → (joined (net_of now) (seats_of homes ws) all).firsts k ≡ slice_get firsts k)) }
+    ensures lanes { (g : Graph) (homes : List ℕ) (count : ℕ) (ws : List Wire) (nodes : List (Seated S D L B)) (crossings : List Crossing) (begun now : List (Body S D L B)) → AreBodiesOf S.state D.state B.lists g homes count ws nodes crossings begun → EachOf BodyGoes begun now → AllOf (BodyKeeps S.state D.state B.lists) now
         → AreLanes homes ws now crossings }
-    ensures settled { (now : List (Body S D)) → AllOf (BodyKeeps S.state D.state) now → AllSettled S.state D.state now }
+    ensures settled { (now : List (Body S D L B)) → AllOf (BodyKeeps S.state D.state B.lists) now → AllSettled S.state D.state B.lists now }
 {}
 
 /// Where the ends of all lanes were brought together, of each lane is kept and known what an account wants, between the connections of
 /// its wire. Rule: own.
-pub fn their_lanes_keep<S: Source, D: Drain>()
-    ensures { (g : Graph) (homes : List ℕ) (count : ℕ) (ws : List Wire) (nodes : List (Seated S D)) (crossings : List Crossing) (begun now : List (Body S D)) (all : ℕ → ℕ) → AreBodiesOf S.state D.state g homes count ws nodes crossings begun → EachOf BodyGoes begun now → AllOf (BodyKeeps S.state D.state) now → AskedAre now crossings all → AllJoined BodiesJoined now crossings
+pub fn their_lanes_keep<S: Source, D: Drain, L: Logic, B: PlugBook>()
+    ensures { (g : Graph) (homes : List ℕ) (count : ℕ) (ws : List Wire) (nodes : List (Seated S D L B)) (crossings : List Crossing) (begun now : List (Body S D L B)) (all : ℕ → ℕ) → AreBodiesOf S.state D.state B.lists g homes count ws nodes crossings begun → EachOf BodyGoes begun now → AllOf (BodyKeeps S.state D.state B.lists) now → AskedAre now crossings all → AllJoined BodiesJoined now crossings
         → LanesKeep g (net_of now) (seats_of homes ws) all }
 {}
 
 /// Where no body has an event, no net has one (`queues`), and each lane rests (`lanes`). Rule: own.
-pub fn their_lanes_rest<S: Source, D: Drain>()
-    ensures queues { (crossings : List Crossing) (now : List (Body S D)) → AtRest is_pending BodiesJoined now crossings → (k : ℕ) → (net_of now k).queue ≡ [] }
-    ensures lanes { (g : Graph) (homes : List ℕ) (count : ℕ) (ws : List Wire) (nodes : List (Seated S D)) (crossings : List Crossing) (begun now : List (Body S D)) (all : ℕ → ℕ) → AreBodiesOf S.state D.state g homes count ws nodes crossings begun → EachOf BodyGoes begun now → AllOf (BodyKeeps S.state D.state) now → AskedAre now crossings all → AtRest is_pending BodiesJoined now crossings
+pub fn their_lanes_rest<S: Source, D: Drain, L: Logic, B: PlugBook>()
+    ensures queues { (crossings : List Crossing) (now : List (Body S D L B)) → AtRest is_pending BodiesJoined now crossings → (k : ℕ) → (net_of now k).queue ≡ [] }
+    ensures lanes { (g : Graph) (homes : List ℕ) (count : ℕ) (ws : List Wire) (nodes : List (Seated S D L B)) (crossings : List Crossing) (begun now : List (Body S D L B)) (all : ℕ → ℕ) → AreBodiesOf S.state D.state B.lists g homes count ws nodes crossings begun → EachOf BodyGoes begun now → AllOf (BodyKeeps S.state D.state B.lists) now → AskedAre now crossings all → AtRest is_pending BodiesJoined now crossings
         → LanesRest g (net_of now) (seats_of homes ws) all }
 {}
 
 /// What bodies spent: `cost` is what was taken off each lane, with the finds of new demand or a cancel there, and the events of all nets
 /// and these costs are at least what was spent (`costs`). So all that was spent is below the count of the blueprint's wires over what
 /// they were sent, by one for each wire (`paid`). The asks that came to outputs are no more than what was spent (`asks`). Rule: own.
-pub fn bodies_are_paid<S: Source, D: Drain>()
-    ensures costs { (g : Graph) (homes : List ℕ) (count : ℕ) (ws : List Wire) (nodes : List (Seated S D)) (crossings : List Crossing) (begun now : List (Body S D)) (all : ℕ → ℕ) → AreBodiesOf S.state D.state g homes count ws nodes crossings begun → EachOf BodyGoes begun now → AllOf (BodyKeeps S.state D.state) now → AskedAre now crossings all → AllJoined BodiesJoined now crossings
+pub fn bodies_are_paid<S: Source, D: Drain, L: Logic, B: PlugBook>()
+    ensures costs { (g : Graph) (homes : List ℕ) (count : ℕ) (ws : List Wire) (nodes : List (Seated S D L B)) (crossings : List Crossing) (begun now : List (Body S D L B)) (all : ℕ → ℕ) → AreBodiesOf S.state D.state B.lists g homes count ws nodes crossings begun → EachOf BodyGoes begun now → AllOf (BodyKeeps S.state D.state B.lists) now → AskedAre now crossings all → AllJoined BodiesJoined now crossings
         → (cost : ℕ → ℕ) × (LanesCost g (net_of now) (seats_of homes ws) all cost × (sum_by (λ b. b.spent) now ≤ sum_below (λ b. total (net_of now b)) count + over_lanes g cost)) }
-    ensures paid { (g : Graph) (homes : List ℕ) (count : ℕ) (ws : List Wire) (nodes : List (Seated S D)) (crossings : List Crossing) (begun now : List (Body S D)) (all : ℕ → ℕ) → AreBodiesOf S.state D.state g homes count ws nodes crossings begun → EachOf BodyGoes begun now → AllOf (BodyKeeps S.state D.state) now → AskedAre now crossings all → AllJoined BodiesJoined now crossings
+    ensures paid { (g : Graph) (homes : List ℕ) (count : ℕ) (ws : List Wire) (nodes : List (Seated S D L B)) (crossings : List Crossing) (begun now : List (Body S D L B)) (all : ℕ → ℕ) → AreBodiesOf S.state D.state B.lists g homes count ws nodes crossings begun → EachOf BodyGoes begun now → AllOf (BodyKeeps S.state D.state B.lists) now → AskedAre now crossings all → AllJoined BodiesJoined now crossings
         → sum_by (λ b. b.spent) now + length g.wires ≤ count_needed g (counts_of (joined (net_of now) (seats_of homes ws) all) g) }
-    ensures asks { (count : ℕ) (now : List (Body S D)) → length now ≡ count → AllOf (BodyKeeps S.state D.state) now → sum_below (λ b. all_asks (net_of now b)) count ≤ sum_by (λ b. b.spent) now }
+    ensures asks { (count : ℕ) (now : List (Body S D L B)) → length now ≡ count → AllOf (BodyKeeps S.state D.state B.lists) now → sum_below (λ b. all_asks (net_of now b)) count ≤ sum_by (λ b. b.spent) now }
 {}
 
 /// Where memory was wanting, each body that broke off had a last moment between two events, and each other one is at such a moment
 /// (`last`). With all islands as they were then, the nets of the bodies cover the graph of the blueprint (`covers`, `owned`, `nets`, `began`), each
 /// net is between two events (`settled`), and their lanes keep what an account wants (`lanes`). Since then each node has kept what outlives
 /// want of memory (`kept`). Rule: own.
-pub fn broken_bodies_cover<S: Source, D: Drain>()
-    ensures last { (begun now : List (Body S D)) → WholeOrBroken (BodyKeeps S.state D.state) BodyGoes (BodyBreaks S.state D.state) begun now → (then : List (Body S D)) × AreLastOf S.state D.state begun now then }
-    ensures covers { (g : Graph) (homes : List ℕ) (count : ℕ) (ws : List Wire) (nodes : List (Seated S D)) (crossings : List Crossing) (begun now then : List (Body S D)) → AreBodiesOf S.state D.state g homes count ws nodes crossings begun
-        → WholeOrBroken (BodyKeeps S.state D.state) BodyGoes (BodyBreaks S.state D.state) begun now → AreLastOf S.state D.state begun now then
+pub fn broken_bodies_cover<S: Source, D: Drain, L: Logic, B: PlugBook>()
+    ensures last { (begun now : List (Body S D L B)) → WholeOrBroken (BodyKeeps S.state D.state B.lists) BodyGoes (BodyBreaks S.state D.state B.lists) begun now → (then : List (Body S D L B)) × AreLastOf S.state D.state B.lists begun now then }
+    ensures covers { (g : Graph) (homes : List ℕ) (count : ℕ) (ws : List Wire) (nodes : List (Seated S D L B)) (crossings : List Crossing) (begun now then : List (Body S D L B)) → AreBodiesOf S.state D.state B.lists g homes count ws nodes crossings begun
+        → WholeOrBroken (BodyKeeps S.state D.state B.lists) BodyGoes (BodyBreaks S.state D.state B.lists) begun now → AreLastOf S.state D.state B.lists begun now then
         → Covers g (net_of then) (seats_of homes ws) }
-    ensures owned { (g : Graph) (homes : List ℕ) (count : ℕ) (ws : List Wire) (nodes : List (Seated S D)) (crossings : List Crossing) (begun now then : List (Body S D)) → AreBodiesOf S.state D.state g homes count ws nodes crossings begun
-        → WholeOrBroken (BodyKeeps S.state D.state) BodyGoes (BodyBreaks S.state D.state) begun now → AreLastOf S.state D.state begun now then
+    ensures owned { (g : Graph) (homes : List ℕ) (count : ℕ) (ws : List Wire) (nodes : List (Seated S D L B)) (crossings : List Crossing) (begun now then : List (Body S D L B)) → AreBodiesOf S.state D.state B.lists g homes count ws nodes crossings begun
+        → WholeOrBroken (BodyKeeps S.state D.state B.lists) BodyGoes (BodyBreaks S.state D.state B.lists) begun now → AreLastOf S.state D.state B.lists begun now then
         → Owned g (net_of then) (seats_of homes ws) count }
-    ensures nets { (g : Graph) (homes : List ℕ) (count : ℕ) (ws : List Wire) (nodes : List (Seated S D)) (crossings : List Crossing) (begun now then : List (Body S D)) → AreBodiesOf S.state D.state g homes count ws nodes crossings begun
-        → WholeOrBroken (BodyKeeps S.state D.state) BodyGoes (BodyBreaks S.state D.state) begun now → AreLastOf S.state D.state begun now then
+    ensures nets { (g : Graph) (homes : List ℕ) (count : ℕ) (ws : List Wire) (nodes : List (Seated S D L B)) (crossings : List Crossing) (begun now then : List (Body S D L B)) → AreBodiesOf S.state D.state B.lists g homes count ws nodes crossings begun
+        → WholeOrBroken (BodyKeeps S.state D.state B.lists) BodyGoes (BodyBreaks S.state D.state B.lists) begun now → AreLastOf S.state D.state B.lists begun now then
         → AreNets homes ws nodes count (net_of then) }
-    ensures began { (g : Graph) (homes : List ℕ) (count : ℕ) (ws : List Wire) (nodes : List (Seated S D)) (crossings : List Crossing) (begun now then : List (Body S D)) (all : ℕ → ℕ) → AreBodiesOf S.state D.state g homes count ws nodes crossings begun
-        → WholeOrBroken (BodyKeeps S.state D.state) BodyGoes (BodyBreaks S.state D.state) begun now → AreLastOf S.state D.state begun now then
-        → (firsts : List (Node S D)) × (AllBecome nodes firsts × ((k : ℕ) → k < length g.nodes → (joined (net_of then) (seats_of homes ws) all).firsts k ≡ slice_get firsts k)) }
-    ensures settled { (begun now then : List (Body S D)) → WholeOrBroken (BodyKeeps S.state D.state) BodyGoes (BodyBreaks S.state D.state) begun now → AreLastOf S.state D.state begun now then
-        → AllSettled S.state D.state then }
-    ensures lanes { (g : Graph) (homes : List ℕ) (count : ℕ) (ws : List Wire) (nodes : List (Seated S D)) (crossings : List Crossing) (begun now then : List (Body S D)) (all : ℕ → ℕ) → AreBodiesOf S.state D.state g homes count ws nodes crossings begun
-        → WholeOrBroken (BodyKeeps S.state D.state) BodyGoes (BodyBreaks S.state D.state) begun now → AreLastOf S.state D.state begun now then → AskedAre now crossings all → AllJoined BodiesJoined now crossings
+    ensures began { (g : Graph) (homes : List ℕ) (count : ℕ) (ws : List Wire) (nodes : List (Seated S D L B)) (crossings : List Crossing) (begun now then : List (Body S D L B)) (all : ℕ → ℕ) → AreBodiesOf S.state D.state B.lists g homes count ws nodes crossings begun
+        → WholeOrBroken (BodyKeeps S.state D.state B.lists) BodyGoes (BodyBreaks S.state D.state B.lists) begun now → AreLastOf S.state D.state B.lists begun now then
+        → (firsts : List (Node S D L B)) × (AllBecome nodes firsts × ((k : ℕ) → k < length g.nodes → (joined (net_of then) (seats_of homes ws) all).firsts k ≡ slice_get firsts k)) }
+    ensures settled { (begun now then : List (Body S D L B)) → WholeOrBroken (BodyKeeps S.state D.state B.lists) BodyGoes (BodyBreaks S.state D.state B.lists) begun now → AreLastOf S.state D.state B.lists begun now then
+        → AllSettled S.state D.state B.lists then }
+    ensures lanes { (g : Graph) (homes : List ℕ) (count : ℕ) (ws : List Wire) (nodes : List (Seated S D L B)) (crossings : List Crossing) (begun now then : List (Body S D L B)) (all : ℕ → ℕ) → AreBodiesOf S.state D.state B.lists g homes count ws nodes crossings begun
+        → WholeOrBroken (BodyKeeps S.state D.state B.lists) BodyGoes (BodyBreaks S.state D.state B.lists) begun now → AreLastOf S.state D.state B.lists begun now then → AskedAre now crossings all → AllJoined BodiesJoined now crossings
         → LanesKeep g (net_of then) (seats_of homes ws) all }
-    ensures kept { (begun now then : List (Body S D)) → WholeOrBroken (BodyKeeps S.state D.state) BodyGoes (BodyBreaks S.state D.state) begun now → AreLastOf S.state D.state begun now then
+    ensures kept { (begun now then : List (Body S D L B)) → WholeOrBroken (BodyKeeps S.state D.state B.lists) BodyGoes (BodyBreaks S.state D.state B.lists) begun now → AreLastOf S.state D.state B.lists begun now then
         → (k : ℕ) → AllKept (KeepsNode S.state D.state) (net_of then k).nodes (net_of now k).nodes }
 {}

@@ -6,6 +6,7 @@ use Rattle.std.proofs.lemmas.Option.{slice_get_within}
 use Rattle.std.specs.declared.vec.Vec.{Vec}
 use Rattle.std.specs.declared.alloc.Global.{Global}
 use Rattle.stream_io.specs.State.{SourceState, DrainState}
+use Rattle.stream_model.specs.Linear.{Book}
 use Rattle.blue_core.specs.declared.blueprint.Blueprint.{Blueprint}
 use Rattle.blue_check.specs.Wires.{blueprint_wires}
 use Rattle.interpreter.specs.Island.{Kept}
@@ -37,14 +38,14 @@ use Rattle.island_bodies.specs.Peers.{ArePeers}
 use Rattle.island_bodies.specs.Making.{way_homes, AreBlank, CanAllBegin}
 use Rattle.bodies_begin.proofs.Ways.{connections}
 
-module _ {S D : Type 0} (sources : S → SourceState) (drains : D → DrainState) (b : Blueprint) (ss : List S) (ds : List D) (f : Filled S D) (filled : IsFilled b ss ds f) (started : List (Kept S D)) (all : AllStarted sources drains f.islands.items started) where
+module _ {S D L B : Type 0} (sources : S → SourceState) (drains : D → DrainState) (book : Book) (b : Blueprint) (ss : List S) (ds : List D) (f : Filled S D L B) (filled : IsFilled b ss ds f) (started : List (Kept S D L B)) (all : AllStarted sources drains book f.islands.items started) where
   -- island k had these parts, and has started
-  pub record IsStarted (k : ℕ) (i : Kept S D) : Type 0 where
-    pub parts : Parts S D
+  pub record IsStarted (k : ℕ) (i : Kept S D L B) : Type 0 where
+    pub parts : Parts S D L B
     pub parts_are : ArePartsOf f.homes.items (blueprint_wires b) filled.nodes k parts
-    pub started_is : HasStarted sources drains parts i
+    pub started_is : HasStarted sources drains book parts i
 
-  pub is_started : (k : ℕ) (i : Kept S D) → slice_get started k ≡ Some i → IsStarted k i
+  pub is_started : (k : ℕ) (i : Kept S D L B) → slice_get started k ≡ Some i → IsStarted k i
   is_started k i at =
       let lt = slice_get_within started k i at in
       let x = there f.islands.items k (omega (arith, lt, all.many)) in
@@ -71,21 +72,21 @@ module _ {S D : Type 0} (sources : S → SourceState) (drains : D → DrainState
         let less : length (whole_links n ws) < 4294967296 = few in
         omega (arith, many, whole, less)
 
-    begin : (k : ℕ) (i : Kept S D) (x : Vec IslandInput Global) (o : Vec OutputBoundary Global) → slice_get started k ≡ Some i → slice_get e.ins.items k ≡ Some x → slice_get e.outs.items k ≡ Some o → BodyBegins i x.items o.items
+    begin : (k : ℕ) (i : Kept S D L B) (x : Vec IslandInput Global) (o : Vec OutputBoundary Global) → slice_get started k ≡ Some i → slice_get e.ins.items k ≡ Some x → slice_get e.outs.items k ≡ Some o → BodyBegins i x.items o.items
     begin k i x o at ins outs =
         let s = is_started k i at in
         let own : BodyBegins i (items_at e.ins.items k) (items_at e.outs.items k) =
-        begins sources drains homes f.count (blueprint_wires b) filled.nodes k s.parts i e (seated b ss ds f filled few) s.parts_are.nodes_are s.parts_are.links_are s.started_is (its_ends e ends) in
+        begins sources drains book homes f.count (blueprint_wires b) filled.nodes k s.parts i e (seated b ss ds f filled few) s.parts_are.nodes_are s.parts_are.links_are s.started_is (its_ends e ends) in
         let taking : BodyBegins i x.items (items_at e.outs.items k) = subst (λ (l : List IslandInput). BodyBegins i l (items_at e.outs.items k)) (ap items_in ins) own in
         subst (λ (l : List OutputBoundary). BodyBegins i x.items l) (ap items_in outs) taking
 
-    blank_at : (k : ℕ) (i : Kept S D) (t : Vec Way Global) → slice_get started k ≡ Some i → slice_get tables k ≡ Some t → t.items ≡ replicate (length i.net.wires) Inner
+    blank_at : (k : ℕ) (i : Kept S D L B) (t : Vec Way Global) → slice_get started k ≡ Some i → slice_get tables k ≡ Some t → t.items ≡ replicate (length i.net.wires) Inner
     blank_at k i t at here =
         let s = is_started k i at in
         let ws = blueprint_wires b in
         let wires : count_of k (way_homes f.ends.wires.items f.lanes.items) ≡ count_of k (way_homes (map (wire_home homes) ws) f.lanes.items) = ap (λ (l : List ℕ). count_of k (way_homes l f.lanes.items)) filled.ends_are.wires_are in
         let lanes : count_of k (way_homes (map (wire_home homes) ws) f.lanes.items) ≡ count_of k (way_homes (map (wire_home homes) ws) (lanes_from homes 0 ws)) = ap (λ (l : List LanePlan). count_of k (way_homes (map (wire_home homes) ws) l)) filled.lanes_are in
-        let own = connections homes f.count ws filled.nodes (seated b ss ds f filled few) sources drains k s.parts i s.parts_are s.started_is in
+        let own = connections homes f.count ws filled.nodes (seated b ss ds f filled few) sources drains book k s.parts i s.parts_are s.started_is in
         blank.each k t here ∙ ap (λ n. replicate n Inner) (wires ∙ (lanes ∙ sym own))
 
     abbrev froms : List ℕ

@@ -28,33 +28,35 @@ ghost use Rattle.island_bodies.specs.Asked.{LieThere};
 ghost use Rattle.island_bodies.specs.Making.{way_homes, AreBlank, CanAllBegin, AreAllBodies};
 ghost use Rattle.bodies_account.specs.Begun.{HaveSameLanes, AreNumbered, AreAligned};
 
+use plug_logic::book::PlugBook;
+use plug_logic::logic::Logic;
 use stream_io::outside::{Drain, Source};
 
 /// The islands of a blueprint that have started, the ends of all its lanes, a blank table for each, and the islands at the other ends of
 /// its lanes are fit to be bodies. Rule: own.
-pub fn started_islands_begin_bodies<S: Source, D: Drain>()
-    ensures { (b : Blueprint) (ss : List S) (ds : List D) (f : Filled S D) (started : List (Kept S D)) (e : AllEnds) (tables : List (Vec Way Global)) (peers : List Peers) → HasFewLinks b → IsFilled b ss ds f → AllStarted S.state D.state f.islands.items started
+pub fn started_islands_begin_bodies<S: Source, D: Drain, L: Logic, B: PlugBook>()
+    ensures { (b : Blueprint) (ss : List S) (ds : List D) (f : Filled S D L B) (started : List (Kept S D L B)) (e : AllEnds) (tables : List (Vec Way Global)) (peers : List Peers) → HasFewLinks b → IsFilled b ss ds f → AllStarted S.state D.state B.lists f.islands.items started
         → AreAllEnds f.lanes.items f.count e → AreBlank (way_homes f.ends.wires.items f.lanes.items) f.count tables → ArePeers f.lanes.items f.count peers → CanAllBegin started e.ins.items e.outs.items tables peers }
 {}
 
 /// The bodies that were made of them are the bodies of the blueprint, and the crossings of its lanes lie between them (`are`). None has
 /// spent a unit (`unspent`), and the ends at each crossing may meet (`meet`). Their islands have the numbers of their nodes and wires
 /// (`numbered`), and at the crossing of each lane lies the input end of its wire (`aligned`). Rule: own.
-pub fn made_bodies_begin_their_blueprint<S: Source, D: Drain>()
-    ensures are { (b : Blueprint) (ss : List S) (ds : List D) (f : Filled S D) (started : List (Kept S D)) (e : AllEnds) (bodies : List (Body S D)) → HasFewLinks b → (filled : IsFilled b ss ds f) → AllStarted S.state D.state f.islands.items started
-        → AreAllEnds f.lanes.items f.count e → AreAllBodies S.state D.state started e.ins.items e.outs.items bodies → AreBodiesOf S.state D.state (graph_of b) f.homes.items f.count (blueprint_wires b) filled.nodes e.crossings.items bodies }
-    ensures unspent { (f : Filled S D) (started : List (Kept S D)) (e : AllEnds) (bodies : List (Body S D)) → length started ≡ length f.islands.items → length f.islands.items ≡ f.count → AreAllEnds f.lanes.items f.count e → AreAllBodies S.state D.state started e.ins.items e.outs.items bodies → AllOf (λ b. b.spent ≡ 0) bodies }
-    ensures meet { (f : Filled S D) (started : List (Kept S D)) (e : AllEnds) (bodies : List (Body S D)) → length started ≡ length f.islands.items → length f.islands.items ≡ f.count → AreAllEnds f.lanes.items f.count e → AreAllBodies S.state D.state started e.ins.items e.outs.items bodies → AreCrossings BodiesMayMeet bodies e.crossings.items }
-    ensures numbered { (b : Blueprint) (ss : List S) (ds : List D) (f : Filled S D) (started : List (Kept S D)) (e : AllEnds) (bodies : List (Body S D)) → (filled : IsFilled b ss ds f) → AllStarted S.state D.state f.islands.items started
-        → AreAllEnds f.lanes.items f.count e → AreAllBodies S.state D.state started e.ins.items e.outs.items bodies → AreNumbered f.homes.items (blueprint_wires b) filled.nodes bodies }
-    ensures aligned { (f : Filled S D) (started : List (Kept S D)) (e : AllEnds) (bodies : List (Body S D)) → length started ≡ length f.islands.items → length f.islands.items ≡ f.count → AreAllEnds f.lanes.items f.count e → AreAllBodies S.state D.state started e.ins.items e.outs.items bodies → AreAligned f.lanes.items e.crossings.items bodies }
+pub fn made_bodies_begin_their_blueprint<S: Source, D: Drain, L: Logic, B: PlugBook>()
+    ensures are { (b : Blueprint) (ss : List S) (ds : List D) (f : Filled S D L B) (started : List (Kept S D L B)) (e : AllEnds) (bodies : List (Body S D L B)) → HasFewLinks b → (filled : IsFilled b ss ds f) → AllStarted S.state D.state B.lists f.islands.items started
+        → AreAllEnds f.lanes.items f.count e → AreAllBodies S.state D.state B.lists started e.ins.items e.outs.items bodies → AreBodiesOf S.state D.state B.lists (graph_of b) f.homes.items f.count (blueprint_wires b) filled.nodes e.crossings.items bodies }
+    ensures unspent { (f : Filled S D L B) (started : List (Kept S D L B)) (e : AllEnds) (bodies : List (Body S D L B)) → length started ≡ length f.islands.items → length f.islands.items ≡ f.count → AreAllEnds f.lanes.items f.count e → AreAllBodies S.state D.state B.lists started e.ins.items e.outs.items bodies → AllOf (λ b. b.spent ≡ 0) bodies }
+    ensures meet { (f : Filled S D L B) (started : List (Kept S D L B)) (e : AllEnds) (bodies : List (Body S D L B)) → length started ≡ length f.islands.items → length f.islands.items ≡ f.count → AreAllEnds f.lanes.items f.count e → AreAllBodies S.state D.state B.lists started e.ins.items e.outs.items bodies → AreCrossings BodiesMayMeet bodies e.crossings.items }
+    ensures numbered { (b : Blueprint) (ss : List S) (ds : List D) (f : Filled S D L B) (started : List (Kept S D L B)) (e : AllEnds) (bodies : List (Body S D L B)) → (filled : IsFilled b ss ds f) → AllStarted S.state D.state B.lists f.islands.items started
+        → AreAllEnds f.lanes.items f.count e → AreAllBodies S.state D.state B.lists started e.ins.items e.outs.items bodies → AreNumbered f.homes.items (blueprint_wires b) filled.nodes bodies }
+    ensures aligned { (f : Filled S D L B) (started : List (Kept S D L B)) (e : AllEnds) (bodies : List (Body S D L B)) → length started ≡ length f.islands.items → length f.islands.items ≡ f.count → AreAllEnds f.lanes.items f.count e → AreAllBodies S.state D.state B.lists started e.ins.items e.outs.items bodies → AreAligned f.lanes.items e.crossings.items bodies }
 {}
 
 /// Bodies that go on keep the lanes of their ends (`went`), also where some broke off (`broke`). So at the crossing of each lane still lies
 /// the input end of its wire (`aligned`), and it is there (`lie`). Rule: own.
-pub fn ends_stay_at_their_crossings<S: Source, D: Drain>()
-    ensures went { (begun now : List (Body S D)) → EachOf BodyGoes begun now → EachOf HaveSameLanes begun now }
-    ensures broke { (begun now : List (Body S D)) → WholeOrBroken (BodyKeeps S.state D.state) BodyGoes (BodyBreaks S.state D.state) begun now → EachOf HaveSameLanes begun now }
-    ensures aligned { (lanes : List LanePlan) (crossings : List Crossing) (begun now : List (Body S D)) → AreAligned lanes crossings begun → EachOf HaveSameLanes begun now → AreAligned lanes crossings now }
-    ensures lie { (crossings : List Crossing) (begun now : List (Body S D)) → AreCrossings BodiesMayMeet begun crossings → EachOf HaveSameLanes begun now → LieThere now crossings }
+pub fn ends_stay_at_their_crossings<S: Source, D: Drain, L: Logic, B: PlugBook>()
+    ensures went { (begun now : List (Body S D L B)) → EachOf BodyGoes begun now → EachOf HaveSameLanes begun now }
+    ensures broke { (begun now : List (Body S D L B)) → WholeOrBroken (BodyKeeps S.state D.state B.lists) BodyGoes (BodyBreaks S.state D.state B.lists) begun now → EachOf HaveSameLanes begun now }
+    ensures aligned { (lanes : List LanePlan) (crossings : List Crossing) (begun now : List (Body S D L B)) → AreAligned lanes crossings begun → EachOf HaveSameLanes begun now → AreAligned lanes crossings now }
+    ensures lie { (crossings : List Crossing) (begun now : List (Body S D L B)) → AreCrossings BodiesMayMeet begun crossings → EachOf HaveSameLanes begun now → LieThere now crossings }
 {}

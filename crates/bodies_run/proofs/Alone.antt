@@ -15,9 +15,10 @@ use Rattle.run_account.specs.Ports.{wire_count}
 use Rattle.run_laws.specs.Runs.{IsRun}
 use Rattle.bodies_run.specs.Leaving.{AreLeft, of_lists}
 use Rattle.bodies_run.proofs.Leaving.{become_many}
+use Rattle.stream_model.specs.Linear.{Book}
 
-module _ {S D : Type 0} (sources : S → SourceState) (drains : D → DrainState) (g : Graph) (a : Account (Node S D)) (places : List (Seated S D)) (nodes : List (Node S D)) (left : AreLeft places a nodes) where
-  pub run_alone : length places ≡ length g.nodes → IsRun sources drains g a → IsRun sources drains g (of_lists a left.firsts nodes)
+module _ {S D L B : Type 0} (sources : S → SourceState) (drains : D → DrainState) (book : Book) (g : Graph) (a : Account (Node S D L B)) (places : List (Seated S D L B)) (nodes : List (Node S D L B)) (left : AreLeft places a nodes) where
+  pub run_alone : length places ≡ length g.nodes → IsRun sources drains book g a → IsRun sources drains book g (of_lists a left.firsts nodes)
   run_alone many run = record {
     joined = run.joined;
     keeps = record {
@@ -34,7 +35,7 @@ module _ {S D : Type 0} (sources : S → SourceState) (drains : D → DrainState
       within : (k : ℕ) (n : graph.Node) → slice_get g.nodes k ≡ Some n → k < length left.firsts
       within k n at = subst (λ (j : ℕ). k < j) (sym many ∙ become_many places left.firsts left.become) (slice_get-below g.nodes k n at)
 
-      each : (k : ℕ) (n : graph.Node) → slice_get g.nodes k ≡ Some n → NodeKeeps node_row (node_law sources drains) node_asking node_moves g (of_lists a left.firsts nodes) k n
+      each : (k : ℕ) (n : graph.Node) → slice_get g.nodes k ≡ Some n → NodeKeeps node_row (node_law sources drains book) node_asking node_moves g (of_lists a left.firsts nodes) k n
       each k n at =
           let h = run.keeps.each_node k n at in
           record {

@@ -26,35 +26,36 @@ use Rattle.bodies_account.specs.Bodies.{net_of, AskedAre, AreBodiesOf, AreLastOf
 use Rattle.bodies_account.proofs.Breaking.{last_settled, last_kept, last_cover, last_nets, last_began, last_lanes}
 use Rattle.bodies_run.specs.Leaving.{account_in, AreLeft}
 use Rattle.bodies_run.proofs.Leaving.{are_made, nodes_back, others_back, are_left, kept_many, kept_back}
+use Rattle.stream_model.specs.Linear.{Book}
 
-module _ {S D : Type 0} (sources : S → SourceState) (drains : D → DrainState) (begun now : List (Body S D)) (broke : WholeOrBroken (BodyKeeps sources drains) BodyGoes (BodyBreaks sources drains) begun now) (then : List (Body S D))
-    (l : AreLastOf sources drains begun now then) where
-  pub broken_kept : (homes : List ℕ) (count : ℕ) (b : Blueprint) (last ends broken later : List (Node S D)) → AreBroughtBack homes count (blueprint_wires b) (λ k. (net_of then k).nodes) last ends
+module _ {S D L B : Type 0} (sources : S → SourceState) (drains : D → DrainState) (book : Book) (begun now : List (Body S D L B)) (broke : WholeOrBroken (BodyKeeps sources drains book) BodyGoes (BodyBreaks sources drains book) begun now) (then : List (Body S D L B))
+    (l : AreLastOf sources drains book begun now then) where
+  pub broken_kept : (homes : List ℕ) (count : ℕ) (b : Blueprint) (last ends broken later : List (Node S D L B)) → AreBroughtBack homes count (blueprint_wires b) (λ k. (net_of then k).nodes) last ends
       → AreBroughtBack homes count (blueprint_wires b) (λ k. (net_of now k).nodes) broken later → AllKept (KeepsNode sources drains) last broken
   broken_kept homes count b last ends broken later r s =
-      kept_back (KeepsNode sources drains) homes count (blueprint_wires b) (λ (k : ℕ). (net_of then k).nodes) (λ (k : ℕ). (net_of now k).nodes) last ends broken later (last_kept sources drains begun now broke then l) r s
+      kept_back (KeepsNode sources drains) homes count (blueprint_wires b) (λ (k : ℕ). (net_of then k).nodes) (λ (k : ℕ). (net_of now k).nodes) last ends broken later (last_kept sources drains book begun now broke then l) r s
 
-  module _ (b : Blueprint) (homes : List ℕ) (count : ℕ) (nodes : List (Seated S D)) (crossings : List Crossing) (m : AreBodiesOf sources drains (graph_of b) homes count (blueprint_wires b) nodes crossings begun) where
-    pub broken_back : ((last : List (Node S D)) × ((ends : List (Node S D)) × AreBroughtBack homes count (blueprint_wires b) (λ k. (net_of then k).nodes) last ends))
-        × ((broken : List (Node S D)) × ((ends : List (Node S D)) × AreBroughtBack homes count (blueprint_wires b) (λ k. (net_of now k).nodes) broken ends))
+  module _ (b : Blueprint) (homes : List ℕ) (count : ℕ) (nodes : List (Seated S D L B)) (crossings : List Crossing) (m : AreBodiesOf sources drains book (graph_of b) homes count (blueprint_wires b) nodes crossings begun) where
+    pub broken_back : ((last : List (Node S D L B)) × ((ends : List (Node S D L B)) × AreBroughtBack homes count (blueprint_wires b) (λ k. (net_of then k).nodes) last ends))
+        × ((broken : List (Node S D L B)) × ((ends : List (Node S D L B)) × AreBroughtBack homes count (blueprint_wires b) (λ k. (net_of now k).nodes) broken ends))
     broken_back =
-        let nets = last_nets sources drains begun now broke then l (graph_of b) homes count (blueprint_wires b) nodes crossings m in (
+        let nets = last_nets sources drains book begun now broke then l (graph_of b) homes count (blueprint_wires b) nodes crossings m in (
           nodes_back homes count (blueprint_wires b) nodes m.seated (net_of then) nets,
           others_back homes count (blueprint_wires b) nodes m.seated (net_of then) nets (λ (k : ℕ). (net_of now k).nodes)
-              (λ k. kept_many (KeepsNode sources drains) (net_of then k).nodes (net_of now k).nodes (last_kept sources drains begun now broke then l k)),
+              (λ k. kept_many (KeepsNode sources drains) (net_of then k).nodes (net_of now k).nodes (last_kept sources drains book begun now broke then l k)),
         )
 
     module _ (all : ℕ → ℕ) where
-      pub broken_left : (last ends : List (Node S D)) → AreBroughtBack homes count (blueprint_wires b) (λ k. (net_of then k).nodes) last ends
+      pub broken_left : (last ends : List (Node S D L B)) → AreBroughtBack homes count (blueprint_wires b) (λ k. (net_of then k).nodes) last ends
           → AreLeft nodes (account_in homes (blueprint_wires b) then all) last
       broken_left last ends r =
-          let w = last_began sources drains begun now broke then l (graph_of b) homes count (blueprint_wires b) nodes crossings m all in
-          are_left homes count (blueprint_wires b) nodes m.seated (net_of then) (last_nets sources drains begun now broke then l (graph_of b) homes count (blueprint_wires b) nodes crossings m) all _ m.graph.each_node w.0 w.1.0 w.1.1 last ends r
+          let w = last_began sources drains book begun now broke then l (graph_of b) homes count (blueprint_wires b) nodes crossings m all in
+          are_left homes count (blueprint_wires b) nodes m.seated (net_of then) (last_nets sources drains book begun now broke then l (graph_of b) homes count (blueprint_wires b) nodes crossings m) all _ m.graph.each_node w.0 w.1.0 w.1.1 last ends r
 
       pub broken_run : AskedAre now crossings all → AllJoined BodiesJoined now crossings → (plugs : List PlugHead) (taken : List (List ℕ)) (ss : List S) (ds : List D) → IsFit b plugs taken → AreSeats 0 b.nodes.items ss ds nodes → All (λ s. (sources s).given ≡ 0) ss
-          → IsRun sources drains (graph_of b) (account_in homes (blueprint_wires b) then all)
+          → IsRun sources drains book (graph_of b) (account_in homes (blueprint_wires b) then all)
       broken_run asked joined plugs taken ss ds fit seats given =
-          let w = last_began sources drains begun now broke then l (graph_of b) homes count (blueprint_wires b) nodes crossings m all in
-          all_run sources drains (graph_of b) (net_of then) (seats_of homes (blueprint_wires b)) all (last_cover sources drains begun now broke then l (graph_of b) homes count (blueprint_wires b) nodes crossings m)
-          (last_settled sources drains begun now broke then l) (fit_joined b plugs taken fit) (last_lanes sources drains begun now broke then l (graph_of b) homes count (blueprint_wires b) nodes crossings m all asked joined)
+          let w = last_began sources drains book begun now broke then l (graph_of b) homes count (blueprint_wires b) nodes crossings m all in
+          all_run sources drains book (graph_of b) (net_of then) (seats_of homes (blueprint_wires b)) all (last_cover sources drains book begun now broke then l (graph_of b) homes count (blueprint_wires b) nodes crossings m)
+          (last_settled sources drains book begun now broke then l) (fit_joined b plugs taken fit) (last_lanes sources drains book begun now broke then l (graph_of b) homes count (blueprint_wires b) nodes crossings m all asked joined)
           (are_made sources b ss ds nodes w.0 (account_in homes (blueprint_wires b) then all) seats w.1.0 given w.1.1)

@@ -27,48 +27,50 @@ ghost use Rattle.island_body.specs.declared.body.Body.{Body};
 ghost use Rattle.bodies_account.specs.Bodies.{net_of, AskedAre, AreBodiesOf, AreLastOf};
 ghost use Rattle.bodies_run.specs.Leaving.{account_in, AreLeft, of_lists};
 
+use plug_logic::book::PlugBook;
+use plug_logic::logic::Logic;
 use stream_io::outside::{Drain, Source};
 
 /// The bodies of a blueprint that breaks no rule, of whose sources none had handed out a byte, leave a run of it, wherever they are
 /// between turns once the ends of all lanes were brought together (`run`). The nodes of their islands come back into one list (`back`), and the
 /// run is of those of the blueprint's nodes (`nodes`). No event is left on any wire where no body has one (`still`). What they spent is
 /// below the count of the blueprint's wires over what they were sent, by one for each wire (`most`). Rule: own.
-pub fn bodies_leave_a_run<S: Source, D: Drain>()
-    ensures run { (b : Blueprint) (homes : List ℕ) (count : ℕ) (nodes : List (Seated S D)) (crossings : List Crossing) (begun now : List (Body S D)) (all : ℕ → ℕ) (plugs : List PlugHead) (taken : List (List ℕ)) (ss : List S) (ds : List D) → IsFit b plugs taken → AreSeats 0 b.nodes.items ss ds nodes → All (λ s. (S.state s).given ≡ 0) ss
-        → AreBodiesOf S.state D.state (graph_of b) homes count (blueprint_wires b) nodes crossings begun → EachOf BodyGoes begun now → AllOf (BodyKeeps S.state D.state) now → AskedAre now crossings all → AllJoined BodiesJoined now crossings
-        → IsRun S.state D.state (graph_of b) (account_in homes (blueprint_wires b) now all) }
-    ensures back { (b : Blueprint) (homes : List ℕ) (count : ℕ) (nodes : List (Seated S D)) (crossings : List Crossing) (begun now : List (Body S D)) → AreBodiesOf S.state D.state (graph_of b) homes count (blueprint_wires b) nodes crossings begun → EachOf BodyGoes begun now → AllOf (BodyKeeps S.state D.state) now
-        → (last : List (Node S D)) × ((ends : List (Node S D)) × AreBroughtBack homes count (blueprint_wires b) (λ k. (net_of now k).nodes) last ends) }
-    ensures nodes { (b : Blueprint) (homes : List ℕ) (count : ℕ) (nodes : List (Seated S D)) (crossings : List Crossing) (begun now : List (Body S D)) (all : ℕ → ℕ) (last ends : List (Node S D)) → AreBodiesOf S.state D.state (graph_of b) homes count (blueprint_wires b) nodes crossings begun → EachOf BodyGoes begun now → AllOf (BodyKeeps S.state D.state) now
+pub fn bodies_leave_a_run<S: Source, D: Drain, L: Logic, B: PlugBook>()
+    ensures run { (b : Blueprint) (homes : List ℕ) (count : ℕ) (nodes : List (Seated S D L B)) (crossings : List Crossing) (begun now : List (Body S D L B)) (all : ℕ → ℕ) (plugs : List PlugHead) (taken : List (List ℕ)) (ss : List S) (ds : List D) → IsFit b plugs taken → AreSeats 0 b.nodes.items ss ds nodes → All (λ s. (S.state s).given ≡ 0) ss
+        → AreBodiesOf S.state D.state B.lists (graph_of b) homes count (blueprint_wires b) nodes crossings begun → EachOf BodyGoes begun now → AllOf (BodyKeeps S.state D.state B.lists) now → AskedAre now crossings all → AllJoined BodiesJoined now crossings
+        → IsRun S.state D.state B.lists (graph_of b) (account_in homes (blueprint_wires b) now all) }
+    ensures back { (b : Blueprint) (homes : List ℕ) (count : ℕ) (nodes : List (Seated S D L B)) (crossings : List Crossing) (begun now : List (Body S D L B)) → AreBodiesOf S.state D.state B.lists (graph_of b) homes count (blueprint_wires b) nodes crossings begun → EachOf BodyGoes begun now → AllOf (BodyKeeps S.state D.state B.lists) now
+        → (last : List (Node S D L B)) × ((ends : List (Node S D L B)) × AreBroughtBack homes count (blueprint_wires b) (λ k. (net_of now k).nodes) last ends) }
+    ensures nodes { (b : Blueprint) (homes : List ℕ) (count : ℕ) (nodes : List (Seated S D L B)) (crossings : List Crossing) (begun now : List (Body S D L B)) (all : ℕ → ℕ) (last ends : List (Node S D L B)) → AreBodiesOf S.state D.state B.lists (graph_of b) homes count (blueprint_wires b) nodes crossings begun → EachOf BodyGoes begun now → AllOf (BodyKeeps S.state D.state B.lists) now
         → AreBroughtBack homes count (blueprint_wires b) (λ k. (net_of now k).nodes) last ends → AreLeft nodes (account_in homes (blueprint_wires b) now all) last }
-    ensures still { (b : Blueprint) (homes : List ℕ) (count : ℕ) (nodes : List (Seated S D)) (crossings : List Crossing) (begun now : List (Body S D)) (all : ℕ → ℕ) → AreBodiesOf S.state D.state (graph_of b) homes count (blueprint_wires b) nodes crossings begun → EachOf BodyGoes begun now → AllOf (BodyKeeps S.state D.state) now → AskedAre now crossings all → AtRest is_pending BodiesJoined now crossings
+    ensures still { (b : Blueprint) (homes : List ℕ) (count : ℕ) (nodes : List (Seated S D L B)) (crossings : List Crossing) (begun now : List (Body S D L B)) (all : ℕ → ℕ) → AreBodiesOf S.state D.state B.lists (graph_of b) homes count (blueprint_wires b) nodes crossings begun → EachOf BodyGoes begun now → AllOf (BodyKeeps S.state D.state B.lists) now → AskedAre now crossings all → AtRest is_pending BodiesJoined now crossings
         → IsStill (graph_of b) (account_in homes (blueprint_wires b) now all) }
-    ensures most { (b : Blueprint) (homes : List ℕ) (count : ℕ) (nodes : List (Seated S D)) (crossings : List Crossing) (begun now : List (Body S D)) (all : ℕ → ℕ) → AreBodiesOf S.state D.state (graph_of b) homes count (blueprint_wires b) nodes crossings begun → EachOf BodyGoes begun now → AllOf (BodyKeeps S.state D.state) now → AskedAre now crossings all → AllJoined BodiesJoined now crossings
+    ensures most { (b : Blueprint) (homes : List ℕ) (count : ℕ) (nodes : List (Seated S D L B)) (crossings : List Crossing) (begun now : List (Body S D L B)) (all : ℕ → ℕ) → AreBodiesOf S.state D.state B.lists (graph_of b) homes count (blueprint_wires b) nodes crossings begun → EachOf BodyGoes begun now → AllOf (BodyKeeps S.state D.state B.lists) now → AskedAre now crossings all → AllJoined BodiesJoined now crossings
         → sum_by (λ b. b.spent) now + length (blueprint_wires b) ≤ count_needed (graph_of b) (counts_of (account_in homes (blueprint_wires b) now all) (graph_of b)) }
 {}
 
 /// Bodies of which some broke off leave a run too, with their islands as they were at a last moment between two events (`run`). The nodes
 /// of the islands come back into one list, as they were then and as they are (`back`); the run is of those of the blueprint's nodes as
 /// they were then (`nodes`), and since then each has kept what outlives want of memory (`kept`). Rule: own.
-pub fn broken_bodies_leave_a_run<S: Source, D: Drain>()
-    ensures run { (b : Blueprint) (homes : List ℕ) (count : ℕ) (nodes : List (Seated S D)) (crossings : List Crossing) (begun now then : List (Body S D)) (all : ℕ → ℕ) (plugs : List PlugHead) (taken : List (List ℕ)) (ss : List S) (ds : List D) → IsFit b plugs taken → AreSeats 0 b.nodes.items ss ds nodes → All (λ s. (S.state s).given ≡ 0) ss
-        → AreBodiesOf S.state D.state (graph_of b) homes count (blueprint_wires b) nodes crossings begun → WholeOrBroken (BodyKeeps S.state D.state) BodyGoes (BodyBreaks S.state D.state) begun now → AreLastOf S.state D.state begun now then
-        → AskedAre now crossings all → AllJoined BodiesJoined now crossings → IsRun S.state D.state (graph_of b) (account_in homes (blueprint_wires b) then all) }
-    ensures back { (b : Blueprint) (homes : List ℕ) (count : ℕ) (nodes : List (Seated S D)) (crossings : List Crossing) (begun now then : List (Body S D)) → AreBodiesOf S.state D.state (graph_of b) homes count (blueprint_wires b) nodes crossings begun → WholeOrBroken (BodyKeeps S.state D.state) BodyGoes (BodyBreaks S.state D.state) begun now → AreLastOf S.state D.state begun now then
-        → ((last : List (Node S D)) × ((ends : List (Node S D)) × AreBroughtBack homes count (blueprint_wires b) (λ k. (net_of then k).nodes) last ends))
-        × ((broken : List (Node S D)) × ((ends : List (Node S D)) × AreBroughtBack homes count (blueprint_wires b) (λ k. (net_of now k).nodes) broken ends)) }
-    ensures nodes { (b : Blueprint) (homes : List ℕ) (count : ℕ) (nodes : List (Seated S D)) (crossings : List Crossing) (begun now then : List (Body S D)) (all : ℕ → ℕ) (last ends : List (Node S D)) → AreBodiesOf S.state D.state (graph_of b) homes count (blueprint_wires b) nodes crossings begun → WholeOrBroken (BodyKeeps S.state D.state) BodyGoes (BodyBreaks S.state D.state) begun now → AreLastOf S.state D.state begun now then
+pub fn broken_bodies_leave_a_run<S: Source, D: Drain, L: Logic, B: PlugBook>()
+    ensures run { (b : Blueprint) (homes : List ℕ) (count : ℕ) (nodes : List (Seated S D L B)) (crossings : List Crossing) (begun now then : List (Body S D L B)) (all : ℕ → ℕ) (plugs : List PlugHead) (taken : List (List ℕ)) (ss : List S) (ds : List D) → IsFit b plugs taken → AreSeats 0 b.nodes.items ss ds nodes → All (λ s. (S.state s).given ≡ 0) ss
+        → AreBodiesOf S.state D.state B.lists (graph_of b) homes count (blueprint_wires b) nodes crossings begun → WholeOrBroken (BodyKeeps S.state D.state B.lists) BodyGoes (BodyBreaks S.state D.state B.lists) begun now → AreLastOf S.state D.state B.lists begun now then
+        → AskedAre now crossings all → AllJoined BodiesJoined now crossings → IsRun S.state D.state B.lists (graph_of b) (account_in homes (blueprint_wires b) then all) }
+    ensures back { (b : Blueprint) (homes : List ℕ) (count : ℕ) (nodes : List (Seated S D L B)) (crossings : List Crossing) (begun now then : List (Body S D L B)) → AreBodiesOf S.state D.state B.lists (graph_of b) homes count (blueprint_wires b) nodes crossings begun → WholeOrBroken (BodyKeeps S.state D.state B.lists) BodyGoes (BodyBreaks S.state D.state B.lists) begun now → AreLastOf S.state D.state B.lists begun now then
+        → ((last : List (Node S D L B)) × ((ends : List (Node S D L B)) × AreBroughtBack homes count (blueprint_wires b) (λ k. (net_of then k).nodes) last ends))
+        × ((broken : List (Node S D L B)) × ((ends : List (Node S D L B)) × AreBroughtBack homes count (blueprint_wires b) (λ k. (net_of now k).nodes) broken ends)) }
+    ensures nodes { (b : Blueprint) (homes : List ℕ) (count : ℕ) (nodes : List (Seated S D L B)) (crossings : List Crossing) (begun now then : List (Body S D L B)) (all : ℕ → ℕ) (last ends : List (Node S D L B)) → AreBodiesOf S.state D.state B.lists (graph_of b) homes count (blueprint_wires b) nodes crossings begun → WholeOrBroken (BodyKeeps S.state D.state B.lists) BodyGoes (BodyBreaks S.state D.state B.lists) begun now → AreLastOf S.state D.state B.lists begun now then
         → AreBroughtBack homes count (blueprint_wires b) (λ k. (net_of then k).nodes) last ends → AreLeft nodes (account_in homes (blueprint_wires b) then all) last }
-    ensures kept { (homes : List ℕ) (count : ℕ) (b : Blueprint) (begun now then : List (Body S D)) (last ends broken later : List (Node S D)) → WholeOrBroken (BodyKeeps S.state D.state) BodyGoes (BodyBreaks S.state D.state) begun now → AreLastOf S.state D.state begun now then
+    ensures kept { (homes : List ℕ) (count : ℕ) (b : Blueprint) (begun now then : List (Body S D L B)) (last ends broken later : List (Node S D L B)) → WholeOrBroken (BodyKeeps S.state D.state B.lists) BodyGoes (BodyBreaks S.state D.state B.lists) begun now → AreLastOf S.state D.state B.lists begun now then
         → AreBroughtBack homes count (blueprint_wires b) (λ k. (net_of then k).nodes) last ends → AreBroughtBack homes count (blueprint_wires b) (λ k. (net_of now k).nodes) broken later
         → AllKept (KeepsNode S.state D.state) last broken }
 {}
 
 /// A run is one too by an account that says nothing beyond the nodes of the blueprint, which holds lists of them (`run`). It is as still
 /// (`still`), and its picture is the same (`counts`). Rule: own.
-pub fn nodes_alone_are_a_run<S: Source, D: Drain>()
-    ensures run { (g : Graph) (a : Account (Node S D)) (places : List (Seated S D)) (nodes : List (Node S D)) → (left : AreLeft places a nodes) → length places ≡ length g.nodes → IsRun S.state D.state g a
-        → IsRun S.state D.state g (of_lists a left.firsts nodes) }
-    ensures still { (g : Graph) (a : Account (Node S D)) (firsts nodes : List (Node S D)) → IsStill g a → IsStill g (of_lists a firsts nodes) }
-    ensures counts { (g : Graph) (a : Account (Node S D)) (firsts nodes : List (Node S D)) → counts_of (of_lists a firsts nodes) g ≡ counts_of a g }
+pub fn nodes_alone_are_a_run<S: Source, D: Drain, L: Logic, B: PlugBook>()
+    ensures run { (g : Graph) (a : Account (Node S D L B)) (places : List (Seated S D L B)) (nodes : List (Node S D L B)) → (left : AreLeft places a nodes) → length places ≡ length g.nodes → IsRun S.state D.state B.lists g a
+        → IsRun S.state D.state B.lists g (of_lists a left.firsts nodes) }
+    ensures still { (g : Graph) (a : Account (Node S D L B)) (firsts nodes : List (Node S D L B)) → IsStill g a → IsStill g (of_lists a firsts nodes) }
+    ensures counts { (g : Graph) (a : Account (Node S D L B)) (firsts nodes : List (Node S D L B)) → counts_of (of_lists a firsts nodes) g ≡ counts_of a g }
 {}

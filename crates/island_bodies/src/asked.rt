@@ -7,6 +7,8 @@ ghost use Rattle.island_input.specs.declared.boundary.IslandInput as inputs;
 ghost use Rattle.island_bodies.specs.Asked.{LiesThere, LieThere, AreWithin, AreAsked, AreNoted, noted};
 
 use island_body::body::Body;
+use plug_logic::book::PlugBook;
+use plug_logic::logic::Logic;
 use rounds::crossing::Crossing;
 use stream_io::outside::{Drain, Source};
 use stream_model::outcome::WireCount;
@@ -14,8 +16,8 @@ use traversal::plan::LanePlan;
 
 /// Of each lane how many elements its input end has asked for in all: `crossings` says where its two ends lie. `all` is empty and has
 /// room for each: it takes no memory. Rule: own.
-pub fn asked_of<S: Source, D: Drain>(
-    bodies: &[Body<S, D>],
+pub fn asked_of<S: Source, D: Drain, L: Logic, B: PlugBook>(
+    bodies: &[Body<S, D, L, B>],
     crossings: &[Crossing],
     all: Vec<u64>,
 ) -> Vec<u64>
@@ -32,9 +34,12 @@ pub fn asked_of<S: Source, D: Drain>(
 }
 
 // How many elements the input end at a crossing has asked for in all.
-fn asked_at<S: Source, D: Drain>(bodies: &[Body<S, D>], crossing: &Crossing) -> u64
+fn asked_at<S: Source, D: Drain, L: Logic, B: PlugBook>(
+    bodies: &[Body<S, D, L, B>],
+    crossing: &Crossing,
+) -> u64
     requires { LiesThere bodies.now crossing.now }
-    ensures { (b : island.Body S D) (x : inputs.IslandInput) → slice_get bodies.now crossing.now.to ≡ Some b → slice_get b.ins.items crossing.now.inp ≡ Some x → result ≡ asked x.boundary.lane }
+    ensures { (b : island.Body S D L B) (x : inputs.IslandInput) → slice_get bodies.now crossing.now.to ≡ Some b → slice_get b.ins.items crossing.now.inp ≡ Some x → result ≡ asked x.boundary.lane }
 {
     bodies[crossing.to as usize].asked(crossing.inp as usize)
 }

@@ -10,24 +10,26 @@ use island_body::peers::Peers;
 use island_body::way::Way;
 use island_input::boundary::IslandInput;
 use output_boundary::boundary::OutputBoundary;
+use plug_logic::book::PlugBook;
+use plug_logic::logic::Logic;
 use std::alloc::Global;
 use std::vec::IntoIter;
 use stream_io::outside::{Drain, Source};
 
 /// Makes the bodies of these islands, in their order, each with the ends of its lanes, with its blank table, and with the islands at the
 /// other ends of its lanes. Each end has then done what it has to do at the start. `bodies` is empty and has room for all: it takes no memory, and no unit. Rule: own.
-pub fn make_all<S: Source, D: Drain>(
-    islands: Vec<Island<S, D>>,
+pub fn make_all<S: Source, D: Drain, L: Logic, B: PlugBook>(
+    islands: Vec<Island<S, D, L, B>>,
     ins: Vec<Vec<IslandInput>>,
     outs: Vec<Vec<OutputBoundary>>,
     tables: Vec<Vec<Way>>,
     peers: Vec<Peers>,
-    bodies: Vec<Body<S, D>>,
-) -> Vec<Body<S, D>>
+    bodies: Vec<Body<S, D, L, B>>,
+) -> Vec<Body<S, D, L, B>>
     requires begin { CanAllBegin islands.items ins.items outs.items tables.items peers.items }
     requires none_made { bodies.items ≡ [] }
     requires room { vec_len islands ≤ vec_capacity bodies }
-    ensures all { AreAllBodies S.state D.state islands.items ins.items outs.items result.items }
+    ensures all { AreAllBodies S.state D.state B.lists islands.items ins.items outs.items result.items }
     ensures peers { HavePeers peers.items result.items }
 {
     let mut bodies = bodies;
@@ -60,8 +62,8 @@ fn first<T>(rest: &mut IntoIter<T, Global>) -> T
 
 /// Takes these bodies apart: what the island of each leaves, in their order. `ends` is empty and has room for all: it takes no memory,
 /// also after a turn that answered `NoMemory`. Rule: own.
-pub fn finish_all<S: Source, D: Drain>(
-    bodies: Vec<Body<S, D>>,
+pub fn finish_all<S: Source, D: Drain, L: Logic, B: PlugBook>(
+    bodies: Vec<Body<S, D, L, B>>,
     ends: Vec<IslandEnd<S, D>>,
 ) -> Vec<IslandEnd<S, D>>
     requires none_ended { ends.items ≡ [] }

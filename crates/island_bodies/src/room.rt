@@ -10,6 +10,8 @@ use island_body::body::Body;
 use island_body::peers::Peers;
 use island_body::table::blank_ways;
 use island_body::way::Way;
+use plug_logic::book::PlugBook;
+use plug_logic::logic::Logic;
 use scatter::ranks::ranks_of;
 use std::alloc::Global;
 use stream_io::outside::{Drain, Source};
@@ -17,18 +19,18 @@ use traversal::plan::LanePlan;
 
 /// All that the bodies of islands, and their ends, take of memory.
 #[derive(Drop)]
-pub struct BodyRoom<S: Source, D: Drain> {
+pub struct BodyRoom<S: Source, D: Drain, L: Logic, B: PlugBook> {
     /// Of each island a blank table, with a row for each of its connections.
     pub tables: Vec<Vec<Way>>,
     /// Of each the islands at the other ends of its lanes.
     pub peers: Vec<Peers>,
     /// Empty, with room for the body of each.
-    pub bodies: Vec<Body<S, D>>,
+    pub bodies: Vec<Body<S, D, L, B>>,
     /// Empty, with room for the end of each.
     pub ends: Vec<IslandEnd<S, D>>,
 }
 
-impl<S: Source, D: Drain> BodyRoom<S, D> {
+impl<S: Source, D: Drain, L: Logic, B: PlugBook> BodyRoom<S, D, L, B> {
     /// The room for the bodies of so many islands, and for their ends. `wires` is of each wire the island in which it begins: there is
     /// one connection for each wire, and one more for each lane, in the island that it leads to. Rule: own.
     pub fn of(
@@ -36,7 +38,7 @@ impl<S: Source, D: Drain> BodyRoom<S, D> {
         wires: &[usize],
         lanes: &[LanePlan],
         count: usize,
-    ) -> Result<BodyRoom<S, D>, NoMemory>
+    ) -> Result<BodyRoom<S, D, L, B>, NoMemory>
         requires wires { All (λ h. h < count) wires.now }
         requires lanes { CanAllBeMade count lanes.now }
         ensures { IfOk result (IsRoomFor wires.now lanes.now count) }

@@ -1,4 +1,4 @@
--- A body may go to another thread where its source and its drain may.
+-- A body may go to another thread where its source, its drain, its plugs and their book may.
 use denote.Param.Send.{IsSend, sendable, recorded_send, enum_send, struct_send, view_send}
 use denote.Struct.Declared as declared
 use denote.Enum.Declared.{shape}
@@ -42,7 +42,11 @@ use Rattle.stage_state.specs.contracts.machine.MachineLogic as machine
 use Rattle.stage_state.specs.contracts.keep.KeepLogic as keep
 use Rattle.stage_state.specs.contracts.buffer.BufferLogic as buffer
 use Rattle.stage_state.specs.contracts.logic.StateLogic as state
+use Rattle.stage_linear.specs.contracts.plug.PlugTask as plug_task
+use Rattle.stage_linear.specs.contracts.task.Task as task
+use Rattle.stage_linear.specs.contracts.worker.Worker as worker
 use Rattle.stage_linear.specs.contracts.logic.LinearLogic as linear
+use Rattle.stage_linear.specs.contracts.logic.LinearLogic.TheInside as linear_inside
 use Rattle.stage_in.specs.contracts.logic.InLogic as fan_in
 use Rattle.stage_out.specs.contracts.logic.OutLogic as fan_out
 use Rattle.stage_boundary.specs.contracts.leaving.Leaving as leaving
@@ -63,12 +67,38 @@ use Rattle.interpreter.specs.contracts.island.Island.TheInside as island_inside
 use Rattle.island_body.specs.contracts.body.Body as body
 use Rattle.stream_io.specs.declared.outside.Source as source
 use Rattle.stream_io.specs.declared.outside.Drain as drain
+use Rattle.plug_logic.specs.declared.logic.Logic as logic
+use Rattle.plug_logic.specs.declared.book.PlugBook as plug_book
 
 -- what lists, texts, causes and memory keep to
 ruleset plain_rules = (tt, trace.the_send, line.the_send, line.the_sync, line_buf.the_send, line_buf.the_sync, writes.the_field_send, writes.the_send, end_state.the_field_send, end_state.the_send, cause.the_field_send, cause.the_send, why.the_field_send, why.the_send, vec.the_send, option.the_send, option.the_field_send, box.the_send, global.the_send, global.the_field_send, memory.the_send, memory.the_field_send, memory.the_sync, memory.the_field_sync, crosses, knot.crosses, sendable)
 
-linear_send : IsSend linear.the_row
-linear_send = search (crosses, knot.crosses, sendable) depth 60 fits 20000
+plug_send : (L B : RattleType) (l : logic.Ghosts L.Denot) (b : plug_book.Ghosts B.Denot) → IsSend (param 2 L) → IsSend (param 3 B) → IsSend (plug_task.the_row (param 2 L) (param 3 B) l b)
+plug_send L B l b p q = search plain_rules depth 60 fits 20000
+
+task_send : IsSend (task.the_field).row
+task_send = search plain_rules depth 60 fits 20000
+
+worker_send : (L B : RattleType) (l : logic.Ghosts L.Denot) (b : plug_book.Ghosts B.Denot) → IsSend (param 2 L) → IsSend (param 3 B) → IsSend (worker.the_field (param 2 L) (param 3 B) l b).row
+worker_send L B l b p q =
+    let t = worker.the_type (param 2 L) (param 3 B) l b in
+    enum_send (shape t) ((task_send, tt), ((plug_send L B l b p q, tt), tt))
+
+linear_send : (L B : RattleType) (l : logic.Ghosts L.Denot) (b : plug_book.Ghosts B.Denot) → IsSend (param 2 L) → IsSend (param 3 B) → IsSend (linear.the_row (param 2 L) (param 3 B) l b)
+linear_send L B l b p q =
+    let t = linear_inside.the_type (param 2 L) (param 3 B) l b in
+    view_send (linear_inside.the_row (param 2 L) (param 3 B) l b) _ _ _ _
+    (recorded_send (declared.field t).row _ _ t.to_one
+    (struct_send (declared.shape t) (
+      search plain_rules depth 60 fits 20000,
+      (
+        search plain_rules depth 60 fits 20000,
+        (
+          search plain_rules depth 60 fits 20000,
+          (worker_send L B l b p q, (search plain_rules depth 60 fits 20000, (search plain_rules depth 60 fits 20000, (search plain_rules depth 60 fits 20000, tt)))),
+        ),
+      ),
+    )))
 
 keep_send : IsSend keep.the_row
 keep_send = search (crosses, knot.crosses, sendable) depth 60 fits 20000
@@ -118,16 +148,16 @@ reading_send S s p = lines_source.the_send S s p
 writing_send : (D : RattleType) (d : drain.Ghosts D.Denot) → IsSend (param 1 D) → IsSend (writing.the_row (param 1 D) d)
 writing_send D d p = search (plain_rules) depth 60 fits 20000
 
-node_send : (S D : RattleType) (s : source.Ghosts S.Denot) (d : drain.Ghosts D.Denot) → IsSend (param 0 S) → IsSend (param 1 D) → IsSend (node.the_row (param 0 S) (param 1 D) s d)
-node_send S D s d p q =
-    let t = node.the_type (param 0 S) (param 1 D) s d in
-    recorded_send (node.the_field (param 0 S) (param 1 D) s d).row _ _ t.to_one
+node_send : (S D L B : RattleType) (s : source.Ghosts S.Denot) (d : drain.Ghosts D.Denot) (l : logic.Ghosts L.Denot) (b : plug_book.Ghosts B.Denot) → IsSend (param 0 S) → IsSend (param 1 D) → IsSend (param 2 L) → IsSend (param 3 B) → IsSend (node.the_row (param 0 S) (param 1 D) (param 2 L) (param 3 B) s d l b)
+node_send S D L B s d l b p q u v =
+    let t = node.the_type (param 0 S) (param 1 D) (param 2 L) (param 3 B) s d l b in
+    recorded_send (node.the_field (param 0 S) (param 1 D) (param 2 L) (param 3 B) s d l b).row _ _ t.to_one
     (enum_send (shape t) (
       (reading_send (param 0 S) s p, tt),
       (
         (maker_send, tt),
         (
-          (linear_send, tt),
+          (linear_send L B l b u v, tt),
           ((state_send, tt), ((in_send, tt), ((out_send, tt), ((writing_send D d q, tt), ((ignorer_send, tt), ((entering_send, tt), ((leaving_send, tt), tt))))))),
         ),
       ),
@@ -166,16 +196,16 @@ end_send S D s d p q =
     )
 
 -- what a stage is to a node
-abbrev staged : (S D : RattleType) (s : source.Ghosts S.Denot) (d : drain.Ghosts D.Denot) → stage.Ghosts (node.the_row (param 0 S) (param 1 D) s d).Denot
-staged S D s d = node_stage.ghosts (param 0 S) (param 1 D) s node_stage.no_dict d node_stage.no_dict node_stage.no_dict node_stage.no_dict
+abbrev staged : (S D L B : RattleType) (s : source.Ghosts S.Denot) (d : drain.Ghosts D.Denot) (l : logic.Ghosts L.Denot) (b : plug_book.Ghosts B.Denot) → stage.Ghosts (node.the_row (param 0 S) (param 1 D) (param 2 L) (param 3 B) s d l b).Denot
+staged S D L B s d l b = node_stage.ghosts (param 0 S) (param 1 D) (param 2 L) (param 3 B) s node_stage.no_dict d node_stage.no_dict l node_stage.no_dict b node_stage.no_dict node_stage.no_dict node_stage.no_dict node_stage.no_dict
 
-island_send : (S D : RattleType) (s : source.Ghosts S.Denot) (d : drain.Ghosts D.Denot) → IsSend (param 0 S) → IsSend (param 1 D) → IsSend (island.the_row (param 0 S) (param 1 D) s d)
-island_send S D s d p q =
-    let t = island_inside.the_type (param 0 S) (param 1 D) s d in
-    view_send (island_inside.the_row (param 0 S) (param 1 D) s d) _ _ _ _
+island_send : (S D L B : RattleType) (s : source.Ghosts S.Denot) (d : drain.Ghosts D.Denot) (l : logic.Ghosts L.Denot) (b : plug_book.Ghosts B.Denot) → IsSend (param 0 S) → IsSend (param 1 D) → IsSend (param 2 L) → IsSend (param 3 B) → IsSend (island.the_row (param 0 S) (param 1 D) (param 2 L) (param 3 B) s d l b)
+island_send S D L B s d l b p q u v =
+    let t = island_inside.the_type (param 0 S) (param 1 D) (param 2 L) (param 3 B) s d l b in
+    view_send (island_inside.the_row (param 0 S) (param 1 D) (param 2 L) (param 3 B) s d l b) _ _ _ _
     (recorded_send (declared.field t).row _ _ t.to_one
     (struct_send (declared.shape t) (
-      view_send (engine_inside.the_row (node.the_row (param 0 S) (param 1 D) s d) (staged S D s d)) _ _ _ _ (engine_send (node.the_row (param 0 S) (param 1 D) s d) (staged S D s d) (node_send S D s d p q)),
+      view_send (engine_inside.the_row (node.the_row (param 0 S) (param 1 D) (param 2 L) (param 3 B) s d l b) (staged S D L B s d l b)) _ _ _ _ (engine_send (node.the_row (param 0 S) (param 1 D) (param 2 L) (param 3 B) s d l b) (staged S D L B s d l b) (node_send S D L B s d l b p q u v)),
       (
         search rings depth 60 fits 20000,
         (
@@ -194,12 +224,12 @@ input_send = search lanes depth 60 fits 20000
 output_send : IsSend output.the_row
 output_send = search lanes depth 60 fits 20000
 
-pub body_send : (S D : RattleType) (s : source.Ghosts S.Denot) (d : drain.Ghosts D.Denot) → IsSend (param 0 S) → IsSend (param 1 D) → IsSend (body.the_row (param 0 S) (param 1 D) s d)
-body_send S D s d p q =
-    let t = body.the_type (param 0 S) (param 1 D) s d in
+pub body_send : (S D L B : RattleType) (s : source.Ghosts S.Denot) (d : drain.Ghosts D.Denot) (l : logic.Ghosts L.Denot) (b : plug_book.Ghosts B.Denot) → IsSend (param 0 S) → IsSend (param 1 D) → IsSend (param 2 L) → IsSend (param 3 B) → IsSend (body.the_row (param 0 S) (param 1 D) (param 2 L) (param 3 B) s d l b)
+body_send S D L B s d l b p q u v =
+    let t = body.the_type (param 0 S) (param 1 D) (param 2 L) (param 3 B) s d l b in
     recorded_send (declared.field t).row _ _ t.to_one
     (struct_send (declared.shape t) (
-      island_send S D s d p q,
+      island_send S D L B s d l b p q u v,
       (
         search (input_send, rings) depth 60 fits 20000,
         (search (output_send, rings) depth 60 fits 20000, (search rings depth 60 fits 20000, (search rings depth 60 fits 20000, (search rings depth 60 fits 20000, tt)))),

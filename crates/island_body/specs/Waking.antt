@@ -122,9 +122,9 @@ demand_found p q i w history told_is waits demand none = by_cancel (saw_cancel p
         let all = history.closed one in
         elim (waits.1.0 demand) [ inl d ↦ omega (arith, d, all) | inr d ↦ omega (arith, d, one, once) ]
 
-module _ {S D : Type 0} where
+module _ {S D L B : Type 0} where
   -- an item that waits is taken by the next turn
-  pub idle_item : (a b c d e : Body S D) (o i : ℕ) (w : Waits) → BodiesMayMeet a o b i → BodiesMeet a o b i c d w → IsTrue w.item → BodyGoes d e → IsIdle d e → ⊥
+  pub idle_item : (a b c d e : Body S D L B) (o i : ℕ) (w : Waits) → BodiesMayMeet a o b i → BodiesMeet a o b i c d w → IsTrue w.item → BodyGoes d e → IsIdle d e → ⊥
   idle_item a b c d e o i w may m item g idle =
       let p = get_there c.outs.items o (subst (λ (n : ℕ). o < n) (sym m.from_met.outs_count) may.out_there) in
       let x = get_there d.ins.items i (subst (λ (n : ℕ). i < n) (sym m.to_met.ins_count) may.inp_there) in
@@ -132,7 +132,7 @@ module _ {S D : Type 0} where
       item_found p.0.lane x.0 y.0 w (m.joined.history p.0 x.0 p.1 x.1) (m.told p.0 x.0 p.1 x.1) (m.joined.waits_are p.0 x.0 p.1 x.1) item (idle.ins i x.0 y.0 x.1 y.1)
 
   -- and demand that waits is found by it, or a cancel
-  pub idle_demand : (a b c d e : Body S D) (o i : ℕ) (w : Waits) → BodiesMayMeet a o b i → BodiesMeet a o b i c d w → IsTrue w.demand → BodyGoes c e → IsIdle c e → ⊥
+  pub idle_demand : (a b c d e : Body S D L B) (o i : ℕ) (w : Waits) → BodiesMayMeet a o b i → BodiesMeet a o b i c d w → IsTrue w.demand → BodyGoes c e → IsIdle c e → ⊥
   idle_demand a b c d e o i w may m demand g idle =
       let p = get_there c.outs.items o (subst (λ (n : ℕ). o < n) (sym m.from_met.outs_count) may.out_there) in
       let q = there_after c.outs.items e.outs.items o p.0 (map_count (λ (z : OutputBoundary). z.wire) c.outs.items e.outs.items g.lanes.outs_wires) p.1 in
@@ -140,5 +140,5 @@ module _ {S D : Type 0} where
       demand_found p.0 q.0 x.0.boundary.lane w (m.joined.history p.0 x.0 p.1 x.1) (m.told p.0 x.0 p.1 x.1) (m.joined.waits_are p.0 x.0 p.1 x.1) demand (idle.outs o p.0 q.0 p.1 q.1)
 
   -- an event that is pending is handled by it
-  pub idle_event : (a b : Body S D) → is_pending a ≡ true → IsIdle a b → ⊥
+  pub idle_event : (a b : Body S D L B) → is_pending a ≡ true → IsIdle a b → ⊥
   idle_event a b pending idle = let e : is_pending a ≡ false = ap has_some idle.queue in cc

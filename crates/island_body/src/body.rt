@@ -25,13 +25,15 @@ use interpreter::island::{Island, IslandEnd};
 use island_input::boundary::IslandInput;
 use output_boundary::boundary::OutputBoundary;
 use output_boundary::found::Found;
+use plug_logic::book::PlugBook;
+use plug_logic::logic::Logic;
 use std::alloc::{AllocError, Global};
 use stream_io::outside::{Drain, Source};
 
 /// An island with the ends of its lanes. Rule: Akka Streams 2.6 reference, chapter on asynchronous boundaries.
 #[derive(Drop)]
-pub struct Body<S: Source, D: Drain> {
-    pub(crate) island: Island<S, D>,
+pub struct Body<S: Source, D: Drain, L: Logic, B: PlugBook> {
+    pub(crate) island: Island<S, D, L, B>,
     // Those that take, and those that send, each in the order of their wires.
     pub(crate) ins: Vec<IslandInput>,
     pub(crate) outs: Vec<OutputBoundary>,
@@ -43,12 +45,12 @@ pub struct Body<S: Source, D: Drain> {
     pub(crate) peers: Peers,
 }
 
-impl<S: Source, D: Drain> Body<S, D> {
+impl<S: Source, D: Drain, L: Logic, B: PlugBook> Body<S, D, L, B> {
     /// The body of an island that has started, with the ends of its lanes, each list in the order of their wires. `ways` is a blank
     /// table with a row for each connection of the island, and `peers` the island at the other end of each. Each end does what it has
     /// to do at the start: what is asked for is asked for, and what has ended has ended. It takes no memory, and no unit.
     pub fn new(
-        island: Island<S, D>,
+        island: Island<S, D, L, B>,
         ways: Vec<Way>,
         ins: Vec<IslandInput>,
         outs: Vec<OutputBoundary>,
@@ -58,7 +60,7 @@ impl<S: Source, D: Drain> Body<S, D> {
         requires blank { ways.items ≡ replicate (length island.net.wires) Inner }
         requires few { (length ins.items ≤ 4294967295) × (length outs.items ≤ 4294967295) }
         requires peers { (length peers.ins.items ≡ length ins.items) × (length peers.outs.items ≡ length outs.items) }
-        ensures keeps { BodyKeeps S.state D.state result }
+        ensures keeps { BodyKeeps S.state D.state B.lists result }
         ensures goes { IslandGoes island result.island }
         ensures lanes { SameLanes ins.items result.ins.items outs.items result.outs.items }
         ensures spent { result.spent ≡ 0 }
@@ -383,7 +385,7 @@ impl<S: Source, D: Drain> Body<S, D> {
         ensures looks { OnOk result (KeepsLooks self.old self.new) }
         ensures wakes { OnOk result (WakesOn self.old self.new) }
         ensures rest { IfOk result (λ count. count < limit → self.new.island.net.queue ≡ []) }
-        ensures breaks { OnErr result (BodyBreaks S.state D.state self.old self.new) }
+        ensures breaks { OnErr result (BodyBreaks S.state D.state B.lists self.old self.new) }
     {
         let mut count = used;
         loop {
@@ -411,7 +413,7 @@ impl<S: Source, D: Drain> Body<S, D> {
         ensures uses { IfOk result (λ a. Uses self.old.island.net self.new.island.net a.used) }
         ensures used { IfOk result (λ a. self.new.island.used ≡ self.old.island.used + a.used) }
         ensures lanes { OnOk result ((self.new.ins ≡ self.old.ins) × (self.new.outs ≡ self.old.outs) × (self.new.ways ≡ self.old.ways) × (self.new.spent ≡ self.old.spent) × (self.new.peers ≡ self.old.peers)) }
-        ensures breaks { OnErr result (BodyBreaks S.state D.state self.old self.new) }
+        ensures breaks { OnErr result (BodyBreaks S.state D.state B.lists self.old self.new) }
     {
         self.island.laws();
         let advance = self.island.advance(alloc, limit)?;
@@ -424,16 +426,16 @@ impl<S: Source, D: Drain> Body<S, D> {
     /// many. After `NoMemory` it takes no turn any more; its lanes stand, and its handles hold what they held at the last moment
     /// between two events, but for what a source read ahead.
     pub fn take_turn(&mut self, alloc: Global, limit: u32) -> Result<u32, NoMemory>
-        requires keeps { BodyKeeps S.state D.state self.old }
+        requires keeps { BodyKeeps S.state D.state B.lists self.old }
         requires few { self.old.spent + limit ≤ 4000000000 }
-        ensures keeps { OnOk result (BodyKeeps S.state D.state self.new) }
+        ensures keeps { OnOk result (BodyKeeps S.state D.state B.lists self.new) }
         ensures goes { OnOk result (BodyGoes self.old self.new) }
         ensures spent { IfOk result (λ used. self.new.spent ≡ self.old.spent + used) }
         ensures within { IfOk result (λ used. used ≤ limit) }
         ensures idle { IfOk result (λ used. used ≡ 0 → 1 ≤ limit → IsIdle self.old self.new) }
         ensures found { IfOk result (λ used. used < limit → HasLooked self.old self.new) }
         ensures wakes { OnOk result (Wakes self.old self.new) }
-        ensures breaks { OnErr result (BodyBreaks S.state D.state self.old self.new) }
+        ensures breaks { OnErr result (BodyBreaks S.state D.state B.lists self.old self.new) }
     {
         self.peers.clear();
         let taken = self.take_all(limit);

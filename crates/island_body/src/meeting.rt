@@ -10,11 +10,13 @@ use dispatcher::waking::Waking;
 use elem_core::why::NoMemory;
 use lane_core::room::Waits;
 use lane_meet::pairs::Meet;
+use plug_logic::book::PlugBook;
+use plug_logic::logic::Logic;
 use rounds::turning::Turning;
 use std::alloc::{AllocError, Global};
 use stream_io::outside::{Drain, Source};
 
-impl<S: Source, D: Drain> Meet for Body<S, D> {
+impl<S: Source, D: Drain, L: Logic, B: PlugBook> Meet for Body<S, D, L, B> {
     ghost may_meet = { BodiesMayMeet };
 
     ghost met = { BodiesMeet };
@@ -22,7 +24,7 @@ impl<S: Source, D: Drain> Meet for Body<S, D> {
     fn meet_other(
         &mut self,
         out: usize,
-        other: &mut Body<S, D>,
+        other: &mut Body<S, D, L, B>,
         inp: usize,
     ) -> Result<Waits, AllocError> {
         let waits = other.ins[inp].boundary.meet(&mut self.outs[out].lane)?;
@@ -35,14 +37,14 @@ impl<S: Source, D: Drain> Meet for Body<S, D> {
     }
 }
 
-impl<S: Source, D: Drain> Turning for Body<S, D> {
-    ghost keeps = { BodyKeeps S.state D.state };
+impl<S: Source, D: Drain, L: Logic, B: PlugBook> Turning for Body<S, D, L, B> {
+    ghost keeps = { BodyKeeps S.state D.state B.lists };
 
     ghost goes = { BodyGoes };
 
     ghost stands = { OnlyMet };
 
-    ghost breaks = { BodyBreaks S.state D.state };
+    ghost breaks = { BodyBreaks S.state D.state B.lists };
 
     ghost joined = { BodiesJoined };
 
@@ -70,7 +72,7 @@ impl<S: Source, D: Drain> Turning for Body<S, D> {
 
     ghost meets = { lasting.meets_tells };
 
-    ghost keeps_stands = { lasting.keeps_met S.state D.state };
+    ghost keeps_stands = { lasting.keeps_met S.state D.state B.lists };
 
     ghost pending_stands = { lasting.pending_met };
 
@@ -88,13 +90,13 @@ impl<S: Source, D: Drain> Turning for Body<S, D> {
 
     ghost meet_stands_inp = { lasting.may_stands_in };
 
-    ghost meet_breaks_out = { lasting.may_breaks_out S.state D.state };
+    ghost meet_breaks_out = { lasting.may_breaks_out S.state D.state B.lists };
 
-    ghost meet_breaks_inp = { lasting.may_breaks_in S.state D.state };
+    ghost meet_breaks_inp = { lasting.may_breaks_in S.state D.state B.lists };
 
-    ghost breaks_stands = { lasting.breaks_met S.state D.state };
+    ghost breaks_stands = { lasting.breaks_met S.state D.state B.lists };
 
-    ghost goes_breaks = { lasting.goes_breaks S.state D.state };
+    ghost goes_breaks = { lasting.goes_breaks S.state D.state B.lists };
 
     ghost idle_item = { waking.idle_item };
 
@@ -103,7 +105,7 @@ impl<S: Source, D: Drain> Turning for Body<S, D> {
     ghost idle_event = { waking.idle_event };
 }
 
-impl<S: Source, D: Drain> Waking for Body<S, D> {
+impl<S: Source, D: Drain, L: Logic, B: PlugBook> Waking for Body<S, D, L, B> {
     fn wakes(&self) -> &[u32] {
         self.woken()
     }

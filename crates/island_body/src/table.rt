@@ -9,6 +9,8 @@ use elem_core::why::NoMemory;
 use interpreter::island::Island;
 use island_input::boundary::IslandInput;
 use output_boundary::boundary::OutputBoundary;
+use plug_logic::book::PlugBook;
+use plug_logic::logic::Logic;
 use std::alloc::{AllocError, Global};
 use stream_io::outside::{Drain, Source};
 
@@ -22,9 +24,9 @@ pub fn blank_ways(alloc: Global, connections: usize) -> Result<Vec<Way>, NoMemor
 }
 
 // Writes into a blank table where the ends stand.
-pub(crate) fn mark<S: Source, D: Drain>(
+pub(crate) fn mark<S: Source, D: Drain, L: Logic, B: PlugBook>(
     ways: &mut Vec<Way>,
-    island: &Island<S, D>,
+    island: &Island<S, D, L, B>,
     ins: &[IslandInput],
     outs: &[OutputBoundary],
 )

@@ -5,9 +5,9 @@ use Rattle.bodies_begin.proofs.laws.made_bodies_begin_their_blueprint.Goals as g
 
 pub returns : goal.returns
 returns g c = record {
-  are = λ b ss ds f started e bodies few filled all ends made. bodies_are g.S.Source.state g.D.Drain.state b ss ds f filled started all e ends bodies made few;
-  unspent = λ f started e bodies many each ends made. unspent g.S.Source.state g.D.Drain.state f.lanes.items f.count started (many ∙ each) e ends bodies made;
-  meet = λ f started e bodies many each ends made. meet g.S.Source.state g.D.Drain.state f.lanes.items f.count started (many ∙ each) e ends bodies made;
-  numbered = λ b ss ds f started e bodies filled all ends made. numbered g.S.Source.state g.D.Drain.state b ss ds f filled started all e ends bodies made;
-  aligned = λ f started e bodies many each ends made. aligned g.S.Source.state g.D.Drain.state f.lanes.items f.count started (many ∙ each) e ends bodies made;
+  are = λ b ss ds f started e bodies few filled all ends made. bodies_are g.S.Source.state g.D.Drain.state g.B.PlugBook.lists b ss ds f filled started all e ends bodies made few;
+  unspent = λ f started e bodies many each ends made. unspent g.S.Source.state g.D.Drain.state g.B.PlugBook.lists f.lanes.items f.count started (many ∙ each) e ends bodies made;
+  meet = λ f started e bodies many each ends made. meet g.S.Source.state g.D.Drain.state g.B.PlugBook.lists f.lanes.items f.count started (many ∙ each) e ends bodies made;
+  numbered = λ b ss ds f started e bodies filled all ends made. numbered g.S.Source.state g.D.Drain.state g.B.PlugBook.lists b ss ds f filled started all e ends bodies made;
+  aligned = λ f started e bodies many each ends made. aligned g.S.Source.state g.D.Drain.state g.B.PlugBook.lists f.lanes.items f.count started (many ∙ each) e ends bodies made;
 }

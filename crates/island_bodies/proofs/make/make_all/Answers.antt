@@ -34,7 +34,7 @@ loop-island-init g c =
       beside_first _ _ c.args.bodies.items all_ins c.requires.none_made,
       beside_first _ _ c.args.bodies.items all_outs c.requires.none_made,
       beside_first _ _ c.args.bodies.items all_tables c.requires.none_made,
-      going_first (MadeAt g.S.Source.state g.D.Drain.state c.args.islands.items c.args.ins.items c.args.outs.items) c.args.islands.items _ _ all c.requires.none_made,
+      going_first (MadeAt g.S.Source.state g.D.Drain.state g.B.PlugBook.lists c.args.islands.items c.args.ins.items c.args.outs.items) c.args.islands.items _ _ all c.requires.none_made,
       left_peers,
       beside_first _ _ c.args.bodies.items all_peers c.requires.none_made,
       each_first (PeersAt c.args.peers.items) c.args.bodies.items c.requires.none_made,
@@ -97,8 +97,8 @@ loop-island-preserved g c =
       beside_next c.args.ins.items _ _ _ _ _ _ kept.7 takes.items put.items,
       beside_next c.args.outs.items _ _ _ _ _ _ kept.8 sends.items put.items,
       beside_next c.args.tables.items _ _ _ _ _ _ kept.9 table.items put.items,
-      going_next (MadeAt g.S.Source.state g.D.Drain.state c.args.islands.items c.args.ins.items c.args.outs.items) c.args.islands.items _ _ _ _ _ _ kept.10 next.0 put.items
-          (made_at g.S.Source.state g.D.Drain.state c.args.islands.items c.args.ins.items c.args.outs.items _ _ _ _ _ at x o (record { keeps = made.keeps; goes = made.goes; lanes = made.lanes; unspent = made.spent })),
+      going_next (MadeAt g.S.Source.state g.D.Drain.state g.B.PlugBook.lists c.args.islands.items c.args.ins.items c.args.outs.items) c.args.islands.items _ _ _ _ _ _ kept.10 next.0 put.items
+          (made_at g.S.Source.state g.D.Drain.state g.B.PlugBook.lists c.args.islands.items c.args.ins.items c.args.outs.items _ _ _ _ _ at x o (record { keeps = made.keeps; goes = made.goes; lanes = made.lanes; unspent = made.spent })),
       fewer _ _ _ _ _ peers.items peers.len kept.11,
       beside_next c.args.peers.items _ _ _ _ _ _ kept.12 peers.items put.items,
       each_next (PeersAt c.args.peers.items) _ _ _ kept.13 put.items (peers_at c.args.peers.items _ c.first-peers.result c.new.result (behind_at c.args.peers.items _ _ _ _ kept.12 peers.items) made.peers.0 made.peers.1),
@@ -110,5 +110,5 @@ returns-clause-peers g c = all_have c.args.peers.items _ c.loop-island.invariant
 pub returns-clause-all : goal.returns-clause-all
 returns-clause-all g c =
     let kept = c.loop-island.invariant in
-    let made = MadeAt g.S.Source.state g.D.Drain.state c.args.islands.items c.args.ins.items c.args.outs.items in
-    all_made g.S.Source.state g.D.Drain.state c.args.islands.items c.args.ins.items c.args.outs.items _ (going_size made c.args.islands.items _ _ kept.10 (none_left _ _ c.in-None.ensures.steps.0 kept.2)) kept.10.each
+    let made = MadeAt g.S.Source.state g.D.Drain.state g.B.PlugBook.lists c.args.islands.items c.args.ins.items c.args.outs.items in
+    all_made g.S.Source.state g.D.Drain.state g.B.PlugBook.lists c.args.islands.items c.args.ins.items c.args.outs.items _ (going_size made c.args.islands.items _ _ kept.10 (none_left _ _ c.in-None.ensures.steps.0 kept.2)) kept.10.each

@@ -18,7 +18,7 @@ invariant-loop-island g l =
     × Behind l.fn.ins.items (length l.bodies.items) (into_iter_items l.takers)
     × Behind l.fn.outs.items (length l.bodies.items) (into_iter_items l.senders)
     × Behind l.fn.tables.items (length l.bodies.items) (into_iter_items l.blanks)
-    × Going (MadeAt g.S.Source.state g.D.Drain.state l.fn.islands.items l.fn.ins.items l.fn.outs.items) l.fn.islands.items (into_iter_items l.island-iterator) l.bodies.items
+    × Going (MadeAt g.S.Source.state g.D.Drain.state g.B.PlugBook.lists l.fn.islands.items l.fn.ins.items l.fn.outs.items) l.fn.islands.items (into_iter_items l.island-iterator) l.bodies.items
     × (into_iter_len l.others ≡ length (into_iter_items l.others))
     × Behind l.fn.peers.items (length l.bodies.items) (into_iter_items l.others)
     × EachIs (PeersAt l.fn.peers.items) l.bodies.items

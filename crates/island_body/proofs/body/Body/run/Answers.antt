@@ -11,7 +11,7 @@ use Rattle.island_body.proofs.Telling.{wakes_same, wakes_on}
 use Rattle.island_body.proofs.body.Body.run.Goals as goal
 
 pub returns-in_err-heard-clause-breaks : goal.returns-in_err-heard-clause-breaks
-returns-in_err-heard-clause-breaks g c = on_err c.from_residual.result (goes_breaks g.S.Source.state g.D.Drain.state _ _ _ c.loop-heard.invariant.goes c.in_err-heard.ensures.breaks)
+returns-in_err-heard-clause-breaks g c = on_err c.from_residual.result (goes_breaks g.S.Source.state g.D.Drain.state g.B.PlugBook.lists _ _ _ c.loop-heard.invariant.goes c.in_err-heard.ensures.breaks)
 
 pub loop-heard-preserved : goal.loop-heard-preserved
 loop-heard-preserved g c =

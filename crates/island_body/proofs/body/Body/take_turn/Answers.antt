@@ -10,7 +10,7 @@ use Rattle.island_body.proofs.body.Body.take_turn.Goals as goal
 
 pub returns-in_err-used-clause-breaks : goal.returns-in_err-used-clause-breaks
 returns-in_err-used-clause-breaks g c =
-    let k = goes_breaks g.S.Source.state g.D.Drain.state _ _ _ (goes_on _ _ _ c.take_all-taken.ensures.goes c.visit_all-found.ensures.goes) c.in_err-used.ensures.breaks in
+    let k = goes_breaks g.S.Source.state g.D.Drain.state g.B.PlugBook.lists _ _ _ (goes_on _ _ _ c.take_all-taken.ensures.goes c.visit_all-found.ensures.goes) c.in_err-used.ensures.breaks in
     on_err c.from_residual.result (record { last = k.last; island = k.island; laws = k.laws; stand = k.stand; kept = k.kept; lanes = k.lanes })
 
 pub returns-clause-goes : goal.returns-clause-goes
@@ -28,7 +28,7 @@ returns-clause-idle g c = λ z one.
     let found : c.visit_all-found.result ≡ 0 = omega (arith, z, a) in
     let taken : c.take_all-taken.result ≡ 0 = omega (arith, found, b) in
     let last = r.none (z ∙ sym found) (omega (arith, found, one)) in
-    let idle = idle_turn _ _ _ c.run.new.self (t.none taken one) (v.none (found ∙ sym taken) (omega (arith, taken, one))) (ap (λ (x : Body _ _). x.island) last.0) (ap (λ (x : Body _ _). x.ins) last.0) (ap (λ (x : Body _ _). x.outs) last.0) last.1 in
+    let idle = idle_turn _ _ _ c.run.new.self (t.none taken one) (v.none (found ∙ sym taken) (omega (arith, taken, one))) (ap (λ (x : Body _ _ _ _). x.island) last.0) (ap (λ (x : Body _ _ _ _). x.ins) last.0) (ap (λ (x : Body _ _ _ _). x.outs) last.0) last.1 in
     record { queue = idle.queue; ins = idle.ins; outs = idle.outs }
 
 pub returns-clause-found : goal.returns-clause-found

@@ -18,7 +18,7 @@ use Rattle.island_plans.specs.declared.plans.Filled.{Filled}
 use Rattle.handles_back.proofs.Places.{source_at, drain_at, sources_are, drains_are, source_share, drain_share, source_homes, drain_homes}
 use Rattle.handles_back.proofs.Sharing.{make_all, same_all}
 
-module _ {S D : Type 0} (sources : S → SourceState) (drains : D → DrainState) (b : Blueprint) (ss : List S) (ds : List D) (f : Filled S D) (ends : List (IslandEnd S D)) (fl : IsFilled b ss ds f) (gb : AllGiveBack sources drains f.islands.items ends) where
+module _ {S D L B : Type 0} (sources : S → SourceState) (drains : D → DrainState) (b : Blueprint) (ss : List S) (ds : List D) (f : Filled S D L B) (ends : List (IslandEnd S D)) (fl : IsFilled b ss ds f) (gb : AllGiveBack sources drains f.islands.items ends) where
   abbrev ns : List Node
   ns = b.nodes.items
 

@@ -25,6 +25,7 @@ use Rattle.island_body.specs.declared.body.Body.{Body}
 use Rattle.bodies_account.specs.Bodies.{ComesInto, GoesOutOf, IsCrossingOf, AreLanes, AreBegun}
 use Rattle.island_begins.specs.Made.{AreMadeOf}
 use Rattle.island_begins.proofs.Lanes.{in_end, out_end, comes_at, goes_at}
+use Rattle.stream_model.specs.Linear.{Book}
 
 -- the one that stands at the place of another, of which f says the same
 map_there : {A B : Type 0} (f : A → B) (xs ys : List A) (k : ℕ) (x : A) → map f ys ≡ map f xs → slice_get xs k ≡ Some x → (y : A) × ((slice_get ys k ≡ Some y) × (f y ≡ f x))
@@ -33,22 +34,22 @@ map_there f (z ∷ xs) [] k x e at = absurd cc
 map_there f (z ∷ xs) (y ∷ ys) zero x e at = let here : f y ≡ f z = cc in let same : z ≡ x = cc in (y, (refl, here ∙ ap f same))
 map_there f (z ∷ xs) (y ∷ ys) (suc k) x e at = let t : map f ys ≡ map f xs = cc in map_there f xs ys k x t at
 
-module _ {S D : Type 0} where
-  in_goes : (old new : Kept S D) (g : IslandGoes old new) (u : ℕ) → way_in new u ≡ way_in old u
+module _ {S D L B : Type 0} where
+  in_goes : (old new : Kept S D L B) (g : IslandGoes old new) (u : ℕ) → way_in new u ≡ way_in old u
   in_goes old new g u = rw g.ins refl
 
-  out_goes : (old new : Kept S D) (g : IslandGoes old new) (u : ℕ) → way_out new u ≡ way_out old u
+  out_goes : (old new : Kept S D L B) (g : IslandGoes old new) (u : ℕ) → way_out new u ≡ way_out old u
   out_goes old new g u = rw g.outs refl
 
-  module _ (sources : S → SourceState) (drains : D → DrainState) (homes : List ℕ) (count : ℕ) (ws : List Wire) (nodes : List (Seated S D)) (e : AllEnds) (bodies : List (Body S D)) (a : AreSeated homes count ws nodes)
-      (all : AreAllEnds (lanes_from homes 0 ws) count e) (made : AreMadeOf sources drains homes ws nodes count e bodies) where
-    pub begun : AreBegun sources drains homes count ws nodes bodies
+  module _ (sources : S → SourceState) (drains : D → DrainState) (book : Book) (homes : List ℕ) (count : ℕ) (ws : List Wire) (nodes : List (Seated S D L B)) (e : AllEnds) (bodies : List (Body S D L B)) (a : AreSeated homes count ws nodes)
+      (all : AreAllEnds (lanes_from homes 0 ws) count e) (made : AreMadeOf sources drains book homes ws nodes count e bodies) where
+    pub begun : AreBegun sources drains book homes count ws nodes bodies
     begun = record {
       many = made.many;
       keep = λ k b at. (made.each k b at).keeps;
       become = λ k b at.
           let m = made.each k b at in
-          subst (AllBecome (seats_in homes ws nodes k)) (sym m.goes.on.firsts) (subst (λ (ps : List (Seated S D)). AllBecome ps m.island.net.firsts) m.parts_are.nodes_are m.started.firsts);
+          subst (AllBecome (seats_in homes ws nodes k)) (sym m.goes.on.firsts) (subst (λ (ps : List (Seated S D L B)). AllBecome ps m.island.net.firsts) m.parts_are.nodes_are m.started.firsts);
       ends_are = λ k b at.
           let m = made.each k b at in
           m.goes.on.ends ∙ (m.started.ends ∙ ap (map ends_of) m.parts_are.links_are);
@@ -66,7 +67,7 @@ module _ {S D : Type 0} where
       plan_at : slice_get (lanes_from homes 0 ws) j ≡ Some plan
       plan_at = lane_get homes 0 ws u v size at lane
 
-      body_at : (k : ℕ) → k < count → (b : Body S D) × (slice_get bodies k ≡ Some b)
+      body_at : (k : ℕ) → k < count → (b : Body S D L B) × (slice_get bodies k ≡ Some b)
       body_at k lt = there bodies k (omega (arith, lt, made.many))
 
       crossing : (c : Crossing) → Joins e plan c → IsCrossingOf homes ws bodies u v size c
@@ -82,8 +83,8 @@ module _ {S D : Type 0} where
           let o = map_there (λ (y : OutputBoundary). y.wire) (items_at e.outs.items c.from) f.0.outs.items c.out x.out m.lanes.outs_wires x.out_at in
           let i = map_there (λ (y : IslandInput). y.wire) (items_at e.ins.items c.to) t.0.ins.items c.inp x.inp n.lanes.ins_wires x.inp_at in
           let zero_plus : 0 + u ≡ u = omega arith in
-          let g = goes_at sources drains homes count ws nodes c.from m.parts m.island a m.parts_are.nodes_are m.parts_are.links_are m.started u (record { wire = v; size = size; is = at; lane = lane; home = sym from_is }) in
-          let h = comes_at sources drains homes count ws nodes c.to n.parts n.island a n.parts_are.nodes_are n.parts_are.links_are n.started u (record { wire = v; size = size; is = at; lane = lane; home = sym to_is }) in
+          let g = goes_at sources drains book homes count ws nodes c.from m.parts m.island a m.parts_are.nodes_are m.parts_are.links_are m.started u (record { wire = v; size = size; is = at; lane = lane; home = sym from_is }) in
+          let h = comes_at sources drains book homes count ws nodes c.to n.parts n.island a n.parts_are.nodes_are n.parts_are.links_are n.started u (record { wire = v; size = size; is = at; lane = lane; home = sym to_is }) in
           record {
             from_is = from_is;
             to_is = to_is;

@@ -23,34 +23,36 @@ ghost use Rattle.island_plans.specs.declared.plans.Plans.{Plans};
 ghost use Rattle.island_begins.specs.Made.{ArePartsOf, AreMadeOf};
 ghost use Rattle.island_begins.specs.Sized.{HasFewLinks};
 
+use plug_logic::book::PlugBook;
+use plug_logic::logic::Logic;
 use stream_io::outside::{Drain, Source};
 
 /// An island of a blueprint that has started, and those ends of lanes that are its own, as they were made, are fit to be a body: each end
 /// stands at a stage and at a connection of its own, and nothing has passed there. Rule: own.
-pub fn an_island_begins_a_body<S: Source, D: Drain>()
-    ensures { (homes : List ℕ) (count : ℕ) (ws : List Wire) (nodes : List (Seated S D)) (k : ℕ) (x : Parts S D) (i : Kept S D) (e : AllEnds) → AreSeated homes count ws nodes → ArePartsOf homes ws nodes k x → HasStarted S.state D.state x i → AreAllEnds (lanes_from homes 0 ws) count e
+pub fn an_island_begins_a_body<S: Source, D: Drain, L: Logic, B: PlugBook>()
+    ensures { (homes : List ℕ) (count : ℕ) (ws : List Wire) (nodes : List (Seated S D L B)) (k : ℕ) (x : Parts S D L B) (i : Kept S D L B) (e : AllEnds) → AreSeated homes count ws nodes → ArePartsOf homes ws nodes k x → HasStarted S.state D.state B.lists x i → AreAllEnds (lanes_from homes 0 ws) count e
         → BodyBegins i (items_at e.ins.items k) (items_at e.outs.items k) }
 {}
 
 /// The bodies that were made of a blueprint's islands and of the ends of all its lanes are its bodies as they begin (`begun`), and the
 /// crossings at which those ends lie are its lanes (`lanes`). Rule: own.
-pub fn made_bodies_are_of_their_blueprint<S: Source, D: Drain>()
-    ensures begun { (homes : List ℕ) (count : ℕ) (ws : List Wire) (nodes : List (Seated S D)) (e : AllEnds) (bodies : List (Body S D)) → AreSeated homes count ws nodes → AreAllEnds (lanes_from homes 0 ws) count e → AreMadeOf S.state D.state homes ws nodes count e bodies
-        → AreBegun S.state D.state homes count ws nodes bodies }
-    ensures lanes { (homes : List ℕ) (count : ℕ) (ws : List Wire) (nodes : List (Seated S D)) (e : AllEnds) (bodies : List (Body S D)) → AreSeated homes count ws nodes → AreAllEnds (lanes_from homes 0 ws) count e → AreMadeOf S.state D.state homes ws nodes count e bodies
+pub fn made_bodies_are_of_their_blueprint<S: Source, D: Drain, L: Logic, B: PlugBook>()
+    ensures begun { (homes : List ℕ) (count : ℕ) (ws : List Wire) (nodes : List (Seated S D L B)) (e : AllEnds) (bodies : List (Body S D L B)) → AreSeated homes count ws nodes → AreAllEnds (lanes_from homes 0 ws) count e → AreMadeOf S.state D.state B.lists homes ws nodes count e bodies
+        → AreBegun S.state D.state B.lists homes count ws nodes bodies }
+    ensures lanes { (homes : List ℕ) (count : ℕ) (ws : List Wire) (nodes : List (Seated S D L B)) (e : AllEnds) (bodies : List (Body S D L B)) → AreSeated homes count ws nodes → AreAllEnds (lanes_from homes 0 ws) count e → AreMadeOf S.state D.state B.lists homes ws nodes count e bodies
         → AreLanes homes ws bodies e.crossings.items }
 {}
 
 /// Plans of the islands of a blueprint have few links (`few`); each wire begins in one of them (`homes`); both ends of each lane can be
 /// made (`lanes`), and the lanes are in the order of their wires (`rise`). Where links are few, the nodes of its islands that hold their handles are seated (`seated`); they are
 /// those of its graph (`graph`), and its islands have the parts of them (`parts`). Rule: own.
-pub fn filled_islands_are_seated<S: Source, D: Drain>()
-    ensures few { (p : Plans S D) → IsPlans p → HasFewLinks p.blueprint.value }
-    ensures seated { (b : Blueprint) (ss : List S) (ds : List D) (f : Filled S D) → HasFewLinks b → (filled : IsFilled b ss ds f) → AreSeated f.homes.items f.count (blueprint_wires b) filled.nodes }
-    ensures graph { (b : Blueprint) (ss : List S) (ds : List D) (f : Filled S D) → (filled : IsFilled b ss ds f) → IsGraphOf (graph_of b) (blueprint_wires b) filled.nodes }
-    ensures parts { (b : Blueprint) (ss : List S) (ds : List D) (f : Filled S D) (k : ℕ) (x : Parts S D × Room S D) → (filled : IsFilled b ss ds f) → slice_get f.islands.items k ≡ Some x
+pub fn filled_islands_are_seated<S: Source, D: Drain, L: Logic, B: PlugBook>()
+    ensures few { (p : Plans S D L B) → IsPlans p → HasFewLinks p.blueprint.value }
+    ensures seated { (b : Blueprint) (ss : List S) (ds : List D) (f : Filled S D L B) → HasFewLinks b → (filled : IsFilled b ss ds f) → AreSeated f.homes.items f.count (blueprint_wires b) filled.nodes }
+    ensures graph { (b : Blueprint) (ss : List S) (ds : List D) (f : Filled S D L B) → (filled : IsFilled b ss ds f) → IsGraphOf (graph_of b) (blueprint_wires b) filled.nodes }
+    ensures parts { (b : Blueprint) (ss : List S) (ds : List D) (f : Filled S D L B) (k : ℕ) (x : Parts S D L B × Room S D L B) → (filled : IsFilled b ss ds f) → slice_get f.islands.items k ≡ Some x
         → ArePartsOf f.homes.items (blueprint_wires b) filled.nodes k x.0 }
-    ensures homes { (p : Plans S D) → IsPlans p → All (λ h. h < p.count) p.ends.wires.items }
-    ensures lanes { (p : Plans S D) → IsPlans p → CanAllBeMade p.count p.lanes.items }
-    ensures rise { (p : Plans S D) → IsPlans p → AreRising p.lanes.items }
+    ensures homes { (p : Plans S D L B) → IsPlans p → All (λ h. h < p.count) p.ends.wires.items }
+    ensures lanes { (p : Plans S D L B) → IsPlans p → CanAllBeMade p.count p.lanes.items }
+    ensures rise { (p : Plans S D L B) → IsPlans p → AreRising p.lanes.items }
 {}

@@ -54,9 +54,9 @@ pub places_count : (k : ℕ) (ns : List Node) → length (places_from k ns) ≡ 
 places_count k [] = refl
 places_count k (n ∷ ns) = ap suc (places_count (k + 1) ns)
 
-module _ {S D : Type 0} where
+module _ {S D L B : Type 0} where
   -- a node of a blueprint is no end of a lane
-  no_end : (k : ℕ) (n : Node) (ss : List S) (ds : List D) (w : Work S D) → IsWork k n ss ds w → (is_lane_in w ≡ false) × (is_lane_out w ≡ false)
+  no_end : (k : ℕ) (n : Node) (ss : List S) (ds : List D) (w : Work S D L B) → IsWork k n ss ds w → (is_lane_in w ≡ false) × (is_lane_out w ≡ false)
   no_end k n ss ds (work.Reading r) is = (refl, refl)
   no_end k n ss ds (work.Making shape) is = (refl, refl)
   no_end k n ss ds (work.Linear l) is = (refl, refl)
@@ -68,17 +68,17 @@ module _ {S D : Type 0} where
   no_end k n ss ds (work.Writing shape (Some d)) is = (refl, refl)
   no_end k n ss ds (work.Writing shape None) is = (refl, refl)
 
-  no_ends : (k : ℕ) (ns : List Node) (ss : List S) (ds : List D) (ps : List (Seated S D)) (j : ℕ) (p : Seated S D) → AreSeats k ns ss ds ps → slice_get ps j ≡ Some p → (is_lane_in p.work ≡ false) × (is_lane_out p.work ≡ false)
+  no_ends : (k : ℕ) (ns : List Node) (ss : List S) (ds : List D) (ps : List (Seated S D L B)) (j : ℕ) (p : Seated S D L B) → AreSeats k ns ss ds ps → slice_get ps j ≡ Some p → (is_lane_in p.work ≡ false) × (is_lane_out p.work ≡ false)
   no_ends k [] ss ds [] j p a at = absurd cc
   no_ends k [] ss ds (q ∷ ps) j p a at = absurd a
   no_ends k (n ∷ ns) ss ds [] j p a at = absurd a
   no_ends k (n ∷ ns) ss ds (q ∷ ps) zero p a at =
       let e : q ≡ p = cc in
-      subst (λ (x : Seated S D). (is_lane_in x.work ≡ false) × (is_lane_out x.work ≡ false)) e (no_end k n ss ds q.work a.1.0)
+      subst (λ (x : Seated S D L B). (is_lane_in x.work ≡ false) × (is_lane_out x.work ≡ false)) e (no_end k n ss ds q.work a.1.0)
   no_ends k (n ∷ ns) ss ds (q ∷ ps) (suc j) p a at = no_ends (k + 1) ns _ _ ps j p a.1.1 at
 
   -- the wires of a blueprint join every port of its nodes
-  pub are_nodes : (b : Blueprint) (ss : List S) (ds : List D) (nodes : List (Seated S D)) → CanRun b → AreSeats 0 b.nodes.items ss ds nodes → AreNodes (blueprint_wires b) nodes
+  pub are_nodes : (b : Blueprint) (ss : List S) (ds : List D) (nodes : List (Seated S D L B)) → CanRun b → AreSeats 0 b.nodes.items ss ds nodes → AreNodes (blueprint_wires b) nodes
   are_nodes b ss ds nodes r a =
       let ws = blueprint_wires b in
       record {

@@ -1,8 +1,10 @@
 // The plans of a blueprint's islands, and their parts.
-ghost use Rattle.std.specs.Prelude.{◌≡◌, ◌+◌, IfOk, length, vec_len};
+ghost use Rattle.std.specs.List.{All};
+ghost use Rattle.std.specs.Prelude.{◌≡◌, ◌+◌, IfOk, length, map, vec_len};
 ghost use Rattle.materializer.specs.Built.{CanRun};
 ghost use Rattle.materializer.specs.Files.{inputs_of_nodes, outputs_of_nodes};
 ghost use Rattle.island_plans.specs.Plans.{IsPlans, IsFilled};
+ghost use Rattle.plug_board.specs.Handed.{GivesAsListed, HasPlugs};
 
 use crate::ends::end_homes;
 use crate::homes::{copy_of, homes_of_links};
@@ -17,6 +19,10 @@ use island_parts::split::{Split, join, split_of};
 use island_parts::whole::whole_seats;
 use materializer::parts::places_of;
 use materializer::seats::{Seat, fill_all, seat_all};
+use plug_board::board::hand_out;
+use plug_logic::book::PlugBook;
+use plug_logic::logic::Logic;
+use plug_logic::plug::Plug;
 use std::alloc::{AllocError, Global};
 use std::snapshot::Snapshot;
 use stream_io::outside::{Drain, Source};
@@ -26,11 +32,11 @@ use traversal::plan::LanePlan;
 
 /// The islands of a blueprint, but for their handles: all that they take of memory before its files are opened. Rule: own.
 #[derive(Drop)]
-pub struct Plans<S: Source, D: Drain> {
-    seats: Vec<Seat<S, D>>,
+pub struct Plans<S: Source, D: Drain, L: Logic, B: PlugBook> {
+    seats: Vec<Seat<S, D, L, B>>,
     // It is empty, and has room for what stands at all places: the nodes, and both ends of each lane.
-    places: Vec<Seated<S, D>>,
-    split: Split<S, D>,
+    places: Vec<Seated<S, D, L, B>>,
+    split: Split<S, D, L, B>,
     blueprint: Snapshot<Blueprint>,
     /// The wires that have a lane, in order.
     pub lanes: Vec<LanePlan>,
@@ -46,9 +52,9 @@ pub struct Plans<S: Source, D: Drain> {
 
 /// The islands of a blueprint, whose nodes hold their handles. Rule: own.
 #[derive(Drop)]
-pub struct Filled<S: Source, D: Drain> {
+pub struct Filled<S: Source, D: Drain, L: Logic, B: PlugBook> {
     /// The parts of each island, and the room that it takes.
-    pub islands: Vec<(Parts<S, D>, Room<S, D>)>,
+    pub islands: Vec<(Parts<S, D, L, B>, Room<S, D, L, B>)>,
     /// The wires that have a lane, in order.
     pub lanes: Vec<LanePlan>,
     /// The island of each node.
@@ -76,8 +82,14 @@ fn all_places(nodes: usize, lanes: usize) -> Result<usize, NoMemory>
 
 /// The plans of the islands of a blueprint. They take all memory that islands want before their nodes hold their handles; a number
 /// that is out of 32 bits is want of memory. Rule: own.
-pub fn plans_of<S: Source, D: Drain>(alloc: Global, b: Blueprint) -> Result<Plans<S, D>, NoMemory>
-    requires { CanRun b }
+pub fn plans_of<S: Source, D: Drain, L: Logic, B: PlugBook>(
+    alloc: Global,
+    b: Blueprint,
+    plugs: Vec<Plug<L>>,
+) -> Result<Plans<S, D, L, B>, NoMemory>
+    requires runs { CanRun b }
+    requires has { HasPlugs (map (λ p. p.head) plugs.items) b.nodes.items }
+    requires listed { All (GivesAsListed L.gives B.lists) plugs.items }
     ensures blueprint { IfOk result (λ plans. plans.blueprint.value ≡ b) }
     ensures plans { IfOk result IsPlans }
 {
@@ -92,7 +104,8 @@ pub fn plans_of<S: Source, D: Drain>(alloc: Global, b: Blueprint) -> Result<Plan
     let own = copy_of(alloc, &homes)?;
     let split = split_of(alloc, nodes, &wires, own, count, &lanes)?;
     let (board, switches) = Board::of(alloc, &b.nodes)?;
-    let seats = seat_all(alloc, b.nodes, switches)?;
+    let handed = hand_out::<L, B>(alloc, &b.nodes, plugs)?;
+    let seats = seat_all(alloc, b.nodes, switches, handed)?;
     let places = Vec::with_capacity(alloc, all_places(seats.len(), lanes.len())?)?;
     Ok(Plans {
         seats,
@@ -107,11 +120,11 @@ pub fn plans_of<S: Source, D: Drain>(alloc: Global, b: Blueprint) -> Result<Plan
     })
 }
 
-impl<S: Source, D: Drain> Plans<S, D> {
+impl<S: Source, D: Drain, L: Logic, B: PlugBook> Plans<S, D, L, B> {
     /// The parts and the room of each island: the nodes at their places, the ends of lanes at the places behind them, and the links
     /// of the wires, where each lane is cut. In the order of nodes, each source of lines reads the next of `sources`, and each sink
     /// with a file writes the next of `drains`. It takes no memory. Rule: own.
-    pub fn fill(self, alloc: Global, sources: Vec<S>, drains: Vec<D>) -> Filled<S, D>
+    pub fn fill(self, alloc: Global, sources: Vec<S>, drains: Vec<D>) -> Filled<S, D, L, B>
         requires plans { IsPlans self }
         requires sources { vec_len sources ≡ length (inputs_of_nodes self.blueprint.value.nodes.items) }
         requires drains { vec_len drains ≡ length (outputs_of_nodes self.blueprint.value.nodes.items) }
@@ -122,7 +135,7 @@ impl<S: Source, D: Drain> Plans<S, D> {
         ensures ends { result.ends ≡ self.ends }
         ensures board { result.board ≡ self.board }
     {
-        islands_have_parts::<S, D>();
+        islands_have_parts::<S, D, L, B>();
         let nodes = fill_all(alloc, self.seats, self.places, sources, drains);
         let islands = join(self.split, whole_seats(nodes, &self.lanes));
         Filled {

@@ -31,6 +31,7 @@ use Rattle.bodies_account.proofs.Nets.{Went, went, nets_cover}
 use Rattle.bodies_account.proofs.Paying.{asks as asks_spent}
 use Rattle.bodies_run.specs.Counts.{all_sent}
 use Rattle.lane_counts.proofs.Places.{sum_places}
+use Rattle.stream_model.specs.Linear.{Book}
 
 -- ---- one wire
 
@@ -56,12 +57,12 @@ sent_asked a u (v ∷ vs) =
 ranks_apart : (hs : List ℕ) (i j : ℕ) → i < length hs → j < length hs → slice_index hs i ≡ slice_index hs j → rank_of hs i ≡ rank_of hs j → i ≡ j
 ranks_apart hs i j a b home rank = rank_one hs i j (slice_index hs j) (home_at hs i (slice_index hs j) a home) (home_at hs j (slice_index hs j) b refl) (sym (rank_is hs i (slice_index hs j) home) ∙ (rank ∙ rank_is hs j (slice_index hs j) refl))
 
-module _ {S D : Type 0} (sources : S → SourceState) (drains : D → DrainState) (g : Graph) (homes : List ℕ) (count : ℕ) (ws : List Wire) (nodes : List (Seated S D)) (crossings : List Crossing) (begun now : List (Body S D))
-    (m : AreBodiesOf sources drains g homes count ws nodes crossings begun) (goes : EachOf BodyGoes begun now) (keep : AllOf (BodyKeeps sources drains) now) (all : ℕ → ℕ) where
-  goes_on : (k : ℕ) (a b : Body S D) → slice_get begun k ≡ Some a → slice_get now k ≡ Some b → Went a b
+module _ {S D L B : Type 0} (sources : S → SourceState) (drains : D → DrainState) (book : Book) (g : Graph) (homes : List ℕ) (count : ℕ) (ws : List Wire) (nodes : List (Seated S D L B)) (crossings : List Crossing) (begun now : List (Body S D L B))
+    (m : AreBodiesOf sources drains book g homes count ws nodes crossings begun) (goes : EachOf BodyGoes begun now) (keep : AllOf (BodyKeeps sources drains book) now) (all : ℕ → ℕ) where
+  goes_on : (k : ℕ) (a b : Body S D L B) → slice_get begun k ≡ Some a → slice_get now k ≡ Some b → Went a b
   goes_on k a b x y = went a b (goes.each k a b x y)
 
-  abbrev account : Account (Node S D)
+  abbrev account : Account (Node S D L B)
   account = joined (net_of now) (seats_of homes ws) all
 
   abbrev asks_at : ℕ → ℕ → ℕ
@@ -71,7 +72,7 @@ module _ {S D : Type 0} (sources : S → SourceState) (drains : D → DrainState
   within : (u : ℕ) → u < length ws → ((link_place homes ws u).island < count) × ((link_place homes ws u).at < length (net_of now (link_place homes ws u).island).wires)
   within u lt =
       let v = there ws u lt in
-      let cover = nets_cover sources drains g homes count ws nodes crossings begun m now goes.count goes_on in
+      let cover = nets_cover sources drains book g homes count ws nodes crossings begun m now goes.count goes_on in
       ((islands homes count ws nodes m.seated u v.0 v.1).0, cover.near_within u v.0 (ap (λ vs. slice_get vs u) m.graph.wires_are ∙ v.1))
 
   linked : (u : ℕ) → u < length ws → u < length (link_homes homes ws)
@@ -95,8 +96,8 @@ module _ {S D : Type 0} (sources : S → SourceState) (drains : D → DrainState
       sum_le (λ k. asks (account.near (0 + k)).wire) (λ u. asks_at (link_place homes ws u).island (link_place homes ws u).at) (length ws) (λ k lt. let none : 0 + k ≡ k = omega arith in let here : asks (account.near (0 + k)).wire ≡ asks (account.near k).wire = ap (λ j. asks (account.near j).wire) none in omega (arith, here)) in
       omega (arith, sent, same)
 
-  pub spent : all_sent (counts_of account g) ≤ sum_by (λ (b : Body S D). b.spent) now
+  pub spent : all_sent (counts_of account g) ≤ sum_by (λ (b : Body S D L B). b.spent) now
   spent =
       let sent = subst (λ (vs : List Wire). all_sent (counts_from account 0 vs) ≤ sum_below (λ u. asks_at (link_place homes ws u).island (link_place homes ws u).at) (length ws)) (sym m.graph.wires_are) sent_placed in
-      let paid = asks_spent sources drains count now (goes.count ∙ m.begun_are.many) keep in
+      let paid = asks_spent sources drains book count now (goes.count ∙ m.begun_are.many) keep in
       omega (arith, sent, placed, paid)

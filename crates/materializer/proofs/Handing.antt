@@ -40,10 +40,10 @@ handed_later None xs names x name h = record { place = h.place; handle = h.handl
 handed_later (Some file) [] names x name h = let e : None ≡ Some x = h.handle in absurd cc
 handed_later (Some file) (y ∷ xs) names x name h = record { place = suc h.place; handle = h.handle; named = h.named }
 
-module _ {S D : Type 0} where
+module _ {S D L B : Type 0} where
   -- ---- sources
 
-  reader_at : (k : ℕ) (n : blue.Node) (ss : List S) (ds : List D) (w : Work S D) (x : Node S D) (names : List (List ℕ)) (name : List ℕ) → IsWork k n ss ds w → BecomesOf k w x → n.kind ≡ kind.Lines name
+  reader_at : (k : ℕ) (n : blue.Node) (ss : List S) (ds : List D) (w : Work S D L B) (x : Node S D L B) (names : List (List ℕ)) (name : List ℕ) → IsWork k n ss ds w → BecomesOf k w x → n.kind ≡ kind.Lines name
       → (first : Lines S) × ((x ≡ node.Reading first) × ((first.node ≡ k) × Handed ss (cons_option (input_of n.kind) names) first.reader.source name))
   reader_at k n ss ds (work.Reading r) x names name is b e = (_, (b, (refl, handed_next (input_of n.kind) ss names r.source name (ap input_of e) is.source)))
   reader_at k n ss ds (work.Making shape) x names name is b e = absurd (subst IsMaker e is.is_maker)
@@ -57,13 +57,13 @@ module _ {S D : Type 0} where
   reader_at k n ss ds (work.Writing shape None) x names name is b e = let no : kind.Lines name ≡ kind.Ignore = sym e ∙ is.is_ignore in absurd cc
 
   -- of the nodes from node k on
-  record ReadsAt (k : ℕ) (names : List (List ℕ)) (ss : List S) (xs : List (Node S D)) (j : ℕ) (name : List ℕ) : Type 0 where
+  record ReadsAt (k : ℕ) (names : List (List ℕ)) (ss : List S) (xs : List (Node S D L B)) (j : ℕ) (name : List ℕ) : Type 0 where
     pub first : Lines S
     pub at : slice_get xs j ≡ Some (node.Reading first)
     pub node : first.node ≡ k + j
     pub handed : Handed ss names first.reader.source name
 
-  reads_at : (k : ℕ) (ns : List blue.Node) (ss : List S) (ds : List D) (ps : List (Seated S D)) (xs : List (Node S D)) (j : ℕ) (n : blue.Node) (name : List ℕ)
+  reads_at : (k : ℕ) (ns : List blue.Node) (ss : List S) (ds : List D) (ps : List (Seated S D L B)) (xs : List (Node S D L B)) (j : ℕ) (n : blue.Node) (name : List ℕ)
       → AreSeats k ns ss ds ps → AllBecome ps xs → slice_get ns j ≡ Some n → n.kind ≡ kind.Lines name → ReadsAt k (inputs_of_nodes ns) ss xs j name
   reads_at k [] ss ds ps xs j n name a b at e = absurd cc
   reads_at k (m ∷ ns) ss ds [] xs j n name a b at e = absurd a
@@ -77,7 +77,7 @@ module _ {S D : Type 0} where
       let r = reads_at (k + 1) ns _ _ ps xs j n name a.1.1 b.1 at e in
       record { first = r.first; at = r.at; node = let same : r.first.node ≡ k + 1 + j = r.node in omega (arith, same); handed = handed_later (input_of m.kind) ss (inputs_of_nodes ns) r.first.reader.source name r.handed }
 
-  pub reads_file : (ns : List blue.Node) (ss : List S) (ds : List D) (ps : List (Seated S D)) (xs : List (Node S D)) → AreSeats 0 ns ss ds ps → AllBecome ps xs
+  pub reads_file : (ns : List blue.Node) (ss : List S) (ds : List D) (ps : List (Seated S D L B)) (xs : List (Node S D L B)) → AreSeats 0 ns ss ds ps → AllBecome ps xs
       → (j : ℕ) (n : blue.Node) (name : List ℕ) → slice_get ns j ≡ Some n → n.kind ≡ kind.Lines name → ReadsFile (inputs_of_nodes ns) ss xs j name
   reads_file ns ss ds ps xs a b j n name at e =
       let r = reads_at 0 ns ss ds ps xs j n name a b at e in
@@ -85,7 +85,7 @@ module _ {S D : Type 0} where
 
   -- ---- sinks with a file
 
-  writer_at : (k : ℕ) (n : blue.Node) (ss : List S) (ds : List D) (w : Work S D) (x : Node S D) (names : List (List ℕ)) (name : List ℕ) → IsWork k n ss ds w → BecomesOf k w x → output_of n.kind ≡ Some name
+  writer_at : (k : ℕ) (n : blue.Node) (ss : List S) (ds : List D) (w : Work S D L B) (x : Node S D L B) (names : List (List ℕ)) (name : List ℕ) → IsWork k n ss ds w → BecomesOf k w x → output_of n.kind ≡ Some name
       → (first : Sink D) × ((x ≡ node.Writing first) × ((first.node ≡ k) × Handed ds (cons_option (output_of n.kind) names) first.drain name))
   writer_at k n ss ds (work.Reading r) x names name is b e =
       let l = reads_lines n.kind ss r.source is.source in
@@ -100,13 +100,13 @@ module _ {S D : Type 0} where
   writer_at k n ss ds (work.Writing shape (Some d)) x names name is b e = (_, (b, (refl, handed_next (output_of n.kind) ds names d name e is.next)))
   writer_at k n ss ds (work.Writing shape None) x names name is b e = let no : output_of kind.Ignore ≡ Some name = sym (ap output_of is.is_ignore) ∙ e in absurd cc
 
-  record WritesAt (k : ℕ) (names : List (List ℕ)) (ds : List D) (xs : List (Node S D)) (j : ℕ) (name : List ℕ) : Type 0 where
+  record WritesAt (k : ℕ) (names : List (List ℕ)) (ds : List D) (xs : List (Node S D L B)) (j : ℕ) (name : List ℕ) : Type 0 where
     pub first : Sink D
     pub at : slice_get xs j ≡ Some (node.Writing first)
     pub node : first.node ≡ k + j
     pub handed : Handed ds names first.drain name
 
-  writes_at : (k : ℕ) (ns : List blue.Node) (ss : List S) (ds : List D) (ps : List (Seated S D)) (xs : List (Node S D)) (j : ℕ) (n : blue.Node) (name : List ℕ)
+  writes_at : (k : ℕ) (ns : List blue.Node) (ss : List S) (ds : List D) (ps : List (Seated S D L B)) (xs : List (Node S D L B)) (j : ℕ) (n : blue.Node) (name : List ℕ)
       → AreSeats k ns ss ds ps → AllBecome ps xs → slice_get ns j ≡ Some n → output_of n.kind ≡ Some name → WritesAt k (outputs_of_nodes ns) ds xs j name
   writes_at k [] ss ds ps xs j n name a b at e = absurd cc
   writes_at k (m ∷ ns) ss ds [] xs j n name a b at e = absurd a
@@ -120,7 +120,7 @@ module _ {S D : Type 0} where
       let r = writes_at (k + 1) ns _ _ ps xs j n name a.1.1 b.1 at e in
       record { first = r.first; at = r.at; node = let same : r.first.node ≡ k + 1 + j = r.node in omega (arith, same); handed = handed_later (output_of m.kind) ds (outputs_of_nodes ns) r.first.drain name r.handed }
 
-  pub writes_file : (ns : List blue.Node) (ss : List S) (ds : List D) (ps : List (Seated S D)) (xs : List (Node S D)) → AreSeats 0 ns ss ds ps → AllBecome ps xs
+  pub writes_file : (ns : List blue.Node) (ss : List S) (ds : List D) (ps : List (Seated S D L B)) (xs : List (Node S D L B)) → AreSeats 0 ns ss ds ps → AllBecome ps xs
       → (j : ℕ) (n : blue.Node) (name : List ℕ) → slice_get ns j ≡ Some n → output_of n.kind ≡ Some name → WritesFile (outputs_of_nodes ns) ds xs j name
   writes_file ns ss ds ps xs a b j n name at e =
       let r = writes_at 0 ns ss ds ps xs j n name a b at e in
@@ -128,7 +128,7 @@ module _ {S D : Type 0} where
 
   -- ---- sinks that keep nothing
 
-  ignorer_at : (k : ℕ) (n : blue.Node) (ss : List S) (ds : List D) (w : Work S D) (x : Node S D) → IsWork k n ss ds w → BecomesOf k w x → n.kind ≡ kind.Ignore → (first : Ignorer) × ((x ≡ node.Ignoring first) × (first.node ≡ k))
+  ignorer_at : (k : ℕ) (n : blue.Node) (ss : List S) (ds : List D) (w : Work S D L B) (x : Node S D L B) → IsWork k n ss ds w → BecomesOf k w x → n.kind ≡ kind.Ignore → (first : Ignorer) × ((x ≡ node.Ignoring first) × (first.node ≡ k))
   ignorer_at k n ss ds (work.Reading r) x is b e =
       let l = reads_lines n.kind ss r.source is.source in
       let no : kind.Lines l.0 ≡ kind.Ignore = sym l.1 ∙ e in absurd cc
@@ -142,12 +142,12 @@ module _ {S D : Type 0} where
   ignorer_at k n ss ds (work.Writing shape (Some d)) x is b e = absurd (subst IsFileSink e is.is_sink)
   ignorer_at k n ss ds (work.Writing shape None) x is b e = (_, (b, refl))
 
-  record IgnoresAt (k : ℕ) (xs : List (Node S D)) (j : ℕ) : Type 0 where
+  record IgnoresAt (k : ℕ) (xs : List (Node S D L B)) (j : ℕ) : Type 0 where
     pub first : Ignorer
     pub at : slice_get xs j ≡ Some (node.Ignoring first)
     pub node : first.node ≡ k + j
 
-  ignores_at : (k : ℕ) (ns : List blue.Node) (ss : List S) (ds : List D) (ps : List (Seated S D)) (xs : List (Node S D)) (j : ℕ) (n : blue.Node)
+  ignores_at : (k : ℕ) (ns : List blue.Node) (ss : List S) (ds : List D) (ps : List (Seated S D L B)) (xs : List (Node S D L B)) (j : ℕ) (n : blue.Node)
       → AreSeats k ns ss ds ps → AllBecome ps xs → slice_get ns j ≡ Some n → n.kind ≡ kind.Ignore → IgnoresAt k xs j
   ignores_at k [] ss ds ps xs j n a b at e = absurd cc
   ignores_at k (m ∷ ns) ss ds [] xs j n a b at e = absurd a
@@ -161,7 +161,7 @@ module _ {S D : Type 0} where
       let r = ignores_at (k + 1) ns _ _ ps xs j n a.1.1 b.1 at e in
       record { first = r.first; at = r.at; node = let same : r.first.node ≡ k + 1 + j = r.node in omega (arith, same) }
 
-  pub writes_no_file : (ns : List blue.Node) (ss : List S) (ds : List D) (ps : List (Seated S D)) (xs : List (Node S D)) → AreSeats 0 ns ss ds ps → AllBecome ps xs
+  pub writes_no_file : (ns : List blue.Node) (ss : List S) (ds : List D) (ps : List (Seated S D L B)) (xs : List (Node S D L B)) → AreSeats 0 ns ss ds ps → AllBecome ps xs
       → (j : ℕ) (n : blue.Node) → slice_get ns j ≡ Some n → n.kind ≡ kind.Ignore → WritesNoFile xs j
   writes_no_file ns ss ds ps xs a b j n at e =
       let r = ignores_at 0 ns ss ds ps xs j n a b at e in

@@ -7,4 +7,5 @@ pub mod Making
 pub mod Handing
 pub mod SeatLoops
 pub mod Switches
+pub mod Plugs
 pub mod Filling

@@ -1,5 +1,5 @@
 -- The nodes that stand at the places of a blueprint's nodes are those of its graph.
-use Rattle.std.proofs.Common.{◌≡◌, ℕ, zero, suc, ◌+◌, List, [], ◌∷◌, length, Some, None, Option, refl, ap, sym, ◌∙◌, subst, arith}
+use Rattle.std.proofs.Common.{◌≡◌, ℕ, zero, suc, ◌+◌, List, [], ◌∷◌, Some, None, Option, refl, ap, sym, ◌∙◌, subst, arith}
 use Rattle.std.specs.Prelude.{slice_get}
 use Rattle.std.specs.List.{All}
 use Rattle.std.proofs.lemmas.List.{length-map}
@@ -40,8 +40,8 @@ module _ {S : Type 0} (sources : S → SourceState) where
 next_is : {S : Type 0} (k : Kind) (ss : List S) (s : S) (name : List ℕ) → k ≡ kind.Lines name → handle_of (input_of k) ss ≡ Some s → slice_get ss 0 ≡ Some s
 next_is k ss s name e h = sym (ap (λ x. handle_of (input_of x) ss) e) ∙ h
 
-module _ {S D : Type 0} (sources : S → SourceState) where
-  work_first : (k : ℕ) (n : blue.Node) (ss : List S) (ds : List D) (w : Work S D) (x : Node S D) → IsWork k n ss ds w → BecomesOf k w x → NoneGiven sources ss → FirstOf sources k (node_of n) x
+module _ {S D L B : Type 0} (sources : S → SourceState) where
+  work_first : (k : ℕ) (n : blue.Node) (ss : List S) (ds : List D) (w : Work S D L B) (x : Node S D L B) → IsWork k n ss ds w → BecomesOf k w x → NoneGiven sources ss → FirstOf sources k (node_of n) x
   work_first k n ss ds (work.Reading r) x is b none =
       let l = reads_lines n.kind ss r.source is.source in
       subst (λ y. FirstOf sources k (node_of n) y) (sym b) (record { name = l.0; kind_is = l.1; node = refl; kept = is.kept; given = none 0 r.source (next_is n.kind ss r.source l.0 l.1 is.source) })
@@ -55,10 +55,10 @@ module _ {S D : Type 0} (sources : S → SourceState) where
   work_first k n ss ds (work.Writing shape (Some d)) x is b none = subst (λ y. FirstOf sources k (node_of n) y) (sym b) (record { is_sink = is.is_sink; node = refl; writes = ap writes_of is.shape_is; count = refl; end = refl })
   work_first k n ss ds (work.Writing shape None) x is b none = subst (λ y. FirstOf sources k (node_of n) y) (sym b) (record { kind_is = is.is_ignore; node = refl; end = refl })
 
-  seat_first : (k : ℕ) (n : blue.Node) (ss : List S) (ds : List D) (p : Seated S D) (x : Node S D) → p.node ≡ k → IsWork k n ss ds p.work → BecomesOf p.node p.work x → NoneGiven sources ss → FirstOf sources k (node_of n) x
+  seat_first : (k : ℕ) (n : blue.Node) (ss : List S) (ds : List D) (p : Seated S D L B) (x : Node S D L B) → p.node ≡ k → IsWork k n ss ds p.work → BecomesOf p.node p.work x → NoneGiven sources ss → FirstOf sources k (node_of n) x
   seat_first k n ss ds p x e is b none = work_first k n ss ds p.work x is (subst (λ m. BecomesOf m p.work x) e b) none
 
-  pub seats_first : (k : ℕ) (ns : List blue.Node) (ss : List S) (ds : List D) (ps : List (Seated S D)) (xs : List (Node S D)) (j : ℕ) (n : blue.Node) (x : Node S D)
+  pub seats_first : (k : ℕ) (ns : List blue.Node) (ss : List S) (ds : List D) (ps : List (Seated S D L B)) (xs : List (Node S D L B)) (j : ℕ) (n : blue.Node) (x : Node S D L B)
       → AreSeats k ns ss ds ps → AllBecome ps xs → NoneGiven sources ss → slice_get ns j ≡ Some n → slice_get xs j ≡ Some x → FirstOf sources (k + j) (node_of n) x
   seats_first k [] ss ds ps xs j n x a b none at is = absurd cc
   seats_first k (m ∷ ns) ss ds [] xs j n x a b none at is = absurd a
@@ -77,7 +77,7 @@ module _ {S D : Type 0} (sources : S → SourceState) where
 none_given : {S : Type 0} (sources : S → SourceState) (ss : List S) → All (λ s. (sources s).given ≡ 0) ss → NoneGiven sources ss
 none_given sources ss all i s at = subst (λ x. (sources x).given ≡ 0) (get_or_from_slice_get ss i s s at) (all i s (slice_get_within ss i s at))
 
-module _ {S D : Type 0} (sources : S → SourceState) (b : Blueprint) (ss : List S) (ds : List D) (places : List (Seated S D)) (firsts : List (Node S D)) where
+module _ {S D L B : Type 0} (sources : S → SourceState) (b : Blueprint) (ss : List S) (ds : List D) (places : List (Seated S D L B)) (firsts : List (Node S D L B)) where
   pub are_firsts : AreSeats 0 b.nodes.items ss ds places → AllBecome places firsts → All (λ s. (sources s).given ≡ 0) ss → AreFirsts sources (graph_of b).nodes firsts
   are_firsts a all given = record {
     many = same_count places firsts all ∙ seats_count 0 b.nodes.items ss ds places a ∙ sym (length-map b.nodes.items node_of);

@@ -2,7 +2,7 @@
 use Rattle.std.proofs.Common.{◌≡◌, ℕ, zero, suc, ◌+◌, List, [], ◌∷◌, length, Some, None, refl, ap, sym, ◌∙◌, subst}
 use Rattle.std.specs.Prelude.{slice_get}
 use Rattle.stream_model.specs.declared.kind.Kind.{Kind}
-use Rattle.stream_model.specs.declared.kind.Kind.TheVariants.{Lines, Range, Empty, Failed, Map, Filter, FilterNot, TakeWhile, DropWhile, Take, Drop, Limit, MapConcat, Grouped, Fold, Reduce, Scan, Buffer, RecoverNum, RecoverText, Valve, TripShutdown, TripAbort, Merge, Concat, Interleave, MergeSorted, Zip, Broadcast, Balance, Partition, Unzip, ToLines, Head, Last}
+use Rattle.stream_model.specs.declared.kind.Kind.TheVariants.{Lines, Range, Empty, Failed, Map, Filter, FilterNot, TakeWhile, DropWhile, Take, Drop, Limit, MapConcat, Plug, Grouped, Fold, Reduce, Scan, Buffer, RecoverNum, RecoverText, Valve, TripShutdown, TripAbort, Merge, Concat, Interleave, MergeSorted, Zip, Broadcast, Balance, Partition, Unzip, ToLines, Head, Last}
 use Rattle.stream_model.specs.Composed.{inputs_of}
 use Rattle.stream_picture.specs.View.{outputs_of}
 use Rattle.stage_linear.specs.States.{IsLinear}
@@ -50,6 +50,7 @@ linear_ports (Take n) h = (refl, refl)
 linear_ports (Drop n) h = (refl, refl)
 linear_ports (Limit n) h = (refl, refl)
 linear_ports (MapConcat x) h = (refl, refl)
+linear_ports (Plug name) h = (refl, refl)
 linear_ports _ h = absurd h
 
 state_ports : (k : Kind) → IsStateful k → (inputs_of k ≡ 1) × (outputs_of k ≡ 1)
@@ -104,10 +105,10 @@ fan_in_no_file k name h e = file_apart IsFanIn (λ _ i. i) (λ _ i. i) (λ _ i. 
 pub fan_out_no_file : (k : Kind) (name : List ℕ) → IsOut k → output_of k ≡ Some name → ⊥
 fan_out_no_file k name h e = file_apart IsOut (λ _ i. i) (λ _ i. i) (λ _ i. i) k name h e
 
-module _ {S D : Type 0} where
+module _ {S D L B : Type 0} where
   -- ---- works
 
-  pub work_ports : (k : ℕ) (n : Node) (ss : List S) (ds : List D) (w : Work S D) → IsWork k n ss ds w → (work_inputs w ≡ inputs_of n.kind) × (work_outputs w ≡ outputs_of n.kind)
+  pub work_ports : (k : ℕ) (n : Node) (ss : List S) (ds : List D) (w : Work S D L B) → IsWork k n ss ds w → (work_inputs w ≡ inputs_of n.kind) × (work_outputs w ≡ outputs_of n.kind)
   work_ports k n ss ds (work.Reading r) is = let l = reads_lines n.kind ss r.source is.source in (sym (ap inputs_of l.1), sym (ap outputs_of l.1))
   work_ports k n ss ds (work.Making shape) is = let p = maker_ports n.kind is.is_maker in (sym p.0, sym p.1)
   work_ports k n ss ds (work.Linear l) is = let p = linear_ports n.kind is.is_linear in (sym p.0, sym p.1)
@@ -119,10 +120,10 @@ module _ {S D : Type 0} where
   work_ports k n ss ds (work.Writing shape (Some d)) is = let p = file_sink_ports n.kind is.is_sink in (sym p.0, sym p.1)
   work_ports k n ss ds (work.Writing shape None) is = (sym (ap inputs_of is.is_ignore), sym (ap outputs_of is.is_ignore))
 
-  work_unused : (k : ℕ) (n : Node) (ss : List S) (ds : List D) (w : Work S D) → IsWork k n ss ds w → IsUnused w
+  work_unused : (k : ℕ) (n : Node) (ss : List S) (ds : List D) (w : Work S D L B) → IsWork k n ss ds w → IsUnused w
   work_unused k n ss ds (work.Reading r) is = is.kept
   work_unused k n ss ds (work.Making shape) is = subst IsMaker (sym is.shape_is) is.is_maker
-  work_unused k n ss ds (work.Linear l) is = let b = is.begins in record { phase = b.phase; row = rw b.phase tt }
+  work_unused k n ss ds (work.Linear l) is = let b = is.begins in record { phase = b.phase; row = rw b.phase b.ready }
   work_unused k n ss ds (work.State l) is = is.begins.fresh
   work_unused k n ss ds (work.FanIn l inputs) is =
       let b = is.begins in
@@ -139,19 +140,19 @@ module _ {S D : Type 0} where
 
   -- ---- places
 
-  pub seats_count : (k : ℕ) (ns : List Node) (ss : List S) (ds : List D) (ps : List (Seated S D)) → AreSeats k ns ss ds ps → length ps ≡ length ns
+  pub seats_count : (k : ℕ) (ns : List Node) (ss : List S) (ds : List D) (ps : List (Seated S D L B)) → AreSeats k ns ss ds ps → length ps ≡ length ns
   seats_count k [] ss ds [] a = refl
   seats_count k [] ss ds (p ∷ ps) a = absurd a
   seats_count k (n ∷ ns) ss ds [] a = absurd a
   seats_count k (n ∷ ns) ss ds (p ∷ ps) a = ap suc (seats_count (k + 1) ns _ _ ps a.1.1)
 
-  pub seats_unused : (k : ℕ) (ns : List Node) (ss : List S) (ds : List D) (ps : List (Seated S D)) → AreSeats k ns ss ds ps → AllUnused ps
+  pub seats_unused : (k : ℕ) (ns : List Node) (ss : List S) (ds : List D) (ps : List (Seated S D L B)) → AreSeats k ns ss ds ps → AllUnused ps
   seats_unused k [] ss ds [] a = tt
   seats_unused k [] ss ds (p ∷ ps) a = absurd a
   seats_unused k (n ∷ ns) ss ds [] a = absurd a
   seats_unused k (n ∷ ns) ss ds (p ∷ ps) a = (work_unused k n ss ds p.work a.1.0, seats_unused (k + 1) ns _ _ ps a.1.1)
 
-  pub seats_ports : (k : ℕ) (ns : List Node) (ss : List S) (ds : List D) (ps : List (Seated S D)) (j : ℕ) (n : Node) → AreSeats k ns ss ds ps → slice_get ns j ≡ Some n
+  pub seats_ports : (k : ℕ) (ns : List Node) (ss : List S) (ds : List D) (ps : List (Seated S D L B)) (j : ℕ) (n : Node) → AreSeats k ns ss ds ps → slice_get ns j ≡ Some n
       → (inputs_at ps j ≡ inputs_of n.kind) × (outputs_at ps j ≡ outputs_of n.kind)
   seats_ports k [] ss ds ps j n a at = absurd cc
   seats_ports k (m ∷ ns) ss ds [] j n a at = absurd a

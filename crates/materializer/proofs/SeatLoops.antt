@@ -20,15 +20,15 @@ none_left_out (Some file) xs e = cc
 
 -- ---- seats, whose handles are not there yet
 
-module _ {S D : Type 0} (all : List Node) where
-  pub planned_start : (ns : List Node) (seats xs : List (Seat S D)) → ns ≡ all → seats ≡ [] → ArePlanned (length seats) ns xs → ArePlanned 0 all (seats ++ xs)
+module _ {S D L B : Type 0} (all : List Node) where
+  pub planned_start : (ns : List Node) (seats xs : List (Seat S D L B)) → ns ≡ all → seats ≡ [] → ArePlanned (length seats) ns xs → ArePlanned 0 all (seats ++ xs)
   planned_start ns seats xs e none h =
-      let at_none : ArePlanned 0 ns xs = subst (λ (p : List (Seat S D)). ArePlanned (length p) ns xs) none h in
-      subst (λ (p : List (Seat S D)). ArePlanned 0 all (p ++ xs)) (sym none) (subst (λ n. ArePlanned 0 n xs) e at_none)
+      let at_none : ArePlanned 0 ns xs = subst (λ (p : List (Seat S D L B)). ArePlanned (length p) ns xs) none h in
+      subst (λ (p : List (Seat S D L B)). ArePlanned 0 all (p ++ xs)) (sym none) (subst (λ n. ArePlanned 0 n xs) e at_none)
 
   -- one seat more
-  pub planned_next : (n : Node) (old rest : List Node) (k : ℕ) (s : Seat S D) (was now : List (Seat S D)) → old ≡ n ∷ rest → k ≡ length was → IsSeat k n s → now ≡ was ++ s ∷ []
-      → ((xs : List (Seat S D)) → ArePlanned (length was) old xs → ArePlanned 0 all (was ++ xs)) → (xs : List (Seat S D)) → ArePlanned (length now) rest xs → ArePlanned 0 all (now ++ xs)
+  pub planned_next : (n : Node) (old rest : List Node) (k : ℕ) (s : Seat S D L B) (was now : List (Seat S D L B)) → old ≡ n ∷ rest → k ≡ length was → IsSeat k n s → now ≡ was ++ s ∷ []
+      → ((xs : List (Seat S D L B)) → ArePlanned (length was) old xs → ArePlanned 0 all (was ++ xs)) → (xs : List (Seat S D L B)) → ArePlanned (length now) rest xs → ArePlanned 0 all (now ++ xs)
   planned_next n old rest k s was now e at is more so xs h =
       let size : length now ≡ length was + 1 = ap length more ∙ length-append was (s ∷ []) in
       let later : ArePlanned (length was + 1) rest xs = subst (λ i. ArePlanned i rest xs) size h in
@@ -37,16 +37,21 @@ module _ {S D : Type 0} (all : List Node) where
       subst (λ l. ArePlanned 0 all l) (sym (ap (λ l. l ++ xs) more ∙ append_assoc was (s ∷ []) xs)) (so (s ∷ xs) whole)
 
   -- all of them
-  pub planned_end : (rest : List Node) (seats : List (Seat S D)) → rest ≡ [] → ((xs : List (Seat S D)) → ArePlanned (length seats) rest xs → ArePlanned 0 all (seats ++ xs)) → ArePlanned 0 all seats
+  pub planned_end : (rest : List Node) (seats : List (Seat S D L B)) → rest ≡ [] → ((xs : List (Seat S D L B)) → ArePlanned (length seats) rest xs → ArePlanned 0 all (seats ++ xs)) → ArePlanned 0 all seats
   planned_end rest seats e so =
-      subst (λ l. ArePlanned 0 all l) (append-nil seats) (so [] (subst (λ r. ArePlanned {S = S} {D = D} (length seats) r []) (sym e) tt))
+      subst (λ l. ArePlanned 0 all l) (append-nil seats) (so [] (subst (λ r. ArePlanned {S = S} {D = D} {L = L} {B = B} (length seats) r []) (sym e) tt))
 
-module _ {S D : Type 0} (all : List Node) (sources : List S) (drains : List D) where
+-- where no seat is left there is no node left
+none_planned : {S D L B : Type 0} (k : ℕ) (rest : List Node) (none : List (Seat S D L B)) → none ≡ [] → ArePlanned k rest none → rest ≡ []
+none_planned k [] none e h = refl
+none_planned k (n ∷ ns) none e h = absurd (subst (λ l. ArePlanned k (n ∷ ns) l) e h)
+
+module _ {S D L B : Type 0} (all : List Node) (sources : List S) (drains : List D) where
   -- one place more
-  pub seats_next : (n : Node) (old rest : List Node) (ss later_ss : List S) (ds later_ds : List D) (k : ℕ) (p : Seated S D) (was now : List (Seated S D))
+  pub seats_next : (n : Node) (old rest : List Node) (ss later_ss : List S) (ds later_ds : List D) (k : ℕ) (p : Seated S D L B) (was now : List (Seated S D L B))
       → old ≡ n ∷ rest → k ≡ length was → p.node ≡ k → IsWork k n ss ds p.work → later_ss ≡ handles_left (input_of n.kind) ss → later_ds ≡ handles_left (output_of n.kind) ds → now ≡ was ++ p ∷ []
-      → ((xs : List (Seated S D)) → AreSeats (length was) old ss ds xs → AreSeats 0 all sources drains (was ++ xs))
-      → (xs : List (Seated S D)) → AreSeats (length now) rest later_ss later_ds xs → AreSeats 0 all sources drains (now ++ xs)
+      → ((xs : List (Seated S D L B)) → AreSeats (length was) old ss ds xs → AreSeats 0 all sources drains (was ++ xs))
+      → (xs : List (Seated S D L B)) → AreSeats (length now) rest later_ss later_ds xs → AreSeats 0 all sources drains (now ++ xs)
   seats_next n old rest ss later_ss ds later_ds k p was now e at node is s d more so xs h =
       let size : length now ≡ length was + 1 = ap length more ∙ length-append was (p ∷ []) in
       let a : AreSeats (length was + 1) rest later_ss later_ds xs = subst (λ i. AreSeats i rest later_ss later_ds xs) size h in
@@ -57,22 +62,22 @@ module _ {S D : Type 0} (all : List Node) (sources : List S) (drains : List D) w
       subst (λ l. AreSeats 0 all sources drains l) (sym (ap (λ l. l ++ xs) more ∙ append_assoc was (p ∷ []) xs)) (so (p ∷ xs) whole)
 
   -- all of them
-  pub seats_end : (rest : List Node) (ss : List S) (ds : List D) (places : List (Seated S D)) → rest ≡ [] → ((xs : List (Seated S D)) → AreSeats (length places) rest ss ds xs → AreSeats 0 all sources drains (places ++ xs)) → AreSeats 0 all sources drains places
+  pub seats_end : (rest : List Node) (ss : List S) (ds : List D) (places : List (Seated S D L B)) → rest ≡ [] → ((xs : List (Seated S D L B)) → AreSeats (length places) rest ss ds xs → AreSeats 0 all sources drains (places ++ xs)) → AreSeats 0 all sources drains places
   seats_end rest ss ds places e so =
-      subst (λ l. AreSeats 0 all sources drains l) (append-nil places) (so [] (subst (λ r. AreSeats {S = S} {D = D} (length places) r ss ds []) (sym e) tt))
+      subst (λ l. AreSeats 0 all sources drains l) (append-nil places) (so [] (subst (λ r. AreSeats {S = S} {D = D} {L = L} {B = B} (length places) r ss ds []) (sym e) tt))
 
   -- the seats that are left are those of the nodes that are left, and behind the places that there are they complete all
-  pub record FillsRest (seats : List (Seat S D)) (ss : List S) (ds : List D) (places : List (Seated S D)) : Type 0 where
+  pub record FillsRest (seats : List (Seat S D L B)) (ss : List S) (ds : List D) (places : List (Seated S D L B)) : Type 0 where
     pub rest : List Node
     pub planned : ArePlanned (length places) rest seats
-    pub so : (xs : List (Seated S D)) → AreSeats (length places) rest ss ds xs → AreSeats 0 all sources drains (places ++ xs)
+    pub so : (xs : List (Seated S D L B)) → AreSeats (length places) rest ss ds xs → AreSeats 0 all sources drains (places ++ xs)
 
-  pub fills_first : (seats : List (Seat S D)) (ss : List S) (ds : List D) (places : List (Seated S D)) → ss ≡ sources → ds ≡ drains → places ≡ [] → ArePlanned 0 all seats → FillsRest seats ss ds places
+  pub fills_first : (seats : List (Seat S D L B)) (ss : List S) (ds : List D) (places : List (Seated S D L B)) → ss ≡ sources → ds ≡ drains → places ≡ [] → ArePlanned 0 all seats → FillsRest seats ss ds places
   fills_first seats ss ds places s d none h =
       rw (s, d, none) (record { rest = all; planned = h; so = λ xs a. a })
 
-  fills_with : (rest : List Node) (s : Seat S D) (later : List (Seat S D)) (ss later_ss : List S) (ds later_ds : List D) (p : Seated S D) (was now : List (Seated S D)) → ArePlanned (length was) rest (s ∷ later) → Fills s ss ds p later_ss later_ds → now ≡ was ++ p ∷ []
-      → ((xs : List (Seated S D)) → AreSeats (length was) rest ss ds xs → AreSeats 0 all sources drains (was ++ xs)) → FillsRest later later_ss later_ds now
+  fills_with : (rest : List Node) (s : Seat S D L B) (later : List (Seat S D L B)) (ss later_ss : List S) (ds later_ds : List D) (p : Seated S D L B) (was now : List (Seated S D L B)) → ArePlanned (length was) rest (s ∷ later) → Fills s ss ds p later_ss later_ds → now ≡ was ++ p ∷ []
+      → ((xs : List (Seated S D L B)) → AreSeats (length was) rest ss ds xs → AreSeats 0 all sources drains (was ++ xs)) → FillsRest later later_ss later_ds now
   fills_with [] s later ss later_ss ds later_ds p was now h fills more so = absurd h
   fills_with (n ∷ ns) s later ss later_ss ds later_ds p was now h fills more so =
       let f = fills (length was) n h.0 in
@@ -83,26 +88,22 @@ module _ {S D : Type 0} (all : List Node) (sources : List S) (drains : List D) w
         so = seats_next n (n ∷ ns) ns ss later_ss ds later_ds (length was) p was now refl refl f.node f.work f.sources_left f.drains_left more so;
       }
 
-  pub fills_next : (old later : List (Seat S D)) (s : Seat S D) (ss later_ss : List S) (ds later_ds : List D) (p : Seated S D) (was now : List (Seated S D)) → FillsRest old ss ds was → old ≡ s ∷ later → Fills s ss ds p later_ss later_ds → now ≡ was ++ p ∷ [] → FillsRest later later_ss later_ds now
+  pub fills_next : (old later : List (Seat S D L B)) (s : Seat S D L B) (ss later_ss : List S) (ds later_ds : List D) (p : Seated S D L B) (was now : List (Seated S D L B)) → FillsRest old ss ds was → old ≡ s ∷ later → Fills s ss ds p later_ss later_ds → now ≡ was ++ p ∷ [] → FillsRest later later_ss later_ds now
   fills_next old later s ss later_ss ds later_ds p was now f e fills more =
       fills_with f.rest s later ss later_ss ds later_ds p was now (subst (λ l. ArePlanned (length was) f.rest l) e f.planned) fills more f.so
 
-  none_planned : (k : ℕ) (rest : List Node) → ArePlanned {S = S} {D = D} k rest [] → rest ≡ []
-  none_planned k [] h = refl
-  none_planned k (n ∷ ns) h = absurd h
-
-  pub fills_last : (seats : List (Seat S D)) (ss : List S) (ds : List D) (places : List (Seated S D)) → FillsRest seats ss ds places → seats ≡ [] → AreSeats 0 all sources drains places
-  fills_last seats ss ds places f e = seats_end f.rest ss ds places (none_planned (length places) f.rest (subst (λ l. ArePlanned (length places) f.rest l) e f.planned)) f.so
+  pub fills_last : (seats : List (Seat S D L B)) (ss : List S) (ds : List D) (places : List (Seated S D L B)) → FillsRest seats ss ds places → seats ≡ [] → AreSeats 0 all sources drains places
+  fills_last seats ss ds places f e = seats_end f.rest ss ds places (none_planned (length places) f.rest seats e f.planned) f.so
 
 -- how many handles are wanted
-pub reads_next : {S D : Type 0} (old later : List (Seat S D)) (s : Seat S D) (a b : ℕ) → old ≡ s ∷ later → a ≡ reads_in old → a ≡ b + reads s.planned → b ≡ reads_in later
+pub reads_next : {S D L B : Type 0} (old later : List (Seat S D L B)) (s : Seat S D L B) (a b : ℕ) → old ≡ s ∷ later → a ≡ reads_in old → a ≡ b + reads s.planned → b ≡ reads_in later
 reads_next old later s a b e h k = let size : reads_in old ≡ reads s.planned + reads_in later = ap reads_in e in omega (arith, size, h, k)
 
-pub reads_enough : {S D : Type 0} (old later : List (Seat S D)) (s : Seat S D) (a : ℕ) → old ≡ s ∷ later → a ≡ reads_in old → reads s.planned ≤ a
+pub reads_enough : {S D L B : Type 0} (old later : List (Seat S D L B)) (s : Seat S D L B) (a : ℕ) → old ≡ s ∷ later → a ≡ reads_in old → reads s.planned ≤ a
 reads_enough old later s a e h = let size : reads_in old ≡ reads s.planned + reads_in later = ap reads_in e in omega (arith, size, h)
 
-pub writes_next : {S D : Type 0} (old later : List (Seat S D)) (s : Seat S D) (a b : ℕ) → old ≡ s ∷ later → a ≡ writes_in old → a ≡ b + writes s.planned → b ≡ writes_in later
+pub writes_next : {S D L B : Type 0} (old later : List (Seat S D L B)) (s : Seat S D L B) (a b : ℕ) → old ≡ s ∷ later → a ≡ writes_in old → a ≡ b + writes s.planned → b ≡ writes_in later
 writes_next old later s a b e h k = let size : writes_in old ≡ writes s.planned + writes_in later = ap writes_in e in omega (arith, size, h, k)
 
-pub writes_enough : {S D : Type 0} (old later : List (Seat S D)) (s : Seat S D) (a : ℕ) → old ≡ s ∷ later → a ≡ writes_in old → writes s.planned ≤ a
+pub writes_enough : {S D L B : Type 0} (old later : List (Seat S D L B)) (s : Seat S D L B) (a : ℕ) → old ≡ s ∷ later → a ≡ writes_in old → writes s.planned ≤ a
 writes_enough old later s a e h = let size : writes_in old ≡ writes s.planned + writes_in later = ap writes_in e in omega (arith, size, h)

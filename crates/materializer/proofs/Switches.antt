@@ -1,5 +1,5 @@
 -- What nodes have of their switches, one after another.
-use Rattle.std.proofs.Common.{◌≡◌, ℕ, ◌+◌, ◌<◌, ◌≤◌, ◌&&◌, true, List, [], ◌∷◌, ◌++◌, length, map, refl, sym, ap, ◌∙◌, subst, arith, append_assoc, append-nil, Option, Some, None}
+use Rattle.std.proofs.Common.{◌≡◌, ℕ, ◌<◌, ◌≤◌, ◌&&◌, true, List, [], ◌∷◌, ◌++◌, length, map, refl, sym, ap, ◌∙◌, subst, arith, append_assoc, append-nil, Option, Some, None}
 use Rattle.std.proofs.lemmas.Bool.{and_parts}
 use Rattle.std.proofs.lemmas.Bool.Decides.{nat_tests}
 use Rattle.std.proofs.lemmas.List.{map-append}
@@ -58,7 +58,7 @@ at_switch_writes_none (TripAbort name n) e h = refl
 at_switch_writes_none kind e h = absurd (none_some (sym h))
 
 -- what is to stand at the place of a node that is handed something
-pub plans_at_switch : {S D : Type 0} (k : ℕ) (kind : Kind) (d : Decider) (e : SwitchEnd) (w : Work S D) → IsHandedAt (switch_of kind) (Some e) → IsFreeWork k kind d w → (node : Node) → node.kind ≡ kind → node.decider ≡ d → IsPlanned k node (Works w)
+pub plans_at_switch : {S D L B : Type 0} (k : ℕ) (kind : Kind) (d : Decider) (e : SwitchEnd) (w : Work S D L B) → IsHandedAt (switch_of kind) (Some e) → IsFreeWork k kind d w → (node : Node) → node.kind ≡ kind → node.decider ≡ d → IsPlanned k node (Works w)
 plans_at_switch k kind d e w h free node is same = record {
   work = subst (λ x. IsFreeWork k x node.decider w) (sym is) (subst (λ x. IsFreeWork k kind x w) (sym same) free);
   no_input = ap input_of is ∙ at_switch_reads_none kind e h;

@@ -32,61 +32,61 @@ pub record PlansWriter (n : Node) (shape : Kind) : Type 0 where
   pub is_sink : IsFileSink n.kind
 
 -- a node without a file
-pub record PlansWork {S D : Type 0} (k : ℕ) (n : Node) (w : Work S D) : Type 0 where
+pub record PlansWork {S D L B : Type 0} (k : ℕ) (n : Node) (w : Work S D L B) : Type 0 where
   pub work : IsFreeWork k n.kind n.decider w
   pub no_input : input_of n.kind ≡ None
   pub no_output : output_of n.kind ≡ None
 
 -- what is to stand at the place of node k
-abbrev pub IsPlanned : {S D : Type 0} → ℕ → Node → Planned S D → Type 0
+abbrev pub IsPlanned : {S D L B : Type 0} → ℕ → Node → Planned S D L B → Type 0
 IsPlanned k n Reads = PlansReader n
 IsPlanned k n (Writes shape) = PlansWriter n shape
 IsPlanned k n (Works w) = PlansWork k n w
 
-pub record IsSeat {S D : Type 0} (k : ℕ) (n : Node) (s : Seat S D) : Type 0 where
+pub record IsSeat {S D L B : Type 0} (k : ℕ) (n : Node) (s : Seat S D L B) : Type 0 where
   pub node : s.node ≡ k
   pub planned : IsPlanned k n s.planned
 
 -- these nodes, of which the first is node k, each at its place
-abbrev pub ArePlanned : {S D : Type 0} → ℕ → List Node → List (Seat S D) → Type 0
+abbrev pub ArePlanned : {S D L B : Type 0} → ℕ → List Node → List (Seat S D L B) → Type 0
 ArePlanned k [] [] = ⊤
 ArePlanned k (n ∷ ns) (s ∷ ss) = IsSeat k n s × ArePlanned (k + 1) ns ss
 ArePlanned k _ _ = ⊥
 
 -- how many sources and how many drains a seat takes
-abbrev pub reads : {S D : Type 0} → Planned S D → ℕ
+abbrev pub reads : {S D L B : Type 0} → Planned S D L B → ℕ
 reads Reads = 1
 reads (Writes shape) = 0
 reads (Works w) = 0
 
-abbrev pub writes : {S D : Type 0} → Planned S D → ℕ
+abbrev pub writes : {S D L B : Type 0} → Planned S D L B → ℕ
 writes Reads = 0
 writes (Writes shape) = 1
 writes (Works w) = 0
 
-abbrev pub reads_in : {S D : Type 0} → List (Seat S D) → ℕ
+abbrev pub reads_in : {S D L B : Type 0} → List (Seat S D L B) → ℕ
 reads_in [] = 0
 reads_in (s ∷ ss) = reads s.planned + reads_in ss
 
-abbrev pub writes_in : {S D : Type 0} → List (Seat S D) → ℕ
+abbrev pub writes_in : {S D L B : Type 0} → List (Seat S D L B) → ℕ
 writes_in [] = 0
 writes_in (s ∷ ss) = writes s.planned + writes_in ss
 
 -- whichever node the seat is for, it stands there with its handle, if it has a file, and leaves the other handles
-pub record FillsAs {S D : Type 0} (k : ℕ) (n : Node) (sources : List S) (drains : List D) (p : Seated S D) (later_sources : List S) (later_drains : List D) : Type 0 where
+pub record FillsAs {S D L B : Type 0} (k : ℕ) (n : Node) (sources : List S) (drains : List D) (p : Seated S D L B) (later_sources : List S) (later_drains : List D) : Type 0 where
   pub node : p.node ≡ k
   pub work : IsWork k n sources drains p.work
   pub sources_left : later_sources ≡ handles_left (input_of n.kind) sources
   pub drains_left : later_drains ≡ handles_left (output_of n.kind) drains
 
-abbrev pub Fills : {S D : Type 0} → Seat S D → List S → List D → Seated S D → List S → List D → Type 0
+abbrev pub Fills : {S D L B : Type 0} → Seat S D L B → List S → List D → Seated S D L B → List S → List D → Type 0
 Fills s sources drains p later_sources later_drains = (k : ℕ) (n : Node) → IsSeat k n s → FillsAs k n sources drains p later_sources later_drains
 
 -- the seat at its switch that stands at a place, where it is that of a valve or a trip
-abbrev pub seat_of_plan : {S D : Type 0} → Planned S D → Option SeatState
+abbrev pub seat_of_plan : {S D L B : Type 0} → Planned S D L B → Option SeatState
 seat_of_plan Reads = None
 seat_of_plan (Writes shape) = None
 seat_of_plan (Works w) = work_seat w
 
-abbrev pub planned_seat : {S D : Type 0} → Seat S D → Option SeatState
+abbrev pub planned_seat : {S D L B : Type 0} → Seat S D L B → Option SeatState
 planned_seat s = seat_of_plan s.planned

@@ -80,7 +80,7 @@ pub record WritesNone (kind shape : Kind) : Type 0 where
   pub is_ignore : kind ≡ Ignore
 
 -- the work of node k of this kind, which has no file
-abbrev pub IsFreeWork : {S D : Type 0} → ℕ → Kind → Decider → Work S D → Type 0
+abbrev pub IsFreeWork : {S D L B : Type 0} → ℕ → Kind → Decider → Work S D L B → Type 0
 IsFreeWork k kind d (work.Making shape) = MakesAs kind shape
 IsFreeWork k kind d (work.Linear l) = Stages k kind d l
 IsFreeWork k kind d (work.State l) = StagesState k kind d l
@@ -90,22 +90,22 @@ IsFreeWork k kind d (work.Writing shape None) = WritesNone kind shape
 IsFreeWork k kind d _ = ⊥
 
 -- the work of node k, where these sources and drains are left
-abbrev pub IsWork : {S D : Type 0} → ℕ → Node → List S → List D → Work S D → Type 0
+abbrev pub IsWork : {S D L B : Type 0} → ℕ → Node → List S → List D → Work S D L B → Type 0
 IsWork k n sources drains (work.Reading r) = ReadsNext n sources r
 IsWork k n sources drains (work.Writing shape (Some d)) = WritesNext n drains shape d
 IsWork k n sources drains w = IsFreeWork k n.kind n.decider w
 
 -- these nodes, of which the first is node k, each at its place; in their order they take the sources and the drains
-abbrev pub AreSeats : {S D : Type 0} → ℕ → List Node → List S → List D → List (Seated S D) → Type 0
+abbrev pub AreSeats : {S D L B : Type 0} → ℕ → List Node → List S → List D → List (Seated S D L B) → Type 0
 AreSeats k [] sources drains [] = ⊤
 AreSeats k (n ∷ ns) sources drains (p ∷ ps) =
     (p.node ≡ k) × (IsWork k n sources drains p.work × AreSeats (k + 1) ns (handles_left (input_of n.kind) sources) (handles_left (output_of n.kind) drains) ps)
 AreSeats k _ sources drains _ = ⊥
 
 -- the seat at its switch that a work has, where it is that of a valve or a trip
-abbrev pub work_seat : {S D : Type 0} → Work S D → Option SeatState
+abbrev pub work_seat : {S D L B : Type 0} → Work S D L B → Option SeatState
 work_seat (work.State l) = state_seat l
 work_seat _ = None
 
-abbrev pub place_seat : {S D : Type 0} → Seated S D → Option SeatState
+abbrev pub place_seat : {S D L B : Type 0} → Seated S D L B → Option SeatState
 place_seat p = work_seat p.work

@@ -35,6 +35,7 @@ pub fn is_built(kind: &Kind) -> bool
         Kind::Valve(_) => true,
         Kind::TripShutdown(_, _) => true,
         Kind::TripAbort(_, _) => true,
+        Kind::Plug(_) => true,
         Kind::Merge(_) => true,
         Kind::Concat(_) => true,
         Kind::Interleave(_, _) => true,

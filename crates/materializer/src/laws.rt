@@ -16,6 +16,8 @@ ghost use Rattle.materializer.specs.Handed.{ReadsFile, WritesFile, WritesNoFile}
 ghost use Rattle.stream_picture.specs.Joined.{IsJoined};
 ghost use Rattle.materializer.specs.Seats.{AreSeats};
 
+use plug_logic::book::PlugBook;
+use plug_logic::logic::Logic;
 use stream_io::outside::{Drain, Source};
 
 /// The wires of a blueprint that breaks no rule have ranks that rise along every walk (`ranked`), and each of its ports is at
@@ -27,21 +29,21 @@ pub fn fit_blueprints_are_whole()
 
 /// Where no source has handed out a byte, the nodes at the places of a blueprint, as they are handed in, are those of its graph,
 /// each in its order, whether wires or lanes join them.
-pub fn parts_are_made_of_their_blueprint<S: Source, D: Drain>()
-    ensures { (b : Blueprint) (sources : List S) (drains : List D) (places : List (Seated S D)) (firsts : List (Node S D)) → AreSeats 0 b.nodes.items sources drains places
+pub fn parts_are_made_of_their_blueprint<S: Source, D: Drain, L: Logic, B: PlugBook>()
+    ensures { (b : Blueprint) (sources : List S) (drains : List D) (places : List (Seated S D L B)) (firsts : List (Node S D L B)) → AreSeats 0 b.nodes.items sources drains places
         → AllBecome places firsts → All (λ s. (S.state s).given ≡ 0) sources → AreFirsts S.state (graph_of b).nodes firsts }
 {}
 
 /// Each source of lines reads the source that was handed in for its file (`sources`), and each sink of lines writes the drain
 /// that was handed in for its file (`drains`), as every other sink with a file does (`files`). A sink that keeps nothing holds
 /// none (`ignores`).
-pub fn parts_hold_their_files<S: Source, D: Drain>()
-    ensures sources { (nodes : List blue.Node) (sources : List S) (drains : List D) (places : List (Seated S D)) (firsts : List (Node S D)) → AreSeats 0 nodes sources drains places → AllBecome places firsts
+pub fn parts_hold_their_files<S: Source, D: Drain, L: Logic, B: PlugBook>()
+    ensures sources { (nodes : List blue.Node) (sources : List S) (drains : List D) (places : List (Seated S D L B)) (firsts : List (Node S D L B)) → AreSeats 0 nodes sources drains places → AllBecome places firsts
         → (k : ℕ) (n : blue.Node) (name : List ℕ) → slice_get nodes k ≡ Some n → n.kind ≡ kind.Lines name → ReadsFile (inputs_of_nodes nodes) sources firsts k name }
-    ensures drains { (nodes : List blue.Node) (sources : List S) (drains : List D) (places : List (Seated S D)) (firsts : List (Node S D)) → AreSeats 0 nodes sources drains places → AllBecome places firsts
+    ensures drains { (nodes : List blue.Node) (sources : List S) (drains : List D) (places : List (Seated S D L B)) (firsts : List (Node S D L B)) → AreSeats 0 nodes sources drains places → AllBecome places firsts
         → (k : ℕ) (n : blue.Node) (name : List ℕ) → slice_get nodes k ≡ Some n → n.kind ≡ kind.ToLines name → WritesFile (outputs_of_nodes nodes) drains firsts k name }
-    ensures files { (nodes : List blue.Node) (sources : List S) (drains : List D) (places : List (Seated S D)) (firsts : List (Node S D)) → AreSeats 0 nodes sources drains places → AllBecome places firsts
+    ensures files { (nodes : List blue.Node) (sources : List S) (drains : List D) (places : List (Seated S D L B)) (firsts : List (Node S D L B)) → AreSeats 0 nodes sources drains places → AllBecome places firsts
         → (k : ℕ) (n : blue.Node) (name : List ℕ) → slice_get nodes k ≡ Some n → output_of n.kind ≡ Some name → WritesFile (outputs_of_nodes nodes) drains firsts k name }
-    ensures ignores { (nodes : List blue.Node) (sources : List S) (drains : List D) (places : List (Seated S D)) (firsts : List (Node S D)) → AreSeats 0 nodes sources drains places → AllBecome places firsts
+    ensures ignores { (nodes : List blue.Node) (sources : List S) (drains : List D) (places : List (Seated S D L B)) (firsts : List (Node S D L B)) → AreSeats 0 nodes sources drains places → AllBecome places firsts
         → (k : ℕ) (n : blue.Node) → slice_get nodes k ≡ Some n → n.kind ≡ kind.Ignore → WritesNoFile firsts k }
 {}

@@ -12,6 +12,9 @@ ghost use Rattle.materializer.specs.Files.{input_of, output_of};
 ghost use Rattle.switch_board.specs.Board.{switch_of, IsHandedAt, AreHanded, seat_of_end};
 ghost use Rattle.materializer.specs.Seats.{IsFreeWork, AreSeats, work_seat, place_seat};
 ghost use Rattle.materializer.specs.Planned.{IsPlanned, IsSeat, ArePlanned, Fills, seat_of_plan, planned_seat, reads, writes, reads_in, writes_in};
+ghost use Rattle.plug_board.specs.Handed.{GivesAsListed, IsPlugged, ArePlugged};
+ghost use Rattle.blue_rules.specs.Names.{plug_of};
+ghost use Rattle.stream_model.specs.declared.kind.Kind.TheVariants as kind;
 
 use crate::number::numbered;
 use blue_core::blueprint::Node;
@@ -19,6 +22,9 @@ use blue_names::ports::{inputs_of, outputs_of};
 use elem_core::why::{Decider, NoMemory};
 use interpreter::parts::{Seated, Work};
 use kill_core::end::SwitchEnd;
+use plug_logic::book::PlugBook;
+use plug_logic::logic::Logic;
+use plug_logic::plug::Plug;
 use stage_in::logic::InLogic;
 use stage_linear::logic::LinearLogic;
 use stage_out::logic::OutLogic;
@@ -31,20 +37,20 @@ use stream_model::kind::Kind;
 
 /// What is to stand at a place, before its handle is there.
 #[derive(Drop)]
-pub enum Planned<S: Source, D: Drain> {
+pub enum Planned<S: Source, D: Drain, L: Logic, B: PlugBook> {
     /// A source of lines.
     Reads,
     /// A sink of this kind, which has a file.
     Writes(Kind),
     /// A work that wants no handle.
-    Works(Work<S, D>),
+    Works(Work<S, D, L, B>),
 }
 
 /// The same, with the number of its node in the blueprint.
 #[derive(Drop)]
-pub struct Seat<S: Source, D: Drain> {
+pub struct Seat<S: Source, D: Drain, L: Logic, B: PlugBook> {
     pub(crate) node: u32,
-    pub(crate) planned: Planned<S, D>,
+    pub(crate) planned: Planned<S, D, L, B>,
 }
 
 /// The next handle of some.
@@ -60,13 +66,13 @@ fn take_next<T: Drop>(handles: &mut IntoIter<T, Global>) -> T
 }
 
 /// What a stage with state does at node k. A valve and a trip have this of their switch.
-fn state_work<S: Source, D: Drain>(
+fn state_work<S: Source, D: Drain, L: Logic, B: PlugBook>(
     alloc: Global,
     k: u32,
     kind: Kind,
     decider: Decider,
     switch: Option<SwitchEnd>,
-) -> Result<Work<S, D>, NoMemory>
+) -> Result<Work<S, D, L, B>, NoMemory>
     requires kind { IsStateful kind }
     requires handed { IsHandedAt (switch_of kind) switch }
     ensures work { IfOk result (IsFreeWork k kind decider) }
@@ -76,12 +82,12 @@ fn state_work<S: Source, D: Drain>(
 }
 
 /// What a stage with several inputs does at node k.
-fn fan_in_work<S: Source, D: Drain>(
+fn fan_in_work<S: Source, D: Drain, L: Logic, B: PlugBook>(
     alloc: Global,
     k: u32,
     kind: Kind,
     decider: Decider,
-) -> Result<Work<S, D>, NoMemory>
+) -> Result<Work<S, D, L, B>, NoMemory>
     requires { IsFanIn kind }
     ensures work { IfOk result (IsFreeWork k kind decider) }
     ensures seat { IfOk result (λ w. work_seat w ≡ None) }
@@ -91,12 +97,12 @@ fn fan_in_work<S: Source, D: Drain>(
 }
 
 /// What a stage with several outputs does at node k.
-fn fan_out_work<S: Source, D: Drain>(
+fn fan_out_work<S: Source, D: Drain, L: Logic, B: PlugBook>(
     alloc: Global,
     k: u32,
     kind: Kind,
     decider: Decider,
-) -> Result<Work<S, D>, NoMemory>
+) -> Result<Work<S, D, L, B>, NoMemory>
     requires { IsOut kind }
     ensures work { IfOk result (IsFreeWork k kind decider) }
     ensures seat { IfOk result (λ w. work_seat w ≡ None) }
@@ -105,18 +111,19 @@ fn fan_out_work<S: Source, D: Drain>(
     Ok(Work::FanOut(OutLogic::new(alloc, k, kind, decider)?, outputs))
 }
 
-/// What node k does, where it has no file and is at no switch.
-fn free_work<S: Source, D: Drain>(
+/// What node k does, where it has no file, is at no switch and names no plug.
+fn free_work<S: Source, D: Drain, L: Logic, B: PlugBook>(
     alloc: Global,
     k: u32,
     kind: Kind,
     decider: Decider,
-) -> Result<Work<S, D>, NoMemory>
+) -> Result<Work<S, D, L, B>, NoMemory>
     requires built { is_built kind ≡ true }
     requires sized { sizes_fit kind ≡ true }
     requires no_input { input_of kind ≡ None }
     requires no_output { output_of kind ≡ None }
     requires no_switch { switch_of kind ≡ None }
+    requires no_plug { plug_of kind ≡ None }
     ensures work { IfOk result (IsFreeWork k kind decider) }
     ensures seat { IfOk result (λ w. work_seat w ≡ None) }
     ensures no_input { input_of kind ≡ None }
@@ -141,16 +148,17 @@ fn free_work<S: Source, D: Drain>(
     })
 }
 
-/// What stands at the place of node k, which is at no switch, and whose handle is not there yet.
-fn free_seat<S: Source, D: Drain>(
+/// What stands at the place of node k, which is at no switch and names no plug, and whose handle is not there yet.
+fn free_seat<S: Source, D: Drain, L: Logic, B: PlugBook>(
     alloc: Global,
     k: u32,
     kind: Kind,
     decider: Decider,
-) -> Result<Planned<S, D>, NoMemory>
+) -> Result<Planned<S, D, L, B>, NoMemory>
     requires built { is_built kind ≡ true }
     requires sized { sizes_fit kind ≡ true }
     requires no_switch { switch_of kind ≡ None }
+    requires no_plug { plug_of kind ≡ None }
     ensures planned { IfOk result (λ p. (node : blue.Node) → node.kind ≡ kind → node.decider ≡ decider → IsPlanned k node p) }
     ensures seat { IfOk result (λ p. seat_of_plan p ≡ None) }
 {
@@ -161,18 +169,19 @@ fn free_seat<S: Source, D: Drain>(
     })
 }
 
-/// What is to stand at the place of node k. A valve and a trip have this of their switch.
+/// What is to stand at the place of node k, which names no plug. A valve and a trip have this of their switch.
 #[tactic(auto, using(crate::proofs::Switches::plans_at_switch, crate::proofs::Switches::at_no_switch, crate::proofs::Switches::at_switch_keeps))]
-fn stand<S: Source, D: Drain>(
+fn unplugged<S: Source, D: Drain, L: Logic, B: PlugBook>(
     alloc: Global,
     k: u32,
     kind: Kind,
     decider: Decider,
     switch: Option<SwitchEnd>,
-) -> Result<Planned<S, D>, NoMemory>
+) -> Result<Planned<S, D, L, B>, NoMemory>
     requires built { is_built kind ≡ true }
     requires sized { sizes_fit kind ≡ true }
     requires handed { IsHandedAt (switch_of kind) switch }
+    requires no_plug { plug_of kind ≡ None }
     ensures planned { IfOk result (λ p. (node : blue.Node) → node.kind ≡ kind → node.decider ≡ decider → IsPlanned k node p) }
     ensures seat { IfOk result (λ p. seat_of_plan p ≡ seat_of_end switch) }
 {
@@ -185,16 +194,55 @@ fn stand<S: Source, D: Drain>(
     }
 }
 
-/// What stands at the place of node k, whose handle is not there yet. A valve and a trip have this of their switch.
-fn plan<S: Source, D: Drain>(
+/// What is to stand at the place of node k, which names this plug.
+fn plugged<S: Source, D: Drain, L: Logic, B: PlugBook>(
+    k: u32,
+    plug: Plug<L>,
+    decider: Decider,
+) -> Planned<S, D, L, B>
+    requires { GivesAsListed L.gives B.lists plug }
+    ensures planned { (node : blue.Node) → node.kind ≡ kind.Plug plug.head.name → node.decider ≡ decider → IsPlanned k node result }
+    ensures seat { seat_of_plan result ≡ None }
+{
+    Planned::Works(Work::Linear(LinearLogic::of_plug(k, plug, decider)))
+}
+
+/// What is to stand at the place of node k. A valve and a trip have this of their switch, and a stage that the caller made is this
+/// plug.
+fn stand<S: Source, D: Drain, L: Logic, B: PlugBook>(
+    alloc: Global,
+    k: u32,
+    kind: Kind,
+    decider: Decider,
+    switch: Option<SwitchEnd>,
+    plug: Option<Plug<L>>,
+) -> Result<Planned<S, D, L, B>, NoMemory>
+    requires built { is_built kind ≡ true }
+    requires sized { sizes_fit kind ≡ true }
+    requires handed { IsHandedAt (switch_of kind) switch }
+    requires plugged { IsPlugged L.gives B.lists (plug_of kind) plug }
+    ensures planned { IfOk result (λ p. (node : blue.Node) → node.kind ≡ kind → node.decider ≡ decider → IsPlanned k node p) }
+    ensures seat { IfOk result (λ p. seat_of_plan p ≡ seat_of_end switch) }
+{
+    match plug {
+        Some(plug) => Ok(plugged(k, plug, decider)),
+        None => unplugged(alloc, k, kind, decider, switch),
+    }
+}
+
+/// What stands at the place of node k, whose handle is not there yet. A valve and a trip have this of their switch, and a stage that
+/// the caller made is this plug.
+fn plan<S: Source, D: Drain, L: Logic, B: PlugBook>(
     alloc: Global,
     k: u32,
     node: Node,
     switch: Option<SwitchEnd>,
-) -> Result<Seat<S, D>, NoMemory>
+    plug: Option<Plug<L>>,
+) -> Result<Seat<S, D, L, B>, NoMemory>
     requires built { is_built node.kind ≡ true }
     requires sized { sizes_fit node.kind ≡ true }
     requires handed { IsHandedAt (switch_of node.kind) switch }
+    requires plugged { IsPlugged L.gives B.lists (plug_of node.kind) plug }
     ensures planned { IfOk result (IsSeat k node) }
     ensures seat { IfOk result (λ s. planned_seat s ≡ seat_of_end switch) }
 {
@@ -204,39 +252,44 @@ fn plan<S: Source, D: Drain>(
         decider,
     } = node;
     let _ = name;
-    let planned = stand(alloc, k, kind, decider, switch)?;
+    let planned = stand(alloc, k, kind, decider, switch, plug)?;
     Ok(Seat { node: k, planned })
 }
 
 /// The nodes in order, each at its place, whose handles are not there yet. Each is handed what it has of its switch: a valve and a
-/// trip a seat that gave nothing and knows nothing.
-pub fn seat_all<S: Source, D: Drain>(
+/// trip a seat that gave nothing and knows nothing; and a node that names a plug is handed that.
+pub fn seat_all<S: Source, D: Drain, L: Logic, B: PlugBook>(
     alloc: Global,
     nodes: Vec<Node>,
     ends: Vec<Option<SwitchEnd>>,
-) -> Result<Vec<Seat<S, D>>, NoMemory>
+    plugs: Vec<Option<Plug<L>>>,
+) -> Result<Vec<Seat<S, D, L, B>>, NoMemory>
     requires built { list_all (λ n. is_built n.kind) nodes.items ≡ true }
     requires sized { list_all (λ n. sizes_fit n.kind) nodes.items ≡ true }
     requires handed { AreHanded (map (λ n. n.kind) nodes.items) ends.items }
+    requires plugged { ArePlugged L.gives B.lists (map (λ n. n.kind) nodes.items) plugs.items }
     ensures planned { IfOk result (λ seats. ArePlanned 0 nodes.items seats.items) }
     ensures seats { IfOk result (λ seats. map planned_seat seats.items ≡ map seat_of_end ends.items) }
 {
     let mut unhanded = ends.into_iter();
+    let mut unplugged = plugs.into_iter();
     let mut seats = Vec::new(alloc);
     for node in nodes {
         let k = numbered(seats.len())?;
-        seats.push(plan(alloc, k, node, take_next(&mut unhanded))?)?;
+        let end = take_next(&mut unhanded);
+        let plug = take_next(&mut unplugged);
+        seats.push(plan(alloc, k, node, end, plug)?)?;
     }
     Ok(seats)
 }
 
 /// The work of a seat: a source of lines reads the next of the sources, a sink with a file writes the next of the drains.
-fn fill<S: Source, D: Drain>(
+fn fill<S: Source, D: Drain, L: Logic, B: PlugBook>(
     alloc: Global,
-    seat: Seat<S, D>,
+    seat: Seat<S, D, L, B>,
     sources: &mut IntoIter<S, Global>,
     drains: &mut IntoIter<D, Global>,
-) -> Seated<S, D>
+) -> Seated<S, D, L, B>
     requires source { reads seat.planned ≤ into_iter_len sources.old }
     requires drain { writes seat.planned ≤ into_iter_len drains.old }
     ensures fills { Fills seat (into_iter_items sources.old) (into_iter_items drains.old) result (into_iter_items sources.new) (into_iter_items drains.new) }
@@ -255,13 +308,13 @@ fn fill<S: Source, D: Drain>(
 
 /// The seats in order, with their handles, into an empty list that has room for them. In their order, each source of lines reads
 /// the next of `sources`, and each sink with a file writes the next of `drains`. It takes no memory.
-pub fn fill_all<S: Source, D: Drain>(
+pub fn fill_all<S: Source, D: Drain, L: Logic, B: PlugBook>(
     alloc: Global,
-    seats: Vec<Seat<S, D>>,
-    places: Vec<Seated<S, D>>,
+    seats: Vec<Seat<S, D, L, B>>,
+    places: Vec<Seated<S, D, L, B>>,
     sources: Vec<S>,
     drains: Vec<D>,
-) -> Vec<Seated<S, D>>
+) -> Vec<Seated<S, D, L, B>>
     requires empty { places.items ≡ [] }
     requires room { vec_len seats ≤ vec_capacity places }
     requires sources { vec_len sources ≡ reads_in seats.items }

@@ -36,6 +36,7 @@ use Rattle.whole_ends.proofs.Homes.{homes_kept, none_left, AreLeftOf, own_below,
 use Rattle.whole_ends.proofs.Leaving.{HandlesAs, HandlesBy, handles_both, handles_on, kept_stays, lane_bare, seat_leaves}
 use Rattle.whole_ends.proofs.Places.{node_began, end_began}
 use Rattle.whole_ends.proofs.Whole.{settled_stays}
+use Rattle.stream_model.specs.Linear.{Book}
 
 -- of two lists of which each item is kept
 kept_at : {N : Type 0} (keeps : N → N → Type 0) (xs ys : List N) → AllKept keeps xs ys → (k : ℕ) (x y : N) → slice_get xs k ≡ Some x → slice_get ys k ≡ Some y → (y ≡ x) ⊎ keeps x y
@@ -51,24 +52,24 @@ kept_at keeps (v ∷ xs) (w ∷ ys) h (suc k) x y ex ey = kept_at keeps xs ys h.
 bare_as : {Y Z : Type 0} (o : Option Y) (p : Option Z) → leaves p ≡ leaves o → o ≡ None → p ≡ None
 bare_as o p e n = none_left p (e ∙ ap leaves n)
 
-module _ {S D : Type 0} (sources : S → SourceState) (drains : D → DrainState) (g : Graph) (homes : List ℕ) (count : ℕ) (ws : List Wire) (nodes : List (Seated S D)) (crossings : List Crossing) (begun now then : List (Body S D)) (broken later : List (Node S D))
-    (m : AreBodiesOf sources drains g homes count ws nodes crossings begun) (broke : WholeOrBroken (BodyKeeps sources drains) BodyGoes (BodyBreaks sources drains) begun now) (l : AreLastOf sources drains begun now then) (r : AreBroughtBack homes count ws (λ k. (net_of now k).nodes) broken later) where
-  abbrev nodes_now : ℕ → List (Node S D)
+module _ {S D L B : Type 0} (sources : S → SourceState) (drains : D → DrainState) (book : Book) (g : Graph) (homes : List ℕ) (count : ℕ) (ws : List Wire) (nodes : List (Seated S D L B)) (crossings : List Crossing) (begun now then : List (Body S D L B)) (broken later : List (Node S D L B))
+    (m : AreBodiesOf sources drains book g homes count ws nodes crossings begun) (broke : WholeOrBroken (BodyKeeps sources drains book) BodyGoes (BodyBreaks sources drains book) begun now) (l : AreLastOf sources drains book begun now then) (r : AreBroughtBack homes count ws (λ k. (net_of now k).nodes) broken later) where
+  abbrev nodes_now : ℕ → List (Node S D L B)
   nodes_now k = (net_of now k).nodes
 
   nets : AreNets homes ws nodes count (net_of then)
-  nets = last_nets sources drains begun now broke then l g homes count ws nodes crossings m
+  nets = last_nets sources drains book begun now broke then l g homes count ws nodes crossings m
 
   -- what is left of a node leaves a handle where it left one as it began
-  stays : (k : ℕ) → k < count → (p : ℕ) (first x : Node S D) → slice_get (net_of then k).firsts p ≡ Some first → slice_get (nodes_now k) p ≡ Some x → HandlesAs first x
+  stays : (k : ℕ) → k < count → (p : ℕ) (first x : Node S D L B) → slice_get (net_of then k).firsts p ≡ Some first → slice_get (nodes_now k) p ≡ Some x → HandlesAs first x
   stays k lt p first x ef ex =
       let within : p < length (net_of then k).firsts = slice_get_within (net_of then k).firsts p first ef in
       let y = there (net_of then k).nodes p (subst (λ (n : ℕ). p < n) (nets.each_first k lt) within) in
-      let a = settled_stays sources drains then (last_settled sources drains begun now broke then l) k p first y.0 ef y.1 in
-      handles_both first y.0 x a.handles (kept_stays sources drains y.0 x (kept_at (KeepsNode sources drains) (net_of then k).nodes (nodes_now k) (last_kept sources drains begun now broke then l k) p y.0 x y.1 ex))
+      let a = settled_stays sources drains book then (last_settled sources drains book begun now broke then l) k p first y.0 ef y.1 in
+      handles_both first y.0 x a.handles (kept_stays sources drains y.0 x (kept_at (KeepsNode sources drains) (net_of then k).nodes (nodes_now k) (last_kept sources drains book begun now broke then l k) p y.0 x y.1 ex))
 
   module _ (ns : List blue.Node) (ss : List S) (ds : List D) (seats : AreSeats 0 ns ss ds nodes) (e : EndHomes) (ends_are : AreEndHomes homes ns ws e) (ends : List (IslandEnd S D)) (are : AreEndsOfBodies now ends) where
-    by_kind : (k : ℕ) (n : blue.Node) (x : Node S D) → slice_get ns k ≡ Some n → slice_get broken k ≡ Some x → HandlesBy n.kind x
+    by_kind : (k : ℕ) (n : blue.Node) (x : Node S D L B) → slice_get ns k ≡ Some n → slice_get broken k ≡ Some x → HandlesBy n.kind x
     by_kind k n x en ex =
         let lt : k < length ns = slice_get_within ns k n en in
         let s = there nodes k (subst (λ (j : ℕ). k < j) (sym (seats_count 0 ns ss ds nodes seats)) lt) in
@@ -107,12 +108,12 @@ module _ {S D : Type 0} (sources : S → SourceState) (drains : D → DrainState
     }
 
     -- the body of an end, and its nodes
-    body_of : (k : ℕ) (x : IslandEnd S D) → slice_get ends k ≡ Some x → (b : Body S D) × ((slice_get now k ≡ Some b) × (b.island.net.nodes ≡ of_home (place_homes homes ws) k (broken ++ later)))
+    body_of : (k : ℕ) (x : IslandEnd S D) → slice_get ends k ≡ Some x → (b : Body S D L B) × ((slice_get now k ≡ Some b) × (b.island.net.nodes ≡ of_home (place_homes homes ws) k (broken ++ later)))
     body_of k x at =
         let lt : k < count = subst (λ (n : ℕ). k < n) many (slice_get_within ends k x at) in
         let b = get_there now k (subst (λ (n : ℕ). k < n) (sym (broke.count ∙ m.begun_are.many)) lt) in
-        let net : net_of now k ≡ b.0.island.net = ap (λ (o : Option (Body S D)). net_in o) b.1 in
-        (b.0, (b.1, sym (r.shares k lt ∙ ap (λ (t : Net (Node S D)). t.nodes) net)))
+        let net : net_of now k ≡ b.0.island.net = ap (λ (o : Option (Body S D L B)). net_in o) b.1 in
+        (b.0, (b.1, sym (r.shares k lt ∙ ap (λ (t : Net (Node S D L B)). t.nodes) net)))
 
     pub are_handles : AreHandlesOf e (readers_of broken) (writers_of broken) ends
     are_handles = record {

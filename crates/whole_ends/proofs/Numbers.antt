@@ -36,7 +36,7 @@ each_both P (x ∷ xs) ys a b zero y e = a 0 y e
 each_both P (x ∷ xs) ys a b (suc k) y e = each_both P xs ys (λ j z f. a (suc j) z f) b k y e
 
 -- the nodes of a blueprint have their own numbers
-pub seat_numbers : {S D : Type 0} (k : ℕ) (ns : List blue.Node) (ss : List S) (ds : List D) (ps : List (Seated S D)) → AreSeats k ns ss ds ps → map node_number ps ≡ count_from k (length ps)
+pub seat_numbers : {S D L B : Type 0} (k : ℕ) (ns : List blue.Node) (ss : List S) (ds : List D) (ps : List (Seated S D L B)) → AreSeats k ns ss ds ps → map node_number ps ≡ count_from k (length ps)
 seat_numbers k [] ss ds [] a = refl
 seat_numbers k [] ss ds (p ∷ ps) a = absurd a
 seat_numbers k (n ∷ ns) ss ds [] a = absurd a

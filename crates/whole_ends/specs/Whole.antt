@@ -18,7 +18,7 @@ use Rattle.bodies_run.specs.Counts.{told_from}
 
 -- the nodes of the blueprint and the ends of its lanes, with the numbers of what was handed in for them, and its wires, which stand so at
 -- their outputs
-abbrev pub whole_of : {S D : Type 0} → List ℕ → List Wire → List (Seated S D) → (ℕ → Cell) → List (Node S D) → List (Node S D) → Whole S D
+abbrev pub whole_of : {S D L B : Type 0} → List ℕ → List Wire → List (Seated S D L B) → (ℕ → Cell) → List (Node S D L B) → List (Node S D L B) → Whole S D L B
 whole_of homes ws nodes near last ends = record {
   homes = place_homes homes ws;
   nodes = last ++ ends;
@@ -28,7 +28,7 @@ whole_of homes ws nodes near last ends = record {
 }
 
 -- this is left by these nodes, in their order, and by wires that stand so at their outputs
-pub record IsLeftBy {S D : Type 0} (ws : List Wire) (near : ℕ → Cell) (nodes : List (Node S D)) (e : IslandEnd S D) : Type 0 where
+pub record IsLeftBy {S D L B : Type 0} (ws : List Wire) (near : ℕ → Cell) (nodes : List (Node S D L B)) (e : IslandEnd S D) : Type 0 where
   pub sinks : e.sinks.items ≡ sinks_of nodes
   pub picks : map pick_of e.picks.items ≡ picks_of (count_from 0 (length nodes)) nodes
   pub seats : e.seats.items ≡ seats_of (count_from 0 (length nodes)) nodes

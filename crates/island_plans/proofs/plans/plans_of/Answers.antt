@@ -1,5 +1,5 @@
 -- The goals of `plans::plans_of` that the search leaves.
-use Rattle.std.proofs.Common.{◌≡◌, ◌∙◌, ◌<◌, ℕ, List, length, map, vec_len, ap, sym, subst, rules, arith}
+use Rattle.std.proofs.Common.{◌≡◌, ◌∙◌, ◌+◌, ◌<◌, ℕ, List, length, map, vec_len, vec_capacity, ap, sym, subst, rules, arith}
 use Rattle.std.specs.List.{All}
 use Rattle.stream_model.specs.Graph.{Wire}
 use Rattle.blue_core.specs.declared.blueprint.Blueprint.{Blueprint}
@@ -13,9 +13,10 @@ use Rattle.interpreter.specs.declared.parts.Place.{Place}
 use Rattle.traversal.specs.Plan.{lanes_from}
 use Rattle.island_parts.specs.Split.{IsSplit}
 use Rattle.materializer.specs.Built.{CanRun}
+use Rattle.plug_board.specs.Handed.{HasPlugs, ArePlugged}
 use Rattle.switch_board.specs.Board.{IsBoard, AreAtSwitches, AreHanded, seat_of_end}
 use Rattle.materializer.specs.Planned.{ArePlanned, places_from, planned_seat}
-use Rattle.materializer.proofs.Fitting.{few_link_ports, all_built, all_sized}
+use Rattle.materializer.proofs.Fitting.{few_link_ports, all_sized}
 use Rattle.island_plans.specs.Ends.{AreEndHomes}
 use Rattle.island_plans.specs.Homes.{AreNumberedHomes}
 use Rattle.island_plans.proofs.Standing.{in_range, places_count}
@@ -23,7 +24,7 @@ use Rattle.island_plans.proofs.plans.plans_of.Goals as goal
 
 pub homes_of_links-requires : goal.homes_of_links-requires
 homes_of_links-requires g c =
-    let r = c.requires in
+    let r = c.requires.runs in
     let b = c.args.b in
     let same : wires_of_links c.deref-3.result.now ≡ blueprint_wires b = search rules in
     subst (λ (n : ℕ). AreInRange n c.deref-3.result.now) (sym (c.len.ensures ∙ b.nodes.ok.0)) (in_range b r.plugs r.taken r.fit c.deref-3.result.now same)
@@ -47,13 +48,13 @@ split_of-requires-clause-below g c =
 
 pub split_of-requires-clause-ports : goal.split_of-requires-clause-ports
 split_of-requires-clause-ports g c =
-    let r = c.requires in
+    let r = c.requires.runs in
     let same : wires_of_links c.deref-11.result.now ≡ blueprint_wires c.args.b = search rules in
     few_link_ports c.args.b r.plugs r.taken r.fit c.deref-11.result.now same
 
 pub split_of-requires-clause-ends : goal.split_of-requires-clause-ends
 split_of-requires-clause-ends g c =
-    let r = c.requires in
+    let r = c.requires.runs in
     let b = c.args.b in
     let nodes = c.in_ok-nodes.nodes in
     let same : wires_of_links c.deref-11.result.now ≡ blueprint_wires b = search rules in
@@ -68,13 +69,19 @@ split_of-requires-clause-lanes g c =
     c.deref-12.ensures.value ∙ c.in_ok-lanes.ensures ∙ ap (λ (hs : List ℕ). lanes_from hs 0 (wires_of_links c.deref-4.result.now)) homes ∙ ap (λ (ls : List Link). lanes_from own 0 (wires_of_links ls)) links
 
 pub seat_all-requires-clause-built : goal.seat_all-requires-clause-built
-seat_all-requires-clause-built g c = c.requires.built
+seat_all-requires-clause-built g c = c.requires.runs.built
 
 pub seat_all-requires-clause-sized : goal.seat_all-requires-clause-sized
-seat_all-requires-clause-sized g c = all_sized c.args.b c.requires.plugs c.requires.taken c.requires.fit
+seat_all-requires-clause-sized g c = all_sized c.args.b c.requires.runs.plugs c.requires.runs.taken c.requires.runs.fit
 
 pub seat_all-requires-clause-handed : goal.seat_all-requires-clause-handed
 seat_all-requires-clause-handed g c = subst (λ (l : List Node). AreHanded (map (λ (n : Node). n.kind) l) c.in_ok-board.switches.items) c.deref-13.ensures.value c.in_ok-board.ensures.handed
+
+pub hand_out-requires-clause-has : goal.hand_out-requires-clause-has
+hand_out-requires-clause-has g c = subst (λ (l : List Node). HasPlugs (map (λ p. p.head) c.args.plugs.items) l) (sym c.deref-14.ensures.value) c.requires.has
+
+pub seat_all-requires-clause-plugged : goal.seat_all-requires-clause-plugged
+seat_all-requires-clause-plugged g c = subst (λ (l : List Node). ArePlugged g.L.Logic.gives g.B.PlugBook.lists (map (λ (n : Node). n.kind) l) c.in_ok-handed.handed.items) c.deref-14.ensures.value c.in_ok-handed.ensures
 
 pub returns-clause-plans : goal.returns-clause-plans
 returns-clause-plans g c =
@@ -114,8 +121,10 @@ returns-clause-plans g c =
     subst (λ (l : List Node). AreAtSwitches (map (λ (n : Node). n.kind) l) board (map seat_of_end c.in_ok-board.switches.items)) c.deref-13.ensures.value c.in_ok-board.ensures.ends in
     let at_switches : AreAtSwitches (map (λ (n : Node). n.kind) ns) board (map planned_seat c.in_ok-seats.seats.items) =
     subst (λ l. AreAtSwitches (map (λ (n : Node). n.kind) ns) board l) (sym c.in_ok-seats.ensures.seats) switches in
+    let exact : vec_capacity c.in_ok-places.places ≡ c.in_ok-all_places.field-0 = c.in_ok-places.ensures.exact in
+    let places_all : c.in_ok-all_places.field-0 ≡ c.len-2.result + c.len-3.result + c.len-3.result = c.in_ok-all_places.ensures in
     record {
-      runs = subst CanRun is c.requires;
+      runs = subst CanRun is c.requires.runs;
       homes_are = subst (λ (x : Blueprint). AreNumberedHomes (length x.nodes.items) count (blueprint_wires x) homes) is homes_are;
       lanes_are = lanes ∙ ap (λ (x : Blueprint). lanes_from homes 0 (blueprint_wires x)) is;
       ends_are = subst (λ (x : Blueprint). AreEndHomes homes x.nodes.items (blueprint_wires x) c.in_ok-ends.ends) is ends;
@@ -124,5 +133,5 @@ returns-clause-plans g c =
       board_is = subst (λ (x : Blueprint). IsBoard (map (λ (n : Node). n.kind) x.nodes.items) board) is board_is;
       at_switches = subst (λ (x : Blueprint). AreAtSwitches (map (λ (n : Node). n.kind) x.nodes.items) board (map planned_seat c.in_ok-seats.seats.items)) is at_switches;
       empty = search rules;
-      room_for_places = search (rules, arith);
+      room_for_places = omega (arith, exact, places_all, c.len-2.ensures, c.len-3.ensures, c.in_ok-lanes.lanes.ok.0);
     }

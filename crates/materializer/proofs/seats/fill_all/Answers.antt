@@ -24,7 +24,7 @@ loop-seat-init g c =
       omega (arith, none, left, many, c.requires.room),
       refl,
       omega (arith, none, left, many),
-      λ nodes planned. fills_first nodes _ _ (into_iter_items r) _ _ _ c.into_iter-unread.ensures.rest c.into_iter-unwritten.ensures.rest c.requires.empty (subst (λ (l : List (Seat _ _)). ArePlanned 0 nodes l) (sym all) planned),
+      λ nodes planned. fills_first nodes _ _ (into_iter_items r) _ _ _ c.into_iter-unread.ensures.rest c.into_iter-unwritten.ensures.rest c.requires.empty (subst (λ (l : List (Seat _ _ _ _)). ArePlanned 0 nodes l) (sym all) planned),
       ap (λ l. map place_seat l ++ map planned_seat (into_iter_items r)) c.requires.empty ∙ ap (map planned_seat) all,
     )
 

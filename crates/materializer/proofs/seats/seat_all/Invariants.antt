@@ -5,11 +5,12 @@ use Rattle.std.specs.Vec.Iter.{into_iter_items, into_iter_len}
 use Rattle.blue_rules.specs.Sizes.{sizes_fit}
 use Rattle.materializer.specs.Built.{is_built}
 use Rattle.materializer.specs.Planned.{ArePlanned, planned_seat}
+use Rattle.plug_board.specs.Handed.{ArePlugged}
 use Rattle.switch_board.specs.Board.{AreHanded, seat_of_end}
 use Rattle.materializer.proofs.seats.seat_all.Given as goal
 
 -- the nodes that are left have been built and their sizes fit, and behind the seats that there are they complete all;
--- each is handed its own, and so it was with those that are done
+-- each is handed its own seat and its own plug, and so it was with those that are done
 abbrev pub invariant-loop-node : goal.invariant-loop-node
 invariant-loop-node g l =
     (goal.iterator-loop-node g).can_next l.node-iterator
@@ -21,3 +22,5 @@ invariant-loop-node g l =
     × AreHanded (map (λ n. n.kind) (into_iter_items l.node-iterator)) (into_iter_items l.unhanded)
     × (into_iter_len l.unhanded ≡ length (into_iter_items l.unhanded))
     × (map planned_seat l.seats.items ++ map seat_of_end (into_iter_items l.unhanded) ≡ map seat_of_end l.fn.ends.items)
+    × ArePlugged g.L.Logic.gives g.B.PlugBook.lists (map (λ n. n.kind) (into_iter_items l.node-iterator)) (into_iter_items l.unplugged)
+    × (into_iter_len l.unplugged ≡ length (into_iter_items l.unplugged))

@@ -1,5 +1,5 @@
 -- The goals of `plans::Plans::fill` that the search leaves.
-use Rattle.std.proofs.Common.{◌≡◌, ◌∙◌, ℕ, List, length, map, ap, sym, subst, arith}
+use Rattle.std.proofs.Common.{◌≡◌, ◌∙◌, ℕ, length, map, ap, sym, subst, arith}
 use Rattle.blue_core.specs.declared.blueprint.Node.{Node}
 use Rattle.blue_check.specs.Wires.{blueprint_wires}
 use Rattle.switch_board.specs.Board.{AreAtSwitches}

@@ -57,6 +57,7 @@ use Rattle.blueprint_run.proofs.Traces.{LeftEmpty, listed, unlisted, lone_of, ma
 use Rattle.blueprint_run.proofs.Shutting.{TakenApart, unwritten, read_grew, faults_grew, writes_grew, file_held, other_files, other_reads, other_writes, other_draws, refused, tells_old, readers_many, writers_many}
 use Rattle.blueprint_run.proofs.Drawns.{drawn_of, made_moves, picks_stand, Draws, draws_all, reads_of}
 use Rattle.blueprint_run.proofs.Closing.{WroteLaw, stands_writes}
+use Rattle.stream_model.specs.Linear.{Book}
 
 -- ---- a first part of a text
 
@@ -82,7 +83,7 @@ drain_end (Read s) = None
 drain_end Staged = None
 drain_end (Wrote x) = x.drain
 
-reader_ends : {S D : Type 0} (x : Node S D) → reader_in x ≡ read_end (node_end x)
+reader_ends : {S D L B : Type 0} (x : Node S D L B) → reader_in x ≡ read_end (node_end x)
 reader_ends (node.Reading x) = refl
 reader_ends (node.Making x) = refl
 reader_ends (node.Linear x) = refl
@@ -94,7 +95,7 @@ reader_ends (node.Ignoring x) = refl
 reader_ends (node.Entering x) = refl
 reader_ends (node.Leaving x) = refl
 
-writer_ends : {S D : Type 0} (x : Node S D) → writer_in x ≡ drain_end (node_end x)
+writer_ends : {S D L B : Type 0} (x : Node S D L B) → writer_in x ≡ drain_end (node_end x)
 writer_ends (node.Reading x) = refl
 writer_ends (node.Making x) = refl
 writer_ends (node.Linear x) = refl
@@ -109,118 +110,120 @@ writer_ends (node.Leaving x) = refl
 keeps_self : (s : SourceState) → KeepsSource s s
 keeps_self s = record { name = refl; whole = refl; given = omega arith; ahead = omega arith; faults = refl }
 
+abbrev source_name : {S : Type 0} → (S → SourceState) → S → List ℕ
+source_name sources s = (sources s).name
+
+abbrev drain_name : {D : Type 0} → (D → DrainState) → D → List ℕ
+drain_name drains d = (drains d).name
+
+-- what a node leaves has the name of its handle
 module _ {S D : Type 0} (sources : S → SourceState) (drains : D → DrainState) where
-  -- a node is the same, or it has kept what outlives want of memory
-  abbrev Kept : Node S D → Node S D → Type 0
-  Kept x y = (y ≡ x) ⊎ KeepsNode sources drains x y
-
-  abbrev source_name : S → List ℕ
-  source_name s = (sources s).name
-
-  abbrev drain_name : D → List ℕ
-  drain_name d = (drains d).name
-
-  drains_named : (o p : Option D) → KeepsDrain sources drains o p → option_map drain_name p ≡ option_map drain_name o
+  drains_named : (o p : Option D) → KeepsDrain sources drains o p → option_map (drain_name drains) p ≡ option_map (drain_name drains) o
   drains_named None None k = refl
   drains_named (Some d) (Some e) k = ap (λ (s : DrainState). Some s.name) k
   drains_named None (Some e) k = absurd k
   drains_named (Some d) None k = absurd k
 
-  read_named : (p q : NodeEnd S D) → KeepsEnd sources drains p q → option_map source_name (read_end q) ≡ option_map source_name (read_end p)
+  read_named : (p q : NodeEnd S D) → KeepsEnd sources drains p q → option_map (source_name sources) (read_end q) ≡ option_map (source_name sources) (read_end p)
   read_named (Read s) (Read t) k = ap Some k.name
   read_named Staged Staged k = refl
   read_named (Wrote x) (Wrote y) k = refl
   read_named p q k = absurd k
 
-  written_named : (p q : NodeEnd S D) → KeepsEnd sources drains p q → option_map drain_name (drain_end q) ≡ option_map drain_name (drain_end p)
+  written_named : (p q : NodeEnd S D) → KeepsEnd sources drains p q → option_map (drain_name drains) (drain_end q) ≡ option_map (drain_name drains) (drain_end p)
   written_named (Read s) (Read t) k = refl
   written_named Staged Staged k = refl
   written_named (Wrote x) (Wrote y) k = drains_named x.drain y.drain k
   written_named p q k = absurd k
 
-  -- its handle has the same name
-  reads_same : (x y : Node S D) → Kept x y → option_map source_name (reader_in y) ≡ option_map source_name (reader_in x)
-  reads_same x y (inl e) = ap (λ (z : Node S D). option_map source_name (reader_in z)) e
-  reads_same x y (inr k) = ap (option_map source_name) (reader_ends y) ∙ read_named (node_end x) (node_end y) k.ends ∙ ap (option_map source_name) (sym (reader_ends x))
+module _ {S D L B : Type 0} (sources : S → SourceState) (drains : D → DrainState) where
+  -- a node is the same, or it has kept what outlives want of memory
+  abbrev Kept : Node S D L B → Node S D L B → Type 0
+  Kept x y = (y ≡ x) ⊎ KeepsNode sources drains x y
 
-  writes_same : (x y : Node S D) → Kept x y → option_map drain_name (writer_in y) ≡ option_map drain_name (writer_in x)
-  writes_same x y (inl e) = ap (λ (z : Node S D). option_map drain_name (writer_in z)) e
-  writes_same x y (inr k) = ap (option_map drain_name) (writer_ends y) ∙ written_named (node_end x) (node_end y) k.ends ∙ ap (option_map drain_name) (sym (writer_ends x))
+  -- its handle has the same name
+  reads_same : (x y : Node S D L B) → Kept x y → option_map (source_name sources) (reader_in y) ≡ option_map (source_name sources) (reader_in x)
+  reads_same x y (inl e) = ap (λ (z : Node S D L B). option_map (source_name sources) (reader_in z)) e
+  reads_same x y (inr k) = ap (option_map (source_name sources)) (reader_ends y) ∙ read_named sources drains (node_end x) (node_end y) k.ends ∙ ap (option_map (source_name sources)) (sym (reader_ends x))
+
+  writes_same : (x y : Node S D L B) → Kept x y → option_map (drain_name drains) (writer_in y) ≡ option_map (drain_name drains) (writer_in x)
+  writes_same x y (inl e) = ap (λ (z : Node S D L B). option_map (drain_name drains) (writer_in z)) e
+  writes_same x y (inr k) = ap (option_map (drain_name drains)) (writer_ends y) ∙ written_named sources drains (node_end x) (node_end y) k.ends ∙ ap (option_map (drain_name drains)) (sym (writer_ends x))
 
   -- a source is still there, as far as it was read
-  reading_by : (x : Lines S) (y : Node S D) → KeepsNode sources drains (node.Reading x) y → (z : Lines S) × ((y ≡ node.Reading z) × KeepsSource (sources x.reader.source) (sources z.reader.source))
+  reading_by : (x : Lines S) (y : Node S D L B) → KeepsNode sources drains (node.Reading x) y → (z : Lines S) × ((y ≡ node.Reading z) × KeepsSource (sources x.reader.source) (sources z.reader.source))
   reading_by x (node.Reading z) k = (z, (refl, k.ends))
   reading_by x y k = absurd k.ends
 
-  reading_kept : (x : Lines S) (y : Node S D) → Kept (node.Reading x) y → (z : Lines S) × ((y ≡ node.Reading z) × KeepsSource (sources x.reader.source) (sources z.reader.source))
+  reading_kept : (x : Lines S) (y : Node S D L B) → Kept (node.Reading x) y → (z : Lines S) × ((y ≡ node.Reading z) × KeepsSource (sources x.reader.source) (sources z.reader.source))
   reading_kept x y (inl e) = (x, (e, keeps_self (sources x.reader.source)))
   reading_kept x y (inr k) = reading_by x y k
 
   -- and a drain has what it had
-  writing_by : (x : Sink D) (y : Node S D) → KeepsNode sources drains (node.Writing x) y → (z : Sink D) × ((y ≡ node.Writing z) × (drains z.drain ≡ drains x.drain))
+  writing_by : (x : Sink D) (y : Node S D L B) → KeepsNode sources drains (node.Writing x) y → (z : Sink D) × ((y ≡ node.Writing z) × (drains z.drain ≡ drains x.drain))
   writing_by x (node.Writing z) k = (z, (refl, k.ends))
   writing_by x y k = absurd k.ends
 
-  writing_kept : (x : Sink D) (y : Node S D) → Kept (node.Writing x) y → (z : Sink D) × ((y ≡ node.Writing z) × (drains z.drain ≡ drains x.drain))
+  writing_kept : (x : Sink D) (y : Node S D L B) → Kept (node.Writing x) y → (z : Sink D) × ((y ≡ node.Writing z) × (drains z.drain ≡ drains x.drain))
   writing_kept x y (inl e) = (x, (e, refl))
   writing_kept x y (inr k) = writing_by x y k
 
   -- the nodes by their places
-  kept_many : (xs ys : List (Node S D)) → AllKept (KeepsNode sources drains) xs ys → length xs ≡ length ys
+  kept_many : (xs ys : List (Node S D L B)) → AllKept (KeepsNode sources drains) xs ys → length xs ≡ length ys
   kept_many [] [] k = refl
   kept_many [] (y ∷ ys) k = absurd k
   kept_many (x ∷ xs) [] k = absurd k
   kept_many (x ∷ xs) (y ∷ ys) k = ap suc (kept_many xs ys k.1)
 
-  kept_at : (xs ys : List (Node S D)) (i : ℕ) (x : Node S D) → AllKept (KeepsNode sources drains) xs ys → slice_get xs i ≡ Some x → (y : Node S D) × ((slice_get ys i ≡ Some y) × Kept x y)
+  kept_at : (xs ys : List (Node S D L B)) (i : ℕ) (x : Node S D L B) → AllKept (KeepsNode sources drains) xs ys → slice_get xs i ≡ Some x → (y : Node S D L B) × ((slice_get ys i ≡ Some y) × Kept x y)
   kept_at [] ys i x k e = absurd cc
   kept_at (z ∷ xs) [] i x k e = absurd k
-  kept_at (z ∷ xs) (y ∷ ys) zero x k e = let same : z ≡ x = cc in (y, (refl, subst (λ (w : Node S D). Kept w y) same k.0))
+  kept_at (z ∷ xs) (y ∷ ys) zero x k e = let same : z ≡ x = cc in (y, (refl, subst (λ (w : Node S D L B). Kept w y) same k.0))
   kept_at (z ∷ xs) (y ∷ ys) (suc i) x k e = kept_at xs ys i x k.1 e
 
-  kept_from : (xs ys : List (Node S D)) (i : ℕ) (y : Node S D) → AllKept (KeepsNode sources drains) xs ys → slice_get ys i ≡ Some y → (x : Node S D) × ((slice_get xs i ≡ Some x) × Kept x y)
+  kept_from : (xs ys : List (Node S D L B)) (i : ℕ) (y : Node S D L B) → AllKept (KeepsNode sources drains) xs ys → slice_get ys i ≡ Some y → (x : Node S D L B) × ((slice_get xs i ≡ Some x) × Kept x y)
   kept_from xs [] i y k e = absurd cc
   kept_from [] (z ∷ ys) i y k e = absurd k
-  kept_from (x ∷ xs) (z ∷ ys) zero y k e = let same : z ≡ y = cc in (x, (refl, subst (λ (w : Node S D). Kept x w) same k.0))
+  kept_from (x ∷ xs) (z ∷ ys) zero y k e = let same : z ≡ y = cc in (x, (refl, subst (λ (w : Node S D L B). Kept x w) same k.0))
   kept_from (x ∷ xs) (z ∷ ys) (suc i) y k e = kept_from xs ys i y k.1 e
 
 -- ---- what the run leaves
 
-module _ {S D : Type 0} (sources : S → SourceState) (drains : D → DrainState) (handles : HandleLaws sources drains) (wrote_law : WroteLaw sources drains)
+module _ {S D L B : Type 0} (sources : S → SourceState) (drains : D → DrainState) (book : Book) (handles : HandleLaws L B sources drains book) (wrote_law : WroteLaw L B sources drains book)
     (ranked_law : (b : Blueprint) (plugs : List PlugHead) (taken : List (List ℕ)) → IsFit b plugs taken → (rank : ℕ → ℕ) × IsRanked (graph_of b) rank)
-    (b : Blueprint) (can : CanRun b) (ss : List S) (ds : List D) (e : IslandEnd S D) (l : LeavesBroken sources drains b ss ds e)
+    (b : Blueprint) (can : CanRun b) (ss : List S) (ds : List D) (e : IslandEnd S D) (l : LeavesBroken L B sources drains book b ss ds e)
     (old mid : FolderState) (trace : Option (List ℕ)) (separate : IsApart b trace) (opens : Opens old mid (inputs_of_nodes b.nodes.items) (outputs_of_nodes b.nodes.items) (option_to_list trace) (map sources ss) (map drains ds)) (new : FolderState)
     (closes : Shuts mid new (option_to_list trace) (map sources e.readers.items) (map drains e.writers.items)) where
   abbrev nodes : List blue.Node
   nodes = b.nodes.items
 
-  abbrev left : Account (Node S D)
+  abbrev left : Account (Node S D L B)
   left = l.account
 
-  abbrev last : List (Node S D)
+  abbrev last : List (Node S D L B)
   last = l.last
 
-  abbrev final : List (Node S D)
+  abbrev final : List (Node S D L B)
   final = l.nodes
 
   abbrev g : Graph
   g = graph_of b
 
-  abbrev between : Moment sources drains b ss ds left last
+  abbrev between : Moment sources drains book b ss ds left last
   between = l.moment
 
-  run : IsRun sources drains g left
+  run : IsRun sources drains book g left
   run = l.moment.run
 
-  profile : (k : ℕ) (n : blue.Node) (x : Node S D) → slice_get nodes k ≡ Some n → slice_get last k ≡ Some x → Profile sources drains k n x
-  profile = profiles sources drains handles b ss ds left last between old mid opens
+  profile : (k : ℕ) (n : blue.Node) (x : Node S D L B) → slice_get nodes k ≡ Some n → slice_get last k ≡ Some x → Profile sources drains k n x
+  profile = profiles sources drains book handles b ss ds left last between old mid opens
 
   lone : (n : List ℕ) → Contains (outputs_of_nodes nodes) n → Contains (option_to_list trace) n → ⊥
   lone = lone_of b trace separate
 
   apart : TakenApart sources drains b final e.readers.items e.writers.items
   apart = record {
-    as_many = as_many sources drains handles b ss ds left last between old mid opens ∙ kept_many sources drains last final l.kept;
+    as_many = as_many sources drains book handles b ss ds left last between old mid opens ∙ kept_many sources drains last final l.kept;
     input = λ k n y at here. let f = kept_from sources drains last final k y l.kept here in (profile k n f.0 at f.1.0).input ∙ sym (reads_same sources drains f.0 y f.1.1);
     output = λ k n y at here. let f = kept_from sources drains last final k y l.kept here in (profile k n f.0 at f.1.0).output ∙ sym (writes_same sources drains f.0 y f.1.1);
     readers_are = l.readers;
@@ -245,12 +248,12 @@ module _ {S D : Type 0} (sources : S → SourceState) (drains : D → DrainState
   drawn = drawn_of sources left last
 
   module _ (tells_was : IsTrue old.tells) where
-    drew : Draws sources drains handles b can ss ds left last between old mid opens
-    drew = draws_all sources drains handles b can ss ds left last between old mid opens tells_was
+    drew : Draws sources drains book handles b can ss ds left last between old mid opens
+    drew = draws_all sources drains book handles b can ss ds left last between old mid opens tells_was
 
     source_breaks : (k : ℕ) (file : List ℕ) → IsSource nodes k file → WasReadOn old new file (drawn.bytes k) (drawn.given k) (drawn.faulted k)
     source_breaks k file is =
-        let f = source_facts sources drains handles b ss ds left last between old mid opens k file is in
+        let f = source_facts sources drains book handles b ss ds left last between old mid opens k file is in
         let y = kept_at sources drains last final k (node.Reading f.now) l.kept f.at in
         let z = reading_kept sources drains f.now y.0 y.1.1 in
         let here : slice_get final k ≡ Some (node.Reading z.0) = y.1.0 ∙ ap Some z.1.0 in
@@ -262,20 +265,20 @@ module _ {S D : Type 0} (sources : S → SourceState) (drains : D → DrainState
           more = (sources z.0.reader.source).given;
           given_less = subst (λ (m : ℕ). m ≤ (sources z.0.reader.source).given) (sym given) z.1.1.given;
           ahead = subst (λ (m : ℕ). (sources z.0.reader.source).given ≤ m + 69632) (sym given) z.1.1.ahead;
-          read = reads_of sources drains handles b can ss ds left last between old mid opens tells_was k file f new (sources z.0.reader.source).given read
+          read = reads_of sources drains book handles b can ss ds left last between old mid opens tells_was k file f new (sources z.0.reader.source).given read
               (subst (λ (m : ℕ). Grew (old.rfaults file) m (new.rfaults file)) z.1.1.faults faults);
         }
 
-    sink_breaks : (k : ℕ) (n : blue.Node) (file : List ℕ) → slice_get nodes k ≡ Some n → output_of n.kind ≡ Some file → SinkBreaks old new b drawn k n file
+    sink_breaks : (k : ℕ) (n : blue.Node) (file : List ℕ) → slice_get nodes k ≡ Some n → output_of n.kind ≡ Some file → SinkBreaks book old new b drawn k n file
     sink_breaks k n file at shape =
-        let f = sink_facts sources drains handles b ss ds left last between old mid opens k file (record { node = n; at = at; file_is = shape }) in
+        let f = sink_facts sources drains book handles b ss ds left last between old mid opens k file (record { node = n; at = at; file_is = shape }) in
         let y = kept_at sources drains last final k (node.Writing f.now) l.kept f.at in
         let z = writing_kept sources drains f.now y.0 y.1.1 in
         let here : slice_get final k ≡ Some (node.Writing z.0) = y.1.0 ∙ ap Some z.1.0 in
         let named : (drains z.0.drain).name ≡ file = ap (λ (s : DrainState). s.name) z.1.1 ∙ f.law.name ∙ f.first_named in
-        let wrote : SinkWrote sources drains g left k (node_of n) f.first f.now = wrote_law g left run k (node_of n) f.first f.now (mapped_at node_of nodes k n at) f.there in
+        let wrote : SinkWrote sources drains book g left k (node_of n) f.first f.now = wrote_law g left run k (node_of n) f.first f.now (mapped_at node_of nodes k n at) f.there in
         let ranked = ranked_law b can.plugs can.taken can.fit in
-        let tells : (w : World) → IsWorldOf nodes drawn w → SinkTells (sink_outlook g w k (node_of n)) f.now.end wrote.written = λ w is. wrote.tells w ranked.0 (drew.tells w is) ranked.1 in
+        let tells : (w : World) → IsWorldOf book nodes drawn w → SinkTells (sink_outlook g w k (node_of n)) f.now.end wrote.written = λ w is. wrote.tells w ranked.0 is.book_is (drew.tells w is) ranked.1 in
         let grew = writes_grew sources drains b can final e.readers.items e.writers.items apart old mid _ _ opens new closes lone k file z.0 here named in
         record {
           held = wrote.written;
@@ -290,12 +293,12 @@ module _ {S D : Type 0} (sources : S → SourceState) (drains : D → DrainState
               (subst (λ (s : DrainState). Grew (old.wfaults file) s.faults (new.wfaults file)) z.1.1 grew);
         }
 
-    breaks_files : Emptied → BreaksFiles old new b trace
+    breaks_files : Emptied → BreaksFiles book old new b trace
     breaks_files ended = record {
       drawn = drawn;
-      chose = picks_stand sources drains handles b can ss ds left last between old mid opens;
+      chose = picks_stand sources drains book handles b can ss ds left last between old mid opens;
       read = source_breaks;
-      world = world_of nodes drawn (made_moves sources drains handles b can ss ds left last between old mid opens);
+      world = world_of book nodes drawn (made_moves sources drains book handles b can ss ds left last between old mid opens);
       has_files = drew.has_files;
       sink = sink_breaks;
       others = λ tells n never aside. other_files sources drains b can final e.readers.items e.writers.items apart old mid _ _ opens new closes lone tells n never (unlisted trace n aside);
@@ -308,7 +311,7 @@ module _ {S D : Type 0} (sources : S → SourceState) (drains : D → DrainState
     | inr aside ↦ (other_writes sources drains b can final e.readers.items e.writers.items apart old mid _ _ opens new closes lone n never aside)
   ]
 
-  pub wants_within : Emptied → WantsWithin old new b trace
+  pub wants_within : Emptied → WantsWithin book old new b trace
   wants_within ended = record {
     told = tells_old sources drains b can final e.readers.items e.writers.items apart old mid _ _ opens new closes lone;
     leaves = λ tells. breaks_files tells ended;

@@ -43,6 +43,7 @@ use Rattle.blue_core.specs.declared.blueprint.Node as blue
 use Rattle.blue_rules.specs.Picks.{picks}
 use Rattle.materializer.specs.Graphs.{node_of}
 use Rattle.blueprint_run.specs.Choosing.{pick_places, picked, HasPicks}
+use Rattle.stream_model.specs.Linear.{Book}
 
 -- what a node whose kind chooses recorded, and what no other does
 abbrev pub ChoosesAs : Bool → Option (List ℕ) → Type 0
@@ -71,6 +72,7 @@ linear_free (kind.Drop n) h = refl
 linear_free (kind.DropWhile p) h = refl
 linear_free (kind.Limit n) h = refl
 linear_free (kind.MapConcat x) h = refl
+linear_free (kind.Plug name) h = refl
 linear_free _ h = absurd h
 
 machine_free : (shape : Kind) → IsMachine shape → picks shape ≡ false
@@ -152,19 +154,19 @@ sink_free (kind.Last name) h = refl
 sink_free _ h = absurd h
 
 -- a node has chosen exactly where its kind chooses
-pub node_chooses : {S D : Type 0} (sources : S → SourceState) (drains : D → DrainState) (k : ℕ) (n : blue.Node) (first now : Node S D) (v : View) (took gave : List (List Item))
-    → FirstOf sources k (node_of n) first → node_law sources drains first now v took gave → ChoosesAs (picks n.kind) (node_picks now)
-node_chooses sources drains k n (node.Reading f) (node.Reading x) v took gave made law = no_choice (picks n.kind) None (ap picks made.kind_is) refl
-node_chooses sources drains k n (node.Making f) (node.Making x) v took gave made law = no_choice (picks n.kind) None (maker_free n.kind made.is_maker) refl
-node_chooses sources drains k n (node.Linear f) (node.Linear x) v took gave made law = no_choice (picks n.kind) None (linear_free n.kind made.is_linear) refl
-node_chooses sources drains k n (node.State f) (node.State x) v took gave made law = state_chooses k n.kind n.decider f x v took gave made.begins.as_kind law
-node_chooses sources drains k n (node.FanIn f) (node.FanIn x) v took gave made law = fan_in_chooses n.kind f x made.begins.takes law.same
-node_chooses sources drains k n (node.FanOut f) (node.FanOut x) v took gave made law = fan_out_chooses k n.kind f x v took gave made.begins.as_kind law
-node_chooses sources drains k n (node.Writing f) (node.Writing x) v took gave made law = no_choice (picks n.kind) None (sink_free n.kind made.is_sink) refl
-node_chooses sources drains k n (node.Ignoring f) (node.Ignoring x) v took gave made law = no_choice (picks n.kind) None (ap picks made.kind_is) refl
-node_chooses sources drains k n (node.Entering f) x v took gave made law = absurd made
-node_chooses sources drains k n (node.Leaving f) x v took gave made law = absurd made
-node_chooses sources drains k n f x v took gave made law = absurd law
+pub node_chooses : {S D L B : Type 0} (sources : S → SourceState) (drains : D → DrainState) (book : Book) (k : ℕ) (n : blue.Node) (first now : Node S D L B) (v : View) (took gave : List (List Item))
+    → FirstOf sources k (node_of n) first → node_law sources drains book first now v took gave → ChoosesAs (picks n.kind) (node_picks now)
+node_chooses sources drains book k n (node.Reading f) (node.Reading x) v took gave made law = no_choice (picks n.kind) None (ap picks made.kind_is) refl
+node_chooses sources drains book k n (node.Making f) (node.Making x) v took gave made law = no_choice (picks n.kind) None (maker_free n.kind made.is_maker) refl
+node_chooses sources drains book k n (node.Linear f) (node.Linear x) v took gave made law = no_choice (picks n.kind) None (linear_free n.kind made.is_linear) refl
+node_chooses sources drains book k n (node.State f) (node.State x) v took gave made law = state_chooses k n.kind n.decider f x v took gave made.begins.as_kind law
+node_chooses sources drains book k n (node.FanIn f) (node.FanIn x) v took gave made law = fan_in_chooses n.kind f x made.begins.takes law.same
+node_chooses sources drains book k n (node.FanOut f) (node.FanOut x) v took gave made law = fan_out_chooses k n.kind f x v took gave made.begins.as_kind law
+node_chooses sources drains book k n (node.Writing f) (node.Writing x) v took gave made law = no_choice (picks n.kind) None (sink_free n.kind made.is_sink) refl
+node_chooses sources drains book k n (node.Ignoring f) (node.Ignoring x) v took gave made law = no_choice (picks n.kind) None (ap picks made.kind_is) refl
+node_chooses sources drains book k n (node.Entering f) x v took gave made law = absurd made
+node_chooses sources drains book k n (node.Leaving f) x v took gave made law = absurd made
+node_chooses sources drains book k n f x v took gave made law = absurd law
 
 -- ---- the lists of moves stand in the order of their nodes
 
@@ -172,8 +174,8 @@ picked_cons : (k j : ℕ) (b : Bool) (o : Option (List ℕ)) (later : List ℕ) 
 picked_cons k j true o later rest h e f = rw h.1 (ap (λ m. m ∷ picked rest) e ∙ ap (λ l. k ∷ l) f)
 picked_cons k j false o later rest h e f = rw h f
 
-pub picked_along : {S D : Type 0} (k : ℕ) (ns : List blue.Node) (xs : List (Node S D)) → length ns ≡ length xs
-    → ((i : ℕ) (n : blue.Node) (x : Node S D) → slice_get ns i ≡ Some n → slice_get xs i ≡ Some x → ChoosesAs (picks n.kind) (node_picks x)) → picked (picks_of (count_from k (length xs)) xs) ≡ pick_places k ns
+pub picked_along : {S D L B : Type 0} (k : ℕ) (ns : List blue.Node) (xs : List (Node S D L B)) → length ns ≡ length xs
+    → ((i : ℕ) (n : blue.Node) (x : Node S D L B) → slice_get ns i ≡ Some n → slice_get xs i ≡ Some x → ChoosesAs (picks n.kind) (node_picks x)) → picked (picks_of (count_from k (length xs)) xs) ≡ pick_places k ns
 picked_along k [] [] e each = refl
 picked_along k [] (x ∷ xs) e each = absurd (omega (arith, e))
 picked_along k (n ∷ ns) [] e each = absurd (omega (arith, e))
@@ -191,8 +193,8 @@ later_told : (j : ℕ) (o : Option (List ℕ)) (rest : List Pick) (w : World) �
 later_told j None rest w h = h
 later_told j (Some m) rest w h = λ i p e. h (suc i) p e
 
-pub told_along : {S D : Type 0} (k : ℕ) (xs : List (Node S D)) (w : World) → HasPicks (picks_of (count_from k (length xs)) xs) w
-    → (i : ℕ) (x : Node S D) (moves : List ℕ) → slice_get xs i ≡ Some x → node_picks x ≡ Some moves → w.moves (k + i) ≡ moves
+pub told_along : {S D L B : Type 0} (k : ℕ) (xs : List (Node S D L B)) (w : World) → HasPicks (picks_of (count_from k (length xs)) xs) w
+    → (i : ℕ) (x : Node S D L B) (moves : List ℕ) → slice_get xs i ≡ Some x → node_picks x ≡ Some moves → w.moves (k + i) ≡ moves
 told_along k [] w has i x moves at is = absurd cc
 told_along k (y ∷ xs) w has zero x moves at is =
     let same : y ≡ x = cc in
@@ -209,8 +211,8 @@ has_cons j k None rest w e f h i p at = h i p at
 has_cons j k (Some m) rest w e f h zero p at = let same : (j, m) ≡ p = cc in subst (λ (q : Pick). w.moves q.0 ≡ q.1) same (ap w.moves e ∙ f)
 has_cons j k (Some m) rest w e f h (suc i) p at = h i p at
 
-pub has_along : {S D : Type 0} (k : ℕ) (xs : List (Node S D)) (w : World)
-    → ((i : ℕ) (x : Node S D) → slice_get xs i ≡ Some x → w.moves (k + i) ≡ node_moves x) → HasPicks (picks_of (count_from k (length xs)) xs) w
+pub has_along : {S D L B : Type 0} (k : ℕ) (xs : List (Node S D L B)) (w : World)
+    → ((i : ℕ) (x : Node S D L B) → slice_get xs i ≡ Some x → w.moves (k + i) ≡ node_moves x) → HasPicks (picks_of (count_from k (length xs)) xs) w
 has_along k [] w each = λ i p at. absurd cc
 has_along k (x ∷ xs) w each =
     let place : k + 0 ≡ k = omega arith in

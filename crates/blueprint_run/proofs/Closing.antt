@@ -45,7 +45,7 @@ use Rattle.run_laws.specs.Runs.{IsRun}
 use Rattle.run_laws.specs.Telling.{TellsPicks, Tells, AreSettled}
 use Rattle.run_laws.proofs.Choosing.{chosen_told}
 use Rattle.run_laws.specs.Sinks.{TookList, SinkWrote, SentTo, IsSinkAt, IgnoreTells, IsIgnorerAt}
-use Rattle.run_laws.specs.Reads.{IsSourceAt, ReadsAhead, SentLines}
+use Rattle.run_laws.specs.Reads.{IsSourceAt, ReadsAhead, SentLines, GivesTexts}
 use Rattle.blue_core.specs.declared.blueprint.Blueprint.{Blueprint}
 use Rattle.blue_core.specs.declared.blueprint.ChainDecl.{ChainDecl}
 use Rattle.blue_core.specs.declared.blueprint.Node as blue
@@ -62,7 +62,7 @@ use Rattle.type_laws.specs.Plugs.{KeepsPlugTypes}
 use Rattle.type_laws.specs.Sent.{SendsItsType}
 use Rattle.blueprint_run.specs.Carrying.{Carries}
 use Rattle.blueprint_run.specs.Choosing.{picked}
-use Rattle.blueprint_run.proofs.Carried.{silent, silent_keeps, carries}
+use Rattle.blueprint_run.proofs.Carried.{unread, told_sent, carries}
 use Rattle.blueprint_run.specs.Drawing.{Drawn, IsSource, WasRead, IsWorldOf, DrawsFirst}
 use Rattle.island_runs.specs.Leaving.{Moment, Leaves, HasAsMany}
 use Rattle.blueprint_run.specs.Opening.{Opens}
@@ -85,6 +85,7 @@ use Rattle.blueprint_run.proofs.Shuts.{Shuts}
 use Rattle.blueprint_run.proofs.Traces.{unlisted, lone_of, calm_trace}
 use Rattle.blueprint_run.proofs.Shutting.{TakenApart, unwritten, read_grew, faults_grew, writes_grew, file_held, other_files, other_reads, other_writes, other_draws, refused, tells_old, readers_many, writers_many}
 use Rattle.blueprint_run.proofs.Drawns.{drawn_of, made_moves, picks_told, picks_stand, Draws, draws_all, reads_of}
+use Rattle.stream_model.specs.Linear.{Book}
 
 -- ---- the wires' counts
 
@@ -134,7 +135,7 @@ draws_told bytes first now items sent none e s = record {
 
 -- ---- how a sink stands at its place
 
-ended_stand : {S D : Type 0} (x : Node S D) (s : Stand) → stand_in x ≡ Some s → sink_ended x ≡ has_ended s.2
+ended_stand : {S D L B : Type 0} (x : Node S D L B) (s : Stand) → stand_in x ≡ Some s → sink_ended x ≡ has_ended s.2
 ended_stand (node.Writing x) s f = let same : (x.node, x.count, x.end) ≡ s = some_one (x.node, x.count, x.end) s f in ap (λ (t : Stand). has_ended t.2) same
 ended_stand (node.Ignoring x) s f = let same : (x.node, 0, x.end) ≡ s = some_one (x.node, 0, x.end) s f in ap (λ (t : Stand). has_ended t.2) same
 ended_stand (node.Reading x) s f = absurd cc
@@ -146,7 +147,7 @@ ended_stand (node.FanOut x) s f = absurd cc
 ended_stand (node.Entering x) s f = absurd cc
 ended_stand (node.Leaving x) s f = absurd cc
 
-ended_as : {S D : Type 0} (o : Option (Node S D)) (x : Node S D) (s : Stand) → o ≡ Some x → stand_in x ≡ Some s → ended_there o ≡ has_ended s.2
+ended_as : {S D L B : Type 0} (o : Option (Node S D L B)) (x : Node S D L B) (s : Stand) → o ≡ Some x → stand_in x ≡ Some s → ended_there o ≡ has_ended s.2
 ended_as o x s e f = ap ended_there e ∙ ended_stand x s f
 
 sink_shape : (k : Kind) → oneway.is_sink k ≡ true → (outputs_of k == 0) ≡ true
@@ -188,48 +189,48 @@ none_unended (s ∷ ss) each = neither (is_unended s.2) (list_any (λ (t : Stand
 
 -- ---- the laws of a run
 
-module _ {S D : Type 0} (sources : S → SourceState) (drains : D → DrainState) where
+module _ {S D : Type 0} (L B : Type 0) (sources : S → SourceState) (drains : D → DrainState) (book : Book) where
   abbrev pub WroteLaw : Type 0
-  WroteLaw = (g : Graph) (a : Account (Node S D)) → IsRun sources drains g a
-      → (k : ℕ) (n : graph.Node) (first now : Sink D) → slice_get g.nodes k ≡ Some n → IsSinkAt a k first now → SinkWrote sources drains g a k n first now
+  WroteLaw = (g : Graph) (a : Account (Node S D L B)) → IsRun sources drains book g a
+      → (k : ℕ) (n : graph.Node) (first now : Sink D) → slice_get g.nodes k ≡ Some n → IsSinkAt a k first now → SinkWrote sources drains book g a k n first now
 
   abbrev TookLaw : Type 0
-  TookLaw = (g : Graph) (w : World) (rank : ℕ → ℕ) (a : Account (Node S D)) → IsRun sources drains g a → Tells sources g w a → IsRanked g rank
+  TookLaw = (g : Graph) (w : World) (rank : ℕ → ℕ) (a : Account (Node S D L B)) → IsRun sources drains w.book g a → Tells sources g w a → IsRanked g rank
       → (k : ℕ) (n : graph.Node) (name : List ℕ) (first now : Sink D) → slice_get g.nodes k ≡ Some n → n.kind ≡ kind.ToLines name → IsSinkAt a k first now → TookList (sink_outlook g w k n) now.end (took g a k n)
 
   abbrev SentLaw : Type 0
-  SentLaw = (g : Graph) (a : Account (Node S D)) → IsRun sources drains g a
+  SentLaw = (g : Graph) (a : Account (Node S D L B)) → IsRun sources drains book g a
       → (k : ℕ) (n : graph.Node) (name : List ℕ) (first now : Sink D) (u : ℕ) (v : Wire) → slice_get g.nodes k ≡ Some n → n.kind ≡ kind.ToLines name → IsSinkAt a k first now → slice_get g.wires u ≡ Some v → v.to ≡ k
       → SentTo now.end (elements (a.far u).wire.sent) now.count
 
   abbrev RestLaw : Type 0
-  RestLaw = (g : Graph) (a : Account (Node S D)) → IsRun sources drains g a
+  RestLaw = (g : Graph) (a : Account (Node S D L B)) → IsRun sources drains book g a
       → (k : ℕ) (n : graph.Node) (name : List ℕ) (first now : Sink D) (u : ℕ) (v : Wire) → slice_get g.nodes k ≡ Some n → n.kind ≡ kind.ToLines name → IsSinkAt a k first now → slice_get g.wires u ≡ Some v → v.to ≡ k
       → IsStill g a → now.end ≡ Unended → elements (a.far u).wire.sent ≡ now.count
 
   abbrev ReadsLaw : Type 0
-  ReadsLaw = (g : Graph) (a : Account (Node S D)) → IsRun sources drains g a
+  ReadsLaw = (g : Graph) (a : Account (Node S D L B)) → IsRun sources drains book g a
       → (k : ℕ) (n : graph.Node) (first now : Lines S) (u : ℕ) (v : Wire) (bytes : List ℕ) → slice_get g.nodes k ≡ Some n → IsSourceAt a k first now → slice_get g.wires u ≡ Some v → v.from ≡ k
       → (sources first.reader.source).whole ≡ Some bytes → SentLines bytes (sources first.reader.source) (sources now.reader.source) (a.near u).wire.sent
 
   abbrev LawfulLaw : Type 0
-  LawfulLaw = (g : Graph) (w : World) (rank : ℕ → ℕ) (a : Account (Node S D)) → IsRun sources drains g a → AreSettled g a
+  LawfulLaw = (g : Graph) (w : World) (rank : ℕ → ℕ) (a : Account (Node S D L B)) → IsRun sources drains w.book g a → AreSettled g a
       → Tells sources g w a → IsRanked g rank → IsLawful g w (pictures.counts_of a g) (composed g w)
 
   abbrev RestsLaw : Type 0
-  RestsLaw = (g : Graph) (w : World) (rank : ℕ → ℕ) (a : Account (Node S D)) → IsRun sources drains g a → IsStill g a
+  RestsLaw = (g : Graph) (w : World) (rank : ℕ → ℕ) (a : Account (Node S D L B)) → IsRun sources drains w.book g a → IsStill g a
       → Tells sources g w a → IsRanked g rank → Rests g w (pictures.counts_of a g) (composed g w)
 
   abbrev MovesLaw : Type 0
-  MovesLaw = (g : Graph) (w : World) (rank : ℕ → ℕ) (a : Account (Node S D)) → IsRun sources drains g a → AreSettled g a
+  MovesLaw = (g : Graph) (w : World) (rank : ℕ → ℕ) (a : Account (Node S D L B)) → IsRun sources drains w.book g a → AreSettled g a
       → Tells sources g w a → IsRanked g rank → Fits g w
 
   abbrev MatchLaw : Type 0
-  MatchLaw = (g : Graph) (w : World) (a : Account (Node S D)) (outlook : ℕ → Outlook) → IsRun sources drains g a → IsStill g a
+  MatchLaw = (g : Graph) (w : World) (a : Account (Node S D L B)) (outlook : ℕ → Outlook) → IsRun sources drains book g a → IsStill g a
       → SinksMatch g w (pictures.counts_of a g) outlook (λ k. ended_there (a.nodes k))
 
   abbrev AgreeLaw : Type 0
-  AgreeLaw = (g : Graph) (w : World) (rank : ℕ → ℕ) (a : Account (Node S D)) → IsRun sources drains g a
+  AgreeLaw = (g : Graph) (w : World) (rank : ℕ → ℕ) (a : Account (Node S D L B)) → IsRun sources drains w.book g a
       → Tells sources g w a → IsRanked g rank → (i : ℕ) → i < length g.wires → AgreesWith (composed g w i) (a.near i).wire.sent
 
   abbrev TreesLaw : Type 0
@@ -237,7 +238,7 @@ module _ {S D : Type 0} (sources : S → SourceState) (drains : D → DrainState
       → (i : ℕ) (v : Wire) (n : graph.Node) → slice_get g.wires i ≡ Some v → slice_get g.nodes v.to ≡ Some n → oneway.is_sink n.kind ≡ true → ended v.to ≡ true
 
   abbrev IgnorerThere : Type 0
-  IgnorerThere = (g : Graph) (a : Account (Node S D)) → IsRun sources drains g a
+  IgnorerThere = (g : Graph) (a : Account (Node S D L B)) → IsRun sources drains book g a
       → (k : ℕ) (n : graph.Node) → slice_get g.nodes k ≡ Some n → n.kind ≡ kind.Ignore → (first : Ignorer) × ((now : Ignorer) × IsIgnorerAt a k first now)
 
   abbrev FitsLaw : Type 0
@@ -245,18 +246,23 @@ module _ {S D : Type 0} (sources : S → SourceState) (drains : D → DrainState
       → PassesRules plugs b.chains.items b.nodes.items g
 
   abbrev TypesLaw : Type 0
-  TypesLaw = (plugs : List PlugHead) (chains : List ChainDecl) (nodes : List blue.Node) (g : Graph) (w : World) (rank : ℕ → ℕ) (a : Account (Node S D)) → IsRun sources drains g a → TellsPicks w a
+  TypesLaw = (plugs : List PlugHead) (chains : List ChainDecl) (nodes : List blue.Node) (g : Graph) (w : World) (rank : ℕ → ℕ) (a : Account (Node S D L B)) → IsRun sources drains w.book g a → TellsPicks w a
       → PassesRules plugs chains nodes g → KeepsPlugTypes plugs w.book → IsRanked g rank
       → (i : ℕ) (v : Wire) → slice_get g.wires i ≡ Some v → SendsItsType plugs chains nodes g w i v (a.near i).wire.sent
 
   abbrev GivesLaw : Type 0
-  GivesLaw = (g : Graph) (w : World) (a : Account (Node S D)) → IsRun sources drains g a → TellsPicks w a
+  GivesLaw = (g : Graph) (w : World) (a : Account (Node S D L B)) → IsRun sources drains w.book g a → TellsPicks w a
       → (sent : ℕ → Outlook) (j : ℕ) (v : Wire) (n : graph.Node) → slice_get g.wires j ≡ Some v → slice_get g.nodes v.from ≡ Some n → ((name : List ℕ) → n.kind ≢ kind.Lines name)
       → ((u : ℕ) (x : Wire) → slice_get g.wires u ≡ Some x → x.to ≡ v.from → AgreesWith (sent u) (a.near u).wire.sent) → AgreesWith (next g w sent j) (a.near j).wire.sent
+
+  abbrev TextsLaw : Type 0
+  TextsLaw = (g : Graph) (a : Account (Node S D L B)) → IsRun sources drains book g a
+      → (u : ℕ) (v : Wire) (n : graph.Node) (name : List ℕ) → slice_get g.wires u ≡ Some v → slice_get g.nodes v.from ≡ Some n → n.kind ≡ kind.Lines name → GivesTexts (a.near u).wire.sent
 
   pub record RunLaws : Type 0 where
     pub fits : FitsLaw
     pub types : TypesLaw
+    pub texts : TextsLaw
     pub gives : GivesLaw
     pub ranked : (b : Blueprint) (plugs : List PlugHead) (taken : List (List ℕ)) → IsFit b plugs taken → (rank : ℕ → ℕ) × IsRanked (graph_of b) rank
     pub agree : AgreeLaw
@@ -274,38 +280,38 @@ module _ {S D : Type 0} (sources : S → SourceState) (drains : D → DrainState
 
 -- ---- what a run leaves
 
-module _ {S D : Type 0} (sources : S → SourceState) (drains : D → DrainState) (handles : HandleLaws sources drains) (laws : RunLaws sources drains) (b : Blueprint) (can : CanRun b) (ss : List S) (ds : List D) (budget : ℕ) (st : Stopped S D) (l : Leaves sources drains b ss ds budget st)
+module _ {S D L B : Type 0} (sources : S → SourceState) (drains : D → DrainState) (book : Book) (handles : HandleLaws L B sources drains book) (laws : RunLaws L B sources drains book) (b : Blueprint) (can : CanRun b) (ss : List S) (ds : List D) (budget : ℕ) (st : Stopped S D) (l : Leaves L B sources drains book b ss ds budget st)
     (old mid : FolderState) (trace : Option (List ℕ)) (separate : IsApart b trace) (opens : Opens old mid (inputs_of_nodes b.nodes.items) (outputs_of_nodes b.nodes.items) (option_to_list trace) (map sources ss) (map drains ds)) (new : FolderState)
     (closes : Shuts mid new (option_to_list trace) (map sources st.end.readers.items) (map drains st.end.writers.items)) where
   abbrev nodes : List blue.Node
   nodes = b.nodes.items
 
-  abbrev left : Account (Node S D)
+  abbrev left : Account (Node S D L B)
   left = l.account
 
-  abbrev last : List (Node S D)
+  abbrev last : List (Node S D L B)
   last = l.nodes
 
-  abbrev between : Moment sources drains b ss ds left last
+  abbrev between : Moment sources drains book b ss ds left last
   between = l.moment
 
   abbrev g : Graph
   g = graph_of b
 
   abbrev Source : ℕ → List ℕ → Type 0
-  Source k file = SourceFacts sources drains handles b ss ds left last between old mid opens k file
+  Source k file = SourceFacts sources drains book handles b ss ds left last between old mid opens k file
 
   abbrev ASink : ℕ → List ℕ → Type 0
-  ASink k file = SinkFacts sources drains handles b ss ds left last between old mid opens k file
+  ASink k file = SinkFacts sources drains book handles b ss ds left last between old mid opens k file
 
   source_at : (k : ℕ) (file : List ℕ) → IsSource nodes k file → Source k file
-  source_at = source_facts sources drains handles b ss ds left last between old mid opens
+  source_at = source_facts sources drains book handles b ss ds left last between old mid opens
 
   sink_at : (k : ℕ) (file : List ℕ) → IsSinkInto nodes k file → ASink k file
-  sink_at = sink_facts sources drains handles b ss ds left last between old mid opens
+  sink_at = sink_facts sources drains book handles b ss ds left last between old mid opens
 
-  profile : (k : ℕ) (n : blue.Node) (x : Node S D) → slice_get nodes k ≡ Some n → slice_get last k ≡ Some x → Profile sources drains k n x
-  profile = profiles sources drains handles b ss ds left last between old mid opens
+  profile : (k : ℕ) (n : blue.Node) (x : Node S D L B) → slice_get nodes k ≡ Some n → slice_get last k ≡ Some x → Profile sources drains k n x
+  profile = profiles sources drains book handles b ss ds left last between old mid opens
 
   lone : (n : List ℕ) → Contains (outputs_of_nodes nodes) n → Contains (option_to_list trace) n → ⊥
   lone = lone_of b trace separate
@@ -313,7 +319,7 @@ module _ {S D : Type 0} (sources : S → SourceState) (drains : D → DrainState
   -- its handles were closed
   apart : TakenApart sources drains b last st.end.readers.items st.end.writers.items
   apart = record {
-    as_many = as_many sources drains handles b ss ds left last between old mid opens;
+    as_many = as_many sources drains book handles b ss ds left last between old mid opens;
     input = λ k n x at here. (profile k n x at here).input;
     output = λ k n x at here. (profile k n x at here).output;
     readers_are = l.readers;
@@ -333,8 +339,12 @@ module _ {S D : Type 0} (sources : S → SourceState) (drains : D → DrainState
   sink_held : (k : ℕ) (file : List ℕ) (f : ASink k file) → IsTrue new.tells → new.file file ≡ (drains f.now.drain).holds
   sink_held k file f = file_held sources drains b can last st.end.readers.items st.end.writers.items apart old mid _ _ opens new closes lone k file f.now f.at (f.law.name ∙ f.first_named)
 
-  run : IsRun sources drains g left
+  run : IsRun sources drains book g left
   run = l.moment.run
+
+  -- so it is by the plugs of every world that has these
+  run_at : (w : World) → w.book ≡ book → IsRun sources drains w.book g left
+  run_at w is = subst (λ (x : Book). IsRun sources drains x g left) (sym is) run
 
   still : IsTrue st.at_rest → IsStill g left
   still rest = l.still rest
@@ -371,7 +381,7 @@ module _ {S D : Type 0} (sources : S → SourceState) (drains : D → DrainState
   sink_here i s at =
       let among : slice_get (filter_map stand_in last) i ≡ Some s = subst (λ (x : List Stand). slice_get x i ≡ Some s) (l.sinks ∙ sinks_filtered last) at in
       let from = unfiltered_at stand_in last i s among in
-      let below : from.0 < length nodes = subst (λ m. from.0 < m) (sym (as_many sources drains handles b ss ds left last between old mid opens)) (place_within last from.0 from.1.0 from.1.1.0) in
+      let below : from.0 < length nodes = subst (λ m. from.0 < m) (sym (as_many sources drains book handles b ss ds left last between old mid opens)) (place_within last from.0 from.1.0 from.1.1.0) in
       let m = place_of nodes from.0 below in
       let stand = (profile from.0 m.0 from.1.0 m.1 from.1.1.0).stand in
       let place : s.0 ≡ from.0 = no_stand from.0 (is_sink m.0) (stand_in from.1.0) s stand from.1.1.1 in
@@ -407,22 +417,22 @@ module _ {S D : Type 0} (sources : S → SourceState) (drains : D → DrainState
   stand_of i s n file at here shape =
       let among : slice_get (filter_map stand_in last) i ≡ Some s = subst (λ (x : List Stand). slice_get x i ≡ Some s) (l.sinks ∙ sinks_filtered last) at in
       let from = unfiltered_at stand_in last i s among in
-      let below : from.0 < length nodes = subst (λ m. from.0 < m) (sym (as_many sources drains handles b ss ds left last between old mid opens)) (place_within last from.0 from.1.0 from.1.1.0) in
+      let below : from.0 < length nodes = subst (λ m. from.0 < m) (sym (as_many sources drains book handles b ss ds left last between old mid opens)) (place_within last from.0 from.1.0 from.1.1.0) in
       let m = place_of nodes from.0 below in
       let place : s.0 ≡ from.0 = no_stand from.0 (is_sink m.0) (stand_in from.1.0) s (profile from.0 m.0 from.1.0 m.1 from.1.1.0).stand from.1.1.1 in
       let there : slice_get last s.0 ≡ Some from.1.0 = subst (λ j. slice_get last j ≡ Some from.1.0) (sym place) from.1.1.0 in
       let f = sink_at s.0 file (record { node = n; at = here; file_is = shape }) in
       let is : from.1.0 ≡ node.Writing f.now = place_one last s.0 from.1.0 (node.Writing f.now) there f.at in
-      let told : stand_in {S = S} (node.Writing f.now) ≡ Some s = ap stand_in (sym is) ∙ from.1.1.1 in
+      let told : stand_in {S = S} {D = D} {L = L} {B = B} (node.Writing f.now) ≡ Some s = ap stand_in (sym is) ∙ from.1.1.1 in
       let same : (f.now.node, f.now.count, f.now.end) ≡ s = some_one (f.now.node, f.now.count, f.now.end) s told in
       (f, sym same ∙ ap (λ (j : ℕ). (j, f.now.count, f.now.end)) f.place)
 
   module _ (tells_was : IsTrue old.tells) where
     abbrev Drew : Type 0
-    Drew = Draws sources drains handles b can ss ds left last between old mid opens
+    Drew = Draws sources drains book handles b can ss ds left last between old mid opens
 
     drew : Drew
-    drew = draws_all sources drains handles b can ss ds left last between old mid opens tells_was
+    drew = draws_all sources drains book handles b can ss ds left last between old mid opens tells_was
 
     module _ (k : ℕ) (file : List ℕ) (f : Source k file) where
       was_read : WasRead old new file (drawn.bytes k) (drawn.given k) (drawn.faulted k)
@@ -430,21 +440,21 @@ module _ {S D : Type 0} (sources : S → SourceState) (drains : D → DrainState
           let given = (drew.source k file f).given in
           let read = read_grew sources drains b can last st.end.readers.items st.end.writers.items apart old mid _ _ opens new closes lone k file f.now f.at (f.law.name ∙ f.first_named) in
           let faults = faults_grew sources drains b can last st.end.readers.items st.end.writers.items apart old mid _ _ opens new closes lone k file f.now f.at (f.law.name ∙ f.first_named) in
-          reads_of sources drains handles b can ss ds left last between old mid opens tells_was k file f new (drawn.given k) (subst (λ n. Grew (old.read file) n (new.read file)) (sym given) read) faults
+          reads_of sources drains book handles b can ss ds left last between old mid opens tells_was k file f new (drawn.given k) (subst (λ n. Grew (old.read file) n (new.read file)) (sym given) read) faults
 
     -- the world tells of every source
-    world_tells : (w : World) → IsWorldOf nodes drawn w → Tells sources g w left
+    world_tells : (w : World) → IsWorldOf book nodes drawn w → Tells sources g w left
     world_tells w is = drew.tells w is
 
     -- what was sent on each wire may pass
-    sent_agrees : (u : ℕ) (v : Wire) → slice_get (blueprint_wires b) u ≡ Some v → (w : World) → IsWorldOf nodes drawn w → AgreesWith (composed g w u) (left.near u).wire.sent
-    sent_agrees u v at w is = let ranked = laws.ranked b can.plugs can.taken can.fit in laws.agree g w ranked.0 left run (world_tells w is) ranked.1 u (place_within (blueprint_wires b) u v at)
+    sent_agrees : (u : ℕ) (v : Wire) → slice_get (blueprint_wires b) u ≡ Some v → (w : World) → IsWorldOf book nodes drawn w → AgreesWith (composed g w u) (left.near u).wire.sent
+    sent_agrees u v at w is = let ranked = laws.ranked b can.plugs can.taken can.fit in laws.agree g w ranked.0 left (run_at w is.book_is) (world_tells w is) ranked.1 u (place_within (blueprint_wires b) u v at)
 
     -- one world that has the files
     abbrev world : World
-    world = world_of nodes drawn (made_moves sources drains handles b can ss ds left last between old mid opens)
+    world = world_of book nodes drawn (made_moves sources drains book handles b can ss ds left last between old mid opens)
 
-    has_files : IsWorldOf nodes drawn world
+    has_files : IsWorldOf book nodes drawn world
     has_files = drew.has_files
 
     -- a sink's file
@@ -452,47 +462,47 @@ module _ {S D : Type 0} (sources : S → SourceState) (drains : D → DrainState
       at_graph : slice_get g.nodes k ≡ Some (node_of n)
       at_graph = mapped_at node_of nodes k n at
 
-      wrote : SinkWrote sources drains g left k (node_of n) f.first f.now
+      wrote : SinkWrote sources drains book g left k (node_of n) f.first f.now
       wrote = laws.wrote g left run k (node_of n) f.first f.now at_graph f.there
 
-      sink_leaves : SinkLeaves new b drawn st.wires.items st.at_rest k n file f.now.count f.now.end
+      sink_leaves : SinkLeaves book new b drawn st.wires.items st.at_rest k n file f.now.count f.now.end
       sink_leaves = record {
         held = wrote.written;
         there = λ tells. sink_held k file f tells ∙ wrote.holds (f.start.holds (closes.told tells));
-        tells = λ w is. let ranked = laws.ranked b can.plugs can.taken can.fit in wrote.tells w ranked.0 (world_tells w is) ranked.1;
+        tells = λ w is. let ranked = laws.ranked b can.plugs can.taken can.fit in wrote.tells w ranked.0 is.book_is (world_tells w is) ranked.1;
         lines_are = wrote.lines_are;
         sent = λ shape u v at to.
             let ranked = laws.ranked b can.plugs can.taken can.fit in
-            let list = laws.took g world ranked.0 left run (world_tells world has_files) ranked.1 k (node_of n) file f.first f.now at_graph shape f.there in
+            let list = laws.took g world ranked.0 left (run_at world has_files.book_is) (world_tells world has_files) ranked.1 k (node_of n) file f.first f.now at_graph shape f.there in
             subst (λ (m : ℕ). SentOn v.lane f.now.end m f.now.count) (sym (wire_count_at u v at))
-            (sink_sent sources drains g left run u v at (composed g world u) (sent_agrees u v at world has_files) k (node_of n) at_graph (ap inputs_of shape) to f.now.end (sink_outlook g world k (node_of n)) list f.now.count
+            (sink_sent sources drains book g left run u v at (composed g world u) (sent_agrees u v at world has_files) k (node_of n) at_graph (ap inputs_of shape) to f.now.end (sink_outlook g world k (node_of n)) list f.now.count
             (laws.sent g left run k (node_of n) file f.first f.now u v at_graph shape f.there at to));
         rests = λ shape rest unended u v at to.
-            wire_count_at u v at ∙ sink_rests sources drains g left run u v at (composed g world u) (sent_agrees u v at world has_files) k (node_of n) at_graph (ap inputs_of shape) to f.first f.now f.there (still rest) unended
+            wire_count_at u v at ∙ sink_rests sources drains book g left run u v at (composed g world u) (sent_agrees u v at world has_files) k (node_of n) at_graph (ap inputs_of shape) to f.first f.now f.there (still rest) unended
             ∙ laws.rest g left run k (node_of n) file f.first f.now u v at_graph shape f.there at to (still rest) unended;
       }
 
     -- a sink without a file
-    ignore_leaves : (i : ℕ) (s : Stand) (n : blue.Node) → slice_get st.end.sinks.items i ≡ Some s → slice_get nodes s.0 ≡ Some n → n.kind ≡ kind.Ignore → IgnoreLeaves b drawn st.wires.items s.0 n s.1 s.2
+    ignore_leaves : (i : ℕ) (s : Stand) (n : blue.Node) → slice_get st.end.sinks.items i ≡ Some s → slice_get nodes s.0 ≡ Some n → n.kind ≡ kind.Ignore → IgnoreLeaves book b drawn st.wires.items s.0 n s.1 s.2
     ignore_leaves i s n at here shape =
         let at_graph : slice_get g.nodes s.0 ≡ Some (node_of n) = mapped_at node_of nodes s.0 n here in
         let there = laws.ignorer g left run s.0 (node_of n) at_graph shape in
         let now = there.1.0 in
         let among : slice_get (filter_map stand_in last) i ≡ Some s = subst (λ (x : List Stand). slice_get x i ≡ Some s) (l.sinks ∙ sinks_filtered last) at in
         let from = unfiltered_at stand_in last i s among in
-        let below : from.0 < length nodes = subst (λ m. from.0 < m) (sym (as_many sources drains handles b ss ds left last between old mid opens)) (place_within last from.0 from.1.0 from.1.1.0) in
+        let below : from.0 < length nodes = subst (λ m. from.0 < m) (sym (as_many sources drains book handles b ss ds left last between old mid opens)) (place_within last from.0 from.1.0 from.1.1.0) in
         let m = place_of nodes from.0 below in
         let place : s.0 ≡ from.0 = no_stand from.0 (is_sink m.0) (stand_in from.1.0) s (profile from.0 m.0 from.1.0 m.1 from.1.1.0).stand from.1.1.1 in
         let found : slice_get last s.0 ≡ Some from.1.0 = subst (λ j. slice_get last j ≡ Some from.1.0) (sym place) from.1.1.0 in
         let is : from.1.0 ≡ node.Ignoring now = place_one last s.0 from.1.0 (node.Ignoring now) found (sym (between.node_at s.0) ∙ there.1.1.at_last) in
-        let told : stand_in {S = S} {D = D} (node.Ignoring now) ≡ Some s = ap stand_in (sym is) ∙ from.1.1.1 in
+        let told : stand_in {S = S} {D = D} {L = L} {B = B} (node.Ignoring now) ≡ Some s = ap stand_in (sym is) ∙ from.1.1.1 in
         let same : (now.node, 0, now.end) ≡ s = some_one (now.node, 0, now.end) s told in
         record {
           none = ap (λ (t : Stand). t.1) (sym same);
           tells = λ w is_world u v wire to.
               subst (λ (e : EndState). IgnoreTells (sink_outlook g w s.0 (node_of n)) e (sent_at st.wires.items u)) (ap (λ (t : Stand). t.2) same)
               (subst (λ (c : ℕ). IgnoreTells (sink_outlook g w s.0 (node_of n)) now.end c) (sym (wire_count_at u v wire))
-              (ignorer_told sources drains g left run u v wire w (sent_agrees u v wire w is_world) s.0 (node_of n) at_graph shape to there.0 now there.1.1));
+              (ignorer_told sources drains book g left run u v wire w (sent_agrees u v wire w is_world) s.0 (node_of n) at_graph shape to there.0 now there.1.1));
         }
 
     -- the picture of the run
@@ -519,11 +529,11 @@ module _ {S D : Type 0} (sources : S → SourceState) (drains : D → DrainState
         let h = sink_here i s at in
         let n : slice_get g.nodes h.is.to ≡ Some (node_of h.node) = subst (λ j. slice_get g.nodes j ≡ Some (node_of h.node)) (sym h.to) (mapped_at node_of nodes s.0 h.node h.at) in
         let over : ended_there (left.nodes h.is.to) ≡ true =
-        laws.trees g world picture (composed g world) picture_wired (laws.rests g world ranked.0 left run (still rest) (world_tells world has_files) ranked.1) (tree_by_wires g tree)
+        laws.trees g world picture (composed g world) picture_wired (laws.rests g world ranked.0 left (run_at world has_files.book_is) (still rest) (world_tells world has_files) ranked.1) (tree_by_wires g tree)
         (λ k. ended_there (left.nodes k)) (laws.match g world left (composed g world) run (still rest)) h.wire h.is (node_of h.node) h.there n h.shape in
         ended_goes s.2 (sym h.ended ∙ ap (λ (k : ℕ). ended_there (left.nodes k)) (sym h.to) ∙ over))
 
-    needed : (w : World) → IsWorldOf nodes drawn w → count_needed g st.wires.items ≤ need g (composed g w)
+    needed : (w : World) → IsWorldOf book nodes drawn w → count_needed g st.wires.items ≤ need g (composed g w)
     needed w is =
         need_more (blueprint_wires b) 0 (sent_at st.wires.items) (λ i. length (composed g w i).list) (λ k lt.
         let here = place_of (blueprint_wires b) (0 + k) (omega (arith, lt)) in
@@ -532,13 +542,13 @@ module _ {S D : Type 0} (sources : S → SourceState) (drains : D → DrainState
         let le : sent_at st.wires.items (0 + k) ≤ length (composed g w (0 + k)).list = omega (arith, sent, within) in
         le)
 
-    leaves_files : LeavesFiles old new b trace st.end.sinks.items (map pick_of st.end.picks.items) st.wires.items st.at_rest
+    leaves_files : LeavesFiles book old new b trace st.end.sinks.items (map pick_of st.end.picks.items) st.wires.items st.at_rest
     leaves_files =
         let ranked = laws.ranked b can.plugs can.taken can.fit in
         record {
           drawn = drawn;
           chose = sym l.picks;
-          fits = λ w is. laws.moves g w ranked.0 left run settled (world_tells w is) ranked.1;
+          fits = λ w is. laws.moves g w ranked.0 left (run_at w is.book_is) settled (world_tells w is) ranked.1;
           read = λ k file is. was_read k file (source_at k file is);
           world = world;
           has_files = has_files;
@@ -546,7 +556,7 @@ module _ {S D : Type 0} (sources : S → SourceState) (drains : D → DrainState
           needed = needed;
           sink = λ i s n file at here shape.
               let found = stand_of i s n file at here shape in
-              subst (λ (t : Stand). SinkLeaves new b drawn st.wires.items st.at_rest s.0 n file t.1 t.2) (sym found.1) (sink_leaves s.0 n file here found.0);
+              subst (λ (t : Stand). SinkLeaves book new b drawn st.wires.items st.at_rest s.0 n file t.1 t.2) (sym found.1) (sink_leaves s.0 n file here found.0);
           ignores = λ i s n at here shape. ignore_leaves i s n at here shape;
           others = λ tells n never aside. other_files sources drains b can last st.end.readers.items st.end.writers.items apart old mid _ _ opens new closes lone tells n never (unlisted trace n aside);
           draws = λ k file u v is at from.
@@ -555,16 +565,16 @@ module _ {S D : Type 0} (sources : S → SourceState) (drains : D → DrainState
               let told = draws_told d.bytes (sources f.first.reader.source) (sources f.now.reader.source) (left.near u).wire.sent (sent_at st.wires.items u) f.start.faults (wire_count_at u v at)
               (laws.reads g left run k (node_of is.node) f.first f.now u v d.bytes (mapped_at node_of nodes k is.node is.at) f.there at from d.whole) in
               rw (d.drawn_bytes, d.given, d.faulted) told;
-          lawful = λ w is. subst (λ (c : List WireCount). IsLawful g w c (composed g w)) (sym wires_are) (laws.lawful g w ranked.0 left run settled (world_tells w is) ranked.1);
-          rest = λ rest w is. subst (λ (c : List WireCount). Rests g w c (composed g w)) (sym wires_are) (laws.rests g w ranked.0 left run (still rest) (world_tells w is) ranked.1);
+          lawful = λ w is. subst (λ (c : List WireCount). IsLawful g w c (composed g w)) (sym wires_are) (laws.lawful g w ranked.0 left (run_at w is.book_is) settled (world_tells w is) ranked.1);
+          rest = λ rest w is. subst (λ (c : List WireCount). Rests g w c (composed g w)) (sym wires_are) (laws.rests g w ranked.0 left (run_at w is.book_is) (still rest) (world_tells w is) ranked.1);
           matching = λ rest w k n at is.
               let m = unmapped_at node_of nodes k n at in
               let shape : oneway.is_sink m.0.kind ≡ true = ap (λ (x : graph.Node). oneway.is_sink x.kind) (sym m.1.1) ∙ is in
-              let below : k < length last = subst (λ j. k < j) (as_many sources drains handles b ss ds left last between old mid opens) (place_within nodes k m.0 m.1.0) in
+              let below : k < length last = subst (λ j. k < j) (as_many sources drains book handles b ss ds left last between old mid opens) (place_within nodes k m.0 m.1.0) in
               let x = place_of last k below in
               let stand = stand_there k (is_sink m.0) (stand_in x.0) (profile k m.0 x.0 m.1.0 x.1).stand (sink_shape m.0.kind shape) in
               let by_place : has_ended_at (filter_map stand_in last) k ≡ has_ended stand.0.2 =
-              ended_along 0 nodes last (as_many sources drains handles b ss ds left last between old mid opens) (λ i y z p q. subst (λ j. StandsAt j (is_sink y) (stand_in z)) (omega arith) (profile i y z p q).stand) k k x.0 stand.0 (omega arith) x.1 stand.1.0 in
+              ended_along 0 nodes last (as_many sources drains book handles b ss ds left last between old mid opens) (λ i y z p q. subst (λ j. StandsAt j (is_sink y) (stand_in z)) (omega arith) (profile i y z p q).stand) k k x.0 stand.0 (omega arith) x.1 stand.1.0 in
               let ended : ended_there (left.nodes k) ≡ has_ended_at st.end.sinks.items k =
               ended_as (left.nodes k) x.0 stand.0 (between.node_at k ∙ x.1) stand.1.0 ∙ sym by_place ∙ ap (λ (y : List Stand). has_ended_at y k) (sym (l.sinks ∙ sinks_filtered last)) in
               subst (λ (c : List WireCount). EachWire (λ i. i.shut ≡ has_ended_at st.end.sinks.items k) (ins g c (composed g w) k n.kind)) (sym wires_are)
@@ -576,10 +586,10 @@ module _ {S D : Type 0} (sources : S → SourceState) (drains : D → DrainState
   calm_output none n c =
       let at = contained_at (outputs_of_nodes nodes) n c in
       let from = unfiltered_at (λ (m : blue.Node). output_of m.kind) nodes at.0 n at.1 in
-      let below : from.0 < length last = subst (λ j. from.0 < j) (as_many sources drains handles b ss ds left last between old mid opens) (place_within nodes from.0 from.1.0 from.1.1.0) in
+      let below : from.0 < length last = subst (λ j. from.0 < j) (as_many sources drains book handles b ss ds left last between old mid opens) (place_within nodes from.0 from.1.0 from.1.1.0) in
       let x = place_of last from.0 below in
       let y = writer_there (λ d. (drains d).name) x.0 n (sym from.1.1.1 ∙ (profile from.0 from.1.0 x.0 from.1.1.0 x.1).output) in
-      let shape = writer_kind sources drains handles b ss ds left last between old mid opens from.0 from.1.0 x.0 y.0 from.1.1.0 x.1 y.1 in
+      let shape = writer_kind sources drains book handles b ss ds left last between old mid opens from.0 from.1.0 x.0 y.0 from.1.1.0 x.1 y.1 in
       let named : shape.0 ≡ n = some_one shape.0 n (sym shape.1 ∙ from.1.1.1) in
       let f = sink_at from.0 shape.0 (record { node = from.1.0; at = from.1.1.0; file_is = shape.1 }) in
       let told = filtered_at stand_in last from.0 (node.Writing f.now) (f.now.node, f.now.count, f.now.end) f.at refl in
@@ -603,16 +613,19 @@ module _ {S D : Type 0} (sources : S → SourceState) (drains : D → DrainState
 
   -- what the nodes chose
   abbrev moved : ℕ → List ℕ
-  moved = made_moves sources drains handles b can ss ds left last between old mid opens
+  moved = made_moves sources drains book handles b can ss ds left last between old mid opens
 
-  -- what passed each wire is of its type
-  carried : Carries b st.wires.items drawn.picks
+  -- what passed each wire is a list, of its type where the plugs keep to theirs
+  carried : Carries book b st.wires.items drawn.picks
   carried =
-      carries b can st.wires.items drawn.picks moved (λ u. (left.near u).wire.sent) wire_count_at
-      (λ plugs taken fit i v at.
-      let ranks = laws.ranked b plugs taken fit in
-      laws.types plugs b.chains.items nodes g (silent moved) ranks.0 left run (chosen_told (silent moved).book (silent moved).file left) (laws.fits b plugs taken g fit refl refl refl) (silent_keeps moved plugs) ranks.1 i v at)
-      (λ w has sent j v n at is other came. laws.gives g w left run (picks_told sources drains handles b can ss ds left last between old mid opens w has) sent j v n at is other came)
+      let ranks = laws.ranked b can.plugs can.taken can.fit in
+      let chosen = chosen_told book (unread book moved).file left in
+      carries book b st.wires.items drawn.picks moved (λ u. (left.near u).wire.sent) wire_count_at
+      (told_sent g ranks.0 ranks.1 (unread book moved) (λ u. (left.near u).wire.sent) (λ i v at. let n = run.joined.source i v at in (n.0, n.1)) (laws.texts g left run) (laws.gives g (unread book moved) left run chosen))
+      (λ plugs taken fit keeps i v at.
+      let by = laws.ranked b plugs taken fit in
+      laws.types plugs b.chains.items nodes g (unread book moved) by.0 left run chosen (laws.fits b plugs taken g fit refl refl refl) keeps by.1 i v at)
+      (λ w is has sent j v n at from other came. laws.gives g w left (run_at w is) (picks_told sources drains book handles b can ss ds left last between old mid opens w has) sent j v n at from other came)
 
   -- the trace, as it was left where none of the sinks' drains has its name
   abbrev Traced : RunResult → Type 0
@@ -621,10 +634,10 @@ module _ {S D : Type 0} (sources : S → SourceState) (drains : D → DrainState
   traced_so : (ran : RunResult) → Traced ran → Traces old new b trace (map pick_of ran.picks.items) ran.trace_failed
   traced_so ran traced = traced (unwritten sources drains b can last st.end.readers.items st.end.writers.items apart old mid _ _ opens new closes lone)
 
-  pub runs_of : (ran : RunResult) → Traced ran → ran.sinks.items ≡ st.end.sinks.items → ran.picks.items ≡ st.end.picks.items → ran.wires.items ≡ st.wires.items → ran.used ≡ st.used → ran.at_rest ≡ st.at_rest → Runs old new b trace budget ran
+  pub runs_of : (ran : RunResult) → Traced ran → ran.sinks.items ≡ st.end.sinks.items → ran.picks.items ≡ st.end.picks.items → ran.wires.items ≡ st.wires.items → ran.used ≡ st.used → ran.at_rest ≡ st.at_rest → Runs book old new b trace budget ran
   runs_of ran traced sinks chosen wires used rest = record {
-    sinks_are = ap (map (λ (s : Stand). s.0)) (sinks ∙ l.sinks) ∙ stands_are sources drains handles b ss ds left last between old mid opens;
-    picks_are = ap picked (ap (map pick_of) chosen ∙ l.picks) ∙ picks_stand sources drains handles b can ss ds left last between old mid opens;
+    sinks_are = ap (map (λ (s : Stand). s.0)) (sinks ∙ l.sinks) ∙ stands_are sources drains book handles b ss ds left last between old mid opens;
+    picks_are = ap picked (ap (map pick_of) chosen ∙ l.picks) ∙ picks_stand sources drains book handles b can ss ds left last between old mid opens;
     told = tells_old sources drains b can last st.end.readers.items st.end.writers.items apart old mid _ _ opens new closes lone;
     traces = traced_so ran traced;
     leaves = λ h. rw (sinks, chosen, wires, rest) (leaves_files h);
@@ -638,12 +651,12 @@ module _ {S D : Type 0} (sources : S → SourceState) (drains : D → DrainState
     faults = λ i s at fault.
         let among : slice_get (filter_map stand_in last) i ≡ Some s = subst (λ (x : List Stand). slice_get x i ≡ Some s) (sinks ∙ l.sinks ∙ sinks_filtered last) at in
         let from = unfiltered_at stand_in last i s among in
-        let below : from.0 < length nodes = subst (λ m. from.0 < m) (sym (as_many sources drains handles b ss ds left last between old mid opens)) (place_within last from.0 from.1.0 from.1.1.0) in
+        let below : from.0 < length nodes = subst (λ m. from.0 < m) (sym (as_many sources drains book handles b ss ds left last between old mid opens)) (place_within last from.0 from.1.0 from.1.1.0) in
         let m = place_of nodes from.0 below in
-        let shape = fault_kind sources drains handles b ss ds left last between old mid opens from.0 m.0 from.1.0 s m.1 from.1.1.0 from.1.1.1 fault in
+        let shape = fault_kind sources drains book handles b ss ds left last between old mid opens from.0 m.0 from.1.0 s m.1 from.1.1.0 from.1.1.1 fault in
         let f = sink_at from.0 shape.0 (record { node = m.0; at = m.1; file_is = shape.1 }) in
         let is : from.1.0 ≡ node.Writing f.now = place_one last from.0 from.1.0 (node.Writing f.now) from.1.1.0 f.at in
-        let told : stand_in {S = S} (node.Writing f.now) ≡ Some s = ap stand_in (sym is) ∙ from.1.1.1 in
+        let told : stand_in {S = S} {D = D} {L = L} {B = B} (node.Writing f.now) ≡ Some s = ap stand_in (sym is) ∙ from.1.1.1 in
         let same : (f.now.node, f.now.count, f.now.end) ≡ s = some_one (f.now.node, f.now.count, f.now.end) s told in
         let failed : f.now.end ≡ WriteFault = ap (λ (t : Stand). t.2) same ∙ fault in
         let file = filtered_at (λ (n : blue.Node). output_of n.kind) nodes from.0 m.0 shape.0 m.1 shape.1 in

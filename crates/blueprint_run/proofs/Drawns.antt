@@ -30,16 +30,17 @@ use Rattle.blueprint_run.proofs.Apart.{one_file}
 use Rattle.blueprint_run.proofs.Worlds.{world_of, world_has}
 use Rattle.blueprint_run.proofs.Places.{unmapped_at}
 use Rattle.blueprint_run.proofs.Handles.{HandleLaws, SourceFacts, source_facts, node_facts, reading_same, as_many}
+use Rattle.stream_model.specs.Linear.{Book}
 
 -- the state of the source at a place, where one is there
 abbrev blank : SourceState
 blank = record { name = []; whole = None; given = 0; faults = 0 }
 
-abbrev source_in : {S D : Type 0} → (S → SourceState) → Option (Node S D) → SourceState
+abbrev source_in : {S D L B : Type 0} → (S → SourceState) → Option (Node S D L B) → SourceState
 source_in sources (Some (node.Reading x)) = sources x.reader.source
 source_in sources _ = blank
 
-source_there : {S D : Type 0} (sources : S → SourceState) (o : Option (Node S D)) (x : Lines S) → o ≡ Some (node.Reading x) → source_in sources o ≡ sources x.reader.source
+source_there : {S D L B : Type 0} (sources : S → SourceState) (o : Option (Node S D L B)) (x : Lines S) → o ≡ Some (node.Reading x) → source_in sources o ≡ sources x.reader.source
 source_there sources o x e = rw e refl
 
 one_node : {A : Type 0} {o : Option A} (x y : A) → o ≡ Some x → o ≡ Some y → x ≡ y
@@ -49,12 +50,12 @@ told_whole : (o : Option (List ℕ)) (bytes : List ℕ) → o ≡ Some bytes →
 told_whole o bytes e = rw e refl
 
 -- a world that has the files as they were read tells of each source
-tells_node : {S D : Type 0} (sources : S → SourceState) (w : World) (n : graph.Node) (first now : Node S D)
+tells_node : {S D L B : Type 0} (sources : S → SourceState) (w : World) (n : graph.Node) (first now : Node S D L B)
     → ((a c : Lines S) (name : List ℕ) → first ≡ node.Reading a → now ≡ node.Reading c → n.kind ≡ kind.Lines name → TellsFile (sources a.reader.source) (sources c.reader.source) (w.file name)) → TellsNode sources w n first now
 tells_node sources w n (node.Reading a) (node.Reading c) tells = λ name shape. tells a c name refl refl shape
 tells_node sources w n first now tells = tt
 
-abbrev pub drawn_of : {S D : Type 0} → (S → SourceState) → Account (Node S D) → List (Node S D) → Drawn
+abbrev pub drawn_of : {S D L B : Type 0} → (S → SourceState) → Account (Node S D L B) → List (Node S D L B) → Drawn
 drawn_of sources left last = record {
   bytes = λ k. unwrap_or (source_in sources (left.firsts k)).whole [];
   given = λ k. (source_in sources (left.nodes k)).given;
@@ -62,13 +63,13 @@ drawn_of sources left last = record {
   picks = picks_of (count_from 0 (length last)) last;
 }
 
-module _ {S D : Type 0} (sources : S → SourceState) (drains : D → DrainState) (handles : HandleLaws sources drains) (b : Blueprint) (can : CanRun b) (ss : List S) (ds : List D) (left : Account (Node S D)) (last : List (Node S D)) (l : Moment sources drains b ss ds left last)
+module _ {S D L B : Type 0} (sources : S → SourceState) (drains : D → DrainState) (book : Book) (handles : HandleLaws L B sources drains book) (b : Blueprint) (can : CanRun b) (ss : List S) (ds : List D) (left : Account (Node S D L B)) (last : List (Node S D L B)) (l : Moment sources drains book b ss ds left last)
     (old mid : FolderState) {others : List (List ℕ)} (opens : Opens old mid (inputs_of_nodes b.nodes.items) (outputs_of_nodes b.nodes.items) others (map sources ss) (map drains ds)) where
   abbrev nodes : List blue.Node
   nodes = b.nodes.items
 
   abbrev Source : ℕ → List ℕ → Type 0
-  Source k file = SourceFacts sources drains handles b ss ds left last l old mid opens k file
+  Source k file = SourceFacts sources drains book handles b ss ds left last l old mid opens k file
 
   abbrev drawn : Drawn
   drawn = drawn_of sources left last
@@ -90,10 +91,10 @@ module _ {S D : Type 0} (sources : S → SourceState) (drains : D → DrainState
   -- there is a list of moves for each stage whose kind chooses, and no other
   pub picks_stand : picked drawn.picks ≡ pick_places 0 nodes
   picks_stand =
-      picked_along 0 nodes last (as_many sources drains handles b ss ds left last l old mid opens)
+      picked_along 0 nodes last (as_many sources drains book handles b ss ds left last l old mid opens)
       (λ i n x at here.
-      let f = node_facts sources drains handles b ss ds left last l old mid opens i n x at here in
-      node_chooses sources drains i n f.first x f.knew f.came f.went f.made f.law)
+      let f = node_facts sources drains book handles b ss ds left last l old mid opens i n x at here in
+      node_chooses sources drains book i n f.first x f.knew f.came f.went f.made f.law)
 
   -- what a source drew of its file, which was there
   pub record DrawsOf (k : ℕ) (file : List ℕ) (f : Source k file) : Type 0 where
@@ -107,8 +108,8 @@ module _ {S D : Type 0} (sources : S → SourceState) (drains : D → DrainState
   -- the same of every source; and a world that has the files as they were read tells of them
   pub record Draws : Type 0 where
     pub source : (k : ℕ) (file : List ℕ) (f : Source k file) → DrawsOf k file f
-    pub tells : (w : World) → IsWorldOf nodes drawn w → Tells sources (graph_of b) w left
-    pub has_files : IsWorldOf nodes drawn (world_of nodes drawn made_moves)
+    pub tells : (w : World) → IsWorldOf book nodes drawn w → Tells sources (graph_of b) w left
+    pub has_files : IsWorldOf book nodes drawn (world_of book nodes drawn made_moves)
 
   module _ (tells_was : IsTrue old.tells) where
     draws_of : (k : ℕ) (file : List ℕ) (f : Source k file) → DrawsOf k file f
@@ -145,23 +146,23 @@ module _ {S D : Type 0} (sources : S → SourceState) (drains : D → DrainState
           faulted = λ rose. subst IsTrue (sym d.faulted) (positive (sources f.now.reader.source).faults (rose_from_none (sources f.first.reader.source).faults (sources f.now.reader.source).faults f.start.faults rose));
         })
 
-    files_told : (w : World) → IsWorldOf nodes drawn w → TellsFiles sources (graph_of b) w left
+    files_told : (w : World) → IsWorldOf book nodes drawn w → TellsFiles sources (graph_of b) w left
     files_told w is k n first now gi fi ni = tells_node sources w n first now (λ a c name fa nc shape.
         let m = unmapped_at node_of nodes k n gi in
         let place : IsSource nodes k name = record { node = m.0; at = m.1.0; kind_is = ap (λ (x : graph.Node). x.kind) (sym m.1.1) ∙ shape } in
-        let f = source_facts sources drains handles b ss ds left last l old mid opens k name place in
+        let f = source_facts sources drains book handles b ss ds left last l old mid opens k name place in
         let first_is : f.first ≡ a = reading_same f.first a first (one_node first (node.Reading f.first) fi f.there.at_first) fa in
         let now_is : f.now ≡ c = reading_same f.now c now (one_node now (node.Reading f.now) ni f.there.at_last) nc in
         subst (λ (x : Lines S). TellsFile (sources x.reader.source) (sources c.reader.source) (w.file name)) first_is
         (subst (λ (x : Lines S). TellsFile (sources f.first.reader.source) (sources x.reader.source) (w.file name)) now_is (file_told k name f w (is.files k name place))))
 
-    world_tells : (w : World) → IsWorldOf nodes drawn w → Tells sources (graph_of b) w left
+    world_tells : (w : World) → IsWorldOf book nodes drawn w → Tells sources (graph_of b) w left
     world_tells w is = record { files = files_told w is; picks = picks_told w is.moves }
 
     pub draws_all : Draws
     draws_all = record {
       source = draws_of;
       tells = world_tells;
-      has_files = world_has nodes drawn made_moves (λ i k m n name at here p q. one_file b can.plugs can.taken can.fit i k m n name at here (ap file_of p) (ap file_of q))
-          (has_made (world_of nodes drawn made_moves) (λ k. refl));
+      has_files = world_has book nodes drawn made_moves (λ i k m n name at here p q. one_file b can.plugs can.taken can.fit i k m n name at here (ap file_of p) (ap file_of q))
+          (has_made (world_of book nodes drawn made_moves) (λ k. refl));
     }

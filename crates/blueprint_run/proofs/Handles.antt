@@ -37,6 +37,7 @@ use Rattle.island_runs.specs.Leaving.{Moment}
 use Rattle.blueprint_run.specs.Stands.{Stand, sink_places}
 use Rattle.blueprint_run.proofs.Places.{all_at, mapped_at, place_one}
 use Rattle.blueprint_run.proofs.Profiles.{some_one, stand_in, sinks_filtered, Profile, node_profile, stands_along, StandsAt, writes_file, never_faults, writing_kind}
+use Rattle.stream_model.specs.Linear.{Book}
 
 -- node k is a sink into that file
 pub record IsSinkInto (nodes : List blue.Node) (k : ℕ) (file : List ℕ) : Type 0 where
@@ -46,21 +47,21 @@ pub record IsSinkInto (nodes : List blue.Node) (k : ℕ) (file : List ℕ) : Typ
 
 -- ---- the laws that the crates below give
 
-module _ {S D : Type 0} (sources : S → SourceState) (drains : D → DrainState) where
+module _ {S D : Type 0} (L B : Type 0) (sources : S → SourceState) (drains : D → DrainState) (book : Book) where
   abbrev pub SourcesLaw : Type 0
-  SourcesLaw = (nodes : List blue.Node) (ss : List S) (ds : List D) (places : List (Seated S D)) (firsts : List (Node S D)) → AreSeats 0 nodes ss ds places → AllBecome places firsts
+  SourcesLaw = (nodes : List blue.Node) (ss : List S) (ds : List D) (places : List (Seated S D L B)) (firsts : List (Node S D L B)) → AreSeats 0 nodes ss ds places → AllBecome places firsts
       → (k : ℕ) (n : blue.Node) (name : List ℕ) → slice_get nodes k ≡ Some n → n.kind ≡ kind.Lines name → ReadsFile (inputs_of_nodes nodes) ss firsts k name
 
   abbrev pub DrainsLaw : Type 0
-  DrainsLaw = (nodes : List blue.Node) (ss : List S) (ds : List D) (places : List (Seated S D)) (firsts : List (Node S D)) → AreSeats 0 nodes ss ds places → AllBecome places firsts
+  DrainsLaw = (nodes : List blue.Node) (ss : List S) (ds : List D) (places : List (Seated S D L B)) (firsts : List (Node S D L B)) → AreSeats 0 nodes ss ds places → AllBecome places firsts
       → (k : ℕ) (n : blue.Node) (name : List ℕ) → slice_get nodes k ≡ Some n → output_of n.kind ≡ Some name → WritesFile (outputs_of_nodes nodes) ds firsts k name
 
   abbrev pub SourceThere : Type 0
-  SourceThere = (g : Graph) (a : Account (Node S D)) → IsRun sources drains g a
+  SourceThere = (g : Graph) (a : Account (Node S D L B)) → IsRun sources drains book g a
       → (k : ℕ) (n : graph.Node) (name : List ℕ) → slice_get g.nodes k ≡ Some n → n.kind ≡ kind.Lines name → (first : Lines S) × ((now : Lines S) × IsSourceAt a k first now)
 
   abbrev pub SinkThere : Type 0
-  SinkThere = (g : Graph) (a : Account (Node S D)) → IsRun sources drains g a
+  SinkThere = (g : Graph) (a : Account (Node S D L B)) → IsRun sources drains book g a
       → (k : ℕ) (n : graph.Node) → slice_get g.nodes k ≡ Some n → IsFileSink n.kind → (first : Sink D) × ((now : Sink D) × IsSinkAt a k first now)
 
   pub record HandleLaws : Type 0 where
@@ -69,21 +70,21 @@ module _ {S D : Type 0} (sources : S → SourceState) (drains : D → DrainState
     pub source_there : SourceThere
     pub sink_there : SinkThere
 
-pub reading_same : {S D : Type 0} (a b : Lines S) (x : Node S D) → x ≡ node.Reading a → x ≡ node.Reading b → a ≡ b
+pub reading_same : {S D L B : Type 0} (a b : Lines S) (x : Node S D L B) → x ≡ node.Reading a → x ≡ node.Reading b → a ≡ b
 reading_same a b x e f = cc
 
-pub writing_same : {S D : Type 0} (a b : Sink D) (x : Node S D) → x ≡ node.Writing a → x ≡ node.Writing b → a ≡ b
+pub writing_same : {S D L B : Type 0} (a b : Sink D) (x : Node S D L B) → x ≡ node.Writing a → x ≡ node.Writing b → a ≡ b
 writing_same a b x e f = cc
 
 -- ---- there are as many places as nodes, and as many nodes as places
 
-pub seats_many : {S D : Type 0} (k : ℕ) (ns : List blue.Node) (ss : List S) (ds : List D) (ps : List (Seated S D)) → AreSeats k ns ss ds ps → length ns ≡ length ps
+pub seats_many : {S D L B : Type 0} (k : ℕ) (ns : List blue.Node) (ss : List S) (ds : List D) (ps : List (Seated S D L B)) → AreSeats k ns ss ds ps → length ns ≡ length ps
 seats_many k [] ss ds [] h = refl
 seats_many k [] ss ds (p ∷ ps) h = absurd h
 seats_many k (n ∷ ns) ss ds [] h = absurd h
 seats_many k (n ∷ ns) ss ds (p ∷ ps) h = ap suc (seats_many (k + 1) ns _ _ ps h.1.1)
 
-pub become_many : {S D : Type 0} (ps : List (Seated S D)) (xs : List (Node S D)) → AllBecome ps xs → length ps ≡ length xs
+pub become_many : {S D L B : Type 0} (ps : List (Seated S D L B)) (xs : List (Node S D L B)) → AllBecome ps xs → length ps ≡ length xs
 become_many [] [] h = refl
 become_many [] (x ∷ xs) h = absurd h
 become_many (p ∷ ps) [] h = absurd h
@@ -91,7 +92,7 @@ become_many (p ∷ ps) (x ∷ xs) h = ap suc (become_many ps xs h.1)
 
 -- ---- the handles of a run
 
-module _ {S D : Type 0} (sources : S → SourceState) (drains : D → DrainState) (laws : HandleLaws sources drains) (b : Blueprint) (ss : List S) (ds : List D) (left : Account (Node S D)) (last : List (Node S D)) (l : Moment sources drains b ss ds left last)
+module _ {S D L B : Type 0} (sources : S → SourceState) (drains : D → DrainState) (book : Book) (laws : HandleLaws L B sources drains book) (b : Blueprint) (ss : List S) (ds : List D) (left : Account (Node S D L B)) (last : List (Node S D L B)) (l : Moment sources drains book b ss ds left last)
     (old mid : FolderState) {others : List (List ℕ)} (opens : Opens old mid (inputs_of_nodes b.nodes.items) (outputs_of_nodes b.nodes.items) others (map sources ss) (map drains ds)) where
   abbrev pub nodes : List blue.Node
   nodes = b.nodes.items
@@ -101,15 +102,15 @@ module _ {S D : Type 0} (sources : S → SourceState) (drains : D → DrainState
   as_many = seats_many 0 nodes ss ds l.places l.seats ∙ become_many l.places l.firsts l.become ∙ sym l.as_many
 
   -- node k, as it was handed in: as the blueprint names it; and its law
-  pub record NodeFacts (k : ℕ) (n : blue.Node) (x : Node S D) : Type 0 where
-    pub first : Node S D
+  pub record NodeFacts (k : ℕ) (n : blue.Node) (x : Node S D L B) : Type 0 where
+    pub first : Node S D L B
     pub made : FirstOf sources k (node_of n) first
     pub knew : View
     pub came : List (List Item)
     pub went : List (List Item)
-    pub law : node_law sources drains first x knew came went
+    pub law : node_law sources drains book first x knew came went
 
-  pub node_facts : (k : ℕ) (n : blue.Node) (x : Node S D) → slice_get nodes k ≡ Some n → slice_get last k ≡ Some x → NodeFacts k n x
+  pub node_facts : (k : ℕ) (n : blue.Node) (x : Node S D L B) → slice_get nodes k ≡ Some n → slice_get last k ≡ Some x → NodeFacts k n x
   node_facts k n x at here =
       let there : slice_get (graph_of b).nodes k ≡ Some (node_of n) = mapped_at node_of nodes k n at in
       let m = l.run.keeps.each_node k (node_of n) there in
@@ -120,7 +121,7 @@ module _ {S D : Type 0} (sources : S → SourceState) (drains : D → DrainState
         knew = knows (graph_of b) left k (node_of n);
         came = took (graph_of b) left k (node_of n);
         went = gave (graph_of b) left k (node_of n);
-        law = subst (λ (y : Node S D). node_law sources drains m.first y (knows (graph_of b) left k (node_of n)) (took (graph_of b) left k (node_of n)) (gave (graph_of b) left k (node_of n))) same m.law_holds;
+        law = subst (λ (y : Node S D L B). node_law sources drains book m.first y (knows (graph_of b) left k (node_of n)) (took (graph_of b) left k (node_of n)) (gave (graph_of b) left k (node_of n))) same m.law_holds;
       }
 
   -- a source, as it was handed in and now
@@ -143,7 +144,7 @@ module _ {S D : Type 0} (sources : S → SourceState) (drains : D → DrainState
       let handed = laws.reads_law nodes ss ds l.places l.firsts l.seats l.become k is.node file is.at is.kind_is in
       let first_at : left.firsts k ≡ Some (node.Reading handed.first) = l.first_at k ∙ handed.at in
       let last_at : left.nodes k ≡ Some (node.Reading there.1.0) = there.1.1.at_last in
-      let kept = kept_as node_row (node_law sources drains) node_asking node_moves (graph_of b) left l.run.keeps k (node_of is.node) (node.Reading handed.first) (node.Reading there.1.0) in_graph first_at last_at in
+      let kept = kept_as node_row (node_law sources drains book) node_asking node_moves (graph_of b) left l.run.keeps k (node_of is.node) (node.Reading handed.first) (node.Reading there.1.0) in_graph first_at last_at in
       let state : slice_get (map sources ss) handed.place ≡ Some (sources handed.first.reader.source) = mapped_at sources ss handed.place handed.first.reader.source handed.source in
       let called : slice_get (source_names (map sources ss)) handed.place ≡ Some (sources handed.first.reader.source).name = mapped_at (λ (i : SourceState). i.name) (map sources ss) handed.place (sources handed.first.reader.source) state in
       let filed : slice_get (inputs_of_nodes nodes) handed.place ≡ Some (sources handed.first.reader.source).name = subst (λ (x : List (List ℕ)). slice_get x handed.place ≡ Some (sources handed.first.reader.source).name) opens.input_names called in
@@ -181,7 +182,7 @@ module _ {S D : Type 0} (sources : S → SourceState) (drains : D → DrainState
       let handed = laws.writes_law nodes ss ds l.places l.firsts l.seats l.become k is.node file is.at is.file_is in
       let first_at : left.firsts k ≡ Some (node.Writing handed.first) = l.first_at k ∙ handed.at in
       let last_at : left.nodes k ≡ Some (node.Writing there.1.0) = there.1.1.at_last in
-      let kept = kept_as node_row (node_law sources drains) node_asking node_moves (graph_of b) left l.run.keeps k (node_of is.node) (node.Writing handed.first) (node.Writing there.1.0) in_graph first_at last_at in
+      let kept = kept_as node_row (node_law sources drains book) node_asking node_moves (graph_of b) left l.run.keeps k (node_of is.node) (node.Writing handed.first) (node.Writing there.1.0) in_graph first_at last_at in
       let law : SinkLaw drains handed.first there.1.0 (knows (graph_of b) left k (node_of is.node)) (took (graph_of b) left k (node_of is.node)) (gave (graph_of b) left k (node_of is.node)) = kept.law_holds in
       let state : slice_get (map drains ds) handed.place ≡ Some (drains handed.first.drain) = mapped_at drains ds handed.place handed.first.drain handed.drain in
       let called : slice_get (drain_names (map drains ds)) handed.place ≡ Some (drains handed.first.drain).name = mapped_at (λ (o : DrainState). o.name) (map drains ds) handed.place (drains handed.first.drain) state in
@@ -201,10 +202,10 @@ module _ {S D : Type 0} (sources : S → SourceState) (drains : D → DrainState
       }
 
   -- what each node leaves
-  pub profiles : (k : ℕ) (n : blue.Node) (x : Node S D) → slice_get nodes k ≡ Some n → slice_get last k ≡ Some x → Profile sources drains k n x
+  pub profiles : (k : ℕ) (n : blue.Node) (x : Node S D L B) → slice_get nodes k ≡ Some n → slice_get last k ≡ Some x → Profile sources drains k n x
   profiles k n x at here =
       let f = node_facts k n x at here in
-      node_profile sources drains k n f.first x f.knew f.came f.went f.made f.law
+      node_profile sources drains book k n f.first x f.knew f.came f.went f.made f.law
       (λ name y shape is.
       let facts = source_facts k name (record { node = n; at = at; kind_is = shape }) in
       let same : facts.now ≡ y = reading_same facts.now y x (place_one last k x (node.Reading facts.now) here facts.at) is in
@@ -215,17 +216,17 @@ module _ {S D : Type 0} (sources : S → SourceState) (drains : D → DrainState
       ap (λ (z : Sink D). (drains z.drain).name) (sym same) ∙ facts.law.name ∙ facts.first_named)
 
   -- a node that stands at a failed write is a sink with a file
-  pub fault_kind : (k : ℕ) (n : blue.Node) (x : Node S D) (s : Stand) → slice_get nodes k ≡ Some n → slice_get last k ≡ Some x → stand_in x ≡ Some s → s.2 ≡ WriteFault → (name : List ℕ) × (output_of n.kind ≡ Some name)
+  pub fault_kind : (k : ℕ) (n : blue.Node) (x : Node S D L B) (s : Stand) → slice_get nodes k ≡ Some n → slice_get last k ≡ Some x → stand_in x ≡ Some s → s.2 ≡ WriteFault → (name : List ℕ) × (output_of n.kind ≡ Some name)
   fault_kind k n x s at here stands fault =
       let f = node_facts k n x at here in
-      let y = never_faults sources drains k n f.first x s f.knew f.came f.went f.law stands fault in
-      writing_kind sources drains k n f.first x y.0 f.knew f.came f.went f.made f.law y.1
+      let y = never_faults sources drains book k n f.first x s f.knew f.came f.went f.law stands fault in
+      writing_kind sources drains book k n f.first x y.0 f.knew f.came f.went f.made f.law y.1
 
   -- and so is one that leaves a drain
-  pub writer_kind : (k : ℕ) (n : blue.Node) (x : Node S D) (y : Sink D) → slice_get nodes k ≡ Some n → slice_get last k ≡ Some x → x ≡ node.Writing y → (name : List ℕ) × (output_of n.kind ≡ Some name)
+  pub writer_kind : (k : ℕ) (n : blue.Node) (x : Node S D L B) (y : Sink D) → slice_get nodes k ≡ Some n → slice_get last k ≡ Some x → x ≡ node.Writing y → (name : List ℕ) × (output_of n.kind ≡ Some name)
   writer_kind k n x y at here is =
       let f = node_facts k n x at here in
-      writing_kind sources drains k n f.first x y f.knew f.came f.went f.made f.law is
+      writing_kind sources drains book k n f.first x y f.knew f.came f.went f.made f.law is
 
   -- the sinks stand in the order of nodes
   pub stands_are : map (λ (s : Stand). s.0) (sinks_of last) ≡ sink_places 0 nodes

@@ -21,7 +21,7 @@ use Rattle.stream_model.specs.Composed.{inputs_of, count_from, received, lane_of
 use Rattle.stream_model.specs.Graph.{Graph, Wire, find_wire}
 use Rattle.stream_model.specs.Graph as graph
 use Rattle.stream_model.specs.Lane.{Carries}
-use Rattle.stream_model.specs.Linear.{Work, passing, work_of}
+use Rattle.stream_model.specs.Linear.{Book, Work, passing, work_of}
 use Rattle.stream_model.specs.Node.{World, head_of, of_work}
 use Rattle.stream_model.specs.Outlook.{Outlook, End, unended, ended, failed, Agrees}
 use Rattle.stream_model.proofs.Compositions.{slice_get-below}
@@ -134,7 +134,7 @@ ignore_told WriteFault o m f z l e with_end c a = absurd with_end
 
 -- ---- a wire of a run, and the sink at its input
 
-module _ {S D : Type 0} (sources : S → SourceState) (drains : D → DrainState) (g : Graph) (a : Account (Node S D)) (run : IsRun sources drains g a) (u : ℕ) (v : Wire) (at : slice_get g.wires u ≡ Some v) where
+module _ {S D L B : Type 0} (sources : S → SourceState) (drains : D → DrainState) (book : Book) (g : Graph) (a : Account (Node S D L B)) (run : IsRun sources drains book g a) (u : ℕ) (v : Wire) (at : slice_get g.wires u ≡ Some v) where
   near_sound : (q : _) × IsSound (a.near u).wire q
   near_sound = run.keeps.near_sound u (slice_get-below g.wires u v at)
 
@@ -176,7 +176,7 @@ module _ {S D : Type 0} (sources : S → SourceState) (drains : D → DrainState
     pub sink_rests : (first now : Sink D) → IsSinkAt a k first now → IsStill g a → now.end ≡ Unended → elements (a.near u).wire.sent ≡ elements (a.far u).wire.sent
     sink_rests first now there still goes =
         let within = slice_get-below g.wires u v at in
-        let kept = kept_as node_row (node_law sources drains) node_asking node_moves g a run.keeps k n (node.Writing first) (node.Writing now) ni there.at_first there.at_last in
+        let kept = kept_as node_row (node_law sources drains book) node_asking node_moves g a run.keeps k n (node.Writing first) (node.Writing now) ni there.at_first there.at_last in
         let ins : (knows g a k n).ins ≡ (a.far u).wire.inp ∷ [] = read_one g inp_of a.far k (inputs_of n.kind) u one found in
         let row : OneInOf (sink_row_in now.started now.end) ((a.far u).wire.inp ∷ []) (knows g a k n).outs = subst (λ (l : List InView). OneInOf (sink_row_in now.started now.end) l (knows g a k n).outs) ins kept.row_holds in
         let waits : (a.far u).wire.inp ≡ Waiting = sink_waits_as now.started now.end (a.far u).wire.inp (knows g a k n).outs goes row in
@@ -201,7 +201,7 @@ module _ {S D : Type 0} (sources : S → SourceState) (drains : D → DrainState
 
     pub ignorer_told : (first now : Ignorer) → IsIgnorerAt a k first now → IgnoreTells (sink_outlook g w k n) now.end (elements (a.near u).wire.sent)
     ignorer_told first now there =
-        let kept = kept_as node_row (node_law sources drains) node_asking node_moves g a run.keeps k n (node.Ignoring first) (node.Ignoring now) ni there.at_first there.at_last in
+        let kept = kept_as node_row (node_law sources drains book) node_asking node_moves g a run.keeps k n (node.Ignoring first) (node.Ignoring now) ni there.at_first there.at_last in
         let law : IgnoreLaw first now (knows g a k n) (took g a k n) (gave g a k n) = kept.law_holds in
         let came : took g a k n ≡ (a.far u).wire.got ∷ [] = read_one g got_of a.far k (inputs_of n.kind) u (ap inputs_of shape) ignored in
         let got : (a.far u).wire.got ≡ told law.elems law.in_end = heads_same (a.far u).wire.got (told law.elems law.in_end) (sym came ∙ law.took_is) in

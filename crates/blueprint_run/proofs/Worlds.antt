@@ -6,8 +6,8 @@ use Rattle.elem_core.specs.Values.{same_text}
 use Rattle.stream_model.specs.declared.kind.Kind.{Kind}
 use Rattle.stream_model.specs.declared.kind.Kind.TheVariants as kind
 use Rattle.stream_model.specs.Graph.{Graph}
+use Rattle.stream_model.specs.Linear.{Book}
 use Rattle.stream_model.specs.Node.{World}
-use Rattle.stream_model.specs.Samples.{book}
 use Rattle.stream_model.specs.Sources.{File}
 use Rattle.stream_picture.specs.Shape.{Walk, stay, along, IsPolytree}
 use Rattle.blue_core.specs.declared.blueprint.Node as blue
@@ -63,14 +63,15 @@ file_found (m ∷ ms) j (suc k) n d name at is one =
     by_other (reads m.kind name) (file_at d j) (file_of ms (j + 1) d name) (λ e. let never : zero ≡ suc k = one 0 m refl (reads_same m.kind name e) in omega (arith, never))
     ∙ file_found ms (j + 1) k n d name at is (λ i x a b. suc_one i k (one (suc i) x a b)) ∙ ap (file_at d) place
 
--- the world of a run in which the nodes made these moves
-abbrev pub world_of : List blue.Node → Drawn → (ℕ → List ℕ) → World
-world_of nodes d moves = record { book = book; file = file_of nodes 0 d; moves = moves }
+-- the world of a run with these plugs, in which the nodes made these moves
+abbrev pub world_of : Book → List blue.Node → Drawn → (ℕ → List ℕ) → World
+world_of book nodes d moves = record { book = book; file = file_of nodes 0 d; moves = moves }
 
 -- has each file as it was read, where no two sources have one
-pub world_has : (nodes : List blue.Node) (d : Drawn) (moves : ℕ → List ℕ) → ((i k : ℕ) (m n : blue.Node) (name : List ℕ) → slice_get nodes i ≡ Some m → slice_get nodes k ≡ Some n → m.kind ≡ kind.Lines name → n.kind ≡ kind.Lines name → i ≡ k) → HasPicks d.picks (world_of nodes d moves)
-    → IsWorldOf nodes d (world_of nodes d moves)
-world_has nodes d moves one picks = record {
+pub world_has : (book : Book) (nodes : List blue.Node) (d : Drawn) (moves : ℕ → List ℕ) → ((i k : ℕ) (m n : blue.Node) (name : List ℕ) → slice_get nodes i ≡ Some m → slice_get nodes k ≡ Some n → m.kind ≡ kind.Lines name → n.kind ≡ kind.Lines name → i ≡ k) → HasPicks d.picks (world_of book nodes d moves)
+    → IsWorldOf book nodes d (world_of book nodes d moves)
+world_has book nodes d moves one picks = record {
+  book_is = refl;
   files = λ k name is.
       let place : 0 + k ≡ k = omega arith in
       file_found nodes 0 k is.node d name is.at is.kind_is (λ i m at shape. one i k m is.node name at is.at shape is.kind_is) ∙ ap (file_at d) place;

@@ -20,6 +20,8 @@ use Rattle.type_laws.specs.Sent.{exact}
 use Rattle.type_laws.specs.Types.{AllTyped}
 use Rattle.interpreter.specs.Picks.{Pick}
 use Rattle.blueprint_run.specs.Choosing.{HasPicks}
+use Rattle.stream_model.specs.Linear.{Book}
+use Rattle.type_laws.specs.Plugs.{KeepsPlugTypes}
 
 -- the type that the check settles for a wire
 abbrev pub settled_type : Blueprint → List PlugHead → Wire → Option Sort
@@ -28,11 +30,11 @@ settled_type b plugs v = wire_type plugs b.chains.items b.nodes.items (graph_of 
 -- On each wire a list passed, and it stands so: as many elements as the picture counts (`counted`), all of the type that the
 -- check settles for the wire (`typed`). What a node gave that is no source of lines agrees with what it gives of the lists that
 -- passed on its inputs, by every world that has what the stages chose (`given`).
-pub record Carries (b : Blueprint) (wires : List WireCount) (picks : List Pick) : Type 0 where
+pub record Carries (book : Book) (b : Blueprint) (wires : List WireCount) (picks : List Pick) : Type 0 where
   pub lists : ℕ → List Tree
   pub ends : ℕ → End
   pub counted : (i : ℕ) (v : Wire) → slice_get (blueprint_wires b) i ≡ Some v → sent_at wires i ≡ length (lists i)
-  pub typed : (plugs : List PlugHead) (taken : List (List ℕ)) → IsFit b plugs taken → (i : ℕ) (v : Wire) → slice_get (blueprint_wires b) i ≡ Some v
+  pub typed : (plugs : List PlugHead) (taken : List (List ℕ)) → IsFit b plugs taken → KeepsPlugTypes plugs book → (i : ℕ) (v : Wire) → slice_get (blueprint_wires b) i ≡ Some v
       → (t : Sort) × ((settled_type b plugs v ≡ Some t) × AllTyped t (lists i))
-  pub given : (w : World) → HasPicks picks w → (j : ℕ) (v : Wire) (n : Node) → slice_get (blueprint_wires b) j ≡ Some v → slice_get b.nodes.items v.from ≡ Some n → ((name : List ℕ) → n.kind ≢ Lines name)
+  pub given : (w : World) → w.book ≡ book → HasPicks picks w → (j : ℕ) (v : Wire) (n : Node) → slice_get (blueprint_wires b) j ≡ Some v → slice_get b.nodes.items v.from ≡ Some n → ((name : List ℕ) → n.kind ≢ Lines name)
       → Agrees (next (graph_of b) w (λ u. exact (lists u) (ends u)) j) (lists j) (ends j)

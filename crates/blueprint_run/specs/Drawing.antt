@@ -10,6 +10,7 @@ use Rattle.stream_io.specs.Reading.{FirstTooLong}
 use Rattle.nodes.specs.Drawing.{ended_lines}
 use Rattle.interpreter.specs.Picks.{Pick}
 use Rattle.blueprint_run.specs.Choosing.{HasPicks}
+use Rattle.stream_model.specs.Linear.{Book}
 
 -- of the source that is node k: the bytes of its file, how many of them were read, and whether a read failed; and the moves of
 -- the stages that choose
@@ -36,9 +37,10 @@ pub record WasRead (old new : FolderState) (file bytes : List ℕ) (given : ℕ)
 abbrev pub WereRead : FolderState → FolderState → List Node → Drawn → Type 0
 WereRead old new nodes d = (k : ℕ) (file : List ℕ) → IsSource nodes k file → WasRead old new file (d.bytes k) (d.given k) (d.faulted k)
 
--- The world has each input file as it was read, and of each stage that chose the moves that it made. Of a run whose stages have no
--- choice it need have the files alone.
-pub record IsWorldOf (nodes : List Node) (d : Drawn) (w : World) : Type 0 where
+-- The world has the plugs as this book lists them, each input file as it was read, and of each stage that chose the moves that it made. Of a
+-- run whose stages have no choice it need have the book and the files alone.
+pub record IsWorldOf (book : Book) (nodes : List Node) (d : Drawn) (w : World) : Type 0 where
+  pub book_is : w.book ≡ book
   pub files : (k : ℕ) (file : List ℕ) → IsSource nodes k file → w.file file ≡ record { bytes = d.bytes k; read = d.given k; faulted = d.faulted k }
   pub moves : HasPicks d.picks w
 

@@ -35,25 +35,26 @@ use Rattle.blueprint_run.specs.Stands.{Stand, sink_places, has_ended_at, is_writ
 use Rattle.blueprint_run.specs.Tracing.{Traces, written_files}
 use Rattle.blueprint_run.specs.Units.{Pays}
 use Rattle.blueprint_run.specs.declared.run.RunResult.{RunResult}
+use Rattle.stream_model.specs.Linear.{Book}
 
 -- What is told of the sink with a file that is node k, which stands so: it wrote what the composed outlook of the sink lets it
 -- write, by every world that has the input files as they were read and what the stages chose, and so many whole lines. Where the
 -- folder still tells its files, the sink's file holds just that. To a sink of lines as many
 -- elements were sent, or one more while it has not ended, and just one more where a write failed, but for what a lane to it may
 -- hold; where no event was left no more than it wrote, also on a lane.
-pub record SinkLeaves (new : FolderState) (b : Blueprint) (d : Drawn) (wires : List WireCount) (at_rest : Bool) (k : ℕ) (n : Node) (file : List ℕ) (count : ℕ) (end : EndState) : Type 0 where
+pub record SinkLeaves (book : Book) (new : FolderState) (b : Blueprint) (d : Drawn) (wires : List WireCount) (at_rest : Bool) (k : ℕ) (n : Node) (file : List ℕ) (count : ℕ) (end : EndState) : Type 0 where
   pub held : List ℕ
   pub there : IsTrue new.tells → new.file file ≡ Some held
-  pub tells : (w : World) → IsWorldOf b.nodes.items d w → SinkTells (sink_outlook (graph_of b) w k (node_of n)) end held
+  pub tells : (w : World) → IsWorldOf book b.nodes.items d w → SinkTells (sink_outlook (graph_of b) w k (node_of n)) end held
   pub lines_are : whole_lines (length held) held ≡ count
   pub sent : n.kind ≡ ToLines file → (u : ℕ) (v : Wire) → slice_get (blueprint_wires b) u ≡ Some v → v.to ≡ k → SentOn v.lane end (sent_at wires u) count
   pub rests : n.kind ≡ ToLines file → IsTrue at_rest → end ≡ Unended → (u : ℕ) (v : Wire) → slice_get (blueprint_wires b) u ≡ Some v → v.to ≡ k → sent_at wires u ≡ count
 
 -- What is told of a sink that keeps nothing: it counts none, and how it stands and how many elements were sent to it are as its
 -- composed outlook lets them be.
-pub record IgnoreLeaves (b : Blueprint) (d : Drawn) (wires : List WireCount) (k : ℕ) (n : Node) (count : ℕ) (end : EndState) : Type 0 where
+pub record IgnoreLeaves (book : Book) (b : Blueprint) (d : Drawn) (wires : List WireCount) (k : ℕ) (n : Node) (count : ℕ) (end : EndState) : Type 0 where
   pub none : count ≡ 0
-  pub tells : (w : World) → IsWorldOf b.nodes.items d w → (u : ℕ) (v : Wire) → slice_get (blueprint_wires b) u ≡ Some v → v.to ≡ k
+  pub tells : (w : World) → IsWorldOf book b.nodes.items d w → (u : ℕ) (v : Wire) → slice_get (blueprint_wires b) u ≡ Some v → v.to ≡ k
       → IgnoreTells (sink_outlook (graph_of b) w k (node_of n)) end (sent_at wires u)
 
 -- The inputs were read, and each sink wrote what its outlook lets it write. No other file but that of the trace is changed, where the
@@ -62,26 +63,26 @@ pub record IgnoreLeaves (b : Blueprint) (d : Drawn) (wires : List WireCount) (k 
 -- rests, and a sink's input is shut exactly where the sink has ended; in a polytree every sink has ended then. The stages chose
 -- these moves, which fit what may come in on their inputs. There is a world that has the input files as they were read, and these
 -- moves.
-pub record LeavesFiles (old new : FolderState) (b : Blueprint) (trace : Option (List ℕ)) (sinks : List Stand) (picks : List Pick) (wires : List WireCount) (at_rest : Bool) : Type 0 where
+pub record LeavesFiles (book : Book) (old new : FolderState) (b : Blueprint) (trace : Option (List ℕ)) (sinks : List Stand) (picks : List Pick) (wires : List WireCount) (at_rest : Bool) : Type 0 where
   pub drawn : Drawn
   pub chose : drawn.picks ≡ picks
   pub read : WereRead old new b.nodes.items drawn
   pub world : World
-  pub has_files : IsWorldOf b.nodes.items drawn world
+  pub has_files : IsWorldOf book b.nodes.items drawn world
   pub sink : (i : ℕ) (s : Stand) (n : Node) (file : List ℕ) → slice_get sinks i ≡ Some s → slice_get b.nodes.items s.0 ≡ Some n → output_of n.kind ≡ Some file
-      → SinkLeaves new b drawn wires at_rest s.0 n file s.1 s.2
-  pub ignores : (i : ℕ) (s : Stand) (n : Node) → slice_get sinks i ≡ Some s → slice_get b.nodes.items s.0 ≡ Some n → n.kind ≡ Ignore → IgnoreLeaves b drawn wires s.0 n s.1 s.2
+      → SinkLeaves book new b drawn wires at_rest s.0 n file s.1 s.2
+  pub ignores : (i : ℕ) (s : Stand) (n : Node) → slice_get sinks i ≡ Some s → slice_get b.nodes.items s.0 ≡ Some n → n.kind ≡ Ignore → IgnoreLeaves book b drawn wires s.0 n s.1 s.2
   pub others : IsTrue new.tells → (n : List ℕ) → ¬ (Contains (outputs_of_nodes b.nodes.items) n) → trace ≢ Some n → new.file n ≡ old.file n
   pub draws : (k : ℕ) (file : List ℕ) (u : ℕ) (v : Wire) → IsSource b.nodes.items k file → slice_get (blueprint_wires b) u ≡ Some v → v.from ≡ k
       → DrawsFirst (drawn.bytes k) (drawn.given k) (drawn.faulted k) (sent_at wires u)
-  pub fits : (w : World) → IsWorldOf b.nodes.items drawn w → Fits (graph_of b) w
+  pub fits : (w : World) → IsWorldOf book b.nodes.items drawn w → Fits (graph_of b) w
   -- the picture, by the composed outlooks
-  pub lawful : (w : World) → IsWorldOf b.nodes.items drawn w → IsLawful (graph_of b) w wires (composed (graph_of b) w)
-  pub rest : IsTrue at_rest → (w : World) → IsWorldOf b.nodes.items drawn w → Rests (graph_of b) w wires (composed (graph_of b) w)
+  pub lawful : (w : World) → IsWorldOf book b.nodes.items drawn w → IsLawful (graph_of b) w wires (composed (graph_of b) w)
+  pub rest : IsTrue at_rest → (w : World) → IsWorldOf book b.nodes.items drawn w → Rests (graph_of b) w wires (composed (graph_of b) w)
   pub matching : IsTrue at_rest → (w : World) → SinksMatch (graph_of b) w wires (composed (graph_of b) w) (has_ended_at sinks)
   pub ending : IsPolytree (wiring (blueprint_wires b)) → IsTrue at_rest → list_any (λ s. is_unended s.2) sinks ≡ false
   -- the units that suffice for what was sent suffice for all that may be sent
-  pub needed : (w : World) → IsWorldOf b.nodes.items drawn w → count_needed (graph_of b) wires ≤ need (graph_of b) (composed (graph_of b) w)
+  pub needed : (w : World) → IsWorldOf book b.nodes.items drawn w → count_needed (graph_of b) wires ≤ need (graph_of b) (composed (graph_of b) w)
 
 -- the count of failed writes of a sink's file rose exactly where a write failed
 abbrev pub WritesOf : EndState → ℕ → ℕ → Type 0
@@ -97,12 +98,12 @@ pub record SomeWriteRose (old new : FolderState) (b : Blueprint) : Type 0 where
 -- What is told of a run where the folder told its files before it, and how its counts rose. There is a list of moves for each
 -- stage whose kind chooses, in order of nodes, and no other; the trace's file, where one is wanted, holds the text of these moves, or
 -- a first part where a write to it failed.
-pub record Runs (old new : FolderState) (b : Blueprint) (trace : Option (List ℕ)) (budget : ℕ) (ran : RunResult) : Type 0 where
+pub record Runs (book : Book) (old new : FolderState) (b : Blueprint) (trace : Option (List ℕ)) (budget : ℕ) (ran : RunResult) : Type 0 where
   pub sinks_are : map (λ (s : Stand). s.0) ran.sinks.items ≡ sink_places 0 b.nodes.items
   pub picks_are : picked (map pick_of ran.picks.items) ≡ pick_places 0 b.nodes.items
   pub told : IsTrue new.tells → IsTrue old.tells
   pub traces : Traces old new b trace (map pick_of ran.picks.items) ran.trace_failed
-  pub leaves : IsTrue old.tells → LeavesFiles old new b trace ran.sinks.items (map pick_of ran.picks.items) ran.wires.items ran.at_rest
+  pub leaves : IsTrue old.tells → LeavesFiles book old new b trace ran.sinks.items (map pick_of ran.picks.items) ran.wires.items ran.at_rest
   pub refusals : Quiet old.refusals new.refusals
   pub reads : (n : List ℕ) → ¬ (Contains (inputs_of_nodes b.nodes.items) n) → Grew (old.rfaults n) 0 (new.rfaults n)
   pub writes : (i : ℕ) (s : Stand) (n : Node) (file : List ℕ) → slice_get ran.sinks.items i ≡ Some s → slice_get b.nodes.items s.0 ≡ Some n → output_of n.kind ≡ Some file → WritesOf s.2 (old.wfaults file) (new.wfaults file)
@@ -113,7 +114,7 @@ pub record Runs (old new : FolderState) (b : Blueprint) (trace : Option (List �
   pub within : ran.used ≤ budget
   pub spent : ran.at_rest ≡ false → ran.used ≡ budget
   pub pays : Pays b ran.wires.items ran.used
-  pub carries : Carries b ran.wires.items (map pick_of ran.picks.items)
+  pub carries : Carries book b ran.wires.items (map pick_of ran.picks.items)
   pub wired : 1 ≤ length ran.sinks.items → 1 ≤ length (blueprint_wires b)
 
 -- A source of a run in which memory was wanting: its file was there with these bytes, so many of them were read, and at most one
@@ -127,35 +128,35 @@ pub record WasReadOn (old new : FolderState) (file bytes : List ℕ) (given : �
 -- What is told of the sink with a file that is node k, in a run in which memory was wanting: it stood so, and wrote what the composed
 -- outlook of the sink lets it write, by every world that has the input files as they were read and what the stages chose; so that is a first part of the text
 -- of all that may pass. Where the folder still tells its files, the sink's file holds just that.
-pub record SinkBreaks (old new : FolderState) (b : Blueprint) (d : Drawn) (k : ℕ) (n : Node) (file : List ℕ) : Type 0 where
+pub record SinkBreaks (book : Book) (old new : FolderState) (b : Blueprint) (d : Drawn) (k : ℕ) (n : Node) (file : List ℕ) : Type 0 where
   pub held : List ℕ
   pub end : EndState
   pub there : IsTrue new.tells → new.file file ≡ Some held
-  pub tells : (w : World) → IsWorldOf b.nodes.items d w → SinkTells (sink_outlook (graph_of b) w k (node_of n)) end held
-  pub part : (w : World) → IsWorldOf b.nodes.items d w → IsPrefix held (text_lines (sink_outlook (graph_of b) w k (node_of n)).list)
+  pub tells : (w : World) → IsWorldOf book b.nodes.items d w → SinkTells (sink_outlook (graph_of b) w k (node_of n)) end held
+  pub part : (w : World) → IsWorldOf book b.nodes.items d w → IsPrefix held (text_lines (sink_outlook (graph_of b) w k (node_of n)).list)
   pub writes : WritesOf end (old.wfaults file) (new.wfaults file)
 
 -- The inputs were read, and each sink wrote a first part of what it may write; the trace's file is empty, and no other file is
 -- changed. What the stages chose is not answered; there is a list of moves for each stage whose kind chooses, and no other.
-pub record BreaksFiles (old new : FolderState) (b : Blueprint) (trace : Option (List ℕ)) : Type 0 where
+pub record BreaksFiles (book : Book) (old new : FolderState) (b : Blueprint) (trace : Option (List ℕ)) : Type 0 where
   pub drawn : Drawn
   pub chose : picked drawn.picks ≡ pick_places 0 b.nodes.items
   pub read : (k : ℕ) (file : List ℕ) → IsSource b.nodes.items k file → WasReadOn old new file (drawn.bytes k) (drawn.given k) (drawn.faulted k)
   pub world : World
-  pub has_files : IsWorldOf b.nodes.items drawn world
-  pub sink : (k : ℕ) (n : Node) (file : List ℕ) → slice_get b.nodes.items k ≡ Some n → output_of n.kind ≡ Some file → SinkBreaks old new b drawn k n file
+  pub has_files : IsWorldOf book b.nodes.items drawn world
+  pub sink : (k : ℕ) (n : Node) (file : List ℕ) → slice_get b.nodes.items k ≡ Some n → output_of n.kind ≡ Some file → SinkBreaks book old new b drawn k n file
   pub others : IsTrue new.tells → (n : List ℕ) → ¬ (Contains (outputs_of_nodes b.nodes.items) n) → trace ≢ Some n → new.file n ≡ old.file n
   pub empty : IsTrue new.tells → (t : List ℕ) → trace ≡ Some t → new.file t ≡ Some []
 
 -- memory was wanting in the run: what is told of it where the folder told its files before it, and which counts may have risen
-pub record WantsWithin (old new : FolderState) (b : Blueprint) (trace : Option (List ℕ)) : Type 0 where
+pub record WantsWithin (book : Book) (old new : FolderState) (b : Blueprint) (trace : Option (List ℕ)) : Type 0 where
   pub told : IsTrue new.tells → IsTrue old.tells
-  pub leaves : IsTrue old.tells → BreaksFiles old new b trace
+  pub leaves : IsTrue old.tells → BreaksFiles book old new b trace
   pub refusals : Quiet old.refusals new.refusals
   pub reads : (n : List ℕ) → ¬ (Contains (inputs_of_nodes b.nodes.items) n) → Grew (old.rfaults n) 0 (new.rfaults n)
   pub other_writes : (n : List ℕ) → ¬ (Contains (outputs_of_nodes b.nodes.items) n) → Grew (old.wfaults n) 0 (new.wfaults n)
   pub other_draws : (n : List ℕ) → ¬ (Contains (inputs_of_nodes b.nodes.items) n) → Grew (old.read n) 0 (new.read n)
 
 -- memory was wanting before the run, and then the first of the files that it opens to write them are empty, and no other file is changed and no count rose; or in it
-abbrev pub Wants : FolderState → FolderState → Blueprint → Option (List ℕ) → Type 0
-Wants old new b trace = GivesUp old new (written_files b trace) ⊎ WantsWithin old new b trace
+abbrev pub Wants : Book → FolderState → FolderState → Blueprint → Option (List ℕ) → Type 0
+Wants book old new b trace = GivesUp old new (written_files b trace) ⊎ WantsWithin book old new b trace

@@ -14,6 +14,8 @@ ghost use Rattle.island_runs.specs.Receipt.{IsReceipt};
 ghost use Rattle.blueprint_run.specs.Opening.{Opens, OpensAs, WritesAs, ClosesAs};
 ghost use Rattle.blueprint_run.specs.Running.{Runs, Wants, WantsWithin};
 ghost use Rattle.blueprint_run.specs.Tracing.{written_files, IsApart};
+ghost use Rattle.std.specs.List.{All};
+ghost use Rattle.plug_board.specs.Handed.{GivesAsListed, HasPlugs};
 
 use blue_core::blueprint::Blueprint;
 use dispatcher::ran::Ran;
@@ -27,6 +29,9 @@ use materializer::names::{input_names, output_names, pick_names};
 use picture_laws::laws::{
     a_picture_without_events_rests, every_move_fits, every_picture_is_lawful,
 };
+use plug_logic::book::PlugBook;
+use plug_logic::logic::Logic;
+use plug_logic::plug::Plug;
 use run_files::close::close_all;
 use run_files::open::{OpenEnd, Opened, open_all};
 use run_laws::laws::{
@@ -135,7 +140,7 @@ fn close_trace<F: Folder>(folder: &mut F, drain: Option<F::Out>)
 }
 
 /// Writes the trace of a run, and closes what it had opened.
-fn close<F: Folder>(
+fn close<F: Folder, L: Logic, B: PlugBook>(
     folder: &mut F,
     stopped: Stopped<F::Inp, F::Out>,
     drain: Option<F::Out>,
@@ -145,27 +150,27 @@ fn close<F: Folder>(
     requires { room.items ≡ [] }
     ensures runs { (old : FolderState) (b : plan.Blueprint) (trace : Option (List ℕ)) (budget : ℕ) (ss : List F.Inp) (ds : List F.Out) → CanRun b → IsApart b trace → choosers.now ≡ pick_names b.nodes.items
         → Opens old (F.state folder.old) (inputs_of_nodes b.nodes.items) (outputs_of_nodes b.nodes.items) (option_to_list trace) (map F.Inp.state ss) (map F.Out.state ds) → OpensAs (F.state folder.old) trace (option_map F.Out.state drain)
-        → Leaves F.Inp.state F.Out.state b ss ds budget stopped → Runs old (F.state folder.new) b trace budget result }
+        → Leaves L B F.Inp.state F.Out.state B.lists b ss ds budget stopped → Runs B.lists old (F.state folder.new) b trace budget result }
     ensures handles { F.handles folder.new ≡ F.handles folder.old - (length stopped.end.readers.items + length stopped.end.writers.items + length (option_to_list drain)) }
     ensures all { (old : FolderState) (b : plan.Blueprint) (trace : Option (List ℕ)) (budget : ℕ) (ss : List F.Inp) (ds : List F.Out) → CanRun b → IsApart b trace
         → Opens old (F.state folder.old) (inputs_of_nodes b.nodes.items) (outputs_of_nodes b.nodes.items) (option_to_list trace) (map F.Inp.state ss) (map F.Out.state ds) → OpensAs (F.state folder.old) trace (option_map F.Out.state drain)
-        → Leaves F.Inp.state F.Out.state b ss ds budget stopped → HasAsMany ss ds stopped.end }
+        → Leaves L B F.Inp.state F.Out.state B.lists b ss ds budget stopped → HasAsMany ss ds stopped.end }
     ensures same { (result.used ≡ stopped.used) × (result.at_rest ≡ stopped.at_rest) × (result.ran ≡ stopped.ran) }
 {
-    every_wire_agrees::<F::Inp, F::Out>();
-    every_sink_agrees::<F::Inp, F::Out>();
-    every_sink_counts_its_lines::<F::Inp, F::Out>();
-    every_sink_writes::<F::Inp, F::Out>();
-    every_source_reads_little_ahead::<F::Inp, F::Out>();
-    every_picture_is_lawful::<F::Inp, F::Out>();
-    a_picture_without_events_rests::<F::Inp, F::Out>();
-    every_move_fits::<F::Inp, F::Out>();
+    every_wire_agrees::<F::Inp, F::Out, L, B>();
+    every_sink_agrees::<F::Inp, F::Out, L, B>();
+    every_sink_counts_its_lines::<F::Inp, F::Out, L, B>();
+    every_sink_writes::<F::Inp, F::Out, L, B>();
+    every_source_reads_little_ahead::<F::Inp, F::Out, L, B>();
+    every_picture_is_lawful::<F::Inp, F::Out, L, B>();
+    a_picture_without_events_rests::<F::Inp, F::Out, L, B>();
+    every_move_fits::<F::Inp, F::Out, L, B>();
     polytrees_end();
     fit_blueprints_are_whole();
     fit_blueprints_pass_the_rules();
-    every_wire_carries_its_type::<F::Inp, F::Out>();
-    every_node_gives_of_what_came::<F::Inp, F::Out>();
-    parts_hold_their_files::<F::Inp, F::Out>();
+    every_wire_carries_its_type::<F::Inp, F::Out, L, B>();
+    every_node_gives_of_what_came::<F::Inp, F::Out, L, B>();
+    parts_hold_their_files::<F::Inp, F::Out, L, B>();
     let Stopped {
         end,
         wires,
@@ -197,20 +202,24 @@ fn close_broken<F: Folder>(folder: &mut F, end: IslandEnd<F::Inp, F::Out>)
 }
 
 /// Closes what a run had opened in which memory was wanting. Its trace is not written.
-fn give_up<F: Folder>(folder: &mut F, end: IslandEnd<F::Inp, F::Out>, drain: Option<F::Out>)
+fn give_up<F: Folder, L: Logic, B: PlugBook>(
+    folder: &mut F,
+    end: IslandEnd<F::Inp, F::Out>,
+    drain: Option<F::Out>,
+)
     ensures wants { (old : FolderState) (b : plan.Blueprint) (trace : Option (List ℕ)) (ss : List F.Inp) (ds : List F.Out) → CanRun b → IsApart b trace
         → Opens old (F.state folder.old) (inputs_of_nodes b.nodes.items) (outputs_of_nodes b.nodes.items) (option_to_list trace) (map F.Inp.state ss) (map F.Out.state ds) → OpensAs (F.state folder.old) trace (option_map F.Out.state drain)
-        → LeavesBroken F.Inp.state F.Out.state b ss ds end → WantsWithin old (F.state folder.new) b trace }
+        → LeavesBroken L B F.Inp.state F.Out.state B.lists b ss ds end → WantsWithin B.lists old (F.state folder.new) b trace }
     ensures handles { F.handles folder.new ≡ F.handles folder.old - (length end.readers.items + length end.writers.items + length (option_to_list drain)) }
     ensures all { (old : FolderState) (b : plan.Blueprint) (trace : Option (List ℕ)) (ss : List F.Inp) (ds : List F.Out) → CanRun b → IsApart b trace
         → Opens old (F.state folder.old) (inputs_of_nodes b.nodes.items) (outputs_of_nodes b.nodes.items) (option_to_list trace) (map F.Inp.state ss) (map F.Out.state ds) → OpensAs (F.state folder.old) trace (option_map F.Out.state drain)
-        → LeavesBroken F.Inp.state F.Out.state b ss ds end → HasAsMany ss ds end }
+        → LeavesBroken L B F.Inp.state F.Out.state B.lists b ss ds end → HasAsMany ss ds end }
 {
-    every_sink_agrees::<F::Inp, F::Out>();
-    every_sink_writes::<F::Inp, F::Out>();
-    every_source_reads_little_ahead::<F::Inp, F::Out>();
+    every_sink_agrees::<F::Inp, F::Out, L, B>();
+    every_sink_writes::<F::Inp, F::Out, L, B>();
+    every_source_reads_little_ahead::<F::Inp, F::Out, L, B>();
     fit_blueprints_are_whole();
-    parts_hold_their_files::<F::Inp, F::Out>();
+    parts_hold_their_files::<F::Inp, F::Out, L, B>();
     close_broken(folder, end);
     close_trace(folder, drain);
 }
@@ -228,7 +237,7 @@ fn close_unmade<F: Folder>(folder: &mut F, end: IslandEnd<F::Inp, F::Out>, drain
 /// wanted; lets so many workers, 1 to 64, run its islands by at most `budget` units; writes the trace, which takes no memory, and closes the files, also where
 /// memory is wanting. The trace is then left empty. But for what its nodes want as they start and run all memory is taken before
 /// the first opening. It leaves as many open handles as there were. Rule: own.
-pub fn run<R: Threads + Wait + Sync, F: Folder>(
+pub fn run<R: Threads + Wait + Sync, F: Folder, L: Logic + Send, B: PlugBook + Send>(
     rt: &R,
     alloc: Global,
     folder: &mut F,
@@ -236,16 +245,19 @@ pub fn run<R: Threads + Wait + Sync, F: Folder>(
     trace: Option<Line>,
     workers: u32,
     budget: u32,
+    plugs: Vec<Plug<L>>,
 ) -> Result<RunResult, OpenEnd>
     requires runs { CanRun b }
+    requires has { HasPlugs (map (λ p. p.head) plugs.items) b.nodes.items }
+    requires listed { All (GivesAsListed L.gives B.lists) plugs.items }
     requires apart { IsApart b trace }
     requires workers { (0 < workers) × (workers ≤ 64) }
     requires budget { budget ≤ 4000000000 }
-    ensures ran { IfOk result (λ ran. Runs (F.state folder.old) (F.state folder.new) b trace budget ran) }
+    ensures ran { IfOk result (λ ran. Runs B.lists (F.state folder.old) (F.state folder.new) b trace budget ran) }
     ensures receipt { IfOk result (λ ran. IsReceipt b workers ran.used ran.at_rest ran.ran) }
     ensures no_input { (n : List ℕ) → result ≡ Err (OpenEnd.MissingInput n) → MissesInput (F.state folder.old) (F.state folder.new) (inputs_of_nodes b.nodes.items) n }
     ensures no_output { (n : List ℕ) → result ≡ Err (OpenEnd.MissingOutput n) → RefusesOutput (F.state folder.old) (F.state folder.new) (inputs_of_nodes b.nodes.items) (written_files b trace) n }
-    ensures no_memory { result ≡ Err OpenEnd.NoMemory → Wants (F.state folder.old) (F.state folder.new) b trace }
+    ensures no_memory { result ≡ Err OpenEnd.NoMemory → Wants B.lists (F.state folder.old) (F.state folder.new) b trace }
     ensures handles { F.handles folder.new ≡ F.handles folder.old }
 {
     let wanted = trace.is_some();
@@ -258,7 +270,7 @@ pub fn run<R: Threads + Wait + Sync, F: Folder>(
         choosers,
         room,
     } = named;
-    let Ok(prepared) = prepare(alloc, b) else {
+    let Ok(prepared) = prepare::<F::Inp, F::Out, L, B>(alloc, b, plugs) else {
         return Err(OpenEnd::NoMemory);
     };
     let Opened {
@@ -270,13 +282,13 @@ pub fn run<R: Threads + Wait + Sync, F: Folder>(
     };
     let drain = take_last(&mut outputs, wanted);
     match island_runs::run::run(rt, alloc, prepared, inputs, outputs, workers, budget) {
-        Ok(stopped) => Ok(close(folder, stopped, drain, &choosers, room)),
+        Ok(stopped) => Ok(close::<F, L, B>(folder, stopped, drain, &choosers, room)),
         Err(Broken::Unmade(end)) => {
             close_unmade(folder, end, drain);
             Err(OpenEnd::NoMemory)
         }
         Err(Broken::Within(end)) => {
-            give_up(folder, end, drain);
+            give_up::<F, L, B>(folder, end, drain);
             Err(OpenEnd::NoMemory)
         }
     }

@@ -17,6 +17,7 @@ use Rattle.island_plans.specs.Homes.{AreNumberedHomes}
 use Rattle.island_runs.specs.Begun.{HaveBegun, HaveRun, HaveBroken}
 use Rattle.island_runs.specs.Receipt.{IsReceipt}
 use Rattle.island_runs.specs.declared.run.Remains.{Remains}
+use Rattle.stream_model.specs.Linear.{Book}
 
 -- a list that was lent whole comes back as it is now
 pub came_back : {X : Type 0} (n : ℕ) (new old : List X) → length new ≡ n → length old ≡ n → take n (new ++ drop (length new) old) ≡ new
@@ -40,13 +41,13 @@ twice_not : (more : Bool) → more ≡ not (not more)
 twice_not true = refl
 twice_not false = refl
 
-module _ {S D : Type 0} (sources : S → SourceState) (drains : D → DrainState) (b : Blueprint) (ss : List S) (ds : List D) (begun now : List (Body S D)) (lanes crossings lent : List Crossing) (r : Remains S D)
-    (h : HaveBegun sources drains b ss ds begun crossings r) (ran_on : lanes ≡ crossings) (same : lent ≡ crossings) (joined : AllJoined BodiesJoined now lanes) where
+module _ {S D L B : Type 0} (sources : S → SourceState) (drains : D → DrainState) (book : Book) (b : Blueprint) (ss : List S) (ds : List D) (begun now : List (Body S D L B)) (lanes crossings lent : List Crossing) (r : Remains S D)
+    (h : HaveBegun sources drains book b ss ds begun crossings r) (ran_on : lanes ≡ crossings) (same : lent ≡ crossings) (joined : AllJoined BodiesJoined now lanes) where
   -- they ran over the crossings that were lent
-  pub have_run : (budget used : ℕ) (more : Bool) → AllOf (BodyKeeps sources drains) now → EachOf BodyGoes begun now → used ≡ sum_by (λ (x : Body S D). x.spent) now → used ≤ budget
-      → (more ≡ false → AtRest is_pending BodiesJoined now lanes) → (more ≡ true → used ≡ budget) → HaveRun sources drains b ss ds begun now lent r budget used (not more)
+  pub have_run : (budget used : ℕ) (more : Bool) → AllOf (BodyKeeps sources drains book) now → EachOf BodyGoes begun now → used ≡ sum_by (λ (x : Body S D L B). x.spent) now → used ≤ budget
+      → (more ≡ false → AtRest is_pending BodiesJoined now lanes) → (more ≡ true → used ≡ budget) → HaveRun sources drains book b ss ds begun now lent r budget used (not more)
   have_run budget used more keep went spent within rest all =
-      subst (λ (cs : List Crossing). HaveRun sources drains b ss ds begun now cs r budget used (not more)) (sym same)
+      subst (λ (cs : List Crossing). HaveRun sources drains book b ss ds begun now cs r budget used (not more)) (sym same)
       (record {
         began = h;
         keep = keep;
@@ -59,9 +60,9 @@ module _ {S D : Type 0} (sources : S → SourceState) (drains : D → DrainState
       })
 
   -- or memory was wanting
-  pub have_broken : WholeOrBroken (BodyKeeps sources drains) BodyGoes (BodyBreaks sources drains) begun now → HaveBroken sources drains b ss ds begun now lent r
+  pub have_broken : WholeOrBroken (BodyKeeps sources drains book) BodyGoes (BodyBreaks sources drains book) begun now → HaveBroken sources drains book b ss ds begun now lent r
   have_broken broke =
-      subst (λ (cs : List Crossing). HaveBroken sources drains b ss ds begun now cs r) (sym same)
+      subst (λ (cs : List Crossing). HaveBroken sources drains book b ss ds begun now cs r) (sym same)
       (record { began = h; joined = subst (λ (cs : List Crossing). AllJoined BodiesJoined now cs) ran_on joined; broke = broke })
 
 -- the receipt of a run that was taken apart

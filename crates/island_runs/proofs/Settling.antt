@@ -36,6 +36,7 @@ use Rattle.materializer.specs.Seats.{place_seat}
 use Rattle.switch_laws.specs.Settling.{kinds_of, AllSettled}
 use Rattle.switch_board.specs.Board.{switch_of, switch_at, IsSeatAt, AreAtSwitches, numbered_from, seat_in}
 use Rattle.switch_board.specs.declared.board.Board.{Board}
+use Rattle.stream_model.specs.Linear.{Book}
 
 -- ---- a node keeps the switch at which it has its seat
 
@@ -62,21 +63,21 @@ state_stays k shape d (state.Obeying f) (state.Obeying x) v took gave b law = la
 state_stays k shape d (state.Tripping f) (state.Tripping x) v took gave b law = law.trip.one ∙ law.switch ∙ sym (trip_unused k shape d f b)
 state_stays k shape d first now v took gave b law = absurd law
 
-node_stays : {S D : Type 0} (sources : S → SourceState) (drains : D → DrainState) (k : ℕ) (n : graph.Node) (first now : Node S D) (v : View) (took gave : List (List Item)) → FirstOf sources k n first → node_law sources drains first now v took gave → SeatStays (node_seat first) (node_seat now)
-node_stays sources drains k n (node.Reading f) (node.Reading x) v took gave made law = tt
-node_stays sources drains k n (node.Making f) (node.Making x) v took gave made law = tt
-node_stays sources drains k n (node.Linear f) (node.Linear x) v took gave made law = tt
-node_stays sources drains k n (node.State f) (node.State x) v took gave made law = state_stays k n.kind n.decider f x v took gave made.begins.as_kind law
-node_stays sources drains k n (node.FanIn f) (node.FanIn x) v took gave made law = tt
-node_stays sources drains k n (node.FanOut f) (node.FanOut x) v took gave made law = tt
-node_stays sources drains k n (node.Writing f) (node.Writing x) v took gave made law = tt
-node_stays sources drains k n (node.Ignoring f) (node.Ignoring x) v took gave made law = tt
-node_stays sources drains k n (node.Entering f) x v took gave made law = absurd made
-node_stays sources drains k n (node.Leaving f) x v took gave made law = absurd made
-node_stays sources drains k n first now v took gave made law = absurd law
+node_stays : {S D L B : Type 0} (sources : S → SourceState) (drains : D → DrainState) (book : Book) (k : ℕ) (n : graph.Node) (first now : Node S D L B) (v : View) (took gave : List (List Item)) → FirstOf sources k n first → node_law sources drains book first now v took gave → SeatStays (node_seat first) (node_seat now)
+node_stays sources drains book k n (node.Reading f) (node.Reading x) v took gave made law = tt
+node_stays sources drains book k n (node.Making f) (node.Making x) v took gave made law = tt
+node_stays sources drains book k n (node.Linear f) (node.Linear x) v took gave made law = tt
+node_stays sources drains book k n (node.State f) (node.State x) v took gave made law = state_stays k n.kind n.decider f x v took gave made.begins.as_kind law
+node_stays sources drains book k n (node.FanIn f) (node.FanIn x) v took gave made law = tt
+node_stays sources drains book k n (node.FanOut f) (node.FanOut x) v took gave made law = tt
+node_stays sources drains book k n (node.Writing f) (node.Writing x) v took gave made law = tt
+node_stays sources drains book k n (node.Ignoring f) (node.Ignoring x) v took gave made law = tt
+node_stays sources drains book k n (node.Entering f) x v took gave made law = absurd made
+node_stays sources drains book k n (node.Leaving f) x v took gave made law = absurd made
+node_stays sources drains book k n first now v took gave made law = absurd law
 
 -- the node that stands at a place has the seat that was handed in for it
-work_seat : {S D : Type 0} (k : ℕ) (w : Work S D) (x : Node S D) → BecomesOf k w x → place_seat (record { node = k; work = w }) ≡ node_seat x
+work_seat : {S D L B : Type 0} (k : ℕ) (w : Work S D L B) (x : Node S D L B) → BecomesOf k w x → place_seat (record { node = k; work = w }) ≡ node_seat x
 work_seat k (work.Reading r) x is = sym (ap node_seat is)
 work_seat k (work.Making shape) x is = sym (ap node_seat is)
 work_seat k (work.Linear l) x is = sym (ap node_seat is)
@@ -88,7 +89,7 @@ work_seat k (work.Writing shape None) x is = sym (ap node_seat is)
 work_seat k (work.LaneIn u) x is = sym (ap node_seat is)
 work_seat k (work.LaneOut u) x is = sym (ap node_seat is)
 
-places_seats : {S D : Type 0} (places : List (Seated S D)) (firsts : List (Node S D)) → AllBecome places firsts → map place_seat places ≡ map node_seat firsts
+places_seats : {S D L B : Type 0} (places : List (Seated S D L B)) (firsts : List (Node S D L B)) → AllBecome places firsts → map place_seat places ≡ map node_seat firsts
 places_seats [] [] all = refl
 places_seats [] (x ∷ xs) all = absurd all
 places_seats (p ∷ ps) [] all = absurd all
@@ -123,8 +124,8 @@ beside (x ∷ xs) [] k z e at = absurd (omega (arith, e))
 beside (x ∷ xs) (y ∷ ys) zero z e at = (y, refl)
 beside (x ∷ xs) (y ∷ ys) (suc k) z e at = beside xs ys k z (omega (arith, e)) at
 
-module _ {S D : Type 0} (sources : S → SourceState) (drains : D → DrainState) (b : Blueprint) (board : Board) (places : List (Seated S D)) (firsts last : List (Node S D)) (a : Account (Node S D))
-    (become : AllBecome places firsts) (first_at : (k : ℕ) → a.firsts k ≡ slice_get firsts k) (node_at : (k : ℕ) → a.nodes k ≡ slice_get last k) (as_many : length last ≡ length firsts) (run : IsRun sources drains (graph_of b) a)
+module _ {S D L B : Type 0} (sources : S → SourceState) (drains : D → DrainState) (book : Book) (b : Blueprint) (board : Board) (places : List (Seated S D L B)) (firsts last : List (Node S D L B)) (a : Account (Node S D L B))
+    (become : AllBecome places firsts) (first_at : (k : ℕ) → a.firsts k ≡ slice_get firsts k) (node_at : (k : ℕ) → a.nodes k ≡ slice_get last k) (as_many : length last ≡ length firsts) (run : IsRun sources drains book (graph_of b) a)
     (at : AreAtSwitches (map (λ (n : blue.Node). n.kind) b.nodes.items) board (map place_seat places)) where
   kept_at : (k : ℕ) (shape : Kind) (s : Option SeatState) → slice_get (map (λ (n : blue.Node). n.kind) b.nodes.items) k ≡ Some shape → slice_get (map node_seat last) k ≡ Some s → IsSeatAt (switch_of shape) (switch_at board k) s
   kept_at k shape s kind_here seat_here =
@@ -133,11 +134,11 @@ module _ {S D : Type 0} (sources : S → SourceState) (drains : D → DrainState
       let f = beside last firsts k x.0 (sym as_many) x.1.0 in
       let there : slice_get (graph_of b).nodes k ≡ Some (node_of n.0) = mapped_there node_of b.nodes.items k n.0 n.1.0 in
       let keeps = run.keeps.each_node k (node_of n.0) there in
-      let stays = node_stays sources drains k (node_of n.0) keeps.first keeps.now _ _ _ (run.made k (node_of n.0) keeps.first there keeps.first_at) keeps.law_holds in
+      let stays = node_stays sources drains book k (node_of n.0) keeps.first keeps.now _ _ _ (run.made k (node_of n.0) keeps.first there keeps.first_at) keeps.law_holds in
       let first_is : keeps.first ≡ f.0 = let e : Some keeps.first ≡ Some f.0 = sym keeps.first_at ∙ first_at k ∙ f.1 in cc in
       let now_is : keeps.now ≡ x.0 = let e : Some keeps.now ≡ Some x.0 = sym keeps.now_at ∙ node_at k ∙ x.1.0 in cc in
       let began : IsSeatAt (switch_of shape) (switch_at board k) (node_seat keeps.first) =
-      at.each k shape (node_seat keeps.first) kind_here (ap (λ (xs : List (Option SeatState)). slice_get xs k) (places_seats places firsts become) ∙ mapped_there node_seat firsts k f.0 f.1 ∙ ap (λ (z : Node S D). Some (node_seat z)) (sym first_is)) in
+      at.each k shape (node_seat keeps.first) kind_here (ap (λ (xs : List (Option SeatState)). slice_get xs k) (places_seats places firsts become) ∙ mapped_there node_seat firsts k f.0 f.1 ∙ ap (λ (z : Node S D L B). Some (node_seat z)) (sym first_is)) in
       subst (IsSeatAt (switch_of shape) (switch_at board k)) (ap node_seat now_is ∙ x.1.1) (at_switch (switch_of shape) (switch_at board k) (node_seat keeps.first) (node_seat keeps.now) stays began)
 
   pub kept_seats : AreAtSwitches (map (λ (n : blue.Node). n.kind) b.nodes.items) board (map node_seat last)
@@ -152,11 +153,11 @@ with_seat_in : (k : ℕ) (o : Option SeatState) (os : List (Option SeatState)) (
 with_seat_in k None os rest e = e
 with_seat_in k (Some s) os rest e = ap (λ (xs : List (ℕ × SeatState)). (k, s) ∷ xs) e
 
-pub seats_numbered : {S D : Type 0} (k : ℕ) (xs : List (Node S D)) → seats_of (count_from k (length xs)) xs ≡ numbered_from k (map node_seat xs)
+pub seats_numbered : {S D L B : Type 0} (k : ℕ) (xs : List (Node S D L B)) → seats_of (count_from k (length xs)) xs ≡ numbered_from k (map node_seat xs)
 seats_numbered k [] = refl
 seats_numbered k (x ∷ xs) = with_seat_in k (node_seat x) (map node_seat xs) (seats_of (count_from (k + 1) (length xs)) xs) (seats_numbered (k + 1) xs)
 
-seat_there : {S D : Type 0} (xs : List (Node S D)) (k : ℕ) → seat_in (map node_seat xs) k ≡ seat_at (slice_get xs k)
+seat_there : {S D L B : Type 0} (xs : List (Node S D L B)) (k : ℕ) → seat_in (map node_seat xs) k ≡ seat_at (slice_get xs k)
 seat_there [] k = refl
 seat_there (x ∷ xs) zero = refl
 seat_there (x ∷ xs) (suc k) = seat_there xs k
@@ -186,6 +187,6 @@ kinds_same : (ns : List blue.Node) → map (λ (n : blue.Node). n.kind) ns ≡ m
 kinds_same [] = refl
 kinds_same (n ∷ ns) = ap (λ (ks : List Kind). n.kind ∷ ks) (kinds_same ns)
 
-pub settled_run : {S D : Type 0} (b : Blueprint) (last : List (Node S D)) (a : Account (Node S D)) → ((k : ℕ) → a.nodes k ≡ slice_get last k) → AllSettled (map (λ (n : blue.Node). n.kind) b.nodes.items) (seat_in (map node_seat last)) → AreSettled (graph_of b) a
+pub settled_run : {S D L B : Type 0} (b : Blueprint) (last : List (Node S D L B)) (a : Account (Node S D L B)) → ((k : ℕ) → a.nodes k ≡ slice_get last k) → AllSettled (map (λ (n : blue.Node). n.kind) b.nodes.items) (seat_in (map node_seat last)) → AreSettled (graph_of b) a
 settled_run b last a node_at all =
     same_settled (map (λ (n : blue.Node). n.kind) b.nodes.items) (kinds_of (graph_of b)) (seat_in (map node_seat last)) (λ (k : ℕ). seat_at (a.nodes k)) (kinds_same b.nodes.items) (λ (k : ℕ). seat_there last k ∙ ap seat_at (sym (node_at k))) all

@@ -32,26 +32,27 @@ use Rattle.switch_board.specs.declared.board.Board.{Board}
 use Rattle.island_runs.specs.Leaving.{Moment, Leaves, LeavesBroken}
 use Rattle.island_runs.specs.declared.run.Stopped.{Stopped}
 use Rattle.island_runs.proofs.Settling.{kept_seats, seats_numbered, settled_run}
+use Rattle.stream_model.specs.Linear.{Book}
 
 -- a condition that holds is true
 is_so : (t : Bool) → IsTrue t → t ≡ true
 is_so t h = cc
 
 -- the seats that nodes leave, by their numbers
-pub left_seats : {S D : Type 0} (ws : List Wire) (near : ℕ → Cell) (last : List (Node S D)) (e : IslandEnd S D) → IsLeftBy ws near last e → e.seats.items ≡ numbered_from 0 (map node_seat last)
+pub left_seats : {S D L B : Type 0} (ws : List Wire) (near : ℕ → Cell) (last : List (Node S D L B)) (e : IslandEnd S D) → IsLeftBy ws near last e → e.seats.items ≡ numbered_from 0 (map node_seat last)
 left_seats ws near last e l = l.seats ∙ seats_numbered 0 last
 
-module _ {S D : Type 0} (sources : S → SourceState) (drains : D → DrainState) (b : Blueprint) (ss : List S) (ds : List D) (nodes : List (Seated S D)) (seats : AreSeats 0 b.nodes.items ss ds nodes) (many : length nodes ≡ length (graph_of b).nodes)
-    (acc : Account (Node S D)) (last : List (Node S D)) (left : AreLeft nodes acc last) (run : IsRun sources drains (graph_of b) acc) where
+module _ {S D L B : Type 0} (sources : S → SourceState) (drains : D → DrainState) (book : Book) (b : Blueprint) (ss : List S) (ds : List D) (nodes : List (Seated S D L B)) (seats : AreSeats 0 b.nodes.items ss ds nodes) (many : length nodes ≡ length (graph_of b).nodes)
+    (acc : Account (Node S D L B)) (last : List (Node S D L B)) (left : AreLeft nodes acc last) (run : IsRun sources drains book (graph_of b) acc) where
   -- the account of the nodes alone
-  abbrev alone : Account (Node S D)
+  abbrev alone : Account (Node S D L B)
   alone = of_lists acc left.firsts last
 
   same : counts_of alone (graph_of b) ≡ counts_of acc (graph_of b)
   same = counts_alone acc left.firsts last 0 (graph_of b).wires
 
   -- it is one of the run at this moment
-  moment : Moment sources drains b ss ds alone last
+  moment : Moment sources drains book b ss ds alone last
   moment = record {
     places = nodes;
     seats = seats;
@@ -60,13 +61,13 @@ module _ {S D : Type 0} (sources : S → SourceState) (drains : D → DrainState
     first_at = λ k. refl;
     node_at = λ k. refl;
     as_many = left.as_many;
-    run = run_alone sources drains (graph_of b) acc nodes last left many run;
+    run = run_alone sources drains book (graph_of b) acc nodes last left many run;
   }
 
   -- bodies that were taken apart between two events, where the seats that their nodes left were settled
   pub leaves : (budget : ℕ) (s : Stopped S D) (e : IslandEnd S D) (near : ℕ → Cell) → (s.at_rest ≡ true → IsStill (graph_of b) acc) → IsLeftBy (blueprint_wires b) near last e → s.end ≡ record e { seats = s.end.seats }
       → AllSettled (map (λ (n : blue.Node). n.kind) b.nodes.items) (seat_in (map node_seat last)) → s.wires.items ≡ counts_of acc (graph_of b) → s.used ≤ budget → (s.at_rest ≡ false → s.used ≡ budget)
-      → all_sent (counts_of acc (graph_of b)) ≤ s.used → s.used + length (blueprint_wires b) ≤ count_needed (graph_of b) (counts_of acc (graph_of b)) → Leaves sources drains b ss ds budget s
+      → all_sent (counts_of acc (graph_of b)) ≤ s.used → s.used + length (blueprint_wires b) ≤ count_needed (graph_of b) (counts_of acc (graph_of b)) → Leaves L B sources drains book b ss ds budget s
   leaves budget s e near still l same_end settled wires within spent least most = record {
     account = alone;
     nodes = last;
@@ -86,10 +87,10 @@ module _ {S D : Type 0} (sources : S → SourceState) (drains : D → DrainState
 
   -- their nodes have their seats at the switches of the board at which they were handed in
   pub kept : (board : Board) → AreAtSwitches (map (λ (n : blue.Node). n.kind) b.nodes.items) board (map place_seat nodes) → AreAtSwitches (map (λ (n : blue.Node). n.kind) b.nodes.items) board (map node_seat last)
-  kept board at = kept_seats sources drains b board nodes left.firsts last alone left.become (λ (k : ℕ). refl) (λ (k : ℕ). refl) left.as_many moment.run at
+  kept board at = kept_seats sources drains book b board nodes left.firsts last alone left.become (λ (k : ℕ). refl) (λ (k : ℕ). refl) left.as_many moment.run at
 
   -- and such as those of which some broke off in a turn
-  pub broken : (e : IslandEnd S D) (later : List (Node S D)) → AllKept (KeepsNode sources drains) last later → e.readers.items ≡ readers_of later → e.writers.items ≡ writers_of later → LeavesBroken sources drains b ss ds e
+  pub broken : (e : IslandEnd S D) (later : List (Node S D L B)) → AllKept (KeepsNode sources drains) last later → e.readers.items ≡ readers_of later → e.writers.items ≡ writers_of later → LeavesBroken L B sources drains book b ss ds e
   broken e later kept readers writers = record {
     account = alone;
     last = last;

@@ -24,27 +24,28 @@ use Rattle.bodies_run.specs.Counts.{all_sent}
 use Rattle.island_runs.specs.declared.run.Stopped.{Stopped}
 use Rattle.island_runs.specs.declared.run.Broken.{Broken}
 use Rattle.island_runs.specs.declared.run.Broken.TheVariants.{Unmade, Within}
+use Rattle.stream_model.specs.Linear.{Book}
 
 -- A moment of the run of a blueprint between two events, by its account: in the order of the blueprint the nodes were handed in as
 -- what stands at these places, over these sources and these drains, and are these now.
-pub record Moment {S D : Type 0} (sources : S → SourceState) (drains : D → DrainState) (b : Blueprint) (ss : List S) (ds : List D) (account : Account (Node S D)) (nodes : List (Node S D)) : Type 0 where
-  pub places : List (Seated S D)
+pub record Moment {S D L B : Type 0} (sources : S → SourceState) (drains : D → DrainState) (book : Book) (b : Blueprint) (ss : List S) (ds : List D) (account : Account (Node S D L B)) (nodes : List (Node S D L B)) : Type 0 where
+  pub places : List (Seated S D L B)
   pub seats : AreSeats 0 b.nodes.items ss ds places
-  pub firsts : List (Node S D)
+  pub firsts : List (Node S D L B)
   pub become : AllBecome places firsts
   pub first_at : (k : ℕ) → account.firsts k ≡ slice_get firsts k
   pub node_at : (k : ℕ) → account.nodes k ≡ slice_get nodes k
   pub as_many : length nodes ≡ length firsts
-  pub run : IsRun sources drains (graph_of b) account
+  pub run : IsRun sources drains book (graph_of b) account
 
 -- The run was one of so many units at most, and was taken apart. No event is left where it says so, and else all units were used. The
 -- seats of its valves and trips were settled.
 -- At least so many were used as elements were pushed, and one less at least for each wire than its part of the count over what was
 -- sent.
-pub record Leaves {S D : Type 0} (sources : S → SourceState) (drains : D → DrainState) (b : Blueprint) (ss : List S) (ds : List D) (budget : ℕ) (s : Stopped S D) : Type 0 where
-  pub account : Account (Node S D)
-  pub nodes : List (Node S D)
-  pub moment : Moment sources drains b ss ds account nodes
+pub record Leaves {S D : Type 0} (L B : Type 0) (sources : S → SourceState) (drains : D → DrainState) (book : Book) (b : Blueprint) (ss : List S) (ds : List D) (budget : ℕ) (s : Stopped S D) : Type 0 where
+  pub account : Account (Node S D L B)
+  pub nodes : List (Node S D L B)
+  pub moment : Moment sources drains book b ss ds account nodes
   pub still : IsTrue s.at_rest → IsStill (graph_of b) account
   pub settled : AreSettled (graph_of b) account
   pub sinks : s.end.sinks.items ≡ sinks_of nodes
@@ -59,11 +60,11 @@ pub record Leaves {S D : Type 0} (sources : S → SourceState) (drains : D → D
 
 -- The run is one in which memory was wanting, and was taken apart. Since a last moment between two events each of its nodes has kept
 -- what outlives that.
-pub record LeavesBroken {S D : Type 0} (sources : S → SourceState) (drains : D → DrainState) (b : Blueprint) (ss : List S) (ds : List D) (e : IslandEnd S D) : Type 0 where
-  pub account : Account (Node S D)
-  pub last : List (Node S D)
-  pub moment : Moment sources drains b ss ds account last
-  pub nodes : List (Node S D)
+pub record LeavesBroken {S D : Type 0} (L B : Type 0) (sources : S → SourceState) (drains : D → DrainState) (book : Book) (b : Blueprint) (ss : List S) (ds : List D) (e : IslandEnd S D) : Type 0 where
+  pub account : Account (Node S D L B)
+  pub last : List (Node S D L B)
+  pub moment : Moment sources drains book b ss ds account last
+  pub nodes : List (Node S D L B)
   pub kept : AllKept (KeepsNode sources drains) last nodes
   pub readers : e.readers.items ≡ readers_of nodes
   pub writers : e.writers.items ≡ writers_of nodes
@@ -74,9 +75,9 @@ pub record HasHandles {S D : Type 0} (sources : S → SourceState) (drains : D �
   pub writers : map drains e.writers.items ≡ map drains ds
 
 -- memory was wanting as the run started, or in it
-abbrev pub LeavesBrokenAs : {S D : Type 0} → (S → SourceState) → (D → DrainState) → Blueprint → List S → List D → Broken S D → Type 0
-LeavesBrokenAs sources drains b ss ds (Unmade e) = HasHandles sources drains ss ds e
-LeavesBrokenAs sources drains b ss ds (Within e) = LeavesBroken sources drains b ss ds e
+abbrev pub LeavesBrokenAs : {S D : Type 0} → (L B : Type 0) → (S → SourceState) → (D → DrainState) → Book → Blueprint → List S → List D → Broken S D → Type 0
+LeavesBrokenAs L B sources drains book b ss ds (Unmade e) = HasHandles sources drains ss ds e
+LeavesBrokenAs L B sources drains book b ss ds (Within e) = LeavesBroken L B sources drains book b ss ds e
 
 -- as many handles are in it as these
 pub record HasAsMany {S D : Type 0} (ss : List S) (ds : List D) (e : IslandEnd S D) : Type 0 where

@@ -1,7 +1,9 @@
 // What the run of a blueprint's islands takes of memory before its files are opened.
-ghost use Rattle.std.specs.Prelude.{◌≡◌, IfOk};
+ghost use Rattle.std.specs.List.{All};
+ghost use Rattle.std.specs.Prelude.{◌≡◌, IfOk, map};
 ghost use Rattle.materializer.specs.Built.{CanRun};
 ghost use Rattle.island_runs.specs.Prepared.{IsPrepared};
+ghost use Rattle.plug_board.specs.Handed.{GivesAsListed, HasPlugs};
 
 use blue_core::blueprint::Blueprint;
 use elem_core::why::NoMemory;
@@ -11,6 +13,9 @@ use island_bodies::room::BodyRoom;
 use island_ends::room::EndRoom;
 use island_plans::plans::{Plans, plans_of};
 use lane_ends::ends::{AllEnds, ends_of};
+use plug_logic::book::PlugBook;
+use plug_logic::logic::Logic;
+use plug_logic::plug::Plug;
 use std::alloc::Global;
 use stream_io::outside::{Drain, Source};
 use stream_model::outcome::WireCount;
@@ -18,14 +23,14 @@ use stream_model::outcome::WireCount;
 /// The islands of a blueprint, before its files are opened, with all that their run takes of memory but what their nodes want as they
 /// start and run. Rule: own.
 #[derive(Drop)]
-pub struct Prepared<S: Source, D: Drain> {
-    pub(crate) plans: Plans<S, D>,
+pub struct Prepared<S: Source, D: Drain, L: Logic, B: PlugBook> {
+    pub(crate) plans: Plans<S, D, L, B>,
     pub(crate) ends: AllEnds,
     // Empty, with room for all islands.
-    pub(crate) started: Vec<Island<S, D>>,
+    pub(crate) started: Vec<Island<S, D, L, B>>,
     // Empty, with room for the ends of all, where one does not start.
     pub(crate) unmade: Vec<IslandEnd<S, D>>,
-    pub(crate) bodies: BodyRoom<S, D>,
+    pub(crate) bodies: BodyRoom<S, D, L, B>,
     pub(crate) room: EndRoom<S, D>,
     // Empty, with room for the asks of all lanes.
     pub(crate) asked: Vec<u64>,
@@ -33,15 +38,21 @@ pub struct Prepared<S: Source, D: Drain> {
     pub(crate) counts: Vec<WireCount>,
 }
 
-/// Takes all memory that the run of a blueprint's islands wants before its files are opened. A number that is out of 32 bits is want of
-/// memory. Rule: own.
-pub fn prepare<S: Source, D: Drain>(alloc: Global, b: Blueprint) -> Result<Prepared<S, D>, NoMemory>
-    requires { CanRun b }
+/// Takes all memory that the run of a blueprint's islands wants before its files are opened, and hands each node that names a plug its
+/// own of `plugs`. A number that is out of 32 bits is want of memory. Rule: own.
+pub fn prepare<S: Source, D: Drain, L: Logic, B: PlugBook>(
+    alloc: Global,
+    b: Blueprint,
+    plugs: Vec<Plug<L>>,
+) -> Result<Prepared<S, D, L, B>, NoMemory>
+    requires runs { CanRun b }
+    requires has { HasPlugs (map (λ p. p.head) plugs.items) b.nodes.items }
+    requires listed { All (GivesAsListed L.gives B.lists) plugs.items }
     ensures blueprint { IfOk result (λ p. p.plans.blueprint.value ≡ b) }
     ensures prepared { IfOk result IsPrepared }
 {
-    filled_islands_are_seated::<S, D>();
-    let plans = plans_of(alloc, b)?;
+    filled_islands_are_seated::<S, D, L, B>();
+    let plans = plans_of(alloc, b, plugs)?;
     let count = plans.count;
     let ends = ends_of(alloc, &plans.lanes, count)?;
     let bodies = BodyRoom::of(alloc, &plans.ends.wires, &plans.lanes, count)?;

@@ -28,6 +28,8 @@ use island_starts::start::start_all;
 use lane_counts::laws::{
     bodies_spent_what_was_sent, noted_counts_are_the_picture, told_asks_are_those_of_lanes,
 };
+use plug_logic::book::PlugBook;
+use plug_logic::logic::Logic;
 use rounds::crossing::Crossing;
 use std::alloc::Global;
 use std::sync::Wait;
@@ -76,30 +78,30 @@ struct Remains<S: Source, D: Drain> {
 
 /// The bodies of a blueprint that were made, and the crossings of its lanes.
 #[derive(Drop)]
-struct Begun<S: Source, D: Drain> {
-    bodies: Vec<Body<S, D>>,
+struct Begun<S: Source, D: Drain, L: Logic, B: PlugBook> {
+    bodies: Vec<Body<S, D, L, B>>,
     crossings: Vec<Crossing>,
     remains: Remains<S, D>,
 }
 
 /// Starts all islands, and makes their bodies.
-fn begin<S: Source, D: Drain>(
+fn begin<S: Source, D: Drain, L: Logic, B: PlugBook>(
     alloc: Global,
-    prepared: Prepared<S, D>,
+    prepared: Prepared<S, D, L, B>,
     sources: Vec<S>,
     drains: Vec<D>,
-) -> Result<Begun<S, D>, IslandEnd<S, D>>
+) -> Result<Begun<S, D, L, B>, IslandEnd<S, D>>
     requires prepared { IsPrepared prepared }
     requires sources { vec_len sources ≡ length (inputs_of_nodes prepared.plans.blueprint.value.nodes.items) }
     requires drains { vec_len drains ≡ length (outputs_of_nodes prepared.plans.blueprint.value.nodes.items) }
     requires unread { All (λ s. (S.state s).given ≡ 0) sources.items }
-    ensures begun { IfOk result (λ begun. HaveBegun S.state D.state prepared.plans.blueprint.value sources.items drains.items begun.bodies.items begun.crossings.items begun.remains) }
+    ensures begun { IfOk result (λ begun. HaveBegun S.state D.state B.lists prepared.plans.blueprint.value sources.items drains.items begun.bodies.items begun.crossings.items begun.remains) }
     ensures unmade { IfErr result (HasHandles S.state D.state sources.items drains.items) }
 {
-    filled_islands_are_seated::<S, D>();
-    started_islands_begin_bodies::<S, D>();
-    made_bodies_begin_their_blueprint::<S, D>();
-    unmade_islands_hand_back::<S, D>();
+    filled_islands_are_seated::<S, D, L, B>();
+    started_islands_begin_bodies::<S, D, L, B>();
+    made_bodies_begin_their_blueprint::<S, D, L, B>();
+    unmade_islands_hand_back::<S, D, L, B>();
     let Prepared {
         plans,
         ends: lane_ends,
@@ -152,26 +154,26 @@ fn counts_of(wires: &[(u32, WireCount)], counts: Vec<WireCount>) -> Vec<WireCoun
 }
 
 /// Takes bodies apart that ran, and settles the seats of their kill switches.
-fn stop<S: Source, D: Drain>(
+fn stop<S: Source, D: Drain, L: Logic, B: PlugBook>(
     alloc: Global,
-    bodies: Vec<Body<S, D>>,
+    bodies: Vec<Body<S, D, L, B>>,
     crossings: &[Crossing],
     remains: Remains<S, D>,
     used: u32,
     at_rest: bool,
     ran: Ran,
 ) -> Stopped<S, D>
-    requires { (b : plan.Blueprint) × ((ss : List S) × ((ds : List D) × ((begun : List (island.Body S D)) × ((budget : ℕ) × HaveRun S.state D.state b ss ds begun bodies.items crossings.now remains budget used at_rest)))) }
-    ensures leaves { (b : plan.Blueprint) (ss : List S) (ds : List D) (begun : List (island.Body S D)) (budget : ℕ) → HaveRun S.state D.state b ss ds begun bodies.items crossings.now remains budget used at_rest → Leaves S.state D.state b ss ds budget result }
+    requires { (b : plan.Blueprint) × ((ss : List S) × ((ds : List D) × ((begun : List (island.Body S D L B)) × ((budget : ℕ) × HaveRun S.state D.state B.lists b ss ds begun bodies.items crossings.now remains budget used at_rest)))) }
+    ensures leaves { (b : plan.Blueprint) (ss : List S) (ds : List D) (begun : List (island.Body S D L B)) (budget : ℕ) → HaveRun S.state D.state B.lists b ss ds begun bodies.items crossings.now remains budget used at_rest → Leaves L B S.state D.state B.lists b ss ds budget result }
     ensures same { (result.used ≡ used) × (result.at_rest ≡ at_rest) × (result.ran ≡ ran) }
 {
-    ends_stay_at_their_crossings::<S, D>();
-    bodies_leave_a_run::<S, D>();
-    nodes_alone_are_a_run::<S, D>();
-    bodies_leave_what_their_nodes_do::<S, D>();
-    told_asks_are_those_of_lanes::<S, D>();
-    noted_counts_are_the_picture::<S, D>();
-    bodies_spent_what_was_sent::<S, D>();
+    ends_stay_at_their_crossings::<S, D, L, B>();
+    bodies_leave_a_run::<S, D, L, B>();
+    nodes_alone_are_a_run::<S, D, L, B>();
+    bodies_leave_what_their_nodes_do::<S, D, L, B>();
+    told_asks_are_those_of_lanes::<S, D, L, B>();
+    noted_counts_are_the_picture::<S, D, L, B>();
+    bodies_spent_what_was_sent::<S, D, L, B>();
     let Remains {
         lanes,
         homes,
@@ -183,7 +185,7 @@ fn stop<S: Source, D: Drain>(
     } = remains;
     let all = asked_of(&bodies, crossings, asked);
     let ends = finish_all(bodies, ends);
-    let end = join_ends(ends, &homes, room);
+    let end = join_ends::<S, D, L, B>(ends, &homes, room);
     let mut wires = counts_of(&end.wires, counts);
     note_asked(&all, &lanes, &mut wires);
     let IslandEnd {
@@ -212,20 +214,20 @@ fn stop<S: Source, D: Drain>(
 }
 
 /// Takes bodies apart of which some may have broken off.
-fn give_up<S: Source, D: Drain>(
-    bodies: Vec<Body<S, D>>,
+fn give_up<S: Source, D: Drain, L: Logic, B: PlugBook>(
+    bodies: Vec<Body<S, D, L, B>>,
     crossings: &[Crossing],
     remains: Remains<S, D>,
 ) -> IslandEnd<S, D>
-    requires { (b : plan.Blueprint) × ((ss : List S) × ((ds : List D) × ((begun : List (island.Body S D)) × HaveBroken S.state D.state b ss ds begun bodies.items crossings.now remains))) }
-    ensures { (b : plan.Blueprint) (ss : List S) (ds : List D) (begun : List (island.Body S D)) → HaveBroken S.state D.state b ss ds begun bodies.items crossings.now remains → LeavesBroken S.state D.state b ss ds result }
+    requires { (b : plan.Blueprint) × ((ss : List S) × ((ds : List D) × ((begun : List (island.Body S D L B)) × HaveBroken S.state D.state B.lists b ss ds begun bodies.items crossings.now remains))) }
+    ensures { (b : plan.Blueprint) (ss : List S) (ds : List D) (begun : List (island.Body S D L B)) → HaveBroken S.state D.state B.lists b ss ds begun bodies.items crossings.now remains → LeavesBroken L B S.state D.state B.lists b ss ds result }
 {
-    ends_stay_at_their_crossings::<S, D>();
-    broken_bodies_cover::<S, D>();
-    broken_bodies_leave_a_run::<S, D>();
-    nodes_alone_are_a_run::<S, D>();
-    broken_bodies_leave_their_handles::<S, D>();
-    told_asks_are_those_of_lanes::<S, D>();
+    ends_stay_at_their_crossings::<S, D, L, B>();
+    broken_bodies_cover::<S, D, L, B>();
+    broken_bodies_leave_a_run::<S, D, L, B>();
+    nodes_alone_are_a_run::<S, D, L, B>();
+    broken_bodies_leave_their_handles::<S, D, L, B>();
+    told_asks_are_those_of_lanes::<S, D, L, B>();
     let Remains {
         lanes: _,
         homes,
@@ -240,19 +242,25 @@ fn give_up<S: Source, D: Drain>(
 }
 
 /// Lets so many workers run bodies that were made, by at most `budget` units, and takes them apart.
-fn run_bodies<S: Source + Send, D: Drain + Send, R: Threads + Wait + Sync>(
+fn run_bodies<
+    S: Source + Send,
+    D: Drain + Send,
+    L: Logic + Send,
+    B: PlugBook + Send,
+    R: Threads + Wait + Sync,
+>(
     rt: &R,
     alloc: Global,
-    begun: Begun<S, D>,
+    begun: Begun<S, D, L, B>,
     workers: u32,
     budget: u32,
 ) -> Result<Stopped<S, D>, IslandEnd<S, D>>
     requires workers { (0 < workers) × (workers ≤ 64) }
     requires budget { budget ≤ 4000000000 }
-    requires begun { (b : plan.Blueprint) × ((ss : List S) × ((ds : List D) × HaveBegun S.state D.state b ss ds begun.bodies.items begun.crossings.items begun.remains)) }
-    ensures leaves { (b : plan.Blueprint) (ss : List S) (ds : List D) → HaveBegun S.state D.state b ss ds begun.bodies.items begun.crossings.items begun.remains → IfOk result (λ stopped. Leaves S.state D.state b ss ds budget stopped) }
-    ensures receipt { (b : plan.Blueprint) (ss : List S) (ds : List D) → HaveBegun S.state D.state b ss ds begun.bodies.items begun.crossings.items begun.remains → IfOk result (λ stopped. IsReceipt b workers stopped.used stopped.at_rest stopped.ran) }
-    ensures breaks { (b : plan.Blueprint) (ss : List S) (ds : List D) → HaveBegun S.state D.state b ss ds begun.bodies.items begun.crossings.items begun.remains → IfErr result (LeavesBroken S.state D.state b ss ds) }
+    requires begun { (b : plan.Blueprint) × ((ss : List S) × ((ds : List D) × HaveBegun S.state D.state B.lists b ss ds begun.bodies.items begun.crossings.items begun.remains)) }
+    ensures leaves { (b : plan.Blueprint) (ss : List S) (ds : List D) → HaveBegun S.state D.state B.lists b ss ds begun.bodies.items begun.crossings.items begun.remains → IfOk result (λ stopped. Leaves L B S.state D.state B.lists b ss ds budget stopped) }
+    ensures receipt { (b : plan.Blueprint) (ss : List S) (ds : List D) → HaveBegun S.state D.state B.lists b ss ds begun.bodies.items begun.crossings.items begun.remains → IfOk result (λ stopped. IsReceipt b workers stopped.used stopped.at_rest stopped.ran) }
+    ensures breaks { (b : plan.Blueprint) (ss : List S) (ds : List D) → HaveBegun S.state D.state B.lists b ss ds begun.bodies.items begun.crossings.items begun.remains → IfErr result (LeavesBroken L B S.state D.state B.lists b ss ds) }
 {
     let Begun {
         bodies,
@@ -276,10 +284,16 @@ fn run_bodies<S: Source + Send, D: Drain + Send, R: Threads + Wait + Sync>(
 /// Lets so many workers, 1 to 64, run the islands of a blueprint over its open files, of which nothing was read, by at most `budget` units:
 /// turns of at most 1000 units, until no island has an event or all units are used. It is taken apart then. In the order of nodes, each
 /// source of lines reads the next of `sources`, and each sink with a file writes the next of `drains`. Rule: own.
-pub fn run<S: Source + Send, D: Drain + Send, R: Threads + Wait + Sync>(
+pub fn run<
+    S: Source + Send,
+    D: Drain + Send,
+    L: Logic + Send,
+    B: PlugBook + Send,
+    R: Threads + Wait + Sync,
+>(
     rt: &R,
     alloc: Global,
-    prepared: Prepared<S, D>,
+    prepared: Prepared<S, D, L, B>,
     sources: Vec<S>,
     drains: Vec<D>,
     workers: u32,
@@ -291,9 +305,9 @@ pub fn run<S: Source + Send, D: Drain + Send, R: Threads + Wait + Sync>(
     requires sources { vec_len sources ≡ length (inputs_of_nodes prepared.plans.blueprint.value.nodes.items) }
     requires drains { vec_len drains ≡ length (outputs_of_nodes prepared.plans.blueprint.value.nodes.items) }
     requires unread { All (λ s. (S.state s).given ≡ 0) sources.items }
-    ensures leaves { IfOk result (λ stopped. Leaves S.state D.state prepared.plans.blueprint.value sources.items drains.items budget stopped) }
+    ensures leaves { IfOk result (λ stopped. Leaves L B S.state D.state B.lists prepared.plans.blueprint.value sources.items drains.items budget stopped) }
     ensures receipt { IfOk result (λ stopped. IsReceipt prepared.plans.blueprint.value workers stopped.used stopped.at_rest stopped.ran) }
-    ensures breaks { IfErr result (λ broken. LeavesBrokenAs S.state D.state prepared.plans.blueprint.value sources.items drains.items broken) }
+    ensures breaks { IfErr result (λ broken. LeavesBrokenAs L B S.state D.state B.lists prepared.plans.blueprint.value sources.items drains.items broken) }
 {
     match begin(alloc, prepared, sources, drains) {
         Ok(begun) => match run_bodies(rt, alloc, begun, workers, budget) {

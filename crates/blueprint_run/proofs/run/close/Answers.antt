@@ -11,7 +11,7 @@ returns-clause-runs g c = λ old b trace budget ss ds can separate named opens o
     let wrote = c.write_trace-drain.ensures.writes in
     let shut = c.close_all.ensures.closes in
     let closed = c.close_trace.ensures.closes in
-    runs_of g.F.Inp.Source.state g.F.Out.Drain.state
+    runs_of g.F.Inp.Source.state g.F.Out.Drain.state g.B.PlugBook.lists
     (record {
       reads_law = c.parts_hold_their_files.ensures.sources;
       writes_law = c.parts_hold_their_files.ensures.files;
@@ -21,6 +21,7 @@ returns-clause-runs g c = λ old b trace budget ss ds can separate named opens o
     (record {
       fits = c.fit_blueprints_pass_the_rules.ensures;
       types = c.every_wire_carries_its_type.ensures.run;
+      texts = c.every_node_gives_of_what_came.ensures.lines;
       gives = c.every_node_gives_of_what_came.ensures.others;
       ranked = c.fit_blueprints_are_whole.ensures.ranked;
       agree = c.every_wire_agrees.ensures;
@@ -44,7 +45,7 @@ returns-clause-runs g c = λ old b trace budget ss ds can separate named opens o
 
 pub returns-clause-all : goal.returns-clause-all
 returns-clause-all g c = λ old b trace budget ss ds can separate opens opened leaves.
-    closes_run g.F.Inp.Source.state g.F.Out.Drain.state
+    closes_run g.F.Inp.Source.state g.F.Out.Drain.state g.B.PlugBook.lists
     (record {
       reads_law = c.parts_hold_their_files.ensures.sources;
       writes_law = c.parts_hold_their_files.ensures.files;
@@ -54,6 +55,7 @@ returns-clause-all g c = λ old b trace budget ss ds can separate opens opened l
     (record {
       fits = c.fit_blueprints_pass_the_rules.ensures;
       types = c.every_wire_carries_its_type.ensures.run;
+      texts = c.every_node_gives_of_what_came.ensures.lines;
       gives = c.every_node_gives_of_what_came.ensures.others;
       ranked = c.fit_blueprints_are_whole.ensures.ranked;
       agree = c.every_wire_agrees.ensures;

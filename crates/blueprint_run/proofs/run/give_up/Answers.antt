@@ -9,7 +9,7 @@ pub returns-clause-wants : goal.returns-clause-wants
 returns-clause-wants g c = λ old b trace ss ds can separate opens opened leaves.
     let shut = c.close_broken.ensures.closes in
     let closed = c.close_trace.ensures.closes in
-    wants_within g.F.Inp.Source.state g.F.Out.Drain.state
+    wants_within g.F.Inp.Source.state g.F.Out.Drain.state g.B.PlugBook.lists
     (record {
       reads_law = c.parts_hold_their_files.ensures.sources;
       writes_law = c.parts_hold_their_files.ensures.files;
@@ -22,7 +22,7 @@ returns-clause-wants g c = λ old b trace ss ds can separate opens opened leaves
 
 pub returns-clause-all : goal.returns-clause-all
 returns-clause-all g c = λ old b trace ss ds can separate opens opened leaves.
-    closes_broken g.F.Inp.Source.state g.F.Out.Drain.state
+    closes_broken g.F.Inp.Source.state g.F.Out.Drain.state g.B.PlugBook.lists
     (record {
       reads_law = c.parts_hold_their_files.ensures.sources;
       writes_law = c.parts_hold_their_files.ensures.files;

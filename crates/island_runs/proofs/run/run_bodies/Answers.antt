@@ -33,7 +33,7 @@ stop-requires g c =
             c.args.begun.bodies.items,
             (
               c.args.budget,
-              have_run g.S.Source.state g.D.Drain.state b ss ds c.args.begun.bodies.items f.bodies.items c.deref.result.now c.args.begun.crossings.items c.deref-in-Ok.result.now c.args.begun.remains c.requires.begun.1.1.1 c.deref.ensures.value c.deref-in-Ok.ensures.value e.joined c.args.budget f.used f.more e.keeps e.goes e.spent e.within e.rest (λ more. (e.more more).0),
+              have_run g.S.Source.state g.D.Drain.state g.B.PlugBook.lists b ss ds c.args.begun.bodies.items f.bodies.items c.deref.result.now c.args.begun.crossings.items c.deref-in-Ok.result.now c.args.begun.remains c.requires.begun.1.1.1 c.deref.ensures.value c.deref-in-Ok.ensures.value e.joined c.args.budget f.used f.more e.keeps e.goes e.spent e.within e.rest (λ more. (e.more more).0),
             ),
           ),
         ),
@@ -45,7 +45,7 @@ returns-in-Ok-clause-leaves g c = λ b ss ds h.
     let e = c.in-Ok.ensures in
     let f = c.in-Ok.finish in
     c.stop.ensures.leaves b ss ds c.args.begun.bodies.items c.args.budget
-    (have_run g.S.Source.state g.D.Drain.state b ss ds c.args.begun.bodies.items f.bodies.items c.deref.result.now c.args.begun.crossings.items c.deref-in-Ok.result.now c.args.begun.remains h c.deref.ensures.value c.deref-in-Ok.ensures.value e.joined c.args.budget f.used f.more e.keeps e.goes e.spent e.within e.rest (λ more. (e.more more).0))
+    (have_run g.S.Source.state g.D.Drain.state g.B.PlugBook.lists b ss ds c.args.begun.bodies.items f.bodies.items c.deref.result.now c.args.begun.crossings.items c.deref-in-Ok.result.now c.args.begun.remains h c.deref.ensures.value c.deref-in-Ok.ensures.value e.joined c.args.budget f.used f.more e.keeps e.goes e.spent e.within e.rest (λ more. (e.more more).0))
 
 pub returns-in-Ok-clause-receipt : goal.returns-in-Ok-clause-receipt
 returns-in-Ok-clause-receipt g c = λ b ss ds h.
@@ -67,7 +67,7 @@ give_up-requires g c =
           ds,
           (
             c.args.begun.bodies.items,
-            have_broken g.S.Source.state g.D.Drain.state b ss ds c.args.begun.bodies.items c.in-Err.bodies.items c.deref.result.now c.args.begun.crossings.items c.deref-in-Err.result.now c.args.begun.remains c.requires.begun.1.1.1 c.deref.ensures.value c.deref-in-Err.ensures.value e.broke_joined e.broke,
+            have_broken g.S.Source.state g.D.Drain.state g.B.PlugBook.lists b ss ds c.args.begun.bodies.items c.in-Err.bodies.items c.deref.result.now c.args.begun.crossings.items c.deref-in-Err.result.now c.args.begun.remains c.requires.begun.1.1.1 c.deref.ensures.value c.deref-in-Err.ensures.value e.broke_joined e.broke,
           ),
         ),
       ),
@@ -77,7 +77,7 @@ pub returns-clause-breaks : goal.returns-clause-breaks
 returns-clause-breaks g c = λ b ss ds h.
     let e = c.in-Err.ensures in
     c.give_up.ensures b ss ds c.args.begun.bodies.items
-    (have_broken g.S.Source.state g.D.Drain.state b ss ds c.args.begun.bodies.items c.in-Err.bodies.items c.deref.result.now c.args.begun.crossings.items c.deref-in-Err.result.now c.args.begun.remains h c.deref.ensures.value c.deref-in-Err.ensures.value e.broke_joined e.broke)
+    (have_broken g.S.Source.state g.D.Drain.state g.B.PlugBook.lists b ss ds c.args.begun.bodies.items c.in-Err.bodies.items c.deref.result.now c.args.begun.crossings.items c.deref-in-Err.result.now c.args.begun.remains h c.deref.ensures.value c.deref-in-Err.ensures.value e.broke_joined e.broke)
 
 pub run-requires-send-B : goal.run-requires-send-B
-run-requires-send-B g c = λ κs lives. param_send 0 _ (arg_send _ no _ (body_send g.row.S g.row.D g.S.Source g.D.Drain c.type_bounds.send-S c.type_bounds.send-D))
+run-requires-send-B g c = λ κs lives. param_send 0 _ (arg_send _ no _ (body_send g.row.S g.row.D g.row.L g.row.B g.S.Source g.D.Drain g.L.Logic g.B.PlugBook c.type_bounds.send-S c.type_bounds.send-D c.type_bounds.send-L c.type_bounds.send-B))

@@ -115,11 +115,11 @@ returns-clause-leaves g c = λ b ss ds begun budget r.
     let whole_list = came_back c.counts_of-wires.result.len c.note_asked.new.counts c.counts_of-wires.result.items (c.note_asked.ensures.many ∙ ap length c.deref_mut.ensures.value ∙ size) size in
     let is_run = run.run b m.homes m.count m.nodes crossings begun now all m.plugs m.taken ss ds m.fit m.seats m.unread m.bodies_are r.went r.keep are r.joined in
     let left_by = run.nodes b m.homes m.count m.nodes crossings begun now all back.0 back.1.0 m.bodies_are r.went r.keep back.1.1 in
-    let at = kept g.S.Source.state g.D.Drain.state b ss ds m.nodes m.seats (sym m.bodies_are.graph.each_node) account back.0 left_by is_run c.args.remains.board m.at_switches in
+    let at = kept g.S.Source.state g.D.Drain.state g.B.PlugBook.lists b ss ds m.nodes m.seats (sym m.bodies_are.graph.each_node) account back.0 left_by is_run c.args.remains.board m.at_switches in
     let settled = c.settle.ensures (map (λ (n : blue.Node). n.kind) b.nodes.items) (map node_seat back.0) m.board_is at (left_seats ws account.near back.0 c.join_ends-end.result left) in
     let spent = c.bodies_spent_what_was_sent.ensures b m.homes m.count m.nodes crossings begun now all m.bodies_are r.went r.keep in
     let most = run.most b m.homes m.count m.nodes crossings begun now all m.bodies_are r.went r.keep are r.joined in
-    leaves g.S.Source.state g.D.Drain.state b ss ds m.nodes m.seats (sym m.bodies_are.graph.each_node) account back.0 left_by is_run budget
+    leaves g.S.Source.state g.D.Drain.state g.B.PlugBook.lists b ss ds m.nodes m.seats (sym m.bodies_are.graph.each_node) account back.0 left_by is_run budget
     (record { end = record c.join_ends-end.result { seats = c.new.result }; wires = with_items c.counts_of-wires.result c.note_asked.new.counts; used = c.args.used; at_rest = c.args.at_rest; ran = c.args.ran }) c.join_ends-end.result account.near
     (λ rest. run.still b m.homes m.count m.nodes crossings begun now all m.bodies_are r.went r.keep are (r.rest rest)) left refl settled (whole_list ∙ counts) r.within r.more (omega (arith, spent, r.used_is)) (omega (arith, most, r.used_is))
 
@@ -149,5 +149,5 @@ settle-requires g c =
     let are = told.are lanes crossings now asks m.many m.rise (stay.aligned lanes crossings begun now m.aligned (stay.went begun now r.went)) asked in
     let is_run = run.run b m.homes m.count m.nodes crossings begun now all m.plugs m.taken c.requires.1.0 c.requires.1.1.0 m.fit m.seats m.unread m.bodies_are r.went r.keep are r.joined in
     let left_by = run.nodes b m.homes m.count m.nodes crossings begun now all back.0 back.1.0 m.bodies_are r.went r.keep back.1.1 in
-    let at = kept g.S.Source.state g.D.Drain.state b c.requires.1.0 c.requires.1.1.0 m.nodes m.seats (sym m.bodies_are.graph.each_node) account back.0 left_by is_run c.args.remains.board m.at_switches in
+    let at = kept g.S.Source.state g.D.Drain.state g.B.PlugBook.lists b c.requires.1.0 c.requires.1.1.0 m.nodes m.seats (sym m.bodies_are.graph.each_node) account back.0 left_by is_run c.args.remains.board m.at_switches in
     (map (λ (n : blue.Node). n.kind) b.nodes.items, (map node_seat back.0, (m.board_is, (at, left_seats ws account.near back.0 c.join_ends-end.result left))))

@@ -1,9 +1,8 @@
 -- What follows from what is answered, by what the words ask for.
-use Rattle.std.proofs.Common.{◌≡◌, ◌≢◌, ℕ, ◌≤◌, ◌<◌, List, ◌⊎◌, inl, inr, refl, sym, subst, arith}
+use Rattle.std.proofs.Common.{◌≡◌, ◌≢◌, ℕ, ◌<◌, List, ◌⊎◌, inl, inr, refl, sym, subst, arith}
 use Rattle.std.specs.Prelude.{Option, Some, None, IsTrue, ◌↔◌}
 use Rattle.stream_io.specs.Counts.{Rose, Grew, GrewAtMost}
 use Rattle.stream_io.specs.State.{FolderState}
-use Rattle.run_files.specs.Quiet.{Quiet}
 use Rattle.run_files.proofs.Counts.{quiet_same}
 use Rattle.run_report.specs.Answer.{Answer}
 use Rattle.run_report.specs.declared.outcome.Status.{Status}
@@ -11,10 +10,11 @@ use Rattle.run_report.specs.declared.outcome.Status.TheVariants as status
 use Rattle.command_words.specs.Asking.{Asked, asked_of}
 use Rattle.generator.specs.Generated.{Generates, StopsGenerating}
 use Rattle.generator.specs.Texts.{lines_file, blueprint_file}
-use Rattle.stream_top.specs.Outcome.{Blank, EndedBefore, CausesBefore, SinksOf, IsValid, RoseNowhere, WasRun}
+use Rattle.stream_top.specs.Outcome.{Blank, EndedBefore, CausesBefore, SinksOf, RoseNowhere, WasRun}
 use Rattle.file_text.specs.Text.{text_limit}
 use Rattle.file_text.proofs.Quiets.{read_none}
-use Rattle.stream_command.specs.Answers.{Answers, AnswersTo, IsNoCommand, RunsFile, StopsBefore, EndsGenerating, GeneratesAndRuns, IsValidFor}
+use Rattle.stream_command.specs.Answers.{Answers, AnswersTo, RunsFile, StopsBefore, IsValidFor}
+use Rattle.stream_top.specs.Asked.{Plugged}
 
 none_some : (c : Asked) (o : Option Asked) → o ≡ None → o ≡ Some c → ⊥
 none_some c o e f = cc
@@ -78,59 +78,59 @@ calm_behind old between new n g calm = record {
 -- ---- the whole call
 
 -- it told its files before where it tells them now
-told_to : (g : Option ℕ) (c : Asked) (a : Answer) (old new : FolderState) → AnswersTo g c a old new → IsTrue new.tells → IsTrue old.tells
-told_to None c a old new h t = h.tells t
-told_to (Some n) c a old new (inl h) t = (stopped a.status n old new h.stops).told t
-told_to (Some n) c a old new (inr h) t = h.generates.two.told (h.runs.tells t)
+told_to : (plugged : Plugged) (g : Option ℕ) (c : Asked) (a : Answer) (old new : FolderState) → AnswersTo plugged g c a old new → IsTrue new.tells → IsTrue old.tells
+told_to plugged None c a old new h t = h.tells t
+told_to plugged (Some n) c a old new (inl h) t = (stopped a.status n old new h.stops).told t
+told_to plugged (Some n) c a old new (inr h) t = h.generates.two.told (h.runs.tells t)
 
-pub told_before : (o : Option Asked) (a : Answer) (old new : FolderState) → Answers o a old new → IsTrue new.tells → IsTrue old.tells
-told_before None a old new h t = subst (λ (f : FolderState). IsTrue f.tells) h.same t
-told_before (Some c) a old new h t = told_to c.generated c a old new h t
+pub told_before : (plugged : Plugged) (o : Option Asked) (a : Answer) (old new : FolderState) → Answers plugged o a old new → IsTrue new.tells → IsTrue old.tells
+told_before plugged None a old new h t = subst (λ (f : FolderState). IsTrue f.tells) h.same t
+told_before plugged (Some c) a old new h t = told_to plugged c.generated c a old new h t
 
 -- how much of the blueprint's file is read
-read_to : (g : Option ℕ) (c : Asked) (a : Answer) (old new : FolderState) → AnswersTo g c a old new → GrewAtMost (old.read c.file) text_limit (new.read c.file)
-read_to None c a old new h = h.reads
-read_to (Some n) c a old new (inl h) = read_none (old.read c.file) (new.read c.file) text_limit ((stopped a.status n old new h.stops).read c.file)
-read_to (Some n) c a old new (inr h) = subst (λ k. GrewAtMost k text_limit (new.read c.file)) (h.generates.two.read c.file) h.runs.reads
+read_to : (plugged : Plugged) (g : Option ℕ) (c : Asked) (a : Answer) (old new : FolderState) → AnswersTo plugged g c a old new → GrewAtMost (old.read c.file) text_limit (new.read c.file)
+read_to plugged None c a old new h = h.reads
+read_to plugged (Some n) c a old new (inl h) = read_none (old.read c.file) (new.read c.file) text_limit ((stopped a.status n old new h.stops).read c.file)
+read_to plugged (Some n) c a old new (inr h) = subst (λ k. GrewAtMost k text_limit (new.read c.file)) (h.generates.two.read c.file) h.runs.reads
 
-pub reads_little : (o : Option Asked) (a : Answer) (old new : FolderState) → Answers o a old new → (c : Asked) → o ≡ Some c → GrewAtMost (old.read c.file) text_limit (new.read c.file)
-reads_little None a old new h c e = absurd (none_some c None refl e)
-reads_little (Some d) a old new h c e = subst (λ (x : Asked). GrewAtMost (old.read x.file) text_limit (new.read x.file)) (some_same e) (read_to d.generated d a old new h)
+pub reads_little : (plugged : Plugged) (o : Option Asked) (a : Answer) (old new : FolderState) → Answers plugged o a old new → (c : Asked) → o ≡ Some c → GrewAtMost (old.read c.file) text_limit (new.read c.file)
+reads_little plugged None a old new h c e = absurd (none_some c None refl e)
+reads_little plugged (Some d) a old new h c e = subst (λ (x : Asked). GrewAtMost (old.read x.file) text_limit (new.read x.file)) (some_same e) (read_to plugged d.generated d a old new h)
 
 -- a valid blueprint and no fault give a run
-complete_to : (g : Option ℕ) (c : Asked) (a : Answer) (old new : FolderState) → AnswersTo g c a old new → IsValidFor g c.file c.trace old new → RoseNowhere old new → WasRun a.status
-complete_to None c a old new h v calm = h.complete v.0 v.1 calm
-complete_to (Some n) c a old new (inl h) v calm = calm_stops a.status n old new calm h.stops
-complete_to (Some n) c a old new (inr h) v calm =
+complete_to : (plugged : Plugged) (g : Option ℕ) (c : Asked) (a : Answer) (old new : FolderState) → AnswersTo plugged g c a old new → IsValidFor plugged g c.file c.trace old new → RoseNowhere old new → WasRun a.status
+complete_to plugged None c a old new h v calm = h.complete v.0 v.1 calm
+complete_to plugged (Some n) c a old new (inl h) v calm = calm_stops a.status n old new calm h.stops
+complete_to plugged (Some n) c a old new (inr h) v calm =
     let tells = h.runs.tells v.0 in
     h.runs.complete tells (v.1 h.between h.generates tells) (calm_behind old h.between new n h.generates calm)
 
-pub completes : (o : Option Asked) (a : Answer) (old new : FolderState) → Answers o a old new → (c : Asked) → o ≡ Some c → IsValidFor c.generated c.file c.trace old new → RoseNowhere old new → WasRun a.status
-completes None a old new h c e v calm = absurd (none_some c None refl e)
-completes (Some d) a old new h c e v calm =
-    complete_to d.generated d a old new h (subst (λ (x : Asked). IsValidFor x.generated x.file x.trace old new) (sym (some_same e)) v) calm
+pub completes : (plugged : Plugged) (o : Option Asked) (a : Answer) (old new : FolderState) → Answers plugged o a old new → (c : Asked) → o ≡ Some c → IsValidFor plugged c.generated c.file c.trace old new → RoseNowhere old new → WasRun a.status
+completes plugged None a old new h c e v calm = absurd (none_some c None refl e)
+completes plugged (Some d) a old new h c e v calm =
+    complete_to plugged d.generated d a old new h (subst (λ (x : Asked). IsValidFor plugged x.generated x.file x.trace old new) (sym (some_same e)) v) calm
 
 -- usage is told of words that are no command alone
-no_usage_to : (g : Option ℕ) (c : Asked) (a : Answer) (old new : FolderState) → AnswersTo g c a old new → a.status ≡ status.Usage → ⊥
-no_usage_to None c a old new h e = h.no_usage e
-no_usage_to (Some n) c a old new (inl h) e = subst (λ s. StopsBefore s n old new) e h.stops
-no_usage_to (Some n) c a old new (inr h) e = h.runs.no_usage e
+no_usage_to : (plugged : Plugged) (g : Option ℕ) (c : Asked) (a : Answer) (old new : FolderState) → AnswersTo plugged g c a old new → a.status ≡ status.Usage → ⊥
+no_usage_to plugged None c a old new h e = h.no_usage e
+no_usage_to plugged (Some n) c a old new (inl h) e = subst (λ s. StopsBefore s n old new) e h.stops
+no_usage_to plugged (Some n) c a old new (inr h) e = h.runs.no_usage e
 
-only_usage : (o : Option Asked) (a : Answer) (old new : FolderState) → Answers o a old new → a.status ≡ status.Usage → o ≡ None
-only_usage None a old new h e = refl
-only_usage (Some c) a old new h e = absurd (no_usage_to c.generated c a old new h e)
+only_usage : (plugged : Plugged) (o : Option Asked) (a : Answer) (old new : FolderState) → Answers plugged o a old new → a.status ≡ status.Usage → o ≡ None
+only_usage plugged None a old new h e = refl
+only_usage plugged (Some c) a old new h e = absurd (no_usage_to plugged c.generated c a old new h e)
 
 told_usage : (s : Status) → (s ≡ status.NoMemory → ⊥) → (s ≡ status.Usage) ⊎ (s ≡ status.NoMemory) → s ≡ status.Usage
 told_usage s room (inl e) = e
 told_usage s room (inr e) = absurd (room e)
 
-each_usage : (o : Option Asked) (a : Answer) (old new : FolderState) → Answers o a old new → (a.status ≡ status.NoMemory → ⊥) → o ≡ None → a.status ≡ status.Usage
-each_usage None a old new h room e = told_usage a.status room h.status
-each_usage (Some c) a old new h room e = absurd (none_some c (Some c) e refl)
+each_usage : (plugged : Plugged) (o : Option Asked) (a : Answer) (old new : FolderState) → Answers plugged o a old new → (a.status ≡ status.NoMemory → ⊥) → o ≡ None → a.status ≡ status.Usage
+each_usage plugged None a old new h room e = told_usage a.status room h.status
+each_usage plugged (Some c) a old new h room e = absurd (none_some c (Some c) e refl)
 
 -- and of each of them, unless memory was wanting
-pub usage_of : (o : Option Asked) (a : Answer) (old new : FolderState) → Answers o a old new → a.status ≢ status.NoMemory → (a.status ≡ status.Usage) ↔ (o ≡ None)
-usage_of o a old new h room = (only_usage o a old new h, each_usage o a old new h room)
+pub usage_of : (plugged : Plugged) (o : Option Asked) (a : Answer) (old new : FolderState) → Answers plugged o a old new → a.status ≢ status.NoMemory → (a.status ≡ status.Usage) ↔ (o ≡ None)
+usage_of plugged o a old new h room = (only_usage plugged o a old new h, each_usage plugged o a old new h room)
 
 -- ---- memory was wanting as the words were read
 
@@ -146,10 +146,10 @@ none_stops n s = record {
 no_memory_usage : (s : Status) → s ≡ status.NoMemory → s ≡ status.Usage → ⊥
 no_memory_usage s e f = cc
 
-none_runs : (file : List ℕ) (trace : Option (List ℕ)) (turns : ℕ) (a : Answer) (s : FolderState) → a.status ≡ status.NoMemory → Blank a → RunsFile file trace turns a s s
-none_runs file trace turns a s e blank = record {
+none_runs : (plugged : Plugged) (file : List ℕ) (trace : Option (List ℕ)) (turns : ℕ) (a : Answer) (s : FolderState) → a.status ≡ status.NoMemory → Blank a → RunsFile plugged file trace turns a s s
+none_runs plugged file trace turns a s e blank = record {
   tells = λ t. t;
-  told = λ t. inl (subst (λ x. EndedBefore x a file trace s s) (sym e) (record { files = record { telling = refl; files = λ h n. refl }; blank = blank }));
+  told = λ t. inl (subst (λ x. EndedBefore plugged x a file trace s s) (sym e) (record { files = record { telling = refl; files = λ h n. refl }; blank = blank }));
   complete = λ t v calm. subst (λ x. WasRun x) (sym e) tt;
   causes = inl (subst (λ x. CausesBefore x file s s) (sym e) (quiet_same s.refusals s.refusals (λ m. refl), quiet_same s.rfaults s.rfaults (λ m. refl), quiet_same s.wfaults s.wfaults (λ m. refl)));
   sinks = subst (λ x. SinksOf x a trace) (sym e) blank;
@@ -157,40 +157,40 @@ none_runs file trace turns a s e blank = record {
   reads = read_none (s.read file) (s.read file) text_limit refl;
 }
 
-none_to : (g : Option ℕ) (c : Asked) (a : Answer) (s : FolderState) → a.status ≡ status.NoMemory → Blank a → AnswersTo g c a s s
-none_to None c a s e blank = none_runs c.file c.trace c.turns a s e blank
-none_to (Some n) c a s e blank = inl (record { blank = blank; stops = subst (λ x. StopsBefore x n s s) (sym e) (none_stops n s) })
+none_to : (plugged : Plugged) (g : Option ℕ) (c : Asked) (a : Answer) (s : FolderState) → a.status ≡ status.NoMemory → Blank a → AnswersTo plugged g c a s s
+none_to plugged None c a s e blank = none_runs plugged c.file c.trace c.turns a s e blank
+none_to plugged (Some n) c a s e blank = inl (record { blank = blank; stops = subst (λ x. StopsBefore x n s s) (sym e) (none_stops n s) })
 
-pub gave_up : (o : Option Asked) (a : Answer) (s : FolderState) → a.status ≡ status.NoMemory → Blank a → Answers o a s s
-gave_up None a s e blank = record { status = inr e; blank = blank; same = refl }
-gave_up (Some c) a s e blank = none_to c.generated c a s e blank
+pub gave_up : (plugged : Plugged) (o : Option Asked) (a : Answer) (s : FolderState) → a.status ≡ status.NoMemory → Blank a → Answers plugged o a s s
+gave_up plugged None a s e blank = record { status = inr e; blank = blank; same = refl }
+gave_up plugged (Some c) a s e blank = none_to plugged c.generated c a s e blank
 
 -- ---- steps of the call
 
-pub refused : (o : Option Asked) (a : Answer) (s : FolderState) → o ≡ None → a.status ≡ status.Usage → Blank a → Answers o a s s
-refused None a s none e blank = record { status = inl e; blank = blank; same = refl }
-refused (Some c) a s none e blank = absurd (none_some c (Some c) none refl)
+pub refused : (plugged : Plugged) (o : Option Asked) (a : Answer) (s : FolderState) → o ≡ None → a.status ≡ status.Usage → Blank a → Answers plugged o a s s
+refused plugged None a s none e blank = record { status = inl e; blank = blank; same = refl }
+refused plugged (Some c) a s none e blank = absurd (none_some c (Some c) none refl)
 
 -- the generator ended it
-pub ended : (n : ℕ) (c : Asked) (s : Status) (a : Answer) (old new : FolderState) → StopsBefore s n old new → a.status ≡ s → Blank a → AnswersTo (Some n) c a old new
-ended n c s a old new stops e blank = inl (record { blank = blank; stops = subst (λ x. StopsBefore x n old new) (sym e) stops })
+pub ended : (plugged : Plugged) (n : ℕ) (c : Asked) (s : Status) (a : Answer) (old new : FolderState) → StopsBefore s n old new → a.status ≡ s → Blank a → AnswersTo plugged (Some n) c a old new
+ended plugged n c s a old new stops e blank = inl (record { blank = blank; stops = subst (λ x. StopsBefore x n old new) (sym e) stops })
 
 -- the generated files were run
-pub ran : (n : ℕ) (c : Asked) (a : Answer) (old between new : FolderState) → Generates old between n → RunsFile c.file c.trace c.turns a between new → AnswersTo (Some n) c a old new
-ran n c a old between new g r = inr (record { between = between; generates = g; runs = r })
+pub ran : (plugged : Plugged) (n : ℕ) (c : Asked) (a : Answer) (old between new : FolderState) → Generates old between n → RunsFile plugged c.file c.trace c.turns a between new → AnswersTo plugged (Some n) c a old new
+ran plugged n c a old between new g r = inr (record { between = between; generates = g; runs = r })
 
 -- the run of a file, where the trace's name is lent
-pub runs_as : (file : List ℕ) (lent trace : Option (List ℕ)) (turns : ℕ) (a : Answer) (old new : FolderState) → lent ≡ trace → RunsFile file lent turns a old new → RunsFile file trace turns a old new
-runs_as file lent trace turns a old new e h = subst (λ (t : Option (List ℕ)). RunsFile file t turns a old new) e h
+pub runs_as : (plugged : Plugged) (file : List ℕ) (lent trace : Option (List ℕ)) (turns : ℕ) (a : Answer) (old new : FolderState) → lent ≡ trace → RunsFile plugged file lent turns a old new → RunsFile plugged file trace turns a old new
+runs_as plugged file lent trace turns a old new e h = subst (λ (t : Option (List ℕ)). RunsFile plugged file t turns a old new) e h
 
 -- one with a file to run
-pub file_was_run : (c : Asked) (a : Answer) (old new : FolderState) → c.generated ≡ None → RunsFile c.file c.trace c.turns a old new → Answers (Some c) a old new
-file_was_run c a old new g r = subst (λ (o : Option ℕ). AnswersTo o c a old new) (sym g) r
+pub file_was_run : (plugged : Plugged) (c : Asked) (a : Answer) (old new : FolderState) → c.generated ≡ None → RunsFile plugged c.file c.trace c.turns a old new → Answers plugged (Some c) a old new
+file_was_run plugged c a old new g r = subst (λ (o : Option ℕ). AnswersTo plugged o c a old new) (sym g) r
 
 -- one with lines to generate
-pub was_generated : (n : ℕ) (c : Asked) (a : Answer) (old new : FolderState) → c.generated ≡ Some n → AnswersTo (Some n) c a old new → Answers (Some c) a old new
-was_generated n c a old new g r = subst (λ (o : Option ℕ). AnswersTo o c a old new) (sym g) r
+pub was_generated : (plugged : Plugged) (n : ℕ) (c : Asked) (a : Answer) (old new : FolderState) → c.generated ≡ Some n → AnswersTo plugged (Some n) c a old new → Answers plugged (Some c) a old new
+was_generated plugged n c a old new g r = subst (λ (o : Option ℕ). AnswersTo plugged o c a old new) (sym g) r
 
 -- what the words ask for, by what was read of them
-pub as_asked : (words : List (List ℕ)) (c : Asked) (a : Answer) (old new : FolderState) → asked_of words ≡ Some c → Answers (Some c) a old new → Answers (asked_of words) a old new
-as_asked words c a old new e h = subst (λ (o : Option Asked). Answers o a old new) (sym e) h
+pub as_asked : (plugged : Plugged) (words : List (List ℕ)) (c : Asked) (a : Answer) (old new : FolderState) → asked_of words ≡ Some c → Answers plugged (Some c) a old new → Answers plugged (asked_of words) a old new
+as_asked plugged words c a old new e h = subst (λ (o : Option Asked). Answers plugged o a old new) (sym e) h

@@ -9,6 +9,7 @@ use Rattle.command_words.specs.Asking.{Asked}
 use Rattle.generator.specs.Generated.{Generates, MissesFile, FailsAtFile, StopsGenerating}
 use Rattle.stream_top.specs.Outcome.{Blank, Told, Causes, SinksOf, IsValid, RoseNowhere, WasRun}
 use Rattle.file_text.specs.Text.{text_limit}
+use Rattle.stream_top.specs.Asked.{Plugged}
 
 -- no command: nothing is touched. Want of memory may be told in place of the usage.
 pub record IsNoCommand (a : Answer) (old new : FolderState) : Type 0 where
@@ -17,11 +18,11 @@ pub record IsNoCommand (a : Answer) (old new : FolderState) : Type 0 where
   pub same : new ≡ old
 
 -- the blueprint of a file was run, or the call ended before
-pub record RunsFile (file : List ℕ) (trace : Option (List ℕ)) (turns : ℕ) (a : Answer) (old new : FolderState) : Type 0 where
+pub record RunsFile (p : Plugged) (file : List ℕ) (trace : Option (List ℕ)) (turns : ℕ) (a : Answer) (old new : FolderState) : Type 0 where
   pub tells : IsTrue new.tells → IsTrue old.tells
-  pub told : IsTrue old.tells → Told a (record { file = file; trace = trace; turns = turns }) old new
-  pub complete : IsTrue old.tells → IsValid file trace old → RoseNowhere old new → WasRun a.status
-  pub causes : Causes a.status a file trace old new
+  pub told : IsTrue old.tells → Told p a (record { file = file; trace = trace; turns = turns }) old new
+  pub complete : IsTrue old.tells → IsValid p file trace old → RoseNowhere old new → WasRun a.status
+  pub causes : Causes p a.status a file trace old new
   pub sinks : SinksOf a.status a trace
   pub no_usage : a.status ≡ status.Usage → ⊥
   pub reads : GrewAtMost (old.read file) text_limit (new.read file)
@@ -40,23 +41,23 @@ pub record EndsGenerating (n : ℕ) (a : Answer) (old new : FolderState) : Type 
 
 -- The files were generated, and then the blueprint was run. Between the two each generated file holds its text and every other file is
 -- as before, and no count rose; this is told wherever the folder still tells its files after the run, since it tells them then in between.
-pub record GeneratesAndRuns (n : ℕ) (file : List ℕ) (trace : Option (List ℕ)) (turns : ℕ) (a : Answer) (old new : FolderState) : Type 0 where
+pub record GeneratesAndRuns (p : Plugged) (n : ℕ) (file : List ℕ) (trace : Option (List ℕ)) (turns : ℕ) (a : Answer) (old new : FolderState) : Type 0 where
   pub between : FolderState
   pub generates : Generates old between n
-  pub runs : RunsFile file trace turns a between new
+  pub runs : RunsFile p file trace turns a between new
 
 -- the command with a file, or with lines to generate
-abbrev pub AnswersTo : Option ℕ → Asked → Answer → FolderState → FolderState → Type 0
-AnswersTo None c a old new = RunsFile c.file c.trace c.turns a old new
-AnswersTo (Some n) c a old new = EndsGenerating n a old new ⊎ GeneratesAndRuns n c.file c.trace c.turns a old new
+abbrev pub AnswersTo : Plugged → Option ℕ → Asked → Answer → FolderState → FolderState → Type 0
+AnswersTo p None c a old new = RunsFile p c.file c.trace c.turns a old new
+AnswersTo p (Some n) c a old new = EndsGenerating n a old new ⊎ GeneratesAndRuns p n c.file c.trace c.turns a old new
 
 -- what is answered and left
-abbrev pub Answers : Option Asked → Answer → FolderState → FolderState → Type 0
-Answers None a old new = IsNoCommand a old new
-Answers (Some c) a old new = AnswersTo c.generated c a old new
+abbrev pub Answers : Plugged → Option Asked → Answer → FolderState → FolderState → Type 0
+Answers p None a old new = IsNoCommand a old new
+Answers p (Some c) a old new = AnswersTo p c.generated c a old new
 
 -- The command's blueprint is valid: that of its file, in a folder that tells its files before the call; or, where lines are generated,
 -- that of its file in whatever folder the generator leaves, and the folder tells its files after the call.
-abbrev pub IsValidFor : Option ℕ → List ℕ → Option (List ℕ) → FolderState → FolderState → Type 0
-IsValidFor None file trace old new = IsTrue old.tells × IsValid file trace old
-IsValidFor (Some n) file trace old new = IsTrue new.tells × ((between : FolderState) → Generates old between n → IsTrue between.tells → IsValid file trace between)
+abbrev pub IsValidFor : Plugged → Option ℕ → List ℕ → Option (List ℕ) → FolderState → FolderState → Type 0
+IsValidFor p None file trace old new = IsTrue old.tells × IsValid p file trace old
+IsValidFor p (Some n) file trace old new = IsTrue new.tells × ((between : FolderState) → Generates old between n → IsTrue between.tells → IsValid p file trace between)

@@ -9,6 +9,7 @@ use Rattle.run_report.specs.declared.outcome.Status.TheVariants as status
 use Rattle.stream_io.specs.State.{FolderState}
 use Rattle.stream_top.specs.Outcome.{Blank}
 use Rattle.stream_top.specs.Receipts.{Receipts, RanFile}
+use Rattle.stream_top.specs.Asked.{Plugged}
 
 -- as of the run of a file; where files are generated a failed write may end the call before the run, and then nothing is told of one
 abbrev pub ReceiptsBy : Option ℕ → Status → Answer → ℕ → Option Ran → Type 0
@@ -24,17 +25,17 @@ ReceiptsOf None a ran = ran ≡ None
 ReceiptsOf (Some c) a ran = ReceiptsFor c.generated a c.workers ran
 
 -- The islands are those of the blueprint that the generated file says, wherever the folder still tells its files after the run.
-pub record RanGenerated (n : ℕ) (file : List ℕ) (trace : Option (List ℕ)) (ran : Option Ran) (old new : FolderState) : Type 0 where
+pub record RanGenerated (p : Plugged) (n : ℕ) (file : List ℕ) (trace : Option (List ℕ)) (ran : Option Ran) (old new : FolderState) : Type 0 where
   pub between : FolderState
   pub generates : Generates old between n
   pub tells : IsTrue new.tells → IsTrue between.tells
-  pub islands : IsTrue between.tells → RanFile between file trace ran
+  pub islands : IsTrue between.tells → RanFile p between file trace ran
 
 -- the islands of the file's blueprint, in a folder that told its files; where the generator ended the call nothing was run
-abbrev pub IslandsFor : Option ℕ → List ℕ → Option (List ℕ) → Option Ran → FolderState → FolderState → Type 0
-IslandsFor None file trace ran old new = IsTrue old.tells → RanFile old file trace ran
-IslandsFor (Some n) file trace ran old new = (ran ≡ None) ⊎ RanGenerated n file trace ran old new
+abbrev pub IslandsFor : Plugged → Option ℕ → List ℕ → Option (List ℕ) → Option Ran → FolderState → FolderState → Type 0
+IslandsFor p None file trace ran old new = IsTrue old.tells → RanFile p old file trace ran
+IslandsFor p (Some n) file trace ran old new = (ran ≡ None) ⊎ RanGenerated p n file trace ran old new
 
-abbrev pub IslandsOf : Option Asked → Option Ran → FolderState → FolderState → Type 0
-IslandsOf None ran old new = ran ≡ None
-IslandsOf (Some c) ran old new = IslandsFor c.generated c.file c.trace ran old new
+abbrev pub IslandsOf : Plugged → Option Asked → Option Ran → FolderState → FolderState → Type 0
+IslandsOf p None ran old new = ran ≡ None
+IslandsOf p (Some c) ran old new = IslandsFor p c.generated c.file c.trace ran old new

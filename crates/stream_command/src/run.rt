@@ -1,5 +1,6 @@
 // The whole call.
-ghost use Rattle.std.specs.Prelude.{◌≡◌, ◌<◌, ◌≤◌, ◌⊎◌, ◌↔◌, ◌≢◌, List, ℕ, Some, None, IsTrue};
+ghost use Rattle.std.specs.Prelude.{◌≡◌, [], ◌<◌, ◌≤◌, ◌⊎◌, ◌↔◌, ◌≢◌, List, ℕ, Some, None, IsTrue};
+ghost use Rattle.std.specs.List.{All};
 ghost use Rattle.stream_io.specs.Counts.{GrewAtMost};
 ghost use Rattle.command_words.specs.Asking.{Asked, asked_of};
 ghost use Rattle.command_words.specs.Commands.{asked};
@@ -11,10 +12,17 @@ ghost use Rattle.run_report.specs.Writing.{Puts, PutsPart};
 ghost use Rattle.stream_command.specs.Answers.{Answers, AnswersTo, RunsFile, IsValidFor};
 ghost use Rattle.stream_command.specs.Receipts.{ReceiptsOf, ReceiptsFor, IslandsOf, IslandsFor};
 ghost use Rattle.stream_top.specs.Receipts.{Receipts, RanFile};
+ghost use Rattle.plug_logic.specs.Gives.{listed};
+ghost use Rattle.stage_linear.specs.Plugs.{Is};
+ghost use Rattle.plug_board.specs.Handed.{GivesAsListed};
+ghost use Rattle.stream_top.specs.Asked.{plugged_by};
 
 use command_words::command::{Command, WordsEnd, read_words};
 use elem_core::line::Line;
 use generator::generate::{GenerateEnd, generate};
+use plug_logic::book::PlugBook;
+use plug_logic::logic::Logic;
+use plug_logic::plug::Plug;
 use run_report::outcome::Status;
 use std::alloc::Global;
 use std::sync::Wait;
@@ -23,26 +31,67 @@ use stream_io::outside::{Drain, Folder};
 use stream_top::top::{RunEnd, end_before_run, run_file};
 
 /// Reads the command's words, generates the files that they ask for, reads the blueprint of the file that they name and lets as many workers run it as they say, and writes the report to the console. Rule: own.
-#[tactic(auto, using(crate::proofs::Answering::told_before, crate::proofs::Answering::reads_little, crate::proofs::Answering::completes, crate::proofs::Answering::usage_of, crate::proofs::Answering::gave_up, crate::proofs::Answering::refused, crate::proofs::Answering::as_asked))]
-pub fn run_streams<R: Threads + Wait + Sync, F: Folder, C: Drain>(
+pub fn run_streams<R: Threads + Wait + Sync, F: Folder, C: Drain, B: PlugBook + Send>(
     rt: &R,
     alloc: Global,
     words: &[Line],
     folder: &mut F,
     console: &mut C,
+    plugs: Vec<Plug>,
 ) -> RunEnd
+    requires listed { All (λ p. Is (gives p.logic) [] (listed B.lists p.head.name)) plugs.items }
     // Words that are no command, and no others, have this answer, or memory was wanting.
     ensures usage { result.status ≢ Status.NoMemory → (result.status ≡ Status.Usage ↔ asked_of words.now ≡ None) }
 
     // What is answered and left, by what the words ask for.
-    ensures answers { Answers (asked_of words.now) (answer_of result) (F.state folder.old) (F.state folder.new) }
+    ensures answers { Answers (plugged_by B.lists plugs.items) (asked_of words.now) (answer_of result) (F.state folder.old) (F.state folder.new) }
 
     // A valid blueprint and no fault give a run, or memory was wanting.
-    ensures complete { (c : Asked) → asked_of words.now ≡ Some c → IsValidFor c.generated c.file c.trace (F.state folder.old) (F.state folder.new) → RoseNowhere (F.state folder.old) (F.state folder.new) → WasRun result.status }
+    ensures complete { (c : Asked) → asked_of words.now ≡ Some c → IsValidFor (plugged_by B.lists plugs.items) c.generated c.file c.trace (F.state folder.old) (F.state folder.new) → RoseNowhere (F.state folder.old) (F.state folder.new) → WasRun result.status }
 
     // After a run, and only there, there is a receipt, of the command's workers and as many islands as the file's blueprint has.
     ensures ran { ReceiptsOf (asked_of words.now) (answer_of result) result.ran }
-    ensures islands { IslandsOf (asked_of words.now) result.ran (F.state folder.old) (F.state folder.new) }
+    ensures islands { IslandsOf (plugged_by B.lists plugs.items) (asked_of words.now) result.ran (F.state folder.old) (F.state folder.new) }
+
+    // Reading the blueprint's file stops after so many bytes.
+    ensures reads { (c : Asked) → asked_of words.now ≡ Some c → GrewAtMost ((F.state folder.old).read c.file) text_limit ((F.state folder.new).read c.file) }
+
+    // The folder never begins to tell its files.
+    ensures tells { IsTrue (F.state folder.new).tells → IsTrue (F.state folder.old).tells }
+
+    // Every file that it opened is closed, whatever is answered.
+    ensures handles { F.handles folder.new ≡ F.handles folder.old }
+
+    // The console has the report behind what it held, or a first part of it where a write to it failed.
+    ensures console { (Puts (C.state console.old) (C.state console.new) (report_of (answer_of result)) × (result.code ≡ code_of result.status))
+        ⊎ (PutsPart (C.state console.old) (C.state console.new) (report_of (answer_of result)) × (result.code ≡ 8)) }
+{
+    run_words::<R, F, C, Box<dyn Logic + Send>, B>(rt, alloc, words, folder, console, plugs)
+}
+
+/// Reads the command's words, generates the files that they ask for, reads the blueprint of the file that they name and lets as many workers run it as they say, and writes the report to the console. Rule: own.
+#[tactic(auto, using(crate::proofs::Answering::told_before, crate::proofs::Answering::reads_little, crate::proofs::Answering::completes, crate::proofs::Answering::usage_of, crate::proofs::Answering::gave_up, crate::proofs::Answering::refused, crate::proofs::Answering::as_asked))]
+fn run_words<R: Threads + Wait + Sync, F: Folder, C: Drain, L: Logic + Send, B: PlugBook + Send>(
+    rt: &R,
+    alloc: Global,
+    words: &[Line],
+    folder: &mut F,
+    console: &mut C,
+    plugs: Vec<Plug<L>>,
+) -> RunEnd
+    requires listed { All (GivesAsListed L.gives B.lists) plugs.items }
+    // Words that are no command, and no others, have this answer, or memory was wanting.
+    ensures usage { result.status ≢ Status.NoMemory → (result.status ≡ Status.Usage ↔ asked_of words.now ≡ None) }
+
+    // What is answered and left, by what the words ask for.
+    ensures answers { Answers (plugged_by B.lists plugs.items) (asked_of words.now) (answer_of result) (F.state folder.old) (F.state folder.new) }
+
+    // A valid blueprint and no fault give a run, or memory was wanting.
+    ensures complete { (c : Asked) → asked_of words.now ≡ Some c → IsValidFor (plugged_by B.lists plugs.items) c.generated c.file c.trace (F.state folder.old) (F.state folder.new) → RoseNowhere (F.state folder.old) (F.state folder.new) → WasRun result.status }
+
+    // After a run, and only there, there is a receipt, of the command's workers and as many islands as the file's blueprint has.
+    ensures ran { ReceiptsOf (asked_of words.now) (answer_of result) result.ran }
+    ensures islands { IslandsOf (plugged_by B.lists plugs.items) (asked_of words.now) result.ran (F.state folder.old) (F.state folder.new) }
 
     // Reading the blueprint's file stops after so many bytes.
     ensures reads { (c : Asked) → asked_of words.now ≡ Some c → GrewAtMost ((F.state folder.old).read c.file) text_limit ((F.state folder.new).read c.file) }
@@ -58,7 +107,7 @@ pub fn run_streams<R: Threads + Wait + Sync, F: Folder, C: Drain>(
         ⊎ (PutsPart (C.state console.old) (C.state console.new) (report_of (answer_of result)) × (result.code ≡ 8)) }
 {
     match read_words(alloc, words) {
-        Ok(command) => run_command(rt, alloc, &command, folder, console),
+        Ok(command) => run_command::<R, F, C, L, B>(rt, alloc, &command, folder, console, plugs),
         Err(WordsEnd::Usage) => end_before_run(alloc, Status::Usage, console),
         Err(WordsEnd::NoMemory) => end_before_run(alloc, Status::NoMemory, console),
     }
@@ -66,46 +115,56 @@ pub fn run_streams<R: Threads + Wait + Sync, F: Folder, C: Drain>(
 
 /// Does what a command asks for.
 #[tactic(auto, using(crate::proofs::Answering::file_was_run, crate::proofs::Answering::was_generated))]
-fn run_command<R: Threads + Wait + Sync, F: Folder, C: Drain>(
+fn run_command<R: Threads + Wait + Sync, F: Folder, C: Drain, L: Logic + Send, B: PlugBook + Send>(
     rt: &R,
     alloc: Global,
     command: &Command,
     folder: &mut F,
     console: &mut C,
+    plugs: Vec<Plug<L>>,
 ) -> RunEnd
+    requires listed { All (GivesAsListed L.gives B.lists) plugs.items }
     requires workers { (0 < command.now.workers) × (command.now.workers ≤ 64) }
     requires turns { command.now.turns ≤ 4000000000 }
-    ensures answers { Answers (Some (asked command.now)) (answer_of result) (F.state folder.old) (F.state folder.new) }
+    ensures answers { Answers (plugged_by B.lists plugs.items) (Some (asked command.now)) (answer_of result) (F.state folder.old) (F.state folder.new) }
     ensures ran { ReceiptsOf (Some (asked command.now)) (answer_of result) result.ran }
-    ensures islands { IslandsOf (Some (asked command.now)) result.ran (F.state folder.old) (F.state folder.new) }
+    ensures islands { IslandsOf (plugged_by B.lists plugs.items) (Some (asked command.now)) result.ran (F.state folder.old) (F.state folder.new) }
     ensures handles { F.handles folder.new ≡ F.handles folder.old }
     ensures console { (Puts (C.state console.old) (C.state console.new) (report_of (answer_of result)) × (result.code ≡ code_of result.status))
         ⊎ (PutsPart (C.state console.old) (C.state console.new) (report_of (answer_of result)) × (result.code ≡ 8)) }
 {
     match command.generated {
-        Some(n) => run_generated(rt, alloc, n, command, folder, console),
-        None => run_command_file(rt, alloc, command, folder, console),
+        Some(n) => run_generated::<R, F, C, L, B>(rt, alloc, n, command, folder, console, plugs),
+        None => run_command_file::<R, F, C, L, B>(rt, alloc, command, folder, console, plugs),
     }
 }
 
 /// Runs the file of a command.
-fn run_command_file<R: Threads + Wait + Sync, F: Folder, C: Drain>(
+fn run_command_file<
+    R: Threads + Wait + Sync,
+    F: Folder,
+    C: Drain,
+    L: Logic + Send,
+    B: PlugBook + Send,
+>(
     rt: &R,
     alloc: Global,
     command: &Command,
     folder: &mut F,
     console: &mut C,
+    plugs: Vec<Plug<L>>,
 ) -> RunEnd
+    requires listed { All (GivesAsListed L.gives B.lists) plugs.items }
     requires workers { (0 < command.now.workers) × (command.now.workers ≤ 64) }
     requires turns { command.now.turns ≤ 4000000000 }
-    ensures runs { RunsFile command.now.file command.now.trace command.now.turns (answer_of result) (F.state folder.old) (F.state folder.new) }
+    ensures runs { RunsFile (plugged_by B.lists plugs.items) command.now.file command.now.trace command.now.turns (answer_of result) (F.state folder.old) (F.state folder.new) }
     ensures ran { Receipts result.status command.now.workers result.used result.ran }
-    ensures islands { IsTrue (F.state folder.old).tells → RanFile (F.state folder.old) command.now.file command.now.trace result.ran }
+    ensures islands { IsTrue (F.state folder.old).tells → RanFile (plugged_by B.lists plugs.items) (F.state folder.old) command.now.file command.now.trace result.ran }
     ensures handles { F.handles folder.new ≡ F.handles folder.old }
     ensures console { (Puts (C.state console.old) (C.state console.new) (report_of (answer_of result)) × (result.code ≡ code_of result.status))
         ⊎ (PutsPart (C.state console.old) (C.state console.new) (report_of (answer_of result)) × (result.code ≡ 8)) }
 {
-    run_file(
+    run_file::<R, F, C, L, B>(
         rt,
         alloc,
         &command.file,
@@ -114,30 +173,39 @@ fn run_command_file<R: Threads + Wait + Sync, F: Folder, C: Drain>(
         command.turns,
         folder,
         console,
+        plugs,
     )
 }
 
 /// Generates so many lines and their blueprint, and runs it.
 #[tactic(auto, using(crate::proofs::Answering::ended, crate::proofs::Answering::ran))]
-fn run_generated<R: Threads + Wait + Sync, F: Folder, C: Drain>(
+fn run_generated<
+    R: Threads + Wait + Sync,
+    F: Folder,
+    C: Drain,
+    L: Logic + Send,
+    B: PlugBook + Send,
+>(
     rt: &R,
     alloc: Global,
     n: u32,
     command: &Command,
     folder: &mut F,
     console: &mut C,
+    plugs: Vec<Plug<L>>,
 ) -> RunEnd
+    requires listed { All (GivesAsListed L.gives B.lists) plugs.items }
     requires workers { (0 < command.now.workers) × (command.now.workers ≤ 64) }
     requires turns { command.now.turns ≤ 4000000000 }
-    ensures answers { AnswersTo (Some n) (asked command.now) (answer_of result) (F.state folder.old) (F.state folder.new) }
+    ensures answers { AnswersTo (plugged_by B.lists plugs.items) (Some n) (asked command.now) (answer_of result) (F.state folder.old) (F.state folder.new) }
     ensures ran { ReceiptsFor (Some n) (answer_of result) command.now.workers result.ran }
-    ensures islands { IslandsFor (Some n) command.now.file command.now.trace result.ran (F.state folder.old) (F.state folder.new) }
+    ensures islands { IslandsFor (plugged_by B.lists plugs.items) (Some n) command.now.file command.now.trace result.ran (F.state folder.old) (F.state folder.new) }
     ensures handles { F.handles folder.new ≡ F.handles folder.old }
     ensures console { (Puts (C.state console.old) (C.state console.new) (report_of (answer_of result)) × (result.code ≡ code_of result.status))
         ⊎ (PutsPart (C.state console.old) (C.state console.new) (report_of (answer_of result)) × (result.code ≡ 8)) }
 {
     match generate(alloc, folder, n) {
-        Ok(()) => run_command_file(rt, alloc, command, folder, console),
+        Ok(()) => run_command_file::<R, F, C, L, B>(rt, alloc, command, folder, console, plugs),
         Err(GenerateEnd::Missing(name)) => end_before_run(alloc, Status::Missing(name), console),
         Err(GenerateEnd::WriteFault) => end_before_run(alloc, Status::WriteFault, console),
         Err(GenerateEnd::NoMemory) => end_before_run(alloc, Status::NoMemory, console),

@@ -25,7 +25,8 @@ use Rattle.blue_core.specs.declared.blueprint.Blueprint.{Blueprint}
 use Rattle.blue_core.specs.declared.blueprint.Node.{Node}
 use Rattle.blue_lang.specs.Blueprints as language
 use Rattle.blue_lang.specs.Plain.{plain}
-use Rattle.blue_check.specs.Fitness.{IsFit}
+use Rattle.blue_check.specs.Fitness.{IsFit, IsFirstFault}
+use Rattle.blue_check.specs.declared.fault.CheckFault.{CheckFault}
 use Rattle.blue_check.specs.Wires.{blueprint_wires}
 use Rattle.blue_walks.specs.Forest.{wiring}
 use Rattle.materializer.specs.Built.{unbuilt_node}
@@ -52,7 +53,7 @@ use Rattle.run_report.specs.declared.outcome.SinkEnd.{SinkEnd}
 use Rattle.run_report.specs.declared.outcome.Status.{Status}
 use Rattle.run_report.specs.declared.outcome.Status.TheVariants as status
 use Rattle.stream_top.specs.AfterRun.{AfterRun, ends_of, name_of, told_end, told_ends, is_ended, all_ended, some_failed, some_unended, some_fault, is_stalled, is_over}
-use Rattle.stream_top.specs.Asked.{Asked}
+use Rattle.stream_top.specs.Asked.{Plugged, Asked}
 use Rattle.file_text.specs.Text.{text_limit, text_of_file, ReadsFile}
 use Rattle.stream_top.specs.Outcome.{taken_files, SaysFile, SaysFit, Blank, RanNothing, RanTo, FallsShort, SinksWrote, SomeCountRose, SomeWriteFailed, GaveUp, LacksInput, LacksOutput, IsAbsent, EndedRun, EndedBefore, Told, Causes, CausesBefore, QuietButAll, QuietAmong, RunCauses, SinksOf, MissesFile}
 use Rattle.stream_top.specs.Texts.{NotRun, EndedFit, NotFit, EndedParsed, NotSaid, EndedText, AllQuiet, CausesQuiet, CausesFit, CausesText}
@@ -195,8 +196,8 @@ must_end state.Unended o held old new goes tells none writes calm = absurd cc
 must_end state.WriteFault o held old new goes tells none writes calm = absurd (calm writes)
 
 -- what holds of a run where no event was left holds where that is told less often
-module _ (old new : FolderState) (b : Blueprint) (trace : Option (List ℕ)) (stands : List Stand) (picks : List Pick) (wires : List WireCount) (less rest : Bool) (more : IsTrue less → IsTrue rest) where
-  sink_less : (d : Drawn) (k : ℕ) (n : Node) (file : List ℕ) (count : ℕ) (end : EndState) → SinkLeaves new b d wires rest k n file count end → SinkLeaves new b d wires less k n file count end
+module _ (plugged : Plugged) (old new : FolderState) (b : Blueprint) (trace : Option (List ℕ)) (stands : List Stand) (picks : List Pick) (wires : List WireCount) (less rest : Bool) (more : IsTrue less → IsTrue rest) where
+  sink_less : (d : Drawn) (k : ℕ) (n : Node) (file : List ℕ) (count : ℕ) (end : EndState) → SinkLeaves plugged.book new b d wires rest k n file count end → SinkLeaves plugged.book new b d wires less k n file count end
   sink_less d k n file count end s = record {
     held = s.held;
     there = s.there;
@@ -206,7 +207,7 @@ module _ (old new : FolderState) (b : Blueprint) (trace : Option (List ℕ)) (st
     rests = λ shape h. s.rests shape (more h);
   }
 
-  abbrev leaves_less : LeavesFiles old new b trace stands picks wires rest → LeavesFiles old new b trace stands picks wires less
+  abbrev leaves_less : LeavesFiles plugged.book old new b trace stands picks wires rest → LeavesFiles plugged.book old new b trace stands picks wires less
   leaves_less l = record {
     drawn = l.drawn;
     chose = l.chose;
@@ -260,7 +261,7 @@ or_false : (a : Bool) → a || false ≡ true → a ≡ true
 or_false true e = refl
 or_false false e = absurd cc
 
-module _ (b : Blueprint) (trace : Option (List ℕ)) (ran : RunResult) (turns : ℕ) (a : Answer) (old new : FolderState) (after : AfterRun (sinks_of_nodes b.nodes.items) ran a) (runs : Runs old new b trace turns ran) where
+module _ (plugged : Plugged) (b : Blueprint) (trace : Option (List ℕ)) (ran : RunResult) (turns : ℕ) (a : Answer) (old new : FolderState) (after : AfterRun (sinks_of_nodes b.nodes.items) ran a) (runs : Runs plugged.book old new b trace turns ran) where
   abbrev stands : List Stand
   stands = ran.sinks.items
 
@@ -326,7 +327,7 @@ module _ (b : Blueprint) (trace : Option (List ℕ)) (ran : RunResult) (turns : 
   pays : Pays b a.wires a.used
   pays = subst (λ (u : ℕ). Pays b a.wires u) (sym after.used) (subst (λ (w : List WireCount). Pays b w ran.used) (sym after.wires) runs.pays)
 
-  carries : Carries b a.wires a.picks
+  carries : Carries plugged.book b a.wires a.picks
   carries = rw (after.wires, after.picks) runs.carries
 
   picks_are : picked a.picks ≡ pick_places 0 b.nodes.items
@@ -340,11 +341,11 @@ module _ (b : Blueprint) (trace : Option (List ℕ)) (ran : RunResult) (turns : 
       omega (arith, wired, most)
 
   module _ (tells : IsTrue old.tells) where
-    leaves_at : LeavesFiles old new b trace stands a.picks a.wires ran.at_rest
-    leaves_at = subst (λ (p : List Pick). LeavesFiles old new b trace stands p a.wires ran.at_rest) (sym after.picks)
-        (subst (λ (w : List WireCount). LeavesFiles old new b trace stands (map pick_of ran.picks.items) w ran.at_rest) (sym after.wires) (runs.leaves tells))
+    leaves_at : LeavesFiles plugged.book old new b trace stands a.picks a.wires ran.at_rest
+    leaves_at = subst (λ (p : List Pick). LeavesFiles plugged.book old new b trace stands p a.wires ran.at_rest) (sym after.picks)
+        (subst (λ (w : List WireCount). LeavesFiles plugged.book old new b trace stands (map pick_of ran.picks.items) w ran.at_rest) (sym after.wires) (runs.leaves tells))
 
-    below_need : 1 ≤ length stands → (w : World) → IsWorldOf b.nodes.items leaves_at.drawn w → a.used < need (graph_of b) (composed (graph_of b) w)
+    below_need : 1 ≤ length stands → (w : World) → IsWorldOf plugged.book b.nodes.items leaves_at.drawn w → a.used < need (graph_of b) (composed (graph_of b) w)
     below_need some w is =
         let count : a.used < count_needed (graph_of b) a.wires = below_count some in
         let most : count_needed (graph_of b) a.wires ≤ need (graph_of b) (composed (graph_of b) w) = leaves_at.needed w is in
@@ -354,7 +355,7 @@ module _ (b : Blueprint) (trace : Option (List ℕ)) (ran : RunResult) (turns : 
     tree_spent false e tree some = spent e
     tree_spent true e tree some = absurd (not_both_bools (some_unended a.sinks) some (unended_told ∙ leaves_at.ending tree e))
 
-    tree_enough : IsPolytree (wiring (blueprint_wires b)) → (w : World) → IsWorldOf b.nodes.items leaves_at.drawn w → need (graph_of b) (composed (graph_of b) w) ≤ turns
+    tree_enough : IsPolytree (wiring (blueprint_wires b)) → (w : World) → IsWorldOf plugged.book b.nodes.items leaves_at.drawn w → need (graph_of b) (composed (graph_of b) w) ≤ turns
         → (i : ℕ) (s : Stand) (n : Node) (file : List ℕ) → slice_get stands i ≡ Some s → slice_get b.nodes.items s.0 ≡ Some n → output_of n.kind ≡ Some file
         → (sink_outlook (graph_of b) w s.0 (node_of n)).fails ≡ [] → (Rose (old.wfaults file) (new.wfaults file) → ⊥) → s.2 ≡ state.Ended
     tree_enough tree w is suffices i s n file at here shape fails calm =
@@ -366,13 +367,13 @@ module _ (b : Blueprint) (trace : Option (List ℕ)) (ran : RunResult) (turns : 
         let l = leaves_at.sink i s n file at here shape in
         must_end s.2 (sink_outlook (graph_of b) w s.0 (node_of n)) l.held (old.wfaults file) (new.wfaults file) (no_unended_at stands i s (leaves_at.ending tree rest) at) (l.tells w is) fails (runs.writes i s n file at here shape) calm
 
-    abbrev ran_to : RanTo old new b trace turns a
+    abbrev ran_to : RanTo plugged old new b trace turns a
     ran_to = record {
       stands = stands;
       stands_are = runs.sinks_are;
       sinks = told;
       picks_are = picks_are;
-      leaves = leaves_less old new b trace stands a.picks a.wires (is_over a turns) ran.at_rest over_rests leaves_at;
+      leaves = leaves_less plugged old new b trace stands a.picks a.wires (is_over a turns) ran.at_rest over_rests leaves_at;
       writes = runs.writes;
       within = subst (λ n. n ≤ turns) (sym after.used) runs.within;
       pays = pays;
@@ -381,7 +382,7 @@ module _ (b : Blueprint) (trace : Option (List ℕ)) (ran : RunResult) (turns : 
       enough = tree_enough;
     }
 
-    short : list_any (λ (s : Stand). is_unended s.2) stands ≡ true → ran.at_rest ≡ false → FallsShort b turns a leaves_at.drawn
+    short : list_any (λ (s : Stand). is_unended s.2) stands ≡ true → ran.at_rest ≡ false → FallsShort plugged b turns a leaves_at.drawn
     short unended rest =
         let some : 1 ≤ length stands = some_there stands unended in
         let used : a.used ≡ turns = spent rest in
@@ -393,7 +394,7 @@ module _ (b : Blueprint) (trace : Option (List ℕ)) (ran : RunResult) (turns : 
         }
 
   told_by : (f u d rest : Bool) → fault ≡ f → list_any (λ (s : Stand). is_unended s.2) stands ≡ u → list_any (λ (s : Stand). is_failed s.2) stands ≡ d → ran.at_rest ≡ rest → IsTrue old.tells
-      → EndedRun (if f then status.WriteFault else (if u then (if rest then status.Stalled else status.OutOfTurns) else (if d then status.StreamFailed else status.Done))) a b trace turns old new
+      → EndedRun plugged (if f then status.WriteFault else (if u then (if rest then status.Stalled else status.OutOfTurns) else (if d then status.StreamFailed else status.Done))) a b trace turns old new
   told_by true u d rest p q r s tells = (ran_to tells, some_failure ran.trace_failed refl p, some_rose ran.trace_failed refl p)
   told_by false true d true p q r s tells = (ran_to tells, trace_whole p, (λ tree. not_both_bools (some_unended a.sinks) (unended_told ∙ q) (unended_told ∙ (leaves_at tells).ending tree s)), fault_told ∙ no_sink_fault p, unended_told ∙ q)
   told_by false true d false p q r s tells = (ran_to tells, trace_whole p, short tells q s, fault_told ∙ no_sink_fault p, unended_told ∙ q)
@@ -401,13 +402,13 @@ module _ (b : Blueprint) (trace : Option (List ℕ)) (ran : RunResult) (turns : 
   told_by false false false rest p q r s tells = (ran_to tells, trace_whole p, all_done a.sinks (fault_told ∙ no_sink_fault p) (unended_told ∙ q) (failed_told ∙ r))
 
   -- what a run answers, where the folder tells its files
-  pub run_told : IsTrue old.tells → EndedRun a.status a b trace turns old new
-  run_told tells = subst (λ x. EndedRun x a b trace turns old new) (sym after.status) (told_by fault (list_any (λ (s : Stand). is_unended s.2) stands) (list_any (λ (s : Stand). is_failed s.2) stands) ran.at_rest refl refl refl refl tells)
+  pub run_told : IsTrue old.tells → EndedRun plugged a.status a b trace turns old new
+  run_told tells = subst (λ x. EndedRun plugged x a b trace turns old new) (sym after.status) (told_by fault (list_any (λ (s : Stand). is_unended s.2) stands) (list_any (λ (s : Stand). is_failed s.2) stands) ran.at_rest refl refl refl refl tells)
 
-  wrote : SinksWrote old new b a
+  wrote : SinksWrote plugged old new b a
   wrote = record { stands = stands; stands_are = runs.sinks_are; sinks = told; picks_are = picks_are; writes = runs.writes; carries = carries }
 
-  causes_by : (f u d rest : Bool) → fault ≡ f → RunCauses (if f then status.WriteFault else (if u then (if rest then status.Stalled else status.OutOfTurns) else (if d then status.StreamFailed else status.Done))) a b trace old new
+  causes_by : (f u d rest : Bool) → fault ≡ f → RunCauses plugged (if f then status.WriteFault else (if u then (if rest then status.Stalled else status.OutOfTurns) else (if d then status.StreamFailed else status.Done))) a b trace old new
   causes_by true u d rest p = (runs.refusals, runs.reads, some_rose ran.trace_failed refl p, other_counts b trace old.wfaults new.wfaults runs.other_writes, wrote)
   causes_by false true d true p = (runs.refusals, runs.reads, no_rise p, wrote)
   causes_by false true d false p = (runs.refusals, runs.reads, no_rise p, wrote)
@@ -415,8 +416,8 @@ module _ (b : Blueprint) (trace : Option (List ℕ)) (ran : RunResult) (turns : 
   causes_by false false false rest p = (runs.refusals, runs.reads, no_rise p, wrote)
 
   -- which counts a run raised
-  pub run_causes : RunCauses a.status a b trace old new
-  run_causes = subst (λ x. RunCauses x a b trace old new) (sym after.status) (causes_by fault (list_any (λ (s : Stand). is_unended s.2) stands) (list_any (λ (s : Stand). is_failed s.2) stands) ran.at_rest refl)
+  pub run_causes : RunCauses plugged a.status a b trace old new
+  run_causes = subst (λ x. RunCauses plugged x a b trace old new) (sym after.status) (causes_by fault (list_any (λ (s : Stand). is_unended s.2) stands) (list_any (λ (s : Stand). is_failed s.2) stands) ran.at_rest refl)
 
   sinks_by : (f u d rest : Bool) → fault ≡ f → list_any (λ (s : Stand). is_unended s.2) stands ≡ u → list_any (λ (s : Stand). is_failed s.2) stands ≡ d
       → SinksOf (if f then status.WriteFault else (if u then (if rest then status.Stalled else status.OutOfTurns) else (if d then status.StreamFailed else status.Done))) a trace
@@ -432,8 +433,8 @@ module _ (b : Blueprint) (trace : Option (List ℕ)) (ran : RunResult) (turns : 
 
 -- ---- files that were not opened
 
-pub missing_input : (old new : FolderState) (b : Blueprint) (trace : Option (List ℕ)) (n : List ℕ) (turns : ℕ) (a : Answer) → MissesInput old new (inputs_of_nodes b.nodes.items) n → a.status ≡ status.Missing n → Blank a → IsTrue old.tells → EndedRun a.status a b trace turns old new
-missing_input old new b trace n turns a h is blank tells = subst (λ x. EndedRun x a b trace turns old new) (sym is) (inl (record {
+pub missing_input : (plugged : Plugged) (old new : FolderState) (b : Blueprint) (trace : Option (List ℕ)) (n : List ℕ) (turns : ℕ) (a : Answer) → MissesInput old new (inputs_of_nodes b.nodes.items) n → a.status ≡ status.Missing n → Blank a → IsTrue old.tells → EndedRun plugged a.status a b trace turns old new
+missing_input plugged old new b trace n turns a h is blank tells = subst (λ x. EndedRun plugged x a b trace turns old new) (sym is) (inl (record {
   before = h.before;
   after = h.after;
   place = h.place;
@@ -442,8 +443,8 @@ missing_input old new b trace n turns a h is blank tells = subst (λ x. EndedRun
   nothing = record { files = h.files; blank = blank };
 }))
 
-pub missing_output : (old new : FolderState) (b : Blueprint) (trace : Option (List ℕ)) (n : List ℕ) (turns : ℕ) (a : Answer) → RefusesOutput old new (inputs_of_nodes b.nodes.items) (written_files b trace) n → a.status ≡ status.Missing n → Blank a → IsTrue old.tells → EndedRun a.status a b trace turns old new
-missing_output old new b trace n turns a h is blank tells = subst (λ x. EndedRun x a b trace turns old new) (sym is) (inr (record {
+pub missing_output : (plugged : Plugged) (old new : FolderState) (b : Blueprint) (trace : Option (List ℕ)) (n : List ℕ) (turns : ℕ) (a : Answer) → RefusesOutput old new (inputs_of_nodes b.nodes.items) (written_files b trace) n → a.status ≡ status.Missing n → Blank a → IsTrue old.tells → EndedRun plugged a.status a b trace turns old new
+missing_output plugged old new b trace n turns a h is blank tells = subst (λ x. EndedRun plugged x a b trace turns old new) (sym is) (inr (record {
   before = h.before;
   after = h.after;
   place = h.place;
@@ -453,17 +454,17 @@ missing_output old new b trace n turns a h is blank tells = subst (λ x. EndedRu
   blank = blank;
 }))
 
-pub wanted : (old new : FolderState) (b : Blueprint) (trace : Option (List ℕ)) (turns : ℕ) (a : Answer) → Wants old new b trace → a.status ≡ status.NoMemory → Blank a → IsTrue old.tells → EndedRun a.status a b trace turns old new
-wanted old new b trace turns a (inl h) is blank tells = subst (λ x. EndedRun x a b trace turns old new) (sym is) (blank, inl (record { before = h.before; after = h.after; place = h.place; files = h.files }))
-wanted old new b trace turns a (inr h) is blank tells = subst (λ x. EndedRun x a b trace turns old new) (sym is) (blank, inr (h.leaves tells))
+pub wanted : (plugged : Plugged) (old new : FolderState) (b : Blueprint) (trace : Option (List ℕ)) (turns : ℕ) (a : Answer) → Wants plugged.book old new b trace → a.status ≡ status.NoMemory → Blank a → IsTrue old.tells → EndedRun plugged a.status a b trace turns old new
+wanted plugged old new b trace turns a (inl h) is blank tells = subst (λ x. EndedRun plugged x a b trace turns old new) (sym is) (blank, inl (record { before = h.before; after = h.after; place = h.place; files = h.files }))
+wanted plugged old new b trace turns a (inr h) is blank tells = subst (λ x. EndedRun plugged x a b trace turns old new) (sym is) (blank, inr (h.leaves tells))
 
-pub wanted_tells : (old new : FolderState) (b : Blueprint) (trace : Option (List ℕ)) → Wants old new b trace → IsTrue new.tells → IsTrue old.tells
-wanted_tells old new b trace (inl h) = h.files.told
-wanted_tells old new b trace (inr h) = h.told
+pub wanted_tells : (plugged : Plugged) (old new : FolderState) (b : Blueprint) (trace : Option (List ℕ)) → Wants plugged.book old new b trace → IsTrue new.tells → IsTrue old.tells
+wanted_tells plugged old new b trace (inl h) = h.files.told
+wanted_tells plugged old new b trace (inr h) = h.told
 
-pub wanted_draws : (old new : FolderState) (b : Blueprint) (trace : Option (List ℕ)) → Wants old new b trace → QuietButAll (inputs_of_nodes b.nodes.items) old.read new.read
-wanted_draws old new b trace (inl h) = λ n never. h.read n
-wanted_draws old new b trace (inr h) = h.other_draws
+pub wanted_draws : (plugged : Plugged) (old new : FolderState) (b : Blueprint) (trace : Option (List ℕ)) → Wants plugged.book old new b trace → QuietButAll (inputs_of_nodes b.nodes.items) old.read new.read
+wanted_draws plugged old new b trace (inl h) = λ n never. h.read n
+wanted_draws plugged old new b trace (inr h) = h.other_draws
 
 -- a name at its place among others
 at_middle : (before after : List (List ℕ)) (n : List ℕ) → (i : ℕ) × (slice_get (before ++ n ∷ after) i ≡ Some n)
@@ -473,13 +474,13 @@ at_middle (x ∷ xs) after n = let h = at_middle xs after n in (suc h.0, h.1)
 in_place : (names before after : List (List ℕ)) (n : List ℕ) → names ≡ before ++ n ∷ after → Contains names n
 in_place names before after n e = let at = at_middle before after n in contains_at names at.0 n (ap (λ (l : List (List ℕ)). slice_get l at.0) e ∙ at.1)
 
-pub missing_causes : (old new : FolderState) (b : Blueprint) (trace : Option (List ℕ)) (n : List ℕ) (s : Status) (a : Answer) → (MissesInput old new (inputs_of_nodes b.nodes.items) n) ⊎ (RefusesOutput old new (inputs_of_nodes b.nodes.items) (written_files b trace) n) → s ≡ status.Missing n → RunCauses s a b trace old new
-missing_causes old new b trace n s a (inl h) is = subst (λ x. RunCauses x a b trace old new) (sym is) (inl (in_place (inputs_of_nodes b.nodes.items) h.before h.after n h.place, h.why), h.refusals, h.rfaults, h.wfaults)
-missing_causes old new b trace n s a (inr h) is = subst (λ x. RunCauses x a b trace old new) (sym is) (inr (in_place (written_files b trace) h.before h.after n h.place, h.rose), h.refusals, h.rfaults, h.wfaults)
+pub missing_causes : (plugged : Plugged) (old new : FolderState) (b : Blueprint) (trace : Option (List ℕ)) (n : List ℕ) (s : Status) (a : Answer) → (MissesInput old new (inputs_of_nodes b.nodes.items) n) ⊎ (RefusesOutput old new (inputs_of_nodes b.nodes.items) (written_files b trace) n) → s ≡ status.Missing n → RunCauses plugged s a b trace old new
+missing_causes plugged old new b trace n s a (inl h) is = subst (λ x. RunCauses plugged x a b trace old new) (sym is) (inl (in_place (inputs_of_nodes b.nodes.items) h.before h.after n h.place, h.why), h.refusals, h.rfaults, h.wfaults)
+missing_causes plugged old new b trace n s a (inr h) is = subst (λ x. RunCauses plugged x a b trace old new) (sym is) (inr (in_place (written_files b trace) h.before h.after n h.place, h.rose), h.refusals, h.rfaults, h.wfaults)
 
-pub wanted_causes : (old new : FolderState) (b : Blueprint) (trace : Option (List ℕ)) (s : Status) (a : Answer) → Wants old new b trace → s ≡ status.NoMemory → RunCauses s a b trace old new
-wanted_causes old new b trace s a (inl h) is = subst (λ x. RunCauses x a b trace old new) (sym is) (h.refusals, (λ n never. h.rfaults n), (λ n never. h.wfaults n))
-wanted_causes old new b trace s a (inr h) is = subst (λ x. RunCauses x a b trace old new) (sym is) (h.refusals, h.reads, h.other_writes)
+pub wanted_causes : (plugged : Plugged) (old new : FolderState) (b : Blueprint) (trace : Option (List ℕ)) (s : Status) (a : Answer) → Wants plugged.book old new b trace → s ≡ status.NoMemory → RunCauses plugged s a b trace old new
+wanted_causes plugged old new b trace s a (inl h) is = subst (λ x. RunCauses plugged x a b trace old new) (sym is) (h.refusals, (λ n never. h.rfaults n), (λ n never. h.wfaults n))
+wanted_causes plugged old new b trace s a (inr h) is = subst (λ x. RunCauses plugged x a b trace old new) (sym is) (h.refusals, h.reads, h.other_writes)
 
 -- ---- the text of the blueprint
 
@@ -575,14 +576,14 @@ failure_later : (old mid new : FolderState) (b : Blueprint) (trace : Option (Lis
 failure_later old mid new b trace a q (inl h) = inl (h.0, traces_later old mid new b trace a.picks false q h.1)
 failure_later old mid new b trace a q (inr h) = inr (traces_later old mid new b trace a.picks true q h)
 
-module _ (old mid new : FolderState) (file t : List ℕ) (r : ReadsFile old mid file t) (b : Blueprint) (trace : Option (List ℕ)) (fit : IsFit b [] (taken_files file trace)) (turns : ℕ) (a : Answer) where
+module _ (plugged : Plugged) (old mid new : FolderState) (file t : List ℕ) (r : ReadsFile old mid file t) (b : Blueprint) (trace : Option (List ℕ)) (fit : IsFit b plugged.heads (taken_files file trace)) (turns : ℕ) (a : Answer) where
   module _ (tells : IsTrue old.tells) where
     -- the file that was read is none of the sources'
     read_apart : (k : ℕ) (n : List ℕ) → IsSource b.nodes.items k n → mid.read n ≡ old.read n
     read_apart k n is =
         r.read n (λ same.
         let at = filtered_at (λ (m : Node). input_of m.kind) b.nodes.items k is.node n is.at (ap input_of is.kind_is) in
-        inputs_untaken b [] (taken_files file trace) fit n (contains_at (inputs_of_nodes b.nodes.items) at.0 n at.1) (0, omega arith, sym same))
+        inputs_untaken b plugged.heads (taken_files file trace) fit n (contains_at (inputs_of_nodes b.nodes.items) at.0 n at.1) (0, omega arith, sym same))
 
     read_later : (n bytes : List ℕ) (given : ℕ) (faulted : Bool) → mid.read n ≡ old.read n → WasRead mid new n bytes given faulted → WasRead old new n bytes given faulted
     read_later n bytes given faulted apart w = record {
@@ -595,7 +596,7 @@ module _ (old mid new : FolderState) (file t : List ℕ) (r : ReadsFile old mid 
     empties_later : (names : List (List ℕ)) → Empties mid new names → Empties old new names
     empties_later names h = record { told = λ x. tells_before old mid r.files (h.told x); still = λ e. h.still e ∙ r.files.telling; emptied = h.emptied; others = λ x m never. h.others x m never ∙ r.files.files tells m }
 
-    abbrev leaves_later : (ends : List Stand) (picks : List Pick) (wires : List WireCount) (rest : Bool) → LeavesFiles mid new b trace ends picks wires rest → LeavesFiles old new b trace ends picks wires rest
+    abbrev leaves_later : (ends : List Stand) (picks : List Pick) (wires : List WireCount) (rest : Bool) → LeavesFiles plugged.book mid new b trace ends picks wires rest → LeavesFiles plugged.book old new b trace ends picks wires rest
     leaves_later ends picks wires rest l = record {
       drawn = l.drawn;
       chose = l.chose;
@@ -614,7 +615,7 @@ module _ (old mid new : FolderState) (file t : List ℕ) (r : ReadsFile old mid 
       needed = l.needed;
     }
 
-    abbrev ran_later : RanTo mid new b trace turns a → RanTo old new b trace turns a
+    abbrev ran_later : RanTo plugged mid new b trace turns a → RanTo plugged old new b trace turns a
     ran_later ran = record {
       stands = ran.stands;
       stands_are = ran.stands_are;
@@ -651,7 +652,7 @@ module _ (old mid new : FolderState) (file t : List ℕ) (r : ReadsFile old mid 
       blank = h.blank;
     })
 
-    breaks_later : BreaksFiles mid new b trace → BreaksFiles old new b trace
+    breaks_later : BreaksFiles plugged.book mid new b trace → BreaksFiles plugged.book old new b trace
     breaks_later l = record {
       drawn = l.drawn;
       chose = l.chose;
@@ -679,12 +680,12 @@ module _ (old mid new : FolderState) (file t : List ℕ) (r : ReadsFile old mid 
       empty = l.empty;
     }
 
-    gave_later : GaveUp mid new b trace → GaveUp old new b trace
+    gave_later : GaveUp plugged mid new b trace → GaveUp plugged old new b trace
     gave_later (inl h) = inl (record { before = h.before; after = h.after; place = h.place; files = empties_later h.before h.files })
     gave_later (inr h) = inr (breaks_later h)
 
     -- what a run answers is told of the folder before the blueprint was read
-    run_later : (s : Status) → EndedRun s a b trace turns mid new → EndedRun s a b trace turns old new
+    run_later : (s : Status) → EndedRun plugged s a b trace turns mid new → EndedRun plugged s a b trace turns old new
     run_later status.Done e = (ran_later e.0, traces_later old mid new b trace a.picks false r.wfaults e.1, e.2)
     run_later status.StreamFailed e = (ran_later e.0, traces_later old mid new b trace a.picks false r.wfaults e.1, e.2, e.3, e.4)
     run_later status.Stalled e = (ran_later e.0, traces_later old mid new b trace a.picks false r.wfaults e.1, e.2, e.3, e.4)
@@ -699,8 +700,8 @@ module _ (old mid new : FolderState) (file t : List ℕ) (r : ReadsFile old mid 
     run_later status.Usage e = e
 
 -- what rose in the run rose in the call
-module _ (old mid new : FolderState) (file t : List ℕ) (r : ReadsFile old mid file t) (b : Blueprint) (trace : Option (List ℕ)) (fit : IsFit b [] (taken_files file trace)) (a : Answer) where
-  wrote_later : SinksWrote mid new b a → SinksWrote old new b a
+module _ (plugged : Plugged) (old mid new : FolderState) (file t : List ℕ) (r : ReadsFile old mid file t) (b : Blueprint) (trace : Option (List ℕ)) (fit : IsFit b plugged.heads (taken_files file trace)) (a : Answer) where
+  wrote_later : SinksWrote plugged mid new b a → SinksWrote plugged old new b a
   wrote_later w = record {
     stands = w.stands;
     stands_are = w.stands_are;
@@ -714,7 +715,7 @@ module _ (old mid new : FolderState) (file t : List ℕ) (r : ReadsFile old mid 
   misses_later n (inl h) = inl (h.0, absent_later old mid new n r.files r.refusals h.1)
   misses_later n (inr h) = inr (h.0, rose_later (old.refusals n) (mid.refusals n) (new.refusals n) (r.refusals n) h.1)
 
-  causes_later : (s : Status) → RunCauses s a b trace mid new → RunCauses s a b trace old new
+  causes_later : (s : Status) → RunCauses plugged s a b trace mid new → RunCauses plugged s a b trace old new
   causes_later (status.Missing n) c = (misses_later n c.0, quiet_but_later n _ _ _ r.refusals c.1, quiet_two _ _ _ r.rfaults c.2, quiet_two _ _ _ r.wfaults c.3)
   causes_later status.WriteFault c = (quiet_two _ _ _ r.refusals c.0, quiet_all_later _ _ _ _ r.rfaults c.1, some_rose_later old mid new b trace r.wfaults c.2, quiet_all_later _ _ _ _ r.wfaults c.3, wrote_later c.4)
   causes_later status.Done c = (quiet_two _ _ _ r.refusals c.0, quiet_all_later _ _ _ _ r.rfaults c.1, quiet_two _ _ _ r.wfaults c.2, wrote_later c.3)
@@ -733,8 +734,8 @@ module _ (old mid new : FolderState) (file t : List ℕ) (r : ReadsFile old mid 
 nothing_since : (old mid new : FolderState) (file t : List ℕ) (r : ReadsFile old mid file t) (a : Answer) → RanNothing mid new a → RanNothing old new a
 nothing_since old mid new file t r a h = record { files = files_two old mid new r.files h.files; blank = h.blank }
 
-module _ (a : Answer) (c : Asked) (old mid new : FolderState) (t : List ℕ) (r : ReadsFile old mid c.file t) (tells : IsTrue old.tells) where
-  not_said : (s : Status) → NotSaid s a t mid new → EndedBefore s a c.file c.trace old new
+module _ (plugged : Plugged) (a : Answer) (c : Asked) (old mid new : FolderState) (t : List ℕ) (r : ReadsFile old mid c.file t) (tells : IsTrue old.tells) where
+  not_said : (s : Status) → NotSaid s a t mid new → EndedBefore plugged s a c.file c.trace old new
   not_said (status.Refused f) h = (nothing_since old mid new c.file t r a h.0, refused_read old mid c.file t f tells r h.1)
   not_said status.NoMemory h = nothing_since old mid new c.file t r a h
   not_said status.Done h = absurd h
@@ -749,7 +750,7 @@ module _ (a : Answer) (c : Asked) (old mid new : FolderState) (t : List ℕ) (r 
   not_said (status.Unbuilt k) h = absurd h
 
   module _ (b : Blueprint) (says : language.Says t (plain b)) where
-    not_fit : (s : Status) → NotFit s a b (taken_files c.file c.trace) mid new → EndedBefore s a c.file c.trace old new
+    not_fit : (s : Status) → NotFit plugged s a b (taken_files c.file c.trace) mid new → EndedBefore plugged s a c.file c.trace old new
     not_fit (status.Unfit f) h = (nothing_since old mid new c.file t r a h.0, (b, (says_read old mid c.file t b tells r says, h.1)))
     not_fit status.NoMemory h = nothing_since old mid new c.file t r a h
     not_fit status.Done h = absurd h
@@ -763,11 +764,11 @@ module _ (a : Answer) (c : Asked) (old mid new : FolderState) (t : List ℕ) (r 
     not_fit (status.Refused f) h = absurd h
     not_fit (status.Unbuilt k) h = absurd h
 
-    module _ (fit : IsFit b [] (taken_files c.file c.trace)) where
-      said_fit : SaysFit old c.file c.trace b
+    module _ (fit : IsFit b plugged.heads (taken_files c.file c.trace)) where
+      said_fit : SaysFit plugged old c.file c.trace b
       said_fit = record { says = says_read old mid c.file t b tells r says; fit = fit }
 
-      not_run : (s : Status) → NotRun s a b mid new → EndedBefore s a c.file c.trace old new
+      not_run : (s : Status) → NotRun s a b mid new → EndedBefore plugged s a c.file c.trace old new
       not_run (status.Unbuilt k) h = (nothing_since old mid new c.file t r a h.0, (b, (said_fit, h.1)))
       not_run status.NoMemory h = nothing_since old mid new c.file t r a h
       not_run status.Done h = absurd h
@@ -781,20 +782,20 @@ module _ (a : Answer) (c : Asked) (old mid new : FolderState) (t : List ℕ) (r 
       not_run (status.Refused f) h = absurd h
       not_run (status.Unfit f) h = absurd h
 
-      told_fit : EndedFit a.status a b c.trace c.turns mid new → Told a c old new
+      told_fit : EndedFit plugged a.status a b c.trace c.turns mid new → Told plugged a c old new
       told_fit (inl h) = inl (not_run a.status h)
-      told_fit (inr h) = inr (b, (record { fit = said_fit; built = h.0 }, run_later old mid new c.file t r b c.trace fit c.turns a tells a.status h.1))
+      told_fit (inr h) = inr (b, (record { fit = said_fit; built = h.0 }, run_later plugged old mid new c.file t r b c.trace fit c.turns a tells a.status h.1))
 
-    told_parsed : EndedParsed a.status a b (taken_files c.file c.trace) c.trace c.turns mid new → Told a c old new
+    told_parsed : EndedParsed plugged a.status a b (taken_files c.file c.trace) c.trace c.turns mid new → Told plugged a c old new
     told_parsed (inl h) = inl (not_fit a.status h)
     told_parsed (inr h) = told_fit h.0 h.1
 
   -- what is told of the text is told of the call
-  pub told_text : EndedText a.status a t (taken_files c.file c.trace) c.trace c.turns mid new → Told a c old new
+  pub told_text : EndedText plugged a.status a t (taken_files c.file c.trace) c.trace c.turns mid new → Told plugged a c old new
   told_text (inl h) = inl (not_said a.status h)
   told_text (inr h) = told_parsed h.0 h.1.0 h.1.1
 
-module _ (old mid new : FolderState) (file t : List ℕ) (r : ReadsFile old mid file t) where
+module _ (plugged : Plugged) (old mid new : FolderState) (file t : List ℕ) (r : ReadsFile old mid file t) where
   all_quiet : AllQuiet mid new → AllQuiet old new
   all_quiet q = record { refusals = quiet_two _ _ _ r.refusals q.refusals; rfaults = quiet_two _ _ _ r.rfaults q.rfaults; wfaults = quiet_two _ _ _ r.wfaults q.wfaults }
 
@@ -813,13 +814,13 @@ module _ (old mid new : FolderState) (file t : List ℕ) (r : ReadsFile old mid 
   quiet_before (status.Missing n) h = absurd h
 
   -- which counts the call raised
-  pub causes_text : (s : Status) (a : Answer) (trace : Option (List ℕ)) → CausesText s a (taken_files file trace) trace mid new → Causes s a file trace old new
+  pub causes_text : (s : Status) (a : Answer) (trace : Option (List ℕ)) → CausesText plugged s a (taken_files file trace) trace mid new → Causes plugged s a file trace old new
   causes_text s a trace (inl h) = inl (quiet_before s h)
-  causes_text s a trace (inr h) = inr (h.0, (h.1.0, causes_later old mid new file t r h.0 trace h.1.0 a s h.1.1))
+  causes_text s a trace (inr h) = inr (h.0, (h.1.0, causes_later plugged old mid new file t r h.0 trace h.1.0 a s h.1.1))
 
 -- what is said of the counts before a run, by the status
-pub causes_before : (s t : Status) (a : Answer) (file : List ℕ) (trace : Option (List ℕ)) (old new : FolderState) → s ≡ t → CausesBefore t file old new → Causes s a file trace old new
-causes_before s t a file trace old new e h = inl (subst (λ x. CausesBefore x file old new) (sym e) h)
+pub causes_before : (plugged : Plugged) (s t : Status) (a : Answer) (file : List ℕ) (trace : Option (List ℕ)) (old new : FolderState) → s ≡ t → CausesBefore t file old new → Causes plugged s a file trace old new
+causes_before plugged s t a file trace old new e h = inl (subst (λ x. CausesBefore x file old new) (sym e) h)
 
 -- ---- statuses before a run
 
@@ -830,24 +831,33 @@ nothing_here : (s : FolderState) (a : Answer) → Blank a → RanNothing s s a
 nothing_here s a b = record { files = record { telling = refl; files = λ h n. refl }; blank = b }
 
 -- a blueprint of which some node has not been built is not run
-pub unbuilt_told : (s : FolderState) (a : Answer) (b : Blueprint) (trace : Option (List ℕ)) (k turns : ℕ) → a.status ≡ status.Unbuilt k → Blank a → unbuilt_node b ≡ Some k → EndedFit a.status a b trace turns s s
-unbuilt_told s a b trace k turns is blank e = subst (λ x. EndedFit x a b trace turns s s) (sym is) (inl (nothing_here s a blank, e))
+pub unbuilt_told : (plugged : Plugged) (s : FolderState) (a : Answer) (b : Blueprint) (trace : Option (List ℕ)) (k turns : ℕ) → a.status ≡ status.Unbuilt k → Blank a → unbuilt_node b ≡ Some k → EndedFit plugged a.status a b trace turns s s
+unbuilt_told plugged s a b trace k turns is blank e = subst (λ x. EndedFit plugged x a b trace turns s s) (sym is) (inl (nothing_here s a blank, e))
+
+-- a blueprint that breaks a rule is not run
+unfit_by : (plugged : Plugged) (s : FolderState) (a : Answer) (b : Blueprint) (taken : List (List ℕ)) (f : CheckFault) → (a.status ≡ status.Unfit f) ⊎ (a.status ≡ status.NoMemory) → Blank a → IsFirstFault b plugged.heads taken f → NotFit plugged a.status a b taken s s
+unfit_by plugged s a b taken f (inl e) blank first = subst (λ x. NotFit plugged x a b taken s s) (sym e) (nothing_here s a blank, first)
+unfit_by plugged s a b taken f (inr e) blank first = subst (λ x. NotFit plugged x a b taken s s) (sym e) (nothing_here s a blank)
+
+pub unfit_told : (plugged : Plugged) (s : FolderState) (a : Answer) (b : Blueprint) (taken : List (List ℕ)) (trace : Option (List ℕ)) (turns : ℕ) (f : CheckFault) → (a.status ≡ status.Unfit f) ⊎ (a.status ≡ status.NoMemory) → Blank a → IsFirstFault b plugged.heads taken f
+    → EndedParsed plugged a.status a b taken trace turns s s
+unfit_told plugged s a b taken trace turns f is blank first = inl (unfit_by plugged s a b taken f is blank first)
 
 -- a blueprint that was found fit is the one that was parsed
-pub causes_parsed : (s : Status) (a : Answer) (b c : Blueprint) (taken : List (List ℕ)) (trace : Option (List ℕ)) (old new : FolderState) → IsFit b [] taken → c ≡ b → CausesFit s a c trace old new → CausesText s a taken trace old new
-causes_parsed s a b c taken trace old new fit same (inl h) = inl h
-causes_parsed s a b c taken trace old new fit same (inr h) = inr (b, (fit, subst (λ x. RunCauses s a x trace old new) same h))
+pub causes_parsed : (plugged : Plugged) (s : Status) (a : Answer) (b c : Blueprint) (taken : List (List ℕ)) (trace : Option (List ℕ)) (old new : FolderState) → IsFit b plugged.heads taken → c ≡ b → CausesFit plugged s a c trace old new → CausesText plugged s a taken trace old new
+causes_parsed plugged s a b c taken trace old new fit same (inl h) = inl h
+causes_parsed plugged s a b c taken trace old new fit same (inr h) = inr (b, (fit, subst (λ x. RunCauses plugged s a x trace old new) same h))
 
 -- the trace's file is taken, so it is none of the blueprint's
-pub apart_of : (b c : Blueprint) (taken : List (List ℕ)) (trace : Option (List ℕ)) → IsFit b [] taken → c ≡ b → ((t : List ℕ) → trace ≡ Some t → Contains taken t) → IsApart c trace
-apart_of b c taken trace fit same among = subst (λ x. IsApart x trace) (sym same)
-    (λ t e. ((λ input. inputs_untaken b [] taken fit t input (among t e)), (λ output. outputs_untaken b [] taken fit t output (among t e))))
+pub apart_of : (plugged : Plugged) (b c : Blueprint) (taken : List (List ℕ)) (trace : Option (List ℕ)) → IsFit b plugged.heads taken → c ≡ b → ((t : List ℕ) → trace ≡ Some t → Contains taken t) → IsApart c trace
+apart_of plugged b c taken trace fit same among = subst (λ x. IsApart x trace) (sym same)
+    (λ t e. ((λ input. inputs_untaken b plugged.heads taken fit t input (among t e)), (λ output. outputs_untaken b plugged.heads taken fit t output (among t e))))
 
 -- of a file that is taken no more is read
-pub reads_parsed : (b c : Blueprint) (taken : List (List ℕ)) (old new : List ℕ → ℕ) → IsFit b [] taken → c ≡ b → QuietButAll (inputs_of_nodes c.nodes.items) old new → QuietAmong taken old new
-reads_parsed b c taken old new fit same quiet =
+pub reads_parsed : (plugged : Plugged) (b c : Blueprint) (taken : List (List ℕ)) (old new : List ℕ → ℕ) → IsFit b plugged.heads taken → c ≡ b → QuietButAll (inputs_of_nodes c.nodes.items) old new → QuietAmong taken old new
+reads_parsed plugged b c taken old new fit same quiet =
     let its : QuietButAll (inputs_of_nodes b.nodes.items) old new = subst (λ x. QuietButAll (inputs_of_nodes x.nodes.items) old new) same quiet in
-    λ n among. its n (λ input. inputs_untaken b [] taken fit n input among)
+    λ n among. its n (λ input. inputs_untaken b plugged.heads taken fit n input among)
 
 pub reads_checked : (b c : Blueprint) (old new : List ℕ → ℕ) → c ≡ b → QuietButAll (inputs_of_nodes c.nodes.items) old new → QuietButAll (inputs_of_nodes b.nodes.items) old new
 reads_checked b c old new same quiet = subst (λ x. QuietButAll (inputs_of_nodes x.nodes.items) old new) same quiet

@@ -16,7 +16,7 @@ use Rattle.blueprint_run.proofs.Places.{all_at}
 use Rattle.run_report.specs.Answer.{Answer}
 use Rattle.run_report.specs.declared.outcome.Status.{Status}
 use Rattle.run_report.specs.declared.outcome.Status.TheVariants as status
-use Rattle.stream_top.specs.Asked.{Asked}
+use Rattle.stream_top.specs.Asked.{Plugged, Asked}
 use Rattle.stream_top.specs.Outcome.{taken_files, IsAbsent, LacksInput, LacksOutput, EndedBefore, EndedRun, SaysFile, SaysBuilt, Told, IsValid, RoseNowhere, WasRun}
 
 some_same : {A : Type 0} {a b : A} → Some a ≡ Some b → a ≡ b
@@ -54,11 +54,11 @@ closed_never ws (fault.NoSuchPlug n) none h = h
 closed_never ws (fault.PlugTwice n) none h = h
 closed_never ws (fault.BadSize s) none h = h
 
-fit_never : (b : Blueprint) (taken : List (List ℕ)) (f : CheckFault) → IsFit b [] taken → IsFirstFault b [] taken f → ⊥
-fit_never b taken f fit (inl h) = none_some _ f fit.early h
-fit_never b taken f fit (inr h) = closed_never (blueprint_wires b) f fit.open_walks h.1
+fit_never : (plugged : Plugged) (b : Blueprint) (taken : List (List ℕ)) (f : CheckFault) → IsFit b plugged.heads taken → IsFirstFault b plugged.heads taken f → ⊥
+fit_never plugged b taken f fit (inl h) = none_some _ f fit.early h
+fit_never plugged b taken f fit (inr h) = closed_never (blueprint_wires b) f fit.open_walks h.1
 
-module _ (c : Asked) (old new : FolderState) (v : IsValid c.file c.trace old) (calm : RoseNowhere old new) (a : Answer) where
+module _ (plugged : Plugged) (c : Asked) (old new : FolderState) (v : IsValid plugged c.file c.trace old) (calm : RoseNowhere old new) (a : Answer) where
   absent_never : (b : Blueprint) (n : List ℕ) → SaysFile old c.file b → LacksInput old new b n a ⊎ LacksOutput old new b c.trace n a → ⊥
   absent_never b n says (inl h) =
       let at = at_middle h.before h.after n in
@@ -66,7 +66,7 @@ module _ (c : Asked) (old new : FolderState) (v : IsValid c.file c.trace old) (c
       there_absent old new n (all_at (λ m. IsSome (old.file m)) (inputs_of_nodes b.nodes.items) at.0 n (v.inputs b says) among) calm h.absent
   absent_never b n says (inr h) = calm.refusals n h.refused
 
-  completes : (s : Status) → EndedBefore s a c.file c.trace old new ⊎ ((b : Blueprint) × (SaysBuilt old c.file c.trace b × EndedRun s a b c.trace c.turns old new)) → WasRun s
+  completes : (s : Status) → EndedBefore plugged s a c.file c.trace old new ⊎ ((b : Blueprint) × (SaysBuilt plugged old c.file c.trace b × EndedRun plugged s a b c.trace c.turns old new)) → WasRun s
   completes status.Done t = tt
   completes status.StreamFailed t = tt
   completes status.Stalled t = tt
@@ -82,7 +82,7 @@ module _ (c : Asked) (old new : FolderState) (v : IsValid c.file c.trace old) (c
       let same : h.1.0 ≡ v.says.whole = some_same (sym h.1.1.0 ∙ v.says.there) in
       absurd (none_some _ f v.says.says.faultless (subst (λ x. language.fault_of x ≡ Some f) same h.1.1.1))
   completes (status.Refused f) (inr h) = absurd h.1.1
-  completes (status.Unfit f) (inl h) = absurd (fit_never h.1.0 (taken_files c.file c.trace) f (v.fit h.1.0 h.1.1.0) h.1.1.1)
+  completes (status.Unfit f) (inl h) = absurd (fit_never plugged h.1.0 (taken_files c.file c.trace) f (v.fit h.1.0 h.1.1.0) h.1.1.1)
   completes (status.Unfit f) (inr h) = absurd h.1.1
   completes (status.Unbuilt k) (inl h) = absurd (none_some (unbuilt_node h.1.0) k (v.built h.1.0 h.1.1.0.says) h.1.1.1)
   completes (status.Unbuilt k) (inr h) = absurd h.1.1
@@ -90,5 +90,5 @@ module _ (c : Asked) (old new : FolderState) (v : IsValid c.file c.trace old) (c
   completes (status.Missing n) (inr h) = absurd (absent_never h.0 n h.1.0.fit.says h.1.1)
 
 -- the answer to a valid call without faults
-pub complete : (c : Asked) (old new : FolderState) (a : Answer) → (IsTrue old.tells → Told a c old new) → IsTrue old.tells → IsValid c.file c.trace old → RoseNowhere old new → WasRun a.status
-complete c old new a told tells v calm = completes c old new v calm a a.status (told tells)
+pub complete : (plugged : Plugged) (c : Asked) (old new : FolderState) (a : Answer) → (IsTrue old.tells → Told plugged a c old new) → IsTrue old.tells → IsValid plugged c.file c.trace old → RoseNowhere old new → WasRun a.status
+complete plugged c old new a told tells v calm = completes plugged c old new v calm a a.status (told tells)

@@ -1,6 +1,6 @@
 -- The receipt of a run, by the status of the call.
-use Rattle.std.proofs.Common.{◌≡◌, ◌∙◌, ℕ, Bool, true, false, List, [], refl, sym, ap, subst}
-use Rattle.std.specs.Prelude.{not, if◌then◌else◌, ◌||◌, Option, Some, None, IfSome, IsTrue}
+use Rattle.std.proofs.Common.{◌≡◌, ℕ, Bool, true, false, List, sym, subst}
+use Rattle.std.specs.Prelude.{if◌then◌else◌, ◌||◌, Option, Some, None, IfSome, IsTrue}
 use Rattle.std.specs.List.{list_any}
 use Rattle.blue_core.specs.declared.blueprint.Blueprint.{Blueprint}
 use Rattle.blue_check.specs.Fitness.{IsFit}
@@ -18,6 +18,7 @@ use Rattle.stream_top.specs.AfterRun.{status_after}
 use Rattle.stream_top.specs.Outcome.{taken_files, SaysBuilt}
 use Rattle.stream_top.proofs.Answering.{says_read}
 use Rattle.stream_top.specs.Receipts.{HasReceipt, Receipts, RanIslands, RanText, RanFile}
+use Rattle.stream_top.specs.Asked.{Plugged}
 
 -- a status that is another's tells what that tells
 pub as_status : (s t : Status) (workers used : ℕ) (ran : Option Ran) → s ≡ t → Receipts t workers used ran → Receipts s workers used ran
@@ -55,27 +56,27 @@ told_on P Q f None h = tt
 told_on P Q f (Some r) h = f r h
 
 -- a blueprint that breaks no rule, and of which all has been built
-pub of_fit : (b c : Blueprint) (taken : List (List ℕ)) (ran : Option Ran) → b ≡ c → IsFit c [] taken → unbuilt_node c ≡ None → IfSome ran (λ (r : Ran). HasIslands b r.islands) → IfSome ran (λ (r : Ran). RanIslands c taken r)
-of_fit b c taken ran same fit built h = told_on (λ (r : Ran). HasIslands b r.islands) (λ (r : Ran). RanIslands c taken r)
+pub of_fit : (plugged : Plugged) (b c : Blueprint) (taken : List (List ℕ)) (ran : Option Ran) → b ≡ c → IsFit c plugged.heads taken → unbuilt_node c ≡ None → IfSome ran (λ (r : Ran). HasIslands b r.islands) → IfSome ran (λ (r : Ran). RanIslands plugged c taken r)
+of_fit plugged b c taken ran same fit built h = told_on (λ (r : Ran). HasIslands b r.islands) (λ (r : Ran). RanIslands plugged c taken r)
     (λ r i. record { fit = fit; built = built; islands = subst (λ (x : Blueprint). HasIslands x r.islands) same i }) ran h
 
 -- the blueprint of a checked one
-pub of_checked : (b c : Blueprint) (taken : List (List ℕ)) (ran : Option Ran) → c ≡ b → IfSome ran (λ (r : Ran). RanIslands c taken r) → IfSome ran (λ (r : Ran). RanIslands b taken r)
-of_checked b c taken ran same h = subst (λ (x : Blueprint). IfSome ran (λ (r : Ran). RanIslands x taken r)) same h
+pub of_checked : (plugged : Plugged) (b c : Blueprint) (taken : List (List ℕ)) (ran : Option Ran) → c ≡ b → IfSome ran (λ (r : Ran). RanIslands plugged c taken r) → IfSome ran (λ (r : Ran). RanIslands plugged b taken r)
+of_checked plugged b c taken ran same h = subst (λ (x : Blueprint). IfSome ran (λ (r : Ran). RanIslands plugged x taken r)) same h
 
 -- that of a text
-pub of_text : (text : List ℕ) (b : Blueprint) (taken : List (List ℕ)) (ran : Option Ran) → language.Says text (plain b) → IfSome ran (λ (r : Ran). RanIslands b taken r) → RanText text taken ran
-of_text text b taken ran says h = told_on (λ (r : Ran). RanIslands b taken r) (λ (r : Ran). (c : Blueprint) × (language.Says text (plain c) × RanIslands c taken r)) (λ r i. (b, (says, i))) ran h
+pub of_text : (plugged : Plugged) (text : List ℕ) (b : Blueprint) (taken : List (List ℕ)) (ran : Option Ran) → language.Says text (plain b) → IfSome ran (λ (r : Ran). RanIslands plugged b taken r) → RanText plugged text taken ran
+of_text plugged text b taken ran says h = told_on (λ (r : Ran). RanIslands plugged b taken r) (λ (r : Ran). (c : Blueprint) × (language.Says text (plain c) × RanIslands plugged c taken r)) (λ r i. (b, (says, i))) ran h
 
 -- that of a file that was read
-pub of_file : (old mid : FolderState) (file text : List ℕ) (trace : Option (List ℕ)) (taken : List (List ℕ)) (ran : Option Ran) → IsTrue old.tells → ReadsFile old mid file text → taken ≡ taken_files file trace → RanText text taken ran → RanFile old file trace ran
-of_file old mid file text trace taken ran tells read same h =
-    told_on (λ (r : Ran). (c : Blueprint) × (language.Says text (plain c) × RanIslands c taken r)) (λ (r : Ran). (c : Blueprint) × (SaysBuilt old file trace c × HasIslands c r.islands))
+pub of_file : (plugged : Plugged) (old mid : FolderState) (file text : List ℕ) (trace : Option (List ℕ)) (taken : List (List ℕ)) (ran : Option Ran) → IsTrue old.tells → ReadsFile old mid file text → taken ≡ taken_files file trace → RanText plugged text taken ran → RanFile plugged old file trace ran
+of_file plugged old mid file text trace taken ran tells read same h =
+    told_on (λ (r : Ran). (c : Blueprint) × (language.Says text (plain c) × RanIslands plugged c taken r)) (λ (r : Ran). (c : Blueprint) × (SaysBuilt plugged old file trace c × HasIslands c r.islands))
     (λ r i. (
       i.0,
       (
         record {
-          fit = record { says = says_read old mid file text i.0 tells read i.1.0; fit = subst (λ (t : List (List ℕ)). IsFit i.0 [] t) same i.1.1.fit };
+          fit = record { says = says_read old mid file text i.0 tells read i.1.0; fit = subst (λ (t : List (List ℕ)). IsFit i.0 plugged.heads t) same i.1.1.fit };
           built = i.1.1.built;
         },
         i.1.1.islands,

@@ -30,7 +30,7 @@ use Rattle.blueprint_run.specs.Running.{LeavesFiles, WritesOf, BreaksFiles}
 use Rattle.run_report.specs.Answer.{Answer}
 use Rattle.run_report.specs.declared.outcome.Status.{Status}
 use Rattle.run_report.specs.declared.outcome.Status.TheVariants as status
-use Rattle.stream_top.specs.Asked.{Asked}
+use Rattle.stream_top.specs.Asked.{Asked, Plugged}
 use Rattle.stream_top.specs.AfterRun.{told_ends, all_ended, some_failed, some_unended, some_fault, is_over}
 
 -- the command's file says this blueprint
@@ -43,14 +43,14 @@ pub record SaysFile (folder : FolderState) (file : List ℕ) (b : Blueprint) : T
 abbrev pub taken_files : List ℕ → Option (List ℕ) → List (List ℕ)
 taken_files file trace = file ∷ option_to_list trace
 
--- and it breaks no rule, where no plugs are handed in and these files are taken
-pub record SaysFit (folder : FolderState) (file : List ℕ) (trace : Option (List ℕ)) (b : Blueprint) : Type 0 where
+-- and it breaks no rule, where these plugs are handed in and these files are taken
+pub record SaysFit (p : Plugged) (folder : FolderState) (file : List ℕ) (trace : Option (List ℕ)) (b : Blueprint) : Type 0 where
   pub says : SaysFile folder file b
-  pub fit : IsFit b [] (taken_files file trace)
+  pub fit : IsFit b p.heads (taken_files file trace)
 
 -- and all of it has been built
-pub record SaysBuilt (folder : FolderState) (file : List ℕ) (trace : Option (List ℕ)) (b : Blueprint) : Type 0 where
-  pub fit : SaysFit folder file trace b
+pub record SaysBuilt (p : Plugged) (folder : FolderState) (file : List ℕ) (trace : Option (List ℕ)) (b : Blueprint) : Type 0 where
+  pub fit : SaysFit p folder file trace b
   pub built : unbuilt_node b ≡ None
 
 -- nothing was run: there is nothing to tell of a run
@@ -71,40 +71,40 @@ pub record RanNothing (old new : FolderState) (a : Answer) : Type 0 where
 -- alone. The units pay for what passed the wires, and each wire carried only elements of its type. In a polytree a sink has not ended only
 -- where the units were used up; and where they suffice for all that may pass, each sink of whose outlook no failure is part has
 -- ended, unless a write to its file failed.
-pub record RanTo (old new : FolderState) (b : Blueprint) (trace : Option (List ℕ)) (turns : ℕ) (a : Answer) : Type 0 where
+pub record RanTo (p : Plugged) (old new : FolderState) (b : Blueprint) (trace : Option (List ℕ)) (turns : ℕ) (a : Answer) : Type 0 where
   pub stands : List Stand
   pub stands_are : map (λ (s : Stand). s.0) stands ≡ sink_places 0 b.nodes.items
   pub sinks : a.sinks ≡ told_ends b.nodes.items stands
   pub picks_are : picked a.picks ≡ pick_places 0 b.nodes.items
-  pub leaves : LeavesFiles old new b trace stands a.picks a.wires (is_over a turns)
+  pub leaves : LeavesFiles p.book old new b trace stands a.picks a.wires (is_over a turns)
   pub writes : (i : ℕ) (s : Stand) (n : Node) (file : List ℕ) → slice_get stands i ≡ Some s → slice_get b.nodes.items s.0 ≡ Some n → output_of n.kind ≡ Some file → WritesOf s.2 (old.wfaults file) (new.wfaults file)
   pub within : a.used ≤ turns
   pub pays : Pays b a.wires a.used
-  pub carries : Carries b a.wires a.picks
+  pub carries : Carries p.book b a.wires a.picks
   pub ending : IsPolytree (wiring (blueprint_wires b)) → some_unended a.sinks ≡ true → a.used ≡ turns
-  pub enough : IsPolytree (wiring (blueprint_wires b)) → (w : World) → IsWorldOf b.nodes.items leaves.drawn w → need (graph_of b) (composed (graph_of b) w) ≤ turns
+  pub enough : IsPolytree (wiring (blueprint_wires b)) → (w : World) → IsWorldOf p.book b.nodes.items leaves.drawn w → need (graph_of b) (composed (graph_of b) w) ≤ turns
       → (i : ℕ) (s : Stand) (n : Node) (file : List ℕ) → slice_get stands i ≡ Some s → slice_get b.nodes.items s.0 ≡ Some n → output_of n.kind ≡ Some file
       → (sink_outlook (graph_of b) w s.0 (node_of n)).fails ≡ [] → (Rose (old.wfaults file) (new.wfaults file) → ⊥) → s.2 ≡ state.Ended
 
 -- The units were used up. They were fewer than the count over what was sent, and so fewer than the need over all that may pass.
-pub record FallsShort (b : Blueprint) (turns : ℕ) (a : Answer) (d : Drawn) : Type 0 where
+pub record FallsShort (p : Plugged) (b : Blueprint) (turns : ℕ) (a : Answer) (d : Drawn) : Type 0 where
   pub used : a.used ≡ turns
   pub count : turns < count_needed (graph_of b) a.wires
-  pub need : (w : World) → IsWorldOf b.nodes.items d w → turns < need (graph_of b) (composed (graph_of b) w)
+  pub need : (w : World) → IsWorldOf p.book b.nodes.items d w → turns < need (graph_of b) (composed (graph_of b) w)
 
 -- the folder has no file of that name, or its opening was refused
 abbrev pub IsAbsent : FolderState → FolderState → List ℕ → Type 0
 IsAbsent old new n = Lacks old n ⊎ Rose (old.refusals n) (new.refusals n)
 
 -- what a call that ended before its blueprint's files were opened answers, where the folder told its files before it
-abbrev pub EndedBefore : Status → Answer → List ℕ → Option (List ℕ) → FolderState → FolderState → Type 0
-EndedBefore (status.Missing n) a file trace old new = RanNothing old new a × (n ≡ file) × IsAbsent old new file
-EndedBefore status.ReadFault a file trace old new = RanNothing old new a × Rose (old.rfaults file) (new.rfaults file)
-EndedBefore (status.Refused f) a file trace old new = RanNothing old new a × ((whole : List ℕ) × ((old.file file ≡ Some whole) × (language.fault_of whole ≡ Some f)))
-EndedBefore (status.Unfit f) a file trace old new = RanNothing old new a × ((b : Blueprint) × (SaysFile old file b × IsFirstFault b [] (taken_files file trace) f))
-EndedBefore (status.Unbuilt k) a file trace old new = RanNothing old new a × ((b : Blueprint) × (SaysFit old file trace b × (unbuilt_node b ≡ Some k)))
-EndedBefore status.NoMemory a file trace old new = RanNothing old new a
-EndedBefore _ a file trace old new = ⊥
+abbrev pub EndedBefore : Plugged → Status → Answer → List ℕ → Option (List ℕ) → FolderState → FolderState → Type 0
+EndedBefore p (status.Missing n) a file trace old new = RanNothing old new a × (n ≡ file) × IsAbsent old new file
+EndedBefore p status.ReadFault a file trace old new = RanNothing old new a × Rose (old.rfaults file) (new.rfaults file)
+EndedBefore p (status.Refused f) a file trace old new = RanNothing old new a × ((whole : List ℕ) × ((old.file file ≡ Some whole) × (language.fault_of whole ≡ Some f)))
+EndedBefore p (status.Unfit f) a file trace old new = RanNothing old new a × ((b : Blueprint) × (SaysFile old file b × IsFirstFault b p.heads (taken_files file trace) f))
+EndedBefore p (status.Unbuilt k) a file trace old new = RanNothing old new a × ((b : Blueprint) × (SaysFit p old file trace b × (unbuilt_node b ≡ Some k)))
+EndedBefore p status.NoMemory a file trace old new = RanNothing old new a
+EndedBefore p _ a file trace old new = ⊥
 
 -- the first of the inputs that is not there, or whose opening was refused, has this name; no file is changed
 pub record LacksInput (old new : FolderState) (b : Blueprint) (n : List ℕ) (a : Answer) : Type 0 where
@@ -136,8 +136,8 @@ pub record GaveUpBefore (old new : FolderState) (b : Blueprint) (trace : Option 
 
 -- memory was wanting before the run or in it; in it each sink wrote a first part of what it may write, the trace's file is empty, and
 -- no other file is changed
-abbrev pub GaveUp : FolderState → FolderState → Blueprint → Option (List ℕ) → Type 0
-GaveUp old new b trace = GaveUpBefore old new b trace ⊎ BreaksFiles old new b trace
+abbrev pub GaveUp : Plugged → FolderState → FolderState → Blueprint → Option (List ℕ) → Type 0
+GaveUp p old new b trace = GaveUpBefore old new b trace ⊎ BreaksFiles p.book old new b trace
 
 -- the count of failed writes of some sink's file, or of the trace's, rose
 pub record SomeCountRose (old new : FolderState) (b : Blueprint) (trace : Option (List ℕ)) : Type 0 where
@@ -152,19 +152,19 @@ SomeWriteFailed old new b trace a = ((some_fault a.sinks ≡ true) × Traces old
 -- What the run of a blueprint answers, where the folder told its files before it. A failed write stands before a sink that has not ended,
 -- and that before one that failed. The trace's file holds the text of the moves, where no write to it failed. A polytree never stalls,
 -- and units that suffice for all that may pass are not used up.
-abbrev pub EndedRun : Status → Answer → Blueprint → Option (List ℕ) → ℕ → FolderState → FolderState → Type 0
-EndedRun status.Done a b trace turns old new = RanTo old new b trace turns a × Traces old new b trace a.picks false × (all_ended a.sinks ≡ true)
-EndedRun status.StreamFailed a b trace turns old new = RanTo old new b trace turns a × Traces old new b trace a.picks false × (some_fault a.sinks ≡ false) × (some_unended a.sinks ≡ false) × (some_failed a.sinks ≡ true)
-EndedRun status.Stalled a b trace turns old new = RanTo old new b trace turns a × Traces old new b trace a.picks false × (IsPolytree (wiring (blueprint_wires b)) → ⊥) × (some_fault a.sinks ≡ false) × (some_unended a.sinks ≡ true)
-EndedRun status.OutOfTurns a b trace turns old new = (ran : RanTo old new b trace turns a) × Traces old new b trace a.picks false × FallsShort b turns a ran.leaves.drawn × (some_fault a.sinks ≡ false) × (some_unended a.sinks ≡ true)
-EndedRun status.WriteFault a b trace turns old new = RanTo old new b trace turns a × SomeWriteFailed old new b trace a × SomeCountRose old new b trace
-EndedRun (status.Missing n) a b trace turns old new = LacksInput old new b n a ⊎ LacksOutput old new b trace n a
-EndedRun status.NoMemory a b trace turns old new = Blank a × GaveUp old new b trace
-EndedRun _ a b trace turns old new = ⊥
+abbrev pub EndedRun : Plugged → Status → Answer → Blueprint → Option (List ℕ) → ℕ → FolderState → FolderState → Type 0
+EndedRun p status.Done a b trace turns old new = RanTo p old new b trace turns a × Traces old new b trace a.picks false × (all_ended a.sinks ≡ true)
+EndedRun p status.StreamFailed a b trace turns old new = RanTo p old new b trace turns a × Traces old new b trace a.picks false × (some_fault a.sinks ≡ false) × (some_unended a.sinks ≡ false) × (some_failed a.sinks ≡ true)
+EndedRun p status.Stalled a b trace turns old new = RanTo p old new b trace turns a × Traces old new b trace a.picks false × (IsPolytree (wiring (blueprint_wires b)) → ⊥) × (some_fault a.sinks ≡ false) × (some_unended a.sinks ≡ true)
+EndedRun p status.OutOfTurns a b trace turns old new = (ran : RanTo p old new b trace turns a) × Traces old new b trace a.picks false × FallsShort p b turns a ran.leaves.drawn × (some_fault a.sinks ≡ false) × (some_unended a.sinks ≡ true)
+EndedRun p status.WriteFault a b trace turns old new = RanTo p old new b trace turns a × SomeWriteFailed old new b trace a × SomeCountRose old new b trace
+EndedRun p (status.Missing n) a b trace turns old new = LacksInput old new b n a ⊎ LacksOutput old new b trace n a
+EndedRun p status.NoMemory a b trace turns old new = Blank a × GaveUp p old new b trace
+EndedRun p _ a b trace turns old new = ⊥
 
 -- what a call with that file answers: it ended before a run, or it ran the blueprint that the file says
-abbrev pub Told : Answer → Asked → FolderState → FolderState → Type 0
-Told a c old new = EndedBefore a.status a c.file c.trace old new ⊎ ((b : Blueprint) × (SaysBuilt old c.file c.trace b × EndedRun a.status a b c.trace c.turns old new))
+abbrev pub Told : Plugged → Answer → Asked → FolderState → FolderState → Type 0
+Told p a c old new = EndedBefore p a.status a c.file c.trace old new ⊎ ((b : Blueprint) × (SaysBuilt p old c.file c.trace b × EndedRun p a.status a b c.trace c.turns old new))
 
 -- only counts of these names rose
 abbrev pub QuietButAll : List (List ℕ) → (List ℕ → ℕ) → (List ℕ → ℕ) → Type 0
@@ -181,26 +181,26 @@ MissesFile old new b trace n = (Contains (inputs_of_nodes b.nodes.items) n × Is
 -- The sinks of a run stand so, and the count of failed writes of a sink's file rose exactly where that sink stands at a failed
 -- write. There is a list of moves for each stage whose kind chooses, and each wire carried only elements of its type, also where the
 -- folder tells nothing.
-pub record SinksWrote (old new : FolderState) (b : Blueprint) (a : Answer) : Type 0 where
+pub record SinksWrote (p : Plugged) (old new : FolderState) (b : Blueprint) (a : Answer) : Type 0 where
   pub stands : List Stand
   pub stands_are : map (λ (s : Stand). s.0) stands ≡ sink_places 0 b.nodes.items
   pub sinks : a.sinks ≡ told_ends b.nodes.items stands
   pub picks_are : picked a.picks ≡ pick_places 0 b.nodes.items
   pub writes : (i : ℕ) (s : Stand) (n : Node) (file : List ℕ) → slice_get stands i ≡ Some s → slice_get b.nodes.items s.0 ≡ Some n → output_of n.kind ≡ Some file → WritesOf s.2 (old.wfaults file) (new.wfaults file)
-  pub carries : Carries b a.wires a.picks
+  pub carries : Carries p.book b a.wires a.picks
 
 -- which counts a run raised: of failed reads at most those of its inputs, and of failed writes those of its outputs, each exactly
 -- where its sink stands at a failed write, and that of the trace's file
-abbrev pub RunCauses : Status → Answer → Blueprint → Option (List ℕ) → FolderState → FolderState → Type 0
-RunCauses status.Usage a b trace old new = ⊥
-RunCauses status.ReadFault a b trace old new = ⊥
-RunCauses (status.Refused f) a b trace old new = ⊥
-RunCauses (status.Unfit f) a b trace old new = ⊥
-RunCauses (status.Unbuilt k) a b trace old new = ⊥
-RunCauses (status.Missing n) a b trace old new = MissesFile old new b trace n × QuietBut n old.refusals new.refusals × Quiet old.rfaults new.rfaults × Quiet old.wfaults new.wfaults
-RunCauses status.NoMemory a b trace old new = Quiet old.refusals new.refusals × QuietButAll (inputs_of_nodes b.nodes.items) old.rfaults new.rfaults × QuietButAll (outputs_of_nodes b.nodes.items) old.wfaults new.wfaults
-RunCauses status.WriteFault a b trace old new = Quiet old.refusals new.refusals × QuietButAll (inputs_of_nodes b.nodes.items) old.rfaults new.rfaults × SomeCountRose old new b trace × QuietButAll (written_files b trace) old.wfaults new.wfaults × SinksWrote old new b a
-RunCauses _ a b trace old new = Quiet old.refusals new.refusals × QuietButAll (inputs_of_nodes b.nodes.items) old.rfaults new.rfaults × Quiet old.wfaults new.wfaults × SinksWrote old new b a
+abbrev pub RunCauses : Plugged → Status → Answer → Blueprint → Option (List ℕ) → FolderState → FolderState → Type 0
+RunCauses p status.Usage a b trace old new = ⊥
+RunCauses p status.ReadFault a b trace old new = ⊥
+RunCauses p (status.Refused f) a b trace old new = ⊥
+RunCauses p (status.Unfit f) a b trace old new = ⊥
+RunCauses p (status.Unbuilt k) a b trace old new = ⊥
+RunCauses p (status.Missing n) a b trace old new = MissesFile old new b trace n × QuietBut n old.refusals new.refusals × Quiet old.rfaults new.rfaults × Quiet old.wfaults new.wfaults
+RunCauses p status.NoMemory a b trace old new = Quiet old.refusals new.refusals × QuietButAll (inputs_of_nodes b.nodes.items) old.rfaults new.rfaults × QuietButAll (outputs_of_nodes b.nodes.items) old.wfaults new.wfaults
+RunCauses p status.WriteFault a b trace old new = Quiet old.refusals new.refusals × QuietButAll (inputs_of_nodes b.nodes.items) old.rfaults new.rfaults × SomeCountRose old new b trace × QuietButAll (written_files b trace) old.wfaults new.wfaults × SinksWrote p old new b a
+RunCauses p _ a b trace old new = Quiet old.refusals new.refusals × QuietButAll (inputs_of_nodes b.nodes.items) old.rfaults new.rfaults × Quiet old.wfaults new.wfaults × SinksWrote p old new b a
 
 -- what a call raised before a run
 abbrev pub CausesBefore : Status → List ℕ → FolderState → FolderState → Type 0
@@ -214,8 +214,8 @@ CausesBefore _ file old new = ⊥
 
 -- Which counts rose, whether the folder tells its files or not: before a run, or in the run of a blueprint that is fit where the
 -- command's own file and that of the trace are taken, so that its files are other ones.
-abbrev pub Causes : Status → Answer → List ℕ → Option (List ℕ) → FolderState → FolderState → Type 0
-Causes s a file trace old new = CausesBefore s file old new ⊎ ((b : Blueprint) × (IsFit b [] (taken_files file trace) × RunCauses s a b trace old new))
+abbrev pub Causes : Plugged → Status → Answer → List ℕ → Option (List ℕ) → FolderState → FolderState → Type 0
+Causes p s a file trace old new = CausesBefore s file old new ⊎ ((b : Blueprint) × (IsFit b p.heads (taken_files file trace) × RunCauses p s a b trace old new))
 
 -- what a status comes with; only where a trace is wanted a failed write may be no sink's
 abbrev pub SinksOf : Status → Answer → Option (List ℕ) → Type 0
@@ -228,10 +228,10 @@ SinksOf _ a trace = Blank a
 
 -- the file says a blueprint; it is fit and built, and its inputs are there. A text says one blueprint, so this is said of each value
 -- that the text says.
-pub record IsValid (file : List ℕ) (trace : Option (List ℕ)) (folder : FolderState) : Type 0 where
+pub record IsValid (p : Plugged) (file : List ℕ) (trace : Option (List ℕ)) (folder : FolderState) : Type 0 where
   pub blueprint : Blueprint
   pub says : SaysFile folder file blueprint
-  pub fit : (b : Blueprint) → SaysFile folder file b → IsFit b [] (taken_files file trace)
+  pub fit : (b : Blueprint) → SaysFile folder file b → IsFit b p.heads (taken_files file trace)
   pub built : (b : Blueprint) → SaysFile folder file b → unbuilt_node b ≡ None
   pub inputs : (b : Blueprint) → SaysFile folder file b → All (λ n. IsSome (folder.file n)) (inputs_of_nodes b.nodes.items)
 

@@ -1,5 +1,5 @@
 -- The receipt of a run: what it tells, by the status of the call.
-use Rattle.std.specs.Prelude.{◌≡◌, ℕ, true, false, List, [], Option, Some, None, IfSome}
+use Rattle.std.specs.Prelude.{◌≡◌, ℕ, true, false, List, Option, Some, None, IfSome}
 use Rattle.blue_core.specs.declared.blueprint.Blueprint.{Blueprint}
 use Rattle.blue_check.specs.Fitness.{IsFit}
 use Rattle.blue_lang.specs.Blueprints as language
@@ -11,6 +11,7 @@ use Rattle.run_report.specs.declared.outcome.Status.{Status}
 use Rattle.run_report.specs.declared.outcome.Status.TheVariants as status
 use Rattle.stream_io.specs.State.{FolderState}
 use Rattle.stream_top.specs.Outcome.{SaysBuilt}
+use Rattle.stream_top.specs.Asked.{Plugged}
 
 -- there is a receipt of so many workers and so many units
 pub record HasReceipt (workers used : ℕ) (ran : Option Ran) : Type 0 where
@@ -30,15 +31,15 @@ Receipts status.WriteFault workers used ran = HasReceipt workers used ran
 Receipts _ workers used ran = ran ≡ None
 
 -- the islands of this blueprint were run, which breaks no rule where these files are taken, and of which all has been built
-pub record RanIslands (b : Blueprint) (taken : List (List ℕ)) (r : Ran) : Type 0 where
-  pub fit : IsFit b [] taken
+pub record RanIslands (p : Plugged) (b : Blueprint) (taken : List (List ℕ)) (r : Ran) : Type 0 where
+  pub fit : IsFit b p.heads taken
   pub built : unbuilt_node b ≡ None
   pub islands : HasIslands b r.islands
 
 -- those of the blueprint that this text says
-abbrev pub RanText : List ℕ → List (List ℕ) → Option Ran → Type 0
-RanText text taken ran = IfSome ran (λ r. (b : Blueprint) × (language.Says text (plain b) × RanIslands b taken r))
+abbrev pub RanText : Plugged → List ℕ → List (List ℕ) → Option Ran → Type 0
+RanText p text taken ran = IfSome ran (λ r. (b : Blueprint) × (language.Says text (plain b) × RanIslands p b taken r))
 
 -- those of the blueprint that this file says
-abbrev pub RanFile : FolderState → List ℕ → Option (List ℕ) → Option Ran → Type 0
-RanFile folder file trace ran = IfSome ran (λ r. (b : Blueprint) × (SaysBuilt folder file trace b × HasIslands b r.islands))
+abbrev pub RanFile : Plugged → FolderState → List ℕ → Option (List ℕ) → Option Ran → Type 0
+RanFile p folder file trace ran = IfSome ran (λ r. (b : Blueprint) × (SaysBuilt p folder file trace b × HasIslands b r.islands))

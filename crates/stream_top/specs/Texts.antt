@@ -1,5 +1,5 @@
 -- What a text comes to: it is refused, or the blueprint that it says is unfit, unbuilt or run.
-use Rattle.std.specs.Prelude.{◌≡◌, ℕ, ◌⊎◌, List, [], Option, Some, None}
+use Rattle.std.specs.Prelude.{◌≡◌, ℕ, ◌⊎◌, List, Option, Some, None}
 use Rattle.stream_io.specs.State.{FolderState}
 use Rattle.blue_core.specs.declared.blueprint.Blueprint.{Blueprint}
 use Rattle.blue_lang.specs.Blueprints as language
@@ -11,6 +11,7 @@ use Rattle.run_report.specs.Answer.{Answer}
 use Rattle.run_report.specs.declared.outcome.Status.{Status}
 use Rattle.run_report.specs.declared.outcome.Status.TheVariants as status
 use Rattle.stream_top.specs.Outcome.{RanNothing, EndedRun, RunCauses}
+use Rattle.stream_top.specs.Asked.{Plugged}
 
 -- a fit blueprint that was not run: some of it has not been built, or memory was wanting
 abbrev pub NotRun : Status → Answer → Blueprint → FolderState → FolderState → Type 0
@@ -19,17 +20,17 @@ NotRun status.NoMemory a b old new = RanNothing old new a
 NotRun _ a b old new = ⊥
 
 -- it was not run, or all of it has been built and it was run
-abbrev pub EndedFit : Status → Answer → Blueprint → Option (List ℕ) → ℕ → FolderState → FolderState → Type 0
-EndedFit s a b trace turns old new = NotRun s a b old new ⊎ ((unbuilt_node b ≡ None) × EndedRun s a b trace turns old new)
+abbrev pub EndedFit : Plugged → Status → Answer → Blueprint → Option (List ℕ) → ℕ → FolderState → FolderState → Type 0
+EndedFit p s a b trace turns old new = NotRun s a b old new ⊎ ((unbuilt_node b ≡ None) × EndedRun p s a b trace turns old new)
 
 -- a blueprint that is not fit, or memory was wanting
-abbrev pub NotFit : Status → Answer → Blueprint → List (List ℕ) → FolderState → FolderState → Type 0
-NotFit (status.Unfit f) a b taken old new = RanNothing old new a × IsFirstFault b [] taken f
-NotFit status.NoMemory a b taken old new = RanNothing old new a
-NotFit _ a b taken old new = ⊥
+abbrev pub NotFit : Plugged → Status → Answer → Blueprint → List (List ℕ) → FolderState → FolderState → Type 0
+NotFit p (status.Unfit f) a b taken old new = RanNothing old new a × IsFirstFault b p.heads taken f
+NotFit p status.NoMemory a b taken old new = RanNothing old new a
+NotFit p _ a b taken old new = ⊥
 
-abbrev pub EndedParsed : Status → Answer → Blueprint → List (List ℕ) → Option (List ℕ) → ℕ → FolderState → FolderState → Type 0
-EndedParsed s a b taken trace turns old new = NotFit s a b taken old new ⊎ (IsFit b [] taken × EndedFit s a b trace turns old new)
+abbrev pub EndedParsed : Plugged → Status → Answer → Blueprint → List (List ℕ) → Option (List ℕ) → ℕ → FolderState → FolderState → Type 0
+EndedParsed p s a b taken trace turns old new = NotFit p s a b taken old new ⊎ (IsFit b p.heads taken × EndedFit p s a b trace turns old new)
 
 -- a text that says no blueprint, or memory was wanting
 abbrev pub NotSaid : Status → Answer → List ℕ → FolderState → FolderState → Type 0
@@ -37,8 +38,8 @@ NotSaid (status.Refused f) a text old new = RanNothing old new a × (language.fa
 NotSaid status.NoMemory a text old new = RanNothing old new a
 NotSaid _ a text old new = ⊥
 
-abbrev pub EndedText : Status → Answer → List ℕ → List (List ℕ) → Option (List ℕ) → ℕ → FolderState → FolderState → Type 0
-EndedText s a text taken trace turns old new = NotSaid s a text old new ⊎ ((b : Blueprint) × (language.Says text (plain b) × EndedParsed s a b taken trace turns old new))
+abbrev pub EndedText : Plugged → Status → Answer → List ℕ → List (List ℕ) → Option (List ℕ) → ℕ → FolderState → FolderState → Type 0
+EndedText p s a text taken trace turns old new = NotSaid s a text old new ⊎ ((b : Blueprint) × (language.Says text (plain b) × EndedParsed p s a b taken trace turns old new))
 
 -- no count rose
 pub record AllQuiet (old new : FolderState) : Type 0 where
@@ -55,8 +56,8 @@ CausesQuiet status.NoMemory old new = AllQuiet old new
 CausesQuiet _ old new = ⊥
 
 -- which counts rose
-abbrev pub CausesFit : Status → Answer → Blueprint → Option (List ℕ) → FolderState → FolderState → Type 0
-CausesFit s a b trace old new = CausesQuiet s old new ⊎ RunCauses s a b trace old new
+abbrev pub CausesFit : Plugged → Status → Answer → Blueprint → Option (List ℕ) → FolderState → FolderState → Type 0
+CausesFit p s a b trace old new = CausesQuiet s old new ⊎ RunCauses p s a b trace old new
 
-abbrev pub CausesText : Status → Answer → List (List ℕ) → Option (List ℕ) → FolderState → FolderState → Type 0
-CausesText s a taken trace old new = CausesQuiet s old new ⊎ ((b : Blueprint) × (IsFit b [] taken × RunCauses s a b trace old new))
+abbrev pub CausesText : Plugged → Status → Answer → List (List ℕ) → Option (List ℕ) → FolderState → FolderState → Type 0
+CausesText p s a taken trace old new = CausesQuiet s old new ⊎ ((b : Blueprint) × (IsFit b p.heads taken × RunCauses p s a b trace old new))

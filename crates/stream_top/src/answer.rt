@@ -5,7 +5,7 @@ ghost use Rattle.blue_check.specs.Fitness.{IsFit};
 ghost use Rattle.blueprint_run.specs.Stands.{is_unended, is_write_fault, is_failed};
 ghost use Rattle.blueprint_run.specs.Tracing.{IsApart};
 ghost use Rattle.run_report.specs.Report.{detail_of};
-ghost use Rattle.std.specs.List.{Contains, list_any};
+ghost use Rattle.std.specs.List.{All, Contains, list_any};
 ghost use Rattle.std.specs.Option.{option_copied};
 ghost use Rattle.materializer.specs.Built.{CanRun};
 ghost use Rattle.materializer.specs.Files.{inputs_of_nodes, sinks_of_nodes};
@@ -16,6 +16,8 @@ ghost use Rattle.file_text.specs.Text.{text_limit};
 ghost use Rattle.island_runs.specs.Receipt.{HasIslands};
 ghost use Rattle.stream_top.specs.Receipts.{Receipts, RanIslands, RanText, RanFile};
 ghost use Rattle.stream_top.specs.Texts.{EndedFit, EndedParsed, EndedText, CausesFit, CausesText};
+ghost use Rattle.plug_board.specs.Handed.{GivesAsListed, HasPlugs};
+ghost use Rattle.stream_top.specs.Asked.{plugged_by};
 
 use blue_check::check::{CheckEnd, check};
 use blue_check::checked::Checked;
@@ -30,6 +32,10 @@ use elem_core::why::NoMemory;
 use file_text::text::{ReadEnd, read_file};
 use materializer::built::first_unbuilt;
 use materializer::names::sink_names;
+use plug_board::heads::heads_of;
+use plug_logic::book::PlugBook;
+use plug_logic::logic::Logic;
+use plug_logic::plug::Plug;
 use run_files::open::OpenEnd;
 use run_report::outcome::{SinkEnd, Status};
 use std::alloc::Global;
@@ -204,7 +210,7 @@ fn sinks_to_tell(alloc: Global, b: &Blueprint) -> Result<(Vec<Line>, Vec<SinkEnd
 }
 
 /// Runs a blueprint of which all has been built.
-fn run_blueprint<R: Threads + Wait + Sync, F: Folder>(
+fn run_blueprint<R: Threads + Wait + Sync, F: Folder, L: Logic + Send, B: PlugBook + Send>(
     rt: &R,
     alloc: Global,
     folder: &mut F,
@@ -212,14 +218,17 @@ fn run_blueprint<R: Threads + Wait + Sync, F: Folder>(
     trace: Option<Line>,
     workers: u32,
     turns: u32,
+    plugs: Vec<Plug<L>>,
 ) -> Outcome
     requires runs { CanRun b }
+    requires has { HasPlugs (map (λ p. p.head) plugs.items) b.nodes.items }
+    requires listed { All (GivesAsListed L.gives B.lists) plugs.items }
     requires apart { IsApart b trace }
     requires workers { (0 < workers) × (workers ≤ 64) }
     requires turns { turns ≤ 4000000000 }
-    ensures told { IsTrue (F.state folder.old).tells → EndedRun result.status (of_outcome result) b trace turns (F.state folder.old) (F.state folder.new) }
+    ensures told { IsTrue (F.state folder.old).tells → EndedRun (plugged_by B.lists plugs.items) result.status (of_outcome result) b trace turns (F.state folder.old) (F.state folder.new) }
     ensures tells { IsTrue (F.state folder.new).tells → IsTrue (F.state folder.old).tells }
-    ensures causes { RunCauses result.status (of_outcome result) b trace (F.state folder.old) (F.state folder.new) }
+    ensures causes { RunCauses (plugged_by B.lists plugs.items) result.status (of_outcome result) b trace (F.state folder.old) (F.state folder.new) }
     ensures sinks { SinksOf result.status (of_outcome result) trace }
     ensures detail { result.detail.items ≡ detail_of result.status }
     ensures reads { QuietButAll (inputs_of_nodes b.nodes.items) (F.state folder.old).read (F.state folder.new).read }
@@ -231,7 +240,7 @@ fn run_blueprint<R: Threads + Wait + Sync, F: Folder>(
     let Ok((names, room)) = sinks_to_tell(alloc, &b) else {
         return without_run(alloc, Status::NoMemory);
     };
-    match run(rt, alloc, folder, b, trace, workers, turns) {
+    match run::<R, F, L, B>(rt, alloc, folder, b, trace, workers, turns, plugs) {
         Ok(ran) => after_run(alloc, names, room, ran),
         Err(OpenEnd::MissingInput(name)) => without_run(alloc, Status::Missing(name)),
         Err(OpenEnd::MissingOutput(name)) => without_run(alloc, Status::Missing(name)),
@@ -240,7 +249,7 @@ fn run_blueprint<R: Threads + Wait + Sync, F: Folder>(
 }
 
 /// Runs a blueprint that was checked, where all of it has been built.
-fn run_checked<R: Threads + Wait + Sync, F: Folder>(
+fn run_checked<R: Threads + Wait + Sync, F: Folder, L: Logic + Send, B: PlugBook + Send>(
     rt: &R,
     alloc: Global,
     folder: &mut F,
@@ -248,23 +257,25 @@ fn run_checked<R: Threads + Wait + Sync, F: Folder>(
     trace: Option<Line>,
     workers: u32,
     turns: u32,
+    plugs: Vec<Plug<L>>,
 ) -> Outcome
-    requires fit { (taken : List (List ℕ)) × IsFit (blueprint_of checked) [] taken }
+    requires listed { All (GivesAsListed L.gives B.lists) plugs.items }
+    requires fit { (taken : List (List ℕ)) × IsFit (blueprint_of checked) (map (λ p. p.head) plugs.items) taken }
     requires apart { IsApart (blueprint_of checked) trace }
     requires workers { (0 < workers) × (workers ≤ 64) }
     requires turns { turns ≤ 4000000000 }
-    ensures told { IsTrue (F.state folder.old).tells → EndedFit result.status (of_outcome result) (blueprint_of checked) trace turns (F.state folder.old) (F.state folder.new) }
+    ensures told { IsTrue (F.state folder.old).tells → EndedFit (plugged_by B.lists plugs.items) result.status (of_outcome result) (blueprint_of checked) trace turns (F.state folder.old) (F.state folder.new) }
     ensures tells { IsTrue (F.state folder.new).tells → IsTrue (F.state folder.old).tells }
-    ensures causes { CausesFit result.status (of_outcome result) (blueprint_of checked) trace (F.state folder.old) (F.state folder.new) }
+    ensures causes { CausesFit (plugged_by B.lists plugs.items) result.status (of_outcome result) (blueprint_of checked) trace (F.state folder.old) (F.state folder.new) }
     ensures sinks { SinksOf result.status (of_outcome result) trace }
     ensures detail { result.detail.items ≡ detail_of result.status }
     ensures reads { QuietButAll (inputs_of_nodes (blueprint_of checked).nodes.items) (F.state folder.old).read (F.state folder.new).read }
     ensures ran { Receipts result.status workers result.used result.ran }
-    ensures islands { (taken : List (List ℕ)) → IsFit (blueprint_of checked) [] taken → IfSome result.ran (λ r. RanIslands (blueprint_of checked) taken r) }
+    ensures islands { (taken : List (List ℕ)) → IsFit (blueprint_of checked) (map (λ p. p.head) plugs.items) taken → IfSome result.ran (λ r. RanIslands (plugged_by B.lists plugs.items) (blueprint_of checked) taken r) }
     ensures handles { F.handles folder.new ≡ F.handles folder.old }
 {
     match first_unbuilt(checked.blueprint()) {
-        Ok(None) => run_blueprint(
+        Ok(None) => run_blueprint::<R, F, L, B>(
             rt,
             alloc,
             folder,
@@ -272,6 +283,7 @@ fn run_checked<R: Threads + Wait + Sync, F: Folder>(
             trace,
             workers,
             turns,
+            plugs,
         ),
         Ok(Some(node)) => without_run(alloc, Status::Unbuilt(node)),
         Err(_) => without_run(alloc, Status::NoMemory),
@@ -279,7 +291,7 @@ fn run_checked<R: Threads + Wait + Sync, F: Folder>(
 }
 
 /// Checks a blueprint, where these files are taken, and runs it.
-fn run_parsed<R: Threads + Wait + Sync, F: Folder>(
+fn run_parsed<R: Threads + Wait + Sync, F: Folder, L: Logic + Send, B: PlugBook + Send>(
     rt: &R,
     alloc: Global,
     folder: &mut F,
@@ -288,29 +300,36 @@ fn run_parsed<R: Threads + Wait + Sync, F: Folder>(
     trace: Option<Line>,
     workers: u32,
     turns: u32,
+    plugs: Vec<Plug<L>>,
 ) -> Outcome
+    requires listed { All (GivesAsListed L.gives B.lists) plugs.items }
     requires taken { (t : List ℕ) → trace ≡ Some t → Contains taken.now t }
     requires workers { (0 < workers) × (workers ≤ 64) }
     requires turns { turns ≤ 4000000000 }
-    ensures told { IsTrue (F.state folder.old).tells → EndedParsed result.status (of_outcome result) b taken.now trace turns (F.state folder.old) (F.state folder.new) }
+    ensures told { IsTrue (F.state folder.old).tells → EndedParsed (plugged_by B.lists plugs.items) result.status (of_outcome result) b taken.now trace turns (F.state folder.old) (F.state folder.new) }
     ensures tells { IsTrue (F.state folder.new).tells → IsTrue (F.state folder.old).tells }
-    ensures causes { CausesText result.status (of_outcome result) taken.now trace (F.state folder.old) (F.state folder.new) }
+    ensures causes { CausesText (plugged_by B.lists plugs.items) result.status (of_outcome result) taken.now trace (F.state folder.old) (F.state folder.new) }
     ensures sinks { SinksOf result.status (of_outcome result) trace }
     ensures detail { result.detail.items ≡ detail_of result.status }
     ensures reads { QuietAmong taken.now (F.state folder.old).read (F.state folder.new).read }
     ensures ran { Receipts result.status workers result.used result.ran }
-    ensures islands { IfSome result.ran (λ r. RanIslands b taken.now r) }
+    ensures islands { IfSome result.ran (λ r. RanIslands (plugged_by B.lists plugs.items) b taken.now r) }
     ensures handles { F.handles folder.new ≡ F.handles folder.old }
 {
-    match check(alloc, b, &[], taken) {
-        Ok(checked) => run_checked(rt, alloc, folder, checked, trace, workers, turns),
+    let Ok(heads) = heads_of(alloc, &plugs) else {
+        return without_run(alloc, Status::NoMemory);
+    };
+    match check(alloc, b, &heads, taken) {
+        Ok(checked) => run_checked::<R, F, L, B>(
+            rt, alloc, folder, checked, trace, workers, turns, plugs,
+        ),
         Err(CheckEnd::Fault(fault)) => unfit(alloc, fault),
         Err(CheckEnd::NoMemory) => without_run(alloc, Status::NoMemory),
     }
 }
 
 /// Runs the blueprint that a text says, where these files are taken.
-fn run_text<R: Threads + Wait + Sync, F: Folder>(
+fn run_text<R: Threads + Wait + Sync, F: Folder, L: Logic + Send, B: PlugBook + Send>(
     rt: &R,
     alloc: Global,
     folder: &mut F,
@@ -319,22 +338,26 @@ fn run_text<R: Threads + Wait + Sync, F: Folder>(
     trace: Option<Line>,
     workers: u32,
     turns: u32,
+    plugs: Vec<Plug<L>>,
 ) -> Outcome
+    requires listed { All (GivesAsListed L.gives B.lists) plugs.items }
     requires taken { (t : List ℕ) → trace ≡ Some t → Contains taken.now t }
     requires workers { (0 < workers) × (workers ≤ 64) }
     requires turns { turns ≤ 4000000000 }
-    ensures told { IsTrue (F.state folder.old).tells → EndedText result.status (of_outcome result) text.now taken.now trace turns (F.state folder.old) (F.state folder.new) }
+    ensures told { IsTrue (F.state folder.old).tells → EndedText (plugged_by B.lists plugs.items) result.status (of_outcome result) text.now taken.now trace turns (F.state folder.old) (F.state folder.new) }
     ensures tells { IsTrue (F.state folder.new).tells → IsTrue (F.state folder.old).tells }
-    ensures causes { CausesText result.status (of_outcome result) taken.now trace (F.state folder.old) (F.state folder.new) }
+    ensures causes { CausesText (plugged_by B.lists plugs.items) result.status (of_outcome result) taken.now trace (F.state folder.old) (F.state folder.new) }
     ensures sinks { SinksOf result.status (of_outcome result) trace }
     ensures detail { result.detail.items ≡ detail_of result.status }
     ensures reads { QuietAmong taken.now (F.state folder.old).read (F.state folder.new).read }
     ensures ran { Receipts result.status workers result.used result.ran }
-    ensures islands { RanText text.now taken.now result.ran }
+    ensures islands { RanText (plugged_by B.lists plugs.items) text.now taken.now result.ran }
     ensures handles { F.handles folder.new ≡ F.handles folder.old }
 {
     match parse(alloc, text) {
-        Ok(b) => run_parsed(rt, alloc, folder, b, taken, trace, workers, turns),
+        Ok(b) => run_parsed::<R, F, L, B>(
+            rt, alloc, folder, b, taken, trace, workers, turns, plugs,
+        ),
         Err(ParseEnd::Fault(fault)) => without_run(alloc, Status::Refused(fault)),
         Err(ParseEnd::NoMemory) => without_run(alloc, Status::NoMemory),
     }
@@ -384,7 +407,7 @@ fn names_of(alloc: Global, file: &Line, trace: Option<&Line>) -> Result<Names, N
 }
 
 /// Reads the blueprint of that name's file, and lets so many workers run it by at most so many units; the file of the trace, where one is wanted, is another.
-pub fn run_file<R: Threads + Wait + Sync, F: Folder>(
+pub fn run_file<R: Threads + Wait + Sync, F: Folder, L: Logic + Send, B: PlugBook + Send>(
     rt: &R,
     alloc: Global,
     folder: &mut F,
@@ -392,18 +415,20 @@ pub fn run_file<R: Threads + Wait + Sync, F: Folder>(
     trace: Option<&Line>,
     workers: u32,
     turns: u32,
+    plugs: Vec<Plug<L>>,
 ) -> Outcome
+    requires listed { All (GivesAsListed L.gives B.lists) plugs.items }
     requires workers { (0 < workers) × (workers ≤ 64) }
     requires turns { turns ≤ 4000000000 }
-    ensures told { IsTrue (F.state folder.old).tells → Told (of_outcome result) (record { file = file.now; trace = option_copied trace.entry; turns = turns }) (F.state folder.old) (F.state folder.new) }
-    ensures causes { Causes result.status (of_outcome result) file.now (option_copied trace.entry) (F.state folder.old) (F.state folder.new) }
+    ensures told { IsTrue (F.state folder.old).tells → Told (plugged_by B.lists plugs.items) (of_outcome result) (record { file = file.now; trace = option_copied trace.entry; turns = turns }) (F.state folder.old) (F.state folder.new) }
+    ensures causes { Causes (plugged_by B.lists plugs.items) result.status (of_outcome result) file.now (option_copied trace.entry) (F.state folder.old) (F.state folder.new) }
     ensures sinks { SinksOf result.status (of_outcome result) (option_copied trace.entry) }
     ensures no_usage { result.status ≡ Status.Usage → ⊥ }
     ensures tells { IsTrue (F.state folder.new).tells → IsTrue (F.state folder.old).tells }
     ensures detail { result.detail.items ≡ detail_of result.status }
     ensures reads { GrewAtMost ((F.state folder.old).read file.now) text_limit ((F.state folder.new).read file.now) }
     ensures ran { Receipts result.status workers result.used result.ran }
-    ensures islands { IsTrue (F.state folder.old).tells → RanFile (F.state folder.old) file.now (option_copied trace.entry) result.ran }
+    ensures islands { IsTrue (F.state folder.old).tells → RanFile (plugged_by B.lists plugs.items) (F.state folder.old) file.now (option_copied trace.entry) result.ran }
     ensures handles { F.handles folder.new ≡ F.handles folder.old }
 {
     let Ok(names) = names_of(alloc, file, trace) else {
@@ -415,7 +440,9 @@ pub fn run_file<R: Threads + Wait + Sync, F: Folder>(
         taken,
     } = names;
     match read_file(alloc, folder, file) {
-        Ok(text) => run_text(rt, alloc, folder, &text, &taken, path, workers, turns),
+        Ok(text) => run_text::<R, F, L, B>(
+            rt, alloc, folder, &text, &taken, path, workers, turns, plugs,
+        ),
         Err(ReadEnd::Missing) => without_run(alloc, Status::Missing(name)),
         Err(ReadEnd::Fault) => without_run(alloc, Status::ReadFault),
         Err(ReadEnd::NoMemory) => without_run(alloc, Status::NoMemory),

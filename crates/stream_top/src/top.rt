@@ -1,5 +1,6 @@
 // The run of a file, and the report of a call.
 ghost use Rattle.std.specs.Prelude.{◌≡◌, ◌<◌, ◌≤◌, ◌⊎◌, ℕ, [], None, IsTrue};
+ghost use Rattle.std.specs.List.{All};
 ghost use Rattle.std.specs.Option.{option_copied};
 ghost use Rattle.stream_io.specs.Counts.{GrewAtMost};
 ghost use Rattle.stream_top.specs.Calls.{answer_of};
@@ -8,10 +9,15 @@ ghost use Rattle.file_text.specs.Text.{text_limit};
 ghost use Rattle.stream_top.specs.Receipts.{Receipts, RanFile};
 ghost use Rattle.run_report.specs.Report.{detail_of, report_of, code_of};
 ghost use Rattle.run_report.specs.Writing.{Puts, PutsPart};
+ghost use Rattle.plug_board.specs.Handed.{GivesAsListed};
+ghost use Rattle.stream_top.specs.Asked.{plugged_by};
 
 use crate::answer::{self, Outcome};
 use dispatcher::ran::Ran;
 use elem_core::line::Line;
+use plug_logic::book::PlugBook;
+use plug_logic::logic::Logic;
+use plug_logic::plug::Plug;
 use run_report::outcome::{SinkEnd, Status};
 use run_report::report::{code, put_report};
 use std::alloc::Global;
@@ -35,7 +41,7 @@ pub struct RunEnd {
 }
 
 /// Reads the blueprint of the file of that name, lets so many workers, 1 to 64, run it by at most so many units, 4,000,000,000 at most, and writes the report to the console. Where a file for the trace is given, it is opened behind those of the sinks, and what the stages chose is written into it after the run, a line for each stage whose kind chooses, in order of nodes. No source and no sink may name it, nor the blueprint's file. Rule: own.
-pub fn run_file<R: Threads + Wait + Sync, F: Folder, C: Drain>(
+pub fn run_file<R: Threads + Wait + Sync, F: Folder, C: Drain, L: Logic + Send, B: PlugBook + Send>(
     rt: &R,
     alloc: Global,
     file: &Line,
@@ -44,24 +50,26 @@ pub fn run_file<R: Threads + Wait + Sync, F: Folder, C: Drain>(
     turns: u32,
     folder: &mut F,
     console: &mut C,
+    plugs: Vec<Plug<L>>,
 ) -> RunEnd
+    requires listed { All (GivesAsListed L.gives B.lists) plugs.items }
     requires workers { (0 < workers) × (workers ≤ 64) }
     requires turns { turns ≤ 4000000000 }
 
     // What is answered and left where the folder told its files before. What files hold then is said where it still tells them.
     ensures tells { IsTrue (F.state folder.new).tells → IsTrue (F.state folder.old).tells }
-    ensures told { IsTrue (F.state folder.old).tells → Told (answer_of result) (record { file = file.now; trace = option_copied trace.entry; turns = turns }) (F.state folder.old) (F.state folder.new) }
+    ensures told { IsTrue (F.state folder.old).tells → Told (plugged_by B.lists plugs.items) (answer_of result) (record { file = file.now; trace = option_copied trace.entry; turns = turns }) (F.state folder.old) (F.state folder.new) }
 
     // A valid text and inputs and no fault give a run, or memory was wanting.
-    ensures complete { IsTrue (F.state folder.old).tells → IsValid file.now (option_copied trace.entry) (F.state folder.old) → RoseNowhere (F.state folder.old) (F.state folder.new) → WasRun result.status }
+    ensures complete { IsTrue (F.state folder.old).tells → IsValid (plugged_by B.lists plugs.items) file.now (option_copied trace.entry) (F.state folder.old) → RoseNowhere (F.state folder.old) (F.state folder.new) → WasRun result.status }
 
     // Which counts rose, whether it tells them or not.
-    ensures causes { Causes result.status (answer_of result) file.now (option_copied trace.entry) (F.state folder.old) (F.state folder.new) }
+    ensures causes { Causes (plugged_by B.lists plugs.items) result.status (answer_of result) file.now (option_copied trace.entry) (F.state folder.old) (F.state folder.new) }
     ensures sinks { SinksOf result.status (answer_of result) (option_copied trace.entry) }
 
     // After a run, and only there, there is a receipt, of so many workers and as many islands as the blueprint of the file has.
     ensures ran { Receipts result.status workers result.used result.ran }
-    ensures islands { IsTrue (F.state folder.old).tells → RanFile (F.state folder.old) file.now (option_copied trace.entry) result.ran }
+    ensures islands { IsTrue (F.state folder.old).tells → RanFile (plugged_by B.lists plugs.items) (F.state folder.old) file.now (option_copied trace.entry) result.ran }
 
     // A file is no want of words.
     ensures no_usage { result.status ≡ Status.Usage → ⊥ }
@@ -84,7 +92,7 @@ pub fn run_file<R: Threads + Wait + Sync, F: Folder, C: Drain>(
         picks,
         used,
         ran,
-    } = answer::run_file(rt, alloc, folder, file, trace, workers, turns);
+    } = answer::run_file::<R, F, L, B>(rt, alloc, folder, file, trace, workers, turns, plugs);
     let code = match put_report(console, &status, &detail, &sinks, &picture.wires, used) {
         Ok(()) => code(&status),
         Err(Failed) => 8,

@@ -1,5 +1,6 @@
 -- The goal of `answer::run_text` that the search leaves.
 use Rattle.std.proofs.Common.{inr}
+use Rattle.stream_top.specs.Asked.{plugged_by}
 use Rattle.stream_top.proofs.Receipts.{of_text}
 use Rattle.stream_top.proofs.answer.run_text.Goals as goal
 
@@ -7,4 +8,4 @@ pub returns-in-Ok-clause-told : goal.returns-in-Ok-clause-told
 returns-in-Ok-clause-told g c = λ tells. inr (c.in-Ok.b, (c.in-Ok.ensures.ok, c.run_parsed.ensures.told tells))
 
 pub returns-in-Ok-clause-islands : goal.returns-in-Ok-clause-islands
-returns-in-Ok-clause-islands g c = of_text c.args.text.now c.in-Ok.b c.args.taken.now c.run_parsed.result.ran c.in-Ok.ensures.ok c.run_parsed.ensures.islands
+returns-in-Ok-clause-islands g c = of_text (plugged_by g.B.PlugBook.lists c.args.plugs.items) c.args.text.now c.in-Ok.b c.args.taken.now c.run_parsed.result.ran c.in-Ok.ensures.ok c.run_parsed.ensures.islands

@@ -9,8 +9,8 @@ use std::alloc::{AllocError, Global};
 use std::process::ExitCode;
 use std::rt::Env;
 use std::{env, io};
-use stream_command::run::run_streams;
 use stream_io::real::{DirFolder, StdConsole};
+use stream_shipped::run::run_shipped;
 
 /// The exit code where the words cannot be read for want of memory.
 const NO_MEMORY: u8 = 9;
@@ -48,6 +48,6 @@ fn main(rt: HostRuntime) -> io::Result<ExitCode> {
     };
     let mut folder = DirFolder::new(rt.alloc(), rt.clone()?);
     let mut console = StdConsole::new(rt.clone()?);
-    let end = run_streams(&rt, rt.alloc(), &words, &mut folder, &mut console);
+    let end = run_shipped(&rt, rt.alloc(), &words, &mut folder, &mut console);
     Ok(ExitCode::from(end.code))
 }

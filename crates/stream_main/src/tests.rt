@@ -1,5 +1,7 @@
 // A whole call over a folder and a console that never fail. What other calls come to is told by the cases of `rows`.
 use crate::line_of;
+use plug_logic::book::Shipped;
+use plug_logic::dedup::Dedup;
 use std::test::Fail;
 use stream_command::{Status, run_surely};
 use stream_io::named_file::NamedFile;
@@ -22,7 +24,17 @@ fn sure_calls_run(rt: HostRuntime) -> Result<(), Fail> {
     }
     let mut folder = SureFolder::new(files, 3);
     let mut console = SureDrain::new(3);
-    let end = run_surely(&rt, alloc, &file, None, 2, 1000, &mut folder, &mut console);
+    let end = run_surely::<HostRuntime, SureDrain, Dedup, Shipped>(
+        &rt,
+        alloc,
+        &file,
+        None,
+        2,
+        1000,
+        &mut folder,
+        &mut console,
+        Vec::new(alloc),
+    );
     assert_eq!(rt; end.code, 0);
     assert!(rt; matches!(end.status, Status::Done));
     assert_eq!(rt; end.sinks.len(), 1);

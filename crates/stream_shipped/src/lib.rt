@@ -1,0 +1,5 @@
+//! The whole call with the plugs that the program ships.
+#![tactic(auto)]
+
+pub mod laws;
+pub mod run;

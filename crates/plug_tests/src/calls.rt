@@ -1,0 +1,133 @@
+// A whole call over a folder in memory.
+ghost use Rattle.std.specs.Prelude.{◌≡◌, ◌≤◌, ◌++◌, ◌∷◌, [], IsTrue, OnOk, length};
+ghost use Rattle.std.specs.List.{All};
+ghost use Rattle.elem_core.specs.Line.{has_no_lf};
+ghost use Rattle.plug_logic.specs.Gives.{listed};
+ghost use Rattle.plug_samples.specs.Samples.{sample_book};
+ghost use Rattle.stage_linear.specs.Plugs.{Is};
+
+use elem_core::elem_type::{ElemType, TypeForm};
+use elem_core::line::Line;
+use plug_core::head::PlugHead;
+use plug_logic::logic::Logic;
+use plug_logic::plug::Plug;
+use plug_samples::book::Samples;
+use std::alloc::{AllocError, Global};
+use std::sync::Wait;
+use std::thread::Threads;
+use stream_command::run::run_streams;
+use stream_io::mem_drain::MemDrain;
+use stream_io::mem_folder::MemFolder;
+use stream_io::named_file::{NamedFile, bytes_of};
+
+/// The line of a text; a text that is no line is the empty line.
+pub fn line_of(alloc: Global, text: &str) -> Result<Line, AllocError> {
+    let mut bytes = Vec::new(alloc);
+    if Line::can_hold(text.as_bytes()) {
+        bytes.extend_from_slice(text.as_bytes())?;
+    }
+    Ok(Line::of(bytes))
+}
+
+/// One more plug of texts, or of numbers, whose logic gives what the book of samples lists of this name.
+pub fn add(
+    alloc: Global,
+    plugs: &mut Vec<Plug>,
+    name: &str,
+    numbers: bool,
+    logic: Box<dyn Logic + Send>,
+) -> Result<(), AllocError>
+    requires short { length name.now ≤ 65536 }
+    requires no_lf { IsTrue (has_no_lf name.now) }
+    requires kept { All (λ p. Is (gives p.logic) [] (listed sample_book p.head.name)) plugs.old.items }
+    requires listed { gives logic ≡ listed sample_book name.now }
+    ensures { OnOk result (All (λ p. Is (gives p.logic) [] (listed sample_book p.head.name)) plugs.new.items) }
+{
+    let mut bytes = Vec::new(alloc);
+    bytes.extend_from_slice(name.as_bytes())?;
+    let form = if numbers {
+        TypeForm::Num
+    } else {
+        TypeForm::Text
+    };
+    let other = if numbers {
+        TypeForm::Num
+    } else {
+        TypeForm::Text
+    };
+    let head = PlugHead {
+        name: Line::of(bytes),
+        input: ElemType::of(form),
+        output: ElemType::of(other),
+    };
+    plugs.push(Plug { head, logic })?;
+    Ok(())
+}
+
+/// What a call came to: what its console has, and its files.
+#[derive(Drop)]
+pub struct Came {
+    pub said: Vec<u8>,
+    pub files: Vec<NamedFile>,
+}
+
+impl Came {
+    /// Whether the console has this text.
+    pub fn says(&self, text: &str) -> bool {
+        self.said.as_slice() == text.as_bytes()
+    }
+
+    /// Whether the file of this name holds this text.
+    pub fn holds(&self, alloc: Global, name: &str, text: &str) -> Result<bool, AllocError> {
+        let name = line_of(alloc, name)?;
+        Ok(match bytes_of(&self.files, &name) {
+            Some(bytes) => bytes == text.as_bytes(),
+            None => false,
+        })
+    }
+}
+
+/// Runs the blueprint of this text, by so many workers, over a folder whose `in.txt` holds this input.
+pub fn call<R: Threads + Wait + Sync>(
+    rt: &R,
+    alloc: Global,
+    text: &str,
+    input: &str,
+    workers: &str,
+    plugs: Vec<Plug>,
+) -> Result<Came, AllocError>
+    requires { All (λ p. Is (gives p.logic) [] (listed sample_book p.head.name)) plugs.items }
+{
+    let mut files = Vec::new(alloc);
+    for (name, held) in [("log.blue", text), ("in.txt", input)] {
+        files.push(NamedFile {
+            name: line_of(alloc, name)?,
+            bytes: Vec::from_slice(alloc, held.as_bytes())?,
+        })?;
+    }
+    let mut words = Vec::new(alloc);
+    words.push(line_of(alloc, "log.blue")?)?;
+    words.push(line_of(alloc, "--workers")?)?;
+    words.push(line_of(alloc, workers)?)?;
+    let mut folder = MemFolder::new(files, Vec::new(alloc), 4096, 1000);
+    let mut console = MemDrain::new(alloc, Vec::new(alloc), 4096, 1000)?;
+    let _ = run_streams::<R, MemFolder, MemDrain, Samples>(
+        rt,
+        alloc,
+        &words,
+        &mut folder,
+        &mut console,
+        plugs,
+    );
+    let mut left = Vec::new(alloc);
+    for file in folder.files() {
+        left.push(NamedFile {
+            name: file.name.copy(alloc)?,
+            bytes: Vec::from_slice(alloc, &file.bytes)?,
+        })?;
+    }
+    Ok(Came {
+        said: Vec::from_slice(alloc, console.bytes())?,
+        files: left,
+    })
+}

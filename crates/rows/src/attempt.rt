@@ -15,11 +15,11 @@ use std::alloc::Global;
 use std::sync::Wait;
 use std::thread::Threads;
 use stream_command::RunEnd;
-use stream_command::run::run_streams;
 use stream_io::fail_at::FailAt;
 use stream_io::mem_drain::MemDrain;
 use stream_io::mem_folder::MemFolder;
 use stream_io::named_file::{NamedFile, bytes_of};
+use stream_shipped::run::run_shipped;
 
 /// The code that stands for want of memory.
 const NO_MEMORY: u32 = 9;
@@ -124,7 +124,7 @@ fn call<R: Threads + Wait + Sync>(
     let mut folder = MemFolder::new(copies(alloc, &case.files)?, fails, step, case.room);
     let console_fails = Vec::from_slice(alloc, &case.console_fails)?;
     let mut console = MemDrain::new(alloc, console_fails, step, 100_000)?;
-    let end = run_streams(rt, alloc, &case.words, &mut folder, &mut console);
+    let end = run_shipped(rt, alloc, &case.words, &mut folder, &mut console);
     Ok(Came {
         step,
         tells: folder.tells(),

@@ -6,7 +6,7 @@ use Rattle.elem_core.specs.declared.why.Decider.{Decider}
 use Rattle.stream_model.specs.Outlook.{ended}
 use Rattle.stream_model.specs.Machine.{Machine, Run, run, close, is_going}
 use Rattle.stream_model.specs.Linear.{Book, Work, linear, begin_work, grouping, expanding, folding, scanning, reducing, passing, plugged, Role, reads_lines, gives_range, gives_nothing, gives_failure, works, trips, plugs_in, buffers, recovers, obeys, groups_by, splits_when, splits_after, merges, concats, interleaves, merges_sorted, zips, broadcasts, balances, partitions, unzips, sinks, role_of, Side, at_source, at_stage, at_sink, side_by}
-use Rattle.stream_model.specs.Substreams.{Opening, by_key, before, behind, substreams, begin_subs}
+use Rattle.stream_model.specs.Substreams.{Opening, by_key, before, behind, through, substreams, begin_subs}
 use Rattle.stream_model.specs.Graph.{Graph, steps_of}
 use Rattle.stream_model.specs.Node.{World, chain_of}
 
@@ -58,7 +58,7 @@ of_work book node d (Some w) = Some (of_machine (linear book w) (begin_work node
 -- by its substreams
 abbrev of_subs : Graph → World → ℕ → Opening → List ℕ → Option OneWay
 of_subs g w node o chain =
-    let c = chain_of node (steps_of chain g.chains) in Some (of_machine (substreams w.book c o) (begin_subs w.book c node) true)
+    let c = through w.book (chain_of node (steps_of chain g.chains)) in Some (of_machine (substreams c o) (begin_subs c node) true)
 
 -- the stages with one input and one output, but for buffers; no sink
 abbrev pub one_way_by : Graph → World → ℕ → Role → Decider → Option OneWay

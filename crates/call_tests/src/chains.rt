@@ -24,17 +24,17 @@ impl Chain for First {
 
     ghost is_open = { λ c. c.open };
 
-    fn fresh(&self) -> Result<First, NoMemory> {
+    fn fresh(&self, _alloc: Global) -> Result<First, NoMemory> {
         Ok(First { open: true })
     }
 
-    fn push(&mut self, e: Elem, out: &mut Elems) -> Result<ChainStep, NoMemory> {
+    fn push(&mut self, _alloc: Global, e: Elem, out: &mut Elems) -> Result<ChainStep, NoMemory> {
         self.open = false;
         out.add(e)?;
         Ok(ChainStep::Closed)
     }
 
-    fn end(&mut self, _out: &mut Elems) -> Result<ChainStep, NoMemory> {
+    fn end(&mut self, _alloc: Global, _out: &mut Elems) -> Result<ChainStep, NoMemory> {
         self.open = false;
         Ok(ChainStep::Go)
     }
@@ -53,16 +53,16 @@ impl Chain for Wanting {
 
     ghost is_open = { λ c. c.open };
 
-    fn fresh(&self) -> Result<Wanting, NoMemory> {
+    fn fresh(&self, _alloc: Global) -> Result<Wanting, NoMemory> {
         Ok(Wanting { open: true })
     }
 
-    fn push(&mut self, _e: Elem, _out: &mut Elems) -> Result<ChainStep, NoMemory> {
+    fn push(&mut self, _alloc: Global, _e: Elem, _out: &mut Elems) -> Result<ChainStep, NoMemory> {
         self.open = false;
         Ok(ChainStep::Failed(Why::LimitReached))
     }
 
-    fn end(&mut self, _out: &mut Elems) -> Result<ChainStep, NoMemory> {
+    fn end(&mut self, _alloc: Global, _out: &mut Elems) -> Result<ChainStep, NoMemory> {
         self.open = false;
         Ok(ChainStep::Failed(Why::EmptySink))
     }
@@ -71,14 +71,14 @@ impl Chain for Wanting {
 /// Gives a new chain an element, or none, and where it goes on the end. Answers how it stands and how much it gave.
 fn run<C: Chain>(alloc: Global, chain: &C, given: bool) -> Result<(ChainStep, usize), NoMemory> {
     let mut out = Elems::new(alloc);
-    let mut chain = chain.fresh()?;
+    let mut chain = chain.fresh(alloc)?;
     if given {
-        match chain.push(Elem::of(Form::Num(5)), &mut out)? {
+        match chain.push(alloc, Elem::of(Form::Num(5)), &mut out)? {
             ChainStep::Go => {}
             step => return Ok((step, out.len())),
         }
     }
-    let step = chain.end(&mut out)?;
+    let step = chain.end(alloc, &mut out)?;
     Ok((step, out.len()))
 }
 

@@ -5,6 +5,7 @@ ghost use Rattle.port_core.specs.ListFunction.{ListFunction, Same, Pushed, Finis
 use elem_core::elem::Elem;
 use elem_core::elems::Elems;
 use elem_core::why::{NoMemory, Why};
+use std::alloc::Global;
 
 /// How a chain stands after a call. Rule: own.
 #[derive(Clone, Copy, PartialEq, Eq)]
@@ -31,13 +32,13 @@ pub trait Chain: Send + Sized + Drop {
     ghost is_open: { Self → Bool };
 
     /// A chain that has taken nothing, with the list function that this one had at its start.
-    fn fresh(&self) -> Result<Self, NoMemory>
+    fn fresh(&self, alloc: Global) -> Result<Self, NoMemory>
         ensures same { IfOk result (λ c. Same (whole c) (whole self.now)) }
         ensures new { IfOk result (λ c. Same (rest c) (whole c)) }
         ensures open { IfOk result (λ c. IsTrue (is_open c)) };
 
     /// Takes an element, and appends what it gives for it to `out`. After want of memory the chain is only dropped.
-    fn push(&mut self, e: Elem, out: &mut Elems) -> Result<ChainStep, NoMemory>
+    fn push(&mut self, alloc: Global, e: Elem, out: &mut Elems) -> Result<ChainStep, NoMemory>
         requires { IsTrue (is_open self.old) }
         ensures gives { IfOk result (λ step. Pushed (rest self.old) e step out.old out.new (rest self.new)) }
         ensures same { OnOk result (Same (whole self.new) (whole self.old)) }
@@ -45,7 +46,7 @@ pub trait Chain: Send + Sized + Drop {
 
     /// Takes the normal end of its input, and appends what it adds to `out`; where it fails, what it appended does not count.
     /// The answer is never `Closed`. After want of memory the chain is only dropped.
-    fn end(&mut self, out: &mut Elems) -> Result<ChainStep, NoMemory>
+    fn end(&mut self, alloc: Global, out: &mut Elems) -> Result<ChainStep, NoMemory>
         requires { IsTrue (is_open self.old) }
         ensures gives { IfOk result (λ step. Finished (rest self.old) step out.old out.new) }
         ensures same { OnOk result (Same (whole self.new) (whole self.old)) };

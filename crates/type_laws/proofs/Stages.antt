@@ -20,7 +20,7 @@ use Rattle.stream_model.specs.Node.{World, head_of, second_of, chain_of, node_ou
 use Rattle.stream_model.specs.Outlook.{Outlook}
 use Rattle.stream_model.specs.Picks.{acted, acted_outlook, sent_to, recover_outlook, buffered, empty_buffer}
 use Rattle.stream_model.specs.Sources.{short, count_up, span_of}
-use Rattle.stream_model.specs.Substreams.{Opening, by_key, before, behind, concat_subs, merge_subs}
+use Rattle.stream_model.specs.Substreams.{Opening, by_key, before, behind, through, concat_subs, merge_subs}
 use Rattle.blue_core.specs.declared.blueprint.ChainDecl.{ChainDecl}
 use Rattle.blue_core.specs.declared.blueprint.Step.{Step}
 use Rattle.plug_core.specs.declared.head.PlugHead.{PlugHead}
@@ -104,10 +104,10 @@ module _ (g : Graph) (w : World) (node : ℕ) (d : Decider) (is : List Outlook) 
         let are : steps_of name g.chains ≡ map plain_step (chain_named name chains) = ap (steps_of name) chains_are ∙ steps_are name chains in
         subst (λ ss. ChainTyped plugs t u (chain_of node ss)) (sym are) (chain_typed_by plugs node (chain_named name chains) t u (steps_known plugs name chains steps) e)
 
-    merged : (o : Opening) (name : List ℕ) → chain_typed plugs (chain_named name chains) t ≡ Gives u → AllTyped u (merge_subs w.book (chain_of node (steps_of name g.chains)) node o (w.moves node) (head_of is)).list
+    merged : (o : Opening) (name : List ℕ) → chain_typed plugs (chain_named name chains) t ≡ Gives u → AllTyped u (merge_subs (through w.book (chain_of node (steps_of name g.chains))) node o (w.moves node) (head_of is)).list
     merged o name e = merge_subs_typed plugs w.book keeps (chain_of node (steps_of name g.chains)) t u (chain_at name e) node o (w.moves node) (head_of is) h
 
-    in_turn : (o : Opening) (name : List ℕ) → chain_typed plugs (chain_named name chains) t ≡ Gives u → AllTyped u (concat_subs w.book (chain_of node (steps_of name g.chains)) node o (head_of is)).list
+    in_turn : (o : Opening) (name : List ℕ) → chain_typed plugs (chain_named name chains) t ≡ Gives u → AllTyped u (concat_subs (through w.book (chain_of node (steps_of name g.chains))) node o (head_of is)).list
     in_turn o name e = concat_subs_typed plugs w.book keeps (chain_of node (steps_of name g.chains)) t u (chain_at name e) node o (head_of is) h
 
     pub single_keeps : (k : Kind) → is_known plugs k ≡ true → shape_of k ≡ single → stage_typed plugs chains k t ≡ Gives u → (p : ℕ) → AllTyped (half_type k p u) (node_outlook g w node k d is p).list

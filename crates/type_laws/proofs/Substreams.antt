@@ -9,9 +9,9 @@ use Rattle.elem_core.specs.declared.why.Why.{Why}
 use Rattle.elem_core.specs.declared.why.Why.TheVariants.{TooManySubstreams}
 use Rattle.stream_model.specs.FanIn.{Tagged, tag, merge_of}
 use Rattle.stream_model.specs.Linear.{Book}
-use Rattle.stream_model.specs.Machine.{Run, Finish, whole}
-use Rattle.stream_model.specs.Outlook.{Outlook}
-use Rattle.stream_model.specs.Substreams.{Chain, Opening, by_key, before, behind, Sub, Subs, Fault, given_by, news, arranged, trouble, substreams, begin_subs, concat_subs, merge_subs, of_sub, by_sub, sub_count}
+use Rattle.stream_model.specs.Machine.{Run, Finish, Given, whole}
+use Rattle.stream_model.specs.Outlook.{Outlook, End}
+use Rattle.stream_model.specs.Substreams.{Chain, through, Opening, by_key, before, behind, Sub, Subs, Fault, given_by, news, arranged, trouble, substreams, begin_subs, concat_subs, merge_subs, of_sub, by_sub, sub_count}
 use Rattle.plug_core.specs.declared.head.PlugHead.{PlugHead}
 use Rattle.type_laws.specs.Plugs.{KeepsPlugTypes}
 use Rattle.type_laws.specs.Types.{Each, HasType, AllTyped}
@@ -108,21 +108,24 @@ module _ (t : Sort) where
 -- ---- what they give
 
 module _ (plugs : List PlugHead) (book : Book) (keeps : KeepsPlugTypes plugs book) (chain : Chain) (t u : Sort) (typed : ChainTyped plugs t u chain) where
+  abbrev yields : List Tree → End → Given Tree
+  yields = through book chain
+
   drop_typed : (n : ℕ) (l : List Tree) → AllTyped u l → AllTyped u (drop n l)
   drop_typed zero l h = h
   drop_typed (suc n) [] h = tt
   drop_typed (suc n) (x ∷ l) h = drop_typed n l h.1
 
-  given_typed : (s : Sub) → AllTyped t s.took → AllTyped u (given_by book chain s).list
+  given_typed : (s : Sub) → AllTyped t s.took → AllTyped u (given_by yields s).list
   given_typed s h = through_typed plugs book keeps chain t u s.took _ typed h
 
-  news_typed : (n : ℕ) (old now : List Sub) → Each (λ (s : Sub). AllTyped t s.took) now → TagsTyped u (news book chain n old now)
+  news_typed : (n : ℕ) (old now : List Sub) → Each (λ (s : Sub). AllTyped t s.took) now → TagsTyped u (news yields n old now)
   news_typed n old [] h = tt
   news_typed n [] (s ∷ now) h =
-      each_append (λ (x : Tagged). HasType u x.item) (map (tag n) (given_by book chain s).list) (news book chain (n + 1) [] now) (tagged u n (given_by book chain s).list (given_typed s h.0)) (news_typed (n + 1) [] now h.1)
+      each_append (λ (x : Tagged). HasType u x.item) (map (tag n) (given_by yields s).list) (news yields (n + 1) [] now) (tagged u n (given_by yields s).list (given_typed s h.0)) (news_typed (n + 1) [] now h.1)
   news_typed n (r ∷ old) (s ∷ now) h =
-      each_append (λ (x : Tagged). HasType u x.item) (map (tag n) (drop (length (given_by book chain r).list) (given_by book chain s).list)) (news book chain (n + 1) old now)
-      (tagged u n (drop (length (given_by book chain r).list) (given_by book chain s).list) (drop_typed (length (given_by book chain r).list) (given_by book chain s).list (given_typed s h.0)))
+      each_append (λ (x : Tagged). HasType u x.item) (map (tag n) (drop (length (given_by yields r).list) (given_by yields s).list)) (news yields (n + 1) old now)
+      (tagged u n (drop (length (given_by yields r).list) (given_by yields s).list) (drop_typed (length (given_by yields r).list) (given_by yields s).list (given_typed s h.0)))
       (news_typed (n + 1) old now h.1)
 
   abbrev Kept : Subs → Type 0
@@ -141,43 +144,43 @@ module _ (plugs : List PlugHead) (book : Book) (keeps : KeepsPlugTypes plugs boo
   step_by f g h k (Ok now) a = h now a.are
   step_by f g h k (Err w) a = k w
 
-  sub_step_typed : (o : Opening) (s : Subs) (x : Tree) → Kept s → HasType t x → RunKeeps Kept Good ((substreams book chain o).step s x)
+  sub_step_typed : (o : Opening) (s : Subs) (x : Tree) → Kept s → HasType t x → RunKeeps Kept Good ((substreams yields o).step s x)
   sub_step_typed o s x k h =
       step_by _ _
-      (λ now i. run_by _ _ (λ f. record { gave = tt; state = tt }) (record { gave = news_typed 0 s.subs now i.each; state = i }) (trouble book chain now))
+      (λ now i. run_by _ _ (λ f. record { gave = tt; state = tt }) (record { gave = news_typed 0 s.subs now i.each; state = i }) (trouble yields now))
       (λ w. record { gave = tt; state = tt }) (arranged o s.subs x) (arranged_typed t o s.subs x k h)
 
   finish_by : (f : Fault → Finish Tagged) (r : Finish Tagged) → ((x : Fault) → FinishKeeps Kept Good (f x)) → FinishKeeps Kept Good r → (o : Option Fault) → FinishKeeps Kept Good (elim o as (λ _. Finish Tagged) [ Some x ↦ f x | None ↦ r ])
   finish_by f r h k None = k
   finish_by f r h k (Some x) = h x
 
-  sub_finish_typed : (o : Opening) (s : Subs) → Kept s → FinishKeeps Kept Good ((substreams book chain o).finish s)
+  sub_finish_typed : (o : Opening) (s : Subs) → Kept s → FinishKeeps Kept Good ((substreams yields o).finish s)
   sub_finish_typed o s k =
       let all = ended_all t (λ (s : Sub). record s { ended = true }) (λ s. refl) s.subs k in
-      finish_by _ _ (λ f. tt) (news_typed 0 s.subs (map (λ (s : Sub). record s { ended = true }) s.subs) all.each) (trouble book chain (map (λ (s : Sub). record s { ended = true }) s.subs))
+      finish_by _ _ (λ f. tt) (news_typed 0 s.subs (map (λ (s : Sub). record s { ended = true }) s.subs) all.each) (trouble yields (map (λ (s : Sub). record s { ended = true }) s.subs))
 
-  given_all : (node : ℕ) (o : Opening) (i : Outlook) → AllTyped t i.list → TagsTyped u (whole (substreams book chain o) (begin_subs book chain node) i).list
+  given_all : (node : ℕ) (o : Opening) (i : Outlook) → AllTyped t i.list → TagsTyped u (whole (substreams yields o) (begin_subs yields node) i).list
   given_all node o i h =
-      whole_keeps Kept Good (substreams book chain o) (HasType t) (sub_step_typed o) (sub_finish_typed o) (begin_subs book chain node) i (record { gave = tt; state = record { each = tt } }) h
+      whole_keeps Kept Good (substreams yields o) (HasType t) (sub_step_typed o) (sub_finish_typed o) (begin_subs yields node) i (record { gave = tt; state = record { each = tt } }) h
 
   -- joined by `concat`
-  pub concat_subs_typed : (node : ℕ) (o : Opening) (i : Outlook) → AllTyped t i.list → AllTyped u (concat_subs book chain node o i).list
-  concat_subs_typed node o i h = items_typed u (whole (substreams book chain o) (begin_subs book chain node) i).list (given_all node o i h)
+  pub concat_subs_typed : (node : ℕ) (o : Opening) (i : Outlook) → AllTyped t i.list → AllTyped u (concat_subs yields node o i).list
+  concat_subs_typed node o i h = items_typed u (whole (substreams yields o) (begin_subs yields node) i).list (given_all node o i h)
 
-  of_sub_typed : (n : ℕ) (l : List Tagged) → TagsTyped u l → AllTyped u (of_sub book chain n l)
+  of_sub_typed : (n : ℕ) (l : List Tagged) → TagsTyped u l → AllTyped u (of_sub yields n l)
   of_sub_typed n [] h = tt
   of_sub_typed n (x ∷ l) h = by_test (x.port == n) (of_sub_typed n l h.1)
     where
-      by_test : (b : Bool) → AllTyped u (of_sub book chain n l) → AllTyped u (map (λ (y : Tagged). y.item) (if b then x ∷ filter (λ y. y.port == n) l else filter (λ y. y.port == n) l))
+      by_test : (b : Bool) → AllTyped u (of_sub yields n l) → AllTyped u (map (λ (y : Tagged). y.item) (if b then x ∷ filter (λ y. y.port == n) l else filter (λ y. y.port == n) l))
       by_test true k = (h.0, k)
       by_test false k = k
 
-  by_sub_typed : (k n : ℕ) (l : List Tagged) → TagsTyped u l → Each (AllTyped u) (by_sub book chain k n l)
+  by_sub_typed : (k n : ℕ) (l : List Tagged) → TagsTyped u l → Each (AllTyped u) (by_sub yields k n l)
   by_sub_typed zero n l h = tt
   by_sub_typed (suc k) n l h = (of_sub_typed n l h, by_sub_typed k (n + 1) l h)
 
   -- joined by `merge`
-  pub merge_subs_typed : (node : ℕ) (o : Opening) (moves : List ℕ) (i : Outlook) → AllTyped t i.list → AllTyped u (merge_subs book chain node o moves i).list
+  pub merge_subs_typed : (node : ℕ) (o : Opening) (moves : List ℕ) (i : Outlook) → AllTyped t i.list → AllTyped u (merge_subs yields node o moves i).list
   merge_subs_typed node o moves i h =
-      let all = (whole (substreams book chain o) (begin_subs book chain node) i).list in
-      items_typed u (merge_of moves (by_sub book chain (sub_count book chain all) 0 all)) (merge_typed u moves (by_sub book chain (sub_count book chain all) 0 all) (by_sub_typed (sub_count book chain all) 0 all (given_all node o i h)))
+      let all = (whole (substreams yields o) (begin_subs yields node) i).list in
+      items_typed u (merge_of moves (by_sub yields (sub_count yields all) 0 all)) (merge_typed u moves (by_sub yields (sub_count yields all) 0 all) (by_sub_typed (sub_count yields all) 0 all (given_all node o i h)))

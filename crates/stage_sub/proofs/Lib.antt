@@ -1,0 +1,11 @@
+pub mod Lasts
+pub mod Models
+pub mod Steps
+pub mod Splitting
+pub mod Groups
+pub mod Placing
+pub mod Keying
+pub mod KeptSubs
+pub mod Pushing
+pub mod Turning
+pub mod Beginning

@@ -1,0 +1,219 @@
+-- An element that came to substreams is one step of the stage's machine.
+use Rattle.std.specs.Prelude.{Result}
+use Rattle.std.proofs.Common.{◌≡◌, ℕ, ◌+◌, ◌≤◌, Bool, true, false, inl, inr, List, [], ◌∷◌, length, Option, Some, None, Ok, Err, refl, sym, ap, ◌∙◌, subst, arith}
+use Rattle.std.proofs.lemmas.Option.{same_Some}
+use Rattle.elem_core.specs.Tree.{Tree}
+use Rattle.elem_core.specs.declared.item.Item.TheVariants as item
+use Rattle.elem_core.specs.declared.why.Why.{Why}
+use Rattle.elem_core.specs.declared.why.Cause.{Cause}
+use Rattle.port_core.specs.Asking.{AsksStand}
+use Rattle.port_core.specs.Call.{brings, Meets, given_on}
+use Rattle.port_core.specs.View.{OneOneOf, in_at}
+use Rattle.port_core.specs.declared.view.InView.{InView}
+use Rattle.port_core.specs.declared.view.InView.TheVariants.{Idle, Waiting, Over, Left}
+use Rattle.port_core.specs.declared.view.OutView.{OutView}
+use Rattle.port_core.specs.declared.view.OutView.TheVariants.{Unasked, Asked, Shut, Refused}
+use Rattle.port_core.specs.ListFunction.{ListFunction, Same}
+use Rattle.stream_model.specs.Outlook.{End}
+use Rattle.stream_model.specs.Machine.{State, going, broken, Run, Machine, Given, feed}
+use Rattle.stream_model.specs.FanIn.{Tagged}
+use Rattle.stream_model.specs.Substreams.{Sub, Subs, Opening, Fault, arranged, trouble, news, blame, cause_of, sub_run, sub_step}
+use Rattle.stage_law.specs.Held.{Held, owing, shut}
+use Rattle.stage_law.specs.Turn.{last_held, Emits, TurnAt}
+use Rattle.stage_law.proofs.Lagging.{few_nothing}
+use Rattle.stage_linear.specs.declared.phase.Phase.{Phase}
+use Rattle.stage_linear.specs.declared.phase.Phase.TheVariants.{New, Open}
+use Rattle.chain_core.specs.Means.{Means}
+use Rattle.stage_sub.specs.Subs.{fault_in_model}
+use Rattle.stage_sub.specs.Joined.{items, untag, joined}
+use Rattle.stage_sub.specs.KeptSubs.{KeptSubs, opening_of, Keeps, TakesBy}
+use Rattle.stage_sub.specs.States.{Logic, row, row_in, Owes, Turned, cause_by, answered, answer_acts}
+use Rattle.stage_sub.specs.declared.opening.OpenBy.{OpenBy}
+use Rattle.stage_sub.specs.declared.blame.Blame.{Blame}
+use Rattle.stage_sub.specs.declared.blame.Blame.TheVariants.{AtElement, AtEnd}
+
+-- ---- where an element may come, the stage waits and holds nothing
+
+pub record Waits {C : Type 0} (l : Logic C) : Type 0 where
+  pub none : l.pending ≡ []
+  pub on : l.over ≡ false
+  pub asks : l.asked ≡ true
+
+waits_at : {C : Type 0} (l : Logic C) (over asked : Bool) (p : List Tagged) (x : InView) (y : OutView) → x ≡ Waiting → l.over ≡ over → l.asked ≡ asked → l.pending ≡ p → row_in Open over asked p x y → Waits l
+waits_at l false true p Waiting Asked w a d b r = record { none = b ∙ r; on = a; asks = d }
+waits_at l false true p Waiting Unasked w a d b r = absurd r
+waits_at l false true p Waiting Shut w a d b r = absurd r
+waits_at l false true p Waiting Refused w a d b r = absurd r
+waits_at l false false p Waiting y w a d b r = absurd r
+waits_at l true asked p Waiting y w a d b r = by_asked asked r
+  where
+    by_asked : (k : Bool) → row_in Open true k p Waiting y → Waits l
+    by_asked true q = absurd q
+    by_asked false q = absurd q
+waits_at l over asked p Idle y w a d b r = cc
+waits_at l over asked p Over y w a d b r = cc
+waits_at l over asked p Left y w a d b r = cc
+
+waits_in : {C : Type 0} (l : Logic C) (xs : List InView) (ys : List OutView) (t : Tree) → in_at (record { ins = xs; outs = ys }) 0 ≡ Waiting → OneOneOf (row_in Open l.over l.asked l.pending) xs ys → Waits l
+waits_in l (x ∷ []) (y ∷ []) t w r = waits_at l l.over l.asked l.pending x y w refl refl refl r
+waits_in l [] ys t w r = absurd r
+waits_in l (x ∷ []) [] t w r = absurd r
+waits_in l (x ∷ []) (y ∷ z ∷ ys) t w r = absurd r
+waits_in l (x ∷ u ∷ xs) ys t w r = absurd r
+
+pub waits : {C : Type 0} (l : Logic C) (t : Tree) → l.phase ≡ Open → Meets (brings 0 (item.Elem t)) (row l) → Waits l
+waits l t h m = waits_in l m.0.ins m.0.outs t m.1.0 (subst (λ p. OneOneOf (row_in p l.over l.asked l.pending) m.0.ins m.0.outs) h m.1.1)
+
+-- ---- one step of the machine
+
+module _ (yields : List Tree → End → Given Tree) (s : Subs) where
+  abbrev of_result : Result (List Sub) Why → Run Subs Tagged
+  of_result (Ok now) = sub_run yields s now
+  of_result (Err w) = record { gave = []; state = broken (blame s w) }
+
+  step_by : (r : Result (List Sub) Why) → (elim r as (λ _. Run Subs Tagged) [ Ok now ↦ sub_run yields s now | Err w ↦ record { gave = []; state = broken (blame s w) } ]) ≡ of_result r
+  step_by (Ok now) = refl
+  step_by (Err w) = refl
+
+  step_is : (o : Opening) (t : Tree) → sub_step yields o s t ≡ of_result (arranged o s.subs t)
+  step_is o t = step_by (arranged o s.subs t)
+
+  abbrev goes_to : List Sub → Subs
+  goes_to now = record { node = s.node; taken = s.taken + 1; subs = now }
+
+  abbrev of_fault : List Sub → Option Fault → Run Subs Tagged
+  of_fault now (Some f) = record { gave = []; state = broken (cause_of s f) }
+  of_fault now None = record { gave = news yields 0 s.subs now; state = going (goes_to now) }
+
+  run_by : (now : List Sub) (x : Option Fault)
+      → (elim x as (λ _. Run Subs Tagged) [ Some f ↦ record { gave = []; state = broken (cause_of s f) } | None ↦ record { gave = news yields 0 s.subs now; state = going (goes_to now) } ]) ≡ of_fault now x
+  run_by now (Some f) = refl
+  run_by now None = refl
+
+  pub stepped : (o : Opening) (t : Tree) (now : List Sub) → arranged o s.subs t ≡ Ok now → trouble yields now ≡ None → sub_step yields o s t ≡ record { gave = news yields 0 s.subs now; state = going (goes_to now) }
+  stepped o t now a e = step_is o t ∙ ap of_result a ∙ run_by now (trouble yields now) ∙ ap (of_fault now) e
+
+  pub stepped_fault : (o : Opening) (t : Tree) (now : List Sub) (f : Fault) → arranged o s.subs t ≡ Ok now → trouble yields now ≡ Some f → sub_step yields o s t ≡ record { gave = []; state = broken (cause_of s f) }
+  stepped_fault o t now f a e = step_is o t ∙ ap of_result a ∙ run_by now (trouble yields now) ∙ ap (of_fault now) e
+
+  pub stepped_err : (o : Opening) (t : Tree) (w : Why) → arranged o s.subs t ≡ Err w → sub_step yields o s t ≡ record { gave = []; state = broken (blame s w) }
+  stepped_err o t w a = step_is o t ∙ ap of_result a
+
+  cause_is : (b : Blame) → cause_of s (fault_in_model b) ≡ cause_by s.node (s.taken + 1) b
+  cause_is (AtElement w) = refl
+  cause_is (AtEnd w) = refl
+
+-- ---- one step of the stage
+
+module _ {C : Type 0} (rest : C → ListFunction) (is_open : C → Bool) (node n : ℕ) (how : OpenBy) (chain : C) (kept : KeptSubs C) (t : Tree) where
+  abbrev logic : KeptSubs C → List Tagged → Logic C
+  logic now p = record { phase = Open; node = node; taken = n; how = how; chain = chain; kept = now; pending = p; asked = true; over = false }
+
+  module _ (f : ListFunction) (yields : List Tree → End → Given Tree) where
+    abbrev machine : Machine Subs Tree
+    machine = joined yields (opening_of how)
+
+    abbrev at : Subs → Run Subs Tree
+    at s = record { gave = []; state = going s }
+
+    -- the stage's state and what it pushed, by what is held then
+    abbrev Steps : KeptSubs C → List Tagged → Option Blame → Subs → Type 0
+    Steps now after b s = (y : Held Subs) × (Owes rest is_open f yields (answered (logic now after) (n + 1) b) y × TurnAt machine 0 (brings 0 (item.Elem t)) (owing (at s)) (given_on 0 (answer_acts (logic now after) (n + 1) b)) y)
+
+    -- the step of the machine, and what came of it
+    fed : (s : Subs) (x : Run Subs Tagged) → sub_step yields (opening_of how) s t ≡ x → feed machine (at s) t ≡ untag x
+    fed s x e = ap untag e
+
+    goes : (s : Subs) (now : KeptSubs C) (subs : List Sub) (after : List Tagged) → s.node ≡ node → s.taken ≡ n → sub_step yields (opening_of how) s t ≡ record { gave = after; state = going (goes_to yields s subs) } → Keeps rest is_open f yields how now subs → Steps now after None s
+    goes s now subs [] sn st e sp = (
+      owing (record { gave = []; state = going (goes_to yields s subs) }),
+      (
+        (refl, (goes_to yields s subs, (refl, (sn, (ap (λ k. k + 1) st, sp))))),
+        (subst (λ x. Emits machine x [] (owing (record { gave = []; state = going (goes_to yields s subs) }))) (sym (fed s _ e)) (refl, refl), few_nothing machine (at s) t (record { gave = []; state = going (goes_to yields s subs) }) refl refl),
+      ),
+    )
+    goes s now subs (o ∷ os) sn st e sp =
+        let z : Run Subs Tree = record { gave = items os; state = going (goes_to yields s subs) } in
+        let whole : feed machine (at s) t ≡ record { gave = o.item ∷ items os; state = going (goes_to yields s subs) } = fed s _ e in
+        let long : length (items os) ≤ length (feed machine (at s) t).gave = subst (λ (x : Run Subs Tree). length (items os) ≤ length x.gave) (sym whole) (omega arith) in (
+          owing z,
+          (
+            (refl, (goes_to yields s subs, (refl, (sn, (ap (λ k. k + 1) st, sp))))),
+            (subst (λ x. Emits machine x (item.Elem o.item ∷ []) (owing z)) (sym whole) (refl, refl), last_held (omega arith) (omega (arith, long))),
+          ),
+        )
+
+    breaks : (s : Subs) (now : KeptSubs C) (after : List Tagged) (b : Blame) (c : Cause) → c ≡ cause_by node (n + 1) b → sub_step yields (opening_of how) s t ≡ record { gave = []; state = broken c } → Steps now after (Some b) s
+    breaks s now after b c is e = (shut, (tt, (subst (λ x. Emits machine x (item.Failed (cause_by node (n + 1) b) ∷ []) shut) (sym (fed s _ e)) (refl, ap (λ (d : Cause). item.Failed d ∷ []) (sym is)), tt)))
+
+    steps : (s : Subs) (now : KeptSubs C) (after : List Tagged) (b : Option Blame) → s.node ≡ node → s.taken ≡ n → TakesBy rest is_open f yields how s.subs t b [] after now → Steps now after b s
+    steps s now after None sn st (inl (w, (e, q))) = cc
+    steps s now after None sn st (inr (subs, (e, h))) =
+        goes s now subs after sn st (stepped yields s (opening_of how) t subs e h.0 ∙ ap (λ (l : List Tagged). record { gave = l; state = going (goes_to yields s subs) }) (sym h.1.0)) h.1.1
+    steps s now after (Some b) sn st (inl (w, (e, q))) =
+        let same : b ≡ AtElement w = same_Some b (AtElement w) q in
+        breaks s now after b (blame s w) (ap (λ k. record { stage = k; nth = s.taken + 1; why = w }) sn ∙ ap (λ k. record { stage = node; nth = k + 1; why = w }) st ∙ ap (cause_by node (n + 1)) (sym same)) (stepped_err yields s (opening_of how) t w e)
+    steps s now after (Some b) sn st (inr (subs, (e, h))) =
+        breaks s now after b (cause_of s (fault_in_model b)) (cause_is yields s b ∙ ap (λ k. cause_by k (s.taken + 1) b) sn ∙ ap (λ k. cause_by node (k + 1) b) st) (stepped_fault yields s (opening_of how) t subs (fault_in_model b) e h)
+
+    owing_by : (x : Run Subs Tree) (s : Subs) → x.gave ≡ [] → x.state ≡ going s → x ≡ at s
+    owing_by x s g e = ap (λ (l : List Tree). record { gave = l; state = x.state }) g ∙ ap (λ (k : State Subs). record { gave = []; state = k }) e
+
+    turns : (now : KeptSubs C) (after : List Tagged) (b : Option Blame) → ((ss : List Sub) → Keeps rest is_open f yields how kept ss → TakesBy rest is_open f yields how ss t b [] after now)
+        → (x : Held Subs) → Owes rest is_open f yields (logic kept []) x
+        → (y : Held Subs) × (Owes rest is_open f yields (answered (logic now after) (n + 1) b) y × TurnAt machine 0 (brings 0 (item.Elem t)) x (given_on 0 (answer_acts (logic now after) (n + 1) b)) y)
+    turns now after b takes shut h = absurd h
+    turns now after b takes (owing x) h =
+        let s : Subs = h.1.0 in
+        subst (λ (k : Run Subs Tree). (y : Held Subs) × (Owes rest is_open f yields (answered (logic now after) (n + 1) b) y × TurnAt machine 0 (brings 0 (item.Elem t)) (owing k) (given_on 0 (answer_acts (logic now after) (n + 1) b)) y))
+        (sym (owing_by x s h.0 h.1.1.0)) (steps s now after b h.1.1.1.0 h.1.1.1.1.0 (takes s.subs h.1.1.1.1.1))
+
+  started_by : (now : KeptSubs C) (after : List Tagged) (b : Option Blame) → (answered (logic now after) (n + 1) b).phase ≡ New → ⊥
+  started_by now [] None e = cc
+  started_by now (o ∷ os) None e = cc
+  started_by now after (Some b) e = cc
+
+  stands_by : (now : KeptSubs C) (after : List Tagged) (b : Option Blame) → AsksStand (answer_acts (logic now after) (n + 1) b)
+  stands_by now [] None = (tt, tt)
+  stands_by now (o ∷ os) None = tt
+  stands_by now after (Some b) = tt
+
+  how_by : (now : KeptSubs C) (after : List Tagged) (b : Option Blame) → (answered (logic now after) (n + 1) b).how ≡ how
+  how_by now [] None = refl
+  how_by now (o ∷ os) None = refl
+  how_by now after (Some b) = refl
+
+  chain_by : (now : KeptSubs C) (after : List Tagged) (b : Option Blame) → (answered (logic now after) (n + 1) b).chain ≡ chain
+  chain_by now [] None = refl
+  chain_by now (o ∷ os) None = refl
+  chain_by now after (Some b) = refl
+
+  pushed_at : (whole : C → ListFunction) (now : KeptSubs C) (after : List Tagged) (b : Option Blame)
+      → ((f : ListFunction) → Same (whole chain) f → (yields : List Tree → End → Given Tree) → Means yields f → (ss : List Sub) → Keeps rest is_open f yields how kept ss → TakesBy rest is_open f yields how ss t b [] after now)
+      → Turned whole rest is_open (brings 0 (item.Elem t)) (logic kept []) (answer_acts (logic now after) (n + 1) b) (answered (logic now after) (n + 1) b)
+  pushed_at whole now after b takes = record { turn = λ f same yields means. turns f yields now after b (takes f same yields means); how = how_by now after b; chain = chain_by now after b; stands = stands_by now after b; started = started_by now after b }
+
+abbrev pub of_parts : {C : Type 0} → Phase → ℕ → ℕ → OpenBy → C → KeptSubs C → List Tagged → Bool → Bool → Logic C
+of_parts ph node n how chain kept p asked over = record { phase = ph; node = node; taken = n; how = how; chain = chain; kept = kept; pending = p; asked = asked; over = over }
+
+module _ {C : Type 0} (whole rest : C → ListFunction) (is_open : C → Bool) where
+  -- an element that came to this
+  pub pushed : (old mid : Logic C) (t : Tree) (k : ℕ) (b : Option Blame) → old.phase ≡ Open → Waits old → k ≡ old.taken + 1 → mid ≡ record old { kept = mid.kept; pending = mid.pending }
+      → ((f : ListFunction) → Same (whole old.chain) f → (yields : List Tree → End → Given Tree) → Means yields f → (ss : List Sub) → Keeps rest is_open f yields old.how old.kept ss → TakesBy rest is_open f yields old.how ss t b old.pending mid.pending mid.kept)
+      → Turned whole rest is_open (brings 0 (item.Elem t)) old (answer_acts mid k b) (answered mid k b)
+  pushed old mid t k b h w e m takes =
+      let now : Logic C = of_parts Open old.node old.taken old.how old.chain mid.kept mid.pending true false in
+      let is : old ≡ of_parts Open old.node old.taken old.how old.chain old.kept [] true false =
+      ap (λ p. of_parts p old.node old.taken old.how old.chain old.kept old.pending old.asked old.over) h ∙ ap (λ p. of_parts Open old.node old.taken old.how old.chain old.kept p old.asked old.over) w.none
+      ∙ ap (λ x. of_parts Open old.node old.taken old.how old.chain old.kept [] x old.over) w.asks ∙ ap (λ x. of_parts Open old.node old.taken old.how old.chain old.kept [] true x) w.on in
+      let mid_is : mid ≡ now =
+      m ∙ ap (λ p. of_parts p old.node old.taken old.how old.chain mid.kept mid.pending old.asked old.over) h
+      ∙ ap (λ x. of_parts Open old.node old.taken old.how old.chain mid.kept mid.pending x old.over) w.asks ∙ ap (λ x. of_parts Open old.node old.taken old.how old.chain mid.kept mid.pending true x) w.on in
+      let takes_now : (f : ListFunction) → Same (whole old.chain) f → (yields : List Tree → End → Given Tree) → Means yields f → (ss : List Sub) → Keeps rest is_open f yields old.how old.kept ss → TakesBy rest is_open f yields old.how ss t b [] mid.pending mid.kept =
+      subst (λ p. (f : ListFunction) → Same (whole old.chain) f → (yields : List Tree → End → Given Tree) → Means yields f → (ss : List Sub) → Keeps rest is_open f yields old.how old.kept ss → TakesBy rest is_open f yields old.how ss t b p mid.pending mid.kept) w.none takes in
+      let core = pushed_at rest is_open old.node old.taken old.how old.chain old.kept t whole mid.kept mid.pending b takes_now in
+      let at_old : Turned whole rest is_open (brings 0 (item.Elem t)) old (answer_acts now (old.taken + 1) b) (answered now (old.taken + 1) b) =
+      subst (λ (x : Logic C). Turned whole rest is_open (brings 0 (item.Elem t)) x (answer_acts now (old.taken + 1) b) (answered now (old.taken + 1) b)) (sym is) core in
+      let at_mid : Turned whole rest is_open (brings 0 (item.Elem t)) old (answer_acts mid (old.taken + 1) b) (answered mid (old.taken + 1) b) =
+      subst (λ (x : Logic C). Turned whole rest is_open (brings 0 (item.Elem t)) old (answer_acts x (old.taken + 1) b) (answered x (old.taken + 1) b)) (sym mid_is) at_old in
+      subst (λ j. Turned whole rest is_open (brings 0 (item.Elem t)) old (answer_acts mid j b) (answered mid j b)) (sym e) at_mid

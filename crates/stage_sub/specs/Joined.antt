@@ -1,0 +1,22 @@
+-- The machine of substreams as one over elements: the numbers of its outputs' substreams left out.
+use Rattle.std.specs.Prelude.{List, map}
+use Rattle.elem_core.specs.Tree.{Tree}
+use Rattle.stream_model.specs.Outlook.{End}
+use Rattle.stream_model.specs.Machine.{Run, Finish, adds, refuses, Machine, Given}
+use Rattle.stream_model.specs.FanIn.{Tagged}
+use Rattle.stream_model.specs.Substreams.{Opening, Subs, substreams}
+
+abbrev pub items : List Tagged → List Tree
+items l = map (λ x. x.item) l
+
+abbrev pub untag : Run Subs Tagged → Run Subs Tree
+untag x = record { gave = items x.gave; state = x.state }
+
+abbrev pub untag_finish : Finish Tagged → Finish Tree
+untag_finish (adds l) = adds (items l)
+untag_finish (refuses c) = refuses c
+
+-- what substreams give, in the order in which it arises
+abbrev pub joined : (List Tree → End → Given Tree) → Opening → Machine Subs Tree
+joined yields o =
+    let m = substreams yields o in record { step = λ s t. untag (m.step s t); finish = λ s. untag_finish (m.finish s); hold = m.hold; early = m.early }

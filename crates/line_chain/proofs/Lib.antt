@@ -1,0 +1,4 @@
+pub mod Replies
+pub mod Running
+pub mod Books
+pub mod Lines

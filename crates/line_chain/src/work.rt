@@ -1,0 +1,88 @@
+ghost use Rattle.std.specs.Prelude.{◌≡◌, IfOk};
+ghost use Rattle.stage_state.specs.Keeping.{FinishesBy};
+ghost use Rattle.elem_core.specs.declared.why.Decider.{Decider};
+ghost use Rattle.stage_linear.specs.Tasks as tasks;
+ghost use Rattle.stage_state.specs.Keeping as keepings;
+ghost use Rattle.line_chain.specs.Steps.{work_in, Replies};
+
+use elem_core::elem::Elem;
+use elem_core::why::{Decider, NoMemory, Why};
+use stage_linear::task::{Outcome, Task};
+use stage_state::keeping;
+use stage_state::keeping::Keeping;
+use std::alloc::Global;
+
+/// The work of a step of a chain, and how far it has come. Rule: Akka Streams 2.6 reference, but where a line says own.
+#[derive(Drop)]
+pub enum StepWork {
+    /// A task, which keeps at most a count.
+    Plain(Task),
+    /// What keeps elements between elements.
+    Keeps(Keeping),
+    /// It passes each element on. Own.
+    Passes,
+    /// It passes the first, and ends.
+    First,
+    /// It keeps the last.
+    Last(Option<Elem>),
+}
+
+impl StepWork {
+    /// One more element, for a step with this decider.
+    pub fn react(&mut self, alloc: Global, decider: Decider, e: Elem) -> Result<Outcome, NoMemory>
+        ensures { IfOk result (Replies decider (work_in self.old) e (work_in self.new)) }
+    {
+        match self {
+            StepWork::Plain(task) => {
+                let outcome = plain(task, alloc, e)?;
+                Ok(outcome)
+            }
+            StepWork::Keeps(kept) => keep(kept, alloc, decider, e),
+            StepWork::Passes => Ok(Outcome::Gives(e)),
+            StepWork::First => Ok(Outcome::EndsWith(e)),
+            StepWork::Last(value) => {
+                *value = Some(e);
+                Ok(Outcome::Skips)
+            }
+        }
+    }
+
+    /// The input has ended: what is given then, or why the step fails. It takes no memory.
+    pub fn finish(&mut self, alloc: Global) -> Result<Option<Elem>, Why>
+        ensures { FinishesBy (work_in self.old) result }
+    {
+        match self {
+            StepWork::Plain(_) | StepWork::Passes => Ok(None),
+            StepWork::Keeps(kept) => kept.finish(alloc),
+            StepWork::First => Err(Why::EmptySink),
+            StepWork::Last(value) => match value.take() {
+                Some(last) => Ok(Some(last)),
+                None => Err(Why::EmptySink),
+            },
+        }
+    }
+}
+
+// One more element of a task. A take that is to pass none ends, as the model does; a step that begins so has ended before.
+fn plain(task: &mut Task, alloc: Global, e: Elem) -> Result<Outcome, NoMemory>
+    ensures { IfOk result (λ o. (d : Decider) → Replies d (tasks.work_in task.old) e (tasks.work_in task.new) o) }
+{
+    match task {
+        Task::Take(0) => Ok(Outcome::Ends),
+        _ => {
+            let outcome = task.react(alloc, e)?;
+            Ok(outcome)
+        }
+    }
+}
+
+// One more element of what keeps elements.
+fn keep(kept: &mut Keeping, alloc: Global, decider: Decider, e: Elem) -> Result<Outcome, NoMemory>
+    ensures { IfOk result (Replies decider (keepings.work_in kept.old) e (keepings.work_in kept.new)) }
+{
+    match kept.react(alloc, decider, e)? {
+        keeping::Outcome::Gives(value) => Ok(Outcome::Gives(value)),
+        keeping::Outcome::Asks => Ok(Outcome::Skips),
+        keeping::Outcome::Fails(why) => Ok(Outcome::Fails(why)),
+    }
+}

@@ -9,3 +9,10 @@ pub mod KeptSubs
 pub mod Pushing
 pub mod Turning
 pub mod Beginning
+pub mod Fifo
+pub mod Untagging
+pub mod Telling
+pub mod Rows
+pub mod Nodes
+pub mod Standing
+pub mod Asking

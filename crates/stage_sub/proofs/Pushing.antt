@@ -1,5 +1,5 @@
 -- An element that came to substreams is one step of the stage's machine.
-use Rattle.std.specs.Prelude.{Result}
+use Rattle.std.specs.Prelude.{Result, option_to_list}
 use Rattle.std.proofs.Common.{◌≡◌, ℕ, ◌+◌, ◌≤◌, Bool, true, false, inl, inr, List, [], ◌∷◌, length, Option, Some, None, Ok, Err, refl, sym, ap, ◌∙◌, subst, arith}
 use Rattle.std.proofs.lemmas.Option.{same_Some}
 use Rattle.elem_core.specs.Tree.{Tree}
@@ -7,6 +7,7 @@ use Rattle.elem_core.specs.declared.item.Item.TheVariants as item
 use Rattle.elem_core.specs.declared.why.Why.{Why}
 use Rattle.elem_core.specs.declared.why.Cause.{Cause}
 use Rattle.port_core.specs.Asking.{AsksStand}
+use Rattle.port_core.specs.declared.act.Act.{Act}
 use Rattle.port_core.specs.Call.{brings, Meets, given_on}
 use Rattle.port_core.specs.View.{OneOneOf, in_at}
 use Rattle.port_core.specs.declared.view.InView.{InView}
@@ -14,11 +15,11 @@ use Rattle.port_core.specs.declared.view.InView.TheVariants.{Idle, Waiting, Over
 use Rattle.port_core.specs.declared.view.OutView.{OutView}
 use Rattle.port_core.specs.declared.view.OutView.TheVariants.{Unasked, Asked, Shut, Refused}
 use Rattle.port_core.specs.ListFunction.{ListFunction, Same}
-use Rattle.stream_model.specs.Outlook.{End}
+use Rattle.stream_model.specs.Outlook.{End, unended, failed}
 use Rattle.stream_model.specs.Machine.{State, going, broken, Run, Machine, Given, feed}
 use Rattle.stream_model.specs.FanIn.{Tagged}
-use Rattle.stream_model.specs.Substreams.{Sub, Subs, Opening, Fault, arranged, trouble, news, blame, cause_of, sub_run, sub_step}
-use Rattle.stage_law.specs.Held.{Held, owing, shut}
+use Rattle.stream_model.specs.Substreams.{Sub, Subs, Opening, Fault, arranged, trouble, news, blame, cause_of, sub_run, sub_step, substreams}
+use Rattle.stage_law.specs.Held.{told, Held, owing, shut}
 use Rattle.stage_law.specs.Turn.{last_held, Emits, TurnAt}
 use Rattle.stage_law.proofs.Lagging.{few_nothing}
 use Rattle.stage_linear.specs.declared.phase.Phase.{Phase}
@@ -27,7 +28,8 @@ use Rattle.chain_core.specs.Means.{Means}
 use Rattle.stage_sub.specs.Subs.{fault_in_model}
 use Rattle.stage_sub.specs.Joined.{items, untag, joined}
 use Rattle.stage_sub.specs.KeptSubs.{KeptSubs, opening_of, Keeps, TakesBy}
-use Rattle.stage_sub.specs.States.{Logic, row, row_in, Owes, Turned, cause_by, answered, answer_acts}
+use Rattle.stage_sub.specs.Moves.{noted, port_in}
+use Rattle.stage_sub.specs.States.{Logic, row, row_in, Owes, Queues, Turned, cause_by, answered, answer_acts, answer_gave}
 use Rattle.stage_sub.specs.declared.opening.OpenBy.{OpenBy}
 use Rattle.stage_sub.specs.declared.blame.Blame.{Blame}
 use Rattle.stage_sub.specs.declared.blame.Blame.TheVariants.{AtElement, AtEnd}
@@ -105,9 +107,25 @@ module _ (yields : List Tree → End → Given Tree) (s : Subs) where
 
 -- ---- one step of the stage
 
-module _ {C : Type 0} (rest : C → ListFunction) (is_open : C → Bool) (node n : ℕ) (how : OpenBy) (chain : C) (kept : KeptSubs C) (t : Tree) where
+abbrev pub of_parts : {C : Type 0} → Phase → ℕ → ℕ → OpenBy → C → KeptSubs C → List Tagged → Bool → Bool → Option (List ℕ) → Logic C
+of_parts ph node n how chain kept p asked over ms = record { phase = ph; node = node; taken = n; how = how; chain = chain; kept = kept; pending = p; asked = asked; over = over; moves = ms }
+
+-- the stage before the step has the moves ms; what is kept of it beside its log has the moves ks
+module _ {C : Type 0} (rest : C → ListFunction) (is_open : C → Bool) (node n : ℕ) (how : OpenBy) (chain : C) (kept : KeptSubs C) (t : Tree) (ms ks : Option (List ℕ)) where
+  abbrev old_one : Logic C
+  old_one = of_parts Open node n how chain kept [] true false ms
+
   abbrev logic : KeptSubs C → List Tagged → Logic C
-  logic now p = record { phase = Open; node = node; taken = n; how = how; chain = chain; kept = now; pending = p; asked = true; over = false }
+  logic now p = of_parts Open node n how chain now p true false ks
+
+  abbrev gave_then : KeptSubs C → List Tagged → Option Blame → Option Tagged
+  gave_then now p b = answer_gave (logic now p) b
+
+  abbrev then_one : KeptSubs C → List Tagged → Option Blame → Logic C
+  then_one now p b = record (answered (logic now p) (n + 1) b) { moves = noted ms (port_in (gave_then now p b)) }
+
+  abbrev acts_then : KeptSubs C → List Tagged → Option Blame → List Act
+  acts_then now p b = answer_acts (logic now p) (n + 1) b
 
   module _ (f : ListFunction) (yields : List Tree → End → Given Tree) where
     abbrev machine : Machine Subs Tree
@@ -118,7 +136,9 @@ module _ {C : Type 0} (rest : C → ListFunction) (is_open : C → Bool) (node n
 
     -- the stage's state and what it pushed, by what is held then
     abbrev Steps : KeptSubs C → List Tagged → Option Blame → Subs → Type 0
-    Steps now after b s = (y : Held Subs) × (Owes rest is_open f yields (answered (logic now after) (n + 1) b) y × TurnAt machine 0 (brings 0 (item.Elem t)) (owing (at s)) (given_on 0 (answer_acts (logic now after) (n + 1) b)) y)
+    Steps now after b s =
+        (y : Held Subs) × (Owes rest is_open f yields (then_one now after b) y
+        × (TurnAt machine 0 (brings 0 (item.Elem t)) (owing (at s)) (given_on 0 (acts_then now after b)) y × Queues (substreams yields (opening_of how)) (brings 0 (item.Elem t)) (owing (at s)) old_one (gave_then now after b) (then_one now after b)))
 
     -- the step of the machine, and what came of it
     fed : (s : Subs) (x : Run Subs Tagged) → sub_step yields (opening_of how) s t ≡ x → feed machine (at s) t ≡ untag x
@@ -129,7 +149,10 @@ module _ {C : Type 0} (rest : C → ListFunction) (is_open : C → Bool) (node n
       owing (record { gave = []; state = going (goes_to yields s subs) }),
       (
         (refl, (goes_to yields s subs, (refl, (sn, (ap (λ k. k + 1) st, sp))))),
-        (subst (λ x. Emits machine x [] (owing (record { gave = []; state = going (goes_to yields s subs) }))) (sym (fed s _ e)) (refl, refl), few_nothing machine (at s) t (record { gave = []; state = going (goes_to yields s subs) }) refl refl),
+        (
+          (subst (λ x. Emits machine x [] (owing (record { gave = []; state = going (goes_to yields s subs) }))) (sym (fed s _ e)) (refl, refl), few_nothing machine (at s) t (record { gave = []; state = going (goes_to yields s subs) }) refl refl),
+          inl (sym (ap (λ (x : Run Subs Tagged). x.gave) e)),
+        ),
       ),
     )
     goes s now subs (o ∷ os) sn st e sp =
@@ -139,12 +162,16 @@ module _ {C : Type 0} (rest : C → ListFunction) (is_open : C → Bool) (node n
           owing z,
           (
             (refl, (goes_to yields s subs, (refl, (sn, (ap (λ k. k + 1) st, sp))))),
-            (subst (λ x. Emits machine x (item.Elem o.item ∷ []) (owing z)) (sym whole) (refl, refl), last_held (omega arith) (omega (arith, long))),
+            (
+              (subst (λ x. Emits machine x (item.Elem o.item ∷ []) (owing z)) (sym whole) (refl, refl), last_held (omega arith) (omega (arith, long))),
+              inl (sym (ap (λ (x : Run Subs Tagged). x.gave) e)),
+            ),
           ),
         )
 
     breaks : (s : Subs) (now : KeptSubs C) (after : List Tagged) (b : Blame) (c : Cause) → c ≡ cause_by node (n + 1) b → sub_step yields (opening_of how) s t ≡ record { gave = []; state = broken c } → Steps now after (Some b) s
-    breaks s now after b c is e = (shut, (tt, (subst (λ x. Emits machine x (item.Failed (cause_by node (n + 1) b) ∷ []) shut) (sym (fed s _ e)) (refl, ap (λ (d : Cause). item.Failed d ∷ []) (sym is)), tt)))
+    breaks s now after b c is e =
+        (shut, (tt, ((subst (λ x. Emits machine x (item.Failed (cause_by node (n + 1) b) ∷ []) shut) (sym (fed s _ e)) (refl, ap (λ (d : Cause). item.Failed d ∷ []) (sym is)), tt), inr (refl, refl))))
 
     steps : (s : Subs) (now : KeptSubs C) (after : List Tagged) (b : Option Blame) → s.node ≡ node → s.taken ≡ n → TakesBy rest is_open f yields how s.subs t b [] after now → Steps now after b s
     steps s now after None sn st (inl (w, (e, q))) = cc
@@ -159,61 +186,100 @@ module _ {C : Type 0} (rest : C → ListFunction) (is_open : C → Bool) (node n
     owing_by : (x : Run Subs Tree) (s : Subs) → x.gave ≡ [] → x.state ≡ going s → x ≡ at s
     owing_by x s g e = ap (λ (l : List Tree). record { gave = l; state = x.state }) g ∙ ap (λ (k : State Subs). record { gave = []; state = k }) e
 
+    abbrev Turns : KeptSubs C → List Tagged → Option Blame → Held Subs → Type 0
+    Turns now after b x =
+        (y : Held Subs) × (Owes rest is_open f yields (then_one now after b) y
+        × (TurnAt machine 0 (brings 0 (item.Elem t)) x (given_on 0 (acts_then now after b)) y × Queues (substreams yields (opening_of how)) (brings 0 (item.Elem t)) x old_one (gave_then now after b) (then_one now after b)))
+
     turns : (now : KeptSubs C) (after : List Tagged) (b : Option Blame) → ((ss : List Sub) → Keeps rest is_open f yields how kept ss → TakesBy rest is_open f yields how ss t b [] after now)
-        → (x : Held Subs) → Owes rest is_open f yields (logic kept []) x
-        → (y : Held Subs) × (Owes rest is_open f yields (answered (logic now after) (n + 1) b) y × TurnAt machine 0 (brings 0 (item.Elem t)) x (given_on 0 (answer_acts (logic now after) (n + 1) b)) y)
+        → (x : Held Subs) → Owes rest is_open f yields old_one x → Turns now after b x
     turns now after b takes shut h = absurd h
     turns now after b takes (owing x) h =
         let s : Subs = h.1.0 in
-        subst (λ (k : Run Subs Tree). (y : Held Subs) × (Owes rest is_open f yields (answered (logic now after) (n + 1) b) y × TurnAt machine 0 (brings 0 (item.Elem t)) (owing k) (given_on 0 (answer_acts (logic now after) (n + 1) b)) y))
-        (sym (owing_by x s h.0 h.1.1.0)) (steps s now after b h.1.1.1.0 h.1.1.1.1.0 (takes s.subs h.1.1.1.1.1))
+        subst (λ (k : Run Subs Tree). Turns now after b (owing k)) (sym (owing_by x s h.0 h.1.1.0)) (steps s now after b h.1.1.1.0 h.1.1.1.1.0 (takes s.subs h.1.1.1.1.1))
 
-  started_by : (now : KeptSubs C) (after : List Tagged) (b : Option Blame) → (answered (logic now after) (n + 1) b).phase ≡ New → ⊥
+  started_by : (now : KeptSubs C) (after : List Tagged) (b : Option Blame) → (then_one now after b).phase ≡ New → ⊥
   started_by now [] None e = cc
   started_by now (o ∷ os) None e = cc
   started_by now after (Some b) e = cc
 
-  stands_by : (now : KeptSubs C) (after : List Tagged) (b : Option Blame) → AsksStand (answer_acts (logic now after) (n + 1) b)
+  stands_by : (now : KeptSubs C) (after : List Tagged) (b : Option Blame) → AsksStand (acts_then now after b)
   stands_by now [] None = (tt, tt)
   stands_by now (o ∷ os) None = tt
   stands_by now after (Some b) = tt
 
-  how_by : (now : KeptSubs C) (after : List Tagged) (b : Option Blame) → (answered (logic now after) (n + 1) b).how ≡ how
-  how_by now [] None = refl
-  how_by now (o ∷ os) None = refl
-  how_by now after (Some b) = refl
+  -- what it was made of stays
+  record Stays (l : Logic C) : Type 0 where
+    node_is : l.node ≡ node
+    how_is : l.how ≡ how
+    chain_is : l.chain ≡ chain
 
-  chain_by : (now : KeptSubs C) (after : List Tagged) (b : Option Blame) → (answered (logic now after) (n + 1) b).chain ≡ chain
-  chain_by now [] None = refl
-  chain_by now (o ∷ os) None = refl
-  chain_by now after (Some b) = refl
+  same_by : (now : KeptSubs C) (after : List Tagged) (b : Option Blame) → Stays (then_one now after b)
+  same_by now [] None = record { node_is = refl; how_is = refl; chain_is = refl }
+  same_by now (o ∷ os) None = record { node_is = refl; how_is = refl; chain_is = refl }
+  same_by now after (Some b) = record { node_is = refl; how_is = refl; chain_is = refl }
+
+  abbrev closing_by : Option Blame → End
+  closing_by None = unended
+  closing_by (Some b) = failed (cause_by node (n + 1) b)
+
+  out_by : (now : KeptSubs C) (after : List Tagged) (b : Option Blame) → given_on 0 (acts_then now after b) ≡ told (items (option_to_list (gave_then now after b))) (closing_by b)
+  out_by now [] None = refl
+  out_by now (o ∷ os) None = refl
+  out_by now after (Some b) = refl
 
   pushed_at : (whole : C → ListFunction) (now : KeptSubs C) (after : List Tagged) (b : Option Blame)
       → ((f : ListFunction) → Same (whole chain) f → (yields : List Tree → End → Given Tree) → Means yields f → (ss : List Sub) → Keeps rest is_open f yields how kept ss → TakesBy rest is_open f yields how ss t b [] after now)
-      → Turned whole rest is_open (brings 0 (item.Elem t)) (logic kept []) (answer_acts (logic now after) (n + 1) b) (answered (logic now after) (n + 1) b)
-  pushed_at whole now after b takes = record { turn = λ f same yields means. turns f yields now after b (takes f same yields means); how = how_by now after b; chain = chain_by now after b; stands = stands_by now after b; started = started_by now after b }
-
-abbrev pub of_parts : {C : Type 0} → Phase → ℕ → ℕ → OpenBy → C → KeptSubs C → List Tagged → Bool → Bool → Logic C
-of_parts ph node n how chain kept p asked over = record { phase = ph; node = node; taken = n; how = how; chain = chain; kept = kept; pending = p; asked = asked; over = over }
+      → Turned whole rest is_open (brings 0 (item.Elem t)) old_one (acts_then now after b) (then_one now after b)
+  pushed_at whole now after b takes =
+      let stays = same_by now after b in
+      record {
+        gave = gave_then now after b;
+        closing = closing_by b;
+        out = out_by now after b;
+        turn = λ f same yields means. turns f yields now after b (takes f same yields means);
+        moves = refl;
+        node = stays.node_is;
+        how = stays.how_is;
+        chain = stays.chain_is;
+        stands = stands_by now after b;
+        started = started_by now after b;
+      }
 
 module _ {C : Type 0} (whole rest : C → ListFunction) (is_open : C → Bool) where
+  abbrev Takes : Logic C → Logic C → Tree → Option Blame → List Tagged → Type 0
+  Takes old st t b before =
+      (f : ListFunction) → Same (whole old.chain) f → (yields : List Tree → End → Given Tree) → Means yields f → (ss : List Sub) → Keeps rest is_open f yields old.how old.kept ss
+      → TakesBy rest is_open f yields old.how ss t b before st.pending st.kept
+
   -- an element that came to this
-  pub pushed : (old mid : Logic C) (t : Tree) (k : ℕ) (b : Option Blame) → old.phase ≡ Open → Waits old → k ≡ old.taken + 1 → mid ≡ record old { kept = mid.kept; pending = mid.pending }
-      → ((f : ListFunction) → Same (whole old.chain) f → (yields : List Tree → End → Given Tree) → Means yields f → (ss : List Sub) → Keeps rest is_open f yields old.how old.kept ss → TakesBy rest is_open f yields old.how ss t b old.pending mid.pending mid.kept)
-      → Turned whole rest is_open (brings 0 (item.Elem t)) old (answer_acts mid k b) (answered mid k b)
-  pushed old mid t k b h w e m takes =
-      let now : Logic C = of_parts Open old.node old.taken old.how old.chain mid.kept mid.pending true false in
-      let is : old ≡ of_parts Open old.node old.taken old.how old.chain old.kept [] true false =
-      ap (λ p. of_parts p old.node old.taken old.how old.chain old.kept old.pending old.asked old.over) h ∙ ap (λ p. of_parts Open old.node old.taken old.how old.chain old.kept p old.asked old.over) w.none
-      ∙ ap (λ x. of_parts Open old.node old.taken old.how old.chain old.kept [] x old.over) w.asks ∙ ap (λ x. of_parts Open old.node old.taken old.how old.chain old.kept [] true x) w.on in
-      let mid_is : mid ≡ now =
-      m ∙ ap (λ p. of_parts p old.node old.taken old.how old.chain mid.kept mid.pending old.asked old.over) h
-      ∙ ap (λ x. of_parts Open old.node old.taken old.how old.chain mid.kept mid.pending x old.over) w.asks ∙ ap (λ x. of_parts Open old.node old.taken old.how old.chain mid.kept mid.pending true x) w.on in
-      let takes_now : (f : ListFunction) → Same (whole old.chain) f → (yields : List Tree → End → Given Tree) → Means yields f → (ss : List Sub) → Keeps rest is_open f yields old.how old.kept ss → TakesBy rest is_open f yields old.how ss t b [] mid.pending mid.kept =
-      subst (λ p. (f : ListFunction) → Same (whole old.chain) f → (yields : List Tree → End → Given Tree) → Means yields f → (ss : List Sub) → Keeps rest is_open f yields old.how old.kept ss → TakesBy rest is_open f yields old.how ss t b p mid.pending mid.kept) w.none takes in
-      let core = pushed_at rest is_open old.node old.taken old.how old.chain old.kept t whole mid.kept mid.pending b takes_now in
-      let at_old : Turned whole rest is_open (brings 0 (item.Elem t)) old (answer_acts now (old.taken + 1) b) (answered now (old.taken + 1) b) =
-      subst (λ (x : Logic C). Turned whole rest is_open (brings 0 (item.Elem t)) x (answer_acts now (old.taken + 1) b) (answered now (old.taken + 1) b)) (sym is) core in
-      let at_mid : Turned whole rest is_open (brings 0 (item.Elem t)) old (answer_acts mid (old.taken + 1) b) (answered mid (old.taken + 1) b) =
-      subst (λ (x : Logic C). Turned whole rest is_open (brings 0 (item.Elem t)) old (answer_acts x (old.taken + 1) b) (answered x (old.taken + 1) b)) (sym mid_is) at_old in
-      subst (λ j. Turned whole rest is_open (brings 0 (item.Elem t)) old (answer_acts mid j b) (answered mid j b)) (sym e) at_mid
+  pushed : (old st : Logic C) (t : Tree) (k : ℕ) (b : Option Blame) → old.phase ≡ Open → Waits old → k ≡ old.taken + 1 → st ≡ record old { kept = st.kept; pending = st.pending; moves = st.moves } → Takes old st t b old.pending
+      → Turned whole rest is_open (brings 0 (item.Elem t)) old (answer_acts st k b) (record (answered st k b) { moves = noted old.moves (port_in (answer_gave st b)) })
+  pushed old st t k b h w e m takes =
+      let now : Logic C = of_parts Open old.node old.taken old.how old.chain st.kept st.pending true false st.moves in
+      let is : old ≡ of_parts Open old.node old.taken old.how old.chain old.kept [] true false old.moves =
+      ap (λ p. of_parts p old.node old.taken old.how old.chain old.kept old.pending old.asked old.over old.moves) h ∙ ap (λ p. of_parts Open old.node old.taken old.how old.chain old.kept p old.asked old.over old.moves) w.none
+      ∙ ap (λ x. of_parts Open old.node old.taken old.how old.chain old.kept [] x old.over old.moves) w.asks ∙ ap (λ x. of_parts Open old.node old.taken old.how old.chain old.kept [] true x old.moves) w.on in
+      let st_is : st ≡ now =
+      m ∙ ap (λ p. of_parts p old.node old.taken old.how old.chain st.kept st.pending old.asked old.over st.moves) h
+      ∙ ap (λ x. of_parts Open old.node old.taken old.how old.chain st.kept st.pending x old.over st.moves) w.asks ∙ ap (λ x. of_parts Open old.node old.taken old.how old.chain st.kept st.pending true x st.moves) w.on in
+      let takes_now : Takes old st t b [] = subst (Takes old st t b) w.none takes in
+      let core = pushed_at rest is_open old.node old.taken old.how old.chain old.kept t old.moves st.moves whole st.kept st.pending b takes_now in
+      let at_old : Turned whole rest is_open (brings 0 (item.Elem t)) old (answer_acts now (old.taken + 1) b) (record (answered now (old.taken + 1) b) { moves = noted old.moves (port_in (answer_gave now b)) }) =
+      subst (λ (x : Logic C). Turned whole rest is_open (brings 0 (item.Elem t)) x (answer_acts now (old.taken + 1) b) (record (answered now (old.taken + 1) b) { moves = noted old.moves (port_in (answer_gave now b)) })) (sym is) core in
+      let at_st : Turned whole rest is_open (brings 0 (item.Elem t)) old (answer_acts st (old.taken + 1) b) (record (answered st (old.taken + 1) b) { moves = noted old.moves (port_in (answer_gave st b)) }) =
+      subst (λ (x : Logic C). Turned whole rest is_open (brings 0 (item.Elem t)) old (answer_acts x (old.taken + 1) b) (record (answered x (old.taken + 1) b) { moves = noted old.moves (port_in (answer_gave x b)) })) (sym st_is) at_old in
+      subst (λ j. Turned whole rest is_open (brings 0 (item.Elem t)) old (answer_acts st j b) (record (answered st j b) { moves = noted old.moves (port_in (answer_gave st b)) })) (sym e) at_st
+
+  -- the same, by what the handler's calls say: st0 was kept beside the log of the moves m
+  pub on_pushed : (old st0 st now : Logic C) (t : Tree) (k : ℕ) (b : Option Blame) (acts : List Act) (port : Option ℕ) (m room ms : Option (List ℕ)) → record st0 { moves = m } ≡ old → old.phase ≡ Open → Waits old → k ≡ st0.taken + 1
+      → st ≡ record st0 { kept = st.kept; pending = st.pending } → Takes st0 st t b st0.pending → now ≡ answered st k b → acts ≡ answer_acts st k b → port ≡ port_in (answer_gave st b) → room ≡ m → ms ≡ noted room port
+      → Turned whole rest is_open (brings 0 (item.Elem t)) old acts (record now { moves = ms })
+  on_pushed old st0 st now t k b acts port m room ms is h w e stays takes n a p r s =
+      subst (λ (l : Logic C). l.phase ≡ Open → Waits l → Turned whole rest is_open (brings 0 (item.Elem t)) l acts (record now { moves = ms })) is (λ h w. at_old h w) h w
+    where
+      kept_is : st ≡ record st0 { kept = st.kept; pending = st.pending; moves = st.moves }
+      kept_is = stays ∙ ap (λ (ks : Option (List ℕ)). record st0 { kept = st.kept; pending = st.pending; moves = ks }) (sym (ap (λ (l : Logic C). l.moves) stays))
+
+      at_old : st0.phase ≡ Open → Waits (record st0 { moves = m }) → Turned whole rest is_open (brings 0 (item.Elem t)) (record st0 { moves = m }) acts (record now { moves = ms })
+      at_old h w = rw (n, a, s, r, p) (pushed (record st0 { moves = m }) st t k b h w e kept_is takes)

@@ -5,4 +5,7 @@ pub mod Groups
 pub mod Places
 pub mod KeptSubs
 pub mod Joined
+pub mod Logs
+pub mod Moves
 pub mod States
+pub mod Handling

@@ -1,5 +1,5 @@
 -- The state of a stage that splits, what it still owes, and its row: what it knows of its ports.
-use Rattle.std.specs.Prelude.{◌≡◌, ◌≢◌, ◌<◌, ⊤, ℕ, Bool, true, false, List, [], ◌∷◌, length, Option, Some, None}
+use Rattle.std.specs.Prelude.{◌≡◌, ◌≢◌, ◌⊎◌, ◌<◌, ⊤, ℕ, Bool, true, false, List, [], ◌∷◌, ◌++◌, length, Option, Some, None, option_to_list}
 use Rattle.elem_core.specs.Tree.{Tree}
 use Rattle.elem_core.specs.declared.why.Cause.{Cause}
 use Rattle.port_core.specs.declared.view.InView.{InView}
@@ -13,10 +13,10 @@ use Rattle.port_core.specs.Asking.{AsksStand}
 use Rattle.port_core.specs.Call.{Call, given_on}
 use Rattle.port_core.specs.ListFunction.{ListFunction, Same}
 use Rattle.stream_model.specs.Outlook.{End}
-use Rattle.stream_model.specs.Machine.{State, going, done, Given}
+use Rattle.stream_model.specs.Machine.{State, going, done, Machine, Given}
 use Rattle.stream_model.specs.FanIn.{Tagged}
-use Rattle.stream_model.specs.Substreams.{Subs}
-use Rattle.stage_law.specs.Held.{Held, owing, shut}
+use Rattle.stream_model.specs.Substreams.{Subs, substreams}
+use Rattle.stage_law.specs.Held.{told, Held, owing, shut}
 use Rattle.stage_law.specs.Row.{BothClosed}
 use Rattle.stage_law.specs.Turn.{TurnAt}
 use Rattle.stage_linear.specs.declared.phase.Phase.{Phase}
@@ -24,12 +24,13 @@ use Rattle.stage_linear.specs.declared.phase.Phase.TheVariants.{New, Open, Close
 use Rattle.chain_core.specs.Means.{Means}
 use Rattle.stage_sub.specs.KeptSubs.{KeptSubs, opening_of, Keeps, MayCallKept}
 use Rattle.stage_sub.specs.Joined.{items, joined}
+use Rattle.stage_sub.specs.Moves.{noted, port_in, first_of, arising}
 use Rattle.stage_sub.specs.declared.opening.OpenBy.{OpenBy}
 use Rattle.stage_sub.specs.declared.blame.Blame.{Blame}
 use Rattle.stage_sub.specs.declared.blame.Blame.TheVariants.{AtElement, AtEnd}
 
 -- where it stands, its number, how many elements it took, how it splits, the chain that each substream goes through, the last
--- substream, the outputs that it holds, and whether its input has ended while it holds them
+-- substream, the outputs that it holds, and whether its input has ended while it holds them; and its moves where it is a merge
 pub record Logic (C : Type 0) : Type 0 where
   pub phase : Phase
   pub node : ℕ
@@ -40,10 +41,11 @@ pub record Logic (C : Type 0) : Type 0 where
   pub pending : List Tagged
   pub asked : Bool
   pub over : Bool
+  pub moves : Option (List ℕ)
 
 -- the stage before its start
-abbrev pub begun : {C : Type 0} → ℕ → OpenBy → C → Logic C
-begun node how chain = record {
+abbrev pub begun : {C : Type 0} → ℕ → OpenBy → Option (List ℕ) → C → Logic C
+begun node how moves chain = record {
   phase = New;
   node = node;
   taken = 0;
@@ -53,6 +55,7 @@ begun node how chain = record {
   pending = [];
   asked = false;
   over = false;
+  moves = moves;
 }
 
 -- its row: before its start nobody asked; then it asks where its output is asked and nothing is held; once its input has
@@ -89,11 +92,22 @@ module _ {C : Type 0} (rest : C → ListFunction) (is_open : C → Bool) (f : Li
   abbrev pub Owes : Logic C → Held Subs → Type 0
   Owes l x = OwesIn l.phase l x
 
--- Whatever its chains come to in the model, one step of its machine: from what it owed to what it owes. No action cancels an
--- input that an earlier one asked; and it was started.
+-- What a stage held and what arose by the call goes out in that order, and the others are held; or nothing goes out any more.
+abbrev pub Queues : {C : Type 0} → Machine Subs Tagged → Call → Held Subs → Logic C → Option Tagged → Logic C → Type 0
+Queues m call shut old gave new = (gave ≡ None) × (new.phase ≡ Closed)
+Queues m call (owing x) old gave new = (option_to_list gave ++ new.pending ≡ old.pending ++ arising m call x.state) ⊎ ((gave ≡ None) × (new.phase ≡ Closed))
+
+-- Whatever its chains come to in the model, one step of its machine: from what it owed to what it owes, the outputs in the
+-- order in which they arose. It gave one output or none, and then perhaps an end; a merge noted the number of that output's
+-- substream. No action cancels an input that an earlier one asked; and it was started.
 pub record Turned {C : Type 0} (whole rest : C → ListFunction) (is_open : C → Bool) (call : Call) (old : Logic C) (acts : List Act) (new : Logic C) : Type 0 where
+  pub gave : Option Tagged
+  pub closing : End
+  pub out : given_on 0 acts ≡ told (items (option_to_list gave)) closing
   pub turn : (f : ListFunction) → Same (whole old.chain) f → (yields : List Tree → End → Given Tree) → Means yields f → (x : Held Subs) → Owes rest is_open f yields old x
-      → (y : Held Subs) × (Owes rest is_open f yields new y × TurnAt (joined yields (opening_of old.how)) 0 call x (given_on 0 acts) y)
+      → (y : Held Subs) × (Owes rest is_open f yields new y × (TurnAt (joined yields (opening_of old.how)) 0 call x (given_on 0 acts) y × Queues (substreams yields (opening_of old.how)) call x old gave new))
+  pub moves : new.moves ≡ noted old.moves (port_in gave)
+  pub node : new.node ≡ old.node
   pub how : new.how ≡ old.how
   pub chain : new.chain ≡ old.chain
   pub stands : AsksStand acts
@@ -122,6 +136,11 @@ answered l n (Some b) = record l { phase = Closed }
 abbrev pub answer_acts : {C : Type 0} → Logic C → ℕ → Option Blame → List Act
 answer_acts l n None = first_acts l.pending
 answer_acts l n (Some b) = FailOut 0 (cause_by l.node n b) ∷ Cancel 0 ∷ []
+
+-- the output that goes out then
+abbrev pub answer_gave : {C : Type 0} → Logic C → Option Blame → Option Tagged
+answer_gave l None = first_of l.pending
+answer_gave l (Some b) = None
 
 -- the output was asked: the first of what is held goes out, and the stage ends with the last, where its input has ended; or it asks
 abbrev pub emptied : {C : Type 0} → Bool → Logic C → List Tagged → Logic C
@@ -153,6 +172,10 @@ sealed_acts asked [] = Complete 0 ∷ []
 sealed_acts false (o ∷ os) = []
 sealed_acts true (o ∷ os) = Push 0 o.item ∷ emptied_acts true os
 
+abbrev pub sealed_gave : Bool → List Tagged → Option Tagged
+sealed_gave false p = None
+sealed_gave true p = first_of p
+
 abbrev pub finished : {C : Type 0} → Logic C → Option Blame → Logic C
 finished l None = sealed l.asked l l.pending
 finished l (Some b) = record l { phase = Closed }
@@ -160,3 +183,12 @@ finished l (Some b) = record l { phase = Closed }
 abbrev pub finish_acts : {C : Type 0} → Logic C → Option Blame → List Act
 finish_acts l None = sealed_acts l.asked l.pending
 finish_acts l (Some b) = FailOut 0 (cause_by l.node 0 b) ∷ []
+
+abbrev pub finish_gave : {C : Type 0} → Logic C → Option Blame → Option Tagged
+finish_gave l None = sealed_gave l.asked l.pending
+finish_gave l (Some b) = None
+
+-- the output was cancelled: the input is, where it has not ended
+abbrev pub cancel_acts : Bool → List Act
+cancel_acts true = []
+cancel_acts false = Cancel 0 ∷ []

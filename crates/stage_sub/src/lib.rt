@@ -3,12 +3,16 @@
 
 pub mod blame;
 pub mod group;
+pub mod handlers;
 pub mod kept;
 pub mod keyed;
 pub mod last;
+pub mod laws;
+mod log;
 pub mod logic;
 pub mod opening;
 pub mod outputs;
 pub mod places;
 mod scratch;
 pub mod split;
+mod state;

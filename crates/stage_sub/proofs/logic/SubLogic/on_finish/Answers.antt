@@ -1,13 +1,17 @@
-use Rattle.std.proofs.Common.{rules, ◌≡◌, subst, sym}
-use Rattle.elem_core.specs.declared.item.Item.TheVariants as item
-use Rattle.port_core.specs.Call.{brings}
-use Rattle.stage_sub.specs.States.{Logic, Turned, finish_acts}
-use Rattle.stage_sub.proofs.Turning.{goes_on, ended_once}
+use Rattle.std.proofs.Common.{ap}
+use Rattle.stage_sub.specs.Logs.{moves_in}
+use Rattle.stage_sub.proofs.Asking.{ended_ports}
+use Rattle.stage_sub.proofs.Turning.{goes_on, on_ended}
 use Rattle.stage_sub.proofs.logic.SubLogic.on_finish.Goals as goal
 
 pub returns-clause-gives : goal.returns-clause-gives
 returns-clause-gives g c =
-    let acts : c.finish.new.acts.items ≡ finish_acts c.end_in.new.self c.in_ok-blame.blame = search rules in
-    let done = ended_once g.C.Chain.whole g.C.Chain.rest g.C.Chain.is_open c.args.self.now c.end_in.new.self c.in_ok-blame.blame c.requires.open (goes_on c.args.self.now c.requires.open c.requires.meets) c.in_ok-blame.ensures.stays c.in_ok-blame.ensures.becomes in
-    subst (λ x. Turned g.C.Chain.whole g.C.Chain.rest g.C.Chain.is_open (brings 0 item.Ended) c.args.self.now x c.finish.new.self) (sym acts)
-    (subst (λ (x : Logic g.row.C.Denot). Turned g.C.Chain.whole g.C.Chain.rest g.C.Chain.is_open (brings 0 item.Ended) c.args.self.now (finish_acts c.end_in.new.self c.in_ok-blame.blame) x) (sym c.finish.ensures.stage) done)
+    on_ended g.C.Chain.whole g.C.Chain.rest g.C.Chain.is_open c.args.self.now c.self.inside.state c.end_in.new.self c.finish-gave.new.self c.in_ok-blame.blame c.finish-gave.new.acts.items c.finish-gave.result
+    (moves_in c.self.inside.log) (moves_in c.make_room.new.log) (moves_in c.note.new.log)
+    c.self.view_is c.requires.open (goes_on c.args.self.now c.requires.open c.requires.meets) c.in_ok-blame.ensures.stays c.in_ok-blame.ensures.becomes
+    c.finish-gave.ensures.stage (ap (λ a. a.items) c.finish-gave.ensures.acts) c.finish-gave.ensures.gave c.make_room.ensures.moves c.note.ensures
+
+pub returns-clause-ports : goal.returns-clause-ports
+returns-clause-ports g c =
+    ended_ports c.args.self.now c.self.inside.state c.end_in.new.self c.finish-gave.new.self c.in_ok-blame.blame c.finish-gave.new.acts.items (moves_in c.self.inside.log) (moves_in c.note.new.log)
+    c.self.view_is c.requires.open c.in_ok-blame.ensures.stays c.finish-gave.ensures.stage (ap (λ a. a.items) c.finish-gave.ensures.acts)

@@ -1,11 +1,14 @@
-use Rattle.std.proofs.Common.{rules, ◌≡◌, subst, sym}
-use Rattle.port_core.specs.Call.{asks}
-use Rattle.stage_sub.specs.States.{Logic, Turned, pulled_acts}
-use Rattle.stage_sub.proofs.Turning.{asked_once}
+use Rattle.std.proofs.Common.{ap}
+use Rattle.stage_sub.specs.Logs.{moves_in}
+use Rattle.stage_sub.proofs.Asking.{asked_ports}
+use Rattle.stage_sub.proofs.Turning.{on_asked}
 use Rattle.stage_sub.proofs.logic.SubLogic.on_pull.Goals as goal
 
 pub returns-clause-gives : goal.returns-clause-gives
 returns-clause-gives g c =
-    let acts : c.pull.new.acts.items ≡ pulled_acts c.args.self.now.over c.args.self.now.pending = search rules in
-    subst (λ x. Turned g.C.Chain.whole g.C.Chain.rest g.C.Chain.is_open (asks 0) c.args.self.now x c.pull.new.self) (sym acts)
-    (subst (λ (x : Logic g.row.C.Denot). Turned g.C.Chain.whole g.C.Chain.rest g.C.Chain.is_open (asks 0) c.args.self.now (pulled_acts c.args.self.now.over c.args.self.now.pending) x) (sym c.pull.ensures.stage) (asked_once g.C.Chain.whole g.C.Chain.rest g.C.Chain.is_open c.args.self.now c.requires.open))
+    on_asked g.C.Chain.whole g.C.Chain.rest g.C.Chain.is_open c.args.self.now c.self.inside.state c.pull-gave.new.self c.pull-gave.new.acts.items c.pull-gave.result (moves_in c.self.inside.log) (moves_in c.make_room.new.log) (moves_in c.note.new.log)
+    c.self.view_is c.requires.open c.pull-gave.ensures.stage (ap (λ a. a.items) c.pull-gave.ensures.acts) c.pull-gave.ensures.gave c.make_room.ensures.moves c.note.ensures
+
+pub returns-clause-ports : goal.returns-clause-ports
+returns-clause-ports g c =
+    asked_ports c.args.self.now c.self.inside.state c.pull-gave.new.self c.pull-gave.new.acts.items (moves_in c.self.inside.log) (moves_in c.note.new.log) c.self.view_is c.requires.open c.pull-gave.ensures.stage (ap (λ a. a.items) c.pull-gave.ensures.acts)

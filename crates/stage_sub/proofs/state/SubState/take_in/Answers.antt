@@ -8,7 +8,7 @@ use Rattle.port_core.specs.ListFunction.{ListFunction, Same}
 use Rattle.chain_core.specs.Means.{Means}
 use Rattle.stage_sub.specs.KeptSubs.{Keeps, TakesBy}
 use Rattle.stage_sub.specs.States.{Logic}
-use Rattle.stage_sub.proofs.logic.SubLogic.take_in.Goals as goal
+use Rattle.stage_sub.proofs.state.SubState.take_in.Goals as goal
 
 pub returns-clause-takes : goal.returns-clause-takes
 returns-clause-takes g c =

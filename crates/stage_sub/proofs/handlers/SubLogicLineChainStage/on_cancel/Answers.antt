@@ -1,0 +1,7 @@
+use Rattle.line_chain.specs.Line.{line_whole, line_rest, line_is_open}
+use Rattle.port_core.specs.Call.{cancels}
+use Rattle.stage_sub.proofs.Nodes.{handles}
+use Rattle.stage_sub.proofs.handlers.SubLogicLineChainStage.on_cancel.Goals as goal
+
+pub returns-clause-handles : goal.returns-clause-handles
+returns-clause-handles c = handles line_whole line_rest line_is_open (cancels c.args._port) _ _ _ _ c.requires.meets c.on_cancel.ensures.ports c.on_cancel.ensures.gives c.on_cancel.ensures.ready

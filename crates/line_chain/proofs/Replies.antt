@@ -7,7 +7,7 @@ use Rattle.elem_core.specs.declared.why.Why.{Why}
 use Rattle.stage_linear.specs.declared.task.Outcome.{Outcome}
 use Rattle.stage_linear.specs.declared.task.Outcome.TheVariants.{Gives, GivesAll, Skips, EndsWith, EndsWithAll, Ends, Blames, Fails}
 use Rattle.stage_linear.specs.Tasks.{ReactedBy, Stays}
-use Rattle.stage_state.specs.Keeping.{stage_of}
+use Rattle.stage_keeping.specs.Keeping.{stage_of}
 use Rattle.stream_model.specs.Machine.{going}
 use Rattle.stream_model.specs.Linear.{Work, reacts, decided, restarted, first_of}
 use Rattle.line_chain.specs.Line.{no_plugs}

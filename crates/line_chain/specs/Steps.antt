@@ -7,11 +7,11 @@ use Rattle.elem_core.specs.declared.why.Why.{Why}
 use Rattle.stage_linear.specs.declared.task.Outcome.{Outcome}
 use Rattle.stage_linear.specs.declared.task.Outcome.TheVariants.{Gives, GivesAll, Skips, EndsWith, EndsWithAll, Ends, Blames, Fails}
 use Rattle.stage_linear.specs.Tasks as tasks
-use Rattle.stage_state.specs.declared.ending.Ending.{Ending}
-use Rattle.stage_state.specs.declared.ending.Ending.TheVariants as ending
-use Rattle.stage_state.specs.Keeping as keeping
-use Rattle.stage_state.specs.Keeping.{stage_of}
-use Rattle.stage_state.specs.States.{state_by}
+use Rattle.stage_keeping.specs.declared.ending.Ending.{Ending}
+use Rattle.stage_keeping.specs.declared.ending.Ending.TheVariants as ending
+use Rattle.stage_keeping.specs.Keeping as keeping
+use Rattle.stage_keeping.specs.Keeping.{stage_of}
+use Rattle.stage_keeping.specs.Endings.{state_by}
 use Rattle.stream_model.specs.Outlook.{End, unended, ended, failed}
 use Rattle.stream_model.specs.Machine.{State, going, done, broken, Run, Machine, run, close, close_at, feed}
 use Rattle.stream_model.specs.Linear.{Stage, Work, passing, heading, lasting, linear, step, begin_work}

@@ -8,9 +8,9 @@ use crate::work::StepWork;
 use elem_core::elem::Elem;
 use elem_core::function::{Expand, FoldOp, MapFn, Pred, ReduceOp};
 use elem_core::why::NoMemory;
+use stage_keeping::ending::Ending;
+use stage_keeping::keeping::Keeping;
 use stage_linear::task::Task;
-use stage_state::ending::Ending;
-use stage_state::keeping::Keeping;
 use std::alloc::{AllocError, Global};
 use stream_model::kind::Kind;
 

@@ -13,7 +13,7 @@ use elem_core::elem::Elem;
 use elem_core::elems::Elems;
 use elem_core::why::NoMemory;
 use port_core::chain::{Chain, ChainStep};
-use stage_state::ending::Ending;
+use stage_keeping::ending::Ending;
 use std::alloc::Global;
 use std::marker::Model;
 use std::mem;

@@ -1,5 +1,5 @@
 ghost use Rattle.std.specs.Prelude.{◌≡◌, ◌+◌, [], None, IfOk, OnOk};
-ghost use Rattle.stage_state.specs.declared.ending.Ending.TheVariants.{Lasting};
+ghost use Rattle.stage_keeping.specs.declared.ending.Ending.TheVariants.{Lasting};
 ghost use Rattle.stream_model.specs.Linear.{begin_work};
 ghost use Rattle.stream_model.specs.Machine.{run};
 ghost use Rattle.stream_model.specs.Outlook.{ended};
@@ -11,8 +11,8 @@ use crate::kind::StepKind;
 use crate::work::StepWork;
 use elem_core::elem::Elem;
 use elem_core::why::{Cause, Decider, NoMemory, Why};
+use stage_keeping::ending::Ending;
 use stage_linear::task::Outcome;
-use stage_state::ending::Ending;
 use std::alloc::{AllocError, Global};
 
 /// A step of a chain as it runs. Rule: Akka Streams 2.6 reference.

@@ -1,15 +1,15 @@
 ghost use Rattle.std.specs.Prelude.{◌≡◌, IfOk};
-ghost use Rattle.stage_state.specs.Keeping.{FinishesBy};
+ghost use Rattle.stage_keeping.specs.Keeping.{FinishesBy};
 ghost use Rattle.elem_core.specs.declared.why.Decider.{Decider};
 ghost use Rattle.stage_linear.specs.Tasks as tasks;
-ghost use Rattle.stage_state.specs.Keeping as keepings;
+ghost use Rattle.stage_keeping.specs.Keeping as keepings;
 ghost use Rattle.line_chain.specs.Steps.{work_in, Replies};
 
 use elem_core::elem::Elem;
 use elem_core::why::{Decider, NoMemory, Why};
+use stage_keeping::keeping;
+use stage_keeping::keeping::Keeping;
 use stage_linear::task::{Outcome, Task};
-use stage_state::keeping;
-use stage_state::keeping::Keeping;
 use std::alloc::Global;
 
 /// The work of a step of a chain, and how far it has come. Rule: Akka Streams 2.6 reference, but where a line says own.

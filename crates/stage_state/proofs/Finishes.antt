@@ -14,8 +14,8 @@ use Rattle.port_core.specs.Call.{brings, seen, Obeys}
 use Rattle.stream_model.specs.Linear.{Work, Stage}
 use Rattle.stage_linear.specs.declared.phase.Phase.{Phase}
 use Rattle.stage_linear.specs.declared.phase.Phase.TheVariants.{Open}
-use Rattle.stage_state.specs.declared.ending.Ending.{Ending}
-use Rattle.stage_state.specs.declared.ending.Ending.TheVariants.{Lasting, Ended, Failed}
+use Rattle.stage_keeping.specs.declared.ending.Ending.{Ending}
+use Rattle.stage_keeping.specs.declared.ending.Ending.TheVariants.{Lasting, Ended, Failed}
 use Rattle.stage_state.specs.Outcomes.{working, finished, finish_acts}
 use Rattle.stage_state.specs.States.{Logic, IsKept, keep_row, row}
 

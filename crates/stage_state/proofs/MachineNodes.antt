@@ -23,9 +23,10 @@ use Rattle.stage_law.specs.Law.{TookAs, GaveAs, Law}
 use Rattle.stage_law.proofs.Calls.{new_law, call_law}
 use Rattle.stage_linear.specs.declared.phase.Phase.{Phase}
 use Rattle.stage_linear.specs.declared.phase.Phase.TheVariants.{New, Open, Closed}
-use Rattle.stage_state.specs.declared.ending.Ending.{Ending}
-use Rattle.stage_state.specs.declared.ending.Ending.TheVariants.{Lasting}
-use Rattle.stage_state.specs.States.{Logic, machine, machine_by, held, held_in, state_by, IsScan, Spare, keep_row, buffer_row, row_by, row, Turned}
+use Rattle.stage_keeping.specs.declared.ending.Ending.{Ending}
+use Rattle.stage_keeping.specs.declared.ending.Ending.TheVariants.{Lasting}
+use Rattle.stage_keeping.specs.Endings.{state_by}
+use Rattle.stage_state.specs.States.{Logic, machine, machine_by, held, held_in, IsScan, Spare, keep_row, buffer_row, row_by, row, Turned}
 use Rattle.stage_state.specs.MachineNodes.{MachineFresh, MachineRow, MachineLaw}
 
 -- the law of its output once a call's actions are done

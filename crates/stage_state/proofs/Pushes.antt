@@ -17,11 +17,11 @@ use Rattle.stage_law.specs.Turn.{Emits, FewIn, TurnAt}
 use Rattle.stage_law.proofs.Lagging.{few_nothing}
 use Rattle.stage_linear.specs.declared.phase.Phase.{Phase}
 use Rattle.stage_linear.specs.declared.phase.Phase.TheVariants.{Open}
-use Rattle.stage_state.specs.declared.ending.Ending.{Ending}
-use Rattle.stage_state.specs.declared.ending.Ending.TheVariants.{Lasting, Ended, Failed}
-use Rattle.stage_state.specs.declared.keeping.Outcome.{Outcome}
-use Rattle.stage_state.specs.declared.keeping.Outcome.TheVariants.{Gives, Asks, Fails}
-use Rattle.stage_state.specs.Keeping.{stage_of, Reacted}
+use Rattle.stage_keeping.specs.declared.ending.Ending.{Ending}
+use Rattle.stage_keeping.specs.declared.ending.Ending.TheVariants.{Lasting, Ended, Failed}
+use Rattle.stage_keeping.specs.declared.keeping.Outcome.{Outcome}
+use Rattle.stage_keeping.specs.declared.keeping.Outcome.TheVariants.{Gives, Asks, Fails}
+use Rattle.stage_keeping.specs.Keeping.{stage_of, Reacted}
 use Rattle.stage_state.specs.Outcomes.{working, answered, answer_acts}
 use Rattle.stage_state.specs.States.{Logic, held, keep_row, row_by, row, Turned}
 

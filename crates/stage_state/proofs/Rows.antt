@@ -20,8 +20,8 @@ use Rattle.stage_law.proofs.OwnRows.{waiting_rests, idle_rests, closed_rests}
 use Rattle.stage_linear.proofs.Rows.{may_come, closed_ports}
 use Rattle.stage_linear.specs.declared.phase.Phase.{Phase}
 use Rattle.stage_linear.specs.declared.phase.Phase.TheVariants.{New, Open, Closed}
-use Rattle.stage_state.specs.declared.ending.Ending.{Ending}
-use Rattle.stage_state.specs.declared.ending.Ending.TheVariants.{Lasting, Ended, Failed}
+use Rattle.stage_keeping.specs.declared.ending.Ending.{Ending}
+use Rattle.stage_keeping.specs.declared.ending.Ending.TheVariants.{Lasting, Ended, Failed}
 use Rattle.stage_state.specs.Buffering.{buffer}
 use Rattle.stage_state.specs.Resting.{begin_buffer, BufferOwnRests}
 use Rattle.stage_state.specs.States.{Logic, held, held_in, keep_row, buffer_row, row_by, row}

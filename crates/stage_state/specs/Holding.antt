@@ -4,8 +4,8 @@ use Rattle.elem_core.specs.Tree.{Tree}
 use Rattle.port_core.specs.declared.act.Act.{Act}
 use Rattle.port_core.specs.declared.act.Act.TheVariants.{Pull, Complete}
 use Rattle.stage_linear.specs.declared.phase.Phase.TheVariants.{Closed}
-use Rattle.stage_state.specs.declared.ending.Ending.{Ending}
-use Rattle.stage_state.specs.declared.ending.Ending.TheVariants.{Lasting, Ended, Failed}
+use Rattle.stage_keeping.specs.declared.ending.Ending.{Ending}
+use Rattle.stage_keeping.specs.declared.ending.Ending.TheVariants.{Lasting, Ended, Failed}
 use Rattle.stage_state.specs.States.{Logic}
 
 -- nothing is held

@@ -1,4 +1,3 @@
-pub mod Keeping
 pub mod Buffering
 pub mod States
 pub mod Outcomes

@@ -21,8 +21,9 @@ use Rattle.stage_law.specs.Row.{BothClosed}
 use Rattle.stage_law.specs.Turn.{TurnAt}
 use Rattle.stage_linear.specs.declared.phase.Phase.{Phase}
 use Rattle.stage_linear.specs.declared.phase.Phase.TheVariants.{New, Open, Closed}
-use Rattle.stage_state.specs.declared.ending.Ending.{Ending}
-use Rattle.stage_state.specs.declared.ending.Ending.TheVariants.{Lasting, Ended, Failed}
+use Rattle.stage_keeping.specs.Endings.{state_by}
+use Rattle.stage_keeping.specs.declared.ending.Ending.{Ending}
+use Rattle.stage_keeping.specs.declared.ending.Ending.TheVariants.{Lasting, Ended, Failed}
 use Rattle.stage_state.specs.Buffering.{buffer}
 
 -- where it stands, its stage in the model, the outputs that it owes, whether its output is asked, and how its input stands;
@@ -42,12 +43,6 @@ machine_by book (Some n) w = buffer n
 
 abbrev pub machine : Book → Logic → Machine Stage Tree
 machine book l = machine_by book l.size l.stage.work
-
--- the state of its machine once its input stands so
-abbrev pub state_by : Ending → Stage → State Stage
-state_by Lasting s = going s
-state_by Ended s = done
-state_by (Failed c) s = broken c
 
 -- what it still owes
 abbrev pub held_in : Phase → Ending → List Tree → Stage → Held Stage

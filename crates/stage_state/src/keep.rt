@@ -3,17 +3,17 @@ ghost use Rattle.elem_core.specs.declared.item.Item.TheVariants as item;
 ghost use Rattle.port_core.specs.declared.act.Act.TheVariants.{FailOut};
 ghost use Rattle.port_core.specs.Call.{Obeys, Meets, starts, asks, brings, cancels};
 ghost use Rattle.stage_linear.specs.declared.phase.Phase.TheVariants.{New, Open, Closed};
-ghost use Rattle.stage_state.specs.declared.ending.Ending.TheVariants.{Lasting};
-ghost use Rattle.stage_state.specs.Keeping.{work_in};
+ghost use Rattle.stage_keeping.specs.declared.ending.Ending.TheVariants.{Lasting};
+ghost use Rattle.stage_keeping.specs.Keeping.{work_in};
 ghost use Rattle.stage_state.specs.Outcomes.{answered, answer_acts, cause_at, finished, finish_acts, settled, settle_acts};
 ghost use Rattle.stage_state.specs.States.{row, Turned};
 
-use crate::ending::Ending;
-use crate::keeping::{Keeping, Outcome};
 use elem_core::elem::Elem;
 use elem_core::why::{Cause, Decider, NoMemory, Why};
 use port_core::act::Act;
 use port_core::acts::Acts;
+use stage_keeping::ending::Ending;
+use stage_keeping::keeping::{Keeping, Outcome};
 use stage_linear::phase::Phase;
 use std::alloc::{AllocError, Global};
 use std::marker::Model;
@@ -43,7 +43,7 @@ impl Model for KeepLogic {
 
     ghost coded = { Prim.hlevel (codes, tree_coded) };
 
-    ghost use Rattle.stage_state.specs.Keeping.{work_in};
+    ghost use Rattle.stage_keeping.specs.Keeping.{work_in};
 
     ghost view = { λ l. record { phase = l.phase; stage = record { node = l.node; decider = l.decider; taken = l.taken; work = work_in l.keeping }; pending = option_to_list l.pending; asked = l.asked; ending = l.ending; size = None } };
 }

@@ -2,10 +2,8 @@
 #![tactic(auto)]
 
 pub mod buffer;
-pub mod ending;
 pub mod handlers;
 pub mod keep;
-pub mod keeping;
 pub mod laws;
 pub mod logic;
 pub mod machine;

@@ -5,16 +5,16 @@ ghost use Rattle.stage_linear.specs.declared.phase.Phase.TheVariants.{New, Open}
 ghost use Rattle.stage_state.specs.declared.machine.Part.TheVariants.{Keep};
 ghost use Rattle.stream_model.specs.Linear.{scanning};
 ghost use Rattle.elem_core.specs.Values.{fold_zero};
-ghost use Rattle.stage_state.specs.Keeping.{work_in};
+ghost use Rattle.stage_keeping.specs.Keeping.{work_in};
 ghost use Rattle.stage_state.specs.States.{Begins, IsMachine, new_keep, row, Turned};
 
 use crate::buffer::BufferLogic;
 use crate::keep::KeepLogic;
-use crate::keeping::Keeping;
 use elem_core::elem::Elem;
 use elem_core::function::FoldOp;
 use elem_core::why::{Cause, Decider, NoMemory};
 use port_core::acts::Acts;
+use stage_keeping::keeping::Keeping;
 use std::alloc::Global;
 use std::marker::Model;
 use stream_model::kind::{Kind, Policy};

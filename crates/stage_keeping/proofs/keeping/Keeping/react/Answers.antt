@@ -1,4 +1,4 @@
-use Rattle.stage_state.proofs.keeping.Keeping.react.Goals as goal
+use Rattle.stage_keeping.proofs.keeping.Keeping.react.Goals as goal
 
 pub returns-in-Group : goal.returns-in-Group
 returns-in-Group c = rw c.in-Group.is c.group.ensures

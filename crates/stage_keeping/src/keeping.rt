@@ -1,6 +1,6 @@
 ghost use Rattle.std.specs.Prelude.{◌≡◌, IfOk, [], Some, None};
 ghost use Rattle.stream_model.specs.Linear.{grouping, folding, scanning, reducing};
-ghost use Rattle.stage_state.specs.Keeping.{work_in, last_group, Reacted, Finishes, NextBy, NextReducedBy};
+ghost use Rattle.stage_keeping.specs.Keeping.{work_in, last_group, Reacted, Finishes, NextBy, NextReducedBy};
 
 use elem_core::elem::{Elem, Form};
 use elem_core::function::{FnEnd, FoldOp, ReduceOp};

@@ -10,10 +10,10 @@ use Rattle.elem_core.specs.declared.why.Decider.TheVariants.{Stop, Resume, Resta
 use Rattle.stream_model.specs.Machine.{going, broken, adds, refuses}
 use Rattle.stream_model.specs.Linear.{Book, Work, Stage, grouping, folding, scanning, reducing, step, finish_of, blame_end, linear}
 use Rattle.stream_picture.specs.OneWay.{holds_at_end}
-use Rattle.stage_state.specs.declared.keeping.Keeping.{Keeping}
-use Rattle.stage_state.specs.declared.keeping.Keeping.TheVariants.{Group, Fold, Reduce, Scan}
-use Rattle.stage_state.specs.declared.keeping.Outcome.{Outcome}
-use Rattle.stage_state.specs.declared.keeping.Outcome.TheVariants.{Gives, Asks, Fails}
+use Rattle.stage_keeping.specs.declared.keeping.Keeping.{Keeping}
+use Rattle.stage_keeping.specs.declared.keeping.Keeping.TheVariants.{Group, Fold, Reduce, Scan}
+use Rattle.stage_keeping.specs.declared.keeping.Outcome.{Outcome}
+use Rattle.stage_keeping.specs.declared.keeping.Outcome.TheVariants.{Gives, Asks, Fails}
 
 -- the work of what is kept
 abbrev pub work_in : Keeping → Work

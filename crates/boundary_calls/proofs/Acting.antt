@@ -89,6 +89,7 @@ module _ {S D L B : Type 0} (sources : S → SourceState) (drains : D → DrainS
   entering_does (node.Making x) (node.Entering f) h d m = absurd m.law_holds
   entering_does (node.Linear x) (node.Entering f) h d m = absurd m.law_holds
   entering_does (node.State x) (node.Entering f) h d m = absurd m.law_holds
+  entering_does (node.Sub x) (node.Entering f) h d m = absurd m.law_holds
   entering_does (node.FanIn x) (node.Entering f) h d m = absurd m.law_holds
   entering_does (node.FanOut x) (node.Entering f) h d m = absurd m.law_holds
   entering_does (node.Writing x) (node.Entering f) h d m = absurd m.law_holds
@@ -98,6 +99,7 @@ module _ {S D L B : Type 0} (sources : S → SourceState) (drains : D → DrainS
   entering_does x (node.Making f) h d m = absurd h
   entering_does x (node.Linear f) h d m = absurd h
   entering_does x (node.State f) h d m = absurd h
+  entering_does x (node.Sub f) h d m = absurd h
   entering_does x (node.FanIn f) h d m = absurd h
   entering_does x (node.FanOut f) h d m = absurd h
   entering_does x (node.Writing f) h d m = absurd h
@@ -111,6 +113,7 @@ module _ {S D L B : Type 0} (sources : S → SourceState) (drains : D → DrainS
   leaving_does (node.Making x) (node.Leaving f) h d m = absurd m.law_holds
   leaving_does (node.Linear x) (node.Leaving f) h d m = absurd m.law_holds
   leaving_does (node.State x) (node.Leaving f) h d m = absurd m.law_holds
+  leaving_does (node.Sub x) (node.Leaving f) h d m = absurd m.law_holds
   leaving_does (node.FanIn x) (node.Leaving f) h d m = absurd m.law_holds
   leaving_does (node.FanOut x) (node.Leaving f) h d m = absurd m.law_holds
   leaving_does (node.Writing x) (node.Leaving f) h d m = absurd m.law_holds
@@ -120,6 +123,7 @@ module _ {S D L B : Type 0} (sources : S → SourceState) (drains : D → DrainS
   leaving_does x (node.Making f) h d m = absurd h
   leaving_does x (node.Linear f) h d m = absurd h
   leaving_does x (node.State f) h d m = absurd h
+  leaving_does x (node.Sub f) h d m = absurd h
   leaving_does x (node.FanIn f) h d m = absurd h
   leaving_does x (node.FanOut f) h d m = absurd h
   leaving_does x (node.Writing f) h d m = absurd h
@@ -228,6 +232,7 @@ module _ {S D L B : Type 0} (sources : S → SourceState) (drains : D → DrainS
   exit_got (node.Making x) (node.Leaving f) k v t g i l at m = absurd m.law_holds
   exit_got (node.Linear x) (node.Leaving f) k v t g i l at m = absurd m.law_holds
   exit_got (node.State x) (node.Leaving f) k v t g i l at m = absurd m.law_holds
+  exit_got (node.Sub x) (node.Leaving f) k v t g i l at m = absurd m.law_holds
   exit_got (node.FanIn x) (node.Leaving f) k v t g i l at m = absurd m.law_holds
   exit_got (node.FanOut x) (node.Leaving f) k v t g i l at m = absurd m.law_holds
   exit_got (node.Writing x) (node.Leaving f) k v t g i l at m = absurd m.law_holds
@@ -237,6 +242,7 @@ module _ {S D L B : Type 0} (sources : S → SourceState) (drains : D → DrainS
   exit_got x (node.Making f) k v t g i l at m = absurd k
   exit_got x (node.Linear f) k v t g i l at m = absurd k
   exit_got x (node.State f) k v t g i l at m = absurd k
+  exit_got x (node.Sub f) k v t g i l at m = absurd k
   exit_got x (node.FanIn f) k v t g i l at m = absurd k
   exit_got x (node.FanOut f) k v t g i l at m = absurd k
   exit_got x (node.Writing f) k v t g i l at m = absurd k
@@ -249,6 +255,7 @@ module _ {S D L B : Type 0} (sources : S → SourceState) (drains : D → DrainS
   exit_told (node.Making x) (node.Leaving f) k v t g i l at m = absurd m.law_holds
   exit_told (node.Linear x) (node.Leaving f) k v t g i l at m = absurd m.law_holds
   exit_told (node.State x) (node.Leaving f) k v t g i l at m = absurd m.law_holds
+  exit_told (node.Sub x) (node.Leaving f) k v t g i l at m = absurd m.law_holds
   exit_told (node.FanIn x) (node.Leaving f) k v t g i l at m = absurd m.law_holds
   exit_told (node.FanOut x) (node.Leaving f) k v t g i l at m = absurd m.law_holds
   exit_told (node.Writing x) (node.Leaving f) k v t g i l at m = absurd m.law_holds
@@ -258,6 +265,7 @@ module _ {S D L B : Type 0} (sources : S → SourceState) (drains : D → DrainS
   exit_told x (node.Making f) k v t g i l at m = absurd k
   exit_told x (node.Linear f) k v t g i l at m = absurd k
   exit_told x (node.State f) k v t g i l at m = absurd k
+  exit_told x (node.Sub f) k v t g i l at m = absurd k
   exit_told x (node.FanIn f) k v t g i l at m = absurd k
   exit_told x (node.FanOut f) k v t g i l at m = absurd k
   exit_told x (node.Writing f) k v t g i l at m = absurd k
@@ -330,6 +338,7 @@ asking_free sources drains book (node.Reading x) (node.Leaving f) v w t g h law 
 asking_free sources drains book (node.Making x) (node.Leaving f) v w t g h law = absurd law
 asking_free sources drains book (node.Linear x) (node.Leaving f) v w t g h law = absurd law
 asking_free sources drains book (node.State x) (node.Leaving f) v w t g h law = absurd law
+asking_free sources drains book (node.Sub x) (node.Leaving f) v w t g h law = absurd law
 asking_free sources drains book (node.FanIn x) (node.Leaving f) v w t g h law = absurd law
 asking_free sources drains book (node.FanOut x) (node.Leaving f) v w t g h law = absurd law
 asking_free sources drains book (node.Writing x) (node.Leaving f) v w t g h law = absurd law
@@ -339,6 +348,7 @@ asking_free sources drains book x (node.Reading f) v w t g h law = absurd h
 asking_free sources drains book x (node.Making f) v w t g h law = absurd h
 asking_free sources drains book x (node.Linear f) v w t g h law = absurd h
 asking_free sources drains book x (node.State f) v w t g h law = absurd h
+asking_free sources drains book x (node.Sub f) v w t g h law = absurd h
 asking_free sources drains book x (node.FanIn f) v w t g h law = absurd h
 asking_free sources drains book x (node.FanOut f) v w t g h law = absurd h
 asking_free sources drains book x (node.Writing f) v w t g h law = absurd h

@@ -19,7 +19,7 @@ use Rattle.nodes.specs.Ports.{OneIn, OneInOf, OneOut, OneOutOf}
 use Rattle.nodes.specs.Source.{Lines, lines_row, lines_row_in, LinesLaw}
 use Rattle.nodes.specs.Sink.{Sink, sink_row, sink_row_in, SinkLaw}
 use Rattle.nodes.specs.declared.node.Node.{Node}
-use Rattle.nodes.specs.declared.node.Node.TheVariants.{Reading, Making, Linear, State, FanIn, FanOut, Writing, Ignoring}
+use Rattle.nodes.specs.declared.node.Node.TheVariants.{Reading, Making, Linear, State, Sub, FanIn, FanOut, Writing, Ignoring}
 use Rattle.nodes.specs.declared.node.Node.TheVariants as node
 use Rattle.nodes.specs.Nodes.{node_fresh, node_row, node_law}
 use Rattle.nodes.proofs.Acting.{on_ok_two}
@@ -79,6 +79,7 @@ module _ {S D : Type 0} (L B : Type 0) (sources : S → SourceState) (drains : D
   writing_law (Making f) old new v w took gave more given keeps law = absurd law
   writing_law (Linear f) old new v w took gave more given keeps law = absurd law
   writing_law (State f) old new v w took gave more given keeps law = absurd law
+  writing_law (Sub f) old new v w took gave more given keeps law = absurd law
   writing_law (FanIn f) old new v w took gave more given keeps law = absurd law
   writing_law (FanOut f) old new v w took gave more given keeps law = absurd law
   writing_law (Ignoring f) old new v w took gave more given keeps law = absurd law
@@ -104,6 +105,7 @@ module _ {S D : Type 0} (L B : Type 0) (sources : S → SourceState) (drains : D
   reading_law (Making f) old new v w took gave more given keeps law = absurd law
   reading_law (Linear f) old new v w took gave more given keeps law = absurd law
   reading_law (State f) old new v w took gave more given keeps law = absurd law
+  reading_law (Sub f) old new v w took gave more given keeps law = absurd law
   reading_law (FanIn f) old new v w took gave more given keeps law = absurd law
   reading_law (FanOut f) old new v w took gave more given keeps law = absurd law
   reading_law (Ignoring f) old new v w took gave more given keeps law = absurd law
@@ -133,6 +135,7 @@ module _ {S D : Type 0} (L B : Type 0) (sources : S → SourceState) (drains : D
   leaving_law (node.Making f) old new v w took gave more given keeps law = absurd law
   leaving_law (node.Linear f) old new v w took gave more given keeps law = absurd law
   leaving_law (node.State f) old new v w took gave more given keeps law = absurd law
+  leaving_law (node.Sub f) old new v w took gave more given keeps law = absurd law
   leaving_law (node.FanIn f) old new v w took gave more given keeps law = absurd law
   leaving_law (node.FanOut f) old new v w took gave more given keeps law = absurd law
   leaving_law (node.Writing f) old new v w took gave more given keeps law = absurd law

@@ -9,13 +9,15 @@ use Rattle.stage_linear.specs.Handling.{LinearFresh, LinearRow, LinearLaw}
 use Rattle.stage_state.specs.Handling.{StateFresh, StateRow, StateLaw}
 use Rattle.kill_core.specs.Public.{SeatState}
 use Rattle.stage_state.specs.Moves.{state_picks, state_seat}
+use Rattle.line_chain.specs.Line.{line_whole, line_rest, line_is_open}
+use Rattle.stage_sub.specs.Handling.{SubFresh, SubRow, SubLaw, sub_picks}
 use Rattle.stage_in.specs.Logics.{InFresh, InRow, InLaw}
 use Rattle.stage_in.specs.Moves.{in_picks}
 use Rattle.stage_out.specs.OutLogics.{OutFresh, OutAsking, OutLaw}
 use Rattle.stage_out.specs.OutLogics as out
 use Rattle.stage_out.specs.Moves.{out_picks}
 use Rattle.nodes.specs.declared.node.Node.{Node}
-use Rattle.nodes.specs.declared.node.Node.TheVariants.{Reading, Making, Linear, State, FanIn, FanOut, Writing, Ignoring, Entering, Leaving}
+use Rattle.nodes.specs.declared.node.Node.TheVariants.{Reading, Making, Linear, State, Sub, FanIn, FanOut, Writing, Ignoring, Entering, Leaving}
 use Rattle.nodes.specs.declared.node.NodeEnd.{NodeEnd}
 use Rattle.nodes.specs.declared.node.NodeEnd.TheVariants.{Read, Staged, Wrote}
 use Rattle.stage_boundary.specs.Entering.{EnteringFresh, EnteringRow, EnteringLaw}
@@ -33,6 +35,7 @@ node_fresh (Reading x) v = LinesFresh x v
 node_fresh (Making x) v = MadeFresh x v
 node_fresh (Linear x) v = LinearFresh x v
 node_fresh (State x) v = StateFresh x v
+node_fresh (Sub x) v = SubFresh line_rest line_is_open x v
 node_fresh (FanIn x) v = InFresh x v
 node_fresh (FanOut x) v = OutFresh x v
 node_fresh (Writing x) v = SinkFresh x v
@@ -46,6 +49,7 @@ node_row (Reading x) v = lines_row x v
 node_row (Making x) v = made_row x v
 node_row (Linear x) v = LinearRow x v
 node_row (State x) v = StateRow x v
+node_row (Sub x) v = SubRow line_rest line_is_open x v
 node_row (FanIn x) v = InRow x v
 node_row (FanOut x) v = out.row x v
 node_row (Writing x) v = sink_row x v
@@ -59,6 +63,7 @@ node_law sources drains book (Reading first) (Reading x) v took gave = LinesLaw 
 node_law sources drains book (Making first) (Making x) v took gave = MadeLaw first x v took gave
 node_law sources drains book (Linear first) (Linear x) v took gave = LinearLaw book first x v took gave
 node_law sources drains book (State first) (State x) v took gave = StateLaw first x v took gave
+node_law sources drains book (Sub first) (Sub x) v took gave = SubLaw line_rest line_is_open line_whole first x v took gave
 node_law sources drains book (FanIn first) (FanIn x) v took gave = InLaw first x v took gave
 node_law sources drains book (FanOut first) (FanOut x) v took gave = OutLaw first x v took gave
 node_law sources drains book (Writing first) (Writing x) v took gave = SinkLaw drains first x v took gave
@@ -78,6 +83,7 @@ node_picks (Reading x) = None
 node_picks (Making x) = None
 node_picks (Linear x) = None
 node_picks (State x) = state_picks x
+node_picks (Sub x) = sub_picks x
 node_picks (FanIn x) = in_picks x
 node_picks (FanOut x) = out_picks x
 node_picks (Writing x) = None
@@ -95,6 +101,7 @@ node_seat (Reading x) = None
 node_seat (Making x) = None
 node_seat (Linear x) = None
 node_seat (State x) = state_seat x
+node_seat (Sub x) = None
 node_seat (FanIn x) = None
 node_seat (FanOut x) = None
 node_seat (Writing x) = None
@@ -108,6 +115,7 @@ node_end (Reading x) = Read x.reader.source
 node_end (Making x) = Staged
 node_end (Linear x) = Staged
 node_end (State x) = Staged
+node_end (Sub x) = Staged
 node_end (FanIn x) = Staged
 node_end (FanOut x) = Staged
 node_end (Writing x) = Wrote (record { node = x.node; count = x.count; end = x.end; drain = Some x.drain })

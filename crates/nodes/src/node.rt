@@ -11,6 +11,7 @@ use elem_core::elem::Elem;
 use elem_core::item::Item;
 use elem_core::why::{Cause, NoMemory};
 use kill_core::seat::SwitchSeat;
+use line_chain::line::LineChain;
 use plug_logic::book::PlugBook;
 use plug_logic::logic::Logic;
 use port_core::acts::Acts;
@@ -22,6 +23,7 @@ use stage_in::logic::InLogic;
 use stage_linear::logic::LinearLogic;
 use stage_out::logic::OutLogic;
 use stage_state::logic::StateLogic;
+use stage_sub::logic::SubLogic;
 use std::alloc::Global;
 use stream_io::outside::{Drain, Source};
 
@@ -36,6 +38,8 @@ pub enum Node<S: Source, D: Drain, L: Logic, B: PlugBook> {
     Linear(LinearLogic<L, B>),
     /// A stage with state.
     State(StateLogic),
+    /// A stage with substreams.
+    Sub(SubLogic<LineChain>),
     /// A stage with several inputs.
     FanIn(InLogic),
     /// A stage with several outputs.
@@ -78,6 +82,7 @@ impl<S: Source, D: Drain, L: Logic, B: PlugBook> Node<S, D, L, B> {
                 let (log, seat) = logic.leave();
                 (NodeEnd::Staged, log, seat)
             }
+            Node::Sub(logic) => (NodeEnd::Staged, logic.picks(), None),
             Node::FanIn(logic) => (NodeEnd::Staged, logic.picks(), None),
             Node::FanOut(logic) => (NodeEnd::Staged, logic.picks(), None),
             Node::Writing(sink) => (NodeEnd::Wrote(sink.close()), None, None),
@@ -111,6 +116,7 @@ impl<S: Source, D: Drain, L: Logic, B: PlugBook> Stage for Node<S, D, L, B> {
             Node::Making(source) => source.start(acts),
             Node::Linear(logic) => Stage::start(logic, alloc, acts),
             Node::State(logic) => Stage::start(logic, alloc, acts),
+            Node::Sub(logic) => Stage::start(logic, alloc, acts),
             Node::FanIn(logic) => Stage::start(logic, alloc, acts),
             Node::FanOut(logic) => Stage::start(logic, alloc, acts),
             Node::Writing(sink) => sink.start(acts),
@@ -126,6 +132,7 @@ impl<S: Source, D: Drain, L: Logic, B: PlugBook> Stage for Node<S, D, L, B> {
             Node::Making(source) => source.on_pull(acts),
             Node::Linear(logic) => Stage::on_pull(logic, alloc, port, acts),
             Node::State(logic) => Stage::on_pull(logic, alloc, port, acts),
+            Node::Sub(logic) => Stage::on_pull(logic, alloc, port, acts),
             Node::FanIn(logic) => Stage::on_pull(logic, alloc, port, acts),
             Node::FanOut(logic) => Stage::on_pull(logic, alloc, port, acts),
             Node::Entering(stage) => Stage::on_pull(stage, alloc, port, acts),
@@ -145,6 +152,7 @@ impl<S: Source, D: Drain, L: Logic, B: PlugBook> Stage for Node<S, D, L, B> {
             Node::Reading(_) | Node::Making(_) => unreachable!(),
             Node::Linear(logic) => Stage::on_push(logic, alloc, port, e, acts),
             Node::State(logic) => Stage::on_push(logic, alloc, port, e, acts),
+            Node::Sub(logic) => Stage::on_push(logic, alloc, port, e, acts),
             Node::FanIn(logic) => Stage::on_push(logic, alloc, port, e, acts),
             Node::FanOut(logic) => Stage::on_push(logic, alloc, port, e, acts),
             Node::Writing(sink) => sink.on_push(e, acts),
@@ -159,6 +167,7 @@ impl<S: Source, D: Drain, L: Logic, B: PlugBook> Stage for Node<S, D, L, B> {
             Node::Reading(_) | Node::Making(_) => unreachable!(),
             Node::Linear(logic) => Stage::on_finish(logic, alloc, port, acts),
             Node::State(logic) => Stage::on_finish(logic, alloc, port, acts),
+            Node::Sub(logic) => Stage::on_finish(logic, alloc, port, acts),
             Node::FanIn(logic) => Stage::on_finish(logic, alloc, port, acts),
             Node::FanOut(logic) => Stage::on_finish(logic, alloc, port, acts),
             Node::Writing(sink) => sink.on_finish(acts),
@@ -179,6 +188,7 @@ impl<S: Source, D: Drain, L: Logic, B: PlugBook> Stage for Node<S, D, L, B> {
             Node::Reading(_) | Node::Making(_) => unreachable!(),
             Node::Linear(logic) => Stage::on_fail(logic, alloc, port, cause, acts),
             Node::State(logic) => Stage::on_fail(logic, alloc, port, cause, acts),
+            Node::Sub(logic) => Stage::on_fail(logic, alloc, port, cause, acts),
             Node::FanIn(logic) => Stage::on_fail(logic, alloc, port, cause, acts),
             Node::FanOut(logic) => Stage::on_fail(logic, alloc, port, cause, acts),
             Node::Writing(sink) => sink.on_fail(cause, acts),
@@ -194,6 +204,7 @@ impl<S: Source, D: Drain, L: Logic, B: PlugBook> Stage for Node<S, D, L, B> {
             Node::Making(source) => source.on_cancel(acts),
             Node::Linear(logic) => Stage::on_cancel(logic, alloc, port, acts),
             Node::State(logic) => Stage::on_cancel(logic, alloc, port, acts),
+            Node::Sub(logic) => Stage::on_cancel(logic, alloc, port, acts),
             Node::FanIn(logic) => Stage::on_cancel(logic, alloc, port, acts),
             Node::FanOut(logic) => Stage::on_cancel(logic, alloc, port, acts),
             Node::Entering(stage) => Stage::on_cancel(stage, alloc, port, acts),

@@ -33,6 +33,7 @@ module _ {S D L B : Type 0} where
   entering_becomes k (work.Making r) x b e = absurd cc
   entering_becomes k (work.Linear r) x b e = absurd cc
   entering_becomes k (work.State r) x b e = absurd cc
+  entering_becomes k (work.Sub r) x b e = absurd cc
   entering_becomes k (work.FanIn r n) x b e = absurd cc
   entering_becomes k (work.FanOut r n) x b e = absurd cc
   entering_becomes k (work.Writing r d) x b e = absurd cc
@@ -44,6 +45,7 @@ module _ {S D L B : Type 0} where
   leaving_becomes k (work.Making r) x b e = absurd cc
   leaving_becomes k (work.Linear r) x b e = absurd cc
   leaving_becomes k (work.State r) x b e = absurd cc
+  leaving_becomes k (work.Sub r) x b e = absurd cc
   leaving_becomes k (work.FanIn r n) x b e = absurd cc
   leaving_becomes k (work.FanOut r n) x b e = absurd cc
   leaving_becomes k (work.Writing r d) x b e = absurd cc
@@ -118,6 +120,7 @@ module _ {S D L B : Type 0} where
   entering_passive (node.Making x) e = absurd e
   entering_passive (node.Linear x) e = absurd e
   entering_passive (node.State x) e = absurd e
+  entering_passive (node.Sub x) e = absurd e
   entering_passive (node.FanIn x) e = absurd e
   entering_passive (node.FanOut x) e = absurd e
   entering_passive (node.Writing x) e = absurd e
@@ -130,6 +133,7 @@ module _ {S D L B : Type 0} where
   leaving_passive (node.Making x) e = absurd e
   leaving_passive (node.Linear x) e = absurd e
   leaving_passive (node.State x) e = absurd e
+  leaving_passive (node.Sub x) e = absurd e
   leaving_passive (node.FanIn x) e = absurd e
   leaving_passive (node.FanOut x) e = absurd e
   leaving_passive (node.Writing x) e = absurd e
@@ -142,6 +146,7 @@ module _ {S D L B : Type 0} where
   leaving_gone k (work.Making r) x b e = absurd cc
   leaving_gone k (work.Linear r) x b e = absurd cc
   leaving_gone k (work.State r) x b e = absurd cc
+  leaving_gone k (work.Sub r) x b e = absurd cc
   leaving_gone k (work.FanIn r n) x b e = absurd cc
   leaving_gone k (work.FanOut r n) x b e = absurd cc
   leaving_gone k (work.Writing r d) x b e = absurd cc

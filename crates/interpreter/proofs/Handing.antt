@@ -35,6 +35,7 @@ readers_end (node.Reading x) xs = refl
 readers_end (node.Making x) xs = refl
 readers_end (node.Linear x) xs = refl
 readers_end (node.State x) xs = refl
+readers_end (node.Sub x) xs = refl
 readers_end (node.FanIn x) xs = refl
 readers_end (node.FanOut x) xs = refl
 readers_end (node.Writing x) xs = refl
@@ -47,6 +48,7 @@ writers_end (node.Reading x) xs = refl
 writers_end (node.Making x) xs = refl
 writers_end (node.Linear x) xs = refl
 writers_end (node.State x) xs = refl
+writers_end (node.Sub x) xs = refl
 writers_end (node.FanIn x) xs = refl
 writers_end (node.FanOut x) xs = refl
 writers_end (node.Writing x) xs = refl
@@ -60,6 +62,7 @@ IsNew (node.Reading x) = x.phase ≡ New
 IsNew (node.Making x) = ⊤
 IsNew (node.Linear x) = ⊤
 IsNew (node.State x) = ⊤
+IsNew (node.Sub x) = ⊤
 IsNew (node.FanIn x) = ⊤
 IsNew (node.FanOut x) = ⊤
 IsNew (node.Writing x) = ⊤
@@ -72,6 +75,7 @@ becomes_new k (work.Reading r) x b = subst IsNew (sym b) refl
 becomes_new k (work.Making kind) x b = subst IsNew (sym b) tt
 becomes_new k (work.Linear l) x b = subst IsNew (sym b) tt
 becomes_new k (work.State l) x b = subst IsNew (sym b) tt
+becomes_new k (work.Sub l) x b = subst IsNew (sym b) tt
 becomes_new k (work.FanIn l n) x b = subst IsNew (sym b) tt
 becomes_new k (work.FanOut l n) x b = subst IsNew (sym b) tt
 becomes_new k (work.Writing kind (Some d)) x b = subst IsNew (sym b) tt
@@ -85,6 +89,7 @@ source_becomes k (work.Reading r) x rest b = ap (λ (y : Node _ _ _ _). with_rea
 source_becomes k (work.Making kind) x rest b = ap (λ (y : Node _ _ _ _). with_read (node_end y) rest) b
 source_becomes k (work.Linear l) x rest b = ap (λ (y : Node _ _ _ _). with_read (node_end y) rest) b
 source_becomes k (work.State l) x rest b = ap (λ (y : Node _ _ _ _). with_read (node_end y) rest) b
+source_becomes k (work.Sub l) x rest b = ap (λ (y : Node _ _ _ _). with_read (node_end y) rest) b
 source_becomes k (work.FanIn l n) x rest b = ap (λ (y : Node _ _ _ _). with_read (node_end y) rest) b
 source_becomes k (work.FanOut l n) x rest b = ap (λ (y : Node _ _ _ _). with_read (node_end y) rest) b
 source_becomes k (work.Writing kind (Some d)) x rest b = ap (λ (y : Node _ _ _ _). with_read (node_end y) rest) b
@@ -97,6 +102,7 @@ drain_becomes k (work.Reading r) x rest b = ap (λ (y : Node _ _ _ _). with_writ
 drain_becomes k (work.Making kind) x rest b = ap (λ (y : Node _ _ _ _). with_write (node_end y) rest) b
 drain_becomes k (work.Linear l) x rest b = ap (λ (y : Node _ _ _ _). with_write (node_end y) rest) b
 drain_becomes k (work.State l) x rest b = ap (λ (y : Node _ _ _ _). with_write (node_end y) rest) b
+drain_becomes k (work.Sub l) x rest b = ap (λ (y : Node _ _ _ _). with_write (node_end y) rest) b
 drain_becomes k (work.FanIn l n) x rest b = ap (λ (y : Node _ _ _ _). with_write (node_end y) rest) b
 drain_becomes k (work.FanOut l n) x rest b = ap (λ (y : Node _ _ _ _). with_write (node_end y) rest) b
 drain_becomes k (work.Writing kind (Some d)) x rest b = ap (λ (y : Node _ _ _ _). with_write (node_end y) rest) b
@@ -152,6 +158,7 @@ module _ {S D L B : Type 0} (sources : S → SourceState) (drains : D → DrainS
   source_kept (node.Making x) y rest n k = ap (map sources) (none_read sources drains (node_end {S = S} {D = D} {L = L} {B = B} (node.Making x)) (node_end y) rest (tt {0}) k.ends)
   source_kept (node.Linear x) y rest n k = ap (map sources) (none_read sources drains (node_end {S = S} {D = D} {L = L} {B = B} (node.Linear x)) (node_end y) rest (tt {0}) k.ends)
   source_kept (node.State x) y rest n k = ap (map sources) (none_read sources drains (node_end {S = S} {D = D} {L = L} {B = B} (node.State x)) (node_end y) rest (tt {0}) k.ends)
+  source_kept (node.Sub x) y rest n k = ap (map sources) (none_read sources drains (node_end {S = S} {D = D} {L = L} {B = B} (node.Sub x)) (node_end y) rest (tt {0}) k.ends)
   source_kept (node.FanIn x) y rest n k = ap (map sources) (none_read sources drains (node_end {S = S} {D = D} {L = L} {B = B} (node.FanIn x)) (node_end y) rest (tt {0}) k.ends)
   source_kept (node.FanOut x) y rest n k = ap (map sources) (none_read sources drains (node_end {S = S} {D = D} {L = L} {B = B} (node.FanOut x)) (node_end y) rest (tt {0}) k.ends)
   source_kept (node.Writing x) y rest n k = ap (map sources) (none_read sources drains (node_end {S = S} {D = D} {L = L} {B = B} (node.Writing x)) (node_end y) rest (tt {0}) k.ends)

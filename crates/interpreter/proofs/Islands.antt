@@ -18,7 +18,7 @@ use Rattle.interpreter.specs.declared.parts.Link.{Link}
 use Rattle.interpreter.specs.declared.parts.Place.{Place}
 use Rattle.interpreter.specs.declared.parts.Seated.{Seated}
 use Rattle.interpreter.specs.declared.parts.Work.{Work}
-use Rattle.interpreter.specs.declared.parts.Work.TheVariants.{Reading, Making, Linear, State, FanIn, FanOut, Writing, LaneIn, LaneOut}
+use Rattle.interpreter.specs.declared.parts.Work.TheVariants.{Reading, Making, Linear, State, Sub, FanIn, FanOut, Writing, LaneIn, LaneOut}
 use Rattle.interpreter.specs.Parts.{work_inputs, work_outputs, inputs_at, outputs_at, IsUnused, AllUnused, BecomesOf, AllBecome, IsSized, place_of, ends_of}
 use Rattle.stream_model.specs.declared.kind.Kind.{Kind}
 use Rattle.stream_model.specs.declared.kind.Kind.TheVariants as kind
@@ -52,6 +52,7 @@ becomes_fresh k (Reading r) x u b = rw b (record { phase = refl; drawn = refl; k
 becomes_fresh k (Making kind) x u b = rw b (record { phase = new_maker k kind; port = refl })
 becomes_fresh k (Linear l) x u b = rw b u
 becomes_fresh k (State l) x u b = rw b u
+becomes_fresh k (Sub l) x u b = rw b u
 becomes_fresh k (FanIn l n) x u b = rw b u
 becomes_fresh k (FanOut l n) x u b = rw b u
 becomes_fresh k (Writing kind (Some d)) x u b = rw b (record { started = refl; end = refl; kept = refl; count = refl; port = refl })
@@ -112,6 +113,7 @@ sinks_cut (node.Reading x) xs = refl
 sinks_cut (node.Making x) xs = refl
 sinks_cut (node.Linear x) xs = refl
 sinks_cut (node.State x) xs = refl
+sinks_cut (node.Sub x) xs = refl
 sinks_cut (node.FanIn x) xs = refl
 sinks_cut (node.FanOut x) xs = refl
 sinks_cut (node.Writing x) xs = refl
@@ -124,6 +126,7 @@ readers_cut (node.Reading x) xs = refl
 readers_cut (node.Making x) xs = refl
 readers_cut (node.Linear x) xs = refl
 readers_cut (node.State x) xs = refl
+readers_cut (node.Sub x) xs = refl
 readers_cut (node.FanIn x) xs = refl
 readers_cut (node.FanOut x) xs = refl
 readers_cut (node.Writing x) xs = refl
@@ -136,6 +139,7 @@ writers_cut (node.Reading x) xs = refl
 writers_cut (node.Making x) xs = refl
 writers_cut (node.Linear x) xs = refl
 writers_cut (node.State x) xs = refl
+writers_cut (node.Sub x) xs = refl
 writers_cut (node.FanIn x) xs = refl
 writers_cut (node.FanOut x) xs = refl
 writers_cut (node.Writing x) xs = refl

@@ -8,6 +8,8 @@ use Rattle.stage_linear.specs.declared.phase.Phase.TheVariants.{New}
 use Rattle.nodes.specs.Kinds.{IsMaker, maker_of, IsFileSink, writes_of}
 use Rattle.stage_linear.specs.Handling.{LinearFresh}
 use Rattle.stage_state.specs.Handling.{StateFresh}
+use Rattle.line_chain.specs.Line.{line_rest, line_is_open}
+use Rattle.stage_sub.specs.Handling.{SubFresh}
 use Rattle.stage_in.specs.Logics.{InFresh}
 use Rattle.stage_in.specs.Logics as fan_in
 use Rattle.stage_out.specs.OutLogics.{OutFresh}
@@ -21,7 +23,7 @@ use Rattle.interpreter.specs.declared.parts.Link.{Link}
 use Rattle.interpreter.specs.declared.parts.Place.{Place}
 use Rattle.interpreter.specs.declared.parts.Seated.{Seated}
 use Rattle.interpreter.specs.declared.parts.Work.{Work}
-use Rattle.interpreter.specs.declared.parts.Work.TheVariants.{Reading, Making, Linear, State, FanIn, FanOut, Writing, LaneIn, LaneOut}
+use Rattle.interpreter.specs.declared.parts.Work.TheVariants.{Reading, Making, Linear, State, Sub, FanIn, FanOut, Writing, LaneIn, LaneOut}
 use Rattle.interpreter.specs.Ways.{IsOnce}
 
 -- the ports at the ends of a link
@@ -38,6 +40,7 @@ work_inputs (Reading r) = 0
 work_inputs (Making k) = 0
 work_inputs (Linear l) = 1
 work_inputs (State l) = 1
+work_inputs (Sub l) = 1
 work_inputs (FanIn l n) = n
 work_inputs (FanOut l n) = 1
 work_inputs (Writing k d) = 1
@@ -49,6 +52,7 @@ work_outputs (Reading r) = 1
 work_outputs (Making k) = 1
 work_outputs (Linear l) = 1
 work_outputs (State l) = 1
+work_outputs (Sub l) = 1
 work_outputs (FanIn l n) = 1
 work_outputs (FanOut l n) = n
 work_outputs (Writing k d) = 0
@@ -87,6 +91,7 @@ IsUnused (Reading r) = r.kept ≡ []
 IsUnused (Making k) = IsMaker k
 IsUnused (Linear l) = LinearFresh l (record { ins = Idle ∷ []; outs = Unasked ∷ [] })
 IsUnused (State l) = StateFresh l (record { ins = Idle ∷ []; outs = Unasked ∷ [] })
+IsUnused (Sub l) = SubFresh line_rest line_is_open l (record { ins = Idle ∷ []; outs = Unasked ∷ [] })
 IsUnused (FanIn l n) = InFresh l (fan_in.unasked_ports n)
 IsUnused (FanOut l n) = OutFresh l (unasked_ports n)
 IsUnused (Writing k (Some d)) = IsFileSink k
@@ -122,6 +127,7 @@ BecomesOf k (Reading r) x = x ≡ node.Reading (record { node = k; reader = r; d
 BecomesOf k (Making kind) x = x ≡ node.Making (maker_of k kind)
 BecomesOf k (Linear l) x = x ≡ node.Linear l
 BecomesOf k (State l) x = x ≡ node.State l
+BecomesOf k (Sub l) x = x ≡ node.Sub l
 BecomesOf k (FanIn l n) x = x ≡ node.FanIn l
 BecomesOf k (FanOut l n) x = x ≡ node.FanOut l
 BecomesOf k (Writing kind (Some d)) x = x ≡ node.Writing (record { node = k; drain = d; writes = writes_of kind; kept = None; count = 0; started = false; end = Unended })

@@ -8,6 +8,7 @@ ghost use Rattle.interpreter.specs.declared.parts.Place.{Place};
 
 use elem_core::why::NoMemory;
 use fused_net::net::{Ends, Ports};
+use line_chain::line::LineChain;
 use nodes::ignoring::IgnoreSink;
 use nodes::maker::Maker;
 use nodes::node::Node;
@@ -21,6 +22,7 @@ use stage_in::logic::InLogic;
 use stage_linear::logic::LinearLogic;
 use stage_out::logic::OutLogic;
 use stage_state::logic::StateLogic;
+use stage_sub::logic::SubLogic;
 use std::alloc::Global;
 use stream_io::line_reader::LineReader;
 use stream_io::outside::{Drain, Source};
@@ -53,6 +55,8 @@ pub enum Work<S: Source, D: Drain, L: Logic, B: PlugBook> {
     Linear(LinearLogic<L, B>),
     /// A stage with state.
     State(StateLogic),
+    /// A stage with substreams.
+    Sub(SubLogic<LineChain>),
     /// A stage with so many inputs.
     FanIn(InLogic, u32),
     /// A stage with so many outputs.
@@ -108,6 +112,7 @@ pub fn seat<S: Source, D: Drain, L: Logic, B: PlugBook>(
         Work::Making(kind) => Node::Making(maker(node, kind)),
         Work::Linear(logic) => Node::Linear(logic),
         Work::State(logic) => Node::State(logic),
+        Work::Sub(logic) => Node::Sub(logic),
         Work::FanIn(logic, _) => Node::FanIn(logic),
         Work::FanOut(logic, _) => Node::FanOut(logic),
         Work::LaneIn(wire) => Node::Entering(Entering::new(wire)),

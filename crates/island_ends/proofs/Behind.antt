@@ -34,6 +34,7 @@ module _ {S D L B : Type 0} where
   no_sink (node.Making x) e = refl
   no_sink (node.Linear x) e = refl
   no_sink (node.State x) e = refl
+  no_sink (node.Sub x) e = refl
   no_sink (node.FanIn x) e = refl
   no_sink (node.FanOut x) e = refl
   no_sink (node.Writing x) e = cc
@@ -46,6 +47,7 @@ module _ {S D L B : Type 0} where
   no_reader (node.Making x) e = refl
   no_reader (node.Linear x) e = refl
   no_reader (node.State x) e = refl
+  no_reader (node.Sub x) e = refl
   no_reader (node.FanIn x) e = refl
   no_reader (node.FanOut x) e = refl
   no_reader (node.Writing x) e = refl
@@ -58,6 +60,7 @@ module _ {S D L B : Type 0} where
   no_writer (node.Making x) e = refl
   no_writer (node.Linear x) e = refl
   no_writer (node.State x) e = refl
+  no_writer (node.Sub x) e = refl
   no_writer (node.FanIn x) e = refl
   no_writer (node.FanOut x) e = refl
   no_writer (node.Writing x) e = cc
@@ -70,6 +73,7 @@ module _ {S D L B : Type 0} where
   no_picks (node.Making x) e = refl
   no_picks (node.Linear x) e = refl
   no_picks (node.State x) e = cc
+  no_picks (node.Sub x) e = cc
   no_picks (node.FanIn x) e = cc
   no_picks (node.FanOut x) e = cc
   no_picks (node.Writing x) e = refl
@@ -82,6 +86,7 @@ module _ {S D L B : Type 0} where
   no_seat (node.Making x) e = refl
   no_seat (node.Linear x) e = refl
   no_seat (node.State x) e = cc
+  no_seat (node.Sub x) e = refl
   no_seat (node.FanIn x) e = refl
   no_seat (node.FanOut x) e = refl
   no_seat (node.Writing x) e = refl

@@ -19,6 +19,7 @@ module _ {S D L B : Type 0} where
   sinks_are (node.Making x ∷ xs) = sinks_are xs
   sinks_are (node.Linear x ∷ xs) = sinks_are xs
   sinks_are (node.State x ∷ xs) = sinks_are xs
+  sinks_are (node.Sub x ∷ xs) = sinks_are xs
   sinks_are (node.FanIn x ∷ xs) = sinks_are xs
   sinks_are (node.FanOut x ∷ xs) = sinks_are xs
   sinks_are (node.Writing x ∷ xs) = ap (λ t. (x.node, x.count, x.end) ∷ t) (sinks_are xs)
@@ -32,6 +33,7 @@ module _ {S D L B : Type 0} where
   readers_are (node.Making x ∷ xs) = readers_are xs
   readers_are (node.Linear x ∷ xs) = readers_are xs
   readers_are (node.State x ∷ xs) = readers_are xs
+  readers_are (node.Sub x ∷ xs) = readers_are xs
   readers_are (node.FanIn x ∷ xs) = readers_are xs
   readers_are (node.FanOut x ∷ xs) = readers_are xs
   readers_are (node.Writing x ∷ xs) = readers_are xs
@@ -45,6 +47,7 @@ module _ {S D L B : Type 0} where
   writers_are (node.Making x ∷ xs) = writers_are xs
   writers_are (node.Linear x ∷ xs) = writers_are xs
   writers_are (node.State x ∷ xs) = writers_are xs
+  writers_are (node.Sub x ∷ xs) = writers_are xs
   writers_are (node.FanIn x ∷ xs) = writers_are xs
   writers_are (node.FanOut x ∷ xs) = writers_are xs
   writers_are (node.Writing x ∷ xs) = ap (λ t. x.drain ∷ t) (writers_are xs)

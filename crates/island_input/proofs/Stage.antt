@@ -58,6 +58,7 @@ module _ {S D L B : Type 0} (sources : S → SourceState) (drains : D → DrainS
   gave_by (node.Making x) (node.Entering f) h v t g i l y at out law = absurd law
   gave_by (node.Linear x) (node.Entering f) h v t g i l y at out law = absurd law
   gave_by (node.State x) (node.Entering f) h v t g i l y at out law = absurd law
+  gave_by (node.Sub x) (node.Entering f) h v t g i l y at out law = absurd law
   gave_by (node.FanIn x) (node.Entering f) h v t g i l y at out law = absurd law
   gave_by (node.FanOut x) (node.Entering f) h v t g i l y at out law = absurd law
   gave_by (node.Writing x) (node.Entering f) h v t g i l y at out law = absurd law
@@ -67,6 +68,7 @@ module _ {S D L B : Type 0} (sources : S → SourceState) (drains : D → DrainS
   gave_by x (node.Making f) h v t g i l y at out law = absurd h
   gave_by x (node.Linear f) h v t g i l y at out law = absurd h
   gave_by x (node.State f) h v t g i l y at out law = absurd h
+  gave_by x (node.Sub f) h v t g i l y at out law = absurd h
   gave_by x (node.FanIn f) h v t g i l y at out law = absurd h
   gave_by x (node.FanOut f) h v t g i l y at out law = absurd h
   gave_by x (node.Writing f) h v t g i l y at out law = absurd h
@@ -80,6 +82,7 @@ module _ {S D L B : Type 0} (sources : S → SourceState) (drains : D → DrainS
   entering_passive (node.Making x) (node.Entering f) h v t g law = absurd law
   entering_passive (node.Linear x) (node.Entering f) h v t g law = absurd law
   entering_passive (node.State x) (node.Entering f) h v t g law = absurd law
+  entering_passive (node.Sub x) (node.Entering f) h v t g law = absurd law
   entering_passive (node.FanIn x) (node.Entering f) h v t g law = absurd law
   entering_passive (node.FanOut x) (node.Entering f) h v t g law = absurd law
   entering_passive (node.Writing x) (node.Entering f) h v t g law = absurd law
@@ -88,6 +91,7 @@ module _ {S D L B : Type 0} (sources : S → SourceState) (drains : D → DrainS
   entering_passive x (node.Making f) h v t g law = absurd h
   entering_passive x (node.Linear f) h v t g law = absurd h
   entering_passive x (node.State f) h v t g law = absurd h
+  entering_passive x (node.Sub f) h v t g law = absurd h
   entering_passive x (node.FanIn f) h v t g law = absurd h
   entering_passive x (node.FanOut f) h v t g law = absurd h
   entering_passive x (node.Writing f) h v t g law = absurd h

@@ -82,6 +82,7 @@ module _ {S D L B : Type 0} (sources : S → SourceState) (drains : D → DrainS
   took_by (node.Making x) (node.Leaving f) h v t g i l y at inp law = absurd law
   took_by (node.Linear x) (node.Leaving f) h v t g i l y at inp law = absurd law
   took_by (node.State x) (node.Leaving f) h v t g i l y at inp law = absurd law
+  took_by (node.Sub x) (node.Leaving f) h v t g i l y at inp law = absurd law
   took_by (node.FanIn x) (node.Leaving f) h v t g i l y at inp law = absurd law
   took_by (node.FanOut x) (node.Leaving f) h v t g i l y at inp law = absurd law
   took_by (node.Writing x) (node.Leaving f) h v t g i l y at inp law = absurd law
@@ -91,6 +92,7 @@ module _ {S D L B : Type 0} (sources : S → SourceState) (drains : D → DrainS
   took_by x (node.Making f) h v t g i l y at inp law = absurd h
   took_by x (node.Linear f) h v t g i l y at inp law = absurd h
   took_by x (node.State f) h v t g i l y at inp law = absurd h
+  took_by x (node.Sub f) h v t g i l y at inp law = absurd h
   took_by x (node.FanIn f) h v t g i l y at inp law = absurd h
   took_by x (node.FanOut f) h v t g i l y at inp law = absurd h
   took_by x (node.Writing f) h v t g i l y at inp law = absurd h

@@ -242,6 +242,7 @@ leaving_passive sources drains book (node.Reading x) (node.Leaving f) v t g h la
 leaving_passive sources drains book (node.Making x) (node.Leaving f) v t g h law = absurd law
 leaving_passive sources drains book (node.Linear x) (node.Leaving f) v t g h law = absurd law
 leaving_passive sources drains book (node.State x) (node.Leaving f) v t g h law = absurd law
+leaving_passive sources drains book (node.Sub x) (node.Leaving f) v t g h law = absurd law
 leaving_passive sources drains book (node.FanIn x) (node.Leaving f) v t g h law = absurd law
 leaving_passive sources drains book (node.FanOut x) (node.Leaving f) v t g h law = absurd law
 leaving_passive sources drains book (node.Writing x) (node.Leaving f) v t g h law = absurd law
@@ -251,6 +252,7 @@ leaving_passive sources drains book x (node.Reading f) v t g h law = absurd h
 leaving_passive sources drains book x (node.Making f) v t g h law = absurd h
 leaving_passive sources drains book x (node.Linear f) v t g h law = absurd h
 leaving_passive sources drains book x (node.State f) v t g h law = absurd h
+leaving_passive sources drains book x (node.Sub f) v t g h law = absurd h
 leaving_passive sources drains book x (node.FanIn f) v t g h law = absurd h
 leaving_passive sources drains book x (node.FanOut f) v t g h law = absurd h
 leaving_passive sources drains book x (node.Writing f) v t g h law = absurd h

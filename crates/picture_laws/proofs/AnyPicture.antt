@@ -7,7 +7,7 @@ use Rattle.stream_model.specs.Graph.{Graph}
 use Rattle.stream_model.specs.Graph as graph
 use Rattle.stream_model.specs.Node.{World}
 use Rattle.nodes.specs.declared.node.Node.{Node}
-use Rattle.nodes.specs.declared.node.Node.TheVariants.{Reading, Making, Linear, State, FanIn, FanOut, Writing, Ignoring, Entering, Leaving}
+use Rattle.nodes.specs.declared.node.Node.TheVariants.{Reading, Making, Linear, State, Sub, FanIn, FanOut, Writing, Ignoring, Entering, Leaving}
 use Rattle.nodes.specs.declared.sink.Writes.TheVariants.{First}
 use Rattle.nodes.specs.Kinds.{writes_of}
 use Rattle.nodes.specs.Nodes.{node_row, node_law, node_asking, node_moves}
@@ -24,6 +24,7 @@ use Rattle.fan_laws.proofs.OutStages.{out_picture}
 use Rattle.picture_laws.proofs.FanRows.{fan_in_picture, fan_out_picture}
 use Rattle.picture_laws.proofs.LinearRows.{linear_picture}
 use Rattle.picture_laws.proofs.StateRows.{state_picture}
+use Rattle.picture_laws.proofs.SubRows.{sub_picture}
 use Rattle.picture_laws.proofs.Stages.{sink_ports, ignore_ports}
 
 -- what a node knows of these ports
@@ -31,13 +32,14 @@ abbrev Views : List InPort → List OutPort → View
 Views is os = record { ins = map (λ (i : InPort). i.view) is; outs = map (λ (o : OutPort). o.view) os }
 
 module _ {S D L B : Type 0} (sources : S → SourceState) (drains : D → DrainState) (g : Graph) (w : World) (k : ℕ) (n : graph.Node) where
-  pub node_picture : (first x : Node S D L B) (is : List InPort) (os : List OutPort) → FirstOf sources k n first → TellsMoves w k x → node_row x (Views is os)
+  pub node_picture : (first x : Node S D L B) (is : List InPort) (os : List OutPort) → FirstOf sources g.chains k n first → TellsMoves w k x → node_row x (Views is os)
       → node_law sources drains w.book first x (Views is os) (map (λ (i : InPort). i.got) is) (map (λ (o : OutPort). o.sent) os)
       → PictureLaws node_row (node_law sources drains w.book) node_asking node_moves sink_ended g w k n first x is os
   node_picture (Reading first) (Reading x) is os f t r law = source_picture L B sources drains g w k n (Reading first) (Reading x) x.phase is os (subst (λ (kd : Kind). SourceRows g w kd) (sym f.kind_is) (lines_rows g w f.name)) r
   node_picture (Making first) (Making x) is os f t r law = source_picture L B sources drains g w k n (Making first) (Making x) x.phase is os (maker_rows g w n.kind f.is_maker) r
   node_picture (Linear first) (Linear x) is os f t r law = linear_picture L B sources drains g w k n first x is os f r law
   node_picture (State first) (State x) is os f t r law = state_picture L B sources drains g w k n first x is os f t r law
+  node_picture (Sub first) (Sub x) is os f t r law = sub_picture L B sources drains g w k n first x is os f r law
   node_picture (FanIn first) (FanIn x) is os f t r law = fan_in_picture sources drains g w k n first x is os (in_picture g w k n first x is os f.begins t r law)
   node_picture (FanOut first) (FanOut x) is os f t r law = fan_out_picture sources drains g w k n first x is os (out_picture g w k n first x is os f.begins t r law)
   node_picture (Writing first) (Writing x) is os f t r law =

@@ -13,3 +13,4 @@ pub mod FanRows
 pub mod AnyPicture
 pub mod Orders
 pub mod Pictures
+pub mod SubRows

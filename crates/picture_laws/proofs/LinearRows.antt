@@ -63,7 +63,7 @@ waits_busy l x y (over xi yo) e = let no : InClosed Waiting = subst InClosed e x
 -- a linear stage as it stood when it last asked at its input
 record Moment (book : Book) (k : ℕ) (n : graph.Node) (first : Logic) (v : View) (took gave : List (List Item)) : Type 0 where
   asked : out_at v 0 ≡ Asked
-  waited : (t g : List Item) → took ≡ t ∷ [] → gave ≡ g ∷ [] → Waited book k n.decider first.stage.work t g
+  waited : (t g : List Item) → took ≡ t ∷ [] → gave ≡ g ∷ [] → Waited (linear book first.stage.work) (begin_work k n.decider first.stage.work) t g
 
 moment_of : (book : Book) (k : ℕ) (n : graph.Node) (first l : Logic) (v : View) (took gave : List (List Item)) → FirstLinear k n first → LinearRow l v → LinearLaw book first l v took gave → in_at v 0 ≡ Waiting → Moment book k n first v took gave
 moment_of book k n first l v took gave f r law waits =
@@ -100,13 +100,13 @@ module _ {S D : Type 0} (L B : Type 0) (sources : S → SourceState) (drains : D
         let t = moment_by first e.old e.knew e.had e.given f e.row_held e.law_held e.waited in
         let b = began e.had i.got i.want e.took_on e.one_more in
         let q = given_one e.given o.sent o.want e.gave_on (e.wants 0 t.asked) in
-        stage_asked w.book k n.decider first.stage.work i o si so at.in_list at.in_end at.took_is b.part q.0 (t.waited b.part q.0 b.is q.1.0) b.begins b.one_more q.1.1.1 some
+        stage_asked (linear w.book first.stage.work) (begin_work k n.decider first.stage.work) i o si so at.in_list at.in_end at.took_is b.part q.0 (t.waited b.part q.0 b.is q.1.0) b.begins b.one_more q.1.1.1 some
 
     still : InStands i → OutStands o → InRests i → OutRests o → LinearPorts x.phase x.course x.pending x.stage.work i.view o.view
         → (EachWire IsShut (i.wire ∷ []) × EachWire IsShut (o.wire ∷ [])) ⊎ RowRests g w k n.kind n.decider (i.wire ∷ []) (o.wire ∷ [])
     still si so ri ro (busy po on none xi yo) =
         inr (machine.rests g w k n.decider (i.wire ∷ []) (o.wire ∷ [])
-        (inl (waited_rests w.book k n.decider first.stage.work i o si so ri ro (linear_waited w.book k n.kind n.decider first x _ _ _ i.got o.sent f.begins law po on none xi yo refl refl) xi yo)))
+        (inl (waited_rests (linear w.book first.stage.work) (begin_work k n.decider first.stage.work) i o si so ri ro (linear_waited w.book k n.kind n.decider first x _ _ _ i.got o.sent f.begins law po on none xi yo refl refl) xi yo)))
     still si so ri ro (free xi yo) = inr (machine.rests g w k n.decider (i.wire ∷ []) (o.wire ∷ []) (inr (inl (ro.unasked yo, idles i ri xi))))
     still si so ri ro (behind sp xi yo) =
         let one : (linear w.book x.stage.work).hold ≡ 1 = ap (λ (b : Bool). if b then 1 else 0) sp.0 in

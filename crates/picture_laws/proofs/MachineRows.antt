@@ -4,12 +4,10 @@ use Rattle.std.proofs.Common.{◌≡◌, ◌≢◌, ◌⊎◌, inl, inr, ℕ, �
 use Rattle.elem_core.specs.Prefix.{IsPrefix}
 use Rattle.elem_core.proofs.Prefixes.{prefix_length, prefix_trans, prefix_is_take, prefix_take_le}
 use Rattle.elem_core.specs.Tree.{Tree}
-use Rattle.elem_core.specs.declared.why.Decider.{Decider}
 use Rattle.elem_core.specs.declared.item.Item.{Item}
 use Rattle.port_core.specs.declared.view.InView.{InView}
 use Rattle.port_core.specs.declared.view.InView.TheVariants.{Idle, Waiting, Over, Left}
 use Rattle.port_core.specs.declared.view.OutView.TheVariants.{Asked}
-use Rattle.stream_model.specs.Linear.{Book, Stage, Work, linear, begin_work}
 use Rattle.stream_model.specs.Machine.{Run, Machine, going, is_going, run, close, Stands}
 use Rattle.stream_model.specs.Outlook.{End, unended, ended, failed}
 use Rattle.stream_model.proofs.MachineLaws.{gave_prefix, going_before}
@@ -60,7 +58,7 @@ ended_told : (i : InPort) (l : List Tree) (e : End) → i.got ≡ told l e → e
 ended_told i l e got is = got ∙ ap (λ (f : End). told l f) is
 
 -- what a stage may have given, over all that was sent to it, where its wire is shut or not
-given_by : (m : Machine Stage Tree) (start : Run Stage Tree) (l k : List Tree) (e : End) (g : List Tree) (f : End) (t : Bool) → Stands m start l e g f → IsPrefix l k → (e ≡ ended → l ≡ k) → (e ≡ ended → t ≡ false → ⊥)
+given_by : {S : Type 0} (m : Machine S Tree) (start : Run S Tree) (l k : List Tree) (e : End) (g : List Tree) (f : End) (t : Bool) → Stands m start l e g f → IsPrefix l k → (e ≡ ended → l ≡ k) → (e ≡ ended → t ≡ false → ⊥)
     → length g ≤ (if t then length (close m (run m start k) ended).list else length (run m start k).gave)
 given_by m start l k e g f true h p all known = elim (end_or_not e) [
   | inl is ↦ let h' : Stands m start l ended g f = rw is at h in sent_ended m start l k g f h' (all is)
@@ -69,7 +67,7 @@ given_by m start l k e g f true h p all known = elim (end_or_not e) [
 given_by m start l k e g f false h p all known = sent_open m start l k e g f h p (λ is. known is refl)
 
 -- the first part of the row, of any machine: what was given
-pub stage_given : (m : Machine Stage Tree) (start : Run Stage Tree) (h : Held Stage) (i : InPort) (o : OutPort) → Law m start h i.view o.view i.got o.sent → InStands i → OutStands o
+pub stage_given : {S : Type 0} (m : Machine S Tree) (start : Run S Tree) (h : Held S) (i : InPort) (o : OutPort) → Law m start h i.view o.view i.got o.sent → InStands i → OutStands o
     → o.wire.sent ≤ (if i.wire.shut then length (close m (run m start (take i.wire.sent i.wire.list)) ended).list else length (run m start (take i.wire.sent i.wire.list)).gave)
 stage_given m start h i o at si so =
     let stands : Stands m start at.in_list at.in_end at.out_list at.out_end = stage_stands m start h i.view o.view i.got o.sent at in
@@ -99,14 +97,14 @@ pub had_part : (i : InPort) → InStands i → (t : List Item) (k l : List Tree)
 had_part i s t k l f e is begins got = prefix_trans (told_prefix k l f e (part_of t i.got k l f e is got begins)) (s.part l e got)
 
 -- the second part of the row
-pub stage_asked : (book : Book) (k : ℕ) (d : Decider) (wk : Work) (i : InPort) (o : OutPort) → InStands i → OutStands o → (l : List Tree) (e : End) → i.got ≡ told l e
-    → (t g : List Item) → Waited book k d wk t g → IsPrefix t i.got → i.want ≡ elements t + 1 → elements g + 1 ≤ o.want → 1 ≤ demand i.wire
-    → (is_going (run (linear book wk) (begin_work k d wk) (take (demand i.wire - 1) i.wire.list)).state ≡ true) × (length (run (linear book wk) (begin_work k d wk) (take (demand i.wire - 1) i.wire.list)).gave < wanted o.wire)
-stage_asked book k d wk i o si so l e got t g w begins one more some =
+pub stage_asked : {S : Type 0} (m : Machine S Tree) (start : Run S Tree) (i : InPort) (o : OutPort) → InStands i → OutStands o → (l : List Tree) (e : End) → i.got ≡ told l e
+    → (t g : List Item) → Waited m start t g → IsPrefix t i.got → i.want ≡ elements t + 1 → elements g + 1 ≤ o.want → 1 ≤ demand i.wire
+    → (is_going (run m start (take (demand i.wire - 1) i.wire.list)).state ≡ true) × (length (run m start (take (demand i.wire - 1) i.wire.list)).gave < wanted o.wire)
+stage_asked m start i o si so l e got t g w begins one more some =
     let taken : elements t ≡ length w.in_list = ap elements w.took_is ∙ elements_told w.in_list w.in_end in
     let gave : elements g ≡ length w.out_list = ap elements w.gave_is ∙ elements_told w.out_list w.out_end in
     let wants = so.wants in
-    machine_asked (linear book wk) (begin_work k d wk) w.in_list w.out_list i.wire.list w.state w.runs (had_part i si t w.in_list l w.in_end e w.took_is begins got) (demand i.wire) i.want (wanted o.wire) some si.reach (omega (arith, one, taken)) (omega (arith, gave, more, wants))
+    machine_asked m start w.in_list w.out_list i.wire.list w.state w.runs (had_part i si t w.in_list l w.in_end e w.took_is begins got) (demand i.wire) i.want (wanted o.wire) some si.reach (omega (arith, one, taken)) (omega (arith, gave, more, wants))
 
 -- ---- where no event is left
 
@@ -114,10 +112,10 @@ pub idles : (i : InPort) → InRests i → i.view ≡ Idle → Idles i.wire
 idles i r e = elim (r.idles e) [ inl lane ↦ inl lane | inr fused ↦ inr fused.0 ]
 
 -- a stage that waits and holds nothing has given all that its machine gives
-pub waited_rests : (book : Book) (k : ℕ) (d : Decider) (wk : Work) (i : InPort) (o : OutPort) → InStands i → OutStands o → InRests i → OutRests o → Waited book k d wk i.got o.sent → i.view ≡ Waiting → o.view ≡ Asked
-    → IsAsked o.wire × Waits i.wire × (o.wire.sent ≡ length (run (linear book wk) (begin_work k d wk) (take i.wire.sent i.wire.list)).gave)
-waited_rests book k d wk i o si so ri ro w xi yo =
+pub waited_rests : {S : Type 0} (m : Machine S Tree) (start : Run S Tree) (i : InPort) (o : OutPort) → InStands i → OutStands o → InRests i → OutRests o → Waited m start i.got o.sent → i.view ≡ Waiting → o.view ≡ Asked
+    → IsAsked o.wire × Waits i.wire × (o.wire.sent ≡ length (run m start (take i.wire.sent i.wire.list)).gave)
+waited_rests m start i o si so ri ro w xi yo =
     let waits = ri.waits xi in
     let all : take i.wire.sent i.wire.list ≡ w.in_list = taken_all i si w.in_list w.in_end w.took_is waits.1 in
     let sent : o.wire.sent ≡ length w.out_list = so.count ∙ (ap elements w.gave_is ∙ elements_told w.out_list w.out_end) in
-    (ro.asked yo, waits.0, sent ∙ ap (λ (r : Run Stage Tree). length r.gave) (sym w.runs) ∙ ap (λ (z : List Tree). length (run (linear book wk) (begin_work k d wk) z).gave) (sym all))
+    (ro.asked yo, waits.0, sent ∙ ap (λ r. length r.gave) (sym w.runs) ∙ ap (λ (z : List Tree). length (run m start z).gave) (sym all))

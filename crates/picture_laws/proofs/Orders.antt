@@ -24,7 +24,7 @@ use Rattle.stage_state.specs.declared.logic.StateLogic.TheVariants.{Machine, Dro
 use Rattle.stage_state.specs.Handling.{StateLaw}
 use Rattle.stage_state.specs.Moves.{state_seat}
 use Rattle.nodes.specs.declared.node.Node.{Node}
-use Rattle.nodes.specs.declared.node.Node.TheVariants.{Reading, Making, Linear, State, FanIn, FanOut, Writing, Ignoring, Entering, Leaving}
+use Rattle.nodes.specs.declared.node.Node.TheVariants.{Reading, Making, Linear, State, Sub, FanIn, FanOut, Writing, Ignoring, Entering, Leaving}
 use Rattle.nodes.specs.Nodes.{node_law, node_seat}
 use Rattle.run_account.specs.Account.{Account, knows, took, gave}
 use Rattle.run_account.specs.Items.{AllMayPass}
@@ -81,19 +81,20 @@ module _ (w : World) (k : ℕ) (n : graph.Node) (v : View) (took gave : List (Li
       subst (λ (r : SeatState). SeatTold n.kind (w.moves k) Count r) (some_same now.seat s at) here
   state_told first now made told law s at = absurd law
 
-  node_told : {S D L B : Type 0} (sources : S → SourceState) (drains : D → DrainState) (book : Book) (first now : Node S D L B) → FirstOf sources k n first → TellsMoves w k now → node_law sources drains book first now v took gave
+  node_told : {S D L B : Type 0} (sources : S → SourceState) (drains : D → DrainState) (book : Book) (chains : List graph.Chain) (first now : Node S D L B) → FirstOf sources chains k n first → TellsMoves w k now → node_law sources drains book first now v took gave
       → (s : SeatState) → node_seat now ≡ Some s → SeatTold n.kind (w.moves k) Count s
-  node_told sources drains book first (Reading now) made told law s at = absurd (no_seat s at)
-  node_told sources drains book first (Making now) made told law s at = absurd (no_seat s at)
-  node_told sources drains book first (Linear now) made told law s at = absurd (no_seat s at)
-  node_told sources drains book first (FanIn now) made told law s at = absurd (no_seat s at)
-  node_told sources drains book first (FanOut now) made told law s at = absurd (no_seat s at)
-  node_told sources drains book first (Writing now) made told law s at = absurd (no_seat s at)
-  node_told sources drains book first (Ignoring now) made told law s at = absurd (no_seat s at)
-  node_told sources drains book first (Entering now) made told law s at = absurd (no_seat s at)
-  node_told sources drains book first (Leaving now) made told law s at = absurd (no_seat s at)
-  node_told sources drains book (State first) (State now) made told law s at = state_told first now made told law s at
-  node_told sources drains book first now made told law s at = absurd law
+  node_told sources drains book chains first (Reading now) made told law s at = absurd (no_seat s at)
+  node_told sources drains book chains first (Making now) made told law s at = absurd (no_seat s at)
+  node_told sources drains book chains first (Linear now) made told law s at = absurd (no_seat s at)
+  node_told sources drains book chains first (Sub now) made told law s at = absurd (no_seat s at)
+  node_told sources drains book chains first (FanIn now) made told law s at = absurd (no_seat s at)
+  node_told sources drains book chains first (FanOut now) made told law s at = absurd (no_seat s at)
+  node_told sources drains book chains first (Writing now) made told law s at = absurd (no_seat s at)
+  node_told sources drains book chains first (Ignoring now) made told law s at = absurd (no_seat s at)
+  node_told sources drains book chains first (Entering now) made told law s at = absurd (no_seat s at)
+  node_told sources drains book chains first (Leaving now) made told law s at = absurd (no_seat s at)
+  node_told sources drains book chains (State first) (State now) made told law s at = state_told first now made told law s at
+  node_told sources drains book chains first now made told law s at = absurd law
 
 -- what was heard at the first input, of what may pass there
 few_heard : (os : List Outlook) (hs : List (List Item)) (v : View) → AllMayPass os hs → HearsAll v hs → elements (slice_index_or hs 0 []) ≤ length (head_of os).list
@@ -127,13 +128,13 @@ module _ {S D L B : Type 0} (sources : S → SourceState) (drains : D → DrainS
           let m = run.keeps.each_node k n e in
           let here : node_seat m.now ≡ Some s = sym (ap seat_at m.now_at) ∙ at in
           subst (λ (c : ℕ). SeatTold n.kind (w.moves k) c s) (sym (took_there g a k n e))
-          (node_told w k n (knows g a k n) (took g a k n) (gave g a k n) sources drains w.book m.first m.now (run.made k n m.first e m.first_at) (chose k m.now m.now_at) m.law_holds s here)
+          (node_told w k n (knows g a k n) (took g a k n) (gave g a k n) sources drains w.book g.chains m.first m.now (run.made k n m.first e m.first_at) (chose k m.now m.now_at) m.law_holds s here)
 
   -- no node took more elements than may come in there
   pub few_came : Tells sources g w a → (rank : ℕ → ℕ) → IsRanked g rank → (k : ℕ) (n : graph.Node) → slice_get g.nodes k ≡ Some n → took_at g a k ≤ length (head_of (inputs g w k n)).list
   few_came tells rank ranked k n e =
       let m = run.keeps.each_node k n e in
-      let hears = node_hears sources drains w.book k n m.first m.now (knows g a k n) (took g a k n) (gave g a k n) (run.made k n m.first e m.first_at) m.law_holds in
+      let hears = node_hears sources drains w.book g.chains k n m.first m.now (knows g a k n) (took g a k n) (gave g a k n) (run.made k n m.first e m.first_at) m.law_holds in
       let few = few_heard (inputs g w k n) (took g a k n) (knows g a k n) (every_input_of sources drains g w a run tells rank ranked k n e) hears in
       let same = took_there g a k n e in
       omega (arith, few, same)

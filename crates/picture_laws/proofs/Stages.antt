@@ -87,34 +87,34 @@ ignore_ports true Ended Over r = inr (tt, refl)
 ignore_ports true (Failed c) Over r = inr (tt, refl)
 ignore_ports started e x r = absurd r
 
-module _ (m : Machine Stage Tree) (start : Run Stage Tree) where
+module _ {S : Type 0} (m : Machine S Tree) (start : Run S Tree) where
   -- one that waits and holds nothing has given all that its machine gives for what it took, and goes on
-  pub waiting_run : (st : State Stage) (took gave : List Item) → (law : Law m start (owing (record { gave = []; state = st })) Waiting Asked took gave)
+  pub waiting_run : (st : State S) (took gave : List Item) → (law : Law m start (owing (record { gave = []; state = st })) Waiting Asked took gave)
       → run m start law.in_list ≡ record { gave = law.out_list; state = st }
   waiting_run st took gave law =
       let u : law.in_end ≡ unended = law.took_as in
       ap (λ (e : End). ends_by m (run m start law.in_list) e) (sym u) ∙ law.keeps.1.0 ∙ ap (λ (g : List Tree). record { gave = g; state = st }) (append-nil law.out_list)
 
-pub law_at : (m : Machine Stage Tree) (start start' : Run Stage Tree) (h h' : Held Stage) (x x' : InView) (y y' : OutView) (t t' g g' : List Item)
+pub law_at : {S : Type 0} (m : Machine S Tree) (start start' : Run S Tree) (h h' : Held S) (x x' : InView) (y y' : OutView) (t t' g g' : List Item)
     → start ≡ start' → h ≡ h' → x ≡ x' → y ≡ y' → t ≡ t' → g ≡ g' → Law m start h x y t g → Law m start' h' x' y' t' g'
 law_at m start start' h h' x x' y y' t t' g g' a b c d e f law = rw (← a, ← b, ← c, ← d, ← e, ← f) law
 
 pub same_start : (a b : Run Stage Tree) → owing a ≡ owing b → a ≡ b
 same_start a b e = cc
 
--- A linear stage that waits for its input: what it took there and what it gave, as its machine gives it, which goes on.
-pub record Waited (book : Book) (k : ℕ) (d : Decider) (wk : Work) (took gave : List Item) : Type 0 where
+-- A stage that waits for its input: what it took there and what it gave, as its machine gives it, which goes on.
+pub record Waited {S : Type 0} (m : Machine S Tree) (start : Run S Tree) (took gave : List Item) : Type 0 where
   pub in_list : List Tree
   pub in_end : End
   pub out_list : List Tree
   pub out_end : End
-  pub state : Stage
+  pub state : S
   pub took_is : took ≡ told in_list in_end
   pub gave_is : gave ≡ told out_list out_end
-  pub runs : run (linear book wk) (begin_work k d wk) in_list ≡ record { gave = out_list; state = going state }
+  pub runs : run m start in_list ≡ record { gave = out_list; state = going state }
 
-pub waited_of : (book : Book) (k : ℕ) (d : Decider) (wk : Work) (s : Stage) (t g : List Item) → Law (linear book wk) (begin_work k d wk) (owing (record { gave = []; state = going s })) Waiting Asked t g → Waited book k d wk t g
-waited_of book k d wk s t g at = record {
+pub waited_of : {S : Type 0} (m : Machine S Tree) (start : Run S Tree) (s : S) (t g : List Item) → Law m start (owing (record { gave = []; state = going s })) Waiting Asked t g → Waited m start t g
+waited_of m start s t g at = record {
   in_list = at.in_list;
   in_end = at.in_end;
   out_list = at.out_list;
@@ -122,13 +122,13 @@ waited_of book k d wk s t g at = record {
   state = s;
   took_is = at.took_is;
   gave_is = at.gave_is;
-  runs = waiting_run (linear book wk) (begin_work k d wk) (going s) t g at;
+  runs = waiting_run m start (going s) t g at;
 }
 
 pub linear_waited : (book : Book) (k : ℕ) (kd : Kind) (d : Decider) (first l : Logic) (v : View) (took gave : List (List Item)) (t g : List Item) → Begins k kd d first → LinearLaw book first l v took gave
-    → l.phase ≡ Open → l.course ≡ Waits → l.pending ≡ [] → in_at v 0 ≡ Waiting → out_at v 0 ≡ Asked → took ≡ t ∷ [] → gave ≡ g ∷ [] → Waited book k d first.stage.work t g
+    → l.phase ≡ Open → l.course ≡ Waits → l.pending ≡ [] → in_at v 0 ≡ Waiting → out_at v 0 ≡ Asked → took ≡ t ∷ [] → gave ≡ g ∷ [] → Waited (linear book first.stage.work) (begin_work k d first.stage.work) t g
 linear_waited book k kd d first l v took gave t g begins law going_on on none waits_in asked_out took_at gave_at =
-    waited_of book k d first.stage.work l.stage t g
+    waited_of (linear book first.stage.work) (begin_work k d first.stage.work) l.stage t g
     (law_at (linear book first.stage.work) law.start _ (held book l) _ (in_at v 0) _ (out_at v 0) _ law.took_list t law.gave_list g
     (same_start _ _ (sym law.owes ∙ begins.owes book))
     (ap (λ (p : Phase). held_in book p l.course l.pending l.stage) going_on ∙ ap (λ (c : Course). held_in book Open c l.pending l.stage) on ∙ ap (λ (h : List Tree). held_in book Open Waits h l.stage) none)

@@ -33,8 +33,8 @@ use Rattle.stage_law.specs.Row.{InClosed, OutClosed}
 use Rattle.stage_law.proofs.Whole.{stage_stands}
 use Rattle.stage_linear.specs.declared.phase.Phase.{Phase}
 use Rattle.stage_linear.specs.declared.phase.Phase.TheVariants.{New, Open, Closed}
-use Rattle.stage_state.specs.declared.ending.Ending.{Ending}
-use Rattle.stage_state.specs.declared.ending.Ending.TheVariants.{Lasting, Ended, Failed}
+use Rattle.stage_keeping.specs.declared.ending.Ending.{Ending}
+use Rattle.stage_keeping.specs.declared.ending.Ending.TheVariants.{Lasting, Ended, Failed}
 use Rattle.stage_state.specs.Buffering.{buffer}
 use Rattle.stage_state.specs.Resting.{begin_buffer}
 use Rattle.stage_state.specs.States.{Logic, held, held_in, keep_row, buffer_row, row_by, IsMachine, Begins}
@@ -126,9 +126,9 @@ module _ (first now : Logic) (v : View) (took gave : List (List Item)) (law : Ma
 
 -- one that keeps, and waits
 keeps_waited : (book : Book) (k : ℕ) (d : Decider) (wk : Work) (now : Logic) (x : InView) (y : OutView) (t g : List Item) → Law (linear book wk) (begin_work k d wk) (held now) x y t g
-    → now.phase ≡ Open → now.ending ≡ Lasting → now.pending ≡ [] → x ≡ Waiting → y ≡ Asked → Waited book k d wk t g
+    → now.phase ≡ Open → now.ending ≡ Lasting → now.pending ≡ [] → x ≡ Waiting → y ≡ Asked → Waited (linear book wk) (begin_work k d wk) t g
 keeps_waited book k d wk now x y t g law on lasts none xi yo =
-    waited_of book k d wk now.stage t g
+    waited_of (linear book wk) (begin_work k d wk) now.stage t g
     (law_at (linear book wk) (begin_work k d wk) _ (held now) _ x _ y _ t _ g _ refl (busy_held now on lasts none) xi yo refl refl law)
 
 -- ---- a buffer
@@ -257,12 +257,12 @@ module _ {S D : Type 0} (L B : Type 0) (sources : S → SourceState) (drains : D
           let q = given_one e.given o.sent o.want e.gave_on (e.wants 0 asked) in
           let at = keeps_at first l.now e.knew e.had e.given l.law_holds w.book b.part q.0 b.is q.1.0 k n.kind n.decider c in
           let waited = keeps_waited w.book k n.decider first.stage.work l.now (in_at e.knew 0) (out_at e.knew 0) b.part q.0 at was.0 was.1.0 was.1.1.0 e.waited asked in
-          stage_asked w.book k n.decider first.stage.work i o si so kept.in_list kept.in_end kept.took_is b.part q.0 waited b.begins b.one_more q.1.1.1 some
+          stage_asked (linear w.book first.stage.work) (begin_work k n.decider first.stage.work) i o si so kept.in_list kept.in_end kept.took_is b.part q.0 waited b.begins b.one_more q.1.1.1 some
 
       keeps_rest : InStands i → OutStands o → InRests i → OutRests o → KeepPorts x.phase x.ending x.pending i.view o.view → Still
       keeps_rest si so ri ro (busy on lasts none xi yo) =
           inr (machine.rests g w k n.decider (i.wire ∷ []) (o.wire ∷ [])
-          (inl (waited_rests w.book k n.decider first.stage.work i o si so ri ro (keeps_waited w.book k n.decider first.stage.work x i.view o.view i.got o.sent kept on lasts none xi yo) xi yo)))
+          (inl (waited_rests (linear w.book first.stage.work) (begin_work k n.decider first.stage.work) i o si so ri ro (keeps_waited w.book k n.decider first.stage.work x i.view o.view i.got o.sent kept on lasts none xi yo) xi yo)))
       keeps_rest si so ri ro (free xi yo) = inr (machine.rests g w k n.decider (i.wire ∷ []) (o.wire ∷ []) (inr (inl (ro.unasked yo, idles i ri xi))))
       keeps_rest si so ri ro (behind xi yo) =
           inr (machine.rests g w k n.decider (i.wire ∷ []) (o.wire ∷ []) (inr (inr (keeping_holds n.kind first.stage.work c.is_keeping c.work, ro.unasked yo, ri.shut (subst InClosed (sym xi) tt)))))

@@ -223,9 +223,9 @@ module _ {S D : Type 0} (L B : Type 0) (sources : S → SourceState) (drains : D
 
   -- one that waits
   trip_waited : (book : Book) (now : Trip) (x : InView) (y : OutView) (t h : List Item) → Law (linear book passing) (begin_work k n.decider passing) (trip_held n.decider now) x y t h
-      → now.phase ≡ Open → x ≡ Waiting → y ≡ Asked → Waited book k n.decider passing t h
+      → now.phase ≡ Open → x ≡ Waiting → y ≡ Asked → Waited (linear book passing) (begin_work k n.decider passing) t h
   trip_waited book now x y t h law on xi yo =
-      waited_of book k n.decider passing (trip_stage n.decider now) t h
+      waited_of (linear book passing) (begin_work k n.decider passing) (trip_stage n.decider now) t h
       (law_at (linear book passing) (begin_work k n.decider passing) _ (trip_held n.decider now) _ x _ y _ t _ h _ refl (ap (λ (p : Phase). trip_held_in p (trip_stage n.decider now)) on) xi yo refl refl law)
 
   module _ (first x : Trip) (i : InPort) (o : OutPort) (begins : BeginsAs n.kind k n.decider (Tripping first)) (r : TripRow x (record { ins = i.view ∷ []; outs = o.view ∷ [] }))
@@ -255,12 +255,12 @@ module _ {S D : Type 0} (L B : Type 0) (sources : S → SourceState) (drains : D
         let q = given_one e.given o.sent o.want e.gave_on (e.wants 0 asked) in
         let at = trip_at w.book first l.now e.knew e.had e.given b.part q.0 l.law_holds trip_kind.node b.is q.1.0 in
         let waited = trip_waited w.book l.now (in_at e.knew 0) (out_at e.knew 0) b.part q.0 at was.0 e.waited asked in
-        stage_asked w.book k n.decider passing i o si so passed.in_list passed.in_end passed.took_is b.part q.0 waited b.begins b.one_more q.1.1.1 some
+        stage_asked (linear w.book passing) (begin_work k n.decider passing) i o si so passed.in_list passed.in_end passed.took_is b.part q.0 waited b.begins b.one_more q.1.1.1 some
 
     trip_stays : InStands i → OutStands o → InRests i → OutRests o → PassingPorts x.phase i.view o.view
         → (EachWire IsShut (i.wire ∷ []) × EachWire IsShut (o.wire ∷ [])) ⊎ RowRests g w k n.kind n.decider (i.wire ∷ []) (o.wire ∷ [])
     trip_stays si so ri ro (busy on xi yo) =
-        inr (machine.rests g w k n.decider (i.wire ∷ []) (o.wire ∷ []) (inl (waited_rests w.book k n.decider passing i o si so ri ro (trip_waited w.book x i.view o.view i.got o.sent passed on xi yo) xi yo)))
+        inr (machine.rests g w k n.decider (i.wire ∷ []) (o.wire ∷ []) (inl (waited_rests (linear w.book passing) (begin_work k n.decider passing) i o si so ri ro (trip_waited w.book x i.view o.view i.got o.sent passed on xi yo) xi yo)))
     trip_stays si so ri ro (free xi yo) = inr (machine.rests g w k n.decider (i.wire ∷ []) (o.wire ∷ []) (inr (inl (ro.unasked yo, idles i ri xi))))
     trip_stays si so ri ro (gone xi yo) = inl ((ri.shut xi, tt), (ro.shut yo, tt))
 

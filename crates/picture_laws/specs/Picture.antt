@@ -3,7 +3,7 @@ use Rattle.std.specs.Prelude.{Bool, true, false, Option, None, Some}
 use Rattle.stream_model.specs.declared.outcome.EndState.{EndState}
 use Rattle.stream_model.specs.declared.outcome.EndState.TheVariants.{Ended, Failed, Unended, WriteFault}
 use Rattle.nodes.specs.declared.node.Node.{Node}
-use Rattle.nodes.specs.declared.node.Node.TheVariants.{Reading, Making, Linear, State, FanIn, FanOut, Writing, Ignoring, Entering, Leaving}
+use Rattle.nodes.specs.declared.node.Node.TheVariants.{Reading, Making, Linear, State, Sub, FanIn, FanOut, Writing, Ignoring, Entering, Leaving}
 
 -- it does not go on
 abbrev pub has_ended : EndState → Bool
@@ -18,6 +18,7 @@ sink_ended (Reading x) = false
 sink_ended (Making x) = false
 sink_ended (Linear x) = false
 sink_ended (State x) = false
+sink_ended (Sub x) = false
 sink_ended (FanIn x) = false
 sink_ended (FanOut x) = false
 sink_ended (Writing x) = has_ended x.end

@@ -25,10 +25,11 @@ use Rattle.stage_law.specs.Held.{told}
 use Rattle.stage_law.specs.Law.{TookAs}
 use Rattle.stage_linear.specs.States.{IsLinear}
 use Rattle.stage_state.specs.Logics.{IsStateful}
+use Rattle.stage_sub.specs.Handling.{IsSub}
 use Rattle.wire_core.specs.Marks.{wanted}
 use Rattle.wire_core.specs.Reading.{inp_of, got_of}
 use Rattle.nodes.specs.declared.node.Node.{Node}
-use Rattle.nodes.specs.declared.node.Node.TheVariants.{Reading, Making, Linear, State, FanIn, FanOut, Writing, Ignoring, Entering, Leaving}
+use Rattle.nodes.specs.declared.node.Node.TheVariants.{Reading, Making, Linear, State, Sub, FanIn, FanOut, Writing, Ignoring, Entering, Leaving}
 use Rattle.nodes.specs.Nodes.{node_row, node_law, node_asking, node_moves}
 use Rattle.nodes.specs.Ports.{OneInOf}
 use Rattle.nodes.specs.Kinds.{IsMaker, IsFileSink, writes_of}
@@ -68,6 +69,12 @@ not_stateful (kind.Head name) h i = i
 not_stateful (kind.Last name) h i = i
 not_stateful _ h i = h
 
+not_sub : (shape : Kind) → IsFileSink shape → IsSub shape → ⊥
+not_sub (kind.ToLines name) h i = i
+not_sub (kind.Head name) h i = i
+not_sub (kind.Last name) h i = i
+not_sub _ h i = h
+
 not_maker : (shape : Kind) → IsFileSink shape → IsMaker shape → ⊥
 not_maker (kind.ToLines name) h i = i
 not_maker (kind.Head name) h i = i
@@ -87,34 +94,36 @@ not_fan_out (kind.Last name) h i = i
 not_fan_out _ h i = h
 
 -- a node of such a kind is a sink with a file
-sink_cases : {S D L B : Type 0} (sources : S → SourceState) (drains : D → DrainState) (book : Book) (k : ℕ) (n : graph.Node) (first now : Node S D L B) (v : View) (took gave : List (List Item))
-    → IsFileSink n.kind → FirstOf sources k n first → node_law sources drains book first now v took gave → (a : Sink D) × ((b : Sink D) × ((first ≡ Writing a) × (now ≡ Writing b)))
-sink_cases sources drains book k n (Writing first) (Writing now) v took gave is made law = (first, (now, (refl, refl)))
-sink_cases sources drains book k n (Reading first) now v took gave is made law = let e : IsFileSink (kind.Lines made.name) = subst IsFileSink made.kind_is is in absurd e
-sink_cases sources drains book k n (Making first) now v took gave is made law = absurd (not_maker n.kind is made.is_maker)
-sink_cases sources drains book k n (Linear first) now v took gave is made law = absurd (not_linear n.kind is made.is_linear)
-sink_cases sources drains book k n (State first) now v took gave is made law = absurd (not_stateful n.kind is made.is_state)
-sink_cases sources drains book k n (FanIn first) now v took gave is made law = absurd (not_fan_in n.kind is made.is_in)
-sink_cases sources drains book k n (FanOut first) now v took gave is made law = absurd (not_fan_out n.kind is made.is_out)
-sink_cases sources drains book k n (Ignoring first) now v took gave is made law = let e : IsFileSink kind.Ignore = subst IsFileSink made.kind_is is in absurd e
-sink_cases sources drains book k n (Entering first) now v took gave is made law = absurd made
-sink_cases sources drains book k n (Leaving first) now v took gave is made law = absurd made
-sink_cases sources drains book k n (Writing first) now v took gave is made law = absurd law
+sink_cases : {S D L B : Type 0} (sources : S → SourceState) (drains : D → DrainState) (book : Book) (chains : List graph.Chain) (k : ℕ) (n : graph.Node) (first now : Node S D L B) (v : View) (took gave : List (List Item))
+    → IsFileSink n.kind → FirstOf sources chains k n first → node_law sources drains book first now v took gave → (a : Sink D) × ((b : Sink D) × ((first ≡ Writing a) × (now ≡ Writing b)))
+sink_cases sources drains book chains k n (Writing first) (Writing now) v took gave is made law = (first, (now, (refl, refl)))
+sink_cases sources drains book chains k n (Reading first) now v took gave is made law = let e : IsFileSink (kind.Lines made.name) = subst IsFileSink made.kind_is is in absurd e
+sink_cases sources drains book chains k n (Making first) now v took gave is made law = absurd (not_maker n.kind is made.is_maker)
+sink_cases sources drains book chains k n (Linear first) now v took gave is made law = absurd (not_linear n.kind is made.is_linear)
+sink_cases sources drains book chains k n (State first) now v took gave is made law = absurd (not_stateful n.kind is made.is_state)
+sink_cases sources drains book chains k n (Sub first) now v took gave is made law = absurd (not_sub n.kind is made.is_sub)
+sink_cases sources drains book chains k n (FanIn first) now v took gave is made law = absurd (not_fan_in n.kind is made.is_in)
+sink_cases sources drains book chains k n (FanOut first) now v took gave is made law = absurd (not_fan_out n.kind is made.is_out)
+sink_cases sources drains book chains k n (Ignoring first) now v took gave is made law = let e : IsFileSink kind.Ignore = subst IsFileSink made.kind_is is in absurd e
+sink_cases sources drains book chains k n (Entering first) now v took gave is made law = absurd made
+sink_cases sources drains book chains k n (Leaving first) now v took gave is made law = absurd made
+sink_cases sources drains book chains k n (Writing first) now v took gave is made law = absurd law
 
 -- and one that keeps nothing
-ignore_cases : {S D L B : Type 0} (sources : S → SourceState) (drains : D → DrainState) (book : Book) (k : ℕ) (n : graph.Node) (first now : Node S D L B) (v : View) (took gave : List (List Item))
-    → n.kind ≡ kind.Ignore → FirstOf sources k n first → node_law sources drains book first now v took gave → (a : Ignorer) × ((b : Ignorer) × ((first ≡ Ignoring a) × (now ≡ Ignoring b)))
-ignore_cases sources drains book k n (Ignoring first) (Ignoring now) v took gave is made law = (first, (now, (refl, refl)))
-ignore_cases sources drains book k n (Reading first) now v took gave is made law = let e : kind.Lines made.name ≡ kind.Ignore = sym made.kind_is ∙ is in absurd cc
-ignore_cases sources drains book k n (Making first) now v took gave is made law = let e : IsMaker kind.Ignore = subst IsMaker is made.is_maker in absurd e
-ignore_cases sources drains book k n (Linear first) now v took gave is made law = let e : IsLinear kind.Ignore = subst IsLinear is made.is_linear in absurd e
-ignore_cases sources drains book k n (State first) now v took gave is made law = let e : IsStateful kind.Ignore = subst IsStateful is made.is_state in absurd e
-ignore_cases sources drains book k n (FanIn first) now v took gave is made law = let e : IsFanIn kind.Ignore = subst IsFanIn is made.is_in in absurd e
-ignore_cases sources drains book k n (FanOut first) now v took gave is made law = let e : IsOut kind.Ignore = subst IsOut is made.is_out in absurd e
-ignore_cases sources drains book k n (Writing first) now v took gave is made law = let e : IsFileSink kind.Ignore = subst IsFileSink is made.is_sink in absurd e
-ignore_cases sources drains book k n (Entering first) now v took gave is made law = absurd made
-ignore_cases sources drains book k n (Leaving first) now v took gave is made law = absurd made
-ignore_cases sources drains book k n (Ignoring first) now v took gave is made law = absurd law
+ignore_cases : {S D L B : Type 0} (sources : S → SourceState) (drains : D → DrainState) (book : Book) (chains : List graph.Chain) (k : ℕ) (n : graph.Node) (first now : Node S D L B) (v : View) (took gave : List (List Item))
+    → n.kind ≡ kind.Ignore → FirstOf sources chains k n first → node_law sources drains book first now v took gave → (a : Ignorer) × ((b : Ignorer) × ((first ≡ Ignoring a) × (now ≡ Ignoring b)))
+ignore_cases sources drains book chains k n (Ignoring first) (Ignoring now) v took gave is made law = (first, (now, (refl, refl)))
+ignore_cases sources drains book chains k n (Reading first) now v took gave is made law = let e : kind.Lines made.name ≡ kind.Ignore = sym made.kind_is ∙ is in absurd cc
+ignore_cases sources drains book chains k n (Making first) now v took gave is made law = let e : IsMaker kind.Ignore = subst IsMaker is made.is_maker in absurd e
+ignore_cases sources drains book chains k n (Linear first) now v took gave is made law = let e : IsLinear kind.Ignore = subst IsLinear is made.is_linear in absurd e
+ignore_cases sources drains book chains k n (State first) now v took gave is made law = let e : IsStateful kind.Ignore = subst IsStateful is made.is_state in absurd e
+ignore_cases sources drains book chains k n (Sub first) now v took gave is made law = let e : IsSub kind.Ignore = subst IsSub is made.is_sub in absurd e
+ignore_cases sources drains book chains k n (FanIn first) now v took gave is made law = let e : IsFanIn kind.Ignore = subst IsFanIn is made.is_in in absurd e
+ignore_cases sources drains book chains k n (FanOut first) now v took gave is made law = let e : IsOut kind.Ignore = subst IsOut is made.is_out in absurd e
+ignore_cases sources drains book chains k n (Writing first) now v took gave is made law = let e : IsFileSink kind.Ignore = subst IsFileSink is made.is_sink in absurd e
+ignore_cases sources drains book chains k n (Entering first) now v took gave is made law = absurd made
+ignore_cases sources drains book chains k n (Leaving first) now v took gave is made law = absurd made
+ignore_cases sources drains book chains k n (Ignoring first) now v took gave is made law = absurd law
 
 module _ {S D L B : Type 0} (sources : S → SourceState) (drains : D → DrainState) (book : Book) (g : Graph) (a : Account (Node S D L B)) (run : IsRun sources drains book g a) where
   -- node k, which was handed in as one and is the other now
@@ -125,7 +134,7 @@ module _ {S D L B : Type 0} (sources : S → SourceState) (drains : D → DrainS
   pub sink_there : (k : ℕ) (n : graph.Node) → slice_get g.nodes k ≡ Some n → IsFileSink n.kind → (first : Sink D) × ((now : Sink D) × IsSinkAt a k first now)
   sink_there k n ni is =
       let m = run.keeps.each_node k n ni in
-      let c = sink_cases sources drains book k n m.first m.now (knows g a k n) (took g a k n) (gave g a k n) is (run.made k n m.first ni m.first_at) m.law_holds in
+      let c = sink_cases sources drains book g.chains k n m.first m.now (knows g a k n) (took g a k n) (gave g a k n) is (run.made k n m.first ni m.first_at) m.law_holds in
       (c.0, (c.1.0, record { at_first = m.first_at ∙ ap (λ (y : Node S D L B). Some y) c.1.1.0; at_last = m.now_at ∙ ap (λ (y : Node S D L B). Some y) c.1.1.1 }))
 
   sink_at : (k : ℕ) (n : graph.Node) (first now : Sink D) → slice_get g.nodes k ≡ Some n → IsSinkAt a k first now → At k n (Writing first) (Writing now)
@@ -138,7 +147,7 @@ module _ {S D L B : Type 0} (sources : S → SourceState) (drains : D → DrainS
   pub ignorer_there : (k : ℕ) (n : graph.Node) → slice_get g.nodes k ≡ Some n → n.kind ≡ kind.Ignore → (first : Ignorer) × ((now : Ignorer) × IsIgnorerAt a k first now)
   ignorer_there k n ni is =
       let m = run.keeps.each_node k n ni in
-      let c = ignore_cases sources drains book k n m.first m.now (knows g a k n) (took g a k n) (gave g a k n) is (run.made k n m.first ni m.first_at) m.law_holds in
+      let c = ignore_cases sources drains book g.chains k n m.first m.now (knows g a k n) (took g a k n) (gave g a k n) is (run.made k n m.first ni m.first_at) m.law_holds in
       (c.0, (c.1.0, record { at_first = m.first_at ∙ ap (λ (y : Node S D L B). Some y) c.1.1.0; at_last = m.now_at ∙ ap (λ (y : Node S D L B). Some y) c.1.1.1 }))
 
   ignore_at : (k : ℕ) (n : graph.Node) (first now : Ignorer) → slice_get g.nodes k ≡ Some n → IsIgnorerAt a k first now → At k n (Ignoring first) (Ignoring now)

@@ -6,6 +6,7 @@ use Rattle.elem_core.specs.declared.item.Item.{Item}
 use Rattle.port_core.specs.View.{View}
 use Rattle.stage_linear.specs.States.{IsLinear}
 use Rattle.stage_state.specs.Logics.{IsStateful}
+use Rattle.stage_sub.specs.Handling.{IsSub}
 use Rattle.stream_model.specs.declared.kind.Kind.TheVariants as kind
 use Rattle.stream_model.specs.Graph.{Graph, Wire, find_source}
 use Rattle.stream_model.specs.Graph as graph
@@ -15,7 +16,7 @@ use Rattle.stage_law.specs.Held.{told}
 use Rattle.wire_core.specs.Reading.{sent_of}
 use Rattle.fused_net.proofs.Reading.{some_same}
 use Rattle.nodes.specs.declared.node.Node.{Node}
-use Rattle.nodes.specs.declared.node.Node.TheVariants.{Reading, Making, Linear, State, FanIn, FanOut, Writing, Ignoring, Entering, Leaving}
+use Rattle.nodes.specs.declared.node.Node.TheVariants.{Reading, Making, Linear, State, Sub, FanIn, FanOut, Writing, Ignoring, Entering, Leaving}
 use Rattle.nodes.specs.Kinds.{IsMaker, IsFileSink}
 use Rattle.nodes.specs.Nodes.{node_row, node_law, node_asking, node_moves}
 use Rattle.nodes.specs.Source.{Lines, LinesLaw}
@@ -32,26 +33,27 @@ use Rattle.run_laws.proofs.Readings.{one_port}
 use Rattle.stream_model.specs.Linear.{Book}
 
 -- a node of a source's kind is a source
-source_cases : {S D L B : Type 0} (sources : S → SourceState) (drains : D → DrainState) (book : Book) (k : ℕ) (n : graph.Node) (name : List ℕ) (first now : Node S D L B) (v : View) (took gave : List (List Item))
-    → n.kind ≡ kind.Lines name → FirstOf sources k n first → node_law sources drains book first now v took gave → (a : Lines S) × ((b : Lines S) × ((first ≡ Reading a) × (now ≡ Reading b)))
-source_cases sources drains book k n name (Reading first) (Reading now) v took gave is made law = (first, (now, (refl, refl)))
-source_cases sources drains book k n name (Making first) now v took gave is made law = let e : IsMaker (kind.Lines name) = subst IsMaker is made.is_maker in absurd e
-source_cases sources drains book k n name (Writing first) now v took gave is made law = let e : IsFileSink (kind.Lines name) = subst IsFileSink is made.is_sink in absurd e
-source_cases sources drains book k n name (Ignoring first) now v took gave is made law = let e : kind.Ignore ≡ kind.Lines name = sym made.kind_is ∙ is in absurd cc
-source_cases sources drains book k n name (Linear first) now v took gave is made law = let e : IsLinear (kind.Lines name) = subst IsLinear is made.is_linear in absurd e
-source_cases sources drains book k n name (State first) now v took gave is made law = let e : IsStateful (kind.Lines name) = subst IsStateful is made.is_state in absurd e
-source_cases sources drains book k n name (FanIn first) now v took gave is made law = let e : IsFanIn (kind.Lines name) = subst IsFanIn is made.is_in in absurd e
-source_cases sources drains book k n name (FanOut first) now v took gave is made law = let e : IsOut (kind.Lines name) = subst IsOut is made.is_out in absurd e
-source_cases sources drains book k n name (Entering first) now v took gave is made law = absurd made
-source_cases sources drains book k n name (Leaving first) now v took gave is made law = absurd made
-source_cases sources drains book k n name (Reading first) now v took gave is made law = absurd law
+source_cases : {S D L B : Type 0} (sources : S → SourceState) (drains : D → DrainState) (book : Book) (chains : List graph.Chain) (k : ℕ) (n : graph.Node) (name : List ℕ) (first now : Node S D L B) (v : View) (took gave : List (List Item))
+    → n.kind ≡ kind.Lines name → FirstOf sources chains k n first → node_law sources drains book first now v took gave → (a : Lines S) × ((b : Lines S) × ((first ≡ Reading a) × (now ≡ Reading b)))
+source_cases sources drains book chains k n name (Reading first) (Reading now) v took gave is made law = (first, (now, (refl, refl)))
+source_cases sources drains book chains k n name (Making first) now v took gave is made law = let e : IsMaker (kind.Lines name) = subst IsMaker is made.is_maker in absurd e
+source_cases sources drains book chains k n name (Writing first) now v took gave is made law = let e : IsFileSink (kind.Lines name) = subst IsFileSink is made.is_sink in absurd e
+source_cases sources drains book chains k n name (Ignoring first) now v took gave is made law = let e : kind.Ignore ≡ kind.Lines name = sym made.kind_is ∙ is in absurd cc
+source_cases sources drains book chains k n name (Linear first) now v took gave is made law = let e : IsLinear (kind.Lines name) = subst IsLinear is made.is_linear in absurd e
+source_cases sources drains book chains k n name (State first) now v took gave is made law = let e : IsStateful (kind.Lines name) = subst IsStateful is made.is_state in absurd e
+source_cases sources drains book chains k n name (Sub first) now v took gave is made law = let e : IsSub (kind.Lines name) = subst IsSub is made.is_sub in absurd e
+source_cases sources drains book chains k n name (FanIn first) now v took gave is made law = let e : IsFanIn (kind.Lines name) = subst IsFanIn is made.is_in in absurd e
+source_cases sources drains book chains k n name (FanOut first) now v took gave is made law = let e : IsOut (kind.Lines name) = subst IsOut is made.is_out in absurd e
+source_cases sources drains book chains k n name (Entering first) now v took gave is made law = absurd made
+source_cases sources drains book chains k n name (Leaving first) now v took gave is made law = absurd made
+source_cases sources drains book chains k n name (Reading first) now v took gave is made law = absurd law
 
 module _ {S D L B : Type 0} (sources : S → SourceState) (drains : D → DrainState) (book : Book) (g : Graph) (a : Account (Node S D L B)) (run : IsRun sources drains book g a) where
   -- it is there
   pub source_there : (k : ℕ) (n : graph.Node) (name : List ℕ) → slice_get g.nodes k ≡ Some n → n.kind ≡ kind.Lines name → (first : Lines S) × ((now : Lines S) × IsSourceAt a k first now)
   source_there k n name ni is =
       let m = run.keeps.each_node k n ni in
-      let c = source_cases sources drains book k n name m.first m.now (knows g a k n) (took g a k n) (gave g a k n) is (run.made k n m.first ni m.first_at) m.law_holds in
+      let c = source_cases sources drains book g.chains k n name m.first m.now (knows g a k n) (took g a k n) (gave g a k n) is (run.made k n m.first ni m.first_at) m.law_holds in
       (c.0, (c.1.0, record { at_first = m.first_at ∙ ap (λ (y : Node S D L B). Some y) c.1.1.0; at_last = m.now_at ∙ ap (λ (y : Node S D L B). Some y) c.1.1.1 }))
 
   pub every_source : (k : ℕ) (n : graph.Node) (first now : Lines S) (u : ℕ) (v : Wire) (bytes : List ℕ) → slice_get g.nodes k ≡ Some n → IsSourceAt a k first now → slice_get g.wires u ≡ Some v → v.from ≡ k

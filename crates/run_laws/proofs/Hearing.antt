@@ -7,7 +7,7 @@ use Rattle.elem_core.specs.declared.why.Decider.TheVariants.{Stop}
 use Rattle.port_core.specs.View.{View}
 use Rattle.stream_io.specs.State.{SourceState, DrainState}
 use Rattle.nodes.specs.declared.node.Node.{Node}
-use Rattle.nodes.specs.declared.node.Node.TheVariants.{Reading, Making, Linear, State, FanIn, FanOut, Writing, Ignoring, Entering, Leaving}
+use Rattle.nodes.specs.declared.node.Node.TheVariants.{Reading, Making, Linear, State, Sub, FanIn, FanOut, Writing, Ignoring, Entering, Leaving}
 use Rattle.nodes.specs.Nodes.{node_law}
 use Rattle.stream_model.specs.Graph as graph
 use Rattle.stream_model.specs.Linear.{Book}
@@ -23,6 +23,7 @@ use Rattle.fan_laws.proofs.InRuns.{in_hears, at_index}
 use Rattle.fan_laws.proofs.OutStages.{out_hears}
 use Rattle.run_laws.specs.Made.{FirstOf}
 use Rattle.run_laws.proofs.Ports.{none_at, heard_one}
+use Rattle.run_laws.proofs.Subs.{sub_hears}
 
 -- the law by ports tells what came at each input
 ports_hear : (K : List Inflow → List Tree → End → Type 0) (v : View) (took gave : List (List Item)) → InPortsLaw K v took gave → HearsAll v took
@@ -44,13 +45,14 @@ state_hears book (Tripping first) (Tripping now) v took gave law p h at =
     let its = law.law book Stop in heard_one v took law.took_list law.took_is (record { list = its.in_list; end = its.in_end; is = its.took_is; as_seen = its.took_as }) p h at
 state_hears book first now v took gave law p h at = absurd law
 
-module _ {S D L B : Type 0} (sources : S → SourceState) (drains : D → DrainState) (book : Book) (k : ℕ) (n : graph.Node) where
-  pub node_hears : (first now : Node S D L B) (v : View) (took gave : List (List Item)) → FirstOf sources k n first → node_law sources drains book first now v took gave → HearsAll v took
+module _ {S D L B : Type 0} (sources : S → SourceState) (drains : D → DrainState) (book : Book) (chains : List graph.Chain) (k : ℕ) (n : graph.Node) where
+  pub node_hears : (first now : Node S D L B) (v : View) (took gave : List (List Item)) → FirstOf sources chains k n first → node_law sources drains book first now v took gave → HearsAll v took
   node_hears (Reading first) (Reading now) v took gave made law p h at = absurd (none_at took p h law.took_is at)
   node_hears (Making first) (Making now) v took gave made law p h at = absurd (none_at took p h law.took_is at)
   node_hears (Linear first) (Linear now) v took gave made law p h at =
       let its = law.law in heard_one v took law.took_list law.took_is (record { list = its.in_list; end = its.in_end; is = its.took_is; as_seen = its.took_as }) p h at
   node_hears (State first) (State now) v took gave made law p h at = state_hears book first now v took gave law p h at
+  node_hears (Sub first) (Sub now) v took gave made law p h at = sub_hears chains k n first now v took gave made law p h at
   node_hears (FanIn first) (FanIn now) v took gave made law p h at = in_hears first now v took gave law p h at
   node_hears (FanOut first) (FanOut now) v took gave made law p h at = out_hears book k n.kind first now v took gave made.begins law p h at
   node_hears (Writing first) (Writing now) v took gave made law p h at = heard_one v took _ law.took_is (record { list = law.elems; end = law.in_end; is = refl; as_seen = law.took_as }) p h at

@@ -54,7 +54,7 @@ counts_same a i (v ∷ ws) (c ∷ cells) fused e f =
 -- any number of islands, with lanes
 module _ {S D L B : Type 0} (sources : S → SourceState) (drains : D → DrainState) (book : Book) (g : Graph) (nets : ℕ → Net (Node S D L B)) (seats : Seats) (asked : ℕ → ℕ) (covers : Covers g nets seats)
     (settled : (b : ℕ) → Settled node_row (node_law sources drains book) node_asking node_moves (nets b)) where
-  pub all_run : IsJoined g → LanesKeep g nets seats asked → AllMade (FirstOf sources) g (joined nets seats asked) → IsRun sources drains book g (joined nets seats asked)
+  pub all_run : IsJoined g → LanesKeep g nets seats asked → AllMade (FirstOf sources g.chains) g (joined nets seats asked) → IsRun sources drains book g (joined nets seats asked)
   all_run is_joined lanes made = record {
     joined = is_joined;
     keeps = all_keep node_row (node_law sources drains book) node_asking node_moves g nets seats is_joined covers asked settled lanes;

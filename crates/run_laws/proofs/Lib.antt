@@ -21,3 +21,4 @@ pub mod ReadingAhead
 pub mod AgreeingSources
 pub mod StateChoices
 pub mod StateSwitches
+pub mod Subs

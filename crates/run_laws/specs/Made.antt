@@ -3,13 +3,17 @@ use Rattle.std.specs.Prelude.{◌≡◌, ℕ, List, [], length, slice_get, Some,
 use Rattle.stream_model.specs.declared.kind.Kind.{Kind}
 use Rattle.stream_model.specs.declared.kind.Kind.TheVariants as kind
 use Rattle.stream_model.specs.declared.outcome.EndState.TheVariants.{Unended}
-use Rattle.stream_model.specs.Graph.{Graph, Wire}
+use Rattle.stream_model.specs.Graph.{Graph, Wire, steps_of}
 use Rattle.stream_model.specs.Graph as graph
+use Rattle.stream_model.specs.Linear.{Mention, no_name, a_file, a_switch, a_trip, a_plug, a_chain, mention_of}
 use Rattle.stream_io.specs.State.{SourceState}
 use Rattle.stage_linear.specs.States.{Logic, IsLinear, Begins}
 use Rattle.stage_state.specs.declared.logic.StateLogic.{StateLogic}
 use Rattle.stage_state.specs.Logics.{IsStateful}
 use Rattle.stage_state.specs.Handling as state
+use Rattle.stage_sub.specs.States as subs
+use Rattle.stage_sub.specs.Handling as sub
+use Rattle.line_chain.specs.Line.{Line, line_rest, line_is_open, IsLine}
 use Rattle.stage_in.specs.declared.logic.InLogic.{InLogic}
 use Rattle.stage_in.specs.Logics as fan_in
 use Rattle.stage_out.specs.declared.logic.OutLogic.{OutLogic}
@@ -17,7 +21,7 @@ use Rattle.stage_out.specs.OutLogics as fan_out
 use Rattle.fused_net.specs.declared.net.Ends.{Ends}
 use Rattle.fused_net.specs.Net.{end_at}
 use Rattle.nodes.specs.declared.node.Node.{Node}
-use Rattle.nodes.specs.declared.node.Node.TheVariants.{Reading, Making, Linear, State, FanIn, FanOut, Writing, Ignoring, Entering, Leaving}
+use Rattle.nodes.specs.declared.node.Node.TheVariants.{Reading, Making, Linear, State, Sub, FanIn, FanOut, Writing, Ignoring, Entering, Leaving}
 use Rattle.nodes.specs.Source.{Lines}
 use Rattle.nodes.specs.Maker.{Made}
 use Rattle.nodes.specs.Sink.{Sink}
@@ -41,6 +45,25 @@ pub record FirstLinear (k : ℕ) (n : graph.Node) (x : Logic) : Type 0 where
 pub record FirstState (k : ℕ) (n : graph.Node) (x : StateLogic) : Type 0 where
   pub is_state : IsStateful n.kind
   pub begins : state.Begins k n.kind n.decider x
+
+-- the chain that a mention names
+abbrev chain_in : Mention → List ℕ
+chain_in no_name = []
+chain_in (a_file file) = []
+chain_in (a_switch switch) = []
+chain_in (a_trip order switch n) = []
+chain_in (a_plug plug) = []
+chain_in (a_chain name) = name
+
+-- the name of the chain through which each substream of a stage goes
+abbrev pub chain_name : Kind → List ℕ
+chain_name k = chain_in (mention_of k)
+
+-- a stage with substreams at its start, each of which goes through the chain that its kind names
+pub record FirstSub (chains : List graph.Chain) (k : ℕ) (n : graph.Node) (x : subs.Logic Line) : Type 0 where
+  pub is_sub : sub.IsSub n.kind
+  pub begins : sub.Begins line_rest line_is_open k n.kind x.chain x
+  pub line : IsLine k (steps_of (chain_name n.kind) chains) x.chain
 
 -- a stage with several inputs at its start
 pub record FirstFanIn (k : ℕ) (n : graph.Node) (x : InLogic) : Type 0 where
@@ -71,18 +94,19 @@ pub record FirstIgnoring (k : ℕ) (shape : Kind) (x : Ignorer) : Type 0 where
   pub node : x.node ≡ k
   pub end : x.end ≡ Unended
 
--- node k of the blueprint, as it is handed in; the ends of a lane are no nodes of it
-abbrev pub FirstOf : {S D L B : Type 0} → (S → SourceState) → ℕ → graph.Node → Node S D L B → Type 0
-FirstOf sources k n (Reading x) = FirstReading sources k n.kind x
-FirstOf sources k n (Making x) = FirstMaking k n.kind x
-FirstOf sources k n (Linear x) = FirstLinear k n x
-FirstOf sources k n (State x) = FirstState k n x
-FirstOf sources k n (FanIn x) = FirstFanIn k n x
-FirstOf sources k n (FanOut x) = FirstFanOut k n x
-FirstOf sources k n (Writing x) = FirstWriting k n.kind x
-FirstOf sources k n (Ignoring x) = FirstIgnoring k n.kind x
-FirstOf sources k n (Entering x) = ⊥
-FirstOf sources k n (Leaving x) = ⊥
+-- node k of a blueprint with these chains, as it is handed in; the ends of a lane are no nodes of it
+abbrev pub FirstOf : {S D L B : Type 0} → (S → SourceState) → List graph.Chain → ℕ → graph.Node → Node S D L B → Type 0
+FirstOf sources chains k n (Reading x) = FirstReading sources k n.kind x
+FirstOf sources chains k n (Making x) = FirstMaking k n.kind x
+FirstOf sources chains k n (Linear x) = FirstLinear k n x
+FirstOf sources chains k n (State x) = FirstState k n x
+FirstOf sources chains k n (Sub x) = FirstSub chains k n x
+FirstOf sources chains k n (FanIn x) = FirstFanIn k n x
+FirstOf sources chains k n (FanOut x) = FirstFanOut k n x
+FirstOf sources chains k n (Writing x) = FirstWriting k n.kind x
+FirstOf sources chains k n (Ignoring x) = FirstIgnoring k n.kind x
+FirstOf sources chains k n (Entering x) = ⊥
+FirstOf sources chains k n (Leaving x) = ⊥
 
 -- a wire between the same ports, which is no lane
 pub record IsFused (v : Wire) (e : Ends) : Type 0 where
@@ -96,5 +120,5 @@ pub record IsFused (v : Wire) (e : Ends) : Type 0 where
 pub record Materializes {S D L B : Type 0} (sources : S → SourceState) (g : Graph) (firsts : List (Node S D L B)) (ends : List Ends) : Type 0 where
   pub nodes : length firsts ≡ length g.nodes
   pub wires : length ends ≡ length g.wires
-  pub each_node : (k : ℕ) (n : graph.Node) (x : Node S D L B) → slice_get g.nodes k ≡ Some n → slice_get firsts k ≡ Some x → FirstOf sources k n x
+  pub each_node : (k : ℕ) (n : graph.Node) (x : Node S D L B) → slice_get g.nodes k ≡ Some n → slice_get firsts k ≡ Some x → FirstOf sources g.chains k n x
   pub each_wire : (i : ℕ) (v : Wire) → slice_get g.wires i ≡ Some v → IsFused v (end_at ends i)

@@ -13,4 +13,4 @@ use Rattle.stream_model.specs.Linear.{Book}
 pub record IsRun {S D L B : Type 0} (sources : S → SourceState) (drains : D → DrainState) (book : Book) (g : Graph) (a : Account (Node S D L B)) : Type 0 where
   pub joined : IsJoined g
   pub keeps : KeepsLaws node_row (node_law sources drains book) node_asking node_moves g a
-  pub made : AllMade (FirstOf sources) g a
+  pub made : AllMade (FirstOf sources g.chains) g a

@@ -49,7 +49,7 @@ pub fn an_island_leaves_a_run<S: Source, D: Drain, L: Logic, B: PlugBook>()
 pub fn islands_leave_a_run<S: Source, D: Drain, L: Logic, B: PlugBook>()
     ensures run { (g : Graph) (nets : ℕ → Net (Node S D L B)) (seats : Seats) (asked : ℕ → ℕ) → IsJoined g → Covers g nets seats
         → ((b : ℕ) → Settled node_row (node_law S.state D.state B.lists) node_asking node_moves (nets b)) → LanesKeep g nets seats asked
-        → AllMade (FirstOf S.state) g (joined nets seats asked) → IsRun S.state D.state B.lists g (joined nets seats asked) }
+        → AllMade (FirstOf S.state g.chains) g (joined nets seats asked) → IsRun S.state D.state B.lists g (joined nets seats asked) }
     ensures still { (g : Graph) (nets : ℕ → Net (Node S D L B)) (seats : Seats) (asked : ℕ → ℕ) → Covers g nets seats
         → ((b : ℕ) → Settled node_row (node_law S.state D.state B.lists) node_asking node_moves (nets b)) → ((b : ℕ) → (nets b).queue ≡ []) → LanesRest g nets seats asked
         → IsStill g (joined nets seats asked) }

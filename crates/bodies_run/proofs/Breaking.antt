@@ -12,7 +12,7 @@ use Rattle.nodes.specs.declared.node.Node.{Node}
 use Rattle.interpreter.specs.declared.parts.Seated.{Seated}
 use Rattle.run_laws.specs.Runs.{IsRun}
 use Rattle.run_laws.proofs.Islands.{all_run}
-use Rattle.materializer.specs.Graphs.{graph_of}
+use Rattle.materializer.specs.Graphs.{graph_of, chains_of}
 use Rattle.materializer.specs.Seats.{AreSeats}
 use Rattle.materializer.proofs.Fitting.{fit_joined}
 use Rattle.island_seats.specs.Islands.{seats_of, AreBroughtBack}
@@ -52,7 +52,7 @@ module _ {S D L B : Type 0} (sources : S → SourceState) (drains : D → DrainS
           let w = last_began sources drains book begun now broke then l (graph_of b) homes count (blueprint_wires b) nodes crossings m all in
           are_left homes count (blueprint_wires b) nodes m.seated (net_of then) (last_nets sources drains book begun now broke then l (graph_of b) homes count (blueprint_wires b) nodes crossings m) all _ m.graph.each_node w.0 w.1.0 w.1.1 last ends r
 
-      pub broken_run : AskedAre now crossings all → AllJoined BodiesJoined now crossings → (plugs : List PlugHead) (taken : List (List ℕ)) (ss : List S) (ds : List D) → IsFit b plugs taken → AreSeats 0 b.nodes.items ss ds nodes → All (λ s. (sources s).given ≡ 0) ss
+      pub broken_run : AskedAre now crossings all → AllJoined BodiesJoined now crossings → (plugs : List PlugHead) (taken : List (List ℕ)) (ss : List S) (ds : List D) → IsFit b plugs taken → AreSeats (chains_of b) 0 b.nodes.items ss ds nodes → All (λ s. (sources s).given ≡ 0) ss
           → IsRun sources drains book (graph_of b) (account_in homes (blueprint_wires b) then all)
       broken_run asked joined plugs taken ss ds fit seats given =
           let w = last_began sources drains book begun now broke then l (graph_of b) homes count (blueprint_wires b) nodes crossings m all in

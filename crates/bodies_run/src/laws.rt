@@ -14,7 +14,7 @@ ghost use Rattle.interpreter.specs.declared.parts.Seated.{Seated};
 ghost use Rattle.run_account.specs.Account.{Account, IsStill};
 ghost use Rattle.run_account.specs.Pictures.{counts_of};
 ghost use Rattle.run_laws.specs.Runs.{IsRun};
-ghost use Rattle.materializer.specs.Graphs.{graph_of};
+ghost use Rattle.materializer.specs.Graphs.{graph_of, chains_of};
 ghost use Rattle.materializer.specs.Seats.{AreSeats};
 ghost use Rattle.rounds.specs.Bodies.{AllOf, EachOf};
 ghost use Rattle.rounds.specs.Crossings.{AllJoined, AtRest};
@@ -36,7 +36,7 @@ use stream_io::outside::{Drain, Source};
 /// run is of those of the blueprint's nodes (`nodes`). No event is left on any wire where no body has one (`still`). What they spent is
 /// below the count of the blueprint's wires over what they were sent, by one for each wire (`most`). Rule: own.
 pub fn bodies_leave_a_run<S: Source, D: Drain, L: Logic, B: PlugBook>()
-    ensures run { (b : Blueprint) (homes : List ℕ) (count : ℕ) (nodes : List (Seated S D L B)) (crossings : List Crossing) (begun now : List (Body S D L B)) (all : ℕ → ℕ) (plugs : List PlugHead) (taken : List (List ℕ)) (ss : List S) (ds : List D) → IsFit b plugs taken → AreSeats 0 b.nodes.items ss ds nodes → All (λ s. (S.state s).given ≡ 0) ss
+    ensures run { (b : Blueprint) (homes : List ℕ) (count : ℕ) (nodes : List (Seated S D L B)) (crossings : List Crossing) (begun now : List (Body S D L B)) (all : ℕ → ℕ) (plugs : List PlugHead) (taken : List (List ℕ)) (ss : List S) (ds : List D) → IsFit b plugs taken → AreSeats (chains_of b) 0 b.nodes.items ss ds nodes → All (λ s. (S.state s).given ≡ 0) ss
         → AreBodiesOf S.state D.state B.lists (graph_of b) homes count (blueprint_wires b) nodes crossings begun → EachOf BodyGoes begun now → AllOf (BodyKeeps S.state D.state B.lists) now → AskedAre now crossings all → AllJoined BodiesJoined now crossings
         → IsRun S.state D.state B.lists (graph_of b) (account_in homes (blueprint_wires b) now all) }
     ensures back { (b : Blueprint) (homes : List ℕ) (count : ℕ) (nodes : List (Seated S D L B)) (crossings : List Crossing) (begun now : List (Body S D L B)) → AreBodiesOf S.state D.state B.lists (graph_of b) homes count (blueprint_wires b) nodes crossings begun → EachOf BodyGoes begun now → AllOf (BodyKeeps S.state D.state B.lists) now
@@ -53,7 +53,7 @@ pub fn bodies_leave_a_run<S: Source, D: Drain, L: Logic, B: PlugBook>()
 /// of the islands come back into one list, as they were then and as they are (`back`); the run is of those of the blueprint's nodes as
 /// they were then (`nodes`), and since then each has kept what outlives want of memory (`kept`). Rule: own.
 pub fn broken_bodies_leave_a_run<S: Source, D: Drain, L: Logic, B: PlugBook>()
-    ensures run { (b : Blueprint) (homes : List ℕ) (count : ℕ) (nodes : List (Seated S D L B)) (crossings : List Crossing) (begun now then : List (Body S D L B)) (all : ℕ → ℕ) (plugs : List PlugHead) (taken : List (List ℕ)) (ss : List S) (ds : List D) → IsFit b plugs taken → AreSeats 0 b.nodes.items ss ds nodes → All (λ s. (S.state s).given ≡ 0) ss
+    ensures run { (b : Blueprint) (homes : List ℕ) (count : ℕ) (nodes : List (Seated S D L B)) (crossings : List Crossing) (begun now then : List (Body S D L B)) (all : ℕ → ℕ) (plugs : List PlugHead) (taken : List (List ℕ)) (ss : List S) (ds : List D) → IsFit b plugs taken → AreSeats (chains_of b) 0 b.nodes.items ss ds nodes → All (λ s. (S.state s).given ≡ 0) ss
         → AreBodiesOf S.state D.state B.lists (graph_of b) homes count (blueprint_wires b) nodes crossings begun → WholeOrBroken (BodyKeeps S.state D.state B.lists) BodyGoes (BodyBreaks S.state D.state B.lists) begun now → AreLastOf S.state D.state B.lists begun now then
         → AskedAre now crossings all → AllJoined BodiesJoined now crossings → IsRun S.state D.state B.lists (graph_of b) (account_in homes (blueprint_wires b) then all) }
     ensures back { (b : Blueprint) (homes : List ℕ) (count : ℕ) (nodes : List (Seated S D L B)) (crossings : List Crossing) (begun now then : List (Body S D L B)) → AreBodiesOf S.state D.state B.lists (graph_of b) homes count (blueprint_wires b) nodes crossings begun → WholeOrBroken (BodyKeeps S.state D.state B.lists) BodyGoes (BodyBreaks S.state D.state B.lists) begun now → AreLastOf S.state D.state B.lists begun now then

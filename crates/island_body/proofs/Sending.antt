@@ -10,6 +10,7 @@ use Rattle.elem_core.proofs.elem.Elem.TheLaws.TheKnot as knot
 use Rattle.std.proofs.vec.Vec.TheSendSync as vec
 use Rattle.std.proofs.option.Option.TheSendSync as option
 use Rattle.std.proofs.boxed.Box.TheSendSync as box
+use Rattle.std.proofs.collections.BTreeMap.TheSendSync as map
 use Rattle.std.proofs.alloc.Global.TheSendSync as global
 use Rattle.std.proofs.rt.Memory.TheSendSync as memory
 use Rattle.elem_core.proofs.line.Line.TheSendSync as line
@@ -42,6 +43,18 @@ use Rattle.stage_state.specs.contracts.machine.MachineLogic as machine
 use Rattle.stage_state.specs.contracts.keep.KeepLogic as keep
 use Rattle.stage_state.specs.contracts.buffer.BufferLogic as buffer
 use Rattle.stage_state.specs.contracts.logic.StateLogic as state
+use Rattle.stage_keeping.specs.contracts.keeping.Keeping as keeping
+use Rattle.line_chain.specs.contracts.kind.StepKind as step_kind
+use Rattle.line_chain.specs.contracts.work.StepWork as step_work
+use Rattle.line_chain.specs.contracts.step.LineStep as line_step
+use Rattle.line_chain.specs.contracts.line.LineChain as chain
+use Rattle.line_chain.specs.contracts.line.LineChainChain.TheImpl as chained
+use Rattle.stage_sub.specs.contracts.opening.OpenBy as open_by
+use Rattle.stage_sub.specs.contracts.last.LastSubstream.TheInside as last_inside
+use Rattle.stage_sub.specs.contracts.kept.KeptSubs.TheInside as kept_inside
+use Rattle.stage_sub.specs.contracts.state.SubState.TheInside as sub_state
+use Rattle.stage_sub.specs.contracts.logic.SubLogic as sub
+use Rattle.stage_sub.specs.contracts.logic.SubLogic.TheInside as sub_inside
 use Rattle.stage_linear.specs.contracts.plug.PlugTask as plug_task
 use Rattle.stage_linear.specs.contracts.task.Task as task
 use Rattle.stage_linear.specs.contracts.worker.Worker as worker
@@ -124,6 +137,77 @@ trip_send = trip.the_send
 state_send : IsSend (state.the_field).row
 state_send = enum_send (shape state.the_type) ((machine_send, tt), ((dropping_send, tt), ((recovering_send, tt), ((valve_send, tt), ((trip_send, tt), tt)))))
 
+-- a chain and the stage whose substreams run it
+keeping_send : IsSend (keeping.the_field).row
+keeping_send = search (crosses, knot.crosses, sendable) depth 60 fits 20000
+
+kind_send : IsSend (step_kind.the_field).row
+kind_send = search (crosses, knot.crosses, sendable) depth 60 fits 20000
+
+work_send : IsSend (step_work.the_field).row
+work_send = search (task_send, keeping_send, crosses, knot.crosses, sendable) depth 60 fits 20000
+
+step_send : IsSend line_step.the_row
+step_send = search (kind_send, work_send, crosses, knot.crosses, sendable) depth 60 fits 20000
+
+line_send : IsSend chain.the_row
+line_send = search (step_send, crosses, knot.crosses, sendable) depth 60 fits 20000
+
+last_send : IsSend (last_inside.the_row chain.the_row chained.ghosts)
+last_send = search (line_send, crosses, knot.crosses, sendable) depth 60 fits 20000
+
+open_send : IsSend (open_by.the_field).row
+open_send = search (crosses, knot.crosses, sendable) depth 60 fits 20000
+
+kept_send : IsSend (kept_inside.the_row chain.the_row chained.ghosts)
+kept_send =
+    let t = kept_inside.the_type chain.the_row chained.ghosts in
+    recorded_send (declared.field t).row _ _ t.to_one
+    (struct_send (declared.shape t) (
+      search (last_send, crosses, knot.crosses, sendable) depth 60 fits 20000,
+      (
+        search (map.the_send, global.the_send, crosses, knot.crosses, sendable) depth 60 fits 20000,
+        (
+          search (line_send, vec.the_send, option.the_send, crosses, knot.crosses, sendable) depth 60 fits 20000,
+          (search (crosses, knot.crosses, sendable) depth 60 fits 20000, tt),
+        ),
+      ),
+    ))
+
+sub_state_send : IsSend (sub_state.the_row chain.the_row chained.ghosts)
+sub_state_send =
+    let t = sub_state.the_type chain.the_row chained.ghosts in
+    recorded_send (declared.field t).row _ _ t.to_one
+    (struct_send (declared.shape t) (
+      search (crosses, knot.crosses, sendable) depth 60 fits 20000,
+      (
+        search (crosses, knot.crosses, sendable) depth 60 fits 20000,
+        (
+          open_send,
+          (
+            line_send,
+            (
+              view_send (kept_inside.the_row chain.the_row chained.ghosts) _ _ _ _ kept_send,
+              (
+                search (crosses, knot.crosses, sendable) depth 60 fits 20000,
+                (search (crosses, knot.crosses, sendable) depth 60 fits 20000, (search (crosses, knot.crosses, sendable) depth 60 fits 20000, (search (crosses, knot.crosses, sendable) depth 60 fits 20000, tt))),
+              ),
+            ),
+          ),
+        ),
+      ),
+    ))
+
+sub_send : IsSend (sub.the_row chain.the_row chained.ghosts)
+sub_send =
+    let t = sub_inside.the_type chain.the_row chained.ghosts in
+    view_send (sub_inside.the_row chain.the_row chained.ghosts) _ _ _ _
+    (recorded_send (declared.field t).row _ _ t.to_one
+    (struct_send (declared.shape t) (
+      view_send (sub_state.the_row chain.the_row chained.ghosts) _ _ _ _ sub_state_send,
+      (search (option.the_field_send, vec.the_send, crosses, knot.crosses, sendable) depth 60 fits 20000, tt),
+    )))
+
 in_send : IsSend (fan_in.the_field).row
 in_send = search (crosses, knot.crosses, sendable) depth 60 fits 20000
 
@@ -158,7 +242,7 @@ node_send S D L B s d l b p q u v =
         (maker_send, tt),
         (
           (linear_send L B l b u v, tt),
-          ((state_send, tt), ((in_send, tt), ((out_send, tt), ((writing_send D d q, tt), ((ignorer_send, tt), ((entering_send, tt), ((leaving_send, tt), tt))))))),
+          ((state_send, tt), ((sub_send, tt), ((in_send, tt), ((out_send, tt), ((writing_send D d q, tt), ((ignorer_send, tt), ((entering_send, tt), ((leaving_send, tt), tt)))))))),
         ),
       ),
     ))

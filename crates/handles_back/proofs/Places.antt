@@ -1,11 +1,13 @@
 -- The handles at the places of a blueprint's islands.
 use Rattle.std.specs.Prelude.{slice_get, is_some, if◌then◌else◌}
 use Rattle.std.proofs.Common.{◌≡◌, ℕ, zero, suc, ◌+◌, Bool, true, false, List, [], ◌∷◌, ◌++◌, length, map, Option, Some, None, refl, ap, sym, ◌∙◌}
+use Rattle.stream_model.specs.Graph as graph
 use Rattle.stream_model.specs.declared.kind.Kind.{Kind}
 use Rattle.stream_model.specs.declared.kind.Kind.TheVariants as kind
 use Rattle.nodes.specs.Kinds.{IsFileSink, IsMaker}
 use Rattle.stage_linear.specs.States.{IsLinear}
 use Rattle.stage_state.specs.Logics.{IsStateful}
+use Rattle.stage_sub.specs.Handling.{IsSub}
 use Rattle.stage_in.specs.Logics.{IsFanIn}
 use Rattle.stage_out.specs.OutLogics.{IsOut}
 use Rattle.interpreter.specs.declared.parts.Seated.{Seated}
@@ -18,7 +20,7 @@ use Rattle.scatter.specs.Shares.{of_home}
 use Rattle.island_parts.specs.Whole.{in_seat, out_seat, whole_homes, whole_seats}
 use Rattle.materializer.specs.Files.{input_of, output_of}
 use Rattle.materializer.specs.Seats.{handle_of, IsWork, AreSeats}
-use Rattle.materializer.proofs.Placing.{reads_lines, maker_no_file, linear_no_file, state_no_file, fan_in_no_file, fan_out_no_file}
+use Rattle.materializer.proofs.Placing.{reads_lines, maker_no_file, linear_no_file, state_no_file, sub_no_file, fan_in_no_file, fan_out_no_file}
 use Rattle.island_ends.specs.Ends.{with_home, homes_left, leaves}
 use Rattle.island_ends.proofs.Behind.{homes_behind, no_more}
 use Rattle.island_ends.proofs.Leaving.{with_one, those, share_those}
@@ -75,6 +77,7 @@ module _ {S D L B : Type 0} where
   source_of (work.Making shape) = None
   source_of (work.Linear l) = None
   source_of (work.State l) = None
+  source_of (work.Sub l) = None
   source_of (work.FanIn l inputs) = None
   source_of (work.FanOut l outputs) = None
   source_of (work.Writing shape d) = None
@@ -86,6 +89,7 @@ module _ {S D L B : Type 0} where
   drain_of (work.Making shape) = None
   drain_of (work.Linear l) = None
   drain_of (work.State l) = None
+  drain_of (work.Sub l) = None
   drain_of (work.FanIn l inputs) = None
   drain_of (work.FanOut l outputs) = None
   drain_of (work.Writing shape d) = d
@@ -103,6 +107,7 @@ module _ {S D L B : Type 0} where
   source_first (work.Making shape) rest = refl
   source_first (work.Linear l) rest = refl
   source_first (work.State l) rest = refl
+  source_first (work.Sub l) rest = refl
   source_first (work.FanIn l inputs) rest = refl
   source_first (work.FanOut l outputs) rest = refl
   source_first (work.Writing shape d) rest = refl
@@ -114,6 +119,7 @@ module _ {S D L B : Type 0} where
   drain_first (work.Making shape) rest = refl
   drain_first (work.Linear l) rest = refl
   drain_first (work.State l) rest = refl
+  drain_first (work.Sub l) rest = refl
   drain_first (work.FanIn l inputs) rest = refl
   drain_first (work.FanOut l outputs) rest = refl
   drain_first (work.Writing shape (Some d)) rest = refl
@@ -154,41 +160,43 @@ module _ {S D L B : Type 0} where
   -- ---- the homes of handles
 
   -- a node has a source where it is a source of lines, and a drain where it is a sink with a file
-  reads_if : (k : ℕ) (n : Node) (ss : List S) (ds : List D) (w : Work S D L B) → IsWork k n ss ds w → leaves_in Readers n ≡ leaves (source_of w)
-  reads_if k n ss ds (work.Reading r) is = handle_some (input_of n.kind) ss r.source is.source
-  reads_if k n ss ds (work.Making shape) is = no_input IsMaker (λ _ i. i) n.kind is.is_maker
-  reads_if k n ss ds (work.Linear l) is = no_input IsLinear (λ _ i. i) n.kind is.is_linear
-  reads_if k n ss ds (work.State l) is = no_input IsStateful (λ _ i. i) n.kind is.is_state
-  reads_if k n ss ds (work.FanIn l inputs) is = no_input IsFanIn (λ _ i. i) n.kind is.is_in
-  reads_if k n ss ds (work.FanOut l outputs) is = no_input IsOut (λ _ i. i) n.kind is.is_out
-  reads_if k n ss ds (work.LaneIn u) is = absurd is
-  reads_if k n ss ds (work.LaneOut u) is = absurd is
-  reads_if k n ss ds (work.Writing shape (Some d)) is = no_input IsFileSink (λ _ i. i) n.kind is.is_sink
-  reads_if k n ss ds (work.Writing shape None) is = ap (λ q. is_some (input_of q)) is.is_ignore
+  reads_if : (chains : List graph.Chain) (k : ℕ) (n : Node) (ss : List S) (ds : List D) (w : Work S D L B) → IsWork chains k n ss ds w → leaves_in Readers n ≡ leaves (source_of w)
+  reads_if chains k n ss ds (work.Reading r) is = handle_some (input_of n.kind) ss r.source is.source
+  reads_if chains k n ss ds (work.Making shape) is = no_input IsMaker (λ _ i. i) n.kind is.is_maker
+  reads_if chains k n ss ds (work.Linear l) is = no_input IsLinear (λ _ i. i) n.kind is.is_linear
+  reads_if chains k n ss ds (work.State l) is = no_input IsStateful (λ _ i. i) n.kind is.is_state
+  reads_if chains k n ss ds (work.Sub l) is = no_input IsSub (λ _ i. i) n.kind is.is_sub
+  reads_if chains k n ss ds (work.FanIn l inputs) is = no_input IsFanIn (λ _ i. i) n.kind is.is_in
+  reads_if chains k n ss ds (work.FanOut l outputs) is = no_input IsOut (λ _ i. i) n.kind is.is_out
+  reads_if chains k n ss ds (work.LaneIn u) is = absurd is
+  reads_if chains k n ss ds (work.LaneOut u) is = absurd is
+  reads_if chains k n ss ds (work.Writing shape (Some d)) is = no_input IsFileSink (λ _ i. i) n.kind is.is_sink
+  reads_if chains k n ss ds (work.Writing shape None) is = ap (λ q. is_some (input_of q)) is.is_ignore
 
-  writes_if : (k : ℕ) (n : Node) (ss : List S) (ds : List D) (w : Work S D L B) → IsWork k n ss ds w → leaves_in Writers n ≡ leaves (drain_of w)
-  writes_if k n ss ds (work.Reading r) is = let l = reads_lines n.kind ss r.source is.source in ap (λ q. is_some (output_of q)) l.1
-  writes_if k n ss ds (work.Making shape) is = none_of _ (λ name e. maker_no_file n.kind name is.is_maker e)
-  writes_if k n ss ds (work.Linear l) is = none_of _ (λ name e. linear_no_file n.kind name is.is_linear e)
-  writes_if k n ss ds (work.State l) is = none_of _ (λ name e. state_no_file n.kind name is.is_state e)
-  writes_if k n ss ds (work.FanIn l inputs) is = none_of _ (λ name e. fan_in_no_file n.kind name is.is_in e)
-  writes_if k n ss ds (work.FanOut l outputs) is = none_of _ (λ name e. fan_out_no_file n.kind name is.is_out e)
-  writes_if k n ss ds (work.LaneIn u) is = absurd is
-  writes_if k n ss ds (work.LaneOut u) is = absurd is
-  writes_if k n ss ds (work.Writing shape (Some d)) is = handle_some (output_of n.kind) ds d is.next
-  writes_if k n ss ds (work.Writing shape None) is = ap (λ q. is_some (output_of q)) is.is_ignore
+  writes_if : (chains : List graph.Chain) (k : ℕ) (n : Node) (ss : List S) (ds : List D) (w : Work S D L B) → IsWork chains k n ss ds w → leaves_in Writers n ≡ leaves (drain_of w)
+  writes_if chains k n ss ds (work.Reading r) is = let l = reads_lines n.kind ss r.source is.source in ap (λ q. is_some (output_of q)) l.1
+  writes_if chains k n ss ds (work.Making shape) is = none_of _ (λ name e. maker_no_file n.kind name is.is_maker e)
+  writes_if chains k n ss ds (work.Linear l) is = none_of _ (λ name e. linear_no_file n.kind name is.is_linear e)
+  writes_if chains k n ss ds (work.State l) is = none_of _ (λ name e. state_no_file n.kind name is.is_state e)
+  writes_if chains k n ss ds (work.Sub l) is = none_of _ (λ name e. sub_no_file n.kind name is.is_sub e)
+  writes_if chains k n ss ds (work.FanIn l inputs) is = none_of _ (λ name e. fan_in_no_file n.kind name is.is_in e)
+  writes_if chains k n ss ds (work.FanOut l outputs) is = none_of _ (λ name e. fan_out_no_file n.kind name is.is_out e)
+  writes_if chains k n ss ds (work.LaneIn u) is = absurd is
+  writes_if chains k n ss ds (work.LaneOut u) is = absurd is
+  writes_if chains k n ss ds (work.Writing shape (Some d)) is = handle_some (output_of n.kind) ds d is.next
+  writes_if chains k n ss ds (work.Writing shape None) is = ap (λ q. is_some (output_of q)) is.is_ignore
 
   -- so what is told of the nodes of a blueprint holds of their places
-  pub source_homes : (k : ℕ) (ns : List Node) (ss : List S) (ds : List D) (ps : List (Seated S D L B)) (homes : List ℕ) → AreSeats k ns ss ds ps → homes_in Readers ns homes ≡ homes_left source_at homes ps
-  source_homes k [] ss ds [] homes a = sym (none_left source_at homes)
-  source_homes k [] ss ds (p ∷ ps) homes a = absurd a
-  source_homes k (n ∷ ns) ss ds [] homes a = absurd a
-  source_homes k (n ∷ ns) ss ds (p ∷ ps) [] a = refl
-  source_homes k (n ∷ ns) ss ds (p ∷ ps) (h ∷ homes) a = sym (one_home (source_at p) (leaves_in Readers n) h (homes_left source_at homes ps) (homes_in Readers ns homes) (reads_if k n ss ds p.work a.1.0) (sym (source_homes (k + 1) ns _ _ ps homes a.1.1)))
+  pub source_homes : (chains : List graph.Chain) (k : ℕ) (ns : List Node) (ss : List S) (ds : List D) (ps : List (Seated S D L B)) (homes : List ℕ) → AreSeats chains k ns ss ds ps → homes_in Readers ns homes ≡ homes_left source_at homes ps
+  source_homes chains k [] ss ds [] homes a = sym (none_left source_at homes)
+  source_homes chains k [] ss ds (p ∷ ps) homes a = absurd a
+  source_homes chains k (n ∷ ns) ss ds [] homes a = absurd a
+  source_homes chains k (n ∷ ns) ss ds (p ∷ ps) [] a = refl
+  source_homes chains k (n ∷ ns) ss ds (p ∷ ps) (h ∷ homes) a = sym (one_home (source_at p) (leaves_in Readers n) h (homes_left source_at homes ps) (homes_in Readers ns homes) (reads_if chains k n ss ds p.work a.1.0) (sym (source_homes chains (k + 1) ns _ _ ps homes a.1.1)))
 
-  pub drain_homes : (k : ℕ) (ns : List Node) (ss : List S) (ds : List D) (ps : List (Seated S D L B)) (homes : List ℕ) → AreSeats k ns ss ds ps → homes_in Writers ns homes ≡ homes_left drain_at homes ps
-  drain_homes k [] ss ds [] homes a = sym (none_left drain_at homes)
-  drain_homes k [] ss ds (p ∷ ps) homes a = absurd a
-  drain_homes k (n ∷ ns) ss ds [] homes a = absurd a
-  drain_homes k (n ∷ ns) ss ds (p ∷ ps) [] a = refl
-  drain_homes k (n ∷ ns) ss ds (p ∷ ps) (h ∷ homes) a = sym (one_home (drain_at p) (leaves_in Writers n) h (homes_left drain_at homes ps) (homes_in Writers ns homes) (writes_if k n ss ds p.work a.1.0) (sym (drain_homes (k + 1) ns _ _ ps homes a.1.1)))
+  pub drain_homes : (chains : List graph.Chain) (k : ℕ) (ns : List Node) (ss : List S) (ds : List D) (ps : List (Seated S D L B)) (homes : List ℕ) → AreSeats chains k ns ss ds ps → homes_in Writers ns homes ≡ homes_left drain_at homes ps
+  drain_homes chains k [] ss ds [] homes a = sym (none_left drain_at homes)
+  drain_homes chains k [] ss ds (p ∷ ps) homes a = absurd a
+  drain_homes chains k (n ∷ ns) ss ds [] homes a = absurd a
+  drain_homes chains k (n ∷ ns) ss ds (p ∷ ps) [] a = refl
+  drain_homes chains k (n ∷ ns) ss ds (p ∷ ps) (h ∷ homes) a = sym (one_home (drain_at p) (leaves_in Writers n) h (homes_left drain_at homes ps) (homes_in Writers ns homes) (writes_if chains k n ss ds p.work a.1.0) (sym (drain_homes chains (k + 1) ns _ _ ps homes a.1.1)))

@@ -29,7 +29,7 @@ use Rattle.traversal.specs.Plan.{lane_sized, lanes_from}
 use Rattle.traversal.specs.declared.plan.LanePlan.{LanePlan}
 use Rattle.island_parts.specs.Whole.{whole_links, whole_homes, whole_seats, own_links}
 use Rattle.scatter.specs.Shares.{of_home}
-use Rattle.materializer.specs.Graphs.{graph_of, node_of}
+use Rattle.materializer.specs.Graphs.{graph_of, node_of, chains_of}
 use Rattle.materializer.proofs.Fitting.{fit_joined}
 use Rattle.materializer.proofs.Joining.{both_none, none_here, not_when, mapped_from}
 use Rattle.materializer.proofs.Placing.{seats_count, seats_ports}
@@ -135,7 +135,7 @@ module _ {S D L B : Type 0} where
 
   module _ (b : Blueprint) (ss : List S) (ds : List D) (f : Filled S D L B) (is : IsFilled b ss ds f) where
     node_count : length is.nodes ≡ length b.nodes.items
-    node_count = seats_count 0 b.nodes.items ss ds is.nodes is.seats
+    node_count = seats_count (chains_of b) 0 b.nodes.items ss ds is.nodes is.seats
 
     pub seated : HasFewLinks b → AreSeated f.homes.items f.count (blueprint_wires b) is.nodes
     seated links = record {
@@ -152,10 +152,10 @@ module _ {S D L B : Type 0} where
       each_node = length-map b.nodes.items node_of ∙ sym node_count;
       ins_are = λ k n here.
           let m = mapped_from node_of b.nodes.items k n here in
-          (seats_ports 0 b.nodes.items ss ds is.nodes k m.0 is.seats m.1.0).0 ∙ ap (λ (x : graph.Node). inputs_of x.kind) m.1.1;
+          (seats_ports (chains_of b) 0 b.nodes.items ss ds is.nodes k m.0 is.seats m.1.0).0 ∙ ap (λ (x : graph.Node). inputs_of x.kind) m.1.1;
       outs_are = λ k n here.
           let m = mapped_from node_of b.nodes.items k n here in
-          (seats_ports 0 b.nodes.items ss ds is.nodes k m.0 is.seats m.1.0).1 ∙ ap (λ (x : graph.Node). outputs_of x.kind) m.1.1;
+          (seats_ports (chains_of b) 0 b.nodes.items ss ds is.nodes k m.0 is.seats m.1.0).1 ∙ ap (λ (x : graph.Node). outputs_of x.kind) m.1.1;
     }
 
     pub parts_are : (k : ℕ) (x : Parts S D L B × Room S D L B) → slice_get f.islands.items k ≡ Some x → ArePartsOf f.homes.items (blueprint_wires b) is.nodes k x.0

@@ -16,7 +16,7 @@ use Rattle.interpreter.specs.Ways.{is_lane_in, is_lane_out, comes_in, goes_out}
 use Rattle.interpreter.specs.declared.parts.Link.{Link}
 use Rattle.interpreter.specs.declared.parts.Seated.{Seated}
 use Rattle.interpreter.specs.declared.parts.Work.{Work}
-use Rattle.interpreter.specs.declared.parts.Work.TheVariants.{Reading, Making, Linear, State, FanIn, FanOut, Writing, LaneIn, LaneOut}
+use Rattle.interpreter.specs.declared.parts.Work.TheVariants.{Reading, Making, Linear, State, Sub, FanIn, FanOut, Writing, LaneIn, LaneOut}
 use Rattle.island_parts.proofs.Wiring.{end_get}
 use Rattle.island_seats.proofs.Becoming.{become_count}
 use Rattle.island_seats.proofs.Ports.{ins_count, outs_count}
@@ -43,6 +43,7 @@ module _ {S D L B : Type 0} where
   out_work (Making k) e = absurd cc
   out_work (Linear l) e = absurd cc
   out_work (State l) e = absurd cc
+  out_work (Sub l) e = absurd cc
   out_work (FanIn l n) e = absurd cc
   out_work (FanOut l n) e = absurd cc
   out_work (Writing k d) e = absurd cc
@@ -54,6 +55,7 @@ module _ {S D L B : Type 0} where
   in_work (Making k) e = absurd cc
   in_work (Linear l) e = absurd cc
   in_work (State l) e = absurd cc
+  in_work (Sub l) e = absurd cc
   in_work (FanIn l n) e = absurd cc
   in_work (FanOut l n) e = absurd cc
   in_work (Writing k d) e = absurd cc
@@ -65,6 +67,7 @@ module _ {S D L B : Type 0} where
   not_both (Making k) e f = cc
   not_both (Linear l) e f = cc
   not_both (State l) e f = cc
+  not_both (Sub l) e f = cc
   not_both (FanIn l n) e f = cc
   not_both (FanOut l n) e f = cc
   not_both (Writing k d) e f = cc

@@ -3,6 +3,7 @@ use Rattle.std.proofs.Common.{◌≡◌, ℕ, zero, suc, ◌+◌, ◌<◌, false
 use Rattle.std.specs.Prelude.{slice_get, is_none}
 use Rattle.std.proofs.lemmas.List.{length-map}
 use Rattle.std.proofs.lemmas.Option.{slice_get_within}
+use Rattle.stream_model.specs.Graph as graph
 use Rattle.stream_model.specs.Graph.{Wire}
 use Rattle.blue_core.specs.declared.blueprint.Blueprint.{Blueprint}
 use Rattle.blue_core.specs.declared.blueprint.Node.{Node}
@@ -18,8 +19,8 @@ use Rattle.interpreter.specs.declared.parts.Work.{Work}
 use Rattle.interpreter.specs.declared.parts.Work.TheVariants as work
 use Rattle.traversal.specs.Plan.{AreHomes}
 use Rattle.island_parts.specs.Whole.{AreNodes, KeepsInside}
-use Rattle.materializer.specs.Built.{CanRun}
-use Rattle.materializer.specs.Graphs.{graph_of, node_of, chain_of}
+use Rattle.materializer.specs.Fit.{CanRun}
+use Rattle.materializer.specs.Graphs.{graph_of, node_of, chains_of}
 use Rattle.materializer.specs.Planned.{places_from}
 use Rattle.materializer.specs.Seats.{IsWork, AreSeats}
 use Rattle.materializer.proofs.Fitting.{fit_joined}
@@ -56,36 +57,37 @@ places_count k (n ∷ ns) = ap suc (places_count (k + 1) ns)
 
 module _ {S D L B : Type 0} where
   -- a node of a blueprint is no end of a lane
-  no_end : (k : ℕ) (n : Node) (ss : List S) (ds : List D) (w : Work S D L B) → IsWork k n ss ds w → (is_lane_in w ≡ false) × (is_lane_out w ≡ false)
-  no_end k n ss ds (work.Reading r) is = (refl, refl)
-  no_end k n ss ds (work.Making shape) is = (refl, refl)
-  no_end k n ss ds (work.Linear l) is = (refl, refl)
-  no_end k n ss ds (work.State l) is = (refl, refl)
-  no_end k n ss ds (work.FanIn l inputs) is = (refl, refl)
-  no_end k n ss ds (work.FanOut l outputs) is = (refl, refl)
-  no_end k n ss ds (work.LaneIn u) is = absurd is
-  no_end k n ss ds (work.LaneOut u) is = absurd is
-  no_end k n ss ds (work.Writing shape (Some d)) is = (refl, refl)
-  no_end k n ss ds (work.Writing shape None) is = (refl, refl)
+  no_end : (chains : List graph.Chain) (k : ℕ) (n : Node) (ss : List S) (ds : List D) (w : Work S D L B) → IsWork chains k n ss ds w → (is_lane_in w ≡ false) × (is_lane_out w ≡ false)
+  no_end chains k n ss ds (work.Reading r) is = (refl, refl)
+  no_end chains k n ss ds (work.Making shape) is = (refl, refl)
+  no_end chains k n ss ds (work.Linear l) is = (refl, refl)
+  no_end chains k n ss ds (work.State l) is = (refl, refl)
+  no_end chains k n ss ds (work.Sub l) is = (refl, refl)
+  no_end chains k n ss ds (work.FanIn l inputs) is = (refl, refl)
+  no_end chains k n ss ds (work.FanOut l outputs) is = (refl, refl)
+  no_end chains k n ss ds (work.LaneIn u) is = absurd is
+  no_end chains k n ss ds (work.LaneOut u) is = absurd is
+  no_end chains k n ss ds (work.Writing shape (Some d)) is = (refl, refl)
+  no_end chains k n ss ds (work.Writing shape None) is = (refl, refl)
 
-  no_ends : (k : ℕ) (ns : List Node) (ss : List S) (ds : List D) (ps : List (Seated S D L B)) (j : ℕ) (p : Seated S D L B) → AreSeats k ns ss ds ps → slice_get ps j ≡ Some p → (is_lane_in p.work ≡ false) × (is_lane_out p.work ≡ false)
-  no_ends k [] ss ds [] j p a at = absurd cc
-  no_ends k [] ss ds (q ∷ ps) j p a at = absurd a
-  no_ends k (n ∷ ns) ss ds [] j p a at = absurd a
-  no_ends k (n ∷ ns) ss ds (q ∷ ps) zero p a at =
+  no_ends : (chains : List graph.Chain) (k : ℕ) (ns : List Node) (ss : List S) (ds : List D) (ps : List (Seated S D L B)) (j : ℕ) (p : Seated S D L B) → AreSeats chains k ns ss ds ps → slice_get ps j ≡ Some p → (is_lane_in p.work ≡ false) × (is_lane_out p.work ≡ false)
+  no_ends chains k [] ss ds [] j p a at = absurd cc
+  no_ends chains k [] ss ds (q ∷ ps) j p a at = absurd a
+  no_ends chains k (n ∷ ns) ss ds [] j p a at = absurd a
+  no_ends chains k (n ∷ ns) ss ds (q ∷ ps) zero p a at =
       let e : q ≡ p = cc in
-      subst (λ (x : Seated S D L B). (is_lane_in x.work ≡ false) × (is_lane_out x.work ≡ false)) e (no_end k n ss ds q.work a.1.0)
-  no_ends k (n ∷ ns) ss ds (q ∷ ps) (suc j) p a at = no_ends (k + 1) ns _ _ ps j p a.1.1 at
+      subst (λ (x : Seated S D L B). (is_lane_in x.work ≡ false) × (is_lane_out x.work ≡ false)) e (no_end chains k n ss ds q.work a.1.0)
+  no_ends chains k (n ∷ ns) ss ds (q ∷ ps) (suc j) p a at = no_ends chains (k + 1) ns _ _ ps j p a.1.1 at
 
   -- the wires of a blueprint join every port of its nodes
-  pub are_nodes : (b : Blueprint) (ss : List S) (ds : List D) (nodes : List (Seated S D L B)) → CanRun b → AreSeats 0 b.nodes.items ss ds nodes → AreNodes (blueprint_wires b) nodes
+  pub are_nodes : (b : Blueprint) (ss : List S) (ds : List D) (nodes : List (Seated S D L B)) → CanRun b → AreSeats (chains_of b) 0 b.nodes.items ss ds nodes → AreNodes (blueprint_wires b) nodes
   are_nodes b ss ds nodes r a =
       let ws = blueprint_wires b in
       record {
-        no_ends = λ k p at. no_ends 0 b.nodes.items ss ds nodes k p a at;
-        unused = seats_unused 0 b.nodes.items ss ds nodes a;
+        no_ends = λ k p at. no_ends (chains_of b) 0 b.nodes.items ss ds nodes k p a at;
+        unused = seats_unused (chains_of b) 0 b.nodes.items ss ds nodes a;
         ends = map wire_ends ws;
-        wiring = wiring b.nodes.items ws (map chain_of b.chains.items) ss ds nodes (fit_joined b r.plugs r.taken r.fit) a;
+        wiring = wiring b.nodes.items ws (chains_of b) ss ds nodes (fit_joined b r.plugs r.taken r.fit) a;
         each_wire = length-map ws wire_ends;
         ends_are = λ i v at. ends_at ws i v at;
       }

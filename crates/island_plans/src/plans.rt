@@ -1,7 +1,7 @@
 // The plans of a blueprint's islands, and their parts.
 ghost use Rattle.std.specs.List.{All};
 ghost use Rattle.std.specs.Prelude.{◌≡◌, ◌+◌, IfOk, length, map, vec_len};
-ghost use Rattle.materializer.specs.Built.{CanRun};
+ghost use Rattle.materializer.specs.Fit.{CanRun};
 ghost use Rattle.materializer.specs.Files.{inputs_of_nodes, outputs_of_nodes};
 ghost use Rattle.island_plans.specs.Plans.{IsPlans, IsFilled};
 ghost use Rattle.plug_board.specs.Handed.{GivesAsListed, HasPlugs};
@@ -105,7 +105,8 @@ pub fn plans_of<S: Source, D: Drain, L: Logic, B: PlugBook>(
     let split = split_of(alloc, nodes, &wires, own, count, &lanes)?;
     let (board, switches) = Board::of(alloc, &b.nodes)?;
     let handed = hand_out::<L, B>(alloc, &b.nodes, plugs)?;
-    let seats = seat_all(alloc, b.nodes, switches, handed)?;
+    let unseated = b.nodes;
+    let seats = seat_all(alloc, &b.chains, unseated, switches, handed)?;
     let places = Vec::with_capacity(alloc, all_places(seats.len(), lanes.len())?)?;
     Ok(Plans {
         seats,

@@ -1,6 +1,7 @@
 -- The works of seats, with their handles; and how many handles the seats of a blueprint want.
 use Rattle.std.proofs.Common.{◌≡◌, ℕ, ◌+◌, List, [], ◌∷◌, length, map, Some, None, refl, ap, ◌∙◌, arith, Option}
 use Rattle.std.specs.List.{cons_option}
+use Rattle.stream_model.specs.Graph as graph
 use Rattle.stream_model.specs.declared.kind.Kind.{Kind}
 use Rattle.stream_model.specs.declared.kind.Kind.TheVariants as kind
 use Rattle.stream_model.specs.Composed.{inputs_of}
@@ -8,6 +9,7 @@ use Rattle.stream_picture.specs.View.{outputs_of}
 use Rattle.nodes.specs.Kinds.{IsFileSink, IsMaker}
 use Rattle.stage_linear.specs.States.{IsLinear}
 use Rattle.stage_state.specs.Logics.{IsStateful}
+use Rattle.stage_sub.specs.Handling.{IsSub}
 use Rattle.stage_in.specs.Logics.{IsFanIn}
 use Rattle.stage_out.specs.OutLogics.{IsOut}
 use Rattle.interpreter.specs.declared.parts.Place.{Place}
@@ -23,7 +25,7 @@ use Rattle.materializer.specs.Planned.{IsPlanned, ArePlanned, reads, writes, rea
 use Rattle.materializer.specs.declared.seats.Planned.{Planned}
 use Rattle.materializer.specs.declared.seats.Planned.TheVariants.{Reads, Writes, Works}
 use Rattle.materializer.specs.declared.seats.Seat.{Seat}
-use Rattle.materializer.proofs.Placing.{reads_lines, work_ports, maker_no_file, linear_no_file, state_no_file, fan_in_no_file, fan_out_no_file}
+use Rattle.materializer.proofs.Placing.{reads_lines, work_ports, maker_no_file, linear_no_file, state_no_file, sub_no_file, fan_in_no_file, fan_out_no_file}
 
 -- a sink with a file writes it, and reads none
 sink_file : (k : Kind) → IsFileSink k → (name : List ℕ) × ((output_of k ≡ Some name) × (input_of k ≡ None))
@@ -40,37 +42,37 @@ no_file : (o : Option (List ℕ)) (names : List (List ℕ)) (m : ℕ) → o ≡ 
 no_file o names m e h = let size : length (cons_option o names) ≡ length names = ap (λ p. length (cons_option p names)) e in omega (arith, size, h)
 
 module _ {S D L B : Type 0} where
-  reads_here : (k : ℕ) (n : Node) (q : Planned S D L B) (names : List (List ℕ)) (m : ℕ) → IsPlanned k n q → m ≡ length names → reads q + m ≡ length (cons_option (input_of n.kind) names)
-  reads_here k n Reads names m p h = one_file (input_of n.kind) p.file names m (ap input_of p.kind_is) h
-  reads_here k n (Writes shape) names m p h = no_file (input_of n.kind) names m (sink_file n.kind p.is_sink).1.1 h
-  reads_here k n (Works w) names m p h = no_file (input_of n.kind) names m p.no_input h
+  reads_here : (chains : List graph.Chain) (k : ℕ) (n : Node) (q : Planned S D L B) (names : List (List ℕ)) (m : ℕ) → IsPlanned chains k n q → m ≡ length names → reads q + m ≡ length (cons_option (input_of n.kind) names)
+  reads_here chains k n Reads names m p h = one_file (input_of n.kind) p.file names m (ap input_of p.kind_is) h
+  reads_here chains k n (Writes shape) names m p h = no_file (input_of n.kind) names m (sink_file n.kind p.is_sink).1.1 h
+  reads_here chains k n (Works w) names m p h = no_file (input_of n.kind) names m p.no_input h
 
-  writes_here : (k : ℕ) (n : Node) (q : Planned S D L B) (names : List (List ℕ)) (m : ℕ) → IsPlanned k n q → m ≡ length names → writes q + m ≡ length (cons_option (output_of n.kind) names)
-  writes_here k n Reads names m p h = no_file (output_of n.kind) names m (ap output_of p.kind_is) h
-  writes_here k n (Writes shape) names m p h = let f = sink_file n.kind p.is_sink in one_file (output_of n.kind) f.0 names m f.1.0 h
-  writes_here k n (Works w) names m p h = no_file (output_of n.kind) names m p.no_output h
+  writes_here : (chains : List graph.Chain) (k : ℕ) (n : Node) (q : Planned S D L B) (names : List (List ℕ)) (m : ℕ) → IsPlanned chains k n q → m ≡ length names → writes q + m ≡ length (cons_option (output_of n.kind) names)
+  writes_here chains k n Reads names m p h = no_file (output_of n.kind) names m (ap output_of p.kind_is) h
+  writes_here chains k n (Writes shape) names m p h = let f = sink_file n.kind p.is_sink in one_file (output_of n.kind) f.0 names m f.1.0 h
+  writes_here chains k n (Works w) names m p h = no_file (output_of n.kind) names m p.no_output h
 
-  pub reads_all : (k : ℕ) (ns : List Node) (seats : List (Seat S D L B)) → ArePlanned k ns seats → reads_in seats ≡ length (inputs_of_nodes ns)
-  reads_all k [] [] h = refl
-  reads_all k [] (s ∷ ss) h = absurd h
-  reads_all k (n ∷ ns) [] h = absurd h
-  reads_all k (n ∷ ns) (s ∷ ss) h = reads_here k n s.planned (inputs_of_nodes ns) (reads_in ss) h.0.planned (reads_all (k + 1) ns ss h.1)
+  pub reads_all : (chains : List graph.Chain) (k : ℕ) (ns : List Node) (seats : List (Seat S D L B)) → ArePlanned chains k ns seats → reads_in seats ≡ length (inputs_of_nodes ns)
+  reads_all chains k [] [] h = refl
+  reads_all chains k [] (s ∷ ss) h = absurd h
+  reads_all chains k (n ∷ ns) [] h = absurd h
+  reads_all chains k (n ∷ ns) (s ∷ ss) h = reads_here chains k n s.planned (inputs_of_nodes ns) (reads_in ss) h.0.planned (reads_all chains (k + 1) ns ss h.1)
 
-  pub writes_all : (k : ℕ) (ns : List Node) (seats : List (Seat S D L B)) → ArePlanned k ns seats → writes_in seats ≡ length (outputs_of_nodes ns)
-  writes_all k [] [] h = refl
-  writes_all k [] (s ∷ ss) h = absurd h
-  writes_all k (n ∷ ns) [] h = absurd h
-  writes_all k (n ∷ ns) (s ∷ ss) h = writes_here k n s.planned (outputs_of_nodes ns) (writes_in ss) h.0.planned (writes_all (k + 1) ns ss h.1)
+  pub writes_all : (chains : List graph.Chain) (k : ℕ) (ns : List Node) (seats : List (Seat S D L B)) → ArePlanned chains k ns seats → writes_in seats ≡ length (outputs_of_nodes ns)
+  writes_all chains k [] [] h = refl
+  writes_all chains k [] (s ∷ ss) h = absurd h
+  writes_all chains k (n ∷ ns) [] h = absurd h
+  writes_all chains k (n ∷ ns) (s ∷ ss) h = writes_here chains k n s.planned (outputs_of_nodes ns) (writes_in ss) h.0.planned (writes_all chains (k + 1) ns ss h.1)
 
   -- the places of the works are those of the nodes
-  pub places_same : (k : ℕ) (ns : List Node) (ss : List S) (ds : List D) (ps : List (Seated S D L B)) → AreSeats k ns ss ds ps → map place_of ps ≡ places_from k ns
-  places_same k [] ss ds [] h = refl
-  places_same k [] ss ds (p ∷ ps) h = absurd h
-  places_same k (n ∷ ns) ss ds [] h = absurd h
-  places_same k (n ∷ ns) ss ds (p ∷ ps) h =
-      let w = work_ports k n ss ds p.work h.1.0 in
+  pub places_same : (chains : List graph.Chain) (k : ℕ) (ns : List Node) (ss : List S) (ds : List D) (ps : List (Seated S D L B)) → AreSeats chains k ns ss ds ps → map place_of ps ≡ places_from k ns
+  places_same chains k [] ss ds [] h = refl
+  places_same chains k [] ss ds (p ∷ ps) h = absurd h
+  places_same chains k (n ∷ ns) ss ds [] h = absurd h
+  places_same chains k (n ∷ ns) ss ds (p ∷ ps) h =
+      let w = work_ports chains k n ss ds p.work h.1.0 in
       let here : place_of p ≡ record { node = k; inputs = inputs_of n.kind; outputs = outputs_of n.kind } = rw (h.0, w.0, w.1) refl in
-      ap (λ (q : Place). q ∷ map place_of ps) here ∙ ap (λ (l : List Place). record { node = k; inputs = inputs_of n.kind; outputs = outputs_of n.kind } ∷ l) (places_same (k + 1) ns _ _ ps h.1.1)
+      ap (λ (q : Place). q ∷ map place_of ps) here ∙ ap (λ (l : List Place). record { node = k; inputs = inputs_of n.kind; outputs = outputs_of n.kind } ∷ l) (places_same chains (k + 1) ns _ _ ps h.1.1)
 
 -- ---- all handles stand in the places
 
@@ -97,42 +99,44 @@ none_of None h = refl
 none_of (Some name) h = absurd (h name refl)
 
 module _ {S D L B : Type 0} where
-  source_in : (k : ℕ) (n : Node) (ss : List S) (ds : List D) (w : Work S D L B) (names : List (List ℕ)) (rest : List S) → IsWork k n ss ds w → (length (handles_left (input_of n.kind) ss) ≡ length names → rest ≡ handles_left (input_of n.kind) ss) → length ss ≡ length (cons_option (input_of n.kind) names)
+  source_in : (chains : List graph.Chain) (k : ℕ) (n : Node) (ss : List S) (ds : List D) (w : Work S D L B) (names : List (List ℕ)) (rest : List S) → IsWork chains k n ss ds w → (length (handles_left (input_of n.kind) ss) ≡ length names → rest ≡ handles_left (input_of n.kind) ss) → length ss ≡ length (cons_option (input_of n.kind) names)
       → with_source w rest ≡ ss
-  source_in k n ss ds (work.Reading r) names rest is so count = let l = reads_lines n.kind ss r.source is.source in all_next (input_of n.kind) l.0 names ss r.source rest (ap input_of l.1) is.source so count
-  source_in k n ss ds (work.Making shape) names rest is so count = all_left (input_of n.kind) names ss rest (no_input IsMaker (λ _ i. i) n.kind is.is_maker) so count
-  source_in k n ss ds (work.Linear l) names rest is so count = all_left (input_of n.kind) names ss rest (no_input IsLinear (λ _ i. i) n.kind is.is_linear) so count
-  source_in k n ss ds (work.State l) names rest is so count = all_left (input_of n.kind) names ss rest (no_input IsStateful (λ _ i. i) n.kind is.is_state) so count
-  source_in k n ss ds (work.FanIn l m) names rest is so count = all_left (input_of n.kind) names ss rest (no_input IsFanIn (λ _ i. i) n.kind is.is_in) so count
-  source_in k n ss ds (work.FanOut l m) names rest is so count = all_left (input_of n.kind) names ss rest (no_input IsOut (λ _ i. i) n.kind is.is_out) so count
-  source_in k n ss ds (work.LaneIn u) names rest is so count = absurd is
-  source_in k n ss ds (work.LaneOut u) names rest is so count = absurd is
-  source_in k n ss ds (work.Writing shape (Some d)) names rest is so count = all_left (input_of n.kind) names ss rest (no_input IsFileSink (λ _ i. i) n.kind is.is_sink) so count
-  source_in k n ss ds (work.Writing shape None) names rest is so count = all_left (input_of n.kind) names ss rest (ap input_of is.is_ignore) so count
+  source_in chains k n ss ds (work.Reading r) names rest is so count = let l = reads_lines n.kind ss r.source is.source in all_next (input_of n.kind) l.0 names ss r.source rest (ap input_of l.1) is.source so count
+  source_in chains k n ss ds (work.Making shape) names rest is so count = all_left (input_of n.kind) names ss rest (no_input IsMaker (λ _ i. i) n.kind is.is_maker) so count
+  source_in chains k n ss ds (work.Linear l) names rest is so count = all_left (input_of n.kind) names ss rest (no_input IsLinear (λ _ i. i) n.kind is.is_linear) so count
+  source_in chains k n ss ds (work.State l) names rest is so count = all_left (input_of n.kind) names ss rest (no_input IsStateful (λ _ i. i) n.kind is.is_state) so count
+  source_in chains k n ss ds (work.Sub l) names rest is so count = all_left (input_of n.kind) names ss rest (no_input IsSub (λ _ i. i) n.kind is.is_sub) so count
+  source_in chains k n ss ds (work.FanIn l m) names rest is so count = all_left (input_of n.kind) names ss rest (no_input IsFanIn (λ _ i. i) n.kind is.is_in) so count
+  source_in chains k n ss ds (work.FanOut l m) names rest is so count = all_left (input_of n.kind) names ss rest (no_input IsOut (λ _ i. i) n.kind is.is_out) so count
+  source_in chains k n ss ds (work.LaneIn u) names rest is so count = absurd is
+  source_in chains k n ss ds (work.LaneOut u) names rest is so count = absurd is
+  source_in chains k n ss ds (work.Writing shape (Some d)) names rest is so count = all_left (input_of n.kind) names ss rest (no_input IsFileSink (λ _ i. i) n.kind is.is_sink) so count
+  source_in chains k n ss ds (work.Writing shape None) names rest is so count = all_left (input_of n.kind) names ss rest (ap input_of is.is_ignore) so count
 
-  pub all_sources : (k : ℕ) (ns : List Node) (ss : List S) (ds : List D) (ps : List (Seated S D L B)) → AreSeats k ns ss ds ps → length ss ≡ length (inputs_of_nodes ns) → sources_in ps ≡ ss
-  all_sources k [] [] ds [] h count = refl
-  all_sources k [] (s ∷ ss) ds [] h count = absurd (omega (arith, count))
-  all_sources k [] ss ds (p ∷ ps) h count = absurd h
-  all_sources k (n ∷ ns) ss ds [] h count = absurd h
-  all_sources k (n ∷ ns) ss ds (p ∷ ps) h count = source_in k n ss ds p.work (inputs_of_nodes ns) (sources_in ps) h.1.0 (λ e. all_sources (k + 1) ns _ _ ps h.1.1 e) count
+  pub all_sources : (chains : List graph.Chain) (k : ℕ) (ns : List Node) (ss : List S) (ds : List D) (ps : List (Seated S D L B)) → AreSeats chains k ns ss ds ps → length ss ≡ length (inputs_of_nodes ns) → sources_in ps ≡ ss
+  all_sources chains k [] [] ds [] h count = refl
+  all_sources chains k [] (s ∷ ss) ds [] h count = absurd (omega (arith, count))
+  all_sources chains k [] ss ds (p ∷ ps) h count = absurd h
+  all_sources chains k (n ∷ ns) ss ds [] h count = absurd h
+  all_sources chains k (n ∷ ns) ss ds (p ∷ ps) h count = source_in chains k n ss ds p.work (inputs_of_nodes ns) (sources_in ps) h.1.0 (λ e. all_sources chains (k + 1) ns _ _ ps h.1.1 e) count
 
-  drain_in : (k : ℕ) (n : Node) (ss : List S) (ds : List D) (w : Work S D L B) (names : List (List ℕ)) (rest : List D) → IsWork k n ss ds w → (length (handles_left (output_of n.kind) ds) ≡ length names → rest ≡ handles_left (output_of n.kind) ds) → length ds ≡ length (cons_option (output_of n.kind) names)
+  drain_in : (chains : List graph.Chain) (k : ℕ) (n : Node) (ss : List S) (ds : List D) (w : Work S D L B) (names : List (List ℕ)) (rest : List D) → IsWork chains k n ss ds w → (length (handles_left (output_of n.kind) ds) ≡ length names → rest ≡ handles_left (output_of n.kind) ds) → length ds ≡ length (cons_option (output_of n.kind) names)
       → with_drain w rest ≡ ds
-  drain_in k n ss ds (work.Reading r) names rest is so count = let l = reads_lines n.kind ss r.source is.source in all_left (output_of n.kind) names ds rest (ap output_of l.1) so count
-  drain_in k n ss ds (work.Making shape) names rest is so count = all_left (output_of n.kind) names ds rest (none_of _ (λ name e. maker_no_file n.kind name is.is_maker e)) so count
-  drain_in k n ss ds (work.Linear l) names rest is so count = all_left (output_of n.kind) names ds rest (none_of _ (λ name e. linear_no_file n.kind name is.is_linear e)) so count
-  drain_in k n ss ds (work.State l) names rest is so count = all_left (output_of n.kind) names ds rest (none_of _ (λ name e. state_no_file n.kind name is.is_state e)) so count
-  drain_in k n ss ds (work.FanIn l m) names rest is so count = all_left (output_of n.kind) names ds rest (none_of _ (λ name e. fan_in_no_file n.kind name is.is_in e)) so count
-  drain_in k n ss ds (work.FanOut l m) names rest is so count = all_left (output_of n.kind) names ds rest (none_of _ (λ name e. fan_out_no_file n.kind name is.is_out e)) so count
-  drain_in k n ss ds (work.LaneIn u) names rest is so count = absurd is
-  drain_in k n ss ds (work.LaneOut u) names rest is so count = absurd is
-  drain_in k n ss ds (work.Writing shape (Some d)) names rest is so count = let f = sink_file n.kind is.is_sink in all_next (output_of n.kind) f.0 names ds d rest f.1.0 is.next so count
-  drain_in k n ss ds (work.Writing shape None) names rest is so count = all_left (output_of n.kind) names ds rest (ap output_of is.is_ignore) so count
+  drain_in chains k n ss ds (work.Reading r) names rest is so count = let l = reads_lines n.kind ss r.source is.source in all_left (output_of n.kind) names ds rest (ap output_of l.1) so count
+  drain_in chains k n ss ds (work.Making shape) names rest is so count = all_left (output_of n.kind) names ds rest (none_of _ (λ name e. maker_no_file n.kind name is.is_maker e)) so count
+  drain_in chains k n ss ds (work.Linear l) names rest is so count = all_left (output_of n.kind) names ds rest (none_of _ (λ name e. linear_no_file n.kind name is.is_linear e)) so count
+  drain_in chains k n ss ds (work.State l) names rest is so count = all_left (output_of n.kind) names ds rest (none_of _ (λ name e. state_no_file n.kind name is.is_state e)) so count
+  drain_in chains k n ss ds (work.Sub l) names rest is so count = all_left (output_of n.kind) names ds rest (none_of _ (λ name e. sub_no_file n.kind name is.is_sub e)) so count
+  drain_in chains k n ss ds (work.FanIn l m) names rest is so count = all_left (output_of n.kind) names ds rest (none_of _ (λ name e. fan_in_no_file n.kind name is.is_in e)) so count
+  drain_in chains k n ss ds (work.FanOut l m) names rest is so count = all_left (output_of n.kind) names ds rest (none_of _ (λ name e. fan_out_no_file n.kind name is.is_out e)) so count
+  drain_in chains k n ss ds (work.LaneIn u) names rest is so count = absurd is
+  drain_in chains k n ss ds (work.LaneOut u) names rest is so count = absurd is
+  drain_in chains k n ss ds (work.Writing shape (Some d)) names rest is so count = let f = sink_file n.kind is.is_sink in all_next (output_of n.kind) f.0 names ds d rest f.1.0 is.next so count
+  drain_in chains k n ss ds (work.Writing shape None) names rest is so count = all_left (output_of n.kind) names ds rest (ap output_of is.is_ignore) so count
 
-  pub all_drains : (k : ℕ) (ns : List Node) (ss : List S) (ds : List D) (ps : List (Seated S D L B)) → AreSeats k ns ss ds ps → length ds ≡ length (outputs_of_nodes ns) → drains_in ps ≡ ds
-  all_drains k [] ss [] [] h count = refl
-  all_drains k [] ss (d ∷ ds) [] h count = absurd (omega (arith, count))
-  all_drains k [] ss ds (p ∷ ps) h count = absurd h
-  all_drains k (n ∷ ns) ss ds [] h count = absurd h
-  all_drains k (n ∷ ns) ss ds (p ∷ ps) h count = drain_in k n ss ds p.work (outputs_of_nodes ns) (drains_in ps) h.1.0 (λ e. all_drains (k + 1) ns _ _ ps h.1.1 e) count
+  pub all_drains : (chains : List graph.Chain) (k : ℕ) (ns : List Node) (ss : List S) (ds : List D) (ps : List (Seated S D L B)) → AreSeats chains k ns ss ds ps → length ds ≡ length (outputs_of_nodes ns) → drains_in ps ≡ ds
+  all_drains chains k [] ss [] [] h count = refl
+  all_drains chains k [] ss (d ∷ ds) [] h count = absurd (omega (arith, count))
+  all_drains chains k [] ss ds (p ∷ ps) h count = absurd h
+  all_drains chains k (n ∷ ns) ss ds [] h count = absurd h
+  all_drains chains k (n ∷ ns) ss ds (p ∷ ps) h count = drain_in chains k n ss ds p.work (outputs_of_nodes ns) (drains_in ps) h.1.0 (λ e. all_drains chains (k + 1) ns _ _ ps h.1.1 e) count

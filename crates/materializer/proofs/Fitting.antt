@@ -1,4 +1,4 @@
--- What a blueprint that breaks no rule, and of which all has been built, tells of its ports, its kinds and its wires.
+-- What a blueprint that breaks no rule tells of its ports, its kinds and its wires.
 use Rattle.std.proofs.Common.{◌≡◌, ℕ, ◌+◌, ◌<◌, ◌^◌, Bool, true, false, not, ◌&&◌, List, [], ◌∷◌, map, Option, Some, None, refl, ap, sym, ◌∙◌, arith}
 use Rattle.std.specs.Prelude.{slice_get, nat_le}
 use Rattle.std.specs.List.{list_all, All}
@@ -23,7 +23,7 @@ use Rattle.blue_check.specs.Fitness.{open_fault, names_fault, ports_fault, plugs
 use Rattle.blue_check.specs.declared.fault.CheckFault.TheVariants as fault
 use Rattle.blue_check.specs.Wires.{blueprint_wires}
 use Rattle.plug_core.specs.declared.head.PlugHead.{PlugHead}
-use Rattle.materializer.specs.Built.{is_built, unbuilt_in, unbuilt_node, CanRun}
+use Rattle.materializer.specs.Fit.{CanRun}
 use Rattle.materializer.specs.Graphs.{graph_of, node_of, chain_of}
 use Rattle.stream_picture.specs.Joined.{IsJoined}
 use Rattle.blue_names.specs.declared.links.Link.{Link}
@@ -131,17 +131,6 @@ module _ (b : Blueprint) (plugs : List PlugHead) (taken : List (List ℕ)) (fit 
   pub few_link_ports : (ls : List Link) → wires_of_links ls ≡ blueprint_wires b → All (λ (l : Link). (l.output < 2 ^ 8) × (l.input < 2 ^ 8)) ls
   few_link_ports ls e = λ k d lt. few_ports k _ (ap (λ x. slice_get x k) (sym e) ∙ link_at_place ls k d lt)
 
--- ---- kinds that have been built
-
-all_built_from : (nodes : List Node) (i : ℕ) → first_from (λ k n. when (not (is_built n.kind)) k) i nodes ≡ None → list_all (λ n. is_built n.kind) nodes ≡ true
-all_built_from [] i h = refl
-all_built_from (n ∷ ns) i h =
-    let both = both_none _ _ h in
-    and_both (is_built n.kind) (list_all (λ m. is_built m.kind) ns) (not_true (is_built n.kind) (not_when _ i both.0)) (all_built_from ns (i + 1) both.1)
-
-pub all_built : (nodes : List Node) → unbuilt_in nodes ≡ None → list_all (λ n. is_built n.kind) nodes ≡ true
-all_built nodes h = all_built_from nodes 0 h
-
--- so a blueprint that breaks no rule, and of which no node is unbuilt, can be run
-pub can_run : (b : Blueprint) (plugs : List PlugHead) (taken : List (List ℕ)) → IsFit b plugs taken → unbuilt_node b ≡ None → CanRun b
-can_run b plugs taken fit none = record { plugs = plugs; taken = taken; fit = fit; built = all_built b.nodes.items none }
+-- so a blueprint that breaks no rule can be run
+pub can_run : (b : Blueprint) (plugs : List PlugHead) (taken : List (List ℕ)) → IsFit b plugs taken → CanRun b
+can_run b plugs taken fit = record { plugs = plugs; taken = taken; fit = fit }

@@ -57,7 +57,7 @@ at_port place port a b n (w ∷ ws) k h =
     (cases_Bool ((place w == a) && (port w == b)))
 
 module _ {S D L B : Type 0} (nodes : List Node) (ws : List Wire) (cs : List Chain) (ss : List S) (ds : List D) (places : List (Seated S D L B))
-    (j : IsJoined (record { nodes = map node_of nodes; wires = ws; chains = cs })) (a : AreSeats 0 nodes ss ds places) where
+    (j : IsJoined (record { nodes = map node_of nodes; wires = ws; chains = cs })) (a : AreSeats cs 0 nodes ss ds places) where
   abbrev ends : List Ends
   ends = map wire_ends ws
 
@@ -68,21 +68,21 @@ module _ {S D L B : Type 0} (nodes : List Node) (ws : List Wire) (cs : List Chai
   is_place k n at =
       let lt : k < length (map node_of nodes) = slice_get_within (map node_of nodes) k n at in
       let e : length (map node_of nodes) ≡ length nodes = length-map nodes node_of in
-      let c : length places ≡ length nodes = seats_count 0 nodes ss ds places a in
+      let c : length places ≡ length nodes = seats_count cs 0 nodes ss ds places a in
       omega (arith, lt, e, c)
 
   node_at : (k : ℕ) → k < length places → (n : Node) × (slice_get nodes k ≡ Some n)
-  node_at k h = let c : length places ≡ length nodes = seats_count 0 nodes ss ds places a in some_at nodes k (omega (arith, h, c))
+  node_at k h = let c : length places ≡ length nodes = seats_count cs 0 nodes ss ds places a in some_at nodes k (omega (arith, h, c))
 
   outputs_are : (k : ℕ) (n : graph.Node) → slice_get (map node_of nodes) k ≡ Some n → outputs_at places k ≡ outputs_of n.kind
   outputs_are k n at =
       let m = mapped_from node_of nodes k n at in
-      (seats_ports 0 nodes ss ds places k m.0 a m.1.0).1 ∙ ap (λ (x : graph.Node). outputs_of x.kind) m.1.1
+      (seats_ports cs 0 nodes ss ds places k m.0 a m.1.0).1 ∙ ap (λ (x : graph.Node). outputs_of x.kind) m.1.1
 
   inputs_are : (k : ℕ) (n : graph.Node) → slice_get (map node_of nodes) k ≡ Some n → inputs_at places k ≡ inputs_of n.kind
   inputs_are k n at =
       let m = mapped_from node_of nodes k n at in
-      (seats_ports 0 nodes ss ds places k m.0 a m.1.0).0 ∙ ap (λ (x : graph.Node). inputs_of x.kind) m.1.1
+      (seats_ports cs 0 nodes ss ds places k m.0 a m.1.0).0 ∙ ap (λ (x : graph.Node). inputs_of x.kind) m.1.1
 
   from_ok : (i : ℕ) (v : Wire) → slice_get ws i ≡ Some v → (v.from < length places) × (v.output < outputs_at places v.from)
   from_ok i v at =
@@ -144,14 +144,14 @@ module _ {S D L B : Type 0} (nodes : List Node) (ws : List Wire) (cs : List Chai
   -- each port has a wire
   a_source : (k p : ℕ) (n : Node) → slice_get nodes k ≡ Some n → p < outputs_at places k → (i : ℕ) × ((i < length ends) × (((end_at ends i).from ≡ k) × ((end_at ends i).output ≡ p)))
   a_source k p n at lt =
-      let o : outputs_at places k ≡ outputs_of n.kind = (seats_ports 0 nodes ss ds places k n a at).1 in
+      let o : outputs_at places k ≡ outputs_of n.kind = (seats_ports cs 0 nodes ss ds places k n a at).1 in
       let w = j.each_output k (node_of n) p (node_there k n at) (omega (arith, lt, o)) in
       let q = at_port (λ x. x.from) (λ x. x.output) k p 0 ws w.0 w.1 in
       (q.at, (in_ends q.at q.wire q.is, (from_is q.at q.wire q.is ∙ q.place_is, output_is q.at q.wire q.is ∙ q.port_is)))
 
   a_target : (k p : ℕ) (n : Node) → slice_get nodes k ≡ Some n → p < inputs_at places k → (i : ℕ) × ((i < length ends) × (((end_at ends i).to ≡ k) × ((end_at ends i).input ≡ p)))
   a_target k p n at lt =
-      let o : inputs_at places k ≡ inputs_of n.kind = (seats_ports 0 nodes ss ds places k n a at).0 in
+      let o : inputs_at places k ≡ inputs_of n.kind = (seats_ports cs 0 nodes ss ds places k n a at).0 in
       let w = j.each_input k (node_of n) p (node_there k n at) (omega (arith, lt, o)) in
       let q = at_port (λ x. x.to) (λ x. x.input) k p 0 ws w.0 w.1 in
       (q.at, (in_ends q.at q.wire q.is, (to_is q.at q.wire q.is ∙ q.place_is, input_is q.at q.wire q.is ∙ q.port_is)))

@@ -1,12 +1,14 @@
 -- The places of an island, by the nodes that got them.
 use Rattle.std.proofs.Common.{◌≡◌, ℕ, zero, suc, ◌+◌, List, [], ◌∷◌, length, Some, None, refl, ap, sym, ◌∙◌, subst}
 use Rattle.std.specs.Prelude.{slice_get}
+use Rattle.stream_model.specs.Graph as graph
 use Rattle.stream_model.specs.declared.kind.Kind.{Kind}
-use Rattle.stream_model.specs.declared.kind.Kind.TheVariants.{Lines, Range, Empty, Failed, Map, Filter, FilterNot, TakeWhile, DropWhile, Take, Drop, Limit, MapConcat, Plug, Grouped, Fold, Reduce, Scan, Buffer, RecoverNum, RecoverText, Valve, TripShutdown, TripAbort, Merge, Concat, Interleave, MergeSorted, Zip, Broadcast, Balance, Partition, Unzip, ToLines, Head, Last}
+use Rattle.stream_model.specs.declared.kind.Kind.TheVariants.{Lines, Range, Empty, Failed, Map, Filter, FilterNot, TakeWhile, DropWhile, Take, Drop, Limit, MapConcat, Plug, Grouped, Fold, Reduce, Scan, Buffer, RecoverNum, RecoverText, Valve, TripShutdown, TripAbort, GroupBy, SplitWhen, SplitAfter, Merge, Concat, Interleave, MergeSorted, Zip, Broadcast, Balance, Partition, Unzip, ToLines, Head, Last}
 use Rattle.stream_model.specs.Composed.{inputs_of}
 use Rattle.stream_picture.specs.View.{outputs_of}
-use Rattle.stage_linear.specs.States.{IsLinear}
+use Rattle.stage_linear.specs.States.{HasTask, IsLinear}
 use Rattle.stage_state.specs.Logics.{IsStateful}
+use Rattle.stage_sub.specs.Handling.{IsSub}
 use Rattle.stage_in.specs.Logics.{IsFanIn}
 use Rattle.stage_in.specs.Logics as fan_in
 use Rattle.stage_out.specs.Machines.{unasked_ports}
@@ -40,6 +42,19 @@ file_sink_ports (Head name) h = (refl, refl)
 file_sink_ports (Last name) h = (refl, refl)
 file_sink_ports _ h = absurd h
 
+-- a stage with a task is a linear one
+pub task_linear : (k : Kind) → HasTask k → IsLinear k
+task_linear (Map f) h = tt
+task_linear (Filter p) h = tt
+task_linear (FilterNot p) h = tt
+task_linear (TakeWhile p) h = tt
+task_linear (DropWhile p) h = tt
+task_linear (Take n) h = tt
+task_linear (Drop n) h = tt
+task_linear (Limit n) h = tt
+task_linear (MapConcat x) h = tt
+task_linear _ h = absurd h
+
 linear_ports : (k : Kind) → IsLinear k → (inputs_of k ≡ 1) × (outputs_of k ≡ 1)
 linear_ports (Map f) h = (refl, refl)
 linear_ports (Filter p) h = (refl, refl)
@@ -65,6 +80,12 @@ state_ports (Valve name) h = (refl, refl)
 state_ports (TripShutdown name n) h = (refl, refl)
 state_ports (TripAbort name n) h = (refl, refl)
 state_ports _ h = absurd h
+
+sub_ports : (k : Kind) → IsSub k → (inputs_of k ≡ 1) × (outputs_of k ≡ 1)
+sub_ports (GroupBy n f name) h = (refl, refl)
+sub_ports (SplitWhen p name j) h = (refl, refl)
+sub_ports (SplitAfter p name j) h = (refl, refl)
+sub_ports _ h = absurd h
 
 -- a stage with several inputs has those of its kind, and one output
 fan_in_ports : (k : Kind) → IsFanIn k → (inputs_of k ≡ fan_in.inputs_of k) × (outputs_of k ≡ 1)
@@ -99,6 +120,9 @@ linear_no_file k name h e = file_apart IsLinear (λ _ i. i) (λ _ i. i) (λ _ i.
 pub state_no_file : (k : Kind) (name : List ℕ) → IsStateful k → output_of k ≡ Some name → ⊥
 state_no_file k name h e = file_apart IsStateful (λ _ i. i) (λ _ i. i) (λ _ i. i) k name h e
 
+pub sub_no_file : (k : Kind) (name : List ℕ) → IsSub k → output_of k ≡ Some name → ⊥
+sub_no_file k name h e = file_apart IsSub (λ _ i. i) (λ _ i. i) (λ _ i. i) k name h e
+
 pub fan_in_no_file : (k : Kind) (name : List ℕ) → IsFanIn k → output_of k ≡ Some name → ⊥
 fan_in_no_file k name h e = file_apart IsFanIn (λ _ i. i) (λ _ i. i) (λ _ i. i) k name h e
 
@@ -108,56 +132,58 @@ fan_out_no_file k name h e = file_apart IsOut (λ _ i. i) (λ _ i. i) (λ _ i. i
 module _ {S D L B : Type 0} where
   -- ---- works
 
-  pub work_ports : (k : ℕ) (n : Node) (ss : List S) (ds : List D) (w : Work S D L B) → IsWork k n ss ds w → (work_inputs w ≡ inputs_of n.kind) × (work_outputs w ≡ outputs_of n.kind)
-  work_ports k n ss ds (work.Reading r) is = let l = reads_lines n.kind ss r.source is.source in (sym (ap inputs_of l.1), sym (ap outputs_of l.1))
-  work_ports k n ss ds (work.Making shape) is = let p = maker_ports n.kind is.is_maker in (sym p.0, sym p.1)
-  work_ports k n ss ds (work.Linear l) is = let p = linear_ports n.kind is.is_linear in (sym p.0, sym p.1)
-  work_ports k n ss ds (work.State l) is = let p = state_ports n.kind is.is_state in (sym p.0, sym p.1)
-  work_ports k n ss ds (work.FanIn l inputs) is = let p = fan_in_ports n.kind is.is_in in (is.inputs_are, sym p.1)
-  work_ports k n ss ds (work.FanOut l outputs) is = let p = fan_out_ports n.kind is.is_out in (sym p.0, is.outputs_are)
-  work_ports k n ss ds (work.LaneIn u) is = absurd is
-  work_ports k n ss ds (work.LaneOut u) is = absurd is
-  work_ports k n ss ds (work.Writing shape (Some d)) is = let p = file_sink_ports n.kind is.is_sink in (sym p.0, sym p.1)
-  work_ports k n ss ds (work.Writing shape None) is = (sym (ap inputs_of is.is_ignore), sym (ap outputs_of is.is_ignore))
+  pub work_ports : (chains : List graph.Chain) (k : ℕ) (n : Node) (ss : List S) (ds : List D) (w : Work S D L B) → IsWork chains k n ss ds w → (work_inputs w ≡ inputs_of n.kind) × (work_outputs w ≡ outputs_of n.kind)
+  work_ports chains k n ss ds (work.Reading r) is = let l = reads_lines n.kind ss r.source is.source in (sym (ap inputs_of l.1), sym (ap outputs_of l.1))
+  work_ports chains k n ss ds (work.Making shape) is = let p = maker_ports n.kind is.is_maker in (sym p.0, sym p.1)
+  work_ports chains k n ss ds (work.Linear l) is = let p = linear_ports n.kind is.is_linear in (sym p.0, sym p.1)
+  work_ports chains k n ss ds (work.State l) is = let p = state_ports n.kind is.is_state in (sym p.0, sym p.1)
+  work_ports chains k n ss ds (work.Sub l) is = let p = sub_ports n.kind is.is_sub in (sym p.0, sym p.1)
+  work_ports chains k n ss ds (work.FanIn l inputs) is = let p = fan_in_ports n.kind is.is_in in (is.inputs_are, sym p.1)
+  work_ports chains k n ss ds (work.FanOut l outputs) is = let p = fan_out_ports n.kind is.is_out in (sym p.0, is.outputs_are)
+  work_ports chains k n ss ds (work.LaneIn u) is = absurd is
+  work_ports chains k n ss ds (work.LaneOut u) is = absurd is
+  work_ports chains k n ss ds (work.Writing shape (Some d)) is = let p = file_sink_ports n.kind is.is_sink in (sym p.0, sym p.1)
+  work_ports chains k n ss ds (work.Writing shape None) is = (sym (ap inputs_of is.is_ignore), sym (ap outputs_of is.is_ignore))
 
-  work_unused : (k : ℕ) (n : Node) (ss : List S) (ds : List D) (w : Work S D L B) → IsWork k n ss ds w → IsUnused w
-  work_unused k n ss ds (work.Reading r) is = is.kept
-  work_unused k n ss ds (work.Making shape) is = subst IsMaker (sym is.shape_is) is.is_maker
-  work_unused k n ss ds (work.Linear l) is = let b = is.begins in record { phase = b.phase; row = rw b.phase b.ready }
-  work_unused k n ss ds (work.State l) is = is.begins.fresh
-  work_unused k n ss ds (work.FanIn l inputs) is =
+  work_unused : (chains : List graph.Chain) (k : ℕ) (n : Node) (ss : List S) (ds : List D) (w : Work S D L B) → IsWork chains k n ss ds w → IsUnused w
+  work_unused chains k n ss ds (work.Reading r) is = is.kept
+  work_unused chains k n ss ds (work.Making shape) is = subst IsMaker (sym is.shape_is) is.is_maker
+  work_unused chains k n ss ds (work.Linear l) is = let b = is.begins in record { phase = b.phase; row = rw b.phase b.ready }
+  work_unused chains k n ss ds (work.State l) is = is.begins.fresh
+  work_unused chains k n ss ds (work.Sub l) is = is.begins.fresh
+  work_unused chains k n ss ds (work.FanIn l inputs) is =
       let b = is.begins in
       let same : fan_in.inputs_of n.kind ≡ inputs = sym (is.inputs_are ∙ (fan_in_ports n.kind is.is_in).0) in
       record { fresh = b.fresh; row = subst (λ m. fan_in.row l (fan_in.unasked_ports m)) same b.ready }
-  work_unused k n ss ds (work.FanOut l outputs) is =
+  work_unused chains k n ss ds (work.FanOut l outputs) is =
       let b = is.begins in
       let same : fan_out.outputs_of n.kind ≡ outputs = sym (is.outputs_are ∙ (fan_out_ports n.kind is.is_out).1) in
       subst (λ m. OutFresh l (unasked_ports m)) same b.fresh
-  work_unused k n ss ds (work.LaneIn u) is = absurd is
-  work_unused k n ss ds (work.LaneOut u) is = absurd is
-  work_unused k n ss ds (work.Writing shape (Some d)) is = subst IsFileSink (sym is.shape_is) is.is_sink
-  work_unused k n ss ds (work.Writing shape None) is = is.shape_is ∙ is.is_ignore
+  work_unused chains k n ss ds (work.LaneIn u) is = absurd is
+  work_unused chains k n ss ds (work.LaneOut u) is = absurd is
+  work_unused chains k n ss ds (work.Writing shape (Some d)) is = subst IsFileSink (sym is.shape_is) is.is_sink
+  work_unused chains k n ss ds (work.Writing shape None) is = is.shape_is ∙ is.is_ignore
 
   -- ---- places
 
-  pub seats_count : (k : ℕ) (ns : List Node) (ss : List S) (ds : List D) (ps : List (Seated S D L B)) → AreSeats k ns ss ds ps → length ps ≡ length ns
-  seats_count k [] ss ds [] a = refl
-  seats_count k [] ss ds (p ∷ ps) a = absurd a
-  seats_count k (n ∷ ns) ss ds [] a = absurd a
-  seats_count k (n ∷ ns) ss ds (p ∷ ps) a = ap suc (seats_count (k + 1) ns _ _ ps a.1.1)
+  pub seats_count : (chains : List graph.Chain) (k : ℕ) (ns : List Node) (ss : List S) (ds : List D) (ps : List (Seated S D L B)) → AreSeats chains k ns ss ds ps → length ps ≡ length ns
+  seats_count chains k [] ss ds [] a = refl
+  seats_count chains k [] ss ds (p ∷ ps) a = absurd a
+  seats_count chains k (n ∷ ns) ss ds [] a = absurd a
+  seats_count chains k (n ∷ ns) ss ds (p ∷ ps) a = ap suc (seats_count chains (k + 1) ns _ _ ps a.1.1)
 
-  pub seats_unused : (k : ℕ) (ns : List Node) (ss : List S) (ds : List D) (ps : List (Seated S D L B)) → AreSeats k ns ss ds ps → AllUnused ps
-  seats_unused k [] ss ds [] a = tt
-  seats_unused k [] ss ds (p ∷ ps) a = absurd a
-  seats_unused k (n ∷ ns) ss ds [] a = absurd a
-  seats_unused k (n ∷ ns) ss ds (p ∷ ps) a = (work_unused k n ss ds p.work a.1.0, seats_unused (k + 1) ns _ _ ps a.1.1)
+  pub seats_unused : (chains : List graph.Chain) (k : ℕ) (ns : List Node) (ss : List S) (ds : List D) (ps : List (Seated S D L B)) → AreSeats chains k ns ss ds ps → AllUnused ps
+  seats_unused chains k [] ss ds [] a = tt
+  seats_unused chains k [] ss ds (p ∷ ps) a = absurd a
+  seats_unused chains k (n ∷ ns) ss ds [] a = absurd a
+  seats_unused chains k (n ∷ ns) ss ds (p ∷ ps) a = (work_unused chains k n ss ds p.work a.1.0, seats_unused chains (k + 1) ns _ _ ps a.1.1)
 
-  pub seats_ports : (k : ℕ) (ns : List Node) (ss : List S) (ds : List D) (ps : List (Seated S D L B)) (j : ℕ) (n : Node) → AreSeats k ns ss ds ps → slice_get ns j ≡ Some n
+  pub seats_ports : (chains : List graph.Chain) (k : ℕ) (ns : List Node) (ss : List S) (ds : List D) (ps : List (Seated S D L B)) (j : ℕ) (n : Node) → AreSeats chains k ns ss ds ps → slice_get ns j ≡ Some n
       → (inputs_at ps j ≡ inputs_of n.kind) × (outputs_at ps j ≡ outputs_of n.kind)
-  seats_ports k [] ss ds ps j n a at = absurd cc
-  seats_ports k (m ∷ ns) ss ds [] j n a at = absurd a
-  seats_ports k (m ∷ ns) ss ds (p ∷ ps) zero n a at =
+  seats_ports chains k [] ss ds ps j n a at = absurd cc
+  seats_ports chains k (m ∷ ns) ss ds [] j n a at = absurd a
+  seats_ports chains k (m ∷ ns) ss ds (p ∷ ps) zero n a at =
       let e : m ≡ n = cc in
-      let w = work_ports k m ss ds p.work a.1.0 in
+      let w = work_ports chains k m ss ds p.work a.1.0 in
       (w.0 ∙ ap (λ (x : Node). inputs_of x.kind) e, w.1 ∙ ap (λ (x : Node). outputs_of x.kind) e)
-  seats_ports k (m ∷ ns) ss ds (p ∷ ps) (suc j) n a at = seats_ports (k + 1) ns _ _ ps j n a.1.1 at
+  seats_ports chains k (m ∷ ns) ss ds (p ∷ ps) (suc j) n a at = seats_ports chains (k + 1) ns _ _ ps j n a.1.1 at

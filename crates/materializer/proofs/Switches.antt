@@ -4,6 +4,7 @@ use Rattle.std.proofs.lemmas.Bool.{and_parts}
 use Rattle.std.proofs.lemmas.Bool.Decides.{nat_tests}
 use Rattle.std.proofs.lemmas.List.{map-append}
 use Rattle.std.specs.Prelude.{nat_le}
+use Rattle.stream_model.specs.Graph as graph
 use Rattle.kill_core.specs.declared.end.SwitchEnd.{SwitchEnd}
 use Rattle.stream_model.specs.declared.kind.Kind.{Kind}
 use Rattle.stream_model.specs.declared.kind.Kind.TheVariants.{Valve, TripShutdown, TripAbort}
@@ -58,9 +59,9 @@ at_switch_writes_none (TripAbort name n) e h = refl
 at_switch_writes_none kind e h = absurd (none_some (sym h))
 
 -- what is to stand at the place of a node that is handed something
-pub plans_at_switch : {S D L B : Type 0} (k : ℕ) (kind : Kind) (d : Decider) (e : SwitchEnd) (w : Work S D L B) → IsHandedAt (switch_of kind) (Some e) → IsFreeWork k kind d w → (node : Node) → node.kind ≡ kind → node.decider ≡ d → IsPlanned k node (Works w)
-plans_at_switch k kind d e w h free node is same = record {
-  work = subst (λ x. IsFreeWork k x node.decider w) (sym is) (subst (λ x. IsFreeWork k kind x w) (sym same) free);
+pub plans_at_switch : {S D L B : Type 0} (chains : List graph.Chain) (k : ℕ) (kind : Kind) (d : Decider) (e : SwitchEnd) (w : Work S D L B) → IsHandedAt (switch_of kind) (Some e) → IsFreeWork chains k kind d w → (node : Node) → node.kind ≡ kind → node.decider ≡ d → IsPlanned chains k node (Works w)
+plans_at_switch chains k kind d e w h free node is same = record {
+  work = subst (λ x. IsFreeWork chains k x node.decider w) (sym is) (subst (λ x. IsFreeWork chains k kind x w) (sym same) free);
   no_input = ap input_of is ∙ at_switch_reads_none kind e h;
   no_output = ap output_of is ∙ at_switch_writes_none kind e h;
 }

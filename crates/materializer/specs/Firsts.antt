@@ -5,7 +5,7 @@ use Rattle.stream_io.specs.State.{SourceState}
 use Rattle.nodes.specs.declared.node.Node.{Node}
 use Rattle.run_laws.specs.Made.{FirstOf}
 
--- each of these nodes of a blueprint's graph stands at its place, as it is handed in
-pub record AreFirsts {S D L B : Type 0} (sources : S → SourceState) (nodes : List graph.Node) (firsts : List (Node S D L B)) : Type 0 where
+-- each of these nodes of a blueprint's graph, which has these chains, stands at its place, as it is handed in
+pub record AreFirsts {S D L B : Type 0} (sources : S → SourceState) (chains : List graph.Chain) (nodes : List graph.Node) (firsts : List (Node S D L B)) : Type 0 where
   pub many : length firsts ≡ length nodes
-  pub each : (k : ℕ) (n : graph.Node) (x : Node S D L B) → slice_get nodes k ≡ Some n → slice_get firsts k ≡ Some x → FirstOf sources k n x
+  pub each : (k : ℕ) (n : graph.Node) (x : Node S D L B) → slice_get nodes k ≡ Some n → slice_get firsts k ≡ Some x → FirstOf sources chains k n x

@@ -1,5 +1,5 @@
 pub mod Graphs
-pub mod Built
+pub mod Fit
 pub mod Files
 pub mod Seats
 pub mod Handed

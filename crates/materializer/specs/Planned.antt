@@ -1,6 +1,7 @@
 -- The nodes of a blueprint at their places, before its files are opened.
 use Rattle.std.specs.Prelude.{◌≡◌, ℕ, ◌+◌, List, [], ◌∷◌, Option, None, ⊤}
 use Rattle.kill_core.specs.Public.{SeatState}
+use Rattle.stream_model.specs.Graph as graph
 use Rattle.stream_model.specs.declared.kind.Kind.{Kind}
 use Rattle.stream_model.specs.declared.kind.Kind.TheVariants.{Lines}
 use Rattle.stream_model.specs.Composed.{inputs_of}
@@ -32,26 +33,26 @@ pub record PlansWriter (n : Node) (shape : Kind) : Type 0 where
   pub is_sink : IsFileSink n.kind
 
 -- a node without a file
-pub record PlansWork {S D L B : Type 0} (k : ℕ) (n : Node) (w : Work S D L B) : Type 0 where
-  pub work : IsFreeWork k n.kind n.decider w
+pub record PlansWork {S D L B : Type 0} (chains : List graph.Chain) (k : ℕ) (n : Node) (w : Work S D L B) : Type 0 where
+  pub work : IsFreeWork chains k n.kind n.decider w
   pub no_input : input_of n.kind ≡ None
   pub no_output : output_of n.kind ≡ None
 
--- what is to stand at the place of node k
-abbrev pub IsPlanned : {S D L B : Type 0} → ℕ → Node → Planned S D L B → Type 0
-IsPlanned k n Reads = PlansReader n
-IsPlanned k n (Writes shape) = PlansWriter n shape
-IsPlanned k n (Works w) = PlansWork k n w
+-- what is to stand at the place of node k, in a blueprint with these chains
+abbrev pub IsPlanned : {S D L B : Type 0} → List graph.Chain → ℕ → Node → Planned S D L B → Type 0
+IsPlanned chains k n Reads = PlansReader n
+IsPlanned chains k n (Writes shape) = PlansWriter n shape
+IsPlanned chains k n (Works w) = PlansWork chains k n w
 
-pub record IsSeat {S D L B : Type 0} (k : ℕ) (n : Node) (s : Seat S D L B) : Type 0 where
+pub record IsSeat {S D L B : Type 0} (chains : List graph.Chain) (k : ℕ) (n : Node) (s : Seat S D L B) : Type 0 where
   pub node : s.node ≡ k
-  pub planned : IsPlanned k n s.planned
+  pub planned : IsPlanned chains k n s.planned
 
 -- these nodes, of which the first is node k, each at its place
-abbrev pub ArePlanned : {S D L B : Type 0} → ℕ → List Node → List (Seat S D L B) → Type 0
-ArePlanned k [] [] = ⊤
-ArePlanned k (n ∷ ns) (s ∷ ss) = IsSeat k n s × ArePlanned (k + 1) ns ss
-ArePlanned k _ _ = ⊥
+abbrev pub ArePlanned : {S D L B : Type 0} → List graph.Chain → ℕ → List Node → List (Seat S D L B) → Type 0
+ArePlanned chains k [] [] = ⊤
+ArePlanned chains k (n ∷ ns) (s ∷ ss) = IsSeat chains k n s × ArePlanned chains (k + 1) ns ss
+ArePlanned chains k _ _ = ⊥
 
 -- how many sources and how many drains a seat takes
 abbrev pub reads : {S D L B : Type 0} → Planned S D L B → ℕ
@@ -73,14 +74,14 @@ writes_in [] = 0
 writes_in (s ∷ ss) = writes s.planned + writes_in ss
 
 -- whichever node the seat is for, it stands there with its handle, if it has a file, and leaves the other handles
-pub record FillsAs {S D L B : Type 0} (k : ℕ) (n : Node) (sources : List S) (drains : List D) (p : Seated S D L B) (later_sources : List S) (later_drains : List D) : Type 0 where
+pub record FillsAs {S D L B : Type 0} (chains : List graph.Chain) (k : ℕ) (n : Node) (sources : List S) (drains : List D) (p : Seated S D L B) (later_sources : List S) (later_drains : List D) : Type 0 where
   pub node : p.node ≡ k
-  pub work : IsWork k n sources drains p.work
+  pub work : IsWork chains k n sources drains p.work
   pub sources_left : later_sources ≡ handles_left (input_of n.kind) sources
   pub drains_left : later_drains ≡ handles_left (output_of n.kind) drains
 
-abbrev pub Fills : {S D L B : Type 0} → Seat S D L B → List S → List D → Seated S D L B → List S → List D → Type 0
-Fills s sources drains p later_sources later_drains = (k : ℕ) (n : Node) → IsSeat k n s → FillsAs k n sources drains p later_sources later_drains
+abbrev pub Fills : {S D L B : Type 0} → List graph.Chain → Seat S D L B → List S → List D → Seated S D L B → List S → List D → Type 0
+Fills chains s sources drains p later_sources later_drains = (k : ℕ) (n : Node) → IsSeat chains k n s → FillsAs chains k n sources drains p later_sources later_drains
 
 -- the seat at its switch that stands at a place, where it is that of a valve or a trip
 abbrev pub seat_of_plan : {S D L B : Type 0} → Planned S D L B → Option SeatState

@@ -3,6 +3,8 @@ use Rattle.std.specs.Prelude.{◌≡◌, ℕ, ◌+◌, List, [], ◌∷◌, slic
 use Rattle.elem_core.specs.declared.why.Decider.{Decider}
 use Rattle.stream_model.specs.declared.kind.Kind.{Kind}
 use Rattle.stream_model.specs.declared.kind.Kind.TheVariants.{Ignore}
+use Rattle.stream_model.specs.Graph as graph
+use Rattle.stream_model.specs.Graph.{steps_of}
 use Rattle.stream_model.specs.Composed.{inputs_of}
 use Rattle.stream_picture.specs.View.{outputs_of}
 use Rattle.stream_io.specs.Reading.{Reading}
@@ -12,6 +14,9 @@ use Rattle.stage_state.specs.declared.logic.StateLogic.{StateLogic}
 use Rattle.stage_state.specs.Logics.{IsStateful}
 use Rattle.stage_state.specs.Moves.{state_seat}
 use Rattle.stage_state.specs.Handling as state
+use Rattle.stage_sub.specs.States as subs
+use Rattle.stage_sub.specs.Handling as sub
+use Rattle.line_chain.specs.Line.{Line, line_rest, line_is_open, IsLine}
 use Rattle.stage_in.specs.declared.logic.InLogic.{InLogic}
 use Rattle.stage_in.specs.Logics.{IsFanIn}
 use Rattle.stage_in.specs.Logics as fan_in
@@ -19,6 +24,7 @@ use Rattle.stage_out.specs.declared.logic.OutLogic.{OutLogic}
 use Rattle.stage_out.specs.OutLogics.{IsOut}
 use Rattle.stage_out.specs.OutLogics as fan_out
 use Rattle.nodes.specs.Kinds.{IsMaker, IsFileSink}
+use Rattle.run_laws.specs.Made.{chain_name}
 use Rattle.interpreter.specs.declared.parts.Seated.{Seated}
 use Rattle.interpreter.specs.declared.parts.Work.{Work}
 use Rattle.interpreter.specs.declared.parts.Work.TheVariants as work
@@ -51,6 +57,12 @@ pub record StagesState (k : ℕ) (kind : Kind) (d : Decider) (l : StateLogic) : 
   pub is_state : IsStateful kind
   pub begins : state.Begins k kind d l
 
+-- a stage with substreams is at its start, and each of them goes through the chain that its kind names
+pub record StagesSub (chains : List graph.Chain) (k : ℕ) (kind : Kind) (l : subs.Logic Line) : Type 0 where
+  pub is_sub : sub.IsSub kind
+  pub begins : sub.Begins line_rest line_is_open k kind l.chain l
+  pub line : IsLine k (steps_of (chain_name kind) chains) l.chain
+
 -- a stage with several inputs is at its start, and has so many
 pub record StagesIn (k : ℕ) (kind : Kind) (d : Decider) (l : InLogic) (inputs : ℕ) : Type 0 where
   pub is_in : IsFanIn kind
@@ -79,28 +91,29 @@ pub record WritesNone (kind shape : Kind) : Type 0 where
   pub shape_is : shape ≡ kind
   pub is_ignore : kind ≡ Ignore
 
--- the work of node k of this kind, which has no file
-abbrev pub IsFreeWork : {S D L B : Type 0} → ℕ → Kind → Decider → Work S D L B → Type 0
-IsFreeWork k kind d (work.Making shape) = MakesAs kind shape
-IsFreeWork k kind d (work.Linear l) = Stages k kind d l
-IsFreeWork k kind d (work.State l) = StagesState k kind d l
-IsFreeWork k kind d (work.FanIn l inputs) = StagesIn k kind d l inputs
-IsFreeWork k kind d (work.FanOut l outputs) = StagesOut k kind l outputs
-IsFreeWork k kind d (work.Writing shape None) = WritesNone kind shape
-IsFreeWork k kind d _ = ⊥
+-- the work of node k of this kind, which has no file, in a blueprint with these chains
+abbrev pub IsFreeWork : {S D L B : Type 0} → List graph.Chain → ℕ → Kind → Decider → Work S D L B → Type 0
+IsFreeWork chains k kind d (work.Making shape) = MakesAs kind shape
+IsFreeWork chains k kind d (work.Linear l) = Stages k kind d l
+IsFreeWork chains k kind d (work.State l) = StagesState k kind d l
+IsFreeWork chains k kind d (work.Sub l) = StagesSub chains k kind l
+IsFreeWork chains k kind d (work.FanIn l inputs) = StagesIn k kind d l inputs
+IsFreeWork chains k kind d (work.FanOut l outputs) = StagesOut k kind l outputs
+IsFreeWork chains k kind d (work.Writing shape None) = WritesNone kind shape
+IsFreeWork chains k kind d _ = ⊥
 
--- the work of node k, where these sources and drains are left
-abbrev pub IsWork : {S D L B : Type 0} → ℕ → Node → List S → List D → Work S D L B → Type 0
-IsWork k n sources drains (work.Reading r) = ReadsNext n sources r
-IsWork k n sources drains (work.Writing shape (Some d)) = WritesNext n drains shape d
-IsWork k n sources drains w = IsFreeWork k n.kind n.decider w
+-- the work of node k, where these sources and drains are left, in a blueprint with these chains
+abbrev pub IsWork : {S D L B : Type 0} → List graph.Chain → ℕ → Node → List S → List D → Work S D L B → Type 0
+IsWork chains k n sources drains (work.Reading r) = ReadsNext n sources r
+IsWork chains k n sources drains (work.Writing shape (Some d)) = WritesNext n drains shape d
+IsWork chains k n sources drains w = IsFreeWork chains k n.kind n.decider w
 
--- these nodes, of which the first is node k, each at its place; in their order they take the sources and the drains
-abbrev pub AreSeats : {S D L B : Type 0} → ℕ → List Node → List S → List D → List (Seated S D L B) → Type 0
-AreSeats k [] sources drains [] = ⊤
-AreSeats k (n ∷ ns) sources drains (p ∷ ps) =
-    (p.node ≡ k) × (IsWork k n sources drains p.work × AreSeats (k + 1) ns (handles_left (input_of n.kind) sources) (handles_left (output_of n.kind) drains) ps)
-AreSeats k _ sources drains _ = ⊥
+-- these nodes of a blueprint with these chains, of which the first is node k, each at its place; in their order they take the sources and the drains
+abbrev pub AreSeats : {S D L B : Type 0} → List graph.Chain → ℕ → List Node → List S → List D → List (Seated S D L B) → Type 0
+AreSeats chains k [] sources drains [] = ⊤
+AreSeats chains k (n ∷ ns) sources drains (p ∷ ps) =
+    (p.node ≡ k) × (IsWork chains k n sources drains p.work × AreSeats chains (k + 1) ns (handles_left (input_of n.kind) sources) (handles_left (output_of n.kind) drains) ps)
+AreSeats chains k _ sources drains _ = ⊥
 
 -- the seat at its switch that a work has, where it is that of a valve or a trip
 abbrev pub work_seat : {S D L B : Type 0} → Work S D L B → Option SeatState

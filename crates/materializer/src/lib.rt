@@ -1,7 +1,7 @@
 // What stands at the places of a blueprint's nodes, and what ties it to the model.
 #![tactic(auto)]
 
-pub mod built;
+mod chains;
 pub mod laws;
 pub mod names;
 pub mod number;

@@ -3,25 +3,30 @@ ghost use Rattle.std.specs.Prelude.{◌≡◌, ◌+◌, ◌<◌, ◌≤◌, List
 ghost use Rattle.std.specs.List.{list_all};
 ghost use Rattle.std.specs.Vec.Iter.{into_iter_items, into_iter_len};
 ghost use Rattle.blue_rules.specs.Sizes.{sizes_fit};
+ghost use Rattle.stage_linear.specs.States.{HasTask};
 ghost use Rattle.stage_state.specs.Logics.{IsStateful};
+ghost use Rattle.stage_sub.specs.Handling.{IsSub};
 ghost use Rattle.stage_in.specs.Logics.{IsFanIn};
 ghost use Rattle.stage_out.specs.OutLogics.{IsOut};
-ghost use Rattle.materializer.specs.Built.{is_built};
 ghost use Rattle.blue_core.specs.declared.blueprint.Node as blue;
 ghost use Rattle.materializer.specs.Files.{input_of, output_of};
+ghost use Rattle.materializer.specs.Graphs.{chain_of};
 ghost use Rattle.switch_board.specs.Board.{switch_of, IsHandedAt, AreHanded, seat_of_end};
 ghost use Rattle.materializer.specs.Seats.{IsFreeWork, AreSeats, work_seat, place_seat};
 ghost use Rattle.materializer.specs.Planned.{IsPlanned, IsSeat, ArePlanned, Fills, seat_of_plan, planned_seat, reads, writes, reads_in, writes_in};
 ghost use Rattle.plug_board.specs.Handed.{GivesAsListed, IsPlugged, ArePlugged};
 ghost use Rattle.blue_rules.specs.Names.{plug_of};
+ghost use Rattle.stream_model.specs.Graph as graph;
 ghost use Rattle.stream_model.specs.declared.kind.Kind.TheVariants as kind;
 
+use crate::chains::steps_of_kind;
 use crate::number::numbered;
-use blue_core::blueprint::Node;
+use blue_core::blueprint::{ChainDecl, Node};
 use blue_names::ports::{inputs_of, outputs_of};
 use elem_core::why::{Decider, NoMemory};
 use interpreter::parts::{Seated, Work};
 use kill_core::end::SwitchEnd;
+use line_chain::line::LineChain;
 use plug_logic::book::PlugBook;
 use plug_logic::logic::Logic;
 use plug_logic::plug::Plug;
@@ -29,6 +34,7 @@ use stage_in::logic::InLogic;
 use stage_linear::logic::LinearLogic;
 use stage_out::logic::OutLogic;
 use stage_state::logic::StateLogic;
+use stage_sub::logic::SubLogic;
 use std::alloc::Global;
 use std::vec::IntoIter;
 use stream_io::line_reader::LineReader;
@@ -65,6 +71,19 @@ fn take_next<T: Drop>(handles: &mut IntoIter<T, Global>) -> T
     }
 }
 
+/// What a linear stage does at node k.
+fn linear_work<S: Source, D: Drain, L: Logic, B: PlugBook>(
+    k: u32,
+    kind: Kind,
+    decider: Decider,
+) -> Result<Work<S, D, L, B>, NoMemory>
+    requires { HasTask kind }
+    ensures work { IfOk result (λ w. (chains : List graph.Chain) → IsFreeWork chains k kind decider w) }
+    ensures seat { IfOk result (λ w. work_seat w ≡ None) }
+{
+    Ok(Work::Linear(LinearLogic::new(k, kind, decider)?))
+}
+
 /// What a stage with state does at node k. A valve and a trip have this of their switch.
 fn state_work<S: Source, D: Drain, L: Logic, B: PlugBook>(
     alloc: Global,
@@ -75,10 +94,26 @@ fn state_work<S: Source, D: Drain, L: Logic, B: PlugBook>(
 ) -> Result<Work<S, D, L, B>, NoMemory>
     requires kind { IsStateful kind }
     requires handed { IsHandedAt (switch_of kind) switch }
-    ensures work { IfOk result (IsFreeWork k kind decider) }
+    ensures work { IfOk result (λ w. (chains : List graph.Chain) → IsFreeWork chains k kind decider w) }
     ensures seat { IfOk result (λ w. work_seat w ≡ seat_of_end switch) }
 {
     Ok(Work::State(StateLogic::new(alloc, k, kind, decider, switch)?))
+}
+
+/// What a stage with substreams does at node k: each of them goes through the chain of these that it names.
+fn sub_work<S: Source, D: Drain, L: Logic, B: PlugBook>(
+    alloc: Global,
+    chains: &[ChainDecl],
+    k: u32,
+    kind: Kind,
+    decider: Decider,
+) -> Result<Work<S, D, L, B>, NoMemory>
+    requires { IsSub kind }
+    ensures work { IfOk result (IsFreeWork (map chain_of chains.now) k kind decider) }
+    ensures seat { IfOk result (λ w. work_seat w ≡ None) }
+{
+    let chain = LineChain::new(alloc, k, steps_of_kind(chains, &kind))?;
+    Ok(Work::Sub(SubLogic::new(alloc, k, kind, decider, chain)))
 }
 
 /// What a stage with several inputs does at node k.
@@ -89,7 +124,7 @@ fn fan_in_work<S: Source, D: Drain, L: Logic, B: PlugBook>(
     decider: Decider,
 ) -> Result<Work<S, D, L, B>, NoMemory>
     requires { IsFanIn kind }
-    ensures work { IfOk result (IsFreeWork k kind decider) }
+    ensures work { IfOk result (λ w. (chains : List graph.Chain) → IsFreeWork chains k kind decider w) }
     ensures seat { IfOk result (λ w. work_seat w ≡ None) }
 {
     let inputs = inputs_of(&kind);
@@ -104,7 +139,7 @@ fn fan_out_work<S: Source, D: Drain, L: Logic, B: PlugBook>(
     decider: Decider,
 ) -> Result<Work<S, D, L, B>, NoMemory>
     requires { IsOut kind }
-    ensures work { IfOk result (IsFreeWork k kind decider) }
+    ensures work { IfOk result (λ w. (chains : List graph.Chain) → IsFreeWork chains k kind decider w) }
     ensures seat { IfOk result (λ w. work_seat w ≡ None) }
 {
     let outputs = outputs_of(&kind);
@@ -114,17 +149,17 @@ fn fan_out_work<S: Source, D: Drain, L: Logic, B: PlugBook>(
 /// What node k does, where it has no file, is at no switch and names no plug.
 fn free_work<S: Source, D: Drain, L: Logic, B: PlugBook>(
     alloc: Global,
+    chains: &[ChainDecl],
     k: u32,
     kind: Kind,
     decider: Decider,
 ) -> Result<Work<S, D, L, B>, NoMemory>
-    requires built { is_built kind ≡ true }
     requires sized { sizes_fit kind ≡ true }
     requires no_input { input_of kind ≡ None }
     requires no_output { output_of kind ≡ None }
     requires no_switch { switch_of kind ≡ None }
     requires no_plug { plug_of kind ≡ None }
-    ensures work { IfOk result (IsFreeWork k kind decider) }
+    ensures work { IfOk result (IsFreeWork (map chain_of chains.now) k kind decider) }
     ensures seat { IfOk result (λ w. work_seat w ≡ None) }
     ensures no_input { input_of kind ≡ None }
     ensures no_output { output_of kind ≡ None }
@@ -139,56 +174,59 @@ fn free_work<S: Source, D: Drain, L: Logic, B: PlugBook>(
         | Kind::Buffer(_, _)
         | Kind::RecoverNum(_)
         | Kind::RecoverText(_) => state_work(alloc, k, kind, decider, None)?,
+        Kind::GroupBy(_, _, _) | Kind::SplitWhen(_, _, _) | Kind::SplitAfter(_, _, _) => {
+            sub_work(alloc, chains, k, kind, decider)?
+        }
         Kind::Merge(_) | Kind::Concat(_) | Kind::Interleave(_, _) | Kind::MergeSorted | Kind::Zip =>
             fan_in_work(alloc, k, kind, decider)?,
         Kind::Broadcast(_) | Kind::Balance(_) | Kind::Partition(_, _) | Kind::Unzip => {
             fan_out_work(alloc, k, kind, decider)?
         }
-        _ => Work::Linear(LinearLogic::new(k, kind, decider)?),
+        _ => linear_work(k, kind, decider)?,
     })
 }
 
 /// What stands at the place of node k, which is at no switch and names no plug, and whose handle is not there yet.
 fn free_seat<S: Source, D: Drain, L: Logic, B: PlugBook>(
     alloc: Global,
+    chains: &[ChainDecl],
     k: u32,
     kind: Kind,
     decider: Decider,
 ) -> Result<Planned<S, D, L, B>, NoMemory>
-    requires built { is_built kind ≡ true }
     requires sized { sizes_fit kind ≡ true }
     requires no_switch { switch_of kind ≡ None }
     requires no_plug { plug_of kind ≡ None }
-    ensures planned { IfOk result (λ p. (node : blue.Node) → node.kind ≡ kind → node.decider ≡ decider → IsPlanned k node p) }
+    ensures planned { IfOk result (λ p. (node : blue.Node) → node.kind ≡ kind → node.decider ≡ decider → IsPlanned (map chain_of chains.now) k node p) }
     ensures seat { IfOk result (λ p. seat_of_plan p ≡ None) }
 {
     Ok(match kind {
         Kind::Lines(_) => Planned::Reads,
         Kind::ToLines(_) | Kind::Head(_) | Kind::Last(_) => Planned::Writes(kind),
-        _ => Planned::Works(free_work(alloc, k, kind, decider)?),
+        _ => Planned::Works(free_work(alloc, chains, k, kind, decider)?),
     })
 }
 
 /// What is to stand at the place of node k, which names no plug. A valve and a trip have this of their switch.
-#[tactic(auto, using(crate::proofs::Switches::plans_at_switch, crate::proofs::Switches::at_no_switch, crate::proofs::Switches::at_switch_keeps))]
+#[tactic(auto, using(crate::proofs::Switches::at_no_switch, crate::proofs::Switches::at_switch_keeps))]
 fn unplugged<S: Source, D: Drain, L: Logic, B: PlugBook>(
     alloc: Global,
+    chains: &[ChainDecl],
     k: u32,
     kind: Kind,
     decider: Decider,
     switch: Option<SwitchEnd>,
 ) -> Result<Planned<S, D, L, B>, NoMemory>
-    requires built { is_built kind ≡ true }
     requires sized { sizes_fit kind ≡ true }
     requires handed { IsHandedAt (switch_of kind) switch }
     requires no_plug { plug_of kind ≡ None }
-    ensures planned { IfOk result (λ p. (node : blue.Node) → node.kind ≡ kind → node.decider ≡ decider → IsPlanned k node p) }
+    ensures planned { IfOk result (λ p. (node : blue.Node) → node.kind ≡ kind → node.decider ≡ decider → IsPlanned (map chain_of chains.now) k node p) }
     ensures seat { IfOk result (λ p. seat_of_plan p ≡ seat_of_end switch) }
 {
     match switch {
         Some(end) => Ok(Planned::Works(state_work(alloc, k, kind, decider, Some(end))?)),
         None => {
-            let planned = free_seat(alloc, k, kind, decider)?;
+            let planned = free_seat(alloc, chains, k, kind, decider)?;
             Ok(planned)
         }
     }
@@ -201,7 +239,7 @@ fn plugged<S: Source, D: Drain, L: Logic, B: PlugBook>(
     decider: Decider,
 ) -> Planned<S, D, L, B>
     requires { GivesAsListed L.gives B.lists plug }
-    ensures planned { (node : blue.Node) → node.kind ≡ kind.Plug plug.head.name → node.decider ≡ decider → IsPlanned k node result }
+    ensures planned { (chains : List graph.Chain) (node : blue.Node) → node.kind ≡ kind.Plug plug.head.name → node.decider ≡ decider → IsPlanned chains k node result }
     ensures seat { seat_of_plan result ≡ None }
 {
     Planned::Works(Work::Linear(LinearLogic::of_plug(k, plug, decider)))
@@ -211,22 +249,22 @@ fn plugged<S: Source, D: Drain, L: Logic, B: PlugBook>(
 /// plug.
 fn stand<S: Source, D: Drain, L: Logic, B: PlugBook>(
     alloc: Global,
+    chains: &[ChainDecl],
     k: u32,
     kind: Kind,
     decider: Decider,
     switch: Option<SwitchEnd>,
     plug: Option<Plug<L>>,
 ) -> Result<Planned<S, D, L, B>, NoMemory>
-    requires built { is_built kind ≡ true }
     requires sized { sizes_fit kind ≡ true }
     requires handed { IsHandedAt (switch_of kind) switch }
     requires plugged { IsPlugged L.gives B.lists (plug_of kind) plug }
-    ensures planned { IfOk result (λ p. (node : blue.Node) → node.kind ≡ kind → node.decider ≡ decider → IsPlanned k node p) }
+    ensures planned { IfOk result (λ p. (node : blue.Node) → node.kind ≡ kind → node.decider ≡ decider → IsPlanned (map chain_of chains.now) k node p) }
     ensures seat { IfOk result (λ p. seat_of_plan p ≡ seat_of_end switch) }
 {
     match plug {
         Some(plug) => Ok(plugged(k, plug, decider)),
-        None => unplugged(alloc, k, kind, decider, switch),
+        None => unplugged(alloc, chains, k, kind, decider, switch),
     }
 }
 
@@ -234,16 +272,16 @@ fn stand<S: Source, D: Drain, L: Logic, B: PlugBook>(
 /// the caller made is this plug.
 fn plan<S: Source, D: Drain, L: Logic, B: PlugBook>(
     alloc: Global,
+    chains: &[ChainDecl],
     k: u32,
     node: Node,
     switch: Option<SwitchEnd>,
     plug: Option<Plug<L>>,
 ) -> Result<Seat<S, D, L, B>, NoMemory>
-    requires built { is_built node.kind ≡ true }
     requires sized { sizes_fit node.kind ≡ true }
     requires handed { IsHandedAt (switch_of node.kind) switch }
     requires plugged { IsPlugged L.gives B.lists (plug_of node.kind) plug }
-    ensures planned { IfOk result (IsSeat k node) }
+    ensures planned { IfOk result (IsSeat (map chain_of chains.now) k node) }
     ensures seat { IfOk result (λ s. planned_seat s ≡ seat_of_end switch) }
 {
     let Node {
@@ -252,23 +290,24 @@ fn plan<S: Source, D: Drain, L: Logic, B: PlugBook>(
         decider,
     } = node;
     let _ = name;
-    let planned = stand(alloc, k, kind, decider, switch, plug)?;
+    let planned = stand(alloc, chains, k, kind, decider, switch, plug)?;
     Ok(Seat { node: k, planned })
 }
 
 /// The nodes in order, each at its place, whose handles are not there yet. Each is handed what it has of its switch: a valve and a
-/// trip a seat that gave nothing and knows nothing; and a node that names a plug is handed that.
+/// trip a seat that gave nothing and knows nothing; and a node that names a plug is handed that. The substreams of a stage go through
+/// the chain of these that it names.
 pub fn seat_all<S: Source, D: Drain, L: Logic, B: PlugBook>(
     alloc: Global,
+    chains: &[ChainDecl],
     nodes: Vec<Node>,
     ends: Vec<Option<SwitchEnd>>,
     plugs: Vec<Option<Plug<L>>>,
 ) -> Result<Vec<Seat<S, D, L, B>>, NoMemory>
-    requires built { list_all (λ n. is_built n.kind) nodes.items ≡ true }
     requires sized { list_all (λ n. sizes_fit n.kind) nodes.items ≡ true }
     requires handed { AreHanded (map (λ n. n.kind) nodes.items) ends.items }
     requires plugged { ArePlugged L.gives B.lists (map (λ n. n.kind) nodes.items) plugs.items }
-    ensures planned { IfOk result (λ seats. ArePlanned 0 nodes.items seats.items) }
+    ensures planned { IfOk result (λ seats. ArePlanned (map chain_of chains.now) 0 nodes.items seats.items) }
     ensures seats { IfOk result (λ seats. map planned_seat seats.items ≡ map seat_of_end ends.items) }
 {
     let mut unhanded = ends.into_iter();
@@ -278,7 +317,7 @@ pub fn seat_all<S: Source, D: Drain, L: Logic, B: PlugBook>(
         let k = numbered(seats.len())?;
         let end = take_next(&mut unhanded);
         let plug = take_next(&mut unplugged);
-        seats.push(plan(alloc, k, node, end, plug)?)?;
+        seats.push(plan(alloc, chains, k, node, end, plug)?)?;
     }
     Ok(seats)
 }
@@ -292,7 +331,7 @@ fn fill<S: Source, D: Drain, L: Logic, B: PlugBook>(
 ) -> Seated<S, D, L, B>
     requires source { reads seat.planned ≤ into_iter_len sources.old }
     requires drain { writes seat.planned ≤ into_iter_len drains.old }
-    ensures fills { Fills seat (into_iter_items sources.old) (into_iter_items drains.old) result (into_iter_items sources.new) (into_iter_items drains.new) }
+    ensures fills { (chains : List graph.Chain) → Fills chains seat (into_iter_items sources.old) (into_iter_items drains.old) result (into_iter_items sources.new) (into_iter_items drains.new) }
     ensures seat { place_seat result ≡ planned_seat seat }
     ensures fewer_sources { into_iter_len sources.old ≡ into_iter_len sources.new + reads seat.planned }
     ensures fewer_drains { into_iter_len drains.old ≡ into_iter_len drains.new + writes seat.planned }
@@ -319,7 +358,7 @@ pub fn fill_all<S: Source, D: Drain, L: Logic, B: PlugBook>(
     requires room { vec_len seats ≤ vec_capacity places }
     requires sources { vec_len sources ≡ reads_in seats.items }
     requires drains { vec_len drains ≡ writes_in seats.items }
-    ensures seats { (nodes : List blue.Node) → ArePlanned 0 nodes seats.items → AreSeats 0 nodes sources.items drains.items result.items }
+    ensures seats { (chains : List graph.Chain) (nodes : List blue.Node) → ArePlanned chains 0 nodes seats.items → AreSeats chains 0 nodes sources.items drains.items result.items }
     ensures room { vec_capacity result ≡ vec_capacity places }
     ensures each { vec_len result ≡ vec_len seats }
     ensures kept { map place_seat result.items ≡ map planned_seat seats.items }

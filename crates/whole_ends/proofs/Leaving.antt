@@ -2,12 +2,15 @@
 use Rattle.std.specs.Prelude.{is_some, slice_get}
 use Rattle.std.proofs.Common.{◌≡◌, ◌≢◌, ◌⊎◌, inl, inr, ℕ, zero, suc, ◌+◌, ◌≤◌, ◌==◌, Bool, true, false, List, [], ◌∷◌, Option, Some, None, refl, ap, sym, ◌∙◌, subst, arith}
 use Rattle.std.proofs.lemmas.Bool.Decides.{nat_tests}
+use Rattle.stream_model.specs.Graph as graph
 use Rattle.elem_core.specs.declared.item.Item.{Item}
 use Rattle.elem_core.specs.declared.why.Decider.{Decider}
 use Rattle.port_core.specs.View.{View}
 use Rattle.stream_io.specs.State.{SourceState, DrainState}
 use Rattle.stream_model.specs.declared.kind.Kind.{Kind}
 use Rattle.stream_model.specs.declared.kind.Kind.TheVariants as kind
+use Rattle.stream_model.specs.declared.kind.Joining.{Joining}
+use Rattle.stream_model.specs.declared.kind.Joining.TheVariants as joining
 use Rattle.stream_model.specs.declared.kind.Policy.{Policy}
 use Rattle.stream_model.specs.declared.kind.Policy.TheVariants.{Backpressure, DropHead, DropTail, DropBuffer, DropNew, Fail}
 use Rattle.stream_picture.specs.View.{outputs_of}
@@ -20,6 +23,10 @@ use Rattle.stage_state.specs.declared.logic.StateLogic.TheVariants as state
 use Rattle.stage_state.specs.Handling.{StateLaw}
 use Rattle.stage_state.specs.Logics.{IsStateful, BeginsAs}
 use Rattle.stage_state.specs.Moves.{state_picks, state_seat}
+use Rattle.stage_sub.specs.States as subs
+use Rattle.stage_sub.specs.Handling.{IsSub, ChoosesAs, no_moves, sub_picks}
+use Rattle.stage_sub.specs.Handling as sub
+use Rattle.line_chain.specs.Line.{Line}
 use Rattle.stage_switch.specs.States.{Valve, Trip}
 use Rattle.stage_in.specs.declared.logic.InLogic.{InLogic}
 use Rattle.stage_in.specs.declared.logic.InLogic.TheVariants.{Taking, Sorting, Zipping, Merging}
@@ -47,7 +54,7 @@ use Rattle.interpreter.specs.declared.parts.Seated.{Seated}
 use Rattle.interpreter.specs.declared.parts.Work.{Work}
 use Rattle.interpreter.specs.declared.parts.Work.TheVariants as work
 use Rattle.blue_core.specs.declared.blueprint.Node as blue
-use Rattle.blue_rules.specs.Picks.{picks}
+use Rattle.blue_rules.specs.Picks.{picks, is_merged}
 use Rattle.switch_board.specs.Board.{switch_of}
 use Rattle.materializer.specs.Files.{input_of, output_of}
 use Rattle.materializer.specs.Seats.{IsWork, AreSeats}
@@ -120,6 +127,11 @@ state_seated (state.Obeying f) (state.Obeying x) v took gave law = refl
 state_seated (state.Tripping f) (state.Tripping x) v took gave law = refl
 state_seated f x v took gave law = absurd law
 
+sub_stays : (f x : Option (List ℕ)) → ChoosesAs f x → leaves x ≡ leaves f
+sub_stays None None c = refl
+sub_stays (Some ms) (Some ns) c = refl
+sub_stays f x c = absurd c
+
 in_stays : (f x : InLogic) → SameKind f x → leaves (in_picks x) ≡ leaves (in_picks f)
 in_stays (Taking f) (Taking x) law = refl
 in_stays (Sorting f) (Sorting x) law = refl
@@ -139,6 +151,7 @@ module _ {S D L B : Type 0} (sources : S → SourceState) (drains : D → DrainS
   law_stays (node.Making f) (node.Making x) v took gave law = record { sinks = refl; picks = refl; seats = refl; handles = record { readers = refl; writers = refl }; ends = refl }
   law_stays (node.Linear f) (node.Linear x) v took gave law = record { sinks = refl; picks = refl; seats = refl; handles = record { readers = refl; writers = refl }; ends = refl }
   law_stays (node.State f) (node.State x) v took gave law = record { sinks = refl; picks = state_stays f x v took gave law; seats = state_seated f x v took gave law; handles = record { readers = refl; writers = refl }; ends = refl }
+  law_stays (node.Sub f) (node.Sub x) v took gave law = record { sinks = refl; picks = sub_stays f.moves x.moves law.chooses; seats = refl; handles = record { readers = refl; writers = refl }; ends = refl }
   law_stays (node.FanIn f) (node.FanIn x) v took gave law = record { sinks = refl; picks = in_stays f x law.same; seats = refl; handles = record { readers = refl; writers = refl }; ends = refl }
   law_stays (node.FanOut f) (node.FanOut x) v took gave law = record { sinks = refl; picks = out_stays f x v took gave law; seats = refl; handles = record { readers = refl; writers = refl }; ends = refl }
   law_stays (node.Writing f) (node.Writing x) v took gave law = record { sinks = refl; picks = refl; seats = refl; handles = record { readers = refl; writers = refl }; ends = refl }
@@ -166,6 +179,7 @@ module _ {S D L B : Type 0} where
   reader_end (node.Making x) = refl
   reader_end (node.Linear x) = refl
   reader_end (node.State x) = refl
+  reader_end (node.Sub x) = refl
   reader_end (node.FanIn x) = refl
   reader_end (node.FanOut x) = refl
   reader_end (node.Writing x) = refl
@@ -178,6 +192,7 @@ module _ {S D L B : Type 0} where
   writer_end (node.Making x) = refl
   writer_end (node.Linear x) = refl
   writer_end (node.State x) = refl
+  writer_end (node.Sub x) = refl
   writer_end (node.FanIn x) = refl
   writer_end (node.FanOut x) = refl
   writer_end (node.Writing x) = refl
@@ -252,6 +267,12 @@ state_plain (kind.Valve name) h = record { sinks = refl; reads = refl; writes = 
 state_plain (kind.TripShutdown name n) h = record { sinks = refl; reads = refl; writes = refl }
 state_plain (kind.TripAbort name n) h = record { sinks = refl; reads = refl; writes = refl }
 state_plain _ h = absurd h
+
+sub_plain : (shape : Kind) → IsSub shape → IsPlain shape
+sub_plain (kind.GroupBy n f name) h = record { sinks = refl; reads = refl; writes = refl }
+sub_plain (kind.SplitWhen p name j) h = record { sinks = refl; reads = refl; writes = refl }
+sub_plain (kind.SplitAfter p name j) h = record { sinks = refl; reads = refl; writes = refl }
+sub_plain _ h = absurd h
 
 fan_in_plain : (shape : Kind) → IsFanIn shape → IsPlain shape
 fan_in_plain (kind.Concat n) h = record { sinks = refl; reads = refl; writes = refl }
@@ -329,6 +350,17 @@ state_chooses k shape d (state.Recovering f) b = sym (recover_chooses k shape d 
 state_chooses k shape d (state.Obeying f) b = sym (valve_chooses k shape d f b)
 state_chooses k shape d (state.Tripping f) b = sym (trip_free k shape d f b)
 
+-- substreams choose where their outputs come together as they are
+join_chooses : (j : Joining) → leaves (no_moves j) ≡ is_merged j
+join_chooses joining.Merge = refl
+join_chooses joining.Concat = refl
+
+sub_chooses : (k : ℕ) (shape : Kind) (chain : Line) (f : subs.Logic Line) → sub.BeginsAs shape k chain f → leaves (sub_picks f) ≡ picks shape
+sub_chooses k (kind.GroupBy n g name) chain f b = ap (λ (x : subs.Logic Line). leaves x.moves) b
+sub_chooses k (kind.SplitWhen p name j) chain f b = ap (λ (x : subs.Logic Line). leaves x.moves) b ∙ join_chooses j
+sub_chooses k (kind.SplitAfter p name j) chain f b = ap (λ (x : subs.Logic Line). leaves x.moves) b ∙ join_chooses j
+sub_chooses k shape chain f b = absurd b
+
 fan_in_chooses : (shape : Kind) (f : InLogic) → TakesAs shape f → leaves (in_picks f) ≡ picks shape
 fan_in_chooses (kind.Concat n) (Taking f) t = refl
 fan_in_chooses (kind.Interleave n m) (Taking f) t = refl
@@ -379,6 +411,12 @@ machine_unseated (kind.Reduce r) h = refl
 machine_unseated (kind.Scan o) h = refl
 machine_unseated (kind.Buffer n p) h = refl
 machine_unseated _ h = absurd h
+
+sub_unseated : (shape : Kind) → IsSub shape → is_some (switch_of shape) ≡ false
+sub_unseated (kind.GroupBy n f name) h = refl
+sub_unseated (kind.SplitWhen p name j) h = refl
+sub_unseated (kind.SplitAfter p name j) h = refl
+sub_unseated _ h = absurd h
 
 fan_in_unseated : (shape : Kind) → IsFanIn shape → is_some (switch_of shape) ≡ false
 fan_in_unseated (kind.Concat n) h = refl
@@ -445,28 +483,30 @@ module _ {S D L B : Type 0} where
   writing_leaves : (shape : Kind) (y : Sink D) → IsFileSink shape → LeavesBy {S = S} {D = D} {L = L} {B = B} shape (node.Writing y)
   writing_leaves shape y is = let f = file_sink shape is in record { sinks = sym f.sinks; picks = sym f.picked; seats = sym f.shut; handles = record { readers = sym f.reads; writers = sym f.writes } }
 
-  work_leaves : (k m : ℕ) (n : blue.Node) (ss : List S) (ds : List D) (w : Work S D L B) (x : Node S D L B) → IsWork k n ss ds w → BecomesOf m w x → LeavesBy n.kind x
-  work_leaves k m n ss ds (work.Reading r) x is b = let l = reads_lines n.kind ss r.source is.source in subst (λ (y : Node S D L B). LeavesBy n.kind y) (sym b) (reading_leaves n.kind l.0 _ l.1)
-  work_leaves k m n ss ds (work.Making shape) x is b = let p = maker_plain n.kind is.is_maker in subst (λ (y : Node S D L B). LeavesBy n.kind y) (sym b) (inner n.kind (node.Making (maker_of m shape)) refl refl refl (sym p.1) (sym (maker_unseated n.kind is.is_maker)) p.0)
-  work_leaves k m n ss ds (work.Linear l) x is b = let p = linear_plain n.kind is.is_linear in subst (λ (y : Node S D L B). LeavesBy n.kind y) (sym b) (inner n.kind (node.Linear l) refl refl refl (sym p.1) (sym (linear_unseated n.kind is.is_linear)) p.0)
-  work_leaves k m n ss ds (work.State l) x is b =
+  work_leaves : (chains : List graph.Chain) (k m : ℕ) (n : blue.Node) (ss : List S) (ds : List D) (w : Work S D L B) (x : Node S D L B) → IsWork chains k n ss ds w → BecomesOf m w x → LeavesBy n.kind x
+  work_leaves chains k m n ss ds (work.Reading r) x is b = let l = reads_lines n.kind ss r.source is.source in subst (λ (y : Node S D L B). LeavesBy n.kind y) (sym b) (reading_leaves n.kind l.0 _ l.1)
+  work_leaves chains k m n ss ds (work.Making shape) x is b = let p = maker_plain n.kind is.is_maker in subst (λ (y : Node S D L B). LeavesBy n.kind y) (sym b) (inner n.kind (node.Making (maker_of m shape)) refl refl refl (sym p.1) (sym (maker_unseated n.kind is.is_maker)) p.0)
+  work_leaves chains k m n ss ds (work.Linear l) x is b = let p = linear_plain n.kind is.is_linear in subst (λ (y : Node S D L B). LeavesBy n.kind y) (sym b) (inner n.kind (node.Linear l) refl refl refl (sym p.1) (sym (linear_unseated n.kind is.is_linear)) p.0)
+  work_leaves chains k m n ss ds (work.State l) x is b =
       subst (λ (y : Node S D L B). LeavesBy n.kind y) (sym b) (inner n.kind (node.State l) refl refl refl (state_chooses k n.kind n.decider l is.begins.as_kind) (state_seats k n.kind n.decider l is.begins.as_kind) (state_plain n.kind is.is_state))
-  work_leaves k m n ss ds (work.FanIn l inputs) x is b =
+  work_leaves chains k m n ss ds (work.Sub l) x is b =
+      subst (λ (y : Node S D L B). LeavesBy n.kind y) (sym b) (inner n.kind (node.Sub l) refl refl refl (sub_chooses k n.kind l.chain l is.begins.as_kind) (sym (sub_unseated n.kind is.is_sub)) (sub_plain n.kind is.is_sub))
+  work_leaves chains k m n ss ds (work.FanIn l inputs) x is b =
       subst (λ (y : Node S D L B). LeavesBy n.kind y) (sym b) (inner n.kind (node.FanIn l) refl refl refl (fan_in_chooses n.kind l is.begins.takes) (sym (fan_in_unseated n.kind is.is_in)) (fan_in_plain n.kind is.is_in))
-  work_leaves k m n ss ds (work.FanOut l outputs) x is b =
+  work_leaves chains k m n ss ds (work.FanOut l outputs) x is b =
       subst (λ (y : Node S D L B). LeavesBy n.kind y) (sym b) (inner n.kind (node.FanOut l) refl refl refl (fan_out_chooses k n.kind l is.begins.as_kind) (sym (fan_out_unseated n.kind is.is_out)) (fan_out_plain n.kind is.is_out))
-  work_leaves k m n ss ds (work.LaneIn u) x is b = absurd is
-  work_leaves k m n ss ds (work.LaneOut u) x is b = absurd is
-  work_leaves k m n ss ds (work.Writing shape (Some d)) x is b = subst (λ (y : Node S D L B). LeavesBy n.kind y) (sym b) (writing_leaves n.kind _ is.is_sink)
-  work_leaves k m n ss ds (work.Writing shape None) x is b = subst (λ (y : Node S D L B). LeavesBy n.kind y) (sym b) (ignoring_leaves n.kind _ is.is_ignore)
+  work_leaves chains k m n ss ds (work.LaneIn u) x is b = absurd is
+  work_leaves chains k m n ss ds (work.LaneOut u) x is b = absurd is
+  work_leaves chains k m n ss ds (work.Writing shape (Some d)) x is b = subst (λ (y : Node S D L B). LeavesBy n.kind y) (sym b) (writing_leaves n.kind _ is.is_sink)
+  work_leaves chains k m n ss ds (work.Writing shape None) x is b = subst (λ (y : Node S D L B). LeavesBy n.kind y) (sym b) (ignoring_leaves n.kind _ is.is_ignore)
 
   -- a node that began as what was handed in for node j leaves what the kind of that says
-  pub seat_leaves : (k : ℕ) (ns : List blue.Node) (ss : List S) (ds : List D) (ps : List (Seated S D L B)) (j : ℕ) (n : blue.Node) (p : Seated S D L B) (x : Node S D L B)
-      → AreSeats k ns ss ds ps → slice_get ns j ≡ Some n → slice_get ps j ≡ Some p → Becomes p x → LeavesBy n.kind x
-  seat_leaves k [] ss ds ps j n p x a en ep b = absurd cc
-  seat_leaves k (m ∷ ns) ss ds [] j n p x a en ep b = absurd a
-  seat_leaves k (m ∷ ns) ss ds (q ∷ ps) zero n p x a en ep b =
+  pub seat_leaves : (chains : List graph.Chain) (k : ℕ) (ns : List blue.Node) (ss : List S) (ds : List D) (ps : List (Seated S D L B)) (j : ℕ) (n : blue.Node) (p : Seated S D L B) (x : Node S D L B)
+      → AreSeats chains k ns ss ds ps → slice_get ns j ≡ Some n → slice_get ps j ≡ Some p → Becomes p x → LeavesBy n.kind x
+  seat_leaves chains k [] ss ds ps j n p x a en ep b = absurd cc
+  seat_leaves chains k (m ∷ ns) ss ds [] j n p x a en ep b = absurd a
+  seat_leaves chains k (m ∷ ns) ss ds (q ∷ ps) zero n p x a en ep b =
       let e : m ≡ n = cc in
       let f : q ≡ p = cc in
-      subst (λ (z : blue.Node). LeavesBy z.kind x) e (work_leaves k q.node m ss ds q.work x a.1.0 (subst (λ (z : Seated S D L B). Becomes z x) (sym f) b))
-  seat_leaves k (m ∷ ns) ss ds (q ∷ ps) (suc j) n p x a en ep b = seat_leaves (k + 1) ns _ _ ps j n p x a.1.1 en ep b
+      subst (λ (z : blue.Node). LeavesBy z.kind x) e (work_leaves chains k q.node m ss ds q.work x a.1.0 (subst (λ (z : Seated S D L B). Becomes z x) (sym f) b))
+  seat_leaves chains k (m ∷ ns) ss ds (q ∷ ps) (suc j) n p x a en ep b = seat_leaves chains (k + 1) ns _ _ ps j n p x a.1.1 en ep b

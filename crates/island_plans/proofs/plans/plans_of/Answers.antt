@@ -3,6 +3,7 @@ use Rattle.std.proofs.Common.{◌≡◌, ◌∙◌, ◌+◌, ◌<◌, ℕ, List,
 use Rattle.std.specs.List.{All}
 use Rattle.stream_model.specs.Graph.{Wire}
 use Rattle.blue_core.specs.declared.blueprint.Blueprint.{Blueprint}
+use Rattle.blue_core.specs.declared.blueprint.ChainDecl.{ChainDecl}
 use Rattle.blue_core.specs.declared.blueprint.Node.{Node}
 use Rattle.blue_core.specs.declared.blueprint.WireDecl.{WireDecl}
 use Rattle.blue_names.specs.declared.links.Link.{Link}
@@ -12,7 +13,8 @@ use Rattle.blue_rules.specs.Links.{wires_of}
 use Rattle.interpreter.specs.declared.parts.Place.{Place}
 use Rattle.traversal.specs.Plan.{lanes_from}
 use Rattle.island_parts.specs.Split.{IsSplit}
-use Rattle.materializer.specs.Built.{CanRun}
+use Rattle.materializer.specs.Fit.{CanRun}
+use Rattle.materializer.specs.Graphs.{chain_of, chains_of}
 use Rattle.plug_board.specs.Handed.{HasPlugs, ArePlugged}
 use Rattle.switch_board.specs.Board.{IsBoard, AreAtSwitches, AreHanded, seat_of_end}
 use Rattle.materializer.specs.Planned.{ArePlanned, places_from, planned_seat}
@@ -68,9 +70,6 @@ split_of-requires-clause-lanes g c =
     let links : c.deref-4.result.now ≡ c.deref-11.result.now = c.deref-4.ensures.value ∙ sym c.deref-11.ensures.value in
     c.deref-12.ensures.value ∙ c.in_ok-lanes.ensures ∙ ap (λ (hs : List ℕ). lanes_from hs 0 (wires_of_links c.deref-4.result.now)) homes ∙ ap (λ (ls : List Link). lanes_from own 0 (wires_of_links ls)) links
 
-pub seat_all-requires-clause-built : goal.seat_all-requires-clause-built
-seat_all-requires-clause-built g c = c.requires.runs.built
-
 pub seat_all-requires-clause-sized : goal.seat_all-requires-clause-sized
 seat_all-requires-clause-sized g c = all_sized c.args.b c.requires.runs.plugs c.requires.runs.taken c.requires.runs.fit
 
@@ -121,6 +120,7 @@ returns-clause-plans g c =
     subst (λ (l : List Node). AreAtSwitches (map (λ (n : Node). n.kind) l) board (map seat_of_end c.in_ok-board.switches.items)) c.deref-13.ensures.value c.in_ok-board.ensures.ends in
     let at_switches : AreAtSwitches (map (λ (n : Node). n.kind) ns) board (map planned_seat c.in_ok-seats.seats.items) =
     subst (λ l. AreAtSwitches (map (λ (n : Node). n.kind) ns) board l) (sym c.in_ok-seats.ensures.seats) switches in
+    let planned : ArePlanned (chains_of b) 0 ns c.in_ok-seats.seats.items = subst (λ (l : List ChainDecl). ArePlanned (map chain_of l) 0 ns c.in_ok-seats.seats.items) c.deref-15.ensures.value c.in_ok-seats.ensures.planned in
     let exact : vec_capacity c.in_ok-places.places ≡ c.in_ok-all_places.field-0 = c.in_ok-places.ensures.exact in
     let places_all : c.in_ok-all_places.field-0 ≡ c.len-2.result + c.len-3.result + c.len-3.result = c.in_ok-all_places.ensures in
     record {
@@ -128,7 +128,7 @@ returns-clause-plans g c =
       homes_are = subst (λ (x : Blueprint). AreNumberedHomes (length x.nodes.items) count (blueprint_wires x) homes) is homes_are;
       lanes_are = lanes ∙ ap (λ (x : Blueprint). lanes_from homes 0 (blueprint_wires x)) is;
       ends_are = subst (λ (x : Blueprint). AreEndHomes homes x.nodes.items (blueprint_wires x) c.in_ok-ends.ends) is ends;
-      seats = subst (λ (x : Blueprint). ArePlanned 0 x.nodes.items c.in_ok-seats.seats.items) is c.in_ok-seats.ensures.planned;
+      seats = subst (λ (x : Blueprint). ArePlanned (chains_of x) 0 x.nodes.items c.in_ok-seats.seats.items) is planned;
       split = subst (λ (x : Blueprint). IsSplit homes count (blueprint_wires x) (places_from 0 x.nodes.items) c.in_ok-split.split) is split;
       board_is = subst (λ (x : Blueprint). IsBoard (map (λ (n : Node). n.kind) x.nodes.items) board) is board_is;
       at_switches = subst (λ (x : Blueprint). AreAtSwitches (map (λ (n : Node). n.kind) x.nodes.items) board (map planned_seat c.in_ok-seats.seats.items)) is at_switches;

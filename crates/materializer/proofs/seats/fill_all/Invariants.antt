@@ -1,6 +1,7 @@
 -- The loop of `seats::fill_all`.
 use Rattle.std.proofs.Common.{◌≡◌, ◌+◌, ◌≤◌, List, ◌++◌, length, map, vec_len, vec_capacity}
 use Rattle.std.specs.Vec.Iter.{into_iter_items, into_iter_len}
+use Rattle.stream_model.specs.Graph as graph
 use Rattle.blue_core.specs.declared.blueprint.Node.{Node}
 use Rattle.materializer.specs.Planned.{ArePlanned, planned_seat, reads_in, writes_in}
 use Rattle.materializer.specs.Seats.{place_seat}
@@ -18,5 +19,5 @@ invariant-loop-seat g l =
     × (vec_len l.places + into_iter_len l.seat-iterator ≤ vec_capacity l.places)
     × (vec_capacity l.places ≡ vec_capacity l.fn.places)
     × (vec_len l.places + into_iter_len l.seat-iterator ≡ vec_len l.fn.seats)
-    × ((nodes : List Node) → ArePlanned 0 nodes l.fn.seats.items → FillsRest nodes l.fn.sources.items l.fn.drains.items (into_iter_items l.seat-iterator) (into_iter_items l.unread) (into_iter_items l.unwritten) l.places.items)
+    × ((chains : List graph.Chain) (nodes : List Node) → ArePlanned chains 0 nodes l.fn.seats.items → FillsRest nodes l.fn.sources.items l.fn.drains.items chains (into_iter_items l.seat-iterator) (into_iter_items l.unread) (into_iter_items l.unwritten) l.places.items)
     × (map place_seat l.places.items ++ map planned_seat (into_iter_items l.seat-iterator) ≡ map planned_seat l.fn.seats.items)

@@ -4,20 +4,17 @@ use Rattle.std.specs.List.{list_all}
 use Rattle.std.specs.Vec.Iter.{into_iter_items, into_iter_len}
 use Rattle.interpreter.proofs.Tables.{none_left, len_next}
 use Rattle.blue_rules.specs.Sizes.{sizes_fit}
-use Rattle.materializer.specs.Built.{is_built}
 use Rattle.plug_board.specs.Handed.{ArePlugged}
 use Rattle.switch_board.specs.Board.{AreHanded, seat_of_end}
+use Rattle.materializer.specs.Graphs.{chain_of}
 use Rattle.materializer.specs.Planned.{planned_seat}
 use Rattle.materializer.proofs.Plugs.{plugs_left, plug_next}
 use Rattle.materializer.proofs.SeatLoops.{all_next, planned_start, planned_next, planned_end}
 use Rattle.materializer.proofs.Switches.{kinds_of, ends_left, end_next, no_ends, map_next, map_end}
 use Rattle.materializer.proofs.seats.seat_all.Goals as goal
 
-pub plan-requires-clause-built : goal.plan-requires-clause-built
-plan-requires-clause-built g c = (all_next (λ n. is_built n.kind) c.in-Some.node _ _ c.in-Some.ensures.steps.0 c.loop-node.invariant.3).0
-
 pub plan-requires-clause-sized : goal.plan-requires-clause-sized
-plan-requires-clause-sized g c = (all_next (λ n. sizes_fit n.kind) c.in-Some.node _ _ c.in-Some.ensures.steps.0 c.loop-node.invariant.4).0
+plan-requires-clause-sized g c = (all_next (λ n. sizes_fit n.kind) c.in-Some.node _ _ c.in-Some.ensures.steps.0 c.loop-node.invariant.3).0
 
 pub loop-node-init : goal.loop-node-init
 loop-node-init g c =
@@ -27,9 +24,8 @@ loop-node-init g c =
       tt,
       tt,
       left,
-      ap (list_all (λ n. is_built n.kind)) all ∙ c.requires.built,
       ap (list_all (λ n. sizes_fit n.kind)) all ∙ c.requires.sized,
-      λ xs h. planned_start c.args.nodes.items (into_iter_items r) c.new-seats.result.items xs all c.new-seats.ensures.items h,
+      λ xs h. planned_start c.args.nodes.items (map chain_of c.args.chains.now) (into_iter_items r) c.new-seats.result.items xs all c.new-seats.ensures.items h,
       subst (λ l. AreHanded (kinds_of l) (into_iter_items c.into_iter-unhanded.result)) (sym all) (subst (λ l. AreHanded (kinds_of c.args.nodes.items) l) (sym c.into_iter-unhanded.ensures.rest) c.requires.handed),
       search rules,
       ap (λ l. map planned_seat l ++ map seat_of_end (into_iter_items c.into_iter-unhanded.result)) c.new-seats.ensures.items ∙ ap (map seat_of_end) c.into_iter-unhanded.ensures.rest,
@@ -46,32 +42,31 @@ loop-node-preserved g c =
       tt,
       tt,
       len_next _ _ _ _ _ next.0 next.1 kept.2,
-      (all_next (λ n. is_built n.kind) node _ _ next.0 kept.3).1,
-      (all_next (λ n. sizes_fit n.kind) node _ _ next.0 kept.4).1,
-      planned_next _ node _ _ _ _ _ _ next.0 at c.in_ok-plan.ensures.planned c.in_ok-push.ensures.items kept.5,
-      (end_next node _ _ _ _ _ next.0 c.take_next-end.ensures.items kept.6).1,
-      len_next _ _ _ _ _ c.take_next-end.ensures.items (sym c.take_next-end.ensures.len) kept.7,
-      map_next planned_seat seat_of_end _ _ _ _ _ _ _ c.take_next-end.ensures.items c.in_ok-push.ensures.items c.in_ok-plan.ensures.seat kept.8,
-      (plug_next g.L.Logic.gives g.B.PlugBook.lists node _ _ _ _ _ next.0 c.take_next-plug.ensures.items kept.9).1,
-      len_next _ _ _ _ _ c.take_next-plug.ensures.items (sym c.take_next-plug.ensures.len) kept.10,
+      (all_next (λ n. sizes_fit n.kind) node _ _ next.0 kept.3).1,
+      planned_next _ _ node _ _ _ _ _ _ next.0 at c.in_ok-plan.ensures.planned c.in_ok-push.ensures.items kept.4,
+      (end_next node _ _ _ _ _ next.0 c.take_next-end.ensures.items kept.5).1,
+      len_next _ _ _ _ _ c.take_next-end.ensures.items (sym c.take_next-end.ensures.len) kept.6,
+      map_next planned_seat seat_of_end _ _ _ _ _ _ _ c.take_next-end.ensures.items c.in_ok-push.ensures.items c.in_ok-plan.ensures.seat kept.7,
+      (plug_next g.L.Logic.gives g.B.PlugBook.lists node _ _ _ _ _ next.0 c.take_next-plug.ensures.items kept.8).1,
+      len_next _ _ _ _ _ c.take_next-plug.ensures.items (sym c.take_next-plug.ensures.len) kept.9,
     )
 
 pub take_next-end-requires : goal.take_next-end-requires
-take_next-end-requires g c = ends_left c.in-Some.node _ _ _ _ c.in-Some.ensures.steps.0 c.loop-node.invariant.6 c.loop-node.invariant.7
+take_next-end-requires g c = ends_left c.in-Some.node _ _ _ _ c.in-Some.ensures.steps.0 c.loop-node.invariant.5 c.loop-node.invariant.6
 
 pub take_next-plug-requires : goal.take_next-plug-requires
-take_next-plug-requires g c = plugs_left g.L.Logic.gives g.B.PlugBook.lists c.in-Some.node _ _ _ _ c.in-Some.ensures.steps.0 c.loop-node.invariant.9 c.loop-node.invariant.10
+take_next-plug-requires g c = plugs_left g.L.Logic.gives g.B.PlugBook.lists c.in-Some.node _ _ _ _ c.in-Some.ensures.steps.0 c.loop-node.invariant.8 c.loop-node.invariant.9
 
 pub plan-requires-clause-handed : goal.plan-requires-clause-handed
-plan-requires-clause-handed g c = (end_next c.in-Some.node _ _ _ _ _ c.in-Some.ensures.steps.0 c.take_next-end.ensures.items c.loop-node.invariant.6).0
+plan-requires-clause-handed g c = (end_next c.in-Some.node _ _ _ _ _ c.in-Some.ensures.steps.0 c.take_next-end.ensures.items c.loop-node.invariant.5).0
 
 pub plan-requires-clause-plugged : goal.plan-requires-clause-plugged
-plan-requires-clause-plugged g c = (plug_next g.L.Logic.gives g.B.PlugBook.lists c.in-Some.node _ _ _ _ _ c.in-Some.ensures.steps.0 c.take_next-plug.ensures.items c.loop-node.invariant.9).0
+plan-requires-clause-plugged g c = (plug_next g.L.Logic.gives g.B.PlugBook.lists c.in-Some.node _ _ _ _ _ c.in-Some.ensures.steps.0 c.take_next-plug.ensures.items c.loop-node.invariant.8).0
 
 pub returns-clause-seats : goal.returns-clause-seats
 returns-clause-seats g c =
     let kept = c.loop-node.invariant in
-    map_end planned_seat seat_of_end _ _ _ (no_ends _ _ (none_left _ _ c.in-None.ensures.steps.0 kept.2) kept.6) kept.8
+    map_end planned_seat seat_of_end _ _ _ (no_ends _ _ (none_left _ _ c.in-None.ensures.steps.0 kept.2) kept.5) kept.7
 
 pub returns-clause-planned : goal.returns-clause-planned
-returns-clause-planned g c = planned_end _ _ _ (none_left _ _ c.in-None.ensures.steps.0 c.loop-node.invariant.2) c.loop-node.invariant.5
+returns-clause-planned g c = planned_end _ _ _ _ (none_left _ _ c.in-None.ensures.steps.0 c.loop-node.invariant.2) c.loop-node.invariant.4

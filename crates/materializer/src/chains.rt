@@ -1,0 +1,36 @@
+// The chains of a blueprint, by the stages that name them.
+ghost use Rattle.std.specs.Prelude.{◌≡◌, map};
+ghost use Rattle.line_chain.specs.Line.{step_of};
+ghost use Rattle.materializer.specs.Graphs.{chain_of};
+ghost use Rattle.run_laws.specs.Made.{chain_name};
+ghost use Rattle.stage_sub.specs.Handling.{IsSub};
+ghost use Rattle.stream_model.specs.Graph.{steps_of};
+
+use blue_core::blueprint::{ChainDecl, Step};
+use elem_core::line::Line;
+use stream_model::kind::Kind;
+
+/// The steps of the chain of that name; none where there is no such chain.
+fn steps_named<'a>(chains: &'a [ChainDecl], name: &Line) -> &'a [Step]
+    ensures { map step_of result.now ≡ steps_of name.now (map chain_of chains.now) }
+{
+    for chain in chains {
+        if chain.name == *name {
+            return &chain.steps;
+        }
+    }
+    &[]
+}
+
+/// The steps of the chain through which each substream of a stage of this kind goes.
+pub(crate) fn steps_of_kind<'a>(chains: &'a [ChainDecl], kind: &Kind) -> &'a [Step]
+    requires { IsSub kind.now }
+    ensures { map step_of result.now ≡ steps_of (chain_name kind.now) (map chain_of chains.now) }
+{
+    match kind {
+        Kind::GroupBy(_, _, name) | Kind::SplitWhen(_, name, _) | Kind::SplitAfter(_, name, _) => {
+            steps_named(chains, name)
+        }
+        _ => &[],
+    }
+}

@@ -34,7 +34,7 @@ use Rattle.blue_core.specs.declared.blueprint.Blueprint.{Blueprint}
 use Rattle.blue_core.specs.declared.blueprint.Node as blue
 use Rattle.blue_check.specs.Fitness.{IsFit}
 use Rattle.plug_core.specs.declared.head.PlugHead.{PlugHead}
-use Rattle.materializer.specs.Built.{CanRun}
+use Rattle.materializer.specs.Fit.{CanRun}
 use Rattle.materializer.specs.Files.{output_of, inputs_of_nodes, outputs_of_nodes}
 use Rattle.materializer.specs.Graphs.{node_of, graph_of}
 use Rattle.run_files.specs.Opening.{OpensAll, GivesUp}
@@ -88,6 +88,7 @@ reader_ends (node.Reading x) = refl
 reader_ends (node.Making x) = refl
 reader_ends (node.Linear x) = refl
 reader_ends (node.State x) = refl
+reader_ends (node.Sub x) = refl
 reader_ends (node.FanIn x) = refl
 reader_ends (node.FanOut x) = refl
 reader_ends (node.Writing x) = refl
@@ -100,6 +101,7 @@ writer_ends (node.Reading x) = refl
 writer_ends (node.Making x) = refl
 writer_ends (node.Linear x) = refl
 writer_ends (node.State x) = refl
+writer_ends (node.Sub x) = refl
 writer_ends (node.FanIn x) = refl
 writer_ends (node.FanOut x) = refl
 writer_ends (node.Writing x) = refl

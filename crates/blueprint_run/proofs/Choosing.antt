@@ -7,9 +7,12 @@ use Rattle.elem_core.specs.declared.why.Decider.{Decider}
 use Rattle.port_core.specs.View.{View}
 use Rattle.stream_model.specs.declared.kind.Kind.{Kind}
 use Rattle.stream_model.specs.declared.kind.Kind.TheVariants as kind
+use Rattle.stream_model.specs.declared.kind.Joining.{Joining}
+use Rattle.stream_model.specs.declared.kind.Joining.TheVariants as joining
 use Rattle.stream_model.specs.declared.kind.Policy.{Policy}
 use Rattle.stream_model.specs.declared.kind.Policy.TheVariants.{Backpressure, DropHead, DropTail, DropBuffer, DropNew, Fail}
 use Rattle.stream_model.specs.Composed.{count_from}
+use Rattle.stream_model.specs.Graph as graph
 use Rattle.stream_model.specs.Node.{World}
 use Rattle.stream_io.specs.State.{SourceState, DrainState}
 use Rattle.stage_linear.specs.States.{IsLinear}
@@ -22,6 +25,10 @@ use Rattle.stage_state.specs.declared.logic.StateLogic.TheVariants as state
 use Rattle.stage_state.specs.Handling.{StateLaw}
 use Rattle.stage_state.specs.Logics.{BeginsAs}
 use Rattle.stage_state.specs.Moves.{state_picks}
+use Rattle.stage_sub.specs.States as subs
+use Rattle.stage_sub.specs.Handling.{no_moves}
+use Rattle.stage_sub.specs.Handling as sub
+use Rattle.line_chain.specs.Line.{Line}
 use Rattle.stage_in.specs.declared.logic.InLogic.{InLogic}
 use Rattle.stage_in.specs.declared.logic.InLogic.TheVariants.{Taking, Sorting, Zipping, Merging}
 use Rattle.stage_in.specs.Logics.{TakesAs, SameKind}
@@ -40,7 +47,7 @@ use Rattle.nodes.specs.declared.node.Node.TheVariants as node
 use Rattle.interpreter.specs.Picks.{Pick, with_picks, picks_of}
 use Rattle.run_laws.specs.Made.{FirstOf}
 use Rattle.blue_core.specs.declared.blueprint.Node as blue
-use Rattle.blue_rules.specs.Picks.{picks}
+use Rattle.blue_rules.specs.Picks.{picks, is_merged}
 use Rattle.materializer.specs.Graphs.{node_of}
 use Rattle.blueprint_run.specs.Choosing.{pick_places, picked, HasPicks}
 use Rattle.stream_model.specs.Linear.{Book}
@@ -118,6 +125,19 @@ state_chooses k shape d (state.Obeying f) (state.Obeying x) v took gave b law = 
 state_chooses k shape d (state.Tripping f) (state.Tripping x) v took gave b law = no_choice (picks shape) None (trip_free k shape d f b) refl
 state_chooses k shape d f x v took gave b law = absurd law
 
+-- substreams choose where they are joined as their outputs come
+joined_chooses : (j : Joining) (o : Option (List ℕ)) → sub.ChoosesAs (no_moves j) o → ChoosesAs (is_merged j) o
+joined_chooses joining.Merge (Some ms) c = (ms, refl)
+joined_chooses joining.Merge None c = absurd c
+joined_chooses joining.Concat None c = refl
+joined_chooses joining.Concat (Some ms) c = absurd c
+
+sub_chooses : (k : ℕ) (shape : Kind) (chain : Line) (first now : subs.Logic Line) → sub.BeginsAs shape k chain first → sub.ChoosesAs first.moves now.moves → ChoosesAs (picks shape) now.moves
+sub_chooses k (kind.GroupBy n f name) chain first now b c = joined_chooses joining.Merge now.moves (subst (λ (x : subs.Logic Line). sub.ChoosesAs x.moves now.moves) b c)
+sub_chooses k (kind.SplitWhen p name j) chain first now b c = joined_chooses j now.moves (subst (λ (x : subs.Logic Line). sub.ChoosesAs x.moves now.moves) b c)
+sub_chooses k (kind.SplitAfter p name j) chain first now b c = joined_chooses j now.moves (subst (λ (x : subs.Logic Line). sub.ChoosesAs x.moves now.moves) b c)
+sub_chooses k shape chain first now b c = absurd b
+
 fan_in_chooses : (shape : Kind) (first now : InLogic) → TakesAs shape first → SameKind first now → ChoosesAs (picks shape) (in_picks now)
 fan_in_chooses (kind.Concat n) (Taking f) (Taking l) t s = refl
 fan_in_chooses (kind.Interleave n m) (Taking f) (Taking l) t s = refl
@@ -154,19 +174,20 @@ sink_free (kind.Last name) h = refl
 sink_free _ h = absurd h
 
 -- a node has chosen exactly where its kind chooses
-pub node_chooses : {S D L B : Type 0} (sources : S → SourceState) (drains : D → DrainState) (book : Book) (k : ℕ) (n : blue.Node) (first now : Node S D L B) (v : View) (took gave : List (List Item))
-    → FirstOf sources k (node_of n) first → node_law sources drains book first now v took gave → ChoosesAs (picks n.kind) (node_picks now)
-node_chooses sources drains book k n (node.Reading f) (node.Reading x) v took gave made law = no_choice (picks n.kind) None (ap picks made.kind_is) refl
-node_chooses sources drains book k n (node.Making f) (node.Making x) v took gave made law = no_choice (picks n.kind) None (maker_free n.kind made.is_maker) refl
-node_chooses sources drains book k n (node.Linear f) (node.Linear x) v took gave made law = no_choice (picks n.kind) None (linear_free n.kind made.is_linear) refl
-node_chooses sources drains book k n (node.State f) (node.State x) v took gave made law = state_chooses k n.kind n.decider f x v took gave made.begins.as_kind law
-node_chooses sources drains book k n (node.FanIn f) (node.FanIn x) v took gave made law = fan_in_chooses n.kind f x made.begins.takes law.same
-node_chooses sources drains book k n (node.FanOut f) (node.FanOut x) v took gave made law = fan_out_chooses k n.kind f x v took gave made.begins.as_kind law
-node_chooses sources drains book k n (node.Writing f) (node.Writing x) v took gave made law = no_choice (picks n.kind) None (sink_free n.kind made.is_sink) refl
-node_chooses sources drains book k n (node.Ignoring f) (node.Ignoring x) v took gave made law = no_choice (picks n.kind) None (ap picks made.kind_is) refl
-node_chooses sources drains book k n (node.Entering f) x v took gave made law = absurd made
-node_chooses sources drains book k n (node.Leaving f) x v took gave made law = absurd made
-node_chooses sources drains book k n f x v took gave made law = absurd law
+pub node_chooses : {S D L B : Type 0} (sources : S → SourceState) (drains : D → DrainState) (book : Book) (chains : List graph.Chain) (k : ℕ) (n : blue.Node) (first now : Node S D L B) (v : View) (took gave : List (List Item))
+    → FirstOf sources chains k (node_of n) first → node_law sources drains book first now v took gave → ChoosesAs (picks n.kind) (node_picks now)
+node_chooses sources drains book chains k n (node.Reading f) (node.Reading x) v took gave made law = no_choice (picks n.kind) None (ap picks made.kind_is) refl
+node_chooses sources drains book chains k n (node.Making f) (node.Making x) v took gave made law = no_choice (picks n.kind) None (maker_free n.kind made.is_maker) refl
+node_chooses sources drains book chains k n (node.Linear f) (node.Linear x) v took gave made law = no_choice (picks n.kind) None (linear_free n.kind made.is_linear) refl
+node_chooses sources drains book chains k n (node.State f) (node.State x) v took gave made law = state_chooses k n.kind n.decider f x v took gave made.begins.as_kind law
+node_chooses sources drains book chains k n (node.Sub f) (node.Sub x) v took gave made law = sub_chooses k n.kind f.chain f x made.begins.as_kind law.chooses
+node_chooses sources drains book chains k n (node.FanIn f) (node.FanIn x) v took gave made law = fan_in_chooses n.kind f x made.begins.takes law.same
+node_chooses sources drains book chains k n (node.FanOut f) (node.FanOut x) v took gave made law = fan_out_chooses k n.kind f x v took gave made.begins.as_kind law
+node_chooses sources drains book chains k n (node.Writing f) (node.Writing x) v took gave made law = no_choice (picks n.kind) None (sink_free n.kind made.is_sink) refl
+node_chooses sources drains book chains k n (node.Ignoring f) (node.Ignoring x) v took gave made law = no_choice (picks n.kind) None (ap picks made.kind_is) refl
+node_chooses sources drains book chains k n (node.Entering f) x v took gave made law = absurd made
+node_chooses sources drains book chains k n (node.Leaving f) x v took gave made law = absurd made
+node_chooses sources drains book chains k n f x v took gave made law = absurd law
 
 -- ---- the lists of moves stand in the order of their nodes
 

@@ -53,7 +53,7 @@ use Rattle.blue_check.specs.Fitness.{IsFit}
 use Rattle.blue_check.specs.Wires.{blueprint_wires}
 use Rattle.blue_walks.specs.Forest.{wiring}
 use Rattle.plug_core.specs.declared.head.PlugHead.{PlugHead}
-use Rattle.materializer.specs.Built.{CanRun}
+use Rattle.materializer.specs.Fit.{CanRun}
 use Rattle.materializer.specs.Files.{output_of, inputs_of_nodes, outputs_of_nodes, is_sink}
 use Rattle.materializer.specs.Graphs.{node_of, graph_of}
 use Rattle.run_files.specs.Names.{drain_names}
@@ -142,6 +142,7 @@ ended_stand (node.Reading x) s f = absurd cc
 ended_stand (node.Making x) s f = absurd cc
 ended_stand (node.Linear x) s f = absurd cc
 ended_stand (node.State x) s f = absurd cc
+ended_stand (node.Sub x) s f = absurd cc
 ended_stand (node.FanIn x) s f = absurd cc
 ended_stand (node.FanOut x) s f = absurd cc
 ended_stand (node.Entering x) s f = absurd cc

@@ -17,9 +17,9 @@ use Rattle.run_laws.specs.Telling.{TellsFile, TellsNode, TellsFiles, TellsPicks,
 use Rattle.blue_core.specs.declared.blueprint.Blueprint.{Blueprint}
 use Rattle.blue_rules.specs.Names.{file_of}
 use Rattle.blue_core.specs.declared.blueprint.Node as blue
-use Rattle.materializer.specs.Built.{CanRun}
+use Rattle.materializer.specs.Fit.{CanRun}
 use Rattle.materializer.specs.Files.{inputs_of_nodes, outputs_of_nodes}
-use Rattle.materializer.specs.Graphs.{node_of, graph_of}
+use Rattle.materializer.specs.Graphs.{node_of, graph_of, chains_of}
 use Rattle.blueprint_run.specs.Choosing.{pick_places, picked, HasPicks}
 use Rattle.blueprint_run.specs.Opening.{Opens}
 use Rattle.blueprint_run.specs.Drawing.{Drawn, IsSource, WasRead, IsWorldOf}
@@ -94,7 +94,7 @@ module _ {S D L B : Type 0} (sources : S → SourceState) (drains : D → DrainS
       picked_along 0 nodes last (as_many sources drains book handles b ss ds left last l old mid opens)
       (λ i n x at here.
       let f = node_facts sources drains book handles b ss ds left last l old mid opens i n x at here in
-      node_chooses sources drains book i n f.first x f.knew f.came f.went f.made f.law)
+      node_chooses sources drains book (chains_of b) i n f.first x f.knew f.came f.went f.made f.law)
 
   -- what a source drew of its file, which was there
   pub record DrawsOf (k : ℕ) (file : List ℕ) (f : Source k file) : Type 0 where

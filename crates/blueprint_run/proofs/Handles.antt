@@ -26,7 +26,7 @@ use Rattle.run_laws.specs.Reads.{IsSourceAt}
 use Rattle.blue_core.specs.declared.blueprint.Blueprint.{Blueprint}
 use Rattle.blue_core.specs.declared.blueprint.Node as blue
 use Rattle.materializer.specs.Files.{output_of, inputs_of_nodes, outputs_of_nodes, is_sink}
-use Rattle.materializer.specs.Graphs.{node_of, graph_of}
+use Rattle.materializer.specs.Graphs.{node_of, graph_of, chains_of}
 use Rattle.materializer.specs.Handed.{ReadsFile, WritesFile}
 use Rattle.materializer.specs.Seats.{AreSeats}
 use Rattle.run_files.specs.Names.{source_names, drain_names}
@@ -49,11 +49,11 @@ pub record IsSinkInto (nodes : List blue.Node) (k : ℕ) (file : List ℕ) : Typ
 
 module _ {S D : Type 0} (L B : Type 0) (sources : S → SourceState) (drains : D → DrainState) (book : Book) where
   abbrev pub SourcesLaw : Type 0
-  SourcesLaw = (nodes : List blue.Node) (ss : List S) (ds : List D) (places : List (Seated S D L B)) (firsts : List (Node S D L B)) → AreSeats 0 nodes ss ds places → AllBecome places firsts
+  SourcesLaw = (chains : List graph.Chain) (nodes : List blue.Node) (ss : List S) (ds : List D) (places : List (Seated S D L B)) (firsts : List (Node S D L B)) → AreSeats chains 0 nodes ss ds places → AllBecome places firsts
       → (k : ℕ) (n : blue.Node) (name : List ℕ) → slice_get nodes k ≡ Some n → n.kind ≡ kind.Lines name → ReadsFile (inputs_of_nodes nodes) ss firsts k name
 
   abbrev pub DrainsLaw : Type 0
-  DrainsLaw = (nodes : List blue.Node) (ss : List S) (ds : List D) (places : List (Seated S D L B)) (firsts : List (Node S D L B)) → AreSeats 0 nodes ss ds places → AllBecome places firsts
+  DrainsLaw = (chains : List graph.Chain) (nodes : List blue.Node) (ss : List S) (ds : List D) (places : List (Seated S D L B)) (firsts : List (Node S D L B)) → AreSeats chains 0 nodes ss ds places → AllBecome places firsts
       → (k : ℕ) (n : blue.Node) (name : List ℕ) → slice_get nodes k ≡ Some n → output_of n.kind ≡ Some name → WritesFile (outputs_of_nodes nodes) ds firsts k name
 
   abbrev pub SourceThere : Type 0
@@ -78,11 +78,11 @@ writing_same a b x e f = cc
 
 -- ---- there are as many places as nodes, and as many nodes as places
 
-pub seats_many : {S D L B : Type 0} (k : ℕ) (ns : List blue.Node) (ss : List S) (ds : List D) (ps : List (Seated S D L B)) → AreSeats k ns ss ds ps → length ns ≡ length ps
-seats_many k [] ss ds [] h = refl
-seats_many k [] ss ds (p ∷ ps) h = absurd h
-seats_many k (n ∷ ns) ss ds [] h = absurd h
-seats_many k (n ∷ ns) ss ds (p ∷ ps) h = ap suc (seats_many (k + 1) ns _ _ ps h.1.1)
+pub seats_many : {S D L B : Type 0} (chains : List graph.Chain) (k : ℕ) (ns : List blue.Node) (ss : List S) (ds : List D) (ps : List (Seated S D L B)) → AreSeats chains k ns ss ds ps → length ns ≡ length ps
+seats_many chains k [] ss ds [] h = refl
+seats_many chains k [] ss ds (p ∷ ps) h = absurd h
+seats_many chains k (n ∷ ns) ss ds [] h = absurd h
+seats_many chains k (n ∷ ns) ss ds (p ∷ ps) h = ap suc (seats_many chains (k + 1) ns _ _ ps h.1.1)
 
 pub become_many : {S D L B : Type 0} (ps : List (Seated S D L B)) (xs : List (Node S D L B)) → AllBecome ps xs → length ps ≡ length xs
 become_many [] [] h = refl
@@ -99,12 +99,12 @@ module _ {S D L B : Type 0} (sources : S → SourceState) (drains : D → DrainS
 
   -- there are as many nodes as the blueprint has
   pub as_many : length nodes ≡ length last
-  as_many = seats_many 0 nodes ss ds l.places l.seats ∙ become_many l.places l.firsts l.become ∙ sym l.as_many
+  as_many = seats_many (chains_of b) 0 nodes ss ds l.places l.seats ∙ become_many l.places l.firsts l.become ∙ sym l.as_many
 
   -- node k, as it was handed in: as the blueprint names it; and its law
   pub record NodeFacts (k : ℕ) (n : blue.Node) (x : Node S D L B) : Type 0 where
     pub first : Node S D L B
-    pub made : FirstOf sources k (node_of n) first
+    pub made : FirstOf sources (chains_of b) k (node_of n) first
     pub knew : View
     pub came : List (List Item)
     pub went : List (List Item)
@@ -141,7 +141,7 @@ module _ {S D L B : Type 0} (sources : S → SourceState) (drains : D → DrainS
   source_facts k file is =
       let in_graph : slice_get (graph_of b).nodes k ≡ Some (node_of is.node) = mapped_at node_of nodes k is.node is.at in
       let there = laws.source_there (graph_of b) left l.run k (node_of is.node) file in_graph is.kind_is in
-      let handed = laws.reads_law nodes ss ds l.places l.firsts l.seats l.become k is.node file is.at is.kind_is in
+      let handed = laws.reads_law (chains_of b) nodes ss ds l.places l.firsts l.seats l.become k is.node file is.at is.kind_is in
       let first_at : left.firsts k ≡ Some (node.Reading handed.first) = l.first_at k ∙ handed.at in
       let last_at : left.nodes k ≡ Some (node.Reading there.1.0) = there.1.1.at_last in
       let kept = kept_as node_row (node_law sources drains book) node_asking node_moves (graph_of b) left l.run.keeps k (node_of is.node) (node.Reading handed.first) (node.Reading there.1.0) in_graph first_at last_at in
@@ -179,7 +179,7 @@ module _ {S D L B : Type 0} (sources : S → SourceState) (drains : D → DrainS
   sink_facts k file is =
       let in_graph : slice_get (graph_of b).nodes k ≡ Some (node_of is.node) = mapped_at node_of nodes k is.node is.at in
       let there = laws.sink_there (graph_of b) left l.run k (node_of is.node) in_graph (writes_file is.node.kind file is.file_is) in
-      let handed = laws.writes_law nodes ss ds l.places l.firsts l.seats l.become k is.node file is.at is.file_is in
+      let handed = laws.writes_law (chains_of b) nodes ss ds l.places l.firsts l.seats l.become k is.node file is.at is.file_is in
       let first_at : left.firsts k ≡ Some (node.Writing handed.first) = l.first_at k ∙ handed.at in
       let last_at : left.nodes k ≡ Some (node.Writing there.1.0) = there.1.1.at_last in
       let kept = kept_as node_row (node_law sources drains book) node_asking node_moves (graph_of b) left l.run.keeps k (node_of is.node) (node.Writing handed.first) (node.Writing there.1.0) in_graph first_at last_at in
@@ -205,7 +205,7 @@ module _ {S D L B : Type 0} (sources : S → SourceState) (drains : D → DrainS
   pub profiles : (k : ℕ) (n : blue.Node) (x : Node S D L B) → slice_get nodes k ≡ Some n → slice_get last k ≡ Some x → Profile sources drains k n x
   profiles k n x at here =
       let f = node_facts k n x at here in
-      node_profile sources drains book k n f.first x f.knew f.came f.went f.made f.law
+      node_profile sources drains book k n (chains_of b) f.first x f.knew f.came f.went f.made f.law
       (λ name y shape is.
       let facts = source_facts k name (record { node = n; at = at; kind_is = shape }) in
       let same : facts.now ≡ y = reading_same facts.now y x (place_one last k x (node.Reading facts.now) here facts.at) is in
@@ -220,13 +220,13 @@ module _ {S D L B : Type 0} (sources : S → SourceState) (drains : D → DrainS
   fault_kind k n x s at here stands fault =
       let f = node_facts k n x at here in
       let y = never_faults sources drains book k n f.first x s f.knew f.came f.went f.law stands fault in
-      writing_kind sources drains book k n f.first x y.0 f.knew f.came f.went f.made f.law y.1
+      writing_kind sources drains book k n (chains_of b) f.first x y.0 f.knew f.came f.went f.made f.law y.1
 
   -- and so is one that leaves a drain
   pub writer_kind : (k : ℕ) (n : blue.Node) (x : Node S D L B) (y : Sink D) → slice_get nodes k ≡ Some n → slice_get last k ≡ Some x → x ≡ node.Writing y → (name : List ℕ) × (output_of n.kind ≡ Some name)
   writer_kind k n x y at here is =
       let f = node_facts k n x at here in
-      writing_kind sources drains book k n f.first x y f.knew f.came f.went f.made f.law is
+      writing_kind sources drains book k n (chains_of b) f.first x y f.knew f.came f.went f.made f.law is
 
   -- the sinks stand in the order of nodes
   pub stands_are : map (λ (s : Stand). s.0) (sinks_of last) ≡ sink_places 0 nodes

@@ -6,6 +6,7 @@ use Rattle.std.specs.List.{filter_map, cons_option}
 use Rattle.std.proofs.lemmas.Bool.Decides.{eqb_tells, nat_tests}
 use Rattle.elem_core.specs.declared.item.Item.{Item}
 use Rattle.port_core.specs.View.{View}
+use Rattle.stream_model.specs.Graph as graph
 use Rattle.stream_model.specs.declared.kind.Kind.{Kind}
 use Rattle.stream_model.specs.declared.kind.Kind.TheVariants as kind
 use Rattle.stream_model.specs.declared.outcome.EndState.TheVariants.{WriteFault}
@@ -14,6 +15,7 @@ use Rattle.stream_picture.specs.OneWay as oneway
 use Rattle.stream_io.specs.State.{SourceState, DrainState}
 use Rattle.stage_linear.specs.States.{IsLinear}
 use Rattle.stage_state.specs.Logics.{IsStateful}
+use Rattle.stage_sub.specs.Handling.{IsSub}
 use Rattle.stage_in.specs.Logics.{IsFanIn}
 use Rattle.stage_out.specs.OutLogics.{IsOut}
 use Rattle.nodes.specs.Nodes.{node_law}
@@ -53,6 +55,7 @@ readers_filtered (node.Linear x ∷ xs) = readers_filtered xs
 readers_filtered (node.Writing x ∷ xs) = readers_filtered xs
 readers_filtered (node.Making x ∷ xs) = readers_filtered xs
 readers_filtered (node.State x ∷ xs) = readers_filtered xs
+readers_filtered (node.Sub x ∷ xs) = readers_filtered xs
 readers_filtered (node.FanIn x ∷ xs) = readers_filtered xs
 readers_filtered (node.FanOut x ∷ xs) = readers_filtered xs
 readers_filtered (node.Entering x ∷ xs) = readers_filtered xs
@@ -66,6 +69,7 @@ writers_filtered (node.Linear x ∷ xs) = writers_filtered xs
 writers_filtered (node.Writing x ∷ xs) = ap (λ l. x.drain ∷ l) (writers_filtered xs)
 writers_filtered (node.Making x ∷ xs) = writers_filtered xs
 writers_filtered (node.State x ∷ xs) = writers_filtered xs
+writers_filtered (node.Sub x ∷ xs) = writers_filtered xs
 writers_filtered (node.FanIn x ∷ xs) = writers_filtered xs
 writers_filtered (node.FanOut x ∷ xs) = writers_filtered xs
 writers_filtered (node.Entering x ∷ xs) = writers_filtered xs
@@ -79,6 +83,7 @@ sinks_filtered (node.Linear x ∷ xs) = sinks_filtered xs
 sinks_filtered (node.Writing x ∷ xs) = ap (λ (l : List Stand). (x.node, x.count, x.end) ∷ l) (sinks_filtered xs)
 sinks_filtered (node.Making x ∷ xs) = sinks_filtered xs
 sinks_filtered (node.State x ∷ xs) = sinks_filtered xs
+sinks_filtered (node.Sub x ∷ xs) = sinks_filtered xs
 sinks_filtered (node.FanIn x ∷ xs) = sinks_filtered xs
 sinks_filtered (node.FanOut x ∷ xs) = sinks_filtered xs
 sinks_filtered (node.Entering x ∷ xs) = sinks_filtered xs
@@ -132,6 +137,12 @@ state_inner (kind.Valve name) h = record { input = refl; output = refl; outputs 
 state_inner (kind.TripShutdown name n) h = record { input = refl; output = refl; outputs = refl }
 state_inner (kind.TripAbort name n) h = record { input = refl; output = refl; outputs = refl }
 state_inner _ h = absurd h
+
+sub_inner : (shape : Kind) → IsSub shape → IsInner shape
+sub_inner (kind.GroupBy n f name) h = record { input = refl; output = refl; outputs = refl }
+sub_inner (kind.SplitWhen p name j) h = record { input = refl; output = refl; outputs = refl }
+sub_inner (kind.SplitAfter p name j) h = record { input = refl; output = refl; outputs = refl }
+sub_inner _ h = absurd h
 
 fan_in_inner : (shape : Kind) → IsFanIn shape → IsInner shape
 fan_in_inner (kind.Concat n) h = record { input = refl; output = refl; outputs = refl }
@@ -222,35 +233,37 @@ module _ {S D L B : Type 0} (sources : S → SourceState) (drains : D → DrainS
   }
 
   -- what a node leaves, whatever its kind is, where its source and its drain have the names of their files
-  pub node_profile : (first now : Node S D L B) (v : View) (took gave : List (List Item)) → FirstOf sources k (node_of n) first → node_law sources drains book first now v took gave
+  pub node_profile : (chains : List graph.Chain) (first now : Node S D L B) (v : View) (took gave : List (List Item)) → FirstOf sources chains k (node_of n) first → node_law sources drains book first now v took gave
       → ((name : List ℕ) (x : Lines S) → n.kind ≡ kind.Lines name → now ≡ node.Reading x → (sources x.reader.source).name ≡ name)
       → ((name : List ℕ) (x : Sink D) → output_of n.kind ≡ Some name → now ≡ node.Writing x → (drains x.drain).name ≡ name)
       → Profile sources drains k n now
-  node_profile (node.Reading f) (node.Reading x) v took gave made law reads writes = reading_profile x made.name made.kind_is (reads made.name x made.kind_is refl)
-  node_profile (node.Making f) (node.Making x) v took gave made law reads writes = inner_profile (node.Making x) refl refl refl (maker_inner n.kind made.is_maker)
-  node_profile (node.Linear f) (node.Linear x) v took gave made law reads writes = inner_profile (node.Linear x) refl refl refl (linear_inner n.kind made.is_linear)
-  node_profile (node.State f) (node.State x) v took gave made law reads writes = inner_profile (node.State x) refl refl refl (state_inner n.kind made.is_state)
-  node_profile (node.FanIn f) (node.FanIn x) v took gave made law reads writes = inner_profile (node.FanIn x) refl refl refl (fan_in_inner n.kind made.is_in)
-  node_profile (node.FanOut f) (node.FanOut x) v took gave made law reads writes = inner_profile (node.FanOut x) refl refl refl (fan_out_inner n.kind made.is_out)
-  node_profile (node.Writing f) (node.Writing x) v took gave made law reads writes = writing_profile x made.is_sink (law.node ∙ made.node) (λ name e. writes name x e refl)
-  node_profile (node.Ignoring f) (node.Ignoring x) v took gave made law reads writes = ignoring_profile x made.kind_is (law.node ∙ made.node)
-  node_profile (node.Entering f) x v took gave made law reads writes = absurd made
-  node_profile (node.Leaving f) x v took gave made law reads writes = absurd made
-  node_profile f x v took gave made law reads writes = absurd law
+  node_profile chains (node.Reading f) (node.Reading x) v took gave made law reads writes = reading_profile x made.name made.kind_is (reads made.name x made.kind_is refl)
+  node_profile chains (node.Making f) (node.Making x) v took gave made law reads writes = inner_profile (node.Making x) refl refl refl (maker_inner n.kind made.is_maker)
+  node_profile chains (node.Linear f) (node.Linear x) v took gave made law reads writes = inner_profile (node.Linear x) refl refl refl (linear_inner n.kind made.is_linear)
+  node_profile chains (node.State f) (node.State x) v took gave made law reads writes = inner_profile (node.State x) refl refl refl (state_inner n.kind made.is_state)
+  node_profile chains (node.Sub f) (node.Sub x) v took gave made law reads writes = inner_profile (node.Sub x) refl refl refl (sub_inner n.kind made.is_sub)
+  node_profile chains (node.FanIn f) (node.FanIn x) v took gave made law reads writes = inner_profile (node.FanIn x) refl refl refl (fan_in_inner n.kind made.is_in)
+  node_profile chains (node.FanOut f) (node.FanOut x) v took gave made law reads writes = inner_profile (node.FanOut x) refl refl refl (fan_out_inner n.kind made.is_out)
+  node_profile chains (node.Writing f) (node.Writing x) v took gave made law reads writes = writing_profile x made.is_sink (law.node ∙ made.node) (λ name e. writes name x e refl)
+  node_profile chains (node.Ignoring f) (node.Ignoring x) v took gave made law reads writes = ignoring_profile x made.kind_is (law.node ∙ made.node)
+  node_profile chains (node.Entering f) x v took gave made law reads writes = absurd made
+  node_profile chains (node.Leaving f) x v took gave made law reads writes = absurd made
+  node_profile chains f x v took gave made law reads writes = absurd law
 
   -- a sink with a file is one by its kind
-  pub writing_kind : (first now : Node S D L B) (x : Sink D) (v : View) (took gave : List (List Item)) → FirstOf sources k (node_of n) first → node_law sources drains book first now v took gave → now ≡ node.Writing x → (name : List ℕ) × (output_of n.kind ≡ Some name)
-  writing_kind (node.Writing f) (node.Writing y) x v took gave made law is = let f = file_sink n.kind made.is_sink in (f.name, f.output)
-  writing_kind (node.Reading f) (node.Reading y) x v took gave made law is = absurd cc
-  writing_kind (node.Making f) (node.Making y) x v took gave made law is = absurd cc
-  writing_kind (node.Linear f) (node.Linear y) x v took gave made law is = absurd cc
-  writing_kind (node.State f) (node.State y) x v took gave made law is = absurd cc
-  writing_kind (node.FanIn f) (node.FanIn y) x v took gave made law is = absurd cc
-  writing_kind (node.FanOut f) (node.FanOut y) x v took gave made law is = absurd cc
-  writing_kind (node.Ignoring f) (node.Ignoring y) x v took gave made law is = absurd cc
-  writing_kind (node.Entering f) y x v took gave made law is = absurd made
-  writing_kind (node.Leaving f) y x v took gave made law is = absurd made
-  writing_kind f y x v took gave made law is = absurd law
+  pub writing_kind : (chains : List graph.Chain) (first now : Node S D L B) (x : Sink D) (v : View) (took gave : List (List Item)) → FirstOf sources chains k (node_of n) first → node_law sources drains book first now v took gave → now ≡ node.Writing x → (name : List ℕ) × (output_of n.kind ≡ Some name)
+  writing_kind chains (node.Writing f) (node.Writing y) x v took gave made law is = let f = file_sink n.kind made.is_sink in (f.name, f.output)
+  writing_kind chains (node.Reading f) (node.Reading y) x v took gave made law is = absurd cc
+  writing_kind chains (node.Making f) (node.Making y) x v took gave made law is = absurd cc
+  writing_kind chains (node.Linear f) (node.Linear y) x v took gave made law is = absurd cc
+  writing_kind chains (node.State f) (node.State y) x v took gave made law is = absurd cc
+  writing_kind chains (node.Sub f) (node.Sub y) x v took gave made law is = absurd cc
+  writing_kind chains (node.FanIn f) (node.FanIn y) x v took gave made law is = absurd cc
+  writing_kind chains (node.FanOut f) (node.FanOut y) x v took gave made law is = absurd cc
+  writing_kind chains (node.Ignoring f) (node.Ignoring y) x v took gave made law is = absurd cc
+  writing_kind chains (node.Entering f) y x v took gave made law is = absurd made
+  writing_kind chains (node.Leaving f) y x v took gave made law is = absurd made
+  writing_kind chains f y x v took gave made law is = absurd law
 
   -- no write of a sink without a file fails
   pub never_faults : (first now : Node S D L B) (s : Stand) (v : View) (took gave : List (List Item)) → node_law sources drains book first now v took gave → stand_in now ≡ Some s → s.2 ≡ WriteFault → (x : Sink D) × (now ≡ node.Writing x)
@@ -263,6 +276,7 @@ module _ {S D L B : Type 0} (sources : S → SourceState) (drains : D → DrainS
   never_faults (node.Making f) (node.Making y) s v took gave law stands fault = absurd cc
   never_faults (node.Linear f) (node.Linear y) s v took gave law stands fault = absurd cc
   never_faults (node.State f) (node.State y) s v took gave law stands fault = absurd cc
+  never_faults (node.Sub f) (node.Sub y) s v took gave law stands fault = absurd cc
   never_faults (node.FanIn f) (node.FanIn y) s v took gave law stands fault = absurd cc
   never_faults (node.FanOut f) (node.FanOut y) s v took gave law stands fault = absurd cc
   never_faults (node.Entering f) (node.Entering y) s v took gave law stands fault = absurd cc
@@ -276,6 +290,7 @@ writer_there name (node.Reading y) n e = absurd cc
 writer_there name (node.Making y) n e = absurd cc
 writer_there name (node.Linear y) n e = absurd cc
 writer_there name (node.State y) n e = absurd cc
+writer_there name (node.Sub y) n e = absurd cc
 writer_there name (node.FanIn y) n e = absurd cc
 writer_there name (node.FanOut y) n e = absurd cc
 writer_there name (node.Entering y) n e = absurd cc

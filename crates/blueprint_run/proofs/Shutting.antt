@@ -13,7 +13,7 @@ use Rattle.nodes.specs.declared.node.Node.TheVariants as node
 use Rattle.interpreter.specs.Island.{readers_of, writers_of}
 use Rattle.blue_core.specs.declared.blueprint.Blueprint.{Blueprint}
 use Rattle.blue_core.specs.declared.blueprint.Node as blue
-use Rattle.materializer.specs.Built.{CanRun}
+use Rattle.materializer.specs.Fit.{CanRun}
 use Rattle.materializer.specs.Files.{input_of, output_of, inputs_of_nodes, outputs_of_nodes}
 use Rattle.run_files.specs.Names.{source_names, drain_names, Distinct}
 use Rattle.blueprint_run.specs.Opening.{Opens}

@@ -7,3 +7,4 @@ pub mod Tracing
 pub mod Opening
 pub mod Sending
 pub mod Running
+pub mod Receipt

@@ -3,14 +3,14 @@ ghost use Rattle.std.specs.Prelude.{◌≡◌, ◌+◌, ◌-◌, ◌<◌, ◌≤
 ghost use Rattle.std.specs.Option.{option_map, option_to_list};
 ghost use Rattle.blue_core.specs.declared.blueprint.Blueprint as plan;
 ghost use Rattle.stream_io.specs.State.{FolderState};
-ghost use Rattle.materializer.specs.Built.{CanRun};
+ghost use Rattle.materializer.specs.Fit.{CanRun};
 ghost use Rattle.materializer.specs.Choices.{pick_names};
 ghost use Rattle.materializer.specs.Files.{inputs_of_nodes, outputs_of_nodes};
 ghost use Rattle.run_files.specs.Opening.{MissesInput, RefusesOutput};
 ghost use Rattle.run_files.specs.Closing.{ClosesAll};
 ghost use Rattle.run_report.specs.Trace.{trace_text, moves_in};
 ghost use Rattle.island_runs.specs.Leaving.{Leaves, LeavesBroken, HasAsMany};
-ghost use Rattle.island_runs.specs.Receipt.{IsReceipt};
+ghost use Rattle.blueprint_run.specs.Receipt.{IsReceipt};
 ghost use Rattle.blueprint_run.specs.Opening.{Opens, OpensAs, WritesAs, ClosesAs};
 ghost use Rattle.blueprint_run.specs.Running.{Runs, Wants, WantsWithin};
 ghost use Rattle.blueprint_run.specs.Tracing.{written_files, IsApart};

@@ -63,18 +63,19 @@ state_stays k shape d (state.Obeying f) (state.Obeying x) v took gave b law = la
 state_stays k shape d (state.Tripping f) (state.Tripping x) v took gave b law = law.trip.one ∙ law.switch ∙ sym (trip_unused k shape d f b)
 state_stays k shape d first now v took gave b law = absurd law
 
-node_stays : {S D L B : Type 0} (sources : S → SourceState) (drains : D → DrainState) (book : Book) (k : ℕ) (n : graph.Node) (first now : Node S D L B) (v : View) (took gave : List (List Item)) → FirstOf sources k n first → node_law sources drains book first now v took gave → SeatStays (node_seat first) (node_seat now)
-node_stays sources drains book k n (node.Reading f) (node.Reading x) v took gave made law = tt
-node_stays sources drains book k n (node.Making f) (node.Making x) v took gave made law = tt
-node_stays sources drains book k n (node.Linear f) (node.Linear x) v took gave made law = tt
-node_stays sources drains book k n (node.State f) (node.State x) v took gave made law = state_stays k n.kind n.decider f x v took gave made.begins.as_kind law
-node_stays sources drains book k n (node.FanIn f) (node.FanIn x) v took gave made law = tt
-node_stays sources drains book k n (node.FanOut f) (node.FanOut x) v took gave made law = tt
-node_stays sources drains book k n (node.Writing f) (node.Writing x) v took gave made law = tt
-node_stays sources drains book k n (node.Ignoring f) (node.Ignoring x) v took gave made law = tt
-node_stays sources drains book k n (node.Entering f) x v took gave made law = absurd made
-node_stays sources drains book k n (node.Leaving f) x v took gave made law = absurd made
-node_stays sources drains book k n first now v took gave made law = absurd law
+node_stays : {S D L B : Type 0} (sources : S → SourceState) (drains : D → DrainState) (book : Book) (chains : List graph.Chain) (k : ℕ) (n : graph.Node) (first now : Node S D L B) (v : View) (took gave : List (List Item)) → FirstOf sources chains k n first → node_law sources drains book first now v took gave → SeatStays (node_seat first) (node_seat now)
+node_stays sources drains book chains k n (node.Reading f) (node.Reading x) v took gave made law = tt
+node_stays sources drains book chains k n (node.Making f) (node.Making x) v took gave made law = tt
+node_stays sources drains book chains k n (node.Linear f) (node.Linear x) v took gave made law = tt
+node_stays sources drains book chains k n (node.State f) (node.State x) v took gave made law = state_stays k n.kind n.decider f x v took gave made.begins.as_kind law
+node_stays sources drains book chains k n (node.Sub f) (node.Sub x) v took gave made law = tt
+node_stays sources drains book chains k n (node.FanIn f) (node.FanIn x) v took gave made law = tt
+node_stays sources drains book chains k n (node.FanOut f) (node.FanOut x) v took gave made law = tt
+node_stays sources drains book chains k n (node.Writing f) (node.Writing x) v took gave made law = tt
+node_stays sources drains book chains k n (node.Ignoring f) (node.Ignoring x) v took gave made law = tt
+node_stays sources drains book chains k n (node.Entering f) x v took gave made law = absurd made
+node_stays sources drains book chains k n (node.Leaving f) x v took gave made law = absurd made
+node_stays sources drains book chains k n first now v took gave made law = absurd law
 
 -- the node that stands at a place has the seat that was handed in for it
 work_seat : {S D L B : Type 0} (k : ℕ) (w : Work S D L B) (x : Node S D L B) → BecomesOf k w x → place_seat (record { node = k; work = w }) ≡ node_seat x
@@ -82,6 +83,7 @@ work_seat k (work.Reading r) x is = sym (ap node_seat is)
 work_seat k (work.Making shape) x is = sym (ap node_seat is)
 work_seat k (work.Linear l) x is = sym (ap node_seat is)
 work_seat k (work.State l) x is = sym (ap node_seat is)
+work_seat k (work.Sub l) x is = sym (ap node_seat is)
 work_seat k (work.FanIn l n) x is = sym (ap node_seat is)
 work_seat k (work.FanOut l n) x is = sym (ap node_seat is)
 work_seat k (work.Writing shape (Some d)) x is = sym (ap node_seat is)
@@ -134,7 +136,7 @@ module _ {S D L B : Type 0} (sources : S → SourceState) (drains : D → DrainS
       let f = beside last firsts k x.0 (sym as_many) x.1.0 in
       let there : slice_get (graph_of b).nodes k ≡ Some (node_of n.0) = mapped_there node_of b.nodes.items k n.0 n.1.0 in
       let keeps = run.keeps.each_node k (node_of n.0) there in
-      let stays = node_stays sources drains book k (node_of n.0) keeps.first keeps.now _ _ _ (run.made k (node_of n.0) keeps.first there keeps.first_at) keeps.law_holds in
+      let stays = node_stays sources drains book (graph_of b).chains k (node_of n.0) keeps.first keeps.now _ _ _ (run.made k (node_of n.0) keeps.first there keeps.first_at) keeps.law_holds in
       let first_is : keeps.first ≡ f.0 = let e : Some keeps.first ≡ Some f.0 = sym keeps.first_at ∙ first_at k ∙ f.1 in cc in
       let now_is : keeps.now ≡ x.0 = let e : Some keeps.now ≡ Some x.0 = sym keeps.now_at ∙ node_at k ∙ x.1.0 in cc in
       let began : IsSeatAt (switch_of shape) (switch_at board k) (node_seat keeps.first) =

@@ -20,7 +20,7 @@ use Rattle.interpreter.specs.declared.parts.Seated.{Seated}
 use Rattle.run_account.specs.Account.{Account, IsStill}
 use Rattle.run_account.specs.Pictures.{counts_of}
 use Rattle.run_laws.specs.Runs.{IsRun}
-use Rattle.materializer.specs.Graphs.{graph_of}
+use Rattle.materializer.specs.Graphs.{graph_of, chains_of}
 use Rattle.materializer.specs.Seats.{AreSeats, place_seat}
 use Rattle.bodies_run.specs.Leaving.{AreLeft, of_lists}
 use Rattle.bodies_run.proofs.Alone.{run_alone, still_alone, counts_alone}
@@ -42,7 +42,7 @@ is_so t h = cc
 pub left_seats : {S D L B : Type 0} (ws : List Wire) (near : ℕ → Cell) (last : List (Node S D L B)) (e : IslandEnd S D) → IsLeftBy ws near last e → e.seats.items ≡ numbered_from 0 (map node_seat last)
 left_seats ws near last e l = l.seats ∙ seats_numbered 0 last
 
-module _ {S D L B : Type 0} (sources : S → SourceState) (drains : D → DrainState) (book : Book) (b : Blueprint) (ss : List S) (ds : List D) (nodes : List (Seated S D L B)) (seats : AreSeats 0 b.nodes.items ss ds nodes) (many : length nodes ≡ length (graph_of b).nodes)
+module _ {S D L B : Type 0} (sources : S → SourceState) (drains : D → DrainState) (book : Book) (b : Blueprint) (ss : List S) (ds : List D) (nodes : List (Seated S D L B)) (seats : AreSeats (chains_of b) 0 b.nodes.items ss ds nodes) (many : length nodes ≡ length (graph_of b).nodes)
     (acc : Account (Node S D L B)) (last : List (Node S D L B)) (left : AreLeft nodes acc last) (run : IsRun sources drains book (graph_of b) acc) where
   -- the account of the nodes alone
   abbrev alone : Account (Node S D L B)

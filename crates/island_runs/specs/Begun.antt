@@ -22,7 +22,7 @@ use Rattle.island_body.specs.Meeting.{BodiesMayMeet, BodiesJoined}
 use Rattle.island_body.specs.declared.body.Body.{Body}
 use Rattle.bodies_account.specs.Bodies.{AreBodiesOf}
 use Rattle.bodies_account.specs.Begun.{AreNumbered, AreAligned}
-use Rattle.materializer.specs.Graphs.{graph_of}
+use Rattle.materializer.specs.Graphs.{graph_of, chains_of}
 use Rattle.materializer.specs.Seats.{AreSeats, place_seat}
 use Rattle.switch_board.specs.Board.{IsBoard, AreAtSwitches}
 use Rattle.island_runs.specs.declared.run.Remains.{Remains}
@@ -41,7 +41,7 @@ module _ {S D L B : Type 0} (sources : S → SourceState) (drains : D → DrainS
     pub count : ℕ
     pub islands : AreNumberedHomes (length b.nodes.items) count (blueprint_wires b) homes
     pub nodes : List (Seated S D L B)
-    pub seats : AreSeats 0 b.nodes.items ss ds nodes
+    pub seats : AreSeats (chains_of b) 0 b.nodes.items ss ds nodes
     pub bodies_are : AreBodiesOf sources drains book (graph_of b) homes count (blueprint_wires b) nodes crossings bodies
     pub numbered : AreNumbered homes (blueprint_wires b) nodes bodies
     pub unspent : AllOf (λ (x : Body S D L B). x.spent ≡ 0) bodies

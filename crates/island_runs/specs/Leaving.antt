@@ -18,7 +18,7 @@ use Rattle.run_account.specs.Account.{Account, IsStill}
 use Rattle.run_account.specs.Pictures.{counts_of}
 use Rattle.run_laws.specs.Runs.{IsRun}
 use Rattle.run_laws.specs.Telling.{AreSettled}
-use Rattle.materializer.specs.Graphs.{graph_of}
+use Rattle.materializer.specs.Graphs.{graph_of, chains_of}
 use Rattle.materializer.specs.Seats.{AreSeats}
 use Rattle.bodies_run.specs.Counts.{all_sent}
 use Rattle.island_runs.specs.declared.run.Stopped.{Stopped}
@@ -30,7 +30,7 @@ use Rattle.stream_model.specs.Linear.{Book}
 -- what stands at these places, over these sources and these drains, and are these now.
 pub record Moment {S D L B : Type 0} (sources : S → SourceState) (drains : D → DrainState) (book : Book) (b : Blueprint) (ss : List S) (ds : List D) (account : Account (Node S D L B)) (nodes : List (Node S D L B)) : Type 0 where
   pub places : List (Seated S D L B)
-  pub seats : AreSeats 0 b.nodes.items ss ds places
+  pub seats : AreSeats (chains_of b) 0 b.nodes.items ss ds places
   pub firsts : List (Node S D L B)
   pub become : AllBecome places firsts
   pub first_at : (k : ℕ) → account.firsts k ≡ slice_get firsts k

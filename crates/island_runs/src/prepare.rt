@@ -1,7 +1,7 @@
 // What the run of a blueprint's islands takes of memory before its files are opened.
 ghost use Rattle.std.specs.List.{All};
 ghost use Rattle.std.specs.Prelude.{◌≡◌, IfOk, map};
-ghost use Rattle.materializer.specs.Built.{CanRun};
+ghost use Rattle.materializer.specs.Fit.{CanRun};
 ghost use Rattle.island_runs.specs.Prepared.{IsPrepared};
 ghost use Rattle.plug_board.specs.Handed.{GivesAsListed, HasPlugs};
 

@@ -33,7 +33,6 @@ status_text status.Stalled used = codes "stalled"
 status_text status.OutOfTurns used = codes "out of turns " ++ decimal used
 status_text (status.Missing name) used = codes "missing " ++ name
 status_text status.ReadFault used = codes "read fault"
-status_text (status.Unbuilt n) used = codes "unbuilt " ++ decimal n
 status_text status.WriteFault used = codes "write fault"
 status_text status.NoMemory used = codes "no memory"
 
@@ -93,6 +92,5 @@ code_of status.Stalled = 4
 code_of status.OutOfTurns = 5
 code_of (status.Missing name) = 6
 code_of status.ReadFault = 7
-code_of (status.Unbuilt n) = 2
 code_of status.WriteFault = 8
 code_of status.NoMemory = 9

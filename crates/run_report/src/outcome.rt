@@ -25,8 +25,6 @@ pub enum Status {
     Missing(Line),
     /// A read of the blueprint's file failed.
     ReadFault,
-    /// This version does not run the kind of the node of that number; it is the least such node.
-    Unbuilt(u32),
     /// A write to a sink's file failed.
     WriteFault,
     /// Memory was wanting.

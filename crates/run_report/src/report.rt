@@ -24,7 +24,7 @@ pub fn code(status: &Status) -> u8
     match status {
         Status::Done => 0,
         Status::Usage => 1,
-        Status::Refused(_) | Status::Unfit(_) | Status::Unbuilt(_) => 2,
+        Status::Refused(_) | Status::Unfit(_) => 2,
         Status::StreamFailed => 3,
         Status::Stalled => 4,
         Status::OutOfTurns => 5,
@@ -131,10 +131,6 @@ fn put_status<D: Drain>(
         Status::OutOfTurns => put_used(console, used),
         Status::Missing(name) => put_parts(console, &[b"missing ", name.bytes(), b"\n"]),
         Status::ReadFault => put_parts(console, &[b"read fault\n"]),
-        Status::Unbuilt(n) => {
-            let mut buffer = Buffer::new();
-            put_parts(console, &[b"unbuilt ", buffer.format(*n).as_bytes(), b"\n"])
-        }
         Status::WriteFault => put_parts(console, &[b"write fault\n"]),
         Status::NoMemory => put_parts(console, &[b"no memory\n"]),
     }

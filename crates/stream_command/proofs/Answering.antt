@@ -43,7 +43,6 @@ stopped status.StreamFailed n old new h = absurd h
 stopped status.Stalled n old new h = absurd h
 stopped status.OutOfTurns n old new h = absurd h
 stopped status.ReadFault n old new h = absurd h
-stopped (status.Unbuilt k) n old new h = absurd h
 
 -- where no count rose only want of memory ends it
 calm_stops : (s : Status) (n : ℕ) (old new : FolderState) → RoseNowhere old new → StopsBefore s n old new → WasRun s
@@ -60,7 +59,6 @@ calm_stops status.StreamFailed n old new calm h = tt
 calm_stops status.Stalled n old new calm h = tt
 calm_stops status.OutOfTurns n old new calm h = tt
 calm_stops status.ReadFault n old new calm h = absurd h
-calm_stops (status.Unbuilt k) n old new calm h = absurd h
 
 -- ---- the files were generated
 

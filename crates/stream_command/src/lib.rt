@@ -5,4 +5,4 @@ pub mod run;
 
 pub use stream_top::outcome::Status;
 pub use stream_top::sure::run_surely;
-pub use stream_top::top::RunEnd;
+pub use stream_top::top::{RunEnd, end_before_run};

@@ -3,7 +3,7 @@ use Rattle.std.specs.Prelude.{List, [], ◌∷◌, codes}
 use Rattle.elem_core.specs.Sort.{text_type, num_type}
 use Rattle.plug_core.specs.declared.head.PlugHead.{PlugHead}
 use Rattle.plug_logic.specs.Shipped.{shipped_book}
-use Rattle.stream_top.specs.Asked.{Plugged}
+use Rattle.stream_command.specs.Calls.{Plugged}
 
 -- dedup takes and gives texts, and pairsum numbers
 abbrev pub shipped_heads : List PlugHead

@@ -3,3 +3,5 @@
 
 pub mod laws;
 pub mod run;
+
+pub use stream_command::{RunEnd, Status, run_surely};

@@ -8,12 +8,11 @@ ghost use Rattle.plug_logic.specs.Shipped.{shipped_book};
 ghost use Rattle.stage_linear.specs.Plugs.{Is};
 ghost use Rattle.stream_io.specs.Counts.{GrewAtMost};
 ghost use Rattle.command_words.specs.Asking.{Asked, asked_of};
-ghost use Rattle.stream_top.specs.Calls.{answer_of};
-ghost use Rattle.stream_top.specs.Outcome.{RoseNowhere, WasRun};
 ghost use Rattle.file_text.specs.Text.{text_limit};
 ghost use Rattle.run_report.specs.Report.{report_of, code_of};
 ghost use Rattle.run_report.specs.Writing.{Puts, PutsPart};
 ghost use Rattle.stream_command.specs.Answers.{Answers, IsValidFor};
+ghost use Rattle.stream_command.specs.Calls.{answer_of, RoseNowhere, WasRun};
 ghost use Rattle.stream_command.specs.Receipts.{ReceiptsOf, IslandsOf};
 ghost use Rattle.stream_shipped.specs.Heads.{shipped_heads, shipped_plugs};
 
@@ -31,8 +30,8 @@ use std::alloc::Global;
 use std::sync::Wait;
 use std::thread::Threads;
 use stream_command::run::run_streams;
+use stream_command::{RunEnd, end_before_run};
 use stream_io::outside::{Drain, Folder};
-use stream_top::top::{RunEnd, end_before_run};
 
 /// The head of a plug of this name.
 fn head_of(

@@ -29,7 +29,6 @@ use Rattle.blue_check.specs.Fitness.{IsFit, IsFirstFault}
 use Rattle.blue_check.specs.declared.fault.CheckFault.{CheckFault}
 use Rattle.blue_check.specs.Wires.{blueprint_wires}
 use Rattle.blue_walks.specs.Forest.{wiring}
-use Rattle.materializer.specs.Built.{unbuilt_node}
 use Rattle.materializer.specs.Graphs.{graph_of, node_of}
 use Rattle.materializer.specs.Files.{input_of, output_of, is_sink, sinks_of_nodes, inputs_of_nodes, outputs_of_nodes}
 use Rattle.run_files.specs.Quiet.{Quiet, QuietBut}
@@ -56,7 +55,7 @@ use Rattle.stream_top.specs.AfterRun.{AfterRun, ends_of, name_of, told_end, told
 use Rattle.stream_top.specs.Asked.{Plugged, Asked}
 use Rattle.file_text.specs.Text.{text_limit, text_of_file, ReadsFile}
 use Rattle.stream_top.specs.Outcome.{taken_files, SaysFile, SaysFit, Blank, RanNothing, RanTo, FallsShort, SinksWrote, SomeCountRose, SomeWriteFailed, GaveUp, LacksInput, LacksOutput, IsAbsent, EndedRun, EndedBefore, Told, Causes, CausesBefore, QuietButAll, QuietAmong, RunCauses, SinksOf, MissesFile}
-use Rattle.stream_top.specs.Texts.{NotRun, EndedFit, NotFit, EndedParsed, NotSaid, EndedText, AllQuiet, CausesQuiet, CausesFit, CausesText}
+use Rattle.stream_top.specs.Texts.{NotFit, EndedParsed, NotSaid, EndedText, AllQuiet, CausesQuiet, CausesText}
 use Rattle.file_text.proofs.Quiets.{tells_before, files_two, most_later}
 
 -- ---- the ends of sinks
@@ -696,7 +695,6 @@ module _ (plugged : Plugged) (old mid new : FolderState) (file t : List ℕ) (r 
     run_later status.ReadFault e = e
     run_later (status.Refused f) e = e
     run_later (status.Unfit f) e = e
-    run_later (status.Unbuilt k) e = e
     run_later status.Usage e = e
 
 -- what rose in the run rose in the call
@@ -727,7 +725,6 @@ module _ (plugged : Plugged) (old mid new : FolderState) (file t : List ℕ) (r 
   causes_later status.ReadFault c = c
   causes_later (status.Refused f) c = c
   causes_later (status.Unfit f) c = c
-  causes_later (status.Unbuilt k) c = c
 
 -- ---- a call that read its file
 
@@ -747,7 +744,6 @@ module _ (plugged : Plugged) (a : Answer) (c : Asked) (old mid new : FolderState
   not_said status.Usage h = absurd h
   not_said (status.Missing n) h = absurd h
   not_said (status.Unfit f) h = absurd h
-  not_said (status.Unbuilt k) h = absurd h
 
   module _ (b : Blueprint) (says : language.Says t (plain b)) where
     not_fit : (s : Status) → NotFit plugged s a b (taken_files c.file c.trace) mid new → EndedBefore plugged s a c.file c.trace old new
@@ -762,29 +758,13 @@ module _ (plugged : Plugged) (a : Answer) (c : Asked) (old mid new : FolderState
     not_fit status.Usage h = absurd h
     not_fit (status.Missing n) h = absurd h
     not_fit (status.Refused f) h = absurd h
-    not_fit (status.Unbuilt k) h = absurd h
 
     module _ (fit : IsFit b plugged.heads (taken_files c.file c.trace)) where
       said_fit : SaysFit plugged old c.file c.trace b
       said_fit = record { says = says_read old mid c.file t b tells r says; fit = fit }
 
-      not_run : (s : Status) → NotRun s a b mid new → EndedBefore plugged s a c.file c.trace old new
-      not_run (status.Unbuilt k) h = (nothing_since old mid new c.file t r a h.0, (b, (said_fit, h.1)))
-      not_run status.NoMemory h = nothing_since old mid new c.file t r a h
-      not_run status.Done h = absurd h
-      not_run status.StreamFailed h = absurd h
-      not_run status.Stalled h = absurd h
-      not_run status.OutOfTurns h = absurd h
-      not_run status.WriteFault h = absurd h
-      not_run status.ReadFault h = absurd h
-      not_run status.Usage h = absurd h
-      not_run (status.Missing n) h = absurd h
-      not_run (status.Refused f) h = absurd h
-      not_run (status.Unfit f) h = absurd h
-
-      told_fit : EndedFit plugged a.status a b c.trace c.turns mid new → Told plugged a c old new
-      told_fit (inl h) = inl (not_run a.status h)
-      told_fit (inr h) = inr (b, (record { fit = said_fit; built = h.0 }, run_later plugged old mid new c.file t r b c.trace fit c.turns a tells a.status h.1))
+      told_fit : EndedRun plugged a.status a b c.trace c.turns mid new → Told plugged a c old new
+      told_fit h = inr (b, (said_fit, run_later plugged old mid new c.file t r b c.trace fit c.turns a tells a.status h))
 
     told_parsed : EndedParsed plugged a.status a b (taken_files c.file c.trace) c.trace c.turns mid new → Told plugged a c old new
     told_parsed (inl h) = inl (not_fit a.status h)
@@ -802,7 +782,6 @@ module _ (plugged : Plugged) (old mid new : FolderState) (file t : List ℕ) (r 
   quiet_before : (s : Status) → CausesQuiet s mid new → CausesBefore s file old new
   quiet_before (status.Refused f) h = let q = all_quiet h in (q.refusals, q.rfaults, q.wfaults)
   quiet_before (status.Unfit f) h = let q = all_quiet h in (q.refusals, q.rfaults, q.wfaults)
-  quiet_before (status.Unbuilt k) h = let q = all_quiet h in (q.refusals, q.rfaults, q.wfaults)
   quiet_before status.NoMemory h = let q = all_quiet h in (q.refusals, q.rfaults, q.wfaults)
   quiet_before status.Done h = absurd h
   quiet_before status.StreamFailed h = absurd h
@@ -830,10 +809,6 @@ quiet_here s = record { refusals = λ n. grew_same _ _ refl; rfaults = λ n. gre
 nothing_here : (s : FolderState) (a : Answer) → Blank a → RanNothing s s a
 nothing_here s a b = record { files = record { telling = refl; files = λ h n. refl }; blank = b }
 
--- a blueprint of which some node has not been built is not run
-pub unbuilt_told : (plugged : Plugged) (s : FolderState) (a : Answer) (b : Blueprint) (trace : Option (List ℕ)) (k turns : ℕ) → a.status ≡ status.Unbuilt k → Blank a → unbuilt_node b ≡ Some k → EndedFit plugged a.status a b trace turns s s
-unbuilt_told plugged s a b trace k turns is blank e = subst (λ x. EndedFit plugged x a b trace turns s s) (sym is) (inl (nothing_here s a blank, e))
-
 -- a blueprint that breaks a rule is not run
 unfit_by : (plugged : Plugged) (s : FolderState) (a : Answer) (b : Blueprint) (taken : List (List ℕ)) (f : CheckFault) → (a.status ≡ status.Unfit f) ⊎ (a.status ≡ status.NoMemory) → Blank a → IsFirstFault b plugged.heads taken f → NotFit plugged a.status a b taken s s
 unfit_by plugged s a b taken f (inl e) blank first = subst (λ x. NotFit plugged x a b taken s s) (sym e) (nothing_here s a blank, first)
@@ -844,9 +819,8 @@ pub unfit_told : (plugged : Plugged) (s : FolderState) (a : Answer) (b : Bluepri
 unfit_told plugged s a b taken trace turns f is blank first = inl (unfit_by plugged s a b taken f is blank first)
 
 -- a blueprint that was found fit is the one that was parsed
-pub causes_parsed : (plugged : Plugged) (s : Status) (a : Answer) (b c : Blueprint) (taken : List (List ℕ)) (trace : Option (List ℕ)) (old new : FolderState) → IsFit b plugged.heads taken → c ≡ b → CausesFit plugged s a c trace old new → CausesText plugged s a taken trace old new
-causes_parsed plugged s a b c taken trace old new fit same (inl h) = inl h
-causes_parsed plugged s a b c taken trace old new fit same (inr h) = inr (b, (fit, subst (λ x. RunCauses plugged s a x trace old new) same h))
+pub causes_parsed : (plugged : Plugged) (s : Status) (a : Answer) (b c : Blueprint) (taken : List (List ℕ)) (trace : Option (List ℕ)) (old new : FolderState) → IsFit b plugged.heads taken → c ≡ b → RunCauses plugged s a c trace old new → CausesText plugged s a taken trace old new
+causes_parsed plugged s a b c taken trace old new fit same h = inr (b, (fit, subst (λ x. RunCauses plugged s a x trace old new) same h))
 
 -- the trace's file is taken, so it is none of the blueprint's
 pub apart_of : (plugged : Plugged) (b c : Blueprint) (taken : List (List ℕ)) (trace : Option (List ℕ)) → IsFit b plugged.heads taken → c ≡ b → ((t : List ℕ) → trace ≡ Some t → Contains taken t) → IsApart c trace

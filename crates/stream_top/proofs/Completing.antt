@@ -10,14 +10,13 @@ use Rattle.blue_check.specs.Wires.{blueprint_wires}
 use Rattle.blue_check.specs.declared.fault.CheckFault.{CheckFault}
 use Rattle.blue_check.specs.declared.fault.CheckFault.TheVariants as fault
 use Rattle.blue_rules.specs.Paths.{HasNoClosedWalk}
-use Rattle.materializer.specs.Built.{unbuilt_node}
 use Rattle.materializer.specs.Files.{inputs_of_nodes}
 use Rattle.blueprint_run.proofs.Places.{all_at}
 use Rattle.run_report.specs.Answer.{Answer}
 use Rattle.run_report.specs.declared.outcome.Status.{Status}
 use Rattle.run_report.specs.declared.outcome.Status.TheVariants as status
 use Rattle.stream_top.specs.Asked.{Plugged, Asked}
-use Rattle.stream_top.specs.Outcome.{taken_files, IsAbsent, LacksInput, LacksOutput, EndedBefore, EndedRun, SaysFile, SaysBuilt, Told, IsValid, RoseNowhere, WasRun}
+use Rattle.stream_top.specs.Outcome.{taken_files, IsAbsent, LacksInput, LacksOutput, EndedBefore, EndedRun, SaysFile, SaysFit, Told, IsValid, RoseNowhere, WasRun}
 
 some_same : {A : Type 0} {a b : A} → Some a ≡ Some b → a ≡ b
 some_same e = cc
@@ -66,7 +65,7 @@ module _ (plugged : Plugged) (c : Asked) (old new : FolderState) (v : IsValid pl
       there_absent old new n (all_at (λ m. IsSome (old.file m)) (inputs_of_nodes b.nodes.items) at.0 n (v.inputs b says) among) calm h.absent
   absent_never b n says (inr h) = calm.refusals n h.refused
 
-  completes : (s : Status) → EndedBefore plugged s a c.file c.trace old new ⊎ ((b : Blueprint) × (SaysBuilt plugged old c.file c.trace b × EndedRun plugged s a b c.trace c.turns old new)) → WasRun s
+  completes : (s : Status) → EndedBefore plugged s a c.file c.trace old new ⊎ ((b : Blueprint) × (SaysFit plugged old c.file c.trace b × EndedRun plugged s a b c.trace c.turns old new)) → WasRun s
   completes status.Done t = tt
   completes status.StreamFailed t = tt
   completes status.Stalled t = tt
@@ -84,10 +83,8 @@ module _ (plugged : Plugged) (c : Asked) (old new : FolderState) (v : IsValid pl
   completes (status.Refused f) (inr h) = absurd h.1.1
   completes (status.Unfit f) (inl h) = absurd (fit_never plugged h.1.0 (taken_files c.file c.trace) f (v.fit h.1.0 h.1.1.0) h.1.1.1)
   completes (status.Unfit f) (inr h) = absurd h.1.1
-  completes (status.Unbuilt k) (inl h) = absurd (none_some (unbuilt_node h.1.0) k (v.built h.1.0 h.1.1.0.says) h.1.1.1)
-  completes (status.Unbuilt k) (inr h) = absurd h.1.1
   completes (status.Missing n) (inl h) = absurd (there_absent old new c.file (some_there (old.file c.file) v.says.whole v.says.there) calm h.2)
-  completes (status.Missing n) (inr h) = absurd (absent_never h.0 n h.1.0.fit.says h.1.1)
+  completes (status.Missing n) (inr h) = absurd (absent_never h.0 n h.1.0.says h.1.1)
 
 -- the answer to a valid call without faults
 pub complete : (plugged : Plugged) (c : Asked) (old new : FolderState) (a : Answer) → (IsTrue old.tells → Told plugged a c old new) → IsTrue old.tells → IsValid plugged c.file c.trace old → RoseNowhere old new → WasRun a.status

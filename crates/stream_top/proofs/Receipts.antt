@@ -9,13 +9,12 @@ use Rattle.blue_lang.specs.Blueprints as language
 use Rattle.blueprint_run.specs.Stands.{Stand, is_write_fault, is_unended, is_failed}
 use Rattle.dispatcher.specs.declared.ran.Ran.{Ran}
 use Rattle.file_text.specs.Text.{ReadsFile}
-use Rattle.island_runs.specs.Receipt.{HasIslands, IsReceipt}
-use Rattle.materializer.specs.Built.{unbuilt_node}
+use Rattle.blueprint_run.specs.Receipt.{HasIslands, IsReceipt}
 use Rattle.run_report.specs.declared.outcome.Status.{Status}
 use Rattle.run_report.specs.declared.outcome.Status.TheVariants as status
 use Rattle.stream_io.specs.State.{FolderState}
 use Rattle.stream_top.specs.AfterRun.{status_after}
-use Rattle.stream_top.specs.Outcome.{taken_files, SaysBuilt}
+use Rattle.stream_top.specs.Outcome.{taken_files, SaysFit}
 use Rattle.stream_top.proofs.Answering.{says_read}
 use Rattle.stream_top.specs.Receipts.{HasReceipt, Receipts, RanIslands, RanText, RanFile}
 use Rattle.stream_top.specs.Asked.{Plugged}
@@ -55,10 +54,10 @@ pub told_on : (P Q : Ran → Type 0) → ((r : Ran) → P r → Q r) → (ran : 
 told_on P Q f None h = tt
 told_on P Q f (Some r) h = f r h
 
--- a blueprint that breaks no rule, and of which all has been built
-pub of_fit : (plugged : Plugged) (b c : Blueprint) (taken : List (List ℕ)) (ran : Option Ran) → b ≡ c → IsFit c plugged.heads taken → unbuilt_node c ≡ None → IfSome ran (λ (r : Ran). HasIslands b r.islands) → IfSome ran (λ (r : Ran). RanIslands plugged c taken r)
-of_fit plugged b c taken ran same fit built h = told_on (λ (r : Ran). HasIslands b r.islands) (λ (r : Ran). RanIslands plugged c taken r)
-    (λ r i. record { fit = fit; built = built; islands = subst (λ (x : Blueprint). HasIslands x r.islands) same i }) ran h
+-- a blueprint that breaks no rule
+pub of_fit : (plugged : Plugged) (b c : Blueprint) (taken : List (List ℕ)) (ran : Option Ran) → b ≡ c → IsFit c plugged.heads taken → IfSome ran (λ (r : Ran). HasIslands b r.islands) → IfSome ran (λ (r : Ran). RanIslands plugged c taken r)
+of_fit plugged b c taken ran same fit h = told_on (λ (r : Ran). HasIslands b r.islands) (λ (r : Ran). RanIslands plugged c taken r)
+    (λ r i. record { fit = fit; islands = subst (λ (x : Blueprint). HasIslands x r.islands) same i }) ran h
 
 -- the blueprint of a checked one
 pub of_checked : (plugged : Plugged) (b c : Blueprint) (taken : List (List ℕ)) (ran : Option Ran) → c ≡ b → IfSome ran (λ (r : Ran). RanIslands plugged c taken r) → IfSome ran (λ (r : Ran). RanIslands plugged b taken r)
@@ -71,14 +70,11 @@ of_text plugged text b taken ran says h = told_on (λ (r : Ran). RanIslands plug
 -- that of a file that was read
 pub of_file : (plugged : Plugged) (old mid : FolderState) (file text : List ℕ) (trace : Option (List ℕ)) (taken : List (List ℕ)) (ran : Option Ran) → IsTrue old.tells → ReadsFile old mid file text → taken ≡ taken_files file trace → RanText plugged text taken ran → RanFile plugged old file trace ran
 of_file plugged old mid file text trace taken ran tells read same h =
-    told_on (λ (r : Ran). (c : Blueprint) × (language.Says text (plain c) × RanIslands plugged c taken r)) (λ (r : Ran). (c : Blueprint) × (SaysBuilt plugged old file trace c × HasIslands c r.islands))
+    told_on (λ (r : Ran). (c : Blueprint) × (language.Says text (plain c) × RanIslands plugged c taken r)) (λ (r : Ran). (c : Blueprint) × (SaysFit plugged old file trace c × HasIslands c r.islands))
     (λ r i. (
       i.0,
       (
-        record {
-          fit = record { says = says_read old mid file text i.0 tells read i.1.0; fit = subst (λ (t : List (List ℕ)). IsFit i.0 plugged.heads t) same i.1.1.fit };
-          built = i.1.1.built;
-        },
+        record { says = says_read old mid file text i.0 tells read i.1.0; fit = subst (λ (t : List (List ℕ)). IsFit i.0 plugged.heads t) same i.1.1.fit },
         i.1.1.islands,
       ),
     ))

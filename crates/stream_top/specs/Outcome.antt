@@ -15,7 +15,6 @@ use Rattle.blue_lang.specs.Plain.{plain}
 use Rattle.blue_check.specs.Fitness.{IsFit, IsFirstFault}
 use Rattle.blue_check.specs.Wires.{blueprint_wires}
 use Rattle.blue_walks.specs.Forest.{wiring}
-use Rattle.materializer.specs.Built.{unbuilt_node}
 use Rattle.materializer.specs.Files.{output_of, inputs_of_nodes, outputs_of_nodes}
 use Rattle.materializer.specs.Graphs.{graph_of, node_of}
 use Rattle.run_files.specs.Quiet.{Quiet, QuietBut}
@@ -47,11 +46,6 @@ taken_files file trace = file ∷ option_to_list trace
 pub record SaysFit (p : Plugged) (folder : FolderState) (file : List ℕ) (trace : Option (List ℕ)) (b : Blueprint) : Type 0 where
   pub says : SaysFile folder file b
   pub fit : IsFit b p.heads (taken_files file trace)
-
--- and all of it has been built
-pub record SaysBuilt (p : Plugged) (folder : FolderState) (file : List ℕ) (trace : Option (List ℕ)) (b : Blueprint) : Type 0 where
-  pub fit : SaysFit p folder file trace b
-  pub built : unbuilt_node b ≡ None
 
 -- nothing was run: there is nothing to tell of a run
 pub record Blank (a : Answer) : Type 0 where
@@ -102,7 +96,6 @@ EndedBefore p (status.Missing n) a file trace old new = RanNothing old new a × 
 EndedBefore p status.ReadFault a file trace old new = RanNothing old new a × Rose (old.rfaults file) (new.rfaults file)
 EndedBefore p (status.Refused f) a file trace old new = RanNothing old new a × ((whole : List ℕ) × ((old.file file ≡ Some whole) × (language.fault_of whole ≡ Some f)))
 EndedBefore p (status.Unfit f) a file trace old new = RanNothing old new a × ((b : Blueprint) × (SaysFile old file b × IsFirstFault b p.heads (taken_files file trace) f))
-EndedBefore p (status.Unbuilt k) a file trace old new = RanNothing old new a × ((b : Blueprint) × (SaysFit p old file trace b × (unbuilt_node b ≡ Some k)))
 EndedBefore p status.NoMemory a file trace old new = RanNothing old new a
 EndedBefore p _ a file trace old new = ⊥
 
@@ -164,7 +157,7 @@ EndedRun p _ a b trace turns old new = ⊥
 
 -- what a call with that file answers: it ended before a run, or it ran the blueprint that the file says
 abbrev pub Told : Plugged → Answer → Asked → FolderState → FolderState → Type 0
-Told p a c old new = EndedBefore p a.status a c.file c.trace old new ⊎ ((b : Blueprint) × (SaysBuilt p old c.file c.trace b × EndedRun p a.status a b c.trace c.turns old new))
+Told p a c old new = EndedBefore p a.status a c.file c.trace old new ⊎ ((b : Blueprint) × (SaysFit p old c.file c.trace b × EndedRun p a.status a b c.trace c.turns old new))
 
 -- only counts of these names rose
 abbrev pub QuietButAll : List (List ℕ) → (List ℕ → ℕ) → (List ℕ → ℕ) → Type 0
@@ -196,7 +189,6 @@ RunCauses p status.Usage a b trace old new = ⊥
 RunCauses p status.ReadFault a b trace old new = ⊥
 RunCauses p (status.Refused f) a b trace old new = ⊥
 RunCauses p (status.Unfit f) a b trace old new = ⊥
-RunCauses p (status.Unbuilt k) a b trace old new = ⊥
 RunCauses p (status.Missing n) a b trace old new = MissesFile old new b trace n × QuietBut n old.refusals new.refusals × Quiet old.rfaults new.rfaults × Quiet old.wfaults new.wfaults
 RunCauses p status.NoMemory a b trace old new = Quiet old.refusals new.refusals × QuietButAll (inputs_of_nodes b.nodes.items) old.rfaults new.rfaults × QuietButAll (outputs_of_nodes b.nodes.items) old.wfaults new.wfaults
 RunCauses p status.WriteFault a b trace old new = Quiet old.refusals new.refusals × QuietButAll (inputs_of_nodes b.nodes.items) old.rfaults new.rfaults × SomeCountRose old new b trace × QuietButAll (written_files b trace) old.wfaults new.wfaults × SinksWrote p old new b a
@@ -208,7 +200,6 @@ CausesBefore (status.Missing n) file old new = (n ≡ file) × IsAbsent old new 
 CausesBefore status.ReadFault file old new = Quiet old.refusals new.refusals × (Rose (old.rfaults file) (new.rfaults file) × QuietBut file old.rfaults new.rfaults) × Quiet old.wfaults new.wfaults
 CausesBefore (status.Refused f) file old new = Quiet old.refusals new.refusals × Quiet old.rfaults new.rfaults × Quiet old.wfaults new.wfaults
 CausesBefore (status.Unfit f) file old new = Quiet old.refusals new.refusals × Quiet old.rfaults new.rfaults × Quiet old.wfaults new.wfaults
-CausesBefore (status.Unbuilt k) file old new = Quiet old.refusals new.refusals × Quiet old.rfaults new.rfaults × Quiet old.wfaults new.wfaults
 CausesBefore status.NoMemory file old new = Quiet old.refusals new.refusals × Quiet old.rfaults new.rfaults × Quiet old.wfaults new.wfaults
 CausesBefore _ file old new = ⊥
 
@@ -226,13 +217,12 @@ SinksOf status.OutOfTurns a trace = (some_fault a.sinks ≡ false) × (some_unen
 SinksOf status.WriteFault a trace = (some_fault a.sinks ≡ true) ⊎ IsSome trace
 SinksOf _ a trace = Blank a
 
--- the file says a blueprint; it is fit and built, and its inputs are there. A text says one blueprint, so this is said of each value
+-- the file says a blueprint; it is fit, and its inputs are there. A text says one blueprint, so this is said of each value
 -- that the text says.
 pub record IsValid (p : Plugged) (file : List ℕ) (trace : Option (List ℕ)) (folder : FolderState) : Type 0 where
   pub blueprint : Blueprint
   pub says : SaysFile folder file blueprint
   pub fit : (b : Blueprint) → SaysFile folder file b → IsFit b p.heads (taken_files file trace)
-  pub built : (b : Blueprint) → SaysFile folder file b → unbuilt_node b ≡ None
   pub inputs : (b : Blueprint) → SaysFile folder file b → All (λ n. IsSome (folder.file n)) (inputs_of_nodes b.nodes.items)
 
 -- no count rose

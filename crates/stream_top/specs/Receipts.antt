@@ -5,12 +5,11 @@ use Rattle.blue_check.specs.Fitness.{IsFit}
 use Rattle.blue_lang.specs.Blueprints as language
 use Rattle.blue_lang.specs.Plain.{plain}
 use Rattle.dispatcher.specs.declared.ran.Ran.{Ran}
-use Rattle.island_runs.specs.Receipt.{HasIslands}
-use Rattle.materializer.specs.Built.{unbuilt_node}
+use Rattle.blueprint_run.specs.Receipt.{HasIslands}
 use Rattle.run_report.specs.declared.outcome.Status.{Status}
 use Rattle.run_report.specs.declared.outcome.Status.TheVariants as status
 use Rattle.stream_io.specs.State.{FolderState}
-use Rattle.stream_top.specs.Outcome.{SaysBuilt}
+use Rattle.stream_top.specs.Outcome.{SaysFit}
 use Rattle.stream_top.specs.Asked.{Plugged}
 
 -- there is a receipt of so many workers and so many units
@@ -30,10 +29,9 @@ Receipts status.OutOfTurns workers used ran = (r : HasReceipt workers used ran) 
 Receipts status.WriteFault workers used ran = HasReceipt workers used ran
 Receipts _ workers used ran = ran ≡ None
 
--- the islands of this blueprint were run, which breaks no rule where these files are taken, and of which all has been built
+-- the islands of this blueprint were run, which breaks no rule where these files are taken
 pub record RanIslands (p : Plugged) (b : Blueprint) (taken : List (List ℕ)) (r : Ran) : Type 0 where
   pub fit : IsFit b p.heads taken
-  pub built : unbuilt_node b ≡ None
   pub islands : HasIslands b r.islands
 
 -- those of the blueprint that this text says
@@ -42,4 +40,4 @@ RanText p text taken ran = IfSome ran (λ r. (b : Blueprint) × (language.Says t
 
 -- those of the blueprint that this file says
 abbrev pub RanFile : Plugged → FolderState → List ℕ → Option (List ℕ) → Option Ran → Type 0
-RanFile p folder file trace ran = IfSome ran (λ r. (b : Blueprint) × (SaysBuilt p folder file trace b × HasIslands b r.islands))
+RanFile p folder file trace ran = IfSome ran (λ r. (b : Blueprint) × (SaysFit p folder file trace b × HasIslands b r.islands))

@@ -1,11 +1,10 @@
--- What a text comes to: it is refused, or the blueprint that it says is unfit, unbuilt or run.
-use Rattle.std.specs.Prelude.{◌≡◌, ℕ, ◌⊎◌, List, Option, Some, None}
+-- What a text comes to: it is refused, or the blueprint that it says is unfit or run.
+use Rattle.std.specs.Prelude.{◌≡◌, ℕ, ◌⊎◌, List, Option, Some}
 use Rattle.stream_io.specs.State.{FolderState}
 use Rattle.blue_core.specs.declared.blueprint.Blueprint.{Blueprint}
 use Rattle.blue_lang.specs.Blueprints as language
 use Rattle.blue_lang.specs.Plain.{plain}
 use Rattle.blue_check.specs.Fitness.{IsFit, IsFirstFault}
-use Rattle.materializer.specs.Built.{unbuilt_node}
 use Rattle.run_files.specs.Quiet.{Quiet}
 use Rattle.run_report.specs.Answer.{Answer}
 use Rattle.run_report.specs.declared.outcome.Status.{Status}
@@ -13,24 +12,15 @@ use Rattle.run_report.specs.declared.outcome.Status.TheVariants as status
 use Rattle.stream_top.specs.Outcome.{RanNothing, EndedRun, RunCauses}
 use Rattle.stream_top.specs.Asked.{Plugged}
 
--- a fit blueprint that was not run: some of it has not been built, or memory was wanting
-abbrev pub NotRun : Status → Answer → Blueprint → FolderState → FolderState → Type 0
-NotRun (status.Unbuilt k) a b old new = RanNothing old new a × (unbuilt_node b ≡ Some k)
-NotRun status.NoMemory a b old new = RanNothing old new a
-NotRun _ a b old new = ⊥
-
--- it was not run, or all of it has been built and it was run
-abbrev pub EndedFit : Plugged → Status → Answer → Blueprint → Option (List ℕ) → ℕ → FolderState → FolderState → Type 0
-EndedFit p s a b trace turns old new = NotRun s a b old new ⊎ ((unbuilt_node b ≡ None) × EndedRun p s a b trace turns old new)
-
 -- a blueprint that is not fit, or memory was wanting
 abbrev pub NotFit : Plugged → Status → Answer → Blueprint → List (List ℕ) → FolderState → FolderState → Type 0
 NotFit p (status.Unfit f) a b taken old new = RanNothing old new a × IsFirstFault b p.heads taken f
 NotFit p status.NoMemory a b taken old new = RanNothing old new a
 NotFit p _ a b taken old new = ⊥
 
+-- it is not fit, or it was run
 abbrev pub EndedParsed : Plugged → Status → Answer → Blueprint → List (List ℕ) → Option (List ℕ) → ℕ → FolderState → FolderState → Type 0
-EndedParsed p s a b taken trace turns old new = NotFit p s a b taken old new ⊎ (IsFit b p.heads taken × EndedFit p s a b trace turns old new)
+EndedParsed p s a b taken trace turns old new = NotFit p s a b taken old new ⊎ (IsFit b p.heads taken × EndedRun p s a b trace turns old new)
 
 -- a text that says no blueprint, or memory was wanting
 abbrev pub NotSaid : Status → Answer → List ℕ → FolderState → FolderState → Type 0
@@ -51,13 +41,9 @@ pub record AllQuiet (old new : FolderState) : Type 0 where
 abbrev pub CausesQuiet : Status → FolderState → FolderState → Type 0
 CausesQuiet (status.Refused f) old new = AllQuiet old new
 CausesQuiet (status.Unfit f) old new = AllQuiet old new
-CausesQuiet (status.Unbuilt k) old new = AllQuiet old new
 CausesQuiet status.NoMemory old new = AllQuiet old new
 CausesQuiet _ old new = ⊥
 
 -- which counts rose
-abbrev pub CausesFit : Plugged → Status → Answer → Blueprint → Option (List ℕ) → FolderState → FolderState → Type 0
-CausesFit p s a b trace old new = CausesQuiet s old new ⊎ RunCauses p s a b trace old new
-
 abbrev pub CausesText : Plugged → Status → Answer → List (List ℕ) → Option (List ℕ) → FolderState → FolderState → Type 0
 CausesText p s a taken trace old new = CausesQuiet s old new ⊎ ((b : Blueprint) × (IsFit b p.heads taken × RunCauses p s a b trace old new))

@@ -7,15 +7,15 @@ ghost use Rattle.blueprint_run.specs.Tracing.{IsApart};
 ghost use Rattle.run_report.specs.Report.{detail_of};
 ghost use Rattle.std.specs.List.{All, Contains, list_any};
 ghost use Rattle.std.specs.Option.{option_copied};
-ghost use Rattle.materializer.specs.Built.{CanRun};
+ghost use Rattle.materializer.specs.Fit.{CanRun};
 ghost use Rattle.materializer.specs.Files.{inputs_of_nodes, sinks_of_nodes};
 ghost use Rattle.stream_top.specs.AfterRun.{AfterRun, of_outcome, status_after, ends_of};
 ghost use Rattle.stream_io.specs.Counts.{GrewAtMost};
 ghost use Rattle.stream_top.specs.Outcome.{taken_files, Blank, EndedRun, Told, RunCauses, Causes, SinksOf, QuietButAll, QuietAmong};
 ghost use Rattle.file_text.specs.Text.{text_limit};
-ghost use Rattle.island_runs.specs.Receipt.{HasIslands};
+ghost use Rattle.blueprint_run.specs.Receipt.{HasIslands};
 ghost use Rattle.stream_top.specs.Receipts.{Receipts, RanIslands, RanText, RanFile};
-ghost use Rattle.stream_top.specs.Texts.{EndedFit, EndedParsed, EndedText, CausesFit, CausesText};
+ghost use Rattle.stream_top.specs.Texts.{EndedParsed, EndedText, CausesText};
 ghost use Rattle.plug_board.specs.Handed.{GivesAsListed, HasPlugs};
 ghost use Rattle.stream_top.specs.Asked.{plugged_by};
 
@@ -30,7 +30,6 @@ use dispatcher::ran::Ran;
 use elem_core::line::Line;
 use elem_core::why::NoMemory;
 use file_text::text::{ReadEnd, read_file};
-use materializer::built::first_unbuilt;
 use materializer::names::sink_names;
 use plug_board::heads::heads_of;
 use plug_logic::book::PlugBook;
@@ -209,7 +208,7 @@ fn sinks_to_tell(alloc: Global, b: &Blueprint) -> Result<(Vec<Line>, Vec<SinkEnd
     Ok((names, room))
 }
 
-/// Runs a blueprint of which all has been built.
+/// Runs a blueprint that can be run.
 fn run_blueprint<R: Threads + Wait + Sync, F: Folder, L: Logic + Send, B: PlugBook + Send>(
     rt: &R,
     alloc: Global,
@@ -248,7 +247,7 @@ fn run_blueprint<R: Threads + Wait + Sync, F: Folder, L: Logic + Send, B: PlugBo
     }
 }
 
-/// Runs a blueprint that was checked, where all of it has been built.
+/// Runs a blueprint that was checked.
 fn run_checked<R: Threads + Wait + Sync, F: Folder, L: Logic + Send, B: PlugBook + Send>(
     rt: &R,
     alloc: Global,
@@ -264,9 +263,9 @@ fn run_checked<R: Threads + Wait + Sync, F: Folder, L: Logic + Send, B: PlugBook
     requires apart { IsApart (blueprint_of checked) trace }
     requires workers { (0 < workers) × (workers ≤ 64) }
     requires turns { turns ≤ 4000000000 }
-    ensures told { IsTrue (F.state folder.old).tells → EndedFit (plugged_by B.lists plugs.items) result.status (of_outcome result) (blueprint_of checked) trace turns (F.state folder.old) (F.state folder.new) }
+    ensures told { IsTrue (F.state folder.old).tells → EndedRun (plugged_by B.lists plugs.items) result.status (of_outcome result) (blueprint_of checked) trace turns (F.state folder.old) (F.state folder.new) }
     ensures tells { IsTrue (F.state folder.new).tells → IsTrue (F.state folder.old).tells }
-    ensures causes { CausesFit (plugged_by B.lists plugs.items) result.status (of_outcome result) (blueprint_of checked) trace (F.state folder.old) (F.state folder.new) }
+    ensures causes { RunCauses (plugged_by B.lists plugs.items) result.status (of_outcome result) (blueprint_of checked) trace (F.state folder.old) (F.state folder.new) }
     ensures sinks { SinksOf result.status (of_outcome result) trace }
     ensures detail { result.detail.items ≡ detail_of result.status }
     ensures reads { QuietButAll (inputs_of_nodes (blueprint_of checked).nodes.items) (F.state folder.old).read (F.state folder.new).read }
@@ -274,20 +273,16 @@ fn run_checked<R: Threads + Wait + Sync, F: Folder, L: Logic + Send, B: PlugBook
     ensures islands { (taken : List (List ℕ)) → IsFit (blueprint_of checked) (map (λ p. p.head) plugs.items) taken → IfSome result.ran (λ r. RanIslands (plugged_by B.lists plugs.items) (blueprint_of checked) taken r) }
     ensures handles { F.handles folder.new ≡ F.handles folder.old }
 {
-    match first_unbuilt(checked.blueprint()) {
-        Ok(None) => run_blueprint::<R, F, L, B>(
-            rt,
-            alloc,
-            folder,
-            checked.into_blueprint(),
-            trace,
-            workers,
-            turns,
-            plugs,
-        ),
-        Ok(Some(node)) => without_run(alloc, Status::Unbuilt(node)),
-        Err(_) => without_run(alloc, Status::NoMemory),
-    }
+    run_blueprint::<R, F, L, B>(
+        rt,
+        alloc,
+        folder,
+        checked.into_blueprint(),
+        trace,
+        workers,
+        turns,
+        plugs,
+    )
 }
 
 /// Checks a blueprint, where these files are taken, and runs it.

@@ -48,17 +48,6 @@ fn put_missing(out: &mut Vec<u8>, scene: Option<Scene<'_>>, name: &[u8]) -> Resu
     Ok(())
 }
 
-/// Appends that a node is not run yet.
-fn put_unbuilt(out: &mut Vec<u8>, scene: Option<Scene<'_>>, word: &[u8]) -> Result<bool, NoMemory> {
-    let (Some(scene), Ok(number)) = (scene, count_place(word)) else {
-        return Ok(false);
-    };
-    out.extend_from_slice(b"This version of streams does not run ")?;
-    let is_node = put_node(out, scene, number as usize)?;
-    out.extend_from_slice(b". Nothing was run, and no file was changed.\n")?;
-    Ok(is_node)
-}
-
 /// Appends that the units were used up.
 fn put_used(out: &mut Vec<u8>, word: &[u8]) -> Result<bool, NoMemory> {
     out.extend_from_slice(b"Some sink has not ended, and all units are used: ")?;
@@ -82,9 +71,6 @@ pub(crate) fn put_status(
     if let Some(name) = line.strip_prefix(b"missing ") {
         put_missing(out, scene, name)?;
         return Ok(true);
-    }
-    if let Some(number) = line.strip_prefix(b"unbuilt ") {
-        return put_unbuilt(out, scene, number);
     }
     match line.strip_prefix(b"out of turns ") {
         Some(used) => put_used(out, used),

@@ -1,7 +1,7 @@
 -- The goals of `run::run_shipped` that the search leaves: memory was wanting before the call.
 use Rattle.command_words.specs.Asking.{asked_of}
 use Rattle.stream_command.proofs.Answering.{gave_up}
-use Rattle.stream_top.specs.Calls.{answer_of}
+use Rattle.stream_command.specs.Calls.{answer_of}
 use Rattle.stream_shipped.specs.Heads.{shipped_plugs}
 use Rattle.stream_shipped.proofs.run.run_shipped.Goals as goal
 

@@ -14,11 +14,11 @@ use plug_core::head::PlugHead;
 use std::alloc::Global;
 use std::sync::Wait;
 use std::thread::Threads;
-use stream_command::RunEnd;
 use stream_io::fail_at::FailAt;
 use stream_io::mem_drain::MemDrain;
 use stream_io::mem_folder::MemFolder;
 use stream_io::named_file::{NamedFile, bytes_of};
+use stream_shipped::RunEnd;
 use stream_shipped::run::run_shipped;
 
 /// The code that stands for want of memory.

@@ -19,6 +19,7 @@ use Rattle.elem_core.proofs.trace.Trace.TheSendSync as trace
 use Rattle.elem_core.proofs.why.Cause.TheSendSync as cause
 use Rattle.elem_core.proofs.why.Why.TheSendSync as why
 use Rattle.stream_model.proofs.outcome.EndState.TheSendSync as end_state
+use Rattle.nodes.proofs.Sending.{line_send}
 use Rattle.nodes.proofs.sink.Writes.TheSendSync as writes
 use Rattle.nodes.proofs.source.LinesSource.TheSendSync as lines_source
 use Rattle.atomic_table.proofs.shared.Seat.TheSendSync as seat
@@ -43,10 +44,6 @@ use Rattle.stage_state.specs.contracts.machine.MachineLogic as machine
 use Rattle.stage_state.specs.contracts.keep.KeepLogic as keep
 use Rattle.stage_state.specs.contracts.buffer.BufferLogic as buffer
 use Rattle.stage_state.specs.contracts.logic.StateLogic as state
-use Rattle.stage_keeping.specs.contracts.keeping.Keeping as keeping
-use Rattle.line_chain.specs.contracts.kind.StepKind as step_kind
-use Rattle.line_chain.specs.contracts.work.StepWork as step_work
-use Rattle.line_chain.specs.contracts.step.LineStep as line_step
 use Rattle.line_chain.specs.contracts.line.LineChain as chain
 use Rattle.line_chain.specs.contracts.line.LineChainChain.TheImpl as chained
 use Rattle.stage_sub.specs.contracts.opening.OpenBy as open_by
@@ -137,22 +134,7 @@ trip_send = trip.the_send
 state_send : IsSend (state.the_field).row
 state_send = enum_send (shape state.the_type) ((machine_send, tt), ((dropping_send, tt), ((recovering_send, tt), ((valve_send, tt), ((trip_send, tt), tt)))))
 
--- a chain and the stage whose substreams run it
-keeping_send : IsSend (keeping.the_field).row
-keeping_send = search (crosses, knot.crosses, sendable) depth 60 fits 20000
-
-kind_send : IsSend (step_kind.the_field).row
-kind_send = search (crosses, knot.crosses, sendable) depth 60 fits 20000
-
-work_send : IsSend (step_work.the_field).row
-work_send = search (task_send, keeping_send, crosses, knot.crosses, sendable) depth 60 fits 20000
-
-step_send : IsSend line_step.the_row
-step_send = search (kind_send, work_send, crosses, knot.crosses, sendable) depth 60 fits 20000
-
-line_send : IsSend chain.the_row
-line_send = search (step_send, crosses, knot.crosses, sendable) depth 60 fits 20000
-
+-- the stage whose substreams run a chain
 last_send : IsSend (last_inside.the_row chain.the_row chained.ghosts)
 last_send = search (line_send, crosses, knot.crosses, sendable) depth 60 fits 20000
 

@@ -9,3 +9,4 @@ pub mod SeatLoops
 pub mod Switches
 pub mod Plugs
 pub mod Filling
+pub mod SubPlaces

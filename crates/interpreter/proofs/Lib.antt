@@ -7,3 +7,4 @@ pub mod Gathering
 pub mod Marking
 pub mod Bounding
 pub mod Running
+pub mod LaneEnds

@@ -153,6 +153,10 @@ module _ (sizes_in sizes_out : ℕ → ℕ) (places : ℕ) (ends : List Ends) (w
         rw same a.1;
   }
 
+-- none is seated at first
+pub seat_first : {S D L B : Type 0} (rest places : List (Seated S D L B)) (nodes : List (Node S D L B)) → rest ≡ places → nodes ≡ [] → AllUnused places → AllUnused rest × ((xs : List (Node S D L B)) → AllBecome rest xs → AllBecome places (nodes ++ xs))
+seat_first rest places nodes e none unused = (rw e unused, λ xs h. let a : AllBecome places xs = rw e at h in rw none a)
+
 -- the places that are left to seat
 pub seat_next : {S D L B : Type 0} (places rest later : List (Seated S D L B)) (s : Seated S D L B) (nodes more : List (Node S D L B)) (x : Node S D L B) → rest ≡ s ∷ later → AllUnused rest → Becomes s x → more ≡ nodes ++ x ∷ []
     → ((xs : List (Node S D L B)) → AllBecome rest xs → AllBecome places (nodes ++ xs))

@@ -54,8 +54,10 @@ cases:
 	tools/example_cases >> crates/rows/data/book.txt
 	echo "$$(cat crates/rows/data/*.txt | grep -c '^case ') passed, 0 failed" > crates/rows/stdout
 
-# Each file of cases is named among the words of the program that tries them, and those of the pages say what the pages and examples/ say.
+# Each file of cases is named among the words of the program that tries them, and those of the pages say what the pages and examples/ say;
+# docs/ARCHITECTURE.md has each crate of crates.txt.
 listed:
+	@tools/crates_are_mapped
 	@tools/blocks_are_cases crates/rows/data docs/LANGUAGE.md
 	@tools/blocks_are_cases crates/workbench_rows/data docs/WORKBENCH.md
 	@{ tools/page_cases $(PAGES) && tools/example_cases; } | diff - crates/rows/data/book.txt

@@ -14,7 +14,7 @@
 #include <sys/mman.h>
 #include <unistd.h>
 
-enum { MEMORY, THREAD, OPEN, READ, WRITE, SHORT_READ, SHORT_WRITE, KINDS };
+enum { MEMORY, THREAD, OPEN, READ, WRITE, EMPTY_WRITE, SHORT_READ, SHORT_WRITE, KINDS };
 enum { FILES = 1024, NAME = 80 };
 
 /* Its layout is that of TOLD in tools/fail_each. */
@@ -129,6 +129,7 @@ ssize_t read(int fd, void *to, size_t n) {
 
 ssize_t write(int fd, const void *from, size_t n) {
     if (fails(WRITE, name_of(fd))) { errno = EIO; return -1; }
+    if (n > 0 && fails(EMPTY_WRITE, name_of(fd))) return 0;
     if (n > 1 && fails(SHORT_WRITE, name_of(fd))) n = 1;
     return real_write(fd, from, n);
 }

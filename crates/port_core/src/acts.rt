@@ -1,19 +1,18 @@
-ghost use Rattle.std.specs.Prelude.{◌≡◌, ◌<◌, ◌∷◌, [], ◌++◌, length, IfOk, IfSome, IfNone, IsNone, ◌↔◌};
+ghost use Rattle.std.specs.Prelude.{◌≡◌, ◌<◌, ◌∷◌, [], ◌++◌, length, IfOk, IfSome, IfNone, IsNone, ◌↔◌, ◌≢◌};
 
 use crate::act::Act;
 use elem_core::why::NoMemory;
 use std::alloc::Global;
-use std::collections::VecDeque;
 use std::marker::Model;
 
 /// A handler's actions, first in first out, with room for a number of them that is fixed at the start. Rule: own.
 #[derive(Drop)]
 pub struct Acts {
-    items: VecDeque<Act>,
+    items: Vec<Act>,
 }
 
 impl Model for Acts {
-    ghost use Rattle.std.specs.VecDeque.{deque_capacity};
+    ghost use Rattle.std.specs.Prelude.{vec_capacity};
     ghost use Rattle.std.specs.Coded.{codes};
     ghost use Rattle.elem_core.specs.TreeCode.{tree_coded};
     ghost use Rattle.port_core.specs.ActList.{ActList};
@@ -22,7 +21,7 @@ impl Model for Acts {
 
     ghost coded = { Prim.hlevel (codes, tree_coded) };
 
-    ghost view = { λ a. record { room = deque_capacity a.items; items = a.items.items } };
+    ghost view = { λ a. record { room = vec_capacity a.items; items = a.items.items } };
 }
 
 impl Acts {
@@ -30,7 +29,7 @@ impl Acts {
     pub fn new(alloc: Global, room: u32) -> Result<Acts, NoMemory>
         ensures { IfOk result (λ a. a ≡ record { room = room; items = [] }) }
     {
-        let items = VecDeque::with_capacity(alloc, room as usize)?;
+        let items = Vec::with_capacity(alloc, room as usize)?;
         Ok(Acts { items })
     }
 
@@ -39,15 +38,31 @@ impl Acts {
         requires { length self.old.items < self.old.room }
         ensures { self.new ≡ record self.old { items = self.old.items ++ act ∷ [] } }
     {
-        self.items.push_back_reserved(act);
+        self.items.push_reserved(act);
     }
 
-    /// Takes out the first action, in constant time. It takes no memory.
+    /// Takes out the action where exactly one is held, in constant time; else the list stays. It takes no memory.
+    pub fn only(&mut self) -> Option<Act>
+        ensures one { IfSome result (λ a. (self.old.items ≡ a ∷ []) × (self.new ≡ record self.old { items = [] })) }
+        ensures other { IfNone result ((self.new ≡ self.old) × (length self.old.items ≢ 1)) }
+    {
+        if self.items.len() == 1 {
+            self.items.pop()
+        } else {
+            None
+        }
+    }
+
+    /// Takes out the first action; where one is held, in constant time. It takes no memory.
     pub fn take(&mut self) -> Option<Act>
         ensures empty { IsNone result ↔ (self.old.items ≡ []) }
         ensures unchanged { IfNone result (self.new ≡ self.old) }
         ensures first { IfSome result (λ a. self.old ≡ record self.new { items = a ∷ self.new.items }) }
     {
-        self.items.pop_front()
+        if self.items.len() > 1 {
+            Some(self.items.remove(0))
+        } else {
+            self.items.pop()
+        }
     }
 }

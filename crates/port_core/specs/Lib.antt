@@ -2,7 +2,7 @@ pub mod Connection
 pub mod PortRules
 pub mod Runs
 pub mod Decoding
-pub mod Place
+pub mod Word
 pub mod Ring
 pub mod ActList
 pub mod Picks

@@ -1,14 +1,17 @@
-ghost use Rattle.std.specs.Prelude.{◌≡◌, ◌↔◌, IsTrue, not, IsSome, IfSome, Some, None};
+ghost use Rattle.std.specs.Prelude.{◌≡◌, ◌↔◌, IsTrue, true, false, not, IsSome};
 ghost use Rattle.elem_core.specs.Tree.{Tree};
-ghost use Rattle.port_core.specs.Connection.{unasked};
+ghost use Rattle.port_core.specs.Connection.{unasked, pushed};
 ghost use Rattle.port_core.specs.PortRules as rule;
 ghost use Rattle.port_core.specs.PortRules.{Allowed, Rule};
 ghost use Rattle.port_core.specs.Decoding.{can_pull, can_push, is_at_rest, is_open, event_of, arrived_by, delivered, Decodes};
 
-use elem_core::elem::Elem;
-use elem_core::why::Cause;
+use elem_core::elem::{Elem, Form};
+use elem_core::why::{Cause, Why};
 use std::marker::Model;
 use std::mem;
+
+#[cfg(test)]
+mod tests;
 
 /// What a connection that was queued has for one of its ends. Rule: own, after the events of the Akka Streams 2.6
 /// interpreter.
@@ -30,43 +33,53 @@ pub enum Event {
     Nothing,
 }
 
-/// Where the ask and the element of a connection are. At most one element is at a connection.
-#[derive(Drop)]
-enum Place {
-    /// Nobody asked, and nothing waits to be grabbed.
-    Quiet,
-    /// An element was delivered and waits to be grabbed.
-    Holding(Elem),
-    /// The input asked, and the output does not know it.
-    Pulled,
-    /// The output was asked.
-    Ready,
-    /// An element is on its way to the input.
-    Pushed(Elem),
-}
+// The bits of the flag word. Exactly one of the low four is set. Rule: own.
+// Nobody asked.
+const IN_READY: u8 = 1;
+// The input asked, and the output does not know it.
+const PULLING: u8 = 2;
+// An element is on its way to the input.
+const PUSHING: u8 = 4;
+// The output was asked.
+const OUT_READY: u8 = 8;
+// The input's side is closed.
+const IN_CLOSED: u8 = 16;
+// The output's side is closed.
+const OUT_CLOSED: u8 = 32;
+// The output failed before either side was closed.
+const IN_FAILED: u8 = 64;
 
 /// One output joined to one input. Its calls are the rows of the table of port rules, and none takes memory. Rule: Akka
-/// Streams 2.6 reference, chapter on custom stream processing.
+/// Streams 2.6 reference, chapter on custom stream processing; the flag word is own.
 #[derive(Drop)]
 pub struct Conn {
-    place: Place,
-    in_closed: bool,
-    out_closed: bool,
-    cause: Option<Cause>,
+    word: u8,
+    // Whether an element was delivered and not grabbed.
+    held: bool,
+    // The element that is on its way or was delivered; where there is none, a number that nobody reads.
+    elem: Elem,
+    // The cause of the failure; where there was none, one that nobody reads.
+    cause: Cause,
 }
 
 impl Model for Conn {
     ghost use Rattle.std.specs.Coded.{codes};
     ghost use Rattle.elem_core.specs.TreeCode.{tree_coded};
     ghost use Rattle.port_core.specs.Connection.{Connection};
+    ghost use Rattle.port_core.specs.Word.{connection_of, IsWord};
 
     ghost Value = { Connection };
 
     ghost coded = { Prim.hlevel (codes, tree_coded) };
 
-    ghost use Rattle.port_core.specs.Place.{step_of, to_grab_of};
+    ghost view = { λ c. connection_of c.word c.held c.elem c.cause };
 
-    ghost view = { λ c. record { step = step_of c.place; to_grab = to_grab_of c.place; in_closed = c.in_closed; out_closed = c.out_closed; cause = c.cause } };
+    ghost invariant = { λ c. IsWord c.word c.held };
+}
+
+// The element that stands where there is none.
+fn no_elem() -> Elem {
+    Elem::of(Form::Num(0))
 }
 
 impl Conn {
@@ -75,10 +88,14 @@ impl Conn {
         ensures { result ≡ unasked }
     {
         Conn {
-            place: Place::Quiet,
-            in_closed: false,
-            out_closed: false,
-            cause: None,
+            word: IN_READY,
+            held: false,
+            elem: no_elem(),
+            cause: Cause {
+                stage: 0,
+                nth: 0,
+                why: Why::NotANumber,
+            },
         }
     }
 
@@ -87,10 +104,7 @@ impl Conn {
         ensures test { result ≡ can_pull self.now }
         ensures table { IsTrue result ↔ Allowed rule.pull self.now }
     {
-        match self.place {
-            Place::Quiet => self.is_open(),
-            _ => false,
-        }
+        self.word == IN_READY && !self.held
     }
 
     /// Whether the output may push: it was asked and did not push since, and no side is closed.
@@ -98,20 +112,14 @@ impl Conn {
         ensures test { result ≡ can_push self.now }
         ensures table { (e : Tree) → IsTrue result ↔ Allowed (rule.push e) self.now }
     {
-        match self.place {
-            Place::Ready => self.is_open(),
-            _ => false,
-        }
+        self.word == OUT_READY
     }
 
     /// Whether a delivered element was not grabbed.
     pub fn has_elem(&self) -> bool
         ensures { IsTrue result ↔ IsSome self.now.to_grab }
     {
-        match self.place {
-            Place::Holding(_) => true,
-            _ => false,
-        }
+        self.held
     }
 
     /// The input asks. The connection has to be queued.
@@ -120,7 +128,7 @@ impl Conn {
         ensures queued { IsTrue result }
         ensures row { Rule rule.pull self.old self.new }
     {
-        self.place = Place::Pulled;
+        self.word ^= IN_READY | PULLING;
         true
     }
 
@@ -130,7 +138,8 @@ impl Conn {
         ensures queued { IsTrue result }
         ensures row { Rule (rule.push e) self.old self.new }
     {
-        self.place = Place::Pushed(e);
+        self.word ^= OUT_READY | PUSHING;
+        self.elem = e;
         true
     }
 
@@ -139,10 +148,8 @@ impl Conn {
         requires { IsSome self.old.to_grab }
         ensures { Rule (rule.grab result) self.old self.new }
     {
-        match mem::replace(&mut self.place, Place::Quiet) {
-            Place::Holding(e) => e,
-            _ => unreachable!(),
-        }
+        self.held = false;
+        mem::replace(&mut self.elem, no_elem())
     }
 
     /// The output completes. The answer says whether the connection has to be queued. An element that is on its way stays,
@@ -152,7 +159,7 @@ impl Conn {
         ensures row { Rule rule.complete self.old self.new }
     {
         let queued = self.is_at_rest();
-        self.out_closed = true;
+        self.word |= OUT_CLOSED;
         queued
     }
 
@@ -162,11 +169,13 @@ impl Conn {
         ensures queued { result ≡ is_at_rest self.old }
         ensures row { Rule (rule.fail cause) self.old self.new }
     {
-        let queued = self.is_at_rest();
-        if self.is_open() {
-            self.cause = Some(cause);
+        if self.is_closed() {
+            self.word |= OUT_CLOSED;
+            return false;
         }
-        self.out_closed = true;
+        let queued = self.is_at_rest();
+        self.word |= OUT_CLOSED | IN_FAILED;
+        self.cause = cause;
         queued
     }
 
@@ -176,7 +185,7 @@ impl Conn {
         ensures row { Rule rule.cancel self.old self.new }
     {
         let queued = self.is_at_rest();
-        self.in_closed = true;
+        self.word |= IN_CLOSED;
         queued
     }
 
@@ -188,71 +197,85 @@ impl Conn {
         ensures after { self.new ≡ delivered self.old }
         ensures table { Decodes result self.old self.new }
     {
-        let event = self.event();
-        match event {
-            Event::Push | Event::PushThenClose => self.arrive(),
-            Event::Pull => self.place = Place::Ready,
-            Event::Cancel => self.out_closed = true,
-            Event::Finish | Event::Fail => self.in_closed = true,
-            Event::Nothing => {}
+        match self.word {
+            PUSHING => {
+                self.arrive();
+                Event::Push
+            }
+            PULLING => {
+                self.word ^= PULLING | OUT_READY;
+                Event::Pull
+            }
+            _ => self.decode_closing(),
         }
-        event
     }
 
     /// The cause with which the output failed, where it failed before either side was closed.
     pub fn cause(&self) -> Option<Cause>
         ensures { result ≡ self.now.cause }
     {
-        self.cause
+        if self.word & IN_FAILED == 0 {
+            None
+        } else {
+            Some(self.cause)
+        }
     }
 
     /// Whether a side is closed.
     pub fn is_closed(&self) -> bool
         ensures { result ≡ not (is_open self.now) }
     {
-        self.in_closed || self.out_closed
-    }
-
-    fn is_open(&self) -> bool
-        ensures { result ≡ is_open self.now }
-    {
-        !self.is_closed()
+        self.word & (IN_CLOSED | OUT_CLOSED) != 0
     }
 
     fn is_at_rest(&self) -> bool
         ensures { result ≡ is_at_rest self.now }
     {
-        match self.place {
-            Place::Pulled | Place::Pushed(_) => false,
-            _ => self.is_open(),
-        }
+        self.word & (IN_CLOSED | OUT_CLOSED | PULLING | PUSHING) == 0
     }
 
-    fn event(&self) -> Event
-        ensures { result ≡ event_of self.now }
+    // The event where no element and no ask is on its way between open sides.
+    #[inline(never)]
+    fn decode_closing(&mut self) -> Event
+        requires { IsTrue (is_open self.old) → IsTrue (is_at_rest self.old) }
+        ensures event { result ≡ event_of self.old }
+        ensures after { self.new ≡ delivered self.old }
+        ensures table { Decodes result self.old self.new }
     {
-        match (self.in_closed, self.out_closed) {
-            (false, false) => match self.place {
-                Place::Pushed(_) => Event::Push,
-                Place::Pulled => Event::Pull,
-                _ => Event::Nothing,
-            },
-            (true, false) => Event::Cancel,
-            (false, true) => match (&self.place, &self.cause) {
-                (Place::Pushed(_), _) => Event::PushThenClose,
-                (_, Some(_)) => Event::Fail,
-                (_, None) => Event::Finish,
-            },
-            (true, true) => Event::Nothing,
+        match self.word & (IN_CLOSED | OUT_CLOSED) {
+            IN_CLOSED => {
+                self.word |= OUT_CLOSED;
+                Event::Cancel
+            }
+            OUT_CLOSED => self.decode_ending(),
+            _ => Event::Nothing,
         }
     }
 
+    // The event where the output's side alone is closed.
+    fn decode_ending(&mut self) -> Event
+        requires { (self.old.in_closed ≡ false) × (self.old.out_closed ≡ true) }
+        ensures event { result ≡ event_of self.old }
+        ensures after { self.new ≡ delivered self.old }
+        ensures table { Decodes result self.old self.new }
+    {
+        if self.word & PUSHING != 0 {
+            self.arrive();
+            return Event::PushThenClose;
+        }
+        self.word |= IN_CLOSED;
+        if self.word & IN_FAILED == 0 {
+            return Event::Finish;
+        }
+        Event::Fail
+    }
+
+    // The element that is on its way comes.
     fn arrive(&mut self)
+        requires { (e : Tree) × (self.old.step ≡ pushed e) }
         ensures { self.new ≡ arrived_by self.old self.old.step }
     {
-        self.place = match mem::replace(&mut self.place, Place::Quiet) {
-            Place::Pushed(e) => Place::Holding(e),
-            other => other,
-        };
+        self.word ^= PUSHING | IN_READY;
+        self.held = true;
     }
 }

@@ -1,0 +1,102 @@
+// The flag word after each call. What the calls mean is in their contracts; which bits say so is told here alone.
+use super::{Conn, Event};
+use elem_core::elem::{Elem, Form};
+use elem_core::why::{Cause, Why};
+
+enum Call {
+    Pull,
+    Push,
+    Complete,
+    Fail,
+    Cancel,
+    // A delivery, with the event that is wanted.
+    Decode(Event),
+}
+
+// Whether the call was allowed, and the event was the one that is wanted.
+fn goes(conn: &mut Conn, call: &Call) -> bool {
+    match call {
+        Call::Pull => conn.can_pull() && conn.pull(),
+        Call::Push => conn.can_push() && conn.push(Elem::of(Form::Num(7))),
+        Call::Complete => {
+            conn.complete();
+            true
+        }
+        Call::Fail => {
+            conn.fail(Cause {
+                stage: 0,
+                nth: 1,
+                why: Why::Told,
+            });
+            true
+        }
+        Call::Cancel => {
+            conn.cancel();
+            true
+        }
+        Call::Decode(event) => conn.decode() == *event,
+    }
+}
+
+// The first call that did not go, or left another word than the one that is wanted behind it.
+fn first_fault(calls: &[(Call, u8)]) -> Option<usize> {
+    let mut conn = Conn::new();
+    let mut i = 0;
+    while i < calls.len() {
+        if !goes(&mut conn, &calls[i].0) || conn.word != calls[i].1 {
+            return Some(i);
+        }
+        i += 1;
+    }
+    None
+}
+
+#[test]
+fn words_follow_the_calls(rt: HostRuntime) {
+    assert_eq!(rt; Conn::new().word, 1);
+    let an_element = [
+        (Call::Pull, 2),
+        (Call::Decode(Event::Pull), 8),
+        (Call::Push, 4),
+        (Call::Decode(Event::Push), 1),
+    ];
+    assert_eq!(rt; first_fault(&an_element), None);
+    let a_completion = [
+        (Call::Pull, 2),
+        (Call::Decode(Event::Pull), 8),
+        (Call::Complete, 40),
+        (Call::Decode(Event::Finish), 56),
+    ];
+    assert_eq!(rt; first_fault(&a_completion), None);
+    let a_completion_behind_an_element = [
+        (Call::Pull, 2),
+        (Call::Decode(Event::Pull), 8),
+        (Call::Push, 4),
+        (Call::Complete, 36),
+        (Call::Decode(Event::PushThenClose), 33),
+        (Call::Decode(Event::Finish), 49),
+    ];
+    assert_eq!(rt; first_fault(&a_completion_behind_an_element), None);
+    let a_failure = [
+        (Call::Pull, 2),
+        (Call::Decode(Event::Pull), 8),
+        (Call::Fail, 104),
+        (Call::Decode(Event::Fail), 120),
+    ];
+    assert_eq!(rt; first_fault(&a_failure), None);
+    let a_cancel = [
+        (Call::Pull, 2),
+        (Call::Decode(Event::Pull), 8),
+        (Call::Push, 4),
+        (Call::Cancel, 20),
+        (Call::Decode(Event::Cancel), 52),
+    ];
+    assert_eq!(rt; first_fault(&a_cancel), None);
+    let both_closings = [
+        (Call::Pull, 2),
+        (Call::Complete, 34),
+        (Call::Cancel, 50),
+        (Call::Decode(Event::Nothing), 50),
+    ];
+    assert_eq!(rt; first_fault(&both_closings), None);
+}

@@ -139,7 +139,8 @@ impl Conn {
         ensures row { Rule (rule.push e) self.old self.new }
     {
         self.word ^= OUT_READY | PUSHING;
-        self.elem = e;
+        // A number stands there, which owns nothing: so no push has to look for what it would drop.
+        mem::forget(mem::replace(&mut self.elem, e));
         true
     }
 

@@ -3,6 +3,7 @@ use super::{Conn, Event};
 use elem_core::elem::{Elem, Form};
 use elem_core::why::{Cause, Why};
 
+#[derive(Clone, Copy)]
 enum Call {
     Pull,
     Push,
@@ -41,12 +42,10 @@ fn goes(conn: &mut Conn, call: &Call) -> bool {
 // The first call that did not go, or left another word than the one that is wanted behind it.
 fn first_fault(calls: &[(Call, u8)]) -> Option<usize> {
     let mut conn = Conn::new();
-    let mut i = 0;
-    while i < calls.len() {
+    for i in 0..calls.len() {
         if !goes(&mut conn, &calls[i].0) || conn.word != calls[i].1 {
             return Some(i);
         }
-        i += 1;
     }
     None
 }

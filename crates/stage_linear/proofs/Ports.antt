@@ -20,7 +20,8 @@ use Rattle.stage_linear.specs.declared.course.Course.{Course}
 use Rattle.stage_linear.specs.declared.course.Course.TheVariants as course
 use Rattle.stage_linear.specs.Tasks.{HasMore, Spreads, ReactedBy}
 use Rattle.stage_linear.specs.Plugs.{StaysOn}
-use Rattle.stage_linear.specs.Outcomes.{working, answered, answer_acts}
+use Rattle.port_core.specs.declared.act.Act.{Act}
+use Rattle.stage_linear.specs.Outcomes.{working, answered, answer_acts, CameTo}
 use Rattle.stage_linear.specs.Pending.{closed_by, closed_acts, given_on_from, last_acts, StaysReady}
 use Rattle.stage_linear.specs.States.{Logic, row, row_in, MayHold}
 use Rattle.stage_linear.proofs.Pushes.{Waits}
@@ -162,6 +163,9 @@ pub pushed_obeys : (book : Book) (l : Logic) (w : Work) (c : Bool) (t : Tree) (k
 pushed_obeys book l w c t k o h q r s =
     subst (λ (x : Logic). Obeys (brings 0 (item.Elem t)) (row x) (row (answered (working x w c) k o)) (answer_acts (working x w c) k o)) (sym (of_logic l course.Waits [] h q.on q.none))
     (pushed_parts book l.stage.node l.stage.taken k l.stage.work w l.ready c t q.more l.stage.decider o r s)
+
+pub came_obeys : (book : Book) (l new : Logic) (acts : List Act) (t : Tree) (k : ℕ) → l.phase ≡ Open → Waits l → CameTo book l k t acts new → Obeys (brings 0 (item.Elem t)) (row l) (row new) acts
+came_obeys book l new acts t k h q r = rw (r.acted, r.stands) (pushed_obeys book l r.work r.ready t k r.outcome h q r.reacted r.stays)
 
 -- ---- the end of the input, where nothing is held
 

@@ -25,7 +25,8 @@ use Rattle.stage_linear.specs.declared.course.Course.TheVariants as course
 use Rattle.stage_linear.specs.declared.task.Outcome.{Outcome}
 use Rattle.stage_linear.specs.declared.task.Outcome.TheVariants.{Gives, GivesAll, Skips, EndsWith, EndsWithAll, Ends, Blames, Fails}
 use Rattle.stage_linear.specs.Tasks.{HasMore, SameMachine, GoesOn, Spreads, Stays, ReactedBy}
-use Rattle.stage_linear.specs.Outcomes.{working, answered, answer_acts}
+use Rattle.port_core.specs.declared.act.Act.{Act}
+use Rattle.stage_linear.specs.Outcomes.{working, answered, answer_acts, CameTo}
 use Rattle.stage_linear.specs.States.{Logic, held, row, row_in, Turned}
 use Rattle.stage_linear.proofs.States.{of_logic}
 
@@ -171,3 +172,6 @@ module _ (book : Book) (t : Tree) (node n : ℕ) (old : Work) (rdy : Bool) where
 pub pushed : (book : Book) (l : Logic) (w : Work) (b : Bool) (t : Tree) (k : ℕ) (o : Outcome) → l.phase ≡ Open → Waits l → k ≡ l.stage.taken + 1 → ReactedBy book l.stage.work t w o → Turned book (brings 0 (item.Elem t)) l (answer_acts (working l w b) k o) (answered (working l w b) k o)
 pushed book l w b t k o h q e r =
     rw e (subst (λ (x : Logic). Turned book (brings 0 (item.Elem t)) x (answer_acts (working x w b) (l.stage.taken + 1) o) (answered (working x w b) (l.stage.taken + 1) o)) (sym (of_logic l course.Waits [] h q.on q.none)) (pushed_at book t l.stage.node l.stage.taken l.stage.work b l.ready l.stage.decider w o r))
+
+pub came_turned : (book : Book) (l new : Logic) (acts : List Act) (t : Tree) (k : ℕ) → l.phase ≡ Open → Waits l → k ≡ l.stage.taken + 1 → CameTo book l k t acts new → Turned book (brings 0 (item.Elem t)) l acts new
+came_turned book l new acts t k h q e r = rw (r.acted, r.stands) (pushed book l r.work r.ready t k r.outcome h q e r.reacted)

@@ -1,11 +1,13 @@
 -- The tasks of the linear stages, in the words of the model.
 use Rattle.std.specs.Prelude.{◌≡◌, ◌<◌, ⊤, Bool, true, false, [], ◌∷◌}
-use Rattle.elem_core.specs.Tree.{Tree}
+use Rattle.elem_core.specs.Tree.{Tree, num}
 use Rattle.stream_model.specs.Linear.{Book, Work, mapping, filtering, taking, taking_while, dropping, dropping_while, passing, limiting, grouping, folding, scanning, reducing, heading, lasting, numbering, expanding, gives, ends, blames, breaks, reaction, holds, restarted, first_of, linear}
 use Rattle.stream_picture.specs.OneWay.{holds_at_end}
 use Rattle.elem_core.specs.declared.function.Pred.{Pred}
 use Rattle.stage_linear.specs.declared.task.Task.{Task}
 use Rattle.stage_linear.specs.declared.task.Task.TheVariants.{Map, Filter, FilterNot, Take, TakeWhile, Drop, DropWhile, Limit, Expand}
+use Rattle.stage_linear.specs.declared.task.AtOnce.{AtOnce}
+use Rattle.stage_linear.specs.declared.task.AtOnce.TheVariants as at_once
 use Rattle.stage_linear.specs.declared.task.Outcome.{Outcome}
 use Rattle.stage_linear.specs.declared.task.Outcome.TheVariants.{Gives, GivesAll, Skips, EndsWith, EndsWithAll, Ends, Blames, Fails}
 
@@ -69,3 +71,11 @@ ReactedBy book old t new (Fails why) = (reaction book old t ≡ breaks why) × S
 -- the same by every book, since the task asks none
 abbrev pub Reacted : Work → Tree → Work → Outcome → Type 0
 Reacted old t new o = (book : Book) → ReactedBy book old t new o
+
+-- what comes of the element t at once, as an outcome
+abbrev pub outcome_of : AtOnce → Tree → Outcome
+outcome_of at_once.Passes t = Gives t
+outcome_of (at_once.Gives z) t = Gives (num z)
+outcome_of at_once.Skips t = Skips
+outcome_of at_once.PassesLast t = EndsWith t
+outcome_of (at_once.Blames why) t = Blames why

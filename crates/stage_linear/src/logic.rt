@@ -7,17 +7,18 @@ ghost use Rattle.plug_logic.specs.Gives.{listed};
 ghost use Rattle.stream_model.specs.Linear.{finish_of};
 ghost use Rattle.stream_model.specs.declared.kind.Kind.TheVariants as kind;
 ghost use Rattle.stage_linear.specs.declared.course.Course.TheVariants as course;
-ghost use Rattle.stage_linear.specs.Outcomes.{answered, answer_acts};
+ghost use Rattle.stage_linear.specs.Outcomes.{answered, answer_acts, CameTo};
 ghost use Rattle.stage_linear.specs.Plugs.{Is};
 ghost use Rattle.stage_linear.specs.Pending.{spread, first_acts, leaving, leaving_acts, ended_with, ended_acts, closed_by, closed_acts, given_on_from, last_acts, behind_last, behind_last_acts, StaysReady};
+ghost use Rattle.stage_linear.specs.Tasks.{HasMore, outcome_of};
 ghost use Rattle.stage_linear.specs.States.{Begins, row, Turned, HasTask, counted, skipped, decided_by, decided_acts, failing_acts};
 
 use crate::course::Course;
 use crate::phase::Phase;
 use crate::plug::PlugTask;
-use crate::task::{Last, Outcome, Task};
+use crate::task::{AtOnce, Last, Outcome, Task};
 use crate::worker::Worker;
-use elem_core::elem::Elem;
+use elem_core::elem::{Elem, Form};
 use elem_core::elems::Elems;
 use elem_core::why::{Cause, Decider, NoMemory, Why};
 use plug_logic::book::PlugBook;
@@ -228,10 +229,8 @@ impl<L: Logic, B: PlugBook> LinearLogic<L, B> {
         ensures gives { OnOk result (Turned B.lists (brings 0 (item.Elem e)) self.old acts.new.items self.new) }
         ensures room { acts.new.room ≡ acts.old.room }
     {
-        let taken = one_more(self.taken)?;
-        let outcome = self.worker.react(alloc, e)?;
-        self.answer(taken, outcome, acts);
-        Ok(())
+        let taken = self.next_number()?;
+        self.take_in(alloc, taken, e, acts)
     }
 
     /// The run is over: the log of its moves, of which it made none. It takes no memory.
@@ -239,6 +238,76 @@ impl<L: Logic, B: PlugBook> LinearLogic<L, B> {
         ensures { result.moves ≡ [] }
     {
         PickLog::new(alloc)
+    }
+
+    // The number of the next element. Past 64 bits there is none: that counts as want of memory.
+    fn next_number(&self) -> Result<u64, NoMemory>
+        ensures { IfOk result (λ n. n ≡ self.now.stage.taken + 1) }
+    {
+        match self.taken.checked_add(1) {
+            Some(n) => Ok(n),
+            None => Err(AllocError),
+        }
+    }
+
+    // Element number `taken`, the short way where its task says at once what comes of it.
+    fn take_in(
+        &mut self,
+        alloc: Global,
+        taken: u64,
+        e: Elem,
+        acts: &mut Acts,
+    ) -> Result<(), NoMemory>
+        requires none { self.old.pending ≡ [] }
+        requires more { HasMore self.old.stage.work }
+        requires ready { self.old.ready ≡ true }
+        requires empty { acts.old.items ≡ [] }
+        requires room { 4 ≤ acts.old.room }
+        ensures came { OnOk result (CameTo B.lists self.old taken e acts.new.items self.new) }
+        ensures room { acts.new.room ≡ acts.old.room }
+    {
+        match self.worker.at_once(&e) {
+            Some(said) => {
+                self.answer_at_once(taken, said, e, acts);
+                Ok(())
+            }
+            None => self.react(alloc, taken, e, acts),
+        }
+    }
+
+    // What element number `taken`, which is `e`, came to at once.
+    fn answer_at_once(&mut self, taken: u64, said: AtOnce, e: Elem, acts: &mut Acts)
+        requires empty { acts.old.items ≡ [] }
+        requires room { 4 ≤ acts.old.room }
+        ensures stage { self.new ≡ answered self.old taken (outcome_of said e) }
+        ensures acts { acts.new ≡ record acts.old { items = answer_acts self.old taken (outcome_of said e) } }
+    {
+        match said {
+            AtOnce::Passes => self.give(taken, e, acts),
+            AtOnce::Gives(z) => self.give(taken, Elem::of(Form::Num(z)), acts),
+            AtOnce::Skips => self.skip(taken, acts),
+            AtOnce::PassesLast => {
+                self.give(taken, e, acts);
+                self.complete(acts);
+            }
+            AtOnce::Blames(why) => self.decide(taken, why, acts),
+        }
+    }
+
+    // Element number `taken` comes to what the worker makes of it. Out of line, so that `on_push` keeps a small frame.
+    #[inline(never)]
+    fn react(&mut self, alloc: Global, taken: u64, e: Elem, acts: &mut Acts) -> Result<(), NoMemory>
+        requires none { self.old.pending ≡ [] }
+        requires more { HasMore self.old.stage.work }
+        requires ready { self.old.ready ≡ true }
+        requires empty { acts.old.items ≡ [] }
+        requires room { 4 ≤ acts.old.room }
+        ensures came { OnOk result (CameTo B.lists self.old taken e acts.new.items self.new) }
+        ensures room { acts.new.room ≡ acts.old.room }
+    {
+        let outcome = self.worker.react(alloc, e)?;
+        self.answer(taken, outcome, acts);
+        Ok(())
     }
 
     // What element number `taken` came to.
@@ -265,6 +334,7 @@ impl<L: Logic, B: PlugBook> LinearLogic<L, B> {
     }
 
     // The decider's answer to an element that the function has no value for, which was element number `taken`.
+    #[inline(never)]
     fn decide(&mut self, taken: u64, why: Why, acts: &mut Acts)
         requires empty { acts.old.items ≡ [] }
         requires room { 4 ≤ acts.old.room }
@@ -278,6 +348,7 @@ impl<L: Logic, B: PlugBook> LinearLogic<L, B> {
     }
 
     // Element number `taken` is to blame for this.
+    #[inline(never)]
     fn fail(&mut self, taken: u64, why: Why, acts: &mut Acts)
         requires room { length acts.old.items + 2 ≤ acts.old.room }
         ensures stage { self.new ≡ record self.old { phase = Closed } }
@@ -292,6 +363,7 @@ impl<L: Logic, B: PlugBook> LinearLogic<L, B> {
         acts.add(Act::Cancel(0));
     }
 
+    #[inline(never)]
     fn complete(&mut self, acts: &mut Acts)
         requires room { length acts.old.items + 2 ≤ acts.old.room }
         ensures stage { self.new ≡ record self.old { phase = Closed } }
@@ -466,15 +538,5 @@ impl<L: Logic, B: PlugBook> LinearLogic<L, B> {
         self.taken = taken;
         self.course = Course::Waits;
         acts.add(Act::Pull(0));
-    }
-}
-
-// One more than the elements that were taken. Past 64 bits there is no number for the next: that counts as want of memory.
-fn one_more(taken: u64) -> Result<u64, NoMemory>
-    ensures { IfOk result (λ n. n ≡ taken + 1) }
-{
-    match taken.checked_add(1) {
-        Some(n) => Ok(n),
-        None => Err(AllocError),
     }
 }

@@ -1,10 +1,10 @@
-ghost use Rattle.std.specs.Prelude.{◌≡◌, IfOk};
-ghost use Rattle.stage_linear.specs.Tasks.{HasMore, ReactedBy};
+ghost use Rattle.std.specs.Prelude.{◌≡◌, IfOk, IfSome, IfNone};
+ghost use Rattle.stage_linear.specs.Tasks.{HasMore, ReactedBy, outcome_of};
 ghost use Rattle.stage_linear.specs.Plugs.{EndsAs};
 ghost use Rattle.stage_linear.specs.Workers.{work_by, CanTake, GoesOnReady};
 
 use crate::plug::PlugTask;
-use crate::task::{Last, Outcome, Task};
+use crate::task::{AtOnce, Last, Outcome, Task};
 use elem_core::elem::Elem;
 use elem_core::elems::Elems;
 use elem_core::why::NoMemory;
@@ -22,6 +22,20 @@ pub enum Worker<L: Logic, B: PlugBook> {
 }
 
 impl<L: Logic, B: PlugBook> Worker<L, B> {
+    /// One more element, where what comes of it is known at once. `None` leaves the worker as it is; a plug is not called.
+    pub fn at_once(&mut self, e: &Elem) -> Option<AtOnce>
+        requires more { HasMore (work_by self.old) }
+        requires ready { CanTake self.old }
+        ensures reacts { IfSome result (λ s. ReactedBy B.lists (work_by self.old) e.now (work_by self.new) (outcome_of s e.now)) }
+        ensures ready { CanTake self.new }
+        ensures unsaid { IfNone result (self.new ≡ self.old) }
+    {
+        match self {
+            Worker::Plain(task) => task.at_once(e),
+            Worker::Plug(_) => None,
+        }
+    }
+
     /// One more element.
     pub fn react(&mut self, alloc: Global, e: Elem) -> Result<Outcome, NoMemory>
         requires more { HasMore (work_by self.old) }

@@ -1,6 +1,6 @@
 -- What the tables of the names and the files that are taken know after one more claim.
 use Rattle.std.proofs.Common.{◌≡◌, ℕ, ◌+◌, ◌<◌, Bool, true, false, cond, not, List, [], ◌∷◌, ◌++◌, length, map, take, drop, get_or, Option, Some, None, is_some, is_none, ◌||◌, refl, ap, sym, ◌∙◌, subst, arith}
-use Rattle.std.specs.BTreeMap.{BTreeMap}
+use Rattle.std.specs.HashMap.{HashMap}
 use Rattle.std.specs.List.{list_any}
 use Rattle.std.specs.Option.{option_or}
 use Rattle.std.proofs.lemmas.Bool.{cases_Bool, cond-true, cond-false, not-true, not-false}
@@ -26,23 +26,23 @@ is_none-not : {X : Type 0} (o : Option X) → is_none o ≡ not (is_some o)
 is_none-not None = refl
 is_none-not (Some x) = refl
 
-pub free-named : (names files : BTreeMap (Bor (List ℕ)) ℕ) (before : List Claim) (name : List ℕ) → Knows names files before
+pub free-named : {S : Type 0} (names files : HashMap (Bor (List ℕ)) ℕ S) (before : List Claim) (name : List ℕ) → Knows names files before
     → is_none (number_in names name) ≡ not (list_any (same_claim (called name)) before)
 free-named names files before name k = is_none-not (number_in names name) ∙ ap not (k.named name)
 
-pub free-opened : (names files : BTreeMap (Bor (List ℕ)) ℕ) (before : List Claim) (name : List ℕ) → Knows names files before
+pub free-opened : {S : Type 0} (names files : HashMap (Bor (List ℕ)) ℕ S) (before : List Claim) (name : List ℕ) → Knows names files before
     → is_none (number_in files name) ≡ not (list_any (same_claim (opens name)) before)
 free-opened names files before name k = is_none-not (number_in files name) ∙ ap not (k.opened name)
 
 -- the tables with one more name, and with one more file
-pub Knows-called : (names new files : BTreeMap (Bor (List ℕ)) ℕ) (before : List Claim) (name : List ℕ) (n : ℕ) → Knows names files before
+pub Knows-called : {S : Type 0} (names new files : HashMap (Bor (List ℕ)) ℕ S) (before : List Claim) (name : List ℕ) (n : ℕ) → Knows names files before
     → ((q : List ℕ) → number_in new q ≡ option_or (number_in names q) (when (same_text q name) n)) → Knows new files (called name ∷ before)
 Knows-called names new files before name n k e = record {
   named = λ q. ap is_some (e q) ∙ is_some-when (same_text q name) n (number_in names q) ∙ ap (λ b. same_text q name || b) (k.named q);
   opened = λ q. k.opened q;
 }
 
-pub Knows-opens : (names files new : BTreeMap (Bor (List ℕ)) ℕ) (before : List Claim) (name : List ℕ) (n : ℕ) → Knows names files before
+pub Knows-opens : {S : Type 0} (names files new : HashMap (Bor (List ℕ)) ℕ S) (before : List Claim) (name : List ℕ) (n : ℕ) → Knows names files before
     → ((q : List ℕ) → number_in new q ≡ option_or (number_in files q) (when (same_text q name) n)) → Knows names new (opens name ∷ before)
 Knows-opens names files new before name n k e = record {
   named = λ q. k.named q;
@@ -54,19 +54,19 @@ any_last : {X : Type 0} (p : X → Bool) (xs : List X) (x : X) → list_any p (x
 any_last p [] x = refl
 any_last p (y ∷ ys) x = grind (arith, any_last p ys x)
 
-pub Knows-last : (names files : BTreeMap (Bor (List ℕ)) ℕ) (before : List Claim) (c : Claim) → Knows names files (c ∷ before) → Knows names files (before ++ c ∷ [])
+pub Knows-last : {S : Type 0} (names files : HashMap (Bor (List ℕ)) ℕ S) (before : List Claim) (c : Claim) → Knows names files (c ∷ before) → Knows names files (before ++ c ∷ [])
 Knows-last names files before c k = record {
   named = λ q. k.named q ∙ any_last (same_claim (called q)) before c;
   opened = λ q. k.opened q ∙ any_last (same_claim (opens q)) before c;
 }
 
 -- a search for the first claim that was made before: those behind are sought among those before
-pub record Going (names files : BTreeMap (Bor (List ℕ)) ℕ) (whole : Option (List ℕ)) (rest : List Claim) : Type 0 where
+pub record Going {S : Type 0} (names files : HashMap (Bor (List ℕ)) ℕ S) (whole : Option (List ℕ)) (rest : List Claim) : Type 0 where
   pub before : List Claim
   pub knows : Knows names files before
   pub same : whole ≡ first_again before rest
 
-module _ {C : Type 0} (g : C → Claim) (names files : BTreeMap (Bor (List ℕ)) ℕ) (xs : List C) (i : ℕ) (x : C) (whole : Option (List ℕ)) (lt : i < length xs) (is : x ≡ get_or xs i x)
+module _ {C S : Type 0} (g : C → Claim) (names files : HashMap (Bor (List ℕ)) ℕ S) (xs : List C) (i : ℕ) (x : C) (whole : Option (List ℕ)) (lt : i < length xs) (is : x ≡ get_or xs i x)
     (going : Going names files whole (map g (drop i xs))) where
   -- the next claim and those behind it
   split : map g (drop i xs) ≡ g x ∷ map g (drop (i + 1) xs)
@@ -76,7 +76,7 @@ module _ {C : Type 0} (g : C → Claim) (names files : BTreeMap (Bor (List ℕ))
   whole_is = going.same ∙ ap (first_again going.before) split
 
   -- a claim that was free is among those before from then on
-  pub Going-next : (next_names next_files : BTreeMap (Bor (List ℕ)) ℕ) → true ≡ not (list_any (same_claim (g x)) going.before) → Knows next_names next_files (g x ∷ going.before)
+  pub Going-next : (next_names next_files : HashMap (Bor (List ℕ)) ℕ S) → true ≡ not (list_any (same_claim (g x)) going.before) → Knows next_names next_files (g x ∷ going.before)
       → Going next_names next_files whole (map g (drop (i + 1) xs))
   Going-next next_names next_files free knows = record {
     before = g x ∷ going.before;

@@ -1,15 +1,13 @@
 -- What a table of names knows after one more name.
 use Rattle.std.proofs.Common.{◌≡◌, ℕ, ◌+◌, ◌<◌, Bool, true, false, not, cond, List, [], ◌∷◌, ◌++◌, length, map, take, get_or, Option, Some, None, is_some, ◌||◌, refl, ap, sym, ◌∙◌, subst, ⊎_elim, arith}
-use Rattle.std.specs.BTreeMap.{BTreeMap, UpdatesBy}
+use Rattle.std.specs.HashMap.{HashMap, UpdatesBy}
 use Rattle.std.specs.List.{list_any}
-use Rattle.std.specs.Cmp.Lexicographic.{slice_cmp}
 use Rattle.std.specs.Option.{option_or}
-use Rattle.std.specs.Ordering.{nat_cmp}
 use Rattle.std.specs.Str.{bytes_eq}
 use Rattle.std.proofs.lemmas.Bool.{cases_Bool, false_from_ne_true}
 use Rattle.std.proofs.lemmas.Grind.{common_steps}
 use Rattle.std.proofs.lemmas.List.{map_more}
-use Rattle.std.proofs.lemmas.Map.Text.{btree_map_updates_str}
+use Rattle.std.proofs.lemmas.Map.Text.{hash_map_updates_str}
 use Rattle.std.proofs.lemmas.Slice.Eq.{bytes_eq-Decides}
 use denote.Ref.{Bor}
 use Rattle.elem_core.specs.Values.{same_text}
@@ -27,34 +25,37 @@ option_or-none : {X : Type 0} (o : Option X) → option_or o None ≡ o
 option_or-none None = refl
 option_or-none (Some x) = refl
 
--- a name that is noted in a table that had none of it
-note_free : (m n : BTreeMap (Bor (List ℕ)) ℕ) (name : List ℕ) (k : ℕ) → UpdatesBy (λ x y. slice_cmp nat_cmp x.now y.now) (λ x. slice_cmp nat_cmp name x.now) m n (Some k)
-    → number_in m name ≡ None → (q : List ℕ) → number_in n q ≡ option_or (number_in m q) (when (same_text q name) k)
-note_free m n name k u h q =
-    let e = btree_map_updates_str name m n (Some k) u q in
-    ⊎_elim
-    (λ (t : bytes_eq name q ≡ true).
-    let s : name ≡ q = (bytes_eq-Decides name q).0 t in
-    let r : same_text q name ≡ true = (bytes_eq-Decides q name).1 (sym s) in
-    let g : number_in m q ≡ None = subst (λ x. number_in m x ≡ None) s h in
-    let f : number_in n q ≡ cond (bytes_eq name q) (Some k) (number_in m q) = e in
-    grind (arith, t, r, g, f))
-    (λ (t : bytes_eq name q ≡ false).
-    let r : same_text q name ≡ false = bytes_eq_false-sym name q t in
-    let f : number_in n q ≡ cond (bytes_eq name q) (Some k) (number_in m q) = e in
-    grind (arith, t, r, f, option_or-none (number_in m q)))
-    (cases_Bool (bytes_eq name q))
+module _ {S : Type 0} (m n : HashMap (Bor (List ℕ)) ℕ S) (name : List ℕ) (k : ℕ) (u : UpdatesBy (λ x y. bytes_eq x.now y.now) (λ x. bytes_eq name x.now) m n (Some k)) where
+  -- a name that is noted in a table that had none of it
+  pub noted_free : None ≡ number_in m name → (q : List ℕ) → number_in n q ≡ option_or (number_in m q) (when (same_text q name) k)
+  noted_free h q =
+      let f : number_in n q ≡ cond (bytes_eq name q) (Some k) (number_in m q) = hash_map_updates_str name m n (Some k) u q in
+      ⊎_elim
+      (λ (t : bytes_eq name q ≡ true).
+      let s : name ≡ q = (bytes_eq-Decides name q).0 t in
+      let r : same_text q name ≡ true = (bytes_eq-Decides q name).1 (sym s) in
+      let g : number_in m q ≡ None = subst (λ x. number_in m x ≡ None) s (sym h) in
+      grind (arith, t, r, g, f))
+      (λ (t : bytes_eq name q ≡ false).
+      let r : same_text q name ≡ false = bytes_eq_false-sym name q t in
+      grind (arith, t, r, f, option_or-none (number_in m q)))
+      (cases_Bool (bytes_eq name q))
 
-none_from_some : {X : Type 0} (o : Option X) → is_some o ≡ false → o ≡ None
-none_from_some None h = refl
-none_from_some (Some x) h = cc
-
--- the same as the calls say it
-pub noted : (m n : BTreeMap (Bor (List ℕ)) ℕ) (bs name : List ℕ) (k : ℕ) → bs ≡ name → UpdatesBy (λ x y. slice_cmp nat_cmp x.now y.now) (λ x. slice_cmp nat_cmp bs x.now) m n (Some k)
-    → is_some (number_in m name) ≡ false → (q : List ℕ) → number_in n q ≡ option_or (number_in m q) (when (same_text q name) k)
-noted m n bs name k e u h =
-    let P : List ℕ → Type 0 = λ x. UpdatesBy (λ x y. slice_cmp nat_cmp x.now y.now) (λ y. slice_cmp nat_cmp x y.now) m n (Some k) in
-    note_free m n name k (subst P e u) (none_from_some (number_in m name) h)
+  -- a name that the table had keeps its number
+  pub noted_again : (l : HashMap (Bor (List ℕ)) ℕ S) (first : ℕ) → UpdatesBy (λ x y. bytes_eq x.now y.now) (λ x. bytes_eq name x.now) n l (Some first) → Some first ≡ number_in m name
+      → (q : List ℕ) → number_in l q ≡ option_or (number_in m q) (when (same_text q name) k)
+  noted_again l first v h q =
+      let f : number_in n q ≡ cond (bytes_eq name q) (Some k) (number_in m q) = hash_map_updates_str name m n (Some k) u q in
+      let e : number_in l q ≡ cond (bytes_eq name q) (Some first) (number_in n q) = hash_map_updates_str name n l (Some first) v q in
+      ⊎_elim
+      (λ (t : bytes_eq name q ≡ true).
+      let s : name ≡ q = (bytes_eq-Decides name q).0 t in
+      let g : number_in m q ≡ Some first = subst (λ x. number_in m x ≡ Some first) s (sym h) in
+      grind (arith, t, g, e))
+      (λ (t : bytes_eq name q ≡ false).
+      let r : same_text q name ≡ false = bytes_eq_false-sym name q t in
+      grind (arith, t, r, e, f, option_or-none (number_in m q)))
+      (cases_Bool (bytes_eq name q))
 
 -- the number of a name in a list with one more at its end
 pub number_from-push : (q : List ℕ) (n : ℕ) (names : List (List ℕ)) (name : List ℕ) → number_from q n (names ++ name ∷ []) ≡ option_or (number_from q n names) (when (same_text q name) (n + length names))
@@ -62,7 +63,7 @@ number_from-push q n [] name = grind arith
 number_from-push q n (x ∷ xs) name = grind (arith, number_from-push q (n + 1) xs name)
 
 -- a table of the first names, with one more
-pub Numbers-more : {T : Type 0} (f : T → List ℕ) (m n : BTreeMap (Bor (List ℕ)) ℕ) (xs : List T) (i : ℕ) (x : T) (name : List ℕ) → i < length xs → x ≡ get_or xs i x → name ≡ f x
+pub Numbers-more : {T S : Type 0} (f : T → List ℕ) (m n : HashMap (Bor (List ℕ)) ℕ S) (xs : List T) (i : ℕ) (x : T) (name : List ℕ) → i < length xs → x ≡ get_or xs i x → name ≡ f x
     → Numbers m (map f (take i xs)) → ((q : List ℕ) → number_in n q ≡ option_or (number_in m q) (when (same_text q name) i)) → Numbers n (map f (take (i + 1) xs))
 Numbers-more f m n xs i x name lt is e old new =
     let l : length (map f (take i xs)) ≡ i = grind (arith, common_steps) in
@@ -84,12 +85,12 @@ is_some-number_from q n [] = refl
 is_some-number_from q n (x ∷ xs) = elim (same_text q x) as (λ b. is_some (cond b (Some n) (number_from q (n + 1) xs)) ≡ (b || list_any (same_text q) xs)) [ true ↦ refl | false ↦ is_some-number_from q (n + 1) xs ]
 
 -- a name that the table has is not missing, and one that it has not is
-pub missing_there : (m : BTreeMap (Bor (List ℕ)) ℕ) (name : List ℕ) (names : List (List ℕ)) → Numbers m names → is_some (number_in m name) ≡ true → None ≡ missing name names
+pub missing_there : {S : Type 0} (m : HashMap (Bor (List ℕ)) ℕ S) (name : List ℕ) (names : List (List ℕ)) → Numbers m names → is_some (number_in m name) ≡ true → None ≡ missing name names
 missing_there m name names n h =
     let e : list_any (same_text name) names ≡ true = sym (is_some-number_from name 0 names) ∙ ap is_some (sym (n.at name)) ∙ h in
     ap (λ b. when (not b) name) (sym e)
 
-pub missing_not_there : (m : BTreeMap (Bor (List ℕ)) ℕ) (name : List ℕ) (names : List (List ℕ)) → Numbers m names → is_some (number_in m name) ≡ false → Some name ≡ missing name names
+pub missing_not_there : {S : Type 0} (m : HashMap (Bor (List ℕ)) ℕ S) (name : List ℕ) (names : List (List ℕ)) → Numbers m names → is_some (number_in m name) ≡ false → Some name ≡ missing name names
 missing_not_there m name names n h =
     let e : list_any (same_text name) names ≡ false = sym (is_some-number_from name 0 names) ∙ ap is_some (sym (n.at name)) ∙ h in
     ap (λ b. when (not b) name) (sym e)

@@ -1,6 +1,6 @@
 -- Claims as the rules see them, and what tables of the names and files that are taken know.
 use Rattle.std.specs.Prelude.{◌≡◌, ℕ, List, is_some}
-use Rattle.std.specs.BTreeMap.{BTreeMap}
+use Rattle.std.specs.HashMap.{HashMap}
 use Rattle.std.specs.List.{list_any}
 use denote.Ref.{Bor}
 use Rattle.blue_rules.specs.Names as rule
@@ -14,6 +14,6 @@ claim_of (Called l) = rule.called l.now
 claim_of (Opens l) = rule.opens l.now
 
 -- the tables have just the names and the files among these claims
-pub record Knows (names files : BTreeMap (Bor (List ℕ)) ℕ) (before : List rule.Claim) : Type 0 where
+pub record Knows {S : Type 0} (names files : HashMap (Bor (List ℕ)) ℕ S) (before : List rule.Claim) : Type 0 where
   pub named : (q : List ℕ) → is_some (number_in names q) ≡ list_any (rule.same_claim (rule.called q)) before
   pub opened : (q : List ℕ) → is_some (number_in files q) ≡ list_any (rule.same_claim (rule.opens q)) before

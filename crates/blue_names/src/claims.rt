@@ -11,7 +11,7 @@ use elem_core::line::Line;
 use elem_core::why::NoMemory;
 use plug_core::head::PlugHead;
 use std::alloc::Global;
-use std::collections::BTreeMap;
+use std::collections::HashMap;
 use stream_model::kind::Kind;
 
 /// What a declaration takes for itself.
@@ -52,8 +52,8 @@ impl<'a> Taken<'a> {
         ensures { Knows result.names result.files [] }
     {
         Taken {
-            names: BTreeMap::new(alloc),
-            files: BTreeMap::new(alloc),
+            names: HashMap::new(alloc),
+            files: HashMap::new(alloc),
         }
     }
 

@@ -1,7 +1,5 @@
 // Ports that are missing, used twice or open.
 ghost use Rattle.std.specs.Prelude.{◌≡◌, ℕ, ◌<◌, ◌≤◌, List, IfOk, OnOk, map, length, slice_get, Some, Option, ◌==◌, ◌&&◌, ◌||◌, not, is_none, IfNone};
-ghost use Rattle.std.specs.BTreeMap as tree;
-ghost use Rattle.std.specs.Ordering.{nat_cmp, ordering_then};
 ghost use Rattle.stream_model.specs.Composed.{inputs_of, count_from};
 ghost use Rattle.stream_model.specs.Graph.{Wire, find_wire, find_source};
 ghost use Rattle.stream_picture.specs.View.{outputs_of};
@@ -16,11 +14,11 @@ use crate::links::Link;
 use blue_core::blueprint::Node;
 use elem_core::why::NoMemory;
 use std::alloc::Global;
-use std::collections::BTreeMap;
+use std::collections::HashMap;
 use stream_model::kind::Kind;
 
 /// The number of the wire at each port: a port is the number of its node, and its own.
-pub type PortTable = BTreeMap<(usize, u32), usize>;
+pub type PortTable = HashMap<(usize, u32), usize>;
 
 /// How many inputs a kind has.
 pub fn inputs_of(kind: &Kind) -> u32
@@ -61,8 +59,9 @@ pub fn wire_at(table: &PortTable, node: usize, port: u32) -> Option<usize>
 fn note_port(table: &mut PortTable, node: usize, port: u32, wire: usize) -> Result<(), NoMemory>
     ensures { OnOk result ((n p : ℕ) → found_in table.new n p ≡ option_or (found_in table.old n p) (when ((node == n) && (port == p)) wire)) }
 {
-    if !table.contains_key(&(node, port)) {
-        table.insert((node, port), wire)?;
+    if let Some(first) = table.insert((node, port), wire)? {
+        // It keeps the wire that it had.
+        table.insert((node, port), first)?;
     }
     Ok(())
 }
@@ -71,7 +70,7 @@ fn note_port(table: &mut PortTable, node: usize, port: u32, wire: usize) -> Resu
 pub fn targets_of(alloc: Global, links: &[Link]) -> Result<PortTable, NoMemory>
     ensures { IfOk result (λ table. FindsWires table (wires_of_links links.now)) }
 {
-    let mut table = BTreeMap::new(alloc);
+    let mut table = HashMap::with_capacity(alloc, links.len())?;
     for (i, link) in links.iter().enumerate() {
         note_port(&mut table, link.to, link.input, i)?;
     }
@@ -82,7 +81,7 @@ pub fn targets_of(alloc: Global, links: &[Link]) -> Result<PortTable, NoMemory>
 pub fn sources_of(alloc: Global, links: &[Link]) -> Result<PortTable, NoMemory>
     ensures { IfOk result (λ table. FindsSources table (wires_of_links links.now)) }
 {
-    let mut table = BTreeMap::new(alloc);
+    let mut table = HashMap::with_capacity(alloc, links.len())?;
     for (i, link) in links.iter().enumerate() {
         note_port(&mut table, link.from, link.output, i)?;
     }

@@ -10,10 +10,10 @@ use elem_core::line::Line;
 use elem_core::why::NoMemory;
 use plug_core::head::PlugHead;
 use std::alloc::Global;
-use std::collections::BTreeMap;
+use std::collections::HashMap;
 
 /// The number of each name.
-pub type NameTable<'a> = BTreeMap<&'a [u8], usize>;
+pub type NameTable<'a> = HashMap<&'a [u8], usize>;
 
 /// What has a name.
 pub trait Named {
@@ -64,11 +64,15 @@ pub fn note<'a>(table: &mut NameTable<'a>, name: &'a Line, number: usize) -> Res
     ensures noted { OnOk result ((q : List ℕ) → number_in table.new q
         ≡ option_or (number_in table.old q) (when (same_text q name.now) number)) }
 {
-    let free = !table.contains_key(name.bytes());
-    if free {
-        table.insert(name.bytes(), number)?;
+    let name = name.bytes();
+    match table.insert(name, number)? {
+        None => Ok(true),
+        Some(first) => {
+            // It keeps the number that it had.
+            table.insert(name, first)?;
+            Ok(false)
+        }
     }
-    Ok(free)
 }
 
 /// The number that a table has for a name.
@@ -82,7 +86,7 @@ pub fn find(table: &NameTable<'_>, name: &Line) -> Option<usize>
 pub fn table_of<'a, T: Named>(alloc: Global, items: &'a [T]) -> Result<NameTable<'a>, NoMemory>
     ensures { IfOk result (λ table. Numbers table (map T.text items.now)) }
 {
-    let mut table = BTreeMap::new(alloc);
+    let mut table = HashMap::with_capacity(alloc, items.len())?;
     for (i, item) in items.iter().enumerate() {
         let _ = note(&mut table, item.name(), i)?;
     }

@@ -7,6 +7,7 @@ use Rattle.stream_model.specs.declared.kind.Kind.{Kind}
 use Rattle.stream_model.specs.declared.kind.Kind.TheVariants.{Valve, TripShutdown, TripAbort}
 use Rattle.switch_laws.specs.Settling.{IsAt}
 use Rattle.switch_board.specs.Board.{switch_of, is_name, first_from, place_by, place_of, places_in}
+use Rattle.switch_board.specs.Dealing.{AreRooted}
 
 -- ---- lists
 
@@ -122,3 +123,11 @@ module _ (kinds : List Kind) where
 
   pub kind_there : (k : ℕ) (p : Option ℕ) → slice_get (places_in kinds) k ≡ Some p → (kind : Kind) × ((slice_get kinds k ≡ Some kind) × (p ≡ place_of kinds kind))
   kind_there k p is = unmapped_at (place_of kinds) kinds k p is
+
+  -- the least node at a switch has the place that all its nodes have
+  pub rooted : AreRooted (places_in kinds)
+  rooted = λ k j e.
+      let u = kind_there k (Some j) e in
+      let p = place_names (switch_of u.0) j (sym u.1.1) in
+      let own : place_of kinds p.kind ≡ Some j = ap (place_by kinds) (p.least ∙ sym p.names) ∙ sym u.1.1 in
+      mapped_at (place_of kinds) kinds j p.kind p.at ∙ ap (λ q. Some q) own

@@ -6,7 +6,7 @@ use Rattle.std.proofs.lemmas.Bool.Decides.{Decides-eqb}
 use Rattle.std.proofs.lemmas.List.Elements.{Contains-append_left, Contains-push, Contains-push_cases}
 use Rattle.kill_core.specs.Public.{SeatState}
 use Rattle.switch_board.specs.Board.{sits, count_at, numbered_from}
-use Rattle.switch_board.specs.Dealing.{own_seat, sits_in, seats_at}
+use Rattle.switch_board.specs.Dealing.{AreRooted, own_seat, sits_in, seats_at}
 
 abbrev pub tally_is : Bool → ℕ
 tally_is b = if b then 1 else 0
@@ -46,6 +46,25 @@ some_sit j zero (q ∷ ps) p at h =
     let one : tally_is (sits j q) ≡ 1 = ap tally_is (ap (sits j) same ∙ h) in
     omega (arith, count_first j q ps, one)
 some_sit j (suc k) (q ∷ ps) p at h = let more = some_sit j k ps p at h in omega (arith, count_first j q ps, more)
+
+-- nobody sits at a place where the node of that number does not
+not_there : (j : ℕ) (p : Option ℕ) (b : Bool) → sits j p ≡ b → (p ≡ Some j → ⊥) → tally_is (sits j p) ≡ 0
+not_there j p true e none = absurd (none (sits_there j p e))
+not_there j p false e none = ap tally_is e
+
+none_sit : (j : ℕ) (ps : List (Option ℕ)) → ((k : ℕ) → slice_get ps k ≡ Some (Some j) → ⊥) → count_at j ps ≡ 0
+none_sit j [] none = refl
+none_sit j (p ∷ ps) none =
+    let rest = none_sit j ps (λ k. none (suc k)) in
+    let here = not_there j p (sits j p) refl (λ e. none 0 (ap (λ q. Some q) e)) in
+    omega (arith, count_first j p ps, rest, here)
+
+pub nobody_sits : (j : ℕ) (places : List (Option ℕ)) (p : Option ℕ) → AreRooted places → slice_get places j ≡ Some p → sits j p ≡ false → count_at j places ≡ 0
+nobody_sits j places p r at not_here = none_sit j places (λ k e.
+    let same : Some p ≡ Some (Some j) = sym at ∙ r k j e in
+    let is : p ≡ Some j = cc in
+    let yes : sits j p ≡ true = ap (sits j) is ∙ sits_own j in
+    cc)
 
 module _ (j : ℕ) (whole : List (Option ℕ)) where
   -- these are the places from node k on

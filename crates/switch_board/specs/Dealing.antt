@@ -13,6 +13,10 @@ use Rattle.switch_board.specs.Board.{sits, count_at}
 
 -- ---- handing out
 
+-- where nodes sit at a place, the node of that number does
+abbrev pub AreRooted : List (Option ℕ) → Type 0
+AreRooted places = (k j : ℕ) → slice_get places k ≡ Some (Some j) → slice_get places j ≡ Some (Some j)
+
 -- an end of this switch, with a new seat
 pub record IsEnd (s : SwitchState) (x : Option (Option SwitchEnd)) : Type 0 where
   pub end : SwitchEnd

@@ -6,7 +6,7 @@ ghost use Rattle.kill_core.specs.Public.{SeatState, IsNewSeat};
 ghost use Rattle.stream_model.specs.declared.kind.Kind.{Kind};
 ghost use Rattle.switch_laws.specs.Settling.{AllSettled};
 ghost use Rattle.switch_board.specs.Board.{switch_of, is_name, first_from, place_of, places_in, sits, count_at, IsBoard, AreAtSwitches, AreHanded, seat_of_end, numbered_from, seat_in};
-ghost use Rattle.switch_board.specs.Dealing.{IsHanded, IsDealt, IsMade, IsPut, HasRoom, HaveLists, AreEmpty, HaveRoom, HaveSeats, AreWhole, AllWhole, IsSettledAt, ListsSettled};
+ghost use Rattle.switch_board.specs.Dealing.{AreRooted, IsHanded, IsDealt, IsMade, IsPut, HasRoom, HaveLists, AreEmpty, HaveRoom, HaveSeats, AreWhole, AllWhole, IsSettledAt, ListsSettled};
 
 use crate::names::switch_of;
 use blue_core::blueprint::Node;
@@ -166,13 +166,16 @@ fn make(
     j: usize,
     ends: &mut Vec<Option<SwitchEnd>>,
 ) -> Result<(Option<Arc<Switch>>, Vec<SwitchSeat>), NoMemory>
+    requires within { j < length places.now }
+    requires rooted { AreRooted places.now }
     requires ends { length ends.old.items ≡ length places.now }
     ensures { IfOk result (λ r. IsMade j places.now ends.old.items ends.new.items r.0 r.1) }
 {
-    let count = count_at(places, j);
-    if count == 0 {
+    // So a place where nobody sits costs no count of the nodes.
+    if !sits(&places[j], j) {
         return Ok((None, Vec::new(alloc)));
     }
+    let count = count_at(places, j);
     let (switch, seats) = Switch::new(alloc, counted(count)?)?;
     let switch = Arc::new(alloc, switch)?;
     deal(places, j, &switch, seats, ends)?;

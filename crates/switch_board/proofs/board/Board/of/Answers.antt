@@ -1,8 +1,12 @@
 -- The goals of `board::Board::of` that the search leaves.
-use Rattle.std.proofs.Common.{◌≡◌, ℕ, List, length, subst, Option, rules, arith}
-use Rattle.switch_board.specs.Dealing.{IsMade}
+use Rattle.std.proofs.Common.{◌≡◌, ◌∙◌, ℕ, List, length, sym, subst, Option, rules, arith}
+use Rattle.switch_board.specs.Dealing.{AreRooted, IsMade}
+use Rattle.switch_board.proofs.Places.{rooted}
 use Rattle.switch_board.proofs.Dealt.{MadeTo, made_next, is_board, at_switches, are_handed}
 use Rattle.switch_board.proofs.board.Board.of.Goals as goal
+
+pub make-requires-clause-rooted : goal.make-requires-clause-rooted
+make-requires-clause-rooted c = subst (λ (l : List (Option ℕ)). AreRooted l) (sym (c.deref.ensures.value ∙ c.in_ok-places.ensures)) (rooted _)
 
 pub loop-j-preserved : goal.loop-j-preserved
 loop-j-preserved c =

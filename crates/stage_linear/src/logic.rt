@@ -305,9 +305,22 @@ impl<L: Logic, B: PlugBook> LinearLogic<L, B> {
         ensures came { OnOk result (CameTo B.lists self.old taken e acts.new.items self.new) }
         ensures room { acts.new.room ≡ acts.old.room }
     {
-        let outcome = self.worker.react(alloc, e)?;
+        let out = self.take_list(alloc);
+        let outcome = self.worker.react(alloc, e, out)?;
         self.answer(taken, outcome, acts);
         Ok(())
+    }
+
+    // The list from which all that was held has gone out; a new one, which takes no memory, where nothing was held yet.
+    fn take_list(&mut self, alloc: Global) -> Elems
+        requires none { self.old.pending ≡ [] }
+        ensures list { result ≡ [] }
+        ensures same { self.new ≡ self.old }
+    {
+        match self.pending.take() {
+            Some(list) => list,
+            None => Elems::new(alloc),
+        }
     }
 
     // What element number `taken` came to.

@@ -53,13 +53,14 @@ impl<L: Logic, B: PlugBook> PlugTask<L, B> {
         }
     }
 
-    /// One more element. Behind an answer that does not go on, and behind `NoMemory`, it is not to be called any more.
-    pub fn react(&mut self, alloc: Global, e: Elem) -> Result<Outcome, NoMemory>
-        requires { self.old.running ≡ true }
+    /// One more element. Its outputs are put into `out`, which is empty. Behind an answer that does not go on, and behind
+    /// `NoMemory`, it is not to be called any more.
+    pub fn react(&mut self, alloc: Global, e: Elem, mut out: Elems) -> Result<Outcome, NoMemory>
+        requires running { self.old.running ≡ true }
+        requires empty { out ≡ [] }
         ensures reacts { IfOk result (ReactedBy B.lists (plug_work self.old) e (plug_work self.new)) }
         ensures running { IfOk result (StaysOn self.new.running) }
     {
-        let mut out = Elems::new(alloc);
         self.running = false;
         let taken = self.taken.and(&e);
         match self.logic.on_elem(alloc, e, &mut out) {

@@ -1,4 +1,4 @@
-ghost use Rattle.std.specs.Prelude.{◌≡◌, IfOk, IfSome, IfNone};
+ghost use Rattle.std.specs.Prelude.{◌≡◌, [], IfOk, IfSome, IfNone};
 ghost use Rattle.stage_linear.specs.Tasks.{HasMore, ReactedBy, outcome_of};
 ghost use Rattle.stage_linear.specs.Plugs.{EndsAs};
 ghost use Rattle.stage_linear.specs.Workers.{work_by, CanTake, GoesOnReady};
@@ -36,16 +36,17 @@ impl<L: Logic, B: PlugBook> Worker<L, B> {
         }
     }
 
-    /// One more element.
-    pub fn react(&mut self, alloc: Global, e: Elem) -> Result<Outcome, NoMemory>
+    /// One more element. A plug puts its outputs into `out`, which is empty, so that its list takes no memory anew.
+    pub fn react(&mut self, alloc: Global, e: Elem, out: Elems) -> Result<Outcome, NoMemory>
         requires more { HasMore (work_by self.old) }
         requires ready { CanTake self.old }
+        requires empty { out ≡ [] }
         ensures reacts { IfOk result (ReactedBy B.lists (work_by self.old) e (work_by self.new)) }
         ensures ready { IfOk result (GoesOnReady self.new) }
     {
         match self {
             Worker::Plain(task) => task.react(alloc, e),
-            Worker::Plug(plug) => plug.react(alloc, e),
+            Worker::Plug(plug) => plug.react(alloc, e, out),
         }
     }
 

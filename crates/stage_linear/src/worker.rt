@@ -23,6 +23,7 @@ pub enum Worker<L: Logic, B: PlugBook> {
 
 impl<L: Logic, B: PlugBook> Worker<L, B> {
     /// One more element, where what comes of it is known at once. `None` leaves the worker as it is; a plug is not called.
+    #[inline(always)]
     pub fn at_once(&mut self, e: &Elem) -> Option<AtOnce>
         requires more { HasMore (work_by self.old) }
         requires ready { CanTake self.old }

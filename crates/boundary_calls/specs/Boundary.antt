@@ -9,11 +9,10 @@ use Rattle.stage_law.specs.Held.{told}
 use Rattle.port_core.specs.Decoding.{can_push}
 use Rattle.port_core.specs.declared.act.Act.{Act}
 use Rattle.port_core.specs.declared.act.Act.TheVariants as act
-use Rattle.port_core.specs.declared.view.InView.{InView}
-use Rattle.port_core.specs.declared.view.InView.TheVariants.{Idle, Waiting, Over, Left}
 use Rattle.port_core.specs.declared.view.OutView.{OutView}
-use Rattle.port_core.specs.declared.view.OutView.TheVariants.{Unasked, Asked, Shut, Refused}
+use Rattle.port_core.specs.declared.view.OutView.TheVariants.{Refused}
 use Rattle.wire_core.specs.Cell.{Cell, moved_by, queues_by}
+pub use Rattle.wire_core.specs.Closes.{is_shut, is_over}
 use Rattle.wire_core.specs.Counts.{elements}
 use Rattle.wire_core.specs.Marks.{wanted as asks_of}
 use Rattle.nodes.specs.declared.node.Node.{Node}
@@ -33,20 +32,6 @@ IsEntering _ = ⊥
 abbrev pub IsLeaving : {S D L B : Type 0} → Node S D L B → Type 0
 IsLeaving (node.Leaving x) = ⊤
 IsLeaving _ = ⊥
-
--- an output that is closed on its side
-abbrev pub is_shut : OutView → Bool
-is_shut Unasked = false
-is_shut Asked = false
-is_shut Shut = true
-is_shut Refused = true
-
--- an input that is closed on its side
-abbrev pub is_over : InView → Bool
-is_over Idle = false
-is_over Waiting = false
-is_over Over = true
-is_over Left = true
 
 -- cancelled where the stage heard of it, asked where its connection lets it push
 abbrev pub wanted_by : OutView → Bool → Wanted

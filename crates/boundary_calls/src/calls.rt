@@ -8,7 +8,7 @@ ghost use Rattle.fused_net.specs.Laws.{Settled, GoesOn};
 ghost use Rattle.fused_net.specs.Costs.{all_asks, Uses};
 ghost use Rattle.fused_net.specs.Poking.{AtNode, HandsAt};
 ghost use Rattle.boundary_calls.specs.declared.given.Wanted.TheVariants as wanted;
-ghost use Rattle.boundary_calls.specs.Boundary.{EntersAt, LeavesAt, IsClearAt, GivenIs, CameTo, wanted_at, is_shut, is_over, ends_at, moved_at, ended_at, cancelled_at};
+ghost use Rattle.boundary_calls.specs.Boundary.{EntersAt, LeavesAt, IsClearAt, GivenIs, CameTo, wanted_at, ends_at, moved_at, ended_at, cancelled_at};
 
 use crate::given::{Given, Wanted};
 use elem_core::elem::Elem;
@@ -19,7 +19,6 @@ use nodes::node::Node;
 use plug_logic::book::PlugBook;
 use plug_logic::logic::Logic;
 use port_core::act::Act;
-use port_core::view::{InView, OutView};
 use stream_io::outside::{Drain, Source};
 
 /// What the stage at the output end of the connection at place `place` was asked, where a lane comes in. It takes no memory.
@@ -32,15 +31,12 @@ pub fn wanted<S: Source, D: Drain, L: Logic, B: PlugBook>(
     ensures { result ≡ wanted_at (wire_at engine.now place) }
 {
     let wire = engine.wire(place);
-    match wire.out_view() {
-        OutView::Refused => Wanted::Cancelled,
-        _ => {
-            if wire.can_push() {
-                Wanted::Asked
-            } else {
-                Wanted::Quiet
-            }
-        }
+    if wire.is_refused() {
+        Wanted::Cancelled
+    } else if wire.can_push() {
+        Wanted::Asked
+    } else {
+        Wanted::Quiet
     }
 }
 
@@ -79,29 +75,9 @@ pub fn end_in<S: Source, D: Drain, L: Logic, B: PlugBook>(
     ensures on { GoesOn engine.old engine.new }
     ensures uses { Uses engine.old engine.new 0 }
 {
-    if !is_shut(engine.wire(place).out_view()) {
+    if !engine.wire(place).is_shut() {
         let ends = engine.ends(place);
         engine.poke(ends.from, end_act(ends.output, cause));
-    }
-}
-
-/// Whether an output is closed on its side.
-fn is_shut(view: OutView) -> bool
-    ensures { result ≡ is_shut view }
-{
-    match view {
-        OutView::Shut | OutView::Refused => true,
-        OutView::Unasked | OutView::Asked => false,
-    }
-}
-
-/// Whether an input is closed on its side.
-fn is_over(view: InView) -> bool
-    ensures { result ≡ is_over view }
-{
-    match view {
-        InView::Over | InView::Left => true,
-        InView::Idle | InView::Waiting => false,
     }
 }
 
@@ -183,7 +159,7 @@ fn cancel<S: Source, D: Drain, L: Logic, B: PlugBook>(
     ensures on { GoesOn engine.old engine.new }
     ensures uses { Uses engine.old engine.new 0 }
 {
-    if !is_over(engine.wire(place).in_view()) {
+    if !engine.wire(place).is_over() {
         let ends = engine.ends(place);
         engine.poke(ends.to, Act::Cancel(ends.input));
     }

@@ -1,20 +1,21 @@
-ghost use Rattle.std.specs.Prelude.{◌≡◌, ◌↔◌, ◌+◌, ◌<◌, ◌^◌, not, false, IsTrue, IsSome, Some};
+ghost use Rattle.std.specs.Prelude.{◌≡◌, ◌↔◌, ◌+◌, ◌<◌, ◌^◌, not, false, true, IsTrue, IsSome, Some};
 ghost use Rattle.elem_core.specs.Tree.{Tree};
 ghost use Rattle.elem_core.specs.declared.item.Item.TheVariants as item;
 ghost use Rattle.port_core.specs.Decoding.{can_pull, can_push, is_at_rest, is_open};
 ghost use Rattle.port_core.specs.Wire.{delivery_of, nothing, brought, end_of};
 ghost use Rattle.port_core.specs.declared.act.Act.TheVariants as act;
-ghost use Rattle.wire_core.specs.Cell.{new_cell, moved_by, queues_by, delivery_in, delivered, brought_in, ended_in};
+ghost use Rattle.wire_core.specs.Cell.{new_cell, moved_by, delivery_in, delivered, brought_in, ended_in};
+ghost use Rattle.wire_core.specs.Closes.{is_shut, is_refused, is_over};
 ghost use Rattle.wire_core.specs.Counts.{elements};
 
 use elem_core::elem::Elem;
 use elem_core::item::Item;
 use elem_core::trace::Trace;
 use elem_core::why::Cause;
-use port_core::act::Act;
 use port_core::conn::{Conn, Event};
 use port_core::view::{InView, OutView};
 use std::marker::Model;
+use std::snapshot::Snapshot;
 
 /// What the event of a wire brings. Rule: own, after the events of the Akka Streams 2.6 interpreter.
 #[derive(Drop)]
@@ -43,13 +44,17 @@ impl Delivered {
 /// takes memory. Rule: Akka Streams 2.6 reference, chapter on custom stream processing; that a pull or push is dropped is own.
 #[derive(Drop)]
 pub struct Wire {
-    out: OutView,
-    inp: InView,
+    out: Snapshot<OutView>,
+    inp: Snapshot<InView>,
     conn: Conn,
     sent: Trace<Item>,
     got: Trace<Item>,
     pushed: u64,
     asked: bool,
+    // What the two views say of closings. An element that passes an open wire leaves these as they are.
+    shut: bool,
+    refused: bool,
+    over: bool,
 }
 
 impl Model for Wire {
@@ -57,15 +62,16 @@ impl Model for Wire {
     ghost use Rattle.std.specs.Coded.{codes};
     ghost use Rattle.elem_core.specs.TreeCode.{tree_coded};
     ghost use Rattle.wire_core.specs.Cell.{Cell};
+    ghost use Rattle.wire_core.specs.Closes.{Closes};
     ghost use Rattle.wire_core.specs.Counts.{elements};
 
     ghost Value = { Cell };
 
     ghost coded = { Prim.hlevel (codes, tree_coded) };
 
-    ghost view = { λ w. record { wire = record { out = w.out; inp = w.inp; conn = w.conn; sent = w.sent.items; got = w.got.items }; asked = w.asked } };
+    ghost view = { λ w. record { wire = record { out = w.out.value; inp = w.inp.value; conn = w.conn; sent = w.sent.items; got = w.got.items }; asked = w.asked } };
 
-    ghost invariant = { λ w. w.pushed ≡ elements w.sent.items };
+    ghost invariant = { λ w. (w.pushed ≡ elements w.sent.items) × Closes w.out.value w.inp.value w.conn w.shut w.refused w.over };
 }
 
 impl Wire {
@@ -74,13 +80,16 @@ impl Wire {
         ensures { result ≡ new_cell }
     {
         Wire {
-            out: OutView::Unasked,
-            inp: InView::Idle,
+            out: Snapshot::of(&OutView::Unasked),
+            inp: Snapshot::of(&InView::Idle),
             conn: Conn::new(),
             sent: Trace::empty(),
             got: Trace::empty(),
             pushed: 0,
             asked: false,
+            shut: false,
+            refused: false,
+            over: false,
         }
     }
 
@@ -119,60 +128,57 @@ impl Wire {
         self.conn.can_pull()
     }
 
-    /// What the stage at its output knows of it.
-    pub fn out_view(&self) -> OutView
-        ensures { result ≡ self.now.wire.out }
+    /// Whether its output closed it, or heard that its input cancelled.
+    pub fn is_shut(&self) -> bool
+        ensures { result ≡ is_shut self.now.wire.out }
     {
-        self.out
+        self.shut
     }
 
-    /// What the stage at its input knows of it.
-    pub fn in_view(&self) -> InView
-        ensures { result ≡ self.now.wire.inp }
+    /// Whether its output heard that its input cancelled.
+    pub fn is_refused(&self) -> bool
+        ensures { result ≡ is_refused self.now.wire.out }
     {
-        self.inp
+        self.refused
     }
 
-    /// A stage at one of its ends acts. The answer says whether the wire has to be queued.
-    pub fn act(&mut self, act: Act) -> bool
-        requires count { elements self.old.wire.sent + 1 < 2 ^ 64 }
-        ensures queued { result ≡ queues_by act self.old.wire.conn }
-        ensures moved { self.new ≡ moved_by act self.old }
+    /// Whether its input cancelled it, or heard of its end.
+    pub fn is_over(&self) -> bool
+        ensures { result ≡ is_over self.now.wire.inp }
     {
-        match act {
-            Act::Pull(_) => self.pull(),
-            Act::Push(_, e) => self.push(e),
-            Act::Complete(_) => self.complete(),
-            Act::FailOut(_, cause) => self.fail(cause),
-            Act::Cancel(_) => self.cancel(),
-        }
+        self.over
     }
 
-    fn pull(&mut self) -> bool
+    /// The stage at its input asks. The answer says whether the wire has to be queued.
+    pub fn pull(&mut self) -> bool
         ensures queued { result ≡ can_pull self.old.wire.conn }
         ensures moved { self.new ≡ moved_by (act.Pull 0) self.old }
     {
-        self.inp = InView::Waiting;
+        self.inp = Snapshot::of(&InView::Waiting);
         if self.conn.can_pull() {
             self.asked = true;
             self.conn.pull()
         } else {
+            self.over = false;
             false
         }
     }
 
+    /// The stage at its output gives an element. The answer says whether the wire has to be queued.
     #[tactic(auto, using(crate::proofs::Counting::elements_elem))]
-    fn push(&mut self, e: Elem) -> bool
+    pub fn push(&mut self, e: Elem) -> bool
         requires count { elements self.old.wire.sent + 1 < 2 ^ 64 }
         ensures queued { result ≡ can_push self.old.wire.conn }
         ensures moved { self.new ≡ moved_by (act.Push 0 e) self.old }
     {
-        self.out = OutView::Unasked;
+        self.out = Snapshot::of(&OutView::Unasked);
         self.asked = false;
         self.pushed += 1;
         let item = Item::Elem(e);
         self.sent = self.sent.and(&item);
         if !self.conn.can_push() {
+            self.shut = false;
+            self.refused = false;
             return false;
         }
         match item {
@@ -181,31 +187,39 @@ impl Wire {
         }
     }
 
+    /// The stage at its output completes it. The answer says whether the wire has to be queued.
     #[tactic(auto, using(crate::proofs::Counting::elements_ended))]
-    fn complete(&mut self) -> bool
+    pub fn complete(&mut self) -> bool
         ensures queued { result ≡ is_at_rest self.old.wire.conn }
         ensures moved { self.new ≡ moved_by (act.Complete 0) self.old }
     {
-        self.out = OutView::Shut;
+        self.out = Snapshot::of(&OutView::Shut);
+        self.shut = true;
+        self.refused = false;
         self.sent = self.sent.and(&Item::Ended);
         self.conn.complete()
     }
 
+    /// The stage at its output fails it with a cause. The answer says whether the wire has to be queued.
     #[tactic(auto, using(crate::proofs::Counting::elements_failed))]
-    fn fail(&mut self, cause: Cause) -> bool
+    pub fn fail(&mut self, cause: Cause) -> bool
         ensures queued { result ≡ is_at_rest self.old.wire.conn }
         ensures moved { self.new ≡ moved_by (act.FailOut 0 cause) self.old }
     {
-        self.out = OutView::Shut;
+        self.out = Snapshot::of(&OutView::Shut);
+        self.shut = true;
+        self.refused = false;
         self.sent = self.sent.and(&Item::Failed(cause));
         self.conn.fail(cause)
     }
 
-    fn cancel(&mut self) -> bool
+    /// The stage at its input cancels it. The answer says whether the wire has to be queued.
+    pub fn cancel(&mut self) -> bool
         ensures queued { result ≡ is_at_rest self.old.wire.conn }
         ensures moved { self.new ≡ moved_by (act.Cancel 0) self.old }
     {
-        self.inp = InView::Left;
+        self.inp = Snapshot::of(&InView::Left);
+        self.over = true;
         self.conn.cancel()
     }
 
@@ -217,11 +231,13 @@ impl Wire {
         match self.conn.decode() {
             Event::Nothing => Delivered::Nothing,
             Event::Pull => {
-                self.out = OutView::Asked;
+                self.out = Snapshot::of(&OutView::Asked);
                 Delivered::Ask
             }
             Event::Cancel => {
-                self.out = OutView::Refused;
+                self.out = Snapshot::of(&OutView::Refused);
+                self.shut = true;
+                self.refused = true;
                 Delivered::Refusal
             }
             Event::Push => self.take_in(false),
@@ -231,21 +247,24 @@ impl Wire {
     }
 
     fn take_in(&mut self, more: bool) -> Delivered
-        requires { IsSome self.old.wire.conn.to_grab }
+        requires there { IsSome self.old.wire.conn.to_grab }
+        requires open { self.old.wire.conn.in_closed ≡ false }
         ensures value { (e : Tree) → self.old.wire.conn.to_grab ≡ Some e → delivery_in result ≡ brought (item.Elem e) more }
         ensures after { (e : Tree) → self.old.wire.conn.to_grab ≡ Some e → self.new ≡ brought_in e self.old }
     {
-        self.inp = InView::Idle;
+        self.inp = Snapshot::of(&InView::Idle);
         let item = Item::Elem(self.conn.grab());
         self.got = self.got.and(&item);
         Delivered::Brought(item, more)
     }
 
     fn take_end(&mut self) -> Delivered
+        requires { self.old.wire.conn.in_closed ≡ true }
         ensures value { delivery_in result ≡ brought (end_of self.old.wire.conn.cause) false }
         ensures after { self.new ≡ ended_in self.old }
     {
-        self.inp = InView::Over;
+        self.inp = Snapshot::of(&InView::Over);
+        self.over = true;
         let item = match self.conn.cause() {
             None => Item::Ended,
             Some(cause) => Item::Failed(cause),

@@ -192,6 +192,9 @@ module _ {N : Type 0} (row : N → View → Type 0) (law : N → N → View → 
   pub next_able : (net : Net N) (n : ℕ) (a : Act) (old new : List Act) → old ≡ a ∷ new → Busy row law net n old → all_asks net ≤ 4000000000 → Able net n a
   next_able net n a old new e busy few = let at : Busy row law net n (a ∷ new) = rw e at busy in able net n a new at few
 
+  pub one_done : (net new : Net N) (n : ℕ) (a : Act) (acts : List Act) → acts ≡ a ∷ [] → new ≡ acted net n a → new ≡ acted_all net n acts
+  one_done net new n a acts e is = rw e is
+
   -- all actions of a node are done
   pub acts_busy : (acts : List Act) (net : Net N) (n : ℕ) → Busy row law net n acts → Busy row law (acted_all net n acts) n []
   acts_busy [] net n busy = busy

@@ -1,3 +1,4 @@
+pub mod Queues
 pub mod Reading
 pub mod Nets
 pub mod Sums
@@ -5,6 +6,7 @@ pub mod Ongoing
 pub mod Acting
 pub mod Asking
 pub mod Moments
+pub mod Taking
 pub mod Delivering
 pub mod Going
 pub mod Starting

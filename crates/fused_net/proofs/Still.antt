@@ -1,28 +1,26 @@
 -- What stands still at the wires of passive nodes while the graph runs by itself.
 use Rattle.std.specs.Prelude.{Option, None}
-use Rattle.std.proofs.Common.{◌≡◌, ◌≢◌, ◌⊎◌, inl, inr, ℕ, zero, suc, ◌+◌, ◌<◌, ◌≤◌, Bool, true, false, Some, List, [], ◌∷◌, ◌++◌, length, map, get_or, slice_get, slice_set, refl, sym, ap, ◌∙◌, subst, arith, get_or-set_same, get_or-set_other}
+use Rattle.std.proofs.Common.{◌≡◌, ◌≢◌, ◌⊎◌, inl, inr, ℕ, zero, suc, ◌<◌, Bool, true, false, Some, List, [], ◌∷◌, ◌++◌, length, map, get_or, slice_get, slice_set, refl, sym, ap, ◌∙◌, subst, get_or-set_same, get_or-set_other}
 use Rattle.elem_core.specs.declared.item.Item.{Item}
 use Rattle.elem_core.specs.declared.item.Item.TheVariants as item
-use Rattle.port_core.specs.Wire.{Wire, Delivery, nothing, ask, refusal, brought, after_delivery, again}
+use Rattle.port_core.specs.Wire.{Wire, Delivery, nothing, ask, refusal, brought, after_delivery}
 use Rattle.port_core.specs.View.{View}
 use Rattle.port_core.specs.declared.act.Act.{Act}
 use Rattle.port_core.specs.declared.act.Act.TheVariants.{Pull, Push, Complete, FailOut, Cancel}
-use Rattle.port_core.specs.declared.view.InView.{InView}
 use Rattle.port_core.specs.declared.view.InView.TheVariants.{Left}
 use Rattle.wire_core.specs.Cell.{Cell, moved_by}
-use Rattle.wire_core.specs.Marks.{wanted}
 use Rattle.wire_core.proofs.Marking.{grown_same, grown_trans}
 use Rattle.wire_core.specs.Reading.{no_wire}
 use Rattle.stage_core.specs.Handling.{StaysPassive}
 use Rattle.fused_net.specs.declared.net.Ends.{Ends}
-use Rattle.fused_net.specs.Net.{Net, end_at, target, wire_at, ports_at, wire_for, acted, acted_all, told_by, told, event_told, with_node, before}
+use Rattle.fused_net.specs.Net.{Net, end_at, target, wire_at, ports_at, wire_for, acted, acted_all, told_by, event_told, with_node, Takes}
 use Rattle.port_core.specs.Wire.{delivery_of}
 use Rattle.fused_net.specs.Laws.{AnyRow, AnyLaw, Wired, Busy, Settled, GoesOn, AllKept}
 use Rattle.fused_net.specs.PortLists.{PortLists}
 use Rattle.fused_net.specs.declared.engine.Step.{Step}
 use Rattle.fused_net.specs.Steps.{at_step}
 use Rattle.fused_net.specs.Outside.{BreaksAside, IsPassiveAt, StandsStill, touched, IsElse, HasOnly, Untouched, HeardBy}
-use Rattle.fused_net.proofs.Reading.{same_or_not, some_same, get_there, get_within, get_set_same, get_set_other}
+use Rattle.fused_net.proofs.Reading.{same_or_not, some_same, get_there, get_set_other}
 use Rattle.fused_net.proofs.Ongoing.{nodes-acts}
 use Rattle.fused_net.proofs.Acting.{PortAt, fits, act_allowed, port_within, acted_busy}
 use Rattle.fused_net.proofs.Asking.{told_wanted, told_grown}
@@ -211,8 +209,8 @@ module _ {N : Type 0} (passive : N → Bool) where
       })
 
   -- the first wire was taken out of the queue
-  pub still_before : (old net new : Net N) (w : ℕ) → old ≡ before net w → StandsStill passive net new → StandsStill passive old new
-  still_before old net new w e s = rw e (record { kinds = s.kinds; grown = s.grown; sent = s.sent; asks = s.asks; left = s.left })
+  pub still_taken : (old net new : Net N) (w : ℕ) → Takes old w net → StandsStill passive net new → StandsStill passive old new
+  still_taken old net new w t s = subst (λ (a : Net N). StandsStill passive a new) (sym t.is) (record { kinds = s.kinds; grown = s.grown; sent = s.sent; asks = s.asks; left = s.left })
 
 -- ---- which passive nodes have heard
 
@@ -411,8 +409,8 @@ module _ {N : Type 0} (passive : N → Bool) where
         nodes = λ u k e p o. refl;
       })
 
-  pub untouched_before : (at : Option ℕ) (old net new : Net N) (w : ℕ) → old ≡ before net w → Untouched passive at net new → Untouched passive at old new
-  untouched_before at old net new w e s = rw e (record { outs = s.outs; ins = s.ins; nodes = s.nodes })
+  untouched_taken : (at : Option ℕ) (old net new : Net N) (w : ℕ) → Takes old w net → Untouched passive at net new → Untouched passive at old new
+  untouched_taken at old net new w t s = subst (λ (a : Net N). Untouched passive at a new) (sym t.is) (record { outs = s.outs; ins = s.ins; nodes = s.nodes })
 
   -- over what a step made of it
   pub untouched_on : (s t : Step) (a b c : Net N) → s ≡ t → b.ends ≡ a.ends → b.ports ≡ a.ports → map passive b.nodes ≡ map passive a.nodes → Untouched passive None a b → Untouched passive (at_step s) b c → Untouched passive (at_step t) a c
@@ -421,8 +419,8 @@ module _ {N : Type 0} (passive : N → Bool) where
   untouched_as : (b c : Bool) (w : ℕ) (old new : Net N) → b ≡ c → Untouched passive (touched b w) old new → Untouched passive (touched c w) old new
   untouched_as b c w old new e u = subst (λ (z : Bool). Untouched passive (touched z w) old new) e u
 
-  pub untouched_next : (b c : Bool) (w : ℕ) (old net new : Net N) → b ≡ c → old ≡ before net w → Untouched passive (touched b w) net new → Untouched passive (touched c w) old new
-  untouched_next b c w old net new e is u = untouched_before (touched c w) old net new w is (untouched_as b c w net new e u)
+  pub untouched_next : (b c : Bool) (w : ℕ) (old net new : Net N) → b ≡ c → Takes old w net → Untouched passive (touched b w) net new → Untouched passive (touched c w) old new
+  untouched_next b c w old net new e t u = untouched_taken (touched c w) old net new w t (untouched_as b c w net new e u)
 
   -- the same by what the code of it reads
   pub handle_untouched : (net v new : Net N) (w n : ℕ) (event : Delivery) (ends : Ends) (heard : Bool) → Wired net.ends net.ports (length net.nodes) (length net.wires) → w < length net.wires → v ≡ event_told net w → event ≡ delivery_of (wire_at net w).wire → event ≢ nothing → ends ≡ end_at net.ends w → n ≡ target event ends

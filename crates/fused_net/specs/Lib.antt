@@ -1,3 +1,4 @@
+pub mod Queue
 pub mod PortLists
 pub mod Net
 pub mod Laws

@@ -1,5 +1,5 @@
 -- A fused graph as contracts see it, and what each step makes of it. The nodes are of any type.
-use Rattle.std.specs.Prelude.{◌≡◌, ℕ, ◌+◌, ◌^◌, ◌<◌, Bool, true, false, if◌then◌else◌, List, [], ◌∷◌, ◌++◌, length, slice_index_or, slice_set}
+use Rattle.std.specs.Prelude.{◌≡◌, ℕ, ◌+◌, ◌^◌, ◌<◌, ◌⊎◌, Bool, true, false, if◌then◌else◌, List, [], ◌∷◌, ◌++◌, length, slice_index_or, slice_set}
 use Rattle.elem_core.specs.declared.item.Item.{Item}
 use Rattle.port_core.specs.Ring.{holds}
 use Rattle.port_core.specs.View.{View}
@@ -134,3 +134,8 @@ module _ {N : Type 0} where
   -- wire w was not taken from the queue yet
   abbrev pub before : Net N → ℕ → Net N
   before net w = record net { queue = w ∷ net.queue }
+
+  -- wire w was taken from the queue, where it stood first or last
+  pub record Takes (old : Net N) (w : ℕ) (new : Net N) : Type 0 where
+    pub is : old ≡ record new { queue = old.queue }
+    pub stood : (old.queue ≡ w ∷ new.queue) ⊎ (old.queue ≡ new.queue ++ w ∷ [])

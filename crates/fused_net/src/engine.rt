@@ -4,9 +4,11 @@ ghost use Rattle.elem_core.specs.Prefix.{IsPrefix};
 ghost use Rattle.port_core.specs.Call.{Meets};
 ghost use Rattle.port_core.specs.Ring.{holds};
 ghost use Rattle.port_core.specs.Wire.{nothing, delivery_of};
+ghost use Rattle.port_core.specs.declared.act.Act.TheVariants as act;
 ghost use Rattle.stage_core.specs.Handling.{most_acts, AsksAs, StaysPassive, Handles};
 ghost use Rattle.wire_core.specs.Cell.{new_cell, delivery_in};
-ghost use Rattle.fused_net.specs.Net.{acted, acted_all, event_told, wire_at, end_at, wire_for, HasPort, Able, port_at, target, call_of, before};
+ghost use Rattle.fused_net.specs.Net.{acted, acted_all, event_told, wire_at, end_at, Able, port_at, target, call_of, before, Takes};
+ghost use Rattle.fused_net.specs.Queue.{most_chases};
 ghost use Rattle.fused_net.specs.Laws.{AnyRow, AnyLaw, Wired, first_view, Settled, Busy, Starting, GoesOn, Awaits, TellsAsking, MeetsAt, Responds, AllKept, BreaksOff, IsMinded};
 ghost use Rattle.fused_net.specs.Costs.{all_asks, Uses};
 ghost use Rattle.fused_net.specs.Poking.{AtNode, HandsAt, TellsPoked};
@@ -15,8 +17,10 @@ ghost use Rattle.fused_net.specs.Steps.{unit_of, at_step};
 ghost use Rattle.fused_net.specs.declared.engine.Step.TheVariants as step;
 
 use crate::net::{Ends, Ports};
+use crate::queue::EventQueue;
+use elem_core::elem::Elem;
 use elem_core::item::Item;
-use elem_core::why::NoMemory;
+use elem_core::why::{Cause, NoMemory};
 use port_core::act::Act;
 use port_core::acts::Acts;
 use port_core::ring::EventRing;
@@ -33,13 +37,14 @@ pub struct Engine<S: Stage> {
     wires: Vec<Wire>,
     ends: Vec<Ends>,
     ports: Vec<Ports>,
-    ring: EventRing,
+    queue: EventQueue,
     firsts: Snapshot<Vec<S>>,
 }
 
 impl<S: Stage> Model for Engine<S> {
     ghost use Rattle.std.specs.Prelude.{◌≡◌, length};
     ghost use Rattle.fused_net.specs.Net.{Net};
+    ghost use Rattle.fused_net.specs.Queue.{waiting};
     ghost use Rattle.std.specs.Coded.{codes};
     ghost use Rattle.elem_core.specs.TreeCode.{tree_coded};
 
@@ -47,9 +52,9 @@ impl<S: Stage> Model for Engine<S> {
 
     ghost coded = { Prim.hlevel (codes, tree_coded) };
 
-    ghost view = { λ e. record { nodes = e.nodes.items; firsts = e.firsts.value.items; wires = e.wires.items; ends = e.ends.items; ports = e.ports.items; queue = e.ring.queue } };
+    ghost view = { λ e. record { nodes = e.nodes.items; firsts = e.firsts.value.items; wires = e.wires.items; ends = e.ends.items; ports = e.ports.items; queue = waiting e.queue } };
 
-    ghost invariant = { λ e. e.ring.size ≡ length e.wires.items };
+    ghost invariant = { λ e. e.queue.size ≡ length e.wires.items };
 }
 
 /// How far a graph went.
@@ -81,16 +86,6 @@ pub fn unused_wires(alloc: Global, count: usize) -> Result<Vec<Wire>, NoMemory>
         wires.push_reserved(Wire::new());
     }
     Ok(wires)
-}
-
-fn wire_of(act: &Act, ports: &Ports) -> u32
-    requires there { HasPort act.now ports.now }
-    ensures { result ≡ wire_for act.now ports.now }
-{
-    match act {
-        Act::Pull(i) | Act::Cancel(i) => ports.input(*i),
-        Act::Push(j, _) | Act::Complete(j) | Act::FailOut(j, _) => ports.output(*j),
-    }
 }
 
 fn node_of(event: &Delivered, ends: Ends) -> u32
@@ -155,12 +150,13 @@ impl<S: Stage> Engine<S> {
         ensures asks { all_asks result ≡ 0 }
     {
         let firsts = Snapshot::of(&nodes);
+        let queue = EventQueue::new(ring);
         Engine {
             nodes,
             wires,
             ends,
             ports,
-            ring,
+            queue,
             firsts,
         }
     }
@@ -210,18 +206,89 @@ impl<S: Stage> Engine<S> {
     }
 
     // Node n acts at its wire.
+    #[inline(always)]
     fn act(&mut self, n: usize, act: Act)
         requires { Able self.old n act }
         ensures { self.new ≡ acted self.old n act }
     {
-        let w = wire_of(&act, &self.ports[n]);
-        if self.wires[w as usize].act(act) {
-            self.ring.enqueue(w);
+        match act {
+            Act::Pull(i) => self.pull(n, i),
+            Act::Push(j, e) => self.push(n, j, e),
+            Act::Complete(j) => self.complete(n, j),
+            Act::FailOut(j, cause) => self.fail(n, j, cause),
+            Act::Cancel(i) => self.cancel(n, i),
         }
     }
 
-    // Node n does all its actions.
+    // Node n asks. The event of that may be the next one.
+    #[inline(always)]
+    fn pull(&mut self, n: usize, i: u8)
+        requires { Able self.old n (act.Pull i) }
+        ensures { self.new ≡ acted self.old n (act.Pull i) }
+    {
+        let w = self.ports[n].input(i);
+        if self.wires[w as usize].pull() {
+            self.queue.chase(w);
+        }
+    }
+
+    // Node n gives an element. The event of that may be the next one.
+    #[inline(always)]
+    fn push(&mut self, n: usize, j: u8, e: Elem)
+        requires { Able self.old n (act.Push j e) }
+        ensures { self.new ≡ acted self.old n (act.Push j e) }
+    {
+        let w = self.ports[n].output(j);
+        if self.wires[w as usize].push(e) {
+            self.queue.chase(w);
+        }
+    }
+
+    #[inline(never)]
+    fn complete(&mut self, n: usize, j: u8)
+        requires { Able self.old n (act.Complete j) }
+        ensures { self.new ≡ acted self.old n (act.Complete j) }
+    {
+        let w = self.ports[n].output(j);
+        let queued = self.wires[w as usize].complete();
+        self.queue.close(w, queued);
+    }
+
+    #[inline(never)]
+    fn fail(&mut self, n: usize, j: u8, cause: Cause)
+        requires { Able self.old n (act.FailOut j cause) }
+        ensures { self.new ≡ acted self.old n (act.FailOut j cause) }
+    {
+        let w = self.ports[n].output(j);
+        let queued = self.wires[w as usize].fail(cause);
+        self.queue.close(w, queued);
+    }
+
+    #[inline(never)]
+    fn cancel(&mut self, n: usize, i: u8)
+        requires { Able self.old n (act.Cancel i) }
+        ensures { self.new ≡ acted self.old n (act.Cancel i) }
+    {
+        let w = self.ports[n].input(i);
+        let queued = self.wires[w as usize].cancel();
+        self.queue.close(w, queued);
+    }
+
+    // Node n does all its actions, which mostly are one.
     fn perform(&mut self, n: usize, acts: &mut Acts)
+        requires busy { Busy AnyRow AnyLaw self.old n acts.old.items }
+        requires few { all_asks self.old ≤ 4000000000 }
+        ensures after { self.new ≡ acted_all self.old n acts.old.items }
+        ensures acts { acts.new ≡ record acts.old { items = [] } }
+    {
+        match acts.only() {
+            Some(act) => self.act(n, act),
+            None => self.perform_all(n, acts),
+        }
+    }
+
+    #[inline(never)]
+    fn perform_all(&mut self, n: usize, acts: &mut Acts)
         requires busy { Busy AnyRow AnyLaw self.old n acts.old.items }
         requires few { all_asks self.old ≤ 4000000000 }
         ensures after { self.new ≡ acted_all self.old n acts.old.items }
@@ -232,7 +299,7 @@ impl<S: Stage> Engine<S> {
         }
     }
 
-    // Delivers the event of a wire that was taken from the ring.
+    // Delivers the event of a wire that was taken out of the queue.
     fn deliver(&mut self, w: u32) -> Delivered
         requires within { w < length self.old.wires }
         requires absent { holds self.old.queue w ≡ false }
@@ -241,7 +308,7 @@ impl<S: Stage> Engine<S> {
     {
         let event = self.wires[w as usize].deliver();
         if let Delivered::Brought(_, true) = event {
-            self.ring.enqueue(w);
+            self.queue.enqueue(w);
         }
         event
     }
@@ -276,7 +343,7 @@ impl<S: Stage> Engine<S> {
         Ok(())
     }
 
-    // Handles the event of a wire that was taken from the ring, and says whether the node that heard of it is passive.
+    // Handles the event of a wire that was taken out of the queue, and says whether the node that heard of it is passive.
     #[inline(always)]
     fn handle(&mut self, alloc: Global, w: u32, acts: &mut Acts) -> Result<bool, NoMemory>
         requires within { w < length self.old.wires }
@@ -304,12 +371,19 @@ impl<S: Stage> Engine<S> {
         Ok(self.nodes[n as usize].is_passive())
     }
 
-    // Takes the first wire out of the ring.
+    // Takes out the wire whose event comes next: the one that waits first, or the one that was queued last, where it is chased.
     fn next(&mut self) -> Option<u32>
         ensures none { IfNone result ((self.old.queue ≡ []) × (self.new ≡ self.old)) }
-        ensures some { IfSome result (λ w. (w < length self.new.wires) × ((holds self.new.queue w ≡ false) × (self.old ≡ before self.new w))) }
+        ensures some { IfSome result (λ w. (w < length self.new.wires) × ((holds self.new.queue w ≡ false) × Takes self.old w self.new)) }
     {
-        self.ring.dequeue()
+        self.queue.next()
+    }
+
+    // Each wire that has an event waits for its turn: only what handlers cause from now on is chased.
+    fn settle(&mut self)
+        ensures { self.new ≡ self.old }
+    {
+        self.queue.settle();
     }
 
     // Handles one event.
@@ -359,6 +433,7 @@ impl<S: Stage> Engine<S> {
         ensures breaks { OnErr result (BreaksOff S.rests S.law S.asking S.moves S.keeps self.old self.new.nodes) }
         ensures count { length self.new.nodes ≡ length self.old.nodes }
     {
+        self.settle();
         for used in 0..limit {
             if let Step::Rest = self.step(alloc, acts)? {
                 return Ok(used);
@@ -394,6 +469,7 @@ impl<S: Stage> Engine<S> {
         ensures breaks { OnErr result (BreaksAside S.rests S.law S.asking S.moves S.gone S.passive S.keeps self.old self.new.nodes) }
         ensures count { length self.new.nodes ≡ length self.old.nodes }
     {
+        self.settle();
         for used in 0..limit {
             match self.step(alloc, acts)? {
                 Step::Rest => return Ok(Advance { used, heard: None }),
@@ -481,7 +557,15 @@ impl<S: Stage> Engine<S> {
     pub fn is_at_rest(&self) -> bool
         ensures { IsTrue result ↔ (self.now.queue ≡ []) }
     {
-        self.ring.is_empty()
+        self.queue.is_empty()
+    }
+
+    /// The most events that were chased for one that waited for its turn: handled at once, since a handler that had just been called
+    /// asked for them or gave them. It takes no memory.
+    pub fn longest_chase(&self) -> u32
+        ensures { result ≤ most_chases }
+    {
+        self.queue.longest()
     }
 
     /// The nodes and the wires, each in their order.

@@ -1,9 +1,9 @@
--- The loop of `engine::Engine::perform`.
+-- The loop of `engine::Engine::perform_all`.
 use Rattle.std.proofs.Common.{◌≡◌, ◌≤◌, length}
 use Rattle.fused_net.specs.Net.{acted_all}
 use Rattle.fused_net.specs.Laws.{AnyRow, AnyLaw, Busy}
 use Rattle.fused_net.specs.Costs.{all_asks}
-use Rattle.fused_net.proofs.engine.Engine.perform.Given as goal
+use Rattle.fused_net.proofs.engine.Engine.perform_all.Given as goal
 
 -- what is left to do leads to where all of it would have led
 abbrev pub invariant-loop-act : goal.invariant-loop-act

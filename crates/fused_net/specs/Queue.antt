@@ -1,0 +1,51 @@
+-- The wires that have an event, as the code keeps them: the ring, and behind it the wire that a handler asked at or gave to last,
+-- which may come first.
+use Rattle.std.specs.Prelude.{◌≡◌, ℕ, ◌+◌, ◌<◌, ◌≤◌, false, Option, None, Some, List, [], ◌∷◌, ◌++◌, max, ⊤}
+use Rattle.port_core.specs.Ring.{holds}
+
+-- how many wires there are; those in the ring, first in first out; the chased wire, if there is one; how many events were chased
+-- since one came from the ring, and the most that were chased for one that did
+pub record Queue : Type 0 where
+  pub size : ℕ
+  pub ring : List ℕ
+  pub chased : Option ℕ
+  pub chases : ℕ
+  pub longest : ℕ
+
+-- at most so many events are chased for one that comes from the ring
+abbrev pub most_chases : ℕ
+most_chases = 16
+
+abbrev pub listed : Option ℕ → List ℕ
+listed None = []
+listed (Some w) = w ∷ []
+
+-- the wires that have an event: the chased one stands last
+abbrev pub waiting : Queue → List ℕ
+waiting q = q.ring ++ listed q.chased
+
+-- the chased wire was put in the ring
+abbrev pub settled : Queue → Queue
+settled q = record q { ring = waiting q; chased = None }
+
+-- the chased wire has a place in the ring, and is not there
+abbrev pub HasPlace : ℕ → List ℕ → Option ℕ → Type 0
+HasPlace size ring None = ⊤
+HasPlace size ring (Some w) = (w < size) × (holds ring w ≡ false)
+
+-- what every queue keeps
+pub record IsQueue (q : Queue) : Type 0 where
+  pub place : HasPlace q.size q.ring q.chased
+  pub few : q.chases ≤ most_chases
+  pub fewest : q.longest ≤ most_chases
+
+-- the chased wire comes, where fewer than so many were chased since one came from the ring
+pub record Chases (old : Queue) (w : ℕ) (new : Queue) : Type 0 where
+  pub was : old.chased ≡ Some w
+  pub few : old.chases < most_chases
+  pub is : new ≡ record old { chased = None; chases = old.chases + 1 }
+
+-- the first of the ring comes: then no event was chased for it yet
+pub record Dequeues (old : Queue) (w : ℕ) (new : Queue) : Type 0 where
+  pub first : waiting old ≡ w ∷ new.ring
+  pub is : new ≡ record old { ring = new.ring; chased = None; chases = 0; longest = max old.longest old.chases }

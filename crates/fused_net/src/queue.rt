@@ -1,0 +1,146 @@
+ghost use Rattle.std.specs.Prelude.{◌≡◌, ◌<◌, ◌≤◌, ◌∷◌, [], ◌++◌, false, true, None, Some, if◌then◌else◌, IsTrue, IfNone, IfSome, ◌↔◌, ◌⊎◌, max};
+ghost use Rattle.port_core.specs.Ring.{holds};
+ghost use Rattle.fused_net.specs.Queue.{waiting, settled, most_chases, Chases, Dequeues};
+
+use port_core::ring::EventRing;
+use std::marker::Model;
+
+/// How many events may be chased for one that comes from the ring. Rule: Akka Streams 2.6 interpreter, which chases as many.
+pub const MOST_CHASES: u32 = 16;
+
+/// The wires that have an event, each at most once: first in first out, but that the wire that a handler asked at or gave to last
+/// may come first. So an event's consequence is handled at once, and at most 16 such events for each one that waited for its turn.
+/// Rule: Akka Streams 2.6 interpreter.
+#[derive(Drop)]
+pub struct EventQueue {
+    ring: EventRing,
+    chased: Option<u32>,
+    chases: u32,
+    longest: u32,
+}
+
+impl Model for EventQueue {
+    ghost use Rattle.fused_net.specs.Queue.{Queue, IsQueue};
+
+    ghost Value = { Queue };
+
+    ghost view = { λ q. record { size = q.ring.size; ring = q.ring.queue; chased = q.chased; chases = q.chases; longest = q.longest } };
+
+    ghost invariant = { λ q. IsQueue (record { size = q.ring.size; ring = q.ring.queue; chased = q.chased; chases = q.chases; longest = q.longest }) };
+}
+
+impl EventQueue {
+    /// The queue of the wires in a ring. It takes no memory.
+    pub fn new(ring: EventRing) -> EventQueue
+        ensures is { result ≡ record { size = ring.size; ring = ring.queue; chased = None; chases = 0; longest = 0 } }
+        ensures waits { waiting result ≡ ring.queue }
+    {
+        EventQueue {
+            ring,
+            chased: None,
+            chases: 0,
+            longest: 0,
+        }
+    }
+
+    /// Whether no wire has an event.
+    pub fn is_empty(&self) -> bool
+        ensures { IsTrue result ↔ (waiting self.now ≡ []) }
+    {
+        self.chased.is_none() && self.ring.is_empty()
+    }
+
+    /// The most events that were chased for one that came from the ring.
+    pub fn longest(&self) -> u32
+        ensures is { result ≡ max self.now.longest self.now.chases }
+        ensures few { result ≤ most_chases }
+    {
+        if self.longest < self.chases {
+            self.chases
+        } else {
+            self.longest
+        }
+    }
+
+    /// Puts a wire last, as the one that may come first. It takes no memory.
+    pub fn chase(&mut self, w: u32)
+        requires within { w < self.old.size }
+        requires absent { holds (waiting self.old) w ≡ false }
+        ensures is { self.new ≡ record (settled self.old) { chased = Some w } }
+        ensures waits { waiting self.new ≡ waiting self.old ++ w ∷ [] }
+    {
+        self.settle();
+        self.chased = Some(w);
+    }
+
+    /// Puts a wire last in the ring, so that it waits for its turn. It takes no memory.
+    pub fn enqueue(&mut self, w: u32)
+        requires within { w < self.old.size }
+        requires absent { holds (waiting self.old) w ≡ false }
+        ensures is { self.new ≡ record (settled self.old) { ring = waiting self.old ++ w ∷ [] } }
+        ensures waits { waiting self.new ≡ waiting self.old ++ w ∷ [] }
+    {
+        self.settle();
+        self.ring.enqueue(w);
+    }
+
+    /// A side of a wire was closed, which has to be queued for that or not. No event is chased then. It takes no memory.
+    #[inline(never)]
+    pub fn close(&mut self, w: u32, queued: bool)
+        requires within { w < self.old.size }
+        requires absent { queued ≡ true → holds (waiting self.old) w ≡ false }
+        ensures size { self.new.size ≡ self.old.size }
+        ensures waits { waiting self.new ≡ (if queued then waiting self.old ++ w ∷ [] else waiting self.old) }
+    {
+        if queued {
+            self.enqueue(w);
+        } else {
+            self.settle();
+        }
+    }
+
+    /// Every wire waits for its turn. It takes no memory.
+    pub fn settle(&mut self)
+        ensures is { self.new ≡ settled self.old }
+        ensures waits { waiting self.new ≡ waiting self.old }
+    {
+        if let Some(w) = self.chased {
+            self.chased = None;
+            self.ring.enqueue(w);
+        }
+    }
+
+    /// Takes out the wire whose event is to be handled: the chased one, where fewer than 16 were chased since one came from the ring,
+    /// else the first of the ring.
+    pub fn next(&mut self) -> Option<u32>
+        ensures none { IfNone result ((waiting self.old ≡ []) × (self.new ≡ settled self.old)) }
+        ensures some { IfSome result (λ w. Chases self.old w self.new ⊎ Dequeues self.old w self.new) }
+        ensures once { IfSome result (λ w. (w < self.new.size) × (holds (waiting self.new) w ≡ false)) }
+        ensures size { self.new.size ≡ self.old.size }
+    {
+        if let Some(w) = self.chased {
+            if self.chases < MOST_CHASES {
+                self.chased = None;
+                self.chases += 1;
+                return Some(w);
+            }
+        }
+        self.settle();
+        self.first()
+    }
+
+    // Takes out the first of the ring.
+    fn first(&mut self) -> Option<u32>
+        requires { self.old.chased ≡ None }
+        ensures none { IfNone result ((self.old.ring ≡ []) × (self.new ≡ self.old)) }
+        ensures some { IfSome result (λ w. Dequeues self.old w self.new) }
+        ensures once { IfSome result (λ w. (w < self.new.size) × (holds self.new.ring w ≡ false)) }
+    {
+        let w = self.ring.dequeue()?;
+        if self.longest < self.chases {
+            self.longest = self.chases;
+        }
+        self.chases = 0;
+        Some(w)
+    }
+}

@@ -4,6 +4,8 @@
 #[cfg(test)]
 mod chains;
 #[cfg(test)]
+mod chases;
+#[cfg(test)]
 mod lanes;
 #[cfg(test)]
 mod plans;

@@ -17,8 +17,8 @@ use Rattle.stream_model.proofs.Compositions.{same_number}
 use Rattle.stage_law.specs.Fans.{FanKept, FanKeeps, Uses, used, fan_gives}
 use Rattle.stage_law.specs.Held.{told}
 use Rattle.stage_law.specs.Inflows.{nothing, joined_at, joined, joined_all}
-use Rattle.stage_fans.specs.declared.phase.Phase.{Phase}
-use Rattle.stage_fans.specs.declared.phase.Phase.TheVariants.{New, Open, Closed}
+use Rattle.stage_core.specs.declared.phase.Phase.{Phase}
+use Rattle.stage_core.specs.declared.phase.Phase.TheVariants.{New, Open, Closed}
 use Rattle.stage_in.specs.declared.logic.InLogic.{InLogic}
 use Rattle.stage_in.specs.declared.logic.InLogic.TheVariants as logic
 use Rattle.stage_in.specs.Kinds.{taking_by, sorting}

@@ -21,8 +21,8 @@ use Rattle.stage_law.specs.Fans.{FanKeeps}
 use Rattle.stage_law.specs.Held.{told}
 use Rattle.stage_law.specs.OwnPorts.{own_output}
 use Rattle.stage_law.specs.Zips.{ZipKeeps}
-use Rattle.stage_fans.specs.declared.phase.Phase.{Phase}
-use Rattle.stage_fans.specs.declared.phase.Phase.TheVariants.{New, Open, Closed}
+use Rattle.stage_core.specs.declared.phase.Phase.{Phase}
+use Rattle.stage_core.specs.declared.phase.Phase.TheVariants.{New, Open, Closed}
 use Rattle.stage_in.specs.declared.logic.InLogic.{InLogic}
 use Rattle.stage_in.specs.declared.logic.InLogic.TheVariants as logic
 use Rattle.stage_in.specs.Kinds.{taking_by, sorting}

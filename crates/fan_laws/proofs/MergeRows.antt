@@ -19,8 +19,8 @@ use Rattle.stream_model.proofs.MergeTraces.{length-merge_of}
 use Rattle.stream_picture.specs.Lawful.{MergeLawful, MergeInputs}
 use Rattle.stage_law.specs.Merges.{MergeKeeps, Merged, lists_of, left_at, left_by}
 use Rattle.stage_law.proofs.MergeTurns.{merge_history_stands}
-use Rattle.stage_fans.specs.declared.phase.Phase.{Phase}
-use Rattle.stage_fans.specs.declared.phase.Phase.TheVariants.{New, Open, Closed}
+use Rattle.stage_core.specs.declared.phase.Phase.{Phase}
+use Rattle.stage_core.specs.declared.phase.Phase.TheVariants.{New, Open, Closed}
 use Rattle.stage_merge.specs.declared.merging.Queued.{Queued}
 use Rattle.stage_merge.specs.Mergings as merging
 use Rattle.stage_merge.specs.Mergings.{Merging, of_port, waiting, place, places}

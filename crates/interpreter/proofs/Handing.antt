@@ -4,7 +4,7 @@ use Rattle.std.specs.Prelude.{Option, ⊤}
 use Rattle.std.specs.List.{cons_option}
 use Rattle.stream_io.specs.State.{SourceState, DrainState}
 use Rattle.fused_net.specs.Laws.{AllKept}
-use Rattle.stage_linear.specs.declared.phase.Phase.TheVariants.{New}
+use Rattle.stage_core.specs.declared.phase.Phase.TheVariants.{New}
 use Rattle.nodes.specs.declared.node.Node.{Node}
 use Rattle.nodes.specs.declared.node.Node.TheVariants as node
 use Rattle.nodes.specs.declared.node.NodeEnd.{NodeEnd}

@@ -22,7 +22,7 @@ use Rattle.interpreter.specs.declared.parts.Work.TheVariants.{Reading, Making, L
 use Rattle.interpreter.specs.Parts.{work_inputs, work_outputs, inputs_at, outputs_at, IsUnused, AllUnused, BecomesOf, AllBecome, IsSized, place_of, ends_of}
 use Rattle.stream_model.specs.declared.kind.Kind.{Kind}
 use Rattle.stream_model.specs.declared.kind.Kind.TheVariants as kind
-use Rattle.stage_linear.specs.declared.phase.Phase.TheVariants.{New}
+use Rattle.stage_core.specs.declared.phase.Phase.TheVariants.{New}
 use Rattle.nodes.specs.Kinds.{maker_of}
 use Rattle.stream_model.specs.declared.outcome.WireCount.{WireCount}
 use Rattle.port_core.specs.Decoding.{is_open}

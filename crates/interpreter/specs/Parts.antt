@@ -4,7 +4,7 @@ use Rattle.port_core.specs.declared.view.InView.TheVariants.{Idle}
 use Rattle.port_core.specs.declared.view.OutView.TheVariants.{Unasked}
 use Rattle.stream_model.specs.declared.kind.Kind.TheVariants.{Ignore}
 use Rattle.stream_model.specs.declared.outcome.EndState.TheVariants.{Unended}
-use Rattle.stage_linear.specs.declared.phase.Phase.TheVariants.{New}
+use Rattle.stage_core.specs.declared.phase.Phase.TheVariants.{New}
 use Rattle.nodes.specs.Kinds.{IsMaker, maker_of, IsFileSink, writes_of}
 use Rattle.stage_linear.specs.Handling.{LinearFresh}
 use Rattle.stage_state.specs.Handling.{StateFresh}

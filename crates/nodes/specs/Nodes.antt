@@ -22,7 +22,7 @@ use Rattle.nodes.specs.declared.node.NodeEnd.{NodeEnd}
 use Rattle.nodes.specs.declared.node.NodeEnd.TheVariants.{Read, Staged, Wrote}
 use Rattle.stage_boundary.specs.Entering.{EnteringFresh, EnteringRow, EnteringLaw}
 use Rattle.stage_boundary.specs.Leaving.{LeavingFresh, LeavingRow, LeavingLaw}
-use Rattle.stage_linear.specs.declared.phase.Phase.TheVariants.{New}
+use Rattle.stage_core.specs.declared.phase.Phase.TheVariants.{New}
 use Rattle.nodes.specs.Keeping.{KeepsEnd}
 use Rattle.nodes.specs.Source.{LinesFresh, lines_row, LinesLaw}
 use Rattle.nodes.specs.Maker.{MadeFresh, made_row, MadeLaw}

@@ -22,8 +22,8 @@ use Rattle.stream_picture.specs.View.{EachWire}
 use Rattle.stream_picture.specs.Lawful.{RowLawful, DroppingLawful}
 use Rattle.stream_picture.specs.Rests.{IsShut, RowRests, DroppingRests}
 use Rattle.stage_law.specs.Row.{InClosed, OutClosed}
-use Rattle.stage_linear.specs.declared.phase.Phase.{Phase}
-use Rattle.stage_linear.specs.declared.phase.Phase.TheVariants.{New, Open, Closed}
+use Rattle.stage_core.specs.declared.phase.Phase.{Phase}
+use Rattle.stage_core.specs.declared.phase.Phase.TheVariants.{New, Open, Closed}
 use Rattle.stage_dropping.specs.Drops.{DropHeld, holds, DropKeeps, DropCounts, buffer_at}
 use Rattle.stage_dropping.specs.Droppings.{Dropping, drop_at, end_of, held_in, held_of, DropRow, DropsAs}
 use Rattle.stage_dropping.proofs.DropNodes.{counted}

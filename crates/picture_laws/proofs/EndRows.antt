@@ -24,7 +24,7 @@ use Rattle.stream_picture.specs.View.{EachWire, demand}
 use Rattle.stream_picture.specs.View as picture
 use Rattle.stage_law.specs.Held.{told}
 use Rattle.stage_law.specs.Row.{InClosed}
-use Rattle.stage_linear.specs.declared.phase.Phase.{Phase}
+use Rattle.stage_core.specs.declared.phase.Phase.{Phase}
 use Rattle.wire_core.specs.Counts.{elements}
 use Rattle.nodes.specs.declared.node.Node.{Node}
 use Rattle.nodes.specs.declared.node.Node.TheVariants.{Writing}

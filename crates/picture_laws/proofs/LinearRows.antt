@@ -20,7 +20,7 @@ use Rattle.stream_picture.specs.View.{EachWire, demand, wanted}
 use Rattle.elem_core.specs.Tree.{Tree}
 use Rattle.stage_law.specs.Law.{Law}
 use Rattle.stage_law.specs.Row.{InClosed}
-use Rattle.stage_linear.specs.declared.phase.Phase.TheVariants.{Open}
+use Rattle.stage_core.specs.declared.phase.Phase.TheVariants.{Open}
 use Rattle.stage_linear.specs.declared.course.Course.TheVariants.{Waits}
 use Rattle.stage_linear.specs.States.{Logic, held, row_in, IsLinear}
 use Rattle.nodes.specs.declared.node.Node.{Node}

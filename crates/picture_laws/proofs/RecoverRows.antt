@@ -21,8 +21,8 @@ use Rattle.stream_picture.specs.Lawful.{RecoverLawful}
 use Rattle.stream_picture.specs.Rests.{IsShut, StageRests}
 use Rattle.stage_law.specs.Law.{TookAs}
 use Rattle.stage_law.specs.Row.{InClosed, OutClosed}
-use Rattle.stage_linear.specs.declared.phase.Phase.{Phase}
-use Rattle.stage_linear.specs.declared.phase.Phase.TheVariants.{New, Open, Closed}
+use Rattle.stage_core.specs.declared.phase.Phase.{Phase}
+use Rattle.stage_core.specs.declared.phase.Phase.TheVariants.{New, Open, Closed}
 use Rattle.stage_recover.specs.Recovers.{RecoverHeld, passes, RecoverKeeps, RecoverStandsOf, RecoverCounts}
 use Rattle.stage_recover.specs.Recoverings.{Recover, recover_at, held_in, held_of, RecoverRow, RecoversAs}
 use Rattle.stage_recover.proofs.RecoverTurns.{recover_stands}

@@ -17,8 +17,8 @@ use Rattle.stream_model.specs.declared.outcome.EndState.TheVariants.{Ended, Fail
 use Rattle.stage_law.specs.Held.{told, Held, owing}
 use Rattle.stage_law.specs.Law.{ends_by, Law}
 use Rattle.stage_law.specs.Row.{InClosed, OutClosed, BothClosed}
-use Rattle.stage_linear.specs.declared.phase.Phase.{Phase}
-use Rattle.stage_linear.specs.declared.phase.Phase.TheVariants.{New, Open, Closed}
+use Rattle.stage_core.specs.declared.phase.Phase.{Phase}
+use Rattle.stage_core.specs.declared.phase.Phase.TheVariants.{New, Open, Closed}
 use Rattle.stage_linear.specs.declared.course.Course.{Course}
 use Rattle.stage_linear.specs.declared.course.Course.TheVariants.{Waits, Idles, Leaves, Closes, Ends}
 use Rattle.stage_linear.specs.Tasks.{Spreads}

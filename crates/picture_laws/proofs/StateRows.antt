@@ -31,8 +31,8 @@ use Rattle.stage_law.specs.Held.{Held, owing}
 use Rattle.stage_law.specs.Law.{TookAs, Law}
 use Rattle.stage_law.specs.Row.{InClosed, OutClosed}
 use Rattle.stage_law.proofs.Whole.{stage_stands}
-use Rattle.stage_linear.specs.declared.phase.Phase.{Phase}
-use Rattle.stage_linear.specs.declared.phase.Phase.TheVariants.{New, Open, Closed}
+use Rattle.stage_core.specs.declared.phase.Phase.{Phase}
+use Rattle.stage_core.specs.declared.phase.Phase.TheVariants.{New, Open, Closed}
 use Rattle.stage_keeping.specs.declared.ending.Ending.{Ending}
 use Rattle.stage_keeping.specs.declared.ending.Ending.TheVariants.{Lasting, Ended, Failed}
 use Rattle.stage_state.specs.Buffering.{buffer}

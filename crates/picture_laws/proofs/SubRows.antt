@@ -24,8 +24,8 @@ use Rattle.stream_picture.specs.View.{EachWire, demand, wanted}
 use Rattle.stream_picture.specs.View as picture
 use Rattle.stage_law.specs.Law.{Law}
 use Rattle.stage_law.specs.Row.{InClosed, OutClosed}
-use Rattle.stage_linear.specs.declared.phase.Phase.{Phase}
-use Rattle.stage_linear.specs.declared.phase.Phase.TheVariants.{New, Open, Closed}
+use Rattle.stage_core.specs.declared.phase.Phase.{Phase}
+use Rattle.stage_core.specs.declared.phase.Phase.TheVariants.{New, Open, Closed}
 use Rattle.chain_core.specs.LineChains.{list_function}
 use Rattle.stage_sub.specs.Joined.{untag, joined}
 use Rattle.stage_sub.specs.KeptSubs.{opening_of}

@@ -29,8 +29,8 @@ use Rattle.stream_picture.specs.Lawful.{RowLawful, ValveLawful}
 use Rattle.stream_picture.specs.Rests.{IsShut, StageRests, RowRests}
 use Rattle.stage_law.specs.Law.{Law}
 use Rattle.stage_law.specs.Row.{InClosed, OutClosed}
-use Rattle.stage_linear.specs.declared.phase.Phase.{Phase}
-use Rattle.stage_linear.specs.declared.phase.Phase.TheVariants.{New, Open, Closed}
+use Rattle.stage_core.specs.declared.phase.Phase.{Phase}
+use Rattle.stage_core.specs.declared.phase.Phase.TheVariants.{New, Open, Closed}
 use Rattle.stage_switch.specs.Valves.{ValveKeeps, ValveStandsOf, GaveAll}
 use Rattle.stage_switch.specs.States.{Valve, valve_held, passing_row, Trip, trip_held, trip_held_in, trip_stage}
 use Rattle.stage_switch.specs.Handling.{ValveRow, ValveAs, TripRow, TripAs}

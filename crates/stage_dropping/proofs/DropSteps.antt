@@ -12,8 +12,8 @@ use Rattle.port_core.specs.declared.act.Act.{Act}
 use Rattle.port_core.specs.declared.act.Act.TheVariants.{Pull, Push, Complete, FailOut, Cancel}
 use Rattle.port_core.specs.Call.{Call, starts, asks, brings}
 use Rattle.stage_law.specs.Held.{told}
-use Rattle.stage_linear.specs.declared.phase.Phase.{Phase}
-use Rattle.stage_linear.specs.declared.phase.Phase.TheVariants.{New, Open, Closed}
+use Rattle.stage_core.specs.declared.phase.Phase.{Phase}
+use Rattle.stage_core.specs.declared.phase.Phase.TheVariants.{New, Open, Closed}
 use Rattle.stage_dropping.specs.Drops.{holds, shut, buffer_at, overflow_at, overflow_of, DropTurn, completes, fails, overflows, DropTurnAt}
 use Rattle.std.proofs.Common.{rules}
 use Rattle.stage_dropping.specs.Droppings.{Dropping, Took, GaveIts, GaveFirst, Turned, first_acts, first_phase, end_of}

@@ -3,7 +3,7 @@ ghost use Rattle.elem_core.specs.declared.item.Item.TheVariants as item;
 ghost use Rattle.port_core.specs.Call.{Obeys, Meets, starts, asks, brings, cancels};
 ghost use Rattle.stream_model.specs.Picks.{nothing_held};
 ghost use Rattle.stream_model.specs.declared.kind.Policy.TheVariants.{Backpressure};
-ghost use Rattle.stage_linear.specs.declared.phase.Phase.TheVariants.{New, Open, Closed};
+ghost use Rattle.stage_core.specs.declared.phase.Phase.TheVariants.{New, Open, Closed};
 ghost use Rattle.stage_dropping.specs.Droppings.{Dropping, Took, GaveFirst, row, Turned, begun};
 
 use circular_buffer::HeapCircularBuffer;
@@ -12,7 +12,7 @@ use elem_core::why::{Cause, NoMemory, Why};
 use port_core::act::Act;
 use port_core::acts::Acts;
 use port_core::pick_log::PickLog;
-use stage_linear::phase::Phase;
+use stage_core::phase::Phase;
 use std::alloc::{AllocError, Global};
 use std::marker::Model;
 use stream_model::kind::Policy;

@@ -14,7 +14,7 @@ ghost use Rattle.stream_model.specs.Fits.{moves_fit};
 ghost use Rattle.stream_model.specs.Outlook.{Outlook, Agrees};
 ghost use Rattle.stream_model.specs.FanIn.{AllAgree};
 ghost use Rattle.stage_core.specs.Handling.{Starts, Handles};
-ghost use Rattle.stage_linear.specs.declared.phase.Phase.TheVariants.{New, Open};
+ghost use Rattle.stage_core.specs.declared.phase.Phase.TheVariants.{New, Open};
 ghost use Rattle.stage_dropping.specs.Drops.{DropRest, DropRests, DropCounts};
 ghost use Rattle.stage_dropping.specs.Droppings.{Dropping, begun, row, held_of, Turned, DropFresh, DropRow, DropsAs, unasked_ports};
 

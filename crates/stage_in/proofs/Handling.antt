@@ -10,8 +10,8 @@ use Rattle.port_core.specs.Call.{Call, starts, asks, brings, cancels, CallAllowe
 use Rattle.stage_core.specs.Handling.{most_acts, Handles}
 use Rattle.stage_core.proofs.OnOks.{on_ok_two}
 use Rattle.stage_in.proofs.OnOks.{on_ok}
-use Rattle.stage_fans.specs.declared.phase.Phase.{Phase}
-use Rattle.stage_fans.specs.declared.phase.Phase.TheVariants.{New, Open, Closed}
+use Rattle.stage_core.specs.declared.phase.Phase.{Phase}
+use Rattle.stage_core.specs.declared.phase.Phase.TheVariants.{New, Open, Closed}
 use Rattle.stage_in.specs.declared.logic.InLogic.{InLogic}
 use Rattle.stage_in.specs.declared.logic.InLogic.TheVariants as logic
 use Rattle.stage_fans.specs.Seats.{OneClosed}

@@ -26,8 +26,8 @@ use Rattle.stage_law.specs.Zips.{ZipHeld, ZipKeeps}
 use Rattle.stage_law.specs.Zips as zip
 use Rattle.stage_law.proofs.FanTurns.{fan_new}
 use Rattle.stage_law.proofs.ZipTurns.{zip_new}
-use Rattle.stage_fans.specs.declared.phase.Phase.{Phase}
-use Rattle.stage_fans.specs.declared.phase.Phase.TheVariants.{New, Open, Closed}
+use Rattle.stage_core.specs.declared.phase.Phase.{Phase}
+use Rattle.stage_core.specs.declared.phase.Phase.TheVariants.{New, Open, Closed}
 use Rattle.stage_in.specs.declared.logic.InLogic.{InLogic}
 use Rattle.stage_in.specs.declared.logic.InLogic.TheVariants as logic
 use Rattle.stage_in.specs.Kinds.{taking_by, sorting}

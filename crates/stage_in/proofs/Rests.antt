@@ -9,7 +9,7 @@ use Rattle.stream_picture.specs.View.{EachWire}
 use Rattle.stream_picture.specs.Rests.{IdlesOrShut, WaitsIdlesOrShut, FirstOpenWaits, OneWaits, SortedRests, ZipRests}
 use Rattle.stage_law.specs.Zips.{ZipKeeps}
 use Rattle.stage_law.specs.OwnPorts.{own_input}
-use Rattle.stage_fans.specs.declared.phase.Phase.TheVariants.{Open}
+use Rattle.stage_core.specs.declared.phase.Phase.TheVariants.{Open}
 use Rattle.stage_fans.specs.Seats.{wish}
 use Rattle.stage_in.specs.Seats.{seat, seats}
 use Rattle.stage_in.specs.Pairings.{Pairing, inlet_view, listed, pair_view, row_by}

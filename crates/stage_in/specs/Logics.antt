@@ -19,7 +19,7 @@ use Rattle.stage_fans.specs.PortsLaws.{InPortsLaw}
 use Rattle.stage_law.specs.Fans.{FanKeeps}
 use Rattle.stage_law.specs.Zips.{ZipKeeps}
 use Rattle.stage_law.specs.Merges.{MergeKeeps}
-use Rattle.stage_fans.specs.declared.phase.Phase.TheVariants.{New, Open}
+use Rattle.stage_core.specs.declared.phase.Phase.TheVariants.{New, Open}
 use Rattle.stage_in.specs.declared.logic.InLogic.{InLogic}
 use Rattle.stage_in.specs.declared.logic.InLogic.TheVariants as logic
 use Rattle.stage_in.specs.Kinds.{taking_by, sorting}

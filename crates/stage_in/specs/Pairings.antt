@@ -7,8 +7,8 @@ use Rattle.port_core.specs.declared.view.InView.TheVariants.{Idle, Waiting, Over
 use Rattle.port_core.specs.declared.view.OutView.TheVariants.{Unasked}
 use Rattle.port_core.specs.View.{View}
 use Rattle.stream_model.specs.FanIn.{Inflow}
-use Rattle.stage_fans.specs.declared.phase.Phase.{Phase}
-use Rattle.stage_fans.specs.declared.phase.Phase.TheVariants.{New, Open, Closed}
+use Rattle.stage_core.specs.declared.phase.Phase.{Phase}
+use Rattle.stage_core.specs.declared.phase.Phase.TheVariants.{New, Open, Closed}
 use Rattle.stage_in.specs.declared.inlet.Inlet.{Inlet}
 use Rattle.stage_fans.specs.Seats.{wish, FanClosed, end_by, open_cancels}
 

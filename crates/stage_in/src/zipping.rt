@@ -3,7 +3,7 @@ ghost use Rattle.elem_core.specs.Tree.{both};
 ghost use Rattle.elem_core.specs.declared.item.Item.TheVariants as item;
 ghost use Rattle.port_core.specs.declared.act.Act.TheVariants as act;
 ghost use Rattle.port_core.specs.Call.{Obeys, Meets, starts, asks, brings, cancels};
-ghost use Rattle.stage_fans.specs.declared.phase.Phase.TheVariants.{New, Open, Closed};
+ghost use Rattle.stage_core.specs.declared.phase.Phase.TheVariants.{New, Open, Closed};
 ghost use Rattle.stage_fans.specs.Seats.{room_for};
 ghost use Rattle.stage_in.specs.Pairings.{Does, new_pair, placed, without, closing};
 ghost use Rattle.stage_in.specs.Zippings.{row, Turned, Lacks, emptied, held_at, pair, pair_acts, behind_pair, behind_acts, ended_at, ended_acts};
@@ -13,7 +13,7 @@ use elem_core::elem::{Elem, Form, Pair};
 use elem_core::why::{Cause, NoMemory};
 use port_core::act::Act;
 use port_core::acts::Acts;
-use stage_fans::phase::Phase;
+use stage_core::phase::Phase;
 use std::alloc::Global;
 use std::marker::Model;
 

@@ -21,8 +21,8 @@ use Rattle.stage_law.specs.Held.{Held, owing}
 use Rattle.stage_law.specs.Turn.{TurnAt}
 use Rattle.stage_law.specs.Law.{TookAs, GaveAs, Law}
 use Rattle.stage_law.proofs.Calls.{new_law, call_law}
-use Rattle.stage_linear.specs.declared.phase.Phase.{Phase}
-use Rattle.stage_linear.specs.declared.phase.Phase.TheVariants.{New, Open, Closed}
+use Rattle.stage_core.specs.declared.phase.Phase.{Phase}
+use Rattle.stage_core.specs.declared.phase.Phase.TheVariants.{New, Open, Closed}
 use Rattle.stage_linear.specs.declared.course.Course.{Course}
 use Rattle.stage_linear.specs.States.{Logic, held, held_in, row, row_in, Turned}
 use Rattle.stage_linear.specs.Handling.{LinearFresh, LinearRow, LinearLaw}

@@ -15,7 +15,7 @@ use Rattle.elem_core.specs.declared.why.Decider.TheVariants.{Stop, Resume, Resta
 use Rattle.stream_model.specs.Linear.{Book, Stage, Work, mapping, filtering, taking, taking_while, dropping, dropping_while, passing, limiting, grouping, expanding, folding, scanning, reducing, heading, lasting, numbering, plugged, finish_of}
 use Rattle.stage_linear.specs.declared.task.Outcome.{Outcome}
 use Rattle.stage_linear.specs.declared.task.Outcome.TheVariants.{Gives, GivesAll, Skips, EndsWith, EndsWithAll, Ends, Blames, Fails}
-use Rattle.stage_linear.specs.declared.phase.Phase.TheVariants.{Open}
+use Rattle.stage_core.specs.declared.phase.Phase.TheVariants.{Open}
 use Rattle.stage_linear.specs.declared.course.Course.{Course}
 use Rattle.stage_linear.specs.declared.course.Course.TheVariants as course
 use Rattle.stage_linear.specs.Tasks.{HasMore, Spreads, ReactedBy}

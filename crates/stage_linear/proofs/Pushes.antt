@@ -19,7 +19,7 @@ use Rattle.stream_model.specs.Linear.{Book, Stage, Work, Reaction, gives, ends, 
 use Rattle.stage_law.specs.Held.{Held, owing, shut}
 use Rattle.stage_law.specs.Turn.{last_held, Emits, FewIn, TurnAt}
 use Rattle.stage_law.proofs.Lagging.{few_nothing}
-use Rattle.stage_linear.specs.declared.phase.Phase.TheVariants.{New, Open}
+use Rattle.stage_core.specs.declared.phase.Phase.TheVariants.{New, Open}
 use Rattle.stage_linear.specs.declared.course.Course.{Course}
 use Rattle.stage_linear.specs.declared.course.Course.TheVariants as course
 use Rattle.stage_linear.specs.declared.task.Outcome.{Outcome}

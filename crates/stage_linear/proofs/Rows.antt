@@ -18,8 +18,8 @@ use Rattle.stage_law.specs.Held.{owing}
 use Rattle.stage_law.specs.Row.{BothClosed}
 use Rattle.stream_picture.specs.OneWay.{holds_at_end}
 use Rattle.stage_law.proofs.OwnRows.{waiting_rests, idle_rests, closed_rests}
-use Rattle.stage_linear.specs.declared.phase.Phase.{Phase}
-use Rattle.stage_linear.specs.declared.phase.Phase.TheVariants.{New, Open, Closed}
+use Rattle.stage_core.specs.declared.phase.Phase.{Phase}
+use Rattle.stage_core.specs.declared.phase.Phase.TheVariants.{New, Open, Closed}
 use Rattle.stage_linear.specs.declared.course.Course.{Course}
 use Rattle.stage_linear.specs.declared.course.Course.TheVariants as course
 use Rattle.stage_linear.specs.States.{Logic, held, held_in, row, row_in}

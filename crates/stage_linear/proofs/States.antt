@@ -2,8 +2,8 @@
 use Rattle.std.proofs.Common.{◌≡◌, Bool, List, ap, ◌∙◌}
 use Rattle.elem_core.specs.Tree.{Tree}
 use Rattle.stream_model.specs.Linear.{Stage}
-use Rattle.stage_linear.specs.declared.phase.Phase.{Phase}
-use Rattle.stage_linear.specs.declared.phase.Phase.TheVariants.{Open}
+use Rattle.stage_core.specs.declared.phase.Phase.{Phase}
+use Rattle.stage_core.specs.declared.phase.Phase.TheVariants.{Open}
 use Rattle.stage_linear.specs.declared.course.Course.{Course}
 use Rattle.stage_linear.specs.States.{Logic}
 

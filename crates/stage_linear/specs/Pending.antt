@@ -4,8 +4,8 @@ use Rattle.elem_core.specs.Tree.{Tree}
 use Rattle.port_core.specs.declared.act.Act.{Act}
 use Rattle.port_core.specs.declared.act.Act.TheVariants.{Pull, Push, Complete, FailOut, Cancel}
 use Rattle.stream_model.specs.Machine.{Finish, adds, refuses}
-use Rattle.stage_linear.specs.declared.phase.Phase.{Phase}
-use Rattle.stage_linear.specs.declared.phase.Phase.TheVariants.{Open, Closed}
+use Rattle.stage_core.specs.declared.phase.Phase.{Phase}
+use Rattle.stage_core.specs.declared.phase.Phase.TheVariants.{Open, Closed}
 use Rattle.stage_linear.specs.declared.course.Course.{Course}
 use Rattle.stage_linear.specs.declared.course.Course.TheVariants.{Waits, Idles, Leaves, Closes, Ends}
 use Rattle.stage_linear.specs.States.{Logic, counted, skipped}

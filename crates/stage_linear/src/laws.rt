@@ -9,7 +9,7 @@ ghost use Rattle.stream_model.specs.Machine.{Run, Machine};
 ghost use Rattle.stage_law.specs.Law.{Law};
 ghost use Rattle.stage_law.specs.OwnPorts.{OwnRests};
 ghost use Rattle.stream_picture.specs.OneWay.{holds_at_end};
-ghost use Rattle.stage_linear.specs.declared.phase.Phase.TheVariants.{New, Open};
+ghost use Rattle.stage_core.specs.declared.phase.Phase.TheVariants.{New, Open};
 ghost use Rattle.stage_linear.specs.States.{Logic, held, row};
 
 /// Where its row and its law hold, a stage that was started has closed all its ports, or has nothing to do: it waits for its

@@ -5,7 +5,6 @@ pub mod course;
 pub mod handlers;
 pub mod laws;
 pub mod logic;
-pub mod phase;
 pub mod plug;
 pub mod task;
 pub mod worker;

@@ -2,7 +2,7 @@ ghost use Rattle.std.specs.Prelude.{true, ◌≡◌, ◌≤◌, ◌<◌, ◌∷�
 ghost use Rattle.elem_core.specs.declared.item.Item.TheVariants as item;
 ghost use Rattle.port_core.specs.declared.act.Act.TheVariants as act;
 ghost use Rattle.port_core.specs.Call.{Obeys, Meets, starts, asks, brings, cancels};
-ghost use Rattle.stage_linear.specs.declared.phase.Phase.TheVariants.{New, Open, Closed};
+ghost use Rattle.stage_core.specs.declared.phase.Phase.TheVariants.{New, Open, Closed};
 ghost use Rattle.plug_logic.specs.Gives.{listed};
 ghost use Rattle.stream_model.specs.Linear.{finish_of};
 ghost use Rattle.stream_model.specs.declared.kind.Kind.TheVariants as kind;
@@ -14,7 +14,6 @@ ghost use Rattle.stage_linear.specs.Tasks.{HasMore, outcome_of};
 ghost use Rattle.stage_linear.specs.States.{Begins, row, Turned, HasTask, counted, skipped, decided_by, decided_acts, failing_acts};
 
 use crate::course::Course;
-use crate::phase::Phase;
 use crate::plug::PlugTask;
 use crate::task::{AtOnce, Last, Outcome, Task};
 use crate::worker::Worker;
@@ -27,6 +26,7 @@ use plug_logic::plug::Plug;
 use port_core::act::Act;
 use port_core::acts::Acts;
 use port_core::pick_log::PickLog;
+use stage_core::phase::Phase;
 use std::alloc::{AllocError, Global};
 use std::marker::Model;
 use stream_model::kind::Kind;

@@ -25,8 +25,8 @@ use Rattle.stage_law.specs.Law.{GaveAs}
 use Rattle.stage_law.specs.Inflows.{PortsLaw, untouched}
 use Rattle.stage_law.specs.Merges.{waits, MergeTurnAt, MergeKeeps, moves_of}
 use Rattle.stage_law.proofs.MergeTurns.{merge_call, merge_new, merge_history_stands}
-use Rattle.stage_fans.specs.declared.phase.Phase.{Phase}
-use Rattle.stage_fans.specs.declared.phase.Phase.TheVariants.{New, Open, Closed}
+use Rattle.stage_core.specs.declared.phase.Phase.{Phase}
+use Rattle.stage_core.specs.declared.phase.Phase.TheVariants.{New, Open, Closed}
 use Rattle.stage_fans.specs.Seats.{room_for}
 use Rattle.stage_fans.specs.OwnRows.{FanRests}
 use Rattle.stage_fans.specs.PortsLaws.{InPortsLaw}

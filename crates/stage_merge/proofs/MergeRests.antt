@@ -10,8 +10,8 @@ use Rattle.stream_picture.specs.View.{EachWire, SomeWire}
 use Rattle.stream_picture.specs.Rests.{IsShut, Waits, WaitsIdlesOrShut, MergeRests}
 use Rattle.stage_law.specs.Inflows.{nothing, untouched}
 use Rattle.stage_law.specs.OwnPorts.{own_input, own_output}
-use Rattle.stage_fans.specs.declared.phase.Phase.{Phase}
-use Rattle.stage_fans.specs.declared.phase.Phase.TheVariants.{New, Open, Closed}
+use Rattle.stage_core.specs.declared.phase.Phase.{Phase}
+use Rattle.stage_core.specs.declared.phase.Phase.TheVariants.{New, Open, Closed}
 use Rattle.stage_merge.specs.declared.merging.Queued.{Queued}
 use Rattle.stage_fans.specs.Seats.{wish}
 use Rattle.stage_fans.specs.OwnRows.{own_inputs, FanRests}

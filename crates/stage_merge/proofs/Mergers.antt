@@ -22,8 +22,8 @@ use Rattle.stream_model.specs.Picks.{used_up}
 use Rattle.stage_law.specs.Inflows.{joined_all, coming}
 use Rattle.stage_law.specs.Merges.{MergeHeld, waits, shut, MergeTurn, MergeClose, completes, fails, MergeTurnAt}
 use Rattle.stage_law.proofs.Inflows.{joined_all-nothing}
-use Rattle.stage_fans.specs.declared.phase.Phase.{Phase}
-use Rattle.stage_fans.specs.declared.phase.Phase.TheVariants.{New, Open, Closed}
+use Rattle.stage_core.specs.declared.phase.Phase.{Phase}
+use Rattle.stage_core.specs.declared.phase.Phase.TheVariants.{New, Open, Closed}
 use Rattle.stage_merge.specs.declared.merging.Queued.{Queued}
 use Rattle.stage_fans.specs.Seats.{wish, open_cancels, InsClosed, OneClosed, FanClosed}
 use Rattle.stage_merge.specs.Mergings.{Core, Merging, of_port, waiting, place, places, idles, pulls, open_count, PortsThere, view_of, new_view, Sound, Fresh, row_by, row, held_by, held, Turned, Does, Ends, done, opens, more, Again, over, still, HandedOn, Gave, first, none, Took, passed, stored, without, Ended, FirstOut, LastIn}

@@ -16,7 +16,7 @@ ghost use Rattle.stream_picture.specs.Rests.{MergeRests};
 ghost use Rattle.stage_core.specs.Handling.{Starts, Handles, most_acts};
 ghost use Rattle.stage_fans.specs.Seats.{room_for};
 ghost use Rattle.stage_fans.specs.OwnRows.{FanRests};
-ghost use Rattle.stage_fans.specs.declared.phase.Phase.TheVariants.{New, Open};
+ghost use Rattle.stage_core.specs.declared.phase.Phase.TheVariants.{New, Open};
 ghost use Rattle.stage_merge.specs.Mergings.{Merging, Begins, Turned, row, MergeFresh, MergeRow, MergesAs, unasked_ports};
 
 /// A new merge of 2 to `MAX_FAN` inputs may be started, made no move, and knows that no port was asked.

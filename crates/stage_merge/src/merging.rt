@@ -3,7 +3,7 @@ ghost use Rattle.elem_core.specs.declared.item.Item.TheVariants as item;
 ghost use Rattle.port_core.specs.declared.act.Act.TheVariants as act;
 ghost use Rattle.port_core.specs.Call.{Obeys, Meets, starts, asks, brings, cancels};
 ghost use Rattle.stream_model.specs.declared.kind.TheConstants.{MAX_FAN};
-ghost use Rattle.stage_fans.specs.declared.phase.Phase.TheVariants.{New, Open, Closed};
+ghost use Rattle.stage_core.specs.declared.phase.Phase.TheVariants.{New, Open, Closed};
 ghost use Rattle.stage_fans.specs.Seats.{open_cancels, room_for};
 ghost use Rattle.stage_merge.specs.Mergings.{row, Turned, FirstOut, LastIn, Begins, Does, Gave, HandedOn, Took, Ends, Again, Ended, without, pulls, PortsThere, open_count};
 
@@ -12,7 +12,7 @@ use elem_core::why::{Cause, NoMemory};
 use port_core::act::Act;
 use port_core::acts::Acts;
 use port_core::pick_log::PickLog;
-use stage_fans::phase::Phase;
+use stage_core::phase::Phase;
 use std::alloc::Global;
 use std::collections::VecDeque;
 use std::marker::Model;

@@ -24,8 +24,8 @@ use Rattle.stage_core.proofs.OneOnes.{one_input}
 use Rattle.stage_law.specs.Law.{GaveAs}
 use Rattle.stage_law.specs.Inflows.{PortsLaw}
 use Rattle.stage_linear.proofs.Rows.{may_come, closed_ports}
-use Rattle.stage_linear.specs.declared.phase.Phase.{Phase}
-use Rattle.stage_linear.specs.declared.phase.Phase.TheVariants.{New, Open, Closed}
+use Rattle.stage_core.specs.declared.phase.Phase.{Phase}
+use Rattle.stage_core.specs.declared.phase.Phase.TheVariants.{New, Open, Closed}
 use Rattle.stage_fans.specs.PortsLaws.{InPortsLaw}
 use Rattle.stage_fans.proofs.Histories as histories
 use Rattle.stage_fans.proofs.Histories.{in_node, ins_seen, ins_acted}

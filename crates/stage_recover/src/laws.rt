@@ -10,7 +10,7 @@ ghost use Rattle.stream_model.specs.Outlook.{Outlook, Agrees};
 ghost use Rattle.stream_model.specs.FanIn.{AllAgree};
 ghost use Rattle.stream_model.specs.Picks.{recover_fits, recover_outlook};
 ghost use Rattle.stage_core.specs.Handling.{Starts, Handles};
-ghost use Rattle.stage_linear.specs.declared.phase.Phase.TheVariants.{New, Open};
+ghost use Rattle.stage_core.specs.declared.phase.Phase.TheVariants.{New, Open};
 ghost use Rattle.stage_recover.specs.Recovers.{RecoverHeld, RecoverTurnAt, RecoverResidual, RecoverRest, RecoverRests, RecoverCounts};
 ghost use Rattle.stage_recover.specs.Recoverings.{Recover, begun, row, held_of, Turned, RecoverFresh, RecoverRow, RecoversAs, unasked_ports};
 

@@ -12,8 +12,8 @@ use Rattle.port_core.specs.declared.view.OutView.TheVariants.{Unasked, Asked, Sh
 use Rattle.port_core.specs.View.{View, OneOneOf, ActsAllowed, acted_all}
 use Rattle.port_core.specs.Call.{brings, seen, Obeys}
 use Rattle.stream_model.specs.Linear.{Work, Stage}
-use Rattle.stage_linear.specs.declared.phase.Phase.{Phase}
-use Rattle.stage_linear.specs.declared.phase.Phase.TheVariants.{Open}
+use Rattle.stage_core.specs.declared.phase.Phase.{Phase}
+use Rattle.stage_core.specs.declared.phase.Phase.TheVariants.{Open}
 use Rattle.stage_keeping.specs.declared.ending.Ending.{Ending}
 use Rattle.stage_keeping.specs.declared.ending.Ending.TheVariants.{Lasting, Ended, Failed}
 use Rattle.stage_state.specs.Outcomes.{working, finished, finish_acts}

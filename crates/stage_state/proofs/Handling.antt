@@ -12,7 +12,7 @@ use Rattle.stage_core.specs.Histories as histories
 use Rattle.stage_core.specs.Handling.{Starts, Handles}
 use Rattle.stage_core.proofs.OnOks.{on_ok_two}
 use Rattle.stage_core.proofs.OneOnes.{at_first, first_port}
-use Rattle.stage_linear.specs.declared.phase.Phase.TheVariants.{New, Open}
+use Rattle.stage_core.specs.declared.phase.Phase.TheVariants.{New, Open}
 use Rattle.stage_dropping.specs.Droppings as dropping
 use Rattle.stage_dropping.specs.Droppings.{DropFresh, DropRow, DropsAs}
 use Rattle.stage_dropping.proofs.DropNodes as drops

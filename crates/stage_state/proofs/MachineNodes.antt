@@ -21,8 +21,8 @@ use Rattle.stage_law.specs.Held.{Held, owing}
 use Rattle.stage_law.specs.Turn.{TurnAt}
 use Rattle.stage_law.specs.Law.{TookAs, GaveAs, Law}
 use Rattle.stage_law.proofs.Calls.{new_law, call_law}
-use Rattle.stage_linear.specs.declared.phase.Phase.{Phase}
-use Rattle.stage_linear.specs.declared.phase.Phase.TheVariants.{New, Open, Closed}
+use Rattle.stage_core.specs.declared.phase.Phase.{Phase}
+use Rattle.stage_core.specs.declared.phase.Phase.TheVariants.{New, Open, Closed}
 use Rattle.stage_keeping.specs.declared.ending.Ending.{Ending}
 use Rattle.stage_keeping.specs.declared.ending.Ending.TheVariants.{Lasting}
 use Rattle.stage_keeping.specs.Endings.{state_by}

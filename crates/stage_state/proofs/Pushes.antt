@@ -15,8 +15,8 @@ use Rattle.stream_model.specs.Linear.{Book, Stage, Work, step, linear}
 use Rattle.stage_law.specs.Held.{Held, owing, shut}
 use Rattle.stage_law.specs.Turn.{Emits, FewIn, TurnAt}
 use Rattle.stage_law.proofs.Lagging.{few_nothing}
-use Rattle.stage_linear.specs.declared.phase.Phase.{Phase}
-use Rattle.stage_linear.specs.declared.phase.Phase.TheVariants.{Open}
+use Rattle.stage_core.specs.declared.phase.Phase.{Phase}
+use Rattle.stage_core.specs.declared.phase.Phase.TheVariants.{Open}
 use Rattle.stage_keeping.specs.declared.ending.Ending.{Ending}
 use Rattle.stage_keeping.specs.declared.ending.Ending.TheVariants.{Lasting, Ended, Failed}
 use Rattle.stage_keeping.specs.declared.keeping.Outcome.{Outcome}

@@ -18,8 +18,8 @@ use Rattle.stage_law.specs.Law.{ends_by, Law}
 use Rattle.stage_law.specs.OwnPorts.{OwnRests}
 use Rattle.stage_law.proofs.OwnRows.{waiting_rests, idle_rests, closed_rests}
 use Rattle.stage_linear.proofs.Rows.{may_come, closed_ports}
-use Rattle.stage_linear.specs.declared.phase.Phase.{Phase}
-use Rattle.stage_linear.specs.declared.phase.Phase.TheVariants.{New, Open, Closed}
+use Rattle.stage_core.specs.declared.phase.Phase.{Phase}
+use Rattle.stage_core.specs.declared.phase.Phase.TheVariants.{New, Open, Closed}
 use Rattle.stage_keeping.specs.declared.ending.Ending.{Ending}
 use Rattle.stage_keeping.specs.declared.ending.Ending.TheVariants.{Lasting, Ended, Failed}
 use Rattle.stage_state.specs.Buffering.{buffer}

@@ -12,7 +12,7 @@ use Rattle.port_core.specs.Call.{Call}
 use Rattle.stream_model.specs.declared.kind.Kind.{Kind}
 use Rattle.stream_model.specs.declared.kind.Kind.TheVariants.{Buffer, RecoverNum, RecoverText, Valve, TripShutdown, TripAbort}
 use Rattle.stream_model.specs.declared.kind.Policy.TheVariants.{Backpressure}
-use Rattle.stage_linear.specs.declared.phase.Phase.{Phase}
+use Rattle.stage_core.specs.declared.phase.Phase.{Phase}
 use Rattle.stage_dropping.specs.Droppings as dropping
 use Rattle.stage_recover.specs.Recoverings as recover
 use Rattle.kill_core.specs.declared.end.SwitchEnd.{SwitchEnd}

@@ -7,7 +7,7 @@ use Rattle.stream_model.specs.Linear.{Book, Stage}
 use Rattle.stream_model.specs.Machine.{Run}
 use Rattle.stage_law.specs.Held.{owing}
 use Rattle.stage_law.specs.Law.{Law}
-use Rattle.stage_linear.specs.declared.phase.Phase.TheVariants.{New}
+use Rattle.stage_core.specs.declared.phase.Phase.TheVariants.{New}
 use Rattle.stage_state.specs.States.{Logic, machine, held, row}
 
 -- it was not started, and its row holds

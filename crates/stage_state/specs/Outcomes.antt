@@ -6,7 +6,7 @@ use Rattle.elem_core.specs.declared.why.Cause.{Cause}
 use Rattle.port_core.specs.declared.act.Act.{Act}
 use Rattle.port_core.specs.declared.act.Act.TheVariants.{Pull, Push, Complete, FailOut, Cancel}
 use Rattle.stream_model.specs.Linear.{Work, Stage}
-use Rattle.stage_linear.specs.declared.phase.Phase.TheVariants.{Closed}
+use Rattle.stage_core.specs.declared.phase.Phase.TheVariants.{Closed}
 use Rattle.stage_keeping.specs.declared.ending.Ending.{Ending}
 use Rattle.stage_keeping.specs.declared.ending.Ending.TheVariants.{Lasting, Ended, Failed}
 use Rattle.stage_keeping.specs.declared.keeping.Outcome.{Outcome}

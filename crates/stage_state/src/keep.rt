@@ -2,7 +2,7 @@ ghost use Rattle.std.specs.Prelude.{◌≡◌, ◌≤◌, ◌<◌, ◌∷◌, �
 ghost use Rattle.elem_core.specs.declared.item.Item.TheVariants as item;
 ghost use Rattle.port_core.specs.declared.act.Act.TheVariants.{FailOut};
 ghost use Rattle.port_core.specs.Call.{Obeys, Meets, starts, asks, brings, cancels};
-ghost use Rattle.stage_linear.specs.declared.phase.Phase.TheVariants.{New, Open, Closed};
+ghost use Rattle.stage_core.specs.declared.phase.Phase.TheVariants.{New, Open, Closed};
 ghost use Rattle.stage_keeping.specs.declared.ending.Ending.TheVariants.{Lasting};
 ghost use Rattle.stage_keeping.specs.Keeping.{work_in};
 ghost use Rattle.stage_state.specs.Outcomes.{answered, answer_acts, cause_at, finished, finish_acts, settled, settle_acts};
@@ -12,9 +12,9 @@ use elem_core::elem::Elem;
 use elem_core::why::{Cause, Decider, NoMemory, Why};
 use port_core::act::Act;
 use port_core::acts::Acts;
+use stage_core::phase::Phase;
 use stage_keeping::ending::Ending;
 use stage_keeping::keeping::{Keeping, Outcome};
-use stage_linear::phase::Phase;
 use std::alloc::{AllocError, Global};
 use std::marker::Model;
 

@@ -10,7 +10,7 @@ ghost use Rattle.stream_model.specs.Outlook.{Outlook, End, Agrees, lane_outlook}
 ghost use Rattle.stream_picture.specs.OneWay.{holds_at_end};
 ghost use Rattle.stage_law.specs.Law.{Law};
 ghost use Rattle.stage_law.specs.OwnPorts.{OwnRests};
-ghost use Rattle.stage_linear.specs.declared.phase.Phase.TheVariants.{New, Open};
+ghost use Rattle.stage_core.specs.declared.phase.Phase.TheVariants.{New, Open};
 ghost use Rattle.stage_state.specs.Buffering.{buffer};
 ghost use Rattle.stage_state.specs.Resting.{begin_buffer, BufferOwnRests};
 ghost use Rattle.stage_state.specs.States.{Logic, held, row};

@@ -2,7 +2,7 @@ ghost use Rattle.std.specs.Prelude.{◌≡◌, ◌≢◌, ◌≤◌, [], Some, N
 ghost use Rattle.std.specs.Option.{option_map};
 ghost use Rattle.elem_core.specs.declared.item.Item.TheVariants as item;
 ghost use Rattle.port_core.specs.Call.{Obeys, Meets, starts, asks, brings, cancels};
-ghost use Rattle.stage_linear.specs.declared.phase.Phase.TheVariants.{New, Open};
+ghost use Rattle.stage_core.specs.declared.phase.Phase.TheVariants.{New, Open};
 ghost use Rattle.stage_state.specs.Handling.{Begins};
 ghost use Rattle.stage_state.specs.Logics.{Chooses, IsHanded, IsStateful, TakesNone, TakesNoneAsked, TakesNoneEnded, TakesNoneFailed, phase_of, row, Turned};
 ghost use Rattle.stage_state.specs.Moves.{state_moves, state_picks, state_seat};

@@ -9,8 +9,8 @@ use Rattle.port_core.specs.declared.view.OutView.TheVariants.{Unasked, Asked, Sh
 use Rattle.port_core.specs.View.{View, OneOneOf, IsInOpen, ActsAllowed, acted_all}
 use Rattle.port_core.specs.Call.{asks, brings, seen, CallAllowed, Obeys}
 use Rattle.stream_model.specs.FanIn.{Tagged}
-use Rattle.stage_linear.specs.declared.phase.Phase.{Phase}
-use Rattle.stage_linear.specs.declared.phase.Phase.TheVariants.{Open}
+use Rattle.stage_core.specs.declared.phase.Phase.{Phase}
+use Rattle.stage_core.specs.declared.phase.Phase.TheVariants.{Open}
 use Rattle.stage_sub.specs.States.{Logic, row, row_in, pulled, pulled_acts, finished, finish_acts}
 use Rattle.stage_sub.specs.declared.blame.Blame.{Blame}
 

@@ -31,8 +31,8 @@ use Rattle.stage_law.specs.Law.{TookAs, GaveAs, ends_by, Law}
 use Rattle.stage_law.specs.Turn.{TurnAt}
 use Rattle.stage_law.proofs.Calls.{new_law, call_law}
 use Rattle.stage_law.proofs.Ports.{in_unended, may_open}
-use Rattle.stage_linear.specs.declared.phase.Phase.{Phase}
-use Rattle.stage_linear.specs.declared.phase.Phase.TheVariants.{New, Open, Closed}
+use Rattle.stage_core.specs.declared.phase.Phase.{Phase}
+use Rattle.stage_core.specs.declared.phase.Phase.TheVariants.{New, Open, Closed}
 use Rattle.chain_core.specs.Means.{Means}
 use Rattle.stage_sub.specs.Joined.{items, untag, joined}
 use Rattle.stage_sub.specs.KeptSubs.{opening_of}

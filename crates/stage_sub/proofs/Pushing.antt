@@ -22,8 +22,8 @@ use Rattle.stream_model.specs.Substreams.{Sub, Subs, Opening, Fault, arranged, t
 use Rattle.stage_law.specs.Held.{told, Held, owing, shut}
 use Rattle.stage_law.specs.Turn.{last_held, Emits, TurnAt}
 use Rattle.stage_law.proofs.Lagging.{few_nothing}
-use Rattle.stage_linear.specs.declared.phase.Phase.{Phase}
-use Rattle.stage_linear.specs.declared.phase.Phase.TheVariants.{New, Open}
+use Rattle.stage_core.specs.declared.phase.Phase.{Phase}
+use Rattle.stage_core.specs.declared.phase.Phase.TheVariants.{New, Open}
 use Rattle.chain_core.specs.Means.{Means}
 use Rattle.stage_sub.specs.Subs.{fault_in_model}
 use Rattle.stage_sub.specs.Joined.{items, untag, joined}

@@ -20,8 +20,8 @@ use Rattle.stage_law.specs.OwnPorts.{OwnRests}
 use Rattle.stage_law.proofs.OwnRows.{waiting_rests, idle_rests, closed_rests}
 use Rattle.stage_core.proofs.OneOnes.{at_first, first_port}
 use Rattle.stage_linear.proofs.Rows.{may_come, closed_ports}
-use Rattle.stage_linear.specs.declared.phase.Phase.{Phase}
-use Rattle.stage_linear.specs.declared.phase.Phase.TheVariants.{New, Open, Closed}
+use Rattle.stage_core.specs.declared.phase.Phase.{Phase}
+use Rattle.stage_core.specs.declared.phase.Phase.TheVariants.{New, Open, Closed}
 use Rattle.stage_sub.specs.Joined.{items}
 use Rattle.stage_sub.specs.Handling.{SubFresh, SubRow, GaveAll}
 use Rattle.stage_sub.specs.States.{Logic, row, row_in, StateIs, OwesIn, Owes, Ready}

@@ -20,8 +20,8 @@ use Rattle.stream_model.specs.FanIn.{Tagged}
 use Rattle.stream_model.specs.Substreams.{Sub, Subs, Fault, end_all, trouble, news, why_of, blame_end, sub_finish, substreams}
 use Rattle.stage_law.specs.Held.{told, Held, owing, shut, sealed_by, after}
 use Rattle.stage_law.specs.Turn.{Emits, TurnAt}
-use Rattle.stage_linear.specs.declared.phase.Phase.{Phase}
-use Rattle.stage_linear.specs.declared.phase.Phase.TheVariants.{New, Open, Closed}
+use Rattle.stage_core.specs.declared.phase.Phase.{Phase}
+use Rattle.stage_core.specs.declared.phase.Phase.TheVariants.{New, Open, Closed}
 use Rattle.chain_core.specs.Means.{Means}
 use Rattle.stage_sub.specs.Subs.{Reaches, fault_in_model}
 use Rattle.stage_sub.specs.Joined.{items, untag_finish, joined}

@@ -18,7 +18,7 @@ use Rattle.stream_model.specs.Outlook.{End}
 use Rattle.stream_model.specs.Substreams.{Subs, Opening, substreams}
 use Rattle.stage_law.specs.Held.{Held, owing}
 use Rattle.stage_law.specs.Law.{Law}
-use Rattle.stage_linear.specs.declared.phase.Phase.TheVariants.{New, Closed}
+use Rattle.stage_core.specs.declared.phase.Phase.TheVariants.{New, Closed}
 use Rattle.chain_core.specs.Means.{Means}
 use Rattle.stage_sub.specs.declared.opening.OpenBy.TheVariants.{Before, Behind, Key}
 use Rattle.stage_sub.specs.Joined.{untag, joined}

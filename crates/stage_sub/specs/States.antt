@@ -19,8 +19,8 @@ use Rattle.stream_model.specs.Substreams.{Subs, substreams}
 use Rattle.stage_law.specs.Held.{told, Held, owing, shut}
 use Rattle.stage_law.specs.Row.{BothClosed}
 use Rattle.stage_law.specs.Turn.{TurnAt}
-use Rattle.stage_linear.specs.declared.phase.Phase.{Phase}
-use Rattle.stage_linear.specs.declared.phase.Phase.TheVariants.{New, Open, Closed}
+use Rattle.stage_core.specs.declared.phase.Phase.{Phase}
+use Rattle.stage_core.specs.declared.phase.Phase.TheVariants.{New, Open, Closed}
 use Rattle.chain_core.specs.Means.{Means}
 use Rattle.stage_sub.specs.KeptSubs.{KeptSubs, opening_of, Keeps, MayCallKept}
 use Rattle.stage_sub.specs.Joined.{items, joined}

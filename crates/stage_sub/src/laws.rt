@@ -12,7 +12,7 @@ ghost use Rattle.stream_model.specs.Outlook.{End};
 ghost use Rattle.stream_model.specs.Substreams.{Subs, substreams, begin_subs, MergedStands};
 ghost use Rattle.stage_law.specs.Held.{owing};
 ghost use Rattle.stage_law.specs.OwnPorts.{OwnRests};
-ghost use Rattle.stage_linear.specs.declared.phase.Phase.TheVariants.{New, Open};
+ghost use Rattle.stage_core.specs.declared.phase.Phase.TheVariants.{New, Open};
 ghost use Rattle.stage_sub.specs.Joined.{items, untag, joined};
 ghost use Rattle.stage_sub.specs.KeptSubs.{opening_of};
 ghost use Rattle.stage_sub.specs.Handling.{SubRow, Tells, GaveAll};

@@ -2,7 +2,7 @@ ghost use Rattle.std.specs.Prelude.{◌≡◌, ◌≤◌, [], OnOk, IsOk};
 ghost use Rattle.std.specs.Option.{option_map};
 ghost use Rattle.elem_core.specs.declared.item.Item.TheVariants as item;
 ghost use Rattle.port_core.specs.Call.{Obeys, Meets, starts, asks, brings, cancels};
-ghost use Rattle.stage_linear.specs.declared.phase.Phase.TheVariants.{New, Open};
+ghost use Rattle.stage_core.specs.declared.phase.Phase.TheVariants.{New, Open};
 ghost use Rattle.stage_sub.specs.Handling.{sub_picks, no_moves, IsSub, Begins};
 ghost use Rattle.stage_sub.specs.States.{begun, row, Turned, Ready};
 

@@ -5,7 +5,7 @@ ghost use Rattle.port_core.specs.ListFunction.{ListFunction, Same};
 ghost use Rattle.stream_model.specs.Outlook.{End};
 ghost use Rattle.stream_model.specs.Machine.{Given};
 ghost use Rattle.stream_model.specs.Substreams.{Sub, end_all};
-ghost use Rattle.stage_linear.specs.declared.phase.Phase.TheVariants.{Open, Closed};
+ghost use Rattle.stage_core.specs.declared.phase.Phase.TheVariants.{Open, Closed};
 ghost use Rattle.chain_core.specs.Means.{Means};
 ghost use Rattle.stage_sub.specs.Subs.{Reaches};
 ghost use Rattle.stage_sub.specs.KeptSubs.{Keeps, TakesBy};
@@ -21,7 +21,7 @@ use elem_core::why::{Cause, NoMemory};
 use port_core::act::Act;
 use port_core::acts::Acts;
 use port_core::chain::Chain;
-use stage_linear::phase::Phase;
+use stage_core::phase::Phase;
 use std::alloc::{AllocError, Global};
 use std::marker::Model;
 

@@ -25,8 +25,8 @@ use Rattle.stage_law.specs.Law.{TookAs, GaveAs, Law}
 use Rattle.stage_law.proofs.Calls.{new_law, call_law}
 use Rattle.stage_fans.specs.PortsLaws.{InPortsLaw}
 use Rattle.stage_fans.proofs.Histories.{in_node, ins_seen, ins_acted, begun}
-use Rattle.stage_linear.specs.declared.phase.Phase.{Phase}
-use Rattle.stage_linear.specs.declared.phase.Phase.TheVariants.{New, Open, Closed}
+use Rattle.stage_core.specs.declared.phase.Phase.{Phase}
+use Rattle.stage_core.specs.declared.phase.Phase.TheVariants.{New, Open, Closed}
 use Rattle.stage_switch.specs.Valves.{ValveHeld, passes, ValveTurnAt, ValveKeeps, ValveLaw}
 use Rattle.stage_switch.specs.States.{passing_row, Valve, Unmoved, valve_row, valve_held, valve_held_in, ValveTurned, brought, Trip, trip_row, trip_held, trip_held_in, trip_stage, TripTurned}
 use Rattle.stage_switch.specs.Handling.{ValveFresh, ValveRow, ValveAs, KeepsValve, elements, TripFresh, TripRow, TripAs, KeepsTrip}

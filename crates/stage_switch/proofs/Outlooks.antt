@@ -19,8 +19,8 @@ use Rattle.stream_model.specs.Linear.{passing, linear, begin_work}
 use Rattle.stream_model.specs.Picks.{Acted, untouched, completed, aborted, acted, ValveStands, valve_fits, acted_outlook, valve_outlook}
 use Rattle.stream_model.proofs.PickTraces.{agrees_prefix, valve_trace}
 use Rattle.stage_law.proofs.Whole.{stage_agrees}
-use Rattle.stage_linear.specs.declared.phase.Phase.{Phase}
-use Rattle.stage_linear.specs.declared.phase.Phase.TheVariants.{New, Open, Closed}
+use Rattle.stage_core.specs.declared.phase.Phase.{Phase}
+use Rattle.stage_core.specs.declared.phase.Phase.TheVariants.{New, Open, Closed}
 use Rattle.stage_switch.specs.Valves.{did, GaveUpTo, ValveKeeps, ValveStandsOf}
 use Rattle.stage_switch.specs.States.{Valve, Unmoved, valve_held, valve_held_in, moves_by, IsValve, Trip}
 use Rattle.stage_switch.specs.Handling.{ValveAs, elements, TripAs, trip_kind}

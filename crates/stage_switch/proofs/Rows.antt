@@ -13,8 +13,8 @@ use Rattle.port_core.specs.View.{View, in_at, out_at, OneOne, OneOneOf}
 use Rattle.port_core.specs.Call.{Call, starts, asks, brings, cancels, CallAllowed, Meets}
 use Rattle.stream_model.specs.Outlook.{End}
 use Rattle.stream_model.specs.FanIn.{Inflow}
-use Rattle.stage_linear.specs.declared.phase.Phase.{Phase}
-use Rattle.stage_linear.specs.declared.phase.Phase.TheVariants.{New, Open, Closed}
+use Rattle.stage_core.specs.declared.phase.Phase.{Phase}
+use Rattle.stage_core.specs.declared.phase.Phase.TheVariants.{New, Open, Closed}
 use Rattle.stage_law.specs.Row.{BothClosed}
 use Rattle.stream_model.specs.Machine.{going, Run}
 use Rattle.elem_core.specs.declared.why.Decider.{Decider}

@@ -14,7 +14,7 @@ use Rattle.port_core.specs.declared.view.OutView.TheVariants.{Unasked}
 use Rattle.port_core.specs.View.{View, in_at, out_at}
 use Rattle.stream_model.specs.Linear.{Book, passing, linear, begin_work}
 use Rattle.stage_law.specs.Law.{Law}
-use Rattle.stage_linear.specs.declared.phase.Phase.TheVariants.{New}
+use Rattle.stage_core.specs.declared.phase.Phase.TheVariants.{New}
 use Rattle.stage_fans.specs.PortsLaws.{InPortsLaw}
 use Rattle.stage_switch.specs.Valves.{ValveKeeps}
 use Rattle.stage_switch.specs.States.{Valve, IsValve, Unmoved, valve_row, valve_held, Trip, IsTrip, trip_row, trip_held}

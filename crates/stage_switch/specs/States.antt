@@ -20,8 +20,8 @@ use Rattle.stream_model.specs.Picks.{Acted, untouched, completed, aborted, acted
 use Rattle.stage_law.specs.Held.{Held, owing, shut}
 use Rattle.stage_law.specs.Row.{BothClosed}
 use Rattle.stage_law.specs.Turn.{TurnAt}
-use Rattle.stage_linear.specs.declared.phase.Phase.{Phase}
-use Rattle.stage_linear.specs.declared.phase.Phase.TheVariants.{New, Open, Closed}
+use Rattle.stage_core.specs.declared.phase.Phase.{Phase}
+use Rattle.stage_core.specs.declared.phase.Phase.TheVariants.{New, Open, Closed}
 use Rattle.stage_switch.specs.Valves as valve
 use Rattle.stage_switch.specs.Valves.{ValveHeld, ValveTurnAt, abort_of}
 

@@ -19,7 +19,7 @@ ghost use Rattle.stream_model.specs.Linear.{Book, passing, linear, begin_work};
 ghost use Rattle.stage_core.specs.Handling.{Starts, Handles};
 ghost use Rattle.stage_law.specs.Law.{GaveAs};
 ghost use Rattle.stage_law.specs.OwnPorts.{OwnRests};
-ghost use Rattle.stage_linear.specs.declared.phase.Phase.TheVariants.{Open};
+ghost use Rattle.stage_core.specs.declared.phase.Phase.TheVariants.{Open};
 ghost use Rattle.stage_switch.specs.Valves.{ValveHeld, passes, shut, did, GaveUpTo, GaveAll, ValveTurnAt, ValveLaw, ValveStandsOf, ValveResidual, ValveRest, ValveRests};
 ghost use Rattle.stage_switch.specs.States.{IsUnused, Valve, IsValve, new_valve_of, valve_row, ValveTurned, Trip, new_trip_of, trip_row, TripTurned};
 ghost use Rattle.stage_switch.specs.Handling.{unasked_ports, ValveFresh, ValveRow, ValveAs, elements, TripFresh, TripRow, TripAs, trip_kind};

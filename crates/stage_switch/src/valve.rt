@@ -2,7 +2,7 @@ ghost use Rattle.std.specs.Prelude.{◌≡◌, ◌≤◌, ◌+◌, [], OnOk, OnE
 ghost use Rattle.elem_core.specs.declared.item.Item.TheVariants as item;
 ghost use Rattle.std.specs.Arc.{arc_value};
 ghost use Rattle.port_core.specs.Call.{Obeys, Meets, starts, asks, brings, cancels};
-ghost use Rattle.stage_linear.specs.declared.phase.Phase.TheVariants.{New, Open, Closed};
+ghost use Rattle.stage_core.specs.declared.phase.Phase.TheVariants.{New, Open, Closed};
 ghost use Rattle.stage_switch.specs.States.{IsUnused, IsValve, valve_row, number_of, new_valve_of, watched, stop_acts, ValveTurned};
 
 use elem_core::elem::Elem;
@@ -13,7 +13,7 @@ use kill_core::seat::SwitchSeat;
 use port_core::act::Act;
 use port_core::acts::Acts;
 use port_core::pick_log::PickLog;
-use stage_linear::phase::Phase;
+use stage_core::phase::Phase;
 use std::alloc::{AllocError, Global};
 use std::marker::Model;
 

@@ -3,7 +3,7 @@ use Rattle.port_core.specs.Call.{Obeys, asks}
 use Rattle.port_core.specs.declared.act.Act.{Act}
 use Rattle.port_core.specs.declared.act.Act.TheVariants.{Push}
 use Rattle.stream_model.specs.Linear.{finish_of}
-use Rattle.stage_linear.specs.declared.phase.Phase.TheVariants.{Open}
+use Rattle.stage_core.specs.declared.phase.Phase.TheVariants.{Open}
 use Rattle.stage_linear.specs.Pending.{StaysReady, given_on_from, last_acts}
 use Rattle.stage_linear.specs.States.{Logic, row}
 use Rattle.stage_linear.proofs.States.{readied}

@@ -2,7 +2,7 @@ use Rattle.std.proofs.Common.{◌≡◌, ap, sym, subst, refl}
 use Rattle.port_core.specs.ActList.{ActList}
 use Rattle.port_core.specs.Call.{Meets, brings}
 use Rattle.elem_core.specs.declared.item.Item.TheVariants as item
-use Rattle.stage_linear.specs.declared.phase.Phase.TheVariants.{Open}
+use Rattle.stage_core.specs.declared.phase.Phase.TheVariants.{Open}
 use Rattle.stage_keeping.specs.Keeping.{work_in}
 use Rattle.stage_state.specs.States.{Logic, row, Turned}
 use Rattle.stage_state.specs.Outcomes.{working, answer_acts}

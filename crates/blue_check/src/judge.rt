@@ -10,13 +10,14 @@ ghost use Rattle.blue_check.specs.Wires.{blueprint_wires};
 ghost use Rattle.blue_check.specs.Judging.{IsJudged};
 
 use crate::fault::CheckFault;
-use crate::rules::{names_fault, numbered, plugs_fault, ports_fault, sizes_fault, types_fault};
+use crate::rules::{names_fault, plugs_fault, ports_fault, sizes_fault, types_fault};
 use blue_core::blueprint::{Blueprint, ChainDecl, Node, WireDecl};
 use blue_names::links::{Link, links_of};
 use blue_names::outs::outs_of;
 use blue_names::ports::{PortTable, targets_of};
 use blue_walks::closed::first_closed;
 use blue_walks::forest::is_polytree;
+use elem_core::count::numbered;
 use elem_core::line::Line;
 use elem_core::why::NoMemory;
 use plug_core::head::PlugHead;

@@ -24,21 +24,12 @@ use blue_types::clashes::{too_deep, type_clash};
 use blue_types::library::Library;
 use blue_types::net::{Net, node_at};
 use blue_types::rounds::settle;
+use elem_core::count::numbered;
 use elem_core::elem_type::ElemType;
 use elem_core::line::Line;
 use elem_core::why::NoMemory;
 use plug_core::head::PlugHead;
-use std::alloc::{AllocError, Global};
-
-/// A place as faults name it; a place that is out of 32 bits is want of memory.
-pub fn numbered(place: usize) -> Result<u32, NoMemory>
-    ensures { IfOk result (λ n. n ≡ place) }
-{
-    match u32::try_from(place) {
-        Ok(number) => Ok(number),
-        Err(_) => Err(AllocError),
-    }
-}
+use std::alloc::Global;
 
 /// The first fault of a name or a file.
 pub fn names_fault(

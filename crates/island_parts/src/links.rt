@@ -6,20 +6,10 @@ ghost use Rattle.island_parts.specs.Whole.{one_lane, near_at, nears_from, far_at
 
 use blue_names::links::Link as WireLink;
 use blue_walks::ranks::rank_of;
+use elem_core::count::numbered;
 use elem_core::why::NoMemory;
 use interpreter::parts::Link;
 use std::alloc::{AllocError, Global};
-
-/// A number of a place or a wire; one that is out of 32 bits is want of memory.
-fn numbered(place: usize) -> Result<u32, NoMemory>
-    ensures number { IfOk result (λ n. n ≡ place) }
-    ensures few { OnOk result (place < 2 ^ 32) }
-{
-    match u32::try_from(place) {
-        Ok(number) => Ok(number),
-        Err(_) => Err(AllocError),
-    }
-}
 
 /// The place of the next lane, behind a wire.
 fn behind(place: usize, wire: &WireLink) -> Result<usize, NoMemory>

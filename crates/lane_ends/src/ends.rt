@@ -5,11 +5,12 @@ ghost use Rattle.lane_ends.specs.Ends.{CanAllBeMade, AreRising, AreAllEnds, AreC
 
 use crate::make::{Made, make_all};
 use crate::share::{Shared, share};
+use elem_core::count::numbered;
 use elem_core::why::NoMemory;
 use island_input::boundary::IslandInput;
 use output_boundary::boundary::OutputBoundary;
 use rounds::crossing::Crossing;
-use std::alloc::{AllocError, Global};
+use std::alloc::Global;
 use traversal::plan::LanePlan;
 
 /// Both ends of every lane of a blueprint. Rule: own.
@@ -63,16 +64,6 @@ fn takers(alloc: Global, lanes: &[LanePlan]) -> Result<Vec<usize>, NoMemory>
         homes.push(lane.to as usize)?;
     }
     Ok(homes)
-}
-
-// A place in a list; one that is out of 32 bits is want of memory.
-fn numbered(place: usize) -> Result<u32, NoMemory>
-    ensures { IfOk result (λ n. n ≡ place) }
-{
-    match u32::try_from(place) {
-        Ok(number) => Ok(number),
-        Err(_) => Err(AllocError),
-    }
 }
 
 // Where the ends of each lane lie, by their places among those of their islands.

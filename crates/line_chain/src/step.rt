@@ -1,4 +1,4 @@
-ghost use Rattle.std.specs.Prelude.{◌≡◌, ◌+◌, [], None, IfOk, OnOk};
+ghost use Rattle.std.specs.Prelude.{◌≡◌, [], None, IfOk, OnOk};
 ghost use Rattle.stage_keeping.specs.declared.ending.Ending.TheVariants.{Lasting};
 ghost use Rattle.stream_model.specs.Linear.{begin_work};
 ghost use Rattle.stream_model.specs.Machine.{run};
@@ -9,11 +9,12 @@ ghost use Rattle.line_chain.specs.Steps.{work_in, machine, end_of, start_of, sta
 use crate::batch::Batch;
 use crate::kind::StepKind;
 use crate::work::StepWork;
+use elem_core::count::one_more;
 use elem_core::elem::Elem;
 use elem_core::why::{Cause, Decider, NoMemory, Why};
 use stage_keeping::ending::Ending;
 use stage_linear::task::Outcome;
-use std::alloc::{AllocError, Global};
+use std::alloc::Global;
 
 /// A step of a chain as it runs. Rule: Akka Streams 2.6 reference.
 #[derive(Drop)]
@@ -265,15 +266,5 @@ impl LineStep {
                 why,
             })),
         }
-    }
-}
-
-// One more than the elements that were taken. Past 64 bits there is no number for the next: that counts as want of memory.
-fn one_more(taken: u64) -> Result<u64, NoMemory>
-    ensures { IfOk result (λ n. n ≡ taken + 1) }
-{
-    match taken.checked_add(1) {
-        Some(n) => Ok(n),
-        None => Err(AllocError),
     }
 }

@@ -4,6 +4,5 @@
 mod chains;
 pub mod laws;
 pub mod names;
-pub mod number;
 pub mod parts;
 pub mod seats;

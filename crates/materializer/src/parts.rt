@@ -2,9 +2,9 @@
 ghost use Rattle.std.specs.Prelude.{◌≡◌, IfOk};
 ghost use Rattle.materializer.specs.Planned.{places_from};
 
-use crate::number::numbered;
 use blue_core::blueprint::Node;
 use blue_names::ports::{inputs_of, outputs_of};
+use elem_core::count::numbered;
 use elem_core::why::NoMemory;
 use interpreter::parts::Place;
 use std::alloc::Global;

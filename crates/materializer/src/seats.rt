@@ -20,9 +20,9 @@ ghost use Rattle.stream_model.specs.Graph as graph;
 ghost use Rattle.stream_model.specs.declared.kind.Kind.TheVariants as kind;
 
 use crate::chains::steps_of_kind;
-use crate::number::numbered;
 use blue_core::blueprint::{ChainDecl, Node};
 use blue_names::ports::{inputs_of, outputs_of};
+use elem_core::count::numbered;
 use elem_core::why::{Decider, NoMemory};
 use interpreter::parts::{Seated, Work};
 use kill_core::end::SwitchEnd;

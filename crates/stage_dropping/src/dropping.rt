@@ -7,13 +7,14 @@ ghost use Rattle.stage_core.specs.declared.phase.Phase.TheVariants.{New, Open, C
 ghost use Rattle.stage_dropping.specs.Droppings.{Dropping, Took, GaveFirst, row, Turned, begun};
 
 use circular_buffer::HeapCircularBuffer;
+use elem_core::count::one_more;
 use elem_core::elem::Elem;
 use elem_core::why::{Cause, NoMemory, Why};
 use port_core::act::Act;
 use port_core::acts::Acts;
 use port_core::pick_log::PickLog;
 use stage_core::phase::Phase;
-use std::alloc::{AllocError, Global};
+use std::alloc::Global;
 use std::marker::Model;
 use stream_model::kind::Policy;
 
@@ -134,7 +135,7 @@ impl Dropping {
         ensures refused { OnErr result ((self.new ≡ self.old) × (acts.new ≡ acts.old)) }
     {
         self.log.reserve()?;
-        self.came = next(self.came)?;
+        self.came = one_more(self.came)?;
         self.log.note(0);
         if self.asked {
             self.asked = false;
@@ -276,15 +277,5 @@ impl Dropping {
         ensures { result.moves ≡ self.moves }
     {
         self.log
-    }
-}
-
-// One more. Past 64 bits there is no number for the next: that counts as want of memory.
-fn next(count: u64) -> Result<u64, NoMemory>
-    ensures { IfOk result (λ n. n ≡ count + 1) }
-{
-    match count.checked_add(1) {
-        Some(more) => Ok(more),
-        None => Err(AllocError),
     }
 }

@@ -11,6 +11,7 @@ ghost use Rattle.stage_out.specs.Copies.{at_open};
 ghost use Rattle.stage_out.specs.PartitionStates.{row, Turned, Parts, pull_by, waits_by, moved_by, moving_by, TookFor, Noted, AskedOf, Dealt, Served, EndedFor, struck, PassedOver, Lost, with_asks, with_given, blaming, begun};
 
 use crate::want::{Want, quiet_outs};
+use elem_core::count::one_more;
 use elem_core::elem::{Elem, Form};
 use elem_core::function::{FnEnd, MapFn};
 use elem_core::why::{Cause, NoMemory, Why};
@@ -505,15 +506,5 @@ impl PartitionLogic {
         if let Some(_e) = self.take_for(port) {
             self.move_on(acts);
         }
-    }
-}
-
-// One more than the elements that were taken. Past 64 bits there is no number for the next: that counts as want of memory.
-fn one_more(taken: u64) -> Result<u64, NoMemory>
-    ensures { IfOk result (λ n. n ≡ taken + 1) }
-{
-    match taken.checked_add(1) {
-        Some(n) => Ok(n),
-        None => Err(AllocError),
     }
 }

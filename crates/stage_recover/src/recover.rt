@@ -1,17 +1,18 @@
-ghost use Rattle.std.specs.Prelude.{◌≡◌, ◌≢◌, ◌≤◌, ◌<◌, ◌+◌, ◌∷◌, [], ◌++◌, OnOk, OnErr, IsOk, IfOk, IfSome, Some, None, true, false, length};
+ghost use Rattle.std.specs.Prelude.{◌≡◌, ◌≢◌, ◌≤◌, ◌<◌, ◌∷◌, [], ◌++◌, OnOk, OnErr, IsOk, IfSome, Some, None, true, false, length};
 ghost use Rattle.elem_core.specs.declared.item.Item.TheVariants as item;
 ghost use Rattle.port_core.specs.declared.act.Act.TheVariants.{Push, Complete};
 ghost use Rattle.port_core.specs.Call.{Obeys, Meets, starts, asks, brings, cancels};
 ghost use Rattle.stage_core.specs.declared.phase.Phase.TheVariants.{New, Open, Closed};
 ghost use Rattle.stage_recover.specs.Recoverings.{Recover, row, Turned, begun};
 
+use elem_core::count::one_more_small;
 use elem_core::elem::Elem;
 use elem_core::why::{Cause, NoMemory};
 use port_core::act::Act;
 use port_core::acts::Acts;
 use port_core::pick_log::PickLog;
 use stage_core::phase::Phase;
-use std::alloc::{AllocError, Global};
+use std::alloc::Global;
 use std::marker::Model;
 
 /// The logic of a recover: it passes on what comes; a failure of its input it turns into an element of its own, which it gives
@@ -101,7 +102,7 @@ impl Recovering {
         ensures room { acts.new.room ≡ acts.old.room }
         ensures refused { OnErr result ((self.new ≡ self.old) × (acts.new ≡ acts.old)) }
     {
-        self.passed = next(self.passed)?;
+        self.passed = one_more_small(self.passed)?;
         self.asked = false;
         acts.add(Act::Push(port, e));
         Ok(())
@@ -189,15 +190,5 @@ impl Recovering {
         ensures { result.moves ≡ self.moves }
     {
         self.log
-    }
-}
-
-// One more. Past 32 bits there is no number for the next: that counts as want of memory.
-fn next(count: u32) -> Result<u32, NoMemory>
-    ensures { IfOk result (λ n. n ≡ count + 1) }
-{
-    match count.checked_add(1) {
-        Some(more) => Ok(more),
-        None => Err(AllocError),
     }
 }

@@ -1,4 +1,4 @@
-ghost use Rattle.std.specs.Prelude.{◌≡◌, ◌≤◌, ◌<◌, ◌∷◌, ◌++◌, ◌+◌, [], length, OnOk, IfOk, IsOk, Some, None, Ok, false, option_to_list};
+ghost use Rattle.std.specs.Prelude.{◌≡◌, ◌≤◌, ◌<◌, ◌∷◌, ◌++◌, ◌+◌, [], length, OnOk, IsOk, Some, None, Ok, false, option_to_list};
 ghost use Rattle.elem_core.specs.declared.item.Item.TheVariants as item;
 ghost use Rattle.port_core.specs.declared.act.Act.TheVariants.{FailOut};
 ghost use Rattle.port_core.specs.Call.{Obeys, Meets, starts, asks, brings, cancels};
@@ -8,6 +8,7 @@ ghost use Rattle.stage_keeping.specs.Keeping.{work_in};
 ghost use Rattle.stage_state.specs.Outcomes.{answered, answer_acts, cause_at, finished, finish_acts, settled, settle_acts};
 ghost use Rattle.stage_state.specs.States.{row, Turned};
 
+use elem_core::count::one_more;
 use elem_core::elem::Elem;
 use elem_core::why::{Cause, Decider, NoMemory, Why};
 use port_core::act::Act;
@@ -15,7 +16,7 @@ use port_core::acts::Acts;
 use stage_core::phase::Phase;
 use stage_keeping::ending::Ending;
 use stage_keeping::keeping::{Keeping, Outcome};
-use std::alloc::{AllocError, Global};
+use std::alloc::Global;
 use std::marker::Model;
 
 /// The logic of a grouped, a fold, a reduce or a scan. It asks its input when its output is asked, and again where an
@@ -278,15 +279,5 @@ impl KeepLogic {
     {
         self.phase = Phase::Closed;
         acts.add(last);
-    }
-}
-
-// One more than the elements that were taken. Past 64 bits there is no number for the next: that counts as want of memory.
-fn one_more(taken: u64) -> Result<u64, NoMemory>
-    ensures { IfOk result (λ n. n ≡ taken + 1) }
-{
-    match taken.checked_add(1) {
-        Some(n) => Ok(n),
-        None => Err(AllocError),
     }
 }

@@ -16,22 +16,13 @@ use crate::last::LastSubstream;
 use crate::outputs::Outputs;
 use crate::places::{Places, add_place, find_place};
 use crate::scratch::clear;
+use elem_core::count::numbered;
 use elem_core::elem::Elem;
 use elem_core::elems::Elems;
 use elem_core::function::{FnEnd, MapFn};
 use elem_core::why::{NoMemory, Why};
 use port_core::chain::Chain;
 use std::alloc::{AllocError, Global};
-
-// The number of a substream; past 32 bits memory is wanting.
-fn port_of(place: usize) -> Result<u32, NoMemory>
-    ensures { IfOk result (λ n. n ≡ place) }
-{
-    match u32::try_from(place) {
-        Ok(number) => Ok(number),
-        Err(_) => Err(AllocError),
-    }
-}
 
 /// The substream at place i takes the element.
 pub fn feed_group<C: Chain>(
@@ -49,7 +40,7 @@ pub fn feed_group<C: Chain>(
     ensures count { OnOk result (length slots.new.items ≡ length slots.old.items) }
     ensures may { OnOk result (MayCallAll C.rest C.is_open slots.new.items) }
 {
-    let port = port_of(i)?;
+    let port = numbered(i)?;
     clear(scratch);
     if let Some(why) = feed_at(alloc, slots, i, e, scratch)? {
         return Ok(Some(Blame::AtElement(why)));
@@ -78,7 +69,7 @@ pub fn open_group<C: Chain>(
     ensures may { OnOk result (MayCallAll C.rest C.is_open slots.new.items) }
 {
     let i = slots.len();
-    let port = port_of(i)?;
+    let port = numbered(i)?;
     clear(scratch);
     if let Some(why) = open_slot(alloc, chain, slots, e, scratch)? {
         return Ok(Some(Blame::AtElement(why)));
@@ -152,7 +143,7 @@ fn end_one<C: Chain>(
     ensures count { OnOk result (length slots.new.items ≡ length slots.old.items) }
     ensures may { OnOk result (MayCallAll C.rest C.is_open slots.new.items) }
 {
-    let port = port_of(i)?;
+    let port = numbered(i)?;
     let mut sub = LastSubstream::of(take_slot(slots, i), port);
     let why = sub.end(alloc, outs, scratch)?;
     Ok(why)

@@ -1,4 +1,4 @@
-ghost use Rattle.std.specs.Prelude.{◌≡◌, ◌+◌, IfOk, OnOk, List, Option, None, Some, true, false};
+ghost use Rattle.std.specs.Prelude.{◌≡◌, IfOk, OnOk, List, Option, None, Some, true, false};
 ghost use Rattle.elem_core.specs.Tree.{Tree};
 ghost use Rattle.port_core.specs.ListFunction.{ListFunction, Same};
 ghost use Rattle.stage_sub.specs.Splits.{MayCallLast, Took, LastEnds, LastOpens, LastFeeds, LastGrows};
@@ -6,11 +6,12 @@ ghost use Rattle.stage_sub.specs.Splits.{MayCallLast, Took, LastEnds, LastOpens,
 use crate::outputs::Outputs;
 use crate::scratch::clear;
 use chain_core::slot::{begin_slot, end_chain, feed_slot};
+use elem_core::count::one_more_small;
 use elem_core::elem::Elem;
 use elem_core::elems::Elems;
 use elem_core::why::{NoMemory, Why};
 use port_core::chain::Chain;
-use std::alloc::{AllocError, Global};
+use std::alloc::Global;
 use std::marker::Model;
 
 /// The last substream of a stage that splits; all before it have ended.
@@ -31,13 +32,6 @@ impl<C: Chain> Model for LastSubstream<C> {
     ghost coded = { Prim.hlevel (codes, tree_coded) };
 
     ghost view = { λ l. record { ended = l.ended; live = l.live; slot = l.slot } };
-}
-
-// One more; past 32 bits memory is wanting.
-fn one_more(n: u32) -> Result<u32, NoMemory>
-    ensures { IfOk result (λ m. m ≡ n + 1) }
-{
-    n.checked_add(1).ok_or(AllocError)
 }
 
 impl<C: Chain> LastSubstream<C> {
@@ -78,7 +72,7 @@ impl<C: Chain> LastSubstream<C> {
         if !self.live {
             return Ok(None);
         }
-        let ended = one_more(self.ended)?;
+        let ended = one_more_small(self.ended)?;
         let chain = match self.slot.take() {
             Some(chain) => chain,
             None => {

@@ -1,10 +1,11 @@
-ghost use Rattle.std.specs.Prelude.{◌≡◌, ◌≤◌, ◌+◌, [], OnOk, OnErr, IfOk, IsOk};
+ghost use Rattle.std.specs.Prelude.{◌≡◌, ◌≤◌, ◌+◌, [], OnOk, OnErr, IsOk};
 ghost use Rattle.std.specs.Arc.{arc_value};
 ghost use Rattle.elem_core.specs.declared.item.Item.TheVariants as item;
 ghost use Rattle.port_core.specs.Call.{Obeys, Meets, starts, asks, brings, cancels};
 ghost use Rattle.stage_core.specs.declared.phase.Phase.TheVariants.{New, Open};
 ghost use Rattle.stage_switch.specs.States.{IsUnused, IsTrip, trip_row, new_trip_of, SeatStepped, TripTurned};
 
+use elem_core::count::one_more;
 use elem_core::elem::Elem;
 use elem_core::why::{Cause, NoMemory};
 use kill_core::end::SwitchEnd;
@@ -13,7 +14,7 @@ use kill_core::seat::SwitchSeat;
 use port_core::act::Act;
 use port_core::acts::Acts;
 use stage_core::phase::Phase;
-use std::alloc::{AllocError, Global};
+use std::alloc::Global;
 use std::marker::Model;
 
 /// The logic of a trip: it passes on what comes, and gives its order when its N-th element comes, before it passes that
@@ -69,7 +70,7 @@ impl Trip {
         ensures at_seat { OnOk result (SeatStepped self.old self.new) }
         ensures refused { OnErr result (self.new ≡ self.old) }
     {
-        let taken = next(self.taken)?;
+        let taken = one_more(self.taken)?;
         if taken == self.count as u64 {
             let SwitchEnd { switch, seat } = &mut self.end;
             match self.order {
@@ -183,15 +184,5 @@ impl Trip {
         ensures trip { IsTrip self.order self.count self.taken self.switch self.seat }
     {
         self.end.seat
-    }
-}
-
-// One more. Past 64 bits there is no number for the next: that counts as want of memory.
-fn next(count: u64) -> Result<u64, NoMemory>
-    ensures { IfOk result (λ n. n ≡ count + 1) }
-{
-    match count.checked_add(1) {
-        Some(more) => Ok(more),
-        None => Err(AllocError),
     }
 }

@@ -1,10 +1,11 @@
-ghost use Rattle.std.specs.Prelude.{◌≡◌, ◌≤◌, ◌+◌, [], OnOk, OnErr, IfOk};
+ghost use Rattle.std.specs.Prelude.{◌≡◌, ◌≤◌, [], OnOk, OnErr, IfOk};
 ghost use Rattle.elem_core.specs.declared.item.Item.TheVariants as item;
 ghost use Rattle.std.specs.Arc.{arc_value};
 ghost use Rattle.port_core.specs.Call.{Obeys, Meets, starts, asks, brings, cancels};
 ghost use Rattle.stage_core.specs.declared.phase.Phase.TheVariants.{New, Open, Closed};
 ghost use Rattle.stage_switch.specs.States.{IsUnused, IsValve, valve_row, number_of, new_valve_of, watched, stop_acts, ValveTurned};
 
+use elem_core::count::one_more_small;
 use elem_core::elem::Elem;
 use elem_core::why::{Cause, NoMemory, Why};
 use kill_core::end::SwitchEnd;
@@ -14,7 +15,7 @@ use port_core::act::Act;
 use port_core::acts::Acts;
 use port_core::pick_log::PickLog;
 use stage_core::phase::Phase;
-use std::alloc::{AllocError, Global};
+use std::alloc::Global;
 use std::marker::Model;
 
 /// The logic of a valve: it passes on what comes, until it finds an order at its switch. It looks at its start and in each
@@ -152,7 +153,7 @@ impl Valve {
         ensures room { acts.new.room ≡ acts.old.room }
         ensures refused { OnErr result ((self.new ≡ self.old) × (acts.new ≡ acts.old)) }
     {
-        let passed = next(self.passed)?;
+        let passed = one_more_small(self.passed)?;
         match self.watch()? {
             None => {
                 acts.add(Act::Push(0, e));
@@ -238,15 +239,5 @@ fn move_of(order: Order) -> u32
     match order {
         Order::Shutdown => 1,
         Order::Abort => 2,
-    }
-}
-
-// One more. Past 32 bits its number is no move: that counts as want of memory.
-fn next(count: u32) -> Result<u32, NoMemory>
-    ensures { IfOk result (λ n. n ≡ count + 1) }
-{
-    match count.checked_add(1) {
-        Some(more) => Ok(more),
-        None => Err(AllocError),
     }
 }

@@ -6,18 +6,9 @@ ghost use Rattle.traversal.specs.Plan.{nodes_at, wires_at, island_nodes, is_wire
 use crate::plan::IslandPlan;
 use blue_names::links::Link;
 use blue_walks::ranks::rank_of;
+use elem_core::count::numbered;
 use elem_core::why::NoMemory;
-use std::alloc::{AllocError, Global};
-
-/// A number of a node, a wire or an island; one that is out of 32 bits is want of memory.
-pub fn numbered(place: usize) -> Result<u32, NoMemory>
-    ensures { IfOk result (λ n. n ≡ place) }
-{
-    match u32::try_from(place) {
-        Ok(number) => Ok(number),
-        Err(_) => Err(AllocError),
-    }
-}
+use std::alloc::Global;
 
 /// So many islands without nodes.
 pub fn empty_islands(alloc: Global, count: usize) -> Result<Vec<IslandPlan>, NoMemory>

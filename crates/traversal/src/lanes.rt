@@ -3,10 +3,10 @@ ghost use Rattle.std.specs.Prelude.{◌≡◌, ℕ, IfOk, OnOk, [], ◌∷◌, �
 ghost use Rattle.blue_names.specs.Links.{wire_of_link, wires_of_links};
 ghost use Rattle.traversal.specs.Plan.{lanes_from, lane_of};
 
-use crate::fill::numbered;
 use crate::plan::LanePlan;
 use blue_names::links::Link;
 use blue_walks::ranks::rank_of;
+use elem_core::count::numbered;
 use elem_core::why::NoMemory;
 use std::alloc::Global;
 

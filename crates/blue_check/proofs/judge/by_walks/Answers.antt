@@ -8,7 +8,7 @@ pub returns-in_ok-numbered-in-Some : goal.returns-in_ok-numbered-in-Some
 returns-in_ok-numbered-in-Some c =
     let ws = wires_of_links c.args.links.now in
     let first : IsFirstClosed ws c.in-Some.i = subst (λ (o : Option ℕ). IfSome o (IsFirstClosed ws)) c.in-Some.is c.in_ok-i.ensures.first in
-    inr (refl, subst (IsFirstClosed ws) (sym c.in_ok-numbered-in-Some.ensures) first)
+    inr (refl, subst (IsFirstClosed ws) (sym c.in_ok-numbered-in-Some.ensures.number) first)
 
 pub returns-in_ok-is_polytree-in-None : goal.returns-in_ok-is_polytree-in-None
 returns-in_ok-is_polytree-in-None c =

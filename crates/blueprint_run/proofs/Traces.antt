@@ -17,7 +17,7 @@ use Rattle.run_files.specs.Opening.{HoldsNone, OpensAll}
 use Rattle.run_files.specs.Closing.{ClosesAll}
 use Rattle.run_files.proofs.Counts.{rose_after}
 use Rattle.run_report.specs.Trace.{trace_text, moves_in}
-use Rattle.run_report.specs.Writing.{Puts, PutsPart}
+use Rattle.stream_io.specs.Putting.{Puts, PutsPart}
 use Rattle.blueprint_run.specs.Opening.{Opens, OpensTrace, OpensAs, WritesAs, ClosesAs}
 use Rattle.blueprint_run.specs.Tracing.{written_files, IsApart, picks_text, HoldsTrace, BreaksTrace, Traces}
 use Rattle.blueprint_run.proofs.Counts.{grew_behind, rose_by, rose_from_none}

@@ -5,7 +5,7 @@ use Rattle.stream_io.specs.State.{FolderState, SourceState, DrainState, ClosesDr
 use Rattle.run_files.specs.Quiet.{Quiet}
 use Rattle.run_files.specs.Names.{source_names, drain_names}
 use Rattle.run_files.specs.Opening.{AtStart, HoldsNone}
-use Rattle.run_report.specs.Writing.{Puts, PutsPart}
+use Rattle.stream_io.specs.Putting.{Puts, PutsPart}
 
 -- these inputs and these outputs were opened, in their order, and the outputs are empty; of other files only these others may have
 -- been emptied too

@@ -2,7 +2,8 @@
 use Rattle.std.proofs.Common.{◌≡◌, ◌∙◌, ◌+◌, ◌-◌, ◌≤◌, ℕ, zero, suc, refl, sym, ap, subst, arith, List, ◌++◌, append_assoc, append-nil, zero-add, add-zero}
 use Rattle.std.specs.List.{flat_map, range_with_len}
 use Rattle.stream_io.specs.State.{DrainState}
-use Rattle.run_report.specs.Writing.{Leaves, Puts, PutsPart}
+use Rattle.stream_io.specs.Putting.{Puts, PutsPart}
+use Rattle.run_report.specs.Writing.{Leaves}
 use Rattle.run_report.proofs.Puttings.{leaves_all, leaves_less, leaves_none, leaves_stop}
 
 -- so many lines, and then so many more

@@ -1,14 +1,15 @@
 // The texts of the generated files, put into a drain piece by piece.
 ghost use Rattle.std.specs.Prelude.{◌≡◌, ◌+◌, ◌≤◌, ◌++◌, OnOk, OnErr, Err};
 ghost use Rattle.std.specs.List.{flat_map, range_with_len};
-ghost use Rattle.run_report.specs.Writing.{Puts, PutsPart};
+ghost use Rattle.stream_io.specs.Putting.{Puts, PutsPart};
 ghost use Rattle.generator.specs.Texts.{line_of, lines_text, blueprint_text, text_of};
 ghost use Rattle.generator.specs.Writing.{PutsSome};
 
 use itoa::Buffer;
-use run_report::put::{put_all, put_parts};
+use run_report::put::put_parts;
 use std::alloc::{AllocError, Global};
 use stream_io::outside::{Drain, Failed};
+use stream_io::put::put_all;
 
 /// How many lines one piece has at most.
 const PIECE: u32 = 1000;

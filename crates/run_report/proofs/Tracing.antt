@@ -7,8 +7,10 @@ use Rattle.std.proofs.lemmas.List.{append-nil}
 use Rattle.stream_io.specs.State.{DrainState}
 use Rattle.stream_model.specs.declared.outcome.PickList.{PickList}
 use Rattle.run_report.specs.Trace.{pick_line, trace_text, moves_in}
-use Rattle.run_report.specs.Writing.{Puts, PutsPart, Leaves}
-use Rattle.run_report.proofs.Puttings.{puts_nothing, puts_two, puts_then_part, leaves_stop, part_before, parts_from, parts_end}
+use Rattle.stream_io.specs.Putting.{Puts, PutsPart}
+use Rattle.run_report.specs.Writing.{Leaves}
+use Rattle.stream_io.proofs.Puttings.{puts_nothing, puts_two, puts_then_part}
+use Rattle.run_report.proofs.Puttings.{leaves_stop, part_before, parts_from, parts_end}
 
 -- a piece that was gathered
 pub gathered_more : (s : DrainState) (was now piece : List ℕ) → now ≡ was ++ piece → Leaves s s (was ++ piece) now

@@ -6,7 +6,7 @@ ghost use Rattle.blue_words.specs.Fault.{number_of_kind};
 ghost use Rattle.blue_check.specs.Number.{number_of_fault};
 ghost use Rattle.blue_check.specs.Detail.{detail_text};
 ghost use Rattle.run_report.specs.Report.{detail_of, status_text, why_text, cause_text, end_text, blame_text, sink_line, wire_line, wire_lines, wires_text, report_of, code_of};
-ghost use Rattle.run_report.specs.Writing.{Puts, PutsPart};
+ghost use Rattle.stream_io.specs.Putting.{Puts, PutsPart};
 
 use crate::outcome::{SinkEnd, Status};
 use crate::put::put_parts;

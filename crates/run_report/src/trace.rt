@@ -2,12 +2,13 @@
 ghost use Rattle.std.specs.Prelude.{◌≡◌, ◌+◌, ◌≤◌, ◌++◌, [], IsTrue, codes, length, map, vec_capacity, OnOk, OnErr};
 ghost use Rattle.std.specs.List.{flat_map};
 ghost use Rattle.run_report.specs.Trace.{move_text, pick_line, trace_text, moves_in};
-ghost use Rattle.run_report.specs.Writing.{Puts, PutsPart, Leaves};
+ghost use Rattle.stream_io.specs.Putting.{Puts, PutsPart};
+ghost use Rattle.run_report.specs.Writing.{Leaves};
 
-use crate::put::put_all;
 use elem_core::line::Line;
 use itoa::Buffer;
 use stream_io::outside::{Drain, Failed};
+use stream_io::put::put_all;
 use stream_model::outcome::PickList;
 
 /// Whether there is room for a piece behind what is gathered.

@@ -8,7 +8,7 @@ ghost use Rattle.stream_top.specs.Calls.{answer_of};
 ghost use Rattle.stream_top.specs.Outcome.{RoseNowhere, WasRun};
 ghost use Rattle.file_text.specs.Text.{text_limit};
 ghost use Rattle.run_report.specs.Report.{report_of, code_of};
-ghost use Rattle.run_report.specs.Writing.{Puts, PutsPart};
+ghost use Rattle.stream_io.specs.Putting.{Puts, PutsPart};
 ghost use Rattle.stream_command.specs.Answers.{Answers, AnswersTo, RunsFile, IsValidFor};
 ghost use Rattle.stream_command.specs.Receipts.{ReceiptsOf, ReceiptsFor, IslandsOf, IslandsFor};
 ghost use Rattle.stream_top.specs.Receipts.{Receipts, RanFile};

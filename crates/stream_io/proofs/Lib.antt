@@ -3,3 +3,4 @@ pub mod Fetches
 pub mod Lines
 pub mod Tallies
 pub mod NamedFiles
+pub mod Puttings

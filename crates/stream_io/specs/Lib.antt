@@ -6,3 +6,4 @@ pub mod Buffered
 pub mod Tally
 pub mod TallyLink
 pub mod Files
+pub mod Putting

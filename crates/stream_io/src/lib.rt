@@ -8,6 +8,7 @@ pub mod mem_drain;
 pub mod mem_folder;
 pub mod named_file;
 pub mod outside;
+pub mod put;
 pub mod real;
 pub mod sure;
 mod tally;

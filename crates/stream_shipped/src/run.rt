@@ -10,7 +10,7 @@ ghost use Rattle.stream_io.specs.Counts.{GrewAtMost};
 ghost use Rattle.command_words.specs.Asking.{Asked, asked_of};
 ghost use Rattle.file_text.specs.Text.{text_limit};
 ghost use Rattle.run_report.specs.Report.{report_of, code_of};
-ghost use Rattle.run_report.specs.Writing.{Puts, PutsPart};
+ghost use Rattle.stream_io.specs.Putting.{Puts, PutsPart};
 ghost use Rattle.stream_command.specs.Answers.{Answers, IsValidFor};
 ghost use Rattle.stream_command.specs.Calls.{answer_of, RoseNowhere, WasRun};
 ghost use Rattle.stream_command.specs.Receipts.{ReceiptsOf, IslandsOf};

@@ -8,7 +8,7 @@ ghost use Rattle.stream_top.specs.Outcome.{Blank, Told, Causes, SinksOf, IsValid
 ghost use Rattle.file_text.specs.Text.{text_limit};
 ghost use Rattle.stream_top.specs.Receipts.{Receipts, RanFile};
 ghost use Rattle.run_report.specs.Report.{detail_of, report_of, code_of};
-ghost use Rattle.run_report.specs.Writing.{Puts, PutsPart};
+ghost use Rattle.stream_io.specs.Putting.{Puts, PutsPart};
 ghost use Rattle.plug_board.specs.Handed.{GivesAsListed};
 ghost use Rattle.stream_top.specs.Asked.{plugged_by};
 

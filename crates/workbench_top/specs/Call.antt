@@ -3,7 +3,7 @@ use Rattle.std.specs.Prelude.{◌≡◌, ℕ, ◌⊎◌, IsTrue, false, List, So
 use Rattle.std.specs.Option.{option_map}
 use Rattle.stream_io.specs.State.{FolderState, DrainState, SameFiles}
 use Rattle.file_text.specs.Text.{text_of_file, StaysMissing, FailsToRead}
-use Rattle.run_report.specs.Writing.{Puts}
+use Rattle.stream_io.specs.Putting.{Puts}
 use Rattle.workbench_words.specs.Task.{Asks, is_task}
 use Rattle.workbench_words.specs.declared.task.Task.{Task}
 use Rattle.workbench_words.specs.declared.task.Work.TheVariants.{Explain}

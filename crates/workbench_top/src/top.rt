@@ -8,9 +8,9 @@ ghost use Rattle.workbench_top.specs.Call.{AnswersTask, AnswersNothing, AnswersW
 use crate::report::{ReportEnd, read_report};
 use elem_core::line::Line;
 use file_text::text::{ReadEnd, read_file};
-use run_report::put::put_all;
 use std::alloc::Global;
 use stream_io::outside::{Drain, Folder, Source};
+use stream_io::put::put_all;
 use workbench_answers::answer::{Answer, Ending, code};
 use workbench_answers::texts::{check_text, count_text, draw_text, explain_text, format_text};
 use workbench_words::task::{Task, WordsEnd, Work, read_words};

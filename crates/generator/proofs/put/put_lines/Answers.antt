@@ -1,5 +1,5 @@
 use Rattle.std.proofs.Common.{◌≤◌, ◌∙◌, ◌+◌, subst, arith}
-use Rattle.run_report.specs.Writing.{Puts, PutsPart}
+use Rattle.stream_io.specs.Putting.{Puts, PutsPart}
 use Rattle.generator.specs.Texts.{line_of, lines_text}
 use Rattle.generator.proofs.Ranges.{leaves_lines, stops_lines}
 use Rattle.generator.proofs.put.put_lines.Goals as goal

@@ -1,4 +1,5 @@
-use Rattle.run_report.proofs.Puttings.{leaves_next, leaves_stop_at, on_err}
+use Rattle.stream_io.proofs.Puttings.{on_err}
+use Rattle.run_report.proofs.Puttings.{leaves_next, leaves_stop_at}
 use Rattle.run_report.proofs.put.put_parts.Goals as goal
 
 pub loop-part-preserved : goal.loop-part-preserved

@@ -1,5 +1,6 @@
 -- The goals of `report::put_cause` that the search leaves.
-use Rattle.run_report.proofs.Puttings.{on_err, part_before, then_part}
+use Rattle.stream_io.proofs.Puttings.{on_err}
+use Rattle.run_report.proofs.Puttings.{part_before, then_part}
 use Rattle.run_report.proofs.report.put_cause.Goals as goal
 
 pub returns-in_err-put_place-clause-err : goal.returns-in_err-put_place-clause-err

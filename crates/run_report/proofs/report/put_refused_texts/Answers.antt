@@ -1,7 +1,7 @@
 -- The goal of `report::put_refused_texts` that the search leaves.
 use Rattle.std.proofs.Common.{◌≡◌, ◌∙◌, ◌++◌, List, ℕ, [], sym, ap, subst, codes, OnOk}
 use Rattle.std.proofs.lemmas.List.{append_assoc, append-nil}
-use Rattle.run_report.specs.Writing.{Puts}
+use Rattle.stream_io.specs.Putting.{Puts}
 use Rattle.run_report.proofs.report.put_refused_texts.Goals as goal
 
 four : (a b c d : List ℕ) → a ++ (b ++ (c ++ (d ++ []))) ≡ ((a ++ b) ++ c) ++ d

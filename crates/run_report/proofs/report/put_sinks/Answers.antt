@@ -1,5 +1,6 @@
 use Rattle.run_report.specs.Report.{sink_line}
-use Rattle.run_report.proofs.Puttings.{leaves_item, leaves_stop_item, on_err}
+use Rattle.stream_io.proofs.Puttings.{on_err}
+use Rattle.run_report.proofs.Puttings.{leaves_item, leaves_stop_item}
 use Rattle.run_report.proofs.report.put_sinks.Goals as goal
 
 pub loop-sink-preserved : goal.loop-sink-preserved

@@ -1,5 +1,6 @@
 -- The goals of `report::put_wires` that the search leaves.
-use Rattle.run_report.proofs.Puttings.{leaves_wire, leaves_stop_wire, on_err}
+use Rattle.stream_io.proofs.Puttings.{on_err}
+use Rattle.run_report.proofs.Puttings.{leaves_wire, leaves_stop_wire}
 use Rattle.run_report.proofs.report.put_wires.Goals as goal
 
 pub loop-n-preserved : goal.loop-n-preserved

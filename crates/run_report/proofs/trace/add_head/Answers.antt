@@ -1,6 +1,6 @@
 -- The goals of `trace::add_head` that the search leaves.
 use Rattle.std.proofs.Common.{◌≡◌, codes}
-use Rattle.run_report.proofs.Puttings.{on_err}
+use Rattle.stream_io.proofs.Puttings.{on_err}
 use Rattle.run_report.proofs.Tracing.{stops_first, then_adds, then_stops}
 use Rattle.run_report.proofs.trace.add_head.Goals as goal
 

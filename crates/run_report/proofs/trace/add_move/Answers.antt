@@ -1,7 +1,7 @@
 -- The goals of `trace::add_move` that the search leaves.
 use Rattle.std.proofs.Common.{◌≡◌, codes, rules}
 use Rattle.std.specs.Fmt.{decimal}
-use Rattle.run_report.proofs.Puttings.{on_err}
+use Rattle.stream_io.proofs.Puttings.{on_err}
 use Rattle.run_report.proofs.Tracing.{stops_first, then_adds, then_stops}
 use Rattle.run_report.proofs.trace.add_move.Goals as goal
 

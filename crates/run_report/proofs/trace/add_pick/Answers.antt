@@ -2,7 +2,7 @@
 use Rattle.std.proofs.Common.{codes, ◌++◌}
 use Rattle.std.specs.List.{flat_map}
 use Rattle.run_report.specs.Trace.{move_text, moves_in}
-use Rattle.run_report.proofs.Puttings.{on_err}
+use Rattle.stream_io.proofs.Puttings.{on_err}
 use Rattle.run_report.proofs.Tracing.{stops_first, then_adds, then_stops}
 use Rattle.run_report.proofs.trace.add_pick.Goals as goal
 

@@ -1,6 +1,6 @@
 -- The goals of `trace::add_picks` that the search leaves.
 use Rattle.std.proofs.Common.{◌<◌, ◌≤◌, length, arith}
-use Rattle.run_report.proofs.Puttings.{on_err}
+use Rattle.stream_io.proofs.Puttings.{on_err}
 use Rattle.run_report.proofs.Tracing.{gathers_line, gathers_stop_line, gathers_none, over_either}
 use Rattle.run_report.proofs.trace.add_picks.Goals as goal
 

@@ -1,6 +1,6 @@
 use Rattle.std.proofs.Common.{◌<◌, length, arith}
-use Rattle.run_report.proofs.Puttings.{puts_on, puts_stop, on_err}
-use Rattle.run_report.proofs.put.put_all.Goals as goal
+use Rattle.stream_io.proofs.Puttings.{puts_on, puts_stop, on_err}
+use Rattle.stream_io.proofs.put.put_all.Goals as goal
 
 pub loop-done-preserved : goal.loop-done-preserved
 loop-done-preserved g c =

@@ -1,6 +1,6 @@
 use Rattle.std.proofs.Common.{length, take, ◌-◌, ◌≤◌}
-use Rattle.run_report.specs.Writing.{Puts}
-use Rattle.run_report.proofs.put.put_all.Given as goal
+use Rattle.stream_io.specs.Putting.{Puts}
+use Rattle.stream_io.proofs.put.put_all.Given as goal
 
 abbrev pub invariant-loop-done : goal.invariant-loop-done
 invariant-loop-done g l =

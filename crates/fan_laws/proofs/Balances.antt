@@ -27,7 +27,8 @@ use Rattle.stream_picture.specs.View.{EachWire, demand, wanted, total}
 use Rattle.stream_picture.specs.Lawful.{RowLawful, BalanceOutputs, BalanceLawful}
 use Rattle.stream_picture.specs.Rests.{IsShut, OneToMany, BalanceRests, RowRests}
 use Rattle.stage_law.specs.Held.{told}
-use Rattle.stage_balance.specs.Outs.{OneInClosed, SomeAsked, own_ins, own_outs}
+use Rattle.stage_fans.specs.Outs.{OneInClosed}
+use Rattle.stage_balance.specs.Outs.{SomeAsked, own_ins, own_outs}
 use Rattle.stage_balance.specs.Balances.{Handed, BalanceKeeps}
 use Rattle.stage_balance.specs.Balancings.{Balancing, Core, input_of, Holding, row_by, row, waited_by, held_by, held, Begins, BalancesAs}
 use Rattle.stage_balance.proofs.Balances.{drop_length}

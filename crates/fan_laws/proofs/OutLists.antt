@@ -17,7 +17,7 @@ use Rattle.stage_law.specs.Held.{told, Held}
 use Rattle.stage_law.specs.Law.{TookAs, Law}
 use Rattle.stage_law.specs.Outs.{Outlet, OutsLaw, owe}
 use Rattle.stage_law.proofs.Whole.{stage_stands}
-use Rattle.stage_out.specs.declared.want.Want.{Want}
+use Rattle.stage_fans.specs.declared.outs.OutputState.{OutputState}
 use Rattle.stage_out.specs.Copies.{copying, nothing_owed}
 use Rattle.stage_out.specs.Machines.{no_stage, copiers, number_starts}
 use Rattle.stage_out.proofs.Agreeing.{copies_run}
@@ -92,7 +92,7 @@ copy_most f l k e g h p st =
     let part = prefix_length p in
     omega (arith, most, all, part)
 
-pub copiers_most : (part : ℕ → Tree → Tree) (live : Bool) (n : ℕ) (ws : List Want) (k : List Tree) → AllMost n (copiers part live n ws) k (λ j. length k)
+pub copiers_most : (part : ℕ → Tree → Tree) (live : Bool) (n : ℕ) (ws : List OutputState) (k : List Tree) → AllMost n (copiers part live n ws) k (λ j. length k)
 copiers_most part live n [] k = tt
 copiers_most part live n (w ∷ ws) k = (λ l e g h p st. copy_most (part n) l k e g h p st, copiers_most part live (n + 1) ws k)
 

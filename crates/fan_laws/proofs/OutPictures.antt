@@ -30,17 +30,18 @@ use Rattle.stream_picture.specs.Lawful.{RowLawful, most_wanted, BroadcastLawful,
 use Rattle.stream_picture.specs.Rests.{IsShut}
 use Rattle.stage_law.specs.Held.{told}
 use Rattle.stage_law.specs.Outs.{OutsLaw, owe}
-use Rattle.stage_out.specs.declared.want.Want.{Want}
+use Rattle.stage_fans.specs.declared.outs.OutputState.{OutputState}
 use Rattle.stage_out.specs.declared.machines.OutMachines.{OutMachines}
 use Rattle.stage_out.specs.declared.machines.OutMachines.TheVariants.{Copies, Deals}
-use Rattle.stage_out.specs.Copies.{want_view, quiet_count, open_count, input_by, OneInClosed}
+use Rattle.stage_fans.specs.Outs.{want_view, open_count, OneInClosed, asks_count}
+use Rattle.stage_out.specs.Copies.{quiet_count, input_by}
 use Rattle.stage_out.specs.Copies as copies
 use Rattle.stage_out.specs.CopyStates.{CopyLogic, part_by}
 use Rattle.stage_out.specs.CopyStates as copy
 use Rattle.stage_out.specs.Machines.{row, outlets, owed, rests_as, Begins, IsMachines, IsAlike, no_stage, copiers, number_starts, unasked_ports, outputs_of}
 use Rattle.stage_out.specs.MachineNodes.{MachinesLaw}
 use Rattle.stage_out.specs.OwnRows.{own_ins, own_outs}
-use Rattle.stage_out.specs.PartitionStates.{PartitionLogic, Holding, input_of, dues, held_of, then_of, asks_count}
+use Rattle.stage_out.specs.PartitionStates.{PartitionLogic, Holding, input_of, dues, held_of, then_of}
 use Rattle.stage_out.specs.PartitionStates as part
 use Rattle.stage_out.proofs.OutMachines.{copiers_are, length-owed, length-dues}
 use Rattle.stage_out.proofs.MachineNodes.{length-outlets, live_ports}
@@ -112,7 +113,7 @@ some_or_none (suc n) = inr (omega arith)
 -- ---- a broadcast or an unzip, as it asked
 
 record CopyAsk (first now : OutMachines) (i : InPort) (os : List OutPort) (e : Then first now i os) : Type 0 where
-  outs : List Want
+  outs : List OutputState
   count : ℕ
   even : EvenList outs count e.given
   had : elements (slice_index_or e.had 0 []) ≡ count
@@ -122,7 +123,7 @@ record CopyAsk (first now : OutMachines) (i : InPort) (os : List OutPort) (e : T
   wants : WantedOn outs e.given os
   shut : ShutOn outs os
 
-open_some : (ws : List Want) → 1 ≤ open_count ws → 1 ≤ length ws
+open_some : (ws : List OutputState) → 1 ≤ open_count ws → 1 ≤ length ws
 open_some [] h = absurd (omega (arith, h))
 open_some (w ∷ ws) h = omega arith
 
@@ -232,7 +233,7 @@ module _ (book : Book) (f l : CopyLogic) (i : InPort) (os : List OutPort) (law :
 
 module _ (book : Book) (node n : ℕ) (f : MapFn) where
   record DealAsk (first now : OutMachines) (i : InPort) (os : List OutPort) (e : Then first now i os) : Type 0 where
-    outs : List Want
+    outs : List OutputState
     list : List Tree
     dealt : AllDealt book node n f list 0 outs e.given
     had : elements (slice_index_or e.had 0 []) ≡ length list

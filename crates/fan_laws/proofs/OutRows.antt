@@ -22,12 +22,13 @@ use Rattle.stage_law.specs.Held.{told, owing}
 use Rattle.stage_law.specs.Law.{TookAs, ends_by, Law}
 use Rattle.stage_law.specs.Outs.{owe}
 use Rattle.stage_law.specs.Row.{OutClosed}
-use Rattle.stage_out.specs.declared.want.Want.{Want}
-use Rattle.stage_out.specs.declared.want.Want.TheVariants.{Quiet, Asks, Gone}
-use Rattle.stage_out.specs.Copies.{want_view, quiet_count, open_count}
+use Rattle.stage_fans.specs.declared.outs.OutputState.{OutputState}
+use Rattle.stage_fans.specs.declared.outs.OutputState.TheVariants.{Quiet, Asks, Gone}
+use Rattle.stage_fans.specs.Outs.{want_view, open_count, asks_count}
+use Rattle.stage_out.specs.Copies.{quiet_count}
 use Rattle.stage_out.specs.Machines.{number_starts}
 use Rattle.stage_out.specs.OwnRows.{Even}
-use Rattle.stage_out.specs.PartitionStates.{PartitionLogic, asks_count, stage_of, state_of, held_of, dues, kept}
+use Rattle.stage_out.specs.PartitionStates.{PartitionLogic, stage_of, state_of, held_of, dues, kept}
 use Rattle.stage_out.proofs.Rests.{told_lists}
 use Rattle.run_account.specs.Account.{AllBegin}
 use Rattle.run_account.specs.Ports.{OutPort, EachPort, OutStands}
@@ -45,23 +46,23 @@ abbrev pub Shuts : List OutPort → List Bool
 Shuts os = map (λ (o : OutPort). o.wire.shut) os
 
 -- what the moment of an ask tells of outputs of which it knew this: what is wanted of those that had asked, and that those that were closed are shut
-abbrev pub WantedOn : List Want → List (List Item) → List OutPort → Type 0
+abbrev pub WantedOn : List OutputState → List (List Item) → List OutPort → Type 0
 WantedOn ws hs os = (j : ℕ) → slice_index_or (map want_view ws) j Shut ≡ Asked → elements (slice_index_or hs j []) + 1 ≤ slice_index_or (OutWants os) j 0
 
-abbrev pub ShutOn : List Want → List OutPort → Type 0
+abbrev pub ShutOn : List OutputState → List OutPort → Type 0
 ShutOn ws os = (j : ℕ) → OutClosed (slice_index_or (map want_view ws) j Shut) → slice_index_or (Shuts os) j true ≡ true
 
 -- ---- a broadcast or an unzip
 
 -- each open output was given n elements
-abbrev pub EvenList : List Want → ℕ → List (List Item) → Type 0
+abbrev pub EvenList : List OutputState → ℕ → List (List Item) → Type 0
 EvenList [] n [] = ⊤
 EvenList (Quiet ∷ ws) n (h ∷ hs) = (elements h ≡ n) × EvenList ws n hs
 EvenList (Asks ∷ ws) n (h ∷ hs) = (elements h ≡ n) × EvenList ws n hs
 EvenList (Gone ∷ ws) n (h ∷ hs) = EvenList ws n hs
 EvenList _ n _ = ⊥
 
-pub even_list : (ws : List Want) (l : List Tree) (gs : List (List Tree)) (hs : List (List Item)) → Even ws l gs → ((i : ℕ) (g : List Tree) → slice_get gs i ≡ Some g → (e : End) × (slice_index_or hs i [] ≡ told g e)) → length hs ≡ length ws → EvenList ws (length l) hs
+pub even_list : (ws : List OutputState) (l : List Tree) (gs : List (List Tree)) (hs : List (List Item)) → Even ws l gs → ((i : ℕ) (g : List Tree) → slice_get gs i ≡ Some g → (e : End) × (slice_index_or hs i [] ≡ told g e)) → length hs ≡ length ws → EvenList ws (length l) hs
 even_list [] l [] [] e t n = tt
 even_list [] l [] (h ∷ hs) e t n = absurd (omega (arith, n))
 even_list [] l (g ∷ gs) hs e t n = absurd e
@@ -74,7 +75,7 @@ even_list (Asks ∷ ws) l (g ∷ gs) (h ∷ hs) e t n = let r = t 0 g refl in (a
 even_list (Gone ∷ ws) l (g ∷ gs) (h ∷ hs) e t n = even_list ws l gs hs e (λ i k at. t (suc i) k at) (omega (arith, n))
 
 -- no more is asked for than each open output wants
-pub copies_asked : (ws : List Want) (n d : ℕ) (hs : List (List Item)) (os : List OutPort) → EvenList ws n hs → WantedOn ws hs os → ShutOn ws os → quiet_count ws ≡ 0 → d ≤ n + 1 → length hs ≡ length os → EachPort OutStands os
+pub copies_asked : (ws : List OutputState) (n d : ℕ) (hs : List (List Item)) (os : List OutPort) → EvenList ws n hs → WantedOn ws hs os → ShutOn ws os → quiet_count ws ≡ 0 → d ≤ n + 1 → length hs ≡ length os → EachPort OutStands os
     → EachWire (λ o. IsShut o ⊎ (d ≤ wanted o)) (OutWires os)
 copies_asked ws n d hs [] e wants shut q few l s = tt
 copies_asked [] n d [] (o ∷ os) e wants shut q few l s = absurd (omega (arith, l))
@@ -95,7 +96,7 @@ more_right : (a b d : ℕ) → d ≤ b → d ≤ max a b
 more_right a b d h = omega (arith, h)
 
 -- and no more than some output wants
-pub copies_most : (ws : List Want) (n d : ℕ) (hs : List (List Item)) (os : List OutPort) → EvenList ws n hs → WantedOn ws hs os → quiet_count ws ≡ 0 → 1 ≤ open_count ws → d ≤ n + 1 → length hs ≡ length os → EachPort OutStands os → d ≤ most_wanted (OutWires os)
+pub copies_most : (ws : List OutputState) (n d : ℕ) (hs : List (List Item)) (os : List OutPort) → EvenList ws n hs → WantedOn ws hs os → quiet_count ws ≡ 0 → 1 ≤ open_count ws → d ≤ n + 1 → length hs ≡ length os → EachPort OutStands os → d ≤ most_wanted (OutWires os)
 copies_most [] n d hs os e wants q some few l s = absurd (omega (arith, some))
 copies_most (Quiet ∷ ws) n d hs os e wants q some few l s = absurd (omega (arith, q))
 copies_most (Asks ∷ ws) n d [] os e wants q some few l s = absurd e
@@ -124,7 +125,7 @@ module _ (book : Book) (node n : ℕ) (f : MapFn) where
   ran j l = run (machine book node n f j) (start book node n f j) l
 
   -- each open output from number q on was given all its elements of a list, and has not failed
-  abbrev pub AllDealt : List Tree → ℕ → List Want → List (List Item) → Type 0
+  abbrev pub AllDealt : List Tree → ℕ → List OutputState → List (List Item) → Type 0
   AllDealt l q [] [] = ⊤
   AllDealt l q (Quiet ∷ ws) (h ∷ hs) = ((elements h ≡ length (ran q l).gave) × (is_going (ran q l).state ≡ true)) × AllDealt l (q + 1) ws hs
   AllDealt l q (Asks ∷ ws) (h ∷ hs) = ((elements h ≡ length (ran q l).gave) × (is_going (ran q l).state ≡ true)) × AllDealt l (q + 1) ws hs
@@ -144,7 +145,7 @@ module _ (book : Book) (node n : ℕ) (f : MapFn) where
           ap (λ (y : Run Stage Tree). is_going y.state) still,
         )
 
-    pub all_dealt : (q m : ℕ) (ws : List Want) (hs : List (List Item)) → length ws ≡ m → OutsList q (owe (number_starts book node n f q m) (dues (held_of x) q ws)) v took hs → AllDealt l q ws hs
+    pub all_dealt : (q m : ℕ) (ws : List OutputState) (hs : List (List Item)) → length ws ≡ m → OutsList q (owe (number_starts book node n f q m) (dues (held_of x) q ws)) v took hs → AllDealt l q ws hs
     all_dealt q zero [] [] k law = tt
     all_dealt q zero [] (h ∷ hs) k law = absurd law
     all_dealt q zero (w ∷ ws) hs k law = absurd (omega (arith, k))
@@ -166,7 +167,7 @@ module _ (book : Book) (node n : ℕ) (f : MapFn) where
       let count = s.count in
       omega (arith, e, less, more, count)
 
-  pub dealt_before : (l k : List Tree) (q : ℕ) (ws : List Want) (hs : List (List Item)) (os : List OutPort) → AllDealt l q ws hs → AllBegin hs (Sents os) → ShutOn ws os → IsPrefix k l → EachPort OutStands os → DealtBefore q os k
+  pub dealt_before : (l k : List Tree) (q : ℕ) (ws : List OutputState) (hs : List (List Item)) (os : List OutPort) → AllDealt l q ws hs → AllBegin hs (Sents os) → ShutOn ws os → IsPrefix k l → EachPort OutStands os → DealtBefore q os k
   dealt_before l k q ws hs [] d b shut part s = tt
   dealt_before l k q ws [] (o ∷ os) d b shut part s = absurd b
   dealt_before l k q [] (h ∷ hs) (o ∷ os) d b shut part s = absurd d
@@ -182,7 +183,7 @@ module _ (book : Book) (node n : ℕ) (f : MapFn) where
   shut_not a c = cc
 
   -- all are open
-  pub all_open : (ws : List Want) (hs : List (List Item)) (os : List OutPort) → AllBegin hs (Sents os) → length hs ≡ length ws → ShutOn ws os → NoneShut os → open_count ws ≡ length ws
+  pub all_open : (ws : List OutputState) (hs : List (List Item)) (os : List OutPort) → AllBegin hs (Sents os) → length hs ≡ length ws → ShutOn ws os → NoneShut os → open_count ws ≡ length ws
   all_open [] hs os b l shut none = refl
   all_open (w ∷ ws) [] os b l shut none = absurd (omega (arith, l))
   all_open (w ∷ ws) (h ∷ hs) [] b l shut none = absurd b
@@ -195,7 +196,7 @@ module _ (book : Book) (node n : ℕ) (f : MapFn) where
   wanted_sent false k = omega arith
 
   -- all that was given, and one element for each output that had asked, is wanted
-  pub dealt_total : (l : List Tree) (q : ℕ) (ws : List Want) (hs : List (List Item)) (os : List OutPort) → AllDealt l q ws hs → AllBegin hs (Sents os) → WantedOn ws hs os → ShutOn ws os → NoneShut os → EachPort OutStands os
+  pub dealt_total : (l : List Tree) (q : ℕ) (ws : List OutputState) (hs : List (List Item)) (os : List OutPort) → AllDealt l q ws hs → AllBegin hs (Sents os) → WantedOn ws hs os → ShutOn ws os → NoneShut os → EachPort OutStands os
       → count_all book node n f 0 q (length ws) l + asks_count ws ≤ total wanted (OutWires os)
   dealt_total l q [] hs os d b wants shut none s = omega arith
   dealt_total l q (Quiet ∷ ws) [] os d b wants shut none s = absurd d
@@ -218,7 +219,7 @@ module _ (book : Book) (node n : ℕ) (f : MapFn) where
   dealt_total l q (Gone ∷ ws) (h ∷ hs) (o ∷ os) d b wants shut none s = absurd (shut_not (shut 0 tt) none.0)
 
   -- one that is open goes on
-  pub some_goes : (l : List Tree) (q : ℕ) (ws : List Want) (hs : List (List Item)) → AllDealt l q ws hs → 1 ≤ open_count ws → (j : ℕ) × (is_going (ran j l).state ≡ true)
+  pub some_goes : (l : List Tree) (q : ℕ) (ws : List OutputState) (hs : List (List Item)) → AllDealt l q ws hs → 1 ≤ open_count ws → (j : ℕ) × (is_going (ran j l).state ≡ true)
   some_goes l q [] hs d some = absurd (omega (arith, some))
   some_goes l q (Quiet ∷ ws) [] d some = absurd d
   some_goes l q (Asks ∷ ws) [] d some = absurd d

@@ -2,7 +2,7 @@
 use Rattle.std.specs.Prelude.{replicate, slice_get, slice_index_or}
 use Rattle.std.proofs.Common.{◌≡◌, ℕ, zero, suc, ◌+◌, ◌≤◌, ◌<◌, ◌⊎◌, inl, inr, Bool, true, false, List, [], ◌∷◌, ◌++◌, length, map, refl, sym, ap, ◌∙◌, subst, arith, Option, Some, None}
 use Rattle.std.proofs.lemmas.Bool.{and_from}
-use Rattle.std.proofs.lemmas.List.{length-map, length-replicate}
+use Rattle.std.proofs.lemmas.List.{length-map, length-replicate, length-set}
 use Rattle.std.proofs.lemmas.List.Folds.{list_all-append}
 use Rattle.elem_core.specs.Tree.{Tree}
 use Rattle.elem_core.specs.declared.item.Item.{Item}
@@ -37,12 +37,12 @@ use Rattle.stage_law.specs.OwnPorts.{own_input}
 use Rattle.stage_law.proofs.Told.{told-append}
 use Rattle.stage_law.proofs.Inflows.{told_coming, as_coming}
 use Rattle.stage_law.proofs.Ports.{took_acted, gave_seen, gave_acted}
-use Rattle.std.proofs.lemmas.List.{length-set}
 use Rattle.stage_fans.specs.Seats.{room_for}
 use Rattle.stage_fans.proofs.Histories.{brought_at, length-brought, given_at, length-given_all}
-use Rattle.stage_balance.specs.declared.want.Want.{Want}
-use Rattle.stage_balance.specs.declared.want.Want.TheVariants.{Quiet, Asks, Gone}
-use Rattle.stage_balance.specs.Outs.{want_view, open_count, asks_count, OneInClosed, OutsClosed, AllClosed, own_ins, own_outs}
+use Rattle.stage_fans.specs.declared.outs.OutputState.{OutputState}
+use Rattle.stage_fans.specs.declared.outs.OutputState.TheVariants.{Quiet, Asks, Gone}
+use Rattle.stage_fans.specs.Outs.{want_view, open_count, asks_count, OneInClosed, OutsClosed, AllClosed}
+use Rattle.stage_balance.specs.Outs.{own_ins, own_outs}
 use Rattle.stage_balance.specs.Balances.{BalanceHeld, waits, shut, Handed, BalanceTurn, BalanceClose, BalanceTurnAt, BalanceKeeps, moves_of, BalanceLaw}
 use Rattle.stage_balance.specs.Balancings.{Core, Balancing, input_of, Queued, Holding, Sound, row_by, row, held_by, held, Turned, Begins, BalanceFresh, BalancesAs, unasked_ports, BalanceRestsOwn}
 use Rattle.stage_balance.proofs.Balances.{balance_stands, joined_then, joined_end}
@@ -332,20 +332,20 @@ outs_shut n (Refused ∷ ys) g h = (refl, outs_shut (n + 1) ys g h.1)
 outs_shut n (Unasked ∷ ys) g h = absurd h.0
 outs_shut n (Asked ∷ ys) g h = absurd h.0
 
-some_asked : (n : ℕ) (ws : List Want) (j : ℕ) (g : ℕ → List Tree) → slice_get ws j ≡ Some Asks → SomeWire IsAsked (own_outs n (map want_view ws) g)
+some_asked : (n : ℕ) (ws : List OutputState) (j : ℕ) (g : ℕ → List Tree) → slice_get ws j ≡ Some Asks → SomeWire IsAsked (own_outs n (map want_view ws) g)
 some_asked n [] j g h = cc
 some_asked n (Quiet ∷ ws) zero g h = cc
 some_asked n (Asks ∷ ws) zero g h = inl (refl, refl)
 some_asked n (Gone ∷ ws) zero g h = cc
 some_asked n (w ∷ ws) (suc j) g h = inr (some_asked (n + 1) ws j g h)
 
-some_unasked : (n : ℕ) (ws : List Want) (g : ℕ → List Tree) → 1 ≤ open_count ws → asks_count ws ≡ 0 → SomeWire IsUnasked (own_outs n (map want_view ws) g)
+some_unasked : (n : ℕ) (ws : List OutputState) (g : ℕ → List Tree) → 1 ≤ open_count ws → asks_count ws ≡ 0 → SomeWire IsUnasked (own_outs n (map want_view ws) g)
 some_unasked n [] g o q = absurd (omega (arith, o))
 some_unasked n (Quiet ∷ ws) g o q = inl (refl, refl)
 some_unasked n (Asks ∷ ws) g o q = absurd (omega (arith, q))
 some_unasked n (Gone ∷ ws) g o q = inr (some_unasked (n + 1) ws g o q)
 
-each_unasked : (n : ℕ) (ws : List Want) (g : ℕ → List Tree) → asks_count ws ≡ 0 → EachWire (λ o. IsShut o ⊎ IsUnasked o) (own_outs n (map want_view ws) g)
+each_unasked : (n : ℕ) (ws : List OutputState) (g : ℕ → List Tree) → asks_count ws ≡ 0 → EachWire (λ o. IsShut o ⊎ IsUnasked o) (own_outs n (map want_view ws) g)
 each_unasked n [] g q = tt
 each_unasked n (Quiet ∷ ws) g q = (inr (refl, refl), each_unasked (n + 1) ws g q)
 each_unasked n (Asks ∷ ws) g q = absurd (omega (arith, q))

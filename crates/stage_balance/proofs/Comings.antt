@@ -22,12 +22,14 @@ use Rattle.stage_core.specs.Handling.{Pulls}
 use Rattle.stage_law.specs.Inflows.{flow_of, joined, nothing}
 use Rattle.stage_law.proofs.Inflows.{joined-nothing}
 use Rattle.stage_fans.specs.Seats.{end_by}
-use Rattle.stage_balance.specs.declared.want.Want.TheVariants.{Quiet, Asks, Gone}
-use Rattle.stage_balance.specs.Outs.{want_view, open_count, at_open, OutsClosed, AllClosed, SomeAsked}
+use Rattle.stage_fans.specs.declared.outs.OutputState.TheVariants.{Quiet, Asks, Gone}
+use Rattle.stage_fans.specs.Outs.{want_view, open_count, at_open, OutsClosed, AllClosed}
+use Rattle.stage_balance.specs.Outs.{SomeAsked}
 use Rattle.stage_balance.specs.Balances.{waits, BalanceTurn, BalanceClose, BalanceTurnBy}
 use Rattle.stage_balance.specs.Balancings.{Balancing, input_of, view_of, Queued, Holding, Sound, row, waited_by, waited, held, Does, closed, served, filled, others, without, Took, alone, again, stays, Ended, end_waits, end_passes, Lost, final, others_open, FirstServed}
 use Rattle.stage_balance.proofs.Queues.{open_served, open_lost, queue_without, never_longer}
-use Rattle.stage_balance.proofs.Wants.{want_set, is_open, view_at, shut_views, gone_views}
+use Rattle.stage_fans.proofs.Outs.{want_set, is_open, shut_views, gone_views}
+use Rattle.stage_balance.proofs.Wants.{view_at}
 use Rattle.stage_balance.proofs.Handlings.{is_standing, Found, found, Handled, handle, turn_open, none_handed, quiet, push_told, one_turn, named_one, end_of, end_told, completed, broke, broke_by, completions, failures, completes_all, fails_all}
 
 -- ---- the one input

@@ -26,13 +26,15 @@ use Rattle.stage_law.specs.Held.{told}
 use Rattle.stage_law.specs.Inflows.{joined, nothing, coming}
 use Rattle.stage_law.proofs.Inflows.{joined-nothing}
 use Rattle.stage_fans.specs.Seats.{end_by}
-use Rattle.stage_balance.specs.declared.want.Want.{Want}
-use Rattle.stage_balance.specs.declared.want.Want.TheVariants.{Quiet, Asks}
-use Rattle.stage_balance.specs.Outs.{want_view, at_open, OneInClosed, AllClosed, SomeAsked}
+use Rattle.stage_fans.specs.declared.outs.OutputState.{OutputState}
+use Rattle.stage_fans.specs.declared.outs.OutputState.TheVariants.{Quiet, Asks}
+use Rattle.stage_fans.specs.Outs.{want_view, at_open, OneInClosed, AllClosed}
+use Rattle.stage_balance.specs.Outs.{SomeAsked}
 use Rattle.stage_balance.specs.Balances.{waits, Handed, BalanceTurn, BalanceClose, BalanceTurnBy}
 use Rattle.stage_balance.specs.Balancings.{Balancing, input_of, view_of, Holding, Sound, row_by, row, waited_by, waited, held_by, held, Turned, Does, closed, emptied, lined, served, Answered, given, last, queues, Took, alone, again, LastInLine}
 use Rattle.stage_balance.proofs.Queues.{open_asked, set_self, queue_more, queue_fits}
-use Rattle.stage_balance.proofs.Wants.{want_set, view_twice, is_quiet, view_at, asked_at, after_one, Acted, acts_from, shut_views, GivenAt, nothing_here, one_here, given_each}
+use Rattle.stage_fans.proofs.Outs.{want_set, is_quiet, after_one, shut_views}
+use Rattle.stage_balance.proofs.Wants.{view_twice, view_at, asked_at, Acted, acts_from, GivenAt, nothing_here, one_here, given_each}
 
 -- ---- the row
 
@@ -155,16 +157,16 @@ pub broke_by : (i : Item) (out : List Item) (c d : Cause) (g : GivenAt i out) �
 broke_by i out c d (nothing_here h) e = cc
 broke_by i out c d (one_here h) e = e
 
-pub completions : (k : ℕ) (ws : List Want) → GivenAt item.Ended (given_on k (at_open (λ j. Complete j) 0 ws))
+pub completions : (k : ℕ) (ws : List OutputState) → GivenAt item.Ended (given_on k (at_open (λ j. Complete j) 0 ws))
 completions k ws = given_each (λ j. Complete j) item.Ended (λ k n. refl) k 0 ws
 
-pub failures : (c : Cause) (k : ℕ) (ws : List Want) → GivenAt (item.Failed c) (given_on k (at_open (λ j. FailOut j c) 0 ws))
+pub failures : (c : Cause) (k : ℕ) (ws : List OutputState) → GivenAt (item.Failed c) (given_on k (at_open (λ j. FailOut j c) 0 ws))
 failures c k ws = given_each (λ j. FailOut j c) (item.Failed c) (λ k n. refl) k 0 ws
 
-pub completes_all : (x : InView) (ws : List Want) → Acted (record { ins = x ∷ []; outs = map want_view ws }) (at_open (λ j. Complete j) 0 ws) (map (after_one Shut) ws)
+pub completes_all : (x : InView) (ws : List OutputState) → Acted (record { ins = x ∷ []; outs = map want_view ws }) (at_open (λ j. Complete j) 0 ws) (map (after_one Shut) ws)
 completes_all x ws = acts_from (λ j. Complete j) (λ v n p. p) (λ v n. refl) (λ n acts s. s) (λ n acts q p. q p) (x ∷ []) ws 0 [] refl
 
-pub fails_all : (c : Cause) (x : InView) (ws : List Want) → Acted (record { ins = x ∷ []; outs = map want_view ws }) (at_open (λ j. FailOut j c) 0 ws) (map (after_one Shut) ws)
+pub fails_all : (c : Cause) (x : InView) (ws : List OutputState) → Acted (record { ins = x ∷ []; outs = map want_view ws }) (at_open (λ j. FailOut j c) 0 ws) (map (after_one Shut) ws)
 fails_all c x ws = acts_from (λ j. FailOut j c) (λ v n p. p) (λ v n. refl) (λ n acts s. s) (λ n acts q p. q p) (x ∷ []) ws 0 [] refl
 
 over_closed : (x : InView) (b p : Bool) → x ≡ input_of b p → b ≡ true → OneInClosed (x ∷ [])
@@ -212,7 +214,7 @@ module _ (old : Balancing) (j : ℕ) (h : old.core.live ≡ true) (q : slice_get
 
   -- once it got an element it stands as before
   pushed_back : slice_set (slice_set (map want_view old.core.outs) j Asked) j Unasked ≡ map want_view old.core.outs
-  pushed_back = view_twice (map want_view old.core.outs) j Asked Unasked ∙ want_set old.core.outs j Quiet ∙ ap (λ (ws : List Want). map want_view ws) (set_self old.core.outs j Quiet q)
+  pushed_back = view_twice (map want_view old.core.outs) j Asked Unasked ∙ want_set old.core.outs j Quiet ∙ ap (λ (ws : List OutputState). map want_view ws) (set_self old.core.outs j Quiet q)
 
   waits_one : (t : Tree) → old.core.waiting ≡ Some t → (joined (waited old.core) nothing).list ≡ t ∷ []
   waits_one t w = ap (λ (f : Inflow). f.list) (joined-nothing (waited old.core)) ∙ ap waited_by w
@@ -277,7 +279,7 @@ module _ (old : Balancing) (j : ℕ) (h : old.core.live ≡ true) (q : slice_get
   lines_up : (log : Picks) (b : Bool) → old.core.pulled ≡ b → log.moves ≡ old.log.moves → old.core.waiting ≡ None → Handled (asks j) old (if b then [] else Pull 0 ∷ []) (lined j (record old { log = log }))
   lines_up log b e same none =
       let to : Balancing = lined j (record old { log = log }) in
-      let outs : List Want = slice_set old.core.outs j Asks in
+      let outs : List OutputState = slice_set old.core.outs j Asks in
       let held_none : Holding None old.core = subst (λ x. Holding x old.core) none sound.holds in
       let long : length outs ≡ length old.core.outs = length-set old.core.outs j Asks in
       let s : Sound to.core = record {
@@ -324,7 +326,7 @@ module _ (old : Balancing) (j : ℕ) (h : old.core.live ≡ true) (q : slice_get
       pull_stands true = tt
       pull_stands false = (tt, tt)
 
-      now_asks : (ws : List Want) (j : ℕ) → slice_get ws j ≡ Some Quiet → slice_get (slice_set ws j Asks) j ≡ Some Asks
+      now_asks : (ws : List OutputState) (j : ℕ) → slice_get ws j ≡ Some Quiet → slice_get (slice_set ws j Asks) j ≡ Some Asks
       now_asks [] j h = cc
       now_asks (w ∷ ws) zero h = refl
       now_asks (w ∷ ws) (suc j) h = now_asks ws j h

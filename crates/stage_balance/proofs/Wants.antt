@@ -1,6 +1,6 @@
 -- The outputs of a balance: what is known of them, one action at each that is open, and what it gives.
 use Rattle.std.specs.Prelude.{◌==◌, if◌then◌else◌, slice_get, slice_set, slice_index_or}
-use Rattle.std.proofs.Common.{◌≡◌, ℕ, zero, suc, ◌+◌, ◌<◌, ◌⊎◌, inl, inr, Bool, true, false, List, [], ◌∷◌, ◌++◌, length, map, refl, sym, ap, ◌∙◌, subst, arith, append_assoc, length-append, Some}
+use Rattle.std.proofs.Common.{◌≡◌, ℕ, zero, suc, ◌+◌, ◌<◌, Bool, true, false, List, [], ◌∷◌, ◌++◌, length, map, refl, sym, ap, ◌∙◌, subst, arith, append_assoc, length-append, Some}
 use Rattle.std.proofs.lemmas.Bool.Decides.{nat_tests}
 use Rattle.elem_core.specs.declared.item.Item.{Item}
 use Rattle.port_core.specs.declared.act.Act.{Act}
@@ -11,66 +11,32 @@ use Rattle.port_core.specs.View.{View, out_at, with_out, IsOutOpen, ActAllowed, 
 use Rattle.port_core.specs.Asking.{AsksStand}
 use Rattle.port_core.specs.Call.{given_by, given_on}
 use Rattle.stage_core.specs.Handling.{Pulls}
-use Rattle.stage_balance.specs.declared.want.Want.{Want}
-use Rattle.stage_balance.specs.declared.want.Want.TheVariants.{Quiet, Asks, Gone}
-use Rattle.stage_balance.specs.Outs.{want_view, open_count, at_open, OutsClosed}
+use Rattle.stage_fans.specs.declared.outs.OutputState.{OutputState}
+use Rattle.stage_fans.specs.declared.outs.OutputState.TheVariants.{Quiet, Asks, Gone}
+use Rattle.stage_fans.specs.Outs.{want_view, at_open}
+use Rattle.stage_fans.proofs.Outs.{after_one, set_behind, at_behind}
 use Rattle.stage_fans.proofs.Flags.{other}
 
 -- ---- views
-
-pub want_set : (ws : List Want) (j : ℕ) (w : Want) → slice_set (map want_view ws) j (want_view w) ≡ map want_view (slice_set ws j w)
-want_set [] j w = refl
-want_set (x ∷ ws) zero w = refl
-want_set (x ∷ ws) (suc j) w = ap (λ (ys : List OutView). want_view x ∷ ys) (want_set ws j w)
 
 pub view_twice : (ys : List OutView) (j : ℕ) (a b : OutView) → slice_set (slice_set ys j a) j b ≡ slice_set ys j b
 view_twice [] j a b = refl
 view_twice (y ∷ ys) zero a b = refl
 view_twice (y ∷ ys) (suc j) a b = ap (λ (l : List OutView). y ∷ l) (view_twice ys j a b)
 
-pub is_quiet : (ws : List Want) (j : ℕ) → slice_index_or (map want_view ws) j Shut ≡ Unasked → slice_get ws j ≡ Some Quiet
-is_quiet [] j h = cc
-is_quiet (Quiet ∷ ws) zero h = refl
-is_quiet (Asks ∷ ws) zero h = cc
-is_quiet (Gone ∷ ws) zero h = cc
-is_quiet (x ∷ ws) (suc j) h = is_quiet ws j h
-
-pub is_open : (ws : List Want) (j : ℕ) → IsOutOpen (slice_index_or (map want_view ws) j Shut) → (slice_get ws j ≡ Some Quiet) ⊎ (slice_get ws j ≡ Some Asks)
-is_open [] j h = absurd h
-is_open (Quiet ∷ ws) zero h = inl refl
-is_open (Asks ∷ ws) zero h = inr refl
-is_open (Gone ∷ ws) zero h = absurd h
-is_open (x ∷ ws) (suc j) h = is_open ws j h
-
 -- what is known of the output at its place
-pub view_at : (ws : List Want) (j : ℕ) (w : Want) → slice_get ws j ≡ Some w → slice_index_or (map want_view ws) j Shut ≡ want_view w
+pub view_at : (ws : List OutputState) (j : ℕ) (w : OutputState) → slice_get ws j ≡ Some w → slice_index_or (map want_view ws) j Shut ≡ want_view w
 view_at [] j w h = cc
 view_at (x ∷ ws) zero w h = let e : x ≡ w = cc in ap want_view e
 view_at (x ∷ ws) (suc j) w h = view_at ws j w h
 
 -- once it is asked
-pub asked_at : (ws : List Want) (j : ℕ) (w : Want) → slice_get ws j ≡ Some w → slice_index_or (slice_set (map want_view ws) j Asked) j Shut ≡ Asked
+pub asked_at : (ws : List OutputState) (j : ℕ) (w : OutputState) → slice_get ws j ≡ Some w → slice_index_or (slice_set (map want_view ws) j Asked) j Shut ≡ Asked
 asked_at [] j w h = cc
 asked_at (x ∷ ws) zero w h = refl
 asked_at (x ∷ ws) (suc j) w h = asked_at ws j w h
 
 -- ---- an action at each open output
-
--- how an output stands once it is shut
-abbrev pub after_one : OutView → Want → OutView
-after_one y Quiet = y
-after_one y Asks = y
-after_one y Gone = Refused
-
-set_behind : (a b : List OutView) (x y : OutView) (n : ℕ) → length a ≡ n → slice_set (a ++ x ∷ b) n y ≡ a ++ y ∷ b
-set_behind [] b x y n h = rw (← h) refl
-set_behind (z ∷ a) b x y zero h = absurd (omega (arith, h))
-set_behind (z ∷ a) b x y (suc n) h = ap (λ (xs : List OutView). z ∷ xs) (set_behind a b x y n (omega (arith, h)))
-
-at_behind : (a b : List OutView) (x : OutView) (n : ℕ) → length a ≡ n → slice_index_or (a ++ x ∷ b) n Shut ≡ x
-at_behind [] b x n h = rw (← h) refl
-at_behind (z ∷ a) b x zero h = absurd (omega (arith, h))
-at_behind (z ∷ a) b x (suc n) h = at_behind a b x n (omega (arith, h))
 
 -- the actions, and what is known then
 pub record Acted (v : View) (acts : List Act) (outs : List OutView) : Type 0 where
@@ -98,7 +64,7 @@ module _ (act : ℕ → Act) (may : (v : View) (n : ℕ) → IsOutOpen (out_at v
   longer : (before : List OutView) (z : OutView) (n : ℕ) → length before ≡ n → length (before ++ z ∷ []) ≡ n + 1
   longer before z n h = let l = length-append before (z ∷ []) in omega (arith, l, h)
 
-  pub acts_from : (ws : List Want) (n : ℕ) (before : List OutView) → length before ≡ n
+  pub acts_from : (ws : List OutputState) (n : ℕ) (before : List OutView) → length before ≡ n
       → Acted (record { ins = ins; outs = before ++ map want_view ws }) (at_open act n ws) (before ++ map (after_one Shut) ws)
   acts_from [] n before h = record { allowed = tt; then_is = refl; stands = tt; quiet = λ p. p }
   acts_from (Quiet ∷ ws) n before h = one_more Unasked n before (map want_view ws) (at_open act (n + 1) ws) (map (after_one Shut) ws) h tt (acts_from ws (n + 1) (before ++ Shut ∷ []) (longer before Shut n h))
@@ -109,19 +75,6 @@ module _ (act : ℕ → Act) (may : (v : View) (n : ℕ) → IsOutOpen (out_at v
       let f : (before ++ Refused ∷ []) ++ map (after_one Shut) ws ≡ before ++ Refused ∷ map (after_one Shut) ws = append_assoc before (Refused ∷ []) (map (after_one Shut) ws) in
       subst (λ (ys : List OutView). Acted (record { ins = ins; outs = before ++ Refused ∷ map want_view ws }) (at_open act (n + 1) ws) ys) f
       (subst (λ (xs : List OutView). Acted (record { ins = ins; outs = xs }) (at_open act (n + 1) ws) ((before ++ Refused ∷ []) ++ map (after_one Shut) ws)) e r)
-
-pub shut_views : (ws : List Want) → OutsClosed (map (after_one Shut) ws)
-shut_views [] = tt
-shut_views (Quiet ∷ ws) = (tt, shut_views ws)
-shut_views (Asks ∷ ws) = (tt, shut_views ws)
-shut_views (Gone ∷ ws) = (tt, shut_views ws)
-
--- where none is open, all are closed
-pub gone_views : (ws : List Want) → open_count ws ≡ 0 → OutsClosed (map want_view ws)
-gone_views [] h = tt
-gone_views (Quiet ∷ ws) h = absurd (omega (arith, h))
-gone_views (Asks ∷ ws) h = absurd (omega (arith, h))
-gone_views (Gone ∷ ws) h = (tt, gone_views ws h)
 
 -- ---- what is given
 
@@ -134,7 +87,7 @@ pub data GivenAt (x : Item) (out : List Item) : Type 0 where
   one_here : out ≡ x ∷ [] → GivenAt x out
 
 module _ (act : ℕ → Act) (it : Item) (gives : (k n : ℕ) → given_by k (act n) ≡ (if n == k then it ∷ [] else [])) where
-  none_before : (k n : ℕ) (ws : List Want) → k < n → given_on k (at_open act n ws) ≡ []
+  none_before : (k n : ℕ) (ws : List OutputState) → k < n → given_on k (at_open act n ws) ≡ []
   none_before k n [] h = refl
   none_before k n (Gone ∷ ws) h = none_before k (n + 1) ws (omega (arith, h))
   none_before k n (Quiet ∷ ws) h =
@@ -144,7 +97,7 @@ module _ (act : ℕ → Act) (it : Item) (gives : (k n : ℕ) → given_by k (ac
       let x : (n == k) ≡ false = other n k (λ e. absurd (omega (arith, h, e))) in
       ap (λ (l : List Item). l ++ given_on k (at_open act (n + 1) ws)) (gives k n ∙ ap (λ b. if b then it ∷ [] else []) x) ∙ none_before k (n + 1) ws (omega (arith, h))
 
-  here : (k n : ℕ) (ws : List Want) (b : Bool) → (n == k) ≡ b → GivenAt it (given_on k (at_open act (n + 1) ws)) → GivenAt it (given_by k (act n) ++ given_on k (at_open act (n + 1) ws))
+  here : (k n : ℕ) (ws : List OutputState) (b : Bool) → (n == k) ≡ b → GivenAt it (given_on k (at_open act (n + 1) ws)) → GivenAt it (given_by k (act n) ++ given_on k (at_open act (n + 1) ws))
   here k n ws false e r =
       subst (λ (l : List Item). GivenAt it (l ++ given_on k (at_open act (n + 1) ws))) (sym (gives k n ∙ ap (λ b. if b then it ∷ [] else []) e)) r
   here k n ws true e r =
@@ -152,7 +105,7 @@ module _ (act : ℕ → Act) (it : Item) (gives : (k n : ℕ) → given_by k (ac
       let z : given_on k (at_open act (n + 1) ws) ≡ [] = none_before k (n + 1) ws (omega (arith, same_port)) in
       one_here (ap (λ (l : List Item). l ++ given_on k (at_open act (n + 1) ws)) (gives k n ∙ ap (λ b. if b then it ∷ [] else []) e) ∙ ap (λ (l : List Item). it ∷ l) z)
 
-  pub given_each : (k n : ℕ) (ws : List Want) → GivenAt it (given_on k (at_open act n ws))
+  pub given_each : (k n : ℕ) (ws : List OutputState) → GivenAt it (given_on k (at_open act n ws))
   given_each k n [] = nothing_here refl
   given_each k n (Gone ∷ ws) = given_each k (n + 1) ws
   given_each k n (Quiet ∷ ws) = here k n ws (n == k) refl (given_each k (n + 1) ws)

@@ -17,16 +17,17 @@ use Rattle.stream_picture.specs.View.{EachWire}
 use Rattle.stream_picture.specs.Rests.{IsShut, OneToMany, BalanceRests}
 use Rattle.stage_core.specs.Handling.{AsksAs}
 use Rattle.stage_fans.specs.Seats.{end_by}
-use Rattle.stage_balance.specs.declared.want.Want.{Want}
-use Rattle.stage_balance.specs.declared.want.Want.TheVariants.{Quiet, Asks, Gone}
-use Rattle.stage_balance.specs.Outs.{want_view, open_count, asks_count, at_open, AllClosed, SomeAsked, own_ins, own_outs}
+use Rattle.stage_fans.specs.declared.outs.OutputState.{OutputState}
+use Rattle.stage_fans.specs.declared.outs.OutputState.TheVariants.{Quiet, Asks, Gone}
+use Rattle.stage_fans.specs.Outs.{want_view, open_count, asks_count, at_open, AllClosed}
+use Rattle.stage_balance.specs.Outs.{SomeAsked, own_ins, own_outs}
 use Rattle.stage_balance.specs.Balances.{BalanceHeld, waits, shut, BalanceTurnAt, BalanceLaw}
 
 -- whether its ports are open; its outputs; those that ask, in the order in which they asked, and the room for them; how many
 -- outputs are open; an element that came while none asked; whether the input has ended, and whether it is asked
 pub record Core : Type 0 where
   pub live : Bool
-  pub outs : List Want
+  pub outs : List OutputState
   pub queue : List ℕ
   pub room : ℕ
   pub open_outs : ℕ
@@ -49,7 +50,7 @@ abbrev pub view_of : Core → View
 view_of l = record { ins = input_of l.over l.pulled ∷ []; outs = map want_view l.outs }
 
 -- the queue holds each output that asks once, and no other: each asks until those before it were served, and then none does
-abbrev pub Queued : List Want → List ℕ → Type 0
+abbrev pub Queued : List OutputState → List ℕ → Type 0
 Queued outs [] = asks_count outs ≡ 0
 Queued outs (j ∷ q) = (slice_get outs j ≡ Some Asks) × Queued (slice_set outs j Quiet) q
 

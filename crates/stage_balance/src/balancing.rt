@@ -5,16 +5,16 @@ ghost use Rattle.port_core.specs.declared.act.Act.TheVariants as act;
 ghost use Rattle.port_core.specs.Call.{Obeys, Meets, starts, asks, brings, cancels};
 ghost use Rattle.stream_model.specs.declared.kind.TheConstants.{MAX_FAN};
 ghost use Rattle.stage_fans.specs.Seats.{room_for};
-ghost use Rattle.stage_balance.specs.declared.want.Want.TheVariants.{Quiet, Asks, Gone};
-ghost use Rattle.stage_balance.specs.Outs.{at_open};
+ghost use Rattle.stage_fans.specs.declared.outs.OutputState.TheVariants.{Quiet, Asks, Gone};
+ghost use Rattle.stage_fans.specs.Outs.{at_open};
 ghost use Rattle.stage_balance.specs.Balancings.{row, Turned, FirstServed, LastInLine, Begins, Does, Answered, Took, Ended, Lost, closed, emptied, lined, served, filled, others, without};
 
-use crate::want::Want;
 use elem_core::elem::Elem;
 use elem_core::why::{Cause, NoMemory};
 use port_core::act::Act;
 use port_core::acts::Acts;
 use port_core::pick_log::PickLog;
+use stage_fans::outs::{OutputState, complete_open, fail_open};
 use std::alloc::Global;
 use std::collections::VecDeque;
 use std::marker::Model;
@@ -26,7 +26,7 @@ use std::marker::Model;
 pub struct Balancing {
     log: PickLog,
     live: bool,
-    outs: Vec<Want>,
+    outs: Vec<OutputState>,
     // The outputs that ask, first asked first, with room for each.
     queue: VecDeque<u8>,
     open_outs: u8,
@@ -59,7 +59,7 @@ impl Balancing {
     {
         let mut outs = Vec::with_capacity(alloc, outputs as usize)?;
         for _ in 0..outputs {
-            outs.push(Want::Quiet)?;
+            outs.push(OutputState::Quiet)?;
         }
         let queue = VecDeque::with_capacity(alloc, outputs as usize)?;
         Ok(Balancing {
@@ -251,7 +251,7 @@ impl Balancing {
         ensures does { Does self.new acts.new.items (lined port self.old) (if self.old.core.pulled then [] else act.Pull 0 ∷ []) }
         ensures room { acts.new.room ≡ acts.old.room }
     {
-        self.outs[port as usize] = Want::Asks;
+        self.outs[port as usize] = OutputState::Asks;
         self.queue.push_back_reserved(port);
         if !self.pulled {
             self.pulled = true;
@@ -301,7 +301,7 @@ impl Balancing {
         ensures room { acts.new.room ≡ acts.old.room }
     {
         self.send(port, e, acts);
-        self.outs[port as usize] = Want::Quiet;
+        self.outs[port as usize] = OutputState::Quiet;
         self.pulled = !self.queue.is_empty();
         if self.pulled {
             acts.add(Act::Pull(0));
@@ -329,21 +329,8 @@ impl Balancing {
         ensures does { Does self.new acts.new.items (closed self.old) (acts.old.items ++ at_open (λ k. act.Complete k) 0 self.old.core.outs) }
         ensures room { acts.new.room ≡ acts.old.room }
     {
-        self.completions(acts);
+        complete_open(self.outs.as_slice(), acts);
         self.live = false;
-    }
-
-    fn completions(&self, acts: &mut Acts)
-        requires few { length self.now.core.outs ≤ 16 }
-        requires room { length acts.old.items + length self.now.core.outs ≤ acts.old.room }
-        ensures { acts.new ≡ record acts.old { items = acts.old.items ++ at_open (λ k. act.Complete k) 0 self.now.core.outs } }
-    {
-        let outs = self.outs.as_slice();
-        for i in 0..outs.len() {
-            if outs[i] != Want::Gone {
-                acts.add(Act::Complete(i as u8));
-            }
-        }
     }
 
     fn fail(&mut self, cause: Cause, acts: &mut Acts)
@@ -353,21 +340,8 @@ impl Balancing {
         ensures does { Does self.new acts.new.items (closed self.old) (at_open (λ k. act.FailOut k cause) 0 self.old.core.outs) }
         ensures room { acts.new.room ≡ acts.old.room }
     {
-        self.failures(cause, acts);
+        fail_open(self.outs.as_slice(), cause, acts);
         self.live = false;
-    }
-
-    fn failures(&self, cause: Cause, acts: &mut Acts)
-        requires few { length self.now.core.outs ≤ 16 }
-        requires room { length acts.old.items + length self.now.core.outs ≤ acts.old.room }
-        ensures { acts.new ≡ record acts.old { items = acts.old.items ++ at_open (λ k. act.FailOut k cause) 0 self.now.core.outs } }
-    {
-        let outs = self.outs.as_slice();
-        for i in 0..outs.len() {
-            if outs[i] != Want::Gone {
-                acts.add(Act::FailOut(i as u8, cause));
-            }
-        }
     }
 
     // The output was cancelled, and leaves the queue: where it was the last, the input is cancelled.
@@ -393,7 +367,7 @@ impl Balancing {
         requires some { 1 ≤ self.old.core.open_outs }
         ensures { self.new ≡ without port self.old }
     {
-        self.outs[port as usize] = Want::Gone;
+        self.outs[port as usize] = OutputState::Gone;
         leave(&mut self.queue, port);
         self.open_outs -= 1;
     }

@@ -3,4 +3,3 @@
 
 pub mod balancing;
 pub mod laws;
-pub mod want;

@@ -1,3 +1,4 @@
 pub mod Seats
 pub mod OwnRows
 pub mod PortsLaws
+pub mod Outs

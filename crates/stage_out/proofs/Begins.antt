@@ -6,8 +6,9 @@ use Rattle.port_core.specs.declared.view.OutView.{OutView}
 use Rattle.port_core.specs.declared.view.OutView.TheVariants.{Unasked}
 use Rattle.stage_out.specs.Machines.{unasked_ports}
 use Rattle.port_core.specs.declared.view.InView.TheVariants.{Idle}
-use Rattle.stage_out.specs.declared.want.Want.TheVariants.{Quiet}
-use Rattle.stage_out.specs.Copies.{want_view, open_count, quiet_count, input_by}
+use Rattle.stage_fans.specs.declared.outs.OutputState.TheVariants.{Quiet}
+use Rattle.stage_fans.specs.Outs.{want_view, open_count}
+use Rattle.stage_out.specs.Copies.{quiet_count, input_by}
 use Rattle.stage_out.specs.PartitionStates as part
 use Rattle.stage_out.specs.CopyStates as copy
 

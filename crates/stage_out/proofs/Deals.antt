@@ -24,11 +24,12 @@ use Rattle.stream_model.specs.Linear.{Book}
 use Rattle.stage_law.specs.Held.{shut}
 use Rattle.stage_law.specs.Turn.{TurnAt}
 use Rattle.stage_law.specs.Outs.{TurnsAt}
-use Rattle.stage_out.specs.declared.want.Want.{Want}
-use Rattle.stage_out.specs.declared.want.Want.TheVariants.{Quiet, Asks, Gone}
-use Rattle.stage_out.specs.Copies.{want_view, open_count, at_open, AllClosed, OutsClosed}
-use Rattle.stage_out.specs.PartitionStates.{PartitionLogic, asks_count, input_of, view_of, Holding, Sound, row_by, row, kept, stage_of, state_of, due_of, held_of, dealers, dues, Turned, Parts, pull_by, waits_by, EndedFor, ends_now, ends_later, with_asks, Noted, pulls, rests, AskedOf, gets, notes, moved_by, moving_by, Dealt, given, keeps, drops, with_given, Served, dealt, blamed, blaming, struck, less_by, PassedOver, dropped, kept_on, Lost, last, others}
-use Rattle.stage_out.proofs.Wants.{same, other, want_set, is_quiet, is_open, quiet_lost, asked_lost, gone_views, after_one, Acted, given_one, acts_from, all_open, shut_views}
+use Rattle.stage_fans.specs.declared.outs.OutputState.{OutputState}
+use Rattle.stage_fans.specs.declared.outs.OutputState.TheVariants.{Quiet, Asks, Gone}
+use Rattle.stage_fans.specs.Outs.{want_view, open_count, at_open, AllClosed, OutsClosed, asks_count}
+use Rattle.stage_out.specs.PartitionStates.{PartitionLogic, input_of, view_of, Holding, Sound, row_by, row, kept, stage_of, state_of, due_of, held_of, dealers, dues, Turned, Parts, pull_by, waits_by, EndedFor, ends_now, ends_later, with_asks, Noted, pulls, rests, AskedOf, gets, notes, moved_by, moving_by, Dealt, given, keeps, drops, with_given, Served, dealt, blamed, blaming, struck, less_by, PassedOver, dropped, kept_on, Lost, last, others}
+use Rattle.stage_fans.proofs.Outs.{want_set, is_quiet, is_open, gone_views, after_one, shut_views}
+use Rattle.stage_out.proofs.Wants.{same, other, quiet_lost, asked_lost, Acted, given_one, acts_from, all_open}
 use Rattle.stage_out.proofs.Dues.{get_of, same_get, set_at, pull_given, open_given, mach, turns_each, is_gone, still, gone_here, out_here, last_here, ends_asked, ends_lost, deal_given, deal_kept, deal_other, deal_blamed, end_now, end_later, fail_now}
 
 -- ---- the row
@@ -80,10 +81,10 @@ in_zero true w zero h = absurd h
 in_zero false w zero h = (refl, refl)
 in_zero o w (suc i) h = absurd h
 
-complete_given : (outs : List Want) → Acted (record { ins = Over ∷ []; outs = map want_view outs }) (at_open (λ j. Complete j) 0 outs) (map (after_one Shut) outs)
+complete_given : (outs : List OutputState) → Acted (record { ins = Over ∷ []; outs = map want_view outs }) (at_open (λ j. Complete j) 0 outs) (map (after_one Shut) outs)
 complete_given outs = acts_from (λ j. Complete j) Shut IsOutOpen (λ v n p. p) (λ v n. refl) (λ n acts s. s) (Over ∷ []) outs 0 [] refl (all_open outs)
 
-fail_given : (c : Cause) (ins : List InView) (outs : List Want) → Acted (record { ins = ins; outs = map want_view outs }) (at_open (λ j. FailOut j c) 0 outs) (map (after_one Shut) outs)
+fail_given : (c : Cause) (ins : List InView) (outs : List OutputState) → Acted (record { ins = ins; outs = map want_view outs }) (at_open (λ j. FailOut j c) 0 outs) (map (after_one Shut) outs)
 fail_given c ins outs = acts_from (λ j. FailOut j c) Shut IsOutOpen (λ v n p. p) (λ v n. refl) (λ n acts s. s) ins outs 0 [] refl (all_open outs)
 
 abbrev shut_l : PartitionLogic → PartitionLogic
@@ -143,7 +144,7 @@ waits_some : (q : ℕ) → waits_by q ≡ true → 1 ≤ q
 waits_some zero e = cc
 waits_some (suc q) e = omega arith
 
-open_le : (ws : List Want) → open_count ws ≤ length ws
+open_le : (ws : List OutputState) → open_count ws ≤ length ws
 open_le [] = omega arith
 open_le (Quiet ∷ ws) = let r = open_le ws in omega (arith, r)
 open_le (Asks ∷ ws) = let r = open_le ws in omega (arith, r)
@@ -163,7 +164,7 @@ waits_zero old h o s n = record {
   gives = record {
     turns = λ book. rw h (turns_each book old (brings 0 item.Ended) [] (held_of old) (held_of (record old { over = true })) old.outs old.outs 0 refl (λ i m w v e p q.
         let x : w ≡ v = same_get old.outs i w v p q in
-        subst (λ (y : Want). TurnAt (mach book old m) m (brings 0 item.Ended) (held_of old m w) [] (held_of (record old { over = true }) m y)) x (rw o (end_later book old.parts old.fun old.node old.taken m (kept m old.to old.held) w))));
+        subst (λ (y : OutputState). TurnAt (mach book old m) m (brings 0 item.Ended) (held_of old m w) [] (held_of (record old { over = true }) m y)) x (rw o (end_later book old.parts old.fun old.node old.taken m (kept m old.to old.held) w))));
     node = refl;
     parts = refl;
     fun = refl;
@@ -184,13 +185,13 @@ finished old new acts i h m (ends_later n to_is acts_are) =
 
 -- ---- counts
 
-pub asks_le : (ws : List Want) → asks_count ws ≤ length ws
+pub asks_le : (ws : List OutputState) → asks_count ws ≤ length ws
 asks_le [] = omega arith
 asks_le (Quiet ∷ ws) = let r = asks_le ws in omega (arith, r)
 asks_le (Asks ∷ ws) = let r = asks_le ws in omega (arith, r)
 asks_le (Gone ∷ ws) = let r = asks_le ws in omega (arith, r)
 
-pub asks_some : (ws : List Want) (j : ℕ) → slice_index_or ws j Gone ≡ Asks → 1 ≤ asks_count ws
+pub asks_some : (ws : List OutputState) (j : ℕ) → slice_index_or ws j Gone ≡ Asks → 1 ≤ asks_count ws
 asks_some [] j h = cc
 asks_some (Quiet ∷ ws) zero h = cc
 asks_some (Asks ∷ ws) zero h = omega arith
@@ -199,7 +200,7 @@ asks_some (Quiet ∷ ws) (suc j) h = asks_some ws j h
 asks_some (Asks ∷ ws) (suc j) h = omega arith
 asks_some (Gone ∷ ws) (suc j) h = asks_some ws j h
 
-asks_set : (ws : List Want) (j : ℕ) → slice_get ws j ≡ Some Quiet → (asks_count (slice_set ws j Asks) ≡ suc (asks_count ws)) × (open_count (slice_set ws j Asks) ≡ open_count ws)
+asks_set : (ws : List OutputState) (j : ℕ) → slice_get ws j ≡ Some Quiet → (asks_count (slice_set ws j Asks) ≡ suc (asks_count ws)) × (open_count (slice_set ws j Asks) ≡ open_count ws)
 asks_set [] j h = cc
 asks_set (Quiet ∷ ws) zero h = (refl, refl)
 asks_set (Asks ∷ ws) zero h = cc
@@ -208,19 +209,19 @@ asks_set (Quiet ∷ ws) (suc j) h = let r = asks_set ws j h in (r.0, ap suc r.1)
 asks_set (Asks ∷ ws) (suc j) h = let r = asks_set ws j h in (ap suc r.0, ap suc r.1)
 asks_set (Gone ∷ ws) (suc j) h = asks_set ws j h
 
-get_other : (ws : List Want) (j i : ℕ) (x : Want) → j ≢ i → slice_get (slice_set ws j x) i ≡ slice_get ws i
+get_other : (ws : List OutputState) (j i : ℕ) (x : OutputState) → j ≢ i → slice_get (slice_set ws j x) i ≡ slice_get ws i
 get_other [] j i x n = refl
 get_other (y ∷ ws) zero zero x n = absurd (n refl)
 get_other (y ∷ ws) zero (suc i) x n = refl
 get_other (y ∷ ws) (suc j) zero x n = refl
 get_other (y ∷ ws) (suc j) (suc i) x n = get_other ws j i x (λ e. n (ap suc e))
 
-asked_at : (ws : List Want) (j : ℕ) → slice_get ws j ≡ Some Quiet → slice_index_or (slice_set (map want_view ws) j Asked) j Shut ≡ Asked
+asked_at : (ws : List OutputState) (j : ℕ) → slice_get ws j ≡ Some Quiet → slice_index_or (slice_set (map want_view ws) j Asked) j Shut ≡ Asked
 asked_at [] j h = cc
 asked_at (x ∷ ws) zero h = refl
 asked_at (x ∷ ws) (suc j) h = asked_at ws j h
 
-back_at : (ws : List Want) (j : ℕ) → slice_get ws j ≡ Some Quiet → slice_set (slice_set (map want_view ws) j Asked) j Unasked ≡ map want_view ws
+back_at : (ws : List OutputState) (j : ℕ) → slice_get ws j ≡ Some Quiet → slice_set (slice_set (map want_view ws) j Asked) j Unasked ≡ map want_view ws
 back_at [] j h = cc
 back_at (Quiet ∷ ws) zero h = refl
 back_at (Asks ∷ ws) zero h = cc
@@ -267,7 +268,7 @@ module _ (old : PartitionLogic) (j : ℕ) (h : old.live ≡ true) (sound : Sound
   noted_turns book acts b g = turns_each book old (asks j) acts (held_of old) (held_of (asks_to b)) old.outs (slice_set old.outs j Asks) 0 (length-set old.outs j Asks) (λ i m w v e p s.
       rw (g m) (still (mach book old m) m (asks j) (kept m old.to old.held) (state_of old.over (stage_of old m)) w v tt (alike i w v p (set_at old.outs j i Asks w v p s))))
     where
-      alike : (i : ℕ) (w v : Want) → slice_get old.outs i ≡ Some w → ((j ≡ i) × (v ≡ Asks)) ⊎ ((j ≢ i) × (v ≡ w)) → is_gone w ≡ is_gone v
+      alike : (i : ℕ) (w v : OutputState) → slice_get old.outs i ≡ Some w → ((j ≡ i) × (v ≡ Asks)) ⊎ ((j ≢ i) × (v ≡ w)) → is_gone w ≡ is_gone v
       alike i w v p (inl (e, a)) = let x : slice_get old.outs i ≡ Some Quiet = rw (← e) q in let y : w ≡ Quiet = same_get old.outs i w Quiet p x in rw (y, a) refl
       alike i w v p (inr (n, a)) = rw a refl
 
@@ -304,7 +305,7 @@ module _ (old : PartitionLogic) (j : ℕ) (h : old.live ≡ true) (sound : Sound
 
 -- ---- what is held goes out
 
-abbrev completes : ℕ → Want → List Item
+abbrev completes : ℕ → OutputState → List Item
 completes m w = given_one (λ i. Complete i) (λ i. item.Ended) (λ a n. refl) m w
 
 push_given : (j m : ℕ) (b : Bool) (t : Tree) (acts : List Act) → (j == m) ≡ b → given_on m (Push j t ∷ acts) ≡ (if b then item.Elem t ∷ [] else []) ++ given_on m acts
@@ -317,7 +318,7 @@ equal_by : (j m : ℕ) → (j == m) ≡ true → j ≡ m
 equal_by j m h = grind (arith, nat_tests)
 
 module _ (old : PartitionLogic) (j : ℕ) (t : Tree) (h : old.live ≡ true) (sound : Sound old) (q : slice_get old.outs j ≡ Some Quiet) (d : old.to ≡ j) (k : old.held ≡ Some t) where
-  quiet_there : (i m : ℕ) (w : Want) → 0 + i ≡ m → slice_get old.outs i ≡ Some w → (j == m) ≡ true → w ≡ Quiet
+  quiet_there : (i m : ℕ) (w : OutputState) → 0 + i ≡ m → slice_get old.outs i ≡ Some w → (j == m) ≡ true → w ≡ Quiet
   quiet_there i m w e p x = let y = equal_by j m x in let z : j ≡ i = omega (arith, e, y) in same_get old.outs i w Quiet p (rw (← z) q)
 
   abbrev more_to : PartitionLogic
@@ -349,11 +350,11 @@ module _ (old : PartitionLogic) (j : ℕ) (t : Tree) (h : old.live ≡ true) (so
         };
       }
     where
-      by_bool : (book : Book) (m : ℕ) (w : Want) (b : Bool) → (j == m) ≡ b → (b ≡ true → w ≡ Quiet) → TurnAt (mach book old m) m (asks j) (due_of (if b then t ∷ [] else []) (state_of old.over (stage_of old m)) w) ((if b then item.Elem t ∷ [] else []) ++ []) (due_of [] (state_of old.over (stage_of old m)) w)
+      by_bool : (book : Book) (m : ℕ) (w : OutputState) (b : Bool) → (j == m) ≡ b → (b ≡ true → w ≡ Quiet) → TurnAt (mach book old m) m (asks j) (due_of (if b then t ∷ [] else []) (state_of old.over (stage_of old m)) w) ((if b then item.Elem t ∷ [] else []) ++ []) (due_of [] (state_of old.over (stage_of old m)) w)
       by_bool book m w true e f = out_here (mach book old m) m j t (state_of old.over (stage_of old m)) w (f refl)
       by_bool book m w false e f = still (mach book old m) m (asks j) [] (state_of old.over (stage_of old m)) w w tt refl
 
-      one : (book : Book) (m : ℕ) (w : Want) → ((j == m) ≡ true → w ≡ Quiet) → TurnAt (mach book old m) m (asks j) (held_of old m w) (given_on m (Push j t ∷ pull_by old.asking)) (held_of more_to m w)
+      one : (book : Book) (m : ℕ) (w : OutputState) → ((j == m) ≡ true → w ≡ Quiet) → TurnAt (mach book old m) m (asks j) (held_of old m w) (given_on m (Push j t ∷ pull_by old.asking)) (held_of more_to m w)
       one book m w f =
           let g = kept_is old j m (j == m) t d k refl in
           let u : given_on m (Push j t ∷ pull_by old.asking) ≡ (if j == m then item.Elem t ∷ [] else []) ++ [] = push_given j m (j == m) t (pull_by old.asking) refl ∙ ap (λ (l : List Item). (if j == m then item.Elem t ∷ [] else []) ++ l) (pull_given old.asking m) in
@@ -382,11 +383,11 @@ module _ (old : PartitionLogic) (j : ℕ) (t : Tree) (h : old.live ≡ true) (so
         };
       }
     where
-      by_bool : (book : Book) (m : ℕ) (w : Want) (b : Bool) → (j == m) ≡ b → (b ≡ true → w ≡ Quiet) → TurnAt (mach book old m) m (asks j) (due_of (if b then t ∷ [] else []) done w) ((if b then item.Elem t ∷ [] else []) ++ completes m w) shut
+      by_bool : (book : Book) (m : ℕ) (w : OutputState) (b : Bool) → (j == m) ≡ b → (b ≡ true → w ≡ Quiet) → TurnAt (mach book old m) m (asks j) (due_of (if b then t ∷ [] else []) done w) ((if b then item.Elem t ∷ [] else []) ++ completes m w) shut
       by_bool book m w true e f = last_here (mach book old m) m j t w (f refl)
       by_bool book m w false e f = ends_asked (mach book old m) m j w
 
-      one : (book : Book) (i m : ℕ) (w : Want) → 0 + i ≡ m → slice_get old.outs i ≡ Some w → TurnAt (mach book old m) m (asks j) (held_of old m w) (given_on m last_acts) shut
+      one : (book : Book) (i m : ℕ) (w : OutputState) → 0 + i ≡ m → slice_get old.outs i ≡ Some w → TurnAt (mach book old m) m (asks j) (held_of old m w) (given_on m last_acts) shut
       one book i m w e p =
           let g = kept_is old j m (j == m) t d k refl in
           let u : given_on m last_acts ≡ (if j == m then item.Elem t ∷ [] else []) ++ completes m w =
@@ -419,7 +420,7 @@ lost_there l j h m =
     let f = found (cancels j) l h m in
     (there_by l j (is_open l.outs j f.may), (f.sound.few, (f.sound.some, some_asks l f.sound j)))
 
-asks_struck : (ws : List Want) (j : ℕ) → less_by (slice_index_or ws j Gone) (asks_count ws) ≡ asks_count (slice_set ws j Gone)
+asks_struck : (ws : List OutputState) (j : ℕ) → less_by (slice_index_or ws j Gone) (asks_count ws) ≡ asks_count (slice_set ws j Gone)
 asks_struck [] j = refl
 asks_struck (Quiet ∷ ws) zero = refl
 asks_struck (Asks ∷ ws) zero = omega arith
@@ -427,34 +428,34 @@ asks_struck (Gone ∷ ws) zero = refl
 asks_struck (Quiet ∷ ws) (suc j) = asks_struck ws j
 asks_struck (Asks ∷ ws) (suc j) = by_want (slice_index_or ws j Gone) (asks_some ws j) (asks_struck ws j)
   where
-    by_want : (w : Want) → (w ≡ Asks → 1 ≤ asks_count ws) → less_by w (asks_count ws) ≡ asks_count (slice_set ws j Gone) → less_by w (suc (asks_count ws)) ≡ suc (asks_count (slice_set ws j Gone))
+    by_want : (w : OutputState) → (w ≡ Asks → 1 ≤ asks_count ws) → less_by w (asks_count ws) ≡ asks_count (slice_set ws j Gone) → less_by w (suc (asks_count ws)) ≡ suc (asks_count (slice_set ws j Gone))
     by_want Quiet k e = ap suc e
     by_want Asks k e = let x = k refl in omega (arith, x, e)
     by_want Gone k e = ap suc e
 asks_struck (Gone ∷ ws) (suc j) = asks_struck ws j
 
-open_struck : (ws : List Want) (j : ℕ) → (slice_get ws j ≡ Some Quiet) ⊎ (slice_get ws j ≡ Some Asks) → open_count ws ≡ suc (open_count (slice_set ws j Gone))
+open_struck : (ws : List OutputState) (j : ℕ) → (slice_get ws j ≡ Some Quiet) ⊎ (slice_get ws j ≡ Some Asks) → open_count ws ≡ suc (open_count (slice_set ws j Gone))
 open_struck ws j (inl q) = (quiet_lost ws j q).1
 open_struck ws j (inr q) = (asked_lost ws j q).1
 
-all_gone : (ws : List Want) (i : ℕ) (v : Want) → open_count ws ≡ 0 → slice_get ws i ≡ Some v → v ≡ Gone
+all_gone : (ws : List OutputState) (i : ℕ) (v : OutputState) → open_count ws ≡ 0 → slice_get ws i ≡ Some v → v ≡ Gone
 all_gone [] i v e h = cc
 all_gone (Quiet ∷ ws) i v e h = absurd (omega (arith, e))
 all_gone (Asks ∷ ws) i v e h = absurd (omega (arith, e))
 all_gone (Gone ∷ ws) zero v e h = cc
 all_gone (Gone ∷ ws) (suc i) v e h = all_gone ws i v e h
 
-less_zero : (w : Want) (q : ℕ) → q ≡ 0 → less_by w q ≡ 0
+less_zero : (w : OutputState) (q : ℕ) → q ≡ 0 → less_by w q ≡ 0
 less_zero Quiet q e = e
 less_zero Asks q e = omega (arith, e)
 less_zero Gone q e = e
 
 module _ (old : PartitionLogic) (j : ℕ) (h : old.live ≡ true) (sound : Sound old) (was : (slice_get old.outs j ≡ Some Quiet) ⊎ (slice_get old.outs j ≡ Some Asks)) where
-  abbrev left : List Want
+  abbrev left : List OutputState
   left = slice_set old.outs j Gone
 
   -- what becomes of an output
-  fate : (i m : ℕ) (w v : Want) → 0 + i ≡ m → slice_get old.outs i ≡ Some w → slice_get left i ≡ Some v → ((j ≡ m) × (v ≡ Gone)) ⊎ ((j ≢ m) × (v ≡ w))
+  fate : (i m : ℕ) (w v : OutputState) → 0 + i ≡ m → slice_get old.outs i ≡ Some w → slice_get left i ≡ Some v → ((j ≡ m) × (v ≡ Gone)) ⊎ ((j ≢ m) × (v ≡ w))
   fate i m w v e p s = let z : i ≡ m = omega (arith, e) in subst (λ k. ((j ≡ k) × (v ≡ Gone)) ⊎ ((j ≢ k) × (v ≡ w))) z (set_at old.outs j i Gone w v p s)
 
   cancelled : (o w : Bool) (ys : List OutView) → OutsClosed ys → ActsAllowed (record { ins = input_of o w ∷ []; outs = ys }) (if o then [] else Cancel 0 ∷ []) × AllClosed (acted_all (record { ins = input_of o w ∷ []; outs = ys }) (if o then [] else Cancel 0 ∷ []))
@@ -488,7 +489,7 @@ module _ (old : PartitionLogic) (j : ℕ) (h : old.live ≡ true) (sound : Sound
         };
       }
     where
-      by_fate : (book : Book) (m : ℕ) (w v : Want) → v ≡ Gone → ((j ≡ m) × (v ≡ Gone)) ⊎ ((j ≢ m) × (v ≡ w)) → TurnAt (mach book old m) m (cancels j) (held_of old m w) [] shut
+      by_fate : (book : Book) (m : ℕ) (w v : OutputState) → v ≡ Gone → ((j ≡ m) × (v ≡ Gone)) ⊎ ((j ≢ m) × (v ≡ w)) → TurnAt (mach book old m) m (cancels j) (held_of old m w) [] shut
       by_fate book m w v g (inl (e, x)) = gone_here (mach book old m) m j (kept m old.to old.held) (state_of old.over (stage_of old m)) w e
       by_fate book m w v g (inr (n, x)) = let y : w ≡ Gone = sym x ∙ g in rw y (refl, refl)
 
@@ -505,7 +506,7 @@ module _ (old : PartitionLogic) (j : ℕ) (h : old.live ≡ true) (sound : Sound
       → TurnsAt 0 (cancels j) (dealers book old (held_of old) 0 old.outs) acts (dues (held_of (record (struck j old) { held = k; waits = b })) 0 left)
   lost_turns book acts k b g same_kept = turns_each book old (cancels j) acts (held_of old) (held_of (record (struck j old) { held = k; waits = b })) old.outs left 0 (length-set old.outs j Gone) (λ i m w v x p s. rw (g m) (by_fate m w v (fate i m w v x p s)))
     where
-      by_fate : (m : ℕ) (w v : Want) → ((j ≡ m) × (v ≡ Gone)) ⊎ ((j ≢ m) × (v ≡ w)) → TurnAt (mach book old m) m (cancels j) (held_of old m w) [] (due_of (kept m old.to k) (state_of old.over (stage_of old m)) v)
+      by_fate : (m : ℕ) (w v : OutputState) → ((j ≡ m) × (v ≡ Gone)) ⊎ ((j ≢ m) × (v ≡ w)) → TurnAt (mach book old m) m (cancels j) (held_of old m w) [] (due_of (kept m old.to k) (state_of old.over (stage_of old m)) v)
       by_fate m w v (inl (e, x)) = rw x (gone_here (mach book old m) m j (kept m old.to old.held) (state_of old.over (stage_of old m)) w e)
       by_fate m w v (inr (n, x)) = rw (x, ← same_kept m n) (still (mach book old m) m (cancels j) (kept m old.to old.held) (state_of old.over (stage_of old m)) w w (other j m (λ e. n e)) refl)
 
@@ -567,7 +568,7 @@ module _ (old : PartitionLogic) (j : ℕ) (h : old.live ≡ true) (sound : Sound
         };
       }
     where
-      by_fate : (book : Book) (m : ℕ) (w v : Want) → ((j ≡ m) × (v ≡ Gone)) ⊎ ((j ≢ m) × (v ≡ w)) → TurnAt (mach book old m) m (cancels j) (held_of old m w) (given_one (λ i. Complete i) (λ i. item.Ended) (λ a n. refl) m v) shut
+      by_fate : (book : Book) (m : ℕ) (w v : OutputState) → ((j ≡ m) × (v ≡ Gone)) ⊎ ((j ≢ m) × (v ≡ w)) → TurnAt (mach book old m) m (cancels j) (held_of old m w) (given_one (λ i. Complete i) (λ i. item.Ended) (λ a n. refl) m v) shut
       by_fate book m w v (inl (e, x)) = rw x (gone_here (mach book old m) m j (kept m old.to old.held) (state_of old.over (stage_of old m)) w e)
       by_fate book m w v (inr (n, x)) = rw (x, drop_kept t d k m n, o) (ends_lost (mach book old m) m j w (other j m (λ e. n e)))
 
@@ -589,19 +590,19 @@ lost old new acts j h m (others n p) =
 
 -- ---- an element
 
-view_asks : (ws : List Want) (p : ℕ) → slice_index_or ws p Gone ≡ Asks → slice_index_or (map want_view ws) p Shut ≡ Asked
+view_asks : (ws : List OutputState) (p : ℕ) → slice_index_or ws p Gone ≡ Asks → slice_index_or (map want_view ws) p Shut ≡ Asked
 view_asks [] p h = cc
 view_asks (Quiet ∷ ws) zero h = cc
 view_asks (Asks ∷ ws) zero h = refl
 view_asks (Gone ∷ ws) zero h = cc
 view_asks (x ∷ ws) (suc p) h = view_asks ws p h
 
-index_quiet : (ws : List Want) (p : ℕ) → slice_index_or ws p Gone ≡ Quiet → slice_get ws p ≡ Some Quiet
+index_quiet : (ws : List OutputState) (p : ℕ) → slice_index_or ws p Gone ≡ Quiet → slice_get ws p ≡ Some Quiet
 index_quiet [] p h = cc
 index_quiet (x ∷ ws) zero h = cc
 index_quiet (x ∷ ws) (suc p) h = index_quiet ws p h
 
-quiet_set : (ws : List Want) (p : ℕ) → slice_index_or ws p Gone ≡ Asks → (asks_count ws ≡ suc (asks_count (slice_set ws p Quiet))) × (open_count (slice_set ws p Quiet) ≡ open_count ws)
+quiet_set : (ws : List OutputState) (p : ℕ) → slice_index_or ws p Gone ≡ Asks → (asks_count ws ≡ suc (asks_count (slice_set ws p Quiet))) × (open_count (slice_set ws p Quiet) ≡ open_count ws)
 quiet_set [] p h = cc
 quiet_set (Quiet ∷ ws) zero h = cc
 quiet_set (Asks ∷ ws) zero h = (refl, refl)
@@ -632,7 +633,7 @@ module _ (old : PartitionLogic) (t : Tree) (h : old.live ≡ true) (sound : Soun
 
   module _ (p : ℕ) (is : part_of old.parts (map_value old.fun t) ≡ Ok p) where
     -- an output that gets nothing
-    other_turn : (book : Book) (m : ℕ) (w : Want) → (p == m) ≡ false → TurnAt (mach book old m) m call (held_of old m w) [] (due_of [] (going (stage_of one_on m)) w)
+    other_turn : (book : Book) (m : ℕ) (w : OutputState) → (p == m) ≡ false → TurnAt (mach book old m) m call (held_of old m w) [] (due_of [] (going (stage_of one_on m)) w)
     other_turn book m w e = rw (n, o) (deal_other book old.parts old.fun old.node old.taken m t p is e w)
 
     deal_gives : slice_index_or old.outs p Gone ≡ Asks → Handled call old (Push p t ∷ pull_by (old.asking - 1)) (with_given p one_on)
@@ -672,7 +673,7 @@ module _ (old : PartitionLogic) (t : Tree) (h : old.live ≡ true) (sound : Soun
         given_then : (m : ℕ) (b : Bool) → (p == m) ≡ b → given_on m (Push p t ∷ pull_by (old.asking - 1)) ≡ (if b then item.Elem t ∷ [] else []) ++ []
         given_then m b e = push_given p m b t (pull_by (old.asking - 1)) e ∙ ap (λ (l : List Item). (if b then item.Elem t ∷ [] else []) ++ l) (pull_given (old.asking - 1) m)
 
-        one : (book : Book) (i m : ℕ) (w v : Want) → 0 + i ≡ m → slice_get old.outs i ≡ Some w → ((p ≡ i) × (v ≡ Quiet)) ⊎ ((p ≢ i) × (v ≡ w))
+        one : (book : Book) (i m : ℕ) (w v : OutputState) → 0 + i ≡ m → slice_get old.outs i ≡ Some w → ((p ≡ i) × (v ≡ Quiet)) ⊎ ((p ≢ i) × (v ≡ w))
             → TurnAt (mach book old m) m call (held_of old m w) (given_on m (Push p t ∷ pull_by (old.asking - 1))) (held_of (with_given p one_on) m v)
         one book i m w v x g (inl (e, q)) =
             let z : (p == m) ≡ true = same p m (omega (arith, e, x)) in
@@ -704,7 +705,7 @@ module _ (old : PartitionLogic) (t : Tree) (h : old.live ≡ true) (sound : Soun
           };
         }
       where
-        by_bool : (book : Book) (m : ℕ) (w : Want) (b : Bool) → (p == m) ≡ b → (b ≡ true → w ≡ Quiet) → TurnAt (mach book old m) m call (held_of old m w) [] (held_of (record one_on { to = p; held = Some t; waits = false }) m w)
+        by_bool : (book : Book) (m : ℕ) (w : OutputState) (b : Bool) → (p == m) ≡ b → (b ≡ true → w ≡ Quiet) → TurnAt (mach book old m) m call (held_of old m w) [] (held_of (record one_on { to = p; held = Some t; waits = false }) m w)
         by_bool book m w true e f = rw (n, o, e) (deal_kept book old.parts old.fun old.node old.taken m t p is e w (f refl))
         by_bool book m w false e f = rw (n, o, e) (deal_other book old.parts old.fun old.node old.taken m t p is e w)
 
@@ -730,7 +731,7 @@ module _ (old : PartitionLogic) (t : Tree) (h : old.live ≡ true) (sound : Soun
           };
         }
       where
-        by_bool : (book : Book) (m : ℕ) (w : Want) (b : Bool) → (p == m) ≡ b → (b ≡ true → w ≡ Gone) → TurnAt (mach book old m) m call (held_of old m w) [] (held_of (record one_on { waits = waits_by old.asking }) m w)
+        by_bool : (book : Book) (m : ℕ) (w : OutputState) (b : Bool) → (p == m) ≡ b → (b ≡ true → w ≡ Gone) → TurnAt (mach book old m) m call (held_of old m w) [] (held_of (record one_on { waits = waits_by old.asking }) m w)
         by_bool book m w true e f = let g : w ≡ Gone = f refl in rw g (refl, refl)
         by_bool book m w false e f = rw (n, o) (deal_other book old.parts old.fun old.node old.taken m t p is e w)
 

@@ -17,23 +17,23 @@ use Rattle.stream_model.specs.Linear.{Book, Stage, numbering, linear}
 use Rattle.stage_law.specs.Held.{Held, shut}
 use Rattle.stage_law.specs.Turn.{TurnAt}
 use Rattle.stage_law.specs.Outs.{TurnsAt}
-use Rattle.stage_out.specs.declared.want.Want.{Want}
-use Rattle.stage_out.specs.declared.want.Want.TheVariants.{Quiet, Asks, Gone}
-use Rattle.stage_out.specs.Copies.{at_open}
+use Rattle.stage_fans.specs.declared.outs.OutputState.{OutputState}
+use Rattle.stage_fans.specs.declared.outs.OutputState.TheVariants.{Quiet, Asks, Gone}
+use Rattle.stage_fans.specs.Outs.{at_open}
 use Rattle.stage_out.specs.PartitionStates.{PartitionLogic, due_of, dealers, dues, pull_by}
 use Rattle.stage_out.proofs.Wants.{same, other, later, first, given_one, BringsNone}
 use Rattle.stage_out.proofs.Partitions.{given_here, held_here, counted_here, blamed_here, ends_here, end_waits, failure_drops}
 
-pub get_of : (ws : List Want) (i : ℕ) (w : Want) → slice_get ws i ≡ Some w → slice_index_or ws i Gone ≡ w
+pub get_of : (ws : List OutputState) (i : ℕ) (w : OutputState) → slice_get ws i ≡ Some w → slice_index_or ws i Gone ≡ w
 get_of [] i w h = cc
 get_of (x ∷ ws) zero w h = cc
 get_of (x ∷ ws) (suc i) w h = get_of ws i w h
 
-pub same_get : (ws : List Want) (i : ℕ) (w v : Want) → slice_get ws i ≡ Some w → slice_get ws i ≡ Some v → w ≡ v
+pub same_get : (ws : List OutputState) (i : ℕ) (w v : OutputState) → slice_get ws i ≡ Some w → slice_get ws i ≡ Some v → w ≡ v
 same_get ws i w v h k = sym (get_of ws i w h) ∙ get_of ws i v k
 
 -- one output of a list is another then
-pub set_at : (ws : List Want) (j i : ℕ) (x w v : Want) → slice_get ws i ≡ Some w → slice_get (slice_set ws j x) i ≡ Some v → ((j ≡ i) × (v ≡ x)) ⊎ ((j ≢ i) × (v ≡ w))
+pub set_at : (ws : List OutputState) (j i : ℕ) (x w v : OutputState) → slice_get ws i ≡ Some w → slice_get (slice_set ws j x) i ≡ Some v → ((j ≡ i) × (v ≡ x)) ⊎ ((j ≢ i) × (v ≡ w))
 set_at [] j i x w v h k = cc
 set_at (y ∷ ws) zero zero x w v h k = inl (refl, cc)
 set_at (y ∷ ws) zero (suc i) x w v h k = inr (λ e. absurd (omega (arith, e)), same_get ws i v w k h)
@@ -51,7 +51,7 @@ pull_given zero m = refl
 pull_given (suc q) m = let x : (suc q == 0) ≡ false = other (suc q) 0 (λ e. absurd (omega (arith, e))) in rw x refl
 
 module _ (act : ℕ → Act) (it : ℕ → Item) (gives : (k n : ℕ) → given_by k (act n) ≡ (if n == k then it n ∷ [] else [])) where
-  pub open_given : (ws : List Want) (n i m : ℕ) (w : Want) → n + i ≡ m → slice_get ws i ≡ Some w → given_on m (at_open act n ws) ≡ given_one act it gives m w
+  pub open_given : (ws : List OutputState) (n i m : ℕ) (w : OutputState) → n + i ≡ m → slice_get ws i ≡ Some w → given_on m (at_open act n ws) ≡ given_one act it gives m w
   open_given [] n i m w e h = cc
   open_given (y ∷ ws) n zero m w e h =
       let q : n ≡ m = omega (arith, e) in
@@ -65,8 +65,8 @@ module _ (book : Book) (l : PartitionLogic) where
   abbrev pub mach : ℕ → Machine Stage Tree
   mach m = linear book (numbering l.parts l.fun m)
 
-  pub turns_each : (call : Call) (acts : List Act) (h k : ℕ → Want → Held Stage) (ws vs : List Want) (n : ℕ) → length vs ≡ length ws
-      → ((i m : ℕ) (w v : Want) → n + i ≡ m → slice_get ws i ≡ Some w → slice_get vs i ≡ Some v → TurnAt (mach m) m call (h m w) (given_on m acts) (k m v)) → TurnsAt n call (dealers book l h n ws) acts (dues k n vs)
+  pub turns_each : (call : Call) (acts : List Act) (h k : ℕ → OutputState → Held Stage) (ws vs : List OutputState) (n : ℕ) → length vs ≡ length ws
+      → ((i m : ℕ) (w v : OutputState) → n + i ≡ m → slice_get ws i ≡ Some w → slice_get vs i ≡ Some v → TurnAt (mach m) m call (h m w) (given_on m acts) (k m v)) → TurnsAt n call (dealers book l h n ws) acts (dues k n vs)
   turns_each call acts h k [] [] n len one = tt
   turns_each call acts h k [] (v ∷ vs) n len one = absurd (omega (arith, len))
   turns_each call acts h k (w ∷ ws) [] n len one = absurd (omega (arith, len))
@@ -74,14 +74,14 @@ module _ (book : Book) (l : PartitionLogic) where
       (one 0 n w v (omega arith) refl refl, turns_each call acts h k ws vs (n + 1) (omega (arith, len)) (λ i m x y e p q. one (suc i) m x y (omega (arith, e)) p q))
 
 -- whether an output is gone
-abbrev pub is_gone : Want → Bool
+abbrev pub is_gone : OutputState → Bool
 is_gone Quiet = false
 is_gone Asks = false
 is_gone Gone = true
 
 module _ (M : Machine Stage Tree) (m : ℕ) where
   -- nothing comes, and nothing is given
-  pub still : (call : Call) (g : List Tree) (st : State Stage) (w v : Want) → BringsNone call m → is_gone w ≡ is_gone v → TurnAt M m call (due_of g st w) [] (due_of g st v)
+  pub still : (call : Call) (g : List Tree) (st : State Stage) (w v : OutputState) → BringsNone call m → is_gone w ≡ is_gone v → TurnAt M m call (due_of g st w) [] (due_of g st v)
   still starts g st Quiet Quiet b e = (refl, refl)
   still starts g st Quiet Asks b e = (refl, refl)
   still starts g st Asks Quiet b e = (refl, refl)
@@ -102,26 +102,26 @@ module _ (M : Machine Stage Tree) (m : ℕ) where
   still call g st Asks Gone b e = cc
 
   -- it is cancelled
-  pub gone_here : (j : ℕ) (g : List Tree) (st : State Stage) (w : Want) → j ≡ m → TurnAt M m (cancels j) (due_of g st w) [] shut
+  pub gone_here : (j : ℕ) (g : List Tree) (st : State Stage) (w : OutputState) → j ≡ m → TurnAt M m (cancels j) (due_of g st w) [] shut
   gone_here j g st Quiet e = let x : (j == m) ≡ true = same j m e in rw x (refl, refl)
   gone_here j g st Asks e = let x : (j == m) ≡ true = same j m e in rw x (refl, refl)
   gone_here j g st Gone e = (refl, refl)
 
   -- what is held goes out
-  pub out_here : (j : ℕ) (t : Tree) (st : State Stage) (w : Want) → w ≡ Quiet → TurnAt M m (asks j) (due_of (t ∷ []) st w) (item.Elem t ∷ []) (due_of [] st w)
+  pub out_here : (j : ℕ) (t : Tree) (st : State Stage) (w : OutputState) → w ≡ Quiet → TurnAt M m (asks j) (due_of (t ∷ []) st w) (item.Elem t ∷ []) (due_of [] st w)
   out_here j t st w e = rw e (refl, refl)
 
-  pub last_here : (j : ℕ) (t : Tree) (w : Want) → w ≡ Quiet → TurnAt M m (asks j) (due_of (t ∷ []) done w) (item.Elem t ∷ given_one (λ i. Complete i) (λ i. item.Ended) (λ k n. refl) m w) shut
+  pub last_here : (j : ℕ) (t : Tree) (w : OutputState) → w ≡ Quiet → TurnAt M m (asks j) (due_of (t ∷ []) done w) (item.Elem t ∷ given_one (λ i. Complete i) (λ i. item.Ended) (λ k n. refl) m w) shut
   last_here j t w e = rw e (refl, refl)
 
   -- it ends once another got what was held
-  pub ends_asked : (j : ℕ) (w : Want) → TurnAt M m (asks j) (due_of [] done w) (given_one (λ i. Complete i) (λ i. item.Ended) (λ k n. refl) m w) shut
+  pub ends_asked : (j : ℕ) (w : OutputState) → TurnAt M m (asks j) (due_of [] done w) (given_one (λ i. Complete i) (λ i. item.Ended) (λ k n. refl) m w) shut
   ends_asked j Quiet = (refl, refl)
   ends_asked j Asks = (refl, refl)
   ends_asked j Gone = (refl, refl)
 
   -- or once another, that something was held for, was cancelled
-  pub ends_lost : (j : ℕ) (w : Want) → (j == m) ≡ false → TurnAt M m (cancels j) (due_of [] done w) (given_one (λ i. Complete i) (λ i. item.Ended) (λ k n. refl) m w) shut
+  pub ends_lost : (j : ℕ) (w : OutputState) → (j == m) ≡ false → TurnAt M m (cancels j) (due_of [] done w) (given_one (λ i. Complete i) (λ i. item.Ended) (λ k n. refl) m w) shut
   ends_lost j Quiet e = rw e (refl, refl)
   ends_lost j Asks e = rw e (refl, refl)
   ends_lost j Gone e = (refl, refl)
@@ -134,34 +134,34 @@ module _ (book : Book) (n : ℕ) (f : MapFn) (node k m : ℕ) where
   M = linear book (numbering n f m)
 
   module _ (t : Tree) (p : ℕ) (is : part_of n (map_value f t) ≡ Ok p) where
-    pub deal_given : (p == m) ≡ true → (w : Want) → w ≡ Asks → TurnAt M m (brings 0 (item.Elem t)) (due_of [] (going (at_stage k)) w) (item.Elem t ∷ []) (due_of [] (going (at_stage (k + 1))) Quiet)
+    pub deal_given : (p == m) ≡ true → (w : OutputState) → w ≡ Asks → TurnAt M m (brings 0 (item.Elem t)) (due_of [] (going (at_stage k)) w) (item.Elem t ∷ []) (due_of [] (going (at_stage (k + 1))) Quiet)
     deal_given e w a = rw a (given_here book n f node m t p k is e)
 
-    pub deal_kept : (p == m) ≡ true → (w : Want) → w ≡ Quiet → TurnAt M m (brings 0 (item.Elem t)) (due_of [] (going (at_stage k)) w) [] (due_of (t ∷ []) (going (at_stage (k + 1))) w)
+    pub deal_kept : (p == m) ≡ true → (w : OutputState) → w ≡ Quiet → TurnAt M m (brings 0 (item.Elem t)) (due_of [] (going (at_stage k)) w) [] (due_of (t ∷ []) (going (at_stage (k + 1))) w)
     deal_kept e w a = rw a (held_here book n f node m t p k is e)
 
-    pub deal_other : (p == m) ≡ false → (w : Want) → TurnAt M m (brings 0 (item.Elem t)) (due_of [] (going (at_stage k)) w) [] (due_of [] (going (at_stage (k + 1))) w)
+    pub deal_other : (p == m) ≡ false → (w : OutputState) → TurnAt M m (brings 0 (item.Elem t)) (due_of [] (going (at_stage k)) w) [] (due_of [] (going (at_stage (k + 1))) w)
     deal_other e Quiet = counted_here book n f node m t p k is e
     deal_other e Asks = counted_here book n f node m t p k is e
     deal_other e Gone = (refl, refl)
 
-  pub deal_blamed : (t : Tree) (why : Why) → part_of n (map_value f t) ≡ Err why → (w : Want)
+  pub deal_blamed : (t : Tree) (why : Why) → part_of n (map_value f t) ≡ Err why → (w : OutputState)
       → TurnAt M m (brings 0 (item.Elem t)) (due_of [] (going (at_stage k)) w) (given_one (λ i. FailOut i (record { stage = node; nth = k + 1; why = why })) (λ i. item.Failed (record { stage = node; nth = k + 1; why = why })) (λ a b. refl) m w) shut
   deal_blamed t why is Quiet = blamed_here book n f node m t k why is
   deal_blamed t why is Asks = blamed_here book n f node m t k why is
   deal_blamed t why is Gone = (refl, refl)
 
-  pub end_now : (w : Want) → TurnAt M m (brings 0 item.Ended) (due_of [] (going (at_stage k)) w) (given_one (λ i. Complete i) (λ i. item.Ended) (λ a b. refl) m w) shut
+  pub end_now : (w : OutputState) → TurnAt M m (brings 0 item.Ended) (due_of [] (going (at_stage k)) w) (given_one (λ i. Complete i) (λ i. item.Ended) (λ a b. refl) m w) shut
   end_now Quiet = ends_here book n f node m k
   end_now Asks = ends_here book n f node m k
   end_now Gone = (refl, refl)
 
-  pub end_later : (h : List Tree) (w : Want) → TurnAt M m (brings 0 item.Ended) (due_of h (going (at_stage k)) w) [] (due_of h done w)
+  pub end_later : (h : List Tree) (w : OutputState) → TurnAt M m (brings 0 item.Ended) (due_of h (going (at_stage k)) w) [] (due_of h done w)
   end_later h Quiet = end_waits book n f node m h k
   end_later h Asks = end_waits book n f node m h k
   end_later h Gone = (refl, refl)
 
-  pub fail_now : (h : List Tree) (c : Cause) (w : Want) → TurnAt M m (brings 0 (item.Failed c)) (due_of h (going (at_stage k)) w) (given_one (λ i. FailOut i c) (λ i. item.Failed c) (λ a b. refl) m w) shut
+  pub fail_now : (h : List Tree) (c : Cause) (w : OutputState) → TurnAt M m (brings 0 (item.Failed c)) (due_of h (going (at_stage k)) w) (given_one (λ i. FailOut i c) (λ i. item.Failed c) (λ a b. refl) m w) shut
   fail_now h c Quiet = failure_drops book n f node m h k c
   fail_now h c Asks = failure_drops book n f node m h k c
   fail_now h c Gone = (refl, refl)

@@ -29,7 +29,7 @@ use Rattle.stage_law.proofs.Whole.{stage_stands}
 use Rattle.stage_law.proofs.OutTurns.{outs_call}
 use Rattle.stage_out.specs.declared.machines.OutMachines.{OutMachines}
 use Rattle.stage_out.specs.declared.machines.OutMachines.TheVariants.{Copies, Deals}
-use Rattle.stage_out.specs.Copies.{want_view}
+use Rattle.stage_fans.specs.Outs.{want_view}
 use Rattle.stage_out.specs.CopyStates.{part_by}
 use Rattle.stage_out.specs.CopyStates as copy
 use Rattle.stage_out.specs.PartitionStates.{then_of}

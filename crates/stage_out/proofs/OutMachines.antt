@@ -16,8 +16,8 @@ use Rattle.stream_model.specs.Outlook.{Outlook, End, Agrees}
 use Rattle.stream_model.proofs.Traces.{trace_output}
 use Rattle.stage_law.specs.Held.{Held}
 use Rattle.stage_law.specs.Outs.{TurnsAt, owe}
-use Rattle.stage_out.specs.declared.want.Want.{Want}
-use Rattle.stage_out.specs.declared.want.Want.TheVariants.{Quiet}
+use Rattle.stage_fans.specs.declared.outs.OutputState.{OutputState}
+use Rattle.stage_fans.specs.declared.outs.OutputState.TheVariants.{Quiet}
 use Rattle.stage_out.specs.declared.machines.OutMachines.{OutMachines}
 use Rattle.stage_out.specs.declared.machines.OutMachines.TheVariants.{Copies, Deals}
 use Rattle.stage_out.specs.Copies.{copying, nothing_owed, owed_by, outlets}
@@ -35,11 +35,11 @@ if_ok (Err e) f p = tt
 
 -- ---- a turn at each output
 
-pub copiers_are : (part : ℕ → Tree → Tree) (n : ℕ) (ws : List Want) → copiers part true n ws ≡ outlets part n no_stage ws
+pub copiers_are : (part : ℕ → Tree → Tree) (n : ℕ) (ws : List OutputState) → copiers part true n ws ≡ outlets part n no_stage ws
 copiers_are part n [] = refl
 copiers_are part n (w ∷ ws) = rw (copiers_are part (n + 1) ws) refl
 
-pub owe_copies : (part : ℕ → Tree → Tree) (a b : Bool) (n : ℕ) (ws vs : List Want) → length vs ≡ length ws → owe (copiers part a n ws) (copies.owed b no_stage vs) ≡ copiers part b n vs
+pub owe_copies : (part : ℕ → Tree → Tree) (a b : Bool) (n : ℕ) (ws vs : List OutputState) → length vs ≡ length ws → owe (copiers part a n ws) (copies.owed b no_stage vs) ≡ copiers part b n vs
 owe_copies part a true n [] [] e = refl
 owe_copies part a false n [] [] e = refl
 owe_copies part a b n [] (v ∷ vs) e = absurd (omega (arith, e))
@@ -47,23 +47,23 @@ owe_copies part a b n (w ∷ ws) [] e = absurd (omega (arith, e))
 owe_copies part a true n (w ∷ ws) (v ∷ vs) e = rw (owe_copies part a true (n + 1) ws vs (omega (arith, e))) refl
 owe_copies part a false n (w ∷ ws) (v ∷ vs) e = rw (owe_copies part a false (n + 1) ws vs (omega (arith, e))) refl
 
-pub owe_deals : (book : Book) (l : PartitionLogic) (h k : ℕ → Want → Held Stage) (n : ℕ) (ws vs : List Want) → length vs ≡ length ws → owe (dealers book l h n ws) (dues k n vs) ≡ dealers book l k n vs
+pub owe_deals : (book : Book) (l : PartitionLogic) (h k : ℕ → OutputState → Held Stage) (n : ℕ) (ws vs : List OutputState) → length vs ≡ length ws → owe (dealers book l h n ws) (dues k n vs) ≡ dealers book l k n vs
 owe_deals book l h k n [] [] e = refl
 owe_deals book l h k n [] (v ∷ vs) e = absurd (omega (arith, e))
 owe_deals book l h k n (w ∷ ws) [] e = absurd (omega (arith, e))
 owe_deals book l h k n (w ∷ ws) (v ∷ vs) e = rw (owe_deals book l h k (n + 1) ws vs (omega (arith, e))) refl
 
-same_dealers : (book : Book) (old new : PartitionLogic) (h : ℕ → Want → Held Stage) (n : ℕ) (ws : List Want) → new.node ≡ old.node → new.parts ≡ old.parts → new.fun ≡ old.fun → dealers book new h n ws ≡ dealers book old h n ws
+same_dealers : (book : Book) (old new : PartitionLogic) (h : ℕ → OutputState → Held Stage) (n : ℕ) (ws : List OutputState) → new.node ≡ old.node → new.parts ≡ old.parts → new.fun ≡ old.fun → dealers book new h n ws ≡ dealers book old h n ws
 same_dealers book old new h n [] a b c = refl
 same_dealers book old new h n (w ∷ ws) a b c = rw (same_dealers book old new h (n + 1) ws a b c, a, b, c) refl
 
-pub length-owed : (b : Bool) (ws : List Want) → length (copies.owed b no_stage ws) ≡ length ws
+pub length-owed : (b : Bool) (ws : List OutputState) → length (copies.owed b no_stage ws) ≡ length ws
 length-owed true [] = refl
 length-owed false [] = refl
 length-owed true (w ∷ ws) = ap suc (length-owed true ws)
 length-owed false (w ∷ ws) = ap suc (length-owed false ws)
 
-pub length-dues : (h : ℕ → Want → Held Stage) (n : ℕ) (ws : List Want) → length (dues h n ws) ≡ length ws
+pub length-dues : (h : ℕ → OutputState → Held Stage) (n : ℕ) (ws : List OutputState) → length (dues h n ws) ≡ length ws
 length-dues h n [] = refl
 length-dues h n (w ∷ ws) = ap suc (length-dues h (n + 1) ws)
 

@@ -20,15 +20,15 @@ use Rattle.stage_law.specs.Outs.{Outlet, OutsLaw}
 use Rattle.stage_law.specs.OwnPorts.{own_input}
 use Rattle.stage_core.specs.Handling.{most_acts}
 use Rattle.stage_fans.specs.Seats.{room_for}
-use Rattle.stage_out.specs.declared.want.Want.{Want}
-use Rattle.stage_out.specs.declared.want.Want.TheVariants.{Quiet, Asks, Gone}
+use Rattle.stage_fans.specs.declared.outs.OutputState.{OutputState}
+use Rattle.stage_fans.specs.declared.outs.OutputState.TheVariants.{Quiet, Asks, Gone}
 use Rattle.stage_out.specs.declared.machines.OutMachines.{OutMachines}
 use Rattle.stage_out.specs.declared.machines.OutMachines.TheVariants.{Copies, Deals}
 use Rattle.stage_out.specs.Copies as copies
-use Rattle.stage_out.specs.Copies.{want_view, open_count, OneInClosed, OutsClosed, AllClosed}
+use Rattle.stage_fans.specs.Outs.{want_view, open_count, OneInClosed, OutsClosed, AllClosed, asks_count}
 use Rattle.stage_out.specs.CopyStates.{CopyLogic, part_by}
 use Rattle.stage_out.specs.CopyStates as copy
-use Rattle.stage_out.specs.PartitionStates.{PartitionLogic, asks_count, input_of, view_of, Holding, Sound, dealers, then_of}
+use Rattle.stage_out.specs.PartitionStates.{PartitionLogic, input_of, view_of, Holding, Sound, dealers, then_of}
 use Rattle.stage_out.specs.PartitionStates as part
 use Rattle.stage_out.specs.Machines.{is_live, room_of, row, no_stage, copiers, outlets}
 use Rattle.stage_out.specs.OwnRows.{own_outs, Even, OutLists, OutRests}
@@ -53,7 +53,7 @@ listed (o ∷ os) n v took gave law =
     told_by g h t gs r zero k at = let z : n + 0 ≡ n = omega arith in let same : g ≡ k = cc in (h, rw (z, ← same) t)
     told_by g h t gs r (suc i) k at = let z : n + suc i ≡ n + 1 + i = omega arith in let x = r i k at in (x.0, rw z x.1)
 
-even_length : (ws : List Want) (l : List Tree) (gs : List (List Tree)) → Even ws l gs → length gs ≡ length ws
+even_length : (ws : List OutputState) (l : List Tree) (gs : List (List Tree)) → Even ws l gs → length gs ≡ length ws
 even_length [] l [] e = refl
 even_length [] l (g ∷ gs) e = absurd e
 even_length (Quiet ∷ ws) l [] e = absurd e
@@ -65,7 +65,7 @@ even_length (Gone ∷ ws) l (g ∷ gs) e = ap suc (even_length ws l gs e)
 
 -- ---- a partition
 
-unasked_there : (ws : List Want) (gs : List (List Tree)) (i : ℕ) → length gs ≡ length ws → slice_get ws i ≡ Some Quiet → SomeWire IsUnasked (own_outs (map want_view ws) gs)
+unasked_there : (ws : List OutputState) (gs : List (List Tree)) (i : ℕ) → length gs ≡ length ws → slice_get ws i ≡ Some Quiet → SomeWire IsUnasked (own_outs (map want_view ws) gs)
 unasked_there [] gs i e h = cc
 unasked_there (w ∷ ws) [] i e h = absurd (omega (arith, e))
 unasked_there (Quiet ∷ ws) (g ∷ gs) zero e h = inl (refl, refl)
@@ -74,7 +74,7 @@ unasked_there (Gone ∷ ws) (g ∷ gs) zero e h = cc
 unasked_there (w ∷ ws) (g ∷ gs) (suc i) e h = inr (unasked_there ws gs i (omega (arith, e)) h)
 
 -- where an output is open and none asks, some is unasked
-some_unasked : (ws : List Want) (gs : List (List Tree)) → length gs ≡ length ws → 1 ≤ open_count ws → asks_count ws ≡ 0 → SomeWire IsUnasked (own_outs (map want_view ws) gs)
+some_unasked : (ws : List OutputState) (gs : List (List Tree)) → length gs ≡ length ws → 1 ≤ open_count ws → asks_count ws ≡ 0 → SomeWire IsUnasked (own_outs (map want_view ws) gs)
 some_unasked [] gs e o q = absurd (omega (arith, o))
 some_unasked (w ∷ ws) [] e o q = absurd (omega (arith, e))
 some_unasked (Quiet ∷ ws) (g ∷ gs) e o q = inl (refl, refl)
@@ -100,11 +100,11 @@ deals_rest l v took gs r e = by_live l.live r
     by_live false r = inl (ins_shut v.ins took r.0, outs_shut v.outs gs r.1)
 
 -- ---- all kinds
-pub length-copiers : (part : ℕ → Tree → Tree) (live : Bool) (n : ℕ) (ws : List Want) → length (copiers part live n ws) ≡ length ws
+pub length-copiers : (part : ℕ → Tree → Tree) (live : Bool) (n : ℕ) (ws : List OutputState) → length (copiers part live n ws) ≡ length ws
 length-copiers part live n [] = refl
 length-copiers part live n (w ∷ ws) = ap suc (length-copiers part live (n + 1) ws)
 
-pub length-dealers : (book : Book) (l : PartitionLogic) (h : ℕ → Want → Held Stage) (n : ℕ) (ws : List Want) → length (dealers book l h n ws) ≡ length ws
+pub length-dealers : (book : Book) (l : PartitionLogic) (h : ℕ → OutputState → Held Stage) (n : ℕ) (ws : List OutputState) → length (dealers book l h n ws) ≡ length ws
 length-dealers book l h n [] = refl
 length-dealers book l h n (w ∷ ws) = ap suc (length-dealers book l h (n + 1) ws)
 

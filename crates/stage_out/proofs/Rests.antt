@@ -19,34 +19,35 @@ use Rattle.port_core.specs.View as port
 use Rattle.stream_picture.specs.View.{EachWire, SomeWire}
 use Rattle.stream_picture.specs.Rests.{IsShut, IsUnasked, AllOpenAsked, CopiesAll, CopiesSome, OneToMany, BroadcastRests}
 use Rattle.stage_law.specs.OwnPorts.{own_input}
-use Rattle.stage_out.specs.declared.want.Want.{Want}
-use Rattle.stage_out.specs.declared.want.Want.TheVariants.{Quiet, Asks, Gone}
-use Rattle.stage_out.specs.Copies.{copying, nothing_owed, owed_by, outlets, want_view, input_by, quiet_count, OneInClosed, OutsClosed}
+use Rattle.stage_fans.specs.declared.outs.OutputState.{OutputState}
+use Rattle.stage_fans.specs.declared.outs.OutputState.TheVariants.{Quiet, Asks, Gone}
+use Rattle.stage_fans.specs.Outs.{want_view, OneInClosed, OutsClosed}
+use Rattle.stage_out.specs.Copies.{copying, nothing_owed, owed_by, outlets, input_by, quiet_count}
 use Rattle.stage_out.specs.CopyStates.{CopyLogic, row_by, row}
 use Rattle.stage_out.specs.OwnRows.{own_ins, own_outs, Even, Outlists}
 
-all_asked : (ws : List Want) (gs : List (List Tree)) → quiet_count ws ≡ 0 → AllOpenAsked (own_outs (map want_view ws) gs)
+all_asked : (ws : List OutputState) (gs : List (List Tree)) → quiet_count ws ≡ 0 → AllOpenAsked (own_outs (map want_view ws) gs)
 all_asked [] gs h = tt
 all_asked (w ∷ ws) [] h = tt
 all_asked (Quiet ∷ ws) (g ∷ gs) h = absurd (omega (arith, h))
 all_asked (Asks ∷ ws) (g ∷ gs) h = (inr (refl, refl), all_asked ws gs h)
 all_asked (Gone ∷ ws) (g ∷ gs) h = (inl refl, all_asked ws gs h)
 
-copies_all : (x : InView) (ws : List Want) (l : List Tree) (gs : List (List Tree)) → Even ws l gs → CopiesAll (own_input x l) (own_outs (map want_view ws) gs)
+copies_all : (x : InView) (ws : List OutputState) (l : List Tree) (gs : List (List Tree)) → Even ws l gs → CopiesAll (own_input x l) (own_outs (map want_view ws) gs)
 copies_all x [] l gs e = tt
 copies_all x (w ∷ ws) l [] e = tt
 copies_all x (Quiet ∷ ws) l (g ∷ gs) e = (inr e.0, copies_all x ws l gs e.1)
 copies_all x (Asks ∷ ws) l (g ∷ gs) e = (inr e.0, copies_all x ws l gs e.1)
 copies_all x (Gone ∷ ws) l (g ∷ gs) e = (inl refl, copies_all x ws l gs e)
 
-copies_some : (x : InView) (ws : List Want) (l : List Tree) (gs : List (List Tree)) → Even ws l gs → CopiesSome (own_input x l) (own_outs (map want_view ws) gs)
+copies_some : (x : InView) (ws : List OutputState) (l : List Tree) (gs : List (List Tree)) → Even ws l gs → CopiesSome (own_input x l) (own_outs (map want_view ws) gs)
 copies_some x [] l gs e = tt
 copies_some x (w ∷ ws) l [] e = tt
 copies_some x (Quiet ∷ ws) l (g ∷ gs) e = (inr (omega (arith, e.0), inr e.0), copies_some x ws l gs e.1)
 copies_some x (Asks ∷ ws) l (g ∷ gs) e = (inr (omega (arith, e.0), inr e.0), copies_some x ws l gs e.1)
 copies_some x (Gone ∷ ws) l (g ∷ gs) e = (inl refl, copies_some x ws l gs e)
 
-some_unasked : (ws : List Want) (l : List Tree) (gs : List (List Tree)) → Even ws l gs → 1 ≤ quiet_count ws → SomeWire IsUnasked (own_outs (map want_view ws) gs)
+some_unasked : (ws : List OutputState) (l : List Tree) (gs : List (List Tree)) → Even ws l gs → 1 ≤ quiet_count ws → SomeWire IsUnasked (own_outs (map want_view ws) gs)
 some_unasked [] l gs e h = absurd (omega (arith, h))
 some_unasked (Quiet ∷ ws) l (g ∷ gs) e h = inl (refl, refl)
 some_unasked (Asks ∷ ws) l (g ∷ gs) e h = inr (some_unasked ws l gs e.1 h)
@@ -58,7 +59,7 @@ some_unasked (Gone ∷ ws) l [] e h = absurd e
 abbrev CopyRests : port.View → List Tree → List (List Tree) → Type 0
 CopyRests v l gs = (EachWire IsShut (own_ins v.ins l) × EachWire IsShut (own_outs v.outs gs)) ⊎ OneToMany BroadcastRests (own_ins v.ins l) (own_outs v.outs gs)
 
-open_rests : (q : ℕ) (ws : List Want) (l : List Tree) (gs : List (List Tree)) → q ≡ quiet_count ws → Even ws l gs → CopyRests (record { ins = input_by q ∷ []; outs = map want_view ws }) l gs
+open_rests : (q : ℕ) (ws : List OutputState) (l : List Tree) (gs : List (List Tree)) → q ≡ quiet_count ws → Even ws l gs → CopyRests (record { ins = input_by q ∷ []; outs = map want_view ws }) l gs
 open_rests zero ws l gs h e = inr (inl (all_asked ws gs (sym h), (refl, refl), copies_all Waiting ws l gs e))
 open_rests (suc q) ws l gs h e = inr (inr (some_unasked ws l gs e (omega (arith, h)), inr (refl, refl), copies_some Idle ws l gs e))
 
@@ -110,12 +111,12 @@ module _ (f : Tree → Tree) (s : Stage) where
       by_end (failed c) k = let x : broken c ≡ going s = ap (λ (y : Run Stage Tree). y.state) k in cc
 
 module _ (part : ℕ → Tree → Tree) (s : Stage) (v : port.View) (took : List Item) (l : List Tree) (e : End) (is : took ≡ told l e) where
-  even_one : (n : ℕ) (w : Want) (gave : List Item) → (law : Law (copying (part n)) (nothing_owed s) (owed_by s w) (port.in_at v 0) (port.out_at v n) took gave) → (ws : List Want) (gs : List (List Tree)) → Even ws l gs → Even (w ∷ ws) l (law.out_list ∷ gs)
+  even_one : (n : ℕ) (w : OutputState) (gave : List Item) → (law : Law (copying (part n)) (nothing_owed s) (owed_by s w) (port.in_at v 0) (port.out_at v n) took gave) → (ws : List OutputState) (gs : List (List Tree)) → Even ws l gs → Even (w ∷ ws) l (law.out_list ∷ gs)
   even_one n Quiet gave law ws gs r = let same : law.in_list ≡ l = told_lists law.in_list l law.in_end e (sym law.took_is ∙ is) in (gave_all (part n) s law.in_list law.in_end law.out_list law.keeps.1.0 ∙ ap length same, r)
   even_one n Asks gave law ws gs r = let same : law.in_list ≡ l = told_lists law.in_list l law.in_end e (sym law.took_is ∙ is) in (gave_all (part n) s law.in_list law.in_end law.out_list law.keeps.1.0 ∙ ap length same, r)
   even_one n Gone gave law ws gs r = r
 
-  pub outlists : (ws : List Want) (n : ℕ) (gave : ℕ → List Item) → OutsLaw n (outlets part n s ws) v took gave → Outlists ws n l gave
+  pub outlists : (ws : List OutputState) (n : ℕ) (gave : ℕ → List Item) → OutsLaw n (outlets part n s ws) v took gave → Outlists ws n l gave
   outlists [] n gave law = record { lists = []; even = tt; told_at = λ i g h. cc }
   outlists (w ∷ ws) n gave law =
       let r = outlists ws (n + 1) gave law.1 in

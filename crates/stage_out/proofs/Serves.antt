@@ -19,11 +19,13 @@ use Rattle.stream_model.specs.Linear.{Stage}
 use Rattle.stage_law.specs.Held.{shut}
 use Rattle.stage_law.specs.Turn.{none_lost, TurnAt}
 use Rattle.stage_law.specs.Outs.{TurnsAt}
-use Rattle.stage_out.specs.declared.want.Want.{Want}
-use Rattle.stage_out.specs.declared.want.Want.TheVariants.{Quiet, Asks, Gone}
-use Rattle.stage_out.specs.Copies.{copying, owed_by, owed, outlets, want_view, input_by, quiet_count, open_count, served_one, served, at_open, OutsClosed, AllClosed}
+use Rattle.stage_fans.specs.declared.outs.OutputState.{OutputState}
+use Rattle.stage_fans.specs.declared.outs.OutputState.TheVariants.{Quiet, Asks, Gone}
+use Rattle.stage_fans.specs.Outs.{want_view, open_count, at_open, OutsClosed, AllClosed}
+use Rattle.stage_out.specs.Copies.{copying, owed_by, owed, outlets, input_by, quiet_count, served_one, served}
 use Rattle.stage_out.specs.CopyStates.{CopyLogic, part_by, view_of, Sound, row_by, row, Turned, Does, without, Lost, last, unasked, wanted}
-use Rattle.stage_out.proofs.Wants.{other, after_one, want_set, is_quiet, is_open, asked_count, quiet_lost, asked_lost, served_quiet, served_open, Acted, acts_from, all_asked, all_open, served_views, shut_views, gone_views, given_one, turns_from, kept_turns, asked_turns, lost_turns, none_owed, map_same}
+use Rattle.stage_fans.proofs.Outs.{after_one, want_set, is_quiet, is_open, shut_views, gone_views}
+use Rattle.stage_out.proofs.Wants.{other, asked_count, quiet_lost, asked_lost, served_quiet, served_open, Acted, acts_from, all_asked, all_open, served_views, given_one, turns_from, kept_turns, asked_turns, lost_turns, none_owed, map_same}
 
 -- ---- the row
 
@@ -168,7 +170,7 @@ pushed_zero old t h sound q =
       };
     }
   where
-    push_at : (old : CopyLogic) (s : Stage) (n : ℕ) (w : Want) → TurnAt (copying (part_by old.halves n)) n (brings 0 (item.Elem t)) (owed_by s w) (given_one (λ j. Push j (part_by old.halves j t)) (λ j. item.Elem (part_by old.halves j t)) (λ k n. refl) n w) (owed_by s (served_one w))
+    push_at : (old : CopyLogic) (s : Stage) (n : ℕ) (w : OutputState) → TurnAt (copying (part_by old.halves n)) n (brings 0 (item.Elem t)) (owed_by s w) (given_one (λ j. Push j (part_by old.halves j t)) (λ j. item.Elem (part_by old.halves j t)) (λ k n. refl) n w) (owed_by s (served_one w))
     push_at old s n Quiet = ((refl, refl), none_lost refl)
     push_at old s n Asks = ((refl, refl), none_lost refl)
     push_at old s n Gone = (refl, refl)
@@ -199,7 +201,7 @@ ends_zero old h =
         row_then = subst (λ (v : View). AllClosed v) (sym a.then_is) (tt, shut_views old.outs);
       });
       gives = record {
-        turns = λ s. (subst (λ (ws : List Want). TurnsAt 0 (brings 0 item.Ended) (outlets (part_by old.halves) 0 s old.outs) (at_open (λ j. Complete j) 0 old.outs) (owed false s ws)) (map_same old.outs)
+        turns = λ s. (subst (λ (ws : List OutputState). TurnsAt 0 (brings 0 item.Ended) (outlets (part_by old.halves) 0 s old.outs) (at_open (λ j. Complete j) 0 old.outs) (owed false s ws)) (map_same old.outs)
             (turns_from (λ j. Complete j) (λ j. item.Ended) (λ k n. refl) (part_by old.halves) s (brings 0 item.Ended) false (λ w. w) (end_at old s) old.outs 0 (at_open (λ j. Complete j) 0 old.outs) (λ k l. refl)));
         halves = refl;
         outputs = refl;
@@ -207,7 +209,7 @@ ends_zero old h =
       };
     }
   where
-    end_at : (old : CopyLogic) (s : Stage) (n : ℕ) (w : Want) → TurnAt (copying (part_by old.halves n)) n (brings 0 item.Ended) (owed_by s w) (given_one (λ j. Complete j) (λ j. item.Ended) (λ k n. refl) n w) shut
+    end_at : (old : CopyLogic) (s : Stage) (n : ℕ) (w : OutputState) → TurnAt (copying (part_by old.halves n)) n (brings 0 item.Ended) (owed_by s w) (given_one (λ j. Complete j) (λ j. item.Ended) (λ k n. refl) n w) shut
     end_at old s n Quiet = inl (refl, refl)
     end_at old s n Asks = inl (refl, refl)
     end_at old s n Gone = (refl, refl)
@@ -228,7 +230,7 @@ fails_zero old c h =
         row_then = subst (λ (v : View). AllClosed v) (sym a.then_is) (tt, shut_views old.outs);
       });
       gives = record {
-        turns = λ s. (subst (λ (ws : List Want). TurnsAt 0 (brings 0 (item.Failed c)) (outlets (part_by old.halves) 0 s old.outs) (at_open (λ j. FailOut j c) 0 old.outs) (owed false s ws)) (map_same old.outs)
+        turns = λ s. (subst (λ (ws : List OutputState). TurnsAt 0 (brings 0 (item.Failed c)) (outlets (part_by old.halves) 0 s old.outs) (at_open (λ j. FailOut j c) 0 old.outs) (owed false s ws)) (map_same old.outs)
             (turns_from (λ j. FailOut j c) (λ j. item.Failed c) (λ k n. refl) (part_by old.halves) s (brings 0 (item.Failed c)) false (λ w. w) (fail_at old s) old.outs 0 (at_open (λ j. FailOut j c) 0 old.outs) (λ k l. refl)));
         halves = refl;
         outputs = refl;
@@ -236,7 +238,7 @@ fails_zero old c h =
       };
     }
   where
-    fail_at : (old : CopyLogic) (s : Stage) (n : ℕ) (w : Want) → TurnAt (copying (part_by old.halves n)) n (brings 0 (item.Failed c)) (owed_by s w) (given_one (λ j. FailOut j c) (λ j. item.Failed c) (λ k n. refl) n w) shut
+    fail_at : (old : CopyLogic) (s : Stage) (n : ℕ) (w : OutputState) → TurnAt (copying (part_by old.halves n)) n (brings 0 (item.Failed c)) (owed_by s w) (given_one (λ j. FailOut j c) (λ j. item.Failed c) (λ k n. refl) n w) shut
     fail_at old s n Quiet = inl (refl, refl)
     fail_at old s n Asks = inl (refl, refl)
     fail_at old s n Gone = (refl, refl)
@@ -259,7 +261,7 @@ lost_there l j h m =
     (there_by l j (is_open l.outs j f.may), (f.sound.some, λ q. quiet_some l j f.sound q))
 
 module _ (old : CopyLogic) (j : ℕ) (h : old.live ≡ true) (sound : Sound old) where
-  abbrev outs : List Want
+  abbrev outs : List OutputState
   outs = slice_set old.outs j Gone
 
   few_then : length outs ≤ 16

@@ -1,20 +1,16 @@
 -- Outputs that each get a part of every element.
-use Rattle.std.specs.Prelude.{ℕ, zero, suc, ◌+◌, Bool, true, false, List, [], ◌∷◌, map, Option, Some, None, ⊤}
+use Rattle.std.specs.Prelude.{ℕ, zero, suc, ◌+◌, Bool, true, false, List, [], ◌∷◌, map, Option, Some, None}
 use Rattle.elem_core.specs.Tree.{Tree}
 use Rattle.port_core.specs.declared.act.Act.{Act}
 use Rattle.port_core.specs.declared.act.Act.TheVariants.{Push}
 use Rattle.port_core.specs.declared.view.InView.{InView}
 use Rattle.port_core.specs.declared.view.InView.TheVariants.{Idle, Waiting}
-use Rattle.port_core.specs.declared.view.OutView.{OutView}
-use Rattle.port_core.specs.declared.view.OutView.TheVariants.{Unasked, Asked, Refused}
-use Rattle.port_core.specs.View.{View}
 use Rattle.stream_model.specs.Machine.{going, adds, Run, Machine}
 use Rattle.stream_model.specs.Linear.{Stage}
-use Rattle.stage_law.specs.Row.{InClosed, OutClosed}
 use Rattle.stage_law.specs.Held.{Held, owing, shut}
 use Rattle.stage_law.specs.Outs.{Outlet}
-use Rattle.stage_out.specs.declared.want.Want.{Want}
-use Rattle.stage_out.specs.declared.want.Want.TheVariants.{Quiet, Asks, Gone}
+use Rattle.stage_fans.specs.declared.outs.OutputState.{OutputState}
+use Rattle.stage_fans.specs.declared.outs.OutputState.TheVariants.{Quiet, Asks, Gone}
 
 -- a part of each element, as a machine
 abbrev pub copying : (Tree → Tree) → Machine Stage Tree
@@ -24,61 +20,42 @@ copying f = record { step = λ s t. record { gave = f t ∷ []; state = going s 
 abbrev pub nothing_owed : Stage → Run Stage Tree
 nothing_owed s = record { gave = []; state = going s }
 
-abbrev pub owed_by : Stage → Want → Held Stage
+abbrev pub owed_by : Stage → OutputState → Held Stage
 owed_by s Quiet = owing (nothing_owed s)
 owed_by s Asks = owing (nothing_owed s)
 owed_by s Gone = shut
 
 -- what each output owes, while the stage lasts and once it has closed all
-abbrev pub owed : Bool → Stage → List Want → List (Held Stage)
+abbrev pub owed : Bool → Stage → List OutputState → List (Held Stage)
 owed live s [] = []
 owed true s (w ∷ ws) = owed_by s w ∷ owed true s ws
 owed false s (w ∷ ws) = shut ∷ owed false s ws
 
 -- the outputs from number n on, with the part that each gets
-abbrev pub outlets : (ℕ → Tree → Tree) → ℕ → Stage → List Want → List (Outlet Stage)
+abbrev pub outlets : (ℕ → Tree → Tree) → ℕ → Stage → List OutputState → List (Outlet Stage)
 outlets part n s [] = []
 outlets part n s (w ∷ ws) = record { machine = copying (part n); start = nothing_owed s; held = owed_by s w } ∷ outlets part (n + 1) s ws
-
--- what is known of an output
-abbrev pub want_view : Want → OutView
-want_view Quiet = Unasked
-want_view Asks = Asked
-want_view Gone = Refused
 
 -- the input is asked where no open output is unasked
 abbrev pub input_by : ℕ → InView
 input_by zero = Waiting
 input_by (suc n) = Idle
 
--- how many outputs are open and unasked, and how many are open
-abbrev pub quiet_count : List Want → ℕ
+-- how many outputs are open and unasked
+abbrev pub quiet_count : List OutputState → ℕ
 quiet_count [] = 0
 quiet_count (Quiet ∷ ws) = suc (quiet_count ws)
 quiet_count (Asks ∷ ws) = quiet_count ws
 quiet_count (Gone ∷ ws) = quiet_count ws
 
-abbrev pub open_count : List Want → ℕ
-open_count [] = 0
-open_count (Quiet ∷ ws) = suc (open_count ws)
-open_count (Asks ∷ ws) = suc (open_count ws)
-open_count (Gone ∷ ws) = open_count ws
-
 -- once each open output got its part
-abbrev pub served_one : Want → Want
+abbrev pub served_one : OutputState → OutputState
 served_one Quiet = Quiet
 served_one Asks = Quiet
 served_one Gone = Gone
 
-abbrev pub served : List Want → List Want
+abbrev pub served : List OutputState → List OutputState
 served ws = map served_one ws
-
--- an action at each open output from number n on
-abbrev pub at_open : (ℕ → Act) → ℕ → List Want → List Act
-at_open act n [] = []
-at_open act n (Quiet ∷ ws) = act n ∷ at_open act (n + 1) ws
-at_open act n (Asks ∷ ws) = act n ∷ at_open act (n + 1) ws
-at_open act n (Gone ∷ ws) = at_open act (n + 1) ws
 
 -- a push of an element, at the output if there is one
 abbrev pub push_to : Option ℕ → Tree → List Act
@@ -86,19 +63,7 @@ push_to None t = []
 push_to (Some j) t = Push j t ∷ []
 
 -- the same at output j, where it is open
-abbrev pub push_where : Want → ℕ → Tree → List Act
+abbrev pub push_where : OutputState → ℕ → Tree → List Act
 push_where Quiet j t = Push j t ∷ []
 push_where Asks j t = Push j t ∷ []
 push_where Gone j t = []
-
--- all ports are closed
-abbrev pub OneInClosed : List InView → Type 0
-OneInClosed (x ∷ []) = InClosed x
-OneInClosed _ = ⊥
-
-abbrev pub OutsClosed : List OutView → Type 0
-OutsClosed [] = ⊤
-OutsClosed (y ∷ ys) = OutClosed y × OutsClosed ys
-
-abbrev pub AllClosed : View → Type 0
-AllClosed v = OneInClosed v.ins × OutsClosed v.outs

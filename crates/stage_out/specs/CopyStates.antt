@@ -9,15 +9,16 @@ use Rattle.port_core.specs.Asking.{AsksStand}
 use Rattle.port_core.specs.Call.{Call}
 use Rattle.stream_model.specs.Linear.{Stage}
 use Rattle.stage_law.specs.Outs.{TurnsAt}
-use Rattle.stage_out.specs.declared.want.Want.{Want}
-use Rattle.stage_out.specs.declared.want.Want.TheVariants.{Quiet, Gone}
-use Rattle.stage_out.specs.Copies.{owed, outlets, want_view, input_by, quiet_count, open_count, AllClosed}
+use Rattle.stage_fans.specs.declared.outs.OutputState.{OutputState}
+use Rattle.stage_fans.specs.declared.outs.OutputState.TheVariants.{Quiet, Gone}
+use Rattle.stage_fans.specs.Outs.{want_view, open_count, AllClosed}
+use Rattle.stage_out.specs.Copies.{owed, outlets, input_by, quiet_count}
 
 -- whether its ports are open; whether it takes pairs apart; its outputs; how many of them are open and unasked, and how many are open
 pub record CopyLogic : Type 0 where
   pub live : Bool
   pub halves : Bool
-  pub outs : List Want
+  pub outs : List OutputState
   pub quiet : ℕ
   pub open_outs : ℕ
 

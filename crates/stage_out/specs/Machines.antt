@@ -24,7 +24,7 @@ use Rattle.stream_picture.specs.Rests.{OneToMany, BroadcastRests, PartitionRests
 use Rattle.stage_law.specs.Held.{Held, owing, shut}
 use Rattle.stage_law.specs.Outs.{Outlet, TurnsAt, owe}
 use Rattle.stage_fans.specs.Seats.{room_for}
-use Rattle.stage_out.specs.declared.want.Want.{Want}
+use Rattle.stage_fans.specs.declared.outs.OutputState.{OutputState}
 use Rattle.stage_out.specs.declared.machines.OutMachines.{OutMachines}
 use Rattle.stage_out.specs.declared.machines.OutMachines.TheVariants.{Copies, Deals}
 use Rattle.stage_out.specs.Copies.{copying, nothing_owed, owed_by}
@@ -61,12 +61,12 @@ Turned call _ acts _ = ⊥
 abbrev pub no_stage : Stage
 no_stage = record { node = 0; decider = Stop; taken = 0; work = passing }
 
-abbrev owed_at : Bool → Want → Held Stage
+abbrev owed_at : Bool → OutputState → Held Stage
 owed_at true w = owed_by no_stage w
 owed_at false w = shut
 
 -- the outputs of a broadcast or an unzip from number n on: the machine of each, how it starts and what it owes
-abbrev pub copiers : (ℕ → Tree → Tree) → Bool → ℕ → List Want → List (Outlet Stage)
+abbrev pub copiers : (ℕ → Tree → Tree) → Bool → ℕ → List OutputState → List (Outlet Stage)
 copiers part live n [] = []
 copiers part live n (w ∷ ws) = record { machine = copying (part n); start = nothing_owed no_stage; held = owed_at live w } ∷ copiers part live (n + 1) ws
 

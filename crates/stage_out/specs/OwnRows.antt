@@ -10,10 +10,10 @@ use Rattle.stage_law.specs.Held.{told}
 use Rattle.stream_picture.specs.View.{View, EachWire}
 use Rattle.stream_picture.specs.Rests.{IsShut}
 use Rattle.stage_law.specs.OwnPorts.{own_input, own_output}
-use Rattle.stage_out.specs.declared.want.Want.{Want}
+use Rattle.stage_fans.specs.declared.outs.OutputState.{OutputState}
 use Rattle.stage_out.specs.declared.machines.OutMachines.{OutMachines}
 use Rattle.stage_out.specs.Machines.{rests_as}
-use Rattle.stage_out.specs.declared.want.Want.TheVariants.{Quiet, Asks, Gone}
+use Rattle.stage_fans.specs.declared.outs.OutputState.TheVariants.{Quiet, Asks, Gone}
 
 -- the one input, with what was taken, and the outputs, each with what was given there
 abbrev pub own_ins : List InView → List Tree → List View
@@ -25,7 +25,7 @@ own_outs (y ∷ ys) (g ∷ gs) = own_output y g ∷ own_outs ys gs
 own_outs _ _ = []
 
 -- each open output was given as many elements as were taken
-abbrev pub Even : List Want → List Tree → List (List Tree) → Type 0
+abbrev pub Even : List OutputState → List Tree → List (List Tree) → Type 0
 Even [] l [] = ⊤
 Even (Quiet ∷ ws) l (g ∷ gs) = (length g ≡ length l) × Even ws l gs
 Even (Asks ∷ ws) l (g ∷ gs) = (length g ≡ length l) × Even ws l gs
@@ -33,7 +33,7 @@ Even (Gone ∷ ws) l (g ∷ gs) = Even ws l gs
 Even _ l _ = ⊥
 
 -- the lists that were given at the open outputs from number n on, each as long as what was taken, and at the others
-pub record Outlists (ws : List Want) (n : ℕ) (l : List Tree) (gave : ℕ → List Item) : Type 0 where
+pub record Outlists (ws : List OutputState) (n : ℕ) (l : List Tree) (gave : ℕ → List Item) : Type 0 where
   pub lists : List (List Tree)
   pub even : Even ws l lists
   pub told_at : (i : ℕ) (g : List Tree) → slice_get lists i ≡ Some g → (h : End) × (gave (n + i) ≡ told g h)

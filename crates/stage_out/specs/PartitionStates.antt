@@ -1,5 +1,5 @@
 -- The state of a partition, its row, and what its handlers owe.
-use Rattle.std.specs.Prelude.{◌≡◌, ◌≢◌, ◌⊎◌, ℕ, suc, ◌+◌, ◌≤◌, ◌<◌, ◌-◌, ◌==◌, if◌then◌else◌, Bool, true, false, List, [], ◌∷◌, length, map, slice_get, slice_set, slice_index_or, Option, None, Some, Ok, Err, replicate}
+use Rattle.std.specs.Prelude.{◌≡◌, ◌≢◌, ◌⊎◌, ℕ, ◌+◌, ◌≤◌, ◌<◌, ◌-◌, ◌==◌, if◌then◌else◌, Bool, true, false, List, [], ◌∷◌, length, map, slice_get, slice_set, slice_index_or, Option, None, Some, Ok, Err, replicate}
 use Rattle.elem_core.specs.Tree.{Tree}
 use Rattle.elem_core.specs.Values.{map_value, part_of}
 use Rattle.elem_core.specs.declared.why.Cause.{Cause}
@@ -17,9 +17,9 @@ use Rattle.stream_model.specs.Machine.{State, going, done}
 use Rattle.stream_model.specs.Linear.{Book, Stage, numbering, linear, begin_work}
 use Rattle.stage_law.specs.Held.{Held, owing, shut}
 use Rattle.stage_law.specs.Outs.{Outlet, TurnsAt}
-use Rattle.stage_out.specs.declared.want.Want.{Want}
-use Rattle.stage_out.specs.declared.want.Want.TheVariants.{Quiet, Asks, Gone}
-use Rattle.stage_out.specs.Copies.{want_view, open_count, at_open, AllClosed}
+use Rattle.stage_fans.specs.declared.outs.OutputState.{OutputState}
+use Rattle.stage_fans.specs.declared.outs.OutputState.TheVariants.{Quiet, Asks, Gone}
+use Rattle.stage_fans.specs.Outs.{want_view, open_count, asks_count, at_open, AllClosed}
 
 -- Whether its ports are open; its number, its count of outputs and its function; its outputs, how many of them ask and how many are open;
 -- the output that it holds an element for, and the element; whether its input is asked, and has ended; how many elements it took.
@@ -28,7 +28,7 @@ pub record PartitionLogic : Type 0 where
   pub node : ℕ
   pub parts : ℕ
   pub fun : MapFn
-  pub outs : List Want
+  pub outs : List OutputState
   pub asking : ℕ
   pub open_outs : ℕ
   pub to : ℕ
@@ -36,13 +36,6 @@ pub record PartitionLogic : Type 0 where
   pub waits : Bool
   pub over : Bool
   pub taken : ℕ
-
--- how many outputs ask
-abbrev pub asks_count : List Want → ℕ
-asks_count [] = 0
-asks_count (Quiet ∷ ws) = asks_count ws
-asks_count (Asks ∷ ws) = suc (asks_count ws)
-asks_count (Gone ∷ ws) = asks_count ws
 
 abbrev pub input_of : Bool → Bool → InView
 input_of true w = Over
@@ -87,27 +80,27 @@ abbrev pub state_of : Bool → Stage → State Stage
 state_of true s = done
 state_of false s = going s
 
-abbrev pub due_of : List Tree → State Stage → Want → Held Stage
+abbrev pub due_of : List Tree → State Stage → OutputState → Held Stage
 due_of g st Quiet = owing (record { gave = g; state = st })
 due_of g st Asks = owing (record { gave = g; state = st })
 due_of g st Gone = shut
 
 -- what output m owes
-abbrev pub held_of : PartitionLogic → ℕ → Want → Held Stage
+abbrev pub held_of : PartitionLogic → ℕ → OutputState → Held Stage
 held_of l m w = due_of (kept m l.to l.held) (state_of l.over (stage_of l m)) w
 
 -- the same, and nothing once it has closed all
-abbrev pub then_of : Bool → PartitionLogic → ℕ → Want → Held Stage
+abbrev pub then_of : Bool → PartitionLogic → ℕ → OutputState → Held Stage
 then_of true l m w = held_of l m w
 then_of false l m w = shut
 
 -- the outputs from number n on
-abbrev pub dealers : Book → PartitionLogic → (ℕ → Want → Held Stage) → ℕ → List Want → List (Outlet Stage)
+abbrev pub dealers : Book → PartitionLogic → (ℕ → OutputState → Held Stage) → ℕ → List OutputState → List (Outlet Stage)
 dealers book l h n [] = []
 dealers book l h n (w ∷ ws) = record { machine = linear book (numbering l.parts l.fun n); start = begin_work l.node Stop (numbering l.parts l.fun n); held = h n w } ∷ dealers book l h (n + 1) ws
 
 -- what each owes
-abbrev pub dues : (ℕ → Want → Held Stage) → ℕ → List Want → List (Held Stage)
+abbrev pub dues : (ℕ → OutputState → Held Stage) → ℕ → List OutputState → List (Held Stage)
 dues h n [] = []
 dues h n (w ∷ ws) = h n w ∷ dues h (n + 1) ws
 
@@ -181,7 +174,7 @@ pub data EndedFor (old new : PartitionLogic) (acts : List Act) : Type 0 where
   ends_now : old.held ≡ None → new ≡ record old { live = false } → acts ≡ at_open (λ j. Complete j) 0 old.outs → EndedFor old new acts
   ends_later : old.held ≢ None → new ≡ record old { over = true } → acts ≡ [] → EndedFor old new acts
 
-abbrev pub less_by : Want → ℕ → ℕ
+abbrev pub less_by : OutputState → ℕ → ℕ
 less_by Quiet q = q
 less_by Asks q = q - 1
 less_by Gone q = q

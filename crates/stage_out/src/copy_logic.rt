@@ -3,17 +3,18 @@ ghost use Rattle.elem_core.specs.declared.item.Item.TheVariants as item;
 ghost use Rattle.port_core.specs.declared.act.Act.TheVariants as act;
 ghost use Rattle.port_core.specs.Call.{Obeys, Meets, starts, asks, brings, cancels};
 ghost use Rattle.stream_model.specs.declared.kind.TheConstants.{MAX_FAN};
-ghost use Rattle.stage_out.specs.declared.want.Want.TheVariants.{Quiet, Asks, Gone};
+ghost use Rattle.stage_fans.specs.declared.outs.OutputState.TheVariants.{Quiet, Asks, Gone};
 ghost use Rattle.elem_core.specs.Values.{left_half, right_half};
 ghost use Rattle.stage_fans.specs.Seats.{room_for};
-ghost use Rattle.stage_out.specs.Copies.{at_open, push_to, push_where, served, served_one};
+ghost use Rattle.stage_fans.specs.Outs.{at_open};
+ghost use Rattle.stage_out.specs.Copies.{push_to, push_where, served, served_one};
 ghost use Rattle.stage_out.specs.CopyStates.{row, Turned, Does, Lost, part_by, begun};
 
-use crate::want::{Want, quiet_outs};
 use elem_core::elem::{Elem, Form};
 use elem_core::why::{Cause, NoMemory};
 use port_core::act::Act;
 use port_core::acts::Acts;
+use stage_fans::outs::{OutputState, complete_open, fail_open, quiet_outs};
 use std::alloc::Global;
 use std::marker::Model;
 
@@ -24,7 +25,7 @@ use std::marker::Model;
 pub struct CopyLogic {
     live: bool,
     halves: bool,
-    outs: Vec<Want>,
+    outs: Vec<OutputState>,
     // Open outputs that nobody asks, and open outputs.
     quiet: u8,
     open_outs: u8,
@@ -163,7 +164,7 @@ impl CopyLogic {
         ensures does { Does self.new acts.new.items (record self.old { outs = slice_set self.old.outs port Asks; quiet = self.old.quiet - 1 }) (if self.old.quiet - 1 == 0 then act.Pull 0 ∷ [] else []) }
         ensures room { acts.new.room ≡ acts.old.room }
     {
-        self.outs[port as usize] = Want::Asks;
+        self.outs[port as usize] = OutputState::Asks;
         self.quiet -= 1;
         if self.quiet == 0 {
             acts.add(Act::Pull(0));
@@ -207,7 +208,7 @@ impl CopyLogic {
         let outs = self.outs.as_slice();
         let mut last: Option<u8> = None;
         for i in 0..outs.len() {
-            if outs[i] != Want::Gone {
+            if outs[i] != OutputState::Gone {
                 give_copy(alloc, last, &e, acts)?;
                 last = Some(i as u8);
             }
@@ -235,7 +236,7 @@ impl CopyLogic {
         requires room { length acts.old.items < acts.old.room }
         ensures acts { acts.new ≡ record acts.old { items = acts.old.items ++ push_where (slice_index_or self.now.outs port Gone) port value } }
     {
-        if self.outs[port as usize] != Want::Gone {
+        if self.outs[port as usize] != OutputState::Gone {
             acts.add(Act::Push(port, value));
         }
     }
@@ -247,21 +248,8 @@ impl CopyLogic {
         ensures does { Does self.new acts.new.items (record self.old { live = false }) (at_open (λ j. act.Complete j) 0 self.old.outs) }
         ensures room { acts.new.room ≡ acts.old.room }
     {
-        self.completions(acts);
+        complete_open(self.outs.as_slice(), acts);
         self.live = false;
-    }
-
-    fn completions(&self, acts: &mut Acts)
-        requires few { length self.now.outs ≤ 16 }
-        requires room { length acts.old.items + length self.now.outs ≤ acts.old.room }
-        ensures acts { acts.new ≡ record acts.old { items = acts.old.items ++ at_open (λ j. act.Complete j) 0 self.now.outs } }
-    {
-        let outs = self.outs.as_slice();
-        for i in 0..outs.len() {
-            if outs[i] != Want::Gone {
-                acts.add(Act::Complete(i as u8));
-            }
-        }
     }
 
     fn fail_all(&mut self, cause: Cause, acts: &mut Acts)
@@ -271,21 +259,8 @@ impl CopyLogic {
         ensures does { Does self.new acts.new.items (record self.old { live = false }) (at_open (λ j. act.FailOut j cause) 0 self.old.outs) }
         ensures room { acts.new.room ≡ acts.old.room }
     {
-        self.failures(cause, acts);
+        fail_open(self.outs.as_slice(), cause, acts);
         self.live = false;
-    }
-
-    fn failures(&self, cause: Cause, acts: &mut Acts)
-        requires few { length self.now.outs ≤ 16 }
-        requires room { length acts.old.items + length self.now.outs ≤ acts.old.room }
-        ensures acts { acts.new ≡ record acts.old { items = acts.old.items ++ at_open (λ j. act.FailOut j cause) 0 self.now.outs } }
-    {
-        let outs = self.outs.as_slice();
-        for i in 0..outs.len() {
-            if outs[i] != Want::Gone {
-                acts.add(Act::FailOut(i as u8, cause));
-            }
-        }
     }
 
     // The output was cancelled: where it was the last, so is the input; where it was the last that was not asked, the input is asked.
@@ -299,12 +274,12 @@ impl CopyLogic {
         ensures room { acts.new.room ≡ acts.old.room }
     {
         let was = self.outs[port as usize];
-        self.outs[port as usize] = Want::Gone;
+        self.outs[port as usize] = OutputState::Gone;
         self.open_outs -= 1;
         if self.open_outs == 0 {
             self.live = false;
             acts.add(Act::Cancel(0));
-        } else if was == Want::Quiet {
+        } else if was == OutputState::Quiet {
             self.quiet -= 1;
             if self.quiet == 0 {
                 acts.add(Act::Pull(0));
@@ -343,7 +318,7 @@ fn twice(alloc: Global, e: Elem) -> Result<(Elem, Elem), NoMemory>
 }
 
 // No open output is asked any more.
-fn settle(outs: &mut [Want])
+fn settle(outs: &mut [OutputState])
     ensures { outs.new ≡ served outs.old }
 {
     for i in 0..outs.len() {
@@ -351,11 +326,11 @@ fn settle(outs: &mut [Want])
     }
 }
 
-fn served_one(want: Want) -> Want
+fn served_one(want: OutputState) -> OutputState
     ensures { result ≡ served_one want }
 {
     match want {
-        Want::Gone => Want::Gone,
-        _ => Want::Quiet,
+        OutputState::Gone => OutputState::Gone,
+        _ => OutputState::Quiet,
     }
 }

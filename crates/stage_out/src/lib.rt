@@ -7,4 +7,3 @@ pub mod laws;
 pub mod logic;
 pub mod machines;
 pub mod partition_logic;
-pub mod want;

@@ -5,18 +5,18 @@ ghost use Rattle.elem_core.specs.declared.item.Item.TheVariants as item;
 ghost use Rattle.port_core.specs.declared.act.Act.TheVariants as act;
 ghost use Rattle.port_core.specs.Call.{Obeys, Meets, starts, asks, brings, cancels};
 ghost use Rattle.stream_model.specs.declared.kind.TheConstants.{MAX_FAN};
-ghost use Rattle.stage_out.specs.declared.want.Want.TheVariants.{Quiet, Asks, Gone};
+ghost use Rattle.stage_fans.specs.declared.outs.OutputState.TheVariants.{Quiet, Asks, Gone};
 ghost use Rattle.stage_fans.specs.Seats.{room_for};
-ghost use Rattle.stage_out.specs.Copies.{at_open};
+ghost use Rattle.stage_fans.specs.Outs.{at_open};
 ghost use Rattle.stage_out.specs.PartitionStates.{row, Turned, Parts, pull_by, waits_by, moved_by, moving_by, TookFor, Noted, AskedOf, Dealt, Served, EndedFor, struck, PassedOver, Lost, with_asks, with_given, blaming, begun};
 
-use crate::want::{Want, quiet_outs};
 use elem_core::count::one_more;
 use elem_core::elem::{Elem, Form};
 use elem_core::function::{FnEnd, MapFn};
 use elem_core::why::{Cause, NoMemory, Why};
 use port_core::act::Act;
 use port_core::acts::Acts;
+use stage_fans::outs::{OutputState, complete_open, fail_open, quiet_outs};
 use std::alloc::{AllocError, Global};
 use std::marker::Model;
 
@@ -29,7 +29,7 @@ pub struct PartitionLogic {
     node: u32,
     parts: u8,
     fun: MapFn,
-    outs: Vec<Want>,
+    outs: Vec<OutputState>,
     // Outputs that ask, and open outputs.
     asking: u8,
     open_outs: u8,
@@ -239,21 +239,8 @@ impl PartitionLogic {
         ensures stage { self.new ≡ record self.old { live = false } }
         ensures acts { acts.new ≡ record acts.old { items = acts.old.items ++ at_open (λ j. act.Complete j) 0 self.old.outs } }
     {
-        self.completions(acts);
+        complete_open(self.outs.as_slice(), acts);
         self.live = false;
-    }
-
-    fn completions(&self, acts: &mut Acts)
-        requires few { length self.now.outs ≤ 16 }
-        requires room { length acts.old.items + length self.now.outs ≤ acts.old.room }
-        ensures acts { acts.new ≡ record acts.old { items = acts.old.items ++ at_open (λ j. act.Complete j) 0 self.now.outs } }
-    {
-        let outs = self.outs.as_slice();
-        for i in 0..outs.len() {
-            if outs[i] != Want::Gone {
-                acts.add(Act::Complete(i as u8));
-            }
-        }
     }
 
     // The output asks, and nothing is held for it.
@@ -278,7 +265,7 @@ impl PartitionLogic {
         requires count { self.old.asking ≤ 16 }
         ensures stage { self.new ≡ with_asks port self.old }
     {
-        self.outs[port as usize] = Want::Asks;
+        self.outs[port as usize] = OutputState::Asks;
         self.asking += 1;
     }
 
@@ -333,13 +320,13 @@ impl PartitionLogic {
         }
     }
 
-    fn want_of(&self, port: u8) -> Want
+    fn want_of(&self, port: u8) -> OutputState
         ensures { result ≡ slice_index_or self.now.outs port Gone }
     {
         if (port as usize) < self.outs.len() {
             self.outs[port as usize]
         } else {
-            Want::Gone
+            OutputState::Gone
         }
     }
 
@@ -351,13 +338,13 @@ impl PartitionLogic {
         ensures room { acts.new.room ≡ acts.old.room }
     {
         match self.want_of(port) {
-            Want::Asks => {
+            OutputState::Asks => {
                 self.uncount(port);
                 acts.add(Act::Push(port, e));
                 self.go_on(acts);
             }
-            Want::Quiet => self.keep(port, e),
-            Want::Gone => self.go_on(acts),
+            OutputState::Quiet => self.keep(port, e),
+            OutputState::Gone => self.go_on(acts),
         }
     }
 
@@ -366,7 +353,7 @@ impl PartitionLogic {
         requires some { 1 ≤ self.old.asking }
         ensures stage { self.new ≡ record self.old { outs = slice_set self.old.outs port Quiet; asking = self.old.asking - 1 } }
     {
-        self.outs[port as usize] = Want::Quiet;
+        self.outs[port as usize] = OutputState::Quiet;
         self.asking -= 1;
     }
 
@@ -411,21 +398,8 @@ impl PartitionLogic {
         ensures stage { self.new ≡ record self.old { live = false } }
         ensures acts { acts.new ≡ record acts.old { items = acts.old.items ++ at_open (λ j. act.FailOut j cause) 0 self.old.outs } }
     {
-        self.failures(cause, acts);
+        fail_open(self.outs.as_slice(), cause, acts);
         self.live = false;
-    }
-
-    fn failures(&self, cause: Cause, acts: &mut Acts)
-        requires few { length self.now.outs ≤ 16 }
-        requires room { length acts.old.items + length self.now.outs ≤ acts.old.room }
-        ensures acts { acts.new ≡ record acts.old { items = acts.old.items ++ at_open (λ j. act.FailOut j cause) 0 self.now.outs } }
-    {
-        let outs = self.outs.as_slice();
-        for i in 0..outs.len() {
-            if outs[i] != Want::Gone {
-                acts.add(Act::FailOut(i as u8, cause));
-            }
-        }
     }
 
     // The input has ended: so does each output, now or once what is held went out.
@@ -477,10 +451,10 @@ impl PartitionLogic {
         requires asks { slice_index_or self.old.outs port Gone ≡ Asks → 1 ≤ self.old.asking }
         ensures stage { self.new ≡ struck port self.old }
     {
-        if self.want_of(port) == Want::Asks {
+        if self.want_of(port) == OutputState::Asks {
             self.asking -= 1;
         }
-        self.outs[port as usize] = Want::Gone;
+        self.outs[port as usize] = OutputState::Gone;
         self.open_outs -= 1;
     }
 

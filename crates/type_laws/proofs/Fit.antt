@@ -12,7 +12,8 @@ use Rattle.blue_rules.specs.declared.spot.Spot.TheVariants as at
 use Rattle.blue_check.specs.declared.fault.CheckFault.TheVariants.{NoSuchPort, PortTwice, NoSuchPlug, PlugTwice, BadSize, TooDeep}
 use Rattle.blue_check.specs.Fitness.{IsFit, name_at, open_fault, clash_fault, names_fault, ports_fault, plugs_fault, sizes_fault, types_fault}
 use Rattle.blue_check.specs.Wires.{blueprint_wires}
-use Rattle.type_laws.specs.Checked.{plain, plain_chain, PassesRules}
+use Rattle.materializer.specs.Graphs.{node_of, chain_of}
+use Rattle.type_laws.specs.Checked.{PassesRules}
 use Rattle.type_laws.proofs.Rules.{none_parts}
 
 none_mapped : {X F : Type 0} (f : X → F) (o : Option X) → option_map f o ≡ None → o ≡ None
@@ -40,7 +41,7 @@ groups b plugs taken fit =
     let four = none_parts (sizes_fault chains nodes b.wires.items) types three.1 in
     record { ports = two.0; handed = three.0; sizes = four.0; types = four.1 }
 
-pub fit_passes : (b : Blueprint) (plugs : List PlugHead) (taken : List (List ℕ)) (g : Graph) → IsFit b plugs taken → g.nodes ≡ map plain b.nodes.items → g.wires ≡ blueprint_wires b → g.chains ≡ map plain_chain b.chains.items
+pub fit_passes : (b : Blueprint) (plugs : List PlugHead) (taken : List (List ℕ)) (g : Graph) → IsFit b plugs taken → g.nodes ≡ map node_of b.nodes.items → g.wires ≡ blueprint_wires b → g.chains ≡ map chain_of b.chains.items
     → PassesRules plugs b.chains.items b.nodes.items g
 fit_passes b plugs taken g fit nodes_are wires_are chains_are =
     let nodes = b.nodes.items in

@@ -25,7 +25,8 @@ use Rattle.blue_core.specs.declared.blueprint.Node.{Node}
 use Rattle.plug_core.specs.declared.head.PlugHead.{PlugHead}
 use Rattle.blue_rules.specs.Rounds.{half_type, settled}
 use Rattle.blue_rules.specs.StageTypes.{source_type}
-use Rattle.type_laws.specs.Checked.{plain, PassesRules, wire_type}
+use Rattle.materializer.specs.Graphs.{node_of}
+use Rattle.type_laws.specs.Checked.{PassesRules, wire_type}
 use Rattle.type_laws.specs.Plugs.{KeepsPlugTypes}
 use Rattle.type_laws.specs.Sent.{exact, SendsItsType}
 use Rattle.type_laws.specs.Types.{AllTyped}
@@ -76,7 +77,7 @@ module _ (plugs : List PlugHead) (chains : List ChainDecl) (nodes : List Node) (
   }
 
   module _ (j : ℕ) (l : j < length g.wires) (below : (i : ℕ) → i < length g.wires → rank i < rank j → Passed i) (v : Wire) (at : slice_get g.wires j ≡ Some v) (n : Node) (is : slice_get nodes v.from ≡ Some n) where
-    in_graph : slice_get g.nodes v.from ≡ Some (plain n)
+    in_graph : slice_get g.nodes v.from ≡ Some (node_of n)
     in_graph = ap (λ (ns : List graph.Node). slice_get ns v.from) passes.nodes_are ∙ plain_at nodes v.from n is
 
     text_wire : (name : List ℕ) → n.kind ≡ Lines name → (t : Sort) → wire_type plugs chains nodes g v ≡ Some t → text_type ≡ t
@@ -88,7 +89,7 @@ module _ (plugs : List PlugHead) (chains : List ChainDecl) (nodes : List Node) (
 
     passed_by : ((name : List ℕ) × (n.kind ≡ Lines name)) ⊎ ((name : List ℕ) → n.kind ≢ Lines name) → Passed j
     passed_by (inl r) =
-        let s = texts j v (plain n) r.0 at in_graph r.1 in
+        let s = texts j v (node_of n) r.0 at in_graph r.1 in
         record {
           list = map text s.texts;
           end = s.end;
@@ -98,7 +99,7 @@ module _ (plugs : List PlugHead) (chains : List ChainDecl) (nodes : List Node) (
               retype_all text_type t (map text s.texts) (text_wire r.0 r.1 t (subst (λ y. wire_type plugs chains nodes g y ≡ Some t) same e)) (lines_typed s.texts);
         }
     passed_by (inr other) =
-        let a = gives as_sent j v (plain n) at in_graph other (λ u x ux to. as_agreed u (below u (slice_get-below g.wires u x ux) (ranked.rises u j x v ux at to))) in
+        let a = gives as_sent j v (node_of n) at in_graph other (λ u x ux to. as_agreed u (below u (slice_get-below g.wires u x ux) (ranked.rises u j x v ux at to))) in
         record {
           list = a.list;
           end = a.end;

@@ -29,7 +29,8 @@ use Rattle.blue_rules.specs.declared.want.Want.TheVariants.{Is, AnyPair}
 use Rattle.blue_rules.specs.FnTypes.{map_want, map_gives, pred_want, left_type, right_type}
 use Rattle.blue_rules.specs.Rounds.{half_type}
 use Rattle.blue_rules.specs.StageTypes.{source_type, stage_typed, parted, keyed, chain_typed, chain_named}
-use Rattle.type_laws.specs.Checked.{plain_step, plain_chain}
+use Rattle.materializer.specs.Graphs.{chain_of as declared_chain}
+use Rattle.line_chain.specs.Line.{step_of}
 use Rattle.type_laws.specs.Kinds.{joining, single, shape_of, is_known}
 use Rattle.type_laws.specs.Plugs.{KeepsPlugTypes}
 use Rattle.type_laws.specs.Types.{AllTyped, OutlooksTyped, Takes}
@@ -96,12 +97,12 @@ module _ (g : Graph) (w : World) (node : ℕ) (d : Decider) (is : List Outlook) 
 
   -- ---- a node with one input
 
-  module _ (plugs : List PlugHead) (chains : List ChainDecl) (keeps : KeepsPlugTypes plugs w.book) (chains_are : g.chains ≡ map plain_chain chains)
+  module _ (plugs : List PlugHead) (chains : List ChainDecl) (keeps : KeepsPlugTypes plugs w.book) (chains_are : g.chains ≡ map declared_chain chains)
       (steps : list_all (λ (c : ChainDecl). list_all (λ (s : Step). is_known plugs s.kind) c.steps.items) chains ≡ true) (t u : Sort) (h : AllTyped t (head_of is).list) where
     -- the chain of a node with substreams
     chain_at : (name : List ℕ) → chain_typed plugs (chain_named name chains) t ≡ Gives u → ChainTyped plugs t u (chain_of node (steps_of name g.chains))
     chain_at name e =
-        let are : steps_of name g.chains ≡ map plain_step (chain_named name chains) = ap (steps_of name) chains_are ∙ steps_are name chains in
+        let are : steps_of name g.chains ≡ map step_of (chain_named name chains) = ap (steps_of name) chains_are ∙ steps_are name chains in
         subst (λ ss. ChainTyped plugs t u (chain_of node ss)) (sym are) (chain_typed_by plugs node (chain_named name chains) t u (steps_known plugs name chains steps) e)
 
     merged : (o : Opening) (name : List ℕ) → chain_typed plugs (chain_named name chains) t ≡ Gives u → AllTyped u (merge_subs (through w.book (chain_of node (steps_of name g.chains))) node o (w.moves node) (head_of is)).list

@@ -1,11 +1,9 @@
 -- A graph whose nodes and wires passed the rules of the check, and what its wires carry.
-use Rattle.std.specs.Prelude.{◌≡◌, ℕ, List, map, slice_get, Option, Some, None, true, unwrap_or}
+use Rattle.std.specs.Prelude.{◌≡◌, ℕ, List, map, slice_get, Option, Some, None, true}
 use Rattle.std.specs.List.{list_all}
 use Rattle.elem_core.specs.Sort.{Sort}
 use Rattle.stream_model.specs.Composed.{composed}
 use Rattle.stream_model.specs.Graph.{Graph, Wire}
-use Rattle.stream_model.specs.Graph as graph
-use Rattle.stream_model.specs.Linear.{passing, work_of}
 use Rattle.stream_model.specs.Node.{World}
 use Rattle.blue_core.specs.declared.blueprint.ChainDecl.{ChainDecl}
 use Rattle.blue_core.specs.declared.blueprint.Node.{Node}
@@ -17,17 +15,7 @@ use Rattle.blue_rules.specs.Rounds.{settled, type_on, type_clash, too_deep}
 use Rattle.blue_rules.specs.Sizes.{node_wrong}
 use Rattle.type_laws.specs.Kinds.{is_known, function_want, chain_in, StepsTake}
 use Rattle.type_laws.specs.Types.{AllTyped, Takes}
-
--- a node without its name
-abbrev pub plain : Node → graph.Node
-plain n = record { kind = n.kind; decider = n.decider }
-
--- a step of a chain; one that is no stage passes what it takes
-abbrev pub plain_step : Step → graph.Step
-plain_step s = record { work = unwrap_or (work_of s.kind) passing; decider = s.decider }
-
-abbrev pub plain_chain : ChainDecl → graph.Chain
-plain_chain c = record { name = c.name; steps = map plain_step c.steps.items }
+use Rattle.materializer.specs.Graphs.{node_of, chain_of}
 
 -- a plug that a step of a chain names is handed in: so it is where the rule on plugs is not broken
 pub record HasKnownSteps (plugs : List PlugHead) (chains : List ChainDecl) : Type 0 where
@@ -36,8 +24,8 @@ pub record HasKnownSteps (plugs : List PlugHead) (chains : List ChainDecl) : Typ
 module _ (plugs : List PlugHead) (chains : List ChainDecl) (nodes : List Node) (g : Graph) where
   -- the graph has these nodes and chains, and no rule on plugs, ports, sizes of nodes or types is broken
   pub record PassesRules : Type 0 where
-    pub nodes_are : g.nodes ≡ map plain nodes
-    pub chains_are : g.chains ≡ map plain_chain chains
+    pub nodes_are : g.nodes ≡ map node_of nodes
+    pub chains_are : g.chains ≡ map chain_of chains
     pub no_unknown : unknown_plug plugs chains nodes ≡ None
     pub no_missing : port_missing nodes g.wires ≡ None
     pub no_twice : port_twice g.wires ≡ None

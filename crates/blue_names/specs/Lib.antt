@@ -3,3 +3,4 @@ pub mod Claims
 pub mod Links
 pub mod Wiring
 pub mod Outs
+pub mod Members

@@ -8,7 +8,8 @@ use Rattle.elem_core.specs.Sort.{Sort}
 use Rattle.stream_model.specs.Graph.{Wire}
 use Rattle.blue_rules.specs.First.{when}
 use Rattle.blue_types.specs.declared.news.Fixed.{Fixed}
-use Rattle.blue_types.specs.News.{AreNews, AreBelow, news_at, is_in}
+use Rattle.blue_names.specs.Members.{is_in}
+use Rattle.blue_types.specs.News.{AreNews, AreBelow, news_at}
 
 pub option_or_assoc : {X : Type 0} (a b c : Option X) → option_or (option_or a b) c ≡ option_or a (option_or b c)
 option_or_assoc None b c = refl

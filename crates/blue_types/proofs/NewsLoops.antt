@@ -8,7 +8,8 @@ use Rattle.elem_core.specs.Sort.{Sort}
 use Rattle.stream_model.specs.Graph.{Wire}
 use Rattle.blue_rules.specs.First.{when}
 use Rattle.blue_types.specs.declared.news.Fixed.{Fixed}
-use Rattle.blue_types.specs.News.{AreBelow, AreReached, news_at, is_in}
+use Rattle.blue_names.specs.Members.{is_in}
+use Rattle.blue_types.specs.News.{AreBelow, AreReached, news_at}
 use Rattle.blue_types.proofs.NewsLists.{news_at-push, option_or_assoc}
 
 pub AreBelow-at : (n : ℕ) (fs : List Fixed) (i : ℕ) (d : Fixed) → AreBelow n fs → i < length fs → (get_or fs i d).node < n

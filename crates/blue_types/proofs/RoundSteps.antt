@@ -11,7 +11,8 @@ use Rattle.blue_core.specs.declared.blueprint.ChainDecl.{ChainDecl}
 use Rattle.plug_core.specs.declared.head.PlugHead.{PlugHead}
 use Rattle.blue_rules.specs.Rounds.{attempt, attempt_at, arrivals, fixes, port_type, type_on, wire_into}
 use Rattle.blue_types.specs.declared.news.Fixed.{Fixed}
-use Rattle.blue_types.specs.News.{AreNews, AreReached, Rests, news_at, is_in}
+use Rattle.blue_names.specs.Members.{is_in}
+use Rattle.blue_types.specs.News.{AreNews, AreReached, Rests, news_at}
 use Rattle.blue_types.proofs.NewsLists.{option_or-none}
 
 -- a wire at a place that is counted from n, which leads to that node

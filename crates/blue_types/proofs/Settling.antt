@@ -13,7 +13,8 @@ use Rattle.blue_names.specs.Links.{wires_of_links}
 use Rattle.blue_types.specs.declared.library.Library.{Library}
 use Rattle.blue_types.specs.declared.net.Net.{Net}
 use Rattle.blue_types.specs.Net.{type_at}
-use Rattle.blue_types.specs.News.{Rests, is_in}
+use Rattle.blue_names.specs.Members.{is_in}
+use Rattle.blue_types.specs.News.{Rests}
 use Rattle.blue_types.specs.Would.{would}
 
 -- the types of the sources, as a list

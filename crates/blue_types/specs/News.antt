@@ -1,20 +1,16 @@
 -- What a round fixes.
-use Rattle.std.specs.Prelude.{◌≡◌, ℕ, ◌==◌, ◌<◌, Bool, true, false, is_some, if◌then◌else◌, List, [], ◌∷◌, length, slice_get, Option, Some, None}
-use Rattle.std.specs.List.{list_any}
+use Rattle.std.specs.Prelude.{◌≡◌, ℕ, ◌==◌, ◌<◌, true, false, is_some, if◌then◌else◌, List, [], ◌∷◌, length, slice_get, Option, Some, None}
 use Rattle.std.specs.Option.{option_or}
 use Rattle.elem_core.specs.Sort.{Sort}
 use Rattle.stream_model.specs.Graph.{Wire}
 use Rattle.blue_rules.specs.First.{when}
 use Rattle.blue_types.specs.declared.news.Fixed.{Fixed}
+use Rattle.blue_names.specs.Members.{is_in}
 
 -- the type that the first of these gives a node
 abbrev pub news_at : List Fixed → ℕ → Option Sort
 news_at [] i = None
 news_at (f ∷ fs) i = option_or (when (f.node == i) f.fixed) (news_at fs i)
-
--- the number is in the list
-abbrev pub is_in : ℕ → List ℕ → Bool
-is_in i ns = list_any (λ n. n == i) ns
 
 -- the news of the nodes of a list: of those without a type, what each would fix
 pub record AreNews (types fix : ℕ → Option Sort) (front : List ℕ) (news : List Fixed) : Type 0 where

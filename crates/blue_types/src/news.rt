@@ -7,7 +7,8 @@ ghost use Rattle.blue_rules.specs.First.{when};
 ghost use Rattle.blue_names.specs.Outs.{IsOuts};
 ghost use Rattle.blue_types.specs.Library.{IsKnown};
 ghost use Rattle.blue_types.specs.Net.{IsWired, type_at};
-ghost use Rattle.blue_types.specs.News.{AreNews, Rests, AreReached, AreBelow, news_at, is_in};
+ghost use Rattle.blue_names.specs.Members.{is_in};
+ghost use Rattle.blue_types.specs.News.{AreNews, Rests, AreReached, AreBelow, news_at};
 ghost use Rattle.blue_types.specs.Would.{would};
 
 use crate::attempts::fixes_at;

@@ -5,7 +5,7 @@ ghost use Rattle.blue_names.specs.Links.{wires_of_links};
 ghost use Rattle.blue_names.specs.Outs.{IsOuts};
 ghost use Rattle.blue_types.specs.Library.{IsKnown};
 ghost use Rattle.blue_types.specs.Net.{IsWired, type_at};
-ghost use Rattle.blue_types.specs.News.{is_in};
+ghost use Rattle.blue_names.specs.Members.{is_in};
 
 use crate::library::Library;
 use crate::net::Net;

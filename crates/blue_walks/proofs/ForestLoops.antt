@@ -7,7 +7,7 @@ use Rattle.stream_picture.specs.Shape.{Joins, Walk, stay, along, IsPolytree}
 use Rattle.blue_names.specs.declared.links.Link.{Link}
 use Rattle.blue_names.specs.Links.{AreInRange, wire_of_link, wires_of_links}
 use Rattle.blue_walks.specs.Forest.{wiring, Labels}
-use Rattle.blue_walks.specs.Marks.{is_in}
+use Rattle.blue_names.specs.Members.{is_in}
 use Rattle.blue_walks.specs.Classes.{IsRelabeled, AreJoined, AreListed}
 use Rattle.blue_walks.proofs.Joining.{row_in_range}
 use Rattle.std.specs.declared.vec.Vec.{Vec}

@@ -7,7 +7,7 @@ use Rattle.std.proofs.lemmas.Bool.{cases_eq, cases_Bool, eq-eqb, ne_eqb}
 use Rattle.std.proofs.lemmas.Grind.{common_steps}
 use Rattle.std.proofs.lemmas.List.{take_more, take_all}
 use Rattle.blue_names.specs.Outs.{row_at}
-use Rattle.blue_walks.specs.Marks.{is_in}
+use Rattle.blue_names.specs.Members.{is_in}
 use Rattle.blue_walks.specs.Classes.{AreListed, IsRelabeled}
 use Rattle.blue_walks.proofs.Reaching.{is_in-push, or_true}
 

@@ -9,7 +9,8 @@ use Rattle.std.proofs.lemmas.Map.Keys.{IsDistinct-push}
 use Rattle.std.proofs.lemmas.Map.Steps.{length-le_from_distinct_below}
 use Rattle.stream_model.specs.Graph.{Wire}
 use Rattle.blue_rules.specs.Paths.{Path, Leads, stay, along}
-use Rattle.blue_walks.specs.Marks.{Reaches, is_in, mark_at}
+use Rattle.blue_names.specs.Members.{is_in}
+use Rattle.blue_walks.specs.Marks.{Reaches, mark_at}
 
 -- marks after one more is set
 mark_at-set_same : (marks : List Bool) (i : ℕ) → i < length marks → mark_at (set marks i true) i ≡ true

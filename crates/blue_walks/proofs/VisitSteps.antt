@@ -11,7 +11,8 @@ use Rattle.blue_names.specs.declared.links.Link.{Link}
 use Rattle.blue_names.specs.Links.{AreInRange, wire_of_link, wires_of_links}
 use Rattle.blue_names.specs.Outs.{IsOuts, row_at}
 use Rattle.blue_rules.specs.Paths.{Path}
-use Rattle.blue_walks.specs.Marks.{Reaches, is_in}
+use Rattle.blue_names.specs.Members.{is_in}
+use Rattle.blue_walks.specs.Marks.{Reaches}
 use Rattle.blue_walks.specs.Visits.{Visits}
 use Rattle.blue_walks.proofs.Reaching.{is_in-push, is_in-at, path_on}
 

@@ -3,7 +3,7 @@ use Rattle.std.specs.Prelude.{◌≡◌, ℕ, ◌<◌, ◌==◌, ◌⊎◌, true
 use Rattle.std.specs.declared.vec.Vec.{Vec}
 use Rattle.std.specs.declared.alloc.Global.{Global}
 use Rattle.blue_names.specs.Outs.{row_at}
-use Rattle.blue_walks.specs.Marks.{is_in}
+use Rattle.blue_names.specs.Members.{is_in}
 
 -- each node stands in the list of its label
 pub record AreListed (labels : List ℕ) (rows : List (Vec ℕ Global)) : Type 0 where

@@ -1,12 +1,9 @@
 -- The nodes that a walk along wires has reached so far.
-use Rattle.std.specs.Prelude.{◌≡◌, ℕ, ◌<◌, ◌==◌, nat_eq, Bool, true, false, List, slice_get, Option, Some, None}
-use Rattle.std.specs.List.{list_any, IsDistinct}
+use Rattle.std.specs.Prelude.{◌≡◌, ℕ, ◌<◌, nat_eq, Bool, true, false, List, slice_get, Option, Some, None}
+use Rattle.std.specs.List.{IsDistinct}
 use Rattle.stream_model.specs.Graph.{Wire}
 use Rattle.blue_rules.specs.Paths.{Path}
-
--- the number is in the list
-abbrev pub is_in : ℕ → List ℕ → Bool
-is_in i ns = list_any (λ n. n == i) ns
+use Rattle.blue_names.specs.Members.{is_in}
 
 -- the mark of a node
 abbrev pub mark_in : Option Bool → Bool

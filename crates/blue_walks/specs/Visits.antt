@@ -3,7 +3,8 @@ use Rattle.std.specs.Prelude.{◌≡◌, ℕ, ◌≤◌, Bool, true, List, lengt
 use Rattle.std.proofs.Common.{take}
 use Rattle.stream_model.specs.Graph.{Wire}
 use Rattle.blue_rules.specs.Paths.{Path}
-use Rattle.blue_walks.specs.Marks.{Reaches, is_in}
+use Rattle.blue_names.specs.Members.{is_in}
+use Rattle.blue_walks.specs.Marks.{Reaches}
 
 -- the visits of the first wires of a row, from one list of nodes to another
 pub record Visits (ws : List Wire) (node count : ℕ) (marks marks' : List Bool) (order order' : List ℕ) (row : List ℕ) : Type 0 where

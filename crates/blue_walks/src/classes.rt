@@ -2,7 +2,7 @@
 ghost use Rattle.std.specs.Prelude.{◌≡◌, ◌<◌, ◌==◌, ℕ, IfOk, OnOk, true, slice_index, vec_len, if◌then◌else◌};
 ghost use Rattle.std.proofs.Common.{◌++◌};
 ghost use Rattle.blue_names.specs.Outs.{row_at};
-ghost use Rattle.blue_walks.specs.Marks.{is_in};
+ghost use Rattle.blue_names.specs.Members.{is_in};
 ghost use Rattle.blue_walks.specs.Classes.{AreListed, AreJoined, IsRelabeled};
 
 use blue_names::outs::row_of;

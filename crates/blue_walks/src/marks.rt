@@ -5,7 +5,8 @@ ghost use Rattle.stream_model.specs.Graph.{Wire};
 ghost use Rattle.blue_rules.specs.Paths.{Path};
 ghost use Rattle.blue_names.specs.Links.{AreInRange, wires_of_links};
 ghost use Rattle.blue_names.specs.Outs.{IsOuts};
-ghost use Rattle.blue_walks.specs.Marks.{Reaches, is_in, mark_at};
+ghost use Rattle.blue_names.specs.Members.{is_in};
+ghost use Rattle.blue_walks.specs.Marks.{Reaches, mark_at};
 ghost use Rattle.blue_walks.specs.Visits.{Visits};
 
 use blue_names::links::Link;

@@ -25,7 +25,7 @@ use Rattle.blue_core.specs.declared.blueprint.Blueprint.{Blueprint}
 use Rattle.blue_core.specs.declared.blueprint.Node.{Node}
 use Rattle.blue_lang.specs.Blueprints as language
 use Rattle.blue_lang.specs.Plain.{plain}
-use Rattle.blue_check.specs.Fitness.{IsFit, IsFirstFault}
+use Rattle.blue_check.specs.Fitness.{IsFit, IsFirstFault, name_in}
 use Rattle.blue_check.specs.declared.fault.CheckFault.{CheckFault}
 use Rattle.blue_check.specs.Wires.{blueprint_wires}
 use Rattle.blue_walks.specs.Forest.{wiring}
@@ -51,7 +51,7 @@ use Rattle.run_report.specs.Answer.{Answer}
 use Rattle.run_report.specs.declared.outcome.SinkEnd.{SinkEnd}
 use Rattle.run_report.specs.declared.outcome.Status.{Status}
 use Rattle.run_report.specs.declared.outcome.Status.TheVariants as status
-use Rattle.stream_top.specs.AfterRun.{AfterRun, ends_of, name_of, told_end, told_ends, is_ended, all_ended, some_failed, some_unended, some_fault, is_stalled, is_over}
+use Rattle.stream_top.specs.AfterRun.{AfterRun, ends_of, told_end, told_ends, is_ended, all_ended, some_failed, some_unended, some_fault, is_stalled, is_over}
 use Rattle.stream_top.specs.Asked.{Plugged, Asked}
 use Rattle.file_text.specs.Text.{text_limit, text_of_file, ReadsFile}
 use Rattle.stream_top.specs.Outcome.{taken_files, SaysFile, SaysFit, Blank, RanNothing, RanTo, FallsShort, SinksWrote, SomeCountRose, SomeWriteFailed, GaveUp, LacksInput, LacksOutput, IsAbsent, EndedRun, EndedBefore, Told, Causes, CausesBefore, QuietButAll, QuietAmong, RunCauses, SinksOf, MissesFile}
@@ -74,7 +74,7 @@ ends_by true all k n ns [] at later e = absurd cc
 ends_by true all k n ns (s ∷ ss) at later e =
     let place : s.0 ≡ k = cc in
     let rest : map (λ (x : Stand). x.0) ss ≡ sink_places (k + 1) ns = cc in
-    let name : name_of (slice_get all s.0) ≡ n.name = ap (λ (i : ℕ). name_of (slice_get all i)) place ∙ ap name_of at in
+    let name : name_in (slice_get all s.0) ≡ n.name = ap (λ (i : ℕ). name_in (slice_get all i)) place ∙ ap name_in at in
     ap (λ (x : List ℕ). record { name = x; count = s.1; end = s.2 } ∷ ends_of (map (λ (m : Node). m.name) (filter is_sink ns)) ss) (sym name)
     ∙ ap (λ (l : List SinkEnd). told_end all s ∷ l) (later ss rest)
 

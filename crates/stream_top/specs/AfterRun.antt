@@ -1,5 +1,5 @@
 -- What a run makes of the status, and what is told of it.
-use Rattle.std.specs.Prelude.{◌≡◌, ℕ, Bool, true, false, ◌||◌, nat_lt, if◌then◌else◌, List, [], ◌∷◌, map, slice_get, Option, Some, None}
+use Rattle.std.specs.Prelude.{◌≡◌, ℕ, Bool, true, false, ◌||◌, nat_lt, if◌then◌else◌, List, [], ◌∷◌, map, slice_get}
 use Rattle.std.specs.List.{list_any, list_all}
 use Rattle.stream_model.specs.declared.outcome.EndState.{EndState}
 use Rattle.stream_model.specs.declared.outcome.EndState.TheVariants as state
@@ -12,19 +12,15 @@ use Rattle.run_report.specs.declared.outcome.SinkEnd.{SinkEnd}
 use Rattle.run_report.specs.declared.outcome.Status.{Status}
 use Rattle.run_report.specs.declared.outcome.Status.TheVariants as status
 use Rattle.stream_top.specs.declared.answer.Outcome.{Outcome}
+use Rattle.blue_check.specs.Fitness.{name_in}
 
 -- the answer that an outcome is
 abbrev pub of_outcome : Outcome → Answer
 of_outcome o = record { status = o.status; sinks = o.sinks.items; wires = o.picture.wires.items; picks = map pick_of o.picks.items; used = o.used }
 
--- the name of a node
-abbrev pub name_of : Option Node → List ℕ
-name_of None = []
-name_of (Some n) = n.name
-
 -- what is told of a sink that stands so
 abbrev pub told_end : List Node → Stand → SinkEnd
-told_end nodes s = record { name = name_of (slice_get nodes s.0); count = s.1; end = s.2 }
+told_end nodes s = record { name = name_in (slice_get nodes s.0); count = s.1; end = s.2 }
 
 abbrev pub told_ends : List Node → List Stand → List SinkEnd
 told_ends nodes stands = map (told_end nodes) stands

@@ -2,7 +2,7 @@ use Rattle.std.proofs.Common.{◌≡◌, ℕ, true, take, Some}
 use Rattle.std.specs.Prelude.{slice_get}
 use Rattle.stream_model.specs.Graph.{Wire}
 use Rattle.blue_names.specs.Links.{wires_of_links}
-use Rattle.blue_types.specs.News.{is_in}
+use Rattle.blue_names.specs.Members.{is_in}
 use Rattle.blue_types.proofs.NewsLists.{Leads}
 use Rattle.blue_types.proofs.news.add_targets.Given as goal
 

@@ -1,5 +1,5 @@
 use Rattle.std.proofs.Common.{◌≡◌, ℕ, ◌<◌, true}
-use Rattle.blue_types.specs.News.{is_in}
+use Rattle.blue_names.specs.Members.{is_in}
 use Rattle.blue_types.proofs.rounds.all_below.Given as goal
 
 abbrev pub invariant-loop-i : goal.invariant-loop-i

@@ -6,9 +6,9 @@ use blue_core::blueprint::{Node, WireDecl};
 use blue_spell::kinds::{write_decider, write_kind};
 use elem_core::elem_type::ElemType;
 use elem_core::why::NoMemory;
-use itoa::Buffer;
 use std::alloc::Global;
 use traversal::plan::IslandPlan;
+use workbench_faults::message::put_number;
 use workbench_faults::place::{Place, Sort};
 
 /// A place that is at fault, and what is said of it.
@@ -24,11 +24,6 @@ fn blame_at<'a>(blamed: Option<Blamed<'a>>, sort: Sort, number: usize) -> Option
         Some(b) if b.place == Place::of(sort, number) => Some(b.fault),
         _ => None,
     }
-}
-
-fn put_number(out: &mut Vec<u8>, n: u64) -> Result<(), NoMemory> {
-    let mut buffer = Buffer::new();
-    out.extend_from_slice(buffer.format(n).as_bytes())
 }
 
 /// Appends bytes as they stand in a quoted text: `"` and `\` behind a `\`.

@@ -1,7 +1,6 @@
 // The blueprint of which a report tells, with its text.
 use blue_core::blueprint::{Blueprint, Node, WireDecl};
 use elem_core::why::NoMemory;
-use itoa::Buffer;
 use workbench_faults::message::put_source_line;
 use workbench_faults::place::{Place, Sort};
 use workbench_faults::source::line_of;
@@ -11,12 +10,6 @@ use workbench_faults::source::line_of;
 pub(crate) struct Scene<'a> {
     pub(crate) text: &'a [u8],
     pub(crate) blueprint: &'a Blueprint,
-}
-
-/// Appends a number.
-pub(crate) fn put_number(out: &mut Vec<u8>, n: u64) -> Result<(), NoMemory> {
-    let mut buffer = Buffer::new();
-    out.extend_from_slice(buffer.format(n).as_bytes())
 }
 
 /// Appends what is declared in a line of the text, in parentheses.

@@ -1,11 +1,12 @@
 // The line of a sink, in words.
 use crate::reasons::put_reason;
-use crate::scene::{Scene, put_node, put_number};
+use crate::scene::{Scene, put_node};
 use blue_names::claims::file_of;
 use blue_words::places::count_place;
 use blue_words::words::is_word;
 use elem_core::line::Line;
 use elem_core::why::NoMemory;
+use workbench_faults::message::put_number;
 
 /// Appends what a file holds, or that there is none.
 fn put_holds(

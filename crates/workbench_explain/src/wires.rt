@@ -1,9 +1,10 @@
 // The line of a wire, in words: how many elements passed, and which node waits for which.
-use crate::scene::{Scene, put_number};
+use crate::scene::Scene;
 use blue_core::blueprint::WireDecl;
 use blue_words::places::count_place;
 use blue_words::words::is_word;
 use elem_core::why::NoMemory;
+use workbench_faults::message::put_number;
 
 /// Appends a wire as `stage.output -> stage.input`.
 fn put_wire(out: &mut Vec<u8>, wire: &WireDecl) -> Result<(), NoMemory> {

@@ -21,7 +21,7 @@ use std::alloc::Global;
 const SHOWN: usize = 200;
 
 /// Appends a number in decimal.
-fn put_number(out: &mut Vec<u8>, n: u64) -> Result<(), NoMemory>
+pub fn put_number(out: &mut Vec<u8>, n: u64) -> Result<(), NoMemory>
     ensures { OnOk result (out.new.items ≡ out.old.items ++ decimal n) }
 {
     let mut buffer = Buffer::new();

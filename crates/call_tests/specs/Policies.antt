@@ -1,12 +1,8 @@
 -- What a stage with one input and one output knows of its ports.
 use Rattle.std.specs.Prelude.{[], ◌∷◌}
 use Rattle.port_core.specs.View.{View}
-use Rattle.port_core.specs.declared.view.InView.TheVariants.{Idle, Waiting}
+use Rattle.port_core.specs.declared.view.InView.TheVariants.{Waiting}
 use Rattle.port_core.specs.declared.view.OutView.TheVariants.{Unasked}
-
--- before its start: neither was asked
-abbrev pub new_ports : View
-new_ports = record { ins = Idle ∷ []; outs = Unasked ∷ [] }
 
 -- its input was asked, and its output was not
 abbrev pub waiting_ports : View

@@ -4,7 +4,8 @@ ghost use Rattle.std.specs.Prelude.{◌≡◌, ◌≤◌, [], ◌∷◌, true, I
 ghost use Rattle.elem_core.specs.Tree.{num};
 ghost use Rattle.port_core.specs.declared.act.Act.TheVariants as act;
 ghost use Rattle.stage_core.specs.Handling.{most_acts};
-ghost use Rattle.call_tests.specs.Policies.{new_ports, waiting_ports};
+ghost use Rattle.port_core.specs.View.{unpulled_ports};
+ghost use Rattle.call_tests.specs.Policies.{waiting_ports};
 
 use elem_core::elem::{Elem, Form};
 use elem_core::why::{Decider, NoMemory, Why};
@@ -44,7 +45,7 @@ fn number_given(acts: &mut Acts) -> Option<i64>
 
 // A stage is started, and asks.
 fn begins<S: Stage>(alloc: Global, stage: &mut S, acts: &mut Acts) -> Result<bool, NoMemory>
-    requires new { S.fresh stage.old new_ports }
+    requires new { S.fresh stage.old unpulled_ports }
     requires empty { acts.old.items ≡ [] }
     requires room { most_acts ≤ acts.old.room }
     ensures waits { IfOk result (λ on. on ≡ true → S.rests stage.new waiting_ports) }
@@ -93,7 +94,7 @@ fn gives<S: Stage>(
 
 // 1, 2 and 3 come.
 fn takes_three<S: Stage>(alloc: Global, stage: &mut S, acts: &mut Acts) -> Result<bool, NoMemory>
-    requires new { S.fresh stage.old new_ports }
+    requires new { S.fresh stage.old unpulled_ports }
     requires empty { acts.old.items ≡ [] }
     requires room { most_acts ≤ acts.old.room }
     ensures waits { IfOk result (λ on. on ≡ true → S.rests stage.new waiting_ports) }
@@ -119,7 +120,7 @@ fn gives_two<S: Stage>(
     second: i64,
     acts: &mut Acts,
 ) -> Result<bool, NoMemory>
-    requires new { S.fresh stage.old new_ports }
+    requires new { S.fresh stage.old unpulled_ports }
     requires empty { acts.old.items ≡ [] }
     requires room { most_acts ≤ acts.old.room }
     ensures waits { IfOk result (λ on. on ≡ true → S.rests stage.new waiting_ports) }
@@ -191,7 +192,7 @@ fn a_full_buffer_drops_all(rt: HostRuntime) -> Result<(), Fail> {
 
 // 1 and 2 come, and 3 finds no room: the buffer fails, blames it, and cancels.
 fn fails_at_three<S: Stage>(alloc: Global, stage: &mut S, acts: &mut Acts) -> Result<bool, NoMemory>
-    requires new { S.fresh stage.old new_ports }
+    requires new { S.fresh stage.old unpulled_ports }
     requires empty { acts.old.items ≡ [] }
     requires room { most_acts ≤ acts.old.room }
 {

@@ -9,7 +9,7 @@ use Rattle.elem_core.specs.declared.function.MapFn.{MapFn}
 use Rattle.elem_core.specs.declared.item.Item.{Item}
 use Rattle.elem_core.specs.declared.why.Decider.{Decider}
 use Rattle.port_core.specs.View as port
-use Rattle.port_core.specs.View.{in_at}
+use Rattle.port_core.specs.View.{in_at, unpulled_outs}
 use Rattle.port_core.specs.declared.view.InView.{InView}
 use Rattle.port_core.specs.declared.view.InView.TheVariants.{Idle, Waiting, Over, Left}
 use Rattle.port_core.specs.declared.view.OutView.{OutView}
@@ -38,7 +38,7 @@ use Rattle.stage_out.specs.Copies.{quiet_count, input_by}
 use Rattle.stage_out.specs.Copies as copies
 use Rattle.stage_out.specs.CopyStates.{CopyLogic, part_by}
 use Rattle.stage_out.specs.CopyStates as copy
-use Rattle.stage_out.specs.Machines.{row, outlets, owed, rests_as, Begins, IsMachines, IsAlike, no_stage, copiers, number_starts, unasked_ports, outputs_of}
+use Rattle.stage_out.specs.Machines.{row, outlets, owed, rests_as, Begins, IsMachines, IsAlike, no_stage, copiers, number_starts, outputs_of}
 use Rattle.stage_out.specs.MachineNodes.{MachinesLaw}
 use Rattle.stage_out.specs.OwnRows.{own_ins, own_outs}
 use Rattle.stage_out.specs.PartitionStates.{PartitionLogic, Holding, input_of, dues, held_of, then_of}
@@ -400,14 +400,14 @@ module _ (i : InPort) (os : List OutPort) (si : InStands i) (so : EachPort OutSt
 pub some_outputs : (k : ℕ) (kd : Kind) (first now : OutMachines) → IsMachines kd → Begins k kd first → length (owed now) ≡ length (owed first) → 1 ≤ length (owed now)
 some_outputs k kd first now ok b e = by kd ok b.ready
   where
-    some_at : (n : ℕ) → 2 ≤ n → row first (unasked_ports n) → 1 ≤ length (owed now)
+    some_at : (n : ℕ) → 2 ≤ n → row first (unpulled_outs n) → 1 ≤ length (owed now)
     some_at n two r =
-        let p = live_ports first (unasked_ports n) b.live r in
+        let p = live_ports first (unpulled_outs n) b.live r in
         let many : length (replicate n Unasked) ≡ length (owed first) = p.outs in
         let is = length-replicate n Unasked in
         omega (arith, many, is, two, e)
 
-    by : (kd : Kind) → IsMachines kd → row first (unasked_ports (outputs_of kd)) → 1 ≤ length (owed now)
+    by : (kd : Kind) → IsMachines kd → row first (unpulled_outs (outputs_of kd)) → 1 ≤ length (owed now)
     by (Broadcast n) ok r = some_at n ok.0 r
     by (Partition n f) ok r = some_at n ok.0 r
     by Unzip ok r = some_at 2 (omega arith) r

@@ -11,9 +11,8 @@ use Rattle.stage_state.specs.Handling.{StateFresh}
 use Rattle.line_chain.specs.Line.{line_rest, line_is_open}
 use Rattle.stage_sub.specs.Handling.{SubFresh}
 use Rattle.stage_in.specs.Logics.{InFresh}
-use Rattle.stage_in.specs.Logics as fan_in
 use Rattle.stage_out.specs.OutLogics.{OutFresh}
-use Rattle.stage_out.specs.Machines.{unasked_ports}
+use Rattle.port_core.specs.View.{unpulled_ins, unpulled_outs}
 use Rattle.nodes.specs.declared.node.Node.{Node}
 use Rattle.nodes.specs.declared.node.Node.TheVariants as node
 use Rattle.fused_net.specs.declared.net.Ends.{Ends}
@@ -92,8 +91,8 @@ IsUnused (Making k) = IsMaker k
 IsUnused (Linear l) = LinearFresh l (record { ins = Idle ∷ []; outs = Unasked ∷ [] })
 IsUnused (State l) = StateFresh l (record { ins = Idle ∷ []; outs = Unasked ∷ [] })
 IsUnused (Sub l) = SubFresh line_rest line_is_open l (record { ins = Idle ∷ []; outs = Unasked ∷ [] })
-IsUnused (FanIn l n) = InFresh l (fan_in.unasked_ports n)
-IsUnused (FanOut l n) = OutFresh l (unasked_ports n)
+IsUnused (FanIn l n) = InFresh l (unpulled_ins n)
+IsUnused (FanOut l n) = OutFresh l (unpulled_outs n)
 IsUnused (Writing k (Some d)) = IsFileSink k
 IsUnused (Writing k None) = k ≡ Ignore
 IsUnused (LaneIn u) = ⊤

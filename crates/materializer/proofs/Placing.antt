@@ -11,7 +11,7 @@ use Rattle.stage_state.specs.Logics.{IsStateful}
 use Rattle.stage_sub.specs.Handling.{IsSub}
 use Rattle.stage_in.specs.Logics.{IsFanIn}
 use Rattle.stage_in.specs.Logics as fan_in
-use Rattle.stage_out.specs.Machines.{unasked_ports}
+use Rattle.port_core.specs.View.{unpulled_ins, unpulled_outs}
 use Rattle.stage_out.specs.OutLogics.{OutFresh, IsOut}
 use Rattle.stage_out.specs.OutLogics as fan_out
 use Rattle.nodes.specs.Kinds.{IsMaker, IsFileSink}
@@ -154,11 +154,11 @@ module _ {S D L B : Type 0} where
   work_unused chains k n ss ds (work.FanIn l inputs) is =
       let b = is.begins in
       let same : fan_in.inputs_of n.kind ≡ inputs = sym (is.inputs_are ∙ (fan_in_ports n.kind is.is_in).0) in
-      record { fresh = b.fresh; row = subst (λ m. fan_in.row l (fan_in.unasked_ports m)) same b.ready }
+      record { fresh = b.fresh; row = subst (λ m. fan_in.row l (unpulled_ins m)) same b.ready }
   work_unused chains k n ss ds (work.FanOut l outputs) is =
       let b = is.begins in
       let same : fan_out.outputs_of n.kind ≡ outputs = sym (is.outputs_are ∙ (fan_out_ports n.kind is.is_out).1) in
-      subst (λ m. OutFresh l (unasked_ports m)) same b.fresh
+      subst (λ m. OutFresh l (unpulled_outs m)) same b.fresh
   work_unused chains k n ss ds (work.LaneIn u) is = absurd is
   work_unused chains k n ss ds (work.LaneOut u) is = absurd is
   work_unused chains k n ss ds (work.Writing shape (Some d)) is = subst IsFileSink (sym is.shape_is) is.is_sink

@@ -1,6 +1,6 @@
 -- The port rules as a stage sees them: what it knows of its ports, where it may do an action, and what it knows then.
 -- A stage has a list of inputs and a list of outputs, each numbered from 0. A closing by the other end counts once it came.
-use Rattle.std.specs.Prelude.{◌≡◌, ℕ, List, [], ◌∷◌, slice_index_or, slice_set, ⊤}
+use Rattle.std.specs.Prelude.{◌≡◌, ℕ, List, [], ◌∷◌, slice_index_or, slice_set, replicate, ⊤}
 use Rattle.port_core.specs.declared.act.Act.{Act}
 use Rattle.port_core.specs.declared.act.Act.TheVariants.{Pull, Push, Complete, FailOut, Cancel}
 use Rattle.port_core.specs.declared.view.InView.{InView}
@@ -20,6 +20,16 @@ in_at v i = slice_index_or v.ins i Left
 -- what it knows of output j
 abbrev pub out_at : View → ℕ → OutView
 out_at v j = slice_index_or v.outs j Shut
+
+-- nothing came to a port, and no pull: of a stage with one input and one output, with n inputs and one output, with one input and n outputs
+abbrev pub unpulled_ports : View
+unpulled_ports = record { ins = Idle ∷ []; outs = Unasked ∷ [] }
+
+abbrev pub unpulled_ins : ℕ → View
+unpulled_ins n = record { ins = replicate n Idle; outs = Unasked ∷ [] }
+
+abbrev pub unpulled_outs : ℕ → View
+unpulled_outs n = record { ins = Idle ∷ []; outs = replicate n Unasked }
 
 -- the input has neither ended nor been cancelled
 abbrev pub IsInOpen : InView → Type 0

@@ -14,7 +14,7 @@ use Rattle.port_core.specs.declared.view.InView.TheVariants.{Idle, Waiting, Over
 use Rattle.port_core.specs.declared.view.OutView.{OutView}
 use Rattle.port_core.specs.declared.view.OutView.TheVariants.{Unasked, Asked, Shut, Refused}
 use Rattle.port_core.specs.View as port
-use Rattle.port_core.specs.View.{View, in_at, out_at, IsOutOpen, ActsAllowed, acted, acted_all}
+use Rattle.port_core.specs.View.{View, in_at, out_at, IsOutOpen, ActsAllowed, acted, acted_all, unpulled_outs}
 use Rattle.port_core.specs.Call.{Call, starts, asks, brings, cancels, AllIdle, AllUnasked, MayCome, CallAllowed, seen, Obeys, brought_to, given_on}
 use Rattle.port_core.proofs.Views.{outs_stay}
 use Rattle.stream_model.specs.declared.kind.Kind.TheVariants.{Balance}
@@ -44,7 +44,7 @@ use Rattle.stage_fans.specs.declared.outs.OutputState.TheVariants.{Quiet, Asks, 
 use Rattle.stage_fans.specs.Outs.{want_view, open_count, asks_count, OneInClosed, OutsClosed, AllClosed}
 use Rattle.stage_balance.specs.Outs.{own_ins, own_outs}
 use Rattle.stage_balance.specs.Balances.{BalanceHeld, waits, shut, Handed, BalanceTurn, BalanceClose, BalanceTurnAt, BalanceKeeps, moves_of, BalanceLaw}
-use Rattle.stage_balance.specs.Balancings.{Core, Balancing, input_of, Queued, Holding, Sound, row_by, row, held_by, held, Turned, Begins, BalanceFresh, BalancesAs, unasked_ports, BalanceRestsOwn}
+use Rattle.stage_balance.specs.Balancings.{Core, Balancing, input_of, Queued, Holding, Sound, row_by, row, held_by, held, Turned, Begins, BalanceFresh, BalancesAs, BalanceRestsOwn}
 use Rattle.stage_balance.proofs.Balances.{balance_stands, joined_then, joined_end}
 
 -- ---- a call keeps the law
@@ -304,7 +304,7 @@ all_open (suc k) = ap suc (all_open k)
 abbrev begun : ℕ → Core
 begun k = record { live = true; outs = replicate k Quiet; queue = []; room = k; open_outs = k; waiting = None; over = false; pulled = false }
 
-pub new_may_start : (outputs : ℕ) (l : Balancing) → 2 ≤ outputs → outputs ≤ MAX_FAN → Begins outputs l → BalanceFresh l (unasked_ports outputs)
+pub new_may_start : (outputs : ℕ) (l : Balancing) → 2 ≤ outputs → outputs ≤ MAX_FAN → Begins outputs l → BalanceFresh l (unpulled_outs outputs)
 new_may_start k l two few b =
     let long = length-replicate k Quiet in
     let s : Sound (begun k) = record { queued = none_asks k; holds = (refl, λ x. absurd (omega (arith, x))); count = sym (all_open k); some = omega (arith, two); few = omega (arith, long, few); roomy = omega (arith, long) } in
@@ -312,7 +312,7 @@ new_may_start k l two few b =
       live = ap (λ (c : Core). c.live) b.core;
       unmoved = b.moves;
       empty = ap (λ (c : Core). c.waiting) b.core;
-      row = subst (λ (c : Core). row_by c.live c (unasked_ports k)) (sym b.core) (ap (λ (ys : List OutView). record { ins = Idle ∷ []; outs = ys }) (sym (quiet_views k)), s);
+      row = subst (λ (c : Core). row_by c.live c (unpulled_outs k)) (sym b.core) (ap (λ (ys : List OutView). record { ins = Idle ∷ []; outs = ys }) (sym (quiet_views k)), s);
     }
 
 -- ---- it rests

@@ -7,7 +7,6 @@ use Rattle.port_core.specs.declared.act.Act.{Act}
 use Rattle.port_core.specs.declared.act.Act.TheVariants.{Pull, Push, Complete, Cancel}
 use Rattle.port_core.specs.declared.view.InView.{InView}
 use Rattle.port_core.specs.declared.view.InView.TheVariants.{Idle, Waiting, Over}
-use Rattle.port_core.specs.declared.view.OutView.TheVariants.{Unasked}
 use Rattle.port_core.specs.View.{View}
 use Rattle.port_core.specs.Asking.{AsksStand}
 use Rattle.port_core.specs.Call.{Call, given_on}
@@ -191,10 +190,6 @@ pub record BalancesAs (first now : Balancing) (v : View) (took gave : List (List
   pub outputs : length gave ≡ length first.core.outs
   pub named : all_below (length v.outs) now.log.moves ≡ true
   pub law : BalanceLaw (held now) v taken (λ j. slice_index_or gave j [])
-
--- nobody asks, and the input was not asked
-abbrev pub unasked_ports : ℕ → View
-unasked_ports n = record { ins = Idle ∷ []; outs = replicate n Unasked }
 
 -- it has closed its ports, or has nothing to do, where it took l and gave these
 abbrev pub BalanceRestsOwn : View → List Tree → (ℕ → List Tree) → Type 0

@@ -5,7 +5,7 @@ ghost use Rattle.elem_core.specs.declared.item.Item.{Item};
 ghost use Rattle.elem_core.specs.declared.why.Cause.{Cause};
 ghost use Rattle.elem_core.specs.declared.why.Decider.{Decider};
 ghost use Rattle.port_core.specs.declared.act.Act.{Act};
-ghost use Rattle.port_core.specs.View.{View};
+ghost use Rattle.port_core.specs.View.{View, unpulled_outs};
 ghost use Rattle.port_core.specs.Call.{Call, starts, CallAllowed, Obeys};
 ghost use Rattle.stream_model.specs.declared.kind.Kind.TheVariants.{Balance};
 ghost use Rattle.stream_model.specs.declared.kind.TheConstants.{MAX_FAN};
@@ -17,7 +17,7 @@ ghost use Rattle.stream_model.specs.Picks.{balance_fits, sent_to, BalanceStands}
 ghost use Rattle.stage_core.specs.Handling.{Starts, Handles, most_acts};
 ghost use Rattle.stage_fans.specs.Seats.{room_for};
 ghost use Rattle.stage_balance.specs.Balances.{Handed};
-ghost use Rattle.stage_balance.specs.Balancings.{Balancing, Begins, Turned, row, BalanceFresh, BalancesAs, unasked_ports, BalanceRestsOwn};
+ghost use Rattle.stage_balance.specs.Balancings.{Balancing, Begins, Turned, row, BalanceFresh, BalancesAs, BalanceRestsOwn};
 
 /// A balance by its moves: for every rest of its input and every further list of moves, each output gets what it got and what
 /// the further moves give of what waits with the rest; moves on what waits are further moves; and each output stands as the
@@ -31,7 +31,7 @@ pub fn moves_give_for_every_rest()
 
 /// A new balance of 2 to `MAX_FAN` outputs may be started, made no move, and knows that no port was asked.
 pub fn a_new_balance_may_start()
-    ensures { (outputs : ℕ) (l : Balancing) → 2 ≤ outputs → outputs ≤ MAX_FAN → Begins outputs l → BalanceFresh l (unasked_ports outputs) }
+    ensures { (outputs : ℕ) (l : Balancing) → 2 ≤ outputs → outputs ≤ MAX_FAN → Begins outputs l → BalanceFresh l (unpulled_outs outputs) }
 {}
 
 /// Where its row and its law hold, a balance has closed all its ports, or has nothing to do.

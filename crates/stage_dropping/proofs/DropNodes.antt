@@ -9,7 +9,7 @@ use Rattle.port_core.specs.declared.view.InView.{InView}
 use Rattle.port_core.specs.declared.view.InView.TheVariants.{Idle}
 use Rattle.port_core.specs.declared.view.OutView.{OutView}
 use Rattle.port_core.specs.declared.view.OutView.TheVariants.{Unasked, Shut}
-use Rattle.port_core.specs.View.{View, OneOneOf, IsInOpen, IsOutOpen, ActsAllowed, acted_all}
+use Rattle.port_core.specs.View.{View, OneOneOf, IsInOpen, IsOutOpen, ActsAllowed, acted_all, unpulled_ports}
 use Rattle.port_core.specs.Call.{Call, starts, asks, brings, cancels, CallAllowed, seen, Obeys, given_on}
 use Rattle.stream_model.specs.declared.kind.Kind.TheVariants.{Buffer}
 use Rattle.stream_model.specs.declared.kind.Policy.{Policy}
@@ -34,7 +34,7 @@ use Rattle.stage_fans.specs.PortsLaws.{InPortsLaw}
 use Rattle.stage_fans.proofs.Histories.{in_node, ins_seen, ins_acted, begun}
 use Rattle.stage_dropping.specs.Drops.{DropHeld, holds, DropTurnAt, DropKeeps, DropStandsOf, DropRest, DropCounts, drop_moves}
 use Rattle.stage_dropping.specs.Droppings as stage
-use Rattle.stage_dropping.specs.Droppings.{Dropping, drop_at, row, held_in, held_of, Turned, DropFresh, DropRow, DropsAs, unasked_ports}
+use Rattle.stage_dropping.specs.Droppings.{Dropping, drop_at, row, held_in, held_of, Turned, DropFresh, DropRow, DropsAs}
 use Rattle.stage_dropping.proofs.Counts.{moves_counted}
 use Rattle.stage_dropping.proofs.DropTurns.{drop_new, drop_call, drop_rest, drop_stands}
 
@@ -141,7 +141,7 @@ started old new acts o t = record {
   begins = λ v took gave may r a b m n. law_after starts old old new v took gave acts may (o.allowed v may r.row) t (fresh_law old v took gave may r a b m n);
 }
 
-pub new_may_start : (node n : ℕ) (p : Policy) → p ≢ Backpressure → 0 < n → DropFresh (stage.begun node n p) unasked_ports
+pub new_may_start : (node n : ℕ) (p : Policy) → p ≢ Backpressure → 0 < n → DropFresh (stage.begun node n p) unpulled_ports
 new_may_start node n p drops some = record { fresh = refl; none_came = refl; unmoved = refl; row = (refl, (drops, some)) }
 
 -- ---- outlooks

@@ -1,5 +1,5 @@
 -- What each handler of a buffer that drops does is a step of its buffer.
-use Rattle.std.proofs.Common.{◌≡◌, ℕ, ◌+◌, ◌<◌, Bool, true, false, List, [], ◌∷◌, ◌++◌, refl, sym, ap, ◌∙◌, subst, append-nil, append_assoc, Some, None, arith}
+use Rattle.std.proofs.Common.{◌≡◌, ℕ, ◌+◌, ◌<◌, Bool, true, false, List, [], ◌∷◌, ◌++◌, refl, sym, ap, ◌∙◌, subst, append-nil, append_assoc, Some, None, arith, rules}
 use Rattle.std.specs.Prelude.{Option, nat_lt, if◌then◌else◌}
 use Rattle.elem_core.specs.Tree.{Tree}
 use Rattle.elem_core.specs.declared.item.Item.TheVariants as item
@@ -15,7 +15,6 @@ use Rattle.stage_law.specs.Held.{told}
 use Rattle.stage_core.specs.declared.phase.Phase.{Phase}
 use Rattle.stage_core.specs.declared.phase.Phase.TheVariants.{New, Open, Closed}
 use Rattle.stage_dropping.specs.Drops.{holds, shut, buffer_at, overflow_at, overflow_of, DropTurn, completes, fails, overflows, DropTurnAt}
-use Rattle.std.proofs.Common.{rules}
 use Rattle.stage_dropping.specs.Droppings.{Dropping, Took, GaveIts, GaveFirst, Turned, first_acts, first_phase, end_of}
 
 -- an element finds room in a buffer that holds nothing

@@ -120,10 +120,6 @@ pub record DropsAs (first now : Dropping) (v : View) (took gave : List (List Ite
   pub size : now.size ≡ first.size
   pub by : InPortsLaw (DropKeeps first.node first.policy first.size (held_of now)) v took gave
 
--- an input and an output that were not asked
-abbrev pub unasked_ports : View
-unasked_ports = record { ins = Idle ∷ []; outs = Unasked ∷ [] }
-
 -- a new buffer of n elements at a node, by its policy
 abbrev pub begun : ℕ → ℕ → Policy → Dropping
 begun node n p = record { phase = New; node = node; policy = p; size = n; came = 0; held = []; asked = false; over = false; moves = [] }

@@ -3,7 +3,7 @@ ghost use Rattle.std.specs.Prelude.{◌≡◌, ◌≢◌, ◌<◌, ℕ, true, Li
 ghost use Rattle.elem_core.specs.declared.item.Item.{Item};
 ghost use Rattle.elem_core.specs.declared.why.Decider.{Decider};
 ghost use Rattle.port_core.specs.declared.act.Act.{Act};
-ghost use Rattle.port_core.specs.View.{View};
+ghost use Rattle.port_core.specs.View.{View, unpulled_ports};
 ghost use Rattle.port_core.specs.Call.{Call, starts, CallAllowed, Obeys};
 ghost use Rattle.stream_model.specs.declared.kind.Kind.TheVariants.{Buffer};
 ghost use Rattle.stream_model.specs.declared.kind.Policy.{Policy};
@@ -16,11 +16,11 @@ ghost use Rattle.stream_model.specs.FanIn.{AllAgree};
 ghost use Rattle.stage_core.specs.Handling.{Starts, Handles};
 ghost use Rattle.stage_core.specs.declared.phase.Phase.TheVariants.{New, Open};
 ghost use Rattle.stage_dropping.specs.Drops.{DropRest, DropRests, DropCounts};
-ghost use Rattle.stage_dropping.specs.Droppings.{Dropping, begun, row, held_of, Turned, DropFresh, DropRow, DropsAs, unasked_ports};
+ghost use Rattle.stage_dropping.specs.Droppings.{Dropping, begun, row, held_of, Turned, DropFresh, DropRow, DropsAs};
 
 /// A new buffer that has room for something and drops may be started, made no move, and knows that no port was asked.
 pub fn a_new_buffer_may_start()
-    ensures { (node n : ℕ) (p : Policy) → p ≢ Backpressure → 0 < n → DropFresh (begun node n p) unasked_ports }
+    ensures { (node n : ℕ) (p : Policy) → p ≢ Backpressure → 0 < n → DropFresh (begun node n p) unpulled_ports }
 {}
 
 /// Where its row and its law hold, a buffer that was started has closed both its ports, or has nothing to do: it waits for

@@ -4,7 +4,7 @@ use Rattle.std.proofs.Common.{◌≡◌, ℕ, ◌≤◌, true, List, [], ◌∷�
 use Rattle.elem_core.specs.Tree.{Tree}
 use Rattle.elem_core.specs.declared.item.Item.{Item}
 use Rattle.elem_core.specs.declared.why.Decider.{Decider}
-use Rattle.port_core.specs.View.{View}
+use Rattle.port_core.specs.View.{View, unpulled_ins}
 use Rattle.stream_model.specs.declared.kind.Kind.{Kind}
 use Rattle.stream_model.specs.declared.kind.Kind.TheVariants.{Merge, Concat, Interleave, MergeSorted, Zip}
 use Rattle.stream_model.specs.Graph.{Graph}
@@ -29,7 +29,7 @@ use Rattle.stage_in.specs.Zippings as zipping
 use Rattle.stage_merge.specs.Mergings as merging
 use Rattle.stage_merge.specs.Mergings.{Merging}
 use Rattle.stage_merge.proofs.MergeNodes as merge
-use Rattle.stage_in.specs.Logics.{Begins, IsFanIn, IsOrdered, TakesAs, inputs_of, SameKind, InLaw, unasked_ports}
+use Rattle.stage_in.specs.Logics.{Begins, IsFanIn, IsOrdered, TakesAs, inputs_of, SameKind, InLaw}
 use Rattle.stage_in.specs.Moves.{in_picks, TellsMoves}
 use Rattle.stage_in.proofs.Takes.{no_hold, new_row}
 
@@ -124,7 +124,7 @@ taking_begins : (node : ℕ) (kind : Kind) (d : Decider) (n : ℕ) (segment : Op
 taking_begins node kind d n segment l two few b is takes = record {
   fresh = b.live;
   takes = takes;
-  ready = subst (λ k. taking.row l (unasked_ports k)) (sym is) (new_row n segment l two few b);
+  ready = subst (λ k. taking.row l (unpulled_ins k)) (sym is) (new_row n segment l two few b);
 }
 
 concat_takes : (l : Taking) → l.segment ≡ None → l.current ≡ 0 → (taking_by l.segment).from (taking.place_of l) ≡ concat_taken

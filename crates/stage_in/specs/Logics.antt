@@ -1,11 +1,10 @@
 -- The stages with several inputs, whatever their kind: their rows, what their handlers owe, and their law over histories.
-use Rattle.std.specs.Prelude.{◌≡◌, ◌≢◌, ◌≤◌, ℕ, true, replicate, List, [], ◌∷◌, length, slice_index_or, Some, None, ⊤}
+use Rattle.port_core.specs.View.{unpulled_ins}
+use Rattle.std.specs.Prelude.{◌≡◌, ◌≢◌, ◌≤◌, ℕ, true, List, [], length, slice_index_or, Some, None, ⊤}
 use Rattle.elem_core.specs.Tree.{Tree}
 use Rattle.elem_core.specs.declared.item.Item.{Item}
 use Rattle.elem_core.specs.declared.why.Decider.{Decider}
 use Rattle.port_core.specs.declared.act.Act.{Act}
-use Rattle.port_core.specs.declared.view.InView.TheVariants.{Idle}
-use Rattle.port_core.specs.declared.view.OutView.TheVariants.{Unasked}
 use Rattle.port_core.specs.View as port
 use Rattle.port_core.specs.Call.{Call}
 use Rattle.stream_model.specs.declared.kind.Kind.{Kind}
@@ -127,15 +126,11 @@ TakesAs Zip (logic.Zipping l) = ⊤
 TakesAs (Merge n) (logic.Merging l) = ⊤
 TakesAs _ _ = ⊥
 
--- n inputs and an output that were not asked
-abbrev pub unasked_ports : ℕ → port.View
-unasked_ports n = record { ins = replicate n Idle; outs = Unasked ∷ [] }
-
 -- a new stage of node `node` may be started, takes its inputs as the model says, and knows that no port was asked
 pub record Begins (node : ℕ) (kind : Kind) (d : Decider) (new : InLogic) : Type 0 where
   pub fresh : IsNew new
   pub takes : TakesAs kind new
-  pub ready : row new (unasked_ports (inputs_of kind))
+  pub ready : row new (unpulled_ins (inputs_of kind))
 
 -- ---- the law
 

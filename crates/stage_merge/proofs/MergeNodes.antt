@@ -7,7 +7,7 @@ use Rattle.port_core.specs.declared.act.Act.{Act}
 use Rattle.port_core.specs.declared.view.InView.{InView}
 use Rattle.port_core.specs.declared.view.InView.TheVariants.{Idle}
 use Rattle.port_core.specs.declared.view.OutView.TheVariants.{Unasked, Shut}
-use Rattle.port_core.specs.View.{View, ActsAllowed, acted_all}
+use Rattle.port_core.specs.View.{View, ActsAllowed, acted_all, unpulled_ins}
 use Rattle.port_core.specs.Call.{Call, starts, CallAllowed, seen, Obeys, given_on}
 use Rattle.stream_model.specs.declared.kind.Kind.TheVariants.{Merge}
 use Rattle.stream_model.specs.declared.kind.TheConstants.{MAX_FAN}
@@ -32,7 +32,7 @@ use Rattle.stage_fans.specs.OwnRows.{FanRests}
 use Rattle.stage_fans.specs.PortsLaws.{InPortsLaw}
 use Rattle.stage_fans.proofs.Closings.{none_called}
 use Rattle.stage_fans.proofs.Histories.{in_node, ins_seen, ins_acted, begun}
-use Rattle.stage_merge.specs.Mergings.{Core, Merging, Begins, Turned, Fresh, idles, waiting, row_by, row, held_by, held, MergeFresh, MergeRow, MergesAs, unasked_ports}
+use Rattle.stage_merge.specs.Mergings.{Core, Merging, Begins, Turned, Fresh, idles, waiting, row_by, row, held_by, held, MergeFresh, MergeRow, MergesAs}
 use Rattle.stage_merge.proofs.MergeRests.{merge_rests, new_row, none_waits}
 
 -- ---- where it is called
@@ -109,7 +109,7 @@ idles_are : (k : ℕ) → idles (replicate k false) ≡ replicate k Idle
 idles_are zero = refl
 idles_are (suc k) = ap (λ (xs : List InView). Idle ∷ xs) (idles_are k)
 
-pub new_may_start : (inputs : ℕ) (l : Merging) → 2 ≤ inputs → inputs ≤ MAX_FAN → Begins inputs l → MergeFresh l (unasked_ports inputs)
+pub new_may_start : (inputs : ℕ) (l : Merging) → 2 ≤ inputs → inputs ≤ MAX_FAN → Begins inputs l → MergeFresh l (unpulled_ins inputs)
 new_may_start k l two few b = record {
   fresh = ap (λ (c : Core). c.phase) b.core;
   unmoved = b.moves;

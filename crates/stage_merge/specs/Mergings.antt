@@ -197,7 +197,3 @@ pub record MergeRow (l : Merging) (v : View) : Type 0 where
 pub record MergesAs (first now : Merging) (v : View) (took gave : List (List Item)) : Type 0 where
   pub unmoved : first.log.moves ≡ []
   pub by : InPortsLaw (MergeKeeps (held now)) v took gave
-
--- n inputs and an output that were not asked
-abbrev pub unasked_ports : ℕ → View
-unasked_ports n = record { ins = replicate n Idle; outs = Unasked ∷ [] }

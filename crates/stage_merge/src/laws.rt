@@ -3,7 +3,7 @@ ghost use Rattle.std.specs.Prelude.{◌≡◌, ◌≢◌, ◌≤◌, ℕ, true, 
 ghost use Rattle.elem_core.specs.declared.item.Item.{Item};
 ghost use Rattle.elem_core.specs.declared.why.Decider.{Decider};
 ghost use Rattle.port_core.specs.declared.act.Act.{Act};
-ghost use Rattle.port_core.specs.View.{View};
+ghost use Rattle.port_core.specs.View.{View, unpulled_ins};
 ghost use Rattle.port_core.specs.Call.{Call, starts, CallAllowed, Obeys};
 ghost use Rattle.stream_model.specs.declared.kind.Kind.TheVariants.{Merge};
 ghost use Rattle.stream_model.specs.declared.kind.TheConstants.{MAX_FAN};
@@ -17,11 +17,11 @@ ghost use Rattle.stage_core.specs.Handling.{Starts, Handles, most_acts};
 ghost use Rattle.stage_fans.specs.Seats.{room_for};
 ghost use Rattle.stage_fans.specs.OwnRows.{FanRests};
 ghost use Rattle.stage_core.specs.declared.phase.Phase.TheVariants.{New, Open};
-ghost use Rattle.stage_merge.specs.Mergings.{Merging, Begins, Turned, row, MergeFresh, MergeRow, MergesAs, unasked_ports};
+ghost use Rattle.stage_merge.specs.Mergings.{Merging, Begins, Turned, row, MergeFresh, MergeRow, MergesAs};
 
 /// A new merge of 2 to `MAX_FAN` inputs may be started, made no move, and knows that no port was asked.
 pub fn a_new_merge_may_start()
-    ensures { (inputs : ℕ) (l : Merging) → 2 ≤ inputs → inputs ≤ MAX_FAN → Begins inputs l → MergeFresh l (unasked_ports inputs) }
+    ensures { (inputs : ℕ) (l : Merging) → 2 ≤ inputs → inputs ≤ MAX_FAN → Begins inputs l → MergeFresh l (unpulled_ins inputs) }
 {}
 
 /// Where its row and its law hold, a merge that was started has closed all its ports, or has nothing to do.

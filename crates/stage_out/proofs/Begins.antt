@@ -4,7 +4,7 @@ use Rattle.std.proofs.Common.{◌≡◌, ℕ, zero, suc, ◌≤◌, Bool, true, 
 use Rattle.elem_core.specs.declared.function.MapFn.{MapFn}
 use Rattle.port_core.specs.declared.view.OutView.{OutView}
 use Rattle.port_core.specs.declared.view.OutView.TheVariants.{Unasked}
-use Rattle.stage_out.specs.Machines.{unasked_ports}
+use Rattle.port_core.specs.View.{unpulled_outs}
 use Rattle.port_core.specs.declared.view.InView.TheVariants.{Idle}
 use Rattle.stage_fans.specs.declared.outs.OutputState.TheVariants.{Quiet}
 use Rattle.stage_fans.specs.Outs.{want_view, open_count}
@@ -32,7 +32,7 @@ pub so_many : (n : ℕ) → length (replicate n Quiet) ≡ n
 so_many zero = refl
 so_many (suc n) = ap suc (so_many n)
 
-pub partition_begins : (node n : ℕ) (f : MapFn) → 2 ≤ n → n ≤ 16 → part.row (part.begun node n f) (unasked_ports n)
+pub partition_begins : (node n : ℕ) (f : MapFn) → 2 ≤ n → n ≤ 16 → part.row (part.begun node n f) (unpulled_outs n)
 partition_begins node n f low high = (
   ap (λ (ys : List OutView). record { ins = Idle ∷ []; outs = ys }) (sym (quiet_views n)),
   record {
@@ -50,10 +50,10 @@ pub idle_some : (n : ℕ) → 2 ≤ n → input_by n ≡ Idle
 idle_some zero h = absurd (omega (arith, h))
 idle_some (suc n) h = refl
 
-copy_views : (n : ℕ) → 2 ≤ n → unasked_ports n ≡ record { ins = input_by n ∷ []; outs = map want_view (replicate n Quiet) }
+copy_views : (n : ℕ) → 2 ≤ n → unpulled_outs n ≡ record { ins = input_by n ∷ []; outs = map want_view (replicate n Quiet) }
 copy_views n low = rw (idle_some n low, quiet_views n) refl
 
-pub copy_begins : (n : ℕ) (halves : Bool) → 2 ≤ n → n ≤ 16 → (halves ≡ true → n ≡ 2) → copy.row (copy.begun n halves) (unasked_ports n)
+pub copy_begins : (n : ℕ) (halves : Bool) → 2 ≤ n → n ≤ 16 → (halves ≡ true → n ≡ 2) → copy.row (copy.begun n halves) (unpulled_outs n)
 copy_begins n halves low high two = (
   copy_views n low,
   record {

@@ -1,14 +1,12 @@
 -- The logic of a broadcast, an unzip or a partition: its row, its outputs as machines over its input, what a call owes, and
 -- how a new one begins.
-use Rattle.std.specs.Prelude.{◌≡◌, ℕ, zero, suc, ◌+◌, ◌≤◌, Bool, true, false, List, [], ◌∷◌, length, replicate, ⊤}
+use Rattle.std.specs.Prelude.{◌≡◌, ℕ, zero, suc, ◌+◌, ◌≤◌, Bool, true, false, List, [], ◌∷◌, length, ⊤}
 use Rattle.elem_core.specs.Tree.{Tree}
 use Rattle.elem_core.specs.declared.function.MapFn.{MapFn}
 use Rattle.elem_core.specs.declared.why.Decider.{Decider}
 use Rattle.elem_core.specs.declared.why.Decider.TheVariants.{Stop}
 use Rattle.port_core.specs.declared.act.Act.{Act}
-use Rattle.port_core.specs.declared.view.InView.TheVariants.{Idle}
-use Rattle.port_core.specs.declared.view.OutView.TheVariants.{Unasked}
-use Rattle.port_core.specs.View.{View}
+use Rattle.port_core.specs.View.{View, unpulled_outs}
 use Rattle.port_core.specs.Asking.{AsksStand}
 use Rattle.port_core.specs.Call.{Call}
 use Rattle.stream_model.specs.declared.kind.Kind.{Kind}
@@ -149,10 +147,6 @@ outputs_of Unzip = 2
 outputs_of (Partition n f) = n
 outputs_of _ = 0
 
--- nobody asks, and it has not asked
-abbrev pub unasked_ports : ℕ → View
-unasked_ports n = record { ins = Idle ∷ []; outs = replicate n Unasked }
-
 -- the logic that `new` makes
 abbrev pub IsMade : ℕ → Kind → OutMachines → Type 0
 IsMade node (Broadcast n) new = new ≡ Copies (copy.begun n false)
@@ -170,7 +164,7 @@ EachAgrees n f (o ∷ os) = ((is : List Outlook) (l : List Tree) (e : End) (g : 
 pub record Begins (node : ℕ) (kind : Kind) (new : OutMachines) : Type 0 where
   pub live : is_live new ≡ true
   pub of_kind : IsOfKind kind new
-  pub ready : row new (unasked_ports (outputs_of kind))
+  pub ready : row new (unpulled_outs (outputs_of kind))
   pub outputs : (book : Book) → outlets book new ≡ starts_of book node kind
   pub agrees : (g : Graph) (w : World) (d : Decider) → EachAgrees 0 (λ j is. node_outlook g w node kind d is j) (outlets w.book new)
   pub fresh : IsNew new

@@ -3,7 +3,7 @@
 use Rattle.std.specs.Prelude.{ℕ, ◌≤◌, Bool, List, length, ⊤}
 use Rattle.elem_core.specs.declared.item.Item.{Item}
 use Rattle.port_core.specs.declared.act.Act.{Act}
-use Rattle.port_core.specs.View.{View}
+use Rattle.port_core.specs.View.{View, unpulled_outs}
 use Rattle.port_core.specs.Call.{Call}
 use Rattle.stream_model.specs.declared.kind.Kind.{Kind}
 use Rattle.stream_model.specs.declared.kind.Kind.TheVariants.{Balance}
@@ -92,5 +92,5 @@ BeginsAs node kind (Balances l) = BeginsBalance kind l
 -- A new logic of node `node`, of this kind: nothing came yet, and it knows that nobody asks, so that it may be started; and
 -- it begins as its kind does.
 pub record Begins (node : ℕ) (kind : Kind) (new : OutLogic) : Type 0 where
-  pub fresh : OutFresh new (machines.unasked_ports (outputs_of kind))
+  pub fresh : OutFresh new (unpulled_outs (outputs_of kind))
   pub as_kind : BeginsAs node kind new

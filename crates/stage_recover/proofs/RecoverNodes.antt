@@ -10,7 +10,7 @@ use Rattle.port_core.specs.declared.view.InView.{InView}
 use Rattle.port_core.specs.declared.view.InView.TheVariants.{Idle, Waiting, Over}
 use Rattle.port_core.specs.declared.view.OutView.{OutView}
 use Rattle.port_core.specs.declared.view.OutView.TheVariants.{Unasked, Asked, Shut}
-use Rattle.port_core.specs.View.{View, OneOneOf, IsInOpen, IsOutOpen, ActsAllowed, acted_all}
+use Rattle.port_core.specs.View.{View, OneOneOf, IsInOpen, IsOutOpen, ActsAllowed, acted_all, unpulled_ports}
 use Rattle.port_core.specs.Call.{Call, starts, asks, brings, cancels, CallAllowed, seen, Obeys, given_on}
 use Rattle.stream_model.specs.Node.{head_of}
 use Rattle.stream_model.specs.Outlook.{Outlook, End, unended, ended, failed, Agrees}
@@ -31,7 +31,7 @@ use Rattle.stage_fans.proofs.Histories as histories
 use Rattle.stage_fans.proofs.Histories.{in_node, ins_seen, ins_acted}
 use Rattle.stage_recover.specs.Recovers.{RecoverHeld, passes, RecoverTurnAt, RecoverKeeps, RecoverStandsOf, RecoverRest, RecoverCounts, recover_moves}
 use Rattle.stage_recover.specs.Recoverings as stage
-use Rattle.stage_recover.specs.Recoverings.{Recover, recover_at, row, held_in, held_of, RecoverFresh, RecoverRow, RecoversAs, unasked_ports, begun}
+use Rattle.stage_recover.specs.Recoverings.{Recover, recover_at, row, held_in, held_of, RecoverFresh, RecoverRow, RecoversAs, begun}
 use Rattle.stage_recover.proofs.RecoverTurns.{recover_new, recover_call, recover_rest, recover_stands}
 
 -- ---- where it is called
@@ -159,7 +159,7 @@ started old new acts o t = record {
   begins = λ v took gave may r a b m n. law_after starts old old new v took gave acts may (o.allowed v may r.row) t refl (o.row v may r.row) (fresh_law old v took gave may r a b m n);
 }
 
-pub new_may_start : (t : Tree) → RecoverFresh (begun t) unasked_ports
+pub new_may_start : (t : Tree) → RecoverFresh (begun t) unpulled_ports
 new_may_start t = record { fresh = refl; none_passed = refl; unmoved = refl; row = (refl, λ e. cc) }
 
 -- ---- outlooks

@@ -84,10 +84,6 @@ pub record RecoversAs (first now : Recover) (v : View) (took gave : List (List I
   pub noted : recover_moves (held_of now) ≡ now.moves
   pub by : InPortsLaw (RecoverKeeps element (held_of now)) v took gave
 
--- an input and an output that were not asked
-abbrev pub unasked_ports : View
-unasked_ports = record { ins = Idle ∷ []; outs = Unasked ∷ [] }
-
 -- a new recover of this element
 abbrev pub begun : Tree → Recover
 begun t = record { phase = New; own = Some t; passed = 0; asked = false; over = false; moves = [] }

@@ -3,7 +3,7 @@ ghost use Rattle.std.specs.Prelude.{◌≡◌, ◌≢◌, true, List};
 ghost use Rattle.elem_core.specs.Tree.{Tree};
 ghost use Rattle.elem_core.specs.declared.item.Item.{Item};
 ghost use Rattle.port_core.specs.declared.act.Act.{Act};
-ghost use Rattle.port_core.specs.View.{View};
+ghost use Rattle.port_core.specs.View.{View, unpulled_ports};
 ghost use Rattle.port_core.specs.Call.{Call, starts, CallAllowed, Obeys};
 ghost use Rattle.stream_model.specs.Node.{head_of};
 ghost use Rattle.stream_model.specs.Outlook.{Outlook, Agrees};
@@ -12,11 +12,11 @@ ghost use Rattle.stream_model.specs.Picks.{recover_fits, recover_outlook};
 ghost use Rattle.stage_core.specs.Handling.{Starts, Handles};
 ghost use Rattle.stage_core.specs.declared.phase.Phase.TheVariants.{New, Open};
 ghost use Rattle.stage_recover.specs.Recovers.{RecoverHeld, RecoverTurnAt, RecoverResidual, RecoverRest, RecoverRests, RecoverCounts};
-ghost use Rattle.stage_recover.specs.Recoverings.{Recover, begun, row, held_of, Turned, RecoverFresh, RecoverRow, RecoversAs, unasked_ports};
+ghost use Rattle.stage_recover.specs.Recoverings.{Recover, begun, row, held_of, Turned, RecoverFresh, RecoverRow, RecoversAs};
 
 /// A new recover may be started, made no move, and knows that no port was asked.
 pub fn a_new_recover_may_start()
-    ensures { (t : Tree) → RecoverFresh (begun t) unasked_ports }
+    ensures { (t : Tree) → RecoverFresh (begun t) unpulled_ports }
 {}
 
 /// Where its row and its law hold, a recover that was started has closed both its ports, or has nothing to do: it waits for

@@ -2,7 +2,7 @@
 use Rattle.std.specs.Prelude.{ℕ, List}
 use Rattle.elem_core.specs.declared.item.Item.{Item}
 use Rattle.elem_core.specs.declared.why.Decider.{Decider}
-use Rattle.port_core.specs.View.{View}
+use Rattle.port_core.specs.View.{View, unpulled_ports}
 use Rattle.stream_model.specs.declared.kind.Kind.{Kind}
 use Rattle.stage_dropping.specs.Droppings.{DropFresh, DropRow, DropsAs}
 use Rattle.stage_recover.specs.Recoverings.{RecoverFresh, RecoverRow, RecoversAs}
@@ -10,7 +10,7 @@ use Rattle.stage_switch.specs.Handling.{ValveFresh, ValveRow, ValveAs, TripFresh
 use Rattle.stage_state.specs.MachineNodes.{MachineFresh, MachineRow, MachineLaw}
 use Rattle.stage_state.specs.declared.logic.StateLogic.{StateLogic}
 use Rattle.stage_state.specs.declared.logic.StateLogic.TheVariants.{Machine, Dropping, Recovering, Obeying, Tripping}
-use Rattle.stage_state.specs.Logics.{BeginsAs, unasked_ports}
+use Rattle.stage_state.specs.Logics.{BeginsAs}
 
 -- it was not started, and its row holds
 abbrev pub StateFresh : StateLogic → View → Type 0
@@ -40,4 +40,4 @@ StateLaw _ _ v took gave = ⊥
 -- a new stage of node `node` is of its kind, and may be started
 pub record Begins (node : ℕ) (kind : Kind) (d : Decider) (new : StateLogic) : Type 0 where
   pub as_kind : BeginsAs kind node d new
-  pub fresh : StateFresh new unasked_ports
+  pub fresh : StateFresh new unpulled_ports

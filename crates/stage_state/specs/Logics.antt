@@ -1,12 +1,10 @@
 -- The stages with one input and one output that keep a state, whatever their kind: machines, which choose nothing, buffers that
 -- drop, recovers, valves and trips. Each predicate cites that of the kind.
-use Rattle.std.specs.Prelude.{◌≡◌, ◌≢◌, ◌<◌, ◌≤◌, ℕ, List, [], ◌∷◌, Option, Some, None, ⊤}
+use Rattle.std.specs.Prelude.{◌≡◌, ◌≢◌, ◌<◌, ◌≤◌, ℕ, List, Option, Some, None, ⊤}
 use Rattle.std.specs.Arc.{arc_value}
 use Rattle.elem_core.specs.Tree.{num, text}
 use Rattle.elem_core.specs.declared.why.Decider.{Decider}
 use Rattle.port_core.specs.declared.act.Act.{Act}
-use Rattle.port_core.specs.declared.view.InView.TheVariants.{Idle}
-use Rattle.port_core.specs.declared.view.OutView.TheVariants.{Unasked}
 use Rattle.port_core.specs.View.{View}
 use Rattle.port_core.specs.Call.{Call}
 use Rattle.stream_model.specs.declared.kind.Kind.{Kind}
@@ -112,7 +110,3 @@ BeginsAs (Valve name) node d (Obeying l) = IsUnused l.switch l.seat × (l ≡ ne
 BeginsAs (TripShutdown name n) node d (Tripping l) = (1 ≤ n) × (IsUnused l.switch l.seat × (l ≡ new_trip_of node Shutdown n l.switch l.seat))
 BeginsAs (TripAbort name n) node d (Tripping l) = (1 ≤ n) × (IsUnused l.switch l.seat × (l ≡ new_trip_of node Abort n l.switch l.seat))
 BeginsAs _ node d _ = ⊥
-
--- it was not started, nobody asks it, and it has not asked
-abbrev pub unasked_ports : View
-unasked_ports = record { ins = Idle ∷ []; outs = Unasked ∷ [] }

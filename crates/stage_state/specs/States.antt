@@ -1,5 +1,5 @@
 -- The state of a stage that keeps elements, what it still owes, and its row: what it knows of its ports.
-use Rattle.std.specs.Prelude.{◌≡◌, ◌≢◌, ◌⊎◌, ◌<◌, ⊤, ℕ, Bool, true, false, List, [], ◌∷◌, length, Option, Some, None}
+use Rattle.std.specs.Prelude.{◌≡◌, ◌≢◌, ◌⊎◌, ◌<◌, ⊤, ℕ, Bool, true, false, List, [], length, Option, Some, None}
 use Rattle.elem_core.specs.Tree.{Tree}
 use Rattle.elem_core.specs.declared.why.Decider.{Decider}
 use Rattle.port_core.specs.declared.act.Act.{Act}
@@ -7,7 +7,7 @@ use Rattle.port_core.specs.declared.view.InView.{InView}
 use Rattle.port_core.specs.declared.view.InView.TheVariants.{Idle, Waiting, Over}
 use Rattle.port_core.specs.declared.view.OutView.{OutView}
 use Rattle.port_core.specs.declared.view.OutView.TheVariants.{Unasked, Asked}
-use Rattle.port_core.specs.View.{View, OneOne}
+use Rattle.port_core.specs.View.{View, OneOne, unpulled_ports}
 use Rattle.port_core.specs.Asking.{AsksStand}
 use Rattle.port_core.specs.Call.{Call, given_on}
 use Rattle.stream_model.specs.declared.kind.Kind.{Kind}
@@ -120,10 +120,6 @@ IsMachine (Scan o) = ⊤
 IsMachine (Buffer n Backpressure) = 0 < n
 IsMachine _ = ⊥
 
--- it was not started, nobody asks it, and it has not asked
-abbrev pub unasked_ports : View
-unasked_ports = record { ins = Idle ∷ []; outs = Unasked ∷ [] }
-
 -- what a new stage of this kind owes: what its machine gives from the start
 abbrev pub BeginsAs : Kind → ℕ → Decider → Logic → Type 0
 BeginsAs (Buffer n p) node d new = (new.size ≡ Some n) × (held new ≡ owing (record { gave = []; state = going new.stage }))
@@ -132,7 +128,7 @@ BeginsAs kind node d new = (new.size ≡ None) × ((work_of kind ≡ Some new.st
 pub record Begins (node : ℕ) (kind : Kind) (d : Decider) (new : Logic) : Type 0 where
   pub phase : new.phase ≡ New
   pub owes : BeginsAs kind node d new
-  pub ready : row new unasked_ports
+  pub ready : row new unpulled_ports
 
 -- a new stage that keeps, and owes these before any element
 abbrev pub new_keep : ℕ → Decider → Work → List Tree → Logic

@@ -4,10 +4,9 @@ use Rattle.std.specs.Option.{unwrap_or}
 use Rattle.elem_core.specs.Tree.{Tree}
 use Rattle.elem_core.specs.declared.item.Item.{Item}
 use Rattle.port_core.specs.ListFunction.{ListFunction, Same}
-use Rattle.port_core.specs.View.{View, in_at, out_at}
-use Rattle.port_core.specs.declared.view.InView.TheVariants.{Idle}
+use Rattle.port_core.specs.View.{View, in_at, out_at, unpulled_ports}
 use Rattle.port_core.specs.declared.view.OutView.{OutView}
-use Rattle.port_core.specs.declared.view.OutView.TheVariants.{Unasked, Asked}
+use Rattle.port_core.specs.declared.view.OutView.TheVariants.{Asked}
 use Rattle.stream_model.specs.declared.kind.Kind.{Kind}
 use Rattle.stream_model.specs.declared.kind.Kind.TheVariants.{GroupBy, SplitWhen, SplitAfter}
 use Rattle.stream_model.specs.declared.kind.Joining.{Joining}
@@ -108,10 +107,6 @@ abbrev pub no_moves : Joining → Option (List ℕ)
 no_moves joining.Merge = Some []
 no_moves joining.Concat = None
 
--- an input and an output that were not asked
-abbrev pub unasked_ports : View
-unasked_ports = record { ins = Idle ∷ []; outs = Unasked ∷ [] }
-
 -- a new stage of node `node` is of its kind, and each of its substreams goes through such a chain
 abbrev pub BeginsAs : {C : Type 0} → Kind → ℕ → C → Logic C → Type 0
 BeginsAs (GroupBy n f name) node chain new = new ≡ begun node (Key n f) (no_moves joining.Merge) chain
@@ -122,4 +117,4 @@ BeginsAs _ node chain new = ⊥
 -- and may be started
 pub record Begins {C : Type 0} (rest : C → ListFunction) (is_open : C → Bool) (node : ℕ) (kind : Kind) (chain : C) (new : Logic C) : Type 0 where
   pub as_kind : BeginsAs kind node chain new
-  pub fresh : SubFresh rest is_open new unasked_ports
+  pub fresh : SubFresh rest is_open new unpulled_ports

@@ -9,7 +9,7 @@ use Rattle.port_core.specs.declared.view.InView.{InView}
 use Rattle.port_core.specs.declared.view.InView.TheVariants.{Idle, Waiting, Over, Left}
 use Rattle.port_core.specs.declared.view.OutView.{OutView}
 use Rattle.port_core.specs.declared.view.OutView.TheVariants.{Unasked, Asked, Shut, Refused}
-use Rattle.port_core.specs.View.{View, in_at, out_at, OneOne, OneOneOf}
+use Rattle.port_core.specs.View.{View, in_at, out_at, OneOne, OneOneOf, unpulled_ports}
 use Rattle.port_core.specs.Call.{Call, starts, asks, brings, cancels, CallAllowed, Meets}
 use Rattle.stream_model.specs.Outlook.{End}
 use Rattle.stream_model.specs.FanIn.{Inflow}
@@ -26,7 +26,7 @@ use Rattle.kill_core.specs.declared.order.Order.{Order}
 use Rattle.kill_core.specs.Public.{SwitchState, SeatState}
 use Rattle.stage_switch.specs.Valves.{passes, ValveKeeps, RestsAt, ValveRests, GaveAll}
 use Rattle.stage_switch.specs.States.{IsUnused, Valve, Unmoved, valve_row, passing_row, valve_held_in, new_valve_of, Trip, trip_held_in, trip_stage, new_trip_of}
-use Rattle.stage_switch.specs.Handling.{unasked_ports, ValveFresh, ValveRow, ValveAs, TripFresh, TripRow, TripAs}
+use Rattle.stage_switch.specs.Handling.{ValveFresh, ValveRow, ValveAs, TripFresh, TripRow, TripAs}
 
 -- ---- where it rests
 
@@ -179,10 +179,10 @@ trip_rests book d first l v took gave r law = trip_lists book (begin_work first.
 
 -- ---- before it was started
 
-pub new_valve : (node : ℕ) (switch : SwitchState) (seat : SeatState) → IsUnused switch seat → ValveFresh (new_valve_of node switch seat) unasked_ports
+pub new_valve : (node : ℕ) (switch : SwitchState) (seat : SeatState) → IsUnused switch seat → ValveFresh (new_valve_of node switch seat) unpulled_ports
 new_valve node switch seat u = record { phase = refl; passed = refl; valve = record { one = u.0; gave = u.1.0; knows = u.1.1; formed = refl }; row = (tt, refl) }
 
-pub new_trip : (node : ℕ) (order : Order) (count : ℕ) (switch : SwitchState) (seat : SeatState) → IsUnused switch seat → 1 ≤ count → TripFresh (new_trip_of node order count switch seat) unasked_ports
+pub new_trip : (node : ℕ) (order : Order) (count : ℕ) (switch : SwitchState) (seat : SeatState) → IsUnused switch seat → 1 ≤ count → TripFresh (new_trip_of node order count switch seat) unpulled_ports
 new_trip node order count switch seat u c = record {
   phase = refl;
   taken = refl;

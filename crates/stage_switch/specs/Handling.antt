@@ -9,8 +9,6 @@ use Rattle.kill_core.specs.declared.order.Order.{Order}
 use Rattle.kill_core.specs.declared.order.Order.TheVariants.{Shutdown, Abort}
 use Rattle.stream_model.specs.declared.kind.Kind.{Kind}
 use Rattle.stream_model.specs.declared.kind.Kind.TheVariants.{TripShutdown, TripAbort}
-use Rattle.port_core.specs.declared.view.InView.TheVariants.{Idle}
-use Rattle.port_core.specs.declared.view.OutView.TheVariants.{Unasked}
 use Rattle.port_core.specs.View.{View, in_at, out_at}
 use Rattle.stream_model.specs.Linear.{Book, passing, linear, begin_work}
 use Rattle.stage_law.specs.Law.{Law}
@@ -18,10 +16,6 @@ use Rattle.stage_core.specs.declared.phase.Phase.TheVariants.{New}
 use Rattle.stage_fans.specs.PortsLaws.{InPortsLaw}
 use Rattle.stage_switch.specs.Valves.{ValveKeeps}
 use Rattle.stage_switch.specs.States.{Valve, IsValve, Unmoved, valve_row, valve_held, Trip, IsTrip, trip_row, trip_held}
-
--- one input and one output that were not asked
-abbrev pub unasked_ports : View
-unasked_ports = record { ins = Idle ∷ []; outs = Unasked ∷ [] }
 
 -- ---- a valve
 

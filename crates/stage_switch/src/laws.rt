@@ -7,7 +7,7 @@ ghost use Rattle.kill_core.specs.Public.{SwitchState, SeatState, IsSeatOf};
 ghost use Rattle.port_core.specs.declared.act.Act.{Act};
 ghost use Rattle.port_core.specs.declared.view.InView.TheVariants.{Waiting};
 ghost use Rattle.port_core.specs.declared.view.OutView.TheVariants.{Asked};
-ghost use Rattle.port_core.specs.View.{View, in_at, out_at, ActsAllowed, acted_all};
+ghost use Rattle.port_core.specs.View.{View, in_at, out_at, ActsAllowed, acted_all, unpulled_ports};
 ghost use Rattle.port_core.specs.Call.{Call, starts, AllIdle, CallAllowed, Obeys, seen, brought_to, given_on};
 ghost use Rattle.stream_model.specs.declared.kind.Kind.TheVariants as kind;
 ghost use Rattle.stream_model.specs.Graph.{Graph};
@@ -22,7 +22,7 @@ ghost use Rattle.stage_law.specs.OwnPorts.{OwnRests};
 ghost use Rattle.stage_core.specs.declared.phase.Phase.TheVariants.{Open};
 ghost use Rattle.stage_switch.specs.Valves.{ValveHeld, passes, shut, did, GaveUpTo, GaveAll, ValveTurnAt, ValveLaw, ValveStandsOf, ValveResidual, ValveRest, ValveRests};
 ghost use Rattle.stage_switch.specs.States.{IsUnused, Valve, IsValve, new_valve_of, valve_row, ValveTurned, Trip, new_trip_of, trip_row, TripTurned};
-ghost use Rattle.stage_switch.specs.Handling.{unasked_ports, ValveFresh, ValveRow, ValveAs, elements, TripFresh, TripRow, TripAs, trip_kind};
+ghost use Rattle.stage_switch.specs.Handling.{ValveFresh, ValveRow, ValveAs, elements, TripFresh, TripRow, TripAs, trip_kind};
 
 /// The law of a valve holds before anything came, and every call keeps it, once the call's actions are done; what a valve gave
 /// over its history is what one that acted so may have given; and for every rest and every act that may still come, what it
@@ -40,8 +40,8 @@ pub fn valves_keep_the_law()
 
 /// A new valve, and a new trip that counts from 1, may be started, and know that no port was asked.
 pub fn a_new_stage_may_start()
-    ensures valve { (node : ℕ) (switch : SwitchState) (seat : SeatState) → IsUnused switch seat → ValveFresh (new_valve_of node switch seat) unasked_ports }
-    ensures trip { (node : ℕ) (order : Order) (count : ℕ) (switch : SwitchState) (seat : SeatState) → IsUnused switch seat → 1 ≤ count → TripFresh (new_trip_of node order count switch seat) unasked_ports }
+    ensures valve { (node : ℕ) (switch : SwitchState) (seat : SeatState) → IsUnused switch seat → ValveFresh (new_valve_of node switch seat) unpulled_ports }
+    ensures trip { (node : ℕ) (order : Order) (count : ℕ) (switch : SwitchState) (seat : SeatState) → IsUnused switch seat → 1 ≤ count → TripFresh (new_trip_of node order count switch seat) unpulled_ports }
 {}
 
 /// Where its row and its law hold, a stage that was started has closed its ports, or has nothing to do: it waits for its input

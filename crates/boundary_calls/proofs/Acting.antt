@@ -12,7 +12,7 @@ use Rattle.stage_law.specs.Held.{told}
 use Rattle.port_core.specs.Decoding.{can_push, can_pull}
 use Rattle.port_core.specs.Joint.{Joint, idle, asking, asked, moving, ending, closing, leaving, finished, parted, refused, wire_of, IsSound, Histories, under_way}
 use Rattle.port_core.specs.Wire.{Wire, end_of}
-use Rattle.port_core.specs.View.{View, in_at, out_at, IsInOpen, IsOutOpen}
+use Rattle.port_core.specs.View.{View, in_at, out_at, IsInOpen, IsOutOpen, output_closed, input_closed}
 use Rattle.port_core.specs.declared.act.Act.{Act}
 use Rattle.port_core.specs.declared.act.Act.TheVariants.{Pull, Push, Complete, FailOut, Cancel}
 use Rattle.port_core.specs.declared.view.InView.{InView}
@@ -36,7 +36,7 @@ use Rattle.fused_net.specs.Laws.{Minds, IsMinded, Settled}
 use Rattle.fused_net.specs.Poking.{AtNode, TellsPoked}
 use Rattle.fused_net.proofs.Reading.{read_at, get_there, some_same}
 use Rattle.boundary_calls.specs.declared.given.Wanted.TheVariants as wanted
-use Rattle.boundary_calls.specs.Boundary.{IsEntering, IsLeaving, EntersAt, LeavesAt, CameTo, wanted_by, wanted_at, ends_at, is_shut, is_over, moved_at}
+use Rattle.boundary_calls.specs.Boundary.{IsEntering, IsLeaving, EntersAt, LeavesAt, CameTo, wanted_by, wanted_at, ends_at, moved_at}
 
 -- ---- one wire
 
@@ -191,13 +191,13 @@ module _ {S D L B : Type 0} (sources : S → SourceState) (drains : D → DrainS
       (λ e f r law. enters_push f e (view_of net from) (took net from) (gave net from) r law (end_at net.ends q).output t (out_is ∙ y))
       (s.minded from (s.wired.from_within q h) x first xi fi)
 
-  open_out : (y : OutView) → is_shut y ≡ false → IsOutOpen y
+  open_out : (y : OutView) → output_closed y ≡ false → IsOutOpen y
   open_out Unasked e = tt
   open_out Asked e = tt
   open_out Shut e = cc
   open_out Refused e = cc
 
-  pub may_end : (c : Option Cause) → EntersAt net q → is_shut (wire_at net q).wire.out ≡ false → IsMinded node_row (node_law sources drains book) net from (ends_at (end_at net.ends q).output c ∷ [])
+  pub may_end : (c : Option Cause) → EntersAt net q → output_closed (wire_at net q).wire.out ≡ false → IsMinded node_row (node_law sources drains book) net from (ends_at (end_at net.ends q).output c ∷ [])
   may_end None stage e x first xi fi =
       entering_does sources drains book (view_of net from) (took net from) (gave net from) _ x first (stage first fi)
       (λ z f r law. enters_complete f z (view_of net from) (took net from) (gave net from) r law (end_at net.ends q).output (rw out_is (open_out _ e)))
@@ -214,13 +214,13 @@ module _ {S D L B : Type 0} (sources : S → SourceState) (drains : D → DrainS
       (λ e f at r law. leaves_pull f e (view_of net to) (took net to) (gave net to) r law (end_at net.ends q).input (sym (ap node_waits at) ∙ clear x xi) (inp_is ∙ y))
       (s.minded to (s.wired.to_within q h) x first xi fi)
 
-  open_in : (y : InView) → is_over y ≡ false → IsInOpen y
+  open_in : (y : InView) → input_closed y ≡ false → IsInOpen y
   open_in Idle e = tt
   open_in Waiting e = tt
   open_in Over e = cc
   open_in Left e = cc
 
-  pub may_cancel : LeavesAt net q → is_over (wire_at net q).wire.inp ≡ false → IsMinded node_row (node_law sources drains book) net to (Cancel (end_at net.ends q).input ∷ [])
+  pub may_cancel : LeavesAt net q → input_closed (wire_at net q).wire.inp ≡ false → IsMinded node_row (node_law sources drains book) net to (Cancel (end_at net.ends q).input ∷ [])
   may_cancel stage e x first xi fi =
       leaving_does sources drains book (view_of net to) (took net to) (gave net to) _ x first (stage first fi)
       (λ z f at r law. leaves_cancel f z (view_of net to) (took net to) (gave net to) r law (end_at net.ends q).input (rw inp_is (open_in _ e)))

@@ -1,4 +1,5 @@
 -- The boundary stages of a net of nodes, each by the place of the connection that it has.
+use Rattle.port_core.specs.View.{input_closed, output_closed}
 use Rattle.std.specs.Prelude.{◌≡◌, ◌≤◌, ◌++◌, ℕ, Bool, true, false, if◌then◌else◌, Option, None, Some, List, [], slice_get, ⊤}
 use Rattle.elem_core.specs.declared.why.Cause.{Cause}
 use Rattle.elem_core.specs.Tree.{Tree}
@@ -12,7 +13,6 @@ use Rattle.port_core.specs.declared.act.Act.TheVariants as act
 use Rattle.port_core.specs.declared.view.OutView.{OutView}
 use Rattle.port_core.specs.declared.view.OutView.TheVariants.{Refused}
 use Rattle.wire_core.specs.Cell.{Cell, moved_by, queues_by}
-pub use Rattle.wire_core.specs.Closes.{is_shut, is_over}
 use Rattle.wire_core.specs.Counts.{elements}
 use Rattle.wire_core.specs.Marks.{wanted as asks_of}
 use Rattle.nodes.specs.declared.node.Node.{Node}
@@ -67,11 +67,11 @@ module _ {S D L B : Type 0} where
 
   -- the input there is cancelled, where it is open
   abbrev pub cancelled_at : Net (Node S D L B) → ℕ → Net (Node S D L B)
-  cancelled_at net q = if is_over (wire_at net q).wire.inp then net else moved_at net q (act.Cancel 0)
+  cancelled_at net q = if input_closed (wire_at net q).wire.inp then net else moved_at net q (act.Cancel 0)
 
   -- the output there ends, where it is open
   abbrev pub ended_at : Net (Node S D L B) → ℕ → Option Cause → Net (Node S D L B)
-  ended_at net q cause = if is_shut (wire_at net q).wire.out then net else moved_at net q (ends_at 0 cause)
+  ended_at net q cause = if output_closed (wire_at net q).wire.out then net else moved_at net q (ends_at 0 cause)
 
   -- nothing waits to be handed out where the connection at place q leads
   abbrev pub IsClearAt : Net (Node S D L B) → ℕ → Type 0

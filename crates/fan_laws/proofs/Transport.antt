@@ -30,17 +30,18 @@ use Rattle.stream_picture.specs.Rests.{
   BalanceRests,
   PartitionRests,
 }
-use Rattle.stage_law.specs.OwnPorts.{is_waiting, in_shut, is_asked, out_shut}
+use Rattle.port_core.specs.View.{input_closed, output_closed}
+use Rattle.stage_law.specs.OwnPorts.{is_waiting, is_asked}
 use Rattle.stage_law.specs.Row.{InClosed, OutClosed}
 use Rattle.run_account.specs.Items.{list_of}
 use Rattle.run_account.specs.Ports.{InPort, OutPort, EachPort, InStands, OutStands, InRests, OutRests}
 
 -- a node's own ports as wires, each read as no lane
 abbrev pub own_in : InPort → picture.View
-own_in i = record { wire = 0; sent = elements i.got; asked = is_waiting i.view; shut = in_shut i.view; lane = None; list = list_of i.got }
+own_in i = record { wire = 0; sent = elements i.got; asked = is_waiting i.view; shut = input_closed i.view; lane = None; list = list_of i.got }
 
 abbrev pub own_out : OutPort → picture.View
-own_out o = record { wire = 0; sent = elements o.sent; asked = is_asked o.view; shut = out_shut o.view; lane = None; list = list_of o.sent }
+own_out o = record { wire = 0; sent = elements o.sent; asked = is_asked o.view; shut = output_closed o.view; lane = None; list = list_of o.sent }
 
 waiting_is : (x : InView) → is_waiting x ≡ true → x ≡ Waiting
 waiting_is Waiting e = refl
@@ -48,19 +49,19 @@ waiting_is Idle e = cc
 waiting_is Over e = cc
 waiting_is Left e = cc
 
-idle_is : (x : InView) → is_waiting x ≡ false → in_shut x ≡ false → x ≡ Idle
+idle_is : (x : InView) → is_waiting x ≡ false → input_closed x ≡ false → x ≡ Idle
 idle_is Idle a b = refl
 idle_is Waiting a b = cc
 idle_is Over a b = cc
 idle_is Left a b = cc
 
-closed_is : (x : InView) → in_shut x ≡ true → InClosed x
+closed_is : (x : InView) → input_closed x ≡ true → InClosed x
 closed_is Over e = tt
 closed_is Left e = tt
 closed_is Idle e = absurd cc
 closed_is Waiting e = absurd cc
 
-over_is : (x : InView) → in_shut x ≡ true → x ≢ Left → x ≡ Over
+over_is : (x : InView) → input_closed x ≡ true → x ≢ Left → x ≡ Over
 over_is Over e n = refl
 over_is Left e n = absurd (n refl)
 over_is Idle e n = cc
@@ -72,13 +73,13 @@ asked_is Unasked e = cc
 asked_is Shut e = cc
 asked_is Refused e = cc
 
-unasked_is : (y : OutView) → is_asked y ≡ false → out_shut y ≡ false → y ≡ Unasked
+unasked_is : (y : OutView) → is_asked y ≡ false → output_closed y ≡ false → y ≡ Unasked
 unasked_is Unasked a b = refl
 unasked_is Asked a b = cc
 unasked_is Shut a b = cc
 unasked_is Refused a b = cc
 
-out_closed_is : (y : OutView) → out_shut y ≡ true → OutClosed y
+out_closed_is : (y : OutView) → output_closed y ≡ true → OutClosed y
 out_closed_is Shut e = tt
 out_closed_is Refused e = tt
 out_closed_is Unasked e = absurd cc

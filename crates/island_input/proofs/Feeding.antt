@@ -26,7 +26,8 @@ use Rattle.input_boundary.specs.declared.state.State.{State}
 use Rattle.input_boundary.specs.declared.state.State.TheVariants.{Flowing, Closed, Cancelled}
 use Rattle.input_boundary.specs.Boundary.{given, waits, state, BoundaryKeeps}
 use Rattle.boundary_calls.specs.declared.given.Wanted.TheVariants as wanted
-use Rattle.boundary_calls.specs.Boundary.{is_shut, wanted_by, wanted_at, moved_at, ended_at, ends_at}
+use Rattle.port_core.specs.View.{output_closed}
+use Rattle.boundary_calls.specs.Boundary.{wanted_by, wanted_at, moved_at, ended_at, ends_at}
 use Rattle.interpreter.specs.Island.{Kept, Keeps}
 use Rattle.interpreter.specs.Boundary.{way_in, cell_in, Enters, with_net}
 use Rattle.output_boundary.specs.Beside.{Beside, in_node}
@@ -66,7 +67,7 @@ wanted_cancel Unasked false e = absurd cc
 wanted_cancel Asked false e = absurd cc
 wanted_cancel Shut false e = absurd cc
 
-pub open_live : (y : OutView) → y ≢ Shut → y ≢ Refused → is_shut y ≡ false
+pub open_live : (y : OutView) → y ≢ Shut → y ≢ Refused → output_closed y ≡ false
 open_live Unasked a b = refl
 open_live Asked a b = refl
 open_live Shut a b = absurd (a refl)
@@ -112,7 +113,7 @@ shut_unasked true e = cc
 shut_unasked false e = cc
 
 -- an end is handed on by a call of its own
-pub ended_moved : {S D L B : Type 0} (i : Kept S D L B) (q : ℕ) (cause : Option Cause) (new : Kept S D L B) → is_shut (wire_at i.net q).wire.out ≡ false → new ≡ with_net i (ended_at i.net q cause) → new ≡ with_net i (moved_at i.net q (ends_at 0 cause))
+pub ended_moved : {S D L B : Type 0} (i : Kept S D L B) (q : ℕ) (cause : Option Cause) (new : Kept S D L B) → output_closed (wire_at i.net q).wire.out ≡ false → new ≡ with_net i (ended_at i.net q cause) → new ≡ with_net i (moved_at i.net q (ends_at 0 cause))
 ended_moved i q cause new free is = rw free at is
 
 module _ {S D L B : Type 0} (b : InputBoundary) (i : Kept S D L B) (u : ℕ) (x : Item) (new : Kept S D L B) (is : new ≡ with_net i (moved_at i.net (way_in i u) (act_of x))) (h : way_in i u < length i.net.wires) where

@@ -7,7 +7,8 @@ ghost use Rattle.lane_core.specs.Lane.{ends};
 ghost use Rattle.lane_core.specs.Ends.{taken, asked, asks, has_cancelled, found_sent, told_sent, IsSameIn};
 ghost use Rattle.input_boundary.specs.Boundary.{given, waits, is_over, state, BoundaryKeeps};
 ghost use Rattle.input_boundary.specs.declared.state.State.TheVariants.{Flowing, Closed, Cancelled};
-ghost use Rattle.boundary_calls.specs.Boundary.{wanted_at, is_shut, moved_at};
+ghost use Rattle.port_core.specs.View.{output_closed};
+ghost use Rattle.boundary_calls.specs.Boundary.{wanted_at, moved_at};
 ghost use Rattle.boundary_calls.specs.declared.given.Wanted.TheVariants as wanted;
 ghost use Rattle.interpreter.specs.Boundary.{Enters, way_in, cell_in, with_net};
 ghost use Rattle.output_boundary.specs.Beside.{Beside, in_node};
@@ -204,7 +205,7 @@ fn give<S: Source, D: Drain, L: Logic, B: PlugBook>(
     requires whole { island.old.broken ≡ false }
     requires enters { Enters island.old wire }
     requires asked { ends item ≡ false → wanted_at (cell_in island.old wire) ≡ wanted.Asked }
-    requires live { is_shut (cell_in island.old wire).wire.out ≡ false }
+    requires live { output_closed (cell_in island.old wire).wire.out ≡ false }
     ensures after { island.new ≡ with_net island.old (moved_at island.old.net (way_in island.old wire) (act_of item)) }
     ensures uses { Uses island.old.net island.new.net 0 }
 {

@@ -16,7 +16,8 @@ use Rattle.fused_net.specs.Laws.{GoesOn}
 use Rattle.fused_net.specs.Poking.{HandsAt}
 use Rattle.fused_net.proofs.Reading.{get_set_other}
 use Rattle.fused_net.proofs.Ongoing.{goes_same, goes_trans, goes_put, goes_node}
-use Rattle.boundary_calls.specs.Boundary.{is_over, moved_at, cancelled_at, LeavesAt, EntersAt}
+use Rattle.port_core.specs.View.{input_closed}
+use Rattle.boundary_calls.specs.Boundary.{moved_at, cancelled_at, LeavesAt, EntersAt}
 use Rattle.interpreter.specs.Island.{Kept}
 use Rattle.interpreter.specs.Boundary.{way_in, way_out, Enters, Leaves, HandsOut, Drops, with_net}
 use Rattle.output_boundary.specs.Beside.{Beside, out_node, in_node}
@@ -113,7 +114,7 @@ module _ {S D L B : Type 0} where
 
   -- a cancel was handed on
   pub beside_drops : (i new : Kept S D L B) (u : ℕ) (x : Node S D L B) → slice_get i.net.nodes (out_node i u) ≡ Some x → Drops i u new → Beside (way_out i u) (out_node i u) i new
-  beside_drops i new u x at d = by_over (is_over (wire_at i.net (way_out i u)).wire.inp) refl
+  beside_drops i new u x at d = by_over (input_closed (wire_at i.net (way_out i u)).wire.inp) refl
     where
       after : (mid : Net (Node S D L B)) → cancelled_at i.net (way_out i u) ≡ mid → Beside (way_out i u) (out_node i u) i (with_net i mid) → slice_get mid.nodes (out_node i u) ≡ Some x → Beside (way_out i u) (out_node i u) i new
       after mid e b there =
@@ -121,6 +122,6 @@ module _ {S D L B : Type 0} where
           let is : new ≡ with_net i (with_node mid (out_node i u) h.next) = d.rest ∙ ap (λ (n : Net _). with_net i n) h.is ∙ ap (λ (n : Net _). with_net i (with_node n (out_node i u) h.next)) e in
           beside_trans (way_out i u) (out_node i u) i (with_net i mid) new b (beside_node (way_out i u) (with_net i mid) (out_node i u) h.next new is)
 
-      by_over : (b : Bool) → is_over (wire_at i.net (way_out i u)).wire.inp ≡ b → Beside (way_out i u) (out_node i u) i new
+      by_over : (b : Bool) → input_closed (wire_at i.net (way_out i u)).wire.inp ≡ b → Beside (way_out i u) (out_node i u) i new
       by_over true e = after i.net (rw e refl) (beside_same (way_out i u) (out_node i u) i) at
       by_over false e = after (moved_at i.net (way_out i u) (act.Cancel 0)) (rw e refl) (beside_moved (out_node i u) i (way_out i u) (act.Cancel 0) _ refl) at

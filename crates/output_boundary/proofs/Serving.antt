@@ -10,7 +10,7 @@ use Rattle.stream_io.specs.State.{SourceState, DrainState}
 use Rattle.port_core.specs.Decoding.{can_pull}
 use Rattle.port_core.specs.Joint.{Joint, idle, asking, asked, moving, ending, closing, leaving, finished, parted, refused, wire_of, IsSound, Histories}
 use Rattle.port_core.specs.Wire.{Wire}
-use Rattle.port_core.specs.View.{View}
+use Rattle.port_core.specs.View.{View, input_closed}
 use Rattle.port_core.specs.declared.view.InView.{InView}
 use Rattle.port_core.specs.declared.view.InView.TheVariants.{Idle, Waiting, Over, Left}
 use Rattle.port_core.specs.declared.act.Act.TheVariants as act
@@ -30,7 +30,7 @@ use Rattle.fused_net.proofs.Reading.{get_set_same, get_there}
 use Rattle.lane_core.specs.declared.lane_out.LaneOut.{LaneOut}
 use Rattle.lane_core.specs.Lane as lane
 use Rattle.lane_core.specs.Ends.{sent, seen, saw_cancel, has_ended}
-use Rattle.boundary_calls.specs.Boundary.{CameTo, IsClearAt, IsLeaving, LeavesAt, is_over, moved_at, cancelled_at}
+use Rattle.boundary_calls.specs.Boundary.{CameTo, IsClearAt, IsLeaving, LeavesAt, moved_at, cancelled_at}
 use Rattle.interpreter.specs.Island.{Kept, Keeps}
 use Rattle.interpreter.specs.Boundary.{way_out, cell_out, Leaves, HandsOut, Drops, with_net}
 use Rattle.output_boundary.specs.Beside.{Beside, out_node, waits_of, waiting}
@@ -166,7 +166,7 @@ module _ {S D L B : Type 0} (o : LaneOut) (i : Kept S D L B) (u : ℕ) where
   pub served_cancelled : saw_cancel o ≡ 1 → IsServed o i u
   served_cancelled c = record { sent_all = λ z. cc; used = λ z. cc }
 
-  over_closed : (x : InView) → is_over x ≡ true → InClosed x
+  over_closed : (x : InView) → input_closed x ≡ true → InClosed x
   over_closed Idle e = cc
   over_closed Waiting e = cc
   over_closed Over e = tt
@@ -193,19 +193,19 @@ module _ {S D L B : Type 0} (o : LaneOut) (i : Kept S D L B) (u : ℕ) where
       })
     where
       mid_node : (x : Node S D L B) → slice_get i.net.nodes (out_node i u) ≡ Some x → slice_get (cancelled_at i.net (way_out i u)).nodes (out_node i u) ≡ Some x
-      mid_node x at = by_over (is_over (wire_at i.net (way_out i u)).wire.inp) refl
+      mid_node x at = by_over (input_closed (wire_at i.net (way_out i u)).wire.inp) refl
         where
-          by_over : (b : Bool) → is_over (wire_at i.net (way_out i u)).wire.inp ≡ b → slice_get (cancelled_at i.net (way_out i u)).nodes (out_node i u) ≡ Some x
+          by_over : (b : Bool) → input_closed (wire_at i.net (way_out i u)).wire.inp ≡ b → slice_get (cancelled_at i.net (way_out i u)).nodes (out_node i u) ≡ Some x
           by_over true e = rw e at
           by_over false e = rw e at
 
       mid_cell : way_out i u < length i.net.wires → InClosed (wire_at (cancelled_at i.net (way_out i u)) (way_out i u)).wire.inp × (((wire_at (cancelled_at i.net (way_out i u)) (way_out i u)).wire.got ≡ (cell_out i u).wire.got) × (wanted (wire_at (cancelled_at i.net (way_out i u)) (way_out i u)) ≡ wanted (cell_out i u)))
-      mid_cell h = by_over (is_over (wire_at i.net (way_out i u)).wire.inp) refl
+      mid_cell h = by_over (input_closed (wire_at i.net (way_out i u)).wire.inp) refl
         where
           there : wire_at (moved_at i.net (way_out i u) (act.Cancel 0)) (way_out i u) ≡ moved_by (act.Cancel 0) (cell_out i u)
           there = get_or-set_same i.net.wires (way_out i u) (moved_by (act.Cancel 0) (cell_out i u)) no_wire h
 
-          by_over : (b : Bool) → is_over (wire_at i.net (way_out i u)).wire.inp ≡ b → InClosed (wire_at (cancelled_at i.net (way_out i u)) (way_out i u)).wire.inp × (((wire_at (cancelled_at i.net (way_out i u)) (way_out i u)).wire.got ≡ (cell_out i u).wire.got) × (wanted (wire_at (cancelled_at i.net (way_out i u)) (way_out i u)) ≡ wanted (cell_out i u)))
+          by_over : (b : Bool) → input_closed (wire_at i.net (way_out i u)).wire.inp ≡ b → InClosed (wire_at (cancelled_at i.net (way_out i u)) (way_out i u)).wire.inp × (((wire_at (cancelled_at i.net (way_out i u)) (way_out i u)).wire.got ≡ (cell_out i u).wire.got) × (wanted (wire_at (cancelled_at i.net (way_out i u)) (way_out i u)) ≡ wanted (cell_out i u)))
           by_over true e = rw e (over_closed _ e, (refl, refl))
           by_over false e = rw (e, there) (tt, (refl, refl))
 

@@ -1,6 +1,6 @@
 -- The port rules as a stage sees them: what it knows of its ports, where it may do an action, and what it knows then.
 -- A stage has a list of inputs and a list of outputs, each numbered from 0. A closing by the other end counts once it came.
-use Rattle.std.specs.Prelude.{◌≡◌, ℕ, List, [], ◌∷◌, slice_index_or, slice_set, replicate, ⊤}
+use Rattle.std.specs.Prelude.{◌≡◌, ℕ, Bool, true, false, List, [], ◌∷◌, slice_index_or, slice_set, replicate, ⊤}
 use Rattle.port_core.specs.declared.act.Act.{Act}
 use Rattle.port_core.specs.declared.act.Act.TheVariants.{Pull, Push, Complete, FailOut, Cancel}
 use Rattle.port_core.specs.declared.view.InView.{InView}
@@ -44,6 +44,19 @@ IsOutOpen Unasked = ⊤
 IsOutOpen Asked = ⊤
 IsOutOpen Shut = ⊥
 IsOutOpen Refused = ⊥
+
+-- whether an input has ended or was cancelled, and whether an output was closed or cancelled
+abbrev pub input_closed : InView → Bool
+input_closed Idle = false
+input_closed Waiting = false
+input_closed Over = true
+input_closed Left = true
+
+abbrev pub output_closed : OutView → Bool
+output_closed Unasked = false
+output_closed Asked = false
+output_closed Shut = true
+output_closed Refused = true
 
 -- where the stage may do the action
 abbrev pub ActAllowed : View → Act → Type 0

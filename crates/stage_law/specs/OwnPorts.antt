@@ -1,5 +1,6 @@
 -- A stage's own ports as wires of a picture, each read as no lane, with what passed there: so the rows of a picture that
 -- rests are rows of the stage.
+use Rattle.port_core.specs.View.{input_closed, output_closed}
 use Rattle.std.specs.Prelude.{◌⊎◌, Bool, true, false, List, length, None}
 use Rattle.elem_core.specs.Tree.{Tree}
 use Rattle.port_core.specs.declared.view.InView.{InView}
@@ -18,13 +19,6 @@ is_waiting Waiting = true
 is_waiting Over = false
 is_waiting Left = false
 
--- the end came, or the stage cancelled
-abbrev pub in_shut : InView → Bool
-in_shut Idle = false
-in_shut Waiting = false
-in_shut Over = true
-in_shut Left = true
-
 -- the output was asked, and no element was pushed since
 abbrev pub is_asked : OutView → Bool
 is_asked Unasked = false
@@ -32,20 +26,13 @@ is_asked Asked = true
 is_asked Shut = false
 is_asked Refused = false
 
--- the stage closed it, or the cancel came
-abbrev pub out_shut : OutView → Bool
-out_shut Unasked = false
-out_shut Asked = false
-out_shut Shut = true
-out_shut Refused = true
-
 -- the wire of an input, of which this list was taken
 abbrev pub own_input : InView → List Tree → View
-own_input x l = record { wire = 0; sent = length l; asked = is_waiting x; shut = in_shut x; lane = None; list = l }
+own_input x l = record { wire = 0; sent = length l; asked = is_waiting x; shut = input_closed x; lane = None; list = l }
 
 -- the wire of an output, on which this list was given
 abbrev pub own_output : OutView → List Tree → View
-own_output y g = record { wire = 0; sent = length g; asked = is_asked y; shut = out_shut y; lane = None; list = g }
+own_output y g = record { wire = 0; sent = length g; asked = is_asked y; shut = output_closed y; lane = None; list = g }
 
 -- A stage with one input and one output, which took l and gave g, has closed its ports or has nothing to do: it waits for
 -- its input and has given all that it may, or nobody asks it.

@@ -5,7 +5,8 @@ ghost use Rattle.port_core.specs.Decoding.{can_pull, can_push, is_at_rest, is_op
 ghost use Rattle.port_core.specs.Wire.{delivery_of, nothing, brought, end_of};
 ghost use Rattle.port_core.specs.declared.act.Act.TheVariants as act;
 ghost use Rattle.wire_core.specs.Cell.{new_cell, moved_by, delivery_in, delivered, brought_in, ended_in};
-ghost use Rattle.wire_core.specs.Closes.{is_shut, is_refused, is_over};
+ghost use Rattle.port_core.specs.View.{output_closed, input_closed};
+ghost use Rattle.wire_core.specs.Closes.{is_refused};
 ghost use Rattle.wire_core.specs.Counts.{elements};
 
 use elem_core::elem::Elem;
@@ -130,7 +131,7 @@ impl Wire {
 
     /// Whether its output closed it, or heard that its input cancelled.
     pub fn is_shut(&self) -> bool
-        ensures { result ≡ is_shut self.now.wire.out }
+        ensures { result ≡ output_closed self.now.wire.out }
     {
         self.shut
     }
@@ -144,7 +145,7 @@ impl Wire {
 
     /// Whether its input cancelled it, or heard of its end.
     pub fn is_over(&self) -> bool
-        ensures { result ≡ is_over self.now.wire.inp }
+        ensures { result ≡ input_closed self.now.wire.inp }
     {
         self.over
     }

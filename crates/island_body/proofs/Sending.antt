@@ -19,7 +19,7 @@ use Rattle.elem_core.proofs.trace.Trace.TheSendSync as trace
 use Rattle.elem_core.proofs.why.Cause.TheSendSync as cause
 use Rattle.elem_core.proofs.why.Why.TheSendSync as why
 use Rattle.stream_model.proofs.outcome.EndState.TheSendSync as end_state
-use Rattle.nodes.proofs.Sending.{line_send}
+use Rattle.nodes.proofs.Sending.{task_send, line_send}
 use Rattle.nodes.proofs.sink.Writes.TheSendSync as writes
 use Rattle.nodes.proofs.source.LinesSource.TheSendSync as lines_source
 use Rattle.atomic_table.proofs.shared.Seat.TheSendSync as seat
@@ -53,7 +53,6 @@ use Rattle.stage_sub.specs.contracts.state.SubState.TheInside as sub_state
 use Rattle.stage_sub.specs.contracts.logic.SubLogic as sub
 use Rattle.stage_sub.specs.contracts.logic.SubLogic.TheInside as sub_inside
 use Rattle.stage_linear.specs.contracts.plug.PlugTask as plug_task
-use Rattle.stage_linear.specs.contracts.task.Task as task
 use Rattle.stage_linear.specs.contracts.worker.Worker as worker
 use Rattle.stage_linear.specs.contracts.logic.LinearLogic as linear
 use Rattle.stage_linear.specs.contracts.logic.LinearLogic.TheInside as linear_inside
@@ -85,9 +84,6 @@ ruleset plain_rules = (tt, trace.the_send, line.the_send, line.the_sync, line_bu
 
 plug_send : (L B : RattleType) (l : logic.Ghosts L.Denot) (b : plug_book.Ghosts B.Denot) → IsSend (param 2 L) → IsSend (param 3 B) → IsSend (plug_task.the_row (param 2 L) (param 3 B) l b)
 plug_send L B l b p q = search plain_rules depth 60 fits 20000
-
-task_send : IsSend (task.the_field).row
-task_send = search plain_rules depth 60 fits 20000
 
 worker_send : (L B : RattleType) (l : logic.Ghosts L.Denot) (b : plug_book.Ghosts B.Denot) → IsSend (param 2 L) → IsSend (param 3 B) → IsSend (worker.the_field (param 2 L) (param 3 B) l b).row
 worker_send L B l b p q =

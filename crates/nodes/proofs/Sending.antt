@@ -21,7 +21,8 @@ use Rattle.line_chain.specs.contracts.line.LineChain as chain
 -- what lists, texts, causes and memory keep to
 ruleset plain_rules = (tt, trace.the_send, line.the_send, line.the_sync, line_buf.the_send, line_buf.the_sync, cause.the_field_send, cause.the_send, why.the_field_send, why.the_send, vec.the_send, option.the_send, option.the_field_send, box.the_send, global.the_send, global.the_field_send, memory.the_send, memory.the_field_send, memory.the_sync, memory.the_field_sync, crosses, knot.crosses, sendable)
 
-task_send : IsSend (task.the_field).row
+-- the list function of a linear stage too
+pub task_send : IsSend (task.the_field).row
 task_send = search plain_rules depth 60 fits 20000
 
 kind_send : IsSend (step_kind.the_field).row

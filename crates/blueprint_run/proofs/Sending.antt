@@ -8,7 +8,7 @@ use Rattle.elem_core.specs.declared.why.Cause.{Cause}
 use Rattle.elem_core.proofs.Prefixes.{prefix_refl, prefix_length}
 use Rattle.port_core.specs.Joint.{IsSound}
 use Rattle.port_core.specs.declared.view.InView.{InView}
-use Rattle.port_core.specs.declared.view.InView.TheVariants.{Waiting}
+use Rattle.port_core.specs.declared.view.InView.TheVariants.{Pulled}
 use Rattle.port_core.specs.declared.view.OutView.{OutView}
 use Rattle.wire_core.specs.Cell.{Cell}
 use Rattle.wire_core.specs.Counts.{elements}
@@ -87,13 +87,13 @@ heads_same : (x y : List Item) → x ∷ [] ≡ y ∷ [] → x ≡ y
 heads_same x y e = cc
 
 -- a sink that goes on waits
-sink_waits : (b : Bool) (i : InView) (outs : List OutView) → OneInOf (sink_row_in b Unended) (i ∷ []) outs → i ≡ Waiting
-sink_waits true Waiting [] r = refl
-sink_waits true Waiting (y ∷ outs) r = refl
+sink_waits : (b : Bool) (i : InView) (outs : List OutView) → OneInOf (sink_row_in b Unended) (i ∷ []) outs → i ≡ Pulled
+sink_waits true Pulled [] r = refl
+sink_waits true Pulled (y ∷ outs) r = refl
 sink_waits _ i [] r = absurd r
 sink_waits _ i (y ∷ outs) r = absurd r
 
-sink_waits_as : (b : Bool) (e : EndState) (i : InView) (outs : List OutView) → e ≡ Unended → OneInOf (sink_row_in b e) (i ∷ []) outs → i ≡ Waiting
+sink_waits_as : (b : Bool) (e : EndState) (i : InView) (outs : List OutView) → e ≡ Unended → OneInOf (sink_row_in b e) (i ∷ []) outs → i ≡ Pulled
 sink_waits_as b Unended i outs is r = sink_waits b i outs r
 sink_waits_as b Ended i outs is r = cc
 sink_waits_as b (Failed c) i outs is r = cc
@@ -179,7 +179,7 @@ module _ {S D L B : Type 0} (sources : S → SourceState) (drains : D → DrainS
         let kept = kept_as node_row (node_law sources drains book) node_asking node_moves g a run.keeps k n (node.Writing first) (node.Writing now) ni there.at_first there.at_last in
         let ins : (knows g a k n).ins ≡ (a.far u).wire.inp ∷ [] = read_one g inp_of a.far k (inputs_of n.kind) u one found in
         let row : OneInOf (sink_row_in now.started now.end) ((a.far u).wire.inp ∷ []) (knows g a k n).outs = subst (λ (l : List InView). OneInOf (sink_row_in now.started now.end) l (knows g a k n).outs) ins kept.row_holds in
-        let waits : (a.far u).wire.inp ≡ Waiting = sink_waits_as now.started now.end (a.far u).wire.inp (knows g a k n).outs goes row in
+        let waits : (a.far u).wire.inp ≡ Pulled = sink_waits_as now.started now.end (a.far u).wire.inp (knows g a k n).outs goes row in
         let rests = in_rests u (a.near u) (a.far u) (a.asked u) [] (still.near u within) (still.far u within) (run.keeps.near_marked u within) (run.keeps.far_marked u within) v.lane keeps (still.quiet u v at) in
         (rests.waits waits).1 ∙ sym (resting_same (a.far u).wire false (still.far u within) refl waits)
 

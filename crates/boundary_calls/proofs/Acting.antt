@@ -16,9 +16,9 @@ use Rattle.port_core.specs.View.{View, in_at, out_at, IsInOpen, IsOutOpen, outpu
 use Rattle.port_core.specs.declared.act.Act.{Act}
 use Rattle.port_core.specs.declared.act.Act.TheVariants.{Pull, Push, Complete, FailOut, Cancel}
 use Rattle.port_core.specs.declared.view.InView.{InView}
-use Rattle.port_core.specs.declared.view.InView.TheVariants.{Idle, Waiting, Over, Left}
+use Rattle.port_core.specs.declared.view.InView.TheVariants.{Idle, Pulled, Finished, Cancelled}
 use Rattle.port_core.specs.declared.view.OutView.{OutView}
-use Rattle.port_core.specs.declared.view.OutView.TheVariants.{Unasked, Asked, Shut, Refused}
+use Rattle.port_core.specs.declared.view.OutView.TheVariants as outlet
 use Rattle.wire_core.specs.Cell.{Cell, moved_by, queues_by}
 use Rattle.wire_core.specs.Counts.{elements}
 use Rattle.wire_core.specs.Marks.{wanted as asks_of}
@@ -40,7 +40,7 @@ use Rattle.boundary_calls.specs.Boundary.{IsEntering, IsLeaving, EntersAt, Leave
 
 -- ---- one wire
 
-asked_j : (j : Joint) (s g : List Item) → can_push (wire_of j s g).conn ≡ true → (wire_of j s g).out ≡ Asked
+asked_j : (j : Joint) (s g : List Item) → can_push (wire_of j s g).conn ≡ true → (wire_of j s g).out ≡ outlet.Available
 asked_j idle s g e = cc
 asked_j asking s g e = cc
 asked_j asked s g e = refl
@@ -53,7 +53,7 @@ asked_j (finished t c) s g e = cc
 asked_j (parted t c) s g e = cc
 asked_j (refused t c) s g e = cc
 
-can_push_asked : (w : Wire) (q : Bool) → IsSound w q → can_push w.conn ≡ true → w.out ≡ Asked
+can_push_asked : (w : Wire) (q : Bool) → IsSound w q → can_push w.conn ≡ true → w.out ≡ outlet.Available
 can_push_asked w q h e = ap (λ (v : Wire). v.out) h.is ∙ asked_j h.joint w.sent w.got (sym (ap (λ (v : Wire). can_push v.conn) h.is) ∙ e)
 
 idle_j : (j : Joint) (s g : List Item) → can_pull (wire_of j s g).conn ≡ true → (wire_of j s g).inp ≡ Idle
@@ -74,10 +74,10 @@ can_pull_idle w q h e = ap (λ (v : Wire). v.inp) h.is ∙ idle_j h.joint w.sent
 
 wanted_push : (y : OutView) (b : Bool) → wanted_by y b ≡ wanted.Asked → b ≡ true
 wanted_push y true e = refl
-wanted_push Unasked false e = cc
-wanted_push Asked false e = cc
-wanted_push Shut false e = cc
-wanted_push Refused false e = cc
+wanted_push outlet.Unpulled false e = cc
+wanted_push outlet.Available false e = cc
+wanted_push outlet.Closed false e = cc
+wanted_push outlet.Cancelled false e = cc
 
 -- ---- one node
 
@@ -178,24 +178,24 @@ module _ {S D L B : Type 0} (sources : S → SourceState) (drains : D → DrainS
   to = (end_at net.ends q).to
 
   out_is : out_at (view_of net from) (end_at net.ends q).output ≡ (wire_at net q).wire.out
-  out_is = read_at out_of net.wires (ports_at net from).outs (end_at net.ends q).output q Shut (s.wired.from_output q h)
+  out_is = read_at out_of net.wires (ports_at net from).outs (end_at net.ends q).output q outlet.Closed (s.wired.from_output q h)
 
   inp_is : in_at (view_of net to) (end_at net.ends q).input ≡ (wire_at net q).wire.inp
-  inp_is = read_at inp_of net.wires (ports_at net to).ins (end_at net.ends q).input q Left (s.wired.to_input q h)
+  inp_is = read_at inp_of net.wires (ports_at net to).ins (end_at net.ends q).input q Cancelled (s.wired.to_input q h)
 
   pub may_push : (t : Tree) → EntersAt net q → wanted_at (wire_at net q) ≡ wanted.Asked → IsMinded node_row (node_law sources drains book) net from (Push (end_at net.ends q).output t ∷ [])
   may_push t stage e x first xi fi =
       let p : can_push (wire_at net q).wire.conn ≡ true = wanted_push (wire_at net q).wire.out _ e in
-      let y : (wire_at net q).wire.out ≡ Asked = can_push_asked (wire_at net q).wire _ (s.sound q h) p in
+      let y : (wire_at net q).wire.out ≡ outlet.Available = can_push_asked (wire_at net q).wire _ (s.sound q h) p in
       entering_does sources drains book (view_of net from) (took net from) (gave net from) _ x first (stage first fi)
       (λ e f r law. enters_push f e (view_of net from) (took net from) (gave net from) r law (end_at net.ends q).output t (out_is ∙ y))
       (s.minded from (s.wired.from_within q h) x first xi fi)
 
   open_out : (y : OutView) → output_closed y ≡ false → IsOutOpen y
-  open_out Unasked e = tt
-  open_out Asked e = tt
-  open_out Shut e = cc
-  open_out Refused e = cc
+  open_out outlet.Unpulled e = tt
+  open_out outlet.Available e = tt
+  open_out outlet.Closed e = cc
+  open_out outlet.Cancelled e = cc
 
   pub may_end : (c : Option Cause) → EntersAt net q → output_closed (wire_at net q).wire.out ≡ false → IsMinded node_row (node_law sources drains book) net from (ends_at (end_at net.ends q).output c ∷ [])
   may_end None stage e x first xi fi =
@@ -216,9 +216,9 @@ module _ {S D L B : Type 0} (sources : S → SourceState) (drains : D → DrainS
 
   open_in : (y : InView) → input_closed y ≡ false → IsInOpen y
   open_in Idle e = tt
-  open_in Waiting e = tt
-  open_in Over e = cc
-  open_in Left e = cc
+  open_in Pulled e = tt
+  open_in Finished e = cc
+  open_in Cancelled e = cc
 
   pub may_cancel : LeavesAt net q → input_closed (wire_at net q).wire.inp ≡ false → IsMinded node_row (node_law sources drains book) net to (Cancel (end_at net.ends q).input ∷ [])
   may_cancel stage e x first xi fi =

@@ -11,7 +11,7 @@ use Rattle.port_core.specs.Decoding.{can_push}
 use Rattle.port_core.specs.declared.act.Act.{Act}
 use Rattle.port_core.specs.declared.act.Act.TheVariants as act
 use Rattle.port_core.specs.declared.view.OutView.{OutView}
-use Rattle.port_core.specs.declared.view.OutView.TheVariants.{Refused}
+use Rattle.port_core.specs.declared.view.OutView.TheVariants.{Cancelled}
 use Rattle.wire_core.specs.Cell.{Cell, moved_by, queues_by}
 use Rattle.wire_core.specs.Counts.{elements}
 use Rattle.wire_core.specs.Marks.{wanted as asks_of}
@@ -35,7 +35,7 @@ IsLeaving _ = ⊥
 
 -- cancelled where the stage heard of it, asked where its connection lets it push
 abbrev pub wanted_by : OutView → Bool → Wanted
-wanted_by Refused b = wanted.Cancelled
+wanted_by Cancelled b = wanted.Cancelled
 wanted_by _ b = if b then wanted.Asked else wanted.Quiet
 
 abbrev pub wanted_at : Cell → Wanted

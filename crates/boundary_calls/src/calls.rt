@@ -31,7 +31,7 @@ pub fn wanted<S: Source, D: Drain, L: Logic, B: PlugBook>(
     ensures { result ≡ wanted_at (wire_at engine.now place) }
 {
     let wire = engine.wire(place);
-    if wire.is_refused() {
+    if wire.is_cancelled() {
         Wanted::Cancelled
     } else if wire.can_push() {
         Wanted::Asked
@@ -75,7 +75,7 @@ pub fn end_in<S: Source, D: Drain, L: Logic, B: PlugBook>(
     ensures on { GoesOn engine.old engine.new }
     ensures uses { Uses engine.old engine.new 0 }
 {
-    if !engine.wire(place).is_shut() {
+    if !engine.wire(place).output_closed() {
         let ends = engine.ends(place);
         engine.poke(ends.from, end_act(ends.output, cause));
     }
@@ -159,7 +159,7 @@ fn cancel<S: Source, D: Drain, L: Logic, B: PlugBook>(
     ensures on { GoesOn engine.old engine.new }
     ensures uses { Uses engine.old engine.new 0 }
 {
-    if !engine.wire(place).is_over() {
+    if !engine.wire(place).input_closed() {
         let ends = engine.ends(place);
         engine.poke(ends.to, Act::Cancel(ends.input));
     }

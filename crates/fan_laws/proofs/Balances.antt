@@ -9,7 +9,7 @@ use Rattle.elem_core.specs.declared.why.Decider.{Decider}
 use Rattle.port_core.specs.View as port
 use Rattle.port_core.specs.View.{View, in_at}
 use Rattle.port_core.specs.declared.view.InView.{InView}
-use Rattle.port_core.specs.declared.view.InView.TheVariants.{Idle, Waiting, Over, Left}
+use Rattle.port_core.specs.declared.view.InView.TheVariants.{Idle, Pulled, Finished, Cancelled}
 use Rattle.port_core.specs.declared.view.OutView.{OutView}
 use Rattle.wire_core.specs.Counts.{elements}
 use Rattle.stream_model.specs.declared.kind.Kind.{Kind}
@@ -83,15 +83,15 @@ gave_all first now v took gave law =
 
 -- ---- as it asked
 
-closed_wait : (xs : List InView) → OneInClosed xs → slice_index_or xs 0 Left ≡ Waiting → ⊥
+closed_wait : (xs : List InView) → OneInClosed xs → slice_index_or xs 0 Cancelled ≡ Pulled → ⊥
 closed_wait [] c e = c
 closed_wait (Idle ∷ []) c e = c
-closed_wait (Waiting ∷ []) c e = c
-closed_wait (Over ∷ []) c e = cc
-closed_wait (Left ∷ []) c e = cc
+closed_wait (Pulled ∷ []) c e = c
+closed_wait (Finished ∷ []) c e = cc
+closed_wait (Cancelled ∷ []) c e = cc
 closed_wait (x ∷ y ∷ xs) c e = c
 
-is_pulled : (over pulled : Bool) → input_of over pulled ≡ Waiting → pulled ≡ true
+is_pulled : (over pulled : Bool) → input_of over pulled ≡ Pulled → pulled ≡ true
 is_pulled true p e = cc
 is_pulled false true e = refl
 is_pulled false false e = cc
@@ -101,7 +101,7 @@ waits_none l None h p = refl
 waits_none l (Some t) h p = let no : true ≡ false = sym p ∙ h.1 in cc
 
 -- where it waits for its input, it gave all that it took
-took_all : (first old : Balancing) (v : View) (took gave : List (List Item)) → row old v → in_at v 0 ≡ Waiting → (law : BalancesAs first old v took gave) → elements (slice_index_or took 0 []) ≡ elements_all gave
+took_all : (first old : Balancing) (v : View) (took gave : List (List Item)) → row old v → in_at v 0 ≡ Pulled → (law : BalancesAs first old v took gave) → elements (slice_index_or took 0 []) ≡ elements_all gave
 took_all first old v took gave r w law = by old.core.live refl r
   where
     by : (b : Bool) → old.core.live ≡ b → row_by b old.core v → elements (slice_index_or took 0 []) ≡ elements_all gave

@@ -6,7 +6,7 @@ use Rattle.elem_core.specs.Tree.{Tree}
 use Rattle.elem_core.specs.declared.item.Item.{Item}
 use Rattle.port_core.specs.View as port
 use Rattle.port_core.specs.declared.view.InView.{InView}
-use Rattle.port_core.specs.declared.view.InView.TheVariants.{Idle, Waiting, Over, Left}
+use Rattle.port_core.specs.declared.view.InView.TheVariants.{Idle, Pulled, Finished, Cancelled}
 use Rattle.wire_core.specs.Counts.{elements}
 use Rattle.stream_model.specs.Outlook.{Outlook, End, unended, ended, failed}
 use Rattle.stream_model.specs.FanIn.{Inflow, flow}
@@ -26,7 +26,7 @@ Flows (x ∷ xs) (h ∷ hs) (f ∷ fs) = ((h ≡ told f.list f.end) × TookAs x 
 Flows _ _ _ = ⊥
 
 flows : (xs : List InView) (hs : List (List Item)) (fs : List Inflow) → length hs ≡ length xs → length fs ≡ length xs → ((i : ℕ) (f : Inflow) → slice_get fs i ≡ Some f → slice_index_or hs i [] ≡ told f.list f.end)
-    → ((i : ℕ) (f : Inflow) → slice_get fs i ≡ Some f → TookAs (slice_index_or xs i Left) f.end) → Flows xs hs fs
+    → ((i : ℕ) (f : Inflow) → slice_get fs i ≡ Some f → TookAs (slice_index_or xs i Cancelled) f.end) → Flows xs hs fs
 flows [] [] [] m n t a = tt
 flows [] [] (f ∷ fs) m n t a = absurd (omega (arith, n))
 flows [] (h ∷ hs) fs m n t a = absurd (omega (arith, m))
@@ -72,25 +72,25 @@ some_elements (suc p) (h ∷ hs) = let rest = some_elements p hs in omega (arith
 
 -- ---- an end that came is the last that comes
 
-pub ended_over : (x : InView) (e : End) → TookAs x e → e ≢ unended → x ≡ Over
-ended_over Over e h n = refl
+pub ended_over : (x : InView) (e : End) → TookAs x e → e ≢ unended → x ≡ Finished
+ended_over Finished e h n = refl
 ended_over Idle e h n = absurd (n h)
-ended_over Waiting e h n = absurd (n h)
-ended_over Left e h n = absurd (n h)
+ended_over Pulled e h n = absurd (n h)
+ended_over Cancelled e h n = absurd (n h)
 
-pub over_ended : (x : InView) (e : End) → TookAs x e → x ≡ Over → e ≢ unended
-over_ended Over unended h n = absurd h
-over_ended Over ended h n = λ e. cc
-over_ended Over (failed c) h n = λ e. cc
+pub over_ended : (x : InView) (e : End) → TookAs x e → x ≡ Finished → e ≢ unended
+over_ended Finished unended h n = absurd h
+over_ended Finished ended h n = λ e. cc
+over_ended Finished (failed c) h n = λ e. cc
 over_ended Idle e h n = cc
-over_ended Waiting e h n = cc
-over_ended Left e h n = cc
+over_ended Pulled e h n = cc
+over_ended Cancelled e h n = cc
 
-pub open_unended : (x : InView) (e : End) → TookAs x e → x ≢ Over → e ≡ unended
-open_unended Over e h n = absurd (n refl)
+pub open_unended : (x : InView) (e : End) → TookAs x e → x ≢ Finished → e ≡ unended
+open_unended Finished e h n = absurd (n refl)
 open_unended Idle e h n = h
-open_unended Waiting e h n = h
-open_unended Left e h n = h
+open_unended Pulled e h n = h
+open_unended Cancelled e h n = h
 
 -- a history that goes on behind an end is that history
 pub done_same : (f g : Inflow) (h s : List Item) → h ≡ told f.list f.end → s ≡ told g.list g.end → IsPrefix h s → f.end ≢ unended → (g.list ≡ f.list) × (g.end ≡ f.end)

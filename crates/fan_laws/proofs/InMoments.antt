@@ -8,8 +8,8 @@ use Rattle.elem_core.specs.declared.item.Item.{Item}
 use Rattle.port_core.specs.View as port
 use Rattle.port_core.specs.View.{in_at, out_at}
 use Rattle.port_core.specs.declared.view.InView.{InView}
-use Rattle.port_core.specs.declared.view.InView.TheVariants.{Idle, Waiting, Over, Left}
-use Rattle.port_core.specs.declared.view.OutView.TheVariants.{Asked}
+use Rattle.port_core.specs.declared.view.InView.TheVariants.{Idle, Pulled, Finished, Cancelled}
+use Rattle.port_core.specs.declared.view.OutView.TheVariants.{Available}
 use Rattle.wire_core.specs.Counts.{elements}
 use Rattle.stream_model.specs.Outlook.{End, unended, ended, failed}
 use Rattle.stream_model.specs.FanIn.{Tagged, Inflow, flow, pairs}
@@ -36,23 +36,23 @@ use Rattle.run_account.proofs.Histories.{list_of_told, begun}
 use Rattle.fan_laws.proofs.Flows.{Flows, law_flows, flow_count, done_same}
 
 -- an input of one that has closed its ports does not wait
-pub closed_wait : (xs : List InView) (p : ℕ) → InsClosed xs → slice_index_or xs p Left ≡ Waiting → ⊥
+pub closed_wait : (xs : List InView) (p : ℕ) → InsClosed xs → slice_index_or xs p Cancelled ≡ Pulled → ⊥
 closed_wait [] p c e = cc
 closed_wait (Idle ∷ xs) p c e = c.0
-closed_wait (Waiting ∷ xs) p c e = c.0
-closed_wait (Over ∷ xs) zero c e = cc
-closed_wait (Left ∷ xs) zero c e = cc
-closed_wait (Over ∷ xs) (suc p) c e = closed_wait xs p c.1 e
-closed_wait (Left ∷ xs) (suc p) c e = closed_wait xs p c.1 e
+closed_wait (Pulled ∷ xs) p c e = c.0
+closed_wait (Finished ∷ xs) zero c e = cc
+closed_wait (Cancelled ∷ xs) zero c e = cc
+closed_wait (Finished ∷ xs) (suc p) c e = closed_wait xs p c.1 e
+closed_wait (Cancelled ∷ xs) (suc p) c e = closed_wait xs p c.1 e
 
-seat_waiting : (b x asked : Bool) → seat b x asked ≡ Waiting → (asked ≡ true) × (x ≡ true)
+seat_waiting : (b x asked : Bool) → seat b x asked ≡ Pulled → (asked ≡ true) × (x ≡ true)
 seat_waiting true x asked e = cc
 seat_waiting false true true e = (refl, refl)
 seat_waiting false true false e = cc
 seat_waiting false false asked e = cc
 
 -- of those of which one is asked, that one waits
-seats_waiting : (n c p : ℕ) (over : List Bool) (asked : Bool) → slice_index_or (seats n over c asked) p Left ≡ Waiting → (asked ≡ true) × (n + p ≡ c)
+seats_waiting : (n c p : ℕ) (over : List Bool) (asked : Bool) → slice_index_or (seats n over c asked) p Cancelled ≡ Pulled → (asked ≡ true) × (n + p ≡ c)
 seats_waiting n c p [] asked e = cc
 seats_waiting n c zero (b ∷ over) asked e =
     let r = seat_waiting b (n == c) asked e in
@@ -63,14 +63,14 @@ seats_waiting n c (suc p) (b ∷ over) asked e =
     let same = r.1 in
     (r.0, omega (arith, same))
 
-seat_left : (b x asked : Bool) → seat b x asked ≢ Left
+seat_left : (b x asked : Bool) → seat b x asked ≢ Cancelled
 seat_left true x asked = λ e. cc
 seat_left false true true = λ e. cc
 seat_left false true false = λ e. cc
 seat_left false false asked = λ e. cc
 
 -- none of them is cancelled
-pub seats_left : (n c p : ℕ) (over : List Bool) (asked : Bool) → p < length (seats n over c asked) → slice_index_or (seats n over c asked) p Left ≢ Left
+pub seats_left : (n c p : ℕ) (over : List Bool) (asked : Bool) → p < length (seats n over c asked) → slice_index_or (seats n over c asked) p Cancelled ≢ Cancelled
 seats_left n c p [] asked l = absurd (omega (arith, l))
 seats_left n c zero (b ∷ over) asked l = seat_left b (n == c) asked
 seats_left n c (suc p) (b ∷ over) asked l = seats_left (n + 1) c p over asked (omega (arith, l))
@@ -87,13 +87,13 @@ pub record Turn (segment : Option ℕ) (p : ℕ) (v : port.View) (had given : Li
   pub flows : List Inflow
   pub used : List Tagged
   pub ins : v.ins ≡ seats 0 over p true
-  pub asked : out_at v 0 ≡ Asked
+  pub asked : out_at v 0 ≡ Available
   pub came : Flows v.ins had flows
   pub uses : Uses 0 used (none_of over) flows
   pub order : InOrder segment over p
   pub count : elements (slice_index_or given 0 []) ≡ length used
 
-taking_turn : (first l : Taking) (v : port.View) (had given : List (List Item)) (p : ℕ) → taking.row l v → InLaw (logic.Taking first) (logic.Taking l) v had given → in_at v p ≡ Waiting → Turn first.segment p v had given
+taking_turn : (first l : Taking) (v : port.View) (had given : List (List Item)) (p : ℕ) → taking.row l v → InLaw (logic.Taking first) (logic.Taking l) v had given → in_at v p ≡ Pulled → Turn first.segment p v had given
 taking_turn first l v had given p r law waits = by l.live refl r
   where
     by : (b : Bool) → l.live ≡ b → taking.row_by b l v → Turn first.segment p v had given
@@ -101,7 +101,7 @@ taking_turn first l v had given p r law waits = by l.live refl r
     by true e r =
         let ins : v.ins ≡ seats 0 l.over l.current l.asked = ap (λ (w : port.View). w.ins) r.0 in
         let outs : v.outs ≡ wish l.asked ∷ [] = ap (λ (w : port.View). w.outs) r.0 in
-        let s = seats_waiting 0 l.current p l.over l.asked (ap (λ (xs : List InView). slice_index_or xs p Left) (sym ins) ∙ waits) in
+        let s = seats_waiting 0 l.current p l.over l.asked (ap (λ (xs : List InView). slice_index_or xs p Cancelled) (sym ins) ∙ waits) in
         let here : p ≡ l.current = let z = s.1 in omega (arith, z) in
         let keeps = subst (λ x. FanKeeps (taking_by first.segment) (taking.place_of first) (taking.held_by x (taking.place_of l) l.over) law.by.law.ins law.by.law.out_list law.by.law.out_end) e law.by.law.keeps in
         record {
@@ -116,7 +116,7 @@ taking_turn first l v had given p r law waits = by l.live refl r
           count = given_count law.by ∙ (ap length keeps.1.gave_is ∙ length-map keeps.1.given (λ (x : Tagged). x.item));
         }
 
-pub turn_of : (first : Taking) (old : InLogic) (v : port.View) (had given : List (List Item)) (p : ℕ) → InRow old v → InLaw (logic.Taking first) old v had given → in_at v p ≡ Waiting → Turn first.segment p v had given
+pub turn_of : (first : Taking) (old : InLogic) (v : port.View) (had given : List (List Item)) (p : ℕ) → InRow old v → InLaw (logic.Taking first) old v had given → in_at v p ≡ Pulled → Turn first.segment p v had given
 turn_of first (logic.Taking l) v had given p r law waits = taking_turn first l v had given p r.row law waits
 turn_of first (logic.Sorting l) v had given p r law waits = absurd law.same
 turn_of first (logic.Zipping l) v had given p r law waits = absurd law.same
@@ -125,7 +125,7 @@ turn_of first (logic.Merging l) v had given p r law waits = absurd law.same
 -- ---- a merge_sorted or a zip
 
 -- an input that waits holds nothing
-inlet_empty : (h : Option Tree) (o : Bool) → inlet_view (record { held = h; over = o }) ≡ Waiting → listed h ≡ []
+inlet_empty : (h : Option Tree) (o : Bool) → inlet_view (record { held = h; over = o }) ≡ Pulled → listed h ≡ []
 inlet_empty None o e = refl
 inlet_empty (Some t) true e = cc
 inlet_empty (Some t) false e = cc
@@ -135,10 +135,10 @@ pub record Waits (l : Pairing) (p : ℕ) : Type 0 where
   pub is_open : l.phase ≡ Open
   pub empty : ((p ≡ 0) × (listed l.left.held ≡ [])) ⊎ ((p ≡ 1) × (listed l.right.held ≡ []))
 
-pub pair_waits : (Sound : Pairing → Type 0) (l : Pairing) (v : port.View) (p : ℕ) → (l.phase ≡ New → ⊥) → row_by Sound l.phase l v → in_at v p ≡ Waiting → Waits l p
+pub pair_waits : (Sound : Pairing → Type 0) (l : Pairing) (v : port.View) (p : ℕ) → (l.phase ≡ New → ⊥) → row_by Sound l.phase l v → in_at v p ≡ Pulled → Waits l p
 pair_waits Sound l v p started r waits = by l.phase refl r
   where
-    at : (q : ℕ) → in_at (pair_view l) q ≡ Waiting → ((q ≡ 0) × (listed l.left.held ≡ [])) ⊎ ((q ≡ 1) × (listed l.right.held ≡ []))
+    at : (q : ℕ) → in_at (pair_view l) q ≡ Pulled → ((q ≡ 0) × (listed l.left.held ≡ [])) ⊎ ((q ≡ 1) × (listed l.right.held ≡ []))
     at zero e = inl (refl, inlet_empty l.left.held l.left.over e)
     at (suc zero) e = inr (refl, inlet_empty l.right.held l.right.over e)
     at (suc (suc q)) e = cc

@@ -4,7 +4,7 @@ use Rattle.elem_core.specs.Tree.{Tree}
 use Rattle.elem_core.specs.declared.why.Decider.{Decider}
 use Rattle.port_core.specs.View as port
 use Rattle.port_core.specs.declared.view.InView.{InView}
-use Rattle.port_core.specs.declared.view.InView.TheVariants.{Idle, Waiting, Over, Left}
+use Rattle.port_core.specs.declared.view.InView.TheVariants.{Idle, Pulled, Finished, Cancelled}
 use Rattle.stream_model.specs.declared.kind.Kind.{Kind}
 use Rattle.stream_model.specs.declared.kind.Kind.TheVariants.{Merge, Concat, Interleave, MergeSorted, Zip}
 use Rattle.stream_model.specs.FanIn.{Inflow}
@@ -74,12 +74,12 @@ all_closed [] r c = tt
 all_closed (i ∷ is) r c = (r.0.shut c.0, all_closed is r.1 c.1)
 
 -- an open zip has cancelled no input
-not_left : (x : InView) (h : Option Tree) (b : Bool) → x ≡ inlet_view (record { held = h; over = b }) → x ≢ Left
-not_left x h true e = λ l. let z : Over ≡ Left = sym e ∙ l in cc
-not_left x None false e = λ l. let z : Waiting ≡ Left = sym e ∙ l in cc
-not_left x (Some t) false e = λ l. let z : Idle ≡ Left = sym e ∙ l in cc
+not_left : (x : InView) (h : Option Tree) (b : Bool) → x ≡ inlet_view (record { held = h; over = b }) → x ≢ Cancelled
+not_left x h true e = λ l. let z : Finished ≡ Cancelled = sym e ∙ l in cc
+not_left x None false e = λ l. let z : Pulled ≡ Cancelled = sym e ∙ l in cc
+not_left x (Some t) false e = λ l. let z : Idle ≡ Cancelled = sym e ∙ l in cc
 
-none_left : (is : List InPort) (l : Pairing) → Views is ≡ inlet_view l.left ∷ inlet_view l.right ∷ [] → EachPort (λ i. i.view ≢ Left) is
+none_left : (is : List InPort) (l : Pairing) → Views is ≡ inlet_view l.left ∷ inlet_view l.right ∷ [] → EachPort (λ i. i.view ≢ Cancelled) is
 none_left [] l e = cc
 none_left (i ∷ []) l e = cc
 none_left (i ∷ j ∷ k ∷ is) l e = cc

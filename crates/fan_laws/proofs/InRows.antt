@@ -9,7 +9,7 @@ use Rattle.elem_core.specs.declared.item.Item.{Item}
 use Rattle.port_core.specs.View as port
 use Rattle.port_core.specs.View.{in_at}
 use Rattle.port_core.specs.declared.view.InView.{InView}
-use Rattle.port_core.specs.declared.view.InView.TheVariants.{Left}
+use Rattle.port_core.specs.declared.view.InView.TheVariants.{Cancelled}
 use Rattle.wire_core.specs.Counts.{elements}
 use Rattle.stream_model.specs.FanIn.{Tagged, Inflow, flow, pairs, FanStands, ZipStands, concat_taken, interleave_taken, sorted_taken, turns_of}
 use Rattle.stream_model.specs.Outlook.{Outlook, End, unended, ended, failed}
@@ -95,8 +95,8 @@ module _ (first now : Taking) (is : List InPort) (o : OutPort) (law : InLaw (log
       bound (inl some) =
           let l = (moments some.0 some.1).1 in
           let t = turn_of first l.old l.knew l.had l.given l.port l.row_held l.law_held l.waited in
-          let open_ports : (n : ℕ) → n < length l.knew.ins → slice_index_or l.knew.ins n Left ≢ Left =
-          subst (λ (xs : List InView). (n : ℕ) → n < length xs → slice_index_or xs n Left ≢ Left) (sym t.ins) (λ n h. seats_left 0 l.port n t.over true h) in
+          let open_ports : (n : ℕ) → n < length l.knew.ins → slice_index_or l.knew.ins n Cancelled ≢ Cancelled =
+          subst (λ (xs : List InView). (n : ℕ) → n < length xs → slice_index_or xs n Cancelled ≢ Cancelled) (sym t.ins) (λ n h. seats_left 0 l.port n t.over true h) in
           let most = turn_ports is law.by.law.ins l.knew.ins l.had t.flows stands taking_flows l.took_on t.came open_ports l.stood in
           let one = one_waits 0 l.port t.over in
           let same = ap waiting_count t.ins in

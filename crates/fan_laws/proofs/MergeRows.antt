@@ -10,7 +10,7 @@ use Rattle.elem_core.specs.declared.item.Item.{Item}
 use Rattle.port_core.specs.View as port
 use Rattle.port_core.specs.View.{in_at}
 use Rattle.port_core.specs.declared.view.InView.{InView}
-use Rattle.port_core.specs.declared.view.InView.TheVariants.{Waiting, Left}
+use Rattle.port_core.specs.declared.view.InView.TheVariants.{Pulled, Cancelled}
 use Rattle.wire_core.specs.Counts.{elements}
 use Rattle.stream_model.specs.FanIn.{Tagged, Inflow, merge_of, Finds}
 use Rattle.stream_model.specs.Picks.{count_of, MergeStands}
@@ -81,19 +81,19 @@ came_at (x ∷ xs) (h ∷ hs) [] p w = absurd w
 came_at (x ∷ xs) (h ∷ hs) (f ∷ fs) zero w = flow_count f w.0.0
 came_at (x ∷ xs) (h ∷ hs) (f ∷ fs) (suc p) w = came_at xs hs fs p w.1
 
-place_empty : (b : Bool) (l : List Tree) → place b l ≡ Waiting → l ≡ []
+place_empty : (b : Bool) (l : List Tree) → place b l ≡ Pulled → l ≡ []
 place_empty true l e = cc
 place_empty false [] e = refl
 place_empty false (t ∷ l) e = cc
 
 -- an input that waits holds nothing
-waiting_none : (n p : ℕ) (over : List Bool) (q : List Queued) → slice_index_or (places n over q) p Left ≡ Waiting → get_or (lists_of (waiting n over q)) p [] ≡ []
+waiting_none : (n p : ℕ) (over : List Bool) (q : List Queued) → slice_index_or (places n over q) p Cancelled ≡ Pulled → get_or (lists_of (waiting n over q)) p [] ≡ []
 waiting_none n p [] q e = cc
 waiting_none n zero (b ∷ over) q e = place_empty b (of_port n q) e
 waiting_none n (suc p) (b ∷ over) q e = waiting_none (n + 1) p over q e
 
 -- where an input waits all that came there went out
-merge_whole : (first l : Merging) (v : port.View) (had given : List (List Item)) (p : ℕ) → (l.core.phase ≡ New → ⊥) → merging.row l v → InLaw (logic.Merging first) (logic.Merging l) v had given → in_at v p ≡ Waiting
+merge_whole : (first l : Merging) (v : port.View) (had given : List (List Item)) (p : ℕ) → (l.core.phase ≡ New → ⊥) → merging.row l v → InLaw (logic.Merging first) (logic.Merging l) v had given → in_at v p ≡ Pulled
     → elements (slice_index_or had p []) ≡ count_of p l.log.moves
 merge_whole first l v had given p started r law waits = by l.core.phase refl r
   where

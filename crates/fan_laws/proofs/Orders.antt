@@ -5,7 +5,7 @@ use Rattle.elem_core.specs.Prefix.{IsPrefix}
 use Rattle.elem_core.specs.Tree.{Tree}
 use Rattle.elem_core.specs.declared.item.Item.{Item}
 use Rattle.port_core.specs.declared.view.InView.{InView}
-use Rattle.port_core.specs.declared.view.InView.TheVariants.{Idle, Waiting, Over, Left}
+use Rattle.port_core.specs.declared.view.InView.TheVariants.{Idle, Pulled, Finished, Cancelled}
 use Rattle.wire_core.specs.Counts.{elements}
 use Rattle.stream_model.specs.Outlook.{End, unended, ended}
 use Rattle.stream_model.specs.FanIn.{Tagged, Inflow}
@@ -141,10 +141,10 @@ module _ (is : List InPort) (now : List Inflow) (stands : EachPort InStands is) 
 -- how many inputs wait
 abbrev pub waiting_count : List InView → ℕ
 waiting_count [] = 0
-waiting_count (Waiting ∷ xs) = suc (waiting_count xs)
+waiting_count (Pulled ∷ xs) = suc (waiting_count xs)
 waiting_count (Idle ∷ xs) = waiting_count xs
-waiting_count (Over ∷ xs) = waiting_count xs
-waiting_count (Left ∷ xs) = waiting_count xs
+waiting_count (Finished ∷ xs) = waiting_count xs
+waiting_count (Cancelled ∷ xs) = waiting_count xs
 
 seat_quiet : (b x : Bool) (xs : List InView) → waiting_count (seat b x false ∷ xs) ≡ waiting_count xs
 seat_quiet true x xs = refl
@@ -192,13 +192,13 @@ pub taken_demand : (v : picture.View) → taken_or_wanted v ≤ demand v
 taken_demand v = few_wanted v.shut v.asked v.sent (size_of v)
 
 -- an input at a moment from which it was not asked again
-turn_port : (i : InPort) (x : InView) (h : List Item) (f y : Inflow) (xs : List InView) → InStands i → (i.got ≡ told y.list y.end) × TookAs i.view y.end → IsPrefix h i.got → (h ≡ told f.list f.end) × TookAs x f.end → x ≢ Left → Stood x i.want (elements h)
+turn_port : (i : InPort) (x : InView) (h : List Item) (f y : Inflow) (xs : List InView) → InStands i → (i.got ≡ told y.list y.end) × TookAs i.view y.end → IsPrefix h i.got → (h ≡ told f.list f.end) × TookAs x f.end → x ≢ Cancelled → Stood x i.want (elements h)
     → taken_or_wanted i.wire + waiting_count xs ≤ elements h + waiting_count (x ∷ xs)
-turn_port i Waiting h f y xs s w b k l st = let most = taken_demand i.wire in let reach = s.reach in omega (arith, most, reach, st)
+turn_port i Pulled h f y xs s w b k l st = let most = taken_demand i.wire in let reach = s.reach in omega (arith, most, reach, st)
 turn_port i Idle h f y xs s w b k l st = let most = taken_demand i.wire in let reach = s.reach in omega (arith, most, reach, st)
-turn_port i Left h f y xs s w b k l st = absurd (l refl)
-turn_port i Over h f y xs s w b k l st =
-    let not_open = over_ended Over f.end k.1 refl in
+turn_port i Cancelled h f y xs s w b k l st = absurd (l refl)
+turn_port i Finished h f y xs s w b k l st =
+    let not_open = over_ended Finished f.end k.1 refl in
     let done = done_same f y h i.got k.0 w.0 b not_open in
     let now_open : y.end ≢ unended = λ e. not_open (sym done.1 ∙ e) in
     let shut = s.over (ended_over i.view y.end w.1 now_open) in
@@ -209,8 +209,8 @@ turn_port i Over h f y xs s w b k l st =
     omega (arith, few, same, count, cut)
 
 -- all of them
-pub turn_ports : (is : List InPort) (now : List Inflow) (xs : List InView) (hs : List (List Item)) (fs : List Inflow) → EachPort InStands is → Flows (Views is) (Gots is) now → AllBegin hs (Gots is) → Flows xs hs fs → ((n : ℕ) → n < length xs → slice_index_or xs n Left ≢ Left)
-    → ((n : ℕ) → Stood (slice_index_or xs n Left) (slice_index_or (Wants is) n 0) (elements (slice_index_or hs n []))) → total taken_or_wanted (Wires is) ≤ all_elements hs + waiting_count xs
+pub turn_ports : (is : List InPort) (now : List Inflow) (xs : List InView) (hs : List (List Item)) (fs : List Inflow) → EachPort InStands is → Flows (Views is) (Gots is) now → AllBegin hs (Gots is) → Flows xs hs fs → ((n : ℕ) → n < length xs → slice_index_or xs n Cancelled ≢ Cancelled)
+    → ((n : ℕ) → Stood (slice_index_or xs n Cancelled) (slice_index_or (Wants is) n 0) (elements (slice_index_or hs n []))) → total taken_or_wanted (Wires is) ≤ all_elements hs + waiting_count xs
 turn_ports [] now xs hs fs s w b f l st = omega arith
 turn_ports (i ∷ is) (y ∷ now) (x ∷ xs) (h ∷ hs) (k ∷ fs) s w b f l st =
     let here = turn_port i x h k y xs s.0 w.0 b.0 f.0 (l 0 (omega arith)) (st 0) in

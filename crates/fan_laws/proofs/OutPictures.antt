@@ -11,9 +11,9 @@ use Rattle.elem_core.specs.declared.why.Decider.{Decider}
 use Rattle.port_core.specs.View as port
 use Rattle.port_core.specs.View.{in_at, unpulled_outs}
 use Rattle.port_core.specs.declared.view.InView.{InView}
-use Rattle.port_core.specs.declared.view.InView.TheVariants.{Idle, Waiting, Over, Left}
+use Rattle.port_core.specs.declared.view.InView.TheVariants.{Idle, Pulled, Finished, Cancelled}
 use Rattle.port_core.specs.declared.view.OutView.{OutView}
-use Rattle.port_core.specs.declared.view.OutView.TheVariants.{Shut, Unasked}
+use Rattle.port_core.specs.declared.view.OutView.TheVariants.{Closed, Unpulled}
 use Rattle.stage_law.specs.Row.{OutClosed}
 use Rattle.wire_core.specs.Counts.{elements}
 use Rattle.stream_model.specs.declared.kind.Kind.{Kind}
@@ -69,12 +69,12 @@ abbrev pub Then : OutMachines → OutMachines → InPort → List OutPort → Ty
 Then first now i os = Earlier row MachinesLaw NoAsking no_moves 0 first now (i.got ∷ []) (Sents os) (i.want ∷ []) (OutWants os) (Shuts os)
 
 -- an input of one that has closed its ports does not wait
-closed_wait : (xs : List InView) → OneInClosed xs → slice_index_or xs 0 Left ≡ Waiting → ⊥
+closed_wait : (xs : List InView) → OneInClosed xs → slice_index_or xs 0 Cancelled ≡ Pulled → ⊥
 closed_wait [] c e = c
 closed_wait (Idle ∷ []) c e = c
-closed_wait (Waiting ∷ []) c e = c
-closed_wait (Over ∷ []) c e = cc
-closed_wait (Left ∷ []) c e = cc
+closed_wait (Pulled ∷ []) c e = c
+closed_wait (Finished ∷ []) c e = cc
+closed_wait (Cancelled ∷ []) c e = cc
 closed_wait (x ∷ y ∷ xs) c e = c
 
 began_length : (hs xs : List (List Item)) → AllBegin hs xs → length hs ≡ length xs
@@ -127,7 +127,7 @@ open_some : (ws : List OutputState) → 1 ≤ open_count ws → 1 ≤ length ws
 open_some [] h = absurd (omega (arith, h))
 open_some (w ∷ ws) h = omega arith
 
-waits_quiet : (q : ℕ) → input_by q ≡ Waiting → q ≡ 0
+waits_quiet : (q : ℕ) → input_by q ≡ Pulled → q ≡ 0
 waits_quiet zero e = refl
 waits_quiet (suc q) e = cc
 
@@ -160,8 +160,8 @@ module _ (book : Book) (first now : OutMachines) (i : InPort) (os : List OutPort
             quiet = sym s.quiet_is ∙ quiet;
             some = omega (arith, open_is, some);
             ports = given_ports;
-            wants = λ j a. e.wants j (ap (λ ys. slice_index_or ys j Shut) outs ∙ a);
-            shut = λ j a. e.shut_on j (subst (λ (ys : List OutView). OutClosed (slice_index_or ys j Shut)) (sym outs) a);
+            wants = λ j a. e.wants j (ap (λ ys. slice_index_or ys j Closed) outs ∙ a);
+            shut = λ j a. e.shut_on j (subst (λ (ys : List OutView). OutClosed (slice_index_or ys j Closed)) (sym outs) a);
           }
 
   copy_ask_of : (f : CopyLogic) → first ≡ Copies f → (old : OutMachines) → row old e.knew → MachinesLaw first old e.knew e.had e.given → CopyAsk first now i os e
@@ -261,7 +261,7 @@ module _ (book : Book) (node n : ℕ) (f : MapFn) where
       subst (λ os. OutsList 0 os v law.taken gave) (sym (law.same book) ∙ ap (λ os. owe os (owed now)) s) (outs_list (outlets book now) v law.taken gave (law.ports ∙ sym (length-outlets book now)) (law.law book))
 
   -- an input that waits has not ended
-  waits_open : (over waits : Bool) → input_of over waits ≡ Waiting → (over ≡ false) × (waits ≡ true)
+  waits_open : (over waits : Bool) → input_of over waits ≡ Pulled → (over ≡ false) × (waits ≡ true)
   waits_open true w e = cc
   waits_open false true e = (refl, refl)
   waits_open false false e = cc
@@ -301,8 +301,8 @@ module _ (book : Book) (node n : ℕ) (f : MapFn) where
               asks = λ all_are. elim (s.wants w.1) [ inl a ↦ omega (arith, a, asking_is) | inr less ↦ absurd (omega (arith, less, open_is, all_are)) ];
               ports = many;
               gave = law.ports ∙ length-dues (then_of l.live l) 0 l.outs;
-              wants = λ j a. e.wants j (ap (λ ys. slice_index_or ys j Shut) outs ∙ a);
-              shut = λ j a. e.shut_on j (subst (λ (ys : List OutView). OutClosed (slice_index_or ys j Shut)) (sym outs) a);
+              wants = λ j a. e.wants j (ap (λ ys. slice_index_or ys j Closed) outs ∙ a);
+              shut = λ j a. e.shut_on j (subst (λ (ys : List OutView). OutClosed (slice_index_or ys j Closed)) (sym outs) a);
             }
 
     deal_ask_of : (g : PartitionLogic) → first ≡ Deals g → (old : OutMachines) → row old e.knew → MachinesLaw first old e.knew e.had e.given → DealAsk first now i os e
@@ -403,8 +403,8 @@ some_outputs k kd first now ok b e = by kd ok b.ready
     some_at : (n : ℕ) → 2 ≤ n → row first (unpulled_outs n) → 1 ≤ length (owed now)
     some_at n two r =
         let p = live_ports first (unpulled_outs n) b.live r in
-        let many : length (replicate n Unasked) ≡ length (owed first) = p.outs in
-        let is = length-replicate n Unasked in
+        let many : length (replicate n Unpulled) ≡ length (owed first) = p.outs in
+        let is = length-replicate n Unpulled in
         omega (arith, many, is, two, e)
 
     by : (kd : Kind) → IsMachines kd → row first (unpulled_outs (outputs_of kd)) → 1 ≤ length (owed now)

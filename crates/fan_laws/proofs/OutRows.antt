@@ -7,8 +7,8 @@ use Rattle.elem_core.specs.Tree.{Tree}
 use Rattle.elem_core.specs.declared.function.MapFn.{MapFn}
 use Rattle.elem_core.specs.declared.item.Item.{Item}
 use Rattle.port_core.specs.View.{View, in_at, out_at}
-use Rattle.port_core.specs.declared.view.InView.TheVariants.{Waiting}
-use Rattle.port_core.specs.declared.view.OutView.TheVariants.{Asked, Shut}
+use Rattle.port_core.specs.declared.view.InView.TheVariants.{Pulled}
+use Rattle.port_core.specs.declared.view.OutView.TheVariants.{Available, Closed}
 use Rattle.wire_core.specs.Counts.{elements}
 use Rattle.stream_model.specs.Outlook.{End, unended}
 use Rattle.stream_model.specs.Machine.{going, is_going, Run, run}
@@ -47,10 +47,10 @@ Shuts os = map (λ (o : OutPort). o.wire.shut) os
 
 -- what the moment of an ask tells of outputs of which it knew this: what is wanted of those that had asked, and that those that were closed are shut
 abbrev pub WantedOn : List OutputState → List (List Item) → List OutPort → Type 0
-WantedOn ws hs os = (j : ℕ) → slice_index_or (map want_view ws) j Shut ≡ Asked → elements (slice_index_or hs j []) + 1 ≤ slice_index_or (OutWants os) j 0
+WantedOn ws hs os = (j : ℕ) → slice_index_or (map want_view ws) j Closed ≡ Available → elements (slice_index_or hs j []) + 1 ≤ slice_index_or (OutWants os) j 0
 
 abbrev pub ShutOn : List OutputState → List OutPort → Type 0
-ShutOn ws os = (j : ℕ) → OutClosed (slice_index_or (map want_view ws) j Shut) → slice_index_or (Shuts os) j true ≡ true
+ShutOn ws os = (j : ℕ) → OutClosed (slice_index_or (map want_view ws) j Closed) → slice_index_or (Shuts os) j true ≡ true
 
 -- ---- a broadcast or an unzip
 
@@ -117,7 +117,7 @@ none_asked (o ∷ os) d z = (inr (omega (arith, z)), none_asked os d z)
 
 -- ---- a partition
 
-open_end : (e : End) → TookAs Waiting e → e ≡ unended
+open_end : (e : End) → TookAs Pulled e → e ≡ unended
 open_end e h = h
 
 module _ (book : Book) (node n : ℕ) (f : MapFn) where
@@ -132,7 +132,7 @@ module _ (book : Book) (node n : ℕ) (f : MapFn) where
   AllDealt l q (Gone ∷ ws) (h ∷ hs) = AllDealt l (q + 1) ws hs
   AllDealt l q _ _ = ⊥
 
-  module _ (x : PartitionLogic) (none : x.held ≡ None) (lasts : x.over ≡ false) (v : View) (waits : in_at v 0 ≡ Waiting) (took : List Item) (l : List Tree) (e : End) (is : took ≡ told l e) where
+  module _ (x : PartitionLogic) (none : x.held ≡ None) (lasts : x.over ≡ false) (v : View) (waits : in_at v 0 ≡ Pulled) (took : List Item) (l : List Tree) (e : End) (is : took ≡ told l e) where
     dealt_one : (q : ℕ) (h : List Item) → (law : Law (machine book node n f q) (start book node n f q) (owing (record { gave = kept q x.to x.held; state = state_of x.over (stage_of x q) })) (in_at v 0) (out_at v q) took h)
         → (elements h ≡ length (ran q l).gave) × (is_going (ran q l).state ≡ true)
     dealt_one q h law =

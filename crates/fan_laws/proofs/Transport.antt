@@ -2,9 +2,9 @@
 -- port shows, or it is a lane, which may be read as idling.
 use Rattle.std.proofs.Common.{◌≡◌, ◌≢◌, ◌⊎◌, inl, inr, ℕ, ◌+◌, ◌≤◌, true, false, List, [], ◌∷◌, map, None, refl, sym, subst, ◌∙◌, arith}
 use Rattle.port_core.specs.declared.view.InView.{InView}
-use Rattle.port_core.specs.declared.view.InView.TheVariants.{Idle, Waiting, Over, Left}
+use Rattle.port_core.specs.declared.view.InView.TheVariants.{Idle, Pulled, Finished, Cancelled}
 use Rattle.port_core.specs.declared.view.OutView.{OutView}
-use Rattle.port_core.specs.declared.view.OutView.TheVariants.{Unasked, Asked, Shut, Refused}
+use Rattle.port_core.specs.declared.view.OutView.TheVariants as outlet
 use Rattle.wire_core.specs.Counts.{elements}
 use Rattle.stream_picture.specs.View.{EachWire, SomeWire}
 use Rattle.stream_picture.specs.View as picture
@@ -43,47 +43,47 @@ own_in i = record { wire = 0; sent = elements i.got; asked = is_waiting i.view; 
 abbrev pub own_out : OutPort → picture.View
 own_out o = record { wire = 0; sent = elements o.sent; asked = is_asked o.view; shut = output_closed o.view; lane = None; list = list_of o.sent }
 
-waiting_is : (x : InView) → is_waiting x ≡ true → x ≡ Waiting
-waiting_is Waiting e = refl
+waiting_is : (x : InView) → is_waiting x ≡ true → x ≡ Pulled
+waiting_is Pulled e = refl
 waiting_is Idle e = cc
-waiting_is Over e = cc
-waiting_is Left e = cc
+waiting_is Finished e = cc
+waiting_is Cancelled e = cc
 
 idle_is : (x : InView) → is_waiting x ≡ false → input_closed x ≡ false → x ≡ Idle
 idle_is Idle a b = refl
-idle_is Waiting a b = cc
-idle_is Over a b = cc
-idle_is Left a b = cc
+idle_is Pulled a b = cc
+idle_is Finished a b = cc
+idle_is Cancelled a b = cc
 
 closed_is : (x : InView) → input_closed x ≡ true → InClosed x
-closed_is Over e = tt
-closed_is Left e = tt
+closed_is Finished e = tt
+closed_is Cancelled e = tt
 closed_is Idle e = absurd cc
-closed_is Waiting e = absurd cc
+closed_is Pulled e = absurd cc
 
-over_is : (x : InView) → input_closed x ≡ true → x ≢ Left → x ≡ Over
-over_is Over e n = refl
-over_is Left e n = absurd (n refl)
+over_is : (x : InView) → input_closed x ≡ true → x ≢ Cancelled → x ≡ Finished
+over_is Finished e n = refl
+over_is Cancelled e n = absurd (n refl)
 over_is Idle e n = cc
-over_is Waiting e n = cc
+over_is Pulled e n = cc
 
-asked_is : (y : OutView) → is_asked y ≡ true → y ≡ Asked
-asked_is Asked e = refl
-asked_is Unasked e = cc
-asked_is Shut e = cc
-asked_is Refused e = cc
+asked_is : (y : OutView) → is_asked y ≡ true → y ≡ outlet.Available
+asked_is outlet.Available e = refl
+asked_is outlet.Unpulled e = cc
+asked_is outlet.Closed e = cc
+asked_is outlet.Cancelled e = cc
 
-unasked_is : (y : OutView) → is_asked y ≡ false → output_closed y ≡ false → y ≡ Unasked
-unasked_is Unasked a b = refl
-unasked_is Asked a b = cc
-unasked_is Shut a b = cc
-unasked_is Refused a b = cc
+unasked_is : (y : OutView) → is_asked y ≡ false → output_closed y ≡ false → y ≡ outlet.Unpulled
+unasked_is outlet.Unpulled a b = refl
+unasked_is outlet.Available a b = cc
+unasked_is outlet.Closed a b = cc
+unasked_is outlet.Cancelled a b = cc
 
 out_closed_is : (y : OutView) → output_closed y ≡ true → OutClosed y
-out_closed_is Shut e = tt
-out_closed_is Refused e = tt
-out_closed_is Unasked e = absurd cc
-out_closed_is Asked e = absurd cc
+out_closed_is outlet.Closed e = tt
+out_closed_is outlet.Cancelled e = tt
+out_closed_is outlet.Unpulled e = absurd cc
+out_closed_is outlet.Available e = absurd cc
 
 module _ (i : InPort) (r : InRests i) where
   waits : Waits (own_in i) → Waits i.wire
@@ -176,7 +176,7 @@ module _ (is : List InPort) (o : OutPort) (r : EachPort InRests is) (ro : OutRes
   sorted_rests (inr h) = inr (unasked o ro h.0, each WaitsIdlesOrShut WaitsIdlesOrShut any is r h.1)
 
   -- what an input was sent, beyond what it waits for
-  open_or_lane : (n : ℕ) → (i : InPort) → i.view ≢ Left → InStands i → InRests i → IdlesOrShut (own_in i) → IsOrLane (own_in i) n → IsOrLane i.wire n
+  open_or_lane : (n : ℕ) → (i : InPort) → i.view ≢ Cancelled → InStands i → InRests i → IdlesOrShut (own_in i) → IsOrLane (own_in i) n → IsOrLane i.wire n
   open_or_lane n i ne s q h m =
       let came = s.came in
       let some = m.0 in
@@ -194,18 +194,18 @@ module _ (is : List InPort) (o : OutPort) (r : EachPort InRests is) (ro : OutRes
       by (inl x) e = same e (idle_sent i q x)
       by (inr x) e = same e (q.over_sent (over_is i.view x ne))
 
-  zip_input : (n : ℕ) → n ≡ elements o.sent → (i : InPort) → i.view ≢ Left → InStands i → InRests i → ZipInput (elements o.sent) (own_in i) → ZipInput n i.wire
+  zip_input : (n : ℕ) → n ≡ elements o.sent → (i : InPort) → i.view ≢ Cancelled → InStands i → InRests i → ZipInput (elements o.sent) (own_in i) → ZipInput n i.wire
   zip_input n e i ne s q (inl h) = inl (waits i q h.0, waits_sent i q h.0 ∙ (h.1 ∙ sym e))
   zip_input n e i ne s q (inr h) = inr (quiet i q h.0, open_or_lane (n + 1) i ne s q h.0 (subst (λ m. IsOrLane (own_in i) (m + 1)) (sym e) h.1))
 
-  zip_inputs : (n : ℕ) → n ≡ elements o.sent → (js : List InPort) → EachPort (λ i. i.view ≢ Left) js → EachPort InStands js → EachPort InRests js → EachWire (ZipInput (elements o.sent)) (map own_in js) → EachWire (ZipInput n) (map (λ (i : InPort). i.wire) js)
+  zip_inputs : (n : ℕ) → n ≡ elements o.sent → (js : List InPort) → EachPort (λ i. i.view ≢ Cancelled) js → EachPort InStands js → EachPort InRests js → EachWire (ZipInput (elements o.sent)) (map own_in js) → EachWire (ZipInput n) (map (λ (i : InPort). i.wire) js)
   zip_inputs n e [] ne s q h = tt
   zip_inputs n e (i ∷ js) ne s q h = (zip_input n e i ne.0 s.0 q.0 h.0, zip_inputs n e js ne.1 s.1 q.1 h.1)
 
   zip_waits : (n : ℕ) → n ≡ elements o.sent → (i : InPort) → InRests i → Waits (own_in i) × (elements i.got ≡ elements o.sent) → Waits i.wire × (i.wire.sent ≡ n)
   zip_waits n e i q h = (waits i q h.0, waits_sent i q h.0 ∙ (h.1 ∙ sym e))
 
-  pub zip_rests : OutStands o → EachPort (λ i. i.view ≢ Left) is → EachPort InStands is → ZipRests (map own_in is) (own_out o) → ZipRests (map (λ (i : InPort). i.wire) is) o.wire
+  pub zip_rests : OutStands o → EachPort (λ i. i.view ≢ Cancelled) is → EachPort InStands is → ZipRests (map own_in is) (own_out o) → ZipRests (map (λ (i : InPort). i.wire) is) o.wire
   zip_rests so ne s h = (zip_inputs o.wire.sent so.count is ne s r h.0, by h.1)
     where
       by : (IsAsked (own_out o) × SomeWire (λ i. Waits i × (i.sent ≡ elements o.sent)) (map own_in is)) ⊎ IsUnasked (own_out o)

@@ -8,13 +8,13 @@ use Rattle.port_core.specs.Joint.{IsSound, Kept}
 use Rattle.port_core.specs.Wire.{Wire}
 use Rattle.port_core.specs.View.{View, IsInOpen, IsOutOpen, ActAllowed}
 use Rattle.port_core.specs.View as view
-use Rattle.port_core.specs.Asking.{AsksStand}
+use Rattle.port_core.specs.Asking.{PullsStand}
 use Rattle.port_core.specs.declared.act.Act.{Act}
 use Rattle.port_core.specs.declared.act.Act.TheVariants.{Pull, Push, Complete, FailOut, Cancel}
 use Rattle.port_core.specs.declared.view.InView.{InView}
 use Rattle.port_core.specs.declared.view.OutView.{OutView}
-use Rattle.port_core.specs.declared.view.InView.TheVariants.{Idle, Left}
-use Rattle.port_core.specs.declared.view.OutView.TheVariants.{Asked, Shut}
+use Rattle.port_core.specs.declared.view.InView.TheVariants.{Idle, Cancelled}
+use Rattle.port_core.specs.declared.view.OutView.TheVariants.{Available, Closed}
 use Rattle.port_core.proofs.Wires.{pull_kept, push_kept, close_kept, cancel_kept}
 use Rattle.stage_core.specs.Histories.{given_by}
 use Rattle.wire_core.specs.Cell.{Cell, moved_by, queues_by}
@@ -33,7 +33,7 @@ use Rattle.fused_net.proofs.Nets.{sound_put, marked_put, others_in, others_out, 
 -- where an action may be done at a wire
 abbrev pub Fits : Act → Wire → Type 0
 Fits (Pull i) w = w.inp ≡ Idle
-Fits (Push j e) w = w.out ≡ Asked
+Fits (Push j e) w = w.out ≡ Available
 Fits (Complete j) w = IsOutOpen w.out
 Fits (FailOut j c) w = IsOutOpen w.out
 Fits (Cancel i) w = IsInOpen w.inp
@@ -68,7 +68,7 @@ move_marked (Complete j) c q h e m = close_marked None c.wire c.asked m
 move_marked (FailOut j d) c q h e m = close_marked (Some d) c.wire c.asked m
 move_marked (Cancel i) c q h e m = cancel_marked c.wire c.asked m
 
-pub stands_next : (a : Act) (acts : List Act) → AsksStand (a ∷ acts) → AsksStand acts
+pub stands_next : (a : Act) (acts : List Act) → PullsStand (a ∷ acts) → PullsStand acts
 stands_next (Pull i) acts h = h.1
 stands_next (Push j x) acts h = h
 stands_next (Complete j) acts h = h
@@ -82,11 +82,11 @@ keep_at f wires ws i w d at = ap (λ x. set (read_all f wires ws) i x) (sym (rea
 module _ {N : Type 0} where
   pub fits : (net : Net N) (n : ℕ) (a : Act) → ActAllowed (view_of net n) a
       → PortAt a (ports_at net n) (wire_for a (ports_at net n)) × Fits a (wire_at net (wire_for a (ports_at net n))).wire
-  fits net n (Pull i) h = port_there (λ (x : InView). x ≡ Idle) inp_of net.wires (ports_at net n).ins i Left (λ e. cc) h
-  fits net n (Push j e) h = port_there (λ (y : OutView). y ≡ Asked) out_of net.wires (ports_at net n).outs j Shut (λ e. cc) h
-  fits net n (Complete j) h = port_there IsOutOpen out_of net.wires (ports_at net n).outs j Shut (λ e. e) h
-  fits net n (FailOut j c) h = port_there IsOutOpen out_of net.wires (ports_at net n).outs j Shut (λ e. e) h
-  fits net n (Cancel i) h = port_there IsInOpen inp_of net.wires (ports_at net n).ins i Left (λ e. e) h
+  fits net n (Pull i) h = port_there (λ (x : InView). x ≡ Idle) inp_of net.wires (ports_at net n).ins i Cancelled (λ e. cc) h
+  fits net n (Push j e) h = port_there (λ (y : OutView). y ≡ Available) out_of net.wires (ports_at net n).outs j Closed (λ e. cc) h
+  fits net n (Complete j) h = port_there IsOutOpen out_of net.wires (ports_at net n).outs j Closed (λ e. e) h
+  fits net n (FailOut j c) h = port_there IsOutOpen out_of net.wires (ports_at net n).outs j Closed (λ e. e) h
+  fits net n (Cancel i) h = port_there IsInOpen inp_of net.wires (ports_at net n).ins i Cancelled (λ e. e) h
 
   pub port_within : (net : Net N) (n : ℕ) (a : Act) (w : ℕ) → Wired net.ends net.ports (length net.nodes) (length net.wires) → n < length net.nodes → PortAt a (ports_at net n) w → w < length net.wires
   port_within net n (Pull i) w wired hn h = (wired.input_to n i w hn h).0

@@ -5,7 +5,7 @@ use Rattle.elem_core.specs.Prefix.{IsPrefix}
 use Rattle.elem_core.proofs.Prefixes.{prefix_refl, prefix_trans, prefix_length, prefix_whole}
 use Rattle.elem_core.specs.declared.item.Item.{Item}
 use Rattle.elem_core.specs.declared.item.Item.TheVariants as item
-use Rattle.port_core.specs.Asking.{NoCancel, AsksStand}
+use Rattle.port_core.specs.Asking.{NoCancel, PullsStand}
 use Rattle.port_core.specs.Connection.{pulled}
 use Rattle.port_core.specs.Decoding.{can_pull}
 use Rattle.port_core.specs.Wire.{Wire, Delivery, nothing, ask, refusal, brought, after_delivery, again}
@@ -14,8 +14,8 @@ use Rattle.port_core.specs.View.{View}
 use Rattle.port_core.specs.View as view
 use Rattle.port_core.specs.declared.act.Act.{Act}
 use Rattle.port_core.specs.declared.act.Act.TheVariants.{Pull, Push, Complete, FailOut, Cancel}
-use Rattle.port_core.specs.declared.view.InView.TheVariants.{Idle, Waiting}
-use Rattle.port_core.specs.declared.view.OutView.TheVariants.{Asked}
+use Rattle.port_core.specs.declared.view.InView.TheVariants.{Idle, Pulled}
+use Rattle.port_core.specs.declared.view.OutView.TheVariants.{Available}
 use Rattle.wire_core.specs.Cell.{Cell, moved_by}
 use Rattle.wire_core.specs.Marks.{wants, IsMarked, wanted, Grown}
 use Rattle.wire_core.proofs.Marking.{pull_grown, push_grown, close_grown, cancel_grown, push_wanted, close_wanted, deliver_grown, deliver_wanted, grown_same, grown_trans}
@@ -31,7 +31,7 @@ use Rattle.fused_net.proofs.Acting.{Fits, PortAt, fits, act_allowed, port_within
 -- ---- one wire
 
 -- an input that waits has not closed
-open_j : (j : Joint) (s g : List Item) → (wire_of j s g).inp ≡ Waiting → (wire_of j s g).conn.in_closed ≡ false
+open_j : (j : Joint) (s g : List Item) → (wire_of j s g).inp ≡ Pulled → (wire_of j s g).conn.in_closed ≡ false
 open_j idle s g e = cc
 open_j asking s g e = refl
 open_j asked s g e = refl
@@ -44,11 +44,11 @@ open_j (finished t c) s g e = cc
 open_j (parted t c) s g e = cc
 open_j (refused t c) s g e = cc
 
-waits_open : (w : Wire) (q : Bool) → IsSound w q → w.inp ≡ Waiting → w.conn.in_closed ≡ false
+waits_open : (w : Wire) (q : Bool) → IsSound w q → w.inp ≡ Pulled → w.conn.in_closed ≡ false
 waits_open w q h e = ap (λ (v : Wire). v.conn.in_closed) h.is ∙ open_j h.joint w.sent w.got (sym (ap (λ (v : Wire). v.inp) h.is) ∙ e)
 
 -- an ask that is on its way has not come to the output
-unasked_j : (j : Joint) (s g : List Item) → (wire_of j s g).inp ≡ Waiting → (wire_of j s g).conn.step ≡ pulled → (wire_of j s g).out ≡ Asked → ⊥
+unasked_j : (j : Joint) (s g : List Item) → (wire_of j s g).inp ≡ Pulled → (wire_of j s g).conn.step ≡ pulled → (wire_of j s g).out ≡ Available → ⊥
 unasked_j idle s g i t o = cc
 unasked_j asking s g i t o = cc
 unasked_j asked s g i t o = cc
@@ -61,7 +61,7 @@ unasked_j (finished u c) s g i t o = cc
 unasked_j (parted u c) s g i t o = cc
 unasked_j (refused u c) s g i t o = cc
 
-not_come : (w : Wire) (q : Bool) → IsSound w q → w.inp ≡ Waiting → w.conn.step ≡ pulled → w.out ≡ Asked → ⊥
+not_come : (w : Wire) (q : Bool) → IsSound w q → w.inp ≡ Pulled → w.conn.step ≡ pulled → w.out ≡ Available → ⊥
 not_come w q h i t o =
     unasked_j h.joint w.sent w.got (sym (ap (λ (v : Wire). v.inp) h.is) ∙ i) (sym (ap (λ (v : Wire). v.conn.step) h.is) ∙ t) (sym (ap (λ (v : Wire). v.out) h.is) ∙ o)
 
@@ -76,7 +76,7 @@ move_grown (Cancel i) c f m = cancel_grown c.wire c.asked
 pub record AsksAt (p : PortLists) (acts : List Act) (w : ℕ) (c : Cell) (P : Type 0) : Type 0 where
   pub port : ℕ
   pub at : slice_get p.ins port ≡ Some w
-  pub waits : c.wire.inp ≡ Waiting
+  pub waits : c.wire.inp ≡ Pulled
   pub step : c.wire.conn.step ≡ pulled
   pub kept : NoCancel port acts
   pub tells : P
@@ -93,7 +93,7 @@ pull_here i acts p w c false e at f stands L P tells before some =
     elim (before (subst (λ (n : ℕ). 1 ≤ n) same some)) [ inl l ↦ inl (same, l) | inr k ↦ let x = k.waits in cc ]
 
 -- an action at the wire leaves its last ask, or is a new one
-acted_here : (a : Act) (acts : List Act) (p : PortLists) (w : ℕ) (c : Cell) (q : Bool) → PortAt a p w → Fits a c.wire → IsSound c.wire q → IsMarked c → AsksStand (a ∷ acts) → Once p w
+acted_here : (a : Act) (acts : List Act) (p : PortLists) (w : ℕ) (c : Cell) (q : Bool) → PortAt a p w → Fits a c.wire → IsSound c.wire q → IsMarked c → PullsStand (a ∷ acts) → Once p w
     → (L P : Type 0) → (Pulls (a ∷ acts) → P) → (1 ≤ wanted c → L ⊎ AsksAt p (a ∷ acts) w c P) → 1 ≤ wanted (moved_by a c) → ((wanted (moved_by a c) ≡ wanted c) × L) ⊎ AsksAt p acts w (moved_by a c) P
 acted_here (Pull i) acts p w c q at f s m stands once L P tells before some = pull_here i acts p w c (can_pull c.wire.conn) refl at f stands.0 L P (tells tt) before some
 acted_here (Push j x) acts p w c q at f s m stands once L P tells before some =

@@ -9,12 +9,12 @@ use Rattle.port_core.specs.Ring.{holds}
 use Rattle.port_core.specs.Joint.{IsSound, Heard}
 use Rattle.port_core.specs.View.{View, IsOutOpen}
 use Rattle.port_core.specs.View as view
-use Rattle.port_core.specs.Asking.{AsksStand}
+use Rattle.port_core.specs.Asking.{PullsStand}
 use Rattle.port_core.specs.Call.{Call, CallAllowed, MayCome, seen}
 use Rattle.port_core.specs.Wire.{Delivery, nothing, ask, refusal, brought, delivery_of, after_delivery, again}
 use Rattle.port_core.specs.declared.act.Act.{Act}
-use Rattle.port_core.specs.declared.view.InView.TheVariants.{Left}
-use Rattle.port_core.specs.declared.view.OutView.TheVariants.{Shut}
+use Rattle.port_core.specs.declared.view.InView.TheVariants.{Cancelled}
+use Rattle.port_core.specs.declared.view.OutView.TheVariants.{Closed}
 use Rattle.port_core.proofs.Wires.{deliver_kept, deliver_heard}
 use Rattle.wire_core.specs.Marks.{IsMarked}
 use Rattle.wire_core.proofs.Marking.{deliver_marked}
@@ -47,9 +47,9 @@ module _ {N : Type 0} where
   pub may_at : (d : Delivery) (net : Net N) (w : ℕ) → d ≢ nothing → Wired net.ends net.ports (length net.nodes) (length net.wires) → w < length net.wires → Heard d (wire_at net w).wire
       → CallAllowed (call_of d (end_at net.ends w)) (view_of net (target d (end_at net.ends w)))
   may_at nothing net w n wired h m = absurd (n refl)
-  may_at ask net w n wired h m = read_at out_of net.wires (ports_at net (end_at net.ends w).from).outs (end_at net.ends w).output w Shut (wired.from_output w h) ∙ m
-  may_at refusal net w n wired h m = subst IsOutOpen (sym (read_at out_of net.wires (ports_at net (end_at net.ends w).from).outs (end_at net.ends w).output w Shut (wired.from_output w h))) m
-  may_at (brought x more) net w n wired h m = subst (MayCome x) (sym (read_at inp_of net.wires (ports_at net (end_at net.ends w).to).ins (end_at net.ends w).input w Left (wired.to_input w h))) m
+  may_at ask net w n wired h m = read_at out_of net.wires (ports_at net (end_at net.ends w).from).outs (end_at net.ends w).output w Closed (wired.from_output w h) ∙ m
+  may_at refusal net w n wired h m = subst IsOutOpen (sym (read_at out_of net.wires (ports_at net (end_at net.ends w).from).outs (end_at net.ends w).output w Closed (wired.from_output w h))) m
+  may_at (brought x more) net w n wired h m = subst (MayCome x) (sym (read_at inp_of net.wires (ports_at net (end_at net.ends w).to).ins (end_at net.ends w).input w Cancelled (wired.to_input w h))) m
 
 module _ {N : Type 0} (row : N → View → Type 0) (law : N → N → View → List (List Item) → List (List Item) → Type 0) where
   -- an event was handled
@@ -93,7 +93,7 @@ module _ {N : Type 0} (row : N → View → Type 0) (law : N → N → View → 
 
   -- a node is replaced by one that minds what it knows
   pub with_node_busy : (net : Net N) (n : ℕ) (y : N) (acts : List Act) → Wired net.ends net.ports (length net.nodes) (length net.wires) → length net.firsts ≡ length net.nodes
-      → ((u : ℕ) → u < length net.wires → IsSound (wire_at net u).wire (holds net.queue u)) → ((u : ℕ) → u < length net.wires → IsMarked (wire_at net u)) → n < length net.nodes → AsksStand acts
+      → ((u : ℕ) → u < length net.wires → IsSound (wire_at net u).wire (holds net.queue u)) → ((u : ℕ) → u < length net.wires → IsMarked (wire_at net u)) → n < length net.nodes → PullsStand acts
       → ((first : N) → slice_get net.firsts n ≡ Some first → Minds row law y first (view_of net n) (took net n) (gave net n) acts)
       → ((k : ℕ) → k < length net.nodes → k ≢ n → IsMinded row law net k [])
       → Busy row law (with_node net n y) n acts

@@ -3,14 +3,14 @@ use Rattle.std.proofs.Common.{◌≡◌, ◌≢◌, ◌⊎◌, inl, inr, ℕ, ze
 use Rattle.std.proofs.lemmas.List.{length-set}
 use Rattle.std.specs.Prelude.{slice_index_or}
 use Rattle.elem_core.specs.declared.item.Item.{Item}
-use Rattle.port_core.specs.Asking.{NoCancel, AsksStand}
+use Rattle.port_core.specs.Asking.{NoCancel, PullsStand}
 use Rattle.port_core.specs.Wire.{Delivery, again}
 use Rattle.port_core.specs.View.{View, in_at, ActsAllowed}
 use Rattle.port_core.specs.View as view
 use Rattle.port_core.specs.declared.act.Act.{Act}
 use Rattle.port_core.specs.declared.act.Act.TheVariants.{Pull, Push, Complete, FailOut, Cancel}
 use Rattle.port_core.specs.declared.view.InView.{InView}
-use Rattle.port_core.specs.declared.view.InView.TheVariants.{Idle, Waiting, Left}
+use Rattle.port_core.specs.declared.view.InView.TheVariants.{Idle, Pulled, Cancelled}
 use Rattle.wire_core.specs.Cell.{Cell, moved_by}
 use Rattle.wire_core.specs.Marks.{IsMarked, wanted, Grown}
 use Rattle.wire_core.proofs.Marking.{push_wanted, close_wanted, grown_same, grown_trans}
@@ -25,40 +25,40 @@ use Rattle.fused_net.proofs.Asking.{move_grown, grown_put, moves_same, moves_tra
 
 -- ---- what a node knows of an input that it asked
 
-in_range : (xs : List InView) (i : ℕ) (x : InView) → get_or xs i Left ≡ x → x ≢ Left → i < length xs
+in_range : (xs : List InView) (i : ℕ) (x : InView) → get_or xs i Cancelled ≡ x → x ≢ Cancelled → i < length xs
 in_range [] i x e n = absurd (n (sym e))
 in_range (y ∷ xs) zero x e n = omega arith
 in_range (y ∷ xs) (suc i) x e n = omega (arith, in_range xs i x e n)
 
 set_there : (v : View) (i : ℕ) (x : InView) → i < length v.ins → in_at (view.with_in v i x) i ≡ x
-set_there v i x h = get_or-set_same v.ins i x Left h
+set_there v i x h = get_or-set_same v.ins i x Cancelled h
 
 set_elsewhere : (v : View) (i k : ℕ) (x : InView) → i ≢ k → in_at (view.with_in v k x) i ≡ in_at v i
-set_elsewhere v i k x n = get_or-set_other v.ins k i x Left n
+set_elsewhere v i k x n = get_or-set_other v.ins k i x Cancelled n
 
-idle_not : {x : InView} → x ≡ Idle → x ≡ Waiting → ⊥
+idle_not : {x : InView} → x ≡ Idle → x ≡ Pulled → ⊥
 idle_not a b = cc
 
 -- one that waits goes on to wait
-stays_waiting : (acts : List Act) (v : View) (i : ℕ) → in_at v i ≡ Waiting → NoCancel i acts → ActsAllowed v acts → in_at (view.acted_all v acts) i ≡ Waiting
+stays_waiting : (acts : List Act) (v : View) (i : ℕ) → in_at v i ≡ Pulled → NoCancel i acts → ActsAllowed v acts → in_at (view.acted_all v acts) i ≡ Pulled
 stays_waiting [] v i w n a = w
-stays_waiting (Pull k ∷ acts) v i w n a = stays_waiting acts (view.with_in v k Waiting) i (set_elsewhere v i k Waiting (λ e. idle_not (subst (λ (j : ℕ). in_at v j ≡ Idle) (sym e) a.0) w) ∙ w) n a.1
+stays_waiting (Pull k ∷ acts) v i w n a = stays_waiting acts (view.with_in v k Pulled) i (set_elsewhere v i k Pulled (λ e. idle_not (subst (λ (j : ℕ). in_at v j ≡ Idle) (sym e) a.0) w) ∙ w) n a.1
 stays_waiting (Push j x ∷ acts) v i w n a = stays_waiting acts (view.acted v (Push j x)) i w n a.1
 stays_waiting (Complete j ∷ acts) v i w n a = stays_waiting acts (view.acted v (Complete j)) i w n a.1
 stays_waiting (FailOut j c ∷ acts) v i w n a = stays_waiting acts (view.acted v (FailOut j c)) i w n a.1
-stays_waiting (Cancel k ∷ acts) v i w n a = stays_waiting acts (view.with_in v k Left) i (set_elsewhere v i k Left (λ e. n.0 (sym e)) ∙ w) n.1 a.1
+stays_waiting (Cancel k ∷ acts) v i w n a = stays_waiting acts (view.with_in v k Cancelled) i (set_elsewhere v i k Cancelled (λ e. n.0 (sym e)) ∙ w) n.1 a.1
 
-idle_left : Idle ≡ Left → ⊥
+idle_left : Idle ≡ Cancelled → ⊥
 idle_left e = cc
 
 -- some input is asked and waits once all is done, or none is asked
-asks_or_not : (acts : List Act) (v : View) → ActsAllowed v acts → AsksStand acts → (Pulls acts × ((i : ℕ) × (in_at (view.acted_all v acts) i ≡ Waiting))) ⊎ (Pulls acts → ⊥)
+asks_or_not : (acts : List Act) (v : View) → ActsAllowed v acts → PullsStand acts → (Pulls acts × ((i : ℕ) × (in_at (view.acted_all v acts) i ≡ Pulled))) ⊎ (Pulls acts → ⊥)
 asks_or_not [] v a s = inr (λ h. h)
-asks_or_not (Pull k ∷ acts) v a s = inl (tt, (k, stays_waiting acts (view.with_in v k Waiting) k (set_there v k Waiting (in_range v.ins k Idle a.0 idle_left)) s.0 a.1))
+asks_or_not (Pull k ∷ acts) v a s = inl (tt, (k, stays_waiting acts (view.with_in v k Pulled) k (set_there v k Pulled (in_range v.ins k Idle a.0 idle_left)) s.0 a.1))
 asks_or_not (Push j x ∷ acts) v a s = asks_or_not acts (view.acted v (Push j x)) a.1 s
 asks_or_not (Complete j ∷ acts) v a s = asks_or_not acts (view.acted v (Complete j)) a.1 s
 asks_or_not (FailOut j c ∷ acts) v a s = asks_or_not acts (view.acted v (FailOut j c)) a.1 s
-asks_or_not (Cancel k ∷ acts) v a s = asks_or_not acts (view.with_in v k Left) a.1 s
+asks_or_not (Cancel k ∷ acts) v a s = asks_or_not acts (view.with_in v k Cancelled) a.1 s
 
 -- ---- what is wanted
 
@@ -187,17 +187,17 @@ module _ {N : Type 0} (row : N → View → Type 0) (law : N → N → View → 
           (all k u node_within within to_old (subst (λ (m : ℕ). 1 ≤ m) (acts_wanted acts net n u busy (inr h)) some))
 
       -- in the words of the graph: the input that was asked waits once all is done
-      waits_at : (i : ℕ) → in_at (view.acted_all (view_of net n) acts) i ≡ Waiting → in_at (view_of (acted_all net n acts) n) i ≡ Waiting
+      waits_at : (i : ℕ) → in_at (view.acted_all (view_of net n) acts) i ≡ Pulled → in_at (view_of (acted_all net n acts) n) i ≡ Pulled
       waits_at i e =
           let x = get_there net.nodes n busy.within in
           let first = get_there net.firsts n (rw busy.each_first busy.within) in
-          let held : IsMinded (λ (y : N) (v : View). in_at v i ≡ Waiting) AnyLaw net n acts = λ y fy yi fi. record { allowed = (busy.here y fy yi fi).allowed; row_holds = e; law_holds = tt } in
-          let done = acts_here (λ (y : N) (v : View). in_at v i ≡ Waiting) AnyLaw acts net n busy held in
+          let held : IsMinded (λ (y : N) (v : View). in_at v i ≡ Pulled) AnyLaw net n acts = λ y fy yi fi. record { allowed = (busy.here y fy yi fi).allowed; row_holds = e; law_holds = tt } in
+          let done = acts_here (λ (y : N) (v : View). in_at v i ≡ Pulled) AnyLaw acts net n busy held in
           let x_new = get_there (acted_all net n acts).nodes n busy_end.within in
           let first_new = get_there (acted_all net n acts).firsts n (rw busy_end.each_first busy_end.within) in
           (done x_new.0 first_new.0 x_new.1 first_new.1).row_holds
 
-      own : (Pulls acts × ((i : ℕ) × (in_at (view.acted_all (view_of net n) acts) i ≡ Waiting))) ⊎ (Pulls acts → ⊥) → k ≡ n → NodeAsked row law asking moves (acted_all net n acts) k
+      own : (Pulls acts × ((i : ℕ) × (in_at (view.acted_all (view_of net n) acts) i ≡ Pulled))) ⊎ (Pulls acts → ⊥) → k ≡ n → NodeAsked row law asking moves (acted_all net n acts) k
       own (inr none) here = keep (inl none)
       own (inl p) here = rw here (record {
         old = acted_all net n acts;

@@ -4,10 +4,10 @@ use Rattle.std.specs.Prelude.{Option, IfNone, IfSome}
 use Rattle.std.proofs.lemmas.List.{length-set}
 use Rattle.elem_core.specs.declared.item.Item.{Item}
 use Rattle.port_core.specs.View.{View, in_at}
-use Rattle.port_core.specs.Asking.{AsksStand}
+use Rattle.port_core.specs.Asking.{PullsStand}
 use Rattle.port_core.specs.declared.act.Act.{Act}
 use Rattle.port_core.specs.declared.act.Act.TheVariants.{Pull, Push, Complete, FailOut, Cancel}
-use Rattle.port_core.specs.declared.view.InView.TheVariants.{Waiting}
+use Rattle.port_core.specs.declared.view.InView.TheVariants.{Pulled}
 use Rattle.stage_core.specs.Handling.{Pulls}
 use Rattle.stage_core.specs.Handing.{Hands}
 use Rattle.fused_net.specs.PortLists.{PortLists}
@@ -44,7 +44,7 @@ set_same [] n x at = refl
 set_same (z ∷ xs) zero x at = ap (λ (w : _). w ∷ xs) (sym (some_same z x at))
 set_same (z ∷ xs) (suc n) x at = ap (λ (l : List _). z ∷ l) (set_same xs n x at)
 
-stands_one : (a : Act) → AsksStand (a ∷ [])
+stands_one : (a : Act) → PullsStand (a ∷ [])
 stands_one (Pull i) = (tt, tt)
 stands_one (Push j e) = tt
 stands_one (Complete j) = tt
@@ -77,7 +77,7 @@ module _ {N : Type 0} (row : N → View → Type 0) (law : N → N → View → 
 
   module _ (gone waits : N → List Item) where
     -- an input that waits for an element, at the moment of its last ask
-    waiting_at : (net : Net N) (w k : ℕ) → (wire_at net w).wire.inp ≡ Waiting → (ports_at net k).ins ≡ w ∷ [] → in_at (view_of net k) 0 ≡ Waiting
+    waiting_at : (net : Net N) (w k : ℕ) → (wire_at net w).wire.inp ≡ Pulled → (ports_at net k).ins ≡ w ∷ [] → in_at (view_of net k) 0 ≡ Pulled
     waiting_at net w k waits ins = rw ins waits
 
     -- the moves of the nodes only grow

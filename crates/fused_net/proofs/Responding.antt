@@ -8,7 +8,7 @@ use Rattle.port_core.specs.Ring.{holds}
 use Rattle.port_core.specs.View.{View}
 use Rattle.port_core.specs.Call.{Call, Meets, starts}
 use Rattle.port_core.specs.declared.act.Act.{Act}
-use Rattle.stage_core.specs.Handling.{AsksAs, Starts, Handles}
+use Rattle.stage_core.specs.Handling.{PullsAs, Starts, Handles}
 use Rattle.fused_net.specs.declared.net.Ends.{Ends}
 use Rattle.fused_net.specs.Net.{Net, no_ends, end_at, view_of, acted_all, event_told, with_node, before}
 use Rattle.fused_net.specs.Laws.{AnyRow, AnyLaw, Busy, Awaits, TellsAsking, Responds, Settled, Starting, GoesOn}
@@ -39,7 +39,7 @@ module _ {N : Type 0} (row : N → View → Type 0) (law : N → N → View → 
 
 module _ {N : Type 0} (row : N → View → Type 0) (law : N → N → View → List (List Item) → List (List Item) → Type 0) (asking : N → View → Type 0) (moves : N → List ℕ) where
   pub responded : (call : Call) (net v new : Net N) (n : ℕ) (x y : N) (acts : List Act) → v ≡ net → n < length net.nodes → x ≡ get_or v.nodes n x → Awaits row law call net n → TellsAsking row law asking moves call net n → Handles row law call x y acts
-      → AsksAs call (row x) (asking y) acts → IsPrefix (moves x) (moves y) → new ≡ acted_all (with_node v n y) n acts → Responds row law asking moves net new n
+      → PullsAs call (row x) (asking y) acts → IsPrefix (moves x) (moves y) → new ≡ acted_all (with_node v n y) n acts → Responds row law asking moves net new n
   responded call net v new n x y acts e h is awaits tells handles asks grows on =
       let at : slice_get net.nodes n ≡ Some x = node_is net v n x e h is in
       record {
@@ -72,7 +72,7 @@ module _ {N : Type 0} (row : N → View → Type 0) (law : N → N → View → 
       pub asks : all_asks new ≤ all_asks net
 
     pub started : (net v new : Net N) (n : ℕ) (x y : N) (acts : List Act) → Starting row law asking moves fresh net n → v ≡ net → n < length net.nodes → x ≡ get_or v.nodes n x → Starts row law fresh x y acts
-        → AsksAs starts (fresh x) (asking y) acts → IsPrefix (moves x) (moves y) → new ≡ acted_all (with_node v n y) n acts → Started net new n
+        → PullsAs starts (fresh x) (asking y) acts → IsPrefix (moves x) (moves y) → new ≡ acted_all (with_node v n y) n acts → Started net new n
     started net v new n x y acts s e h is st asks grows on =
         let at : new ≡ acted_all (with_node net n y) n acts = rw e at on in
         let u : Uses (with_node net n y) (acted_all (with_node net n y) n acts) 0 = acts_uses acts (with_node net n y) n (start_busy row law asking moves fresh net n x y acts s h (node_is net v n x e h is) st) in

@@ -9,9 +9,9 @@ use Rattle.port_core.specs.View.{View}
 use Rattle.port_core.specs.Call.{starts, AllIdle, AllUnasked}
 use Rattle.port_core.specs.declared.act.Act.{Act}
 use Rattle.port_core.specs.declared.view.InView.TheVariants.{Idle}
-use Rattle.port_core.specs.declared.view.OutView.TheVariants.{Unasked}
+use Rattle.port_core.specs.declared.view.OutView.TheVariants.{Unpulled}
 use Rattle.stage_core.specs.Histories.{AllEmpty}
-use Rattle.stage_core.specs.Handling.{Pulls, AsksAs, Starts}
+use Rattle.stage_core.specs.Handling.{Pulls, PullsAs, Starts}
 use Rattle.wire_core.specs.Cell.{Cell, new_cell}
 use Rattle.wire_core.proofs.Marking.{new_marked, cell}
 use Rattle.wire_core.specs.Marks.{IsMarked, wanted}
@@ -41,7 +41,7 @@ all_idle : (m : ℕ) → AllIdle (replicate m Idle)
 all_idle zero = tt
 all_idle (suc m) = (refl, all_idle m)
 
-all_unasked : (m : ℕ) → AllUnasked (replicate m Unasked)
+all_unasked : (m : ℕ) → AllUnasked (replicate m Unpulled)
 all_unasked zero = tt
 all_unasked (suc m) = (refl, all_unasked m)
 
@@ -104,7 +104,7 @@ module _ {N : Type 0} (row : N → View → Type 0) (law : N → N → View → 
       (λ k hk ne x first xi fi. record { allowed = tt; row_holds = tt; law_holds = tt })
 
   pub start_done : (net new : Net N) (n : ℕ) (x y : N) (acts : List Act) → Starting row law asking moves fresh net n → n < length net.nodes → slice_get net.nodes n ≡ Some x → Starts row law fresh x y acts
-      → AsksAs starts (fresh x) (asking y) acts → IsPrefix (moves x) (moves y) → new ≡ acted_all (with_node net n y) n acts → Starting row law asking moves fresh new (n + 1)
+      → PullsAs starts (fresh x) (asking y) acts → IsPrefix (moves x) (moves y) → new ≡ acted_all (with_node net n y) n acts → Starting row law asking moves fresh new (n + 1)
   start_done net new n x y acts s h xi st asks grows is =
       let b : Busy AnyRow AnyLaw (with_node net n y) n acts = start_busy net n x y acts s h xi st in
       let done : Busy AnyRow AnyLaw (acted_all (with_node net n y) n acts) n [] = acts_busy AnyRow AnyLaw acts (with_node net n y) n b in

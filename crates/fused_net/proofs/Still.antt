@@ -7,7 +7,7 @@ use Rattle.port_core.specs.Wire.{Wire, Delivery, nothing, ask, refusal, brought,
 use Rattle.port_core.specs.View.{View}
 use Rattle.port_core.specs.declared.act.Act.{Act}
 use Rattle.port_core.specs.declared.act.Act.TheVariants.{Pull, Push, Complete, FailOut, Cancel}
-use Rattle.port_core.specs.declared.view.InView.TheVariants.{Left}
+use Rattle.port_core.specs.declared.view.InView.TheVariants.{Cancelled}
 use Rattle.wire_core.specs.Cell.{Cell, moved_by}
 use Rattle.wire_core.proofs.Marking.{grown_same, grown_trans}
 use Rattle.wire_core.specs.Reading.{no_wire}
@@ -67,7 +67,7 @@ told_sent (brought (item.Elem e) more) w = refl
 told_sent (brought item.Ended more) w = refl
 told_sent (brought (item.Failed c) more) w = refl
 
-told_left : (d : Delivery) (w : Wire) → (after_delivery d w).inp ≡ Left → w.inp ≡ Left
+told_left : (d : Delivery) (w : Wire) → (after_delivery d w).inp ≡ Cancelled → w.inp ≡ Cancelled
 told_left nothing w e = e
 told_left ask w e = e
 told_left refusal w e = e

@@ -5,14 +5,14 @@ use Rattle.elem_core.specs.declared.item.Item.{Item}
 use Rattle.port_core.specs.Ring.{holds}
 use Rattle.port_core.specs.Joint.{IsSound}
 use Rattle.port_core.specs.View.{View, in_at, ActsAllowed, acted_all}
-use Rattle.port_core.specs.Asking.{AsksStand}
+use Rattle.port_core.specs.Asking.{PullsStand}
 use Rattle.port_core.specs.Call.{Call, starts, CallAllowed, Meets}
-use Rattle.port_core.specs.declared.view.InView.TheVariants.{Idle, Waiting}
-use Rattle.port_core.specs.declared.view.OutView.TheVariants.{Unasked}
+use Rattle.port_core.specs.declared.view.InView.TheVariants.{Idle, Pulled}
+use Rattle.port_core.specs.declared.view.OutView.TheVariants.{Unpulled}
 use Rattle.port_core.specs.declared.act.Act.{Act}
 use Rattle.wire_core.specs.Marks.{IsMarked, wanted, Grown}
 use Rattle.stage_core.specs.Histories.{given_all, AllEmpty}
-use Rattle.stage_core.specs.Handling.{Pulls, AsksAs, Handles}
+use Rattle.stage_core.specs.Handling.{Pulls, PullsAs, Handles}
 use Rattle.fused_net.specs.PortLists.{PortLists}
 use Rattle.fused_net.specs.declared.net.Ends.{Ends}
 use Rattle.fused_net.specs.Net.{Net, end_at, port_at, ports_at, wire_at, view_of, took, gave, with_node}
@@ -38,7 +38,7 @@ AnyLaw first x v took gave = ⊤
 
 -- what a node knows before it was started
 abbrev pub first_view : PortLists → View
-first_view p = record { ins = replicate (length p.ins) Idle; outs = replicate (length p.outs) Unasked }
+first_view p = record { ins = replicate (length p.ins) Idle; outs = replicate (length p.outs) Unpulled }
 
 -- a node that was not started: it is as it was handed in, nobody asked, and nothing passed
 abbrev pub FreshLaw : {N : Type 0} → N → N → View → List (List Item) → List (List Item) → Type 0
@@ -89,7 +89,7 @@ module _ {N : Type 0} (row : N → View → Type 0) (law : N → N → View → 
     pub sound : (w : ℕ) → w < length net.wires → IsSound (wire_at net w).wire (holds net.queue w)
     pub marked : (w : ℕ) → w < length net.wires → IsMarked (wire_at net w)
     pub within : n < length net.nodes
-    pub stands : AsksStand acts
+    pub stands : PullsStand acts
     pub here : IsMinded net n acts
     pub others : (k : ℕ) → k < length net.nodes → k ≢ n → IsMinded net k []
 
@@ -111,7 +111,7 @@ module _ {N : Type 0} (row : N → View → Type 0) (law : N → N → View → 
     pub moves_on : MovesGrow moves old net
     pub sound : (u : ℕ) → u < length old.wires → IsSound (wire_at old u).wire (holds old.queue u)
     pub marked : (u : ℕ) → u < length old.wires → IsMarked (wire_at old u)
-    pub waits : (wire_at old w).wire.inp ≡ Waiting
+    pub waits : (wire_at old w).wire.inp ≡ Pulled
     pub asked : (wire_at old w).asked ≡ true
     pub same : wanted (wire_at net w) ≡ wanted (wire_at old w)
     pub stays : NodeStays old net w
@@ -136,7 +136,7 @@ module _ {N : Type 0} (row : N → View → Type 0) (law : N → N → View → 
     pub asking_then : IsAsking asking old n
     pub before : AllAsked old
     pub port : ℕ
-    pub waits : in_at (view_of old n) port ≡ Waiting
+    pub waits : in_at (view_of old n) port ≡ Pulled
     pub same : (u : ℕ) → u < length old.wires → (end_at old.ends u).to ≡ n → wanted (wire_at net u) ≡ wanted (wire_at old u)
 
   -- each node that has asked at some input has such a moment
@@ -155,7 +155,7 @@ module _ {N : Type 0} (row : N → View → Type 0) (law : N → N → View → 
 
   -- whatever the handler of node n does for this call, what it tells as it asks is told of the graph
   abbrev pub TellsAsking : Call → Net N → ℕ → Type 0
-  TellsAsking call net n = (x y : N) (acts : List Act) → slice_get net.nodes n ≡ Some x → Handles row law call x y acts → AsksAs call (row x) (asking y) acts → Pulls acts → asking y (acted_all (view_of net n) acts)
+  TellsAsking call net n = (x y : N) (acts : List Act) → slice_get net.nodes n ≡ Some x → Handles row law call x y acts → PullsAs call (row x) (asking y) acts → Pulls acts → asking y (acted_all (view_of net n) acts)
 
   -- the handler of node n was called, and its actions were done
   pub record Responds (old new : Net N) (n : ℕ) : Type 0 where

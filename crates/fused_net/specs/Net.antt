@@ -3,7 +3,7 @@ use Rattle.std.specs.Prelude.{◌≡◌, ℕ, ◌+◌, ◌^◌, ◌<◌, ◌⊎�
 use Rattle.elem_core.specs.declared.item.Item.{Item}
 use Rattle.port_core.specs.Ring.{holds}
 use Rattle.port_core.specs.View.{View}
-use Rattle.port_core.specs.Call.{Call, starts, asks, brings, cancels}
+use Rattle.port_core.specs.Call.{Call, starts, pulls, arrives, cancels}
 use Rattle.port_core.specs.Wire.{Delivery, nothing, ask, refusal, brought, delivery_of, after_delivery, again}
 use Rattle.port_core.specs.declared.act.Act.{Act}
 use Rattle.port_core.specs.declared.act.Act.TheVariants.{Pull, Push, Complete, FailOut, Cancel}
@@ -69,9 +69,9 @@ target (brought x more) e = e.to
 -- and the call of its handler
 abbrev pub call_of : Delivery → Ends → Call
 call_of nothing e = starts
-call_of ask e = asks e.output
+call_of ask e = pulls e.output
 call_of refusal e = cancels e.output
-call_of (brought x more) e = brings e.input x
+call_of (brought x more) e = arrives e.input x
 
 -- the wire once this was delivered
 abbrev pub told_by : Delivery → Cell → Cell

@@ -3,7 +3,7 @@
 use Rattle.std.specs.Prelude.{◌≡◌, ◌≢◌, ℕ, Bool, true, false, Option, None, Some, List, [], ◌∷◌, ◌++◌, map, slice_get, ⊤}
 use Rattle.elem_core.specs.declared.item.Item.{Item}
 use Rattle.port_core.specs.View.{View}
-use Rattle.port_core.specs.declared.view.InView.TheVariants.{Left}
+use Rattle.port_core.specs.declared.view.InView.TheVariants.{Cancelled}
 use Rattle.wire_core.specs.Marks.{wanted, Grown}
 use Rattle.fused_net.specs.PortLists.{PortLists}
 use Rattle.fused_net.specs.Net.{Net, end_at, wire_at, ports_at}
@@ -21,7 +21,7 @@ module _ {N : Type 0} (passive : N → Bool) where
     pub grown : (w : ℕ) → Grown (wire_at old w) (wire_at new w)
     pub sent : (w : ℕ) → IsPassiveAt old (end_at old.ends w).from → (wire_at new w).wire.sent ≡ (wire_at old w).wire.sent
     pub asks : (w : ℕ) → IsPassiveAt old (end_at old.ends w).to → wanted (wire_at new w) ≡ wanted (wire_at old w)
-    pub left : (w : ℕ) → IsPassiveAt old (end_at old.ends w).to → (wire_at new w).wire.inp ≡ Left → (wire_at old w).wire.inp ≡ Left
+    pub left : (w : ℕ) → IsPassiveAt old (end_at old.ends w).to → (wire_at new w).wire.inp ≡ Cancelled → (wire_at old w).wire.inp ≡ Cancelled
 
 -- an event of wire w touched a passive node, or not
 abbrev pub touched : Bool → ℕ → Option ℕ

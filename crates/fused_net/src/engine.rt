@@ -5,7 +5,7 @@ ghost use Rattle.port_core.specs.Call.{Meets};
 ghost use Rattle.port_core.specs.Ring.{holds};
 ghost use Rattle.port_core.specs.Wire.{nothing, delivery_of};
 ghost use Rattle.port_core.specs.declared.act.Act.TheVariants as act;
-ghost use Rattle.stage_core.specs.Handling.{most_acts, AsksAs, StaysPassive, Handles};
+ghost use Rattle.stage_core.specs.Handling.{most_acts, PullsAs, StaysPassive, Handles};
 ghost use Rattle.wire_core.specs.Cell.{new_cell, delivery_in};
 ghost use Rattle.fused_net.specs.Net.{acted, acted_all, event_told, wire_at, end_at, Able, port_at, target, call_of, before, Takes};
 ghost use Rattle.fused_net.specs.Queue.{most_chases};
@@ -92,7 +92,7 @@ fn node_of(event: &Delivered, ends: Ends) -> u32
     ensures { result ≡ target (delivery_in event.now) ends }
 {
     match event {
-        Delivered::Brought(_, _) => ends.to,
+        Delivered::Arrived(_, _) => ends.to,
         _ => ends.from,
     }
 }
@@ -110,7 +110,7 @@ fn call<S: Stage>(
     requires empty { acts.old.items ≡ [] }
     requires room { most_acts ≤ acts.old.room }
     ensures handles { OnOk result (Handles S.rests S.law (call_of (delivery_in event) ends) node.old node.new acts.new.items) }
-    ensures asks { OnOk result (AsksAs (call_of (delivery_in event) ends) (S.rests node.old) (S.asking node.new) acts.new.items) }
+    ensures pulls { OnOk result (PullsAs (call_of (delivery_in event) ends) (S.rests node.old) (S.asking node.new) acts.new.items) }
     ensures grows { OnOk result (IsPrefix (S.moves node.old) (S.moves node.new)) }
     ensures passive { OnOk result (StaysPassive (S.passive node.old) (S.passive node.new) acts.new.items) }
     ensures gone { OnOk result (S.gone node.new ≡ S.gone node.old) }
@@ -119,11 +119,11 @@ fn call<S: Stage>(
 {
     match event {
         Delivered::Nothing => unreachable!(),
-        Delivered::Ask => node.on_pull(alloc, ends.output, acts),
-        Delivered::Refusal => node.on_cancel(alloc, ends.output, acts),
-        Delivered::Brought(Item::Elem(e), _) => node.on_push(alloc, ends.input, e, acts),
-        Delivered::Brought(Item::Ended, _) => node.on_finish(alloc, ends.input, acts),
-        Delivered::Brought(Item::Failed(cause), _) => node.on_fail(alloc, ends.input, cause, acts),
+        Delivered::Pull => node.on_pull(alloc, ends.output, acts),
+        Delivered::Cancel => node.on_cancel(alloc, ends.output, acts),
+        Delivered::Arrived(Item::Elem(e), _) => node.on_push(alloc, ends.input, e, acts),
+        Delivered::Arrived(Item::Ended, _) => node.on_finish(alloc, ends.input, acts),
+        Delivered::Arrived(Item::Failed(cause), _) => node.on_fail(alloc, ends.input, cause, acts),
     }
 }
 
@@ -307,7 +307,7 @@ impl<S: Stage> Engine<S> {
         ensures after { self.new ≡ event_told self.old w }
     {
         let event = self.wires[w as usize].deliver();
-        if let Delivered::Brought(_, true) = event {
+        if let Delivered::Arrived(_, true) = event {
             self.queue.enqueue(w);
         }
         event

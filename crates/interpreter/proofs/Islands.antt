@@ -3,7 +3,7 @@ use Rattle.std.proofs.Common.{◌≡◌, ℕ, zero, suc, ◌+◌, ◌<◌, ◌�
 use Rattle.std.proofs.lemmas.List.{length-map}
 use Rattle.std.proofs.lemmas.Option.{slice_get_within}
 use Rattle.port_core.specs.declared.view.InView.TheVariants.{Idle}
-use Rattle.port_core.specs.declared.view.OutView.TheVariants.{Unasked}
+use Rattle.port_core.specs.declared.view.OutView.TheVariants.{Unpulled}
 use Rattle.nodes.specs.Nodes.{node_fresh, node_row, node_law, node_asking, node_moves}
 use Rattle.nodes.specs.declared.node.Node.{Node}
 use Rattle.nodes.specs.declared.node.Node.TheVariants as node
@@ -47,7 +47,7 @@ new_maker k (kind.Range low high) = refl
 new_maker k (kind.Empty b) = refl
 new_maker k _ = refl
 
-becomes_fresh : {S D L B : Type 0} (k : ℕ) (w : Work S D L B) (x : Node S D L B) → IsUnused w → BecomesOf k w x → node_fresh x (record { ins = replicate (work_inputs w) Idle; outs = replicate (work_outputs w) Unasked })
+becomes_fresh : {S D L B : Type 0} (k : ℕ) (w : Work S D L B) (x : Node S D L B) → IsUnused w → BecomesOf k w x → node_fresh x (record { ins = replicate (work_inputs w) Idle; outs = replicate (work_outputs w) Unpulled })
 becomes_fresh k (Reading r) x u b = rw b (record { phase = refl; drawn = refl; kept = u; port = refl })
 becomes_fresh k (Making kind) x u b = rw b (record { phase = new_maker k kind; port = refl })
 becomes_fresh k (Linear l) x u b = rw b u
@@ -62,7 +62,7 @@ becomes_fresh k (LaneOut u) x t b = rw b (record { waits = refl; gone = refl; po
 
 -- the node at place n
 fresh_at : {S D L B : Type 0} (places : List (Seated S D L B)) (nodes : List (Node S D L B)) (n : ℕ) (x : Node S D L B) → AllUnused places → AllBecome places nodes → slice_get nodes n ≡ Some x
-    → node_fresh x (record { ins = replicate (inputs_at places n) Idle; outs = replicate (outputs_at places n) Unasked })
+    → node_fresh x (record { ins = replicate (inputs_at places n) Idle; outs = replicate (outputs_at places n) Unpulled })
 fresh_at [] [] n x u b e = absurd cc
 fresh_at [] (y ∷ ys) n x u b e = absurd b
 fresh_at (s ∷ ss) [] n x u b e = absurd b

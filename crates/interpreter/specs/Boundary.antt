@@ -1,7 +1,7 @@
 -- The boundary stages of an island, each by the number of the wire that its lane is.
 use Rattle.std.specs.Prelude.{◌≡◌, ◌≢◌, ℕ, ◌<◌, List, [], length, slice_index_or}
 use Rattle.elem_core.specs.declared.item.Item.{Item}
-use Rattle.port_core.specs.declared.view.InView.TheVariants.{Left}
+use Rattle.port_core.specs.declared.view.InView.TheVariants.{Cancelled}
 use Rattle.wire_core.specs.Cell.{Cell}
 use Rattle.wire_core.specs.Marks.{wanted}
 use Rattle.nodes.specs.declared.node.Node.{Node}
@@ -47,7 +47,7 @@ module _ {S D L B : Type 0} where
   -- where a lane goes out at place q nothing was asked, cancelled or handed out
   pub record BeginsOut (net : Net (Node S D L B)) (q : ℕ) : Type 0 where
     pub unasked : wanted (wire_at net q) ≡ 0
-    pub stays : (wire_at net q).wire.inp ≢ Left
+    pub stays : (wire_at net q).wire.inp ≢ Cancelled
     pub none_gone : AtNode net (end_at net.ends q).to (λ x. node_gone x ≡ [])
 
   -- the island with another graph

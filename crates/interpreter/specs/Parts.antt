@@ -1,7 +1,7 @@
 -- The parts of an island: what stands at each of its places, and the links between their ports.
 use Rattle.std.specs.Prelude.{◌≡◌, ℕ, zero, suc, ◌<◌, ◌^◌, false, None, Some, List, [], ◌∷◌, map, length, slice_get, slice_set, ⊤}
 use Rattle.port_core.specs.declared.view.InView.TheVariants.{Idle}
-use Rattle.port_core.specs.declared.view.OutView.TheVariants.{Unasked}
+use Rattle.port_core.specs.declared.view.OutView.TheVariants.{Unpulled}
 use Rattle.stream_model.specs.declared.kind.Kind.TheVariants.{Ignore}
 use Rattle.stream_model.specs.declared.outcome.EndState.TheVariants.{Unended}
 use Rattle.stage_core.specs.declared.phase.Phase.TheVariants.{New}
@@ -88,9 +88,9 @@ outs_at (p ∷ ps) (suc n) = outs_at ps n
 abbrev pub IsUnused : {S D L B : Type 0} → Work S D L B → Type 0
 IsUnused (Reading r) = r.kept ≡ []
 IsUnused (Making k) = IsMaker k
-IsUnused (Linear l) = LinearFresh l (record { ins = Idle ∷ []; outs = Unasked ∷ [] })
-IsUnused (State l) = StateFresh l (record { ins = Idle ∷ []; outs = Unasked ∷ [] })
-IsUnused (Sub l) = SubFresh line_rest line_is_open l (record { ins = Idle ∷ []; outs = Unasked ∷ [] })
+IsUnused (Linear l) = LinearFresh l (record { ins = Idle ∷ []; outs = Unpulled ∷ [] })
+IsUnused (State l) = StateFresh l (record { ins = Idle ∷ []; outs = Unpulled ∷ [] })
+IsUnused (Sub l) = SubFresh line_rest line_is_open l (record { ins = Idle ∷ []; outs = Unpulled ∷ [] })
 IsUnused (FanIn l n) = InFresh l (unpulled_ins n)
 IsUnused (FanOut l n) = OutFresh l (unpulled_outs n)
 IsUnused (Writing k (Some d)) = IsFileSink k

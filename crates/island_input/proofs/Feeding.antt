@@ -10,7 +10,7 @@ use Rattle.stream_model.specs.Linear.{Book}
 use Rattle.stage_law.specs.Held.{told}
 use Rattle.port_core.specs.Decoding.{can_push}
 use Rattle.port_core.specs.declared.view.OutView.{OutView}
-use Rattle.port_core.specs.declared.view.OutView.TheVariants.{Unasked, Asked, Shut, Refused}
+use Rattle.port_core.specs.declared.view.OutView.TheVariants as outlet
 use Rattle.wire_core.specs.Cell.{Cell, moved_by}
 use Rattle.wire_core.specs.Counts.{elements}
 use Rattle.wire_core.specs.Reading.{no_wire}
@@ -38,40 +38,40 @@ use Rattle.island_input.proofs.Stage.{Gave, gave_there, passive_there, few_there
 
 -- ---- what was wanted
 
-pub wanted_push : (y : OutView) (b : Bool) → wanted_by y b ≡ wanted.Asked → (b ≡ true) × (y ≢ Refused)
-wanted_push Unasked true e = (refl, λ r. cc)
-wanted_push Asked true e = (refl, λ r. cc)
-wanted_push Shut true e = (refl, λ r. cc)
-wanted_push Refused true e = absurd cc
-wanted_push Unasked false e = absurd cc
-wanted_push Asked false e = absurd cc
-wanted_push Shut false e = absurd cc
-wanted_push Refused false e = absurd cc
+pub wanted_push : (y : OutView) (b : Bool) → wanted_by y b ≡ wanted.Asked → (b ≡ true) × (y ≢ outlet.Cancelled)
+wanted_push outlet.Unpulled true e = (refl, λ r. cc)
+wanted_push outlet.Available true e = (refl, λ r. cc)
+wanted_push outlet.Closed true e = (refl, λ r. cc)
+wanted_push outlet.Cancelled true e = absurd cc
+wanted_push outlet.Unpulled false e = absurd cc
+wanted_push outlet.Available false e = absurd cc
+wanted_push outlet.Closed false e = absurd cc
+wanted_push outlet.Cancelled false e = absurd cc
 
-pub wanted_quiet : (y : OutView) (b : Bool) → wanted_by y b ≡ wanted.Quiet → (b ≡ false) × (y ≢ Refused)
-wanted_quiet Unasked true e = absurd cc
-wanted_quiet Asked true e = absurd cc
-wanted_quiet Shut true e = absurd cc
-wanted_quiet Refused true e = absurd cc
-wanted_quiet Unasked false e = (refl, λ r. cc)
-wanted_quiet Asked false e = (refl, λ r. cc)
-wanted_quiet Shut false e = (refl, λ r. cc)
-wanted_quiet Refused false e = absurd cc
+pub wanted_quiet : (y : OutView) (b : Bool) → wanted_by y b ≡ wanted.Quiet → (b ≡ false) × (y ≢ outlet.Cancelled)
+wanted_quiet outlet.Unpulled true e = absurd cc
+wanted_quiet outlet.Available true e = absurd cc
+wanted_quiet outlet.Closed true e = absurd cc
+wanted_quiet outlet.Cancelled true e = absurd cc
+wanted_quiet outlet.Unpulled false e = (refl, λ r. cc)
+wanted_quiet outlet.Available false e = (refl, λ r. cc)
+wanted_quiet outlet.Closed false e = (refl, λ r. cc)
+wanted_quiet outlet.Cancelled false e = absurd cc
 
-pub wanted_cancel : (y : OutView) (b : Bool) → wanted_by y b ≡ wanted.Cancelled → y ≡ Refused
-wanted_cancel Unasked true e = absurd cc
-wanted_cancel Asked true e = absurd cc
-wanted_cancel Shut true e = absurd cc
-wanted_cancel Refused b e = refl
-wanted_cancel Unasked false e = absurd cc
-wanted_cancel Asked false e = absurd cc
-wanted_cancel Shut false e = absurd cc
+pub wanted_cancel : (y : OutView) (b : Bool) → wanted_by y b ≡ wanted.Cancelled → y ≡ outlet.Cancelled
+wanted_cancel outlet.Unpulled true e = absurd cc
+wanted_cancel outlet.Available true e = absurd cc
+wanted_cancel outlet.Closed true e = absurd cc
+wanted_cancel outlet.Cancelled b e = refl
+wanted_cancel outlet.Unpulled false e = absurd cc
+wanted_cancel outlet.Available false e = absurd cc
+wanted_cancel outlet.Closed false e = absurd cc
 
-pub open_live : (y : OutView) → y ≢ Shut → y ≢ Refused → output_closed y ≡ false
-open_live Unasked a b = refl
-open_live Asked a b = refl
-open_live Shut a b = absurd (a refl)
-open_live Refused a b = absurd (b refl)
+pub open_live : (y : OutView) → y ≢ outlet.Closed → y ≢ outlet.Cancelled → output_closed y ≡ false
+open_live outlet.Unpulled a b = refl
+open_live outlet.Available a b = refl
+open_live outlet.Closed a b = absurd (a refl)
+open_live outlet.Cancelled a b = absurd (b refl)
 
 -- both count elements alike
 counts_same : (l : List Item) → lane.elements l ≡ elements l
@@ -87,16 +87,16 @@ act_sent (item.Elem e) c = refl
 act_sent item.Ended c = refl
 act_sent (item.Failed d) c = refl
 
-act_out : (x : Item) (c : Cell) → (moved_by (act_of x) c).wire.out ≡ cond (ends x) Shut Unasked
+act_out : (x : Item) (c : Cell) → (moved_by (act_of x) c).wire.out ≡ cond (ends x) outlet.Closed outlet.Unpulled
 act_out (item.Elem e) c = refl
 act_out item.Ended c = refl
 act_out (item.Failed d) c = refl
 
-ended_flowing : (b : Bool) → cond b Closed Flowing ≡ Flowing → cond b Shut Unasked ≢ Shut
+ended_flowing : (b : Bool) → cond b Closed Flowing ≡ Flowing → cond b outlet.Closed outlet.Unpulled ≢ outlet.Closed
 ended_flowing true e = cc
 ended_flowing false e = λ r. cc
 
-ended_closed : (b : Bool) → cond b Closed Flowing ≡ Closed → cond b Shut Unasked ≡ Shut
+ended_closed : (b : Bool) → cond b Closed Flowing ≡ Closed → cond b outlet.Closed outlet.Unpulled ≡ outlet.Closed
 ended_closed true e = refl
 ended_closed false e = absurd cc
 
@@ -104,11 +104,11 @@ ended_not : (b : Bool) → cond b Closed Flowing ≡ Cancelled → ⊥
 ended_not true e = cc
 ended_not false e = cc
 
-shut_live : (b : Bool) → cond b Shut Unasked ≢ Refused
+shut_live : (b : Bool) → cond b outlet.Closed outlet.Unpulled ≢ outlet.Cancelled
 shut_live true e = cc
 shut_live false e = cc
 
-shut_unasked : (b : Bool) → cond b Shut Unasked ≢ Asked
+shut_unasked : (b : Bool) → cond b outlet.Closed outlet.Unpulled ≢ outlet.Available
 shut_unasked true e = cc
 shut_unasked false e = cc
 
@@ -120,18 +120,18 @@ module _ {S D L B : Type 0} (b : InputBoundary) (i : Kept S D L B) (u : ℕ) (x 
   cell_moved : cell_in new u ≡ moved_by (act_of x) (cell_in i u)
   cell_moved = subst (λ (z : Kept S D L B). cell_in z u ≡ moved_by (act_of x) (cell_in i u)) (sym is) (get_or-set_same i.net.wires (way_in i u) (moved_by (act_of x) (cell_in i u)) no_wire h)
 
-  out_moved : (cell_in new u).wire.out ≡ cond (ends x) Shut Unasked
+  out_moved : (cell_in new u).wire.out ≡ cond (ends x) outlet.Closed outlet.Unpulled
   out_moved = ap (λ (c : Cell). c.wire.out) cell_moved ∙ act_out x (cell_in i u)
 
   pub handed_feeds : Feeds b i u → (c : InputBoundary) → given c ≡ given b ++ x ∷ [] → state c ≡ cond (ends x) Closed Flowing → Feeds c new u
   handed_feeds f c g s = record {
     given_is = ap (λ (z : Cell). z.wire.sent) cell_moved ∙ act_sent x (cell_in i u) ∙ ap (λ (l : List Item). l ++ x ∷ []) f.given_is ∙ sym g;
-    flowing = λ e. subst (λ (y : OutView). y ≢ Shut) (sym out_moved) (ended_flowing (ends x) (sym s ∙ e));
+    flowing = λ e. subst (λ (y : OutView). y ≢ outlet.Closed) (sym out_moved) (ended_flowing (ends x) (sym s ∙ e));
     closed = λ e. out_moved ∙ ended_closed (ends x) (sym s ∙ e);
     cancelled = λ e. absurd (ended_not (ends x) (sym s ∙ e));
   }
 
-  pub handed_live : (cell_in new u).wire.out ≢ Refused
+  pub handed_live : (cell_in new u).wire.out ≢ outlet.Cancelled
   handed_live e = shut_live (ends x) (sym out_moved ∙ e)
 
   pub handed_given : (c : InputBoundary) → HasGiven c new u
@@ -151,17 +151,17 @@ module _ {S D L B : Type 0} (b : InputBoundary) (i : Kept S D L B) (u : ℕ) whe
     refused = λ e. n;
   }
     where
-      never : (s : State) → state b ≡ s → (cell_in i u).wire.out ≡ Asked → ⊥
+      never : (s : State) → state b ≡ s → (cell_in i u).wire.out ≡ outlet.Available → ⊥
       never Flowing s e = n s
       never Closed s e = let c = f.closed s in cc
       never Cancelled s e = let c = f.cancelled s in cc
 
   -- one whose connection was not cancelled
-  pub fed_live : (cell_in i u).wire.out ≢ Refused → HasGiven b i u → (state b ≡ Flowing → waits b ≡ [] → taken b.lane ≡ given b) → IsFed b i u
+  pub fed_live : (cell_in i u).wire.out ≢ outlet.Cancelled → HasGiven b i u → (state b ≡ Flowing → waits b ≡ [] → taken b.lane ≡ given b) → IsFed b i u
   fed_live live all none = record { given_all = all; no_end = none; refused = λ e. absurd (live e) }
 
   -- the lane was cancelled
-  pub feeds_cancelled : Feeds b i u → (cell_in i u).wire.out ≡ Refused → (c : InputBoundary) → given c ≡ given b → state c ≡ Cancelled → Feeds c i u
+  pub feeds_cancelled : Feeds b i u → (cell_in i u).wire.out ≡ outlet.Cancelled → (c : InputBoundary) → given c ≡ given b → state c ≡ Cancelled → Feeds c i u
   feeds_cancelled f e c g s = record {
     given_is = f.given_is ∙ sym g;
     flowing = λ z. absurd cc;
@@ -177,7 +177,7 @@ module _ {S D L B : Type 0} (b : InputBoundary) (i : Kept S D L B) (u : ℕ) whe
   pub few_given : {sources : S → SourceState} {drains : D → DrainState} {book : Book} → Keeps sources drains book i.net i.used → Enters i u → Feeds b i u → wanted_at (cell_in i u) ≡ wanted.Asked → lane.elements (given b) < 4000000000
   few_given k en f w =
       let p = wanted_push (cell_in i u).wire.out (can_push (cell_in i u).wire.conn) w in
-      let y : (cell_in i u).wire.out ≡ Asked = push_asked (cell_in i u).wire _ (k.laws.sound (way_in i u) en.place) p.0 in
+      let y : (cell_in i u).wire.out ≡ outlet.Available = push_asked (cell_in i u).wire _ (k.laws.sound (way_in i u) en.place) p.0 in
       let few = few_there i.net (way_in i u) i.used en.place k.asks k.within y in
       let count : lane.elements (given b) ≡ elements (cell_in i u).wire.sent = counts_same (given b) ∙ ap elements (sym f.given_is) in
       omega (arith, few, count)
@@ -290,7 +290,7 @@ module _ {S D L B : Type 0} (sources : S → SourceState) (drains : D → DrainS
           (open_stays (cell_in old u).wire.out (cell_in new u).wire.out gave_old.list gave_new.list gave_old.end gave_new.end told_is gave_old.known gave_new.known (not_shut (cell_in old u).wire.out (f.cancelled e)));
     }
       where
-        not_shut : (y : OutView) → y ≡ Refused → y ≡ Shut → ⊥
+        not_shut : (y : OutView) → y ≡ outlet.Cancelled → y ≡ outlet.Closed → ⊥
         not_shut y e g = cc
 
   -- and one that heard of nothing has nothing to do

@@ -10,7 +10,7 @@ use Rattle.stage_law.specs.Held.{told}
 use Rattle.stage_law.specs.Law.{GaveAs}
 use Rattle.port_core.specs.View.{View, out_at}
 use Rattle.port_core.specs.declared.view.OutView.{OutView}
-use Rattle.port_core.specs.declared.view.OutView.TheVariants.{Asked, Shut}
+use Rattle.port_core.specs.declared.view.OutView.TheVariants.{Available, Closed}
 use Rattle.wire_core.specs.Cell.{Cell}
 use Rattle.wire_core.specs.Counts.{elements, asked_bit, asks}
 use Rattle.wire_core.specs.Reading.{no_wire, out_of, sent_of}
@@ -109,7 +109,7 @@ module _ {S D L B : Type 0} (sources : S → SourceState) (drains : D → DrainS
         let first = get_there net.firsts from (rw s.each_first (s.wired.from_within q h)) in
         gave_by x.0 first.0 (stage first.0 first.1) (view_of net from) (took net from) (gave net from) (end_at net.ends q).output (wire_at net q).wire.sent (wire_at net q).wire.out
         (sent_there net.wires (ports_at net from).outs (end_at net.ends q).output q (s.wired.from_output q h))
-        (read_at out_of net.wires (ports_at net from).outs (end_at net.ends q).output q Shut (s.wired.from_output q h))
+        (read_at out_of net.wires (ports_at net from).outs (end_at net.ends q).output q Closed (s.wired.from_output q h))
         (s.minded from (s.wired.from_within q h) x.0 first.0 x.1 first.1).law_holds
 
     pub passive_there : IsPassiveAt node_passive net from
@@ -128,7 +128,7 @@ one_below f (suc n) w h = elim (same_or_not w n) [
     above w n h e = grind (arith, h, e)
 
 -- an asked output has pushed fewer elements than all were asked
-pub few_there : {N : Type 0} (net : Net N) (q used : ℕ) → q < length net.wires → all_asks net ≤ used → used ≤ 4000000000 → (wire_at net q).wire.out ≡ Asked → elements (wire_at net q).wire.sent < 4000000000
+pub few_there : {N : Type 0} (net : Net N) (q used : ℕ) → q < length net.wires → all_asks net ≤ used → used ≤ 4000000000 → (wire_at net q).wire.out ≡ Available → elements (wire_at net q).wire.sent < 4000000000
 few_there net q used h a b e =
     let one : asks (wire_at net q).wire ≤ all_asks net = one_below (λ w. asks (wire_at net w).wire) (length net.wires) q h in
     let is : asks (wire_at net q).wire ≡ elements (wire_at net q).wire.sent + 1 = ap (λ (y : OutView). elements (wire_at net q).wire.sent + asked_bit y) e in

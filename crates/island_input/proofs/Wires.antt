@@ -7,13 +7,13 @@ use Rattle.port_core.specs.Decoding.{can_push}
 use Rattle.port_core.specs.Joint.{Joint, idle, asking, asked, moving, ending, closing, leaving, finished, parted, refused, wire_of, IsSound, Queues}
 use Rattle.port_core.specs.Wire.{Wire}
 use Rattle.port_core.specs.declared.view.OutView.{OutView}
-use Rattle.port_core.specs.declared.view.OutView.TheVariants.{Unasked, Asked, Shut, Refused}
+use Rattle.port_core.specs.declared.view.OutView.TheVariants.{Unpulled, Available, Closed, Cancelled}
 use Rattle.stream_model.specs.Outlook.{End, unended, ended, failed}
 use Rattle.stage_law.specs.Held.{told}
 use Rattle.stage_law.specs.Law.{GaveAs}
 
 -- where an output may push its stage knows that it was asked
-push_j : (j : Joint) (s g : List Item) → can_push (wire_of j s g).conn ≡ true → (wire_of j s g).out ≡ Asked
+push_j : (j : Joint) (s g : List Item) → can_push (wire_of j s g).conn ≡ true → (wire_of j s g).out ≡ Available
 push_j idle s g e = cc
 push_j asking s g e = cc
 push_j asked s g e = refl
@@ -26,11 +26,11 @@ push_j (finished t c) s g e = cc
 push_j (parted t c) s g e = cc
 push_j (refused t c) s g e = cc
 
-pub push_asked : (w : Wire) (q : Bool) → IsSound w q → can_push w.conn ≡ true → w.out ≡ Asked
+pub push_asked : (w : Wire) (q : Bool) → IsSound w q → can_push w.conn ≡ true → w.out ≡ Available
 push_asked w q h e = ap (λ (v : Wire). v.out) h.is ∙ push_j h.joint w.sent w.got (sym (ap (λ (v : Wire). can_push v.conn) h.is) ∙ e)
 
 -- where it was asked and may not push, a cancel is on its way
-away_j : (j : Joint) (s g : List Item) → (wire_of j s g).out ≡ Asked → can_push (wire_of j s g).conn ≡ false → (wire_of j s g).conn.in_closed ≡ true
+away_j : (j : Joint) (s g : List Item) → (wire_of j s g).out ≡ Available → can_push (wire_of j s g).conn ≡ false → (wire_of j s g).conn.in_closed ≡ true
 away_j idle s g a e = cc
 away_j asking s g a e = cc
 away_j asked s g a e = cc
@@ -43,11 +43,11 @@ away_j (finished t c) s g a e = cc
 away_j (parted t c) s g a e = cc
 away_j (refused t c) s g a e = cc
 
-pub cancel_away : (w : Wire) (q : Bool) → IsSound w q → w.out ≡ Asked → can_push w.conn ≡ false → w.conn.in_closed ≡ true
+pub cancel_away : (w : Wire) (q : Bool) → IsSound w q → w.out ≡ Available → can_push w.conn ≡ false → w.conn.in_closed ≡ true
 cancel_away w q h a e = ap (λ (v : Wire). v.conn.in_closed) h.is ∙ away_j h.joint w.sent w.got (sym (ap (λ (v : Wire). v.out) h.is) ∙ a) (sym (ap (λ (v : Wire). can_push v.conn) h.is) ∙ e)
 
 -- but not where the wire has no event
-rest_j : (j : Joint) (s g : List Item) → (wire_of j s g).out ≡ Asked → Queues j false → (wire_of j s g).conn.in_closed ≡ false
+rest_j : (j : Joint) (s g : List Item) → (wire_of j s g).out ≡ Available → Queues j false → (wire_of j s g).conn.in_closed ≡ false
 rest_j idle s g a e = refl
 rest_j asking s g a e = refl
 rest_j asked s g a e = refl
@@ -59,11 +59,11 @@ rest_j (finished t c) s g a e = cc
 rest_j (parted t c) s g a e = cc
 rest_j (refused t c) s g a e = cc
 
-pub rest_open : (w : Wire) → IsSound w false → w.out ≡ Asked → w.conn.in_closed ≡ false
+pub rest_open : (w : Wire) → IsSound w false → w.out ≡ Available → w.conn.in_closed ≡ false
 rest_open w h a = ap (λ (v : Wire). v.conn.in_closed) h.is ∙ rest_j h.joint w.sent w.got (sym (ap (λ (v : Wire). v.out) h.is) ∙ a) h.queues
 
 -- an output that was closed, but not by its stage, was cancelled
-refused_j : (j : Joint) (s g : List Item) → (wire_of j s g).conn.out_closed ≡ true → ((wire_of j s g).out ≡ Shut → ⊥) → (wire_of j s g).out ≡ Refused
+refused_j : (j : Joint) (s g : List Item) → (wire_of j s g).conn.out_closed ≡ true → ((wire_of j s g).out ≡ Closed → ⊥) → (wire_of j s g).out ≡ Cancelled
 refused_j idle s g c n = cc
 refused_j asking s g c n = cc
 refused_j asked s g c n = cc
@@ -76,10 +76,10 @@ refused_j (finished t x) s g c n = absurd (n refl)
 refused_j (parted t x) s g c n = absurd (n refl)
 refused_j (refused t x) s g c n = refl
 
-pub was_refused : (w : Wire) (q : Bool) → IsSound w q → w.conn.out_closed ≡ true → (w.out ≡ Shut → ⊥) → w.out ≡ Refused
+pub was_refused : (w : Wire) (q : Bool) → IsSound w q → w.conn.out_closed ≡ true → (w.out ≡ Closed → ⊥) → w.out ≡ Cancelled
 was_refused w q h c n = ap (λ (v : Wire). v.out) h.is ∙ refused_j h.joint w.sent w.got (sym (ap (λ (v : Wire). v.conn.out_closed) h.is) ∙ c) (λ e. n (ap (λ (v : Wire). v.out) h.is ∙ e))
 
-closed_j : (j : Joint) (s g : List Item) → (wire_of j s g).out ≡ Refused → (wire_of j s g).conn.out_closed ≡ true
+closed_j : (j : Joint) (s g : List Item) → (wire_of j s g).out ≡ Cancelled → (wire_of j s g).conn.out_closed ≡ true
 closed_j idle s g e = cc
 closed_j asking s g e = cc
 closed_j asked s g e = cc
@@ -92,7 +92,7 @@ closed_j (finished t c) s g e = cc
 closed_j (parted t c) s g e = cc
 closed_j (refused t c) s g e = refl
 
-pub refused_closed : (w : Wire) (q : Bool) → IsSound w q → w.out ≡ Refused → w.conn.out_closed ≡ true
+pub refused_closed : (w : Wire) (q : Bool) → IsSound w q → w.out ≡ Cancelled → w.conn.out_closed ≡ true
 refused_closed w q h e = ap (λ (v : Wire). v.conn.out_closed) h.is ∙ closed_j h.joint w.sent w.got (sym (ap (λ (v : Wire). v.out) h.is) ∙ e)
 
 -- ---- a history and its end
@@ -113,29 +113,29 @@ end_told (t ∷ l) e = end_told l e
 pub one_end : (l k : List Tree) (e f : End) → told l e ≡ told k f → e ≡ f
 one_end l k e f h = sym (end_told l e) ∙ ap end_in h ∙ end_told k f
 
-pub shut_ended : (y : OutView) (e : End) → GaveAs y e → (e ≡ unended → ⊥) → y ≡ Shut
-shut_ended Unasked e g n = absurd (n g)
-shut_ended Asked e g n = absurd (n g)
-shut_ended Shut e g n = refl
-shut_ended Refused e g n = absurd (n g)
+pub shut_ended : (y : OutView) (e : End) → GaveAs y e → (e ≡ unended → ⊥) → y ≡ Closed
+shut_ended Unpulled e g n = absurd (n g)
+shut_ended Available e g n = absurd (n g)
+shut_ended Closed e g n = refl
+shut_ended Cancelled e g n = absurd (n g)
 
-pub open_unended : (y : OutView) (e : End) → GaveAs y e → (y ≡ Shut → ⊥) → e ≡ unended
-open_unended Unasked e g n = g
-open_unended Asked e g n = g
-open_unended Shut e g n = absurd (n refl)
-open_unended Refused e g n = g
+pub open_unended : (y : OutView) (e : End) → GaveAs y e → (y ≡ Closed → ⊥) → e ≡ unended
+open_unended Unpulled e g n = g
+open_unended Available e g n = g
+open_unended Closed e g n = absurd (n refl)
+open_unended Cancelled e g n = g
 
-pub unended_open : (y : OutView) (e : End) → GaveAs y e → e ≡ unended → y ≡ Shut → ⊥
-unended_open Shut unended g n s = g
-unended_open Shut ended g n s = cc
-unended_open Shut (failed c) g n s = cc
-unended_open Unasked e g n s = cc
-unended_open Asked e g n s = cc
-unended_open Refused e g n s = cc
+pub unended_open : (y : OutView) (e : End) → GaveAs y e → e ≡ unended → y ≡ Closed → ⊥
+unended_open Closed unended g n s = g
+unended_open Closed ended g n s = cc
+unended_open Closed (failed c) g n s = cc
+unended_open Unpulled e g n s = cc
+unended_open Available e g n s = cc
+unended_open Cancelled e g n s = cc
 
 -- an output that stands at the same history stands closed by its stage exactly where it did
-pub shut_stays : (y z : OutView) (l k : List Tree) (e f : End) → told l e ≡ told k f → GaveAs y e → GaveAs z f → y ≡ Shut → z ≡ Shut
+pub shut_stays : (y z : OutView) (l k : List Tree) (e f : End) → told l e ≡ told k f → GaveAs y e → GaveAs z f → y ≡ Closed → z ≡ Closed
 shut_stays y z l k e f h a b s = shut_ended z f b (λ n. unended_open y e a (one_end l k e f h ∙ n) s)
 
-pub open_stays : (y z : OutView) (l k : List Tree) (e f : End) → told l e ≡ told k f → GaveAs y e → GaveAs z f → (y ≡ Shut → ⊥) → z ≡ Shut → ⊥
+pub open_stays : (y z : OutView) (l k : List Tree) (e f : End) → told l e ≡ told k f → GaveAs y e → GaveAs z f → (y ≡ Closed → ⊥) → z ≡ Closed → ⊥
 open_stays y z l k e f h a b n = unended_open z f b (sym (one_end l k e f h) ∙ open_unended y e a n)

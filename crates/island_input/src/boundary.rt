@@ -2,7 +2,7 @@
 ghost use Rattle.std.specs.Prelude.{◌≡◌, ◌≢◌, ◌⊎◌, ◌↔◌, ◌≤◌, ◌<◌, ◌+◌, ◌++◌, [], ◌∷◌, true, false, cond, length, IsTrue};
 ghost use Rattle.elem_core.specs.declared.item.Item.{Item};
 ghost use Rattle.fused_net.specs.Costs.{Uses};
-ghost use Rattle.port_core.specs.declared.view.OutView.TheVariants.{Asked, Refused};
+ghost use Rattle.port_core.specs.declared.view.OutView.TheVariants as outlet;
 ghost use Rattle.lane_core.specs.Lane.{ends};
 ghost use Rattle.lane_core.specs.Ends.{taken, asked, asks, has_cancelled, found_sent, told_sent, IsSameIn};
 ghost use Rattle.input_boundary.specs.Boundary.{given, waits, is_over, state, BoundaryKeeps};
@@ -83,10 +83,10 @@ impl IslandInput {
         requires enters { Enters island.old self.old.wire }
         requires feeds { Feeds self.old.boundary island.old self.old.wire }
         requires flows { state self.old.boundary ≡ Flowing }
-        requires live { (cell_in island.old self.old.wire).wire.out ≢ Refused }
+        requires live { (cell_in island.old self.old.wire).wire.out ≢ outlet.Cancelled }
         requires asked { asked ≡ true → wanted_at (cell_in island.old self.old.wire) ≡ wanted.Asked }
         ensures feeds { Feeds self.new.boundary island.new self.new.wire }
-        ensures live { (cell_in island.new self.new.wire).wire.out ≢ Refused }
+        ensures live { (cell_in island.new self.new.wire).wire.out ≢ outlet.Cancelled }
         ensures wire { (self.new.wire ≡ self.old.wire) × IsSameIn self.old.boundary.lane self.new.boundary.lane × (taken self.new.boundary.lane ≡ taken self.old.boundary.lane) × (has_cancelled self.new.boundary.lane ≡ has_cancelled self.old.boundary.lane) }
         ensures asks { asks self.new.boundary.lane ≡ asks self.old.boundary.lane + cond result 1 0 }
         ensures known { (found_sent self.new.boundary.lane ≡ found_sent self.old.boundary.lane) × (told_sent self.new.boundary.lane ≡ told_sent self.old.boundary.lane) × (is_over self.new.boundary ≡ is_over self.old.boundary) }
@@ -114,7 +114,7 @@ impl IslandInput {
         requires whole { island.old.broken ≡ false }
         requires enters { Enters island.old self.old.wire }
         requires feeds { Feeds self.old.boundary island.old self.old.wire }
-        requires live { (cell_in island.old self.old.wire).wire.out ≢ Refused }
+        requires live { (cell_in island.old self.old.wire).wire.out ≢ outlet.Cancelled }
         requires asked { HasGiven self.old.boundary island.old self.old.wire }
         ensures feeds { Feeds self.new.boundary island.new self.new.wire }
         ensures fed { IsFed self.new.boundary island.new self.new.wire }

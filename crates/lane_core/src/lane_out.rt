@@ -77,7 +77,7 @@ impl LaneOut {
     }
 
     /// Whether this end saw that the other cancelled. It does not look at the lane.
-    pub fn is_refused(&self) -> bool
+    pub fn is_cancelled(&self) -> bool
         ensures { cond result 1 0 ≡ saw_cancel self.now }
     {
         self.word % 2 == 1

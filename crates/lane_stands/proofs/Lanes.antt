@@ -9,7 +9,7 @@ use Rattle.port_core.specs.Ring.{holds}
 use Rattle.port_core.specs.Joint.{IsSound}
 use Rattle.port_core.specs.declared.view.InView.{InView}
 use Rattle.port_core.specs.declared.view.InView.TheVariants.{Idle}
-use Rattle.port_core.specs.declared.view.OutView.TheVariants.{Asked, Refused}
+use Rattle.port_core.specs.declared.view.OutView.TheVariants as outlet
 use Rattle.stream_model.specs.Linear.{Book}
 use Rattle.stage_law.specs.Row.{InClosed}
 use Rattle.wire_core.specs.Counts.{elements}
@@ -106,7 +106,7 @@ module _ {S D L B : Type 0} (sources : S → SourceState) (drains : D → DrainS
       boundary_keeps b (cell_in j u) g.list g.end k f.given_is g.is g.known
 
   -- where the stage is asked, it still hands on
-  asked_flows : (cell_in j u).wire.out ≡ Asked → state b ≡ Flowing
+  asked_flows : (cell_in j u).wire.out ≡ outlet.Available → state b ≡ Flowing
   asked_flows e = by_state (state b) refl
     where
       by_state : (z : State) → state b ≡ z → state b ≡ Flowing
@@ -114,7 +114,7 @@ module _ {S D L B : Type 0} (sources : S → SourceState) (drains : D → DrainS
       by_state Closed is = let c = f.closed is in absurd cc
       by_state Cancelled is = let c = f.cancelled is in absurd cc
 
-  refused_cancelled : IsFed b j u → (cell_in j u).wire.out ≡ Refused → state b ≡ Cancelled
+  refused_cancelled : IsFed b j u → (cell_in j u).wire.out ≡ outlet.Cancelled → state b ≡ Cancelled
   refused_cancelled fed e = by_state (state b) refl
     where
       by_state : (z : State) → state b ≡ z → state b ≡ Cancelled

@@ -12,7 +12,7 @@ use Rattle.port_core.specs.Joint.{Joint, idle, asking, asked, moving, ending, cl
 use Rattle.port_core.specs.Wire.{Wire}
 use Rattle.port_core.specs.View.{View, in_at}
 use Rattle.port_core.specs.declared.view.InView.{InView}
-use Rattle.port_core.specs.declared.view.InView.TheVariants.{Idle, Left}
+use Rattle.port_core.specs.declared.view.InView.TheVariants.{Idle, Cancelled}
 use Rattle.wire_core.specs.Cell.{Cell}
 use Rattle.wire_core.specs.Reading.{no_wire, inp_of, got_of}
 use Rattle.nodes.specs.declared.node.Node.{Node}
@@ -109,7 +109,7 @@ module _ {S D L B : Type 0} (sources : S → SourceState) (drains : D → DrainS
         let first = get_there net.firsts to (rw s.each_first (s.wired.to_within q h)) in
         took_by x first.0 (stage first.0 first.1) (view_of net to) (took net to) (gave net to) (end_at net.ends q).input (wire_at net q).wire.got (wire_at net q).wire.inp
         (got_there net.wires (ports_at net to).ins (end_at net.ends q).input q (s.wired.to_input q h))
-        (read_at inp_of net.wires (ports_at net to).ins (end_at net.ends q).input q Left (s.wired.to_input q h))
+        (read_at inp_of net.wires (ports_at net to).ins (end_at net.ends q).input q Cancelled (s.wired.to_input q h))
         (s.minded to (s.wired.to_within q h) x first.0 at first.1).law_holds
 
     pub there : (x : Node S D L B) × (slice_get net.nodes to ≡ Some x)

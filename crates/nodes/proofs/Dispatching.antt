@@ -5,11 +5,11 @@ use Rattle.elem_core.specs.declared.item.Item.{Item}
 use Rattle.elem_core.specs.declared.item.Item.TheVariants as item
 use Rattle.port_core.specs.declared.act.Act.{Act}
 use Rattle.port_core.specs.declared.view.InView.{InView}
-use Rattle.port_core.specs.declared.view.InView.TheVariants.{Left}
+use Rattle.port_core.specs.declared.view.InView.TheVariants.{Cancelled}
 use Rattle.port_core.specs.declared.view.OutView.{OutView}
-use Rattle.port_core.specs.declared.view.OutView.TheVariants.{Unasked, Shut}
+use Rattle.port_core.specs.declared.view.OutView.TheVariants.{Unpulled, Closed}
 use Rattle.port_core.specs.View.{View, IsOutOpen}
-use Rattle.port_core.specs.Call.{Call, Meets, MayCome, asks, brings, cancels}
+use Rattle.port_core.specs.Call.{Call, Meets, MayCome, pulls, arrives, cancels}
 use Rattle.stream_model.specs.Linear.{Book}
 use Rattle.stage_core.specs.Handling.{Starts, Handles}
 use Rattle.stream_io.specs.State.{SourceState, DrainState}
@@ -25,12 +25,12 @@ use Rattle.nodes.specs.Nodes.{node_fresh, node_row, node_law}
 use Rattle.nodes.proofs.Acting.{on_ok_two}
 
 -- nothing comes to a port that is not there
-none_comes : (x : Item) → MayCome x Left → ⊥
+none_comes : (x : Item) → MayCome x Cancelled → ⊥
 none_comes (item.Elem e) h = cc
 none_comes item.Ended h = h
 none_comes (item.Failed c) h = h
 
-port_lists : (P : InView → Type 0) (p : ℕ) (x : Item) (xs : List InView) (ys : List OutView) → OneInOf P xs ys → MayCome x (slice_index_or xs p Left) → p ≡ 0
+port_lists : (P : InView → Type 0) (p : ℕ) (x : Item) (xs : List InView) (ys : List OutView) → OneInOf P xs ys → MayCome x (slice_index_or xs p Cancelled) → p ≡ 0
 port_lists P zero x xs ys r h = refl
 port_lists P (suc p) x (y ∷ []) [] r h = absurd (none_comes x h)
 port_lists P (suc p) x [] ys r h = absurd r
@@ -38,10 +38,10 @@ port_lists P (suc p) x (y ∷ []) (z ∷ ys) r h = absurd r
 port_lists P (suc p) x (y ∷ w ∷ xs) ys r h = absurd r
 
 -- what comes to a node with one input comes there
-pub port_is : (P : InView → Type 0) (p : ℕ) (x : Item) → Meets (brings p x) (λ v. OneIn P v) → p ≡ 0
+pub port_is : (P : InView → Type 0) (p : ℕ) (x : Item) → Meets (arrives p x) (λ v. OneIn P v) → p ≡ 0
 port_is P p x m = port_lists P p x m.0.ins m.0.outs m.1.1 m.1.0
 
-out_lists : (P : OutView → Type 0) (p : ℕ) (xs : List InView) (ys : List OutView) → OneOutOf P xs ys → IsOutOpen (slice_index_or ys p Shut) → p ≡ 0
+out_lists : (P : OutView → Type 0) (p : ℕ) (xs : List InView) (ys : List OutView) → OneOutOf P xs ys → IsOutOpen (slice_index_or ys p Closed) → p ≡ 0
 out_lists P zero xs ys r h = refl
 out_lists P (suc p) [] (y ∷ []) r h = absurd h
 out_lists P (suc p) [] [] r h = absurd r
@@ -52,7 +52,7 @@ out_lists P (suc p) (x ∷ xs) ys r h = absurd r
 out_is : (P : OutView → Type 0) (p : ℕ) → Meets (cancels p) (λ v. OneOut P v) → p ≡ 0
 out_is P p m = out_lists P p m.0.ins m.0.outs m.1.1 m.1.0
 
-asked_lists : (P : OutView → Type 0) (p : ℕ) (xs : List InView) (ys : List OutView) → OneOutOf P xs ys → slice_index_or ys p Shut ≡ Unasked → p ≡ 0
+asked_lists : (P : OutView → Type 0) (p : ℕ) (xs : List InView) (ys : List OutView) → OneOutOf P xs ys → slice_index_or ys p Closed ≡ Unpulled → p ≡ 0
 asked_lists P zero xs ys r h = refl
 asked_lists P (suc p) [] (y ∷ []) r h = cc
 asked_lists P (suc p) [] [] r h = absurd r
@@ -60,7 +60,7 @@ asked_lists P (suc p) [] (y ∷ z ∷ ys) r h = absurd r
 asked_lists P (suc p) (x ∷ xs) ys r h = absurd r
 
 -- where a node with one output is asked, that one is
-pub asked_is : (P : OutView → Type 0) (p : ℕ) → Meets (asks p) (λ v. OneOut P v) → p ≡ 0
+pub asked_is : (P : OutView → Type 0) (p : ℕ) → Meets (pulls p) (λ v. OneOut P v) → p ≡ 0
 asked_is P p m = asked_lists P p m.0.ins m.0.outs m.1.1 m.1.0
 
 module _ {S D : Type 0} (L B : Type 0) (sources : S → SourceState) (drains : D → DrainState) (book : Book) where
@@ -86,15 +86,15 @@ module _ {S D : Type 0} (L B : Type 0) (sources : S → SourceState) (drains : D
   writing_law (node.Entering f) old new v w took gave more given keeps law = absurd law
   writing_law (node.Leaving f) old new v w took gave more given keeps law = absurd law
 
-  writing_at : (x : Item) (old new : Sink D) (acts : List Act) → Handles sink_row (SinkLaw drains) (brings 0 x) old new acts → CallOf (brings 0 x) (Writing old) (Writing new) acts
+  writing_at : (x : Item) (old new : Sink D) (acts : List Act) → Handles sink_row (SinkLaw drains) (arrives 0 x) old new acts → CallOf (arrives 0 x) (Writing old) (Writing new) acts
   writing_at x old new acts h = record {
     obeys = record { allowed = h.obeys.allowed; row = h.obeys.row };
     stands = h.stands;
     keeps = λ first v took gave a r law. writing_law first old new v _ took gave _ _ (λ f l. h.keeps f v took gave a r l) law;
   }
 
-  pub writing_handles : {T E : Type 0} (p : ℕ) (x : Item) (old new : Sink D) (acts : List Act) (r : Result T E) → Meets (brings p x) (sink_row old) → OnOk r (Handles sink_row (SinkLaw drains) (brings 0 x) old new acts)
-      → OnOk r (CallOf (brings p x) (Writing old) (Writing new) acts)
+  pub writing_handles : {T E : Type 0} (p : ℕ) (x : Item) (old new : Sink D) (acts : List Act) (r : Result T E) → Meets (arrives p x) (sink_row old) → OnOk r (Handles sink_row (SinkLaw drains) (arrives 0 x) old new acts)
+      → OnOk r (CallOf (arrives p x) (Writing old) (Writing new) acts)
   writing_handles p x old new acts r m h = rw (port_is (sink_row_in old.started old.end) p x m) (on_ok_two r h h (λ a b. writing_at x old new acts a))
 
   -- a source of lines
@@ -123,9 +123,9 @@ module _ {S D : Type 0} (L B : Type 0) (sources : S → SourceState) (drains : D
       → OnOk r (CallOf (cancels p) (Reading old) (Reading new) acts)
   reading_cancelled p old new acts r m h = rw (out_is (lines_row_in old.phase) p m) (on_ok_two r h h (λ a b. reading_at (cancels 0) old new acts a))
 
-  pub reading_asked : {T E : Type 0} (p : ℕ) (old new : Lines S) (acts : List Act) (r : Result T E) → Meets (asks p) (lines_row old) → OnOk r (Handles lines_row (LinesLaw sources) (asks 0) old new acts)
-      → OnOk r (CallOf (asks p) (Reading old) (Reading new) acts)
-  reading_asked p old new acts r m h = rw (asked_is (lines_row_in old.phase) p m) (on_ok_two r h h (λ a b. reading_at (asks 0) old new acts a))
+  pub reading_asked : {T E : Type 0} (p : ℕ) (old new : Lines S) (acts : List Act) (r : Result T E) → Meets (pulls p) (lines_row old) → OnOk r (Handles lines_row (LinesLaw sources) (pulls 0) old new acts)
+      → OnOk r (CallOf (pulls p) (Reading old) (Reading new) acts)
+  reading_asked p old new acts r m h = rw (asked_is (lines_row_in old.phase) p m) (on_ok_two r h h (λ a b. reading_at (pulls 0) old new acts a))
 
   -- the stage where a lane goes out
   leaving_law : (first : Node S D L B) (old new : Leaving) (v w : View) (took gave more given : List (List Item)) → ((f : Leaving) → LeavingLaw f old v took gave → LeavingLaw f new w more given)

@@ -12,7 +12,7 @@ use Rattle.port_core.specs.Joint.{Joint, idle, asking, asked, moving, ending, cl
 use Rattle.port_core.specs.Wire.{Wire}
 use Rattle.port_core.specs.View.{View, input_closed}
 use Rattle.port_core.specs.declared.view.InView.{InView}
-use Rattle.port_core.specs.declared.view.InView.TheVariants.{Idle, Waiting, Over, Left}
+use Rattle.port_core.specs.declared.view.InView.TheVariants.{Idle, Pulled, Finished, Cancelled}
 use Rattle.port_core.specs.declared.act.Act.TheVariants as act
 use Rattle.stream_model.specs.Linear.{Book}
 use Rattle.stage_law.specs.Row.{InClosed}
@@ -127,7 +127,7 @@ module _ {S D L B : Type 0} where
 
 module _ {S D L B : Type 0} (o : LaneOut) (i : Kept S D L B) (u : ℕ) where
   -- one that has seen no cancel
-  pub serves_live : CameTo i.net (way_out i u) → out_node i u < length i.net.nodes → Sends o i u → ((cell_out i u).wire.inp ≡ Left → ⊥) → Serves o i u
+  pub serves_live : CameTo i.net (way_out i u) → out_node i u < length i.net.nodes → Sends o i u → ((cell_out i u).wire.inp ≡ Cancelled → ⊥) → Serves o i u
   serves_live came h s live_in =
       let x = get_there i.net.nodes (out_node i u) h in
       let parts : (cell_out i u).wire.got ≡ sent o ++ node_waits x.0 = came.got x.0 x.1 ∙ ap (λ (l : List Item). l ++ node_waits x.0) (s.gone x.0 x.1) in
@@ -140,13 +140,13 @@ module _ {S D L B : Type 0} (o : LaneOut) (i : Kept S D L B) (u : ℕ) where
       }
 
   -- all was sent, and it has asked or not
-  pub serves_asked : CameTo i.net (way_out i u) → out_node i u < length i.net.nodes → Sends o i u → ((cell_out i u).wire.inp ≡ Left → ⊥) → (new : Kept S D L B) → Sends o new u → (cell_out new u).wire.got ≡ (cell_out i u).wire.got → ((cell_out new u).wire.inp ≡ Left → (cell_out i u).wire.inp ≡ Left) → Serves o new u
+  pub serves_asked : CameTo i.net (way_out i u) → out_node i u < length i.net.nodes → Sends o i u → ((cell_out i u).wire.inp ≡ Cancelled → ⊥) → (new : Kept S D L B) → Sends o new u → (cell_out new u).wire.got ≡ (cell_out i u).wire.got → ((cell_out new u).wire.inp ≡ Cancelled → (cell_out i u).wire.inp ≡ Cancelled) → Serves o new u
   serves_asked came h s none new t got left =
       let r = serves_live came h s none in
       record { part = rw got r.part; wants = t.wants; live = λ z. t; closed = λ c. let l = s.live in cc; left = λ e. absurd (none (left e)) }
 
   -- it has seen more asked, and has asked or not
-  pub serves_found : Serves o i u → saw_cancel o ≡ 0 → (p : LaneOut) (new : Kept S D L B) → sent p ≡ sent o → Sends p new u → (cell_out new u).wire.got ≡ (cell_out i u).wire.got → ((cell_out new u).wire.inp ≡ Left → (cell_out i u).wire.inp ≡ Left) → Serves p new u
+  pub serves_found : Serves o i u → saw_cancel o ≡ 0 → (p : LaneOut) (new : Kept S D L B) → sent p ≡ sent o → Sends p new u → (cell_out new u).wire.got ≡ (cell_out i u).wire.got → ((cell_out new u).wire.inp ≡ Cancelled → (cell_out i u).wire.inp ≡ Cancelled) → Serves p new u
   serves_found r zero_is p new same t got left = record {
     part = rw (got, same) r.part;
     wants = t.wants;
@@ -159,7 +159,7 @@ module _ {S D L B : Type 0} (o : LaneOut) (i : Kept S D L B) (u : ℕ) where
   pub served_now : waiting i u ≡ [] → MayNotAsk o i u → IsServed o i u
   served_now none may = record { sent_all = λ z. none; used = λ z. may }
 
-  pub served_waiting : waiting i u ≡ [] → (cell_out i u).wire.inp ≡ Waiting → IsServed o i u
+  pub served_waiting : waiting i u ≡ [] → (cell_out i u).wire.inp ≡ Pulled → IsServed o i u
   served_waiting none e = record { sent_all = λ z. none; used = λ z idle. cc }
 
   -- one that has seen a cancel has nothing to do
@@ -168,9 +168,9 @@ module _ {S D L B : Type 0} (o : LaneOut) (i : Kept S D L B) (u : ℕ) where
 
   over_closed : (x : InView) → input_closed x ≡ true → InClosed x
   over_closed Idle e = cc
-  over_closed Waiting e = cc
-  over_closed Over e = tt
-  over_closed Left e = tt
+  over_closed Pulled e = cc
+  over_closed Finished e = tt
+  over_closed Cancelled e = tt
 
   -- The cancel is handed on: the input is closed, nothing was asked, and what came begins with what was sent.
   pub cancelled_serves : CameTo i.net (way_out i u) → Sends o i u → Leaves i u → out_node i u < length i.net.nodes → (p : LaneOut) (new : Kept S D L B) → Drops i u new → sent p ≡ sent o → seen o ≤ seen p → saw_cancel p ≡ 1 → Serves p new u

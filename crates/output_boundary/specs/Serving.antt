@@ -1,7 +1,7 @@
 -- What an output boundary keeps between two moments at which it is served, and when nothing is left for it to do.
 use Rattle.std.specs.Prelude.{◌≡◌, ◌≤◌, ◌⊎◌, ℕ, true, []}
 use Rattle.elem_core.specs.Prefix.{IsPrefix}
-use Rattle.port_core.specs.declared.view.InView.TheVariants.{Idle, Left}
+use Rattle.port_core.specs.declared.view.InView.TheVariants.{Idle, Cancelled}
 use Rattle.stage_law.specs.Row.{InClosed}
 use Rattle.wire_core.specs.Marks.{wanted}
 use Rattle.lane_core.specs.declared.lane_out.LaneOut.{LaneOut}
@@ -24,7 +24,7 @@ module _ {S D L B : Type 0} where
     pub wants : wanted (cell_out i u) ≤ seen o
     pub live : saw_cancel o ≡ 0 → Sends o i u
     pub closed : saw_cancel o ≡ 1 → InClosed (cell_out i u).wire.inp
-    pub left : (cell_out i u).wire.inp ≡ Left → saw_cancel o ≡ 1
+    pub left : (cell_out i u).wire.inp ≡ Cancelled → saw_cancel o ≡ 1
 
   -- nothing waits to be sent, and nothing more may be asked for
   pub record IsServed (o : LaneOut) (i : Kept S D L B) (u : ℕ) : Type 0 where

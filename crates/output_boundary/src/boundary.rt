@@ -5,7 +5,7 @@ ghost use Rattle.fused_net.specs.Laws.{GoesOn};
 ghost use Rattle.lane_core.specs.Ends.{sent, seen, saw_cancel, finds, has_ended, told_asked, told_cancel, IsSameOut};
 ghost use Rattle.lane_core.specs.Lane.{elements, weight, ends, is_new};
 ghost use Rattle.interpreter.specs.Boundary.{Leaves, Drops, way_out, cell_out};
-ghost use Rattle.port_core.specs.declared.view.InView.TheVariants.{Waiting, Left};
+ghost use Rattle.port_core.specs.declared.view.InView.TheVariants.{Pulled, Cancelled};
 ghost use Rattle.output_boundary.specs.Beside.{Beside, out_node, waiting};
 ghost use Rattle.output_boundary.specs.Sending.{Sends, FoundIs, VisitIs, unit_of};
 ghost use Rattle.output_boundary.specs.Serving.{MayNotAsk, Serves, IsServed};
@@ -117,10 +117,10 @@ impl OutputBoundary {
         requires keeps { Sends self.now.lane island.old self.now.wire }
         ensures keeps { Sends self.now.lane island.new self.now.wire }
         ensures rest { result ≡ false → (island.new ≡ island.old) × (waiting island.old self.now.wire ≡ [] → MayNotAsk self.now.lane island.old self.now.wire) }
-        ensures asked { result ≡ true → (cell_out island.new self.now.wire).wire.inp ≡ Waiting }
+        ensures asked { result ≡ true → (cell_out island.new self.now.wire).wire.inp ≡ Pulled }
         ensures waiting { waiting island.new self.now.wire ≡ waiting island.old self.now.wire }
         ensures got { (cell_out island.new self.now.wire).wire.got ≡ (cell_out island.old self.now.wire).wire.got }
-        ensures left { (cell_out island.new self.now.wire).wire.inp ≡ Left → (cell_out island.old self.now.wire).wire.inp ≡ Left }
+        ensures left { (cell_out island.new self.now.wire).wire.inp ≡ Cancelled → (cell_out island.old self.now.wire).wire.inp ≡ Cancelled }
         ensures uses { Uses island.old.net island.new.net 0 }
         ensures beside { Beside (way_out island.old self.now.wire) (out_node island.old self.now.wire) island.old island.new }
     {
@@ -151,7 +151,7 @@ impl OutputBoundary {
         ensures uses { Uses island.old.net island.new.net 0 }
         ensures beside { Beside (way_out island.old self.old.wire) (out_node island.old self.old.wire) island.old island.new }
     {
-        if self.lane.is_refused() {
+        if self.lane.is_cancelled() {
             return false;
         }
         let mut sent = false;
@@ -184,7 +184,7 @@ impl OutputBoundary {
         ensures uses { Uses island.old.net island.new.net 0 }
         ensures beside { Beside (way_out island.old self.old.wire) (out_node island.old self.old.wire) island.old island.new }
     {
-        if self.lane.is_refused() {
+        if self.lane.is_cancelled() {
             return Found::Nothing;
         }
         let found = self.look(island);

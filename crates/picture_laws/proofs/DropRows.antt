@@ -5,9 +5,9 @@ use Rattle.elem_core.specs.Tree.{Tree}
 use Rattle.elem_core.specs.declared.why.Decider.{Decider}
 use Rattle.port_core.specs.View.{View}
 use Rattle.port_core.specs.declared.view.InView.{InView}
-use Rattle.port_core.specs.declared.view.InView.TheVariants.{Waiting, Over}
+use Rattle.port_core.specs.declared.view.InView.TheVariants.{Pulled, Finished}
 use Rattle.port_core.specs.declared.view.OutView.{OutView}
-use Rattle.port_core.specs.declared.view.OutView.TheVariants.{Unasked, Asked}
+use Rattle.port_core.specs.declared.view.OutView.TheVariants.{Unpulled, Available}
 use Rattle.stream_model.specs.declared.kind.Kind.TheVariants.{Buffer}
 use Rattle.stream_model.specs.declared.kind.Policy.{Policy}
 use Rattle.stream_model.specs.declared.kind.Policy.TheVariants.{Backpressure, DropHead, DropTail, DropBuffer, DropNew, Fail}
@@ -35,17 +35,17 @@ use Rattle.picture_laws.proofs.Stages.{closed_both}
 
 -- it is asked, waits and holds nothing; it waits and is not asked; it is not asked behind the end of its input; or all is closed
 data DropPorts (l : Dropping) (x : InView) (y : OutView) : Type 0 where
-  drained : l.phase ≡ Open → l.held ≡ [] → x ≡ Waiting → y ≡ Asked → DropPorts l x y
-  waiting : x ≡ Waiting → y ≡ Unasked → DropPorts l x y
-  left : x ≡ Over → y ≡ Unasked → DropPorts l x y
+  drained : l.phase ≡ Open → l.held ≡ [] → x ≡ Pulled → y ≡ Available → DropPorts l x y
+  waiting : x ≡ Pulled → y ≡ Unpulled → DropPorts l x y
+  left : x ≡ Finished → y ≡ Unpulled → DropPorts l x y
   gone : InClosed x → OutClosed y → DropPorts l x y
 
 ports_by : (l : Dropping) (p : Phase) (over asked : Bool) (x : InView) (y : OutView) → l.phase ≡ p → p ≢ New → drop_at l p over asked x y → DropPorts l x y
 ports_by l New over asked x y e n r = absurd (n refl)
 ports_by l Closed over asked x y e n r = let c = closed_both x y r in gone c.0 c.1
-ports_by l Open false true Waiting Asked e n r = drained e r.0 refl refl
-ports_by l Open false false Waiting Unasked e n r = waiting refl refl
-ports_by l Open true false Over Unasked e n r = left refl refl
+ports_by l Open false true Pulled Available e n r = drained e r.0 refl refl
+ports_by l Open false false Pulled Unpulled e n r = waiting refl refl
+ports_by l Open true false Finished Unpulled e n r = left refl refl
 ports_by l p over asked x y e n r = absurd r
 
 -- ---- its rows in a picture, by its policy

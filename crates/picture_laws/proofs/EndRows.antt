@@ -6,7 +6,7 @@ use Rattle.elem_core.specs.declared.why.Decider.{Decider}
 use Rattle.elem_core.specs.Tree.{Tree}
 use Rattle.port_core.specs.View.{View}
 use Rattle.port_core.specs.declared.view.InView.{InView}
-use Rattle.port_core.specs.declared.view.InView.TheVariants.{Waiting, Over, Left}
+use Rattle.port_core.specs.declared.view.InView.TheVariants.{Pulled, Finished, Cancelled}
 use Rattle.port_core.specs.declared.view.OutView.{OutView}
 use Rattle.stream_io.specs.State.{SourceState, DrainState}
 use Rattle.stream_model.specs.declared.kind.Kind.{Kind}
@@ -74,14 +74,14 @@ ignore_rows g w = record { lawful = λ k d is os f. tt; rests = λ k d is os r. 
 
 -- ---- one that takes the first, when it last asked
 
-waits_open : (b : Bool) (s : EndState) (ins : List InView) (outs : List OutView) → get_or ins 0 Left ≡ Waiting → OneInOf (sink_row_in b s) ins outs → s ≡ Unended
+waits_open : (b : Bool) (s : EndState) (ins : List InView) (outs : List OutView) → get_or ins 0 Cancelled ≡ Pulled → OneInOf (sink_row_in b s) ins outs → s ≡ Unended
 waits_open b s [] outs e r = absurd r
 waits_open true Unended (x ∷ []) [] e r = refl
-waits_open true Ended (Over ∷ []) [] e r = cc
-waits_open true Ended (Left ∷ []) [] e r = cc
-waits_open true (Failed c) (Over ∷ []) [] e r = cc
-waits_open true WriteFault (Over ∷ []) [] e r = cc
-waits_open true WriteFault (Left ∷ []) [] e r = cc
+waits_open true Ended (Finished ∷ []) [] e r = cc
+waits_open true Ended (Cancelled ∷ []) [] e r = cc
+waits_open true (Failed c) (Finished ∷ []) [] e r = cc
+waits_open true WriteFault (Finished ∷ []) [] e r = cc
+waits_open true WriteFault (Cancelled ∷ []) [] e r = cc
 waits_open b s (x ∷ []) [] e r = absurd r
 waits_open b s (x ∷ []) (y ∷ outs) e r = absurd r
 waits_open b s (x ∷ y ∷ ins) outs e r = absurd r
@@ -104,7 +104,7 @@ none_or_some (suc n) = inr (omega arith)
 
 module _ {S D : Type 0} (L B : Type 0) (sources : S → SourceState) (drains : D → DrainState) (g : Graph) (w : World) (k : ℕ) (n : graph.Node) where
   -- when it asked nothing had come to it
-  first_moment : (first : Sink D) (x : Node S D L B) (v : View) (took gave : List (List Item)) (t : List Item) → first.writes ≡ First → node_row x v → node_law sources drains w.book (Writing first) x v took gave → get_or v.ins 0 Left ≡ Waiting → took ≡ t ∷ [] → t ≡ []
+  first_moment : (first : Sink D) (x : Node S D L B) (v : View) (took gave : List (List Item)) (t : List Item) → first.writes ≡ First → node_row x v → node_law sources drains w.book (Writing first) x v took gave → get_or v.ins 0 Cancelled ≡ Pulled → took ≡ t ∷ [] → t ≡ []
   first_moment first (Writing x) v took gave t is row law waits at =
       let goes : x.end ≡ Unended = waits_open x.started x.end v.ins v.outs waits row in
       let none = none_took x.writes x.node x.kept x.end law.elems law.wrote law.in_end (law.writes_same ∙ is) goes law.writes in
@@ -149,7 +149,7 @@ module _ {S D : Type 0} (L B : Type 0) (sources : S → SourceState) (drains : D
 
   -- ---- a sink
 
-  sink_waits : (i : InPort) (t : Bool) → InRests i → ((i.view ≡ Waiting) × (t ≡ false)) ⊎ (InClosed i.view × (t ≡ true)) → (EachWire IsShut (i.wire ∷ []) ⊎ SinkRests (i.wire ∷ [])) × (i.wire.shut ≡ t)
+  sink_waits : (i : InPort) (t : Bool) → InRests i → ((i.view ≡ Pulled) × (t ≡ false)) ⊎ (InClosed i.view × (t ≡ true)) → (EachWire IsShut (i.wire ∷ []) ⊎ SinkRests (i.wire ∷ [])) × (i.wire.shut ≡ t)
   sink_waits i t r (inl h) = let w = r.waits h.0 in (inr w.0, w.0.1 ∙ sym h.1)
   sink_waits i t r (inr h) = let c = r.shut h.0 in (inl (c, tt), c ∙ sym h.1)
 
@@ -158,7 +158,7 @@ module _ {S D : Type 0} (L B : Type 0) (sources : S → SourceState) (drains : D
   sink_row i F rows (inr h) = inr (rows.rests k n.decider (i.wire ∷ []) [] h)
 
   pub sink_picture : (first x : Node S D L B) (F : Type 0) (P : InView → Type 0) (is : List InPort) (os : List OutPort) → SinkRows g w n.kind F → OneInOf P (map (λ (i : InPort). i.view) is) (map (λ (o : OutPort). o.view) os)
-      → ((v : InView) → P v → ((v ≡ Waiting) × (sink_ended x ≡ false)) ⊎ (InClosed v × (sink_ended x ≡ true)))
+      → ((v : InView) → P v → ((v ≡ Pulled) × (sink_ended x ≡ false)) ⊎ (InClosed v × (sink_ended x ≡ true)))
       → ((i : InPort) → is ≡ i ∷ [] → os ≡ [] → InStands i → ((p : ℕ) → 1 ≤ slice_index_or (i.want ∷ []) p 0 → Moments {N = Node S D L B} node_row (node_law sources drains w.book) node_asking node_moves first x (i ∷ []) [] p) → F → demand i.wire ≤ 1)
       → Laws first x is os
   sink_picture first x F P (i ∷ []) [] rows r ports few = record {

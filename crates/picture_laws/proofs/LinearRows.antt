@@ -3,9 +3,9 @@ use Rattle.std.proofs.Common.{◌≡◌, ◌⊎◌, inl, inr, ℕ, ◌-◌, ◌<
 use Rattle.elem_core.specs.declared.item.Item.{Item}
 use Rattle.port_core.specs.View.{View, in_at, out_at}
 use Rattle.port_core.specs.declared.view.InView.{InView}
-use Rattle.port_core.specs.declared.view.InView.TheVariants.{Waiting}
+use Rattle.port_core.specs.declared.view.InView.TheVariants.{Pulled}
 use Rattle.port_core.specs.declared.view.OutView.{OutView}
-use Rattle.port_core.specs.declared.view.OutView.TheVariants.{Asked}
+use Rattle.port_core.specs.declared.view.OutView.TheVariants.{Available}
 use Rattle.stream_io.specs.State.{SourceState, DrainState}
 use Rattle.stream_model.specs.declared.kind.Kind.{Kind}
 use Rattle.stream_model.specs.declared.kind.Kind.TheVariants.{Map, Filter, FilterNot, Take, TakeWhile, Drop, DropWhile, Limit, MapConcat, Plug}
@@ -54,18 +54,18 @@ holds_first book (Plug name) wk h e one = subst (λ (z : Work). holds_at_end z �
 holds_first book _ wk h e one = absurd h
 
 -- one that waits was asked, and is open
-waits_busy : (l : Logic) (x : InView) (y : OutView) → LinearPorts l.phase l.course l.pending l.stage.work x y → x ≡ Waiting → (l.phase ≡ Open) × ((y ≡ Asked) × ((l.course ≡ Waits) × (l.pending ≡ [])))
+waits_busy : (l : Logic) (x : InView) (y : OutView) → LinearPorts l.phase l.course l.pending l.stage.work x y → x ≡ Pulled → (l.phase ≡ Open) × ((y ≡ Available) × ((l.course ≡ Waits) × (l.pending ≡ [])))
 waits_busy l x y (busy po on none xi yo) e = (po, (yo, (on, none)))
 waits_busy l x y (behind sp xi yo) e = cc
 waits_busy l x y (free xi yo) e = cc
-waits_busy l x y (over xi yo) e = let no : InClosed Waiting = subst InClosed e xi in absurd no
+waits_busy l x y (over xi yo) e = let no : InClosed Pulled = subst InClosed e xi in absurd no
 
 -- a linear stage as it stood when it last asked at its input
 record Moment (book : Book) (k : ℕ) (n : graph.Node) (first : Logic) (v : View) (took gave : List (List Item)) : Type 0 where
-  asked : out_at v 0 ≡ Asked
+  asked : out_at v 0 ≡ Available
   waited : (t g : List Item) → took ≡ t ∷ [] → gave ≡ g ∷ [] → Waited (linear book first.stage.work) (begin_work k n.decider first.stage.work) t g
 
-moment_of : (book : Book) (k : ℕ) (n : graph.Node) (first l : Logic) (v : View) (took gave : List (List Item)) → FirstLinear k n first → LinearRow l v → LinearLaw book first l v took gave → in_at v 0 ≡ Waiting → Moment book k n first v took gave
+moment_of : (book : Book) (k : ℕ) (n : graph.Node) (first l : Logic) (v : View) (took gave : List (List Item)) → FirstLinear k n first → LinearRow l v → LinearLaw book first l v took gave → in_at v 0 ≡ Pulled → Moment book k n first v took gave
 moment_of book k n first l v took gave f r law waits =
     let o = one_views (row_in l.phase l.course l.pending l.stage.work l.ready) v r.row in
     let s = waits_busy l o.x o.y (linear_ports l.phase l.course l.pending l.stage.work l.ready o.x o.y r.started o.holds) (sym o.inp ∙ waits) in
@@ -76,7 +76,7 @@ moment_of book k n first l v took gave f r law waits =
 
 module _ {S D : Type 0} (L B : Type 0) (sources : S → SourceState) (drains : D → DrainState) (g : Graph) (w : World) (k : ℕ) (n : graph.Node) where
   -- by its kind, which stays the same
-  moment_by : (first : Logic) (x : Node S D L B) (v : View) (took gave : List (List Item)) → FirstLinear k n first → node_row x v → node_law sources drains w.book (Linear first) x v took gave → in_at v 0 ≡ Waiting → Moment w.book k n first v took gave
+  moment_by : (first : Logic) (x : Node S D L B) (v : View) (took gave : List (List Item)) → FirstLinear k n first → node_row x v → node_law sources drains w.book (Linear first) x v took gave → in_at v 0 ≡ Pulled → Moment w.book k n first v took gave
   moment_by first (Linear l) v took gave f r law waits = moment_of w.book k n first l v took gave f r law waits
   moment_by first x v took gave f r law waits = absurd law
 

@@ -6,8 +6,8 @@ use Rattle.elem_core.proofs.Prefixes.{prefix_length, prefix_trans, prefix_is_tak
 use Rattle.elem_core.specs.Tree.{Tree}
 use Rattle.elem_core.specs.declared.item.Item.{Item}
 use Rattle.port_core.specs.declared.view.InView.{InView}
-use Rattle.port_core.specs.declared.view.InView.TheVariants.{Idle, Waiting, Over, Left}
-use Rattle.port_core.specs.declared.view.OutView.TheVariants.{Asked}
+use Rattle.port_core.specs.declared.view.InView.TheVariants.{Idle, Pulled, Finished, Cancelled}
+use Rattle.port_core.specs.declared.view.OutView.TheVariants.{Available}
 use Rattle.stream_model.specs.Machine.{Run, Machine, going, is_going, run, close, Stands}
 use Rattle.stream_model.specs.Outlook.{End, unended, ended, failed}
 use Rattle.stream_model.proofs.MachineLaws.{gave_prefix, going_before}
@@ -29,11 +29,11 @@ end_or_not ended = inl refl
 end_or_not (failed c) = inr (λ e. cc)
 
 -- an end that came is known
-end_known : (x : InView) (e : End) → TookAs x e → e ≡ ended → x ≡ Over
-end_known Over e h i = refl
+end_known : (x : InView) (e : End) → TookAs x e → e ≡ ended → x ≡ Finished
+end_known Finished e h i = refl
 end_known Idle e h i = cc
-end_known Waiting e h i = cc
-end_known Left e h i = cc
+end_known Pulled e h i = cc
+end_known Cancelled e h i = cc
 
 shut_not : {t : Bool} → t ≡ true → t ≡ false → ⊥
 shut_not a b = cc
@@ -112,7 +112,7 @@ pub idles : (i : InPort) → InRests i → i.view ≡ Idle → Idles i.wire
 idles i r e = elim (r.idles e) [ inl lane ↦ inl lane | inr fused ↦ inr fused.0 ]
 
 -- a stage that waits and holds nothing has given all that its machine gives
-pub waited_rests : {S : Type 0} (m : Machine S Tree) (start : Run S Tree) (i : InPort) (o : OutPort) → InStands i → OutStands o → InRests i → OutRests o → Waited m start i.got o.sent → i.view ≡ Waiting → o.view ≡ Asked
+pub waited_rests : {S : Type 0} (m : Machine S Tree) (start : Run S Tree) (i : InPort) (o : OutPort) → InStands i → OutStands o → InRests i → OutRests o → Waited m start i.got o.sent → i.view ≡ Pulled → o.view ≡ Available
     → IsAsked o.wire × Waits i.wire × (o.wire.sent ≡ length (run m start (take i.wire.sent i.wire.list)).gave)
 waited_rests m start i o si so ri ro w xi yo =
     let waits = ri.waits xi in

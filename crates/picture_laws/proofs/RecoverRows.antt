@@ -8,9 +8,9 @@ use Rattle.elem_core.specs.Tree.{Tree}
 use Rattle.elem_core.specs.declared.item.Item.{Item}
 use Rattle.port_core.specs.View.{View}
 use Rattle.port_core.specs.declared.view.InView.{InView}
-use Rattle.port_core.specs.declared.view.InView.TheVariants.{Idle, Waiting, Over, Left}
+use Rattle.port_core.specs.declared.view.InView.TheVariants.{Idle, Pulled, Finished, Cancelled}
 use Rattle.port_core.specs.declared.view.OutView.{OutView}
-use Rattle.port_core.specs.declared.view.OutView.TheVariants.{Unasked, Asked}
+use Rattle.port_core.specs.declared.view.OutView.TheVariants.{Unpulled, Available}
 use Rattle.wire_core.specs.Counts.{elements}
 use Rattle.stream_model.specs.FanIn.{Inflow}
 use Rattle.stream_model.specs.Outlook.{End, unended, ended, failed}
@@ -36,28 +36,28 @@ use Rattle.picture_laws.proofs.Stages.{closed_both}
 
 -- it is asked and waits, nobody asks it, it owes its own element behind a failure, or all is closed
 pub data RecoverPorts (l : Recover) (x : InView) (y : OutView) : Type 0 where
-  busy : l.phase ≡ Open → l.over ≡ false → x ≡ Waiting → y ≡ Asked → RecoverPorts l x y
-  free : x ≡ Idle → y ≡ Unasked → RecoverPorts l x y
-  behind : x ≡ Over → y ≡ Unasked → RecoverPorts l x y
+  busy : l.phase ≡ Open → l.over ≡ false → x ≡ Pulled → y ≡ Available → RecoverPorts l x y
+  free : x ≡ Idle → y ≡ Unpulled → RecoverPorts l x y
+  behind : x ≡ Finished → y ≡ Unpulled → RecoverPorts l x y
   gone : InClosed x → OutClosed y → RecoverPorts l x y
 
 ports_by : (l : Recover) (p : Phase) (over asked : Bool) (x : InView) (y : OutView) → l.phase ≡ p → l.over ≡ over → p ≢ New → recover_at l p over asked x y → RecoverPorts l x y
 ports_by l New over asked x y e v n r = absurd (n refl)
 ports_by l Closed over asked x y e v n r = let c = closed_both x y r in gone c.0 c.1
-ports_by l Open false true Waiting Asked e v n r = busy e v refl refl
-ports_by l Open false false Idle Unasked e v n r = free refl refl
-ports_by l Open true false Over Unasked e v n r = behind refl refl
+ports_by l Open false true Pulled Available e v n r = busy e v refl refl
+ports_by l Open false false Idle Unpulled e v n r = free refl refl
+ports_by l Open true false Finished Unpulled e v n r = behind refl refl
 ports_by l p over asked x y e v n r = absurd r
 
 pub recover_ports : (l : Recover) (x : InView) (y : OutView) → l.phase ≢ New → recover_at l l.phase l.over l.asked x y → RecoverPorts l x y
 recover_ports l x y n r = ports_by l l.phase l.over l.asked x y refl refl n r
 
 -- one that waits was asked, and is open before any failure
-pub waits_asked : (l : Recover) (x : InView) (y : OutView) → RecoverPorts l x y → x ≡ Waiting → (l.phase ≡ Open) × ((l.over ≡ false) × (y ≡ Asked))
+pub waits_asked : (l : Recover) (x : InView) (y : OutView) → RecoverPorts l x y → x ≡ Pulled → (l.phase ≡ Open) × ((l.over ≡ false) × (y ≡ Available))
 waits_asked l x y (busy on lasts xi yo) e = (on, (lasts, yo))
 waits_asked l x y (free xi yo) e = cc
 waits_asked l x y (behind xi yo) e = cc
-waits_asked l x y (gone xi yo) e = let no : InClosed Waiting = subst InClosed e xi in absurd no
+waits_asked l x y (gone xi yo) e = let no : InClosed Pulled = subst InClosed e xi in absurd no
 
 -- ---- what its law says of its histories
 
@@ -93,11 +93,11 @@ open_by t (k ∷ moves) f g unended lasts s = let no : unended ≡ failed s.0.1.
 open_by t (k ∷ moves) f g ended lasts s = let no : unended ≡ failed s.0.1.0 = sym lasts ∙ s.0.1.1 in cc
 open_by t (k ∷ moves) f g (failed c) lasts s = absurd s
 
-over_or_not : (x : InView) (e : End) → TookAs x e → (x ≡ Over) ⊎ (e ≡ unended)
-over_or_not Over e h = inl refl
+over_or_not : (x : InView) (e : End) → TookAs x e → (x ≡ Finished) ⊎ (e ≡ unended)
+over_or_not Finished e h = inl refl
 over_or_not Idle e h = inr h
-over_or_not Waiting e h = inr h
-over_or_not Left e h = inr h
+over_or_not Pulled e h = inr h
+over_or_not Cancelled e h = inr h
 
 module _ (first now : Recover) (v : View) (took gave : List (List Item)) (law : RecoversAs first now v took gave) (got sent : List Item) (ti : took ≡ got ∷ []) (gi : gave ≡ sent ∷ []) where
   abbrev Kept : List Inflow → List Tree → End → Type 0

@@ -3,9 +3,9 @@ use Rattle.std.proofs.Common.{◌≡◌, ◌≢◌, ◌⊎◌, inl, inr, ℕ, Bo
 use Rattle.elem_core.specs.Tree.{Tree}
 use Rattle.elem_core.specs.declared.item.Item.{Item}
 use Rattle.port_core.specs.declared.view.InView.{InView}
-use Rattle.port_core.specs.declared.view.InView.TheVariants.{Idle, Waiting, Over, Left}
+use Rattle.port_core.specs.declared.view.InView.TheVariants.{Idle, Pulled, Finished, Cancelled}
 use Rattle.port_core.specs.declared.view.OutView.{OutView}
-use Rattle.port_core.specs.declared.view.OutView.TheVariants.{Unasked, Asked, Shut, Refused}
+use Rattle.port_core.specs.declared.view.OutView.TheVariants as outlet
 use Rattle.stream_model.specs.Outlook.{End, unended}
 use Rattle.stream_model.specs.Machine.{State, going, Run, Machine, run}
 use Rattle.elem_core.specs.declared.why.Decider.{Decider}
@@ -32,64 +32,64 @@ use Rattle.picture_laws.proofs.OnePorts.{one_same}
 
 -- a stage that has closed its ports
 pub closed_both : (x : InView) (y : OutView) → BothClosed x y → InClosed x × OutClosed y
-closed_both Over Shut r = (tt, tt)
-closed_both Over Refused r = (tt, tt)
-closed_both Left Shut r = (tt, tt)
-closed_both Left Refused r = (tt, tt)
+closed_both Finished outlet.Closed r = (tt, tt)
+closed_both Finished outlet.Cancelled r = (tt, tt)
+closed_both Cancelled outlet.Closed r = (tt, tt)
+closed_both Cancelled outlet.Cancelled r = (tt, tt)
 closed_both x y r = absurd r
 
 -- a source of lines
-pub lines_ports : (p : Phase) (y : OutView) → lines_row_in p y → (y ≡ Unasked) ⊎ OutClosed y
-lines_ports Open Unasked r = inl refl
-lines_ports Closed Shut r = inr tt
-lines_ports Closed Refused r = inr tt
+pub lines_ports : (p : Phase) (y : OutView) → lines_row_in p y → (y ≡ outlet.Unpulled) ⊎ OutClosed y
+lines_ports Open outlet.Unpulled r = inl refl
+lines_ports Closed outlet.Closed r = inr tt
+lines_ports Closed outlet.Cancelled r = inr tt
 lines_ports New y r = absurd r
-lines_ports Open Asked r = absurd r
-lines_ports Open Shut r = absurd r
-lines_ports Open Refused r = absurd r
-lines_ports Closed Unasked r = absurd r
-lines_ports Closed Asked r = absurd r
+lines_ports Open outlet.Available r = absurd r
+lines_ports Open outlet.Closed r = absurd r
+lines_ports Open outlet.Cancelled r = absurd r
+lines_ports Closed outlet.Unpulled r = absurd r
+lines_ports Closed outlet.Available r = absurd r
 
 -- a linear stage: it waits and holds nothing, nobody asks it, it holds outputs behind the end of its input, or all is closed
 pub data LinearPorts (p : Phase) (c : Course) (h : List Tree) (k : Work) (x : InView) (y : OutView) : Type 0 where
-  busy : p ≡ Open → c ≡ Waits → h ≡ [] → x ≡ Waiting → y ≡ Asked → LinearPorts p c h k x y
-  free : x ≡ Idle → y ≡ Unasked → LinearPorts p c h k x y
-  behind : Spreads k → x ≡ Over → y ≡ Unasked → LinearPorts p c h k x y
+  busy : p ≡ Open → c ≡ Waits → h ≡ [] → x ≡ Pulled → y ≡ outlet.Available → LinearPorts p c h k x y
+  free : x ≡ Idle → y ≡ outlet.Unpulled → LinearPorts p c h k x y
+  behind : Spreads k → x ≡ Finished → y ≡ outlet.Unpulled → LinearPorts p c h k x y
   over : InClosed x → OutClosed y → LinearPorts p c h k x y
 
 pub linear_ports : (p : Phase) (c : Course) (h : List Tree) (k : Work) (ready : Bool) (x : InView) (y : OutView) → p ≢ New → row_in p c h k ready x y → LinearPorts p c h k x y
 linear_ports New c h k b x y n r = absurd (n refl)
-linear_ports Open Waits h k b Waiting Asked n r = busy refl refl r.0 refl refl
-linear_ports Open Idles h k b Idle Unasked n r = free refl refl
-linear_ports Open Leaves h k b Idle Unasked n r = free refl refl
-linear_ports Open Closes h k b Over Unasked n r = behind r.0.1 refl refl
-linear_ports Open Ends h k b Over Unasked n r = behind r.1 refl refl
-linear_ports Closed c h k b Over Shut n r = over tt tt
-linear_ports Closed c h k b Over Refused n r = over tt tt
-linear_ports Closed c h k b Left Shut n r = over tt tt
-linear_ports Closed c h k b Left Refused n r = over tt tt
+linear_ports Open Waits h k b Pulled outlet.Available n r = busy refl refl r.0 refl refl
+linear_ports Open Idles h k b Idle outlet.Unpulled n r = free refl refl
+linear_ports Open Leaves h k b Idle outlet.Unpulled n r = free refl refl
+linear_ports Open Closes h k b Finished outlet.Unpulled n r = behind r.0.1 refl refl
+linear_ports Open Ends h k b Finished outlet.Unpulled n r = behind r.1 refl refl
+linear_ports Closed c h k b Finished outlet.Closed n r = over tt tt
+linear_ports Closed c h k b Finished outlet.Cancelled n r = over tt tt
+linear_ports Closed c h k b Cancelled outlet.Closed n r = over tt tt
+linear_ports Closed c h k b Cancelled outlet.Cancelled n r = over tt tt
 linear_ports p c h k b x y n r = absurd r
 
 -- a sink with a file
-pub sink_ports : (started : Bool) (e : EndState) (x : InView) → sink_row_in started e x → ((x ≡ Waiting) × (has_ended e ≡ false)) ⊎ (InClosed x × (has_ended e ≡ true))
-sink_ports true Unended Waiting r = inl (refl, refl)
-sink_ports true Ended Over r = inr (tt, refl)
-sink_ports true Ended Left r = inr (tt, refl)
-sink_ports true (Failed c) Over r = inr (tt, refl)
-sink_ports true WriteFault Over r = inr (tt, refl)
-sink_ports true WriteFault Left r = inr (tt, refl)
+pub sink_ports : (started : Bool) (e : EndState) (x : InView) → sink_row_in started e x → ((x ≡ Pulled) × (has_ended e ≡ false)) ⊎ (InClosed x × (has_ended e ≡ true))
+sink_ports true Unended Pulled r = inl (refl, refl)
+sink_ports true Ended Finished r = inr (tt, refl)
+sink_ports true Ended Cancelled r = inr (tt, refl)
+sink_ports true (Failed c) Finished r = inr (tt, refl)
+sink_ports true WriteFault Finished r = inr (tt, refl)
+sink_ports true WriteFault Cancelled r = inr (tt, refl)
 sink_ports started e x r = absurd r
 
 -- a sink that keeps nothing
-pub ignore_ports : (started : Bool) (e : EndState) (x : InView) → ignore_row_in started e x → ((x ≡ Waiting) × (has_ended e ≡ false)) ⊎ (InClosed x × (has_ended e ≡ true))
-ignore_ports true Unended Waiting r = inl (refl, refl)
-ignore_ports true Ended Over r = inr (tt, refl)
-ignore_ports true (Failed c) Over r = inr (tt, refl)
+pub ignore_ports : (started : Bool) (e : EndState) (x : InView) → ignore_row_in started e x → ((x ≡ Pulled) × (has_ended e ≡ false)) ⊎ (InClosed x × (has_ended e ≡ true))
+ignore_ports true Unended Pulled r = inl (refl, refl)
+ignore_ports true Ended Finished r = inr (tt, refl)
+ignore_ports true (Failed c) Finished r = inr (tt, refl)
 ignore_ports started e x r = absurd r
 
 module _ {S : Type 0} (m : Machine S Tree) (start : Run S Tree) where
   -- one that waits and holds nothing has given all that its machine gives for what it took, and goes on
-  pub waiting_run : (st : State S) (took gave : List Item) → (law : Law m start (owing (record { gave = []; state = st })) Waiting Asked took gave)
+  pub waiting_run : (st : State S) (took gave : List Item) → (law : Law m start (owing (record { gave = []; state = st })) Pulled outlet.Available took gave)
       → run m start law.in_list ≡ record { gave = law.out_list; state = st }
   waiting_run st took gave law =
       let u : law.in_end ≡ unended = law.took_as in
@@ -113,7 +113,7 @@ pub record Waited {S : Type 0} (m : Machine S Tree) (start : Run S Tree) (took g
   pub gave_is : gave ≡ told out_list out_end
   pub runs : run m start in_list ≡ record { gave = out_list; state = going state }
 
-pub waited_of : {S : Type 0} (m : Machine S Tree) (start : Run S Tree) (s : S) (t g : List Item) → Law m start (owing (record { gave = []; state = going s })) Waiting Asked t g → Waited m start t g
+pub waited_of : {S : Type 0} (m : Machine S Tree) (start : Run S Tree) (s : S) (t g : List Item) → Law m start (owing (record { gave = []; state = going s })) Pulled outlet.Available t g → Waited m start t g
 waited_of m start s t g at = record {
   in_list = at.in_list;
   in_end = at.in_end;
@@ -126,7 +126,7 @@ waited_of m start s t g at = record {
 }
 
 pub linear_waited : (book : Book) (k : ℕ) (kd : Kind) (d : Decider) (first l : Logic) (v : View) (took gave : List (List Item)) (t g : List Item) → Begins k kd d first → LinearLaw book first l v took gave
-    → l.phase ≡ Open → l.course ≡ Waits → l.pending ≡ [] → in_at v 0 ≡ Waiting → out_at v 0 ≡ Asked → took ≡ t ∷ [] → gave ≡ g ∷ [] → Waited (linear book first.stage.work) (begin_work k d first.stage.work) t g
+    → l.phase ≡ Open → l.course ≡ Waits → l.pending ≡ [] → in_at v 0 ≡ Pulled → out_at v 0 ≡ outlet.Available → took ≡ t ∷ [] → gave ≡ g ∷ [] → Waited (linear book first.stage.work) (begin_work k d first.stage.work) t g
 linear_waited book k kd d first l v took gave t g begins law going_on on none waits_in asked_out took_at gave_at =
     waited_of (linear book first.stage.work) (begin_work k d first.stage.work) l.stage t g
     (law_at (linear book first.stage.work) law.start _ (held book l) _ (in_at v 0) _ (out_at v 0) _ law.took_list t law.gave_list g

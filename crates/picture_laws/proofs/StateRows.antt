@@ -8,9 +8,9 @@ use Rattle.elem_core.specs.declared.why.Decider.{Decider}
 use Rattle.elem_core.specs.declared.item.Item.{Item}
 use Rattle.port_core.specs.View.{View, in_at, out_at}
 use Rattle.port_core.specs.declared.view.InView.{InView}
-use Rattle.port_core.specs.declared.view.InView.TheVariants.{Idle, Waiting, Over, Left}
+use Rattle.port_core.specs.declared.view.InView.TheVariants.{Idle, Pulled, Finished, Cancelled}
 use Rattle.port_core.specs.declared.view.OutView.{OutView}
-use Rattle.port_core.specs.declared.view.OutView.TheVariants.{Unasked, Asked}
+use Rattle.port_core.specs.declared.view.OutView.TheVariants.{Unpulled, Available}
 use Rattle.stream_io.specs.State.{SourceState, DrainState}
 use Rattle.stream_model.specs.declared.kind.Kind.{Kind}
 use Rattle.stream_model.specs.declared.kind.Kind.TheVariants.{Grouped, Fold, Reduce, Scan, Buffer}
@@ -72,36 +72,36 @@ use Rattle.picture_laws.proofs.SwitchRows.{valve_picture, trip_picture}
 
 -- one that keeps: it waits and owes nothing, nobody asks it, it owes a value behind the end of its input, or all is closed
 data KeepPorts (p : Phase) (e : Ending) (k : List Tree) (x : InView) (y : OutView) : Type 0 where
-  busy : p ≡ Open → e ≡ Lasting → k ≡ [] → x ≡ Waiting → y ≡ Asked → KeepPorts p e k x y
-  free : x ≡ Idle → y ≡ Unasked → KeepPorts p e k x y
-  behind : x ≡ Over → y ≡ Unasked → KeepPorts p e k x y
+  busy : p ≡ Open → e ≡ Lasting → k ≡ [] → x ≡ Pulled → y ≡ Available → KeepPorts p e k x y
+  free : x ≡ Idle → y ≡ Unpulled → KeepPorts p e k x y
+  behind : x ≡ Finished → y ≡ Unpulled → KeepPorts p e k x y
   over : InClosed x → OutClosed y → KeepPorts p e k x y
 
 keep_ports : (p : Phase) (e : Ending) (a : Bool) (k : List Tree) (w : Work) (x : InView) (y : OutView) → p ≢ New → keep_row p e a k w x y → KeepPorts p e k x y
 keep_ports New e a k w x y n r = absurd (n refl)
 keep_ports Closed e a k w x y n r = let c = closed_both x y r in over c.0 c.1
-keep_ports Open Lasting true k w Waiting Asked n r = busy refl refl r.0 refl refl
-keep_ports Open Lasting false k w Idle Unasked n r = free refl refl
-keep_ports Open Ended false k w Over Unasked n r = behind refl refl
-keep_ports Open (Failed c) false k w Over Unasked n r = behind refl refl
+keep_ports Open Lasting true k w Pulled Available n r = busy refl refl r.0 refl refl
+keep_ports Open Lasting false k w Idle Unpulled n r = free refl refl
+keep_ports Open Ended false k w Finished Unpulled n r = behind refl refl
+keep_ports Open (Failed c) false k w Finished Unpulled n r = behind refl refl
 keep_ports p e a k w x y n r = absurd r
 
 -- a buffer of n: it is asked and holds nothing, it has room, it is full, it holds something behind the end of its input, or all
 -- is closed
 data BufferPorts (n : ℕ) (p : Phase) (e : Ending) (k : List Tree) (x : InView) (y : OutView) : Type 0 where
-  drained : p ≡ Open → k ≡ [] → 0 < n → x ≡ Waiting → y ≡ Asked → BufferPorts n p e k x y
-  roomy : p ≡ Open → length k < n → x ≡ Waiting → y ≡ Unasked → BufferPorts n p e k x y
-  full : p ≡ Open → length k ≡ n → x ≡ Idle → y ≡ Unasked → BufferPorts n p e k x y
-  left : x ≡ Over → y ≡ Unasked → BufferPorts n p e k x y
+  drained : p ≡ Open → k ≡ [] → 0 < n → x ≡ Pulled → y ≡ Available → BufferPorts n p e k x y
+  roomy : p ≡ Open → length k < n → x ≡ Pulled → y ≡ Unpulled → BufferPorts n p e k x y
+  full : p ≡ Open → length k ≡ n → x ≡ Idle → y ≡ Unpulled → BufferPorts n p e k x y
+  left : x ≡ Finished → y ≡ Unpulled → BufferPorts n p e k x y
   gone : InClosed x → OutClosed y → BufferPorts n p e k x y
 
 buffer_ports : (n : ℕ) (p : Phase) (e : Ending) (a : Bool) (k : List Tree) (x : InView) (y : OutView) → p ≢ New → buffer_row n p e a k x y → BufferPorts n p e k x y
 buffer_ports n New e a k x y nn r = absurd (nn refl)
 buffer_ports n Closed e a k x y nn r = let c = closed_both x y r in gone c.0 c.1
-buffer_ports n Open Lasting true k Waiting Asked nn r = drained refl r.0 r.1 refl refl
-buffer_ports n Open Lasting false k Waiting Unasked nn r = roomy refl r refl refl
-buffer_ports n Open Lasting false k Idle Unasked nn r = full refl r.0 refl refl
-buffer_ports n Open Ended false k Over Unasked nn r = left refl refl
+buffer_ports n Open Lasting true k Pulled Available nn r = drained refl r.0 r.1 refl refl
+buffer_ports n Open Lasting false k Pulled Unpulled nn r = roomy refl r refl refl
+buffer_ports n Open Lasting false k Idle Unpulled nn r = full refl r.0 refl refl
+buffer_ports n Open Ended false k Finished Unpulled nn r = left refl refl
 buffer_ports n p e a k x y nn r = absurd r
 
 -- what an open stage owes
@@ -126,7 +126,7 @@ module _ (first now : Logic) (v : View) (took gave : List (List Item)) (law : Ma
 
 -- one that keeps, and waits
 keeps_waited : (book : Book) (k : ℕ) (d : Decider) (wk : Work) (now : Logic) (x : InView) (y : OutView) (t g : List Item) → Law (linear book wk) (begin_work k d wk) (held now) x y t g
-    → now.phase ≡ Open → now.ending ≡ Lasting → now.pending ≡ [] → x ≡ Waiting → y ≡ Asked → Waited (linear book wk) (begin_work k d wk) t g
+    → now.phase ≡ Open → now.ending ≡ Lasting → now.pending ≡ [] → x ≡ Pulled → y ≡ Available → Waited (linear book wk) (begin_work k d wk) t g
 keeps_waited book k d wk now x y t g law on lasts none xi yo =
     waited_of (linear book wk) (begin_work k d wk) now.stage t g
     (law_at (linear book wk) (begin_work k d wk) _ (held now) _ x _ y _ t _ g _ refl (busy_held now on lasts none) xi yo refl refl law)
@@ -158,17 +158,17 @@ holds_rest n s k st x y t g at lasts =
     let got : elements t ≡ length at.in_list = ap elements at.took_is ∙ elements_told at.in_list at.in_end in
     omega (arith, c, sent, got)
 
-waiting_open : (x : InView) → x ≡ Waiting → (e : End) → TookAs x e → e ≡ unended
-waiting_open Waiting i e h = h
+waiting_open : (x : InView) → x ≡ Pulled → (e : End) → TookAs x e → e ≡ unended
+waiting_open Pulled i e h = h
 waiting_open Idle i e h = cc
-waiting_open Over i e h = cc
-waiting_open Left i e h = cc
+waiting_open Finished i e h = cc
+waiting_open Cancelled i e h = cc
 
 idle_open : (x : InView) → x ≡ Idle → (e : End) → TookAs x e → e ≡ unended
 idle_open Idle i e h = h
-idle_open Waiting i e h = cc
-idle_open Over i e h = cc
-idle_open Left i e h = cc
+idle_open Pulled i e h = cc
+idle_open Finished i e h = cc
+idle_open Cancelled i e h = cc
 
 -- the same of an open buffer
 holds_open : (n : ℕ) (s : Stage) (l : Logic) (x : InView) (y : OutView) (t g : List Item) → Law (buffer n) (begin_buffer s) (held l) x y t g → l.phase ≡ Open → ((e : End) → TookAs x e → e ≡ unended) → elements t ≡ elements g + length l.pending
@@ -176,12 +176,12 @@ holds_open n s l x y t g at on lasts =
     holds_rest n s l.pending _ x y t g (law_at (buffer n) (begin_buffer s) _ (held l) _ x _ y _ t _ g _ refl (open_held l on) refl refl refl refl at) lasts
 
 -- one that waits has room
-waits_roomy : (n : ℕ) (p : Phase) (e : Ending) (k : List Tree) (x : InView) (y : OutView) → BufferPorts n p e k x y → x ≡ Waiting → (p ≡ Open) × (length k < n)
+waits_roomy : (n : ℕ) (p : Phase) (e : Ending) (k : List Tree) (x : InView) (y : OutView) → BufferPorts n p e k x y → x ≡ Pulled → (p ≡ Open) × (length k < n)
 waits_roomy n p e k x y (drained on none some xi yo) i = let z : length k ≡ 0 = ap length none in (on, omega (arith, z, some))
 waits_roomy n p e k x y (roomy on room xi yo) i = (on, room)
 waits_roomy n p e k x y (full on room xi yo) i = cc
 waits_roomy n p e k x y (left xi yo) i = cc
-waits_roomy n p e k x y (gone xi yo) i = let no : InClosed Waiting = subst InClosed i xi in absurd no
+waits_roomy n p e k x y (gone xi yo) i = let no : InClosed Pulled = subst InClosed i xi in absurd no
 
 -- ---- the kinds
 
@@ -197,11 +197,11 @@ keeping_holds (Scan o) wk h e = subst (λ (z : Work). holds_at_end z ≡ true) (
 keeping_holds _ wk h e = absurd h
 
 -- one that waits was asked, is open and owes nothing
-waits_busy : (l : Logic) (x : InView) (y : OutView) → KeepPorts l.phase l.ending l.pending x y → x ≡ Waiting → (l.phase ≡ Open) × ((l.ending ≡ Lasting) × ((l.pending ≡ []) × (y ≡ Asked)))
+waits_busy : (l : Logic) (x : InView) (y : OutView) → KeepPorts l.phase l.ending l.pending x y → x ≡ Pulled → (l.phase ≡ Open) × ((l.ending ≡ Lasting) × ((l.pending ≡ []) × (y ≡ Available)))
 waits_busy l x y (busy on lasts none xi yo) e = (on, (lasts, (none, yo)))
 waits_busy l x y (free xi yo) e = cc
 waits_busy l x y (behind xi yo) e = cc
-waits_busy l x y (over xi yo) e = let no : InClosed Waiting = subst InClosed e xi in absurd no
+waits_busy l x y (over xi yo) e = let no : InClosed Pulled = subst InClosed e xi in absurd no
 
 -- ---- the node
 
@@ -252,7 +252,7 @@ module _ {S D : Type 0} (L B : Type 0) (sources : S → SourceState) (drains : D
           let p = one_views (row_by l.now.size l.now.phase l.now.ending l.now.asked l.now.pending l.now.stage.work) e.knew l.row_holds.row in
           let ports = keeps_ports l.now first p.x p.y l.law_holds.size c.size l.row_holds.started p.holds in
           let was = waits_busy l.now p.x p.y ports (sym p.inp ∙ e.waited) in
-          let asked : out_at e.knew 0 ≡ Asked = p.out ∙ was.1.1.1 in
+          let asked : out_at e.knew 0 ≡ Available = p.out ∙ was.1.1.1 in
           let b = began e.had i.got i.want e.took_on e.one_more in
           let q = given_one e.given o.sent o.want e.gave_on (e.wants 0 asked) in
           let at = keeps_at first l.now e.knew e.had e.given l.law_holds w.book b.part q.0 b.is q.1.0 k n.kind n.decider c in
@@ -402,7 +402,7 @@ module _ {S D : Type 0} (L B : Type 0) (sources : S → SourceState) (drains : D
         let p = one_views (recover_at l.now l.now.phase l.now.over l.now.asked) e.knew l.row_holds.row in
         let ports = recover_ports l.now p.x p.y l.row_holds.started p.holds in
         let was = waits_asked l.now p.x p.y ports (sym p.inp ∙ e.waited) in
-        let asked : out_at e.knew 0 ≡ Asked = p.out ∙ was.1.1 in
+        let asked : out_at e.knew 0 ≡ Available = p.out ∙ was.1.1 in
         let b = began e.had i.got i.want e.took_on e.one_more in
         let q = given_one e.given o.sent o.want e.gave_on (e.wants 0 asked) in
         let all = passed_all first l.now e.knew e.had e.given l.law_holds b.part q.0 b.is q.1.0 was.0 was.1.0 in

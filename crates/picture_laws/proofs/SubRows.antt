@@ -6,9 +6,9 @@ use Rattle.elem_core.specs.Tree.{Tree}
 use Rattle.elem_core.specs.declared.item.Item.{Item}
 use Rattle.port_core.specs.View.{View, in_at, out_at}
 use Rattle.port_core.specs.declared.view.InView.{InView}
-use Rattle.port_core.specs.declared.view.InView.TheVariants.{Idle, Waiting, Over}
+use Rattle.port_core.specs.declared.view.InView.TheVariants.{Idle, Pulled, Finished}
 use Rattle.port_core.specs.declared.view.OutView.{OutView}
-use Rattle.port_core.specs.declared.view.OutView.TheVariants.{Unasked, Asked}
+use Rattle.port_core.specs.declared.view.OutView.TheVariants.{Unpulled, Available}
 use Rattle.stream_io.specs.State.{SourceState, DrainState}
 use Rattle.stream_model.specs.FanIn.{Tagged}
 use Rattle.stream_model.specs.Graph.{Graph, steps_of}
@@ -50,17 +50,17 @@ use Rattle.picture_laws.proofs.Stages.{closed_both, law_at, Waited}
 
 -- it waits and was asked, nobody asks it, it holds outputs behind the end of its input, or all is closed
 data SubPorts (x : InView) (y : OutView) : Type 0 where
-  busy : x ≡ Waiting → y ≡ Asked → SubPorts x y
-  free : x ≡ Idle → y ≡ Unasked → SubPorts x y
-  left : x ≡ Over → y ≡ Unasked → SubPorts x y
+  busy : x ≡ Pulled → y ≡ Available → SubPorts x y
+  free : x ≡ Idle → y ≡ Unpulled → SubPorts x y
+  left : x ≡ Finished → y ≡ Unpulled → SubPorts x y
   gone : InClosed x → OutClosed y → SubPorts x y
 
 sub_ports : (p : Phase) (over asked : Bool) (h : List Tagged) (x : InView) (y : OutView) → p ≢ New → row_in p over asked h x y → SubPorts x y
 sub_ports New over asked h x y n r = absurd (n refl)
 sub_ports Closed over asked h x y n r = let c = closed_both x y r in gone c.0 c.1
-sub_ports Open false true h Waiting Asked n r = busy refl refl
-sub_ports Open false false h Idle Unasked n r = free refl refl
-sub_ports Open true false h Over Unasked n r = left refl refl
+sub_ports Open false true h Pulled Available n r = busy refl refl
+sub_ports Open false false h Idle Unpulled n r = free refl refl
+sub_ports Open true false h Finished Unpulled n r = left refl refl
 sub_ports p over asked h x y n r = absurd r
 
 -- ---- two stages that give as many elements have the same rows
@@ -130,8 +130,8 @@ module _ {S D : Type 0} (L B : Type 0) (sources : S → SourceState) (drains : D
     tells_at now v took gave law = tells_of k first now v took gave f.how f.join f.is law w.book (steps_of (chain_name n.kind) g.chains) made.line
 
     -- one that waits was asked, and gave all that its machine gives
-    waits_at : (now : Logic Line) (v : View) (took gave : List (List Item)) → SubRow line_rest line_is_open now v → SubLaw line_rest line_is_open line_whole first now v took gave → in_at v 0 ≡ Waiting
-        → (out_at v 0 ≡ Asked) × ((t h : List Item) → took ≡ t ∷ [] → gave ≡ h ∷ [] → Waited m start t h)
+    waits_at : (now : Logic Line) (v : View) (took gave : List (List Item)) → SubRow line_rest line_is_open now v → SubLaw line_rest line_is_open line_whole first now v took gave → in_at v 0 ≡ Pulled
+        → (out_at v 0 ≡ Available) × ((t h : List Item) → took ≡ t ∷ [] → gave ≡ h ∷ [] → Waited m start t h)
     waits_at now v took gave r law waits =
         let its = tells_at now v took gave law in
         let all = waiting_gave line_rest line_is_open (list_function w.book (chain_of k (steps_of (chain_name n.kind) g.chains))) yields m start law.took_list law.gave_list now its.held v r.started its.owes r.row waits its.law in (

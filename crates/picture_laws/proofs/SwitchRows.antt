@@ -8,9 +8,9 @@ use Rattle.elem_core.specs.Tree.{Tree}
 use Rattle.elem_core.specs.declared.item.Item.{Item}
 use Rattle.port_core.specs.View.{View, in_at, out_at}
 use Rattle.port_core.specs.declared.view.InView.{InView}
-use Rattle.port_core.specs.declared.view.InView.TheVariants.{Idle, Waiting}
+use Rattle.port_core.specs.declared.view.InView.TheVariants.{Idle, Pulled}
 use Rattle.port_core.specs.declared.view.OutView.{OutView}
-use Rattle.port_core.specs.declared.view.OutView.TheVariants.{Unasked, Asked}
+use Rattle.port_core.specs.declared.view.OutView.TheVariants.{Unpulled, Available}
 use Rattle.stream_io.specs.State.{SourceState, DrainState}
 use Rattle.stream_model.specs.declared.kind.Kind.{Kind}
 use Rattle.stream_model.specs.declared.kind.Kind.TheVariants as kind
@@ -56,22 +56,22 @@ use Rattle.picture_laws.proofs.Stages.{closed_both, law_at, Waited, waited_of}
 
 -- it is asked and waits, nobody asks it, or all is closed
 data PassingPorts (p : Phase) (x : InView) (y : OutView) : Type 0 where
-  busy : p ≡ Open → x ≡ Waiting → y ≡ Asked → PassingPorts p x y
-  free : x ≡ Idle → y ≡ Unasked → PassingPorts p x y
+  busy : p ≡ Open → x ≡ Pulled → y ≡ Available → PassingPorts p x y
+  free : x ≡ Idle → y ≡ Unpulled → PassingPorts p x y
   gone : InClosed x → OutClosed y → PassingPorts p x y
 
 passing_ports : (p : Phase) (x : InView) (y : OutView) → p ≢ New → passing_row p x y → PassingPorts p x y
 passing_ports New x y n r = absurd (n refl)
 passing_ports Closed x y n r = let c = closed_both x y r in gone c.0 c.1
-passing_ports Open Waiting Asked n r = busy refl refl refl
-passing_ports Open Idle Unasked n r = free refl refl
+passing_ports Open Pulled Available n r = busy refl refl refl
+passing_ports Open Idle Unpulled n r = free refl refl
 passing_ports Open x y n r = absurd r
 
 -- one that waits was asked, and is open
-waits_open : (p : Phase) (x : InView) (y : OutView) → PassingPorts p x y → x ≡ Waiting → (p ≡ Open) × (y ≡ Asked)
+waits_open : (p : Phase) (x : InView) (y : OutView) → PassingPorts p x y → x ≡ Pulled → (p ≡ Open) × (y ≡ Available)
 waits_open p x y (busy on xi yo) e = (on, yo)
 waits_open p x y (free xi yo) e = cc
-waits_open p x y (gone xi yo) e = let no : InClosed Waiting = subst InClosed e xi in absurd no
+waits_open p x y (gone xi yo) e = let no : InClosed Pulled = subst InClosed e xi in absurd no
 
 -- ---- what the law of a valve says of its histories
 
@@ -101,7 +101,7 @@ module _ (first now : Valve) (v : View) (took gave : List (List Item)) (law : Va
       omega (arith, few, flow_sent Kept v took gave law.by got sent flow, flow_got Kept v took gave law.by got sent flow)
 
   -- one that waits gave all that came
-  passed_all : ValveRow now v → in_at v 0 ≡ Waiting → elements sent ≡ elements got
+  passed_all : ValveRow now v → in_at v 0 ≡ Pulled → elements sent ≡ elements got
   passed_all r waits =
       let all : GaveAll (flow.f ∷ []) law.by.law.out_list = subst (λ (fs : List Inflow). GaveAll fs law.by.law.out_list) flow.ins (valve_waits first now v took gave r law waits).1 in
       flow_sent Kept v took gave law.by got sent flow ∙ ap length all ∙ sym (flow_got Kept v took gave law.by got sent flow)
@@ -223,7 +223,7 @@ module _ {S D : Type 0} (L B : Type 0) (sources : S → SourceState) (drains : D
 
   -- one that waits
   trip_waited : (book : Book) (now : Trip) (x : InView) (y : OutView) (t h : List Item) → Law (linear book passing) (begin_work k n.decider passing) (trip_held n.decider now) x y t h
-      → now.phase ≡ Open → x ≡ Waiting → y ≡ Asked → Waited (linear book passing) (begin_work k n.decider passing) t h
+      → now.phase ≡ Open → x ≡ Pulled → y ≡ Available → Waited (linear book passing) (begin_work k n.decider passing) t h
   trip_waited book now x y t h law on xi yo =
       waited_of (linear book passing) (begin_work k n.decider passing) (trip_stage n.decider now) t h
       (law_at (linear book passing) (begin_work k n.decider passing) _ (trip_held n.decider now) _ x _ y _ t _ h _ refl (ap (λ (p : Phase). trip_held_in p (trip_stage n.decider now)) on) xi yo refl refl law)
@@ -250,7 +250,7 @@ module _ {S D : Type 0} (L B : Type 0) (sources : S → SourceState) (drains : D
         let l = trip_now first e.old e.knew e.had e.given e.row_held e.law_held in
         let p = one_views (passing_row l.now.phase) e.knew l.row_holds.row in
         let was = waits_open l.now.phase p.x p.y (passing_ports l.now.phase p.x p.y l.row_holds.started p.holds) (sym p.inp ∙ e.waited) in
-        let asked : out_at e.knew 0 ≡ Asked = p.out ∙ was.1 in
+        let asked : out_at e.knew 0 ≡ Available = p.out ∙ was.1 in
         let b = began e.had i.got i.want e.took_on e.one_more in
         let q = given_one e.given o.sent o.want e.gave_on (e.wants 0 asked) in
         let at = trip_at w.book first l.now e.knew e.had e.given b.part q.0 l.law_holds trip_kind.node b.is q.1.0 in

@@ -10,8 +10,8 @@ use Rattle.port_core.specs.View.{IsInOpen, IsOutOpen}
 use Rattle.port_core.specs.Wire.{Wire, new_wire, pull_of, push_of, close_of, cancel_of, end_of, closed_by, delivery_of, after_delivery, again}
 use Rattle.port_core.specs.Joint.{Joint, idle, asking, asked, moving, ending, closing, leaving, finished, parted, refused, wire_of, Histories, Queues, IsSound, Kept, Heard, under_way}
 use Rattle.port_core.specs.declared.view.InView.{InView}
-use Rattle.port_core.specs.declared.view.InView.TheVariants.{Idle, Waiting, Left}
-use Rattle.port_core.specs.declared.view.OutView.TheVariants.{Asked, Shut}
+use Rattle.port_core.specs.declared.view.InView.TheVariants.{Idle, Pulled, Cancelled}
+use Rattle.port_core.specs.declared.view.OutView.TheVariants.{Available, Closed}
 
 pub new_sound : IsSound new_wire false
 new_sound = record { joint = idle; is = refl; histories = refl; queues = refl }
@@ -37,7 +37,7 @@ pull_at (finished t c) s g q h r e = cc
 pull_at (parted t c) s g q h r e = cc
 pull_at (refused t c) s g q h r e = cc
 
-push_at : (x : Tree) (j : Joint) (s g : List Item) (q : Bool) → Histories j s g → Queues j q → (wire_of j s g).out ≡ Asked
+push_at : (x : Tree) (j : Joint) (s g : List Item) (q : Bool) → Histories j s g → Queues j q → (wire_of j s g).out ≡ Available
     → Kept (push_of x (wire_of j s g)) q (can_push (wire_of j s g).conn)
 push_at x idle s g q h r e = cc
 push_at x asking s g q h r e = cc
@@ -61,19 +61,19 @@ closed_left None t = refl
 closed_left (Some c) t = refl
 
 -- two wires whose output has closed, with equal connections
-shut_with : (i : InView) (s g : List Item) (p q : Connection) → p ≡ q → ◌≡◌ {A = Wire} (record { out = Shut; inp = i; conn = p; sent = s; got = g }) (record { out = Shut; inp = i; conn = q; sent = s; got = g })
-shut_with i s g p q e = ap (λ (r : Connection). record { out = Shut; inp = i; conn = r; sent = s; got = g }) e
+shut_with : (i : InView) (s g : List Item) (p q : Connection) → p ≡ q → ◌≡◌ {A = Wire} (record { out = Closed; inp = i; conn = p; sent = s; got = g }) (record { out = Closed; inp = i; conn = q; sent = s; got = g })
+shut_with i s g p q e = ap (λ (r : Connection). record { out = Closed; inp = i; conn = r; sent = s; got = g }) e
 
 close_at : (c : Option Cause) (j : Joint) (s g : List Item) (q : Bool) → Histories j s g → Queues j q → IsOutOpen (wire_of j s g).out
     → Kept (close_of c (wire_of j s g)) q (is_at_rest (wire_of j s g).conn)
 close_at c idle s g q h r e = rw r (record { sound = record { joint = ending c; is = shut_with Idle (s ++ end_of c ∷ []) g _ _ (closed_open c quiet); histories = ap (λ (l : List Item). l ++ end_of c ∷ []) h; queues = refl }; free = λ _. refl })
-close_at c asking s g q h r e = rw r (record { sound = record { joint = closing pulled c; is = shut_with Waiting (s ++ end_of c ∷ []) g _ _ (closed_open c pulled); histories = ap (λ (l : List Item). l ++ end_of c ∷ []) h; queues = refl }; free = λ f. cc })
-close_at c asked s g q h r e = rw r (record { sound = record { joint = closing ready c; is = shut_with Waiting (s ++ end_of c ∷ []) g _ _ (closed_open c ready); histories = ap (λ (l : List Item). l ++ end_of c ∷ []) h; queues = refl }; free = λ _. refl })
-close_at c (moving y) s g q h r e = rw r (record { sound = record { joint = closing (pushed y) c; is = shut_with Waiting (s ++ end_of c ∷ []) g _ _ (closed_open c (pushed y)); histories = longer g (item.Elem y ∷ []) s (end_of c) h; queues = refl }; free = λ f. cc })
+close_at c asking s g q h r e = rw r (record { sound = record { joint = closing pulled c; is = shut_with Pulled (s ++ end_of c ∷ []) g _ _ (closed_open c pulled); histories = ap (λ (l : List Item). l ++ end_of c ∷ []) h; queues = refl }; free = λ f. cc })
+close_at c asked s g q h r e = rw r (record { sound = record { joint = closing ready c; is = shut_with Pulled (s ++ end_of c ∷ []) g _ _ (closed_open c ready); histories = ap (λ (l : List Item). l ++ end_of c ∷ []) h; queues = refl }; free = λ _. refl })
+close_at c (moving y) s g q h r e = rw r (record { sound = record { joint = closing (pushed y) c; is = shut_with Pulled (s ++ end_of c ∷ []) g _ _ (closed_open c (pushed y)); histories = longer g (item.Elem y ∷ []) s (end_of c) h; queues = refl }; free = λ f. cc })
 close_at c (ending d) s g q h r e = absurd e
 close_at c (closing t d) s g q h r e = absurd e
-close_at c (leaving true t) s g q h r e = rw r (record { sound = record { joint = parted t None; is = shut_with Left (s ++ end_of c ∷ []) g _ _ (closed_left c t); histories = (h.0 ++ end_of c ∷ [], longer g h.0 s (end_of c) h.1); queues = tt }; free = λ f. cc })
-close_at c (leaving false t) s g q h r e = rw r (record { sound = record { joint = parted t None; is = shut_with Left (s ++ end_of c ∷ []) g _ _ (closed_left c t); histories = (h.0 ++ end_of c ∷ [], longer g h.0 s (end_of c) h.1); queues = tt }; free = λ f. cc })
+close_at c (leaving true t) s g q h r e = rw r (record { sound = record { joint = parted t None; is = shut_with Cancelled (s ++ end_of c ∷ []) g _ _ (closed_left c t); histories = (h.0 ++ end_of c ∷ [], longer g h.0 s (end_of c) h.1); queues = tt }; free = λ f. cc })
+close_at c (leaving false t) s g q h r e = rw r (record { sound = record { joint = parted t None; is = shut_with Cancelled (s ++ end_of c ∷ []) g _ _ (closed_left c t); histories = (h.0 ++ end_of c ∷ [], longer g h.0 s (end_of c) h.1); queues = tt }; free = λ f. cc })
 close_at c (finished t d) s g q h r e = absurd e
 close_at c (parted t d) s g q h r e = absurd e
 close_at c (refused t d) s g q h r e = absurd e
@@ -138,7 +138,7 @@ heard_at (refused t c) s g r = tt
 pub pull_kept : (w : Wire) (q : Bool) → IsSound w q → w.inp ≡ Idle → Kept (pull_of w) q (can_pull w.conn)
 pull_kept w q h e = subst (λ (v : Wire). Kept (pull_of v) q (can_pull v.conn)) (sym h.is) (pull_at h.joint w.sent w.got q h.histories h.queues (sym (ap (λ (v : Wire). v.inp) h.is) ∙ e))
 
-pub push_kept : (x : Tree) (w : Wire) (q : Bool) → IsSound w q → w.out ≡ Asked → Kept (push_of x w) q (can_push w.conn)
+pub push_kept : (x : Tree) (w : Wire) (q : Bool) → IsSound w q → w.out ≡ Available → Kept (push_of x w) q (can_push w.conn)
 push_kept x w q h e = subst (λ (v : Wire). Kept (push_of x v) q (can_push v.conn)) (sym h.is) (push_at x h.joint w.sent w.got q h.histories h.queues (sym (ap (λ (v : Wire). v.out) h.is) ∙ e))
 
 pub close_kept : (c : Option Cause) (w : Wire) (q : Bool) → IsSound w q → IsOutOpen w.out → Kept (close_of c w) q (is_at_rest w.conn)
@@ -167,7 +167,7 @@ pull_free (finished t c) s g e = cc
 pull_free (parted t c) s g e = cc
 pull_free (refused t c) s g e = cc
 
-push_free : (j : Joint) (s g : List Item) → (wire_of j s g).out ≡ Asked → (can_push (wire_of j s g).conn ≡ true) ⊎ ((wire_of j s g).conn.in_closed ≡ true)
+push_free : (j : Joint) (s g : List Item) → (wire_of j s g).out ≡ Available → (can_push (wire_of j s g).conn ≡ true) ⊎ ((wire_of j s g).conn.in_closed ≡ true)
 push_free idle s g e = cc
 push_free asking s g e = cc
 push_free asked s g e = inl refl
@@ -183,5 +183,5 @@ push_free (refused t c) s g e = cc
 pub pull_agrees : (w : Wire) (q : Bool) → IsSound w q → w.inp ≡ Idle → (can_pull w.conn ≡ true) ⊎ (w.conn.out_closed ≡ true)
 pull_agrees w q h e = subst (λ (v : Wire). (can_pull v.conn ≡ true) ⊎ (v.conn.out_closed ≡ true)) (sym h.is) (pull_free h.joint w.sent w.got (sym (ap (λ (v : Wire). v.inp) h.is) ∙ e))
 
-pub push_agrees : (w : Wire) (q : Bool) → IsSound w q → w.out ≡ Asked → (can_push w.conn ≡ true) ⊎ (w.conn.in_closed ≡ true)
+pub push_agrees : (w : Wire) (q : Bool) → IsSound w q → w.out ≡ Available → (can_push w.conn ≡ true) ⊎ (w.conn.in_closed ≡ true)
 push_agrees w q h e = subst (λ (v : Wire). (can_push v.conn ≡ true) ⊎ (v.conn.in_closed ≡ true)) (sym h.is) (push_free h.joint w.sent w.got (sym (ap (λ (v : Wire). v.out) h.is) ∙ e))

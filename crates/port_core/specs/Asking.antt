@@ -13,10 +13,10 @@ NoCancel i (FailOut j c ∷ acts) = NoCancel i acts
 NoCancel i (Cancel k ∷ acts) = (k ≢ i) × NoCancel i acts
 
 -- each input that is asked is not cancelled behind it
-abbrev pub AsksStand : List Act → Type 0
-AsksStand [] = ⊤
-AsksStand (Pull i ∷ acts) = NoCancel i acts × AsksStand acts
-AsksStand (Push j e ∷ acts) = AsksStand acts
-AsksStand (Complete j ∷ acts) = AsksStand acts
-AsksStand (FailOut j c ∷ acts) = AsksStand acts
-AsksStand (Cancel i ∷ acts) = AsksStand acts
+abbrev pub PullsStand : List Act → Type 0
+PullsStand [] = ⊤
+PullsStand (Pull i ∷ acts) = NoCancel i acts × PullsStand acts
+PullsStand (Push j e ∷ acts) = PullsStand acts
+PullsStand (Complete j ∷ acts) = PullsStand acts
+PullsStand (FailOut j c ∷ acts) = PullsStand acts
+PullsStand (Cancel i ∷ acts) = PullsStand acts

@@ -5,16 +5,16 @@ use Rattle.elem_core.specs.declared.item.Item.TheVariants as item
 use Rattle.port_core.specs.declared.act.Act.{Act}
 use Rattle.port_core.specs.declared.act.Act.TheVariants.{Pull, Push, Complete, FailOut, Cancel}
 use Rattle.port_core.specs.declared.view.InView.{InView}
-use Rattle.port_core.specs.declared.view.InView.TheVariants.{Idle, Waiting, Over}
+use Rattle.port_core.specs.declared.view.InView.TheVariants.{Idle, Pulled, Finished}
 use Rattle.port_core.specs.declared.view.OutView.{OutView}
-use Rattle.port_core.specs.declared.view.OutView.TheVariants.{Unasked, Asked, Refused}
+use Rattle.port_core.specs.declared.view.OutView.TheVariants.{Unpulled, Available, Cancelled}
 use Rattle.port_core.specs.View.{View, in_at, out_at, with_in, with_out, IsInOpen, IsOutOpen, ActsAllowed, acted_all}
 
 -- `start`; `on_pull` of output j; `on_push`, `on_finish` or `on_fail` of input i, by the item that it brings; `on_cancel` of output j
 pub data Call : Type 0 where
   starts : Call
-  asks : ℕ → Call
-  brings : ℕ → Item → Call
+  pulls : ℕ → Call
+  arrives : ℕ → Item → Call
   cancels : ℕ → Call
 
 -- no input was asked
@@ -25,39 +25,39 @@ AllIdle (x ∷ xs) = (x ≡ Idle) × AllIdle xs
 -- no output was asked
 abbrev pub AllUnasked : List OutView → Type 0
 AllUnasked [] = ⊤
-AllUnasked (y ∷ ys) = (y ≡ Unasked) × AllUnasked ys
+AllUnasked (y ∷ ys) = (y ≡ Unpulled) × AllUnasked ys
 
 -- where an input may be brought the item: an element where it waits, an end where it is open
 abbrev pub MayCome : Item → InView → Type 0
-MayCome (item.Elem e) x = x ≡ Waiting
+MayCome (item.Elem e) x = x ≡ Pulled
 MayCome item.Ended x = IsInOpen x
 MayCome (item.Failed c) x = IsInOpen x
 
 -- what is known of the input then
 abbrev pub came : Item → InView
 came (item.Elem e) = Idle
-came item.Ended = Over
-came (item.Failed c) = Over
+came item.Ended = Finished
+came (item.Failed c) = Finished
 
 -- where the port rules allow the call
 abbrev pub CallAllowed : Call → View → Type 0
 CallAllowed starts v = AllIdle v.ins × AllUnasked v.outs
-CallAllowed (asks j) v = out_at v j ≡ Unasked
-CallAllowed (brings i x) v = MayCome x (in_at v i)
+CallAllowed (pulls j) v = out_at v j ≡ Unpulled
+CallAllowed (arrives i x) v = MayCome x (in_at v i)
 CallAllowed (cancels j) v = IsOutOpen (out_at v j)
 
 -- what the stage knows as the handler begins
 abbrev pub seen : Call → View → View
 seen starts v = v
-seen (asks j) v = with_out v j Asked
-seen (brings i x) v = with_in v i (came x)
-seen (cancels j) v = with_out v j Refused
+seen (pulls j) v = with_out v j Available
+seen (arrives i x) v = with_in v i (came x)
+seen (cancels j) v = with_out v j Cancelled
 
 -- what the call brings to input i
 abbrev pub brought_to : ℕ → Call → List Item
 brought_to i starts = []
-brought_to i (asks j) = []
-brought_to i (brings k x) = if k == i then x ∷ [] else []
+brought_to i (pulls j) = []
+brought_to i (arrives k x) = if k == i then x ∷ [] else []
 brought_to i (cancels j) = []
 
 -- what an action gives at output j

@@ -9,8 +9,8 @@ use Rattle.port_core.specs.Connection.{Step, quiet, pulled, ready, pushed, Conne
 use Rattle.port_core.specs.View.{IsOutOpen}
 use Rattle.port_core.specs.Call.{MayCome}
 use Rattle.port_core.specs.Wire.{Wire, end_of, Delivery, nothing, ask, refusal, brought}
-use Rattle.port_core.specs.declared.view.InView.TheVariants.{Idle, Waiting, Over, Left}
-use Rattle.port_core.specs.declared.view.OutView.TheVariants.{Unasked, Asked, Shut, Refused}
+use Rattle.port_core.specs.declared.view.InView.TheVariants.{Idle, Pulled, Finished, Cancelled}
+use Rattle.port_core.specs.declared.view.OutView.TheVariants as outlet
 
 -- Where both ends are open: nobody asked, the ask is on its way, the ask has come, or an element is on its way. Where one
 -- has closed and the other does not know it: the output, while the input has not asked (`ending`) or waits (`closing`); or
@@ -34,17 +34,17 @@ conn_of s i o c = record { step = s; to_grab = None; in_closed = i; out_closed =
 
 -- the wire in a joint state, with its histories
 abbrev pub wire_of : Joint → List Item → List Item → Wire
-wire_of idle s g = record { out = Unasked; inp = Idle; conn = conn_of quiet false false None; sent = s; got = g }
-wire_of asking s g = record { out = Unasked; inp = Waiting; conn = conn_of pulled false false None; sent = s; got = g }
-wire_of asked s g = record { out = Asked; inp = Waiting; conn = conn_of ready false false None; sent = s; got = g }
-wire_of (moving e) s g = record { out = Unasked; inp = Waiting; conn = conn_of (pushed e) false false None; sent = s; got = g }
-wire_of (ending c) s g = record { out = Shut; inp = Idle; conn = conn_of quiet false true c; sent = s; got = g }
-wire_of (closing t c) s g = record { out = Shut; inp = Waiting; conn = conn_of t false true c; sent = s; got = g }
-wire_of (leaving true t) s g = record { out = Asked; inp = Left; conn = conn_of t true false None; sent = s; got = g }
-wire_of (leaving false t) s g = record { out = Unasked; inp = Left; conn = conn_of t true false None; sent = s; got = g }
-wire_of (finished t c) s g = record { out = Shut; inp = Over; conn = conn_of t true true c; sent = s; got = g }
-wire_of (parted t c) s g = record { out = Shut; inp = Left; conn = conn_of t true true c; sent = s; got = g }
-wire_of (refused t c) s g = record { out = Refused; inp = Left; conn = conn_of t true true c; sent = s; got = g }
+wire_of idle s g = record { out = outlet.Unpulled; inp = Idle; conn = conn_of quiet false false None; sent = s; got = g }
+wire_of asking s g = record { out = outlet.Unpulled; inp = Pulled; conn = conn_of pulled false false None; sent = s; got = g }
+wire_of asked s g = record { out = outlet.Available; inp = Pulled; conn = conn_of ready false false None; sent = s; got = g }
+wire_of (moving e) s g = record { out = outlet.Unpulled; inp = Pulled; conn = conn_of (pushed e) false false None; sent = s; got = g }
+wire_of (ending c) s g = record { out = outlet.Closed; inp = Idle; conn = conn_of quiet false true c; sent = s; got = g }
+wire_of (closing t c) s g = record { out = outlet.Closed; inp = Pulled; conn = conn_of t false true c; sent = s; got = g }
+wire_of (leaving true t) s g = record { out = outlet.Available; inp = Cancelled; conn = conn_of t true false None; sent = s; got = g }
+wire_of (leaving false t) s g = record { out = outlet.Unpulled; inp = Cancelled; conn = conn_of t true false None; sent = s; got = g }
+wire_of (finished t c) s g = record { out = outlet.Closed; inp = Finished; conn = conn_of t true true c; sent = s; got = g }
+wire_of (parted t c) s g = record { out = outlet.Closed; inp = Cancelled; conn = conn_of t true true c; sent = s; got = g }
+wire_of (refused t c) s g = record { out = outlet.Cancelled; inp = Cancelled; conn = conn_of t true true c; sent = s; got = g }
 
 -- an element that is on its way
 abbrev pub under_way : Step → List Item
@@ -94,6 +94,6 @@ pub record Kept (new : Wire) (q queued : Bool) : Type 0 where
 -- the end that a delivery goes to is where the port rules allow it, as its stage sees them
 abbrev pub Heard : Delivery → Wire → Type 0
 Heard nothing w = ⊤
-Heard ask w = w.out ≡ Unasked
+Heard ask w = w.out ≡ outlet.Unpulled
 Heard refusal w = IsOutOpen w.out
 Heard (brought x more) w = MayCome x w.inp

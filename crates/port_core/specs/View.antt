@@ -4,9 +4,9 @@ use Rattle.std.specs.Prelude.{◌≡◌, ℕ, Bool, true, false, List, [], ◌�
 use Rattle.port_core.specs.declared.act.Act.{Act}
 use Rattle.port_core.specs.declared.act.Act.TheVariants.{Pull, Push, Complete, FailOut, Cancel}
 use Rattle.port_core.specs.declared.view.InView.{InView}
-use Rattle.port_core.specs.declared.view.InView.TheVariants.{Idle, Waiting, Over, Left}
+use Rattle.port_core.specs.declared.view.InView.TheVariants.{Idle, Pulled, Finished, Cancelled}
 use Rattle.port_core.specs.declared.view.OutView.{OutView}
-use Rattle.port_core.specs.declared.view.OutView.TheVariants.{Unasked, Asked, Shut, Refused}
+use Rattle.port_core.specs.declared.view.OutView.TheVariants as outlet
 
 -- what a stage knows of its ports
 pub record View : Type 0 where
@@ -15,53 +15,53 @@ pub record View : Type 0 where
 
 -- what it knows of input i; a port that is not there is closed
 abbrev pub in_at : View → ℕ → InView
-in_at v i = slice_index_or v.ins i Left
+in_at v i = slice_index_or v.ins i Cancelled
 
 -- what it knows of output j
 abbrev pub out_at : View → ℕ → OutView
-out_at v j = slice_index_or v.outs j Shut
+out_at v j = slice_index_or v.outs j outlet.Closed
 
 -- nothing came to a port, and no pull: of a stage with one input and one output, with n inputs and one output, with one input and n outputs
 abbrev pub unpulled_ports : View
-unpulled_ports = record { ins = Idle ∷ []; outs = Unasked ∷ [] }
+unpulled_ports = record { ins = Idle ∷ []; outs = outlet.Unpulled ∷ [] }
 
 abbrev pub unpulled_ins : ℕ → View
-unpulled_ins n = record { ins = replicate n Idle; outs = Unasked ∷ [] }
+unpulled_ins n = record { ins = replicate n Idle; outs = outlet.Unpulled ∷ [] }
 
 abbrev pub unpulled_outs : ℕ → View
-unpulled_outs n = record { ins = Idle ∷ []; outs = replicate n Unasked }
+unpulled_outs n = record { ins = Idle ∷ []; outs = replicate n outlet.Unpulled }
 
 -- the input has neither ended nor been cancelled
 abbrev pub IsInOpen : InView → Type 0
 IsInOpen Idle = ⊤
-IsInOpen Waiting = ⊤
-IsInOpen Over = ⊥
-IsInOpen Left = ⊥
+IsInOpen Pulled = ⊤
+IsInOpen Finished = ⊥
+IsInOpen Cancelled = ⊥
 
 -- the output was neither closed nor cancelled
 abbrev pub IsOutOpen : OutView → Type 0
-IsOutOpen Unasked = ⊤
-IsOutOpen Asked = ⊤
-IsOutOpen Shut = ⊥
-IsOutOpen Refused = ⊥
+IsOutOpen outlet.Unpulled = ⊤
+IsOutOpen outlet.Available = ⊤
+IsOutOpen outlet.Closed = ⊥
+IsOutOpen outlet.Cancelled = ⊥
 
 -- whether an input has ended or was cancelled, and whether an output was closed or cancelled
 abbrev pub input_closed : InView → Bool
 input_closed Idle = false
-input_closed Waiting = false
-input_closed Over = true
-input_closed Left = true
+input_closed Pulled = false
+input_closed Finished = true
+input_closed Cancelled = true
 
 abbrev pub output_closed : OutView → Bool
-output_closed Unasked = false
-output_closed Asked = false
-output_closed Shut = true
-output_closed Refused = true
+output_closed outlet.Unpulled = false
+output_closed outlet.Available = false
+output_closed outlet.Closed = true
+output_closed outlet.Cancelled = true
 
 -- where the stage may do the action
 abbrev pub ActAllowed : View → Act → Type 0
 ActAllowed v (Pull i) = in_at v i ≡ Idle
-ActAllowed v (Push j e) = out_at v j ≡ Asked
+ActAllowed v (Push j e) = out_at v j ≡ outlet.Available
 ActAllowed v (Complete j) = IsOutOpen (out_at v j)
 ActAllowed v (FailOut j c) = IsOutOpen (out_at v j)
 ActAllowed v (Cancel i) = IsInOpen (in_at v i)
@@ -76,11 +76,11 @@ with_out v j y = record v { outs = slice_set v.outs j y }
 
 -- what the stage knows once the action is done
 abbrev pub acted : View → Act → View
-acted v (Pull i) = with_in v i Waiting
-acted v (Push j e) = with_out v j Unasked
-acted v (Complete j) = with_out v j Shut
-acted v (FailOut j c) = with_out v j Shut
-acted v (Cancel i) = with_in v i Left
+acted v (Pull i) = with_in v i Pulled
+acted v (Push j e) = with_out v j outlet.Unpulled
+acted v (Complete j) = with_out v j outlet.Closed
+acted v (FailOut j c) = with_out v j outlet.Closed
+acted v (Cancel i) = with_in v i Cancelled
 
 -- each action is allowed in its turn
 abbrev pub ActsAllowed : View → List Act → Type 0

@@ -11,9 +11,9 @@ use Rattle.port_core.specs.PortRules as rule
 use Rattle.port_core.specs.PortRules.{next}
 use Rattle.port_core.specs.Decoding.{can_pull, can_push}
 use Rattle.port_core.specs.declared.view.InView.{InView}
-use Rattle.port_core.specs.declared.view.InView.TheVariants.{Idle, Waiting, Over, Left}
+use Rattle.port_core.specs.declared.view.InView.TheVariants.{Idle, Pulled, Finished, Cancelled}
 use Rattle.port_core.specs.declared.view.OutView.{OutView}
-use Rattle.port_core.specs.declared.view.OutView.TheVariants.{Unasked, Asked, Shut, Refused}
+use Rattle.port_core.specs.declared.view.OutView.TheVariants as outlet
 
 -- what its output's stage and its input's stage know of it, its connection, what the output gave and what the input got
 pub record Wire : Type 0 where
@@ -25,15 +25,15 @@ pub record Wire : Type 0 where
 
 -- a wire on which nothing happened
 abbrev pub new_wire : Wire
-new_wire = record { out = Unasked; inp = Idle; conn = unasked; sent = []; got = [] }
+new_wire = record { out = outlet.Unpulled; inp = Idle; conn = unasked; sent = []; got = [] }
 
 -- the input asks
 abbrev pub pull_of : Wire → Wire
-pull_of w = record w { inp = Waiting; conn = if can_pull w.conn then next rule.pull w.conn else w.conn }
+pull_of w = record w { inp = Pulled; conn = if can_pull w.conn then next rule.pull w.conn else w.conn }
 
 -- the output gives an element
 abbrev pub push_of : Tree → Wire → Wire
-push_of e w = record w { out = Unasked; conn = if can_push w.conn then next (rule.push e) w.conn else w.conn; sent = w.sent ++ item.Elem e ∷ [] }
+push_of e w = record w { out = outlet.Unpulled; conn = if can_push w.conn then next (rule.push e) w.conn else w.conn; sent = w.sent ++ item.Elem e ∷ [] }
 
 -- the end of an output, which completes, or fails with a cause
 abbrev pub end_of : Option Cause → Item
@@ -47,11 +47,11 @@ closed_by (Some c) p = next (rule.fail c) p
 
 -- the output completes, or fails with a cause
 abbrev pub close_of : Option Cause → Wire → Wire
-close_of c w = record w { out = Shut; conn = closed_by c w.conn; sent = w.sent ++ end_of c ∷ [] }
+close_of c w = record w { out = outlet.Closed; conn = closed_by c w.conn; sent = w.sent ++ end_of c ∷ [] }
 
 -- the input cancels
 abbrev pub cancel_of : Wire → Wire
-cancel_of w = record w { inp = Left; conn = next rule.cancel w.conn }
+cancel_of w = record w { inp = Cancelled; conn = next rule.cancel w.conn }
 
 -- what the event of a wire brings: nothing, an ask or a cancel to the output; an item to the input, and whether the wire has
 -- to be queued again behind it
@@ -89,11 +89,11 @@ delivery_of w = delivery_by w.conn.in_closed w.conn.out_closed w.conn.step w.con
 -- the wire once that was delivered, and the element grabbed
 abbrev pub after_delivery : Delivery → Wire → Wire
 after_delivery nothing w = w
-after_delivery ask w = record w { out = Asked; conn = next rule.on_pull w.conn }
-after_delivery refusal w = record w { out = Refused; conn = next rule.on_cancel w.conn }
+after_delivery ask w = record w { out = outlet.Available; conn = next rule.on_pull w.conn }
+after_delivery refusal w = record w { out = outlet.Cancelled; conn = next rule.on_cancel w.conn }
 after_delivery (brought (item.Elem e) more) w = record w { inp = Idle; conn = next (rule.grab e) (next (rule.on_push e) w.conn); got = w.got ++ item.Elem e ∷ [] }
-after_delivery (brought item.Ended more) w = record w { inp = Over; conn = next rule.on_finish w.conn; got = w.got ++ item.Ended ∷ [] }
-after_delivery (brought (item.Failed c) more) w = record w { inp = Over; conn = next (rule.on_fail c) w.conn; got = w.got ++ item.Failed c ∷ [] }
+after_delivery (brought item.Ended more) w = record w { inp = Finished; conn = next rule.on_finish w.conn; got = w.got ++ item.Ended ∷ [] }
+after_delivery (brought (item.Failed c) more) w = record w { inp = Finished; conn = next (rule.on_fail c) w.conn; got = w.got ++ item.Failed c ∷ [] }
 
 -- whether the wire has to be queued again
 abbrev pub again : Delivery → Bool

@@ -5,11 +5,11 @@ pub enum InView {
     /// It has not asked since the last element.
     Idle,
     /// It has asked, and no element came since.
-    Waiting,
+    Pulled,
     /// The end came.
-    Over,
+    Finished,
     /// The stage cancelled it.
-    Left,
+    Cancelled,
 }
 
 /// What a stage knows of one of its outputs. The other end's cancel counts once it was delivered to the stage. Rule: Akka
@@ -17,11 +17,11 @@ pub enum InView {
 #[derive(Clone, Copy, PartialEq, Eq)]
 pub enum OutView {
     /// Nobody asks.
-    Unasked,
+    Unpulled,
     /// The other end asked, and no element was pushed since.
-    Asked,
+    Available,
     /// The stage completed or failed it.
-    Shut,
+    Closed,
     /// The other end's cancel came.
-    Refused,
+    Cancelled,
 }

@@ -10,7 +10,7 @@ use Rattle.port_core.specs.Connection.{Step, quiet, pulled, ready, pushed}
 use Rattle.port_core.specs.Wire.{Wire, end_of}
 use Rattle.port_core.specs.Joint.{Joint, idle, asking, asked, moving, ending, closing, leaving, finished, parted, refused, wire_of, Histories, Queues, under_way, IsSound}
 use Rattle.port_core.specs.declared.view.InView.{InView}
-use Rattle.port_core.specs.declared.view.InView.TheVariants.{Waiting, Over}
+use Rattle.port_core.specs.declared.view.InView.TheVariants.{Pulled, Finished}
 use Rattle.wire_core.specs.Cell.{Cell}
 use Rattle.wire_core.specs.Counts.{elements}
 use Rattle.wire_core.specs.Marks.{IsMarked}
@@ -52,7 +52,7 @@ closing_few : (t : Step) (c : Option Cause) → elements (under_way t ++ end_of 
 closing_few t c = omega (arith, elements_append (under_way t) (end_of c ∷ []), end_none c, way_few t)
 
 -- an input that saw the end got all that was sent
-over_at : (j : Joint) (s g : List Item) → Histories j s g → (wire_of j s g).inp ≡ Over → elements s ≡ elements g
+over_at : (j : Joint) (s g : List Item) → Histories j s g → (wire_of j s g).inp ≡ Finished → elements s ≡ elements g
 over_at idle s g h e = cc
 over_at asking s g h e = cc
 over_at asked s g h e = cc
@@ -66,7 +66,7 @@ over_at (parted t c) s g h e = cc
 over_at (refused t c) s g h e = cc
 
 -- one that waits got all but one element at most, and all where no event is left
-waiting_at : (j : Joint) (s g : List Item) → Histories j s g → (wire_of j s g).inp ≡ Waiting → elements s ≤ elements g + 1
+waiting_at : (j : Joint) (s g : List Item) → Histories j s g → (wire_of j s g).inp ≡ Pulled → elements s ≤ elements g + 1
 waiting_at idle s g h e = cc
 waiting_at asking s g h e = let same : elements s ≡ elements g = ap elements h in omega (arith, same)
 waiting_at asked s g h e = let same : elements s ≡ elements g = ap elements h in omega (arith, same)
@@ -81,7 +81,7 @@ waiting_at (finished t c) s g h e = cc
 waiting_at (parted t c) s g h e = cc
 waiting_at (refused t c) s g h e = cc
 
-resting_at : (j : Joint) (s g : List Item) → Histories j s g → Queues j false → (wire_of j s g).inp ≡ Waiting → elements s ≡ elements g
+resting_at : (j : Joint) (s g : List Item) → Histories j s g → Queues j false → (wire_of j s g).inp ≡ Pulled → elements s ≡ elements g
 resting_at idle s g h q e = cc
 resting_at asking s g h q e = cc
 resting_at asked s g h q e = ap elements h
@@ -98,7 +98,7 @@ no_mark : {b : Bool} → b ≡ false → b ≡ true → ⊥
 no_mark e f = cc
 
 -- while its ask is not answered, all elements that were sent have come
-all_j : (j : Joint) (s g : List Item) (b : Bool) → Histories j s g → IsMarked (cell (wire_of j s g) b) → (wire_of j s g).inp ≡ Waiting → b ≡ true → elements s ≡ elements g
+all_j : (j : Joint) (s g : List Item) (b : Bool) → Histories j s g → IsMarked (cell (wire_of j s g) b) → (wire_of j s g).inp ≡ Pulled → b ≡ true → elements s ≡ elements g
 all_j idle s g b h m e t = cc
 all_j asking s g b h m e t = ap elements h
 all_j asked s g b h m e t = ap elements h
@@ -114,7 +114,7 @@ all_j (finished u c) s g b h m e t = cc
 all_j (parted u c) s g b h m e t = cc
 all_j (refused u c) s g b h m e t = cc
 
-pub all_came : (c : Cell) (q : Bool) → IsMarked c → IsSound c.wire q → c.wire.inp ≡ Waiting → c.asked ≡ true → elements c.wire.sent ≡ elements c.wire.got
+pub all_came : (c : Cell) (q : Bool) → IsMarked c → IsSound c.wire q → c.wire.inp ≡ Pulled → c.asked ≡ true → elements c.wire.sent ≡ elements c.wire.got
 all_came c q m h e t =
     let marked : IsMarked (cell (wire_of h.joint c.wire.sent c.wire.got) c.asked) = subst (λ (v : Wire). IsMarked (cell v c.asked)) h.is m in
     all_j h.joint c.wire.sent c.wire.got c.asked h.histories marked (sym (ap (λ (v : Wire). v.inp) h.is) ∙ e) t
@@ -123,14 +123,14 @@ module _ (c : Wire) (q : Bool) (sound : IsSound c q) where
   inp_is : (i : InView) → c.inp ≡ i → (wire_of sound.joint c.sent c.got).inp ≡ i
   inp_is i e = sym (ap (λ (v : Wire). v.inp) sound.is) ∙ e
 
-  pub over_same : c.inp ≡ Over → elements c.sent ≡ elements c.got
-  over_same e = over_at sound.joint c.sent c.got sound.histories (inp_is Over e)
+  pub over_same : c.inp ≡ Finished → elements c.sent ≡ elements c.got
+  over_same e = over_at sound.joint c.sent c.got sound.histories (inp_is Finished e)
 
-  pub waiting_few : c.inp ≡ Waiting → elements c.sent ≤ elements c.got + 1
-  waiting_few e = waiting_at sound.joint c.sent c.got sound.histories (inp_is Waiting e)
+  pub waiting_few : c.inp ≡ Pulled → elements c.sent ≤ elements c.got + 1
+  waiting_few e = waiting_at sound.joint c.sent c.got sound.histories (inp_is Pulled e)
 
-  pub resting_same : q ≡ false → c.inp ≡ Waiting → elements c.sent ≡ elements c.got
-  resting_same none e = resting_at sound.joint c.sent c.got sound.histories (rw none at sound.queues) (inp_is Waiting e)
+  pub resting_same : q ≡ false → c.inp ≡ Pulled → elements c.sent ≡ elements c.got
+  resting_same none e = resting_at sound.joint c.sent c.got sound.histories (rw none at sound.queues) (inp_is Pulled e)
 
   pub no_fewer : elements c.got ≤ elements c.sent
   no_fewer =

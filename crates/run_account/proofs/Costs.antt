@@ -6,9 +6,9 @@ use Rattle.port_core.specs.Connection.{Step, quiet, pulled, ready, pushed}
 use Rattle.port_core.specs.Joint.{IsSound}
 use Rattle.port_core.specs.Wire.{Wire}
 use Rattle.port_core.specs.declared.view.InView.{InView}
-use Rattle.port_core.specs.declared.view.InView.TheVariants.{Idle, Waiting, Over, Left}
+use Rattle.port_core.specs.declared.view.InView.TheVariants.{Idle, Pulled, Finished, Cancelled}
 use Rattle.port_core.specs.declared.view.OutView.{OutView}
-use Rattle.port_core.specs.declared.view.OutView.TheVariants.{Unasked, Asked, Shut, Refused}
+use Rattle.port_core.specs.declared.view.OutView.TheVariants as outlet
 use Rattle.wire_core.specs.Cell.{Cell}
 use Rattle.wire_core.specs.Counts.{elements, ready_bit, free_bit, extra, spent}
 use Rattle.stream_model.specs.Outlook.{End, unended, ended, failed}
@@ -29,19 +29,19 @@ few_free true = omega arith
 few_free false = omega arith
 
 few_extra : (y : OutView) (x : InView) (t : Step) (q : Bool) → extra y x t q ≤ 3
-few_extra Asked Waiting t q = omega arith
-few_extra Asked Left t q = omega arith
-few_extra Asked Idle t q = omega arith
-few_extra Asked Over t q = omega arith
-few_extra Shut Waiting t q = let r = few_ready t in omega (arith, r)
-few_extra Shut Over t q = let r = few_free q in omega (arith, r)
-few_extra Shut Left t q = let r = few_free q in omega (arith, r)
-few_extra Shut Idle t q = omega arith
-few_extra Refused Left t q = let r = few_free q in omega (arith, r)
-few_extra Refused Idle t q = omega arith
-few_extra Refused Waiting t q = omega arith
-few_extra Refused Over t q = omega arith
-few_extra Unasked x t q = omega arith
+few_extra outlet.Available Pulled t q = omega arith
+few_extra outlet.Available Cancelled t q = omega arith
+few_extra outlet.Available Idle t q = omega arith
+few_extra outlet.Available Finished t q = omega arith
+few_extra outlet.Closed Pulled t q = let r = few_ready t in omega (arith, r)
+few_extra outlet.Closed Finished t q = let r = few_free q in omega (arith, r)
+few_extra outlet.Closed Cancelled t q = let r = few_free q in omega (arith, r)
+few_extra outlet.Closed Idle t q = omega arith
+few_extra outlet.Cancelled Cancelled t q = let r = few_free q in omega (arith, r)
+few_extra outlet.Cancelled Idle t q = omega arith
+few_extra outlet.Cancelled Pulled t q = omega arith
+few_extra outlet.Cancelled Finished t q = omega arith
+few_extra outlet.Unpulled x t q = omega arith
 
 -- the events of a connection
 pub connection_cost : (w : Wire) (q : Bool) → IsSound w q → spent w q ≤ 2 * elements w.sent + 3

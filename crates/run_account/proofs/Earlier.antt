@@ -10,8 +10,8 @@ use Rattle.port_core.specs.Connection.{quiet, pulled, ready, pushed}
 use Rattle.port_core.specs.Joint.{Joint, idle, asking, asked, moving, ending, closing, leaving, finished, parted, refused, wire_of, Histories, IsSound}
 use Rattle.port_core.specs.View.{View, in_at, out_at}
 use Rattle.port_core.specs.declared.view.InView.{InView}
-use Rattle.port_core.specs.declared.view.InView.TheVariants.{Left}
-use Rattle.port_core.specs.declared.view.OutView.TheVariants.{Asked, Shut}
+use Rattle.port_core.specs.declared.view.InView.TheVariants.{Cancelled}
+use Rattle.port_core.specs.declared.view.OutView.TheVariants.{Available, Closed}
 use Rattle.wire_core.specs.Cell.{Cell}
 use Rattle.wire_core.specs.Counts.{elements}
 use Rattle.wire_core.specs.Marks.{IsMarked, wanted, Grown}
@@ -101,12 +101,12 @@ shut_grown old new grown (w ∷ ws) within (suc i) h = shut_grown old new grown 
 
 -- one that the node at its output knows as closed is
 shut_there : (wires : List Cell) → ((q : ℕ) → q < length wires → (b : Bool) × IsSound (get_or wires q no_wire).wire b) → (ws : List ℕ) → ((i q : ℕ) → slice_get ws i ≡ Some q → q < length wires) → (i : ℕ)
-    → OutClosed (get_or (read_all out_of wires ws) i Shut) → get_or (read_all shut_of wires ws) i true ≡ true
+    → OutClosed (get_or (read_all out_of wires ws) i Closed) → get_or (read_all shut_of wires ws) i true ≡ true
 shut_there wires sound [] within i h = refl
 shut_there wires sound (w ∷ ws) within zero h = let s = sound w (within 0 w refl) in out_shut (get_or wires w no_wire).wire s.0 s.1 h
 shut_there wires sound (w ∷ ws) within (suc i) h = shut_there wires sound ws (λ k q e. within (suc k) q e) i h
 
-out_asked_there : {X : Type 0} (f : Cell → X) (wires : List Cell) (ws : List ℕ) (j : ℕ) → out_at (record { ins = []; outs = read_all out_of wires ws }) j ≡ Asked → (r : ℕ) × (slice_get ws j ≡ Some r)
+out_asked_there : {X : Type 0} (f : Cell → X) (wires : List Cell) (ws : List ℕ) (j : ℕ) → out_at (record { ins = []; outs = read_all out_of wires ws }) j ≡ Available → (r : ℕ) × (slice_get ws j ≡ Some r)
 out_asked_there f wires [] j e = absurd cc
 out_asked_there f wires (w ∷ ws) zero e = (w, refl)
 out_asked_there f wires (w ∷ ws) (suc j) e = out_asked_there f wires ws j e
@@ -143,12 +143,12 @@ module _ {N : Type 0} (row : N → View → Type 0) (law : N → N → View → 
       pub began_out : AllBegin (net.gave old j) (net.gave new j)
       began_out = rw same_ports (all_begin sent_of old.wires new.wires (λ q h. (grew q h).sent) (ports_at new j).outs outs_within)
 
-      pub were_wanted : (i : ℕ) → out_at (view_of old j) i ≡ Asked → elements (slice_index_or (net.gave old j) i []) + 1 ≤ slice_index_or (want_out new j) i 0
+      pub were_wanted : (i : ℕ) → out_at (view_of old j) i ≡ Available → elements (slice_index_or (net.gave old j) i []) + 1 ≤ slice_index_or (want_out new j) i 0
       were_wanted i is =
           let slot = out_asked_there sent_of old.wires (ports_at old j).outs i is in
           let r = slot.0 in
           let slot_new : slice_get (ports_at new j).outs i ≡ Some slot.0 = rw (sym same_ports) slot.1 in
-          let out : (wire_at old slot.0).wire.out ≡ Asked = sym (read_at out_of old.wires (ports_at old j).outs i slot.0 Shut slot.1) ∙ is in
+          let out : (wire_at old slot.0).wire.out ≡ Available = sym (read_at out_of old.wires (ports_at old j).outs i slot.0 Closed slot.1) ∙ is in
           let wires = on.wires in
           let within = outs_within i slot.0 slot_new in
           let was : slot.0 < length old.wires = omega (arith, wires, within) in
@@ -200,7 +200,7 @@ module _ {N : Type 0} (row : N → View → Type 0) (law : N → N → View → 
           row_held = minds.row_holds;
           law_held = minds.law_holds;
           asking_held = (rw to at a.asking_then) x.0 x.1;
-          waited = read_at inp_of a.old.wires (ports_at a.old j).ins p q Left slot_old ∙ a.waits;
+          waited = read_at inp_of a.old.wires (ports_at a.old j).ins p q Cancelled slot_old ∙ a.waits;
           one_more = read_at wanted new.wires (ports_at new j).ins p q 0 slot ∙ a.same ∙ wanted_asked (wire_at a.old q) a.asked ∙ ap (λ (n : ℕ). n + 1) (came ∙ sym (ap elements (read_at got_of a.old.wires (ports_at a.old j).ins p q [] slot_old)));
           took_on = began_in a.old a.on a.grown a.marked;
           gave_on = began_out a.old a.on a.grown a.marked;
@@ -249,11 +249,11 @@ module _ {N : Type 0} (row : N → View → Type 0) (law : N → N → View → 
     same_want i q e = read_at wanted new.wires (ports_at new j).ins i q 0 e ∙ a.same q (slot_within i q e) (rw (sym a.on.ends) ((wired.input_to j i q hj e).1.0))
 
     stood_at : (i : ℕ) (o : _) → slice_get (ports_at new j).ins i ≡ o → Stood (in_at (view_of a.old j) i) (slice_index_or (want_in new j) i 0) (elements (slice_index_or (net.took a.old j) i []))
-    stood_at i None e = subst (λ (x : InView). Stood x (slice_index_or (want_in new j) i 0) (elements (slice_index_or (net.took a.old j) i []))) (sym (none_there inp_of a.old.wires (ports_at a.old j).ins i Left (rw ports_then e))) tt
+    stood_at i None e = subst (λ (x : InView). Stood x (slice_index_or (want_in new j) i 0) (elements (slice_index_or (net.took a.old j) i []))) (sym (none_there inp_of a.old.wires (ports_at a.old j).ins i Cancelled (rw ports_then e))) tt
     stood_at i (Some q) e =
         let slot : slice_get (ports_at a.old j).ins i ≡ Some q = rw ports_then e in
         let h = slot_within i q e in
-        rw (read_at inp_of a.old.wires (ports_at a.old j).ins i q Left slot, same_want i q e, read_at got_of a.old.wires (ports_at a.old j).ins i q [] slot)
+        rw (read_at inp_of a.old.wires (ports_at a.old j).ins i q Cancelled slot, same_want i q e, read_at got_of a.old.wires (ports_at a.old j).ins i q [] slot)
         (stood_cell (wire_at a.old q) (holds a.old.queue q) (a.sound q h) (a.marked q h))
 
     first_old : slice_get a.old.firsts j ≡ Some first

@@ -3,11 +3,11 @@ use Rattle.std.proofs.Common.{◌≡◌, Bool, true, false, List, refl, sym, ap,
 use Rattle.elem_core.specs.declared.item.Item.{Item}
 use Rattle.port_core.specs.Wire.{Wire}
 use Rattle.port_core.specs.Joint.{Joint, idle, asking, asked, moving, ending, closing, leaving, finished, parted, refused, wire_of, Queues, IsSound}
-use Rattle.port_core.specs.declared.view.InView.TheVariants.{Idle, Waiting, Over, Left}
-use Rattle.port_core.specs.declared.view.OutView.TheVariants.{Unasked, Asked, Shut}
+use Rattle.port_core.specs.declared.view.InView.TheVariants.{Idle, Pulled, Finished, Cancelled}
+use Rattle.port_core.specs.declared.view.OutView.TheVariants.{Unpulled, Available, Closed}
 use Rattle.stage_law.specs.Row.{OutClosed}
 
-out_shut_j : (j : Joint) (s g : List Item) → (wire_of j s g).inp ≡ Over → (wire_of j s g).out ≡ Shut
+out_shut_j : (j : Joint) (s g : List Item) → (wire_of j s g).inp ≡ Finished → (wire_of j s g).out ≡ Closed
 out_shut_j idle s g e = cc
 out_shut_j asking s g e = cc
 out_shut_j asked s g e = cc
@@ -20,7 +20,7 @@ out_shut_j (finished t c) s g e = refl
 out_shut_j (parted t c) s g e = cc
 out_shut_j (refused t c) s g e = cc
 
-out_asked_j : (j : Joint) (s g : List Item) → Queues j false → (wire_of j s g).inp ≡ Waiting → (wire_of j s g).out ≡ Asked
+out_asked_j : (j : Joint) (s g : List Item) → Queues j false → (wire_of j s g).inp ≡ Pulled → (wire_of j s g).out ≡ Available
 out_asked_j idle s g q e = cc
 out_asked_j asking s g q e = cc
 out_asked_j asked s g q e = refl
@@ -33,7 +33,7 @@ out_asked_j (finished t c) s g q e = cc
 out_asked_j (parted t c) s g q e = cc
 out_asked_j (refused t c) s g q e = cc
 
-out_left_j : (j : Joint) (s g : List Item) → Queues j false → (wire_of j s g).inp ≡ Left → OutClosed (wire_of j s g).out
+out_left_j : (j : Joint) (s g : List Item) → Queues j false → (wire_of j s g).inp ≡ Cancelled → OutClosed (wire_of j s g).out
 out_left_j idle s g q e = absurd cc
 out_left_j asking s g q e = absurd cc
 out_left_j asked s g q e = absurd cc
@@ -46,7 +46,7 @@ out_left_j (finished t c) s g q e = tt
 out_left_j (parted t c) s g q e = tt
 out_left_j (refused t c) s g q e = tt
 
-inp_idle_j : (j : Joint) (s g : List Item) → Queues j false → (wire_of j s g).out ≡ Unasked → (wire_of j s g).inp ≡ Idle
+inp_idle_j : (j : Joint) (s g : List Item) → Queues j false → (wire_of j s g).out ≡ Unpulled → (wire_of j s g).inp ≡ Idle
 inp_idle_j idle s g q e = refl
 inp_idle_j asking s g q e = cc
 inp_idle_j asked s g q e = cc
@@ -60,15 +60,15 @@ inp_idle_j (parted t c) s g q e = cc
 inp_idle_j (refused t c) s g q e = cc
 
 module _ (w : Wire) (q : Bool) (h : IsSound w q) where
-  pub over_shut : w.inp ≡ Over → w.out ≡ Shut
+  pub over_shut : w.inp ≡ Finished → w.out ≡ Closed
   over_shut e = ap (λ (v : Wire). v.out) h.is ∙ out_shut_j h.joint w.sent w.got (sym (ap (λ (v : Wire). v.inp) h.is) ∙ e)
 
 module _ (w : Wire) (h : IsSound w false) where
-  pub waiting_asked : w.inp ≡ Waiting → w.out ≡ Asked
+  pub waiting_asked : w.inp ≡ Pulled → w.out ≡ Available
   waiting_asked e = ap (λ (v : Wire). v.out) h.is ∙ out_asked_j h.joint w.sent w.got h.queues (sym (ap (λ (v : Wire). v.inp) h.is) ∙ e)
 
-  pub left_closed : w.inp ≡ Left → OutClosed w.out
+  pub left_closed : w.inp ≡ Cancelled → OutClosed w.out
   left_closed e = subst OutClosed (sym (ap (λ (v : Wire). v.out) h.is)) (out_left_j h.joint w.sent w.got h.queues (sym (ap (λ (v : Wire). v.inp) h.is) ∙ e))
 
-  pub unasked_idle : w.out ≡ Unasked → w.inp ≡ Idle
+  pub unasked_idle : w.out ≡ Unpulled → w.inp ≡ Idle
   unasked_idle e = ap (λ (v : Wire). v.inp) h.is ∙ inp_idle_j h.joint w.sent w.got h.queues (sym (ap (λ (v : Wire). v.out) h.is) ∙ e)

@@ -8,9 +8,9 @@ use Rattle.elem_core.proofs.Prefixes.{prefix_trans}
 use Rattle.port_core.specs.Decoding.{is_open}
 use Rattle.port_core.specs.Joint.{IsSound}
 use Rattle.port_core.specs.declared.view.InView.{InView}
-use Rattle.port_core.specs.declared.view.InView.TheVariants.{Idle, Waiting, Over, Left}
+use Rattle.port_core.specs.declared.view.InView.TheVariants.{Idle, Pulled, Finished, Cancelled}
 use Rattle.port_core.specs.declared.view.OutView.{OutView}
-use Rattle.port_core.specs.declared.view.OutView.TheVariants.{Unasked, Asked, Shut, Refused}
+use Rattle.port_core.specs.declared.view.OutView.TheVariants as outlet
 use Rattle.wire_core.specs.Cell.{Cell}
 use Rattle.wire_core.specs.Counts.{elements}
 use Rattle.wire_core.specs.Marks.{IsMarked, wanted}
@@ -28,29 +28,29 @@ use Rattle.run_account.proofs.Joints.{over_shut, waiting_asked, left_closed, una
 
 -- ---- ends
 
-over_by : (x : InView) (e : End) → TookAs x e → (e ≡ unended → ⊥) → x ≡ Over
+over_by : (x : InView) (e : End) → TookAs x e → (e ≡ unended → ⊥) → x ≡ Finished
 over_by Idle e t n = absurd (n t)
-over_by Waiting e t n = absurd (n t)
-over_by Over e t n = refl
-over_by Left e t n = absurd (n t)
+over_by Pulled e t n = absurd (n t)
+over_by Finished e t n = refl
+over_by Cancelled e t n = absurd (n t)
 
-shut_ends : (e : End) → GaveAs Shut e → e ≡ unended → ⊥
+shut_ends : (e : End) → GaveAs outlet.Closed e → e ≡ unended → ⊥
 shut_ends unended g is = g
 shut_ends ended g is = cc
 shut_ends (failed c) g is = cc
 
-over_ends : (e : End) → TookAs Over e → e ≡ unended → ⊥
+over_ends : (e : End) → TookAs Finished e → e ≡ unended → ⊥
 over_ends unended g is = g
 over_ends ended g is = cc
 over_ends (failed c) g is = cc
 
-asked_open : (y : OutView) (e : End) → GaveAs y e → y ≡ Asked → e ≡ unended
-asked_open Asked e g is = g
-asked_open Unasked e g is = cc
-asked_open Shut e g is = cc
-asked_open Refused e g is = cc
+asked_open : (y : OutView) (e : End) → GaveAs y e → y ≡ outlet.Available → e ≡ unended
+asked_open outlet.Available e g is = g
+asked_open outlet.Unpulled e g is = cc
+asked_open outlet.Closed e g is = cc
+asked_open outlet.Cancelled e g is = cc
 
-left_not : {x : InView} → x ≡ Left → x ≡ Over → ⊥
+left_not : {x : InView} → x ≡ Cancelled → x ≡ Finished → ⊥
 left_not a b = cc
 
 -- an end that a history has stands in each that it begins
@@ -120,7 +120,7 @@ module _ (s : ℕ) (near far : Cell) (o : OutEnd) (i : InEnd) (out : OutKeeps ne
   lane_least e = let h : i.asked ≤ elements near.wire.sent = grind (e, arith, nat_tests) in let a = inn.least in omega (arith, h, a)
 
   -- where the end was pushed behind the lane, it came to the boundary before it
-  end_came : far.wire.out ≡ Shut → near.wire.inp ≡ Over
+  end_came : far.wire.out ≡ outlet.Closed → near.wire.inp ≡ Finished
   end_came e =
       let n : inn.pushed_end ≡ unended → ⊥ = shut_ends inn.pushed_end (rw e at inn.pushed_as) in
       let one : inn.taken_end ≡ inn.pushed_end = carries_end s inn.taken_list inn.taken_end inn.pushed_list inn.pushed_end inn.carries n in
@@ -130,15 +130,15 @@ module _ (s : ℕ) (near far : Cell) (o : OutEnd) (i : InEnd) (out : OutKeeps ne
       over_by near.wire.inp out.came_end out.came_as (λ x. n (sym one ∙ (sym two ∙ x)))
 
   -- so the lane is shut where its end came
-  pub lane_over : (p q : Bool) → IsSound near.wire p → IsSound far.wire q → far.wire.inp ≡ Over → not (is_open near.wire.conn) ≡ true
+  pub lane_over : (p q : Bool) → IsSound near.wire p → IsSound far.wire q → far.wire.inp ≡ Finished → not (is_open near.wire.conn) ≡ true
   lane_over p q sn sf e = in_shut near.wire p sn (subst InClosed (sym (end_came (over_shut far.wire q sf e))) tt)
 
   module _ (sn : IsSound near.wire false) (sf : IsSound far.wire false) (mn : IsMarked near) (mf : IsMarked far) (oq : OutQuiet near o) (iq : InQuiet far i) (mq : MetQuiet o i) where
     -- the node at its input waits: the lane is asked and open, and all that was sent has come
-    pub lane_waits : far.wire.inp ≡ Waiting → ((mark ≡ true) × (not (is_open near.wire.conn) ≡ false)) × (elements near.wire.sent ≡ elements far.wire.got)
+    pub lane_waits : far.wire.inp ≡ Pulled → ((mark ≡ true) × (not (is_open near.wire.conn) ≡ false)) × (elements near.wire.sent ≡ elements far.wire.got)
     lane_waits e = by near.wire.inp refl
       where
-        asks : far.wire.out ≡ Asked
+        asks : far.wire.out ≡ outlet.Available
         asks = waiting_asked far.wire sf e
 
         none : o.refused ≡ 0
@@ -150,7 +150,7 @@ module _ (s : ℕ) (near far : Cell) (o : OutEnd) (i : InEnd) (out : OutKeeps ne
         got_all : far.wire.sent ≡ far.wire.got
         got_all = (waits far mf sf e).1
 
-        refuses : near.wire.inp ≡ Left → o.refused ≡ 1
+        refuses : near.wire.inp ≡ Cancelled → o.refused ≡ 1
         refuses = oq.left
 
         by : (x : InView) → near.wire.inp ≡ x → ((mark ≡ true) × (not (is_open near.wire.conn) ≡ false)) × (elements near.wire.sent ≡ elements far.wire.got)
@@ -161,38 +161,38 @@ module _ (s : ℕ) (near far : Cell) (o : OutEnd) (i : InEnd) (out : OutKeeps ne
             let more = iq.more asks in
             let same = ap elements came in
             absurd (omega (arith, all, used, seen, more, same))
-        by Waiting is =
+        by Pulled is =
             let w = waits near mn sn is in
             let all = ap elements w.1 in
             let same = ap elements came in
             let last = ap elements got_all in
             let more = iq.more asks in
             ((below (elements near.wire.sent) i.asked (omega (arith, all, same, more)), w.0.still), omega (arith, all, same, last))
-        by Over is =
+        by Finished is =
             let n : out.came_end ≡ unended → ⊥ = over_ends out.came_end (rw is at out.came_as) in
             let pushed : inn.pushed_end ≡ unended = asked_open far.wire.out inn.pushed_end inn.pushed_as asks in
             let lists : told out.came_list out.came_end ≡ told inn.pushed_list inn.pushed_end = sym out.came_is ∙ (came ∙ inn.pushed_is) in
             absurd (n (sym (standing_told out.came_list out.came_end) ∙ (ap standing lists ∙ (standing_told inn.pushed_list inn.pushed_end ∙ pushed))))
-        by Left is = let yes : o.refused ≡ 1 = refuses is in let no : o.refused ≡ 0 = none in absurd (omega (arith, yes, no))
+        by Cancelled is = let yes : o.refused ≡ 1 = refuses is in let no : o.refused ≡ 0 = none in absurd (omega (arith, yes, no))
 
     -- it has closed its input
     pub lane_in_shut : InClosed far.wire.inp → not (is_open near.wire.conn) ≡ true
     lane_in_shut h = by far.wire.inp refl h
       where
         by_out : (y : OutView) → far.wire.out ≡ y → OutClosed y → not (is_open near.wire.conn) ≡ true
-        by_out Shut is c = in_shut near.wire false sn (subst InClosed (sym (end_came is)) tt)
-        by_out Refused is c = in_shut near.wire false sn (oq.closed (mq.refused_is ∙ iq.cancels is))
-        by_out Unasked is c = absurd c
-        by_out Asked is c = absurd c
+        by_out outlet.Closed is c = in_shut near.wire false sn (subst InClosed (sym (end_came is)) tt)
+        by_out outlet.Cancelled is c = in_shut near.wire false sn (oq.closed (mq.refused_is ∙ iq.cancels is))
+        by_out outlet.Unpulled is c = absurd c
+        by_out outlet.Available is c = absurd c
 
         by : (x : InView) → far.wire.inp ≡ x → InClosed x → not (is_open near.wire.conn) ≡ true
-        by Over is c = lane_over false false sn sf is
-        by Left is c = by_out far.wire.out refl (left_closed far.wire sf is)
+        by Finished is c = lane_over false false sn sf is
+        by Cancelled is c = by_out far.wire.out refl (left_closed far.wire sf is)
         by Idle is c = absurd c
-        by Waiting is c = absurd c
+        by Pulled is c = absurd c
 
     -- the node at its output was asked, or was not
-    pub lane_asked : near.wire.out ≡ Asked → (mark ≡ true) × (not (is_open near.wire.conn) ≡ false)
+    pub lane_asked : near.wire.out ≡ outlet.Available → (mark ≡ true) × (not (is_open near.wire.conn) ≡ false)
     lane_asked e =
         let a = is_asked near mn sn e in
         let b = more_wanted near a.mark in
@@ -200,7 +200,7 @@ module _ (s : ℕ) (near far : Cell) (o : OutEnd) (i : InEnd) (out : OutKeeps ne
         let d = met.seen in
         (below (elements near.wire.sent) i.asked (omega (arith, b, c, d)), a.still)
 
-    pub lane_unasked : near.wire.out ≡ Unasked → (mark ≡ false) × (not (is_open near.wire.conn) ≡ false)
+    pub lane_unasked : near.wire.out ≡ outlet.Unpulled → (mark ≡ false) × (not (is_open near.wire.conn) ≡ false)
     lane_unasked e =
         let a = is_unasked near mn sn e in
         let used = oq.used (unasked_idle near.wire sn e) in

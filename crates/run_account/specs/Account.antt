@@ -5,8 +5,8 @@ use Rattle.elem_core.specs.Prefix.{IsPrefix}
 use Rattle.elem_core.specs.declared.item.Item.{Item}
 use Rattle.port_core.specs.View.{View, in_at, out_at}
 use Rattle.port_core.specs.declared.view.InView.{InView}
-use Rattle.port_core.specs.declared.view.InView.TheVariants.{Idle, Waiting}
-use Rattle.port_core.specs.declared.view.OutView.TheVariants.{Asked}
+use Rattle.port_core.specs.declared.view.InView.TheVariants.{Idle, Pulled}
+use Rattle.port_core.specs.declared.view.OutView.TheVariants.{Available}
 use Rattle.port_core.specs.Decoding.{is_open}
 use Rattle.port_core.specs.Joint.{IsSound}
 use Rattle.wire_core.specs.Cell.{Cell}
@@ -78,7 +78,7 @@ AllBegin _ _ = ⊥
 
 -- by what a node knew of an input, what was wanted there of what it had taken
 abbrev pub Stood : InView → ℕ → ℕ → Type 0
-Stood Waiting want had = want ≤ had + 1
+Stood Pulled want had = want ≤ had + 1
 Stood Idle want had = want ≤ had
 Stood _ want had = ⊤
 
@@ -104,12 +104,12 @@ module _ {N : Type 0} (row : N → View → Type 0) (law : N → N → View → 
     pub row_held : row old knew
     pub law_held : law first old knew had given
     pub asking_held : asking old knew
-    pub waited : in_at knew p ≡ Waiting
+    pub waited : in_at knew p ≡ Pulled
     pub one_more : slice_index_or ins_want p 0 ≡ elements (slice_index_or had p []) + 1
     pub took_on : AllBegin had took
     pub gave_on : AllBegin given gave
     pub moves_on : IsPrefix (moves old) (moves now)
-    pub wants : (j : ℕ) → out_at knew j ≡ Asked → elements (slice_index_or given j []) + 1 ≤ slice_index_or outs_want j 0
+    pub wants : (j : ℕ) → out_at knew j ≡ Available → elements (slice_index_or given j []) + 1 ≤ slice_index_or outs_want j 0
     pub shut_on : (j : ℕ) → OutClosed (out_at knew j) → slice_index_or outs_closed j true ≡ true
     -- one with one input and no output is as it was, where nothing came since
     pub stays : length took ≡ 1 → length gave ≡ 0 → had ≡ took → now ≡ old
@@ -124,13 +124,13 @@ module _ {N : Type 0} (row : N → View → Type 0) (law : N → N → View → 
     pub law_held : law first old knew had given
     pub asking_held : asking old knew
     pub port : ℕ
-    pub waited : in_at knew port ≡ Waiting
+    pub waited : in_at knew port ≡ Pulled
     pub stood : (i : ℕ) → Stood (in_at knew i) (slice_index_or ins_want i 0) (elements (slice_index_or had i []))
     pub before : (i : ℕ) → i < length ins_want → 1 ≤ slice_index_or ins_want i 0 → Earlier i first old had given ins_want outs_want outs_closed
     pub took_on : AllBegin had took
     pub gave_on : AllBegin given gave
     pub moves_on : IsPrefix (moves old) (moves now)
-    pub wants : (j : ℕ) → out_at knew j ≡ Asked → elements (slice_index_or given j []) + 1 ≤ slice_index_or outs_want j 0
+    pub wants : (j : ℕ) → out_at knew j ≡ Available → elements (slice_index_or given j []) + 1 ≤ slice_index_or outs_want j 0
     pub shut_on : (j : ℕ) → OutClosed (out_at knew j) → slice_index_or outs_closed j true ≡ true
 
   module _ (g : Graph) (a : Account N) where

@@ -7,9 +7,9 @@ use Rattle.elem_core.specs.declared.item.Item.{Item}
 use Rattle.port_core.specs.Decoding.{is_open}
 use Rattle.port_core.specs.View.{View}
 use Rattle.port_core.specs.declared.view.InView.{InView}
-use Rattle.port_core.specs.declared.view.InView.TheVariants.{Idle, Waiting, Over}
+use Rattle.port_core.specs.declared.view.InView.TheVariants.{Idle, Pulled, Finished}
 use Rattle.port_core.specs.declared.view.OutView.{OutView}
-use Rattle.port_core.specs.declared.view.OutView.TheVariants.{Unasked, Asked}
+use Rattle.port_core.specs.declared.view.OutView.TheVariants.{Unpulled, Available}
 use Rattle.wire_core.specs.Cell.{Cell}
 use Rattle.wire_core.specs.Counts.{elements}
 use Rattle.stream_model.specs.Outlook.{End, unended, ended}
@@ -69,7 +69,7 @@ pub record InStands (i : InPort) : Type 0 where
   pub part : (l : List Tree) (e : End) → i.got ≡ told l e → IsPrefix l i.wire.list
   pub within : i.wire.sent ≤ length i.wire.list
   pub least : i.wire.asked ≡ false → size_of i.wire ≤ i.wire.sent
-  pub over : i.view ≡ Over → i.wire.shut ≡ true
+  pub over : i.view ≡ Finished → i.wire.shut ≡ true
   -- where an end came, all that was sent came but as many as a lane has places, and where a normal one came all
   pub ended_all : (l : List Tree) → i.got ≡ told l ended → i.wire.sent ≡ length l
   pub ended_few : (l : List Tree) (e : End) → i.got ≡ told l e → e ≢ unended → i.wire.sent ≤ length l + size_of i.wire
@@ -83,12 +83,12 @@ pub record OutStands (o : OutPort) : Type 0 where
 
 -- Where no event is left.
 pub record InRests (i : InPort) : Type 0 where
-  pub waits : i.view ≡ Waiting → Waits i.wire × (i.wire.sent ≡ elements i.got)
+  pub waits : i.view ≡ Pulled → Waits i.wire × (i.wire.sent ≡ elements i.got)
   pub idles : i.view ≡ Idle → IsLane i.wire ⊎ (((i.wire.asked ≡ false) × (i.wire.shut ≡ false)) × (i.wire.sent ≡ elements i.got))
   pub shut : InClosed i.view → IsShut i.wire
-  pub over_sent : i.view ≡ Over → IsLane i.wire ⊎ (i.wire.sent ≡ elements i.got)
+  pub over_sent : i.view ≡ Finished → IsLane i.wire ⊎ (i.wire.sent ≡ elements i.got)
 
 pub record OutRests (o : OutPort) : Type 0 where
-  pub asked : o.view ≡ Asked → IsAsked o.wire
-  pub unasked : o.view ≡ Unasked → IsUnasked o.wire
+  pub asked : o.view ≡ Available → IsAsked o.wire
+  pub unasked : o.view ≡ Unpulled → IsUnasked o.wire
   pub shut : OutClosed o.view → IsShut o.wire

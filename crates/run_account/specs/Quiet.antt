@@ -1,7 +1,7 @@
 -- The ends of a lane where no island has an event.
 use Rattle.std.specs.Prelude.{◌≡◌, ℕ, ◌<◌}
-use Rattle.port_core.specs.declared.view.InView.TheVariants.{Idle, Left}
-use Rattle.port_core.specs.declared.view.OutView.TheVariants.{Asked, Refused}
+use Rattle.port_core.specs.declared.view.InView.TheVariants.{Idle, Cancelled}
+use Rattle.port_core.specs.declared.view.OutView.TheVariants as outlet
 use Rattle.wire_core.specs.Cell.{Cell}
 use Rattle.wire_core.specs.Counts.{elements}
 use Rattle.stage_law.specs.Row.{InClosed}
@@ -13,15 +13,15 @@ pub record OutQuiet (c : Cell) (e : OutEnd) : Type 0 where
   pub sent_all : e.refused ≡ 0 → e.sent ≡ c.wire.got
   pub used : c.wire.inp ≡ Idle → elements c.wire.sent ≡ e.seen
   pub closed : e.refused ≡ 1 → InClosed c.wire.inp
-  pub left : c.wire.inp ≡ Left → e.refused ≡ 1
+  pub left : c.wire.inp ≡ Cancelled → e.refused ≡ 1
 
 -- One that is asked has pushed all that was taken, has asked for more, and did not cancel; one that was cancelled has cancelled
 -- the lane.
 pub record InQuiet (c : Cell) (e : InEnd) : Type 0 where
-  pub pushed_all : c.wire.out ≡ Asked → e.taken ≡ c.wire.sent
-  pub more : c.wire.out ≡ Asked → elements c.wire.sent < e.asked
-  pub goes_on : c.wire.out ≡ Asked → e.cancelled ≡ 0
-  pub cancels : c.wire.out ≡ Refused → e.cancelled ≡ 1
+  pub pushed_all : c.wire.out ≡ outlet.Available → e.taken ≡ c.wire.sent
+  pub more : c.wire.out ≡ outlet.Available → elements c.wire.sent < e.asked
+  pub goes_on : c.wire.out ≡ outlet.Available → e.cancelled ≡ 0
+  pub cancels : c.wire.out ≡ outlet.Cancelled → e.cancelled ≡ 1
 
 -- All that was sent was taken, all that was asked was seen, and so was a cancel.
 pub record MetQuiet (o : OutEnd) (i : InEnd) : Type 0 where

@@ -6,7 +6,7 @@ use Rattle.elem_core.specs.declared.item.Item.{Item}
 use Rattle.port_core.specs.Joint.{IsSound}
 use Rattle.port_core.specs.View.{View}
 use Rattle.port_core.specs.declared.view.InView.{InView}
-use Rattle.port_core.specs.declared.view.InView.TheVariants.{Left}
+use Rattle.port_core.specs.declared.view.InView.TheVariants.{Cancelled}
 use Rattle.wire_core.specs.Counts.{elements}
 use Rattle.stream_model.specs.declared.kind.Kind.{Kind}
 use Rattle.stream_model.specs.declared.kind.Kind.TheVariants as kind
@@ -192,7 +192,7 @@ module _ {S D L B : Type 0} (sources : S → SourceState) (drains : D → DrainS
     row_here = subst (λ (l : List InView). OneInOf (sink_row_in now.started now.end) l (knows g a k n).outs) wire.ins (sink_at k n first now ni at).row_holds
 
     seen : TookAs (a.far u).wire.inp law.in_end
-    seen = subst (λ (x : InView). TookAs x law.in_end) (ap (λ (l : List InView). get_or l 0 Left) wire.ins) law.took_as
+    seen = subst (λ (x : InView). TookAs x law.in_end) (ap (λ (l : List InView). get_or l 0 Cancelled) wire.ins) law.took_as
 
     got : (a.far u).wire.got ≡ told law.elems law.in_end
     got = heads_same (a.far u).wire.got (told law.elems law.in_end) (sym wire.came ∙ law.took_is)
@@ -286,7 +286,7 @@ module _ {S D L B : Type 0} (sources : S → SourceState) (drains : D → DrainS
         let its : FirstIgnoring k n.kind first = run.made k n (Ignoring first) ni at.at_first in
         let wire = one_wire k n u v ni (ap inputs_of its.kind_is) ui to in
         let here : OneInOf (ignore_row_in now.started now.end) ((a.far u).wire.inp ∷ []) (knows g a k n).outs = subst (λ (l : List InView). OneInOf (ignore_row_in now.started now.end) l (knows g a k n).outs) wire.ins m.row_holds in
-        let seen : TookAs (a.far u).wire.inp law.in_end = subst (λ (x : InView). TookAs x law.in_end) (ap (λ (l : List InView). get_or l 0 Left) wire.ins) law.took_as in
+        let seen : TookAs (a.far u).wire.inp law.in_end = subst (λ (x : InView). TookAs x law.in_end) (ap (λ (l : List InView). get_or l 0 Cancelled) wire.ins) law.took_as in
         let got : (a.far u).wire.got ≡ told law.elems law.in_end = heads_same (a.far u).wire.got (told law.elems law.in_end) (sym wire.came ∙ law.took_is) in
         let came : Agrees (comes_in k) law.elems law.in_end = input_agrees k n law.elems law.in_end ni (ap inputs_of its.kind_is) law.took_is in
         let agrees : Agrees (sink_outlook g w k n) law.elems law.in_end = passes k n kind.Ignore law.elems law.in_end its.kind_is refl came in

@@ -5,7 +5,7 @@ use Rattle.elem_core.specs.declared.why.Cause.{Cause}
 use Rattle.port_core.specs.Wire.{Wire}
 use Rattle.port_core.specs.Joint.{IsSound}
 use Rattle.port_core.specs.declared.view.InView.{InView}
-use Rattle.port_core.specs.declared.view.InView.TheVariants.{Idle, Waiting, Over, Left}
+use Rattle.port_core.specs.declared.view.InView.TheVariants.{Idle, Pulled, Finished, Cancelled}
 use Rattle.port_core.specs.declared.view.OutView.{OutView}
 use Rattle.wire_core.specs.Counts.{elements}
 use Rattle.stream_model.specs.Outlook.{Outlook, End, ended, failed, Agrees}
@@ -21,38 +21,38 @@ use Rattle.run_laws.specs.Sinks.{SentTo, IgnoreTells}
 use Rattle.run_account.proofs.Coming.{elements_told, over_same, waiting_few, resting_same, no_fewer}
 
 -- an end that came is known
-over_of : (i : InView) → TookAs i ended → i ≡ Over
-over_of Over h = refl
+over_of : (i : InView) → TookAs i ended → i ≡ Finished
+over_of Finished h = refl
 over_of Idle h = cc
-over_of Waiting h = cc
-over_of Left h = cc
+over_of Pulled h = cc
+over_of Cancelled h = cc
 
-over_failed : (i : InView) (c : Cause) → TookAs i (failed c) → i ≡ Over
-over_failed Over c h = refl
+over_failed : (i : InView) (c : Cause) → TookAs i (failed c) → i ≡ Finished
+over_failed Finished c h = refl
 over_failed Idle c h = cc
-over_failed Waiting c h = cc
-over_failed Left c h = cc
+over_failed Pulled c h = cc
+over_failed Cancelled c h = cc
 
 -- what a sink's row says of its input
-open_waits : (b : Bool) (i : InView) (outs : List OutView) → OneInOf (sink_row_in b Unended) (i ∷ []) outs → i ≡ Waiting
-open_waits true Waiting [] r = refl
-open_waits true Waiting (y ∷ outs) r = refl
+open_waits : (b : Bool) (i : InView) (outs : List OutView) → OneInOf (sink_row_in b Unended) (i ∷ []) outs → i ≡ Pulled
+open_waits true Pulled [] r = refl
+open_waits true Pulled (y ∷ outs) r = refl
 open_waits _ i [] r = absurd r
 open_waits _ i (y ∷ outs) r = absurd r
 
 -- a sink whose write failed does not wait
-pub fault_waits : (b : Bool) (i : InView) (outs : List OutView) → OneInOf (sink_row_in b WriteFault) (i ∷ []) outs → i ≡ Waiting → ⊥
-fault_waits true Over [] r e = cc
-fault_waits true Left [] r e = cc
-fault_waits true Waiting [] r e = r
-fault_waits true Over (y ∷ outs) r e = cc
-fault_waits true Left (y ∷ outs) r e = cc
+pub fault_waits : (b : Bool) (i : InView) (outs : List OutView) → OneInOf (sink_row_in b WriteFault) (i ∷ []) outs → i ≡ Pulled → ⊥
+fault_waits true Finished [] r e = cc
+fault_waits true Cancelled [] r e = cc
+fault_waits true Pulled [] r e = r
+fault_waits true Finished (y ∷ outs) r e = cc
+fault_waits true Cancelled (y ∷ outs) r e = cc
 fault_waits _ i [] r e = absurd r
 fault_waits _ i (y ∷ outs) r e = absurd r
 
-ignore_waits : (b : Bool) (i : InView) (outs : List OutView) → OneInOf (ignore_row_in b Unended) (i ∷ []) outs → i ≡ Waiting
-ignore_waits true Waiting [] r = refl
-ignore_waits true Waiting (y ∷ outs) r = refl
+ignore_waits : (b : Bool) (i : InView) (outs : List OutView) → OneInOf (ignore_row_in b Unended) (i ∷ []) outs → i ≡ Pulled
+ignore_waits true Pulled [] r = refl
+ignore_waits true Pulled (y ∷ outs) r = refl
 ignore_waits _ i [] r = absurd r
 ignore_waits _ i (y ∷ outs) r = absurd r
 
@@ -67,7 +67,7 @@ module _ (c : Wire) (q : Bool) (sound : IsSound c q) (b : Bool) (outs : List Out
   all_failed d is = over_same c q sound (over_failed c.inp d (rw is at as_seen)) ∙ got_count
 
   -- while it waits
-  few_more : c.inp ≡ Waiting → (length elems ≤ elements c.sent) × (elements c.sent ≤ length elems + 1)
+  few_more : c.inp ≡ Pulled → (length elems ≤ elements c.sent) × (elements c.sent ≤ length elems + 1)
   few_more w =
       let few : elements c.sent ≤ elements c.got + 1 = waiting_few c q sound w in
       let least : elements c.got ≤ elements c.sent = no_fewer c q sound in

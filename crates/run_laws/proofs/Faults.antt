@@ -6,7 +6,7 @@ use Rattle.elem_core.proofs.Prefixes.{prefix_length, prefix_whole}
 use Rattle.elem_core.specs.declared.item.Item.{Item}
 use Rattle.elem_core.specs.declared.item.Item.TheVariants as item
 use Rattle.port_core.specs.declared.view.InView.{InView}
-use Rattle.port_core.specs.declared.view.InView.TheVariants.{Waiting, Left}
+use Rattle.port_core.specs.declared.view.InView.TheVariants.{Pulled, Cancelled}
 use Rattle.port_core.specs.declared.view.OutView.{OutView}
 use Rattle.wire_core.specs.Counts.{elements}
 use Rattle.stream_model.specs.Outlook.{unended}
@@ -42,7 +42,7 @@ sent_wanted n true = omega arith
 sent_wanted n false = omega arith
 
 -- a sink whose write failed does not wait, however many ports are told of it
-no_wait : (b : Bool) (ins : List InView) (outs : List OutView) → OneInOf (sink_row_in b WriteFault) ins outs → get_or ins 0 Left ≡ Waiting → ⊥
+no_wait : (b : Bool) (ins : List InView) (outs : List OutView) → OneInOf (sink_row_in b WriteFault) ins outs → get_or ins 0 Cancelled ≡ Pulled → ⊥
 no_wait b [] outs r e = absurd r
 no_wait b (x ∷ []) outs r e = fault_waits b x outs r e
 no_wait b (x ∷ y ∷ ins) outs r e = absurd r

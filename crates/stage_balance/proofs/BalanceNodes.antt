@@ -10,12 +10,12 @@ use Rattle.elem_core.specs.declared.item.Item.TheVariants as item
 use Rattle.elem_core.specs.declared.why.Decider.{Decider}
 use Rattle.port_core.specs.declared.act.Act.{Act}
 use Rattle.port_core.specs.declared.view.InView.{InView}
-use Rattle.port_core.specs.declared.view.InView.TheVariants.{Idle, Waiting, Over, Left}
+use Rattle.port_core.specs.declared.view.InView.TheVariants.{Idle, Pulled, Finished, Cancelled}
 use Rattle.port_core.specs.declared.view.OutView.{OutView}
-use Rattle.port_core.specs.declared.view.OutView.TheVariants.{Unasked, Asked, Shut, Refused}
+use Rattle.port_core.specs.declared.view.OutView.TheVariants as outlet
 use Rattle.port_core.specs.View as port
 use Rattle.port_core.specs.View.{View, in_at, out_at, IsOutOpen, ActsAllowed, acted, acted_all, unpulled_outs}
-use Rattle.port_core.specs.Call.{Call, starts, asks, brings, cancels, AllIdle, AllUnasked, MayCome, CallAllowed, seen, Obeys, brought_to, given_on}
+use Rattle.port_core.specs.Call.{Call, starts, pulls, arrives, cancels, AllIdle, AllUnasked, MayCome, CallAllowed, seen, Obeys, brought_to, given_on}
 use Rattle.port_core.proofs.Views.{outs_stay}
 use Rattle.stream_model.specs.declared.kind.Kind.TheVariants.{Balance}
 use Rattle.stream_model.specs.declared.kind.TheConstants.{MAX_FAN}
@@ -51,8 +51,8 @@ use Rattle.stage_balance.proofs.Balances.{balance_stands, joined_then, joined_en
 
 seen_outs : (c : Call) (v : View) → length (seen c v).outs ≡ length v.outs
 seen_outs starts v = refl
-seen_outs (asks j) v = length-set v.outs j _
-seen_outs (brings i b) v = refl
+seen_outs (pulls j) v = length-set v.outs j _
+seen_outs (arrives i b) v = refl
 seen_outs (cancels j) v = length-set v.outs j _
 
 acted_outs : (acts : List Act) (v : View) → length (acted_all v acts).outs ≡ length v.outs
@@ -123,15 +123,15 @@ module _ (c : Call) (v : View) (took : List Item) (gave : ℕ → List Item) (ac
 
 -- ---- one that is called is open
 
-no_in : (xs : List InView) (i : ℕ) (x : Item) → OneInClosed xs → port.IsInOpen (slice_index_or xs i Left) → ⊥
+no_in : (xs : List InView) (i : ℕ) (x : Item) → OneInClosed xs → port.IsInOpen (slice_index_or xs i Cancelled) → ⊥
 no_in [] i x c m = c
 no_in (y ∷ z ∷ xs) i x c m = c
 no_in (Idle ∷ []) i x c m = c
-no_in (Waiting ∷ []) i x c m = c
-no_in (Over ∷ []) zero x c m = m
-no_in (Left ∷ []) zero x c m = m
-no_in (Over ∷ []) (suc i) x c m = m
-no_in (Left ∷ []) (suc i) x c m = m
+no_in (Pulled ∷ []) i x c m = c
+no_in (Finished ∷ []) zero x c m = m
+no_in (Cancelled ∷ []) zero x c m = m
+no_in (Finished ∷ []) (suc i) x c m = m
+no_in (Cancelled ∷ []) (suc i) x c m = m
 
 comes_open : (x : Item) (p : InView) → MayCome x p → port.IsInOpen p
 comes_open (item.Elem e) p h = subst port.IsInOpen (sym h) tt
@@ -142,22 +142,22 @@ no_idle : (xs : List InView) → OneInClosed xs → AllIdle xs → ⊥
 no_idle [] c a = c
 no_idle (y ∷ z ∷ xs) c a = c
 no_idle (Idle ∷ []) c a = c
-no_idle (Waiting ∷ []) c a = c
-no_idle (Over ∷ []) c a = let x : Over ≡ Idle = a.0 in cc
-no_idle (Left ∷ []) c a = let x : Left ≡ Idle = a.0 in cc
+no_idle (Pulled ∷ []) c a = c
+no_idle (Finished ∷ []) c a = let x : Finished ≡ Idle = a.0 in cc
+no_idle (Cancelled ∷ []) c a = let x : Cancelled ≡ Idle = a.0 in cc
 
-no_out : (ys : List OutView) (j : ℕ) → OutsClosed ys → IsOutOpen (slice_index_or ys j Shut) → ⊥
+no_out : (ys : List OutView) (j : ℕ) → OutsClosed ys → IsOutOpen (slice_index_or ys j outlet.Closed) → ⊥
 no_out [] j c o = o
-no_out (Unasked ∷ ys) zero c o = c.0
-no_out (Asked ∷ ys) zero c o = c.0
-no_out (Shut ∷ ys) zero c o = o
-no_out (Refused ∷ ys) zero c o = o
+no_out (outlet.Unpulled ∷ ys) zero c o = c.0
+no_out (outlet.Available ∷ ys) zero c o = c.0
+no_out (outlet.Closed ∷ ys) zero c o = o
+no_out (outlet.Cancelled ∷ ys) zero c o = o
 no_out (y ∷ ys) (suc j) c o = no_out ys j c.1 o
 
 none_called : (call : Call) (v : View) → CallAllowed call v → AllClosed v → ⊥
 none_called starts v may c = no_idle v.ins c.0 may.0
-none_called (asks j) v may c = no_out v.outs j c.1 (subst IsOutOpen (sym may) tt)
-none_called (brings i x) v may c = no_in v.ins i x c.0 (comes_open x (in_at v i) may)
+none_called (pulls j) v may c = no_out v.outs j c.1 (subst IsOutOpen (sym may) tt)
+none_called (arrives i x) v may c = no_in v.ins i x c.0 (comes_open x (in_at v i) may)
 none_called (cancels j) v may c = no_out v.outs j c.1 may
 
 pub called_live : (l : Balancing) (c : Call) (v : View) → CallAllowed c v → row l v → l.core.live ≡ true
@@ -235,11 +235,11 @@ handled c old new acts o t = record {
 
 -- ---- before anything came
 
-idle_first : (xs : List InView) → length xs ≡ 1 → AllIdle xs → TookAs (slice_index_or xs 0 Left) unended
+idle_first : (xs : List InView) → length xs ≡ 1 → AllIdle xs → TookAs (slice_index_or xs 0 Cancelled) unended
 idle_first [] l a = absurd (omega (arith, l))
 idle_first (x ∷ xs) l a = rw a.0 refl
 
-unasked_at : (ys : List OutView) (i : ℕ) → i < length ys → AllUnasked ys → GaveAs (slice_index_or ys i Shut) unended
+unasked_at : (ys : List OutView) (i : ℕ) → i < length ys → AllUnasked ys → GaveAs (slice_index_or ys i outlet.Closed) unended
 unasked_at [] i l a = absurd (omega (arith, l))
 unasked_at (y ∷ ys) zero l a = rw a.0 refl
 unasked_at (y ∷ ys) (suc i) l a = unasked_at ys i (omega (arith, l)) a.1
@@ -289,9 +289,9 @@ started old new acts o t = record {
 
 -- ---- a new one
 
-quiet_views : (k : ℕ) → map want_view (replicate k Quiet) ≡ replicate k Unasked
+quiet_views : (k : ℕ) → map want_view (replicate k Quiet) ≡ replicate k outlet.Unpulled
 quiet_views zero = refl
-quiet_views (suc k) = ap (λ (ys : List OutView). Unasked ∷ ys) (quiet_views k)
+quiet_views (suc k) = ap (λ (ys : List OutView). outlet.Unpulled ∷ ys) (quiet_views k)
 
 none_asks : (k : ℕ) → asks_count (replicate k Quiet) ≡ 0
 none_asks zero = refl
@@ -318,19 +318,19 @@ new_may_start k l two few b =
 -- ---- it rests
 
 ins_shut : (xs : List InView) (l : List Tree) → OneInClosed xs → EachWire IsShut (own_ins xs l)
-ins_shut (Over ∷ []) l h = (refl, tt)
-ins_shut (Left ∷ []) l h = (refl, tt)
+ins_shut (Finished ∷ []) l h = (refl, tt)
+ins_shut (Cancelled ∷ []) l h = (refl, tt)
 ins_shut (Idle ∷ []) l h = absurd h
-ins_shut (Waiting ∷ []) l h = absurd h
+ins_shut (Pulled ∷ []) l h = absurd h
 ins_shut [] l h = absurd h
 ins_shut (x ∷ y ∷ xs) l h = absurd h
 
 outs_shut : (n : ℕ) (ys : List OutView) (g : ℕ → List Tree) → OutsClosed ys → EachWire IsShut (own_outs n ys g)
 outs_shut n [] g h = tt
-outs_shut n (Shut ∷ ys) g h = (refl, outs_shut (n + 1) ys g h.1)
-outs_shut n (Refused ∷ ys) g h = (refl, outs_shut (n + 1) ys g h.1)
-outs_shut n (Unasked ∷ ys) g h = absurd h.0
-outs_shut n (Asked ∷ ys) g h = absurd h.0
+outs_shut n (outlet.Closed ∷ ys) g h = (refl, outs_shut (n + 1) ys g h.1)
+outs_shut n (outlet.Cancelled ∷ ys) g h = (refl, outs_shut (n + 1) ys g h.1)
+outs_shut n (outlet.Unpulled ∷ ys) g h = absurd h.0
+outs_shut n (outlet.Available ∷ ys) g h = absurd h.0
 
 some_asked : (n : ℕ) (ws : List OutputState) (j : ℕ) (g : ℕ → List Tree) → slice_get ws j ≡ Some Asks → SomeWire IsAsked (own_outs n (map want_view ws) g)
 some_asked n [] j g h = cc
@@ -365,7 +365,7 @@ module _ (l : Core) (took : List Tree) (g : ℕ → List Tree) (s : Sound l) whe
   by_queue (j ∷ q) None e x r h =
       let some : 1 ≤ length l.queue = let n = ap length e in omega (arith, n) in
       let on : l.pulled ≡ true = h.1 some in
-      let waits_now : own_input (input_of l.over l.pulled) took ≡ own_input Waiting took = rw (h.0, on) refl in
+      let waits_now : own_input (input_of l.over l.pulled) took ≡ own_input Pulled took = rw (h.0, on) refl in
       subst (λ i. BalanceRests i (own_outs 0 (map want_view l.outs) g)) (sym waits_now) (inl (some_asked 0 l.outs j g r.0, (refl, refl)))
   by_queue (j ∷ q) (Some t) e x r h = let z : j ∷ q ≡ [] = sym e ∙ h.0 in cc
 

@@ -10,12 +10,12 @@ use Rattle.elem_core.specs.declared.item.Item.TheVariants as item
 use Rattle.port_core.specs.Picks.{Picks}
 use Rattle.port_core.specs.declared.act.Act.{Act}
 use Rattle.port_core.specs.declared.act.Act.TheVariants.{Pull, Push, Complete, FailOut, Cancel}
-use Rattle.port_core.specs.declared.view.InView.TheVariants.{Idle, Waiting, Over, Left}
+use Rattle.port_core.specs.declared.view.InView.TheVariants.{Idle, Pulled, Finished, Cancelled}
 use Rattle.port_core.specs.declared.view.OutView.{OutView}
-use Rattle.port_core.specs.declared.view.OutView.TheVariants.{Unasked, Refused}
+use Rattle.port_core.specs.declared.view.OutView.TheVariants as outlet
 use Rattle.port_core.specs.View.{View, IsInOpen, ActsAllowed, acted_all}
-use Rattle.port_core.specs.Asking.{AsksStand}
-use Rattle.port_core.specs.Call.{asks, brings, cancels, Meets, given_on}
+use Rattle.port_core.specs.Asking.{PullsStand}
+use Rattle.port_core.specs.Call.{pulls, arrives, cancels, Meets, given_on}
 use Rattle.stream_model.specs.Outlook.{End, unended, ended, failed}
 use Rattle.stream_model.specs.FanIn.{Inflow}
 use Rattle.stage_core.specs.Handling.{Pulls}
@@ -34,16 +34,16 @@ use Rattle.stage_balance.proofs.Handlings.{is_standing, Found, found, Handled, h
 
 -- ---- the one input
 
-waits_asked : (b p : Bool) → input_of b p ≡ Waiting → (b ≡ false) × (p ≡ true)
+waits_asked : (b p : Bool) → input_of b p ≡ Pulled → (b ≡ false) × (p ≡ true)
 waits_asked true p h = cc
 waits_asked false true h = (refl, refl)
 waits_asked false false h = cc
 
-one_port : (b p : Bool) (i : ℕ) → slice_index_or (input_of b p ∷ []) i Left ≡ Waiting → (i ≡ 0) × ((b ≡ false) × (p ≡ true))
+one_port : (b p : Bool) (i : ℕ) → slice_index_or (input_of b p ∷ []) i Cancelled ≡ Pulled → (i ≡ 0) × ((b ≡ false) × (p ≡ true))
 one_port b p zero h = (refl, waits_asked b p h)
 one_port b p (suc i) h = cc
 
-open_port : (b p : Bool) (i : ℕ) → IsInOpen (slice_index_or (input_of b p ∷ []) i Left) → (i ≡ 0) × (b ≡ false)
+open_port : (b p : Bool) (i : ℕ) → IsInOpen (slice_index_or (input_of b p ∷ []) i Cancelled) → (i ≡ 0) × (b ≡ false)
 open_port true p zero h = absurd h
 open_port false p zero h = (refl, refl)
 open_port b p (suc i) h = absurd h
@@ -93,45 +93,45 @@ module _ (old : Balancing) (t : Tree) (log : Picks) (h : old.core.live ≡ true)
         (one_turn old.log.moves log.moves (joined (waited old.core) (flow_of (item.Elem t))) (waited to.core) j t (λ k. given_on k acts) (ap (λ (f : Inflow). f.list) came_is) (ap waited_by none_waits)
         (ap end_by off ∙ sym (ap (λ (f : Inflow). f.end) came_is)) grown (λ k. gives k ∙ push_told (j == k) t unended [] refl))
 
-    pushed_outs : slice_set (map want_view old.core.outs) j Unasked ≡ map want_view (slice_set old.core.outs j Quiet)
+    pushed_outs : slice_set (map want_view old.core.outs) j outlet.Unpulled ≡ map want_view (slice_set old.core.outs j Quiet)
     pushed_outs = want_set old.core.outs j Quiet
 
     ports_there : j < length old.core.outs
     ports_there = slice_get_within old.core.outs j Asks asks_first
 
-    went_alone : pulled ≡ false → Handled (brings 0 (item.Elem t)) old (Push j t ∷ []) to
-    went_alone e = handle (brings 0 (item.Elem t)) old to (Push j t ∷ []) h (record {
+    went_alone : pulled ≡ false → Handled (arrives 0 (item.Elem t)) old (Push j t ∷ []) to
+    went_alone e = handle (arrives 0 (item.Elem t)) old to (Push j t ∷ []) h (record {
       allowed = (view_at old.core.outs j Asks asks_first, tt);
       row_then = is_standing to (acted_all idle_view (Push j t ∷ [])) h (rw (off, e) (ap (λ (ys : List OutView). record { ins = Idle ∷ []; outs = ys }) pushed_outs)) sound_then;
       turn = went (Push j t ∷ []) (λ k. refl);
       outputs = long;
       stands = tt;
-      asks = λ p. absurd p;
+      pulls = λ p. absurd p;
       more = j ∷ [];
       grows = grown;
       named = named_one j (length old.core.outs) ports_there;
     })
 
-    went_again : pulled ≡ true → (k : ℕ) → slice_get (slice_set old.core.outs j Quiet) k ≡ Some Asks → Handled (brings 0 (item.Elem t)) old (Push j t ∷ Pull 0 ∷ []) to
+    went_again : pulled ≡ true → (k : ℕ) → slice_get (slice_set old.core.outs j Quiet) k ≡ Some Asks → Handled (arrives 0 (item.Elem t)) old (Push j t ∷ Pull 0 ∷ []) to
     went_again e k asks_next =
-        let then_is : acted_all idle_view (Push j t ∷ Pull 0 ∷ []) ≡ view_of to.core = rw (off, e) (ap (λ (ys : List OutView). record { ins = Waiting ∷ []; outs = ys }) pushed_outs) in
-        handle (brings 0 (item.Elem t)) old to (Push j t ∷ Pull 0 ∷ []) h (record {
+        let then_is : acted_all idle_view (Push j t ∷ Pull 0 ∷ []) ≡ view_of to.core = rw (off, e) (ap (λ (ys : List OutView). record { ins = Pulled ∷ []; outs = ys }) pushed_outs) in
+        handle (arrives 0 (item.Elem t)) old to (Push j t ∷ Pull 0 ∷ []) h (record {
           allowed = (view_at old.core.outs j Asks asks_first, (refl, tt));
           row_then = is_standing to (acted_all idle_view (Push j t ∷ Pull 0 ∷ [])) h then_is sound_then;
           turn = went (Push j t ∷ Pull 0 ∷ []) (λ k. refl);
           outputs = long;
           stands = (tt, tt);
-          asks = λ p. subst (λ (w : View). SomeAsked w) (sym then_is) (k, view_at (slice_set old.core.outs j Quiet) k Asks asks_next);
+          pulls = λ p. subst (λ (w : View). SomeAsked w) (sym then_is) (k, view_at (slice_set old.core.outs j Quiet) k Asks asks_next);
           more = j ∷ [];
           grows = grown;
           named = named_one j (length old.core.outs) ports_there;
         })
 
-  kept_back : log.moves ≡ old.log.moves → old.core.queue ≡ [] → Handled (brings 0 (item.Elem t)) old [] (filled t (record old { log = log }))
+  kept_back : log.moves ≡ old.log.moves → old.core.queue ≡ [] → Handled (arrives 0 (item.Elem t)) old [] (filled t (record old { log = log }))
   kept_back same empty =
       let to : Balancing = filled t (record old { log = log }) in
       let s : Sound to.core = record { queued = sound.queued; holds = (empty, refl); count = sound.count; some = sound.some; few = sound.few; roomy = sound.roomy } in
-      handle (brings 0 (item.Elem t)) old to [] h (record {
+      handle (arrives 0 (item.Elem t)) old to [] h (record {
         allowed = tt;
         row_then = is_standing to idle_view h (rw off refl) s;
         turn = turn_open old.log.moves (waited old.core) (flow_of (item.Elem t)) (λ k. []) to h
@@ -139,20 +139,20 @@ module _ (old : Balancing) (t : Tree) (log : Picks) (h : old.core.live ≡ true)
             (quiet old.log.moves (joined (waited old.core) (flow_of (item.Elem t))) (λ k. []) (waited to.core) (λ k. refl) (came_is ∙ rw off refl)));
         outputs = refl;
         stands = tt;
-        asks = λ p. absurd p;
+        pulls = λ p. absurd p;
         more = [];
         grows = same ∙ sym (append-nil old.log.moves);
         named = refl;
       })
 
-pub first_there : (l : Balancing) (i : ℕ) (t : Tree) → l.core.live ≡ true → Meets (brings i (item.Elem t)) (row l) → (j : ℕ) (q : List ℕ) → l.core.queue ≡ j ∷ q → j < length l.core.outs
-first_there l i t h m j q e = slice_get_within l.core.outs j Asks (subst (λ (k : List ℕ). Queued l.core.outs k) e (found (brings i (item.Elem t)) l h m).sound.queued).0
+pub first_there : (l : Balancing) (i : ℕ) (t : Tree) → l.core.live ≡ true → Meets (arrives i (item.Elem t)) (row l) → (j : ℕ) (q : List ℕ) → l.core.queue ≡ j ∷ q → j < length l.core.outs
+first_there l i t h m j q e = slice_get_within l.core.outs j Asks (subst (λ (k : List ℕ). Queued l.core.outs k) e (found (arrives i (item.Elem t)) l h m).sound.queued).0
 
-pub took : (old mid new : Balancing) (acts : List Act) (i : ℕ) (t : Tree) → old.core.live ≡ true → mid ≡ record old { log = mid.log } → mid.log.moves ≡ old.log.moves → Meets (brings i (item.Elem t)) (row old) → Took t mid new acts → Handled (brings i (item.Elem t)) old acts new
-took old mid new acts i t h is same m a = subst (λ n. Handled (brings n (item.Elem t)) old acts new) (sym p.0) (by_took (subst (λ l. Took t l new acts) is a))
+pub took : (old mid new : Balancing) (acts : List Act) (i : ℕ) (t : Tree) → old.core.live ≡ true → mid ≡ record old { log = mid.log } → mid.log.moves ≡ old.log.moves → Meets (arrives i (item.Elem t)) (row old) → Took t mid new acts → Handled (arrives i (item.Elem t)) old acts new
+took old mid new acts i t h is same m a = subst (λ n. Handled (arrives n (item.Elem t)) old acts new) (sym p.0) (by_took (subst (λ l. Took t l new acts) is a))
   where
-    f : Found (brings i (item.Elem t)) old
-    f = found (brings i (item.Elem t)) old h m
+    f : Found (arrives i (item.Elem t)) old
+    f = found (arrives i (item.Elem t)) old h m
 
     p : (i ≡ 0) × ((old.core.over ≡ false) × (old.core.pulled ≡ true))
     p = one_port old.core.over old.core.pulled i f.may
@@ -161,7 +161,7 @@ took old mid new acts i t h is same m a = subst (λ n. Handled (brings n (item.E
     next_asks j [] e n = absurd (n refl)
     next_asks j (k ∷ q) e n = (k, (subst (λ (x : List ℕ). Queued old.core.outs x) e f.sound.queued).1.0)
 
-    by_took : Took t (record old { log = mid.log }) new acts → Handled (brings 0 (item.Elem t)) old acts new
+    by_took : Took t (record old { log = mid.log }) new acts → Handled (arrives 0 (item.Elem t)) old acts new
     by_took (alone j first grown d) = rw (d.to_is, d.acts_are) (went_alone old t new.log h f.sound p.1.0 p.1.1 j [] false first (grown ∙ ap (λ (ms : List ℕ). ms ++ j ∷ []) same) (λ k. absurd (omega (arith, k))) refl)
     by_took (again j q first n grown d) =
         let k = next_asks j q first n in
@@ -187,33 +187,33 @@ first_served old mid new acts t is same a j q at = by_took (subst (λ l. Took t 
 
 module _ (old : Balancing) (h : old.core.live ≡ true) (sound : Sound old.core) (off : old.core.over ≡ false) where
   abbrev over_view : View
-  over_view = record { ins = Over ∷ []; outs = map want_view old.core.outs }
+  over_view = record { ins = Finished ∷ []; outs = map want_view old.core.outs }
 
   -- what waits, and the end that comes behind it
   ends_as : (e : End) → joined (waited old.core) (record { list = []; end = e }) ≡ record { list = waited_by old.core.waiting; end = e }
   ends_as e = rw off (ap (λ (l : List Tree). record { list = l; end = e }) (append-nil (waited_by old.core.waiting)))
 
-  end_later : (t : Tree) → old.core.waiting ≡ Some t → Handled (brings 0 item.Ended) old [] (record old { core = record old.core { over = true } })
+  end_later : (t : Tree) → old.core.waiting ≡ Some t → Handled (arrives 0 item.Ended) old [] (record old { core = record old.core { over = true } })
   end_later t w =
       let to : Balancing = record old { core = record old.core { over = true } } in
       let held_some : Holding (Some t) old.core = subst (λ x. Holding x old.core) w sound.holds in
       let s : Sound to.core = record { queued = sound.queued; holds = subst (λ x. Holding x to.core) (sym w) (held_some.0, held_some.1); count = sound.count; some = sound.some; few = sound.few; roomy = sound.roomy } in
-      handle (brings 0 item.Ended) old to [] h (record {
+      handle (arrives 0 item.Ended) old to [] h (record {
         allowed = tt;
         row_then = is_standing to over_view h refl s;
         turn = turn_open old.log.moves (waited old.core) (flow_of item.Ended) (λ k. []) to h (quiet old.log.moves (joined (waited old.core) (flow_of item.Ended)) (λ k. []) (waited to.core) (λ k. refl) (ends_as ended));
         outputs = refl;
         stands = tt;
-        asks = λ p. absurd p;
+        pulls = λ p. absurd p;
         more = [];
         grows = sym (append-nil old.log.moves);
         named = refl;
       })
 
-  end_now : old.core.waiting ≡ None → Handled (brings 0 item.Ended) old (at_open (λ k. Complete k) 0 old.core.outs) (closed old)
+  end_now : old.core.waiting ≡ None → Handled (arrives 0 item.Ended) old (at_open (λ k. Complete k) 0 old.core.outs) (closed old)
   end_now none =
       let ends : List Act = at_open (λ k. Complete k) 0 old.core.outs in
-      let a = completes_all Over old.core.outs in
+      let a = completes_all Finished old.core.outs in
       let close : BalanceClose old.log.moves (joined (waited old.core) (flow_of item.Ended)) (λ k. given_on k ends) old.log.moves = record {
         more = [];
         given = λ k. [];
@@ -225,13 +225,13 @@ module _ (old : Balancing) (h : old.core.live ≡ true) (sound : Sound old.core)
         completes = λ k e. (ap (λ (f : Inflow). f.end) (ends_as ended), refl);
         fails = λ k c e. absurd (completed item.Ended (given_on k ends) c (completions k old.core.outs) e);
       } in
-      handle (brings 0 item.Ended) old (closed old) ends h (record {
+      handle (arrives 0 item.Ended) old (closed old) ends h (record {
         allowed = a.allowed;
         row_then = subst (λ (w : View). AllClosed w) (sym a.then_is) (tt, shut_views old.core.outs);
         turn = close;
         outputs = refl;
         stands = a.stands;
-        asks = λ p. absurd (a.quiet p);
+        pulls = λ p. absurd (a.quiet p);
         more = [];
         grows = sym (append-nil old.log.moves);
         named = refl;
@@ -241,10 +241,10 @@ module _ (old : Balancing) (h : old.core.live ≡ true) (sound : Sound old.core)
   short None = omega arith
   short (Some t) = omega arith
 
-  fail_now : (c : Cause) → Handled (brings 0 (item.Failed c)) old (at_open (λ k. FailOut k c) 0 old.core.outs) (closed old)
+  fail_now : (c : Cause) → Handled (arrives 0 (item.Failed c)) old (at_open (λ k. FailOut k c) 0 old.core.outs) (closed old)
   fail_now c =
       let ends : List Act = at_open (λ k. FailOut k c) 0 old.core.outs in
-      let a = fails_all c Over old.core.outs in
+      let a = fails_all c Finished old.core.outs in
       let close : BalanceClose old.log.moves (joined (waited old.core) (flow_of (item.Failed c))) (λ k. given_on k ends) old.log.moves = record {
         more = [];
         given = λ k. [];
@@ -256,46 +256,46 @@ module _ (old : Balancing) (h : old.core.live ≡ true) (sound : Sound old.core)
         completes = λ k e. absurd (broke (item.Failed c) (given_on k ends) c (failures c k old.core.outs) e);
         fails = λ k d e. (ap (λ (f : Inflow). f.end) (ends_as (failed c)) ∙ broke_by (item.Failed c) (given_on k ends) c d (failures c k old.core.outs) e, short old.core.waiting);
       } in
-      handle (brings 0 (item.Failed c)) old (closed old) ends h (record {
+      handle (arrives 0 (item.Failed c)) old (closed old) ends h (record {
         allowed = a.allowed;
         row_then = subst (λ (w : View). AllClosed w) (sym a.then_is) (tt, shut_views old.core.outs);
         turn = close;
         outputs = refl;
         stands = a.stands;
-        asks = λ p. absurd (a.quiet p);
+        pulls = λ p. absurd (a.quiet p);
         more = [];
         grows = sym (append-nil old.log.moves);
         named = refl;
       })
 
-pub few_brought : (l : Balancing) (i : ℕ) (b : Item) → l.core.live ≡ true → Meets (brings i b) (row l) → length l.core.outs ≤ 16
-few_brought l i b h m = (found (brings i b) l h m).sound.few
+pub few_brought : (l : Balancing) (i : ℕ) (b : Item) → l.core.live ≡ true → Meets (arrives i b) (row l) → length l.core.outs ≤ 16
+few_brought l i b h m = (found (arrives i b) l h m).sound.few
 
-pub few_asked : (l : Balancing) (j : ℕ) → l.core.live ≡ true → Meets (asks j) (row l) → length l.core.outs ≤ 16
-few_asked l j h m = (found (asks j) l h m).sound.few
+pub few_asked : (l : Balancing) (j : ℕ) → l.core.live ≡ true → Meets (pulls j) (row l) → length l.core.outs ≤ 16
+few_asked l j h m = (found (pulls j) l h m).sound.few
 
-pub finished : (old new : Balancing) (acts : List Act) (i : ℕ) → old.core.live ≡ true → Meets (brings i item.Ended) (row old) → Ended old new acts → Handled (brings i item.Ended) old acts new
-finished old new acts i h m e = subst (λ n. Handled (brings n item.Ended) old acts new) (sym p.0) (by_end e)
+pub finished : (old new : Balancing) (acts : List Act) (i : ℕ) → old.core.live ≡ true → Meets (arrives i item.Ended) (row old) → Ended old new acts → Handled (arrives i item.Ended) old acts new
+finished old new acts i h m e = subst (λ n. Handled (arrives n item.Ended) old acts new) (sym p.0) (by_end e)
   where
-    f : Found (brings i item.Ended) old
-    f = found (brings i item.Ended) old h m
+    f : Found (arrives i item.Ended) old
+    f = found (arrives i item.Ended) old h m
 
     p : (i ≡ 0) × (old.core.over ≡ false)
     p = open_port old.core.over old.core.pulled i f.may
 
-    some_waits : (w : Option Tree) → old.core.waiting ≡ w → old.core.waiting ≢ None → Handled (brings 0 item.Ended) old [] (record old { core = record old.core { over = true } })
+    some_waits : (w : Option Tree) → old.core.waiting ≡ w → old.core.waiting ≢ None → Handled (arrives 0 item.Ended) old [] (record old { core = record old.core { over = true } })
     some_waits None e n = absurd (n e)
     some_waits (Some t) e n = end_later old h f.sound p.1 t e
 
-    by_end : Ended old new acts → Handled (brings 0 item.Ended) old acts new
+    by_end : Ended old new acts → Handled (arrives 0 item.Ended) old acts new
     by_end (end_waits n d) = rw (d.to_is, d.acts_are) (some_waits old.core.waiting refl n)
     by_end (end_passes none d) = rw (d.to_is, d.acts_are) (end_now old h f.sound p.1 none)
 
-pub failed_on : (old new : Balancing) (acts : List Act) (i : ℕ) (c : Cause) → old.core.live ≡ true → Meets (brings i (item.Failed c)) (row old) → Does new acts (closed old) (at_open (λ k. FailOut k c) 0 old.core.outs) → Handled (brings i (item.Failed c)) old acts new
+pub failed_on : (old new : Balancing) (acts : List Act) (i : ℕ) (c : Cause) → old.core.live ≡ true → Meets (arrives i (item.Failed c)) (row old) → Does new acts (closed old) (at_open (λ k. FailOut k c) 0 old.core.outs) → Handled (arrives i (item.Failed c)) old acts new
 failed_on old new acts i c h m d =
-    let f = found (brings i (item.Failed c)) old h m in
+    let f = found (arrives i (item.Failed c)) old h m in
     let p = open_port old.core.over old.core.pulled i f.may in
-    rw (d.to_is, d.acts_are) (subst (λ n. Handled (brings n (item.Failed c)) old (at_open (λ k. FailOut k c) 0 old.core.outs) (closed old)) (sym p.0) (fail_now old h f.sound p.1 c))
+    rw (d.to_is, d.acts_are) (subst (λ n. Handled (arrives n (item.Failed c)) old (at_open (λ k. FailOut k c) 0 old.core.outs) (closed old)) (sym p.0) (fail_now old h f.sound p.1 c))
 
 -- ---- a cancel
 
@@ -314,9 +314,9 @@ cancel_by b = if b then [] else Cancel 0 ∷ []
 
 module _ (old : Balancing) (j : ℕ) (h : old.core.live ≡ true) (sound : Sound old.core) (was : (slice_get old.core.outs j ≡ Some Quiet) ⊎ (slice_get old.core.outs j ≡ Some Asks)) where
   abbrev lost_view : View
-  lost_view = record { ins = input_of old.core.over old.core.pulled ∷ []; outs = slice_set (map want_view old.core.outs) j Refused }
+  lost_view = record { ins = input_of old.core.over old.core.pulled ∷ []; outs = slice_set (map want_view old.core.outs) j outlet.Cancelled }
 
-  lost_outs : slice_set (map want_view old.core.outs) j Refused ≡ map want_view (slice_set old.core.outs j Gone)
+  lost_outs : slice_set (map want_view old.core.outs) j outlet.Cancelled ≡ map want_view (slice_set old.core.outs j Gone)
   lost_outs = want_set old.core.outs j Gone
 
   one_open : open_count old.core.outs ≡ suc (open_count (slice_set old.core.outs j Gone))
@@ -328,8 +328,8 @@ module _ (old : Balancing) (j : ℕ) (h : old.core.live ≡ true) (sound : Sound
   last_lost : old.core.open_outs ≡ 1 → Handled (cancels j) old (cancel_by old.core.over) (closed (without j old))
   last_lost one =
       let none : open_count (slice_set old.core.outs j Gone) ≡ 0 = let a = one_open in let b = sound.count in omega (arith, a, b, one) in
-      let outs_closed : OutsClosed (slice_set (map want_view old.core.outs) j Refused) = subst (λ (ys : List OutView). OutsClosed ys) (sym lost_outs) (gone_views (slice_set old.core.outs j Gone) none) in
-      let c = cancelled old.core.over old.core.pulled (slice_set (map want_view old.core.outs) j Refused) outs_closed in
+      let outs_closed : OutsClosed (slice_set (map want_view old.core.outs) j outlet.Cancelled) = subst (λ (ys : List OutView). OutsClosed ys) (sym lost_outs) (gone_views (slice_set old.core.outs j Gone) none) in
+      let c = cancelled old.core.over old.core.pulled (slice_set (map want_view old.core.outs) j outlet.Cancelled) outs_closed in
       let close : BalanceClose old.log.moves (joined (waited old.core) nothing) (λ k. given_on k (cancel_by old.core.over)) old.log.moves = record {
         more = [];
         given = λ k. [];
@@ -347,7 +347,7 @@ module _ (old : Balancing) (j : ℕ) (h : old.core.live ≡ true) (sound : Sound
         turn = close;
         outputs = lost_long;
         stands = cancel_stands old.core.over;
-        asks = λ p. absurd (no_pull old.core.over p);
+        pulls = λ p. absurd (no_pull old.core.over p);
         more = [];
         grows = sym (append-nil old.log.moves);
         named = refl;
@@ -362,7 +362,7 @@ module _ (old : Balancing) (j : ℕ) (h : old.core.live ≡ true) (sound : Sound
       none_given true k = refl
       none_given false k = refl
 
-      cancel_stands : (o : Bool) → AsksStand (cancel_by o)
+      cancel_stands : (o : Bool) → PullsStand (cancel_by o)
       cancel_stands true = tt
       cancel_stands false = tt
 
@@ -391,7 +391,7 @@ module _ (old : Balancing) (j : ℕ) (h : old.core.live ≡ true) (sound : Sound
         turn = turn_open old.log.moves (waited old.core) nothing (λ k. []) to h (quiet old.log.moves (joined (waited old.core) nothing) (λ k. []) (waited to.core) (λ k. refl) (joined-nothing (waited old.core)));
         outputs = lost_long;
         stands = tt;
-        asks = λ p. absurd p;
+        pulls = λ p. absurd p;
         more = [];
         grows = sym (append-nil old.log.moves);
         named = refl;

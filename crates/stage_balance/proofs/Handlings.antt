@@ -12,12 +12,12 @@ use Rattle.port_core.specs.Picks.{Picks}
 use Rattle.port_core.specs.declared.act.Act.{Act}
 use Rattle.port_core.specs.declared.act.Act.TheVariants.{Pull, Push, Complete, FailOut}
 use Rattle.port_core.specs.declared.view.InView.{InView}
-use Rattle.port_core.specs.declared.view.InView.TheVariants.{Waiting}
+use Rattle.port_core.specs.declared.view.InView.TheVariants.{Pulled}
 use Rattle.port_core.specs.declared.view.OutView.{OutView}
-use Rattle.port_core.specs.declared.view.OutView.TheVariants.{Unasked, Asked, Shut}
+use Rattle.port_core.specs.declared.view.OutView.TheVariants.{Unpulled, Available, Closed}
 use Rattle.port_core.specs.View.{View, ActsAllowed, acted_all}
-use Rattle.port_core.specs.Asking.{AsksStand}
-use Rattle.port_core.specs.Call.{Call, starts, asks, CallAllowed, seen, Obeys, Meets, given_on}
+use Rattle.port_core.specs.Asking.{PullsStand}
+use Rattle.port_core.specs.Call.{Call, starts, pulls, CallAllowed, seen, Obeys, Meets, given_on}
 use Rattle.stream_model.specs.Outlook.{End, unended, ended, failed}
 use Rattle.stream_model.specs.FanIn.{Inflow}
 use Rattle.stream_model.specs.Picks.{all_below, sent_to}
@@ -60,8 +60,8 @@ pub record At (call : Call) (r : Inflow) (v : View) (old new : Balancing) (acts 
   pub row_then : row new (acted_all v acts)
   pub turn : BalanceTurnBy r (waits old.log.moves (waited old.core)) (λ j. given_on j acts) (held new)
   pub outputs : length new.core.outs ≡ length old.core.outs
-  pub stands : AsksStand acts
-  pub asks : Pulls acts → SomeAsked (acted_all v acts)
+  pub stands : PullsStand acts
+  pub pulls : Pulls acts → SomeAsked (acted_all v acts)
   pub more : List ℕ
   pub grows : new.log.moves ≡ old.log.moves ++ more
   pub named : all_below (length old.core.outs) more ≡ true
@@ -81,7 +81,7 @@ handle call old new acts h a = record {
     turn = subst (λ b. BalanceTurnBy (coming call 0) (held_by b old.log.moves old.core) (λ j. given_on j acts) (held new)) (sym h) a.turn;
     outputs = a.outputs;
     stands = a.stands;
-    asks = λ v may r p. let s = standing old v h r in subst (λ w. SomeAsked (acted_all (seen call w) acts)) (sym s.0) (a.asks p);
+    pulls = λ v may r p. let s = standing old v h r in subst (λ w. SomeAsked (acted_all (seen call w) acts)) (sym s.0) (a.pulls p);
     more = a.more;
     grows = a.grows;
     named = a.named;
@@ -163,10 +163,10 @@ completions k ws = given_each (λ j. Complete j) item.Ended (λ k n. refl) k 0 w
 pub failures : (c : Cause) (k : ℕ) (ws : List OutputState) → GivenAt (item.Failed c) (given_on k (at_open (λ j. FailOut j c) 0 ws))
 failures c k ws = given_each (λ j. FailOut j c) (item.Failed c) (λ k n. refl) k 0 ws
 
-pub completes_all : (x : InView) (ws : List OutputState) → Acted (record { ins = x ∷ []; outs = map want_view ws }) (at_open (λ j. Complete j) 0 ws) (map (after_one Shut) ws)
+pub completes_all : (x : InView) (ws : List OutputState) → Acted (record { ins = x ∷ []; outs = map want_view ws }) (at_open (λ j. Complete j) 0 ws) (map (after_one Closed) ws)
 completes_all x ws = acts_from (λ j. Complete j) (λ v n p. p) (λ v n. refl) (λ n acts s. s) (λ n acts q p. q p) (x ∷ []) ws 0 [] refl
 
-pub fails_all : (c : Cause) (x : InView) (ws : List OutputState) → Acted (record { ins = x ∷ []; outs = map want_view ws }) (at_open (λ j. FailOut j c) 0 ws) (map (after_one Shut) ws)
+pub fails_all : (c : Cause) (x : InView) (ws : List OutputState) → Acted (record { ins = x ∷ []; outs = map want_view ws }) (at_open (λ j. FailOut j c) 0 ws) (map (after_one Closed) ws)
 fails_all c x ws = acts_from (λ j. FailOut j c) (λ v n p. p) (λ v n. refl) (λ n acts s. s) (λ n acts q p. q p) (x ∷ []) ws 0 [] refl
 
 over_closed : (x : InView) (b p : Bool) → x ≡ input_of b p → b ≡ true → OneInClosed (x ∷ [])
@@ -184,7 +184,7 @@ started_on l h m =
       turn = turn_open l.log.moves (waited l.core) nothing (λ j. []) l h (quiet l.log.moves (joined (waited l.core) nothing) (λ j. []) (waited l.core) (λ j. refl) (joined-nothing (waited l.core)));
       outputs = refl;
       stands = tt;
-      asks = λ p. absurd p;
+      pulls = λ p. absurd p;
       more = [];
       grows = sym (append-nil l.log.moves);
       named = refl;
@@ -195,26 +195,26 @@ started l acts e h m = subst (λ (a : List Act). Handled starts l a l) (sym e) (
 
 -- ---- an output asks
 
-pub asked_there : (l : Balancing) (j : ℕ) → l.core.live ≡ true → Meets (asks j) (row l) → j < length l.core.outs
-asked_there l j h m = slice_get_within l.core.outs j Quiet (is_quiet l.core.outs j (found (asks j) l h m).may)
+pub asked_there : (l : Balancing) (j : ℕ) → l.core.live ≡ true → Meets (pulls j) (row l) → j < length l.core.outs
+asked_there l j h m = slice_get_within l.core.outs j Quiet (is_quiet l.core.outs j (found (pulls j) l h m).may)
 
-pub asked_fits : (l : Balancing) (j : ℕ) → l.core.live ≡ true → Meets (asks j) (row l) → length l.core.queue < l.core.room
+pub asked_fits : (l : Balancing) (j : ℕ) → l.core.live ≡ true → Meets (pulls j) (row l) → length l.core.queue < l.core.room
 asked_fits l j h m =
-    let f = found (asks j) l h m in
+    let f = found (pulls j) l h m in
     let a = queue_fits l.core.outs l.core.queue j (is_quiet l.core.outs j f.may) f.sound.queued in
     let b = f.sound.roomy in
     omega (arith, a, b)
 
 module _ (old : Balancing) (j : ℕ) (h : old.core.live ≡ true) (q : slice_get old.core.outs j ≡ Some Quiet) (sound : Sound old.core) where
   abbrev asked_view : View
-  asked_view = record { ins = input_of old.core.over old.core.pulled ∷ []; outs = slice_set (map want_view old.core.outs) j Asked }
+  asked_view = record { ins = input_of old.core.over old.core.pulled ∷ []; outs = slice_set (map want_view old.core.outs) j Available }
 
   there : j < length old.core.outs
   there = slice_get_within old.core.outs j Quiet q
 
   -- once it got an element it stands as before
-  pushed_back : slice_set (slice_set (map want_view old.core.outs) j Asked) j Unasked ≡ map want_view old.core.outs
-  pushed_back = view_twice (map want_view old.core.outs) j Asked Unasked ∙ want_set old.core.outs j Quiet ∙ ap (λ (ws : List OutputState). map want_view ws) (set_self old.core.outs j Quiet q)
+  pushed_back : slice_set (slice_set (map want_view old.core.outs) j Available) j Unpulled ≡ map want_view old.core.outs
+  pushed_back = view_twice (map want_view old.core.outs) j Available Unpulled ∙ want_set old.core.outs j Quiet ∙ ap (λ (ws : List OutputState). map want_view ws) (set_self old.core.outs j Quiet q)
 
   waits_one : (t : Tree) → old.core.waiting ≡ Some t → (joined (waited old.core) nothing).list ≡ t ∷ []
   waits_one t w = ap (λ (f : Inflow). f.list) (joined-nothing (waited old.core)) ∙ ap waited_by w
@@ -222,7 +222,7 @@ module _ (old : Balancing) (j : ℕ) (h : old.core.live ≡ true) (q : slice_get
   none_queued : (t : Tree) → old.core.waiting ≡ Some t → old.core.queue ≡ []
   none_queued t w = let s : Holding (Some t) old.core = subst (λ x. Holding x old.core) w sound.holds in s.0
 
-  given_now : (t : Tree) (log : Picks) → old.core.waiting ≡ Some t → log.moves ≡ old.log.moves ++ j ∷ [] → old.core.over ≡ false → Handled (asks j) old (Push j t ∷ []) (emptied log old)
+  given_now : (t : Tree) (log : Picks) → old.core.waiting ≡ Some t → log.moves ≡ old.log.moves ++ j ∷ [] → old.core.over ≡ false → Handled (pulls j) old (Push j t ∷ []) (emptied log old)
   given_now t log w grown off =
       let s : Sound (emptied log old).core = record {
         queued = sound.queued;
@@ -232,7 +232,7 @@ module _ (old : Balancing) (j : ℕ) (h : old.core.live ≡ true) (q : slice_get
         few = sound.few;
         roomy = sound.roomy;
       } in
-      handle (asks j) old (emptied log old) (Push j t ∷ []) h (record {
+      handle (pulls j) old (emptied log old) (Push j t ∷ []) h (record {
         allowed = (asked_at old.core.outs j Quiet q, tt);
         row_then = is_standing (emptied log old) (acted_all asked_view (Push j t ∷ [])) h (ap (λ (ys : List OutView). record { ins = input_of old.core.over old.core.pulled ∷ []; outs = ys }) pushed_back) s;
         turn = turn_open old.log.moves (waited old.core) nothing (λ k. given_on k (Push j t ∷ [])) (emptied log old) h
@@ -240,18 +240,18 @@ module _ (old : Balancing) (j : ℕ) (h : old.core.live ≡ true) (q : slice_get
             (sym (ap (λ (f : Inflow). f.end) (joined-nothing (waited old.core)))) grown (λ k. push_told (j == k) t unended [] refl));
         outputs = refl;
         stands = tt;
-        asks = λ p. absurd p;
+        pulls = λ p. absurd p;
         more = j ∷ [];
         grows = grown;
         named = named_one j (length old.core.outs) there;
       })
 
-  given_last : (t : Tree) (log : Picks) → old.core.waiting ≡ Some t → log.moves ≡ old.log.moves ++ j ∷ [] → old.core.over ≡ true → Handled (asks j) old (Push j t ∷ at_open (λ k. Complete k) 0 old.core.outs) (closed (emptied log old))
+  given_last : (t : Tree) (log : Picks) → old.core.waiting ≡ Some t → log.moves ≡ old.log.moves ++ j ∷ [] → old.core.over ≡ true → Handled (pulls j) old (Push j t ∷ at_open (λ k. Complete k) 0 old.core.outs) (closed (emptied log old))
   given_last t log w grown on =
       let ends : List Act = at_open (λ k. Complete k) 0 old.core.outs in
       let x : InView = input_of old.core.over old.core.pulled in
       let a = completes_all x old.core.outs in
-      let v : ◌≡◌ {A = View} (record { ins = x ∷ []; outs = slice_set (slice_set (map want_view old.core.outs) j Asked) j Unasked }) (record { ins = x ∷ []; outs = map want_view old.core.outs }) =
+      let v : ◌≡◌ {A = View} (record { ins = x ∷ []; outs = slice_set (slice_set (map want_view old.core.outs) j Available) j Unpulled }) (record { ins = x ∷ []; outs = map want_view old.core.outs }) =
       ap (λ (ys : List OutView). record { ins = x ∷ []; outs = ys }) pushed_back in
       let close : BalanceClose old.log.moves (joined (waited old.core) nothing) (λ k. given_on k (Push j t ∷ ends)) log.moves = record {
         more = j ∷ [];
@@ -264,19 +264,19 @@ module _ (old : Balancing) (j : ℕ) (h : old.core.live ≡ true) (q : slice_get
         completes = λ k e. (ap (λ (f : Inflow). f.end) (joined-nothing (waited old.core)) ∙ ap end_by on, refl);
         fails = λ k c e. absurd (completed item.Ended (given_on k ends) c (completions k old.core.outs) e);
       } in
-      handle (asks j) old (closed (emptied log old)) (Push j t ∷ ends) h (record {
+      handle (pulls j) old (closed (emptied log old)) (Push j t ∷ ends) h (record {
         allowed = (asked_at old.core.outs j Quiet q, subst (λ (w : View). ActsAllowed w ends) (sym v) a.allowed);
         row_then = subst (λ (w : View). AllClosed w) (sym (ap (λ (w : View). acted_all w ends) v ∙ a.then_is)) (over_closed x old.core.over old.core.pulled refl on, shut_views old.core.outs);
         turn = close;
         outputs = refl;
         stands = a.stands;
-        asks = λ p. absurd (a.quiet p);
+        pulls = λ p. absurd (a.quiet p);
         more = j ∷ [];
         grows = grown;
         named = named_one j (length old.core.outs) there;
       })
 
-  lines_up : (log : Picks) (b : Bool) → old.core.pulled ≡ b → log.moves ≡ old.log.moves → old.core.waiting ≡ None → Handled (asks j) old (if b then [] else Pull 0 ∷ []) (lined j (record old { log = log }))
+  lines_up : (log : Picks) (b : Bool) → old.core.pulled ≡ b → log.moves ≡ old.log.moves → old.core.waiting ≡ None → Handled (pulls j) old (if b then [] else Pull 0 ∷ []) (lined j (record old { log = log }))
   lines_up log b e same none =
       let to : Balancing = lined j (record old { log = log }) in
       let outs : List OutputState = slice_set old.core.outs j Asks in
@@ -290,29 +290,29 @@ module _ (old : Balancing) (j : ℕ) (h : old.core.live ≡ true) (q : slice_get
         few = let k = sound.few in omega (arith, long, k);
         roomy = let k = sound.roomy in omega (arith, long, k);
       } in
-      let v : acted_all (record { ins = input_of old.core.over b ∷ []; outs = slice_set (map want_view old.core.outs) j Asked }) (if b then [] else Pull 0 ∷ []) ≡ view_of to.core =
-      rw held_none.0 (by_pulled b (slice_set (map want_view old.core.outs) j Asked) (map want_view outs) (want_set old.core.outs j Asks)) in
-      let before : ◌≡◌ {A = View} asked_view (record { ins = input_of old.core.over b ∷ []; outs = slice_set (map want_view old.core.outs) j Asked }) =
-      ap (λ p. record { ins = input_of old.core.over p ∷ []; outs = slice_set (map want_view old.core.outs) j Asked }) e in
+      let v : acted_all (record { ins = input_of old.core.over b ∷ []; outs = slice_set (map want_view old.core.outs) j Available }) (if b then [] else Pull 0 ∷ []) ≡ view_of to.core =
+      rw held_none.0 (by_pulled b (slice_set (map want_view old.core.outs) j Available) (map want_view outs) (want_set old.core.outs j Asks)) in
+      let before : ◌≡◌ {A = View} asked_view (record { ins = input_of old.core.over b ∷ []; outs = slice_set (map want_view old.core.outs) j Available }) =
+      ap (λ p. record { ins = input_of old.core.over p ∷ []; outs = slice_set (map want_view old.core.outs) j Available }) e in
       let then_is : acted_all asked_view (if b then [] else Pull 0 ∷ []) ≡ view_of to.core = ap (λ (w : View). acted_all w (if b then [] else Pull 0 ∷ [])) before ∙ v in
       let grown : log.moves ≡ old.log.moves ++ [] = same ∙ sym (append-nil old.log.moves) in
-      handle (asks j) old to (if b then [] else Pull 0 ∷ []) h (record {
-        allowed = subst (λ (w : View). ActsAllowed w (if b then [] else Pull 0 ∷ [])) (sym before) (rw held_none.0 (may_pull b (slice_set (map want_view old.core.outs) j Asked)));
+      handle (pulls j) old to (if b then [] else Pull 0 ∷ []) h (record {
+        allowed = subst (λ (w : View). ActsAllowed w (if b then [] else Pull 0 ∷ [])) (sym before) (rw held_none.0 (may_pull b (slice_set (map want_view old.core.outs) j Available)));
         row_then = is_standing to (acted_all asked_view (if b then [] else Pull 0 ∷ [])) h then_is s;
         turn = turn_open old.log.moves (waited old.core) nothing (λ k. given_on k (if b then [] else Pull 0 ∷ [])) to h
             (subst (λ (ms : List ℕ). BalanceTurn old.log.moves (joined (waited old.core) nothing) (λ k. given_on k (if b then [] else Pull 0 ∷ [])) ms (waited to.core)) (sym same)
             (quiet old.log.moves (joined (waited old.core) nothing) (λ k. given_on k (if b then [] else Pull 0 ∷ [])) (waited to.core) (none_given b) (joined-nothing (waited old.core))));
         outputs = long;
         stands = pull_stands b;
-        asks = λ p. subst (λ (w : View). SomeAsked w) (sym then_is) (j, view_at outs j Asks (now_asks old.core.outs j q));
+        pulls = λ p. subst (λ (w : View). SomeAsked w) (sym then_is) (j, view_at outs j Asks (now_asks old.core.outs j q));
         more = [];
         grows = grown;
         named = refl;
       })
     where
-      by_pulled : (b : Bool) (ys zs : List OutView) → ys ≡ zs → acted_all (record { ins = input_of false b ∷ []; outs = ys }) (if b then [] else Pull 0 ∷ []) ≡ record { ins = Waiting ∷ []; outs = zs }
-      by_pulled true ys zs h = ap (λ (x : List OutView). record { ins = Waiting ∷ []; outs = x }) h
-      by_pulled false ys zs h = ap (λ (x : List OutView). record { ins = Waiting ∷ []; outs = x }) h
+      by_pulled : (b : Bool) (ys zs : List OutView) → ys ≡ zs → acted_all (record { ins = input_of false b ∷ []; outs = ys }) (if b then [] else Pull 0 ∷ []) ≡ record { ins = Pulled ∷ []; outs = zs }
+      by_pulled true ys zs h = ap (λ (x : List OutView). record { ins = Pulled ∷ []; outs = x }) h
+      by_pulled false ys zs h = ap (λ (x : List OutView). record { ins = Pulled ∷ []; outs = x }) h
 
       may_pull : (b : Bool) (ys : List OutView) → ActsAllowed (record { ins = input_of false b ∷ []; outs = ys }) (if b then [] else Pull 0 ∷ [])
       may_pull true ys = tt
@@ -322,7 +322,7 @@ module _ (old : Balancing) (j : ℕ) (h : old.core.live ≡ true) (q : slice_get
       none_given true k = refl
       none_given false k = refl
 
-      pull_stands : (b : Bool) → AsksStand (if b then [] else Pull 0 ∷ [])
+      pull_stands : (b : Bool) → PullsStand (if b then [] else Pull 0 ∷ [])
       pull_stands true = tt
       pull_stands false = (tt, tt)
 
@@ -331,16 +331,16 @@ module _ (old : Balancing) (j : ℕ) (h : old.core.live ≡ true) (q : slice_get
       now_asks (w ∷ ws) zero h = refl
       now_asks (w ∷ ws) (suc j) h = now_asks ws j h
 
-pub answered : (old mid new : Balancing) (acts : List Act) (j : ℕ) → old.core.live ≡ true → mid ≡ record old { log = mid.log } → mid.log.moves ≡ old.log.moves → Meets (asks j) (row old) → Answered j mid new acts → Handled (asks j) old acts new
+pub answered : (old mid new : Balancing) (acts : List Act) (j : ℕ) → old.core.live ≡ true → mid ≡ record old { log = mid.log } → mid.log.moves ≡ old.log.moves → Meets (pulls j) (row old) → Answered j mid new acts → Handled (pulls j) old acts new
 answered old mid new acts j h is same m a = by_answer (subst (λ l. Answered j l new acts) is a)
   where
-    f : Found (asks j) old
-    f = found (asks j) old h m
+    f : Found (pulls j) old
+    f = found (pulls j) old h m
 
     q : slice_get old.core.outs j ≡ Some Quiet
     q = is_quiet old.core.outs j f.may
 
-    by_answer : Answered j (record old { log = mid.log }) new acts → Handled (asks j) old acts new
+    by_answer : Answered j (record old { log = mid.log }) new acts → Handled (pulls j) old acts new
     by_answer (given t w grown off d) = rw (d.to_is, d.acts_are) (given_now old j h q f.sound t new.log w (grown ∙ ap (λ (ms : List ℕ). ms ++ j ∷ []) same) off)
     by_answer (last t w grown on d) = rw (d.to_is, d.acts_are) (given_last old j h q f.sound t new.log w (grown ∙ ap (λ (ms : List ℕ). ms ++ j ∷ []) same) on)
     by_answer (queues none d) = rw (d.to_is, d.acts_are) (lines_up old j h q f.sound mid.log old.core.pulled refl same none)

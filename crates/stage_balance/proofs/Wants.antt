@@ -6,9 +6,9 @@ use Rattle.elem_core.specs.declared.item.Item.{Item}
 use Rattle.port_core.specs.declared.act.Act.{Act}
 use Rattle.port_core.specs.declared.view.InView.{InView}
 use Rattle.port_core.specs.declared.view.OutView.{OutView}
-use Rattle.port_core.specs.declared.view.OutView.TheVariants.{Unasked, Asked, Shut, Refused}
+use Rattle.port_core.specs.declared.view.OutView.TheVariants.{Unpulled, Available, Closed, Cancelled}
 use Rattle.port_core.specs.View.{View, out_at, with_out, IsOutOpen, ActAllowed, ActsAllowed, acted, acted_all}
-use Rattle.port_core.specs.Asking.{AsksStand}
+use Rattle.port_core.specs.Asking.{PullsStand}
 use Rattle.port_core.specs.Call.{given_by, given_on}
 use Rattle.stage_core.specs.Handling.{Pulls}
 use Rattle.stage_fans.specs.declared.outs.OutputState.{OutputState}
@@ -25,13 +25,13 @@ view_twice (y ∷ ys) zero a b = refl
 view_twice (y ∷ ys) (suc j) a b = ap (λ (l : List OutView). y ∷ l) (view_twice ys j a b)
 
 -- what is known of the output at its place
-pub view_at : (ws : List OutputState) (j : ℕ) (w : OutputState) → slice_get ws j ≡ Some w → slice_index_or (map want_view ws) j Shut ≡ want_view w
+pub view_at : (ws : List OutputState) (j : ℕ) (w : OutputState) → slice_get ws j ≡ Some w → slice_index_or (map want_view ws) j Closed ≡ want_view w
 view_at [] j w h = cc
 view_at (x ∷ ws) zero w h = let e : x ≡ w = cc in ap want_view e
 view_at (x ∷ ws) (suc j) w h = view_at ws j w h
 
 -- once it is asked
-pub asked_at : (ws : List OutputState) (j : ℕ) (w : OutputState) → slice_get ws j ≡ Some w → slice_index_or (slice_set (map want_view ws) j Asked) j Shut ≡ Asked
+pub asked_at : (ws : List OutputState) (j : ℕ) (w : OutputState) → slice_get ws j ≡ Some w → slice_index_or (slice_set (map want_view ws) j Available) j Closed ≡ Available
 asked_at [] j w h = cc
 asked_at (x ∷ ws) zero w h = refl
 asked_at (x ∷ ws) (suc j) w h = asked_at ws j w h
@@ -42,21 +42,21 @@ asked_at (x ∷ ws) (suc j) w h = asked_at ws j w h
 pub record Acted (v : View) (acts : List Act) (outs : List OutView) : Type 0 where
   pub allowed : ActsAllowed v acts
   pub then_is : acted_all v acts ≡ record { ins = v.ins; outs = outs }
-  pub stands : AsksStand acts
+  pub stands : PullsStand acts
   pub quiet : Pulls acts → ⊥
 
-module _ (act : ℕ → Act) (may : (v : View) (n : ℕ) → IsOutOpen (out_at v n) → ActAllowed v (act n)) (moves : (v : View) (n : ℕ) → acted v (act n) ≡ with_out v n Shut)
-    (stand : (n : ℕ) (acts : List Act) → AsksStand acts → AsksStand (act n ∷ acts)) (none : (n : ℕ) (acts : List Act) → (Pulls acts → ⊥) → Pulls (act n ∷ acts) → ⊥) (ins : List InView) where
+module _ (act : ℕ → Act) (may : (v : View) (n : ℕ) → IsOutOpen (out_at v n) → ActAllowed v (act n)) (moves : (v : View) (n : ℕ) → acted v (act n) ≡ with_out v n Closed)
+    (stand : (n : ℕ) (acts : List Act) → PullsStand acts → PullsStand (act n ∷ acts)) (none : (n : ℕ) (acts : List Act) → (Pulls acts → ⊥) → Pulls (act n ∷ acts) → ⊥) (ins : List InView) where
   one_more : (x : OutView) (n : ℕ) (before rest : List OutView) (acts : List Act) (then_outs : List OutView) → length before ≡ n → IsOutOpen x
-      → Acted (record { ins = ins; outs = (before ++ Shut ∷ []) ++ rest }) acts ((before ++ Shut ∷ []) ++ then_outs) → Acted (record { ins = ins; outs = before ++ x ∷ rest }) (act n ∷ acts) (before ++ Shut ∷ then_outs)
+      → Acted (record { ins = ins; outs = (before ++ Closed ∷ []) ++ rest }) acts ((before ++ Closed ∷ []) ++ then_outs) → Acted (record { ins = ins; outs = before ++ x ∷ rest }) (act n ∷ acts) (before ++ Closed ∷ then_outs)
   one_more x n before rest acts then_outs h p r =
-      let at : slice_index_or (before ++ x ∷ rest) n Shut ≡ x = at_behind before rest x n h in
-      let e : slice_set (before ++ x ∷ rest) n Shut ≡ (before ++ Shut ∷ []) ++ rest = set_behind before rest x Shut n h ∙ sym (append_assoc before (Shut ∷ []) rest) in
-      let moved : acted (record { ins = ins; outs = before ++ x ∷ rest }) (act n) ≡ record { ins = ins; outs = (before ++ Shut ∷ []) ++ rest } =
+      let at : slice_index_or (before ++ x ∷ rest) n Closed ≡ x = at_behind before rest x n h in
+      let e : slice_set (before ++ x ∷ rest) n Closed ≡ (before ++ Closed ∷ []) ++ rest = set_behind before rest x Closed n h ∙ sym (append_assoc before (Closed ∷ []) rest) in
+      let moved : acted (record { ins = ins; outs = before ++ x ∷ rest }) (act n) ≡ record { ins = ins; outs = (before ++ Closed ∷ []) ++ rest } =
       moves (record { ins = ins; outs = before ++ x ∷ rest }) n ∙ ap (λ (ys : List OutView). record { ins = ins; outs = ys }) e in
       record {
         allowed = (may (record { ins = ins; outs = before ++ x ∷ rest }) n (subst IsOutOpen (sym at) p), subst (λ (v : View). ActsAllowed v acts) (sym moved) r.allowed);
-        then_is = ap (λ (v : View). acted_all v acts) moved ∙ r.then_is ∙ ap (λ (ys : List OutView). record { ins = ins; outs = ys }) (append_assoc before (Shut ∷ []) then_outs);
+        then_is = ap (λ (v : View). acted_all v acts) moved ∙ r.then_is ∙ ap (λ (ys : List OutView). record { ins = ins; outs = ys }) (append_assoc before (Closed ∷ []) then_outs);
         stands = stand n acts r.stands;
         quiet = none n acts r.quiet;
       }
@@ -65,16 +65,16 @@ module _ (act : ℕ → Act) (may : (v : View) (n : ℕ) → IsOutOpen (out_at v
   longer before z n h = let l = length-append before (z ∷ []) in omega (arith, l, h)
 
   pub acts_from : (ws : List OutputState) (n : ℕ) (before : List OutView) → length before ≡ n
-      → Acted (record { ins = ins; outs = before ++ map want_view ws }) (at_open act n ws) (before ++ map (after_one Shut) ws)
+      → Acted (record { ins = ins; outs = before ++ map want_view ws }) (at_open act n ws) (before ++ map (after_one Closed) ws)
   acts_from [] n before h = record { allowed = tt; then_is = refl; stands = tt; quiet = λ p. p }
-  acts_from (Quiet ∷ ws) n before h = one_more Unasked n before (map want_view ws) (at_open act (n + 1) ws) (map (after_one Shut) ws) h tt (acts_from ws (n + 1) (before ++ Shut ∷ []) (longer before Shut n h))
-  acts_from (Asks ∷ ws) n before h = one_more Asked n before (map want_view ws) (at_open act (n + 1) ws) (map (after_one Shut) ws) h tt (acts_from ws (n + 1) (before ++ Shut ∷ []) (longer before Shut n h))
+  acts_from (Quiet ∷ ws) n before h = one_more Unpulled n before (map want_view ws) (at_open act (n + 1) ws) (map (after_one Closed) ws) h tt (acts_from ws (n + 1) (before ++ Closed ∷ []) (longer before Closed n h))
+  acts_from (Asks ∷ ws) n before h = one_more Available n before (map want_view ws) (at_open act (n + 1) ws) (map (after_one Closed) ws) h tt (acts_from ws (n + 1) (before ++ Closed ∷ []) (longer before Closed n h))
   acts_from (Gone ∷ ws) n before h =
-      let r = acts_from ws (n + 1) (before ++ Refused ∷ []) (longer before Refused n h) in
-      let e : (before ++ Refused ∷ []) ++ map want_view ws ≡ before ++ Refused ∷ map want_view ws = append_assoc before (Refused ∷ []) (map want_view ws) in
-      let f : (before ++ Refused ∷ []) ++ map (after_one Shut) ws ≡ before ++ Refused ∷ map (after_one Shut) ws = append_assoc before (Refused ∷ []) (map (after_one Shut) ws) in
-      subst (λ (ys : List OutView). Acted (record { ins = ins; outs = before ++ Refused ∷ map want_view ws }) (at_open act (n + 1) ws) ys) f
-      (subst (λ (xs : List OutView). Acted (record { ins = ins; outs = xs }) (at_open act (n + 1) ws) ((before ++ Refused ∷ []) ++ map (after_one Shut) ws)) e r)
+      let r = acts_from ws (n + 1) (before ++ Cancelled ∷ []) (longer before Cancelled n h) in
+      let e : (before ++ Cancelled ∷ []) ++ map want_view ws ≡ before ++ Cancelled ∷ map want_view ws = append_assoc before (Cancelled ∷ []) (map want_view ws) in
+      let f : (before ++ Cancelled ∷ []) ++ map (after_one Closed) ws ≡ before ++ Cancelled ∷ map (after_one Closed) ws = append_assoc before (Cancelled ∷ []) (map (after_one Closed) ws) in
+      subst (λ (ys : List OutView). Acted (record { ins = ins; outs = before ++ Cancelled ∷ map want_view ws }) (at_open act (n + 1) ws) ys) f
+      (subst (λ (xs : List OutView). Acted (record { ins = ins; outs = xs }) (at_open act (n + 1) ws) ((before ++ Cancelled ∷ []) ++ map (after_one Closed) ws)) e r)
 
 -- ---- what is given
 

@@ -6,15 +6,15 @@ use Rattle.port_core.specs.Picks.{Picks}
 use Rattle.port_core.specs.declared.act.Act.{Act}
 use Rattle.port_core.specs.declared.act.Act.TheVariants.{Pull, Push, Complete, Cancel}
 use Rattle.port_core.specs.declared.view.InView.{InView}
-use Rattle.port_core.specs.declared.view.InView.TheVariants.{Idle, Waiting, Over}
+use Rattle.port_core.specs.declared.view.InView.TheVariants.{Idle, Pulled, Finished}
 use Rattle.port_core.specs.View.{View}
-use Rattle.port_core.specs.Asking.{AsksStand}
+use Rattle.port_core.specs.Asking.{PullsStand}
 use Rattle.port_core.specs.Call.{Call, given_on}
 use Rattle.stream_model.specs.FanIn.{Inflow}
 use Rattle.stream_model.specs.Picks.{all_below}
 use Rattle.stream_picture.specs.View.{EachWire}
 use Rattle.stream_picture.specs.Rests.{IsShut, OneToMany, BalanceRests}
-use Rattle.stage_core.specs.Handling.{AsksAs}
+use Rattle.stage_core.specs.Handling.{PullsAs}
 use Rattle.stage_fans.specs.Seats.{end_by}
 use Rattle.stage_fans.specs.declared.outs.OutputState.{OutputState}
 use Rattle.stage_fans.specs.declared.outs.OutputState.TheVariants.{Quiet, Asks, Gone}
@@ -41,8 +41,8 @@ pub record Balancing : Type 0 where
 
 -- what is known of the input
 abbrev pub input_of : Bool → Bool → InView
-input_of true pulled = Over
-input_of false true = Waiting
+input_of true pulled = Finished
+input_of false true = Pulled
 input_of false false = Idle
 
 abbrev pub view_of : Core → View
@@ -95,8 +95,8 @@ held l = held_by l.core.live l.log.moves l.core
 pub record Turned (call : Call) (old : Balancing) (acts : List Act) (new : Balancing) : Type 0 where
   pub turn : BalanceTurnAt call (held old) (λ j. given_on j acts) (held new)
   pub outputs : length new.core.outs ≡ length old.core.outs
-  pub stands : AsksStand acts
-  pub asks : AsksAs call (row old) SomeAsked acts
+  pub stands : PullsStand acts
+  pub pulls : PullsAs call (row old) SomeAsked acts
   pub more : List ℕ
   pub grows : new.log.moves ≡ old.log.moves ++ more
   pub named : all_below (length old.core.outs) more ≡ true

@@ -3,14 +3,14 @@ use Rattle.std.specs.Prelude.{◌≡◌, ℕ, ◌+◌, List, [], ◌∷◌}
 use Rattle.elem_core.specs.Tree.{Tree}
 use Rattle.port_core.specs.declared.view.InView.{InView}
 use Rattle.port_core.specs.declared.view.OutView.{OutView}
-use Rattle.port_core.specs.declared.view.OutView.TheVariants.{Asked}
+use Rattle.port_core.specs.declared.view.OutView.TheVariants.{Available}
 use Rattle.port_core.specs.View.{View, out_at}
 use Rattle.stream_picture.specs.View as picture
 use Rattle.stage_law.specs.OwnPorts.{own_input, own_output}
 
 -- some output is asked
 abbrev pub SomeAsked : View → Type 0
-SomeAsked v = (j : ℕ) × (out_at v j ≡ Asked)
+SomeAsked v = (j : ℕ) × (out_at v j ≡ Available)
 
 -- the one input, with what was taken, and the outputs from number n on, each with what was given there
 abbrev pub own_ins : List InView → List Tree → List picture.View

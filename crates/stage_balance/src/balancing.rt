@@ -2,7 +2,7 @@ ghost use Rattle.std.specs.Prelude.{◌≡◌, ◌≢◌, ◌≤◌, ◌<◌, �
 ghost use Rattle.std.specs.VecDeque.{deque_capacity};
 ghost use Rattle.elem_core.specs.declared.item.Item.TheVariants as item;
 ghost use Rattle.port_core.specs.declared.act.Act.TheVariants as act;
-ghost use Rattle.port_core.specs.Call.{Obeys, Meets, starts, asks, brings, cancels};
+ghost use Rattle.port_core.specs.Call.{Obeys, Meets, starts, pulls, arrives, cancels};
 ghost use Rattle.stream_model.specs.declared.kind.TheConstants.{MAX_FAN};
 ghost use Rattle.stage_fans.specs.Seats.{room_for};
 ghost use Rattle.stage_fans.specs.declared.outs.OutputState.TheVariants.{Quiet, Asks, Gone};
@@ -90,11 +90,11 @@ impl Balancing {
     /// Output `port` was asked. It takes memory for the move alone; where that is refused, all is as before.
     pub fn on_pull(&mut self, port: u8, acts: &mut Acts) -> Result<(), NoMemory>
         requires live { self.old.core.live ≡ true }
-        requires meets { Meets (asks port) (row self.old) }
+        requires meets { Meets (pulls port) (row self.old) }
         requires empty { acts.old.items ≡ [] }
         requires room { room_for (length self.old.core.outs) ≤ acts.old.room }
-        ensures ports { OnOk result (Obeys (asks port) (row self.old) (row self.new) acts.new.items) }
-        ensures gives { OnOk result (Turned (asks port) self.old acts.new.items self.new) }
+        ensures ports { OnOk result (Obeys (pulls port) (row self.old) (row self.new) acts.new.items) }
+        ensures gives { OnOk result (Turned (pulls port) self.old acts.new.items self.new) }
         ensures order { OnOk result (LastInLine port self.old self.new) }
         ensures room { OnOk result (acts.new.room ≡ acts.old.room) }
         ensures refused { OnErr result ((self.new ≡ self.old) × (acts.new ≡ acts.old)) }
@@ -107,11 +107,11 @@ impl Balancing {
     /// An element came. It takes memory for the move alone; where that is refused, all is as before but for the element.
     pub fn on_push(&mut self, port: u8, e: Elem, acts: &mut Acts) -> Result<(), NoMemory>
         requires live { self.old.core.live ≡ true }
-        requires meets { Meets (brings port (item.Elem e)) (row self.old) }
+        requires meets { Meets (arrives port (item.Elem e)) (row self.old) }
         requires empty { acts.old.items ≡ [] }
         requires room { room_for (length self.old.core.outs) ≤ acts.old.room }
-        ensures ports { OnOk result (Obeys (brings port (item.Elem e)) (row self.old) (row self.new) acts.new.items) }
-        ensures gives { OnOk result (Turned (brings port (item.Elem e)) self.old acts.new.items self.new) }
+        ensures ports { OnOk result (Obeys (arrives port (item.Elem e)) (row self.old) (row self.new) acts.new.items) }
+        ensures gives { OnOk result (Turned (arrives port (item.Elem e)) self.old acts.new.items self.new) }
         ensures order { OnOk result (FirstServed self.old self.new) }
         ensures room { OnOk result (acts.new.room ≡ acts.old.room) }
         ensures refused { OnErr result ((self.new ≡ self.old) × (acts.new ≡ acts.old)) }
@@ -125,12 +125,12 @@ impl Balancing {
     /// The input has ended.
     pub fn on_finish(&mut self, port: u8, acts: &mut Acts) -> Result<(), NoMemory>
         requires live { self.old.core.live ≡ true }
-        requires meets { Meets (brings port item.Ended) (row self.old) }
+        requires meets { Meets (arrives port item.Ended) (row self.old) }
         requires empty { acts.old.items ≡ [] }
         requires room { room_for (length self.old.core.outs) ≤ acts.old.room }
         ensures answers { IsOk result }
-        ensures ports { OnOk result (Obeys (brings port item.Ended) (row self.old) (row self.new) acts.new.items) }
-        ensures gives { OnOk result (Turned (brings port item.Ended) self.old acts.new.items self.new) }
+        ensures ports { OnOk result (Obeys (arrives port item.Ended) (row self.old) (row self.new) acts.new.items) }
+        ensures gives { OnOk result (Turned (arrives port item.Ended) self.old acts.new.items self.new) }
         ensures room { acts.new.room ≡ acts.old.room }
     {
         let _port = port;
@@ -141,12 +141,12 @@ impl Balancing {
     /// The input has failed, which fails the stage at once.
     pub fn on_fail(&mut self, port: u8, cause: Cause, acts: &mut Acts) -> Result<(), NoMemory>
         requires live { self.old.core.live ≡ true }
-        requires meets { Meets (brings port (item.Failed cause)) (row self.old) }
+        requires meets { Meets (arrives port (item.Failed cause)) (row self.old) }
         requires empty { acts.old.items ≡ [] }
         requires room { room_for (length self.old.core.outs) ≤ acts.old.room }
         ensures answers { IsOk result }
-        ensures ports { OnOk result (Obeys (brings port (item.Failed cause)) (row self.old) (row self.new) acts.new.items) }
-        ensures gives { OnOk result (Turned (brings port (item.Failed cause)) self.old acts.new.items self.new) }
+        ensures ports { OnOk result (Obeys (arrives port (item.Failed cause)) (row self.old) (row self.new) acts.new.items) }
+        ensures gives { OnOk result (Turned (arrives port (item.Failed cause)) self.old acts.new.items self.new) }
         ensures room { acts.new.room ≡ acts.old.room }
     {
         let _port = port;

@@ -8,7 +8,7 @@ use Rattle.elem_core.specs.declared.why.Cause.{Cause}
 use Rattle.port_core.specs.declared.act.Act.{Act}
 use Rattle.port_core.specs.declared.act.Act.TheVariants.{Push, Complete, FailOut}
 use Rattle.port_core.specs.declared.view.OutView.{OutView}
-use Rattle.port_core.specs.declared.view.OutView.TheVariants.{Unasked, Asked, Shut, Refused}
+use Rattle.port_core.specs.declared.view.OutView.TheVariants.{Unpulled, Available, Closed, Cancelled}
 use Rattle.port_core.specs.View.{View, out_at, IsOutOpen}
 use Rattle.stage_core.specs.Histories.{with_item, AllEmpty}
 use Rattle.stage_core.specs.Handling.{Starts}
@@ -21,16 +21,16 @@ use Rattle.stage_boundary.proofs.Histories.{end_after, list_after, told_after}
 
 -- an output that is open gave no end
 open_end : (y : OutView) (e : End) → IsOutOpen y → GaveAs y e → e ≡ unended
-open_end Unasked e o g = g
-open_end Asked e o g = g
-open_end Shut e o g = absurd o
-open_end Refused e o g = absurd o
+open_end Unpulled e o g = g
+open_end Available e o g = g
+open_end Closed e o g = absurd o
+open_end Cancelled e o g = absurd o
 
-asked_open : (y : OutView) → y ≡ Asked → IsOutOpen y
+asked_open : (y : OutView) → y ≡ Available → IsOutOpen y
 asked_open y e = rw e tt
 
 -- nothing passed at the start
-begun : (x : Entering) (took gave : List (List Item)) → AllEmpty took → AllEmpty gave → length took ≡ 0 → length gave ≡ 1 → EnteringLaw x x (output_only Unasked) took gave
+begun : (x : Entering) (took gave : List (List Item)) → AllEmpty took → AllEmpty gave → length took ≡ 0 → length gave ≡ 1 → EnteringLaw x x (output_only Unpulled) took gave
 begun x [] (g ∷ []) a b m n = record {
   list = [];
   end = unended;
@@ -45,7 +45,7 @@ begun x (t ∷ took) gave a b m n = absurd (omega (arith, m))
 
 enters_started : (x : Entering) → Starts EnteringRow EnteringLaw EnteringFresh x x []
 enters_started x = record {
-  obeys = record { allowed = λ v h r. tt; row = λ v h r. (Unasked, r) };
+  obeys = record { allowed = λ v h r. tt; row = λ v h r. (Unpulled, r) };
   stands = tt;
   begins = λ v took gave h f t g i j. subst (λ (w : View). length took ≡ length w.ins → length gave ≡ length w.outs → EnteringLaw x x w took gave) (sym f) (λ m n. begun x took gave t g m n) i j;
 }
@@ -69,24 +69,24 @@ gave_more x first y z took gave i o g law =
       same = law.same;
     }
 
-push_at : (x first : Entering) (y : OutView) (took gave : List (List Item)) (j : ℕ) (t : Tree) → EnteringLaw first x (output_only y) took gave → out_at (output_only y) j ≡ Asked → Does EnteringRow EnteringLaw x first (output_only y) took gave (Push j t)
-push_at x first y took gave zero t law h = record { allowed = h; row_holds = (Unasked, refl); law_holds = gave_more x first y Unasked took gave (item.Elem t) (asked_open y h) refl law }
+push_at : (x first : Entering) (y : OutView) (took gave : List (List Item)) (j : ℕ) (t : Tree) → EnteringLaw first x (output_only y) took gave → out_at (output_only y) j ≡ Available → Does EnteringRow EnteringLaw x first (output_only y) took gave (Push j t)
+push_at x first y took gave zero t law h = record { allowed = h; row_holds = (Unpulled, refl); law_holds = gave_more x first y Unpulled took gave (item.Elem t) (asked_open y h) refl law }
 push_at x first y took gave (suc j) t law h = absurd cc
 
 complete_at : (x first : Entering) (y : OutView) (took gave : List (List Item)) (j : ℕ) → EnteringLaw first x (output_only y) took gave → IsOutOpen (out_at (output_only y) j) → Does EnteringRow EnteringLaw x first (output_only y) took gave (Complete j)
-complete_at x first y took gave zero law o = record { allowed = o; row_holds = (Shut, refl); law_holds = gave_more x first y Shut took gave item.Ended o tt law }
+complete_at x first y took gave zero law o = record { allowed = o; row_holds = (Closed, refl); law_holds = gave_more x first y Closed took gave item.Ended o tt law }
 complete_at x first y took gave (suc j) law o = absurd o
 
 fail_at : (x first : Entering) (y : OutView) (took gave : List (List Item)) (j : ℕ) (c : Cause) → EnteringLaw first x (output_only y) took gave → IsOutOpen (out_at (output_only y) j) → Does EnteringRow EnteringLaw x first (output_only y) took gave (FailOut j c)
-fail_at x first y took gave zero c law o = record { allowed = o; row_holds = (Shut, refl); law_holds = gave_more x first y Shut took gave (item.Failed c) o tt law }
+fail_at x first y took gave zero c law o = record { allowed = o; row_holds = (Closed, refl); law_holds = gave_more x first y Closed took gave (item.Failed c) o tt law }
 fail_at x first y took gave (suc j) c law o = absurd o
 
 module _ (first now : Entering) (v : View) (took gave : List (List Item)) (r : EnteringRow now v) (law : EnteringLaw first now v took gave) where
   abbrev Done : (View → Type 0) → Act → View → Type 0
   Done H a w = EnteringLaw first now w took gave → H w → Does EnteringRow EnteringLaw now first w took gave a
 
-  pub may_push : (j : ℕ) (t : Tree) → out_at v j ≡ Asked → Does EnteringRow EnteringLaw now first v took gave (Push j t)
-  may_push j t h = subst (Done (λ w. out_at w j ≡ Asked) (Push j t)) (sym r.1) (push_at now first r.0 took gave j t) law h
+  pub may_push : (j : ℕ) (t : Tree) → out_at v j ≡ Available → Does EnteringRow EnteringLaw now first v took gave (Push j t)
+  may_push j t h = subst (Done (λ w. out_at w j ≡ Available) (Push j t)) (sym r.1) (push_at now first r.0 took gave j t) law h
 
   pub may_complete : (j : ℕ) → IsOutOpen (out_at v j) → Does EnteringRow EnteringLaw now first v took gave (Complete j)
   may_complete j h = subst (Done (λ w. IsOutOpen (out_at w j)) (Complete j)) (sym r.1) (complete_at now first r.0 took gave j) law h

@@ -6,9 +6,9 @@ use Rattle.elem_core.specs.declared.item.Item.TheVariants as item
 use Rattle.port_core.specs.declared.act.Act.{Act}
 use Rattle.port_core.specs.declared.act.Act.TheVariants.{Pull, Cancel}
 use Rattle.port_core.specs.declared.view.InView.{InView}
-use Rattle.port_core.specs.declared.view.InView.TheVariants.{Idle, Waiting, Over, Left}
+use Rattle.port_core.specs.declared.view.InView.TheVariants.{Idle, Pulled, Finished, Cancelled}
 use Rattle.port_core.specs.View.{View, in_at, with_in, IsInOpen}
-use Rattle.port_core.specs.Call.{brings, came, MayCome}
+use Rattle.port_core.specs.Call.{arrives, came, MayCome}
 use Rattle.stage_core.specs.Histories.{with_item, AllEmpty}
 use Rattle.stage_core.specs.Handling.{Starts, Handles}
 use Rattle.stream_model.specs.Outlook.{End, unended}
@@ -21,9 +21,9 @@ use Rattle.stage_boundary.proofs.Histories.{end_after, list_after, told_after, t
 -- an input that is open had no end
 open_end : (y : InView) (e : End) → IsInOpen y → TookAs y e → e ≡ unended
 open_end Idle e o g = g
-open_end Waiting e o g = g
-open_end Over e o g = absurd o
-open_end Left e o g = absurd o
+open_end Pulled e o g = g
+open_end Finished e o g = absurd o
+open_end Cancelled e o g = absurd o
 
 may_open : (i : Item) (y : InView) → MayCome i y → IsInOpen y
 may_open (item.Elem t) y h = rw h tt
@@ -62,10 +62,10 @@ module _ (i : Item) (x : Leaving) where
         same = law.same;
       }
 
-  none_left : MayCome i Left → ⊥
+  none_left : MayCome i Cancelled → ⊥
   none_left h = no i h
     where
-      no : (k : Item) → MayCome k Left → ⊥
+      no : (k : Item) → MayCome k Cancelled → ⊥
       no (item.Elem t) h = cc
       no item.Ended h = h
       no (item.Failed c) h = h
@@ -78,7 +78,7 @@ module _ (i : Item) (x : Leaving) where
   law_at zero first y took gave h law = law_after first y took gave h law
   law_at (suc p) first y took gave h law = absurd (none_left h)
 
-  got : (p : ℕ) → Handles LeavingRow LeavingLaw (brings p i) x more []
+  got : (p : ℕ) → Handles LeavingRow LeavingLaw (arrives p i) x more []
   got p = record {
     obeys = record {
       allowed = λ v h r. tt;
@@ -88,7 +88,7 @@ module _ (i : Item) (x : Leaving) where
     keeps = λ first v took gave h r law. subst (λ (w : View). MayCome i (in_at w p) → LeavingLaw first x w took gave → LeavingLaw first more (with_in w p (came i)) (with_item took p i) gave) (sym r.1.0) (λ m l. law_at p first r.0 took gave m l) h law;
   }
 
-pub leaves_got : {T E : Type 0} (r : Result T E) (p : ℕ) (i : Item) (x new : Leaving) (acts : List Act) → new ≡ record x { waits = x.waits ++ i ∷ [] } → acts ≡ [] → OnOk r (Handles LeavingRow LeavingLaw (brings p i) x new acts)
+pub leaves_got : {T E : Type 0} (r : Result T E) (p : ℕ) (i : Item) (x new : Leaving) (acts : List Act) → new ≡ record x { waits = x.waits ++ i ∷ [] } → acts ≡ [] → OnOk r (Handles LeavingRow LeavingLaw (arrives p i) x new acts)
 leaves_got (Ok y) p i x new acts e f = rw (e, f) (got i x p)
 leaves_got (Err y) p i x new acts e f = tt
 
@@ -136,11 +136,11 @@ known x first y z took gave o f law = record {
 }
 
 pull_at : (x first : Leaving) (y : InView) (took gave : List (List Item)) (i : ℕ) → x.waits ≡ [] → LeavingLaw first x (input_only y) took gave → in_at (input_only y) i ≡ Idle → Does LeavingRow LeavingLaw x first (input_only y) took gave (Pull i)
-pull_at x first y took gave zero none law h = record { allowed = h; row_holds = (Waiting, (refl, none)); law_holds = known x first y Waiting took gave (idle_open y h) (λ e s. s) law }
+pull_at x first y took gave zero none law h = record { allowed = h; row_holds = (Pulled, (refl, none)); law_holds = known x first y Pulled took gave (idle_open y h) (λ e s. s) law }
 pull_at x first y took gave (suc i) none law h = absurd cc
 
 cancel_at : (x first : Leaving) (y : InView) (took gave : List (List Item)) (i : ℕ) → LeavingLaw first x (input_only y) took gave → IsInOpen (in_at (input_only y) i) → Does LeavingRow LeavingLaw x first (input_only y) took gave (Cancel i)
-cancel_at x first y took gave zero law o = record { allowed = o; row_holds = (Left, (refl, tt)); law_holds = known x first y Left took gave o (λ e s. s) law }
+cancel_at x first y took gave zero law o = record { allowed = o; row_holds = (Cancelled, (refl, tt)); law_holds = known x first y Cancelled took gave o (λ e s. s) law }
 cancel_at x first y took gave (suc i) law o = absurd o
 
 module _ (first now : Leaving) (v : View) (took gave : List (List Item)) (r : LeavingRow now v) (law : LeavingLaw first now v took gave) where

@@ -3,7 +3,7 @@ use Rattle.std.specs.Prelude.{◌≡◌, ℕ, List, [], ◌∷◌}
 use Rattle.elem_core.specs.Tree.{Tree}
 use Rattle.elem_core.specs.declared.item.Item.{Item}
 use Rattle.port_core.specs.declared.view.OutView.{OutView}
-use Rattle.port_core.specs.declared.view.OutView.TheVariants.{Unasked}
+use Rattle.port_core.specs.declared.view.OutView.TheVariants.{Unpulled}
 use Rattle.port_core.specs.View.{View, out_at}
 use Rattle.stream_model.specs.Outlook.{End}
 use Rattle.stage_law.specs.Held.{told}
@@ -16,7 +16,7 @@ pub record Entering : Type 0 where
 
 -- a new one knows that its output was not asked
 abbrev pub EnteringFresh : Entering → View → Type 0
-EnteringFresh x v = v ≡ output_only Unasked
+EnteringFresh x v = v ≡ output_only Unpulled
 
 -- whatever was asked, given or closed there, it has nothing to do by itself
 abbrev pub EnteringRow : Entering → View → Type 0

@@ -3,7 +3,7 @@ use Rattle.std.specs.Prelude.{◌≡◌, ◌≤◌, ℕ, List, [], ◌∷◌, �
 use Rattle.elem_core.specs.Tree.{Tree}
 use Rattle.elem_core.specs.declared.item.Item.{Item}
 use Rattle.port_core.specs.declared.view.InView.{InView}
-use Rattle.port_core.specs.declared.view.InView.TheVariants.{Idle, Waiting, Over, Left}
+use Rattle.port_core.specs.declared.view.InView.TheVariants.{Idle, Pulled, Finished, Cancelled}
 use Rattle.port_core.specs.View.{View, in_at}
 use Rattle.stream_model.specs.Outlook.{End}
 use Rattle.stage_law.specs.Held.{told}
@@ -25,9 +25,9 @@ pub record LeavingFresh (x : Leaving) (v : View) : Type 0 where
 -- it asks only where nothing waits, and so an element waits at most while it is open
 abbrev pub leaving_in : List Item → InView → Type 0
 leaving_in waits Idle = length waits ≤ 1
-leaving_in waits Waiting = waits ≡ []
-leaving_in waits Over = ⊤
-leaving_in waits Left = ⊤
+leaving_in waits Pulled = waits ≡ []
+leaving_in waits Finished = ⊤
+leaving_in waits Cancelled = ⊤
 
 abbrev pub LeavingRow : Leaving → View → Type 0
 LeavingRow x v = (y : InView) × ((v ≡ input_only y) × leaving_in x.waits y)

@@ -1,6 +1,6 @@
 // The boundary stage at the input end of a lane.
 ghost use Rattle.std.specs.Prelude.{◌≡◌, true, [], IsOk, ⊤};
-ghost use Rattle.port_core.specs.declared.view.OutView.TheVariants.{Unasked};
+ghost use Rattle.port_core.specs.declared.view.OutView.TheVariants.{Unpulled};
 ghost use Rattle.stage_boundary.specs.Ports.{output_only};
 ghost use Rattle.stage_boundary.specs.Entering.{EnteringFresh, EnteringRow, EnteringLaw};
 
@@ -32,7 +32,7 @@ impl Entering {
     /// The stage of the lane that is wire `wire`. It takes no memory.
     pub fn new(wire: u32) -> Entering
         ensures stage { result ≡ record { wire = wire } }
-        ensures fresh { EnteringFresh result (output_only Unasked) }
+        ensures fresh { EnteringFresh result (output_only Unpulled) }
     {
         Entering { wire }
     }

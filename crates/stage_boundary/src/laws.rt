@@ -5,7 +5,7 @@ ghost use Rattle.elem_core.specs.declared.item.Item.{Item};
 ghost use Rattle.elem_core.specs.declared.why.Cause.{Cause};
 ghost use Rattle.port_core.specs.declared.act.Act.TheVariants.{Pull, Push, Complete, FailOut, Cancel};
 ghost use Rattle.port_core.specs.declared.view.InView.TheVariants.{Idle};
-ghost use Rattle.port_core.specs.declared.view.OutView.TheVariants.{Asked};
+ghost use Rattle.port_core.specs.declared.view.OutView.TheVariants.{Available};
 ghost use Rattle.port_core.specs.View.{View, in_at, out_at, IsInOpen, IsOutOpen};
 ghost use Rattle.stage_boundary.specs.Ports.{Does};
 ghost use Rattle.stage_boundary.specs.Entering.{Entering, EnteringRow, EnteringLaw};
@@ -14,7 +14,7 @@ ghost use Rattle.stage_boundary.specs.Leaving.{Leaving, LeavingRow, LeavingLaw};
 /// Between two calls the stage where a lane comes in may push an element where its output is asked, and complete or fail it
 /// where it is open: its row and its law hold then.
 pub fn an_entering_stage_may_act()
-    ensures push { (first now : Entering) (v : View) (took gave : List (List Item)) → EnteringRow now v → EnteringLaw first now v took gave → (j : ℕ) (t : Tree) → out_at v j ≡ Asked → Does EnteringRow EnteringLaw now first v took gave (Push j t) }
+    ensures push { (first now : Entering) (v : View) (took gave : List (List Item)) → EnteringRow now v → EnteringLaw first now v took gave → (j : ℕ) (t : Tree) → out_at v j ≡ Available → Does EnteringRow EnteringLaw now first v took gave (Push j t) }
     ensures complete { (first now : Entering) (v : View) (took gave : List (List Item)) → EnteringRow now v → EnteringLaw first now v took gave → (j : ℕ) → IsOutOpen (out_at v j) → Does EnteringRow EnteringLaw now first v took gave (Complete j) }
     ensures fail { (first now : Entering) (v : View) (took gave : List (List Item)) → EnteringRow now v → EnteringLaw first now v took gave → (j : ℕ) (c : Cause) → IsOutOpen (out_at v j) → Does EnteringRow EnteringLaw now first v took gave (FailOut j c) }
 {}

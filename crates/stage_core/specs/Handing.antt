@@ -4,7 +4,7 @@ use Rattle.std.specs.Prelude.{◌≡◌, ℕ, List, ◌++◌}
 use Rattle.elem_core.specs.Prefix.{IsPrefix}
 use Rattle.elem_core.specs.declared.item.Item.{Item}
 use Rattle.port_core.specs.View.{View, in_at}
-use Rattle.port_core.specs.declared.view.InView.TheVariants.{Waiting}
+use Rattle.port_core.specs.declared.view.InView.TheVariants.{Pulled}
 
 module _ {N : Type 0} (row : N → View → Type 0) (law : N → N → View → List (List Item) → List (List Item) → Type 0) (moves : N → List ℕ) (gone waits : N → List Item) where
   -- These items, which waited at the stage, left it outside of its handlers: its row and its law hold as before, and its moves
@@ -15,4 +15,4 @@ module _ {N : Type 0} (row : N → View → Type 0) (law : N → N → View → 
     pub row_holds : (v : View) → row old v → row new v
     pub law_holds : (first : N) (v : View) (took gave : List (List Item)) → row old v → law first old v took gave → law first new v took gave
     pub grows : IsPrefix (moves old) (moves new)
-    pub still : (v : View) → row old v → in_at v 0 ≡ Waiting → new ≡ old
+    pub still : (v : View) → row old v → in_at v 0 ≡ Pulled → new ≡ old

@@ -10,7 +10,7 @@ use Rattle.port_core.specs.declared.act.Act.{Act}
 use Rattle.port_core.specs.declared.act.Act.TheVariants.{Pull, Push, Complete, FailOut, Cancel}
 use Rattle.port_core.specs.View.{View, acted_all}
 use Rattle.port_core.specs.Call.{Call, starts, CallAllowed, seen, Obeys}
-use Rattle.port_core.specs.Asking.{AsksStand}
+use Rattle.port_core.specs.Asking.{PullsStand}
 use Rattle.stage_core.specs.Histories.{given_all, brought_by, AllEmpty}
 
 -- the most actions that one call appends: two for each port of a stage with the most inputs or outputs, and one of the other
@@ -27,8 +27,8 @@ Pulls (FailOut j c ∷ acts) = Pulls acts
 Pulls (Cancel i ∷ acts) = Pulls acts
 
 -- Wherever the call may come and `Before` holds, actions that ask some input leave `Asking` of what the stage knows once they are done.
-abbrev pub AsksAs : Call → (View → Type 0) → (View → Type 0) → List Act → Type 0
-AsksAs call Before Asking acts = (v : View) → CallAllowed call v → Before v → Pulls acts → Asking (acted_all (seen call v) acts)
+abbrev pub PullsAs : Call → (View → Type 0) → (View → Type 0) → List Act → Type 0
+PullsAs call Before Asking acts = (v : View) → CallAllowed call v → Before v → Pulls acts → Asking (acted_all (seen call v) acts)
 
 -- A stage stays passive or not; one that is has appended no action.
 abbrev pub StaysPassive : Bool → Bool → List Act → Type 0
@@ -39,13 +39,13 @@ module _ {N : Type 0} (row : N → View → Type 0) (law : N → N → View → 
   -- The stage was started: its actions obey the port rules, none of them cancels an input that an earlier one asked, and once they are done its row and its law hold.
   pub record Starts (fresh : N → View → Type 0) (old new : N) (acts : List Act) : Type 0 where
     pub obeys : Obeys starts (fresh old) (row new) acts
-    pub stands : AsksStand acts
+    pub stands : PullsStand acts
     pub begins : (v : View) (took gave : List (List Item)) → CallAllowed starts v → fresh old v → AllEmpty took → AllEmpty gave → length took ≡ length v.ins → length gave ≡ length v.outs
         → law old new (acted_all v acts) took (given_all acts gave)
 
   -- The call was handled: its actions obey the port rules, none of them cancels an input that an earlier one asked, and once they are done its row and its law hold again.
   pub record Handles (call : Call) (old new : N) (acts : List Act) : Type 0 where
     pub obeys : Obeys call (row old) (row new) acts
-    pub stands : AsksStand acts
+    pub stands : PullsStand acts
     pub keeps : (first : N) (v : View) (took gave : List (List Item)) → CallAllowed call v → row old v → law first old v took gave
         → law first new (acted_all (seen call v) acts) (brought_by call took) (given_all acts gave)

@@ -3,8 +3,8 @@ ghost use Rattle.elem_core.specs.Prefix.{IsPrefix};
 ghost use Rattle.elem_core.specs.declared.item.Item.{Item};
 ghost use Rattle.elem_core.specs.declared.item.Item.TheVariants as item;
 ghost use Rattle.port_core.specs.View.{View};
-ghost use Rattle.port_core.specs.Call.{Meets, starts, asks, brings, cancels};
-ghost use Rattle.stage_core.specs.Handling.{most_acts, AsksAs, StaysPassive, Starts, Handles};
+ghost use Rattle.port_core.specs.Call.{Meets, starts, pulls, arrives, cancels};
+ghost use Rattle.stage_core.specs.Handling.{most_acts, PullsAs, StaysPassive, Starts, Handles};
 ghost use Rattle.stage_core.specs.Handing.{Hands};
 
 use elem_core::elem::Elem;
@@ -45,7 +45,7 @@ pub trait Stage: Drop {
         requires empty { acts.old.items ≡ [] }
         requires room { most_acts ≤ acts.old.room }
         ensures starts { OnOk result (Starts rests law fresh self.old self.new acts.new.items) }
-        ensures asks { OnOk result (AsksAs starts (fresh self.old) (asking self.new) acts.new.items) }
+        ensures pulls { OnOk result (PullsAs starts (fresh self.old) (asking self.new) acts.new.items) }
         ensures grows { OnOk result (IsPrefix (moves self.old) (moves self.new)) }
         ensures passive { OnOk result (StaysPassive (passive self.old) (passive self.new) acts.new.items) }
         ensures gone { OnOk result (gone self.new ≡ gone self.old) }
@@ -54,11 +54,11 @@ pub trait Stage: Drop {
 
     /// Output `port` was asked.
     fn on_pull(&mut self, alloc: Global, port: u8, acts: &mut Acts) -> Result<(), NoMemory>
-        requires meets { Meets (asks port) (rests self.old) }
+        requires meets { Meets (pulls port) (rests self.old) }
         requires empty { acts.old.items ≡ [] }
         requires room { most_acts ≤ acts.old.room }
-        ensures handles { OnOk result (Handles rests law (asks port) self.old self.new acts.new.items) }
-        ensures asks { OnOk result (AsksAs (asks port) (rests self.old) (asking self.new) acts.new.items) }
+        ensures handles { OnOk result (Handles rests law (pulls port) self.old self.new acts.new.items) }
+        ensures pulls { OnOk result (PullsAs (pulls port) (rests self.old) (asking self.new) acts.new.items) }
         ensures grows { OnOk result (IsPrefix (moves self.old) (moves self.new)) }
         ensures passive { OnOk result (StaysPassive (passive self.old) (passive self.new) acts.new.items) }
         ensures gone { OnOk result (gone self.new ≡ gone self.old) }
@@ -67,11 +67,11 @@ pub trait Stage: Drop {
 
     /// An element came to input `port`.
     fn on_push(&mut self, alloc: Global, port: u8, e: Elem, acts: &mut Acts) -> Result<(), NoMemory>
-        requires meets { Meets (brings port (item.Elem e)) (rests self.old) }
+        requires meets { Meets (arrives port (item.Elem e)) (rests self.old) }
         requires empty { acts.old.items ≡ [] }
         requires room { most_acts ≤ acts.old.room }
-        ensures handles { OnOk result (Handles rests law (brings port (item.Elem e)) self.old self.new acts.new.items) }
-        ensures asks { OnOk result (AsksAs (brings port (item.Elem e)) (rests self.old) (asking self.new) acts.new.items) }
+        ensures handles { OnOk result (Handles rests law (arrives port (item.Elem e)) self.old self.new acts.new.items) }
+        ensures pulls { OnOk result (PullsAs (arrives port (item.Elem e)) (rests self.old) (asking self.new) acts.new.items) }
         ensures grows { OnOk result (IsPrefix (moves self.old) (moves self.new)) }
         ensures passive { OnOk result (StaysPassive (passive self.old) (passive self.new) acts.new.items) }
         ensures gone { OnOk result (gone self.new ≡ gone self.old) }
@@ -80,11 +80,11 @@ pub trait Stage: Drop {
 
     /// Input `port` has ended.
     fn on_finish(&mut self, alloc: Global, port: u8, acts: &mut Acts) -> Result<(), NoMemory>
-        requires meets { Meets (brings port item.Ended) (rests self.old) }
+        requires meets { Meets (arrives port item.Ended) (rests self.old) }
         requires empty { acts.old.items ≡ [] }
         requires room { most_acts ≤ acts.old.room }
-        ensures handles { OnOk result (Handles rests law (brings port item.Ended) self.old self.new acts.new.items) }
-        ensures asks { OnOk result (AsksAs (brings port item.Ended) (rests self.old) (asking self.new) acts.new.items) }
+        ensures handles { OnOk result (Handles rests law (arrives port item.Ended) self.old self.new acts.new.items) }
+        ensures pulls { OnOk result (PullsAs (arrives port item.Ended) (rests self.old) (asking self.new) acts.new.items) }
         ensures grows { OnOk result (IsPrefix (moves self.old) (moves self.new)) }
         ensures passive { OnOk result (StaysPassive (passive self.old) (passive self.new) acts.new.items) }
         ensures gone { OnOk result (gone self.new ≡ gone self.old) }
@@ -99,11 +99,11 @@ pub trait Stage: Drop {
         cause: Cause,
         acts: &mut Acts,
     ) -> Result<(), NoMemory>
-        requires meets { Meets (brings port (item.Failed cause)) (rests self.old) }
+        requires meets { Meets (arrives port (item.Failed cause)) (rests self.old) }
         requires empty { acts.old.items ≡ [] }
         requires room { most_acts ≤ acts.old.room }
-        ensures handles { OnOk result (Handles rests law (brings port (item.Failed cause)) self.old self.new acts.new.items) }
-        ensures asks { OnOk result (AsksAs (brings port (item.Failed cause)) (rests self.old) (asking self.new) acts.new.items) }
+        ensures handles { OnOk result (Handles rests law (arrives port (item.Failed cause)) self.old self.new acts.new.items) }
+        ensures pulls { OnOk result (PullsAs (arrives port (item.Failed cause)) (rests self.old) (asking self.new) acts.new.items) }
         ensures grows { OnOk result (IsPrefix (moves self.old) (moves self.new)) }
         ensures passive { OnOk result (StaysPassive (passive self.old) (passive self.new) acts.new.items) }
         ensures gone { OnOk result (gone self.new ≡ gone self.old) }
@@ -116,7 +116,7 @@ pub trait Stage: Drop {
         requires empty { acts.old.items ≡ [] }
         requires room { most_acts ≤ acts.old.room }
         ensures handles { OnOk result (Handles rests law (cancels port) self.old self.new acts.new.items) }
-        ensures asks { OnOk result (AsksAs (cancels port) (rests self.old) (asking self.new) acts.new.items) }
+        ensures pulls { OnOk result (PullsAs (cancels port) (rests self.old) (asking self.new) acts.new.items) }
         ensures grows { OnOk result (IsPrefix (moves self.old) (moves self.new)) }
         ensures passive { OnOk result (StaysPassive (passive self.old) (passive self.new) acts.new.items) }
         ensures gone { OnOk result (gone self.new ≡ gone self.old) }

@@ -8,7 +8,7 @@ use Rattle.elem_core.specs.Tree.{Tree}
 use Rattle.stream_model.specs.Outlook.{End}
 use Rattle.stream_model.specs.FanIn.{Inflow}
 use Rattle.stream_model.specs.declared.kind.Policy.{Policy}
-use Rattle.stream_model.specs.Picks.{Buffered, buffered, arrives, leaves, comes, empty_buffer, count_of}
+use Rattle.stream_model.specs.Picks.{Buffered, buffered, after_coming, leaves, comes, empty_buffer, count_of}
 use Rattle.stage_dropping.specs.Drops.{DropCounts, DropStandsOf}
 use Rattle.stage_dropping.proofs.DropTurns.{differ, stuck}
 
@@ -47,11 +47,11 @@ module _ (p : Policy) (n : ℕ) where
   spoilt : (ms : List ℕ) (l : List Tree) (b : Buffered) → b.ok ≡ false → (buffered p n ms l b).ok ≡ true → ⊥
   spoilt ms l b e ok = differ (stuck p n ms l b e) ok
 
-  took : (ms : List ℕ) (l : List Tree) (b : Buffered) → ((c : Buffered) → Counted ms l c) → (o : Bool) (x : Option (List Tree)) → (buffered p n ms l (if o then record b { ok = false } else arrives b x)).ok ≡ true
-      → (length (buffered p n ms l (if o then record b { ok = false } else arrives b x)).gave ≡ length b.gave + counted 1 ms) × (counted 0 ms ≤ length l)
+  took : (ms : List ℕ) (l : List Tree) (b : Buffered) → ((c : Buffered) → Counted ms l c) → (o : Bool) (x : Option (List Tree)) → (buffered p n ms l (if o then record b { ok = false } else after_coming b x)).ok ≡ true
+      → (length (buffered p n ms l (if o then record b { ok = false } else after_coming b x)).gave ≡ length b.gave + counted 1 ms) × (counted 0 ms ≤ length l)
   took ms l b so true x ok = absurd (spoilt ms l (record b { ok = false }) refl ok)
-  took ms l b so false (Some h) ok = so (arrives b (Some h)) ok
-  took ms l b so false None ok = so (arrives b None) ok
+  took ms l b so false (Some h) ok = so (after_coming b (Some h)) ok
+  took ms l b so false None ok = so (after_coming b None) ok
 
   gave : (ms : List ℕ) (l : List Tree) (b : Buffered) → ((c : Buffered) → Counted ms l c) → (h : List Tree) → (buffered p n ms l (leaves b h)).ok ≡ true
       → (length (buffered p n ms l (leaves b h)).gave ≡ suc (length b.gave + counted 1 ms)) × (counted 0 ms ≤ length l)

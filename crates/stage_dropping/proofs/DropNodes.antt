@@ -8,9 +8,9 @@ use Rattle.port_core.specs.declared.act.Act.{Act}
 use Rattle.port_core.specs.declared.view.InView.{InView}
 use Rattle.port_core.specs.declared.view.InView.TheVariants.{Idle}
 use Rattle.port_core.specs.declared.view.OutView.{OutView}
-use Rattle.port_core.specs.declared.view.OutView.TheVariants.{Unasked, Shut}
+use Rattle.port_core.specs.declared.view.OutView.TheVariants as outlet
 use Rattle.port_core.specs.View.{View, OneOneOf, IsInOpen, IsOutOpen, ActsAllowed, acted_all, unpulled_ports}
-use Rattle.port_core.specs.Call.{Call, starts, asks, brings, cancels, CallAllowed, seen, Obeys, given_on}
+use Rattle.port_core.specs.Call.{Call, starts, pulls, arrives, cancels, CallAllowed, seen, Obeys, given_on}
 use Rattle.stream_model.specs.declared.kind.Kind.TheVariants.{Buffer}
 use Rattle.stream_model.specs.declared.kind.Policy.{Policy}
 use Rattle.stream_model.specs.declared.kind.Policy.TheVariants.{Backpressure, DropHead, DropTail, DropBuffer, DropNew, Fail}
@@ -42,8 +42,8 @@ use Rattle.stage_dropping.proofs.DropTurns.{drop_new, drop_call, drop_rest, drop
 
 some_open : (call : Call) (x : InView) (y : OutView) → CallAllowed call (record { ins = x ∷ []; outs = y ∷ [] }) → IsInOpen x ⊎ IsOutOpen y
 some_open starts x y h = inl (rw h.0.0 tt)
-some_open (asks j) x y h = may_come (asks j) x y (λ e. cc) h
-some_open (brings i b) x y h = may_come (brings i b) x y (λ e. cc) h
+some_open (pulls j) x y h = may_come (pulls j) x y (λ e. cc) h
+some_open (arrives i b) x y h = may_come (arrives i b) x y (λ e. cc) h
 some_open (cancels j) x y h = may_come (cancels j) x y (λ e. cc) h
 
 open_at : (l : Dropping) (p : Phase) (over asked : Bool) (x : InView) (y : OutView) → (p ≡ New → ⊥) → (IsInOpen x ⊎ IsOutOpen y) → drop_at l p over asked x y → p ≡ Open
@@ -99,11 +99,11 @@ handled c old new acts o t = record {
 
 -- what a new one knows of its ports, and that it holds nothing
 record News (held : List Tree) (xs : List InView) (ys : List OutView) : Type 0 where
-  outs : ys ≡ Unasked ∷ []
+  outs : ys ≡ outlet.Unpulled ∷ []
   none : held ≡ []
 
 new_ports : (l : Dropping) (p : Phase) (over asked : Bool) (x : InView) (y : OutView) → p ≡ New → drop_at l p over asked x y → News l.held (x ∷ []) (y ∷ [])
-new_ports l New false false Idle Unasked e r = record { outs = refl; none = r.0 }
+new_ports l New false false Idle outlet.Unpulled e r = record { outs = refl; none = r.0 }
 new_ports l New over asked x y e r = absurd r
 new_ports l Open over asked x y e r = cc
 new_ports l Closed over asked x y e r = cc
@@ -128,7 +128,7 @@ fresh_law l v took gave may f a b m n =
       size = refl;
       by = begun (DropKeeps l.node l.policy l.size (held_of l)) v took gave a b m (n ∙ ap length new.outs)
           (subst (λ x. PortsLaw (DropKeeps l.node l.policy l.size x) v (λ _. []) []) (sym owes)
-          (drop_new l.node l.policy l.size v one may.0 (subst (λ ys. GaveAs (slice_index_or ys 0 Shut) unended) (sym new.outs) refl)));
+          (drop_new l.node l.policy l.size v one may.0 (subst (λ ys. GaveAs (slice_index_or ys 0 outlet.Closed) unended) (sym new.outs) refl)));
     }
 
 pub started : (old new : Dropping) (acts : List Act) → Obeys starts (row old) (row new) acts → Turned starts old acts new → Starts DropRow DropsAs DropFresh old new acts

@@ -9,10 +9,10 @@ use Rattle.elem_core.specs.declared.why.Cause.{Cause}
 use Rattle.stream_model.specs.Outlook.{End, unended, ended, failed}
 use Rattle.stream_model.specs.FanIn.{Inflow}
 use Rattle.stream_model.specs.declared.kind.Policy.{Policy}
-use Rattle.stream_model.specs.Picks.{Buffered, buffered, arrives, leaves, comes, empty_buffer, BufferStands}
+use Rattle.stream_model.specs.Picks.{Buffered, buffered, after_coming, leaves, comes, empty_buffer, BufferStands}
 use Rattle.port_core.specs.declared.act.Act.{Act}
 use Rattle.port_core.specs.View.{View, out_at, ActsAllowed, acted_all}
-use Rattle.port_core.specs.Call.{Call, starts, asks, brings, cancels, AllIdle, CallAllowed, seen, brought_to, given_on}
+use Rattle.port_core.specs.Call.{Call, starts, pulls, arrives, cancels, AllIdle, CallAllowed, seen, brought_to, given_on}
 use Rattle.stage_law.specs.Law.{GaveAs}
 use Rattle.stage_law.specs.Inflows.{nothing, joined, joined_at, joined_all, coming}
 use Rattle.stage_law.proofs.Inflows.{Stepped, ports_law, new_ports}
@@ -29,10 +29,10 @@ differ {b} x y = cc
 
 module _ (p : Policy) (n : ℕ) where
   zero_stuck : (ms : List ℕ) (l : List Tree) (b : Buffered) → b.ok ≡ false → ((c : Buffered) → c.ok ≡ false → (buffered p n ms l c).ok ≡ false)
-      → (o : Bool) (x : Option (List Tree)) → (buffered p n ms l (if o then record b { ok = false } else arrives b x)).ok ≡ false
+      → (o : Bool) (x : Option (List Tree)) → (buffered p n ms l (if o then record b { ok = false } else after_coming b x)).ok ≡ false
   zero_stuck ms l b e so true x = so (record b { ok = false }) refl
-  zero_stuck ms l b e so false (Some h) = so (arrives b (Some h)) e
-  zero_stuck ms l b e so false None = so (arrives b None) e
+  zero_stuck ms l b e so false (Some h) = so (after_coming b (Some h)) e
+  zero_stuck ms l b e so false None = so (after_coming b None) e
 
   one_stuck : (ms : List ℕ) (l : List Tree) (b : Buffered) → b.ok ≡ false → ((c : Buffered) → c.ok ≡ false → (buffered p n ms l c).ok ≡ false)
       → (o : Bool) (h : List Tree) → (buffered p n ms l (if o then record b { ok = false } else leaves b h)).ok ≡ false
@@ -55,11 +55,11 @@ module _ (p : Policy) (n : ℕ) where
   wrong ms l c d e ok is = differ (sym (ap (λ (x : Buffered). x.ok) is) ∙ stuck ms l c e) ok
 
   zero_split : (ms ns : List ℕ) (l k : List Tree) (b d : Buffered) → d.ok ≡ true → d.came ≡ b.came + suc (length l) → ((c : Buffered) → Splits ms ns l k d c)
-      → (o : Bool) (x : Option (List Tree)) → buffered p n ms l (if o then record b { ok = false } else arrives b x) ≡ d
-      → buffered p n (ms ++ ns) (l ++ k) (if o then record b { ok = false } else arrives b x) ≡ buffered p n ns k d
+      → (o : Bool) (x : Option (List Tree)) → buffered p n ms l (if o then record b { ok = false } else after_coming b x) ≡ d
+      → buffered p n (ms ++ ns) (l ++ k) (if o then record b { ok = false } else after_coming b x) ≡ buffered p n ns k d
   zero_split ms ns l k b d ok came so true x is = absurd (wrong ms l (record b { ok = false }) d refl ok is)
-  zero_split ms ns l k b d ok came so false (Some h) is = so (arrives b (Some h)) is (omega (arith, came))
-  zero_split ms ns l k b d ok came so false None is = so (arrives b None) is (omega (arith, came))
+  zero_split ms ns l k b d ok came so false (Some h) is = so (after_coming b (Some h)) is (omega (arith, came))
+  zero_split ms ns l k b d ok came so false None is = so (after_coming b None) is (omega (arith, came))
 
   one_split : (ms ns : List ℕ) (l k : List Tree) (b d : Buffered) → d.ok ≡ true → d.came ≡ b.came + length l → ((c : Buffered) → Splits ms ns l k d c)
       → (o : Bool) (h : List Tree) → buffered p n ms l (if o then record b { ok = false } else leaves b h) ≡ d
@@ -167,8 +167,8 @@ module _ (node : ℕ) (p : Policy) (n : ℕ) where
   stepped : (call : Call) (came : ℕ) (moves : List ℕ) (held : List Tree) (e : End) (new : DropHeld) (f : Inflow) (g : List Tree) (x : End) (out : List Item) → DropKeeps node p n (holds came moves held e) (f ∷ []) g x
       → DropTurnAt node p n call (holds came moves held e) out new → Stepped (DropKeeps node p n new) (joined f (coming call 0) ∷ []) g out
   stepped starts came moves held e new f g x out k s = rw (joined_is f (coming starts 0) e k.1.0) (steps came moves held f.list g out k.1.1.0 k.1.1.1 (joined_at e [] (coming starts 0)) new s)
-  stepped (asks j) came moves held e new f g x out k s = rw (joined_is f (coming (asks j) 0) e k.1.0) (steps came moves held f.list g out k.1.1.0 k.1.1.1 (joined_at e [] (coming (asks j) 0)) new s)
-  stepped (brings i b) came moves held e new f g x out k s = rw (joined_is f (coming (brings i b) 0) e k.1.0) (steps came moves held f.list g out k.1.1.0 k.1.1.1 (joined_at e [] (coming (brings i b) 0)) new s)
+  stepped (pulls j) came moves held e new f g x out k s = rw (joined_is f (coming (pulls j) 0) e k.1.0) (steps came moves held f.list g out k.1.1.0 k.1.1.1 (joined_at e [] (coming (pulls j) 0)) new s)
+  stepped (arrives i b) came moves held e new f g x out k s = rw (joined_is f (coming (arrives i b) 0) e k.1.0) (steps came moves held f.list g out k.1.1.0 k.1.1.1 (joined_at e [] (coming (arrives i b) 0)) new s)
   stepped (cancels j) came moves held e new f g x out k s = rw (still e f k.1.0) (leaves_so came moves held e f g x out new k s)
 
   -- a call keeps the law

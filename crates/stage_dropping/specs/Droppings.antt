@@ -5,11 +5,11 @@ use Rattle.elem_core.specs.declared.item.Item.{Item}
 use Rattle.port_core.specs.declared.act.Act.{Act}
 use Rattle.port_core.specs.declared.act.Act.TheVariants.{Push, Complete}
 use Rattle.port_core.specs.declared.view.InView.{InView}
-use Rattle.port_core.specs.declared.view.InView.TheVariants.{Idle, Waiting, Over}
+use Rattle.port_core.specs.declared.view.InView.TheVariants.{Idle, Pulled, Finished}
 use Rattle.port_core.specs.declared.view.OutView.{OutView}
-use Rattle.port_core.specs.declared.view.OutView.TheVariants.{Unasked, Asked}
+use Rattle.port_core.specs.declared.view.OutView.TheVariants.{Unpulled, Available}
 use Rattle.port_core.specs.View.{View, OneOne}
-use Rattle.port_core.specs.Asking.{AsksStand}
+use Rattle.port_core.specs.Asking.{PullsStand}
 use Rattle.port_core.specs.Call.{Call, given_on}
 use Rattle.stream_model.specs.Outlook.{End, unended, ended}
 use Rattle.stream_model.specs.Picks.{comes}
@@ -41,10 +41,10 @@ Drops l = (l.policy ≢ Backpressure) × (0 < l.size)
 
 -- It waits until its input ends, and holds nothing where its output is asked; then it holds something, and is not asked.
 abbrev pub drop_at : Dropping → Phase → Bool → Bool → InView → OutView → Type 0
-drop_at l New false false Idle Unasked = (l.held ≡ []) × Drops l
-drop_at l Open false true Waiting Asked = (l.held ≡ []) × Drops l
-drop_at l Open false false Waiting Unasked = (length l.held ≤ l.size) × Drops l
-drop_at l Open true false Over Unasked = (0 < length l.held) × Drops l
+drop_at l New false false Idle Unpulled = (l.held ≡ []) × Drops l
+drop_at l Open false true Pulled Available = (l.held ≡ []) × Drops l
+drop_at l Open false false Pulled Unpulled = (length l.held ≤ l.size) × Drops l
+drop_at l Open true false Finished Unpulled = (0 < length l.held) × Drops l
 drop_at l Closed over asked i o = BothClosed i o
 drop_at l _ _ _ _ _ = ⊥
 
@@ -93,7 +93,7 @@ pub record Turned (call : Call) (old : Dropping) (acts : List Act) (new : Droppi
   pub node : new.node ≡ old.node
   pub policy : new.policy ≡ old.policy
   pub size : new.size ≡ old.size
-  pub stands : AsksStand acts
+  pub stands : PullsStand acts
   pub started : new.phase ≢ New
   pub more : List ℕ
   pub grows : new.moves ≡ old.moves ++ more

@@ -6,13 +6,13 @@ use Rattle.elem_core.specs.declared.item.Item.{Item}
 use Rattle.elem_core.specs.declared.item.Item.TheVariants as item
 use Rattle.port_core.specs.declared.act.Act.{Act}
 use Rattle.port_core.specs.declared.view.InView.{InView}
-use Rattle.port_core.specs.declared.view.InView.TheVariants.{Idle, Waiting, Over, Left}
+use Rattle.port_core.specs.declared.view.InView.TheVariants.{Idle, Pulled, Finished, Cancelled}
 use Rattle.port_core.specs.declared.view.OutView.{OutView}
-use Rattle.port_core.specs.declared.view.OutView.TheVariants.{Unasked, Asked, Shut, Refused}
+use Rattle.port_core.specs.declared.view.OutView.TheVariants as outlet
 use Rattle.port_core.specs.View as port
 use Rattle.port_core.specs.View.{in_at, IsInOpen, IsOutOpen, ActsAllowed, acted_all}
-use Rattle.port_core.specs.Asking.{AsksStand}
-use Rattle.port_core.specs.Call.{AllUnasked, MayCome, Call, starts, asks, brings, cancels, CallAllowed, given_on}
+use Rattle.port_core.specs.Asking.{PullsStand}
+use Rattle.port_core.specs.Call.{AllUnasked, MayCome, Call, starts, pulls, arrives, cancels, CallAllowed, given_on}
 use Rattle.stream_model.specs.FanIn.{Inflow}
 use Rattle.stream_picture.specs.View.{View, EachWire}
 use Rattle.stream_picture.specs.Rests.{IsShut}
@@ -21,7 +21,7 @@ use Rattle.stage_fans.specs.OwnRows.{own_inputs, own_outputs, FanRests}
 
 -- ---- the output
 
-pub unasked_wish : (b : Bool) → wish b ≡ Unasked → b ≡ false
+pub unasked_wish : (b : Bool) → wish b ≡ outlet.Unpulled → b ≡ false
 unasked_wish true h = cc
 unasked_wish false h = refl
 
@@ -40,7 +40,7 @@ set_behind [] b x y n h = rw (← h) refl
 set_behind (z ∷ a) b x y zero h = absurd (omega (arith, h))
 set_behind (z ∷ a) b x y (suc n) h = ap (λ (xs : List InView). z ∷ xs) (set_behind a b x y n (omega (arith, h)))
 
-pub at_behind : (a b : List InView) (x : InView) (n : ℕ) → length a ≡ n → slice_index_or (a ++ x ∷ b) n Left ≡ x
+pub at_behind : (a b : List InView) (x : InView) (n : ℕ) → length a ≡ n → slice_index_or (a ++ x ∷ b) n Cancelled ≡ x
 at_behind [] b x n h = rw (← h) refl
 at_behind (z ∷ a) b x zero h = absurd (omega (arith, h))
 at_behind (z ∷ a) b x (suc n) h = at_behind a b x n (omega (arith, h))
@@ -57,27 +57,27 @@ cancels_give n [] = refl
 cancels_give n (true ∷ over) = cancels_give (n + 1) over
 cancels_give n (false ∷ over) = cancels_give (n + 1) over
 
-pub cancels_stand : (n : ℕ) (over : List Bool) → AsksStand (open_cancels n over)
+pub cancels_stand : (n : ℕ) (over : List Bool) → PullsStand (open_cancels n over)
 cancels_stand n [] = tt
 cancels_stand n (true ∷ over) = cancels_stand (n + 1) over
 cancels_stand n (false ∷ over) = cancels_stand (n + 1) over
 
 -- ---- one whose ports are closed is not called
 
-closed_in : (xs : List InView) (i : ℕ) → InsClosed xs → IsInOpen (slice_index_or xs i Left) → ⊥
+closed_in : (xs : List InView) (i : ℕ) → InsClosed xs → IsInOpen (slice_index_or xs i Cancelled) → ⊥
 closed_in [] i h o = o
 closed_in (Idle ∷ xs) zero h o = h.0
-closed_in (Waiting ∷ xs) zero h o = h.0
-closed_in (Over ∷ xs) zero h o = o
-closed_in (Left ∷ xs) zero h o = o
+closed_in (Pulled ∷ xs) zero h o = h.0
+closed_in (Finished ∷ xs) zero h o = o
+closed_in (Cancelled ∷ xs) zero h o = o
 closed_in (x ∷ xs) (suc i) h o = closed_in xs i h.1 o
 
-closed_out : (ys : List OutView) (j : ℕ) → OneClosed ys → IsOutOpen (slice_index_or ys j Shut) → ⊥
+closed_out : (ys : List OutView) (j : ℕ) → OneClosed ys → IsOutOpen (slice_index_or ys j outlet.Closed) → ⊥
 closed_out [] j h o = h
-closed_out (Unasked ∷ []) zero h o = h
-closed_out (Asked ∷ []) zero h o = h
-closed_out (Shut ∷ []) zero h o = o
-closed_out (Refused ∷ []) zero h o = o
+closed_out (outlet.Unpulled ∷ []) zero h o = h
+closed_out (outlet.Available ∷ []) zero h o = h
+closed_out (outlet.Closed ∷ []) zero h o = o
+closed_out (outlet.Cancelled ∷ []) zero h o = o
 closed_out (y ∷ []) (suc j) h o = o
 closed_out (y ∷ z ∷ ys) j h o = h
 
@@ -88,16 +88,16 @@ comes_open (item.Failed c) p h = h
 
 closed_unasked : (ys : List OutView) → OneClosed ys → AllUnasked ys → ⊥
 closed_unasked [] h a = h
-closed_unasked (Unasked ∷ []) h a = h
-closed_unasked (Asked ∷ []) h a = h
-closed_unasked (Shut ∷ []) h a = let x : Shut ≡ Unasked = a.0 in cc
-closed_unasked (Refused ∷ []) h a = let x : Refused ≡ Unasked = a.0 in cc
+closed_unasked (outlet.Unpulled ∷ []) h a = h
+closed_unasked (outlet.Available ∷ []) h a = h
+closed_unasked (outlet.Closed ∷ []) h a = let x : outlet.Closed ≡ outlet.Unpulled = a.0 in cc
+closed_unasked (outlet.Cancelled ∷ []) h a = let x : outlet.Cancelled ≡ outlet.Unpulled = a.0 in cc
 closed_unasked (y ∷ z ∷ ys) h a = h
 
 pub none_called : (c : Call) (v : port.View) → CallAllowed c v → FanClosed v → ⊥
 none_called starts v m h = closed_unasked v.outs h.1 m.1
-none_called (asks j) v m h = closed_out v.outs j h.1 (subst IsOutOpen (sym m) tt)
-none_called (brings i x) v m h = closed_in v.ins i h.0 (comes_open x (in_at v i) m)
+none_called (pulls j) v m h = closed_out v.outs j h.1 (subst IsOutOpen (sym m) tt)
+none_called (arrives i x) v m h = closed_in v.ins i h.0 (comes_open x (in_at v i) m)
 none_called (cancels j) v m h = closed_out v.outs j h.1 m
 
 -- ---- closed ports
@@ -105,16 +105,16 @@ none_called (cancels j) v m h = closed_out v.outs j h.1 m
 ins_shut : (xs : List InView) (fs : List Inflow) → InsClosed xs → EachWire IsShut (own_inputs xs fs)
 ins_shut [] fs h = tt
 ins_shut (x ∷ xs) [] h = tt
-ins_shut (Over ∷ xs) (f ∷ fs) h = (refl, ins_shut xs fs h.1)
-ins_shut (Left ∷ xs) (f ∷ fs) h = (refl, ins_shut xs fs h.1)
+ins_shut (Finished ∷ xs) (f ∷ fs) h = (refl, ins_shut xs fs h.1)
+ins_shut (Cancelled ∷ xs) (f ∷ fs) h = (refl, ins_shut xs fs h.1)
 ins_shut (Idle ∷ xs) (f ∷ fs) h = absurd h.0
-ins_shut (Waiting ∷ xs) (f ∷ fs) h = absurd h.0
+ins_shut (Pulled ∷ xs) (f ∷ fs) h = absurd h.0
 
 out_shut : (ys : List OutView) (g : List Tree) → OneClosed ys → EachWire IsShut (own_outputs ys g)
-out_shut (Shut ∷ []) g h = (refl, tt)
-out_shut (Refused ∷ []) g h = (refl, tt)
-out_shut (Unasked ∷ []) g h = absurd h
-out_shut (Asked ∷ []) g h = absurd h
+out_shut (outlet.Closed ∷ []) g h = (refl, tt)
+out_shut (outlet.Cancelled ∷ []) g h = (refl, tt)
+out_shut (outlet.Unpulled ∷ []) g h = absurd h
+out_shut (outlet.Available ∷ []) g h = absurd h
 out_shut [] g h = absurd h
 out_shut (y ∷ z ∷ ys) g h = absurd h
 

@@ -11,7 +11,7 @@ use Rattle.port_core.specs.declared.act.Act.{Act}
 use Rattle.port_core.specs.declared.act.Act.TheVariants.{Pull, Push, Complete, FailOut, Cancel}
 use Rattle.port_core.specs.View.{View, acted, acted_all}
 use Rattle.port_core.specs.Call as call
-use Rattle.port_core.specs.Call.{Call, starts, asks, brings, cancels, CallAllowed, seen, brought_to, given_on}
+use Rattle.port_core.specs.Call.{Call, starts, pulls, arrives, cancels, CallAllowed, seen, brought_to, given_on}
 use Rattle.port_core.proofs.Views.{ins_stay}
 use Rattle.stream_model.specs.Outlook.{End}
 use Rattle.stream_model.specs.FanIn.{Inflow}
@@ -45,14 +45,14 @@ one_more hs k j x l = by_test (k == j) refl
 
 pub brought_at : (c : Call) (hs : List (List Item)) (i : ℕ) → i < length hs → slice_index_or (brought_by c hs) i [] ≡ slice_index_or hs i [] ++ brought_to i c
 brought_at starts hs i l = sym (append-nil (slice_index_or hs i []))
-brought_at (asks j) hs i l = sym (append-nil (slice_index_or hs i []))
-brought_at (brings k x) hs i l = one_more hs k i x l
+brought_at (pulls j) hs i l = sym (append-nil (slice_index_or hs i []))
+brought_at (arrives k x) hs i l = one_more hs k i x l
 brought_at (cancels j) hs i l = sym (append-nil (slice_index_or hs i []))
 
 pub length-brought : (c : Call) (hs : List (List Item)) → length (brought_by c hs) ≡ length hs
 length-brought starts hs = refl
-length-brought (asks j) hs = refl
-length-brought (brings k x) hs = length-set hs k _
+length-brought (pulls j) hs = refl
+length-brought (arrives k x) hs = length-set hs k _
 length-brought (cancels j) hs = refl
 
 given_step : (a : Act) (hs : List (List Item)) (j : ℕ) → j < length hs → slice_index_or (given_by a hs) j [] ≡ slice_index_or hs j [] ++ call.given_by j a
@@ -116,8 +116,8 @@ module _ (K L : List Inflow → List Tree → End → Type 0) (c : Call) (v w : 
 
 pub ins_seen : (c : Call) (v : View) → length (seen c v).ins ≡ length v.ins
 ins_seen starts v = refl
-ins_seen (asks j) v = refl
-ins_seen (brings i b) v = length-set v.ins i _
+ins_seen (pulls j) v = refl
+ins_seen (arrives i b) v = length-set v.ins i _
 ins_seen (cancels j) v = refl
 
 pub ins_acted : (acts : List Act) (v : View) → length (acted_all v acts).ins ≡ length v.ins

@@ -2,7 +2,7 @@
 use Rattle.std.specs.Prelude.{slice_get, slice_set, slice_index_or}
 use Rattle.std.proofs.Common.{◌≡◌, ℕ, zero, suc, ◌⊎◌, inl, inr, List, [], ◌∷◌, ◌++◌, length, map, refl, ap, arith, Some}
 use Rattle.port_core.specs.declared.view.OutView.{OutView}
-use Rattle.port_core.specs.declared.view.OutView.TheVariants.{Unasked, Shut, Refused}
+use Rattle.port_core.specs.declared.view.OutView.TheVariants.{Unpulled, Closed, Cancelled}
 use Rattle.port_core.specs.View.{IsOutOpen}
 use Rattle.stage_fans.specs.declared.outs.OutputState.{OutputState}
 use Rattle.stage_fans.specs.declared.outs.OutputState.TheVariants.{Quiet, Asks, Gone}
@@ -13,14 +13,14 @@ want_set [] j w = refl
 want_set (x ∷ ws) zero w = refl
 want_set (x ∷ ws) (suc j) w = ap (λ (ys : List OutView). want_view x ∷ ys) (want_set ws j w)
 
-pub is_quiet : (ws : List OutputState) (j : ℕ) → slice_index_or (map want_view ws) j Shut ≡ Unasked → slice_get ws j ≡ Some Quiet
+pub is_quiet : (ws : List OutputState) (j : ℕ) → slice_index_or (map want_view ws) j Closed ≡ Unpulled → slice_get ws j ≡ Some Quiet
 is_quiet [] j h = cc
 is_quiet (Quiet ∷ ws) zero h = refl
 is_quiet (Asks ∷ ws) zero h = cc
 is_quiet (Gone ∷ ws) zero h = cc
 is_quiet (x ∷ ws) (suc j) h = is_quiet ws j h
 
-pub is_open : (ws : List OutputState) (j : ℕ) → IsOutOpen (slice_index_or (map want_view ws) j Shut) → (slice_get ws j ≡ Some Quiet) ⊎ (slice_get ws j ≡ Some Asks)
+pub is_open : (ws : List OutputState) (j : ℕ) → IsOutOpen (slice_index_or (map want_view ws) j Closed) → (slice_get ws j ≡ Some Quiet) ⊎ (slice_get ws j ≡ Some Asks)
 is_open [] j h = absurd h
 is_open (Quiet ∷ ws) zero h = inl refl
 is_open (Asks ∷ ws) zero h = inr refl
@@ -31,19 +31,19 @@ is_open (x ∷ ws) (suc j) h = is_open ws j h
 abbrev pub after_one : OutView → OutputState → OutView
 after_one y Quiet = y
 after_one y Asks = y
-after_one y Gone = Refused
+after_one y Gone = Cancelled
 
 pub set_behind : (a b : List OutView) (x y : OutView) (n : ℕ) → length a ≡ n → slice_set (a ++ x ∷ b) n y ≡ a ++ y ∷ b
 set_behind [] b x y n h = rw (← h) refl
 set_behind (z ∷ a) b x y zero h = absurd (omega (arith, h))
 set_behind (z ∷ a) b x y (suc n) h = ap (λ (xs : List OutView). z ∷ xs) (set_behind a b x y n (omega (arith, h)))
 
-pub at_behind : (a b : List OutView) (x : OutView) (n : ℕ) → length a ≡ n → slice_index_or (a ++ x ∷ b) n Shut ≡ x
+pub at_behind : (a b : List OutView) (x : OutView) (n : ℕ) → length a ≡ n → slice_index_or (a ++ x ∷ b) n Closed ≡ x
 at_behind [] b x n h = rw (← h) refl
 at_behind (z ∷ a) b x zero h = absurd (omega (arith, h))
 at_behind (z ∷ a) b x (suc n) h = at_behind a b x n (omega (arith, h))
 
-pub shut_views : (ws : List OutputState) → OutsClosed (map (after_one Shut) ws)
+pub shut_views : (ws : List OutputState) → OutsClosed (map (after_one Closed) ws)
 shut_views [] = tt
 shut_views (Quiet ∷ ws) = (tt, shut_views ws)
 shut_views (Asks ∷ ws) = (tt, shut_views ws)

@@ -3,7 +3,7 @@ use Rattle.std.specs.Prelude.{ℕ, suc, ◌+◌, List, [], ◌∷◌, ⊤}
 use Rattle.port_core.specs.declared.act.Act.{Act}
 use Rattle.port_core.specs.declared.view.InView.{InView}
 use Rattle.port_core.specs.declared.view.OutView.{OutView}
-use Rattle.port_core.specs.declared.view.OutView.TheVariants.{Unasked, Asked, Refused}
+use Rattle.port_core.specs.declared.view.OutView.TheVariants.{Unpulled, Available, Cancelled}
 use Rattle.port_core.specs.View.{View}
 use Rattle.stage_law.specs.Row.{InClosed, OutClosed}
 use Rattle.stage_fans.specs.declared.outs.OutputState.{OutputState}
@@ -11,9 +11,9 @@ use Rattle.stage_fans.specs.declared.outs.OutputState.TheVariants.{Quiet, Asks, 
 
 -- what is known of an output
 abbrev pub want_view : OutputState → OutView
-want_view Quiet = Unasked
-want_view Asks = Asked
-want_view Gone = Refused
+want_view Quiet = Unpulled
+want_view Asks = Available
+want_view Gone = Cancelled
 
 -- how many are open
 abbrev pub open_count : List OutputState → ℕ

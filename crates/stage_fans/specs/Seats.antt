@@ -4,15 +4,15 @@ use Rattle.port_core.specs.declared.act.Act.{Act}
 use Rattle.port_core.specs.declared.act.Act.TheVariants.{Cancel}
 use Rattle.port_core.specs.declared.view.InView.{InView}
 use Rattle.port_core.specs.declared.view.OutView.{OutView}
-use Rattle.port_core.specs.declared.view.OutView.TheVariants.{Unasked, Asked}
+use Rattle.port_core.specs.declared.view.OutView.TheVariants.{Unpulled, Available}
 use Rattle.port_core.specs.View.{View}
 use Rattle.stage_law.specs.Row.{InClosed, OutClosed}
 use Rattle.stream_model.specs.Outlook.{End, unended, ended}
 
 -- the output
 abbrev pub wish : Bool → OutView
-wish true = Asked
-wish false = Unasked
+wish true = Available
+wish false = Unpulled
 
 -- a cancel of each input from number n on that has not ended
 abbrev pub open_cancels : ℕ → List Bool → List Act

@@ -4,9 +4,9 @@ use Rattle.std.proofs.Common.{◌≡◌, ◌≤◌, ℕ, zero, suc, Bool, true, 
 use Rattle.elem_core.specs.Prefix.{IsPrefix}
 use Rattle.port_core.specs.declared.act.Act.{Act}
 use Rattle.port_core.specs.declared.view.OutView.{OutView}
-use Rattle.port_core.specs.declared.view.OutView.TheVariants.{Shut}
+use Rattle.port_core.specs.declared.view.OutView.TheVariants as outlet
 use Rattle.port_core.specs.View.{View, IsOutOpen}
-use Rattle.port_core.specs.Call.{Call, starts, asks, brings, cancels, CallAllowed, Meets, Obeys}
+use Rattle.port_core.specs.Call.{Call, starts, pulls, arrives, cancels, CallAllowed, Meets, Obeys}
 use Rattle.stage_core.specs.Handling.{most_acts, Handles}
 use Rattle.stage_core.proofs.OnOks.{on_ok_two}
 use Rattle.stage_in.proofs.OnOks.{on_ok}
@@ -54,20 +54,20 @@ one_output (logic.Merging l) v r = one_merging l.core.phase l.core v r
 -- the same call of that output
 abbrev pub at_output : Call → Call
 at_output starts = starts
-at_output (asks j) = asks 0
-at_output (brings i x) = brings i x
+at_output (pulls j) = pulls 0
+at_output (arrives i x) = arrives i x
 at_output (cancels j) = cancels 0
 
-no_other : (ys : List OutView) (j : _) → length ys ≡ 1 → IsOutOpen (slice_index_or ys (suc j) Shut) → ⊥
+no_other : (ys : List OutView) (j : _) → length ys ≡ 1 → IsOutOpen (slice_index_or ys (suc j) outlet.Closed) → ⊥
 no_other [] j e h = absurd (omega (arith, e))
 no_other (y ∷ []) j e h = h
 no_other (y ∷ z ∷ ys) j e h = absurd (omega (arith, e))
 
 output_is : (call : Call) (l : InLogic) (v : View) → CallAllowed call v → row l v → at_output call ≡ call
 output_is starts l v h r = refl
-output_is (asks zero) l v h r = refl
-output_is (asks (suc j)) l v h r = absurd (no_other v.outs j (one_output l v r) (subst IsOutOpen (sym h) tt))
-output_is (brings i x) l v h r = refl
+output_is (pulls zero) l v h r = refl
+output_is (pulls (suc j)) l v h r = absurd (no_other v.outs j (one_output l v r) (subst IsOutOpen (sym h) tt))
+output_is (arrives i x) l v h r = refl
 output_is (cancels zero) l v h r = refl
 output_is (cancels (suc j)) l v h r = absurd (no_other v.outs j (one_output l v r) h)
 
@@ -85,8 +85,8 @@ met call l m = subst (λ c. Meets c (row l)) (sym (output_is call l m.0 m.1.0 m.
 
 not_starts : (call : Call) → (call ≡ starts → ⊥) → at_output call ≡ starts → ⊥
 not_starts starts n e = n refl
-not_starts (asks j) n e = cc
-not_starts (brings i x) n e = cc
+not_starts (pulls j) n e = cc
+not_starts (arrives i x) n e = cc
 not_starts (cancels j) n e = cc
 
 pub handles : {T E : Type 0} (call : Call) (old new : InLogic) (acts : List Act) (r : Result T E) → (call ≡ starts → ⊥) → Meets call (InRow old) → OnOk r (Obeys (at_output call) (row old) (row new) acts) → OnOk r (Turned (at_output call) old acts new)

@@ -7,9 +7,9 @@ use Rattle.port_core.specs.declared.act.Act.{Act}
 use Rattle.port_core.specs.declared.view.InView.{InView}
 use Rattle.port_core.specs.declared.view.InView.TheVariants.{Idle}
 use Rattle.port_core.specs.declared.view.OutView.{OutView}
-use Rattle.port_core.specs.declared.view.OutView.TheVariants.{Unasked, Shut}
+use Rattle.port_core.specs.declared.view.OutView.TheVariants as outlet
 use Rattle.port_core.specs.View.{View, ActsAllowed, acted_all}
-use Rattle.port_core.specs.Asking.{AsksStand}
+use Rattle.port_core.specs.Asking.{PullsStand}
 use Rattle.port_core.specs.Call.{AllIdle, AllUnasked, Call, starts, CallAllowed, Meets, seen, Obeys, given_on}
 use Rattle.stream_model.specs.Outlook.{End, unended}
 use Rattle.stream_model.specs.FanIn.{Inflow}
@@ -159,7 +159,7 @@ turned_started c (logic.Zipping l) (logic.Zipping m) acts t = t.started
 turned_started c (logic.Merging l) (logic.Merging m) acts t = t.started
 turned_started c old new acts t = absurd t
 
-turned_stands : (c : Call) (old new : InLogic) (acts : List Act) → Turned c old acts new → AsksStand acts
+turned_stands : (c : Call) (old new : InLogic) (acts : List Act) → Turned c old acts new → PullsStand acts
 turned_stands c (logic.Taking l) (logic.Taking m) acts t = t.stands
 turned_stands c (logic.Sorting l) (logic.Sorting m) acts t = t.stands
 turned_stands c (logic.Zipping l) (logic.Zipping m) acts t = t.stands
@@ -192,7 +192,7 @@ none_over n c [] asked h = refl
 none_over n c (true ∷ over) asked h = let e = h.0 in cc
 none_over n c (false ∷ over) asked h = ap (λ (ws : List Inflow). nothing ∷ ws) (none_over (n + 1) c over asked h.1)
 
-unasked_open : (y : OutView) → y ≡ Unasked → GaveAs y unended
+unasked_open : (y : OutView) → y ≡ outlet.Unpulled → GaveAs y unended
 unasked_open y e = subst (λ z. GaveAs z unended) (sym e) refl
 
 fresh_taking : (l : Taking) (v : View) (took gave : List (List Item)) → CallAllowed starts v → l.live ≡ true → taking.row l v → AllEmpty took → AllEmpty gave → length took ≡ length v.ins → length gave ≡ length v.outs
@@ -201,13 +201,13 @@ fresh_taking l v took gave may live r a b m n =
     let s = subst (λ x. taking.row_by x l v) live r in
     let outs : v.outs ≡ wish l.asked ∷ [] = ap (λ (w : View). w.outs) s.0 in
     let idle : AllIdle (seats 0 l.over l.current l.asked) = subst (λ (w : View). AllIdle w.ins) s.0 may.0 in
-    let quiet : wish l.asked ≡ Unasked = (subst (λ (w : View). AllUnasked w.outs) s.0 may.1).0 in
+    let quiet : wish l.asked ≡ outlet.Unpulled = (subst (λ (w : View). AllUnasked w.outs) s.0 may.1).0 in
     let ins : v.ins ≡ seats 0 l.over l.current l.asked = ap (λ (w : View). w.ins) s.0 in
     let held : taking.held l ≡ fan.waits (taking.place_of l) (untouched (length v.ins)) =
     ap (λ x. taking.held_by x (taking.place_of l) l.over) live ∙ ap (λ ws. fan.waits (taking.place_of l) ws) (none_over 0 l.current l.over l.asked idle) ∙ ap (λ (xs : List InView). fan.waits (taking.place_of l) (untouched (length xs))) (sym ins) in
     begun (FanKeeps (taking_by l.segment) (taking.place_of l) (taking.held l)) v took gave a b m (n ∙ ap length outs)
     (subst (λ x. PortsLaw (FanKeeps (taking_by l.segment) (taking.place_of l) x) v (λ _. []) []) (sym held)
-    (fan_new (taking_by l.segment) (taking.place_of l) v may.0 (subst (λ ys. GaveAs (slice_index_or ys 0 Shut) unended) (sym outs) (unasked_open (wish l.asked) quiet))))
+    (fan_new (taking_by l.segment) (taking.place_of l) v may.0 (subst (λ ys. GaveAs (slice_index_or ys 0 outlet.Closed) unended) (sym outs) (unasked_open (wish l.asked) quiet))))
 
 blank_flow : (i : Inlet) → IsBlank i → inlet_flow i ≡ nothing
 blank_flow i h = ap (λ x. inlet_flow (record { held = x; over = i.over })) h.0 ∙ ap (λ b. inlet_flow (record { held = None; over = b })) h.1
@@ -216,26 +216,26 @@ fresh_sorting : (l : Pairing) (v : View) (took gave : List (List Item)) → Call
     → InPortsLaw (FanKeeps sorting sorted.nowhere (sorted.held l)) v took gave
 fresh_sorting l v took gave may new r a b m n =
     let s = subst (λ p. row_by sorted.Sound p l v) new r in
-    let outs : v.outs ≡ Unasked ∷ [] = ap (λ (w : View). w.outs) s.0 in
+    let outs : v.outs ≡ outlet.Unpulled ∷ [] = ap (λ (w : View). w.outs) s.0 in
     let ins : v.ins ≡ Idle ∷ Idle ∷ [] = ap (λ (w : View). w.ins) s.0 in
     let held : sorted.held l ≡ fan.waits sorted.nowhere (untouched (length v.ins)) =
     ap (λ p. sorted.held_by p l) new ∙ ap (λ x. fan.waits sorted.nowhere (x ∷ inlet_flow l.right ∷ [])) (blank_flow l.left s.1.0) ∙ ap (λ x. fan.waits sorted.nowhere (nothing ∷ x ∷ [])) (blank_flow l.right s.1.1.0)
     ∙ ap (λ (xs : List InView). fan.waits sorted.nowhere (untouched (length xs))) (sym ins) in
     begun (FanKeeps sorting sorted.nowhere (sorted.held l)) v took gave a b m (n ∙ ap length outs)
     (subst (λ x. PortsLaw (FanKeeps sorting sorted.nowhere x) v (λ _. []) []) (sym held)
-    (fan_new sorting sorted.nowhere v may.0 (subst (λ ys. GaveAs (slice_index_or ys 0 Shut) unended) (sym outs) refl)))
+    (fan_new sorting sorted.nowhere v may.0 (subst (λ ys. GaveAs (slice_index_or ys 0 outlet.Closed) unended) (sym outs) refl)))
 
 fresh_zipping : (l : Pairing) (v : View) (took gave : List (List Item)) → CallAllowed starts v → l.phase ≡ New → zipping.row l v → AllEmpty took → AllEmpty gave → length took ≡ length v.ins → length gave ≡ length v.outs
     → InPortsLaw (ZipKeeps (zipping.held l)) v took gave
 fresh_zipping l v took gave may new r a b m n =
     let s = subst (λ p. row_by zipping.Sound p l v) new r in
-    let outs : v.outs ≡ Unasked ∷ [] = ap (λ (w : View). w.outs) s.0 in
+    let outs : v.outs ≡ outlet.Unpulled ∷ [] = ap (λ (w : View). w.outs) s.0 in
     let ins : v.ins ≡ Idle ∷ Idle ∷ [] = ap (λ (w : View). w.ins) s.0 in
     let held : zipping.held l ≡ zip.waits nothing nothing =
     ap (λ p. zipping.held_by p l) new ∙ ap (λ x. zip.waits x (inlet_flow l.right)) (blank_flow l.left s.1.0) ∙ ap (λ x. zip.waits nothing x) (blank_flow l.right s.1.1.0) in
     begun (ZipKeeps (zipping.held l)) v took gave a b m (n ∙ ap length outs)
     (subst (λ x. PortsLaw (ZipKeeps x) v (λ _. []) []) (sym held)
-    (zip_new v (ap length ins) may.0 (subst (λ ys. GaveAs (slice_index_or ys 0 Shut) unended) (sym outs) refl)))
+    (zip_new v (ap length ins) may.0 (subst (λ ys. GaveAs (slice_index_or ys 0 outlet.Closed) unended) (sym outs) refl)))
 
 fresh_law : (l : InLogic) (v : View) (took gave : List (List Item)) → CallAllowed starts v → IsNew l → row l v → AllEmpty took → AllEmpty gave → length took ≡ length v.ins → length gave ≡ length v.outs → InLaw l l v took gave
 fresh_law (logic.Taking l) v took gave may new r a b m n = record { same = refl; by = fresh_taking l v took gave may new r a b m n }

@@ -10,12 +10,12 @@ use Rattle.elem_core.specs.declared.item.Item.TheVariants as item
 use Rattle.port_core.specs.declared.act.Act.{Act}
 use Rattle.port_core.specs.declared.act.Act.TheVariants.{Pull, Push, Complete, FailOut}
 use Rattle.port_core.specs.declared.view.InView.{InView}
-use Rattle.port_core.specs.declared.view.InView.TheVariants.{Idle, Waiting, Over, Left}
+use Rattle.port_core.specs.declared.view.InView.TheVariants as inlet
 use Rattle.port_core.specs.declared.view.OutView.{OutView}
-use Rattle.port_core.specs.declared.view.OutView.TheVariants.{Unasked, Asked, Shut, Refused}
+use Rattle.port_core.specs.declared.view.OutView.TheVariants.{Unpulled, Available, Closed, Cancelled}
 use Rattle.port_core.specs.View.{View, in_at, IsInOpen, IsOutOpen, ActsAllowed, acted_all}
-use Rattle.port_core.specs.Asking.{AsksStand}
-use Rattle.port_core.specs.Call.{Call, starts, asks, brings, cancels, CallAllowed, seen, Obeys, Meets, given_on}
+use Rattle.port_core.specs.Asking.{PullsStand}
+use Rattle.port_core.specs.Call.{Call, starts, pulls, arrives, cancels, CallAllowed, seen, Obeys, Meets, given_on}
 use Rattle.stream_model.specs.Outlook.{ended, failed}
 use Rattle.stream_model.specs.FanIn.{Tagged, tag, Inflow, flow}
 use Rattle.stage_law.specs.Held.{told}
@@ -61,7 +61,7 @@ module _ (segment : Option ℕ) where
 
   -- an element of the current input is given
   element_turn : (old new : Taking) (e : Tree) → slice_get old.over old.current ≡ Some false → Counted segment old new
-      → FanTurn (taking_by segment) (place_of old) (joined_all 0 (none_of old.over) (coming (brings old.current (item.Elem e)))) (item.Elem e ∷ []) (place_of new) (none_of old.over)
+      → FanTurn (taking_by segment) (place_of old) (joined_all 0 (none_of old.over) (coming (arrives old.current (item.Elem e)))) (item.Elem e ∷ []) (place_of new) (none_of old.over)
   element_turn old new e here counted =
       let z : 0 + old.current ≡ old.current = omega arith in
       record {
@@ -70,9 +70,9 @@ module _ (segment : Option ℕ) where
         uses = (let r = uses_came 0 old.current e old.over here in rw z at r);
         few = few_wait segment old.over;
         same = λ more.
-            let f : FirstOf old.current e (map flow (joined_all 0 (joined_all 0 (none_of old.over) (coming (brings old.current (item.Elem e)))) more)) (map flow (joined_all 0 (none_of old.over) more)) =
+            let f : FirstOf old.current e (map flow (joined_all 0 (joined_all 0 (none_of old.over) (coming (arrives old.current (item.Elem e)))) more)) (map flow (joined_all 0 (none_of old.over) more)) =
             (let r = came_first 0 old.current e old.over more here in rw z at r) in
-            element_given segment (length old.over) (place_of old) e (map flow (joined_all 0 (joined_all 0 (none_of old.over) (coming (brings old.current (item.Elem e)))) more)) (map flow (joined_all 0 (none_of old.over) more)) f (length-outlooks 0 old.over more)
+            element_given segment (length old.over) (place_of old) e (map flow (joined_all 0 (joined_all 0 (none_of old.over) (coming (arrives old.current (item.Elem e)))) more)) (map flow (joined_all 0 (none_of old.over) more)) f (length-outlooks 0 old.over more)
             ∙ ap (λ (l : List Tagged). tag old.current e ∷ l) (counted_same segment old new (map flow (joined_all 0 (none_of old.over) more)) counted here (length-outlooks 0 old.over more) (λ i h. used_at 0 i old.over more h));
       }
 
@@ -128,15 +128,15 @@ started l h = record {
   gives = record { turn = rw h (quiet_turn l.segment (place_of l) l.over); segment = refl; inputs = refl; stands = tt };
 }
 
-pub asked_here : (old new : Taking) (acts : List Act) → old.live ≡ true → Does new acts (record old { asked = true }) (Pull old.current ∷ []) → Handled (asks 0) old acts new
+pub asked_here : (old new : Taking) (acts : List Act) → old.live ≡ true → Does new acts (record old { asked = true }) (Pull old.current ∷ []) → Handled (pulls 0) old acts new
 asked_here old new acts h does = rw (does.to_is, does.acts_are) (record {
-  ports = obeys (asks 0) old (record old { asked = true }) (Pull old.current ∷ []) h (λ may sound.
+  ports = obeys (pulls 0) old (record old { asked = true }) (Pull old.current ∷ []) h (λ may sound.
       let off : old.asked ≡ false = unasked_wish old.asked may in
-      let at : in_at (seen (asks 0) (view_of old)) old.current ≡ Idle = rw off (idle_seat 0 old.current old.current old.over sound.here) in
-      let ins : slice_set (seats 0 old.over old.current old.asked) old.current Waiting ≡ seats 0 old.over old.current true = marked_now old.current old.over old.asked true sound.here in
+      let at : in_at (seen (pulls 0) (view_of old)) old.current ≡ inlet.Idle = rw off (idle_seat 0 old.current old.current old.over sound.here) in
+      let ins : slice_set (seats 0 old.over old.current old.asked) old.current inlet.Pulled ≡ seats 0 old.over old.current true = marked_now old.current old.over old.asked true sound.here in
       record {
         allowed = (at, tt);
-        row_then = is_standing (record old { asked = true }) (acted_all (seen (asks 0) (view_of old)) (Pull old.current ∷ [])) h (ap (λ (xs : List InView). record { ins = xs; outs = Asked ∷ [] }) ins) (record { here = sound.here; order = sound.order; few = sound.few; linked = sound.linked });
+        row_then = is_standing (record old { asked = true }) (acted_all (seen (pulls 0) (view_of old)) (Pull old.current ∷ [])) h (ap (λ (xs : List InView). record { ins = xs; outs = Available ∷ [] }) ins) (record { here = sound.here; order = sound.order; few = sound.few; linked = sound.linked });
       });
   gives = record { turn = rw h (quiet_turn old.segment (place_of old) old.over); segment = refl; inputs = refl; stands = (tt, tt) };
 })
@@ -156,34 +156,34 @@ counted_order None old new h order = let e = h.0 in rw e order
 counted_order (Some k) old new h order = tt
 
 passed_on : (old new : Taking) (e : Tree) → old.live ≡ true → Sound old → old.asked ≡ true → Counted old.segment old new
-    → Handled (brings old.current (item.Elem e)) old (Push 0 e ∷ []) (record old { current = new.current; left = new.left; asked = false })
+    → Handled (arrives old.current (item.Elem e)) old (Push 0 e ∷ []) (record old { current = new.current; left = new.left; asked = false })
 passed_on old new e h sound on counted =
     let to : Taking = record old { current = new.current; left = new.left; asked = false } in
-    let ins : slice_set (seats 0 old.over old.current old.asked) old.current Idle ≡ seats 0 old.over new.current false =
+    let ins : slice_set (seats 0 old.over old.current old.asked) old.current inlet.Idle ≡ seats 0 old.over new.current false =
     marked_now old.current old.over old.asked false sound.here ∙ unmarked 0 old.current new.current old.over in
     record {
-      ports = obeys (brings old.current (item.Elem e)) old to (Push 0 e ∷ []) h (λ may s. record {
+      ports = obeys (arrives old.current (item.Elem e)) old to (Push 0 e ∷ []) h (λ may s. record {
         allowed = (ap wish on, tt);
-        row_then = is_standing to (acted_all (seen (brings old.current (item.Elem e)) (view_of old)) (Push 0 e ∷ [])) h (ap (λ (xs : List InView). record { ins = xs; outs = Unasked ∷ [] }) ins)
+        row_then = is_standing to (acted_all (seen (arrives old.current (item.Elem e)) (view_of old)) (Push 0 e ∷ [])) h (ap (λ (xs : List InView). record { ins = xs; outs = Unpulled ∷ [] }) ins)
             (record { here = counted_here old.segment old new counted sound.here; order = counted_order old.segment old new counted sound.order; few = sound.few; linked = sound.linked });
       });
       gives = record { turn = rw h (element_turn old.segment old new e sound.here counted); segment = refl; inputs = refl; stands = tt };
     }
 
-pub passed : (old new : Taking) (acts : List Act) (port : ℕ) (e : Tree) → old.live ≡ true → Meets (brings port (item.Elem e)) (row old) → Passed old e new acts → Handled (brings port (item.Elem e)) old acts new
+pub passed : (old new : Taking) (acts : List Act) (port : ℕ) (e : Tree) → old.live ≡ true → Meets (arrives port (item.Elem e)) (row old) → Passed old e new acts → Handled (arrives port (item.Elem e)) old acts new
 passed old new acts port e h m p =
-    let f = found (brings port (item.Elem e)) old h m in
+    let f = found (arrives port (item.Elem e)) old h m in
     let w = waits_current 0 old.current port old.over old.asked f.may in
     let is : port ≡ old.current = omega (arith, w.0) in
-    subst (λ n. Handled (brings n (item.Elem e)) old acts new) (sym is)
-    (subst (λ (l : List Act). Handled (brings old.current (item.Elem e)) old l new) (sym p.acts_are)
-    (subst (λ (x : Taking). Handled (brings old.current (item.Elem e)) old (Push 0 e ∷ []) x) (sym p.to_is) (passed_on old new e h f.sound w.1 p.counted)))
+    subst (λ n. Handled (arrives n (item.Elem e)) old acts new) (sym is)
+    (subst (λ (l : List Act). Handled (arrives old.current (item.Elem e)) old l new) (sym p.acts_are)
+    (subst (λ (x : Taking). Handled (arrives old.current (item.Elem e)) old (Push 0 e ∷ []) x) (sym p.to_is) (passed_on old new e h f.sound w.1 p.counted)))
 
 -- ---- an end
 
 -- a port at which an end may come is open
-pub port_open : (l : Taking) (port : ℕ) (b : Item) → l.live ≡ true → (CallAllowed (brings port b) (view_of l) → IsInOpen (in_at (view_of l) port)) → Meets (brings port b) (row l) → slice_get l.over port ≡ Some false
-port_open l port b h opens m = open_seat 0 l.current port l.over l.asked (opens (found (brings port b) l h m).may)
+pub port_open : (l : Taking) (port : ℕ) (b : Item) → l.live ≡ true → (CallAllowed (arrives port b) (view_of l) → IsInOpen (in_at (view_of l) port)) → Meets (arrives port b) (row l) → slice_get l.over port ≡ Some false
+port_open l port b h opens m = open_seat 0 l.current port l.over l.asked (opens (found (arrives port b) l h m).may)
 
 apart : (i c : ℕ) → (i < c) ⊎ ((i ≡ c) ⊎ (c < i))
 apart zero zero = inr (inl refl)
@@ -196,14 +196,14 @@ apart (suc i) (suc c) = by_rest i c (apart i c)
     by_rest i c (inr (inl h)) = inr (inl (ap suc h))
     by_rest i c (inr (inr h)) = inr (inr (omega (arith, h)))
 
-pub port_there : (l : Taking) (port : ℕ) (b : Item) → l.live ≡ true → (CallAllowed (brings port b) (view_of l) → IsInOpen (in_at (view_of l) port)) → Meets (brings port b) (row l) → port < length l.over
+pub port_there : (l : Taking) (port : ℕ) (b : Item) → l.live ≡ true → (CallAllowed (arrives port b) (view_of l) → IsInOpen (in_at (view_of l) port)) → Meets (arrives port b) (row l) → port < length l.over
 port_there l port b h opens m = slice_get_within l.over port false (port_open l port b h opens m)
 
 module _ (old : Taking) (port : ℕ) (h : old.live ≡ true) (sound : Sound old) (open_port : slice_get old.over port ≡ Some false) where
   abbrev over : List Bool
   over = slice_set old.over port true
 
-  waited_ends : joined_all 0 (none_of old.over) (coming (brings port item.Ended)) ≡ none_of over
+  waited_ends : joined_all 0 (none_of old.over) (coming (arrives port item.Ended)) ≡ none_of over
   waited_ends = let z : 0 + port ≡ port = omega arith in let r = came_end 0 port old.over open_port in rw z at r
 
   linked_then : Linked over (relinked port old.next)
@@ -216,14 +216,14 @@ module _ (old : Taking) (port : ℕ) (h : old.live ≡ true) (sound : Sound old)
   order_kept None c o = λ i m n. set_keeps old.over port i (o i m n)
   order_kept (Some k) c o = tt
 
-  another_ends : (port ≡ old.current → ⊥) → Handled (brings port item.Ended) old [] (without port old)
+  another_ends : (port ≡ old.current → ⊥) → Handled (arrives port item.Ended) old [] (without port old)
   another_ends n = record {
-    ports = obeys (brings port item.Ended) old (without port old) [] h (λ may s. record {
+    ports = obeys (arrives port item.Ended) old (without port old) [] h (λ may s. record {
       allowed = tt;
-      row_then = is_standing (without port old) (seen (brings port item.Ended) (view_of old)) h (ap (λ (xs : List InView). record { ins = xs; outs = wish old.asked ∷ [] }) (ended_seat 0 old.current port old.over old.asked))
+      row_then = is_standing (without port old) (seen (arrives port item.Ended) (view_of old)) h (ap (λ (xs : List InView). record { ins = xs; outs = wish old.asked ∷ [] }) (ended_seat 0 old.current port old.over old.asked))
           (record { here = set_other old.over port old.current n ∙ sound.here; order = order_kept old.segment old.current sound.order; few = few_then; linked = linked_then });
     });
-    gives = record { turn = rw h (moved_turn old.segment (place_of old) (place_of old) over (joined_all 0 (none_of old.over) (coming (brings port item.Ended))) waited_ends (λ more. refl)); segment = refl; inputs = length-set old.over port true; stands = tt };
+    gives = record { turn = rw h (moved_turn old.segment (place_of old) (place_of old) over (joined_all 0 (none_of old.over) (coming (arrives port item.Ended))) waited_ends (λ more. refl)); segment = refl; inputs = length-set old.over port true; stands = tt };
   }
 
   module _ (here : port ≡ old.current) where
@@ -243,26 +243,26 @@ module _ (old : Taking) (port : ℕ) (h : old.live ≡ true) (sound : Sound old)
         by_place (inr p) = p.1.1
     order_next (Some k) d o n = tt
 
-    seats_then : slice_set (seats 0 old.over old.current old.asked) port Over ≡ seats 0 over old.current old.asked
+    seats_then : slice_set (seats 0 old.over old.current old.asked) port inlet.Finished ≡ seats 0 over old.current old.asked
     seats_then = ended_seat 0 old.current port old.over old.asked
 
     -- the next open input is current, and is asked where the output is
-    next_row : (d : ℕ) (b : Bool) → old.asked ≡ b → IsNext over old.current d → AtView (brings port item.Ended) old (record (without port old) { current = d; left = fresh_left old.segment }) (if b then Pull d ∷ [] else [])
+    next_row : (d : ℕ) (b : Bool) → old.asked ≡ b → IsNext over old.current d → AtView (arrives port item.Ended) old (record (without port old) { current = d; left = fresh_left old.segment }) (if b then Pull d ∷ [] else [])
     next_row d true e n =
-        let unasked : slice_set (seats 0 old.over old.current old.asked) port Over ≡ seats 0 over d false = seats_then ∙ over_now old.current d over old.asked gone in
-        let at : in_at (seen (brings port item.Ended) (view_of old)) d ≡ Idle = ap (λ (xs : List InView). slice_index_or xs d Left) unasked ∙ idle_seat 0 d d over n.here in
-        let ins : slice_set (slice_set (seats 0 old.over old.current old.asked) port Over) d Waiting ≡ seats 0 over d old.asked =
-        ap (λ (xs : List InView). slice_set xs d Waiting) unasked ∙ marked_now d over false true n.here ∙ ap (λ b. seats 0 over d b) (sym e) in
+        let unasked : slice_set (seats 0 old.over old.current old.asked) port inlet.Finished ≡ seats 0 over d false = seats_then ∙ over_now old.current d over old.asked gone in
+        let at : in_at (seen (arrives port item.Ended) (view_of old)) d ≡ inlet.Idle = ap (λ (xs : List InView). slice_index_or xs d inlet.Cancelled) unasked ∙ idle_seat 0 d d over n.here in
+        let ins : slice_set (slice_set (seats 0 old.over old.current old.asked) port inlet.Finished) d inlet.Pulled ≡ seats 0 over d old.asked =
+        ap (λ (xs : List InView). slice_set xs d inlet.Pulled) unasked ∙ marked_now d over false true n.here ∙ ap (λ b. seats 0 over d b) (sym e) in
         record {
           allowed = (at, tt);
-          row_then = is_standing (record (without port old) { current = d; left = fresh_left old.segment }) (acted_all (seen (brings port item.Ended) (view_of old)) (Pull d ∷ [])) h (ap (λ (xs : List InView). record { ins = xs; outs = wish old.asked ∷ [] }) ins)
+          row_then = is_standing (record (without port old) { current = d; left = fresh_left old.segment }) (acted_all (seen (arrives port item.Ended) (view_of old)) (Pull d ∷ [])) h (ap (λ (xs : List InView). record { ins = xs; outs = wish old.asked ∷ [] }) ins)
               (record { here = n.here; order = order_next old.segment d sound.order n; few = few_then; linked = linked_then });
         }
     next_row d false e n =
-        let ins : slice_set (seats 0 old.over old.current old.asked) port Over ≡ seats 0 over d old.asked = seats_then ∙ over_now old.current d over old.asked gone ∙ ap (λ b. seats 0 over d b) (sym e) in
+        let ins : slice_set (seats 0 old.over old.current old.asked) port inlet.Finished ≡ seats 0 over d old.asked = seats_then ∙ over_now old.current d over old.asked gone ∙ ap (λ b. seats 0 over d b) (sym e) in
         record {
           allowed = tt;
-          row_then = is_standing (record (without port old) { current = d; left = fresh_left old.segment }) (seen (brings port item.Ended) (view_of old)) h (ap (λ (xs : List InView). record { ins = xs; outs = wish old.asked ∷ [] }) ins)
+          row_then = is_standing (record (without port old) { current = d; left = fresh_left old.segment }) (seen (arrives port item.Ended) (view_of old)) h (ap (λ (xs : List InView). record { ins = xs; outs = wish old.asked ∷ [] }) ins)
               (record { here = n.here; order = order_next old.segment d sound.order n; few = few_then; linked = linked_then });
         }
 
@@ -270,17 +270,17 @@ module _ (old : Taking) (port : ℕ) (h : old.live ≡ true) (sound : Sound old)
     nothing_given true d = refl
     nothing_given false d = refl
 
-    pull_stands : (b : Bool) (d : ℕ) → AsksStand (if b then Pull d ∷ [] else [])
+    pull_stands : (b : Bool) (d : ℕ) → PullsStand (if b then Pull d ∷ [] else [])
     pull_stands true d = (tt, tt)
     pull_stands false d = tt
 
-    next_turn : (d : ℕ) → IsNext over old.current d → FanTurn (taking_by old.segment) (place_of old) (joined_all 0 (none_of old.over) (coming (brings port item.Ended))) [] (record { current = d; left = fresh_left old.segment }) (none_of over)
-    next_turn d n = moved_turn old.segment (place_of old) (record { current = d; left = fresh_left old.segment }) over (joined_all 0 (none_of old.over) (coming (brings port item.Ended))) waited_ends
+    next_turn : (d : ℕ) → IsNext over old.current d → FanTurn (taking_by old.segment) (place_of old) (joined_all 0 (none_of old.over) (coming (arrives port item.Ended))) [] (record { current = d; left = fresh_left old.segment }) (none_of over)
+    next_turn d n = moved_turn old.segment (place_of old) (record { current = d; left = fresh_left old.segment }) over (joined_all 0 (none_of old.over) (coming (arrives port item.Ended))) waited_ends
         (λ more. passed_same old.segment over old.current d old.left (map flow (joined_all 0 (none_of over) more)) n (order_kept old.segment old.current sound.order) gone (length-outlooks 0 over more) (λ i x. used_at 0 i over more x))
 
-    next_ends : (d : ℕ) → IsNext over old.current d → Handled (brings port item.Ended) old (if old.asked then Pull d ∷ [] else []) (record (without port old) { current = d; left = fresh_left old.segment })
+    next_ends : (d : ℕ) → IsNext over old.current d → Handled (arrives port item.Ended) old (if old.asked then Pull d ∷ [] else []) (record (without port old) { current = d; left = fresh_left old.segment })
     next_ends d n = record {
-      ports = obeys (brings port item.Ended) old (record (without port old) { current = d; left = fresh_left old.segment }) (if old.asked then Pull d ∷ [] else []) h (λ may s. next_row d old.asked refl n);
+      ports = obeys (arrives port item.Ended) old (record (without port old) { current = d; left = fresh_left old.segment }) (if old.asked then Pull d ∷ [] else []) h (λ may s. next_row d old.asked refl n);
       gives = record { turn = rw (h, nothing_given old.asked d) (next_turn d n); segment = refl; inputs = length-set old.over port true; stands = pull_stands old.asked d };
     }
 
@@ -293,64 +293,64 @@ module _ (old : Taking) (port : ℕ) (h : old.live ≡ true) (sound : Sound old)
         by_number i l (inr (inr k)) = all i l (λ e. absurd (omega (arith, k, e)))
 
     -- none is open
-    last_ends : AllOverBut old.current over → Handled (brings port item.Ended) old (Complete 0 ∷ []) (record (without port old) { live = false })
+    last_ends : AllOverBut old.current over → Handled (arrives port item.Ended) old (Complete 0 ∷ []) (record (without port old) { live = false })
     last_ends all =
         let none : fan_gives (taking_by old.segment) (place_of old) (none_of over) ≡ [] = none_given old.segment (place_of old) (map flow (none_of over)) (none_waits over) in
         let close : FanClose (taking_by old.segment) (place_of old) (none_of over) (item.Ended ∷ []) = completes (all_ended over (all_gone all)) (ap (λ (l : List Tagged). told (elements l) ended) (sym none)) in
         record {
-          ports = obeys (brings port item.Ended) old (record (without port old) { live = false }) (Complete 0 ∷ []) h (λ may s. record {
+          ports = obeys (arrives port item.Ended) old (record (without port old) { live = false }) (Complete 0 ∷ []) h (λ may s. record {
             allowed = (open_wish old.asked, tt);
             row_then = (subst (λ (xs : List InView). InsClosed xs) (sym seats_then) (all_over_closed 0 old.current over old.asked (all_gone all)), tt);
           });
           gives = record { turn = rw (h, waited_ends) close; segment = refl; inputs = length-set old.over port true; stands = tt };
         }
 
-    went : (new : Taking) (acts : List Act) → WentOn (without port old) new acts → Handled (brings port item.Ended) old acts new
+    went : (new : Taking) (acts : List Act) → WentOn (without port old) new acts → Handled (arrives port item.Ended) old acts new
     went new acts (goes_on n to_is acts_are) =
-        subst (λ (l : List Act). Handled (brings port item.Ended) old l new) (sym acts_are)
-        (subst (λ (x : Taking). Handled (brings port item.Ended) old (if old.asked then Pull new.current ∷ [] else []) x) (sym to_is) (next_ends new.current n))
+        subst (λ (l : List Act). Handled (arrives port item.Ended) old l new) (sym acts_are)
+        (subst (λ (x : Taking). Handled (arrives port item.Ended) old (if old.asked then Pull new.current ∷ [] else []) x) (sym to_is) (next_ends new.current n))
     went new acts (ends all to_is acts_are) =
-        subst (λ (l : List Act). Handled (brings port item.Ended) old l new) (sym acts_are)
-        (subst (λ (x : Taking). Handled (brings port item.Ended) old (Complete 0 ∷ []) x) (sym to_is) (last_ends all))
+        subst (λ (l : List Act). Handled (arrives port item.Ended) old l new) (sym acts_are)
+        (subst (λ (x : Taking). Handled (arrives port item.Ended) old (Complete 0 ∷ []) x) (sym to_is) (last_ends all))
 
-  finished_by : (new : Taking) (acts : List Act) → Finished port old new acts → Handled (brings port item.Ended) old acts new
+  finished_by : (new : Taking) (acts : List Act) → Finished port old new acts → Handled (arrives port item.Ended) old acts new
   finished_by new acts (another n to_is acts_are) = rw (to_is, acts_are) (another_ends n)
   finished_by new acts (current here w) = went here new acts w
 
   -- ---- a failure
 
-  failed_here : (c : Cause) → Handled (brings port (item.Failed c)) old (FailOut 0 c ∷ open_cancels 0 over) (failed_by port old)
+  failed_here : (c : Cause) → Handled (arrives port (item.Failed c)) old (FailOut 0 c ∷ open_cancels 0 over) (failed_by port old)
   failed_here c =
       let z : 0 + port ≡ port = omega arith in
-      let at : slice_get (joined_all 0 (none_of old.over) (coming (brings port (item.Failed c)))) port ≡ Some (record { list = []; end = failed c }) = (let r = failed_at 0 port c old.over open_port in rw z at r) in
+      let at : slice_get (joined_all 0 (none_of old.over) (coming (arrives port (item.Failed c)))) port ≡ Some (record { list = []; end = failed c }) = (let r = failed_at 0 port c old.over open_port in rw z at r) in
       let few : 0 ≤ (taking_by old.segment).hold = omega arith in
       let given : given_on 0 (FailOut 0 c ∷ open_cancels 0 over) ≡ item.Failed c ∷ [] = ap (λ (l : List Item). item.Failed c ∷ l) (cancels_give 0 over) in
-      let close : FanClose (taking_by old.segment) (place_of old) (joined_all 0 (none_of old.over) (coming (brings port (item.Failed c)))) (item.Failed c ∷ []) = fails port (record { list = []; end = failed c }) c at refl few refl in
-      let r = all_cancelled over old.current old.asked (Shut ∷ []) in
+      let close : FanClose (taking_by old.segment) (place_of old) (joined_all 0 (none_of old.over) (coming (arrives port (item.Failed c)))) (item.Failed c ∷ []) = fails port (record { list = []; end = failed c }) c at refl few refl in
+      let r = all_cancelled over old.current old.asked (Closed ∷ []) in
       record {
-        ports = obeys (brings port (item.Failed c)) old (failed_by port old) (FailOut 0 c ∷ open_cancels 0 over) h (λ may s. record {
-          allowed = (open_wish old.asked, subst (λ (xs : List InView). ActsAllowed (record { ins = xs; outs = Shut ∷ [] }) (open_cancels 0 over)) (sym (ended_seat 0 old.current port old.over old.asked)) r.allowed);
-          row_then = subst (λ (xs : List InView). FanClosed (acted_all (record { ins = xs; outs = Shut ∷ [] }) (open_cancels 0 over))) (sym (ended_seat 0 old.current port old.over old.asked)) (r.closed, subst (λ (ys : List OutView). OneClosed ys) (sym r.outs) tt);
+        ports = obeys (arrives port (item.Failed c)) old (failed_by port old) (FailOut 0 c ∷ open_cancels 0 over) h (λ may s. record {
+          allowed = (open_wish old.asked, subst (λ (xs : List InView). ActsAllowed (record { ins = xs; outs = Closed ∷ [] }) (open_cancels 0 over)) (sym (ended_seat 0 old.current port old.over old.asked)) r.allowed);
+          row_then = subst (λ (xs : List InView). FanClosed (acted_all (record { ins = xs; outs = Closed ∷ [] }) (open_cancels 0 over))) (sym (ended_seat 0 old.current port old.over old.asked)) (r.closed, subst (λ (ys : List OutView). OneClosed ys) (sym r.outs) tt);
         });
         gives = record { turn = rw (h, given) close; segment = refl; inputs = length-set old.over port true; stands = cancels_stand 0 over };
       }
 
-pub finished : (old new : Taking) (acts : List Act) (port : ℕ) → old.live ≡ true → Meets (brings port item.Ended) (row old) → Finished port old new acts → Handled (brings port item.Ended) old acts new
+pub finished : (old new : Taking) (acts : List Act) (port : ℕ) → old.live ≡ true → Meets (arrives port item.Ended) (row old) → Finished port old new acts → Handled (arrives port item.Ended) old acts new
 finished old new acts port h m f =
-    let s = found (brings port item.Ended) old h m in
+    let s = found (arrives port item.Ended) old h m in
     finished_by old port h s.sound (open_seat 0 old.current port old.over old.asked s.may) new acts f
 
-pub failed_on : (old new : Taking) (acts : List Act) (port : ℕ) (c : Cause) → old.live ≡ true → Meets (brings port (item.Failed c)) (row old)
-    → Does new acts (failed_by port old) (FailOut 0 c ∷ open_cancels 0 (slice_set old.over port true)) → Handled (brings port (item.Failed c)) old acts new
+pub failed_on : (old new : Taking) (acts : List Act) (port : ℕ) (c : Cause) → old.live ≡ true → Meets (arrives port (item.Failed c)) (row old)
+    → Does new acts (failed_by port old) (FailOut 0 c ∷ open_cancels 0 (slice_set old.over port true)) → Handled (arrives port (item.Failed c)) old acts new
 failed_on old new acts port c h m does =
-    let s = found (brings port (item.Failed c)) old h m in
+    let s = found (arrives port (item.Failed c)) old h m in
     rw (does.to_is, does.acts_are) (failed_here old port h s.sound (open_seat 0 old.current port old.over old.asked s.may) c)
 
 -- ---- a cancel
 
 pub left_on : (old new : Taking) (acts : List Act) → old.live ≡ true → Does new acts (record old { live = false }) (open_cancels 0 old.over) → Handled (cancels 0) old acts new
 left_on old new acts h does =
-    let r = all_cancelled old.over old.current old.asked (Refused ∷ []) in
+    let r = all_cancelled old.over old.current old.asked (Cancelled ∷ []) in
     rw (does.to_is, does.acts_are) (record {
       ports = obeys (cancels 0) old (record old { live = false }) (open_cancels 0 old.over) h (λ may s. record {
         allowed = r.allowed;
@@ -370,21 +370,21 @@ no_order None over = λ i l k. absurd (omega (arith, k))
 no_order (Some s) over = tt
 
 -- every input of a new one is idle
-seats_idle : (k n c : ℕ) → seats n (replicate k false) c false ≡ replicate k Idle
+seats_idle : (k n c : ℕ) → seats n (replicate k false) c false ≡ replicate k inlet.Idle
 seats_idle zero n c = refl
 seats_idle (suc k) n c = by_mark (n == c) (seats_idle k (n + 1) c)
   where
-    by_mark : (b : Bool) → seats (n + 1) (replicate k false) c false ≡ replicate k Idle → seat false b false ∷ seats (n + 1) (replicate k false) c false ≡ Idle ∷ replicate k Idle
-    by_mark true e = ap (λ (xs : List InView). Idle ∷ xs) e
-    by_mark false e = ap (λ (xs : List InView). Idle ∷ xs) e
+    by_mark : (b : Bool) → seats (n + 1) (replicate k false) c false ≡ replicate k inlet.Idle → seat false b false ∷ seats (n + 1) (replicate k false) c false ≡ inlet.Idle ∷ replicate k inlet.Idle
+    by_mark true e = ap (λ (xs : List InView). inlet.Idle ∷ xs) e
+    by_mark false e = ap (λ (xs : List InView). inlet.Idle ∷ xs) e
 
 -- the row of a new one
-pub new_row : (inputs : ℕ) (segment : Option ℕ) (l : Taking) → 2 ≤ inputs → inputs ≤ 16 → Begins inputs segment l → row l (record { ins = replicate inputs Idle; outs = Unasked ∷ [] })
+pub new_row : (inputs : ℕ) (segment : Option ℕ) (l : Taking) → 2 ≤ inputs → inputs ≤ 16 → Begins inputs segment l → row l (record { ins = replicate inputs inlet.Idle; outs = Unpulled ∷ [] })
 new_row inputs segment l two few b =
-    let ins : seats 0 l.over l.current l.asked ≡ replicate inputs Idle = ap (λ o. seats 0 o l.current l.asked) b.over ∙ ap (λ c. seats 0 (replicate inputs false) c l.asked) b.current ∙ ap (λ a. seats 0 (replicate inputs false) 0 a) b.unasked
+    let ins : seats 0 l.over l.current l.asked ≡ replicate inputs inlet.Idle = ap (λ o. seats 0 o l.current l.asked) b.over ∙ ap (λ c. seats 0 (replicate inputs false) c l.asked) b.current ∙ ap (λ a. seats 0 (replicate inputs false) 0 a) b.unasked
     ∙ seats_idle inputs 0 0 in
     let here : slice_get l.over l.current ≡ Some false = ap (λ o. slice_get o l.current) b.over ∙ ap (λ c. slice_get (replicate inputs false) c) b.current ∙ first_flag inputs two in
     let long : length l.over ≡ inputs = ap length b.over ∙ length-replicate inputs false in
     let c : l.current ≡ 0 = b.current in
-    let is : view_of l ≡ record { ins = replicate inputs Idle; outs = Unasked ∷ [] } = ap (λ (xs : List InView). record { ins = xs; outs = wish l.asked ∷ [] }) ins ∙ ap (λ a. record { ins = replicate inputs Idle; outs = wish a ∷ [] }) b.unasked in
-    is_standing l (record { ins = replicate inputs Idle; outs = Unasked ∷ [] }) b.live (sym is) (record { here = here; order = rw c (no_order l.segment l.over); few = omega (arith, long, few); linked = subst (λ o. Linked o l.next) (sym b.over) (ring_linked inputs l.next b.ring) })
+    let is : view_of l ≡ record { ins = replicate inputs inlet.Idle; outs = Unpulled ∷ [] } = ap (λ (xs : List InView). record { ins = xs; outs = wish l.asked ∷ [] }) ins ∙ ap (λ a. record { ins = replicate inputs inlet.Idle; outs = wish a ∷ [] }) b.unasked in
+    is_standing l (record { ins = replicate inputs inlet.Idle; outs = Unpulled ∷ [] }) b.live (sym is) (record { here = here; order = rw c (no_order l.segment l.over); few = omega (arith, long, few); linked = subst (λ o. Linked o l.next) (sym b.over) (ring_linked inputs l.next b.ring) })

@@ -3,8 +3,8 @@ use Rattle.std.specs.Prelude.{◌≡◌, ℕ, zero, suc, Bool, true, false, List
 use Rattle.elem_core.specs.Tree.{Tree}
 use Rattle.port_core.specs.declared.act.Act.{Act}
 use Rattle.port_core.specs.declared.view.InView.{InView}
-use Rattle.port_core.specs.declared.view.InView.TheVariants.{Idle, Waiting, Over}
-use Rattle.port_core.specs.declared.view.OutView.TheVariants.{Unasked}
+use Rattle.port_core.specs.declared.view.InView.TheVariants.{Idle, Pulled, Finished}
+use Rattle.port_core.specs.declared.view.OutView.TheVariants.{Unpulled}
 use Rattle.port_core.specs.View.{View}
 use Rattle.stream_model.specs.FanIn.{Inflow}
 use Rattle.stage_core.specs.declared.phase.Phase.{Phase}
@@ -21,8 +21,8 @@ pub record Pairing : Type 0 where
 
 -- what is known of an input: it is asked where nothing of it waits
 abbrev inlet_view_by : Bool → Option Tree → InView
-inlet_view_by true held = Over
-inlet_view_by false None = Waiting
+inlet_view_by true held = Finished
+inlet_view_by false None = Pulled
 inlet_view_by false (Some t) = Idle
 
 abbrev pub inlet_view : Inlet → InView
@@ -45,7 +45,7 @@ IsBlank i = (i.held ≡ None) × (i.over ≡ false)
 
 -- before its start
 abbrev pub new_view : View
-new_view = record { ins = Idle ∷ Idle ∷ []; outs = Unasked ∷ [] }
+new_view = record { ins = Idle ∷ Idle ∷ []; outs = Unpulled ∷ [] }
 
 -- one to which nothing came
 abbrev pub new_pair : Pairing

@@ -1,6 +1,6 @@
 ghost use Rattle.std.specs.Prelude.{◌≡◌, ◌≤◌, [], OnOk, OnErr, IfOk, IsOk};
 ghost use Rattle.elem_core.specs.declared.item.Item.TheVariants as item;
-ghost use Rattle.port_core.specs.Call.{Obeys, Meets, starts, asks, brings, cancels};
+ghost use Rattle.port_core.specs.Call.{Obeys, Meets, starts, pulls, arrives, cancels};
 ghost use Rattle.stage_in.specs.Logics.{Begins, IsFanIn, IsNew, IsStarted, TakesNone, room_of, row, Turned};
 ghost use Rattle.std.specs.Option.{option_map};
 ghost use Rattle.stage_in.specs.Moves.{in_moves, in_picks};
@@ -81,12 +81,12 @@ impl InLogic {
         acts: &mut Acts,
     ) -> Result<(), NoMemory>
         requires started { IsStarted self.old }
-        requires meets { Meets (brings port (item.Elem e)) (row self.old) }
+        requires meets { Meets (arrives port (item.Elem e)) (row self.old) }
         requires empty { acts.old.items ≡ [] }
         requires room { room_of self.old ≤ acts.old.room }
         ensures answers { TakesNone self.old → IsOk result }
-        ensures ports { OnOk result (Obeys (brings port (item.Elem e)) (row self.old) (row self.new) acts.new.items) }
-        ensures gives { OnOk result (Turned (brings port (item.Elem e)) self.old acts.new.items self.new) }
+        ensures ports { OnOk result (Obeys (arrives port (item.Elem e)) (row self.old) (row self.new) acts.new.items) }
+        ensures gives { OnOk result (Turned (arrives port (item.Elem e)) self.old acts.new.items self.new) }
         ensures room { OnOk result (acts.new.room ≡ acts.old.room) }
     {
         match self {
@@ -102,12 +102,12 @@ impl InLogic {
     pub fn on_pull(&mut self, alloc: Global, port: u8, acts: &mut Acts) -> Result<(), NoMemory>
         requires started { IsStarted self.old }
         requires port { port ≡ 0 }
-        requires meets { Meets (asks 0) (row self.old) }
+        requires meets { Meets (pulls 0) (row self.old) }
         requires empty { acts.old.items ≡ [] }
         requires room { room_of self.old ≤ acts.old.room }
         ensures answers { TakesNone self.old → IsOk result }
-        ensures ports { OnOk result (Obeys (asks 0) (row self.old) (row self.new) acts.new.items) }
-        ensures gives { OnOk result (Turned (asks 0) self.old acts.new.items self.new) }
+        ensures ports { OnOk result (Obeys (pulls 0) (row self.old) (row self.new) acts.new.items) }
+        ensures gives { OnOk result (Turned (pulls 0) self.old acts.new.items self.new) }
         ensures room { OnOk result (acts.new.room ≡ acts.old.room) }
     {
         let _port = port;
@@ -122,12 +122,12 @@ impl InLogic {
     /// An input has ended.
     pub fn on_finish(&mut self, port: u8, acts: &mut Acts) -> Result<(), NoMemory>
         requires started { IsStarted self.old }
-        requires meets { Meets (brings port item.Ended) (row self.old) }
+        requires meets { Meets (arrives port item.Ended) (row self.old) }
         requires empty { acts.old.items ≡ [] }
         requires room { room_of self.old ≤ acts.old.room }
         ensures answers { IsOk result }
-        ensures ports { OnOk result (Obeys (brings port item.Ended) (row self.old) (row self.new) acts.new.items) }
-        ensures gives { OnOk result (Turned (brings port item.Ended) self.old acts.new.items self.new) }
+        ensures ports { OnOk result (Obeys (arrives port item.Ended) (row self.old) (row self.new) acts.new.items) }
+        ensures gives { OnOk result (Turned (arrives port item.Ended) self.old acts.new.items self.new) }
         ensures room { acts.new.room ≡ acts.old.room }
     {
         match self {
@@ -141,12 +141,12 @@ impl InLogic {
     /// An input has failed, which fails the stage: its other inputs are cancelled, and what waits is dropped.
     pub fn on_fail(&mut self, port: u8, cause: Cause, acts: &mut Acts) -> Result<(), NoMemory>
         requires started { IsStarted self.old }
-        requires meets { Meets (brings port (item.Failed cause)) (row self.old) }
+        requires meets { Meets (arrives port (item.Failed cause)) (row self.old) }
         requires empty { acts.old.items ≡ [] }
         requires room { room_of self.old ≤ acts.old.room }
         ensures answers { IsOk result }
-        ensures ports { OnOk result (Obeys (brings port (item.Failed cause)) (row self.old) (row self.new) acts.new.items) }
-        ensures gives { OnOk result (Turned (brings port (item.Failed cause)) self.old acts.new.items self.new) }
+        ensures ports { OnOk result (Obeys (arrives port (item.Failed cause)) (row self.old) (row self.new) acts.new.items) }
+        ensures gives { OnOk result (Turned (arrives port (item.Failed cause)) self.old acts.new.items self.new) }
         ensures room { acts.new.room ≡ acts.old.room }
     {
         match self {

@@ -1,7 +1,7 @@
 ghost use Rattle.std.specs.Prelude.{◌≡◌, ◌≤◌, ◌<◌, ◌+◌, ◌∷◌, ◌++◌, [], length, OnOk, IfOk, IsOk, IfSome, IfNone, is_none, Some, None, true, false, if◌then◌else◌};
 ghost use Rattle.elem_core.specs.declared.item.Item.TheVariants as item;
 ghost use Rattle.port_core.specs.declared.act.Act.TheVariants as act;
-ghost use Rattle.port_core.specs.Call.{Obeys, Meets, starts, asks, brings, cancels};
+ghost use Rattle.port_core.specs.Call.{Obeys, Meets, starts, pulls, arrives, cancels};
 ghost use Rattle.stage_core.specs.declared.phase.Phase.TheVariants.{New, Open, Closed};
 ghost use Rattle.stage_fans.specs.Seats.{room_for};
 ghost use Rattle.stage_in.specs.Pairings.{Does, new_pair, placed, without, closing};
@@ -76,12 +76,12 @@ impl Sorting {
     /// The output was asked.
     pub fn on_pull(&mut self, acts: &mut Acts) -> Result<(), NoMemory>
         requires open { self.old.phase ≡ Open }
-        requires meets { Meets (asks 0) (row self.old) }
+        requires meets { Meets (pulls 0) (row self.old) }
         requires empty { acts.old.items ≡ [] }
         requires room { room_for 2 ≤ acts.old.room }
         ensures answers { IsOk result }
-        ensures ports { OnOk result (Obeys (asks 0) (row self.old) (row self.new) acts.new.items) }
-        ensures gives { OnOk result (Turned (asks 0) self.old acts.new.items self.new) }
+        ensures ports { OnOk result (Obeys (pulls 0) (row self.old) (row self.new) acts.new.items) }
+        ensures gives { OnOk result (Turned (pulls 0) self.old acts.new.items self.new) }
         ensures room { acts.new.room ≡ acts.old.room }
     {
         self.want();
@@ -92,12 +92,12 @@ impl Sorting {
     /// An element came.
     pub fn on_push(&mut self, port: u8, e: Elem, acts: &mut Acts) -> Result<(), NoMemory>
         requires open { self.old.phase ≡ Open }
-        requires meets { Meets (brings port (item.Elem e)) (row self.old) }
+        requires meets { Meets (arrives port (item.Elem e)) (row self.old) }
         requires empty { acts.old.items ≡ [] }
         requires room { room_for 2 ≤ acts.old.room }
         ensures answers { IsOk result }
-        ensures ports { OnOk result (Obeys (brings port (item.Elem e)) (row self.old) (row self.new) acts.new.items) }
-        ensures gives { OnOk result (Turned (brings port (item.Elem e)) self.old acts.new.items self.new) }
+        ensures ports { OnOk result (Obeys (arrives port (item.Elem e)) (row self.old) (row self.new) acts.new.items) }
+        ensures gives { OnOk result (Turned (arrives port (item.Elem e)) self.old acts.new.items self.new) }
         ensures room { acts.new.room ≡ acts.old.room }
     {
         self.place(port, e);
@@ -108,12 +108,12 @@ impl Sorting {
     /// An input has ended.
     pub fn on_finish(&mut self, port: u8, acts: &mut Acts) -> Result<(), NoMemory>
         requires open { self.old.phase ≡ Open }
-        requires meets { Meets (brings port item.Ended) (row self.old) }
+        requires meets { Meets (arrives port item.Ended) (row self.old) }
         requires empty { acts.old.items ≡ [] }
         requires room { room_for 2 ≤ acts.old.room }
         ensures answers { IsOk result }
-        ensures ports { OnOk result (Obeys (brings port item.Ended) (row self.old) (row self.new) acts.new.items) }
-        ensures gives { OnOk result (Turned (brings port item.Ended) self.old acts.new.items self.new) }
+        ensures ports { OnOk result (Obeys (arrives port item.Ended) (row self.old) (row self.new) acts.new.items) }
+        ensures gives { OnOk result (Turned (arrives port item.Ended) self.old acts.new.items self.new) }
         ensures room { acts.new.room ≡ acts.old.room }
     {
         self.finish(port, acts);
@@ -123,12 +123,12 @@ impl Sorting {
     /// An input has failed, which fails the stage.
     pub fn on_fail(&mut self, port: u8, cause: Cause, acts: &mut Acts) -> Result<(), NoMemory>
         requires open { self.old.phase ≡ Open }
-        requires meets { Meets (brings port (item.Failed cause)) (row self.old) }
+        requires meets { Meets (arrives port (item.Failed cause)) (row self.old) }
         requires empty { acts.old.items ≡ [] }
         requires room { room_for 2 ≤ acts.old.room }
         ensures answers { IsOk result }
-        ensures ports { OnOk result (Obeys (brings port (item.Failed cause)) (row self.old) (row self.new) acts.new.items) }
-        ensures gives { OnOk result (Turned (brings port (item.Failed cause)) self.old acts.new.items self.new) }
+        ensures ports { OnOk result (Obeys (arrives port (item.Failed cause)) (row self.old) (row self.new) acts.new.items) }
+        ensures gives { OnOk result (Turned (arrives port (item.Failed cause)) self.old acts.new.items self.new) }
         ensures room { acts.new.room ≡ acts.old.room }
     {
         self.fail(port, cause, acts);

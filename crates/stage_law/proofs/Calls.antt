@@ -12,10 +12,10 @@ use Rattle.stream_model.specs.Machine.{State, going, done, broken, Run, Machine,
 use Rattle.stream_model.proofs.MachineLaws.{run-append, gave_prefix, stays, close_grows}
 use Rattle.port_core.specs.declared.act.Act.{Act}
 use Rattle.port_core.specs.declared.view.InView.{InView}
-use Rattle.port_core.specs.declared.view.InView.TheVariants.{Left}
+use Rattle.port_core.specs.declared.view.InView.TheVariants.{Cancelled}
 use Rattle.port_core.specs.declared.view.OutView.{OutView}
 use Rattle.port_core.specs.View.{View, in_at, out_at, with_in, IsInOpen, ActsAllowed, acted_all}
-use Rattle.port_core.specs.Call.{Call, starts, asks, brings, cancels, MayCome, came, CallAllowed, seen, brought_to, given_on}
+use Rattle.port_core.specs.Call.{Call, starts, pulls, arrives, cancels, MayCome, came, CallAllowed, seen, brought_to, given_on}
 use Rattle.stage_law.specs.Held.{told, Held, owing, shut}
 use Rattle.stage_law.specs.Turn.{Turn, TurnAt}
 use Rattle.stage_law.specs.Law.{TookAs, GaveAs, Keeps, Law}
@@ -114,7 +114,7 @@ module _ {S : Type 0} (m : Machine S Tree) (start : Run S Tree) where
     kept_open x v took gave law u = subst (λ (e : End). Keeps m start (owing x) law.in_list e law.out_list unended) u (kept_before x v took gave law)
 
     -- a call that brings nothing, which is no cancel of this output
-    quiet_law : (call : Call) (x : Run S Tree) (new : Held S) (v : View) (took gave : List Item) (acts : List Act) → brought_to 0 call ≡ [] → ((i : ℕ) (b : Item) → call ≡ brings i b → ⊥) → CallAllowed call v → ActsAllowed (seen call v) acts
+    quiet_law : (call : Call) (x : Run S Tree) (new : Held S) (v : View) (took gave : List Item) (acts : List Act) → brought_to 0 call ≡ [] → ((i : ℕ) (b : Item) → call ≡ arrives i b → ⊥) → CallAllowed call v → ActsAllowed (seen call v) acts
         → Turn m x None (given_on j acts) new → (law : LawAt (owing x) v took gave) → LawAt new (acted_all (seen call v) acts) (took ++ brought_to 0 call) (gave ++ given_on j acts)
     quiet_law call x new v took gave acts none quiet may allowed turn law =
         law_of new (seen call v) (took ++ brought_to 0 call) gave acts law.in_list law.out_list law.in_end
@@ -123,7 +123,7 @@ module _ {S : Type 0} (m : Machine S Tree) (start : Run S Tree) where
         (still m start x law.in_list law.in_end law.out_list (given_on j acts) new turn (kept_before x v took gave law))
 
     -- a cancel of this output
-    cancel_law : (call : Call) (x : Run S Tree) (new : Held S) (v : View) (took gave : List Item) (acts : List Act) → brought_to 0 call ≡ [] → ((i : ℕ) (b : Item) → call ≡ brings i b → ⊥) → CallAllowed call v → ActsAllowed (seen call v) acts
+    cancel_law : (call : Call) (x : Run S Tree) (new : Held S) (v : View) (took gave : List Item) (acts : List Act) → brought_to 0 call ≡ [] → ((i : ℕ) (b : Item) → call ≡ arrives i b → ⊥) → CallAllowed call v → ActsAllowed (seen call v) acts
         → given_on j acts ≡ [] → new ≡ shut → (law : LawAt (owing x) v took gave) → LawAt new (acted_all (seen call v) acts) (took ++ brought_to 0 call) (gave ++ given_on j acts)
     cancel_law call x new v took gave acts none quiet may allowed given over law =
         rw over (law_shut (seen call v) (took ++ brought_to 0 call) gave acts law.in_list law.out_list law.in_end unended
@@ -132,7 +132,7 @@ module _ {S : Type 0} (m : Machine S Tree) (start : Run S Tree) where
         given (stands_unended m start x law.in_list law.in_end law.out_list law.keeps.1.0))
 
     -- an output that is closed, and a call that brings nothing
-    shut_law : (call : Call) (new : Held S) (v : View) (took gave : List Item) (acts : List Act) → brought_to 0 call ≡ [] → ((i : ℕ) (b : Item) → call ≡ brings i b → ⊥) → CallAllowed call v → ActsAllowed (seen call v) acts
+    shut_law : (call : Call) (new : Held S) (v : View) (took gave : List Item) (acts : List Act) → brought_to 0 call ≡ [] → ((i : ℕ) (b : Item) → call ≡ arrives i b → ⊥) → CallAllowed call v → ActsAllowed (seen call v) acts
         → given_on j acts ≡ [] → new ≡ shut → (law : LawAt shut v took gave) → LawAt new (acted_all (seen call v) acts) (took ++ brought_to 0 call) (gave ++ given_on j acts)
     shut_law call new v took gave acts none quiet may allowed given over law =
         rw over (law_shut (seen call v) (took ++ brought_to 0 call) gave acts law.in_list law.out_list law.in_end law.out_end
@@ -193,26 +193,26 @@ module _ {S : Type 0} (m : Machine S Tree) (start : Run S Tree) where
     no_item : (b : Item) (v : View) (i : ℕ) → length v.ins ≡ 1 → MayCome b (in_at v (suc i)) → ⊥
     no_item b v i one may =
         let open_here : IsInOpen (in_at v (suc i)) = may_open b (in_at v (suc i)) may in
-        let on : IsInOpen Left = rw (no_other v.ins i one) at open_here in
+        let on : IsInOpen Cancelled = rw (no_other v.ins i one) at open_here in
         on
 
     -- one call, at a stage with one input
     pub call_law : (call : Call) (old new : Held S) (v : View) (took gave : List Item) (acts : List Act) → length v.ins ≡ 1 → CallAllowed call v → ActsAllowed (seen call v) acts
         → TurnAt m j call old (given_on j acts) new → LawAt old v took gave → LawAt new (acted_all (seen call v) acts) (took ++ brought_to 0 call) (gave ++ given_on j acts)
     call_law starts (owing x) new v took gave acts one may allowed turn law = quiet_law starts x new v took gave acts refl (λ i b e. cc) may allowed turn law
-    call_law (asks k) (owing x) new v took gave acts one may allowed turn law = quiet_law (asks k) x new v took gave acts refl (λ i b e. cc) may allowed turn law
+    call_law (pulls k) (owing x) new v took gave acts one may allowed turn law = quiet_law (pulls k) x new v took gave acts refl (λ i b e. cc) may allowed turn law
     call_law (cancels k) (owing x) new v took gave acts one may allowed turn law = by_output (k == j) turn
       where
         by_output : (b : Bool) → MatchBool b ((given_on j acts ≡ []) × (new ≡ shut)) (Turn m x None (given_on j acts) new) → LawAt new (acted_all (seen (cancels k) v) acts) (took ++ []) (gave ++ given_on j acts)
         by_output true h = cancel_law (cancels k) x new v took gave acts refl (λ i b e. cc) may allowed h.0 h.1 law
         by_output false h = quiet_law (cancels k) x new v took gave acts refl (λ i b e. cc) may allowed h law
-    call_law (brings zero b) (owing x) new v took gave acts one may allowed turn law = item_law b x new v took gave acts may allowed turn law
-    call_law (brings (suc i) b) (owing x) new v took gave acts one may allowed turn law = absurd (no_item b v i one may)
+    call_law (arrives zero b) (owing x) new v took gave acts one may allowed turn law = item_law b x new v took gave acts may allowed turn law
+    call_law (arrives (suc i) b) (owing x) new v took gave acts one may allowed turn law = absurd (no_item b v i one may)
     call_law starts shut new v took gave acts one may allowed turn law = shut_law starts new v took gave acts refl (λ i b e. cc) may allowed turn.0 turn.1 law
-    call_law (asks k) shut new v took gave acts one may allowed turn law = shut_law (asks k) new v took gave acts refl (λ i b e. cc) may allowed turn.0 turn.1 law
+    call_law (pulls k) shut new v took gave acts one may allowed turn law = shut_law (pulls k) new v took gave acts refl (λ i b e. cc) may allowed turn.0 turn.1 law
     call_law (cancels k) shut new v took gave acts one may allowed turn law = shut_law (cancels k) new v took gave acts refl (λ i b e. cc) may allowed turn.0 turn.1 law
-    call_law (brings zero b) shut new v took gave acts one may allowed turn law = item_shut b new v took gave acts may allowed turn.0 turn.1 law
-    call_law (brings (suc i) b) shut new v took gave acts one may allowed turn law = absurd (no_item b v i one may)
+    call_law (arrives zero b) shut new v took gave acts one may allowed turn law = item_shut b new v took gave acts may allowed turn.0 turn.1 law
+    call_law (arrives (suc i) b) shut new v took gave acts one may allowed turn law = absurd (no_item b v i one may)
 
   -- before anything came; a machine that may lose outputs owes none at its start
   pub new_law : (i : InView) (o : OutView) → TookAs i unended → GaveAs o unended → (1 ≤ m.hold → start.gave ≡ []) → Law m start (owing start) i o [] []

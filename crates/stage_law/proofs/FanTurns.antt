@@ -14,7 +14,7 @@ use Rattle.stream_model.proofs.FanTraces.{reach-append}
 use Rattle.port_core.specs.declared.act.Act.{Act}
 use Rattle.stage_law.specs.Law.{GaveAs}
 use Rattle.port_core.specs.View.{View, out_at, ActsAllowed, acted_all}
-use Rattle.port_core.specs.Call.{Call, starts, asks, brings, cancels, AllIdle, CallAllowed, seen, brought_to, given_on}
+use Rattle.port_core.specs.Call.{Call, starts, pulls, arrives, cancels, AllIdle, CallAllowed, seen, brought_to, given_on}
 use Rattle.stage_law.specs.Inflows.{nothing, joined_at, joined, joined_all, coming, untouched}
 use Rattle.stage_law.specs.Fans.{Fan, FanHeld, waits, shut, elements, used, Uses, AllFew, fan_gives, FanTurn, FanClose, completes, fails, FanTurnAt, FanKept, FanKeeps, FanLaw}
 use Rattle.stage_law.proofs.Inflows.{joined_all-assoc, joined_all-nothing, Stepped, ports_law, new_ports}
@@ -229,10 +229,10 @@ module _ {S : Type 0} (k : Fan S) (start : S) where
       → Stepped (FanKeeps k start new) (joined_all 0 ins (coming call)) g out
   stepped starts s ws (waits t us) ins g out kept turn = turned s ws ins g (coming starts) out t us kept turn
   stepped starts s ws shut ins g out kept turn = closed s ws ins g (coming starts) out kept turn
-  stepped (asks j) s ws (waits t us) ins g out kept turn = turned s ws ins g (coming (asks j)) out t us kept turn
-  stepped (asks j) s ws shut ins g out kept turn = closed s ws ins g (coming (asks j)) out kept turn
-  stepped (brings i b) s ws (waits t us) ins g out kept turn = turned s ws ins g (coming (brings i b)) out t us kept turn
-  stepped (brings i b) s ws shut ins g out kept turn = closed s ws ins g (coming (brings i b)) out kept turn
+  stepped (pulls j) s ws (waits t us) ins g out kept turn = turned s ws ins g (coming (pulls j)) out t us kept turn
+  stepped (pulls j) s ws shut ins g out kept turn = closed s ws ins g (coming (pulls j)) out kept turn
+  stepped (arrives i b) s ws (waits t us) ins g out kept turn = turned s ws ins g (coming (arrives i b)) out t us kept turn
+  stepped (arrives i b) s ws shut ins g out kept turn = closed s ws ins g (coming (arrives i b)) out kept turn
   stepped (cancels j) s ws new ins g out kept turn = rw turn.1 (refused s ws ins g (coming (cancels j)) out kept turn.0)
 
   -- before anything came

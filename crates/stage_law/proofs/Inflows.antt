@@ -11,9 +11,9 @@ use Rattle.stream_model.specs.FanIn.{Inflow}
 use Rattle.port_core.specs.declared.act.Act.{Act}
 use Rattle.port_core.specs.declared.act.Act.TheVariants.{Pull, Push, Complete, FailOut, Cancel}
 use Rattle.port_core.specs.declared.view.InView.{InView}
-use Rattle.port_core.specs.declared.view.InView.TheVariants.{Waiting, Left}
+use Rattle.port_core.specs.declared.view.InView.TheVariants.{Pulled, Cancelled}
 use Rattle.port_core.specs.View.{View, in_at, out_at, with_in, ActsAllowed, acted, acted_all}
-use Rattle.port_core.specs.Call.{Call, starts, asks, brings, cancels, AllIdle, MayCome, came, CallAllowed, seen, brought_to, given_on}
+use Rattle.port_core.specs.Call.{Call, starts, pulls, arrives, cancels, AllIdle, MayCome, came, CallAllowed, seen, brought_to, given_on}
 use Rattle.stage_law.specs.Held.{told}
 use Rattle.stage_law.specs.Law.{TookAs, GaveAs}
 use Rattle.stage_law.specs.Inflows.{nothing, flow_of, joined_at, joined, joined_all, coming, untouched, PortsLaw}
@@ -114,9 +114,9 @@ told_by i k b t f false (this_one h e) u is = cc
 pub told_coming : (call : Call) (v : View) (k : ℕ) (t : List Item) (f : Inflow) → CallAllowed call v → TookAs (in_at v k) f.end → t ≡ told f.list f.end
     → t ++ brought_to k call ≡ told (joined f (coming call k)).list (joined f (coming call k)).end
 told_coming starts v k t f may known is = quiet_told t f is
-told_coming (asks j) v k t f may known is = quiet_told t f is
+told_coming (pulls j) v k t f may known is = quiet_told t f is
 told_coming (cancels j) v k t f may known is = quiet_told t f is
-told_coming (brings i b) v k t f may known is = told_by i k b t f (i == k) (which i k) (λ e. in_unended (in_at v k) f.end (let open_here = may_open b (in_at v i) may in rw e at open_here) known) is
+told_coming (arrives i b) v k t f may known is = told_by i k b t f (i == k) (which i k) (λ e. in_unended (in_at v k) f.end (let open_here = may_open b (in_at v i) may in rw e at open_here) known) is
 
 known_item : (b : Item) (f : Inflow) → f.end ≡ unended → TookAs (came b) (joined f (flow_of b)).end
 known_item b f u = rw u (of_item b)
@@ -131,9 +131,9 @@ quiet_as x f known = rw joined-nothing known
 
 -- another input stays as it is
 in_other : (v : View) (i k : ℕ) (x : InView) → (i ≡ k → ⊥) → in_at (with_in v i x) k ≡ in_at v k
-in_other v i k x n = by_place (set_at Left v.ins i x k)
+in_other v i k x n = by_place (set_at Cancelled v.ins i x k)
   where
-    by_place : SetAt Left v.ins i x k → in_at (with_in v i x) k ≡ in_at v k
+    by_place : SetAt Cancelled v.ins i x k → in_at (with_in v i x) k ≡ in_at v k
     by_place (is_set same h) = absurd (n same)
     by_place (is_same h f) = h
 
@@ -148,23 +148,23 @@ as_by v i k b f false (this_one h e) may known = cc
 
 pub as_coming : (call : Call) (v : View) (k : ℕ) (f : Inflow) → CallAllowed call v → TookAs (in_at v k) f.end → TookAs (in_at (seen call v) k) (joined f (coming call k)).end
 as_coming starts v k f may known = quiet_as (in_at v k) f known
-as_coming (asks j) v k f may known = quiet_as (in_at v k) f known
+as_coming (pulls j) v k f may known = quiet_as (in_at v k) f known
 as_coming (cancels j) v k f may known = quiet_as (in_at v k) f known
-as_coming (brings i b) v k f may known = as_by v i k b f (i == k) (which i k) may known
+as_coming (arrives i b) v k f may known = as_by v i k b f (i == k) (which i k) may known
 
 -- the ports stay there
 ports_acted : (acts : List Act) (v : View) → length (acted_all v acts).ins ≡ length v.ins
 ports_acted [] v = refl
-ports_acted (Pull i ∷ acts) v = ports_acted acts (acted v (Pull i)) ∙ length-set v.ins i Waiting
+ports_acted (Pull i ∷ acts) v = ports_acted acts (acted v (Pull i)) ∙ length-set v.ins i Pulled
 ports_acted (Push j x ∷ acts) v = ports_acted acts (acted v (Push j x))
 ports_acted (Complete j ∷ acts) v = ports_acted acts (acted v (Complete j))
 ports_acted (FailOut j c ∷ acts) v = ports_acted acts (acted v (FailOut j c))
-ports_acted (Cancel i ∷ acts) v = ports_acted acts (acted v (Cancel i)) ∙ length-set v.ins i Left
+ports_acted (Cancel i ∷ acts) v = ports_acted acts (acted v (Cancel i)) ∙ length-set v.ins i Cancelled
 
 ports_seen : (call : Call) (v : View) → length (seen call v).ins ≡ length v.ins
 ports_seen starts v = refl
-ports_seen (asks j) v = refl
-ports_seen (brings i b) v = length-set v.ins i (came b)
+ports_seen (pulls j) v = refl
+ports_seen (arrives i b) v = length-set v.ins i (came b)
 ports_seen (cancels j) v = refl
 
 -- what was pushed, and what the kind keeps then
@@ -210,7 +210,7 @@ pub length-untouched : (n : ℕ) → length (untouched n) ≡ n
 length-untouched zero = refl
 length-untouched (suc n) = ap suc (length-untouched n)
 
-idle_as : (xs : List InView) (i : ℕ) → AllIdle xs → TookAs (slice_index_or xs i Left) unended
+idle_as : (xs : List InView) (i : ℕ) → AllIdle xs → TookAs (slice_index_or xs i Cancelled) unended
 idle_as [] i h = refl
 idle_as (x ∷ xs) zero h = rw h.0 refl
 idle_as (x ∷ xs) (suc i) h = idle_as xs i h.1

@@ -15,7 +15,7 @@ use Rattle.stream_model.specs.Picks.{count_of, used_up, FailsWithin, MergeStands
 use Rattle.stream_model.proofs.Fitting.{at_get, yes_one, no_one}
 use Rattle.port_core.specs.declared.act.Act.{Act}
 use Rattle.port_core.specs.View.{View, out_at, ActsAllowed, acted_all}
-use Rattle.port_core.specs.Call.{Call, starts, asks, brings, cancels, AllIdle, CallAllowed, seen, brought_to, given_on}
+use Rattle.port_core.specs.Call.{Call, starts, pulls, arrives, cancels, AllIdle, CallAllowed, seen, brought_to, given_on}
 use Rattle.stage_law.specs.Law.{GaveAs}
 use Rattle.stage_law.specs.Inflows.{joined_at, joined_all, coming, untouched}
 use Rattle.stage_law.specs.Fans.{elements}
@@ -290,10 +290,10 @@ stepped : (call : Call) (moves : List ℕ) (ws : List Inflow) (new : MergeHeld) 
     → Stepped (MergeKeeps new) (joined_all 0 ins (coming call)) g out
 stepped starts moves ws (waits now us) ins g out m t = turned moves ins ws g starts m out now us t
 stepped starts moves ws (shut now) ins g out m t = closed moves ins ws g starts m out now t
-stepped (asks j) moves ws (waits now us) ins g out m t = turned moves ins ws g (asks j) m out now us t
-stepped (asks j) moves ws (shut now) ins g out m t = closed moves ins ws g (asks j) m out now t
-stepped (brings i b) moves ws (waits now us) ins g out m t = turned moves ins ws g (brings i b) m out now us t
-stepped (brings i b) moves ws (shut now) ins g out m t = closed moves ins ws g (brings i b) m out now t
+stepped (pulls j) moves ws (waits now us) ins g out m t = turned moves ins ws g (pulls j) m out now us t
+stepped (pulls j) moves ws (shut now) ins g out m t = closed moves ins ws g (pulls j) m out now t
+stepped (arrives i b) moves ws (waits now us) ins g out m t = turned moves ins ws g (arrives i b) m out now us t
+stepped (arrives i b) moves ws (shut now) ins g out m t = closed moves ins ws g (arrives i b) m out now t
 stepped (cancels j) moves ws new ins g out m t = rw t.1 (refused moves ins ws g (cancels j) m out t.0)
 
 -- a call keeps the law

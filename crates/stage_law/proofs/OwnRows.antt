@@ -4,9 +4,9 @@ use Rattle.std.proofs.Math.Seq.{take-length}
 use Rattle.elem_core.specs.Tree.{Tree}
 use Rattle.elem_core.specs.declared.item.Item.{Item}
 use Rattle.port_core.specs.declared.view.InView.{InView}
-use Rattle.port_core.specs.declared.view.InView.TheVariants.{Idle, Waiting, Over, Left}
+use Rattle.port_core.specs.declared.view.InView.TheVariants.{Idle, Pulled, Finished, Cancelled}
 use Rattle.port_core.specs.declared.view.OutView.{OutView}
-use Rattle.port_core.specs.declared.view.OutView.TheVariants.{Unasked, Asked, Shut, Refused}
+use Rattle.port_core.specs.declared.view.OutView.TheVariants as outlet
 use Rattle.stream_model.specs.Outlook.{End, unended}
 use Rattle.stream_model.specs.Machine.{State, Run, Machine, run}
 use Rattle.stage_law.specs.Held.{owing}
@@ -16,7 +16,7 @@ use Rattle.stage_law.specs.Row.{BothClosed}
 
 module _ {S : Type 0} (m : Machine S Tree) (start : Run S Tree) (holds : Bool) where
   -- it is asked, waits, and holds nothing
-  pub waiting_rests : (st : State S) (took gave : List Item) → (law : Law m start (owing (record { gave = []; state = st })) Waiting Asked took gave) → OwnRests m start holds Waiting Asked law.in_list law.out_list
+  pub waiting_rests : (st : State S) (took gave : List Item) → (law : Law m start (owing (record { gave = []; state = st })) Pulled outlet.Available took gave) → OwnRests m start holds Pulled outlet.Available law.in_list law.out_list
   waiting_rests st took gave law =
       let u : law.in_end ≡ unended = law.took_as in
       let now : run m start law.in_list ≡ record { gave = law.out_list ++ []; state = st } = ap (λ (e : End). ends_by m (run m start law.in_list) e) (sym u) ∙ law.keeps.1.0 in
@@ -24,18 +24,18 @@ module _ {S : Type 0} (m : Machine S Tree) (start : Run S Tree) (holds : Bool) w
       inr (inl ((refl, refl), (refl, refl), ap length (sym all) ∙ ap (λ (l : List Tree). length (run m start l).gave) (sym (take-length law.in_list))))
 
   -- nobody asks it, and it has not asked
-  pub idle_rests : (l g : List Tree) → OwnRests m start holds Idle Unasked l g
+  pub idle_rests : (l g : List Tree) → OwnRests m start holds Idle outlet.Unpulled l g
   idle_rests l g = inr (inr (inl ((refl, refl), inr (refl, refl))))
 
   -- it has closed both
   pub closed_rests : (x : InView) (y : OutView) (l g : List Tree) → BothClosed x y → OwnRests m start holds x y l g
-  closed_rests Over Shut l g h = inl (refl, refl)
-  closed_rests Over Refused l g h = inl (refl, refl)
-  closed_rests Left Shut l g h = inl (refl, refl)
-  closed_rests Left Refused l g h = inl (refl, refl)
+  closed_rests Finished outlet.Closed l g h = inl (refl, refl)
+  closed_rests Finished outlet.Cancelled l g h = inl (refl, refl)
+  closed_rests Cancelled outlet.Closed l g h = inl (refl, refl)
+  closed_rests Cancelled outlet.Cancelled l g h = inl (refl, refl)
   closed_rests Idle y l g h = absurd h
-  closed_rests Waiting y l g h = absurd h
-  closed_rests Over Unasked l g h = absurd h
-  closed_rests Over Asked l g h = absurd h
-  closed_rests Left Unasked l g h = absurd h
-  closed_rests Left Asked l g h = absurd h
+  closed_rests Pulled y l g h = absurd h
+  closed_rests Finished outlet.Unpulled l g h = absurd h
+  closed_rests Finished outlet.Available l g h = absurd h
+  closed_rests Cancelled outlet.Unpulled l g h = absurd h
+  closed_rests Cancelled outlet.Available l g h = absurd h

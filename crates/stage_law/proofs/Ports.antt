@@ -10,11 +10,11 @@ use Rattle.stream_model.specs.Outlook.{End, unended, ended, failed}
 use Rattle.port_core.specs.declared.act.Act.{Act}
 use Rattle.port_core.specs.declared.act.Act.TheVariants.{Pull, Push, Complete, FailOut, Cancel}
 use Rattle.port_core.specs.declared.view.InView.{InView}
-use Rattle.port_core.specs.declared.view.InView.TheVariants.{Idle, Waiting, Over, Left}
+use Rattle.port_core.specs.declared.view.InView.TheVariants.{Idle, Pulled, Finished, Cancelled}
 use Rattle.port_core.specs.declared.view.OutView.{OutView}
-use Rattle.port_core.specs.declared.view.OutView.TheVariants.{Unasked, Asked, Shut, Refused}
+use Rattle.port_core.specs.declared.view.OutView.TheVariants as outlet
 use Rattle.port_core.specs.View.{View, in_at, out_at, with_in, with_out, IsInOpen, IsOutOpen, acted, ActsAllowed, acted_all}
-use Rattle.port_core.specs.Call.{Call, starts, asks, brings, cancels, MayCome, came, CallAllowed, seen, given_on}
+use Rattle.port_core.specs.Call.{Call, starts, pulls, arrives, cancels, MayCome, came, CallAllowed, seen, given_on}
 use Rattle.stage_law.specs.Held.{told}
 use Rattle.stage_law.specs.Law.{TookAs, GaveAs}
 
@@ -42,15 +42,15 @@ module _ {A : Type 0} (d : A) where
 -- an input that is open has not ended
 pub in_unended : (i : InView) (e : End) → IsInOpen i → TookAs i e → e ≡ unended
 in_unended Idle e h k = k
-in_unended Waiting e h k = k
-in_unended Over e h k = absurd h
-in_unended Left e h k = absurd h
+in_unended Pulled e h k = k
+in_unended Finished e h k = absurd h
+in_unended Cancelled e h k = absurd h
 
 -- nothing of the input's history changes by what the stage does there
 took_set : (v : View) (i : ℕ) (x : InView) (k : ℕ) (e : End) → IsInOpen (in_at v i) → (e ≡ unended → TookAs x e) → TookAs (in_at v k) e → TookAs (in_at (with_in v i x) k) e
-took_set v i x k e h f t = by_place (set_at Left v.ins i x k)
+took_set v i x k e h f t = by_place (set_at Cancelled v.ins i x k)
   where
-    by_place : SetAt Left v.ins i x k → TookAs (in_at (with_in v i x) k) e
+    by_place : SetAt Cancelled v.ins i x k → TookAs (in_at (with_in v i x) k) e
     by_place (is_set same h2) =
         let t2 : TookAs (in_at v i) e = rw same t in
         rw h2 (f (in_unended (in_at v i) e h t2))
@@ -61,11 +61,11 @@ idle_open x h = rw h tt
 
 pub took_acted : (acts : List Act) (v : View) (k : ℕ) (e : End) → ActsAllowed v acts → TookAs (in_at v k) e → TookAs (in_at (acted_all v acts) k) e
 took_acted [] v k e h t = t
-took_acted (Pull i ∷ acts) v k e h t = took_acted acts (acted v (Pull i)) k e h.1 (took_set v i Waiting k e (idle_open (in_at v i) h.0) (λ u. u) t)
+took_acted (Pull i ∷ acts) v k e h t = took_acted acts (acted v (Pull i)) k e h.1 (took_set v i Pulled k e (idle_open (in_at v i) h.0) (λ u. u) t)
 took_acted (Push j x ∷ acts) v k e h t = took_acted acts (acted v (Push j x)) k e h.1 t
 took_acted (Complete j ∷ acts) v k e h t = took_acted acts (acted v (Complete j)) k e h.1 t
 took_acted (FailOut j c ∷ acts) v k e h t = took_acted acts (acted v (FailOut j c)) k e h.1 t
-took_acted (Cancel i ∷ acts) v k e h t = took_acted acts (acted v (Cancel i)) k e h.1 (took_set v i Left k e h.0 (λ u. u) t)
+took_acted (Cancel i ∷ acts) v k e h t = took_acted acts (acted v (Cancel i)) k e h.1 (took_set v i Cancelled k e h.0 (λ u. u) t)
 
 -- an item comes where the input is open
 pub may_open : (b : Item) (x : InView) → MayCome b x → IsInOpen x
@@ -75,14 +75,14 @@ may_open (item.Failed c) x h = h
 
 -- the input that the item comes to is there
 pub came_at : (b : Item) (v : View) (i : ℕ) → MayCome b (in_at v i) → in_at (with_in v i (came b)) i ≡ came b
-came_at b v i may = by_place (set_at Left v.ins i (came b) i)
+came_at b v i may = by_place (set_at Cancelled v.ins i (came b) i)
   where
-    by_place : SetAt Left v.ins i (came b) i → in_at (with_in v i (came b)) i ≡ came b
+    by_place : SetAt Cancelled v.ins i (came b) i → in_at (with_in v i (came b)) i ≡ came b
     by_place (is_set same h) = h
-    by_place (is_same h f) = let open_here : IsInOpen (in_at v i) = may_open b (in_at v i) may in let on : IsInOpen Left = rw (f refl) at open_here in absurd on
+    by_place (is_same h f) = let open_here : IsInOpen (in_at v i) = may_open b (in_at v i) may in let on : IsInOpen Cancelled = rw (f refl) at open_here in absurd on
 
 -- a stage with one input has no other
-pub no_other : (xs : List InView) (i : ℕ) → length xs ≡ 1 → slice_index_or xs (suc i) Left ≡ Left
+pub no_other : (xs : List InView) (i : ℕ) → length xs ≡ 1 → slice_index_or xs (suc i) Cancelled ≡ Cancelled
 no_other [] i h = cc
 no_other (x ∷ []) i h = refl
 no_other (x ∷ y ∷ xs) i h = absurd (omega (arith, h))
@@ -90,40 +90,40 @@ no_other (x ∷ y ∷ xs) i h = absurd (omega (arith, h))
 -- ---- outputs
 
 pub out_unended : (y : OutView) (f : End) → IsOutOpen y → GaveAs y f → f ≡ unended
-out_unended Unasked f h g = g
-out_unended Asked f h g = g
-out_unended Shut f h g = absurd h
-out_unended Refused f h g = absurd h
+out_unended outlet.Unpulled f h g = g
+out_unended outlet.Available f h g = g
+out_unended outlet.Closed f h g = absurd h
+out_unended outlet.Cancelled f h g = absurd h
 
-asked_open : (y : OutView) → y ≡ Asked → IsOutOpen y
+asked_open : (y : OutView) → y ≡ outlet.Available → IsOutOpen y
 asked_open y h = rw h tt
 
-unasked_open : (y : OutView) → y ≡ Unasked → IsOutOpen y
+unasked_open : (y : OutView) → y ≡ outlet.Unpulled → IsOutOpen y
 unasked_open y h = rw h tt
 
 -- an open output that is asked, was given or was cancelled has not ended
 gave_set : (v : View) (i : ℕ) (y : OutView) (j : ℕ) (f : End) → IsOutOpen (out_at v i) → (f ≡ unended → GaveAs y f) → GaveAs (out_at v j) f → GaveAs (out_at (with_out v i y) j) f
-gave_set v i y j f h k g = by_place (set_at Shut v.outs i y j)
+gave_set v i y j f h k g = by_place (set_at outlet.Closed v.outs i y j)
   where
-    by_place : SetAt Shut v.outs i y j → GaveAs (out_at (with_out v i y) j) f
+    by_place : SetAt outlet.Closed v.outs i y j → GaveAs (out_at (with_out v i y) j) f
     by_place (is_set same h2) =
         let g2 : GaveAs (out_at v i) f = rw same g in
         rw h2 (k (out_unended (out_at v i) f h g2))
     by_place (is_same h2 other) = rw h2 g
 
 -- an output that was closed is closed
-set_shut : (v : View) (i j : ℕ) → i ≡ j → out_at (with_out v i Shut) j ≡ Shut
-set_shut v i j e = by_place (set_at Shut v.outs i Shut j)
+set_shut : (v : View) (i j : ℕ) → i ≡ j → out_at (with_out v i outlet.Closed) j ≡ outlet.Closed
+set_shut v i j e = by_place (set_at outlet.Closed v.outs i outlet.Closed j)
   where
-    by_place : SetAt Shut v.outs i Shut j → out_at (with_out v i Shut) j ≡ Shut
+    by_place : SetAt outlet.Closed v.outs i outlet.Closed j → out_at (with_out v i outlet.Closed) j ≡ outlet.Closed
     by_place (is_set same h) = h
     by_place (is_same h f) = h ∙ f e
 
 -- another output stays as it is
 set_other : (v : View) (i j : ℕ) (y : OutView) → (i ≡ j → ⊥) → out_at (with_out v i y) j ≡ out_at v j
-set_other v i j y n = by_place (set_at Shut v.outs i y j)
+set_other v i j y n = by_place (set_at outlet.Closed v.outs i y j)
   where
-    by_place : SetAt Shut v.outs i y j → out_at (with_out v i y) j ≡ out_at v j
+    by_place : SetAt outlet.Closed v.outs i y j → out_at (with_out v i y) j ≡ out_at v j
     by_place (is_set same h) = absurd (n same)
     by_place (is_same h f) = h
 
@@ -134,48 +134,48 @@ other_port : (k j : ℕ) → (k == j) ≡ false → k ≡ j → ⊥
 other_port k j h e = grind (arith, nat_tests)
 
 -- a closed output stays closed
-shut_set : (v : View) (i : ℕ) (y : OutView) (j : ℕ) → IsOutOpen (out_at v i) → out_at v j ≡ Shut → out_at (with_out v i y) j ≡ Shut
-shut_set v i y j h s = by_place (set_at Shut v.outs i y j)
+shut_set : (v : View) (i : ℕ) (y : OutView) (j : ℕ) → IsOutOpen (out_at v i) → out_at v j ≡ outlet.Closed → out_at (with_out v i y) j ≡ outlet.Closed
+shut_set v i y j h s = by_place (set_at outlet.Closed v.outs i y j)
   where
-    by_place : SetAt Shut v.outs i y j → out_at (with_out v i y) j ≡ Shut
-    by_place (is_set same h2) = let on : IsOutOpen Shut = rw (ap (λ (n : ℕ). out_at v n) same ∙ s) at h in absurd on
+    by_place : SetAt outlet.Closed v.outs i y j → out_at (with_out v i y) j ≡ outlet.Closed
+    by_place (is_set same h2) = let on : IsOutOpen outlet.Closed = rw (ap (λ (n : ℕ). out_at v n) same ∙ s) at h in absurd on
     by_place (is_same h2 f) = h2 ∙ s
 
-shut_stays : (acts : List Act) (v : View) (j : ℕ) → out_at v j ≡ Shut → ActsAllowed v acts → out_at (acted_all v acts) j ≡ Shut
+shut_stays : (acts : List Act) (v : View) (j : ℕ) → out_at v j ≡ outlet.Closed → ActsAllowed v acts → out_at (acted_all v acts) j ≡ outlet.Closed
 shut_stays [] v j s h = s
 shut_stays (Pull i ∷ acts) v j s h = shut_stays acts (acted v (Pull i)) j s h.1
-shut_stays (Push k t ∷ acts) v j s h = shut_stays acts (acted v (Push k t)) j (shut_set v k Unasked j (asked_open (out_at v k) h.0) s) h.1
-shut_stays (Complete k ∷ acts) v j s h = shut_stays acts (acted v (Complete k)) j (shut_set v k Shut j h.0 s) h.1
-shut_stays (FailOut k c ∷ acts) v j s h = shut_stays acts (acted v (FailOut k c)) j (shut_set v k Shut j h.0 s) h.1
+shut_stays (Push k t ∷ acts) v j s h = shut_stays acts (acted v (Push k t)) j (shut_set v k outlet.Unpulled j (asked_open (out_at v k) h.0) s) h.1
+shut_stays (Complete k ∷ acts) v j s h = shut_stays acts (acted v (Complete k)) j (shut_set v k outlet.Closed j h.0 s) h.1
+shut_stays (FailOut k c ∷ acts) v j s h = shut_stays acts (acted v (FailOut k c)) j (shut_set v k outlet.Closed j h.0 s) h.1
 shut_stays (Cancel i ∷ acts) v j s h = shut_stays acts (acted v (Cancel i)) j s h.1
 
-shut_as : (o : OutView) (f : End) → o ≡ Shut → (f ≡ unended → ⊥) → GaveAs o f
-shut_as Shut unended s h = absurd (h refl)
-shut_as Shut ended s h = tt
-shut_as Shut (failed c) s h = tt
-shut_as Unasked f s h = cc
-shut_as Asked f s h = cc
-shut_as Refused f s h = cc
+shut_as : (o : OutView) (f : End) → o ≡ outlet.Closed → (f ≡ unended → ⊥) → GaveAs o f
+shut_as outlet.Closed unended s h = absurd (h refl)
+shut_as outlet.Closed ended s h = tt
+shut_as outlet.Closed (failed c) s h = tt
+shut_as outlet.Unpulled f s h = cc
+shut_as outlet.Available f s h = cc
+shut_as outlet.Cancelled f s h = cc
 
-as_shut : (o : OutView) (f : End) → (f ≡ unended → ⊥) → GaveAs o f → o ≡ Shut
-as_shut Shut f n g = refl
-as_shut Unasked f n g = absurd (n g)
-as_shut Asked f n g = absurd (n g)
-as_shut Refused f n g = absurd (n g)
+as_shut : (o : OutView) (f : End) → (f ≡ unended → ⊥) → GaveAs o f → o ≡ outlet.Closed
+as_shut outlet.Closed f n g = refl
+as_shut outlet.Unpulled f n g = absurd (n g)
+as_shut outlet.Available f n g = absurd (n g)
+as_shut outlet.Cancelled f n g = absurd (n g)
 
 -- ---- calls
 
-pub took_seen : (call : Call) (v : View) (k : ℕ) (e : End) → CallAllowed call v → ((i : ℕ) (b : Item) → call ≡ brings i b → ⊥) → TookAs (in_at v k) e → TookAs (in_at (seen call v) k) e
+pub took_seen : (call : Call) (v : View) (k : ℕ) (e : End) → CallAllowed call v → ((i : ℕ) (b : Item) → call ≡ arrives i b → ⊥) → TookAs (in_at v k) e → TookAs (in_at (seen call v) k) e
 took_seen starts v k e h n t = t
-took_seen (asks j) v k e h n t = t
-took_seen (brings i b) v k e h n t = absurd (n i b refl)
+took_seen (pulls j) v k e h n t = t
+took_seen (arrives i b) v k e h n t = absurd (n i b refl)
 took_seen (cancels j) v k e h n t = t
 
 pub gave_seen : (call : Call) (v : View) (j : ℕ) (f : End) → CallAllowed call v → GaveAs (out_at v j) f → GaveAs (out_at (seen call v) j) f
 gave_seen starts v j f h g = g
-gave_seen (asks k) v j f h g = gave_set v k Asked j f (unasked_open (out_at v k) h) (λ u. u) g
-gave_seen (brings i b) v j f h g = g
-gave_seen (cancels k) v j f h g = gave_set v k Refused j f h (λ u. u) g
+gave_seen (pulls k) v j f h g = gave_set v k outlet.Available j f (unasked_open (out_at v k) h) (λ u. u) g
+gave_seen (arrives i b) v j f h g = g
+gave_seen (cancels k) v j f h g = gave_set v k outlet.Cancelled j f h (λ u. u) g
 
 -- ---- what was pushed has an end where the output was closed
 
@@ -193,10 +193,10 @@ module _ (j : ℕ) where
   gave_acted (Push k t ∷ acts) v o f is h g = by_port (gave_acted acts (acted v (Push k t))) (k == j) o is
     where
       by_port : Gives acts (acted v (Push k t)) → (b : Bool) (o : List Tree) → (if b then item.Elem t ∷ [] else []) ++ given_on j acts ≡ told o f → GaveAs (out_at (acted_all (acted v (Push k t)) acts) j) f
-      by_port ih false o is = ih o f is h.1 (gave_set v k Unasked j unended (asked_open (out_at v k) h.0) (λ u. u) g)
+      by_port ih false o is = ih o f is h.1 (gave_set v k outlet.Unpulled j unended (asked_open (out_at v k) h.0) (λ u. u) g)
       by_port ih true (u ∷ o) is =
           let e : given_on j acts ≡ told o f = cc in
-          ih o f e h.1 (gave_set v k Unasked j unended (asked_open (out_at v k) h.0) (λ u. u) g)
+          ih o f e h.1 (gave_set v k outlet.Unpulled j unended (asked_open (out_at v k) h.0) (λ u. u) g)
       by_port ih true [] is = no_elem f is
         where
           no_elem : (f : End) → item.Elem t ∷ given_on j acts ≡ told [] f → GaveAs (out_at (acted_all (acted v (Push k t)) acts) j) f
@@ -212,7 +212,7 @@ module _ (j : ℕ) where
       by_end e (t ∷ o) f is = cc
 
       by_port : Gives acts (acted v (Complete k)) → (b : Bool) → (k == j) ≡ b → (if b then item.Ended ∷ [] else []) ++ given_on j acts ≡ told o f → GaveAs (out_at (acted_all (acted v (Complete k)) acts) j) f
-      by_port ih false e is = ih o f is h.1 (rw (set_other v k j Shut (other_port k j e)) g)
+      by_port ih false e is = ih o f is h.1 (rw (set_other v k j outlet.Closed (other_port k j e)) g)
       by_port ih true e is = by_end (same_port k j e) o f is
   gave_acted (FailOut k c ∷ acts) v o f is h g = by_port (gave_acted acts (acted v (FailOut k c))) (k == j) refl is
     where
@@ -223,7 +223,7 @@ module _ (j : ℕ) where
       by_end e (t ∷ o) f is = cc
 
       by_port : Gives acts (acted v (FailOut k c)) → (b : Bool) → (k == j) ≡ b → (if b then item.Failed c ∷ [] else []) ++ given_on j acts ≡ told o f → GaveAs (out_at (acted_all (acted v (FailOut k c)) acts) j) f
-      by_port ih false e is = ih o f is h.1 (rw (set_other v k j Shut (other_port k j e)) g)
+      by_port ih false e is = ih o f is h.1 (rw (set_other v k j outlet.Closed (other_port k j e)) g)
       by_port ih true e is = by_end (same_port k j e) o f is
 
   -- where nothing is given, it stands as it did

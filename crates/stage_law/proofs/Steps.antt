@@ -8,7 +8,7 @@ use Rattle.stream_model.specs.Machine.{State, going, done, broken, Run, Finish, 
 use Rattle.elem_core.specs.declared.item.Item.{Item}
 use Rattle.elem_core.specs.declared.item.Item.TheVariants as item
 use Rattle.stage_law.specs.Held.{told, told_of, Held, owing, shut, sealed_by, sealed_at, failed_at, after, heard, whole, gives}
-use Rattle.port_core.specs.Call.{Call, starts, asks, brings, cancels}
+use Rattle.port_core.specs.Call.{Call, starts, pulls, arrives, cancels}
 use Rattle.stage_law.specs.Turn.{Emits, DropsAtEnd, DropsAtFailure, Turn, Residual, TurnAt, ResidualAt}
 use Rattle.stage_law.proofs.Told.{told-append, told-end}
 
@@ -135,10 +135,10 @@ module _ {S : Type 0} (m : Machine S Tree) where
 
   pub residual_at : (j : ℕ) (call : Call) (old new : Held S) (out : List Item) → TurnAt m j call old out new → ResidualAt m j call old out new
   residual_at j starts (owing x) new out h = turn_residual x None out new h
-  residual_at j (asks k) (owing x) new out h = turn_residual x None out new h
-  residual_at j (brings i b) (owing x) new out h = turn_residual x (Some b) out new h
+  residual_at j (pulls k) (owing x) new out h = turn_residual x None out new h
+  residual_at j (arrives i b) (owing x) new out h = turn_residual x (Some b) out new h
   residual_at j (cancels k) (owing x) new out h = by_test (k == j) x out new h
   residual_at j starts shut new out h = h.0
-  residual_at j (asks k) shut new out h = h.0
-  residual_at j (brings i b) shut new out h = h.0
+  residual_at j (pulls k) shut new out h = h.0
+  residual_at j (arrives i b) shut new out h = h.0
   residual_at j (cancels k) shut new out h = h.0

@@ -8,7 +8,7 @@ use Rattle.elem_core.specs.declared.item.Item.{Item}
 use Rattle.elem_core.specs.declared.item.Item.TheVariants as item
 use Rattle.port_core.specs.declared.view.InView.{InView}
 use Rattle.port_core.specs.declared.view.OutView.{OutView}
-use Rattle.port_core.specs.declared.view.OutView.TheVariants.{Unasked, Asked, Shut, Refused}
+use Rattle.port_core.specs.declared.view.OutView.TheVariants.{Unpulled, Available, Closed, Cancelled}
 use Rattle.stage_law.specs.Held.{told, told_of, Held, owing, after, heard, whole, gives}
 use Rattle.stage_law.specs.Law.{GaveAs, ends_by, Law}
 use Rattle.stage_law.proofs.Steps.{whole_behind}
@@ -43,13 +43,13 @@ module _ {S : Type 0} (m : Machine S Tree) where
     stage_stands x i o took gave law = law_stands m start x law.in_list law.in_end law.out_list law.out_end law.keeps
 
     -- a stage that has closed its output has given an end
-    pub shut_ended : (o : OutView) (f : End) → o ≡ Shut → GaveAs o f → f ≢ unended
-    shut_ended Shut unended s h = absurd h
-    shut_ended Shut ended s h = λ e. cc
-    shut_ended Shut (failed c) s h = λ e. cc
-    shut_ended Unasked f s h = cc
-    shut_ended Asked f s h = cc
-    shut_ended Refused f s h = cc
+    pub shut_ended : (o : OutView) (f : End) → o ≡ Closed → GaveAs o f → f ≢ unended
+    shut_ended Closed unended s h = absurd h
+    shut_ended Closed ended s h = λ e. cc
+    shut_ended Closed (failed c) s h = λ e. cc
+    shut_ended Unpulled f s h = cc
+    shut_ended Available f s h = cc
+    shut_ended Cancelled f s h = cc
 
     -- so what passes its output agrees with the outlook there, where what it took agrees with the outlook at its input
     pub stage_agrees : (u : Outlook) (x : Held S) (i : InView) (o : OutView) (took gave : List Item) → (law : Law m start x i o took gave) → Agrees u law.in_list law.in_end → Agrees (output m start u) law.out_list law.out_end

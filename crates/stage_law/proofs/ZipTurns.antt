@@ -9,7 +9,7 @@ use Rattle.stream_model.specs.FanIn.{Inflow, pairs, IsPaired, ZipStands}
 use Rattle.port_core.specs.declared.act.Act.{Act}
 use Rattle.stage_law.specs.Law.{GaveAs}
 use Rattle.port_core.specs.View.{View, out_at, ActsAllowed, acted_all}
-use Rattle.port_core.specs.Call.{Call, starts, asks, brings, cancels, AllIdle, CallAllowed, seen, brought_to, given_on}
+use Rattle.port_core.specs.Call.{Call, starts, pulls, arrives, cancels, AllIdle, CallAllowed, seen, brought_to, given_on}
 use Rattle.stage_law.specs.Inflows.{joined_at, joined, joined_all, coming, nothing, untouched}
 use Rattle.stage_law.specs.Zips.{ZipHeld, waits, shut, Paired, Finished, FailedWith, ZipTurn, ZipClose, completes, fails, ZipTurnAt, ZipKeeps, ZipLaw, ZipStandsOf}
 use Rattle.stage_law.proofs.Inflows.{Stepped, ports_law, new_ports}
@@ -164,10 +164,10 @@ stepped call w u new (a ∷ []) g f out k t = absurd k
 stepped call w u new (a ∷ b ∷ d ∷ ins) g f out k t = absurd k
 stepped starts w u (waits x y) (a ∷ b ∷ []) g f out k t = turned a b w u g starts k.1.0 out x y t
 stepped starts w u shut (a ∷ b ∷ []) g f out k t = closed a b w u g starts k.1.0 out t
-stepped (asks j) w u (waits x y) (a ∷ b ∷ []) g f out k t = turned a b w u g (asks j) k.1.0 out x y t
-stepped (asks j) w u shut (a ∷ b ∷ []) g f out k t = closed a b w u g (asks j) k.1.0 out t
-stepped (brings i c) w u (waits x y) (a ∷ b ∷ []) g f out k t = turned a b w u g (brings i c) k.1.0 out x y t
-stepped (brings i c) w u shut (a ∷ b ∷ []) g f out k t = closed a b w u g (brings i c) k.1.0 out t
+stepped (pulls j) w u (waits x y) (a ∷ b ∷ []) g f out k t = turned a b w u g (pulls j) k.1.0 out x y t
+stepped (pulls j) w u shut (a ∷ b ∷ []) g f out k t = closed a b w u g (pulls j) k.1.0 out t
+stepped (arrives i c) w u (waits x y) (a ∷ b ∷ []) g f out k t = turned a b w u g (arrives i c) k.1.0 out x y t
+stepped (arrives i c) w u shut (a ∷ b ∷ []) g f out k t = closed a b w u g (arrives i c) k.1.0 out t
 stepped (cancels j) w u new (a ∷ b ∷ []) g f out k t = rw t.1 (refused a b w u g (cancels j) k.1.0 out t.0)
 
 open_keeps : (w u : Inflow) (ins : List Inflow) (g : List Tree) (f : End) → ZipKeeps (waits w u) ins g f → f ≡ unended

@@ -6,7 +6,7 @@ use Rattle.elem_core.specs.declared.item.Item.TheVariants as item
 use Rattle.stream_model.specs.Outlook.{End, unended, ended, failed}
 use Rattle.stream_model.specs.FanIn.{Inflow}
 use Rattle.port_core.specs.View.{View, in_at, out_at}
-use Rattle.port_core.specs.Call.{Call, starts, asks, brings, cancels}
+use Rattle.port_core.specs.Call.{Call, starts, pulls, arrives, cancels}
 use Rattle.stage_law.specs.Held.{told}
 use Rattle.stage_law.specs.Law.{TookAs, GaveAs}
 
@@ -38,8 +38,8 @@ joined_all n (f ∷ fs) more = joined f (more n) ∷ joined_all (n + 1) fs more
 -- what a call brings to input k
 abbrev pub coming : Call → ℕ → Inflow
 coming starts k = nothing
-coming (asks j) k = nothing
-coming (brings i b) k = if i == k then flow_of b else nothing
+coming (pulls j) k = nothing
+coming (arrives i b) k = if i == k then flow_of b else nothing
 coming (cancels j) k = nothing
 
 -- n inputs to which nothing came

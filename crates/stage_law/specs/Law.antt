@@ -6,21 +6,21 @@ use Rattle.stream_model.specs.Outlook.{End, unended, ended, failed}
 use Rattle.stream_model.specs.Machine.{Run, Machine, is_going, run, Stands}
 use Rattle.elem_core.specs.declared.item.Item.{Item}
 use Rattle.port_core.specs.declared.view.InView.{InView}
-use Rattle.port_core.specs.declared.view.InView.TheVariants.{Over}
+use Rattle.port_core.specs.declared.view.InView.TheVariants.{Finished}
 use Rattle.port_core.specs.declared.view.OutView.{OutView}
-use Rattle.port_core.specs.declared.view.OutView.TheVariants.{Shut}
+use Rattle.port_core.specs.declared.view.OutView.TheVariants.{Closed}
 use Rattle.stage_law.specs.Held.{told, Held, owing, shut, sealed_at, failed_at}
 
 -- an input's history has its end exactly where the stage knows it
 abbrev pub TookAs : InView → End → Type 0
-TookAs Over unended = ⊥
-TookAs Over _ = ⊤
+TookAs Finished unended = ⊥
+TookAs Finished _ = ⊤
 TookAs _ e = e ≡ unended
 
 -- an output's history has its end exactly where the stage closed it
 abbrev pub GaveAs : OutView → End → Type 0
-GaveAs Shut unended = ⊥
-GaveAs Shut _ = ⊤
+GaveAs Closed unended = ⊥
+GaveAs Closed _ = ⊤
 GaveAs _ f = f ≡ unended
 
 module _ {S : Type 0} (m : Machine S Tree) where

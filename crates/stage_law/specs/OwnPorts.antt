@@ -4,9 +4,9 @@ use Rattle.port_core.specs.View.{input_closed, output_closed}
 use Rattle.std.specs.Prelude.{◌⊎◌, Bool, true, false, List, length, None}
 use Rattle.elem_core.specs.Tree.{Tree}
 use Rattle.port_core.specs.declared.view.InView.{InView}
-use Rattle.port_core.specs.declared.view.InView.TheVariants.{Idle, Waiting, Over, Left}
+use Rattle.port_core.specs.declared.view.InView.TheVariants.{Idle, Pulled, Finished, Cancelled}
 use Rattle.port_core.specs.declared.view.OutView.{OutView}
-use Rattle.port_core.specs.declared.view.OutView.TheVariants.{Unasked, Asked, Shut, Refused}
+use Rattle.port_core.specs.declared.view.OutView.TheVariants as outlet
 use Rattle.stream_model.specs.Machine.{Run, Machine}
 use Rattle.stream_picture.specs.View.{View}
 use Rattle.stream_picture.specs.OneWay.{of_machine}
@@ -15,16 +15,16 @@ use Rattle.stream_picture.specs.Rests.{IsShut, StageRests}
 -- the stage has asked, and no element came since
 abbrev pub is_waiting : InView → Bool
 is_waiting Idle = false
-is_waiting Waiting = true
-is_waiting Over = false
-is_waiting Left = false
+is_waiting Pulled = true
+is_waiting Finished = false
+is_waiting Cancelled = false
 
 -- the output was asked, and no element was pushed since
 abbrev pub is_asked : OutView → Bool
-is_asked Unasked = false
-is_asked Asked = true
-is_asked Shut = false
-is_asked Refused = false
+is_asked outlet.Unpulled = false
+is_asked outlet.Available = true
+is_asked outlet.Closed = false
+is_asked outlet.Cancelled = false
 
 -- the wire of an input, of which this list was taken
 abbrev pub own_input : InView → List Tree → View

@@ -1,28 +1,28 @@
 -- What a stage with one input and one output knows of its ports once it has closed both.
 use Rattle.std.specs.Prelude.{⊤}
 use Rattle.port_core.specs.declared.view.InView.{InView}
-use Rattle.port_core.specs.declared.view.InView.TheVariants.{Idle, Waiting, Over, Left}
+use Rattle.port_core.specs.declared.view.InView.TheVariants.{Idle, Pulled, Finished, Cancelled}
 use Rattle.port_core.specs.declared.view.OutView.{OutView}
-use Rattle.port_core.specs.declared.view.OutView.TheVariants.{Unasked, Asked, Shut, Refused}
+use Rattle.port_core.specs.declared.view.OutView.TheVariants as outlet
 
 -- the input is closed, by its end or by the stage
 abbrev pub InClosed : InView → Type 0
 InClosed Idle = ⊥
-InClosed Waiting = ⊥
-InClosed Over = ⊤
-InClosed Left = ⊤
+InClosed Pulled = ⊥
+InClosed Finished = ⊤
+InClosed Cancelled = ⊤
 
 -- the output is closed, by the stage or by a cancel
 abbrev pub OutClosed : OutView → Type 0
-OutClosed Unasked = ⊥
-OutClosed Asked = ⊥
-OutClosed Shut = ⊤
-OutClosed Refused = ⊤
+OutClosed outlet.Unpulled = ⊥
+OutClosed outlet.Available = ⊥
+OutClosed outlet.Closed = ⊤
+OutClosed outlet.Cancelled = ⊤
 
 -- both are
 abbrev pub BothClosed : InView → OutView → Type 0
-BothClosed Over Shut = ⊤
-BothClosed Over Refused = ⊤
-BothClosed Left Shut = ⊤
-BothClosed Left Refused = ⊤
+BothClosed Finished outlet.Closed = ⊤
+BothClosed Finished outlet.Cancelled = ⊤
+BothClosed Cancelled outlet.Closed = ⊤
+BothClosed Cancelled outlet.Cancelled = ⊤
 BothClosed _ _ = ⊥

@@ -6,7 +6,7 @@ use Rattle.stream_model.specs.Outlook.{unended}
 use Rattle.stream_model.specs.Machine.{State, going, Run, refuses, Machine, is_going, feed, close}
 use Rattle.elem_core.specs.declared.item.Item.{Item}
 use Rattle.elem_core.specs.declared.item.Item.TheVariants as item
-use Rattle.port_core.specs.Call.{Call, starts, asks, brings, cancels}
+use Rattle.port_core.specs.Call.{Call, starts, pulls, arrives, cancels}
 use Rattle.stage_law.specs.Held.{told, told_of, items_of, Held, owing, shut, after, gives}
 
 module _ {S : Type 0} (m : Machine S Tree) where
@@ -69,14 +69,14 @@ module _ {S : Type 0} (m : Machine S Tree) where
   abbrev pub TurnAt : ℕ → Call → Held S → List Item → Held S → Type 0
   TurnAt j call shut out new = (out ≡ []) × (new ≡ shut)
   TurnAt j starts (owing x) out new = Turn x None out new
-  TurnAt j (asks k) (owing x) out new = Turn x None out new
-  TurnAt j (brings i b) (owing x) out new = Turn x (Some b) out new
+  TurnAt j (pulls k) (owing x) out new = Turn x None out new
+  TurnAt j (arrives i b) (owing x) out new = Turn x (Some b) out new
   TurnAt j (cancels k) (owing x) out new = MatchBool (k == j) ((out ≡ []) × (new ≡ shut)) (Turn x None out new)
 
   -- the residual law by calls; where an output is cancelled or closed, nothing is given
   abbrev pub ResidualAt : ℕ → Call → Held S → List Item → Held S → Type 0
   ResidualAt j call shut out new = out ≡ []
   ResidualAt j starts (owing x) out new = Residual x None out new
-  ResidualAt j (asks k) (owing x) out new = Residual x None out new
-  ResidualAt j (brings i b) (owing x) out new = Residual x (Some b) out new
+  ResidualAt j (pulls k) (owing x) out new = Residual x None out new
+  ResidualAt j (arrives i b) (owing x) out new = Residual x (Some b) out new
   ResidualAt j (cancels k) (owing x) out new = MatchBool (k == j) (out ≡ []) (Residual x None out new)

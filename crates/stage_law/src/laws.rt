@@ -5,9 +5,9 @@ ghost use Rattle.elem_core.specs.Tree.{Tree};
 ghost use Rattle.elem_core.specs.declared.item.Item.{Item};
 ghost use Rattle.port_core.specs.declared.act.Act.{Act};
 ghost use Rattle.port_core.specs.declared.view.InView.{InView};
-ghost use Rattle.port_core.specs.declared.view.InView.TheVariants.{Waiting};
+ghost use Rattle.port_core.specs.declared.view.InView.TheVariants.{Pulled};
 ghost use Rattle.port_core.specs.declared.view.OutView.{OutView};
-ghost use Rattle.port_core.specs.declared.view.OutView.TheVariants.{Asked};
+ghost use Rattle.port_core.specs.declared.view.OutView.TheVariants.{Available};
 ghost use Rattle.port_core.specs.View.{View, in_at, out_at, ActsAllowed, acted_all};
 ghost use Rattle.port_core.specs.Call.{Call, AllIdle, CallAllowed, seen, brought_to, given_on};
 ghost use Rattle.stream_model.specs.FanIn.{Inflow, merge_of, pairs, FanStands};
@@ -52,7 +52,7 @@ pub fn the_law_is_of_whole_histories()
 /// A stage that is asked, waits and holds nothing has given all that it may for what it took.
 pub fn a_stage_that_waits_rests()
     ensures { (m : Machine Stage Tree) (start : Run Stage Tree) (holds : Bool) (st : State Stage) (took gave : List Item)
-        → (law : Law m start (owing (record { gave = []; state = st })) Waiting Asked took gave) → OwnRests m start holds Waiting Asked law.in_list law.out_list }
+        → (law : Law m start (owing (record { gave = []; state = st })) Pulled Available took gave) → OwnRests m start holds Pulled Available law.in_list law.out_list }
 {}
 
 /// The law of a stage with several inputs, a concat, an interleave or a merge_sorted: it holds before anything came, every

@@ -5,9 +5,9 @@ use Rattle.elem_core.specs.Tree.{Tree}
 use Rattle.elem_core.specs.declared.item.Item.{Item}
 use Rattle.port_core.specs.declared.act.Act.{Act}
 use Rattle.port_core.specs.declared.view.InView.{InView}
-use Rattle.port_core.specs.declared.view.InView.TheVariants.{Idle, Waiting, Over, Left}
+use Rattle.port_core.specs.declared.view.InView.TheVariants.{Idle, Pulled, Finished, Cancelled}
 use Rattle.port_core.specs.declared.view.OutView.{OutView}
-use Rattle.port_core.specs.declared.view.OutView.TheVariants.{Unasked, Asked, Shut, Refused}
+use Rattle.port_core.specs.declared.view.OutView.TheVariants as outlet
 use Rattle.port_core.specs.View.{View, in_at, out_at, ActsAllowed, acted_all}
 use Rattle.port_core.specs.Call.{Call, starts, CallAllowed, Meets, seen, brought_to, given_on, Obeys}
 use Rattle.stage_core.specs.Histories as histories
@@ -77,13 +77,13 @@ new_start book Closed c k s e = cc
 
 -- its ports are open and not asked
 new_ports : (p : Phase) (c : Course) (k : List Tree) (w : Work) (g : Bool) (x : InView) (y : OutView) → p ≡ New → row_in p c k w g x y → TookAs x unended × GaveAs y unended
-new_ports New c k w g Idle Unasked e r = (refl, refl)
-new_ports New c k w g Idle Asked e r = absurd r
-new_ports New c k w g Idle Shut e r = absurd r
-new_ports New c k w g Idle Refused e r = absurd r
-new_ports New c k w g Waiting y e r = absurd r
-new_ports New c k w g Over y e r = absurd r
-new_ports New c k w g Left y e r = absurd r
+new_ports New c k w g Idle outlet.Unpulled e r = (refl, refl)
+new_ports New c k w g Idle outlet.Available e r = absurd r
+new_ports New c k w g Idle outlet.Closed e r = absurd r
+new_ports New c k w g Idle outlet.Cancelled e r = absurd r
+new_ports New c k w g Pulled y e r = absurd r
+new_ports New c k w g Finished y e r = absurd r
+new_ports New c k w g Cancelled y e r = absurd r
 new_ports Open c k w g x y e r = cc
 new_ports Closed c k w g x y e r = cc
 

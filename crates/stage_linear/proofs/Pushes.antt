@@ -7,13 +7,13 @@ use Rattle.elem_core.specs.declared.item.Item.TheVariants as item
 use Rattle.elem_core.specs.declared.why.Why.{Why}
 use Rattle.elem_core.specs.declared.why.Decider.{Decider}
 use Rattle.elem_core.specs.declared.why.Decider.TheVariants.{Stop, Resume, Restart}
-use Rattle.port_core.specs.Asking.{AsksStand}
-use Rattle.port_core.specs.Call.{brings, Meets, given_on}
+use Rattle.port_core.specs.Asking.{PullsStand}
+use Rattle.port_core.specs.Call.{arrives, Meets, given_on}
 use Rattle.port_core.specs.View.{OneOneOf, in_at}
 use Rattle.port_core.specs.declared.view.InView.{InView}
-use Rattle.port_core.specs.declared.view.InView.TheVariants.{Idle, Waiting, Over, Left}
+use Rattle.port_core.specs.declared.view.InView.TheVariants.{Idle, Pulled, Finished, Cancelled}
 use Rattle.port_core.specs.declared.view.OutView.{OutView}
-use Rattle.port_core.specs.declared.view.OutView.TheVariants.{Unasked, Asked, Shut, Refused}
+use Rattle.port_core.specs.declared.view.OutView.TheVariants as outlet
 use Rattle.stream_model.specs.Machine.{State, going, done, Machine}
 use Rattle.stream_model.specs.Linear.{Book, Stage, Work, Reaction, gives, ends, blames, breaks, reaction, reacts, linear}
 use Rattle.stage_law.specs.Held.{Held, owing, shut}
@@ -38,27 +38,27 @@ pub record Waits (l : Logic) : Type 0 where
   pub more : HasMore l.stage.work
   pub ready : l.ready ≡ true
 
-waits_at : (l : Logic) (c : Course) (p : List Tree) (x : InView) (y : OutView) → x ≡ Waiting → l.course ≡ c → l.pending ≡ p → row_in Open c p l.stage.work l.ready x y → Waits l
-waits_at l course.Waits p Waiting Asked w a b r = record { none = b ∙ r.0; on = a; more = r.1.0; ready = r.1.1 }
-waits_at l course.Waits p Waiting Unasked w a b r = absurd r
-waits_at l course.Waits p Waiting Shut w a b r = absurd r
-waits_at l course.Waits p Waiting Refused w a b r = absurd r
-waits_at l course.Idles p Waiting y w a b r = absurd r
-waits_at l course.Leaves p Waiting y w a b r = absurd r
-waits_at l course.Closes p Waiting y w a b r = absurd r
-waits_at l course.Ends p Waiting y w a b r = absurd r
+waits_at : (l : Logic) (c : Course) (p : List Tree) (x : InView) (y : OutView) → x ≡ Pulled → l.course ≡ c → l.pending ≡ p → row_in Open c p l.stage.work l.ready x y → Waits l
+waits_at l course.Waits p Pulled outlet.Available w a b r = record { none = b ∙ r.0; on = a; more = r.1.0; ready = r.1.1 }
+waits_at l course.Waits p Pulled outlet.Unpulled w a b r = absurd r
+waits_at l course.Waits p Pulled outlet.Closed w a b r = absurd r
+waits_at l course.Waits p Pulled outlet.Cancelled w a b r = absurd r
+waits_at l course.Idles p Pulled y w a b r = absurd r
+waits_at l course.Leaves p Pulled y w a b r = absurd r
+waits_at l course.Closes p Pulled y w a b r = absurd r
+waits_at l course.Ends p Pulled y w a b r = absurd r
 waits_at l c p Idle y w a b r = cc
-waits_at l c p Over y w a b r = cc
-waits_at l c p Left y w a b r = cc
+waits_at l c p Finished y w a b r = cc
+waits_at l c p Cancelled y w a b r = cc
 
-waits_in : (l : Logic) (xs : List InView) (ys : List OutView) (t : Tree) → in_at (record { ins = xs; outs = ys }) 0 ≡ Waiting → OneOneOf (row_in Open l.course l.pending l.stage.work l.ready) xs ys → Waits l
+waits_in : (l : Logic) (xs : List InView) (ys : List OutView) (t : Tree) → in_at (record { ins = xs; outs = ys }) 0 ≡ Pulled → OneOneOf (row_in Open l.course l.pending l.stage.work l.ready) xs ys → Waits l
 waits_in l (x ∷ []) (y ∷ []) t w r = waits_at l l.course l.pending x y w refl refl r
 waits_in l [] ys t w r = absurd r
 waits_in l (x ∷ []) [] t w r = absurd r
 waits_in l (x ∷ []) (y ∷ z ∷ ys) t w r = absurd r
 waits_in l (x ∷ u ∷ xs) ys t w r = absurd r
 
-pub waits : (l : Logic) (t : Tree) → l.phase ≡ Open → Meets (brings 0 (item.Elem t)) (row l) → Waits l
+pub waits : (l : Logic) (t : Tree) → l.phase ≡ Open → Meets (arrives 0 (item.Elem t)) (row l) → Waits l
 waits l t h m = waits_in l m.0.ins m.0.outs t m.1.0 (subst (λ p. OneOneOf (row_in p l.course l.pending l.stage.work l.ready) m.0.ins m.0.outs) h m.1.1)
 
 -- ---- one step of the machine
@@ -75,11 +75,11 @@ module _ (book : Book) (t : Tree) (node n : ℕ) (old : Work) (rdy : Bool) where
   logic b d w = record { phase = Open; stage = stage d w n; pending = []; course = course.Waits; ready = b }
 
   abbrev Steps : Decider → Work → Outcome → Type 0
-  Steps d w o = TurnAt (linear book old) 0 (brings 0 (item.Elem t)) (before d) (given_on 0 (answer_acts (logic rdy d w) (n + 1) o)) (held book (answered (logic rdy d w) (n + 1) o))
+  Steps d w o = TurnAt (linear book old) 0 (arrives 0 (item.Elem t)) (before d) (given_on 0 (answer_acts (logic rdy d w) (n + 1) o)) (held book (answered (logic rdy d w) (n + 1) o))
 
   -- by its reaction: what is given first goes out, and the others are held
   turn_by : (d : Decider) (r : Reaction) (out : List Item) (new : Held Stage) → reaction book old t ≡ r → Emits (linear book old) (reacts (stage d old n) r) out new
-      → FewIn (linear book old) (record { gave = []; state = going (stage d old n) }) t new → TurnAt (linear book old) 0 (brings 0 (item.Elem t)) (before d) out new
+      → FewIn (linear book old) (record { gave = []; state = going (stage d old n) }) t new → TurnAt (linear book old) 0 (arrives 0 (item.Elem t)) (before d) out new
   turn_by d r out new is e f = rw is (e, f)
 
   none_held : (d : Decider) (st : State Stage) → FewIn (linear book old) (record { gave = []; state = going (stage d old n) }) t (owing (record { gave = []; state = st }))
@@ -150,7 +150,7 @@ module _ (book : Book) (t : Tree) (node n : ℕ) (old : Work) (rdy : Bool) where
   started_by Restart w (Blames why) e = cc
   started_by d w (Fails why) e = cc
 
-  stands_by : (d : Decider) (w : Work) (o : Outcome) → AsksStand (answer_acts (logic rdy d w) (n + 1) o)
+  stands_by : (d : Decider) (w : Work) (o : Outcome) → PullsStand (answer_acts (logic rdy d w) (n + 1) o)
   stands_by d w (Gives u) = tt
   stands_by d w (GivesAll []) = (tt, tt)
   stands_by d w (GivesAll (u ∷ us)) = tt
@@ -165,13 +165,13 @@ module _ (book : Book) (t : Tree) (node n : ℕ) (old : Work) (rdy : Bool) where
   stands_by Restart w (Blames why) = (tt, tt)
   stands_by d w (Fails why) = tt
 
-  pushed_at : (old_rdy : Bool) (d : Decider) (w : Work) (o : Outcome) → ReactedBy book old t w o → Turned book (brings 0 (item.Elem t)) (logic old_rdy d old) (answer_acts (logic rdy d w) (n + 1) o) (answered (logic rdy d w) (n + 1) o)
+  pushed_at : (old_rdy : Bool) (d : Decider) (w : Work) (o : Outcome) → ReactedBy book old t w o → Turned book (arrives 0 (item.Elem t)) (logic old_rdy d old) (answer_acts (logic rdy d w) (n + 1) o) (answered (logic rdy d w) (n + 1) o)
   pushed_at old_rdy d w o r = record { turn = step_by d w o r; same = same_by d w o r; stands = stands_by d w o; started = started_by d w o }
 
 -- an element that came to this outcome
-pub pushed : (book : Book) (l : Logic) (w : Work) (b : Bool) (t : Tree) (k : ℕ) (o : Outcome) → l.phase ≡ Open → Waits l → k ≡ l.stage.taken + 1 → ReactedBy book l.stage.work t w o → Turned book (brings 0 (item.Elem t)) l (answer_acts (working l w b) k o) (answered (working l w b) k o)
+pub pushed : (book : Book) (l : Logic) (w : Work) (b : Bool) (t : Tree) (k : ℕ) (o : Outcome) → l.phase ≡ Open → Waits l → k ≡ l.stage.taken + 1 → ReactedBy book l.stage.work t w o → Turned book (arrives 0 (item.Elem t)) l (answer_acts (working l w b) k o) (answered (working l w b) k o)
 pushed book l w b t k o h q e r =
-    rw e (subst (λ (x : Logic). Turned book (brings 0 (item.Elem t)) x (answer_acts (working x w b) (l.stage.taken + 1) o) (answered (working x w b) (l.stage.taken + 1) o)) (sym (of_logic l course.Waits [] h q.on q.none)) (pushed_at book t l.stage.node l.stage.taken l.stage.work b l.ready l.stage.decider w o r))
+    rw e (subst (λ (x : Logic). Turned book (arrives 0 (item.Elem t)) x (answer_acts (working x w b) (l.stage.taken + 1) o) (answered (working x w b) (l.stage.taken + 1) o)) (sym (of_logic l course.Waits [] h q.on q.none)) (pushed_at book t l.stage.node l.stage.taken l.stage.work b l.ready l.stage.decider w o r))
 
-pub came_turned : (book : Book) (l new : Logic) (acts : List Act) (t : Tree) (k : ℕ) → l.phase ≡ Open → Waits l → k ≡ l.stage.taken + 1 → CameTo book l k t acts new → Turned book (brings 0 (item.Elem t)) l acts new
+pub came_turned : (book : Book) (l new : Logic) (acts : List Act) (t : Tree) (k : ℕ) → l.phase ≡ Open → Waits l → k ≡ l.stage.taken + 1 → CameTo book l k t acts new → Turned book (arrives 0 (item.Elem t)) l acts new
 came_turned book l new acts t k h q e r = rw (r.acted, r.stands) (pushed book l r.work r.ready t k r.outcome h q e r.reacted)

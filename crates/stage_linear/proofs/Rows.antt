@@ -5,11 +5,11 @@ use Rattle.elem_core.specs.Tree.{Tree}
 use Rattle.elem_core.specs.declared.item.Item.{Item}
 use Rattle.elem_core.specs.declared.item.Item.TheVariants as item
 use Rattle.port_core.specs.declared.view.InView.{InView}
-use Rattle.port_core.specs.declared.view.InView.TheVariants.{Idle, Waiting, Over, Left}
+use Rattle.port_core.specs.declared.view.InView.TheVariants.{Idle, Pulled, Finished, Cancelled}
 use Rattle.port_core.specs.declared.view.OutView.{OutView}
-use Rattle.port_core.specs.declared.view.OutView.TheVariants.{Unasked, Asked, Shut, Refused}
+use Rattle.port_core.specs.declared.view.OutView.TheVariants as outlet
 use Rattle.port_core.specs.View.{View, in_at, out_at, OneOneOf, IsInOpen, IsOutOpen}
-use Rattle.port_core.specs.Call.{Call, starts, asks, brings, cancels, CallAllowed}
+use Rattle.port_core.specs.Call.{Call, starts, pulls, arrives, cancels, CallAllowed}
 use Rattle.stream_model.specs.Machine.{going, Run, Machine}
 use Rattle.stream_model.specs.Linear.{Book, Stage, Work}
 use Rattle.stage_law.specs.Law.{Law}
@@ -25,52 +25,52 @@ use Rattle.stage_linear.specs.declared.course.Course.TheVariants as course
 use Rattle.stage_linear.specs.States.{Logic, held, held_in, row, row_in}
 
 module _ (m : Machine Stage Tree) (start : Run Stage Tree) (took gave : List Item) where
-  waiting : (h : List Tree) (s : Stage) → h ≡ [] → (law : Law m start (owing (record { gave = h; state = going s })) Waiting Asked took gave) → OwnRests m start (holds_at_end s.work) Waiting Asked law.in_list law.out_list
-  waiting h s none law = subst (λ (k : List Tree). (law : Law m start (owing (record { gave = k; state = going s })) Waiting Asked took gave) → OwnRests m start (holds_at_end s.work) Waiting Asked law.in_list law.out_list) (sym none)
+  waiting : (h : List Tree) (s : Stage) → h ≡ [] → (law : Law m start (owing (record { gave = h; state = going s })) Pulled outlet.Available took gave) → OwnRests m start (holds_at_end s.work) Pulled outlet.Available law.in_list law.out_list
+  waiting h s none law = subst (λ (k : List Tree). (law : Law m start (owing (record { gave = k; state = going s })) Pulled outlet.Available took gave) → OwnRests m start (holds_at_end s.work) Pulled outlet.Available law.in_list law.out_list) (sym none)
       (λ law. waiting_rests m start (holds_at_end s.work) (going s) took gave law) law
 
   at_ports : (b : Book) (p : Phase) (c : Course) (h : List Tree) (s : Stage) (g : Bool) (x : InView) (y : OutView) → (p ≡ New → ⊥) → row_in p c h s.work g x y → (law : Law m start (held_in b p c h s) x y took gave)
       → OwnRests m start (holds_at_end s.work) x y law.in_list law.out_list
   at_ports b New c h s g x y n r law = absurd (n refl)
   at_ports b Closed c h s g x y n r law = closed_rests m start (holds_at_end s.work) x y law.in_list law.out_list r
-  at_ports b Open course.Waits h s g Waiting Asked n r law = waiting h s r.0 law
-  at_ports b Open course.Idles h s g Idle Unasked n r law = idle_rests m start (holds_at_end s.work) law.in_list law.out_list
-  at_ports b Open course.Leaves h s g Idle Unasked n r law = idle_rests m start (holds_at_end s.work) law.in_list law.out_list
-  at_ports b Open course.Closes h s g Over Unasked n r law = inr (inr (inr (r.0.1.1, (refl, refl), refl)))
-  at_ports b Open course.Ends h s g Over Unasked n r law = inr (inr (inr (r.1.1, (refl, refl), refl)))
-  at_ports b Open course.Waits h s g Waiting Unasked n r law = absurd r
-  at_ports b Open course.Waits h s g Waiting Shut n r law = absurd r
-  at_ports b Open course.Waits h s g Waiting Refused n r law = absurd r
+  at_ports b Open course.Waits h s g Pulled outlet.Available n r law = waiting h s r.0 law
+  at_ports b Open course.Idles h s g Idle outlet.Unpulled n r law = idle_rests m start (holds_at_end s.work) law.in_list law.out_list
+  at_ports b Open course.Leaves h s g Idle outlet.Unpulled n r law = idle_rests m start (holds_at_end s.work) law.in_list law.out_list
+  at_ports b Open course.Closes h s g Finished outlet.Unpulled n r law = inr (inr (inr (r.0.1.1, (refl, refl), refl)))
+  at_ports b Open course.Ends h s g Finished outlet.Unpulled n r law = inr (inr (inr (r.1.1, (refl, refl), refl)))
+  at_ports b Open course.Waits h s g Pulled outlet.Unpulled n r law = absurd r
+  at_ports b Open course.Waits h s g Pulled outlet.Closed n r law = absurd r
+  at_ports b Open course.Waits h s g Pulled outlet.Cancelled n r law = absurd r
   at_ports b Open course.Waits h s g Idle y n r law = absurd r
-  at_ports b Open course.Waits h s g Over y n r law = absurd r
-  at_ports b Open course.Waits h s g Left y n r law = absurd r
-  at_ports b Open course.Idles h s g Idle Asked n r law = absurd r
-  at_ports b Open course.Idles h s g Idle Shut n r law = absurd r
-  at_ports b Open course.Idles h s g Idle Refused n r law = absurd r
-  at_ports b Open course.Idles h s g Waiting y n r law = absurd r
-  at_ports b Open course.Idles h s g Over y n r law = absurd r
-  at_ports b Open course.Idles h s g Left y n r law = absurd r
-  at_ports b Open course.Leaves h s g Idle Asked n r law = absurd r
-  at_ports b Open course.Leaves h s g Idle Shut n r law = absurd r
-  at_ports b Open course.Leaves h s g Idle Refused n r law = absurd r
-  at_ports b Open course.Leaves h s g Waiting y n r law = absurd r
-  at_ports b Open course.Leaves h s g Over y n r law = absurd r
-  at_ports b Open course.Leaves h s g Left y n r law = absurd r
-  at_ports b Open course.Closes h s g Over Asked n r law = absurd r
-  at_ports b Open course.Closes h s g Over Shut n r law = absurd r
-  at_ports b Open course.Closes h s g Over Refused n r law = absurd r
+  at_ports b Open course.Waits h s g Finished y n r law = absurd r
+  at_ports b Open course.Waits h s g Cancelled y n r law = absurd r
+  at_ports b Open course.Idles h s g Idle outlet.Available n r law = absurd r
+  at_ports b Open course.Idles h s g Idle outlet.Closed n r law = absurd r
+  at_ports b Open course.Idles h s g Idle outlet.Cancelled n r law = absurd r
+  at_ports b Open course.Idles h s g Pulled y n r law = absurd r
+  at_ports b Open course.Idles h s g Finished y n r law = absurd r
+  at_ports b Open course.Idles h s g Cancelled y n r law = absurd r
+  at_ports b Open course.Leaves h s g Idle outlet.Available n r law = absurd r
+  at_ports b Open course.Leaves h s g Idle outlet.Closed n r law = absurd r
+  at_ports b Open course.Leaves h s g Idle outlet.Cancelled n r law = absurd r
+  at_ports b Open course.Leaves h s g Pulled y n r law = absurd r
+  at_ports b Open course.Leaves h s g Finished y n r law = absurd r
+  at_ports b Open course.Leaves h s g Cancelled y n r law = absurd r
+  at_ports b Open course.Closes h s g Finished outlet.Available n r law = absurd r
+  at_ports b Open course.Closes h s g Finished outlet.Closed n r law = absurd r
+  at_ports b Open course.Closes h s g Finished outlet.Cancelled n r law = absurd r
   at_ports b Open course.Closes h s g Idle y n r law = absurd r
-  at_ports b Open course.Closes h s g Waiting y n r law = absurd r
-  at_ports b Open course.Closes h s g Left y n r law = absurd r
-  at_ports b Open course.Ends h s g Over Asked n r law = absurd r
-  at_ports b Open course.Ends h s g Over Shut n r law = absurd r
-  at_ports b Open course.Ends h s g Over Refused n r law = absurd r
+  at_ports b Open course.Closes h s g Pulled y n r law = absurd r
+  at_ports b Open course.Closes h s g Cancelled y n r law = absurd r
+  at_ports b Open course.Ends h s g Finished outlet.Available n r law = absurd r
+  at_ports b Open course.Ends h s g Finished outlet.Closed n r law = absurd r
+  at_ports b Open course.Ends h s g Finished outlet.Cancelled n r law = absurd r
   at_ports b Open course.Ends h s g Idle y n r law = absurd r
-  at_ports b Open course.Ends h s g Waiting y n r law = absurd r
-  at_ports b Open course.Ends h s g Left y n r law = absurd r
+  at_ports b Open course.Ends h s g Pulled y n r law = absurd r
+  at_ports b Open course.Ends h s g Cancelled y n r law = absurd r
 
   at_lists : (b : Book) (p : Phase) (c : Course) (h : List Tree) (s : Stage) (g : Bool) (xs : List InView) (ys : List OutView) → (p ≡ New → ⊥) → OneOneOf (row_in p c h s.work g) xs ys
-      → (law : Law m start (held_in b p c h s) (slice_index_or xs 0 Left) (slice_index_or ys 0 Shut) took gave) → OwnRests m start (holds_at_end s.work) (slice_index_or xs 0 Left) (slice_index_or ys 0 Shut) law.in_list law.out_list
+      → (law : Law m start (held_in b p c h s) (slice_index_or xs 0 Cancelled) (slice_index_or ys 0 outlet.Closed) took gave) → OwnRests m start (holds_at_end s.work) (slice_index_or xs 0 Cancelled) (slice_index_or ys 0 outlet.Closed) law.in_list law.out_list
   at_lists b p c h s g (x ∷ []) (y ∷ []) n r law = at_ports b p c h s g x y n r law
   at_lists b p c h s g [] ys n r law = absurd r
   at_lists b p c h s g (x ∷ []) [] n r law = absurd r
@@ -83,20 +83,20 @@ module _ (m : Machine Stage Tree) (start : Run Stage Tree) (took gave : List Ite
 -- ---- where a call may come, a stage that was started is open
 
 pub closed_ports : (x : InView) (y : OutView) → (IsInOpen x ⊎ IsOutOpen y) → BothClosed x y → ⊥
-closed_ports Over Shut (inl h) r = h
-closed_ports Over Shut (inr h) r = h
-closed_ports Over Refused (inl h) r = h
-closed_ports Over Refused (inr h) r = h
-closed_ports Left Shut (inl h) r = h
-closed_ports Left Shut (inr h) r = h
-closed_ports Left Refused (inl h) r = h
-closed_ports Left Refused (inr h) r = h
-closed_ports Over Unasked h r = r
-closed_ports Over Asked h r = r
-closed_ports Left Unasked h r = r
-closed_ports Left Asked h r = r
+closed_ports Finished outlet.Closed (inl h) r = h
+closed_ports Finished outlet.Closed (inr h) r = h
+closed_ports Finished outlet.Cancelled (inl h) r = h
+closed_ports Finished outlet.Cancelled (inr h) r = h
+closed_ports Cancelled outlet.Closed (inl h) r = h
+closed_ports Cancelled outlet.Closed (inr h) r = h
+closed_ports Cancelled outlet.Cancelled (inl h) r = h
+closed_ports Cancelled outlet.Cancelled (inr h) r = h
+closed_ports Finished outlet.Unpulled h r = r
+closed_ports Finished outlet.Available h r = r
+closed_ports Cancelled outlet.Unpulled h r = r
+closed_ports Cancelled outlet.Available h r = r
 closed_ports Idle y h r = r
-closed_ports Waiting y h r = r
+closed_ports Pulled y h r = r
 
 open_at : (p : Phase) (c : Course) (k : List Tree) (w : Work) (g : Bool) (x : InView) (y : OutView) → (p ≡ New → ⊥) → (IsInOpen x ⊎ IsOutOpen y) → row_in p c k w g x y → p ≡ Open
 open_at Open c k w g x y n h r = refl
@@ -106,14 +106,14 @@ open_at Closed c k w g x y n h r = absurd (closed_ports x y h r)
 -- some port of a stage with one input and one output is open, where a call may come
 pub may_come : (call : Call) (x : InView) (y : OutView) → (call ≡ starts → ⊥) → CallAllowed call (record { ins = x ∷ []; outs = y ∷ [] }) → IsInOpen x ⊎ IsOutOpen y
 may_come starts x y n h = absurd (n refl)
-may_come (asks zero) x y n h = inr (rw h tt)
-may_come (asks (suc j)) x y n h = cc
-may_come (brings zero (item.Elem e)) x y n h = inl (rw h tt)
-may_come (brings zero item.Ended) x y n h = inl h
-may_come (brings zero (item.Failed c)) x y n h = inl h
-may_come (brings (suc i) (item.Elem e)) x y n h = cc
-may_come (brings (suc i) item.Ended) x y n h = absurd h
-may_come (brings (suc i) (item.Failed c)) x y n h = absurd h
+may_come (pulls zero) x y n h = inr (rw h tt)
+may_come (pulls (suc j)) x y n h = cc
+may_come (arrives zero (item.Elem e)) x y n h = inl (rw h tt)
+may_come (arrives zero item.Ended) x y n h = inl h
+may_come (arrives zero (item.Failed c)) x y n h = inl h
+may_come (arrives (suc i) (item.Elem e)) x y n h = cc
+may_come (arrives (suc i) item.Ended) x y n h = absurd h
+may_come (arrives (suc i) (item.Failed c)) x y n h = absurd h
 may_come (cancels zero) x y n h = inr h
 may_come (cancels (suc j)) x y n h = absurd h
 

@@ -9,13 +9,13 @@ use Rattle.stream_model.specs.declared.kind.Kind.TheVariants.{Map, Filter, Filte
 use Rattle.stream_model.specs.Machine.{State, going, done}
 use Rattle.stream_model.specs.Linear.{Book, Work, Stage, taking, linear, begin_work, work_of, finish_of}
 use Rattle.port_core.specs.declared.view.InView.{InView}
-use Rattle.port_core.specs.declared.view.InView.TheVariants.{Idle, Waiting, Over}
+use Rattle.port_core.specs.declared.view.InView.TheVariants.{Idle, Pulled, Finished}
 use Rattle.port_core.specs.declared.view.OutView.{OutView}
-use Rattle.port_core.specs.declared.view.OutView.TheVariants.{Unasked, Asked}
+use Rattle.port_core.specs.declared.view.OutView.TheVariants.{Unpulled, Available}
 use Rattle.port_core.specs.declared.act.Act.{Act}
 use Rattle.port_core.specs.declared.act.Act.TheVariants.{Pull, FailOut, Cancel}
 use Rattle.port_core.specs.View.{View, OneOne}
-use Rattle.port_core.specs.Asking.{AsksStand}
+use Rattle.port_core.specs.Asking.{PullsStand}
 use Rattle.port_core.specs.Call.{Call, given_on}
 use Rattle.stage_law.specs.Held.{Held, owing, shut, sealed_by}
 use Rattle.stage_law.specs.Row.{BothClosed}
@@ -69,12 +69,12 @@ Keeps w p = (0 < length p) × Spreads w
 -- Its row: before its start nobody asked; then it asks where its output is asked and nothing is held; where it is done, or its
 -- input has ended, it holds something; or all is closed.
 abbrev pub row_in : Phase → Course → List Tree → Work → Bool → InView → OutView → Type 0
-row_in New c p w r Idle Unasked = r ≡ true
-row_in Open Waits p w r Waiting Asked = (p ≡ []) × Takes w r
-row_in Open Idles p w r Idle Unasked = MayHold w p × Takes w r
-row_in Open Leaves p w r Idle Unasked = Keeps w p
-row_in Open Closes p w r Over Unasked = Keeps w p × (r ≡ true)
-row_in Open Ends p w r Over Unasked = Keeps w p
+row_in New c p w r Idle Unpulled = r ≡ true
+row_in Open Waits p w r Pulled Available = (p ≡ []) × Takes w r
+row_in Open Idles p w r Idle Unpulled = MayHold w p × Takes w r
+row_in Open Leaves p w r Idle Unpulled = Keeps w p
+row_in Open Closes p w r Finished Unpulled = Keeps w p × (r ≡ true)
+row_in Open Ends p w r Finished Unpulled = Keeps w p
 row_in Closed c p w r i o = BothClosed i o
 row_in _ _ _ _ _ _ _ = ⊥
 
@@ -86,7 +86,7 @@ row l v = OneOne (row_in l.phase l.course l.pending l.stage.work l.ready) v
 pub record Turned (book : Book) (call : Call) (old : Logic) (acts : List Act) (new : Logic) : Type 0 where
   pub turn : TurnAt (linear book old.stage.work) 0 call (held book old) (given_on 0 acts) (held book new)
   pub same : (b : Book) → linear b new.stage.work ≡ linear b old.stage.work
-  pub stands : AsksStand acts
+  pub stands : PullsStand acts
   pub started : new.phase ≢ New
 
 -- the kinds of these stages that have a task of their own

@@ -6,7 +6,7 @@ use Rattle.elem_core.specs.declared.why.Decider.{Decider}
 use Rattle.port_core.specs.declared.act.Act.{Act}
 use Rattle.port_core.specs.declared.view.InView.{InView}
 use Rattle.port_core.specs.declared.view.InView.TheVariants.{Idle}
-use Rattle.port_core.specs.declared.view.OutView.TheVariants.{Unasked, Shut}
+use Rattle.port_core.specs.declared.view.OutView.TheVariants as outlet
 use Rattle.port_core.specs.View.{View, ActsAllowed, acted_all, unpulled_ins}
 use Rattle.port_core.specs.Call.{Call, starts, CallAllowed, seen, Obeys, given_on}
 use Rattle.stream_model.specs.declared.kind.Kind.TheVariants.{Merge}
@@ -87,13 +87,13 @@ pub fresh_law : (l : Merging) (v : View) (took gave : List (List Item)) → Call
 fresh_law l v took gave may r a b m n =
     let s = subst (λ f. row_by f l.core v) r.fresh r.row in
     let fresh : Fresh l.core = s.1.1 in
-    let outs : v.outs ≡ Unasked ∷ [] = ap (λ (w : View). w.outs) s.0 in
+    let outs : v.outs ≡ outlet.Unpulled ∷ [] = ap (λ (w : View). w.outs) s.0 in
     let many : length v.ins ≡ length l.core.over = ap (λ (w : View). length w.ins) s.0 ∙ idles_long l.core.over in
     let owes : held l ≡ waits [] (untouched (length v.ins)) =
     ap (λ f. held_by f l.log.moves l.core) r.fresh ∙ ap (λ ms. waits ms (waiting 0 l.core.over l.core.queue)) r.unmoved ∙ ap (λ q. waits [] (waiting 0 l.core.over q)) fresh.queue
     ∙ ap (λ o. waits [] (waiting 0 o [])) fresh.over ∙ ap (λ fs. waits [] fs) (none_waits 0 (length l.core.over)) ∙ ap (λ k. waits [] (untouched k)) (sym many) in
     begun (MergeKeeps (held l)) v took gave a b m (n ∙ ap length outs)
-    (subst (λ x. PortsLaw (MergeKeeps x) v (λ _. []) []) (sym owes) (merge_new v may.0 (subst (λ ys. GaveAs (slice_index_or ys 0 Shut) unended) (sym outs) refl)))
+    (subst (λ x. PortsLaw (MergeKeeps x) v (λ _. []) []) (sym owes) (merge_new v may.0 (subst (λ ys. GaveAs (slice_index_or ys 0 outlet.Closed) unended) (sym outs) refl)))
 
 pub started : (old new : Merging) (acts : List Act) → Obeys starts (row old) (row new) acts → Turned starts old acts new → Starts MergeRow MergesAs MergeFresh old new acts
 started old new acts o t = record {
@@ -113,7 +113,7 @@ pub new_may_start : (inputs : ℕ) (l : Merging) → 2 ≤ inputs → inputs ≤
 new_may_start k l two few b = record {
   fresh = ap (λ (c : Core). c.phase) b.core;
   unmoved = b.moves;
-  row = subst (λ (xs : List InView). row l (record { ins = xs; outs = Unasked ∷ [] })) (idles_are k) (new_row k l two few b);
+  row = subst (λ (xs : List InView). row l (record { ins = xs; outs = outlet.Unpulled ∷ [] })) (idles_are k) (new_row k l two few b);
 }
 
 -- ---- outlooks

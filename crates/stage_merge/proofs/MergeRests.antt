@@ -3,7 +3,7 @@ use Rattle.std.specs.Prelude.{◌≢◌, ◌⊎◌, replicate}
 use Rattle.std.proofs.Common.{◌≡◌, ℕ, zero, suc, ◌+◌, ◌≤◌, inl, inr, Bool, true, false, List, [], ◌∷◌, length, refl, sym, ap, ◌∙◌, subst, arith}
 use Rattle.std.proofs.lemmas.List.{length-replicate}
 use Rattle.elem_core.specs.Tree.{Tree}
-use Rattle.port_core.specs.declared.view.OutView.TheVariants.{Unasked}
+use Rattle.port_core.specs.declared.view.OutView.TheVariants.{Unpulled}
 use Rattle.port_core.specs.View as port
 use Rattle.stream_model.specs.FanIn.{Inflow}
 use Rattle.stream_picture.specs.View.{EachWire, SomeWire}
@@ -74,10 +74,10 @@ none_waits n (suc k) = ap (λ (fs : List Inflow). nothing ∷ fs) (none_waits (n
 abbrev begun : ℕ → Core
 begun k = record { phase = New; over = replicate k false; queue = []; room = k; asked = false; left = k }
 
-pub new_row : (inputs : ℕ) (l : Merging) → 2 ≤ inputs → inputs ≤ 16 → Begins inputs l → row l (record { ins = idles (replicate inputs false); outs = Unasked ∷ [] })
+pub new_row : (inputs : ℕ) (l : Merging) → 2 ≤ inputs → inputs ≤ 16 → Begins inputs l → row l (record { ins = idles (replicate inputs false); outs = Unpulled ∷ [] })
 new_row k l two few b =
     let long = length-replicate k false in
     let s : Sound (begun k) = record { count = sym (all_open k); some = λ e. omega (arith, two); empty = λ e. refl; once = λ m. omega arith; there = tt; few = omega (arith, long, few); roomy = omega (arith, long) } in
     let f : Fresh (begun k) = record { queue = refl; over = ap (λ m. replicate m false) (sym long); unasked = refl } in
-    let v : port.View = record { ins = idles (replicate k false); outs = Unasked ∷ [] } in
+    let v : port.View = record { ins = idles (replicate k false); outs = Unpulled ∷ [] } in
     subst (λ (c : Core). row_by c.phase c v) (sym b.core) (refl, (s, f))

@@ -11,12 +11,12 @@ use Rattle.port_core.specs.Picks.{Picks}
 use Rattle.port_core.specs.declared.act.Act.{Act}
 use Rattle.port_core.specs.declared.act.Act.TheVariants.{Pull, Push, Complete, FailOut, Cancel}
 use Rattle.port_core.specs.declared.view.InView.{InView}
-use Rattle.port_core.specs.declared.view.InView.TheVariants.{Idle, Waiting, Over, Left}
+use Rattle.port_core.specs.declared.view.InView.TheVariants.{Idle, Pulled, Finished, Cancelled}
 use Rattle.port_core.specs.declared.view.OutView.{OutView}
-use Rattle.port_core.specs.declared.view.OutView.TheVariants.{Unasked, Asked, Shut, Refused}
+use Rattle.port_core.specs.declared.view.OutView.TheVariants as outlet
 use Rattle.port_core.specs.View.{View, in_at, IsInOpen, ActsAllowed, acted, acted_all}
-use Rattle.port_core.specs.Asking.{AsksStand, NoCancel}
-use Rattle.port_core.specs.Call.{Call, starts, asks, brings, cancels, CallAllowed, seen, Obeys, Meets, given_on}
+use Rattle.port_core.specs.Asking.{PullsStand, NoCancel}
+use Rattle.port_core.specs.Call.{Call, starts, pulls, arrives, cancels, CallAllowed, seen, Obeys, Meets, given_on}
 use Rattle.stream_model.specs.FanIn.{Inflow, flow}
 use Rattle.stream_model.specs.Picks.{used_up}
 use Rattle.stage_law.specs.Inflows.{joined_all, coming}
@@ -26,7 +26,7 @@ use Rattle.stage_core.specs.declared.phase.Phase.{Phase}
 use Rattle.stage_core.specs.declared.phase.Phase.TheVariants.{New, Open, Closed}
 use Rattle.stage_merge.specs.declared.merging.Queued.{Queued}
 use Rattle.stage_fans.specs.Seats.{wish, open_cancels, InsClosed, OneClosed, FanClosed}
-use Rattle.stage_merge.specs.Mergings.{Core, Merging, of_port, waiting, place, places, idles, pulls, open_count, PortsThere, view_of, new_view, Sound, Fresh, row_by, row, held_by, held, Turned, Does, Ends, done, opens, more, Again, over, still, HandedOn, Gave, first, none, Took, passed, stored, without, Ended, FirstOut, LastIn}
+use Rattle.stage_merge.specs.Mergings.{Core, Merging, of_port, waiting, place, places, idles, pull_acts, open_count, PortsThere, view_of, new_view, Sound, Fresh, row_by, row, held_by, held, Turned, Does, Ends, done, opens, more, Again, over, still, HandedOn, Gave, first, none, Took, passed, stored, without, Ended, FirstOut, LastIn}
 use Rattle.stage_fans.proofs.Closings.{open_wish, unasked_wish, Cancels, set_behind, at_behind, ins_append, cancels_give, cancels_stand}
 use Rattle.stage_merge.proofs.Fewer.{fewer}
 use Rattle.stage_merge.proofs.Merges.{queued, AllOver, out_merged, none_merged, used_none, used_one, ended_place, open_place, over_closed, came_now, ended_now, stored_now, released_now, idle_now, gone_now, failed_now, none_now, here_now, only_head, tail_once, stored_once, there_stored, there_by, one_less, none_open}
@@ -41,11 +41,11 @@ abbrev pub Then : List ℕ → List Inflow → List Item → MergeHeld → Type 
 Then moves waited out (waits now us) = MergeTurn moves waited out now us
 Then moves waited out (shut now) = MergeClose moves waited out now
 
-asked_turn : (moves : List ℕ) (ws : List Inflow) (out : List Item) (h : MergeHeld) → Then moves (joined_all 0 ws (coming (asks 0))) out h → MergeTurnAt (asks 0) (waits moves ws) out h
+asked_turn : (moves : List ℕ) (ws : List Inflow) (out : List Item) (h : MergeHeld) → Then moves (joined_all 0 ws (coming (pulls 0))) out h → MergeTurnAt (pulls 0) (waits moves ws) out h
 asked_turn moves ws out (waits now us) t = t
 asked_turn moves ws out (shut now) t = t
 
-brought_turn : (i : ℕ) (b : Item) (moves : List ℕ) (ws : List Inflow) (out : List Item) (h : MergeHeld) → Then moves (joined_all 0 ws (coming (brings i b))) out h → MergeTurnAt (brings i b) (waits moves ws) out h
+brought_turn : (i : ℕ) (b : Item) (moves : List ℕ) (ws : List Inflow) (out : List Item) (h : MergeHeld) → Then moves (joined_all 0 ws (coming (arrives i b))) out h → MergeTurnAt (arrives i b) (waits moves ws) out h
 brought_turn i b moves ws out (waits now us) t = t
 brought_turn i b moves ws out (shut now) t = t
 
@@ -69,7 +69,7 @@ pub record At (v : View) (moves : List ℕ) (waited : List Inflow) (new : Mergin
   pub allowed : ActsAllowed v acts
   pub row_then : row new (acted_all v acts)
   pub turn : Then moves waited (given_on 0 acts) (held new)
-  pub stands : AsksStand acts
+  pub stands : PullsStand acts
   pub started : new.core.phase ≡ New → ⊥
   pub more : List ℕ
   pub grows : new.log.moves ≡ moves ++ more
@@ -98,7 +98,7 @@ module _ (i : ℕ) (t : Tree) (l : Core) (moves : List ℕ) (now : Picks) (now_i
     (open_now : l.phase ≡ Open) (off : l.asked ≡ false) (count : l.left ≡ open_count l.over)
     (once : (m : ℕ) → length (of_port m (queued i t ∷ l.queue)) ≤ 1) (here : i < length l.over) (there : PortsThere l.over l.queue) (few : length l.over ≤ 16) (roomy : length l.over ≤ l.room) where
   abbrev before : View
-  before = record { ins = places 0 l.over (queued i t ∷ l.queue); outs = Asked ∷ [] }
+  before = record { ins = places 0 l.over (queued i t ∷ l.queue); outs = outlet.Available ∷ [] }
 
   abbrev waited : List Inflow
   waited = waiting 0 l.over (queued i t ∷ l.queue)
@@ -123,14 +123,14 @@ module _ (i : ℕ) (t : Tree) (l : Core) (moves : List ℕ) (now : Picks) (now_i
   turn_open : Then moves waited (item.Elem t ∷ []) (held to)
   turn_open = subst (λ f. Then moves waited (item.Elem t ∷ []) (held_by f now.moves l)) (sym open_now) gone_turn
 
-  unasked_view : (ins : List InView) → ins ≡ places 0 l.over l.queue → record { ins = ins; outs = Unasked ∷ [] } ≡ view_of l
-  unasked_view ins h = rw off (ap (λ (xs : List InView). record { ins = xs; outs = Unasked ∷ [] }) h)
+  unasked_view : (ins : List InView) → ins ≡ places 0 l.over l.queue → record { ins = ins; outs = outlet.Unpulled ∷ [] } ≡ view_of l
+  unasked_view ins h = rw off (ap (λ (xs : List InView). record { ins = xs; outs = outlet.Unpulled ∷ [] }) h)
 
   again_still : slice_get l.over i ≡ Some false → At before moves waited to (Push 0 t ∷ Pull i ∷ [])
   again_still h = record {
     allowed = (refl, (idle_now i t l.over l.queue h, tt));
     row_then = is_open l (acted_all before (Push 0 t ∷ Pull i ∷ [])) open_now
-        (unasked_view (slice_set (places 0 l.over (queued i t ∷ l.queue)) i Waiting) (released_now i t l.over l.queue h (only_head i t l.queue (once i))))
+        (unasked_view (slice_set (places 0 l.over (queued i t ∷ l.queue)) i Pulled) (released_now i t l.over l.queue h (only_head i t l.queue (once i))))
         (sound_then (λ e. rw count (still_count l.over i h)));
     turn = turn_open;
     stands = (tt, tt);
@@ -187,7 +187,7 @@ module _ (old : Merging) (h : old.core.phase ≡ Open) where
     gives = record { turn = rw held_open (by_held (held new) a.turn); inputs = long; stands = a.stands; started = a.started; more = a.more; grows = a.grows };
   }
 
-  none_asked : (log : Picks) → log.moves ≡ old.log.moves → Sound old.core → old.core.queue ≡ [] → Handled (asks 0) old [] (record { log = log; core = record old.core { asked = true } })
+  none_asked : (log : Picks) → log.moves ≡ old.log.moves → Sound old.core → old.core.queue ≡ [] → Handled (pulls 0) old [] (record { log = log; core = record old.core { asked = true } })
   none_asked log same sound nothing_there =
       let to : Merging = record { log = log; core = record old.core { asked = true } } in
       let ws : List Inflow = waiting 0 old.core.over old.core.queue in
@@ -195,9 +195,9 @@ module _ (old : Merging) (h : old.core.phase ≡ Open) where
       let grown : log.moves ≡ old.log.moves ++ [] = same ∙ sym (append-nil old.log.moves) in
       let q : MergeTurn old.log.moves ws [] log.moves ws = record { more = []; given = []; now_is = grown; out_is = refl; merged = none_merged old.core.over old.core.queue } in
       let q2 : Then old.log.moves ws [] (held to) = subst (λ f. Then old.log.moves ws [] (held_by f log.moves to.core)) (sym h) q in
-      ends_ok (asks 0) to [] refl (asked_turn old.log.moves ws []) (record {
+      ends_ok (pulls 0) to [] refl (asked_turn old.log.moves ws []) (record {
         allowed = tt;
-        row_then = is_open to.core (seen (asks 0) (view_of old.core)) h refl s;
+        row_then = is_open to.core (seen (pulls 0) (view_of old.core)) h refl s;
         turn = subst (λ w. Then old.log.moves w [] (held to)) (sym (joined_all-nothing 0 ws)) q2;
         stands = tt;
         started = not_new h;
@@ -214,20 +214,20 @@ module _ (old : Merging) (h : old.core.phase ≡ Open) where
   again_long i b mid new acts (over x e) = ends_long b mid new acts e
   again_long i b mid new acts (still x to_is z) = ap (λ (m : Merging). length m.core.over) to_is
 
-  first_asked : (log : Picks) (new : Merging) (acts : List Act) → log.moves ≡ old.log.moves → CallAllowed (asks 0) (view_of old.core) → Sound old.core
-      → (x : Queued) (q : List Queued) → old.core.queue ≡ x ∷ q → HandedOn x.port x.item (record { log = log; core = record old.core { queue = q } }) new acts → Handled (asks 0) old acts new
+  first_asked : (log : Picks) (new : Merging) (acts : List Act) → log.moves ≡ old.log.moves → CallAllowed (pulls 0) (view_of old.core) → Sound old.core
+      → (x : Queued) (q : List Queued) → old.core.queue ≡ x ∷ q → HandedOn x.port x.item (record { log = log; core = record old.core { queue = q } }) new acts → Handled (pulls 0) old acts new
   first_asked log new acts same may sound x q is handed =
       let l : Core = record old.core { queue = q } in
       let once : (m : ℕ) → length (of_port m (x ∷ q)) ≤ 1 = subst (λ (qs : List Queued). (m : ℕ) → length (of_port m qs) ≤ 1) is sound.once in
       let there : PortsThere old.core.over (x ∷ q) = subst (λ (qs : List Queued). PortsThere old.core.over qs) is sound.there in
       let now_is : handed.log.moves ≡ old.log.moves ++ x.port ∷ [] = handed.moves ∙ ap (λ (ms : List ℕ). ms ++ x.port ∷ []) same in
-      let a : At (record { ins = places 0 old.core.over (x ∷ q); outs = Asked ∷ [] }) old.log.moves (waiting 0 old.core.over (x ∷ q)) new acts =
+      let a : At (record { ins = places 0 old.core.over (x ∷ q); outs = outlet.Available ∷ [] }) old.log.moves (waiting 0 old.core.over (x ∷ q)) new acts =
       again_by x.port x.item l old.log.moves handed.log now_is h (unasked_wish old.core.asked may) sound.count once there.0 there.1 sound.few sound.roomy new acts handed.again in
-      let b : At (seen (asks 0) (view_of old.core)) old.log.moves (waiting 0 old.core.over old.core.queue) new acts =
-      subst (λ (qs : List Queued). At (record { ins = places 0 old.core.over qs; outs = Asked ∷ [] }) old.log.moves (waiting 0 old.core.over qs) new acts) (sym is) a in
-      ends_ok (asks 0) new acts (again_long x.port (Push 0 x.item ∷ []) (record { log = handed.log; core = l }) new acts handed.again)
+      let b : At (seen (pulls 0) (view_of old.core)) old.log.moves (waiting 0 old.core.over old.core.queue) new acts =
+      subst (λ (qs : List Queued). At (record { ins = places 0 old.core.over qs; outs = outlet.Available ∷ [] }) old.log.moves (waiting 0 old.core.over qs) new acts) (sym is) a in
+      ends_ok (pulls 0) new acts (again_long x.port (Push 0 x.item ∷ []) (record { log = handed.log; core = l }) new acts handed.again)
       (asked_turn old.log.moves (waiting 0 old.core.over old.core.queue) (given_on 0 acts))
-      (subst (λ w. At (seen (asks 0) (view_of old.core)) old.log.moves w new acts) (sym (joined_all-nothing 0 (waiting 0 old.core.over old.core.queue))) b)
+      (subst (λ w. At (seen (pulls 0) (view_of old.core)) old.log.moves w new acts) (sym (joined_all-nothing 0 (waiting 0 old.core.over old.core.queue))) b)
 
   -- ---- an element came
 
@@ -235,8 +235,8 @@ module _ (old : Merging) (h : old.core.phase ≡ Open) where
   not_nothing [] x e = cc
   not_nothing (y ∷ q) x e = cc
 
-  stored_here : (log : Picks) (i : ℕ) (t : Tree) → log.moves ≡ old.log.moves → CallAllowed (brings i (item.Elem t)) (view_of old.core) → Sound old.core → old.core.asked ≡ false
-      → Handled (brings i (item.Elem t)) old [] (record { log = log; core = record old.core { queue = old.core.queue ++ queued i t ∷ [] } })
+  stored_here : (log : Picks) (i : ℕ) (t : Tree) → log.moves ≡ old.log.moves → CallAllowed (arrives i (item.Elem t)) (view_of old.core) → Sound old.core → old.core.asked ≡ false
+      → Handled (arrives i (item.Elem t)) old [] (record { log = log; core = record old.core { queue = old.core.queue ++ queued i t ∷ [] } })
   stored_here log i t same may sound off =
       let q : List Queued = old.core.queue ++ queued i t ∷ [] in
       let to : Merging = record { log = log; core = record old.core { queue = q } } in
@@ -255,9 +255,9 @@ module _ (old : Merging) (h : old.core.phase ≡ Open) where
       let grown : log.moves ≡ old.log.moves ++ [] = same ∙ sym (append-nil old.log.moves) in
       let m : MergeTurn old.log.moves ws [] log.moves ws = record { more = []; given = []; now_is = grown; out_is = refl; merged = none_merged old.core.over q } in
       let m2 : Then old.log.moves ws [] (held to) = subst (λ f. Then old.log.moves ws [] (held_by f log.moves to.core)) (sym h) m in
-      ends_ok (brings i (item.Elem t)) to [] refl (brought_turn i (item.Elem t) old.log.moves (waiting 0 old.core.over old.core.queue) []) (record {
+      ends_ok (arrives i (item.Elem t)) to [] refl (brought_turn i (item.Elem t) old.log.moves (waiting 0 old.core.over old.core.queue) []) (record {
         allowed = tt;
-        row_then = is_open to.core (seen (brings i (item.Elem t)) (view_of old.core)) h (ap (λ (xs : List InView). record { ins = xs; outs = wish old.core.asked ∷ [] }) (stored_now i t old.core.over old.core.queue here)) s;
+        row_then = is_open to.core (seen (arrives i (item.Elem t)) (view_of old.core)) h (ap (λ (xs : List InView). record { ins = xs; outs = wish old.core.asked ∷ [] }) (stored_now i t old.core.over old.core.queue here)) s;
         turn = subst (λ w. Then old.log.moves w [] (held to)) (sym (came_now i t old.core.over old.core.queue here)) m2;
         stands = tt;
         started = not_new h;
@@ -265,8 +265,8 @@ module _ (old : Merging) (h : old.core.phase ≡ Open) where
         grows = grown;
       })
 
-  passed_here : (log : Picks) (new : Merging) (acts : List Act) (i : ℕ) (t : Tree) → log.moves ≡ old.log.moves → CallAllowed (brings i (item.Elem t)) (view_of old.core) → Sound old.core → old.core.asked ≡ true
-      → HandedOn i t (record { log = log; core = record old.core { asked = false } }) new acts → Handled (brings i (item.Elem t)) old acts new
+  passed_here : (log : Picks) (new : Merging) (acts : List Act) (i : ℕ) (t : Tree) → log.moves ≡ old.log.moves → CallAllowed (arrives i (item.Elem t)) (view_of old.core) → Sound old.core → old.core.asked ≡ true
+      → HandedOn i t (record { log = log; core = record old.core { asked = false } }) new acts → Handled (arrives i (item.Elem t)) old acts new
   passed_here log new acts i t same may sound on handed =
       let l : Core = record old.core { asked = false } in
       let here : slice_get old.core.over i ≡ Some false = here_now i old.core.over old.core.queue may in
@@ -275,43 +275,43 @@ module _ (old : Merging) (h : old.core.phase ≡ Open) where
       let turned : old.core.queue ++ queued i t ∷ [] ≡ queued i t ∷ old.core.queue = ap (λ (q : List Queued). q ++ queued i t ∷ []) empty ∙ ap (λ (q : List Queued). queued i t ∷ q) (sym empty) in
       let once : (m : ℕ) → length (of_port m (queued i t ∷ old.core.queue)) ≤ 1 = λ m. subst (λ (q : List Queued). length (of_port m q) ≤ 1) turned (stored_once m i t old.core.queue free (sound.once m)) in
       let now_is : handed.log.moves ≡ old.log.moves ++ i ∷ [] = handed.moves ∙ ap (λ (ms : List ℕ). ms ++ i ∷ []) same in
-      let a : At (record { ins = places 0 old.core.over (queued i t ∷ old.core.queue); outs = Asked ∷ [] }) old.log.moves (waiting 0 old.core.over (queued i t ∷ old.core.queue)) new acts =
+      let a : At (record { ins = places 0 old.core.over (queued i t ∷ old.core.queue); outs = outlet.Available ∷ [] }) old.log.moves (waiting 0 old.core.over (queued i t ∷ old.core.queue)) new acts =
       again_by i t l old.log.moves handed.log now_is h refl sound.count once (slice_get_within old.core.over i false here) sound.there sound.few sound.roomy new acts handed.again in
       let ins : slice_set (places 0 old.core.over old.core.queue) i Idle ≡ places 0 old.core.over (queued i t ∷ old.core.queue) = stored_now i t old.core.over old.core.queue here ∙ ap (λ (q : List Queued). places 0 old.core.over q) turned in
-      let v : seen (brings i (item.Elem t)) (view_of old.core) ≡ record { ins = places 0 old.core.over (queued i t ∷ old.core.queue); outs = Asked ∷ [] } =
+      let v : seen (arrives i (item.Elem t)) (view_of old.core) ≡ record { ins = places 0 old.core.over (queued i t ∷ old.core.queue); outs = outlet.Available ∷ [] } =
       ap (λ (xs : List InView). record { ins = xs; outs = wish old.core.asked ∷ [] }) ins ∙ ap (λ b. record { ins = places 0 old.core.over (queued i t ∷ old.core.queue); outs = wish b ∷ [] }) on in
-      let ws : joined_all 0 (waiting 0 old.core.over old.core.queue) (coming (brings i (item.Elem t))) ≡ waiting 0 old.core.over (queued i t ∷ old.core.queue) = came_now i t old.core.over old.core.queue here ∙ ap (λ (q : List Queued). waiting 0 old.core.over q) turned in
-      ends_ok (brings i (item.Elem t)) new acts (again_long i (Push 0 t ∷ []) (record { log = handed.log; core = l }) new acts handed.again)
+      let ws : joined_all 0 (waiting 0 old.core.over old.core.queue) (coming (arrives i (item.Elem t))) ≡ waiting 0 old.core.over (queued i t ∷ old.core.queue) = came_now i t old.core.over old.core.queue here ∙ ap (λ (q : List Queued). waiting 0 old.core.over q) turned in
+      ends_ok (arrives i (item.Elem t)) new acts (again_long i (Push 0 t ∷ []) (record { log = handed.log; core = l }) new acts handed.again)
       (brought_turn i (item.Elem t) old.log.moves (waiting 0 old.core.over old.core.queue) (given_on 0 acts))
-      (subst (λ w. At (seen (brings i (item.Elem t)) (view_of old.core)) old.log.moves w new acts) (sym ws) (subst (λ w. At w old.log.moves (waiting 0 old.core.over (queued i t ∷ old.core.queue)) new acts) (sym v) a))
+      (subst (λ w. At (seen (arrives i (item.Elem t)) (view_of old.core)) old.log.moves w new acts) (sym ws) (subst (λ w. At w old.log.moves (waiting 0 old.core.over (queued i t ∷ old.core.queue)) new acts) (sym v) a))
 
-pub asked : (old new : Merging) (log : Picks) (acts : List Act) → old.core.phase ≡ Open → log.moves ≡ old.log.moves → Meets (asks 0) (row old) → Gave (record old { log = log }) new acts → Handled (asks 0) old acts new
-asked old new log acts h same m (none nothing_there to_is acts_are) = rw (to_is, acts_are) (none_asked old h log same (found (asks 0) old h m).sound nothing_there)
-asked old new log acts h same m (first x q is handed) = let f = found (asks 0) old h m in first_asked old h log new acts same f.may f.sound x q is handed
+pub asked : (old new : Merging) (log : Picks) (acts : List Act) → old.core.phase ≡ Open → log.moves ≡ old.log.moves → Meets (pulls 0) (row old) → Gave (record old { log = log }) new acts → Handled (pulls 0) old acts new
+asked old new log acts h same m (none nothing_there to_is acts_are) = rw (to_is, acts_are) (none_asked old h log same (found (pulls 0) old h m).sound nothing_there)
+asked old new log acts h same m (first x q is handed) = let f = found (pulls 0) old h m in first_asked old h log new acts same f.may f.sound x q is handed
 
-pub pushed : (old new : Merging) (log : Picks) (acts : List Act) (i : ℕ) (t : Tree) → old.core.phase ≡ Open → log.moves ≡ old.log.moves → Meets (brings i (item.Elem t)) (row old) → Took i t (record old { log = log }) new acts → Handled (brings i (item.Elem t)) old acts new
-pushed old new log acts i t h same m (passed on handed) = let f = found (brings i (item.Elem t)) old h m in passed_here old h log new acts i t same f.may f.sound on handed
-pushed old new log acts i t h same m (stored off to_is acts_are) = let f = found (brings i (item.Elem t)) old h m in rw (to_is, acts_are) (stored_here old h log i t same f.may f.sound off)
+pub pushed : (old new : Merging) (log : Picks) (acts : List Act) (i : ℕ) (t : Tree) → old.core.phase ≡ Open → log.moves ≡ old.log.moves → Meets (arrives i (item.Elem t)) (row old) → Took i t (record old { log = log }) new acts → Handled (arrives i (item.Elem t)) old acts new
+pushed old new log acts i t h same m (passed on handed) = let f = found (arrives i (item.Elem t)) old h m in passed_here old h log new acts i t same f.may f.sound on handed
+pushed old new log acts i t h same m (stored off to_is acts_are) = let f = found (arrives i (item.Elem t)) old h m in rw (to_is, acts_are) (stored_here old h log i t same f.may f.sound off)
 
 -- ---- an input is there
 
-pub port_open : (old : Merging) (i : ℕ) (b : Item) → old.core.phase ≡ Open → (CallAllowed (brings i b) (view_of old.core) → IsInOpen (in_at (view_of old.core) i)) → Meets (brings i b) (row old) → slice_get old.core.over i ≡ Some false
-port_open old i b h is_in m = open_place 0 i old.core.over old.core.queue (is_in (found (brings i b) old h m).may)
+pub port_open : (old : Merging) (i : ℕ) (b : Item) → old.core.phase ≡ Open → (CallAllowed (arrives i b) (view_of old.core) → IsInOpen (in_at (view_of old.core) i)) → Meets (arrives i b) (row old) → slice_get old.core.over i ≡ Some false
+port_open old i b h is_in m = open_place 0 i old.core.over old.core.queue (is_in (found (arrives i b) old h m).may)
 
-pub port_there : (old : Merging) (i : ℕ) (b : Item) → old.core.phase ≡ Open → (CallAllowed (brings i b) (view_of old.core) → IsInOpen (in_at (view_of old.core) i)) → Meets (brings i b) (row old) → i < length old.core.over
+pub port_there : (old : Merging) (i : ℕ) (b : Item) → old.core.phase ≡ Open → (CallAllowed (arrives i b) (view_of old.core) → IsInOpen (in_at (view_of old.core) i)) → Meets (arrives i b) (row old) → i < length old.core.over
 port_there old i b h is_in m = slice_get_within old.core.over i false (port_open old i b h is_in m)
 
-pub push_there : (old : Merging) (i : ℕ) (t : Tree) → old.core.phase ≡ Open → Meets (brings i (item.Elem t)) (row old) → i < length old.core.over
-push_there old i t h m = slice_get_within old.core.over i false (here_now i old.core.over old.core.queue (found (brings i (item.Elem t)) old h m).may)
+pub push_there : (old : Merging) (i : ℕ) (t : Tree) → old.core.phase ≡ Open → Meets (arrives i (item.Elem t)) (row old) → i < length old.core.over
+push_there old i t h m = slice_get_within old.core.over i false (here_now i old.core.over old.core.queue (found (arrives i (item.Elem t)) old h m).may)
 
-pub some_open : (old : Merging) (i : ℕ) → old.core.phase ≡ Open → Meets (brings i item.Ended) (row old) → 1 ≤ old.core.left
+pub some_open : (old : Merging) (i : ℕ) → old.core.phase ≡ Open → Meets (arrives i item.Ended) (row old) → 1 ≤ old.core.left
 some_open old i h m =
-    let s = (found (brings i item.Ended) old h m).sound in
+    let s = (found (arrives i item.Ended) old h m).sound in
     let c = s.count in
     rw c (still_count old.core.over i (port_open old i item.Ended h (λ x. x) m))
 
-pub queue_there : (old : Merging) → old.core.phase ≡ Open → Meets (asks 0) (row old) → PortsThere old.core.over old.core.queue
-queue_there old h m = (found (asks 0) old h m).sound.there
+pub queue_there : (old : Merging) → old.core.phase ≡ Open → Meets (pulls 0) (row old) → PortsThere old.core.over old.core.queue
+queue_there old h m = (found (pulls 0) old h m).sound.there
 
 -- ---- all that are open are cancelled
 
@@ -323,15 +323,15 @@ cancels_from : (bs : List Bool) (q : List Queued) (n : ℕ) (before : List InVie
     → Cancels (record { ins = before ++ places n bs q; outs = outs }) (open_cancels n bs)
 cancels_from [] q n before outs h k = record { allowed = tt; closed = ins_append before [] k tt; outs = refl }
 cancels_from (true ∷ bs) q n before outs h k =
-    let e : before ++ places n (true ∷ bs) q ≡ (before ++ Over ∷ []) ++ places (n + 1) bs q = sym (append_assoc before (Over ∷ []) (places (n + 1) bs q)) in
-    rw e (cancels_from bs q (n + 1) (before ++ Over ∷ []) outs (let l = length-append before (Over ∷ []) in omega (arith, l, h)) (ins_append before (Over ∷ []) k (tt, tt)))
+    let e : before ++ places n (true ∷ bs) q ≡ (before ++ Finished ∷ []) ++ places (n + 1) bs q = sym (append_assoc before (Finished ∷ []) (places (n + 1) bs q)) in
+    rw e (cancels_from bs q (n + 1) (before ++ Finished ∷ []) outs (let l = length-append before (Finished ∷ []) in omega (arith, l, h)) (ins_append before (Finished ∷ []) k (tt, tt)))
 cancels_from (false ∷ bs) q n before outs h k =
     let rest = places (n + 1) bs q in
     let x = place false (of_port n q) in
-    let e : slice_set (before ++ x ∷ rest) n Left ≡ (before ++ Left ∷ []) ++ rest = set_behind before rest x Left n h ∙ sym (append_assoc before (Left ∷ []) rest) in
-    let at : slice_index_or (before ++ x ∷ rest) n Left ≡ x = at_behind before rest x n h in
-    let r = cancels_from bs q (n + 1) (before ++ Left ∷ []) outs (let l = length-append before (Left ∷ []) in omega (arith, l, h)) (ins_append before (Left ∷ []) k (tt, tt)) in
-    let moved : acted (record { ins = before ++ x ∷ rest; outs = outs }) (Cancel n) ≡ record { ins = (before ++ Left ∷ []) ++ rest; outs = outs } = ap (λ (xs : List InView). record { ins = xs; outs = outs }) e in
+    let e : slice_set (before ++ x ∷ rest) n Cancelled ≡ (before ++ Cancelled ∷ []) ++ rest = set_behind before rest x Cancelled n h ∙ sym (append_assoc before (Cancelled ∷ []) rest) in
+    let at : slice_index_or (before ++ x ∷ rest) n Cancelled ≡ x = at_behind before rest x n h in
+    let r = cancels_from bs q (n + 1) (before ++ Cancelled ∷ []) outs (let l = length-append before (Cancelled ∷ []) in omega (arith, l, h)) (ins_append before (Cancelled ∷ []) k (tt, tt)) in
+    let moved : acted (record { ins = before ++ x ∷ rest; outs = outs }) (Cancel n) ≡ record { ins = (before ++ Cancelled ∷ []) ++ rest; outs = outs } = ap (λ (xs : List InView). record { ins = xs; outs = outs }) e in
     record {
       allowed = (rw at (open_free (of_port n q)), subst (λ (v : View). ActsAllowed v (open_cancels (n + 1) bs)) (sym moved) r.allowed);
       closed = subst (λ (v : View). InsClosed (acted_all v (open_cancels (n + 1) bs)).ins) (sym moved) r.closed;
@@ -341,27 +341,27 @@ cancels_from (false ∷ bs) q n before outs h k =
 pub left_on : (old new : Merging) (acts : List Act) → old.core.phase ≡ Open → Does new acts (record old { core = record old.core { phase = Closed } }) (open_cancels 0 old.core.over) → Handled (cancels 0) old acts new
 left_on old new acts h does =
     let to : Merging = record old { core = record old.core { phase = Closed } } in
-    let r = cancels_from old.core.over old.core.queue 0 [] (Refused ∷ []) refl tt in
+    let r = cancels_from old.core.over old.core.queue 0 [] (outlet.Cancelled ∷ []) refl tt in
     rw (does.to_is, does.acts_are) (record {
       ports = obeys (cancels 0) old to (open_cancels 0 old.core.over) h r.allowed (r.closed, subst (λ (ys : List OutView). OneClosed ys) (sym r.outs) tt);
       gives = record { turn = rw h (cancels_give 0 old.core.over, refl); inputs = refl; stands = cancels_stand 0 old.core.over; started = λ e. cc; more = []; grows = sym (append-nil old.log.moves) };
     })
 
-pub failed_on : (old new : Merging) (acts : List Act) (i : ℕ) (c : Cause) → old.core.phase ≡ Open → Meets (brings i (item.Failed c)) (row old)
-    → Does new acts (record old { core = record old.core { over = slice_set old.core.over i true; phase = Closed } }) (FailOut 0 c ∷ open_cancels 0 (slice_set old.core.over i true)) → Handled (brings i (item.Failed c)) old acts new
+pub failed_on : (old new : Merging) (acts : List Act) (i : ℕ) (c : Cause) → old.core.phase ≡ Open → Meets (arrives i (item.Failed c)) (row old)
+    → Does new acts (record old { core = record old.core { over = slice_set old.core.over i true; phase = Closed } }) (FailOut 0 c ∷ open_cancels 0 (slice_set old.core.over i true)) → Handled (arrives i (item.Failed c)) old acts new
 failed_on old new acts i c h m does =
-    let f = found (brings i (item.Failed c)) old h m in
+    let f = found (arrives i (item.Failed c)) old h m in
     let bs : List Bool = slice_set old.core.over i true in
     let here : slice_get old.core.over i ≡ Some false = port_open old i (item.Failed c) h (λ x. x) m in
     let to : Merging = record old { core = record old.core { over = bs; phase = Closed } } in
-    let r = cancels_from bs old.core.queue 0 [] (Shut ∷ []) refl tt in
+    let r = cancels_from bs old.core.queue 0 [] (outlet.Closed ∷ []) refl tt in
     let given : given_on 0 (FailOut 0 c ∷ open_cancels 0 bs) ≡ item.Failed c ∷ [] = ap (λ (l : List Item). item.Failed c ∷ l) (cancels_give 0 bs) in
-    let ins : slice_set (places 0 old.core.over old.core.queue) i Over ≡ places 0 bs old.core.queue = ended_place 0 i old.core.over old.core.queue in
-    let close : MergeClose old.log.moves (joined_all 0 (waiting 0 old.core.over old.core.queue) (coming (brings i (item.Failed c)))) (item.Failed c ∷ []) old.log.moves = fails c refl refl (failed_now i c old.core.over old.core.queue here (f.sound.once i)) in
+    let ins : slice_set (places 0 old.core.over old.core.queue) i Finished ≡ places 0 bs old.core.queue = ended_place 0 i old.core.over old.core.queue in
+    let close : MergeClose old.log.moves (joined_all 0 (waiting 0 old.core.over old.core.queue) (coming (arrives i (item.Failed c)))) (item.Failed c ∷ []) old.log.moves = fails c refl refl (failed_now i c old.core.over old.core.queue here (f.sound.once i)) in
     rw (does.to_is, does.acts_are) (record {
-      ports = obeys (brings i (item.Failed c)) old to (FailOut 0 c ∷ open_cancels 0 bs) h
-          (open_wish old.core.asked, subst (λ (xs : List InView). ActsAllowed (record { ins = xs; outs = Shut ∷ [] }) (open_cancels 0 bs)) (sym ins) r.allowed)
-          (subst (λ (xs : List InView). FanClosed (acted_all (record { ins = xs; outs = Shut ∷ [] }) (open_cancels 0 bs))) (sym ins) (r.closed, subst (λ (ys : List OutView). OneClosed ys) (sym r.outs) tt));
+      ports = obeys (arrives i (item.Failed c)) old to (FailOut 0 c ∷ open_cancels 0 bs) h
+          (open_wish old.core.asked, subst (λ (xs : List InView). ActsAllowed (record { ins = xs; outs = outlet.Closed ∷ [] }) (open_cancels 0 bs)) (sym ins) r.allowed)
+          (subst (λ (xs : List InView). FanClosed (acted_all (record { ins = xs; outs = outlet.Closed ∷ [] }) (open_cancels 0 bs))) (sym ins) (r.closed, subst (λ (ys : List OutView). OneClosed ys) (sym r.outs) tt));
       gives = record { turn = rw (h, given) close; inputs = length-set old.core.over i true; stands = cancels_stand 0 bs; started = λ e. cc; more = []; grows = sym (append-nil old.log.moves) };
     })
 
@@ -371,16 +371,16 @@ module _ (old : Merging) (i : ℕ) (h : old.core.phase ≡ Open) (sound : Sound 
   abbrev bs : List Bool
   bs = slice_set old.core.over i true
 
-  ends_view : seen (brings i item.Ended) (view_of old.core) ≡ view_of (without i old).core
+  ends_view : seen (arrives i item.Ended) (view_of old.core) ≡ view_of (without i old).core
   ends_view = ap (λ (xs : List InView). record { ins = xs; outs = wish old.core.asked ∷ [] }) (ended_place 0 i old.core.over old.core.queue)
 
   count_then : old.core.left - 1 ≡ open_count bs
   count_then = let a = sound.count in let b = one_less old.core.over i here in omega (arith, a, b)
 
-  waits_then : joined_all 0 (waiting 0 old.core.over old.core.queue) (coming (brings i item.Ended)) ≡ waiting 0 bs old.core.queue
+  waits_then : joined_all 0 (waiting 0 old.core.over old.core.queue) (coming (arrives i item.Ended)) ≡ waiting 0 bs old.core.queue
   waits_then = ended_now i old.core.over old.core.queue here
 
-  end_kept : (old.core.queue ≡ [] → 1 ≤ old.core.left - 1) → Handled (brings i item.Ended) old [] (without i old)
+  end_kept : (old.core.queue ≡ [] → 1 ≤ old.core.left - 1) → Handled (arrives i item.Ended) old [] (without i old)
   end_kept some =
       let long : length bs ≡ length old.core.over = length-set old.core.over i true in
       let s : Sound (without i old).core = record {
@@ -393,9 +393,9 @@ module _ (old : Merging) (i : ℕ) (h : old.core.phase ≡ Open) (sound : Sound 
         roomy = let k = sound.roomy in omega (arith, long, k);
       } in
       let m2 : Then old.log.moves (waiting 0 bs old.core.queue) [] (held (without i old)) = subst (λ f. Then old.log.moves (waiting 0 bs old.core.queue) [] (held_by f old.log.moves (without i old).core)) (sym h) (quiet old.log.moves bs old.core.queue) in
-      ends_ok old h (brings i item.Ended) (without i old) [] long (brought_turn i item.Ended old.log.moves (waiting 0 old.core.over old.core.queue) []) (record {
+      ends_ok old h (arrives i item.Ended) (without i old) [] long (brought_turn i item.Ended old.log.moves (waiting 0 old.core.over old.core.queue) []) (record {
         allowed = tt;
-        row_then = is_open (without i old).core (seen (brings i item.Ended) (view_of old.core)) h ends_view s;
+        row_then = is_open (without i old).core (seen (arrives i item.Ended) (view_of old.core)) h ends_view s;
         turn = subst (λ w. Then old.log.moves w [] (held (without i old))) (sym waits_then) m2;
         stands = tt;
         started = not_new h;
@@ -403,13 +403,13 @@ module _ (old : Merging) (i : ℕ) (h : old.core.phase ≡ Open) (sound : Sound 
         grows = sym (append-nil old.log.moves);
       })
 
-  end_done : old.core.left - 1 ≡ 0 → old.core.queue ≡ [] → Handled (brings i item.Ended) old (Complete 0 ∷ []) (record old { core = record (without i old).core { phase = Closed } })
+  end_done : old.core.left - 1 ≡ 0 → old.core.queue ≡ [] → Handled (arrives i item.Ended) old (Complete 0 ∷ []) (record old { core = record (without i old).core { phase = Closed } })
   end_done zero_left nothing_left =
       let all : AllOver bs = none_open bs (sym count_then ∙ zero_left) in
       let used : IsTrue (used_up [] 0 (map flow (waiting 0 bs old.core.queue))) = rw nothing_left (used_none 0 bs all) in
       let to : Merging = record old { core = record (without i old).core { phase = Closed } } in
       let close : MergeClose old.log.moves (waiting 0 bs old.core.queue) (item.Ended ∷ []) old.log.moves = completes [] [] (waiting 0 bs old.core.queue) (sym (append-nil old.log.moves)) refl (none_merged bs old.core.queue) used in
-      ends_ok old h (brings i item.Ended) to (Complete 0 ∷ []) (length-set old.core.over i true) (brought_turn i item.Ended old.log.moves (waiting 0 old.core.over old.core.queue) (item.Ended ∷ [])) (record {
+      ends_ok old h (arrives i item.Ended) to (Complete 0 ∷ []) (length-set old.core.over i true) (brought_turn i item.Ended old.log.moves (waiting 0 old.core.over old.core.queue) (item.Ended ∷ [])) (record {
         allowed = (open_wish old.core.asked, tt);
         row_then = (subst (λ (xs : List InView). InsClosed xs) (sym (ended_place 0 i old.core.over old.core.queue)) (over_closed 0 bs old.core.queue all), tt);
         turn = subst (λ w. MergeClose old.log.moves w (item.Ended ∷ []) old.log.moves) (sym waits_then) close;
@@ -419,13 +419,13 @@ module _ (old : Merging) (i : ℕ) (h : old.core.phase ≡ Open) (sound : Sound 
         grows = sym (append-nil old.log.moves);
       })
 
-  end_by : (new : Merging) (acts : List Act) → Ends [] (without i old) new acts → Handled (brings i item.Ended) old acts new
+  end_by : (new : Merging) (acts : List Act) → Ends [] (without i old) new acts → Handled (arrives i item.Ended) old acts new
   end_by new acts (done a b to_is acts_are) = rw (to_is, acts_are) (end_done a b)
   end_by new acts (opens a to_is acts_are) = rw (to_is, acts_are) (end_kept (λ e. a))
   end_by new acts (more a to_is acts_are) = rw (to_is, acts_are) (end_kept (λ e. absurd (a e)))
 
-pub finished : (old new : Merging) (acts : List Act) (i : ℕ) → old.core.phase ≡ Open → Meets (brings i item.Ended) (row old) → Ended i old new acts → Handled (brings i item.Ended) old acts new
-finished old new acts i h m e = end_by old i h (found (brings i item.Ended) old h m).sound (port_open old i item.Ended h (λ x. x) m) new acts e
+pub finished : (old new : Merging) (acts : List Act) (i : ℕ) → old.core.phase ≡ Open → Meets (arrives i item.Ended) (row old) → Ended i old new acts → Handled (arrives i item.Ended) old acts new
+finished old new acts i h m e = end_by old i h (found (arrives i item.Ended) old h m).sound (port_open old i item.Ended h (λ x. x) m) new acts e
 
 -- ---- the start
 
@@ -433,31 +433,31 @@ all_false : ℕ → List Bool
 all_false n = replicate n false
 
 pulls_from : (k : ℕ) (n : ℕ) (before : List InView) → length before ≡ n
-    → ActsAllowed (record { ins = before ++ idles (replicate k false); outs = Unasked ∷ [] }) (pulls n (replicate k false))
-    × (acted_all (record { ins = before ++ idles (replicate k false); outs = Unasked ∷ [] }) (pulls n (replicate k false)) ≡ record { ins = before ++ places n (replicate k false) []; outs = Unasked ∷ [] })
+    → ActsAllowed (record { ins = before ++ idles (replicate k false); outs = outlet.Unpulled ∷ [] }) (pull_acts n (replicate k false))
+    × (acted_all (record { ins = before ++ idles (replicate k false); outs = outlet.Unpulled ∷ [] }) (pull_acts n (replicate k false)) ≡ record { ins = before ++ places n (replicate k false) []; outs = outlet.Unpulled ∷ [] })
 pulls_from zero n before h = (tt, refl)
 pulls_from (suc k) n before h =
     let rest = idles (replicate k false) in
-    let e : slice_set (before ++ Idle ∷ rest) n Waiting ≡ (before ++ Waiting ∷ []) ++ rest = set_behind before rest Idle Waiting n h ∙ sym (append_assoc before (Waiting ∷ []) rest) in
-    let at : slice_index_or (before ++ Idle ∷ rest) n Left ≡ Idle = at_behind before rest Idle n h in
-    let r = pulls_from k (n + 1) (before ++ Waiting ∷ []) (let l = length-append before (Waiting ∷ []) in omega (arith, l, h)) in
-    let moved : acted (record { ins = before ++ Idle ∷ rest; outs = Unasked ∷ [] }) (Pull n) ≡ record { ins = (before ++ Waiting ∷ []) ++ rest; outs = Unasked ∷ [] } = ap (λ (xs : List InView). record { ins = xs; outs = Unasked ∷ [] }) e in (
-      (at, subst (λ (v : View). ActsAllowed v (pulls (n + 1) (replicate k false))) (sym moved) r.0),
-      ap (λ (v : View). acted_all v (pulls (n + 1) (replicate k false))) moved ∙ r.1
-          ∙ ap (λ (xs : List InView). record { ins = xs; outs = Unasked ∷ [] }) (append_assoc before (Waiting ∷ []) (places (n + 1) (replicate k false) [])),
+    let e : slice_set (before ++ Idle ∷ rest) n Pulled ≡ (before ++ Pulled ∷ []) ++ rest = set_behind before rest Idle Pulled n h ∙ sym (append_assoc before (Pulled ∷ []) rest) in
+    let at : slice_index_or (before ++ Idle ∷ rest) n Cancelled ≡ Idle = at_behind before rest Idle n h in
+    let r = pulls_from k (n + 1) (before ++ Pulled ∷ []) (let l = length-append before (Pulled ∷ []) in omega (arith, l, h)) in
+    let moved : acted (record { ins = before ++ Idle ∷ rest; outs = outlet.Unpulled ∷ [] }) (Pull n) ≡ record { ins = (before ++ Pulled ∷ []) ++ rest; outs = outlet.Unpulled ∷ [] } = ap (λ (xs : List InView). record { ins = xs; outs = outlet.Unpulled ∷ [] }) e in (
+      (at, subst (λ (v : View). ActsAllowed v (pull_acts (n + 1) (replicate k false))) (sym moved) r.0),
+      ap (λ (v : View). acted_all v (pull_acts (n + 1) (replicate k false))) moved ∙ r.1
+          ∙ ap (λ (xs : List InView). record { ins = xs; outs = outlet.Unpulled ∷ [] }) (append_assoc before (Pulled ∷ []) (places (n + 1) (replicate k false) [])),
     )
 
-pulls_give : (n : ℕ) (bs : List Bool) → given_on 0 (pulls n bs) ≡ []
+pulls_give : (n : ℕ) (bs : List Bool) → given_on 0 (pull_acts n bs) ≡ []
 pulls_give n [] = refl
 pulls_give n (true ∷ bs) = pulls_give (n + 1) bs
 pulls_give n (false ∷ bs) = pulls_give (n + 1) bs
 
-no_cancel : (i n : ℕ) (bs : List Bool) → NoCancel i (pulls n bs)
+no_cancel : (i n : ℕ) (bs : List Bool) → NoCancel i (pull_acts n bs)
 no_cancel i n [] = tt
 no_cancel i n (true ∷ bs) = no_cancel i (n + 1) bs
 no_cancel i n (false ∷ bs) = no_cancel i (n + 1) bs
 
-pulls_stand : (n : ℕ) (bs : List Bool) → AsksStand (pulls n bs)
+pulls_stand : (n : ℕ) (bs : List Bool) → PullsStand (pull_acts n bs)
 pulls_stand n [] = tt
 pulls_stand n (true ∷ bs) = pulls_stand (n + 1) bs
 pulls_stand n (false ∷ bs) = (no_cancel n (n + 1) bs, pulls_stand (n + 1) bs)
@@ -465,7 +465,7 @@ pulls_stand n (false ∷ bs) = (no_cancel n (n + 1) bs, pulls_stand (n + 1) bs)
 pub few_new : (old : Merging) → old.core.phase ≡ New → Meets starts (row old) → length old.core.over ≤ 16
 few_new old h m = (subst (λ f. row_by f old.core m.0) h m.1.1).1.0.few
 
-pub started : (old new : Merging) (acts : List Act) → old.core.phase ≡ New → Meets starts (row old) → Does new acts (record old { core = record old.core { phase = Open } }) (pulls 0 old.core.over) → Handled starts old acts new
+pub started : (old new : Merging) (acts : List Act) → old.core.phase ≡ New → Meets starts (row old) → Does new acts (record old { core = record old.core { phase = Open } }) (pull_acts 0 old.core.over) → Handled starts old acts new
 started old new acts h m does =
     let r = subst (λ f. row_by f old.core m.0) h m.1.1 in
     let sound : Sound old.core = r.1.0 in
@@ -475,14 +475,14 @@ started old new acts h m does =
     let k : ℕ = length old.core.over in
     let p = pulls_from k 0 [] refl in
     let bs : replicate k false ≡ old.core.over = sym fresh.over in
-    let allowed : ActsAllowed (new_view old.core) (pulls 0 old.core.over) = subst (λ (o : List Bool). ActsAllowed (record { ins = idles o; outs = Unasked ∷ [] }) (pulls 0 o)) bs p.0 in
-    let then_is : acted_all (new_view old.core) (pulls 0 old.core.over) ≡ record { ins = places 0 old.core.over []; outs = Unasked ∷ [] } = subst (λ (o : List Bool). acted_all (record { ins = idles o; outs = Unasked ∷ [] }) (pulls 0 o) ≡ record { ins = places 0 o []; outs = Unasked ∷ [] }) bs p.1 in
-    let v : acted_all (new_view old.core) (pulls 0 old.core.over) ≡ view_of to.core = then_is ∙ ap (λ (q : List Queued). record { ins = places 0 old.core.over q; outs = Unasked ∷ [] }) (sym fresh.queue) ∙ ap (λ b. record { ins = places 0 old.core.over old.core.queue; outs = wish b ∷ [] }) (sym fresh.unasked) in
+    let allowed : ActsAllowed (new_view old.core) (pull_acts 0 old.core.over) = subst (λ (o : List Bool). ActsAllowed (record { ins = idles o; outs = outlet.Unpulled ∷ [] }) (pull_acts 0 o)) bs p.0 in
+    let then_is : acted_all (new_view old.core) (pull_acts 0 old.core.over) ≡ record { ins = places 0 old.core.over []; outs = outlet.Unpulled ∷ [] } = subst (λ (o : List Bool). acted_all (record { ins = idles o; outs = outlet.Unpulled ∷ [] }) (pull_acts 0 o) ≡ record { ins = places 0 o []; outs = outlet.Unpulled ∷ [] }) bs p.1 in
+    let v : acted_all (new_view old.core) (pull_acts 0 old.core.over) ≡ view_of to.core = then_is ∙ ap (λ (q : List Queued). record { ins = places 0 old.core.over q; outs = outlet.Unpulled ∷ [] }) (sym fresh.queue) ∙ ap (λ b. record { ins = places 0 old.core.over old.core.queue; outs = wish b ∷ [] }) (sym fresh.unasked) in
     let s : Sound to.core = record { count = sound.count; some = sound.some; empty = sound.empty; once = sound.once; there = sound.there; few = sound.few; roomy = sound.roomy } in
     rw (does.to_is, does.acts_are) (record {
       ports = record {
-        allowed = λ w may x. let y = subst (λ f. row_by f old.core w) h x in subst (λ u. ActsAllowed u (pulls 0 old.core.over)) (sym y.0) allowed;
-        row = λ w may x. let y = subst (λ f. row_by f old.core w) h x in subst (λ u. row to (acted_all u (pulls 0 old.core.over))) (sym y.0) (v, s);
+        allowed = λ w may x. let y = subst (λ f. row_by f old.core w) h x in subst (λ u. ActsAllowed u (pull_acts 0 old.core.over)) (sym y.0) allowed;
+        row = λ w may x. let y = subst (λ f. row_by f old.core w) h x in subst (λ u. row to (acted_all u (pull_acts 0 old.core.over))) (sym y.0) (v, s);
       };
       gives = record {
         turn = rw (h, pulls_give 0 old.core.over) (subst (λ w. MergeTurn old.log.moves w [] old.log.moves ws) (sym (joined_all-nothing 0 ws)) (quiet old.log.moves old.core.over old.core.queue));
@@ -494,10 +494,10 @@ started old new acts h m does =
       };
     })
 
-pub asked_by : (old mid new : Merging) (acts : List Act) → old.core.phase ≡ Open → mid ≡ record old { log = mid.log } → mid.log.moves ≡ old.log.moves → Meets (asks 0) (row old) → Gave mid new acts → Handled (asks 0) old acts new
+pub asked_by : (old mid new : Merging) (acts : List Act) → old.core.phase ≡ Open → mid ≡ record old { log = mid.log } → mid.log.moves ≡ old.log.moves → Meets (pulls 0) (row old) → Gave mid new acts → Handled (pulls 0) old acts new
 asked_by old mid new acts h is same m g = asked old new mid.log acts h same m (subst (λ l. Gave l new acts) is g)
 
-pub pushed_by : (old mid new : Merging) (acts : List Act) (i : ℕ) (t : Tree) → old.core.phase ≡ Open → mid ≡ record old { log = mid.log } → mid.log.moves ≡ old.log.moves → Meets (brings i (item.Elem t)) (row old) → Took i t mid new acts → Handled (brings i (item.Elem t)) old acts new
+pub pushed_by : (old mid new : Merging) (acts : List Act) (i : ℕ) (t : Tree) → old.core.phase ≡ Open → mid ≡ record old { log = mid.log } → mid.log.moves ≡ old.log.moves → Meets (arrives i (item.Elem t)) (row old) → Took i t mid new acts → Handled (arrives i (item.Elem t)) old acts new
 pushed_by old mid new acts i t h is same m g = pushed old new mid.log acts i t h same m (subst (λ l. Took i t l new acts) is g)
 
 pub there_mid : (old mid : Merging) (i : ℕ) → mid ≡ record old { log = mid.log } → i < length old.core.over → i < length mid.core.over
@@ -506,9 +506,9 @@ there_mid old mid i is h = subst (λ (l : Merging). i < length l.core.over) (sym
 pub queue_mid : (old mid : Merging) → mid ≡ record old { log = mid.log } → PortsThere old.core.over old.core.queue → PortsThere mid.core.over mid.core.queue
 queue_mid old mid is h = subst (λ (l : Merging). PortsThere l.core.over l.core.queue) (sym is) h
 
-pub fits : (old mid : Merging) (i : ℕ) (t : Tree) → old.core.phase ≡ Open → Meets (brings i (item.Elem t)) (row old) → mid ≡ record old { log = mid.log } → length mid.core.queue < mid.core.room
+pub fits : (old mid : Merging) (i : ℕ) (t : Tree) → old.core.phase ≡ Open → Meets (arrives i (item.Elem t)) (row old) → mid ≡ record old { log = mid.log } → length mid.core.queue < mid.core.room
 fits old mid i t h m is =
-    let f = found (brings i (item.Elem t)) old h m in
+    let f = found (arrives i (item.Elem t)) old h m in
     let here : slice_get old.core.over i ≡ Some false = here_now i old.core.over old.core.queue f.may in
     let free : of_port i old.core.queue ≡ [] = none_now i old.core.over old.core.queue f.may in
     let few : length old.core.queue < length old.core.over = fewer old.core.over old.core.queue i f.sound.there f.sound.once (slice_get_within old.core.over i false here) free in

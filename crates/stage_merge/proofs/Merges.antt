@@ -6,9 +6,9 @@ use Rattle.elem_core.specs.Tree.{Tree}
 use Rattle.elem_core.specs.declared.why.Cause.{Cause}
 use Rattle.elem_core.specs.declared.item.Item.TheVariants as item
 use Rattle.port_core.specs.declared.view.InView.{InView}
-use Rattle.port_core.specs.declared.view.InView.TheVariants.{Idle, Waiting, Over, Left}
+use Rattle.port_core.specs.declared.view.InView.TheVariants.{Idle, Pulled, Finished, Cancelled}
 use Rattle.port_core.specs.View.{IsInOpen}
-use Rattle.port_core.specs.Call.{brings}
+use Rattle.port_core.specs.Call.{arrives}
 use Rattle.stream_model.specs.Outlook.{ended}
 use Rattle.stream_model.specs.FanIn.{Inflow, flow}
 use Rattle.stream_model.specs.Picks.{used_up, FailsWithin}
@@ -61,12 +61,12 @@ places_same n (b ∷ over) q r h =
 -- ---- what comes
 
 came_stored : (n j : ℕ) (t : Tree) (over : List Bool) (q : List Queued) → slice_get over j ≡ Some false
-    → joined_all n (waiting n over q) (coming (brings (n + j) (item.Elem t))) ≡ waiting n over (q ++ queued (n + j) t ∷ [])
+    → joined_all n (waiting n over q) (coming (arrives (n + j) (item.Elem t))) ≡ waiting n over (q ++ queued (n + j) t ∷ [])
 came_stored n j t [] q h = cc
 came_stored n zero t (b ∷ over) q h =
     let o : b ≡ false = cc in
     let x : (n + 0 == n) ≡ true = same (n + 0) n (omega arith) in
-    let others : joined_all (n + 1) (waiting (n + 1) over q) (coming (brings (n + 0) (item.Elem t))) ≡ waiting (n + 1) over (q ++ queued (n + 0) t ∷ []) =
+    let others : joined_all (n + 1) (waiting (n + 1) over q) (coming (arrives (n + 0) (item.Elem t))) ≡ waiting (n + 1) over (q ++ queued (n + 0) t ∷ []) =
     not_here (n + 1) (n + 0) (item.Elem t) (waiting (n + 1) over q) (omega arith)
     ∙ waiting_same (n + 1) over q (q ++ queued (n + 0) t ∷ []) (λ m k. sym (last_away m (n + 0) t q (λ e. absurd (omega (arith, e, k))))) in
     let here : of_port n (q ++ queued (n + 0) t ∷ []) ≡ of_port n q ++ t ∷ [] = last_here n (n + 0) t q (omega arith) in
@@ -77,16 +77,16 @@ came_stored n (suc j) t (b ∷ over) q h =
     let f : Inflow = record { list = of_port n q; end = end_by b } in
     let here : of_port n (q ++ queued (n + suc j) t ∷ []) ≡ of_port n q = last_away n (n + suc j) t q (λ e. absurd (omega (arith, e))) in
     let r = came_stored (n + 1) j t over q h in
-    rw (x, here) (ap (λ (g : Inflow). g ∷ joined_all (n + 1) (waiting (n + 1) over q) (coming (brings (n + suc j) (item.Elem t)))) (joined-nothing f)
+    rw (x, here) (ap (λ (g : Inflow). g ∷ joined_all (n + 1) (waiting (n + 1) over q) (coming (arrives (n + suc j) (item.Elem t)))) (joined-nothing f)
     ∙ rw e (ap (λ (fs : List Inflow). f ∷ fs) r))
 
 came_over : (n j : ℕ) (over : List Bool) (q : List Queued) → slice_get over j ≡ Some false
-    → joined_all n (waiting n over q) (coming (brings (n + j) item.Ended)) ≡ waiting n (slice_set over j true) q
+    → joined_all n (waiting n over q) (coming (arrives (n + j) item.Ended)) ≡ waiting n (slice_set over j true) q
 came_over n j [] q h = cc
 came_over n zero (b ∷ over) q h =
     let o : b ≡ false = cc in
     let x : (n + 0 == n) ≡ true = same (n + 0) n (omega arith) in
-    let others : joined_all (n + 1) (waiting (n + 1) over q) (coming (brings (n + 0) item.Ended)) ≡ waiting (n + 1) over q =
+    let others : joined_all (n + 1) (waiting (n + 1) over q) (coming (arrives (n + 0) item.Ended)) ≡ waiting (n + 1) over q =
     not_here (n + 1) (n + 0) item.Ended (waiting (n + 1) over q) (omega arith) in
     rw (o, x, others) (ap (λ (l : List Tree). record { list = l; end = ended } ∷ waiting (n + 1) over q) (append-nil (of_port n q)))
 came_over n (suc j) (b ∷ over) q h =
@@ -94,11 +94,11 @@ came_over n (suc j) (b ∷ over) q h =
     let e : n + suc j ≡ n + 1 + j = omega arith in
     let f : Inflow = record { list = of_port n q; end = end_by b } in
     let r = came_over (n + 1) j over q h in
-    rw x (ap (λ (g : Inflow). g ∷ joined_all (n + 1) (waiting (n + 1) over q) (coming (brings (n + suc j) item.Ended))) (joined-nothing f)
+    rw x (ap (λ (g : Inflow). g ∷ joined_all (n + 1) (waiting (n + 1) over q) (coming (arrives (n + suc j) item.Ended))) (joined-nothing f)
     ∙ rw e (ap (λ (fs : List Inflow). f ∷ fs) r))
 
 came_failed : (n j : ℕ) (c : Cause) (over : List Bool) (q : List Queued) → slice_get over j ≡ Some false → length (of_port (n + j) q) ≤ 1
-    → FailsWithin [] n (joined_all n (waiting n over q) (coming (brings (n + j) (item.Failed c)))) c
+    → FailsWithin [] n (joined_all n (waiting n over q) (coming (arrives (n + j) (item.Failed c)))) c
 came_failed n j c [] q h k = cc
 came_failed n zero c (b ∷ over) q h k =
     let o : b ≡ false = cc in
@@ -192,21 +192,21 @@ stored_place n (suc j) t (b ∷ over) q h =
     let here : of_port n (q ++ queued (n + 1 + j) t ∷ []) ≡ of_port n q = last_away n (n + 1 + j) t q (λ e. absurd (omega (arith, e))) in
     rw (e, here) (ap (λ (xs : List InView). place b (of_port n q) ∷ xs) (stored_place (n + 1) j t over q h))
 
-released : (n j : ℕ) (t : Tree) (over : List Bool) (q : List Queued) → slice_get over j ≡ Some false → of_port (n + j) q ≡ [] → slice_set (places n over (queued (n + j) t ∷ q)) j Waiting ≡ places n over q
+released : (n j : ℕ) (t : Tree) (over : List Bool) (q : List Queued) → slice_get over j ≡ Some false → of_port (n + j) q ≡ [] → slice_set (places n over (queued (n + j) t ∷ q)) j Pulled ≡ places n over q
 released n j t [] q h k = cc
 released n zero t (b ∷ over) q h k =
     let o : b ≡ false = cc in
     let z : n + 0 ≡ n = omega arith in
     let l : of_port n q ≡ [] = (let r = k in rw z at r) in
     let others : places (n + 1) over (queued (n + 0) t ∷ q) ≡ places (n + 1) over q = places_same (n + 1) over (queued (n + 0) t ∷ q) q (λ m k. first_away m (n + 0) t q (λ e. absurd (omega (arith, e, k)))) in
-    rw (o, l) (ap (λ (xs : List InView). Waiting ∷ xs) others)
+    rw (o, l) (ap (λ (xs : List InView). Pulled ∷ xs) others)
 released n (suc j) t (b ∷ over) q h k =
     let e : n + suc j ≡ n + 1 + j = omega arith in
     let l : of_port (n + 1 + j) q ≡ [] = (let r = k in rw e at r) in
     let here : of_port n (queued (n + 1 + j) t ∷ q) ≡ of_port n q = first_away n (n + 1 + j) t q (λ e. absurd (omega (arith, e))) in
     rw (e, here) (ap (λ (xs : List InView). place b (of_port n q) ∷ xs) (released (n + 1) j t over q h l))
 
-released_idle : (n j : ℕ) (t : Tree) (over : List Bool) (q : List Queued) → slice_get over j ≡ Some false → slice_index_or (places n over (queued (n + j) t ∷ q)) j Left ≡ Idle
+released_idle : (n j : ℕ) (t : Tree) (over : List Bool) (q : List Queued) → slice_get over j ≡ Some false → slice_index_or (places n over (queued (n + j) t ∷ q)) j Cancelled ≡ Idle
 released_idle n j t [] q h = cc
 released_idle n zero t (b ∷ over) q h =
     let o : b ≡ false = cc in
@@ -219,13 +219,13 @@ released_over n j t [] q h = cc
 released_over n zero t (b ∷ over) q h =
     let o : b ≡ true = cc in
     let others : places (n + 1) over (queued (n + 0) t ∷ q) ≡ places (n + 1) over q = places_same (n + 1) over (queued (n + 0) t ∷ q) q (λ m k. first_away m (n + 0) t q (λ e. absurd (omega (arith, e, k)))) in
-    rw o (ap (λ (xs : List InView). Over ∷ xs) others)
+    rw o (ap (λ (xs : List InView). Finished ∷ xs) others)
 released_over n (suc j) t (b ∷ over) q h =
     let e : n + suc j ≡ n + 1 + j = omega arith in
     let here : of_port n (queued (n + 1 + j) t ∷ q) ≡ of_port n q = first_away n (n + 1 + j) t q (λ e. absurd (omega (arith, e))) in
     rw (e, here) (ap (λ (xs : List InView). place b (of_port n q) ∷ xs) (released_over (n + 1) j t over q h))
 
-pub ended_place : (n i : ℕ) (over : List Bool) (q : List Queued) → slice_set (places n over q) i Over ≡ places n (slice_set over i true) q
+pub ended_place : (n i : ℕ) (over : List Bool) (q : List Queued) → slice_set (places n over q) i Finished ≡ places n (slice_set over i true) q
 ended_place n i [] q = refl
 ended_place n zero (b ∷ over) q = refl
 ended_place n (suc i) (b ∷ over) q = ap (λ (xs : List InView). place b (of_port n q) ∷ xs) (ended_place (n + 1) i over q)
@@ -234,11 +234,11 @@ pub record Waits (n j : ℕ) (over : List Bool) (q : List Queued) : Type 0 where
   pub here : slice_get over j ≡ Some false
   pub none : of_port (n + j) q ≡ []
 
-waits_place : (n j : ℕ) (over : List Bool) (q : List Queued) → slice_index_or (places n over q) j Left ≡ Waiting → Waits n j over q
+waits_place : (n j : ℕ) (over : List Bool) (q : List Queued) → slice_index_or (places n over q) j Cancelled ≡ Pulled → Waits n j over q
 waits_place n j [] q h = cc
 waits_place n zero (b ∷ over) q h = let z : n + 0 ≡ n = omega arith in by_parts b (of_port n q) (ap (λ m. of_port m q) z) h
   where
-    by_parts : (b : Bool) (l : List Tree) → of_port (n + 0) q ≡ l → place b l ≡ Waiting → Waits n 0 (b ∷ over) q
+    by_parts : (b : Bool) (l : List Tree) → of_port (n + 0) q ≡ l → place b l ≡ Pulled → Waits n 0 (b ∷ over) q
     by_parts true l e h = cc
     by_parts false [] e h = record { here = refl; none = e }
     by_parts false (t ∷ l) e h = cc
@@ -247,7 +247,7 @@ waits_place n (suc j) (b ∷ over) q h =
     let r = waits_place (n + 1) j over q h in
     record { here = r.here; none = rw e r.none }
 
-pub open_place : (n j : ℕ) (over : List Bool) (q : List Queued) → IsInOpen (slice_index_or (places n over q) j Left) → slice_get over j ≡ Some false
+pub open_place : (n j : ℕ) (over : List Bool) (q : List Queued) → IsInOpen (slice_index_or (places n over q) j Cancelled) → slice_get over j ≡ Some false
 open_place n j [] q h = absurd h
 open_place n zero (true ∷ over) q h = absurd h
 open_place n zero (false ∷ over) q h = refl
@@ -264,31 +264,31 @@ module _ (i : ℕ) (t : Tree) (over : List Bool) (q : List Queued) where
   z : 0 + i ≡ i
   z = omega arith
 
-  pub came_now : slice_get over i ≡ Some false → joined_all 0 (waiting 0 over q) (coming (brings i (item.Elem t))) ≡ waiting 0 over (q ++ queued i t ∷ [])
+  pub came_now : slice_get over i ≡ Some false → joined_all 0 (waiting 0 over q) (coming (arrives i (item.Elem t))) ≡ waiting 0 over (q ++ queued i t ∷ [])
   came_now h = let r = came_stored 0 i t over q h in rw z at r
 
   pub stored_now : slice_get over i ≡ Some false → slice_set (places 0 over q) i Idle ≡ places 0 over (q ++ queued i t ∷ [])
   stored_now h = let r = stored_place 0 i t over q h in rw z at r
 
-  pub released_now : slice_get over i ≡ Some false → of_port i q ≡ [] → slice_set (places 0 over (queued i t ∷ q)) i Waiting ≡ places 0 over q
+  pub released_now : slice_get over i ≡ Some false → of_port i q ≡ [] → slice_set (places 0 over (queued i t ∷ q)) i Pulled ≡ places 0 over q
   released_now h = let r = released 0 i t over q h in rw z at r
 
-  pub idle_now : slice_get over i ≡ Some false → slice_index_or (places 0 over (queued i t ∷ q)) i Left ≡ Idle
+  pub idle_now : slice_get over i ≡ Some false → slice_index_or (places 0 over (queued i t ∷ q)) i Cancelled ≡ Idle
   idle_now h = let r = released_idle 0 i t over q h in rw z at r
 
   pub gone_now : slice_get over i ≡ Some true → places 0 over (queued i t ∷ q) ≡ places 0 over q
   gone_now h = let r = released_over 0 i t over q h in rw z at r
 
-pub ended_now : (i : ℕ) (over : List Bool) (q : List Queued) → slice_get over i ≡ Some false → joined_all 0 (waiting 0 over q) (coming (brings i item.Ended)) ≡ waiting 0 (slice_set over i true) q
+pub ended_now : (i : ℕ) (over : List Bool) (q : List Queued) → slice_get over i ≡ Some false → joined_all 0 (waiting 0 over q) (coming (arrives i item.Ended)) ≡ waiting 0 (slice_set over i true) q
 ended_now i over q h = let z : 0 + i ≡ i = omega arith in let r = came_over 0 i over q h in rw z at r
 
-pub failed_now : (i : ℕ) (c : Cause) (over : List Bool) (q : List Queued) → slice_get over i ≡ Some false → length (of_port i q) ≤ 1 → FailsWithin [] 0 (joined_all 0 (waiting 0 over q) (coming (brings i (item.Failed c)))) c
+pub failed_now : (i : ℕ) (c : Cause) (over : List Bool) (q : List Queued) → slice_get over i ≡ Some false → length (of_port i q) ≤ 1 → FailsWithin [] 0 (joined_all 0 (waiting 0 over q) (coming (arrives i (item.Failed c)))) c
 failed_now i c over q h = let z : 0 + i ≡ i = omega arith in let r = came_failed 0 i c over q h in rw z at r
 
-pub none_now : (i : ℕ) (over : List Bool) (q : List Queued) → slice_index_or (places 0 over q) i Left ≡ Waiting → of_port i q ≡ []
+pub none_now : (i : ℕ) (over : List Bool) (q : List Queued) → slice_index_or (places 0 over q) i Cancelled ≡ Pulled → of_port i q ≡ []
 none_now i over q h = let z : 0 + i ≡ i = omega arith in let r = (waits_place 0 i over q h).none in rw z at r
 
-pub here_now : (i : ℕ) (over : List Bool) (q : List Queued) → slice_index_or (places 0 over q) i Left ≡ Waiting → slice_get over i ≡ Some false
+pub here_now : (i : ℕ) (over : List Bool) (q : List Queued) → slice_index_or (places 0 over q) i Cancelled ≡ Pulled → slice_get over i ≡ Some false
 here_now i over q h = (waits_place 0 i over q h).here
 
 -- ---- at most one of each input

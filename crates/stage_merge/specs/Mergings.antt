@@ -6,10 +6,10 @@ use Rattle.port_core.specs.Picks.{Picks}
 use Rattle.port_core.specs.declared.act.Act.{Act}
 use Rattle.port_core.specs.declared.act.Act.TheVariants.{Pull, Push, Complete}
 use Rattle.port_core.specs.declared.view.InView.{InView}
-use Rattle.port_core.specs.declared.view.InView.TheVariants.{Idle, Waiting, Over}
-use Rattle.port_core.specs.declared.view.OutView.TheVariants.{Unasked}
+use Rattle.port_core.specs.declared.view.InView.TheVariants.{Idle, Pulled, Finished}
+use Rattle.port_core.specs.declared.view.OutView.TheVariants.{Unpulled}
 use Rattle.port_core.specs.View.{View}
-use Rattle.port_core.specs.Asking.{AsksStand}
+use Rattle.port_core.specs.Asking.{PullsStand}
 use Rattle.port_core.specs.Call.{Call, given_on}
 use Rattle.stream_model.specs.FanIn.{Inflow}
 use Rattle.stage_law.specs.Merges.{MergeHeld, waits, shut, MergeTurnAt, MergeKeeps}
@@ -46,8 +46,8 @@ waiting n (b ∷ bs) q = record { list = of_port n q; end = end_by b } ∷ waiti
 
 -- what is known of an input: it is asked where nothing of it waits
 abbrev pub place : Bool → List Tree → InView
-place true l = Over
-place false [] = Waiting
+place true l = Finished
+place false [] = Pulled
 place false (t ∷ l) = Idle
 
 -- the inputs from number n on
@@ -61,10 +61,10 @@ idles [] = []
 idles (b ∷ bs) = Idle ∷ idles bs
 
 -- each that has not ended is asked, from number n on
-abbrev pub pulls : ℕ → List Bool → List Act
-pulls n [] = []
-pulls n (true ∷ bs) = pulls (n + 1) bs
-pulls n (false ∷ bs) = Pull n ∷ pulls (n + 1) bs
+abbrev pub pull_acts : ℕ → List Bool → List Act
+pull_acts n [] = []
+pull_acts n (true ∷ bs) = pull_acts (n + 1) bs
+pull_acts n (false ∷ bs) = Pull n ∷ pull_acts (n + 1) bs
 
 -- how many have not ended
 abbrev pub open_count : List Bool → ℕ
@@ -81,7 +81,7 @@ abbrev pub view_of : Core → View
 view_of l = record { ins = places 0 l.over l.queue; outs = wish l.asked ∷ [] }
 
 abbrev pub new_view : Core → View
-new_view l = record { ins = idles l.over; outs = Unasked ∷ [] }
+new_view l = record { ins = idles l.over; outs = Unpulled ∷ [] }
 
 -- one that is open
 pub record Sound (l : Core) : Type 0 where
@@ -120,7 +120,7 @@ held l = held_by l.core.phase l.log.moves l.core
 pub record Turned (call : Call) (old : Merging) (acts : List Act) (new : Merging) : Type 0 where
   pub turn : MergeTurnAt call (held old) (given_on 0 acts) (held new)
   pub inputs : length new.core.over ≡ length old.core.over
-  pub stands : AsksStand acts
+  pub stands : PullsStand acts
   pub started : new.core.phase ≢ New
   pub more : List ℕ
   pub grows : new.log.moves ≡ old.log.moves ++ more

@@ -1,11 +1,11 @@
 ghost use Rattle.std.specs.Prelude.{◌≡◌, ◌≢◌, ◌≤◌, ◌<◌, ◌∷◌, ◌++◌, ◌+◌, [], length, replicate, OnOk, OnErr, IsOk, IfOk, IfSome, IfNone, slice_get, slice_set, Some, true, false};
 ghost use Rattle.elem_core.specs.declared.item.Item.TheVariants as item;
 ghost use Rattle.port_core.specs.declared.act.Act.TheVariants as act;
-ghost use Rattle.port_core.specs.Call.{Obeys, Meets, starts, asks, brings, cancels};
+ghost use Rattle.port_core.specs.Call.{Obeys, Meets, starts, pulls, arrives, cancels};
 ghost use Rattle.stream_model.specs.declared.kind.TheConstants.{MAX_FAN};
 ghost use Rattle.stage_core.specs.declared.phase.Phase.TheVariants.{New, Open, Closed};
 ghost use Rattle.stage_fans.specs.Seats.{open_cancels, room_for};
-ghost use Rattle.stage_merge.specs.Mergings.{row, Turned, FirstOut, LastIn, Begins, Does, Gave, HandedOn, Took, Ends, Again, Ended, without, pulls, PortsThere, open_count};
+ghost use Rattle.stage_merge.specs.Mergings.{row, Turned, FirstOut, LastIn, Begins, Does, Gave, HandedOn, Took, Ends, Again, Ended, without, pull_acts, PortsThere, open_count};
 
 use elem_core::elem::Elem;
 use elem_core::why::{Cause, NoMemory};
@@ -93,11 +93,11 @@ impl Merging {
     /// The output was asked. It takes memory for the move alone; where that is refused, all is as before.
     pub fn on_pull(&mut self, acts: &mut Acts) -> Result<(), NoMemory>
         requires open { self.old.core.phase ≡ Open }
-        requires meets { Meets (asks 0) (row self.old) }
+        requires meets { Meets (pulls 0) (row self.old) }
         requires empty { acts.old.items ≡ [] }
         requires room { room_for (length self.old.core.over) ≤ acts.old.room }
-        ensures ports { OnOk result (Obeys (asks 0) (row self.old) (row self.new) acts.new.items) }
-        ensures gives { OnOk result (Turned (asks 0) self.old acts.new.items self.new) }
+        ensures ports { OnOk result (Obeys (pulls 0) (row self.old) (row self.new) acts.new.items) }
+        ensures gives { OnOk result (Turned (pulls 0) self.old acts.new.items self.new) }
         ensures order { OnOk result (FirstOut self.old self.new) }
         ensures room { OnOk result (acts.new.room ≡ acts.old.room) }
         ensures refused { OnErr result ((self.new ≡ self.old) × (acts.new ≡ acts.old)) }
@@ -110,11 +110,11 @@ impl Merging {
     /// An element came. It takes memory for the move alone; where that is refused, all is as before but for the element.
     pub fn on_push(&mut self, port: u8, e: Elem, acts: &mut Acts) -> Result<(), NoMemory>
         requires open { self.old.core.phase ≡ Open }
-        requires meets { Meets (brings port (item.Elem e)) (row self.old) }
+        requires meets { Meets (arrives port (item.Elem e)) (row self.old) }
         requires empty { acts.old.items ≡ [] }
         requires room { room_for (length self.old.core.over) ≤ acts.old.room }
-        ensures ports { OnOk result (Obeys (brings port (item.Elem e)) (row self.old) (row self.new) acts.new.items) }
-        ensures gives { OnOk result (Turned (brings port (item.Elem e)) self.old acts.new.items self.new) }
+        ensures ports { OnOk result (Obeys (arrives port (item.Elem e)) (row self.old) (row self.new) acts.new.items) }
+        ensures gives { OnOk result (Turned (arrives port (item.Elem e)) self.old acts.new.items self.new) }
         ensures order { OnOk result (LastIn port e self.old self.new) }
         ensures room { OnOk result (acts.new.room ≡ acts.old.room) }
         ensures refused { OnErr result ((self.new ≡ self.old) × (acts.new ≡ acts.old)) }
@@ -127,12 +127,12 @@ impl Merging {
     /// An input has ended.
     pub fn on_finish(&mut self, port: u8, acts: &mut Acts) -> Result<(), NoMemory>
         requires open { self.old.core.phase ≡ Open }
-        requires meets { Meets (brings port item.Ended) (row self.old) }
+        requires meets { Meets (arrives port item.Ended) (row self.old) }
         requires empty { acts.old.items ≡ [] }
         requires room { room_for (length self.old.core.over) ≤ acts.old.room }
         ensures answers { IsOk result }
-        ensures ports { OnOk result (Obeys (brings port item.Ended) (row self.old) (row self.new) acts.new.items) }
-        ensures gives { OnOk result (Turned (brings port item.Ended) self.old acts.new.items self.new) }
+        ensures ports { OnOk result (Obeys (arrives port item.Ended) (row self.old) (row self.new) acts.new.items) }
+        ensures gives { OnOk result (Turned (arrives port item.Ended) self.old acts.new.items self.new) }
         ensures room { acts.new.room ≡ acts.old.room }
     {
         self.finish(port, acts);
@@ -142,12 +142,12 @@ impl Merging {
     /// An input has failed, which fails the stage at once.
     pub fn on_fail(&mut self, port: u8, cause: Cause, acts: &mut Acts) -> Result<(), NoMemory>
         requires open { self.old.core.phase ≡ Open }
-        requires meets { Meets (brings port (item.Failed cause)) (row self.old) }
+        requires meets { Meets (arrives port (item.Failed cause)) (row self.old) }
         requires empty { acts.old.items ≡ [] }
         requires room { room_for (length self.old.core.over) ≤ acts.old.room }
         ensures answers { IsOk result }
-        ensures ports { OnOk result (Obeys (brings port (item.Failed cause)) (row self.old) (row self.new) acts.new.items) }
-        ensures gives { OnOk result (Turned (brings port (item.Failed cause)) self.old acts.new.items self.new) }
+        ensures ports { OnOk result (Obeys (arrives port (item.Failed cause)) (row self.old) (row self.new) acts.new.items) }
+        ensures gives { OnOk result (Turned (arrives port (item.Failed cause)) self.old acts.new.items self.new) }
         ensures room { acts.new.room ≡ acts.old.room }
     {
         self.fail(port, cause, acts);
@@ -181,7 +181,7 @@ impl Merging {
         requires few { length self.old.core.over ≤ 16 }
         requires empty { acts.old.items ≡ [] }
         requires room { length self.old.core.over ≤ acts.old.room }
-        ensures does { Does self.new acts.new.items (record self.old { core = record self.old.core { phase = Open } }) (pulls 0 self.old.core.over) }
+        ensures does { Does self.new acts.new.items (record self.old { core = record self.old.core { phase = Open } }) (pull_acts 0 self.old.core.over) }
         ensures room { acts.new.room ≡ acts.old.room }
     {
         self.phase = Phase::Open;
@@ -336,7 +336,7 @@ impl Merging {
     fn ask_all(&self, acts: &mut Acts)
         requires few { length self.now.core.over ≤ 16 }
         requires room { length acts.old.items + length self.now.core.over ≤ acts.old.room }
-        ensures { acts.new ≡ record acts.old { items = acts.old.items ++ pulls 0 self.now.core.over } }
+        ensures { acts.new ≡ record acts.old { items = acts.old.items ++ pull_acts 0 self.now.core.over } }
     {
         let over = self.over.as_slice();
         for i in 0..over.len() {

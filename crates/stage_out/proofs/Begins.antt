@@ -3,7 +3,7 @@ use Rattle.std.specs.Prelude.{replicate}
 use Rattle.std.proofs.Common.{◌≡◌, ℕ, zero, suc, ◌≤◌, Bool, true, List, [], ◌∷◌, length, map, refl, sym, ap, ◌∙◌, arith}
 use Rattle.elem_core.specs.declared.function.MapFn.{MapFn}
 use Rattle.port_core.specs.declared.view.OutView.{OutView}
-use Rattle.port_core.specs.declared.view.OutView.TheVariants.{Unasked}
+use Rattle.port_core.specs.declared.view.OutView.TheVariants.{Unpulled}
 use Rattle.port_core.specs.View.{unpulled_outs}
 use Rattle.port_core.specs.declared.view.InView.TheVariants.{Idle}
 use Rattle.stage_fans.specs.declared.outs.OutputState.TheVariants.{Quiet}
@@ -12,9 +12,9 @@ use Rattle.stage_out.specs.Copies.{quiet_count, input_by}
 use Rattle.stage_out.specs.PartitionStates as part
 use Rattle.stage_out.specs.CopyStates as copy
 
-quiet_views : (n : ℕ) → map want_view (replicate n Quiet) ≡ replicate n Unasked
+quiet_views : (n : ℕ) → map want_view (replicate n Quiet) ≡ replicate n Unpulled
 quiet_views zero = refl
-quiet_views (suc n) = ap (λ (ys : List OutView). Unasked ∷ ys) (quiet_views n)
+quiet_views (suc n) = ap (λ (ys : List OutView). Unpulled ∷ ys) (quiet_views n)
 
 none_asks : (n : ℕ) → part.asks_count (replicate n Quiet) ≡ 0
 none_asks zero = refl

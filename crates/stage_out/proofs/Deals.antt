@@ -13,12 +13,12 @@ use Rattle.elem_core.specs.declared.item.Item.TheVariants as item
 use Rattle.port_core.specs.declared.act.Act.{Act}
 use Rattle.port_core.specs.declared.act.Act.TheVariants.{Pull, Push, Complete, FailOut, Cancel}
 use Rattle.port_core.specs.declared.view.InView.{InView}
-use Rattle.port_core.specs.declared.view.InView.TheVariants.{Idle, Waiting, Over, Left}
+use Rattle.port_core.specs.declared.view.InView.TheVariants as inlet
 use Rattle.port_core.specs.declared.view.OutView.{OutView}
-use Rattle.port_core.specs.declared.view.OutView.TheVariants.{Unasked, Asked, Shut, Refused}
+use Rattle.port_core.specs.declared.view.OutView.TheVariants.{Unpulled, Available, Closed, Cancelled}
 use Rattle.port_core.specs.View.{View, in_at, IsInOpen, IsOutOpen, ActsAllowed, acted_all}
-use Rattle.port_core.specs.Asking.{AsksStand}
-use Rattle.port_core.specs.Call.{Call, starts, asks, brings, cancels, CallAllowed, seen, Obeys, Meets, given_on}
+use Rattle.port_core.specs.Asking.{PullsStand}
+use Rattle.port_core.specs.Call.{Call, starts, pulls, arrives, cancels, CallAllowed, seen, Obeys, Meets, given_on}
 use Rattle.stream_model.specs.Machine.{going, done}
 use Rattle.stream_model.specs.Linear.{Book}
 use Rattle.stage_law.specs.Held.{shut}
@@ -27,7 +27,7 @@ use Rattle.stage_law.specs.Outs.{TurnsAt}
 use Rattle.stage_fans.specs.declared.outs.OutputState.{OutputState}
 use Rattle.stage_fans.specs.declared.outs.OutputState.TheVariants.{Quiet, Asks, Gone}
 use Rattle.stage_fans.specs.Outs.{want_view, open_count, at_open, AllClosed, OutsClosed, asks_count}
-use Rattle.stage_out.specs.PartitionStates.{PartitionLogic, input_of, view_of, Holding, Sound, row_by, row, kept, stage_of, state_of, due_of, held_of, dealers, dues, Turned, Parts, pull_by, waits_by, EndedFor, ends_now, ends_later, with_asks, Noted, pulls, rests, AskedOf, gets, notes, moved_by, moving_by, Dealt, given, keeps, drops, with_given, Served, dealt, blamed, blaming, struck, less_by, PassedOver, dropped, kept_on, Lost, last, others}
+use Rattle.stage_out.specs.PartitionStates.{PartitionLogic, input_of, view_of, Holding, Sound, row_by, row, kept, stage_of, state_of, due_of, held_of, dealers, dues, Turned, Parts, pull_by, waits_by, EndedFor, ends_now, ends_later, with_asks, Noted, pulls_input, rests, AskedOf, gets, notes, moved_by, moving_by, Dealt, given, keeps, drops, with_given, Served, dealt, blamed, blaming, struck, less_by, PassedOver, dropped, kept_on, Lost, last, others}
 use Rattle.stage_fans.proofs.Outs.{want_set, is_quiet, is_open, gone_views, after_one, shut_views}
 use Rattle.stage_out.proofs.Wants.{same, other, quiet_lost, asked_lost, Acted, given_one, acts_from, all_open}
 use Rattle.stage_out.proofs.Dues.{get_of, same_get, set_at, pull_given, open_given, mach, turns_each, is_gone, still, gone_here, out_here, last_here, ends_asked, ends_lost, deal_given, deal_kept, deal_other, deal_blamed, end_now, end_later, fail_now}
@@ -81,25 +81,25 @@ in_zero true w zero h = absurd h
 in_zero false w zero h = (refl, refl)
 in_zero o w (suc i) h = absurd h
 
-complete_given : (outs : List OutputState) → Acted (record { ins = Over ∷ []; outs = map want_view outs }) (at_open (λ j. Complete j) 0 outs) (map (after_one Shut) outs)
-complete_given outs = acts_from (λ j. Complete j) Shut IsOutOpen (λ v n p. p) (λ v n. refl) (λ n acts s. s) (Over ∷ []) outs 0 [] refl (all_open outs)
+complete_given : (outs : List OutputState) → Acted (record { ins = inlet.Finished ∷ []; outs = map want_view outs }) (at_open (λ j. Complete j) 0 outs) (map (after_one Closed) outs)
+complete_given outs = acts_from (λ j. Complete j) Closed IsOutOpen (λ v n p. p) (λ v n. refl) (λ n acts s. s) (inlet.Finished ∷ []) outs 0 [] refl (all_open outs)
 
-fail_given : (c : Cause) (ins : List InView) (outs : List OutputState) → Acted (record { ins = ins; outs = map want_view outs }) (at_open (λ j. FailOut j c) 0 outs) (map (after_one Shut) outs)
-fail_given c ins outs = acts_from (λ j. FailOut j c) Shut IsOutOpen (λ v n p. p) (λ v n. refl) (λ n acts s. s) ins outs 0 [] refl (all_open outs)
+fail_given : (c : Cause) (ins : List InView) (outs : List OutputState) → Acted (record { ins = ins; outs = map want_view outs }) (at_open (λ j. FailOut j c) 0 outs) (map (after_one Closed) outs)
+fail_given c ins outs = acts_from (λ j. FailOut j c) Closed IsOutOpen (λ v n p. p) (λ v n. refl) (λ n acts s. s) ins outs 0 [] refl (all_open outs)
 
 abbrev shut_l : PartitionLogic → PartitionLogic
 shut_l old = record old { live = false }
 
-fails_zero : (old : PartitionLogic) (c : Cause) → old.live ≡ true → old.over ≡ false → Handled (brings 0 (item.Failed c)) old (at_open (λ j. FailOut j c) 0 old.outs) (shut_l old)
+fails_zero : (old : PartitionLogic) (c : Cause) → old.live ≡ true → old.over ≡ false → Handled (arrives 0 (item.Failed c)) old (at_open (λ j. FailOut j c) 0 old.outs) (shut_l old)
 fails_zero old c h o =
-    let a = fail_given c (Over ∷ []) old.outs in
+    let a = fail_given c (inlet.Finished ∷ []) old.outs in
     record {
-      ports = obeys (brings 0 (item.Failed c)) old (shut_l old) (at_open (λ j. FailOut j c) 0 old.outs) h (record {
+      ports = obeys (arrives 0 (item.Failed c)) old (shut_l old) (at_open (λ j. FailOut j c) 0 old.outs) h (record {
         allowed = a.allowed;
         row_then = subst (λ (v : View). AllClosed v) (sym a.then_is) (tt, shut_views old.outs);
       });
       gives = record {
-        turns = λ book. turns_each book old (brings 0 (item.Failed c)) (at_open (λ j. FailOut j c) 0 old.outs) (held_of old) (λ m v. shut) old.outs old.outs 0 refl (λ i m w v e p q.
+        turns = λ book. turns_each book old (arrives 0 (item.Failed c)) (at_open (λ j. FailOut j c) 0 old.outs) (held_of old) (λ m v. shut) old.outs old.outs 0 refl (λ i m w v e p q.
             let g = open_given (λ j. FailOut j c) (λ j. item.Failed c) (λ k n. refl) old.outs 0 i m w e p in
             rw (g, o) (fail_now book old.parts old.fun old.node old.taken m (kept m old.to old.held) c w));
         node = refl;
@@ -110,25 +110,25 @@ fails_zero old c h o =
       };
     }
 
-pub failed_on : (old new : PartitionLogic) (acts : List Act) (i : ℕ) (c : Cause) → old.live ≡ true → Meets (brings i (item.Failed c)) (row old) → Parts new acts (shut_l old) (at_open (λ j. FailOut j c) 0 old.outs) → Handled (brings i (item.Failed c)) old acts new
+pub failed_on : (old new : PartitionLogic) (acts : List Act) (i : ℕ) (c : Cause) → old.live ≡ true → Meets (arrives i (item.Failed c)) (row old) → Parts new acts (shut_l old) (at_open (λ j. FailOut j c) 0 old.outs) → Handled (arrives i (item.Failed c)) old acts new
 failed_on old new acts i c h m d =
-    let f = found (brings i (item.Failed c)) old h m in
+    let f = found (arrives i (item.Failed c)) old h m in
     let p = in_zero old.over old.waits i f.may in
-    rw (d.to_is, d.acts_are) (subst (λ n. Handled (brings n (item.Failed c)) old (at_open (λ j. FailOut j c) 0 old.outs) (shut_l old)) (sym p.0) (fails_zero old c h p.1))
+    rw (d.to_is, d.acts_are) (subst (λ n. Handled (arrives n (item.Failed c)) old (at_open (λ j. FailOut j c) 0 old.outs) (shut_l old)) (sym p.0) (fails_zero old c h p.1))
 
 none_kept : (m to : ℕ) (h : Option Tree) → h ≡ None → kept m to h ≡ []
 none_kept m to h e = rw e refl
 
-ends_zero : (old : PartitionLogic) → old.live ≡ true → old.over ≡ false → old.held ≡ None → Handled (brings 0 item.Ended) old (at_open (λ j. Complete j) 0 old.outs) (shut_l old)
+ends_zero : (old : PartitionLogic) → old.live ≡ true → old.over ≡ false → old.held ≡ None → Handled (arrives 0 item.Ended) old (at_open (λ j. Complete j) 0 old.outs) (shut_l old)
 ends_zero old h o n =
     let a = complete_given old.outs in
     record {
-      ports = obeys (brings 0 item.Ended) old (shut_l old) (at_open (λ j. Complete j) 0 old.outs) h (record {
+      ports = obeys (arrives 0 item.Ended) old (shut_l old) (at_open (λ j. Complete j) 0 old.outs) h (record {
         allowed = a.allowed;
         row_then = subst (λ (v : View). AllClosed v) (sym a.then_is) (tt, shut_views old.outs);
       });
       gives = record {
-        turns = λ book. turns_each book old (brings 0 item.Ended) (at_open (λ j. Complete j) 0 old.outs) (held_of old) (λ m v. shut) old.outs old.outs 0 refl (λ i m w v e p q.
+        turns = λ book. turns_each book old (arrives 0 item.Ended) (at_open (λ j. Complete j) 0 old.outs) (held_of old) (λ m v. shut) old.outs old.outs 0 refl (λ i m w v e p q.
             let g = open_given (λ j. Complete j) (λ j. item.Ended) (λ k n. refl) old.outs 0 i m w e p in
             rw (g, o, n) (end_now book old.parts old.fun old.node old.taken m w));
         node = refl;
@@ -158,13 +158,13 @@ over_sound old s n = record { asking_is = s.asking_is; open_is = s.open_is; some
     by_held None k x = absurd (k refl)
     by_held (Some t) k x = x
 
-waits_zero : (old : PartitionLogic) → old.live ≡ true → old.over ≡ false → Sound old → old.held ≢ None → Handled (brings 0 item.Ended) old [] (record old { over = true })
+waits_zero : (old : PartitionLogic) → old.live ≡ true → old.over ≡ false → Sound old → old.held ≢ None → Handled (arrives 0 item.Ended) old [] (record old { over = true })
 waits_zero old h o s n = record {
-  ports = obeys (brings 0 item.Ended) old (record old { over = true }) [] h (record { allowed = tt; row_then = is_standing (record old { over = true }) (seen (brings 0 item.Ended) (view_of old)) h refl (over_sound old s n) });
+  ports = obeys (arrives 0 item.Ended) old (record old { over = true }) [] h (record { allowed = tt; row_then = is_standing (record old { over = true }) (seen (arrives 0 item.Ended) (view_of old)) h refl (over_sound old s n) });
   gives = record {
-    turns = λ book. rw h (turns_each book old (brings 0 item.Ended) [] (held_of old) (held_of (record old { over = true })) old.outs old.outs 0 refl (λ i m w v e p q.
+    turns = λ book. rw h (turns_each book old (arrives 0 item.Ended) [] (held_of old) (held_of (record old { over = true })) old.outs old.outs 0 refl (λ i m w v e p q.
         let x : w ≡ v = same_get old.outs i w v p q in
-        subst (λ (y : OutputState). TurnAt (mach book old m) m (brings 0 item.Ended) (held_of old m w) [] (held_of (record old { over = true }) m y)) x (rw o (end_later book old.parts old.fun old.node old.taken m (kept m old.to old.held) w))));
+        subst (λ (y : OutputState). TurnAt (mach book old m) m (arrives 0 item.Ended) (held_of old m w) [] (held_of (record old { over = true }) m y)) x (rw o (end_later book old.parts old.fun old.node old.taken m (kept m old.to old.held) w))));
     node = refl;
     parts = refl;
     fun = refl;
@@ -173,15 +173,15 @@ waits_zero old h o s n = record {
   };
 }
 
-pub finished : (old new : PartitionLogic) (acts : List Act) (i : ℕ) → old.live ≡ true → Meets (brings i item.Ended) (row old) → EndedFor old new acts → Handled (brings i item.Ended) old acts new
+pub finished : (old new : PartitionLogic) (acts : List Act) (i : ℕ) → old.live ≡ true → Meets (arrives i item.Ended) (row old) → EndedFor old new acts → Handled (arrives i item.Ended) old acts new
 finished old new acts i h m (ends_now n to_is acts_are) =
-    let f = found (brings i item.Ended) old h m in
+    let f = found (arrives i item.Ended) old h m in
     let p = in_zero old.over old.waits i f.may in
-    rw (to_is, acts_are) (subst (λ k. Handled (brings k item.Ended) old (at_open (λ j. Complete j) 0 old.outs) (shut_l old)) (sym p.0) (ends_zero old h p.1 n))
+    rw (to_is, acts_are) (subst (λ k. Handled (arrives k item.Ended) old (at_open (λ j. Complete j) 0 old.outs) (shut_l old)) (sym p.0) (ends_zero old h p.1 n))
 finished old new acts i h m (ends_later n to_is acts_are) =
-    let f = found (brings i item.Ended) old h m in
+    let f = found (arrives i item.Ended) old h m in
     let p = in_zero old.over old.waits i f.may in
-    rw (to_is, acts_are) (subst (λ k. Handled (brings k item.Ended) old [] (record old { over = true })) (sym p.0) (waits_zero old h p.1 f.sound n))
+    rw (to_is, acts_are) (subst (λ k. Handled (arrives k item.Ended) old [] (record old { over = true })) (sym p.0) (waits_zero old h p.1 f.sound n))
 
 -- ---- counts
 
@@ -216,12 +216,12 @@ get_other (y ∷ ws) zero (suc i) x n = refl
 get_other (y ∷ ws) (suc j) zero x n = refl
 get_other (y ∷ ws) (suc j) (suc i) x n = get_other ws j i x (λ e. n (ap suc e))
 
-asked_at : (ws : List OutputState) (j : ℕ) → slice_get ws j ≡ Some Quiet → slice_index_or (slice_set (map want_view ws) j Asked) j Shut ≡ Asked
+asked_at : (ws : List OutputState) (j : ℕ) → slice_get ws j ≡ Some Quiet → slice_index_or (slice_set (map want_view ws) j Available) j Closed ≡ Available
 asked_at [] j h = cc
 asked_at (x ∷ ws) zero h = refl
 asked_at (x ∷ ws) (suc j) h = asked_at ws j h
 
-back_at : (ws : List OutputState) (j : ℕ) → slice_get ws j ≡ Some Quiet → slice_set (slice_set (map want_view ws) j Asked) j Unasked ≡ map want_view ws
+back_at : (ws : List OutputState) (j : ℕ) → slice_get ws j ≡ Some Quiet → slice_set (slice_set (map want_view ws) j Available) j Unpulled ≡ map want_view ws
 back_at [] j h = cc
 back_at (Quiet ∷ ws) zero h = refl
 back_at (Asks ∷ ws) zero h = cc
@@ -229,9 +229,9 @@ back_at (Gone ∷ ws) zero h = cc
 back_at (x ∷ ws) (suc j) h = ap (λ (ys : List OutView). want_view x ∷ ys) (back_at ws j h)
 
 pub record Pulled (q : ℕ) (outs : List OutView) : Type 0 where
-  pub allowed : ActsAllowed (record { ins = Idle ∷ []; outs = outs }) (pull_by q)
-  pub then_is : acted_all (record { ins = Idle ∷ []; outs = outs }) (pull_by q) ≡ record { ins = input_of false (waits_by q) ∷ []; outs = outs }
-  pub stands : AsksStand (pull_by q)
+  pub allowed : ActsAllowed (record { ins = inlet.Idle ∷ []; outs = outs }) (pull_by q)
+  pub then_is : acted_all (record { ins = inlet.Idle ∷ []; outs = outs }) (pull_by q) ≡ record { ins = input_of false (waits_by q) ∷ []; outs = outs }
+  pub stands : PullsStand (pull_by q)
   pub none : waits_by q ≡ false → q ≡ 0
 
 pulled : (q : ℕ) (outs : List OutView) → Pulled q outs
@@ -248,9 +248,9 @@ held_none old s e = subst (λ h. Holding h old) e s.holds
 
 -- ---- an output is asked
 
-pub asked_there : (l : PartitionLogic) (j : ℕ) → l.live ≡ true → Meets (asks j) (row l) → (j < length l.outs) × ((length l.outs ≤ 16) × (l.asking ≤ 16))
+pub asked_there : (l : PartitionLogic) (j : ℕ) → l.live ≡ true → Meets (pulls j) (row l) → (j < length l.outs) × ((length l.outs ≤ 16) × (l.asking ≤ 16))
 asked_there l j h m =
-    let f = found (asks j) l h m in
+    let f = found (pulls j) l h m in
     let a = asks_le l.outs in let e = f.sound.asking_is in let k = f.sound.few in
     (slice_get_within l.outs j Quiet (is_quiet l.outs j f.may), (f.sound.few, omega (arith, a, e, k)))
 
@@ -264,33 +264,33 @@ module _ (old : PartitionLogic) (j : ℕ) (h : old.live ≡ true) (sound : Sound
       let l = length-set old.outs j Asks in let f = sound.few in
       record { asking_is = omega (arith, a, e); open_is = sound.open_is ∙ sym r.1; some = sound.some; parts = sound.parts; few = omega (arith, l, f); holds = k; wants = λ e. inl (omega arith) }
 
-  noted_turns : (book : Book) (acts : List Act) (w : Bool) → ((m : ℕ) → given_on m acts ≡ []) → TurnsAt 0 (asks j) (dealers book old (held_of old) 0 old.outs) acts (dues (held_of (asks_to w)) 0 (slice_set old.outs j Asks))
-  noted_turns book acts b g = turns_each book old (asks j) acts (held_of old) (held_of (asks_to b)) old.outs (slice_set old.outs j Asks) 0 (length-set old.outs j Asks) (λ i m w v e p s.
-      rw (g m) (still (mach book old m) m (asks j) (kept m old.to old.held) (state_of old.over (stage_of old m)) w v tt (alike i w v p (set_at old.outs j i Asks w v p s))))
+  noted_turns : (book : Book) (acts : List Act) (w : Bool) → ((m : ℕ) → given_on m acts ≡ []) → TurnsAt 0 (pulls j) (dealers book old (held_of old) 0 old.outs) acts (dues (held_of (asks_to w)) 0 (slice_set old.outs j Asks))
+  noted_turns book acts b g = turns_each book old (pulls j) acts (held_of old) (held_of (asks_to b)) old.outs (slice_set old.outs j Asks) 0 (length-set old.outs j Asks) (λ i m w v e p s.
+      rw (g m) (still (mach book old m) m (pulls j) (kept m old.to old.held) (state_of old.over (stage_of old m)) w v tt (alike i w v p (set_at old.outs j i Asks w v p s))))
     where
       alike : (i : ℕ) (w v : OutputState) → slice_get old.outs i ≡ Some w → ((j ≡ i) × (v ≡ Asks)) ⊎ ((j ≢ i) × (v ≡ w)) → is_gone w ≡ is_gone v
       alike i w v p (inl (e, a)) = let x : slice_get old.outs i ≡ Some Quiet = rw (← e) q in let y : w ≡ Quiet = same_get old.outs i w Quiet p x in rw (y, a) refl
       alike i w v p (inr (n, a)) = rw a refl
 
-  noted_pulls : old.held ≡ None → old.waits ≡ false → Handled (asks j) old (Pull 0 ∷ []) (asks_to true)
+  noted_pulls : old.held ≡ None → old.waits ≡ false → Handled (pulls j) old (Pull 0 ∷ []) (asks_to true)
   noted_pulls n w =
       let o = (held_none old sound n).0 in
-      let before : ◌≡◌ {A = View} (seen (asks j) (view_of old)) (record { ins = Idle ∷ []; outs = map want_view (slice_set old.outs j Asks) }) =
-      ap (λ (x : InView). record { ins = x ∷ []; outs = slice_set (map want_view old.outs) j Asked }) (rw (o, w) refl) ∙ ap (λ (ys : List OutView). record { ins = Idle ∷ []; outs = ys }) (want_set old.outs j Asks) in
-      let after : ◌≡◌ {A = View} (record { ins = Waiting ∷ []; outs = map want_view (slice_set old.outs j Asks) }) (view_of (asks_to true)) = rw o refl in
+      let before : ◌≡◌ {A = View} (seen (pulls j) (view_of old)) (record { ins = inlet.Idle ∷ []; outs = map want_view (slice_set old.outs j Asks) }) =
+      ap (λ (x : InView). record { ins = x ∷ []; outs = slice_set (map want_view old.outs) j Available }) (rw (o, w) refl) ∙ ap (λ (ys : List OutView). record { ins = inlet.Idle ∷ []; outs = ys }) (want_set old.outs j Asks) in
+      let after : ◌≡◌ {A = View} (record { ins = inlet.Pulled ∷ []; outs = map want_view (slice_set old.outs j Asks) }) (view_of (asks_to true)) = rw o refl in
       record {
-        ports = obeys (asks j) old (asks_to true) (Pull 0 ∷ []) h (record {
+        ports = obeys (pulls j) old (asks_to true) (Pull 0 ∷ []) h (record {
           allowed = subst (λ (v : View). ActsAllowed v (Pull 0 ∷ [])) (sym before) (refl, tt);
-          row_then = is_standing (asks_to true) (acted_all (seen (asks j) (view_of old)) (Pull 0 ∷ [])) h (ap (λ (v : View). acted_all v (Pull 0 ∷ [])) before ∙ after) (asked_sound true (rw n (o, λ e. cc)));
+          row_then = is_standing (asks_to true) (acted_all (seen (pulls j) (view_of old)) (Pull 0 ∷ [])) h (ap (λ (v : View). acted_all v (Pull 0 ∷ [])) before ∙ after) (asked_sound true (rw n (o, λ e. cc)));
         });
         gives = record { turns = λ book. rw h (noted_turns book (Pull 0 ∷ []) true (λ m. refl)); node = refl; parts = refl; fun = refl; outputs = length-set old.outs j Asks; stands = (tt, tt) };
       }
 
-  noted_rests : (old.to ≡ j → old.held ≡ None) → (old.held ≡ None → old.waits ≡ true) → Handled (asks j) old [] (with_asks j old)
+  noted_rests : (old.to ≡ j → old.held ≡ None) → (old.held ≡ None → old.waits ≡ true) → Handled (pulls j) old [] (with_asks j old)
   noted_rests d r = record {
-    ports = obeys (asks j) old (with_asks j old) [] h (record {
+    ports = obeys (pulls j) old (with_asks j old) [] h (record {
       allowed = tt;
-      row_then = is_standing (with_asks j old) (seen (asks j) (view_of old)) h (ap (λ (ys : List OutView). record { ins = input_of old.over old.waits ∷ []; outs = ys }) (want_set old.outs j Asks)) (asked_sound old.waits (by_held old.held refl));
+      row_then = is_standing (with_asks j old) (seen (pulls j) (view_of old)) h (ap (λ (ys : List OutView). record { ins = input_of old.over old.waits ∷ []; outs = ys }) (want_set old.outs j Asks)) (asked_sound old.waits (by_held old.held refl));
     });
     gives = record { turns = λ book. rw h (noted_turns book [] old.waits (λ m. refl)); node = refl; parts = refl; fun = refl; outputs = length-set old.outs j Asks; stands = tt };
   }
@@ -299,8 +299,8 @@ module _ (old : PartitionLogic) (j : ℕ) (h : old.live ≡ true) (sound : Sound
       by_held None e = let w = r e in ((held_none old sound e).0, λ x. cc)
       by_held (Some t) e = let s = held_some old t sound e in (s.0, get_other old.outs j old.to Asks (λ x. let n = d (sym x) in cc) ∙ s.1)
 
-  by_note : (new : PartitionLogic) (acts : List Act) → (old.to ≡ j → old.held ≡ None) → Noted j old new acts → Handled (asks j) old acts new
-  by_note new acts d (pulls n w to_is acts_are) = rw (to_is, acts_are) (noted_pulls n w)
+  by_note : (new : PartitionLogic) (acts : List Act) → (old.to ≡ j → old.held ≡ None) → Noted j old new acts → Handled (pulls j) old acts new
+  by_note new acts d (pulls_input n w to_is acts_are) = rw (to_is, acts_are) (noted_pulls n w)
   by_note new acts d (rests r to_is acts_are) = rw (to_is, acts_are) (noted_rests d r)
 
 -- ---- what is held goes out
@@ -327,20 +327,20 @@ module _ (old : PartitionLogic) (j : ℕ) (t : Tree) (h : old.live ≡ true) (so
   more_sound : old.over ≡ false → Sound more_to
   more_sound o = record { asking_is = sound.asking_is; open_is = sound.open_is; some = sound.some; parts = sound.parts; few = sound.few; holds = (o, (pulled old.asking []).none); wants = λ e. inl (waits_some old.asking e) }
 
-  gets_more : old.over ≡ false → Handled (asks j) old (Push j t ∷ pull_by old.asking) more_to
+  gets_more : old.over ≡ false → Handled (pulls j) old (Push j t ∷ pull_by old.asking) more_to
   gets_more o =
       let w = (held_some old t sound k).0 in
       let p = pulled old.asking (map want_view old.outs) in
-      let first_view : ◌≡◌ {A = View} (record { ins = input_of old.over old.waits ∷ []; outs = slice_set (slice_set (map want_view old.outs) j Asked) j Unasked }) (record { ins = Idle ∷ []; outs = map want_view old.outs }) =
-      ap (λ (x : InView). record { ins = x ∷ []; outs = slice_set (slice_set (map want_view old.outs) j Asked) j Unasked }) (rw (o, w) refl) ∙ ap (λ (ys : List OutView). record { ins = Idle ∷ []; outs = ys }) (back_at old.outs j q) in
+      let first_view : ◌≡◌ {A = View} (record { ins = input_of old.over old.waits ∷ []; outs = slice_set (slice_set (map want_view old.outs) j Available) j Unpulled }) (record { ins = inlet.Idle ∷ []; outs = map want_view old.outs }) =
+      ap (λ (x : InView). record { ins = x ∷ []; outs = slice_set (slice_set (map want_view old.outs) j Available) j Unpulled }) (rw (o, w) refl) ∙ ap (λ (ys : List OutView). record { ins = inlet.Idle ∷ []; outs = ys }) (back_at old.outs j q) in
       let after : ◌≡◌ {A = View} (record { ins = input_of false (waits_by old.asking) ∷ []; outs = map want_view old.outs }) (view_of more_to) = rw o refl in
       record {
-        ports = obeys (asks j) old more_to (Push j t ∷ pull_by old.asking) h (record {
+        ports = obeys (pulls j) old more_to (Push j t ∷ pull_by old.asking) h (record {
           allowed = (asked_at old.outs j q, subst (λ (v : View). ActsAllowed v (pull_by old.asking)) (sym first_view) p.allowed);
-          row_then = is_standing more_to (acted_all (seen (asks j) (view_of old)) (Push j t ∷ pull_by old.asking)) h (ap (λ (v : View). acted_all v (pull_by old.asking)) first_view ∙ p.then_is ∙ after) (more_sound o);
+          row_then = is_standing more_to (acted_all (seen (pulls j) (view_of old)) (Push j t ∷ pull_by old.asking)) h (ap (λ (v : View). acted_all v (pull_by old.asking)) first_view ∙ p.then_is ∙ after) (more_sound o);
         });
         gives = record {
-          turns = λ book. rw h (turns_each book old (asks j) (Push j t ∷ pull_by old.asking) (held_of old) (held_of more_to) old.outs old.outs 0 refl (λ i m w v e p s.
+          turns = λ book. rw h (turns_each book old (pulls j) (Push j t ∷ pull_by old.asking) (held_of old) (held_of more_to) old.outs old.outs 0 refl (λ i m w v e p s.
               let x = same_get old.outs i w v p s in rw (← x) (one book m w (quiet_there i m w e p))));
           node = refl;
           parts = refl;
@@ -350,11 +350,11 @@ module _ (old : PartitionLogic) (j : ℕ) (t : Tree) (h : old.live ≡ true) (so
         };
       }
     where
-      by_bool : (book : Book) (m : ℕ) (w : OutputState) (b : Bool) → (j == m) ≡ b → (b ≡ true → w ≡ Quiet) → TurnAt (mach book old m) m (asks j) (due_of (if b then t ∷ [] else []) (state_of old.over (stage_of old m)) w) ((if b then item.Elem t ∷ [] else []) ++ []) (due_of [] (state_of old.over (stage_of old m)) w)
+      by_bool : (book : Book) (m : ℕ) (w : OutputState) (b : Bool) → (j == m) ≡ b → (b ≡ true → w ≡ Quiet) → TurnAt (mach book old m) m (pulls j) (due_of (if b then t ∷ [] else []) (state_of old.over (stage_of old m)) w) ((if b then item.Elem t ∷ [] else []) ++ []) (due_of [] (state_of old.over (stage_of old m)) w)
       by_bool book m w true e f = out_here (mach book old m) m j t (state_of old.over (stage_of old m)) w (f refl)
-      by_bool book m w false e f = still (mach book old m) m (asks j) [] (state_of old.over (stage_of old m)) w w tt refl
+      by_bool book m w false e f = still (mach book old m) m (pulls j) [] (state_of old.over (stage_of old m)) w w tt refl
 
-      one : (book : Book) (m : ℕ) (w : OutputState) → ((j == m) ≡ true → w ≡ Quiet) → TurnAt (mach book old m) m (asks j) (held_of old m w) (given_on m (Push j t ∷ pull_by old.asking)) (held_of more_to m w)
+      one : (book : Book) (m : ℕ) (w : OutputState) → ((j == m) ≡ true → w ≡ Quiet) → TurnAt (mach book old m) m (pulls j) (held_of old m w) (given_on m (Push j t ∷ pull_by old.asking)) (held_of more_to m w)
       one book m w f =
           let g = kept_is old j m (j == m) t d k refl in
           let u : given_on m (Push j t ∷ pull_by old.asking) ≡ (if j == m then item.Elem t ∷ [] else []) ++ [] = push_given j m (j == m) t (pull_by old.asking) refl ∙ ap (λ (l : List Item). (if j == m then item.Elem t ∷ [] else []) ++ l) (pull_given old.asking m) in
@@ -363,18 +363,18 @@ module _ (old : PartitionLogic) (j : ℕ) (t : Tree) (h : old.live ≡ true) (so
   abbrev last_acts : List Act
   last_acts = Push j t ∷ at_open (λ i. Complete i) 0 old.outs
 
-  gets_last : old.over ≡ true → Handled (asks j) old last_acts (record old { held = None; live = false })
+  gets_last : old.over ≡ true → Handled (pulls j) old last_acts (record old { held = None; live = false })
   gets_last o =
       let a = complete_given old.outs in
-      let first_view : ◌≡◌ {A = View} (record { ins = input_of old.over old.waits ∷ []; outs = slice_set (slice_set (map want_view old.outs) j Asked) j Unasked }) (record { ins = Over ∷ []; outs = map want_view old.outs }) =
-      ap (λ (x : InView). record { ins = x ∷ []; outs = slice_set (slice_set (map want_view old.outs) j Asked) j Unasked }) (rw o refl) ∙ ap (λ (ys : List OutView). record { ins = Over ∷ []; outs = ys }) (back_at old.outs j q) in
+      let first_view : ◌≡◌ {A = View} (record { ins = input_of old.over old.waits ∷ []; outs = slice_set (slice_set (map want_view old.outs) j Available) j Unpulled }) (record { ins = inlet.Finished ∷ []; outs = map want_view old.outs }) =
+      ap (λ (x : InView). record { ins = x ∷ []; outs = slice_set (slice_set (map want_view old.outs) j Available) j Unpulled }) (rw o refl) ∙ ap (λ (ys : List OutView). record { ins = inlet.Finished ∷ []; outs = ys }) (back_at old.outs j q) in
       record {
-        ports = obeys (asks j) old (record old { held = None; live = false }) last_acts h (record {
+        ports = obeys (pulls j) old (record old { held = None; live = false }) last_acts h (record {
           allowed = (asked_at old.outs j q, subst (λ (v : View). ActsAllowed v (at_open (λ i. Complete i) 0 old.outs)) (sym first_view) a.allowed);
           row_then = subst (λ (v : View). AllClosed v) (sym (ap (λ (v : View). acted_all v (at_open (λ i. Complete i) 0 old.outs)) first_view ∙ a.then_is)) (tt, shut_views old.outs);
         });
         gives = record {
-          turns = λ book. turns_each book old (asks j) last_acts (held_of old) (λ m v. shut) old.outs old.outs 0 refl (λ i m w v e p s. one book i m w e p);
+          turns = λ book. turns_each book old (pulls j) last_acts (held_of old) (λ m v. shut) old.outs old.outs 0 refl (λ i m w v e p s. one book i m w e p);
           node = refl;
           parts = refl;
           fun = refl;
@@ -383,27 +383,27 @@ module _ (old : PartitionLogic) (j : ℕ) (t : Tree) (h : old.live ≡ true) (so
         };
       }
     where
-      by_bool : (book : Book) (m : ℕ) (w : OutputState) (b : Bool) → (j == m) ≡ b → (b ≡ true → w ≡ Quiet) → TurnAt (mach book old m) m (asks j) (due_of (if b then t ∷ [] else []) done w) ((if b then item.Elem t ∷ [] else []) ++ completes m w) shut
+      by_bool : (book : Book) (m : ℕ) (w : OutputState) (b : Bool) → (j == m) ≡ b → (b ≡ true → w ≡ Quiet) → TurnAt (mach book old m) m (pulls j) (due_of (if b then t ∷ [] else []) done w) ((if b then item.Elem t ∷ [] else []) ++ completes m w) shut
       by_bool book m w true e f = last_here (mach book old m) m j t w (f refl)
       by_bool book m w false e f = ends_asked (mach book old m) m j w
 
-      one : (book : Book) (i m : ℕ) (w : OutputState) → 0 + i ≡ m → slice_get old.outs i ≡ Some w → TurnAt (mach book old m) m (asks j) (held_of old m w) (given_on m last_acts) shut
+      one : (book : Book) (i m : ℕ) (w : OutputState) → 0 + i ≡ m → slice_get old.outs i ≡ Some w → TurnAt (mach book old m) m (pulls j) (held_of old m w) (given_on m last_acts) shut
       one book i m w e p =
           let g = kept_is old j m (j == m) t d k refl in
           let u : given_on m last_acts ≡ (if j == m then item.Elem t ∷ [] else []) ++ completes m w =
           push_given j m (j == m) t (at_open (λ i. Complete i) 0 old.outs) refl ∙ ap (λ (l : List Item). (if j == m then item.Elem t ∷ [] else []) ++ l) (open_given (λ i. Complete i) (λ i. item.Ended) (λ a n. refl) old.outs 0 i m w e p) in
           rw (g, u, o) (by_bool book m w (j == m) refl (quiet_there i m w e p))
 
-  by_over : (b : Bool) → old.over ≡ b → Handled (asks j) old (Push j t ∷ moving_by b (record old { held = None })) (moved_by b (record old { held = None }))
+  by_over : (b : Bool) → old.over ≡ b → Handled (pulls j) old (Push j t ∷ moving_by b (record old { held = None })) (moved_by b (record old { held = None }))
   by_over true o = gets_last o
   by_over false o = gets_more o
 
-pub asked : (old new : PartitionLogic) (acts : List Act) (j : ℕ) → old.live ≡ true → Meets (asks j) (row old) → AskedOf j old new acts → Handled (asks j) old acts new
+pub asked : (old new : PartitionLogic) (acts : List Act) (j : ℕ) → old.live ≡ true → Meets (pulls j) (row old) → AskedOf j old new acts → Handled (pulls j) old acts new
 asked old new acts j h m (gets t d k to_is acts_are) =
-    let f = found (asks j) old h m in
+    let f = found (pulls j) old h m in
     rw (to_is, acts_are) (by_over old j t h f.sound (is_quiet old.outs j f.may) d k old.over refl)
 asked old new acts j h m (notes d n) =
-    let f = found (asks j) old h m in
+    let f = found (pulls j) old h m in
     by_note old j h f.sound (is_quiet old.outs j f.may) new acts d n
 
 -- ---- an output is cancelled
@@ -467,15 +467,15 @@ module _ (old : PartitionLogic) (j : ℕ) (h : old.live ≡ true) (sound : Sound
   cancel_given true m = refl
   cancel_given false m = refl
 
-  cancel_stands : (o : Bool) → AsksStand (if o then [] else Cancel 0 ∷ [])
+  cancel_stands : (o : Bool) → PullsStand (if o then [] else Cancel 0 ∷ [])
   cancel_stands true = tt
   cancel_stands false = tt
 
   last_lost : old.open_outs ≡ 1 → Handled (cancels j) old (if old.over then [] else Cancel 0 ∷ []) (record (struck j old) { live = false })
   last_lost one =
       let none : open_count left ≡ 0 = let c = open_struck old.outs j was in let e = sound.open_is in omega (arith, c, e, one) in
-      let e : slice_set (map want_view old.outs) j Refused ≡ map want_view left = want_set old.outs j Gone in
-      let c = cancelled old.over old.waits (slice_set (map want_view old.outs) j Refused) (subst (λ (ys : List OutView). OutsClosed ys) (sym e) (gone_views left none)) in
+      let e : slice_set (map want_view old.outs) j Cancelled ≡ map want_view left = want_set old.outs j Gone in
+      let c = cancelled old.over old.waits (slice_set (map want_view old.outs) j Cancelled) (subst (λ (ys : List OutView). OutsClosed ys) (sym e) (gone_views left none)) in
       record {
         ports = obeys (cancels j) old (record (struck j old) { live = false }) (if old.over then [] else Cancel 0 ∷ []) h (record { allowed = c.0; row_then = c.1 });
         gives = record {
@@ -536,8 +536,8 @@ module _ (old : PartitionLogic) (j : ℕ) (h : old.live ≡ true) (sound : Sound
   drop_more t n d k o =
       let w = (held_some old t sound k).0 in
       let p = pulled asks_left (map want_view left) in
-      let before : ◌≡◌ {A = View} (seen (cancels j) (view_of old)) (record { ins = Idle ∷ []; outs = map want_view left }) =
-      ap (λ (x : InView). record { ins = x ∷ []; outs = slice_set (map want_view old.outs) j Refused }) (rw (o, w) refl) ∙ ap (λ (ys : List OutView). record { ins = Idle ∷ []; outs = ys }) (want_set old.outs j Gone) in
+      let before : ◌≡◌ {A = View} (seen (cancels j) (view_of old)) (record { ins = inlet.Idle ∷ []; outs = map want_view left }) =
+      ap (λ (x : InView). record { ins = x ∷ []; outs = slice_set (map want_view old.outs) j Cancelled }) (rw (o, w) refl) ∙ ap (λ (ys : List OutView). record { ins = inlet.Idle ∷ []; outs = ys }) (want_set old.outs j Gone) in
       let after : ◌≡◌ {A = View} (record { ins = input_of false (waits_by asks_left) ∷ []; outs = map want_view left }) (view_of drop_to) = rw o refl in
       record {
         ports = obeys (cancels j) old drop_to (pull_by asks_left) h (record {
@@ -550,8 +550,8 @@ module _ (old : PartitionLogic) (j : ℕ) (h : old.live ≡ true) (sound : Sound
   drop_last : (t : Tree) → old.to ≡ j → old.held ≡ Some t → old.over ≡ true → Handled (cancels j) old (at_open (λ i. Complete i) 0 left) (record (struck j old) { held = None; live = false })
   drop_last t d k o =
       let a = complete_given left in
-      let before : ◌≡◌ {A = View} (seen (cancels j) (view_of old)) (record { ins = Over ∷ []; outs = map want_view left }) =
-      ap (λ (x : InView). record { ins = x ∷ []; outs = slice_set (map want_view old.outs) j Refused }) (rw o refl) ∙ ap (λ (ys : List OutView). record { ins = Over ∷ []; outs = ys }) (want_set old.outs j Gone) in
+      let before : ◌≡◌ {A = View} (seen (cancels j) (view_of old)) (record { ins = inlet.Finished ∷ []; outs = map want_view left }) =
+      ap (λ (x : InView). record { ins = x ∷ []; outs = slice_set (map want_view old.outs) j Cancelled }) (rw o refl) ∙ ap (λ (ys : List OutView). record { ins = inlet.Finished ∷ []; outs = ys }) (want_set old.outs j Gone) in
       record {
         ports = obeys (cancels j) old (record (struck j old) { held = None; live = false }) (at_open (λ i. Complete i) 0 left) h (record {
           allowed = subst (λ (v : View). ActsAllowed v (at_open (λ i. Complete i) 0 left)) (sym before) a.allowed;
@@ -590,7 +590,7 @@ lost old new acts j h m (others n p) =
 
 -- ---- an element
 
-view_asks : (ws : List OutputState) (p : ℕ) → slice_index_or ws p Gone ≡ Asks → slice_index_or (map want_view ws) p Shut ≡ Asked
+view_asks : (ws : List OutputState) (p : ℕ) → slice_index_or ws p Gone ≡ Asks → slice_index_or (map want_view ws) p Closed ≡ Available
 view_asks [] p h = cc
 view_asks (Quiet ∷ ws) zero h = cc
 view_asks (Asks ∷ ws) zero h = refl
@@ -611,7 +611,7 @@ quiet_set (Quiet ∷ ws) (suc p) h = let r = quiet_set ws p h in (r.0, ap suc r.
 quiet_set (Asks ∷ ws) (suc p) h = let r = quiet_set ws p h in (ap suc r.0, ap suc r.1)
 quiet_set (Gone ∷ ws) (suc p) h = quiet_set ws p h
 
-waiting_zero : (o w : Bool) (i : ℕ) → in_at (record { ins = input_of o w ∷ []; outs = [] }) i ≡ Waiting → (i ≡ 0) × ((o ≡ false) × (w ≡ true))
+waiting_zero : (o w : Bool) (i : ℕ) → in_at (record { ins = input_of o w ∷ []; outs = [] }) i ≡ inlet.Pulled → (i ≡ 0) × ((o ≡ false) × (w ≡ true))
 waiting_zero true w zero h = cc
 waiting_zero false true zero h = (refl, (refl, refl))
 waiting_zero false false zero h = cc
@@ -629,7 +629,7 @@ module _ (old : PartitionLogic) (t : Tree) (h : old.live ≡ true) (sound : Soun
   one_on = record old { taken = old.taken + 1 }
 
   abbrev call : Call
-  call = brings 0 (item.Elem t)
+  call = arrives 0 (item.Elem t)
 
   module _ (p : ℕ) (is : part_of old.parts (map_value old.fun t) ≡ Ok p) where
     -- an output that gets nothing
@@ -642,8 +642,8 @@ module _ (old : PartitionLogic) (t : Tree) (h : old.live ≡ true) (sound : Soun
         let acts = Push p t ∷ pull_by (old.asking - 1) in
         let c = quiet_set old.outs p a in
         let pu = pulled (old.asking - 1) (map want_view (slice_set old.outs p Quiet)) in
-        let first_view : ◌≡◌ {A = View} (record { ins = Idle ∷ []; outs = slice_set (map want_view old.outs) p Unasked }) (record { ins = Idle ∷ []; outs = map want_view (slice_set old.outs p Quiet) }) =
-        ap (λ (ys : List OutView). record { ins = Idle ∷ []; outs = ys }) (want_set old.outs p Quiet) in
+        let first_view : ◌≡◌ {A = View} (record { ins = inlet.Idle ∷ []; outs = slice_set (map want_view old.outs) p Unpulled }) (record { ins = inlet.Idle ∷ []; outs = map want_view (slice_set old.outs p Quiet) }) =
+        ap (λ (ys : List OutView). record { ins = inlet.Idle ∷ []; outs = ys }) (want_set old.outs p Quiet) in
         let after : ◌≡◌ {A = View} (record { ins = input_of false (waits_by (old.asking - 1)) ∷ []; outs = map want_view (slice_set old.outs p Quiet) }) (view_of (with_given p one_on)) = rw o refl in
         let s : Sound (with_given p one_on) = record {
           asking_is = let x = c.0 in let e = sound.asking_is in omega (arith, x, e);
@@ -686,7 +686,7 @@ module _ (old : PartitionLogic) (t : Tree) (h : old.live ≡ true) (sound : Soun
     deal_keeps : slice_index_or old.outs p Gone ≡ Quiet → Handled call old [] (record one_on { to = p; held = Some t; waits = false })
     deal_keeps a =
         let q = index_quiet old.outs p a in
-        let after : ◌≡◌ {A = View} (record { ins = Idle ∷ []; outs = map want_view old.outs }) (view_of (record one_on { to = p; held = Some t; waits = false })) = rw o refl in
+        let after : ◌≡◌ {A = View} (record { ins = inlet.Idle ∷ []; outs = map want_view old.outs }) (view_of (record one_on { to = p; held = Some t; waits = false })) = rw o refl in
         record {
           ports = obeys call old (record one_on { to = p; held = Some t; waits = false }) [] h (record {
             allowed = tt;
@@ -745,7 +745,7 @@ module _ (old : PartitionLogic) (t : Tree) (h : old.live ≡ true) (sound : Soun
 
   deal_fails : (why : Why) → part_of old.parts (map_value old.fun t) ≡ Err why → Handled call old (blame_acts why) (shut_l old)
   deal_fails why is =
-      let a = fail_given (blaming old why) (Left ∷ []) old.outs in
+      let a = fail_given (blaming old why) (inlet.Cancelled ∷ []) old.outs in
       record {
         ports = obeys call old (shut_l old) (blame_acts why) h (record {
           allowed = (tt, a.allowed);
@@ -766,11 +766,11 @@ module _ (old : PartitionLogic) (t : Tree) (h : old.live ≡ true) (sound : Soun
   by_serve new acts (dealt p is d) = by_deal p is new acts d
   by_serve new acts (blamed why is to_is acts_are) = rw (to_is, acts_are) (deal_fails why is)
 
-pub served_there : (l : PartitionLogic) (i : ℕ) (t : Tree) → l.live ≡ true → Meets (brings i (item.Elem t)) (row l) → Sound l
-served_there l i t h m = (found (brings i (item.Elem t)) l h m).sound
+pub served_there : (l : PartitionLogic) (i : ℕ) (t : Tree) → l.live ≡ true → Meets (arrives i (item.Elem t)) (row l) → Sound l
+served_there l i t h m = (found (arrives i (item.Elem t)) l h m).sound
 
-pub served_on : (old new : PartitionLogic) (acts : List Act) (i : ℕ) (t : Tree) → old.live ≡ true → Meets (brings i (item.Elem t)) (row old) → Served t old new acts → Handled (brings i (item.Elem t)) old acts new
+pub served_on : (old new : PartitionLogic) (acts : List Act) (i : ℕ) (t : Tree) → old.live ≡ true → Meets (arrives i (item.Elem t)) (row old) → Served t old new acts → Handled (arrives i (item.Elem t)) old acts new
 served_on old new acts i t h m d =
-    let f = found (brings i (item.Elem t)) old h m in
+    let f = found (arrives i (item.Elem t)) old h m in
     let p = waiting_zero old.over old.waits i f.may in
-    subst (λ k. Handled (brings k (item.Elem t)) old acts new) (sym p.0) (by_serve old t h f.sound p.1.0 (none_held old f.sound p.1.1) new acts d)
+    subst (λ k. Handled (arrives k (item.Elem t)) old acts new) (sym p.0) (by_serve old t h f.sound p.1.0 (none_held old f.sound p.1.1) new acts d)

@@ -11,7 +11,7 @@ use Rattle.elem_core.specs.declared.item.Item.{Item}
 use Rattle.elem_core.specs.declared.item.Item.TheVariants as item
 use Rattle.port_core.specs.declared.act.Act.{Act}
 use Rattle.port_core.specs.declared.act.Act.TheVariants.{Complete, FailOut}
-use Rattle.port_core.specs.Call.{Call, starts, asks, brings, cancels, given_by, given_on}
+use Rattle.port_core.specs.Call.{Call, starts, pulls, arrives, cancels, given_by, given_on}
 use Rattle.stream_model.specs.Machine.{State, going, done, Machine}
 use Rattle.stream_model.specs.Linear.{Book, Stage, numbering, linear}
 use Rattle.stage_law.specs.Held.{Held, shut}
@@ -86,15 +86,15 @@ module _ (M : Machine Stage Tree) (m : ℕ) where
   still starts g st Quiet Asks b e = (refl, refl)
   still starts g st Asks Quiet b e = (refl, refl)
   still starts g st Asks Asks b e = (refl, refl)
-  still (asks j) g st Quiet Quiet b e = (refl, refl)
-  still (asks j) g st Quiet Asks b e = (refl, refl)
-  still (asks j) g st Asks Quiet b e = (refl, refl)
-  still (asks j) g st Asks Asks b e = (refl, refl)
+  still (pulls j) g st Quiet Quiet b e = (refl, refl)
+  still (pulls j) g st Quiet Asks b e = (refl, refl)
+  still (pulls j) g st Asks Quiet b e = (refl, refl)
+  still (pulls j) g st Asks Asks b e = (refl, refl)
   still (cancels j) g st Quiet Quiet b e = rw b (refl, refl)
   still (cancels j) g st Quiet Asks b e = rw b (refl, refl)
   still (cancels j) g st Asks Quiet b e = rw b (refl, refl)
   still (cancels j) g st Asks Asks b e = rw b (refl, refl)
-  still (brings i x) g st w v b e = absurd b
+  still (arrives i x) g st w v b e = absurd b
   still call g st Gone Gone b e = (refl, refl)
   still call g st Gone Quiet b e = cc
   still call g st Gone Asks b e = cc
@@ -108,14 +108,14 @@ module _ (M : Machine Stage Tree) (m : ℕ) where
   gone_here j g st Gone e = (refl, refl)
 
   -- what is held goes out
-  pub out_here : (j : ℕ) (t : Tree) (st : State Stage) (w : OutputState) → w ≡ Quiet → TurnAt M m (asks j) (due_of (t ∷ []) st w) (item.Elem t ∷ []) (due_of [] st w)
+  pub out_here : (j : ℕ) (t : Tree) (st : State Stage) (w : OutputState) → w ≡ Quiet → TurnAt M m (pulls j) (due_of (t ∷ []) st w) (item.Elem t ∷ []) (due_of [] st w)
   out_here j t st w e = rw e (refl, refl)
 
-  pub last_here : (j : ℕ) (t : Tree) (w : OutputState) → w ≡ Quiet → TurnAt M m (asks j) (due_of (t ∷ []) done w) (item.Elem t ∷ given_one (λ i. Complete i) (λ i. item.Ended) (λ k n. refl) m w) shut
+  pub last_here : (j : ℕ) (t : Tree) (w : OutputState) → w ≡ Quiet → TurnAt M m (pulls j) (due_of (t ∷ []) done w) (item.Elem t ∷ given_one (λ i. Complete i) (λ i. item.Ended) (λ k n. refl) m w) shut
   last_here j t w e = rw e (refl, refl)
 
   -- it ends once another got what was held
-  pub ends_asked : (j : ℕ) (w : OutputState) → TurnAt M m (asks j) (due_of [] done w) (given_one (λ i. Complete i) (λ i. item.Ended) (λ k n. refl) m w) shut
+  pub ends_asked : (j : ℕ) (w : OutputState) → TurnAt M m (pulls j) (due_of [] done w) (given_one (λ i. Complete i) (λ i. item.Ended) (λ k n. refl) m w) shut
   ends_asked j Quiet = (refl, refl)
   ends_asked j Asks = (refl, refl)
   ends_asked j Gone = (refl, refl)
@@ -134,34 +134,34 @@ module _ (book : Book) (n : ℕ) (f : MapFn) (node k m : ℕ) where
   M = linear book (numbering n f m)
 
   module _ (t : Tree) (p : ℕ) (is : part_of n (map_value f t) ≡ Ok p) where
-    pub deal_given : (p == m) ≡ true → (w : OutputState) → w ≡ Asks → TurnAt M m (brings 0 (item.Elem t)) (due_of [] (going (at_stage k)) w) (item.Elem t ∷ []) (due_of [] (going (at_stage (k + 1))) Quiet)
+    pub deal_given : (p == m) ≡ true → (w : OutputState) → w ≡ Asks → TurnAt M m (arrives 0 (item.Elem t)) (due_of [] (going (at_stage k)) w) (item.Elem t ∷ []) (due_of [] (going (at_stage (k + 1))) Quiet)
     deal_given e w a = rw a (given_here book n f node m t p k is e)
 
-    pub deal_kept : (p == m) ≡ true → (w : OutputState) → w ≡ Quiet → TurnAt M m (brings 0 (item.Elem t)) (due_of [] (going (at_stage k)) w) [] (due_of (t ∷ []) (going (at_stage (k + 1))) w)
+    pub deal_kept : (p == m) ≡ true → (w : OutputState) → w ≡ Quiet → TurnAt M m (arrives 0 (item.Elem t)) (due_of [] (going (at_stage k)) w) [] (due_of (t ∷ []) (going (at_stage (k + 1))) w)
     deal_kept e w a = rw a (held_here book n f node m t p k is e)
 
-    pub deal_other : (p == m) ≡ false → (w : OutputState) → TurnAt M m (brings 0 (item.Elem t)) (due_of [] (going (at_stage k)) w) [] (due_of [] (going (at_stage (k + 1))) w)
+    pub deal_other : (p == m) ≡ false → (w : OutputState) → TurnAt M m (arrives 0 (item.Elem t)) (due_of [] (going (at_stage k)) w) [] (due_of [] (going (at_stage (k + 1))) w)
     deal_other e Quiet = counted_here book n f node m t p k is e
     deal_other e Asks = counted_here book n f node m t p k is e
     deal_other e Gone = (refl, refl)
 
   pub deal_blamed : (t : Tree) (why : Why) → part_of n (map_value f t) ≡ Err why → (w : OutputState)
-      → TurnAt M m (brings 0 (item.Elem t)) (due_of [] (going (at_stage k)) w) (given_one (λ i. FailOut i (record { stage = node; nth = k + 1; why = why })) (λ i. item.Failed (record { stage = node; nth = k + 1; why = why })) (λ a b. refl) m w) shut
+      → TurnAt M m (arrives 0 (item.Elem t)) (due_of [] (going (at_stage k)) w) (given_one (λ i. FailOut i (record { stage = node; nth = k + 1; why = why })) (λ i. item.Failed (record { stage = node; nth = k + 1; why = why })) (λ a b. refl) m w) shut
   deal_blamed t why is Quiet = blamed_here book n f node m t k why is
   deal_blamed t why is Asks = blamed_here book n f node m t k why is
   deal_blamed t why is Gone = (refl, refl)
 
-  pub end_now : (w : OutputState) → TurnAt M m (brings 0 item.Ended) (due_of [] (going (at_stage k)) w) (given_one (λ i. Complete i) (λ i. item.Ended) (λ a b. refl) m w) shut
+  pub end_now : (w : OutputState) → TurnAt M m (arrives 0 item.Ended) (due_of [] (going (at_stage k)) w) (given_one (λ i. Complete i) (λ i. item.Ended) (λ a b. refl) m w) shut
   end_now Quiet = ends_here book n f node m k
   end_now Asks = ends_here book n f node m k
   end_now Gone = (refl, refl)
 
-  pub end_later : (h : List Tree) (w : OutputState) → TurnAt M m (brings 0 item.Ended) (due_of h (going (at_stage k)) w) [] (due_of h done w)
+  pub end_later : (h : List Tree) (w : OutputState) → TurnAt M m (arrives 0 item.Ended) (due_of h (going (at_stage k)) w) [] (due_of h done w)
   end_later h Quiet = end_waits book n f node m h k
   end_later h Asks = end_waits book n f node m h k
   end_later h Gone = (refl, refl)
 
-  pub fail_now : (h : List Tree) (c : Cause) (w : OutputState) → TurnAt M m (brings 0 (item.Failed c)) (due_of h (going (at_stage k)) w) (given_one (λ i. FailOut i c) (λ i. item.Failed c) (λ a b. refl) m w) shut
+  pub fail_now : (h : List Tree) (c : Cause) (w : OutputState) → TurnAt M m (arrives 0 (item.Failed c)) (due_of h (going (at_stage k)) w) (given_one (λ i. FailOut i c) (λ i. item.Failed c) (λ a b. refl) m w) shut
   fail_now h c Quiet = failure_drops book n f node m h k c
   fail_now h c Asks = failure_drops book n f node m h k c
   fail_now h c Gone = (refl, refl)

@@ -7,10 +7,10 @@ use Rattle.elem_core.specs.declared.item.Item.{Item}
 use Rattle.elem_core.specs.declared.why.Decider.{Decider}
 use Rattle.port_core.specs.declared.act.Act.{Act}
 use Rattle.port_core.specs.declared.view.InView.{InView}
-use Rattle.port_core.specs.declared.view.InView.TheVariants.{Left}
+use Rattle.port_core.specs.declared.view.InView.TheVariants.{Cancelled}
 use Rattle.port_core.specs.declared.view.OutView.{OutView}
-use Rattle.port_core.specs.declared.view.OutView.TheVariants.{Shut}
-use Rattle.port_core.specs.Asking.{AsksStand}
+use Rattle.port_core.specs.declared.view.OutView.TheVariants.{Closed}
+use Rattle.port_core.specs.Asking.{PullsStand}
 use Rattle.port_core.specs.View.{View, in_at, out_at, ActsAllowed, acted_all}
 use Rattle.port_core.specs.Call.{Call, starts, AllIdle, AllUnasked, CallAllowed, seen, Obeys, brought_to, given_on}
 use Rattle.stream_model.specs.declared.kind.Kind.{Kind}
@@ -119,7 +119,7 @@ keeps c first old new v took gave acts live may allowed r turned law =
           (outs_call 0 c (outlets book old) (owed new) v law.taken (λ j. slice_index_or gave j []) acts p.one may allowed (t.turns book) (law.law book)));
     }
 
-stands_of : (c : Call) (old new : OutMachines) (acts : List Act) → Turned c old acts new → AsksStand acts
+stands_of : (c : Call) (old new : OutMachines) (acts : List Act) → Turned c old acts new → PullsStand acts
 stands_of c (Copies l) (Copies m) acts t = t.stands
 stands_of c (Deals l) (Deals m) acts t = t.stands
 stands_of c (Copies l) (Deals m) acts t = absurd t
@@ -141,11 +141,11 @@ laws_start (o ∷ os) n v t g s =
     let here : GaveAs (out_at v n) unended = subst (λ m. GaveAs (out_at v m) unended) z (g 0 (omega arith)) in
     (rw s.0.0 (new_law o.machine o.start (in_at v 0) (out_at v n) t here (λ h. s.0.1)), laws_start os (n + 1) v t (λ i l. let a : n + suc i ≡ n + 1 + i = omega arith in subst (λ m. GaveAs (out_at v m) unended) a (g (suc i) (omega (arith, l)))) s.1)
 
-idle_first : (xs : List InView) → length xs ≡ 1 → AllIdle xs → TookAs (slice_index_or xs 0 Left) unended
+idle_first : (xs : List InView) → length xs ≡ 1 → AllIdle xs → TookAs (slice_index_or xs 0 Cancelled) unended
 idle_first [] l a = absurd (omega (arith, l))
 idle_first (x ∷ xs) l a = rw a.0 refl
 
-unasked_at : (ys : List OutView) (i : ℕ) → i < length ys → AllUnasked ys → GaveAs (slice_index_or ys i Shut) unended
+unasked_at : (ys : List OutView) (i : ℕ) → i < length ys → AllUnasked ys → GaveAs (slice_index_or ys i Closed) unended
 unasked_at [] i l a = absurd (omega (arith, l))
 unasked_at (y ∷ ys) zero l a = rw a.0 refl
 unasked_at (y ∷ ys) (suc i) l a = unasked_at ys i (omega (arith, l)) a.1

@@ -10,7 +10,7 @@ use Rattle.port_core.specs.View.{View, acted_all}
 use Rattle.port_core.specs.Call.{Call, starts, CallAllowed, seen, Obeys, Meets}
 use Rattle.stream_model.specs.declared.kind.Kind.{Kind}
 use Rattle.stream_model.specs.declared.kind.Kind.TheVariants.{Broadcast, Balance, Partition, Unzip}
-use Rattle.stage_core.specs.Handling.{most_acts, AsksAs, Starts, Handles}
+use Rattle.stage_core.specs.Handling.{most_acts, PullsAs, Starts, Handles}
 use Rattle.stage_core.specs.Histories.{given_all, brought_by}
 use Rattle.stage_fans.specs.Seats.{room_for}
 use Rattle.stage_balance.specs.Balancings.{Balancing, BalanceFresh, BalancesAs}
@@ -77,9 +77,9 @@ started (Balances l) (Machines m) acts o t = absurd t
 
 -- ---- its asks and its moves
 
-pub asks_on : (c : Call) (old new : OutLogic) (acts : List Act) → Turned c old acts new → AsksAs c (row old) (OutAsking new) acts
+pub asks_on : (c : Call) (old new : OutLogic) (acts : List Act) → Turned c old acts new → PullsAs c (row old) (OutAsking new) acts
 asks_on c (Machines l) (Machines m) acts t = λ v may r p. tt
-asks_on c (Balances l) (Balances m) acts t = t.asks
+asks_on c (Balances l) (Balances m) acts t = t.pulls
 asks_on c (Machines l) (Balances m) acts t = absurd t
 asks_on c (Balances l) (Machines m) acts t = absurd t
 
@@ -87,7 +87,7 @@ fresh_row : (l : OutLogic) (v : View) → OutFresh l v → row l v
 fresh_row (Machines l) v f = f.row
 fresh_row (Balances l) v f = f.row
 
-asks_first : (old new : OutLogic) (acts : List Act) → Turned starts old acts new → AsksAs starts (OutFresh old) (OutAsking new) acts
+asks_first : (old new : OutLogic) (acts : List Act) → Turned starts old acts new → PullsAs starts (OutFresh old) (OutAsking new) acts
 asks_first old new acts t = λ v may f p. asks_on starts old new acts t v may (fresh_row old v f) p
 
 pub grows_on : (c : Call) (old new : OutLogic) (acts : List Act) → Turned c old acts new → IsPrefix (out_moves old) (out_moves new)
@@ -98,17 +98,17 @@ grows_on c (Balances l) (Machines m) acts t = absurd t
 
 -- where the answer is Ok
 module _ {T E : Type 0} (r : Result T E) (old new : OutLogic) (acts : List Act) where
-  pub asks_ok : (c : Call) → OnOk r (Turned c old acts new) → OnOk r (AsksAs c (row old) (OutAsking new) acts)
+  pub asks_ok : (c : Call) → OnOk r (Turned c old acts new) → OnOk r (PullsAs c (row old) (OutAsking new) acts)
   asks_ok c t = by r t
     where
-      by : (r : Result T E) → OnOk r (Turned c old acts new) → OnOk r (AsksAs c (row old) (OutAsking new) acts)
+      by : (r : Result T E) → OnOk r (Turned c old acts new) → OnOk r (PullsAs c (row old) (OutAsking new) acts)
       by (Ok x) t = asks_on c old new acts t
       by (Err e) t = tt
 
-  pub asks_first_ok : OnOk r (Turned starts old acts new) → OnOk r (AsksAs starts (OutFresh old) (OutAsking new) acts)
+  pub asks_first_ok : OnOk r (Turned starts old acts new) → OnOk r (PullsAs starts (OutFresh old) (OutAsking new) acts)
   asks_first_ok t = by r t
     where
-      by : (r : Result T E) → OnOk r (Turned starts old acts new) → OnOk r (AsksAs starts (OutFresh old) (OutAsking new) acts)
+      by : (r : Result T E) → OnOk r (Turned starts old acts new) → OnOk r (PullsAs starts (OutFresh old) (OutAsking new) acts)
       by (Ok x) t = asks_first old new acts t
       by (Err e) t = tt
 

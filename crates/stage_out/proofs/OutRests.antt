@@ -5,12 +5,12 @@ use Rattle.elem_core.specs.Tree.{Tree}
 use Rattle.elem_core.specs.declared.item.Item.{Item}
 use Rattle.elem_core.specs.declared.item.Item.TheVariants as item
 use Rattle.port_core.specs.declared.view.InView.{InView}
-use Rattle.port_core.specs.declared.view.InView.TheVariants.{Idle, Waiting, Over, Left}
+use Rattle.port_core.specs.declared.view.InView.TheVariants.{Idle, Pulled, Finished, Cancelled}
 use Rattle.port_core.specs.declared.view.OutView.{OutView}
-use Rattle.port_core.specs.declared.view.OutView.TheVariants.{Unasked, Asked, Shut, Refused}
+use Rattle.port_core.specs.declared.view.OutView.TheVariants as outlet
 use Rattle.port_core.specs.View as port
 use Rattle.port_core.specs.View.{IsOutOpen}
-use Rattle.port_core.specs.Call.{Call, starts, asks, brings, cancels, AllIdle, MayCome, CallAllowed, Meets}
+use Rattle.port_core.specs.Call.{Call, starts, pulls, arrives, cancels, AllIdle, MayCome, CallAllowed, Meets}
 use Rattle.stream_model.specs.Linear.{Book, Stage}
 use Rattle.stream_model.specs.Outlook.{End}
 use Rattle.stream_picture.specs.View.{SomeWire}
@@ -141,44 +141,44 @@ stage_rests book (Deals l) v took gave taken e r is law = deals_stand book l v t
 
 -- ---- a call finds an open port
 
-no_in : (xs : List InView) (i : ℕ) (x : Item) → OneInClosed xs → MayCome x (slice_index_or xs i Left) → ⊥
+no_in : (xs : List InView) (i : ℕ) (x : Item) → OneInClosed xs → MayCome x (slice_index_or xs i Cancelled) → ⊥
 no_in [] i x c m = c
 no_in (y ∷ z ∷ xs) i x c m = c
 no_in (Idle ∷ []) i x c m = c
-no_in (Waiting ∷ []) i x c m = c
-no_in (Over ∷ []) zero (item.Elem t) c m = cc
-no_in (Over ∷ []) zero item.Ended c m = m
-no_in (Over ∷ []) zero (item.Failed d) c m = m
-no_in (Left ∷ []) zero (item.Elem t) c m = cc
-no_in (Left ∷ []) zero item.Ended c m = m
-no_in (Left ∷ []) zero (item.Failed d) c m = m
-no_in (Over ∷ []) (suc i) (item.Elem t) c m = cc
-no_in (Over ∷ []) (suc i) item.Ended c m = m
-no_in (Over ∷ []) (suc i) (item.Failed d) c m = m
-no_in (Left ∷ []) (suc i) (item.Elem t) c m = cc
-no_in (Left ∷ []) (suc i) item.Ended c m = m
-no_in (Left ∷ []) (suc i) (item.Failed d) c m = m
+no_in (Pulled ∷ []) i x c m = c
+no_in (Finished ∷ []) zero (item.Elem t) c m = cc
+no_in (Finished ∷ []) zero item.Ended c m = m
+no_in (Finished ∷ []) zero (item.Failed d) c m = m
+no_in (Cancelled ∷ []) zero (item.Elem t) c m = cc
+no_in (Cancelled ∷ []) zero item.Ended c m = m
+no_in (Cancelled ∷ []) zero (item.Failed d) c m = m
+no_in (Finished ∷ []) (suc i) (item.Elem t) c m = cc
+no_in (Finished ∷ []) (suc i) item.Ended c m = m
+no_in (Finished ∷ []) (suc i) (item.Failed d) c m = m
+no_in (Cancelled ∷ []) (suc i) (item.Elem t) c m = cc
+no_in (Cancelled ∷ []) (suc i) item.Ended c m = m
+no_in (Cancelled ∷ []) (suc i) (item.Failed d) c m = m
 
 no_idle : (xs : List InView) → OneInClosed xs → AllIdle xs → ⊥
 no_idle [] c a = c
 no_idle (y ∷ z ∷ xs) c a = c
 no_idle (Idle ∷ []) c a = c
-no_idle (Waiting ∷ []) c a = c
-no_idle (Over ∷ []) c a = let x : Over ≡ Idle = a.0 in cc
-no_idle (Left ∷ []) c a = let x : Left ≡ Idle = a.0 in cc
+no_idle (Pulled ∷ []) c a = c
+no_idle (Finished ∷ []) c a = let x : Finished ≡ Idle = a.0 in cc
+no_idle (Cancelled ∷ []) c a = let x : Cancelled ≡ Idle = a.0 in cc
 
-no_out : (ys : List OutView) (j : ℕ) → OutsClosed ys → IsOutOpen (slice_index_or ys j Shut) → ⊥
+no_out : (ys : List OutView) (j : ℕ) → OutsClosed ys → IsOutOpen (slice_index_or ys j outlet.Closed) → ⊥
 no_out [] j c o = o
-no_out (Unasked ∷ ys) zero c o = c.0
-no_out (Asked ∷ ys) zero c o = c.0
-no_out (Shut ∷ ys) zero c o = o
-no_out (Refused ∷ ys) zero c o = o
+no_out (outlet.Unpulled ∷ ys) zero c o = c.0
+no_out (outlet.Available ∷ ys) zero c o = c.0
+no_out (outlet.Closed ∷ ys) zero c o = o
+no_out (outlet.Cancelled ∷ ys) zero c o = o
 no_out (y ∷ ys) (suc j) c o = no_out ys j c.1 o
 
 none_called : (call : Call) (v : port.View) → CallAllowed call v → AllClosed v → ⊥
 none_called starts v may c = no_idle v.ins c.0 may.0
-none_called (asks j) v may c = no_out v.outs j c.1 (subst IsOutOpen (sym may) tt)
-none_called (brings i x) v may c = no_in v.ins i x c.0 may
+none_called (pulls j) v may c = no_out v.outs j c.1 (subst IsOutOpen (sym may) tt)
+none_called (arrives i x) v may c = no_in v.ins i x c.0 may
 none_called (cancels j) v may c = no_out v.outs j c.1 may
 
 pub called_is_live : (l : OutMachines) (call : Call) (v : port.View) → CallAllowed call v → row l v → is_live l ≡ true

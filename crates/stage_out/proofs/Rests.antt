@@ -12,9 +12,9 @@ use Rattle.stage_law.specs.Outs.{OutsLaw}
 use Rattle.stage_out.proofs.Agreeing.{copies_run}
 use Rattle.elem_core.specs.Tree.{Tree}
 use Rattle.port_core.specs.declared.view.InView.{InView}
-use Rattle.port_core.specs.declared.view.InView.TheVariants.{Idle, Waiting, Over, Left}
+use Rattle.port_core.specs.declared.view.InView.TheVariants.{Idle, Pulled, Finished, Cancelled}
 use Rattle.port_core.specs.declared.view.OutView.{OutView}
-use Rattle.port_core.specs.declared.view.OutView.TheVariants.{Unasked, Asked, Shut, Refused}
+use Rattle.port_core.specs.declared.view.OutView.TheVariants as outlet
 use Rattle.port_core.specs.View as port
 use Rattle.stream_picture.specs.View.{EachWire, SomeWire}
 use Rattle.stream_picture.specs.Rests.{IsShut, IsUnasked, AllOpenAsked, CopiesAll, CopiesSome, OneToMany, BroadcastRests}
@@ -60,24 +60,24 @@ abbrev CopyRests : port.View → List Tree → List (List Tree) → Type 0
 CopyRests v l gs = (EachWire IsShut (own_ins v.ins l) × EachWire IsShut (own_outs v.outs gs)) ⊎ OneToMany BroadcastRests (own_ins v.ins l) (own_outs v.outs gs)
 
 open_rests : (q : ℕ) (ws : List OutputState) (l : List Tree) (gs : List (List Tree)) → q ≡ quiet_count ws → Even ws l gs → CopyRests (record { ins = input_by q ∷ []; outs = map want_view ws }) l gs
-open_rests zero ws l gs h e = inr (inl (all_asked ws gs (sym h), (refl, refl), copies_all Waiting ws l gs e))
+open_rests zero ws l gs h e = inr (inl (all_asked ws gs (sym h), (refl, refl), copies_all Pulled ws l gs e))
 open_rests (suc q) ws l gs h e = inr (inr (some_unasked ws l gs e (omega (arith, h)), inr (refl, refl), copies_some Idle ws l gs e))
 
 pub ins_shut : (xs : List InView) (l : List Tree) → OneInClosed xs → EachWire IsShut (own_ins xs l)
-ins_shut (Over ∷ []) l h = (refl, tt)
-ins_shut (Left ∷ []) l h = (refl, tt)
+ins_shut (Finished ∷ []) l h = (refl, tt)
+ins_shut (Cancelled ∷ []) l h = (refl, tt)
 ins_shut (Idle ∷ []) l h = absurd h
-ins_shut (Waiting ∷ []) l h = absurd h
+ins_shut (Pulled ∷ []) l h = absurd h
 ins_shut [] l h = absurd h
 ins_shut (x ∷ y ∷ xs) l h = absurd h
 
 pub outs_shut : (ys : List OutView) (gs : List (List Tree)) → OutsClosed ys → EachWire IsShut (own_outs ys gs)
 outs_shut [] gs h = tt
 outs_shut (y ∷ ys) [] h = tt
-outs_shut (Shut ∷ ys) (g ∷ gs) h = (refl, outs_shut ys gs h.1)
-outs_shut (Refused ∷ ys) (g ∷ gs) h = (refl, outs_shut ys gs h.1)
-outs_shut (Unasked ∷ ys) (g ∷ gs) h = absurd h.0
-outs_shut (Asked ∷ ys) (g ∷ gs) h = absurd h.0
+outs_shut (outlet.Closed ∷ ys) (g ∷ gs) h = (refl, outs_shut ys gs h.1)
+outs_shut (outlet.Cancelled ∷ ys) (g ∷ gs) h = (refl, outs_shut ys gs h.1)
+outs_shut (outlet.Unpulled ∷ ys) (g ∷ gs) h = absurd h.0
+outs_shut (outlet.Available ∷ ys) (g ∷ gs) h = absurd h.0
 
 pub copy_rests : (l : CopyLogic) (v : port.View) (took : List Tree) (gs : List (List Tree)) → row l v → Even l.outs took gs → CopyRests v took gs
 copy_rests l v took gs r e = by_live l.live r

@@ -4,7 +4,7 @@ use Rattle.elem_core.specs.Tree.{Tree}
 use Rattle.port_core.specs.declared.act.Act.{Act}
 use Rattle.port_core.specs.declared.act.Act.TheVariants.{Push}
 use Rattle.port_core.specs.declared.view.InView.{InView}
-use Rattle.port_core.specs.declared.view.InView.TheVariants.{Idle, Waiting}
+use Rattle.port_core.specs.declared.view.InView.TheVariants.{Idle, Pulled}
 use Rattle.stream_model.specs.Machine.{going, adds, Run, Machine}
 use Rattle.stream_model.specs.Linear.{Stage}
 use Rattle.stage_law.specs.Held.{Held, owing, shut}
@@ -38,7 +38,7 @@ outlets part n s (w ∷ ws) = record { machine = copying (part n); start = nothi
 
 -- the input is asked where no open output is unasked
 abbrev pub input_by : ℕ → InView
-input_by zero = Waiting
+input_by zero = Pulled
 input_by (suc n) = Idle
 
 -- how many outputs are open and unasked

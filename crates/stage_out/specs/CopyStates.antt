@@ -5,7 +5,7 @@ use Rattle.elem_core.specs.Values.{left_half, right_half}
 use Rattle.port_core.specs.declared.act.Act.{Act}
 use Rattle.port_core.specs.declared.act.Act.TheVariants.{Pull, Cancel}
 use Rattle.port_core.specs.View.{View}
-use Rattle.port_core.specs.Asking.{AsksStand}
+use Rattle.port_core.specs.Asking.{PullsStand}
 use Rattle.port_core.specs.Call.{Call}
 use Rattle.stream_model.specs.Linear.{Stage}
 use Rattle.stage_law.specs.Outs.{TurnsAt}
@@ -51,7 +51,7 @@ pub record Turned (call : Call) (old : CopyLogic) (acts : List Act) (new : CopyL
   pub turns : (s : Stage) → TurnsAt 0 call (outlets (part_by old.halves) 0 s old.outs) acts (owed new.live s new.outs)
   pub halves : new.halves ≡ old.halves
   pub outputs : length new.outs ≡ length old.outs
-  pub stands : AsksStand acts
+  pub stands : PullsStand acts
 
 -- what a handler makes of the stage, and its actions
 pub record Does (new : CopyLogic) (acts : List Act) (to : CopyLogic) (list : List Act) : Type 0 where

@@ -7,7 +7,7 @@ use Rattle.elem_core.specs.declared.why.Decider.{Decider}
 use Rattle.elem_core.specs.declared.why.Decider.TheVariants.{Stop}
 use Rattle.port_core.specs.declared.act.Act.{Act}
 use Rattle.port_core.specs.View.{View, unpulled_outs}
-use Rattle.port_core.specs.Asking.{AsksStand}
+use Rattle.port_core.specs.Asking.{PullsStand}
 use Rattle.port_core.specs.Call.{Call}
 use Rattle.stream_model.specs.declared.kind.Kind.{Kind}
 use Rattle.stream_model.specs.declared.kind.Kind.TheVariants.{Broadcast, Partition, Unzip}
@@ -99,7 +99,7 @@ pub record TurnsEach (call : Call) (old : OutMachines) (acts : List Act) (new : 
   pub same : (book : Book) → owe (outlets book old) (owed new) ≡ outlets book new
   pub outputs : length (owed new) ≡ length (owed old)
   pub rests : (is os : List picture.View) → rests_as new is os → rests_as old is os
-  pub stands : AsksStand acts
+  pub stands : PullsStand acts
 
 -- ---- a new logic
 

@@ -9,9 +9,9 @@ use Rattle.elem_core.specs.declared.function.MapFn.{MapFn}
 use Rattle.port_core.specs.declared.act.Act.{Act}
 use Rattle.port_core.specs.declared.act.Act.TheVariants.{Pull, Push, Complete, FailOut, Cancel}
 use Rattle.port_core.specs.declared.view.InView.{InView}
-use Rattle.port_core.specs.declared.view.InView.TheVariants.{Idle, Waiting, Over}
+use Rattle.port_core.specs.declared.view.InView.TheVariants.{Idle, Pulled, Finished}
 use Rattle.port_core.specs.View.{View}
-use Rattle.port_core.specs.Asking.{AsksStand}
+use Rattle.port_core.specs.Asking.{PullsStand}
 use Rattle.port_core.specs.Call.{Call}
 use Rattle.stream_model.specs.Machine.{State, going, done}
 use Rattle.stream_model.specs.Linear.{Book, Stage, numbering, linear, begin_work}
@@ -38,8 +38,8 @@ pub record PartitionLogic : Type 0 where
   pub taken : ℕ
 
 abbrev pub input_of : Bool → Bool → InView
-input_of true w = Over
-input_of false true = Waiting
+input_of true w = Finished
+input_of false true = Pulled
 input_of false false = Idle
 
 abbrev pub view_of : PartitionLogic → View
@@ -111,7 +111,7 @@ pub record Turned (call : Call) (old : PartitionLogic) (acts : List Act) (new : 
   pub parts : new.parts ≡ old.parts
   pub fun : new.fun ≡ old.fun
   pub outputs : length new.outs ≡ length old.outs
-  pub stands : AsksStand acts
+  pub stands : PullsStand acts
 
 -- what a handler makes of the stage, and its actions
 pub record Parts (new : PartitionLogic) (acts : List Act) (to : PartitionLogic) (list : List Act) : Type 0 where
@@ -144,7 +144,7 @@ with_asks j l = record l { outs = slice_set l.outs j Asks; asking = l.asking + 1
 
 -- output j asks, and gets nothing now
 pub data Noted (j : ℕ) (old new : PartitionLogic) (acts : List Act) : Type 0 where
-  pulls : old.held ≡ None → old.waits ≡ false → new ≡ record (with_asks j old) { waits = true } → acts ≡ Pull 0 ∷ [] → Noted j old new acts
+  pulls_input : old.held ≡ None → old.waits ≡ false → new ≡ record (with_asks j old) { waits = true } → acts ≡ Pull 0 ∷ [] → Noted j old new acts
   rests : (old.held ≡ None → old.waits ≡ true) → new ≡ with_asks j old → acts ≡ [] → Noted j old new acts
 
 -- output j asks

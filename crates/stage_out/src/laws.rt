@@ -12,7 +12,7 @@ ghost use Rattle.stream_model.specs.Graph.{Graph};
 ghost use Rattle.stream_model.specs.Linear.{Book};
 ghost use Rattle.stream_model.specs.Node.{World, head_of, node_outlook};
 ghost use Rattle.stream_model.specs.Outlook.{Outlook, End, Agrees};
-ghost use Rattle.stage_core.specs.Handling.{Starts, Handles, AsksAs, most_acts};
+ghost use Rattle.stage_core.specs.Handling.{Starts, Handles, PullsAs, most_acts};
 ghost use Rattle.stage_law.specs.Held.{told};
 ghost use Rattle.stage_law.specs.Outs.{OutsLaw};
 ghost use Rattle.stage_out.specs.declared.machines.OutMachines.{OutMachines};
@@ -52,7 +52,7 @@ pub fn a_stage_rests()
 pub fn calls_keep_the_law()
     ensures starts { (old new : OutLogic) (acts : List Act) → Obeys starts (row old) (row new) acts → Turned starts old acts new → Starts row OutLaw OutFresh old new acts }
     ensures handles { (call : Call) (old new : OutLogic) (acts : List Act) → Obeys call (row old) (row new) acts → Turned call old acts new → Handles row OutLaw call old new acts }
-    ensures asks { (call : Call) (old new : OutLogic) (acts : List Act) → Turned call old acts new → AsksAs call (row old) (OutAsking new) acts }
+    ensures pulls { (call : Call) (old new : OutLogic) (acts : List Act) → Turned call old acts new → PullsAs call (row old) (OutAsking new) acts }
     ensures grows { (call : Call) (old new : OutLogic) (acts : List Act) → Turned call old acts new → IsPrefix (out_moves old) (out_moves new) }
 {}
 

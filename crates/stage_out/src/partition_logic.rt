@@ -3,7 +3,7 @@ ghost use Rattle.elem_core.specs.Answer.{Answers};
 ghost use Rattle.elem_core.specs.Values.{map_value, part_of};
 ghost use Rattle.elem_core.specs.declared.item.Item.TheVariants as item;
 ghost use Rattle.port_core.specs.declared.act.Act.TheVariants as act;
-ghost use Rattle.port_core.specs.Call.{Obeys, Meets, starts, asks, brings, cancels};
+ghost use Rattle.port_core.specs.Call.{Obeys, Meets, starts, pulls, arrives, cancels};
 ghost use Rattle.stream_model.specs.declared.kind.TheConstants.{MAX_FAN};
 ghost use Rattle.stage_fans.specs.declared.outs.OutputState.TheVariants.{Quiet, Asks, Gone};
 ghost use Rattle.stage_fans.specs.Seats.{room_for};
@@ -98,12 +98,12 @@ impl PartitionLogic {
     /// Output `port` was asked.
     pub fn on_pull(&mut self, port: u8, acts: &mut Acts) -> Result<(), NoMemory>
         requires live { self.old.live ≡ true }
-        requires meets { Meets (asks port) (row self.old) }
+        requires meets { Meets (pulls port) (row self.old) }
         requires empty { acts.old.items ≡ [] }
         requires room { room_for (length self.old.outs) ≤ acts.old.room }
         ensures answers { IsOk result }
-        ensures ports { OnOk result (Obeys (asks port) (row self.old) (row self.new) acts.new.items) }
-        ensures gives { OnOk result (Turned (asks port) self.old acts.new.items self.new) }
+        ensures ports { OnOk result (Obeys (pulls port) (row self.old) (row self.new) acts.new.items) }
+        ensures gives { OnOk result (Turned (pulls port) self.old acts.new.items self.new) }
         ensures room { acts.new.room ≡ acts.old.room }
     {
         self.ask(port, acts);
@@ -119,11 +119,11 @@ impl PartitionLogic {
         acts: &mut Acts,
     ) -> Result<(), NoMemory>
         requires live { self.old.live ≡ true }
-        requires meets { Meets (brings port (item.Elem e)) (row self.old) }
+        requires meets { Meets (arrives port (item.Elem e)) (row self.old) }
         requires empty { acts.old.items ≡ [] }
         requires room { room_for (length self.old.outs) ≤ acts.old.room }
-        ensures ports { OnOk result (Obeys (brings port (item.Elem e)) (row self.old) (row self.new) acts.new.items) }
-        ensures gives { OnOk result (Turned (brings port (item.Elem e)) self.old acts.new.items self.new) }
+        ensures ports { OnOk result (Obeys (arrives port (item.Elem e)) (row self.old) (row self.new) acts.new.items) }
+        ensures gives { OnOk result (Turned (arrives port (item.Elem e)) self.old acts.new.items self.new) }
         ensures room { OnOk result (acts.new.room ≡ acts.old.room) }
     {
         let _port = port;
@@ -133,12 +133,12 @@ impl PartitionLogic {
     /// The input has ended.
     pub fn on_finish(&mut self, port: u8, acts: &mut Acts) -> Result<(), NoMemory>
         requires live { self.old.live ≡ true }
-        requires meets { Meets (brings port item.Ended) (row self.old) }
+        requires meets { Meets (arrives port item.Ended) (row self.old) }
         requires empty { acts.old.items ≡ [] }
         requires room { room_for (length self.old.outs) ≤ acts.old.room }
         ensures answers { IsOk result }
-        ensures ports { OnOk result (Obeys (brings port item.Ended) (row self.old) (row self.new) acts.new.items) }
-        ensures gives { OnOk result (Turned (brings port item.Ended) self.old acts.new.items self.new) }
+        ensures ports { OnOk result (Obeys (arrives port item.Ended) (row self.old) (row self.new) acts.new.items) }
+        ensures gives { OnOk result (Turned (arrives port item.Ended) self.old acts.new.items self.new) }
         ensures room { acts.new.room ≡ acts.old.room }
     {
         let _port = port;
@@ -149,12 +149,12 @@ impl PartitionLogic {
     /// The input has failed.
     pub fn on_fail(&mut self, port: u8, cause: Cause, acts: &mut Acts) -> Result<(), NoMemory>
         requires live { self.old.live ≡ true }
-        requires meets { Meets (brings port (item.Failed cause)) (row self.old) }
+        requires meets { Meets (arrives port (item.Failed cause)) (row self.old) }
         requires empty { acts.old.items ≡ [] }
         requires room { room_for (length self.old.outs) ≤ acts.old.room }
         ensures answers { IsOk result }
-        ensures ports { OnOk result (Obeys (brings port (item.Failed cause)) (row self.old) (row self.new) acts.new.items) }
-        ensures gives { OnOk result (Turned (brings port (item.Failed cause)) self.old acts.new.items self.new) }
+        ensures ports { OnOk result (Obeys (arrives port (item.Failed cause)) (row self.old) (row self.new) acts.new.items) }
+        ensures gives { OnOk result (Turned (arrives port (item.Failed cause)) self.old acts.new.items self.new) }
         ensures room { acts.new.room ≡ acts.old.room }
     {
         let _port = port;

@@ -7,11 +7,11 @@ use Rattle.elem_core.specs.Tree.{Tree}
 use Rattle.elem_core.specs.declared.item.Item.{Item}
 use Rattle.port_core.specs.declared.act.Act.{Act}
 use Rattle.port_core.specs.declared.view.InView.{InView}
-use Rattle.port_core.specs.declared.view.InView.TheVariants.{Idle, Waiting, Over}
+use Rattle.port_core.specs.declared.view.InView.TheVariants.{Idle, Pulled, Finished}
 use Rattle.port_core.specs.declared.view.OutView.{OutView}
-use Rattle.port_core.specs.declared.view.OutView.TheVariants.{Unasked, Asked, Shut}
+use Rattle.port_core.specs.declared.view.OutView.TheVariants as outlet
 use Rattle.port_core.specs.View.{View, OneOneOf, IsInOpen, IsOutOpen, ActsAllowed, acted_all, unpulled_ports}
-use Rattle.port_core.specs.Call.{Call, starts, asks, brings, cancels, CallAllowed, seen, Obeys, given_on}
+use Rattle.port_core.specs.Call.{Call, starts, pulls, arrives, cancels, CallAllowed, seen, Obeys, given_on}
 use Rattle.stream_model.specs.Node.{head_of}
 use Rattle.stream_model.specs.Outlook.{Outlook, End, unended, ended, failed, Agrees}
 use Rattle.stream_model.specs.FanIn.{Inflow, AllAgree}
@@ -38,8 +38,8 @@ use Rattle.stage_recover.proofs.RecoverTurns.{recover_new, recover_call, recover
 
 some_open : (call : Call) (x : InView) (y : OutView) → CallAllowed call (record { ins = x ∷ []; outs = y ∷ [] }) → IsInOpen x ⊎ IsOutOpen y
 some_open starts x y h = inl (rw h.0.0 tt)
-some_open (asks j) x y h = may_come (asks j) x y (λ e. cc) h
-some_open (brings i b) x y h = may_come (brings i b) x y (λ e. cc) h
+some_open (pulls j) x y h = may_come (pulls j) x y (λ e. cc) h
+some_open (arrives i b) x y h = may_come (arrives i b) x y (λ e. cc) h
 some_open (cancels j) x y h = may_come (cancels j) x y (λ e. cc) h
 
 open_at : (l : Recover) (p : Phase) (over asked : Bool) (x : InView) (y : OutView) → (p ≡ New → ⊥) → (IsInOpen x ⊎ IsOutOpen y) → recover_at l p over asked x y → p ≡ Open
@@ -64,10 +64,10 @@ held_moves : (l : Recover) (v : View) → row l v → recover_moves (held_of l) 
 held_moves l v r = by_lists v.ins v.outs r
   where
     by_ports : (p : Phase) (over asked : Bool) (x : InView) (y : OutView) → recover_at l p over asked x y → recover_moves (held_in p over l.passed l.moves) ≡ l.moves
-    by_ports New false false Idle Unasked r = sym r.0
-    by_ports Open false true Waiting Asked r = sym r.0
-    by_ports Open false false Idle Unasked r = sym r.0
-    by_ports Open true false Over Unasked r = sym r.0
+    by_ports New false false Idle outlet.Unpulled r = sym r.0
+    by_ports Open false true Pulled outlet.Available r = sym r.0
+    by_ports Open false false Idle outlet.Unpulled r = sym r.0
+    by_ports Open true false Finished outlet.Unpulled r = sym r.0
     by_ports Closed over asked x y r = refl
     by_ports p over asked x y r = absurd r
 
@@ -112,11 +112,11 @@ handled c old new acts o t = record {
 
 -- what a new one knows of its ports, and that it has an element of its own
 record News (own : Option Tree) (xs : List InView) (ys : List OutView) : Type 0 where
-  outs : ys ≡ Unasked ∷ []
+  outs : ys ≡ outlet.Unpulled ∷ []
   some : own ≢ None
 
 new_ports : (l : Recover) (p : Phase) (over asked : Bool) (x : InView) (y : OutView) → p ≡ New → recover_at l p over asked x y → News l.own (x ∷ []) (y ∷ [])
-new_ports l New false false Idle Unasked e r = record { outs = refl; some = r.1 }
+new_ports l New false false Idle outlet.Unpulled e r = record { outs = refl; some = r.1 }
 new_ports l New over asked x y e r = absurd r
 new_ports l Open over asked x y e r = cc
 new_ports l Closed over asked x y e r = cc
@@ -146,7 +146,7 @@ fresh_law l v took gave may f a b m n =
       noted = ap recover_moves owes ∙ sym f.unmoved;
       by = histories.begun (RecoverKeeps own.0 (held_of l)) v took gave a b m (n ∙ ap length new.outs)
           (subst (λ x. PortsLaw (RecoverKeeps own.0 x) v (λ _. []) []) (sym owes)
-          (recover_new own.0 v one may.0 (subst (λ ys. GaveAs (slice_index_or ys 0 Shut) unended) (sym new.outs) refl)));
+          (recover_new own.0 v one may.0 (subst (λ ys. GaveAs (slice_index_or ys 0 outlet.Closed) unended) (sym new.outs) refl)));
     }
 
 pub started : (old new : Recover) (acts : List Act) → Obeys starts (row old) (row new) acts → stage.Turned starts old acts new → Starts RecoverRow RecoversAs RecoverFresh old new acts

@@ -12,7 +12,7 @@ use Rattle.stream_model.specs.FanIn.{Inflow}
 use Rattle.stream_model.specs.Picks.{Turned, RecoverStands}
 use Rattle.port_core.specs.declared.act.Act.{Act}
 use Rattle.port_core.specs.View.{View, out_at, ActsAllowed, acted_all}
-use Rattle.port_core.specs.Call.{Call, starts, asks, brings, cancels, AllIdle, CallAllowed, seen, brought_to, given_on}
+use Rattle.port_core.specs.Call.{Call, starts, pulls, arrives, cancels, AllIdle, CallAllowed, seen, brought_to, given_on}
 use Rattle.stage_law.specs.Held.{told}
 use Rattle.stage_law.specs.Law.{GaveAs}
 use Rattle.stage_law.specs.Inflows.{nothing, joined, joined_at, joined_all, coming}
@@ -119,12 +119,12 @@ module _ (t : Tree) where
   stepped : (call : Call) (x new : RecoverHeld) (f : Inflow) (g : List Tree) (e : End) (out : List Item) → RecoverKeeps t x (f ∷ []) g e → RecoverTurnAt t call x out new → Stepped (RecoverKeeps t new) (joined f (coming call 0) ∷ []) g out
   stepped call (shut moves) new f g e out k s = absurd s
   stepped starts (passes n) new f g e out k s = rw (joined_is f nothing k.1.0) (steps n f nothing g out k.1.1.0 k.1.1.1 new s)
-  stepped (asks j) (passes n) new f g e out k s = rw (joined_is f nothing k.1.0) (steps n f nothing g out k.1.1.0 k.1.1.1 new s)
-  stepped (brings i b) (passes n) new f g e out k s = rw (joined_is f (coming (brings i b) 0) k.1.0) (steps n f (coming (brings i b) 0) g out k.1.1.0 k.1.1.1 new s)
+  stepped (pulls j) (passes n) new f g e out k s = rw (joined_is f nothing k.1.0) (steps n f nothing g out k.1.1.0 k.1.1.1 new s)
+  stepped (arrives i b) (passes n) new f g e out k s = rw (joined_is f (coming (arrives i b) 0) k.1.0) (steps n f (coming (arrives i b) 0) g out k.1.1.0 k.1.1.1 new s)
   stepped (cancels j) (passes n) new f g e out k s = rw (still f) (leaves [] f g out new (omega arith) (same f g k.1.1.0) s)
   stepped starts (turned n) new f g e out k s = rw (still f) (owed n f g out new k.1.0 k.1.1 s)
-  stepped (asks j) (turned n) new f g e out k s = rw (still f) (owed n f g out new k.1.0 k.1.1 s)
-  stepped (brings i b) (turned n) new f g e out k s = rw (joined_broken f (coming (brings i b) 0) k.1.0.1.0 k.1.0.1.1) (owed n f g out new k.1.0 k.1.1 s)
+  stepped (pulls j) (turned n) new f g e out k s = rw (still f) (owed n f g out new k.1.0 k.1.1 s)
+  stepped (arrives i b) (turned n) new f g e out k s = rw (joined_broken f (coming (arrives i b) 0) k.1.0.1.0 k.1.0.1.1) (owed n f g out new k.1.0 k.1.1 s)
   stepped (cancels j) (turned n) new f g e out k s = rw (still f) (leaves (n ∷ []) f g out new (omega arith) (stood n f g k.1.0 k.1.1) s)
 
   open_end : (call : Call) (x new : RecoverHeld) (f : Inflow) (g : List Tree) (e : End) (out : List Item) → RecoverKeeps t x (f ∷ []) g e → RecoverTurnAt t call x out new → e ≡ unended
@@ -207,12 +207,12 @@ module _ (t : Tree) where
   pub recover_residual : (call : Call) (x : RecoverHeld) (out : List Item) (new : RecoverHeld) → RecoverTurnAt t call x out new → RecoverResidual t call x out new
   recover_residual call (shut m) out new s = absurd s
   recover_residual starts (passes n) out new s = residual_step n (coming starts 0) out new s
-  recover_residual (asks j) (passes n) out new s = residual_step n (coming (asks j) 0) out new s
-  recover_residual (brings i b) (passes n) out new s = residual_step n (coming (brings i b) 0) out new s
+  recover_residual (pulls j) (passes n) out new s = residual_step n (coming (pulls j) 0) out new s
+  recover_residual (arrives i b) (passes n) out new s = residual_step n (coming (arrives i b) 0) out new s
   recover_residual (cancels j) (passes n) out new s = refused [] out new s
   recover_residual starts (turned n) out new s = own_step n out new s
-  recover_residual (asks j) (turned n) out new s = own_step n out new s
-  recover_residual (brings i b) (turned n) out new s = own_step n out new s
+  recover_residual (pulls j) (turned n) out new s = own_step n out new s
+  recover_residual (arrives i b) (turned n) out new s = own_step n out new s
   recover_residual (cancels j) (turned n) out new s = refused (n ∷ []) out new s
 
   -- ---- what it may have given

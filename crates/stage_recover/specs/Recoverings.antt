@@ -4,11 +4,11 @@ use Rattle.elem_core.specs.Tree.{Tree}
 use Rattle.elem_core.specs.declared.item.Item.{Item}
 use Rattle.port_core.specs.declared.act.Act.{Act}
 use Rattle.port_core.specs.declared.view.InView.{InView}
-use Rattle.port_core.specs.declared.view.InView.TheVariants.{Idle, Waiting, Over}
+use Rattle.port_core.specs.declared.view.InView.TheVariants.{Idle, Pulled, Finished}
 use Rattle.port_core.specs.declared.view.OutView.{OutView}
-use Rattle.port_core.specs.declared.view.OutView.TheVariants.{Unasked, Asked}
+use Rattle.port_core.specs.declared.view.OutView.TheVariants.{Unpulled, Available}
 use Rattle.port_core.specs.View.{View, OneOne}
-use Rattle.port_core.specs.Asking.{AsksStand}
+use Rattle.port_core.specs.Asking.{PullsStand}
 use Rattle.port_core.specs.Call.{Call, given_on}
 use Rattle.stage_fans.specs.PortsLaws.{InPortsLaw}
 use Rattle.stage_law.specs.Row.{BothClosed}
@@ -30,10 +30,10 @@ pub record Recover : Type 0 where
 -- Before a failure it waits exactly where its output is asked, and has no move; then its output is not asked, and its move
 -- tells how many elements passed. It has its own element until it closes.
 abbrev pub recover_at : Recover → Phase → Bool → Bool → InView → OutView → Type 0
-recover_at l New false false Idle Unasked = (l.moves ≡ []) × (l.own ≢ None)
-recover_at l Open false true Waiting Asked = (l.moves ≡ []) × (l.own ≢ None)
-recover_at l Open false false Idle Unasked = (l.moves ≡ []) × (l.own ≢ None)
-recover_at l Open true false Over Unasked = (l.moves ≡ l.passed ∷ []) × (l.own ≢ None)
+recover_at l New false false Idle Unpulled = (l.moves ≡ []) × (l.own ≢ None)
+recover_at l Open false true Pulled Available = (l.moves ≡ []) × (l.own ≢ None)
+recover_at l Open false false Idle Unpulled = (l.moves ≡ []) × (l.own ≢ None)
+recover_at l Open true false Finished Unpulled = (l.moves ≡ l.passed ∷ []) × (l.own ≢ None)
 recover_at l Closed over asked i o = BothClosed i o
 recover_at l _ _ _ _ _ = ⊥
 
@@ -55,7 +55,7 @@ held_of l = held_in l.phase l.over l.passed l.moves
 pub record Turned (call : Call) (old : Recover) (acts : List Act) (new : Recover) : Type 0 where
   pub turn : (t : Tree) → old.own ≡ Some t → RecoverTurnAt t call (held_of old) (given_on 0 acts) (held_of new)
   pub own : new.phase ≡ Open → new.own ≡ old.own
-  pub stands : AsksStand acts
+  pub stands : PullsStand acts
   pub started : new.phase ≢ New
   pub more : List ℕ
   pub grows : new.moves ≡ old.moves ++ more

@@ -7,7 +7,7 @@ use Rattle.port_core.specs.declared.act.Act.{Act}
 use Rattle.port_core.specs.declared.view.InView.{InView}
 use Rattle.port_core.specs.declared.view.InView.TheVariants.{Idle}
 use Rattle.port_core.specs.declared.view.OutView.{OutView}
-use Rattle.port_core.specs.declared.view.OutView.TheVariants.{Unasked}
+use Rattle.port_core.specs.declared.view.OutView.TheVariants.{Unpulled}
 use Rattle.port_core.specs.View.{View, in_at, out_at, ActsAllowed, acted_all}
 use Rattle.port_core.specs.Call.{Call, starts, CallAllowed, Meets, seen, brought_to, given_on, Obeys}
 use Rattle.stage_core.specs.Histories as histories
@@ -89,13 +89,13 @@ record News (size : Option ℕ) (k : List Tree) (w : Work) (x : InView) (y : Out
   kept : (book : Book) → 1 ≤ (machine_by book size w).hold → k ≡ []
 
 keep_new : (p : Phase) (e : Ending) (a : Bool) (k : List Tree) (w : Work) (x : InView) (y : OutView) → p ≡ New → keep_row p e a k w x y → News None k w x y
-keep_new New Lasting false k w Idle Unasked n r = record { took = refl; gave = refl; kept = λ book h. spare_held book w k r.0 h }
+keep_new New Lasting false k w Idle Unpulled n r = record { took = refl; gave = refl; kept = λ book h. spare_held book w k r.0 h }
 keep_new New e a k w x y n r = absurd r
 keep_new Open e a k w x y n r = cc
 keep_new Closed e a k w x y n r = cc
 
 buffer_new : (size : ℕ) (p : Phase) (e : Ending) (a : Bool) (k : List Tree) (w : Work) (x : InView) (y : OutView) → p ≡ New → buffer_row size p e a k x y → News (Some size) k w x y
-buffer_new size New Lasting false k w Idle Unasked n r = record { took = refl; gave = refl; kept = λ book h. r.0 }
+buffer_new size New Lasting false k w Idle Unpulled n r = record { took = refl; gave = refl; kept = λ book h. r.0 }
 buffer_new size New e a k w x y n r = absurd r
 buffer_new size Open e a k w x y n r = cc
 buffer_new size Closed e a k w x y n r = cc

@@ -4,9 +4,9 @@ use Rattle.std.proofs.Common.{◌≡◌, ℕ, ◌+◌, Bool, true, false, ◌⊎
 use Rattle.elem_core.specs.Tree.{Tree}
 use Rattle.elem_core.specs.declared.item.Item.{Item}
 use Rattle.port_core.specs.declared.view.InView.{InView}
-use Rattle.port_core.specs.declared.view.InView.TheVariants.{Idle, Waiting, Over, Left}
+use Rattle.port_core.specs.declared.view.InView.TheVariants.{Idle, Pulled, Finished, Cancelled}
 use Rattle.port_core.specs.declared.view.OutView.{OutView}
-use Rattle.port_core.specs.declared.view.OutView.TheVariants.{Unasked, Asked, Shut, Refused}
+use Rattle.port_core.specs.declared.view.OutView.TheVariants as outlet
 use Rattle.port_core.specs.View.{View, in_at, out_at, OneOneOf, IsInOpen, IsOutOpen}
 use Rattle.port_core.specs.Call.{Call, starts, CallAllowed}
 use Rattle.stream_model.specs.Outlook.{End, unended}
@@ -63,46 +63,46 @@ module _ (m : Machine Stage Tree) (start : Run Stage Tree) (took gave : List Ite
   abbrev Resting : (p : Phase) (e : Ending) (k : List Tree) (s : Stage) (x : InView) (y : OutView) → LawOf p e k s x y → Type 0
   Resting p e k s x y law = OwnRests m start (holds_at_end s.work) x y law.in_list law.out_list
 
-  waiting : (k : List Tree) (s : Stage) → k ≡ [] → (law : LawOf Open Lasting k s Waiting Asked) → Resting Open Lasting k s Waiting Asked law
+  waiting : (k : List Tree) (s : Stage) → k ≡ [] → (law : LawOf Open Lasting k s Pulled outlet.Available) → Resting Open Lasting k s Pulled outlet.Available law
   waiting k s none law =
-      subst (λ (h : List Tree). (law : LawOf Open Lasting h s Waiting Asked) → Resting Open Lasting h s Waiting Asked law) (sym none) (λ law. waiting_rests m start (holds_at_end s.work) (going s) took gave law) law
+      subst (λ (h : List Tree). (law : LawOf Open Lasting h s Pulled outlet.Available) → Resting Open Lasting h s Pulled outlet.Available law) (sym none) (λ law. waiting_rests m start (holds_at_end s.work) (going s) took gave law) law
 
   at_ports : (p : Phase) (e : Ending) (a : Bool) (k : List Tree) (s : Stage) (x : InView) (y : OutView) → (p ≡ New → ⊥) → keep_row p e a k s.work x y → (law : LawOf p e k s x y) → Resting p e k s x y law
   at_ports New e a k s x y n r law = absurd (n refl)
   at_ports Closed e a k s x y n r law = closed_rests m start (holds_at_end s.work) x y law.in_list law.out_list r
-  at_ports Open Lasting true k s Waiting Asked n r law = waiting k s r.0 law
-  at_ports Open Lasting false k s Idle Unasked n r law = idle_rests m start (holds_at_end s.work) law.in_list law.out_list
-  at_ports Open Ended false k s Over Unasked n r law = inr (inr (inr (r.1, (refl, refl), refl)))
-  at_ports Open (Failed c) false k s Over Unasked n r law = inr (inr (inr (r.1, (refl, refl), refl)))
-  at_ports Open Lasting true k s Waiting Unasked n r law = absurd r
-  at_ports Open Lasting true k s Waiting Shut n r law = absurd r
-  at_ports Open Lasting true k s Waiting Refused n r law = absurd r
+  at_ports Open Lasting true k s Pulled outlet.Available n r law = waiting k s r.0 law
+  at_ports Open Lasting false k s Idle outlet.Unpulled n r law = idle_rests m start (holds_at_end s.work) law.in_list law.out_list
+  at_ports Open Ended false k s Finished outlet.Unpulled n r law = inr (inr (inr (r.1, (refl, refl), refl)))
+  at_ports Open (Failed c) false k s Finished outlet.Unpulled n r law = inr (inr (inr (r.1, (refl, refl), refl)))
+  at_ports Open Lasting true k s Pulled outlet.Unpulled n r law = absurd r
+  at_ports Open Lasting true k s Pulled outlet.Closed n r law = absurd r
+  at_ports Open Lasting true k s Pulled outlet.Cancelled n r law = absurd r
   at_ports Open Lasting true k s Idle y n r law = absurd r
-  at_ports Open Lasting true k s Over y n r law = absurd r
-  at_ports Open Lasting true k s Left y n r law = absurd r
-  at_ports Open Lasting false k s Idle Asked n r law = absurd r
-  at_ports Open Lasting false k s Idle Shut n r law = absurd r
-  at_ports Open Lasting false k s Idle Refused n r law = absurd r
-  at_ports Open Lasting false k s Waiting y n r law = absurd r
-  at_ports Open Lasting false k s Over y n r law = absurd r
-  at_ports Open Lasting false k s Left y n r law = absurd r
+  at_ports Open Lasting true k s Finished y n r law = absurd r
+  at_ports Open Lasting true k s Cancelled y n r law = absurd r
+  at_ports Open Lasting false k s Idle outlet.Available n r law = absurd r
+  at_ports Open Lasting false k s Idle outlet.Closed n r law = absurd r
+  at_ports Open Lasting false k s Idle outlet.Cancelled n r law = absurd r
+  at_ports Open Lasting false k s Pulled y n r law = absurd r
+  at_ports Open Lasting false k s Finished y n r law = absurd r
+  at_ports Open Lasting false k s Cancelled y n r law = absurd r
   at_ports Open Ended true k s x y n r law = absurd r
-  at_ports Open Ended false k s Over Asked n r law = absurd r
-  at_ports Open Ended false k s Over Shut n r law = absurd r
-  at_ports Open Ended false k s Over Refused n r law = absurd r
+  at_ports Open Ended false k s Finished outlet.Available n r law = absurd r
+  at_ports Open Ended false k s Finished outlet.Closed n r law = absurd r
+  at_ports Open Ended false k s Finished outlet.Cancelled n r law = absurd r
   at_ports Open Ended false k s Idle y n r law = absurd r
-  at_ports Open Ended false k s Waiting y n r law = absurd r
-  at_ports Open Ended false k s Left y n r law = absurd r
+  at_ports Open Ended false k s Pulled y n r law = absurd r
+  at_ports Open Ended false k s Cancelled y n r law = absurd r
   at_ports Open (Failed c) true k s x y n r law = absurd r
-  at_ports Open (Failed c) false k s Over Asked n r law = absurd r
-  at_ports Open (Failed c) false k s Over Shut n r law = absurd r
-  at_ports Open (Failed c) false k s Over Refused n r law = absurd r
+  at_ports Open (Failed c) false k s Finished outlet.Available n r law = absurd r
+  at_ports Open (Failed c) false k s Finished outlet.Closed n r law = absurd r
+  at_ports Open (Failed c) false k s Finished outlet.Cancelled n r law = absurd r
   at_ports Open (Failed c) false k s Idle y n r law = absurd r
-  at_ports Open (Failed c) false k s Waiting y n r law = absurd r
-  at_ports Open (Failed c) false k s Left y n r law = absurd r
+  at_ports Open (Failed c) false k s Pulled y n r law = absurd r
+  at_ports Open (Failed c) false k s Cancelled y n r law = absurd r
 
   at_lists : (l : Logic) (xs : List InView) (ys : List OutView) → (l.phase ≡ New → ⊥) → OneOneOf (keep_row l.phase l.ending l.asked l.pending l.stage.work) xs ys
-      → (law : Law m start (held l) (slice_index_or xs 0 Left) (slice_index_or ys 0 Shut) took gave) → OwnRests m start (holds_at_end l.stage.work) (slice_index_or xs 0 Left) (slice_index_or ys 0 Shut) law.in_list law.out_list
+      → (law : Law m start (held l) (slice_index_or xs 0 Cancelled) (slice_index_or ys 0 outlet.Closed) took gave) → OwnRests m start (holds_at_end l.stage.work) (slice_index_or xs 0 Cancelled) (slice_index_or ys 0 outlet.Closed) law.in_list law.out_list
   at_lists l (x ∷ []) (y ∷ []) n r law = at_ports l.phase l.ending l.asked l.pending l.stage x y n r law
   at_lists l [] ys n r law = absurd r
   at_lists l (x ∷ []) [] n r law = absurd r
@@ -127,52 +127,52 @@ module _ (n : ℕ) (s : Stage) (took gave : List Item) where
 
   buffer_at : (p : Phase) (e : Ending) (a : Bool) (k : List Tree) (t : Stage) (x : InView) (y : OutView) → (p ≡ New → ⊥) → buffer_row n p e a k x y → (law : BufferLaw p e k t x y) → BufferOwnRests n x y law.in_list law.out_list
   buffer_at New e a k t x y nn r law = absurd (nn refl)
-  buffer_at Closed e a k t Over Shut nn r law = inl (refl, refl)
-  buffer_at Closed e a k t Over Refused nn r law = inl (refl, refl)
-  buffer_at Closed e a k t Left Shut nn r law = inl (refl, refl)
-  buffer_at Closed e a k t Left Refused nn r law = inl (refl, refl)
-  buffer_at Closed e a k t Over Unasked nn r law = absurd r
-  buffer_at Closed e a k t Over Asked nn r law = absurd r
-  buffer_at Closed e a k t Left Unasked nn r law = absurd r
-  buffer_at Closed e a k t Left Asked nn r law = absurd r
+  buffer_at Closed e a k t Finished outlet.Closed nn r law = inl (refl, refl)
+  buffer_at Closed e a k t Finished outlet.Cancelled nn r law = inl (refl, refl)
+  buffer_at Closed e a k t Cancelled outlet.Closed nn r law = inl (refl, refl)
+  buffer_at Closed e a k t Cancelled outlet.Cancelled nn r law = inl (refl, refl)
+  buffer_at Closed e a k t Finished outlet.Unpulled nn r law = absurd r
+  buffer_at Closed e a k t Finished outlet.Available nn r law = absurd r
+  buffer_at Closed e a k t Cancelled outlet.Unpulled nn r law = absurd r
+  buffer_at Closed e a k t Cancelled outlet.Available nn r law = absurd r
   buffer_at Closed e a k t Idle y nn r law = absurd r
-  buffer_at Closed e a k t Waiting y nn r law = absurd r
-  buffer_at Open Lasting true k t Waiting Asked nn r law =
-      let c = counts k (going t) Waiting Asked law law.took_as in
+  buffer_at Closed e a k t Pulled y nn r law = absurd r
+  buffer_at Open Lasting true k t Pulled outlet.Available nn r law =
+      let c = counts k (going t) Pulled outlet.Available law law.took_as in
       let z : length k ≡ 0 = ap length r.0 in
       inr (inl ((refl, refl), (refl, refl), omega (arith, c, z)))
-  buffer_at Open Lasting false k t Waiting Unasked nn r law =
-      let c = counts k (going t) Waiting Unasked law law.took_as in
+  buffer_at Open Lasting false k t Pulled outlet.Unpulled nn r law =
+      let c = counts k (going t) Pulled outlet.Unpulled law law.took_as in
       inr (inr (inl ((refl, refl), (refl, refl), omega (arith, c, r))))
-  buffer_at Open Lasting false k t Idle Unasked nn r law =
-      let c = counts k (going t) Idle Unasked law law.took_as in
+  buffer_at Open Lasting false k t Idle outlet.Unpulled nn r law =
+      let c = counts k (going t) Idle outlet.Unpulled law law.took_as in
       inr (inr (inr (inl ((refl, refl), inr (refl, refl), (omega (arith, c, r.0), inr (omega (arith, c, r.0)))))))
-  buffer_at Open Ended false k t Over Unasked nn r law = inr (inr (inr (inr ((refl, refl), refl))))
-  buffer_at Open Lasting true k t Waiting Unasked nn r law = absurd r
-  buffer_at Open Lasting true k t Waiting Shut nn r law = absurd r
-  buffer_at Open Lasting true k t Waiting Refused nn r law = absurd r
+  buffer_at Open Ended false k t Finished outlet.Unpulled nn r law = inr (inr (inr (inr ((refl, refl), refl))))
+  buffer_at Open Lasting true k t Pulled outlet.Unpulled nn r law = absurd r
+  buffer_at Open Lasting true k t Pulled outlet.Closed nn r law = absurd r
+  buffer_at Open Lasting true k t Pulled outlet.Cancelled nn r law = absurd r
   buffer_at Open Lasting true k t Idle y nn r law = absurd r
-  buffer_at Open Lasting true k t Over y nn r law = absurd r
-  buffer_at Open Lasting true k t Left y nn r law = absurd r
-  buffer_at Open Lasting false k t Waiting Asked nn r law = absurd r
-  buffer_at Open Lasting false k t Waiting Shut nn r law = absurd r
-  buffer_at Open Lasting false k t Waiting Refused nn r law = absurd r
-  buffer_at Open Lasting false k t Idle Asked nn r law = absurd r
-  buffer_at Open Lasting false k t Idle Shut nn r law = absurd r
-  buffer_at Open Lasting false k t Idle Refused nn r law = absurd r
-  buffer_at Open Lasting false k t Over y nn r law = absurd r
-  buffer_at Open Lasting false k t Left y nn r law = absurd r
+  buffer_at Open Lasting true k t Finished y nn r law = absurd r
+  buffer_at Open Lasting true k t Cancelled y nn r law = absurd r
+  buffer_at Open Lasting false k t Pulled outlet.Available nn r law = absurd r
+  buffer_at Open Lasting false k t Pulled outlet.Closed nn r law = absurd r
+  buffer_at Open Lasting false k t Pulled outlet.Cancelled nn r law = absurd r
+  buffer_at Open Lasting false k t Idle outlet.Available nn r law = absurd r
+  buffer_at Open Lasting false k t Idle outlet.Closed nn r law = absurd r
+  buffer_at Open Lasting false k t Idle outlet.Cancelled nn r law = absurd r
+  buffer_at Open Lasting false k t Finished y nn r law = absurd r
+  buffer_at Open Lasting false k t Cancelled y nn r law = absurd r
   buffer_at Open Ended true k t x y nn r law = absurd r
-  buffer_at Open Ended false k t Over Asked nn r law = absurd r
-  buffer_at Open Ended false k t Over Shut nn r law = absurd r
-  buffer_at Open Ended false k t Over Refused nn r law = absurd r
+  buffer_at Open Ended false k t Finished outlet.Available nn r law = absurd r
+  buffer_at Open Ended false k t Finished outlet.Closed nn r law = absurd r
+  buffer_at Open Ended false k t Finished outlet.Cancelled nn r law = absurd r
   buffer_at Open Ended false k t Idle y nn r law = absurd r
-  buffer_at Open Ended false k t Waiting y nn r law = absurd r
-  buffer_at Open Ended false k t Left y nn r law = absurd r
+  buffer_at Open Ended false k t Pulled y nn r law = absurd r
+  buffer_at Open Ended false k t Cancelled y nn r law = absurd r
   buffer_at Open (Failed c) a k t x y nn r law = absurd r
 
   buffer_lists : (l : Logic) (xs : List InView) (ys : List OutView) → (l.phase ≡ New → ⊥) → OneOneOf (buffer_row n l.phase l.ending l.asked l.pending) xs ys
-      → (law : Law (buffer n) (begin_buffer s) (held l) (slice_index_or xs 0 Left) (slice_index_or ys 0 Shut) took gave) → BufferOwnRests n (slice_index_or xs 0 Left) (slice_index_or ys 0 Shut) law.in_list law.out_list
+      → (law : Law (buffer n) (begin_buffer s) (held l) (slice_index_or xs 0 Cancelled) (slice_index_or ys 0 outlet.Closed) took gave) → BufferOwnRests n (slice_index_or xs 0 Cancelled) (slice_index_or ys 0 outlet.Closed) law.in_list law.out_list
   buffer_lists l (x ∷ []) (y ∷ []) nn r law = buffer_at l.phase l.ending l.asked l.pending l.stage x y nn r law
   buffer_lists l [] ys nn r law = absurd r
   buffer_lists l (x ∷ []) [] nn r law = absurd r

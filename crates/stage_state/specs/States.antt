@@ -4,11 +4,11 @@ use Rattle.elem_core.specs.Tree.{Tree}
 use Rattle.elem_core.specs.declared.why.Decider.{Decider}
 use Rattle.port_core.specs.declared.act.Act.{Act}
 use Rattle.port_core.specs.declared.view.InView.{InView}
-use Rattle.port_core.specs.declared.view.InView.TheVariants.{Idle, Waiting, Over}
+use Rattle.port_core.specs.declared.view.InView.TheVariants.{Idle, Pulled, Finished}
 use Rattle.port_core.specs.declared.view.OutView.{OutView}
-use Rattle.port_core.specs.declared.view.OutView.TheVariants.{Unasked, Asked}
+use Rattle.port_core.specs.declared.view.OutView.TheVariants.{Unpulled, Available}
 use Rattle.port_core.specs.View.{View, OneOne, unpulled_ports}
-use Rattle.port_core.specs.Asking.{AsksStand}
+use Rattle.port_core.specs.Asking.{PullsStand}
 use Rattle.port_core.specs.Call.{Call, given_on}
 use Rattle.stream_model.specs.declared.kind.Kind.{Kind}
 use Rattle.stream_model.specs.declared.kind.Kind.TheVariants.{Grouped, Fold, Reduce, Scan, Buffer}
@@ -71,22 +71,22 @@ IsKept w = holds_at_end w ≡ true
 -- A stage that keeps: before its input ended it waits exactly where its output is asked, and owes nothing but a scan its
 -- zero, which nobody asked for; behind the end of its input it owes one value, which nobody asked for.
 abbrev pub keep_row : Phase → Ending → Bool → List Tree → Work → InView → OutView → Type 0
-keep_row New Lasting false p w Idle Unasked = Spare w p × IsKept w
-keep_row Open Lasting true p w Waiting Asked = (p ≡ []) × IsKept w
-keep_row Open Lasting false p w Idle Unasked = Spare w p × IsKept w
-keep_row Open Ended false p w Over Unasked = (length p ≡ 1) × IsKept w
-keep_row Open (Failed c) false p w Over Unasked = (length p ≡ 1) × IsKept w
+keep_row New Lasting false p w Idle Unpulled = Spare w p × IsKept w
+keep_row Open Lasting true p w Pulled Available = (p ≡ []) × IsKept w
+keep_row Open Lasting false p w Idle Unpulled = Spare w p × IsKept w
+keep_row Open Ended false p w Finished Unpulled = (length p ≡ 1) × IsKept w
+keep_row Open (Failed c) false p w Finished Unpulled = (length p ≡ 1) × IsKept w
 keep_row Closed e a p w i o = BothClosed i o
 keep_row _ _ _ _ _ _ _ = ⊥
 
 -- A buffer of n: it holds nothing where its output is asked, waits while fewer than n are held, and then until it gave one;
 -- behind the end of its input it holds something.
 abbrev pub buffer_row : ℕ → Phase → Ending → Bool → List Tree → InView → OutView → Type 0
-buffer_row n New Lasting false p Idle Unasked = (p ≡ []) × (0 < n)
-buffer_row n Open Lasting true p Waiting Asked = (p ≡ []) × (0 < n)
-buffer_row n Open Lasting false p Waiting Unasked = length p < n
-buffer_row n Open Lasting false p Idle Unasked = (length p ≡ n) × (0 < n)
-buffer_row n Open Ended false p Over Unasked = 0 < length p
+buffer_row n New Lasting false p Idle Unpulled = (p ≡ []) × (0 < n)
+buffer_row n Open Lasting true p Pulled Available = (p ≡ []) × (0 < n)
+buffer_row n Open Lasting false p Pulled Unpulled = length p < n
+buffer_row n Open Lasting false p Idle Unpulled = (length p ≡ n) × (0 < n)
+buffer_row n Open Ended false p Finished Unpulled = 0 < length p
 buffer_row n Closed e a p i o = BothClosed i o
 buffer_row _ _ _ _ _ _ _ = ⊥
 
@@ -106,7 +106,7 @@ pub record Turned (call : Call) (old : Logic) (acts : List Act) (new : Logic) : 
   pub turn : (book : Book) → TurnAt (machine book old) 0 call (held old) (given_on 0 acts) (held new)
   pub same : (book : Book) → machine book new ≡ machine book old
   pub size : new.size ≡ old.size
-  pub stands : AsksStand acts
+  pub stands : PullsStand acts
   pub started : new.phase ≢ New
 
 -- ---- a new stage

@@ -1,7 +1,7 @@
 ghost use Rattle.std.specs.Prelude.{◌≡◌, ◌≢◌, ◌≤◌, [], Some, None, OnOk, OnErr, IfOk, IsOk};
 ghost use Rattle.std.specs.Option.{option_map};
 ghost use Rattle.elem_core.specs.declared.item.Item.TheVariants as item;
-ghost use Rattle.port_core.specs.Call.{Obeys, Meets, starts, asks, brings, cancels};
+ghost use Rattle.port_core.specs.Call.{Obeys, Meets, starts, pulls, arrives, cancels};
 ghost use Rattle.stage_core.specs.declared.phase.Phase.TheVariants.{New, Open};
 ghost use Rattle.stage_state.specs.Handling.{Begins};
 ghost use Rattle.stage_state.specs.Logics.{Chooses, IsHanded, IsStateful, TakesNone, TakesNoneAsked, TakesNoneEnded, TakesNoneFailed, phase_of, row, Turned};
@@ -114,11 +114,11 @@ impl StateLogic {
     ) -> Result<(), NoMemory>
         requires open { phase_of self.old ≡ Open }
         requires port { port ≡ 0 }
-        requires meets { Meets (brings 0 (item.Elem e)) (row self.old) }
+        requires meets { Meets (arrives 0 (item.Elem e)) (row self.old) }
         requires empty { acts.old.items ≡ [] }
         requires room { 4 ≤ acts.old.room }
-        ensures ports { OnOk result (Obeys (brings 0 (item.Elem e)) (row self.old) (row self.new) acts.new.items) }
-        ensures gives { OnOk result (Turned (brings 0 (item.Elem e)) self.old acts.new.items self.new) }
+        ensures ports { OnOk result (Obeys (arrives 0 (item.Elem e)) (row self.old) (row self.new) acts.new.items) }
+        ensures gives { OnOk result (Turned (arrives 0 (item.Elem e)) self.old acts.new.items self.new) }
         ensures room { acts.new.room ≡ acts.old.room }
         ensures refused { OnErr result (Chooses self.old → (self.new ≡ self.old) × (acts.new ≡ acts.old)) }
     {
@@ -135,12 +135,12 @@ impl StateLogic {
     pub fn on_pull(&mut self, port: u8, acts: &mut Acts) -> Result<(), NoMemory>
         requires open { phase_of self.old ≡ Open }
         requires port { port ≡ 0 }
-        requires meets { Meets (asks 0) (row self.old) }
+        requires meets { Meets (pulls 0) (row self.old) }
         requires empty { acts.old.items ≡ [] }
         requires room { 4 ≤ acts.old.room }
         ensures answers { TakesNoneAsked self.old → IsOk result }
-        ensures ports { OnOk result (Obeys (asks 0) (row self.old) (row self.new) acts.new.items) }
-        ensures gives { OnOk result (Turned (asks 0) self.old acts.new.items self.new) }
+        ensures ports { OnOk result (Obeys (pulls 0) (row self.old) (row self.new) acts.new.items) }
+        ensures gives { OnOk result (Turned (pulls 0) self.old acts.new.items self.new) }
         ensures room { acts.new.room ≡ acts.old.room }
         ensures refused { OnErr result (Chooses self.old → (self.new ≡ self.old) × (acts.new ≡ acts.old)) }
     {
@@ -157,12 +157,12 @@ impl StateLogic {
     pub fn on_finish(&mut self, alloc: Global, port: u8, acts: &mut Acts) -> Result<(), NoMemory>
         requires open { phase_of self.old ≡ Open }
         requires port { port ≡ 0 }
-        requires meets { Meets (brings 0 item.Ended) (row self.old) }
+        requires meets { Meets (arrives 0 item.Ended) (row self.old) }
         requires empty { acts.old.items ≡ [] }
         requires room { 4 ≤ acts.old.room }
         ensures answers { TakesNoneEnded self.old → IsOk result }
-        ensures ports { OnOk result (Obeys (brings 0 item.Ended) (row self.old) (row self.new) acts.new.items) }
-        ensures gives { OnOk result (Turned (brings 0 item.Ended) self.old acts.new.items self.new) }
+        ensures ports { OnOk result (Obeys (arrives 0 item.Ended) (row self.old) (row self.new) acts.new.items) }
+        ensures gives { OnOk result (Turned (arrives 0 item.Ended) self.old acts.new.items self.new) }
         ensures room { acts.new.room ≡ acts.old.room }
     {
         match self {
@@ -178,12 +178,12 @@ impl StateLogic {
     pub fn on_fail(&mut self, port: u8, cause: Cause, acts: &mut Acts) -> Result<(), NoMemory>
         requires open { phase_of self.old ≡ Open }
         requires port { port ≡ 0 }
-        requires meets { Meets (brings 0 (item.Failed cause)) (row self.old) }
+        requires meets { Meets (arrives 0 (item.Failed cause)) (row self.old) }
         requires empty { acts.old.items ≡ [] }
         requires room { 4 ≤ acts.old.room }
         ensures answers { TakesNoneFailed self.old → IsOk result }
-        ensures ports { OnOk result (Obeys (brings 0 (item.Failed cause)) (row self.old) (row self.new) acts.new.items) }
-        ensures gives { OnOk result (Turned (brings 0 (item.Failed cause)) self.old acts.new.items self.new) }
+        ensures ports { OnOk result (Obeys (arrives 0 (item.Failed cause)) (row self.old) (row self.new) acts.new.items) }
+        ensures gives { OnOk result (Turned (arrives 0 (item.Failed cause)) self.old acts.new.items self.new) }
         ensures room { acts.new.room ≡ acts.old.room }
         ensures refused { OnErr result (Chooses self.old → (self.new ≡ self.old) × (acts.new ≡ acts.old)) }
     {

@@ -1,6 +1,6 @@
 ghost use Rattle.std.specs.Prelude.{◌≡◌, ◌≤◌, [], ◌∷◌, OnOk, IfOk, IsOk};
 ghost use Rattle.elem_core.specs.declared.item.Item.TheVariants as item;
-ghost use Rattle.port_core.specs.Call.{Obeys, Meets, starts, asks, brings, cancels};
+ghost use Rattle.port_core.specs.Call.{Obeys, Meets, starts, pulls, arrives, cancels};
 ghost use Rattle.stage_core.specs.declared.phase.Phase.TheVariants.{New, Open};
 ghost use Rattle.stage_state.specs.declared.machine.Part.TheVariants.{Keep};
 ghost use Rattle.stream_model.specs.Linear.{scanning};
@@ -100,11 +100,11 @@ impl MachineLogic {
     ) -> Result<(), NoMemory>
         requires open { self.old.phase ≡ Open }
         requires port { port ≡ 0 }
-        requires meets { Meets (brings 0 (item.Elem e)) (row self.old) }
+        requires meets { Meets (arrives 0 (item.Elem e)) (row self.old) }
         requires empty { acts.old.items ≡ [] }
         requires room { 4 ≤ acts.old.room }
-        ensures ports { OnOk result (Obeys (brings 0 (item.Elem e)) (row self.old) (row self.new) acts.new.items) }
-        ensures gives { OnOk result (Turned (brings 0 (item.Elem e)) self.old acts.new.items self.new) }
+        ensures ports { OnOk result (Obeys (arrives 0 (item.Elem e)) (row self.old) (row self.new) acts.new.items) }
+        ensures gives { OnOk result (Turned (arrives 0 (item.Elem e)) self.old acts.new.items self.new) }
         ensures room { acts.new.room ≡ acts.old.room }
     {
         match &mut self.part {
@@ -117,12 +117,12 @@ impl MachineLogic {
     pub fn on_pull(&mut self, port: u8, acts: &mut Acts) -> Result<(), NoMemory>
         requires open { self.old.phase ≡ Open }
         requires port { port ≡ 0 }
-        requires meets { Meets (asks 0) (row self.old) }
+        requires meets { Meets (pulls 0) (row self.old) }
         requires empty { acts.old.items ≡ [] }
         requires room { 4 ≤ acts.old.room }
         ensures answers { IsOk result }
-        ensures ports { OnOk result (Obeys (asks 0) (row self.old) (row self.new) acts.new.items) }
-        ensures gives { OnOk result (Turned (asks 0) self.old acts.new.items self.new) }
+        ensures ports { OnOk result (Obeys (pulls 0) (row self.old) (row self.new) acts.new.items) }
+        ensures gives { OnOk result (Turned (pulls 0) self.old acts.new.items self.new) }
         ensures room { acts.new.room ≡ acts.old.room }
     {
         match &mut self.part {
@@ -135,12 +135,12 @@ impl MachineLogic {
     pub fn on_finish(&mut self, alloc: Global, port: u8, acts: &mut Acts) -> Result<(), NoMemory>
         requires open { self.old.phase ≡ Open }
         requires port { port ≡ 0 }
-        requires meets { Meets (brings 0 item.Ended) (row self.old) }
+        requires meets { Meets (arrives 0 item.Ended) (row self.old) }
         requires empty { acts.old.items ≡ [] }
         requires room { 4 ≤ acts.old.room }
         ensures answers { IsOk result }
-        ensures ports { OnOk result (Obeys (brings 0 item.Ended) (row self.old) (row self.new) acts.new.items) }
-        ensures gives { OnOk result (Turned (brings 0 item.Ended) self.old acts.new.items self.new) }
+        ensures ports { OnOk result (Obeys (arrives 0 item.Ended) (row self.old) (row self.new) acts.new.items) }
+        ensures gives { OnOk result (Turned (arrives 0 item.Ended) self.old acts.new.items self.new) }
         ensures room { acts.new.room ≡ acts.old.room }
     {
         match &mut self.part {
@@ -153,12 +153,12 @@ impl MachineLogic {
     pub fn on_fail(&mut self, port: u8, cause: Cause, acts: &mut Acts) -> Result<(), NoMemory>
         requires open { self.old.phase ≡ Open }
         requires port { port ≡ 0 }
-        requires meets { Meets (brings 0 (item.Failed cause)) (row self.old) }
+        requires meets { Meets (arrives 0 (item.Failed cause)) (row self.old) }
         requires empty { acts.old.items ≡ [] }
         requires room { 4 ≤ acts.old.room }
         ensures answers { IsOk result }
-        ensures ports { OnOk result (Obeys (brings 0 (item.Failed cause)) (row self.old) (row self.new) acts.new.items) }
-        ensures gives { OnOk result (Turned (brings 0 (item.Failed cause)) self.old acts.new.items self.new) }
+        ensures ports { OnOk result (Obeys (arrives 0 (item.Failed cause)) (row self.old) (row self.new) acts.new.items) }
+        ensures gives { OnOk result (Turned (arrives 0 (item.Failed cause)) self.old acts.new.items self.new) }
         ensures room { acts.new.room ≡ acts.old.room }
     {
         match &mut self.part {

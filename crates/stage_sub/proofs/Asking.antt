@@ -3,11 +3,11 @@ use Rattle.std.proofs.Common.{◌≡◌, ℕ, Bool, true, false, List, [], ◌�
 use Rattle.elem_core.specs.declared.item.Item.TheVariants as item
 use Rattle.port_core.specs.declared.act.Act.{Act}
 use Rattle.port_core.specs.declared.view.InView.{InView}
-use Rattle.port_core.specs.declared.view.InView.TheVariants.{Idle, Waiting, Over, Left}
+use Rattle.port_core.specs.declared.view.InView.TheVariants.{Idle, Pulled, Finished, Cancelled}
 use Rattle.port_core.specs.declared.view.OutView.{OutView}
-use Rattle.port_core.specs.declared.view.OutView.TheVariants.{Unasked, Asked, Shut, Refused}
+use Rattle.port_core.specs.declared.view.OutView.TheVariants as outlet
 use Rattle.port_core.specs.View.{View, OneOneOf, IsInOpen, ActsAllowed, acted_all}
-use Rattle.port_core.specs.Call.{asks, brings, seen, CallAllowed, Obeys}
+use Rattle.port_core.specs.Call.{pulls, arrives, seen, CallAllowed, Obeys}
 use Rattle.stream_model.specs.FanIn.{Tagged}
 use Rattle.stage_core.specs.declared.phase.Phase.{Phase}
 use Rattle.stage_core.specs.declared.phase.Phase.TheVariants.{Open}
@@ -16,8 +16,8 @@ use Rattle.stage_sub.specs.declared.blame.Blame.{Blame}
 
 -- the actions are allowed, and the row holds then
 record Obeyed (over : Bool) (p : List Tagged) (now : View → Type 0) (v : View) : Type 0 where
-  allowed : ActsAllowed (seen (asks 0) v) (pulled_acts over p)
-  row : now (acted_all (seen (asks 0) v) (pulled_acts over p))
+  allowed : ActsAllowed (seen (pulls 0) v) (pulled_acts over p)
+  row : now (acted_all (seen (pulls 0) v) (pulled_acts over p))
 
 module _ {C : Type 0} (l : Logic C) where
   abbrev then_row : Bool → List Tagged → View → Type 0
@@ -26,41 +26,41 @@ module _ {C : Type 0} (l : Logic C) where
   abbrev one_view : InView → OutView → View
   one_view x y = record { ins = x ∷ []; outs = y ∷ [] }
 
-  obeyed_at : (over asked : Bool) (p : List Tagged) (x : InView) (y : OutView) → y ≡ Unasked → row_in Open over asked p x y → (asked ≡ false) × Obeyed over p (then_row over p) (one_view x y)
-  obeyed_at false false [] Idle Unasked u r = (refl, record { allowed = (refl, tt); row = refl })
-  obeyed_at false false (o ∷ os) Idle Unasked u r = (refl, record { allowed = (refl, tt); row = tt })
-  obeyed_at true false [] Over Unasked u r = absurd (omega (arith, r))
-  obeyed_at true false (o ∷ []) Over Unasked u r = (refl, record { allowed = (refl, (tt, tt)); row = tt })
-  obeyed_at true false (o ∷ s ∷ os) Over Unasked u r = (refl, record { allowed = (refl, tt); row = omega arith })
-  obeyed_at false false p Idle Asked u r = absurd r
-  obeyed_at false false p Idle Shut u r = absurd r
-  obeyed_at false false p Idle Refused u r = absurd r
-  obeyed_at false false p Waiting y u r = absurd r
-  obeyed_at false false p Over y u r = absurd r
-  obeyed_at false false p Left y u r = absurd r
-  obeyed_at true false p Over Asked u r = absurd r
-  obeyed_at true false p Over Shut u r = absurd r
-  obeyed_at true false p Over Refused u r = absurd r
+  obeyed_at : (over asked : Bool) (p : List Tagged) (x : InView) (y : OutView) → y ≡ outlet.Unpulled → row_in Open over asked p x y → (asked ≡ false) × Obeyed over p (then_row over p) (one_view x y)
+  obeyed_at false false [] Idle outlet.Unpulled u r = (refl, record { allowed = (refl, tt); row = refl })
+  obeyed_at false false (o ∷ os) Idle outlet.Unpulled u r = (refl, record { allowed = (refl, tt); row = tt })
+  obeyed_at true false [] Finished outlet.Unpulled u r = absurd (omega (arith, r))
+  obeyed_at true false (o ∷ []) Finished outlet.Unpulled u r = (refl, record { allowed = (refl, (tt, tt)); row = tt })
+  obeyed_at true false (o ∷ s ∷ os) Finished outlet.Unpulled u r = (refl, record { allowed = (refl, tt); row = omega arith })
+  obeyed_at false false p Idle outlet.Available u r = absurd r
+  obeyed_at false false p Idle outlet.Closed u r = absurd r
+  obeyed_at false false p Idle outlet.Cancelled u r = absurd r
+  obeyed_at false false p Pulled y u r = absurd r
+  obeyed_at false false p Finished y u r = absurd r
+  obeyed_at false false p Cancelled y u r = absurd r
+  obeyed_at true false p Finished outlet.Available u r = absurd r
+  obeyed_at true false p Finished outlet.Closed u r = absurd r
+  obeyed_at true false p Finished outlet.Cancelled u r = absurd r
   obeyed_at true false p Idle y u r = absurd r
-  obeyed_at true false p Waiting y u r = absurd r
-  obeyed_at true false p Left y u r = absurd r
+  obeyed_at true false p Pulled y u r = absurd r
+  obeyed_at true false p Cancelled y u r = absurd r
   obeyed_at true true p x y u r = absurd r
-  obeyed_at false true p Waiting Asked u r = cc
-  obeyed_at false true p Waiting Unasked u r = absurd r
-  obeyed_at false true p Waiting Shut u r = absurd r
-  obeyed_at false true p Waiting Refused u r = absurd r
+  obeyed_at false true p Pulled outlet.Available u r = cc
+  obeyed_at false true p Pulled outlet.Unpulled u r = absurd r
+  obeyed_at false true p Pulled outlet.Closed u r = absurd r
+  obeyed_at false true p Pulled outlet.Cancelled u r = absurd r
   obeyed_at false true p Idle y u r = absurd r
-  obeyed_at false true p Over y u r = absurd r
-  obeyed_at false true p Left y u r = absurd r
+  obeyed_at false true p Finished y u r = absurd r
+  obeyed_at false true p Cancelled y u r = absurd r
 
-  obeyed_lists : (over asked : Bool) (p : List Tagged) (xs : List InView) (ys : List OutView) → CallAllowed (asks 0) (record { ins = xs; outs = ys }) → OneOneOf (row_in Open over asked p) xs ys → (asked ≡ false) × Obeyed over p (then_row over p) (record { ins = xs; outs = ys })
+  obeyed_lists : (over asked : Bool) (p : List Tagged) (xs : List InView) (ys : List OutView) → CallAllowed (pulls 0) (record { ins = xs; outs = ys }) → OneOneOf (row_in Open over asked p) xs ys → (asked ≡ false) × Obeyed over p (then_row over p) (record { ins = xs; outs = ys })
   obeyed_lists over asked p (x ∷ []) (y ∷ []) may r = obeyed_at over asked p x y may r
   obeyed_lists over asked p [] ys may r = absurd r
   obeyed_lists over asked p (x ∷ []) [] may r = absurd r
   obeyed_lists over asked p (x ∷ []) (y ∷ z ∷ ys) may r = absurd r
   obeyed_lists over asked p (x ∷ w ∷ xs) ys may r = absurd r
 
-  obeyed : (v : View) → l.phase ≡ Open → CallAllowed (asks 0) v → row l v → (l.asked ≡ false) × Obeyed l.over l.pending (then_row l.over l.pending) v
+  obeyed : (v : View) → l.phase ≡ Open → CallAllowed (pulls 0) v → row l v → (l.asked ≡ false) × Obeyed l.over l.pending (then_row l.over l.pending) v
   obeyed v h may r = obeyed_lists l.over l.asked l.pending v.ins v.outs may (subst (λ (p : Phase). OneOneOf (row_in p l.over l.asked l.pending) v.ins v.outs) h r)
 
 -- the moves of its log are no part of its row
@@ -72,53 +72,53 @@ moves_row : {C : Type 0} (l : Logic C) (ms : Option (List ℕ)) (v : View) → r
 moves_row l ms v r = r
 
 pub asked_ports : {C : Type 0} (old st now : Logic C) (acts : List Act) (m ms : Option (List ℕ)) → record st { moves = m } ≡ old → old.phase ≡ Open → now ≡ pulled st st.pending → acts ≡ pulled_acts st.over st.pending
-    → Obeys (asks 0) (row old) (row (record now { moves = ms })) acts
-asked_ports {C = C} old st now acts m ms is h n a = subst (λ (l : Logic C). l.phase ≡ Open → Obeys (asks 0) (row l) (row (record now { moves = ms })) acts) is (λ h. at_old h) h
+    → Obeys (pulls 0) (row old) (row (record now { moves = ms })) acts
+asked_ports {C = C} old st now acts m ms is h n a = subst (λ (l : Logic C). l.phase ≡ Open → Obeys (pulls 0) (row l) (row (record now { moves = ms })) acts) is (λ h. at_old h) h
   where
-    at_old : st.phase ≡ Open → Obeys (asks 0) (row st) (row (record now { moves = ms })) acts
+    at_old : st.phase ≡ Open → Obeys (pulls 0) (row st) (row (record now { moves = ms })) acts
     at_old h = rw (n, a) (record {
       allowed = λ v may r. (obeyed st v h may r).1.allowed;
-      row = λ v may r. let o = obeyed st v h may r in bare_row st st.pending (acted_all (seen (asks 0) v) (pulled_acts st.over st.pending)) h o.0 o.1.row;
+      row = λ v may r. let o = obeyed st v h may r in bare_row st st.pending (acted_all (seen (pulls 0) v) (pulled_acts st.over st.pending)) h o.0 o.1.row;
     })
 
 -- ---- the end of the input
 
 record EndObeyed {C : Type 0} (l : Logic C) (b : Option Blame) (v : View) : Type 0 where
-  allowed : ActsAllowed (seen (brings 0 item.Ended) v) (finish_acts l b)
-  row_then : row (finished l b) (acted_all (seen (brings 0 item.Ended) v) (finish_acts l b))
+  allowed : ActsAllowed (seen (arrives 0 item.Ended) v) (finish_acts l b)
+  row_then : row (finished l b) (acted_all (seen (arrives 0 item.Ended) v) (finish_acts l b))
 
 module _ {C : Type 0} (l : Logic C) (b : Option Blame) where
   abbrev open_one : Bool → List Tagged → Logic C
   open_one asked q = record l { phase = Open; over = false; asked = asked; pending = q }
 
   end_at : (over asked : Bool) (p q : List Tagged) (d : Option Blame) (x : InView) (y : OutView) → IsInOpen x → row_in Open over asked p x y → (over ≡ false) × EndObeyed (open_one asked q) d (record { ins = x ∷ []; outs = y ∷ [] })
-  end_at false true p [] None Waiting Asked w r = (refl, record { allowed = (tt, tt); row_then = tt })
-  end_at false true p (o ∷ []) None Waiting Asked w r = (refl, record { allowed = (refl, (tt, tt)); row_then = tt })
-  end_at false true p (o ∷ u ∷ os) None Waiting Asked w r = (refl, record { allowed = (refl, tt); row_then = omega arith })
-  end_at false true p q (Some d) Waiting Asked w r = (refl, record { allowed = (tt, tt); row_then = tt })
-  end_at false false p [] None Idle Unasked w r = (refl, record { allowed = (tt, tt); row_then = tt })
-  end_at false false p (o ∷ os) None Idle Unasked w r = (refl, record { allowed = tt; row_then = omega arith })
-  end_at false false p q (Some d) Idle Unasked w r = (refl, record { allowed = (tt, tt); row_then = tt })
-  end_at false true p q d Waiting Unasked w r = absurd r
-  end_at false true p q d Waiting Shut w r = absurd r
-  end_at false true p q d Waiting Refused w r = absurd r
+  end_at false true p [] None Pulled outlet.Available w r = (refl, record { allowed = (tt, tt); row_then = tt })
+  end_at false true p (o ∷ []) None Pulled outlet.Available w r = (refl, record { allowed = (refl, (tt, tt)); row_then = tt })
+  end_at false true p (o ∷ u ∷ os) None Pulled outlet.Available w r = (refl, record { allowed = (refl, tt); row_then = omega arith })
+  end_at false true p q (Some d) Pulled outlet.Available w r = (refl, record { allowed = (tt, tt); row_then = tt })
+  end_at false false p [] None Idle outlet.Unpulled w r = (refl, record { allowed = (tt, tt); row_then = tt })
+  end_at false false p (o ∷ os) None Idle outlet.Unpulled w r = (refl, record { allowed = tt; row_then = omega arith })
+  end_at false false p q (Some d) Idle outlet.Unpulled w r = (refl, record { allowed = (tt, tt); row_then = tt })
+  end_at false true p q d Pulled outlet.Unpulled w r = absurd r
+  end_at false true p q d Pulled outlet.Closed w r = absurd r
+  end_at false true p q d Pulled outlet.Cancelled w r = absurd r
   end_at false true p q d Idle y w r = absurd r
-  end_at false true p q d Over y w r = absurd w
-  end_at false true p q d Left y w r = absurd w
-  end_at false false p q d Idle Asked w r = absurd r
-  end_at false false p q d Idle Shut w r = absurd r
-  end_at false false p q d Idle Refused w r = absurd r
-  end_at false false p q d Waiting y w r = absurd r
-  end_at false false p q d Over y w r = absurd w
-  end_at false false p q d Left y w r = absurd w
-  end_at true asked p q d Over y w r = absurd w
-  end_at true asked p q d Left y w r = absurd w
+  end_at false true p q d Finished y w r = absurd w
+  end_at false true p q d Cancelled y w r = absurd w
+  end_at false false p q d Idle outlet.Available w r = absurd r
+  end_at false false p q d Idle outlet.Closed w r = absurd r
+  end_at false false p q d Idle outlet.Cancelled w r = absurd r
+  end_at false false p q d Pulled y w r = absurd r
+  end_at false false p q d Finished y w r = absurd w
+  end_at false false p q d Cancelled y w r = absurd w
+  end_at true asked p q d Finished y w r = absurd w
+  end_at true asked p q d Cancelled y w r = absurd w
   end_at true true p q d Idle y w r = absurd r
-  end_at true true p q d Waiting y w r = absurd r
+  end_at true true p q d Pulled y w r = absurd r
   end_at true false p q d Idle y w r = absurd r
-  end_at true false p q d Waiting y w r = absurd r
+  end_at true false p q d Pulled y w r = absurd r
 
-  end_lists : (over asked : Bool) (p q : List Tagged) (xs : List InView) (ys : List OutView) → CallAllowed (brings 0 item.Ended) (record { ins = xs; outs = ys }) → OneOneOf (row_in Open over asked p) xs ys
+  end_lists : (over asked : Bool) (p q : List Tagged) (xs : List InView) (ys : List OutView) → CallAllowed (arrives 0 item.Ended) (record { ins = xs; outs = ys }) → OneOneOf (row_in Open over asked p) xs ys
       → (over ≡ false) × EndObeyed (open_one asked q) b (record { ins = xs; outs = ys })
   end_lists over asked p q (x ∷ []) (y ∷ []) may r = end_at over asked p q b x y may r
   end_lists over asked p q [] ys may r = absurd r
@@ -127,11 +127,11 @@ module _ {C : Type 0} (l : Logic C) (b : Option Blame) where
   end_lists over asked p q (x ∷ w ∷ xs) ys may r = absurd r
 
 pub ended_ports : {C : Type 0} (old st0 st now : Logic C) (b : Option Blame) (acts : List Act) (m ms : Option (List ℕ)) → record st0 { moves = m } ≡ old → old.phase ≡ Open → st ≡ record st0 { kept = st.kept; pending = st.pending }
-    → now ≡ finished st b → acts ≡ finish_acts st b → Obeys (brings 0 item.Ended) (row old) (row (record now { moves = ms })) acts
+    → now ≡ finished st b → acts ≡ finish_acts st b → Obeys (arrives 0 item.Ended) (row old) (row (record now { moves = ms })) acts
 ended_ports {C = C} old st0 st now b acts m ms is h stays n a =
-    subst (λ (l : Logic C). l.phase ≡ Open → Obeys (brings 0 item.Ended) (row l) (row (record now { moves = ms })) acts) is (λ h. at_old h) h
+    subst (λ (l : Logic C). l.phase ≡ Open → Obeys (arrives 0 item.Ended) (row l) (row (record now { moves = ms })) acts) is (λ h. at_old h) h
   where
-    well : st0.phase ≡ Open → (v : View) → CallAllowed (brings 0 item.Ended) v → row st0 v → EndObeyed st b v
+    well : st0.phase ≡ Open → (v : View) → CallAllowed (arrives 0 item.Ended) v → row st0 v → EndObeyed st b v
     well h v may r =
         let o = end_lists st b st0.over st0.asked st0.pending st.pending v.ins v.outs may (subst (λ (p : Phase). OneOneOf (row_in p st0.over st0.asked st0.pending) v.ins v.outs) h r) in
         let phase : Open ≡ st.phase = sym (ap (λ (l : Logic C). l.phase) stays ∙ h) in
@@ -141,5 +141,5 @@ ended_ports {C = C} old st0 st now b acts m ms is h stays n a =
         ap (λ (x : Bool). record st { phase = Open; over = false; asked = x }) asked ∙ ap (λ (x : Bool). record st { phase = Open; over = x }) over ∙ ap (λ (x : Phase). record st { phase = x }) phase in
         subst (λ (l : Logic C). EndObeyed l b v) same o.1
 
-    at_old : st0.phase ≡ Open → Obeys (brings 0 item.Ended) (row st0) (row (record now { moves = ms })) acts
+    at_old : st0.phase ≡ Open → Obeys (arrives 0 item.Ended) (row st0) (row (record now { moves = ms })) acts
     at_old h = rw (n, a) (record { allowed = λ v may r. (well h v may r).allowed; row = λ v may r. (well h v may r).row_then })

@@ -12,12 +12,12 @@ use Rattle.elem_core.specs.declared.item.Item.TheVariants as item
 use Rattle.elem_core.specs.declared.why.Cause.{Cause}
 use Rattle.port_core.specs.declared.act.Act.{Act}
 use Rattle.port_core.specs.declared.view.InView.{InView}
-use Rattle.port_core.specs.declared.view.InView.TheVariants.{Idle, Waiting, Over, Left}
+use Rattle.port_core.specs.declared.view.InView.TheVariants.{Idle, Pulled, Finished, Cancelled}
 use Rattle.port_core.specs.declared.view.OutView.{OutView}
-use Rattle.port_core.specs.declared.view.OutView.TheVariants.{Unasked, Asked, Shut, Refused}
+use Rattle.port_core.specs.declared.view.OutView.TheVariants as outlet
 use Rattle.port_core.specs.ListFunction.{ListFunction, Same}
 use Rattle.port_core.specs.View.{View, in_at, out_at, ActsAllowed, acted_all}
-use Rattle.port_core.specs.Call.{Call, starts, asks, brings, cancels, CallAllowed, Meets, seen, brought_to, given_on, Obeys}
+use Rattle.port_core.specs.Call.{Call, starts, pulls, arrives, cancels, CallAllowed, Meets, seen, brought_to, given_on, Obeys}
 use Rattle.stage_core.specs.Histories as histories
 use Rattle.stage_core.specs.Handling.{Starts, Handles}
 use Rattle.stage_core.proofs.OneOnes.{at_first, given_one, brought_one, one_input, fresh_ports}
@@ -67,32 +67,32 @@ module _ (yields : List Tree → End → Given Tree) (o : Opening) (start : Run 
   finish_ready g (adds l) = refl
   finish_ready g (refuses c) = sym (append-nil g)
 
-  ended_ready : (g : List Tagged) (st : State Subs) (i : ℕ) → (close_at m g st ended).list ≡ g ++ arising m (brings i item.Ended) st
+  ended_ready : (g : List Tagged) (st : State Subs) (i : ℕ) → (close_at m g st ended).list ≡ g ++ arising m (arrives i item.Ended) st
   ended_ready g (going s) i = finish_ready g (m.finish s)
   ended_ready g done i = sym (append-nil g)
   ended_ready g (broken c) i = sym (append-nil g)
 
-  fed_ready : (g : List Tagged) (st : State Subs) (i : ℕ) (t : Tree) → (feed m (record { gave = g; state = st }) t).gave ≡ g ++ arising m (brings i (item.Elem t)) st
+  fed_ready : (g : List Tagged) (st : State Subs) (i : ℕ) (t : Tree) → (feed m (record { gave = g; state = st }) t).gave ≡ g ++ arising m (arrives i (item.Elem t)) st
   fed_ready g (going s) i t = refl
   fed_ready g done i t = sym (append-nil g)
   fed_ready g (broken c) i t = sym (append-nil g)
 
   -- by an item that came: this is ready then
   item_ready : (b : Item) (l l' : List Tree) (e e' : End) (st : State Subs) → (was now : List Item) → was ≡ told l e → e ≡ unended → was ++ b ∷ [] ≡ now → now ≡ told l' e' → (run m start l).state ≡ st
-      → ready_of yields o start l' e' ≡ ready_of yields o start l e ++ arising m (brings 0 b) st
+      → ready_of yields o start l' e' ≡ ready_of yields o start l e ++ arising m (arrives 0 b) st
   item_ready (item.Elem t) l l' e e' st was now a u h c at =
       let x = told_then was now (item.Elem t ∷ []) l (t ∷ []) e unended l' e' a u refl c h in
       let g : List Tagged = (run m start l).gave in
       ap (ready_of yields o start l') x.end ∙ ap (λ (k : List Tree). ready_of yields o start k unended) x.list ∙ open_ready (run m start (l ++ t ∷ []))
       ∙ ap (λ (y : Run Subs Tagged). y.gave) (run-append m start l (t ∷ [])) ∙ fed_ready g (run m start l).state 0 t
-      ∙ ap (λ (k : State Subs). g ++ arising m (brings 0 (item.Elem t)) k) at
-      ∙ ap (λ (k : List Tagged). k ++ arising m (brings 0 (item.Elem t)) st) (sym (ap (ready_of yields o start l) u ∙ open_ready (run m start l)))
+      ∙ ap (λ (k : State Subs). g ++ arising m (arrives 0 (item.Elem t)) k) at
+      ∙ ap (λ (k : List Tagged). k ++ arising m (arrives 0 (item.Elem t)) st) (sym (ap (ready_of yields o start l) u ∙ open_ready (run m start l)))
   item_ready item.Ended l l' e e' st was now a u h c at =
       let x = told_then was now (item.Ended ∷ []) l [] e ended l' e' a u refl c h in
       let g : List Tagged = (run m start l).gave in
       ap (ready_of yields o start l') x.end ∙ ap (λ (k : List Tree). ready_of yields o start k ended) (x.list ∙ append-nil l) ∙ ended_ready g (run m start l).state 0
-      ∙ ap (λ (k : State Subs). g ++ arising m (brings 0 item.Ended) k) at
-      ∙ ap (λ (k : List Tagged). k ++ arising m (brings 0 item.Ended) st) (sym (ap (ready_of yields o start l) u ∙ open_ready (run m start l)))
+      ∙ ap (λ (k : State Subs). g ++ arising m (arrives 0 item.Ended) k) at
+      ∙ ap (λ (k : List Tagged). k ++ arising m (arrives 0 item.Ended) st) (sym (ap (ready_of yields o start l) u ∙ open_ready (run m start l)))
   item_ready (item.Failed d) l l' e e' st was now a u h c at =
       let x = told_then was now (item.Failed d ∷ []) l [] e (failed d) l' e' a u refl c h in
       let g : List Tagged = (run m start l).gave in
@@ -108,10 +108,10 @@ module _ (yields : List Tree → End → Given Tree) (o : Opening) (start : Run 
   call_ready : (call : Call) (v : View) (l l' : List Tree) (e e' : End) (st : State Subs) (was : List Item) → at_first call ≡ call → CallAllowed call v → TookAs (in_at v 0) e → was ≡ told l e → was ++ brought_to 0 call ≡ told l' e' → (e ≡ unended → (run m start l).state ≡ st)
       → ready_of yields o start l' e' ≡ ready_of yields o start l e ++ arising m call st
   call_ready starts v l l' e e' st was first may k a c at = still_ready l l' e e' was _ a refl c
-  call_ready (asks j) v l l' e e' st was first may k a c at = still_ready l l' e e' was _ a refl c
+  call_ready (pulls j) v l l' e e' st was first may k a c at = still_ready l l' e e' was _ a refl c
   call_ready (cancels j) v l l' e e' st was first may k a c at = still_ready l l' e e' was _ a refl c
-  call_ready (brings (suc i) b) v l l' e e' st was first may k a c at = cc
-  call_ready (brings zero b) v l l' e e' st was first may k a c at =
+  call_ready (arrives (suc i) b) v l l' e e' st was first may k a c at = cc
+  call_ready (arrives zero b) v l l' e e' st was first may k a c at =
       let u : e ≡ unended = in_unended (in_at v 0) e (may_open b (in_at v 0) may) k in
       item_ready b l l' e e' st was _ a u refl c (at u)
 
@@ -312,13 +312,13 @@ module _ {C : Type 0} (whole rest : C → ListFunction) (is_open : C → Bool) w
     none : p ≡ []
 
   new_ports : (p : Phase) (over asked : Bool) (k : List Tagged) (x : InView) (y : OutView) → p ≡ New → row_in p over asked k x y → News k x y
-  new_ports New false false k Idle Unasked e r = record { took_as = refl; gave_as = refl; none = r }
-  new_ports New false false k Idle Asked e r = absurd r
-  new_ports New false false k Idle Shut e r = absurd r
-  new_ports New false false k Idle Refused e r = absurd r
-  new_ports New false false k Waiting y e r = absurd r
-  new_ports New false false k Over y e r = absurd r
-  new_ports New false false k Left y e r = absurd r
+  new_ports New false false k Idle outlet.Unpulled e r = record { took_as = refl; gave_as = refl; none = r }
+  new_ports New false false k Idle outlet.Available e r = absurd r
+  new_ports New false false k Idle outlet.Closed e r = absurd r
+  new_ports New false false k Idle outlet.Cancelled e r = absurd r
+  new_ports New false false k Pulled y e r = absurd r
+  new_ports New false false k Finished y e r = absurd r
+  new_ports New false false k Cancelled y e r = absurd r
   new_ports New false true k x y e r = absurd r
   new_ports New true asked k x y e r = absurd r
   new_ports Open over asked k x y e r = cc

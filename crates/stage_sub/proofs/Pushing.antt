@@ -6,14 +6,14 @@ use Rattle.elem_core.specs.Tree.{Tree}
 use Rattle.elem_core.specs.declared.item.Item.TheVariants as item
 use Rattle.elem_core.specs.declared.why.Why.{Why}
 use Rattle.elem_core.specs.declared.why.Cause.{Cause}
-use Rattle.port_core.specs.Asking.{AsksStand}
+use Rattle.port_core.specs.Asking.{PullsStand}
 use Rattle.port_core.specs.declared.act.Act.{Act}
-use Rattle.port_core.specs.Call.{brings, Meets, given_on}
+use Rattle.port_core.specs.Call.{arrives, Meets, given_on}
 use Rattle.port_core.specs.View.{OneOneOf, in_at}
 use Rattle.port_core.specs.declared.view.InView.{InView}
-use Rattle.port_core.specs.declared.view.InView.TheVariants.{Idle, Waiting, Over, Left}
+use Rattle.port_core.specs.declared.view.InView.TheVariants.{Idle, Pulled, Finished, Cancelled}
 use Rattle.port_core.specs.declared.view.OutView.{OutView}
-use Rattle.port_core.specs.declared.view.OutView.TheVariants.{Unasked, Asked, Shut, Refused}
+use Rattle.port_core.specs.declared.view.OutView.TheVariants as outlet
 use Rattle.port_core.specs.ListFunction.{ListFunction, Same}
 use Rattle.stream_model.specs.Outlook.{End, unended, failed}
 use Rattle.stream_model.specs.Machine.{State, going, broken, Run, Machine, Given, feed}
@@ -41,29 +41,29 @@ pub record Waits {C : Type 0} (l : Logic C) : Type 0 where
   pub on : l.over ≡ false
   pub asks : l.asked ≡ true
 
-waits_at : {C : Type 0} (l : Logic C) (over asked : Bool) (p : List Tagged) (x : InView) (y : OutView) → x ≡ Waiting → l.over ≡ over → l.asked ≡ asked → l.pending ≡ p → row_in Open over asked p x y → Waits l
-waits_at l false true p Waiting Asked w a d b r = record { none = b ∙ r; on = a; asks = d }
-waits_at l false true p Waiting Unasked w a d b r = absurd r
-waits_at l false true p Waiting Shut w a d b r = absurd r
-waits_at l false true p Waiting Refused w a d b r = absurd r
-waits_at l false false p Waiting y w a d b r = absurd r
-waits_at l true asked p Waiting y w a d b r = by_asked asked r
+waits_at : {C : Type 0} (l : Logic C) (over asked : Bool) (p : List Tagged) (x : InView) (y : OutView) → x ≡ Pulled → l.over ≡ over → l.asked ≡ asked → l.pending ≡ p → row_in Open over asked p x y → Waits l
+waits_at l false true p Pulled outlet.Available w a d b r = record { none = b ∙ r; on = a; asks = d }
+waits_at l false true p Pulled outlet.Unpulled w a d b r = absurd r
+waits_at l false true p Pulled outlet.Closed w a d b r = absurd r
+waits_at l false true p Pulled outlet.Cancelled w a d b r = absurd r
+waits_at l false false p Pulled y w a d b r = absurd r
+waits_at l true asked p Pulled y w a d b r = by_asked asked r
   where
-    by_asked : (k : Bool) → row_in Open true k p Waiting y → Waits l
+    by_asked : (k : Bool) → row_in Open true k p Pulled y → Waits l
     by_asked true q = absurd q
     by_asked false q = absurd q
 waits_at l over asked p Idle y w a d b r = cc
-waits_at l over asked p Over y w a d b r = cc
-waits_at l over asked p Left y w a d b r = cc
+waits_at l over asked p Finished y w a d b r = cc
+waits_at l over asked p Cancelled y w a d b r = cc
 
-waits_in : {C : Type 0} (l : Logic C) (xs : List InView) (ys : List OutView) (t : Tree) → in_at (record { ins = xs; outs = ys }) 0 ≡ Waiting → OneOneOf (row_in Open l.over l.asked l.pending) xs ys → Waits l
+waits_in : {C : Type 0} (l : Logic C) (xs : List InView) (ys : List OutView) (t : Tree) → in_at (record { ins = xs; outs = ys }) 0 ≡ Pulled → OneOneOf (row_in Open l.over l.asked l.pending) xs ys → Waits l
 waits_in l (x ∷ []) (y ∷ []) t w r = waits_at l l.over l.asked l.pending x y w refl refl refl r
 waits_in l [] ys t w r = absurd r
 waits_in l (x ∷ []) [] t w r = absurd r
 waits_in l (x ∷ []) (y ∷ z ∷ ys) t w r = absurd r
 waits_in l (x ∷ u ∷ xs) ys t w r = absurd r
 
-pub waits : {C : Type 0} (l : Logic C) (t : Tree) → l.phase ≡ Open → Meets (brings 0 (item.Elem t)) (row l) → Waits l
+pub waits : {C : Type 0} (l : Logic C) (t : Tree) → l.phase ≡ Open → Meets (arrives 0 (item.Elem t)) (row l) → Waits l
 waits l t h m = waits_in l m.0.ins m.0.outs t m.1.0 (subst (λ p. OneOneOf (row_in p l.over l.asked l.pending) m.0.ins m.0.outs) h m.1.1)
 
 -- ---- one step of the machine
@@ -138,7 +138,7 @@ module _ {C : Type 0} (rest : C → ListFunction) (is_open : C → Bool) (node n
     abbrev Steps : KeptSubs C → List Tagged → Option Blame → Subs → Type 0
     Steps now after b s =
         (y : Held Subs) × (Owes rest is_open f yields (then_one now after b) y
-        × (TurnAt machine 0 (brings 0 (item.Elem t)) (owing (at s)) (given_on 0 (acts_then now after b)) y × Queues (substreams yields (opening_of how)) (brings 0 (item.Elem t)) (owing (at s)) old_one (gave_then now after b) (then_one now after b)))
+        × (TurnAt machine 0 (arrives 0 (item.Elem t)) (owing (at s)) (given_on 0 (acts_then now after b)) y × Queues (substreams yields (opening_of how)) (arrives 0 (item.Elem t)) (owing (at s)) old_one (gave_then now after b) (then_one now after b)))
 
     -- the step of the machine, and what came of it
     fed : (s : Subs) (x : Run Subs Tagged) → sub_step yields (opening_of how) s t ≡ x → feed machine (at s) t ≡ untag x
@@ -189,7 +189,7 @@ module _ {C : Type 0} (rest : C → ListFunction) (is_open : C → Bool) (node n
     abbrev Turns : KeptSubs C → List Tagged → Option Blame → Held Subs → Type 0
     Turns now after b x =
         (y : Held Subs) × (Owes rest is_open f yields (then_one now after b) y
-        × (TurnAt machine 0 (brings 0 (item.Elem t)) x (given_on 0 (acts_then now after b)) y × Queues (substreams yields (opening_of how)) (brings 0 (item.Elem t)) x old_one (gave_then now after b) (then_one now after b)))
+        × (TurnAt machine 0 (arrives 0 (item.Elem t)) x (given_on 0 (acts_then now after b)) y × Queues (substreams yields (opening_of how)) (arrives 0 (item.Elem t)) x old_one (gave_then now after b) (then_one now after b)))
 
     turns : (now : KeptSubs C) (after : List Tagged) (b : Option Blame) → ((ss : List Sub) → Keeps rest is_open f yields how kept ss → TakesBy rest is_open f yields how ss t b [] after now)
         → (x : Held Subs) → Owes rest is_open f yields old_one x → Turns now after b x
@@ -203,7 +203,7 @@ module _ {C : Type 0} (rest : C → ListFunction) (is_open : C → Bool) (node n
   started_by now (o ∷ os) None e = cc
   started_by now after (Some b) e = cc
 
-  stands_by : (now : KeptSubs C) (after : List Tagged) (b : Option Blame) → AsksStand (acts_then now after b)
+  stands_by : (now : KeptSubs C) (after : List Tagged) (b : Option Blame) → PullsStand (acts_then now after b)
   stands_by now [] None = (tt, tt)
   stands_by now (o ∷ os) None = tt
   stands_by now after (Some b) = tt
@@ -230,7 +230,7 @@ module _ {C : Type 0} (rest : C → ListFunction) (is_open : C → Bool) (node n
 
   pushed_at : (whole : C → ListFunction) (now : KeptSubs C) (after : List Tagged) (b : Option Blame)
       → ((f : ListFunction) → Same (whole chain) f → (yields : List Tree → End → Given Tree) → Means yields f → (ss : List Sub) → Keeps rest is_open f yields how kept ss → TakesBy rest is_open f yields how ss t b [] after now)
-      → Turned whole rest is_open (brings 0 (item.Elem t)) old_one (acts_then now after b) (then_one now after b)
+      → Turned whole rest is_open (arrives 0 (item.Elem t)) old_one (acts_then now after b) (then_one now after b)
   pushed_at whole now after b takes =
       let stays = same_by now after b in
       record {
@@ -254,7 +254,7 @@ module _ {C : Type 0} (whole rest : C → ListFunction) (is_open : C → Bool) w
 
   -- an element that came to this
   pushed : (old st : Logic C) (t : Tree) (k : ℕ) (b : Option Blame) → old.phase ≡ Open → Waits old → k ≡ old.taken + 1 → st ≡ record old { kept = st.kept; pending = st.pending; moves = st.moves } → Takes old st t b old.pending
-      → Turned whole rest is_open (brings 0 (item.Elem t)) old (answer_acts st k b) (record (answered st k b) { moves = noted old.moves (port_in (answer_gave st b)) })
+      → Turned whole rest is_open (arrives 0 (item.Elem t)) old (answer_acts st k b) (record (answered st k b) { moves = noted old.moves (port_in (answer_gave st b)) })
   pushed old st t k b h w e m takes =
       let now : Logic C = of_parts Open old.node old.taken old.how old.chain st.kept st.pending true false st.moves in
       let is : old ≡ of_parts Open old.node old.taken old.how old.chain old.kept [] true false old.moves =
@@ -265,21 +265,21 @@ module _ {C : Type 0} (whole rest : C → ListFunction) (is_open : C → Bool) w
       ∙ ap (λ x. of_parts Open old.node old.taken old.how old.chain st.kept st.pending x old.over st.moves) w.asks ∙ ap (λ x. of_parts Open old.node old.taken old.how old.chain st.kept st.pending true x st.moves) w.on in
       let takes_now : Takes old st t b [] = subst (Takes old st t b) w.none takes in
       let core = pushed_at rest is_open old.node old.taken old.how old.chain old.kept t old.moves st.moves whole st.kept st.pending b takes_now in
-      let at_old : Turned whole rest is_open (brings 0 (item.Elem t)) old (answer_acts now (old.taken + 1) b) (record (answered now (old.taken + 1) b) { moves = noted old.moves (port_in (answer_gave now b)) }) =
-      subst (λ (x : Logic C). Turned whole rest is_open (brings 0 (item.Elem t)) x (answer_acts now (old.taken + 1) b) (record (answered now (old.taken + 1) b) { moves = noted old.moves (port_in (answer_gave now b)) })) (sym is) core in
-      let at_st : Turned whole rest is_open (brings 0 (item.Elem t)) old (answer_acts st (old.taken + 1) b) (record (answered st (old.taken + 1) b) { moves = noted old.moves (port_in (answer_gave st b)) }) =
-      subst (λ (x : Logic C). Turned whole rest is_open (brings 0 (item.Elem t)) old (answer_acts x (old.taken + 1) b) (record (answered x (old.taken + 1) b) { moves = noted old.moves (port_in (answer_gave x b)) })) (sym st_is) at_old in
-      subst (λ j. Turned whole rest is_open (brings 0 (item.Elem t)) old (answer_acts st j b) (record (answered st j b) { moves = noted old.moves (port_in (answer_gave st b)) })) (sym e) at_st
+      let at_old : Turned whole rest is_open (arrives 0 (item.Elem t)) old (answer_acts now (old.taken + 1) b) (record (answered now (old.taken + 1) b) { moves = noted old.moves (port_in (answer_gave now b)) }) =
+      subst (λ (x : Logic C). Turned whole rest is_open (arrives 0 (item.Elem t)) x (answer_acts now (old.taken + 1) b) (record (answered now (old.taken + 1) b) { moves = noted old.moves (port_in (answer_gave now b)) })) (sym is) core in
+      let at_st : Turned whole rest is_open (arrives 0 (item.Elem t)) old (answer_acts st (old.taken + 1) b) (record (answered st (old.taken + 1) b) { moves = noted old.moves (port_in (answer_gave st b)) }) =
+      subst (λ (x : Logic C). Turned whole rest is_open (arrives 0 (item.Elem t)) old (answer_acts x (old.taken + 1) b) (record (answered x (old.taken + 1) b) { moves = noted old.moves (port_in (answer_gave x b)) })) (sym st_is) at_old in
+      subst (λ j. Turned whole rest is_open (arrives 0 (item.Elem t)) old (answer_acts st j b) (record (answered st j b) { moves = noted old.moves (port_in (answer_gave st b)) })) (sym e) at_st
 
   -- the same, by what the handler's calls say: st0 was kept beside the log of the moves m
   pub on_pushed : (old st0 st now : Logic C) (t : Tree) (k : ℕ) (b : Option Blame) (acts : List Act) (port : Option ℕ) (m room ms : Option (List ℕ)) → record st0 { moves = m } ≡ old → old.phase ≡ Open → Waits old → k ≡ st0.taken + 1
       → st ≡ record st0 { kept = st.kept; pending = st.pending } → Takes st0 st t b st0.pending → now ≡ answered st k b → acts ≡ answer_acts st k b → port ≡ port_in (answer_gave st b) → room ≡ m → ms ≡ noted room port
-      → Turned whole rest is_open (brings 0 (item.Elem t)) old acts (record now { moves = ms })
+      → Turned whole rest is_open (arrives 0 (item.Elem t)) old acts (record now { moves = ms })
   on_pushed old st0 st now t k b acts port m room ms is h w e stays takes n a p r s =
-      subst (λ (l : Logic C). l.phase ≡ Open → Waits l → Turned whole rest is_open (brings 0 (item.Elem t)) l acts (record now { moves = ms })) is (λ h w. at_old h w) h w
+      subst (λ (l : Logic C). l.phase ≡ Open → Waits l → Turned whole rest is_open (arrives 0 (item.Elem t)) l acts (record now { moves = ms })) is (λ h w. at_old h w) h w
     where
       kept_is : st ≡ record st0 { kept = st.kept; pending = st.pending; moves = st.moves }
       kept_is = stays ∙ ap (λ (ks : Option (List ℕ)). record st0 { kept = st.kept; pending = st.pending; moves = ks }) (sym (ap (λ (l : Logic C). l.moves) stays))
 
-      at_old : st0.phase ≡ Open → Waits (record st0 { moves = m }) → Turned whole rest is_open (brings 0 (item.Elem t)) (record st0 { moves = m }) acts (record now { moves = ms })
+      at_old : st0.phase ≡ Open → Waits (record st0 { moves = m }) → Turned whole rest is_open (arrives 0 (item.Elem t)) (record st0 { moves = m }) acts (record now { moves = ms })
       at_old h w = rw (n, a, s, r, p) (pushed (record st0 { moves = m }) st t k b h w e kept_is takes)

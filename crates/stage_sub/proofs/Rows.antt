@@ -4,11 +4,11 @@ use Rattle.std.proofs.Common.{◌≡◌, ◌⊎◌, inl, inr, Bool, true, false,
 use Rattle.elem_core.specs.Tree.{Tree}
 use Rattle.elem_core.specs.declared.item.Item.{Item}
 use Rattle.port_core.specs.declared.view.InView.{InView}
-use Rattle.port_core.specs.declared.view.InView.TheVariants.{Idle, Waiting, Over, Left}
+use Rattle.port_core.specs.declared.view.InView.TheVariants.{Idle, Pulled, Finished, Cancelled}
 use Rattle.port_core.specs.declared.view.OutView.{OutView}
-use Rattle.port_core.specs.declared.view.OutView.TheVariants.{Unasked, Asked, Shut, Refused}
+use Rattle.port_core.specs.declared.view.OutView.TheVariants as outlet
 use Rattle.port_core.specs.View.{View, in_at, out_at, OneOneOf, IsInOpen, IsOutOpen}
-use Rattle.port_core.specs.Call.{Call, starts, asks, brings, cancels, CallAllowed, Meets}
+use Rattle.port_core.specs.Call.{Call, starts, pulls, arrives, cancels, CallAllowed, Meets}
 use Rattle.port_core.specs.ListFunction.{ListFunction}
 use Rattle.stream_model.specs.FanIn.{Tagged}
 use Rattle.stream_model.specs.Machine.{State, going, Run, Machine, run, Given}
@@ -30,8 +30,8 @@ use Rattle.stage_sub.specs.States.{Logic, row, row_in, StateIs, OwesIn, Owes, Re
 
 some_open : (call : Call) (x : InView) (y : OutView) → CallAllowed call (record { ins = x ∷ []; outs = y ∷ [] }) → IsInOpen x ⊎ IsOutOpen y
 some_open starts x y h = inl (rw h.0.0 tt)
-some_open (asks j) x y h = may_come (asks j) x y (λ e. cc) h
-some_open (brings i b) x y h = may_come (brings i b) x y (λ e. cc) h
+some_open (pulls j) x y h = may_come (pulls j) x y (λ e. cc) h
+some_open (arrives i b) x y h = may_come (arrives i b) x y (λ e. cc) h
 some_open (cancels j) x y h = may_come (cancels j) x y (λ e. cc) h
 
 open_at : (p : Phase) (over asked : Bool) (k : List Tagged) (x : InView) (y : OutView) → (p ≡ New → ⊥) → (IsInOpen x ⊎ IsOutOpen y) → row_in p over asked k x y → p ≡ Open
@@ -75,41 +75,41 @@ module _ {C : Type 0} (rest : C → ListFunction) (is_open : C → Bool) where
 -- ---- where it has nothing to do
 
 module _ {C : Type 0} (rest : C → ListFunction) (is_open : C → Bool) (f : ListFunction) (yields : List Tree → End → Given Tree) (m : Machine Subs Tree) (start : Run Subs Tree) (took gave : List Item) where
-  waiting : (x : Run Subs Tree) → x.gave ≡ [] → (law : Law m start (owing x) Waiting Asked took gave) → OwnRests m start true Waiting Asked law.in_list law.out_list
-  waiting x none law = subst (λ (k : List Tree). (law : Law m start (owing (record { gave = k; state = x.state })) Waiting Asked took gave) → OwnRests m start true Waiting Asked law.in_list law.out_list) (sym none) (λ law. waiting_rests m start true x.state took gave law) law
+  waiting : (x : Run Subs Tree) → x.gave ≡ [] → (law : Law m start (owing x) Pulled outlet.Available took gave) → OwnRests m start true Pulled outlet.Available law.in_list law.out_list
+  waiting x none law = subst (λ (k : List Tree). (law : Law m start (owing (record { gave = k; state = x.state })) Pulled outlet.Available took gave) → OwnRests m start true Pulled outlet.Available law.in_list law.out_list) (sym none) (λ law. waiting_rests m start true x.state took gave law) law
 
-  waiting_held : (l : Logic C) (h : Held Subs) → OwesIn rest is_open f yields Open l h → l.pending ≡ [] → (law : Law m start h Waiting Asked took gave) → OwnRests m start true Waiting Asked law.in_list law.out_list
+  waiting_held : (l : Logic C) (h : Held Subs) → OwesIn rest is_open f yields Open l h → l.pending ≡ [] → (law : Law m start h Pulled outlet.Available took gave) → OwnRests m start true Pulled outlet.Available law.in_list law.out_list
   waiting_held l (owing x) o none law = waiting x (o.0 ∙ ap items none) law
   waiting_held l shut o none law = absurd o
 
   at_ports : (l : Logic C) (h : Held Subs) (p : Phase) (over asked : Bool) (x : InView) (y : OutView) → (p ≡ New → ⊥) → OwesIn rest is_open f yields p l h → row_in p over asked l.pending x y → (law : Law m start h x y took gave) → OwnRests m start true x y law.in_list law.out_list
   at_ports l h New over asked x y n o r law = absurd (n refl)
   at_ports l h Closed over asked x y n o r law = closed_rests m start true x y law.in_list law.out_list r
-  at_ports l h Open false true Waiting Asked n o r law = waiting_held l h o r law
-  at_ports l h Open false false Idle Unasked n o r law = idle_rests m start true law.in_list law.out_list
-  at_ports l h Open true false Over Unasked n o r law = inr (inr (inr (refl, (refl, refl), refl)))
-  at_ports l h Open false true Waiting Unasked n o r law = absurd r
-  at_ports l h Open false true Waiting Shut n o r law = absurd r
-  at_ports l h Open false true Waiting Refused n o r law = absurd r
+  at_ports l h Open false true Pulled outlet.Available n o r law = waiting_held l h o r law
+  at_ports l h Open false false Idle outlet.Unpulled n o r law = idle_rests m start true law.in_list law.out_list
+  at_ports l h Open true false Finished outlet.Unpulled n o r law = inr (inr (inr (refl, (refl, refl), refl)))
+  at_ports l h Open false true Pulled outlet.Unpulled n o r law = absurd r
+  at_ports l h Open false true Pulled outlet.Closed n o r law = absurd r
+  at_ports l h Open false true Pulled outlet.Cancelled n o r law = absurd r
   at_ports l h Open false true Idle y n o r law = absurd r
-  at_ports l h Open false true Over y n o r law = absurd r
-  at_ports l h Open false true Left y n o r law = absurd r
-  at_ports l h Open false false Idle Asked n o r law = absurd r
-  at_ports l h Open false false Idle Shut n o r law = absurd r
-  at_ports l h Open false false Idle Refused n o r law = absurd r
-  at_ports l h Open false false Waiting y n o r law = absurd r
-  at_ports l h Open false false Over y n o r law = absurd r
-  at_ports l h Open false false Left y n o r law = absurd r
-  at_ports l h Open true false Over Asked n o r law = absurd r
-  at_ports l h Open true false Over Shut n o r law = absurd r
-  at_ports l h Open true false Over Refused n o r law = absurd r
+  at_ports l h Open false true Finished y n o r law = absurd r
+  at_ports l h Open false true Cancelled y n o r law = absurd r
+  at_ports l h Open false false Idle outlet.Available n o r law = absurd r
+  at_ports l h Open false false Idle outlet.Closed n o r law = absurd r
+  at_ports l h Open false false Idle outlet.Cancelled n o r law = absurd r
+  at_ports l h Open false false Pulled y n o r law = absurd r
+  at_ports l h Open false false Finished y n o r law = absurd r
+  at_ports l h Open false false Cancelled y n o r law = absurd r
+  at_ports l h Open true false Finished outlet.Available n o r law = absurd r
+  at_ports l h Open true false Finished outlet.Closed n o r law = absurd r
+  at_ports l h Open true false Finished outlet.Cancelled n o r law = absurd r
   at_ports l h Open true false Idle y n o r law = absurd r
-  at_ports l h Open true false Waiting y n o r law = absurd r
-  at_ports l h Open true false Left y n o r law = absurd r
+  at_ports l h Open true false Pulled y n o r law = absurd r
+  at_ports l h Open true false Cancelled y n o r law = absurd r
   at_ports l h Open true true x y n o r law = absurd r
 
   at_lists : (l : Logic C) (h : Held Subs) (xs : List InView) (ys : List OutView) → (l.phase ≡ New → ⊥) → Owes rest is_open f yields l h → OneOneOf (row_in l.phase l.over l.asked l.pending) xs ys
-      → (law : Law m start h (slice_index_or xs 0 Left) (slice_index_or ys 0 Shut) took gave) → OwnRests m start true (slice_index_or xs 0 Left) (slice_index_or ys 0 Shut) law.in_list law.out_list
+      → (law : Law m start h (slice_index_or xs 0 Cancelled) (slice_index_or ys 0 outlet.Closed) took gave) → OwnRests m start true (slice_index_or xs 0 Cancelled) (slice_index_or ys 0 outlet.Closed) law.in_list law.out_list
   at_lists l h (x ∷ []) (y ∷ []) n o r law = at_ports l h l.phase l.over l.asked x y n o r law
   at_lists l h [] ys n o r law = absurd r
   at_lists l h (x ∷ []) [] n o r law = absurd r
@@ -121,7 +121,7 @@ module _ {C : Type 0} (rest : C → ListFunction) (is_open : C → Bool) (f : Li
 
   -- ---- where it waits for its input
 
-  gave_run : (x : Run Subs Tree) (s : Subs) → x.gave ≡ [] → x.state ≡ going s → (law : Law m start (owing x) Waiting Asked took gave) → GaveAll m start Asked law.in_list law.out_list
+  gave_run : (x : Run Subs Tree) (s : Subs) → x.gave ≡ [] → x.state ≡ going s → (law : Law m start (owing x) Pulled outlet.Available took gave) → GaveAll m start outlet.Available law.in_list law.out_list
   gave_run x s none on law =
       let u : law.in_end ≡ unended = law.took_as in
       let now : run m start law.in_list ≡ record { gave = law.out_list ++ x.gave; state = x.state } = ap (λ (e : End). ends_by m (run m start law.in_list) e) (sym u) ∙ law.keeps.1.0 in
@@ -131,33 +131,33 @@ module _ {C : Type 0} (rest : C → ListFunction) (is_open : C → Bool) (f : Li
         runs = now ∙ ap (λ (k : List Tree). record { gave = law.out_list ++ k; state = x.state }) none ∙ ap (λ (k : List Tree). record { gave = k; state = x.state }) (append-nil law.out_list) ∙ ap (λ (k : State Subs). record { gave = law.out_list; state = k }) on;
       }
 
-  gave_held : (l : Logic C) (h : Held Subs) → l.over ≡ false → OwesIn rest is_open f yields Open l h → l.pending ≡ [] → (law : Law m start h Waiting Asked took gave) → GaveAll m start Asked law.in_list law.out_list
+  gave_held : (l : Logic C) (h : Held Subs) → l.over ≡ false → OwesIn rest is_open f yields Open l h → l.pending ≡ [] → (law : Law m start h Pulled outlet.Available took gave) → GaveAll m start outlet.Available law.in_list law.out_list
   gave_held l shut w o none law = absurd o
   gave_held l (owing x) w o none law =
       let s = subst (λ (b : Bool). StateIs rest is_open f yields b l x.state) w o.1 in
       gave_run x s.0 (o.0 ∙ ap items none) s.1.0 law
 
-  gave_ports : (l : Logic C) (h : Held Subs) (p : Phase) (over asked : Bool) (x : InView) (y : OutView) → (p ≡ New → ⊥) → l.over ≡ over → OwesIn rest is_open f yields p l h → row_in p over asked l.pending x y → x ≡ Waiting → (law : Law m start h x y took gave) → GaveAll m start y law.in_list law.out_list
+  gave_ports : (l : Logic C) (h : Held Subs) (p : Phase) (over asked : Bool) (x : InView) (y : OutView) → (p ≡ New → ⊥) → l.over ≡ over → OwesIn rest is_open f yields p l h → row_in p over asked l.pending x y → x ≡ Pulled → (law : Law m start h x y took gave) → GaveAll m start y law.in_list law.out_list
   gave_ports l h New over asked x y n w o r e law = absurd (n refl)
-  gave_ports l h Closed over asked Waiting y n w o r e law = absurd r
-  gave_ports l h Open false true Waiting Asked n w o r e law = gave_held l h w o r law
-  gave_ports l h Open false true Waiting Unasked n w o r e law = absurd r
-  gave_ports l h Open false true Waiting Shut n w o r e law = absurd r
-  gave_ports l h Open false true Waiting Refused n w o r e law = absurd r
-  gave_ports l h Open false false Waiting y n w o r e law = absurd r
-  gave_ports l h Open true false Waiting y n w o r e law = absurd r
-  gave_ports l h Open true true Waiting y n w o r e law = absurd r
+  gave_ports l h Closed over asked Pulled y n w o r e law = absurd r
+  gave_ports l h Open false true Pulled outlet.Available n w o r e law = gave_held l h w o r law
+  gave_ports l h Open false true Pulled outlet.Unpulled n w o r e law = absurd r
+  gave_ports l h Open false true Pulled outlet.Closed n w o r e law = absurd r
+  gave_ports l h Open false true Pulled outlet.Cancelled n w o r e law = absurd r
+  gave_ports l h Open false false Pulled y n w o r e law = absurd r
+  gave_ports l h Open true false Pulled y n w o r e law = absurd r
+  gave_ports l h Open true true Pulled y n w o r e law = absurd r
   gave_ports l h p over asked Idle y n w o r e law = cc
-  gave_ports l h p over asked Over y n w o r e law = cc
-  gave_ports l h p over asked Left y n w o r e law = cc
+  gave_ports l h p over asked Finished y n w o r e law = cc
+  gave_ports l h p over asked Cancelled y n w o r e law = cc
 
-  gave_lists : (l : Logic C) (h : Held Subs) (xs : List InView) (ys : List OutView) → (l.phase ≡ New → ⊥) → Owes rest is_open f yields l h → OneOneOf (row_in l.phase l.over l.asked l.pending) xs ys → slice_index_or xs 0 Left ≡ Waiting
-      → (law : Law m start h (slice_index_or xs 0 Left) (slice_index_or ys 0 Shut) took gave) → GaveAll m start (slice_index_or ys 0 Shut) law.in_list law.out_list
+  gave_lists : (l : Logic C) (h : Held Subs) (xs : List InView) (ys : List OutView) → (l.phase ≡ New → ⊥) → Owes rest is_open f yields l h → OneOneOf (row_in l.phase l.over l.asked l.pending) xs ys → slice_index_or xs 0 Cancelled ≡ Pulled
+      → (law : Law m start h (slice_index_or xs 0 Cancelled) (slice_index_or ys 0 outlet.Closed) took gave) → GaveAll m start (slice_index_or ys 0 outlet.Closed) law.in_list law.out_list
   gave_lists l h (x ∷ []) (y ∷ []) n o r e law = gave_ports l h l.phase l.over l.asked x y n refl o r e law
   gave_lists l h [] ys n o r e law = absurd r
   gave_lists l h (x ∷ []) [] n o r e law = absurd r
   gave_lists l h (x ∷ []) (y ∷ z ∷ ys) n o r e law = absurd r
   gave_lists l h (x ∷ w ∷ xs) ys n o r e law = absurd r
 
-  pub waiting_gave : (l : Logic C) (h : Held Subs) (v : View) → (l.phase ≡ New → ⊥) → Owes rest is_open f yields l h → row l v → in_at v 0 ≡ Waiting → (law : Law m start h (in_at v 0) (out_at v 0) took gave) → GaveAll m start (out_at v 0) law.in_list law.out_list
+  pub waiting_gave : (l : Logic C) (h : Held Subs) (v : View) → (l.phase ≡ New → ⊥) → Owes rest is_open f yields l h → row l v → in_at v 0 ≡ Pulled → (law : Law m start h (in_at v 0) (out_at v 0) took gave) → GaveAll m start (out_at v 0) law.in_list law.out_list
   waiting_gave l h v n o r e law = gave_lists l h v.ins v.outs n o r e law

@@ -5,13 +5,13 @@ use Rattle.std.proofs.lemmas.List.{map-append}
 use Rattle.elem_core.specs.Tree.{Tree}
 use Rattle.elem_core.specs.declared.item.Item.TheVariants as item
 use Rattle.elem_core.specs.declared.why.Cause.{Cause}
-use Rattle.port_core.specs.Asking.{AsksStand}
+use Rattle.port_core.specs.Asking.{PullsStand}
 use Rattle.port_core.specs.declared.act.Act.{Act}
 use Rattle.port_core.specs.declared.act.Act.TheVariants.{FailOut}
-use Rattle.port_core.specs.Call.{starts, asks, brings, cancels, Meets, given_on}
+use Rattle.port_core.specs.Call.{starts, pulls, arrives, cancels, Meets, given_on}
 use Rattle.port_core.specs.View.{OneOneOf, in_at, IsInOpen}
 use Rattle.port_core.specs.declared.view.InView.{InView}
-use Rattle.port_core.specs.declared.view.InView.TheVariants.{Idle, Waiting, Over, Left}
+use Rattle.port_core.specs.declared.view.InView.TheVariants.{Idle, Pulled, Finished, Cancelled}
 use Rattle.port_core.specs.declared.view.OutView.{OutView}
 use Rattle.port_core.specs.ListFunction.{ListFunction}
 use Rattle.stream_model.specs.Outlook.{End, unended, ended, failed}
@@ -37,12 +37,12 @@ use Rattle.stage_sub.proofs.Pushing.{of_parts}
 
 opens_at : {C : Type 0} (l : Logic C) (over asked : Bool) (p : List Tagged) (x : InView) (y : OutView) → IsInOpen x → l.over ≡ over → row_in Open over asked p x y → l.over ≡ false
 opens_at l false asked p x y w a r = a
-opens_at l true asked p Over y w a r = absurd w
-opens_at l true asked p Left y w a r = absurd w
+opens_at l true asked p Finished y w a r = absurd w
+opens_at l true asked p Cancelled y w a r = absurd w
 opens_at l true true p Idle y w a r = absurd r
 opens_at l true false p Idle y w a r = absurd r
-opens_at l true true p Waiting y w a r = absurd r
-opens_at l true false p Waiting y w a r = absurd r
+opens_at l true true p Pulled y w a r = absurd r
+opens_at l true false p Pulled y w a r = absurd r
 
 opens_in : {C : Type 0} (l : Logic C) (xs : List InView) (ys : List OutView) → IsInOpen (in_at (record { ins = xs; outs = ys }) 0) → OneOneOf (row_in Open l.over l.asked l.pending) xs ys → l.over ≡ false
 opens_in l (x ∷ []) (y ∷ []) w r = opens_at l l.over l.asked l.pending x y w refl r
@@ -51,10 +51,10 @@ opens_in l (x ∷ []) [] w r = absurd r
 opens_in l (x ∷ []) (y ∷ z ∷ ys) w r = absurd r
 opens_in l (x ∷ u ∷ xs) ys w r = absurd r
 
-pub goes_on : {C : Type 0} (l : Logic C) → l.phase ≡ Open → Meets (brings 0 item.Ended) (row l) → l.over ≡ false
+pub goes_on : {C : Type 0} (l : Logic C) → l.phase ≡ Open → Meets (arrives 0 item.Ended) (row l) → l.over ≡ false
 goes_on l h m = opens_in l m.0.ins m.0.outs m.1.0 (subst (λ p. OneOneOf (row_in p l.over l.asked l.pending) m.0.ins m.0.outs) h m.1.1)
 
-pub goes_on_still : {C : Type 0} (l : Logic C) (c : Cause) → l.phase ≡ Open → Meets (brings 0 (item.Failed c)) (row l) → l.over ≡ false
+pub goes_on_still : {C : Type 0} (l : Logic C) (c : Cause) → l.phase ≡ Open → Meets (arrives 0 (item.Failed c)) (row l) → l.over ≡ false
 goes_on_still l c h m = opens_in l m.0.ins m.0.outs m.1.0 (subst (λ p. OneOneOf (row_in p l.over l.asked l.pending) m.0.ins m.0.outs) h m.1.1)
 
 opened_state : {C : Type 0} (rest : C → ListFunction) (is_open : C → Bool) (node n : ℕ) (how : OpenBy) (chain : C) (ms : Option (List ℕ)) (f : ListFunction) (yields : List Tree → End → Given Tree) (kept : KeptSubs C) (p : List Tagged) (asked over : Bool) (st : State Subs)
@@ -105,7 +105,7 @@ module _ {C : Type 0} (whole rest : C → ListFunction) (is_open : C → Bool) (
     abbrev Asks : List Tagged → Bool → Bool → Held Subs → Type 0
     Asks p asked over x =
         (y : Held Subs) × (Owes rest is_open f yields (asked_then kept p asked over) y
-        × (TurnAt (joined yields (opening_of how)) 0 (asks 0) x (given_on 0 (pulled_acts over p)) y × Queues (substreams yields (opening_of how)) (asks 0) x (logic Open kept p asked over) (first_of p) (asked_then kept p asked over)))
+        × (TurnAt (joined yields (opening_of how)) 0 (pulls 0) x (given_on 0 (pulled_acts over p)) y × Queues (substreams yields (opening_of how)) (pulls 0) x (logic Open kept p asked over) (first_of p) (asked_then kept p asked over)))
 
     state_kept : (p q : List Tagged) (a b over : Bool) (l k : Option (List ℕ)) (st : State Subs) → StateIs rest is_open f yields over (of_parts Open node n how chain kept p a over l) st → StateIs rest is_open f yields over (of_parts Open node n how chain kept q b over k) st
     state_kept p q a b false l k st h = h
@@ -122,7 +122,7 @@ module _ {C : Type 0} (whole rest : C → ListFunction) (is_open : C → Bool) (
     asks_at (o ∷ u ∷ os) asked true (owing x) h = (owing (record { gave = items (u ∷ os); state = x.state }), ((refl, h.1), (gave_first x o (u ∷ os) h.0, inl (sym (append-nil (o ∷ u ∷ os))))))
     asks_at p asked over shut h = absurd h
 
-  ask_at : (kept : KeptSubs C) (p : List Tagged) (asked over : Bool) → Turned whole rest is_open (asks 0) (logic Open kept p asked over) (pulled_acts over p) (asked_then kept p asked over)
+  ask_at : (kept : KeptSubs C) (p : List Tagged) (asked over : Bool) → Turned whole rest is_open (pulls 0) (logic Open kept p asked over) (pulled_acts over p) (asked_then kept p asked over)
   ask_at kept [] asked over = record { gave = None; closing = unended; out = refl; turn = λ f same yields means x h. asks_at f yields kept [] asked over x h; moves = refl; node = refl; how = refl; chain = refl; stands = (tt, tt); started = λ e. cc }
   ask_at kept (o ∷ os) asked false = record { gave = Some o; closing = unended; out = refl; turn = λ f same yields means x h. asks_at f yields kept (o ∷ os) asked false x h; moves = refl; node = refl; how = refl; chain = refl; stands = tt; started = λ e. cc }
   ask_at kept (o ∷ []) asked true = record { gave = Some o; closing = ended; out = refl; turn = λ f same yields means x h. asks_at f yields kept (o ∷ []) asked true x h; moves = refl; node = refl; how = refl; chain = refl; stands = tt; started = λ e. cc }
@@ -146,10 +146,10 @@ module _ {C : Type 0} (whole rest : C → ListFunction) (is_open : C → Bool) (
     abbrev Ends : List Tagged → Bool → Option Blame → Run Subs Tree → Type 0
     Ends after asked b x =
         (y : Held Subs) × (Owes rest is_open f yields (ended_then now after asked b) y
-        × (TurnAt machine 0 (brings 0 item.Ended) (owing x) (given_on 0 (finish_acts (bare now after asked false) b)) y × Queues tagged_machine (brings 0 item.Ended) (owing x) (logic Open kept held asked false) (gave_at_end now after asked b) (ended_then now after asked b)))
+        × (TurnAt machine 0 (arrives 0 item.Ended) (owing x) (given_on 0 (finish_acts (bare now after asked false) b)) y × Queues tagged_machine (arrives 0 item.Ended) (owing x) (logic Open kept held asked false) (gave_at_end now after asked b) (ended_then now after asked b)))
 
     abbrev Queue : List Tagged → Run Subs Tree → Type 0
-    Queue p x = p ≡ held ++ arising tagged_machine (brings 0 item.Ended) x.state
+    Queue p x = p ≡ held ++ arising tagged_machine (arrives 0 item.Ended) x.state
 
     -- by what is held once the input has ended
     seals : (p : List Tagged) (asked : Bool) (x : Run Subs Tree) → after machine x item.Ended ≡ record { gave = items p; state = done } → Queue p x → Ends p asked None x
@@ -183,7 +183,7 @@ module _ {C : Type 0} (whole rest : C → ListFunction) (is_open : C → Bool) (
         let all : items held ++ items (news yields 0 s.subs (end_all s.subs)) ≡ items after_ = sym (map-append (λ (o : Tagged). o.item) held (news yields 0 s.subs (end_all s.subs))) ∙ ap items (sym h.1.0) in
         let e : after machine k item.Ended ≡ record { gave = items after_; state = done } =
         ap (λ (q : Finish Tagged). sealed_by machine (items held) (untag_finish q)) fin ∙ ap (λ (l : List Tree). record { gave = l; state = done }) all in
-        let arose : arising tagged_machine (brings 0 item.Ended) x.state ≡ news yields 0 s.subs (end_all s.subs) = ap (λ (q : State Subs). arising tagged_machine (brings 0 item.Ended) q) st ∙ ap added fin in
+        let arose : arising tagged_machine (arrives 0 item.Ended) x.state ≡ news yields 0 s.subs (end_all s.subs) = ap (λ (q : State Subs). arising tagged_machine (arrives 0 item.Ended) q) st ∙ ap added fin in
         seals after_ asked x (ap (λ (q : Run Subs Tree). after machine q item.Ended) is ∙ e) (h.1.0 ∙ ap (λ (l : List Tagged). held ++ l) (sym arose))
     ends after_ asked (Some b) x s g st sn h =
         let fin : sub_finish yields s ≡ refuses (blame_end s (why_of (fault_in_model b))) = finish_is s (Some (fault_in_model b)) h in
@@ -195,13 +195,13 @@ module _ {C : Type 0} (whole rest : C → ListFunction) (is_open : C → Bool) (
   end_turns : (kept now : KeptSubs C) (p after : List Tagged) (asked : Bool) (b : Option Blame) → AllEnd kept p b after
       → (f : ListFunction) (yields : List Tree → End → Given Tree) → Means yields f → (x : Held Subs) → Owes rest is_open f yields (logic Open kept p asked false) x
       → (y : Held Subs) × (Owes rest is_open f yields (ended_then now after asked b) y
-      × (TurnAt (joined yields (opening_of how)) 0 (brings 0 item.Ended) x (given_on 0 (finish_acts (bare now after asked false) b)) y
-      × Queues (substreams yields (opening_of how)) (brings 0 item.Ended) x (logic Open kept p asked false) (gave_at_end now after asked b) (ended_then now after asked b)))
+      × (TurnAt (joined yields (opening_of how)) 0 (arrives 0 item.Ended) x (given_on 0 (finish_acts (bare now after asked false) b)) y
+      × Queues (substreams yields (opening_of how)) (arrives 0 item.Ended) x (logic Open kept p asked false) (gave_at_end now after asked b) (ended_then now after asked b)))
   end_turns kept now p after asked b becomes f yields means shut h = absurd h
   end_turns kept now p after asked b becomes f yields means (owing x) h = let s : Subs = h.1.0 in ends f yields kept now p after asked b x s h.0 h.1.1.0 h.1.1.1.0 (becomes f yields means s.subs h.1.1.1.1.1)
 
   end_at : (kept now : KeptSubs C) (p after : List Tagged) (asked : Bool) (b : Option Blame) → AllEnd kept p b after
-      → Turned whole rest is_open (brings 0 item.Ended) (logic Open kept p asked false) (finish_acts (bare now after asked false) b) (ended_then now after asked b)
+      → Turned whole rest is_open (arrives 0 item.Ended) (logic Open kept p asked false) (finish_acts (bare now after asked false) b) (ended_then now after asked b)
   end_at kept now p [] true None h = record { gave = None; closing = ended; out = refl; turn = λ f same yields means. end_turns kept now p [] true None h f yields means; moves = refl; node = refl; how = refl; chain = refl; stands = tt; started = λ e. cc }
   end_at kept now p [] false None h = record { gave = None; closing = ended; out = refl; turn = λ f same yields means. end_turns kept now p [] false None h f yields means; moves = refl; node = refl; how = refl; chain = refl; stands = tt; started = λ e. cc }
   end_at kept now p (o ∷ os) false None h = record { gave = None; closing = unended; out = refl; turn = λ f same yields means. end_turns kept now p (o ∷ os) false None h f yields means; moves = refl; node = refl; how = refl; chain = refl; stands = tt; started = λ e. cc }
@@ -211,7 +211,7 @@ module _ {C : Type 0} (whole rest : C → ListFunction) (is_open : C → Bool) (
 
   -- ---- a failure of the input, and a cancel of the output
 
-  fail_at : (kept : KeptSubs C) (p : List Tagged) (asked : Bool) (c : Cause) → Turned whole rest is_open (brings 0 (item.Failed c)) (logic Open kept p asked false) (FailOut 0 c ∷ []) (logic Closed kept p asked false)
+  fail_at : (kept : KeptSubs C) (p : List Tagged) (asked : Bool) (c : Cause) → Turned whole rest is_open (arrives 0 (item.Failed c)) (logic Open kept p asked false) (FailOut 0 c ∷ []) (logic Closed kept p asked false)
   fail_at kept p asked c = record {
     gave = None;
     closing = failed c;
@@ -226,7 +226,7 @@ module _ {C : Type 0} (whole rest : C → ListFunction) (is_open : C → Bool) (
   }
     where
       by_held : (f : ListFunction) (yields : List Tree → End → Given Tree) (x : Held Subs) → Owes rest is_open f yields (logic Open kept p asked false) x
-          → (y : Held Subs) × (Owes rest is_open f yields (logic Closed kept p asked false) y × (TurnAt (joined yields (opening_of how)) 0 (brings 0 (item.Failed c)) x (item.Failed c ∷ []) y × Queues (substreams yields (opening_of how)) (brings 0 (item.Failed c)) x (logic Open kept p asked false) None (logic Closed kept p asked false)))
+          → (y : Held Subs) × (Owes rest is_open f yields (logic Closed kept p asked false) y × (TurnAt (joined yields (opening_of how)) 0 (arrives 0 (item.Failed c)) x (item.Failed c ∷ []) y × Queues (substreams yields (opening_of how)) (arrives 0 (item.Failed c)) x (logic Open kept p asked false) None (logic Closed kept p asked false)))
       by_held f yields (owing x) h =
           let goes : IsTrue (is_going x.state) = ap (λ (k : State Subs). is_going k) h.1.1.0 in
           (shut, (tt, (inr ((goes, inr (omega arith)), (refl, refl)), inr (refl, refl))))
@@ -250,7 +250,7 @@ module _ {C : Type 0} (whole rest : C → ListFunction) (is_open : C → Bool) (
       none_out true = refl
       none_out false = refl
 
-      stands_by : (b : Bool) → AsksStand (cancel_acts b)
+      stands_by : (b : Bool) → PullsStand (cancel_acts b)
       stands_by true = tt
       stands_by false = tt
 
@@ -278,58 +278,58 @@ module _ {C : Type 0} (whole rest : C → ListFunction) (is_open : C → Bool) w
           rw (n, a) (subst (λ p. Turned whole rest is_open starts (of_parts p st.node st.taken st.how st.chain st.kept st.pending st.asked st.over m) [] (of_parts Open st.node st.taken st.how st.chain st.kept st.pending st.asked st.over m)) (sym h) core)
 
   pub on_asked : (old st now : Logic C) (acts : List Act) (port : Option ℕ) (m room ms : Option (List ℕ)) → record st { moves = m } ≡ old → old.phase ≡ Open
-      → now ≡ pulled st st.pending → acts ≡ pulled_acts st.over st.pending → port ≡ port_in (first_of st.pending) → room ≡ m → ms ≡ noted room port → Turned whole rest is_open (asks 0) old acts (record now { moves = ms })
+      → now ≡ pulled st st.pending → acts ≡ pulled_acts st.over st.pending → port ≡ port_in (first_of st.pending) → room ≡ m → ms ≡ noted room port → Turned whole rest is_open (pulls 0) old acts (record now { moves = ms })
   on_asked old st now acts port m room ms is h n a p r s =
-      subst (λ (l : Logic C). l.phase ≡ Open → Turned whole rest is_open (asks 0) l acts (record now { moves = ms })) is (λ h. at_old h) h
+      subst (λ (l : Logic C). l.phase ≡ Open → Turned whole rest is_open (pulls 0) l acts (record now { moves = ms })) is (λ h. at_old h) h
     where
-      core : Turned whole rest is_open (asks 0) (of_parts Open st.node st.taken st.how st.chain st.kept st.pending st.asked st.over m) (pulled_acts st.over st.pending) (record (pulled (with_all st Open st.over st.moves) st.pending) { moves = noted m (port_in (first_of st.pending)) })
+      core : Turned whole rest is_open (pulls 0) (of_parts Open st.node st.taken st.how st.chain st.kept st.pending st.asked st.over m) (pulled_acts st.over st.pending) (record (pulled (with_all st Open st.over st.moves) st.pending) { moves = noted m (port_in (first_of st.pending)) })
       core = ask_at whole rest is_open st.node st.taken st.how st.chain m st.moves st.kept st.pending st.asked st.over
 
-      at_old : st.phase ≡ Open → Turned whole rest is_open (asks 0) (record st { moves = m }) acts (record now { moves = ms })
+      at_old : st.phase ≡ Open → Turned whole rest is_open (pulls 0) (record st { moves = m }) acts (record now { moves = ms })
       at_old h =
           rw (n, a, s, r, p)
-          (subst (λ p. Turned whole rest is_open (asks 0) (of_parts p st.node st.taken st.how st.chain st.kept st.pending st.asked st.over m) (pulled_acts st.over st.pending) (record (pulled (with_all st p st.over st.moves) st.pending) { moves = noted m (port_in (first_of st.pending)) })) (sym h) core)
+          (subst (λ p. Turned whole rest is_open (pulls 0) (of_parts p st.node st.taken st.how st.chain st.kept st.pending st.asked st.over m) (pulled_acts st.over st.pending) (record (pulled (with_all st p st.over st.moves) st.pending) { moves = noted m (port_in (first_of st.pending)) })) (sym h) core)
 
   abbrev AllEnds : Logic C → Logic C → Option Blame → Type 0
   AllEnds old st b =
       (f : ListFunction) (yields : List Tree → End → Given Tree) → Means yields f → (ss : List Sub) → Keeps rest is_open f yields old.how old.kept ss → Reaches yields (λ k. ⊤) ss (end_all ss) b old.pending st.pending
 
   ended_once : (old st : Logic C) (b : Option Blame) → old.phase ≡ Open → old.over ≡ false → st ≡ record old { kept = st.kept; pending = st.pending; moves = st.moves } → AllEnds old st b
-      → Turned whole rest is_open (brings 0 item.Ended) old (finish_acts st b) (record (finished st b) { moves = noted old.moves (port_in (finish_gave st b)) })
+      → Turned whole rest is_open (arrives 0 item.Ended) old (finish_acts st b) (record (finished st b) { moves = noted old.moves (port_in (finish_gave st b)) })
   ended_once old st b h w m becomes =
       let is : old ≡ of_parts Open old.node old.taken old.how old.chain old.kept old.pending old.asked false old.moves =
       ap (with_phase old) h ∙ ap (λ x. of_parts Open old.node old.taken old.how old.chain old.kept old.pending old.asked x old.moves) w in
       let now : Logic C = of_parts Open old.node old.taken old.how old.chain st.kept st.pending old.asked false st.moves in
       let st_is : st ≡ now = m ∙ ap (λ p. of_parts p old.node old.taken old.how old.chain st.kept st.pending old.asked old.over st.moves) h ∙ ap (λ x. of_parts Open old.node old.taken old.how old.chain st.kept st.pending old.asked x st.moves) w in
       let core = end_at whole rest is_open old.node old.taken old.how old.chain old.moves st.moves old.kept st.kept old.pending st.pending old.asked b becomes in
-      subst (λ (x : Logic C). Turned whole rest is_open (brings 0 item.Ended) old (finish_acts x b) (record (finished x b) { moves = noted old.moves (port_in (finish_gave x b)) })) (sym st_is)
-      (subst (λ (x : Logic C). Turned whole rest is_open (brings 0 item.Ended) x (finish_acts now b) (record (finished now b) { moves = noted old.moves (port_in (finish_gave now b)) })) (sym is) core)
+      subst (λ (x : Logic C). Turned whole rest is_open (arrives 0 item.Ended) old (finish_acts x b) (record (finished x b) { moves = noted old.moves (port_in (finish_gave x b)) })) (sym st_is)
+      (subst (λ (x : Logic C). Turned whole rest is_open (arrives 0 item.Ended) x (finish_acts now b) (record (finished now b) { moves = noted old.moves (port_in (finish_gave now b)) })) (sym is) core)
 
   pub on_ended : (old st0 st now : Logic C) (b : Option Blame) (acts : List Act) (port : Option ℕ) (m room ms : Option (List ℕ)) → record st0 { moves = m } ≡ old → old.phase ≡ Open → old.over ≡ false
       → st ≡ record st0 { kept = st.kept; pending = st.pending } → AllEnds st0 st b → now ≡ finished st b → acts ≡ finish_acts st b → port ≡ port_in (finish_gave st b) → room ≡ m → ms ≡ noted room port
-      → Turned whole rest is_open (brings 0 item.Ended) old acts (record now { moves = ms })
+      → Turned whole rest is_open (arrives 0 item.Ended) old acts (record now { moves = ms })
   on_ended old st0 st now b acts port m room ms is h w stays becomes n a p r s =
-      subst (λ (l : Logic C). l.phase ≡ Open → l.over ≡ false → Turned whole rest is_open (brings 0 item.Ended) l acts (record now { moves = ms })) is (λ h w. at_old h w) h w
+      subst (λ (l : Logic C). l.phase ≡ Open → l.over ≡ false → Turned whole rest is_open (arrives 0 item.Ended) l acts (record now { moves = ms })) is (λ h w. at_old h w) h w
     where
       kept_is : st ≡ record st0 { kept = st.kept; pending = st.pending; moves = st.moves }
       kept_is = stays ∙ ap (λ (ks : Option (List ℕ)). record st0 { kept = st.kept; pending = st.pending; moves = ks }) (sym (ap (λ (l : Logic C). l.moves) stays))
 
-      at_old : st0.phase ≡ Open → st0.over ≡ false → Turned whole rest is_open (brings 0 item.Ended) (record st0 { moves = m }) acts (record now { moves = ms })
+      at_old : st0.phase ≡ Open → st0.over ≡ false → Turned whole rest is_open (arrives 0 item.Ended) (record st0 { moves = m }) acts (record now { moves = ms })
       at_old h w = rw (n, a, s, r, p) (ended_once (record st0 { moves = m }) st b h w kept_is becomes)
 
   pub on_failed : (old st now : Logic C) (c : Cause) (acts : List Act) (m : Option (List ℕ)) → record st { moves = m } ≡ old → old.phase ≡ Open → old.over ≡ false → now ≡ record st { phase = Closed } → acts ≡ FailOut 0 c ∷ []
-      → Turned whole rest is_open (brings 0 (item.Failed c)) old acts (record now { moves = m })
+      → Turned whole rest is_open (arrives 0 (item.Failed c)) old acts (record now { moves = m })
   on_failed old st now c acts m is h w n a =
-      subst (λ (l : Logic C). l.phase ≡ Open → l.over ≡ false → Turned whole rest is_open (brings 0 (item.Failed c)) l acts (record now { moves = m })) is (λ h w. at_old h w) h w
+      subst (λ (l : Logic C). l.phase ≡ Open → l.over ≡ false → Turned whole rest is_open (arrives 0 (item.Failed c)) l acts (record now { moves = m })) is (λ h w. at_old h w) h w
     where
-      core : Turned whole rest is_open (brings 0 (item.Failed c)) (with_all st Open false m) (FailOut 0 c ∷ []) (with_all st Closed false m)
+      core : Turned whole rest is_open (arrives 0 (item.Failed c)) (with_all st Open false m) (FailOut 0 c ∷ []) (with_all st Closed false m)
       core = fail_at whole rest is_open st.node st.taken st.how st.chain m m st.kept st.pending st.asked c
 
-      at_old : st.phase ≡ Open → st.over ≡ false → Turned whole rest is_open (brings 0 (item.Failed c)) (record st { moves = m }) acts (record now { moves = m })
+      at_old : st.phase ≡ Open → st.over ≡ false → Turned whole rest is_open (arrives 0 (item.Failed c)) (record st { moves = m }) acts (record now { moves = m })
       at_old h w =
           rw (n, a)
-          (subst (λ p. Turned whole rest is_open (brings 0 (item.Failed c)) (with_all st p st.over m) (FailOut 0 c ∷ []) (with_all st Closed st.over m)) (sym h)
-          (subst (λ x. Turned whole rest is_open (brings 0 (item.Failed c)) (with_all st Open x m) (FailOut 0 c ∷ []) (with_all st Closed x m)) (sym w) core))
+          (subst (λ p. Turned whole rest is_open (arrives 0 (item.Failed c)) (with_all st p st.over m) (FailOut 0 c ∷ []) (with_all st Closed st.over m)) (sym h)
+          (subst (λ x. Turned whole rest is_open (arrives 0 (item.Failed c)) (with_all st Open x m) (FailOut 0 c ∷ []) (with_all st Closed x m)) (sym w) core))
 
   pub on_left : (old st now : Logic C) (acts : List Act) (m : Option (List ℕ)) → record st { moves = m } ≡ old → old.phase ≡ Open → now ≡ record st { phase = Closed } → acts ≡ cancel_acts st.over
       → Turned whole rest is_open (cancels 0) old acts (record now { moves = m })

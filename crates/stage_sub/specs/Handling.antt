@@ -6,7 +6,7 @@ use Rattle.elem_core.specs.declared.item.Item.{Item}
 use Rattle.port_core.specs.ListFunction.{ListFunction, Same}
 use Rattle.port_core.specs.View.{View, in_at, out_at, unpulled_ports}
 use Rattle.port_core.specs.declared.view.OutView.{OutView}
-use Rattle.port_core.specs.declared.view.OutView.TheVariants.{Asked}
+use Rattle.port_core.specs.declared.view.OutView.TheVariants.{Available}
 use Rattle.stream_model.specs.declared.kind.Kind.{Kind}
 use Rattle.stream_model.specs.declared.kind.Kind.TheVariants.{GroupBy, SplitWhen, SplitAfter}
 use Rattle.stream_model.specs.declared.kind.Joining.{Joining}
@@ -91,7 +91,7 @@ module _ {C : Type 0} (rest : C → ListFunction) (is_open : C → Bool) where
 
 -- A stage that waits for its input: it is asked, its machine gave just this for what the stage took, and goes on.
 pub record GaveAll (m : Machine Subs Tree) (start : Run Subs Tree) (out : OutView) (took gave : List Tree) : Type 0 where
-  pub asked : out ≡ Asked
+  pub asked : out ≡ Available
   pub state : Subs
   pub runs : run m start took ≡ record { gave = gave; state = going state }
 

@@ -2,7 +2,7 @@
 use Rattle.std.specs.Prelude.{ℕ, List, [], ◌∷◌, ◌++◌, Option, Some, None}
 use Rattle.std.specs.Option.{option_map}
 use Rattle.elem_core.specs.declared.item.Item.TheVariants as item
-use Rattle.port_core.specs.Call.{Call, brings}
+use Rattle.port_core.specs.Call.{Call, arrives}
 use Rattle.stream_model.specs.FanIn.{Tagged}
 use Rattle.stream_model.specs.Machine.{State, going, Finish, adds, refuses, Machine}
 use Rattle.stream_model.specs.Substreams.{Subs}
@@ -29,6 +29,6 @@ added (refuses c) = []
 
 -- the outputs that arise by a call, by the state of the machine
 abbrev pub arising : Machine Subs Tagged → Call → State Subs → List Tagged
-arising m (brings i (item.Elem t)) (going s) = (m.step s t).gave
-arising m (brings i item.Ended) (going s) = added (m.finish s)
+arising m (arrives i (item.Elem t)) (going s) = (m.step s t).gave
+arising m (arrives i item.Ended) (going s) = added (m.finish s)
 arising m _ _ = []

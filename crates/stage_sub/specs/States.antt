@@ -3,13 +3,13 @@ use Rattle.std.specs.Prelude.{◌≡◌, ◌≢◌, ◌⊎◌, ◌<◌, ⊤, ℕ
 use Rattle.elem_core.specs.Tree.{Tree}
 use Rattle.elem_core.specs.declared.why.Cause.{Cause}
 use Rattle.port_core.specs.declared.view.InView.{InView}
-use Rattle.port_core.specs.declared.view.InView.TheVariants.{Idle, Waiting, Over}
+use Rattle.port_core.specs.declared.view.InView.TheVariants.{Idle, Pulled, Finished}
 use Rattle.port_core.specs.declared.view.OutView.{OutView}
-use Rattle.port_core.specs.declared.view.OutView.TheVariants.{Unasked, Asked}
+use Rattle.port_core.specs.declared.view.OutView.TheVariants.{Unpulled, Available}
 use Rattle.port_core.specs.declared.act.Act.{Act}
 use Rattle.port_core.specs.declared.act.Act.TheVariants.{Pull, Push, Complete, FailOut, Cancel}
 use Rattle.port_core.specs.View.{View, OneOne}
-use Rattle.port_core.specs.Asking.{AsksStand}
+use Rattle.port_core.specs.Asking.{PullsStand}
 use Rattle.port_core.specs.Call.{Call, given_on}
 use Rattle.port_core.specs.ListFunction.{ListFunction, Same}
 use Rattle.stream_model.specs.Outlook.{End}
@@ -61,10 +61,10 @@ begun node how moves chain = record {
 -- its row: before its start nobody asked; then it asks where its output is asked and nothing is held; once its input has
 -- ended it holds something; or all is closed
 abbrev pub row_in : Phase → Bool → Bool → List Tagged → InView → OutView → Type 0
-row_in New false false p Idle Unasked = p ≡ []
-row_in Open false true p Waiting Asked = p ≡ []
-row_in Open false false p Idle Unasked = ⊤
-row_in Open true false p Over Unasked = 0 < length p
+row_in New false false p Idle Unpulled = p ≡ []
+row_in Open false true p Pulled Available = p ≡ []
+row_in Open false false p Idle Unpulled = ⊤
+row_in Open true false p Finished Unpulled = 0 < length p
 row_in Closed over asked p i o = BothClosed i o
 row_in _ _ _ _ _ _ = ⊥
 
@@ -110,7 +110,7 @@ pub record Turned {C : Type 0} (whole rest : C → ListFunction) (is_open : C �
   pub node : new.node ≡ old.node
   pub how : new.how ≡ old.how
   pub chain : new.chain ≡ old.chain
-  pub stands : AsksStand acts
+  pub stands : PullsStand acts
   pub started : new.phase ≢ New
 
 -- its chains may be called

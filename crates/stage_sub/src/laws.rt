@@ -4,7 +4,7 @@ ghost use Rattle.elem_core.specs.Tree.{Tree};
 ghost use Rattle.elem_core.specs.declared.item.Item.{Item};
 ghost use Rattle.port_core.specs.ListFunction.{ListFunction};
 ghost use Rattle.port_core.specs.View.{View, in_at, out_at};
-ghost use Rattle.port_core.specs.declared.view.InView.TheVariants.{Waiting};
+ghost use Rattle.port_core.specs.declared.view.InView.TheVariants.{Pulled};
 ghost use Rattle.port_core.specs.Call.{Call, starts, CallAllowed};
 ghost use Rattle.stream_model.specs.FanIn.{Tagged};
 ghost use Rattle.stream_model.specs.Machine.{Run, Given, Stands};
@@ -45,7 +45,7 @@ pub fn a_started_stage_rests<C: Chain>()
 /// A stage that waits for its input is asked, and it gave all that its machine gives for what it took, which goes on.
 pub fn a_waiting_stage_gave_all<C: Chain>()
     ensures { (f : ListFunction) (yields : List Tree → End → Given Tree) (start : Run Subs Tagged) (first now : Logic C) (v : View) (took gave : List Item) → SubRow C.rest C.is_open now v
-        → (t : Tells C.rest C.is_open f yields start first now v took gave) → in_at v 0 ≡ Waiting → GaveAll (joined yields (opening_of first.how)) (untag start) (out_at v 0) t.law.in_list t.law.out_list }
+        → (t : Tells C.rest C.is_open f yields start first now v took gave) → in_at v 0 ≡ Pulled → GaveAll (joined yields (opening_of first.how)) (untag start) (out_at v 0) t.law.in_list t.law.out_list }
 {}
 
 /// Where the port rules allow a call of a handler and the row holds, a stage that was started is open.

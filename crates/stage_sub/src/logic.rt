@@ -1,7 +1,7 @@
 ghost use Rattle.std.specs.Prelude.{◌≡◌, ◌≤◌, [], OnOk, IsOk};
 ghost use Rattle.std.specs.Option.{option_map};
 ghost use Rattle.elem_core.specs.declared.item.Item.TheVariants as item;
-ghost use Rattle.port_core.specs.Call.{Obeys, Meets, starts, asks, brings, cancels};
+ghost use Rattle.port_core.specs.Call.{Obeys, Meets, starts, pulls, arrives, cancels};
 ghost use Rattle.stage_core.specs.declared.phase.Phase.TheVariants.{New, Open};
 ghost use Rattle.stage_sub.specs.Handling.{sub_picks, no_moves, IsSub, Begins};
 ghost use Rattle.stage_sub.specs.States.{begun, row, Turned, Ready};
@@ -93,12 +93,12 @@ impl<C: Chain> SubLogic<C> {
     pub fn on_pull(&mut self, port: u8, acts: &mut Acts) -> Result<(), NoMemory>
         requires open { self.old.phase ≡ Open }
         requires port { port ≡ 0 }
-        requires meets { Meets (asks 0) (row self.old) }
+        requires meets { Meets (pulls 0) (row self.old) }
         requires empty { acts.old.items ≡ [] }
         requires room { 4 ≤ acts.old.room }
         requires ready { Ready C.rest C.is_open self.old }
-        ensures ports { OnOk result (Obeys (asks 0) (row self.old) (row self.new) acts.new.items) }
-        ensures gives { OnOk result (Turned C.whole C.rest C.is_open (asks 0) self.old acts.new.items self.new) }
+        ensures ports { OnOk result (Obeys (pulls 0) (row self.old) (row self.new) acts.new.items) }
+        ensures gives { OnOk result (Turned C.whole C.rest C.is_open (pulls 0) self.old acts.new.items self.new) }
         ensures ready { OnOk result (Ready C.rest C.is_open self.new) }
         ensures room { acts.new.room ≡ acts.old.room }
     {
@@ -112,13 +112,13 @@ impl<C: Chain> SubLogic<C> {
     pub fn on_fail(&mut self, port: u8, cause: Cause, acts: &mut Acts) -> Result<(), NoMemory>
         requires open { self.old.phase ≡ Open }
         requires port { port ≡ 0 }
-        requires meets { Meets (brings 0 (item.Failed cause)) (row self.old) }
+        requires meets { Meets (arrives 0 (item.Failed cause)) (row self.old) }
         requires empty { acts.old.items ≡ [] }
         requires room { 4 ≤ acts.old.room }
         requires ready { Ready C.rest C.is_open self.old }
         ensures answers { IsOk result }
-        ensures ports { OnOk result (Obeys (brings 0 (item.Failed cause)) (row self.old) (row self.new) acts.new.items) }
-        ensures gives { OnOk result (Turned C.whole C.rest C.is_open (brings 0 (item.Failed cause)) self.old acts.new.items self.new) }
+        ensures ports { OnOk result (Obeys (arrives 0 (item.Failed cause)) (row self.old) (row self.new) acts.new.items) }
+        ensures gives { OnOk result (Turned C.whole C.rest C.is_open (arrives 0 (item.Failed cause)) self.old acts.new.items self.new) }
         ensures ready { OnOk result (Ready C.rest C.is_open self.new) }
         ensures room { acts.new.room ≡ acts.old.room }
     {
@@ -148,12 +148,12 @@ impl<C: Chain> SubLogic<C> {
     pub fn on_finish(&mut self, alloc: Global, port: u8, acts: &mut Acts) -> Result<(), NoMemory>
         requires open { self.old.phase ≡ Open }
         requires port { port ≡ 0 }
-        requires meets { Meets (brings 0 item.Ended) (row self.old) }
+        requires meets { Meets (arrives 0 item.Ended) (row self.old) }
         requires empty { acts.old.items ≡ [] }
         requires room { 4 ≤ acts.old.room }
         requires ready { Ready C.rest C.is_open self.old }
-        ensures ports { OnOk result (Obeys (brings 0 item.Ended) (row self.old) (row self.new) acts.new.items) }
-        ensures gives { OnOk result (Turned C.whole C.rest C.is_open (brings 0 item.Ended) self.old acts.new.items self.new) }
+        ensures ports { OnOk result (Obeys (arrives 0 item.Ended) (row self.old) (row self.new) acts.new.items) }
+        ensures gives { OnOk result (Turned C.whole C.rest C.is_open (arrives 0 item.Ended) self.old acts.new.items self.new) }
         ensures ready { OnOk result (Ready C.rest C.is_open self.new) }
         ensures room { acts.new.room ≡ acts.old.room }
     {
@@ -174,12 +174,12 @@ impl<C: Chain> SubLogic<C> {
     ) -> Result<(), NoMemory>
         requires open { self.old.phase ≡ Open }
         requires port { port ≡ 0 }
-        requires meets { Meets (brings 0 (item.Elem e)) (row self.old) }
+        requires meets { Meets (arrives 0 (item.Elem e)) (row self.old) }
         requires empty { acts.old.items ≡ [] }
         requires room { 4 ≤ acts.old.room }
         requires ready { Ready C.rest C.is_open self.old }
-        ensures ports { OnOk result (Obeys (brings 0 (item.Elem e)) (row self.old) (row self.new) acts.new.items) }
-        ensures gives { OnOk result (Turned C.whole C.rest C.is_open (brings 0 (item.Elem e)) self.old acts.new.items self.new) }
+        ensures ports { OnOk result (Obeys (arrives 0 (item.Elem e)) (row self.old) (row self.new) acts.new.items) }
+        ensures gives { OnOk result (Turned C.whole C.rest C.is_open (arrives 0 (item.Elem e)) self.old acts.new.items self.new) }
         ensures ready { OnOk result (Ready C.rest C.is_open self.new) }
         ensures room { acts.new.room ≡ acts.old.room }
     {

@@ -8,11 +8,11 @@ use Rattle.elem_core.specs.declared.item.Item.TheVariants as item
 use Rattle.elem_core.specs.declared.why.Decider.{Decider}
 use Rattle.port_core.specs.declared.act.Act.{Act}
 use Rattle.port_core.specs.declared.view.InView.{InView}
-use Rattle.port_core.specs.declared.view.InView.TheVariants.{Idle, Left}
+use Rattle.port_core.specs.declared.view.InView.TheVariants.{Idle, Cancelled}
 use Rattle.port_core.specs.declared.view.OutView.{OutView}
-use Rattle.port_core.specs.declared.view.OutView.TheVariants.{Unasked}
+use Rattle.port_core.specs.declared.view.OutView.TheVariants.{Unpulled}
 use Rattle.port_core.specs.View.{View, in_at, out_at, ActsAllowed, acted_all}
-use Rattle.port_core.specs.Call.{Call, starts, asks, brings, cancels, AllIdle, CallAllowed, MayCome, Meets, seen, brought_to, given_on, Obeys}
+use Rattle.port_core.specs.Call.{Call, starts, pulls, arrives, cancels, AllIdle, CallAllowed, MayCome, Meets, seen, brought_to, given_on, Obeys}
 use Rattle.stage_core.specs.Histories as histories
 use Rattle.stage_core.specs.Handling.{Starts, Handles}
 use Rattle.stage_core.proofs.OnOks.{on_ok_two}
@@ -62,8 +62,8 @@ valve_handled call old new acts o t = record {
 }
 
 -- its ports are open and not asked
-new_ports : (p : Phase) (x : InView) (y : OutView) → p ≡ New → passing_row p x y → (x ≡ Idle) × (y ≡ Unasked)
-new_ports New Idle Unasked e r = (refl, refl)
+new_ports : (p : Phase) (x : InView) (y : OutView) → p ≡ New → passing_row p x y → (x ≡ Idle) × (y ≡ Unpulled)
+new_ports New Idle Unpulled e r = (refl, refl)
 new_ports New x y e r = absurd r
 new_ports Open x y e r = cc
 new_ports Closed x y e r = cc
@@ -105,17 +105,17 @@ elements-append (item.Failed c ∷ is) js = elements-append is js
 -- what a call that may come brings to the one input
 one_brought : (call : Call) (v : View) → length v.ins ≡ 1 → CallAllowed call v → brought call ≡ elements (brought_to 0 call)
 one_brought starts v o h = refl
-one_brought (asks j) v o h = refl
+one_brought (pulls j) v o h = refl
 one_brought (cancels j) v o h = refl
-one_brought (brings zero (item.Elem e)) v o h = refl
-one_brought (brings zero item.Ended) v o h = refl
-one_brought (brings zero (item.Failed c)) v o h = refl
-one_brought (brings (suc i) b) v o h = by_list v.ins o h
+one_brought (arrives zero (item.Elem e)) v o h = refl
+one_brought (arrives zero item.Ended) v o h = refl
+one_brought (arrives zero (item.Failed c)) v o h = refl
+one_brought (arrives (suc i) b) v o h = by_list v.ins o h
   where
-    by_list : (xs : List InView) → length xs ≡ 1 → MayCome b (slice_index_or xs (suc i) Left) → brought (brings (suc i) b) ≡ elements (brought_to 0 (brings (suc i) b))
+    by_list : (xs : List InView) → length xs ≡ 1 → MayCome b (slice_index_or xs (suc i) Cancelled) → brought (arrives (suc i) b) ≡ elements (brought_to 0 (arrives (suc i) b))
     by_list (x ∷ []) o h = none b h
       where
-        none : (c : Item) → MayCome c Left → brought (brings (suc i) b) ≡ elements (brought_to 0 (brings (suc i) b))
+        none : (c : Item) → MayCome c Cancelled → brought (arrives (suc i) b) ≡ elements (brought_to 0 (arrives (suc i) b))
         none (item.Elem e) h = cc
         none item.Ended h = absurd h
         none (item.Failed c) h = absurd h

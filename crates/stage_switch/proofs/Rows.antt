@@ -6,11 +6,11 @@ use Rattle.elem_core.specs.Tree.{Tree}
 use Rattle.elem_core.specs.declared.item.Item.{Item}
 use Rattle.elem_core.specs.declared.item.Item.TheVariants as item
 use Rattle.port_core.specs.declared.view.InView.{InView}
-use Rattle.port_core.specs.declared.view.InView.TheVariants.{Idle, Waiting, Over, Left}
+use Rattle.port_core.specs.declared.view.InView.TheVariants.{Idle, Pulled, Finished, Cancelled}
 use Rattle.port_core.specs.declared.view.OutView.{OutView}
-use Rattle.port_core.specs.declared.view.OutView.TheVariants.{Unasked, Asked, Shut, Refused}
+use Rattle.port_core.specs.declared.view.OutView.TheVariants as outlet
 use Rattle.port_core.specs.View.{View, in_at, out_at, OneOne, OneOneOf, unpulled_ports}
-use Rattle.port_core.specs.Call.{Call, starts, asks, brings, cancels, CallAllowed, Meets}
+use Rattle.port_core.specs.Call.{Call, starts, pulls, arrives, cancels, CallAllowed, Meets}
 use Rattle.stream_model.specs.Outlook.{End}
 use Rattle.stream_model.specs.FanIn.{Inflow}
 use Rattle.stage_core.specs.declared.phase.Phase.{Phase}
@@ -31,20 +31,20 @@ use Rattle.stage_switch.specs.Handling.{ValveFresh, ValveRow, ValveAs, TripFresh
 -- ---- where it rests
 
 closed_rests : (x : InView) (y : OutView) (f : Inflow) (g : List Tree) → BothClosed x y → RestsAt x y (f ∷ []) g
-closed_rests Over Shut f g h = inl (refl, refl)
-closed_rests Over Refused f g h = inl (refl, refl)
-closed_rests Left Shut f g h = inl (refl, refl)
-closed_rests Left Refused f g h = inl (refl, refl)
+closed_rests Finished outlet.Closed f g h = inl (refl, refl)
+closed_rests Finished outlet.Cancelled f g h = inl (refl, refl)
+closed_rests Cancelled outlet.Closed f g h = inl (refl, refl)
+closed_rests Cancelled outlet.Cancelled f g h = inl (refl, refl)
 closed_rests Idle y f g h = absurd h
-closed_rests Waiting y f g h = absurd h
-closed_rests Over Unasked f g h = absurd h
-closed_rests Over Asked f g h = absurd h
-closed_rests Left Unasked f g h = absurd h
-closed_rests Left Asked f g h = absurd h
+closed_rests Pulled y f g h = absurd h
+closed_rests Finished outlet.Unpulled f g h = absurd h
+closed_rests Finished outlet.Available f g h = absurd h
+closed_rests Cancelled outlet.Unpulled f g h = absurd h
+closed_rests Cancelled outlet.Available f g h = absurd h
 
 open_rests : (node n : ℕ) (x : InView) (y : OutView) (f : Inflow) (g : List Tree) (e : End) → passing_row Open x y → ValveKeeps node (passes n) (f ∷ []) g e → RestsAt x y (f ∷ []) g
-open_rests node n Waiting Asked f g e r k = inr (inl ((refl, refl), (refl, refl), ap length (k.1.1.0 ∙ sym (take-length f.list))))
-open_rests node n Idle Unasked f g e r k = inr (inr (inl ((refl, refl), inr (refl, refl))))
+open_rests node n Pulled outlet.Available f g e r k = inr (inl ((refl, refl), (refl, refl), ap length (k.1.1.0 ∙ sym (take-length f.list))))
+open_rests node n Idle outlet.Unpulled f g e r k = inr (inr (inl ((refl, refl), inr (refl, refl))))
 open_rests node n x y f g e r k = absurd r
 
 rests_at : (node n : ℕ) (p : Phase) (moves : List ℕ) (x : InView) (y : OutView) (ins : List Inflow) (g : List Tree) (e : End) → p ≢ New → passing_row p x y → ValveKeeps node (valve_held_in p n moves) ins g e → RestsAt x y ins g
@@ -57,7 +57,7 @@ rests_at node n Closed moves x y (f ∷ []) g e s r k = closed_rests x y f g r
 rests_at node n Closed moves x y (f ∷ h ∷ fs) g e s r k = absurd k
 
 -- the row at the two ports
-at_ports : (P : InView → OutView → Type 0) (xs : List InView) (ys : List OutView) → OneOneOf P xs ys → P (slice_index_or xs 0 Left) (slice_index_or ys 0 Shut)
+at_ports : (P : InView → OutView → Type 0) (xs : List InView) (ys : List OutView) → OneOneOf P xs ys → P (slice_index_or xs 0 Cancelled) (slice_index_or ys 0 outlet.Closed)
 at_ports P (x ∷ []) (y ∷ []) r = r
 at_ports P [] ys r = absurd r
 at_ports P (x ∷ []) [] r = absurd r
@@ -70,27 +70,27 @@ valve_rests first l v took gave r law =
     rests_at first.node l.passed l.phase l.moves (in_at v 0) (out_at v 0) ports.ins ports.out_list ports.out_end r.started (at_ports (passing_row l.phase) v.ins v.outs r.row.0) ports.keeps
 
 -- where it waits it is asked, and gave all that came
-waits_at : (node n : ℕ) (p : Phase) (moves : List ℕ) (x : InView) (y : OutView) (ins : List Inflow) (g : List Tree) (e : End) → x ≡ Waiting → passing_row p x y → ValveKeeps node (valve_held_in p n moves) ins g e → (y ≡ Asked) × GaveAll ins g
+waits_at : (node n : ℕ) (p : Phase) (moves : List ℕ) (x : InView) (y : OutView) (ins : List Inflow) (g : List Tree) (e : End) → x ≡ Pulled → passing_row p x y → ValveKeeps node (valve_held_in p n moves) ins g e → (y ≡ outlet.Available) × GaveAll ins g
 waits_at node n New moves x y ins g e w r k = by_view x y w r
   where
-    by_view : (x : InView) (y : OutView) → x ≡ Waiting → passing_row New x y → (y ≡ Asked) × GaveAll ins g
-    by_view Waiting y w r = absurd r
+    by_view : (x : InView) (y : OutView) → x ≡ Pulled → passing_row New x y → (y ≡ outlet.Available) × GaveAll ins g
+    by_view Pulled y w r = absurd r
     by_view x y w r = cc
 waits_at node n Closed moves x y ins g e w r k = by_view x y w r
   where
-    by_view : (x : InView) (y : OutView) → x ≡ Waiting → BothClosed x y → (y ≡ Asked) × GaveAll ins g
-    by_view Waiting y w r = absurd r
+    by_view : (x : InView) (y : OutView) → x ≡ Pulled → BothClosed x y → (y ≡ outlet.Available) × GaveAll ins g
+    by_view Pulled y w r = absurd r
     by_view x y w r = cc
 waits_at node n Open moves x y [] g e w r k = absurd k
 waits_at node n Open moves x y (f ∷ h ∷ fs) g e w r k = absurd k
 waits_at node n Open moves x y (f ∷ []) g e w r k = (by_view x y w r, k.1.1.0)
   where
-    by_view : (x : InView) (y : OutView) → x ≡ Waiting → passing_row Open x y → y ≡ Asked
-    by_view Waiting Asked w r = refl
-    by_view Waiting y w r = absurd r
+    by_view : (x : InView) (y : OutView) → x ≡ Pulled → passing_row Open x y → y ≡ outlet.Available
+    by_view Pulled outlet.Available w r = refl
+    by_view Pulled y w r = absurd r
     by_view x y w r = cc
 
-pub valve_waits : (first now : Valve) (v : View) (took gave : List (List Item)) → ValveRow now v → (law : ValveAs first now v took gave) → in_at v 0 ≡ Waiting → (out_at v 0 ≡ Asked) × GaveAll law.by.law.ins law.by.law.out_list
+pub valve_waits : (first now : Valve) (v : View) (took gave : List (List Item)) → ValveRow now v → (law : ValveAs first now v took gave) → in_at v 0 ≡ Pulled → (out_at v 0 ≡ outlet.Available) × GaveAll law.by.law.ins law.by.law.out_list
 valve_waits first l v took gave r law w =
     let ports = law.by.law in
     waits_at first.node l.passed l.phase l.moves (in_at v 0) (out_at v 0) ports.ins ports.out_list ports.out_end w (at_ports (passing_row l.phase) v.ins v.outs r.row.0) ports.keeps
@@ -101,24 +101,24 @@ open_at : (p : Phase) (call : Call) (x : InView) (y : OutView) → p ≢ New →
 open_at New call x y n s h r = absurd (n refl)
 open_at Open call x y n s h r = refl
 open_at Closed starts x y n s h r = absurd (s refl)
-open_at Closed (asks zero) Over Shut n s h r = cc
-open_at Closed (asks zero) Over Refused n s h r = cc
-open_at Closed (asks zero) Left Shut n s h r = cc
-open_at Closed (asks zero) Left Refused n s h r = cc
-open_at Closed (asks (suc j)) x y n s h r = cc
-open_at Closed (brings zero (item.Elem e)) Over y n s h r = cc
-open_at Closed (brings zero (item.Elem e)) Left y n s h r = cc
-open_at Closed (brings zero item.Ended) Over y n s h r = absurd h
-open_at Closed (brings zero item.Ended) Left y n s h r = absurd h
-open_at Closed (brings zero (item.Failed c)) Over y n s h r = absurd h
-open_at Closed (brings zero (item.Failed c)) Left y n s h r = absurd h
-open_at Closed (brings (suc i) (item.Elem e)) x y n s h r = cc
-open_at Closed (brings (suc i) item.Ended) x y n s h r = absurd h
-open_at Closed (brings (suc i) (item.Failed c)) x y n s h r = absurd h
-open_at Closed (cancels zero) Over Shut n s h r = absurd h
-open_at Closed (cancels zero) Over Refused n s h r = absurd h
-open_at Closed (cancels zero) Left Shut n s h r = absurd h
-open_at Closed (cancels zero) Left Refused n s h r = absurd h
+open_at Closed (pulls zero) Finished outlet.Closed n s h r = cc
+open_at Closed (pulls zero) Finished outlet.Cancelled n s h r = cc
+open_at Closed (pulls zero) Cancelled outlet.Closed n s h r = cc
+open_at Closed (pulls zero) Cancelled outlet.Cancelled n s h r = cc
+open_at Closed (pulls (suc j)) x y n s h r = cc
+open_at Closed (arrives zero (item.Elem e)) Finished y n s h r = cc
+open_at Closed (arrives zero (item.Elem e)) Cancelled y n s h r = cc
+open_at Closed (arrives zero item.Ended) Finished y n s h r = absurd h
+open_at Closed (arrives zero item.Ended) Cancelled y n s h r = absurd h
+open_at Closed (arrives zero (item.Failed c)) Finished y n s h r = absurd h
+open_at Closed (arrives zero (item.Failed c)) Cancelled y n s h r = absurd h
+open_at Closed (arrives (suc i) (item.Elem e)) x y n s h r = cc
+open_at Closed (arrives (suc i) item.Ended) x y n s h r = absurd h
+open_at Closed (arrives (suc i) (item.Failed c)) x y n s h r = absurd h
+open_at Closed (cancels zero) Finished outlet.Closed n s h r = absurd h
+open_at Closed (cancels zero) Finished outlet.Cancelled n s h r = absurd h
+open_at Closed (cancels zero) Cancelled outlet.Closed n s h r = absurd h
+open_at Closed (cancels zero) Cancelled outlet.Cancelled n s h r = absurd h
 open_at Closed (cancels (suc j)) x y n s h r = absurd h
 open_at Closed call x y n s h r = absurd r
 
@@ -161,12 +161,12 @@ module _ (book : Book) (start : Run Stage Tree) (took gave : List Item) where
   trip_at : (p : Phase) (s : Stage) (x : InView) (y : OutView) → p ≢ New → passing_row p x y → (law : Law (linear book passing) start (trip_held_in p s) x y took gave) → OwnRests (linear book passing) start false x y law.in_list law.out_list
   trip_at New s x y n r law = absurd (n refl)
   trip_at Closed s x y n r law = own_closed (linear book passing) start false x y law.in_list law.out_list r
-  trip_at Open s Waiting Asked n r law = waiting_rests (linear book passing) start false (going s) took gave law
-  trip_at Open s Idle Unasked n r law = idle_rests (linear book passing) start false law.in_list law.out_list
+  trip_at Open s Pulled outlet.Available n r law = waiting_rests (linear book passing) start false (going s) took gave law
+  trip_at Open s Idle outlet.Unpulled n r law = idle_rests (linear book passing) start false law.in_list law.out_list
   trip_at Open s x y n r law = absurd r
 
   trip_lists : (p : Phase) (s : Stage) (xs : List InView) (ys : List OutView) → p ≢ New → OneOneOf (passing_row p) xs ys
-      → (law : Law (linear book passing) start (trip_held_in p s) (slice_index_or xs 0 Left) (slice_index_or ys 0 Shut) took gave) → OwnRests (linear book passing) start false (slice_index_or xs 0 Left) (slice_index_or ys 0 Shut) law.in_list law.out_list
+      → (law : Law (linear book passing) start (trip_held_in p s) (slice_index_or xs 0 Cancelled) (slice_index_or ys 0 outlet.Closed) took gave) → OwnRests (linear book passing) start false (slice_index_or xs 0 Cancelled) (slice_index_or ys 0 outlet.Closed) law.in_list law.out_list
   trip_lists p s (x ∷ []) (y ∷ []) n r law = trip_at p s x y n r law
   trip_lists p s [] ys n r law = absurd r
   trip_lists p s (x ∷ []) [] n r law = absurd r

@@ -8,12 +8,12 @@ use Rattle.kill_core.specs.Public.{SwitchState, SeatState, IsSeatOf, Answers}
 use Rattle.port_core.specs.declared.act.Act.{Act}
 use Rattle.port_core.specs.declared.act.Act.TheVariants.{Complete, FailOut, Cancel}
 use Rattle.port_core.specs.declared.view.InView.{InView}
-use Rattle.port_core.specs.declared.view.InView.TheVariants.{Idle, Waiting}
+use Rattle.port_core.specs.declared.view.InView.TheVariants.{Idle, Pulled}
 use Rattle.port_core.specs.declared.view.OutView.{OutView}
-use Rattle.port_core.specs.declared.view.OutView.TheVariants.{Unasked, Asked}
+use Rattle.port_core.specs.declared.view.OutView.TheVariants.{Unpulled, Available}
 use Rattle.port_core.specs.View.{View, OneOne}
-use Rattle.port_core.specs.Asking.{AsksStand}
-use Rattle.port_core.specs.Call.{Call, starts, asks, brings, cancels, given_on}
+use Rattle.port_core.specs.Asking.{PullsStand}
+use Rattle.port_core.specs.Call.{Call, starts, pulls, arrives, cancels, given_on}
 use Rattle.stream_model.specs.Machine.{going}
 use Rattle.stream_model.specs.Linear.{Book, Stage, passing, linear}
 use Rattle.stream_model.specs.Picks.{Acted, untouched, completed, aborted, acted}
@@ -33,9 +33,9 @@ IsUnused switch seat = IsSeatOf switch seat × ((seat.gave ≡ None) × (seat.kn
 
 -- what it knows of its ports: while it is open it waits exactly where its output is asked
 abbrev pub passing_row : Phase → InView → OutView → Type 0
-passing_row New Idle Unasked = ⊤
-passing_row Open Waiting Asked = ⊤
-passing_row Open Idle Unasked = ⊤
+passing_row New Idle Unpulled = ⊤
+passing_row Open Pulled Available = ⊤
+passing_row Open Idle Unpulled = ⊤
 passing_row Closed i o = BothClosed i o
 passing_row _ _ _ = ⊥
 
@@ -120,7 +120,7 @@ pub record ValveTurned (call : Call) (old : Valve) (acts : List Act) (new : Valv
   pub looks : new.seat.looks ≡ old.seat.looks + 1
   pub valve : IsValve new.switch new.seat new.moves
   pub passed : new.phase ≡ Closed → new.passed ≡ old.passed
-  pub stands : AsksStand acts
+  pub stands : PullsStand acts
   pub started : new.phase ≢ New
 
 -- ---- a trip
@@ -166,10 +166,10 @@ pub record IsTrip (order : Order) (count taken : ℕ) (switch : SwitchState) (se
 -- how many elements a call brings
 abbrev pub brought : Call → ℕ
 brought starts = 0
-brought (asks j) = 0
-brought (brings i (item.Elem e)) = 1
-brought (brings i item.Ended) = 0
-brought (brings i (item.Failed c)) = 0
+brought (pulls j) = 0
+brought (arrives i (item.Elem e)) = 1
+brought (arrives i item.Ended) = 0
+brought (arrives i (item.Failed c)) = 0
 brought (cancels j) = 0
 
 -- one more element came: where it is the one at which it gives its order, that order is given, and else its seat does nothing
@@ -179,7 +179,7 @@ pub record SeatStepped (old new : Trip) : Type 0 where
 
 -- what a call does at its seat
 abbrev pub SeatTurned : Call → Trip → Trip → Type 0
-SeatTurned (brings i (item.Elem e)) old new = SeatStepped old new
+SeatTurned (arrives i (item.Elem e)) old new = SeatStepped old new
 SeatTurned call old new = new.seat ≡ old.seat
 
 -- What a call owes: one step of the machine that passes all on, by any book of plugs and any decider; its seat gave an order only where the element came, and knows
@@ -193,5 +193,5 @@ pub record TripTurned (call : Call) (old : Trip) (acts : List Act) (new : Trip) 
   pub at_seat : SeatTurned call old new
   pub trip : IsTrip new.order new.count new.taken new.switch new.seat
   pub switch : new.switch ≡ old.switch
-  pub stands : AsksStand acts
+  pub stands : PullsStand acts
   pub started : new.phase ≢ New

@@ -5,8 +5,8 @@ ghost use Rattle.elem_core.specs.declared.why.Decider.{Decider};
 ghost use Rattle.kill_core.specs.declared.order.Order.{Order};
 ghost use Rattle.kill_core.specs.Public.{SwitchState, SeatState, IsSeatOf};
 ghost use Rattle.port_core.specs.declared.act.Act.{Act};
-ghost use Rattle.port_core.specs.declared.view.InView.TheVariants.{Waiting};
-ghost use Rattle.port_core.specs.declared.view.OutView.TheVariants.{Asked};
+ghost use Rattle.port_core.specs.declared.view.InView.TheVariants.{Pulled};
+ghost use Rattle.port_core.specs.declared.view.OutView.TheVariants.{Available};
 ghost use Rattle.port_core.specs.View.{View, in_at, out_at, ActsAllowed, acted_all, unpulled_ports};
 ghost use Rattle.port_core.specs.Call.{Call, starts, AllIdle, CallAllowed, Obeys, seen, brought_to, given_on};
 ghost use Rattle.stream_model.specs.declared.kind.Kind.TheVariants as kind;
@@ -48,7 +48,7 @@ pub fn a_new_stage_may_start()
 /// and has given all that came, or nobody asks it. A valve that waits is asked, and has given all that came.
 pub fn a_started_stage_rests()
     ensures valve { (first now : Valve) (v : View) (took gave : List (List Item)) → ValveRow now v → (law : ValveAs first now v took gave) → ValveRests v law.by.law.ins law.by.law.out_list }
-    ensures waits { (first now : Valve) (v : View) (took gave : List (List Item)) → ValveRow now v → (law : ValveAs first now v took gave) → in_at v 0 ≡ Waiting → (out_at v 0 ≡ Asked) × GaveAll law.by.law.ins law.by.law.out_list }
+    ensures waits { (first now : Valve) (v : View) (took gave : List (List Item)) → ValveRow now v → (law : ValveAs first now v took gave) → in_at v 0 ≡ Pulled → (out_at v 0 ≡ Available) × GaveAll law.by.law.ins law.by.law.out_list }
     ensures trip { (book : Book) (d : Decider) (first now : Trip) (v : View) (took gave : List (List Item)) → TripRow now v → (law : TripAs first now v took gave)
         → OwnRests (linear book passing) (begin_work first.node d passing) false (in_at v 0) (out_at v 0) (law.law book d).in_list (law.law book d).out_list }
 {}

@@ -1,7 +1,7 @@
 ghost use Rattle.std.specs.Prelude.{◌≡◌, ◌≤◌, ◌+◌, [], OnOk, OnErr, IsOk};
 ghost use Rattle.std.specs.Arc.{arc_value};
 ghost use Rattle.elem_core.specs.declared.item.Item.TheVariants as item;
-ghost use Rattle.port_core.specs.Call.{Obeys, Meets, starts, asks, brings, cancels};
+ghost use Rattle.port_core.specs.Call.{Obeys, Meets, starts, pulls, arrives, cancels};
 ghost use Rattle.stage_core.specs.declared.phase.Phase.TheVariants.{New, Open};
 ghost use Rattle.stage_switch.specs.States.{IsUnused, IsTrip, trip_row, new_trip_of, SeatStepped, TripTurned};
 
@@ -100,12 +100,12 @@ impl Trip {
     /// The output was asked.
     pub fn on_pull(&mut self, acts: &mut Acts) -> Result<(), NoMemory>
         requires open { self.old.phase ≡ Open }
-        requires meets { Meets (asks 0) (trip_row self.old) }
+        requires meets { Meets (pulls 0) (trip_row self.old) }
         requires empty { acts.old.items ≡ [] }
         requires room { 4 ≤ acts.old.room }
         ensures answers { IsOk result }
-        ensures ports { OnOk result (Obeys (asks 0) (trip_row self.old) (trip_row self.new) acts.new.items) }
-        ensures gives { OnOk result (TripTurned (asks 0) self.old acts.new.items self.new) }
+        ensures ports { OnOk result (Obeys (pulls 0) (trip_row self.old) (trip_row self.new) acts.new.items) }
+        ensures gives { OnOk result (TripTurned (pulls 0) self.old acts.new.items self.new) }
         ensures room { acts.new.room ≡ acts.old.room }
     {
         let _ = &self.node;
@@ -117,11 +117,11 @@ impl Trip {
     /// is no number for it, and then all is as before.
     pub fn on_push(&mut self, e: Elem, acts: &mut Acts) -> Result<(), NoMemory>
         requires open { self.old.phase ≡ Open }
-        requires meets { Meets (brings 0 (item.Elem e)) (trip_row self.old) }
+        requires meets { Meets (arrives 0 (item.Elem e)) (trip_row self.old) }
         requires empty { acts.old.items ≡ [] }
         requires room { 4 ≤ acts.old.room }
-        ensures ports { OnOk result (Obeys (brings 0 (item.Elem e)) (trip_row self.old) (trip_row self.new) acts.new.items) }
-        ensures gives { OnOk result (TripTurned (brings 0 (item.Elem e)) self.old acts.new.items self.new) }
+        ensures ports { OnOk result (Obeys (arrives 0 (item.Elem e)) (trip_row self.old) (trip_row self.new) acts.new.items) }
+        ensures gives { OnOk result (TripTurned (arrives 0 (item.Elem e)) self.old acts.new.items self.new) }
         ensures room { acts.new.room ≡ acts.old.room }
         ensures refused { OnErr result ((self.new ≡ self.old) × (acts.new ≡ acts.old)) }
     {
@@ -133,12 +133,12 @@ impl Trip {
     /// The input has ended.
     pub fn on_finish(&mut self, acts: &mut Acts) -> Result<(), NoMemory>
         requires open { self.old.phase ≡ Open }
-        requires meets { Meets (brings 0 item.Ended) (trip_row self.old) }
+        requires meets { Meets (arrives 0 item.Ended) (trip_row self.old) }
         requires empty { acts.old.items ≡ [] }
         requires room { 4 ≤ acts.old.room }
         ensures answers { IsOk result }
-        ensures ports { OnOk result (Obeys (brings 0 item.Ended) (trip_row self.old) (trip_row self.new) acts.new.items) }
-        ensures gives { OnOk result (TripTurned (brings 0 item.Ended) self.old acts.new.items self.new) }
+        ensures ports { OnOk result (Obeys (arrives 0 item.Ended) (trip_row self.old) (trip_row self.new) acts.new.items) }
+        ensures gives { OnOk result (TripTurned (arrives 0 item.Ended) self.old acts.new.items self.new) }
         ensures room { acts.new.room ≡ acts.old.room }
     {
         acts.add(Act::Complete(0));
@@ -149,12 +149,12 @@ impl Trip {
     /// The input has failed.
     pub fn on_fail(&mut self, cause: Cause, acts: &mut Acts) -> Result<(), NoMemory>
         requires open { self.old.phase ≡ Open }
-        requires meets { Meets (brings 0 (item.Failed cause)) (trip_row self.old) }
+        requires meets { Meets (arrives 0 (item.Failed cause)) (trip_row self.old) }
         requires empty { acts.old.items ≡ [] }
         requires room { 4 ≤ acts.old.room }
         ensures answers { IsOk result }
-        ensures ports { OnOk result (Obeys (brings 0 (item.Failed cause)) (trip_row self.old) (trip_row self.new) acts.new.items) }
-        ensures gives { OnOk result (TripTurned (brings 0 (item.Failed cause)) self.old acts.new.items self.new) }
+        ensures ports { OnOk result (Obeys (arrives 0 (item.Failed cause)) (trip_row self.old) (trip_row self.new) acts.new.items) }
+        ensures gives { OnOk result (TripTurned (arrives 0 (item.Failed cause)) self.old acts.new.items self.new) }
         ensures room { acts.new.room ≡ acts.old.room }
     {
         acts.add(Act::FailOut(0, cause));

@@ -1,7 +1,7 @@
 ghost use Rattle.std.specs.Prelude.{◌≡◌, ◌≤◌, [], OnOk, OnErr, IfOk};
 ghost use Rattle.elem_core.specs.declared.item.Item.TheVariants as item;
 ghost use Rattle.std.specs.Arc.{arc_value};
-ghost use Rattle.port_core.specs.Call.{Obeys, Meets, starts, asks, brings, cancels};
+ghost use Rattle.port_core.specs.Call.{Obeys, Meets, starts, pulls, arrives, cancels};
 ghost use Rattle.stage_core.specs.declared.phase.Phase.TheVariants.{New, Open, Closed};
 ghost use Rattle.stage_switch.specs.States.{IsUnused, IsValve, valve_row, number_of, new_valve_of, watched, stop_acts, ValveTurned};
 
@@ -126,11 +126,11 @@ impl Valve {
     /// The output was asked.
     pub fn on_pull(&mut self, acts: &mut Acts) -> Result<(), NoMemory>
         requires open { self.old.phase ≡ Open }
-        requires meets { Meets (asks 0) (valve_row self.old) }
+        requires meets { Meets (pulls 0) (valve_row self.old) }
         requires empty { acts.old.items ≡ [] }
         requires room { 4 ≤ acts.old.room }
-        ensures ports { OnOk result (Obeys (asks 0) (valve_row self.old) (valve_row self.new) acts.new.items) }
-        ensures gives { OnOk result (ValveTurned (asks 0) self.old acts.new.items self.new) }
+        ensures ports { OnOk result (Obeys (pulls 0) (valve_row self.old) (valve_row self.new) acts.new.items) }
+        ensures gives { OnOk result (ValveTurned (pulls 0) self.old acts.new.items self.new) }
         ensures room { acts.new.room ≡ acts.old.room }
         ensures refused { OnErr result ((self.new ≡ self.old) × (acts.new ≡ acts.old)) }
     {
@@ -145,11 +145,11 @@ impl Valve {
     /// it answers want of memory, and all is as before.
     pub fn on_push(&mut self, e: Elem, acts: &mut Acts) -> Result<(), NoMemory>
         requires open { self.old.phase ≡ Open }
-        requires meets { Meets (brings 0 (item.Elem e)) (valve_row self.old) }
+        requires meets { Meets (arrives 0 (item.Elem e)) (valve_row self.old) }
         requires empty { acts.old.items ≡ [] }
         requires room { 4 ≤ acts.old.room }
-        ensures ports { OnOk result (Obeys (brings 0 (item.Elem e)) (valve_row self.old) (valve_row self.new) acts.new.items) }
-        ensures gives { OnOk result (ValveTurned (brings 0 (item.Elem e)) self.old acts.new.items self.new) }
+        ensures ports { OnOk result (Obeys (arrives 0 (item.Elem e)) (valve_row self.old) (valve_row self.new) acts.new.items) }
+        ensures gives { OnOk result (ValveTurned (arrives 0 (item.Elem e)) self.old acts.new.items self.new) }
         ensures room { acts.new.room ≡ acts.old.room }
         ensures refused { OnErr result ((self.new ≡ self.old) × (acts.new ≡ acts.old)) }
     {
@@ -167,11 +167,11 @@ impl Valve {
     /// The input has ended.
     pub fn on_finish(&mut self, acts: &mut Acts) -> Result<(), NoMemory>
         requires open { self.old.phase ≡ Open }
-        requires meets { Meets (brings 0 item.Ended) (valve_row self.old) }
+        requires meets { Meets (arrives 0 item.Ended) (valve_row self.old) }
         requires empty { acts.old.items ≡ [] }
         requires room { 4 ≤ acts.old.room }
-        ensures ports { OnOk result (Obeys (brings 0 item.Ended) (valve_row self.old) (valve_row self.new) acts.new.items) }
-        ensures gives { OnOk result (ValveTurned (brings 0 item.Ended) self.old acts.new.items self.new) }
+        ensures ports { OnOk result (Obeys (arrives 0 item.Ended) (valve_row self.old) (valve_row self.new) acts.new.items) }
+        ensures gives { OnOk result (ValveTurned (arrives 0 item.Ended) self.old acts.new.items self.new) }
         ensures room { acts.new.room ≡ acts.old.room }
         ensures refused { OnErr result ((self.new ≡ self.old) × (acts.new ≡ acts.old)) }
     {
@@ -188,11 +188,11 @@ impl Valve {
     /// The input has failed.
     pub fn on_fail(&mut self, cause: Cause, acts: &mut Acts) -> Result<(), NoMemory>
         requires open { self.old.phase ≡ Open }
-        requires meets { Meets (brings 0 (item.Failed cause)) (valve_row self.old) }
+        requires meets { Meets (arrives 0 (item.Failed cause)) (valve_row self.old) }
         requires empty { acts.old.items ≡ [] }
         requires room { 4 ≤ acts.old.room }
-        ensures ports { OnOk result (Obeys (brings 0 (item.Failed cause)) (valve_row self.old) (valve_row self.new) acts.new.items) }
-        ensures gives { OnOk result (ValveTurned (brings 0 (item.Failed cause)) self.old acts.new.items self.new) }
+        ensures ports { OnOk result (Obeys (arrives 0 (item.Failed cause)) (valve_row self.old) (valve_row self.new) acts.new.items) }
+        ensures gives { OnOk result (ValveTurned (arrives 0 (item.Failed cause)) self.old acts.new.items self.new) }
         ensures room { acts.new.room ≡ acts.old.room }
         ensures refused { OnErr result ((self.new ≡ self.old) × (acts.new ≡ acts.old)) }
     {

@@ -8,7 +8,7 @@ use Rattle.elem_core.proofs.Prefixes.{prefix_take}
 use Rattle.stream_model.specs.declared.kind.Policy.{Policy}
 use Rattle.stream_model.specs.declared.kind.Policy.TheVariants.{Backpressure, DropHead, DropTail, DropBuffer, DropNew, Fail}
 use Rattle.stream_model.specs.Outlook.{Outlook}
-use Rattle.stream_model.specs.Picks.{sent_to, comes, Buffered, arrives, leaves, buffered, Acted, untouched, completed, aborted, acted_outlook, recover_outlook}
+use Rattle.stream_model.specs.Picks.{sent_to, comes, Buffered, after_coming, leaves, buffered, Acted, untouched, completed, aborted, acted_outlook, recover_outlook}
 use Rattle.type_laws.specs.Types.{HasType, AllTyped}
 use Rattle.type_laws.proofs.Lists.{typed_append, typed_prefix}
 
@@ -86,7 +86,7 @@ module _ (t : Sort) where
     pub gave : AllTyped t b.gave
     pub held : AllTyped t b.held
 
-  arrives_typed : (b : Buffered) (o : Option (List Tree)) → BufferedTyped b → IfStored o → BufferedTyped (arrives b o)
+  arrives_typed : (b : Buffered) (o : Option (List Tree)) → BufferedTyped b → IfStored o → BufferedTyped (after_coming b o)
   arrives_typed b None i k = record { gave = i.gave; held = i.held }
   arrives_typed b (Some l) i k = record { gave = i.gave; held = k }
 
@@ -105,8 +105,8 @@ module _ (t : Sort) where
   buffered_typed p n [] l b h i = i
   buffered_typed p n (zero ∷ moves) [] b h i = buffered_typed p n moves [] (record b { ok = false }) tt (spoilt b i)
   buffered_typed p n (zero ∷ moves) (x ∷ l) b h i =
-      buffered_typed p n moves l (if b.overflowed then record b { ok = false } else arrives b (comes p n b.held x)) h.1
-      (buffered_if b.overflowed (record b { ok = false }) (arrives b (comes p n b.held x)) (spoilt b i) (arrives_typed b (comes p n b.held x) i (comes_typed p n b.held x i.held h.0)))
+      buffered_typed p n moves l (if b.overflowed then record b { ok = false } else after_coming b (comes p n b.held x)) h.1
+      (buffered_if b.overflowed (record b { ok = false }) (after_coming b (comes p n b.held x)) (spoilt b i) (arrives_typed b (comes p n b.held x) i (comes_typed p n b.held x i.held h.0)))
   buffered_typed p n (suc k ∷ moves) l b h i =
       buffered_typed p n moves l (if b.overflowed || not (k == 0) then record b { ok = false } else leaves b b.held) h
       (buffered_if (b.overflowed || not (k == 0)) (record b { ok = false }) (leaves b b.held) (spoilt b i) (leaves_typed b b.held i i.held))

@@ -9,9 +9,9 @@ use Rattle.port_core.specs.View.{IsInOpen, IsOutOpen}
 use Rattle.port_core.specs.Wire.{Wire, pull_of, push_of, close_of, cancel_of, end_of, delivery_of, after_delivery, again}
 use Rattle.port_core.specs.Joint.{Joint, idle, asking, asked, moving, ending, closing, leaving, finished, parted, refused, wire_of, Queues, IsSound}
 use Rattle.port_core.specs.declared.view.InView.{InView}
-use Rattle.port_core.specs.declared.view.InView.TheVariants.{Idle, Waiting, Over, Left}
+use Rattle.port_core.specs.declared.view.InView.TheVariants.{Idle, Pulled, Finished, Cancelled}
 use Rattle.port_core.specs.declared.view.OutView.{OutView}
-use Rattle.port_core.specs.declared.view.OutView.TheVariants.{Unasked, Asked, Shut, Refused}
+use Rattle.port_core.specs.declared.view.OutView.TheVariants as outlet
 use Rattle.wire_core.specs.Counts.{elements, ready_bit, free_bit, extra, spent, asked_bit, asks}
 
 -- one element more, and an end
@@ -69,7 +69,7 @@ spent_deliver (finished t c) s g r = omega arith
 spent_deliver (parted t c) s g r = omega arith
 spent_deliver (refused t c) s g r = omega arith
 
-spent_push : (x : Tree) (j : Joint) (s g : List Item) → (wire_of j s g).out ≡ Asked → (q : Bool) → spent (wire_of j s g) q ≤ spent (push_of x (wire_of j s g)) true
+spent_push : (x : Tree) (j : Joint) (s g : List Item) → (wire_of j s g).out ≡ outlet.Available → (q : Bool) → spent (wire_of j s g) q ≤ spent (push_of x (wire_of j s g)) true
 spent_push x idle s g e q = cc
 spent_push x asking s g e q = cc
 spent_push x asked s g e q = omega (arith, elements_elem s x)
@@ -124,19 +124,19 @@ spent_pull (refused t c) s g q e = cc
 
 -- for any wire
 extra_least : (o : OutView) (i : InView) (t : Step) (q : Bool) → extra o i t true ≤ extra o i t q
-extra_least Shut Over t q = omega (arith, free_le q)
-extra_least Shut Left t q = omega (arith, free_le q)
-extra_least Refused Left t q = omega (arith, free_le q)
-extra_least Asked Waiting t q = omega arith
-extra_least Asked Left t q = omega arith
-extra_least Shut Waiting t q = omega arith
-extra_least Asked Idle t q = omega arith
-extra_least Asked Over t q = omega arith
-extra_least Shut Idle t q = omega arith
-extra_least Refused Idle t q = omega arith
-extra_least Refused Waiting t q = omega arith
-extra_least Refused Over t q = omega arith
-extra_least Unasked i t q = omega arith
+extra_least outlet.Closed Finished t q = omega (arith, free_le q)
+extra_least outlet.Closed Cancelled t q = omega (arith, free_le q)
+extra_least outlet.Cancelled Cancelled t q = omega (arith, free_le q)
+extra_least outlet.Available Pulled t q = omega arith
+extra_least outlet.Available Cancelled t q = omega arith
+extra_least outlet.Closed Pulled t q = omega arith
+extra_least outlet.Available Idle t q = omega arith
+extra_least outlet.Available Finished t q = omega arith
+extra_least outlet.Closed Idle t q = omega arith
+extra_least outlet.Cancelled Idle t q = omega arith
+extra_least outlet.Cancelled Pulled t q = omega arith
+extra_least outlet.Cancelled Finished t q = omega arith
+extra_least outlet.Unpulled i t q = omega arith
 
 spent_least : (w : Wire) (q : Bool) → spent w true ≤ spent w q
 spent_least w q = omega (arith, extra_least w.out w.inp w.conn.step q)
@@ -144,7 +144,7 @@ spent_least w q = omega (arith, extra_least w.out w.inp w.conn.step q)
 pub deliver_spent : (w : Wire) → IsSound w true → spent w true + 1 ≤ spent (after_delivery (delivery_of w) w) (again (delivery_of w))
 deliver_spent w h = subst (λ (v : Wire). spent v true + 1 ≤ spent (after_delivery (delivery_of v) v) (again (delivery_of v))) (sym h.is) (spent_deliver h.joint w.sent w.got h.queues)
 
-pub push_spent : (x : Tree) (w : Wire) (q r : Bool) → IsSound w q → w.out ≡ Asked → spent w q ≤ spent (push_of x w) r
+pub push_spent : (x : Tree) (w : Wire) (q r : Bool) → IsSound w q → w.out ≡ outlet.Available → spent w q ≤ spent (push_of x w) r
 push_spent x w q r h e =
     let up : spent w q ≤ spent (push_of x w) true = subst (λ (v : Wire). spent v q ≤ spent (push_of x v) true) (sym h.is) (spent_push x h.joint w.sent w.got (sym (ap (λ (v : Wire). v.out) h.is) ∙ e) q) in
     omega (arith, up, spent_least (push_of x w) r)
@@ -168,7 +168,7 @@ pull_spent w q r h e =
 pub pull_asks : (w : Wire) → asks (pull_of w) ≤ asks w
 pull_asks w = omega arith
 
-pub push_asks : (x : Tree) (w : Wire) → w.out ≡ Asked → asks (push_of x w) ≤ asks w
+pub push_asks : (x : Tree) (w : Wire) → w.out ≡ outlet.Available → asks (push_of x w) ≤ asks w
 push_asks x w e = let was : asked_bit w.out ≡ 1 = ap asked_bit e in omega (arith, elements_elem w.sent x, was)
 
 pub close_asks : (c : Option Cause) (w : Wire) → asks (close_of c w) ≤ asks w

@@ -9,7 +9,7 @@ use Rattle.port_core.specs.Connection.{quiet, pulled, ready, pushed}
 use Rattle.port_core.specs.Decoding.{can_pull, can_push}
 use Rattle.port_core.specs.Wire.{Wire, pull_of, push_of, close_of, cancel_of, end_of, Delivery, nothing, ask, refusal, brought, delivery_of, after_delivery}
 use Rattle.port_core.specs.Joint.{Joint, idle, asking, asked, moving, ending, closing, leaving, finished, parted, refused, wire_of, Queues, IsSound}
-use Rattle.port_core.specs.declared.view.OutView.TheVariants.{Asked}
+use Rattle.port_core.specs.declared.view.OutView.TheVariants.{Available}
 use Rattle.wire_core.specs.Cell.{Cell, new_cell}
 use Rattle.wire_core.specs.Counts.{elements}
 use Rattle.wire_core.specs.Marks.{IsMarked, wanted, Grown}
@@ -31,7 +31,7 @@ pull_by w b false e m = rw e (record { unclosed = m.unclosed; known = m.known })
 pub pull_marked : (w : Wire) (b : Bool) → IsMarked (cell w b) → IsMarked (cell (pull_of w) (if can_pull w.conn then true else b))
 pull_marked w b m = pull_by w b (can_pull w.conn) refl m
 
-marks_push : (x : Tree) (j : Joint) (s g : List Item) → (wire_of j s g).out ≡ Asked → IsMarked (cell (push_of x (wire_of j s g)) false)
+marks_push : (x : Tree) (j : Joint) (s g : List Item) → (wire_of j s g).out ≡ Available → IsMarked (cell (push_of x (wire_of j s g)) false)
 marks_push x idle s g e = cc
 marks_push x asking s g e = cc
 marks_push x asked s g e = record { unclosed = λ o. refl; known = λ k. cc }
@@ -44,7 +44,7 @@ marks_push x (finished t c) s g e = cc
 marks_push x (parted t c) s g e = cc
 marks_push x (refused t c) s g e = cc
 
-pub push_marked : (x : Tree) (w : Wire) (q : Bool) → IsSound w q → w.out ≡ Asked → IsMarked (cell (push_of x w) false)
+pub push_marked : (x : Tree) (w : Wire) (q : Bool) → IsSound w q → w.out ≡ Available → IsMarked (cell (push_of x w) false)
 push_marked x w q h e = subst (λ (v : Wire). IsMarked (cell (push_of x v) false)) (sym h.is) (marks_push x h.joint w.sent w.got (sym (ap (λ (v : Wire). v.out) h.is) ∙ e))
 
 pub close_marked : (c : Option Cause) (w : Wire) (b : Bool) → IsMarked (cell w b) → IsMarked (cell (close_of c w) b)

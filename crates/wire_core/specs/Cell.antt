@@ -7,11 +7,11 @@ use Rattle.port_core.specs.PortRules as rule
 use Rattle.port_core.specs.PortRules.{next}
 use Rattle.port_core.specs.Decoding.{can_pull, can_push, is_at_rest}
 use Rattle.port_core.specs.Wire.{Wire, new_wire, pull_of, push_of, close_of, cancel_of, Delivery, nothing, ask, refusal, brought, end_of, delivery_of, after_delivery}
-use Rattle.port_core.specs.declared.view.InView.TheVariants.{Idle, Over}
+use Rattle.port_core.specs.declared.view.InView.TheVariants.{Idle, Finished}
 use Rattle.port_core.specs.declared.act.Act.{Act}
 use Rattle.port_core.specs.declared.act.Act.TheVariants.{Pull, Push, Complete, FailOut, Cancel}
 use Rattle.wire_core.specs.declared.wire.Delivered.{Delivered}
-use Rattle.wire_core.specs.declared.wire.Delivered.TheVariants.{Nothing, Ask, Refusal, Brought}
+use Rattle.wire_core.specs.declared.wire.Delivered.TheVariants as delivery
 
 -- An ask that a closing forbids, which has not come to the input, is none. A push answers the ask, also one that a cancel
 -- forbids which has not come to the output. A closing leaves the ask as it is.
@@ -41,10 +41,10 @@ queues_by (Cancel i) p = is_at_rest p
 
 -- what the event of the wire brings, as the code says it
 abbrev pub delivery_in : Delivered → Delivery
-delivery_in Nothing = nothing
-delivery_in Ask = ask
-delivery_in Refusal = refusal
-delivery_in (Brought x more) = brought x more
+delivery_in delivery.Nothing = nothing
+delivery_in delivery.Pull = ask
+delivery_in delivery.Cancel = refusal
+delivery_in (delivery.Arrived x more) = brought x more
 
 -- an element that waits to be grabbed goes to the input
 abbrev pub brought_in : Tree → Cell → Cell
@@ -52,7 +52,7 @@ brought_in e c = record c { wire = record c.wire { inp = Idle; conn = next (rule
 
 -- the end of the output goes to the input
 abbrev pub ended_in : Cell → Cell
-ended_in c = record c { wire = record c.wire { inp = Over; got = c.wire.got ++ end_of c.wire.conn.cause ∷ [] } }
+ended_in c = record c { wire = record c.wire { inp = Finished; got = c.wire.got ++ end_of c.wire.conn.cause ∷ [] } }
 
 -- the wire once its event was delivered
 abbrev pub delivered : Cell → Cell

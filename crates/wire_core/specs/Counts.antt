@@ -5,9 +5,9 @@ use Rattle.elem_core.specs.declared.item.Item.TheVariants as item
 use Rattle.port_core.specs.Connection.{Step, quiet, pulled, ready, pushed}
 use Rattle.port_core.specs.Wire.{Wire}
 use Rattle.port_core.specs.declared.view.InView.{InView}
-use Rattle.port_core.specs.declared.view.InView.TheVariants.{Waiting, Over, Left}
+use Rattle.port_core.specs.declared.view.InView.TheVariants.{Pulled, Finished, Cancelled}
 use Rattle.port_core.specs.declared.view.OutView.{OutView}
-use Rattle.port_core.specs.declared.view.OutView.TheVariants.{Unasked, Asked, Shut, Refused}
+use Rattle.port_core.specs.declared.view.OutView.TheVariants as outlet
 
 -- the elements of a history, without its end
 abbrev pub elements : List Item → ℕ
@@ -30,12 +30,12 @@ free_bit false = 1
 
 -- the events of a wire beside one for each element that was pushed and one for each that came: the last ask, and closings
 abbrev pub extra : OutView → InView → Step → Bool → ℕ
-extra Asked Waiting t q = 1
-extra Asked Left t q = 1
-extra Shut Waiting t q = ready_bit t
-extra Shut Over t q = 2 + free_bit q
-extra Shut Left t q = 1 + free_bit q
-extra Refused Left t q = 2 + free_bit q
+extra outlet.Available Pulled t q = 1
+extra outlet.Available Cancelled t q = 1
+extra outlet.Closed Pulled t q = ready_bit t
+extra outlet.Closed Finished t q = 2 + free_bit q
+extra outlet.Closed Cancelled t q = 1 + free_bit q
+extra outlet.Cancelled Cancelled t q = 2 + free_bit q
 extra _ _ t q = 0
 
 -- what the wire, queued or not, has cost: at most twice its elements, and 3 more
@@ -44,10 +44,10 @@ spent w q = elements w.sent + elements w.got + extra w.out w.inp w.conn.step q
 
 -- the asks that came to the output: one for each element that was pushed, and the last one
 abbrev pub asked_bit : OutView → ℕ
-asked_bit Unasked = 0
-asked_bit Asked = 1
-asked_bit Shut = 0
-asked_bit Refused = 0
+asked_bit outlet.Unpulled = 0
+asked_bit outlet.Available = 1
+asked_bit outlet.Closed = 0
+asked_bit outlet.Cancelled = 0
 
 abbrev pub asks : Wire → ℕ
 asks w = elements w.sent + asked_bit w.out

@@ -2,7 +2,7 @@
 use Rattle.std.specs.Prelude.{◌≡◌, ℕ, ◌+◌, ◌≤◌, Bool, true, false, if◌then◌else◌}
 use Rattle.elem_core.specs.Prefix.{IsPrefix}
 use Rattle.port_core.specs.Connection.{Step, quiet, pulled, ready, pushed}
-use Rattle.port_core.specs.declared.view.OutView.TheVariants.{Asked}
+use Rattle.port_core.specs.declared.view.OutView.TheVariants.{Available}
 use Rattle.wire_core.specs.Cell.{Cell}
 use Rattle.wire_core.specs.Counts.{elements}
 
@@ -17,7 +17,7 @@ wants (pushed e) = false
 -- knows that it was asked.
 pub record IsMarked (c : Cell) : Type 0 where
   pub unclosed : c.wire.conn.in_closed ≡ false → c.asked ≡ wants c.wire.conn.step
-  pub known : c.wire.out ≡ Asked → c.asked ≡ true
+  pub known : c.wire.out ≡ Available → c.asked ≡ true
 
 -- the asks of its input that took effect: one for each element that was pushed, and the one that was not answered
 abbrev pub wanted : Cell → ℕ

@@ -3,14 +3,14 @@ use Rattle.std.specs.Prelude.{true, false, None, List, []}
 use Rattle.elem_core.specs.declared.item.Item.{Item}
 use Rattle.port_core.specs.Connection.{quiet}
 use Rattle.port_core.specs.declared.view.InView.{InView}
-use Rattle.port_core.specs.declared.view.InView.TheVariants.{Left}
+use Rattle.port_core.specs.declared.view.InView.TheVariants.{Cancelled}
 use Rattle.port_core.specs.declared.view.OutView.{OutView}
-use Rattle.port_core.specs.declared.view.OutView.TheVariants.{Shut}
+use Rattle.port_core.specs.declared.view.OutView.TheVariants.{Closed}
 use Rattle.wire_core.specs.Cell.{Cell}
 
 -- where there is no wire, both ends are closed and nothing passed
 abbrev pub no_wire : Cell
-no_wire = record { wire = record { out = Shut; inp = Left; conn = record { step = quiet; to_grab = None; in_closed = true; out_closed = true; cause = None }; sent = []; got = [] }; asked = false }
+no_wire = record { wire = record { out = Closed; inp = Cancelled; conn = record { step = quiet; to_grab = None; in_closed = true; out_closed = true; cause = None }; sent = []; got = [] }; asked = false }
 
 -- what the ends of a wire know of it, and what passed there
 abbrev pub inp_of : Cell → InView

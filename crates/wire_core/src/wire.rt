@@ -6,7 +6,7 @@ ghost use Rattle.port_core.specs.Wire.{delivery_of, nothing, brought, end_of};
 ghost use Rattle.port_core.specs.declared.act.Act.TheVariants as act;
 ghost use Rattle.wire_core.specs.Cell.{new_cell, moved_by, delivery_in, delivered, brought_in, ended_in};
 ghost use Rattle.port_core.specs.View.{output_closed, input_closed};
-ghost use Rattle.wire_core.specs.Closes.{is_refused};
+ghost use Rattle.wire_core.specs.Closes.{output_cancelled};
 ghost use Rattle.wire_core.specs.Counts.{elements};
 
 use elem_core::elem::Elem;
@@ -24,11 +24,11 @@ pub enum Delivered {
     /// Nothing: both sides are closed.
     Nothing,
     /// An ask, to the output.
-    Ask,
+    Pull,
     /// The input's cancel, to the output.
-    Refusal,
+    Cancel,
     /// An element or an end, to the input; and whether the wire has to be queued again.
-    Brought(Item, bool),
+    Arrived(Item, bool),
 }
 
 impl Delivered {
@@ -81,7 +81,7 @@ impl Wire {
         ensures { result ≡ new_cell }
     {
         Wire {
-            out: Snapshot::of(&OutView::Unasked),
+            out: Snapshot::of(&OutView::Unpulled),
             inp: Snapshot::of(&InView::Idle),
             conn: Conn::new(),
             sent: Trace::empty(),
@@ -130,21 +130,21 @@ impl Wire {
     }
 
     /// Whether its output closed it, or heard that its input cancelled.
-    pub fn is_shut(&self) -> bool
+    pub fn output_closed(&self) -> bool
         ensures { result ≡ output_closed self.now.wire.out }
     {
         self.shut
     }
 
     /// Whether its output heard that its input cancelled.
-    pub fn is_refused(&self) -> bool
-        ensures { result ≡ is_refused self.now.wire.out }
+    pub fn is_cancelled(&self) -> bool
+        ensures { result ≡ output_cancelled self.now.wire.out }
     {
         self.refused
     }
 
     /// Whether its input cancelled it, or heard of its end.
-    pub fn is_over(&self) -> bool
+    pub fn input_closed(&self) -> bool
         ensures { result ≡ input_closed self.now.wire.inp }
     {
         self.over
@@ -155,7 +155,7 @@ impl Wire {
         ensures queued { result ≡ can_pull self.old.wire.conn }
         ensures moved { self.new ≡ moved_by (act.Pull 0) self.old }
     {
-        self.inp = Snapshot::of(&InView::Waiting);
+        self.inp = Snapshot::of(&InView::Pulled);
         if self.conn.can_pull() {
             self.asked = true;
             self.conn.pull()
@@ -172,7 +172,7 @@ impl Wire {
         ensures queued { result ≡ can_push self.old.wire.conn }
         ensures moved { self.new ≡ moved_by (act.Push 0 e) self.old }
     {
-        self.out = Snapshot::of(&OutView::Unasked);
+        self.out = Snapshot::of(&OutView::Unpulled);
         self.asked = false;
         self.pushed += 1;
         let item = Item::Elem(e);
@@ -194,7 +194,7 @@ impl Wire {
         ensures queued { result ≡ is_at_rest self.old.wire.conn }
         ensures moved { self.new ≡ moved_by (act.Complete 0) self.old }
     {
-        self.out = Snapshot::of(&OutView::Shut);
+        self.out = Snapshot::of(&OutView::Closed);
         self.shut = true;
         self.refused = false;
         self.sent = self.sent.and(&Item::Ended);
@@ -207,7 +207,7 @@ impl Wire {
         ensures queued { result ≡ is_at_rest self.old.wire.conn }
         ensures moved { self.new ≡ moved_by (act.FailOut 0 cause) self.old }
     {
-        self.out = Snapshot::of(&OutView::Shut);
+        self.out = Snapshot::of(&OutView::Closed);
         self.shut = true;
         self.refused = false;
         self.sent = self.sent.and(&Item::Failed(cause));
@@ -219,7 +219,7 @@ impl Wire {
         ensures queued { result ≡ is_at_rest self.old.wire.conn }
         ensures moved { self.new ≡ moved_by (act.Cancel 0) self.old }
     {
-        self.inp = Snapshot::of(&InView::Left);
+        self.inp = Snapshot::of(&InView::Cancelled);
         self.over = true;
         self.conn.cancel()
     }
@@ -232,14 +232,14 @@ impl Wire {
         match self.conn.decode() {
             Event::Nothing => Delivered::Nothing,
             Event::Pull => {
-                self.out = Snapshot::of(&OutView::Asked);
-                Delivered::Ask
+                self.out = Snapshot::of(&OutView::Available);
+                Delivered::Pull
             }
             Event::Cancel => {
-                self.out = Snapshot::of(&OutView::Refused);
+                self.out = Snapshot::of(&OutView::Cancelled);
                 self.shut = true;
                 self.refused = true;
-                Delivered::Refusal
+                Delivered::Cancel
             }
             Event::Push => self.take_in(false),
             Event::PushThenClose => self.take_in(true),
@@ -256,7 +256,7 @@ impl Wire {
         self.inp = Snapshot::of(&InView::Idle);
         let item = Item::Elem(self.conn.grab());
         self.got = self.got.and(&item);
-        Delivered::Brought(item, more)
+        Delivered::Arrived(item, more)
     }
 
     fn take_end(&mut self) -> Delivered
@@ -264,13 +264,13 @@ impl Wire {
         ensures value { delivery_in result ≡ brought (end_of self.old.wire.conn.cause) false }
         ensures after { self.new ≡ ended_in self.old }
     {
-        self.inp = Snapshot::of(&InView::Over);
+        self.inp = Snapshot::of(&InView::Finished);
         self.over = true;
         let item = match self.conn.cause() {
             None => Item::Ended,
             Some(cause) => Item::Failed(cause),
         };
         self.got = self.got.and(&item);
-        Delivered::Brought(item, false)
+        Delivered::Arrived(item, false)
     }
 }

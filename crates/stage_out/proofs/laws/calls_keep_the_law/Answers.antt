@@ -7,8 +7,8 @@ returns-clause-starts c = started
 pub returns-clause-handles : goal.returns-clause-handles
 returns-clause-handles c = handled
 
-pub returns-clause-asks : goal.returns-clause-asks
-returns-clause-asks c = asks_on
+pub returns-clause-pulls : goal.returns-clause-pulls
+returns-clause-pulls c = asks_on
 
 pub returns-clause-grows : goal.returns-clause-grows
 returns-clause-grows c = grows_on

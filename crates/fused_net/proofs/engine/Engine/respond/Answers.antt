@@ -9,7 +9,7 @@ pub perform-requires-clause-busy : goal.perform-requires-clause-busy
 perform-requires-clause-busy g c = awaited g.S.Stage.rests g.S.Stage.law _ _ _ _ _ _ _ c.self.view_is c.requires.within c.index_mut.ensures.value c.requires.awaits c.in_ok-call.ensures.handles
 
 pub returns-clause-responds : goal.returns-clause-responds
-returns-clause-responds g c = responded g.S.Stage.rests g.S.Stage.law g.S.Stage.asking g.S.Stage.moves _ _ _ _ _ _ _ _ c.self.view_is c.requires.within c.index_mut.ensures.value c.requires.awaits c.requires.tells c.in_ok-call.ensures.handles c.in_ok-call.ensures.asks c.in_ok-call.ensures.grows c.perform.ensures.after
+returns-clause-responds g c = responded g.S.Stage.rests g.S.Stage.law g.S.Stage.asking g.S.Stage.moves _ _ _ _ _ _ _ _ c.self.view_is c.requires.within c.index_mut.ensures.value c.requires.awaits c.requires.tells c.in_ok-call.ensures.handles c.in_ok-call.ensures.pulls c.in_ok-call.ensures.grows c.perform.ensures.after
 
 pub returns-in_err-call-clause-kept : goal.returns-in_err-call-clause-kept
 returns-in_err-call-clause-kept g c = on_err _ (kept_called g.S.Stage.keeps _ _ _ _ _ c.self.view_is c.requires.within c.index_mut.ensures.value c.in_err-call.ensures.kept)

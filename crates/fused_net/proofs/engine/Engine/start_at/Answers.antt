@@ -12,13 +12,13 @@ pub perform-requires-clause-busy : goal.perform-requires-clause-busy
 perform-requires-clause-busy g c = start_awaited g.S.Stage.rests g.S.Stage.law g.S.Stage.asking g.S.Stage.moves g.S.Stage.fresh _ _ _ _ _ _ c.requires.starting c.self.view_is c.requires.within c.index_mut.ensures.value c.in_ok-start.ensures.starts
 
 pub returns-clause-starting : goal.returns-clause-starting
-returns-clause-starting g c = (started g.S.Stage.rests g.S.Stage.law g.S.Stage.asking g.S.Stage.moves g.S.Stage.fresh _ _ _ _ _ _ _ c.requires.starting c.self.view_is c.requires.within c.index_mut.ensures.value c.in_ok-start.ensures.starts c.in_ok-start.ensures.asks c.in_ok-start.ensures.grows c.perform.ensures.after).starting
+returns-clause-starting g c = (started g.S.Stage.rests g.S.Stage.law g.S.Stage.asking g.S.Stage.moves g.S.Stage.fresh _ _ _ _ _ _ _ c.requires.starting c.self.view_is c.requires.within c.index_mut.ensures.value c.in_ok-start.ensures.starts c.in_ok-start.ensures.pulls c.in_ok-start.ensures.grows c.perform.ensures.after).starting
 
 pub returns-clause-on : goal.returns-clause-on
-returns-clause-on g c = (started g.S.Stage.rests g.S.Stage.law g.S.Stage.asking g.S.Stage.moves g.S.Stage.fresh _ _ _ _ _ _ _ c.requires.starting c.self.view_is c.requires.within c.index_mut.ensures.value c.in_ok-start.ensures.starts c.in_ok-start.ensures.asks c.in_ok-start.ensures.grows c.perform.ensures.after).on
+returns-clause-on g c = (started g.S.Stage.rests g.S.Stage.law g.S.Stage.asking g.S.Stage.moves g.S.Stage.fresh _ _ _ _ _ _ _ c.requires.starting c.self.view_is c.requires.within c.index_mut.ensures.value c.in_ok-start.ensures.starts c.in_ok-start.ensures.pulls c.in_ok-start.ensures.grows c.perform.ensures.after).on
 
 pub returns-clause-asks : goal.returns-clause-asks
-returns-clause-asks g c = (started g.S.Stage.rests g.S.Stage.law g.S.Stage.asking g.S.Stage.moves g.S.Stage.fresh _ _ _ _ _ _ _ c.requires.starting c.self.view_is c.requires.within c.index_mut.ensures.value c.in_ok-start.ensures.starts c.in_ok-start.ensures.asks c.in_ok-start.ensures.grows c.perform.ensures.after).asks
+returns-clause-asks g c = (started g.S.Stage.rests g.S.Stage.law g.S.Stage.asking g.S.Stage.moves g.S.Stage.fresh _ _ _ _ _ _ _ c.requires.starting c.self.view_is c.requires.within c.index_mut.ensures.value c.in_ok-start.ensures.starts c.in_ok-start.ensures.pulls c.in_ok-start.ensures.grows c.perform.ensures.after).asks
 
 pub returns-clause-gone : goal.returns-clause-gone
 returns-clause-gone g c = gone_acts g.S.Stage.gone _ _ _ _ _ _ c.start.new.acts.items c.self.view_is c.requires.within c.index_mut.ensures.value c.in_ok-start.ensures.gone c.perform.ensures.after

@@ -1,12 +1,12 @@
-use Rattle.port_core.specs.Call.{asks}
+use Rattle.port_core.specs.Call.{pulls}
 use Rattle.stage_in.proofs.Handling.{fits, grows, handles}
 use Rattle.stage_in.proofs.handlers.InLogicStage.on_pull.Goals as goal
 
 pub on_pull-requires-clause-room : goal.on_pull-requires-clause-room
-on_pull-requires-clause-room c = fits (asks c.args._port) _ _ c.requires.meets c.requires.room
+on_pull-requires-clause-room c = fits (pulls c.args._port) _ _ c.requires.meets c.requires.room
 
 pub returns-clause-handles : goal.returns-clause-handles
-returns-clause-handles c = handles (asks c.args._port) _ _ _ _ (λ e. cc) c.requires.meets c.on_pull.ensures.ports c.on_pull.ensures.gives
+returns-clause-handles c = handles (pulls c.args._port) _ _ _ _ (λ e. cc) c.requires.meets c.on_pull.ensures.ports c.on_pull.ensures.gives
 
 pub returns-clause-grows : goal.returns-clause-grows
 returns-clause-grows c = grows _ _ _ _ _ c.on_pull.ensures.gives

@@ -1,13 +1,13 @@
-use Rattle.port_core.specs.Call.{brings}
+use Rattle.port_core.specs.Call.{arrives}
 use Rattle.elem_core.specs.declared.item.Item.TheVariants as item
 use Rattle.stage_in.proofs.Handling.{fits, grows, handles}
 use Rattle.stage_in.proofs.handlers.InLogicStage.on_push.Goals as goal
 
 pub on_push-requires-clause-room : goal.on_push-requires-clause-room
-on_push-requires-clause-room c = fits (brings c.args.port (item.Elem c.args.e)) _ _ c.requires.meets c.requires.room
+on_push-requires-clause-room c = fits (arrives c.args.port (item.Elem c.args.e)) _ _ c.requires.meets c.requires.room
 
 pub returns-clause-handles : goal.returns-clause-handles
-returns-clause-handles c = handles (brings c.args.port (item.Elem c.args.e)) _ _ _ _ (λ e. cc) c.requires.meets c.on_push.ensures.ports c.on_push.ensures.gives
+returns-clause-handles c = handles (arrives c.args.port (item.Elem c.args.e)) _ _ _ _ (λ e. cc) c.requires.meets c.on_push.ensures.ports c.on_push.ensures.gives
 
 pub returns-clause-grows : goal.returns-clause-grows
 returns-clause-grows c = grows _ _ _ _ _ c.on_push.ensures.gives

@@ -1,16 +1,16 @@
 use Rattle.elem_core.specs.declared.item.Item.TheVariants as item
-use Rattle.port_core.specs.Call.{brings}
+use Rattle.port_core.specs.Call.{arrives}
 use Rattle.stage_in.proofs.Nodes.{taking_open, sorting_open, zipping_open, merging_open}
 use Rattle.stage_in.proofs.logic.InLogic.on_finish.Goals as goal
 
 pub on_finish-requires-clause-live : goal.on_finish-requires-clause-live
-on_finish-requires-clause-live c = taking_open (brings c.args.port item.Ended) (λ e. cc) c.args.self.now c.requires.started c.requires.meets c.in-Taking.logic c.in-Taking.is
+on_finish-requires-clause-live c = taking_open (arrives c.args.port item.Ended) (λ e. cc) c.args.self.now c.requires.started c.requires.meets c.in-Taking.logic c.in-Taking.is
 
 pub on_finish-requires-in-Sorting-clause-open : goal.on_finish-requires-in-Sorting-clause-open
-on_finish-requires-in-Sorting-clause-open c = sorting_open (brings c.args.port item.Ended) (λ e. cc) c.args.self.now c.requires.started c.requires.meets c.in-Sorting.logic c.in-Sorting.is
+on_finish-requires-in-Sorting-clause-open c = sorting_open (arrives c.args.port item.Ended) (λ e. cc) c.args.self.now c.requires.started c.requires.meets c.in-Sorting.logic c.in-Sorting.is
 
 pub on_finish-requires-in-Zipping-clause-open : goal.on_finish-requires-in-Zipping-clause-open
-on_finish-requires-in-Zipping-clause-open c = zipping_open (brings c.args.port item.Ended) (λ e. cc) c.args.self.now c.requires.started c.requires.meets c.in-Zipping.logic c.in-Zipping.is
+on_finish-requires-in-Zipping-clause-open c = zipping_open (arrives c.args.port item.Ended) (λ e. cc) c.args.self.now c.requires.started c.requires.meets c.in-Zipping.logic c.in-Zipping.is
 
 pub on_finish-requires-in-Merging-clause-open : goal.on_finish-requires-in-Merging-clause-open
-on_finish-requires-in-Merging-clause-open c = merging_open (brings c.args.port item.Ended) (λ e. cc) c.args.self.now c.requires.started c.requires.meets c.in-Merging.logic c.in-Merging.is
+on_finish-requires-in-Merging-clause-open c = merging_open (arrives c.args.port item.Ended) (λ e. cc) c.args.self.now c.requires.started c.requires.meets c.in-Merging.logic c.in-Merging.is

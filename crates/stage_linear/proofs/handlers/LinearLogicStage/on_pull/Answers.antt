@@ -1,6 +1,6 @@
-use Rattle.port_core.specs.Call.{asks}
+use Rattle.port_core.specs.Call.{pulls}
 use Rattle.stage_linear.proofs.Handling.{handles}
 use Rattle.stage_linear.proofs.handlers.LinearLogicStage.on_pull.Goals as goal
 
 pub returns-clause-handles : goal.returns-clause-handles
-returns-clause-handles g c = handles g.B.PlugBook.lists (asks c.args._port) _ _ _ _ c.requires.meets c.on_pull.ensures.ports c.on_pull.ensures.gives
+returns-clause-handles g c = handles g.B.PlugBook.lists (pulls c.args._port) _ _ _ _ c.requires.meets c.on_pull.ensures.ports c.on_pull.ensures.gives

@@ -1,6 +1,6 @@
 use Rattle.std.proofs.Common.{◌≡◌, ◌∙◌, ◌++◌, [], List, ap, refl, sym, subst}
 use Rattle.port_core.specs.ActList.{ActList}
-use Rattle.port_core.specs.Call.{Obeys, brings}
+use Rattle.port_core.specs.Call.{Obeys, arrives}
 use Rattle.port_core.specs.declared.act.Act.{Act}
 use Rattle.elem_core.specs.declared.item.Item.TheVariants as item
 use Rattle.stream_model.specs.Linear.{finish_of}
@@ -19,5 +19,5 @@ returns-then-holds_none-clause-ports g c =
     let none : l.pending ≡ [] = c.if-holds_none.ensures.0 refl in
     on_ok_two c.close_input.result c.close_input.ensures.stage c.close_input.ensures.acts
     (λ (s : new ≡ readied (closed_by l f) new.ready) (a : c.close_input.new.acts ≡ record c.args.acts.now { items = c.args.acts.now.items ++ closed_acts l f }).
-    subst (λ (x : List Act). Obeys (brings 0 item.Ended) (row l) (row new) x) (sym (ap (λ (x : ActList). x.items) a ∙ ap (λ (x : List Act). x ++ closed_acts l f) c.requires.empty))
-    (subst (λ (x : Logic). Obeys (brings 0 item.Ended) (row l) (row x) (closed_acts l f)) (sym s) (ended_obeys g.B.PlugBook.lists l new.ready c.requires.open none)))
+    subst (λ (x : List Act). Obeys (arrives 0 item.Ended) (row l) (row new) x) (sym (ap (λ (x : ActList). x.items) a ∙ ap (λ (x : List Act). x ++ closed_acts l f) c.requires.empty))
+    (subst (λ (x : Logic). Obeys (arrives 0 item.Ended) (row l) (row x) (closed_acts l f)) (sym s) (ended_obeys g.B.PlugBook.lists l new.ready c.requires.open none)))

@@ -1,13 +1,13 @@
-use Rattle.port_core.specs.Call.{brings}
+use Rattle.port_core.specs.Call.{arrives}
 use Rattle.elem_core.specs.declared.item.Item.TheVariants as item
 use Rattle.stage_state.proofs.Handling.{handles, met_first, grew_at}
 use Rattle.stage_state.proofs.handlers.StateLogicStage.on_push.Goals as goal
 
 pub on_push-requires-clause-meets : goal.on_push-requires-clause-meets
-on_push-requires-clause-meets c = met_first (brings c.args._port (item.Elem c.args.e)) _ c.requires.meets
+on_push-requires-clause-meets c = met_first (arrives c.args._port (item.Elem c.args.e)) _ c.requires.meets
 
 pub returns-clause-handles : goal.returns-clause-handles
-returns-clause-handles c = handles (brings c.args._port (item.Elem c.args.e)) _ _ _ _ c.requires.meets c.on_push.ensures.ports c.on_push.ensures.gives
+returns-clause-handles c = handles (arrives c.args._port (item.Elem c.args.e)) _ _ _ _ c.requires.meets c.on_push.ensures.ports c.on_push.ensures.gives
 
 pub returns-clause-grows : goal.returns-clause-grows
-returns-clause-grows c = grew_at (brings c.args._port (item.Elem c.args.e)) _ _ _ _ (λ s. cc) c.requires.meets c.on_push.ensures.gives
+returns-clause-grows c = grew_at (arrives c.args._port (item.Elem c.args.e)) _ _ _ _ (λ s. cc) c.requires.meets c.on_push.ensures.gives

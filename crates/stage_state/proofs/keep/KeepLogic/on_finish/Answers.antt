@@ -1,6 +1,6 @@
 use Rattle.std.proofs.Common.{◌≡◌, [], ap, sym, subst, refl, ◌∙◌}
 use Rattle.port_core.specs.ActList.{ActList}
-use Rattle.port_core.specs.Call.{Obeys, brings}
+use Rattle.port_core.specs.Call.{Obeys, arrives}
 use Rattle.elem_core.specs.declared.item.Item.TheVariants as item
 use Rattle.stage_core.specs.declared.phase.Phase.TheVariants.{Open}
 use Rattle.stage_keeping.specs.Keeping.{work_in}
@@ -20,4 +20,4 @@ returns-else-is_some-clause-ports c =
     let p = finish_obeys l w c.finish-last.result on none refl c.finish-last.ensures.1.1 in
     let a : c.end.new.acts.items ≡ finish_acts (working l w) c.finish-last.result = ap (λ (x : ActList). x.items) c.end.ensures.acts in
     let b = c.end.ensures.stage in
-    subst (λ (x : Logic). Obeys (brings 0 item.Ended) (row x) (row c.end.new.self) c.end.new.acts.items) is (rw (a, b) p)
+    subst (λ (x : Logic). Obeys (arrives 0 item.Ended) (row x) (row c.end.new.self) c.end.new.acts.items) is (rw (a, b) p)

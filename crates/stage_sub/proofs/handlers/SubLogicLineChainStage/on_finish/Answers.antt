@@ -1,8 +1,8 @@
 use Rattle.line_chain.specs.Line.{line_whole, line_rest, line_is_open}
-use Rattle.port_core.specs.Call.{brings}
+use Rattle.port_core.specs.Call.{arrives}
 use Rattle.elem_core.specs.declared.item.Item.TheVariants as item
 use Rattle.stage_sub.proofs.Nodes.{handles}
 use Rattle.stage_sub.proofs.handlers.SubLogicLineChainStage.on_finish.Goals as goal
 
 pub returns-clause-handles : goal.returns-clause-handles
-returns-clause-handles c = handles line_whole line_rest line_is_open (brings c.args._port item.Ended) _ _ _ _ c.requires.meets c.on_finish.ensures.ports c.on_finish.ensures.gives c.on_finish.ensures.ready
+returns-clause-handles c = handles line_whole line_rest line_is_open (arrives c.args._port item.Ended) _ _ _ _ c.requires.meets c.on_finish.ensures.ports c.on_finish.ensures.gives c.on_finish.ensures.ready

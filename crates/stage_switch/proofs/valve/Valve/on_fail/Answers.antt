@@ -1,7 +1,7 @@
-use Rattle.port_core.specs.Call.{brings}
+use Rattle.port_core.specs.Call.{arrives}
 use Rattle.elem_core.specs.declared.item.Item.TheVariants as item
 use Rattle.stage_switch.proofs.Rows.{none_open}
 use Rattle.stage_switch.proofs.valve.Valve.on_fail.Goals as goal
 
 pub watch-requires : goal.watch-requires
-watch-requires c = none_open (brings 0 (item.Failed c.args.cause)) c.args.self.now c.requires.open c.requires.meets
+watch-requires c = none_open (arrives 0 (item.Failed c.args.cause)) c.args.self.now c.requires.open c.requires.meets

@@ -8,7 +8,7 @@ use Rattle.elem_core.specs.declared.item.Item.TheVariants as item
 use Rattle.port_core.specs.Asking.{NoCancel, PullsStand}
 use Rattle.port_core.specs.Connection.{pulled}
 use Rattle.port_core.specs.Decoding.{can_pull}
-use Rattle.port_core.specs.Wire.{Wire, Delivery, nothing, ask, refusal, brought, after_delivery, again}
+use Rattle.port_core.specs.Wire.{Wire, Delivery, nothing, pull, cancel, arrived, after_delivery, again}
 use Rattle.port_core.specs.Joint.{Joint, idle, asking, asked, moving, ending, closing, leaving, finished, parted, refused, wire_of, IsSound}
 use Rattle.port_core.specs.View.{View}
 use Rattle.port_core.specs.View as view
@@ -47,7 +47,7 @@ open_j (refused t c) s g e = cc
 waits_open : (w : Wire) (q : Bool) → IsSound w q → w.inp ≡ Pulled → w.conn.in_closed ≡ false
 waits_open w q h e = ap (λ (v : Wire). v.conn.in_closed) h.is ∙ open_j h.joint w.sent w.got (sym (ap (λ (v : Wire). v.inp) h.is) ∙ e)
 
--- an ask that is on its way has not come to the output
+-- a pull that is on its way has not come to the output
 unasked_j : (j : Joint) (s g : List Item) → (wire_of j s g).inp ≡ Pulled → (wire_of j s g).conn.step ≡ pulled → (wire_of j s g).out ≡ Available → ⊥
 unasked_j idle s g i t o = cc
 unasked_j asking s g i t o = cc
@@ -72,7 +72,7 @@ move_grown (Complete j) c f m = close_grown None c.wire c.asked
 move_grown (FailOut j d) c f m = close_grown (Some d) c.wire c.asked
 move_grown (Cancel i) c f m = cancel_grown c.wire c.asked
 
--- the ask of this wire was made by the actions so far, is on its way, and those still to do leave it; P is what a stage tells as it asks
+-- the pull of this wire was made by the actions so far, is on its way, and those still to do leave it; P is what a stage tells as it pulls
 pub record AsksAt (p : PortLists) (acts : List Act) (w : ℕ) (c : Cell) (P : Type 0) : Type 0 where
   pub port : ℕ
   pub at : slice_get p.ins port ≡ Some w
@@ -131,7 +131,7 @@ no_place : (i w : ℕ) → slice_get [] i ≡ Some w → ⊥
 no_place i w e = cc
 
 -- an item that was brought makes the history of the input longer
-brought_longer : (x : Item) (more : Bool) (w : Wire) → length (after_delivery (brought x more) w).got ≡ length w.got + 1
+brought_longer : (x : Item) (more : Bool) (w : Wire) → length (after_delivery (arrived x more) w).got ≡ length w.got + 1
 brought_longer (item.Elem e) more w = length-append w.got (item.Elem e ∷ [])
 brought_longer item.Ended more w = length-append w.got (item.Ended ∷ [])
 brought_longer (item.Failed c) more w = length-append w.got (item.Failed c ∷ [])
@@ -172,13 +172,13 @@ module _ {N : Type 0} where
   came_there : (d : Delivery) (net : Net N) (w u k : ℕ) → d ≢ nothing → Wired net.ends net.ports (length net.nodes) (length net.wires) → w < length net.wires → k ≡ target d (end_at net.ends w)
       → (ports_at net k).ins ≡ u ∷ [] → (ports_at net k).outs ≡ [] → (wire_at (told net w d) u).wire.got ≡ (wire_at net u).wire.got → ⊥
   came_there nothing net w u k ne wired h to ins outs same = ne refl
-  came_there ask net w u k ne wired h to ins outs same = no_place (end_at net.ends w).output w (rw (← to, outs) at (wired.from_output w h))
-  came_there refusal net w u k ne wired h to ins outs same = no_place (end_at net.ends w).output w (rw (← to, outs) at (wired.from_output w h))
-  came_there (brought x more) net w u k ne wired h to ins outs same =
+  came_there pull net w u k ne wired h to ins outs same = no_place (end_at net.ends w).output w (rw (← to, outs) at (wired.from_output w h))
+  came_there cancel net w u k ne wired h to ins outs same = no_place (end_at net.ends w).output w (rw (← to, outs) at (wired.from_output w h))
+  came_there (arrived x more) net w u k ne wired h to ins outs same =
       let here : u ≡ w = only_place u (end_at net.ends w).input w (rw (← to, ins) at (wired.to_input w h)) in
-      let now : (wire_at (told net w (brought x more)) w).wire.got ≡ (wire_at net w).wire.got = rw here at same in
-      let told_here : wire_at (told net w (brought x more)) w ≡ told_by (brought x more) (wire_at net w) = get_or-set_same net.wires w (told_by (brought x more) (wire_at net w)) no_wire h in
-      let longer : length (told_by (brought x more) (wire_at net w)).wire.got ≡ length (wire_at net w).wire.got = ap (λ (l : List Item). length l) (rw told_here at now) in
+      let now : (wire_at (told net w (arrived x more)) w).wire.got ≡ (wire_at net w).wire.got = rw here at same in
+      let told_here : wire_at (told net w (arrived x more)) w ≡ told_by (arrived x more) (wire_at net w) = get_or-set_same net.wires w (told_by (arrived x more) (wire_at net w)) no_wire h in
+      let longer : length (told_by (arrived x more) (wire_at net w)).wire.got ≡ length (wire_at net w).wire.got = ap (λ (l : List Item). length l) (rw told_here at now) in
       let more_got = brought_longer x more (wire_at net w).wire in
       omega (arith, longer, more_got)
 
@@ -207,7 +207,7 @@ module _ {N : Type 0} where
   pub moves_from : (moves : N → List ℕ) (net v : Net N) (n : ℕ) (y : N) → v.nodes ≡ net.nodes → MovesGrow moves v (with_node v n y) → MovesGrow moves net (with_node v n y)
   moves_from moves net v n y same moved k x z xk zk = moved k x z (ap (λ (l : List N). slice_get l k) same ∙ xk) zk
 
-  -- what a stage tells as it asks holds of the graph once its actions are done
+  -- what a stage tells as it pulls holds of the graph once its actions are done
   pub asking_kept : (tells : N → View → Type 0) (net : Net N) (n : ℕ) (acts : List Act) → Busy AnyRow AnyLaw net n acts → ((x : N) → slice_get net.nodes n ≡ Some x → tells x (view.acted_all (view_of net n) acts)) → IsAsking tells (acted_all net n acts) n
   asking_kept tells net n acts busy known x at =
       let ends = acts_busy AnyRow AnyLaw acts net n busy in
@@ -221,7 +221,7 @@ module _ {N : Type 0} where
   node_elsewhere net n k y ne = get_set_other net.nodes n k y ne
 
 module _ {N : Type 0} (row : N → View → Type 0) (law : N → N → View → List (List Item) → List (List Item) → Type 0) (asking : N → View → Type 0) (moves : N → List ℕ) where
-  -- the last ask stays the last one where the graph goes on and the wire is not asked again
+  -- the last ask stays the last one where the graph goes on and the wire is not pulled again
   pub later : (net new : Net N) (w : ℕ) → w < length net.wires → GoesOn net new → ((u : ℕ) → Grown (wire_at net u) (wire_at new u)) → MovesGrow moves net new → NodeStays net new w → wanted (wire_at new w) ≡ wanted (wire_at net w) → LastAsk row law asking moves net w → LastAsk row law asking moves new w
   later net new w h on grown moved stays same a = record {
     old = a.old;
@@ -238,7 +238,7 @@ module _ {N : Type 0} (row : N → View → Type 0) (law : N → N → View → 
     asking_then = a.asking_then;
   }
 
-  -- each wire whose input has asked has a last ask, or it was asked by the actions of node n so far
+  -- each wire whose input has pulled has a last ask, or it was pulled by the actions of node n so far
   abbrev AskedOr : Net N → ℕ → List Act → Type 0 → Type 0
   AskedOr net n acts P = (w : ℕ) → w < length net.wires → 1 ≤ wanted (wire_at net w) → LastAsk row law asking moves net w ⊎ AsksAt (ports_at net n) acts w (wire_at net w) P
 
@@ -279,7 +279,7 @@ module _ {N : Type 0} (row : N → View → Type 0) (law : N → N → View → 
   acts_asked (a ∷ acts) net n busy P tells before =
       acts_asked acts (acted net n a) n (acted_busy AnyRow AnyLaw net n a acts busy) P (λ h. tells (still_pulls a acts h)) (acted_asked net n a acts busy P tells before)
 
-  -- once its actions are done, an ask that the node made is the last one of its wire
+  -- once its actions are done, a pull that the node made is the last one of its wire
   done_asked : (net : Net N) (n : ℕ) → Busy AnyRow AnyLaw net n [] → IsMinded row law net n [] → AskedOr net n [] (IsAsking asking net n) → AllAsked row law asking moves net
   done_asked net n busy minded before w h some = elim (before w h some) [
     | inl l ↦ l
@@ -322,7 +322,7 @@ module _ {N : Type 0} (row : N → View → Type 0) (law : N → N → View → 
       (λ k ins outs same. node_elsewhere net n k y (λ e. came_there d net w u k ne wired h (e ∙ to) ins outs same))
       (told_wanted net w d h u) (all u within (subst (λ (m : ℕ). 1 ≤ m) (told_wanted net w d h u) some))
 
-  -- another node stands in the place of one that has not asked
+  -- another node stands in the place of one that has not pulled
   pub node_asked : (net : Net N) (n : ℕ) (y : N) → ((u : ℕ) → u < length net.wires → (ports_at net n).ins ≡ u ∷ [] → 1 ≤ wanted (wire_at net u) → ⊥) → MovesGrow moves net (with_node net n y) → AllAsked row law asking moves net → AllAsked row law asking moves (with_node net n y)
   node_asked net n y none moved all w h some = later net (with_node net n y) w h (goes_node net n y) (λ u. grown_same (wire_at net u)) moved
       (λ k ins outs same. node_elsewhere net n k y (λ e. none w h (rw e at ins) some)) refl (all w h some)

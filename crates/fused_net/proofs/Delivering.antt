@@ -11,7 +11,7 @@ use Rattle.port_core.specs.View.{View, IsOutOpen}
 use Rattle.port_core.specs.View as view
 use Rattle.port_core.specs.Asking.{PullsStand}
 use Rattle.port_core.specs.Call.{Call, CallAllowed, MayCome, seen}
-use Rattle.port_core.specs.Wire.{Delivery, nothing, ask, refusal, brought, delivery_of, after_delivery, again}
+use Rattle.port_core.specs.Wire.{Delivery, nothing, pull, cancel, arrived, delivery_of, after_delivery, again}
 use Rattle.port_core.specs.declared.act.Act.{Act}
 use Rattle.port_core.specs.declared.view.InView.TheVariants.{Cancelled}
 use Rattle.port_core.specs.declared.view.OutView.TheVariants.{Closed}
@@ -39,17 +39,17 @@ queued_there queue w u n = grind (arith, common_steps, nat_tests)
 module _ {N : Type 0} where
   pub target_within : (d : Delivery) (net : Net N) (w : ℕ) → Wired net.ends net.ports (length net.nodes) (length net.wires) → w < length net.wires → target d (end_at net.ends w) < length net.nodes
   target_within nothing net w wired h = wired.from_within w h
-  target_within ask net w wired h = wired.from_within w h
-  target_within refusal net w wired h = wired.from_within w h
-  target_within (brought x more) net w wired h = wired.to_within w h
+  target_within pull net w wired h = wired.from_within w h
+  target_within cancel net w wired h = wired.from_within w h
+  target_within (arrived x more) net w wired h = wired.to_within w h
 
   -- the event comes where the node's view allows it
   pub may_at : (d : Delivery) (net : Net N) (w : ℕ) → d ≢ nothing → Wired net.ends net.ports (length net.nodes) (length net.wires) → w < length net.wires → Heard d (wire_at net w).wire
       → CallAllowed (call_of d (end_at net.ends w)) (view_of net (target d (end_at net.ends w)))
   may_at nothing net w n wired h m = absurd (n refl)
-  may_at ask net w n wired h m = read_at out_of net.wires (ports_at net (end_at net.ends w).from).outs (end_at net.ends w).output w Closed (wired.from_output w h) ∙ m
-  may_at refusal net w n wired h m = subst IsOutOpen (sym (read_at out_of net.wires (ports_at net (end_at net.ends w).from).outs (end_at net.ends w).output w Closed (wired.from_output w h))) m
-  may_at (brought x more) net w n wired h m = subst (MayCome x) (sym (read_at inp_of net.wires (ports_at net (end_at net.ends w).to).ins (end_at net.ends w).input w Cancelled (wired.to_input w h))) m
+  may_at pull net w n wired h m = read_at out_of net.wires (ports_at net (end_at net.ends w).from).outs (end_at net.ends w).output w Closed (wired.from_output w h) ∙ m
+  may_at cancel net w n wired h m = subst IsOutOpen (sym (read_at out_of net.wires (ports_at net (end_at net.ends w).from).outs (end_at net.ends w).output w Closed (wired.from_output w h))) m
+  may_at (arrived x more) net w n wired h m = subst (MayCome x) (sym (read_at inp_of net.wires (ports_at net (end_at net.ends w).to).ins (end_at net.ends w).input w Cancelled (wired.to_input w h))) m
 
 module _ {N : Type 0} (row : N → View → Type 0) (law : N → N → View → List (List Item) → List (List Item) → Type 0) where
   -- an event was handled
@@ -66,30 +66,30 @@ module _ {N : Type 0} (row : N → View → Type 0) (law : N → N → View → 
       → Minds row law y first (seen (call_of d (end_at net.ends w)) (view_of net (target d (end_at net.ends w)))) (brought_by (call_of d (end_at net.ends w)) (took net (target d (end_at net.ends w)))) (gave net (target d (end_at net.ends w))) acts
       → Minds row law y first (view_of (told net w d) (target d (end_at net.ends w))) (took (told net w d) (target d (end_at net.ends w))) (gave (told net w d) (target d (end_at net.ends w))) acts
   here_told nothing net w y first acts n wired h m = absurd (n refl)
-  here_told ask net w y first acts n wired h m =
+  here_told pull net w y first acts n wired h m =
       here_out row law net y first (end_at net.ends w).from (end_at net.ends w).output w _ false acts wired (wired.from_within w h) (wired.from_output w h) h refl refl
       (rw (keep_at sent_of net.wires (ports_at net (end_at net.ends w).from).outs (end_at net.ends w).output w [] (wired.from_output w h)) m)
-  here_told refusal net w y first acts n wired h m =
+  here_told cancel net w y first acts n wired h m =
       here_out row law net y first (end_at net.ends w).from (end_at net.ends w).output w _ false acts wired (wired.from_within w h) (wired.from_output w h) h refl refl
       (rw (keep_at sent_of net.wires (ports_at net (end_at net.ends w).from).outs (end_at net.ends w).output w [] (wired.from_output w h)) m)
-  here_told (brought (item.Elem x) more) net w y first acts n wired h m =
+  here_told (arrived (item.Elem x) more) net w y first acts n wired h m =
       here_in row law net y first (end_at net.ends w).to (end_at net.ends w).input w _ more acts wired (wired.to_within w h) (wired.to_input w h) h refl refl
       (rw (read_at got_of net.wires (ports_at net (end_at net.ends w).to).ins (end_at net.ends w).input w [] (wired.to_input w h)) at m)
-  here_told (brought item.Ended more) net w y first acts n wired h m =
+  here_told (arrived item.Ended more) net w y first acts n wired h m =
       here_in row law net y first (end_at net.ends w).to (end_at net.ends w).input w _ more acts wired (wired.to_within w h) (wired.to_input w h) h refl refl
       (rw (read_at got_of net.wires (ports_at net (end_at net.ends w).to).ins (end_at net.ends w).input w [] (wired.to_input w h)) at m)
-  here_told (brought (item.Failed c) more) net w y first acts n wired h m =
+  here_told (arrived (item.Failed c) more) net w y first acts n wired h m =
       here_in row law net y first (end_at net.ends w).to (end_at net.ends w).input w _ more acts wired (wired.to_within w h) (wired.to_input w h) h refl refl
       (rw (read_at got_of net.wires (ports_at net (end_at net.ends w).to).ins (end_at net.ends w).input w [] (wired.to_input w h)) at m)
 
   others_told : (d : Delivery) (net : Net N) (w : ℕ) → d ≢ nothing → Wired net.ends net.ports (length net.nodes) (length net.wires) → w < length net.wires
       → (k : ℕ) → k < length net.nodes → k ≢ target d (end_at net.ends w) → IsMinded row law net k [] → IsMinded row law (told net w d) k []
   others_told nothing net w n wired h = absurd (n refl)
-  others_told ask net w n wired h = others_out row law net (end_at net.ends w).from (end_at net.ends w).output w _ false wired (wired.from_within w h) (wired.from_output w h) h refl refl
-  others_told refusal net w n wired h = others_out row law net (end_at net.ends w).from (end_at net.ends w).output w _ false wired (wired.from_within w h) (wired.from_output w h) h refl refl
-  others_told (brought (item.Elem x) more) net w n wired h = others_in row law net (end_at net.ends w).to (end_at net.ends w).input w _ more wired (wired.to_within w h) (wired.to_input w h) h refl refl
-  others_told (brought item.Ended more) net w n wired h = others_in row law net (end_at net.ends w).to (end_at net.ends w).input w _ more wired (wired.to_within w h) (wired.to_input w h) h refl refl
-  others_told (brought (item.Failed c) more) net w n wired h = others_in row law net (end_at net.ends w).to (end_at net.ends w).input w _ more wired (wired.to_within w h) (wired.to_input w h) h refl refl
+  others_told pull net w n wired h = others_out row law net (end_at net.ends w).from (end_at net.ends w).output w _ false wired (wired.from_within w h) (wired.from_output w h) h refl refl
+  others_told cancel net w n wired h = others_out row law net (end_at net.ends w).from (end_at net.ends w).output w _ false wired (wired.from_within w h) (wired.from_output w h) h refl refl
+  others_told (arrived (item.Elem x) more) net w n wired h = others_in row law net (end_at net.ends w).to (end_at net.ends w).input w _ more wired (wired.to_within w h) (wired.to_input w h) h refl refl
+  others_told (arrived item.Ended more) net w n wired h = others_in row law net (end_at net.ends w).to (end_at net.ends w).input w _ more wired (wired.to_within w h) (wired.to_input w h) h refl refl
+  others_told (arrived (item.Failed c) more) net w n wired h = others_in row law net (end_at net.ends w).to (end_at net.ends w).input w _ more wired (wired.to_within w h) (wired.to_input w h) h refl refl
 
   -- a node is replaced by one that minds what it knows
   pub with_node_busy : (net : Net N) (n : ℕ) (y : N) (acts : List Act) → Wired net.ends net.ports (length net.nodes) (length net.wires) → length net.firsts ≡ length net.nodes
@@ -124,7 +124,7 @@ module _ {N : Type 0} (row : N → View → Type 0) (law : N → N → View → 
       → (u : ℕ) → u < length (told net w d).wires → IsMarked (wire_at (told net w d) u)
   marked_told net w d s h m = marked_put net w (told_by d (wire_at net w)) (again d) h (λ u hu n. s.marked u hu) m
 
-  -- the wire of the event stays marked as it was asked
+  -- the wire of the event stays marked as it was pulled
   pub marked_here : (net : Net N) (w : ℕ) → Settled row law asking moves (before net w) → w < length net.wires → IsMarked (told_by (delivery_of (wire_at net w).wire) (wire_at net w))
   marked_here net w s h = deliver_marked (wire_at net w).wire (wire_at net w).asked (sound_here net w s h) (s.marked w h)
 

@@ -6,7 +6,7 @@ use Rattle.elem_core.specs.declared.item.Item.TheVariants as item
 use Rattle.port_core.specs.Ring.{holds}
 use Rattle.port_core.specs.Joint.{IsSound}
 use Rattle.port_core.specs.View.{View}
-use Rattle.port_core.specs.Wire.{Wire, Delivery, nothing, ask, refusal, brought, delivery_of, after_delivery, again}
+use Rattle.port_core.specs.Wire.{Wire, Delivery, nothing, pull, cancel, arrived, delivery_of, after_delivery, again}
 use Rattle.port_core.specs.declared.act.Act.{Act}
 use Rattle.port_core.specs.declared.act.Act.TheVariants.{Pull, Push, Complete, FailOut, Cancel}
 use Rattle.wire_core.specs.Cell.{Cell, moved_by}
@@ -44,11 +44,11 @@ move_asks (Cancel i) c f = cancel_asks c.wire
 
 deliver_asks : (d : Delivery) (w : Wire) → asks (after_delivery d w) ≤ asks w + 1
 deliver_asks nothing w = omega arith
-deliver_asks ask w = omega arith
-deliver_asks refusal w = omega arith
-deliver_asks (brought (item.Elem e) more) w = omega arith
-deliver_asks (brought item.Ended more) w = omega arith
-deliver_asks (brought (item.Failed c) more) w = omega arith
+deliver_asks pull w = omega arith
+deliver_asks cancel w = omega arith
+deliver_asks (arrived (item.Elem e) more) w = omega arith
+deliver_asks (arrived item.Ended more) w = omega arith
+deliver_asks (arrived (item.Failed c) more) w = omega arith
 
 module _ {N : Type 0} where
   pub uses_trans : (a b c : Net N) (k l : ℕ) → Uses a b k → Uses b c l → Uses a c (k + l)
@@ -57,7 +57,7 @@ module _ {N : Type 0} where
   pub uses_none : (net : Net N) → Uses net net 0
   uses_none net = record { least = omega arith; most = omega arith }
 
-  -- an action lowers no cost, and raises no ask
+  -- an action lowers no cost, and raises no pull
   acted_uses : (net : Net N) (n : ℕ) (a : Act) (acts : List Act) → Busy AnyRow AnyLaw net n (a ∷ acts) → Uses net (acted net n a) 0
   acted_uses net n a acts busy =
       let x = get_there net.nodes n busy.within in
@@ -110,7 +110,7 @@ module _ {N : Type 0} (row : N → View → Type 0) (law : N → N → View → 
   pub response_goes : (old new : Net N) (n : ℕ) → Responds row law asking moves old new n → GoesOn old new
   response_goes old new n r = rw r.is (goes_trans old (with_node old n r.node) _ (goes_node old n r.node) (goes_acts r.acts (with_node old n r.node) n))
 
-  -- what the node tells as it asks holds once its actions are done
+  -- what the node tells as it pulls holds once its actions are done
   asked_after : (old new : Net N) (n : ℕ) → (r : Responds row law asking moves old new n) → Pulls r.acts → IsAsking asking (acted_all (with_node old n r.node) n r.acts) n
   asked_after old new n r pulls = asking_kept asking (with_node old n r.node) n r.acts (busy_any row law _ n r.acts r.busy)
       (λ x xi. let within : n < length old.nodes = rw length-set at r.busy.within in let same : r.node ≡ x = some_same r.node x (sym (get_set_same old.nodes n r.node within) ∙ xi) in rw same at (r.asks pulls))

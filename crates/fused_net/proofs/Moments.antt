@@ -51,7 +51,7 @@ stays_waiting (Cancel k ∷ acts) v i w n a = stays_waiting acts (view.with_in v
 idle_left : Idle ≡ Cancelled → ⊥
 idle_left e = cc
 
--- some input is asked and waits once all is done, or none is asked
+-- some input is pulled and waits once all is done, or none is pulled
 asks_or_not : (acts : List Act) (v : View) → ActsAllowed v acts → PullsStand acts → (Pulls acts × ((i : ℕ) × (in_at (view.acted_all v acts) i ≡ Pulled))) ⊎ (Pulls acts → ⊥)
 asks_or_not [] v a s = inr (λ h. h)
 asks_or_not (Pull k ∷ acts) v a s = inl (tt, (k, stays_waiting acts (view.with_in v k Pulled) k (set_there v k Pulled (in_range v.ins k Idle a.0 idle_left)) s.0 a.1))
@@ -62,7 +62,7 @@ asks_or_not (Cancel k ∷ acts) v a s = asks_or_not acts (view.with_in v k Cance
 
 -- ---- what is wanted
 
--- only an ask raises it
+-- only a pull raises it
 abbrev IsPull : Act → Type 0
 IsPull (Pull i) = Unit {0}
 IsPull _ = ⊥
@@ -141,7 +141,7 @@ module _ {N : Type 0} (row : N → View → Type 0) (law : N → N → View → 
       (busy.here x.0 first.0 x.1 first.1).allowed
 
 module _ {N : Type 0} (row : N → View → Type 0) (law : N → N → View → List (List Item) → List (List Item) → Type 0) (asking : N → View → Type 0) (moves : N → List ℕ) where
-  -- the moment stays the last one where the graph goes on and no input of the node is asked
+  -- the moment stays the last one where the graph goes on and no input of the node is pulled
   later : (net new : Net N) (n : ℕ) → GoesOn net new → MovesGrow moves net new → ((u : ℕ) → Grown (wire_at net u) (wire_at new u)) → ((u : ℕ) → u < length net.wires → (end_at net.ends u).to ≡ n → wanted (wire_at new u) ≡ wanted (wire_at net u)) → NodeAsked row law asking moves net n → NodeAsked row law asking moves new n
   later net new n on moved grown same a = record {
     old = a.old;
@@ -186,7 +186,7 @@ module _ {N : Type 0} (row : N → View → Type 0) (law : N → N → View → 
       keep (inr h) = later net (acted_all net n acts) k on (moves_same moves net (acted_all net n acts) (nodes-acts acts net n)) (acts_grown acts net n busy) (λ w hw t. acts_wanted acts net n w busy (inr (λ e. h (to_old ∙ (sym t ∙ e)))))
           (all k u node_within within to_old (subst (λ (m : ℕ). 1 ≤ m) (acts_wanted acts net n u busy (inr h)) some))
 
-      -- in the words of the graph: the input that was asked waits once all is done
+      -- in the words of the graph: the input that was pulled waits once all is done
       waits_at : (i : ℕ) → in_at (view.acted_all (view_of net n) acts) i ≡ Pulled → in_at (view_of (acted_all net n acts) n) i ≡ Pulled
       waits_at i e =
           let x = get_there net.nodes n busy.within in

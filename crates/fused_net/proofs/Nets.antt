@@ -38,7 +38,7 @@ module _ {N : Type 0} where
         rw (get_or-set_other net.wires w u new no_wire other, holds_put_other net.queue w u b other) (sound u within other)
   ]
 
-  -- and every wire stays marked as it was asked
+  -- and every wire stays marked as it was pulled
   pub marked_put : (net : Net N) (w : ℕ) (new : Cell) (b : Bool) → w < length net.wires
       → ((u : ℕ) → u < length net.wires → u ≢ w → IsMarked (wire_at net u)) → IsMarked new
       → (u : ℕ) → u < length (put net w new b).wires → IsMarked (wire_at (put net w new b) u)

@@ -60,7 +60,7 @@ no_asks n (suc k) h =
     let none : asks (get_or (replicate n new_cell) k no_wire).wire ≡ 0 = rw here refl in
     omega (arith, no_asks n k (omega arith), none)
 
--- an input that has not asked, and to which nothing came
+-- an input that has not pulled, and to which nothing came
 idle_j : (j : Joint) (s g : List Item) (b : Bool) → Histories j s g → IsMarked (cell (wire_of j s g) b) → (wire_of j s g).inp ≡ Idle → g ≡ [] → (if b then elements s + 1 else elements s) ≡ 0
 idle_j idle s g b h m e none = rw (m.unclosed refl, h, none) refl
 idle_j (ending c) s g b h m e none = rw (m.unclosed refl, h, elements_end g c, none) refl

@@ -3,7 +3,7 @@ use Rattle.std.specs.Prelude.{Option, None}
 use Rattle.std.proofs.Common.{◌≡◌, ◌≢◌, ◌⊎◌, inl, inr, ℕ, zero, suc, ◌<◌, Bool, true, false, Some, List, [], ◌∷◌, ◌++◌, length, map, get_or, slice_get, slice_set, refl, sym, ap, ◌∙◌, subst, get_or-set_same, get_or-set_other}
 use Rattle.elem_core.specs.declared.item.Item.{Item}
 use Rattle.elem_core.specs.declared.item.Item.TheVariants as item
-use Rattle.port_core.specs.Wire.{Wire, Delivery, nothing, ask, refusal, brought, after_delivery}
+use Rattle.port_core.specs.Wire.{Wire, Delivery, nothing, pull, cancel, arrived, after_delivery}
 use Rattle.port_core.specs.View.{View}
 use Rattle.port_core.specs.declared.act.Act.{Act}
 use Rattle.port_core.specs.declared.act.Act.TheVariants.{Pull, Push, Complete, FailOut, Cancel}
@@ -61,19 +61,19 @@ out_inp (Cancel i) c n = absurd n
 -- a delivery pushes nothing, and cancels nothing
 told_sent : (d : Delivery) (w : Wire) → (after_delivery d w).sent ≡ w.sent
 told_sent nothing w = refl
-told_sent ask w = refl
-told_sent refusal w = refl
-told_sent (brought (item.Elem e) more) w = refl
-told_sent (brought item.Ended more) w = refl
-told_sent (brought (item.Failed c) more) w = refl
+told_sent pull w = refl
+told_sent cancel w = refl
+told_sent (arrived (item.Elem e) more) w = refl
+told_sent (arrived item.Ended more) w = refl
+told_sent (arrived (item.Failed c) more) w = refl
 
 told_left : (d : Delivery) (w : Wire) → (after_delivery d w).inp ≡ Cancelled → w.inp ≡ Cancelled
 told_left nothing w e = e
-told_left ask w e = e
-told_left refusal w e = e
-told_left (brought (item.Elem x) more) w e = cc
-told_left (brought item.Ended more) w e = cc
-told_left (brought (item.Failed c) more) w e = cc
+told_left pull w e = e
+told_left cancel w e = e
+told_left (arrived (item.Elem x) more) w e = cc
+told_left (arrived item.Ended more) w e = cc
+told_left (arrived (item.Failed c) more) w e = cc
 
 -- ---- the actions of another node
 
@@ -328,24 +328,24 @@ module _ {N : Type 0} (passive : N → Bool) where
 
   out_told : (d : Delivery) (w : Wire) (from to n : ℕ) (e : Ends) → n ≡ target d e → d ≢ nothing → (e.from ≡ n → ⊥) → (after_delivery d w).out ≡ w.out
   out_told nothing w from to n e is some ne = refl
-  out_told ask w from to n e is some ne = absurd (ne (sym is))
-  out_told refusal w from to n e is some ne = absurd (ne (sym is))
-  out_told (brought (item.Elem x) more) w from to n e is some ne = refl
-  out_told (brought item.Ended more) w from to n e is some ne = refl
-  out_told (brought (item.Failed c) more) w from to n e is some ne = refl
+  out_told pull w from to n e is some ne = absurd (ne (sym is))
+  out_told cancel w from to n e is some ne = absurd (ne (sym is))
+  out_told (arrived (item.Elem x) more) w from to n e is some ne = refl
+  out_told (arrived item.Ended more) w from to n e is some ne = refl
+  out_told (arrived (item.Failed c) more) w from to n e is some ne = refl
 
   in_told : (d : Delivery) (w : Wire) (n : ℕ) (e : Ends) → n ≡ target d e → d ≢ nothing → (e.to ≡ n → ⊥) → ((after_delivery d w).inp ≡ w.inp) × ((after_delivery d w).got ≡ w.got)
   in_told nothing w n e is some ne = (refl, refl)
-  in_told ask w n e is some ne = (refl, refl)
-  in_told refusal w n e is some ne = (refl, refl)
-  in_told (brought x more) w n e is some ne = absurd (ne (sym is))
+  in_told pull w n e is some ne = (refl, refl)
+  in_told cancel w n e is some ne = (refl, refl)
+  in_told (arrived x more) w n e is some ne = absurd (ne (sym is))
 
   -- a node that hears of a wire has it
   heard_only : (d : Delivery) (net : Net N) (w u n : ℕ) → Wired net.ends net.ports (length net.nodes) (length net.wires) → w < length net.wires → n ≡ target d (end_at net.ends w) → d ≢ nothing → HasOnly (ports_at net n) u → u ≡ w
   heard_only nothing net w u n wired h is some only = absurd (some refl)
-  heard_only ask net w u n wired h is some only = out_only (ports_at net n) u w (end_at net.ends w).output only (rw is (wired.from_output w h))
-  heard_only refusal net w u n wired h is some only = out_only (ports_at net n) u w (end_at net.ends w).output only (rw is (wired.from_output w h))
-  heard_only (brought x more) net w u n wired h is some only = in_only (ports_at net n) u w (end_at net.ends w).input only (rw is (wired.to_input w h))
+  heard_only pull net w u n wired h is some only = out_only (ports_at net n) u w (end_at net.ends w).output only (rw is (wired.from_output w h))
+  heard_only cancel net w u n wired h is some only = out_only (ports_at net n) u w (end_at net.ends w).output only (rw is (wired.from_output w h))
+  heard_only (arrived x more) net w u n wired h is some only = in_only (ports_at net n) u w (end_at net.ends w).input only (rw is (wired.to_input w h))
 
   -- the node at its place in another list of the same kinds
   kind_there : (xs ys : List N) (n : ℕ) (y : N) → map passive xs ≡ map passive ys → slice_get ys n ≡ Some y → (x : N) × ((slice_get xs n ≡ Some x) × (passive x ≡ passive y))

@@ -14,11 +14,11 @@ module _ {N : Type 0} where
   abbrev pub total : Net N → ℕ
   total net = sum_below (λ w. spent (wire_at net w).wire (holds net.queue w)) (length net.wires)
 
-  -- the asks that came to outputs, on all wires: one for each element that was pushed, and those that were not answered
+  -- the pulls that came to outputs, on all wires: one for each element that was pushed, and those that were not answered
   abbrev pub all_asks : Net N → ℕ
   all_asks net = sum_below (λ w. asks (wire_at net w).wire) (length net.wires)
 
-  -- So many units lead from one to the other: each raises the cost, and each brings one ask at most.
+  -- So many units lead from one to the other: each raises the cost, and each brings one pull at most.
   pub record Uses (old new : Net N) (units : ℕ) : Type 0 where
     pub least : total old + units ≤ total new
     pub most : all_asks new ≤ all_asks old + units

@@ -40,7 +40,7 @@ AnyLaw first x v took gave = ⊤
 abbrev pub first_view : PortLists → View
 first_view p = record { ins = replicate (length p.ins) Idle; outs = replicate (length p.outs) Unpulled }
 
--- a node that was not started: it is as it was handed in, nobody asked, and nothing passed
+-- a node that was not started: it is as it was handed in, nobody pulled, and nothing passed
 abbrev pub FreshLaw : {N : Type 0} → N → N → View → List (List Item) → List (List Item) → Type 0
 FreshLaw first x v took gave = (first ≡ x) × (CallAllowed starts v × ((AllEmpty took × AllEmpty gave) × ((length took ≡ length v.ins) × (length gave ≡ length v.outs))))
 
@@ -56,7 +56,7 @@ pub record GoesOn {N : Type 0} (old new : Net N) : Type 0 where
 abbrev pub NodeStays : {N : Type 0} → Net N → Net N → ℕ → Type 0
 NodeStays old new w = (k : ℕ) → (ports_at old k).ins ≡ w ∷ [] → (ports_at old k).outs ≡ [] → (wire_at new w).wire.got ≡ (wire_at old w).wire.got → slice_get new.nodes k ≡ slice_get old.nodes k
 
--- what a stage tells of its ports whenever it has just asked, of node n
+-- what a stage tells of its ports whenever it has just pulled, of node n
 abbrev pub IsAsking : {N : Type 0} → (N → View → Type 0) → Net N → ℕ → Type 0
 IsAsking {N = N} asking net n = (x : N) → slice_get net.nodes n ≡ Some x → asking x (view_of net n)
 
@@ -103,7 +103,7 @@ module _ {N : Type 0} (row : N → View → Type 0) (law : N → N → View → 
 
 module _ {N : Type 0} (row : N → View → Type 0) (law : N → N → View → List (List Item) → List (List Item) → Type 0) (asking : N → View → Type 0) (moves : N → List ℕ) where
   -- The last ask of wire w that took effect: an earlier moment from which the graph went on, and at which the node at the
-  -- wire's input had asked. It waited there, its row and its law held, and so did what it tells whenever it has just asked.
+  -- wire's input had pulled. It waited there, its row and its law held, and so did what it tells whenever it has just pulled.
   pub record LastAsk (net : Net N) (w : ℕ) : Type 0 where
     pub old : Net N
     pub on : GoesOn old net
@@ -118,12 +118,12 @@ module _ {N : Type 0} (row : N → View → Type 0) (law : N → N → View → 
     pub minded : IsMinded row law old (end_at old.ends w).to []
     pub asking_then : IsAsking asking old (end_at old.ends w).to
 
-  -- each wire whose input has asked has a last ask
+  -- each wire whose input has pulled has a last ask
   abbrev pub AllAsked : Net N → Type 0
   AllAsked net = (w : ℕ) → w < length net.wires → 1 ≤ wanted (wire_at net w) → LastAsk net w
 
   -- The last ask of node n at any of its inputs: an earlier moment from which the graph went on, and at which the node had just
-  -- asked at one of them. It waits there, and its row and its law held. None of its inputs was asked since, and at that
+  -- pulled at one of them. It waits there, and its row and its law held. None of its inputs was pulled since, and at that
   -- moment each wire had a last ask of its own.
   pub record NodeAsked (net : Net N) (n : ℕ) : Type 0 where
     pub old : Net N
@@ -139,7 +139,7 @@ module _ {N : Type 0} (row : N → View → Type 0) (law : N → N → View → 
     pub waits : in_at (view_of old n) port ≡ Pulled
     pub same : (u : ℕ) → u < length old.wires → (end_at old.ends u).to ≡ n → wanted (wire_at net u) ≡ wanted (wire_at old u)
 
-  -- each node that has asked at some input has such a moment
+  -- each node that has pulled at some input has such a moment
   abbrev pub AllMoments : Net N → Type 0
   AllMoments net = (n u : ℕ) → n < length net.nodes → u < length net.wires → (end_at net.ends u).to ≡ n → 1 ≤ wanted (wire_at net u) → NodeAsked net n
 
@@ -153,7 +153,7 @@ module _ {N : Type 0} (row : N → View → Type 0) (law : N → N → View → 
     pub asked : AllAsked net
     pub moments : AllMoments net
 
-  -- whatever the handler of node n does for this call, what it tells as it asks is told of the graph
+  -- whatever the handler of node n does for this call, what it tells as it pulls is told of the graph
   abbrev pub TellsAsking : Call → Net N → ℕ → Type 0
   TellsAsking call net n = (x y : N) (acts : List Act) → slice_get net.nodes n ≡ Some x → Handles row law call x y acts → PullsAs call (row x) (asking y) acts → Pulls acts → asking y (acted_all (view_of net n) acts)
 

@@ -4,7 +4,7 @@ use Rattle.elem_core.specs.declared.item.Item.{Item}
 use Rattle.port_core.specs.Ring.{holds}
 use Rattle.port_core.specs.View.{View}
 use Rattle.port_core.specs.Call.{Call, starts, pulls, arrives, cancels}
-use Rattle.port_core.specs.Wire.{Delivery, nothing, ask, refusal, brought, delivery_of, after_delivery, again}
+use Rattle.port_core.specs.Wire.{Delivery, nothing, pull, cancel, arrived, delivery_of, after_delivery, again}
 use Rattle.port_core.specs.declared.act.Act.{Act}
 use Rattle.port_core.specs.declared.act.Act.TheVariants.{Pull, Push, Complete, FailOut, Cancel}
 use Rattle.wire_core.specs.Cell.{Cell, moved_by, queues_by}
@@ -62,16 +62,16 @@ HasPort (Cancel i) p = i < length p.ins
 -- the node that a delivery goes to
 abbrev pub target : Delivery → Ends → ℕ
 target nothing e = e.from
-target ask e = e.from
-target refusal e = e.from
-target (brought x more) e = e.to
+target pull e = e.from
+target cancel e = e.from
+target (arrived x more) e = e.to
 
 -- and the call of its handler
 abbrev pub call_of : Delivery → Ends → Call
 call_of nothing e = starts
-call_of ask e = pulls e.output
-call_of refusal e = cancels e.output
-call_of (brought x more) e = arrives e.input x
+call_of pull e = pulls e.output
+call_of cancel e = cancels e.output
+call_of (arrived x more) e = arrives e.input x
 
 -- the wire once this was delivered
 abbrev pub told_by : Delivery → Cell → Cell

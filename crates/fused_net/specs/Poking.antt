@@ -12,7 +12,7 @@ module _ {N : Type 0} where
   abbrev pub AtNode : Net N → ℕ → (N → Type 0) → Type 0
   AtNode net n P = (x : N) → slice_get net.nodes n ≡ Some x → P x
 
-  -- what node n tells of its ports whenever it has just asked holds once it has done this by itself, where this asks
+  -- what node n tells of its ports whenever it has just pulled holds once it has done this by itself, where this asks
   abbrev pub TellsPoked : (N → View → Type 0) → Net N → ℕ → Act → Type 0
   TellsPoked asking net n a = Pulls (a ∷ []) → AtNode net n (λ x. asking x (view.acted (view_of net n) a))
 

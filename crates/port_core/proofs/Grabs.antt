@@ -13,7 +13,7 @@ held_by pulled g = []
 held_by ready g = []
 held_by (pushed e) g = e ∷ []
 
--- an element waits only where nobody asked
+-- an element waits only where nobody pulled
 abbrev Fits : Step → Option Tree → Type 0
 Fits quiet g = Unit {0}
 Fits pulled g = g ≡ None
@@ -39,7 +39,7 @@ fits_none pulled g f n = f
 fits_none ready g f n = f
 fits_none (pushed e) g f n = f
 
--- an element that waits is there where nobody asked
+-- an element that waits is there where nobody pulled
 fits_some : (s : Step) (g : Option Tree) (e : Tree) → Fits s g → g ≡ Some e → s ≡ quiet
 fits_some quiet g e f i = refl
 fits_some pulled g e f i = cc

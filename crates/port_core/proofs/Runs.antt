@@ -21,7 +21,7 @@ until Q sort keeps last clash (m ∷ ms) p q run =
       | inr not_is ↦ rw not_is (until Q sort keeps last clash ms (next m p) (keeps m p not_is q run.0) run.1)
     ]
 
--- the output may not push, until an ask comes
+-- the output may not push, until a pull comes
 unready_stays : (m : Move) (p : Connection) → is_on_pull m ≡ false → is_ready p.step ≡ false → Allowed m p → is_ready (next m p).step ≡ false
 unready_stays pull p n q a = refl
 unready_stays on_pull p n q a = cc
@@ -107,7 +107,7 @@ busy_refuses p q a = let b : is_idle quiet None ≡ false = rw (a.1.0, a.1.1) at
 pub pull_after_grab : (p : Connection) (ms : List Move) → is_idle p.step p.to_grab ≡ false → Run p (ms ++ pull ∷ []) → list_any is_grab ms ≡ true
 pull_after_grab p ms q run = until (λ (r : Connection). is_idle r.step r.to_grab ≡ false) is_grab busy_stays pull busy_refuses ms p q run
 
--- an ask is outstanding, until an element comes
+-- a pull is outstanding, until an element comes
 asked_stays : (m : Move) (p : Connection) → is_on_push m ≡ false → (p.step ≡ quiet → ⊥) → Allowed m p → (next m p).step ≡ quiet → ⊥
 asked_stays pull p n q a = λ e. cc
 asked_stays on_pull p n q a = λ e. cc

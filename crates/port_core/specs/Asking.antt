@@ -12,7 +12,7 @@ NoCancel i (Complete j ∷ acts) = NoCancel i acts
 NoCancel i (FailOut j c ∷ acts) = NoCancel i acts
 NoCancel i (Cancel k ∷ acts) = (k ≢ i) × NoCancel i acts
 
--- each input that is asked is not cancelled behind it
+-- each input that is pulled is not cancelled behind it
 abbrev pub PullsStand : List Act → Type 0
 PullsStand [] = ⊤
 PullsStand (Pull i ∷ acts) = NoCancel i acts × PullsStand acts

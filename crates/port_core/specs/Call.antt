@@ -17,12 +17,12 @@ pub data Call : Type 0 where
   arrives : ℕ → Item → Call
   cancels : ℕ → Call
 
--- no input was asked
+-- no input was pulled
 abbrev pub AllIdle : List InView → Type 0
 AllIdle [] = ⊤
 AllIdle (x ∷ xs) = (x ≡ Idle) × AllIdle xs
 
--- no output was asked
+-- no output was pulled
 abbrev pub AllUnasked : List OutView → Type 0
 AllUnasked [] = ⊤
 AllUnasked (y ∷ ys) = (y ≡ Unpulled) × AllUnasked ys

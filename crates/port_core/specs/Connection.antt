@@ -3,7 +3,7 @@ use Rattle.std.specs.Prelude.{Bool, false, Option, None}
 use Rattle.elem_core.specs.Tree.{Tree}
 use Rattle.elem_core.specs.declared.why.Cause.{Cause}
 
--- where the ask and the element stand: nobody asks; the input asked; the ask reached the output; an element is on its way
+-- where the pull and the element stand: nobody pulls; the input pulled; the pull reached the output; an element is on its way
 pub data Step : Type 0 where
   quiet : Step
   pulled : Step
@@ -18,6 +18,6 @@ pub record Connection : Type 0 where
   pub out_closed : Bool
   pub cause : Option Cause
 
--- a new connection: nobody asked, nothing came, and no side is closed
+-- a new connection: nobody pulled, nothing came, and no side is closed
 abbrev pub unasked : Connection
 unasked = record { step = quiet; to_grab = None; in_closed = false; out_closed = false; cause = None }

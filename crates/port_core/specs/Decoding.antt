@@ -7,7 +7,7 @@ use Rattle.port_core.specs.PortRules.{on_pull, on_push, on_cancel, on_finish, on
 use Rattle.port_core.specs.declared.conn.Event.{Event}
 use Rattle.port_core.specs.declared.conn.Event.TheVariants.{Push, PushThenClose, Pull, Cancel, Finish, Fail, Nothing}
 
--- nobody asked, and nothing waits to be grabbed
+-- nobody pulled, and nothing waits to be grabbed
 abbrev pub is_idle : Step → Option Tree → Bool
 is_idle quiet None = true
 is_idle quiet (Some e) = false
@@ -15,14 +15,14 @@ is_idle pulled g = false
 is_idle ready g = false
 is_idle (pushed e) g = false
 
--- the output was asked, and did not push since
+-- the output was pulled, and did not push since
 abbrev pub is_ready : Step → Bool
 is_ready quiet = false
 is_ready pulled = false
 is_ready ready = true
 is_ready (pushed e) = false
 
--- an ask or an element is on its way to the other end
+-- a pull or an element is on its way to the other end
 abbrev pub is_moving : Step → Bool
 is_moving quiet = false
 is_moving pulled = true
@@ -33,7 +33,7 @@ is_moving (pushed e) = true
 abbrev pub is_open : Connection → Bool
 is_open p = not p.in_closed && not p.out_closed
 
--- the input may ask
+-- the input may pull
 abbrev pub can_pull : Connection → Bool
 can_pull p = is_open p && is_idle p.step p.to_grab
 
@@ -57,7 +57,7 @@ closing_by quiet c = ending_by c
 closing_by pulled c = ending_by c
 closing_by ready c = ending_by c
 
--- where no side is closed: an element or an ask that is on its way
+-- where no side is closed: an element or a pull that is on its way
 abbrev pub moving_by : Step → Event
 moving_by (pushed e) = Push
 moving_by pulled = Pull

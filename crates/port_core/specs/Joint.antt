@@ -8,13 +8,13 @@ use Rattle.elem_core.specs.declared.item.Item.TheVariants as item
 use Rattle.port_core.specs.Connection.{Step, quiet, pulled, ready, pushed, Connection}
 use Rattle.port_core.specs.View.{IsOutOpen}
 use Rattle.port_core.specs.Call.{MayCome}
-use Rattle.port_core.specs.Wire.{Wire, end_of, Delivery, nothing, ask, refusal, brought}
+use Rattle.port_core.specs.Wire.{Wire, end_of, Delivery, nothing, pull, cancel, arrived}
 use Rattle.port_core.specs.declared.view.InView.TheVariants.{Idle, Pulled, Finished, Cancelled}
 use Rattle.port_core.specs.declared.view.OutView.TheVariants as outlet
 
--- Where both ends are open: nobody asked, the ask is on its way, the ask has come, or an element is on its way. Where one
--- has closed and the other does not know it: the output, while the input has not asked (`ending`) or waits (`closing`); or
--- the input, while the output was asked or not (`leaving`). Where both have closed: the end came (`finished`), each closed
+-- Where both ends are open: nobody pulled, the pull is on its way, the pull has come, or an element is on its way. Where one
+-- has closed and the other does not know it: the output, while the input has not pulled (`ending`) or waits (`closing`); or
+-- the input, while the output was pulled or not (`leaving`). Where both have closed: the end came (`finished`), each closed
 -- its own (`parted`), or the cancel came (`refused`).
 pub data Joint : Type 0 where
   idle : Joint
@@ -94,6 +94,6 @@ pub record Kept (new : Wire) (q queued : Bool) : Type 0 where
 -- the end that a delivery goes to is where the port rules allow it, as its stage sees them
 abbrev pub Heard : Delivery → Wire → Type 0
 Heard nothing w = ⊤
-Heard ask w = w.out ≡ outlet.Unpulled
-Heard refusal w = IsOutOpen w.out
-Heard (brought x more) w = MayCome x w.inp
+Heard pull w = w.out ≡ outlet.Unpulled
+Heard cancel w = IsOutOpen w.out
+Heard (arrived x more) w = MayCome x w.inp

@@ -14,7 +14,7 @@ abbrev pub led : Connection → List Move → Connection
 led p [] = p
 led p (m ∷ ms) = led (next m p) ms
 
--- an ask comes to the output
+-- a pull comes to the output
 abbrev pub is_on_pull : Move → Bool
 is_on_pull on_pull = true
 is_on_pull _ = false

@@ -1,6 +1,6 @@
 -- A wire: a connection, what the two stages at its ends know of it, and the histories of both; and what their actions and a
 -- delivery make of it. A pull or a push that only a closing which has not come forbids is dropped at the connection: such a
--- pull changes nothing there, and such a push counts as sent and answers the ask.
+-- pull changes nothing there, and such a push counts as sent and answers the pull.
 use Rattle.std.specs.Prelude.{Bool, true, false, if◌then◌else◌, Option, None, Some, List, [], ◌∷◌, ◌++◌}
 use Rattle.elem_core.specs.Tree.{Tree}
 use Rattle.elem_core.specs.declared.why.Cause.{Cause}
@@ -27,7 +27,7 @@ pub record Wire : Type 0 where
 abbrev pub new_wire : Wire
 new_wire = record { out = outlet.Unpulled; inp = Idle; conn = unasked; sent = []; got = [] }
 
--- the input asks
+-- the input pulls
 abbrev pub pull_of : Wire → Wire
 pull_of w = record w { inp = Pulled; conn = if can_pull w.conn then next rule.pull w.conn else w.conn }
 
@@ -53,32 +53,32 @@ close_of c w = record w { out = outlet.Closed; conn = closed_by c w.conn; sent =
 abbrev pub cancel_of : Wire → Wire
 cancel_of w = record w { inp = Cancelled; conn = next rule.cancel w.conn }
 
--- what the event of a wire brings: nothing, an ask or a cancel to the output; an item to the input, and whether the wire has
+-- what the event of a wire brings: nothing, a pull or a cancel to the output; an item to the input, and whether the wire has
 -- to be queued again behind it
 pub data Delivery : Type 0 where
   nothing : Delivery
-  ask : Delivery
-  refusal : Delivery
-  brought : Item → Bool → Delivery
+  pull : Delivery
+  cancel : Delivery
+  arrived : Item → Bool → Delivery
 
--- where no side is closed: an element or an ask that is on its way
+-- where no side is closed: an element or a pull that is on its way
 abbrev pub moving_item : Step → Delivery
 moving_item quiet = nothing
-moving_item pulled = ask
+moving_item pulled = pull
 moving_item ready = nothing
-moving_item (pushed e) = brought (item.Elem e) false
+moving_item (pushed e) = arrived (item.Elem e) false
 
 -- where the output has closed: an element that is on its way comes first
 abbrev pub closing_item : Step → Option Cause → Delivery
-closing_item quiet c = brought (end_of c) false
-closing_item pulled c = brought (end_of c) false
-closing_item ready c = brought (end_of c) false
-closing_item (pushed e) c = brought (item.Elem e) true
+closing_item quiet c = arrived (end_of c) false
+closing_item pulled c = arrived (end_of c) false
+closing_item ready c = arrived (end_of c) false
+closing_item (pushed e) c = arrived (item.Elem e) true
 
 -- by the closed sides, the input's first and the output's second
 abbrev pub delivery_by : Bool → Bool → Step → Option Cause → Delivery
 delivery_by false false s c = moving_item s
-delivery_by true false s c = refusal
+delivery_by true false s c = cancel
 delivery_by false true s c = closing_item s c
 delivery_by true true s c = nothing
 
@@ -89,15 +89,15 @@ delivery_of w = delivery_by w.conn.in_closed w.conn.out_closed w.conn.step w.con
 -- the wire once that was delivered, and the element grabbed
 abbrev pub after_delivery : Delivery → Wire → Wire
 after_delivery nothing w = w
-after_delivery ask w = record w { out = outlet.Available; conn = next rule.on_pull w.conn }
-after_delivery refusal w = record w { out = outlet.Cancelled; conn = next rule.on_cancel w.conn }
-after_delivery (brought (item.Elem e) more) w = record w { inp = Idle; conn = next (rule.grab e) (next (rule.on_push e) w.conn); got = w.got ++ item.Elem e ∷ [] }
-after_delivery (brought item.Ended more) w = record w { inp = Finished; conn = next rule.on_finish w.conn; got = w.got ++ item.Ended ∷ [] }
-after_delivery (brought (item.Failed c) more) w = record w { inp = Finished; conn = next (rule.on_fail c) w.conn; got = w.got ++ item.Failed c ∷ [] }
+after_delivery pull w = record w { out = outlet.Available; conn = next rule.on_pull w.conn }
+after_delivery cancel w = record w { out = outlet.Cancelled; conn = next rule.on_cancel w.conn }
+after_delivery (arrived (item.Elem e) more) w = record w { inp = Idle; conn = next (rule.grab e) (next (rule.on_push e) w.conn); got = w.got ++ item.Elem e ∷ [] }
+after_delivery (arrived item.Ended more) w = record w { inp = Finished; conn = next rule.on_finish w.conn; got = w.got ++ item.Ended ∷ [] }
+after_delivery (arrived (item.Failed c) more) w = record w { inp = Finished; conn = next (rule.on_fail c) w.conn; got = w.got ++ item.Failed c ∷ [] }
 
 -- whether the wire has to be queued again
 abbrev pub again : Delivery → Bool
 again nothing = false
-again ask = false
-again refusal = false
-again (brought x more) = more
+again pull = false
+again cancel = false
+again (arrived x more) = more

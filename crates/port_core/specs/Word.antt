@@ -17,12 +17,12 @@ words = with_low 0 ++ with_low 32 ++ with_low 96 ++ with_low 16 ++ with_low 48 +
 abbrev pub has : ℕ → ℕ → Bool
 has bit w = not (bit_and w bit == 0)
 
--- What every connection keeps: its word is one of these, and an element that was delivered is held only where nobody asked.
+-- What every connection keeps: its word is one of these, and an element that was delivered is held only where nobody pulled.
 pub record IsWord (w : ℕ) (held : Bool) : Type 0 where
   pub word : holds words w ≡ true
   pub quiet : held ≡ true → has 1 w ≡ true
 
--- where the ask and the element stand
+-- where the pull and the element stand
 abbrev pub step_by : ℕ → Tree → Step
 step_by w e = if has 4 w then pushed e else if has 2 w then pulled else if has 8 w then ready else quiet
 

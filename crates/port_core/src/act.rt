@@ -5,7 +5,7 @@ use elem_core::why::Cause;
 /// 2.6 reference.
 #[derive(Drop)]
 pub enum Act {
-    /// Ask at an input.
+    /// Pull at an input.
     Pull(u8),
     /// Give an element at an output.
     Push(u8, Elem),

@@ -21,7 +21,7 @@ pub enum Event {
     Push,
     /// An element for the input, and the closing of the output behind it: the connection has to be queued again.
     PushThenClose,
-    /// An ask for the output.
+    /// A pull for the output.
     Pull,
     /// The input's cancel, for the output.
     Cancel,
@@ -34,13 +34,13 @@ pub enum Event {
 }
 
 // The bits of the flag word. Exactly one of the low four is set. Rule: own.
-// Nobody asked.
+// Nobody pulled.
 const IN_READY: u8 = 1;
-// The input asked, and the output does not know it.
+// The input pulled, and the output does not know it.
 const PULLING: u8 = 2;
 // An element is on its way to the input.
 const PUSHING: u8 = 4;
-// The output was asked.
+// The output was pulled.
 const OUT_READY: u8 = 8;
 // The input's side is closed.
 const IN_CLOSED: u8 = 16;
@@ -83,7 +83,7 @@ fn no_elem() -> Elem {
 }
 
 impl Conn {
-    /// A connection that nobody asked.
+    /// A connection that nobody pulled.
     pub fn new() -> Conn
         ensures { result ≡ unasked }
     {
@@ -99,7 +99,7 @@ impl Conn {
         }
     }
 
-    /// Whether the input may ask: no ask is outstanding, no delivered element waits to be grabbed, and no side is closed.
+    /// Whether the input may pull: no pull is outstanding, no delivered element waits to be grabbed, and no side is closed.
     pub fn can_pull(&self) -> bool
         ensures test { result ≡ can_pull self.now }
         ensures table { IsTrue result ↔ Allowed rule.pull self.now }
@@ -107,7 +107,7 @@ impl Conn {
         self.word == IN_READY && !self.held
     }
 
-    /// Whether the output may push: it was asked and did not push since, and no side is closed.
+    /// Whether the output may push: it was pulled and did not push since, and no side is closed.
     pub fn can_push(&self) -> bool
         ensures test { result ≡ can_push self.now }
         ensures table { (e : Tree) → IsTrue result ↔ Allowed (rule.push e) self.now }
@@ -122,7 +122,7 @@ impl Conn {
         self.held
     }
 
-    /// The input asks. The connection has to be queued.
+    /// The input pulls. The connection has to be queued.
     pub fn pull(&mut self) -> bool
         requires { IsTrue (can_pull self.old) }
         ensures queued { IsTrue result }
@@ -191,7 +191,7 @@ impl Conn {
     }
 
     /// The event of a connection that was queued; the connection is then as after the event's delivery. The order of the
-    /// rules is own: an element or an ask where no side is closed; the input's cancel; the output's closing, an element that
+    /// rules is own: an element or a pull where no side is closed; the input's cancel; the output's closing, an element that
     /// is on its way before it; nothing where both sides are closed.
     pub fn decode(&mut self) -> Event
         ensures event { result ≡ event_of self.old }
@@ -235,7 +235,7 @@ impl Conn {
         self.word & (IN_CLOSED | OUT_CLOSED | PULLING | PUSHING) == 0
     }
 
-    // The event where no element and no ask is on its way between open sides.
+    // The event where no element and no pull is on its way between open sides.
     #[inline(never)]
     fn decode_closing(&mut self) -> Event
         requires { IsTrue (is_open self.old) → IsTrue (is_at_rest self.old) }

@@ -27,7 +27,7 @@ pub fn output_pushes_when_pulled()
     ensures open { (p : Connection) (m : Move) (ms : List Move) (e : Tree) → IsTrue (is_closing m) → Run p (m ∷ (ms ++ rule.push e ∷ [])) → ⊥ }
 {}
 
-/// An input asks only when no ask is outstanding, no delivered element waits to be grabbed, and the connection is not closed.
+/// An input pulls only when no pull is outstanding, no delivered element waits to be grabbed, and the connection is not closed.
 pub fn input_pulls_when_free()
     ensures answered { (p : Connection) (ms : List Move) → Run p (rule.pull ∷ (ms ++ rule.pull ∷ [])) → IsTrue (list_any is_on_push ms) }
     ensures grabbed { (p : Connection) (e : Tree) (ms : List Move) → Run p (rule.on_push e ∷ (ms ++ rule.pull ∷ [])) → IsTrue (list_any is_grab ms) }
@@ -39,7 +39,7 @@ pub fn elements_are_grabbed_once()
     ensures { (ms : List Move) → Run unasked ms → (left : List Tree) × ((pushed_in ms ≡ grabbed_in ms ++ left) × (length left ≤ 1)) }
 {}
 
-/// After a finish or a failure no element comes to the input, and after a cancel no ask comes to the output.
+/// After a finish or a failure no element comes to the input, and after a cancel no pull comes to the output.
 pub fn nothing_comes_after_a_closing()
     ensures input { (p : Connection) (m : Move) (ms : List Move) (e : Tree) → IsTrue (is_ending m) → Run p (m ∷ (ms ++ rule.on_push e ∷ [])) → ⊥ }
     ensures output { (p : Connection) (ms : List Move) → Run p (rule.on_cancel ∷ (ms ++ rule.on_pull ∷ [])) → ⊥ }

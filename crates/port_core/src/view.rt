@@ -2,9 +2,9 @@
 /// Streams 2.6 reference.
 #[derive(Clone, Copy, PartialEq, Eq)]
 pub enum InView {
-    /// It has not asked since the last element.
+    /// It was not pulled since the last element.
     Idle,
-    /// It has asked, and no element came since.
+    /// It was pulled, and no element came since.
     Pulled,
     /// The end came.
     Finished,
@@ -16,9 +16,9 @@ pub enum InView {
 /// Streams 2.6 reference.
 #[derive(Clone, Copy, PartialEq, Eq)]
 pub enum OutView {
-    /// Nobody asks.
+    /// The other end has not pulled.
     Unpulled,
-    /// The other end asked, and no element was pushed since.
+    /// The other end pulled, and no element was pushed since.
     Available,
     /// The stage completed or failed it.
     Closed,

@@ -1,7 +1,7 @@
 -- What a stage owes at each call of a handler, whatever its kind is. Three things are told of a kind: what a stage that was
 -- not started may know of its ports (`fresh`); what one that was started may know of them between two calls (`row`, in the trait `rests`); and
 -- what holds of the histories of its ports, by the stage as it was handed in and as it is now (`law`). Two more are told of
--- the moments at which it asks: what it knows of its ports whenever it has just asked (`asking`), and the moves that it has
+-- the moments at which it pulls: what it knows of its ports whenever it has just pulled (`asking`), and the moves that it has
 -- recorded, which only grow (`moves`). One is told of whether it acts by itself at all (`passive`). And one is told of want of memory: what a stage keeps of itself through a call that
 -- answers it (`keeps`).
 use Rattle.std.specs.Prelude.{◌≡◌, ℕ, Bool, true, false, List, [], ◌∷◌, length, ⊤}
@@ -17,7 +17,7 @@ use Rattle.stage_core.specs.Histories.{given_all, brought_by, AllEmpty}
 abbrev pub most_acts : ℕ
 most_acts = 34
 
--- some input is asked
+-- some input is pulled
 abbrev pub Pulls : List Act → Type 0
 Pulls [] = ⊥
 Pulls (Pull i ∷ acts) = ⊤
@@ -26,7 +26,7 @@ Pulls (Complete j ∷ acts) = Pulls acts
 Pulls (FailOut j c ∷ acts) = Pulls acts
 Pulls (Cancel i ∷ acts) = Pulls acts
 
--- Wherever the call may come and `Before` holds, actions that ask some input leave `Asking` of what the stage knows once they are done.
+-- Wherever the call may come and `Before` holds, actions that pull some input leave `Asking` of what the stage knows once they are done.
 abbrev pub PullsAs : Call → (View → Type 0) → (View → Type 0) → List Act → Type 0
 PullsAs call Before Asking acts = (v : View) → CallAllowed call v → Before v → Pulls acts → Asking (acted_all (seen call v) acts)
 
@@ -36,14 +36,14 @@ StaysPassive false now acts = now ≡ false
 StaysPassive true now acts = (now ≡ true) × (acts ≡ [])
 
 module _ {N : Type 0} (row : N → View → Type 0) (law : N → N → View → List (List Item) → List (List Item) → Type 0) where
-  -- The stage was started: its actions obey the port rules, none of them cancels an input that an earlier one asked, and once they are done its row and its law hold.
+  -- The stage was started: its actions obey the port rules, none of them cancels an input that an earlier one pulled, and once they are done its row and its law hold.
   pub record Starts (fresh : N → View → Type 0) (old new : N) (acts : List Act) : Type 0 where
     pub obeys : Obeys starts (fresh old) (row new) acts
     pub stands : PullsStand acts
     pub begins : (v : View) (took gave : List (List Item)) → CallAllowed starts v → fresh old v → AllEmpty took → AllEmpty gave → length took ≡ length v.ins → length gave ≡ length v.outs
         → law old new (acted_all v acts) took (given_all acts gave)
 
-  -- The call was handled: its actions obey the port rules, none of them cancels an input that an earlier one asked, and once they are done its row and its law hold again.
+  -- The call was handled: its actions obey the port rules, none of them cancels an input that an earlier one pulled, and once they are done its row and its law hold again.
   pub record Handles (call : Call) (old new : N) (acts : List Act) : Type 0 where
     pub obeys : Obeys call (row old) (row new) acts
     pub stands : PullsStand acts

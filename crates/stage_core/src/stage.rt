@@ -52,7 +52,7 @@ pub trait Stage: Drop {
         ensures room { OnOk result (acts.new.room ≡ acts.old.room) }
         ensures kept { keeps self.old self.new };
 
-    /// Output `port` was asked.
+    /// Output `port` was pulled.
     fn on_pull(&mut self, alloc: Global, port: u8, acts: &mut Acts) -> Result<(), NoMemory>
         requires meets { Meets (pulls port) (rests self.old) }
         requires empty { acts.old.items ≡ [] }

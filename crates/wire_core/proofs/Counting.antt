@@ -164,7 +164,7 @@ pull_spent w q r h e =
     let up : spent w q ≤ spent (pull_of w) true = subst (λ (v : Wire). spent v q ≤ spent (pull_of v) true) (sym h.is) (spent_pull h.joint w.sent w.got q (sym (ap (λ (v : Wire). v.inp) h.is) ∙ e)) in
     omega (arith, up, spent_least (pull_of w) r)
 
--- No action raises the asks that came to the output, and an event raises them by one at most.
+-- No action raises the pulls that came to the output, and an event raises them by one at most.
 pub pull_asks : (w : Wire) → asks (pull_of w) ≤ asks w
 pull_asks w = omega arith
 

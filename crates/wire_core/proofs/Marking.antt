@@ -7,7 +7,7 @@ use Rattle.elem_core.specs.declared.item.Item.{Item}
 use Rattle.elem_core.specs.declared.item.Item.TheVariants as item
 use Rattle.port_core.specs.Connection.{quiet, pulled, ready, pushed}
 use Rattle.port_core.specs.Decoding.{can_pull, can_push}
-use Rattle.port_core.specs.Wire.{Wire, pull_of, push_of, close_of, cancel_of, end_of, Delivery, nothing, ask, refusal, brought, delivery_of, after_delivery}
+use Rattle.port_core.specs.Wire.{Wire, pull_of, push_of, close_of, cancel_of, end_of, Delivery, nothing, pull, cancel, arrived, delivery_of, after_delivery}
 use Rattle.port_core.specs.Joint.{Joint, idle, asking, asked, moving, ending, closing, leaving, finished, parted, refused, wire_of, Queues, IsSound}
 use Rattle.port_core.specs.declared.view.OutView.TheVariants.{Available}
 use Rattle.wire_core.specs.Cell.{Cell, new_cell}
@@ -108,7 +108,7 @@ grows_pull w b false e = rw e (record { sent = prefix_refl w.sent; got = prefix_
 pub pull_grown : (w : Wire) (b : Bool) → Grown (cell w b) (cell (pull_of w) (if can_pull w.conn then true else b))
 pull_grown w b = grows_pull w b (can_pull w.conn) refl
 
--- a push answers the ask
+-- a push answers the pull
 pub push_wanted : (x : Tree) (w : Wire) (b : Bool) → b ≡ true → wanted (cell (push_of x w) false) ≡ wanted (cell w b)
 push_wanted x w b e = rw e (elements_elem w.sent x)
 
@@ -127,7 +127,7 @@ push_grown x w b e =
       out_closed = λ o. sides.1 ∙ o;
     }
 
--- a closing leaves the asks as they were
+-- a closing leaves the pulls as they were
 wanted_same : (n m : ℕ) (b : Bool) → n ≡ m → (if b then n + 1 else n) ≡ (if b then m + 1 else m)
 wanted_same n m b e = ap (λ (k : ℕ). if b then k + 1 else k) e
 
@@ -144,16 +144,16 @@ cancel_grown w b = record { sent = prefix_refl w.sent; got = prefix_refl w.got; 
 -- so does an event
 pub deliver_wanted : (d : Delivery) (w : Wire) (b : Bool) → wanted (cell (after_delivery d w) b) ≡ wanted (cell w b)
 deliver_wanted nothing w b = refl
-deliver_wanted ask w b = refl
-deliver_wanted refusal w b = refl
-deliver_wanted (brought (item.Elem e) more) w b = refl
-deliver_wanted (brought item.Ended more) w b = refl
-deliver_wanted (brought (item.Failed c) more) w b = refl
+deliver_wanted pull w b = refl
+deliver_wanted cancel w b = refl
+deliver_wanted (arrived (item.Elem e) more) w b = refl
+deliver_wanted (arrived item.Ended more) w b = refl
+deliver_wanted (arrived (item.Failed c) more) w b = refl
 
 pub deliver_grown : (d : Delivery) (w : Wire) (b : Bool) → Grown (cell w b) (cell (after_delivery d w) b)
 deliver_grown nothing w b = grown_same (cell w b)
-deliver_grown ask w b = record { sent = prefix_refl w.sent; got = prefix_refl w.got; wanted = omega arith; in_closed = λ o. o; out_closed = λ o. o }
-deliver_grown refusal w b = record { sent = prefix_refl w.sent; got = prefix_refl w.got; wanted = omega arith; in_closed = λ o. o; out_closed = λ o. refl }
-deliver_grown (brought (item.Elem e) more) w b = record { sent = prefix_refl w.sent; got = prefix_append w.got _; wanted = omega arith; in_closed = λ o. o; out_closed = λ o. o }
-deliver_grown (brought item.Ended more) w b = record { sent = prefix_refl w.sent; got = prefix_append w.got _; wanted = omega arith; in_closed = λ o. refl; out_closed = λ o. o }
-deliver_grown (brought (item.Failed c) more) w b = record { sent = prefix_refl w.sent; got = prefix_append w.got _; wanted = omega arith; in_closed = λ o. refl; out_closed = λ o. o }
+deliver_grown pull w b = record { sent = prefix_refl w.sent; got = prefix_refl w.got; wanted = omega arith; in_closed = λ o. o; out_closed = λ o. o }
+deliver_grown cancel w b = record { sent = prefix_refl w.sent; got = prefix_refl w.got; wanted = omega arith; in_closed = λ o. o; out_closed = λ o. refl }
+deliver_grown (arrived (item.Elem e) more) w b = record { sent = prefix_refl w.sent; got = prefix_append w.got _; wanted = omega arith; in_closed = λ o. o; out_closed = λ o. o }
+deliver_grown (arrived item.Ended more) w b = record { sent = prefix_refl w.sent; got = prefix_append w.got _; wanted = omega arith; in_closed = λ o. refl; out_closed = λ o. o }
+deliver_grown (arrived (item.Failed c) more) w b = record { sent = prefix_refl w.sent; got = prefix_append w.got _; wanted = omega arith; in_closed = λ o. refl; out_closed = λ o. o }

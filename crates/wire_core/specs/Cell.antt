@@ -1,4 +1,4 @@
--- A wire of an island: the wire itself, and whether its input has asked and was not answered by an element yet.
+-- A wire of an island: the wire itself, and whether its input has pulled and was not answered by an element yet.
 use Rattle.std.specs.Prelude.{Bool, true, false, if◌then◌else◌, None, Some, [], ◌∷◌, ◌++◌}
 use Rattle.elem_core.specs.Tree.{Tree}
 use Rattle.elem_core.specs.declared.item.Item.TheVariants as item
@@ -6,15 +6,15 @@ use Rattle.port_core.specs.Connection.{Connection}
 use Rattle.port_core.specs.PortRules as rule
 use Rattle.port_core.specs.PortRules.{next}
 use Rattle.port_core.specs.Decoding.{can_pull, can_push, is_at_rest}
-use Rattle.port_core.specs.Wire.{Wire, new_wire, pull_of, push_of, close_of, cancel_of, Delivery, nothing, ask, refusal, brought, end_of, delivery_of, after_delivery}
+use Rattle.port_core.specs.Wire.{Wire, new_wire, pull_of, push_of, close_of, cancel_of, Delivery, nothing, pull, cancel, arrived, end_of, delivery_of, after_delivery}
 use Rattle.port_core.specs.declared.view.InView.TheVariants.{Idle, Finished}
 use Rattle.port_core.specs.declared.act.Act.{Act}
 use Rattle.port_core.specs.declared.act.Act.TheVariants.{Pull, Push, Complete, FailOut, Cancel}
 use Rattle.wire_core.specs.declared.wire.Delivered.{Delivered}
 use Rattle.wire_core.specs.declared.wire.Delivered.TheVariants as delivery
 
--- An ask that a closing forbids, which has not come to the input, is none. A push answers the ask, also one that a cancel
--- forbids which has not come to the output. A closing leaves the ask as it is.
+-- A pull that a closing forbids, which has not come to the input, is none. A push answers the pull, also one that a cancel
+-- forbids which has not come to the output. A closing leaves the pull as it is.
 pub record Cell : Type 0 where
   pub wire : Wire
   pub asked : Bool
@@ -42,9 +42,9 @@ queues_by (Cancel i) p = is_at_rest p
 -- what the event of the wire brings, as the code says it
 abbrev pub delivery_in : Delivered → Delivery
 delivery_in delivery.Nothing = nothing
-delivery_in delivery.Pull = ask
-delivery_in delivery.Cancel = refusal
-delivery_in (delivery.Arrived x more) = brought x more
+delivery_in delivery.Pull = pull
+delivery_in delivery.Cancel = cancel
+delivery_in (delivery.Arrived x more) = arrived x more
 
 -- an element that waits to be grabbed goes to the input
 abbrev pub brought_in : Tree → Cell → Cell

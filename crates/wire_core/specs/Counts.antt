@@ -16,7 +16,7 @@ elements (item.Elem e ∷ items) = suc (elements items)
 elements (item.Ended ∷ items) = elements items
 elements (item.Failed c ∷ items) = elements items
 
--- the ask has come to the output
+-- the pull has come to the output
 abbrev pub ready_bit : Step → ℕ
 ready_bit quiet = 0
 ready_bit pulled = 0
@@ -42,7 +42,7 @@ extra _ _ t q = 0
 abbrev pub spent : Wire → Bool → ℕ
 spent w q = elements w.sent + elements w.got + extra w.out w.inp w.conn.step q
 
--- the asks that came to the output: one for each element that was pushed, and the last one
+-- the pulls that came to the output: one for each element that was pushed, and the last one
 abbrev pub asked_bit : OutView → ℕ
 asked_bit outlet.Unpulled = 0
 asked_bit outlet.Available = 1

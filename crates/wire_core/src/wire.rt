@@ -2,7 +2,7 @@ ghost use Rattle.std.specs.Prelude.{◌≡◌, ◌↔◌, ◌+◌, ◌<◌, ◌^
 ghost use Rattle.elem_core.specs.Tree.{Tree};
 ghost use Rattle.elem_core.specs.declared.item.Item.TheVariants as item;
 ghost use Rattle.port_core.specs.Decoding.{can_pull, can_push, is_at_rest, is_open};
-ghost use Rattle.port_core.specs.Wire.{delivery_of, nothing, brought, end_of};
+ghost use Rattle.port_core.specs.Wire.{delivery_of, nothing, arrived, end_of};
 ghost use Rattle.port_core.specs.declared.act.Act.TheVariants as act;
 ghost use Rattle.wire_core.specs.Cell.{new_cell, moved_by, delivery_in, delivered, brought_in, ended_in};
 ghost use Rattle.port_core.specs.View.{output_closed, input_closed};
@@ -23,7 +23,7 @@ use std::snapshot::Snapshot;
 pub enum Delivered {
     /// Nothing: both sides are closed.
     Nothing,
-    /// An ask, to the output.
+    /// A pull, to the output.
     Pull,
     /// The input's cancel, to the output.
     Cancel,
@@ -41,7 +41,7 @@ impl Delivered {
 }
 
 /// One output joined to one input, with what the stages at both ends know of it. A pull or a push that only a closing forbids
-/// which was not delivered yet is dropped: such a pull changes nothing, and such a push counts and answers the ask. No call
+/// which was not delivered yet is dropped: such a pull changes nothing, and such a push counts and answers the pull. No call
 /// takes memory. Rule: Akka Streams 2.6 reference, chapter on custom stream processing; that a pull or push is dropped is own.
 #[derive(Drop)]
 pub struct Wire {
@@ -101,7 +101,7 @@ impl Wire {
         self.pushed
     }
 
-    /// Whether its input has asked and was not answered by an element.
+    /// Whether its input has pulled and was not answered by an element.
     pub fn is_asked(&self) -> bool
         ensures { result ≡ self.now.asked }
     {
@@ -122,7 +122,7 @@ impl Wire {
         self.conn.can_push()
     }
 
-    /// Whether its input may ask so that the ask comes to the connection.
+    /// Whether its input may pull so that the pull comes to the connection.
     pub fn can_pull(&self) -> bool
         ensures { result ≡ can_pull self.now.wire.conn }
     {
@@ -150,7 +150,7 @@ impl Wire {
         self.over
     }
 
-    /// The stage at its input asks. The answer says whether the wire has to be queued.
+    /// The stage at its input pulls. The answer says whether the wire has to be queued.
     pub fn pull(&mut self) -> bool
         ensures queued { result ≡ can_pull self.old.wire.conn }
         ensures moved { self.new ≡ moved_by (act.Pull 0) self.old }
@@ -250,7 +250,7 @@ impl Wire {
     fn take_in(&mut self, more: bool) -> Delivered
         requires there { IsSome self.old.wire.conn.to_grab }
         requires open { self.old.wire.conn.in_closed ≡ false }
-        ensures value { (e : Tree) → self.old.wire.conn.to_grab ≡ Some e → delivery_in result ≡ brought (item.Elem e) more }
+        ensures value { (e : Tree) → self.old.wire.conn.to_grab ≡ Some e → delivery_in result ≡ arrived (item.Elem e) more }
         ensures after { (e : Tree) → self.old.wire.conn.to_grab ≡ Some e → self.new ≡ brought_in e self.old }
     {
         self.inp = Snapshot::of(&InView::Idle);
@@ -261,7 +261,7 @@ impl Wire {
 
     fn take_end(&mut self) -> Delivered
         requires { self.old.wire.conn.in_closed ≡ true }
-        ensures value { delivery_in result ≡ brought (end_of self.old.wire.conn.cause) false }
+        ensures value { delivery_in result ≡ arrived (end_of self.old.wire.conn.cause) false }
         ensures after { self.new ≡ ended_in self.old }
     {
         self.inp = Snapshot::of(&InView::Finished);

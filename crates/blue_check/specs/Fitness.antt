@@ -1,7 +1,7 @@
 -- When a blueprint can be run: eleven rules, of which the first that is broken decides.
 use Rattle.std.specs.Prelude.{◌≡◌, ℕ, List, [], slice_get, Option, Some, None, ◌⊎◌}
 use Rattle.std.specs.Option.{option_map, option_or}
-use Rattle.stream_model.specs.Graph.{Wire}
+use Rattle.stream_model.specs.Graph.{Edge}
 use Rattle.blue_core.specs.declared.blueprint.Blueprint.{Blueprint}
 use Rattle.blue_core.specs.declared.blueprint.ChainDecl.{ChainDecl}
 use Rattle.blue_core.specs.declared.blueprint.Node.{Node}
@@ -39,7 +39,7 @@ names_fault switches chains nodes wires taken =
     option_or (option_map TwoNames (taken_twice switches chains nodes taken)) (option_map NoSuchName (unknown_name switches chains nodes wires))
 
 -- ports
-abbrev pub ports_fault : List Node → List Wire → Option CheckFault
+abbrev pub ports_fault : List Node → List Edge → Option CheckFault
 ports_fault nodes ws =
     option_or (option_map NoSuchPort (port_missing nodes ws))
     (option_or (option_map PortTwice (port_twice ws)) (option_map (open_fault nodes) (port_open nodes ws)))
@@ -52,7 +52,7 @@ abbrev pub sizes_fault : List ChainDecl → List Node → List WireDecl → Opti
 sizes_fault chains nodes wires = option_map BadSize (size_wrong chains nodes wires)
 
 -- types
-abbrev pub types_fault : List PlugHead → List ChainDecl → List Node → List Wire → Option CheckFault
+abbrev pub types_fault : List PlugHead → List ChainDecl → List Node → List Edge → Option CheckFault
 types_fault plugs chains nodes ws =
     option_or (option_map clash_fault (type_clash plugs chains nodes ws)) (option_map (λ i. TooDeep (name_at nodes i)) (too_deep plugs chains nodes ws))
 
@@ -69,7 +69,7 @@ abbrev pub early_fault : Blueprint → List PlugHead → List (List ℕ) → Opt
 early_fault b plugs taken = early_of b.switches.items b.chains.items b.nodes.items b.wires.items plugs taken
 
 -- the fault is that of the first rule that is broken, at its least place: closed walks come last
-abbrev pub IsClosedFault : List Wire → CheckFault → Type 0
+abbrev pub IsClosedFault : List Edge → CheckFault → Type 0
 IsClosedFault ws (ClosedWalk i) = IsFirstClosed ws i
 IsClosedFault ws _ = ⊥
 

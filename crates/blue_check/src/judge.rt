@@ -12,7 +12,7 @@ ghost use Rattle.blue_check.specs.Judging.{IsJudged};
 use crate::fault::CheckFault;
 use crate::rules::{names_fault, plugs_fault, ports_fault, sizes_fault, types_fault};
 use blue_core::blueprint::{Blueprint, ChainDecl, Node, WireDecl};
-use blue_names::links::{Link, links_of};
+use blue_names::links::{NumberedWire, links_of};
 use blue_names::outs::outs_of;
 use blue_names::ports::{PortTable, targets_of};
 use blue_walks::closed::first_closed;
@@ -36,7 +36,7 @@ pub enum Judged {
 fn by_walks(
     alloc: Global,
     count: usize,
-    links: &[Link],
+    links: &[NumberedWire],
     outs: &[Vec<usize>],
 ) -> Result<Judged, NoMemory>
     requires outs { IsOuts outs.now (wires_of_links links.now) }
@@ -55,7 +55,7 @@ fn by_types(
     plugs: &[PlugHead],
     chains: &[ChainDecl],
     nodes: &[Node],
-    links: &[Link],
+    links: &[NumberedWire],
     targets: &PortTable,
 ) -> Result<Judged, NoMemory>
     requires targets { FindsWires targets.now (wires_of_links links.now) }
@@ -76,7 +76,7 @@ fn by_sizes(
     chains: &[ChainDecl],
     nodes: &[Node],
     wires: &[WireDecl],
-    links: &[Link],
+    links: &[NumberedWire],
     targets: &PortTable,
 ) -> Result<Judged, NoMemory>
     requires targets { FindsWires targets.now (wires_of_links links.now) }
@@ -96,7 +96,7 @@ fn by_plugs(
     chains: &[ChainDecl],
     nodes: &[Node],
     wires: &[WireDecl],
-    links: &[Link],
+    links: &[NumberedWire],
     targets: &PortTable,
 ) -> Result<Judged, NoMemory>
     requires targets { FindsWires targets.now (wires_of_links links.now) }
@@ -117,7 +117,7 @@ fn by_ports(
     chains: &[ChainDecl],
     nodes: &[Node],
     wires: &[WireDecl],
-    links: &[Link],
+    links: &[NumberedWire],
 ) -> Result<Judged, NoMemory>
     ensures { IfOk result (IsJudged (option_or (ports_fault nodes.now (wires_of_links links.now)) (option_or (plugs_fault plugs.now chains.now nodes.now)
         (option_or (sizes_fault chains.now nodes.now wires.now) (types_fault plugs.now chains.now nodes.now (wires_of_links links.now))))) (wires_of_links links.now)) }

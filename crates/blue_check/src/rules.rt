@@ -12,7 +12,7 @@ ghost use Rattle.blue_check.specs.Fitness.{name_at, open_fault, clash_fault, nam
 use crate::fault::CheckFault;
 use blue_core::blueprint::{ChainDecl, Node, WireDecl};
 use blue_names::claims::{plug_twice, taken_twice};
-use blue_names::links::Link;
+use blue_names::links::NumberedWire;
 use blue_names::names::{unknown_name, unknown_plug};
 use blue_names::ports::{
     OpenPort, PortTable, port_missing, port_open, port_twice, sources_of, targets_of,
@@ -72,7 +72,7 @@ fn open_fault(alloc: Global, nodes: &[Node], port: OpenPort) -> Result<CheckFaul
 pub fn ports_fault(
     alloc: Global,
     nodes: &[Node],
-    links: &[Link],
+    links: &[NumberedWire],
     targets: &PortTable,
 ) -> Result<Option<CheckFault>, NoMemory>
     requires { FindsWires targets.now (wires_of_links links.now) }
@@ -184,7 +184,7 @@ pub fn types_fault(
     plugs: &[PlugHead],
     chains: &[ChainDecl],
     nodes: &[Node],
-    links: &[Link],
+    links: &[NumberedWire],
     targets: &PortTable,
     outs: &[Vec<usize>],
 ) -> Result<Option<CheckFault>, NoMemory>

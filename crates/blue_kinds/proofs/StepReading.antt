@@ -2,8 +2,8 @@
 use Rattle.std.proofs.Common.{◌≡◌, ℕ, zero, suc, ◌≤◌, ◌<◌, ◌≢◌, false, List, [], ◌∷◌, ◌++◌, length, Some, None, Ok, Err, refl, sym, ap, ◌∙◌, append_assoc, arith}
 use Rattle.std.specs.Prelude.{codes}
 use Rattle.blue_core.specs.declared.blueprint.Step.{Step}
-use Rattle.blue_words.specs.declared.fault.LineEnd.{LineEnd}
-use Rattle.blue_words.specs.declared.fault.LineEnd.TheVariants.{BadLine, NoMemory}
+use Rattle.blue_words.specs.declared.fault.FormEnd.{FormEnd}
+use Rattle.blue_words.specs.declared.fault.FormEnd.TheVariants.{BadLine, NoMemory}
 use Rattle.blue_words.specs.Reading.{At, Reading, Reads, at_map, made, with_second, begins_with}
 use Rattle.blue_kinds.specs.Steps.{step_of, later_steps, steps_of, chain_of, pushed}
 use Rattle.blue_kinds.proofs.Shrinking.{step_of-shrinks}
@@ -37,7 +37,7 @@ no_step (suc n) left h = rw h refl
 pub steps_fail : (all : List (List ℕ)) (steps : At (List Step)) (left : List (List ℕ)) → HasSteps all steps left → step_of left ≡ None → chain_of all ≡ None
 steps_fail all steps left s h = s.same ∙ rw (no_step s.most left h) refl
 
-pub steps_err : (all : List (List ℕ)) (steps : At (List Step)) (left new : List (List ℕ)) (e : LineEnd) → HasSteps all steps left → Reads {A = Step} (Err e) (step_of left) new → Reads {A = List Step} (Err e) (chain_of all) new
+pub steps_err : (all : List (List ℕ)) (steps : At (List Step)) (left new : List (List ℕ)) (e : FormEnd) → HasSteps all steps left → Reads {A = Step} (Err e) (step_of left) new → Reads {A = List Step} (Err e) (chain_of all) new
 steps_err all steps left new BadLine s h = steps_fail all steps left s h
 steps_err all steps left new NoMemory s h = tt
 

@@ -5,12 +5,12 @@ ghost use Rattle.blue_kinds.specs.Functions.{one_of};
 ghost use Rattle.blue_kinds.specs.Kinds.{may_decide, decider_word, decider_of};
 
 use crate::folds::said;
-use blue_words::fault::{LineEnd, Place};
+use blue_words::fault::{FormEnd, PlaceValue};
 use blue_words::words::{Words, is_word};
 use elem_core::why::Decider;
 
 /// The decider behind a kind, and stop where none is written; one is read only where the kind may have one. Rule: own.
-pub fn read_decider(may: bool, words: &mut Words) -> Result<Place<Decider>, LineEnd>
+pub fn read_decider(may: bool, words: &mut Words) -> Result<PlaceValue<Decider>, FormEnd>
     ensures { Reads result (decider_of may words.old) words.new }
 {
     if may && words.skip(b"decider") {
@@ -20,12 +20,12 @@ pub fn read_decider(may: bool, words: &mut Words) -> Result<Place<Decider>, Line
     }
 }
 
-fn read_decider_word(words: &mut Words) -> Result<Place<Decider>, LineEnd>
+fn read_decider_word(words: &mut Words) -> Result<PlaceValue<Decider>, FormEnd>
     ensures { Reads result (one_of decider_word words.old) words.new }
 {
     match words.next() {
         Some(word) => said(decider_word(word)),
-        None => Err(LineEnd::BadLine),
+        None => Err(FormEnd::BadLine),
     }
 }
 

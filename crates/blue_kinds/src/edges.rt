@@ -8,7 +8,7 @@ ghost use Rattle.blue_kinds.specs.Kinds.{policy_word, recover_of, trip_of, order
 
 use crate::folds::said;
 use crate::substreams::read_substreams;
-use blue_words::fault::{LineEnd, Place};
+use blue_words::fault::{FormEnd, PlaceValue};
 use blue_words::places::both;
 use blue_words::words::{Words, is_word};
 use elem_core::line::Line;
@@ -20,7 +20,7 @@ pub fn read_stage_kind(
     alloc: Global,
     word: &[u8],
     words: &mut Words,
-) -> Result<Place<Kind>, LineEnd>
+) -> Result<PlaceValue<Kind>, FormEnd>
     ensures { Reads result (stage_kind word.now words.old) words.new }
 {
     if is_word(word, b"buffer") {
@@ -41,7 +41,7 @@ pub fn read_stage_kind(
     read_substreams(alloc, word, words)
 }
 
-fn read_buffer(words: &mut Words) -> Result<Place<Kind>, LineEnd>
+fn read_buffer(words: &mut Words) -> Result<PlaceValue<Kind>, FormEnd>
     ensures { Reads result (made (λ r. Buffer r.0 r.1) (then_read (size words.old) (one_of policy_word))) words.new }
 {
     let size = words.size()?;
@@ -50,12 +50,12 @@ fn read_buffer(words: &mut Words) -> Result<Place<Kind>, LineEnd>
 }
 
 // What a full buffer does.
-fn read_policy(words: &mut Words) -> Result<Place<Policy>, LineEnd>
+fn read_policy(words: &mut Words) -> Result<PlaceValue<Policy>, FormEnd>
     ensures { Reads result (one_of policy_word words.old) words.new }
 {
     match words.next() {
         Some(word) => said(policy_word(word)),
-        None => Err(LineEnd::BadLine),
+        None => Err(FormEnd::BadLine),
     }
 }
 
@@ -84,11 +84,11 @@ fn policy_word(word: &[u8]) -> Option<Policy>
     None
 }
 
-fn read_recover(alloc: Global, words: &mut Words) -> Result<Place<Kind>, LineEnd>
+fn read_recover(alloc: Global, words: &mut Words) -> Result<PlaceValue<Kind>, FormEnd>
     ensures { Reads result (recover_of words.old) words.new }
 {
     let Some(word) = words.next() else {
-        return Err(LineEnd::BadLine);
+        return Err(FormEnd::BadLine);
     };
     if is_word(word, b"num") {
         return Ok(words.int()?.map(Kind::RecoverNum));
@@ -96,21 +96,21 @@ fn read_recover(alloc: Global, words: &mut Words) -> Result<Place<Kind>, LineEnd
     if is_word(word, b"text") {
         return Ok(words.word(alloc)?.map(Kind::RecoverText));
     }
-    Err(LineEnd::BadLine)
+    Err(FormEnd::BadLine)
 }
 
-fn read_trip(alloc: Global, words: &mut Words) -> Result<Place<Kind>, LineEnd>
+fn read_trip(alloc: Global, words: &mut Words) -> Result<PlaceValue<Kind>, FormEnd>
     ensures { Reads result (trip_of (name words.old)) words.new }
 {
     let switch = words.name(alloc)?;
     read_order(switch, words)
 }
 
-fn read_order(switch: Place<Line>, words: &mut Words) -> Result<Place<Kind>, LineEnd>
+fn read_order(switch: PlaceValue<Line>, words: &mut Words) -> Result<PlaceValue<Kind>, FormEnd>
     ensures { Reads result (order_of switch words.old) words.new }
 {
     let Some(word) = words.next() else {
-        return Err(LineEnd::BadLine);
+        return Err(FormEnd::BadLine);
     };
     if is_word(word, b"shutdown") {
         let at = words.size()?;
@@ -120,5 +120,5 @@ fn read_order(switch: Place<Line>, words: &mut Words) -> Result<Place<Kind>, Lin
         let at = words.size()?;
         return Ok(both(switch, at).map(|(s, n)| Kind::TripAbort(s, n)));
     }
-    Err(LineEnd::BadLine)
+    Err(FormEnd::BadLine)
 }

@@ -8,7 +8,7 @@ ghost use Rattle.blue_kinds.specs.Kinds.{parting_kind, fan_out_kind, turning_kin
 
 use crate::functions::read_map;
 use crate::kinds::read_linear;
-use blue_words::fault::{LineEnd, Place};
+use blue_words::fault::{FormEnd, PlaceValue};
 use blue_words::places::both;
 use blue_words::words::{Words, is_word};
 use std::alloc::Global;
@@ -19,7 +19,7 @@ pub(crate) fn read_fan_in(
     alloc: Global,
     word: &[u8],
     words: &mut Words,
-) -> Result<Place<Kind>, LineEnd>
+) -> Result<PlaceValue<Kind>, FormEnd>
     ensures { Reads result (fan_in_kind word.now words.old) words.new }
 {
     if is_word(word, b"merge") {
@@ -32,7 +32,7 @@ pub(crate) fn read_fan_in(
 }
 
 // The stages that take from their inputs by turns or in step.
-fn read_turning(alloc: Global, word: &[u8], words: &mut Words) -> Result<Place<Kind>, LineEnd>
+fn read_turning(alloc: Global, word: &[u8], words: &mut Words) -> Result<PlaceValue<Kind>, FormEnd>
     ensures { Reads result (turning_kind word.now words.old) words.new }
 {
     if is_word(word, b"interleave") {
@@ -47,7 +47,7 @@ fn read_turning(alloc: Global, word: &[u8], words: &mut Words) -> Result<Place<K
     read_fan_out(alloc, word, words)
 }
 
-fn read_interleave(words: &mut Words) -> Result<Place<Kind>, LineEnd>
+fn read_interleave(words: &mut Words) -> Result<PlaceValue<Kind>, FormEnd>
     ensures { Reads result (made (λ r. Interleave r.0 r.1) (then_read (size words.old) size)) words.new }
 {
     let inputs = words.size()?;
@@ -56,7 +56,7 @@ fn read_interleave(words: &mut Words) -> Result<Place<Kind>, LineEnd>
 }
 
 // The stages with several outputs, and then those with one input and one output.
-fn read_fan_out(alloc: Global, word: &[u8], words: &mut Words) -> Result<Place<Kind>, LineEnd>
+fn read_fan_out(alloc: Global, word: &[u8], words: &mut Words) -> Result<PlaceValue<Kind>, FormEnd>
     ensures { Reads result (fan_out_kind word.now words.old) words.new }
 {
     if is_word(word, b"broadcast") {
@@ -69,7 +69,7 @@ fn read_fan_out(alloc: Global, word: &[u8], words: &mut Words) -> Result<Place<K
 }
 
 // The stages that part their elements among their outputs.
-fn read_parting(alloc: Global, word: &[u8], words: &mut Words) -> Result<Place<Kind>, LineEnd>
+fn read_parting(alloc: Global, word: &[u8], words: &mut Words) -> Result<PlaceValue<Kind>, FormEnd>
     ensures { Reads result (parting_kind word.now words.old) words.new }
 {
     if is_word(word, b"partition") {
@@ -81,7 +81,7 @@ fn read_parting(alloc: Global, word: &[u8], words: &mut Words) -> Result<Place<K
     read_linear(alloc, word, words)
 }
 
-fn read_partition(alloc: Global, words: &mut Words) -> Result<Place<Kind>, LineEnd>
+fn read_partition(alloc: Global, words: &mut Words) -> Result<PlaceValue<Kind>, FormEnd>
     ensures { Reads result (made (λ r. Partition r.0 r.1) (then_read (size words.old) map_of)) words.new }
 {
     let outputs = words.size()?;

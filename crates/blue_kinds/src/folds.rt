@@ -3,47 +3,47 @@ ghost use Rattle.std.specs.Prelude.{◌≡◌, Ok, Err, MatchOption};
 ghost use Rattle.blue_words.specs.Reading.{Reads};
 ghost use Rattle.blue_kinds.specs.Functions.{one_of, expand_word, fold_word, reduce_word};
 
-use blue_words::fault::{LineEnd, Place};
+use blue_words::fault::{FormEnd, PlaceValue};
 use blue_words::words::{Words, is_word};
 use elem_core::function::{Expand, FoldOp, ReduceOp};
 
 // The value of a fixed word, where it has one.
-pub(crate) fn said<T: Drop>(value: Option<T>) -> Result<Place<T>, LineEnd>
-    ensures { MatchOption value (result ≡ Err LineEnd.BadLine) (λ v. result ≡ Ok (Ok v)) }
+pub(crate) fn said<T: Drop>(value: Option<T>) -> Result<PlaceValue<T>, FormEnd>
+    ensures { MatchOption value (result ≡ Err FormEnd.BadLine) (λ v. result ≡ Ok (Ok v)) }
 {
     match value {
         Some(value) => Ok(Ok(value)),
-        None => Err(LineEnd::BadLine),
+        None => Err(FormEnd::BadLine),
     }
 }
 
 // An expansion.
-pub(crate) fn read_expand(words: &mut Words) -> Result<Place<Expand>, LineEnd>
+pub(crate) fn read_expand(words: &mut Words) -> Result<PlaceValue<Expand>, FormEnd>
     ensures { Reads result (one_of expand_word words.old) words.new }
 {
     match words.next() {
         Some(word) => said(expand_word(word)),
-        None => Err(LineEnd::BadLine),
+        None => Err(FormEnd::BadLine),
     }
 }
 
 // A fold's step.
-pub(crate) fn read_fold(words: &mut Words) -> Result<Place<FoldOp>, LineEnd>
+pub(crate) fn read_fold(words: &mut Words) -> Result<PlaceValue<FoldOp>, FormEnd>
     ensures { Reads result (one_of fold_word words.old) words.new }
 {
     match words.next() {
         Some(word) => said(fold_word(word)),
-        None => Err(LineEnd::BadLine),
+        None => Err(FormEnd::BadLine),
     }
 }
 
 // A reduction's step.
-pub(crate) fn read_reduce(words: &mut Words) -> Result<Place<ReduceOp>, LineEnd>
+pub(crate) fn read_reduce(words: &mut Words) -> Result<PlaceValue<ReduceOp>, FormEnd>
     ensures { Reads result (one_of reduce_word words.old) words.new }
 {
     match words.next() {
         Some(word) => said(reduce_word(word)),
-        None => Err(LineEnd::BadLine),
+        None => Err(FormEnd::BadLine),
     }
 }
 

@@ -4,23 +4,27 @@ ghost use Rattle.blue_words.specs.Reading.{Reads};
 ghost use Rattle.blue_kinds.specs.Functions.{map_of, number_map, quotient_map, text_map, bare_map};
 
 use crate::folds::said;
-use blue_words::fault::{LineEnd, Place};
+use blue_words::fault::{FormEnd, PlaceValue};
 use blue_words::words::{Words, is_word};
 use elem_core::function::MapFn;
 use std::alloc::Global;
 
 // A function of one element.
-pub(crate) fn read_map(alloc: Global, words: &mut Words) -> Result<Place<MapFn>, LineEnd>
+pub(crate) fn read_map(alloc: Global, words: &mut Words) -> Result<PlaceValue<MapFn>, FormEnd>
     ensures { Reads result (map_of words.old) words.new }
 {
     match words.next() {
         Some(word) => read_number_map(alloc, word, words),
-        None => Err(LineEnd::BadLine),
+        None => Err(FormEnd::BadLine),
     }
 }
 
 // The functions with a number first.
-fn read_number_map(alloc: Global, word: &[u8], words: &mut Words) -> Result<Place<MapFn>, LineEnd>
+fn read_number_map(
+    alloc: Global,
+    word: &[u8],
+    words: &mut Words,
+) -> Result<PlaceValue<MapFn>, FormEnd>
     ensures { Reads result (number_map word.now words.old) words.new }
 {
     if is_word(word, b"add") {
@@ -33,7 +37,11 @@ fn read_number_map(alloc: Global, word: &[u8], words: &mut Words) -> Result<Plac
 }
 
 // The functions that divide.
-fn read_quotient_map(alloc: Global, word: &[u8], words: &mut Words) -> Result<Place<MapFn>, LineEnd>
+fn read_quotient_map(
+    alloc: Global,
+    word: &[u8],
+    words: &mut Words,
+) -> Result<PlaceValue<MapFn>, FormEnd>
     ensures { Reads result (quotient_map word.now words.old) words.new }
 {
     if is_word(word, b"div") {
@@ -49,7 +57,11 @@ fn read_quotient_map(alloc: Global, word: &[u8], words: &mut Words) -> Result<Pl
 }
 
 // The functions of texts that have a place, and those without one.
-fn read_text_map(alloc: Global, word: &[u8], words: &mut Words) -> Result<Place<MapFn>, LineEnd>
+fn read_text_map(
+    alloc: Global,
+    word: &[u8],
+    words: &mut Words,
+) -> Result<PlaceValue<MapFn>, FormEnd>
     ensures { Reads result (text_map word.now words.old) words.new }
 {
     if is_word(word, b"field") {

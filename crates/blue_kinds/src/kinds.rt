@@ -9,14 +9,18 @@ ghost use Rattle.blue_kinds.specs.Kinds.{base_word, source_kind, sink_kind, whil
 use crate::folds::{read_expand, read_fold, read_reduce, said};
 use crate::functions::read_map;
 use crate::predicates::read_pred;
-use blue_words::fault::{LineEnd, Place};
+use blue_words::fault::{FormEnd, PlaceValue};
 use blue_words::places::both;
 use blue_words::words::{Words, is_word};
 use std::alloc::Global;
 use stream_model::kind::{Base, Kind};
 
 /// The kind of a source, by its first word and those behind it. Rule: own.
-pub fn read_source(alloc: Global, word: &[u8], words: &mut Words) -> Result<Place<Kind>, LineEnd>
+pub fn read_source(
+    alloc: Global,
+    word: &[u8],
+    words: &mut Words,
+) -> Result<PlaceValue<Kind>, FormEnd>
     ensures { Reads result (source_kind word.now words.old) words.new }
 {
     if is_word(word, b"lines") {
@@ -31,10 +35,10 @@ pub fn read_source(alloc: Global, word: &[u8], words: &mut Words) -> Result<Plac
     if is_word(word, b"failed") {
         return Ok(read_base(words)?.map(Kind::Failed));
     }
-    Err(LineEnd::BadLine)
+    Err(FormEnd::BadLine)
 }
 
-fn read_range(words: &mut Words) -> Result<Place<Kind>, LineEnd>
+fn read_range(words: &mut Words) -> Result<PlaceValue<Kind>, FormEnd>
     ensures { Reads result (made (λ r. Range r.0 r.1) (then_read (int words.old) int)) words.new }
 {
     let first = words.int()?;
@@ -43,12 +47,12 @@ fn read_range(words: &mut Words) -> Result<Place<Kind>, LineEnd>
 }
 
 // The type of a source that gives nothing.
-fn read_base(words: &mut Words) -> Result<Place<Base>, LineEnd>
+fn read_base(words: &mut Words) -> Result<PlaceValue<Base>, FormEnd>
     ensures { Reads result (one_of base_word words.old) words.new }
 {
     match words.next() {
         Some(word) => said(base_word(word)),
-        None => Err(LineEnd::BadLine),
+        None => Err(FormEnd::BadLine),
     }
 }
 
@@ -66,7 +70,7 @@ fn base_word(word: &[u8]) -> Option<Base>
 }
 
 /// The kind of a sink, by its first word and those behind it. Rule: own.
-pub fn read_sink(alloc: Global, word: &[u8], words: &mut Words) -> Result<Place<Kind>, LineEnd>
+pub fn read_sink(alloc: Global, word: &[u8], words: &mut Words) -> Result<PlaceValue<Kind>, FormEnd>
     ensures { Reads result (sink_kind word.now words.old) words.new }
 {
     if is_word(word, b"lines") {
@@ -81,7 +85,7 @@ pub fn read_sink(alloc: Global, word: &[u8], words: &mut Words) -> Result<Place<
     if is_word(word, b"ignore") {
         return Ok(Ok(Kind::Ignore));
     }
-    Err(LineEnd::BadLine)
+    Err(FormEnd::BadLine)
 }
 
 // The stages that a chain may have: those that count elements first.
@@ -89,7 +93,7 @@ pub(crate) fn read_linear(
     alloc: Global,
     word: &[u8],
     words: &mut Words,
-) -> Result<Place<Kind>, LineEnd>
+) -> Result<PlaceValue<Kind>, FormEnd>
     ensures { Reads result (linear_kind word.now words.old) words.new }
 {
     if is_word(word, b"take") {
@@ -102,7 +106,7 @@ pub(crate) fn read_linear(
 }
 
 // The stages with a bound that they do not pass.
-fn read_bounded(alloc: Global, word: &[u8], words: &mut Words) -> Result<Place<Kind>, LineEnd>
+fn read_bounded(alloc: Global, word: &[u8], words: &mut Words) -> Result<PlaceValue<Kind>, FormEnd>
     ensures { Reads result (bounded_kind word.now words.old) words.new }
 {
     if is_word(word, b"limit") {
@@ -115,7 +119,7 @@ fn read_bounded(alloc: Global, word: &[u8], words: &mut Words) -> Result<Place<K
 }
 
 // The stages that make elements of elements, and then those that test them.
-fn read_making(alloc: Global, word: &[u8], words: &mut Words) -> Result<Place<Kind>, LineEnd>
+fn read_making(alloc: Global, word: &[u8], words: &mut Words) -> Result<PlaceValue<Kind>, FormEnd>
     ensures { Reads result (making_kind word.now words.old) words.new }
 {
     if is_word(word, b"map") {
@@ -128,7 +132,7 @@ fn read_making(alloc: Global, word: &[u8], words: &mut Words) -> Result<Place<Ki
 }
 
 // The stages that gather elements, and then those that test them.
-fn read_folding(alloc: Global, word: &[u8], words: &mut Words) -> Result<Place<Kind>, LineEnd>
+fn read_folding(alloc: Global, word: &[u8], words: &mut Words) -> Result<PlaceValue<Kind>, FormEnd>
     ensures { Reads result (folding_kind word.now words.old) words.new }
 {
     if is_word(word, b"fold") {
@@ -144,7 +148,7 @@ fn read_folding(alloc: Global, word: &[u8], words: &mut Words) -> Result<Place<K
 }
 
 // The stages that test elements.
-fn read_testing(alloc: Global, word: &[u8], words: &mut Words) -> Result<Place<Kind>, LineEnd>
+fn read_testing(alloc: Global, word: &[u8], words: &mut Words) -> Result<PlaceValue<Kind>, FormEnd>
     ensures { Reads result (testing_kind word.now words.old) words.new }
 {
     if is_word(word, b"filter") {
@@ -157,7 +161,7 @@ fn read_testing(alloc: Global, word: &[u8], words: &mut Words) -> Result<Place<K
 }
 
 // The stages that test elements up to the first that misses.
-fn read_while(alloc: Global, word: &[u8], words: &mut Words) -> Result<Place<Kind>, LineEnd>
+fn read_while(alloc: Global, word: &[u8], words: &mut Words) -> Result<PlaceValue<Kind>, FormEnd>
     ensures { Reads result (while_kind word.now words.old) words.new }
 {
     if is_word(word, b"take_while") {
@@ -166,5 +170,5 @@ fn read_while(alloc: Global, word: &[u8], words: &mut Words) -> Result<Place<Kin
     if is_word(word, b"drop_while") {
         return Ok(read_pred(alloc, words)?.map(Kind::DropWhile));
     }
-    Err(LineEnd::BadLine)
+    Err(FormEnd::BadLine)
 }

@@ -5,24 +5,28 @@ ghost use Rattle.elem_core.specs.declared.function.Pred.TheVariants.{FieldIs};
 ghost use Rattle.blue_kinds.specs.Functions.{pred_of, number_pred, greater_pred, exact_pred, text_pred, whole_pred, bare_pred};
 
 use crate::folds::said;
-use blue_words::fault::{LineEnd, Place};
+use blue_words::fault::{FormEnd, PlaceValue};
 use blue_words::places::both;
 use blue_words::words::{Words, is_word};
 use elem_core::function::Pred;
 use std::alloc::Global;
 
 // A predicate.
-pub(crate) fn read_pred(alloc: Global, words: &mut Words) -> Result<Place<Pred>, LineEnd>
+pub(crate) fn read_pred(alloc: Global, words: &mut Words) -> Result<PlaceValue<Pred>, FormEnd>
     ensures { Reads result (pred_of words.old) words.new }
 {
     match words.next() {
         Some(word) => read_number_pred(alloc, word, words),
-        None => Err(LineEnd::BadLine),
+        None => Err(FormEnd::BadLine),
     }
 }
 
 // The predicates with a number first.
-fn read_number_pred(alloc: Global, word: &[u8], words: &mut Words) -> Result<Place<Pred>, LineEnd>
+fn read_number_pred(
+    alloc: Global,
+    word: &[u8],
+    words: &mut Words,
+) -> Result<PlaceValue<Pred>, FormEnd>
     ensures { Reads result (number_pred word.now words.old) words.new }
 {
     if is_word(word, b"lt") {
@@ -35,7 +39,11 @@ fn read_number_pred(alloc: Global, word: &[u8], words: &mut Words) -> Result<Pla
 }
 
 // The predicates of greater numbers.
-fn read_greater_pred(alloc: Global, word: &[u8], words: &mut Words) -> Result<Place<Pred>, LineEnd>
+fn read_greater_pred(
+    alloc: Global,
+    word: &[u8],
+    words: &mut Words,
+) -> Result<PlaceValue<Pred>, FormEnd>
     ensures { Reads result (greater_pred word.now words.old) words.new }
 {
     if is_word(word, b"gt") {
@@ -48,7 +56,11 @@ fn read_greater_pred(alloc: Global, word: &[u8], words: &mut Words) -> Result<Pl
 }
 
 // The predicates of one number, and of its multiples.
-fn read_exact_pred(alloc: Global, word: &[u8], words: &mut Words) -> Result<Place<Pred>, LineEnd>
+fn read_exact_pred(
+    alloc: Global,
+    word: &[u8],
+    words: &mut Words,
+) -> Result<PlaceValue<Pred>, FormEnd>
     ensures { Reads result (exact_pred word.now words.old) words.new }
 {
     if is_word(word, b"eq") {
@@ -61,7 +73,11 @@ fn read_exact_pred(alloc: Global, word: &[u8], words: &mut Words) -> Result<Plac
 }
 
 // The predicates on texts that have a place, and those without one.
-fn read_text_pred(alloc: Global, word: &[u8], words: &mut Words) -> Result<Place<Pred>, LineEnd>
+fn read_text_pred(
+    alloc: Global,
+    word: &[u8],
+    words: &mut Words,
+) -> Result<PlaceValue<Pred>, FormEnd>
     ensures { Reads result (text_pred word.now words.old) words.new }
 {
     if is_word(word, b"has") {
@@ -74,7 +90,11 @@ fn read_text_pred(alloc: Global, word: &[u8], words: &mut Words) -> Result<Place
 }
 
 // The predicates that compare with a text, and those without a place.
-fn read_whole_pred(alloc: Global, word: &[u8], words: &mut Words) -> Result<Place<Pred>, LineEnd>
+fn read_whole_pred(
+    alloc: Global,
+    word: &[u8],
+    words: &mut Words,
+) -> Result<PlaceValue<Pred>, FormEnd>
     ensures { Reads result (whole_pred word.now words.old) words.new }
 {
     if is_word(word, b"is") {
@@ -86,7 +106,7 @@ fn read_whole_pred(alloc: Global, word: &[u8], words: &mut Words) -> Result<Plac
     said(bare_pred(word))
 }
 
-fn read_field_is(alloc: Global, words: &mut Words) -> Result<Place<Pred>, LineEnd>
+fn read_field_is(alloc: Global, words: &mut Words) -> Result<PlaceValue<Pred>, FormEnd>
     ensures { Reads result (made (λ r. FieldIs r.0 r.1) (then_read (count words.old) word)) words.new }
 {
     let number = words.count()?;

@@ -6,14 +6,14 @@ ghost use Rattle.blue_kinds.specs.Steps.{step_of, chain_of, pushed};
 use crate::decider::{may_decide, read_decider};
 use crate::kinds::read_linear;
 use blue_core::blueprint::Step;
-use blue_words::fault::{LineEnd, Place};
+use blue_words::fault::{FormEnd, PlaceValue};
 use blue_words::places::both;
 use blue_words::words::Words;
 use elem_core::why::NoMemory;
 use std::alloc::Global;
 
 /// The steps of a chain that the words say, parted by `|`, up to their end. Rule: own.
-pub fn read_steps(alloc: Global, words: &mut Words) -> Result<Place<Vec<Step>>, LineEnd>
+pub fn read_steps(alloc: Global, words: &mut Words) -> Result<PlaceValue<Vec<Step>>, FormEnd>
     ensures { ReadsAs (λ v. v.items) result (chain_of words.old) words.new }
 {
     let mut steps = Ok(Vec::new(alloc));
@@ -24,23 +24,23 @@ pub fn read_steps(alloc: Global, words: &mut Words) -> Result<Place<Vec<Step>>, 
         };
         match with_step(steps, step) {
             Ok(more) => steps = more,
-            Err(_) => return Err(LineEnd::NoMemory),
+            Err(_) => return Err(FormEnd::NoMemory),
         }
         if words.is_empty() {
             return Ok(steps);
         }
         if !words.skip(b"|") {
-            return Err(LineEnd::BadLine);
+            return Err(FormEnd::BadLine);
         }
     }
 }
 
 // One stage of a chain, with its decider.
-fn read_step(alloc: Global, words: &mut Words) -> Result<Place<Step>, LineEnd>
+fn read_step(alloc: Global, words: &mut Words) -> Result<PlaceValue<Step>, FormEnd>
     ensures { Reads result (step_of words.old) words.new }
 {
     let Some(word) = words.next() else {
-        return Err(LineEnd::BadLine);
+        return Err(FormEnd::BadLine);
     };
     let kind = read_linear(alloc, word, words)?;
     let decider = read_decider(may_decide(word), words)?;
@@ -48,7 +48,10 @@ fn read_step(alloc: Global, words: &mut Words) -> Result<Place<Step>, LineEnd>
 }
 
 // The steps and one more behind them, or what is wrong with the first that has a fault.
-fn with_step(steps: Place<Vec<Step>>, step: Place<Step>) -> Result<Place<Vec<Step>>, NoMemory>
+fn with_step(
+    steps: PlaceValue<Vec<Step>>,
+    step: PlaceValue<Step>,
+) -> Result<PlaceValue<Vec<Step>>, NoMemory>
     ensures { IfOk result (λ r. at_map (λ v. v.items) r ≡ pushed (at_map (λ v. v.items) steps) step) }
 {
     match both(steps, step) {

@@ -10,7 +10,7 @@ use crate::fans::read_fan_in;
 use crate::folds::said;
 use crate::functions::read_map;
 use crate::predicates::read_pred;
-use blue_words::fault::{LineEnd, Place};
+use blue_words::fault::{FormEnd, PlaceValue};
 use blue_words::places::both;
 use blue_words::words::{Words, is_word};
 use elem_core::function::{MapFn, Pred};
@@ -23,7 +23,7 @@ pub(crate) fn read_substreams(
     alloc: Global,
     word: &[u8],
     words: &mut Words,
-) -> Result<Place<Kind>, LineEnd>
+) -> Result<PlaceValue<Kind>, FormEnd>
     ensures { Reads result (substream_kind word.now words.old) words.new }
 {
     if is_word(word, b"group_by") {
@@ -38,19 +38,19 @@ pub(crate) fn read_substreams(
     read_fan_in(alloc, word, words)
 }
 
-fn read_group(alloc: Global, words: &mut Words) -> Result<Place<Kind>, LineEnd>
+fn read_group(alloc: Global, words: &mut Words) -> Result<PlaceValue<Kind>, FormEnd>
     ensures { Reads result (group_of words.old) words.new }
 {
     let keys = read_keys(alloc, words)?;
     if words.skip(b"merge") {
         Ok(keys.map(|(n, (f, c))| Kind::GroupBy(n, f, c)))
     } else {
-        Err(LineEnd::BadLine)
+        Err(FormEnd::BadLine)
     }
 }
 
 // How many keys, the key, and the chain of each.
-fn read_keys(alloc: Global, words: &mut Words) -> Result<Place<(u32, (MapFn, Line))>, LineEnd>
+fn read_keys(alloc: Global, words: &mut Words) -> Result<PlaceValue<(u32, (MapFn, Line))>, FormEnd>
     ensures { Reads result (keys_of words.old) words.new }
 {
     let keys = words.size()?;
@@ -59,7 +59,7 @@ fn read_keys(alloc: Global, words: &mut Words) -> Result<Place<(u32, (MapFn, Lin
 }
 
 // The key, and the chain of each.
-fn read_key(alloc: Global, words: &mut Words) -> Result<Place<(MapFn, Line)>, LineEnd>
+fn read_key(alloc: Global, words: &mut Words) -> Result<PlaceValue<(MapFn, Line)>, FormEnd>
     ensures { Reads result (key_of words.old) words.new }
 {
     let key = read_map(alloc, words)?;
@@ -68,7 +68,10 @@ fn read_key(alloc: Global, words: &mut Words) -> Result<Place<(MapFn, Line)>, Li
 }
 
 // A predicate, a chain, and how its substreams come together.
-fn read_split(alloc: Global, words: &mut Words) -> Result<Place<(Pred, (Line, Joining))>, LineEnd>
+fn read_split(
+    alloc: Global,
+    words: &mut Words,
+) -> Result<PlaceValue<(Pred, (Line, Joining))>, FormEnd>
     ensures { Reads result (split_of words.old) words.new }
 {
     let pred = read_pred(alloc, words)?;
@@ -77,23 +80,23 @@ fn read_split(alloc: Global, words: &mut Words) -> Result<Place<(Pred, (Line, Jo
     Ok(both(pred, both(chain, joining)))
 }
 
-fn read_each(alloc: Global, words: &mut Words) -> Result<Place<Line>, LineEnd>
+fn read_each(alloc: Global, words: &mut Words) -> Result<PlaceValue<Line>, FormEnd>
     ensures { Reads result (each_chain words.old) words.new }
 {
     if words.skip(b"each") {
         words.name(alloc)
     } else {
-        Err(LineEnd::BadLine)
+        Err(FormEnd::BadLine)
     }
 }
 
 // How substreams come together.
-fn read_joining(words: &mut Words) -> Result<Place<Joining>, LineEnd>
+fn read_joining(words: &mut Words) -> Result<PlaceValue<Joining>, FormEnd>
     ensures { Reads result (one_of joining_word words.old) words.new }
 {
     match words.next() {
         Some(word) => said(joining_word(word)),
-        None => Err(LineEnd::BadLine),
+        None => Err(FormEnd::BadLine),
     }
 }
 

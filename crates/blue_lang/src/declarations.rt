@@ -13,7 +13,7 @@ use blue_kinds::decider::{may_decide, read_decider};
 use blue_kinds::edges::read_stage_kind;
 use blue_kinds::kinds::{read_sink, read_source};
 use blue_kinds::steps::read_steps;
-use blue_words::fault::{BlueKind, LineEnd, Place};
+use blue_words::fault::{BlueKind, FormEnd, PlaceValue};
 use blue_words::lines::{cut_at, is_plain};
 use blue_words::places::{both, name_place, size_place};
 use blue_words::words::{Words, is_word};
@@ -36,7 +36,10 @@ pub(crate) enum Declaration {
 }
 
 // The declaration that a line says that is not passed over, or what is wrong with it.
-pub(crate) fn read_declaration(alloc: Global, line: &[u8]) -> Result<Place<Declaration>, NoMemory>
+pub(crate) fn read_declaration(
+    alloc: Global,
+    line: &[u8],
+) -> Result<PlaceValue<Declaration>, NoMemory>
     requires { length line.now ≤ 1024 }
     ensures { IfOk result (λ p. at_map plain_declaration p ≡ declared_in line.now) }
 {
@@ -47,7 +50,7 @@ pub(crate) fn read_declaration(alloc: Global, line: &[u8]) -> Result<Place<Decla
     read_whole(alloc, &mut words)
 }
 
-fn read_whole(alloc: Global, words: &mut Words) -> Result<Place<Declaration>, NoMemory>
+fn read_whole(alloc: Global, words: &mut Words) -> Result<PlaceValue<Declaration>, NoMemory>
     ensures { IfOk result (λ p. at_map plain_declaration p ≡ declared_by words.old) }
 {
     let Some(word) = words.next() else {
@@ -61,13 +64,17 @@ fn read_whole(alloc: Global, words: &mut Words) -> Result<Place<Declaration>, No
                 Ok(Err(BlueKind::BadLine))
             }
         }
-        Err(LineEnd::BadLine) => Ok(Err(BlueKind::BadLine)),
-        Err(LineEnd::NoMemory) => Err(AllocError),
+        Err(FormEnd::BadLine) => Ok(Err(BlueKind::BadLine)),
+        Err(FormEnd::NoMemory) => Err(AllocError),
     }
 }
 
 // A declaration, by its first word and those behind it: switches and chains first.
-fn read_words(alloc: Global, word: &[u8], words: &mut Words) -> Result<Place<Declaration>, LineEnd>
+fn read_words(
+    alloc: Global,
+    word: &[u8],
+    words: &mut Words,
+) -> Result<PlaceValue<Declaration>, FormEnd>
     ensures { ReadsAs plain_declaration result (declaration word.now words.old) words.new }
 {
     if is_word(word, b"switch") {
@@ -84,7 +91,7 @@ fn read_node_words(
     alloc: Global,
     word: &[u8],
     words: &mut Words,
-) -> Result<Place<Declaration>, LineEnd>
+) -> Result<PlaceValue<Declaration>, FormEnd>
     ensures { ReadsAs plain_declaration result (node_declaration word.now words.old) words.new }
 {
     if is_word(word, b"source") {
@@ -103,16 +110,16 @@ fn read_wire_words(
     alloc: Global,
     word: &[u8],
     words: &mut Words,
-) -> Result<Place<Declaration>, LineEnd>
+) -> Result<PlaceValue<Declaration>, FormEnd>
     ensures { ReadsAs plain_declaration result (wire_declaration word.now words.old) words.new }
 {
     if is_word(word, b"wire") {
         return Ok(read_wire(alloc, words)?.map(Declaration::Wire));
     }
-    Err(LineEnd::BadLine)
+    Err(FormEnd::BadLine)
 }
 
-fn read_chain(alloc: Global, words: &mut Words) -> Result<Place<ChainDecl>, LineEnd>
+fn read_chain(alloc: Global, words: &mut Words) -> Result<PlaceValue<ChainDecl>, FormEnd>
     ensures { ReadsAs plain_chain result (chain_words words.old) words.new }
 {
     let name = words.name(alloc)?;
@@ -120,7 +127,7 @@ fn read_chain(alloc: Global, words: &mut Words) -> Result<Place<ChainDecl>, Line
     Ok(both(name, steps).map(|(name, steps)| ChainDecl { name, steps }))
 }
 
-fn read_source_node(alloc: Global, words: &mut Words) -> Result<Place<Node>, LineEnd>
+fn read_source_node(alloc: Global, words: &mut Words) -> Result<PlaceValue<Node>, FormEnd>
     ensures { Reads result (node_of (undecided source_kind) words.old) words.new }
 {
     let name = words.name(alloc)?;
@@ -132,17 +139,20 @@ fn read_source_node(alloc: Global, words: &mut Words) -> Result<Place<Node>, Lin
     }))
 }
 
-fn read_source_kind(alloc: Global, words: &mut Words) -> Result<Place<(Kind, Decider)>, LineEnd>
+fn read_source_kind(
+    alloc: Global,
+    words: &mut Words,
+) -> Result<PlaceValue<(Kind, Decider)>, FormEnd>
     ensures { Reads result (undecided source_kind words.old) words.new }
 {
     let Some(word) = words.next() else {
-        return Err(LineEnd::BadLine);
+        return Err(FormEnd::BadLine);
     };
     let kind = read_source(alloc, word, words)?;
     Ok(kind.map(|kind| (kind, Decider::Stop)))
 }
 
-fn read_sink_node(alloc: Global, words: &mut Words) -> Result<Place<Node>, LineEnd>
+fn read_sink_node(alloc: Global, words: &mut Words) -> Result<PlaceValue<Node>, FormEnd>
     ensures { Reads result (node_of (undecided sink_kind) words.old) words.new }
 {
     let name = words.name(alloc)?;
@@ -154,17 +164,17 @@ fn read_sink_node(alloc: Global, words: &mut Words) -> Result<Place<Node>, LineE
     }))
 }
 
-fn read_sink_kind(alloc: Global, words: &mut Words) -> Result<Place<(Kind, Decider)>, LineEnd>
+fn read_sink_kind(alloc: Global, words: &mut Words) -> Result<PlaceValue<(Kind, Decider)>, FormEnd>
     ensures { Reads result (undecided sink_kind words.old) words.new }
 {
     let Some(word) = words.next() else {
-        return Err(LineEnd::BadLine);
+        return Err(FormEnd::BadLine);
     };
     let kind = read_sink(alloc, word, words)?;
     Ok(kind.map(|kind| (kind, Decider::Stop)))
 }
 
-fn read_stage_node(alloc: Global, words: &mut Words) -> Result<Place<Node>, LineEnd>
+fn read_stage_node(alloc: Global, words: &mut Words) -> Result<PlaceValue<Node>, FormEnd>
     ensures { Reads result (node_of decided words.old) words.new }
 {
     let name = words.name(alloc)?;
@@ -177,18 +187,18 @@ fn read_stage_node(alloc: Global, words: &mut Words) -> Result<Place<Node>, Line
 }
 
 // A stage's kind and its decider.
-fn read_decided(alloc: Global, words: &mut Words) -> Result<Place<(Kind, Decider)>, LineEnd>
+fn read_decided(alloc: Global, words: &mut Words) -> Result<PlaceValue<(Kind, Decider)>, FormEnd>
     ensures { Reads result (decided words.old) words.new }
 {
     let Some(word) = words.next() else {
-        return Err(LineEnd::BadLine);
+        return Err(FormEnd::BadLine);
     };
     let kind = read_stage_kind(alloc, word, words)?;
     let decider = read_decider(may_decide(word), words)?;
     Ok(both(kind, decider))
 }
 
-fn read_wire(alloc: Global, words: &mut Words) -> Result<Place<WireDecl>, LineEnd>
+fn read_wire(alloc: Global, words: &mut Words) -> Result<PlaceValue<WireDecl>, FormEnd>
     ensures { Reads result (wire_of words.old) words.new }
 {
     let start = read_port(alloc, words)?;
@@ -204,31 +214,31 @@ fn read_wire(alloc: Global, words: &mut Words) -> Result<Place<WireDecl>, LineEn
 }
 
 // An output or an input: a node's name, and behind the first point the number.
-fn read_port(alloc: Global, words: &mut Words) -> Result<Place<(Line, u32)>, LineEnd>
+fn read_port(alloc: Global, words: &mut Words) -> Result<PlaceValue<(Line, u32)>, FormEnd>
     ensures { Reads result (port words.old) words.new }
 {
     let Some(word) = words.next() else {
-        return Err(LineEnd::BadLine);
+        return Err(FormEnd::BadLine);
     };
     match cut_at(word, b'.') {
         Some((name, number)) => Ok(both(name_place(alloc, name)?, size_place(number))),
-        None => Err(LineEnd::BadLine),
+        None => Err(FormEnd::BadLine),
     }
 }
 
 // The input that a wire goes to, behind `->`.
-fn read_end(alloc: Global, words: &mut Words) -> Result<Place<(Line, u32)>, LineEnd>
+fn read_end(alloc: Global, words: &mut Words) -> Result<PlaceValue<(Line, u32)>, FormEnd>
     ensures { Reads result (end_of words.old) words.new }
 {
     if words.skip(b"->") {
         read_port(alloc, words)
     } else {
-        Err(LineEnd::BadLine)
+        Err(FormEnd::BadLine)
     }
 }
 
 // Whether a wire has a lane, and its size.
-fn read_lane(words: &mut Words) -> Result<Place<Option<u32>>, LineEnd>
+fn read_lane(words: &mut Words) -> Result<PlaceValue<Option<u32>>, FormEnd>
     ensures { Reads result (lane words.old) words.new }
 {
     let Some(word) = words.next() else {
@@ -237,11 +247,11 @@ fn read_lane(words: &mut Words) -> Result<Place<Option<u32>>, LineEnd>
     if is_word(word, b"async") {
         read_lane_size(words)
     } else {
-        Err(LineEnd::BadLine)
+        Err(FormEnd::BadLine)
     }
 }
 
-fn read_lane_size(words: &mut Words) -> Result<Place<Option<u32>>, LineEnd>
+fn read_lane_size(words: &mut Words) -> Result<PlaceValue<Option<u32>>, FormEnd>
     ensures { Reads result (lane_size words.old) words.new }
 {
     match words.next() {

@@ -15,7 +15,7 @@ use blue_core::blueprint::Blueprint;
 use blue_core::limit::{
     MAX_CHAINS, MAX_NODES, MAX_STEPS, MAX_SWITCHES, MAX_TEXT, MAX_TEXT_LINE, MAX_WIRES,
 };
-use blue_words::fault::{BlueFault, BlueKind, Place};
+use blue_words::fault::{BlueFault, BlueKind, PlaceValue};
 use blue_words::lines::{is_passed_over, is_plain, next_line};
 use blue_words::words::Words;
 use elem_core::why::NoMemory;
@@ -156,7 +156,7 @@ fn declare(alloc: Global, blueprint: &mut Blueprint, line: &[u8]) -> Result<(), 
     }
 }
 
-fn declare_place(blueprint: &mut Blueprint, place: Place<Declaration>) -> Result<(), Stop>
+fn declare_place(blueprint: &mut Blueprint, place: PlaceValue<Declaration>) -> Result<(), Stop>
     ensures ok { OnOk result (Declares (plain blueprint.old) (at_map plain_declaration place) (plain blueprint.new)) }
     ensures fault { (k : BlueKind) → result ≡ Err (Stop.Fault k) → declaration_fault (plain blueprint.old) (at_map plain_declaration place) ≡ Some k }
 {

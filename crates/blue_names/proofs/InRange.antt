@@ -4,12 +4,12 @@ use Rattle.std.specs.Prelude.{slice_get}
 use Rattle.std.specs.Option.{option_or}
 use Rattle.std.proofs.lemmas.Bool.{or_parts}
 use Rattle.std.proofs.lemmas.List.{get_or-map, length-map, drop_all}
-use Rattle.stream_model.specs.Graph.{Wire}
+use Rattle.stream_model.specs.Graph.{Edge}
 use Rattle.blue_core.specs.declared.blueprint.Node.{Node}
 use Rattle.blue_rules.specs.First.{first_from, when}
 use Rattle.blue_rules.specs.Ports.{port_missing, lacks_output, lacks_input}
 use Rattle.blue_names.specs.Links.{AreInRange, wire_of_link, wires_of_links}
-use Rattle.blue_names.specs.declared.links.Link.{Link}
+use Rattle.blue_names.specs.declared.links.NumberedWire.{NumberedWire}
 
 both_none : {X : Type 0} (a b : Option X) → option_or a b ≡ None → (a ≡ None) × (b ≡ None)
 both_none None b h = (refl, h)
@@ -37,9 +37,9 @@ has_input [] i p h = cc
 has_input (n ∷ ns) zero p h = omega arith
 has_input (n ∷ ns) (suc i) p h = let lt : i < length ns = has_input ns i p h in omega arith
 
-pub in_range : (nodes : List Node) (ls : List Link) → None ≡ port_missing nodes (wires_of_links ls) → AreInRange (length nodes) ls
+pub in_range : (nodes : List Node) (ls : List NumberedWire) → None ≡ port_missing nodes (wires_of_links ls) → AreInRange (length nodes) ls
 in_range nodes ls h = λ k d lt.
-    let f : ℕ → Wire → Option ℕ = λ i w. when (lacks_output (slice_get nodes w.from) w.output || lacks_input (slice_get nodes w.to) w.input) i in
+    let f : ℕ → Edge → Option ℕ = λ i w. when (lacks_output (slice_get nodes w.from) w.output || lacks_input (slice_get nodes w.to) w.input) i in
     let w = wire_of_link (get_or ls k d) in
     let long : k < length (wires_of_links ls) = omega (arith, length-map ls wire_of_link) in
     let none = none_at f 0 (wires_of_links ls) k w (sym h) long in
@@ -48,9 +48,9 @@ in_range nodes ls h = λ k d lt.
     (has_output nodes w.from w.output parts.0, has_input nodes w.to w.input parts.1)
 
 -- the same behind a search that found none
-pub in_range_end : (nodes : List Node) (ls : List Link) (i : ℕ) → length ls ≤ i
+pub in_range_end : (nodes : List Node) (ls : List NumberedWire) (i : ℕ) → length ls ≤ i
     → port_missing nodes (wires_of_links ls) ≡ first_from (λ i w. when (lacks_output (slice_get nodes w.from) w.output || lacks_input (slice_get nodes w.to) w.input) i) i (wires_of_links (drop i ls)) → AreInRange (length nodes) ls
 in_range_end nodes ls i le h =
-    let f : ℕ → Wire → Option ℕ = λ i w. when (lacks_output (slice_get nodes w.from) w.output || lacks_input (slice_get nodes w.to) w.input) i in
-    let rest : List Link → Option ℕ = λ xs. first_from f i (wires_of_links xs) in
+    let f : ℕ → Edge → Option ℕ = λ i w. when (lacks_output (slice_get nodes w.from) w.output || lacks_input (slice_get nodes w.to) w.input) i in
+    let rest : List NumberedWire → Option ℕ = λ xs. first_from f i (wires_of_links xs) in
     in_range nodes ls (sym (h ∙ ap rest (drop_all i ls le)))

@@ -8,7 +8,7 @@ use Rattle.std.proofs.lemmas.Bool.{cases_eq, or_cases, eqb-true, eq-eqb, or_left
 use Rattle.std.proofs.lemmas.Grind.{common_steps}
 use Rattle.std.proofs.lemmas.List.{map_more, get_or_default}
 use Rattle.std.proofs.lemmas.List.Folds.{list_any-append}
-use Rattle.stream_model.specs.Graph.{Wire}
+use Rattle.stream_model.specs.Graph.{Edge}
 use Rattle.blue_names.specs.Outs.{IsOuts, row_at, items_in}
 
 -- so many rows without a number
@@ -48,10 +48,10 @@ any_push : (i n : ℕ) (row : List ℕ) → list_any (λ j. j == i) (row ++ n �
 any_push i n [] = grind arith
 any_push i n (k ∷ row) = grind (arith, any_push i n row)
 
-module _ (old new : List (Vec ℕ Global)) (ws : List Wire) (w : Wire) (is : IsOuts old ws) (here : row_at new w.from ≡ row_at old w.from ++ length ws ∷ [])
+module _ (old new : List (Vec ℕ Global)) (ws : List Edge) (w : Edge) (is : IsOuts old ws) (here : row_at new w.from ≡ row_at old w.from ++ length ws ∷ [])
     (others : (n : ℕ) → (n ≡ w.from → ⊥) → row_at new n ≡ row_at old n) where
   Found : ℕ → ℕ → Type 0
-  Found n i = (v : Wire) × (slice_get (ws ++ w ∷ []) i ≡ Some v) × (v.from ≡ n)
+  Found n i = (v : Edge) × (slice_get (ws ++ w ∷ []) i ≡ Some v) × (v.from ≡ n)
 
   from_old : (n i : ℕ) → list_any (λ j. j == i) (row_at old n) ≡ true → Found n i
   unfolding Found
@@ -80,12 +80,12 @@ module _ (old new : List (Vec ℕ Global)) (ws : List Wire) (w : Wire) (is : IsO
       let row : row_at new n ≡ row_at old n ++ length ws ∷ [] = subst (λ k. row_at new k ≡ row_at old k ++ length ws ∷ []) (sym e) here in
       ap (list_any (λ j. j == i)) row ∙ any_push i (length ws) (row_at old n) ∙ or_left (list_any (λ j. j == i) (row_at old n)) (length ws == i) h
 
-  kept : (i : ℕ) (v : Wire) → slice_get ws i ≡ Some v → list_any (λ j. j == i) (row_at new v.from) ≡ true
+  kept : (i : ℕ) (v : Edge) → slice_get ws i ≡ Some v → list_any (λ j. j == i) (row_at new v.from) ≡ true
   kept i v h =
       let o = is.complete i v h in
       ⊎_elim (λ e. in_row v.from i e o) (λ ne. ap (list_any (λ j. j == i)) (others v.from ne) ∙ o) (cases_eq v.from w.from)
 
-  added : (i : ℕ) (v : Wire) → i ≡ length ws → v ≡ w → list_any (λ j. j == i) (row_at new v.from) ≡ true
+  added : (i : ℕ) (v : Edge) → i ≡ length ws → v ≡ w → list_any (λ j. j == i) (row_at new v.from) ≡ true
   added i v l e =
       let row : row_at new v.from ≡ row_at old v.from ++ length ws ∷ [] = subst (λ u. row_at new u.from ≡ row_at old u.from ++ length ws ∷ []) (sym e) here in
       ap (list_any (λ j. j == i)) row ∙ any_push i (length ws) (row_at old v.from) ∙ or_right (list_any (λ j. j == i) (row_at old v.from)) (length ws == i) (eq-eqb (length ws) i (sym l))
@@ -99,7 +99,7 @@ module _ (old new : List (Vec ℕ Global)) (ws : List Wire) (w : Wire) (is : IsO
   }
 
 -- the same for the wires so far of a list
-pub IsOuts-more : {L : Type 0} (g : L → Wire) (old new : List (Vec ℕ Global)) (ls : List L) (i : ℕ) (l : L) → i < length ls → l ≡ get_or ls i l → IsOuts old (map g (take i ls))
+pub IsOuts-more : {L : Type 0} (g : L → Edge) (old new : List (Vec ℕ Global)) (ls : List L) (i : ℕ) (l : L) → i < length ls → l ≡ get_or ls i l → IsOuts old (map g (take i ls))
     → row_at new (g l).from ≡ row_at old (g l).from ++ i ∷ [] → ((n : ℕ) → (n ≡ (g l).from → ⊥) → row_at new n ≡ row_at old n) → IsOuts new (map g (take (i + 1) ls))
 IsOuts-more g old new ls i l lt is outs here others =
     let len : i ≡ length (map g (take i ls)) = grind (arith, common_steps) in
@@ -114,6 +114,6 @@ IsOuts-none rows none = record {
 }
 
 -- the same for the element as code reads it
-pub IsOuts-at : {L : Type 0} (g : L → Wire) (old new : List (Vec ℕ Global)) (ls : List L) (i : ℕ) (d : L) → i < length ls → IsOuts old (map g (take i ls))
+pub IsOuts-at : {L : Type 0} (g : L → Edge) (old new : List (Vec ℕ Global)) (ls : List L) (i : ℕ) (d : L) → i < length ls → IsOuts old (map g (take i ls))
     → row_at new (g (get_or ls i d)).from ≡ row_at old (g (get_or ls i d)).from ++ i ∷ [] → ((n : ℕ) → (n ≡ (g (get_or ls i d)).from → ⊥) → row_at new n ≡ row_at old n) → IsOuts new (map g (take (i + 1) ls))
 IsOuts-at g old new ls i d lt outs here others = IsOuts-more g old new ls i (get_or ls i d) lt (get_or_default ls i d (get_or ls i d) lt) outs here others

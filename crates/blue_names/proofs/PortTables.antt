@@ -5,7 +5,7 @@ use Rattle.std.specs.Option.{option_or}
 use Rattle.std.proofs.lemmas.Bool.{cases_Bool, and_parts, eqb-true}
 use Rattle.std.proofs.lemmas.Grind.{common_steps}
 use Rattle.std.proofs.lemmas.List.{map_more, get_or_default}
-use Rattle.stream_model.specs.Graph.{Wire, find_by, find_wire, find_source}
+use Rattle.stream_model.specs.Graph.{Edge, find_by, find_wire, find_source}
 use Rattle.blue_rules.specs.First.{when}
 use Rattle.blue_names.specs.Wiring.{found_in, FindsWires, FindsSources}
 
@@ -49,12 +49,12 @@ module _ {S : Type 0} (m n : HashMap (ℕ × ℕ) ℕ S) (node port k : ℕ) (u 
       (cases_Bool ((node == x) && (port == p)))
 
 -- the first wire at a port, among wires with one more at the end
-pub find_by-push : (place port : Wire → ℕ) (node p n : ℕ) (ws : List Wire) (w : Wire)
+pub find_by-push : (place port : Edge → ℕ) (node p n : ℕ) (ws : List Edge) (w : Edge)
     → find_by place port node p n (ws ++ w ∷ []) ≡ option_or (find_by place port node p n ws) (when ((place w == node) && (port w == p)) (n + length ws))
 find_by-push place port node p n [] w = grind arith
 find_by-push place port node p n (v ∷ ws) w = grind (arith, find_by-push place port node p (n + 1) ws w)
 
-module _ {L S : Type 0} (g : L → Wire) (m n : HashMap (ℕ × ℕ) ℕ S) (ls : List L) (i : ℕ) (l : L) (place port : Wire → ℕ) (lt : i < length ls) (is : l ≡ get_or ls i l)
+module _ {L S : Type 0} (g : L → Edge) (m n : HashMap (ℕ × ℕ) ℕ S) (ls : List L) (i : ℕ) (l : L) (place port : Edge → ℕ) (lt : i < length ls) (is : l ≡ get_or ls i l)
     (new : (x p : ℕ) → found_in n x p ≡ option_or (found_in m x p) (when ((place (g l) == x) && (port (g l) == p)) i)) where
   -- one more wire in the table and in the list
   found-more : ((x p : ℕ) → found_in m x p ≡ find_by place port x p 0 (map g (take i ls))) → (x p : ℕ) → found_in n x p ≡ find_by place port x p 0 (map g (take (i + 1) ls))
@@ -66,19 +66,19 @@ module _ {L S : Type 0} (g : L → Wire) (m n : HashMap (ℕ × ℕ) ℕ S) (ls 
       let c : find_by place port x p 0 (map g (take i ls) ++ g l ∷ []) ≡ option_or (find_by place port x p 0 (map g (take i ls))) (when ((place (g l) == x) && (port (g l) == p)) i) = rw len at b in
       new x p ∙ ap (λ o. option_or o (when ((place (g l) == x) && (port (g l) == p)) i)) (old x p) ∙ sym c ∙ sym (ap (find_by place port x p 0) s)
 
-pub FindsWires-more : {L S : Type 0} (g : L → Wire) (m n : HashMap (ℕ × ℕ) ℕ S) (ls : List L) (i : ℕ) (l : L) → i < length ls → l ≡ get_or ls i l
+pub FindsWires-more : {L S : Type 0} (g : L → Edge) (m n : HashMap (ℕ × ℕ) ℕ S) (ls : List L) (i : ℕ) (l : L) → i < length ls → l ≡ get_or ls i l
     → ((x p : ℕ) → found_in n x p ≡ option_or (found_in m x p) (when (((g l).to == x) && ((g l).input == p)) i)) → FindsWires m (map g (take i ls)) → FindsWires n (map g (take (i + 1) ls))
 FindsWires-more g m n ls i l lt is new old = record { wire_at = found-more g m n ls i l (λ w. w.to) (λ w. w.input) lt is new old.wire_at }
 
-pub FindsSources-more : {L S : Type 0} (g : L → Wire) (m n : HashMap (ℕ × ℕ) ℕ S) (ls : List L) (i : ℕ) (l : L) → i < length ls → l ≡ get_or ls i l
+pub FindsSources-more : {L S : Type 0} (g : L → Edge) (m n : HashMap (ℕ × ℕ) ℕ S) (ls : List L) (i : ℕ) (l : L) → i < length ls → l ≡ get_or ls i l
     → ((x p : ℕ) → found_in n x p ≡ option_or (found_in m x p) (when (((g l).from == x) && ((g l).output == p)) i)) → FindsSources m (map g (take i ls)) → FindsSources n (map g (take (i + 1) ls))
 FindsSources-more g m n ls i l lt is new old = record { wire_at = found-more g m n ls i l (λ w. w.from) (λ w. w.output) lt is new old.wire_at }
 
 -- the same for the element as code reads it
-pub FindsWires-at : {L S : Type 0} (g : L → Wire) (m n : HashMap (ℕ × ℕ) ℕ S) (ls : List L) (i : ℕ) (d : L) → i < length ls
+pub FindsWires-at : {L S : Type 0} (g : L → Edge) (m n : HashMap (ℕ × ℕ) ℕ S) (ls : List L) (i : ℕ) (d : L) → i < length ls
     → ((x p : ℕ) → found_in n x p ≡ option_or (found_in m x p) (when (((g (get_or ls i d)).to == x) && ((g (get_or ls i d)).input == p)) i)) → FindsWires m (map g (take i ls)) → FindsWires n (map g (take (i + 1) ls))
 FindsWires-at g m n ls i d lt new old = FindsWires-more g m n ls i (get_or ls i d) lt (get_or_default ls i d (get_or ls i d) lt) new old
 
-pub FindsSources-at : {L S : Type 0} (g : L → Wire) (m n : HashMap (ℕ × ℕ) ℕ S) (ls : List L) (i : ℕ) (d : L) → i < length ls
+pub FindsSources-at : {L S : Type 0} (g : L → Edge) (m n : HashMap (ℕ × ℕ) ℕ S) (ls : List L) (i : ℕ) (d : L) → i < length ls
     → ((x p : ℕ) → found_in n x p ≡ option_or (found_in m x p) (when (((g (get_or ls i d)).from == x) && ((g (get_or ls i d)).output == p)) i)) → FindsSources m (map g (take i ls)) → FindsSources n (map g (take (i + 1) ls))
 FindsSources-at g m n ls i d lt new old = FindsSources-more g m n ls i (get_or ls i d) lt (get_or_default ls i d (get_or ls i d) lt) new old

@@ -4,12 +4,12 @@ use Rattle.std.specs.HashMap.{HashMap}
 use Rattle.std.specs.List.{list_any}
 use denote.Ref.{Bor}
 use Rattle.blue_rules.specs.Names as rule
-use Rattle.blue_names.specs.declared.claims.Claim.{Claim}
-use Rattle.blue_names.specs.declared.claims.Claim.TheVariants.{Called, Opens}
+use Rattle.blue_names.specs.declared.claims.NameClaim.{NameClaim}
+use Rattle.blue_names.specs.declared.claims.NameClaim.TheVariants.{Called, Opens}
 use Rattle.blue_names.specs.Table.{number_in}
 
 -- a claim by its text
-abbrev pub claim_of : Claim → rule.Claim
+abbrev pub claim_of : NameClaim → rule.Claim
 claim_of (Called l) = rule.called l.now
 claim_of (Opens l) = rule.opens l.now
 

@@ -1,7 +1,7 @@
 -- Tables of the wires at ports, and what they know.
 use Rattle.std.specs.Prelude.{◌≡◌, ℕ, ◌==◌, ◌&&◌, List, Option}
 use Rattle.std.specs.HashMap.{HashMap, get}
-use Rattle.stream_model.specs.Graph.{Wire, find_wire, find_source}
+use Rattle.stream_model.specs.Graph.{Edge, find_wire, find_source}
 use Rattle.blue_rules.specs.Ports as rule
 use Rattle.blue_names.specs.declared.ports.OpenPort.{OpenPort}
 
@@ -10,11 +10,11 @@ abbrev pub found_in : {S : Type 0} → HashMap (ℕ × ℕ) ℕ S → ℕ → �
 found_in m node port = get (λ x y. (x.0 == y.0) && (x.1 == y.1)) m (node, port)
 
 -- the table has the first wire into each input
-pub record FindsWires {S : Type 0} (m : HashMap (ℕ × ℕ) ℕ S) (ws : List Wire) : Type 0 where
+pub record FindsWires {S : Type 0} (m : HashMap (ℕ × ℕ) ℕ S) (ws : List Edge) : Type 0 where
   pub wire_at : (node port : ℕ) → found_in m node port ≡ find_wire node port ws
 
 -- the table has the first wire out of each output
-pub record FindsSources {S : Type 0} (m : HashMap (ℕ × ℕ) ℕ S) (ws : List Wire) : Type 0 where
+pub record FindsSources {S : Type 0} (m : HashMap (ℕ × ℕ) ℕ S) (ws : List Edge) : Type 0 where
   pub wire_at : (node port : ℕ) → found_in m node port ≡ find_source node port ws
 
 -- an open port as the rules see it

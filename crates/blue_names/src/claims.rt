@@ -16,7 +16,7 @@ use stream_model::kind::Kind;
 
 /// What a declaration takes for itself.
 #[derive(Clone, Copy)]
-pub enum Claim<'a> {
+pub enum NameClaim<'a> {
     /// A name.
     Called(&'a Line),
     /// A file.
@@ -32,14 +32,14 @@ pub struct Taken<'a> {
     pub files: NameTable<'a>,
 }
 
-impl<'a> Claim<'a> {
+impl<'a> NameClaim<'a> {
     /// The name or the file.
     pub fn line(self) -> &'a Line
         ensures { result.now ≡ text_of (claim_of self.entry) }
     {
         match self {
-            Claim::Called(line) => line,
-            Claim::Opens(line) => line,
+            NameClaim::Called(line) => line,
+            NameClaim::Opens(line) => line,
         }
     }
 }
@@ -58,13 +58,13 @@ impl<'a> Taken<'a> {
     }
 
     /// Takes what is claimed, and says whether it was free.
-    pub fn take(&mut self, claim: Claim<'a>) -> Result<bool, NoMemory>
+    pub fn take(&mut self, claim: NameClaim<'a>) -> Result<bool, NoMemory>
         ensures free { (before : List Taking) → Knows self.old.names self.old.files before → IfOk result (λ free. free ≡ not (list_any (same_claim (claim_of claim.entry)) before)) }
         ensures taken { (before : List Taking) → Knows self.old.names self.old.files before → OnOk result (Knows self.new.names self.new.files (claim_of claim.entry ∷ before)) }
     {
         match claim {
-            Claim::Called(name) => note(&mut self.names, name, 0),
-            Claim::Opens(file) => note(&mut self.files, file, 0),
+            NameClaim::Called(name) => note(&mut self.names, name, 0),
+            NameClaim::Opens(file) => note(&mut self.files, file, 0),
         }
     }
 }
@@ -75,7 +75,7 @@ fn taken_files<'a>(alloc: Global, files: &'a [Line]) -> Result<Taken<'a>, NoMemo
 {
     let mut taken = Taken::new(alloc);
     for file in files {
-        let _ = taken.take(Claim::Opens(file))?;
+        let _ = taken.take(NameClaim::Opens(file))?;
     }
     Ok(taken)
 }
@@ -84,7 +84,7 @@ fn taken_files<'a>(alloc: Global, files: &'a [Line]) -> Result<Taken<'a>, NoMemo
 fn first_again<'a>(
     alloc: Global,
     files: &'a [Line],
-    claims: &[Claim<'a>],
+    claims: &[NameClaim<'a>],
 ) -> Result<Option<&'a Line>, NoMemory>
     ensures { IfOk result (λ again. option_map (λ l. l.now) again ≡ first_again (map opens files.now) (map claim_of claims.now)) }
 {
@@ -118,68 +118,68 @@ pub fn plug_of(kind: &Kind) -> Option<&Line>
 }
 
 /// Adds the names of the switches.
-fn add_switches<'a>(claims: &mut Vec<Claim<'a>>, switches: &'a [Line]) -> Result<(), NoMemory>
+fn add_switches<'a>(claims: &mut Vec<NameClaim<'a>>, switches: &'a [Line]) -> Result<(), NoMemory>
     ensures { OnOk result (map claim_of claims.new.items ≡ map claim_of claims.old.items ++ map called switches.now) }
 {
     for name in switches {
-        claims.push(Claim::Called(name))?;
+        claims.push(NameClaim::Called(name))?;
     }
     Ok(())
 }
 
 /// Adds the names of the chains.
-fn add_chains<'a>(claims: &mut Vec<Claim<'a>>, chains: &'a [ChainDecl]) -> Result<(), NoMemory>
+fn add_chains<'a>(claims: &mut Vec<NameClaim<'a>>, chains: &'a [ChainDecl]) -> Result<(), NoMemory>
     ensures { OnOk result (map claim_of claims.new.items ≡ map claim_of claims.old.items ++ map (λ c. called c.name) chains.now) }
 {
     for chain in chains {
-        claims.push(Claim::Called(&chain.name))?;
+        claims.push(NameClaim::Called(&chain.name))?;
     }
     Ok(())
 }
 
 /// Adds the names of the plugs.
-fn add_plugs<'a>(claims: &mut Vec<Claim<'a>>, plugs: &'a [PlugHead]) -> Result<(), NoMemory>
+fn add_plugs<'a>(claims: &mut Vec<NameClaim<'a>>, plugs: &'a [PlugHead]) -> Result<(), NoMemory>
     ensures { OnOk result (map claim_of claims.new.items ≡ map claim_of claims.old.items ++ map (λ p. called p.name) plugs.now) }
 {
     for plug in plugs {
-        claims.push(Claim::Called(&plug.name))?;
+        claims.push(NameClaim::Called(&plug.name))?;
     }
     Ok(())
 }
 
 /// Adds a file, where there is one.
-fn add_file<'a>(claims: &mut Vec<Claim<'a>>, file: Option<&'a Line>) -> Result<(), NoMemory>
+fn add_file<'a>(claims: &mut Vec<NameClaim<'a>>, file: Option<&'a Line>) -> Result<(), NoMemory>
     ensures { (rest : List Taking) → OnOk result (map claim_of claims.new.items ++ rest ≡ map claim_of claims.old.items ++ opening (option_map (λ l. l.now) file.entry) rest) }
 {
     if let Some(file) = file {
-        claims.push(Claim::Opens(file))?;
+        claims.push(NameClaim::Opens(file))?;
     }
     Ok(())
 }
 
 /// Adds a name, where there is one.
-fn add_name<'a>(claims: &mut Vec<Claim<'a>>, name: Option<&'a Line>) -> Result<(), NoMemory>
+fn add_name<'a>(claims: &mut Vec<NameClaim<'a>>, name: Option<&'a Line>) -> Result<(), NoMemory>
     ensures { (rest : List Taking) → OnOk result (map claim_of claims.new.items ++ rest ≡ map claim_of claims.old.items ++ calling (option_map (λ l. l.now) name.entry) rest) }
 {
     if let Some(name) = name {
-        claims.push(Claim::Called(name))?;
+        claims.push(NameClaim::Called(name))?;
     }
     Ok(())
 }
 
 /// Adds the names and the files of the nodes.
-fn add_nodes<'a>(claims: &mut Vec<Claim<'a>>, nodes: &'a [Node]) -> Result<(), NoMemory>
+fn add_nodes<'a>(claims: &mut Vec<NameClaim<'a>>, nodes: &'a [Node]) -> Result<(), NoMemory>
     ensures { OnOk result (map claim_of claims.new.items ≡ map claim_of claims.old.items ++ claims_of_nodes nodes.now) }
 {
     for node in nodes {
-        claims.push(Claim::Called(&node.name))?;
+        claims.push(NameClaim::Called(&node.name))?;
         add_file(claims, file_of(&node.kind))?;
     }
     Ok(())
 }
 
 /// Adds the plugs that the nodes name.
-fn add_uses<'a>(claims: &mut Vec<Claim<'a>>, nodes: &'a [Node]) -> Result<(), NoMemory>
+fn add_uses<'a>(claims: &mut Vec<NameClaim<'a>>, nodes: &'a [Node]) -> Result<(), NoMemory>
     ensures { OnOk result (map claim_of claims.new.items ≡ map claim_of claims.old.items ++ plugs_of_nodes nodes.now) }
 {
     for node in nodes {

@@ -14,7 +14,7 @@ use std::alloc::Global;
 
 /// A wire by the numbers of its nodes.
 #[derive(Clone, Copy, PartialEq, Eq)]
-pub struct Link {
+pub struct NumberedWire {
     /// The number of the node whose output it is.
     pub from: usize,
     /// Which of that node's outputs.
@@ -35,13 +35,17 @@ fn number_of(table: &NameTable<'_>, name: &Line) -> usize
 }
 
 /// The wires by the numbers of their nodes.
-pub fn links_of(alloc: Global, nodes: &[Node], wires: &[WireDecl]) -> Result<Vec<Link>, NoMemory>
+pub fn links_of(
+    alloc: Global,
+    nodes: &[Node],
+    wires: &[WireDecl],
+) -> Result<Vec<NumberedWire>, NoMemory>
     ensures { IfOk result (λ links. wires_of_links links.items ≡ wires_of nodes.now wires.now) }
 {
     let table = table_of(alloc, nodes)?;
     let mut links = Vec::new(alloc);
     for wire in wires {
-        links.push(Link {
+        links.push(NumberedWire {
             from: number_of(&table, &wire.from),
             output: wire.output,
             to: number_of(&table, &wire.to),
@@ -53,7 +57,7 @@ pub fn links_of(alloc: Global, nodes: &[Node], wires: &[WireDecl]) -> Result<Vec
 }
 
 /// The wire of that number.
-pub fn link_at(links: &[Link], i: usize) -> Option<Link>
+pub fn link_at(links: &[NumberedWire], i: usize) -> Option<NumberedWire>
     ensures { option_map wire_of_link result ≡ slice_get (wires_of_links links.now) i }
 {
     links.get(i).copied()

@@ -1,11 +1,11 @@
 // The wires out of each node.
 ghost use Rattle.std.specs.Prelude.{◌≡◌, ◌<◌, ℕ, List, [], IfOk, OnOk, length, vec_len, map, slice_get, Some, IfSome};
 ghost use Rattle.std.proofs.Common.{set, get_or, ◌++◌, ◌∷◌};
-ghost use Rattle.stream_model.specs.Graph.{Wire};
+ghost use Rattle.stream_model.specs.Graph.{Edge};
 ghost use Rattle.blue_names.specs.Links.{AreInRange, wires_of_links};
 ghost use Rattle.blue_names.specs.Outs.{IsOuts, row_at};
 
-use crate::links::{Link, link_at};
+use crate::links::{NumberedWire, link_at};
 use elem_core::why::NoMemory;
 use std::alloc::Global;
 
@@ -33,7 +33,11 @@ fn put_in(rows: &mut Vec<Vec<usize>>, row: usize, number: usize) -> Result<(), N
 }
 
 /// The wires out of each of so many nodes.
-pub fn outs_of(alloc: Global, count: usize, links: &[Link]) -> Result<Vec<Vec<usize>>, NoMemory>
+pub fn outs_of(
+    alloc: Global,
+    count: usize,
+    links: &[NumberedWire],
+) -> Result<Vec<Vec<usize>>, NoMemory>
     requires { AreInRange count links.now }
     ensures rows { IfOk result (λ rows. IsOuts rows.items (wires_of_links links.now)) }
     ensures length { IfOk result (λ rows. vec_len rows ≡ count) }
@@ -56,9 +60,9 @@ pub fn row_of(outs: &[Vec<usize>], node: usize) -> &[usize]
 }
 
 /// The node to which a wire leads.
-pub fn target_of(links: &[Link], i: usize) -> Option<usize>
-    ensures to { (w : Wire) → slice_get (wires_of_links links.now) i ≡ Some w → result ≡ Some w.to }
-    ensures wire { IfSome result (λ t. (w : Wire) × (slice_get (wires_of_links links.now) i ≡ Some w) × (w.to ≡ t)) }
+pub fn target_of(links: &[NumberedWire], i: usize) -> Option<usize>
+    ensures to { (w : Edge) → slice_get (wires_of_links links.now) i ≡ Some w → result ≡ Some w.to }
+    ensures wire { IfSome result (λ t. (w : Edge) × (slice_get (wires_of_links links.now) i ≡ Some w) × (w.to ≡ t)) }
 {
     match link_at(links, i) {
         Some(link) => Some(link.to),

@@ -1,7 +1,7 @@
 // Ports that are missing, used twice or open.
 ghost use Rattle.std.specs.Prelude.{◌≡◌, ℕ, ◌<◌, ◌≤◌, List, IfOk, OnOk, map, length, slice_get, Some, Option, ◌==◌, ◌&&◌, ◌||◌, not, is_none, IfNone};
 ghost use Rattle.stream_model.specs.Composed.{inputs_of, count_from};
-ghost use Rattle.stream_model.specs.Graph.{Wire, find_wire, find_source};
+ghost use Rattle.stream_model.specs.Graph.{Edge, find_wire, find_source};
 ghost use Rattle.stream_picture.specs.View.{outputs_of};
 ghost use Rattle.blue_rules.specs.First.{first_from, when};
 ghost use Rattle.std.specs.Option.{option_or, option_map};
@@ -10,7 +10,7 @@ ghost use Rattle.blue_rules.specs.Ports.{port_missing, port_twice, port_open, is
 ghost use Rattle.blue_names.specs.Links.{AreInRange, wires_of_links};
 ghost use Rattle.blue_names.specs.Wiring.{found_in, FindsWires, FindsSources, port_of};
 
-use crate::links::Link;
+use crate::links::NumberedWire;
 use blue_core::blueprint::Node;
 use elem_core::why::NoMemory;
 use std::alloc::Global;
@@ -67,7 +67,7 @@ fn note_port(table: &mut PortTable, node: usize, port: u32, wire: usize) -> Resu
 }
 
 /// The wire into each input.
-pub fn targets_of(alloc: Global, links: &[Link]) -> Result<PortTable, NoMemory>
+pub fn targets_of(alloc: Global, links: &[NumberedWire]) -> Result<PortTable, NoMemory>
     ensures { IfOk result (λ table. FindsWires table (wires_of_links links.now)) }
 {
     let mut table = HashMap::with_capacity(alloc, links.len())?;
@@ -78,7 +78,7 @@ pub fn targets_of(alloc: Global, links: &[Link]) -> Result<PortTable, NoMemory>
 }
 
 /// The wire out of each output.
-pub fn sources_of(alloc: Global, links: &[Link]) -> Result<PortTable, NoMemory>
+pub fn sources_of(alloc: Global, links: &[NumberedWire]) -> Result<PortTable, NoMemory>
     ensures { IfOk result (λ table. FindsSources table (wires_of_links links.now)) }
 {
     let mut table = HashMap::with_capacity(alloc, links.len())?;
@@ -109,7 +109,7 @@ fn lacks_input(nodes: &[Node], node: usize, port: u32) -> bool
 }
 
 /// The first wire that uses a port that its node does not have.
-pub fn port_missing(nodes: &[Node], links: &[Link]) -> Option<usize>
+pub fn port_missing(nodes: &[Node], links: &[NumberedWire]) -> Option<usize>
     ensures first { result ≡ port_missing nodes.now (wires_of_links links.now) }
     // Where there is none, each end of a wire is a node.
     ensures in_range { IfNone result (AreInRange (length nodes.now) links.now) }
@@ -123,8 +123,8 @@ pub fn port_missing(nodes: &[Node], links: &[Link]) -> Option<usize>
 }
 
 /// Whether a wire uses a port that an earlier wire uses.
-fn uses_again(targets: &PortTable, sources: &PortTable, i: usize, link: &Link) -> bool
-    ensures { (ws : List Wire) → FindsWires targets.now ws → FindsSources sources.now ws
+fn uses_again(targets: &PortTable, sources: &PortTable, i: usize, link: &NumberedWire) -> bool
+    ensures { (ws : List Edge) → FindsWires targets.now ws → FindsSources sources.now ws
         → result ≡ (not (is_number i (find_source link.now.from link.now.output ws)) || not (is_number i (find_wire link.now.to link.now.input ws))) }
 {
     !is_number(i, wire_at(sources, link.from, link.output))
@@ -132,7 +132,7 @@ fn uses_again(targets: &PortTable, sources: &PortTable, i: usize, link: &Link) -
 }
 
 /// The first wire that uses a port that an earlier wire uses.
-pub fn port_twice(targets: &PortTable, sources: &PortTable, links: &[Link]) -> Option<usize>
+pub fn port_twice(targets: &PortTable, sources: &PortTable, links: &[NumberedWire]) -> Option<usize>
     requires targets { FindsWires targets.now (wires_of_links links.now) }
     requires sources { FindsSources sources.now (wires_of_links links.now) }
     ensures { result ≡ port_twice (wires_of_links links.now) }
@@ -180,7 +180,7 @@ fn open_among(table: &PortTable, node: usize, count: u32) -> Option<u32>
 
 /// The first input of a node that has no wire.
 fn open_input(targets: &PortTable, i: usize, kind: &Kind) -> Option<OpenPort>
-    ensures { (n : Declared) (ws : List Wire) → n.kind ≡ kind.now → FindsWires targets.now ws → option_map port_of result ≡ open_input i n ws }
+    ensures { (n : Declared) (ws : List Edge) → n.kind ≡ kind.now → FindsWires targets.now ws → option_map port_of result ≡ open_input i n ws }
 {
     match open_among(targets, i, inputs_of(kind)) {
         Some(port) => Some(OpenPort {
@@ -194,7 +194,7 @@ fn open_input(targets: &PortTable, i: usize, kind: &Kind) -> Option<OpenPort>
 
 /// The first output of a node that has no wire.
 fn open_output(sources: &PortTable, i: usize, kind: &Kind) -> Option<OpenPort>
-    ensures { (n : Declared) (ws : List Wire) → n.kind ≡ kind.now → FindsSources sources.now ws → option_map port_of result ≡ open_output i n ws }
+    ensures { (n : Declared) (ws : List Edge) → n.kind ≡ kind.now → FindsSources sources.now ws → option_map port_of result ≡ open_output i n ws }
 {
     match open_among(sources, i, outputs_of(kind)) {
         Some(port) => Some(OpenPort {
@@ -208,7 +208,7 @@ fn open_output(sources: &PortTable, i: usize, kind: &Kind) -> Option<OpenPort>
 
 /// The first port of a node that has no wire: its inputs come first.
 fn open_at(targets: &PortTable, sources: &PortTable, i: usize, kind: &Kind) -> Option<OpenPort>
-    ensures { (n : Declared) (ws : List Wire) → n.kind ≡ kind.now → FindsWires targets.now ws → FindsSources sources.now ws
+    ensures { (n : Declared) (ws : List Edge) → n.kind ≡ kind.now → FindsWires targets.now ws → FindsSources sources.now ws
         → option_map port_of result ≡ option_or (open_input i n ws) (open_output i n ws) }
 {
     match open_input(targets, i, kind) {
@@ -219,7 +219,7 @@ fn open_at(targets: &PortTable, sources: &PortTable, i: usize, kind: &Kind) -> O
 
 /// The first port of all that has no wire.
 pub fn port_open(targets: &PortTable, sources: &PortTable, nodes: &[Node]) -> Option<OpenPort>
-    ensures { (ws : List Wire) → FindsWires targets.now ws → FindsSources sources.now ws → option_map port_of result ≡ port_open nodes.now ws }
+    ensures { (ws : List Edge) → FindsWires targets.now ws → FindsSources sources.now ws → option_map port_of result ≡ port_open nodes.now ws }
 {
     for (i, node) in nodes.iter().enumerate() {
         if let Some(port) = open_at(targets, sources, i, &node.kind) {

@@ -1,7 +1,7 @@
 -- A blueprint's wires by the numbers of their nodes.
 use Rattle.std.specs.Prelude.{ℕ, ◌+◌, if◌then◌else◌, List, [], ◌∷◌, map, unwrap_or, Option, Some, None}
 use Rattle.elem_core.specs.Values.{same_text}
-use Rattle.stream_model.specs.Graph.{Wire}
+use Rattle.stream_model.specs.Graph.{Edge}
 use Rattle.blue_core.specs.declared.blueprint.Node.{Node}
 use Rattle.blue_core.specs.declared.blueprint.WireDecl.{WireDecl}
 
@@ -15,8 +15,8 @@ abbrev pub number_of : List ℕ → List Node → ℕ
 number_of name nodes = unwrap_or (number_from name 0 (map (λ n. n.name) nodes)) 0
 
 -- a wire by the numbers of its nodes
-abbrev pub wire_of : List Node → WireDecl → Wire
+abbrev pub wire_of : List Node → WireDecl → Edge
 wire_of nodes w = record { from = number_of w.from nodes; output = w.output; to = number_of w.to nodes; input = w.input; lane = w.lane }
 
-abbrev pub wires_of : List Node → List WireDecl → List Wire
+abbrev pub wires_of : List Node → List WireDecl → List Edge
 wires_of nodes ws = map (wire_of nodes) ws

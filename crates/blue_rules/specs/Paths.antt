@@ -1,12 +1,12 @@
 -- The rule on closed walks: no wire lies on one that follows wires from output to input.
 use Rattle.std.specs.Prelude.{◌≡◌, ℕ, ◌≤◌, List, slice_get, Option, Some}
-use Rattle.stream_model.specs.Graph.{Wire}
+use Rattle.stream_model.specs.Graph.{Edge}
 
-module _ (ws : List Wire) where
+module _ (ws : List Edge) where
   -- a wire from one node to another
   pub record Leads (a b : ℕ) : Type 0 where
     pub wire : ℕ
-    pub is : Wire
+    pub is : Edge
     pub at : slice_get ws wire ≡ Some is
     pub from : is.from ≡ a
     pub to : is.to ≡ b
@@ -18,7 +18,7 @@ module _ (ws : List Wire) where
 
   -- the wire lies on a closed walk: a walk leads back from its end to its beginning
   pub record LiesOnClosedWalk (i : ℕ) : Type 0 where
-    pub wire : Wire
+    pub wire : Edge
     pub at : slice_get ws i ≡ Some wire
     pub back : Path wire.to wire.from
 

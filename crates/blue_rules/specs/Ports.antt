@@ -1,7 +1,7 @@
 -- The rules on ports: each that a wire uses is there, none is used twice, and none is left open.
 use Rattle.std.specs.Prelude.{ℕ, ◌==◌, Bool, true, false, not, ◌||◌, nat_le, is_none, List, [], ◌∷◌, slice_get, Option, Some, None}
 use Rattle.std.specs.Option.{option_or}
-use Rattle.stream_model.specs.Graph.{Wire, find_wire, find_source}
+use Rattle.stream_model.specs.Graph.{Edge, find_wire, find_source}
 use Rattle.stream_model.specs.Composed.{inputs_of, count_from}
 use Rattle.stream_picture.specs.View.{outputs_of}
 use Rattle.blue_core.specs.declared.blueprint.Node.{Node}
@@ -17,7 +17,7 @@ lacks_input None p = true
 lacks_input (Some n) p = nat_le (inputs_of n.kind) p
 
 -- the first wire that uses a port that its node does not have
-abbrev pub port_missing : List Node → List Wire → Option ℕ
+abbrev pub port_missing : List Node → List Edge → Option ℕ
 port_missing nodes ws = first_from (λ i w. when (lacks_output (slice_get nodes w.from) w.output || lacks_input (slice_get nodes w.to) w.input) i) 0 ws
 
 -- it is that number
@@ -26,7 +26,7 @@ is_number i None = true
 is_number i (Some k) = k == i
 
 -- the first wire that uses a port that an earlier wire uses
-abbrev pub port_twice : List Wire → Option ℕ
+abbrev pub port_twice : List Edge → Option ℕ
 port_twice ws = first_from (λ i w. when (not (is_number i (find_source w.from w.output ws)) || not (is_number i (find_wire w.to w.input ws))) i) 0 ws
 
 -- a port without a wire: of which node, whether it is an output, and which
@@ -35,12 +35,12 @@ pub record OpenPort : Type 0 where
   pub output : Bool
   pub port : ℕ
 
-abbrev pub open_input : ℕ → Node → List Wire → Option OpenPort
+abbrev pub open_input : ℕ → Node → List Edge → Option OpenPort
 open_input i n ws = first_from (λ _ p. when (is_none (find_wire i p ws)) (record { node = i; output = false; port = p })) 0 (count_from 0 (inputs_of n.kind))
 
-abbrev pub open_output : ℕ → Node → List Wire → Option OpenPort
+abbrev pub open_output : ℕ → Node → List Edge → Option OpenPort
 open_output i n ws = first_from (λ _ p. when (is_none (find_source i p ws)) (record { node = i; output = true; port = p })) 0 (count_from 0 (outputs_of n.kind))
 
 -- the first port without a wire; within a node inputs come first
-abbrev pub port_open : List Node → List Wire → Option OpenPort
+abbrev pub port_open : List Node → List Edge → Option OpenPort
 port_open nodes ws = first_from (λ i n. option_or (open_input i n ws) (open_output i n ws)) 0 nodes

@@ -4,7 +4,7 @@ use Rattle.std.specs.Option.{option_map, option_or, option_and_then}
 use Rattle.elem_core.specs.Sort.{Sort, pair_type, same_sort}
 use Rattle.stream_model.specs.declared.kind.Kind.{Kind}
 use Rattle.stream_model.specs.Linear.{Role, reads_lines, gives_range, gives_nothing, gives_failure, works, trips, plugs_in, buffers, recovers, obeys, groups_by, splits_when, splits_after, merges, concats, interleaves, merges_sorted, zips, broadcasts, balances, partitions, unzips, sinks, role_of}
-use Rattle.stream_model.specs.Graph.{Wire, find_wire}
+use Rattle.stream_model.specs.Graph.{Edge, find_wire}
 use Rattle.stream_model.specs.Composed.{inputs_of, count_from}
 use Rattle.blue_core.specs.declared.blueprint.ChainDecl.{ChainDecl}
 use Rattle.blue_core.specs.declared.blueprint.Node.{Node}
@@ -114,13 +114,13 @@ abbrev pub unlike : ℕ → Sort → Option Sort → Option Clash
 unlike i t None = None
 unlike i t (Some s) = if same_sort s t then None else Some (record { wire = i; left = t; want = Is s })
 
-module _ (nodes : List Node) (ws : List Wire) where
+module _ (nodes : List Node) (ws : List Edge) where
   -- the wire into an input of a node
-  abbrev pub wire_into : ℕ → ℕ → Option Wire
+  abbrev pub wire_into : ℕ → ℕ → Option Edge
   wire_into i p = option_and_then (slice_get ws) (find_wire i p ws)
 
   -- the type on a wire, where the types of these nodes are fixed
-  abbrev pub type_on : (ℕ → Option Sort) → Option Wire → Option Sort
+  abbrev pub type_on : (ℕ → Option Sort) → Option Edge → Option Sort
   type_on types None = None
   type_on types (Some w) = option_map (port_type (slice_get nodes w.from) w.output) (types w.from)
 
@@ -170,7 +170,7 @@ module _ (plugs : List PlugHead) (chains : List ChainDecl) where
   clash_with i (Some n) taken (Some t) = if is_joining n.kind then unlike i t taken else clash_of i (stage_typed plugs chains n.kind t)
   clash_with i _ taken _ = None
 
-  module _ (nodes : List Node) (ws : List Wire) where
+  module _ (nodes : List Node) (ws : List Edge) where
     -- what a node would give
     abbrev pub attempt_at : (ℕ → Option Sort) → ℕ → Option Node → Option Typed
     attempt_at types i None = None
@@ -194,7 +194,7 @@ module _ (plugs : List PlugHead) (chains : List ChainDecl) where
     settled = rounds (length nodes)
 
     -- what arrives on a wire, where the types of these nodes are fixed
-    abbrev pub clash_on : (ℕ → Option Sort) → ℕ → Wire → Option Clash
+    abbrev pub clash_on : (ℕ → Option Sort) → ℕ → Edge → Option Clash
     clash_on types i w = clash_with i (slice_get nodes w.to) (types w.to) (type_on nodes ws types (Some w))
 
     -- the first wire on which a type arrives that its input does not accept

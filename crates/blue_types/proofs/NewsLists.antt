@@ -5,7 +5,7 @@ use Rattle.std.specs.List.{list_any}
 use Rattle.std.specs.Option.{option_or}
 use Rattle.std.proofs.lemmas.Bool.{cases_Bool, eqb-true, eq-eqb, or_cases}
 use Rattle.elem_core.specs.Sort.{Sort}
-use Rattle.stream_model.specs.Graph.{Wire}
+use Rattle.stream_model.specs.Graph.{Edge}
 use Rattle.blue_rules.specs.First.{when}
 use Rattle.blue_types.specs.declared.news.Fixed.{Fixed}
 use Rattle.blue_names.specs.Members.{is_in}
@@ -73,11 +73,11 @@ below_from_some (x ∷ xs) zero g y none h = omega arith
 below_from_some (x ∷ xs) (suc i) g y none h = let lt : i < length xs = below_from_some xs i g y none h in omega arith
 
 -- the targets of these wires, beside what was in the list
-pub record Leads (ws : List Wire) (old new row : List ℕ) : Type 0 where
+pub record Leads (ws : List Edge) (old new row : List ℕ) : Type 0 where
   pub kept : (q : ℕ) → is_in q old ≡ true → is_in q new ≡ true
-  pub added : (i : ℕ) (w : Wire) → slice_get ws i ≡ Some w → is_in i row ≡ true → is_in w.to new ≡ true
+  pub added : (i : ℕ) (w : Edge) → slice_get ws i ≡ Some w → is_in i row ≡ true → is_in w.to new ≡ true
 
-pub Leads-none : (ws : List Wire) (old : List ℕ) → Leads ws old old []
+pub Leads-none : (ws : List Edge) (old : List ℕ) → Leads ws old old []
 Leads-none ws old = record { kept = λ q h. h; added = λ i w at h. cc }
 
 in_kept : (q n : ℕ) (ns : List ℕ) → is_in q ns ≡ true → is_in q (ns ++ n ∷ []) ≡ true
@@ -87,7 +87,7 @@ in_last : (q n : ℕ) (ns : List ℕ) → n ≡ q → is_in q (ns ++ n ∷ []) �
 in_last q n ns e = is_in-push q n ns ∙ ap (λ b. is_in q ns || b) (eq-eqb n q e) ∙ or_true (is_in q ns)
 
 -- with the target of one more wire
-pub Leads-target : (ws : List Wire) (old new row : List ℕ) (k target : ℕ) → ((w : Wire) → slice_get ws k ≡ Some w → Some target ≡ Some w.to) → Leads ws old new row
+pub Leads-target : (ws : List Edge) (old new row : List ℕ) (k target : ℕ) → ((w : Edge) → slice_get ws k ≡ Some w → Some target ≡ Some w.to) → Leads ws old new row
     → Leads ws old (new ++ target ∷ []) (row ++ k ∷ [])
 Leads-target ws old new row k target is h = record {
   kept = λ q i. in_kept q target new (h.kept q i);
@@ -102,7 +102,7 @@ Leads-target ws old new row k target is h = record {
 }
 
 -- with a number of no wire
-pub Leads-no_wire : (ws : List Wire) (old new row : List ℕ) (k : ℕ) → ((w : Wire) → slice_get ws k ≡ Some w → None ≡ Some w.to) → Leads ws old new row
+pub Leads-no_wire : (ws : List Edge) (old new row : List ℕ) (k : ℕ) → ((w : Edge) → slice_get ws k ≡ Some w → None ≡ Some w.to) → Leads ws old new row
     → Leads ws old new (row ++ k ∷ [])
 Leads-no_wire ws old new row k is h = record {
   kept = h.kept;

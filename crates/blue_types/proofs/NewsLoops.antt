@@ -5,7 +5,7 @@ use Rattle.std.specs.Option.{option_or}
 use Rattle.std.proofs.lemmas.Bool.{or_cases, eqb-true, cases_Bool, both_ways}
 use Rattle.std.proofs.lemmas.List.{take_more}
 use Rattle.elem_core.specs.Sort.{Sort}
-use Rattle.stream_model.specs.Graph.{Wire}
+use Rattle.stream_model.specs.Graph.{Edge}
 use Rattle.blue_rules.specs.First.{when}
 use Rattle.blue_types.specs.declared.news.Fixed.{Fixed}
 use Rattle.blue_names.specs.Members.{is_in}
@@ -40,9 +40,9 @@ none_of : {X : Type 0} (o : Option X) → is_some o ≡ false → o ≡ None
 none_of None h = refl
 none_of (Some x) h = cc
 
-pub AreReached-more : (ws : List Wire) (t now : ℕ → Option Sort) (fs : List Fixed) (k : ℕ) (f : Fixed) (old new : List ℕ) → k < length fs → f ≡ get_or fs k f
+pub AreReached-more : (ws : List Edge) (t now : ℕ → Option Sort) (fs : List Fixed) (k : ℕ) (f : Fixed) (old new : List ℕ) → k < length fs → f ≡ get_or fs k f
     → ((i : ℕ) → now i ≡ option_or (t i) (news_at (take k fs) i)) → AreReached ws t (take k fs) old → ((q : ℕ) → is_in q old ≡ true → is_in q new ≡ true)
-    → (now f.node ≡ None → (i : ℕ) (w : Wire) → slice_get ws i ≡ Some w → w.from ≡ f.node → is_in w.to new ≡ true) → AreReached ws t (take (k + 1) fs) new
+    → (now f.node ≡ None → (i : ℕ) (w : Edge) → slice_get ws i ≡ Some w → w.from ≡ f.node → is_in w.to new ≡ true) → AreReached ws t (take (k + 1) fs) new
 AreReached-more ws t now fs k f old new lt is so_far h kept added = record {
   target = λ i w at none some.
       let e : (is_some (news_at (take k fs) w.from) || (f.node == w.from)) ≡ true =

@@ -4,7 +4,7 @@ use Rattle.std.specs.Prelude.{slice_get}
 use Rattle.std.specs.Option.{option_or, option_map, option_and_then}
 use Rattle.std.proofs.lemmas.Bool.{cases_Bool, or_cases, eqb-true, and_parts, both_ways}
 use Rattle.elem_core.specs.Sort.{Sort}
-use Rattle.stream_model.specs.Graph.{Wire, find_by, find_wire}
+use Rattle.stream_model.specs.Graph.{Edge, find_by, find_wire}
 use Rattle.stream_model.specs.Composed.{count_from, inputs_of}
 use Rattle.blue_core.specs.declared.blueprint.Node.{Node}
 use Rattle.blue_core.specs.declared.blueprint.ChainDecl.{ChainDecl}
@@ -16,21 +16,21 @@ use Rattle.blue_types.specs.News.{AreNews, AreReached, Rests, news_at}
 use Rattle.blue_types.proofs.NewsLists.{option_or-none}
 
 -- a wire at a place that is counted from n, which leads to that node
-record Into (ws : List Wire) (node n i : ℕ) : Type 0 where
+record Into (ws : List Edge) (node n i : ℕ) : Type 0 where
   pub place : ℕ
   pub is : i ≡ n + place
-  pub leads : (w : Wire) → slice_get ws place ≡ Some w → w.to ≡ node
+  pub leads : (w : Edge) → slice_get ws place ≡ Some w → w.to ≡ node
 
-one_on : (v : Wire) (ws : List Wire) (node n i : ℕ) → Into ws node (n + 1) i → Into (v ∷ ws) node n i
+one_on : (v : Edge) (ws : List Edge) (node n i : ℕ) → Into ws node (n + 1) i → Into (v ∷ ws) node n i
 one_on v ws node n i h = let e : i ≡ n + 1 + h.place = h.is in record { place = suc h.place; is = omega arith; leads = h.leads }
 
-here : (v : Wire) (ws : List Wire) (node p n i : ℕ) → ((v.to == node) && (v.input == p)) ≡ true → Some n ≡ Some i → Into (v ∷ ws) node n i
+here : (v : Edge) (ws : List Edge) (node p n i : ℕ) → ((v.to == node) && (v.input == p)) ≡ true → Some n ≡ Some i → Into (v ∷ ws) node n i
 here v ws node p n i t e =
     let parts = and_parts (v.to == node) (v.input == p) t in
     let same : n ≡ i = cc in
     record { place = 0; is = omega arith; leads = λ w at. let u : v ≡ w = cc in subst (λ x. x.to ≡ node) u (eqb-true v.to node parts.0) }
 
-find_into : (ws : List Wire) (node p n i : ℕ) → find_by (λ w. w.to) (λ w. w.input) node p n ws ≡ Some i → Into ws node n i
+find_into : (ws : List Edge) (node p n i : ℕ) → find_by (λ w. w.to) (λ w. w.input) node p n ws ≡ Some i → Into ws node n i
 find_into [] node p n i h = cc
 find_into (v ∷ ws) node p n i h =
     ⊎_elim
@@ -40,23 +40,23 @@ find_into (v ∷ ws) node p n i h =
     (cases_Bool ((v.to == node) && (v.input == p)))
 
 -- a wire into an input of a node is a wire, and leads to that node
-record IsInto (ws : List Wire) (node : ℕ) (w : Wire) : Type 0 where
+record IsInto (ws : List Edge) (node : ℕ) (w : Edge) : Type 0 where
   pub number : ℕ
   pub at : slice_get ws number ≡ Some w
   pub to : w.to ≡ node
 
-into_by : (ws : List Wire) (node p : ℕ) (w : Wire) (o : Option ℕ) → find_wire node p ws ≡ o → option_and_then (slice_get ws) o ≡ Some w → IsInto ws node w
+into_by : (ws : List Edge) (node p : ℕ) (w : Edge) (o : Option ℕ) → find_wire node p ws ≡ o → option_and_then (slice_get ws) o ≡ Some w → IsInto ws node w
 into_by ws node p w None e h = cc
 into_by ws node p w (Some i) e h =
     let f = find_into ws node p 0 i e in
     let same : i ≡ f.place = omega (arith, f.is) in
     record { number = i; at = h; to = f.leads w (subst (λ k. slice_get ws k ≡ Some w) same h) }
 
-wire_into-is : (nodes : List Node) (ws : List Wire) (node p : ℕ) (w : Wire) → wire_into nodes ws node p ≡ Some w → IsInto ws node w
+wire_into-is : (nodes : List Node) (ws : List Edge) (node p : ℕ) (w : Edge) → wire_into nodes ws node p ≡ Some w → IsInto ws node w
 wire_into-is nodes ws node p w h = into_by ws node p w (find_wire node p ws) refl h
 
-module _ (nodes : List Node) (ws : List Wire) (t u : ℕ → Option Sort) (i : ℕ) (same : (j : ℕ) (w : Wire) → slice_get ws j ≡ Some w → w.to ≡ i → t w.from ≡ u w.from) where
-  type_on-by : (p : ℕ) (o : Option Wire) → wire_into nodes ws i p ≡ o → type_on nodes ws t o ≡ type_on nodes ws u o
+module _ (nodes : List Node) (ws : List Edge) (t u : ℕ → Option Sort) (i : ℕ) (same : (j : ℕ) (w : Edge) → slice_get ws j ≡ Some w → w.to ≡ i → t w.from ≡ u w.from) where
+  type_on-by : (p : ℕ) (o : Option Edge) → wire_into nodes ws i p ≡ o → type_on nodes ws t o ≡ type_on nodes ws u o
   type_on-by p None e = refl
   type_on-by p (Some w) e =
       let f = wire_into-is nodes ws i p w e in
@@ -82,8 +82,8 @@ some_or_none : {X : Type 0} (o : Option X) → is_some o ≡ false → o ≡ Non
 some_or_none None h = refl
 some_or_none (Some x) h = cc
 
-module _ (nodes : List Node) (ws : List Wire) (fix : (ℕ → Option Sort) → ℕ → Option Sort) (t u : ℕ → Option Sort) (news : List Fixed) (front next : List ℕ)
-    (alike : (i : ℕ) → ((j : ℕ) (w : Wire) → slice_get ws j ≡ Some w → w.to ≡ i → u w.from ≡ t w.from) → fix u i ≡ fix t i)
+module _ (nodes : List Node) (ws : List Edge) (fix : (ℕ → Option Sort) → ℕ → Option Sort) (t u : ℕ → Option Sort) (news : List Fixed) (front next : List ℕ)
+    (alike : (i : ℕ) → ((j : ℕ) (w : Edge) → slice_get ws j ≡ Some w → w.to ≡ i → u w.from ≡ t w.from) → fix u i ≡ fix t i)
     (are : AreNews t (fix t) front news) (rests : Rests t (fix t) front) (put : (i : ℕ) → u i ≡ option_or (t i) (news_at news i)) (reached : AreReached ws t news next) where
   -- a node that has no news, and no type, has nothing to fix
   nothing : (i : ℕ) → t i ≡ None → news_at news i ≡ None → fix t i ≡ None
@@ -94,7 +94,7 @@ module _ (nodes : List Node) (ws : List Wire) (fix : (ℕ → Option Sort) → �
       (cases_Bool (is_in i front))
 
   -- no wire into a node that is not in the list comes from a node whose type is new
-  unchanged_by : (i : ℕ) → is_in i next ≡ false → (j : ℕ) (w : Wire) → slice_get ws j ≡ Some w → w.to ≡ i → (o : Option Sort) → t w.from ≡ o → u w.from ≡ t w.from
+  unchanged_by : (i : ℕ) → is_in i next ≡ false → (j : ℕ) (w : Edge) → slice_get ws j ≡ Some w → w.to ≡ i → (o : Option Sort) → t w.from ≡ o → u w.from ≡ t w.from
   unchanged_by i out j w at to (Some x) e = put w.from ∙ ap (λ y. option_or y (news_at news w.from)) e ∙ sym e
   unchanged_by i out j w at to None e =
       ⊎_elim
@@ -102,7 +102,7 @@ module _ (nodes : List Node) (ws : List Wire) (fix : (ℕ → Option Sort) → �
       (λ (b : is_some (news_at news w.from) ≡ false). put w.from ∙ ap (option_or (t w.from)) (some_or_none (news_at news w.from) b) ∙ option_or-none (t w.from))
       (cases_Bool (is_some (news_at news w.from)))
 
-  unchanged : (i : ℕ) → is_in i next ≡ false → (j : ℕ) (w : Wire) → slice_get ws j ≡ Some w → w.to ≡ i → u w.from ≡ t w.from
+  unchanged : (i : ℕ) → is_in i next ≡ false → (j : ℕ) (w : Edge) → slice_get ws j ≡ Some w → w.to ≡ i → u w.from ≡ t w.from
   unchanged i out j w at to = unchanged_by i out j w at to (t w.from) refl
 
   -- after a round only the nodes in the list have anything to fix

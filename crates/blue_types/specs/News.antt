@@ -2,7 +2,7 @@
 use Rattle.std.specs.Prelude.{◌≡◌, ℕ, ◌==◌, ◌<◌, true, false, is_some, if◌then◌else◌, List, [], ◌∷◌, length, slice_get, Option, Some, None}
 use Rattle.std.specs.Option.{option_or}
 use Rattle.elem_core.specs.Sort.{Sort}
-use Rattle.stream_model.specs.Graph.{Wire}
+use Rattle.stream_model.specs.Graph.{Edge}
 use Rattle.blue_rules.specs.First.{when}
 use Rattle.blue_types.specs.declared.news.Fixed.{Fixed}
 use Rattle.blue_names.specs.Members.{is_in}
@@ -21,8 +21,8 @@ pub record Rests (types fix : ℕ → Option Sort) (front : List ℕ) : Type 0 w
   pub others : (i : ℕ) → types i ≡ None → is_in i front ≡ false → fix i ≡ None
 
 -- the targets of the wires out of nodes with news, and without a type before, are in the list
-pub record AreReached (ws : List Wire) (types : ℕ → Option Sort) (news : List Fixed) (front : List ℕ) : Type 0 where
-  pub target : (i : ℕ) (w : Wire) → slice_get ws i ≡ Some w → types w.from ≡ None → is_some (news_at news w.from) ≡ true → is_in w.to front ≡ true
+pub record AreReached (ws : List Edge) (types : ℕ → Option Sort) (news : List Fixed) (front : List ℕ) : Type 0 where
+  pub target : (i : ℕ) (w : Edge) → slice_get ws i ≡ Some w → types w.from ≡ None → is_some (news_at news w.from) ≡ true → is_in w.to front ≡ true
 
 -- each is of a node below n
 abbrev pub AreBelow : ℕ → List Fixed → Type 0

@@ -14,7 +14,7 @@ use crate::library::Library;
 use crate::net::{Net, node_at, type_of, type_on};
 use crate::stages::stage_typed;
 use blue_core::blueprint::Node;
-use blue_names::links::Link;
+use blue_names::links::NumberedWire;
 use blue_rules::typed::{Clash, Typed};
 use blue_rules::want::Want;
 use elem_core::elem_type::ElemType;
@@ -96,7 +96,7 @@ fn clash_on(
     net: &Net<'_>,
     types: &[Option<ElemType>],
     wire: usize,
-    link: Link,
+    link: NumberedWire,
 ) -> Result<Option<Clash>, NoMemory>
     requires { IsKnown library.now }
     ensures { IfOk result (λ c. c ≡ clash_on library.now.plugs.now library.now.chains.now net.now.nodes.now (wires_of_links net.now.links.now) (type_at types.now) wire (wire_of_link link)) }

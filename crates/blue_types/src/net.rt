@@ -7,7 +7,7 @@ ghost use Rattle.blue_types.specs.Net.{IsWired, type_at};
 
 use crate::sorts::{left_type, right_type};
 use blue_core::blueprint::Node;
-use blue_names::links::{Link, link_at};
+use blue_names::links::{NumberedWire, link_at};
 use blue_names::ports::{PortTable, wire_at};
 use elem_core::elem_type::ElemType;
 use elem_core::why::NoMemory;
@@ -20,7 +20,7 @@ pub struct Net<'a> {
     /// The nodes.
     pub nodes: &'a [Node],
     /// The wires by the numbers of their nodes.
-    pub links: &'a [Link],
+    pub links: &'a [NumberedWire],
     /// The wire into each input.
     pub targets: &'a PortTable,
 }
@@ -43,7 +43,7 @@ pub fn type_of(types: &[Option<ElemType>], node: usize) -> Option<&ElemType>
 }
 
 /// The wire into an input of a node.
-fn wire_into(net: &Net<'_>, node: usize, port: u32) -> Option<Link>
+fn wire_into(net: &Net<'_>, node: usize, port: u32) -> Option<NumberedWire>
     requires { IsWired net.now }
     ensures { option_map wire_of_link result ≡ wire_into net.now.nodes.now (wires_of_links net.now.links.now) node port }
 {
@@ -90,7 +90,7 @@ pub fn type_on(
     alloc: Global,
     net: &Net<'_>,
     types: &[Option<ElemType>],
-    link: Link,
+    link: NumberedWire,
 ) -> Result<Option<ElemType>, NoMemory>
     ensures { IfOk result (λ o. o ≡ type_on net.now.nodes.now (wires_of_links net.now.links.now) (type_at types.now) (Some (wire_of_link link))) }
 {

@@ -1,7 +1,7 @@
 // One round: what nodes would fix, what is fixed then, and which nodes are to be looked at next.
 ghost use Rattle.std.specs.Prelude.{◌≡◌, ◌<◌, ◌≤◌, ℕ, List, [], ◌∷◌, ◌++◌, Option, IfOk, OnOk, slice_get, length, vec_len, ◌==◌, true, Some, None, is_none};
 ghost use Rattle.std.specs.Option.{option_or};
-ghost use Rattle.stream_model.specs.Graph.{Wire};
+ghost use Rattle.stream_model.specs.Graph.{Edge};
 ghost use Rattle.blue_names.specs.Links.{wires_of_links};
 ghost use Rattle.blue_rules.specs.First.{when};
 ghost use Rattle.blue_names.specs.Outs.{IsOuts};
@@ -14,7 +14,7 @@ ghost use Rattle.blue_types.specs.Would.{would};
 use crate::attempts::fixes_at;
 use crate::library::Library;
 use crate::net::{Net, type_of};
-use blue_names::links::Link;
+use blue_names::links::NumberedWire;
 use blue_names::outs::{row_of, target_of};
 use elem_core::elem_type::ElemType;
 use elem_core::why::NoMemory;
@@ -91,14 +91,14 @@ fn put_one(alloc: Global, types: &mut [Option<ElemType>], fixed: &Fixed) -> Resu
 
 /// Adds the nodes to which the wires out of a node lead.
 fn add_targets(
-    links: &[Link],
+    links: &[NumberedWire],
     outs: &[Vec<usize>],
     node: usize,
     front: &mut Vec<usize>,
 ) -> Result<(), NoMemory>
     requires { IsOuts outs.now (wires_of_links links.now) }
     ensures kept { (q : ℕ) → is_in q front.old.items ≡ true → OnOk result (is_in q front.new.items ≡ true) }
-    ensures added { (i : ℕ) (w : Wire) → slice_get (wires_of_links links.now) i ≡ Some w → w.from ≡ node → OnOk result (is_in w.to front.new.items ≡ true) }
+    ensures added { (i : ℕ) (w : Edge) → slice_get (wires_of_links links.now) i ≡ Some w → w.from ≡ node → OnOk result (is_in w.to front.new.items ≡ true) }
 {
     for i in row_of(outs, node) {
         if let Some(target) = target_of(links, *i) {
@@ -111,7 +111,7 @@ fn add_targets(
 /// Fixes the type of a node, where it is not fixed yet, and then adds the nodes to which wires lead from it.
 fn fix(
     alloc: Global,
-    links: &[Link],
+    links: &[NumberedWire],
     outs: &[Vec<usize>],
     types: &mut [Option<ElemType>],
     fixed: &Fixed,
@@ -121,7 +121,7 @@ fn fix(
     requires outs { IsOuts outs.now (wires_of_links links.now) }
     ensures types { (i : ℕ) → OnOk result (type_at types.new i ≡ option_or (type_at types.old i) (when (fixed.now.node == i) fixed.now.fixed)) }
     ensures kept { (q : ℕ) → is_in q front.old.items ≡ true → OnOk result (is_in q front.new.items ≡ true) }
-    ensures added { type_at types.old fixed.now.node ≡ None → (i : ℕ) (w : Wire) → slice_get (wires_of_links links.now) i ≡ Some w → w.from ≡ fixed.now.node → OnOk result (is_in w.to front.new.items ≡ true) }
+    ensures added { type_at types.old fixed.now.node ≡ None → (i : ℕ) (w : Edge) → slice_get (wires_of_links links.now) i ≡ Some w → w.from ≡ fixed.now.node → OnOk result (is_in w.to front.new.items ≡ true) }
 {
     if put_one(alloc, types, fixed)? {
         add_targets(links, outs, fixed.node, front)?;
@@ -133,7 +133,7 @@ fn fix(
 /// Fixes the types of the nodes that have news, and gives the nodes to which wires lead from those that had no type.
 fn fix_all(
     alloc: Global,
-    links: &[Link],
+    links: &[NumberedWire],
     outs: &[Vec<usize>],
     types: &mut [Option<ElemType>],
     news: &[Fixed],

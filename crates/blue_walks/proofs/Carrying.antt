@@ -5,7 +5,7 @@ use Rattle.std.proofs.Math.ListN.{length-set}
 use Rattle.std.proofs.lemmas.Bool.{cases_eq}
 use Rattle.std.proofs.lemmas.Grind.{get_or_default_zero}
 use Rattle.std.proofs.lemmas.List.{get_or-set_same, get_or-set_other}
-use Rattle.stream_model.specs.Graph.{Wire}
+use Rattle.stream_model.specs.Graph.{Edge}
 use Rattle.blue_rules.specs.Paths.{Path, Leads, stay, along}
 use Rattle.blue_walks.specs.Components.{AreOrigins, AreGoals}
 use Rattle.blue_walks.proofs.Reaching.{path_on, path_append}
@@ -18,13 +18,13 @@ at_others : (xs : List ℕ) (i v n : ℕ) → (n ≡ i → ⊥) → slice_index 
 at_others xs i v n ne = get_or-set_other xs i n v 0 ne
 
 -- at first each node is its own
-pub AreOrigins-own : (ws : List Wire) (xs : List ℕ) (count : ℕ) → length xs ≡ count → ((i : ℕ) → i < count → slice_index xs i ≡ i) → AreOrigins ws xs
+pub AreOrigins-own : (ws : List Edge) (xs : List ℕ) (count : ℕ) → length xs ≡ count → ((i : ℕ) → i < count → slice_index xs i ≡ i) → AreOrigins ws xs
 AreOrigins-own ws xs count long own = record { leads = λ n lt. let e : slice_index xs n ≡ n = own n (omega (arith, lt, long)) in subst (λ k. Path ws k n) (sym e) stay }
 
-pub AreGoals-own : (ws : List Wire) (xs : List ℕ) (count : ℕ) → length xs ≡ count → ((i : ℕ) → i < count → slice_index xs i ≡ i) → AreGoals ws xs
+pub AreGoals-own : (ws : List Edge) (xs : List ℕ) (count : ℕ) → length xs ≡ count → ((i : ℕ) → i < count → slice_index xs i ≡ i) → AreGoals ws xs
 AreGoals-own ws xs count long own = record { leads = λ n lt. let e : slice_index xs n ≡ n = own n (omega (arith, lt, long)) in subst (Path ws n) (sym e) stay }
 
-module _ (ws : List Wire) (xs : List ℕ) (i v : ℕ) (w : Wire) (at : slice_get ws i ≡ Some w) (from : w.from < length xs) (to : w.to < length xs) where
+module _ (ws : List Edge) (xs : List ℕ) (i v : ℕ) (w : Edge) (at : slice_get ws i ≡ Some w) (from : w.from < length xs) (to : w.to < length xs) where
   leads_on : Leads ws w.from w.to
   leads_on = record { wire = i; is = w; at = at; from = refl; to = refl }
 
@@ -53,5 +53,5 @@ module _ (ws : List Wire) (xs : List ℕ) (i v : ℕ) (w : Wire) (at : slice_get
   }
 
 -- a walk to a node's goal, which is the origin of another
-pub path_by_goal : (ws : List Wire) (origins goals : List ℕ) (a b : ℕ) → a < length goals → b < length origins → AreGoals ws goals → AreOrigins ws origins → slice_index goals a ≡ slice_index origins b → Path ws a b
+pub path_by_goal : (ws : List Edge) (origins goals : List ℕ) (a b : ℕ) → a < length goals → b < length origins → AreGoals ws goals → AreOrigins ws origins → slice_index goals a ≡ slice_index origins b → Path ws a b
 path_by_goal ws origins goals a b la lb g o e = path_append ws a _ b (subst (Path ws a) e (g.leads a la)) (o.leads b lb)

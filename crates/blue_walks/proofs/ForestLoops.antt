@@ -2,9 +2,9 @@
 use Rattle.std.proofs.Common.{◌≡◌, ℕ, zero, suc, ◌+◌, ◌<◌, cond, ◌==◌, List, [], ◌∷◌, ◌++◌, length, take, get_or, Some, refl, ap, sym, ◌∙◌, subst, ⊎_elim, arith}
 use Rattle.std.specs.Prelude.{slice_get, slice_index}
 use Rattle.std.proofs.lemmas.List.{map_more, get_or-take, length-take}
-use Rattle.stream_model.specs.Graph.{Wire}
+use Rattle.stream_model.specs.Graph.{Edge}
 use Rattle.stream_picture.specs.Shape.{Joins, Walk, stay, along, IsPolytree}
-use Rattle.blue_names.specs.declared.links.Link.{Link}
+use Rattle.blue_names.specs.declared.links.NumberedWire.{NumberedWire}
 use Rattle.blue_names.specs.Links.{AreInRange, wire_of_link, wires_of_links}
 use Rattle.blue_walks.specs.Forest.{wiring, Labels}
 use Rattle.blue_names.specs.Members.{is_in}
@@ -17,28 +17,28 @@ use Rattle.blue_walks.proofs.Forests.{Labels-more, Labels-alike, other_alike, no
 use Rattle.blue_walks.proofs.VisitSteps.{wire_in_range}
 
 -- the first links are in range where all are
-AreInRange-take : (count : ℕ) (ls : List Link) (n : ℕ) → AreInRange count ls → AreInRange count (take n ls)
+AreInRange-take : (count : ℕ) (ls : List NumberedWire) (n : ℕ) → AreInRange count ls → AreInRange count (take n ls)
 AreInRange-take count ls n r = λ k d lt.
     let short : k < n = omega (arith, lt, length-take n ls) in
     let long : k < length ls = omega (arith, lt, length-take n ls) in
-    subst (λ (l : Link). (l.from < count) × (l.to < count)) (sym (get_or-take n ls k d short)) (r k d long)
+    subst (λ (l : NumberedWire). (l.from < count) × (l.to < count)) (sym (get_or-take n ls k d short)) (r k d long)
 
 -- walks over the first wires are walks over all
-walk_up : (front whole : List Wire) → ((i : ℕ) (w : Wire) → slice_get front i ≡ Some w → slice_get whole i ≡ Some w) → (a b : ℕ) (is : List ℕ) → Walk (wiring front) a b is → Walk (wiring whole) a b is
+walk_up : (front whole : List Edge) → ((i : ℕ) (w : Edge) → slice_get front i ≡ Some w → slice_get whole i ≡ Some w) → (a b : ℕ) (is : List ℕ) → Walk (wiring front) a b is → Walk (wiring whole) a b is
 walk_up front whole up a b [] stay = stay
 walk_up front whole up a b (i ∷ is) (along {b = m} j p) =
     let k : Joins (wiring whole) i a m = record { wire = j.wire; at = up i j.wire j.at; ends = j.ends } in along k (walk_up front whole up m b is p)
 
-tree_of_front : (front whole : List Wire) → ((i : ℕ) (w : Wire) → slice_get front i ≡ Some w → slice_get whole i ≡ Some w) → IsPolytree (wiring whole) → IsPolytree (wiring front)
+tree_of_front : (front whole : List Edge) → ((i : ℕ) (w : Edge) → slice_get front i ≡ Some w → slice_get whole i ≡ Some w) → IsPolytree (wiring whole) → IsPolytree (wiring front)
 tree_of_front front whole up t = record { open_walks = λ a is p d. t.open_walks a is (walk_up front whole up a a is p) d }
 
-front_up : (ls : List Link) (n i : ℕ) (w : Wire) → slice_get (wires_of_links (take n ls)) i ≡ Some w → slice_get (wires_of_links ls) i ≡ Some w
+front_up : (ls : List NumberedWire) (n i : ℕ) (w : Edge) → slice_get (wires_of_links (take n ls)) i ≡ Some w → slice_get (wires_of_links ls) i ≡ Some w
 front_up ls zero i w h = cc
 front_up [] (suc n) i w h = h
 front_up (l ∷ ls) (suc n) zero w h = h
 front_up (l ∷ ls) (suc n) (suc i) w h = front_up ls n i w h
 
-module _ (ls : List Link) (i : ℕ) (d : Link) (count : ℕ) (old : List ℕ) (first second : List ℕ) (from to : ℕ) (lt : i < length ls) (range : AreInRange count ls)
+module _ (ls : List NumberedWire) (i : ℕ) (d : NumberedWire) (count : ℕ) (old : List ℕ) (first second : List ℕ) (from to : ℕ) (lt : i < length ls) (range : AreInRange count ls)
     (one : first ≡ old) (two : second ≡ old) (is_from : from ≡ slice_index first (get_or ls i d).from) (is_to : to ≡ slice_index second (get_or ls i d).to)
     (labels : Labels (wires_of_links (take i ls)) count (slice_index old)) where
   more : wires_of_links (take i ls) ++ wire_of_link (get_or ls i d) ∷ [] ≡ wires_of_links (take (i + 1) ls)

@@ -3,13 +3,13 @@ use Rattle.std.proofs.Common.{◌≡◌, ℕ, ◌<◌, true, false, cond, ◌==�
 use Rattle.std.specs.Prelude.{slice_get, ◌⊎◌}
 use Rattle.std.proofs.lemmas.Bool.{cases_eq, cases_Bool, eqb-true, eq-eqb, ne_eqb}
 use Rattle.std.proofs.lemmas.Option.{slice_get_within}
-use Rattle.stream_model.specs.Graph.{Graph, Wire}
+use Rattle.stream_model.specs.Graph.{Graph, Edge}
 use Rattle.stream_picture.specs.Shape.{Joins, Walk, stay, along, IsNew, AreDistinct, IsPolytree}
 use Rattle.blue_names.proofs.OutRows.{slice_get-push_old, slice_get-push_new, slice_get-push_cases}
 use Rattle.blue_walks.specs.Forest.{wiring, Linked, Labels}
 
 -- the ends of a wire, in either order
-abbrev Ends : Wire → ℕ → ℕ → Type 0
+abbrev Ends : Edge → ℕ → ℕ → Type 0
 Ends w a b = ((w.from ≡ a) × (w.to ≡ b)) ⊎ ((w.to ≡ a) × (w.from ≡ b))
 
 -- two walks, one after another
@@ -47,7 +47,7 @@ module _ (g : Graph) where
   over i a m b j f =
       let got : Some j.wire ≡ Some f.joins.wire = sym j.at ∙ f.joins.at in
       let same : j.wire ≡ f.joins.wire = cc in
-      let ends : Ends f.joins.wire a m = subst (λ (w : Wire). Ends w a m) same j.ends in
+      let ends : Ends f.joins.wire a m = subst (λ (w : Edge). Ends w a m) same j.ends in
       let first : f.to ≡ a → Short a b = λ e. record { by = f.by; walk = subst (λ x. Walk g x b f.by) e f.walk; distinct = f.distinct } in
       let second : f.to ≡ m → Short a b = λ e. record { by = i ∷ f.by; walk = along j (subst (λ x. Walk g x b f.by) e f.walk); distinct = (f.new, f.distinct) } in
       ⊎_elim
@@ -62,7 +62,7 @@ module _ (g : Graph) where
       let s = shorten _ b is p in
       ⊎_elim (λ (n : IsNew i s.by). record { by = i ∷ s.by; walk = along j s.walk; distinct = (n, s.distinct) }) (λ (f : Behind i b). over i a _ b j f) (find_wire i _ b s.by s.walk s.distinct)
 
-module _ (ws : List Wire) (w : Wire) where
+module _ (ws : List Edge) (w : Edge) where
   -- a wire of the list with one more
   joins_old : (i a b : ℕ) → Joins (wiring ws) i a b → Joins (wiring (ws ++ w ∷ [])) i a b
   joins_old i a b j = record { wire = j.wire; at = slice_get-push_old ws w j.wire i j.at; ends = j.ends }
@@ -73,7 +73,7 @@ module _ (ws : List Wire) (w : Wire) where
 
   joins_cases : (i a b : ℕ) → Joins (wiring (ws ++ w ∷ [])) i a b → Joins (wiring ws) i a b ⊎ ((i ≡ length ws) × Ends w a b)
   joins_cases i a b j =
-      ⊎_elim (λ at. inl (record { wire = j.wire; at = at; ends = j.ends })) (λ e. inr (e.0, subst (λ (u : Wire). Ends u a b) e.1 j.ends)) (slice_get-push_cases ws w j.wire i j.at)
+      ⊎_elim (λ at. inl (record { wire = j.wire; at = at; ends = j.ends })) (λ e. inr (e.0, subst (λ (u : Edge). Ends u a b) e.1 j.ends)) (slice_get-push_cases ws w j.wire i j.at)
 
   -- walks over the old wires do not use the new one
   new_in_old : (a b : ℕ) (is : List ℕ) → Walk (wiring ws) a b is → IsNew (length ws) is
@@ -88,7 +88,7 @@ module _ (ws : List Wire) (w : Wire) where
       ⊎_elim (λ o. along o (old_walk _ b is p n.1)) (λ e. absurd (n.0 (sym e.0))) (joins_cases i a _ j)
 
   module _ (count : ℕ) (label : ℕ → ℕ) (ls : Labels ws count label) where
-    ends_alike : (v : Wire) (a b : ℕ) → Ends v a b → label v.from ≡ label v.to → label a ≡ label b
+    ends_alike : (v : Edge) (a b : ℕ) → Ends v a b → label v.from ≡ label v.to → label a ≡ label b
     ends_alike v a b e h = ⊎_elim (λ p. sym (ap label p.0) ∙ h ∙ ap label p.1) (λ p. sym (ap label p.0) ∙ sym h ∙ ap label p.1) e
 
     joined_alike : (i a b : ℕ) → Joins (wiring ws) i a b → label a ≡ label b
@@ -125,7 +125,7 @@ module _ (ws : List Wire) (w : Wire) where
 
     module _ (from : w.from < count) (to : w.to < count) (apart : label w.from ≡ label w.to → ⊥) (label' : ℕ → ℕ)
         (relabeled : (a : ℕ) → a < count → label' a ≡ cond (label a == label w.to) (label w.from) (label a))
-        (range : (i : ℕ) (v : Wire) → slice_get ws i ≡ Some v → (v.from < count) × (v.to < count)) where
+        (range : (i : ℕ) (v : Edge) → slice_get ws i ≡ Some v → (v.from < count) × (v.to < count)) where
       no_crossing : (a : ℕ) → Crosses a a → ⊥
       no_crossing a c =
           let e : label c.x ≡ label c.y = sym c.before ∙ sym c.after in
@@ -175,7 +175,7 @@ module _ (ws : List Wire) (w : Wire) where
           (cases_Bool (label b == label w.to)))
           (cases_Bool (label a == label w.to))
 
-      alike_old : (i : ℕ) (v : Wire) → slice_get ws i ≡ Some v → label' v.from ≡ label' v.to
+      alike_old : (i : ℕ) (v : Edge) → slice_get ws i ≡ Some v → label' v.from ≡ label' v.to
       alike_old i v at =
           let r = range i v at in
           relabeled v.from r.0 ∙ ap (λ l. cond (l == label w.to) (label w.from) l) (ls.alike i v at) ∙ sym (relabeled v.to r.1)
@@ -187,7 +187,7 @@ module _ (ws : List Wire) (w : Wire) where
       pub Labels-more : Labels (ws ++ w ∷ []) count label'
       Labels-more = record {
         sound = sound_more;
-        alike = λ i v at. ⊎_elim (alike_old i v) (λ e. subst (λ (u : Wire). label' u.from ≡ label' u.to) (sym e.1) alike_new) (slice_get-push_cases ws w v i at);
+        alike = λ i v at. ⊎_elim (alike_old i v) (λ e. subst (λ (u : Edge). label' u.from ≡ label' u.to) (sym e.1) alike_new) (slice_get-push_cases ws w v i at);
         tree = tree_more;
       }
 
@@ -204,7 +204,7 @@ Labels-none count label own = record {
     nothing a b (i ∷ is) (along j p) = let none : None ≡ Some j.wire = j.at in cc
 
 -- labels that are alike just where others are
-pub Labels-alike : (ws : List Wire) (count : ℕ) (label label' : ℕ → ℕ) → ((i : ℕ) (w : Wire) → slice_get ws i ≡ Some w → (w.from < count) × (w.to < count))
+pub Labels-alike : (ws : List Edge) (count : ℕ) (label label' : ℕ → ℕ) → ((i : ℕ) (w : Edge) → slice_get ws i ≡ Some w → (w.from < count) × (w.to < count))
     → ((a b : ℕ) → a < count → b < count → label' a ≡ label' b → label a ≡ label b) → ((a b : ℕ) → a < count → b < count → label a ≡ label b → label' a ≡ label' b) → Labels ws count label → Labels ws count label'
 Labels-alike ws count label label' range forth back ls = record {
   sound = λ a b la lb e. ls.sound a b la lb (forth a b la lb e);

@@ -7,7 +7,7 @@ use Rattle.std.proofs.lemmas.Bool.{cases_eq, eqb-true, eq-eqb, ne_eqb, or_cases}
 use Rattle.std.proofs.lemmas.List.{take_more, take_all}
 use Rattle.std.proofs.lemmas.Map.Keys.{IsDistinct-push}
 use Rattle.std.proofs.lemmas.Map.Steps.{length-le_from_distinct_below}
-use Rattle.stream_model.specs.Graph.{Wire}
+use Rattle.stream_model.specs.Graph.{Edge}
 use Rattle.blue_rules.specs.Paths.{Path, Leads, stay, along}
 use Rattle.blue_names.specs.Members.{is_in}
 use Rattle.blue_walks.specs.Marks.{Reaches, mark_at}
@@ -65,7 +65,7 @@ is_in-at [] k d lt = absurd (omega arith)
 is_in-at (n ∷ ns) zero d lt = ap (λ b. b || is_in n ns) (eq-eqb n n refl)
 is_in-at (n ∷ ns) (suc k) d lt = ap (λ b. (n == get_or ns k d) || b) (is_in-at ns k d (omega arith)) ∙ or_true (n == get_or ns k d)
 
-module _ (ws : List Wire) where
+module _ (ws : List Edge) where
   -- a walk and one more wire
   pub path_on : (a b c : ℕ) → Path ws a b → Leads ws b c → Path ws a c
   path_on a b c stay l = along l stay
@@ -119,13 +119,13 @@ module _ (ws : List Wire) where
 
   -- the wires out of the first k nodes lead to nodes of the list
   pub record IsClosed (order : List ℕ) (k : ℕ) : Type 0 where
-    pub leads : (i : ℕ) (w : Wire) → slice_get ws i ≡ Some w → is_in w.from (take k order) ≡ true → is_in w.to order ≡ true
+    pub leads : (i : ℕ) (w : Edge) → slice_get ws i ≡ Some w → is_in w.from (take k order) ≡ true → is_in w.to order ≡ true
 
   pub IsClosed-none : (order : List ℕ) → IsClosed order 0
   IsClosed-none order = record { leads = λ i w at h. let e : false ≡ true = h in cc }
 
   pub IsClosed-more : (order later : List ℕ) (k : ℕ) (d : ℕ) → k < length order → take (k + 1) later ≡ take (k + 1) order → ((q : ℕ) → is_in q order ≡ true → is_in q later ≡ true)
-      → ((i : ℕ) (w : Wire) → slice_get ws i ≡ Some w → w.from ≡ get_or order k d → is_in w.to later ≡ true) → IsClosed order k → IsClosed later (k + 1)
+      → ((i : ℕ) (w : Edge) → slice_get ws i ≡ Some w → w.from ≡ get_or order k d → is_in w.to later ≡ true) → IsClosed order k → IsClosed later (k + 1)
   IsClosed-more order later k d lt front kept here c = record {
     leads = λ i w at h.
         let t : take (k + 1) later ≡ take k order ++ get_or order k d ∷ [] = front ∙ take_more order k d lt in
@@ -134,7 +134,7 @@ module _ (ws : List Wire) where
   }
 
   -- a list that no wire leaves has all that a walk from it reaches
-  stays_in : (order : List ℕ) → ((i : ℕ) (w : Wire) → slice_get ws i ≡ Some w → is_in w.from order ≡ true → is_in w.to order ≡ true) → (a b : ℕ) → Path ws a b → is_in a order ≡ true → is_in b order ≡ true
+  stays_in : (order : List ℕ) → ((i : ℕ) (w : Edge) → slice_get ws i ≡ Some w → is_in w.from order ≡ true → is_in w.to order ≡ true) → (a b : ℕ) → Path ws a b → is_in a order ≡ true → is_in b order ≡ true
   stays_in order leads a b stay h = h
   stays_in order leads a b (along f p) h =
       let from : is_in f.is.from order ≡ true = ap (λ k. is_in k order) f.from ∙ h in

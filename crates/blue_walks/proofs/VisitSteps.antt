@@ -6,8 +6,8 @@ use Rattle.std.proofs.lemmas.List.{take_more}
 use Rattle.std.proofs.lemmas.Option.{slice_get_within, slice_get-get_or}
 use Rattle.std.specs.declared.vec.Vec.{Vec}
 use Rattle.std.specs.declared.alloc.Global.{Global}
-use Rattle.stream_model.specs.Graph.{Wire}
-use Rattle.blue_names.specs.declared.links.Link.{Link}
+use Rattle.stream_model.specs.Graph.{Edge}
+use Rattle.blue_names.specs.declared.links.NumberedWire.{NumberedWire}
 use Rattle.blue_names.specs.Links.{AreInRange, wire_of_link, wires_of_links}
 use Rattle.blue_names.specs.Outs.{IsOuts, row_at}
 use Rattle.blue_rules.specs.Paths.{Path}
@@ -17,23 +17,23 @@ use Rattle.blue_walks.specs.Visits.{Visits}
 use Rattle.blue_walks.proofs.Reaching.{is_in-push, is_in-at, path_on}
 
 -- a wire of a list of links is one of them
-link_of : (ls : List Link) (i : ℕ) (w : Wire) → slice_get (wires_of_links ls) i ≡ Some w → (l : Link) × (slice_get ls i ≡ Some l) × (wire_of_link l ≡ w)
+link_of : (ls : List NumberedWire) (i : ℕ) (w : Edge) → slice_get (wires_of_links ls) i ≡ Some w → (l : NumberedWire) × (slice_get ls i ≡ Some l) × (wire_of_link l ≡ w)
 link_of [] i w h = cc
 link_of (l ∷ ls) zero w h = (l, refl, cc)
 link_of (l ∷ ls) (suc i) w h = link_of ls i w h
 
 -- its ends are in range
-pub wire_in_range : (count : ℕ) (ls : List Link) (i : ℕ) (w : Wire) → AreInRange count ls → slice_get (wires_of_links ls) i ≡ Some w → (w.from < count) × (w.to < count)
+pub wire_in_range : (count : ℕ) (ls : List NumberedWire) (i : ℕ) (w : Edge) → AreInRange count ls → slice_get (wires_of_links ls) i ≡ Some w → (w.from < count) × (w.to < count)
 wire_in_range count ls i w range h =
     let l = link_of ls i w h in
     let lt : i < length ls = slice_get_within ls i l.0 l.1 in
     let got : Some (get_or ls i l.0) ≡ Some l.0 = sym (slice_get-get_or ls i l.0 lt) ∙ l.1 in
     let is : get_or ls i l.0 ≡ l.0 = cc in
     let at = range i l.0 lt in
-    let r : (l.0.from < count) × (l.0.to < count) = subst (λ (k : Link). (k.from < count) × (k.to < count)) is at in
-    subst (λ (u : Wire). (u.from < count) × (u.to < count)) l.2 r
+    let r : (l.0.from < count) × (l.0.to < count) = subst (λ (k : NumberedWire). (k.from < count) × (k.to < count)) is at in
+    subst (λ (u : Edge). (u.from < count) × (u.to < count)) l.2 r
 
-pub Visits-none : (ws : List Wire) (node count : ℕ) (marks : List Bool) (order : List ℕ) → Visits ws node count marks marks order order []
+pub Visits-none : (ws : List Edge) (node count : ℕ) (marks : List Bool) (order : List ℕ) → Visits ws node count marks marks order order []
 Visits-none ws node count marks order = record {
   reaches = λ start p r. r;
   leads = λ start p r i w at h. cc;
@@ -43,12 +43,12 @@ Visits-none ws node count marks order = record {
 }
 
 -- the target of a wire out of a node is reached with it
-pub target_path : (ws : List Wire) (start node i target : ℕ) (w : Wire) → slice_get ws i ≡ Some w → w.from ≡ node → w.to ≡ target → Path ws start node → Path ws start target
+pub target_path : (ws : List Edge) (start node i target : ℕ) (w : Edge) → slice_get ws i ≡ Some w → w.from ≡ node → w.to ≡ target → Path ws start node → Path ws start target
 target_path ws start node i target w at from to p = path_on ws start node target p (record { wire = i; is = w; at = at; from = from; to = to })
 
-module _ (ws : List Wire) (node count : ℕ) (marks now next : List Bool) (order mid later : List ℕ) (row : List ℕ) (v : Visits ws node count marks now order mid row) where
+module _ (ws : List Edge) (node count : ℕ) (marks now next : List Bool) (order mid later : List ℕ) (row : List ℕ) (v : Visits ws node count marks now order mid row) where
   -- one more wire, whose target arrives
-  pub Visits-more : (n target : ℕ) → ((w : Wire) → slice_get ws n ≡ Some w → Some target ≡ Some w.to) → ((start : ℕ) → Path ws start node → Path ws start target) → target < count
+  pub Visits-more : (n target : ℕ) → ((w : Edge) → slice_get ws n ≡ Some w → Some target ≡ Some w.to) → ((start : ℕ) → Path ws start node → Path ws start target) → target < count
       → ((start : ℕ) → Path ws start target → target < count → Reaches ws start count now mid → Reaches ws start count next later)
       → length mid ≤ length later → ((k : ℕ) → k ≤ length mid → take k later ≡ take k mid) → ((i : ℕ) → is_in i mid ≡ true → is_in i later ≡ true)
       → ((start : ℕ) → Reaches ws start count now mid → is_in target later ≡ true) → Visits ws node count marks next order later (row ++ n ∷ [])
@@ -69,7 +69,7 @@ module _ (ws : List Wire) (node count : ℕ) (marks now next : List Bool) (order
   }
 
   -- a number of no wire
-  pub Visits-no_wire : (n : ℕ) → ((w : Wire) → slice_get ws n ≡ Some w → None ≡ Some w.to) → Visits ws node count marks now order mid (row ++ n ∷ [])
+  pub Visits-no_wire : (n : ℕ) → ((w : Edge) → slice_get ws n ≡ Some w → None ≡ Some w.to) → Visits ws node count marks now order mid (row ++ n ∷ [])
   Visits-no_wire n none = record {
     reaches = v.reaches;
     leads = λ start p r i w at h.
@@ -85,16 +85,16 @@ module _ (ws : List Wire) (node count : ℕ) (marks now next : List Bool) (order
   }
 
 -- the wires in the row of a node come from it
-pub from_row : (rows : List (Vec ℕ Global)) (ws : List Wire) (node : ℕ) (row : List ℕ) (k d : ℕ) → IsOuts rows ws → row ≡ row_at rows node → k < length row
-    → (w : Wire) → slice_get ws (get_or row k d) ≡ Some w → w.from ≡ node
+pub from_row : (rows : List (Vec ℕ Global)) (ws : List Edge) (node : ℕ) (row : List ℕ) (k d : ℕ) → IsOuts rows ws → row ≡ row_at rows node → k < length row
+    → (w : Edge) → slice_get ws (get_or row k d) ≡ Some w → w.from ≡ node
 from_row rows ws node row k d outs is lt w at =
     let there : is_in (get_or row k d) (row_at rows node) ≡ true = ap (is_in (get_or row k d)) (sym is) ∙ is_in-at row k d lt in
     let s = outs.sound node (get_or row k d) there in
     let same : Some s.0 ≡ Some w = sym s.1 ∙ at in
     let e : s.0 ≡ w = cc in
-    subst (λ (u : Wire). u.from ≡ node) e s.2
+    subst (λ (u : Edge). u.from ≡ node) e s.2
 
 -- one more of a row
-pub Visits-take : (ws : List Wire) (node count : ℕ) (marks marks' : List Bool) (order order' : List ℕ) (row : List ℕ) (k d : ℕ) → k < length row
+pub Visits-take : (ws : List Edge) (node count : ℕ) (marks marks' : List Bool) (order order' : List ℕ) (row : List ℕ) (k d : ℕ) → k < length row
     → Visits ws node count marks marks' order order' (take k row ++ get_or row k d ∷ []) → Visits ws node count marks marks' order order' (take (k + 1) row)
 Visits-take ws node count marks marks' order order' row k d lt v = subst (Visits ws node count marks marks' order order') (sym (take_more row k d lt)) v

@@ -1,7 +1,7 @@
 -- The nodes that a walk along wires has reached so far.
 use Rattle.std.specs.Prelude.{◌≡◌, ℕ, ◌<◌, nat_eq, Bool, true, false, List, slice_get, Option, Some, None}
 use Rattle.std.specs.List.{IsDistinct}
-use Rattle.stream_model.specs.Graph.{Wire}
+use Rattle.stream_model.specs.Graph.{Edge}
 use Rattle.blue_rules.specs.Paths.{Path}
 use Rattle.blue_names.specs.Members.{is_in}
 
@@ -14,7 +14,7 @@ abbrev pub mark_at : List Bool → ℕ → Bool
 mark_at marks i = mark_in (slice_get marks i)
 
 -- the nodes in order of arrival: just these are marked, none comes twice, and a walk leads to each
-pub record Reaches (ws : List Wire) (start count : ℕ) (marks : List Bool) (order : List ℕ) : Type 0 where
+pub record Reaches (ws : List Edge) (start count : ℕ) (marks : List Bool) (order : List ℕ) : Type 0 where
   pub marked : (i : ℕ) → mark_at marks i ≡ is_in i order
   pub walked : (i : ℕ) → is_in i order ≡ true → Path ws start i
   pub below : (i : ℕ) → is_in i order ≡ true → i < count

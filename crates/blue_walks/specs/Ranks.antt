@@ -1,6 +1,6 @@
 -- Numbers of nodes that never fall along a wire.
 use Rattle.std.specs.Prelude.{◌≡◌, ℕ, ◌≤◌, List, slice_get, slice_index, Some}
-use Rattle.stream_model.specs.Graph.{Wire}
+use Rattle.stream_model.specs.Graph.{Edge}
 
-pub record NeverFalls (ws : List Wire) (ranks : List ℕ) : Type 0 where
-  pub along : (i : ℕ) (w : Wire) → slice_get ws i ≡ Some w → slice_index ranks w.from ≤ slice_index ranks w.to
+pub record NeverFalls (ws : List Edge) (ranks : List ℕ) : Type 0 where
+  pub along : (i : ℕ) (w : Edge) → slice_get ws i ≡ Some w → slice_index ranks w.from ≤ slice_index ranks w.to

@@ -9,7 +9,7 @@ ghost use Rattle.blue_walks.specs.Components.{AreOrigins, AreGoals};
 use crate::components::{Components, components_of};
 use crate::marks::{is_marked, reach};
 use crate::ranks::rank_of;
-use blue_names::links::Link;
+use blue_names::links::NumberedWire;
 use elem_core::why::NoMemory;
 use std::alloc::Global;
 
@@ -18,7 +18,7 @@ use std::alloc::Global;
 fn leads_back(
     alloc: Global,
     count: usize,
-    links: &[Link],
+    links: &[NumberedWire],
     outs: &[Vec<usize>],
     found: &Components,
     from: usize,
@@ -50,7 +50,7 @@ fn leads_back(
 pub fn first_closed(
     alloc: Global,
     count: usize,
-    links: &[Link],
+    links: &[NumberedWire],
     outs: &[Vec<usize>],
 ) -> Result<Option<usize>, NoMemory>
     requires outs { IsOuts outs.now (wires_of_links links.now) }

@@ -7,7 +7,7 @@ ghost use Rattle.blue_walks.specs.Components.{AreOrigins, AreGoals};
 use crate::classes::own_labels;
 use crate::depth::{ins_of, sources_of, targets_of, walk_all};
 use crate::ranks::{rank_of, tested};
-use blue_names::links::{Link, link_at};
+use blue_names::links::{NumberedWire, link_at};
 use elem_core::why::NoMemory;
 use std::alloc::Global;
 
@@ -23,7 +23,7 @@ pub struct Components {
 }
 
 /// The end of a wire within a component gets the origin of its beginning.
-fn pass_origin(links: &[Link], ranks: &[usize], i: usize, origins: &mut Vec<usize>)
+fn pass_origin(links: &[NumberedWire], ranks: &[usize], i: usize, origins: &mut Vec<usize>)
     requires { AreOrigins (wires_of_links links.now) origins.old.items }
     ensures origins { AreOrigins (wires_of_links links.now) origins.new.items }
     ensures length { vec_len origins.new ≡ vec_len origins.old }
@@ -41,7 +41,7 @@ fn pass_origin(links: &[Link], ranks: &[usize], i: usize, origins: &mut Vec<usiz
 }
 
 /// The beginning of a wire within a component gets the goal of its end.
-fn pass_goal(links: &[Link], ranks: &[usize], i: usize, goals: &mut Vec<usize>)
+fn pass_goal(links: &[NumberedWire], ranks: &[usize], i: usize, goals: &mut Vec<usize>)
     requires { AreGoals (wires_of_links links.now) goals.old.items }
     ensures goals { AreGoals (wires_of_links links.now) goals.new.items }
     ensures length { vec_len goals.new ≡ vec_len goals.old }
@@ -59,7 +59,7 @@ fn pass_goal(links: &[Link], ranks: &[usize], i: usize, goals: &mut Vec<usize>)
 fn origins_of(
     alloc: Global,
     count: usize,
-    links: &[Link],
+    links: &[NumberedWire],
     ranks: &[usize],
     wires: &[usize],
 ) -> Result<Vec<usize>, NoMemory>
@@ -77,7 +77,7 @@ fn origins_of(
 fn goals_of(
     alloc: Global,
     count: usize,
-    links: &[Link],
+    links: &[NumberedWire],
     ranks: &[usize],
     wires: &[usize],
 ) -> Result<Vec<usize>, NoMemory>
@@ -96,7 +96,7 @@ fn goals_of(
 pub fn components_of(
     alloc: Global,
     count: usize,
-    links: &[Link],
+    links: &[NumberedWire],
     outs: &[Vec<usize>],
 ) -> Result<Components, NoMemory>
     ensures ranks { IfOk result (λ found. NeverFalls (wires_of_links links.now) found.ranks.items) }

@@ -1,12 +1,12 @@
 // A depth-first walk over all nodes. Nothing is proved of what it finds: those who use it test that.
-use blue_names::links::Link;
+use blue_names::links::NumberedWire;
 use blue_names::outs::row_of;
 use elem_core::why::NoMemory;
 use std::alloc::Global;
 
 /// What is still to be done.
 #[derive(Clone, Copy)]
-enum Step {
+enum Visit {
     /// Begin at a node.
     Begin(usize),
     /// Follow a wire.
@@ -19,7 +19,7 @@ enum Step {
 #[derive(Drop)]
 pub struct Walk {
     /// What is still to be done, last first.
-    todo: Vec<Step>,
+    todo: Vec<Visit>,
     /// At how many nodes it has begun.
     begun: usize,
     /// For each node the number, from 1 on, of the beginning from which it was reached; 0 where it was not.
@@ -44,9 +44,9 @@ impl Walk {
         if node < self.trees.len() {
             self.trees[node] = self.begun;
         }
-        self.todo.push(Step::Leave(node))?;
+        self.todo.push(Visit::Leave(node))?;
         for i in row_of(rows, node) {
-            self.todo.push(Step::Follow(*i))?;
+            self.todo.push(Visit::Follow(*i))?;
         }
         Ok(())
     }
@@ -76,12 +76,12 @@ impl Walk {
         &mut self,
         ends: &[usize],
         rows: &[Vec<usize>],
-        step: Step,
+        step: Visit,
     ) -> Result<(), NoMemory> {
         match step {
-            Step::Begin(node) => self.begin(rows, node)?,
-            Step::Follow(i) => self.follow(ends, rows, i)?,
-            Step::Leave(node) => self.left.push(node)?,
+            Visit::Begin(node) => self.begin(rows, node)?,
+            Visit::Follow(i) => self.follow(ends, rows, i)?,
+            Visit::Leave(node) => self.left.push(node)?,
         }
         Ok(())
     }
@@ -92,7 +92,7 @@ fn new_walk(alloc: Global, starts: &[usize]) -> Result<Walk, NoMemory> {
     let mut todo = Vec::new(alloc);
     let mut trees = Vec::new(alloc);
     for start in starts {
-        todo.push(Step::Begin(*start))?;
+        todo.push(Visit::Begin(*start))?;
         trees.push(0_usize)?;
     }
     Ok(Walk {
@@ -124,7 +124,7 @@ pub fn walk_all(
 }
 
 /// The node to which each wire leads.
-pub fn targets_of(alloc: Global, links: &[Link]) -> Result<Vec<usize>, NoMemory> {
+pub fn targets_of(alloc: Global, links: &[NumberedWire]) -> Result<Vec<usize>, NoMemory> {
     let mut targets = Vec::new(alloc);
     for link in links {
         targets.push(link.to)?;
@@ -133,7 +133,7 @@ pub fn targets_of(alloc: Global, links: &[Link]) -> Result<Vec<usize>, NoMemory>
 }
 
 /// The node from which each wire leads.
-pub fn sources_of(alloc: Global, links: &[Link]) -> Result<Vec<usize>, NoMemory> {
+pub fn sources_of(alloc: Global, links: &[NumberedWire]) -> Result<Vec<usize>, NoMemory> {
     let mut sources = Vec::new(alloc);
     for link in links {
         sources.push(link.from)?;
@@ -150,7 +150,11 @@ fn put_in(rows: &mut Vec<Vec<usize>>, row: usize, number: usize) -> Result<(), N
 }
 
 /// The wires to each of so many nodes.
-pub fn ins_of(alloc: Global, count: usize, links: &[Link]) -> Result<Vec<Vec<usize>>, NoMemory> {
+pub fn ins_of(
+    alloc: Global,
+    count: usize,
+    links: &[NumberedWire],
+) -> Result<Vec<Vec<usize>>, NoMemory> {
     let mut rows = Vec::new(alloc);
     'rows: for _ in 0..count {
         rows.push(Vec::new(alloc))?;

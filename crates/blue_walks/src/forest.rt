@@ -6,12 +6,12 @@ ghost use Rattle.blue_walks.specs.Forest.{wiring};
 
 use crate::classes::{own_labels, own_members, unite};
 use crate::ranks::rank_of;
-use blue_names::links::Link;
+use blue_names::links::NumberedWire;
 use elem_core::why::NoMemory;
 use std::alloc::Global;
 
 /// Whether no closed walk uses each wire at most once, when directions are ignored.
-pub fn is_polytree(alloc: Global, count: usize, links: &[Link]) -> Result<bool, NoMemory>
+pub fn is_polytree(alloc: Global, count: usize, links: &[NumberedWire]) -> Result<bool, NoMemory>
     requires { AreInRange count links.now }
     ensures tree { IfOk result (λ b. b ≡ true → IsPolytree (wiring (wires_of_links links.now))) }
     ensures no_tree { IfOk result (λ b. b ≡ false → IsPolytree (wiring (wires_of_links links.now)) → ⊥) }

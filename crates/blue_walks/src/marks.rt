@@ -1,7 +1,7 @@
 // Which nodes a walk along wires can reach.
 ghost use Rattle.std.specs.Prelude.{◌≡◌, ◌<◌, ◌≤◌, ℕ, List, [], ◌∷◌, IfOk, OnOk, IsTrue, ◌↔◌, length, vec_len, slice_get, Some, true, false, Bool, ◌++◌};
 ghost use Rattle.std.proofs.Common.{take};
-ghost use Rattle.stream_model.specs.Graph.{Wire};
+ghost use Rattle.stream_model.specs.Graph.{Edge};
 ghost use Rattle.blue_rules.specs.Paths.{Path};
 ghost use Rattle.blue_names.specs.Links.{AreInRange, wires_of_links};
 ghost use Rattle.blue_names.specs.Outs.{IsOuts};
@@ -9,7 +9,7 @@ ghost use Rattle.blue_names.specs.Members.{is_in};
 ghost use Rattle.blue_walks.specs.Marks.{Reaches, mark_at};
 ghost use Rattle.blue_walks.specs.Visits.{Visits};
 
-use blue_names::links::Link;
+use blue_names::links::NumberedWire;
 use blue_names::outs::{row_of, target_of};
 use elem_core::why::NoMemory;
 use std::alloc::Global;
@@ -29,13 +29,13 @@ fn no_marks(alloc: Global, count: usize) -> Result<Vec<bool>, NoMemory>
 /// Marks a node to which a walk leads, and puts it last, where it is not marked.
 fn arrive(marks: &mut Vec<bool>, order: &mut Vec<usize>, node: usize) -> Result<(), NoMemory>
     requires { node < vec_len marks.old }
-    ensures reaches { (ws : List Wire) (start count : ℕ) → Path ws start node → node < count → Reaches ws start count marks.old.items order.old.items
+    ensures reaches { (ws : List Edge) (start count : ℕ) → Path ws start node → node < count → Reaches ws start count marks.old.items order.old.items
         → OnOk result (Reaches ws start count marks.new.items order.new.items) }
     ensures length { OnOk result (vec_len marks.new ≡ vec_len marks.old) }
     ensures longer { OnOk result (vec_len order.old ≤ vec_len order.new) }
     ensures front { (k : ℕ) → k ≤ vec_len order.old → OnOk result (take k order.new.items ≡ take k order.old.items) }
     ensures kept { (i : ℕ) → is_in i order.old.items ≡ true → OnOk result (is_in i order.new.items ≡ true) }
-    ensures here { (ws : List Wire) (start count : ℕ) → Reaches ws start count marks.old.items order.old.items → OnOk result (is_in node order.new.items ≡ true) }
+    ensures here { (ws : List Edge) (start count : ℕ) → Reaches ws start count marks.old.items order.old.items → OnOk result (is_in node order.new.items ≡ true) }
 {
     if !marks[node] {
         order.push(node)?;
@@ -46,13 +46,13 @@ fn arrive(marks: &mut Vec<bool>, order: &mut Vec<usize>, node: usize) -> Result<
 
 /// Marks the node to which a wire leads.
 fn follow(
-    links: &[Link],
+    links: &[NumberedWire],
     i: usize,
     marks: &mut Vec<bool>,
     order: &mut Vec<usize>,
 ) -> Result<(), NoMemory>
     requires { AreInRange (vec_len marks.old) links.now }
-    ensures visits { (node : ℕ) (first : List Bool) (begun row : List ℕ) → ((w : Wire) → slice_get (wires_of_links links.now) i ≡ Some w → w.from ≡ node)
+    ensures visits { (node : ℕ) (first : List Bool) (begun row : List ℕ) → ((w : Edge) → slice_get (wires_of_links links.now) i ≡ Some w → w.from ≡ node)
         → Visits (wires_of_links links.now) node (vec_len marks.old) first marks.old.items begun order.old.items row
         → OnOk result (Visits (wires_of_links links.now) node (vec_len marks.old) first marks.new.items begun order.new.items (row ++ i ∷ [])) }
     ensures length { OnOk result (vec_len marks.new ≡ vec_len marks.old) }
@@ -68,7 +68,7 @@ fn follow(
 
 /// Marks the nodes to which the wires out of a node lead.
 fn visit(
-    links: &[Link],
+    links: &[NumberedWire],
     outs: &[Vec<usize>],
     node: usize,
     marks: &mut Vec<bool>,
@@ -79,7 +79,7 @@ fn visit(
     ensures reaches { (start : ℕ) → Path (wires_of_links links.now) start node → Reaches (wires_of_links links.now) start (vec_len marks.old) marks.old.items order.old.items
         → OnOk result (Reaches (wires_of_links links.now) start (vec_len marks.old) marks.new.items order.new.items) }
     ensures leads { (start : ℕ) → Path (wires_of_links links.now) start node → Reaches (wires_of_links links.now) start (vec_len marks.old) marks.old.items order.old.items
-        → (i : ℕ) (w : Wire) → slice_get (wires_of_links links.now) i ≡ Some w → w.from ≡ node → OnOk result (is_in w.to order.new.items ≡ true) }
+        → (i : ℕ) (w : Edge) → slice_get (wires_of_links links.now) i ≡ Some w → w.from ≡ node → OnOk result (is_in w.to order.new.items ≡ true) }
     ensures length { OnOk result (vec_len marks.new ≡ vec_len marks.old) }
     ensures front { (k : ℕ) → k ≤ vec_len order.old → OnOk result (take k order.new.items ≡ take k order.old.items) }
     ensures kept { (i : ℕ) → is_in i order.old.items ≡ true → OnOk result (is_in i order.new.items ≡ true) }
@@ -94,7 +94,7 @@ fn visit(
 pub fn reach(
     alloc: Global,
     count: usize,
-    links: &[Link],
+    links: &[NumberedWire],
     outs: &[Vec<usize>],
     start: usize,
 ) -> Result<Vec<bool>, NoMemory>

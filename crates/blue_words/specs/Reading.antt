@@ -2,8 +2,8 @@
 use Rattle.std.specs.Prelude.{◌≡◌, ℕ, ℤ, Bool, false, if◌then◌else◌, List, [], ◌∷◌, Option, Some, None, Result, Ok, Err}
 use Rattle.std.specs.Str.{bytes_eq}
 use Rattle.blue_words.specs.declared.fault.BlueKind.{BlueKind}
-use Rattle.blue_words.specs.declared.fault.LineEnd.{LineEnd}
-use Rattle.blue_words.specs.declared.fault.LineEnd.TheVariants.{BadLine, NoMemory}
+use Rattle.blue_words.specs.declared.fault.FormEnd.{FormEnd}
+use Rattle.blue_words.specs.declared.fault.FormEnd.TheVariants.{BadLine, NoMemory}
 use Rattle.blue_words.specs.Numbers.{count_of, int_of, name_of, file_of}
 
 -- the value of a place, or what is wrong there
@@ -90,13 +90,13 @@ begins_with fixed [] = false
 begins_with fixed (w ∷ ws) = bytes_eq w fixed
 
 -- a reader's answer is what is read of the words; want of memory may stand in its place
-abbrev pub Reads : {A : Type 0} → Result (At A) LineEnd → Reading A → List (List ℕ) → Type 0
+abbrev pub Reads : {A : Type 0} → Result (At A) FormEnd → Reading A → List (List ℕ) → Type 0
 Reads (Ok p) reading left = reading ≡ Some (p, left)
 Reads (Err BadLine) reading left = reading ≡ None
 Reads (Err NoMemory) reading left = Unit {0}
 
 -- the same, where the value is seen by f
-abbrev pub ReadsAs : {A B : Type 0} → (A → B) → Result (At A) LineEnd → Reading B → List (List ℕ) → Type 0
+abbrev pub ReadsAs : {A B : Type 0} → (A → B) → Result (At A) FormEnd → Reading B → List (List ℕ) → Type 0
 ReadsAs f (Ok p) reading left = reading ≡ Some (at_map f p, left)
 ReadsAs f (Err BadLine) reading left = reading ≡ None
 ReadsAs f (Err NoMemory) reading left = Unit {0}

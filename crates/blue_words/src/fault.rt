@@ -32,7 +32,7 @@ pub struct BlueFault {
 
 /// Why no value was read of the words of a line.
 #[derive(Clone, Copy, PartialEq, Eq)]
-pub enum LineEnd {
+pub enum FormEnd {
     /// The words have not the form.
     BadLine,
     /// Memory was refused.
@@ -40,7 +40,7 @@ pub enum LineEnd {
 }
 
 /// The value of a place of a line, or what is wrong there: `BadName` or `BadNumber`.
-pub type Place<T> = Result<T, BlueKind>;
+pub type PlaceValue<T> = Result<T, BlueKind>;
 
 /// The number, from 1 to 6, by which reports name a fault. Rule: own.
 pub fn kind_number(kind: BlueKind) -> u8
@@ -56,12 +56,12 @@ pub fn kind_number(kind: BlueKind) -> u8
     }
 }
 
-impl From<AllocError> for LineEnd {
-    ghost use Rattle.blue_words.specs.declared.fault.LineEnd.TheVariants as ended;
+impl From<AllocError> for FormEnd {
+    ghost use Rattle.blue_words.specs.declared.fault.FormEnd.TheVariants as ended;
 
     ghost from_gives = { λ _ e. e ≡ ended.NoMemory };
 
-    fn from(_: AllocError) -> LineEnd {
-        LineEnd::NoMemory
+    fn from(_: AllocError) -> FormEnd {
+        FormEnd::NoMemory
     }
 }

@@ -4,14 +4,14 @@ ghost use Rattle.elem_core.specs.Line.{has_no_lf};
 ghost use Rattle.blue_words.specs.Reading.{both};
 ghost use Rattle.blue_words.specs.Numbers.{count_of, int_of, fitting, name_of, file_of};
 
-use crate::fault::{BlueKind, Place};
+use crate::fault::{BlueKind, PlaceValue};
 use crate::names::{is_file_name, is_name};
 use crate::numerals::numeral;
 use elem_core::line::Line;
 use std::alloc::{AllocError, Global};
 
 /// A number of 64 bits: 1 to 20 digits, else `BadNumber`. Rule: own.
-pub fn count_place(word: &[u8]) -> Place<u64>
+pub fn count_place(word: &[u8]) -> PlaceValue<u64>
     ensures { result ≡ count_of 64 word.now }
 {
     match numeral(word) {
@@ -21,7 +21,7 @@ pub fn count_place(word: &[u8]) -> Place<u64>
 }
 
 /// A number of 32 bits, of 1 to 20 digits, else `BadNumber`. Rule: own.
-pub fn size_place(word: &[u8]) -> Place<u32>
+pub fn size_place(word: &[u8]) -> PlaceValue<u32>
     ensures { result ≡ count_of 32 word.now }
 {
     match numeral(word) {
@@ -31,7 +31,7 @@ pub fn size_place(word: &[u8]) -> Place<u32>
 }
 
 /// A number of 64 bits with a sign: an optional `-` and 1 to 20 digits, else `BadNumber`. Rule: own.
-pub fn int_place(word: &[u8]) -> Place<i64>
+pub fn int_place(word: &[u8]) -> PlaceValue<i64>
     ensures { result ≡ int_of word.now }
 {
     if let Some((b'-', digits)) = word.split_first() {
@@ -47,7 +47,7 @@ pub fn int_place(word: &[u8]) -> Place<i64>
     }
 }
 
-fn below_zero(value: u128) -> Place<i64>
+fn below_zero(value: u128) -> PlaceValue<i64>
     ensures { result ≡ fitting (neg_ℤ (pos value)) }
 {
     if value == 0 {
@@ -59,7 +59,7 @@ fn below_zero(value: u128) -> Place<i64>
     }
 }
 
-fn above_zero(value: u128) -> Place<i64>
+fn above_zero(value: u128) -> PlaceValue<i64>
     ensures { result ≡ fitting (pos value) }
 {
     if value < 1 << 63 {
@@ -70,7 +70,7 @@ fn above_zero(value: u128) -> Place<i64>
 }
 
 /// Two values, or what is wrong with the first that has a fault. Rule: own.
-pub fn both<A: Drop, B: Drop>(first: Place<A>, second: Place<B>) -> Place<(A, B)>
+pub fn both<A: Drop, B: Drop>(first: PlaceValue<A>, second: PlaceValue<B>) -> PlaceValue<(A, B)>
     ensures { result ≡ both first second }
 {
     match first {
@@ -84,7 +84,7 @@ pub fn both<A: Drop, B: Drop>(first: Place<A>, second: Place<B>) -> Place<(A, B)
 
 /// A name, else `BadName`. Rule: own.
 #[tactic(auto, using(crate::proofs::Plain::no_lf_from_name))]
-pub fn name_place(alloc: Global, word: &[u8]) -> Result<Place<Line>, AllocError>
+pub fn name_place(alloc: Global, word: &[u8]) -> Result<PlaceValue<Line>, AllocError>
     ensures { IfOk result (λ p. p ≡ name_of word.now) }
 {
     if is_name(word) {
@@ -96,7 +96,7 @@ pub fn name_place(alloc: Global, word: &[u8]) -> Result<Place<Line>, AllocError>
 
 /// A file name, else `BadName`. Rule: own.
 #[tactic(auto, using(crate::proofs::Plain::no_lf_from_file))]
-pub fn file_place(alloc: Global, word: &[u8]) -> Result<Place<Line>, AllocError>
+pub fn file_place(alloc: Global, word: &[u8]) -> Result<PlaceValue<Line>, AllocError>
     ensures { IfOk result (λ p. p ≡ file_of word.now) }
 {
     if is_file_name(word) {

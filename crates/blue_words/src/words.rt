@@ -7,7 +7,7 @@ ghost use Rattle.elem_core.specs.Line.{has_no_lf};
 ghost use Rattle.blue_words.specs.Line.{is_plain};
 ghost use Rattle.blue_words.specs.Reading.{Reads, begins_with, word, name, file, int, count, size};
 
-use crate::fault::{LineEnd, Place};
+use crate::fault::{FormEnd, PlaceValue};
 use crate::places::{count_place, file_place, int_place, line_of, name_place, size_place};
 use elem_core::line::Line;
 use std::alloc::Global;
@@ -79,62 +79,62 @@ impl<'a> Words<'a> {
     }
 
     /// The next word, whatever it is, for a value that keeps it.
-    pub fn word(&mut self, alloc: Global) -> Result<Place<Line>, LineEnd>
+    pub fn word(&mut self, alloc: Global) -> Result<PlaceValue<Line>, FormEnd>
         ensures { Reads result (word self.old) self.new }
     {
         match self.next() {
             Some(word) => Ok(Ok(line_of(alloc, word)?)),
-            None => Err(LineEnd::BadLine),
+            None => Err(FormEnd::BadLine),
         }
     }
 
     /// The next word as a name.
-    pub fn name(&mut self, alloc: Global) -> Result<Place<Line>, LineEnd>
+    pub fn name(&mut self, alloc: Global) -> Result<PlaceValue<Line>, FormEnd>
         ensures { Reads result (name self.old) self.new }
     {
         match self.next() {
             Some(word) => Ok(name_place(alloc, word)?),
-            None => Err(LineEnd::BadLine),
+            None => Err(FormEnd::BadLine),
         }
     }
 
     /// The next word as a file name.
-    pub fn file(&mut self, alloc: Global) -> Result<Place<Line>, LineEnd>
+    pub fn file(&mut self, alloc: Global) -> Result<PlaceValue<Line>, FormEnd>
         ensures { Reads result (file self.old) self.new }
     {
         match self.next() {
             Some(word) => Ok(file_place(alloc, word)?),
-            None => Err(LineEnd::BadLine),
+            None => Err(FormEnd::BadLine),
         }
     }
 
     /// The next word as a number of 64 bits with a sign.
-    pub fn int(&mut self) -> Result<Place<i64>, LineEnd>
+    pub fn int(&mut self) -> Result<PlaceValue<i64>, FormEnd>
         ensures { Reads result (int self.old) self.new }
     {
         match self.next() {
             Some(word) => Ok(int_place(word)),
-            None => Err(LineEnd::BadLine),
+            None => Err(FormEnd::BadLine),
         }
     }
 
     /// The next word as a number of 64 bits.
-    pub fn count(&mut self) -> Result<Place<u64>, LineEnd>
+    pub fn count(&mut self) -> Result<PlaceValue<u64>, FormEnd>
         ensures { Reads result (count self.old) self.new }
     {
         match self.next() {
             Some(word) => Ok(count_place(word)),
-            None => Err(LineEnd::BadLine),
+            None => Err(FormEnd::BadLine),
         }
     }
 
     /// The next word as a number of 32 bits.
-    pub fn size(&mut self) -> Result<Place<u32>, LineEnd>
+    pub fn size(&mut self) -> Result<PlaceValue<u32>, FormEnd>
         ensures { Reads result (size self.old) self.new }
     {
         match self.next() {
             Some(word) => Ok(size_place(word)),
-            None => Err(LineEnd::BadLine),
+            None => Err(FormEnd::BadLine),
         }
     }
 }

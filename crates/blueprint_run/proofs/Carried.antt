@@ -7,7 +7,7 @@ use Rattle.stream_model.specs.declared.kind.Kind.{Kind}
 use Rattle.stream_model.specs.declared.kind.Kind.TheVariants.{Lines}
 use Rattle.stream_model.specs.declared.outcome.WireCount.{WireCount}
 use Rattle.stream_model.specs.Composed.{next, IsRanked}
-use Rattle.stream_model.specs.Graph.{Graph, Wire}
+use Rattle.stream_model.specs.Graph.{Graph, Edge}
 use Rattle.stream_model.specs.Graph as graph
 use Rattle.stream_model.specs.Linear.{Book}
 use Rattle.stream_model.specs.Node.{World}
@@ -56,11 +56,11 @@ is_lines _ = inr (λ name e. cc)
 
 -- ---- what was sent on each wire is a list, and how it stands
 
-module _ (g : Graph) (rank : ℕ → ℕ) (ranked : IsRanked g rank) (w : World) (items : ℕ → List Item) (from : (i : ℕ) (v : Wire) → slice_get g.wires i ≡ Some v → (n : graph.Node) × (slice_get g.nodes v.from ≡ Some n))
-    (texts : (u : ℕ) (v : Wire) (n : graph.Node) (name : List ℕ) → slice_get g.wires u ≡ Some v → slice_get g.nodes v.from ≡ Some n → n.kind ≡ Lines name → GivesTexts (items u))
-    (gives : (sent : ℕ → Outlook) (j : ℕ) (v : Wire) (n : graph.Node) → slice_get g.wires j ≡ Some v → slice_get g.nodes v.from ≡ Some n → ((name : List ℕ) → n.kind ≢ Lines name)
-    → ((u : ℕ) (x : Wire) → slice_get g.wires u ≡ Some x → x.to ≡ v.from → AgreesWith (sent u) (items u)) → AgreesWith (next g w sent j) (items j)) where
-  told_on : (j : ℕ) (v : Wire) (n : graph.Node) → slice_get g.wires j ≡ Some v → slice_get g.nodes v.from ≡ Some n → ((i : ℕ) → i < length g.wires → rank i < rank j → IsTold (items i))
+module _ (g : Graph) (rank : ℕ → ℕ) (ranked : IsRanked g rank) (w : World) (items : ℕ → List Item) (from : (i : ℕ) (v : Edge) → slice_get g.wires i ≡ Some v → (n : graph.Node) × (slice_get g.nodes v.from ≡ Some n))
+    (texts : (u : ℕ) (v : Edge) (n : graph.Node) (name : List ℕ) → slice_get g.wires u ≡ Some v → slice_get g.nodes v.from ≡ Some n → n.kind ≡ Lines name → GivesTexts (items u))
+    (gives : (sent : ℕ → Outlook) (j : ℕ) (v : Edge) (n : graph.Node) → slice_get g.wires j ≡ Some v → slice_get g.nodes v.from ≡ Some n → ((name : List ℕ) → n.kind ≢ Lines name)
+    → ((u : ℕ) (x : Edge) → slice_get g.wires u ≡ Some x → x.to ≡ v.from → AgreesWith (sent u) (items u)) → AgreesWith (next g w sent j) (items j)) where
+  told_on : (j : ℕ) (v : Edge) (n : graph.Node) → slice_get g.wires j ≡ Some v → slice_get g.nodes v.from ≡ Some n → ((i : ℕ) → i < length g.wires → rank i < rank j → IsTold (items i))
       → ((name : List ℕ) × (n.kind ≡ Lines name)) ⊎ ((name : List ℕ) → n.kind ≢ Lines name) → IsTold (items j)
   told_on j v n at is below (inl r) = let s = texts j v n r.0 at is r.1 in record { list = map text s.texts; end = s.end; is = s.is }
   told_on j v n at is below (inr other) =
@@ -74,23 +74,23 @@ module _ (g : Graph) (rank : ℕ → ℕ) (ranked : IsRanked g rank) (w : World)
       let n = from j v.0 v.1 in
       told_on j v.0 n.0 v.1 n.1 below (is_lines n.0.kind)
 
-  pub told_sent : (i : ℕ) (v : Wire) → slice_get g.wires i ≡ Some v → IsTold (items i)
+  pub told_sent : (i : ℕ) (v : Edge) → slice_get g.wires i ≡ Some v → IsTold (items i)
   told_sent i v at = all_by_rank rank (length g.wires) (λ u. IsTold (items u)) told_by i (slice_get-below g.wires i v at)
 
 -- ---- what passed
 
-module _ (book : Book) (b : Blueprint) (wires : List WireCount) (picks : List Pick) (moves : ℕ → List ℕ) (items : ℕ → List Item) (counts : (u : ℕ) (v : Wire) → slice_get (blueprint_wires b) u ≡ Some v → sent_at wires u ≡ elements (items u))
-    (told_there : (i : ℕ) (v : Wire) → slice_get (blueprint_wires b) i ≡ Some v → IsTold (items i))
-    (sends : (plugs : List PlugHead) (taken : List (List ℕ)) → IsFit b plugs taken → KeepsPlugTypes plugs book → (i : ℕ) (v : Wire) → slice_get (blueprint_wires b) i ≡ Some v → SendsItsType plugs b.chains.items b.nodes.items (graph_of b) (unread book moves) i v (items i))
-    (gives : (w : World) → w.book ≡ book → HasPicks picks w → (sent : ℕ → Outlook) (j : ℕ) (v : Wire) (n : graph.Node) → slice_get (blueprint_wires b) j ≡ Some v → slice_get (graph_of b).nodes v.from ≡ Some n → ((name : List ℕ) → n.kind ≢ Lines name)
-    → ((u : ℕ) (x : Wire) → slice_get (blueprint_wires b) u ≡ Some x → x.to ≡ v.from → AgreesWith (sent u) (items u)) → AgreesWith (next (graph_of b) w sent j) (items j)) where
+module _ (book : Book) (b : Blueprint) (wires : List WireCount) (picks : List Pick) (moves : ℕ → List ℕ) (items : ℕ → List Item) (counts : (u : ℕ) (v : Edge) → slice_get (blueprint_wires b) u ≡ Some v → sent_at wires u ≡ elements (items u))
+    (told_there : (i : ℕ) (v : Edge) → slice_get (blueprint_wires b) i ≡ Some v → IsTold (items i))
+    (sends : (plugs : List PlugHead) (taken : List (List ℕ)) → IsFit b plugs taken → KeepsPlugTypes plugs book → (i : ℕ) (v : Edge) → slice_get (blueprint_wires b) i ≡ Some v → SendsItsType plugs b.chains.items b.nodes.items (graph_of b) (unread book moves) i v (items i))
+    (gives : (w : World) → w.book ≡ book → HasPicks picks w → (sent : ℕ → Outlook) (j : ℕ) (v : Edge) (n : graph.Node) → slice_get (blueprint_wires b) j ≡ Some v → slice_get (graph_of b).nodes v.from ≡ Some n → ((name : List ℕ) → n.kind ≢ Lines name)
+    → ((u : ℕ) (x : Edge) → slice_get (blueprint_wires b) u ≡ Some x → x.to ≡ v.from → AgreesWith (sent u) (items u)) → AgreesWith (next (graph_of b) w sent j) (items j)) where
   abbrev lists : ℕ → List Tree
   lists u = list_of (items u)
 
   abbrev ends : ℕ → End
   ends u = standing (items u)
 
-  counted : (i : ℕ) (v : Wire) → slice_get (blueprint_wires b) i ≡ Some v → sent_at wires i ≡ length (lists i)
+  counted : (i : ℕ) (v : Edge) → slice_get (blueprint_wires b) i ≡ Some v → sent_at wires i ≡ length (lists i)
   counted i v at =
       let s = told_there i v at in
       let list : lists i ≡ s.list = ap list_of s.is ∙ list_of_told s.list s.end in

@@ -11,7 +11,7 @@ use Rattle.stream_model.specs.declared.kind.Kind.TheVariants as kind
 use Rattle.stream_model.specs.declared.outcome.WireCount.{WireCount}
 use Rattle.stream_model.specs.declared.outcome.EndState.{EndState}
 use Rattle.stream_model.specs.declared.outcome.EndState.TheVariants.{Ended, Failed, Unended, WriteFault}
-use Rattle.stream_model.specs.Graph.{Graph, Wire, find_wire}
+use Rattle.stream_model.specs.Graph.{Graph, Edge, find_wire}
 use Rattle.stream_model.specs.Graph as graph
 use Rattle.stream_model.specs.Node.{World}
 use Rattle.stream_model.specs.Outlook.{Outlook}
@@ -32,8 +32,8 @@ use Rattle.nodes.specs.Drawing.{ended_lines}
 use Rattle.nodes.specs.Source.{Lines}
 use Rattle.nodes.specs.Sink.{Sink, StandsAs}
 use Rattle.nodes.specs.Ignoring.{Ignorer}
-use Rattle.nodes.specs.declared.node.Node.{Node}
-use Rattle.nodes.specs.declared.node.Node.TheVariants as node
+use Rattle.nodes.specs.declared.node.IslandNode.{IslandNode}
+use Rattle.nodes.specs.declared.node.IslandNode.TheVariants as node
 use Rattle.interpreter.specs.Picks.{pick_of}
 use Rattle.run_account.specs.Account.{Account, IsStill, took}
 use Rattle.run_account.specs.Items.{AgreesWith}
@@ -90,14 +90,14 @@ use Rattle.stream_model.specs.Linear.{Book}
 -- ---- the wires' counts
 
 -- the count of a wire in a picture is what was sent at its output
-sent_there : {N : Type 0} (a : Account N) (g : Graph) (u : ℕ) (v : Wire) → slice_get g.wires u ≡ Some v → sent_at (pictures.counts_of a g) u ≡ elements (a.near u).wire.sent
+sent_there : {N : Type 0} (a : Account N) (g : Graph) (u : ℕ) (v : Edge) → slice_get g.wires u ≡ Some v → sent_at (pictures.counts_of a g) u ≡ elements (a.near u).wire.sent
 sent_there a g u v at =
     let place : 0 + u ≡ u = omega arith in
     let there : slice_get (pictures.counts_of a g) u ≡ Some (wire_count v.lane (a.near u) (a.asked u)) = subst (λ (k : ℕ). slice_get (pictures.counts_of a g) u ≡ Some (wire_count v.lane (a.near k) (a.asked k))) place (counts_at a 0 g.wires u v at) in
     ap (λ (o : Option WireCount). elim o as (λ _. ℕ) [ Some c ↦ c.sent | None ↦ 0 ]) there
 
 -- a picture has a count for each wire
-counts_many : {N : Type 0} (a : Account N) (i : ℕ) (vs : List Wire) → length (pictures.counts_from a i vs) ≡ length vs
+counts_many : {N : Type 0} (a : Account N) (i : ℕ) (vs : List Edge) → length (pictures.counts_from a i vs) ≡ length vs
 counts_many a i [] = refl
 counts_many a i (v ∷ vs) = ap suc (counts_many a (i + 1) vs)
 
@@ -135,7 +135,7 @@ draws_told bytes first now items sent none e s = record {
 
 -- ---- how a sink stands at its place
 
-ended_stand : {S D L B : Type 0} (x : Node S D L B) (s : Stand) → stand_in x ≡ Some s → sink_ended x ≡ has_ended s.2
+ended_stand : {S D L B : Type 0} (x : IslandNode S D L B) (s : Stand) → stand_in x ≡ Some s → sink_ended x ≡ has_ended s.2
 ended_stand (node.Writing x) s f = let same : (x.node, x.count, x.end) ≡ s = some_one (x.node, x.count, x.end) s f in ap (λ (t : Stand). has_ended t.2) same
 ended_stand (node.Ignoring x) s f = let same : (x.node, 0, x.end) ≡ s = some_one (x.node, 0, x.end) s f in ap (λ (t : Stand). has_ended t.2) same
 ended_stand (node.Reading x) s f = absurd cc
@@ -148,7 +148,7 @@ ended_stand (node.FanOut x) s f = absurd cc
 ended_stand (node.Entering x) s f = absurd cc
 ended_stand (node.Leaving x) s f = absurd cc
 
-ended_as : {S D L B : Type 0} (o : Option (Node S D L B)) (x : Node S D L B) (s : Stand) → o ≡ Some x → stand_in x ≡ Some s → ended_there o ≡ has_ended s.2
+ended_as : {S D L B : Type 0} (o : Option (IslandNode S D L B)) (x : IslandNode S D L B) (s : Stand) → o ≡ Some x → stand_in x ≡ Some s → ended_there o ≡ has_ended s.2
 ended_as o x s e f = ap ended_there e ∙ ended_stand x s f
 
 sink_shape : (k : Kind) → oneway.is_sink k ≡ true → (outputs_of k == 0) ≡ true
@@ -192,54 +192,54 @@ none_unended (s ∷ ss) each = neither (is_unended s.2) (list_any (λ (t : Stand
 
 module _ {S D : Type 0} (L B : Type 0) (sources : S → SourceState) (drains : D → DrainState) (book : Book) where
   abbrev pub WroteLaw : Type 0
-  WroteLaw = (g : Graph) (a : Account (Node S D L B)) → IsRun sources drains book g a
+  WroteLaw = (g : Graph) (a : Account (IslandNode S D L B)) → IsRun sources drains book g a
       → (k : ℕ) (n : graph.Node) (first now : Sink D) → slice_get g.nodes k ≡ Some n → IsSinkAt a k first now → SinkWrote sources drains book g a k n first now
 
   abbrev TookLaw : Type 0
-  TookLaw = (g : Graph) (w : World) (rank : ℕ → ℕ) (a : Account (Node S D L B)) → IsRun sources drains w.book g a → Tells sources g w a → IsRanked g rank
+  TookLaw = (g : Graph) (w : World) (rank : ℕ → ℕ) (a : Account (IslandNode S D L B)) → IsRun sources drains w.book g a → Tells sources g w a → IsRanked g rank
       → (k : ℕ) (n : graph.Node) (name : List ℕ) (first now : Sink D) → slice_get g.nodes k ≡ Some n → n.kind ≡ kind.ToLines name → IsSinkAt a k first now → TookList (sink_outlook g w k n) now.end (took g a k n)
 
   abbrev SentLaw : Type 0
-  SentLaw = (g : Graph) (a : Account (Node S D L B)) → IsRun sources drains book g a
-      → (k : ℕ) (n : graph.Node) (name : List ℕ) (first now : Sink D) (u : ℕ) (v : Wire) → slice_get g.nodes k ≡ Some n → n.kind ≡ kind.ToLines name → IsSinkAt a k first now → slice_get g.wires u ≡ Some v → v.to ≡ k
+  SentLaw = (g : Graph) (a : Account (IslandNode S D L B)) → IsRun sources drains book g a
+      → (k : ℕ) (n : graph.Node) (name : List ℕ) (first now : Sink D) (u : ℕ) (v : Edge) → slice_get g.nodes k ≡ Some n → n.kind ≡ kind.ToLines name → IsSinkAt a k first now → slice_get g.wires u ≡ Some v → v.to ≡ k
       → SentTo now.end (elements (a.far u).wire.sent) now.count
 
   abbrev RestLaw : Type 0
-  RestLaw = (g : Graph) (a : Account (Node S D L B)) → IsRun sources drains book g a
-      → (k : ℕ) (n : graph.Node) (name : List ℕ) (first now : Sink D) (u : ℕ) (v : Wire) → slice_get g.nodes k ≡ Some n → n.kind ≡ kind.ToLines name → IsSinkAt a k first now → slice_get g.wires u ≡ Some v → v.to ≡ k
+  RestLaw = (g : Graph) (a : Account (IslandNode S D L B)) → IsRun sources drains book g a
+      → (k : ℕ) (n : graph.Node) (name : List ℕ) (first now : Sink D) (u : ℕ) (v : Edge) → slice_get g.nodes k ≡ Some n → n.kind ≡ kind.ToLines name → IsSinkAt a k first now → slice_get g.wires u ≡ Some v → v.to ≡ k
       → IsStill g a → now.end ≡ Unended → elements (a.far u).wire.sent ≡ now.count
 
   abbrev ReadsLaw : Type 0
-  ReadsLaw = (g : Graph) (a : Account (Node S D L B)) → IsRun sources drains book g a
-      → (k : ℕ) (n : graph.Node) (first now : Lines S) (u : ℕ) (v : Wire) (bytes : List ℕ) → slice_get g.nodes k ≡ Some n → IsSourceAt a k first now → slice_get g.wires u ≡ Some v → v.from ≡ k
+  ReadsLaw = (g : Graph) (a : Account (IslandNode S D L B)) → IsRun sources drains book g a
+      → (k : ℕ) (n : graph.Node) (first now : Lines S) (u : ℕ) (v : Edge) (bytes : List ℕ) → slice_get g.nodes k ≡ Some n → IsSourceAt a k first now → slice_get g.wires u ≡ Some v → v.from ≡ k
       → (sources first.reader.source).whole ≡ Some bytes → SentLines bytes (sources first.reader.source) (sources now.reader.source) (a.near u).wire.sent
 
   abbrev LawfulLaw : Type 0
-  LawfulLaw = (g : Graph) (w : World) (rank : ℕ → ℕ) (a : Account (Node S D L B)) → IsRun sources drains w.book g a → AreSettled g a
+  LawfulLaw = (g : Graph) (w : World) (rank : ℕ → ℕ) (a : Account (IslandNode S D L B)) → IsRun sources drains w.book g a → AreSettled g a
       → Tells sources g w a → IsRanked g rank → IsLawful g w (pictures.counts_of a g) (composed g w)
 
   abbrev RestsLaw : Type 0
-  RestsLaw = (g : Graph) (w : World) (rank : ℕ → ℕ) (a : Account (Node S D L B)) → IsRun sources drains w.book g a → IsStill g a
+  RestsLaw = (g : Graph) (w : World) (rank : ℕ → ℕ) (a : Account (IslandNode S D L B)) → IsRun sources drains w.book g a → IsStill g a
       → Tells sources g w a → IsRanked g rank → Rests g w (pictures.counts_of a g) (composed g w)
 
   abbrev MovesLaw : Type 0
-  MovesLaw = (g : Graph) (w : World) (rank : ℕ → ℕ) (a : Account (Node S D L B)) → IsRun sources drains w.book g a → AreSettled g a
+  MovesLaw = (g : Graph) (w : World) (rank : ℕ → ℕ) (a : Account (IslandNode S D L B)) → IsRun sources drains w.book g a → AreSettled g a
       → Tells sources g w a → IsRanked g rank → Fits g w
 
   abbrev MatchLaw : Type 0
-  MatchLaw = (g : Graph) (w : World) (a : Account (Node S D L B)) (outlook : ℕ → Outlook) → IsRun sources drains book g a → IsStill g a
+  MatchLaw = (g : Graph) (w : World) (a : Account (IslandNode S D L B)) (outlook : ℕ → Outlook) → IsRun sources drains book g a → IsStill g a
       → SinksMatch g w (pictures.counts_of a g) outlook (λ k. ended_there (a.nodes k))
 
   abbrev AgreeLaw : Type 0
-  AgreeLaw = (g : Graph) (w : World) (rank : ℕ → ℕ) (a : Account (Node S D L B)) → IsRun sources drains w.book g a
+  AgreeLaw = (g : Graph) (w : World) (rank : ℕ → ℕ) (a : Account (IslandNode S D L B)) → IsRun sources drains w.book g a
       → Tells sources g w a → IsRanked g rank → (i : ℕ) → i < length g.wires → AgreesWith (composed g w i) (a.near i).wire.sent
 
   abbrev TreesLaw : Type 0
   TreesLaw = (g : Graph) (w : World) (counts : List WireCount) (outlook : ℕ → Outlook) → IsWired g counts → Rests g w counts outlook → IsPolytree g → (ended : ℕ → Bool) → SinksMatch g w counts outlook ended
-      → (i : ℕ) (v : Wire) (n : graph.Node) → slice_get g.wires i ≡ Some v → slice_get g.nodes v.to ≡ Some n → oneway.is_sink n.kind ≡ true → ended v.to ≡ true
+      → (i : ℕ) (v : Edge) (n : graph.Node) → slice_get g.wires i ≡ Some v → slice_get g.nodes v.to ≡ Some n → oneway.is_sink n.kind ≡ true → ended v.to ≡ true
 
   abbrev IgnorerThere : Type 0
-  IgnorerThere = (g : Graph) (a : Account (Node S D L B)) → IsRun sources drains book g a
+  IgnorerThere = (g : Graph) (a : Account (IslandNode S D L B)) → IsRun sources drains book g a
       → (k : ℕ) (n : graph.Node) → slice_get g.nodes k ≡ Some n → n.kind ≡ kind.Ignore → (first : Ignorer) × ((now : Ignorer) × IsIgnorerAt a k first now)
 
   abbrev FitsLaw : Type 0
@@ -247,18 +247,18 @@ module _ {S D : Type 0} (L B : Type 0) (sources : S → SourceState) (drains : D
       → PassesRules plugs b.chains.items b.nodes.items g
 
   abbrev TypesLaw : Type 0
-  TypesLaw = (plugs : List PlugHead) (chains : List ChainDecl) (nodes : List blue.Node) (g : Graph) (w : World) (rank : ℕ → ℕ) (a : Account (Node S D L B)) → IsRun sources drains w.book g a → TellsPicks w a
+  TypesLaw = (plugs : List PlugHead) (chains : List ChainDecl) (nodes : List blue.Node) (g : Graph) (w : World) (rank : ℕ → ℕ) (a : Account (IslandNode S D L B)) → IsRun sources drains w.book g a → TellsPicks w a
       → PassesRules plugs chains nodes g → KeepsPlugTypes plugs w.book → IsRanked g rank
-      → (i : ℕ) (v : Wire) → slice_get g.wires i ≡ Some v → SendsItsType plugs chains nodes g w i v (a.near i).wire.sent
+      → (i : ℕ) (v : Edge) → slice_get g.wires i ≡ Some v → SendsItsType plugs chains nodes g w i v (a.near i).wire.sent
 
   abbrev GivesLaw : Type 0
-  GivesLaw = (g : Graph) (w : World) (a : Account (Node S D L B)) → IsRun sources drains w.book g a → TellsPicks w a
-      → (sent : ℕ → Outlook) (j : ℕ) (v : Wire) (n : graph.Node) → slice_get g.wires j ≡ Some v → slice_get g.nodes v.from ≡ Some n → ((name : List ℕ) → n.kind ≢ kind.Lines name)
-      → ((u : ℕ) (x : Wire) → slice_get g.wires u ≡ Some x → x.to ≡ v.from → AgreesWith (sent u) (a.near u).wire.sent) → AgreesWith (next g w sent j) (a.near j).wire.sent
+  GivesLaw = (g : Graph) (w : World) (a : Account (IslandNode S D L B)) → IsRun sources drains w.book g a → TellsPicks w a
+      → (sent : ℕ → Outlook) (j : ℕ) (v : Edge) (n : graph.Node) → slice_get g.wires j ≡ Some v → slice_get g.nodes v.from ≡ Some n → ((name : List ℕ) → n.kind ≢ kind.Lines name)
+      → ((u : ℕ) (x : Edge) → slice_get g.wires u ≡ Some x → x.to ≡ v.from → AgreesWith (sent u) (a.near u).wire.sent) → AgreesWith (next g w sent j) (a.near j).wire.sent
 
   abbrev TextsLaw : Type 0
-  TextsLaw = (g : Graph) (a : Account (Node S D L B)) → IsRun sources drains book g a
-      → (u : ℕ) (v : Wire) (n : graph.Node) (name : List ℕ) → slice_get g.wires u ≡ Some v → slice_get g.nodes v.from ≡ Some n → n.kind ≡ kind.Lines name → GivesTexts (a.near u).wire.sent
+  TextsLaw = (g : Graph) (a : Account (IslandNode S D L B)) → IsRun sources drains book g a
+      → (u : ℕ) (v : Edge) (n : graph.Node) (name : List ℕ) → slice_get g.wires u ≡ Some v → slice_get g.nodes v.from ≡ Some n → n.kind ≡ kind.Lines name → GivesTexts (a.near u).wire.sent
 
   pub record RunLaws : Type 0 where
     pub fits : FitsLaw
@@ -287,10 +287,10 @@ module _ {S D L B : Type 0} (sources : S → SourceState) (drains : D → DrainS
   abbrev nodes : List blue.Node
   nodes = b.nodes.items
 
-  abbrev left : Account (Node S D L B)
+  abbrev left : Account (IslandNode S D L B)
   left = l.account
 
-  abbrev last : List (Node S D L B)
+  abbrev last : List (IslandNode S D L B)
   last = l.nodes
 
   abbrev between : Moment sources drains book b ss ds left last
@@ -311,7 +311,7 @@ module _ {S D L B : Type 0} (sources : S → SourceState) (drains : D → DrainS
   sink_at : (k : ℕ) (file : List ℕ) → IsSinkInto nodes k file → ASink k file
   sink_at = sink_facts sources drains book handles b ss ds left last between old mid opens
 
-  profile : (k : ℕ) (n : blue.Node) (x : Node S D L B) → slice_get nodes k ≡ Some n → slice_get last k ≡ Some x → Profile sources drains k n x
+  profile : (k : ℕ) (n : blue.Node) (x : IslandNode S D L B) → slice_get nodes k ≡ Some n → slice_get last k ≡ Some x → Profile sources drains k n x
   profile = profiles sources drains book handles b ss ds left last between old mid opens
 
   lone : (n : List ℕ) → Contains (outputs_of_nodes nodes) n → Contains (option_to_list trace) n → ⊥
@@ -356,7 +356,7 @@ module _ {S D L B : Type 0} (sources : S → SourceState) (drains : D → DrainS
   wires_are : st.wires.items ≡ pictures.counts_of left g
   wires_are = l.wires
 
-  wire_count_at : (u : ℕ) (v : Wire) → slice_get (blueprint_wires b) u ≡ Some v → sent_at st.wires.items u ≡ elements (left.near u).wire.sent
+  wire_count_at : (u : ℕ) (v : Edge) → slice_get (blueprint_wires b) u ≡ Some v → sent_at st.wires.items u ≡ elements (left.near u).wire.sent
   wire_count_at u v at = ap (λ (c : List WireCount). sent_at c u) wires_are ∙ sent_there left g u v at
 
   -- the units are tied to what passed
@@ -374,7 +374,7 @@ module _ {S D L B : Type 0} (sources : S → SourceState) (drains : D → DrainS
     shape : oneway.is_sink node.kind ≡ true
     ended : ended_there (left.nodes s.0) ≡ has_ended s.2
     wire : ℕ
-    is : Wire
+    is : Edge
     there : slice_get (blueprint_wires b) wire ≡ Some is
     to : is.to ≡ s.0
 
@@ -448,7 +448,7 @@ module _ {S D L B : Type 0} (sources : S → SourceState) (drains : D → DrainS
     world_tells w is = drew.tells w is
 
     -- what was sent on each wire may pass
-    sent_agrees : (u : ℕ) (v : Wire) → slice_get (blueprint_wires b) u ≡ Some v → (w : World) → IsWorldOf book nodes drawn w → AgreesWith (composed g w u) (left.near u).wire.sent
+    sent_agrees : (u : ℕ) (v : Edge) → slice_get (blueprint_wires b) u ≡ Some v → (w : World) → IsWorldOf book nodes drawn w → AgreesWith (composed g w u) (left.near u).wire.sent
     sent_agrees u v at w is = let ranked = laws.ranked b can.plugs can.taken can.fit in laws.agree g w ranked.0 left (run_at w is.book_is) (world_tells w is) ranked.1 u (place_within (blueprint_wires b) u v at)
 
     -- one world that has the files

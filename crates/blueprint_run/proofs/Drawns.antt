@@ -9,8 +9,8 @@ use Rattle.stream_model.specs.Node.{World}
 use Rattle.stream_io.specs.Counts.{Grew}
 use Rattle.stream_io.specs.State.{FolderState, SourceState, DrainState}
 use Rattle.nodes.specs.Source.{Lines}
-use Rattle.nodes.specs.declared.node.Node.{Node}
-use Rattle.nodes.specs.declared.node.Node.TheVariants as node
+use Rattle.nodes.specs.declared.node.IslandNode.{IslandNode}
+use Rattle.nodes.specs.declared.node.IslandNode.TheVariants as node
 use Rattle.run_account.specs.Account.{Account}
 use Rattle.interpreter.specs.Picks.{picks_of}
 use Rattle.run_laws.specs.Telling.{TellsFile, TellsNode, TellsFiles, TellsPicks, Tells, moves_at}
@@ -36,11 +36,11 @@ use Rattle.stream_model.specs.Linear.{Book}
 abbrev blank : SourceState
 blank = record { name = []; whole = None; given = 0; faults = 0 }
 
-abbrev source_in : {S D L B : Type 0} → (S → SourceState) → Option (Node S D L B) → SourceState
+abbrev source_in : {S D L B : Type 0} → (S → SourceState) → Option (IslandNode S D L B) → SourceState
 source_in sources (Some (node.Reading x)) = sources x.reader.source
 source_in sources _ = blank
 
-source_there : {S D L B : Type 0} (sources : S → SourceState) (o : Option (Node S D L B)) (x : Lines S) → o ≡ Some (node.Reading x) → source_in sources o ≡ sources x.reader.source
+source_there : {S D L B : Type 0} (sources : S → SourceState) (o : Option (IslandNode S D L B)) (x : Lines S) → o ≡ Some (node.Reading x) → source_in sources o ≡ sources x.reader.source
 source_there sources o x e = rw e refl
 
 one_node : {A : Type 0} {o : Option A} (x y : A) → o ≡ Some x → o ≡ Some y → x ≡ y
@@ -50,12 +50,12 @@ told_whole : (o : Option (List ℕ)) (bytes : List ℕ) → o ≡ Some bytes →
 told_whole o bytes e = rw e refl
 
 -- a world that has the files as they were read tells of each source
-tells_node : {S D L B : Type 0} (sources : S → SourceState) (w : World) (n : graph.Node) (first now : Node S D L B)
+tells_node : {S D L B : Type 0} (sources : S → SourceState) (w : World) (n : graph.Node) (first now : IslandNode S D L B)
     → ((a c : Lines S) (name : List ℕ) → first ≡ node.Reading a → now ≡ node.Reading c → n.kind ≡ kind.Lines name → TellsFile (sources a.reader.source) (sources c.reader.source) (w.file name)) → TellsNode sources w n first now
 tells_node sources w n (node.Reading a) (node.Reading c) tells = λ name shape. tells a c name refl refl shape
 tells_node sources w n first now tells = tt
 
-abbrev pub drawn_of : {S D L B : Type 0} → (S → SourceState) → Account (Node S D L B) → List (Node S D L B) → Drawn
+abbrev pub drawn_of : {S D L B : Type 0} → (S → SourceState) → Account (IslandNode S D L B) → List (IslandNode S D L B) → Drawn
 drawn_of sources left last = record {
   bytes = λ k. unwrap_or (source_in sources (left.firsts k)).whole [];
   given = λ k. (source_in sources (left.nodes k)).given;
@@ -63,7 +63,7 @@ drawn_of sources left last = record {
   picks = picks_of (count_from 0 (length last)) last;
 }
 
-module _ {S D L B : Type 0} (sources : S → SourceState) (drains : D → DrainState) (book : Book) (handles : HandleLaws L B sources drains book) (b : Blueprint) (can : CanRun b) (ss : List S) (ds : List D) (left : Account (Node S D L B)) (last : List (Node S D L B)) (l : Moment sources drains book b ss ds left last)
+module _ {S D L B : Type 0} (sources : S → SourceState) (drains : D → DrainState) (book : Book) (handles : HandleLaws L B sources drains book) (b : Blueprint) (can : CanRun b) (ss : List S) (ds : List D) (left : Account (IslandNode S D L B)) (last : List (IslandNode S D L B)) (l : Moment sources drains book b ss ds left last)
     (old mid : FolderState) {others : List (List ℕ)} (opens : Opens old mid (inputs_of_nodes b.nodes.items) (outputs_of_nodes b.nodes.items) others (map sources ss) (map drains ds)) where
   abbrev nodes : List blue.Node
   nodes = b.nodes.items

@@ -10,7 +10,7 @@ use Rattle.port_core.specs.Joint.{IsSound}
 use Rattle.port_core.specs.declared.view.InView.{InView}
 use Rattle.port_core.specs.declared.view.InView.TheVariants.{Pulled}
 use Rattle.port_core.specs.declared.view.OutView.{OutView}
-use Rattle.wire_core.specs.Cell.{Cell}
+use Rattle.wire_core.specs.Cell.{WireState}
 use Rattle.wire_core.specs.Counts.{elements}
 use Rattle.wire_core.specs.Marks.{wanted}
 use Rattle.wire_core.specs.Reading.{inp_of, got_of}
@@ -18,7 +18,7 @@ use Rattle.stream_model.specs.declared.kind.Kind.TheVariants as kind
 use Rattle.stream_model.specs.declared.outcome.EndState.{EndState}
 use Rattle.stream_model.specs.declared.outcome.EndState.TheVariants.{Ended, Failed, Unended, WriteFault}
 use Rattle.stream_model.specs.Composed.{inputs_of, count_from, received, lane_of, incoming, ports_of, composed, sink_outlook}
-use Rattle.stream_model.specs.Graph.{Graph, Wire, find_wire}
+use Rattle.stream_model.specs.Graph.{Graph, Edge, find_wire}
 use Rattle.stream_model.specs.Graph as graph
 use Rattle.stream_model.specs.Lane.{Carries}
 use Rattle.stream_model.specs.Linear.{Book, Work, passing, work_of}
@@ -28,8 +28,8 @@ use Rattle.stream_model.proofs.Compositions.{slice_get-below}
 use Rattle.stream_model.proofs.Lanes.{carried}
 use Rattle.stream_io.specs.State.{SourceState, DrainState}
 use Rattle.stage_law.specs.Held.{told}
-use Rattle.nodes.specs.declared.node.Node.{Node}
-use Rattle.nodes.specs.declared.node.Node.TheVariants as node
+use Rattle.nodes.specs.declared.node.IslandNode.{IslandNode}
+use Rattle.nodes.specs.declared.node.IslandNode.TheVariants as node
 use Rattle.nodes.specs.Ignoring.{Ignorer, IgnoreLaw, EndsWith}
 use Rattle.nodes.specs.Nodes.{node_row, node_law, node_asking, node_moves}
 use Rattle.nodes.specs.Ports.{OneInOf}
@@ -54,8 +54,8 @@ record Holds (lane : Option ℕ) (near far : ℕ) : Type 0 where
   least : far ≤ near
   most : near ≤ far + lane_size lane
 
-wire_holds : (lane : Option ℕ) (near far : Cell) (asked : ℕ) (q : Bool) → IsSound near.wire q → WireKeeps lane near far asked → Holds lane (elements near.wire.sent) (elements far.wire.sent)
-wire_holds None near far asked q sound k = let same : elements far.wire.sent ≡ elements near.wire.sent = ap (λ (c : Cell). elements c.wire.sent) k in record { least = omega (arith, same); most = omega (arith, same) }
+wire_holds : (lane : Option ℕ) (near far : WireState) (asked : ℕ) (q : Bool) → IsSound near.wire q → WireKeeps lane near far asked → Holds lane (elements near.wire.sent) (elements far.wire.sent)
+wire_holds None near far asked q sound k = let same : elements far.wire.sent ≡ elements near.wire.sent = ap (λ (c : WireState). elements c.wire.sent) k in record { least = omega (arith, same); most = omega (arith, same) }
 wire_holds (Some s) near far asked q sound k =
     let pushed : elements far.wire.sent ≡ length k.in_keeps.pushed_list = ap elements k.in_keeps.pushed_is ∙ elements_told k.in_keeps.pushed_list k.in_keeps.pushed_end in
     let taken : elements k.inp.taken ≡ length k.in_keeps.taken_list = ap elements k.in_keeps.taken_is ∙ elements_told k.in_keeps.taken_list k.in_keeps.taken_end in
@@ -134,7 +134,7 @@ ignore_told WriteFault o m f z l e with_end c a = absurd with_end
 
 -- ---- a wire of a run, and the sink at its input
 
-module _ {S D L B : Type 0} (sources : S → SourceState) (drains : D → DrainState) (book : Book) (g : Graph) (a : Account (Node S D L B)) (run : IsRun sources drains book g a) (u : ℕ) (v : Wire) (at : slice_get g.wires u ≡ Some v) where
+module _ {S D L B : Type 0} (sources : S → SourceState) (drains : D → DrainState) (book : Book) (g : Graph) (a : Account (IslandNode S D L B)) (run : IsRun sources drains book g a) (u : ℕ) (v : Edge) (at : slice_get g.wires u ≡ Some v) where
   near_sound : (q : _) × IsSound (a.near u).wire q
   near_sound = run.keeps.near_sound u (slice_get-below g.wires u v at)
 
@@ -191,7 +191,7 @@ module _ {S D L B : Type 0} (sources : S → SourceState) (drains : D → DrainS
     comes : Agrees (head_of (ports_of g w (composed g w) k (count_from 0 1))) sent.list sent.end
     comes =
         subst (λ (x : Option ℕ). Agrees (incoming g w (composed g w) x) sent.list sent.end) (sym ignored)
-        (subst (λ (x : Option Wire). Agrees (received g w (lane_of g w x) (composed g w u)) sent.list sent.end) (sym at) (received_agrees g w v.lane (composed g w u) sent.list sent.end sent.agrees))
+        (subst (λ (x : Option Edge). Agrees (received g w (lane_of g w x) (composed g w u)) sent.list sent.end) (sym at) (received_agrees g w v.lane (composed g w u) sent.list sent.end sent.agrees))
 
     passes : Agrees (sink_outlook g w k n) sent.list sent.end
     passes =

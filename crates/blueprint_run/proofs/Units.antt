@@ -4,7 +4,7 @@ use Rattle.std.specs.Prelude.{Option, Some, None}
 use Rattle.elem_core.specs.Tree.{Tree}
 use Rattle.elem_core.specs.declared.item.Item.{Item}
 use Rattle.elem_core.proofs.Prefixes.{prefix_length}
-use Rattle.stream_model.specs.Graph.{Wire}
+use Rattle.stream_model.specs.Graph.{Edge}
 use Rattle.stream_model.specs.Outlook.{Outlook, End, unended, ended, failed, Agrees}
 use Rattle.stream_picture.specs.Shape.{units_of, need_from}
 use Rattle.wire_core.specs.Counts.{elements}
@@ -15,7 +15,7 @@ units_more : (o : Option ℕ) (m n : ℕ) → m ≤ n → units_of o m ≤ units
 units_more None m n h = omega (arith, h)
 units_more (Some s) m n h = omega (arith, h)
 
-pub need_more : (vs : List Wire) (i : ℕ) (f h : ℕ → ℕ) → ((k : ℕ) → k < length vs → f (i + k) ≤ h (i + k)) → need_from i vs f ≤ need_from i vs h
+pub need_more : (vs : List Edge) (i : ℕ) (f h : ℕ → ℕ) → ((k : ℕ) → k < length vs → f (i + k) ≤ h (i + k)) → need_from i vs f ≤ need_from i vs h
 need_more [] i f h le = omega arith
 need_more (v ∷ vs) i f h le =
     let place : i + 0 ≡ i = omega arith in

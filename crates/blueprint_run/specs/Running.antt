@@ -11,7 +11,7 @@ use Rattle.stream_model.specs.declared.kind.Kind.TheVariants.{ToLines, Ignore}
 use Rattle.stream_model.specs.declared.outcome.WireCount.{WireCount}
 use Rattle.stream_model.specs.declared.outcome.EndState.{EndState}
 use Rattle.stream_model.specs.declared.outcome.EndState.TheVariants.{Unended, WriteFault}
-use Rattle.stream_model.specs.Graph.{Wire}
+use Rattle.stream_model.specs.Graph.{Edge}
 use Rattle.stream_model.specs.Node.{World}
 use Rattle.stream_model.specs.Composed.{composed, sink_outlook}
 use Rattle.stream_model.specs.Fits.{Fits}
@@ -47,14 +47,14 @@ pub record SinkLeaves (book : Book) (new : FolderState) (b : Blueprint) (d : Dra
   pub there : IsTrue new.tells → new.file file ≡ Some held
   pub tells : (w : World) → IsWorldOf book b.nodes.items d w → SinkTells (sink_outlook (graph_of b) w k (node_of n)) end held
   pub lines_are : whole_lines (length held) held ≡ count
-  pub sent : n.kind ≡ ToLines file → (u : ℕ) (v : Wire) → slice_get (blueprint_wires b) u ≡ Some v → v.to ≡ k → SentOn v.lane end (sent_at wires u) count
-  pub rests : n.kind ≡ ToLines file → IsTrue at_rest → end ≡ Unended → (u : ℕ) (v : Wire) → slice_get (blueprint_wires b) u ≡ Some v → v.to ≡ k → sent_at wires u ≡ count
+  pub sent : n.kind ≡ ToLines file → (u : ℕ) (v : Edge) → slice_get (blueprint_wires b) u ≡ Some v → v.to ≡ k → SentOn v.lane end (sent_at wires u) count
+  pub rests : n.kind ≡ ToLines file → IsTrue at_rest → end ≡ Unended → (u : ℕ) (v : Edge) → slice_get (blueprint_wires b) u ≡ Some v → v.to ≡ k → sent_at wires u ≡ count
 
 -- What is told of a sink that keeps nothing: it counts none, and how it stands and how many elements were sent to it are as its
 -- composed outlook lets them be.
 pub record IgnoreLeaves (book : Book) (b : Blueprint) (d : Drawn) (wires : List WireCount) (k : ℕ) (n : Node) (count : ℕ) (end : EndState) : Type 0 where
   pub none : count ≡ 0
-  pub tells : (w : World) → IsWorldOf book b.nodes.items d w → (u : ℕ) (v : Wire) → slice_get (blueprint_wires b) u ≡ Some v → v.to ≡ k
+  pub tells : (w : World) → IsWorldOf book b.nodes.items d w → (u : ℕ) (v : Edge) → slice_get (blueprint_wires b) u ≡ Some v → v.to ≡ k
       → IgnoreTells (sink_outlook (graph_of b) w k (node_of n)) end (sent_at wires u)
 
 -- The inputs were read, and each sink wrote what its outlook lets it write. No other file but that of the trace is changed, where the
@@ -73,7 +73,7 @@ pub record LeavesFiles (book : Book) (old new : FolderState) (b : Blueprint) (tr
       → SinkLeaves book new b drawn wires at_rest s.0 n file s.1 s.2
   pub ignores : (i : ℕ) (s : Stand) (n : Node) → slice_get sinks i ≡ Some s → slice_get b.nodes.items s.0 ≡ Some n → n.kind ≡ Ignore → IgnoreLeaves book b drawn wires s.0 n s.1 s.2
   pub others : IsTrue new.tells → (n : List ℕ) → ¬ (Contains (outputs_of_nodes b.nodes.items) n) → trace ≢ Some n → new.file n ≡ old.file n
-  pub draws : (k : ℕ) (file : List ℕ) (u : ℕ) (v : Wire) → IsSource b.nodes.items k file → slice_get (blueprint_wires b) u ≡ Some v → v.from ≡ k
+  pub draws : (k : ℕ) (file : List ℕ) (u : ℕ) (v : Edge) → IsSource b.nodes.items k file → slice_get (blueprint_wires b) u ≡ Some v → v.from ≡ k
       → DrawsFirst (drawn.bytes k) (drawn.given k) (drawn.faulted k) (sent_at wires u)
   pub fits : (w : World) → IsWorldOf book b.nodes.items drawn w → Fits (graph_of b) w
   -- the picture, by the composed outlooks

@@ -67,7 +67,7 @@ const PIECE: usize = 4096;
 /// What a run names before its files are opened: the names of its inputs and of the files that it writes, that of its trace behind
 /// those of its sinks; the names of the stages whose kinds choose, and room to gather their lines.
 #[derive(Drop)]
-struct Named {
+struct RunNames {
     inputs: Vec<Line>,
     outputs: Vec<Line>,
     choosers: Vec<Line>,
@@ -86,13 +86,13 @@ fn written_names(alloc: Global, b: &Blueprint, trace: Option<Line>) -> Result<Ve
 }
 
 /// The names of a run's files and of its stages that choose, and room for its trace.
-fn names_of(alloc: Global, b: &Blueprint, trace: Option<Line>) -> Result<Named, NoMemory>
+fn names_of(alloc: Global, b: &Blueprint, trace: Option<Line>) -> Result<RunNames, NoMemory>
     ensures inputs { IfOk result (λ n. n.inputs.items ≡ inputs_of_nodes b.now.nodes.items) }
     ensures outputs { IfOk result (λ n. n.outputs.items ≡ written_files b.now trace) }
     ensures choosers { IfOk result (λ n. n.choosers.items ≡ pick_names b.now.nodes.items) }
     ensures room { IfOk result (λ n. n.room.items ≡ []) }
 {
-    Ok(Named {
+    Ok(RunNames {
         inputs: input_names(alloc, b)?,
         outputs: written_names(alloc, b, trace)?,
         choosers: pick_names(alloc, b)?,
@@ -264,7 +264,7 @@ pub fn run<R: Threads + Wait + Sync, F: Folder, L: Logic + Send, B: PlugBook + S
     let Ok(named) = names_of(alloc, &b, trace) else {
         return Err(OpenEnd::NoMemory);
     };
-    let Named {
+    let RunNames {
         inputs,
         outputs,
         choosers,

@@ -3,11 +3,11 @@ use Rattle.std.specs.Prelude.{slice_get}
 use Rattle.std.proofs.Common.{◌≡◌, ◌⊎◌, inl, inr, ℕ, zero, suc, ◌<◌, List, [], ◌∷◌, length, Some, refl, sym, ap, ◌∙◌, subst, arith}
 use Rattle.std.proofs.lemmas.Option.{slice_get_within}
 use Rattle.stream_io.specs.State.{SourceState, DrainState}
-use Rattle.stream_model.specs.Graph.{Graph, Wire}
+use Rattle.stream_model.specs.Graph.{Graph, Edge}
 use Rattle.fused_net.specs.Laws.{AllKept}
 use Rattle.fused_net.proofs.Reading.{get_there, some_same}
 use Rattle.nodes.specs.Nodes.{KeepsNode}
-use Rattle.nodes.specs.declared.node.Node.{Node}
+use Rattle.nodes.specs.declared.node.IslandNode.{IslandNode}
 use Rattle.interpreter.specs.Parts.{AllBecome}
 use Rattle.interpreter.specs.declared.parts.Seated.{Seated}
 use Rattle.run_account.specs.Seats.{Covers, LanesKeep, joined}
@@ -49,7 +49,7 @@ module _ {X : Type 0} (R : X → X → X → Type 0) where
       (here.0 ∷ rest.0, (ap suc rest.1.0, with_first x y here.0 xs ys rest.0 here.1 rest.1.1))
 
 -- the nets of bodies, of which each node is kept
-kept_nets : {S D L B : Type 0} (keeps : Node S D L B → Node S D L B → Type 0) (then now : List (Body S D L B)) → length then ≡ length now
+kept_nets : {S D L B : Type 0} (keeps : IslandNode S D L B → IslandNode S D L B → Type 0) (then now : List (Body S D L B)) → length then ≡ length now
     → ((k : ℕ) (c b : Body S D L B) → slice_get then k ≡ Some c → slice_get now k ≡ Some b → AllKept keeps c.island.net.nodes b.island.net.nodes) → (k : ℕ) → AllKept keeps (net_of then k).nodes (net_of now k).nodes
 kept_nets keeps [] [] e h k = tt
 kept_nets keeps [] (b ∷ bs) e h k = absurd (omega (arith, e))
@@ -130,14 +130,14 @@ module _ {S D L B : Type 0} where
       pub last_kept : (k : ℕ) → AllKept (KeepsNode sources drains) (net_of then k).nodes (net_of now k).nodes
       last_kept k = kept_nets (KeepsNode sources drains) then now l.count (λ j c b ec eb. let m = moment j b c eb ec in m.1.kept) k
 
-      module _ (g : Graph) (homes : List ℕ) (count : ℕ) (ws : List Wire) (nodes : List (Seated S D L B)) (crossings : List Crossing) (m : AreBodiesOf sources drains book g homes count ws nodes crossings begun) where
+      module _ (g : Graph) (homes : List ℕ) (count : ℕ) (ws : List Edge) (nodes : List (Seated S D L B)) (crossings : List Crossing) (m : AreBodiesOf sources drains book g homes count ws nodes crossings begun) where
         pub last_cover : Covers g (net_of then) (seats_of homes ws)
         last_cover = nets_cover sources drains book g homes count ws nodes crossings begun m then many then_goes
 
         pub last_nets : AreNets homes ws nodes count (net_of then)
         last_nets = now_nets sources drains book g homes count ws nodes crossings begun m then many then_goes
 
-        pub last_began : (all : ℕ → ℕ) → (firsts : List (Node S D L B)) × (AllBecome nodes firsts × ((k : ℕ) → k < length g.nodes → (joined (net_of then) (seats_of homes ws) all).firsts k ≡ slice_get firsts k))
+        pub last_began : (all : ℕ → ℕ) → (firsts : List (IslandNode S D L B)) × (AllBecome nodes firsts × ((k : ℕ) → k < length g.nodes → (joined (net_of then) (seats_of homes ws) all).firsts k ≡ slice_get firsts k))
         last_began = nets_began sources drains book g homes count ws nodes crossings begun m then many then_goes
 
         pub last_owned : Owned g (net_of then) (seats_of homes ws) count

@@ -4,11 +4,11 @@ use Rattle.std.specs.List.{sum_by}
 use Rattle.std.proofs.Common.{◌≡◌, ℕ, suc, ◌+◌, ◌≤◌, List, [], ◌∷◌, Some, length, refl, sym, ap, ◌∙◌, subst, arith}
 use Rattle.std.proofs.lemmas.Option.{slice_get_within}
 use Rattle.stream_io.specs.State.{SourceState, DrainState}
-use Rattle.stream_model.specs.Graph.{Graph, Wire}
+use Rattle.stream_model.specs.Graph.{Graph, Edge}
 use Rattle.fused_net.specs.Costs.{sum_below, total, all_asks}
 use Rattle.fused_net.specs.Net.{Net}
 use Rattle.fused_net.proofs.Reading.{some_same}
-use Rattle.nodes.specs.declared.node.Node.{Node}
+use Rattle.nodes.specs.declared.node.IslandNode.{IslandNode}
 use Rattle.interpreter.specs.declared.parts.Seated.{Seated}
 use Rattle.lane_core.specs.Ends.{taken, finds}
 use Rattle.output_boundary.specs.Beside.{in_node, out_node}
@@ -51,12 +51,12 @@ finds_up : (xs : List OutputBoundary) → all_finds xs ≡ add_up found_of xs
 finds_up [] = refl
 finds_up (x ∷ xs) = ap (λ (n : ℕ). found_of x + n) (finds_up xs)
 
-same_wire : (ws : List Wire) (u w : ℕ) (v z : Wire) → slice_get ws u ≡ Some v → slice_get ws w ≡ Some z → w ≡ u → z ≡ v
+same_wire : (ws : List Edge) (u w : ℕ) (v z : Edge) → slice_get ws u ≡ Some v → slice_get ws w ≡ Some z → w ≡ u → z ≡ v
 same_wire ws u w v z a b e = some_same z v (sym b ∙ (ap (slice_get ws) e ∙ a))
 
 module _ {S D L B : Type 0} where
   -- what a number read off each net is in all
-  by_nets : (F : Net (Node S D L B) → ℕ) (now : List (Body S D L B)) → add_up (λ (b : Body S D L B). F b.island.net) now ≡ sum_below (λ k. F (net_of now k)) (length now)
+  by_nets : (F : Net (IslandNode S D L B) → ℕ) (now : List (Body S D L B)) → add_up (λ (b : Body S D L B). F b.island.net) now ≡ sum_below (λ k. F (net_of now k)) (length now)
   by_nets F [] = refl
   by_nets F (b ∷ bs) =
       let rest : add_up (λ (b : Body S D L B). F b.island.net) bs ≡ sum_below (λ k. F (net_of bs k)) (length bs) = by_nets F bs in
@@ -81,7 +81,7 @@ module _ {S D L B : Type 0} where
   abbrev pub cost_at : List (Body S D L B) → ℕ → ℕ
   cost_at now u = add_up (took_in u) now + add_up (found_in u) now
 
-  module _ (sources : S → SourceState) (drains : D → DrainState) (book : Book) (g : Graph) (homes : List ℕ) (count : ℕ) (ws : List Wire) (nodes : List (Seated S D L B)) (seated : AreSeated homes count ws nodes) (same : g.wires ≡ ws) (now : List (Body S D L B)) (keep : AllOf (BodyKeeps sources drains book) now)
+  module _ (sources : S → SourceState) (drains : D → DrainState) (book : Book) (g : Graph) (homes : List ℕ) (count : ℕ) (ws : List Edge) (nodes : List (Seated S D L B)) (seated : AreSeated homes count ws nodes) (same : g.wires ≡ ws) (now : List (Body S D L B)) (keep : AllOf (BodyKeeps sources drains book) now)
       (crossings : List Crossing) (l : AreLanes homes ws now crossings) where
     -- ---- all that was spent is spread over the lanes
 
@@ -113,17 +113,17 @@ module _ {S D L B : Type 0} where
         let ins = ins_over in
         let outs = outs_over in
         let both : over ws (cost_at now) (length ws) ≡ over ws (λ u. add_up (took_in u) now) (length ws) + over ws (λ u. add_up (found_in u) now) (length ws) = over_add ws (λ u. add_up (took_in u) now) (λ u. add_up (found_in u) now) (length ws) in
-        let is : over_lanes g (cost_at now) ≡ over ws (cost_at now) (length ws) = ap (λ (z : List Wire). over z (cost_at now) (length z)) same in
+        let is : over_lanes g (cost_at now) ≡ over ws (cost_at now) (length ws) = ap (λ (z : List Edge). over z (cost_at now) (length z)) same in
         omega (arith, spent, most, one, two, nets, ins, outs, both, is)
 
     -- ---- and of each lane only its own two ends cost anything
 
-    module _ (u : ℕ) (v : Wire) (size : ℕ) (e : slice_get ws u ≡ Some v) (c : Crossing) (x : IsCrossingOf homes ws now u v size c) where
+    module _ (u : ℕ) (v : Edge) (size : ℕ) (e : slice_get ws u ≡ Some v) (c : Crossing) (x : IsCrossingOf homes ws now u v size c) where
       took_here : add_up (took_in u) now ≡ took_of x.inp
       took_here =
           only_one (took_in u) now c.to x.to x.to_at (λ k b at ne. none_up (took_at u) b.ins.items (λ j y here. other_hit y.wire u (took_of y) (λ t.
           let z = l.ins_are k j b y at here in
-          ne (sym z.home ∙ (ap (λ (w : Wire). slice_index homes w.to) (same_wire ws u y.wire v z.wire e z.is t) ∙ sym x.to_is)))))
+          ne (sym z.home ∙ (ap (λ (w : Edge). slice_index homes w.to) (same_wire ws u y.wire v z.wire e z.is t) ∙ sym x.to_is)))))
           ∙ (only_one (took_at u) x.to.ins.items c.inp x.inp x.inp_at (λ j y here ne. other_hit y.wire u (took_of y) (λ t.
           (keep c.to x.to x.to_at).stands.apart.ins_apart j c.inp y.wire x.inp.wire (map_get (λ (z : IslandInput). z.wire) x.to.ins.items j y here) (map_get (λ (z : IslandInput). z.wire) x.to.ins.items c.inp x.inp x.inp_at) ne
           (ap (in_node x.to.island) (t ∙ sym x.inp_wire))))
@@ -133,7 +133,7 @@ module _ {S D L B : Type 0} where
       found_here =
           only_one (found_in u) now c.from x.from x.from_at (λ k b at ne. none_up (found_at u) b.outs.items (λ j y here. other_hit y.wire u (found_of y) (λ t.
           let z = l.outs_are k j b y at here in
-          ne (sym z.home ∙ (ap (λ (w : Wire). slice_index homes w.from) (same_wire ws u y.wire v z.wire e z.is t) ∙ sym x.from_is)))))
+          ne (sym z.home ∙ (ap (λ (w : Edge). slice_index homes w.from) (same_wire ws u y.wire v z.wire e z.is t) ∙ sym x.from_is)))))
           ∙ (only_one (found_at u) x.from.outs.items c.out x.out x.out_at (λ j y here ne. other_hit y.wire u (found_of y) (λ t.
           (keep c.from x.from x.from_at).stands.apart.outs_apart j c.out y.wire x.out.wire (map_get (λ (z : OutputBoundary). z.wire) x.from.outs.items j y here) (map_get (λ (z : OutputBoundary). z.wire) x.from.outs.items c.out x.out x.out_at) ne
           (ap (out_node x.from.island) (t ∙ sym x.out_wire))))
@@ -145,7 +145,7 @@ module _ {S D L B : Type 0} where
     module _ (all : ℕ → ℕ) (asked_are : AskedAre now crossings all) (joined : AllJoined BodiesJoined now crossings) where
       pub lanes_cost : LanesCost g (net_of now) (seats_of homes ws) all (cost_at now)
       lanes_cost = λ u v size e s.
-          let there : slice_get ws u ≡ Some v = subst (λ (l : List Wire). slice_get l u ≡ Some v) same e in
+          let there : slice_get ws u ≡ Some v = subst (λ (l : List Edge). slice_get l u ≡ Some v) same e in
           let x = l.each u v size there s in
           let y = x.1.1.1 in
           let w = joined x.0 x.1.0 x.1.1.0 in

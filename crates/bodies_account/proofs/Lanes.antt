@@ -3,8 +3,8 @@ use Rattle.std.specs.Prelude.{slice_get, Option, None}
 use Rattle.std.proofs.Common.{◌≡◌, ℕ, ◌<◌, zero, suc, false, List, [], ◌∷◌, length, map, Some, refl, sym, ap, ◌∙◌, subst}
 use Rattle.std.proofs.lemmas.Option.{slice_get_within}
 use Rattle.stream_io.specs.State.{SourceState, DrainState}
-use Rattle.stream_model.specs.Graph.{Graph, Wire}
-use Rattle.wire_core.specs.Cell.{Cell}
+use Rattle.stream_model.specs.Graph.{Graph, Edge}
+use Rattle.wire_core.specs.Cell.{WireState}
 use Rattle.fused_net.specs.Net.{wire_at}
 use Rattle.fused_net.proofs.Reading.{get_there}
 use Rattle.interpreter.specs.Boundary.{Enters, Leaves, way_in, way_out, cell_in, cell_out}
@@ -50,8 +50,8 @@ map_there f (z ∷ xs) [] k x e at = absurd cc
 map_there f (z ∷ xs) (y ∷ ys) zero x e at = let here : f y ≡ f z = cc in let same : z ≡ x = cc in (y, (refl, here ∙ ap f same))
 map_there f (z ∷ xs) (y ∷ ys) (suc k) x e at = let t : map f ys ≡ map f xs = cc in map_there f xs ys k x t at
 
-four : (P : ℕ → Cell → Cell → ℕ → Type 0) (s s' n n' : ℕ) (a a' b b' : Cell) → s ≡ s' → a ≡ a' → b ≡ b' → n ≡ n' → P s a b n → P s' a' b' n'
-four P s s' n n' a a' b b' e f g h p = subst (λ (x : ℕ). P x a' b' n') e (subst (λ (x : Cell). P s x b' n') f (subst (λ (x : Cell). P s a x n') g (subst (λ (x : ℕ). P s a b x) h p)))
+four : (P : ℕ → WireState → WireState → ℕ → Type 0) (s s' n n' : ℕ) (a a' b b' : WireState) → s ≡ s' → a ≡ a' → b ≡ b' → n ≡ n' → P s a b n → P s' a' b' n'
+four P s s' n n' a a' b b' e f g h p = subst (λ (x : ℕ). P x a' b' n') e (subst (λ (x : WireState). P s x b' n') f (subst (λ (x : WireState). P s a x n') g (subst (λ (x : ℕ). P s a b x) h p)))
 
 module _ {S D L B : Type 0} where
   there_after : (xs ys : List (Body S D L B)) (k : ℕ) (x : Body S D L B) → length ys ≡ length xs → slice_get xs k ≡ Some x → (y : Body S D L B) × (slice_get ys k ≡ Some y)
@@ -65,8 +65,8 @@ module _ {S D L B : Type 0} where
 
   -- ---- the crossings, once the bodies went on
 
-  module _ (homes : List ℕ) (ws : List Wire) (begun now : List (Body S D L B)) (many : length now ≡ length begun) (goes : (k : ℕ) (a b : Body S D L B) → slice_get begun k ≡ Some a → slice_get now k ≡ Some b → Went a b) where
-    crossing_on : (u : ℕ) (v : Wire) (size : ℕ) (c : Crossing) → IsCrossingOf homes ws begun u v size c → IsCrossingOf homes ws now u v size c
+  module _ (homes : List ℕ) (ws : List Edge) (begun now : List (Body S D L B)) (many : length now ≡ length begun) (goes : (k : ℕ) (a b : Body S D L B) → slice_get begun k ≡ Some a → slice_get now k ≡ Some b → Went a b) where
+    crossing_on : (u : ℕ) (v : Edge) (size : ℕ) (c : Crossing) → IsCrossingOf homes ws begun u v size c → IsCrossingOf homes ws now u v size c
     crossing_on u v size c x =
         let a = there_after begun now c.from x.from many x.from_at in
         let b = there_after begun now c.to x.to many x.to_at in
@@ -107,12 +107,12 @@ module _ {S D L B : Type 0} where
 
   -- ---- one lane
 
-  module _ (sources : S → SourceState) (drains : D → DrainState) (book : Book) (homes : List ℕ) (count : ℕ) (ws : List Wire) (nodes : List (Seated S D L B)) (seated : AreSeated homes count ws nodes) (now : List (Body S D L B)) (stood : (k : ℕ) (b : Body S D L B) → slice_get now k ≡ Some b → Stood sources drains book b)
-      (u : ℕ) (v : Wire) (size : ℕ) (e : slice_get ws u ≡ Some v) (s : v.lane ≡ Some size) (c : Crossing) (x : IsCrossingOf homes ws now u v size c) where
-    abbrev near_here : Cell
+  module _ (sources : S → SourceState) (drains : D → DrainState) (book : Book) (homes : List ℕ) (count : ℕ) (ws : List Edge) (nodes : List (Seated S D L B)) (seated : AreSeated homes count ws nodes) (now : List (Body S D L B)) (stood : (k : ℕ) (b : Body S D L B) → slice_get now k ≡ Some b → Stood sources drains book b)
+      (u : ℕ) (v : Edge) (size : ℕ) (e : slice_get ws u ≡ Some v) (s : v.lane ≡ Some size) (c : Crossing) (x : IsCrossingOf homes ws now u v size c) where
+    abbrev near_here : WireState
     near_here = wire_at (net_of now ((seats_of homes ws).near u).island) ((seats_of homes ws).near u).at
 
-    abbrev far_here : Cell
+    abbrev far_here : WireState
     far_here = wire_at (net_of now ((seats_of homes ws).far u).island) ((seats_of homes ws).far u).at
 
     ways : HasWays homes ws nodes u v
@@ -137,7 +137,7 @@ module _ {S D L B : Type 0} where
     in_stands = (stood c.to x.to x.to_at).stand.ins_stand c.inp x.inp x.inp_at
 
     module _ (w : Waits) (joined : BodiesJoined x.from c.out x.to c.inp w) where
-      abbrev Kept_by : ℕ → Cell → Cell → ℕ → Type 0
+      abbrev Kept_by : ℕ → WireState → WireState → ℕ → Type 0
       Kept_by z near far n = (k : LaneKeeps z near far n) × ((k.out ≡ out_end x.out.lane) × (k.inp ≡ in_end x.inp.boundary.lane))
 
       kept_there : Kept_by (in_size x.inp.boundary.lane) (cell_out x.from.island u) (cell_in x.to.island u) (asked x.inp.boundary.lane)
@@ -149,7 +149,7 @@ module _ {S D L B : Type 0} where
       pub kept_here : (n : ℕ) → n ≡ asked x.inp.boundary.lane → Kept_by size near_here far_here n
       kept_here n is = four Kept_by (in_size x.inp.boundary.lane) size (asked x.inp.boundary.lane) n (cell_out x.from.island u) near_here (cell_in x.to.island u) far_here x.size_is near_cell far_cell (sym is) kept_there
 
-      abbrev Quiet_by : ℕ → Cell → Cell → ℕ → Type 0
+      abbrev Quiet_by : ℕ → WireState → WireState → ℕ → Type 0
       Quiet_by z near far n = WireQuiet (Some z) near far n
 
       pub quiet_here : AllOf (BodyKeeps sources drains book) now → x.from.island.net.queue ≡ [] → x.to.island.net.queue ≡ [] → w.item ≡ false → w.demand ≡ false → (n : ℕ) → n ≡ asked x.inp.boundary.lane → Quiet_by size near_here far_here n
@@ -173,12 +173,12 @@ module _ {S D L B : Type 0} where
 
   -- ---- all lanes
 
-  module _ (sources : S → SourceState) (drains : D → DrainState) (book : Book) (g : Graph) (homes : List ℕ) (count : ℕ) (ws : List Wire) (nodes : List (Seated S D L B)) (seated : AreSeated homes count ws nodes) (same : g.wires ≡ ws) (now : List (Body S D L B)) (stood : (k : ℕ) (b : Body S D L B) → slice_get now k ≡ Some b → Stood sources drains book b)
+  module _ (sources : S → SourceState) (drains : D → DrainState) (book : Book) (g : Graph) (homes : List ℕ) (count : ℕ) (ws : List Edge) (nodes : List (Seated S D L B)) (seated : AreSeated homes count ws nodes) (same : g.wires ≡ ws) (now : List (Body S D L B)) (stood : (k : ℕ) (b : Body S D L B) → slice_get now k ≡ Some b → Stood sources drains book b)
       (crossings : List Crossing) (l : AreLanes homes ws now crossings) (all : ℕ → ℕ) (asked_are : AskedAre now crossings all) where
-    here : (u : ℕ) (v : Wire) → slice_get g.wires u ≡ Some v → slice_get ws u ≡ Some v
-    here u v e = subst (λ (l : List Wire). slice_get l u ≡ Some v) same e
+    here : (u : ℕ) (v : Edge) → slice_get g.wires u ≡ Some v → slice_get ws u ≡ Some v
+    here u v e = subst (λ (l : List Edge). slice_get l u ≡ Some v) same e
 
-    pub asked_here : (n u : ℕ) (v : Wire) (size : ℕ) (c : Crossing) (x : IsCrossingOf homes ws now u v size c) → slice_get crossings n ≡ Some c → all u ≡ asked x.inp.boundary.lane
+    pub asked_here : (n u : ℕ) (v : Edge) (size : ℕ) (c : Crossing) (x : IsCrossingOf homes ws now u v size c) → slice_get crossings n ≡ Some c → all u ≡ asked x.inp.boundary.lane
     asked_here n u v size c x at = ap all (sym x.inp_wire) ∙ asked_are n c x.to x.inp at x.to_at x.inp_at
 
     pub lanes_keep : AllJoined BodiesJoined now crossings → LanesKeep g (net_of now) (seats_of homes ws) all

@@ -2,11 +2,11 @@
 use Rattle.std.specs.Prelude.{slice_get, Option, None}
 use Rattle.std.proofs.Common.{◌≡◌, ℕ, ◌<◌, List, length, map, Some, refl, sym, ◌∙◌, subst, arith}
 use Rattle.stream_io.specs.State.{SourceState, DrainState}
-use Rattle.stream_model.specs.Graph.{Graph, Wire}
+use Rattle.stream_model.specs.Graph.{Graph, Edge}
 use Rattle.fused_net.specs.Laws.{Settled, GoesOn}
 use Rattle.fused_net.proofs.Reading.{get_there}
 use Rattle.nodes.specs.Nodes.{node_row, node_law, node_asking, node_moves}
-use Rattle.nodes.specs.declared.node.Node.{Node}
+use Rattle.nodes.specs.declared.node.IslandNode.{IslandNode}
 use Rattle.interpreter.specs.Parts.{ends_of, AllBecome}
 use Rattle.interpreter.specs.declared.parts.Seated.{Seated}
 use Rattle.run_account.specs.Seats.{Covers, joined}
@@ -38,7 +38,7 @@ module _ {S D L B : Type 0} where
   stood sources drains book b k = record { settled = k.laws.laws; stand = k.stands.stand }
 
   -- nothing moves in a net without nodes
-  pub empty_settled : (sources : S → SourceState) (drains : D → DrainState) (book : Book) → Settled node_row (node_law sources drains book) node_asking node_moves (empty_net {N = Node S D L B})
+  pub empty_settled : (sources : S → SourceState) (drains : D → DrainState) (book : Book) → Settled node_row (node_law sources drains book) node_asking node_moves (empty_net {N = IslandNode S D L B})
   empty_settled sources drains book = record {
     wired = record {
       each_node = refl;
@@ -65,7 +65,7 @@ module _ {S D L B : Type 0} where
   pub all_settled : (sources : S → SourceState) (drains : D → DrainState) (book : Book) (now : List (Body S D L B)) → ((k : ℕ) (b : Body S D L B) → slice_get now k ≡ Some b → Stood sources drains book b) → AllSettled sources drains book now
   all_settled sources drains book now h = λ k. settled_in sources drains book (slice_get now k) (h k)
 
-module _ {S D L B : Type 0} (sources : S → SourceState) (drains : D → DrainState) (book : Book) (g : Graph) (homes : List ℕ) (count : ℕ) (ws : List Wire) (nodes : List (Seated S D L B)) (crossings : List Crossing) (begun : List (Body S D L B))
+module _ {S D L B : Type 0} (sources : S → SourceState) (drains : D → DrainState) (book : Book) (g : Graph) (homes : List ℕ) (count : ℕ) (ws : List Edge) (nodes : List (Seated S D L B)) (crossings : List Crossing) (begun : List (Body S D L B))
     (m : AreBodiesOf sources drains book g homes count ws nodes crossings begun) where
   begun_at : (k : ℕ) → k < count → (b : Body S D L B) × (slice_get begun k ≡ Some b)
   begun_at k lt = get_there begun k (subst (λ (n : ℕ). k < n) (sym m.begun_are.many) lt)
@@ -101,7 +101,7 @@ module _ {S D L B : Type 0} (sources : S → SourceState) (drains : D → DrainS
     nets_owned = owned homes count ws nodes (net_of now) m.seated now_nets g m.graph
 
     -- their nodes began as what stands at the nodes of the blueprint
-    pub nets_began : (all : ℕ → ℕ) → (firsts : List (Node S D L B)) × (AllBecome nodes firsts × ((k : ℕ) → k < length g.nodes → (joined (net_of now) (seats_of homes ws) all).firsts k ≡ slice_get firsts k))
+    pub nets_began : (all : ℕ → ℕ) → (firsts : List (IslandNode S D L B)) × (AllBecome nodes firsts × ((k : ℕ) → k < length g.nodes → (joined (net_of now) (seats_of homes ws) all).firsts k ≡ slice_get firsts k))
     nets_began all =
         let b = back homes count ws nodes m.seated (λ (j : ℕ). (net_of now j).firsts) (λ j lt. firsts_count homes count ws nodes (net_of now) m.seated now_nets j lt) in (
           b.0,

@@ -3,7 +3,7 @@ use Rattle.std.specs.Prelude.{slice_get}
 use Rattle.std.specs.List.{sum_by}
 use Rattle.std.proofs.Common.{◌≡◌, ℕ, ◌+◌, ◌≤◌, List, length, Some, ◌∙◌, subst, arith}
 use Rattle.stream_io.specs.State.{SourceState, DrainState}
-use Rattle.stream_model.specs.Graph.{Graph, Wire}
+use Rattle.stream_model.specs.Graph.{Graph, Edge}
 use Rattle.stream_picture.specs.Shape.{count_needed}
 use Rattle.fused_net.specs.Costs.{sum_below, total, all_asks}
 use Rattle.nodes.specs.Nodes.{node_row, node_law, node_asking, node_moves}
@@ -29,7 +29,7 @@ module _ {S D L B : Type 0} (sources : S → SourceState) (drains : D → DrainS
   pub asks : (count : ℕ) (now : List (Body S D L B)) → length now ≡ count → AllOf (BodyKeeps sources drains book) now → sum_below (λ b. all_asks (net_of now b)) count ≤ sum_by (λ (b : Body S D L B). b.spent) now
   asks count now many keep = subst (λ (n : ℕ). sum_below (λ b. all_asks (net_of now b)) n ≤ sum_by (λ (b : Body S D L B). b.spent) now) many (asks_paid sources drains book now keep)
 
-module _ {S D L B : Type 0} (sources : S → SourceState) (drains : D → DrainState) (book : Book) (g : Graph) (homes : List ℕ) (count : ℕ) (ws : List Wire) (nodes : List (Seated S D L B)) (crossings : List Crossing) (begun now : List (Body S D L B))
+module _ {S D L B : Type 0} (sources : S → SourceState) (drains : D → DrainState) (book : Book) (g : Graph) (homes : List ℕ) (count : ℕ) (ws : List Edge) (nodes : List (Seated S D L B)) (crossings : List Crossing) (begun now : List (Body S D L B))
     (m : AreBodiesOf sources drains book g homes count ws nodes crossings begun) (goes : EachOf BodyGoes begun now) (keep : AllOf (BodyKeeps sources drains book) now) (all : ℕ → ℕ) (asked_are : AskedAre now crossings all) (all_joined : AllJoined BodiesJoined now crossings) where
   goes_on : (k : ℕ) (a b : Body S D L B) → slice_get begun k ≡ Some a → slice_get now k ≡ Some b → Went a b
   goes_on k a b x y = went a b (goes.each k a b x y)

@@ -1,7 +1,7 @@
 -- The stages of an island's lanes stand at the places of their wires' connections.
 use Rattle.std.specs.Prelude.{slice_get, slice_index}
 use Rattle.std.proofs.Common.{◌≡◌, ℕ, true, List, Some, sym, ap, ◌∙◌, subst}
-use Rattle.stream_model.specs.Graph.{Wire}
+use Rattle.stream_model.specs.Graph.{Edge}
 use Rattle.interpreter.specs.Boundary.{EntersBy, LeavesBy, way_in, way_out}
 use Rattle.interpreter.specs.Island.{Kept}
 use Rattle.interpreter.specs.Ways.{comes_in, goes_out}
@@ -10,7 +10,7 @@ use Rattle.interpreter.specs.declared.parts.Seated.{Seated}
 use Rattle.island_seats.specs.Islands.{seats_of, seats_in, links_in, AreSeated, HasWays}
 use Rattle.island_seats.proofs.Leading.{has_ways}
 
-module _ {S D L B : Type 0} (homes : List ℕ) (count : ℕ) (ws : List Wire) (nodes : List (Seated S D L B)) (u : ℕ) (v : Wire) (size : ℕ) (i : Kept S D L B) (a : AreSeated homes count ws nodes) (at : slice_get ws u ≡ Some v) (lane : v.lane ≡ Some size) where
+module _ {S D L B : Type 0} (homes : List ℕ) (count : ℕ) (ws : List Edge) (nodes : List (Seated S D L B)) (u : ℕ) (v : Edge) (size : ℕ) (i : Kept S D L B) (a : AreSeated homes count ws nodes) (at : slice_get ws u ≡ Some v) (lane : v.lane ≡ Some size) where
   ways : HasWays homes ws nodes u v
   ways = has_ways homes count ws nodes a u v size at lane
 

@@ -3,7 +3,7 @@ use Rattle.std.specs.Prelude.{slice_get, Option}
 use Rattle.std.specs.List.{sum_by}
 use Rattle.std.proofs.Common.{◌≡◌, ◌≢◌, ℕ, zero, suc, ◌+◌, ◌<◌, ◌≤◌, List, [], ◌∷◌, None, Some, map, refl, ap, ◌∙◌, arith}
 use Rattle.std.proofs.lemmas.List.Sums.{sum_by-cons}
-use Rattle.stream_model.specs.Graph.{Wire}
+use Rattle.stream_model.specs.Graph.{Edge}
 use Rattle.fused_net.specs.Costs.{sum_below}
 use Rattle.fused_net.proofs.Sums.{sum_has}
 use Rattle.run_account.specs.Units.{lane_at, if_lane}
@@ -90,26 +90,26 @@ lane_add None a b = refl
 lane_add (Some z) a b = refl
 
 -- the sum over all lanes of the first so many wires
-abbrev pub over : List Wire → (ℕ → ℕ) → ℕ → ℕ
+abbrev pub over : List Edge → (ℕ → ℕ) → ℕ → ℕ
 over ws f n = sum_below (λ u. if_lane (lane_at ws u) (f u)) n
 
-pub over_add : (ws : List Wire) (f g : ℕ → ℕ) (n : ℕ) → over ws (λ u. f u + g u) n ≡ over ws f n + over ws g n
+pub over_add : (ws : List Edge) (f g : ℕ → ℕ) (n : ℕ) → over ws (λ u. f u + g u) n ≡ over ws f n + over ws g n
 over_add ws f g n = sum_same (λ u. if_lane (lane_at ws u) (f u + g u)) (λ u. if_lane (lane_at ws u) (f u) + if_lane (lane_at ws u) (g u)) n (λ u. lane_add (lane_at ws u) (f u) (g u)) ∙ sum_add (λ u. if_lane (lane_at ws u) (f u)) (λ u. if_lane (lane_at ws u) (g u)) n
 
-pub lane_there : (ws : List Wire) (u : ℕ) (v : Wire) → slice_get ws u ≡ Some v → lane_at ws u ≡ v.lane
+pub lane_there : (ws : List Edge) (u : ℕ) (v : Edge) → slice_get ws u ≡ Some v → lane_at ws u ≡ v.lane
 lane_there [] u v e = cc
 lane_there (w ∷ ws) zero v e = cc
 lane_there (w ∷ ws) (suc u) v e = lane_there ws u v e
 
 -- one that is spread over the lanes
-pub over_one : (ws : List Wire) (u size c n : ℕ) → u < n → lane_at ws u ≡ Some size → c ≤ over ws (λ w. when_same u w c) n
+pub over_one : (ws : List Edge) (u size c n : ℕ) → u < n → lane_at ws u ≡ Some size → c ≤ over ws (λ w. when_same u w c) n
 over_one ws u size c n lt lane =
     let has : if_lane (lane_at ws u) (when_same u u c) ≤ over ws (λ w. when_same u w c) n = sum_has (λ w. if_lane (lane_at ws w) (when_same u w c)) n u lt in
     let is : if_lane (lane_at ws u) (when_same u u c) ≡ c = ap (λ (o : Option ℕ). if_lane o (when_same u u c)) lane ∙ same_hit u c in
     omega (arith, has, is)
 
 -- and all of a list, of which each is
-pub over_all : {X : Type 0} (ws : List Wire) (f : X → ℕ) (h : ℕ → X → ℕ) (n : ℕ) (xs : List X) → ((k : ℕ) (x : X) → slice_get xs k ≡ Some x → f x ≤ over ws (λ u. h u x) n) → add_up f xs ≤ over ws (λ u. add_up (h u) xs) n
+pub over_all : {X : Type 0} (ws : List Edge) (f : X → ℕ) (h : ℕ → X → ℕ) (n : ℕ) (xs : List X) → ((k : ℕ) (x : X) → slice_get xs k ≡ Some x → f x ≤ over ws (λ u. h u x) n) → add_up f xs ≤ over ws (λ u. add_up (h u) xs) n
 over_all ws f h n [] le = omega arith
 over_all ws f h n (x ∷ xs) le =
     let here : f x ≤ over ws (λ u. h u x) n = le 0 x refl in

@@ -1,11 +1,11 @@
 -- The bodies of a blueprint's islands: how they were made, the lanes between them, and the nets of their islands.
 use Rattle.std.specs.Prelude.{◌≡◌, ℕ, List, [], Option, Some, None, length, map, slice_get, slice_index}
 use Rattle.stream_io.specs.State.{SourceState, DrainState}
-use Rattle.stream_model.specs.Graph.{Graph, Wire}
+use Rattle.stream_model.specs.Graph.{Graph, Edge}
 use Rattle.fused_net.specs.Laws.{Settled, AllKept}
 use Rattle.fused_net.specs.Net.{Net}
 use Rattle.nodes.specs.Nodes.{node_row, node_law, node_asking, node_moves, KeepsNode}
-use Rattle.nodes.specs.declared.node.Node.{Node}
+use Rattle.nodes.specs.declared.node.IslandNode.{IslandNode}
 use Rattle.interpreter.specs.Boundary.{way_in, way_out}
 use Rattle.interpreter.specs.Parts.{ends_of, AllBecome}
 use Rattle.interpreter.specs.declared.parts.Seated.{Seated}
@@ -25,24 +25,24 @@ abbrev pub empty_net : {N : Type 0} → Net N
 empty_net = record { nodes = []; firsts = []; wires = []; ends = []; ports = []; queue = [] }
 
 -- the net of a body's island, and the empty one where there is no body
-abbrev pub net_in : {S D L B : Type 0} → Option (Body S D L B) → Net (Node S D L B)
+abbrev pub net_in : {S D L B : Type 0} → Option (Body S D L B) → Net (IslandNode S D L B)
 net_in None = empty_net
 net_in (Some b) = b.island.net
 
 -- the nets of bodies, by their places
-abbrev pub net_of : {S D L B : Type 0} → List (Body S D L B) → ℕ → Net (Node S D L B)
+abbrev pub net_of : {S D L B : Type 0} → List (Body S D L B) → ℕ → Net (IslandNode S D L B)
 net_of bodies k = net_in (slice_get bodies k)
 
 -- wire u is a lane that comes into island k, or goes out of it
-pub record ComesInto (homes : List ℕ) (ws : List Wire) (k u : ℕ) : Type 0 where
-  pub wire : Wire
+pub record ComesInto (homes : List ℕ) (ws : List Edge) (k u : ℕ) : Type 0 where
+  pub wire : Edge
   pub size : ℕ
   pub is : slice_get ws u ≡ Some wire
   pub lane : wire.lane ≡ Some size
   pub home : slice_index homes wire.to ≡ k
 
-pub record GoesOutOf (homes : List ℕ) (ws : List Wire) (k u : ℕ) : Type 0 where
-  pub wire : Wire
+pub record GoesOutOf (homes : List ℕ) (ws : List Edge) (k u : ℕ) : Type 0 where
+  pub wire : Edge
   pub size : ℕ
   pub is : slice_get ws u ≡ Some wire
   pub lane : wire.lane ≡ Some size
@@ -51,7 +51,7 @@ pub record GoesOutOf (homes : List ℕ) (ws : List Wire) (k u : ℕ) : Type 0 wh
 module _ {S D L B : Type 0} where
   -- At this crossing lie the two ends of the lane that is wire u: the output end at the body of the island that it goes out of, the input
   -- end at that of the island that it comes into, each at its connection.
-  pub record IsCrossingOf (homes : List ℕ) (ws : List Wire) (bodies : List (Body S D L B)) (u : ℕ) (v : Wire) (size : ℕ) (c : Crossing) : Type 0 where
+  pub record IsCrossingOf (homes : List ℕ) (ws : List Edge) (bodies : List (Body S D L B)) (u : ℕ) (v : Edge) (size : ℕ) (c : Crossing) : Type 0 where
     pub from_is : c.from ≡ slice_index homes v.from
     pub to_is : c.to ≡ slice_index homes v.to
     pub from : Body S D L B
@@ -69,8 +69,8 @@ module _ {S D L B : Type 0} where
     pub far_is : ((seats_of homes ws).far u).at ≡ way_in to.island u
 
   -- Each lane has its crossing, and no body has an end of anything else.
-  pub record AreLanes (homes : List ℕ) (ws : List Wire) (bodies : List (Body S D L B)) (crossings : List Crossing) : Type 0 where
-    pub each : (u : ℕ) (v : Wire) (size : ℕ) → slice_get ws u ≡ Some v → v.lane ≡ Some size → (n : ℕ) × ((c : Crossing) × ((slice_get crossings n ≡ Some c) × IsCrossingOf homes ws bodies u v size c))
+  pub record AreLanes (homes : List ℕ) (ws : List Edge) (bodies : List (Body S D L B)) (crossings : List Crossing) : Type 0 where
+    pub each : (u : ℕ) (v : Edge) (size : ℕ) → slice_get ws u ≡ Some v → v.lane ≡ Some size → (n : ℕ) × ((c : Crossing) × ((slice_get crossings n ≡ Some c) × IsCrossingOf homes ws bodies u v size c))
     pub ins_are : (k j : ℕ) (b : Body S D L B) (x : IslandInput) → slice_get bodies k ≡ Some b → slice_get b.ins.items j ≡ Some x → ComesInto homes ws k x.wire
     pub outs_are : (k j : ℕ) (b : Body S D L B) (o : OutputBoundary) → slice_get bodies k ≡ Some b → slice_get b.outs.items j ≡ Some o → GoesOutOf homes ws k o.wire
 
@@ -81,14 +81,14 @@ module _ {S D L B : Type 0} where
   module _ (sources : S → SourceState) (drains : D → DrainState) (book : Book) where
     -- The bodies as they were made, as many as there are islands: each keeps what bodies keep, its island began as what stands at its
     -- places, and its connections are its links.
-    pub record AreBegun (homes : List ℕ) (count : ℕ) (ws : List Wire) (nodes : List (Seated S D L B)) (begun : List (Body S D L B)) : Type 0 where
+    pub record AreBegun (homes : List ℕ) (count : ℕ) (ws : List Edge) (nodes : List (Seated S D L B)) (begun : List (Body S D L B)) : Type 0 where
       pub many : length begun ≡ count
       pub keep : AllOf (BodyKeeps sources drains book) begun
       pub become : (k : ℕ) (b : Body S D L B) → slice_get begun k ≡ Some b → AllBecome (seats_in homes ws nodes k) b.island.net.firsts
       pub ends_are : (k : ℕ) (b : Body S D L B) → slice_get begun k ≡ Some b → b.island.net.ends ≡ map ends_of (links_in homes ws nodes k)
 
     -- They are those of the islands of this blueprint, and these crossings are its lanes.
-    pub record AreBodiesOf (g : Graph) (homes : List ℕ) (count : ℕ) (ws : List Wire) (nodes : List (Seated S D L B)) (crossings : List Crossing) (begun : List (Body S D L B)) : Type 0 where
+    pub record AreBodiesOf (g : Graph) (homes : List ℕ) (count : ℕ) (ws : List Edge) (nodes : List (Seated S D L B)) (crossings : List Crossing) (begun : List (Body S D L B)) : Type 0 where
       pub seated : AreSeated homes count ws nodes
       pub graph : IsGraphOf g ws nodes
       pub begun_are : AreBegun homes count ws nodes begun

@@ -1,12 +1,12 @@
 // Laws of the bodies of a blueprint's islands: each function has no body, and its contract is the law.
 ghost use Rattle.std.specs.Prelude.{◌≡◌, ◌+◌, ◌<◌, ◌≤◌, [], ℕ, true, List, length, slice_get, slice_index, Some};
 ghost use Rattle.std.specs.List.{sum_by};
-ghost use Rattle.stream_model.specs.Graph.{Graph, Wire};
+ghost use Rattle.stream_model.specs.Graph.{Graph, Edge};
 ghost use Rattle.stream_picture.specs.Shape.{count_needed};
 ghost use Rattle.fused_net.specs.Costs.{sum_below, total, all_asks};
 ghost use Rattle.fused_net.specs.Laws.{AllKept};
 ghost use Rattle.nodes.specs.Nodes.{KeepsNode};
-ghost use Rattle.nodes.specs.declared.node.Node.{Node};
+ghost use Rattle.nodes.specs.declared.node.IslandNode.{IslandNode};
 ghost use Rattle.interpreter.specs.Island.{Kept};
 ghost use Rattle.interpreter.specs.Boundary.{EntersBy, LeavesBy, way_in, way_out};
 ghost use Rattle.interpreter.specs.Parts.{AllBecome};
@@ -33,10 +33,10 @@ use stream_io::outside::{Drain, Source};
 /// An island whose lanes come in and go out at its links has the stage of each at the place of its wire's connection: at the output
 /// (`out`), and at the input (`inp`). Rule: own.
 pub fn lanes_lie_at_their_places<S: Source, D: Drain, L: Logic, B: PlugBook>()
-    ensures out { (homes : List ℕ) (count : ℕ) (ws : List Wire) (nodes : List (Seated S D L B)) (u : ℕ) (v : Wire) (size : ℕ) (i : Kept S D L B) → AreSeated homes count ws nodes → slice_get ws u ≡ Some v → v.lane ≡ Some size
+    ensures out { (homes : List ℕ) (count : ℕ) (ws : List Edge) (nodes : List (Seated S D L B)) (u : ℕ) (v : Edge) (size : ℕ) (i : Kept S D L B) → AreSeated homes count ws nodes → slice_get ws u ≡ Some v → v.lane ≡ Some size
         → ((q : ℕ) (l : Link) → slice_get (links_in homes ws nodes (slice_index homes v.from)) q ≡ Some l → goes_out (seats_in homes ws nodes (slice_index homes v.from)) l.to ≡ true → LeavesBy i l.wire q)
         → ((seats_of homes ws).near u).at ≡ way_out i u }
-    ensures inp { (homes : List ℕ) (count : ℕ) (ws : List Wire) (nodes : List (Seated S D L B)) (u : ℕ) (v : Wire) (size : ℕ) (i : Kept S D L B) → AreSeated homes count ws nodes → slice_get ws u ≡ Some v → v.lane ≡ Some size
+    ensures inp { (homes : List ℕ) (count : ℕ) (ws : List Edge) (nodes : List (Seated S D L B)) (u : ℕ) (v : Edge) (size : ℕ) (i : Kept S D L B) → AreSeated homes count ws nodes → slice_get ws u ≡ Some v → v.lane ≡ Some size
         → ((q : ℕ) (l : Link) → slice_get (links_in homes ws nodes (slice_index homes v.to)) q ≡ Some l → comes_in (seats_in homes ws nodes (slice_index homes v.to)) l.from ≡ true → EntersBy i l.wire q)
         → ((seats_of homes ws).far u).at ≡ way_in i u }
 {}
@@ -45,15 +45,15 @@ pub fn lanes_lie_at_their_places<S: Source, D: Drain, L: Logic, B: PlugBook>()
 /// (`owned`): they are nets of its islands (`nets`), and each net is between two events (`settled`). Their nodes began as what stands at
 /// the nodes of the blueprint (`began`), and their crossings are its lanes (`lanes`). Rule: own.
 pub fn bodies_cover<S: Source, D: Drain, L: Logic, B: PlugBook>()
-    ensures covers { (g : Graph) (homes : List ℕ) (count : ℕ) (ws : List Wire) (nodes : List (Seated S D L B)) (crossings : List Crossing) (begun now : List (Body S D L B)) → AreBodiesOf S.state D.state B.lists g homes count ws nodes crossings begun → EachOf BodyGoes begun now → AllOf (BodyKeeps S.state D.state B.lists) now
+    ensures covers { (g : Graph) (homes : List ℕ) (count : ℕ) (ws : List Edge) (nodes : List (Seated S D L B)) (crossings : List Crossing) (begun now : List (Body S D L B)) → AreBodiesOf S.state D.state B.lists g homes count ws nodes crossings begun → EachOf BodyGoes begun now → AllOf (BodyKeeps S.state D.state B.lists) now
         → Covers g (net_of now) (seats_of homes ws) }
-    ensures owned { (g : Graph) (homes : List ℕ) (count : ℕ) (ws : List Wire) (nodes : List (Seated S D L B)) (crossings : List Crossing) (begun now : List (Body S D L B)) → AreBodiesOf S.state D.state B.lists g homes count ws nodes crossings begun → EachOf BodyGoes begun now → AllOf (BodyKeeps S.state D.state B.lists) now
+    ensures owned { (g : Graph) (homes : List ℕ) (count : ℕ) (ws : List Edge) (nodes : List (Seated S D L B)) (crossings : List Crossing) (begun now : List (Body S D L B)) → AreBodiesOf S.state D.state B.lists g homes count ws nodes crossings begun → EachOf BodyGoes begun now → AllOf (BodyKeeps S.state D.state B.lists) now
         → Owned g (net_of now) (seats_of homes ws) count }
-    ensures nets { (g : Graph) (homes : List ℕ) (count : ℕ) (ws : List Wire) (nodes : List (Seated S D L B)) (crossings : List Crossing) (begun now : List (Body S D L B)) → AreBodiesOf S.state D.state B.lists g homes count ws nodes crossings begun → EachOf BodyGoes begun now → AllOf (BodyKeeps S.state D.state B.lists) now
+    ensures nets { (g : Graph) (homes : List ℕ) (count : ℕ) (ws : List Edge) (nodes : List (Seated S D L B)) (crossings : List Crossing) (begun now : List (Body S D L B)) → AreBodiesOf S.state D.state B.lists g homes count ws nodes crossings begun → EachOf BodyGoes begun now → AllOf (BodyKeeps S.state D.state B.lists) now
         → AreNets homes ws nodes count (net_of now) }
-    ensures began { (g : Graph) (homes : List ℕ) (count : ℕ) (ws : List Wire) (nodes : List (Seated S D L B)) (crossings : List Crossing) (begun now : List (Body S D L B)) (all : ℕ → ℕ) → AreBodiesOf S.state D.state B.lists g homes count ws nodes crossings begun → EachOf BodyGoes begun now → AllOf (BodyKeeps S.state D.state B.lists) now
-        → (firsts : List (Node S D L B)) × (AllBecome nodes firsts × ((k : ℕ) → k < length g.nodes → (joined (net_of now) (seats_of homes ws) all).firsts k ≡ slice_get firsts k)) }
-    ensures lanes { (g : Graph) (homes : List ℕ) (count : ℕ) (ws : List Wire) (nodes : List (Seated S D L B)) (crossings : List Crossing) (begun now : List (Body S D L B)) → AreBodiesOf S.state D.state B.lists g homes count ws nodes crossings begun → EachOf BodyGoes begun now → AllOf (BodyKeeps S.state D.state B.lists) now
+    ensures began { (g : Graph) (homes : List ℕ) (count : ℕ) (ws : List Edge) (nodes : List (Seated S D L B)) (crossings : List Crossing) (begun now : List (Body S D L B)) (all : ℕ → ℕ) → AreBodiesOf S.state D.state B.lists g homes count ws nodes crossings begun → EachOf BodyGoes begun now → AllOf (BodyKeeps S.state D.state B.lists) now
+        → (firsts : List (IslandNode S D L B)) × (AllBecome nodes firsts × ((k : ℕ) → k < length g.nodes → (joined (net_of now) (seats_of homes ws) all).firsts k ≡ slice_get firsts k)) }
+    ensures lanes { (g : Graph) (homes : List ℕ) (count : ℕ) (ws : List Edge) (nodes : List (Seated S D L B)) (crossings : List Crossing) (begun now : List (Body S D L B)) → AreBodiesOf S.state D.state B.lists g homes count ws nodes crossings begun → EachOf BodyGoes begun now → AllOf (BodyKeeps S.state D.state B.lists) now
         → AreLanes homes ws now crossings }
     ensures settled { (now : List (Body S D L B)) → AllOf (BodyKeeps S.state D.state B.lists) now → AllSettled S.state D.state B.lists now }
 {}
@@ -61,14 +61,14 @@ pub fn bodies_cover<S: Source, D: Drain, L: Logic, B: PlugBook>()
 /// Where the ends of all lanes were brought together, of each lane is kept and known what an account wants, between the connections of
 /// its wire. Rule: own.
 pub fn their_lanes_keep<S: Source, D: Drain, L: Logic, B: PlugBook>()
-    ensures { (g : Graph) (homes : List ℕ) (count : ℕ) (ws : List Wire) (nodes : List (Seated S D L B)) (crossings : List Crossing) (begun now : List (Body S D L B)) (all : ℕ → ℕ) → AreBodiesOf S.state D.state B.lists g homes count ws nodes crossings begun → EachOf BodyGoes begun now → AllOf (BodyKeeps S.state D.state B.lists) now → AskedAre now crossings all → AllJoined BodiesJoined now crossings
+    ensures { (g : Graph) (homes : List ℕ) (count : ℕ) (ws : List Edge) (nodes : List (Seated S D L B)) (crossings : List Crossing) (begun now : List (Body S D L B)) (all : ℕ → ℕ) → AreBodiesOf S.state D.state B.lists g homes count ws nodes crossings begun → EachOf BodyGoes begun now → AllOf (BodyKeeps S.state D.state B.lists) now → AskedAre now crossings all → AllJoined BodiesJoined now crossings
         → LanesKeep g (net_of now) (seats_of homes ws) all }
 {}
 
 /// Where no body has an event, no net has one (`queues`), and each lane rests (`lanes`). Rule: own.
 pub fn their_lanes_rest<S: Source, D: Drain, L: Logic, B: PlugBook>()
     ensures queues { (crossings : List Crossing) (now : List (Body S D L B)) → AtRest is_pending BodiesJoined now crossings → (k : ℕ) → (net_of now k).queue ≡ [] }
-    ensures lanes { (g : Graph) (homes : List ℕ) (count : ℕ) (ws : List Wire) (nodes : List (Seated S D L B)) (crossings : List Crossing) (begun now : List (Body S D L B)) (all : ℕ → ℕ) → AreBodiesOf S.state D.state B.lists g homes count ws nodes crossings begun → EachOf BodyGoes begun now → AllOf (BodyKeeps S.state D.state B.lists) now → AskedAre now crossings all → AtRest is_pending BodiesJoined now crossings
+    ensures lanes { (g : Graph) (homes : List ℕ) (count : ℕ) (ws : List Edge) (nodes : List (Seated S D L B)) (crossings : List Crossing) (begun now : List (Body S D L B)) (all : ℕ → ℕ) → AreBodiesOf S.state D.state B.lists g homes count ws nodes crossings begun → EachOf BodyGoes begun now → AllOf (BodyKeeps S.state D.state B.lists) now → AskedAre now crossings all → AtRest is_pending BodiesJoined now crossings
         → LanesRest g (net_of now) (seats_of homes ws) all }
 {}
 
@@ -76,9 +76,9 @@ pub fn their_lanes_rest<S: Source, D: Drain, L: Logic, B: PlugBook>()
 /// and these costs are at least what was spent (`costs`). So all that was spent is below the count of the blueprint's wires over what
 /// they were sent, by one for each wire (`paid`). The asks that came to outputs are no more than what was spent (`asks`). Rule: own.
 pub fn bodies_are_paid<S: Source, D: Drain, L: Logic, B: PlugBook>()
-    ensures costs { (g : Graph) (homes : List ℕ) (count : ℕ) (ws : List Wire) (nodes : List (Seated S D L B)) (crossings : List Crossing) (begun now : List (Body S D L B)) (all : ℕ → ℕ) → AreBodiesOf S.state D.state B.lists g homes count ws nodes crossings begun → EachOf BodyGoes begun now → AllOf (BodyKeeps S.state D.state B.lists) now → AskedAre now crossings all → AllJoined BodiesJoined now crossings
+    ensures costs { (g : Graph) (homes : List ℕ) (count : ℕ) (ws : List Edge) (nodes : List (Seated S D L B)) (crossings : List Crossing) (begun now : List (Body S D L B)) (all : ℕ → ℕ) → AreBodiesOf S.state D.state B.lists g homes count ws nodes crossings begun → EachOf BodyGoes begun now → AllOf (BodyKeeps S.state D.state B.lists) now → AskedAre now crossings all → AllJoined BodiesJoined now crossings
         → (cost : ℕ → ℕ) × (LanesCost g (net_of now) (seats_of homes ws) all cost × (sum_by (λ b. b.spent) now ≤ sum_below (λ b. total (net_of now b)) count + over_lanes g cost)) }
-    ensures paid { (g : Graph) (homes : List ℕ) (count : ℕ) (ws : List Wire) (nodes : List (Seated S D L B)) (crossings : List Crossing) (begun now : List (Body S D L B)) (all : ℕ → ℕ) → AreBodiesOf S.state D.state B.lists g homes count ws nodes crossings begun → EachOf BodyGoes begun now → AllOf (BodyKeeps S.state D.state B.lists) now → AskedAre now crossings all → AllJoined BodiesJoined now crossings
+    ensures paid { (g : Graph) (homes : List ℕ) (count : ℕ) (ws : List Edge) (nodes : List (Seated S D L B)) (crossings : List Crossing) (begun now : List (Body S D L B)) (all : ℕ → ℕ) → AreBodiesOf S.state D.state B.lists g homes count ws nodes crossings begun → EachOf BodyGoes begun now → AllOf (BodyKeeps S.state D.state B.lists) now → AskedAre now crossings all → AllJoined BodiesJoined now crossings
         → sum_by (λ b. b.spent) now + length g.wires ≤ count_needed g (counts_of (joined (net_of now) (seats_of homes ws) all) g) }
     ensures asks { (count : ℕ) (now : List (Body S D L B)) → length now ≡ count → AllOf (BodyKeeps S.state D.state B.lists) now → sum_below (λ b. all_asks (net_of now b)) count ≤ sum_by (λ b. b.spent) now }
 {}
@@ -89,21 +89,21 @@ pub fn bodies_are_paid<S: Source, D: Drain, L: Logic, B: PlugBook>()
 /// want of memory (`kept`). Rule: own.
 pub fn broken_bodies_cover<S: Source, D: Drain, L: Logic, B: PlugBook>()
     ensures last { (begun now : List (Body S D L B)) → WholeOrBroken (BodyKeeps S.state D.state B.lists) BodyGoes (BodyBreaks S.state D.state B.lists) begun now → (then : List (Body S D L B)) × AreLastOf S.state D.state B.lists begun now then }
-    ensures covers { (g : Graph) (homes : List ℕ) (count : ℕ) (ws : List Wire) (nodes : List (Seated S D L B)) (crossings : List Crossing) (begun now then : List (Body S D L B)) → AreBodiesOf S.state D.state B.lists g homes count ws nodes crossings begun
+    ensures covers { (g : Graph) (homes : List ℕ) (count : ℕ) (ws : List Edge) (nodes : List (Seated S D L B)) (crossings : List Crossing) (begun now then : List (Body S D L B)) → AreBodiesOf S.state D.state B.lists g homes count ws nodes crossings begun
         → WholeOrBroken (BodyKeeps S.state D.state B.lists) BodyGoes (BodyBreaks S.state D.state B.lists) begun now → AreLastOf S.state D.state B.lists begun now then
         → Covers g (net_of then) (seats_of homes ws) }
-    ensures owned { (g : Graph) (homes : List ℕ) (count : ℕ) (ws : List Wire) (nodes : List (Seated S D L B)) (crossings : List Crossing) (begun now then : List (Body S D L B)) → AreBodiesOf S.state D.state B.lists g homes count ws nodes crossings begun
+    ensures owned { (g : Graph) (homes : List ℕ) (count : ℕ) (ws : List Edge) (nodes : List (Seated S D L B)) (crossings : List Crossing) (begun now then : List (Body S D L B)) → AreBodiesOf S.state D.state B.lists g homes count ws nodes crossings begun
         → WholeOrBroken (BodyKeeps S.state D.state B.lists) BodyGoes (BodyBreaks S.state D.state B.lists) begun now → AreLastOf S.state D.state B.lists begun now then
         → Owned g (net_of then) (seats_of homes ws) count }
-    ensures nets { (g : Graph) (homes : List ℕ) (count : ℕ) (ws : List Wire) (nodes : List (Seated S D L B)) (crossings : List Crossing) (begun now then : List (Body S D L B)) → AreBodiesOf S.state D.state B.lists g homes count ws nodes crossings begun
+    ensures nets { (g : Graph) (homes : List ℕ) (count : ℕ) (ws : List Edge) (nodes : List (Seated S D L B)) (crossings : List Crossing) (begun now then : List (Body S D L B)) → AreBodiesOf S.state D.state B.lists g homes count ws nodes crossings begun
         → WholeOrBroken (BodyKeeps S.state D.state B.lists) BodyGoes (BodyBreaks S.state D.state B.lists) begun now → AreLastOf S.state D.state B.lists begun now then
         → AreNets homes ws nodes count (net_of then) }
-    ensures began { (g : Graph) (homes : List ℕ) (count : ℕ) (ws : List Wire) (nodes : List (Seated S D L B)) (crossings : List Crossing) (begun now then : List (Body S D L B)) (all : ℕ → ℕ) → AreBodiesOf S.state D.state B.lists g homes count ws nodes crossings begun
+    ensures began { (g : Graph) (homes : List ℕ) (count : ℕ) (ws : List Edge) (nodes : List (Seated S D L B)) (crossings : List Crossing) (begun now then : List (Body S D L B)) (all : ℕ → ℕ) → AreBodiesOf S.state D.state B.lists g homes count ws nodes crossings begun
         → WholeOrBroken (BodyKeeps S.state D.state B.lists) BodyGoes (BodyBreaks S.state D.state B.lists) begun now → AreLastOf S.state D.state B.lists begun now then
-        → (firsts : List (Node S D L B)) × (AllBecome nodes firsts × ((k : ℕ) → k < length g.nodes → (joined (net_of then) (seats_of homes ws) all).firsts k ≡ slice_get firsts k)) }
+        → (firsts : List (IslandNode S D L B)) × (AllBecome nodes firsts × ((k : ℕ) → k < length g.nodes → (joined (net_of then) (seats_of homes ws) all).firsts k ≡ slice_get firsts k)) }
     ensures settled { (begun now then : List (Body S D L B)) → WholeOrBroken (BodyKeeps S.state D.state B.lists) BodyGoes (BodyBreaks S.state D.state B.lists) begun now → AreLastOf S.state D.state B.lists begun now then
         → AllSettled S.state D.state B.lists then }
-    ensures lanes { (g : Graph) (homes : List ℕ) (count : ℕ) (ws : List Wire) (nodes : List (Seated S D L B)) (crossings : List Crossing) (begun now then : List (Body S D L B)) (all : ℕ → ℕ) → AreBodiesOf S.state D.state B.lists g homes count ws nodes crossings begun
+    ensures lanes { (g : Graph) (homes : List ℕ) (count : ℕ) (ws : List Edge) (nodes : List (Seated S D L B)) (crossings : List Crossing) (begun now then : List (Body S D L B)) (all : ℕ → ℕ) → AreBodiesOf S.state D.state B.lists g homes count ws nodes crossings begun
         → WholeOrBroken (BodyKeeps S.state D.state B.lists) BodyGoes (BodyBreaks S.state D.state B.lists) begun now → AreLastOf S.state D.state B.lists begun now then → AskedAre now crossings all → AllJoined BodiesJoined now crossings
         → LanesKeep g (net_of then) (seats_of homes ws) all }
     ensures kept { (begun now then : List (Body S D L B)) → WholeOrBroken (BodyKeeps S.state D.state B.lists) BodyGoes (BodyBreaks S.state D.state B.lists) begun now → AreLastOf S.state D.state B.lists begun now then

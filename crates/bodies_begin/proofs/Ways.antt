@@ -5,7 +5,7 @@ use Rattle.std.proofs.lemmas.List.{length-map, map-append}
 use Rattle.std.proofs.lemmas.Option.{get_or_from_slice_get}
 use Rattle.stream_io.specs.State.{SourceState, DrainState}
 use Rattle.stream_model.specs.Linear.{Book}
-use Rattle.stream_model.specs.Graph.{Wire}
+use Rattle.stream_model.specs.Graph.{Edge}
 use Rattle.interpreter.specs.Island.{Kept}
 use Rattle.interpreter.specs.Parts.{ends_of}
 use Rattle.interpreter.specs.declared.parts.Parts.{Parts}
@@ -24,7 +24,7 @@ use Rattle.island_bodies.specs.Making.{way_homes}
 
 module _ (homes hs : List ℕ) where
   -- a link at an output lies in the island in which its wire begins
-  near_homes : (out u : ℕ) (ws : List Wire) → ((i : ℕ) (w : Wire) → slice_get ws i ≡ Some w → slice_index hs w.from ≡ slice_index homes w.from) → map (link_home hs) (nears_from out u ws) ≡ map (wire_home homes) ws
+  near_homes : (out u : ℕ) (ws : List Edge) → ((i : ℕ) (w : Edge) → slice_get ws i ≡ Some w → slice_index hs w.from ≡ slice_index homes w.from) → map (link_home hs) (nears_from out u ws) ≡ map (wire_home homes) ws
   near_homes out u [] same = refl
   near_homes out u (w ∷ ws) same =
       ap (λ h. h ∷ map (link_home hs) (nears_from (one_lane w.lane out) (u + 1) ws)) (first w.lane) ∙ ap (λ l. wire_home homes w ∷ l) (near_homes (one_lane w.lane out) (u + 1) ws (λ i v at. same (suc i) v at))
@@ -34,7 +34,7 @@ module _ (homes hs : List ℕ) where
       first (Some s) = same 0 w refl
 
   -- one at an input lies in that which its lane comes into
-  far_homes : (place u : ℕ) (ws : List Wire) → ((j : ℕ) (l : LanePlan) → slice_get (lanes_from homes u ws) j ≡ Some l → slice_index hs (place + j) ≡ l.to) → map (link_home hs) (fars_from place u ws) ≡ map (λ (l : LanePlan). l.to) (lanes_from homes u ws)
+  far_homes : (place u : ℕ) (ws : List Edge) → ((j : ℕ) (l : LanePlan) → slice_get (lanes_from homes u ws) j ≡ Some l → slice_index hs (place + j) ≡ l.to) → map (link_home hs) (fars_from place u ws) ≡ map (λ (l : LanePlan). l.to) (lanes_from homes u ws)
   far_homes place u [] into = refl
   far_homes place u (w ∷ ws) into = by w.lane into (λ p more. far_homes p (u + 1) ws more)
     where
@@ -48,7 +48,7 @@ module _ (homes hs : List ℕ) where
           let later = rest (suc place) (λ j l here. let one_more : suc place + j ≡ place + suc j = omega arith in ap (slice_index hs) one_more ∙ at (suc j) l here) in
           ap (λ h. h ∷ map (link_home hs) (fars_from (suc place) (u + 1) ws)) first ∙ ap (λ l. slice_index homes w.to ∷ l) later
 
-module _ {S D L B : Type 0} (homes : List ℕ) (count : ℕ) (ws : List Wire) (nodes : List (Seated S D L B)) (a : AreSeated homes count ws nodes) where
+module _ {S D L B : Type 0} (homes : List ℕ) (count : ℕ) (ws : List Edge) (nodes : List (Seated S D L B)) (a : AreSeated homes count ws nodes) where
   -- the islands of all links
   pub homes_of_links : link_homes homes ws ≡ way_homes (map (wire_home homes) ws) (lanes_from homes 0 ws)
   homes_of_links =

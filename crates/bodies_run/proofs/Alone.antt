@@ -2,12 +2,12 @@
 use Rattle.std.specs.Prelude.{slice_get}
 use Rattle.std.proofs.Common.{◌≡◌, ℕ, ◌+◌, ◌<◌, List, [], ◌∷◌, length, Some, refl, sym, ap, ◌∙◌, subst}
 use Rattle.stream_io.specs.State.{SourceState, DrainState}
-use Rattle.stream_model.specs.Graph.{Graph, Wire}
+use Rattle.stream_model.specs.Graph.{Graph, Edge}
 use Rattle.stream_model.specs.Graph as graph
 use Rattle.stream_model.proofs.Compositions.{slice_get-below}
 use Rattle.stream_model.specs.declared.outcome.WireCount.{WireCount}
 use Rattle.nodes.specs.Nodes.{node_row, node_law, node_asking, node_moves}
-use Rattle.nodes.specs.declared.node.Node.{Node}
+use Rattle.nodes.specs.declared.node.IslandNode.{IslandNode}
 use Rattle.interpreter.specs.declared.parts.Seated.{Seated}
 use Rattle.run_account.specs.Account.{Account, NodeKeeps, IsStill}
 use Rattle.run_account.specs.Pictures.{counts_from}
@@ -17,7 +17,7 @@ use Rattle.bodies_run.specs.Leaving.{AreLeft, of_lists}
 use Rattle.bodies_run.proofs.Leaving.{become_many}
 use Rattle.stream_model.specs.Linear.{Book}
 
-module _ {S D L B : Type 0} (sources : S → SourceState) (drains : D → DrainState) (book : Book) (g : Graph) (a : Account (Node S D L B)) (places : List (Seated S D L B)) (nodes : List (Node S D L B)) (left : AreLeft places a nodes) where
+module _ {S D L B : Type 0} (sources : S → SourceState) (drains : D → DrainState) (book : Book) (g : Graph) (a : Account (IslandNode S D L B)) (places : List (Seated S D L B)) (nodes : List (IslandNode S D L B)) (left : AreLeft places a nodes) where
   pub run_alone : length places ≡ length g.nodes → IsRun sources drains book g a → IsRun sources drains book g (of_lists a left.firsts nodes)
   run_alone many run = record {
     joined = run.joined;
@@ -54,6 +54,6 @@ pub still_alone : {N : Type 0} (g : Graph) (a : Account N) (firsts nodes : List 
 still_alone g a firsts nodes s = record { near = s.near; far = s.far; quiet = s.quiet }
 
 -- its picture is the same
-pub counts_alone : {N : Type 0} (a : Account N) (firsts nodes : List N) (i : ℕ) (ws : List Wire) → counts_from (of_lists a firsts nodes) i ws ≡ counts_from a i ws
+pub counts_alone : {N : Type 0} (a : Account N) (firsts nodes : List N) (i : ℕ) (ws : List Edge) → counts_from (of_lists a firsts nodes) i ws ≡ counts_from a i ws
 counts_alone a firsts nodes i [] = refl
 counts_alone a firsts nodes i (v ∷ ws) = ap (λ (cs : List WireCount). wire_count v.lane (a.near i) (a.asked i) ∷ cs) (counts_alone a firsts nodes (i + 1) ws)

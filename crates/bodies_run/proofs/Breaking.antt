@@ -8,7 +8,7 @@ use Rattle.plug_core.specs.declared.head.PlugHead.{PlugHead}
 use Rattle.stream_io.specs.State.{SourceState, DrainState}
 use Rattle.fused_net.specs.Laws.{AllKept}
 use Rattle.nodes.specs.Nodes.{KeepsNode}
-use Rattle.nodes.specs.declared.node.Node.{Node}
+use Rattle.nodes.specs.declared.node.IslandNode.{IslandNode}
 use Rattle.interpreter.specs.declared.parts.Seated.{Seated}
 use Rattle.run_laws.specs.Runs.{IsRun}
 use Rattle.run_laws.proofs.Islands.{all_run}
@@ -30,14 +30,14 @@ use Rattle.stream_model.specs.Linear.{Book}
 
 module _ {S D L B : Type 0} (sources : S → SourceState) (drains : D → DrainState) (book : Book) (begun now : List (Body S D L B)) (broke : WholeOrBroken (BodyKeeps sources drains book) BodyGoes (BodyBreaks sources drains book) begun now) (then : List (Body S D L B))
     (l : AreLastOf sources drains book begun now then) where
-  pub broken_kept : (homes : List ℕ) (count : ℕ) (b : Blueprint) (last ends broken later : List (Node S D L B)) → AreBroughtBack homes count (blueprint_wires b) (λ k. (net_of then k).nodes) last ends
+  pub broken_kept : (homes : List ℕ) (count : ℕ) (b : Blueprint) (last ends broken later : List (IslandNode S D L B)) → AreBroughtBack homes count (blueprint_wires b) (λ k. (net_of then k).nodes) last ends
       → AreBroughtBack homes count (blueprint_wires b) (λ k. (net_of now k).nodes) broken later → AllKept (KeepsNode sources drains) last broken
   broken_kept homes count b last ends broken later r s =
       kept_back (KeepsNode sources drains) homes count (blueprint_wires b) (λ (k : ℕ). (net_of then k).nodes) (λ (k : ℕ). (net_of now k).nodes) last ends broken later (last_kept sources drains book begun now broke then l) r s
 
   module _ (b : Blueprint) (homes : List ℕ) (count : ℕ) (nodes : List (Seated S D L B)) (crossings : List Crossing) (m : AreBodiesOf sources drains book (graph_of b) homes count (blueprint_wires b) nodes crossings begun) where
-    pub broken_back : ((last : List (Node S D L B)) × ((ends : List (Node S D L B)) × AreBroughtBack homes count (blueprint_wires b) (λ k. (net_of then k).nodes) last ends))
-        × ((broken : List (Node S D L B)) × ((ends : List (Node S D L B)) × AreBroughtBack homes count (blueprint_wires b) (λ k. (net_of now k).nodes) broken ends))
+    pub broken_back : ((last : List (IslandNode S D L B)) × ((ends : List (IslandNode S D L B)) × AreBroughtBack homes count (blueprint_wires b) (λ k. (net_of then k).nodes) last ends))
+        × ((broken : List (IslandNode S D L B)) × ((ends : List (IslandNode S D L B)) × AreBroughtBack homes count (blueprint_wires b) (λ k. (net_of now k).nodes) broken ends))
     broken_back =
         let nets = last_nets sources drains book begun now broke then l (graph_of b) homes count (blueprint_wires b) nodes crossings m in (
           nodes_back homes count (blueprint_wires b) nodes m.seated (net_of then) nets,
@@ -46,7 +46,7 @@ module _ {S D L B : Type 0} (sources : S → SourceState) (drains : D → DrainS
         )
 
     module _ (all : ℕ → ℕ) where
-      pub broken_left : (last ends : List (Node S D L B)) → AreBroughtBack homes count (blueprint_wires b) (λ k. (net_of then k).nodes) last ends
+      pub broken_left : (last ends : List (IslandNode S D L B)) → AreBroughtBack homes count (blueprint_wires b) (λ k. (net_of then k).nodes) last ends
           → AreLeft nodes (account_in homes (blueprint_wires b) then all) last
       broken_left last ends r =
           let w = last_began sources drains book begun now broke then l (graph_of b) homes count (blueprint_wires b) nodes crossings m all in

@@ -7,7 +7,7 @@ use Rattle.blue_check.specs.Wires.{blueprint_wires}
 use Rattle.blue_core.specs.declared.blueprint.Blueprint.{Blueprint}
 use Rattle.plug_core.specs.declared.head.PlugHead.{PlugHead}
 use Rattle.stream_io.specs.State.{SourceState, DrainState}
-use Rattle.nodes.specs.declared.node.Node.{Node}
+use Rattle.nodes.specs.declared.node.IslandNode.{IslandNode}
 use Rattle.interpreter.specs.declared.parts.Seated.{Seated}
 use Rattle.run_account.specs.Account.{IsStill}
 use Rattle.run_laws.specs.Runs.{IsRun}
@@ -43,11 +43,11 @@ module _ {S D L B : Type 0} (sources : S → SourceState) (drains : D → DrainS
   lanes : AreLanes homes (blueprint_wires b) now crossings
   lanes = lanes_on homes (blueprint_wires b) begun now goes.count goes_on crossings m.lanes_are
 
-  pub bodies_back : (last : List (Node S D L B)) × ((ends : List (Node S D L B)) × AreBroughtBack homes count (blueprint_wires b) (λ k. (net_of now k).nodes) last ends)
+  pub bodies_back : (last : List (IslandNode S D L B)) × ((ends : List (IslandNode S D L B)) × AreBroughtBack homes count (blueprint_wires b) (λ k. (net_of now k).nodes) last ends)
   bodies_back = nodes_back homes count (blueprint_wires b) nodes m.seated (net_of now) (now_nets sources drains book (graph_of b) homes count (blueprint_wires b) nodes crossings begun m now goes.count goes_on)
 
   module _ (all : ℕ → ℕ) where
-    pub bodies_left : (last ends : List (Node S D L B)) → AreBroughtBack homes count (blueprint_wires b) (λ k. (net_of now k).nodes) last ends → AreLeft nodes (account_in homes (blueprint_wires b) now all) last
+    pub bodies_left : (last ends : List (IslandNode S D L B)) → AreBroughtBack homes count (blueprint_wires b) (λ k. (net_of now k).nodes) last ends → AreLeft nodes (account_in homes (blueprint_wires b) now all) last
     bodies_left last ends r =
         let w = nets_began sources drains book (graph_of b) homes count (blueprint_wires b) nodes crossings begun m now goes.count goes_on all in
         are_left homes count (blueprint_wires b) nodes m.seated (net_of now) (now_nets sources drains book (graph_of b) homes count (blueprint_wires b) nodes crossings begun m now goes.count goes_on) all _ m.graph.each_node w.0 w.1.0 w.1.1 last ends r

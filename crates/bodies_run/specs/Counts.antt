@@ -1,13 +1,13 @@
 -- What each wire is told to have carried, and of how many elements its lane was asked.
 use Rattle.std.specs.Prelude.{ℕ, ◌+◌, ◌==◌, if◌then◌else◌, List, [], ◌∷◌}
-use Rattle.stream_model.specs.Graph.{Wire}
+use Rattle.stream_model.specs.Graph.{Edge}
 use Rattle.stream_model.specs.declared.outcome.WireCount.{WireCount}
-use Rattle.wire_core.specs.Cell.{Cell}
+use Rattle.wire_core.specs.Cell.{WireState}
 use Rattle.interpreter.specs.Island.{count_of}
 use Rattle.traversal.specs.declared.plan.LanePlan.{LanePlan}
 
 -- the number of each wire, and how its connection at the output stands, where the first is wire u
-abbrev pub told_from : (ℕ → Cell) → ℕ → List Wire → List (ℕ × WireCount)
+abbrev pub told_from : (ℕ → WireState) → ℕ → List Edge → List (ℕ × WireCount)
 told_from near u [] = []
 told_from near u (v ∷ vs) = (u, count_of (near u)) ∷ told_from near (u + 1) vs
 

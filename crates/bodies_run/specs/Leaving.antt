@@ -1,7 +1,7 @@
 -- What the bodies of a blueprint's islands leave: an account of its wires, and its nodes in their order.
 use Rattle.std.specs.Prelude.{◌≡◌, ℕ, ◌<◌, List, length, slice_get}
-use Rattle.stream_model.specs.Graph.{Wire}
-use Rattle.nodes.specs.declared.node.Node.{Node}
+use Rattle.stream_model.specs.Graph.{Edge}
+use Rattle.nodes.specs.declared.node.IslandNode.{IslandNode}
 use Rattle.interpreter.specs.Parts.{AllBecome}
 use Rattle.interpreter.specs.declared.parts.Seated.{Seated}
 use Rattle.run_account.specs.Account.{Account}
@@ -11,13 +11,13 @@ use Rattle.island_body.specs.declared.body.Body.{Body}
 use Rattle.bodies_account.specs.Bodies.{net_of}
 
 -- what bodies tell together, where the input ends of the lanes asked for so many elements
-abbrev pub account_in : {S D L B : Type 0} → List ℕ → List Wire → List (Body S D L B) → (ℕ → ℕ) → Account (Node S D L B)
+abbrev pub account_in : {S D L B : Type 0} → List ℕ → List Edge → List (Body S D L B) → (ℕ → ℕ) → Account (IslandNode S D L B)
 account_in homes ws bodies all = joined (net_of bodies) (seats_of homes ws) all
 
 -- The account is of these nodes, in the order of the blueprint, and they began as what stands at these places. Beyond them it says
 -- nothing of nodes.
-pub record AreLeft {S D L B : Type 0} (places : List (Seated S D L B)) (account : Account (Node S D L B)) (nodes : List (Node S D L B)) : Type 0 where
-  pub firsts : List (Node S D L B)
+pub record AreLeft {S D L B : Type 0} (places : List (Seated S D L B)) (account : Account (IslandNode S D L B)) (nodes : List (IslandNode S D L B)) : Type 0 where
+  pub firsts : List (IslandNode S D L B)
   pub become : AllBecome places firsts
   pub first_at : (k : ℕ) → k < length firsts → account.firsts k ≡ slice_get firsts k
   pub node_at : (k : ℕ) → k < length nodes → account.nodes k ≡ slice_get nodes k

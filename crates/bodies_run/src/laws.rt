@@ -9,7 +9,7 @@ ghost use Rattle.stream_model.specs.Graph.{Graph};
 ghost use Rattle.stream_picture.specs.Shape.{count_needed};
 ghost use Rattle.fused_net.specs.Laws.{AllKept};
 ghost use Rattle.nodes.specs.Nodes.{KeepsNode};
-ghost use Rattle.nodes.specs.declared.node.Node.{Node};
+ghost use Rattle.nodes.specs.declared.node.IslandNode.{IslandNode};
 ghost use Rattle.interpreter.specs.declared.parts.Seated.{Seated};
 ghost use Rattle.run_account.specs.Account.{Account, IsStill};
 ghost use Rattle.run_account.specs.Pictures.{counts_of};
@@ -40,8 +40,8 @@ pub fn bodies_leave_a_run<S: Source, D: Drain, L: Logic, B: PlugBook>()
         → AreBodiesOf S.state D.state B.lists (graph_of b) homes count (blueprint_wires b) nodes crossings begun → EachOf BodyGoes begun now → AllOf (BodyKeeps S.state D.state B.lists) now → AskedAre now crossings all → AllJoined BodiesJoined now crossings
         → IsRun S.state D.state B.lists (graph_of b) (account_in homes (blueprint_wires b) now all) }
     ensures back { (b : Blueprint) (homes : List ℕ) (count : ℕ) (nodes : List (Seated S D L B)) (crossings : List Crossing) (begun now : List (Body S D L B)) → AreBodiesOf S.state D.state B.lists (graph_of b) homes count (blueprint_wires b) nodes crossings begun → EachOf BodyGoes begun now → AllOf (BodyKeeps S.state D.state B.lists) now
-        → (last : List (Node S D L B)) × ((ends : List (Node S D L B)) × AreBroughtBack homes count (blueprint_wires b) (λ k. (net_of now k).nodes) last ends) }
-    ensures nodes { (b : Blueprint) (homes : List ℕ) (count : ℕ) (nodes : List (Seated S D L B)) (crossings : List Crossing) (begun now : List (Body S D L B)) (all : ℕ → ℕ) (last ends : List (Node S D L B)) → AreBodiesOf S.state D.state B.lists (graph_of b) homes count (blueprint_wires b) nodes crossings begun → EachOf BodyGoes begun now → AllOf (BodyKeeps S.state D.state B.lists) now
+        → (last : List (IslandNode S D L B)) × ((ends : List (IslandNode S D L B)) × AreBroughtBack homes count (blueprint_wires b) (λ k. (net_of now k).nodes) last ends) }
+    ensures nodes { (b : Blueprint) (homes : List ℕ) (count : ℕ) (nodes : List (Seated S D L B)) (crossings : List Crossing) (begun now : List (Body S D L B)) (all : ℕ → ℕ) (last ends : List (IslandNode S D L B)) → AreBodiesOf S.state D.state B.lists (graph_of b) homes count (blueprint_wires b) nodes crossings begun → EachOf BodyGoes begun now → AllOf (BodyKeeps S.state D.state B.lists) now
         → AreBroughtBack homes count (blueprint_wires b) (λ k. (net_of now k).nodes) last ends → AreLeft nodes (account_in homes (blueprint_wires b) now all) last }
     ensures still { (b : Blueprint) (homes : List ℕ) (count : ℕ) (nodes : List (Seated S D L B)) (crossings : List Crossing) (begun now : List (Body S D L B)) (all : ℕ → ℕ) → AreBodiesOf S.state D.state B.lists (graph_of b) homes count (blueprint_wires b) nodes crossings begun → EachOf BodyGoes begun now → AllOf (BodyKeeps S.state D.state B.lists) now → AskedAre now crossings all → AtRest is_pending BodiesJoined now crossings
         → IsStill (graph_of b) (account_in homes (blueprint_wires b) now all) }
@@ -57,11 +57,11 @@ pub fn broken_bodies_leave_a_run<S: Source, D: Drain, L: Logic, B: PlugBook>()
         → AreBodiesOf S.state D.state B.lists (graph_of b) homes count (blueprint_wires b) nodes crossings begun → WholeOrBroken (BodyKeeps S.state D.state B.lists) BodyGoes (BodyBreaks S.state D.state B.lists) begun now → AreLastOf S.state D.state B.lists begun now then
         → AskedAre now crossings all → AllJoined BodiesJoined now crossings → IsRun S.state D.state B.lists (graph_of b) (account_in homes (blueprint_wires b) then all) }
     ensures back { (b : Blueprint) (homes : List ℕ) (count : ℕ) (nodes : List (Seated S D L B)) (crossings : List Crossing) (begun now then : List (Body S D L B)) → AreBodiesOf S.state D.state B.lists (graph_of b) homes count (blueprint_wires b) nodes crossings begun → WholeOrBroken (BodyKeeps S.state D.state B.lists) BodyGoes (BodyBreaks S.state D.state B.lists) begun now → AreLastOf S.state D.state B.lists begun now then
-        → ((last : List (Node S D L B)) × ((ends : List (Node S D L B)) × AreBroughtBack homes count (blueprint_wires b) (λ k. (net_of then k).nodes) last ends))
-        × ((broken : List (Node S D L B)) × ((ends : List (Node S D L B)) × AreBroughtBack homes count (blueprint_wires b) (λ k. (net_of now k).nodes) broken ends)) }
-    ensures nodes { (b : Blueprint) (homes : List ℕ) (count : ℕ) (nodes : List (Seated S D L B)) (crossings : List Crossing) (begun now then : List (Body S D L B)) (all : ℕ → ℕ) (last ends : List (Node S D L B)) → AreBodiesOf S.state D.state B.lists (graph_of b) homes count (blueprint_wires b) nodes crossings begun → WholeOrBroken (BodyKeeps S.state D.state B.lists) BodyGoes (BodyBreaks S.state D.state B.lists) begun now → AreLastOf S.state D.state B.lists begun now then
+        → ((last : List (IslandNode S D L B)) × ((ends : List (IslandNode S D L B)) × AreBroughtBack homes count (blueprint_wires b) (λ k. (net_of then k).nodes) last ends))
+        × ((broken : List (IslandNode S D L B)) × ((ends : List (IslandNode S D L B)) × AreBroughtBack homes count (blueprint_wires b) (λ k. (net_of now k).nodes) broken ends)) }
+    ensures nodes { (b : Blueprint) (homes : List ℕ) (count : ℕ) (nodes : List (Seated S D L B)) (crossings : List Crossing) (begun now then : List (Body S D L B)) (all : ℕ → ℕ) (last ends : List (IslandNode S D L B)) → AreBodiesOf S.state D.state B.lists (graph_of b) homes count (blueprint_wires b) nodes crossings begun → WholeOrBroken (BodyKeeps S.state D.state B.lists) BodyGoes (BodyBreaks S.state D.state B.lists) begun now → AreLastOf S.state D.state B.lists begun now then
         → AreBroughtBack homes count (blueprint_wires b) (λ k. (net_of then k).nodes) last ends → AreLeft nodes (account_in homes (blueprint_wires b) then all) last }
-    ensures kept { (homes : List ℕ) (count : ℕ) (b : Blueprint) (begun now then : List (Body S D L B)) (last ends broken later : List (Node S D L B)) → WholeOrBroken (BodyKeeps S.state D.state B.lists) BodyGoes (BodyBreaks S.state D.state B.lists) begun now → AreLastOf S.state D.state B.lists begun now then
+    ensures kept { (homes : List ℕ) (count : ℕ) (b : Blueprint) (begun now then : List (Body S D L B)) (last ends broken later : List (IslandNode S D L B)) → WholeOrBroken (BodyKeeps S.state D.state B.lists) BodyGoes (BodyBreaks S.state D.state B.lists) begun now → AreLastOf S.state D.state B.lists begun now then
         → AreBroughtBack homes count (blueprint_wires b) (λ k. (net_of then k).nodes) last ends → AreBroughtBack homes count (blueprint_wires b) (λ k. (net_of now k).nodes) broken later
         → AllKept (KeepsNode S.state D.state) last broken }
 {}
@@ -69,8 +69,8 @@ pub fn broken_bodies_leave_a_run<S: Source, D: Drain, L: Logic, B: PlugBook>()
 /// A run is one too by an account that says nothing beyond the nodes of the blueprint, which holds lists of them (`run`). It is as still
 /// (`still`), and its picture is the same (`counts`). Rule: own.
 pub fn nodes_alone_are_a_run<S: Source, D: Drain, L: Logic, B: PlugBook>()
-    ensures run { (g : Graph) (a : Account (Node S D L B)) (places : List (Seated S D L B)) (nodes : List (Node S D L B)) → (left : AreLeft places a nodes) → length places ≡ length g.nodes → IsRun S.state D.state B.lists g a
+    ensures run { (g : Graph) (a : Account (IslandNode S D L B)) (places : List (Seated S D L B)) (nodes : List (IslandNode S D L B)) → (left : AreLeft places a nodes) → length places ≡ length g.nodes → IsRun S.state D.state B.lists g a
         → IsRun S.state D.state B.lists g (of_lists a left.firsts nodes) }
-    ensures still { (g : Graph) (a : Account (Node S D L B)) (firsts nodes : List (Node S D L B)) → IsStill g a → IsStill g (of_lists a firsts nodes) }
-    ensures counts { (g : Graph) (a : Account (Node S D L B)) (firsts nodes : List (Node S D L B)) → counts_of (of_lists a firsts nodes) g ≡ counts_of a g }
+    ensures still { (g : Graph) (a : Account (IslandNode S D L B)) (firsts nodes : List (IslandNode S D L B)) → IsStill g a → IsStill g (of_lists a firsts nodes) }
+    ensures counts { (g : Graph) (a : Account (IslandNode S D L B)) (firsts nodes : List (IslandNode S D L B)) → counts_of (of_lists a firsts nodes) g ≡ counts_of a g }
 {}

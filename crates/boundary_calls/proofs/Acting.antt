@@ -11,7 +11,7 @@ use Rattle.stream_model.specs.Linear.{Book}
 use Rattle.stage_law.specs.Held.{told}
 use Rattle.port_core.specs.Decoding.{can_push, can_pull}
 use Rattle.port_core.specs.Joint.{Joint, idle, asking, asked, moving, ending, closing, leaving, finished, parted, refused, wire_of, IsSound, Histories, under_way}
-use Rattle.port_core.specs.Wire.{Wire, end_of}
+use Rattle.port_core.specs.Wire.{JointPorts, end_of}
 use Rattle.port_core.specs.View.{View, in_at, out_at, IsInOpen, IsOutOpen, output_closed, input_closed}
 use Rattle.port_core.specs.declared.act.Act.{Act}
 use Rattle.port_core.specs.declared.act.Act.TheVariants.{Pull, Push, Complete, FailOut, Cancel}
@@ -19,7 +19,7 @@ use Rattle.port_core.specs.declared.view.InView.{InView}
 use Rattle.port_core.specs.declared.view.InView.TheVariants.{Idle, Pulled, Finished, Cancelled}
 use Rattle.port_core.specs.declared.view.OutView.{OutView}
 use Rattle.port_core.specs.declared.view.OutView.TheVariants as outlet
-use Rattle.wire_core.specs.Cell.{Cell, moved_by, queues_by}
+use Rattle.wire_core.specs.Cell.{WireState, moved_by, queues_by}
 use Rattle.wire_core.specs.Counts.{elements}
 use Rattle.wire_core.specs.Marks.{wanted as asks_of}
 use Rattle.wire_core.specs.Reading.{no_wire, inp_of, out_of, got_of}
@@ -29,8 +29,8 @@ use Rattle.stage_boundary.specs.Leaving.{Leaving, LeavingRow, LeavingLaw}
 use Rattle.stage_boundary.proofs.Enters.{may_push as enters_push, may_complete as enters_complete, may_fail as enters_fail}
 use Rattle.stage_boundary.proofs.Leaves.{may_pull as leaves_pull, may_cancel as leaves_cancel}
 use Rattle.nodes.specs.Nodes.{node_row, node_law, node_asking, node_moves, node_waits, node_gone}
-use Rattle.nodes.specs.declared.node.Node.{Node}
-use Rattle.nodes.specs.declared.node.Node.TheVariants as node
+use Rattle.nodes.specs.declared.node.IslandNode.{IslandNode}
+use Rattle.nodes.specs.declared.node.IslandNode.TheVariants as node
 use Rattle.fused_net.specs.Net.{Net, read_all, end_at, wire_at, ports_at, view_of, took, gave, put, acted}
 use Rattle.fused_net.specs.Laws.{Minds, IsMinded, Settled}
 use Rattle.fused_net.specs.Poking.{AtNode, TellsPoked}
@@ -53,8 +53,8 @@ asked_j (finished t c) s g e = cc
 asked_j (parted t c) s g e = cc
 asked_j (refused t c) s g e = cc
 
-can_push_asked : (w : Wire) (q : Bool) → IsSound w q → can_push w.conn ≡ true → w.out ≡ outlet.Available
-can_push_asked w q h e = ap (λ (v : Wire). v.out) h.is ∙ asked_j h.joint w.sent w.got (sym (ap (λ (v : Wire). can_push v.conn) h.is) ∙ e)
+can_push_asked : (w : JointPorts) (q : Bool) → IsSound w q → can_push w.conn ≡ true → w.out ≡ outlet.Available
+can_push_asked w q h e = ap (λ (v : JointPorts). v.out) h.is ∙ asked_j h.joint w.sent w.got (sym (ap (λ (v : JointPorts). can_push v.conn) h.is) ∙ e)
 
 idle_j : (j : Joint) (s g : List Item) → can_pull (wire_of j s g).conn ≡ true → (wire_of j s g).inp ≡ Idle
 idle_j idle s g e = refl
@@ -69,8 +69,8 @@ idle_j (finished t c) s g e = cc
 idle_j (parted t c) s g e = cc
 idle_j (refused t c) s g e = cc
 
-can_pull_idle : (w : Wire) (q : Bool) → IsSound w q → can_pull w.conn ≡ true → w.inp ≡ Idle
-can_pull_idle w q h e = ap (λ (v : Wire). v.inp) h.is ∙ idle_j h.joint w.sent w.got (sym (ap (λ (v : Wire). can_pull v.conn) h.is) ∙ e)
+can_pull_idle : (w : JointPorts) (q : Bool) → IsSound w q → can_pull w.conn ≡ true → w.inp ≡ Idle
+can_pull_idle w q h e = ap (λ (v : JointPorts). v.inp) h.is ∙ idle_j h.joint w.sent w.got (sym (ap (λ (v : JointPorts). can_pull v.conn) h.is) ∙ e)
 
 wanted_push : (y : OutView) (b : Bool) → wanted_by y b ≡ wanted.Asked → b ≡ true
 wanted_push y true e = refl
@@ -82,7 +82,7 @@ wanted_push outlet.Cancelled false e = cc
 -- ---- one node
 
 module _ {S D L B : Type 0} (sources : S → SourceState) (drains : D → DrainState) (book : Book) (v : View) (t g : List (List Item)) (a : Act) where
-  entering_does : (x first : Node S D L B) → IsEntering first → ((e f : Entering) → EnteringRow e v → EnteringLaw f e v t g → Does EnteringRow EnteringLaw e f v t g a)
+  entering_does : (x first : IslandNode S D L B) → IsEntering first → ((e f : Entering) → EnteringRow e v → EnteringLaw f e v t g → Does EnteringRow EnteringLaw e f v t g a)
       → Minds node_row (node_law sources drains book) x first v t g [] → Minds node_row (node_law sources drains book) x first v t g (a ∷ [])
   entering_does (node.Entering x) (node.Entering f) h d m = let y = d x f m.row_holds m.law_holds in record { allowed = (y.allowed, tt); row_holds = y.row_holds; law_holds = y.law_holds }
   entering_does (node.Reading x) (node.Entering f) h d m = absurd m.law_holds
@@ -106,7 +106,7 @@ module _ {S D L B : Type 0} (sources : S → SourceState) (drains : D → DrainS
   entering_does x (node.Ignoring f) h d m = absurd h
   entering_does x (node.Leaving f) h d m = absurd h
 
-  leaving_does : (x first : Node S D L B) → IsLeaving first → ((e f : Leaving) → x ≡ node.Leaving e → LeavingRow e v → LeavingLaw f e v t g → Does LeavingRow LeavingLaw e f v t g a)
+  leaving_does : (x first : IslandNode S D L B) → IsLeaving first → ((e f : Leaving) → x ≡ node.Leaving e → LeavingRow e v → LeavingLaw f e v t g → Does LeavingRow LeavingLaw e f v t g a)
       → Minds node_row (node_law sources drains book) x first v t g [] → Minds node_row (node_law sources drains book) x first v t g (a ∷ [])
   leaving_does (node.Leaving x) (node.Leaving f) h d m = let y = d x f refl m.row_holds m.law_holds in record { allowed = (y.allowed, tt); row_holds = y.row_holds; law_holds = y.law_holds }
   leaving_does (node.Reading x) (node.Leaving f) h d m = absurd m.law_holds
@@ -145,7 +145,7 @@ elements-append (item.Elem e ∷ xs) ys = let r = elements-append xs ys in omega
 elements-append (item.Ended ∷ xs) ys = elements-append xs ys
 elements-append (item.Failed c ∷ xs) ys = elements-append xs ys
 
-got_there : (wires : List Cell) (ws : List ℕ) (i w : ℕ) → slice_get ws i ≡ Some w → slice_get (read_all got_of wires ws) i ≡ Some (get_or wires w no_wire).wire.got
+got_there : (wires : List WireState) (ws : List ℕ) (i w : ℕ) → slice_get ws i ≡ Some w → slice_get (read_all got_of wires ws) i ≡ Some (get_or wires w no_wire).wire.got
 got_there wires [] i w e = absurd cc
 got_there wires (x ∷ ws) zero w e = ap (λ (k : ℕ). Some (get_or wires k no_wire).wire.got) (some_same x w e)
 got_there wires (x ∷ ws) (suc i) w e = got_there wires ws i w e
@@ -167,10 +167,10 @@ asks_least : (b : Bool) (n : ℕ) → n ≤ (if b then n + 1 else n)
 asks_least true n = omega arith
 asks_least false n = omega arith
 
-pub few_came : (c : Cell) (q : Bool) → IsSound c.wire q → elements c.wire.got ≤ asks_of c
+pub few_came : (c : WireState) (q : Bool) → IsSound c.wire q → elements c.wire.got ≤ asks_of c
 few_came c q s = let a = few_j s.joint c.wire.sent c.wire.got s.histories in let b = asks_least c.asked (elements c.wire.sent) in omega (arith, a, b)
 
-module _ {S D L B : Type 0} (sources : S → SourceState) (drains : D → DrainState) (book : Book) (net : Net (Node S D L B)) (s : Settled node_row (node_law sources drains book) node_asking node_moves net) (q : ℕ) (h : q < length net.wires) where
+module _ {S D L B : Type 0} (sources : S → SourceState) (drains : D → DrainState) (book : Book) (net : Net (IslandNode S D L B)) (s : Settled node_row (node_law sources drains book) node_asking node_moves net) (q : ℕ) (h : q < length net.wires) where
   abbrev from : ℕ
   from = (end_at net.ends q).from
 
@@ -226,7 +226,7 @@ module _ {S D L B : Type 0} (sources : S → SourceState) (drains : D → DrainS
       (λ z f at r law. leaves_cancel f z (view_of net to) (took net to) (gave net to) r law (end_at net.ends q).input (rw inp_is (open_in _ e)))
       (s.minded to (s.wired.to_within q h) x first xi fi)
 
-  exit_got : (x first : Node S D L B) → IsLeaving first → (v : View) (t g : List (List Item)) (i : ℕ) (l : List Item) → slice_get t i ≡ Some l → Minds node_row (node_law sources drains book) x first v t g [] → l ≡ node_gone x ++ node_waits x
+  exit_got : (x first : IslandNode S D L B) → IsLeaving first → (v : View) (t g : List (List Item)) (i : ℕ) (l : List Item) → slice_get t i ≡ Some l → Minds node_row (node_law sources drains book) x first v t g [] → l ≡ node_gone x ++ node_waits x
   exit_got (node.Leaving x) (node.Leaving f) k v t g i l at m = sym (one_item _ l t i m.law_holds.took_is at) ∙ m.law_holds.parts
   exit_got (node.Reading x) (node.Leaving f) k v t g i l at m = absurd m.law_holds
   exit_got (node.Making x) (node.Leaving f) k v t g i l at m = absurd m.law_holds
@@ -249,7 +249,7 @@ module _ {S D L B : Type 0} (sources : S → SourceState) (drains : D → DrainS
   exit_got x (node.Ignoring f) k v t g i l at m = absurd k
   exit_got x (node.Entering f) k v t g i l at m = absurd k
 
-  exit_told : (x first : Node S D L B) → IsLeaving first → (v : View) (t g : List (List Item)) (i : ℕ) (l : List Item) → slice_get t i ≡ Some l → Minds node_row (node_law sources drains book) x first v t g [] → (list : List Tree) × ((end : End) × (l ≡ told list end))
+  exit_told : (x first : IslandNode S D L B) → IsLeaving first → (v : View) (t g : List (List Item)) (i : ℕ) (l : List Item) → slice_get t i ≡ Some l → Minds node_row (node_law sources drains book) x first v t g [] → (list : List Tree) × ((end : End) × (l ≡ told list end))
   exit_told (node.Leaving x) (node.Leaving f) k v t g i l at m = (m.law_holds.list, (m.law_holds.end, sym (one_item _ l t i m.law_holds.took_is at)))
   exit_told (node.Reading x) (node.Leaving f) k v t g i l at m = absurd m.law_holds
   exit_told (node.Making x) (node.Leaving f) k v t g i l at m = absurd m.law_holds
@@ -272,7 +272,7 @@ module _ {S D L B : Type 0} (sources : S → SourceState) (drains : D → DrainS
   exit_told x (node.Ignoring f) k v t g i l at m = absurd k
   exit_told x (node.Entering f) k v t g i l at m = absurd k
 
-  pub exit_there : (x : Node S D L B) × (slice_get net.nodes to ≡ Some x)
+  pub exit_there : (x : IslandNode S D L B) × (slice_get net.nodes to ≡ Some x)
   exit_there = get_there net.nodes to (s.wired.to_within q h)
 
   pub came_told : LeavesAt net q → (list : List Tree) × ((end : End) × ((wire_at net q).wire.got ≡ told list end))
@@ -306,7 +306,7 @@ module _ {S D L B : Type 0} (sources : S → SourceState) (drains : D → DrainS
       get_of (x ∷ ws) zero w e = cc
       get_of (x ∷ ws) (suc i) w e = get_of ws i w e
 
-  abbrev moved : Act → Net (Node S D L B)
+  abbrev moved : Act → Net (IslandNode S D L B)
   moved a = moved_at net q a
 
   moved_to : (a : Act) (w : ℕ) → w ≡ q → put net w (moved_by a (wire_at net w)) (queues_by a (wire_at net w).wire.conn) ≡ moved a
@@ -325,14 +325,14 @@ module _ {S D L B : Type 0} (sources : S → SourceState) (drains : D → DrainS
   pub cancelled_is : acted net to (Cancel (end_at net.ends q).input) ≡ moved (Cancel 0)
   cancelled_is = moved_to (Cancel 0) _ in_wire
 
-pub clear_both : {S D L B : Type 0} (net : Net (Node S D L B)) (n : ℕ) (r : Bool) (P : Type 0) → n < length net.nodes → P → AtNode net n (λ x. (IsTrue r → node_waits x ≡ []) × (node_waits x ≡ [] → IsTrue r))
+pub clear_both : {S D L B : Type 0} (net : Net (IslandNode S D L B)) (n : ℕ) (r : Bool) (P : Type 0) → n < length net.nodes → P → AtNode net n (λ x. (IsTrue r → node_waits x ≡ []) × (node_waits x ≡ [] → IsTrue r))
     → (IsTrue r → P × AtNode net n (λ x. node_waits x ≡ [])) × (P × AtNode net n (λ x. node_waits x ≡ []) → IsTrue r)
 clear_both net n r P h p at =
     let there = get_there net.nodes n h in
     (λ t. (p, λ x xi. (at x xi).0 t), λ b. (at there.0 there.1).1 (b.1 there.0 there.1))
 
 -- the stage where a lane goes out has nothing to tell when it asks
-asking_free : {S D L B : Type 0} (sources : S → SourceState) (drains : D → DrainState) (book : Book) (x first : Node S D L B) (v w : View) (t g : List (List Item)) → IsLeaving first → node_law sources drains book first x v t g → node_asking x w
+asking_free : {S D L B : Type 0} (sources : S → SourceState) (drains : D → DrainState) (book : Book) (x first : IslandNode S D L B) (v w : View) (t g : List (List Item)) → IsLeaving first → node_law sources drains book first x v t g → node_asking x w
 asking_free sources drains book (node.Leaving x) (node.Leaving f) v w t g h law = tt
 asking_free sources drains book (node.Reading x) (node.Leaving f) v w t g h law = absurd law
 asking_free sources drains book (node.Making x) (node.Leaving f) v w t g h law = absurd law
@@ -356,18 +356,18 @@ asking_free sources drains book x (node.Ignoring f) v w t g h law = absurd h
 asking_free sources drains book x (node.Entering f) v w t g h law = absurd h
 
 -- to end an output asks nothing
-pub end_tells : {S D L B : Type 0} (net : Net (Node S D L B)) (n j : ℕ) (cause : Option Cause) → TellsPoked node_asking net n (ends_at j cause)
+pub end_tells : {S D L B : Type 0} (net : Net (IslandNode S D L B)) (n j : ℕ) (cause : Option Cause) → TellsPoked node_asking net n (ends_at j cause)
 end_tells net n j None p = absurd p
 end_tells net n j (Some c) p = absurd p
 
-pub leaving_tells : {S D L B : Type 0} (sources : S → SourceState) (drains : D → DrainState) (book : Book) (net : Net (Node S D L B)) → Settled node_row (node_law sources drains book) node_asking node_moves net → (q : ℕ) → q < length net.wires → LeavesAt net q → (a : Act)
+pub leaving_tells : {S D L B : Type 0} (sources : S → SourceState) (drains : D → DrainState) (book : Book) (net : Net (IslandNode S D L B)) → Settled node_row (node_law sources drains book) node_asking node_moves net → (q : ℕ) → q < length net.wires → LeavesAt net q → (a : Act)
     → TellsPoked node_asking net (end_at net.ends q).to a
 leaving_tells sources drains book net s q h stage a p x xi =
     let to = (end_at net.ends q).to in
     let first = get_there net.firsts to (rw s.each_first (s.wired.to_within q h)) in
     asking_free sources drains book x first.0 (view_of net to) _ (took net to) (gave net to) (stage first.0 first.1) (s.minded to (s.wired.to_within q h) x first.0 xi first.1).law_holds
 
-pub came_at : {S D L B : Type 0} (sources : S → SourceState) (drains : D → DrainState) (book : Book) (net : Net (Node S D L B)) (q : ℕ) → Settled node_row (node_law sources drains book) node_asking node_moves net → q < length net.wires → LeavesAt net q → CameTo net q
+pub came_at : {S D L B : Type 0} (sources : S → SourceState) (drains : D → DrainState) (book : Book) (net : Net (IslandNode S D L B)) (q : ℕ) → Settled node_row (node_law sources drains book) node_asking node_moves net → q < length net.wires → LeavesAt net q → CameTo net q
 came_at sources drains book net q s h l = record {
   got = came_there sources drains book net s q h l;
   few = few_came _ _ (s.sound q h);

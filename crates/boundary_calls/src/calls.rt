@@ -15,7 +15,7 @@ use elem_core::elem::Elem;
 use elem_core::item::Item;
 use elem_core::why::Cause;
 use fused_net::engine::Engine;
-use nodes::node::Node;
+use nodes::node::IslandNode;
 use plug_logic::book::PlugBook;
 use plug_logic::logic::Logic;
 use port_core::act::Act;
@@ -24,7 +24,7 @@ use stream_io::outside::{Drain, Source};
 /// What the stage at the output end of the connection at place `place` was asked, where a lane comes in. It takes no memory.
 /// Rule: Akka Streams 2.6 reference, chapter on asynchronous boundaries.
 pub fn wanted<S: Source, D: Drain, L: Logic, B: PlugBook>(
-    engine: &Engine<Node<S, D, L, B>>,
+    engine: &Engine<IslandNode<S, D, L, B>>,
     place: u32,
 ) -> Wanted
     requires { place < length engine.now.wires }
@@ -42,7 +42,7 @@ pub fn wanted<S: Source, D: Drain, L: Logic, B: PlugBook>(
 
 /// Pushes an element where a lane comes in. It takes no memory and costs no unit.
 pub fn push_in<S: Source, D: Drain, L: Logic, B: PlugBook>(
-    engine: &mut Engine<Node<S, D, L, B>>,
+    engine: &mut Engine<IslandNode<S, D, L, B>>,
     place: u32,
     e: Elem,
 )
@@ -62,7 +62,7 @@ pub fn push_in<S: Source, D: Drain, L: Logic, B: PlugBook>(
 
 /// Completes what comes in there, or fails it; no change where its output is closed. It takes no memory and costs no unit.
 pub fn end_in<S: Source, D: Drain, L: Logic, B: PlugBook>(
-    engine: &mut Engine<Node<S, D, L, B>>,
+    engine: &mut Engine<IslandNode<S, D, L, B>>,
     place: u32,
     cause: Option<Cause>,
 )
@@ -94,7 +94,7 @@ fn end_act(port: u8, cause: Option<Cause>) -> Act
 /// Whether the stage at the input end may ask, where a lane goes out: its connection lets it, and nothing waits to be handed
 /// out. It takes no memory.
 pub fn can_pull_out<S: Source, D: Drain, L: Logic, B: PlugBook>(
-    engine: &Engine<Node<S, D, L, B>>,
+    engine: &Engine<IslandNode<S, D, L, B>>,
     place: u32,
 ) -> bool
     requires laws { Settled node_row (node_law S.state D.state B.lists) node_asking node_moves engine.now }
@@ -107,7 +107,7 @@ pub fn can_pull_out<S: Source, D: Drain, L: Logic, B: PlugBook>(
 
 /// Asks there. It takes no memory and costs no unit.
 pub fn pull_out<S: Source, D: Drain, L: Logic, B: PlugBook>(
-    engine: &mut Engine<Node<S, D, L, B>>,
+    engine: &mut Engine<IslandNode<S, D, L, B>>,
     place: u32,
 )
     requires laws { Settled node_row (node_law S.state D.state B.lists) node_asking node_moves engine.old }
@@ -126,7 +126,7 @@ pub fn pull_out<S: Source, D: Drain, L: Logic, B: PlugBook>(
 
 /// Hands out what came where a lane goes out, each element and the end once and in order. It takes no memory and costs no unit.
 pub fn given<S: Source, D: Drain, L: Logic, B: PlugBook>(
-    engine: &mut Engine<Node<S, D, L, B>>,
+    engine: &mut Engine<IslandNode<S, D, L, B>>,
     place: u32,
 ) -> Given
     requires laws { Settled node_row (node_law S.state D.state B.lists) node_asking node_moves engine.old }
@@ -147,7 +147,7 @@ pub fn given<S: Source, D: Drain, L: Logic, B: PlugBook>(
 
 /// Cancels there, without change where its input is closed. It takes no memory and costs no unit.
 fn cancel<S: Source, D: Drain, L: Logic, B: PlugBook>(
-    engine: &mut Engine<Node<S, D, L, B>>,
+    engine: &mut Engine<IslandNode<S, D, L, B>>,
     place: u32,
 )
     requires laws { Settled node_row (node_law S.state D.state B.lists) node_asking node_moves engine.old }
@@ -168,7 +168,7 @@ fn cancel<S: Source, D: Drain, L: Logic, B: PlugBook>(
 /// Cancels there, without change where its input is closed, and drops what waits to be handed out. It takes no memory and costs
 /// no unit.
 pub fn cancel_out<S: Source, D: Drain, L: Logic, B: PlugBook>(
-    engine: &mut Engine<Node<S, D, L, B>>,
+    engine: &mut Engine<IslandNode<S, D, L, B>>,
     place: u32,
 )
     requires laws { Settled node_row (node_law S.state D.state B.lists) node_asking node_moves engine.old }
@@ -187,7 +187,7 @@ pub fn cancel_out<S: Source, D: Drain, L: Logic, B: PlugBook>(
 
 /// What came where a lane goes out is what was handed out or dropped, and then what waits. The call does nothing.
 pub fn came_to<S: Source, D: Drain, L: Logic, B: PlugBook>(
-    engine: &Engine<Node<S, D, L, B>>,
+    engine: &Engine<IslandNode<S, D, L, B>>,
     place: u32,
 )
     requires laws { Settled node_row (node_law S.state D.state B.lists) node_asking node_moves engine.now }

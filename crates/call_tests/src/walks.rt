@@ -1,5 +1,5 @@
 // What no clause says: that the numbers tell of each wire whether it lies on a closed walk, so that no walk has to be looked for.
-use blue_names::links::Link;
+use blue_names::links::NumberedWire;
 use blue_walks::components::{Components, components_of};
 use blue_walks::depth::ins_of;
 use blue_walks::ranks::rank_of;
@@ -19,8 +19,8 @@ fn node_of(seed: u64) -> usize {
 }
 
 /// A wire between two nodes.
-fn wire(from: usize, to: usize) -> Link {
-    Link {
+fn wire(from: usize, to: usize) -> NumberedWire {
+    NumberedWire {
         from,
         output: 0,
         to,
@@ -34,7 +34,7 @@ fn some_wires(
     alloc: Global,
     wires: usize,
     first_seed: u64,
-) -> Result<(Vec<Link>, Vec<Link>), NoMemory> {
+) -> Result<(Vec<NumberedWire>, Vec<NumberedWire>), NoMemory> {
     let mut links = Vec::new(alloc);
     let mut turned = Vec::new(alloc);
     let mut seed = first_seed;
@@ -50,7 +50,7 @@ fn some_wires(
 }
 
 /// Whether the numbers tell of a wire.
-fn is_told(found: &Components, link: &Link) -> bool {
+fn is_told(found: &Components, link: &NumberedWire) -> bool {
     rank_of(&found.ranks, link.from) < rank_of(&found.ranks, link.to)
         || rank_of(&found.goals, link.to) == rank_of(&found.origins, link.from)
 }

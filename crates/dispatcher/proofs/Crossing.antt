@@ -16,8 +16,8 @@ use Rattle.turn_table.specs.contracts.turns.Turns as turns
 use Rattle.dispatcher.specs.contracts.crew.ReadyList as ready_list
 use Rattle.unit_budget.specs.contracts.budget.Budget as budget
 use Rattle.unit_budget.specs.contracts.budget.BudgetSeat as budget_seat
-use Rattle.dispatcher.specs.contracts.place.Place as place
-use Rattle.dispatcher.specs.contracts.place.Place.TheInside as inside
+use Rattle.dispatcher.specs.contracts.place.TablePlace as place
+use Rattle.dispatcher.specs.contracts.place.TablePlace.TheInside as inside
 
 seat_send : IsSend budget_seat.the_row
 seat_send = search (sendable, seat.the_send) depth 20

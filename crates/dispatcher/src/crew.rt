@@ -5,7 +5,7 @@ ghost use Rattle.unit_budget.specs.Public.{budget_id};
 ghost use Rattle.turn_table.specs.Public.{IsSeatOf, IsFree, turns_of, handed_in};
 ghost use Rattle.dispatcher.specs.Crew.{IsCrew};
 
-use crate::place::{Came, Place};
+use crate::place::{Came, TablePlace};
 use crate::waking::Waking;
 use crossbeam_queue::ArrayQueue;
 use crossbeam_utils::Backoff;
@@ -54,7 +54,7 @@ fn put<R: Wait>(rt: &R, list: &ReadyList, id: u32) {
 // Wakes an island, and puts it on the ready list where it was at rest.
 fn wake_one<B: Waking, R: Wait>(
     rt: &R,
-    turns: &Turns<Place<B>>,
+    turns: &Turns<TablePlace<B>>,
     list: &ReadyList,
     seat: &mut TurnSeat,
     id: u32,
@@ -71,7 +71,7 @@ fn wake_one<B: Waking, R: Wait>(
 // Wakes the islands that a body names, of those that there are.
 fn wake_peers<B: Waking, R: Wait>(
     rt: &R,
-    turns: &Turns<Place<B>>,
+    turns: &Turns<TablePlace<B>>,
     list: &ReadyList,
     seat: &mut TurnSeat,
     peers: &[u32],
@@ -91,7 +91,7 @@ fn wake_peers<B: Waking, R: Wait>(
 /// Wakes every island.
 pub fn wake_each<B: Waking, R: Wait>(
     rt: &R,
-    turns: &Turns<Place<B>>,
+    turns: &Turns<TablePlace<B>>,
     list: &ReadyList,
     seat: &mut TurnSeat,
 )
@@ -109,7 +109,7 @@ pub fn wake_each<B: Waking, R: Wait>(
 fn serve<B: Waking, R: Wait>(
     rt: &R,
     alloc: Global,
-    turns: &Turns<Place<B>>,
+    turns: &Turns<TablePlace<B>>,
     budget: &Budget,
     list: &ReadyList,
     seat: &mut TurnSeat,
@@ -139,7 +139,7 @@ fn serve<B: Waking, R: Wait>(
 fn work<B: Waking, R: Wait>(
     rt: &R,
     alloc: Global,
-    turns: &Turns<Place<B>>,
+    turns: &Turns<TablePlace<B>>,
     budget: &Budget,
     list: &ReadyList,
     seat: &mut TurnSeat,
@@ -175,7 +175,7 @@ fn work<B: Waking, R: Wait>(
 pub fn work_all<B: Waking + Send, R: Threads + Wait + Sync>(
     rt: &R,
     alloc: Global,
-    turns: &Turns<Place<B>>,
+    turns: &Turns<TablePlace<B>>,
     budget: &Budget,
     list: &ReadyList,
     seats: &mut [TurnSeat],

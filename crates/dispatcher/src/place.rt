@@ -15,7 +15,7 @@ use unit_budget::budget::{Budget, BudgetSeat};
 /// A body with its seat of the budget, and the units that its turns used. Where memory was wanting in one it is broken, and takes no
 /// turn any more. Rule: own.
 #[derive(Drop)]
-pub struct Place<B: Turning> {
+pub struct TablePlace<B: Turning> {
     body: B,
     seat: BudgetSeat,
     start: Snapshot<B>,
@@ -23,7 +23,7 @@ pub struct Place<B: Turning> {
     broken: bool,
 }
 
-impl<B: Turning> Model for Place<B> {
+impl<B: Turning> Model for TablePlace<B> {
     ghost use Rattle.std.specs.Coded.{codes};
     ghost use Rattle.unit_budget.specs.Public.{seat_id, limit_of};
     ghost use Rattle.dispatcher.specs.Places.{Holds, place_origin};
@@ -36,7 +36,7 @@ impl<B: Turning> Model for Place<B> {
     ghost invariant = { λ p. Holds B.keeps B.goes B.breaks B.spent p.start.value p.body p.seat p.used p.broken };
 }
 
-impl<B: Turning> Kept for Place<B> {
+impl<B: Turning> Kept for TablePlace<B> {
     type Origin = PlaceOrigin<B>;
 
     ghost origin = { λ p. p };
@@ -54,7 +54,7 @@ pub struct Came {
 }
 
 /// What a place is made of.
-pub struct Parts<B> {
+pub struct TableParts<B> {
     /// The body.
     pub body: B,
     /// Its seat.
@@ -65,16 +65,16 @@ pub struct Parts<B> {
     pub broken: bool,
 }
 
-impl<B: Turning> Place<B> {
+impl<B: Turning> TablePlace<B> {
     /// A body that took no turn yet.
-    pub fn new(body: B, seat: BudgetSeat) -> Place<B>
+    pub fn new(body: B, seat: BudgetSeat) -> TablePlace<B>
         requires keeps { B.keeps body }
         requires unspent { B.spent body ≡ 0 }
         requires seat { Paid 0 seat }
         ensures is { (result.start.value ≡ body) × (result.table ≡ seat_id seat) × (result.limit ≡ limit_of seat) }
     {
         let start = Snapshot::of(&body);
-        Place {
+        TablePlace {
             body,
             seat,
             start,
@@ -120,18 +120,18 @@ impl<B: Turning> Place<B> {
     }
 
     /// The body and its seat.
-    pub fn into_parts(self) -> Parts<B>
+    pub fn into_parts(self) -> TableParts<B>
         ensures seat { (seat_id result.seat ≡ self.table) × (limit_of result.seat ≡ self.limit) × Paid result.used result.seat }
         ensures stands { Stands B.keeps B.goes B.breaks B.spent self.start.value result.body result.used result.broken }
     {
-        let Place {
+        let TablePlace {
             body,
             seat,
             start: _,
             used,
             broken,
         } = self;
-        Parts {
+        TableParts {
             body,
             seat,
             used,
@@ -140,7 +140,7 @@ impl<B: Turning> Place<B> {
     }
 }
 
-impl<B: Waking> Place<B> {
+impl<B: Waking> TablePlace<B> {
     /// The islands that are to be woken behind a turn: none where it used no unit.
     pub fn wakes(&self, came: &Came) -> &[u32] {
         if came.told { self.body.wakes() } else { &[] }

@@ -11,9 +11,9 @@ ghost use Rattle.dispatcher.specs.Crew.{IsCrew};
 
 use crate::crew::{ReadyList, wake_each, work_all};
 use crate::finish::{Finish, settled};
-use crate::place::Place;
+use crate::place::TablePlace;
 use crate::ran::Ran;
-use crate::taken::{Taken, place_all, take_apart, untaken};
+use crate::taken::{TurnsTaken, place_all, take_apart, untaken};
 use crate::waking::Waking;
 use elem_core::why::NoMemory;
 use rounds::crossing::Crossing;
@@ -25,17 +25,17 @@ use turn_table::turns::{TurnSeat, Turns};
 use unit_budget::budget::{Budget, BudgetSeat};
 
 // All the memory that a run takes before bodies move, but the turn table.
-struct Room<B: Waking> {
+struct RunRoom<B: Waking> {
     purse: Budget,
     first: BudgetSeat,
     list: ReadyList,
-    places: Vec<Place<B>>,
-    back: Vec<Place<B>>,
+    places: Vec<TablePlace<B>>,
+    back: Vec<TablePlace<B>>,
     bodies: Vec<B>,
 }
 
-impl<B: Waking> Room<B> {
-    fn of(alloc: Global, count: u32, budget: u32) -> Result<Room<B>, NoMemory>
+impl<B: Waking> RunRoom<B> {
+    fn of(alloc: Global, count: u32, budget: u32) -> Result<RunRoom<B>, NoMemory>
         requires some { 0 < count }
         requires few { count < 4294967295 }
         ensures seat { IfOk result (λ r. (seat_id r.first ≡ budget_id r.purse) × IsIdle r.first × (parts_of r.first ≡ count + 1) × (used_by r.first ≡ 0) × (limit_of r.first ≡ budget)) }
@@ -45,7 +45,7 @@ impl<B: Waking> Room<B> {
         ensures bodies { IfOk result (λ r. (r.bodies.items ≡ []) × (count ≤ vec_capacity r.bodies)) }
     {
         let (purse, first) = Budget::new(alloc, budget as u64, count + 1)?;
-        Ok(Room {
+        Ok(RunRoom {
             purse,
             first,
             list: ReadyList::new(alloc, count)?,
@@ -60,12 +60,12 @@ impl<B: Waking> Room<B> {
 fn take_turns<B: Waking + Send, R: Threads + Wait + Sync>(
     rt: &R,
     alloc: Global,
-    turns: Turns<Place<B>>,
+    turns: Turns<TablePlace<B>>,
     mut seats: Vec<TurnSeat>,
     purse: &Budget,
     list: &ReadyList,
-    back: Vec<Place<B>>,
-) -> Vec<Place<B>>
+    back: Vec<TablePlace<B>>,
+) -> Vec<TablePlace<B>>
     requires crew { IsCrew turns (budget_id purse.now) purse.now.limit list.now.count }
     requires few { purse.now.limit ≤ 4000000000 }
     requires some { (0 < list.now.count) × (1 < vec_len seats) }
@@ -91,7 +91,7 @@ fn run_workers<B: Waking + Send, R: Threads + Wait + Sync>(
     bodies: Vec<B>,
     workers: u32,
     budget: u32,
-) -> Taken<B>
+) -> TurnsTaken<B>
     requires workers { (0 < workers) × (workers ≤ 64) }
     requires budget { budget ≤ 4000000000 }
     requires keeps { AllOf B.keeps bodies.items }
@@ -109,10 +109,10 @@ fn run_workers<B: Waking + Send, R: Threads + Wait + Sync>(
     if workers == 1 || count < 2 {
         return untaken(bodies, false);
     }
-    let Ok(room) = Room::of(alloc, count, budget) else {
+    let Ok(room) = RunRoom::of(alloc, count, budget) else {
         return untaken(bodies, true);
     };
-    let Room {
+    let RunRoom {
         purse,
         mut first,
         list,
@@ -160,7 +160,7 @@ pub fn run<B: Waking + Send, R: Threads + Wait + Sync>(
     ensures broke_joined { IfErr result (λ bs. AllJoined B.joined bs.items lanes.now) }
 {
     let islands = bodies.len();
-    let Taken {
+    let TurnsTaken {
         mut bodies,
         used,
         lack,

@@ -5,12 +5,12 @@ ghost use Rattle.unit_budget.specs.Public.{budget_id, seat_id, used_by, parts_of
 ghost use Rattle.rounds.specs.Bodies.{AllOf, EachOf};
 ghost use Rattle.dispatcher.specs.Places.{Paid, Belongs, WentOn, WentOrBroke, start_of};
 
-use crate::place::{Parts, Place};
+use crate::place::{TableParts, TablePlace};
 use rounds::turning::Turning;
 use unit_budget::budget::{Budget, BudgetSeat};
 
 /// What the workers left: the bodies in order, the units that all used, and whether memory was wanting.
-pub struct Taken<B> {
+pub struct TurnsTaken<B> {
     /// The bodies, in order.
     pub bodies: Vec<B>,
     /// The units that all turns used.
@@ -27,7 +27,7 @@ fn either(a: bool, b: bool) -> bool
 }
 
 /// Bodies that took no turn.
-pub fn untaken<B: Turning>(bodies: Vec<B>, lack: bool) -> Taken<B>
+pub fn untaken<B: Turning>(bodies: Vec<B>, lack: bool) -> TurnsTaken<B>
     requires keeps { AllOf B.keeps bodies.items }
     requires unspent { AllOf (λ b. B.spent b ≡ 0) bodies.items }
     ensures lack { result.lack ≡ lack }
@@ -35,7 +35,7 @@ pub fn untaken<B: Turning>(bodies: Vec<B>, lack: bool) -> Taken<B>
     ensures spent { result.used ≡ sum_by B.spent result.bodies.items }
     ensures each { EachOf (WentOn B.keeps B.goes) bodies.items result.bodies.items }
 {
-    Taken {
+    TurnsTaken {
         bodies,
         used: 0,
         lack,
@@ -47,8 +47,8 @@ pub fn place_all<B: Turning>(
     purse: &Budget,
     first: &mut BudgetSeat,
     bodies: Vec<B>,
-    mut places: Vec<Place<B>>,
-) -> Vec<Place<B>>
+    mut places: Vec<TablePlace<B>>,
+) -> Vec<TablePlace<B>>
     requires seat { (seat_id first.old ≡ budget_id purse.now) × IsIdle first.old × (parts_of first.old ≡ vec_len bodies + 1) × (used_by first.old ≡ 0) × (limit_of first.old ≡ purse.now.limit) }
     requires room { (places.items ≡ []) × (vec_len bodies ≤ vec_capacity places) }
     requires keeps { AllOf B.keeps bodies.items }
@@ -60,7 +60,7 @@ pub fn place_all<B: Turning>(
 {
     for body in bodies {
         let seat = purse.split(first);
-        places.push_reserved(Place::new(body, seat));
+        places.push_reserved(TablePlace::new(body, seat));
     }
     places
 }
@@ -69,10 +69,10 @@ pub fn place_all<B: Turning>(
 pub fn take_apart<B: Turning>(
     purse: &Budget,
     mut first: BudgetSeat,
-    places: Vec<Place<B>>,
+    places: Vec<TablePlace<B>>,
     room: Vec<B>,
     refused: bool,
-) -> Taken<B>
+) -> TurnsTaken<B>
     requires seat { (seat_id first ≡ budget_id purse.now) × IsIdle first × (parts_of first ≡ 1) × (used_by first ≡ 0) × (limit_of first ≡ purse.now.limit) }
     requires limit { purse.now.limit ≤ 4000000000 }
     requires belong { All (Belongs (budget_id purse.now) purse.now.limit) places.items }
@@ -86,7 +86,7 @@ pub fn take_apart<B: Turning>(
     let mut total = 0u32;
     let mut lack = refused;
     for place in places {
-        let Parts {
+        let TableParts {
             body,
             seat,
             used,
@@ -98,7 +98,7 @@ pub fn take_apart<B: Turning>(
         lack = either(lack, broken);
         bodies.push_reserved(body);
     }
-    Taken {
+    TurnsTaken {
         bodies,
         used: total,
         lack,

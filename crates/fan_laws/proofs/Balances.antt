@@ -174,19 +174,19 @@ module _ (first now : Balancing) (i : InPort) (os : List OutPort) (law : Now fir
       let outs = outs_same 0 os law.law.lists law.law.ends (λ j l. gave_at first now (OutView_of i os) (i.got ∷ []) (Sents os) law j (omega (arith, l, long))) in
       elim s [
         | inl h ↦ inl (
-          (shuts i ri (subst (λ (vs : List picture.View). EachWire IsShut vs) ins h.0).0, tt),
-          each_shut os so ro (subst (λ (vs : List picture.View). EachWire IsShut vs) outs h.1),
+          (shuts i ri (subst (λ (vs : List picture.SeenWire). EachWire IsShut vs) ins h.0).0, tt),
+          each_shut os so ro (subst (λ (vs : List picture.SeenWire). EachWire IsShut vs) outs h.1),
         )
-        | inr h ↦ inr (balance_rests i os si ri so ro (subst (λ (vs : List picture.View). BalanceRests (own_in i) vs) outs (subst (λ (vs : List picture.View). OneToMany BalanceRests vs (own_outs 0 (map (λ (o : OutPort). o.view) os) law.law.lists)) ins h)))
+        | inr h ↦ inr (balance_rests i os si ri so ro (subst (λ (vs : List picture.SeenWire). BalanceRests (own_in i) vs) outs (subst (λ (vs : List picture.SeenWire). OneToMany BalanceRests vs (own_outs 0 (map (λ (o : OutPort). o.view) os) law.law.lists)) ins h)))
       ]
 
 -- ---- by its kind
 
-lawful_by : (g : Graph) (w : World) (k : ℕ) (d : Decider) (kd : Kind) (l : Balancing) (moves : List ℕ) (i : picture.View) (os : List picture.View) → BeginsBalance kd l → w.moves k ≡ moves → BalanceLawful moves i os → RowLawful g w k kd d (i ∷ []) os
+lawful_by : (g : Graph) (w : World) (k : ℕ) (d : Decider) (kd : Kind) (l : Balancing) (moves : List ℕ) (i : picture.SeenWire) (os : List picture.SeenWire) → BeginsBalance kd l → w.moves k ≡ moves → BalanceLawful moves i os → RowLawful g w k kd d (i ∷ []) os
 lawful_by g w k d (Balance n) l moves i os b told r = subst (λ ms. BalanceLawful ms i os) (sym told) r
 lawful_by g w k d kd l moves i os b told r = absurd b
 
-rests_by : (g : Graph) (w : World) (k : ℕ) (d : Decider) (kd : Kind) (l : Balancing) (i : picture.View) (os : List picture.View) → BeginsBalance kd l → BalanceRests i os → RowRests g w k kd d (i ∷ []) os
+rests_by : (g : Graph) (w : World) (k : ℕ) (d : Decider) (kd : Kind) (l : Balancing) (i : picture.SeenWire) (os : List picture.SeenWire) → BeginsBalance kd l → BalanceRests i os → RowRests g w k kd d (i ∷ []) os
 rests_by g w k d (Balance n) l i os b r = r
 rests_by g w k d kd l i os b r = absurd b
 

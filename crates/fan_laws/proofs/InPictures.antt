@@ -60,12 +60,12 @@ ins_same (i ∷ is) (f ∷ fs) w = rw (ins_same is fs w.1, w.0.0, elements_told 
 pub out_same : (o : OutPort) (g : List Tree) (e : End) → o.sent ≡ told g e → own_output o.view g ≡ own_out o
 out_same o g e h = rw (h, elements_told g e, list_of_told g e) refl
 
-module _ (P : List picture.View → picture.View → Type 0) (is : List InPort) (o : OutPort) (ri : EachPort InRests is) (ro : OutRests o) where
+module _ (P : List picture.SeenWire → picture.SeenWire → Type 0) (is : List InPort) (o : OutPort) (ri : EachPort InRests is) (ro : OutRests o) where
   fan_moved : (fs : List Inflow) (g : List Tree) (e : End) → Flows (Views is) (Gots is) fs → o.sent ≡ told g e → (P (map own_in is) (own_out o) → P (Wires is) o.wire) → FanRests P (InView_of is o) fs g
       → (EachWire IsShut (Wires is) × EachWire IsShut (o.wire ∷ [])) ⊎ P (Wires is) o.wire
   fan_moved fs g e w t move (inl h) =
-      inl (each IsShut IsShut shuts is ri (subst (λ (vs : List picture.View). EachWire IsShut vs) (ins_same is fs w) h.0), (out_shuts o ro (subst IsShut (out_same o g e t) h.1.0), tt))
-  fan_moved fs g e w t move (inr h) = inr (move (subst (λ (v : picture.View). P (map own_in is) v) (out_same o g e t) (subst (λ (vs : List picture.View). P vs (own_output o.view g)) (ins_same is fs w) h)))
+      inl (each IsShut IsShut shuts is ri (subst (λ (vs : List picture.SeenWire). EachWire IsShut vs) (ins_same is fs w) h.0), (out_shuts o ro (subst IsShut (out_same o g e t) h.1.0), tt))
+  fan_moved fs g e w t move (inr h) = inr (move (subst (λ (v : picture.SeenWire). P (map own_in is) v) (out_same o g e t) (subst (λ (vs : List picture.SeenWire). P vs (own_output o.view g)) (ins_same is fs w) h)))
 
 -- ---- one that has closed its ports
 
@@ -122,11 +122,11 @@ module _ (g : Graph) (w : World) (k : ℕ) (d : Decider) (is : List InPort) (o :
         fan_moved ZipRests is o ri ro law.by.law.ins law.by.law.out_list law.by.law.out_end (law_flows (ZipKeeps (zipping.held l)) (InView_of is o) (Gots is) (o.sent ∷ []) law.by) (one_list o.sent law.by.given law.by.gave_is ∙ law.by.law.gave_is)
         (zip_rests is o ri ro so (none_left is l (ap (λ (v : port.View). v.ins) at.0)) s) (logic_rests (logic.Zipping f) (logic.Zipping l) (InView_of is o) (Gots is) (o.sent ∷ []) r.started r.row law)
 
-    taking_stays : (f l : taking.Taking) (P : List picture.View → picture.View → Type 0) → TakingRests l.segment ≡ P → Row (logic.Taking l) → Law (logic.Taking f) (logic.Taking l) → (P (map own_in is) (own_out o) → P (Wires is) o.wire)
+    taking_stays : (f l : taking.Taking) (P : List picture.SeenWire → picture.SeenWire → Type 0) → TakingRests l.segment ≡ P → Row (logic.Taking l) → Law (logic.Taking f) (logic.Taking l) → (P (map own_in is) (own_out o) → P (Wires is) o.wire)
         → (EachWire IsShut (Wires is) × EachWire IsShut (o.wire ∷ [])) ⊎ P (Wires is) o.wire
     taking_stays f l P by r law move =
         fan_moved P is o ri ro law.by.law.ins law.by.law.out_list law.by.law.out_end (law_flows (FanKeeps (taking_by f.segment) (taking.place_of f) (taking.held l)) (InView_of is o) (Gots is) (o.sent ∷ []) law.by) (one_list o.sent law.by.given law.by.gave_is ∙ law.by.law.gave_is)
-        move (subst (λ (Q : List picture.View → picture.View → Type 0). FanRests Q (InView_of is o) law.by.law.ins law.by.law.out_list) by (logic_rests (logic.Taking f) (logic.Taking l) (InView_of is o) (Gots is) (o.sent ∷ []) r.started r.row law))
+        move (subst (λ (Q : List picture.SeenWire → picture.SeenWire → Type 0). FanRests Q (InView_of is o) law.by.law.ins law.by.law.out_list) by (logic_rests (logic.Taking f) (logic.Taking l) (InView_of is o) (Gots is) (o.sent ∷ []) r.started r.row law))
 
     stays_by : (kd : Kind) (first now : InLogic) → TakesAs kd first → Row now → Law first now → EachPort InStands is → OutStands o → Stays kd
     stays_by (Concat n) (logic.Taking f) (logic.Taking l) t r law s so = taking_stays f l ConcatRests (ap TakingRests (law.same ∙ t.0)) r law (concat_rests is o ri ro)

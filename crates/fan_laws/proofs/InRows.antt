@@ -79,7 +79,7 @@ module _ (first now : Taking) (is : List InPort) (o : OutPort) (law : InLaw (log
     concat_inputs (Unit {0}) tt 0 (wanted o.wire) (Wires is) (λ p v at some. asked p v at (moments p (wants_some is p v stands at some)).0),
   )
     where
-      asked : (p : ℕ) (v : picture.View) → slice_get (Wires is) p ≡ Some v → Earlier InRow InLaw NoAsking in_moves p (logic.Taking first) (logic.Taking now) (Gots is) (o.sent ∷ []) (Wants is) (o.want ∷ []) (o.wire.shut ∷ []) → FirstShut p (Wires is) × (demand v + (0 + sent_in (take p (Wires is))) ≤ wanted o.wire)
+      asked : (p : ℕ) (v : picture.SeenWire) → slice_get (Wires is) p ≡ Some v → Earlier InRow InLaw NoAsking in_moves p (logic.Taking first) (logic.Taking now) (Gots is) (o.sent ∷ []) (Wants is) (o.want ∷ []) (o.wire.shut ∷ []) → FirstShut p (Wires is) × (demand v + (0 + sent_in (take p (Wires is))) ≤ wanted o.wire)
       asked p v at e =
           let t = turn_of first e.old e.knew e.had e.given p e.row_held e.law_held e.waited in
           let count = t.count in

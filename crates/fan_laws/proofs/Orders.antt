@@ -36,7 +36,7 @@ Gots is = map (λ (i : InPort). i.got) is
 abbrev pub Wants : List InPort → List ℕ
 Wants is = map (λ (i : InPort). i.want) is
 
-abbrev pub Wires : List InPort → List picture.View
+abbrev pub Wires : List InPort → List picture.SeenWire
 Wires is = map (λ (i : InPort). i.wire) is
 
 -- ---- where nothing waits, all that came was used
@@ -63,20 +63,20 @@ used_up g over xs hs fs u f = let a = uses_sum 0 g over xs hs fs u f in let b = 
 -- ---- one after another
 
 -- the first p inputs are shut
-abbrev pub FirstShut : ℕ → List picture.View → Type 0
+abbrev pub FirstShut : ℕ → List picture.SeenWire → Type 0
 FirstShut zero is = ⊤
 FirstShut (suc p) [] = ⊤
 FirstShut (suc p) (i ∷ is) = IsShut i × FirstShut p is
 
 -- of an input that is asked the ones before it are shut, and all that they gave and what it is asked for is wanted
-abbrev AskedAt : ℕ → ℕ → List picture.View → Type 0
-AskedAt given most is = (p : ℕ) (i : picture.View) → slice_get is p ≡ Some i → 1 ≤ demand i → FirstShut p is × (demand i + (given + sent_in (take p is)) ≤ most)
+abbrev AskedAt : ℕ → ℕ → List picture.SeenWire → Type 0
+AskedAt given most is = (p : ℕ) (i : picture.SeenWire) → slice_get is p ≡ Some i → 1 ≤ demand i → FirstShut p is × (demand i + (given + sent_in (take p is)) ≤ most)
 
-no_asks : (earlier : Type 0) (given most : ℕ) (is : List picture.View) → ((p : ℕ) (i : picture.View) → slice_get is p ≡ Some i → 1 ≤ demand i → ⊥) → ConcatInputs earlier given most is
+no_asks : (earlier : Type 0) (given most : ℕ) (is : List picture.SeenWire) → ((p : ℕ) (i : picture.SeenWire) → slice_get is p ≡ Some i → 1 ≤ demand i → ⊥) → ConcatInputs earlier given most is
 no_asks earlier given most [] n = tt
 no_asks earlier given most (i ∷ is) n = (λ some. absurd (n 0 i refl some), no_asks (earlier × IsShut i) (given + i.sent) most is (λ p j at some. n (suc p) j at some))
 
-pub concat_inputs : (earlier : Type 0) → earlier → (given most : ℕ) (is : List picture.View) → AskedAt given most is → ConcatInputs earlier given most is
+pub concat_inputs : (earlier : Type 0) → earlier → (given most : ℕ) (is : List picture.SeenWire) → AskedAt given most is → ConcatInputs earlier given most is
 concat_inputs earlier e given most [] a = tt
 concat_inputs earlier e given most (i ∷ is) a =
     (λ some. let r = (a 0 i refl some).1 in (e, omega (arith, r)), by i.shut refl (λ s. concat_inputs (earlier × IsShut i) (e, s) (given + i.sent) most is (λ p j at some. let r = a (suc p) j at some in let l = r.1 in (r.0.1, omega (arith, l)))))
@@ -86,13 +86,13 @@ concat_inputs earlier e given most (i ∷ is) a =
     by false s later = no_asks (earlier × IsShut i) (given + i.sent) most is (λ p j at some. let t : i.shut ≡ true = (a (suc p) j at some).0.0 in let f : true ≡ false = sym t ∙ s in cc)
 
 -- an input by its wire
-record PortAt (is : List InPort) (p : ℕ) (v : picture.View) : Type 0 where
+record PortAt (is : List InPort) (p : ℕ) (v : picture.SeenWire) : Type 0 where
   port : InPort
   wire : port.wire ≡ v
   stands : InStands port
   want : slice_index_or (Wants is) p 0 ≡ port.want
 
-port_at : (is : List InPort) (p : ℕ) (v : picture.View) → EachPort InStands is → slice_get (Wires is) p ≡ Some v → PortAt is p v
+port_at : (is : List InPort) (p : ℕ) (v : picture.SeenWire) → EachPort InStands is → slice_get (Wires is) p ≡ Some v → PortAt is p v
 port_at [] p v s e = cc
 port_at (i ∷ is) zero v s e = let same : i.wire ≡ v = cc in record { port = i; wire = same; stands = s.0; want = refl }
 port_at (i ∷ is) (suc p) v s e = let r = port_at is p v s.1 e in record { port = r.port; wire = r.wire; stands = r.stands; want = r.want }
@@ -125,12 +125,12 @@ ended_before (suc p) n g [] (i ∷ is) (y ∷ now) (x ∷ xs) (h ∷ hs) (k ∷ 
 module _ (is : List InPort) (now : List Inflow) (stands : EachPort InStands is) (came : Flows (Views is) (Gots is) now) where
   -- as input p asked, which was the only one that was asked, and all before it had ended
   pub concat_asked : (p : ℕ) (g : List Tagged) (over : List Bool) (xs : List InView) (hs : List (List Item)) (fs : List Inflow) (most : ℕ) → AllBegin hs (Gots is) → Flows xs hs fs → Uses 0 g (none_of over) fs → OverBetween over 0 p
-      → slice_index_or (Wants is) p 0 ≡ elements (slice_index_or hs p []) + 1 → length g + 1 ≤ most → (v : picture.View) → slice_get (Wires is) p ≡ Some v → FirstShut p (Wires is) × (demand v + (0 + sent_in (take p (Wires is))) ≤ most)
+      → slice_index_or (Wants is) p 0 ≡ elements (slice_index_or hs p []) + 1 → length g + 1 ≤ most → (v : picture.SeenWire) → slice_get (Wires is) p ≡ Some v → FirstShut p (Wires is) × (demand v + (0 + sent_in (take p (Wires is))) ≤ most)
   concat_asked p g over xs hs fs most begins f u o one enough v at =
       let i = port_at is p v stands at in
       let before = ended_before p 0 g over is now xs hs fs stands came begins f u (λ k l. o k (omega arith) l) in
       let sent = before.1 in
-      let reach : demand v ≤ i.port.want = subst (λ (y : picture.View). demand y ≤ i.port.want) i.wire i.stands.reach in
+      let reach : demand v ≤ i.port.want = subst (λ (y : picture.SeenWire). demand y ≤ i.port.want) i.wire i.stands.reach in
       let want = i.want in
       let part = some_elements p hs in
       let all = used_up g over xs hs fs u f in
@@ -188,7 +188,7 @@ shut_sent : (shut : Bool) (w sent s : ℕ) → shut ≡ true → (if shut then s
 shut_sent true w sent s e = omega arith
 shut_sent false w sent s e = cc
 
-pub taken_demand : (v : picture.View) → taken_or_wanted v ≤ demand v
+pub taken_demand : (v : picture.SeenWire) → taken_or_wanted v ≤ demand v
 taken_demand v = few_wanted v.shut v.asked v.sent (size_of v)
 
 -- an input at a moment from which it was not asked again
@@ -246,9 +246,9 @@ asked_or_not (zero ∷ ws) = elim (asked_or_not ws) [ inl r ↦ inl (suc r.0, r.
 asked_or_not (suc k ∷ ws) = inl (0, omega arith)
 
 -- an input of which more is wanted than a lane asks by itself was asked
-pub wants_some : (is : List InPort) (p : ℕ) (v : picture.View) → EachPort InStands is → slice_get (Wires is) p ≡ Some v → 1 ≤ demand v → 1 ≤ slice_index_or (Wants is) p 0
+pub wants_some : (is : List InPort) (p : ℕ) (v : picture.SeenWire) → EachPort InStands is → slice_get (Wires is) p ≡ Some v → 1 ≤ demand v → 1 ≤ slice_index_or (Wants is) p 0
 wants_some is p v s e some =
     let i = port_at is p v s e in
-    let reach : demand v ≤ i.port.want = subst (λ (y : picture.View). demand y ≤ i.port.want) i.wire i.stands.reach in
+    let reach : demand v ≤ i.port.want = subst (λ (y : picture.SeenWire). demand y ≤ i.port.want) i.wire i.stands.reach in
     let want = i.want in
     omega (arith, reach, want, some)

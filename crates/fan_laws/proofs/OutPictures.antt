@@ -310,7 +310,7 @@ module _ (book : Book) (node n : ℕ) (f : MapFn) where
     deal_ask_of g is (Copies l) r law = absurd (subst (λ x. IsAlike x (Copies l)) is law.alike)
 
   -- the parts of the row together
-  both_parts : (i : picture.View) (q : ℕ) (os : List OutPort) → AllSent q os (number_count book node n f (take i.sent i.list)) → (1 ≤ demand i → DealtBefore book node n f q os (take (demand i - 1) i.list))
+  both_parts : (i : picture.SeenWire) (q : ℕ) (os : List OutPort) → AllSent q os (number_count book node n f (take i.sent i.list)) → (1 ≤ demand i → DealtBefore book node n f q os (take (demand i - 1) i.list))
       → PartitionOutputs (λ j l. number_count book node n f l j) i q (OutWires os)
   both_parts i q [] a d = tt
   both_parts i q (o ∷ os) a d = ((a.0, λ some. (d some).0), both_parts i (q + 1) os a.1 (λ some. (d some).1))
@@ -389,10 +389,10 @@ module _ (i : InPort) (os : List OutPort) (si : InStands i) (so : EachPort OutSt
       let outs = outs_same os s.0.lists (s.0.ports ∙ (length-outlets book now ∙ (sym law.ports ∙ length-map os (λ (o : OutPort). o.sent)))) s.0.told_at in
       elim s.1 [
         | inl h ↦ inl (
-          (shuts i ri (subst (λ (vs : List picture.View). EachWire IsShut vs) ins h.0).0, tt),
-          each_shut os so ro (subst (λ (vs : List picture.View). EachWire IsShut vs) outs h.1),
+          (shuts i ri (subst (λ (vs : List picture.SeenWire). EachWire IsShut vs) ins h.0).0, tt),
+          each_shut os so ro (subst (λ (vs : List picture.SeenWire). EachWire IsShut vs) outs h.1),
         )
-        | inr h ↦ inr (law.rests (i.wire ∷ []) (OutWires os) (moved now (subst (λ (vs : List picture.View). rests_as now (own_in i ∷ []) vs) outs (subst (λ (vs : List picture.View). rests_as now vs (own_outs (map (λ (o : OutPort). o.view) os) s.0.lists)) ins h))))
+        | inr h ↦ inr (law.rests (i.wire ∷ []) (OutWires os) (moved now (subst (λ (vs : List picture.SeenWire). rests_as now (own_in i ∷ []) vs) outs (subst (λ (vs : List picture.SeenWire). rests_as now vs (own_outs (map (λ (o : OutPort). o.view) os) s.0.lists)) ins h))))
       ]
 
 -- ---- by kinds

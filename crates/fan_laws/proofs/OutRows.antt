@@ -36,7 +36,7 @@ use Rattle.run_account.proofs.Coming.{elements_told, elements_prefix}
 use Rattle.fan_laws.proofs.Numberings.{machine, start, count_all}
 use Rattle.fan_laws.proofs.OutLists.{Sents, OutsList}
 
-abbrev pub OutWires : List OutPort → List picture.View
+abbrev pub OutWires : List OutPort → List picture.SeenWire
 OutWires os = map (λ (o : OutPort). o.wire) os
 
 abbrev pub OutWants : List OutPort → List ℕ

@@ -37,10 +37,10 @@ use Rattle.run_account.specs.Items.{list_of}
 use Rattle.run_account.specs.Ports.{InPort, OutPort, EachPort, InStands, OutStands, InRests, OutRests}
 
 -- a node's own ports as wires, each read as no lane
-abbrev pub own_in : InPort → picture.View
+abbrev pub own_in : InPort → picture.SeenWire
 own_in i = record { wire = 0; sent = elements i.got; asked = is_waiting i.view; shut = input_closed i.view; lane = None; list = list_of i.got }
 
-abbrev pub own_out : OutPort → picture.View
+abbrev pub own_out : OutPort → picture.SeenWire
 own_out o = record { wire = 0; sent = elements o.sent; asked = is_asked o.view; shut = output_closed o.view; lane = None; list = list_of o.sent }
 
 waiting_is : (x : InView) → is_waiting x ≡ true → x ≡ Pulled
@@ -124,20 +124,20 @@ module _ (o : OutPort) (r : OutRests o) where
 
 -- ---- over lists
 
-pub each : (P Q : picture.View → Type 0) → ((i : InPort) → InRests i → P (own_in i) → Q i.wire) → (is : List InPort) → EachPort InRests is → EachWire P (map own_in is) → EachWire Q (map (λ (i : InPort). i.wire) is)
+pub each : (P Q : picture.SeenWire → Type 0) → ((i : InPort) → InRests i → P (own_in i) → Q i.wire) → (is : List InPort) → EachPort InRests is → EachWire P (map own_in is) → EachWire Q (map (λ (i : InPort). i.wire) is)
 each P Q f [] r h = tt
 each P Q f (i ∷ is) r h = (f i r.0 h.0, each P Q f is r.1 h.1)
 
-some : (P Q : picture.View → Type 0) → ((i : InPort) → InRests i → P (own_in i) → Q i.wire) → (is : List InPort) → EachPort InRests is → SomeWire P (map own_in is) → SomeWire Q (map (λ (i : InPort). i.wire) is)
+some : (P Q : picture.SeenWire → Type 0) → ((i : InPort) → InRests i → P (own_in i) → Q i.wire) → (is : List InPort) → EachPort InRests is → SomeWire P (map own_in is) → SomeWire Q (map (λ (i : InPort). i.wire) is)
 some P Q f [] r h = h
 some P Q f (i ∷ is) r (inl h) = inl (f i r.0 h)
 some P Q f (i ∷ is) r (inr h) = inr (some P Q f is r.1 h)
 
-pub each_out : (P Q : picture.View → Type 0) → ((o : OutPort) → OutStands o → OutRests o → P (own_out o) → Q o.wire) → (os : List OutPort) → EachPort OutStands os → EachPort OutRests os → EachWire P (map own_out os) → EachWire Q (map (λ (o : OutPort). o.wire) os)
+pub each_out : (P Q : picture.SeenWire → Type 0) → ((o : OutPort) → OutStands o → OutRests o → P (own_out o) → Q o.wire) → (os : List OutPort) → EachPort OutStands os → EachPort OutRests os → EachWire P (map own_out os) → EachWire Q (map (λ (o : OutPort). o.wire) os)
 each_out P Q f [] s r h = tt
 each_out P Q f (o ∷ os) s r h = (f o s.0 r.0 h.0, each_out P Q f os s.1 r.1 h.1)
 
-some_out : (P Q : picture.View → Type 0) → ((o : OutPort) → OutRests o → P (own_out o) → Q o.wire) → (os : List OutPort) → EachPort OutRests os → SomeWire P (map own_out os) → SomeWire Q (map (λ (o : OutPort). o.wire) os)
+some_out : (P Q : picture.SeenWire → Type 0) → ((o : OutPort) → OutRests o → P (own_out o) → Q o.wire) → (os : List OutPort) → EachPort OutRests os → SomeWire P (map own_out os) → SomeWire Q (map (λ (o : OutPort). o.wire) os)
 some_out P Q f [] r h = h
 some_out P Q f (o ∷ os) r (inl h) = inl (f o r.0 h)
 some_out P Q f (o ∷ os) r (inr h) = inr (some_out P Q f os r.1 h)

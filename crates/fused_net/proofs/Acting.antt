@@ -5,7 +5,7 @@ use Rattle.std.proofs.lemmas.List.{length-set, set-get_or}
 use Rattle.std.proofs.lemmas.Option.{slice_get_within}
 use Rattle.elem_core.specs.declared.item.Item.{Item}
 use Rattle.port_core.specs.Joint.{IsSound, Kept}
-use Rattle.port_core.specs.Wire.{Wire}
+use Rattle.port_core.specs.Wire.{JointPorts}
 use Rattle.port_core.specs.View.{View, IsInOpen, IsOutOpen, ActAllowed}
 use Rattle.port_core.specs.View as view
 use Rattle.port_core.specs.Asking.{PullsStand}
@@ -17,7 +17,7 @@ use Rattle.port_core.specs.declared.view.InView.TheVariants.{Idle, Cancelled}
 use Rattle.port_core.specs.declared.view.OutView.TheVariants.{Available, Closed}
 use Rattle.port_core.proofs.Wires.{pull_kept, push_kept, close_kept, cancel_kept}
 use Rattle.stage_core.specs.Histories.{given_by}
-use Rattle.wire_core.specs.Cell.{Cell, moved_by, queues_by}
+use Rattle.wire_core.specs.Cell.{WireState, moved_by, queues_by}
 use Rattle.wire_core.specs.Marks.{IsMarked}
 use Rattle.wire_core.proofs.Marking.{pull_marked, push_marked, close_marked, cancel_marked}
 use Rattle.wire_core.specs.Counts.{asks}
@@ -31,7 +31,7 @@ use Rattle.fused_net.proofs.Sums.{sum_has}
 use Rattle.fused_net.proofs.Nets.{sound_put, marked_put, others_in, others_out, here_in, here_out}
 
 -- where an action may be done at a wire
-abbrev pub Fits : Act → Wire → Type 0
+abbrev pub Fits : Act → JointPorts → Type 0
 Fits (Pull i) w = w.inp ≡ Idle
 Fits (Push j e) w = w.out ≡ Available
 Fits (Complete j) w = IsOutOpen w.out
@@ -54,14 +54,14 @@ has_port (FailOut j c) p w h = slice_get_within p.outs j w h
 has_port (Cancel i) p w h = slice_get_within p.ins i w h
 
 -- a move at a wire
-pub move_kept : (a : Act) (c : Cell) (q : Bool) → IsSound c.wire q → Fits a c.wire → Kept (moved_by a c).wire q (queues_by a c.wire.conn)
+pub move_kept : (a : Act) (c : WireState) (q : Bool) → IsSound c.wire q → Fits a c.wire → Kept (moved_by a c).wire q (queues_by a c.wire.conn)
 move_kept (Pull i) c q h e = pull_kept c.wire q h e
 move_kept (Push j x) c q h e = push_kept x c.wire q h e
 move_kept (Complete j) c q h e = close_kept None c.wire q h e
 move_kept (FailOut j d) c q h e = close_kept (Some d) c.wire q h e
 move_kept (Cancel i) c q h e = cancel_kept c.wire q h e
 
-pub move_marked : (a : Act) (c : Cell) (q : Bool) → IsSound c.wire q → Fits a c.wire → IsMarked c → IsMarked (moved_by a c)
+pub move_marked : (a : Act) (c : WireState) (q : Bool) → IsSound c.wire q → Fits a c.wire → IsMarked c → IsMarked (moved_by a c)
 move_marked (Pull i) c q h e m = pull_marked c.wire c.asked m
 move_marked (Push j x) c q h e m = push_marked x c.wire q h e
 move_marked (Complete j) c q h e m = close_marked None c.wire c.asked m
@@ -76,7 +76,7 @@ stands_next (FailOut j c) acts h = h
 stands_next (Cancel i) acts h = h
 
 -- what is read at a port and written there again
-pub keep_at : {X : Type 0} (f : Cell → X) (wires : List Cell) (ws : List ℕ) (i w : ℕ) (d : X) → slice_get ws i ≡ Some w → set (read_all f wires ws) i (f (get_or wires w no_wire)) ≡ read_all f wires ws
+pub keep_at : {X : Type 0} (f : WireState → X) (wires : List WireState) (ws : List ℕ) (i w : ℕ) (d : X) → slice_get ws i ≡ Some w → set (read_all f wires ws) i (f (get_or wires w no_wire)) ≡ read_all f wires ws
 keep_at f wires ws i w d at = ap (λ x. set (read_all f wires ws) i x) (sym (read_at f wires ws i w d at)) ∙ set-get_or (read_all f wires ws) i d
 
 module _ {N : Type 0} where

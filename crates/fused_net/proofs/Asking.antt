@@ -8,7 +8,7 @@ use Rattle.elem_core.specs.declared.item.Item.TheVariants as item
 use Rattle.port_core.specs.Asking.{NoCancel, PullsStand}
 use Rattle.port_core.specs.Connection.{pulled}
 use Rattle.port_core.specs.Decoding.{can_pull}
-use Rattle.port_core.specs.Wire.{Wire, Delivery, nothing, pull, cancel, arrived, after_delivery, again}
+use Rattle.port_core.specs.Wire.{JointPorts, Delivery, nothing, pull, cancel, arrived, after_delivery, again}
 use Rattle.port_core.specs.Joint.{Joint, idle, asking, asked, moving, ending, closing, leaving, finished, parted, refused, wire_of, IsSound}
 use Rattle.port_core.specs.View.{View}
 use Rattle.port_core.specs.View as view
@@ -16,7 +16,7 @@ use Rattle.port_core.specs.declared.act.Act.{Act}
 use Rattle.port_core.specs.declared.act.Act.TheVariants.{Pull, Push, Complete, FailOut, Cancel}
 use Rattle.port_core.specs.declared.view.InView.TheVariants.{Idle, Pulled}
 use Rattle.port_core.specs.declared.view.OutView.TheVariants.{Available}
-use Rattle.wire_core.specs.Cell.{Cell, moved_by}
+use Rattle.wire_core.specs.Cell.{WireState, moved_by}
 use Rattle.wire_core.specs.Marks.{wants, IsMarked, wanted, Grown}
 use Rattle.wire_core.proofs.Marking.{pull_grown, push_grown, close_grown, cancel_grown, push_wanted, close_wanted, deliver_grown, deliver_wanted, grown_same, grown_trans}
 use Rattle.stage_core.specs.Handling.{Pulls}
@@ -44,8 +44,8 @@ open_j (finished t c) s g e = cc
 open_j (parted t c) s g e = cc
 open_j (refused t c) s g e = cc
 
-waits_open : (w : Wire) (q : Bool) → IsSound w q → w.inp ≡ Pulled → w.conn.in_closed ≡ false
-waits_open w q h e = ap (λ (v : Wire). v.conn.in_closed) h.is ∙ open_j h.joint w.sent w.got (sym (ap (λ (v : Wire). v.inp) h.is) ∙ e)
+waits_open : (w : JointPorts) (q : Bool) → IsSound w q → w.inp ≡ Pulled → w.conn.in_closed ≡ false
+waits_open w q h e = ap (λ (v : JointPorts). v.conn.in_closed) h.is ∙ open_j h.joint w.sent w.got (sym (ap (λ (v : JointPorts). v.inp) h.is) ∙ e)
 
 -- a pull that is on its way has not come to the output
 unasked_j : (j : Joint) (s g : List Item) → (wire_of j s g).inp ≡ Pulled → (wire_of j s g).conn.step ≡ pulled → (wire_of j s g).out ≡ Available → ⊥
@@ -61,11 +61,11 @@ unasked_j (finished u c) s g i t o = cc
 unasked_j (parted u c) s g i t o = cc
 unasked_j (refused u c) s g i t o = cc
 
-not_come : (w : Wire) (q : Bool) → IsSound w q → w.inp ≡ Pulled → w.conn.step ≡ pulled → w.out ≡ Available → ⊥
+not_come : (w : JointPorts) (q : Bool) → IsSound w q → w.inp ≡ Pulled → w.conn.step ≡ pulled → w.out ≡ Available → ⊥
 not_come w q h i t o =
-    unasked_j h.joint w.sent w.got (sym (ap (λ (v : Wire). v.inp) h.is) ∙ i) (sym (ap (λ (v : Wire). v.conn.step) h.is) ∙ t) (sym (ap (λ (v : Wire). v.out) h.is) ∙ o)
+    unasked_j h.joint w.sent w.got (sym (ap (λ (v : JointPorts). v.inp) h.is) ∙ i) (sym (ap (λ (v : JointPorts). v.conn.step) h.is) ∙ t) (sym (ap (λ (v : JointPorts). v.out) h.is) ∙ o)
 
-pub move_grown : (a : Act) (c : Cell) → Fits a c.wire → IsMarked c → Grown c (moved_by a c)
+pub move_grown : (a : Act) (c : WireState) → Fits a c.wire → IsMarked c → Grown c (moved_by a c)
 move_grown (Pull i) c f m = pull_grown c.wire c.asked
 move_grown (Push j x) c f m = push_grown x c.wire c.asked (m.known f)
 move_grown (Complete j) c f m = close_grown None c.wire c.asked
@@ -73,7 +73,7 @@ move_grown (FailOut j d) c f m = close_grown (Some d) c.wire c.asked
 move_grown (Cancel i) c f m = cancel_grown c.wire c.asked
 
 -- the pull of this wire was made by the actions so far, is on its way, and those still to do leave it; P is what a stage tells as it pulls
-pub record AsksAt (p : PortLists) (acts : List Act) (w : ℕ) (c : Cell) (P : Type 0) : Type 0 where
+pub record AsksAt (p : PortLists) (acts : List Act) (w : ℕ) (c : WireState) (P : Type 0) : Type 0 where
   pub port : ℕ
   pub at : slice_get p.ins port ≡ Some w
   pub waits : c.wire.inp ≡ Pulled
@@ -85,7 +85,7 @@ pub record AsksAt (p : PortLists) (acts : List Act) (w : ℕ) (c : Cell) (P : Ty
 abbrev Once : PortLists → ℕ → Type 0
 Once p w = (i k : ℕ) → slice_get p.ins i ≡ Some w → slice_get p.ins k ≡ Some w → i ≡ k
 
-pull_here : (i : ℕ) (acts : List Act) (p : PortLists) (w : ℕ) (c : Cell) (t : Bool) → can_pull c.wire.conn ≡ t → slice_get p.ins i ≡ Some w → c.wire.inp ≡ Idle → NoCancel i acts
+pull_here : (i : ℕ) (acts : List Act) (p : PortLists) (w : ℕ) (c : WireState) (t : Bool) → can_pull c.wire.conn ≡ t → slice_get p.ins i ≡ Some w → c.wire.inp ≡ Idle → NoCancel i acts
     → (L P : Type 0) → P → (1 ≤ wanted c → L ⊎ AsksAt p (Pull i ∷ acts) w c P) → 1 ≤ wanted (moved_by (Pull i) c) → ((wanted (moved_by (Pull i) c) ≡ wanted c) × L) ⊎ AsksAt p acts w (moved_by (Pull i) c) P
 pull_here i acts p w c true e at f stands L P tells before some = inr (record { port = i; at = at; waits = refl; step = rw e refl; kept = stands; tells = tells })
 pull_here i acts p w c false e at f stands L P tells before some =
@@ -93,7 +93,7 @@ pull_here i acts p w c false e at f stands L P tells before some =
     elim (before (subst (λ (n : ℕ). 1 ≤ n) same some)) [ inl l ↦ inl (same, l) | inr k ↦ let x = k.waits in cc ]
 
 -- an action at the wire leaves its last ask, or is a new one
-acted_here : (a : Act) (acts : List Act) (p : PortLists) (w : ℕ) (c : Cell) (q : Bool) → PortAt a p w → Fits a c.wire → IsSound c.wire q → IsMarked c → PullsStand (a ∷ acts) → Once p w
+acted_here : (a : Act) (acts : List Act) (p : PortLists) (w : ℕ) (c : WireState) (q : Bool) → PortAt a p w → Fits a c.wire → IsSound c.wire q → IsMarked c → PullsStand (a ∷ acts) → Once p w
     → (L P : Type 0) → (Pulls (a ∷ acts) → P) → (1 ≤ wanted c → L ⊎ AsksAt p (a ∷ acts) w c P) → 1 ≤ wanted (moved_by a c) → ((wanted (moved_by a c) ≡ wanted c) × L) ⊎ AsksAt p acts w (moved_by a c) P
 acted_here (Pull i) acts p w c q at f s m stands once L P tells before some = pull_here i acts p w c (can_pull c.wire.conn) refl at f stands.0 L P (tells tt) before some
 acted_here (Push j x) acts p w c q at f s m stands once L P tells before some =
@@ -131,7 +131,7 @@ no_place : (i w : ℕ) → slice_get [] i ≡ Some w → ⊥
 no_place i w e = cc
 
 -- an item that was brought makes the history of the input longer
-brought_longer : (x : Item) (more : Bool) (w : Wire) → length (after_delivery (arrived x more) w).got ≡ length w.got + 1
+brought_longer : (x : Item) (more : Bool) (w : JointPorts) → length (after_delivery (arrived x more) w).got ≡ length w.got + 1
 brought_longer (item.Elem e) more w = length-append w.got (item.Elem e ∷ [])
 brought_longer item.Ended more w = length-append w.got (item.Ended ∷ [])
 brought_longer (item.Failed c) more w = length-append w.got (item.Failed c ∷ [])
@@ -140,7 +140,7 @@ brought_longer (item.Failed c) more w = length-append w.got (item.Failed c ∷ [
 
 module _ {N : Type 0} where
   -- every wire goes on where one was put that goes on
-  pub grown_put : (net : Net N) (w : ℕ) (new : Cell) (b : Bool) → w < length net.wires → Grown (wire_at net w) new → (u : ℕ) → Grown (wire_at net u) (wire_at (put net w new b) u)
+  pub grown_put : (net : Net N) (w : ℕ) (new : WireState) (b : Bool) → w < length net.wires → Grown (wire_at net w) new → (u : ℕ) → Grown (wire_at net u) (wire_at (put net w new b) u)
   grown_put net w new b h g u = elim (same_or_not u w) [
     | inl same ↦ rw same (rw (get_or-set_same net.wires w new no_wire h) g)
     | inr other ↦ rw (get_or-set_other net.wires w u new no_wire other) (grown_same (wire_at net u))
@@ -164,8 +164,8 @@ module _ {N : Type 0} where
 
   pub told_wanted : (net : Net N) (w : ℕ) (d : Delivery) → w < length net.wires → (u : ℕ) → wanted (wire_at (told net w d) u) ≡ wanted (wire_at net u)
   told_wanted net w d h u = elim (same_or_not u w) [
-    | inl e ↦ rw e (ap (λ (c : Cell). wanted c) (get_or-set_same net.wires w (told_by d (wire_at net w)) no_wire h) ∙ deliver_wanted d (wire_at net w).wire (wire_at net w).asked)
-    | inr ne ↦ ap (λ (c : Cell). wanted c) (get_or-set_other net.wires w u (told_by d (wire_at net w)) no_wire ne)
+    | inl e ↦ rw e (ap (λ (c : WireState). wanted c) (get_or-set_same net.wires w (told_by d (wire_at net w)) no_wire h) ∙ deliver_wanted d (wire_at net w).wire (wire_at net w).asked)
+    | inr ne ↦ ap (λ (c : WireState). wanted c) (get_or-set_other net.wires w u (told_by d (wire_at net w)) no_wire ne)
   ]
 
   -- an item that was brought is in the history of the input
@@ -262,14 +262,14 @@ module _ {N : Type 0} (row : N → View → Type 0) (law : N → N → View → 
             (λ i k e d. sym (busy.wired.input_to n i w busy.within e).1.1 ∙ (busy.wired.input_to n k w busy.within d).1.1)
             (LastAsk row law asking moves net w) P tells (before w within) some' in
             elim r [
-              | inl l ↦ inl (later net (acted net n a) w within on grown (moves_same moves net (acted net n a) refl) (λ k _ _ _. refl) (ap (λ (c : Cell). wanted c) moved ∙ l.0) l.1)
+              | inl l ↦ inl (later net (acted net n a) w within on grown (moves_same moves net (acted net n a) refl) (λ k _ _ _. refl) (ap (λ (c : WireState). wanted c) moved ∙ l.0) l.1)
               | inr k ↦ inr (rw moved k)
             ]
         | inr other ↦
             let same : wire_at (acted net n a) w ≡ wire_at net w = get_or-set_other net.wires (wire_for a (ports_at net n)) w _ no_wire other in
             let some' : 1 ≤ wanted (wire_at net w) = rw same at some in
             elim (before w within some') [
-              | inl l ↦ inl (later net (acted net n a) w within on grown (moves_same moves net (acted net n a) refl) (λ k _ _ _. refl) (ap (λ (c : Cell). wanted c) same) l)
+              | inl l ↦ inl (later net (acted net n a) w within on grown (moves_same moves net (acted net n a) refl) (λ k _ _ _. refl) (ap (λ (c : WireState). wanted c) same) l)
               | inr k ↦ inr (rw same (record { port = k.port; at = k.at; waits = k.waits; step = k.step; kept = still_kept a acts k.port k.kept; tells = k.tells }))
             ]
       ]

@@ -20,7 +20,7 @@ use Rattle.wire_core.specs.Marks.{IsMarked}
 use Rattle.wire_core.proofs.Marking.{deliver_marked}
 use Rattle.stage_core.specs.Histories.{brought_by}
 use Rattle.stage_core.specs.Handling.{Handles}
-use Rattle.fused_net.specs.declared.net.Ends.{Ends}
+use Rattle.fused_net.specs.declared.net.WireEnds.{WireEnds}
 use Rattle.wire_core.specs.Reading.{inp_of, out_of, got_of, sent_of}
 use Rattle.fused_net.specs.Net.{Net, end_at, wire_at, ports_at, view_of, took, gave, target, call_of, told_by, told, event_told, with_node, before}
 use Rattle.fused_net.specs.Laws.{AnyLaw, Wired, Minds, IsMinded, Settled, Busy, MeetsAt, Awaits, TellsAsking}
@@ -168,7 +168,7 @@ module _ {N : Type 0} (row : N → View → Type 0) (law : N → N → View → 
       (λ k hk ne. others_told row law d net w n s.wired h k hk ne (s.minded k hk))
 
   -- what a handler's call needs, once the wire's event was delivered
-  pub record Called (d : Delivery) (e : Ends) (v : Net N) (n : ℕ) : Type 0 where
+  pub record Called (d : Delivery) (e : WireEnds) (v : Net N) (n : ℕ) : Type 0 where
     pub within : n < length v.nodes
     pub meets : MeetsAt row law (call_of d e) v n
     pub awaits : Awaits row law (call_of d e) v n
@@ -196,6 +196,6 @@ module _ {N : Type 0} (row : N → View → Type 0) (law : N → N → View → 
             subst (λ (a : Net N). asking y (view.acted_all (view_of a (target d (end_at net.ends w))) acts)) same at.row_holds;
       }
 
-  pub call_at : (net v : Net N) (w n : ℕ) (d : Delivery) (ends : Ends) → Settled row law asking moves (before net w) → w < length net.wires → holds net.queue w ≡ false
+  pub call_at : (net v : Net N) (w n : ℕ) (d : Delivery) (ends : WireEnds) → Settled row law asking moves (before net w) → w < length net.wires → holds net.queue w ≡ false
       → d ≡ delivery_of (wire_at net w).wire → d ≢ nothing → v ≡ event_told net w → ends ≡ end_at net.ends w → n ≡ target d ends → Called d ends v n
   call_at net v w n d ends s h absent e ne is same at = rw (at, same, is) (called net w d s h absent e ne)

@@ -6,13 +6,13 @@ use Rattle.elem_core.specs.declared.item.Item.TheVariants as item
 use Rattle.port_core.specs.Ring.{holds}
 use Rattle.port_core.specs.Joint.{IsSound}
 use Rattle.port_core.specs.View.{View}
-use Rattle.port_core.specs.Wire.{Wire, Delivery, nothing, pull, cancel, arrived, delivery_of, after_delivery, again}
+use Rattle.port_core.specs.Wire.{JointPorts, Delivery, nothing, pull, cancel, arrived, delivery_of, after_delivery, again}
 use Rattle.port_core.specs.declared.act.Act.{Act}
 use Rattle.port_core.specs.declared.act.Act.TheVariants.{Pull, Push, Complete, FailOut, Cancel}
-use Rattle.wire_core.specs.Cell.{Cell, moved_by}
+use Rattle.wire_core.specs.Cell.{WireState, moved_by}
 use Rattle.wire_core.specs.Counts.{spent, asks}
 use Rattle.wire_core.proofs.Counting.{pull_spent, push_spent, close_spent, cancel_spent, deliver_spent, pull_asks, push_asks, close_asks, cancel_asks}
-use Rattle.fused_net.specs.declared.net.Ends.{Ends}
+use Rattle.fused_net.specs.declared.net.WireEnds.{WireEnds}
 use Rattle.wire_core.specs.Reading.{no_wire}
 use Rattle.fused_net.specs.Net.{Net, end_at, target, told, wire_at, ports_at, wire_for, acted, acted_all, event_told, with_node, before}
 use Rattle.stage_core.specs.Handling.{Pulls}
@@ -28,21 +28,21 @@ use Rattle.fused_net.proofs.Moments.{allowed_of, acts_moments, told_moments, nod
 use Rattle.fused_net.proofs.Delivering.{queued_here, queued_there, sound_here, nothing_settled}
 
 -- the numbers of one wire
-move_spent : (a : Act) (c : Cell) (q r : Bool) → IsSound c.wire q → Fits a c.wire → spent c.wire q ≤ spent (moved_by a c).wire r
+move_spent : (a : Act) (c : WireState) (q r : Bool) → IsSound c.wire q → Fits a c.wire → spent c.wire q ≤ spent (moved_by a c).wire r
 move_spent (Pull i) c q r s f = pull_spent c.wire q r s f
 move_spent (Push j e) c q r s f = push_spent e c.wire q r s f
 move_spent (Complete j) c q r s f = close_spent None c.wire q r s f
 move_spent (FailOut j d) c q r s f = close_spent (Some d) c.wire q r s f
 move_spent (Cancel i) c q r s f = cancel_spent c.wire q r s f
 
-move_asks : (a : Act) (c : Cell) → Fits a c.wire → asks (moved_by a c).wire ≤ asks c.wire
+move_asks : (a : Act) (c : WireState) → Fits a c.wire → asks (moved_by a c).wire ≤ asks c.wire
 move_asks (Pull i) c f = pull_asks c.wire
 move_asks (Push j e) c f = push_asks e c.wire f
 move_asks (Complete j) c f = close_asks None c.wire
 move_asks (FailOut j d) c f = close_asks (Some d) c.wire
 move_asks (Cancel i) c f = cancel_asks c.wire
 
-deliver_asks : (d : Delivery) (w : Wire) → asks (after_delivery d w) ≤ asks w + 1
+deliver_asks : (d : Delivery) (w : JointPorts) → asks (after_delivery d w) ≤ asks w + 1
 deliver_asks nothing w = omega arith
 deliver_asks pull w = omega arith
 deliver_asks cancel w = omega arith
@@ -134,14 +134,14 @@ module _ {N : Type 0} (row : N → View → Type 0) (law : N → N → View → 
     pub on : GoesOn net new
     pub uses : Uses (before net w) new 1
 
-  pub handled : (net v new : Net N) (w n : ℕ) (d : Delivery) (ends : Ends) → Settled row law asking moves (before net w) → w < length net.wires → holds net.queue w ≡ false
+  pub handled : (net v new : Net N) (w n : ℕ) (d : Delivery) (ends : WireEnds) → Settled row law asking moves (before net w) → w < length net.wires → holds net.queue w ≡ false
       → d ≡ delivery_of (wire_at net w).wire → d ≢ nothing → v ≡ event_told net w → ends ≡ end_at net.ends w → n ≡ target d ends → Responds row law asking moves v new n → Handled net new w
   handled net v new w n d ends s h absent e ne is same at r =
       let event : Uses (before net w) v 1 = rw is (event_uses net w s h absent) in
       let on : GoesOn net v = rw is (goes_put net w _ _) in
       let told_is : told net w d ≡ v = ap (λ (x : Delivery). told net w x) e ∙ sym is in
       let within : n < length v.nodes = rw length-set at r.busy.within in
-      let to : n ≡ target d (end_at net.ends w) = at ∙ ap (λ (x : Ends). target d x) same in
+      let to : n ≡ target d (end_at net.ends w) = at ∙ ap (λ (x : WireEnds). target d x) same in
       let moved : MovesGrow moves v (with_node v n r.node) = moves_node moves v n r.node within r.grows in
       let moved_on : MovesGrow moves (before net w) (with_node (told net w d) n r.node) = rw (sym told_is) at (moves_from moves (before net w) v n r.node (rw is refl) moved) in
       let asked : AllAsked row law asking moves (with_node v n r.node) =

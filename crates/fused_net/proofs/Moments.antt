@@ -11,7 +11,7 @@ use Rattle.port_core.specs.declared.act.Act.{Act}
 use Rattle.port_core.specs.declared.act.Act.TheVariants.{Pull, Push, Complete, FailOut, Cancel}
 use Rattle.port_core.specs.declared.view.InView.{InView}
 use Rattle.port_core.specs.declared.view.InView.TheVariants.{Idle, Pulled, Cancelled}
-use Rattle.wire_core.specs.Cell.{Cell, moved_by}
+use Rattle.wire_core.specs.Cell.{WireState, moved_by}
 use Rattle.wire_core.specs.Marks.{IsMarked, wanted, Grown}
 use Rattle.wire_core.proofs.Marking.{push_wanted, close_wanted, grown_same, grown_trans}
 use Rattle.stage_core.specs.Handling.{Pulls}
@@ -67,7 +67,7 @@ abbrev IsPull : Act → Type 0
 IsPull (Pull i) = Unit {0}
 IsPull _ = ⊥
 
-move_wanted : (a : Act) (c : Cell) → Fits a c.wire → IsMarked c → (IsPull a → ⊥) → wanted (moved_by a c) ≡ wanted c
+move_wanted : (a : Act) (c : WireState) → Fits a c.wire → IsMarked c → (IsPull a → ⊥) → wanted (moved_by a c) ≡ wanted c
 move_wanted (Pull i) c f m n = absurd (n tt)
 move_wanted (Push j x) c f m n = push_wanted x c.wire c.asked (m.known f)
 move_wanted (Complete j) c f m n = close_wanted None c.wire c.asked

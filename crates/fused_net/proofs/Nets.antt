@@ -10,7 +10,7 @@ use Rattle.port_core.specs.Ring.{holds}
 use Rattle.port_core.specs.Joint.{IsSound}
 use Rattle.port_core.specs.View.{View}
 use Rattle.port_core.specs.declared.act.Act.{Act}
-use Rattle.wire_core.specs.Cell.{Cell}
+use Rattle.wire_core.specs.Cell.{WireState}
 use Rattle.wire_core.specs.Marks.{IsMarked}
 use Rattle.wire_core.specs.Reading.{no_wire, inp_of, out_of, got_of, sent_of}
 use Rattle.fused_net.specs.Net.{Net, wire_at, ports_at, view_of, took, gave, put}
@@ -28,7 +28,7 @@ holds_put_other queue w u false n = refl
 
 module _ {N : Type 0} where
   -- every wire stays in a joint state
-  pub sound_put : (net : Net N) (w : ℕ) (new : Cell) (b : Bool) → w < length net.wires
+  pub sound_put : (net : Net N) (w : ℕ) (new : WireState) (b : Bool) → w < length net.wires
       → ((u : ℕ) → u < length net.wires → u ≢ w → IsSound (wire_at net u).wire (holds net.queue u))
       → IsSound new.wire (holds net.queue w || b)
       → (u : ℕ) → u < length (put net w new b).wires → IsSound (wire_at (put net w new b) u).wire (holds (put net w new b).queue u)
@@ -39,7 +39,7 @@ module _ {N : Type 0} where
   ]
 
   -- and every wire stays marked as it was pulled
-  pub marked_put : (net : Net N) (w : ℕ) (new : Cell) (b : Bool) → w < length net.wires
+  pub marked_put : (net : Net N) (w : ℕ) (new : WireState) (b : Bool) → w < length net.wires
       → ((u : ℕ) → u < length net.wires → u ≢ w → IsMarked (wire_at net u)) → IsMarked new
       → (u : ℕ) → u < length (put net w new b).wires → IsMarked (wire_at (put net w new b) u)
   marked_put net w new b h marked m u hu = elim (same_or_not u w) [
@@ -74,7 +74,7 @@ module _ {N : Type 0} (row : N → View → Type 0) (law : N → N → View → 
       rw (same, et, eg) m
 
   -- a move at input i of node n leaves every other node as it was
-  pub others_in : (net : Net N) (n i w : ℕ) (new : Cell) (b : Bool) → Wired net.ends net.ports (length net.nodes) (length net.wires)
+  pub others_in : (net : Net N) (n i w : ℕ) (new : WireState) (b : Bool) → Wired net.ends net.ports (length net.nodes) (length net.wires)
       → n < length net.nodes → slice_get (ports_at net n).ins i ≡ Some w → w < length net.wires
       → new.wire.out ≡ (wire_at net w).wire.out → new.wire.sent ≡ (wire_at net w).wire.sent
       → (k : ℕ) → k < length net.nodes → k ≢ n → IsMinded row law net k [] → IsMinded row law (put net w new b) k []
@@ -88,7 +88,7 @@ module _ {N : Type 0} (row : N → View → Type 0) (law : N → N → View → 
       (m x first xi fi)
 
   -- a move at output i
-  pub others_out : (net : Net N) (n i w : ℕ) (new : Cell) (b : Bool) → Wired net.ends net.ports (length net.nodes) (length net.wires)
+  pub others_out : (net : Net N) (n i w : ℕ) (new : WireState) (b : Bool) → Wired net.ends net.ports (length net.nodes) (length net.wires)
       → n < length net.nodes → slice_get (ports_at net n).outs i ≡ Some w → w < length net.wires
       → new.wire.inp ≡ (wire_at net w).wire.inp → new.wire.got ≡ (wire_at net w).wire.got
       → (k : ℕ) → k < length net.nodes → k ≢ n → IsMinded row law net k [] → IsMinded row law (put net w new b) k []
@@ -102,7 +102,7 @@ module _ {N : Type 0} (row : N → View → Type 0) (law : N → N → View → 
       (m x first xi fi)
 
   -- and node n knows it
-  pub here_in : (net : Net N) (x first : N) (n i w : ℕ) (new : Cell) (b : Bool) (acts : List Act) → Wired net.ends net.ports (length net.nodes) (length net.wires)
+  pub here_in : (net : Net N) (x first : N) (n i w : ℕ) (new : WireState) (b : Bool) (acts : List Act) → Wired net.ends net.ports (length net.nodes) (length net.wires)
       → n < length net.nodes → slice_get (ports_at net n).ins i ≡ Some w → w < length net.wires
       → new.wire.out ≡ (wire_at net w).wire.out → new.wire.sent ≡ (wire_at net w).wire.sent
       → Minds row law x first (record { ins = set (view_of net n).ins i new.wire.inp; outs = (view_of net n).outs }) (set (took net n) i new.wire.got) (gave net n) acts
@@ -116,7 +116,7 @@ module _ {N : Type 0} (row : N → View → Type 0) (law : N → N → View → 
       (read_same sent_of net.wires w new (ports_at net n).outs hw sent)
       m
 
-  pub here_out : (net : Net N) (x first : N) (n i w : ℕ) (new : Cell) (b : Bool) (acts : List Act) → Wired net.ends net.ports (length net.nodes) (length net.wires)
+  pub here_out : (net : Net N) (x first : N) (n i w : ℕ) (new : WireState) (b : Bool) (acts : List Act) → Wired net.ends net.ports (length net.nodes) (length net.wires)
       → n < length net.nodes → slice_get (ports_at net n).outs i ≡ Some w → w < length net.wires
       → new.wire.inp ≡ (wire_at net w).wire.inp → new.wire.got ≡ (wire_at net w).wire.got
       → Minds row law x first (record { ins = (view_of net n).ins; outs = set (view_of net n).outs i new.wire.out }) (took net n) (set (gave net n) i new.wire.sent) acts

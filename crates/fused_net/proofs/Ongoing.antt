@@ -2,7 +2,7 @@
 use Rattle.std.proofs.Common.{◌≡◌, ℕ, Bool, List, [], ◌∷◌, refl, ◌∙◌}
 use Rattle.std.proofs.lemmas.List.{length-set}
 use Rattle.port_core.specs.declared.act.Act.{Act}
-use Rattle.wire_core.specs.Cell.{Cell}
+use Rattle.wire_core.specs.Cell.{WireState}
 use Rattle.fused_net.specs.Net.{Net, put, acted, acted_all, with_node}
 use Rattle.fused_net.specs.Laws.{GoesOn}
 
@@ -13,7 +13,7 @@ module _ {N : Type 0} where
   pub goes_trans : (a b c : Net N) → GoesOn a b → GoesOn b c → GoesOn a c
   goes_trans a b c f g = record { firsts = g.firsts ∙ f.firsts; ends = g.ends ∙ f.ends; ports = g.ports ∙ f.ports; nodes = g.nodes ∙ f.nodes; wires = g.wires ∙ f.wires }
 
-  pub goes_put : (net : Net N) (w : ℕ) (new : Cell) (b : Bool) → GoesOn net (put net w new b)
+  pub goes_put : (net : Net N) (w : ℕ) (new : WireState) (b : Bool) → GoesOn net (put net w new b)
   goes_put net w new b = record { firsts = refl; ends = refl; ports = refl; nodes = refl; wires = length-set _ _ _ }
 
   pub goes_acts : (acts : List Act) (net : Net N) (n : ℕ) → GoesOn net (acted_all net n acts)

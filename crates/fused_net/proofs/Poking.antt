@@ -11,7 +11,7 @@ use Rattle.port_core.specs.declared.view.InView.TheVariants.{Pulled}
 use Rattle.stage_core.specs.Handling.{Pulls}
 use Rattle.stage_core.specs.Handing.{Hands}
 use Rattle.fused_net.specs.PortLists.{PortLists}
-use Rattle.fused_net.specs.declared.net.Ends.{Ends}
+use Rattle.fused_net.specs.declared.net.WireEnds.{WireEnds}
 use Rattle.fused_net.specs.Net.{Net, end_at, port_at, wire_at, ports_at, view_of, took, gave, acted, acted_all, with_node}
 use Rattle.fused_net.specs.Laws.{AnyRow, AnyLaw, IsAsking, MovesGrow, Minds, IsMinded, Settled, Busy, LastAsk, AllAsked, AllMoments, GoesOn}
 use Rattle.fused_net.specs.Costs.{Uses}
@@ -112,7 +112,7 @@ module _ {N : Type 0} (row : N → View → Type 0) (law : N → N → View → 
               let fewer : n < length last.old.firsts = subst (λ (l : List N). n < length l) last.on.firsts within in
               let first = get_there last.old.firsts n fewer in
               let wired = s.wired.input_to k 0 w (rw e h) (rw ports (rw ins refl)) in
-              let target : (end_at last.old.ends w).to ≡ k = ap (λ (q : List Ends). (end_at q w).to) (sym last.on.ends) ∙ wired.1.0 in
+              let target : (end_at last.old.ends w).to ≡ k = ap (λ (q : List WireEnds). (end_at q w).to) (sym last.on.ends) ∙ wired.1.0 in
               let m : Minds row law x first.0 (view_of last.old k) (took last.old k) (gave last.old k) [] = (subst (λ (j : ℕ). IsMinded row law last.old j []) target last.minded) x first.0 here (ap (slice_get last.old.firsts) e ∙ first.1) in
               let same : y ≡ x = hands.still (view_of last.old k) m.row_holds (waiting_at last.old w k last.waits ins) in
               ap (slice_get (set net.nodes n y)) e ∙ get_set_same net.nodes n y h ∙ ap (λ (z : N). Some z) same ∙ sym here

@@ -2,7 +2,7 @@
 use Rattle.std.proofs.Common.{◌≡◌, ◌≢◌, ◌⊎◌, inl, inr, ℕ, zero, suc, ◌<◌, ◌==◌, true, false, Some, List, [], ◌∷◌, length, get_or, slice_get, refl, ap, ◌∙◌, arith, get_or-set_same, get_or-set_other}
 use Rattle.std.proofs.Math.ListN.{set}
 use Rattle.std.proofs.lemmas.Bool.Decides.{nat_tests}
-use Rattle.wire_core.specs.Cell.{Cell}
+use Rattle.wire_core.specs.Cell.{WireState}
 use Rattle.wire_core.specs.Reading.{no_wire}
 use Rattle.fused_net.specs.Net.{read_all}
 
@@ -10,7 +10,7 @@ use Rattle.fused_net.specs.Net.{read_all}
 pub same_or_not : (a b : ℕ) → (a ≡ b) ⊎ (a ≢ b)
 same_or_not a b = elim (a == b) as (λ t. (a == b) ≡ t → (a ≡ b) ⊎ (a ≢ b)) [ true ↦ λ e. inl (grind (arith, nat_tests)) | false ↦ λ e. inr (grind (arith, nat_tests)) ] refl
 
-module _ {X : Type 0} (f : Cell → X) (wires : List Cell) (w : ℕ) (new : Cell) where
+module _ {X : Type 0} (f : WireState → X) (wires : List WireState) (w : ℕ) (new : WireState) where
   -- what one entry's replacement leaves as it was, read through f, is so at every place
   pub read_set : (u : ℕ) → w < length wires → f new ≡ f (get_or wires w no_wire) → f (get_or (set wires w new) u no_wire) ≡ f (get_or wires u no_wire)
   read_set u h e = elim (same_or_not u w) [
@@ -42,19 +42,19 @@ module _ {X : Type 0} (f : Cell → X) (wires : List Cell) (w : ℕ) (new : Cell
       rw (get_or-set_other wires w u new no_wire other, read_here ws i h e (λ j t. let z : suc j ≡ suc i = once (suc j) t in omega arith)) refl
 
 -- what is read at a port
-pub read_at : {X : Type 0} (f : Cell → X) (wires : List Cell) (ws : List ℕ) (i w : ℕ) (d : X) → slice_get ws i ≡ Some w → get_or (read_all f wires ws) i d ≡ f (get_or wires w no_wire)
+pub read_at : {X : Type 0} (f : WireState → X) (wires : List WireState) (ws : List ℕ) (i w : ℕ) (d : X) → slice_get ws i ≡ Some w → get_or (read_all f wires ws) i d ≡ f (get_or wires w no_wire)
 read_at f wires [] i w d e = absurd cc
 read_at f wires (u ∷ ws) zero w d e = let same : u ≡ w = cc in rw same refl
 read_at f wires (u ∷ ws) (suc i) w d e = read_at f wires ws i w d e
 
 -- a port of which this can be told, which cannot be told of no port, is there
-pub port_there : {X : Type 0} (P : X → Type 0) (f : Cell → X) (wires : List Cell) (ws : List ℕ) (i : ℕ) (d : X) → (P d → ⊥) → P (get_or (read_all f wires ws) i d)
+pub port_there : {X : Type 0} (P : X → Type 0) (f : WireState → X) (wires : List WireState) (ws : List ℕ) (i : ℕ) (d : X) → (P d → ⊥) → P (get_or (read_all f wires ws) i d)
     → (slice_get ws i ≡ Some (get_or ws i 0)) × (P (f (get_or wires (get_or ws i 0) no_wire)))
 port_there P f wires [] i d none p = absurd (none p)
 port_there P f wires (u ∷ ws) zero d none p = (refl, p)
 port_there P f wires (u ∷ ws) (suc i) d none p = port_there P f wires ws i d none p
 
-pub length-read_all : {X : Type 0} (f : Cell → X) (wires : List Cell) (ws : List ℕ) → length (read_all f wires ws) ≡ length ws
+pub length-read_all : {X : Type 0} (f : WireState → X) (wires : List WireState) (ws : List ℕ) → length (read_all f wires ws) ≡ length ws
 length-read_all f wires [] = refl
 length-read_all f wires (u ∷ ws) = ap suc (length-read_all f wires ws)
 

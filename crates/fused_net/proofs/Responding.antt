@@ -9,7 +9,7 @@ use Rattle.port_core.specs.View.{View}
 use Rattle.port_core.specs.Call.{Call, Meets, starts}
 use Rattle.port_core.specs.declared.act.Act.{Act}
 use Rattle.stage_core.specs.Handling.{PullsAs, Starts, Handles}
-use Rattle.fused_net.specs.declared.net.Ends.{Ends}
+use Rattle.fused_net.specs.declared.net.WireEnds.{WireEnds}
 use Rattle.fused_net.specs.Net.{Net, no_ends, end_at, view_of, acted_all, event_told, with_node, before}
 use Rattle.fused_net.specs.Laws.{AnyRow, AnyLaw, Busy, Awaits, TellsAsking, Responds, Settled, Starting, GoesOn}
 use Rattle.fused_net.specs.Costs.{all_asks, Uses}
@@ -28,7 +28,7 @@ module _ {N : Type 0} where
       sym (ap (λ (a : Net N). slice_get a.nodes n) e) ∙ at
 
   -- the ends of the wire, as they were read
-  pub the_ends : (net v : Net N) (w : ℕ) (x : Ends) → v ≡ net → length net.ends ≡ length net.wires → w < length net.wires → x ≡ get_or v.ends w x → x ≡ end_at net.ends w
+  pub the_ends : (net v : Net N) (w : ℕ) (x : WireEnds) → v ≡ net → length net.ends ≡ length net.wires → w < length net.wires → x ≡ get_or v.ends w x → x ≡ end_at net.ends w
   the_ends net v w x e each h is =
       let within : w < length v.ends = rw (e, each) h in
       is ∙ get_or_default v.ends w x no_ends within ∙ ap (λ (a : Net N). end_at a.ends w) e

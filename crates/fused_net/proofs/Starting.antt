@@ -3,7 +3,7 @@ use Rattle.std.proofs.Common.{◌≡◌, ◌≢◌, inl, inr, ℕ, zero, suc, �
 use Rattle.std.proofs.lemmas.List.{length-set, get_or-replicate, length-replicate}
 use Rattle.elem_core.specs.Prefix.{IsPrefix}
 use Rattle.elem_core.specs.declared.item.Item.{Item}
-use Rattle.port_core.specs.Wire.{Wire}
+use Rattle.port_core.specs.Wire.{JointPorts}
 use Rattle.port_core.specs.Joint.{Joint, idle, asking, asked, moving, ending, closing, leaving, finished, parted, refused, wire_of, Histories, IsSound}
 use Rattle.port_core.specs.View.{View}
 use Rattle.port_core.specs.Call.{starts, AllIdle, AllUnasked}
@@ -12,13 +12,13 @@ use Rattle.port_core.specs.declared.view.InView.TheVariants.{Idle}
 use Rattle.port_core.specs.declared.view.OutView.TheVariants.{Unpulled}
 use Rattle.stage_core.specs.Histories.{AllEmpty}
 use Rattle.stage_core.specs.Handling.{Pulls, PullsAs, Starts}
-use Rattle.wire_core.specs.Cell.{Cell, new_cell}
+use Rattle.wire_core.specs.Cell.{WireState, new_cell}
 use Rattle.wire_core.proofs.Marking.{new_marked, cell}
 use Rattle.wire_core.specs.Marks.{IsMarked, wanted}
 use Rattle.wire_core.proofs.Counting.{elements_end}
 use Rattle.wire_core.specs.Counts.{elements, asks}
 use Rattle.fused_net.specs.PortLists.{PortLists}
-use Rattle.fused_net.specs.declared.net.Ends.{Ends}
+use Rattle.fused_net.specs.declared.net.WireEnds.{WireEnds}
 use Rattle.wire_core.specs.Reading.{no_wire, inp_of, out_of, got_of, sent_of}
 use Rattle.fused_net.specs.Net.{Net, read_all, port_at, wire_at, view_of, took, gave, acted_all, with_node}
 use Rattle.fused_net.specs.Laws.{AnyRow, AnyLaw, FreshLaw, first_view, MovesGrow, Wired, Minds, IsMinded, AllAsked, AllMoments, Settled, Busy, Starting}
@@ -31,7 +31,7 @@ use Rattle.fused_net.proofs.Delivering.{with_node_busy}
 use Rattle.fused_net.proofs.Ongoing.{nodes-acts}
 
 -- the wires of a node, before anything happened
-read_new : {X : Type 0} (f : Cell → X) (n : ℕ) (ws : List ℕ) → ((i w : ℕ) → slice_get ws i ≡ Some w → w < n) → read_all f (replicate n new_cell) ws ≡ replicate (length ws) (f new_cell)
+read_new : {X : Type 0} (f : WireState → X) (n : ℕ) (ws : List ℕ) → ((i w : ℕ) → slice_get ws i ≡ Some w → w < n) → read_all f (replicate n new_cell) ws ≡ replicate (length ws) (f new_cell)
 read_new f n [] h = refl
 read_new f n (w ∷ ws) h =
     let here : get_or (replicate n new_cell) w no_wire ≡ new_cell = get_or-replicate n w new_cell no_wire (h 0 w refl) in
@@ -74,12 +74,12 @@ idle_j (finished t c) s g b h m e none = cc
 idle_j (parted t c) s g b h m e none = cc
 idle_j (refused t c) s g b h m e none = cc
 
-none_wanted : (c : Cell) (q : Bool) → IsSound c.wire q → IsMarked c → c.wire.inp ≡ Idle → c.wire.got ≡ [] → wanted c ≡ 0
+none_wanted : (c : WireState) (q : Bool) → IsSound c.wire q → IsMarked c → c.wire.inp ≡ Idle → c.wire.got ≡ [] → wanted c ≡ 0
 none_wanted c q h m e none =
-    idle_j h.joint c.wire.sent c.wire.got c.asked h.histories (subst (λ (v : Wire). IsMarked (cell v c.asked)) h.is m) (sym (ap (λ (v : Wire). v.inp) h.is) ∙ e) none
+    idle_j h.joint c.wire.sent c.wire.got c.asked h.histories (subst (λ (v : JointPorts). IsMarked (cell v c.asked)) h.is m) (sym (ap (λ (v : JointPorts). v.inp) h.is) ∙ e) none
 
 module _ {N : Type 0} (row : N → View → Type 0) (law : N → N → View → List (List Item) → List (List Item) → Type 0) (asking : N → View → Type 0) (moves : N → List ℕ) (fresh : N → View → Type 0) where
-  pub new_starting : (nodes firsts : List N) (ends : List Ends) (ports : List PortLists) (wires : List Cell) (queue : List ℕ) (n : ℕ) → queue ≡ [] → firsts ≡ nodes → Wired ends ports (length nodes) n → wires ≡ replicate n new_cell
+  pub new_starting : (nodes firsts : List N) (ends : List WireEnds) (ports : List PortLists) (wires : List WireState) (queue : List ℕ) (n : ℕ) → queue ≡ [] → firsts ≡ nodes → Wired ends ports (length nodes) n → wires ≡ replicate n new_cell
       → ((k : ℕ) (x : N) → slice_get nodes k ≡ Some x → fresh x (first_view (port_at ports k)))
       → Starting row law asking moves fresh (record { nodes = nodes; firsts = firsts; wires = wires; ends = ends; ports = ports; queue = queue }) 0
   new_starting nodes firsts ends ports wires queue n empty same wired is all_fresh = rw (empty, same, is) (record {
@@ -160,5 +160,5 @@ module _ {N : Type 0} (row : N → View → Type 0) (law : N → N → View → 
   pub all_started : (net : Net N) (n : ℕ) → Starting row law asking moves fresh net n → length net.nodes ≤ n → Settled row law asking moves net
   all_started net n s h = record { wired = s.wired; each_first = s.each_first; sound = s.sound; marked = s.marked; minded = λ k hk. s.below k (omega arith) hk; asked = s.asked; moments = s.moments }
 
-pub new_asks : (wires : List Cell) (n : ℕ) → wires ≡ replicate n new_cell → sum_below (λ w. asks (get_or wires w no_wire).wire) (length wires) ≡ 0
+pub new_asks : (wires : List WireState) (n : ℕ) → wires ≡ replicate n new_cell → sum_below (λ w. asks (get_or wires w no_wire).wire) (length wires) ≡ 0
 new_asks wires n is = rw is (rw length-replicate (no_asks n n (omega arith)))

@@ -3,21 +3,21 @@ use Rattle.std.specs.Prelude.{Option, None}
 use Rattle.std.proofs.Common.{◌≡◌, ◌≢◌, ◌⊎◌, inl, inr, ℕ, zero, suc, ◌<◌, Bool, true, false, Some, List, [], ◌∷◌, ◌++◌, length, map, get_or, slice_get, slice_set, refl, sym, ap, ◌∙◌, subst, get_or-set_same, get_or-set_other}
 use Rattle.elem_core.specs.declared.item.Item.{Item}
 use Rattle.elem_core.specs.declared.item.Item.TheVariants as item
-use Rattle.port_core.specs.Wire.{Wire, Delivery, nothing, pull, cancel, arrived, after_delivery}
+use Rattle.port_core.specs.Wire.{JointPorts, Delivery, nothing, pull, cancel, arrived, after_delivery}
 use Rattle.port_core.specs.View.{View}
 use Rattle.port_core.specs.declared.act.Act.{Act}
 use Rattle.port_core.specs.declared.act.Act.TheVariants.{Pull, Push, Complete, FailOut, Cancel}
 use Rattle.port_core.specs.declared.view.InView.TheVariants.{Cancelled}
-use Rattle.wire_core.specs.Cell.{Cell, moved_by}
+use Rattle.wire_core.specs.Cell.{WireState, moved_by}
 use Rattle.wire_core.proofs.Marking.{grown_same, grown_trans}
 use Rattle.wire_core.specs.Reading.{no_wire}
 use Rattle.stage_core.specs.Handling.{StaysPassive}
-use Rattle.fused_net.specs.declared.net.Ends.{Ends}
+use Rattle.fused_net.specs.declared.net.WireEnds.{WireEnds}
 use Rattle.fused_net.specs.Net.{Net, end_at, target, wire_at, ports_at, wire_for, acted, acted_all, told_by, event_told, with_node, Takes}
 use Rattle.port_core.specs.Wire.{delivery_of}
 use Rattle.fused_net.specs.Laws.{AnyRow, AnyLaw, Wired, Busy, Settled, GoesOn, AllKept}
 use Rattle.fused_net.specs.PortLists.{PortLists}
-use Rattle.fused_net.specs.declared.engine.Step.{Step}
+use Rattle.fused_net.specs.declared.engine.Stepped.{Stepped}
 use Rattle.fused_net.specs.Steps.{at_step}
 use Rattle.fused_net.specs.Outside.{BreaksAside, IsPassiveAt, StandsStill, touched, IsElse, HasOnly, Untouched, HeardBy}
 use Rattle.fused_net.proofs.Reading.{same_or_not, some_same, get_there, get_set_other}
@@ -44,14 +44,14 @@ at_output (Complete j) = inl tt
 at_output (FailOut j c) = inl tt
 at_output (Cancel i) = inr (λ e. e)
 
-in_sent : (a : Act) (c : Cell) → (AtOutput a → ⊥) → (moved_by a c).wire.sent ≡ c.wire.sent
+in_sent : (a : Act) (c : WireState) → (AtOutput a → ⊥) → (moved_by a c).wire.sent ≡ c.wire.sent
 in_sent (Pull i) c n = refl
 in_sent (Push j e) c n = absurd (n tt)
 in_sent (Complete j) c n = absurd (n tt)
 in_sent (FailOut j d) c n = absurd (n tt)
 in_sent (Cancel i) c n = refl
 
-out_inp : (a : Act) (c : Cell) → AtOutput a → (moved_by a c).wire.inp ≡ c.wire.inp
+out_inp : (a : Act) (c : WireState) → AtOutput a → (moved_by a c).wire.inp ≡ c.wire.inp
 out_inp (Pull i) c n = absurd n
 out_inp (Push j e) c n = refl
 out_inp (Complete j) c n = refl
@@ -59,7 +59,7 @@ out_inp (FailOut j d) c n = refl
 out_inp (Cancel i) c n = absurd n
 
 -- a delivery pushes nothing, and cancels nothing
-told_sent : (d : Delivery) (w : Wire) → (after_delivery d w).sent ≡ w.sent
+told_sent : (d : Delivery) (w : JointPorts) → (after_delivery d w).sent ≡ w.sent
 told_sent nothing w = refl
 told_sent pull w = refl
 told_sent cancel w = refl
@@ -67,7 +67,7 @@ told_sent (arrived (item.Elem e) more) w = refl
 told_sent (arrived item.Ended more) w = refl
 told_sent (arrived (item.Failed c) more) w = refl
 
-told_left : (d : Delivery) (w : Wire) → (after_delivery d w).inp ≡ Cancelled → w.inp ≡ Cancelled
+told_left : (d : Delivery) (w : JointPorts) → (after_delivery d w).inp ≡ Cancelled → w.inp ≡ Cancelled
 told_left nothing w e = e
 told_left pull w e = e
 told_left cancel w e = e
@@ -101,9 +101,9 @@ module _ {N : Type 0} where
       elim (same_or_not u (wire_for a (ports_at net n))) [
         | inl here ↦ elim (at_output a) [
           | inl o ↦ absurd (other (rw here (from_of net n a (wire_for a (ports_at net n)) (λ k j w h e. (busy.wired.output_from k j w h e).1.0) busy.within o f.0)))
-          | inr none ↦ rw here (ap (λ (c : Cell). c.wire.sent) (get_or-set_same net.wires (wire_for a (ports_at net n)) (moved_by a (wire_at net (wire_for a (ports_at net n)))) no_wire at) ∙ in_sent a _ none)
+          | inr none ↦ rw here (ap (λ (c : WireState). c.wire.sent) (get_or-set_same net.wires (wire_for a (ports_at net n)) (moved_by a (wire_at net (wire_for a (ports_at net n)))) no_wire at) ∙ in_sent a _ none)
         ]
-        | inr there ↦ ap (λ (c : Cell). c.wire.sent) (get_or-set_other net.wires (wire_for a (ports_at net n)) u _ no_wire there)
+        | inr there ↦ ap (λ (c : WireState). c.wire.sent) (get_or-set_other net.wires (wire_for a (ports_at net n)) u _ no_wire there)
       ]
 
   act_inp : (net : Net N) (n : ℕ) (a : Act) (acts : List Act) (u : ℕ) → Busy AnyRow AnyLaw net n (a ∷ acts) → (end_at net.ends u).to ≢ n → (wire_at (acted net n a) u).wire.inp ≡ (wire_at net u).wire.inp
@@ -114,10 +114,10 @@ module _ {N : Type 0} where
       let at : wire_for a (ports_at net n) < length net.wires = port_within net n a _ busy.wired busy.within f.0 in
       elim (same_or_not u (wire_for a (ports_at net n))) [
         | inl here ↦ elim (at_output a) [
-          | inl o ↦ rw here (ap (λ (c : Cell). c.wire.inp) (get_or-set_same net.wires (wire_for a (ports_at net n)) (moved_by a (wire_at net (wire_for a (ports_at net n)))) no_wire at) ∙ out_inp a _ o)
+          | inl o ↦ rw here (ap (λ (c : WireState). c.wire.inp) (get_or-set_same net.wires (wire_for a (ports_at net n)) (moved_by a (wire_at net (wire_for a (ports_at net n)))) no_wire at) ∙ out_inp a _ o)
           | inr none ↦ absurd (other (rw here (to_of net n a (wire_for a (ports_at net n)) (λ k i w h e. (busy.wired.input_to k i w h e).1.0) busy.within none f.0)))
         ]
-        | inr there ↦ ap (λ (c : Cell). c.wire.inp) (get_or-set_other net.wires (wire_for a (ports_at net n)) u _ no_wire there)
+        | inr there ↦ ap (λ (c : WireState). c.wire.inp) (get_or-set_other net.wires (wire_for a (ports_at net n)) u _ no_wire there)
       ]
 
   acts_sent : (acts : List Act) (net : Net N) (n u : ℕ) → Busy AnyRow AnyLaw net n acts → (end_at net.ends u).from ≢ n → (wire_at (acted_all net n acts) u).wire.sent ≡ (wire_at net u).wire.sent
@@ -161,13 +161,13 @@ module _ {N : Type 0} (passive : N → Bool) where
         kinds = refl;
         grown = λ u. told_grown net w (delivery_of (wire_at net w).wire) h u;
         sent = λ u p. elim (same_or_not u w) [
-          | inl e ↦ rw e (ap (λ (c : Cell). c.wire.sent) (get_or-set_same net.wires w (told_by (delivery_of (wire_at net w).wire) (wire_at net w)) no_wire h) ∙ told_sent (delivery_of (wire_at net w).wire) (wire_at net w).wire)
-          | inr ne ↦ ap (λ (c : Cell). c.wire.sent) (get_or-set_other net.wires w u _ no_wire ne)
+          | inl e ↦ rw e (ap (λ (c : WireState). c.wire.sent) (get_or-set_same net.wires w (told_by (delivery_of (wire_at net w).wire) (wire_at net w)) no_wire h) ∙ told_sent (delivery_of (wire_at net w).wire) (wire_at net w).wire)
+          | inr ne ↦ ap (λ (c : WireState). c.wire.sent) (get_or-set_other net.wires w u _ no_wire ne)
         ];
         asks = λ u p. told_wanted net w (delivery_of (wire_at net w).wire) h u;
         left = λ u p e. elim (same_or_not u w) [
-          | inl same ↦ rw same (told_left (delivery_of (wire_at net w).wire) (wire_at net w).wire (sym (ap (λ (c : Cell). c.wire.inp) (get_or-set_same net.wires w (told_by (delivery_of (wire_at net w).wire) (wire_at net w)) no_wire h)) ∙ rw same at e))
-          | inr ne ↦ sym (ap (λ (c : Cell). c.wire.inp) (get_or-set_other net.wires w u _ no_wire ne)) ∙ e
+          | inl same ↦ rw same (told_left (delivery_of (wire_at net w).wire) (wire_at net w).wire (sym (ap (λ (c : WireState). c.wire.inp) (get_or-set_same net.wires w (told_by (delivery_of (wire_at net w).wire) (wire_at net w)) no_wire h)) ∙ rw same at e))
+          | inr ne ↦ sym (ap (λ (c : WireState). c.wire.inp) (get_or-set_other net.wires w u _ no_wire ne)) ∙ e
         ];
       })
 
@@ -215,14 +215,14 @@ module _ {N : Type 0} (passive : N → Bool) where
 -- ---- which passive nodes have heard
 
 -- an action changes no history of what came, and one at an input leaves what the output knows
-move_got : (a : Act) (c : Cell) → (moved_by a c).wire.got ≡ c.wire.got
+move_got : (a : Act) (c : WireState) → (moved_by a c).wire.got ≡ c.wire.got
 move_got (Pull i) c = refl
 move_got (Push j e) c = refl
 move_got (Complete j) c = refl
 move_got (FailOut j d) c = refl
 move_got (Cancel i) c = refl
 
-in_out : (a : Act) (c : Cell) → (AtOutput a → ⊥) → (moved_by a c).wire.out ≡ c.wire.out
+in_out : (a : Act) (c : WireState) → (AtOutput a → ⊥) → (moved_by a c).wire.out ≡ c.wire.out
 in_out (Pull i) c n = refl
 in_out (Push j e) c n = absurd (n tt)
 in_out (Complete j) c n = absurd (n tt)
@@ -237,8 +237,8 @@ module _ {N : Type 0} where
       let f = fits net n a (act_allowed AnyRow AnyLaw net n a acts x.0 first.0 busy x.1 first.1) in
       let at : wire_for a (ports_at net n) < length net.wires = port_within net n a _ busy.wired busy.within f.0 in
       elim (same_or_not u (wire_for a (ports_at net n))) [
-        | inl here ↦ rw here (ap (λ (c : Cell). c.wire.got) (get_or-set_same net.wires (wire_for a (ports_at net n)) (moved_by a (wire_at net (wire_for a (ports_at net n)))) no_wire at) ∙ move_got a _)
-        | inr there ↦ ap (λ (c : Cell). c.wire.got) (get_or-set_other net.wires (wire_for a (ports_at net n)) u _ no_wire there)
+        | inl here ↦ rw here (ap (λ (c : WireState). c.wire.got) (get_or-set_same net.wires (wire_for a (ports_at net n)) (moved_by a (wire_at net (wire_for a (ports_at net n)))) no_wire at) ∙ move_got a _)
+        | inr there ↦ ap (λ (c : WireState). c.wire.got) (get_or-set_other net.wires (wire_for a (ports_at net n)) u _ no_wire there)
       ]
 
   act_out : (net : Net N) (n : ℕ) (a : Act) (acts : List Act) (u : ℕ) → Busy AnyRow AnyLaw net n (a ∷ acts) → (end_at net.ends u).from ≢ n → (wire_at (acted net n a) u).wire.out ≡ (wire_at net u).wire.out
@@ -250,9 +250,9 @@ module _ {N : Type 0} where
       elim (same_or_not u (wire_for a (ports_at net n))) [
         | inl here ↦ elim (at_output a) [
           | inl o ↦ absurd (other (rw here (from_of net n a (wire_for a (ports_at net n)) (λ k j w h e. (busy.wired.output_from k j w h e).1.0) busy.within o f.0)))
-          | inr none ↦ rw here (ap (λ (c : Cell). c.wire.out) (get_or-set_same net.wires (wire_for a (ports_at net n)) (moved_by a (wire_at net (wire_for a (ports_at net n)))) no_wire at) ∙ in_out a _ none)
+          | inr none ↦ rw here (ap (λ (c : WireState). c.wire.out) (get_or-set_same net.wires (wire_for a (ports_at net n)) (moved_by a (wire_at net (wire_for a (ports_at net n)))) no_wire at) ∙ in_out a _ none)
         ]
-        | inr there ↦ ap (λ (c : Cell). c.wire.out) (get_or-set_other net.wires (wire_for a (ports_at net n)) u _ no_wire there)
+        | inr there ↦ ap (λ (c : WireState). c.wire.out) (get_or-set_other net.wires (wire_for a (ports_at net n)) u _ no_wire there)
       ]
 
   acts_got : (acts : List Act) (net : Net N) (n u : ℕ) → Busy AnyRow AnyLaw net n acts → (wire_at (acted_all net n acts) u).wire.got ≡ (wire_at net u).wire.got
@@ -326,7 +326,7 @@ module _ {N : Type 0} (passive : N → Bool) where
         nodes = λ u k e p o. g.nodes u k e (on k p) (rw ports o) ∙ f.nodes u k tt p o;
       }
 
-  out_told : (d : Delivery) (w : Wire) (from to n : ℕ) (e : Ends) → n ≡ target d e → d ≢ nothing → (e.from ≡ n → ⊥) → (after_delivery d w).out ≡ w.out
+  out_told : (d : Delivery) (w : JointPorts) (from to n : ℕ) (e : WireEnds) → n ≡ target d e → d ≢ nothing → (e.from ≡ n → ⊥) → (after_delivery d w).out ≡ w.out
   out_told nothing w from to n e is some ne = refl
   out_told pull w from to n e is some ne = absurd (ne (sym is))
   out_told cancel w from to n e is some ne = absurd (ne (sym is))
@@ -334,7 +334,7 @@ module _ {N : Type 0} (passive : N → Bool) where
   out_told (arrived item.Ended more) w from to n e is some ne = refl
   out_told (arrived (item.Failed c) more) w from to n e is some ne = refl
 
-  in_told : (d : Delivery) (w : Wire) (n : ℕ) (e : Ends) → n ≡ target d e → d ≢ nothing → (e.to ≡ n → ⊥) → ((after_delivery d w).inp ≡ w.inp) × ((after_delivery d w).got ≡ w.got)
+  in_told : (d : Delivery) (w : JointPorts) (n : ℕ) (e : WireEnds) → n ≡ target d e → d ≢ nothing → (e.to ≡ n → ⊥) → ((after_delivery d w).inp ≡ w.inp) × ((after_delivery d w).got ≡ w.got)
   in_told nothing w n e is some ne = (refl, refl)
   in_told pull w n e is some ne = (refl, refl)
   in_told cancel w n e is some ne = (refl, refl)
@@ -375,16 +375,16 @@ module _ {N : Type 0} (passive : N → Bool) where
           | inl same ↦
               let here : IsElse (touched heard w) w = rw same at e in
               let q : IsPassiveAt passive net (end_at net.ends w).from = rw same at p in
-              rw same (ap (λ (c : Cell). c.wire.out) told_here ∙ out_told (delivery_of (wire_at net w).wire) (wire_at net w).wire 0 0 n (end_at net.ends w) to some (λ t. else_not heard w here (was _ q t)))
-          | inr ne ↦ ap (λ (c : Cell). c.wire.out) (get_or-set_other net.wires w u _ no_wire ne)
+              rw same (ap (λ (c : WireState). c.wire.out) told_here ∙ out_told (delivery_of (wire_at net w).wire) (wire_at net w).wire 0 0 n (end_at net.ends w) to some (λ t. else_not heard w here (was _ q t)))
+          | inr ne ↦ ap (λ (c : WireState). c.wire.out) (get_or-set_other net.wires w u _ no_wire ne)
         ];
         ins = λ u e p. let f = b.ins u p in let g : ((wire_at (event_told net w) u).wire.inp ≡ (wire_at net u).wire.inp) × ((wire_at (event_told net w) u).wire.got ≡ (wire_at net u).wire.got) = elim (same_or_not u w) [
           | inl same ↦
               let here : IsElse (touched heard w) w = rw same at e in
               let q : IsPassiveAt passive net (end_at net.ends w).to = rw same at p in
               let r = in_told (delivery_of (wire_at net w).wire) (wire_at net w).wire n (end_at net.ends w) to some (λ t. else_not heard w here (was _ q t)) in
-              rw same (ap (λ (c : Cell). c.wire.inp) told_here ∙ r.0, ap (λ (c : Cell). c.wire.got) told_here ∙ r.1)
-          | inr ne ↦ let o = get_or-set_other net.wires w u (told_by (delivery_of (wire_at net w).wire) (wire_at net w)) no_wire ne in (ap (λ (c : Cell). c.wire.inp) o, ap (λ (c : Cell). c.wire.got) o)
+              rw same (ap (λ (c : WireState). c.wire.inp) told_here ∙ r.0, ap (λ (c : WireState). c.wire.got) told_here ∙ r.1)
+          | inr ne ↦ let o = get_or-set_other net.wires w u (told_by (delivery_of (wire_at net w).wire) (wire_at net w)) no_wire ne in (ap (λ (c : WireState). c.wire.inp) o, ap (λ (c : WireState). c.wire.got) o)
         ] in (f.0 ∙ g.0, f.1 ∙ g.1);
         nodes = λ u k e p o. b.nodes k (λ t.
             let only : HasOnly (ports_at net n) u = rw t at o in
@@ -394,7 +394,7 @@ module _ {N : Type 0} (passive : N → Bool) where
       }
 
   -- an event that brings nothing
-  nothing_told : (d : Delivery) (c : Cell) → d ≡ nothing → told_by d c ≡ c
+  nothing_told : (d : Delivery) (c : WireState) → d ≡ nothing → told_by d c ≡ c
   nothing_told d c e = rw e refl
 
   pub untouched_nothing : (net v : Net N) (w : ℕ) → w < length net.wires → v ≡ event_told net w → delivery_of (wire_at net w).wire ≡ nothing → Untouched passive None net v
@@ -404,8 +404,8 @@ module _ {N : Type 0} (passive : N → Bool) where
         | inr ne ↦ get_or-set_other net.wires w u _ no_wire ne
       ] in
       rw is (record {
-        outs = λ u e p. ap (λ (c : Cell). c.wire.out) (same u);
-        ins = λ u e p. (ap (λ (c : Cell). c.wire.inp) (same u), ap (λ (c : Cell). c.wire.got) (same u));
+        outs = λ u e p. ap (λ (c : WireState). c.wire.out) (same u);
+        ins = λ u e p. (ap (λ (c : WireState). c.wire.inp) (same u), ap (λ (c : WireState). c.wire.got) (same u));
         nodes = λ u k e p o. refl;
       })
 
@@ -413,8 +413,8 @@ module _ {N : Type 0} (passive : N → Bool) where
   untouched_taken at old net new w t s = subst (λ (a : Net N). Untouched passive at a new) (sym t.is) (record { outs = s.outs; ins = s.ins; nodes = s.nodes })
 
   -- over what a step made of it
-  pub untouched_on : (s t : Step) (a b c : Net N) → s ≡ t → b.ends ≡ a.ends → b.ports ≡ a.ports → map passive b.nodes ≡ map passive a.nodes → Untouched passive None a b → Untouched passive (at_step s) b c → Untouched passive (at_step t) a c
-  untouched_on s t a b c e ends ports kinds f g = untouched_trans (at_step t) a b c ends ports kinds f (subst (λ (z : Step). Untouched passive (at_step z) b c) e g)
+  pub untouched_on : (s t : Stepped) (a b c : Net N) → s ≡ t → b.ends ≡ a.ends → b.ports ≡ a.ports → map passive b.nodes ≡ map passive a.nodes → Untouched passive None a b → Untouched passive (at_step s) b c → Untouched passive (at_step t) a c
+  untouched_on s t a b c e ends ports kinds f g = untouched_trans (at_step t) a b c ends ports kinds f (subst (λ (z : Stepped). Untouched passive (at_step z) b c) e g)
 
   untouched_as : (b c : Bool) (w : ℕ) (old new : Net N) → b ≡ c → Untouched passive (touched b w) old new → Untouched passive (touched c w) old new
   untouched_as b c w old new e u = subst (λ (z : Bool). Untouched passive (touched z w) old new) e u
@@ -423,7 +423,7 @@ module _ {N : Type 0} (passive : N → Bool) where
   untouched_next b c w old net new e t u = untouched_taken (touched c w) old net new w t (untouched_as b c w net new e u)
 
   -- the same by what the code of it reads
-  pub handle_untouched : (net v new : Net N) (w n : ℕ) (event : Delivery) (ends : Ends) (heard : Bool) → Wired net.ends net.ports (length net.nodes) (length net.wires) → w < length net.wires → v ≡ event_told net w → event ≡ delivery_of (wire_at net w).wire → event ≢ nothing → ends ≡ end_at net.ends w → n ≡ target event ends
+  pub handle_untouched : (net v new : Net N) (w n : ℕ) (event : Delivery) (ends : WireEnds) (heard : Bool) → Wired net.ends net.ports (length net.nodes) (length net.wires) → w < length net.wires → v ≡ event_told net w → event ≡ delivery_of (wire_at net w).wire → event ≢ nothing → ends ≡ end_at net.ends w → n ≡ target event ends
       → HeardBy passive n v new → map passive new.nodes ≡ map passive v.nodes → n < length v.nodes → (a : Net N) (x : N) → a ≡ new → x ≡ get_or a.nodes n x → heard ≡ passive x → Untouched passive (touched heard w) net new
   handle_untouched net v new w n event ends heard wired h is event_is some ends_is to by kinds within a x view at known =
       let target_is : n ≡ target (delivery_of (wire_at net w).wire) (end_at net.ends w) = rw (sym event_is, sym ends_is) to in

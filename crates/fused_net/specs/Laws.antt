@@ -14,12 +14,12 @@ use Rattle.wire_core.specs.Marks.{IsMarked, wanted, Grown}
 use Rattle.stage_core.specs.Histories.{given_all, AllEmpty}
 use Rattle.stage_core.specs.Handling.{Pulls, PullsAs, Handles}
 use Rattle.fused_net.specs.PortLists.{PortLists}
-use Rattle.fused_net.specs.declared.net.Ends.{Ends}
+use Rattle.fused_net.specs.declared.net.WireEnds.{WireEnds}
 use Rattle.fused_net.specs.Net.{Net, end_at, port_at, ports_at, wire_at, view_of, took, gave, with_node}
 use Rattle.fused_net.specs.Net as net
 
 -- Nodes and wires name each other: each wire stands at the ports at its ends, and each port of a node has the wire that ends there.
-pub record Wired (ends : List Ends) (ports : List PortLists) (nodes wires : ℕ) : Type 0 where
+pub record Wired (ends : List WireEnds) (ports : List PortLists) (nodes wires : ℕ) : Type 0 where
   pub each_node : length ports ≡ nodes
   pub each_wire : length ends ≡ wires
   pub from_within : (w : ℕ) → w < wires → (end_at ends w).from < nodes

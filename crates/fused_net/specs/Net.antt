@@ -7,31 +7,31 @@ use Rattle.port_core.specs.Call.{Call, starts, pulls, arrives, cancels}
 use Rattle.port_core.specs.Wire.{Delivery, nothing, pull, cancel, arrived, delivery_of, after_delivery, again}
 use Rattle.port_core.specs.declared.act.Act.{Act}
 use Rattle.port_core.specs.declared.act.Act.TheVariants.{Pull, Push, Complete, FailOut, Cancel}
-use Rattle.wire_core.specs.Cell.{Cell, moved_by, queues_by}
+use Rattle.wire_core.specs.Cell.{WireState, moved_by, queues_by}
 use Rattle.wire_core.specs.Reading.{no_wire, inp_of, out_of, got_of, sent_of}
 use Rattle.wire_core.specs.Counts.{elements}
 use Rattle.fused_net.specs.PortLists.{PortLists}
-use Rattle.fused_net.specs.declared.net.Ends.{Ends}
+use Rattle.fused_net.specs.declared.net.WireEnds.{WireEnds}
 
 -- the nodes, and as they were handed in; the wires; of each wire the ports at its ends, and of each node its wires, which no
 -- step changes; and the wires that have an event, first in first out
 pub record Net (N : Type 0) : Type 0 where
   pub nodes : List N
   pub firsts : List N
-  pub wires : List Cell
-  pub ends : List Ends
+  pub wires : List WireState
+  pub ends : List WireEnds
   pub ports : List PortLists
   pub queue : List ℕ
 
 -- the ends where there is no wire, and the wires where there is no node
-abbrev pub no_ends : Ends
+abbrev pub no_ends : WireEnds
 no_ends = record { from = 0; output = 0; to = 0; input = 0 }
 
 abbrev pub no_ports : PortLists
 no_ports = record { ins = []; outs = [] }
 
 -- the ends of wire w
-abbrev pub end_at : List Ends → ℕ → Ends
+abbrev pub end_at : List WireEnds → ℕ → WireEnds
 end_at ends w = slice_index_or ends w no_ends
 
 -- the wires of node n
@@ -39,7 +39,7 @@ abbrev pub port_at : List PortLists → ℕ → PortLists
 port_at ports n = slice_index_or ports n no_ports
 
 -- what f reads off each of these wires
-abbrev pub read_all : {X : Type 0} → (Cell → X) → List Cell → List ℕ → List X
+abbrev pub read_all : {X : Type 0} → (WireState → X) → List WireState → List ℕ → List X
 read_all f wires [] = []
 read_all f wires (w ∷ ws) = f (slice_index_or wires w no_wire) ∷ read_all f wires ws
 
@@ -60,26 +60,26 @@ HasPort (FailOut j c) p = j < length p.outs
 HasPort (Cancel i) p = i < length p.ins
 
 -- the node that a delivery goes to
-abbrev pub target : Delivery → Ends → ℕ
+abbrev pub target : Delivery → WireEnds → ℕ
 target nothing e = e.from
 target pull e = e.from
 target cancel e = e.from
 target (arrived x more) e = e.to
 
 -- and the call of its handler
-abbrev pub call_of : Delivery → Ends → Call
+abbrev pub call_of : Delivery → WireEnds → Call
 call_of nothing e = starts
 call_of pull e = pulls e.output
 call_of cancel e = cancels e.output
 call_of (arrived x more) e = arrives e.input x
 
 -- the wire once this was delivered
-abbrev pub told_by : Delivery → Cell → Cell
+abbrev pub told_by : Delivery → WireState → WireState
 told_by d c = record c { wire = after_delivery d c.wire }
 
 module _ {N : Type 0} where
   -- wire w
-  abbrev pub wire_at : Net N → ℕ → Cell
+  abbrev pub wire_at : Net N → ℕ → WireState
   wire_at net w = slice_index_or net.wires w no_wire
 
   -- the wires of node n
@@ -98,7 +98,7 @@ module _ {N : Type 0} where
   gave net n = read_all sent_of net.wires (ports_at net n).outs
 
   -- a wire is set, and queued where it has to be
-  abbrev pub put : Net N → ℕ → Cell → Bool → Net N
+  abbrev pub put : Net N → ℕ → WireState → Bool → Net N
   put net w c queued = record net { wires = slice_set net.wires w c; queue = if queued then net.queue ++ w ∷ [] else net.queue }
 
   -- node n acts

@@ -14,9 +14,9 @@ ghost use Rattle.fused_net.specs.Costs.{all_asks, Uses};
 ghost use Rattle.fused_net.specs.Poking.{AtNode, HandsAt, TellsPoked};
 ghost use Rattle.fused_net.specs.Outside.{BreaksAside, StandsStill, HeardBy, Untouched, touched};
 ghost use Rattle.fused_net.specs.Steps.{unit_of, at_step};
-ghost use Rattle.fused_net.specs.declared.engine.Step.TheVariants as step;
+ghost use Rattle.fused_net.specs.declared.engine.Stepped.TheVariants as step;
 
-use crate::net::{Ends, Ports};
+use crate::net::{Ports, WireEnds};
 use crate::queue::EventQueue;
 use elem_core::elem::Elem;
 use elem_core::item::Item;
@@ -35,7 +35,7 @@ use wire_core::wire::{Delivered, Wire};
 pub struct Engine<S: Stage> {
     nodes: Vec<S>,
     wires: Vec<Wire>,
-    ends: Vec<Ends>,
+    ends: Vec<WireEnds>,
     ports: Vec<Ports>,
     queue: EventQueue,
     firsts: Snapshot<Vec<S>>,
@@ -68,7 +68,7 @@ pub struct Advance {
 
 // What became of a step.
 #[derive(Clone, Copy, PartialEq, Eq, Debug)]
-enum Step {
+enum Stepped {
     // No event is left.
     Rest,
     // An event was handled by a node that is not passive.
@@ -88,7 +88,7 @@ pub fn unused_wires(alloc: Global, count: usize) -> Result<Vec<Wire>, NoMemory>
     Ok(wires)
 }
 
-fn node_of(event: &Delivered, ends: Ends) -> u32
+fn node_of(event: &Delivered, ends: WireEnds) -> u32
     ensures { result ≡ target (delivery_in event.now) ends }
 {
     match event {
@@ -101,7 +101,7 @@ fn node_of(event: &Delivered, ends: Ends) -> u32
 fn call<S: Stage>(
     node: &mut S,
     alloc: Global,
-    ends: Ends,
+    ends: WireEnds,
     event: Delivered,
     acts: &mut Acts,
 ) -> Result<(), NoMemory>
@@ -132,7 +132,7 @@ impl<S: Stage> Engine<S> {
     /// the ends of each wire, and `ports` the wires of each node. It takes no memory.
     pub fn new(
         nodes: Vec<S>,
-        ends: Vec<Ends>,
+        ends: Vec<WireEnds>,
         ports: Vec<Ports>,
         wires: Vec<Wire>,
         ring: EventRing,
@@ -319,7 +319,7 @@ impl<S: Stage> Engine<S> {
         &mut self,
         alloc: Global,
         n: usize,
-        ends: Ends,
+        ends: WireEnds,
         event: Delivered,
         acts: &mut Acts,
     ) -> Result<(), NoMemory>
@@ -388,7 +388,7 @@ impl<S: Stage> Engine<S> {
 
     // Handles one event.
     #[inline(always)]
-    fn step(&mut self, alloc: Global, acts: &mut Acts) -> Result<Step, NoMemory>
+    fn step(&mut self, alloc: Global, acts: &mut Acts) -> Result<Stepped, NoMemory>
         requires laws { Settled S.rests S.law S.asking S.moves self.old }
         requires few { all_asks self.old + 1 ≤ 4000000000 }
         requires empty { acts.old.items ≡ [] }
@@ -406,12 +406,12 @@ impl<S: Stage> Engine<S> {
         ensures kept { OnErr result (AllKept S.keeps self.old.nodes self.new.nodes) }
     {
         let Some(w) = self.next() else {
-            return Ok(Step::Rest);
+            return Ok(Stepped::Rest);
         };
         if self.handle(alloc, w, acts)? {
-            Ok(Step::Outer(w))
+            Ok(Stepped::Outer(w))
         } else {
-            Ok(Step::Inner)
+            Ok(Stepped::Inner)
         }
     }
 
@@ -435,7 +435,7 @@ impl<S: Stage> Engine<S> {
     {
         self.settle();
         for used in 0..limit {
-            if let Step::Rest = self.step(alloc, acts)? {
+            if let Stepped::Rest = self.step(alloc, acts)? {
                 return Ok(used);
             }
         }
@@ -472,9 +472,9 @@ impl<S: Stage> Engine<S> {
         self.settle();
         for used in 0..limit {
             match self.step(alloc, acts)? {
-                Step::Rest => return Ok(Advance { used, heard: None }),
-                Step::Inner => {}
-                Step::Outer(w) => {
+                Stepped::Rest => return Ok(Advance { used, heard: None }),
+                Stepped::Inner => {}
+                Stepped::Outer(w) => {
                     return Ok(Advance {
                         used: used + 1,
                         heard: Some(w),
@@ -497,7 +497,7 @@ impl<S: Stage> Engine<S> {
     }
 
     /// The ports at the ends of wire w.
-    pub fn ends(&self, w: u32) -> Ends
+    pub fn ends(&self, w: u32) -> WireEnds
         requires { w < length self.now.ends }
         ensures { result ≡ end_at self.now.ends w }
     {

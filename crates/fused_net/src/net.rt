@@ -6,7 +6,7 @@ use std::marker::Model;
 
 /// The ports at the ends of a wire, each by its node's place and its number there.
 #[derive(Clone, Copy, PartialEq, Eq, Debug)]
-pub struct Ends {
+pub struct WireEnds {
     /// The node whose output it is.
     pub from: u32,
     /// Which of its outputs.

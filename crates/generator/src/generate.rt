@@ -4,7 +4,7 @@ ghost use Rattle.elem_core.specs.Line.{has_no_lf};
 ghost use Rattle.generator.specs.Generated.{Generates, MissesFile, FailsAtFile, StopsGenerating};
 
 use crate::put::Text;
-use crate::write::{WriteEnd, write_file};
+use crate::write::{GenerateWriteEnd, write_file};
 use elem_core::line::Line;
 use std::alloc::{AllocError, Global};
 use stream_io::outside::Folder;
@@ -53,14 +53,14 @@ pub fn generate<F: Folder>(alloc: Global, folder: &mut F, n: u32) -> Result<(), 
     let blueprint = line_of(alloc, b"gen.blue")?;
     match write_file(alloc, folder, &lines, Text::Lines(n)) {
         Ok(()) => {}
-        Err(WriteEnd::Missing) => return Err(GenerateEnd::Missing(lines)),
-        Err(WriteEnd::Fault) => return Err(GenerateEnd::WriteFault),
-        Err(WriteEnd::NoMemory) => return Err(GenerateEnd::NoMemory),
+        Err(GenerateWriteEnd::Missing) => return Err(GenerateEnd::Missing(lines)),
+        Err(GenerateWriteEnd::Fault) => return Err(GenerateEnd::WriteFault),
+        Err(GenerateWriteEnd::NoMemory) => return Err(GenerateEnd::NoMemory),
     }
     match write_file(alloc, folder, &blueprint, Text::Blueprint) {
         Ok(()) => Ok(()),
-        Err(WriteEnd::Missing) => Err(GenerateEnd::Missing(blueprint)),
-        Err(WriteEnd::Fault) => Err(GenerateEnd::WriteFault),
-        Err(WriteEnd::NoMemory) => Err(GenerateEnd::NoMemory),
+        Err(GenerateWriteEnd::Missing) => Err(GenerateEnd::Missing(blueprint)),
+        Err(GenerateWriteEnd::Fault) => Err(GenerateEnd::WriteFault),
+        Err(GenerateWriteEnd::NoMemory) => Err(GenerateEnd::NoMemory),
     }
 }

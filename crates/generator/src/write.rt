@@ -10,7 +10,7 @@ use stream_io::outside::{Folder, OpenFault};
 
 /// Why a file was not written whole.
 #[derive(Drop)]
-pub(crate) enum WriteEnd {
+pub(crate) enum GenerateWriteEnd {
     /// The folder refused to open it.
     Missing,
     /// A write failed.
@@ -24,23 +24,23 @@ pub(crate) fn write_file<F: Folder>(
     folder: &mut F,
     name: &Line,
     text: Text,
-) -> Result<(), WriteEnd>
+) -> Result<(), GenerateWriteEnd>
     ensures ok { OnOk result (Writes (F.state folder.old) (F.state folder.new) name.now (text_of text)) }
-    ensures missing { result ≡ Err WriteEnd.Missing → RefusesFile (F.state folder.old) (F.state folder.new) name.now }
-    ensures fault { result ≡ Err WriteEnd.Fault → FailsToWrite (F.state folder.old) (F.state folder.new) name.now (text_of text) }
-    ensures no_memory { result ≡ Err WriteEnd.NoMemory → StopsWriting (F.state folder.old) (F.state folder.new) name.now (text_of text) }
+    ensures missing { result ≡ Err GenerateWriteEnd.Missing → RefusesFile (F.state folder.old) (F.state folder.new) name.now }
+    ensures fault { result ≡ Err GenerateWriteEnd.Fault → FailsToWrite (F.state folder.old) (F.state folder.new) name.now (text_of text) }
+    ensures no_memory { result ≡ Err GenerateWriteEnd.NoMemory → StopsWriting (F.state folder.old) (F.state folder.new) name.now (text_of text) }
     ensures handles { F.handles folder.new ≡ F.handles folder.old }
 {
     let mut drain = match folder.open_out(alloc, name) {
         Ok(drain) => drain,
-        Err(OpenFault::Missing) => return Err(WriteEnd::Missing),
-        Err(OpenFault::NoMemory) => return Err(WriteEnd::NoMemory),
+        Err(OpenFault::Missing) => return Err(GenerateWriteEnd::Missing),
+        Err(OpenFault::NoMemory) => return Err(GenerateWriteEnd::NoMemory),
     };
     let put = put_text(alloc, &mut drain, text);
     folder.close_out(drain);
     match put {
         Ok(()) => Ok(()),
-        Err(PutEnd::Failed) => Err(WriteEnd::Fault),
-        Err(PutEnd::NoMemory) => Err(WriteEnd::NoMemory),
+        Err(PutEnd::Failed) => Err(GenerateWriteEnd::Fault),
+        Err(PutEnd::NoMemory) => Err(GenerateWriteEnd::NoMemory),
     }
 }

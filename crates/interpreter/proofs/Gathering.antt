@@ -2,7 +2,7 @@
 use Rattle.std.proofs.Common.{◌≡◌, ℕ, ◌+◌, ◌<◌, List, [], ◌∷◌, ◌++◌, length, map, drop, get_or, refl, sym, ap, ◌∙◌, arith, append-nil}
 use Rattle.std.proofs.lemmas.List.{get_or_default}
 use Rattle.kill_core.specs.Public.{SeatState}
-use Rattle.nodes.specs.declared.node.Node.{Node}
+use Rattle.nodes.specs.declared.node.IslandNode.{IslandNode}
 use Rattle.interpreter.specs.declared.island.IslandEnd.{IslandEnd}
 use Rattle.interpreter.specs.Island.{sinks_of, readers_of, writers_of}
 use Rattle.interpreter.specs.Picks.{Pick, pick_of, picks_of}
@@ -18,7 +18,7 @@ picks_none S D L B [] = refl
 picks_none S D L B (k ∷ ks) = refl
 
 -- what the nodes that came leave is in the lists, and there is room for the rest
-pub record Gathers {S D L B : Type 0} (nodes : List (Node S D L B)) (places : List ℕ) (start : IslandEnd S D) (rest : List (Node S D L B)) (left place : ℕ) (end : IslandEnd S D) : Type 0 where
+pub record Gathers {S D L B : Type 0} (nodes : List (IslandNode S D L B)) (places : List ℕ) (start : IslandEnd S D) (rest : List (IslandNode S D L B)) (left place : ℕ) (end : IslandEnd S D) : Type 0 where
   pub left_is : left ≡ length rest
   pub sinks : end.sinks.items ++ sinks_of rest ≡ sinks_of nodes
   pub readers : end.readers.items ++ readers_of rest ≡ readers_of nodes
@@ -30,7 +30,7 @@ pub record Gathers {S D L B : Type 0} (nodes : List (Node S D L B)) (places : Li
   pub room : RoomFor end left
 
 -- what one node adds to the lists
-pub record Added {S D L B : Type 0} (was now : IslandEnd S D) (number : ℕ) (x : Node S D L B) : Type 0 where
+pub record Added {S D L B : Type 0} (was now : IslandEnd S D) (number : ℕ) (x : IslandNode S D L B) : Type 0 where
   pub sinks : now.sinks.items ≡ was.sinks.items ++ sinks_of (x ∷ [])
   pub picks : map pick_of now.picks.items ≡ map pick_of was.picks.items ++ picks_of (number ∷ []) (x ∷ [])
   pub seats : now.seats.items ≡ was.seats.items ++ seats_of (number ∷ []) (x ∷ [])
@@ -39,8 +39,8 @@ pub record Added {S D L B : Type 0} (was now : IslandEnd S D) (number : ℕ) (x 
   pub wires : now.wires ≡ was.wires
   pub room : (n : ℕ) → RoomFor was (n + 1) → RoomFor now n
 
-module _ {S D L B : Type 0} (nodes : List (Node S D L B)) (places : List ℕ) (start : IslandEnd S D) where
-  pub gathers_first : (rest : List (Node S D L B)) (left m : ℕ) → rest ≡ nodes → left ≡ length rest → m ≡ length nodes → length places ≡ m → start.sinks.items ≡ [] → start.picks.items ≡ [] → start.seats.items ≡ [] → start.readers.items ≡ [] → start.writers.items ≡ [] → RoomFor start m → Gathers nodes places start rest left 0 start
+module _ {S D L B : Type 0} (nodes : List (IslandNode S D L B)) (places : List ℕ) (start : IslandEnd S D) where
+  pub gathers_first : (rest : List (IslandNode S D L B)) (left m : ℕ) → rest ≡ nodes → left ≡ length rest → m ≡ length nodes → length places ≡ m → start.sinks.items ≡ [] → start.picks.items ≡ [] → start.seats.items ≡ [] → start.readers.items ≡ [] → start.writers.items ≡ [] → RoomFor start m → Gathers nodes places start rest left 0 start
   gathers_first rest left m e l k count sinks picks seats readers writers room =
       let same : left ≡ m = l ∙ ap length e ∙ sym k in
       record {
@@ -55,7 +55,7 @@ module _ {S D L B : Type 0} (nodes : List (Node S D L B)) (places : List ℕ) (s
         room = rw same room;
       }
 
-  pub gathers_next : (rest later : List (Node S D L B)) (left fewer place more number : ℕ) (x : Node S D L B) (was now : IslandEnd S D) → Gathers nodes places start rest left place was → rest ≡ x ∷ later → fewer + 1 ≡ left → more ≡ place + 1 → number ≡ get_or places place 0 → Added was now number x
+  pub gathers_next : (rest later : List (IslandNode S D L B)) (left fewer place more number : ℕ) (x : IslandNode S D L B) (was now : IslandEnd S D) → Gathers nodes places start rest left place was → rest ≡ x ∷ later → fewer + 1 ≡ left → more ≡ place + 1 → number ≡ get_or places place 0 → Added was now number x
       → Gathers nodes places start later fewer more now
   gathers_next rest later left fewer place more number x was now g e l p n a =
       let within : place < length places = omega (arith, g.at, l) in
@@ -72,7 +72,7 @@ module _ {S D L B : Type 0} (nodes : List (Node S D L B)) (places : List ℕ) (s
       }
 
   -- all of them
-  pub gathers_last : (rest : List (Node S D L B)) (left place : ℕ) (end : IslandEnd S D) → Gathers nodes places start rest left place end → left ≡ 0
+  pub gathers_last : (rest : List (IslandNode S D L B)) (left place : ℕ) (end : IslandEnd S D) → Gathers nodes places start rest left place end → left ≡ 0
       → (end.sinks.items ≡ sinks_of nodes) × ((map pick_of end.picks.items ≡ picks_of places nodes) × ((end.seats.items ≡ seats_of places nodes) × ((end.readers.items ≡ readers_of nodes) × ((end.writers.items ≡ writers_of nodes) × (end.wires ≡ start.wires)))))
   gathers_last rest left place end g l =
       let none : rest ≡ [] = none_left rest left l g.left_is in

@@ -5,10 +5,10 @@ use Rattle.std.proofs.lemmas.Option.{slice_get_within}
 use Rattle.port_core.specs.declared.view.InView.TheVariants.{Idle}
 use Rattle.port_core.specs.declared.view.OutView.TheVariants.{Unpulled}
 use Rattle.nodes.specs.Nodes.{node_fresh, node_row, node_law, node_asking, node_moves}
-use Rattle.nodes.specs.declared.node.Node.{Node}
-use Rattle.nodes.specs.declared.node.Node.TheVariants as node
+use Rattle.nodes.specs.declared.node.IslandNode.{IslandNode}
+use Rattle.nodes.specs.declared.node.IslandNode.TheVariants as node
 use Rattle.fused_net.specs.PortLists.{PortLists}
-use Rattle.fused_net.specs.declared.net.Ends.{Ends}
+use Rattle.fused_net.specs.declared.net.WireEnds.{WireEnds}
 use Rattle.fused_net.specs.Net.{Net, port_at}
 use Rattle.stream_io.specs.State.{SourceState, DrainState}
 use Rattle.fused_net.specs.Laws.{first_view, Wired, Settled}
@@ -26,7 +26,7 @@ use Rattle.stage_core.specs.declared.phase.Phase.TheVariants.{New}
 use Rattle.nodes.specs.Kinds.{maker_of}
 use Rattle.stream_model.specs.declared.outcome.WireCount.{WireCount}
 use Rattle.port_core.specs.Decoding.{is_open}
-use Rattle.wire_core.specs.Cell.{Cell}
+use Rattle.wire_core.specs.Cell.{WireState}
 use Rattle.wire_core.specs.Counts.{elements}
 use Rattle.interpreter.specs.Island.{Keeps, count_of, counts_of, sinks_of, readers_of, writers_of}
 use Rattle.interpreter.specs.Picks.{node_number}
@@ -36,7 +36,7 @@ use Rattle.stream_model.specs.Linear.{Book}
 some_same : {A : Type 0} (x y : A) → Some x ≡ Some y → x ≡ y
 some_same x y e = cc
 
-pub same_count : {S D L B : Type 0} (places : List (Seated S D L B)) (nodes : List (Node S D L B)) → AllBecome places nodes → length nodes ≡ length places
+pub same_count : {S D L B : Type 0} (places : List (Seated S D L B)) (nodes : List (IslandNode S D L B)) → AllBecome places nodes → length nodes ≡ length places
 same_count [] [] h = refl
 same_count [] (x ∷ xs) h = absurd h
 same_count (s ∷ ss) [] h = absurd h
@@ -47,7 +47,7 @@ new_maker k (kind.Range low high) = refl
 new_maker k (kind.Empty b) = refl
 new_maker k _ = refl
 
-becomes_fresh : {S D L B : Type 0} (k : ℕ) (w : Work S D L B) (x : Node S D L B) → IsUnused w → BecomesOf k w x → node_fresh x (record { ins = replicate (work_inputs w) Idle; outs = replicate (work_outputs w) Unpulled })
+becomes_fresh : {S D L B : Type 0} (k : ℕ) (w : Work S D L B) (x : IslandNode S D L B) → IsUnused w → BecomesOf k w x → node_fresh x (record { ins = replicate (work_inputs w) Idle; outs = replicate (work_outputs w) Unpulled })
 becomes_fresh k (Reading r) x u b = rw b (record { phase = refl; drawn = refl; kept = u; port = refl })
 becomes_fresh k (Making kind) x u b = rw b (record { phase = new_maker k kind; port = refl })
 becomes_fresh k (Linear l) x u b = rw b u
@@ -61,7 +61,7 @@ becomes_fresh k (LaneIn u) x t b = rw b refl
 becomes_fresh k (LaneOut u) x t b = rw b (record { waits = refl; gone = refl; port = refl })
 
 -- the node at place n
-fresh_at : {S D L B : Type 0} (places : List (Seated S D L B)) (nodes : List (Node S D L B)) (n : ℕ) (x : Node S D L B) → AllUnused places → AllBecome places nodes → slice_get nodes n ≡ Some x
+fresh_at : {S D L B : Type 0} (places : List (Seated S D L B)) (nodes : List (IslandNode S D L B)) (n : ℕ) (x : IslandNode S D L B) → AllUnused places → AllBecome places nodes → slice_get nodes n ≡ Some x
     → node_fresh x (record { ins = replicate (inputs_at places n) Idle; outs = replicate (outputs_at places n) Unpulled })
 fresh_at [] [] n x u b e = absurd cc
 fresh_at [] (y ∷ ys) n x u b e = absurd b
@@ -69,21 +69,21 @@ fresh_at (s ∷ ss) [] n x u b e = absurd b
 fresh_at (s ∷ ss) (y ∷ ys) zero x u b e = let same : y ≡ x = some_same y x e in becomes_fresh s.node s.work x u.0 (subst (λ z. BecomesOf s.node s.work z) same b.0)
 fresh_at (s ∷ ss) (y ∷ ys) (suc n) x u b e = fresh_at ss ys n x u.1 b.1 e
 
-pub all_fresh : {S D L B : Type 0} (places : List (Seated S D L B)) (nodes : List (Node S D L B)) (ports : List PortLists) → AllUnused places → AllBecome places nodes → IsSized (inputs_at places) (outputs_at places) (length places) ports
-    → (n : ℕ) (x : Node S D L B) → slice_get nodes n ≡ Some x → node_fresh x (first_view (port_at ports n))
+pub all_fresh : {S D L B : Type 0} (places : List (Seated S D L B)) (nodes : List (IslandNode S D L B)) (ports : List PortLists) → AllUnused places → AllBecome places nodes → IsSized (inputs_at places) (outputs_at places) (length places) ports
+    → (n : ℕ) (x : IslandNode S D L B) → slice_get nodes n ≡ Some x → node_fresh x (first_view (port_at ports n))
 all_fresh places nodes ports u b z n x e =
     let h : n < length places = rw (sym (same_count places nodes b)) (slice_get_within nodes n x e) in
     rw (z.ins_are n h, z.outs_are n h) (fresh_at places nodes n x u b e)
 
 -- as many wires as links
-pub ends_many : {X : Type 0} (links : List Link) (ends : List Ends) (f : ℕ → X) → ends ≡ map ends_of links → f (length links) ≡ f (length ends)
+pub ends_many : {X : Type 0} (links : List Link) (ends : List WireEnds) (f : ℕ → X) → ends ≡ map ends_of links → f (length links) ≡ f (length ends)
 ends_many links ends f e = rw e (rw length-map refl)
 
-pub parts_wired : {S D L B : Type 0} (seats : List (Seated S D L B)) (nodes : List (Node S D L B)) (ends : List Ends) (rows ports : List PortLists) → AllBecome seats nodes → length rows ≡ length seats → Wired ends ports (length rows) (length ends) → Wired ends ports (length nodes) (length ends)
+pub parts_wired : {S D L B : Type 0} (seats : List (Seated S D L B)) (nodes : List (IslandNode S D L B)) (ends : List WireEnds) (rows ports : List PortLists) → AllBecome seats nodes → length rows ≡ length seats → Wired ends ports (length rows) (length ends) → Wired ends ports (length nodes) (length ends)
 parts_wired seats nodes ends rows ports b e w = rw (same_count seats nodes b) (rw e at w)
 
 -- the counts of the first wires
-counts_next : (ns : List ℕ) (cs : List Cell) (i d : ℕ) (e : Cell) → i < length ns → i < length cs
+counts_next : (ns : List ℕ) (cs : List WireState) (i d : ℕ) (e : WireState) → i < length ns → i < length cs
     → counts_of (take (i + 1) ns) (take (i + 1) cs) ≡ counts_of (take i ns) (take i cs) ++ (get_or ns i d, count_of (get_or cs i e)) ∷ []
 counts_next [] cs i d e h k = absurd (omega arith)
 counts_next (m ∷ ns) [] i d e h k = absurd (omega arith)
@@ -92,13 +92,13 @@ counts_next (m ∷ ns) (c ∷ cs) (suc i) d e h k =
     let j : suc i + 1 ≡ suc (i + 1) = omega arith in
     rw j (ap (λ (l : List (ℕ × WireCount)). (m, count_of c) ∷ l) (counts_next ns cs i d e (omega arith) (omega arith)))
 
-pub counts_step : (ns : List ℕ) (cs : List Cell) (i d : ℕ) (c : Cell) (old new : List (ℕ × WireCount)) (s : ℕ) (a z : Bool) → i < length ns → i < length cs → c ≡ get_or cs i c
+pub counts_step : (ns : List ℕ) (cs : List WireState) (i d : ℕ) (c : WireState) (old new : List (ℕ × WireCount)) (s : ℕ) (a z : Bool) → i < length ns → i < length cs → c ≡ get_or cs i c
     → new ≡ old ++ (get_or ns i d, record { sent = s; asked = a; shut = z }) ∷ [] → old ≡ counts_of (take i ns) (take i cs)
     → s ≡ elements c.wire.sent → a ≡ c.asked → z ≡ not (is_open c.wire.conn) → new ≡ counts_of (take (i + 1) ns) (take (i + 1) cs)
 counts_step ns cs i d c old new s a z h k at is was es ea ez =
-    rw (is, was, es, ea, ez) (ap (λ (x : Cell). counts_of (take i ns) (take i cs) ++ (get_or ns i d, count_of x) ∷ []) at ∙ sym (counts_next ns cs i d c h k))
+    rw (is, was, es, ea, ez) (ap (λ (x : WireState). counts_of (take i ns) (take i cs) ++ (get_or ns i d, count_of x) ∷ []) at ∙ sym (counts_next ns cs i d c h k))
 
-pub counts_all : (ns : List ℕ) (cs : List Cell) (n : ℕ) → n ≡ min (length ns) (length cs) → counts_of (take n ns) (take n cs) ≡ counts_of ns cs
+pub counts_all : (ns : List ℕ) (cs : List WireState) (n : ℕ) → n ≡ min (length ns) (length cs) → counts_of (take n ns) (take n cs) ≡ counts_of ns cs
 counts_all [] cs n e = let z : n ≡ 0 = omega arith in rw z refl
 counts_all (m ∷ ns) [] n e = let z : n ≡ 0 = omega arith in rw z refl
 counts_all (m ∷ ns) (d ∷ cs) zero e = absurd (omega arith)
@@ -108,7 +108,7 @@ counts_all (m ∷ ns) (d ∷ cs) (suc n) e = ap (λ (l : List (ℕ × WireCount)
 pub left_next : {A B : Type 0} (f : List A → List B) → ((x : A) (xs : List A) → f (x ∷ xs) ≡ f (x ∷ []) ++ f xs) → (old new : List A) (x : A) (was now all : List B) → old ≡ x ∷ new → now ≡ was ++ f (x ∷ []) → was ++ f old ≡ all → now ++ f new ≡ all
 left_next f cut old new x was now all e is h = rw is (append_assoc was (f (x ∷ [])) (f new) ∙ ap (λ (l : List _). was ++ l) (sym (cut x new)) ∙ (rw e at h))
 
-pub sinks_cut : {S D L B : Type 0} (x : Node S D L B) (xs : List (Node S D L B)) → sinks_of (x ∷ xs) ≡ sinks_of (x ∷ []) ++ sinks_of xs
+pub sinks_cut : {S D L B : Type 0} (x : IslandNode S D L B) (xs : List (IslandNode S D L B)) → sinks_of (x ∷ xs) ≡ sinks_of (x ∷ []) ++ sinks_of xs
 sinks_cut (node.Reading x) xs = refl
 sinks_cut (node.Making x) xs = refl
 sinks_cut (node.Linear x) xs = refl
@@ -121,7 +121,7 @@ sinks_cut (node.Ignoring x) xs = refl
 sinks_cut (node.Entering x) xs = refl
 sinks_cut (node.Leaving x) xs = refl
 
-pub readers_cut : {S D L B : Type 0} (x : Node S D L B) (xs : List (Node S D L B)) → readers_of (x ∷ xs) ≡ readers_of (x ∷ []) ++ readers_of xs
+pub readers_cut : {S D L B : Type 0} (x : IslandNode S D L B) (xs : List (IslandNode S D L B)) → readers_of (x ∷ xs) ≡ readers_of (x ∷ []) ++ readers_of xs
 readers_cut (node.Reading x) xs = refl
 readers_cut (node.Making x) xs = refl
 readers_cut (node.Linear x) xs = refl
@@ -134,7 +134,7 @@ readers_cut (node.Ignoring x) xs = refl
 readers_cut (node.Entering x) xs = refl
 readers_cut (node.Leaving x) xs = refl
 
-pub writers_cut : {S D L B : Type 0} (x : Node S D L B) (xs : List (Node S D L B)) → writers_of (x ∷ xs) ≡ writers_of (x ∷ []) ++ writers_of xs
+pub writers_cut : {S D L B : Type 0} (x : IslandNode S D L B) (xs : List (IslandNode S D L B)) → writers_of (x ∷ xs) ≡ writers_of (x ∷ []) ++ writers_of xs
 writers_cut (node.Reading x) xs = refl
 writers_cut (node.Making x) xs = refl
 writers_cut (node.Linear x) xs = refl
@@ -148,7 +148,7 @@ writers_cut (node.Entering x) xs = refl
 writers_cut (node.Leaving x) xs = refl
 
 -- an island that was started
-pub keeps_new : {S D L B : Type 0} (sources : S → SourceState) (drains : D → DrainState) (book : Book) (old new : Net (Node S D L B)) → Settled node_row (node_law sources drains book) node_asking node_moves new → all_asks new ≤ all_asks old → all_asks old ≡ 0 → Keeps sources drains book new 0
+pub keeps_new : {S D L B : Type 0} (sources : S → SourceState) (drains : D → DrainState) (book : Book) (old new : Net (IslandNode S D L B)) → Settled node_row (node_law sources drains book) node_asking node_moves new → all_asks new ≤ all_asks old → all_asks old ≡ 0 → Keeps sources drains book new 0
 keeps_new sources drains book old new s h e = record { laws = s; asks = omega (arith, h, e); within = omega arith }
 
 -- the room is for these numbers of nodes and wires

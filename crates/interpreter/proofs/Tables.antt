@@ -4,14 +4,14 @@ use Rattle.std.proofs.Math.ListN.{set}
 use Rattle.std.proofs.lemmas.List.{length-set, length-append, length-map}
 use Rattle.std.proofs.lemmas.Option.{slice_get_within}
 use Rattle.fused_net.specs.PortLists.{PortLists}
-use Rattle.fused_net.specs.declared.net.Ends.{Ends}
+use Rattle.fused_net.specs.declared.net.WireEnds.{WireEnds}
 use Rattle.fused_net.specs.Net.{end_at, port_at, no_ports}
 use Rattle.fused_net.specs.Laws.{Wired}
 use Rattle.fused_net.proofs.Reading.{same_or_not, get_set_same, get_set_other}
 use Rattle.interpreter.specs.declared.parts.Place.{Place}
 use Rattle.interpreter.specs.declared.parts.Seated.{Seated}
 use Rattle.interpreter.specs.Parts.{inputs_at, outputs_at, place_of, ins_at, outs_at, ins_in, outs_in, AllUnused, Becomes, AllBecome, IsWiring, IsSized, IsFilled, written}
-use Rattle.nodes.specs.declared.node.Node.{Node}
+use Rattle.nodes.specs.declared.node.IslandNode.{IslandNode}
 
 some_is : {A : Type 0} (x y : A) → Some x ≡ Some y → x ≡ y
 some_is x y e = cc
@@ -55,7 +55,7 @@ rows_next f size ports p n count rows last k h = elim (same_or_not k n) [
   | inr ne ↦ let below : k < n = omega arith in ap f (get_or_before ports p no_ports k (rw count below)) ∙ rows k below
 ]
 
-module _ (ports : List PortLists) (e : Ends) (w : ℕ) where
+module _ (ports : List PortLists) (e : WireEnds) (w : ℕ) where
   outs_here : e.from < length ports → e.to < length ports → (port_at (written ports e w) e.from).outs ≡ set (port_at ports e.from).outs e.output w
   outs_here hf ht = elim (same_or_not e.from e.to) [
     | inl same ↦
@@ -89,7 +89,7 @@ module _ (ports : List PortLists) (e : Ends) (w : ℕ) where
   length_written : length (written ports e w) ≡ length ports
   length_written = length-set _ _ _ ∙ length-set _ _ _
 
-module _ (sizes_in sizes_out : ℕ → ℕ) (places : ℕ) (ends : List Ends) (wiring : IsWiring sizes_in sizes_out places ends) where
+module _ (sizes_in sizes_out : ℕ → ℕ) (places : ℕ) (ends : List WireEnds) (wiring : IsWiring sizes_in sizes_out places ends) where
   pub sized_next : (ports : List PortLists) (k : ℕ) → k < length ends → IsSized sizes_in sizes_out places ports → IsSized sizes_in sizes_out places (written ports (end_at ends k) k)
   sized_next ports k h z =
       let hf : (end_at ends k).from < length ports = rw z.count (wiring.from_within k h) in
@@ -154,20 +154,20 @@ module _ (sizes_in sizes_out : ℕ → ℕ) (places : ℕ) (ends : List Ends) (w
   }
 
 -- none is seated at first
-pub seat_first : {S D L B : Type 0} (rest places : List (Seated S D L B)) (nodes : List (Node S D L B)) → rest ≡ places → nodes ≡ [] → AllUnused places → AllUnused rest × ((xs : List (Node S D L B)) → AllBecome rest xs → AllBecome places (nodes ++ xs))
+pub seat_first : {S D L B : Type 0} (rest places : List (Seated S D L B)) (nodes : List (IslandNode S D L B)) → rest ≡ places → nodes ≡ [] → AllUnused places → AllUnused rest × ((xs : List (IslandNode S D L B)) → AllBecome rest xs → AllBecome places (nodes ++ xs))
 seat_first rest places nodes e none unused = (rw e unused, λ xs h. let a : AllBecome places xs = rw e at h in rw none a)
 
 -- the places that are left to seat
-pub seat_next : {S D L B : Type 0} (places rest later : List (Seated S D L B)) (s : Seated S D L B) (nodes more : List (Node S D L B)) (x : Node S D L B) → rest ≡ s ∷ later → AllUnused rest → Becomes s x → more ≡ nodes ++ x ∷ []
-    → ((xs : List (Node S D L B)) → AllBecome rest xs → AllBecome places (nodes ++ xs))
-    → AllUnused later × ((xs : List (Node S D L B)) → AllBecome later xs → AllBecome places (more ++ xs))
+pub seat_next : {S D L B : Type 0} (places rest later : List (Seated S D L B)) (s : Seated S D L B) (nodes more : List (IslandNode S D L B)) (x : IslandNode S D L B) → rest ≡ s ∷ later → AllUnused rest → Becomes s x → more ≡ nodes ++ x ∷ []
+    → ((xs : List (IslandNode S D L B)) → AllBecome rest xs → AllBecome places (nodes ++ xs))
+    → AllUnused later × ((xs : List (IslandNode S D L B)) → AllBecome later xs → AllBecome places (more ++ xs))
 seat_next places rest later s nodes more x e unused becomes is all =
     let u : AllUnused (s ∷ later) = rw e at unused in
-    let a : (xs : List (Node _ _ _ _)) → AllBecome (s ∷ later) xs → AllBecome places (nodes ++ xs) = rw e at all in
+    let a : (xs : List (IslandNode _ _ _ _)) → AllBecome (s ∷ later) xs → AllBecome places (nodes ++ xs) = rw e at all in
     (u.1, λ xs h. rw is (rw (append_assoc nodes (x ∷ []) xs) (a (x ∷ xs) (becomes, h))))
 
-pub seat_last : {S D L B : Type 0} (places rest : List (Seated S D L B)) (nodes : List (Node S D L B)) → rest ≡ [] → ((xs : List (Node S D L B)) → AllBecome rest xs → AllBecome places (nodes ++ xs)) → AllBecome places nodes
-seat_last places rest nodes e all = let a : (xs : List (Node _ _ _ _)) → AllBecome [] xs → AllBecome places (nodes ++ xs) = rw e at all in rw (append-nil nodes) at (a [] tt)
+pub seat_last : {S D L B : Type 0} (places rest : List (Seated S D L B)) (nodes : List (IslandNode S D L B)) → rest ≡ [] → ((xs : List (IslandNode S D L B)) → AllBecome rest xs → AllBecome places (nodes ++ xs)) → AllBecome places nodes
+seat_last places rest nodes e all = let a : (xs : List (IslandNode _ _ _ _)) → AllBecome [] xs → AllBecome places (nodes ++ xs) = rw e at all in rw (append-nil nodes) at (a [] tt)
 
 -- none is left where there are 0
 pub none_left : {A : Type 0} (xs : List A) (n : ℕ) → n ≡ 0 → n ≡ length xs → xs ≡ []
@@ -202,7 +202,7 @@ module _ {S D L B : Type 0} (seats : List (Seated S D L B)) (rows : List PortLis
   rows_outs n h = sized.outs_are n (rw count_is h) ∙ outs_of_places seats n
 
   -- a wiring of the works is one of the rows
-  pub rows_wiring : (told ends : List Ends) → ends ≡ told → IsWiring (inputs_at seats) (outputs_at seats) (length seats) told → IsWiring (ins_in rows) (outs_in rows) (length rows) ends
+  pub rows_wiring : (told ends : List WireEnds) → ends ≡ told → IsWiring (inputs_at seats) (outputs_at seats) (length seats) told → IsWiring (ins_in rows) (outs_in rows) (length rows) ends
   rows_wiring told ends e w = rw (e, rows_count) (record {
     from_within = w.from_within;
     to_within = w.to_within;

@@ -2,9 +2,9 @@
 use Rattle.std.specs.Prelude.{◌≡◌, ◌≢◌, ℕ, ◌<◌, List, [], length, slice_index_or}
 use Rattle.elem_core.specs.declared.item.Item.{Item}
 use Rattle.port_core.specs.declared.view.InView.TheVariants.{Cancelled}
-use Rattle.wire_core.specs.Cell.{Cell}
+use Rattle.wire_core.specs.Cell.{WireState}
 use Rattle.wire_core.specs.Marks.{wanted}
-use Rattle.nodes.specs.declared.node.Node.{Node}
+use Rattle.nodes.specs.declared.node.IslandNode.{IslandNode}
 use Rattle.nodes.specs.Nodes.{node_gone, node_waits}
 use Rattle.fused_net.specs.Net.{Net, end_at, wire_at}
 use Rattle.fused_net.specs.Poking.{AtNode, HandsAt}
@@ -20,10 +20,10 @@ module _ {S D L B : Type 0} where
   way_out i u = slice_index_or i.outs u 0
 
   -- the connections there
-  abbrev pub cell_in : Kept S D L B → ℕ → Cell
+  abbrev pub cell_in : Kept S D L B → ℕ → WireState
   cell_in i u = wire_at i.net (way_in i u)
 
-  abbrev pub cell_out : Kept S D L B → ℕ → Cell
+  abbrev pub cell_out : Kept S D L B → ℕ → WireState
   cell_out i u = wire_at i.net (way_out i u)
 
   -- the island has a stage at which the lane that is wire u comes in, and one at which it goes out
@@ -45,13 +45,13 @@ module _ {S D L B : Type 0} where
   LeavesBy i u q = Leaves i u × (way_out i u ≡ q)
 
   -- where a lane goes out at place q nothing was asked, cancelled or handed out
-  pub record BeginsOut (net : Net (Node S D L B)) (q : ℕ) : Type 0 where
+  pub record BeginsOut (net : Net (IslandNode S D L B)) (q : ℕ) : Type 0 where
     pub unasked : wanted (wire_at net q) ≡ 0
     pub stays : (wire_at net q).wire.inp ≢ Cancelled
     pub none_gone : AtNode net (end_at net.ends q).to (λ x. node_gone x ≡ [])
 
   -- the island with another graph
-  abbrev pub with_net : Kept S D L B → Net (Node S D L B) → Kept S D L B
+  abbrev pub with_net : Kept S D L B → Net (IslandNode S D L B) → Kept S D L B
   with_net i net = record i { net = net }
 
   -- these items, which waited where the lane goes out, were handed out

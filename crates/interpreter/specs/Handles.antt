@@ -7,7 +7,7 @@ use Rattle.interpreter.specs.declared.island.StartEnd.TheVariants.{NoMemory}
 use Rattle.interpreter.specs.declared.parts.Seated.{Seated}
 use Rattle.interpreter.specs.declared.parts.Work.{Work}
 use Rattle.interpreter.specs.Island.{readers_of, writers_of}
-use Rattle.nodes.specs.declared.node.Node.{Node}
+use Rattle.nodes.specs.declared.node.IslandNode.{IslandNode}
 use Rattle.interpreter.specs.declared.parts.Work.TheVariants.{Reading, Making, Linear, State, Sub, FanIn, FanOut, Writing, LaneIn, LaneOut}
 
 -- the source of a reader, in front of others
@@ -52,7 +52,7 @@ pub record HandsBack {S D L B : Type 0} (sources : S → SourceState) (drains : 
   pub writers : map drains e.writers.items ≡ map drains (drains_in places)
 
 -- the handles of these nodes are those that stand at these places, in their order, each as it was handed in
-pub record HoldsHandles {S D L B : Type 0} (sources : S → SourceState) (drains : D → DrainState) (places : List (Seated S D L B)) (nodes : List (Node S D L B)) : Type 0 where
+pub record HoldsHandles {S D L B : Type 0} (sources : S → SourceState) (drains : D → DrainState) (places : List (Seated S D L B)) (nodes : List (IslandNode S D L B)) : Type 0 where
   pub readers : map sources (readers_of nodes) ≡ map sources (sources_in places)
   pub writers : map drains (writers_of nodes) ≡ map drains (drains_in places)
 

@@ -4,11 +4,11 @@ use Rattle.stream_io.specs.State.{SourceState, DrainState}
 use Rattle.port_core.specs.Decoding.{is_open}
 use Rattle.stream_model.specs.declared.outcome.WireCount.{WireCount}
 use Rattle.stream_model.specs.declared.outcome.EndState.{EndState}
-use Rattle.wire_core.specs.Cell.{Cell}
+use Rattle.wire_core.specs.Cell.{WireState}
 use Rattle.wire_core.specs.Counts.{elements}
 use Rattle.nodes.specs.Nodes.{node_row, node_law, node_asking, node_moves}
-use Rattle.nodes.specs.declared.node.Node.{Node}
-use Rattle.nodes.specs.declared.node.Node.TheVariants as node
+use Rattle.nodes.specs.declared.node.IslandNode.{IslandNode}
+use Rattle.nodes.specs.declared.node.IslandNode.TheVariants as node
 use Rattle.fused_net.specs.Net.{Net}
 use Rattle.fused_net.specs.Laws.{Settled}
 use Rattle.fused_net.specs.Costs.{all_asks}
@@ -18,7 +18,7 @@ use Rattle.stream_model.specs.Linear.{Book}
 -- and go out, by the numbers of their wires, the units that it used, and whether a call gave up for want of memory, after which nothing is
 -- known of it
 pub record Kept (S D L B : Type 0) : Type 0 where
-  pub net : Net (Node S D L B)
+  pub net : Net (IslandNode S D L B)
   pub numbers : List ℕ
   pub places : List ℕ
   pub ins : List ℕ
@@ -27,22 +27,22 @@ pub record Kept (S D L B : Type 0) : Type 0 where
   pub broken : Bool
 
 -- what an island keeps between two calls
-pub record Keeps {S D L B : Type 0} (sources : S → SourceState) (drains : D → DrainState) (book : Book) (net : Net (Node S D L B)) (used : ℕ) : Type 0 where
+pub record Keeps {S D L B : Type 0} (sources : S → SourceState) (drains : D → DrainState) (book : Book) (net : Net (IslandNode S D L B)) (used : ℕ) : Type 0 where
   pub laws : Settled node_row (node_law sources drains book) node_asking node_moves net
   pub asks : all_asks net ≤ used
   pub within : used ≤ 4000000000
 
 -- how a wire stands: the elements that were pushed, whether its input waits for one, and whether either end has closed it
-abbrev pub count_of : Cell → WireCount
+abbrev pub count_of : WireState → WireCount
 count_of c = record { sent = elements c.wire.sent; asked = c.asked; shut = not (is_open c.wire.conn) }
 
 -- the same of each wire, with its number
-abbrev pub counts_of : List ℕ → List Cell → List (ℕ × WireCount)
+abbrev pub counts_of : List ℕ → List WireState → List (ℕ × WireCount)
 counts_of (n ∷ ns) (c ∷ cs) = (n, count_of c) ∷ counts_of ns cs
 counts_of _ _ = []
 
 -- the sinks' ends: node, lines written, how it stands
-abbrev pub sinks_of : {S D L B : Type 0} → List (Node S D L B) → List (ℕ × ℕ × EndState)
+abbrev pub sinks_of : {S D L B : Type 0} → List (IslandNode S D L B) → List (ℕ × ℕ × EndState)
 sinks_of [] = []
 sinks_of (node.Reading x ∷ xs) = sinks_of xs
 sinks_of (node.Making x ∷ xs) = sinks_of xs
@@ -57,7 +57,7 @@ sinks_of (node.Entering x ∷ xs) = sinks_of xs
 sinks_of (node.Leaving x ∷ xs) = sinks_of xs
 
 -- the sources of bytes that its readers read
-abbrev pub readers_of : {S D L B : Type 0} → List (Node S D L B) → List S
+abbrev pub readers_of : {S D L B : Type 0} → List (IslandNode S D L B) → List S
 readers_of [] = []
 readers_of (node.Reading x ∷ xs) = x.reader.source ∷ readers_of xs
 readers_of (node.Making x ∷ xs) = readers_of xs
@@ -72,7 +72,7 @@ readers_of (node.Entering x ∷ xs) = readers_of xs
 readers_of (node.Leaving x ∷ xs) = readers_of xs
 
 -- the drains that its sinks with a file wrote
-abbrev pub writers_of : {S D L B : Type 0} → List (Node S D L B) → List D
+abbrev pub writers_of : {S D L B : Type 0} → List (IslandNode S D L B) → List D
 writers_of [] = []
 writers_of (node.Reading x ∷ xs) = writers_of xs
 writers_of (node.Making x ∷ xs) = writers_of xs

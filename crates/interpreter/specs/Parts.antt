@@ -13,9 +13,9 @@ use Rattle.stage_sub.specs.Handling.{SubFresh}
 use Rattle.stage_in.specs.Logics.{InFresh}
 use Rattle.stage_out.specs.OutLogics.{OutFresh}
 use Rattle.port_core.specs.View.{unpulled_ins, unpulled_outs}
-use Rattle.nodes.specs.declared.node.Node.{Node}
-use Rattle.nodes.specs.declared.node.Node.TheVariants as node
-use Rattle.fused_net.specs.declared.net.Ends.{Ends}
+use Rattle.nodes.specs.declared.node.IslandNode.{IslandNode}
+use Rattle.nodes.specs.declared.node.IslandNode.TheVariants as node
+use Rattle.fused_net.specs.declared.net.WireEnds.{WireEnds}
 use Rattle.fused_net.specs.PortLists.{PortLists}
 use Rattle.fused_net.specs.Net.{end_at, port_at}
 use Rattle.interpreter.specs.declared.parts.Link.{Link}
@@ -26,7 +26,7 @@ use Rattle.interpreter.specs.declared.parts.Work.TheVariants.{Reading, Making, L
 use Rattle.interpreter.specs.Ways.{IsOnce}
 
 -- the ports at the ends of a link
-abbrev pub ends_of : Link → Ends
+abbrev pub ends_of : Link → WireEnds
 ends_of l = record { from = l.from; output = l.output; to = l.to; input = l.input }
 
 -- the number of the blueprint's wire that a link is
@@ -103,7 +103,7 @@ AllUnused [] = ⊤
 AllUnused (x ∷ xs) = IsUnused x.work × AllUnused xs
 
 -- Each link stands between a port that is there and another; each port of each place is in exactly one link.
-pub record IsWiring (ins outs : ℕ → ℕ) (places : ℕ) (ends : List Ends) : Type 0 where
+pub record IsWiring (ins outs : ℕ → ℕ) (places : ℕ) (ends : List WireEnds) : Type 0 where
   pub from_within : (w : ℕ) → w < length ends → (end_at ends w).from < places
   pub to_within : (w : ℕ) → w < length ends → (end_at ends w).to < places
   pub output_within : (w : ℕ) → w < length ends → (end_at ends w).output < outs (end_at ends w).from
@@ -121,7 +121,7 @@ pub record AreParts {S D L B : Type 0} (places : List (Seated S D L B)) (links :
   pub few : length links < 2 ^ 32
 
 -- the node of a work, with its number
-abbrev pub BecomesOf : {S D L B : Type 0} → ℕ → Work S D L B → Node S D L B → Type 0
+abbrev pub BecomesOf : {S D L B : Type 0} → ℕ → Work S D L B → IslandNode S D L B → Type 0
 BecomesOf k (Reading r) x = x ≡ node.Reading (record { node = k; reader = r; drawn = 0; phase = New })
 BecomesOf k (Making kind) x = x ≡ node.Making (maker_of k kind)
 BecomesOf k (Linear l) x = x ≡ node.Linear l
@@ -135,10 +135,10 @@ BecomesOf k (LaneIn u) x = x ≡ node.Entering (record { wire = u })
 BecomesOf k (LaneOut u) x = x ≡ node.Leaving (record { wire = u; waits = []; gone = [] })
 
 -- the node that stands at a place
-abbrev pub Becomes : {S D L B : Type 0} → Seated S D L B → Node S D L B → Type 0
+abbrev pub Becomes : {S D L B : Type 0} → Seated S D L B → IslandNode S D L B → Type 0
 Becomes s x = BecomesOf s.node s.work x
 
-abbrev pub AllBecome : {S D L B : Type 0} → List (Seated S D L B) → List (Node S D L B) → Type 0
+abbrev pub AllBecome : {S D L B : Type 0} → List (Seated S D L B) → List (IslandNode S D L B) → Type 0
 AllBecome [] [] = ⊤
 AllBecome (s ∷ ss) (x ∷ xs) = Becomes s x × AllBecome ss xs
 AllBecome _ _ = ⊥
@@ -157,12 +157,12 @@ abbrev pub outs_in : List PortLists → ℕ → ℕ
 outs_in ports n = length (port_at ports n).outs
 
 -- the first k links stand in the tables
-pub record IsFilled (ends : List Ends) (ports : List PortLists) (k : ℕ) : Type 0 where
+pub record IsFilled (ends : List WireEnds) (ports : List PortLists) (k : ℕ) : Type 0 where
   pub outs : (w : ℕ) → w < k → slice_get (port_at ports (end_at ends w).from).outs (end_at ends w).output ≡ Some w
   pub ins : (w : ℕ) → w < k → slice_get (port_at ports (end_at ends w).to).ins (end_at ends w).input ≡ Some w
 
 -- the tables once wire w stands at these ends
-abbrev pub written : List PortLists → Ends → ℕ → List PortLists
+abbrev pub written : List PortLists → WireEnds → ℕ → List PortLists
 written ports e w =
     let out = port_at ports e.from in
     let once = slice_set ports e.from (record out { outs = slice_set out.outs e.output w }) in

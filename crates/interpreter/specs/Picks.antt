@@ -2,7 +2,7 @@
 use Rattle.std.specs.Prelude.{ℕ, Option, None, Some, List, [], ◌∷◌}
 use Rattle.stream_model.specs.declared.outcome.PickList.{PickList}
 use Rattle.nodes.specs.Nodes.{node_picks}
-use Rattle.nodes.specs.declared.node.Node.{Node}
+use Rattle.nodes.specs.declared.node.IslandNode.{IslandNode}
 use Rattle.interpreter.specs.declared.parts.Seated.{Seated}
 
 -- the number of the blueprint's node that stands at a place
@@ -23,6 +23,6 @@ with_picks k None rest = rest
 with_picks k (Some moves) rest = (k, moves) ∷ rest
 
 -- the moves of each node whose kind chooses, with its number, in order of nodes
-abbrev pub picks_of : {S D L B : Type 0} → List ℕ → List (Node S D L B) → List Pick
+abbrev pub picks_of : {S D L B : Type 0} → List ℕ → List (IslandNode S D L B) → List Pick
 picks_of (k ∷ ks) (x ∷ xs) = with_picks k (node_picks x) (picks_of ks xs)
 picks_of _ _ = []

@@ -6,7 +6,7 @@ use Rattle.interpreter.specs.declared.island.IslandEnd.{IslandEnd}
 use Rattle.interpreter.specs.declared.parts.Link.{Link}
 use Rattle.interpreter.specs.declared.parts.Place.{Place}
 use Rattle.interpreter.specs.declared.room.Blank.{Blank}
-use Rattle.interpreter.specs.declared.room.Room.{Room}
+use Rattle.interpreter.specs.declared.room.IslandRoom.{IslandRoom}
 use Rattle.interpreter.specs.Parts.{ends_of, number_of, ins_at, outs_at, IsSized}
 use Rattle.interpreter.specs.Ways.{HasRows}
 
@@ -43,7 +43,7 @@ pub record IsBlank {S D L B : Type 0} (blank : Blank S D L B) (places : List Pla
   pub room_for_nodes : length places ≤ vec_capacity blank.nodes
 
 -- the room for an island of these places and links
-pub record IsRoom {S D L B : Type 0} (room : Room S D L B) (places : List Place) (links : List Link) : Type 0 where
+pub record IsRoom {S D L B : Type 0} (room : IslandRoom S D L B) (places : List Place) (links : List Link) : Type 0 where
   pub no_acts : room.acts.items ≡ []
   pub room_for_acts : most_acts ≤ room.acts.room
   pub numbers : room.numbers.items ≡ map number_of links

@@ -2,7 +2,7 @@
 use Rattle.std.specs.Prelude.{ℕ, Option, None, Some, List, [], ◌∷◌}
 use Rattle.kill_core.specs.Public.{SeatState}
 use Rattle.nodes.specs.Nodes.{node_seat}
-use Rattle.nodes.specs.declared.node.Node.{Node}
+use Rattle.nodes.specs.declared.node.IslandNode.{IslandNode}
 
 -- a node's number with its seat, in front of those of others, where it has one
 abbrev pub with_seat : ℕ → Option SeatState → List (ℕ × SeatState) → List (ℕ × SeatState)
@@ -10,6 +10,6 @@ with_seat k None rest = rest
 with_seat k (Some seat) rest = (k, seat) ∷ rest
 
 -- the seat of each valve and trip, with its number, in order of nodes
-abbrev pub seats_of : {S D L B : Type 0} → List ℕ → List (Node S D L B) → List (ℕ × SeatState)
+abbrev pub seats_of : {S D L B : Type 0} → List ℕ → List (IslandNode S D L B) → List (ℕ × SeatState)
 seats_of (k ∷ ks) (x ∷ xs) = with_seat k (node_seat x) (seats_of ks xs)
 seats_of _ _ = []

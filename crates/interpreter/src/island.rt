@@ -22,8 +22,8 @@ ghost use Rattle.boundary_calls.specs.declared.given.Wanted.TheVariants as wante
 ghost use Rattle.port_core.specs.Decoding.{can_pull};
 ghost use Rattle.port_core.specs.declared.act.Act.TheVariants as act;
 
-use crate::parts::{Parts, join, seat_all};
-use crate::room::{Blank, Room};
+use crate::parts::{Parts, build_all, join};
+use crate::room::{Blank, IslandRoom};
 use crate::ways::Ways;
 use boundary_calls::calls;
 use boundary_calls::given::{Given, Wanted};
@@ -31,7 +31,7 @@ use elem_core::elem::Elem;
 use elem_core::why::{Cause, NoMemory};
 use fused_net::engine::{Advance, Engine};
 use kill_core::seat::SwitchSeat;
-use nodes::node::{Node, NodeEnd};
+use nodes::node::{IslandNode, NodeEnd};
 use plug_logic::book::PlugBook;
 use plug_logic::logic::Logic;
 use port_core::acts::Acts;
@@ -47,7 +47,7 @@ use wire_core::wire::Wire;
 /// Rule: Akka Streams 2.6 reference.
 #[derive(Drop)]
 pub struct Island<S: Source, D: Drain, L: Logic, B: PlugBook> {
-    engine: Engine<Node<S, D, L, B>>,
+    engine: Engine<IslandNode<S, D, L, B>>,
     acts: Acts,
     numbers: Vec<u32>,
     // The number in the blueprint of each of its nodes.
@@ -107,7 +107,7 @@ impl<S: Source, D: Drain, L: Logic, B: PlugBook> Island<S, D, L, B> {
     pub fn start(
         alloc: Global,
         parts: Parts<S, D, L, B>,
-        room: Room<S, D, L, B>,
+        room: IslandRoom<S, D, L, B>,
     ) -> Result<Island<S, D, L, B>, StartEnd<S, D>>
         requires parts { AreParts parts.nodes.items parts.links.items }
         requires room { IsRoom room (map place_of parts.nodes.items) parts.links.items }
@@ -125,7 +125,7 @@ impl<S: Source, D: Drain, L: Logic, B: PlugBook> Island<S, D, L, B> {
         ensures handles { IfOk result (λ i. HoldsHandles S.state D.state parts.nodes.items i.net.nodes) }
         ensures no_memory { IfErr result (DidNotStart S.state D.state parts.nodes.items) }
     {
-        let Room {
+        let IslandRoom {
             mut acts,
             numbers,
             places,
@@ -344,13 +344,13 @@ impl<S: Source, D: Drain, L: Logic, B: PlugBook> Island<S, D, L, B> {
 pub fn hand_back<S: Source, D: Drain, L: Logic, B: PlugBook>(
     alloc: Global,
     parts: Parts<S, D, L, B>,
-    room: Room<S, D, L, B>,
+    room: IslandRoom<S, D, L, B>,
 ) -> IslandEnd<S, D>
     requires parts { AreParts parts.nodes.items parts.links.items }
     requires room { IsRoom room (map place_of parts.nodes.items) parts.links.items }
     ensures { HandsBack S.state D.state parts.nodes.items result }
 {
-    let Room {
+    let IslandRoom {
         numbers,
         places,
         blank,
@@ -366,7 +366,7 @@ fn assemble<S: Source, D: Drain, L: Logic, B: PlugBook>(
     alloc: Global,
     parts: Parts<S, D, L, B>,
     blank: Blank<S, D, L, B>,
-) -> Engine<Node<S, D, L, B>>
+) -> Engine<IslandNode<S, D, L, B>>
     requires parts { AreParts parts.nodes.items parts.links.items }
     requires blank { IsBlank blank (map place_of parts.nodes.items) parts.links.items }
     ensures starting { Starting node_row (node_law S.state D.state B.lists) node_asking node_moves node_fresh result 0 }
@@ -385,13 +385,13 @@ fn assemble<S: Source, D: Drain, L: Logic, B: PlugBook>(
         nodes,
     } = blank;
     join(&mut ports, &ends);
-    let nodes = seat_all(alloc, parts.nodes, nodes);
+    let nodes = build_all(alloc, parts.nodes, nodes);
     Engine::new(nodes, ends, ports, wires, ring)
 }
 
 // Takes an engine apart, into lists that have room for what it leaves.
 fn leave<S: Source, D: Drain, L: Logic, B: PlugBook>(
-    engine: Engine<Node<S, D, L, B>>,
+    engine: Engine<IslandNode<S, D, L, B>>,
     numbers: &[u32],
     places: &[u32],
     end: IslandEnd<S, D>,
@@ -413,7 +413,7 @@ fn leave<S: Source, D: Drain, L: Logic, B: PlugBook>(
 
 // What these nodes leave, of which these are the numbers, into lists that are empty and have room for it.
 fn gather<S: Source, D: Drain, L: Logic, B: PlugBook>(
-    nodes: Vec<Node<S, D, L, B>>,
+    nodes: Vec<IslandNode<S, D, L, B>>,
     places: &[u32],
     end: IslandEnd<S, D>,
 ) -> IslandEnd<S, D>
@@ -478,7 +478,7 @@ impl<S: Source, D: Drain> IslandEnd<S, D> {
     }
 
     // What node `number` leaves, into lists that have room for it.
-    fn add<L: Logic, B: PlugBook>(&mut self, number: u32, node: Node<S, D, L, B>)
+    fn add<L: Logic, B: PlugBook>(&mut self, number: u32, node: IslandNode<S, D, L, B>)
         requires { RoomFor self.old 1 }
         ensures sinks { self.new.sinks.items ≡ self.old.sinks.items ++ sinks_of (node ∷ []) }
         ensures picks { map pick_of self.new.picks.items ≡ map pick_of self.old.picks.items ++ picks_of (number ∷ []) (node ∷ []) }

@@ -7,11 +7,11 @@ ghost use Rattle.interpreter.specs.Parts.{ins_at, outs_at, ins_in, outs_in, IsUn
 ghost use Rattle.interpreter.specs.declared.parts.Place.{Place};
 
 use elem_core::why::NoMemory;
-use fused_net::net::{Ends, Ports};
+use fused_net::net::{Ports, WireEnds};
 use line_chain::line::LineChain;
 use nodes::ignoring::IgnoreSink;
-use nodes::maker::Maker;
-use nodes::node::Node;
+use nodes::maker::ValueSource;
+use nodes::node::IslandNode;
 use nodes::sink::{FileSink, Writes};
 use nodes::source::LinesSource;
 use plug_logic::book::PlugBook;
@@ -99,50 +99,50 @@ pub struct Place {
 }
 
 // The node of a work that did nothing yet.
-pub fn seat<S: Source, D: Drain, L: Logic, B: PlugBook>(
+pub fn build<S: Source, D: Drain, L: Logic, B: PlugBook>(
     alloc: Global,
     seated: Seated<S, D, L, B>,
-) -> Node<S, D, L, B>
+) -> IslandNode<S, D, L, B>
     requires { IsUnused seated.work }
     ensures { Becomes seated result }
 {
     let Seated { node, work } = seated;
     match work {
-        Work::Reading(reader) => Node::Reading(LinesSource::new(node, reader)),
-        Work::Making(kind) => Node::Making(maker(node, kind)),
-        Work::Linear(logic) => Node::Linear(logic),
-        Work::State(logic) => Node::State(logic),
-        Work::Sub(logic) => Node::Sub(logic),
-        Work::FanIn(logic, _) => Node::FanIn(logic),
-        Work::FanOut(logic, _) => Node::FanOut(logic),
-        Work::LaneIn(wire) => Node::Entering(Entering::new(wire)),
-        Work::LaneOut(wire) => Node::Leaving(Leaving::new(wire)),
+        Work::Reading(reader) => IslandNode::Reading(LinesSource::new(node, reader)),
+        Work::Making(kind) => IslandNode::Making(maker(node, kind)),
+        Work::Linear(logic) => IslandNode::Linear(logic),
+        Work::State(logic) => IslandNode::State(logic),
+        Work::Sub(logic) => IslandNode::Sub(logic),
+        Work::FanIn(logic, _) => IslandNode::FanIn(logic),
+        Work::FanOut(logic, _) => IslandNode::FanOut(logic),
+        Work::LaneIn(wire) => IslandNode::Entering(Entering::new(wire)),
+        Work::LaneOut(wire) => IslandNode::Leaving(Leaving::new(wire)),
         Work::Writing(kind, drain) => {
             let writes = written(kind);
             match drain {
-                Some(drain) => Node::Writing(FileSink::new(alloc, node, writes, drain)),
-                None => Node::Ignoring(IgnoreSink::new(node)),
+                Some(drain) => IslandNode::Writing(FileSink::new(alloc, node, writes, drain)),
+                None => IslandNode::Ignoring(IgnoreSink::new(node)),
             }
         }
     }
 }
 
 // The source of this kind, which has no file.
-fn maker(node: u32, kind: Kind) -> Maker
+fn maker(node: u32, kind: Kind) -> ValueSource
     requires { IsMaker kind }
     ensures { result ≡ maker_of node kind }
 {
     maker_by(node, &kind)
 }
 
-fn maker_by(node: u32, kind: &Kind) -> Maker
+fn maker_by(node: u32, kind: &Kind) -> ValueSource
     requires { IsMaker kind.now }
     ensures { result ≡ maker_of node kind.now }
 {
     match kind {
-        Kind::Range(low, high) => Maker::range(node, *low, *high),
-        Kind::Empty(_) => Maker::empty(node),
-        _ => Maker::failed(node),
+        Kind::Range(low, high) => ValueSource::range(node, *low, *high),
+        Kind::Empty(_) => ValueSource::empty(node),
+        _ => ValueSource::failed(node),
     }
 }
 
@@ -164,11 +164,11 @@ fn written_by(kind: &Kind) -> Writes
 }
 
 // The nodes of works that did nothing yet, in an empty list that has room for them. It takes no memory.
-pub fn seat_all<S: Source, D: Drain, L: Logic, B: PlugBook>(
+pub fn build_all<S: Source, D: Drain, L: Logic, B: PlugBook>(
     alloc: Global,
     places: Vec<Seated<S, D, L, B>>,
-    nodes: Vec<Node<S, D, L, B>>,
-) -> Vec<Node<S, D, L, B>>
+    nodes: Vec<IslandNode<S, D, L, B>>,
+) -> Vec<IslandNode<S, D, L, B>>
     requires unused { AllUnused places.items }
     requires empty { nodes.items ≡ [] }
     requires room { vec_len places ≤ vec_capacity nodes }
@@ -176,18 +176,18 @@ pub fn seat_all<S: Source, D: Drain, L: Logic, B: PlugBook>(
 {
     let mut nodes = nodes;
     for seated in places {
-        nodes.push_reserved(seat(alloc, seated));
+        nodes.push_reserved(build(alloc, seated));
     }
     nodes
 }
 
 // The ports at the ends of each link.
-pub fn all_ends(alloc: Global, links: &[Link]) -> Result<Vec<Ends>, NoMemory>
+pub fn all_ends(alloc: Global, links: &[Link]) -> Result<Vec<WireEnds>, NoMemory>
     ensures { IfOk result (λ ends. ends.items ≡ map ends_of links.now) }
 {
     let mut ends = Vec::new(alloc);
     for link in links {
-        ends.push(Ends {
+        ends.push(WireEnds {
             from: link.from,
             output: link.output,
             to: link.to,
@@ -239,7 +239,7 @@ pub fn blank_ports(alloc: Global, places: &[Place]) -> Result<Vec<Ports>, NoMemo
 }
 
 // Writes wire w into the table, at the ports at its ends.
-fn write_wire(ports: &mut Vec<Ports>, ends: Ends, w: u32)
+fn write_wire(ports: &mut Vec<Ports>, ends: WireEnds, w: u32)
     requires from { ends.from < length ports.old.items }
     requires to { ends.to < length ports.old.items }
     requires output { ends.output < length (port_at ports.old.items ends.from).outs }
@@ -251,7 +251,7 @@ fn write_wire(ports: &mut Vec<Ports>, ends: Ends, w: u32)
 }
 
 // The wires of each place, by its ports, into the table. It takes no memory.
-pub fn join(ports: &mut Vec<Ports>, ends: &[Ends])
+pub fn join(ports: &mut Vec<Ports>, ends: &[WireEnds])
     requires wiring { IsWiring (ins_in ports.old.items) (outs_in ports.old.items) (length ports.old.items) ends.now }
     requires few { length ends.now < 2 ^ 32 }
     ensures sized { IsSized (ins_in ports.old.items) (outs_in ports.old.items) (length ports.old.items) ports.new.items }

@@ -7,8 +7,8 @@ use crate::parts::{Link, Place, all_ends, all_numbers, all_places, blank_ports};
 use crate::ways::Ways;
 use elem_core::why::NoMemory;
 use fused_net::engine::unused_wires;
-use fused_net::net::{Ends, Ports};
-use nodes::node::Node;
+use fused_net::net::{Ports, WireEnds};
+use nodes::node::IslandNode;
 use plug_logic::book::PlugBook;
 use plug_logic::logic::Logic;
 use port_core::acts::Acts;
@@ -21,16 +21,16 @@ use wire_core::wire::Wire;
 /// An engine before its nodes are there: tables with a row for each of their ports, and an empty list that has room for them.
 #[derive(Drop)]
 pub struct Blank<S: Source, D: Drain, L: Logic, B: PlugBook> {
-    pub(crate) ends: Vec<Ends>,
+    pub(crate) ends: Vec<WireEnds>,
     pub(crate) ports: Vec<Ports>,
     pub(crate) wires: Vec<Wire>,
     pub(crate) ring: EventRing,
-    pub(crate) nodes: Vec<Node<S, D, L, B>>,
+    pub(crate) nodes: Vec<IslandNode<S, D, L, B>>,
 }
 
 /// All that an island takes of memory but what its nodes themselves need, so that it is made and taken apart without any.
 #[derive(Drop)]
-pub struct Room<S: Source, D: Drain, L: Logic, B: PlugBook> {
+pub struct IslandRoom<S: Source, D: Drain, L: Logic, B: PlugBook> {
     pub(crate) acts: Acts,
     pub(crate) numbers: Vec<u32>,
     pub(crate) places: Vec<u32>,
@@ -59,9 +59,13 @@ impl<S: Source, D: Drain, L: Logic, B: PlugBook> Blank<S, D, L, B> {
     }
 }
 
-impl<S: Source, D: Drain, L: Logic, B: PlugBook> Room<S, D, L, B> {
+impl<S: Source, D: Drain, L: Logic, B: PlugBook> IslandRoom<S, D, L, B> {
     /// The room for an island of these places and links.
-    pub fn of(alloc: Global, places: &[Place], links: &[Link]) -> Result<Room<S, D, L, B>, NoMemory>
+    pub fn of(
+        alloc: Global,
+        places: &[Place],
+        links: &[Link],
+    ) -> Result<IslandRoom<S, D, L, B>, NoMemory>
         requires { length links.now < 2 ^ 32 }
         ensures { IfOk result (λ room. IsRoom room places.now links.now) }
     {
@@ -71,7 +75,7 @@ impl<S: Source, D: Drain, L: Logic, B: PlugBook> Room<S, D, L, B> {
         let ways = Ways::of(alloc, links)?;
         let end = IslandEnd::sized(alloc, places.len(), links.len())?;
         let places = all_places(alloc, places)?;
-        Ok(Room {
+        Ok(IslandRoom {
             acts,
             numbers,
             places,

@@ -2,7 +2,7 @@
 use Rattle.std.specs.Prelude.{slice_get}
 use Rattle.std.proofs.Common.{◌≡◌, ◌≢◌, ℕ, zero, suc, ◌<◌, ◌⊎◌, inl, inr, List, [], ◌∷◌, ◌++◌, map, Some, refl, sym, ap, ◌∙◌, ⊎_elim, arith}
 use Rattle.stream_io.specs.State.{SourceState, DrainState}
-use Rattle.stream_model.specs.Graph.{Wire}
+use Rattle.stream_model.specs.Graph.{Edge}
 use Rattle.wire_core.specs.Marks.{wanted}
 use Rattle.interpreter.specs.Boundary.{BeginsOut, way_in, way_out, cell_out}
 use Rattle.interpreter.specs.Island.{Kept}
@@ -55,7 +55,7 @@ module _ {S D L B : Type 0} where
     left = λ z. absurd (b.stays z);
   }
 
-  module _ (sources : S → SourceState) (drains : D → DrainState) (book : Book) (homes : List ℕ) (count : ℕ) (ws : List Wire) (nodes : List (Seated S D L B)) (k : ℕ) (x : Parts S D L B) (i : Kept S D L B) (e : AllEnds) (a : AreSeated homes count ws nodes)
+  module _ (sources : S → SourceState) (drains : D → DrainState) (book : Book) (homes : List ℕ) (count : ℕ) (ws : List Edge) (nodes : List (Seated S D L B)) (k : ℕ) (x : Parts S D L B) (i : Kept S D L B) (e : AllEnds) (a : AreSeated homes count ws nodes)
       (nodes_are : x.nodes.items ≡ seats_in homes ws nodes k) (links_are : x.links.items ≡ links_in homes ws nodes k) (h : HasStarted sources drains book x i) (all : AreAllEnds (lanes_from homes 0 ws) count e) where
     abbrev ins : List IslandInput
     ins = items_at e.ins.items k

@@ -8,7 +8,7 @@ use Rattle.std.proofs.lemmas.Bool.Decides.{nat_tests}
 use Rattle.std.proofs.lemmas.List.{length-map}
 use Rattle.std.proofs.lemmas.List.Elements.{All-get_or, All-from_get_or}
 use Rattle.std.proofs.lemmas.Option.{slice_get_within, slice_get-map, get_or_from_slice_get}
-use Rattle.stream_model.specs.Graph.{Wire}
+use Rattle.stream_model.specs.Graph.{Edge}
 use Rattle.stream_model.specs.Graph as graph
 use Rattle.stream_model.specs.Composed.{inputs_of}
 use Rattle.stream_picture.specs.View.{outputs_of}
@@ -24,7 +24,7 @@ use Rattle.blue_check.specs.Fitness.{names_fault, ports_fault, plugs_fault, size
 use Rattle.blue_check.specs.Wires.{blueprint_wires}
 use Rattle.blue_check.specs.declared.fault.CheckFault.TheVariants as fault
 use Rattle.interpreter.specs.declared.parts.Parts.{Parts}
-use Rattle.interpreter.specs.declared.room.Room.{Room}
+use Rattle.interpreter.specs.declared.room.IslandRoom.{IslandRoom}
 use Rattle.traversal.specs.Plan.{lane_sized, lanes_from}
 use Rattle.traversal.specs.declared.plan.LanePlan.{LanePlan}
 use Rattle.island_parts.specs.Whole.{whole_links, whole_homes, whole_seats, own_links}
@@ -47,7 +47,7 @@ use Rattle.island_begins.proofs.Stages.{some_same}
 
 -- ---- lanes rise by their wires
 
-least_by : (homes : List ℕ) (n : ℕ) (w : Wire) (rest : List LanePlan) (o : Option ℕ) (i : ℕ) (l : LanePlan) → ((j : ℕ) → slice_get rest j ≡ Some l → n + 1 ≤ l.wire) → slice_get (lane_sized homes n w o ++ rest) i ≡ Some l → n ≤ l.wire
+least_by : (homes : List ℕ) (n : ℕ) (w : Edge) (rest : List LanePlan) (o : Option ℕ) (i : ℕ) (l : LanePlan) → ((j : ℕ) → slice_get rest j ≡ Some l → n + 1 ≤ l.wire) → slice_get (lane_sized homes n w o ++ rest) i ≡ Some l → n ≤ l.wire
 least_by homes n w rest None i l more at = let r = more i at in omega (arith, r)
 least_by homes n w rest (Some s) zero l more at =
     let here : Some (record { wire = n; size = s; from = slice_index homes w.from; to = slice_index homes w.to }) ≡ Some l = at in
@@ -56,11 +56,11 @@ least_by homes n w rest (Some s) zero l more at =
     omega (arith, e)
 least_by homes n w rest (Some s) (suc i) l more at = let r = more i at in omega (arith, r)
 
-from_least : (homes : List ℕ) (n : ℕ) (ws : List Wire) (j : ℕ) (l : LanePlan) → slice_get (lanes_from homes n ws) j ≡ Some l → n ≤ l.wire
+from_least : (homes : List ℕ) (n : ℕ) (ws : List Edge) (j : ℕ) (l : LanePlan) → slice_get (lanes_from homes n ws) j ≡ Some l → n ≤ l.wire
 from_least homes n [] j l at = absurd cc
 from_least homes n (w ∷ ws) j l at = least_by homes n w (lanes_from homes (n + 1) ws) w.lane j l (λ i here. from_least homes (n + 1) ws i l here) at
 
-rising_by : (homes : List ℕ) (n : ℕ) (w : Wire) (rest : List LanePlan) (o : Option ℕ) (a b : ℕ) (l k : LanePlan) → ((j : ℕ) → slice_get rest j ≡ Some k → n + 1 ≤ k.wire)
+rising_by : (homes : List ℕ) (n : ℕ) (w : Edge) (rest : List LanePlan) (o : Option ℕ) (a b : ℕ) (l k : LanePlan) → ((j : ℕ) → slice_get rest j ≡ Some k → n + 1 ≤ k.wire)
     → ((i j : ℕ) → i < j → slice_get rest i ≡ Some l → slice_get rest j ≡ Some k → l.wire < k.wire) → a < b → slice_get (lane_sized homes n w o ++ rest) a ≡ Some l → slice_get (lane_sized homes n w o ++ rest) b ≡ Some k → l.wire < k.wire
 rising_by homes n w rest None a b l k more on lt at bt = on a b lt at bt
 rising_by homes n w rest (Some s) a zero l k more on lt at bt = absurd (omega (arith, lt))
@@ -72,7 +72,7 @@ rising_by homes n w rest (Some s) zero (suc b) l k more on lt at bt =
     omega (arith, e, r)
 rising_by homes n w rest (Some s) (suc a) (suc b) l k more on lt at bt = on a b (omega (arith, lt)) at bt
 
-pub rising : (homes : List ℕ) (n : ℕ) (ws : List Wire) (a b : ℕ) (l k : LanePlan) → a < b → slice_get (lanes_from homes n ws) a ≡ Some l → slice_get (lanes_from homes n ws) b ≡ Some k → l.wire < k.wire
+pub rising : (homes : List ℕ) (n : ℕ) (ws : List Edge) (a b : ℕ) (l k : LanePlan) → a < b → slice_get (lanes_from homes n ws) a ≡ Some l → slice_get (lanes_from homes n ws) b ≡ Some k → l.wire < k.wire
 rising homes n [] a b l k lt at bt = absurd cc
 rising homes n (w ∷ ws) a b l k lt at bt =
     rising_by homes n w (lanes_from homes (n + 1) ws) w.lane a b l k (λ j here. from_least homes (n + 1) ws j k here) (λ i j less here there. rising homes (n + 1) ws i j l k less here there) lt at bt
@@ -114,15 +114,15 @@ module _ (b : Blueprint) (plugs : List PlugHead) (taken : List (List ℕ)) (fit 
       let e = both_none (option_map at.Chain (chain_wrong chains)) (option_or (option_map at.Node (node_wrong nodes)) (option_map at.Wire (wire_wrong b.wires.items))) none in
       map_none at.Wire (wire_wrong b.wires.items) (both_none (option_map at.Node (node_wrong nodes)) (option_map at.Wire (wire_wrong b.wires.items)) e.1).1
 
-  lane_size : (i : ℕ) (v : Wire) (size : ℕ) → slice_get (blueprint_wires b) i ≡ Some v → v.lane ≡ Some size → (1 ≤ size) × (size ≤ 1024)
+  lane_size : (i : ℕ) (v : Edge) (size : ℕ) → slice_get (blueprint_wires b) i ≡ Some v → v.lane ≡ Some size → (1 ≤ size) × (size ≤ 1024)
   lane_size i v size there lane =
       let m = mapped_from (wire_of b.nodes.items) b.wires.items i v there in
-      let is : (m.0).lane ≡ Some size = ap (λ (w : Wire). w.lane) m.1.1 ∙ lane in
+      let is : (m.0).lane ≡ Some size = ap (λ (w : Edge). w.lane) m.1.1 ∙ lane in
       let fits : lane_fits (m.0).lane ≡ true = not_true (lane_fits (m.0).lane) (not_when (not (lane_fits (m.0).lane)) i (none_here (λ k (w : WireDecl). when (not (lane_fits w.lane)) k) b.wires.items i m.0 no_wrong_wire m.1.0)) in
       lane_within (m.0).lane size is fits
 
 -- what stands at a place of a list
-wire_there : (ws : List Wire) (n : ℕ) → n < length ws → (w : Wire) × (slice_get ws n ≡ Some w)
+wire_there : (ws : List Edge) (n : ℕ) → n < length ws → (w : Edge) × (slice_get ws n ≡ Some w)
 wire_there [] n lt = absurd (omega (arith, lt))
 wire_there (w ∷ ws) zero lt = (w, refl)
 wire_there (w ∷ ws) (suc n) lt = wire_there ws n (omega (arith, lt))
@@ -158,7 +158,7 @@ module _ {S D L B : Type 0} where
           (seats_ports (chains_of b) 0 b.nodes.items ss ds is.nodes k m.0 is.seats m.1.0).1 ∙ ap (λ (x : graph.Node). outputs_of x.kind) m.1.1;
     }
 
-    pub parts_are : (k : ℕ) (x : Parts S D L B × Room S D L B) → slice_get f.islands.items k ≡ Some x → ArePartsOf f.homes.items (blueprint_wires b) is.nodes k x.0
+    pub parts_are : (k : ℕ) (x : Parts S D L B × IslandRoom S D L B) → slice_get f.islands.items k ≡ Some x → ArePartsOf f.homes.items (blueprint_wires b) is.nodes k x.0
     parts_are k x here =
         let i = is.each k x here in
         record {

@@ -4,7 +4,7 @@ use Rattle.std.proofs.Common.{◌≡◌, ℕ, ◌+◌, ◌<◌, true, false, Lis
 use Rattle.std.proofs.lemmas.Option.{slice_get_within}
 use Rattle.stream_io.specs.State.{SourceState, DrainState}
 use Rattle.stream_model.specs.Linear.{Book}
-use Rattle.stream_model.specs.Graph.{Wire}
+use Rattle.stream_model.specs.Graph.{Edge}
 use Rattle.fused_net.specs.Net.{wire_at}
 use Rattle.interpreter.specs.Boundary.{Enters, Leaves, BeginsOut, way_in, way_out}
 use Rattle.interpreter.specs.Island.{Kept}
@@ -34,14 +34,14 @@ use Rattle.island_begins.proofs.Stages.{some_same, ComesAt, GoesAt}
 -- ---- lanes by their wires
 
 -- this is the lane of its wire
-pub record IsPlanOf (homes : List ℕ) (ws : List Wire) (l : LanePlan) : Type 0 where
-  pub wire : Wire
+pub record IsPlanOf (homes : List ℕ) (ws : List Edge) (l : LanePlan) : Type 0 where
+  pub wire : Edge
   pub is : slice_get ws l.wire ≡ Some wire
   pub lane : wire.lane ≡ Some l.size
   pub from : l.from ≡ slice_index homes wire.from
   pub to : l.to ≡ slice_index homes wire.to
 
-pub plan_of : (homes : List ℕ) (ws : List Wire) (j : ℕ) (l : LanePlan) → slice_get (lanes_from homes 0 ws) j ≡ Some l → IsPlanOf homes ws l
+pub plan_of : (homes : List ℕ) (ws : List Edge) (j : ℕ) (l : LanePlan) → slice_get (lanes_from homes 0 ws) j ≡ Some l → IsPlanOf homes ws l
 plan_of homes ws j l at =
     let lt : j < length (lanes_from homes 0 ws) = slice_get_within (lanes_from homes 0 ws) j l at in
     let many : length (lanes_from homes 0 ws) ≡ lanes_in ws = lanes_count homes 0 ws in
@@ -58,19 +58,19 @@ plan_of homes ws j l at =
     }
 
 -- an end in the list of an island is one of a lane that comes into it, or goes out of it, and was made for that lane
-pub record IsInEnd (homes : List ℕ) (ws : List Wire) (k : ℕ) (x : IslandInput) : Type 0 where
+pub record IsInEnd (homes : List ℕ) (ws : List Edge) (k : ℕ) (x : IslandInput) : Type 0 where
   pub comes : ComesInto homes ws k x.wire
   pub plan : LanePlan
   pub out : OutputBoundary
   pub ends : AreEnds plan out x
 
-pub record IsOutEnd (homes : List ℕ) (ws : List Wire) (k : ℕ) (o : OutputBoundary) : Type 0 where
+pub record IsOutEnd (homes : List ℕ) (ws : List Edge) (k : ℕ) (o : OutputBoundary) : Type 0 where
   pub goes : GoesOutOf homes ws k o.wire
   pub plan : LanePlan
   pub inp : IslandInput
   pub ends : AreEnds plan o inp
 
-module _ (homes : List ℕ) (ws : List Wire) (count : ℕ) (e : AllEnds) (a : AreAllEnds (lanes_from homes 0 ws) count e) where
+module _ (homes : List ℕ) (ws : List Edge) (count : ℕ) (e : AllEnds) (a : AreAllEnds (lanes_from homes 0 ws) count e) where
   pub in_end : (k p : ℕ) (x : IslandInput) → slice_get (items_at e.ins.items k) p ≡ Some x → IsInEnd homes ws k x
   in_end k p x at =
       let w = a.ins_lie.each k p x at in
@@ -111,7 +111,7 @@ module _ (homes : List ℕ) (ws : List Wire) (count : ℕ) (e : AllEnds) (a : Ar
 
 -- ---- where they come in and go out
 
-module _ {S D L B : Type 0} (sources : S → SourceState) (drains : D → DrainState) (book : Book) (homes : List ℕ) (count : ℕ) (ws : List Wire) (nodes : List (Seated S D L B)) (k : ℕ) (x : Parts S D L B) (i : Kept S D L B) (a : AreSeated homes count ws nodes)
+module _ {S D L B : Type 0} (sources : S → SourceState) (drains : D → DrainState) (book : Book) (homes : List ℕ) (count : ℕ) (ws : List Edge) (nodes : List (Seated S D L B)) (k : ℕ) (x : Parts S D L B) (i : Kept S D L B) (a : AreSeated homes count ws nodes)
     (nodes_are : x.nodes.items ≡ seats_in homes ws nodes k) (links_are : x.links.items ≡ links_in homes ws nodes k) (h : HasStarted sources drains book x i) where
   pub its_parts : AreParts x.nodes.items x.links.items
   its_parts =

@@ -2,7 +2,7 @@
 use Rattle.std.specs.Prelude.{slice_get, slice_index}
 use Rattle.std.proofs.Common.{◌≡◌, ℕ, zero, suc, ◌+◌, ◌<◌, List, [], ◌∷◌, length, map, take, Some, refl, sym, ap, ◌∙◌, subst, arith}
 use Rattle.stream_io.specs.State.{SourceState, DrainState}
-use Rattle.stream_model.specs.Graph.{Wire}
+use Rattle.stream_model.specs.Graph.{Edge}
 use Rattle.interpreter.specs.Boundary.{way_in, way_out}
 use Rattle.interpreter.specs.Island.{Kept}
 use Rattle.interpreter.specs.Parts.{ends_of, AllBecome}
@@ -41,7 +41,7 @@ module _ {S D L B : Type 0} where
   out_goes : (old new : Kept S D L B) (g : IslandGoes old new) (u : ℕ) → way_out new u ≡ way_out old u
   out_goes old new g u = rw g.outs refl
 
-  module _ (sources : S → SourceState) (drains : D → DrainState) (book : Book) (homes : List ℕ) (count : ℕ) (ws : List Wire) (nodes : List (Seated S D L B)) (e : AllEnds) (bodies : List (Body S D L B)) (a : AreSeated homes count ws nodes)
+  module _ (sources : S → SourceState) (drains : D → DrainState) (book : Book) (homes : List ℕ) (count : ℕ) (ws : List Edge) (nodes : List (Seated S D L B)) (e : AllEnds) (bodies : List (Body S D L B)) (a : AreSeated homes count ws nodes)
       (all : AreAllEnds (lanes_from homes 0 ws) count e) (made : AreMadeOf sources drains book homes ws nodes count e bodies) where
     pub begun : AreBegun sources drains book homes count ws nodes bodies
     begun = record {
@@ -57,7 +57,7 @@ module _ {S D L B : Type 0} where
 
     -- ---- the crossing of a lane
 
-    module _ (u : ℕ) (v : Wire) (size : ℕ) (at : slice_get ws u ≡ Some v) (lane : v.lane ≡ Some size) where
+    module _ (u : ℕ) (v : Edge) (size : ℕ) (at : slice_get ws u ≡ Some v) (lane : v.lane ≡ Some size) where
       abbrev j : ℕ
       j = lanes_in (take u ws)
 

@@ -5,7 +5,7 @@ use Rattle.std.proofs.lemmas.List.{length-map}
 use Rattle.std.proofs.lemmas.Option.{slice_get_within}
 use Rattle.stream_io.specs.State.{SourceState, DrainState}
 use Rattle.nodes.specs.Nodes.{node_row, node_law, node_asking, node_moves}
-use Rattle.fused_net.specs.declared.net.Ends.{Ends}
+use Rattle.fused_net.specs.declared.net.WireEnds.{WireEnds}
 use Rattle.fused_net.specs.Laws.{Settled}
 use Rattle.fused_net.specs.Net.{end_at, ports_at}
 use Rattle.fused_net.specs.Outside.{HasOnly}
@@ -112,7 +112,7 @@ module _ {S D L B : Type 0} where
   module _ (sources : S → SourceState) (drains : D → DrainState) (book : Book) (ps : List (Seated S D L B)) (ls : List Link) (i : Kept S D L B) (parts : AreParts ps ls) (settled : Settled node_row (node_law sources drains book) node_asking node_moves i.net) (become : AllBecome ps i.net.firsts)
       (ends : i.net.ends ≡ map ends_of ls) where
     end_is : (q : ℕ) (l : Link) → slice_get ls q ≡ Some l → end_at i.net.ends q ≡ ends_of l
-    end_is q l at = ap (λ (es : List Ends). end_at es q) ends ∙ end_get ls q l at
+    end_is q l at = ap (λ (es : List WireEnds). end_at es q) ends ∙ end_get ls q l at
 
     wiring : IsWiring (inputs_at ps) (outputs_at ps) (length ps) i.net.ends
     wiring = subst (IsWiring (inputs_at ps) (outputs_at ps) (length ps)) (sym ends) parts.wiring
@@ -133,7 +133,7 @@ module _ {S D L B : Type 0} where
         let n : ℕ = (end_at i.net.ends q).to in
         let lt : q < length i.net.ends = within q l at in
         let wired = settled.wired in
-        let node : n ≡ l.to = ap (λ (e : Ends). e.to) (end_is q l at) in
+        let node : n ≡ l.to = ap (λ (e : WireEnds). e.to) (end_is q l at) in
         let two = out_place ps l.to goes in
         let place : n < length ps = wiring.to_within q lt in
         let here : n < length i.net.nodes = omega (arith, place, node_count) in
@@ -163,13 +163,13 @@ module _ {S D L B : Type 0} where
     first_output : (u q : ℕ) (c : ComesAt ps ls i u q) → (end_at i.net.ends q).output ≡ 0
     first_output u q c =
         let few = wiring.output_within q (within q c.link c.at) in
-        let one : outputs_at ps (end_at i.net.ends q).from ≡ 1 = ap (λ (e : Ends). outputs_at ps e.from) (end_is q c.link c.at) ∙ in_place ps c.link.from c.comes in
+        let one : outputs_at ps (end_at i.net.ends q).from ≡ 1 = ap (λ (e : WireEnds). outputs_at ps e.from) (end_is q c.link c.at) ∙ in_place ps c.link.from c.comes in
         omega (arith, few, one)
 
     first_input : (u q : ℕ) (c : GoesAt ps ls i u q) → (end_at i.net.ends q).input ≡ 0
     first_input u q c =
         let few = wiring.input_within q (within q c.link c.at) in
-        let one : inputs_at ps (end_at i.net.ends q).to ≡ 1 = ap (λ (e : Ends). inputs_at ps e.to) (end_is q c.link c.at) ∙ (out_place ps c.link.to c.goes).0 in
+        let one : inputs_at ps (end_at i.net.ends q).to ≡ 1 = ap (λ (e : WireEnds). inputs_at ps e.to) (end_is q c.link c.at) ∙ (out_place ps c.link.to c.goes).0 in
         omega (arith, few, one)
 
     pub ins_one : (u v p q : ℕ) → ComesAt ps ls i u p → ComesAt ps ls i v q → in_node i u ≡ in_node i v → u ≡ v
@@ -186,8 +186,8 @@ module _ {S D L B : Type 0} where
 
     pub none_both : (u v p q : ℕ) → ComesAt ps ls i u p → GoesAt ps ls i v q → in_node i u ≡ out_node i v → ⊥
     none_both u v p q a b e =
-        let from : (end_at i.net.ends p).from ≡ a.link.from = ap (λ (x : Ends). x.from) (end_is p a.link a.at) in
-        let to : (end_at i.net.ends q).to ≡ b.link.to = ap (λ (x : Ends). x.to) (end_is q b.link b.at) in
+        let from : (end_at i.net.ends p).from ≡ a.link.from = ap (λ (x : WireEnds). x.from) (end_is p a.link a.at) in
+        let to : (end_at i.net.ends q).to ≡ b.link.to = ap (λ (x : WireEnds). x.to) (end_is q b.link b.at) in
         let same : a.link.from ≡ b.link.to = sym from ∙ (sym (in_stage u p a) ∙ (e ∙ (out_stage v q b ∙ to))) in
         one_place ps b.link.to (ap (comes_in ps) (sym same) ∙ a.comes) b.goes
 

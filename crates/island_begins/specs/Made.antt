@@ -1,7 +1,7 @@
 -- The bodies that were made of a blueprint's islands and of the ends of the lanes between them.
 use Rattle.std.specs.Prelude.{◌≡◌, ℕ, List, Some, length, slice_get}
 use Rattle.stream_io.specs.State.{SourceState, DrainState}
-use Rattle.stream_model.specs.Graph.{Wire}
+use Rattle.stream_model.specs.Graph.{Edge}
 use Rattle.interpreter.specs.Island.{Kept}
 use Rattle.interpreter.specs.declared.parts.Parts.{Parts}
 use Rattle.interpreter.specs.declared.parts.Seated.{Seated}
@@ -15,11 +15,11 @@ use Rattle.island_body.specs.declared.body.Body.{Body}
 use Rattle.stream_model.specs.Linear.{Book}
 
 -- these are the parts of island k
-pub record ArePartsOf {S D L B : Type 0} (homes : List ℕ) (ws : List Wire) (nodes : List (Seated S D L B)) (k : ℕ) (x : Parts S D L B) : Type 0 where
+pub record ArePartsOf {S D L B : Type 0} (homes : List ℕ) (ws : List Edge) (nodes : List (Seated S D L B)) (k : ℕ) (x : Parts S D L B) : Type 0 where
   pub nodes_are : x.nodes.items ≡ seats_in homes ws nodes k
   pub links_are : x.links.items ≡ links_in homes ws nodes k
 
-module _ {S D L B : Type 0} (sources : S → SourceState) (drains : D → DrainState) (book : Book) (homes : List ℕ) (ws : List Wire) (nodes : List (Seated S D L B)) where
+module _ {S D L B : Type 0} (sources : S → SourceState) (drains : D → DrainState) (book : Book) (homes : List ℕ) (ws : List Edge) (nodes : List (Seated S D L B)) where
   -- Island k had started, and this body was made of it and of those ends of lanes that are its own.
   pub record IsMadeOf (e : AllEnds) (k : ℕ) (b : Body S D L B) : Type 0 where
     pub parts : Parts S D L B

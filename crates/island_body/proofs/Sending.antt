@@ -60,12 +60,12 @@ use Rattle.stage_in.specs.contracts.logic.InLogic as fan_in
 use Rattle.stage_out.specs.contracts.logic.OutLogic as fan_out
 use Rattle.stage_boundary.specs.contracts.leaving.Leaving as leaving
 use Rattle.stage_boundary.specs.contracts.entering.Entering as entering
-use Rattle.nodes.specs.contracts.maker.Maker as maker
+use Rattle.nodes.specs.contracts.maker.ValueSource as maker
 use Rattle.nodes.specs.contracts.ignoring.IgnoreSink as ignorer
 use Rattle.nodes.specs.contracts.source.LinesSource as reading
 use Rattle.nodes.specs.contracts.sink.FileSink as writing
-use Rattle.nodes.specs.contracts.node.Node as node
-use Rattle.nodes.specs.contracts.node.NodeStage.TheImpl as node_stage
+use Rattle.nodes.specs.contracts.node.IslandNode as node
+use Rattle.nodes.specs.contracts.node.IslandNodeStage.TheImpl as node_stage
 use Rattle.stage_core.specs.declared.stage.Stage as stage
 use Rattle.port_core.specs.contracts.conn.Conn as conn
 use Rattle.wire_core.specs.contracts.wire.Wire as wire

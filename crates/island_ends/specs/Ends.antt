@@ -3,8 +3,8 @@ use Rattle.std.specs.Prelude.{◌≡◌, ◌<◌, ℕ, Bool, true, false, Option
 use Rattle.stream_model.specs.declared.outcome.EndState.{EndState}
 use Rattle.stream_model.specs.declared.outcome.WireCount.{WireCount}
 use Rattle.nodes.specs.Nodes.{node_picks, node_seat}
-use Rattle.nodes.specs.declared.node.Node.{Node}
-use Rattle.nodes.specs.declared.node.Node.TheVariants as node
+use Rattle.nodes.specs.declared.node.IslandNode.{IslandNode}
+use Rattle.nodes.specs.declared.node.IslandNode.TheVariants as node
 use Rattle.interpreter.specs.declared.island.IslandEnd.{IslandEnd}
 use Rattle.interpreter.specs.Island.{sinks_of, readers_of, writers_of}
 use Rattle.interpreter.specs.Picks.{pick_of, picks_of}
@@ -29,7 +29,7 @@ leaves None = false
 leaves (Some y) = true
 
 -- what a node leaves: how a sink ended, the source of a reader, the drain of a sink that has a file
-abbrev pub sink_of : {S D L B : Type 0} → Node S D L B → Option (ℕ × ℕ × EndState)
+abbrev pub sink_of : {S D L B : Type 0} → IslandNode S D L B → Option (ℕ × ℕ × EndState)
 sink_of (node.Reading x) = None
 sink_of (node.Making x) = None
 sink_of (node.Linear x) = None
@@ -42,7 +42,7 @@ sink_of (node.Ignoring x) = Some (x.node, 0, x.end)
 sink_of (node.Entering x) = None
 sink_of (node.Leaving x) = None
 
-abbrev pub reader_of : {S D L B : Type 0} → Node S D L B → Option S
+abbrev pub reader_of : {S D L B : Type 0} → IslandNode S D L B → Option S
 reader_of (node.Reading x) = Some x.reader.source
 reader_of (node.Making x) = None
 reader_of (node.Linear x) = None
@@ -55,7 +55,7 @@ reader_of (node.Ignoring x) = None
 reader_of (node.Entering x) = None
 reader_of (node.Leaving x) = None
 
-abbrev pub writer_of : {S D L B : Type 0} → Node S D L B → Option D
+abbrev pub writer_of : {S D L B : Type 0} → IslandNode S D L B → Option D
 writer_of (node.Reading x) = None
 writer_of (node.Making x) = None
 writer_of (node.Linear x) = None
@@ -69,7 +69,7 @@ writer_of (node.Entering x) = None
 writer_of (node.Leaving x) = None
 
 -- a stage at an end of a lane, and nodes that are such
-abbrev pub is_lane_end : {S D L B : Type 0} → Node S D L B → Bool
+abbrev pub is_lane_end : {S D L B : Type 0} → IslandNode S D L B → Bool
 is_lane_end (node.Reading x) = false
 is_lane_end (node.Making x) = false
 is_lane_end (node.Linear x) = false
@@ -82,14 +82,14 @@ is_lane_end (node.Ignoring x) = false
 is_lane_end (node.Entering x) = true
 is_lane_end (node.Leaving x) = true
 
-abbrev pub AreLaneEnds : {S D L B : Type 0} → List (Node S D L B) → Type 0
-AreLaneEnds nodes = (k : ℕ) (x : Node _ _ _ _) → slice_get nodes k ≡ Some x → is_lane_end x ≡ true
+abbrev pub AreLaneEnds : {S D L B : Type 0} → List (IslandNode S D L B) → Type 0
+AreLaneEnds nodes = (k : ℕ) (x : IslandNode _ _ _ _) → slice_get nodes k ≡ Some x → is_lane_end x ≡ true
 
 -- the nodes of all islands in order, with the island and the number of each: those of the blueprint, and behind them the ends of lanes;
 -- and the counts at the outputs of all wires in order, with the island of each
 pub record Whole (S D L B : Type 0) : Type 0 where
   pub homes : List ℕ
-  pub nodes : List (Node S D L B)
+  pub nodes : List (IslandNode S D L B)
   pub numbers : List ℕ
   pub wire_homes : List ℕ
   pub counts : List (ℕ × WireCount)

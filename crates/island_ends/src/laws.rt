@@ -3,7 +3,7 @@ ghost use Rattle.std.specs.Prelude.{◌≡◌, ◌++◌, ℕ, List, Option, None
 ghost use Rattle.interpreter.specs.Island.{sinks_of, readers_of, writers_of};
 ghost use Rattle.interpreter.specs.Picks.{picks_of};
 ghost use Rattle.interpreter.specs.Seats.{seats_of};
-ghost use Rattle.nodes.specs.declared.node.Node.{Node};
+ghost use Rattle.nodes.specs.declared.node.IslandNode.{IslandNode};
 ghost use Rattle.scatter.specs.Shares.{of_home, count_of};
 ghost use Rattle.island_ends.specs.Ends.{homes_left, leaves, AreLaneEnds};
 
@@ -14,11 +14,11 @@ use stream_io::outside::{Drain, Source};
 /// The stages at the ends of lanes leave nothing: what all places of islands leave is what the blueprint's nodes leave, which stand
 /// before them.
 pub fn lane_ends_leave_nothing<S: Source, D: Drain, L: Logic, B: PlugBook>()
-    ensures sinks { (nodes more : List (Node S D L B)) → AreLaneEnds more → sinks_of (nodes ++ more) ≡ sinks_of nodes }
-    ensures readers { (nodes more : List (Node S D L B)) → AreLaneEnds more → readers_of (nodes ++ more) ≡ readers_of nodes }
-    ensures writers { (nodes more : List (Node S D L B)) → AreLaneEnds more → writers_of (nodes ++ more) ≡ writers_of nodes }
-    ensures picks { (numbers others : List ℕ) (nodes more : List (Node S D L B)) → length numbers ≡ length nodes → AreLaneEnds more → picks_of (numbers ++ others) (nodes ++ more) ≡ picks_of numbers nodes }
-    ensures seats { (numbers others : List ℕ) (nodes more : List (Node S D L B)) → length numbers ≡ length nodes → AreLaneEnds more → seats_of (numbers ++ others) (nodes ++ more) ≡ seats_of numbers nodes }
+    ensures sinks { (nodes more : List (IslandNode S D L B)) → AreLaneEnds more → sinks_of (nodes ++ more) ≡ sinks_of nodes }
+    ensures readers { (nodes more : List (IslandNode S D L B)) → AreLaneEnds more → readers_of (nodes ++ more) ≡ readers_of nodes }
+    ensures writers { (nodes more : List (IslandNode S D L B)) → AreLaneEnds more → writers_of (nodes ++ more) ≡ writers_of nodes }
+    ensures picks { (numbers others : List ℕ) (nodes more : List (IslandNode S D L B)) → length numbers ≡ length nodes → AreLaneEnds more → picks_of (numbers ++ others) (nodes ++ more) ≡ picks_of numbers nodes }
+    ensures seats { (numbers others : List ℕ) (nodes more : List (IslandNode S D L B)) → length numbers ≡ length nodes → AreLaneEnds more → seats_of (numbers ++ others) (nodes ++ more) ≡ seats_of numbers nodes }
 {}
 
 /// The homes of what is left are known by any list of things of which each leaves something where the other does (`same`), and those

@@ -11,7 +11,7 @@ use Rattle.stage_law.specs.Held.{told}
 use Rattle.port_core.specs.Decoding.{can_push}
 use Rattle.port_core.specs.declared.view.OutView.{OutView}
 use Rattle.port_core.specs.declared.view.OutView.TheVariants as outlet
-use Rattle.wire_core.specs.Cell.{Cell, moved_by}
+use Rattle.wire_core.specs.Cell.{WireState, moved_by}
 use Rattle.wire_core.specs.Counts.{elements}
 use Rattle.wire_core.specs.Reading.{no_wire}
 use Rattle.nodes.specs.Nodes.{node_row, node_law, node_asking, node_moves, node_passive}
@@ -82,12 +82,12 @@ counts_same (item.Failed c ∷ l) = let r = counts_same l in omega (arith, r)
 
 -- ---- an item is handed on
 
-act_sent : (x : Item) (c : Cell) → (moved_by (act_of x) c).wire.sent ≡ c.wire.sent ++ x ∷ []
+act_sent : (x : Item) (c : WireState) → (moved_by (act_of x) c).wire.sent ≡ c.wire.sent ++ x ∷ []
 act_sent (item.Elem e) c = refl
 act_sent item.Ended c = refl
 act_sent (item.Failed d) c = refl
 
-act_out : (x : Item) (c : Cell) → (moved_by (act_of x) c).wire.out ≡ cond (ends x) outlet.Closed outlet.Unpulled
+act_out : (x : Item) (c : WireState) → (moved_by (act_of x) c).wire.out ≡ cond (ends x) outlet.Closed outlet.Unpulled
 act_out (item.Elem e) c = refl
 act_out item.Ended c = refl
 act_out (item.Failed d) c = refl
@@ -121,11 +121,11 @@ module _ {S D L B : Type 0} (b : InputBoundary) (i : Kept S D L B) (u : ℕ) (x 
   cell_moved = subst (λ (z : Kept S D L B). cell_in z u ≡ moved_by (act_of x) (cell_in i u)) (sym is) (get_or-set_same i.net.wires (way_in i u) (moved_by (act_of x) (cell_in i u)) no_wire h)
 
   out_moved : (cell_in new u).wire.out ≡ cond (ends x) outlet.Closed outlet.Unpulled
-  out_moved = ap (λ (c : Cell). c.wire.out) cell_moved ∙ act_out x (cell_in i u)
+  out_moved = ap (λ (c : WireState). c.wire.out) cell_moved ∙ act_out x (cell_in i u)
 
   pub handed_feeds : Feeds b i u → (c : InputBoundary) → given c ≡ given b ++ x ∷ [] → state c ≡ cond (ends x) Closed Flowing → Feeds c new u
   handed_feeds f c g s = record {
-    given_is = ap (λ (z : Cell). z.wire.sent) cell_moved ∙ act_sent x (cell_in i u) ∙ ap (λ (l : List Item). l ++ x ∷ []) f.given_is ∙ sym g;
+    given_is = ap (λ (z : WireState). z.wire.sent) cell_moved ∙ act_sent x (cell_in i u) ∙ ap (λ (l : List Item). l ++ x ∷ []) f.given_is ∙ sym g;
     flowing = λ e. subst (λ (y : OutView). y ≢ outlet.Closed) (sym out_moved) (ended_flowing (ends x) (sym s ∙ e));
     closed = λ e. out_moved ∙ ended_closed (ends x) (sym s ∙ e);
     cancelled = λ e. absurd (ended_not (ends x) (sym s ∙ e));

@@ -11,11 +11,11 @@ use Rattle.stage_law.specs.Law.{GaveAs}
 use Rattle.port_core.specs.View.{View, out_at}
 use Rattle.port_core.specs.declared.view.OutView.{OutView}
 use Rattle.port_core.specs.declared.view.OutView.TheVariants.{Available, Closed}
-use Rattle.wire_core.specs.Cell.{Cell}
+use Rattle.wire_core.specs.Cell.{WireState}
 use Rattle.wire_core.specs.Counts.{elements, asked_bit, asks}
 use Rattle.wire_core.specs.Reading.{no_wire, out_of, sent_of}
-use Rattle.nodes.specs.declared.node.Node.{Node}
-use Rattle.nodes.specs.declared.node.Node.TheVariants as node
+use Rattle.nodes.specs.declared.node.IslandNode.{IslandNode}
+use Rattle.nodes.specs.declared.node.IslandNode.TheVariants as node
 use Rattle.nodes.specs.Nodes.{node_row, node_law, node_asking, node_moves, node_passive}
 use Rattle.fused_net.specs.Net.{Net, read_all, end_at, wire_at, ports_at, view_of, took, gave}
 use Rattle.fused_net.specs.Laws.{Settled}
@@ -38,14 +38,14 @@ one_of a l (suc i) e = absurd cc
 one_item : (a l : List Item) (t : List (List Item)) (i : ℕ) → t ≡ a ∷ [] → slice_get t i ≡ Some l → (i ≡ 0) × (a ≡ l)
 one_item a l t i e at = one_of a l i (ap (λ (z : List (List Item)). slice_get z i) (sym e) ∙ at)
 
-sent_there : (wires : List Cell) (ws : List ℕ) (i w : ℕ) → slice_get ws i ≡ Some w → slice_get (read_all sent_of wires ws) i ≡ Some (get_or wires w no_wire).wire.sent
+sent_there : (wires : List WireState) (ws : List ℕ) (i w : ℕ) → slice_get ws i ≡ Some w → slice_get (read_all sent_of wires ws) i ≡ Some (get_or wires w no_wire).wire.sent
 sent_there wires [] i w e = absurd cc
 sent_there wires (x ∷ ws) zero w e = ap (λ (k : ℕ). Some (get_or wires k no_wire).wire.sent) (some_same x w e)
 sent_there wires (x ∷ ws) (suc i) w e = sent_there wires ws i w e
 
 module _ {S D L B : Type 0} (sources : S → SourceState) (drains : D → DrainState) (book : Book) where
   -- the stage's law at port i of it
-  gave_by : (x first : Node S D L B) → IsEntering first → (v : View) (t g : List (List Item)) (i : ℕ) (l : List Item) (y : OutView) → slice_get g i ≡ Some l → out_at v i ≡ y → node_law sources drains book first x v t g → Gave l y
+  gave_by : (x first : IslandNode S D L B) → IsEntering first → (v : View) (t g : List (List Item)) (i : ℕ) (l : List Item) (y : OutView) → slice_get g i ≡ Some l → out_at v i ≡ y → node_law sources drains book first x v t g → Gave l y
   gave_by (node.Entering x) (node.Entering f) h v t g i l y at out law =
       let one = one_item (told law.list law.end) l g i law.gave_is at in
       record {
@@ -75,7 +75,7 @@ module _ {S D L B : Type 0} (sources : S → SourceState) (drains : D → DrainS
   gave_by x (node.Ignoring f) h v t g i l y at out law = absurd h
   gave_by x (node.Leaving f) h v t g i l y at out law = absurd h
 
-  entering_passive : (x first : Node S D L B) → IsEntering first → (v : View) (t g : List (List Item)) → node_law sources drains book first x v t g → node_passive x ≡ true
+  entering_passive : (x first : IslandNode S D L B) → IsEntering first → (v : View) (t g : List (List Item)) → node_law sources drains book first x v t g → node_passive x ≡ true
   entering_passive (node.Entering x) (node.Entering f) h v t g law = refl
   entering_passive (node.Leaving x) (node.Entering f) h v t g law = refl
   entering_passive (node.Reading x) (node.Entering f) h v t g law = absurd law
@@ -98,7 +98,7 @@ module _ {S D L B : Type 0} (sources : S → SourceState) (drains : D → DrainS
   entering_passive x (node.Ignoring f) h v t g law = absurd h
   entering_passive x (node.Leaving f) h v t g law = absurd h
 
-  module _ (net : Net (Node S D L B)) (s : Settled node_row (node_law sources drains book) node_asking node_moves net) (q : ℕ) (h : q < length net.wires) (stage : EntersAt net q) where
+  module _ (net : Net (IslandNode S D L B)) (s : Settled node_row (node_law sources drains book) node_asking node_moves net) (q : ℕ) (h : q < length net.wires) (stage : EntersAt net q) where
     abbrev from : ℕ
     from = (end_at net.ends q).from
 

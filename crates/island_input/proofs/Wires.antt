@@ -5,7 +5,7 @@ use Rattle.elem_core.specs.declared.item.Item.{Item}
 use Rattle.elem_core.specs.declared.item.Item.TheVariants as item
 use Rattle.port_core.specs.Decoding.{can_push}
 use Rattle.port_core.specs.Joint.{Joint, idle, asking, asked, moving, ending, closing, leaving, finished, parted, refused, wire_of, IsSound, Queues}
-use Rattle.port_core.specs.Wire.{Wire}
+use Rattle.port_core.specs.Wire.{JointPorts}
 use Rattle.port_core.specs.declared.view.OutView.{OutView}
 use Rattle.port_core.specs.declared.view.OutView.TheVariants.{Unpulled, Available, Closed, Cancelled}
 use Rattle.stream_model.specs.Outlook.{End, unended, ended, failed}
@@ -26,8 +26,8 @@ push_j (finished t c) s g e = cc
 push_j (parted t c) s g e = cc
 push_j (refused t c) s g e = cc
 
-pub push_asked : (w : Wire) (q : Bool) → IsSound w q → can_push w.conn ≡ true → w.out ≡ Available
-push_asked w q h e = ap (λ (v : Wire). v.out) h.is ∙ push_j h.joint w.sent w.got (sym (ap (λ (v : Wire). can_push v.conn) h.is) ∙ e)
+pub push_asked : (w : JointPorts) (q : Bool) → IsSound w q → can_push w.conn ≡ true → w.out ≡ Available
+push_asked w q h e = ap (λ (v : JointPorts). v.out) h.is ∙ push_j h.joint w.sent w.got (sym (ap (λ (v : JointPorts). can_push v.conn) h.is) ∙ e)
 
 -- where it was asked and may not push, a cancel is on its way
 away_j : (j : Joint) (s g : List Item) → (wire_of j s g).out ≡ Available → can_push (wire_of j s g).conn ≡ false → (wire_of j s g).conn.in_closed ≡ true
@@ -43,8 +43,8 @@ away_j (finished t c) s g a e = cc
 away_j (parted t c) s g a e = cc
 away_j (refused t c) s g a e = cc
 
-pub cancel_away : (w : Wire) (q : Bool) → IsSound w q → w.out ≡ Available → can_push w.conn ≡ false → w.conn.in_closed ≡ true
-cancel_away w q h a e = ap (λ (v : Wire). v.conn.in_closed) h.is ∙ away_j h.joint w.sent w.got (sym (ap (λ (v : Wire). v.out) h.is) ∙ a) (sym (ap (λ (v : Wire). can_push v.conn) h.is) ∙ e)
+pub cancel_away : (w : JointPorts) (q : Bool) → IsSound w q → w.out ≡ Available → can_push w.conn ≡ false → w.conn.in_closed ≡ true
+cancel_away w q h a e = ap (λ (v : JointPorts). v.conn.in_closed) h.is ∙ away_j h.joint w.sent w.got (sym (ap (λ (v : JointPorts). v.out) h.is) ∙ a) (sym (ap (λ (v : JointPorts). can_push v.conn) h.is) ∙ e)
 
 -- but not where the wire has no event
 rest_j : (j : Joint) (s g : List Item) → (wire_of j s g).out ≡ Available → Queues j false → (wire_of j s g).conn.in_closed ≡ false
@@ -59,8 +59,8 @@ rest_j (finished t c) s g a e = cc
 rest_j (parted t c) s g a e = cc
 rest_j (refused t c) s g a e = cc
 
-pub rest_open : (w : Wire) → IsSound w false → w.out ≡ Available → w.conn.in_closed ≡ false
-rest_open w h a = ap (λ (v : Wire). v.conn.in_closed) h.is ∙ rest_j h.joint w.sent w.got (sym (ap (λ (v : Wire). v.out) h.is) ∙ a) h.queues
+pub rest_open : (w : JointPorts) → IsSound w false → w.out ≡ Available → w.conn.in_closed ≡ false
+rest_open w h a = ap (λ (v : JointPorts). v.conn.in_closed) h.is ∙ rest_j h.joint w.sent w.got (sym (ap (λ (v : JointPorts). v.out) h.is) ∙ a) h.queues
 
 -- an output that was closed, but not by its stage, was cancelled
 refused_j : (j : Joint) (s g : List Item) → (wire_of j s g).conn.out_closed ≡ true → ((wire_of j s g).out ≡ Closed → ⊥) → (wire_of j s g).out ≡ Cancelled
@@ -76,8 +76,8 @@ refused_j (finished t x) s g c n = absurd (n refl)
 refused_j (parted t x) s g c n = absurd (n refl)
 refused_j (refused t x) s g c n = refl
 
-pub was_refused : (w : Wire) (q : Bool) → IsSound w q → w.conn.out_closed ≡ true → (w.out ≡ Closed → ⊥) → w.out ≡ Cancelled
-was_refused w q h c n = ap (λ (v : Wire). v.out) h.is ∙ refused_j h.joint w.sent w.got (sym (ap (λ (v : Wire). v.conn.out_closed) h.is) ∙ c) (λ e. n (ap (λ (v : Wire). v.out) h.is ∙ e))
+pub was_refused : (w : JointPorts) (q : Bool) → IsSound w q → w.conn.out_closed ≡ true → (w.out ≡ Closed → ⊥) → w.out ≡ Cancelled
+was_refused w q h c n = ap (λ (v : JointPorts). v.out) h.is ∙ refused_j h.joint w.sent w.got (sym (ap (λ (v : JointPorts). v.conn.out_closed) h.is) ∙ c) (λ e. n (ap (λ (v : JointPorts). v.out) h.is ∙ e))
 
 closed_j : (j : Joint) (s g : List Item) → (wire_of j s g).out ≡ Cancelled → (wire_of j s g).conn.out_closed ≡ true
 closed_j idle s g e = cc
@@ -92,8 +92,8 @@ closed_j (finished t c) s g e = cc
 closed_j (parted t c) s g e = cc
 closed_j (refused t c) s g e = refl
 
-pub refused_closed : (w : Wire) (q : Bool) → IsSound w q → w.out ≡ Cancelled → w.conn.out_closed ≡ true
-refused_closed w q h e = ap (λ (v : Wire). v.conn.out_closed) h.is ∙ closed_j h.joint w.sent w.got (sym (ap (λ (v : Wire). v.out) h.is) ∙ e)
+pub refused_closed : (w : JointPorts) (q : Bool) → IsSound w q → w.out ≡ Cancelled → w.conn.out_closed ≡ true
+refused_closed w q h e = ap (λ (v : JointPorts). v.conn.out_closed) h.is ∙ closed_j h.joint w.sent w.got (sym (ap (λ (v : JointPorts). v.out) h.is) ∙ e)
 
 -- ---- a history and its end
 

@@ -8,7 +8,7 @@ use Rattle.interpreter.specs.declared.parts.Link.{Link}
 use Rattle.interpreter.specs.declared.parts.Parts.{Parts}
 use Rattle.interpreter.specs.declared.parts.Place.{Place}
 use Rattle.interpreter.specs.declared.parts.Seated.{Seated}
-use Rattle.interpreter.specs.declared.room.Room.{Room}
+use Rattle.interpreter.specs.declared.room.IslandRoom.{IslandRoom}
 use Rattle.scatter.specs.Shares.{of_home, items_in, items_at, AreShares}
 use Rattle.island_parts.specs.Split.{IsSpace, AreSpaces, IsPart, AreJoined, AreIslands}
 use Rattle.island_parts.specs.declared.spaces.Space.{Space}
@@ -72,14 +72,14 @@ module _ {S D L B : Type 0} (places : List (Vec Place Global)) (all : List (Vec 
 -- ---- islands
 
 module _ {S D L B : Type 0} (all_spaces : List (Space S D L B)) (lists : List (Vec (Seated S D L B) Global)) where
-  pub record Parting (rest : List (Vec (Seated S D L B) Global)) (spaces : List (Space S D L B)) (islands : List (Parts S D L B × Room S D L B)) : Type 0 where
+  pub record Parting (rest : List (Vec (Seated S D L B) Global)) (spaces : List (Space S D L B)) (islands : List (Parts S D L B × IslandRoom S D L B)) : Type 0 where
     pub left : rest ≡ drop (length islands) lists
     pub spaces_left : spaces ≡ drop (length islands) all_spaces
     pub within : length islands + length rest ≡ length lists
     pub spaces_within : length rest ≡ length spaces
-    pub each : (k : ℕ) (x : Parts S D L B × Room S D L B) → slice_get islands k ≡ Some x → IsPart lists all_spaces k x
+    pub each : (k : ℕ) (x : Parts S D L B × IslandRoom S D L B) → slice_get islands k ≡ Some x → IsPart lists all_spaces k x
 
-  pub parting_first : (rest : List (Vec (Seated S D L B) Global)) (spaces : List (Space S D L B)) (islands : List (Parts S D L B × Room S D L B)) → rest ≡ lists → spaces ≡ all_spaces → length lists ≡ length all_spaces → islands ≡ [] → Parting rest spaces islands
+  pub parting_first : (rest : List (Vec (Seated S D L B) Global)) (spaces : List (Space S D L B)) (islands : List (Parts S D L B × IslandRoom S D L B)) → rest ≡ lists → spaces ≡ all_spaces → length lists ≡ length all_spaces → islands ≡ [] → Parting rest spaces islands
   parting_first rest spaces islands a b c e = record {
     left = a ∙ ap (λ m. drop m lists) (sym none);
     spaces_left = b ∙ ap (λ m. drop m all_spaces) (sym none);
@@ -91,10 +91,10 @@ module _ {S D L B : Type 0} (all_spaces : List (Space S D L B)) (lists : List (V
       none : length islands ≡ 0
       none = ap length e
 
-      nothing : (k : ℕ) (x : Parts S D L B × Room S D L B) → slice_get {X = Parts S D L B × Room S D L B} [] k ≡ Some x → IsPart lists all_spaces k x
+      nothing : (k : ℕ) (x : Parts S D L B × IslandRoom S D L B) → slice_get {X = Parts S D L B × IslandRoom S D L B} [] k ≡ Some x → IsPart lists all_spaces k x
       nothing k x at = cc
 
-  pub parting_next : (rest later : List (Vec (Seated S D L B) Global)) (nodes : Vec (Seated S D L B) Global) (spaces fewer : List (Space S D L B)) (s : Space S D L B) (islands new : List (Parts S D L B × Room S D L B)) (x : Parts S D L B × Room S D L B) → Parting rest spaces islands → rest ≡ nodes ∷ later
+  pub parting_next : (rest later : List (Vec (Seated S D L B) Global)) (nodes : Vec (Seated S D L B) Global) (spaces fewer : List (Space S D L B)) (s : Space S D L B) (islands new : List (Parts S D L B × IslandRoom S D L B)) (x : Parts S D L B × IslandRoom S D L B) → Parting rest spaces islands → rest ≡ nodes ∷ later
       → spaces ≡ s ∷ fewer → new ≡ islands ++ x ∷ [] → x.0.nodes.items ≡ nodes.items → x.0.links.items ≡ s.links.items → x.1 ≡ s.room → Parting later fewer new
   parting_next rest later nodes spaces fewer s islands new x a e f more here links room =
       let next = next_of lists (length islands) nodes later (sym a.left ∙ e) in
@@ -110,14 +110,14 @@ module _ {S D L B : Type 0} (all_spaces : List (Space S D L B)) (lists : List (V
         each = pushed (IsPart lists all_spaces) islands new x more a.each (record { nodes_are = here ∙ sym (ap items_in next.0); space = s; space_at = space.0; links_are = links; room_is = room });
       }
 
-  pub parting_some : (rest later : List (Vec (Seated S D L B) Global)) (nodes : Vec (Seated S D L B) Global) (spaces : List (Space S D L B)) (islands : List (Parts S D L B × Room S D L B)) → Parting rest spaces islands → rest ≡ nodes ∷ later → 0 < length spaces
+  pub parting_some : (rest later : List (Vec (Seated S D L B) Global)) (nodes : Vec (Seated S D L B) Global) (spaces : List (Space S D L B)) (islands : List (Parts S D L B × IslandRoom S D L B)) → Parting rest spaces islands → rest ≡ nodes ∷ later → 0 < length spaces
   parting_some rest later nodes spaces islands a e = let size : length rest ≡ suc (length later) = ap length e in omega (arith, size, a.spaces_within)
 
-  pub parting_last : (rest : List (Vec (Seated S D L B) Global)) (spaces : List (Space S D L B)) (islands : List (Parts S D L B × Room S D L B)) → length lists ≡ length all_spaces → Parting rest spaces islands → rest ≡ [] → AreJoined lists all_spaces islands
+  pub parting_last : (rest : List (Vec (Seated S D L B) Global)) (spaces : List (Space S D L B)) (islands : List (Parts S D L B × IslandRoom S D L B)) → length lists ≡ length all_spaces → Parting rest spaces islands → rest ≡ [] → AreJoined lists all_spaces islands
   parting_last rest spaces islands many a e = record { many = let none : length rest ≡ 0 = ap length e in omega (arith, a.within, none, many); each = a.each }
 
 -- the islands of a split by the shares of what stands at all places
-pub islands_are : {S D L B : Type 0} (split : Split S D L B) (homes : List ℕ) (seats : List (Seated S D L B)) (lists : List (Vec (Seated S D L B) Global)) (islands : List (Parts S D L B × Room S D L B)) → homes ≡ split.homes.items → AreShares homes seats lists → AreJoined lists split.spaces.items islands → AreIslands split seats islands
+pub islands_are : {S D L B : Type 0} (split : Split S D L B) (homes : List ℕ) (seats : List (Seated S D L B)) (lists : List (Vec (Seated S D L B) Global)) (islands : List (Parts S D L B × IslandRoom S D L B)) → homes ≡ split.homes.items → AreShares homes seats lists → AreJoined lists split.spaces.items islands → AreIslands split seats islands
 islands_are split homes seats lists islands same shares a = record {
   many = a.many;
   each = λ k x at.

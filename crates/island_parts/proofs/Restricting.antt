@@ -5,7 +5,7 @@ use Rattle.std.specs.Option.{option_map}
 use Rattle.std.proofs.lemmas.Bool.{cases_Bool, eq-eqb}
 use Rattle.std.proofs.lemmas.List.{length-map}
 use Rattle.std.proofs.lemmas.Option.{slice_get_within, slice_get-map, slice_get-get_or, get_or_from_slice_get}
-use Rattle.fused_net.specs.declared.net.Ends.{Ends}
+use Rattle.fused_net.specs.declared.net.WireEnds.{WireEnds}
 use Rattle.fused_net.specs.Net.{end_at}
 use Rattle.interpreter.specs.declared.parts.Link.{Link}
 use Rattle.interpreter.specs.declared.parts.Seated.{Seated}
@@ -113,10 +113,10 @@ module _ (homes : List ℕ) (links : List Link) (k : ℕ) where
     in_all p l at = let e : length (map ends_of links) ≡ length links = length-map links ends_of in let lt : p < length links = slice_get_within links p l at in omega (arith, lt, e)
 
     pub from_there : (p : ℕ) (l : Link) → slice_get links p ≡ Some l → l.from < length homes
-    from_there p l at = subst (λ (e : Ends). e.from < length homes) (end_get links p l at) (wiring.from_within p (in_all p l at))
+    from_there p l at = subst (λ (e : WireEnds). e.from < length homes) (end_get links p l at) (wiring.from_within p (in_all p l at))
 
     pub to_there : (p : ℕ) (l : Link) → slice_get links p ≡ Some l → l.to < length homes
-    to_there p l at = subst (λ (e : Ends). e.to < length homes) (end_get links p l at) (wiring.to_within p (in_all p l at))
+    to_there p l at = subst (λ (e : WireEnds). e.to < length homes) (end_get links p l at) (wiring.to_within p (in_all p l at))
 
     from_home : (q : ℕ) (l : Link) (m : IsMine q l) → slice_get homes m.link.from ≡ Some k
     from_home q l m = home_at homes m.link.from k (from_there m.at m.link m.is) m.home
@@ -146,7 +146,7 @@ module _ (homes : List ℕ) (links : List Link) (k : ℕ) where
         let a = end_get links x.at x.link x.is in
         let b = end_get links y.at y.link y.is in
         same_place q r l n x y
-        (wiring.one_output x.at y.at (in_all x.at x.link x.is) (in_all y.at y.link y.is) (ap (λ (z : Ends). z.from) a ∙ from ∙ sym (ap (λ (z : Ends). z.from) b)) (ap (λ (z : Ends). z.output) a ∙ output ∙ sym (ap (λ (z : Ends). z.output) b)))
+        (wiring.one_output x.at y.at (in_all x.at x.link x.is) (in_all y.at y.link y.is) (ap (λ (z : WireEnds). z.from) a ∙ from ∙ sym (ap (λ (z : WireEnds). z.from) b)) (ap (λ (z : WireEnds). z.output) a ∙ output ∙ sym (ap (λ (z : WireEnds). z.output) b)))
 
     one_in : (q r : ℕ) (l n : Link) → IsMine q l → IsMine r n → l.to ≡ n.to → l.input ≡ n.input → q ≡ r
     one_in q r l n x y e o =
@@ -155,7 +155,7 @@ module _ (homes : List ℕ) (links : List Link) (k : ℕ) where
         let a = end_get links x.at x.link x.is in
         let b = end_get links y.at y.link y.is in
         same_place q r l n x y
-        (wiring.one_input x.at y.at (in_all x.at x.link x.is) (in_all y.at y.link y.is) (ap (λ (z : Ends). z.to) a ∙ to ∙ sym (ap (λ (z : Ends). z.to) b)) (ap (λ (z : Ends). z.input) a ∙ input ∙ sym (ap (λ (z : Ends). z.input) b)))
+        (wiring.one_input x.at y.at (in_all x.at x.link x.is) (in_all y.at y.link y.is) (ap (λ (z : WireEnds). z.to) a ∙ to ∙ sym (ap (λ (z : WireEnds). z.to) b)) (ap (λ (z : WireEnds). z.input) a ∙ input ∙ sym (ap (λ (z : WireEnds). z.input) b)))
 
     link_at : (q : ℕ) → q < length (map ends_of mine) → (l : Link) × ((end_at (map ends_of mine) q ≡ ends_of l) × IsMine q l)
     link_at q lt =
@@ -166,19 +166,19 @@ module _ (homes : List ℕ) (links : List Link) (k : ℕ) where
     in_mine : (q : ℕ) (l : Link) → slice_get mine q ≡ Some l → q < length (map ends_of mine)
     in_mine q l at = let e : length (map ends_of mine) ≡ length mine = length-map mine ends_of in let lt : q < length mine = slice_get_within mine q l at in omega (arith, lt, e)
 
-    by_link : (P : Ends → Type 0) (q : ℕ) (lt : q < length (map ends_of mine)) → ((l : Link) → IsMine q l → P (ends_of l)) → P (end_at (map ends_of mine) q)
+    by_link : (P : WireEnds → Type 0) (q : ℕ) (lt : q < length (map ends_of mine)) → ((l : Link) → IsMine q l → P (ends_of l)) → P (end_at (map ends_of mine) q)
     by_link P q lt h = let l = link_at q lt in subst P (sym l.1.0) (h l.0 l.1.1)
 
     module _ (ins_are : (i : ℕ) → slice_get homes i ≡ Some k → mine_ins (count_of k (take i homes)) ≡ ins i) (outs_are : (i : ℕ) → slice_get homes i ≡ Some k → mine_outs (count_of k (take i homes)) ≡ outs i) where
       output_ok : (q : ℕ) (l : Link) → IsMine q l → l.output < mine_outs l.from
       output_ok q l m =
-          let a = subst (λ (e : Ends). e.output < outs e.from) (end_get links m.at m.link m.is) (wiring.output_within m.at (in_all m.at m.link m.is)) in
+          let a = subst (λ (e : WireEnds). e.output < outs e.from) (end_get links m.at m.link m.is) (wiring.output_within m.at (in_all m.at m.link m.is)) in
           let b : mine_outs l.from ≡ outs m.link.from = ap mine_outs (from_rank q l m) ∙ outs_are m.link.from (from_home q l m) in
           omega (arith, a, b, output_same q l m)
 
       input_ok : (q : ℕ) (l : Link) → IsMine q l → l.input < mine_ins l.to
       input_ok q l m =
-          let a = subst (λ (e : Ends). e.input < ins e.to) (end_get links m.at m.link m.is) (wiring.input_within m.at (in_all m.at m.link m.is)) in
+          let a = subst (λ (e : WireEnds). e.input < ins e.to) (end_get links m.at m.link m.is) (wiring.input_within m.at (in_all m.at m.link m.is)) in
           let b : mine_ins l.to ≡ ins m.link.to = ap mine_ins (to_rank q l m) ∙ ins_are m.link.to (to_home q l m) in
           omega (arith, a, b, input_same q l m)
 
@@ -190,11 +190,11 @@ module _ (homes : List ℕ) (links : List Link) (k : ℕ) where
           let e : length (map ends_of links) ≡ length links = length-map links ends_of in
           let l = there links w.0 (omega (arith, w.1.0, e)) in
           let ends = end_get links w.0 l.0 l.1 in
-          let from : l.0.from ≡ i.0 = sym (ap (λ (z : Ends). z.from) ends) ∙ w.1.1.0 in
+          let from : l.0.from ≡ i.0 = sym (ap (λ (z : WireEnds). z.from) ends) ∙ w.1.1.0 in
           let home : slice_index homes l.0.from ≡ k = ap (slice_index homes) from ∙ get_or_from_slice_get homes i.0 k 0 i.1.0 in
           let at = mine_at w.0 l.0 l.1 home in
           let is = end_get mine _ _ at in
-          (_, (in_mine _ _ at, (ap (λ (z : Ends). z.from) is ∙ rank_is homes l.0.from k home ∙ ap (λ a. count_of k (take a homes)) from ∙ i.1.1, ap (λ (z : Ends). z.output) is ∙ sym (ap (λ (z : Ends). z.output) ends) ∙ w.1.1.1)))
+          (_, (in_mine _ _ at, (ap (λ (z : WireEnds). z.from) is ∙ rank_is homes l.0.from k home ∙ ap (λ a. count_of k (take a homes)) from ∙ i.1.1, ap (λ (z : WireEnds). z.output) is ∙ sym (ap (λ (z : WireEnds). z.output) ends) ∙ w.1.1.1)))
 
       an_input : (x j : ℕ) → x < count_of k homes → j < mine_ins x → (q : ℕ) × ((q < length (map ends_of mine)) × (((end_at (map ends_of mine) q).to ≡ x) × ((end_at (map ends_of mine) q).input ≡ j)))
       an_input x j lt port =
@@ -204,11 +204,11 @@ module _ (homes : List ℕ) (links : List Link) (k : ℕ) where
           let e : length (map ends_of links) ≡ length links = length-map links ends_of in
           let l = there links w.0 (omega (arith, w.1.0, e)) in
           let ends = end_get links w.0 l.0 l.1 in
-          let to : l.0.to ≡ i.0 = sym (ap (λ (z : Ends). z.to) ends) ∙ w.1.1.0 in
+          let to : l.0.to ≡ i.0 = sym (ap (λ (z : WireEnds). z.to) ends) ∙ w.1.1.0 in
           let home : slice_index homes l.0.to ≡ k = ap (slice_index homes) to ∙ get_or_from_slice_get homes i.0 k 0 i.1.0 in
           let at = mine_at w.0 l.0 l.1 (same w.0 l.0 l.1 ∙ home) in
           let is = end_get mine _ _ at in
-          (_, (in_mine _ _ at, (ap (λ (z : Ends). z.to) is ∙ rank_is homes l.0.to k home ∙ ap (λ a. count_of k (take a homes)) to ∙ i.1.1, ap (λ (z : Ends). z.input) is ∙ sym (ap (λ (z : Ends). z.input) ends) ∙ w.1.1.1)))
+          (_, (in_mine _ _ at, (ap (λ (z : WireEnds). z.to) is ∙ rank_is homes l.0.to k home ∙ ap (λ a. count_of k (take a homes)) to ∙ i.1.1, ap (λ (z : WireEnds). z.input) is ∙ sym (ap (λ (z : WireEnds). z.input) ends) ∙ w.1.1.1)))
 
       pub restricted : IsWiring mine_ins mine_outs (count_of k homes) (map ends_of mine)
       restricted = record {
@@ -219,11 +219,11 @@ module _ (homes : List ℕ) (links : List Link) (k : ℕ) where
         one_output = λ q r lq lr e o.
             let l = link_at q lq in
             let n = link_at r lr in
-            one_out q r l.0 n.0 l.1.1 n.1.1 (sym (ap (λ (z : Ends). z.from) l.1.0) ∙ e ∙ ap (λ (z : Ends). z.from) n.1.0) (sym (ap (λ (z : Ends). z.output) l.1.0) ∙ o ∙ ap (λ (z : Ends). z.output) n.1.0);
+            one_out q r l.0 n.0 l.1.1 n.1.1 (sym (ap (λ (z : WireEnds). z.from) l.1.0) ∙ e ∙ ap (λ (z : WireEnds). z.from) n.1.0) (sym (ap (λ (z : WireEnds). z.output) l.1.0) ∙ o ∙ ap (λ (z : WireEnds). z.output) n.1.0);
         one_input = λ q r lq lr e o.
             let l = link_at q lq in
             let n = link_at r lr in
-            one_in q r l.0 n.0 l.1.1 n.1.1 (sym (ap (λ (z : Ends). z.to) l.1.0) ∙ e ∙ ap (λ (z : Ends). z.to) n.1.0) (sym (ap (λ (z : Ends). z.input) l.1.0) ∙ o ∙ ap (λ (z : Ends). z.input) n.1.0);
+            one_in q r l.0 n.0 l.1.1 n.1.1 (sym (ap (λ (z : WireEnds). z.to) l.1.0) ∙ e ∙ ap (λ (z : WireEnds). z.to) n.1.0) (sym (ap (λ (z : WireEnds). z.input) l.1.0) ∙ o ∙ ap (λ (z : WireEnds). z.input) n.1.0);
         each_output = an_output;
         each_input = an_input;
       }

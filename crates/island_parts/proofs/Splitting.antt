@@ -8,8 +8,8 @@ use Rattle.std.specs.declared.alloc.Global.{Global}
 use Rattle.std.proofs.lemmas.List.{length-map}
 use Rattle.std.proofs.lemmas.List.Elements.{All-get_or, All-from_get_or}
 use Rattle.std.proofs.lemmas.Option.{slice_get-get_or, slice_get-map}
-use Rattle.stream_model.specs.Graph.{Wire}
-use Rattle.blue_names.specs.declared.links.Link.{Link as WireLink}
+use Rattle.stream_model.specs.Graph.{Edge}
+use Rattle.blue_names.specs.declared.links.NumberedWire.{NumberedWire}
 use Rattle.blue_names.specs.Links.{AreInRange, wire_of_link, wires_of_links}
 use Rattle.interpreter.specs.declared.parts.Link.{Link}
 use Rattle.traversal.specs.declared.plan.LanePlan.{LanePlan}
@@ -23,22 +23,22 @@ use Rattle.island_parts.proofs.Restricting.{from_map}
 use Rattle.island_parts.proofs.Wholes.{homes_count, node_home, entry_home, exit_home}
 
 -- the ends of each wire are nodes
-pub in_range : (n : ℕ) (ls : List WireLink) (i : ℕ) (v : Wire) → AreInRange n ls → slice_get (wires_of_links ls) i ≡ Some v → (v.from < n) × (v.to < n)
+pub in_range : (n : ℕ) (ls : List NumberedWire) (i : ℕ) (v : Edge) → AreInRange n ls → slice_get (wires_of_links ls) i ≡ Some v → (v.from < n) × (v.to < n)
 in_range n ls i v range at =
     let x = from_map wire_of_link ls i v at in
-    let l : WireLink = x.0 in
+    let l : NumberedWire = x.0 in
     let both = All-get ls i l x.1.0 range in
-    subst (λ (w : Wire). (w.from < n) × (w.to < n)) x.1.1 both
+    subst (λ (w : Edge). (w.from < n) × (w.to < n)) x.1.1 both
   where
-    All-get : (us : List WireLink) (k : ℕ) (u : WireLink) → slice_get us k ≡ Some u → All (λ (w : WireLink). (w.from < n) × (w.to < n)) us → (u.from < n) × (u.to < n)
-    All-get us k u at all = let e = get_is us k u at in subst (λ (w : WireLink). (w.from < n) × (w.to < n)) e.1 (All-get_or (λ (w : WireLink). (w.from < n) × (w.to < n)) us k u e.0 all)
+    All-get : (us : List NumberedWire) (k : ℕ) (u : NumberedWire) → slice_get us k ≡ Some u → All (λ (w : NumberedWire). (w.from < n) × (w.to < n)) us → (u.from < n) × (u.to < n)
+    All-get us k u at all = let e = get_is us k u at in subst (λ (w : NumberedWire). (w.from < n) × (w.to < n)) e.1 (All-get_or (λ (w : NumberedWire). (w.from < n) × (w.to < n)) us k u e.0 all)
       where
-        get_is : (xs : List WireLink) (j : ℕ) (x : WireLink) → slice_get xs j ≡ Some x → (j < length xs) × (get_or xs j u ≡ x)
+        get_is : (xs : List NumberedWire) (j : ℕ) (x : NumberedWire) → slice_get xs j ≡ Some x → (j < length xs) × (get_or xs j u ≡ x)
         get_is [] j x a = cc
         get_is (y ∷ ys) zero x a = (omega arith, cc)
         get_is (y ∷ ys) (suc j) x a = let r = get_is ys j x a in (omega (arith, r.0), r.1)
 
-module _ (n : ℕ) (ws : List Wire) (from_node : (i : ℕ) (v : Wire) → slice_get ws i ≡ Some v → v.from < n) (to_node : (i : ℕ) (v : Wire) → slice_get ws i ≡ Some v → v.to < n) where
+module _ (n : ℕ) (ws : List Edge) (from_node : (i : ℕ) (v : Edge) → slice_get ws i ≡ Some v → v.from < n) (to_node : (i : ℕ) (v : Edge) → slice_get ws i ≡ Some v → v.to < n) where
   pub ends_within : (p : ℕ) (l : Link) → slice_get (whole_links n ws) p ≡ Some l → (l.from < n + lanes_in ws + lanes_in ws) × (l.to < n + lanes_in ws + lanes_in ws)
   ends_within p l at = (
     ⊎_elim
@@ -103,7 +103,7 @@ local_same homes ranks counts count (l ∷ ls) are within =
     ap (λ i. record { wire = l.wire; from = i; output = l.output; to = slice_index ranks l.to; input = l.input }) from ∙ ap (λ i. record { wire = l.wire; from = rank_of homes l.from; output = l.output; to = i; input = l.input }) to in
     ap (λ (m : Link). m ∷ map (at_ranks ranks) ls) here ∙ ap (λ (ms : List Link). local_link homes l ∷ ms) (local_same homes ranks counts count ls are (λ p m at. within (suc p) m at))
 
-pub links_whole : (ws : List Wire) (links : List Link) (n big outs m : ℕ) → links ≡ nears_from outs 0 ws ++ fars_from n 0 ws → outs ≡ n + m → m ≡ lanes_in ws → n ≡ big → links ≡ whole_links big ws
+pub links_whole : (ws : List Edge) (links : List Link) (n big outs m : ℕ) → links ≡ nears_from outs 0 ws ++ fars_from n 0 ws → outs ≡ n + m → m ≡ lanes_in ws → n ≡ big → links ≡ whole_links big ws
 links_whole ws links n big outs m is e f g = is ∙ ap (λ o. nears_from o 0 ws ++ fars_from n 0 ws) (e ∙ ap (λ k. n + k) f) ∙ ap (λ k. whole_links k ws) g
 
 -- lists with room for so many of each home
@@ -128,7 +128,7 @@ few_each homes items lists a few k =
     let most = count_within k homes in
     omega (arith, size, most, a.each, few)
 
-module _ (wires : List WireLink) (n : ℕ) (homes : List ℕ) (count : ℕ) (lanes : List LanePlan) (range : AreInRange n wires) (each : length homes ≡ n) (below : All (λ h. h < count) homes) (lanes_are : lanes ≡ lanes_from homes 0 (wires_of_links wires))
+module _ (wires : List NumberedWire) (n : ℕ) (homes : List ℕ) (count : ℕ) (lanes : List LanePlan) (range : AreInRange n wires) (each : length homes ≡ n) (below : All (λ h. h < count) homes) (lanes_are : lanes ≡ lanes_from homes 0 (wires_of_links wires))
     (all : List ℕ) (are : all ≡ whole_homes homes lanes) where
   pub all_is : all ≡ whole_homes homes (lanes_from homes 0 (wires_of_links wires))
   all_is = are ∙ ap (whole_homes homes) lanes_are

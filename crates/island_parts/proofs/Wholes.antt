@@ -4,8 +4,8 @@ use Rattle.std.specs.Prelude.{slice_get, slice_index}
 use Rattle.std.specs.Option.{option_map}
 use Rattle.std.proofs.lemmas.List.{length-map}
 use Rattle.std.proofs.lemmas.Option.{slice_get_within, slice_get-map, get_or_from_slice_get}
-use Rattle.stream_model.specs.Graph.{Wire}
-use Rattle.fused_net.specs.declared.net.Ends.{Ends}
+use Rattle.stream_model.specs.Graph.{Edge}
+use Rattle.fused_net.specs.declared.net.WireEnds.{WireEnds}
 use Rattle.fused_net.specs.Net.{end_at}
 use Rattle.interpreter.specs.declared.parts.Link.{Link}
 use Rattle.interpreter.specs.declared.parts.Seated.{Seated}
@@ -75,7 +75,7 @@ unused_whole {S = S} {D = D} {L = L} {B = B} nodes lanes a = unused_both nodes (
     outs (l ∷ ls) = (tt, outs ls)
 
 -- the islands of all places
-module _ (homes : List ℕ) (ws : List Wire) (n : ℕ) (each_home : length homes ≡ n) where
+module _ (homes : List ℕ) (ws : List Edge) (n : ℕ) (each_home : length homes ≡ n) where
   abbrev pub lanes : List LanePlan
   lanes = lanes_from homes 0 ws
 
@@ -110,8 +110,8 @@ module _ (homes : List ℕ) (ws : List Wire) (n : ℕ) (each_home : length homes
   pub exit_home : (k j : ℕ) (x : IsLane ws j) → k ≡ n + lanes_in ws + j → slice_index all_homes k ≡ slice_index homes x.wire.from
   exit_home k j x e = get_or_from_slice_get all_homes k _ 0 (three_third homes (λ (l : LanePlan). l.to) (λ (l : LanePlan). l.from) lanes k j _ (omega (arith, e, each_home, many)) (plan_at j x))
 
-module _ {S D L B : Type 0} (homes : List ℕ) (ws : List Wire) (nodes : List (Seated S D L B)) (n : ℕ) (size : length nodes ≡ n) (each_home : length homes ≡ n)
-    (from_node : (i : ℕ) (v : Wire) → slice_get ws i ≡ Some v → v.from < n) (to_node : (i : ℕ) (v : Wire) → slice_get ws i ≡ Some v → v.to < n) where
+module _ {S D L B : Type 0} (homes : List ℕ) (ws : List Edge) (nodes : List (Seated S D L B)) (n : ℕ) (size : length nodes ≡ n) (each_home : length homes ≡ n)
+    (from_node : (i : ℕ) (v : Edge) → slice_get ws i ≡ Some v → v.from < n) (to_node : (i : ℕ) (v : Edge) → slice_get ws i ≡ Some v → v.to < n) where
   abbrev seats : List (Seated S D L B)
   seats = whole_seats nodes (lanes_from homes 0 ws)
 
@@ -144,7 +144,7 @@ module _ {S D L B : Type 0} (homes : List ℕ) (ws : List Wire) (nodes : List (S
       let l = a_plan homes ws n each_home j lt in
       (inputs_by seats (n + lanes_in ws + j) _ (exit_seat (n + lanes_in ws + j) j l.0 refl l.1), outputs_by seats (n + lanes_in ws + j) _ (exit_seat (n + lanes_in ws + j) j l.0 refl l.1))
 
-  module _ (inside : (i : ℕ) (w : Wire) → slice_get ws i ≡ Some w → w.lane ≡ None → slice_index homes w.from ≡ slice_index homes w.to) where
+  module _ (inside : (i : ℕ) (w : Edge) → slice_get ws i ≡ Some w → w.lane ≡ None → slice_index homes w.from ≡ slice_index homes w.to) where
     -- a link at the output of a node which leads into the input of one is no lane
     fused_same : (p : ℕ) (l : Link) (o : AtOutput n ws p l) (x : AtInput n ws p l) → slice_index homes o.wire.from ≡ slice_index homes x.wire.to
     fused_same p l o x = by x.wire.lane refl
@@ -153,7 +153,7 @@ module _ {S D L B : Type 0} (homes : List ℕ) (ws : List Wire) (nodes : List (S
         by None e =
             let place : p ≡ x.at = x.place ∙ ap (into (length ws) (lanes_in (take x.at ws)) x.at) e in
             let same = same_wire ws p x.at o.wire x.wire place o.is x.is in
-            ap (λ (w : Wire). slice_index homes w.from) same ∙ inside x.at x.wire x.is e
+            ap (λ (w : Edge). slice_index homes w.from) same ∙ inside x.at x.wire x.is e
         by (Some s) e =
             let place : p ≡ length ws + lanes_in (take x.at ws) = x.place ∙ ap (into (length ws) (lanes_in (take x.at ws)) x.at) e in
             let lt = slice_get_within ws p o.wire o.is in
@@ -169,7 +169,7 @@ module _ {S D L B : Type 0} (homes : List ℕ) (ws : List Wire) (nodes : List (S
         (λ (x : AtExit n ws p l).
         let same = same_wire ws p p o.wire x.wire refl o.is x.is in
         let lane : IsLane ws (lanes_in (take p ws)) = record { at = p; wire = x.wire; size = x.size; is = x.is; lane = x.lane; number = refl } in
-        from ∙ ap (λ (w : Wire). slice_index homes w.from) same ∙ sym (exit_home homes ws n each_home l.to (lanes_in (take p ws)) lane x.to))
+        from ∙ ap (λ (w : Edge). slice_index homes w.from) same ∙ sym (exit_home homes ws n each_home l.to (lanes_in (take p ws)) lane x.to))
         (in_side n ws p l at))
         (λ (e : AtEntry n ws p l).
         let from : l.from ≡ n + e.j = ap (λ (k : Link). k.from) e.is in
@@ -218,7 +218,7 @@ module _ {S D L B : Type 0} (homes : List ℕ) (ws : List Wire) (nodes : List (S
             sym x.number ∙ e ∙ y.number;
       }
 
-      pub all_parts : (ends : List Ends) → IsWiring (inputs_at nodes) (outputs_at nodes) n ends → length ends ≡ length ws → ((i : ℕ) (v : Wire) → slice_get ws i ≡ Some v → end_at ends i ≡ plain_ends v) → AllUnused nodes → length (whole_links n ws) < 2 ^ 32
+      pub all_parts : (ends : List WireEnds) → IsWiring (inputs_at nodes) (outputs_at nodes) n ends → length ends ≡ length ws → ((i : ℕ) (v : Edge) → slice_get ws i ≡ Some v → end_at ends i ≡ plain_ends v) → AllUnused nodes → length (whole_links n ws) < 2 ^ 32
           → (k : ℕ) → AreParts (of_home (whole_homes homes (lanes_from homes 0 ws)) k seats) (mine (whole_homes homes (lanes_from homes 0 ws)) (whole_links n ws) k)
       all_parts ends plain long each unused few k =
           let wiring : IsWiring (inputs_at seats) (outputs_at seats) (n + lanes_in ws + lanes_in ws) (map ends_of (whole_links n ws)) =

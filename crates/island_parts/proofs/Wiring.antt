@@ -5,8 +5,8 @@ use Rattle.std.specs.Prelude.{slice_get}
 use Rattle.std.specs.Option.{option_map}
 use Rattle.std.proofs.lemmas.List.{length-map}
 use Rattle.std.proofs.lemmas.Option.{slice_get_within, slice_get-map, get_or_from_slice_get}
-use Rattle.stream_model.specs.Graph.{Wire}
-use Rattle.fused_net.specs.declared.net.Ends.{Ends}
+use Rattle.stream_model.specs.Graph.{Edge}
+use Rattle.fused_net.specs.declared.net.WireEnds.{WireEnds}
 use Rattle.fused_net.specs.Net.{end_at, no_ends}
 use Rattle.interpreter.specs.declared.parts.Link.{Link}
 use Rattle.interpreter.specs.Parts.{ends_of, IsWiring}
@@ -33,11 +33,11 @@ there (x ∷ xs) (suc i) lt = there xs i (omega (arith, lt))
 pub end_get : (ls : List Link) (p : ℕ) (l : Link) → slice_get ls p ≡ Some l → end_at (map ends_of ls) p ≡ ends_of l
 end_get ls p l at = get_or_from_slice_get (map ends_of ls) p (ends_of l) no_ends (slice_get-map ends_of ls p ∙ ap (option_map ends_of) at)
 
-pub same_wire : (ws : List Wire) (i k : ℕ) (v w : Wire) → i ≡ k → slice_get ws i ≡ Some v → slice_get ws k ≡ Some w → v ≡ w
+pub same_wire : (ws : List Edge) (i k : ℕ) (v w : Edge) → i ≡ k → slice_get ws i ≡ Some v → slice_get ws k ≡ Some w → v ≡ w
 same_wire ws i k v w e a b = let both : Some v ≡ Some w = sym a ∙ ap (slice_get ws) e ∙ b in cc
 
 -- the ends of a wire whose lane, if it has one, is not cut
-abbrev pub plain_ends : Wire → Ends
+abbrev pub plain_ends : Edge → WireEnds
 plain_ends v = record { from = v.from; output = v.output; to = v.to; input = v.input }
 
 -- the place among all links of the one that leads into the input of wire i
@@ -45,8 +45,8 @@ abbrev pub into : ℕ → ℕ → ℕ → Option ℕ → ℕ
 into many number i None = i
 into many number i (Some s) = many + number
 
-module _ (n : ℕ) (ws : List Wire) where
-  abbrev pub all_ends : List Ends
+module _ (n : ℕ) (ws : List Edge) where
+  abbrev pub all_ends : List WireEnds
   all_ends = map ends_of (whole_links n ws)
 
   pub whole_count : length (whole_links n ws) ≡ length ws + lanes_in ws
@@ -56,12 +56,12 @@ module _ (n : ℕ) (ws : List Wire) where
       let c : length (whole_links n ws) ≡ length (nears_from (n + lanes_in ws) 0 ws) + length (fars_from n 0 ws) = length-append (nears_from (n + lanes_in ws) 0 ws) (fars_from n 0 ws) in
       omega (arith, a, b, c)
 
-  pub near_link : (i : ℕ) (w : Wire) → slice_get ws i ≡ Some w → slice_get (whole_links n ws) i ≡ Some (near_at (n + lanes_in ws + lanes_in (take i ws)) i w w.lane)
+  pub near_link : (i : ℕ) (w : Edge) → slice_get ws i ≡ Some w → slice_get (whole_links n ws) i ≡ Some (near_at (n + lanes_in ws + lanes_in (take i ws)) i w w.lane)
   near_link i w at =
       let z : 0 + i ≡ i = omega arith in
       get_left (nears_from (n + lanes_in ws) 0 ws) (fars_from n 0 ws) i _ (near_get (n + lanes_in ws) 0 ws i w at) ∙ ap (λ k. Some (near_at (n + lanes_in ws + lanes_in (take i ws)) k w w.lane)) z
 
-  pub far_link_at : (i : ℕ) (w : Wire) (s : ℕ) → slice_get ws i ≡ Some w → w.lane ≡ Some s → slice_get (whole_links n ws) (length ws + lanes_in (take i ws)) ≡ Some (far_link (n + lanes_in (take i ws)) i w)
+  pub far_link_at : (i : ℕ) (w : Edge) (s : ℕ) → slice_get ws i ≡ Some w → w.lane ≡ Some s → slice_get (whole_links n ws) (length ws + lanes_in (take i ws)) ≡ Some (far_link (n + lanes_in (take i ws)) i w)
   far_link_at i w s at lane =
       let z : 0 + i ≡ i = omega arith in
       get_right (nears_from (n + lanes_in ws) 0 ws) (fars_from n 0 ws) _ (lanes_in (take i ws)) (ap (λ m. m + lanes_in (take i ws)) (sym (nears_count (n + lanes_in ws) 0 ws))) ∙ far_get n 0 ws i w s at lane ∙ ap (λ k. Some (far_link (n + lanes_in (take i ws)) k w)) z
@@ -70,7 +70,7 @@ module _ (n : ℕ) (ws : List Wire) where
 
   -- a link at the output of a node
   pub record AtOutput (p : ℕ) (l : Link) : Type 0 where
-    pub wire : Wire
+    pub wire : Edge
     pub is : slice_get ws p ≡ Some wire
     pub number : l.wire ≡ p
     pub from : l.from ≡ wire.from
@@ -84,7 +84,7 @@ module _ (n : ℕ) (ws : List Wire) where
     pub place : p ≡ length ws + j
     pub is : l ≡ far_link (n + j) lane.at lane.wire
 
-  near_output : (o : Option ℕ) (p : ℕ) (w : Wire) (l : Link) (out : ℕ) → slice_get ws p ≡ Some w → near_at out p w o ≡ l → AtOutput p l
+  near_output : (o : Option ℕ) (p : ℕ) (w : Edge) (l : Link) (out : ℕ) → slice_get ws p ≡ Some w → near_at out p w o ≡ l → AtOutput p l
   near_output None p w l out at e = record { wire = w; is = at; number = ap (λ (x : Link). x.wire) (sym e); from = ap (λ (x : Link). x.from) (sym e); output = ap (λ (x : Link). x.output) (sym e) }
   near_output (Some s) p w l out at e = record { wire = w; is = at; number = ap (λ (x : Link). x.wire) (sym e); from = ap (λ (x : Link). x.from) (sym e); output = ap (λ (x : Link). x.output) (sym e) }
 
@@ -118,7 +118,7 @@ module _ (n : ℕ) (ws : List Wire) where
   -- a link into the input of a node
   pub record AtInput (p : ℕ) (l : Link) : Type 0 where
     pub at : ℕ
-    pub wire : Wire
+    pub wire : Edge
     pub is : slice_get ws at ≡ Some wire
     pub number : l.wire ≡ at
     pub place : p ≡ into (length ws) (lanes_in (take at ws)) at wire.lane
@@ -127,7 +127,7 @@ module _ (n : ℕ) (ws : List Wire) where
 
   -- a link to where a lane goes out
   pub record AtExit (p : ℕ) (l : Link) : Type 0 where
-    pub wire : Wire
+    pub wire : Edge
     pub size : ℕ
     pub is : slice_get ws p ≡ Some wire
     pub number : l.wire ≡ p
@@ -135,7 +135,7 @@ module _ (n : ℕ) (ws : List Wire) where
     pub to : l.to ≡ n + lanes_in ws + lanes_in (take p ws)
     pub input : l.input ≡ 0
 
-  near_side : (o : Option ℕ) (p : ℕ) (w : Wire) (l : Link) → w.lane ≡ o → slice_get ws p ≡ Some w → near_at (n + lanes_in ws + lanes_in (take p ws)) p w o ≡ l → AtInput p l ⊎ AtExit p l
+  near_side : (o : Option ℕ) (p : ℕ) (w : Edge) (l : Link) → w.lane ≡ o → slice_get ws p ≡ Some w → near_at (n + lanes_in ws + lanes_in (take p ws)) p w o ≡ l → AtInput p l ⊎ AtExit p l
   near_side None p w l lane at e = inl (record {
     at = p;
     wire = w;
@@ -166,43 +166,43 @@ module _ (n : ℕ) (ws : List Wire) where
       (out_side p l at)
 
   -- the link into the input of wire i
-  pub input_link : (i : ℕ) (w : Wire) → slice_get ws i ≡ Some w → (l : Link) × ((slice_get (whole_links n ws) (into (length ws) (lanes_in (take i ws)) i w.lane) ≡ Some l) × ((l.to ≡ w.to) × (l.input ≡ w.input)))
+  pub input_link : (i : ℕ) (w : Edge) → slice_get ws i ≡ Some w → (l : Link) × ((slice_get (whole_links n ws) (into (length ws) (lanes_in (take i ws)) i w.lane) ≡ Some l) × ((l.to ≡ w.to) × (l.input ≡ w.input)))
   input_link i w at = by w.lane refl
     where
       by : (o : Option ℕ) → w.lane ≡ o → (l : Link) × ((slice_get (whole_links n ws) (into (length ws) (lanes_in (take i ws)) i o) ≡ Some l) × ((l.to ≡ w.to) × (l.input ≡ w.input)))
       by None e = (near_at (n + lanes_in ws + lanes_in (take i ws)) i w None, (near_link i w at ∙ ap (λ o. Some (near_at (n + lanes_in ws + lanes_in (take i ws)) i w o)) e, (refl, refl)))
       by (Some s) e = (far_link (n + lanes_in (take i ws)) i w, (far_link_at i w s at e, (refl, refl)))
 
-  module _ (ins outs more_ins more_outs : ℕ → ℕ) (ends : List Ends) (plain : IsWiring ins outs n ends) (long : length ends ≡ length ws)
-      (each : (i : ℕ) (v : Wire) → slice_get ws i ≡ Some v → end_at ends i ≡ plain_ends v)
+  module _ (ins outs more_ins more_outs : ℕ → ℕ) (ends : List WireEnds) (plain : IsWiring ins outs n ends) (long : length ends ≡ length ws)
+      (each : (i : ℕ) (v : Edge) → slice_get ws i ≡ Some v → end_at ends i ≡ plain_ends v)
       (node_ins : (k : ℕ) → k < n → more_ins k ≡ ins k) (node_outs : (k : ℕ) → k < n → more_outs k ≡ outs k)
       (entry_ins : (j : ℕ) → j < lanes_in ws → more_ins (n + j) ≡ 0) (entry_outs : (j : ℕ) → j < lanes_in ws → more_outs (n + j) ≡ 1)
       (exit_ins : (j : ℕ) → j < lanes_in ws → more_ins (n + lanes_in ws + j) ≡ 1) (exit_outs : (j : ℕ) → j < lanes_in ws → more_outs (n + lanes_in ws + j) ≡ 0) where
-    in_ends : (i : ℕ) (v : Wire) → slice_get ws i ≡ Some v → i < length ends
+    in_ends : (i : ℕ) (v : Edge) → slice_get ws i ≡ Some v → i < length ends
     in_ends i v at = let lt : i < length ws = slice_get_within ws i v at in omega (arith, lt, long)
 
     -- what the wiring tells of a wire
-    from_ok : (i : ℕ) (v : Wire) → slice_get ws i ≡ Some v → v.from < n
-    from_ok i v at = subst (λ (e : Ends). e.from < n) (each i v at) (plain.from_within i (in_ends i v at))
+    from_ok : (i : ℕ) (v : Edge) → slice_get ws i ≡ Some v → v.from < n
+    from_ok i v at = subst (λ (e : WireEnds). e.from < n) (each i v at) (plain.from_within i (in_ends i v at))
 
-    to_ok : (i : ℕ) (v : Wire) → slice_get ws i ≡ Some v → v.to < n
-    to_ok i v at = subst (λ (e : Ends). e.to < n) (each i v at) (plain.to_within i (in_ends i v at))
+    to_ok : (i : ℕ) (v : Edge) → slice_get ws i ≡ Some v → v.to < n
+    to_ok i v at = subst (λ (e : WireEnds). e.to < n) (each i v at) (plain.to_within i (in_ends i v at))
 
-    output_ok : (i : ℕ) (v : Wire) → slice_get ws i ≡ Some v → v.output < outs v.from
-    output_ok i v at = subst (λ (e : Ends). e.output < outs e.from) (each i v at) (plain.output_within i (in_ends i v at))
+    output_ok : (i : ℕ) (v : Edge) → slice_get ws i ≡ Some v → v.output < outs v.from
+    output_ok i v at = subst (λ (e : WireEnds). e.output < outs e.from) (each i v at) (plain.output_within i (in_ends i v at))
 
-    input_ok : (i : ℕ) (v : Wire) → slice_get ws i ≡ Some v → v.input < ins v.to
-    input_ok i v at = subst (λ (e : Ends). e.input < ins e.to) (each i v at) (plain.input_within i (in_ends i v at))
+    input_ok : (i : ℕ) (v : Edge) → slice_get ws i ≡ Some v → v.input < ins v.to
+    input_ok i v at = subst (λ (e : WireEnds). e.input < ins e.to) (each i v at) (plain.input_within i (in_ends i v at))
 
-    one_out : (i k : ℕ) (v w : Wire) → slice_get ws i ≡ Some v → slice_get ws k ≡ Some w → v.from ≡ w.from → v.output ≡ w.output → i ≡ k
+    one_out : (i k : ℕ) (v w : Edge) → slice_get ws i ≡ Some v → slice_get ws k ≡ Some w → v.from ≡ w.from → v.output ≡ w.output → i ≡ k
     one_out i k v w a b e o =
-        plain.one_output i k (in_ends i v a) (in_ends k w b) (ap (λ (x : Ends). x.from) (each i v a) ∙ e ∙ sym (ap (λ (x : Ends). x.from) (each k w b)))
-        (ap (λ (x : Ends). x.output) (each i v a) ∙ o ∙ sym (ap (λ (x : Ends). x.output) (each k w b)))
+        plain.one_output i k (in_ends i v a) (in_ends k w b) (ap (λ (x : WireEnds). x.from) (each i v a) ∙ e ∙ sym (ap (λ (x : WireEnds). x.from) (each k w b)))
+        (ap (λ (x : WireEnds). x.output) (each i v a) ∙ o ∙ sym (ap (λ (x : WireEnds). x.output) (each k w b)))
 
-    one_in : (i k : ℕ) (v w : Wire) → slice_get ws i ≡ Some v → slice_get ws k ≡ Some w → v.to ≡ w.to → v.input ≡ w.input → i ≡ k
+    one_in : (i k : ℕ) (v w : Edge) → slice_get ws i ≡ Some v → slice_get ws k ≡ Some w → v.to ≡ w.to → v.input ≡ w.input → i ≡ k
     one_in i k v w a b e o =
-        plain.one_input i k (in_ends i v a) (in_ends k w b) (ap (λ (x : Ends). x.to) (each i v a) ∙ e ∙ sym (ap (λ (x : Ends). x.to) (each k w b)))
-        (ap (λ (x : Ends). x.input) (each i v a) ∙ o ∙ sym (ap (λ (x : Ends). x.input) (each k w b)))
+        plain.one_input i k (in_ends i v a) (in_ends k w b) (ap (λ (x : WireEnds). x.to) (each i v a) ∙ e ∙ sym (ap (λ (x : WireEnds). x.to) (each k w b)))
+        (ap (λ (x : WireEnds). x.input) (each i v a) ∙ o ∙ sym (ap (λ (x : WireEnds). x.input) (each k w b)))
 
     -- the link at a place
     link_at : (p : ℕ) → p < length all_ends → (l : Link) × ((slice_get (whole_links n ws) p ≡ Some l) × (end_at all_ends p ≡ ends_of l))
@@ -217,7 +217,7 @@ module _ (n : ℕ) (ws : List Wire) where
         let lt : p < length (whole_links n ws) = slice_get_within (whole_links n ws) p l at in
         omega (arith, lt, e)
 
-    by_link : (P : Ends → Type 0) (p : ℕ) (lt : p < length all_ends) → ((l : Link) → slice_get (whole_links n ws) p ≡ Some l → P (ends_of l)) → P (end_at all_ends p)
+    by_link : (P : WireEnds → Type 0) (p : ℕ) (lt : p < length all_ends) → ((l : Link) → slice_get (whole_links n ws) p ≡ Some l → P (ends_of l)) → P (end_at all_ends p)
     by_link P p lt h = let l = link_at p lt in subst P (sym l.1.1) (h l.0 l.1.0)
 
     exit_below : (p : ℕ) (l : Link) (x : AtExit p l) → lanes_in (take p ws) < lanes_in ws
@@ -280,8 +280,8 @@ module _ (n : ℕ) (ws : List Wire) where
         (out_side q m b))
         (out_side p l a)
 
-    same_into : (i k : ℕ) (v w : Wire) → i ≡ k → slice_get ws i ≡ Some v → slice_get ws k ≡ Some w → into (length ws) (lanes_in (take i ws)) i v.lane ≡ into (length ws) (lanes_in (take k ws)) k w.lane
-    same_into i k v w e a b = ap (λ h. into (length ws) (lanes_in (take h ws)) h v.lane) e ∙ ap (λ (x : Wire). into (length ws) (lanes_in (take k ws)) k x.lane) (same_wire ws i k v w e a b)
+    same_into : (i k : ℕ) (v w : Edge) → i ≡ k → slice_get ws i ≡ Some v → slice_get ws k ≡ Some w → into (length ws) (lanes_in (take i ws)) i v.lane ≡ into (length ws) (lanes_in (take k ws)) k w.lane
+    same_into i k v w e a b = ap (λ h. into (length ws) (lanes_in (take h ws)) h v.lane) e ∙ ap (λ (x : Edge). into (length ws) (lanes_in (take k ws)) k x.lane) (same_wire ws i k v w e a b)
 
     one_link_in : (p q : ℕ) (l m : Link) → slice_get (whole_links n ws) p ≡ Some l → slice_get (whole_links n ws) q ≡ Some m → l.to ≡ m.to → l.input ≡ m.input → p ≡ q
     one_link_in p q l m a b e o =
@@ -308,10 +308,10 @@ module _ (n : ℕ) (ws : List Wire) where
     InputAt k j = (p : ℕ) × ((p < length all_ends) × (((end_at all_ends p).to ≡ k) × ((end_at all_ends p).input ≡ j)))
 
     output_at : (k j p : ℕ) (l : Link) → slice_get (whole_links n ws) p ≡ Some l → l.from ≡ k → l.output ≡ j → OutputAt k j
-    output_at k j p l at f o = let e = end_get (whole_links n ws) p l at in (p, (within p l at, (ap (λ (x : Ends). x.from) e ∙ f, ap (λ (x : Ends). x.output) e ∙ o)))
+    output_at k j p l at f o = let e = end_get (whole_links n ws) p l at in (p, (within p l at, (ap (λ (x : WireEnds). x.from) e ∙ f, ap (λ (x : WireEnds). x.output) e ∙ o)))
 
     input_at : (k j p : ℕ) (l : Link) → slice_get (whole_links n ws) p ≡ Some l → l.to ≡ k → l.input ≡ j → InputAt k j
-    input_at k j p l at f o = let e = end_get (whole_links n ws) p l at in (p, (within p l at, (ap (λ (x : Ends). x.to) e ∙ f, ap (λ (x : Ends). x.input) e ∙ o)))
+    input_at k j p l at f o = let e = end_get (whole_links n ws) p l at in (p, (within p l at, (ap (λ (x : WireEnds). x.to) e ∙ f, ap (λ (x : WireEnds). x.input) e ∙ o)))
 
     node_output : (k j : ℕ) → k < n → j < more_outs k → OutputAt k j
     node_output k j lt port =
@@ -321,7 +321,7 @@ module _ (n : ℕ) (ws : List Wire) where
         let l = near_at (n + lanes_in ws + lanes_in (take w.0 ws)) w.0 v.0 v.0.lane in
         let s = near_output v.0.lane w.0 v.0 l (n + lanes_in ws + lanes_in (take w.0 ws)) v.1 refl in
         let same = same_wire ws w.0 w.0 s.wire v.0 refl s.is v.1 in
-        output_at k j w.0 l (near_link w.0 v.0 v.1) (s.from ∙ ap (λ (x : Wire). x.from) same ∙ sym (ap (λ (x : Ends). x.from) e) ∙ w.1.1.0) (s.output ∙ ap (λ (x : Wire). x.output) same ∙ sym (ap (λ (x : Ends). x.output) e) ∙ w.1.1.1)
+        output_at k j w.0 l (near_link w.0 v.0 v.1) (s.from ∙ ap (λ (x : Edge). x.from) same ∙ sym (ap (λ (x : WireEnds). x.from) e) ∙ w.1.1.0) (s.output ∙ ap (λ (x : Edge). x.output) same ∙ sym (ap (λ (x : WireEnds). x.output) e) ∙ w.1.1.1)
 
     entry_output : (k j i : ℕ) → k ≡ n + i → i < lanes_in ws → j < more_outs k → OutputAt k j
     entry_output k j i e lt port =
@@ -338,7 +338,7 @@ module _ (n : ℕ) (ws : List Wire) where
         let v = there ws w.0 (omega (arith, w.1.0, long)) in
         let e = each w.0 v.0 v.1 in
         let l = input_link w.0 v.0 v.1 in
-        input_at k j _ l.0 l.1.0 (l.1.1.0 ∙ sym (ap (λ (x : Ends). x.to) e) ∙ w.1.1.0) (l.1.1.1 ∙ sym (ap (λ (x : Ends). x.input) e) ∙ w.1.1.1)
+        input_at k j _ l.0 l.1.0 (l.1.1.0 ∙ sym (ap (λ (x : WireEnds). x.to) e) ∙ w.1.1.0) (l.1.1.1 ∙ sym (ap (λ (x : WireEnds). x.input) e) ∙ w.1.1.1)
 
     no_input : (k j i : ℕ) → k ≡ n + i → i < lanes_in ws → j < more_ins k → InputAt k j
     no_input k j i e lt port = let none : more_ins k ≡ 0 = ap more_ins e ∙ entry_ins i lt in absurd (omega (arith, port, none))
@@ -377,11 +377,11 @@ module _ (n : ℕ) (ws : List Wire) where
       one_output = λ p q lp lq e o.
           let l = link_at p lp in
           let m = link_at q lq in
-          one_link_out p q l.0 m.0 l.1.0 m.1.0 (sym (ap (λ (x : Ends). x.from) l.1.1) ∙ e ∙ ap (λ (x : Ends). x.from) m.1.1) (sym (ap (λ (x : Ends). x.output) l.1.1) ∙ o ∙ ap (λ (x : Ends). x.output) m.1.1);
+          one_link_out p q l.0 m.0 l.1.0 m.1.0 (sym (ap (λ (x : WireEnds). x.from) l.1.1) ∙ e ∙ ap (λ (x : WireEnds). x.from) m.1.1) (sym (ap (λ (x : WireEnds). x.output) l.1.1) ∙ o ∙ ap (λ (x : WireEnds). x.output) m.1.1);
       one_input = λ p q lp lq e o.
           let l = link_at p lp in
           let m = link_at q lq in
-          one_link_in p q l.0 m.0 l.1.0 m.1.0 (sym (ap (λ (x : Ends). x.to) l.1.1) ∙ e ∙ ap (λ (x : Ends). x.to) m.1.1) (sym (ap (λ (x : Ends). x.input) l.1.1) ∙ o ∙ ap (λ (x : Ends). x.input) m.1.1);
+          one_link_in p q l.0 m.0 l.1.0 m.1.0 (sym (ap (λ (x : WireEnds). x.to) l.1.1) ∙ e ∙ ap (λ (x : WireEnds). x.to) m.1.1) (sym (ap (λ (x : WireEnds). x.input) l.1.1) ∙ o ∙ ap (λ (x : WireEnds). x.input) m.1.1);
       each_output = λ k j lt port. by_place (λ i. j < more_outs i → OutputAt i j) (λ i h. node_output i j h) (λ i m e h. entry_output i j m e h) (λ i m e h. no_output i j m e h) k lt port;
       each_input = λ k j lt port. by_place (λ i. j < more_ins i → InputAt i j) (λ i h. node_input i j h) (λ i m e h. no_input i j m e h) (λ i m e h. exit_input i j m e h) k lt port;
     }

@@ -2,12 +2,12 @@
 use Rattle.std.specs.Prelude.{◌≡◌, ℕ, ◌≤◌, ◌<◌, ◌^◌, List, [], length, slice_get, Some, All, vec_capacity}
 use Rattle.std.specs.declared.vec.Vec.{Vec}
 use Rattle.std.specs.declared.alloc.Global.{Global}
-use Rattle.stream_model.specs.Graph.{Wire}
+use Rattle.stream_model.specs.Graph.{Edge}
 use Rattle.interpreter.specs.declared.parts.Link.{Link}
 use Rattle.interpreter.specs.declared.parts.Parts.{Parts}
 use Rattle.interpreter.specs.declared.parts.Place.{Place}
 use Rattle.interpreter.specs.declared.parts.Seated.{Seated}
-use Rattle.interpreter.specs.declared.room.Room.{Room}
+use Rattle.interpreter.specs.declared.room.IslandRoom.{IslandRoom}
 use Rattle.interpreter.specs.Room.{IsRoom}
 use Rattle.traversal.specs.Plan.{lanes_from}
 use Rattle.scatter.specs.Shares.{of_home, items_at, AreEmptyFor}
@@ -34,7 +34,7 @@ pub record IsReady {S D L B : Type 0} (count : ℕ) (s : Split S D L B) : Type 0
   pub room : count ≤ vec_capacity s.islands
 
 -- the islands of these nodes, which these wires join, where each node has a home
-pub record IsSplit {S D L B : Type 0} (homes : List ℕ) (count : ℕ) (ws : List Wire) (nodes : List Place) (s : Split S D L B) : Type 0 where
+pub record IsSplit {S D L B : Type 0} (homes : List ℕ) (count : ℕ) (ws : List Edge) (nodes : List Place) (s : Split S D L B) : Type 0 where
   pub ready : IsReady count s
   pub homes_are : s.homes.items ≡ whole_homes homes (lanes_from homes 0 ws)
   pub few : length (whole_links (length nodes) ws) < 2 ^ 32
@@ -42,25 +42,25 @@ pub record IsSplit {S D L B : Type 0} (homes : List ℕ) (count : ℕ) (ws : Lis
       → IsSpace (of_home s.homes.items k (whole_places nodes (lanes_from homes 0 ws))) (own_links s.homes.items (whole_links (length nodes) ws) k) x
 
 -- the parts of an island and its room: the places of its list, and its space
-pub record IsPart {S D L B : Type 0} (lists : List (Vec (Seated S D L B) Global)) (spaces : List (Space S D L B)) (k : ℕ) (x : Parts S D L B × Room S D L B) : Type 0 where
+pub record IsPart {S D L B : Type 0} (lists : List (Vec (Seated S D L B) Global)) (spaces : List (Space S D L B)) (k : ℕ) (x : Parts S D L B × IslandRoom S D L B) : Type 0 where
   pub nodes_are : x.0.nodes.items ≡ items_at lists k
   pub space : Space S D L B
   pub space_at : slice_get spaces k ≡ Some space
   pub links_are : x.0.links.items ≡ space.links.items
   pub room_is : x.1 ≡ space.room
 
-pub record AreJoined {S D L B : Type 0} (lists : List (Vec (Seated S D L B) Global)) (spaces : List (Space S D L B)) (islands : List (Parts S D L B × Room S D L B)) : Type 0 where
+pub record AreJoined {S D L B : Type 0} (lists : List (Vec (Seated S D L B) Global)) (spaces : List (Space S D L B)) (islands : List (Parts S D L B × IslandRoom S D L B)) : Type 0 where
   pub many : length islands ≡ length spaces
-  pub each : (k : ℕ) (x : Parts S D L B × Room S D L B) → slice_get islands k ≡ Some x → IsPart lists spaces k x
+  pub each : (k : ℕ) (x : Parts S D L B × IslandRoom S D L B) → slice_get islands k ≡ Some x → IsPart lists spaces k x
 
 -- the parts of an island and its room: its share of what stands at all places, and its space
-pub record IsIsland {S D L B : Type 0} (s : Split S D L B) (seats : List (Seated S D L B)) (k : ℕ) (x : Parts S D L B × Room S D L B) : Type 0 where
+pub record IsIsland {S D L B : Type 0} (s : Split S D L B) (seats : List (Seated S D L B)) (k : ℕ) (x : Parts S D L B × IslandRoom S D L B) : Type 0 where
   pub nodes_are : x.0.nodes.items ≡ of_home s.homes.items k seats
   pub space : Space S D L B
   pub space_at : slice_get s.spaces.items k ≡ Some space
   pub links_are : x.0.links.items ≡ space.links.items
   pub room_is : x.1 ≡ space.room
 
-pub record AreIslands {S D L B : Type 0} (s : Split S D L B) (seats : List (Seated S D L B)) (islands : List (Parts S D L B × Room S D L B)) : Type 0 where
+pub record AreIslands {S D L B : Type 0} (s : Split S D L B) (seats : List (Seated S D L B)) (islands : List (Parts S D L B × IslandRoom S D L B)) : Type 0 where
   pub many : length islands ≡ length s.spaces.items
-  pub each : (k : ℕ) (x : Parts S D L B × Room S D L B) → slice_get islands k ≡ Some x → IsIsland s seats k x
+  pub each : (k : ℕ) (x : Parts S D L B × IslandRoom S D L B) → slice_get islands k ≡ Some x → IsIsland s seats k x

@@ -4,7 +4,7 @@ ghost use Rattle.blue_names.specs.Links.{wire_of_link, wires_of_links};
 ghost use Rattle.interpreter.specs.declared.parts.Link as wiring;
 ghost use Rattle.island_parts.specs.Whole.{one_lane, near_at, nears_from, far_at, fars_from, whole_links, link_home, at_ranks};
 
-use blue_names::links::Link as WireLink;
+use blue_names::links::NumberedWire;
 use blue_walks::ranks::rank_of;
 use elem_core::count::numbered;
 use elem_core::why::NoMemory;
@@ -12,7 +12,7 @@ use interpreter::parts::Link;
 use std::alloc::{AllocError, Global};
 
 /// The place of the next lane, behind a wire.
-fn behind(place: usize, wire: &WireLink) -> Result<usize, NoMemory>
+fn behind(place: usize, wire: &NumberedWire) -> Result<usize, NoMemory>
     ensures { IfOk result (λ next. next ≡ one_lane wire.now.lane place) }
 {
     match wire.lane {
@@ -25,7 +25,7 @@ fn behind(place: usize, wire: &WireLink) -> Result<usize, NoMemory>
 }
 
 /// The link at the output of wire u: of a lane it leads to the place where it goes out.
-fn near_link(out: usize, u: u32, wire: &WireLink) -> Result<Link, NoMemory>
+fn near_link(out: usize, u: u32, wire: &NumberedWire) -> Result<Link, NoMemory>
     requires output { wire.now.output < 2 ^ 8 }
     requires input { wire.now.input < 2 ^ 8 }
     ensures { IfOk result (λ link. link ≡ near_at out u (wire_of_link wire.now) wire.now.lane) }
@@ -51,7 +51,7 @@ fn near_link(out: usize, u: u32, wire: &WireLink) -> Result<Link, NoMemory>
 }
 
 /// Puts the link at the input of wire u last, where it has a lane: it comes from the place where that comes in.
-fn put_far(links: &mut Vec<Link>, place: usize, u: u32, wire: &WireLink) -> Result<(), NoMemory>
+fn put_far(links: &mut Vec<Link>, place: usize, u: u32, wire: &NumberedWire) -> Result<(), NoMemory>
     requires input { wire.now.input < 2 ^ 8 }
     ensures { OnOk result (links.new.items ≡ links.old.items ++ far_at place u (wire_of_link wire.now) wire.now.lane) }
 {
@@ -69,7 +69,7 @@ fn put_far(links: &mut Vec<Link>, place: usize, u: u32, wire: &WireLink) -> Resu
 }
 
 /// The links at the outputs of wires.
-fn near_links(alloc: Global, wires: &[WireLink], outs: usize) -> Result<Vec<Link>, NoMemory>
+fn near_links(alloc: Global, wires: &[NumberedWire], outs: usize) -> Result<Vec<Link>, NoMemory>
     requires ports { All (λ w. (w.output < 2 ^ 8) × (w.input < 2 ^ 8)) wires.now }
     ensures { IfOk result (λ links. links.items ≡ nears_from outs 0 (wires_of_links wires.now)) }
 {
@@ -83,7 +83,7 @@ fn near_links(alloc: Global, wires: &[WireLink], outs: usize) -> Result<Vec<Link
 }
 
 /// The links at the inputs of lanes, behind others.
-fn put_fars(links: &mut Vec<Link>, wires: &[WireLink], first: usize) -> Result<(), NoMemory>
+fn put_fars(links: &mut Vec<Link>, wires: &[NumberedWire], first: usize) -> Result<(), NoMemory>
     requires ports { All (λ w. (w.output < 2 ^ 8) × (w.input < 2 ^ 8)) wires.now }
     ensures { OnOk result (links.new.items ≡ links.old.items ++ fars_from first 0 (wires_of_links wires.now)) }
 {
@@ -99,7 +99,7 @@ fn put_fars(links: &mut Vec<Link>, wires: &[WireLink], first: usize) -> Result<(
 /// out: one at the output of each wire, then one at the input of each lane. There are fewer than 2^32.
 pub fn all_links(
     alloc: Global,
-    wires: &[WireLink],
+    wires: &[NumberedWire],
     nodes: usize,
     outs: usize,
 ) -> Result<Vec<Link>, NoMemory>

@@ -6,7 +6,7 @@ ghost use Rattle.island_parts.specs.Split.{IsSpace, AreSpaces};
 
 use elem_core::why::NoMemory;
 use interpreter::parts::{Link, Place};
-use interpreter::room::Room;
+use interpreter::room::IslandRoom;
 use plug_logic::book::PlugBook;
 use plug_logic::logic::Logic;
 use std::alloc::Global;
@@ -17,7 +17,7 @@ use stream_io::outside::{Drain, Source};
 #[derive(Drop)]
 pub struct Space<S: Source, D: Drain, L: Logic, B: PlugBook> {
     pub(crate) links: Vec<Link>,
-    pub(crate) room: Room<S, D, L, B>,
+    pub(crate) room: IslandRoom<S, D, L, B>,
 }
 
 /// The space of an island of these places and links.
@@ -29,7 +29,7 @@ fn space_of<S: Source, D: Drain, L: Logic, B: PlugBook>(
     requires { length links.items < 2 ^ 32 }
     ensures { IfOk result (IsSpace places.now links.items) }
 {
-    let room = Room::of(alloc, places, &links)?;
+    let room = IslandRoom::of(alloc, places, &links)?;
     Ok(Space { links, room })
 }
 

@@ -7,10 +7,10 @@ ghost use Rattle.island_parts.specs.Split.{IsReady, IsSplit, AreJoined, AreIslan
 use crate::links::{all_links, link_homes, local_links};
 use crate::spaces::{Space, spaces_of, take_next};
 use crate::whole::{whole_homes, whole_places};
-use blue_names::links::Link as WireLink;
+use blue_names::links::NumberedWire as WireLink;
 use elem_core::why::NoMemory;
 use interpreter::parts::{Parts, Place, Seated};
-use interpreter::room::Room;
+use interpreter::room::IslandRoom;
 use plug_logic::book::PlugBook;
 use plug_logic::logic::Logic;
 use scatter::ranks::ranks_of;
@@ -28,7 +28,7 @@ pub struct Split<S: Source, D: Drain, L: Logic, B: PlugBook> {
     pub(crate) lists: Vec<Vec<Seated<S, D, L, B>>>,
     pub(crate) spaces: Vec<Space<S, D, L, B>>,
     // It is empty, and has room for all islands.
-    pub(crate) islands: Vec<(Parts<S, D, L, B>, Room<S, D, L, B>)>,
+    pub(crate) islands: Vec<(Parts<S, D, L, B>, IslandRoom<S, D, L, B>)>,
 }
 
 /// The sum of two numbers of places; one that is out of range is want of memory.
@@ -83,7 +83,7 @@ pub fn split_of<S: Source, D: Drain, L: Logic, B: PlugBook>(
 fn island<S: Source, D: Drain, L: Logic, B: PlugBook>(
     nodes: Vec<Seated<S, D, L, B>>,
     space: Space<S, D, L, B>,
-) -> (Parts<S, D, L, B>, Room<S, D, L, B>)
+) -> (Parts<S, D, L, B>, IslandRoom<S, D, L, B>)
     ensures nodes { result.0.nodes.items ≡ nodes.items }
     ensures links { result.0.links.items ≡ space.links.items }
     ensures room { result.1 ≡ space.room }
@@ -96,8 +96,8 @@ fn island<S: Source, D: Drain, L: Logic, B: PlugBook>(
 fn join_lists<S: Source, D: Drain, L: Logic, B: PlugBook>(
     lists: Vec<Vec<Seated<S, D, L, B>>>,
     spaces: Vec<Space<S, D, L, B>>,
-    islands: Vec<(Parts<S, D, L, B>, Room<S, D, L, B>)>,
-) -> Vec<(Parts<S, D, L, B>, Room<S, D, L, B>)>
+    islands: Vec<(Parts<S, D, L, B>, IslandRoom<S, D, L, B>)>,
+) -> Vec<(Parts<S, D, L, B>, IslandRoom<S, D, L, B>)>
     requires many { vec_len lists ≡ vec_len spaces }
     requires empty { islands.items ≡ [] }
     requires room { vec_len lists ≤ vec_capacity islands }
@@ -116,7 +116,7 @@ fn join_lists<S: Source, D: Drain, L: Logic, B: PlugBook>(
 pub fn join<S: Source, D: Drain, L: Logic, B: PlugBook>(
     split: Split<S, D, L, B>,
     seats: Vec<Seated<S, D, L, B>>,
-) -> Vec<(Parts<S, D, L, B>, Room<S, D, L, B>)>
+) -> Vec<(Parts<S, D, L, B>, IslandRoom<S, D, L, B>)>
     requires ready { IsReady (vec_len split.lists) split }
     requires each { vec_len seats ≡ vec_len split.homes }
     ensures { AreIslands split seats.items result.items }

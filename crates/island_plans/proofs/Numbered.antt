@@ -2,7 +2,7 @@
 use Rattle.std.proofs.Common.{◌≡◌, ℕ, ◌<◌, ◌≤◌, List, length, refl, sym, ◌∙◌, subst, arith}
 use Rattle.std.specs.Prelude.{is_none, slice_index}
 use Rattle.std.specs.List.{filter}
-use Rattle.blue_names.specs.declared.links.Link.{Link}
+use Rattle.blue_names.specs.declared.links.NumberedWire.{NumberedWire}
 use Rattle.blue_names.specs.Links.{wires_of_links}
 use Rattle.traversal.specs.Homes.{AreNumbered}
 use Rattle.traversal.specs.Labels.{AreLabels}
@@ -11,12 +11,12 @@ use Rattle.traversal.proofs.Planning.{homes_below}
 use Rattle.island_plans.specs.Homes.{AreNumberedHomes}
 
 -- labels of the wires without a lane, as code reads them
-pub labels_read : (nodes : ℕ) (links fused told : List Link) (labels seen : List ℕ) → told ≡ fused → fused ≡ filter (λ (l : Link). is_none l.lane) links → seen ≡ labels → AreLabels (wires_of_links told) nodes labels
-    → AreLabels (wires_of_links (filter (λ (l : Link). is_none l.lane) links)) nodes seen
+pub labels_read : (nodes : ℕ) (links fused told : List NumberedWire) (labels seen : List ℕ) → told ≡ fused → fused ≡ filter (λ (l : NumberedWire). is_none l.lane) links → seen ≡ labels → AreLabels (wires_of_links told) nodes labels
+    → AreLabels (wires_of_links (filter (λ (l : NumberedWire). is_none l.lane) links)) nodes seen
 labels_read nodes links fused told labels seen a b c is =
-    subst (λ xs. AreLabels (wires_of_links (filter (λ (l : Link). is_none l.lane) links)) nodes xs) (sym c) (subst (λ ls. AreLabels (wires_of_links ls) nodes labels) (a ∙ b) is)
+    subst (λ xs. AreLabels (wires_of_links (filter (λ (l : NumberedWire). is_none l.lane) links)) nodes xs) (sym c) (subst (λ ls. AreLabels (wires_of_links ls) nodes labels) (a ∙ b) is)
 
-pub numbered_homes : (nodes : ℕ) (links : List Link) (labels homes firsts : List ℕ) (count : ℕ) → AreHomes nodes (wires_of_links links) homes → AreNumbered labels homes firsts → count ≡ length firsts → AreNumberedHomes nodes count (wires_of_links links) homes
+pub numbered_homes : (nodes : ℕ) (links : List NumberedWire) (labels homes firsts : List ℕ) (count : ℕ) → AreHomes nodes (wires_of_links links) homes → AreNumbered labels homes firsts → count ≡ length firsts → AreNumberedHomes nodes count (wires_of_links links) homes
 numbered_homes nodes links labels homes firsts count are n many = record {
   are = are;
   below = homes_below labels homes firsts homes count n refl many;

@@ -4,12 +4,12 @@ use Rattle.std.specs.Prelude.{slice_get, is_none}
 use Rattle.std.proofs.lemmas.List.{length-map}
 use Rattle.std.proofs.lemmas.Option.{slice_get_within}
 use Rattle.stream_model.specs.Graph as graph
-use Rattle.stream_model.specs.Graph.{Wire}
+use Rattle.stream_model.specs.Graph.{Edge}
 use Rattle.blue_core.specs.declared.blueprint.Blueprint.{Blueprint}
 use Rattle.blue_core.specs.declared.blueprint.Node.{Node}
 use Rattle.blue_check.specs.Fitness.{IsFit}
 use Rattle.blue_check.specs.Wires.{blueprint_wires}
-use Rattle.blue_names.specs.declared.links.Link.{Link}
+use Rattle.blue_names.specs.declared.links.NumberedWire.{NumberedWire}
 use Rattle.blue_names.specs.Links.{AreInRange, wires_of_links}
 use Rattle.blue_walks.proofs.ClosedWalks.{link_at_place}
 use Rattle.plug_core.specs.declared.head.PlugHead.{PlugHead}
@@ -32,7 +32,7 @@ use Rattle.stream_picture.specs.Joined.{IsJoined}
 
 module _ (b : Blueprint) (plugs : List PlugHead) (taken : List (List ℕ)) (fit : IsFit b plugs taken) where
   -- a wire joins nodes that are there
-  ends_within : (i : ℕ) (v : Wire) → slice_get (blueprint_wires b) i ≡ Some v → (v.from < length b.nodes.items) × (v.to < length b.nodes.items)
+  ends_within : (i : ℕ) (v : Edge) → slice_get (blueprint_wires b) i ≡ Some v → (v.from < length b.nodes.items) × (v.to < length b.nodes.items)
   ends_within i v at =
       let j : IsJoined (graph_of b) = fit_joined b plugs taken fit in
       let s = j.source i v at in
@@ -42,11 +42,11 @@ module _ (b : Blueprint) (plugs : List PlugHead) (taken : List (List ℕ)) (fit 
       let to : v.to < length (map node_of b.nodes.items) = slice_get_within (map node_of b.nodes.items) v.to t.0 t.1 in
       (omega (arith, from, size), omega (arith, to, size))
 
-  pub in_range : (ls : List Link) → wires_of_links ls ≡ blueprint_wires b → AreInRange (length b.nodes.items) ls
+  pub in_range : (ls : List NumberedWire) → wires_of_links ls ≡ blueprint_wires b → AreInRange (length b.nodes.items) ls
   in_range ls e = λ k d lt. ends_within k _ (ap (λ x. slice_get x k) (sym e) ∙ link_at_place ls k d lt)
 
 -- a wire without a lane is inside one island
-pub keeps_inside : (count : ℕ) (ws : List Wire) (homes : List ℕ) → AreHomes count ws homes → KeepsInside homes ws
+pub keeps_inside : (count : ℕ) (ws : List Edge) (homes : List ℕ) → AreHomes count ws homes → KeepsInside homes ws
 keeps_inside count ws homes h = record { inside = λ i w at none. h.inside i w at (ap is_none none) }
 
 -- ---- places

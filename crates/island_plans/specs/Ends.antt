@@ -1,6 +1,6 @@
 -- Which island's end has what nodes and wires leave.
 use Rattle.std.specs.Prelude.{◌≡◌, ℕ, Bool, is_some, if◌then◌else◌, List, [], ◌∷◌, ◌++◌, map, slice_index}
-use Rattle.stream_model.specs.Graph.{Wire}
+use Rattle.stream_model.specs.Graph.{Edge}
 use Rattle.blue_core.specs.declared.blueprint.Node.{Node}
 use Rattle.blue_rules.specs.Picks.{picks}
 use Rattle.materializer.specs.Files.{input_of, output_of, is_sink}
@@ -28,11 +28,11 @@ homes_in list (n ∷ ns) [] = []
 homes_in list (n ∷ ns) (h ∷ hs) = own_home list n h ++ homes_in list ns hs
 
 -- the island in which a wire begins
-abbrev pub wire_home : List ℕ → Wire → ℕ
+abbrev pub wire_home : List ℕ → Edge → ℕ
 wire_home homes w = slice_index homes w.from
 
 -- those of all lists, and of all wires in their order
-pub record AreEndHomes (homes : List ℕ) (nodes : List Node) (ws : List Wire) (e : EndHomes) : Type 0 where
+pub record AreEndHomes (homes : List ℕ) (nodes : List Node) (ws : List Edge) (e : EndHomes) : Type 0 where
   pub sinks_are : e.sinks.items ≡ homes_in Sinks nodes homes
   pub picks_are : e.picks.items ≡ homes_in Picks nodes homes
   pub seats_are : e.seats.items ≡ homes_in Seats nodes homes

@@ -5,7 +5,7 @@ ghost use Rattle.island_plans.specs.Ends.{leaves_in, own_home, homes_in, wire_ho
 
 use blue_check::picks::picks;
 use blue_core::blueprint::Node;
-use blue_names::links::Link;
+use blue_names::links::NumberedWire;
 use blue_walks::ranks::rank_of;
 use elem_core::why::NoMemory;
 use island_ends::room::EndHomes;
@@ -69,7 +69,11 @@ fn homes_in(
 }
 
 /// The islands in which wires begin.
-fn wire_homes(alloc: Global, links: &[Link], homes: &[usize]) -> Result<Vec<usize>, NoMemory>
+fn wire_homes(
+    alloc: Global,
+    links: &[NumberedWire],
+    homes: &[usize],
+) -> Result<Vec<usize>, NoMemory>
     ensures { IfOk result (λ all. all.items ≡ map (wire_home homes.now) (wires_of_links links.now)) }
 {
     let mut all = Vec::new(alloc);
@@ -84,7 +88,7 @@ fn wire_homes(alloc: Global, links: &[Link], homes: &[usize]) -> Result<Vec<usiz
 pub fn end_homes(
     alloc: Global,
     nodes: &[Node],
-    links: &[Link],
+    links: &[NumberedWire],
     homes: &[usize],
 ) -> Result<EndHomes, NoMemory>
     requires { length homes.now ≡ length nodes.now }

@@ -3,14 +3,18 @@ ghost use Rattle.std.specs.Prelude.{◌≡◌, IfOk, vec_len};
 ghost use Rattle.blue_names.specs.Links.{AreInRange, wires_of_links};
 ghost use Rattle.island_plans.specs.Homes.{AreNumberedHomes};
 
-use blue_names::links::Link;
+use blue_names::links::NumberedWire;
 use elem_core::why::NoMemory;
 use std::alloc::Global;
 use traversal::classes::{fused_links, labels_of};
 use traversal::homes::{Homes, homes_of};
 
 /// The islands of so many nodes that these wires join, numbered by the least node of each. Rule: own.
-pub fn homes_of_links(alloc: Global, nodes: usize, links: &[Link]) -> Result<Homes, NoMemory>
+pub fn homes_of_links(
+    alloc: Global,
+    nodes: usize,
+    links: &[NumberedWire],
+) -> Result<Homes, NoMemory>
     requires { AreInRange nodes links.now }
     ensures { IfOk result (λ h. AreNumberedHomes nodes (vec_len h.firsts) (wires_of_links links.now) h.homes.items) }
 {

@@ -12,7 +12,7 @@ use blue_core::blueprint::Blueprint;
 use blue_names::links::links_of;
 use elem_core::why::NoMemory;
 use interpreter::parts::{Parts, Seated};
-use interpreter::room::Room;
+use interpreter::room::IslandRoom;
 use island_ends::room::EndHomes;
 use island_parts::laws::islands_have_parts;
 use island_parts::split::{Split, join, split_of};
@@ -54,7 +54,7 @@ pub struct Plans<S: Source, D: Drain, L: Logic, B: PlugBook> {
 #[derive(Drop)]
 pub struct Filled<S: Source, D: Drain, L: Logic, B: PlugBook> {
     /// The parts of each island, and the room that it takes.
-    pub islands: Vec<(Parts<S, D, L, B>, Room<S, D, L, B>)>,
+    pub islands: Vec<(Parts<S, D, L, B>, IslandRoom<S, D, L, B>)>,
     /// The wires that have a lane, in order.
     pub lanes: Vec<LanePlan>,
     /// The island of each node.

@@ -2,8 +2,8 @@
 use Rattle.std.proofs.Common.{◌≡◌, ℕ, suc, ◌+◌, List, [], ◌∷◌, length, ap, sym, subst, refl}
 use Rattle.std.specs.declared.vec.Vec.{Vec}
 use Rattle.std.specs.declared.alloc.Global.{Global}
-use Rattle.stream_model.specs.Graph.{Wire}
-use Rattle.wire_core.specs.Cell.{Cell}
+use Rattle.stream_model.specs.Graph.{Edge}
+use Rattle.wire_core.specs.Cell.{WireState}
 use Rattle.traversal.specs.declared.plan.LanePlan.{LanePlan}
 use Rattle.lane_ends.specs.Ends.{AreAllEnds}
 use Rattle.lane_ends.specs.declared.ends.AllEnds.{AllEnds}
@@ -32,6 +32,6 @@ pub same_room : {S D : Type 0} (d h : EndHomes) (n k : ℕ) (r : EndRoom S D) �
 same_room d h n k r homes count is = subst (λ (x : EndHomes). IsRoomFor x k r) (sym homes) (subst (λ (i : ℕ). IsRoomFor d i r) (sym count) is)
 
 -- each wire is told of once
-pub told_many : (near : ℕ → Cell) (u : ℕ) (ws : List Wire) → length (told_from near u ws) ≡ length ws
+pub told_many : (near : ℕ → WireState) (u : ℕ) (ws : List Edge) → length (told_from near u ws) ≡ length ws
 told_many near u [] = refl
 told_many near u (v ∷ vs) = ap suc (told_many near (u + 1) vs)

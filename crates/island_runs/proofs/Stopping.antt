@@ -6,12 +6,12 @@ use Rattle.blue_check.specs.Wires.{blueprint_wires}
 use Rattle.blue_core.specs.declared.blueprint.Blueprint.{Blueprint}
 use Rattle.blue_core.specs.declared.blueprint.Node as blue
 use Rattle.stream_io.specs.State.{SourceState, DrainState}
-use Rattle.stream_model.specs.Graph.{Wire}
+use Rattle.stream_model.specs.Graph.{Edge}
 use Rattle.stream_model.specs.declared.outcome.WireCount.{WireCount}
 use Rattle.stream_picture.specs.Shape.{count_needed}
-use Rattle.wire_core.specs.Cell.{Cell}
+use Rattle.wire_core.specs.Cell.{WireState}
 use Rattle.nodes.specs.Nodes.{KeepsNode, node_seat}
-use Rattle.nodes.specs.declared.node.Node.{Node}
+use Rattle.nodes.specs.declared.node.IslandNode.{IslandNode}
 use Rattle.fused_net.specs.Laws.{AllKept}
 use Rattle.interpreter.specs.Island.{readers_of, writers_of}
 use Rattle.interpreter.specs.Picks.{pick_of}
@@ -39,13 +39,13 @@ is_so : (t : Bool) → IsTrue t → t ≡ true
 is_so t h = cc
 
 -- the seats that nodes leave, by their numbers
-pub left_seats : {S D L B : Type 0} (ws : List Wire) (near : ℕ → Cell) (last : List (Node S D L B)) (e : IslandEnd S D) → IsLeftBy ws near last e → e.seats.items ≡ numbered_from 0 (map node_seat last)
+pub left_seats : {S D L B : Type 0} (ws : List Edge) (near : ℕ → WireState) (last : List (IslandNode S D L B)) (e : IslandEnd S D) → IsLeftBy ws near last e → e.seats.items ≡ numbered_from 0 (map node_seat last)
 left_seats ws near last e l = l.seats ∙ seats_numbered 0 last
 
 module _ {S D L B : Type 0} (sources : S → SourceState) (drains : D → DrainState) (book : Book) (b : Blueprint) (ss : List S) (ds : List D) (nodes : List (Seated S D L B)) (seats : AreSeats (chains_of b) 0 b.nodes.items ss ds nodes) (many : length nodes ≡ length (graph_of b).nodes)
-    (acc : Account (Node S D L B)) (last : List (Node S D L B)) (left : AreLeft nodes acc last) (run : IsRun sources drains book (graph_of b) acc) where
+    (acc : Account (IslandNode S D L B)) (last : List (IslandNode S D L B)) (left : AreLeft nodes acc last) (run : IsRun sources drains book (graph_of b) acc) where
   -- the account of the nodes alone
-  abbrev alone : Account (Node S D L B)
+  abbrev alone : Account (IslandNode S D L B)
   alone = of_lists acc left.firsts last
 
   same : counts_of alone (graph_of b) ≡ counts_of acc (graph_of b)
@@ -65,7 +65,7 @@ module _ {S D L B : Type 0} (sources : S → SourceState) (drains : D → DrainS
   }
 
   -- bodies that were taken apart between two events, where the seats that their nodes left were settled
-  pub leaves : (budget : ℕ) (s : Stopped S D) (e : IslandEnd S D) (near : ℕ → Cell) → (s.at_rest ≡ true → IsStill (graph_of b) acc) → IsLeftBy (blueprint_wires b) near last e → s.end ≡ record e { seats = s.end.seats }
+  pub leaves : (budget : ℕ) (s : Stopped S D) (e : IslandEnd S D) (near : ℕ → WireState) → (s.at_rest ≡ true → IsStill (graph_of b) acc) → IsLeftBy (blueprint_wires b) near last e → s.end ≡ record e { seats = s.end.seats }
       → AllSettled (map (λ (n : blue.Node). n.kind) b.nodes.items) (seat_in (map node_seat last)) → s.wires.items ≡ counts_of acc (graph_of b) → s.used ≤ budget → (s.at_rest ≡ false → s.used ≡ budget)
       → all_sent (counts_of acc (graph_of b)) ≤ s.used → s.used + length (blueprint_wires b) ≤ count_needed (graph_of b) (counts_of acc (graph_of b)) → Leaves L B sources drains book b ss ds budget s
   leaves budget s e near still l same_end settled wires within spent least most = record {
@@ -90,7 +90,7 @@ module _ {S D L B : Type 0} (sources : S → SourceState) (drains : D → DrainS
   kept board at = kept_seats sources drains book b board nodes left.firsts last alone left.become (λ (k : ℕ). refl) (λ (k : ℕ). refl) left.as_many moment.run at
 
   -- and such as those of which some broke off in a turn
-  pub broken : (e : IslandEnd S D) (later : List (Node S D L B)) → AllKept (KeepsNode sources drains) last later → e.readers.items ≡ readers_of later → e.writers.items ≡ writers_of later → LeavesBroken L B sources drains book b ss ds e
+  pub broken : (e : IslandEnd S D) (later : List (IslandNode S D L B)) → AllKept (KeepsNode sources drains) last later → e.readers.items ≡ readers_of later → e.writers.items ≡ writers_of later → LeavesBroken L B sources drains book b ss ds e
   broken e later kept readers writers = record {
     account = alone;
     last = last;

@@ -6,7 +6,7 @@ use Rattle.blue_check.specs.Wires.{blueprint_wires}
 use Rattle.stream_model.specs.Composed.{count_from}
 use Rattle.stream_picture.specs.Shape.{count_needed}
 use Rattle.stream_io.specs.State.{SourceState, DrainState}
-use Rattle.nodes.specs.declared.node.Node.{Node}
+use Rattle.nodes.specs.declared.node.IslandNode.{IslandNode}
 use Rattle.nodes.specs.Nodes.{KeepsNode}
 use Rattle.fused_net.specs.Laws.{AllKept}
 use Rattle.interpreter.specs.declared.island.IslandEnd.{IslandEnd}
@@ -28,10 +28,10 @@ use Rattle.stream_model.specs.Linear.{Book}
 
 -- A moment of the run of a blueprint between two events, by its account: in the order of the blueprint the nodes were handed in as
 -- what stands at these places, over these sources and these drains, and are these now.
-pub record Moment {S D L B : Type 0} (sources : S → SourceState) (drains : D → DrainState) (book : Book) (b : Blueprint) (ss : List S) (ds : List D) (account : Account (Node S D L B)) (nodes : List (Node S D L B)) : Type 0 where
+pub record Moment {S D L B : Type 0} (sources : S → SourceState) (drains : D → DrainState) (book : Book) (b : Blueprint) (ss : List S) (ds : List D) (account : Account (IslandNode S D L B)) (nodes : List (IslandNode S D L B)) : Type 0 where
   pub places : List (Seated S D L B)
   pub seats : AreSeats (chains_of b) 0 b.nodes.items ss ds places
-  pub firsts : List (Node S D L B)
+  pub firsts : List (IslandNode S D L B)
   pub become : AllBecome places firsts
   pub first_at : (k : ℕ) → account.firsts k ≡ slice_get firsts k
   pub node_at : (k : ℕ) → account.nodes k ≡ slice_get nodes k
@@ -43,8 +43,8 @@ pub record Moment {S D L B : Type 0} (sources : S → SourceState) (drains : D �
 -- At least so many were used as elements were pushed, and one less at least for each wire than its part of the count over what was
 -- sent.
 pub record Leaves {S D : Type 0} (L B : Type 0) (sources : S → SourceState) (drains : D → DrainState) (book : Book) (b : Blueprint) (ss : List S) (ds : List D) (budget : ℕ) (s : Stopped S D) : Type 0 where
-  pub account : Account (Node S D L B)
-  pub nodes : List (Node S D L B)
+  pub account : Account (IslandNode S D L B)
+  pub nodes : List (IslandNode S D L B)
   pub moment : Moment sources drains book b ss ds account nodes
   pub still : IsTrue s.at_rest → IsStill (graph_of b) account
   pub settled : AreSettled (graph_of b) account
@@ -61,10 +61,10 @@ pub record Leaves {S D : Type 0} (L B : Type 0) (sources : S → SourceState) (d
 -- The run is one in which memory was wanting, and was taken apart. Since a last moment between two events each of its nodes has kept
 -- what outlives that.
 pub record LeavesBroken {S D : Type 0} (L B : Type 0) (sources : S → SourceState) (drains : D → DrainState) (book : Book) (b : Blueprint) (ss : List S) (ds : List D) (e : IslandEnd S D) : Type 0 where
-  pub account : Account (Node S D L B)
-  pub last : List (Node S D L B)
+  pub account : Account (IslandNode S D L B)
+  pub last : List (IslandNode S D L B)
   pub moment : Moment sources drains book b ss ds account last
-  pub nodes : List (Node S D L B)
+  pub nodes : List (IslandNode S D L B)
   pub kept : AllKept (KeepsNode sources drains) last nodes
   pub readers : e.readers.items ≡ readers_of nodes
   pub writers : e.writers.items ≡ writers_of nodes

@@ -3,13 +3,13 @@ use Rattle.std.proofs.Common.{◌≡◌, ℕ, ◌<◌, List, length, map, take, 
 use Rattle.std.specs.Prelude.{slice_get, slice_index}
 use Rattle.std.proofs.lemmas.List.{length-map}
 use Rattle.std.proofs.lemmas.Option.{slice_get_within}
-use Rattle.stream_model.specs.Graph.{Graph, Wire}
+use Rattle.stream_model.specs.Graph.{Graph, Edge}
 use Rattle.stream_model.specs.Graph as graph
-use Rattle.fused_net.specs.declared.net.Ends.{Ends}
+use Rattle.fused_net.specs.declared.net.WireEnds.{WireEnds}
 use Rattle.fused_net.specs.PortLists.{PortLists}
 use Rattle.fused_net.specs.Laws.{Wired, GoesOn}
 use Rattle.fused_net.specs.Net.{Net, end_at, ports_at}
-use Rattle.nodes.specs.declared.node.Node.{Node}
+use Rattle.nodes.specs.declared.node.IslandNode.{IslandNode}
 use Rattle.interpreter.specs.declared.parts.Link.{Link}
 use Rattle.interpreter.specs.declared.parts.Seated.{Seated}
 use Rattle.interpreter.specs.Parts.{ends_of, inputs_at, outputs_at, IsWiring, AllBecome}
@@ -25,10 +25,10 @@ use Rattle.island_seats.proofs.Becoming.{become_count}
 use Rattle.island_seats.proofs.Standing.{size, far_is, from_node, to_node, parts, one_island, home_below, same_home, rank_within, seats_in_count, seat_at, stands, mine_place, entry_number, near_there, far_there}
 
 -- nets that went on are nets of the same islands
-wired_as : (es fs : List Ends) (ps qs : List PortLists) (n m w v : ℕ) → fs ≡ es → qs ≡ ps → m ≡ n → v ≡ w → Wired es ps n w → Wired fs qs m v
+wired_as : (es fs : List WireEnds) (ps qs : List PortLists) (n m w v : ℕ) → fs ≡ es → qs ≡ ps → m ≡ n → v ≡ w → Wired es ps n w → Wired fs qs m v
 wired_as es fs ps qs n m w v a b c d h = subst (λ x. Wired x qs m v) (sym a) (subst (λ x. Wired es x m v) (sym b) (subst (λ x. Wired es ps x v) (sym c) (subst (λ x. Wired es ps n x) (sym d) h)))
 
-pub go_on : {S D L B : Type 0} (homes : List ℕ) (count : ℕ) (ws : List Wire) (nodes : List (Seated S D L B)) (nets later : ℕ → Net (Node S D L B)) → AreNets homes ws nodes count nets → ((k : ℕ) → k < count → GoesOn (nets k) (later k)) → AreNets homes ws nodes count later
+pub go_on : {S D L B : Type 0} (homes : List ℕ) (count : ℕ) (ws : List Edge) (nodes : List (Seated S D L B)) (nets later : ℕ → Net (IslandNode S D L B)) → AreNets homes ws nodes count nets → ((k : ℕ) → k < count → GoesOn (nets k) (later k)) → AreNets homes ws nodes count later
 go_on homes count ws nodes nets later b on = record {
   become = λ k lt. subst (AllBecome (seats_in homes ws nodes k)) (sym (on k lt).firsts) (b.become k lt);
   ends_are = λ k lt. (on k lt).ends ∙ b.ends_are k lt;
@@ -36,7 +36,7 @@ go_on homes count ws nodes nets later b on = record {
   each_first = λ k lt. ap length (on k lt).firsts ∙ b.each_first k lt ∙ sym (on k lt).nodes;
 }
 
-module _ {S D L B : Type 0} (homes : List ℕ) (count : ℕ) (ws : List Wire) (nodes : List (Seated S D L B)) (nets : ℕ → Net (Node S D L B)) (a : AreSeated homes count ws nodes) (b : AreNets homes ws nodes count nets) where
+module _ {S D L B : Type 0} (homes : List ℕ) (count : ℕ) (ws : List Edge) (nodes : List (Seated S D L B)) (nets : ℕ → Net (IslandNode S D L B)) (a : AreSeated homes count ws nodes) (b : AreNets homes ws nodes count nets) where
   pub firsts_count : (k : ℕ) → k < count → length (nets k).firsts ≡ count_of k (place_homes homes ws)
   firsts_count k lt = become_count (seats_in homes ws nodes k) (nets k).firsts (b.become k lt) ∙ seats_in_count homes count ws nodes a k
 
@@ -110,7 +110,7 @@ module _ {S D L B : Type 0} (homes : List ℕ) (count : ℕ) (ws : List Wire) (n
     seated : (k : ℕ) (n : graph.Node) → slice_get g.nodes k ≡ Some n → (s : Seated S D L B) × (slice_get nodes k ≡ Some s)
     seated k n at = let lt : k < length g.nodes = slice_get_within g.nodes k n at in there nodes k (omega (arith, lt, i.each_node))
 
-    wire : (u : ℕ) (v : Wire) → slice_get g.wires u ≡ Some v → slice_get ws u ≡ Some v
+    wire : (u : ℕ) (v : Edge) → slice_get g.wires u ≡ Some v → slice_get ws u ≡ Some v
     wire u v at = ap (λ vs. slice_get vs u) (sym i.wires_are) ∙ at
 
     pub covers : Covers g nets (seats_of homes ws)
@@ -123,24 +123,24 @@ module _ {S D L B : Type 0} (homes : List ℕ) (count : ℕ) (ws : List Wire) (n
           let l = near_there homes count ws nodes a u v (wire u v at) in
           let s = stands homes count ws nodes a u l.0 l.1.0 in
           s.island ∙ ap (slice_index (place_homes homes ws)) l.1.1.0 ∙ same_home homes count ws nodes a v.from (from_node homes count ws nodes a u v (wire u v at));
-      near_from = λ u v at. let l = near_there homes count ws nodes a u v (wire u v at) in ap (λ (e : Ends). e.from) (place_end u l.0 l.1.0) ∙ ap (rank_of (place_homes homes ws)) l.1.1.0;
-      near_output = λ u v at. let l = near_there homes count ws nodes a u v (wire u v at) in ap (λ (e : Ends). e.output) (place_end u l.0 l.1.0) ∙ l.1.1.1;
+      near_from = λ u v at. let l = near_there homes count ws nodes a u v (wire u v at) in ap (λ (e : WireEnds). e.from) (place_end u l.0 l.1.0) ∙ ap (rank_of (place_homes homes ws)) l.1.1.0;
+      near_output = λ u v at. let l = near_there homes count ws nodes a u v (wire u v at) in ap (λ (e : WireEnds). e.output) (place_end u l.0 l.1.0) ∙ l.1.1.1;
       far_within = λ u v at. let l = far_there homes count ws nodes a u v (wire u v at) in place_within (far_link ws u) l.0 l.1.0;
       far_home = λ u v at.
           let l = far_there homes count ws nodes a u v (wire u v at) in
           let s = stands homes count ws nodes a (far_link ws u) l.0 l.1.0 in
           s.island ∙ one_island homes count ws nodes a (far_link ws u) l.0 l.1.0 ∙ ap (slice_index (place_homes homes ws)) l.1.1.0 ∙ same_home homes count ws nodes a v.to (to_node homes count ws nodes a u v (wire u v at));
-      far_to = λ u v at. let l = far_there homes count ws nodes a u v (wire u v at) in ap (λ (e : Ends). e.to) (place_end (far_link ws u) l.0 l.1.0) ∙ ap (rank_of (place_homes homes ws)) l.1.1.0;
-      far_input = λ u v at. let l = far_there homes count ws nodes a u v (wire u v at) in ap (λ (e : Ends). e.input) (place_end (far_link ws u) l.0 l.1.0) ∙ l.1.1.1;
+      far_to = λ u v at. let l = far_there homes count ws nodes a u v (wire u v at) in ap (λ (e : WireEnds). e.to) (place_end (far_link ws u) l.0 l.1.0) ∙ ap (rank_of (place_homes homes ws)) l.1.1.0;
+      far_input = λ u v at. let l = far_there homes count ws nodes a u v (wire u v at) in ap (λ (e : WireEnds). e.input) (place_end (far_link ws u) l.0 l.1.0) ∙ l.1.1.1;
       fused = λ u v at lane. ap (link_place homes ws) (far_is ws u v (wire u v at) ∙ ap (into (length ws) (lanes_in (take u ws)) u) lane);
     }
 
     -- ---- and no other connection
 
     abbrev Owns : ℕ → ℕ → Type 0
-    Owns k q = (u : ℕ) × ((v : Wire) × ((slice_get g.wires u ≡ Some v) × (((seats_of homes ws).near u ≡ record { island = k; at = q }) ⊎ ((seats_of homes ws).far u ≡ record { island = k; at = q }))))
+    Owns k q = (u : ℕ) × ((v : Edge) × ((slice_get g.wires u ≡ Some v) × (((seats_of homes ws).near u ≡ record { island = k; at = q }) ⊎ ((seats_of homes ws).far u ≡ record { island = k; at = q }))))
 
-    graph_wire : (u : ℕ) (v : Wire) → slice_get ws u ≡ Some v → slice_get g.wires u ≡ Some v
+    graph_wire : (u : ℕ) (v : Edge) → slice_get ws u ≡ Some v → slice_get g.wires u ≡ Some v
     graph_wire u v at = ap (λ vs. slice_get vs u) i.wires_are ∙ at
 
     owner : (k q : ℕ) → k < count → q < length (nets k).wires → Owns k q

@@ -1,7 +1,7 @@
 -- The connections at which lanes come in and go out.
 use Rattle.std.proofs.Common.{◌≡◌, ℕ, ◌+◌, ◌<◌, true, false, List, length, take, Some, refl, ap, sym, ◌∙◌, ⊎_elim, arith}
 use Rattle.std.specs.Prelude.{slice_get, slice_index}
-use Rattle.stream_model.specs.Graph.{Wire}
+use Rattle.stream_model.specs.Graph.{Edge}
 use Rattle.interpreter.specs.declared.parts.Link.{Link}
 use Rattle.interpreter.specs.declared.parts.Seated.{Seated}
 use Rattle.interpreter.specs.Ways.{lane_comes, lane_goes, comes_in, goes_out}
@@ -15,14 +15,14 @@ use Rattle.island_parts.proofs.Wholes.{node_seat, entry_seat, exit_seat}
 use Rattle.island_seats.specs.Islands.{place_homes, link_homes, link_place, far_link, seats_in, links_in, AreSeated, IsWayIn, IsWayOut, HasWays, IsNearOf, IsFarOf}
 use Rattle.island_seats.proofs.Standing.{seats, size, far_is, from_node, to_node, one_island, places_count, same_home, place_seat, link_within, link_to_within, stands, mine_place, entry_number, near_there, far_there}
 
-module _ {S D L B : Type 0} (homes : List ℕ) (count : ℕ) (ws : List Wire) (nodes : List (Seated S D L B)) (a : AreSeated homes count ws nodes) where
+module _ {S D L B : Type 0} (homes : List ℕ) (count : ℕ) (ws : List Edge) (nodes : List (Seated S D L B)) (a : AreSeated homes count ws nodes) where
   -- the links of an island, by the number of homes and by that of nodes
   own_at : (k q : ℕ) → slice_get (links_in homes ws nodes k) q ≡ slice_get (own_links (place_homes homes ws) (whole_links (length homes) ws) k) q
   own_at k q = ap (λ n. slice_get (own_links (place_homes homes ws) (whole_links n ws) k) q) (size homes count ws nodes a)
 
   -- ---- of a lane
 
-  module _ (u : ℕ) (v : Wire) (bound : ℕ) (at : slice_get ws u ≡ Some v) (lane : v.lane ≡ Some bound) where
+  module _ (u : ℕ) (v : Edge) (bound : ℕ) (at : slice_get ws u ≡ Some v) (lane : v.lane ≡ Some bound) where
     abbrev j : ℕ
     j = lanes_in (take u ws)
 
@@ -164,7 +164,7 @@ module _ {S D L B : Type 0} (homes : List ℕ) (count : ℕ) (ws : List Wire) (n
 
   -- ---- each connection is in one of so many islands
 
-  pub islands : (u : ℕ) (v : Wire) → slice_get ws u ≡ Some v → ((link_place homes ws u).island < count) × ((link_place homes ws (far_link ws u)).island < count)
+  pub islands : (u : ℕ) (v : Edge) → slice_get ws u ≡ Some v → ((link_place homes ws u).island < count) × ((link_place homes ws (far_link ws u)).island < count)
   islands u v at =
       let l = near_there homes count ws nodes a u v at in
       let r = far_there homes count ws nodes a u v at in

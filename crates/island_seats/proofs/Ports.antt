@@ -3,7 +3,7 @@ use Rattle.std.proofs.Common.{◌≡◌, ℕ, zero, suc, ◌<◌, List, length, 
 use Rattle.std.specs.Prelude.{slice_get}
 use Rattle.std.proofs.lemmas.Option.{slice_get_within}
 use Rattle.fused_net.specs.PortLists.{PortLists}
-use Rattle.fused_net.specs.declared.net.Ends.{Ends}
+use Rattle.fused_net.specs.declared.net.WireEnds.{WireEnds}
 use Rattle.fused_net.specs.Net.{end_at, port_at}
 use Rattle.fused_net.specs.Laws.{Wired}
 use Rattle.interpreter.specs.Parts.{IsWiring}
@@ -15,7 +15,7 @@ same_size zero (suc b) f g = let x = g 0 (omega arith) in absurd (omega (arith, 
 same_size (suc a) zero f g = let x = f 0 (omega arith) in absurd (omega (arith, x))
 same_size (suc a) (suc b) f g = let x = f a (omega arith) in let y = g b (omega arith) in omega (arith, x, y)
 
-module _ (ins outs : ℕ → ℕ) (places : ℕ) (ends : List Ends) (ports : List PortLists) (nodes wires n : ℕ) (wired : Wired ends ports nodes wires) (is : IsWiring ins outs places ends) (place : n < places) (node : n < nodes) where
+module _ (ins outs : ℕ → ℕ) (places : ℕ) (ends : List WireEnds) (ports : List PortLists) (nodes wires n : ℕ) (wired : Wired ends ports nodes wires) (is : IsWiring ins outs places ends) (place : n < places) (node : n < nodes) where
   pub ins_count : length (port_at ports n).ins ≡ ins n
   ins_count = same_size (length (port_at ports n).ins) (ins n) there_is has
     where

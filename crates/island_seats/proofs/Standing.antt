@@ -6,8 +6,8 @@ use Rattle.std.specs.Option.{option_map}
 use Rattle.std.proofs.lemmas.List.{length-map}
 use Rattle.std.proofs.lemmas.List.Elements.{All-get_or}
 use Rattle.std.proofs.lemmas.Option.{slice_get_within, slice_get-map, get_or_from_slice_get}
-use Rattle.stream_model.specs.Graph.{Wire}
-use Rattle.fused_net.specs.declared.net.Ends.{Ends}
+use Rattle.stream_model.specs.Graph.{Edge}
+use Rattle.fused_net.specs.declared.net.WireEnds.{WireEnds}
 use Rattle.interpreter.specs.declared.parts.Link.{Link}
 use Rattle.interpreter.specs.declared.parts.Seated.{Seated}
 use Rattle.interpreter.specs.Parts.{inputs_at, outputs_at, IsWiring, AreParts}
@@ -23,19 +23,19 @@ use Rattle.island_parts.proofs.Splitting.{ends_within, whole_below}
 use Rattle.island_seats.specs.Islands.{place_homes, link_homes, link_place, input_link, far_link, AreSeated}
 
 -- the lane of a wire, and which link is at its input
-pub lane_is : (ws : List Wire) (u : ℕ) (v : Wire) → slice_get ws u ≡ Some v → lane_at ws u ≡ v.lane
+pub lane_is : (ws : List Edge) (u : ℕ) (v : Edge) → slice_get ws u ≡ Some v → lane_at ws u ≡ v.lane
 lane_is [] u v at = absurd cc
-lane_is (w ∷ ws) zero v at = let same : w ≡ v = cc in ap (λ (x : Wire). x.lane) same
+lane_is (w ∷ ws) zero v at = let same : w ≡ v = cc in ap (λ (x : Edge). x.lane) same
 lane_is (w ∷ ws) (suc u) v at = lane_is ws u v at
 
 pub input_is : (many number u : ℕ) (o : Option ℕ) → input_link u (many + number) o ≡ into many number u o
 input_is many number u None = refl
 input_is many number u (Some s) = refl
 
-pub far_is : (ws : List Wire) (u : ℕ) (v : Wire) → slice_get ws u ≡ Some v → far_link ws u ≡ into (length ws) (lanes_in (take u ws)) u v.lane
+pub far_is : (ws : List Edge) (u : ℕ) (v : Edge) → slice_get ws u ≡ Some v → far_link ws u ≡ into (length ws) (lanes_in (take u ws)) u v.lane
 far_is ws u v at = ap (input_link u (length ws + lanes_in (take u ws))) (lane_is ws u v at) ∙ input_is (length ws) (lanes_in (take u ws)) u v.lane
 
-module _ {S D L B : Type 0} (homes : List ℕ) (count : ℕ) (ws : List Wire) (nodes : List (Seated S D L B)) (a : AreSeated homes count ws nodes) where
+module _ {S D L B : Type 0} (homes : List ℕ) (count : ℕ) (ws : List Edge) (nodes : List (Seated S D L B)) (a : AreSeated homes count ws nodes) where
   abbrev pub hs : List ℕ
   hs = place_homes homes ws
 
@@ -53,14 +53,14 @@ module _ {S D L B : Type 0} (homes : List ℕ) (count : ℕ) (ws : List Wire) (n
   pub size : length nodes ≡ length homes
   size = sym a.each
 
-  in_ends : (i : ℕ) (v : Wire) → slice_get ws i ≡ Some v → i < length a.nodes_are.ends
+  in_ends : (i : ℕ) (v : Edge) → slice_get ws i ≡ Some v → i < length a.nodes_are.ends
   in_ends i v at = let lt : i < length ws = slice_get_within ws i v at in omega (arith, lt, a.nodes_are.each_wire)
 
-  pub from_node : (i : ℕ) (v : Wire) → slice_get ws i ≡ Some v → v.from < length homes
-  from_node i v at = let b = subst (λ (e : Ends). e.from < length nodes) (a.nodes_are.ends_are i v at) (a.nodes_are.wiring.from_within i (in_ends i v at)) in omega (arith, b, a.each)
+  pub from_node : (i : ℕ) (v : Edge) → slice_get ws i ≡ Some v → v.from < length homes
+  from_node i v at = let b = subst (λ (e : WireEnds). e.from < length nodes) (a.nodes_are.ends_are i v at) (a.nodes_are.wiring.from_within i (in_ends i v at)) in omega (arith, b, a.each)
 
-  pub to_node : (i : ℕ) (v : Wire) → slice_get ws i ≡ Some v → v.to < length homes
-  to_node i v at = let b = subst (λ (e : Ends). e.to < length nodes) (a.nodes_are.ends_are i v at) (a.nodes_are.wiring.to_within i (in_ends i v at)) in omega (arith, b, a.each)
+  pub to_node : (i : ℕ) (v : Edge) → slice_get ws i ≡ Some v → v.to < length homes
+  to_node i v at = let b = subst (λ (e : WireEnds). e.to < length nodes) (a.nodes_are.ends_are i v at) (a.nodes_are.wiring.to_within i (in_ends i v at)) in omega (arith, b, a.each)
 
   pub parts : (k : ℕ) → AreParts (of_home hs k seats) (own_links hs links k)
   parts k =
@@ -144,12 +144,12 @@ module _ {S D L B : Type 0} (homes : List ℕ) (count : ℕ) (ws : List Wire) (n
   pub entry_number : (p : ℕ) (l : Link) (e : AtEntry (length homes) ws p l) → far_link ws e.lane.at ≡ p
   entry_number p l e = far_is ws e.lane.at e.lane.wire e.lane.is ∙ ap (into (length ws) (lanes_in (take e.lane.at ws)) e.lane.at) e.lane.lane ∙ ap (λ j. length ws + j) e.lane.number ∙ sym e.place
 
-  pub near_there : (u : ℕ) (v : Wire) → slice_get ws u ≡ Some v → (l : Link) × ((slice_get links u ≡ Some l) × ((l.from ≡ v.from) × (l.output ≡ v.output)))
+  pub near_there : (u : ℕ) (v : Edge) → slice_get ws u ≡ Some v → (l : Link) × ((slice_get links u ≡ Some l) × ((l.from ≡ v.from) × (l.output ≡ v.output)))
   near_there u v at = by v.lane (near_link (length homes) ws u v at)
     where
       by : (o : Option ℕ) → slice_get links u ≡ Some (near_at (length homes + lanes_in ws + lanes_in (take u ws)) u v o) → (l : Link) × ((slice_get links u ≡ Some l) × ((l.from ≡ v.from) × (l.output ≡ v.output)))
       by None e = (near_at (length homes + lanes_in ws + lanes_in (take u ws)) u v None, (e, (refl, refl)))
       by (Some s) e = (near_at (length homes + lanes_in ws + lanes_in (take u ws)) u v (Some s), (e, (refl, refl)))
 
-  pub far_there : (u : ℕ) (v : Wire) → slice_get ws u ≡ Some v → (l : Link) × ((slice_get links (far_link ws u) ≡ Some l) × ((l.to ≡ v.to) × (l.input ≡ v.input)))
+  pub far_there : (u : ℕ) (v : Edge) → slice_get ws u ≡ Some v → (l : Link) × ((slice_get links (far_link ws u) ≡ Some l) × ((l.to ≡ v.to) × (l.input ≡ v.input)))
   far_there u v at = let l = link_into (length homes) ws u v at in (l.0, (ap (slice_get links) (far_is ws u v at) ∙ l.1.0, l.1.1))

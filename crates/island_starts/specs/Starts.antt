@@ -5,7 +5,7 @@ use Rattle.fused_net.specs.Net.{wire_at}
 use Rattle.interpreter.specs.declared.island.IslandEnd.{IslandEnd}
 use Rattle.interpreter.specs.declared.parts.Link.{Link}
 use Rattle.interpreter.specs.declared.parts.Parts.{Parts}
-use Rattle.interpreter.specs.declared.room.Room.{Room}
+use Rattle.interpreter.specs.declared.room.IslandRoom.{IslandRoom}
 use Rattle.interpreter.specs.Boundary.{BeginsOut, EntersBy, LeavesBy}
 use Rattle.interpreter.specs.Handles.{HandsBack, HoldsHandles}
 use Rattle.interpreter.specs.Island.{Kept, Keeps, readers_of, writers_of}
@@ -28,12 +28,12 @@ pub record Adds {X Y : Type 0} (r : X → Y → Type 0) (xs : List X) (old new :
 
 module _ {S D L B : Type 0} where
   -- the parts of an island, and room for it
-  pub record CanStart (x : Parts S D L B × Room S D L B) : Type 0 where
+  pub record CanStart (x : Parts S D L B × IslandRoom S D L B) : Type 0 where
     pub parts : AreParts x.0.nodes.items x.0.links.items
     pub room : IsRoom x.1 (map place_of x.0.nodes.items) x.0.links.items
 
-  abbrev pub CanAllStart : List (Parts S D L B × Room S D L B) → Type 0
-  CanAllStart islands = (k : ℕ) (x : Parts S D L B × Room S D L B) → slice_get islands k ≡ Some x → CanStart x
+  abbrev pub CanAllStart : List (Parts S D L B × IslandRoom S D L B) → Type 0
+  CanAllStart islands = (k : ℕ) (x : Parts S D L B × IslandRoom S D L B) → slice_get islands k ≡ Some x → CanStart x
 
   -- what an island leaves has the handles of its nodes
   pub record Leaves (i : Kept S D L B) (e : IslandEnd S D) : Type 0 where
@@ -57,19 +57,19 @@ module _ {S D L B : Type 0} where
       pub begins_out : (q : ℕ) (l : Link) → slice_get parts.links.items q ≡ Some l → goes_out parts.nodes.items l.to ≡ true → BeginsOut i.net q
       pub handles : HoldsHandles sources drains parts.nodes.items i.net.nodes
 
-    abbrev pub AllStarted : List (Parts S D L B × Room S D L B) → List (Kept S D L B) → Type 0
-    AllStarted islands started = AreOf (λ (x : Parts S D L B × Room S D L B). HasStarted x.0) islands started
+    abbrev pub AllStarted : List (Parts S D L B × IslandRoom S D L B) → List (Kept S D L B) → Type 0
+    AllStarted islands started = AreOf (λ (x : Parts S D L B × IslandRoom S D L B). HasStarted x.0) islands started
 
   module _ (sources : S → SourceState) (drains : D → DrainState) where
     -- an island was taken apart, and hands its handles back as they were handed in
-    abbrev pub GivesBack : Parts S D L B × Room S D L B → IslandEnd S D → Type 0
+    abbrev pub GivesBack : Parts S D L B × IslandRoom S D L B → IslandEnd S D → Type 0
     GivesBack x e = HandsBack sources drains x.0.nodes.items e
 
-    abbrev pub AllGiveBack : List (Parts S D L B × Room S D L B) → List (IslandEnd S D) → Type 0
+    abbrev pub AllGiveBack : List (Parts S D L B × IslandRoom S D L B) → List (IslandEnd S D) → Type 0
     AllGiveBack islands ends = AreOf GivesBack islands ends
 
     -- what these islands leave that had started, then this, and then what those leave that were not to be started
-    pub record TakenApart (started : List (Kept S D L B)) (end : IslandEnd S D) (rest : List (Parts S D L B × Room S D L B)) (ends : List (IslandEnd S D)) : Type 0 where
+    pub record TakenApart (started : List (Kept S D L B)) (end : IslandEnd S D) (rest : List (Parts S D L B × IslandRoom S D L B)) (ends : List (IslandEnd S D)) : Type 0 where
       pub front : List (IslandEnd S D)
       pub behind : List (IslandEnd S D)
       pub all_are : ends ≡ front ++ (end ∷ behind)

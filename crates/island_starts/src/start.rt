@@ -5,7 +5,7 @@ ghost use Rattle.island_starts.specs.Starts.{CanStart, CanAllStart, HasStarted, 
 
 use interpreter::island::{Island, IslandEnd, StartEnd, hand_back};
 use interpreter::parts::Parts;
-use interpreter::room::Room;
+use interpreter::room::IslandRoom;
 use plug_logic::book::PlugBook;
 use plug_logic::logic::Logic;
 use std::alloc::Global;
@@ -17,7 +17,7 @@ use stream_io::outside::{Drain, Source};
 /// and `ends` are empty and have room for all islands, so only a node may want memory. Rule: own.
 pub fn start_all<S: Source, D: Drain, L: Logic, B: PlugBook>(
     alloc: Global,
-    islands: Vec<(Parts<S, D, L, B>, Room<S, D, L, B>)>,
+    islands: Vec<(Parts<S, D, L, B>, IslandRoom<S, D, L, B>)>,
     started: Vec<Island<S, D, L, B>>,
     ends: Vec<IslandEnd<S, D>>,
 ) -> Result<Vec<Island<S, D, L, B>>, Vec<IslandEnd<S, D>>>
@@ -43,7 +43,7 @@ pub fn start_all<S: Source, D: Drain, L: Logic, B: PlugBook>(
 // One island, which gives its handles back where it did not start.
 fn start_one<S: Source, D: Drain, L: Logic, B: PlugBook>(
     alloc: Global,
-    island: (Parts<S, D, L, B>, Room<S, D, L, B>),
+    island: (Parts<S, D, L, B>, IslandRoom<S, D, L, B>),
 ) -> Result<Island<S, D, L, B>, IslandEnd<S, D>>
     requires { CanStart island }
     ensures started { IfOk result (HasStarted S.state D.state B.lists island.0) }
@@ -61,7 +61,7 @@ fn take_apart<S: Source, D: Drain, L: Logic, B: PlugBook>(
     alloc: Global,
     started: Vec<Island<S, D, L, B>>,
     end: IslandEnd<S, D>,
-    rest: IntoIter<(Parts<S, D, L, B>, Room<S, D, L, B>), Global>,
+    rest: IntoIter<(Parts<S, D, L, B>, IslandRoom<S, D, L, B>), Global>,
     ends: Vec<IslandEnd<S, D>>,
 ) -> Vec<IslandEnd<S, D>>
     requires can { CanAllStart (into_iter_items rest) }
@@ -105,7 +105,7 @@ fn finish<S: Source, D: Drain, L: Logic, B: PlugBook>(island: Island<S, D, L, B>
 // The same of islands that are not to be started.
 fn hand_all_back<S: Source, D: Drain, L: Logic, B: PlugBook>(
     alloc: Global,
-    islands: IntoIter<(Parts<S, D, L, B>, Room<S, D, L, B>), Global>,
+    islands: IntoIter<(Parts<S, D, L, B>, IslandRoom<S, D, L, B>), Global>,
     ends: &mut Vec<IslandEnd<S, D>>,
 )
     requires can { CanAllStart (into_iter_items islands) }
@@ -122,7 +122,7 @@ fn hand_all_back<S: Source, D: Drain, L: Logic, B: PlugBook>(
 // One of them.
 fn hand_one_back<S: Source, D: Drain, L: Logic, B: PlugBook>(
     alloc: Global,
-    island: (Parts<S, D, L, B>, Room<S, D, L, B>),
+    island: (Parts<S, D, L, B>, IslandRoom<S, D, L, B>),
 ) -> IslandEnd<S, D>
     requires { CanStart island }
     ensures { GivesBack S.state D.state island result }

@@ -8,7 +8,7 @@ use Rattle.lane_core.specs.Lane as lane
 use Rattle.lane_core.specs.Ends.{IsLaneHistory, in_size, sent, taken, has_cancelled}
 use Rattle.wire_core.specs.Counts.{elements}
 use Rattle.elem_core.specs.Tree.{Tree}
-use Rattle.wire_core.specs.Cell.{Cell}
+use Rattle.wire_core.specs.Cell.{WireState}
 use Rattle.stream_model.specs.Outlook.{End}
 use Rattle.stage_law.specs.Held.{told}
 use Rattle.stage_law.specs.Law.{GaveAs}
@@ -40,7 +40,7 @@ are_met o i h = record {
   once = zero_or_one i.cancelled (has_cancelled i) i.asked_is.1;
 }
 
-pub boundary_keeps : (b : InputBoundary) (c : Cell) (l : List Tree) (e : End) → BoundaryKeeps b → c.wire.sent ≡ given b → c.wire.sent ≡ told l e → GaveAs c.wire.out e → InKeeps (in_size b.lane) c (in_end b.lane)
+pub boundary_keeps : (b : InputBoundary) (c : WireState) (l : List Tree) (e : End) → BoundaryKeeps b → c.wire.sent ≡ given b → c.wire.sent ≡ told l e → GaveAs c.wire.out e → InKeeps (in_size b.lane) c (in_end b.lane)
 boundary_keeps b c l e k is told_is as_known =
     let same : e ≡ k.given_end = sym (standing_told l e) ∙ (ap standing (sym told_is ∙ (is ∙ k.given_is)) ∙ standing_told k.given_list k.given_end) in
     let count : elements c.wire.sent ≡ lane.elements (given b) = ap elements is ∙ sym (counts_same (given b)) in

@@ -1,7 +1,7 @@
 // Laws of the two ends of a lane: each function has no body, and its contract is the law.
 ghost use Rattle.std.specs.Prelude.{◌≡◌, List};
 ghost use Rattle.elem_core.specs.Tree.{Tree};
-ghost use Rattle.wire_core.specs.Cell.{Cell};
+ghost use Rattle.wire_core.specs.Cell.{WireState};
 ghost use Rattle.lane_core.specs.declared.lane_out.LaneOut.{LaneOut};
 ghost use Rattle.lane_core.specs.declared.lane_in.LaneIn.{LaneIn};
 ghost use Rattle.lane_core.specs.Ends.{IsLaneHistory, in_size};
@@ -20,5 +20,5 @@ pub fn ends_that_met_are_known()
 
 /// An input boundary is what an account wants of an input end, where the connection behind its stage carries what it handed on.
 pub fn an_input_boundary_keeps_its_end()
-    ensures { (b : InputBoundary) (c : Cell) (l : List Tree) (e : End) → BoundaryKeeps b → c.wire.sent ≡ given b → c.wire.sent ≡ told l e → GaveAs c.wire.out e → InKeeps (in_size b.lane) c (in_end b.lane) }
+    ensures { (b : InputBoundary) (c : WireState) (l : List Tree) (e : End) → BoundaryKeeps b → c.wire.sent ≡ given b → c.wire.sent ≡ told l e → GaveAs c.wire.out e → InKeeps (in_size b.lane) c (in_end b.lane) }
 {}

@@ -3,7 +3,7 @@ use Rattle.std.proofs.Common.{◌≡◌, ℕ, zero, suc, ◌<◌, List, [], ◌�
 use Rattle.std.specs.Prelude.{◌==◌, slice_get}
 use Rattle.std.proofs.lemmas.Bool.{eq-eqb, ne_eqb, cond-true, cond-false}
 use Rattle.std.proofs.lemmas.Option.{slice_get_within}
-use Rattle.stream_model.specs.Graph.{Wire}
+use Rattle.stream_model.specs.Graph.{Edge}
 use Rattle.fused_net.proofs.Reading.{some_same}
 use Rattle.lane_core.specs.Ends.{asked}
 use Rattle.island_input.specs.declared.boundary.IslandInput.{IslandInput}
@@ -37,7 +37,7 @@ found_ask (k ∷ ks) (b ∷ bs) (suc n) l a rise al aa =
     cond-false (k.wire == l.wire) b (asked_by ks bs l.wire) (ne_eqb k.wire l.wire (λ e. omega (arith, less, e))) ∙ found_ask ks bs n l a (rest_rises k ks rise) al aa
 
 -- the wires of lanes are some of all wires
-pub wires_within : (homes : List ℕ) (ws : List Wire) → AreWithin (length ws) (lanes_from homes 0 ws)
+pub wires_within : (homes : List ℕ) (ws : List Edge) → AreWithin (length ws) (lanes_from homes 0 ws)
 wires_within homes ws n l at = let p = plan_of homes ws n l at in slice_get_within ws l.wire p.wire p.is
 
 -- ---- crossings

@@ -5,13 +5,13 @@ use Rattle.std.specs.List.{sum_by}
 use Rattle.std.proofs.lemmas.List.{length-map}
 use Rattle.std.proofs.lemmas.Option.{slice_get_within}
 use Rattle.stream_io.specs.State.{SourceState, DrainState}
-use Rattle.stream_model.specs.Graph.{Graph, Wire}
+use Rattle.stream_model.specs.Graph.{Graph, Edge}
 use Rattle.wire_core.specs.Counts.{asks}
 use Rattle.fused_net.specs.Costs.{sum_below, all_asks}
 use Rattle.fused_net.specs.Net.{wire_at}
 use Rattle.fused_net.proofs.Sums.{sum_le}
 use Rattle.interpreter.specs.declared.parts.Seated.{Seated}
-use Rattle.nodes.specs.declared.node.Node.{Node}
+use Rattle.nodes.specs.declared.node.IslandNode.{IslandNode}
 use Rattle.run_account.specs.Account.{Account}
 use Rattle.run_account.specs.Pictures.{counts_from, counts_of}
 use Rattle.run_account.specs.Seats.{Place, joined}
@@ -40,7 +40,7 @@ sum_first f zero = omega arith
 sum_first f (suc n) = omega (arith, sum_first f n)
 
 -- what was sent on a connection is at most the asks that came to its output
-pub sent_asked : {N : Type 0} (a : Account N) (u : ℕ) (ws : List Wire) → all_sent (counts_from a u ws) ≤ sum_below (λ k. asks (a.near (u + k)).wire) (length ws)
+pub sent_asked : {N : Type 0} (a : Account N) (u : ℕ) (ws : List Edge) → all_sent (counts_from a u ws) ≤ sum_below (λ k. asks (a.near (u + k)).wire) (length ws)
 sent_asked a u [] = omega arith
 sent_asked a u (v ∷ vs) =
     let first : sum_below (λ k. asks (a.near (u + k)).wire) (suc (length vs)) ≡ asks (a.near (u + 0)).wire + sum_below (λ k. asks (a.near (u + suc k)).wire) (length vs) = sum_first (λ k. asks (a.near (u + k)).wire) (length vs) in
@@ -57,12 +57,12 @@ sent_asked a u (v ∷ vs) =
 ranks_apart : (hs : List ℕ) (i j : ℕ) → i < length hs → j < length hs → slice_index hs i ≡ slice_index hs j → rank_of hs i ≡ rank_of hs j → i ≡ j
 ranks_apart hs i j a b home rank = rank_one hs i j (slice_index hs j) (home_at hs i (slice_index hs j) a home) (home_at hs j (slice_index hs j) b refl) (sym (rank_is hs i (slice_index hs j) home) ∙ (rank ∙ rank_is hs j (slice_index hs j) refl))
 
-module _ {S D L B : Type 0} (sources : S → SourceState) (drains : D → DrainState) (book : Book) (g : Graph) (homes : List ℕ) (count : ℕ) (ws : List Wire) (nodes : List (Seated S D L B)) (crossings : List Crossing) (begun now : List (Body S D L B))
+module _ {S D L B : Type 0} (sources : S → SourceState) (drains : D → DrainState) (book : Book) (g : Graph) (homes : List ℕ) (count : ℕ) (ws : List Edge) (nodes : List (Seated S D L B)) (crossings : List Crossing) (begun now : List (Body S D L B))
     (m : AreBodiesOf sources drains book g homes count ws nodes crossings begun) (goes : EachOf BodyGoes begun now) (keep : AllOf (BodyKeeps sources drains book) now) (all : ℕ → ℕ) where
   goes_on : (k : ℕ) (a b : Body S D L B) → slice_get begun k ≡ Some a → slice_get now k ≡ Some b → Went a b
   goes_on k a b x y = went a b (goes.each k a b x y)
 
-  abbrev account : Account (Node S D L B)
+  abbrev account : Account (IslandNode S D L B)
   account = joined (net_of now) (seats_of homes ws) all
 
   abbrev asks_at : ℕ → ℕ → ℕ
@@ -98,6 +98,6 @@ module _ {S D L B : Type 0} (sources : S → SourceState) (drains : D → DrainS
 
   pub spent : all_sent (counts_of account g) ≤ sum_by (λ (b : Body S D L B). b.spent) now
   spent =
-      let sent = subst (λ (vs : List Wire). all_sent (counts_from account 0 vs) ≤ sum_below (λ u. asks_at (link_place homes ws u).island (link_place homes ws u).at) (length ws)) (sym m.graph.wires_are) sent_placed in
+      let sent = subst (λ (vs : List Edge). all_sent (counts_from account 0 vs) ≤ sum_below (λ u. asks_at (link_place homes ws u).island (link_place homes ws u).at) (length ws)) (sym m.graph.wires_are) sent_placed in
       let paid = asks_spent sources drains book count now (goes.count ∙ m.begun_are.many) keep in
       omega (arith, sent, placed, paid)

@@ -13,7 +13,7 @@ use Rattle.port_core.specs.declared.view.OutView.TheVariants as outlet
 use Rattle.stream_model.specs.Linear.{Book}
 use Rattle.stage_law.specs.Row.{InClosed}
 use Rattle.wire_core.specs.Counts.{elements}
-use Rattle.nodes.specs.declared.node.Node.{Node}
+use Rattle.nodes.specs.declared.node.IslandNode.{IslandNode}
 use Rattle.nodes.specs.Nodes.{node_row, node_law, node_asking, node_moves, node_gone, node_waits}
 use Rattle.fused_net.specs.Net.{Net, wire_at}
 use Rattle.fused_net.specs.Laws.{Settled}
@@ -47,7 +47,7 @@ counts_same (item.Ended ∷ l) = let r = counts_same l in omega (arith, r)
 counts_same (item.Failed c ∷ l) = let r = counts_same l in omega (arith, r)
 
 -- no wire is queued where no event is left
-sound_rest : {S D L B : Type 0} {sources : S → SourceState} {drains : D → DrainState} {book : Book} (net : Net (Node S D L B)) → Settled node_row (node_law sources drains book) node_asking node_moves net → net.queue ≡ [] → (q : ℕ) → q < length net.wires → IsSound (wire_at net q).wire false
+sound_rest : {S D L B : Type 0} {sources : S → SourceState} {drains : D → DrainState} {book : Book} (net : Net (IslandNode S D L B)) → Settled node_row (node_law sources drains book) node_asking node_moves net → net.queue ≡ [] → (q : ℕ) → q < length net.wires → IsSound (wire_at net q).wire false
 sound_rest net s none q h = subst (λ (l : List ℕ). IsSound (wire_at net q).wire (holds l q)) none (s.sound q h)
 
 -- ---- small facts

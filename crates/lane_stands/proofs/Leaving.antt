@@ -9,14 +9,14 @@ use Rattle.stream_model.specs.Linear.{Book}
 use Rattle.stage_law.specs.Held.{told}
 use Rattle.stage_law.specs.Law.{TookAs}
 use Rattle.port_core.specs.Joint.{Joint, idle, asking, asked, moving, ending, closing, leaving, finished, parted, refused, wire_of, IsSound, Histories, Queues}
-use Rattle.port_core.specs.Wire.{Wire}
+use Rattle.port_core.specs.Wire.{JointPorts}
 use Rattle.port_core.specs.View.{View, in_at}
 use Rattle.port_core.specs.declared.view.InView.{InView}
 use Rattle.port_core.specs.declared.view.InView.TheVariants.{Idle, Cancelled}
-use Rattle.wire_core.specs.Cell.{Cell}
+use Rattle.wire_core.specs.Cell.{WireState}
 use Rattle.wire_core.specs.Reading.{no_wire, inp_of, got_of}
-use Rattle.nodes.specs.declared.node.Node.{Node}
-use Rattle.nodes.specs.declared.node.Node.TheVariants as node
+use Rattle.nodes.specs.declared.node.IslandNode.{IslandNode}
+use Rattle.nodes.specs.declared.node.IslandNode.TheVariants as node
 use Rattle.nodes.specs.Nodes.{node_row, node_law, node_asking, node_moves, node_gone, node_waits}
 use Rattle.fused_net.specs.Net.{Net, read_all, end_at, wire_at, ports_at, view_of, took, gave}
 use Rattle.fused_net.specs.Laws.{Settled}
@@ -39,10 +39,10 @@ idle_j (finished t c) s g e q h = absurd cc
 idle_j (parted t c) s g e q h = absurd cc
 idle_j (refused t c) s g e q h = absurd cc
 
-pub idle_rest : (w : Wire) → IsSound w false → w.inp ≡ Idle → (w.conn.out_closed ≡ false) × (w.sent ≡ w.got)
+pub idle_rest : (w : JointPorts) → IsSound w false → w.inp ≡ Idle → (w.conn.out_closed ≡ false) × (w.sent ≡ w.got)
 idle_rest w s e =
-    let both = idle_j s.joint w.sent w.got (sym (ap (λ (v : Wire). v.inp) s.is) ∙ e) s.queues s.histories in
-    (ap (λ (v : Wire). v.conn.out_closed) s.is ∙ both.0, both.1)
+    let both = idle_j s.joint w.sent w.got (sym (ap (λ (v : JointPorts). v.inp) s.is) ∙ e) s.queues s.histories in
+    (ap (λ (v : JointPorts). v.conn.out_closed) s.is ∙ both.0, both.1)
 
 -- ---- the stage
 
@@ -61,14 +61,14 @@ one_of a l (suc i) e = absurd cc
 one_item : (a l : List Item) (t : List (List Item)) (i : ℕ) → t ≡ a ∷ [] → slice_get t i ≡ Some l → (i ≡ 0) × (a ≡ l)
 one_item a l t i e at = one_of a l i (ap (λ (z : List (List Item)). slice_get z i) (sym e) ∙ at)
 
-got_there : (wires : List Cell) (ws : List ℕ) (i w : ℕ) → slice_get ws i ≡ Some w → slice_get (read_all got_of wires ws) i ≡ Some (get_or wires w no_wire).wire.got
+got_there : (wires : List WireState) (ws : List ℕ) (i w : ℕ) → slice_get ws i ≡ Some w → slice_get (read_all got_of wires ws) i ≡ Some (get_or wires w no_wire).wire.got
 got_there wires [] i w e = absurd cc
 got_there wires (x ∷ ws) zero w e = ap (λ (k : ℕ). Some (get_or wires k no_wire).wire.got) (some_same x w e)
 got_there wires (x ∷ ws) (suc i) w e = got_there wires ws i w e
 
 module _ {S D L B : Type 0} (sources : S → SourceState) (drains : D → DrainState) (book : Book) where
   -- the stage's law at port i of it
-  took_by : (x first : Node S D L B) → IsLeaving first → (v : View) (t g : List (List Item)) (i : ℕ) (l : List Item) (y : InView) → slice_get t i ≡ Some l → in_at v i ≡ y → node_law sources drains book first x v t g → Took (node_gone x) (node_waits x) l y
+  took_by : (x first : IslandNode S D L B) → IsLeaving first → (v : View) (t g : List (List Item)) (i : ℕ) (l : List Item) (y : InView) → slice_get t i ≡ Some l → in_at v i ≡ y → node_law sources drains book first x v t g → Took (node_gone x) (node_waits x) l y
   took_by (node.Leaving x) (node.Leaving f) h v t g i l y at inp law =
       let one = one_item (told law.list law.end) l t i law.took_is at in
       record {
@@ -99,12 +99,12 @@ module _ {S D L B : Type 0} (sources : S → SourceState) (drains : D → DrainS
   took_by x (node.Ignoring f) h v t g i l y at inp law = absurd h
   took_by x (node.Entering f) h v t g i l y at inp law = absurd h
 
-  module _ (net : Net (Node S D L B)) (s : Settled node_row (node_law sources drains book) node_asking node_moves net) (q : ℕ) (h : q < length net.wires) (stage : LeavesAt net q) where
+  module _ (net : Net (IslandNode S D L B)) (s : Settled node_row (node_law sources drains book) node_asking node_moves net) (q : ℕ) (h : q < length net.wires) (stage : LeavesAt net q) where
     abbrev to : ℕ
     to = (end_at net.ends q).to
 
     -- what came there is a list and its end, as the stage knows
-    pub took_there : (x : Node S D L B) → slice_get net.nodes to ≡ Some x → Took (node_gone x) (node_waits x) (wire_at net q).wire.got (wire_at net q).wire.inp
+    pub took_there : (x : IslandNode S D L B) → slice_get net.nodes to ≡ Some x → Took (node_gone x) (node_waits x) (wire_at net q).wire.got (wire_at net q).wire.inp
     took_there x at =
         let first = get_there net.firsts to (rw s.each_first (s.wired.to_within q h)) in
         took_by x first.0 (stage first.0 first.1) (view_of net to) (took net to) (gave net to) (end_at net.ends q).input (wire_at net q).wire.got (wire_at net q).wire.inp
@@ -112,5 +112,5 @@ module _ {S D L B : Type 0} (sources : S → SourceState) (drains : D → DrainS
         (read_at inp_of net.wires (ports_at net to).ins (end_at net.ends q).input q Cancelled (s.wired.to_input q h))
         (s.minded to (s.wired.to_within q h) x first.0 at first.1).law_holds
 
-    pub there : (x : Node S D L B) × (slice_get net.nodes to ≡ Some x)
+    pub there : (x : IslandNode S D L B) × (slice_get net.nodes to ≡ Some x)
     there = get_there net.nodes to (s.wired.to_within q h)

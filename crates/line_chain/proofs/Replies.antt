@@ -4,8 +4,8 @@ use Rattle.elem_core.specs.Tree.{Tree}
 use Rattle.elem_core.specs.declared.why.Decider.{Decider}
 use Rattle.elem_core.specs.declared.why.Decider.TheVariants.{Stop, Resume, Restart}
 use Rattle.elem_core.specs.declared.why.Why.{Why}
-use Rattle.stage_linear.specs.declared.task.Outcome.{Outcome}
-use Rattle.stage_linear.specs.declared.task.Outcome.TheVariants.{Gives, GivesAll, Skips, EndsWith, EndsWithAll, Ends, Blames, Fails}
+use Rattle.stage_linear.specs.declared.task.LinearReaction.{LinearReaction}
+use Rattle.stage_linear.specs.declared.task.LinearReaction.TheVariants.{Gives, GivesAll, Skips, EndsWith, EndsWithAll, Ends, Blames, Fails}
 use Rattle.stage_linear.specs.Tasks.{ReactedBy, Stays}
 use Rattle.stage_keeping.specs.Keeping.{stage_of}
 use Rattle.stream_model.specs.Machine.{going}
@@ -22,7 +22,7 @@ blamed Restart old new why node n s =
     ∙ ap (λ (w : Work). record { gave = []; state = going (stage_of node Restart (n + 1) w) }) (s.1.0 ∙ sym s.0)
 
 -- what a task came to is the step of the model
-pub replies : (d : Decider) (old : Work) (t : Tree) (new : Work) (o : Outcome) → ReactedBy no_plugs old t new o → Replies d old t new o
+pub replies : (d : Decider) (old : Work) (t : Tree) (new : Work) (o : LinearReaction) → ReactedBy no_plugs old t new o → Replies d old t new o
 replies d old t new (Gives u) r = λ node n. ap (reacts (stage_of node d n old)) r.0
 replies d old t new (GivesAll us) r = λ node n. ap (reacts (stage_of node d n old)) r.0
 replies d old t new Skips r = λ node n. ap (reacts (stage_of node d n old)) r.0

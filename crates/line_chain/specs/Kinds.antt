@@ -1,8 +1,8 @@
 -- What a step of a chain does from its start, in the words of the model.
 use Rattle.std.specs.Prelude.{◌≡◌, zero, true, false, [], None, unwrap_or}
 use Rattle.elem_core.specs.Values.{fold_zero}
-use Rattle.stage_keeping.specs.declared.ending.Ending.{Ending}
-use Rattle.stage_keeping.specs.declared.ending.Ending.TheVariants as ending
+use Rattle.stage_keeping.specs.declared.ending.StateEnd.{StateEnd}
+use Rattle.stage_keeping.specs.declared.ending.StateEnd.TheVariants as ending
 use Rattle.stream_model.specs.Linear.{Work, mapping, filtering, taking, taking_while, dropping, dropping_while, passing, limiting, grouping, expanding, folding, scanning, reducing, heading, lasting, work_of}
 use Rattle.stream_model.specs.declared.kind.Kind.{Kind}
 use Rattle.line_chain.specs.declared.kind.StepKind.{StepKind}
@@ -28,7 +28,7 @@ begun First = heading
 begun Last = lasting None
 
 -- how it stands before any element: one that is to pass none has ended
-abbrev pub begun_ending : StepKind → Ending
+abbrev pub begun_ending : StepKind → StateEnd
 begun_ending (Take zero) = ending.Ended
 begun_ending _ = ending.Lasting
 

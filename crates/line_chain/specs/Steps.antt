@@ -4,11 +4,11 @@ use Rattle.elem_core.specs.Tree.{Tree}
 use Rattle.elem_core.specs.declared.why.Decider.{Decider}
 use Rattle.elem_core.specs.declared.why.Decider.TheVariants.{Stop, Resume, Restart}
 use Rattle.elem_core.specs.declared.why.Why.{Why}
-use Rattle.stage_linear.specs.declared.task.Outcome.{Outcome}
-use Rattle.stage_linear.specs.declared.task.Outcome.TheVariants.{Gives, GivesAll, Skips, EndsWith, EndsWithAll, Ends, Blames, Fails}
+use Rattle.stage_linear.specs.declared.task.LinearReaction.{LinearReaction}
+use Rattle.stage_linear.specs.declared.task.LinearReaction.TheVariants.{Gives, GivesAll, Skips, EndsWith, EndsWithAll, Ends, Blames, Fails}
 use Rattle.stage_linear.specs.Tasks as tasks
-use Rattle.stage_keeping.specs.declared.ending.Ending.{Ending}
-use Rattle.stage_keeping.specs.declared.ending.Ending.TheVariants as ending
+use Rattle.stage_keeping.specs.declared.ending.StateEnd.{StateEnd}
+use Rattle.stage_keeping.specs.declared.ending.StateEnd.TheVariants as ending
 use Rattle.stage_keeping.specs.Keeping as keeping
 use Rattle.stage_keeping.specs.Keeping.{stage_of}
 use Rattle.stage_keeping.specs.Endings.{state_by}
@@ -35,7 +35,7 @@ abbrev pub machine : Machine Stage Tree
 machine = linear no_plugs passing
 
 -- how its input stands, or it does
-abbrev pub end_of : Ending → End
+abbrev pub end_of : StateEnd → End
 end_of ending.Lasting = unended
 end_of ending.Ended = ended
 end_of (ending.Failed c) = failed c
@@ -64,7 +64,7 @@ decided_by Resume node n w why = record { gave = []; state = going (stage_of nod
 decided_by Restart node n w why = record { gave = []; state = going (stage_of node Restart n w) }
 
 -- a step whose element n came to this, and which has this work then
-abbrev pub replied : Decider → ℕ → ℕ → Work → Outcome → Run Stage Tree
+abbrev pub replied : Decider → ℕ → ℕ → Work → LinearReaction → Run Stage Tree
 replied d node n w (Gives u) = record { gave = u ∷ []; state = going (stage_of node d n w) }
 replied d node n w (GivesAll us) = record { gave = us; state = going (stage_of node d n w) }
 replied d node n w Skips = record { gave = []; state = going (stage_of node d n w) }
@@ -75,7 +75,7 @@ replied d node n w (Blames why) = decided_by d node n w why
 replied d node n w (Fails why) = failing node n why
 
 -- what came of the element t: that is the step of the model
-abbrev pub Replies : Decider → Work → Tree → Work → Outcome → Type 0
+abbrev pub Replies : Decider → Work → Tree → Work → LinearReaction → Type 0
 Replies d old t new o = (node n : ℕ) → step no_plugs (stage_of node d n old) t ≡ replied d node (n + 1) new o
 
 -- what it gave before, and then what it gives

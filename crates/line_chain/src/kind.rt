@@ -8,9 +8,9 @@ use crate::work::StepWork;
 use elem_core::elem::Elem;
 use elem_core::function::{Expand, FoldOp, MapFn, Pred, ReduceOp};
 use elem_core::why::NoMemory;
-use stage_keeping::ending::Ending;
-use stage_keeping::keeping::Keeping;
-use stage_linear::task::Task;
+use stage_keeping::ending::StateEnd;
+use stage_keeping::keeping::StateWork;
+use stage_linear::task::LinearWork;
 use std::alloc::{AllocError, Global};
 use stream_model::kind::Kind;
 
@@ -107,22 +107,26 @@ impl StepKind {
         ensures { IfOk result (λ w. work_in w ≡ begun self.now) }
     {
         match self {
-            StepKind::Map(f) => Ok(StepWork::Plain(Task::Map(copy_map(alloc, f)?))),
-            StepKind::Filter(p) => Ok(StepWork::Plain(Task::Filter(copy_pred(alloc, p)?))),
-            StepKind::FilterNot(p) => Ok(StepWork::Plain(Task::FilterNot(copy_pred(alloc, p)?))),
-            StepKind::Take(n) => Ok(StepWork::Plain(Task::Take(*n))),
-            StepKind::TakeWhile(p) => Ok(StepWork::Plain(Task::TakeWhile(copy_pred(alloc, p)?))),
-            StepKind::Drop(n) => Ok(StepWork::Plain(Task::Drop(*n))),
-            StepKind::DropWhile(p) => Ok(StepWork::Plain(Task::DropWhile(
+            StepKind::Map(f) => Ok(StepWork::Plain(LinearWork::Map(copy_map(alloc, f)?))),
+            StepKind::Filter(p) => Ok(StepWork::Plain(LinearWork::Filter(copy_pred(alloc, p)?))),
+            StepKind::FilterNot(p) => Ok(StepWork::Plain(LinearWork::FilterNot(copy_pred(
+                alloc, p,
+            )?))),
+            StepKind::Take(n) => Ok(StepWork::Plain(LinearWork::Take(*n))),
+            StepKind::TakeWhile(p) => Ok(StepWork::Plain(LinearWork::TakeWhile(copy_pred(
+                alloc, p,
+            )?))),
+            StepKind::Drop(n) => Ok(StepWork::Plain(LinearWork::Drop(*n))),
+            StepKind::DropWhile(p) => Ok(StepWork::Plain(LinearWork::DropWhile(
                 copy_pred(alloc, p)?,
                 false,
             ))),
-            StepKind::Limit(n) => Ok(StepWork::Plain(Task::Limit(*n))),
-            StepKind::Expand(x) => Ok(StepWork::Plain(Task::Expand(*x))),
-            StepKind::Group(n) => Ok(StepWork::Keeps(Keeping::Group(*n, Vec::new(alloc)))),
-            StepKind::Fold(op) => Ok(StepWork::Keeps(Keeping::Fold(*op, op.zero(alloc)?))),
-            StepKind::Scan(op) => Ok(StepWork::Keeps(Keeping::Scan(*op, op.zero(alloc)?))),
-            StepKind::Reduce(op) => Ok(StepWork::Keeps(Keeping::Reduce(*op, None))),
+            StepKind::Limit(n) => Ok(StepWork::Plain(LinearWork::Limit(*n))),
+            StepKind::Expand(x) => Ok(StepWork::Plain(LinearWork::Expand(*x))),
+            StepKind::Group(n) => Ok(StepWork::Keeps(StateWork::Group(*n, Vec::new(alloc)))),
+            StepKind::Fold(op) => Ok(StepWork::Keeps(StateWork::Fold(*op, op.zero(alloc)?))),
+            StepKind::Scan(op) => Ok(StepWork::Keeps(StateWork::Scan(*op, op.zero(alloc)?))),
+            StepKind::Reduce(op) => Ok(StepWork::Keeps(StateWork::Reduce(*op, None))),
             StepKind::Pass => Ok(StepWork::Passes),
             StepKind::First => Ok(StepWork::First),
             StepKind::Last => Ok(StepWork::Last(None)),
@@ -140,12 +144,12 @@ impl StepKind {
     }
 
     /// How it stands before any element: one that is to pass none has ended.
-    pub fn ending(&self) -> Ending
+    pub fn ending(&self) -> StateEnd
         ensures { result ≡ begun_ending self.now }
     {
         match self {
-            StepKind::Take(0) => Ending::Ended,
-            _ => Ending::Lasting,
+            StepKind::Take(0) => StateEnd::Ended,
+            _ => StateEnd::Lasting,
         }
     }
 }

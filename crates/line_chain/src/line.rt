@@ -13,7 +13,7 @@ use elem_core::elem::Elem;
 use elem_core::elems::Elems;
 use elem_core::why::NoMemory;
 use port_core::chain::{Chain, ChainStep};
-use stage_keeping::ending::Ending;
+use stage_keeping::ending::StateEnd;
 use std::alloc::Global;
 use std::marker::Model;
 use std::mem;
@@ -84,17 +84,17 @@ impl Chain for LineChain {
             alloc,
             &mut self.steps,
             &mut self.inputs,
-            Ending::Lasting,
+            StateEnd::Lasting,
             &mut self.outputs,
             out,
         )?;
         match ending {
-            Ending::Lasting => Ok(ChainStep::Go),
-            Ending::Ended => {
+            StateEnd::Lasting => Ok(ChainStep::Go),
+            StateEnd::Ended => {
                 self.callable = false;
                 Ok(ChainStep::Closed)
             }
-            Ending::Failed(cause) => {
+            StateEnd::Failed(cause) => {
                 self.callable = false;
                 Ok(ChainStep::Failed(cause.why))
             }
@@ -108,7 +108,7 @@ impl Chain for LineChain {
             alloc,
             &mut self.steps,
             &mut self.inputs,
-            Ending::Ended,
+            StateEnd::Ended,
             &mut self.outputs,
             out,
         )?;
@@ -117,12 +117,12 @@ impl Chain for LineChain {
 }
 
 // How the chain answers the end of its input, by how what its last step gave stands.
-fn last_answer(ending: Ending) -> ChainStep
+fn last_answer(ending: StateEnd) -> ChainStep
     ensures { result ≡ end_step (end_of ending) }
 {
     match ending {
-        Ending::Lasting | Ending::Ended => ChainStep::Go,
-        Ending::Failed(cause) => ChainStep::Failed(cause.why),
+        StateEnd::Lasting | StateEnd::Ended => ChainStep::Go,
+        StateEnd::Failed(cause) => ChainStep::Failed(cause.why),
     }
 }
 
@@ -158,10 +158,10 @@ fn run_all(
     alloc: Global,
     steps: &mut Vec<LineStep>,
     inputs: &mut Batch,
-    ending: Ending,
+    ending: StateEnd,
     outputs: &mut Batch,
     out: &mut Elems,
-) -> Result<Ending, NoMemory>
+) -> Result<StateEnd, NoMemory>
     ensures { IfOk result (λ e. RanAll steps.old.items inputs.old (end_of ending) steps.new.items out.old out.new (end_of e)) }
 {
     outputs.clear();
@@ -182,9 +182,9 @@ fn run_at(
     steps: &mut Vec<LineStep>,
     i: usize,
     inputs: &mut Batch,
-    ending: Ending,
+    ending: StateEnd,
     outputs: &mut Batch,
-) -> Result<Ending, NoMemory>
+) -> Result<StateEnd, NoMemory>
     requires within { i < length steps.old.items }
     requires empty { outputs.old ≡ [] }
     ensures runs { IfOk result (λ e. RanAt steps.old.items i inputs.old (end_of ending) steps.new.items outputs.new (end_of e)) }

@@ -1,5 +1,5 @@
 ghost use Rattle.std.specs.Prelude.{◌≡◌, [], None, IfOk, OnOk};
-ghost use Rattle.stage_keeping.specs.declared.ending.Ending.TheVariants.{Lasting};
+ghost use Rattle.stage_keeping.specs.declared.ending.StateEnd.TheVariants.{Lasting};
 ghost use Rattle.stream_model.specs.Linear.{begin_work};
 ghost use Rattle.stream_model.specs.Machine.{run};
 ghost use Rattle.stream_model.specs.Outlook.{ended};
@@ -12,8 +12,8 @@ use crate::work::StepWork;
 use elem_core::count::one_more;
 use elem_core::elem::Elem;
 use elem_core::why::{Cause, Decider, NoMemory, Why};
-use stage_keeping::ending::Ending;
-use stage_linear::task::Outcome;
+use stage_keeping::ending::StateEnd;
+use stage_linear::task::LinearReaction;
 use std::alloc::Global;
 
 /// A step of a chain as it runs. Rule: Akka Streams 2.6 reference.
@@ -30,7 +30,7 @@ pub struct LineStep {
     pub taken: u64,
     pub work: StepWork,
     // Whether it has ended or failed by its own doing.
-    pub ending: Ending,
+    pub ending: StateEnd,
 }
 
 impl LineStep {
@@ -73,9 +73,9 @@ impl LineStep {
         &mut self,
         alloc: Global,
         inputs: &mut Batch,
-        ending: Ending,
+        ending: StateEnd,
         outputs: &mut Batch,
-    ) -> Result<Ending, NoMemory>
+    ) -> Result<StateEnd, NoMemory>
         requires { outputs.old ≡ [] }
         ensures runs { IfOk result (λ e. Ran self.old inputs.old (end_of ending) self.new outputs.new (end_of e)) }
         ensures none { OnOk result (inputs.new ≡ []) }
@@ -128,58 +128,63 @@ impl LineStep {
         ensures owed { OnOk result (self.new.owed ≡ self.old.owed) }
     {
         match self.ending {
-            Ending::Lasting => {
+            StateEnd::Lasting => {
                 let nth = one_more(self.taken)?;
                 let outcome = self.work.react(alloc, self.decider, e)?;
                 self.answer(nth, outcome, outputs)?;
                 Ok(())
             }
-            Ending::Ended => Ok(()),
-            Ending::Failed(_) => Ok(()),
+            StateEnd::Ended => Ok(()),
+            StateEnd::Failed(_) => Ok(()),
         }
     }
 
     // What its element number `nth` came to.
-    fn answer(&mut self, nth: u64, outcome: Outcome, outputs: &mut Batch) -> Result<(), NoMemory>
+    fn answer(
+        &mut self,
+        nth: u64,
+        outcome: LinearReaction,
+        outputs: &mut Batch,
+    ) -> Result<(), NoMemory>
         requires { self.old.ending ≡ Lasting }
         ensures gives { OnOk result (record { gave = outputs.new; state = state_of self.new } ≡ behind outputs.old (replied self.old.decider self.old.node nth (work_in self.old.work) outcome)) }
         ensures began { OnOk result (Began self.old self.new) }
         ensures owed { OnOk result (self.new.owed ≡ self.old.owed) }
     {
         match outcome {
-            Outcome::Gives(value) => {
+            LinearReaction::Gives(value) => {
                 self.taken = nth;
                 outputs.add(value)?;
                 Ok(())
             }
-            Outcome::GivesAll(mut values) => {
+            LinearReaction::GivesAll(mut values) => {
                 self.taken = nth;
                 outputs.add_all(&mut values)?;
                 Ok(())
             }
-            Outcome::Skips => {
+            LinearReaction::Skips => {
                 self.taken = nth;
                 Ok(())
             }
-            Outcome::EndsWith(value) => {
-                self.ending = Ending::Ended;
+            LinearReaction::EndsWith(value) => {
+                self.ending = StateEnd::Ended;
                 outputs.add(value)?;
                 Ok(())
             }
-            Outcome::EndsWithAll(mut values) => {
-                self.ending = Ending::Ended;
+            LinearReaction::EndsWithAll(mut values) => {
+                self.ending = StateEnd::Ended;
                 outputs.add_all(&mut values)?;
                 Ok(())
             }
-            Outcome::Ends => {
-                self.ending = Ending::Ended;
+            LinearReaction::Ends => {
+                self.ending = StateEnd::Ended;
                 Ok(())
             }
-            Outcome::Blames(why) => {
+            LinearReaction::Blames(why) => {
                 self.decide(nth, why);
                 Ok(())
             }
-            Outcome::Fails(why) => {
+            LinearReaction::Fails(why) => {
                 self.fail(nth, why);
                 Ok(())
             }
@@ -200,7 +205,7 @@ impl LineStep {
     fn fail(&mut self, nth: u64, why: Why)
         ensures { self.new ≡ failed_step self.old nth why }
     {
-        self.ending = Ending::Failed(Cause {
+        self.ending = StateEnd::Failed(Cause {
             stage: self.node,
             nth,
             why,
@@ -211,19 +216,19 @@ impl LineStep {
     fn close(
         &mut self,
         alloc: Global,
-        ending: Ending,
+        ending: StateEnd,
         outputs: &mut Batch,
-    ) -> Result<Ending, NoMemory>
+    ) -> Result<StateEnd, NoMemory>
         ensures closes { IfOk result (λ e. Closes self.old outputs.old (end_of ending) self.new outputs.new (end_of e)) }
         ensures began { OnOk result (Began self.old self.new) }
     {
         match self.ending {
-            Ending::Lasting => {
+            StateEnd::Lasting => {
                 let last = self.close_open(alloc, ending, outputs)?;
                 Ok(last)
             }
-            Ending::Ended => Ok(Ending::Ended),
-            Ending::Failed(cause) => Ok(Ending::Failed(cause)),
+            StateEnd::Ended => Ok(StateEnd::Ended),
+            StateEnd::Failed(cause) => Ok(StateEnd::Failed(cause)),
         }
     }
 
@@ -231,17 +236,17 @@ impl LineStep {
     fn close_open(
         &mut self,
         alloc: Global,
-        ending: Ending,
+        ending: StateEnd,
         outputs: &mut Batch,
-    ) -> Result<Ending, NoMemory>
+    ) -> Result<StateEnd, NoMemory>
         requires { self.old.ending ≡ Lasting }
         ensures closes { IfOk result (λ e. Closes self.old outputs.old (end_of ending) self.new outputs.new (end_of e)) }
         ensures began { OnOk result (Began self.old self.new) }
     {
         match ending {
-            Ending::Lasting => Ok(Ending::Lasting),
-            Ending::Failed(cause) => Ok(Ending::Failed(cause)),
-            Ending::Ended => {
+            StateEnd::Lasting => Ok(StateEnd::Lasting),
+            StateEnd::Failed(cause) => Ok(StateEnd::Failed(cause)),
+            StateEnd::Ended => {
                 let last = self.finish(alloc, outputs)?;
                 Ok(last)
             }
@@ -249,18 +254,18 @@ impl LineStep {
     }
 
     // The same, where its input has ended.
-    fn finish(&mut self, alloc: Global, outputs: &mut Batch) -> Result<Ending, NoMemory>
+    fn finish(&mut self, alloc: Global, outputs: &mut Batch) -> Result<StateEnd, NoMemory>
         requires { self.old.ending ≡ Lasting }
         ensures closes { IfOk result (λ e. Closes self.old outputs.old ended self.new outputs.new (end_of e)) }
         ensures began { OnOk result (Began self.old self.new) }
     {
         match self.work.finish(alloc) {
-            Ok(None) => Ok(Ending::Ended),
+            Ok(None) => Ok(StateEnd::Ended),
             Ok(Some(value)) => {
                 outputs.add(value)?;
-                Ok(Ending::Ended)
+                Ok(StateEnd::Ended)
             }
-            Err(why) => Ok(Ending::Failed(Cause {
+            Err(why) => Ok(StateEnd::Failed(Cause {
                 stage: self.node,
                 nth: 0,
                 why,

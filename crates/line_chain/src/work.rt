@@ -8,17 +8,17 @@ ghost use Rattle.line_chain.specs.Steps.{work_in, Replies};
 use elem_core::elem::Elem;
 use elem_core::why::{Decider, NoMemory, Why};
 use stage_keeping::keeping;
-use stage_keeping::keeping::Keeping;
-use stage_linear::task::{Outcome, Task};
+use stage_keeping::keeping::StateWork;
+use stage_linear::task::{LinearReaction, LinearWork};
 use std::alloc::Global;
 
 /// The work of a step of a chain, and how far it has come. Rule: Akka Streams 2.6 reference, but where a line says own.
 #[derive(Drop)]
 pub enum StepWork {
     /// A task, which keeps at most a count.
-    Plain(Task),
+    Plain(LinearWork),
     /// What keeps elements between elements.
-    Keeps(Keeping),
+    Keeps(StateWork),
     /// It passes each element on. Own.
     Passes,
     /// It passes the first, and ends.
@@ -29,7 +29,12 @@ pub enum StepWork {
 
 impl StepWork {
     /// One more element, for a step with this decider.
-    pub fn react(&mut self, alloc: Global, decider: Decider, e: Elem) -> Result<Outcome, NoMemory>
+    pub fn react(
+        &mut self,
+        alloc: Global,
+        decider: Decider,
+        e: Elem,
+    ) -> Result<LinearReaction, NoMemory>
         ensures { IfOk result (Replies decider (work_in self.old) e (work_in self.new)) }
     {
         match self {
@@ -38,11 +43,11 @@ impl StepWork {
                 Ok(outcome)
             }
             StepWork::Keeps(kept) => keep(kept, alloc, decider, e),
-            StepWork::Passes => Ok(Outcome::Gives(e)),
-            StepWork::First => Ok(Outcome::EndsWith(e)),
+            StepWork::Passes => Ok(LinearReaction::Gives(e)),
+            StepWork::First => Ok(LinearReaction::EndsWith(e)),
             StepWork::Last(value) => {
                 *value = Some(e);
-                Ok(Outcome::Skips)
+                Ok(LinearReaction::Skips)
             }
         }
     }
@@ -64,11 +69,11 @@ impl StepWork {
 }
 
 // One more element of a task. A take that is to pass none ends, as the model does; a step that begins so has ended before.
-fn plain(task: &mut Task, alloc: Global, e: Elem) -> Result<Outcome, NoMemory>
+fn plain(task: &mut LinearWork, alloc: Global, e: Elem) -> Result<LinearReaction, NoMemory>
     ensures { IfOk result (λ o. (d : Decider) → Replies d (tasks.work_in task.old) e (tasks.work_in task.new) o) }
 {
     match task {
-        Task::Take(0) => Ok(Outcome::Ends),
+        LinearWork::Take(0) => Ok(LinearReaction::Ends),
         _ => {
             let outcome = task.react(alloc, e)?;
             Ok(outcome)
@@ -77,12 +82,17 @@ fn plain(task: &mut Task, alloc: Global, e: Elem) -> Result<Outcome, NoMemory>
 }
 
 // One more element of what keeps elements.
-fn keep(kept: &mut Keeping, alloc: Global, decider: Decider, e: Elem) -> Result<Outcome, NoMemory>
+fn keep(
+    kept: &mut StateWork,
+    alloc: Global,
+    decider: Decider,
+    e: Elem,
+) -> Result<LinearReaction, NoMemory>
     ensures { IfOk result (Replies decider (keepings.work_in kept.old) e (keepings.work_in kept.new)) }
 {
     match kept.react(alloc, decider, e)? {
-        keeping::Outcome::Gives(value) => Ok(Outcome::Gives(value)),
-        keeping::Outcome::Asks => Ok(Outcome::Skips),
-        keeping::Outcome::Fails(why) => Ok(Outcome::Fails(why)),
+        keeping::StateReaction::Gives(value) => Ok(LinearReaction::Gives(value)),
+        keeping::StateReaction::Asks => Ok(LinearReaction::Skips),
+        keeping::StateReaction::Fails(why) => Ok(LinearReaction::Fails(why)),
     }
 }

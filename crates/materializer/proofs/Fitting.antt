@@ -5,7 +5,7 @@ use Rattle.std.specs.List.{list_all, All}
 use Rattle.std.specs.Option.{option_or, option_map}
 use Rattle.std.proofs.lemmas.Bool.{and_parts}
 use Rattle.std.proofs.lemmas.Bool.Decides.{nat_tests}
-use Rattle.stream_model.specs.Graph.{Graph, Wire}
+use Rattle.stream_model.specs.Graph.{Graph, Edge}
 use Rattle.stream_model.specs.Graph as graph
 use Rattle.stream_model.specs.Composed.{inputs_of}
 use Rattle.stream_model.specs.declared.kind.Kind.{Kind}
@@ -26,7 +26,7 @@ use Rattle.plug_core.specs.declared.head.PlugHead.{PlugHead}
 use Rattle.materializer.specs.Fit.{CanRun}
 use Rattle.materializer.specs.Graphs.{graph_of, node_of, chain_of}
 use Rattle.stream_picture.specs.Joined.{IsJoined}
-use Rattle.blue_names.specs.declared.links.Link.{Link}
+use Rattle.blue_names.specs.declared.links.NumberedWire.{NumberedWire}
 use Rattle.blue_names.specs.Links.{wires_of_links}
 use Rattle.blue_walks.proofs.ClosedWalks.{link_at_place}
 use Rattle.materializer.proofs.Joining.{both_none, none_here, not_when, mapped_from, joined}
@@ -53,7 +53,7 @@ pub record Facts (b : Blueprint) : Type 0 where
 all_none : {X : Type 0} (o p q : Option X) → option_or o (option_or p q) ≡ None → (o ≡ None) × ((p ≡ None) × (q ≡ None))
 all_none o p q h = let two = both_none o (option_or p q) h in (two.0, both_none p q two.1)
 
-ports_none : (nodes : List Node) (ws : List Wire) → ports_fault nodes ws ≡ None → (port_missing nodes ws ≡ None) × ((port_twice ws ≡ None) × (port_open nodes ws ≡ None))
+ports_none : (nodes : List Node) (ws : List Edge) → ports_fault nodes ws ≡ None → (port_missing nodes ws ≡ None) × ((port_twice ws ≡ None) × (port_open nodes ws ≡ None))
 ports_none nodes ws h =
     let each = all_none (option_map fault.NoSuchPort (port_missing nodes ws)) (option_map fault.PortTwice (port_twice ws)) (option_map (open_fault nodes) (port_open nodes ws)) h in
     (map_none fault.NoSuchPort _ each.0, (map_none fault.PortTwice _ each.1.0, map_none (open_fault nodes) _ each.1.1))
@@ -112,7 +112,7 @@ all_sized b plugs taken fit = all_sized_from b.nodes.items 0 (facts b plugs take
 
 module _ (b : Blueprint) (plugs : List PlugHead) (taken : List (List ℕ)) (fit : IsFit b plugs taken) where
   -- so the ports of each wire have small numbers
-  few_ports : (i : ℕ) (v : Wire) → slice_get (blueprint_wires b) i ≡ Some v → (v.output < 2 ^ 8) × (v.input < 2 ^ 8)
+  few_ports : (i : ℕ) (v : Edge) → slice_get (blueprint_wires b) i ≡ Some v → (v.output < 2 ^ 8) × (v.input < 2 ^ 8)
   few_ports i v at =
       let f = facts b plugs taken fit in
       let j = fit_joined b plugs taken fit in
@@ -128,7 +128,7 @@ module _ (b : Blueprint) (plugs : List PlugHead) (taken : List (List ℕ)) (fit 
       let c : v.input < inputs_of t.0.kind = t.2 in
       (omega (arith, a, o, of_m), omega (arith, c, p, of_n))
 
-  pub few_link_ports : (ls : List Link) → wires_of_links ls ≡ blueprint_wires b → All (λ (l : Link). (l.output < 2 ^ 8) × (l.input < 2 ^ 8)) ls
+  pub few_link_ports : (ls : List NumberedWire) → wires_of_links ls ≡ blueprint_wires b → All (λ (l : NumberedWire). (l.output < 2 ^ 8) × (l.input < 2 ^ 8)) ls
   few_link_ports ls e = λ k d lt. few_ports k _ (ap (λ x. slice_get x k) (sym e) ∙ link_at_place ls k d lt)
 
 -- so a blueprint that breaks no rule can be run

@@ -9,8 +9,8 @@ use Rattle.stage_state.specs.Logics.{IsStateful}
 use Rattle.stage_sub.specs.Handling.{IsSub}
 use Rattle.stage_in.specs.Logics.{IsFanIn}
 use Rattle.stage_out.specs.OutLogics.{IsOut}
-use Rattle.nodes.specs.declared.node.Node.{Node}
-use Rattle.nodes.specs.declared.node.Node.TheVariants as node
+use Rattle.nodes.specs.declared.node.IslandNode.{IslandNode}
+use Rattle.nodes.specs.declared.node.IslandNode.TheVariants as node
 use Rattle.nodes.specs.Source.{Lines}
 use Rattle.nodes.specs.Sink.{Sink}
 use Rattle.nodes.specs.Ignoring.{Ignorer}
@@ -45,7 +45,7 @@ handed_later (Some file) (y ∷ xs) names x name h = record { place = suc h.plac
 module _ {S D L B : Type 0} where
   -- ---- sources
 
-  reader_at : (chains : List graph.Chain) (k : ℕ) (n : blue.Node) (ss : List S) (ds : List D) (w : Work S D L B) (x : Node S D L B) (names : List (List ℕ)) (name : List ℕ) → IsWork chains k n ss ds w → BecomesOf k w x → n.kind ≡ kind.Lines name
+  reader_at : (chains : List graph.Chain) (k : ℕ) (n : blue.Node) (ss : List S) (ds : List D) (w : Work S D L B) (x : IslandNode S D L B) (names : List (List ℕ)) (name : List ℕ) → IsWork chains k n ss ds w → BecomesOf k w x → n.kind ≡ kind.Lines name
       → (first : Lines S) × ((x ≡ node.Reading first) × ((first.node ≡ k) × Handed ss (cons_option (input_of n.kind) names) first.reader.source name))
   reader_at chains k n ss ds (work.Reading r) x names name is b e = (_, (b, (refl, handed_next (input_of n.kind) ss names r.source name (ap input_of e) is.source)))
   reader_at chains k n ss ds (work.Making shape) x names name is b e = absurd (subst IsMaker e is.is_maker)
@@ -60,13 +60,13 @@ module _ {S D L B : Type 0} where
   reader_at chains k n ss ds (work.Writing shape None) x names name is b e = let no : kind.Lines name ≡ kind.Ignore = sym e ∙ is.is_ignore in absurd cc
 
   -- of the nodes from node k on
-  record ReadsAt (k : ℕ) (names : List (List ℕ)) (ss : List S) (xs : List (Node S D L B)) (j : ℕ) (name : List ℕ) : Type 0 where
+  record ReadsAt (k : ℕ) (names : List (List ℕ)) (ss : List S) (xs : List (IslandNode S D L B)) (j : ℕ) (name : List ℕ) : Type 0 where
     pub first : Lines S
     pub at : slice_get xs j ≡ Some (node.Reading first)
     pub node : first.node ≡ k + j
     pub handed : Handed ss names first.reader.source name
 
-  reads_at : (chains : List graph.Chain) (k : ℕ) (ns : List blue.Node) (ss : List S) (ds : List D) (ps : List (Seated S D L B)) (xs : List (Node S D L B)) (j : ℕ) (n : blue.Node) (name : List ℕ)
+  reads_at : (chains : List graph.Chain) (k : ℕ) (ns : List blue.Node) (ss : List S) (ds : List D) (ps : List (Seated S D L B)) (xs : List (IslandNode S D L B)) (j : ℕ) (n : blue.Node) (name : List ℕ)
       → AreSeats chains k ns ss ds ps → AllBecome ps xs → slice_get ns j ≡ Some n → n.kind ≡ kind.Lines name → ReadsAt k (inputs_of_nodes ns) ss xs j name
   reads_at chains k [] ss ds ps xs j n name a b at e = absurd cc
   reads_at chains k (m ∷ ns) ss ds [] xs j n name a b at e = absurd a
@@ -80,7 +80,7 @@ module _ {S D L B : Type 0} where
       let r = reads_at chains (k + 1) ns _ _ ps xs j n name a.1.1 b.1 at e in
       record { first = r.first; at = r.at; node = let same : r.first.node ≡ k + 1 + j = r.node in omega (arith, same); handed = handed_later (input_of m.kind) ss (inputs_of_nodes ns) r.first.reader.source name r.handed }
 
-  pub reads_file : (chains : List graph.Chain) (ns : List blue.Node) (ss : List S) (ds : List D) (ps : List (Seated S D L B)) (xs : List (Node S D L B)) → AreSeats chains 0 ns ss ds ps → AllBecome ps xs
+  pub reads_file : (chains : List graph.Chain) (ns : List blue.Node) (ss : List S) (ds : List D) (ps : List (Seated S D L B)) (xs : List (IslandNode S D L B)) → AreSeats chains 0 ns ss ds ps → AllBecome ps xs
       → (j : ℕ) (n : blue.Node) (name : List ℕ) → slice_get ns j ≡ Some n → n.kind ≡ kind.Lines name → ReadsFile (inputs_of_nodes ns) ss xs j name
   reads_file chains ns ss ds ps xs a b j n name at e =
       let r = reads_at chains 0 ns ss ds ps xs j n name a b at e in
@@ -88,7 +88,7 @@ module _ {S D L B : Type 0} where
 
   -- ---- sinks with a file
 
-  writer_at : (chains : List graph.Chain) (k : ℕ) (n : blue.Node) (ss : List S) (ds : List D) (w : Work S D L B) (x : Node S D L B) (names : List (List ℕ)) (name : List ℕ) → IsWork chains k n ss ds w → BecomesOf k w x → output_of n.kind ≡ Some name
+  writer_at : (chains : List graph.Chain) (k : ℕ) (n : blue.Node) (ss : List S) (ds : List D) (w : Work S D L B) (x : IslandNode S D L B) (names : List (List ℕ)) (name : List ℕ) → IsWork chains k n ss ds w → BecomesOf k w x → output_of n.kind ≡ Some name
       → (first : Sink D) × ((x ≡ node.Writing first) × ((first.node ≡ k) × Handed ds (cons_option (output_of n.kind) names) first.drain name))
   writer_at chains k n ss ds (work.Reading r) x names name is b e =
       let l = reads_lines n.kind ss r.source is.source in
@@ -104,13 +104,13 @@ module _ {S D L B : Type 0} where
   writer_at chains k n ss ds (work.Writing shape (Some d)) x names name is b e = (_, (b, (refl, handed_next (output_of n.kind) ds names d name e is.next)))
   writer_at chains k n ss ds (work.Writing shape None) x names name is b e = let no : output_of kind.Ignore ≡ Some name = sym (ap output_of is.is_ignore) ∙ e in absurd cc
 
-  record WritesAt (k : ℕ) (names : List (List ℕ)) (ds : List D) (xs : List (Node S D L B)) (j : ℕ) (name : List ℕ) : Type 0 where
+  record WritesAt (k : ℕ) (names : List (List ℕ)) (ds : List D) (xs : List (IslandNode S D L B)) (j : ℕ) (name : List ℕ) : Type 0 where
     pub first : Sink D
     pub at : slice_get xs j ≡ Some (node.Writing first)
     pub node : first.node ≡ k + j
     pub handed : Handed ds names first.drain name
 
-  writes_at : (chains : List graph.Chain) (k : ℕ) (ns : List blue.Node) (ss : List S) (ds : List D) (ps : List (Seated S D L B)) (xs : List (Node S D L B)) (j : ℕ) (n : blue.Node) (name : List ℕ)
+  writes_at : (chains : List graph.Chain) (k : ℕ) (ns : List blue.Node) (ss : List S) (ds : List D) (ps : List (Seated S D L B)) (xs : List (IslandNode S D L B)) (j : ℕ) (n : blue.Node) (name : List ℕ)
       → AreSeats chains k ns ss ds ps → AllBecome ps xs → slice_get ns j ≡ Some n → output_of n.kind ≡ Some name → WritesAt k (outputs_of_nodes ns) ds xs j name
   writes_at chains k [] ss ds ps xs j n name a b at e = absurd cc
   writes_at chains k (m ∷ ns) ss ds [] xs j n name a b at e = absurd a
@@ -124,7 +124,7 @@ module _ {S D L B : Type 0} where
       let r = writes_at chains (k + 1) ns _ _ ps xs j n name a.1.1 b.1 at e in
       record { first = r.first; at = r.at; node = let same : r.first.node ≡ k + 1 + j = r.node in omega (arith, same); handed = handed_later (output_of m.kind) ds (outputs_of_nodes ns) r.first.drain name r.handed }
 
-  pub writes_file : (chains : List graph.Chain) (ns : List blue.Node) (ss : List S) (ds : List D) (ps : List (Seated S D L B)) (xs : List (Node S D L B)) → AreSeats chains 0 ns ss ds ps → AllBecome ps xs
+  pub writes_file : (chains : List graph.Chain) (ns : List blue.Node) (ss : List S) (ds : List D) (ps : List (Seated S D L B)) (xs : List (IslandNode S D L B)) → AreSeats chains 0 ns ss ds ps → AllBecome ps xs
       → (j : ℕ) (n : blue.Node) (name : List ℕ) → slice_get ns j ≡ Some n → output_of n.kind ≡ Some name → WritesFile (outputs_of_nodes ns) ds xs j name
   writes_file chains ns ss ds ps xs a b j n name at e =
       let r = writes_at chains 0 ns ss ds ps xs j n name a b at e in
@@ -132,7 +132,7 @@ module _ {S D L B : Type 0} where
 
   -- ---- sinks that keep nothing
 
-  ignorer_at : (chains : List graph.Chain) (k : ℕ) (n : blue.Node) (ss : List S) (ds : List D) (w : Work S D L B) (x : Node S D L B) → IsWork chains k n ss ds w → BecomesOf k w x → n.kind ≡ kind.Ignore → (first : Ignorer) × ((x ≡ node.Ignoring first) × (first.node ≡ k))
+  ignorer_at : (chains : List graph.Chain) (k : ℕ) (n : blue.Node) (ss : List S) (ds : List D) (w : Work S D L B) (x : IslandNode S D L B) → IsWork chains k n ss ds w → BecomesOf k w x → n.kind ≡ kind.Ignore → (first : Ignorer) × ((x ≡ node.Ignoring first) × (first.node ≡ k))
   ignorer_at chains k n ss ds (work.Reading r) x is b e =
       let l = reads_lines n.kind ss r.source is.source in
       let no : kind.Lines l.0 ≡ kind.Ignore = sym l.1 ∙ e in absurd cc
@@ -147,12 +147,12 @@ module _ {S D L B : Type 0} where
   ignorer_at chains k n ss ds (work.Writing shape (Some d)) x is b e = absurd (subst IsFileSink e is.is_sink)
   ignorer_at chains k n ss ds (work.Writing shape None) x is b e = (_, (b, refl))
 
-  record IgnoresAt (k : ℕ) (xs : List (Node S D L B)) (j : ℕ) : Type 0 where
+  record IgnoresAt (k : ℕ) (xs : List (IslandNode S D L B)) (j : ℕ) : Type 0 where
     pub first : Ignorer
     pub at : slice_get xs j ≡ Some (node.Ignoring first)
     pub node : first.node ≡ k + j
 
-  ignores_at : (chains : List graph.Chain) (k : ℕ) (ns : List blue.Node) (ss : List S) (ds : List D) (ps : List (Seated S D L B)) (xs : List (Node S D L B)) (j : ℕ) (n : blue.Node)
+  ignores_at : (chains : List graph.Chain) (k : ℕ) (ns : List blue.Node) (ss : List S) (ds : List D) (ps : List (Seated S D L B)) (xs : List (IslandNode S D L B)) (j : ℕ) (n : blue.Node)
       → AreSeats chains k ns ss ds ps → AllBecome ps xs → slice_get ns j ≡ Some n → n.kind ≡ kind.Ignore → IgnoresAt k xs j
   ignores_at chains k [] ss ds ps xs j n a b at e = absurd cc
   ignores_at chains k (m ∷ ns) ss ds [] xs j n a b at e = absurd a
@@ -166,7 +166,7 @@ module _ {S D L B : Type 0} where
       let r = ignores_at chains (k + 1) ns _ _ ps xs j n a.1.1 b.1 at e in
       record { first = r.first; at = r.at; node = let same : r.first.node ≡ k + 1 + j = r.node in omega (arith, same) }
 
-  pub writes_no_file : (chains : List graph.Chain) (ns : List blue.Node) (ss : List S) (ds : List D) (ps : List (Seated S D L B)) (xs : List (Node S D L B)) → AreSeats chains 0 ns ss ds ps → AllBecome ps xs
+  pub writes_no_file : (chains : List graph.Chain) (ns : List blue.Node) (ss : List S) (ds : List D) (ps : List (Seated S D L B)) (xs : List (IslandNode S D L B)) → AreSeats chains 0 ns ss ds ps → AllBecome ps xs
       → (j : ℕ) (n : blue.Node) → slice_get ns j ≡ Some n → n.kind ≡ kind.Ignore → WritesNoFile xs j
   writes_no_file chains ns ss ds ps xs a b j n at e =
       let r = ignores_at chains 0 ns ss ds ps xs j n a b at e in

@@ -5,7 +5,7 @@ use Rattle.std.specs.Option.{option_or, option_map}
 use Rattle.std.proofs.lemmas.Bool.{or_parts, eqb-true, eq-eqb, cases_Bool}
 use Rattle.std.proofs.lemmas.Bool.Decides.{nat_tests}
 use Rattle.std.proofs.lemmas.Option.{slice_get-map}
-use Rattle.stream_model.specs.Graph.{Graph, Wire, Chain, find_by, find_wire, find_source}
+use Rattle.stream_model.specs.Graph.{Graph, Edge, Chain, find_by, find_wire, find_source}
 use Rattle.stream_model.specs.Graph as graph
 use Rattle.stream_model.specs.Composed.{inputs_of, count_from}
 use Rattle.stream_picture.specs.View.{outputs_of}
@@ -56,7 +56,7 @@ number_at k (suc n) zero h = let e : k ≡ k + 0 = omega arith in ap Some e
 number_at k (suc n) (suc p) h = let e : k + 1 + p ≡ k + suc p = omega arith in number_at (k + 1) n p (omega (arith, h)) ∙ ap Some e
 
 -- a wire at a port is found there, or one before it
-found : (place port : Wire → ℕ) (n : ℕ) (ws : List Wire) (i : ℕ) (v : Wire) → slice_get ws i ≡ Some v → (k : ℕ) × (find_by place port (place v) (port v) n ws ≡ Some k)
+found : (place port : Edge → ℕ) (n : ℕ) (ws : List Edge) (i : ℕ) (v : Edge) → slice_get ws i ≡ Some v → (k : ℕ) × (find_by place port (place v) (port v) n ws ≡ Some k)
 found place port n [] i v h = absurd cc
 found place port n (w ∷ ws) zero v h =
     let e : w ≡ v = cc in
@@ -65,7 +65,7 @@ found place port n (w ∷ ws) zero v h =
     (n, rw (a, b) refl)
 found place port n (w ∷ ws) (suc i) v h = pick place port n w ws v (found place port (n + 1) ws i v h)
   where
-    pick : (place port : Wire → ℕ) (n : ℕ) (w : Wire) (ws : List Wire) (v : Wire) → (k : ℕ) × (find_by place port (place v) (port v) (n + 1) ws ≡ Some k) → (k : ℕ) × (find_by place port (place v) (port v) n (w ∷ ws) ≡ Some k)
+    pick : (place port : Edge → ℕ) (n : ℕ) (w : Edge) (ws : List Edge) (v : Edge) → (k : ℕ) × (find_by place port (place v) (port v) (n + 1) ws ≡ Some k) → (k : ℕ) × (find_by place port (place v) (port v) n (w ∷ ws) ≡ Some k)
     pick place port n w ws v r =
         ⊎_elim
         (λ (t : ((place w == place v) && (port w == port v)) ≡ true). (n, rw t refl))
@@ -89,16 +89,16 @@ is_found : (o : Option ℕ) → is_none o ≡ false → (i : ℕ) × (o ≡ Some
 is_found None h = absurd cc
 is_found (Some i) h = (i, refl)
 
-module _ (nodes : List Node) (ws : List Wire) (cs : List Chain) (missing : port_missing nodes ws ≡ None) (twice : port_twice ws ≡ None) (open_ : port_open nodes ws ≡ None) where
+module _ (nodes : List Node) (ws : List Edge) (cs : List Chain) (missing : port_missing nodes ws ≡ None) (twice : port_twice ws ≡ None) (open_ : port_open nodes ws ≡ None) where
   abbrev whole : Graph
   whole = record { nodes = map node_of nodes; wires = ws; chains = cs }
 
-  there : (i : ℕ) (v : Wire) → slice_get ws i ≡ Some v → (lacks_output (slice_get nodes v.from) v.output ≡ false) × (lacks_input (slice_get nodes v.to) v.input ≡ false)
+  there : (i : ℕ) (v : Edge) → slice_get ws i ≡ Some v → (lacks_output (slice_get nodes v.from) v.output ≡ false) × (lacks_input (slice_get nodes v.to) v.input ≡ false)
   there i v at =
       let e = none_here (λ k w. when (lacks_output (slice_get nodes w.from) w.output || lacks_input (slice_get nodes w.to) w.input) k) ws i v missing at in
       or_parts _ _ (not_when _ i e)
 
-  once : (i : ℕ) (v : Wire) → slice_get ws i ≡ Some v → (not (is_number i (find_source v.from v.output ws)) ≡ false) × (not (is_number i (find_wire v.to v.input ws)) ≡ false)
+  once : (i : ℕ) (v : Edge) → slice_get ws i ≡ Some v → (not (is_number i (find_source v.from v.output ws)) ≡ false) × (not (is_number i (find_wire v.to v.input ws)) ≡ false)
   once i v at =
       let e = none_here (λ k w. when (not (is_number k (find_source w.from w.output ws)) || not (is_number k (find_wire w.to w.input ws))) k) ws i v twice at in
       or_parts _ _ (not_when _ i e)
@@ -109,13 +109,13 @@ module _ (nodes : List Node) (ws : List Wire) (cs : List Chain) (missing : port_
   node_there : (k : ℕ) (n : Node) → slice_get nodes k ≡ Some n → slice_get (map node_of nodes) k ≡ Some (node_of n)
   node_there k n at = slice_get-map node_of nodes k ∙ ap (option_map node_of) at
 
-  target_there : (i : ℕ) (v : Wire) → slice_get ws i ≡ Some v → (n : graph.Node) × (slice_get (map node_of nodes) v.to ≡ Some n) × (v.input < inputs_of n.kind) × (find_wire v.to v.input ws ≡ Some i)
+  target_there : (i : ℕ) (v : Edge) → slice_get ws i ≡ Some v → (n : graph.Node) × (slice_get (map node_of nodes) v.to ≡ Some n) × (v.input < inputs_of n.kind) × (find_wire v.to v.input ws ≡ Some i)
   target_there i v at =
       let n = input_there (slice_get nodes v.to) v.input (there i v at).1 in
       let f = found (λ w. w.to) (λ w. w.input) 0 ws i v at in
       (node_of n.0, node_there v.to n.0 n.1.0, n.1.1, is_it i f.0 (find_wire v.to v.input ws) f.1 (not_false _ (once i v at).1))
 
-  source_there : (i : ℕ) (v : Wire) → slice_get ws i ≡ Some v → (n : graph.Node) × (slice_get (map node_of nodes) v.from ≡ Some n) × (v.output < outputs_of n.kind) × (find_source v.from v.output ws ≡ Some i)
+  source_there : (i : ℕ) (v : Edge) → slice_get ws i ≡ Some v → (n : graph.Node) × (slice_get (map node_of nodes) v.from ≡ Some n) × (v.output < outputs_of n.kind) × (find_source v.from v.output ws ≡ Some i)
   source_there i v at =
       let n = output_there (slice_get nodes v.from) v.output (there i v at).0 in
       let f = found (λ w. w.from) (λ w. w.output) 0 ws i v at in

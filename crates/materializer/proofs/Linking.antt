@@ -5,11 +5,11 @@ use Rattle.std.proofs.lemmas.Bool.{and_parts, eqb-true, cases_Bool, cond-true, c
 use Rattle.std.proofs.lemmas.List.{length-map}
 use Rattle.std.specs.Option.{option_map}
 use Rattle.std.proofs.lemmas.Option.{slice_get_within, slice_get-map}
-use Rattle.stream_model.specs.Graph.{Graph, Wire, Chain, find_by, find_wire, find_source}
+use Rattle.stream_model.specs.Graph.{Graph, Edge, Chain, find_by, find_wire, find_source}
 use Rattle.stream_model.specs.Graph as graph
 use Rattle.stream_model.specs.Composed.{inputs_of}
 use Rattle.stream_picture.specs.View.{outputs_of}
-use Rattle.fused_net.specs.declared.net.Ends.{Ends}
+use Rattle.fused_net.specs.declared.net.WireEnds.{WireEnds}
 use Rattle.fused_net.specs.Net.{end_at}
 use Rattle.interpreter.specs.declared.parts.Seated.{Seated}
 use Rattle.interpreter.specs.Parts.{inputs_at, outputs_at, IsWiring}
@@ -26,24 +26,24 @@ some_at (x ∷ xs) zero h = (x, refl)
 some_at (x ∷ xs) (suc i) h = some_at xs i (omega (arith, h))
 
 -- the ends of a wire
-abbrev pub wire_ends : Wire → Ends
+abbrev pub wire_ends : Edge → WireEnds
 wire_ends v = record { from = v.from; output = v.output; to = v.to; input = v.input }
 
-pub ends_at : (ws : List Wire) (i : ℕ) (v : Wire) → slice_get ws i ≡ Some v → end_at (map wire_ends ws) i ≡ wire_ends v
+pub ends_at : (ws : List Edge) (i : ℕ) (v : Edge) → slice_get ws i ≡ Some v → end_at (map wire_ends ws) i ≡ wire_ends v
 ends_at [] i v h = absurd cc
 ends_at (w ∷ ws) zero v h = let e : w ≡ v = cc in ap wire_ends e
 ends_at (w ∷ ws) (suc i) v h = ends_at ws i v h
 
 -- the wire that was found at a port is at that port
-record AtPort (place port : Wire → ℕ) (a b n : ℕ) (ws : List Wire) (k : ℕ) : Type 0 where
+record AtPort (place port : Edge → ℕ) (a b n : ℕ) (ws : List Edge) (k : ℕ) : Type 0 where
   pub at : ℕ
-  pub wire : Wire
+  pub wire : Edge
   pub is : slice_get ws at ≡ Some wire
   pub number : k ≡ n + at
   pub place_is : place wire ≡ a
   pub port_is : port wire ≡ b
 
-at_port : (place port : Wire → ℕ) (a b n : ℕ) (ws : List Wire) (k : ℕ) → find_by place port a b n ws ≡ Some k → AtPort place port a b n ws k
+at_port : (place port : Edge → ℕ) (a b n : ℕ) (ws : List Edge) (k : ℕ) → find_by place port a b n ws ≡ Some k → AtPort place port a b n ws k
 at_port place port a b n [] k h = absurd cc
 at_port place port a b n (w ∷ ws) k h =
     ⊎_elim
@@ -56,12 +56,12 @@ at_port place port a b n (w ∷ ws) k h =
     record { at = suc r.at; wire = r.wire; is = r.is; number = let e : k ≡ n + 1 + r.at = r.number in omega (arith, e); place_is = r.place_is; port_is = r.port_is })
     (cases_Bool ((place w == a) && (port w == b)))
 
-module _ {S D L B : Type 0} (nodes : List Node) (ws : List Wire) (cs : List Chain) (ss : List S) (ds : List D) (places : List (Seated S D L B))
+module _ {S D L B : Type 0} (nodes : List Node) (ws : List Edge) (cs : List Chain) (ss : List S) (ds : List D) (places : List (Seated S D L B))
     (j : IsJoined (record { nodes = map node_of nodes; wires = ws; chains = cs })) (a : AreSeats cs 0 nodes ss ds places) where
-  abbrev ends : List Ends
+  abbrev ends : List WireEnds
   ends = map wire_ends ws
 
-  wire_of : (i : ℕ) → i < length ends → (v : Wire) × (slice_get ws i ≡ Some v)
+  wire_of : (i : ℕ) → i < length ends → (v : Edge) × (slice_get ws i ≡ Some v)
   wire_of i h = let e : length ends ≡ length ws = length-map ws wire_ends in some_at ws i (omega (arith, h, e))
 
   is_place : (k : ℕ) (n : graph.Node) → slice_get (map node_of nodes) k ≡ Some n → k < length places
@@ -84,49 +84,49 @@ module _ {S D L B : Type 0} (nodes : List Node) (ws : List Wire) (cs : List Chai
       let m = mapped_from node_of nodes k n at in
       (seats_ports cs 0 nodes ss ds places k m.0 a m.1.0).0 ∙ ap (λ (x : graph.Node). inputs_of x.kind) m.1.1
 
-  from_ok : (i : ℕ) (v : Wire) → slice_get ws i ≡ Some v → (v.from < length places) × (v.output < outputs_at places v.from)
+  from_ok : (i : ℕ) (v : Edge) → slice_get ws i ≡ Some v → (v.from < length places) × (v.output < outputs_at places v.from)
   from_ok i v at =
       let s = j.source i v at in
       let o : outputs_at places v.from ≡ outputs_of s.0.kind = outputs_are v.from s.0 s.1 in
       (is_place v.from s.0 s.1, let lt : v.output < outputs_of s.0.kind = s.2 in omega (arith, o, lt))
 
-  to_ok : (i : ℕ) (v : Wire) → slice_get ws i ≡ Some v → (v.to < length places) × (v.input < inputs_at places v.to)
+  to_ok : (i : ℕ) (v : Edge) → slice_get ws i ≡ Some v → (v.to < length places) × (v.input < inputs_at places v.to)
   to_ok i v at =
       let s = j.target i v at in
       let o : inputs_at places v.to ≡ inputs_of s.0.kind = inputs_are v.to s.0 s.1 in
       (is_place v.to s.0 s.1, let lt : v.input < inputs_of s.0.kind = s.2 in omega (arith, o, lt))
 
   -- a fact of a wire's ends
-  by_wire : (P : Ends → Type 0) (i : ℕ) (v : Wire) → slice_get ws i ≡ Some v → P (wire_ends v) → P (end_at ends i)
+  by_wire : (P : WireEnds → Type 0) (i : ℕ) (v : Edge) → slice_get ws i ≡ Some v → P (wire_ends v) → P (end_at ends i)
   by_wire P i v at h = subst P (sym (ends_at ws i v at)) h
 
   same_found : (i k : ℕ) (o p : Option ℕ) → o ≡ Some i → p ≡ Some k → o ≡ p → i ≡ k
   same_found i k o p a b e = cc
 
   -- each end by its wire's
-  from_is : (i : ℕ) (v : Wire) → slice_get ws i ≡ Some v → (end_at ends i).from ≡ v.from
-  from_is i v at = ap (λ (e : Ends). e.from) (ends_at ws i v at)
+  from_is : (i : ℕ) (v : Edge) → slice_get ws i ≡ Some v → (end_at ends i).from ≡ v.from
+  from_is i v at = ap (λ (e : WireEnds). e.from) (ends_at ws i v at)
 
-  output_is : (i : ℕ) (v : Wire) → slice_get ws i ≡ Some v → (end_at ends i).output ≡ v.output
-  output_is i v at = ap (λ (e : Ends). e.output) (ends_at ws i v at)
+  output_is : (i : ℕ) (v : Edge) → slice_get ws i ≡ Some v → (end_at ends i).output ≡ v.output
+  output_is i v at = ap (λ (e : WireEnds). e.output) (ends_at ws i v at)
 
-  to_is : (i : ℕ) (v : Wire) → slice_get ws i ≡ Some v → (end_at ends i).to ≡ v.to
-  to_is i v at = ap (λ (e : Ends). e.to) (ends_at ws i v at)
+  to_is : (i : ℕ) (v : Edge) → slice_get ws i ≡ Some v → (end_at ends i).to ≡ v.to
+  to_is i v at = ap (λ (e : WireEnds). e.to) (ends_at ws i v at)
 
-  input_is : (i : ℕ) (v : Wire) → slice_get ws i ≡ Some v → (end_at ends i).input ≡ v.input
-  input_is i v at = ap (λ (e : Ends). e.input) (ends_at ws i v at)
+  input_is : (i : ℕ) (v : Edge) → slice_get ws i ≡ Some v → (end_at ends i).input ≡ v.input
+  input_is i v at = ap (λ (e : WireEnds). e.input) (ends_at ws i v at)
 
   meet : (a b c d : ℕ) → a ≡ c → b ≡ d → a ≡ b → c ≡ d
   meet a b c d p q e = sym p ∙ e ∙ q
 
   -- two wires at one output are one, and so are two at one input
-  one_source : (i k : ℕ) (v u : Wire) → slice_get ws i ≡ Some v → slice_get ws k ≡ Some u → (end_at ends i).from ≡ (end_at ends k).from → (end_at ends i).output ≡ (end_at ends k).output → i ≡ k
+  one_source : (i k : ℕ) (v u : Edge) → slice_get ws i ≡ Some v → slice_get ws k ≡ Some u → (end_at ends i).from ≡ (end_at ends k).from → (end_at ends i).output ≡ (end_at ends k).output → i ≡ k
   one_source i k v u vi uk e o =
       let from : v.from ≡ u.from = meet _ _ _ _ (from_is i v vi) (from_is k u uk) e in
       let output : v.output ≡ u.output = meet _ _ _ _ (output_is i v vi) (output_is k u uk) o in
       same_found i k (find_source v.from v.output ws) (find_source u.from u.output ws) (j.source i v vi).3 (j.source k u uk).3 (ap (λ x. find_source x v.output ws) from ∙ ap (λ x. find_source u.from x ws) output)
 
-  one_target : (i k : ℕ) (v u : Wire) → slice_get ws i ≡ Some v → slice_get ws k ≡ Some u → (end_at ends i).to ≡ (end_at ends k).to → (end_at ends i).input ≡ (end_at ends k).input → i ≡ k
+  one_target : (i k : ℕ) (v u : Edge) → slice_get ws i ≡ Some v → slice_get ws k ≡ Some u → (end_at ends i).to ≡ (end_at ends k).to → (end_at ends i).input ≡ (end_at ends k).input → i ≡ k
   one_target i k v u vi uk e o =
       let to : v.to ≡ u.to = meet _ _ _ _ (to_is i v vi) (to_is k u uk) e in
       let input : v.input ≡ u.input = meet _ _ _ _ (input_is i v vi) (input_is k u uk) o in
@@ -135,7 +135,7 @@ module _ {S D L B : Type 0} (nodes : List Node) (ws : List Wire) (cs : List Chai
   node_there : (k : ℕ) (n : Node) → slice_get nodes k ≡ Some n → slice_get (map node_of nodes) k ≡ Some (node_of n)
   node_there k n at = slice_get-map node_of nodes k ∙ ap (option_map node_of) at
 
-  in_ends : (i : ℕ) (v : Wire) → slice_get ws i ≡ Some v → i < length ends
+  in_ends : (i : ℕ) (v : Edge) → slice_get ws i ≡ Some v → i < length ends
   in_ends i v at =
       let lt : i < length ws = slice_get_within ws i v at in
       let e : length ends ≡ length ws = length-map ws wire_ends in

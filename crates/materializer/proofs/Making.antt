@@ -8,7 +8,7 @@ use Rattle.stream_model.specs.Graph as graph
 use Rattle.stream_model.specs.declared.kind.Kind.{Kind}
 use Rattle.stream_model.specs.declared.kind.Kind.TheVariants as kind
 use Rattle.stream_io.specs.State.{SourceState}
-use Rattle.nodes.specs.declared.node.Node.{Node}
+use Rattle.nodes.specs.declared.node.IslandNode.{IslandNode}
 use Rattle.nodes.specs.Kinds.{maker_of, writes_of}
 use Rattle.interpreter.specs.declared.parts.Seated.{Seated}
 use Rattle.interpreter.specs.declared.parts.Work.{Work}
@@ -42,7 +42,7 @@ next_is : {S : Type 0} (k : Kind) (ss : List S) (s : S) (name : List ℕ) → k 
 next_is k ss s name e h = sym (ap (λ x. handle_of (input_of x) ss) e) ∙ h
 
 module _ {S D L B : Type 0} (sources : S → SourceState) where
-  work_first : (chains : List graph.Chain) (k : ℕ) (n : blue.Node) (ss : List S) (ds : List D) (w : Work S D L B) (x : Node S D L B) → IsWork chains k n ss ds w → BecomesOf k w x → NoneGiven sources ss → FirstOf sources chains k (node_of n) x
+  work_first : (chains : List graph.Chain) (k : ℕ) (n : blue.Node) (ss : List S) (ds : List D) (w : Work S D L B) (x : IslandNode S D L B) → IsWork chains k n ss ds w → BecomesOf k w x → NoneGiven sources ss → FirstOf sources chains k (node_of n) x
   work_first chains k n ss ds (work.Reading r) x is b none =
       let l = reads_lines n.kind ss r.source is.source in
       subst (λ y. FirstOf sources chains k (node_of n) y) (sym b) (record { name = l.0; kind_is = l.1; node = refl; kept = is.kept; given = none 0 r.source (next_is n.kind ss r.source l.0 l.1 is.source) })
@@ -57,10 +57,10 @@ module _ {S D L B : Type 0} (sources : S → SourceState) where
   work_first chains k n ss ds (work.Writing shape (Some d)) x is b none = subst (λ y. FirstOf sources chains k (node_of n) y) (sym b) (record { is_sink = is.is_sink; node = refl; writes = ap writes_of is.shape_is; count = refl; end = refl })
   work_first chains k n ss ds (work.Writing shape None) x is b none = subst (λ y. FirstOf sources chains k (node_of n) y) (sym b) (record { kind_is = is.is_ignore; node = refl; end = refl })
 
-  seat_first : (chains : List graph.Chain) (k : ℕ) (n : blue.Node) (ss : List S) (ds : List D) (p : Seated S D L B) (x : Node S D L B) → p.node ≡ k → IsWork chains k n ss ds p.work → BecomesOf p.node p.work x → NoneGiven sources ss → FirstOf sources chains k (node_of n) x
+  seat_first : (chains : List graph.Chain) (k : ℕ) (n : blue.Node) (ss : List S) (ds : List D) (p : Seated S D L B) (x : IslandNode S D L B) → p.node ≡ k → IsWork chains k n ss ds p.work → BecomesOf p.node p.work x → NoneGiven sources ss → FirstOf sources chains k (node_of n) x
   seat_first chains k n ss ds p x e is b none = work_first chains k n ss ds p.work x is (subst (λ m. BecomesOf m p.work x) e b) none
 
-  pub seats_first : (chains : List graph.Chain) (k : ℕ) (ns : List blue.Node) (ss : List S) (ds : List D) (ps : List (Seated S D L B)) (xs : List (Node S D L B)) (j : ℕ) (n : blue.Node) (x : Node S D L B)
+  pub seats_first : (chains : List graph.Chain) (k : ℕ) (ns : List blue.Node) (ss : List S) (ds : List D) (ps : List (Seated S D L B)) (xs : List (IslandNode S D L B)) (j : ℕ) (n : blue.Node) (x : IslandNode S D L B)
       → AreSeats chains k ns ss ds ps → AllBecome ps xs → NoneGiven sources ss → slice_get ns j ≡ Some n → slice_get xs j ≡ Some x → FirstOf sources chains (k + j) (node_of n) x
   seats_first chains k [] ss ds ps xs j n x a b none at is = absurd cc
   seats_first chains k (m ∷ ns) ss ds [] xs j n x a b none at is = absurd a
@@ -79,7 +79,7 @@ module _ {S D L B : Type 0} (sources : S → SourceState) where
 none_given : {S : Type 0} (sources : S → SourceState) (ss : List S) → All (λ s. (sources s).given ≡ 0) ss → NoneGiven sources ss
 none_given sources ss all i s at = subst (λ x. (sources x).given ≡ 0) (get_or_from_slice_get ss i s s at) (all i s (slice_get_within ss i s at))
 
-module _ {S D L B : Type 0} (sources : S → SourceState) (b : Blueprint) (ss : List S) (ds : List D) (places : List (Seated S D L B)) (firsts : List (Node S D L B)) where
+module _ {S D L B : Type 0} (sources : S → SourceState) (b : Blueprint) (ss : List S) (ds : List D) (places : List (Seated S D L B)) (firsts : List (IslandNode S D L B)) where
   pub are_firsts : AreSeats (chains_of b) 0 b.nodes.items ss ds places → AllBecome places firsts → All (λ s. (sources s).given ≡ 0) ss → AreFirsts sources (chains_of b) (graph_of b).nodes firsts
   are_firsts a all given = record {
     many = same_count places firsts all ∙ seats_count (chains_of b) 0 b.nodes.items ss ds places a ∙ sym (length-map b.nodes.items node_of);

@@ -18,9 +18,9 @@ use Rattle.stage_boundary.specs.Leaving.{Leaving, LeavingFresh, LeavingRow, Leav
 use Rattle.nodes.specs.Ports.{OneIn, OneInOf, OneOut, OneOutOf}
 use Rattle.nodes.specs.Source.{Lines, lines_row, lines_row_in, LinesLaw}
 use Rattle.nodes.specs.Sink.{Sink, sink_row, sink_row_in, SinkLaw}
-use Rattle.nodes.specs.declared.node.Node.{Node}
-use Rattle.nodes.specs.declared.node.Node.TheVariants.{Reading, Making, Linear, State, Sub, FanIn, FanOut, Writing, Ignoring}
-use Rattle.nodes.specs.declared.node.Node.TheVariants as node
+use Rattle.nodes.specs.declared.node.IslandNode.{IslandNode}
+use Rattle.nodes.specs.declared.node.IslandNode.TheVariants.{Reading, Making, Linear, State, Sub, FanIn, FanOut, Writing, Ignoring}
+use Rattle.nodes.specs.declared.node.IslandNode.TheVariants as node
 use Rattle.nodes.specs.Nodes.{node_fresh, node_row, node_law}
 use Rattle.nodes.proofs.Acting.{on_ok_two}
 
@@ -65,14 +65,14 @@ asked_is P p m = asked_lists P p m.0.ins m.0.outs m.1.1 m.1.0
 
 module _ {S D : Type 0} (L B : Type 0) (sources : S → SourceState) (drains : D → DrainState) (book : Book) where
   -- what a node owes at a call, and at its start
-  abbrev CallOf : Call → Node S D L B → Node S D L B → List Act → Type 0
+  abbrev CallOf : Call → IslandNode S D L B → IslandNode S D L B → List Act → Type 0
   CallOf call old new acts = Handles node_row (node_law sources drains book) call old new acts
 
-  abbrev StartOf : Node S D L B → Node S D L B → List Act → Type 0
+  abbrev StartOf : IslandNode S D L B → IslandNode S D L B → List Act → Type 0
   StartOf old new acts = Starts node_row (node_law sources drains book) node_fresh old new acts
 
   -- a sink with a file
-  writing_law : (first : Node S D L B) (old new : Sink D) (v w : View) (took gave more given : List (List Item)) → ((f : Sink D) → SinkLaw drains f old v took gave → SinkLaw drains f new w more given)
+  writing_law : (first : IslandNode S D L B) (old new : Sink D) (v w : View) (took gave more given : List (List Item)) → ((f : Sink D) → SinkLaw drains f old v took gave → SinkLaw drains f new w more given)
       → node_law sources drains book first (Writing old) v took gave → node_law sources drains book first (Writing new) w more given
   writing_law (Writing f) old new v w took gave more given keeps law = keeps f law
   writing_law (Reading f) old new v w took gave more given keeps law = absurd law
@@ -98,7 +98,7 @@ module _ {S D : Type 0} (L B : Type 0) (sources : S → SourceState) (drains : D
   writing_handles p x old new acts r m h = rw (port_is (sink_row_in old.started old.end) p x m) (on_ok_two r h h (λ a b. writing_at x old new acts a))
 
   -- a source of lines
-  reading_law : (first : Node S D L B) (old new : Lines S) (v w : View) (took gave more given : List (List Item)) → ((f : Lines S) → LinesLaw sources f old v took gave → LinesLaw sources f new w more given)
+  reading_law : (first : IslandNode S D L B) (old new : Lines S) (v w : View) (took gave more given : List (List Item)) → ((f : Lines S) → LinesLaw sources f old v took gave → LinesLaw sources f new w more given)
       → node_law sources drains book first (Reading old) v took gave → node_law sources drains book first (Reading new) w more given
   reading_law (Reading f) old new v w took gave more given keeps law = keeps f law
   reading_law (Writing f) old new v w took gave more given keeps law = absurd law
@@ -128,7 +128,7 @@ module _ {S D : Type 0} (L B : Type 0) (sources : S → SourceState) (drains : D
   reading_asked p old new acts r m h = rw (asked_is (lines_row_in old.phase) p m) (on_ok_two r h h (λ a b. reading_at (pulls 0) old new acts a))
 
   -- the stage where a lane goes out
-  leaving_law : (first : Node S D L B) (old new : Leaving) (v w : View) (took gave more given : List (List Item)) → ((f : Leaving) → LeavingLaw f old v took gave → LeavingLaw f new w more given)
+  leaving_law : (first : IslandNode S D L B) (old new : Leaving) (v w : View) (took gave more given : List (List Item)) → ((f : Leaving) → LeavingLaw f old v took gave → LeavingLaw f new w more given)
       → node_law sources drains book first (node.Leaving old) v took gave → node_law sources drains book first (node.Leaving new) w more given
   leaving_law (node.Leaving f) old new v w took gave more given keeps law = keeps f law
   leaving_law (node.Reading f) old new v w took gave more given keeps law = absurd law

@@ -16,8 +16,8 @@ use Rattle.stage_in.specs.Moves.{in_picks}
 use Rattle.stage_out.specs.OutLogics.{OutFresh, OutAsking, OutLaw}
 use Rattle.stage_out.specs.OutLogics as out
 use Rattle.stage_out.specs.Moves.{out_picks}
-use Rattle.nodes.specs.declared.node.Node.{Node}
-use Rattle.nodes.specs.declared.node.Node.TheVariants.{Reading, Making, Linear, State, Sub, FanIn, FanOut, Writing, Ignoring, Entering, Leaving}
+use Rattle.nodes.specs.declared.node.IslandNode.{IslandNode}
+use Rattle.nodes.specs.declared.node.IslandNode.TheVariants.{Reading, Making, Linear, State, Sub, FanIn, FanOut, Writing, Ignoring, Entering, Leaving}
 use Rattle.nodes.specs.declared.node.NodeEnd.{NodeEnd}
 use Rattle.nodes.specs.declared.node.NodeEnd.TheVariants.{Read, Staged, Wrote}
 use Rattle.stage_boundary.specs.Entering.{EnteringFresh, EnteringRow, EnteringLaw}
@@ -30,7 +30,7 @@ use Rattle.nodes.specs.Sink.{SinkFresh, sink_row, SinkLaw}
 use Rattle.nodes.specs.Ignoring.{IgnoreFresh, ignore_row, IgnoreLaw}
 
 -- what one that was not started may know of its ports
-abbrev pub node_fresh : {S D L B : Type 0} → Node S D L B → View → Type 0
+abbrev pub node_fresh : {S D L B : Type 0} → IslandNode S D L B → View → Type 0
 node_fresh (Reading x) v = LinesFresh x v
 node_fresh (Making x) v = MadeFresh x v
 node_fresh (Linear x) v = LinearFresh x v
@@ -44,7 +44,7 @@ node_fresh (Entering x) v = EnteringFresh x v
 node_fresh (Leaving x) v = LeavingFresh x v
 
 -- what one that was started may know of them between two calls
-abbrev pub node_row : {S D L B : Type 0} → Node S D L B → View → Type 0
+abbrev pub node_row : {S D L B : Type 0} → IslandNode S D L B → View → Type 0
 node_row (Reading x) v = lines_row x v
 node_row (Making x) v = made_row x v
 node_row (Linear x) v = LinearRow x v
@@ -58,7 +58,7 @@ node_row (Entering x) v = EnteringRow x v
 node_row (Leaving x) v = LeavingRow x v
 
 -- what holds of the histories of its ports; its kind stays the same
-abbrev pub node_law : {S D L B : Type 0} → (S → SourceState) → (D → DrainState) → Book → Node S D L B → Node S D L B → View → List (List Item) → List (List Item) → Type 0
+abbrev pub node_law : {S D L B : Type 0} → (S → SourceState) → (D → DrainState) → Book → IslandNode S D L B → IslandNode S D L B → View → List (List Item) → List (List Item) → Type 0
 node_law sources drains book (Reading first) (Reading x) v took gave = LinesLaw sources first x v took gave
 node_law sources drains book (Making first) (Making x) v took gave = MadeLaw first x v took gave
 node_law sources drains book (Linear first) (Linear x) v took gave = LinearLaw book first x v took gave
@@ -73,12 +73,12 @@ node_law sources drains book (Leaving first) (Leaving x) v took gave = LeavingLa
 node_law sources drains book _ _ v took gave = ⊥
 
 -- what it knows of its ports whenever it has just asked: only a stage with several outputs tells of it
-abbrev pub node_asking : {S D L B : Type 0} → Node S D L B → View → Type 0
+abbrev pub node_asking : {S D L B : Type 0} → IslandNode S D L B → View → Type 0
 node_asking (FanOut x) v = OutAsking x v
 node_asking x v = ⊤
 
 -- the moves that it has recorded, where it is a stage whose kind chooses
-abbrev pub node_picks : {S D L B : Type 0} → Node S D L B → Option (List ℕ)
+abbrev pub node_picks : {S D L B : Type 0} → IslandNode S D L B → Option (List ℕ)
 node_picks (Reading x) = None
 node_picks (Making x) = None
 node_picks (Linear x) = None
@@ -92,11 +92,11 @@ node_picks (Entering x) = None
 node_picks (Leaving x) = None
 
 -- the moves that it has recorded, and none where it does not choose
-abbrev pub node_moves : {S D L B : Type 0} → Node S D L B → List ℕ
+abbrev pub node_moves : {S D L B : Type 0} → IslandNode S D L B → List ℕ
 node_moves x = unwrap_or (node_picks x) []
 
 -- the seat that it has at a kill switch, where it is a valve or a trip
-abbrev pub node_seat : {S D L B : Type 0} → Node S D L B → Option SeatState
+abbrev pub node_seat : {S D L B : Type 0} → IslandNode S D L B → Option SeatState
 node_seat (Reading x) = None
 node_seat (Making x) = None
 node_seat (Linear x) = None
@@ -110,7 +110,7 @@ node_seat (Entering x) = None
 node_seat (Leaving x) = None
 
 -- what it leaves at the end
-abbrev pub node_end : {S D L B : Type 0} → Node S D L B → NodeEnd S D
+abbrev pub node_end : {S D L B : Type 0} → IslandNode S D L B → NodeEnd S D
 node_end (Reading x) = Read x.reader.source
 node_end (Making x) = Staged
 node_end (Linear x) = Staged
@@ -124,27 +124,27 @@ node_end (Entering x) = Staged
 node_end (Leaving x) = Staged
 
 -- one that was not started has not read
-abbrev pub ReadsLater : {S D L B : Type 0} → (S → SourceState) → Node S D L B → Node S D L B → Type 0
+abbrev pub ReadsLater : {S D L B : Type 0} → (S → SourceState) → IslandNode S D L B → IslandNode S D L B → Type 0
 ReadsLater sources (Reading x) (Reading y) = x.phase ≡ New → sources y.reader.source ≡ sources x.reader.source
 ReadsLater sources _ _ = ⊤
 
 -- what of it outlives want of memory: the handle that it would leave, which is as it was handed in where the node was not
 -- started
-pub record KeepsNode {S D L B : Type 0} (sources : S → SourceState) (drains : D → DrainState) (x y : Node S D L B) : Type 0 where
+pub record KeepsNode {S D L B : Type 0} (sources : S → SourceState) (drains : D → DrainState) (x y : IslandNode S D L B) : Type 0 where
   pub ends : KeepsEnd sources drains (node_end x) (node_end y)
   pub first : ReadsLater sources x y
 
 -- only where a lane comes in or goes out it acts from outside alone
-abbrev pub node_passive : {S D L B : Type 0} → Node S D L B → Bool
+abbrev pub node_passive : {S D L B : Type 0} → IslandNode S D L B → Bool
 node_passive (Entering x) = true
 node_passive (Leaving x) = true
 node_passive x = false
 
 -- what was handed out of the island at it or dropped there, and what waits there: only where a lane goes out
-abbrev pub node_gone : {S D L B : Type 0} → Node S D L B → List Item
+abbrev pub node_gone : {S D L B : Type 0} → IslandNode S D L B → List Item
 node_gone (Leaving x) = x.gone
 node_gone x = []
 
-abbrev pub node_waits : {S D L B : Type 0} → Node S D L B → List Item
+abbrev pub node_waits : {S D L B : Type 0} → IslandNode S D L B → List Item
 node_waits (Leaving x) = x.waits
 node_waits x = []

@@ -4,8 +4,8 @@ ghost use Rattle.std.specs.Option.{option_map};
 ghost use Rattle.nodes.specs.Nodes.{node_fresh, node_row, node_law, node_asking, node_moves, node_picks, node_seat, node_end, node_passive, node_gone, node_waits, KeepsNode};
 
 use crate::ignoring::IgnoreSink;
-use crate::maker::Maker;
-use crate::sink::{FileSink, SinkEnd};
+use crate::maker::ValueSource;
+use crate::sink::{ClosedSink, FileSink};
 use crate::source::LinesSource;
 use elem_core::elem::Elem;
 use elem_core::item::Item;
@@ -29,11 +29,11 @@ use stream_io::outside::{Drain, Source};
 
 /// A node of an island.
 #[derive(Drop)]
-pub enum Node<S: Source, D: Drain, L: Logic, B: PlugBook> {
+pub enum IslandNode<S: Source, D: Drain, L: Logic, B: PlugBook> {
     /// A source of the lines of a file.
     Reading(LinesSource<S>),
     /// A source without a file.
-    Making(Maker),
+    Making(ValueSource),
     /// A linear stage.
     Linear(LinearLogic<L, B>),
     /// A stage with state.
@@ -62,10 +62,10 @@ pub enum NodeEnd<S: Source, D: Drain> {
     /// A stage, a source without a file, or the end of a lane leaves nothing.
     Staged,
     /// What a sink leaves.
-    Wrote(SinkEnd<D>),
+    Wrote(ClosedSink<D>),
 }
 
-impl<S: Source, D: Drain, L: Logic, B: PlugBook> Node<S, D, L, B> {
+impl<S: Source, D: Drain, L: Logic, B: PlugBook> IslandNode<S, D, L, B> {
     /// What it leaves, the log of its moves where it is a stage whose kind chooses, and its seat where it is a valve or a trip. It
     /// takes no memory.
     pub fn close(self) -> (NodeEnd<S, D>, Option<PickLog>, Option<SwitchSeat>)
@@ -74,24 +74,25 @@ impl<S: Source, D: Drain, L: Logic, B: PlugBook> Node<S, D, L, B> {
         ensures seat { result.2 ≡ node_seat self }
     {
         match self {
-            Node::Reading(source) => (NodeEnd::Read(source.into_source()), None, None),
-            Node::Making(_) | Node::Linear(_) | Node::Entering(_) | Node::Leaving(_) => {
-                (NodeEnd::Staged, None, None)
-            }
-            Node::State(logic) => {
+            IslandNode::Reading(source) => (NodeEnd::Read(source.into_source()), None, None),
+            IslandNode::Making(_)
+            | IslandNode::Linear(_)
+            | IslandNode::Entering(_)
+            | IslandNode::Leaving(_) => { (NodeEnd::Staged, None, None) }
+            IslandNode::State(logic) => {
                 let (log, seat) = logic.leave();
                 (NodeEnd::Staged, log, seat)
             }
-            Node::Sub(logic) => (NodeEnd::Staged, logic.picks(), None),
-            Node::FanIn(logic) => (NodeEnd::Staged, logic.picks(), None),
-            Node::FanOut(logic) => (NodeEnd::Staged, logic.picks(), None),
-            Node::Writing(sink) => (NodeEnd::Wrote(sink.close()), None, None),
-            Node::Ignoring(sink) => (NodeEnd::Wrote(sink.close()), None, None),
+            IslandNode::Sub(logic) => (NodeEnd::Staged, logic.picks(), None),
+            IslandNode::FanIn(logic) => (NodeEnd::Staged, logic.picks(), None),
+            IslandNode::FanOut(logic) => (NodeEnd::Staged, logic.picks(), None),
+            IslandNode::Writing(sink) => (NodeEnd::Wrote(sink.close()), None, None),
+            IslandNode::Ignoring(sink) => (NodeEnd::Wrote(sink.close()), None, None),
         }
     }
 }
 
-impl<S: Source, D: Drain, L: Logic, B: PlugBook> Stage for Node<S, D, L, B> {
+impl<S: Source, D: Drain, L: Logic, B: PlugBook> Stage for IslandNode<S, D, L, B> {
     ghost fresh = { node_fresh };
 
     ghost rests = { node_row };
@@ -112,32 +113,32 @@ impl<S: Source, D: Drain, L: Logic, B: PlugBook> Stage for Node<S, D, L, B> {
 
     fn start(&mut self, alloc: Global, acts: &mut Acts) -> Result<(), NoMemory> {
         match self {
-            Node::Reading(source) => source.start(acts),
-            Node::Making(source) => source.start(acts),
-            Node::Linear(logic) => Stage::start(logic, alloc, acts),
-            Node::State(logic) => Stage::start(logic, alloc, acts),
-            Node::Sub(logic) => Stage::start(logic, alloc, acts),
-            Node::FanIn(logic) => Stage::start(logic, alloc, acts),
-            Node::FanOut(logic) => Stage::start(logic, alloc, acts),
-            Node::Writing(sink) => sink.start(acts),
-            Node::Ignoring(sink) => sink.start(acts),
-            Node::Entering(stage) => Stage::start(stage, alloc, acts),
-            Node::Leaving(stage) => Stage::start(stage, alloc, acts),
+            IslandNode::Reading(source) => source.start(acts),
+            IslandNode::Making(source) => source.start(acts),
+            IslandNode::Linear(logic) => Stage::start(logic, alloc, acts),
+            IslandNode::State(logic) => Stage::start(logic, alloc, acts),
+            IslandNode::Sub(logic) => Stage::start(logic, alloc, acts),
+            IslandNode::FanIn(logic) => Stage::start(logic, alloc, acts),
+            IslandNode::FanOut(logic) => Stage::start(logic, alloc, acts),
+            IslandNode::Writing(sink) => sink.start(acts),
+            IslandNode::Ignoring(sink) => sink.start(acts),
+            IslandNode::Entering(stage) => Stage::start(stage, alloc, acts),
+            IslandNode::Leaving(stage) => Stage::start(stage, alloc, acts),
         }
     }
 
     fn on_pull(&mut self, alloc: Global, port: u8, acts: &mut Acts) -> Result<(), NoMemory> {
         match self {
-            Node::Reading(source) => source.on_pull(acts),
-            Node::Making(source) => source.on_pull(acts),
-            Node::Linear(logic) => Stage::on_pull(logic, alloc, port, acts),
-            Node::State(logic) => Stage::on_pull(logic, alloc, port, acts),
-            Node::Sub(logic) => Stage::on_pull(logic, alloc, port, acts),
-            Node::FanIn(logic) => Stage::on_pull(logic, alloc, port, acts),
-            Node::FanOut(logic) => Stage::on_pull(logic, alloc, port, acts),
-            Node::Entering(stage) => Stage::on_pull(stage, alloc, port, acts),
-            Node::Leaving(stage) => Stage::on_pull(stage, alloc, port, acts),
-            Node::Writing(_) | Node::Ignoring(_) => unreachable!(),
+            IslandNode::Reading(source) => source.on_pull(acts),
+            IslandNode::Making(source) => source.on_pull(acts),
+            IslandNode::Linear(logic) => Stage::on_pull(logic, alloc, port, acts),
+            IslandNode::State(logic) => Stage::on_pull(logic, alloc, port, acts),
+            IslandNode::Sub(logic) => Stage::on_pull(logic, alloc, port, acts),
+            IslandNode::FanIn(logic) => Stage::on_pull(logic, alloc, port, acts),
+            IslandNode::FanOut(logic) => Stage::on_pull(logic, alloc, port, acts),
+            IslandNode::Entering(stage) => Stage::on_pull(stage, alloc, port, acts),
+            IslandNode::Leaving(stage) => Stage::on_pull(stage, alloc, port, acts),
+            IslandNode::Writing(_) | IslandNode::Ignoring(_) => unreachable!(),
         }
     }
 
@@ -149,31 +150,31 @@ impl<S: Source, D: Drain, L: Logic, B: PlugBook> Stage for Node<S, D, L, B> {
         acts: &mut Acts,
     ) -> Result<(), NoMemory> {
         match self {
-            Node::Reading(_) | Node::Making(_) => unreachable!(),
-            Node::Linear(logic) => Stage::on_push(logic, alloc, port, e, acts),
-            Node::State(logic) => Stage::on_push(logic, alloc, port, e, acts),
-            Node::Sub(logic) => Stage::on_push(logic, alloc, port, e, acts),
-            Node::FanIn(logic) => Stage::on_push(logic, alloc, port, e, acts),
-            Node::FanOut(logic) => Stage::on_push(logic, alloc, port, e, acts),
-            Node::Writing(sink) => sink.on_push(e, acts),
-            Node::Ignoring(sink) => sink.on_push(e, acts),
-            Node::Entering(stage) => Stage::on_push(stage, alloc, port, e, acts),
-            Node::Leaving(stage) => Stage::on_push(stage, alloc, port, e, acts),
+            IslandNode::Reading(_) | IslandNode::Making(_) => unreachable!(),
+            IslandNode::Linear(logic) => Stage::on_push(logic, alloc, port, e, acts),
+            IslandNode::State(logic) => Stage::on_push(logic, alloc, port, e, acts),
+            IslandNode::Sub(logic) => Stage::on_push(logic, alloc, port, e, acts),
+            IslandNode::FanIn(logic) => Stage::on_push(logic, alloc, port, e, acts),
+            IslandNode::FanOut(logic) => Stage::on_push(logic, alloc, port, e, acts),
+            IslandNode::Writing(sink) => sink.on_push(e, acts),
+            IslandNode::Ignoring(sink) => sink.on_push(e, acts),
+            IslandNode::Entering(stage) => Stage::on_push(stage, alloc, port, e, acts),
+            IslandNode::Leaving(stage) => Stage::on_push(stage, alloc, port, e, acts),
         }
     }
 
     fn on_finish(&mut self, alloc: Global, port: u8, acts: &mut Acts) -> Result<(), NoMemory> {
         match self {
-            Node::Reading(_) | Node::Making(_) => unreachable!(),
-            Node::Linear(logic) => Stage::on_finish(logic, alloc, port, acts),
-            Node::State(logic) => Stage::on_finish(logic, alloc, port, acts),
-            Node::Sub(logic) => Stage::on_finish(logic, alloc, port, acts),
-            Node::FanIn(logic) => Stage::on_finish(logic, alloc, port, acts),
-            Node::FanOut(logic) => Stage::on_finish(logic, alloc, port, acts),
-            Node::Writing(sink) => sink.on_finish(acts),
-            Node::Ignoring(sink) => sink.on_finish(acts),
-            Node::Entering(stage) => Stage::on_finish(stage, alloc, port, acts),
-            Node::Leaving(stage) => Stage::on_finish(stage, alloc, port, acts),
+            IslandNode::Reading(_) | IslandNode::Making(_) => unreachable!(),
+            IslandNode::Linear(logic) => Stage::on_finish(logic, alloc, port, acts),
+            IslandNode::State(logic) => Stage::on_finish(logic, alloc, port, acts),
+            IslandNode::Sub(logic) => Stage::on_finish(logic, alloc, port, acts),
+            IslandNode::FanIn(logic) => Stage::on_finish(logic, alloc, port, acts),
+            IslandNode::FanOut(logic) => Stage::on_finish(logic, alloc, port, acts),
+            IslandNode::Writing(sink) => sink.on_finish(acts),
+            IslandNode::Ignoring(sink) => sink.on_finish(acts),
+            IslandNode::Entering(stage) => Stage::on_finish(stage, alloc, port, acts),
+            IslandNode::Leaving(stage) => Stage::on_finish(stage, alloc, port, acts),
         }
     }
 
@@ -185,55 +186,55 @@ impl<S: Source, D: Drain, L: Logic, B: PlugBook> Stage for Node<S, D, L, B> {
         acts: &mut Acts,
     ) -> Result<(), NoMemory> {
         match self {
-            Node::Reading(_) | Node::Making(_) => unreachable!(),
-            Node::Linear(logic) => Stage::on_fail(logic, alloc, port, cause, acts),
-            Node::State(logic) => Stage::on_fail(logic, alloc, port, cause, acts),
-            Node::Sub(logic) => Stage::on_fail(logic, alloc, port, cause, acts),
-            Node::FanIn(logic) => Stage::on_fail(logic, alloc, port, cause, acts),
-            Node::FanOut(logic) => Stage::on_fail(logic, alloc, port, cause, acts),
-            Node::Writing(sink) => sink.on_fail(cause, acts),
-            Node::Ignoring(sink) => sink.on_fail(cause, acts),
-            Node::Entering(stage) => Stage::on_fail(stage, alloc, port, cause, acts),
-            Node::Leaving(stage) => Stage::on_fail(stage, alloc, port, cause, acts),
+            IslandNode::Reading(_) | IslandNode::Making(_) => unreachable!(),
+            IslandNode::Linear(logic) => Stage::on_fail(logic, alloc, port, cause, acts),
+            IslandNode::State(logic) => Stage::on_fail(logic, alloc, port, cause, acts),
+            IslandNode::Sub(logic) => Stage::on_fail(logic, alloc, port, cause, acts),
+            IslandNode::FanIn(logic) => Stage::on_fail(logic, alloc, port, cause, acts),
+            IslandNode::FanOut(logic) => Stage::on_fail(logic, alloc, port, cause, acts),
+            IslandNode::Writing(sink) => sink.on_fail(cause, acts),
+            IslandNode::Ignoring(sink) => sink.on_fail(cause, acts),
+            IslandNode::Entering(stage) => Stage::on_fail(stage, alloc, port, cause, acts),
+            IslandNode::Leaving(stage) => Stage::on_fail(stage, alloc, port, cause, acts),
         }
     }
 
     fn on_cancel(&mut self, alloc: Global, port: u8, acts: &mut Acts) -> Result<(), NoMemory> {
         match self {
-            Node::Reading(source) => source.on_cancel(acts),
-            Node::Making(source) => source.on_cancel(acts),
-            Node::Linear(logic) => Stage::on_cancel(logic, alloc, port, acts),
-            Node::State(logic) => Stage::on_cancel(logic, alloc, port, acts),
-            Node::Sub(logic) => Stage::on_cancel(logic, alloc, port, acts),
-            Node::FanIn(logic) => Stage::on_cancel(logic, alloc, port, acts),
-            Node::FanOut(logic) => Stage::on_cancel(logic, alloc, port, acts),
-            Node::Entering(stage) => Stage::on_cancel(stage, alloc, port, acts),
-            Node::Leaving(stage) => Stage::on_cancel(stage, alloc, port, acts),
-            Node::Writing(_) | Node::Ignoring(_) => unreachable!(),
+            IslandNode::Reading(source) => source.on_cancel(acts),
+            IslandNode::Making(source) => source.on_cancel(acts),
+            IslandNode::Linear(logic) => Stage::on_cancel(logic, alloc, port, acts),
+            IslandNode::State(logic) => Stage::on_cancel(logic, alloc, port, acts),
+            IslandNode::Sub(logic) => Stage::on_cancel(logic, alloc, port, acts),
+            IslandNode::FanIn(logic) => Stage::on_cancel(logic, alloc, port, acts),
+            IslandNode::FanOut(logic) => Stage::on_cancel(logic, alloc, port, acts),
+            IslandNode::Entering(stage) => Stage::on_cancel(stage, alloc, port, acts),
+            IslandNode::Leaving(stage) => Stage::on_cancel(stage, alloc, port, acts),
+            IslandNode::Writing(_) | IslandNode::Ignoring(_) => unreachable!(),
         }
     }
 
     fn hand_out(&mut self) -> Option<Item> {
         match self {
-            Node::Leaving(stage) => stage.hand_out(),
+            IslandNode::Leaving(stage) => stage.hand_out(),
             _ => None,
         }
     }
 
     fn let_go(&mut self) {
-        if let Node::Leaving(stage) = self {
+        if let IslandNode::Leaving(stage) = self {
             stage.let_go();
         }
     }
 
     fn is_clear(&self) -> bool {
         match self {
-            Node::Leaving(stage) => stage.is_clear(),
+            IslandNode::Leaving(stage) => stage.is_clear(),
             _ => true,
         }
     }
 
     fn is_passive(&self) -> bool {
-        matches!(self, Node::Entering(_) | Node::Leaving(_))
+        matches!(self, IslandNode::Entering(_) | IslandNode::Leaving(_))
     }
 }

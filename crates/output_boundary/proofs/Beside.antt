@@ -6,11 +6,11 @@ use Rattle.std.proofs.lemmas.Option.{slice_get_within}
 use Rattle.elem_core.specs.declared.item.Item.{Item}
 use Rattle.port_core.specs.declared.act.Act.{Act}
 use Rattle.port_core.specs.declared.act.Act.TheVariants as act
-use Rattle.wire_core.specs.Cell.{Cell, moved_by}
+use Rattle.wire_core.specs.Cell.{WireState, moved_by}
 use Rattle.wire_core.specs.Reading.{no_wire}
-use Rattle.nodes.specs.declared.node.Node.{Node}
+use Rattle.nodes.specs.declared.node.IslandNode.{IslandNode}
 use Rattle.nodes.specs.Nodes.{node_gone, node_waits}
-use Rattle.fused_net.specs.declared.net.Ends.{Ends}
+use Rattle.fused_net.specs.declared.net.WireEnds.{WireEnds}
 use Rattle.fused_net.specs.Net.{Net, end_at, wire_at, with_node}
 use Rattle.fused_net.specs.Laws.{GoesOn}
 use Rattle.fused_net.specs.Poking.{HandsAt}
@@ -54,7 +54,7 @@ module _ {S D L B : Type 0} where
   })
 
   -- one node has changed
-  pub beside_node : (q : ℕ) (i : Kept S D L B) (n : ℕ) (y : Node S D L B) (new : Kept S D L B) → new ≡ with_net i (with_node i.net n y) → Beside q n i new
+  pub beside_node : (q : ℕ) (i : Kept S D L B) (n : ℕ) (y : IslandNode S D L B) (new : Kept S D L B) → new ≡ with_net i (with_node i.net n y) → Beside q n i new
   beside_node q i n y new is = rw is (record {
     cells = λ p ne. refl;
     nodes = λ k ne. get_set_other i.net.nodes n k y ne;
@@ -113,10 +113,10 @@ module _ {S D L B : Type 0} where
       beside_trans (way_out a u) (out_node a u) a b c f (subst (λ (z : ℕ × ℕ). Beside z.0 z.1 b c) (λ i. (way_out_beside (way_out a u) (out_node a u) a b u f i, out_node_beside (way_out a u) (out_node a u) a b u f i)) g)
 
   -- a cancel was handed on
-  pub beside_drops : (i new : Kept S D L B) (u : ℕ) (x : Node S D L B) → slice_get i.net.nodes (out_node i u) ≡ Some x → Drops i u new → Beside (way_out i u) (out_node i u) i new
+  pub beside_drops : (i new : Kept S D L B) (u : ℕ) (x : IslandNode S D L B) → slice_get i.net.nodes (out_node i u) ≡ Some x → Drops i u new → Beside (way_out i u) (out_node i u) i new
   beside_drops i new u x at d = by_over (input_closed (wire_at i.net (way_out i u)).wire.inp) refl
     where
-      after : (mid : Net (Node S D L B)) → cancelled_at i.net (way_out i u) ≡ mid → Beside (way_out i u) (out_node i u) i (with_net i mid) → slice_get mid.nodes (out_node i u) ≡ Some x → Beside (way_out i u) (out_node i u) i new
+      after : (mid : Net (IslandNode S D L B)) → cancelled_at i.net (way_out i u) ≡ mid → Beside (way_out i u) (out_node i u) i (with_net i mid) → slice_get mid.nodes (out_node i u) ≡ Some x → Beside (way_out i u) (out_node i u) i new
       after mid e b there =
           let h = d.drops x (rw e there) in
           let is : new ≡ with_net i (with_node mid (out_node i u) h.next) = d.rest ∙ ap (λ (n : Net _). with_net i n) h.is ∙ ap (λ (n : Net _). with_net i (with_node n (out_node i u) h.next)) e in

@@ -7,17 +7,17 @@ use Rattle.elem_core.specs.declared.item.Item.{Item}
 use Rattle.elem_core.specs.declared.item.Item.TheVariants as item
 use Rattle.port_core.specs.Decoding.{can_pull}
 use Rattle.port_core.specs.Joint.{Joint, idle, asking, asked, moving, ending, closing, leaving, finished, parted, refused, wire_of, IsSound, Histories}
-use Rattle.port_core.specs.Wire.{Wire}
+use Rattle.port_core.specs.Wire.{JointPorts}
 use Rattle.port_core.specs.declared.act.Act.TheVariants as act
 use Rattle.stream_io.specs.State.{SourceState, DrainState}
 use Rattle.stream_model.specs.Outlook.{End, unended, ended, failed}
 use Rattle.stream_model.specs.Linear.{Book}
 use Rattle.stage_law.specs.Held.{told}
-use Rattle.wire_core.specs.Cell.{Cell, moved_by}
+use Rattle.wire_core.specs.Cell.{WireState, moved_by}
 use Rattle.wire_core.specs.Counts.{elements}
 use Rattle.wire_core.specs.Marks.{wanted}
 use Rattle.wire_core.specs.Reading.{no_wire}
-use Rattle.nodes.specs.declared.node.Node.{Node}
+use Rattle.nodes.specs.declared.node.IslandNode.{IslandNode}
 use Rattle.nodes.specs.Nodes.{node_gone, node_waits}
 use Rattle.fused_net.specs.Net.{Net, end_at, wire_at, with_node}
 use Rattle.fused_net.proofs.Reading.{get_set_same, get_there}
@@ -51,8 +51,8 @@ came_j (parted t c) s g e h = cc
 came_j (refused t c) s g e h = cc
 
 -- where an input may ask, all that was sent has come
-pub all_came : (w : Wire) (q : Bool) → IsSound w q → can_pull w.conn ≡ true → w.sent ≡ w.got
-all_came w q s e = came_j s.joint w.sent w.got (sym (ap (λ (v : Wire). can_pull v.conn) s.is) ∙ e) s.histories
+pub all_came : (w : JointPorts) (q : Bool) → IsSound w q → can_pull w.conn ≡ true → w.sent ≡ w.got
+all_came w q s e = came_j s.joint w.sent w.got (sym (ap (λ (v : JointPorts). can_pull v.conn) s.is) ∙ e) s.histories
 
 elems-append : (xs ys : List Item) → lane.elements (xs ++ ys) ≡ lane.elements xs + lane.elements ys
 elems-append [] ys = omega arith
@@ -130,7 +130,7 @@ module _ {S D L B : Type 0} (o : LaneOut) (i : Kept S D L B) (u : ℕ) (came : C
       let few : wanted (moved_by (act.Pull 0) c) ≤ seen o = omega (arith, asks, count, unused, some) in
       subst (λ (z : Kept S D L B). Sends o z u) (sym is) (record {
         gone = s.gone;
-        wants = subst (λ (z : Cell). wanted z ≤ seen o) (sym (get_or-set_same i.net.wires (way_out i u) (moved_by (act.Pull 0) c) no_wire l.place)) few;
+        wants = subst (λ (z : WireState). wanted z ≤ seen o) (sym (get_or-set_same i.net.wires (way_out i u) (moved_by (act.Pull 0) c) no_wire l.place)) few;
         live = s.live;
         ended = s.ended;
       })

@@ -9,18 +9,18 @@ use Rattle.elem_core.specs.declared.item.Item.{Item}
 use Rattle.stream_io.specs.State.{SourceState, DrainState}
 use Rattle.port_core.specs.Decoding.{can_pull}
 use Rattle.port_core.specs.Joint.{Joint, idle, asking, asked, moving, ending, closing, leaving, finished, parted, refused, wire_of, IsSound, Histories}
-use Rattle.port_core.specs.Wire.{Wire}
+use Rattle.port_core.specs.Wire.{JointPorts}
 use Rattle.port_core.specs.View.{View, input_closed}
 use Rattle.port_core.specs.declared.view.InView.{InView}
 use Rattle.port_core.specs.declared.view.InView.TheVariants.{Idle, Pulled, Finished, Cancelled}
 use Rattle.port_core.specs.declared.act.Act.TheVariants as act
 use Rattle.stream_model.specs.Linear.{Book}
 use Rattle.stage_law.specs.Row.{InClosed}
-use Rattle.wire_core.specs.Cell.{Cell, moved_by}
+use Rattle.wire_core.specs.Cell.{WireState, moved_by}
 use Rattle.wire_core.specs.Marks.{wanted}
 use Rattle.wire_core.specs.Reading.{no_wire}
-use Rattle.nodes.specs.declared.node.Node.{Node}
-use Rattle.nodes.specs.declared.node.Node.TheVariants as node
+use Rattle.nodes.specs.declared.node.IslandNode.{IslandNode}
+use Rattle.nodes.specs.declared.node.IslandNode.TheVariants as node
 use Rattle.nodes.specs.Nodes.{node_row, node_law, node_asking, node_moves, node_gone, node_waits, node_passive}
 use Rattle.fused_net.specs.Net.{Net, end_at, wire_at, with_node, ports_at, view_of, took, gave}
 use Rattle.fused_net.specs.Laws.{Settled, GoesOn}
@@ -54,10 +54,10 @@ idle_j (finished t c) s g e = cc
 idle_j (parted t c) s g e = cc
 idle_j (refused t c) s g e = cc
 
-pub idle_may : (w : Wire) (q : Bool) → IsSound w q → w.inp ≡ Idle → (can_pull w.conn ≡ true) ⊎ (w.conn.out_closed ≡ true)
-idle_may w q s e = elim (idle_j s.joint w.sent w.got (sym (ap (λ (v : Wire). v.inp) s.is) ∙ e)) [
-  | inl c ↦ inl (ap (λ (v : Wire). can_pull v.conn) s.is ∙ c)
-  | inr c ↦ inr (ap (λ (v : Wire). v.conn.out_closed) s.is ∙ c)
+pub idle_may : (w : JointPorts) (q : Bool) → IsSound w q → w.inp ≡ Idle → (can_pull w.conn ≡ true) ⊎ (w.conn.out_closed ≡ true)
+idle_may w q s e = elim (idle_j s.joint w.sent w.got (sym (ap (λ (v : JointPorts). v.inp) s.is) ∙ e)) [
+  | inl c ↦ inl (ap (λ (v : JointPorts). can_pull v.conn) s.is ∙ c)
+  | inr c ↦ inr (ap (λ (v : JointPorts). v.conn.out_closed) s.is ∙ c)
 ]
 
 -- an input is closed exactly where its connection knows it
@@ -87,11 +87,11 @@ closed_j (finished t c) s g h = tt
 closed_j (parted t c) s g h = tt
 closed_j (refused t c) s g h = tt
 
-pub shut_conn : (w : Wire) (q : Bool) → IsSound w q → InClosed w.inp → w.conn.in_closed ≡ true
-shut_conn w q s h = ap (λ (v : Wire). v.conn.in_closed) s.is ∙ shut_j s.joint w.sent w.got (subst (λ (v : Wire). InClosed v.inp) s.is h)
+pub shut_conn : (w : JointPorts) (q : Bool) → IsSound w q → InClosed w.inp → w.conn.in_closed ≡ true
+shut_conn w q s h = ap (λ (v : JointPorts). v.conn.in_closed) s.is ∙ shut_j s.joint w.sent w.got (subst (λ (v : JointPorts). InClosed v.inp) s.is h)
 
-pub closed_conn : (w : Wire) (q : Bool) → IsSound w q → w.conn.in_closed ≡ true → InClosed w.inp
-closed_conn w q s e = subst (λ (v : Wire). InClosed v.inp) (sym s.is) (closed_j s.joint w.sent w.got (sym (ap (λ (v : Wire). v.conn.in_closed) s.is) ∙ e))
+pub closed_conn : (w : JointPorts) (q : Bool) → IsSound w q → w.conn.in_closed ≡ true → InClosed w.inp
+closed_conn w q s e = subst (λ (v : JointPorts). InClosed v.inp) (sym s.is) (closed_j s.joint w.sent w.got (sym (ap (λ (v : JointPorts). v.conn.in_closed) s.is) ∙ e))
 
 -- ---- what waits at a node
 
@@ -99,13 +99,13 @@ some_same : {A : Type 0} (x y : A) → Some x ≡ Some y → x ≡ y
 some_same x y e = cc
 
 module _ {S D L B : Type 0} where
-  pub waiting_at : (i : Kept S D L B) (u : ℕ) (x : Node S D L B) → slice_get i.net.nodes (out_node i u) ≡ Some x → waiting i u ≡ node_waits x
+  pub waiting_at : (i : Kept S D L B) (u : ℕ) (x : IslandNode S D L B) → slice_get i.net.nodes (out_node i u) ≡ Some x → waiting i u ≡ node_waits x
   waiting_at i u x at = ap waits_of at
 
   pub clear_waits : (i : Kept S D L B) (u : ℕ) → IsClearAt i.net (way_out i u) → waiting i u ≡ []
   clear_waits i u clear = by_node (slice_get i.net.nodes (out_node i u)) refl
     where
-      by_node : (o : Option (Node S D L B)) → slice_get i.net.nodes (out_node i u) ≡ o → waiting i u ≡ []
+      by_node : (o : Option (IslandNode S D L B)) → slice_get i.net.nodes (out_node i u) ≡ o → waiting i u ≡ []
       by_node None e = ap waits_of e
       by_node (Some x) e = ap waits_of e ∙ clear x e
 
@@ -176,7 +176,7 @@ module _ {S D L B : Type 0} (o : LaneOut) (i : Kept S D L B) (u : ℕ) where
   pub cancelled_serves : CameTo i.net (way_out i u) → Sends o i u → Leaves i u → out_node i u < length i.net.nodes → (p : LaneOut) (new : Kept S D L B) → Drops i u new → sent p ≡ sent o → seen o ≤ seen p → saw_cancel p ≡ 1 → Serves p new u
   cancelled_serves came s l h p new d same more cancel =
       let q : ℕ = way_out i u in
-      let mid : Net (Node S D L B) = cancelled_at i.net (way_out i u) in
+      let mid : Net (IslandNode S D L B) = cancelled_at i.net (way_out i u) in
       let x = get_there i.net.nodes (out_node i u) h in
       let parts : (cell_out i u).wire.got ≡ sent o ++ node_waits x.0 = came.got x.0 x.1 ∙ ap (λ (w : List Item). w ++ node_waits x.0) (s.gone x.0 x.1) in
       let c = cell_out i u in
@@ -192,7 +192,7 @@ module _ {S D L B : Type 0} (o : LaneOut) (i : Kept S D L B) (u : ℕ) where
         left = λ z. cancel;
       })
     where
-      mid_node : (x : Node S D L B) → slice_get i.net.nodes (out_node i u) ≡ Some x → slice_get (cancelled_at i.net (way_out i u)).nodes (out_node i u) ≡ Some x
+      mid_node : (x : IslandNode S D L B) → slice_get i.net.nodes (out_node i u) ≡ Some x → slice_get (cancelled_at i.net (way_out i u)).nodes (out_node i u) ≡ Some x
       mid_node x at = by_over (input_closed (wire_at i.net (way_out i u)).wire.inp) refl
         where
           by_over : (b : Bool) → input_closed (wire_at i.net (way_out i u)).wire.inp ≡ b → slice_get (cancelled_at i.net (way_out i u)).nodes (out_node i u) ≡ Some x
@@ -236,7 +236,7 @@ module _ {S D L B : Type 0} (o : LaneOut) (q n : ℕ) (old new : Kept S D L B) (
 -- ---- while the island runs
 
 -- what stands at the end of a lane is passive
-leaving_passive : {S D L B : Type 0} (sources : S → SourceState) (drains : D → DrainState) (book : Book) (x first : Node S D L B) (v : View) (t g : List (List Item)) → IsLeaving first → node_law sources drains book first x v t g → node_passive x ≡ true
+leaving_passive : {S D L B : Type 0} (sources : S → SourceState) (drains : D → DrainState) (book : Book) (x first : IslandNode S D L B) (v : View) (t g : List (List Item)) → IsLeaving first → node_law sources drains book first x v t g → node_passive x ≡ true
 leaving_passive sources drains book (node.Leaving x) (node.Leaving f) v t g h law = refl
 leaving_passive sources drains book (node.Reading x) (node.Leaving f) v t g h law = absurd law
 leaving_passive sources drains book (node.Making x) (node.Leaving f) v t g h law = absurd law
@@ -259,7 +259,7 @@ leaving_passive sources drains book x (node.Writing f) v t g h law = absurd h
 leaving_passive sources drains book x (node.Ignoring f) v t g h law = absurd h
 leaving_passive sources drains book x (node.Entering f) v t g h law = absurd h
 
-pub passive_there : {S D L B : Type 0} (sources : S → SourceState) (drains : D → DrainState) (book : Book) (net : Net (Node S D L B)) (q : ℕ) → Settled node_row (node_law sources drains book) node_asking node_moves net → q < length net.wires → LeavesAt net q → IsPassiveAt node_passive net (end_at net.ends q).to
+pub passive_there : {S D L B : Type 0} (sources : S → SourceState) (drains : D → DrainState) (book : Book) (net : Net (IslandNode S D L B)) (q : ℕ) → Settled node_row (node_law sources drains book) node_asking node_moves net → q < length net.wires → LeavesAt net q → IsPassiveAt node_passive net (end_at net.ends q).to
 passive_there sources drains book net q s h stage x at =
     let to = (end_at net.ends q).to in
     let first = get_there net.firsts to (rw s.each_first (s.wired.to_within q h)) in

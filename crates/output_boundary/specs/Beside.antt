@@ -1,7 +1,7 @@
 -- What an end of a lane leaves as it is when it acts: all but its own connection and its own stage.
 use Rattle.std.specs.Prelude.{◌≡◌, ◌≢◌, ℕ, Option, None, Some, List, [], slice_get}
 use Rattle.elem_core.specs.declared.item.Item.{Item}
-use Rattle.nodes.specs.declared.node.Node.{Node}
+use Rattle.nodes.specs.declared.node.IslandNode.{IslandNode}
 use Rattle.nodes.specs.Nodes.{node_waits}
 use Rattle.fused_net.specs.Net.{end_at, wire_at}
 use Rattle.fused_net.specs.Laws.{GoesOn}
@@ -17,7 +17,7 @@ module _ {S D L B : Type 0} where
   in_node i u = (end_at i.net.ends (way_in i u)).from
 
   -- what waits at a node to leave the island
-  abbrev pub waits_of : Option (Node S D L B) → List Item
+  abbrev pub waits_of : Option (IslandNode S D L B) → List Item
   waits_of None = []
   waits_of (Some x) = node_waits x
 

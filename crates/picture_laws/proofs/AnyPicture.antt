@@ -6,8 +6,8 @@ use Rattle.stream_model.specs.declared.kind.Kind.{Kind}
 use Rattle.stream_model.specs.Graph.{Graph}
 use Rattle.stream_model.specs.Graph as graph
 use Rattle.stream_model.specs.Node.{World}
-use Rattle.nodes.specs.declared.node.Node.{Node}
-use Rattle.nodes.specs.declared.node.Node.TheVariants.{Reading, Making, Linear, State, Sub, FanIn, FanOut, Writing, Ignoring, Entering, Leaving}
+use Rattle.nodes.specs.declared.node.IslandNode.{IslandNode}
+use Rattle.nodes.specs.declared.node.IslandNode.TheVariants.{Reading, Making, Linear, State, Sub, FanIn, FanOut, Writing, Ignoring, Entering, Leaving}
 use Rattle.nodes.specs.declared.sink.Writes.TheVariants.{First}
 use Rattle.nodes.specs.Kinds.{writes_of}
 use Rattle.nodes.specs.Nodes.{node_row, node_law, node_asking, node_moves}
@@ -32,7 +32,7 @@ abbrev Views : List InPort → List OutPort → View
 Views is os = record { ins = map (λ (i : InPort). i.view) is; outs = map (λ (o : OutPort). o.view) os }
 
 module _ {S D L B : Type 0} (sources : S → SourceState) (drains : D → DrainState) (g : Graph) (w : World) (k : ℕ) (n : graph.Node) where
-  pub node_picture : (first x : Node S D L B) (is : List InPort) (os : List OutPort) → FirstOf sources g.chains k n first → TellsMoves w k x → node_row x (Views is os)
+  pub node_picture : (first x : IslandNode S D L B) (is : List InPort) (os : List OutPort) → FirstOf sources g.chains k n first → TellsMoves w k x → node_row x (Views is os)
       → node_law sources drains w.book first x (Views is os) (map (λ (i : InPort). i.got) is) (map (λ (o : OutPort). o.sent) os)
       → PictureLaws node_row (node_law sources drains w.book) node_asking node_moves sink_ended g w k n first x is os
   node_picture (Reading first) (Reading x) is os f t r law = source_picture L B sources drains g w k n (Reading first) (Reading x) x.phase is os (subst (λ (kd : Kind). SourceRows g w kd) (sym f.kind_is) (lines_rows g w f.name)) r

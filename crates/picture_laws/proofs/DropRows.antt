@@ -51,7 +51,7 @@ ports_by l p over asked x y e n r = absurd r
 -- ---- its rows in a picture, by its policy
 
 module _ (g : Graph) (w : World) (k : ℕ) (d : Decider) (room : ℕ) (moves : List ℕ) (same : w.moves k ≡ moves) where
-  pub row_lawful : (p : Policy) (i o : picture.View) → p ≢ Backpressure → DroppingLawful moves i o → RowLawful g w k (Buffer room p) d (i ∷ []) (o ∷ [])
+  pub row_lawful : (p : Policy) (i o : picture.SeenWire) → p ≢ Backpressure → DroppingLawful moves i o → RowLawful g w k (Buffer room p) d (i ∷ []) (o ∷ [])
   row_lawful Backpressure i o drops h = absurd (drops refl)
   row_lawful DropHead i o drops h = subst (λ (ms : List ℕ). DroppingLawful ms i o) (sym same) h
   row_lawful DropTail i o drops h = subst (λ (ms : List ℕ). DroppingLawful ms i o) (sym same) h
@@ -59,10 +59,10 @@ module _ (g : Graph) (w : World) (k : ℕ) (d : Decider) (room : ℕ) (moves : L
   row_lawful DropNew i o drops h = subst (λ (ms : List ℕ). DroppingLawful ms i o) (sym same) h
   row_lawful Fail i o drops h = subst (λ (ms : List ℕ). DroppingLawful ms i o) (sym same) h
 
-  abbrev pub Rests : Policy → List ℕ → picture.View → picture.View → Type 0
+  abbrev pub Rests : Policy → List ℕ → picture.SeenWire → picture.SeenWire → Type 0
   Rests p ms i o = DroppingRests (nothing_held (buffered p room ms i.list empty_buffer).held) i o
 
-  pub row_rests : (p : Policy) (i o : picture.View) → p ≢ Backpressure → Rests p moves i o → RowRests g w k (Buffer room p) d (i ∷ []) (o ∷ [])
+  pub row_rests : (p : Policy) (i o : picture.SeenWire) → p ≢ Backpressure → Rests p moves i o → RowRests g w k (Buffer room p) d (i ∷ []) (o ∷ [])
   row_rests Backpressure i o drops h = absurd (drops refl)
   row_rests DropHead i o drops h = subst (λ (ms : List ℕ). Rests DropHead ms i o) (sym same) h
   row_rests DropTail i o drops h = subst (λ (ms : List ℕ). Rests DropTail ms i o) (sym same) h

@@ -26,8 +26,8 @@ use Rattle.stage_law.specs.Held.{told}
 use Rattle.stage_law.specs.Row.{InClosed}
 use Rattle.stage_core.specs.declared.phase.Phase.{Phase}
 use Rattle.wire_core.specs.Counts.{elements}
-use Rattle.nodes.specs.declared.node.Node.{Node}
-use Rattle.nodes.specs.declared.node.Node.TheVariants.{Writing}
+use Rattle.nodes.specs.declared.node.IslandNode.{IslandNode}
+use Rattle.nodes.specs.declared.node.IslandNode.TheVariants.{Writing}
 use Rattle.nodes.specs.declared.sink.Writes.{Writes}
 use Rattle.nodes.specs.declared.sink.Writes.TheVariants.{Each, First, Last}
 use Rattle.nodes.specs.Kinds.{IsMaker, IsFileSink, writes_of}
@@ -45,9 +45,9 @@ use Rattle.picture_laws.proofs.Stages.{lines_ports}
 
 -- a kind of sources: it has no row of a lawful picture, and rests while it is not asked
 pub record SourceRows (g : Graph) (w : World) (kd : Kind) : Type 0 where
-  pub lawful : (k : ℕ) (d : Decider) (is os : List picture.View) → RowLawful g w k kd d is os
+  pub lawful : (k : ℕ) (d : Decider) (is os : List picture.SeenWire) → RowLawful g w k kd d is os
   pub no_sink : is_sink kd ≡ false
-  pub rests : (k : ℕ) (d : Decider) (is os : List picture.View) → SourceRests os → RowRests g w k kd d is os
+  pub rests : (k : ℕ) (d : Decider) (is os : List picture.SeenWire) → SourceRests os → RowRests g w k kd d is os
 
 pub maker_rows : (g : Graph) (w : World) (kd : Kind) → IsMaker kd → SourceRows g w kd
 maker_rows g w (kind.Range low high) m = record { lawful = λ k d is os. tt; no_sink = refl; rests = λ k d is os r. r }
@@ -60,8 +60,8 @@ lines_rows g w name = record { lawful = λ k d is os. tt; no_sink = refl; rests 
 
 -- a kind of sinks: of them only one that takes the first has a row of a lawful picture, and all wait where they rest
 pub record SinkRows (g : Graph) (w : World) (kd : Kind) (first : Type 0) : Type 0 where
-  pub lawful : (k : ℕ) (d : Decider) (is os : List picture.View) → (first → EachWire (λ i. demand i ≤ 1) is) → RowLawful g w k kd d is os
-  pub rests : (k : ℕ) (d : Decider) (is os : List picture.View) → SinkRests is → RowRests g w k kd d is os
+  pub lawful : (k : ℕ) (d : Decider) (is os : List picture.SeenWire) → (first → EachWire (λ i. demand i ≤ 1) is) → RowLawful g w k kd d is os
+  pub rests : (k : ℕ) (d : Decider) (is os : List picture.SeenWire) → SinkRests is → RowRests g w k kd d is os
 
 pub file_sink_rows : (g : Graph) (w : World) (kd : Kind) → IsFileSink kd → SinkRows g w kd (writes_of kd ≡ First)
 file_sink_rows g w (kind.ToLines name) m = record { lawful = λ k d is os f. tt; rests = λ k d is os r. r }
@@ -104,7 +104,7 @@ none_or_some (suc n) = inr (omega arith)
 
 module _ {S D : Type 0} (L B : Type 0) (sources : S → SourceState) (drains : D → DrainState) (g : Graph) (w : World) (k : ℕ) (n : graph.Node) where
   -- when it asked nothing had come to it
-  first_moment : (first : Sink D) (x : Node S D L B) (v : View) (took gave : List (List Item)) (t : List Item) → first.writes ≡ First → node_row x v → node_law sources drains w.book (Writing first) x v took gave → get_or v.ins 0 Cancelled ≡ Pulled → took ≡ t ∷ [] → t ≡ []
+  first_moment : (first : Sink D) (x : IslandNode S D L B) (v : View) (took gave : List (List Item)) (t : List Item) → first.writes ≡ First → node_row x v → node_law sources drains w.book (Writing first) x v took gave → get_or v.ins 0 Cancelled ≡ Pulled → took ≡ t ∷ [] → t ≡ []
   first_moment first (Writing x) v took gave t is row law waits at =
       let goes : x.end ≡ Unended = waits_open x.started x.end v.ins v.outs waits row in
       let none = none_took x.writes x.node x.kept x.end law.elems law.wrote law.in_end (law.writes_same ∙ is) goes law.writes in
@@ -113,7 +113,7 @@ module _ {S D : Type 0} (L B : Type 0) (sources : S → SourceState) (drains : D
 
   -- so it wanted one element at most
   pub first_wants : (first now : Sink D) (i : InPort) → first.writes ≡ First → InStands i
-      → ((p : ℕ) → 1 ≤ slice_index_or (i.want ∷ []) p 0 → Moments {N = Node S D L B} node_row (node_law sources drains w.book) node_asking node_moves (Writing first) (Writing now) (i ∷ []) [] p) → demand i.wire ≤ 1
+      → ((p : ℕ) → 1 ≤ slice_index_or (i.want ∷ []) p 0 → Moments {N = IslandNode S D L B} node_row (node_law sources drains w.book) node_asking node_moves (Writing first) (Writing now) (i ∷ []) [] p) → demand i.wire ≤ 1
   first_wants first now i is s moments = elim (none_or_some i.want) [
     | inl few ↦ let reach = s.reach in omega (arith, few, reach)
     | inr some ↦
@@ -125,7 +125,7 @@ module _ {S D : Type 0} (L B : Type 0) (sources : S → SourceState) (drains : D
         omega (arith, none, reach, one)
   ]
 
-  abbrev Laws : Node S D L B → Node S D L B → List InPort → List OutPort → Type 0
+  abbrev Laws : IslandNode S D L B → IslandNode S D L B → List InPort → List OutPort → Type 0
   Laws first x is os = PictureLaws node_row (node_law sources drains w.book) node_asking node_moves sink_ended g w k n first x is os
 
   -- ---- a source
@@ -133,11 +133,11 @@ module _ {S D : Type 0} (L B : Type 0) (sources : S → SourceState) (drains : D
   source_rests : (o : OutPort) (p : Phase) → OutRests o → lines_row_in p o.view → (EachWire IsShut [] × EachWire IsShut (o.wire ∷ [])) ⊎ SourceRests (o.wire ∷ [])
   source_rests o p r row = elim (lines_ports p o.view row) [ inl u ↦ inr (r.unasked u) | inr c ↦ inl (tt, (r.shut c, tt)) ]
 
-  in_row : (is os : List picture.View) → SourceRows g w n.kind → (EachWire IsShut is × EachWire IsShut os) ⊎ SourceRests os → (EachWire IsShut is × EachWire IsShut os) ⊎ RowRests g w k n.kind n.decider is os
+  in_row : (is os : List picture.SeenWire) → SourceRows g w n.kind → (EachWire IsShut is × EachWire IsShut os) ⊎ SourceRests os → (EachWire IsShut is × EachWire IsShut os) ⊎ RowRests g w k n.kind n.decider is os
   in_row is os rows (inl h) = inl h
   in_row is os rows (inr h) = inr (rows.rests k n.decider is os h)
 
-  pub source_picture : (first x : Node S D L B) (p : Phase) (is : List InPort) (os : List OutPort) → SourceRows g w n.kind → OneOutOf (lines_row_in p) (map (λ (i : InPort). i.view) is) (map (λ (o : OutPort). o.view) os) → Laws first x is os
+  pub source_picture : (first x : IslandNode S D L B) (p : Phase) (is : List InPort) (os : List OutPort) → SourceRows g w n.kind → OneOutOf (lines_row_in p) (map (λ (i : InPort). i.view) is) (map (λ (o : OutPort). o.view) os) → Laws first x is os
   source_picture first x p [] (o ∷ []) rows r = record {
     lawful = λ si so m. rows.lawful k n.decider [] (o.wire ∷ []);
     rests = λ si so ri ro. in_row [] (o.wire ∷ []) rows (source_rests o p ro.0 r);
@@ -157,9 +157,9 @@ module _ {S D : Type 0} (L B : Type 0) (sources : S → SourceState) (drains : D
   sink_row i F rows (inl h) = inl (h, tt)
   sink_row i F rows (inr h) = inr (rows.rests k n.decider (i.wire ∷ []) [] h)
 
-  pub sink_picture : (first x : Node S D L B) (F : Type 0) (P : InView → Type 0) (is : List InPort) (os : List OutPort) → SinkRows g w n.kind F → OneInOf P (map (λ (i : InPort). i.view) is) (map (λ (o : OutPort). o.view) os)
+  pub sink_picture : (first x : IslandNode S D L B) (F : Type 0) (P : InView → Type 0) (is : List InPort) (os : List OutPort) → SinkRows g w n.kind F → OneInOf P (map (λ (i : InPort). i.view) is) (map (λ (o : OutPort). o.view) os)
       → ((v : InView) → P v → ((v ≡ Pulled) × (sink_ended x ≡ false)) ⊎ (InClosed v × (sink_ended x ≡ true)))
-      → ((i : InPort) → is ≡ i ∷ [] → os ≡ [] → InStands i → ((p : ℕ) → 1 ≤ slice_index_or (i.want ∷ []) p 0 → Moments {N = Node S D L B} node_row (node_law sources drains w.book) node_asking node_moves first x (i ∷ []) [] p) → F → demand i.wire ≤ 1)
+      → ((i : InPort) → is ≡ i ∷ [] → os ≡ [] → InStands i → ((p : ℕ) → 1 ≤ slice_index_or (i.want ∷ []) p 0 → Moments {N = IslandNode S D L B} node_row (node_law sources drains w.book) node_asking node_moves first x (i ∷ []) [] p) → F → demand i.wire ≤ 1)
       → Laws first x is os
   sink_picture first x F P (i ∷ []) [] rows r ports few = record {
     lawful = λ si so m. rows.lawful k n.decider (i.wire ∷ []) [] (λ f. (few i refl refl si.0 m f, tt));

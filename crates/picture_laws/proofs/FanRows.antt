@@ -12,8 +12,8 @@ use Rattle.stage_in.specs.Moves.{in_moves}
 use Rattle.stage_out.specs.declared.logic.OutLogic.{OutLogic}
 use Rattle.stage_out.specs.OutLogics.{OutAsking, OutLaw}
 use Rattle.stage_out.specs.OutLogics as out
-use Rattle.nodes.specs.declared.node.Node.{Node}
-use Rattle.nodes.specs.declared.node.Node.TheVariants.{FanIn, FanOut}
+use Rattle.nodes.specs.declared.node.IslandNode.{IslandNode}
+use Rattle.nodes.specs.declared.node.IslandNode.TheVariants.{FanIn, FanOut}
 use Rattle.nodes.specs.Nodes.{node_row, node_law, node_asking, node_moves}
 use Rattle.run_account.specs.KindLaws.{PictureLaws}
 use Rattle.run_account.specs.Ports.{InPort, OutPort}
@@ -22,21 +22,21 @@ use Rattle.fan_laws.proofs.Standing.{Stands, moments_of}
 use Rattle.picture_laws.specs.Picture.{sink_ended}
 
 module _ {S D L B : Type 0} (sources : S → SourceState) (drains : D → DrainState) (g : Graph) (w : World) (k : ℕ) (n : graph.Node) where
-  abbrev Laws : Node S D L B → Node S D L B → List InPort → List OutPort → Type 0
+  abbrev Laws : IslandNode S D L B → IslandNode S D L B → List InPort → List OutPort → Type 0
   Laws first x is os = PictureLaws node_row (node_law sources drains w.book) node_asking node_moves sink_ended g w k n first x is os
 
-  in_same : (a b : InLogic) → ◌≡◌ {A = Node S D L B} (FanIn a) (FanIn b) → a ≡ b
+  in_same : (a b : InLogic) → ◌≡◌ {A = IslandNode S D L B} (FanIn a) (FanIn b) → a ≡ b
   in_same a b e = cc
 
-  out_same : (a b : OutLogic) → ◌≡◌ {A = Node S D L B} (FanOut a) (FanOut b) → a ≡ b
+  out_same : (a b : OutLogic) → ◌≡◌ {A = IslandNode S D L B} (FanOut a) (FanOut b) → a ≡ b
   out_same a b e = cc
 
-  in_stands : (first : InLogic) (old : Node S D L B) (v : View) (took gave : List (List Item)) → node_row old v → node_law sources drains w.book (FanIn first) old v took gave
+  in_stands : (first : InLogic) (old : IslandNode S D L B) (v : View) (took gave : List (List Item)) → node_row old v → node_law sources drains w.book (FanIn first) old v took gave
       → Stands node_row (node_law sources drains w.book) node_asking node_moves in_moves InRow InLaw NoAsking FanIn in_same first old v took gave
   in_stands first (FanIn l) v took gave r law = record { stage = l; is = refl; row_holds = r; law_holds = law; asking_holds = λ a. tt; moves_on = λ now on. on }
   in_stands first old v took gave r law = absurd law
 
-  out_stands : (first : OutLogic) (old : Node S D L B) (v : View) (took gave : List (List Item)) → node_row old v → node_law sources drains w.book (FanOut first) old v took gave
+  out_stands : (first : OutLogic) (old : IslandNode S D L B) (v : View) (took gave : List (List Item)) → node_row old v → node_law sources drains w.book (FanOut first) old v took gave
       → Stands node_row (node_law sources drains w.book) node_asking node_moves no_moves out.row OutLaw OutAsking FanOut out_same first old v took gave
   out_stands first (FanOut l) v took gave r law = record { stage = l; is = refl; row_holds = r; law_holds = law; asking_holds = λ a. a; moves_on = λ now on. record { rest = []; is = refl } }
   out_stands first old v took gave r law = absurd law

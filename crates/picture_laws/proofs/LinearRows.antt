@@ -23,8 +23,8 @@ use Rattle.stage_law.specs.Row.{InClosed}
 use Rattle.stage_core.specs.declared.phase.Phase.TheVariants.{Open}
 use Rattle.stage_linear.specs.declared.course.Course.TheVariants.{Waits}
 use Rattle.stage_linear.specs.States.{Logic, held, row_in, IsLinear}
-use Rattle.nodes.specs.declared.node.Node.{Node}
-use Rattle.nodes.specs.declared.node.Node.TheVariants.{Linear}
+use Rattle.nodes.specs.declared.node.IslandNode.{IslandNode}
+use Rattle.nodes.specs.declared.node.IslandNode.TheVariants.{Linear}
 use Rattle.stage_linear.specs.Handling.{LinearRow, LinearLaw}
 use Rattle.nodes.specs.Nodes.{node_row, node_law, node_asking, node_moves}
 use Rattle.run_account.specs.KindLaws.{IsOneMachine, Moments, PictureLaws}
@@ -76,11 +76,11 @@ moment_of book k n first l v took gave f r law waits =
 
 module _ {S D : Type 0} (L B : Type 0) (sources : S → SourceState) (drains : D → DrainState) (g : Graph) (w : World) (k : ℕ) (n : graph.Node) where
   -- by its kind, which stays the same
-  moment_by : (first : Logic) (x : Node S D L B) (v : View) (took gave : List (List Item)) → FirstLinear k n first → node_row x v → node_law sources drains w.book (Linear first) x v took gave → in_at v 0 ≡ Pulled → Moment w.book k n first v took gave
+  moment_by : (first : Logic) (x : IslandNode S D L B) (v : View) (took gave : List (List Item)) → FirstLinear k n first → node_row x v → node_law sources drains w.book (Linear first) x v took gave → in_at v 0 ≡ Pulled → Moment w.book k n first v took gave
   moment_by first (Linear l) v took gave f r law waits = moment_of w.book k n first l v took gave f r law waits
   moment_by first x v took gave f r law waits = absurd law
 
-  abbrev Laws : Node S D L B → Node S D L B → List InPort → List OutPort → Type 0
+  abbrev Laws : IslandNode S D L B → IslandNode S D L B → List InPort → List OutPort → Type 0
   Laws first x is os = PictureLaws node_row (node_law sources drains w.book) node_asking node_moves sink_ended g w k n first x is os
 
   module _ (first x : Logic) (i : InPort) (o : OutPort) (f : FirstLinear k n first) (r : LinearRow x (record { ins = i.view ∷ []; outs = o.view ∷ [] }))
@@ -92,7 +92,7 @@ module _ {S D : Type 0} (L B : Type 0) (sources : S → SourceState) (drains : D
     at = law_at (linear w.book first.stage.work) law.start _ (held w.book x) _ i.view _ o.view _ law.took_list i.got law.gave_list o.sent
         (same_start _ _ (sym law.owes ∙ f.begins.owes w.book)) refl refl refl (one_same _ _ (sym law.took_is)) (one_same _ _ (sym law.gave_is)) law.law
 
-    asked_then : InStands i → OutStands o → Moments {N = Node S D L B} node_row (node_law sources drains w.book) node_asking node_moves (Linear first) (Linear x) (i ∷ []) (o ∷ []) 0 → 1 ≤ demand i.wire
+    asked_then : InStands i → OutStands o → Moments {N = IslandNode S D L B} node_row (node_law sources drains w.book) node_asking node_moves (Linear first) (Linear x) (i ∷ []) (o ∷ []) 0 → 1 ≤ demand i.wire
         → (is_going (run (linear w.book first.stage.work) (begin_work k n.decider first.stage.work) (take (demand i.wire - 1) i.wire.list)).state ≡ true)
         × (length (run (linear w.book first.stage.work) (begin_work k n.decider first.stage.work) (take (demand i.wire - 1) i.wire.list)).gave < wanted o.wire)
     asked_then si so m some =

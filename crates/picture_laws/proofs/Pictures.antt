@@ -11,7 +11,7 @@ use Rattle.stream_model.specs.Outlook.{Outlook}
 use Rattle.stream_picture.specs.Lawful.{sent_in, IsLawful}
 use Rattle.stream_picture.specs.Rests.{Rests, SinksMatch}
 use Rattle.stream_picture.specs.View.{ins}
-use Rattle.nodes.specs.declared.node.Node.{Node}
+use Rattle.nodes.specs.declared.node.IslandNode.{IslandNode}
 use Rattle.nodes.specs.Nodes.{node_row, node_law, node_asking, node_moves}
 use Rattle.run_account.specs.Account.{Account, knows, took, gave, IsStill}
 use Rattle.run_account.specs.KindLaws.{HearsAll}
@@ -30,7 +30,7 @@ use Rattle.picture_laws.proofs.Orders.{took_at, took_there, shown, few_came}
 use Rattle.picture_laws.proofs.Telling.{agrees_passes}
 use Rattle.stream_model.specs.Linear.{Book}
 
-module _ {S D L B : Type 0} (sources : S → SourceState) (drains : D → DrainState) (g : Graph) (w : World) (a : Account (Node S D L B)) (run : IsRun sources drains w.book g a) where
+module _ {S D L B : Type 0} (sources : S → SourceState) (drains : D → DrainState) (g : Graph) (w : World) (a : Account (IslandNode S D L B)) (run : IsRun sources drains w.book g a) where
   hears : (k : ℕ) (n : graph.Node) → slice_get g.nodes k ≡ Some n → HearsAll (knows g a k n) (took g a k n)
   hears k n e = let m = run.keeps.each_node k n e in node_hears sources drains w.book g.chains k n m.first m.now (knows g a k n) (took g a k n) (gave g a k n) (run.made k n m.first e m.first_at) m.law_holds
 
@@ -65,6 +65,6 @@ module _ {S D L B : Type 0} (sources : S → SourceState) (drains : D → DrainS
     matches_by still = all_match node_row (node_law sources drains w.book) node_asking node_moves sink_ended (FirstOf sources g.chains) (λ k x. TellsMoves w k x) g w a run.joined run.keeps run.made chose hears (λ k n. node_picture sources drains g w k n) outlook still (λ k. ended_there (a.nodes k)) (λ k x e. ap ended_there e)
 
 -- how the sinks match has nothing to do with what a world tells
-pub matches : {S D L B : Type 0} (sources : S → SourceState) (drains : D → DrainState) (book : Book) (g : Graph) (a : Account (Node S D L B)) → IsRun sources drains book g a → (w : World) (outlook : ℕ → Outlook) → IsStill g a
+pub matches : {S D L B : Type 0} (sources : S → SourceState) (drains : D → DrainState) (book : Book) (g : Graph) (a : Account (IslandNode S D L B)) → IsRun sources drains book g a → (w : World) (outlook : ℕ → Outlook) → IsStill g a
     → SinksMatch g w (counts_of a g) outlook (λ k. ended_there (a.nodes k))
 matches sources drains book g a run w outlook still = matches_by sources drains g (chosen_world book w.file a) a run (chosen_told book w.file a) outlook still

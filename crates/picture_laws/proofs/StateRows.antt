@@ -33,16 +33,16 @@ use Rattle.stage_law.specs.Row.{InClosed, OutClosed}
 use Rattle.stage_law.proofs.Whole.{stage_stands}
 use Rattle.stage_core.specs.declared.phase.Phase.{Phase}
 use Rattle.stage_core.specs.declared.phase.Phase.TheVariants.{New, Open, Closed}
-use Rattle.stage_keeping.specs.declared.ending.Ending.{Ending}
-use Rattle.stage_keeping.specs.declared.ending.Ending.TheVariants.{Lasting, Ended, Failed}
+use Rattle.stage_keeping.specs.declared.ending.StateEnd.{StateEnd}
+use Rattle.stage_keeping.specs.declared.ending.StateEnd.TheVariants.{Lasting, Ended, Failed}
 use Rattle.stage_state.specs.Buffering.{buffer}
 use Rattle.stage_state.specs.Resting.{begin_buffer}
 use Rattle.stage_state.specs.States.{Logic, held, held_in, keep_row, buffer_row, row_by, IsMachine, Begins}
 use Rattle.stage_state.proofs.Buffers.{buffer_carries}
 use Rattle.stage_state.proofs.Rows.{counts}
 use Rattle.wire_core.specs.Counts.{elements}
-use Rattle.nodes.specs.declared.node.Node.{Node}
-use Rattle.nodes.specs.declared.node.Node.TheVariants as node
+use Rattle.nodes.specs.declared.node.IslandNode.{IslandNode}
+use Rattle.nodes.specs.declared.node.IslandNode.TheVariants as node
 use Rattle.nodes.specs.Nodes.{node_row, node_law, node_asking, node_moves}
 use Rattle.stage_state.specs.declared.logic.StateLogic.{StateLogic}
 use Rattle.stage_state.specs.declared.logic.StateLogic.TheVariants.{Machine, Dropping, Recovering, Obeying, Tripping}
@@ -71,13 +71,13 @@ use Rattle.picture_laws.proofs.SwitchRows.{valve_picture, trip_picture}
 -- ---- what the rows say
 
 -- one that keeps: it waits and owes nothing, nobody asks it, it owes a value behind the end of its input, or all is closed
-data KeepPorts (p : Phase) (e : Ending) (k : List Tree) (x : InView) (y : OutView) : Type 0 where
+data KeepPorts (p : Phase) (e : StateEnd) (k : List Tree) (x : InView) (y : OutView) : Type 0 where
   busy : p ≡ Open → e ≡ Lasting → k ≡ [] → x ≡ Pulled → y ≡ Available → KeepPorts p e k x y
   free : x ≡ Idle → y ≡ Unpulled → KeepPorts p e k x y
   behind : x ≡ Finished → y ≡ Unpulled → KeepPorts p e k x y
   over : InClosed x → OutClosed y → KeepPorts p e k x y
 
-keep_ports : (p : Phase) (e : Ending) (a : Bool) (k : List Tree) (w : Work) (x : InView) (y : OutView) → p ≢ New → keep_row p e a k w x y → KeepPorts p e k x y
+keep_ports : (p : Phase) (e : StateEnd) (a : Bool) (k : List Tree) (w : Work) (x : InView) (y : OutView) → p ≢ New → keep_row p e a k w x y → KeepPorts p e k x y
 keep_ports New e a k w x y n r = absurd (n refl)
 keep_ports Closed e a k w x y n r = let c = closed_both x y r in over c.0 c.1
 keep_ports Open Lasting true k w Pulled Available n r = busy refl refl r.0 refl refl
@@ -88,14 +88,14 @@ keep_ports p e a k w x y n r = absurd r
 
 -- a buffer of n: it is asked and holds nothing, it has room, it is full, it holds something behind the end of its input, or all
 -- is closed
-data BufferPorts (n : ℕ) (p : Phase) (e : Ending) (k : List Tree) (x : InView) (y : OutView) : Type 0 where
+data BufferPorts (n : ℕ) (p : Phase) (e : StateEnd) (k : List Tree) (x : InView) (y : OutView) : Type 0 where
   drained : p ≡ Open → k ≡ [] → 0 < n → x ≡ Pulled → y ≡ Available → BufferPorts n p e k x y
   roomy : p ≡ Open → length k < n → x ≡ Pulled → y ≡ Unpulled → BufferPorts n p e k x y
   full : p ≡ Open → length k ≡ n → x ≡ Idle → y ≡ Unpulled → BufferPorts n p e k x y
   left : x ≡ Finished → y ≡ Unpulled → BufferPorts n p e k x y
   gone : InClosed x → OutClosed y → BufferPorts n p e k x y
 
-buffer_ports : (n : ℕ) (p : Phase) (e : Ending) (a : Bool) (k : List Tree) (x : InView) (y : OutView) → p ≢ New → buffer_row n p e a k x y → BufferPorts n p e k x y
+buffer_ports : (n : ℕ) (p : Phase) (e : StateEnd) (a : Bool) (k : List Tree) (x : InView) (y : OutView) → p ≢ New → buffer_row n p e a k x y → BufferPorts n p e k x y
 buffer_ports n New e a k x y nn r = absurd (nn refl)
 buffer_ports n Closed e a k x y nn r = let c = closed_both x y r in gone c.0 c.1
 buffer_ports n Open Lasting true k Pulled Available nn r = drained refl r.0 r.1 refl refl
@@ -109,7 +109,7 @@ open_held : (l : Logic) → l.phase ≡ Open → held l ≡ held_in Open l.endin
 open_held l on = ap (λ (p : Phase). held_in p l.ending l.pending l.stage) on
 
 busy_held : (l : Logic) → l.phase ≡ Open → l.ending ≡ Lasting → l.pending ≡ [] → held l ≡ owing (record { gave = []; state = going l.stage })
-busy_held l on lasts none = open_held l on ∙ ap (λ (e : Ending). held_in Open e l.pending l.stage) lasts ∙ ap (λ (k : List Tree). held_in Open Lasting k l.stage) none
+busy_held l on lasts none = open_held l on ∙ ap (λ (e : StateEnd). held_in Open e l.pending l.stage) lasts ∙ ap (λ (k : List Tree). held_in Open Lasting k l.stage) none
 
 -- ---- its law, over its two ports
 
@@ -176,7 +176,7 @@ holds_open n s l x y t g at on lasts =
     holds_rest n s l.pending _ x y t g (law_at (buffer n) (begin_buffer s) _ (held l) _ x _ y _ t _ g _ refl (open_held l on) refl refl refl refl at) lasts
 
 -- one that waits has room
-waits_roomy : (n : ℕ) (p : Phase) (e : Ending) (k : List Tree) (x : InView) (y : OutView) → BufferPorts n p e k x y → x ≡ Pulled → (p ≡ Open) × (length k < n)
+waits_roomy : (n : ℕ) (p : Phase) (e : StateEnd) (k : List Tree) (x : InView) (y : OutView) → BufferPorts n p e k x y → x ≡ Pulled → (p ≡ Open) × (length k < n)
 waits_roomy n p e k x y (drained on none some xi yo) i = let z : length k ≡ 0 = ap length none in (on, omega (arith, z, some))
 waits_roomy n p e k x y (roomy on room xi yo) i = (on, room)
 waits_roomy n p e k x y (full on room xi yo) i = cc
@@ -212,7 +212,7 @@ module _ {S D : Type 0} (L B : Type 0) (sources : S → SourceState) (drains : D
     row_holds : MachineRow now v
     law_holds : MachineLaw first now v took gave
 
-  state_now : (first : Logic) (x : Node S D L B) (v : View) (took gave : List (List Item)) → node_row x v → node_law sources drains w.book (node.State (Machine first)) x v took gave → StateNow first v took gave
+  state_now : (first : Logic) (x : IslandNode S D L B) (v : View) (took gave : List (List Item)) → node_row x v → node_law sources drains w.book (node.State (Machine first)) x v took gave → StateNow first v took gave
   state_now first (node.State (Machine x)) v took gave r law = record { now = x; row_holds = r; law_holds = law }
   state_now first x v took gave r law = absurd law
 
@@ -224,13 +224,13 @@ module _ {S D : Type 0} (L B : Type 0) (sources : S → SourceState) (drains : D
   buffers_ports m l first x y e some started r =
       buffer_ports m l.phase l.ending l.asked l.pending x y started (subst (λ z. row_by z l.phase l.ending l.asked l.pending l.stage.work x y) (e ∙ some) r)
 
-  abbrev Laws : Node S D L B → Node S D L B → List InPort → List OutPort → Type 0
+  abbrev Laws : IslandNode S D L B → IslandNode S D L B → List InPort → List OutPort → Type 0
   Laws first x is os = PictureLaws node_row (node_law sources drains w.book) node_asking node_moves sink_ended g w k n first x is os
 
   module _ (first x : Logic) (i : InPort) (o : OutPort) (is_machine : IsMachine n.kind) (begins : Begins k n.kind n.decider first) (r : MachineRow x (record { ins = i.view ∷ []; outs = o.view ∷ [] }))
       (law : MachineLaw first x (record { ins = i.view ∷ []; outs = o.view ∷ [] }) (i.got ∷ []) (o.sent ∷ [])) where
     abbrev LastAsks : Type 0
-    LastAsks = Moments {N = Node S D L B} node_row (node_law sources drains w.book) node_asking node_moves (node.State (Machine first)) (node.State (Machine x)) (i ∷ []) (o ∷ []) 0
+    LastAsks = Moments {N = IslandNode S D L B} node_row (node_law sources drains w.book) node_asking node_moves (node.State (Machine first)) (node.State (Machine x)) (i ∷ []) (o ∷ []) 0
 
     abbrev Still : Type 0
     Still = (EachWire IsShut (i.wire ∷ []) × EachWire IsShut (o.wire ∷ [])) ⊎ RowRests g w k n.kind n.decider (i.wire ∷ []) (o.wire ∷ [])
@@ -303,7 +303,7 @@ module _ {S D : Type 0} (L B : Type 0) (sources : S → SourceState) (drains : D
           omega (arith, holds, one, reach, count, room, more)
 
       -- one that asked for nothing asked for no more than that
-      buffers_demand : InStands i → OutStands o → ((p : ℕ) → 1 ≤ slice_index_or (i.want ∷ []) p 0 → Moments {N = Node S D L B} node_row (node_law sources drains w.book) node_asking node_moves (node.State (Machine first)) (node.State (Machine x)) (i ∷ []) (o ∷ []) p)
+      buffers_demand : InStands i → OutStands o → ((p : ℕ) → 1 ≤ slice_index_or (i.want ∷ []) p 0 → Moments {N = IslandNode S D L B} node_row (node_law sources drains w.book) node_asking node_moves (node.State (Machine first)) (node.State (Machine x)) (i ∷ []) (o ∷ []) p)
           → (d : ℕ) → d ≡ demand i.wire → d ≤ o.wire.sent + c.room
       buffers_demand si so m zero e = omega arith
       buffers_demand si so m (suc d) e = rw e (buffers_asked si so (m 0 (reached i si (omega (arith, e)))))
@@ -382,7 +382,7 @@ module _ {S D : Type 0} (L B : Type 0) (sources : S → SourceState) (drains : D
     row_holds : RecoverRow now v
     law_holds : RecoversAs first now v took gave
 
-  recover_now : (first : Recover) (x : Node S D L B) (v : View) (took gave : List (List Item)) → node_row x v → node_law sources drains w.book (node.State (Recovering first)) x v took gave → RecoverNow first v took gave
+  recover_now : (first : Recover) (x : IslandNode S D L B) (v : View) (took gave : List (List Item)) → node_row x v → node_law sources drains w.book (node.State (Recovering first)) x v took gave → RecoverNow first v took gave
   recover_now first (node.State (Recovering x)) v took gave r law = record { now = x; row_holds = r; law_holds = law }
   recover_now first x v took gave r law = absurd law
 
@@ -392,7 +392,7 @@ module _ {S D : Type 0} (L B : Type 0) (sources : S → SourceState) (drains : D
     recover_kind = recovers_first k n.kind n.decider first begins
 
     abbrev LastAsk : Type 0
-    LastAsk = Moments {N = Node S D L B} node_row (node_law sources drains w.book) node_asking node_moves (node.State (Recovering first)) (node.State (Recovering x)) (i ∷ []) (o ∷ []) 0
+    LastAsk = Moments {N = IslandNode S D L B} node_row (node_law sources drains w.book) node_asking node_moves (node.State (Recovering first)) (node.State (Recovering x)) (i ∷ []) (o ∷ []) 0
 
     -- when it last asked it had given all that came, and was asked for more
     recover_asked : InStands i → OutStands o → LastAsk → demand i.wire ≤ wanted o.wire

@@ -34,8 +34,8 @@ use Rattle.stage_sub.specs.Handling.{SubRow, SubLaw, Tells}
 use Rattle.stage_sub.proofs.Rows.{waiting_gave}
 use Rattle.stage_sub.proofs.Untagging.{run_untag, closed_untag}
 use Rattle.line_chain.specs.Line.{Line, line_whole, line_rest, line_is_open}
-use Rattle.nodes.specs.declared.node.Node.{Node}
-use Rattle.nodes.specs.declared.node.Node.TheVariants.{Sub}
+use Rattle.nodes.specs.declared.node.IslandNode.{IslandNode}
+use Rattle.nodes.specs.declared.node.IslandNode.TheVariants.{Sub}
 use Rattle.nodes.specs.Nodes.{node_row, node_law, node_asking, node_moves}
 use Rattle.run_account.specs.KindLaws.{Moments, PictureLaws}
 use Rattle.run_account.specs.Ports.{InPort, OutPort, InStands, OutStands, InRests, OutRests}
@@ -71,7 +71,7 @@ record Alike (a b : OneWay) : Type 0 where
   goes_on : (l : List Tree) → a.goes_on l ≡ b.goes_on l
   holds : a.holds ≡ b.holds
 
-module _ (a b : OneWay) (s : Alike a b) (i o : picture.View) where
+module _ (a b : OneWay) (s : Alike a b) (i o : picture.SeenWire) where
   alike_lawful : StageLawful a i o → StageLawful b i o
   alike_lawful h = (
     rw (← s.given (take i.sent i.list), ← s.given_at_end (take i.sent i.list)) h.0,
@@ -104,11 +104,11 @@ module _ {S D : Type 0} (L B : Type 0) (sources : S → SourceState) (drains : D
     row_holds : SubRow line_rest line_is_open now v
     law_holds : SubLaw line_rest line_is_open line_whole first now v took gave
 
-  sub_now : (first : Logic Line) (x : Node S D L B) (v : View) (took gave : List (List Item)) → node_row x v → node_law sources drains w.book (Sub first) x v took gave → SubNow first v took gave
+  sub_now : (first : Logic Line) (x : IslandNode S D L B) (v : View) (took gave : List (List Item)) → node_row x v → node_law sources drains w.book (Sub first) x v took gave → SubNow first v took gave
   sub_now first (Sub x) v took gave r law = record { now = x; row_holds = r; law_holds = law }
   sub_now first x v took gave r law = absurd law
 
-  abbrev Laws : Node S D L B → Node S D L B → List InPort → List OutPort → Type 0
+  abbrev Laws : IslandNode S D L B → IslandNode S D L B → List InPort → List OutPort → Type 0
   Laws first x is os = PictureLaws node_row (node_law sources drains w.book) node_asking node_moves sink_ended g w k n first x is os
 
   module _ (first : Logic Line) (made : FirstSub g.chains k n first) where
@@ -149,12 +149,12 @@ module _ {S D : Type 0} (L B : Type 0) (sources : S → SourceState) (drains : D
         )
 
     -- the rows of its kind
-    lawful_by : (i o : picture.View) → StageLawful (of_machine m start true) i o → StageLawful (of_machine (substreams yields (opening_of f.how)) (begin_subs yields k) true) i o
+    lawful_by : (i o : picture.SeenWire) → StageLawful (of_machine m start true) i o → StageLawful (of_machine (substreams yields (opening_of f.how)) (begin_subs yields k) true) i o
     lawful_by i o h =
         subst (λ (q : Opening). StageLawful (of_machine (substreams yields q) (begin_subs yields k) true) i o) (ap (λ (x : Logic Line). opening_of x.how) f.is)
         (alike_lawful _ _ (joined_alike yields (opening_of first.how) (begin_subs yields k)) i o h)
 
-    rests_by : (i o : picture.View) → StageRests (of_machine m start true) i o → StageRests (of_machine (substreams yields (opening_of f.how)) (begin_subs yields k) true) i o
+    rests_by : (i o : picture.SeenWire) → StageRests (of_machine m start true) i o → StageRests (of_machine (substreams yields (opening_of f.how)) (begin_subs yields k) true) i o
     rests_by i o h =
         subst (λ (q : Opening). StageRests (of_machine (substreams yields q) (begin_subs yields k) true) i o) (ap (λ (x : Logic Line). opening_of x.how) f.is)
         (alike_rests _ _ (joined_alike yields (opening_of first.how) (begin_subs yields k)) i o h)
@@ -167,7 +167,7 @@ module _ {S D : Type 0} (L B : Type 0) (sources : S → SourceState) (drains : D
       at : Law m start its.held i.view o.view i.got o.sent
       at = law_at m start _ its.held _ i.view _ o.view _ law.took_list i.got law.gave_list o.sent refl refl refl refl (one_same _ _ (sym law.took_is)) (one_same _ _ (sym law.gave_is)) its.law
 
-      asked_then : InStands i → OutStands o → Moments {N = Node S D L B} node_row (node_law sources drains w.book) node_asking node_moves (Sub first) (Sub x) (i ∷ []) (o ∷ []) 0 → 1 ≤ demand i.wire
+      asked_then : InStands i → OutStands o → Moments {N = IslandNode S D L B} node_row (node_law sources drains w.book) node_asking node_moves (Sub first) (Sub x) (i ∷ []) (o ∷ []) 0 → 1 ≤ demand i.wire
           → (is_going (run m start (take (demand i.wire - 1) i.wire.list)).state ≡ true) × (length (run m start (take (demand i.wire - 1) i.wire.list)).gave < wanted o.wire)
       asked_then si so last some =
           let e = last.0 in

@@ -39,8 +39,8 @@ use Rattle.stage_switch.proofs.Rows.{valve_waits}
 use Rattle.stage_state.specs.declared.logic.StateLogic.TheVariants.{Obeying, Tripping}
 use Rattle.stage_state.specs.Logics.{BeginsAs}
 use Rattle.wire_core.specs.Counts.{elements}
-use Rattle.nodes.specs.declared.node.Node.{Node}
-use Rattle.nodes.specs.declared.node.Node.TheVariants as node
+use Rattle.nodes.specs.declared.node.IslandNode.{IslandNode}
+use Rattle.nodes.specs.declared.node.IslandNode.TheVariants as node
 use Rattle.nodes.specs.Nodes.{node_row, node_law, node_asking, node_moves}
 use Rattle.run_account.specs.KindLaws.{IsOneMachine, Moments, PictureLaws}
 use Rattle.run_account.specs.Ports.{InPort, OutPort, InStands, OutStands, InRests, OutRests}
@@ -116,14 +116,14 @@ all_sent : (i : InPort) (m : ℕ) (b : Bool) → InStands i → m ≤ i.wire.sen
 all_sent i m true si few = let some = length-take-le i.wire.sent i.wire.list si.within in omega (arith, some, few)
 all_sent i m false si few = let some = length-take-le i.wire.sent i.wire.list si.within in omega (arith, some, few)
 
-moved_by : (ms : List ℕ) (n : ℕ) (i o : picture.View) → ((order m : ℕ) → ms ≡ order ∷ m ∷ [] → n ≡ m) → o.sent ≡ n → ValveLawful ms i o
+moved_by : (ms : List ℕ) (n : ℕ) (i o : picture.SeenWire) → ((order m : ℕ) → ms ≡ order ∷ m ∷ [] → n ≡ m) → o.sent ≡ n → ValveLawful ms i o
 moved_by [] n i o c s = tt
 moved_by (a ∷ []) n i o c s = tt
 moved_by (a ∷ m ∷ []) n i o c s = s ∙ c a m refl
 moved_by (a ∷ m ∷ b ∷ ms) n i o c s = tt
 
 module _ {S D : Type 0} (L B : Type 0) (sources : S → SourceState) (drains : D → DrainState) (g : Graph) (w : World) (k : ℕ) (n : graph.Node) where
-  abbrev Laws : Node S D L B → Node S D L B → List InPort → List OutPort → Type 0
+  abbrev Laws : IslandNode S D L B → IslandNode S D L B → List InPort → List OutPort → Type 0
   Laws first x is os = PictureLaws node_row (node_law sources drains w.book) node_asking node_moves sink_ended g w k n first x is os
 
   -- its kind stays the same
@@ -132,7 +132,7 @@ module _ {S D : Type 0} (L B : Type 0) (sources : S → SourceState) (drains : D
     row_holds : ValveRow now v
     law_holds : ValveAs first now v took gave
 
-  valve_now : (first : Valve) (x : Node S D L B) (v : View) (took gave : List (List Item)) → node_row x v → node_law sources drains w.book (node.State (Obeying first)) x v took gave → ValveNow first v took gave
+  valve_now : (first : Valve) (x : IslandNode S D L B) (v : View) (took gave : List (List Item)) → node_row x v → node_law sources drains w.book (node.State (Obeying first)) x v took gave → ValveNow first v took gave
   valve_now first (node.State (Obeying x)) v took gave r law = record { now = x; row_holds = r; law_holds = law }
   valve_now first x v took gave r law = absurd law
 
@@ -142,7 +142,7 @@ module _ {S D : Type 0} (L B : Type 0) (sources : S → SourceState) (drains : D
     valve_kind = valve_first k n.kind n.decider first begins
 
     abbrev LastAsk : Type 0
-    LastAsk = Moments {N = Node S D L B} node_row (node_law sources drains w.book) node_asking node_moves (node.State (Obeying first)) (node.State (Obeying x)) (i ∷ []) (o ∷ []) 0
+    LastAsk = Moments {N = IslandNode S D L B} node_row (node_law sources drains w.book) node_asking node_moves (node.State (Obeying first)) (node.State (Obeying x)) (i ∷ []) (o ∷ []) 0
 
     valve_given : InStands i → OutStands o → o.wire.sent ≤ (if i.wire.shut then length (take i.wire.sent i.wire.list) + 0 else length (take i.wire.sent i.wire.list))
     valve_given si so =
@@ -210,7 +210,7 @@ module _ {S D : Type 0} (L B : Type 0) (sources : S → SourceState) (drains : D
     row_holds : TripRow now v
     law_holds : TripAs first now v took gave
 
-  trip_now : (first : Trip) (x : Node S D L B) (v : View) (took gave : List (List Item)) → node_row x v → node_law sources drains w.book (node.State (Tripping first)) x v took gave → TripNow first v took gave
+  trip_now : (first : Trip) (x : IslandNode S D L B) (v : View) (took gave : List (List Item)) → node_row x v → node_law sources drains w.book (node.State (Tripping first)) x v took gave → TripNow first v took gave
   trip_now first (node.State (Tripping x)) v took gave r law = record { now = x; row_holds = r; law_holds = law }
   trip_now first x v took gave r law = absurd law
 
@@ -240,7 +240,7 @@ module _ {S D : Type 0} (L B : Type 0) (sources : S → SourceState) (drains : D
     passed = trip_at w.book first x _ _ _ i.got o.sent law trip_kind.node refl refl
 
     abbrev LastAsks : Type 0
-    LastAsks = Moments {N = Node S D L B} node_row (node_law sources drains w.book) node_asking node_moves (node.State (Tripping first)) (node.State (Tripping x)) (i ∷ []) (o ∷ []) 0
+    LastAsks = Moments {N = IslandNode S D L B} node_row (node_law sources drains w.book) node_asking node_moves (node.State (Tripping first)) (node.State (Tripping x)) (i ∷ []) (o ∷ []) 0
 
     trip_asked : InStands i → OutStands o → LastAsks → 1 ≤ demand i.wire
         → (is_going (run (linear w.book passing) (begin_work k n.decider passing) (take (demand i.wire - 1) i.wire.list)).state ≡ true)

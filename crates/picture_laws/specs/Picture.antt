@@ -2,8 +2,8 @@
 use Rattle.std.specs.Prelude.{Bool, true, false, Option, None, Some}
 use Rattle.stream_model.specs.declared.outcome.EndState.{EndState}
 use Rattle.stream_model.specs.declared.outcome.EndState.TheVariants.{Ended, Failed, Unended, WriteFault}
-use Rattle.nodes.specs.declared.node.Node.{Node}
-use Rattle.nodes.specs.declared.node.Node.TheVariants.{Reading, Making, Linear, State, Sub, FanIn, FanOut, Writing, Ignoring, Entering, Leaving}
+use Rattle.nodes.specs.declared.node.IslandNode.{IslandNode}
+use Rattle.nodes.specs.declared.node.IslandNode.TheVariants.{Reading, Making, Linear, State, Sub, FanIn, FanOut, Writing, Ignoring, Entering, Leaving}
 
 -- it does not go on
 abbrev pub has_ended : EndState → Bool
@@ -13,7 +13,7 @@ has_ended Unended = false
 has_ended WriteFault = true
 
 -- the node is a sink that has ended
-abbrev pub sink_ended : {S D L B : Type 0} → Node S D L B → Bool
+abbrev pub sink_ended : {S D L B : Type 0} → IslandNode S D L B → Bool
 sink_ended (Reading x) = false
 sink_ended (Making x) = false
 sink_ended (Linear x) = false
@@ -27,6 +27,6 @@ sink_ended (Entering x) = false
 sink_ended (Leaving x) = false
 
 -- the same of a node that may be there
-abbrev pub ended_there : {S D L B : Type 0} → Option (Node S D L B) → Bool
+abbrev pub ended_there : {S D L B : Type 0} → Option (IslandNode S D L B) → Bool
 ended_there None = false
 ended_there (Some x) = sink_ended x

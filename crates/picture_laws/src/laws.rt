@@ -10,7 +10,7 @@ ghost use Rattle.stream_model.specs.Node.{World};
 ghost use Rattle.stream_model.specs.Outlook.{Outlook};
 ghost use Rattle.stream_picture.specs.Lawful.{IsLawful};
 ghost use Rattle.stream_picture.specs.Rests.{Rests, SinksMatch};
-ghost use Rattle.nodes.specs.declared.node.Node.{Node};
+ghost use Rattle.nodes.specs.declared.node.IslandNode.{IslandNode};
 ghost use Rattle.run_account.specs.Account.{Account, IsStill};
 ghost use Rattle.run_account.specs.Items.{AgreesWith, Passes};
 ghost use Rattle.run_account.specs.Pictures.{counts_of, AllPass};
@@ -32,9 +32,9 @@ pub fn what_agrees_passes()
 /// given by a trip. So it is by any outlooks of whose lists the wires carried first parts (`any`), and by the composed outlooks
 /// (`composed`), where the world tells what the stages chose.
 pub fn every_picture_is_lawful<S: Source, D: Drain, L: Logic, B: PlugBook>()
-    ensures any { (g : Graph) (w : World) (a : Account (Node S D L B)) (outlook : ℕ → Outlook) → IsRun S.state D.state w.book g a → AreSettled g a → TellsPicks w a
+    ensures any { (g : Graph) (w : World) (a : Account (IslandNode S D L B)) (outlook : ℕ → Outlook) → IsRun S.state D.state w.book g a → AreSettled g a → TellsPicks w a
         → AllPass a g outlook → IsLawful g w (counts_of a g) outlook }
-    ensures composed { (g : Graph) (w : World) (rank : ℕ → ℕ) (a : Account (Node S D L B)) → IsRun S.state D.state w.book g a → AreSettled g a
+    ensures composed { (g : Graph) (w : World) (rank : ℕ → ℕ) (a : Account (IslandNode S D L B)) → IsRun S.state D.state w.book g a → AreSettled g a
         → Tells S.state g w a → IsRanked g rank → IsLawful g w (counts_of a g) (composed g w) }
 {}
 
@@ -42,17 +42,17 @@ pub fn every_picture_is_lawful<S: Source, D: Drain, L: Logic, B: PlugBook>()
 /// any outlooks of whose lists the wires carried first parts (`any`), and by the composed outlooks (`composed`). A sink's
 /// input is shut exactly where the sink has ended (`sinks`).
 pub fn a_picture_without_events_rests<S: Source, D: Drain, L: Logic, B: PlugBook>()
-    ensures any { (g : Graph) (w : World) (a : Account (Node S D L B)) (outlook : ℕ → Outlook) → IsRun S.state D.state w.book g a → IsStill g a → TellsPicks w a
+    ensures any { (g : Graph) (w : World) (a : Account (IslandNode S D L B)) (outlook : ℕ → Outlook) → IsRun S.state D.state w.book g a → IsStill g a → TellsPicks w a
         → AllPass a g outlook → Rests g w (counts_of a g) outlook }
-    ensures composed { (g : Graph) (w : World) (rank : ℕ → ℕ) (a : Account (Node S D L B)) → IsRun S.state D.state w.book g a → IsStill g a
+    ensures composed { (g : Graph) (w : World) (rank : ℕ → ℕ) (a : Account (IslandNode S D L B)) → IsRun S.state D.state w.book g a → IsStill g a
         → Tells S.state g w a → IsRanked g rank → Rests g w (counts_of a g) (composed g w) }
-    ensures sinks { (g : Graph) (w : World) (a : Account (Node S D L B)) (outlook : ℕ → Outlook) → IsRun S.state D.state B.lists g a → IsStill g a
+    ensures sinks { (g : Graph) (w : World) (a : Account (IslandNode S D L B)) (outlook : ℕ → Outlook) → IsRun S.state D.state B.lists g a → IsStill g a
         → SinksMatch g w (counts_of a g) outlook (λ k. ended_there (a.nodes k)) }
 {}
 
 /// The moves of a run fit: each stage could have made them of what may come in on its inputs, and the orders by which valves
 /// acted were given, where the seats of its switches were settled.
 pub fn every_move_fits<S: Source, D: Drain, L: Logic, B: PlugBook>()
-    ensures { (g : Graph) (w : World) (rank : ℕ → ℕ) (a : Account (Node S D L B)) → IsRun S.state D.state w.book g a → AreSettled g a
+    ensures { (g : Graph) (w : World) (rank : ℕ → ℕ) (a : Account (IslandNode S D L B)) → IsRun S.state D.state w.book g a → AreSettled g a
         → Tells S.state g w a → IsRanked g rank → Fits g w }
 {}

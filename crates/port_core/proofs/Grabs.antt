@@ -1,12 +1,12 @@
 -- The elements of a connection: those that were pushed are grabbed once each, in their order.
 use Rattle.std.proofs.Common.{◌≡◌, ◌≤◌, List, [], ◌∷◌, ◌++◌, length, Option, Some, None, refl, sym, ◌∙◌, ap, append_assoc, append-nil, arith}
 use Rattle.elem_core.specs.Tree.{Tree}
-use Rattle.port_core.specs.Connection.{Step, quiet, pulled, ready, pushed, Connection, unasked}
+use Rattle.port_core.specs.Connection.{ConnStep, quiet, pulled, ready, pushed, Connection, unasked}
 use Rattle.port_core.specs.PortRules.{Move, pull, on_pull, push, on_push, grab, complete, fail, cancel, on_cancel, on_finish, on_fail, Allowed, next}
 use Rattle.port_core.specs.Runs.{Run, led, pushed_in, grabbed_in}
 
 -- the element that waits to be grabbed or is on its way
-abbrev held_by : Step → Option Tree → List Tree
+abbrev held_by : ConnStep → Option Tree → List Tree
 held_by quiet None = []
 held_by quiet (Some e) = e ∷ []
 held_by pulled g = []
@@ -14,7 +14,7 @@ held_by ready g = []
 held_by (pushed e) g = e ∷ []
 
 -- an element waits only where nobody pulled
-abbrev Fits : Step → Option Tree → Type 0
+abbrev Fits : ConnStep → Option Tree → Type 0
 Fits quiet g = Unit {0}
 Fits pulled g = g ≡ None
 Fits ready g = g ≡ None
@@ -26,21 +26,21 @@ one_pushed m = pushed_in (m ∷ [])
 abbrev one_grabbed : Move → List Tree
 one_grabbed m = grabbed_in (m ∷ [])
 
-few : (s : Step) (g : Option Tree) → length (held_by s g) ≤ 1
+few : (s : ConnStep) (g : Option Tree) → length (held_by s g) ≤ 1
 few quiet None = omega arith
 few quiet (Some e) = omega arith
 few pulled g = omega arith
 few ready g = omega arith
 few (pushed e) g = omega arith
 
-fits_none : (s : Step) (g : Option Tree) → Fits s g → (s ≡ quiet → ⊥) → g ≡ None
+fits_none : (s : ConnStep) (g : Option Tree) → Fits s g → (s ≡ quiet → ⊥) → g ≡ None
 fits_none quiet g f n = absurd (n refl)
 fits_none pulled g f n = f
 fits_none ready g f n = f
 fits_none (pushed e) g f n = f
 
 -- an element that waits is there where nobody pulled
-fits_some : (s : Step) (g : Option Tree) (e : Tree) → Fits s g → g ≡ Some e → s ≡ quiet
+fits_some : (s : ConnStep) (g : Option Tree) (e : Tree) → Fits s g → g ≡ Some e → s ≡ quiet
 fits_some quiet g e f i = refl
 fits_some pulled g e f i = cc
 fits_some ready g e f i = cc

@@ -4,10 +4,10 @@ use Rattle.elem_core.specs.Tree.{Tree}
 use Rattle.elem_core.specs.declared.why.Cause.{Cause}
 use Rattle.elem_core.specs.declared.item.Item.{Item}
 use Rattle.elem_core.specs.declared.item.Item.TheVariants as item
-use Rattle.port_core.specs.Connection.{Step, Connection, quiet, pulled, ready, pushed}
+use Rattle.port_core.specs.Connection.{ConnStep, Connection, quiet, pulled, ready, pushed}
 use Rattle.port_core.specs.Decoding.{can_pull, can_push, is_at_rest}
 use Rattle.port_core.specs.View.{IsInOpen, IsOutOpen}
-use Rattle.port_core.specs.Wire.{Wire, new_wire, pull_of, push_of, close_of, cancel_of, end_of, closed_by, delivery_of, after_delivery, again}
+use Rattle.port_core.specs.Wire.{JointPorts, new_wire, pull_of, push_of, close_of, cancel_of, end_of, closed_by, delivery_of, after_delivery, again}
 use Rattle.port_core.specs.Joint.{Joint, idle, asking, asked, moving, ending, closing, leaving, finished, parted, refused, wire_of, Histories, Queues, IsSound, Kept, Heard, under_way}
 use Rattle.port_core.specs.declared.view.InView.{InView}
 use Rattle.port_core.specs.declared.view.InView.TheVariants.{Idle, Pulled, Cancelled}
@@ -52,16 +52,16 @@ push_at x (parted t c) s g q h r e = cc
 push_at x (refused t c) s g q h r e = cc
 
 -- a closing where no side was closed, and behind a cancel
-closed_open : (c : Option Cause) (t : Step) → closed_by c (record { step = t; to_grab = None; in_closed = false; out_closed = false; cause = None }) ≡ record { step = t; to_grab = None; in_closed = false; out_closed = true; cause = c }
+closed_open : (c : Option Cause) (t : ConnStep) → closed_by c (record { step = t; to_grab = None; in_closed = false; out_closed = false; cause = None }) ≡ record { step = t; to_grab = None; in_closed = false; out_closed = true; cause = c }
 closed_open None t = refl
 closed_open (Some c) t = refl
 
-closed_left : (c : Option Cause) (t : Step) → closed_by c (record { step = t; to_grab = None; in_closed = true; out_closed = false; cause = None }) ≡ record { step = t; to_grab = None; in_closed = true; out_closed = true; cause = None }
+closed_left : (c : Option Cause) (t : ConnStep) → closed_by c (record { step = t; to_grab = None; in_closed = true; out_closed = false; cause = None }) ≡ record { step = t; to_grab = None; in_closed = true; out_closed = true; cause = None }
 closed_left None t = refl
 closed_left (Some c) t = refl
 
 -- two wires whose output has closed, with equal connections
-shut_with : (i : InView) (s g : List Item) (p q : Connection) → p ≡ q → ◌≡◌ {A = Wire} (record { out = Closed; inp = i; conn = p; sent = s; got = g }) (record { out = Closed; inp = i; conn = q; sent = s; got = g })
+shut_with : (i : InView) (s g : List Item) (p q : Connection) → p ≡ q → ◌≡◌ {A = JointPorts} (record { out = Closed; inp = i; conn = p; sent = s; got = g }) (record { out = Closed; inp = i; conn = q; sent = s; got = g })
 shut_with i s g p q e = ap (λ (r : Connection). record { out = Closed; inp = i; conn = r; sent = s; got = g }) e
 
 close_at : (c : Option Cause) (j : Joint) (s g : List Item) (q : Bool) → Histories j s g → Queues j q → IsOutOpen (wire_of j s g).out
@@ -135,23 +135,23 @@ heard_at (parted t c) s g r = tt
 heard_at (refused t c) s g r = tt
 
 -- for any wire
-pub pull_kept : (w : Wire) (q : Bool) → IsSound w q → w.inp ≡ Idle → Kept (pull_of w) q (can_pull w.conn)
-pull_kept w q h e = subst (λ (v : Wire). Kept (pull_of v) q (can_pull v.conn)) (sym h.is) (pull_at h.joint w.sent w.got q h.histories h.queues (sym (ap (λ (v : Wire). v.inp) h.is) ∙ e))
+pub pull_kept : (w : JointPorts) (q : Bool) → IsSound w q → w.inp ≡ Idle → Kept (pull_of w) q (can_pull w.conn)
+pull_kept w q h e = subst (λ (v : JointPorts). Kept (pull_of v) q (can_pull v.conn)) (sym h.is) (pull_at h.joint w.sent w.got q h.histories h.queues (sym (ap (λ (v : JointPorts). v.inp) h.is) ∙ e))
 
-pub push_kept : (x : Tree) (w : Wire) (q : Bool) → IsSound w q → w.out ≡ Available → Kept (push_of x w) q (can_push w.conn)
-push_kept x w q h e = subst (λ (v : Wire). Kept (push_of x v) q (can_push v.conn)) (sym h.is) (push_at x h.joint w.sent w.got q h.histories h.queues (sym (ap (λ (v : Wire). v.out) h.is) ∙ e))
+pub push_kept : (x : Tree) (w : JointPorts) (q : Bool) → IsSound w q → w.out ≡ Available → Kept (push_of x w) q (can_push w.conn)
+push_kept x w q h e = subst (λ (v : JointPorts). Kept (push_of x v) q (can_push v.conn)) (sym h.is) (push_at x h.joint w.sent w.got q h.histories h.queues (sym (ap (λ (v : JointPorts). v.out) h.is) ∙ e))
 
-pub close_kept : (c : Option Cause) (w : Wire) (q : Bool) → IsSound w q → IsOutOpen w.out → Kept (close_of c w) q (is_at_rest w.conn)
-close_kept c w q h e = subst (λ (v : Wire). Kept (close_of c v) q (is_at_rest v.conn)) (sym h.is) (close_at c h.joint w.sent w.got q h.histories h.queues (subst (λ (v : Wire). IsOutOpen v.out) h.is e))
+pub close_kept : (c : Option Cause) (w : JointPorts) (q : Bool) → IsSound w q → IsOutOpen w.out → Kept (close_of c w) q (is_at_rest w.conn)
+close_kept c w q h e = subst (λ (v : JointPorts). Kept (close_of c v) q (is_at_rest v.conn)) (sym h.is) (close_at c h.joint w.sent w.got q h.histories h.queues (subst (λ (v : JointPorts). IsOutOpen v.out) h.is e))
 
-pub cancel_kept : (w : Wire) (q : Bool) → IsSound w q → IsInOpen w.inp → Kept (cancel_of w) q (is_at_rest w.conn)
-cancel_kept w q h e = subst (λ (v : Wire). Kept (cancel_of v) q (is_at_rest v.conn)) (sym h.is) (cancel_at h.joint w.sent w.got q h.histories h.queues (subst (λ (v : Wire). IsInOpen v.inp) h.is e))
+pub cancel_kept : (w : JointPorts) (q : Bool) → IsSound w q → IsInOpen w.inp → Kept (cancel_of w) q (is_at_rest w.conn)
+cancel_kept w q h e = subst (λ (v : JointPorts). Kept (cancel_of v) q (is_at_rest v.conn)) (sym h.is) (cancel_at h.joint w.sent w.got q h.histories h.queues (subst (λ (v : JointPorts). IsInOpen v.inp) h.is e))
 
-pub deliver_kept : (w : Wire) → IsSound w true → IsSound (after_delivery (delivery_of w) w) (again (delivery_of w))
-deliver_kept w h = subst (λ (v : Wire). IsSound (after_delivery (delivery_of v) v) (again (delivery_of v))) (sym h.is) (deliver_at h.joint w.sent w.got h.histories h.queues)
+pub deliver_kept : (w : JointPorts) → IsSound w true → IsSound (after_delivery (delivery_of w) w) (again (delivery_of w))
+deliver_kept w h = subst (λ (v : JointPorts). IsSound (after_delivery (delivery_of v) v) (again (delivery_of v))) (sym h.is) (deliver_at h.joint w.sent w.got h.histories h.queues)
 
-pub deliver_heard : (w : Wire) → IsSound w true → Heard (delivery_of w) w
-deliver_heard w h = subst (λ (v : Wire). Heard (delivery_of v) v) (sym h.is) (heard_at h.joint w.sent w.got h.queues)
+pub deliver_heard : (w : JointPorts) → IsSound w true → Heard (delivery_of w) w
+deliver_heard w h = subst (λ (v : JointPorts). Heard (delivery_of v) v) (sym h.is) (heard_at h.joint w.sent w.got h.queues)
 
 -- what the view allows the table allows, where the other end has not closed
 pull_free : (j : Joint) (s g : List Item) → (wire_of j s g).inp ≡ Idle → (can_pull (wire_of j s g).conn ≡ true) ⊎ ((wire_of j s g).conn.out_closed ≡ true)
@@ -180,8 +180,8 @@ push_free (finished t c) s g e = cc
 push_free (parted t c) s g e = cc
 push_free (refused t c) s g e = cc
 
-pub pull_agrees : (w : Wire) (q : Bool) → IsSound w q → w.inp ≡ Idle → (can_pull w.conn ≡ true) ⊎ (w.conn.out_closed ≡ true)
-pull_agrees w q h e = subst (λ (v : Wire). (can_pull v.conn ≡ true) ⊎ (v.conn.out_closed ≡ true)) (sym h.is) (pull_free h.joint w.sent w.got (sym (ap (λ (v : Wire). v.inp) h.is) ∙ e))
+pub pull_agrees : (w : JointPorts) (q : Bool) → IsSound w q → w.inp ≡ Idle → (can_pull w.conn ≡ true) ⊎ (w.conn.out_closed ≡ true)
+pull_agrees w q h e = subst (λ (v : JointPorts). (can_pull v.conn ≡ true) ⊎ (v.conn.out_closed ≡ true)) (sym h.is) (pull_free h.joint w.sent w.got (sym (ap (λ (v : JointPorts). v.inp) h.is) ∙ e))
 
-pub push_agrees : (w : Wire) (q : Bool) → IsSound w q → w.out ≡ Available → (can_push w.conn ≡ true) ⊎ (w.conn.in_closed ≡ true)
-push_agrees w q h e = subst (λ (v : Wire). (can_push v.conn ≡ true) ⊎ (v.conn.in_closed ≡ true)) (sym h.is) (push_free h.joint w.sent w.got (sym (ap (λ (v : Wire). v.out) h.is) ∙ e))
+pub push_agrees : (w : JointPorts) (q : Bool) → IsSound w q → w.out ≡ Available → (can_push w.conn ≡ true) ⊎ (w.conn.in_closed ≡ true)
+push_agrees w q h e = subst (λ (v : JointPorts). (can_push v.conn ≡ true) ⊎ (v.conn.in_closed ≡ true)) (sym h.is) (push_free h.joint w.sent w.got (sym (ap (λ (v : JointPorts). v.out) h.is) ∙ e))

@@ -4,15 +4,15 @@ use Rattle.elem_core.specs.Tree.{Tree}
 use Rattle.elem_core.specs.declared.why.Cause.{Cause}
 
 -- where the pull and the element stand: nobody pulls; the input pulled; the pull reached the output; an element is on its way
-pub data Step : Type 0 where
-  quiet : Step
-  pulled : Step
-  ready : Step
-  pushed : Tree → Step
+pub data ConnStep : Type 0 where
+  quiet : ConnStep
+  pulled : ConnStep
+  ready : ConnStep
+  pushed : Tree → ConnStep
 
 -- its step, the element that was delivered and waits to be grabbed, which sides are closed, and the cause of a failure
 pub record Connection : Type 0 where
-  pub step : Step
+  pub step : ConnStep
   pub to_grab : Option Tree
   pub in_closed : Bool
   pub out_closed : Bool

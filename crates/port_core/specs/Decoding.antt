@@ -2,13 +2,13 @@
 use Rattle.std.specs.Prelude.{◌≡◌, Bool, true, false, not, ◌&&◌, IsTrue, Option, None, Some, ◌⊎◌}
 use Rattle.elem_core.specs.Tree.{Tree}
 use Rattle.elem_core.specs.declared.why.Cause.{Cause}
-use Rattle.port_core.specs.Connection.{Step, quiet, pulled, ready, pushed, Connection}
+use Rattle.port_core.specs.Connection.{ConnStep, quiet, pulled, ready, pushed, Connection}
 use Rattle.port_core.specs.PortRules.{on_pull, on_push, on_cancel, on_finish, on_fail, IsOpen, next, Rule}
 use Rattle.port_core.specs.declared.conn.Event.{Event}
 use Rattle.port_core.specs.declared.conn.Event.TheVariants.{Push, PushThenClose, Pull, Cancel, Finish, Fail, Nothing}
 
 -- nobody pulled, and nothing waits to be grabbed
-abbrev pub is_idle : Step → Option Tree → Bool
+abbrev pub is_idle : ConnStep → Option Tree → Bool
 is_idle quiet None = true
 is_idle quiet (Some e) = false
 is_idle pulled g = false
@@ -16,14 +16,14 @@ is_idle ready g = false
 is_idle (pushed e) g = false
 
 -- the output was pulled, and did not push since
-abbrev pub is_ready : Step → Bool
+abbrev pub is_ready : ConnStep → Bool
 is_ready quiet = false
 is_ready pulled = false
 is_ready ready = true
 is_ready (pushed e) = false
 
 -- a pull or an element is on its way to the other end
-abbrev pub is_moving : Step → Bool
+abbrev pub is_moving : ConnStep → Bool
 is_moving quiet = false
 is_moving pulled = true
 is_moving ready = false
@@ -51,21 +51,21 @@ ending_by None = Finish
 ending_by (Some c) = Fail
 
 -- an element that is on its way comes before the closing
-abbrev pub closing_by : Step → Option Cause → Event
+abbrev pub closing_by : ConnStep → Option Cause → Event
 closing_by (pushed e) c = PushThenClose
 closing_by quiet c = ending_by c
 closing_by pulled c = ending_by c
 closing_by ready c = ending_by c
 
 -- where no side is closed: an element or a pull that is on its way
-abbrev pub moving_by : Step → Event
+abbrev pub moving_by : ConnStep → Event
 moving_by (pushed e) = Push
 moving_by pulled = Pull
 moving_by quiet = Nothing
 moving_by ready = Nothing
 
 -- by the closed sides, the input's first and the output's second
-abbrev pub event_by : Bool → Bool → Step → Option Cause → Event
+abbrev pub event_by : Bool → Bool → ConnStep → Option Cause → Event
 event_by false false s c = moving_by s
 event_by true false s c = Cancel
 event_by false true s c = closing_by s c
@@ -76,7 +76,7 @@ abbrev pub event_of : Connection → Event
 event_of p = event_by p.in_closed p.out_closed p.step p.cause
 
 -- the connection once the element that is on its way came
-abbrev pub arrived_by : Connection → Step → Connection
+abbrev pub arrived_by : Connection → ConnStep → Connection
 arrived_by p (pushed e) = next (on_push e) p
 arrived_by p quiet = p
 arrived_by p pulled = p

@@ -5,10 +5,10 @@ use Rattle.elem_core.specs.Tree.{Tree}
 use Rattle.elem_core.specs.declared.why.Cause.{Cause}
 use Rattle.elem_core.specs.declared.item.Item.{Item}
 use Rattle.elem_core.specs.declared.item.Item.TheVariants as item
-use Rattle.port_core.specs.Connection.{Step, quiet, pulled, ready, pushed, Connection}
+use Rattle.port_core.specs.Connection.{ConnStep, quiet, pulled, ready, pushed, Connection}
 use Rattle.port_core.specs.View.{IsOutOpen}
 use Rattle.port_core.specs.Call.{MayCome}
-use Rattle.port_core.specs.Wire.{Wire, end_of, Delivery, nothing, pull, cancel, arrived}
+use Rattle.port_core.specs.Wire.{JointPorts, end_of, Delivery, nothing, pull, cancel, arrived}
 use Rattle.port_core.specs.declared.view.InView.TheVariants.{Idle, Pulled, Finished, Cancelled}
 use Rattle.port_core.specs.declared.view.OutView.TheVariants as outlet
 
@@ -22,18 +22,18 @@ pub data Joint : Type 0 where
   asked : Joint
   moving : Tree → Joint
   ending : Option Cause → Joint
-  closing : Step → Option Cause → Joint
-  leaving : Bool → Step → Joint
-  finished : Step → Option Cause → Joint
-  parted : Step → Option Cause → Joint
-  refused : Step → Option Cause → Joint
+  closing : ConnStep → Option Cause → Joint
+  leaving : Bool → ConnStep → Joint
+  finished : ConnStep → Option Cause → Joint
+  parted : ConnStep → Option Cause → Joint
+  refused : ConnStep → Option Cause → Joint
 
 -- a connection from which the element was grabbed
-abbrev conn_of : Step → Bool → Bool → Option Cause → Connection
+abbrev conn_of : ConnStep → Bool → Bool → Option Cause → Connection
 conn_of s i o c = record { step = s; to_grab = None; in_closed = i; out_closed = o; cause = c }
 
 -- the wire in a joint state, with its histories
-abbrev pub wire_of : Joint → List Item → List Item → Wire
+abbrev pub wire_of : Joint → List Item → List Item → JointPorts
 wire_of idle s g = record { out = outlet.Unpulled; inp = Idle; conn = conn_of quiet false false None; sent = s; got = g }
 wire_of asking s g = record { out = outlet.Unpulled; inp = Pulled; conn = conn_of pulled false false None; sent = s; got = g }
 wire_of asked s g = record { out = outlet.Available; inp = Pulled; conn = conn_of ready false false None; sent = s; got = g }
@@ -47,7 +47,7 @@ wire_of (parted t c) s g = record { out = outlet.Closed; inp = Cancelled; conn =
 wire_of (refused t c) s g = record { out = outlet.Cancelled; inp = Cancelled; conn = conn_of t true true c; sent = s; got = g }
 
 -- an element that is on its way
-abbrev pub under_way : Step → List Item
+abbrev pub under_way : ConnStep → List Item
 under_way quiet = []
 under_way pulled = []
 under_way ready = []
@@ -80,19 +80,19 @@ Queues (parted t c) q = ⊤
 Queues (refused t c) q = ⊤
 
 -- the wire, queued or not, is in a joint state
-pub record IsSound (w : Wire) (q : Bool) : Type 0 where
+pub record IsSound (w : JointPorts) (q : Bool) : Type 0 where
   pub joint : Joint
   pub is : w ≡ wire_of joint w.sent w.got
   pub histories : Histories joint w.sent w.got
   pub queues : Queues joint q
 
 -- An action leaves a sound wire. It asks for a place in the queue, `queued`, only where the wire has none.
-pub record Kept (new : Wire) (q queued : Bool) : Type 0 where
+pub record Kept (new : JointPorts) (q queued : Bool) : Type 0 where
   pub sound : IsSound new (q || queued)
   pub free : queued ≡ true → q ≡ false
 
 -- the end that a delivery goes to is where the port rules allow it, as its stage sees them
-abbrev pub Heard : Delivery → Wire → Type 0
+abbrev pub Heard : Delivery → JointPorts → Type 0
 Heard nothing w = ⊤
 Heard pull w = w.out ≡ outlet.Unpulled
 Heard cancel w = IsOutOpen w.out

@@ -6,7 +6,7 @@ use Rattle.elem_core.specs.Tree.{Tree}
 use Rattle.elem_core.specs.declared.why.Cause.{Cause}
 use Rattle.elem_core.specs.declared.item.Item.{Item}
 use Rattle.elem_core.specs.declared.item.Item.TheVariants as item
-use Rattle.port_core.specs.Connection.{Step, quiet, pulled, ready, pushed, Connection, unasked}
+use Rattle.port_core.specs.Connection.{ConnStep, quiet, pulled, ready, pushed, Connection, unasked}
 use Rattle.port_core.specs.PortRules as rule
 use Rattle.port_core.specs.PortRules.{next}
 use Rattle.port_core.specs.Decoding.{can_pull, can_push}
@@ -16,7 +16,7 @@ use Rattle.port_core.specs.declared.view.OutView.{OutView}
 use Rattle.port_core.specs.declared.view.OutView.TheVariants as outlet
 
 -- what its output's stage and its input's stage know of it, its connection, what the output gave and what the input got
-pub record Wire : Type 0 where
+pub record JointPorts : Type 0 where
   pub out : OutView
   pub inp : InView
   pub conn : Connection
@@ -24,15 +24,15 @@ pub record Wire : Type 0 where
   pub got : List Item
 
 -- a wire on which nothing happened
-abbrev pub new_wire : Wire
+abbrev pub new_wire : JointPorts
 new_wire = record { out = outlet.Unpulled; inp = Idle; conn = unasked; sent = []; got = [] }
 
 -- the input pulls
-abbrev pub pull_of : Wire → Wire
+abbrev pub pull_of : JointPorts → JointPorts
 pull_of w = record w { inp = Pulled; conn = if can_pull w.conn then next rule.pull w.conn else w.conn }
 
 -- the output gives an element
-abbrev pub push_of : Tree → Wire → Wire
+abbrev pub push_of : Tree → JointPorts → JointPorts
 push_of e w = record w { out = outlet.Unpulled; conn = if can_push w.conn then next (rule.push e) w.conn else w.conn; sent = w.sent ++ item.Elem e ∷ [] }
 
 -- the end of an output, which completes, or fails with a cause
@@ -46,11 +46,11 @@ closed_by None p = next rule.complete p
 closed_by (Some c) p = next (rule.fail c) p
 
 -- the output completes, or fails with a cause
-abbrev pub close_of : Option Cause → Wire → Wire
+abbrev pub close_of : Option Cause → JointPorts → JointPorts
 close_of c w = record w { out = outlet.Closed; conn = closed_by c w.conn; sent = w.sent ++ end_of c ∷ [] }
 
 -- the input cancels
-abbrev pub cancel_of : Wire → Wire
+abbrev pub cancel_of : JointPorts → JointPorts
 cancel_of w = record w { inp = Cancelled; conn = next rule.cancel w.conn }
 
 -- what the event of a wire brings: nothing, a pull or a cancel to the output; an item to the input, and whether the wire has
@@ -62,32 +62,32 @@ pub data Delivery : Type 0 where
   arrived : Item → Bool → Delivery
 
 -- where no side is closed: an element or a pull that is on its way
-abbrev pub moving_item : Step → Delivery
+abbrev pub moving_item : ConnStep → Delivery
 moving_item quiet = nothing
 moving_item pulled = pull
 moving_item ready = nothing
 moving_item (pushed e) = arrived (item.Elem e) false
 
 -- where the output has closed: an element that is on its way comes first
-abbrev pub closing_item : Step → Option Cause → Delivery
+abbrev pub closing_item : ConnStep → Option Cause → Delivery
 closing_item quiet c = arrived (end_of c) false
 closing_item pulled c = arrived (end_of c) false
 closing_item ready c = arrived (end_of c) false
 closing_item (pushed e) c = arrived (item.Elem e) true
 
 -- by the closed sides, the input's first and the output's second
-abbrev pub delivery_by : Bool → Bool → Step → Option Cause → Delivery
+abbrev pub delivery_by : Bool → Bool → ConnStep → Option Cause → Delivery
 delivery_by false false s c = moving_item s
 delivery_by true false s c = cancel
 delivery_by false true s c = closing_item s c
 delivery_by true true s c = nothing
 
 -- what the event of the wire brings
-abbrev pub delivery_of : Wire → Delivery
+abbrev pub delivery_of : JointPorts → Delivery
 delivery_of w = delivery_by w.conn.in_closed w.conn.out_closed w.conn.step w.conn.cause
 
 -- the wire once that was delivered, and the element grabbed
-abbrev pub after_delivery : Delivery → Wire → Wire
+abbrev pub after_delivery : Delivery → JointPorts → JointPorts
 after_delivery nothing w = w
 after_delivery pull w = record w { out = outlet.Available; conn = next rule.on_pull w.conn }
 after_delivery cancel w = record w { out = outlet.Cancelled; conn = next rule.on_cancel w.conn }

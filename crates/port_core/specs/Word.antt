@@ -2,7 +2,7 @@
 use Rattle.std.specs.Prelude.{◌≡◌, ℕ, ◌+◌, ◌==◌, Bool, true, false, not, if◌then◌else◌, Option, None, Some, List, [], ◌∷◌, ◌++◌, bit_and}
 use Rattle.elem_core.specs.Tree.{Tree}
 use Rattle.elem_core.specs.declared.why.Cause.{Cause}
-use Rattle.port_core.specs.Connection.{Step, quiet, pulled, ready, pushed, Connection}
+use Rattle.port_core.specs.Connection.{ConnStep, quiet, pulled, ready, pushed, Connection}
 use Rattle.port_core.specs.Ring.{holds}
 
 -- one of the low four bits, beside the others
@@ -23,7 +23,7 @@ pub record IsWord (w : ℕ) (held : Bool) : Type 0 where
   pub quiet : held ≡ true → has 1 w ≡ true
 
 -- where the pull and the element stand
-abbrev pub step_by : ℕ → Tree → Step
+abbrev pub step_by : ℕ → Tree → ConnStep
 step_by w e = if has 4 w then pushed e else if has 2 w then pulled else if has 8 w then ready else quiet
 
 -- the element, where it is held

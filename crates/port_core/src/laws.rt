@@ -14,7 +14,7 @@ ghost use Rattle.port_core.specs.declared.view.InView.TheVariants.{Idle};
 ghost use Rattle.port_core.specs.declared.view.OutView.TheVariants.{Available};
 ghost use Rattle.port_core.specs.Decoding.{can_pull, can_push, is_at_rest};
 ghost use Rattle.port_core.specs.View.{View, IsInOpen, IsOutOpen, ActsAllowed, acted, acted_all};
-ghost use Rattle.port_core.specs.Wire.{Wire, new_wire, pull_of, push_of, close_of, cancel_of, delivery_of, after_delivery, again};
+ghost use Rattle.port_core.specs.Wire.{JointPorts, new_wire, pull_of, push_of, close_of, cancel_of, delivery_of, after_delivery, again};
 ghost use Rattle.port_core.specs.Joint.{IsSound, Kept, Heard};
 ghost use Rattle.port_core.specs.Call.{given_on};
 ghost use Rattle.port_core.specs.ListFunction.{ListFunction, Residual, Stops, Ends, Pushed, Finished, goes_on};
@@ -81,17 +81,17 @@ pub fn chains_keep_their_list_function()
 /// each delivery leads from a joint state to a joint state, whether or not a closing is on its way.
 pub fn wires_stay_sound()
     ensures new { IsSound new_wire false }
-    ensures pull { (w : Wire) (q : Bool) → IsSound w q → w.inp ≡ Idle → Kept (pull_of w) q (can_pull w.conn) }
-    ensures push { (e : Tree) (w : Wire) (q : Bool) → IsSound w q → w.out ≡ Available → Kept (push_of e w) q (can_push w.conn) }
-    ensures close { (c : Option Cause) (w : Wire) (q : Bool) → IsSound w q → IsOutOpen w.out → Kept (close_of c w) q (is_at_rest w.conn) }
-    ensures cancel { (w : Wire) (q : Bool) → IsSound w q → IsInOpen w.inp → Kept (cancel_of w) q (is_at_rest w.conn) }
-    ensures deliver { (w : Wire) → IsSound w true → IsSound (after_delivery (delivery_of w) w) (again (delivery_of w)) }
+    ensures pull { (w : JointPorts) (q : Bool) → IsSound w q → w.inp ≡ Idle → Kept (pull_of w) q (can_pull w.conn) }
+    ensures push { (e : Tree) (w : JointPorts) (q : Bool) → IsSound w q → w.out ≡ Available → Kept (push_of e w) q (can_push w.conn) }
+    ensures close { (c : Option Cause) (w : JointPorts) (q : Bool) → IsSound w q → IsOutOpen w.out → Kept (close_of c w) q (is_at_rest w.conn) }
+    ensures cancel { (w : JointPorts) (q : Bool) → IsSound w q → IsInOpen w.inp → Kept (cancel_of w) q (is_at_rest w.conn) }
+    ensures deliver { (w : JointPorts) → IsSound w true → IsSound (after_delivery (delivery_of w) w) (again (delivery_of w)) }
 {}
 
 /// What a stage sees of its ports and the table say the same: a pull or a push that the stage's view allows is dropped only
 /// where the other end has closed its side and that has not come, and what is delivered comes where the view allows it.
 pub fn views_agree_with_the_table()
-    ensures pull { (w : Wire) (q : Bool) → IsSound w q → w.inp ≡ Idle → IsTrue (can_pull w.conn) ⊎ (w.conn.out_closed ≡ true) }
-    ensures push { (w : Wire) (q : Bool) → IsSound w q → w.out ≡ Available → IsTrue (can_push w.conn) ⊎ (w.conn.in_closed ≡ true) }
-    ensures delivery { (w : Wire) → IsSound w true → Heard (delivery_of w) w }
+    ensures pull { (w : JointPorts) (q : Bool) → IsSound w q → w.inp ≡ Idle → IsTrue (can_pull w.conn) ⊎ (w.conn.out_closed ≡ true) }
+    ensures push { (w : JointPorts) (q : Bool) → IsSound w q → w.out ≡ Available → IsTrue (can_push w.conn) ⊎ (w.conn.in_closed ≡ true) }
+    ensures delivery { (w : JointPorts) → IsSound w true → Heard (delivery_of w) w }
 {}

@@ -6,10 +6,10 @@ use Rattle.elem_core.specs.declared.item.Item.{Item}
 use Rattle.elem_core.specs.Prefix.{IsPrefix}
 use Rattle.elem_core.proofs.Prefixes.{prefix_nil, prefix_trans, prefix_whole}
 use Rattle.port_core.specs.View.{View}
-use Rattle.wire_core.specs.Cell.{Cell}
+use Rattle.wire_core.specs.Cell.{WireState}
 use Rattle.stream_model.specs.Outlook.{Outlook, End, unended, ended, failed, Agrees}
 use Rattle.stream_model.specs.Lane.{Carries}
-use Rattle.stream_model.specs.Graph.{Graph, Wire, find_wire, find_source}
+use Rattle.stream_model.specs.Graph.{Graph, Edge, find_wire, find_source}
 use Rattle.stream_model.specs.Graph as graph
 use Rattle.stream_model.specs.Node.{World, nothing}
 use Rattle.stream_model.specs.Composed.{inputs_of, count_from, incoming, received, ports_of, next, composed, IsRanked}
@@ -55,7 +55,7 @@ nothing_passes [] (failed c) h = absurd cc
 nothing_passes (t ∷ l) e h = absurd cc
 
 -- what is read at one of the outputs that are counted
-pub read_there : {X : Type 0} (g : Graph) (f : Cell → X) (cells : ℕ → Cell) (k q n p j : ℕ) → p < n → find_source k (q + p) g.wires ≡ Some j → slice_get (read_outs g f cells k (count_from q n)) p ≡ Some (f (cells j))
+pub read_there : {X : Type 0} (g : Graph) (f : WireState → X) (cells : ℕ → WireState) (k q n p j : ℕ) → p < n → find_source k (q + p) g.wires ≡ Some j → slice_get (read_outs g f cells k (count_from q n)) p ≡ Some (f (cells j))
 read_there g f cells k q zero p j h e = absurd (omega arith)
 read_there g f cells k q (suc n) zero j h e = let first : q + 0 ≡ q = omega arith in let is : find_source k q g.wires ≡ Some j = rw first at e in rw is refl
 read_there g f cells k q (suc n) (suc p) j h e =
@@ -77,7 +77,7 @@ module _ {N : Type 0} (row : N → View → Type 0) (law : N → N → View → 
   pub node_laws : (k : ℕ) (n : graph.Node) → slice_get g.nodes k ≡ Some n → TellsAt k n → RunLaws g w k n (took g a k n) (gave g a k n)
   node_laws k n e tells = let m = keeps.each_node k n e in laws k n m.first m.now (knows g a k n) (took g a k n) (gave g a k n) (made k n m.first e m.first_at) (tells m.first m.now m.first_at m.now_at) (length_ins g got_of a.far k 0 (inputs_of n.kind)) m.law_holds
 
-  pub brings : (u : ℕ) (v : Wire) → slice_get g.wires u ≡ Some v → Brought v.lane (a.near u).wire.sent (a.far u).wire.got
+  pub brings : (u : ℕ) (v : Edge) → slice_get g.wires u ≡ Some v → Brought v.lane (a.near u).wire.sent (a.far u).wire.got
   brings u v e =
       let h = slice_get-below g.wires u v e in
       let n = keeps.near_sound u h in
@@ -90,7 +90,7 @@ module _ {N : Type 0} (row : N → View → Type 0) (law : N → N → View → 
     SentAgrees u = Agrees (sent u) (list_of (a.near u).wire.sent) (standing (a.near u).wire.sent)
 
     -- what came in at an input
-    input_passes : (k : ℕ) (o : Option ℕ) → ((i : ℕ) → o ≡ Some i → (v : Wire) × ((slice_get g.wires i ≡ Some v) × (v.to ≡ k))) → ((u : ℕ) (v : Wire) → slice_get g.wires u ≡ Some v → v.to ≡ k → SentAgrees u)
+    input_passes : (k : ℕ) (o : Option ℕ) → ((i : ℕ) → o ≡ Some i → (v : Edge) × ((slice_get g.wires i ≡ Some v) × (v.to ≡ k))) → ((u : ℕ) (v : Edge) → slice_get g.wires u ≡ Some v → v.to ≡ k → SentAgrees u)
         → MayPass (incoming g w sent o) (got_of (cell_by a.far o))
     input_passes k None f b = nothing_passes
     input_passes k (Some i) f b =
@@ -98,14 +98,14 @@ module _ {N : Type 0} (row : N → View → Type 0) (law : N → N → View → 
         let passes = brought_passes g w (sent i) v.0.lane (a.near i).wire.sent (a.far i).wire.got (b i v.0 v.1.0 v.1.1) (brings i v.0 v.1.0) in
         rw (v.1.0) passes
 
-    inputs_pass : (k : ℕ) (ps : List ℕ) → ((u : ℕ) (v : Wire) → slice_get g.wires u ≡ Some v → v.to ≡ k → SentAgrees u) → AllMayPass (ports_of g w sent k ps) (read_ins g got_of a.far k ps)
+    inputs_pass : (k : ℕ) (ps : List ℕ) → ((u : ℕ) (v : Edge) → slice_get g.wires u ≡ Some v → v.to ≡ k → SentAgrees u) → AllMayPass (ports_of g w sent k ps) (read_ins g got_of a.far k ps)
     inputs_pass k [] b = tt
     inputs_pass k (p ∷ ps) b =
-        (input_passes k (find_wire k p g.wires) (λ i e. let r = found_first (λ (x : Wire). x.to) (λ (x : Wire). x.input) k p g.wires i e in (r.wire, (r.at, r.to))) b, inputs_pass k ps b)
+        (input_passes k (find_wire k p g.wires) (λ i e. let r = found_first (λ (x : Edge). x.to) (λ (x : Edge). x.input) k p g.wires i e in (r.wire, (r.at, r.to))) b, inputs_pass k ps b)
 
     -- what was sent on a wire, where what came to its node agrees
-    pub wire_by : (j : ℕ) (v : Wire) (n : graph.Node) → slice_get g.wires j ≡ Some v → slice_get g.nodes v.from ≡ Some n → TellsAt v.from n
-        → ((u : ℕ) (x : Wire) → slice_get g.wires u ≡ Some x → x.to ≡ v.from → SentAgrees u) → AgreesWith (next g w sent j) (a.near j).wire.sent
+    pub wire_by : (j : ℕ) (v : Edge) (n : graph.Node) → slice_get g.wires j ≡ Some v → slice_get g.nodes v.from ≡ Some n → TellsAt v.from n
+        → ((u : ℕ) (x : Edge) → slice_get g.wires u ≡ Some x → x.to ≡ v.from → SentAgrees u) → AgreesWith (next g w sent j) (a.near j).wire.sent
     wire_by j v n vi ni tells b =
         let source = joined.source j v vi in
         let same : source.0 ≡ n = some_same source.0 n (sym source.1 ∙ ni) in
@@ -116,8 +116,8 @@ module _ {N : Type 0} (row : N → View → Type 0) (law : N → N → View → 
         rw (vi, ni) ((node_laws v.from n ni tells).gives (ports_of g w sent v.from (count_from 0 (inputs_of n.kind))) ins v.output (a.near j).wire.sent at)
 
     -- the same by outlooks with which what was sent agrees
-    pub gives_by : (j : ℕ) (v : Wire) (n : graph.Node) → slice_get g.wires j ≡ Some v → slice_get g.nodes v.from ≡ Some n → TellsAt v.from n
-        → ((u : ℕ) (x : Wire) → slice_get g.wires u ≡ Some x → x.to ≡ v.from → AgreesWith (sent u) (a.near u).wire.sent) → AgreesWith (next g w sent j) (a.near j).wire.sent
+    pub gives_by : (j : ℕ) (v : Edge) (n : graph.Node) → slice_get g.wires j ≡ Some v → slice_get g.nodes v.from ≡ Some n → TellsAt v.from n
+        → ((u : ℕ) (x : Edge) → slice_get g.wires u ≡ Some x → x.to ≡ v.from → AgreesWith (sent u) (a.near u).wire.sent) → AgreesWith (next g w sent j) (a.near j).wire.sent
     gives_by j v n vi ni tells b = wire_by j v n vi ni tells (λ u x ux to. list_agrees (sent u) (a.near u).wire.sent (b u x ux to))
 
   module _ (tells : (k : ℕ) (n : graph.Node) (first now : N) → slice_get g.nodes k ≡ Some n → a.firsts k ≡ Some first → a.nodes k ≡ Some now → Tells w k n first now) (rank : ℕ → ℕ) (ranked : IsRanked g rank) where

@@ -4,7 +4,7 @@ use Rattle.elem_core.specs.Prefix.{IsPrefix}
 use Rattle.elem_core.specs.Tree.{Tree}
 use Rattle.elem_core.specs.declared.item.Item.{Item}
 use Rattle.elem_core.proofs.Prefixes.{prefix_trans, prefix_refl}
-use Rattle.port_core.specs.Wire.{Wire}
+use Rattle.port_core.specs.Wire.{JointPorts}
 use Rattle.port_core.specs.Joint.{IsSound}
 use Rattle.stream_model.specs.Outlook.{End, unended, ended, failed}
 use Rattle.stream_model.specs.Lane.{Carries}
@@ -27,5 +27,5 @@ plain l unended = prefix_refl l
 plain l ended = (refl, refl)
 plain l (failed c) = (refl, prefix_refl l, omega arith)
 
-pub fused_brings : (w : Wire) (q : _) → IsSound w q → Brought None w.sent w.got
+pub fused_brings : (w : JointPorts) (q : _) → IsSound w q → Brought None w.sent w.got
 fused_brings w q h l e is = carries_sent 0 l e l e w.sent (plain l e) (begun l e w.got w.sent is (got_begins w q h))

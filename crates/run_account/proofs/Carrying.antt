@@ -8,7 +8,7 @@ use Rattle.port_core.specs.Joint.{IsSound}
 use Rattle.stream_model.specs.Outlook.{End, unended, ended, failed}
 use Rattle.stream_model.specs.Lane.{Carries}
 use Rattle.stage_law.specs.Held.{told}
-use Rattle.wire_core.specs.Cell.{Cell}
+use Rattle.wire_core.specs.Cell.{WireState}
 use Rattle.wire_core.specs.Counts.{elements}
 use Rattle.run_account.specs.Account.{WireKeeps}
 use Rattle.run_account.specs.Items.{list_of, standing, Brought}
@@ -41,7 +41,7 @@ carries_first s t e l f k (failed d) c b =
     let is : f ≡ failed d = sym (standing_told l f) ∙ all.1 in
     subst (λ (x : List Tree). Carries s t e x (failed d)) same (subst (λ (x : End). Carries s t e l x) is c)
 
-pub lane_brings : (s : ℕ) (near far : Cell) (p q : _) (o : OutEnd) (i : InEnd) → IsSound near.wire p → IsSound far.wire q → OutKeeps near o → InKeeps s far i → Met s o i → Brought (Some s) near.wire.sent far.wire.got
+pub lane_brings : (s : ℕ) (near far : WireState) (p q : _) (o : OutEnd) (i : InEnd) → IsSound near.wire p → IsSound far.wire q → OutKeeps near o → InKeeps s far i → Met s o i → Brought (Some s) near.wire.sent far.wire.got
 lane_brings s near far p q o i sn sf out inn met l e is =
     let first : Begun l e (told inn.pushed_list inn.pushed_end) = begun l e far.wire.got (told inn.pushed_list inn.pushed_end) is (subst (λ (x : List Item). IsPrefix far.wire.got x) inn.pushed_is (got_begins far.wire q sf)) in
     let took : Carries s inn.taken_list inn.taken_end l e = carries_first s inn.taken_list inn.taken_end inn.pushed_list inn.pushed_end l e inn.carries first in
@@ -49,7 +49,7 @@ lane_brings s near far p q o i sn sf out inn met l e is =
     carries_sent s inn.taken_list inn.taken_end l e near.wire.sent took (begun inn.taken_list inn.taken_end i.taken near.wire.sent inn.taken_is part)
 
 -- any wire
-pub wire_brings : (lane : Option ℕ) (near far : Cell) (asked : ℕ) (p q : _) → IsSound near.wire p → IsSound far.wire q → WireKeeps lane near far asked → Brought lane near.wire.sent far.wire.got
+pub wire_brings : (lane : Option ℕ) (near far : WireState) (asked : ℕ) (p q : _) → IsSound near.wire p → IsSound far.wire q → WireKeeps lane near far asked → Brought lane near.wire.sent far.wire.got
 wire_brings None near far asked p q sn sf k = rw k (fused_brings near.wire p sn)
 wire_brings (Some s) near far asked p q sn sf k = lane_brings s near far p q k.out k.inp sn sf k.out_keeps k.in_keeps k.met
 

@@ -6,12 +6,12 @@ use Rattle.elem_core.specs.Tree.{Tree}
 use Rattle.elem_core.specs.declared.item.Item.{Item}
 use Rattle.elem_core.specs.declared.item.Item.TheVariants as item
 use Rattle.elem_core.specs.declared.why.Cause.{Cause}
-use Rattle.port_core.specs.Connection.{Step, quiet, pulled, ready, pushed}
-use Rattle.port_core.specs.Wire.{Wire, end_of}
+use Rattle.port_core.specs.Connection.{ConnStep, quiet, pulled, ready, pushed}
+use Rattle.port_core.specs.Wire.{JointPorts, end_of}
 use Rattle.port_core.specs.Joint.{Joint, idle, asking, asked, moving, ending, closing, leaving, finished, parted, refused, wire_of, Histories, Queues, under_way, IsSound}
 use Rattle.port_core.specs.declared.view.InView.{InView}
 use Rattle.port_core.specs.declared.view.InView.TheVariants.{Pulled, Finished}
-use Rattle.wire_core.specs.Cell.{Cell}
+use Rattle.wire_core.specs.Cell.{WireState}
 use Rattle.wire_core.specs.Counts.{elements}
 use Rattle.wire_core.specs.Marks.{IsMarked}
 use Rattle.wire_core.proofs.Counting.{elements_end}
@@ -42,13 +42,13 @@ end_none : (c : Option Cause) → elements (end_of c ∷ []) ≡ 0
 end_none None = refl
 end_none (Some c) = refl
 
-way_few : (t : Step) → elements (under_way t) ≤ 1
+way_few : (t : ConnStep) → elements (under_way t) ≤ 1
 way_few quiet = omega arith
 way_few pulled = omega arith
 way_few ready = omega arith
 way_few (pushed e) = omega arith
 
-closing_few : (t : Step) (c : Option Cause) → elements (under_way t ++ end_of c ∷ []) ≤ 1
+closing_few : (t : ConnStep) (c : Option Cause) → elements (under_way t ++ end_of c ∷ []) ≤ 1
 closing_few t c = omega (arith, elements_append (under_way t) (end_of c ∷ []), end_none c, way_few t)
 
 -- an input that saw the end got all that was sent
@@ -114,14 +114,14 @@ all_j (finished u c) s g b h m e t = cc
 all_j (parted u c) s g b h m e t = cc
 all_j (refused u c) s g b h m e t = cc
 
-pub all_came : (c : Cell) (q : Bool) → IsMarked c → IsSound c.wire q → c.wire.inp ≡ Pulled → c.asked ≡ true → elements c.wire.sent ≡ elements c.wire.got
+pub all_came : (c : WireState) (q : Bool) → IsMarked c → IsSound c.wire q → c.wire.inp ≡ Pulled → c.asked ≡ true → elements c.wire.sent ≡ elements c.wire.got
 all_came c q m h e t =
-    let marked : IsMarked (cell (wire_of h.joint c.wire.sent c.wire.got) c.asked) = subst (λ (v : Wire). IsMarked (cell v c.asked)) h.is m in
-    all_j h.joint c.wire.sent c.wire.got c.asked h.histories marked (sym (ap (λ (v : Wire). v.inp) h.is) ∙ e) t
+    let marked : IsMarked (cell (wire_of h.joint c.wire.sent c.wire.got) c.asked) = subst (λ (v : JointPorts). IsMarked (cell v c.asked)) h.is m in
+    all_j h.joint c.wire.sent c.wire.got c.asked h.histories marked (sym (ap (λ (v : JointPorts). v.inp) h.is) ∙ e) t
 
-module _ (c : Wire) (q : Bool) (sound : IsSound c q) where
+module _ (c : JointPorts) (q : Bool) (sound : IsSound c q) where
   inp_is : (i : InView) → c.inp ≡ i → (wire_of sound.joint c.sent c.got).inp ≡ i
-  inp_is i e = sym (ap (λ (v : Wire). v.inp) sound.is) ∙ e
+  inp_is i e = sym (ap (λ (v : JointPorts). v.inp) sound.is) ∙ e
 
   pub over_same : c.inp ≡ Finished → elements c.sent ≡ elements c.got
   over_same e = over_at sound.joint c.sent c.got sound.histories (inp_is Finished e)

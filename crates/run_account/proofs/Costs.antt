@@ -2,14 +2,14 @@
 use Rattle.std.proofs.Common.{◌≤◌, ◌<◌, ◌+◌, ◌*◌, ℕ, Bool, true, false, List, [], ◌∷◌, length, ap, ◌∙◌, arith}
 use Rattle.elem_core.specs.Tree.{Tree}
 use Rattle.elem_core.proofs.Prefixes.{prefix_trans, prefix_length}
-use Rattle.port_core.specs.Connection.{Step, quiet, pulled, ready, pushed}
+use Rattle.port_core.specs.Connection.{ConnStep, quiet, pulled, ready, pushed}
 use Rattle.port_core.specs.Joint.{IsSound}
-use Rattle.port_core.specs.Wire.{Wire}
+use Rattle.port_core.specs.Wire.{JointPorts}
 use Rattle.port_core.specs.declared.view.InView.{InView}
 use Rattle.port_core.specs.declared.view.InView.TheVariants.{Idle, Pulled, Finished, Cancelled}
 use Rattle.port_core.specs.declared.view.OutView.{OutView}
 use Rattle.port_core.specs.declared.view.OutView.TheVariants as outlet
-use Rattle.wire_core.specs.Cell.{Cell}
+use Rattle.wire_core.specs.Cell.{WireState}
 use Rattle.wire_core.specs.Counts.{elements, ready_bit, free_bit, extra, spent}
 use Rattle.stream_model.specs.Outlook.{End, unended, ended, failed}
 use Rattle.stage_law.specs.Held.{told}
@@ -18,7 +18,7 @@ use Rattle.run_account.proofs.Histories.{got_begins}
 use Rattle.run_account.specs.Ends.{LaneKeeps}
 use Rattle.run_account.proofs.Carrying.{carries_part}
 
-few_ready : (t : Step) → ready_bit t ≤ 1
+few_ready : (t : ConnStep) → ready_bit t ≤ 1
 few_ready quiet = omega arith
 few_ready pulled = omega arith
 few_ready ready = omega arith
@@ -28,7 +28,7 @@ few_free : (q : Bool) → free_bit q ≤ 1
 few_free true = omega arith
 few_free false = omega arith
 
-few_extra : (y : OutView) (x : InView) (t : Step) (q : Bool) → extra y x t q ≤ 3
+few_extra : (y : OutView) (x : InView) (t : ConnStep) (q : Bool) → extra y x t q ≤ 3
 few_extra outlet.Available Pulled t q = omega arith
 few_extra outlet.Available Cancelled t q = omega arith
 few_extra outlet.Available Idle t q = omega arith
@@ -44,7 +44,7 @@ few_extra outlet.Cancelled Finished t q = omega arith
 few_extra outlet.Unpulled x t q = omega arith
 
 -- the events of a connection
-pub connection_cost : (w : Wire) (q : Bool) → IsSound w q → spent w q ≤ 2 * elements w.sent + 3
+pub connection_cost : (w : JointPorts) (q : Bool) → IsSound w q → spent w q ≤ 2 * elements w.sent + 3
 connection_cost w q h = let few = few_extra w.out w.inp w.conn.step q in let less = no_fewer w q h in omega (arith, few, less)
 
 -- one end at most is no element
@@ -54,7 +54,7 @@ ends_once [] ended = omega arith
 ends_once [] (failed c) = omega arith
 ends_once (t ∷ l) e = let r = ends_once l e in omega (arith, r)
 
-module _ (s : ℕ) (near far : Cell) (p q : Bool) (asked : ℕ) (sn : IsSound near.wire p) (sf : IsSound far.wire q) (k : LaneKeeps s near far asked) where
+module _ (s : ℕ) (near far : WireState) (p q : Bool) (asked : ℕ) (sn : IsSound near.wire p) (sf : IsSound far.wire q) (k : LaneKeeps s near far asked) where
   -- no more was taken than was sent, and no more was pushed on than was taken
   taken_few : elements k.inp.taken ≤ elements near.wire.sent
   taken_few = elements_prefix k.inp.taken near.wire.sent (prefix_trans k.met.taken (prefix_trans k.out_keeps.part (got_begins near.wire p sn)))

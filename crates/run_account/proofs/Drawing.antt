@@ -6,12 +6,12 @@ use Rattle.elem_core.specs.declared.item.Item.{Item}
 use Rattle.port_core.specs.View.{View}
 use Rattle.port_core.specs.declared.view.InView.{InView}
 use Rattle.port_core.specs.declared.view.OutView.{OutView}
-use Rattle.wire_core.specs.Cell.{Cell}
+use Rattle.wire_core.specs.Cell.{WireState}
 use Rattle.wire_core.specs.Counts.{elements}
 use Rattle.wire_core.specs.Marks.{wanted}
 use Rattle.stream_model.specs.Outlook.{Outlook, End}
 use Rattle.stream_model.specs.declared.outcome.WireCount.{WireCount}
-use Rattle.stream_model.specs.Graph.{Graph, Wire, find_wire, find_source}
+use Rattle.stream_model.specs.Graph.{Graph, Edge, find_wire, find_source}
 use Rattle.stream_model.specs.Graph as graph
 use Rattle.stream_model.specs.Node.{World}
 use Rattle.stream_model.specs.Composed.{inputs_of, count_from}
@@ -33,7 +33,7 @@ use Rattle.run_account.proofs.Reading.{found_both, length_ins}
 use Rattle.run_account.proofs.Standing.{in_stands, out_stands, in_rests, out_rests}
 
 -- what is read at one of the inputs that are counted
-pub in_there : {X : Type 0} (g : Graph) (f : Cell → X) (cells : ℕ → Cell) (k q n p j : ℕ) → p < n → find_wire k (q + p) g.wires ≡ Some j → slice_get (read_ins g f cells k (count_from q n)) p ≡ Some (f (cells j))
+pub in_there : {X : Type 0} (g : Graph) (f : WireState → X) (cells : ℕ → WireState) (k q n p j : ℕ) → p < n → find_wire k (q + p) g.wires ≡ Some j → slice_get (read_ins g f cells k (count_from q n)) p ≡ Some (f (cells j))
 in_there g f cells k q zero p j h e = absurd (omega arith)
 in_there g f cells k q (suc n) zero j h e = let first : q + 0 ≡ q = omega arith in let is : find_wire k q g.wires ≡ Some j = rw first at e in rw is refl
 in_there g f cells k q (suc n) (suc p) j h e =
@@ -46,7 +46,7 @@ some_within [] p h = absurd (omega arith)
 some_within (x ∷ l) zero h = omega arith
 some_within (x ∷ l) (suc p) h = omega (arith, some_within l p h)
 
-each_wire : (P : InPort → Type 0) (Q : picture.View → Type 0) → ((i : InPort) → P i → Q i.wire) → (is : List InPort) → EachPort P is → EachWire Q (map (λ (i : InPort). i.wire) is)
+each_wire : (P : InPort → Type 0) (Q : picture.SeenWire → Type 0) → ((i : InPort) → P i → Q i.wire) → (is : List InPort) → EachPort P is → EachWire Q (map (λ (i : InPort). i.wire) is)
 each_wire P Q f [] h = tt
 each_wire P Q f (i ∷ is) h = (f i h.0, each_wire P Q f is h.1)
 
@@ -74,14 +74,14 @@ module _ {N : Type 0} (row : N → View → Type 0) (law : N → N → View → 
   Out k n = out_ports a g outlook k (count_from 0 (outputs_of n.kind))
 
   abbrev pub FoundIn : ℕ → ℕ → Type 0
-  FoundIn k p = (u : ℕ) × ((v : Wire) × ((find_wire k p g.wires ≡ Some u) × (slice_get g.wires u ≡ Some v)))
+  FoundIn k p = (u : ℕ) × ((v : Edge) × ((find_wire k p g.wires ≡ Some u) × (slice_get g.wires u ≡ Some v)))
 
   abbrev pub AllFoundIn : ℕ → List ℕ → Type 0
   AllFoundIn k [] = Unit {0}
   AllFoundIn k (p ∷ ps) = FoundIn k p × AllFoundIn k ps
 
   abbrev pub FoundOut : ℕ → ℕ → Type 0
-  FoundOut k p = (u : ℕ) × ((v : Wire) × ((find_source k p g.wires ≡ Some u) × (slice_get g.wires u ≡ Some v)))
+  FoundOut k p = (u : ℕ) × ((v : Edge) × ((find_source k p g.wires ≡ Some u) × (slice_get g.wires u ≡ Some v)))
 
   abbrev pub AllFoundOut : ℕ → List ℕ → Type 0
   AllFoundOut k [] = Unit {0}
@@ -91,14 +91,14 @@ module _ {N : Type 0} (row : N → View → Type 0) (law : N → N → View → 
   found_ins k n e q zero h = tt
   found_ins k n e q (suc c) h =
       let u = joined.each_input k n q e (omega (arith, h)) in
-      let f = found_both (λ (x : Wire). x.to) (λ (x : Wire). x.input) k q g.wires u.0 u.1 in
+      let f = found_both (λ (x : Edge). x.to) (λ (x : Edge). x.input) k q g.wires u.0 u.1 in
       ((u.0, (f.wire, (u.1, f.at))), found_ins k n e (q + 1) c (omega (arith, h)))
 
   found_outs : (k : ℕ) (n : graph.Node) → slice_get g.nodes k ≡ Some n → (q c : ℕ) → q + c ≡ outputs_of n.kind → AllFoundOut k (count_from q c)
   found_outs k n e q zero h = tt
   found_outs k n e q (suc c) h =
       let u = joined.each_output k n q e (omega (arith, h)) in
-      let f = found_both (λ (x : Wire). x.from) (λ (x : Wire). x.output) k q g.wires u.0 u.1 in
+      let f = found_both (λ (x : Edge). x.from) (λ (x : Edge). x.output) k q g.wires u.0 u.1 in
       ((u.0, (f.wire, (u.1, f.at))), found_outs k n e (q + 1) c (omega (arith, h)))
 
   all_in : (k : ℕ) (n : graph.Node) → slice_get g.nodes k ≡ Some n → AllFoundIn k (count_from 0 (inputs_of n.kind))
@@ -108,7 +108,7 @@ module _ {N : Type 0} (row : N → View → Type 0) (law : N → N → View → 
   all_out k n e = found_outs k n e 0 (outputs_of n.kind) (omega arith)
 
   -- what the input of a wire got is a list and an end, by the law of its node
-  heard : (u : ℕ) (v : Wire) → slice_get g.wires u ≡ Some v → (l : List Tree) × ((e : End) × ((a.far u).wire.got ≡ told l e))
+  heard : (u : ℕ) (v : Edge) → slice_get g.wires u ≡ Some v → (l : List Tree) × ((e : End) × ((a.far u).wire.got ≡ told l e))
   heard u v e =
       let t = joined.target u v e in
       let none : 0 + v.input ≡ v.input = omega arith in
@@ -152,7 +152,7 @@ module _ {N : Type 0} (row : N → View → Type 0) (law : N → N → View → 
     kind = pictures k n kept.first kept.now (In k n) (Out k n) (made k n kept.first e kept.first_at) (tells k kept.now kept.now_at) (subst (λ (v : View). row kept.now v) views kept.row_holds) (rw (views, tooks, gaves) at kept.law_holds)
 
   module _ (passes : AllPass a g outlook) where
-    port_in : (u : ℕ) (v : Wire) → slice_get g.wires u ≡ Some v → InStands (in_port a g outlook u v)
+    port_in : (u : ℕ) (v : Edge) → slice_get g.wires u ≡ Some v → InStands (in_port a g outlook u v)
     port_in u v e =
         let h = slice_get-below g.wires u v e in
         let sn = keeps.near_sound u h in
@@ -161,7 +161,7 @@ module _ {N : Type 0} (row : N → View → Type 0) (law : N → N → View → 
         let t = heard u v e in
         in_stands u (a.near u) (a.far u) (a.asked u) (outlook u).list sn.0 sf.0 sn.1 sf.1 p.list p.end p.is p.part t.0 t.1.0 t.1.1 v.lane (keeps.wires u v e)
 
-    port_out : (u : ℕ) (v : Wire) → slice_get g.wires u ≡ Some v → OutStands (out_port a g outlook u v)
+    port_out : (u : ℕ) (v : Edge) → slice_get g.wires u ≡ Some v → OutStands (out_port a g outlook u v)
     port_out u v e = out_stands u (a.near u) (a.far u) (a.asked u) (outlook u).list v.lane (keeps.wires u v e)
 
     ins_stand : (k : ℕ) (n : graph.Node) → slice_get g.nodes k ≡ Some n → EachPort InStands (In k n)
@@ -198,10 +198,10 @@ module _ {N : Type 0} (row : N → View → Type 0) (law : N → N → View → 
   -- ---- where no event is left
 
   module _ (still : IsStill g a) where
-    rest_in : (u : ℕ) (v : Wire) → slice_get g.wires u ≡ Some v → InRests (in_port a g outlook u v)
+    rest_in : (u : ℕ) (v : Edge) → slice_get g.wires u ≡ Some v → InRests (in_port a g outlook u v)
     rest_in u v e = let h = slice_get-below g.wires u v e in in_rests u (a.near u) (a.far u) (a.asked u) (outlook u).list (still.near u h) (still.far u h) (keeps.near_marked u h) (keeps.far_marked u h) v.lane (keeps.wires u v e) (still.quiet u v e)
 
-    rest_out : (u : ℕ) (v : Wire) → slice_get g.wires u ≡ Some v → OutRests (out_port a g outlook u v)
+    rest_out : (u : ℕ) (v : Edge) → slice_get g.wires u ≡ Some v → OutRests (out_port a g outlook u v)
     rest_out u v e = let h = slice_get-below g.wires u v e in out_rests u (a.near u) (a.far u) (a.asked u) (outlook u).list (still.near u h) (still.far u h) (keeps.near_marked u h) (keeps.far_marked u h) v.lane (still.quiet u v e)
 
     ins_rest : (k : ℕ) (n : graph.Node) → slice_get g.nodes k ≡ Some n → EachPort InRests (In k n)

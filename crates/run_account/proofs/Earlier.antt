@@ -5,14 +5,14 @@ use Rattle.elem_core.specs.Prefix.{IsPrefix}
 use Rattle.elem_core.specs.declared.item.Item.{Item}
 use Rattle.elem_core.specs.declared.item.Item.TheVariants as item
 use Rattle.port_core.specs.Ring.{holds}
-use Rattle.port_core.specs.Wire.{Wire, end_of}
+use Rattle.port_core.specs.Wire.{JointPorts, end_of}
 use Rattle.port_core.specs.Connection.{quiet, pulled, ready, pushed}
 use Rattle.port_core.specs.Joint.{Joint, idle, asking, asked, moving, ending, closing, leaving, finished, parted, refused, wire_of, Histories, IsSound}
 use Rattle.port_core.specs.View.{View, in_at, out_at}
 use Rattle.port_core.specs.declared.view.InView.{InView}
 use Rattle.port_core.specs.declared.view.InView.TheVariants.{Cancelled}
 use Rattle.port_core.specs.declared.view.OutView.TheVariants.{Available, Closed}
-use Rattle.wire_core.specs.Cell.{Cell}
+use Rattle.wire_core.specs.Cell.{WireState}
 use Rattle.wire_core.specs.Counts.{elements}
 use Rattle.wire_core.specs.Marks.{IsMarked, wanted, Grown}
 use Rattle.wire_core.proofs.Counting.{elements_end, elements_elem}
@@ -69,16 +69,16 @@ stood_j (finished t c) s g b h m = tt
 stood_j (parted t c) s g b h m = tt
 stood_j (refused t c) s g b h m = tt
 
-pub stood_cell : (c : Cell) (q : Bool) → IsSound c.wire q → IsMarked c → Stood c.wire.inp (wanted c) (elements c.wire.got)
+pub stood_cell : (c : WireState) (q : Bool) → IsSound c.wire q → IsMarked c → Stood c.wire.inp (wanted c) (elements c.wire.got)
 stood_cell c q h m =
-    let marked : IsMarked (cell (wire_of h.joint c.wire.sent c.wire.got) c.asked) = subst (λ (v : Wire). IsMarked (cell v c.asked)) h.is m in
-    subst (λ (x : InView). Stood x (wanted c) (elements c.wire.got)) (sym (ap (λ (v : Wire). v.inp) h.is)) (stood_j h.joint c.wire.sent c.wire.got c.asked h.histories marked)
+    let marked : IsMarked (cell (wire_of h.joint c.wire.sent c.wire.got) c.asked) = subst (λ (v : JointPorts). IsMarked (cell v c.asked)) h.is m in
+    subst (λ (x : InView). Stood x (wanted c) (elements c.wire.got)) (sym (ap (λ (v : JointPorts). v.inp) h.is)) (stood_j h.joint c.wire.sent c.wire.got c.asked h.histories marked)
 
-wanted_asked : (c : Cell) → c.asked ≡ true → wanted c ≡ elements c.wire.sent + 1
+wanted_asked : (c : WireState) → c.asked ≡ true → wanted c ≡ elements c.wire.sent + 1
 wanted_asked c e = rw e refl
 
 -- histories that have grown
-pub all_begin : (f : Cell → List Item) (old new : List Cell) → ((q : ℕ) → q < length new → IsPrefix (f (get_or old q no_wire)) (f (get_or new q no_wire)))
+pub all_begin : (f : WireState → List Item) (old new : List WireState) → ((q : ℕ) → q < length new → IsPrefix (f (get_or old q no_wire)) (f (get_or new q no_wire)))
     → (ws : List ℕ) → ((i q : ℕ) → slice_get ws i ≡ Some q → q < length new) → AllBegin (read_all f old ws) (read_all f new ws)
 all_begin f old new grown [] within = tt
 all_begin f old new grown (q ∷ ws) within = (grown q (within 0 q refl), all_begin f old new grown ws (λ i u e. within (suc i) u e))
@@ -90,23 +90,23 @@ shut_flags false true true d f g h = refl
 shut_flags false true false d f g h = rw (g refl) refl
 shut_flags false false c d f g h = cc
 
-shut_stays : (c d : Cell) → Grown c d → shut_of c ≡ true → shut_of d ≡ true
+shut_stays : (c d : WireState) → Grown c d → shut_of c ≡ true → shut_of d ≡ true
 shut_stays c d grown h = shut_flags c.wire.conn.in_closed c.wire.conn.out_closed d.wire.conn.in_closed d.wire.conn.out_closed grown.in_closed grown.out_closed h
 
-shut_grown : (old new : List Cell) → ((q : ℕ) → q < length new → Grown (get_or old q no_wire) (get_or new q no_wire)) → (ws : List ℕ) → ((i q : ℕ) → slice_get ws i ≡ Some q → q < length new) → (i : ℕ)
+shut_grown : (old new : List WireState) → ((q : ℕ) → q < length new → Grown (get_or old q no_wire) (get_or new q no_wire)) → (ws : List ℕ) → ((i q : ℕ) → slice_get ws i ≡ Some q → q < length new) → (i : ℕ)
     → get_or (read_all shut_of old ws) i true ≡ true → get_or (read_all shut_of new ws) i true ≡ true
 shut_grown old new grown [] within i h = h
 shut_grown old new grown (w ∷ ws) within zero h = shut_stays (get_or old w no_wire) (get_or new w no_wire) (grown w (within 0 w refl)) h
 shut_grown old new grown (w ∷ ws) within (suc i) h = shut_grown old new grown ws (λ k q e. within (suc k) q e) i h
 
 -- one that the node at its output knows as closed is
-shut_there : (wires : List Cell) → ((q : ℕ) → q < length wires → (b : Bool) × IsSound (get_or wires q no_wire).wire b) → (ws : List ℕ) → ((i q : ℕ) → slice_get ws i ≡ Some q → q < length wires) → (i : ℕ)
+shut_there : (wires : List WireState) → ((q : ℕ) → q < length wires → (b : Bool) × IsSound (get_or wires q no_wire).wire b) → (ws : List ℕ) → ((i q : ℕ) → slice_get ws i ≡ Some q → q < length wires) → (i : ℕ)
     → OutClosed (get_or (read_all out_of wires ws) i Closed) → get_or (read_all shut_of wires ws) i true ≡ true
 shut_there wires sound [] within i h = refl
 shut_there wires sound (w ∷ ws) within zero h = let s = sound w (within 0 w refl) in out_shut (get_or wires w no_wire).wire s.0 s.1 h
 shut_there wires sound (w ∷ ws) within (suc i) h = shut_there wires sound ws (λ k q e. within (suc k) q e) i h
 
-out_asked_there : {X : Type 0} (f : Cell → X) (wires : List Cell) (ws : List ℕ) (j : ℕ) → out_at (record { ins = []; outs = read_all out_of wires ws }) j ≡ Available → (r : ℕ) × (slice_get ws j ≡ Some r)
+out_asked_there : {X : Type 0} (f : WireState → X) (wires : List WireState) (ws : List ℕ) (j : ℕ) → out_at (record { ins = []; outs = read_all out_of wires ws }) j ≡ Available → (r : ℕ) × (slice_get ws j ≡ Some r)
 out_asked_there f wires [] j e = absurd cc
 out_asked_there f wires (w ∷ ws) zero e = (w, refl)
 out_asked_there f wires (w ∷ ws) (suc j) e = out_asked_there f wires ws j e
@@ -170,7 +170,7 @@ module _ {N : Type 0} (row : N → View → Type 0) (law : N → N → View → 
       first_then = ap (λ (z : List N). slice_get z j) (sym on.firsts) ∙ first_at
 
     -- one wire, and none
-    one_wire : (old : List Cell) (ws : List ℕ) (p q : ℕ) → slice_get ws p ≡ Some q → length (read_all got_of new.wires ws) ≡ 1 → (ws ≡ q ∷ []) × (read_all got_of old ws ≡ read_all got_of new.wires ws → (wire_at new q).wire.got ≡ got_of (get_or old q no_wire))
+    one_wire : (old : List WireState) (ws : List ℕ) (p q : ℕ) → slice_get ws p ≡ Some q → length (read_all got_of new.wires ws) ≡ 1 → (ws ≡ q ∷ []) × (read_all got_of old ws ≡ read_all got_of new.wires ws → (wire_at new q).wire.got ≡ got_of (get_or old q no_wire))
     one_wire old [] p q e one = absurd (omega (arith, one))
     one_wire old (w ∷ []) zero q e one = let same : w ≡ q = cc in (ap (λ (x : ℕ). x ∷ []) same, λ h. let here : got_of (get_or old w no_wire) ≡ got_of (get_or new.wires w no_wire) = cc in rw (sym same) (sym here))
     one_wire old (w ∷ []) (suc p) q e one = cc
@@ -218,18 +218,18 @@ module _ {N : Type 0} (row : N → View → Type 0) (law : N → N → View → 
 
   -- ---- the last ask of all
 
-  none_there : {X : Type 0} (f : Cell → X) (wires : List Cell) (ws : List ℕ) (i : ℕ) (d : X) → slice_get ws i ≡ None → get_or (read_all f wires ws) i d ≡ d
+  none_there : {X : Type 0} (f : WireState → X) (wires : List WireState) (ws : List ℕ) (i : ℕ) (d : X) → slice_get ws i ≡ None → get_or (read_all f wires ws) i d ≡ d
   none_there f wires [] i d e = refl
   none_there f wires (w ∷ ws) zero d e = cc
   none_there f wires (w ∷ ws) (suc i) d e = none_there f wires ws i d e
 
-  some_there : {X : Type 0} (f : Cell → X) (wires : List Cell) (ws : List ℕ) (i : ℕ) → i < length (read_all f wires ws) → (q : ℕ) × (slice_get ws i ≡ Some q)
+  some_there : {X : Type 0} (f : WireState → X) (wires : List WireState) (ws : List ℕ) (i : ℕ) → i < length (read_all f wires ws) → (q : ℕ) × (slice_get ws i ≡ Some q)
   some_there f wires [] i h = absurd (omega arith)
   some_there f wires (w ∷ ws) zero h = (w, refl)
   some_there f wires (w ∷ ws) (suc i) h = some_there f wires ws i (omega (arith, h))
 
   -- what was wanted of an output is wanted of it, and more
-  want_grown : (old new : List Cell) → ((q : ℕ) → q < length new → wanted (get_or old q no_wire) ≤ wanted (get_or new q no_wire)) → (ws : List ℕ) → ((i q : ℕ) → slice_get ws i ≡ Some q → q < length new) → (i : ℕ)
+  want_grown : (old new : List WireState) → ((q : ℕ) → q < length new → wanted (get_or old q no_wire) ≤ wanted (get_or new q no_wire)) → (ws : List ℕ) → ((i q : ℕ) → slice_get ws i ≡ Some q → q < length new) → (i : ℕ)
       → get_or (read_all wanted old ws) i 0 ≤ get_or (read_all wanted new ws) i 0
   want_grown old new more [] within i = omega arith
   want_grown old new more (w ∷ ws) within zero = more w (within 0 w refl)

@@ -7,9 +7,9 @@ use Rattle.port_core.specs.Ring.{holds}
 use Rattle.port_core.specs.View.{View}
 use Rattle.port_core.specs.declared.view.InView.{InView}
 use Rattle.port_core.specs.declared.view.OutView.{OutView}
-use Rattle.wire_core.specs.Cell.{Cell}
+use Rattle.wire_core.specs.Cell.{WireState}
 use Rattle.wire_core.specs.Marks.{wanted}
-use Rattle.stream_model.specs.Graph.{Graph, Wire, find_wire, find_source}
+use Rattle.stream_model.specs.Graph.{Graph, Edge, find_wire, find_source}
 use Rattle.stream_model.specs.Graph as graph
 use Rattle.wire_core.specs.Reading.{inp_of, out_of, got_of, sent_of}
 use Rattle.fused_net.specs.Net.{Net, read_all, end_at, ports_at, wire_at, view_of}
@@ -46,7 +46,7 @@ module _ {N : Type 0} (row : N → View → Type 0) (law : N → N → View → 
   abbrev seat : ℕ → ℕ
   seat k = (s.node k).at
 
-  cells : ℕ → List Cell
+  cells : ℕ → List WireState
   cells b = (nets b).wires
 
   knows_same : (k : ℕ) (n : graph.Node) → slice_get g.nodes k ≡ Some n → view_of (nets (home k)) (seat k) ≡ knows g all k n
@@ -98,7 +98,7 @@ module _ {N : Type 0} (row : N → View → Type 0) (law : N → N → View → 
       }
 
   -- each wire keeps what it does
-  wires_keep : (u : ℕ) (v : Wire) → slice_get g.wires u ≡ Some v → WireKeeps v.lane (all.near u) (all.far u) (all.asked u)
+  wires_keep : (u : ℕ) (v : Edge) → slice_get g.wires u ≡ Some v → WireKeeps v.lane (all.near u) (all.far u) (all.asked u)
   wires_keep u v e = by v.lane refl
     where
       by : (lane : Option ℕ) → v.lane ≡ lane → WireKeeps lane (all.near u) (all.far u) (all.asked u)
@@ -126,6 +126,6 @@ module _ {N : Type 0} (row : N → View → Type 0) (law : N → N → View → 
     quiet = λ u v e. by u v e v.lane refl;
   }
     where
-      by : (u : ℕ) (v : Wire) → slice_get g.wires u ≡ Some v → (lane : Option ℕ) → v.lane ≡ lane → WireQuiet lane ((joined nets s asked).near u) ((joined nets s asked).far u) (asked u)
+      by : (u : ℕ) (v : Edge) → slice_get g.wires u ≡ Some v → (lane : Option ℕ) → v.lane ≡ lane → WireQuiet lane ((joined nets s asked).near u) ((joined nets s asked).far u) (asked u)
       by u v e None is = tt
       by u v e (Some size) is = rest u v size e is

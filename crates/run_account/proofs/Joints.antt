@@ -1,7 +1,7 @@
 -- What one end of a connection knows, by what the other knows of it.
 use Rattle.std.proofs.Common.{◌≡◌, Bool, true, false, List, refl, sym, ap, subst, ◌∙◌}
 use Rattle.elem_core.specs.declared.item.Item.{Item}
-use Rattle.port_core.specs.Wire.{Wire}
+use Rattle.port_core.specs.Wire.{JointPorts}
 use Rattle.port_core.specs.Joint.{Joint, idle, asking, asked, moving, ending, closing, leaving, finished, parted, refused, wire_of, Queues, IsSound}
 use Rattle.port_core.specs.declared.view.InView.TheVariants.{Idle, Pulled, Finished, Cancelled}
 use Rattle.port_core.specs.declared.view.OutView.TheVariants.{Unpulled, Available, Closed}
@@ -59,16 +59,16 @@ inp_idle_j (finished t c) s g q e = cc
 inp_idle_j (parted t c) s g q e = cc
 inp_idle_j (refused t c) s g q e = cc
 
-module _ (w : Wire) (q : Bool) (h : IsSound w q) where
+module _ (w : JointPorts) (q : Bool) (h : IsSound w q) where
   pub over_shut : w.inp ≡ Finished → w.out ≡ Closed
-  over_shut e = ap (λ (v : Wire). v.out) h.is ∙ out_shut_j h.joint w.sent w.got (sym (ap (λ (v : Wire). v.inp) h.is) ∙ e)
+  over_shut e = ap (λ (v : JointPorts). v.out) h.is ∙ out_shut_j h.joint w.sent w.got (sym (ap (λ (v : JointPorts). v.inp) h.is) ∙ e)
 
-module _ (w : Wire) (h : IsSound w false) where
+module _ (w : JointPorts) (h : IsSound w false) where
   pub waiting_asked : w.inp ≡ Pulled → w.out ≡ Available
-  waiting_asked e = ap (λ (v : Wire). v.out) h.is ∙ out_asked_j h.joint w.sent w.got h.queues (sym (ap (λ (v : Wire). v.inp) h.is) ∙ e)
+  waiting_asked e = ap (λ (v : JointPorts). v.out) h.is ∙ out_asked_j h.joint w.sent w.got h.queues (sym (ap (λ (v : JointPorts). v.inp) h.is) ∙ e)
 
   pub left_closed : w.inp ≡ Cancelled → OutClosed w.out
-  left_closed e = subst OutClosed (sym (ap (λ (v : Wire). v.out) h.is)) (out_left_j h.joint w.sent w.got h.queues (sym (ap (λ (v : Wire). v.inp) h.is) ∙ e))
+  left_closed e = subst OutClosed (sym (ap (λ (v : JointPorts). v.out) h.is)) (out_left_j h.joint w.sent w.got h.queues (sym (ap (λ (v : JointPorts). v.inp) h.is) ∙ e))
 
   pub unasked_idle : w.out ≡ Unpulled → w.inp ≡ Idle
-  unasked_idle e = ap (λ (v : Wire). v.inp) h.is ∙ inp_idle_j h.joint w.sent w.got h.queues (sym (ap (λ (v : Wire). v.out) h.is) ∙ e)
+  unasked_idle e = ap (λ (v : JointPorts). v.inp) h.is ∙ inp_idle_j h.joint w.sent w.got h.queues (sym (ap (λ (v : JointPorts). v.out) h.is) ∙ e)

@@ -3,7 +3,7 @@ use Rattle.std.proofs.Common.{◌≡◌, inl, ℕ, Bool, false, List, Some, refl
 use Rattle.elem_core.specs.Prefix.{IsPrefix}
 use Rattle.elem_core.specs.Tree.{Tree}
 use Rattle.port_core.specs.Joint.{IsSound}
-use Rattle.wire_core.specs.Cell.{Cell}
+use Rattle.wire_core.specs.Cell.{WireState}
 use Rattle.wire_core.specs.Marks.{IsMarked}
 use Rattle.stream_model.specs.Outlook.{End}
 use Rattle.stream_model.specs.Lane.{Carries}
@@ -17,10 +17,10 @@ use Rattle.run_account.specs.Wires.{far_port, near_port}
 use Rattle.run_account.proofs.Carrying.{lane_brings, came_few, within, parts, few, all_came}
 use Rattle.run_account.proofs.Marks.{lane_reach, lane_wants, lane_least, lane_over, lane_waits, lane_in_shut, lane_asked, lane_unasked}
 
-pub brings : (s : ℕ) (near far : Cell) (p q : Bool) (asked : ℕ) → IsSound near.wire p → IsSound far.wire q → LaneKeeps s near far asked → Brought (Some s) near.wire.sent far.wire.got
+pub brings : (s : ℕ) (near far : WireState) (p q : Bool) (asked : ℕ) → IsSound near.wire p → IsSound far.wire q → LaneKeeps s near far asked → Brought (Some s) near.wire.sent far.wire.got
 brings s near far p q asked sn sf k = lane_brings s near far p q k.out k.inp sn sf k.out_keeps k.in_keeps k.met
 
-module _ (u s : ℕ) (near far : Cell) (p q : Bool) (asked : ℕ) (list m l : List Tree) (f e : End) (sn : IsSound near.wire p) (sf : IsSound far.wire q)
+module _ (u s : ℕ) (near far : WireState) (p q : Bool) (asked : ℕ) (list m l : List Tree) (f e : End) (sn : IsSound near.wire p) (sf : IsSound far.wire q)
     (sent_told : near.wire.sent ≡ told m f) (part : IsPrefix m list) (got_told : far.wire.got ≡ told l e) (k : LaneKeeps s near far asked) where
   brought : Carries s (list_of near.wire.sent) (standing near.wire.sent) l e
   brought = brings s near far p q asked sn sf k l e got_told
@@ -37,7 +37,7 @@ module _ (u s : ℕ) (near far : Cell) (p q : Bool) (asked : ℕ) (list m l : Li
     reach = rw k.asked_is at (lane_reach s near far k.out k.inp k.out_keeps k.in_keeps k.met);
   }
 
-module _ (u s : ℕ) (near far : Cell) (asked : ℕ) (list : List Tree) where
+module _ (u s : ℕ) (near far : WireState) (asked : ℕ) (list : List Tree) where
   pub stands_out : LaneKeeps s near far asked → OutStands (near_port u s near far asked list)
   stands_out k = record { count = refl; wants = rw k.asked_is at (lane_wants s near far k.out k.inp k.out_keeps k.in_keeps k.met) }
 

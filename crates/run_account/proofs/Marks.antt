@@ -11,7 +11,7 @@ use Rattle.port_core.specs.declared.view.InView.{InView}
 use Rattle.port_core.specs.declared.view.InView.TheVariants.{Idle, Pulled, Finished, Cancelled}
 use Rattle.port_core.specs.declared.view.OutView.{OutView}
 use Rattle.port_core.specs.declared.view.OutView.TheVariants as outlet
-use Rattle.wire_core.specs.Cell.{Cell}
+use Rattle.wire_core.specs.Cell.{WireState}
 use Rattle.wire_core.specs.Counts.{elements}
 use Rattle.wire_core.specs.Marks.{IsMarked, wanted}
 use Rattle.stream_model.specs.Outlook.{End, unended, ended, failed}
@@ -66,14 +66,14 @@ carries_end s t e l (failed d) c n = c.0
 
 -- ---- counts
 
-least_wanted : (c : Cell) → elements c.wire.sent ≤ wanted c
+least_wanted : (c : WireState) → elements c.wire.sent ≤ wanted c
 least_wanted c = by c.asked (elements c.wire.sent)
   where
     by : (b : Bool) (n : ℕ) → n ≤ (if b then n + 1 else n)
     by true n = omega arith
     by false n = omega arith
 
-more_wanted : (c : Cell) → c.asked ≡ true → elements c.wire.sent + 1 ≤ wanted c
+more_wanted : (c : WireState) → c.asked ≡ true → elements c.wire.sent + 1 ≤ wanted c
 more_wanted c e = rw e (omega arith)
 
 below : (m n : ℕ) → m < n → nat_le (suc m) n ≡ true
@@ -82,7 +82,7 @@ below m n h = grind (arith, nat_tests)
 not_below : (m n : ℕ) → n ≤ m → nat_le (suc m) n ≡ false
 not_below m n h = grind (arith, nat_tests)
 
-module _ (s : ℕ) (near far : Cell) (o : OutEnd) (i : InEnd) (out : OutKeeps near o) (inn : InKeeps s far i) (met : Met s o i) where
+module _ (s : ℕ) (near far : WireState) (o : OutEnd) (i : InEnd) (out : OutKeeps near o) (inn : InKeeps s far i) (met : Met s o i) where
   -- the mark of the lane: its input end asked for more than was pushed at its output
   abbrev mark : Bool
   mark = nat_le (suc (elements near.wire.sent)) i.asked

@@ -4,8 +4,8 @@ use Rattle.std.proofs.Common.{◌≡◌, ℕ, ◌<◌, ◌≤◌, List, [], ◌�
 use Rattle.elem_core.specs.declared.item.Item.{Item}
 use Rattle.elem_core.specs.Prefix.{IsPrefix}
 use Rattle.port_core.specs.View.{View}
-use Rattle.wire_core.specs.Cell.{Cell}
-use Rattle.stream_model.specs.Graph.{Graph, Wire, find_wire}
+use Rattle.wire_core.specs.Cell.{WireState}
+use Rattle.stream_model.specs.Graph.{Graph, Edge, find_wire}
 use Rattle.stream_model.specs.Graph as graph
 use Rattle.stream_model.specs.Composed.{inputs_of, count_from}
 use Rattle.stream_picture.specs.Joined.{IsJoined}
@@ -30,14 +30,14 @@ below_one : (p n : ℕ) → p < n → n ≡ 1 → p ≡ 0
 below_one p n h e = omega (arith, h, e)
 
 -- the one input of a node is at the wire that goes there
-pub one_input : (g : Graph) → IsJoined g → (k : ℕ) (n : graph.Node) (u : ℕ) (v : Wire) → slice_get g.nodes k ≡ Some n → inputs_of n.kind ≡ 1 → slice_get g.wires u ≡ Some v → v.to ≡ k → find_wire k 0 g.wires ≡ Some u
+pub one_input : (g : Graph) → IsJoined g → (k : ℕ) (n : graph.Node) (u : ℕ) (v : Edge) → slice_get g.nodes k ≡ Some n → inputs_of n.kind ≡ 1 → slice_get g.wires u ≡ Some v → v.to ≡ k → find_wire k 0 g.wires ≡ Some u
 one_input g joined k n u v ni one ui to =
     let t = joined.target u v ui in
     let same : t.0 ≡ n = some_same t.0 n (sym t.1 ∙ (subst (λ (j : ℕ). slice_get g.nodes j ≡ Some n) (sym to) ni)) in
     let first : v.input ≡ 0 = below_one v.input (inputs_of t.0.kind) t.2 (rw same one) in
     rw (to, first) at t.3
 
-pub read_one : {X : Type 0} (g : Graph) (f : Cell → X) (cells : ℕ → Cell) (k n u : ℕ) → n ≡ 1 → find_wire k 0 g.wires ≡ Some u → read_ins g f cells k (count_from 0 n) ≡ f (cells u) ∷ []
+pub read_one : {X : Type 0} (g : Graph) (f : WireState → X) (cells : ℕ → WireState) (k n u : ℕ) → n ≡ 1 → find_wire k 0 g.wires ≡ Some u → read_ins g f cells k (count_from 0 n) ≡ f (cells u) ∷ []
 read_one g f cells k n u one found = rw one (rw found refl)
 
 -- one history that begins another

@@ -3,7 +3,7 @@ use Rattle.std.proofs.Common.{◌≡◌, inr, ℕ, Bool, false, List, Option, No
 use Rattle.elem_core.specs.Prefix.{IsPrefix}
 use Rattle.elem_core.specs.Tree.{Tree}
 use Rattle.port_core.specs.Joint.{IsSound}
-use Rattle.wire_core.specs.Cell.{Cell}
+use Rattle.wire_core.specs.Cell.{WireState}
 use Rattle.wire_core.specs.Counts.{elements}
 use Rattle.wire_core.specs.Marks.{IsMarked, wanted}
 use Rattle.stream_model.specs.Outlook.{End}
@@ -18,7 +18,7 @@ use Rattle.run_account.proofs.Lanes.{stands_in, stands_out, rests_in, rests_out}
 use Rattle.run_account.proofs.Coming.{over_same}
 use Rattle.run_account.proofs.Resting.{waits, idles, is_asked, is_unasked, all_idle, in_shut, out_shut}
 
-module _ (u : ℕ) (lane : Option ℕ) (near far : Cell) (asked : ℕ) (list : List Tree) where
+module _ (u : ℕ) (lane : Option ℕ) (near far : WireState) (asked : ℕ) (list : List Tree) where
   -- the port of the node at the input of the wire, and of the one at its output
   abbrev pub in_of : InPort
   in_of = let c = wire_count lane near asked in record { view = far.wire.inp; got = far.wire.got; want = wanted far; wire = record { wire = u; sent = c.sent; asked = c.asked; shut = c.shut; lane = lane; list = list } }
@@ -26,7 +26,7 @@ module _ (u : ℕ) (lane : Option ℕ) (near far : Cell) (asked : ℕ) (list : L
   abbrev pub out_of : OutPort
   out_of = let c = wire_count lane near asked in record { view = near.wire.out; sent = near.wire.sent; want = wanted near; wire = record { wire = u; sent = c.sent; asked = c.asked; shut = c.shut; lane = lane; list = list } }
 
-module _ (u : ℕ) (near far : Cell) (asked : ℕ) (list : List Tree) (p q : Bool) (sn : IsSound near.wire p) (sf : IsSound far.wire q)
+module _ (u : ℕ) (near far : WireState) (asked : ℕ) (list : List Tree) (p q : Bool) (sn : IsSound near.wire p) (sf : IsSound far.wire q)
     (m : List Tree) (f : End) (sent_told : near.wire.sent ≡ told m f) (part : IsPrefix m list) (l : List Tree) (e : End) (got_told : far.wire.got ≡ told l e) where
   pub in_stands : (lane : Option ℕ) → WireKeeps lane near far asked → InStands (in_of u lane near far asked list)
   in_stands None k =
@@ -43,11 +43,11 @@ module _ (u : ℕ) (near far : Cell) (asked : ℕ) (list : List Tree) (p q : Boo
       }
   in_stands (Some s) k = stands_in u s near far p q asked list m l f e sn sf sent_told part got_told k
 
-pub out_stands : (u : ℕ) (near far : Cell) (asked : ℕ) (list : List Tree) (lane : Option ℕ) → WireKeeps lane near far asked → OutStands (out_of u lane near far asked list)
+pub out_stands : (u : ℕ) (near far : WireState) (asked : ℕ) (list : List Tree) (lane : Option ℕ) → WireKeeps lane near far asked → OutStands (out_of u lane near far asked list)
 out_stands u near far asked list None k = record { count = refl; wants = omega arith }
 out_stands u near far asked list (Some s) k = stands_out u s near far asked list k
 
-module _ (u : ℕ) (near far : Cell) (asked : ℕ) (list : List Tree) (sn : IsSound near.wire false) (sf : IsSound far.wire false) (mn : IsMarked near) (mf : IsMarked far) where
+module _ (u : ℕ) (near far : WireState) (asked : ℕ) (list : List Tree) (sn : IsSound near.wire false) (sf : IsSound far.wire false) (mn : IsMarked near) (mf : IsMarked far) where
   pub in_rests : (lane : Option ℕ) → WireKeeps lane near far asked → WireQuiet lane near far asked → InRests (in_of u lane near far asked list)
   in_rests None k quiet = record {
     waits = λ e. let w = waits far mf sf e in rw (sym k) ((w.0.mark, w.0.still), ap elements w.1);

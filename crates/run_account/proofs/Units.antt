@@ -8,7 +8,7 @@ use Rattle.port_core.specs.Ring.{holds}
 use Rattle.port_core.specs.View.{View}
 use Rattle.wire_core.specs.Counts.{elements, spent}
 use Rattle.stream_model.specs.declared.outcome.WireCount.{WireCount}
-use Rattle.stream_model.specs.Graph.{Graph, Wire}
+use Rattle.stream_model.specs.Graph.{Graph, Edge}
 use Rattle.stream_picture.specs.Shape.{units_of, need_from, sent_at, count_needed}
 use Rattle.fused_net.specs.Costs.{sum_below, total}
 use Rattle.fused_net.specs.Laws.{Settled}
@@ -155,12 +155,12 @@ module _ (islands wires : ℕ) (size : ℕ → ℕ) (near far : ℕ → Place) (
 
 -- ---- the count of the wires
 
-lane_there : (ws : List Wire) (u : ℕ) (v : Wire) → slice_get ws u ≡ Some v → lane_at ws u ≡ v.lane
+lane_there : (ws : List Edge) (u : ℕ) (v : Edge) → slice_get ws u ≡ Some v → lane_at ws u ≡ v.lane
 lane_there [] u v e = cc
 lane_there (w ∷ ws) zero v e = cc
 lane_there (w ∷ ws) (suc u) v e = lane_there ws u v e
 
-need_sum : (vs : List Wire) (i : ℕ) (f : ℕ → ℕ) → need_from i vs f ≡ sum_below (λ u. units_of (lane_at vs u) (f (i + u))) (length vs)
+need_sum : (vs : List Edge) (i : ℕ) (f : ℕ → ℕ) → need_from i vs f ≡ sum_below (λ u. units_of (lane_at vs u) (f (i + u))) (length vs)
 need_sum [] i f = refl
 need_sum (v ∷ vs) i f =
     let first : sum_below (λ u. units_of (lane_at (v ∷ vs) u) (f (i + u))) (length (v ∷ vs)) ≡ units_of v.lane (f (i + 0)) + sum_below (λ u. units_of (lane_at vs u) (f (i + suc u))) (length vs) =
@@ -191,7 +191,7 @@ module _ {N : Type 0} (row : N → View → Type 0) (law : N → N → View → 
   abbrev lane : ℕ → Option ℕ
   lane u = lane_at g.wires u
 
-  below : (ws : List Wire) (u : ℕ) (v : Wire) → slice_get ws u ≡ Some v → u < length ws
+  below : (ws : List Edge) (u : ℕ) (v : Edge) → slice_get ws u ≡ Some v → u < length ws
   below [] u v e = cc
   below (w ∷ ws) zero v e = omega arith
   below (w ∷ ws) (suc u) v e = omega (arith, below ws u v e)
@@ -200,7 +200,7 @@ module _ {N : Type 0} (row : N → View → Type 0) (law : N → N → View → 
       → (u : ℕ) × ((u < length g.wires) × ((s.near u ≡ record { island = b; at = q }) ⊎ ((z : ℕ) × ((lane u ≡ Some z) × (s.far u ≡ record { island = b; at = q })))))
   owner b q hb hq = let o = owned.owner b q hb hq in (o.0, (below g.wires o.0 o.1.0 o.1.1.0, by o.0 o.1.0 o.1.1.0 o.1.1.1 o.1.0.lane refl))
     where
-      by : (u : ℕ) (v : Wire) → slice_get g.wires u ≡ Some v → (s.near u ≡ record { island = b; at = q }) ⊎ (s.far u ≡ record { island = b; at = q }) → (l : Option ℕ) → v.lane ≡ l
+      by : (u : ℕ) (v : Edge) → slice_get g.wires u ≡ Some v → (s.near u ≡ record { island = b; at = q }) ⊎ (s.far u ≡ record { island = b; at = q }) → (l : Option ℕ) → v.lane ≡ l
           → (s.near u ≡ record { island = b; at = q }) ⊎ ((z : ℕ) × ((lane u ≡ Some z) × (s.far u ≡ record { island = b; at = q })))
       by u v e (inl n) l is = inl n
       by u v e (inr f) None is = inl (sym (covers.fused u v e is) ∙ f)
@@ -226,7 +226,7 @@ module _ {N : Type 0} (row : N → View → Type 0) (law : N → N → View → 
       far_sound : IsSound (all.far u).wire (holds (nets (s.far u).island).queue (s.far u).at)
       far_sound = (settled (s.far u).island).sound (s.far u).at (far_there g nets s covers u h)
 
-      by : (v : Wire) → slice_get g.wires u ≡ Some v → (l : Option ℕ) → v.lane ≡ l → ((near_cost u + if_lane l (far_cost u)) + if_lane l (cost u)) + 1 ≤ units_of l (elements (all.near u).wire.sent)
+      by : (v : Edge) → slice_get g.wires u ≡ Some v → (l : Option ℕ) → v.lane ≡ l → ((near_cost u + if_lane l (far_cost u)) + if_lane l (cost u)) + 1 ≤ units_of l (elements (all.near u).wire.sent)
       by v e None is = let c = connection_cost (all.near u).wire (holds (nets (s.near u).island).queue (s.near u).at) near_sound in omega (arith, c)
       by v e (Some z) is =
           let k = lanes u v z e is in

@@ -9,10 +9,10 @@ use Rattle.port_core.specs.declared.view.InView.TheVariants.{Idle, Pulled}
 use Rattle.port_core.specs.declared.view.OutView.TheVariants.{Available}
 use Rattle.port_core.specs.Decoding.{is_open}
 use Rattle.port_core.specs.Joint.{IsSound}
-use Rattle.wire_core.specs.Cell.{Cell}
+use Rattle.wire_core.specs.Cell.{WireState}
 use Rattle.wire_core.specs.Counts.{elements}
 use Rattle.wire_core.specs.Marks.{IsMarked, wanted}
-use Rattle.stream_model.specs.Graph.{Graph, Wire, find_wire, find_source}
+use Rattle.stream_model.specs.Graph.{Graph, Edge, find_wire, find_source}
 use Rattle.stream_model.specs.Graph as graph
 use Rattle.stream_model.specs.Composed.{inputs_of, count_from}
 use Rattle.stream_picture.specs.View.{outputs_of}
@@ -26,25 +26,25 @@ use Rattle.run_account.specs.Quiet.{LaneQuiet}
 pub record Account (N : Type 0) : Type 0 where
   pub firsts : ℕ → Option N
   pub nodes : ℕ → Option N
-  pub near : ℕ → Cell
-  pub far : ℕ → Cell
+  pub near : ℕ → WireState
+  pub far : ℕ → WireState
   pub asked : ℕ → ℕ
 
 -- either end has closed the wire
-abbrev pub shut_of : Cell → Bool
+abbrev pub shut_of : WireState → Bool
 shut_of c = not (is_open c.wire.conn)
 
-abbrev pub cell_by : (ℕ → Cell) → Option ℕ → Cell
+abbrev pub cell_by : (ℕ → WireState) → Option ℕ → WireState
 cell_by cells None = no_wire
 cell_by cells (Some u) = cells u
 
 module _ (g : Graph) where
   -- what f reads off the wires at these inputs of a node, and at these outputs
-  abbrev pub read_ins : {X : Type 0} → (Cell → X) → (ℕ → Cell) → ℕ → List ℕ → List X
+  abbrev pub read_ins : {X : Type 0} → (WireState → X) → (ℕ → WireState) → ℕ → List ℕ → List X
   read_ins f cells k [] = []
   read_ins f cells k (p ∷ ps) = f (cell_by cells (find_wire k p g.wires)) ∷ read_ins f cells k ps
 
-  abbrev pub read_outs : {X : Type 0} → (Cell → X) → (ℕ → Cell) → ℕ → List ℕ → List X
+  abbrev pub read_outs : {X : Type 0} → (WireState → X) → (ℕ → WireState) → ℕ → List ℕ → List X
   read_outs f cells k [] = []
   read_outs f cells k (p ∷ ps) = f (cell_by cells (find_source k p g.wires)) ∷ read_outs f cells k ps
 
@@ -83,12 +83,12 @@ Stood Idle want had = want ≤ had
 Stood _ want had = ⊤
 
 -- A wire that is no lane has one connection. A lane has two, and what is kept of its two ends and known of both joins them.
-abbrev pub WireKeeps : Option ℕ → Cell → Cell → ℕ → Type 0
+abbrev pub WireKeeps : Option ℕ → WireState → WireState → ℕ → Type 0
 WireKeeps None near far asked = far ≡ near
 WireKeeps (Some size) near far asked = LaneKeeps size near far asked
 
 -- where no island has an event, a lane rests
-abbrev pub WireQuiet : Option ℕ → Cell → Cell → ℕ → Type 0
+abbrev pub WireQuiet : Option ℕ → WireState → WireState → ℕ → Type 0
 WireQuiet None near far asked = ⊤
 WireQuiet (Some size) near far asked = (keeps : LaneKeeps size near far asked) × LaneQuiet size near far asked keeps
 
@@ -152,7 +152,7 @@ module _ {N : Type 0} (row : N → View → Type 0) (law : N → N → View → 
       pub far_sound : (u : ℕ) → u < length g.wires → (q : _) × IsSound (a.far u).wire q
       pub near_marked : (u : ℕ) → u < length g.wires → IsMarked (a.near u)
       pub far_marked : (u : ℕ) → u < length g.wires → IsMarked (a.far u)
-      pub wires : (u : ℕ) (v : Wire) → slice_get g.wires u ≡ Some v → WireKeeps v.lane (a.near u) (a.far u) (a.asked u)
+      pub wires : (u : ℕ) (v : Edge) → slice_get g.wires u ≡ Some v → WireKeeps v.lane (a.near u) (a.far u) (a.asked u)
 
 -- the nodes as they were handed in are those of the blueprint, by what a kind of nodes says of its first
 abbrev pub AllMade : {N : Type 0} → (ℕ → graph.Node → N → Type 0) → Graph → Account N → Type 0
@@ -162,4 +162,4 @@ AllMade FirstOf g a = (k : ℕ) (n : graph.Node) (first : _) → slice_get g.nod
 pub record IsStill {N : Type 0} (g : Graph) (a : Account N) : Type 0 where
   pub near : (u : ℕ) → u < length g.wires → IsSound (a.near u).wire false
   pub far : (u : ℕ) → u < length g.wires → IsSound (a.far u).wire false
-  pub quiet : (u : ℕ) (v : Wire) → slice_get g.wires u ≡ Some v → WireQuiet v.lane (a.near u) (a.far u) (a.asked u)
+  pub quiet : (u : ℕ) (v : Edge) → slice_get g.wires u ≡ Some v → WireQuiet v.lane (a.near u) (a.far u) (a.asked u)

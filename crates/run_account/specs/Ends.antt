@@ -4,7 +4,7 @@ use Rattle.std.specs.Prelude.{◌≡◌, ℕ, ◌+◌, ◌≤◌, List}
 use Rattle.elem_core.specs.Prefix.{IsPrefix}
 use Rattle.elem_core.specs.Tree.{Tree}
 use Rattle.elem_core.specs.declared.item.Item.{Item}
-use Rattle.wire_core.specs.Cell.{Cell}
+use Rattle.wire_core.specs.Cell.{WireState}
 use Rattle.wire_core.specs.Counts.{elements}
 use Rattle.wire_core.specs.Marks.{wanted}
 use Rattle.stream_model.specs.Outlook.{End}
@@ -30,7 +30,7 @@ pub record InEnd : Type 0 where
 
 -- What an island keeps of an output end, whose boundary stage is at the input of this connection: what came there is a list and
 -- its end, as the stage knows; what was sent is a first part of it; and the stage asked for no more than the end saw asked for.
-pub record OutKeeps (c : Cell) (e : OutEnd) : Type 0 where
+pub record OutKeeps (c : WireState) (e : OutEnd) : Type 0 where
   pub came_list : List Tree
   pub came_end : End
   pub came_is : c.wire.got ≡ told came_list came_end
@@ -42,7 +42,7 @@ pub record OutKeeps (c : Cell) (e : OutEnd) : Type 0 where
 -- pushed there is of what was taken what a lane of that size carries, the rest waits in a buffer that a failure empties; at first
 -- it asked for so many elements as the lane has places, and for no more than these and one for each that was pushed, and behind
 -- the first ask once at most for each element that was pushed.
-pub record InKeeps (s : ℕ) (c : Cell) (e : InEnd) : Type 0 where
+pub record InKeeps (s : ℕ) (c : WireState) (e : InEnd) : Type 0 where
   pub taken_list : List Tree
   pub taken_end : End
   pub pushed_list : List Tree
@@ -68,7 +68,7 @@ pub record Met (s : ℕ) (o : OutEnd) (i : InEnd) : Type 0 where
 
 -- A lane of size s between these two connections, of which its input end asked for so many elements: its two ends, what the
 -- islands keep of them, and what is known of both.
-pub record LaneKeeps (s : ℕ) (near far : Cell) (asked : ℕ) : Type 0 where
+pub record LaneKeeps (s : ℕ) (near far : WireState) (asked : ℕ) : Type 0 where
   pub out : OutEnd
   pub inp : InEnd
   pub out_keeps : OutKeeps near out

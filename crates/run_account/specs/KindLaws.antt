@@ -29,8 +29,8 @@ pub record IsOneMachine (kd : Kind) (wk : Work) : Type 0 where
   pub no_sink : is_sink kd ≡ false
   pub outlook : (g : Graph) (w : World) (k : ℕ) (d : Decider) (os : List Outlook) (p : ℕ) → node_outlook g w k kd d os p ≡ of_work w.book k d (Some wk) os
   pub no_moves : (g : Graph) (w : World) (k : ℕ) (os : List Outlook) → moves_fit g w k kd os ≡ true
-  pub lawful : (g : Graph) (w : World) (k : ℕ) (d : Decider) (is os : List picture.View) → OneToOne (StageLawful (of_machine (linear w.book wk) (begin_work k d wk) (holds_at_end wk))) is os → RowLawful g w k kd d is os
-  pub rests : (g : Graph) (w : World) (k : ℕ) (d : Decider) (is os : List picture.View) → OneToOne (StageRests (of_machine (linear w.book wk) (begin_work k d wk) (holds_at_end wk))) is os → RowRests g w k kd d is os
+  pub lawful : (g : Graph) (w : World) (k : ℕ) (d : Decider) (is os : List picture.SeenWire) → OneToOne (StageLawful (of_machine (linear w.book wk) (begin_work k d wk) (holds_at_end wk))) is os → RowLawful g w k kd d is os
+  pub rests : (g : Graph) (w : World) (k : ℕ) (d : Decider) (is os : List picture.SeenWire) → OneToOne (StageRests (of_machine (linear w.book wk) (begin_work k d wk) (holds_at_end wk))) is os → RowRests g w k kd d is os
 
 -- the history is a list and an end, which is known of the port
 pub record Heard (x : InView) (h : List Item) : Type 0 where
@@ -63,4 +63,4 @@ pub record PictureLaws {N : Type 0} (row : N → View → Type 0) (law : N → N
       → RowLawful g w k n.kind n.decider (map (λ (i : InPort). i.wire) is) (map (λ (o : OutPort). o.wire) os)
   pub rests : EachPort InStands is → EachPort OutStands os → EachPort InRests is → EachPort OutRests os
       → (EachWire IsShut (map (λ (i : InPort). i.wire) is) × EachWire IsShut (map (λ (o : OutPort). o.wire) os)) ⊎ RowRests g w k n.kind n.decider (map (λ (i : InPort). i.wire) is) (map (λ (o : OutPort). o.wire) os)
-  pub matches : is_sink n.kind ≡ true → EachPort InRests is → EachWire (λ (i : picture.View). i.shut ≡ ended now) (map (λ (i : InPort). i.wire) is)
+  pub matches : is_sink n.kind ≡ true → EachPort InRests is → EachWire (λ (i : picture.SeenWire). i.shut ≡ ended now) (map (λ (i : InPort). i.wire) is)

@@ -1,7 +1,7 @@
 -- The picture of an account, and the ports of its nodes in it.
 use Rattle.std.specs.Prelude.{ℕ, ◌+◌, ◌<◌, List, [], ◌∷◌, length, slice_get, Option, None, Some}
 use Rattle.wire_core.specs.Marks.{wanted}
-use Rattle.stream_model.specs.Graph.{Graph, Wire, find_wire, find_source}
+use Rattle.stream_model.specs.Graph.{Graph, Edge, find_wire, find_source}
 use Rattle.stream_model.specs.Outlook.{Outlook}
 use Rattle.stream_model.specs.declared.outcome.WireCount.{WireCount}
 use Rattle.stream_picture.specs.View.{view_of}
@@ -11,7 +11,7 @@ use Rattle.run_account.specs.Ports.{InPort, OutPort, wire_count}
 
 module _ {N : Type 0} (a : Account N) where
   -- how the wires from number i on stand
-  abbrev pub counts_from : ℕ → List Wire → List WireCount
+  abbrev pub counts_from : ℕ → List Edge → List WireCount
   counts_from i [] = []
   counts_from i (v ∷ vs) = wire_count v.lane (a.near i) (a.asked i) ∷ counts_from (i + 1) vs
 
@@ -24,21 +24,21 @@ module _ {N : Type 0} (a : Account N) where
   AllPass g outlook = (u : ℕ) → u < length g.wires → Passes (outlook u) (a.near u).wire.sent
 
   module _ (g : Graph) (outlook : ℕ → Outlook) where
-    abbrev pub in_port : ℕ → Wire → InPort
+    abbrev pub in_port : ℕ → Edge → InPort
     in_port u v = record { view = (a.far u).wire.inp; got = (a.far u).wire.got; want = wanted (a.far u); wire = view_of u v (wire_count v.lane (a.near u) (a.asked u)) (outlook u) }
 
-    abbrev pub out_port : ℕ → Wire → OutPort
+    abbrev pub out_port : ℕ → Edge → OutPort
     out_port u v = record { view = (a.near u).wire.out; sent = (a.near u).wire.sent; want = wanted (a.near u); wire = view_of u v (wire_count v.lane (a.near u) (a.asked u)) (outlook u) }
 
-    abbrev cons_in : Option ℕ → Option Wire → List InPort → List InPort
+    abbrev cons_in : Option ℕ → Option Edge → List InPort → List InPort
     cons_in (Some u) (Some v) is = in_port u v ∷ is
     cons_in _ _ is = is
 
-    abbrev cons_out : Option ℕ → Option Wire → List OutPort → List OutPort
+    abbrev cons_out : Option ℕ → Option Edge → List OutPort → List OutPort
     cons_out (Some u) (Some v) os = out_port u v ∷ os
     cons_out _ _ os = os
 
-    abbrev wire_by : Option ℕ → Option Wire
+    abbrev wire_by : Option ℕ → Option Edge
     wire_by None = None
     wire_by (Some u) = slice_get g.wires u
 

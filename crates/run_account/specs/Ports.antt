@@ -10,7 +10,7 @@ use Rattle.port_core.specs.declared.view.InView.{InView}
 use Rattle.port_core.specs.declared.view.InView.TheVariants.{Idle, Pulled, Finished}
 use Rattle.port_core.specs.declared.view.OutView.{OutView}
 use Rattle.port_core.specs.declared.view.OutView.TheVariants.{Unpulled, Available}
-use Rattle.wire_core.specs.Cell.{Cell}
+use Rattle.wire_core.specs.Cell.{WireState}
 use Rattle.wire_core.specs.Counts.{elements}
 use Rattle.stream_model.specs.Outlook.{End, unended, ended}
 use Rattle.stream_model.specs.declared.outcome.WireCount.{WireCount}
@@ -22,16 +22,16 @@ use Rattle.stage_law.specs.Row.{InClosed, OutClosed}
 
 -- how a wire that is no lane stands: the elements that were pushed, whether its input waits for one, and whether either end has
 -- closed it
-abbrev pub count_of : Cell → WireCount
+abbrev pub count_of : WireState → WireCount
 count_of c = record { sent = elements c.wire.sent; asked = c.asked; shut = not (is_open c.wire.conn) }
 
 -- the mark of a wire that is no lane is the connection's; of a lane, whether its input end asked for more than was pushed
-abbrev pub asked_of : Option ℕ → Cell → ℕ → Bool
+abbrev pub asked_of : Option ℕ → WireState → ℕ → Bool
 asked_of None near asked = near.asked
 asked_of (Some size) near asked = nat_le (suc (elements near.wire.sent)) asked
 
 -- how any wire stands, by the connection at its output and by what the input end of a lane asked for in all
-abbrev pub wire_count : Option ℕ → Cell → ℕ → WireCount
+abbrev pub wire_count : Option ℕ → WireState → ℕ → WireCount
 wire_count lane near asked = record { sent = elements near.wire.sent; asked = asked_of lane near asked; shut = not (is_open near.wire.conn) }
 
 -- an input of a node: what the node knows of it and took there, what it has asked for in all, and the wire of the picture
@@ -39,14 +39,14 @@ pub record InPort : Type 0 where
   pub view : InView
   pub got : List Item
   pub want : ℕ
-  pub wire : picture.View
+  pub wire : picture.SeenWire
 
 -- an output: what the node knows of it and gave there, what its connection was asked for in all, and the wire
 pub record OutPort : Type 0 where
   pub view : OutView
   pub sent : List Item
   pub want : ℕ
-  pub wire : picture.View
+  pub wire : picture.SeenWire
 
 -- what a node knows of these ports, what it took and what it gave
 abbrev pub views_of : List InPort → List OutPort → View

@@ -1,6 +1,6 @@
 -- Where the nodes and the wires of a blueprint stand, in the nets of its islands.
 use Rattle.std.specs.Prelude.{◌≡◌, ℕ, ◌<◌, length, slice_get, None, Some}
-use Rattle.stream_model.specs.Graph.{Graph, Wire}
+use Rattle.stream_model.specs.Graph.{Graph, Edge}
 use Rattle.stream_model.specs.Graph as graph
 use Rattle.stream_model.specs.Composed.{inputs_of}
 use Rattle.stream_picture.specs.View.{outputs_of}
@@ -36,24 +36,24 @@ module _ {N : Type 0} (g : Graph) (nets : ℕ → Net N) (s : Seats) where
     pub node_within : (k : ℕ) (n : graph.Node) → slice_get g.nodes k ≡ Some n → (s.node k).at < length (nets (s.node k).island).nodes
     pub ins : (k : ℕ) (n : graph.Node) → slice_get g.nodes k ≡ Some n → length (ports_at (nets (s.node k).island) (s.node k).at).ins ≡ inputs_of n.kind
     pub outs : (k : ℕ) (n : graph.Node) → slice_get g.nodes k ≡ Some n → length (ports_at (nets (s.node k).island) (s.node k).at).outs ≡ outputs_of n.kind
-    pub near_within : (u : ℕ) (v : Wire) → slice_get g.wires u ≡ Some v → (s.near u).at < length (nets (s.near u).island).wires
-    pub near_home : (u : ℕ) (v : Wire) → slice_get g.wires u ≡ Some v → (s.near u).island ≡ (s.node v.from).island
-    pub near_from : (u : ℕ) (v : Wire) → slice_get g.wires u ≡ Some v → (end_at (nets (s.near u).island).ends (s.near u).at).from ≡ (s.node v.from).at
-    pub near_output : (u : ℕ) (v : Wire) → slice_get g.wires u ≡ Some v → (end_at (nets (s.near u).island).ends (s.near u).at).output ≡ v.output
-    pub far_within : (u : ℕ) (v : Wire) → slice_get g.wires u ≡ Some v → (s.far u).at < length (nets (s.far u).island).wires
-    pub far_home : (u : ℕ) (v : Wire) → slice_get g.wires u ≡ Some v → (s.far u).island ≡ (s.node v.to).island
-    pub far_to : (u : ℕ) (v : Wire) → slice_get g.wires u ≡ Some v → (end_at (nets (s.far u).island).ends (s.far u).at).to ≡ (s.node v.to).at
-    pub far_input : (u : ℕ) (v : Wire) → slice_get g.wires u ≡ Some v → (end_at (nets (s.far u).island).ends (s.far u).at).input ≡ v.input
-    pub fused : (u : ℕ) (v : Wire) → slice_get g.wires u ≡ Some v → v.lane ≡ None → s.far u ≡ s.near u
+    pub near_within : (u : ℕ) (v : Edge) → slice_get g.wires u ≡ Some v → (s.near u).at < length (nets (s.near u).island).wires
+    pub near_home : (u : ℕ) (v : Edge) → slice_get g.wires u ≡ Some v → (s.near u).island ≡ (s.node v.from).island
+    pub near_from : (u : ℕ) (v : Edge) → slice_get g.wires u ≡ Some v → (end_at (nets (s.near u).island).ends (s.near u).at).from ≡ (s.node v.from).at
+    pub near_output : (u : ℕ) (v : Edge) → slice_get g.wires u ≡ Some v → (end_at (nets (s.near u).island).ends (s.near u).at).output ≡ v.output
+    pub far_within : (u : ℕ) (v : Edge) → slice_get g.wires u ≡ Some v → (s.far u).at < length (nets (s.far u).island).wires
+    pub far_home : (u : ℕ) (v : Edge) → slice_get g.wires u ≡ Some v → (s.far u).island ≡ (s.node v.to).island
+    pub far_to : (u : ℕ) (v : Edge) → slice_get g.wires u ≡ Some v → (end_at (nets (s.far u).island).ends (s.far u).at).to ≡ (s.node v.to).at
+    pub far_input : (u : ℕ) (v : Edge) → slice_get g.wires u ≡ Some v → (end_at (nets (s.far u).island).ends (s.far u).at).input ≡ v.input
+    pub fused : (u : ℕ) (v : Edge) → slice_get g.wires u ≡ Some v → v.lane ≡ None → s.far u ≡ s.near u
 
   -- of each lane what is kept of its ends and known of both, between the connections at its places
   abbrev pub LanesKeep : (ℕ → ℕ) → Type 0
-  LanesKeep asked = (u : ℕ) (v : Wire) (size : ℕ) → slice_get g.wires u ≡ Some v → v.lane ≡ Some size
+  LanesKeep asked = (u : ℕ) (v : Edge) (size : ℕ) → slice_get g.wires u ≡ Some v → v.lane ≡ Some size
       → LaneKeeps size (wire_at (nets (s.near u).island) (s.near u).at) (wire_at (nets (s.far u).island) (s.far u).at) (asked u)
 
   -- and where no island has an event, each lane rests
   abbrev pub LanesRest : (ℕ → ℕ) → Type 0
-  LanesRest asked = (u : ℕ) (v : Wire) (size : ℕ) → slice_get g.wires u ≡ Some v → v.lane ≡ Some size
+  LanesRest asked = (u : ℕ) (v : Edge) (size : ℕ) → slice_get g.wires u ≡ Some v → v.lane ≡ Some size
       → WireQuiet (Some size) (wire_at (nets (s.near u).island) (s.near u).at) (wire_at (nets (s.far u).island) (s.far u).at) (asked u)
 
 -- one island of all nodes and wires, each at its number

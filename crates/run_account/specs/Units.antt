@@ -1,13 +1,13 @@
 -- What islands cost, over the wires of their blueprint.
 use Rattle.std.specs.Prelude.{◌≡◌, ℕ, zero, suc, ◌+◌, ◌<◌, ◌⊎◌, List, [], ◌∷◌, length, slice_get, Option, None, Some}
-use Rattle.stream_model.specs.Graph.{Graph, Wire}
+use Rattle.stream_model.specs.Graph.{Graph, Edge}
 use Rattle.fused_net.specs.Costs.{sum_below}
 use Rattle.fused_net.specs.Net.{Net, wire_at}
 use Rattle.run_account.specs.Ends.{LaneKeeps}
 use Rattle.run_account.specs.Seats.{Seats}
 
 -- whether the wire of this number is a lane, and of which size
-abbrev pub lane_at : List Wire → ℕ → Option ℕ
+abbrev pub lane_at : List Edge → ℕ → Option ℕ
 lane_at [] u = None
 lane_at (v ∷ vs) zero = v.lane
 lane_at (v ∷ vs) (suc u) = lane_at vs u
@@ -25,9 +25,9 @@ module _ {N : Type 0} (g : Graph) (nets : ℕ → Net N) (s : Seats) where
   -- each connection of each of so many islands is one of a wire's
   pub record Owned (islands : ℕ) : Type 0 where
     pub owner : (b q : ℕ) → b < islands → q < length (nets b).wires
-        → (u : ℕ) × ((v : Wire) × ((slice_get g.wires u ≡ Some v) × ((s.near u ≡ record { island = b; at = q }) ⊎ (s.far u ≡ record { island = b; at = q }))))
+        → (u : ℕ) × ((v : Edge) × ((slice_get g.wires u ≡ Some v) × ((s.near u ≡ record { island = b; at = q }) ⊎ (s.far u ≡ record { island = b; at = q }))))
 
   -- of each lane, by what is kept of it: so many items were taken off it, and so many looks found new demand or a cancel, in all
   abbrev pub LanesCost : (ℕ → ℕ) → (ℕ → ℕ) → Type 0
-  LanesCost asked cost = (u : ℕ) (v : Wire) (size : ℕ) → slice_get g.wires u ≡ Some v → v.lane ≡ Some size
+  LanesCost asked cost = (u : ℕ) (v : Edge) (size : ℕ) → slice_get g.wires u ≡ Some v → v.lane ≡ Some size
       → (k : LaneKeeps size (wire_at (nets (s.near u).island) (s.near u).at) (wire_at (nets (s.far u).island) (s.far u).at) (asked u)) × (cost u ≡ length k.inp.taken + k.out.finds)

@@ -1,14 +1,14 @@
 -- A lane in a picture, and the ports of the nodes at its two connections.
 use Rattle.std.specs.Prelude.{ℕ, List, Some}
 use Rattle.elem_core.specs.Tree.{Tree}
-use Rattle.wire_core.specs.Cell.{Cell}
+use Rattle.wire_core.specs.Cell.{WireState}
 use Rattle.wire_core.specs.Marks.{wanted}
 use Rattle.stream_picture.specs.View as picture
 use Rattle.run_account.specs.Ports.{InPort, OutPort, wire_count}
 
-module _ (u s : ℕ) (near far : Cell) (asked : ℕ) (list : List Tree) where
+module _ (u s : ℕ) (near far : WireState) (asked : ℕ) (list : List Tree) where
   -- wire u, a lane of size s of which no more than this list may pass, in a picture
-  abbrev pub lane_view : picture.View
+  abbrev pub lane_view : picture.SeenWire
   lane_view = let c = wire_count (Some s) near asked in record { wire = u; sent = c.sent; asked = c.asked; shut = c.shut; lane = Some s; list = list }
 
   -- the port of the node at its input, and that of the node at its output

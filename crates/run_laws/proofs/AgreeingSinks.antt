@@ -14,7 +14,7 @@ use Rattle.stream_model.specs.declared.outcome.EndState.{EndState}
 use Rattle.stream_model.specs.declared.outcome.EndState.TheVariants.{Unended, WriteFault}
 use Rattle.stream_model.specs.Sources.{whole_lines}
 use Rattle.stream_model.specs.Outlook.{Outlook, End, unended, Agrees}
-use Rattle.stream_model.specs.Graph.{Graph, Wire}
+use Rattle.stream_model.specs.Graph.{Graph, Edge}
 use Rattle.stream_model.specs.Graph as graph
 use Rattle.stream_model.specs.Node.{World, nothing, head_of, of_work}
 use Rattle.stream_model.specs.Composed.{inputs_of, count_from, ports_of, composed, sink_outlook, IsRanked}
@@ -28,8 +28,8 @@ use Rattle.stage_state.specs.Logics.{IsStateful}
 use Rattle.stage_sub.specs.Handling.{IsSub}
 use Rattle.wire_core.specs.Marks.{wanted}
 use Rattle.wire_core.specs.Reading.{inp_of, got_of}
-use Rattle.nodes.specs.declared.node.Node.{Node}
-use Rattle.nodes.specs.declared.node.Node.TheVariants.{Reading, Making, Linear, State, Sub, FanIn, FanOut, Writing, Ignoring, Entering, Leaving}
+use Rattle.nodes.specs.declared.node.IslandNode.{IslandNode}
+use Rattle.nodes.specs.declared.node.IslandNode.TheVariants.{Reading, Making, Linear, State, Sub, FanIn, FanOut, Writing, Ignoring, Entering, Leaving}
 use Rattle.nodes.specs.Nodes.{node_row, node_law, node_asking, node_moves}
 use Rattle.nodes.specs.Ports.{OneInOf}
 use Rattle.nodes.specs.Kinds.{IsMaker, IsFileSink, writes_of}
@@ -94,7 +94,7 @@ not_fan_out (kind.Last name) h i = i
 not_fan_out _ h i = h
 
 -- a node of such a kind is a sink with a file
-sink_cases : {S D L B : Type 0} (sources : S → SourceState) (drains : D → DrainState) (book : Book) (chains : List graph.Chain) (k : ℕ) (n : graph.Node) (first now : Node S D L B) (v : View) (took gave : List (List Item))
+sink_cases : {S D L B : Type 0} (sources : S → SourceState) (drains : D → DrainState) (book : Book) (chains : List graph.Chain) (k : ℕ) (n : graph.Node) (first now : IslandNode S D L B) (v : View) (took gave : List (List Item))
     → IsFileSink n.kind → FirstOf sources chains k n first → node_law sources drains book first now v took gave → (a : Sink D) × ((b : Sink D) × ((first ≡ Writing a) × (now ≡ Writing b)))
 sink_cases sources drains book chains k n (Writing first) (Writing now) v took gave is made law = (first, (now, (refl, refl)))
 sink_cases sources drains book chains k n (Reading first) now v took gave is made law = let e : IsFileSink (kind.Lines made.name) = subst IsFileSink made.kind_is is in absurd e
@@ -110,7 +110,7 @@ sink_cases sources drains book chains k n (Leaving first) now v took gave is mad
 sink_cases sources drains book chains k n (Writing first) now v took gave is made law = absurd law
 
 -- and one that keeps nothing
-ignore_cases : {S D L B : Type 0} (sources : S → SourceState) (drains : D → DrainState) (book : Book) (chains : List graph.Chain) (k : ℕ) (n : graph.Node) (first now : Node S D L B) (v : View) (took gave : List (List Item))
+ignore_cases : {S D L B : Type 0} (sources : S → SourceState) (drains : D → DrainState) (book : Book) (chains : List graph.Chain) (k : ℕ) (n : graph.Node) (first now : IslandNode S D L B) (v : View) (took gave : List (List Item))
     → n.kind ≡ kind.Ignore → FirstOf sources chains k n first → node_law sources drains book first now v took gave → (a : Ignorer) × ((b : Ignorer) × ((first ≡ Ignoring a) × (now ≡ Ignoring b)))
 ignore_cases sources drains book chains k n (Ignoring first) (Ignoring now) v took gave is made law = (first, (now, (refl, refl)))
 ignore_cases sources drains book chains k n (Reading first) now v took gave is made law = let e : kind.Lines made.name ≡ kind.Ignore = sym made.kind_is ∙ is in absurd cc
@@ -125,9 +125,9 @@ ignore_cases sources drains book chains k n (Entering first) now v took gave is 
 ignore_cases sources drains book chains k n (Leaving first) now v took gave is made law = absurd made
 ignore_cases sources drains book chains k n (Ignoring first) now v took gave is made law = absurd law
 
-module _ {S D L B : Type 0} (sources : S → SourceState) (drains : D → DrainState) (book : Book) (g : Graph) (a : Account (Node S D L B)) (run : IsRun sources drains book g a) where
+module _ {S D L B : Type 0} (sources : S → SourceState) (drains : D → DrainState) (book : Book) (g : Graph) (a : Account (IslandNode S D L B)) (run : IsRun sources drains book g a) where
   -- node k, which was handed in as one and is the other now
-  abbrev At : ℕ → graph.Node → Node S D L B → Node S D L B → Type 0
+  abbrev At : ℕ → graph.Node → IslandNode S D L B → IslandNode S D L B → Type 0
   At k n first now = KeptAs node_row (node_law sources drains book) node_asking node_moves g a k n first now
 
   -- it is there
@@ -135,7 +135,7 @@ module _ {S D L B : Type 0} (sources : S → SourceState) (drains : D → DrainS
   sink_there k n ni is =
       let m = run.keeps.each_node k n ni in
       let c = sink_cases sources drains book g.chains k n m.first m.now (knows g a k n) (took g a k n) (gave g a k n) is (run.made k n m.first ni m.first_at) m.law_holds in
-      (c.0, (c.1.0, record { at_first = m.first_at ∙ ap (λ (y : Node S D L B). Some y) c.1.1.0; at_last = m.now_at ∙ ap (λ (y : Node S D L B). Some y) c.1.1.1 }))
+      (c.0, (c.1.0, record { at_first = m.first_at ∙ ap (λ (y : IslandNode S D L B). Some y) c.1.1.0; at_last = m.now_at ∙ ap (λ (y : IslandNode S D L B). Some y) c.1.1.1 }))
 
   sink_at : (k : ℕ) (n : graph.Node) (first now : Sink D) → slice_get g.nodes k ≡ Some n → IsSinkAt a k first now → At k n (Writing first) (Writing now)
   sink_at k n first now ni at = kept_as node_row (node_law sources drains book) node_asking node_moves g a run.keeps k n (Writing first) (Writing now) ni at.at_first at.at_last
@@ -148,7 +148,7 @@ module _ {S D L B : Type 0} (sources : S → SourceState) (drains : D → DrainS
   ignorer_there k n ni is =
       let m = run.keeps.each_node k n ni in
       let c = ignore_cases sources drains book g.chains k n m.first m.now (knows g a k n) (took g a k n) (gave g a k n) is (run.made k n m.first ni m.first_at) m.law_holds in
-      (c.0, (c.1.0, record { at_first = m.first_at ∙ ap (λ (y : Node S D L B). Some y) c.1.1.0; at_last = m.now_at ∙ ap (λ (y : Node S D L B). Some y) c.1.1.1 }))
+      (c.0, (c.1.0, record { at_first = m.first_at ∙ ap (λ (y : IslandNode S D L B). Some y) c.1.1.0; at_last = m.now_at ∙ ap (λ (y : IslandNode S D L B). Some y) c.1.1.1 }))
 
   ignore_at : (k : ℕ) (n : graph.Node) (first now : Ignorer) → slice_get g.nodes k ≡ Some n → IsIgnorerAt a k first now → At k n (Ignoring first) (Ignoring now)
   ignore_at k n first now ni at = kept_as node_row (node_law sources drains book) node_asking node_moves g a run.keeps k n (Ignoring first) (Ignoring now) ni at.at_first at.at_last
@@ -169,7 +169,7 @@ module _ {S D L B : Type 0} (sources : S → SourceState) (drains : D → DrainS
     came : took g a k n ≡ (a.far u).wire.got ∷ []
     wants : ins_wanted g a k n ≡ wanted (a.far u) ∷ []
 
-  one_wire : (k : ℕ) (n : graph.Node) (u : ℕ) (v : Wire) → slice_get g.nodes k ≡ Some n → inputs_of n.kind ≡ 1 → slice_get g.wires u ≡ Some v → v.to ≡ k → OneWire k n u
+  one_wire : (k : ℕ) (n : graph.Node) (u : ℕ) (v : Edge) → slice_get g.nodes k ≡ Some n → inputs_of n.kind ≡ 1 → slice_get g.wires u ≡ Some v → v.to ≡ k → OneWire k n u
   one_wire k n u v ni one ui to =
       let found = one_input g run.joined k n u v ni one ui to in
       record { ins = read_one g inp_of a.far k (inputs_of n.kind) u one found; came = read_one g got_of a.far k (inputs_of n.kind) u one found; wants = read_one g wanted a.far k (inputs_of n.kind) u one found }
@@ -178,7 +178,7 @@ module _ {S D L B : Type 0} (sources : S → SourceState) (drains : D → DrainS
   heads_same x y e = cc
 
   -- a sink of lines, over its wire
-  module _ (k : ℕ) (n : graph.Node) (name : List ℕ) (first now : Sink D) (u : ℕ) (v : Wire) (ni : slice_get g.nodes k ≡ Some n) (is : n.kind ≡ kind.ToLines name) (at : IsSinkAt a k first now) (ui : slice_get g.wires u ≡ Some v) (to : v.to ≡ k) where
+  module _ (k : ℕ) (n : graph.Node) (name : List ℕ) (first now : Sink D) (u : ℕ) (v : Edge) (ni : slice_get g.nodes k ≡ Some n) (is : n.kind ≡ kind.ToLines name) (at : IsSinkAt a k first now) (ui : slice_get g.wires u ≡ Some v) (to : v.to ≡ k) where
     law : SinkLaw drains first now (knows g a k n) (took g a k n) (gave g a k n)
     law = sink_law k n first now ni at
 
@@ -214,8 +214,8 @@ module _ {S D L B : Type 0} (sources : S → SourceState) (drains : D → DrainS
         let one : inputs_of n.kind ≡ 1 = ap inputs_of is in
         let asked : 1 ≤ slice_index_or (ins_wanted g a k n) 0 0 = omega (arith, some, same, length-append part.before (part.last ∷ []), all, came, least, wants) in
         let e = (sink_at k n first now ni at).asks 0 (omega (arith, one)) asked in
-        let e' = subst (λ (l : List (List Item)). Earlier {N = Node S D L B} node_row (node_law sources drains book) node_asking node_moves 0 (Writing first) (Writing now) l [] (ins_wanted g a k n) (outs_wanted g a k n) (outs_shut g a k n)) wire.came
-        (subst (λ (l : List (List Item)). Earlier {N = Node S D L B} node_row (node_law sources drains book) node_asking node_moves 0 (Writing first) (Writing now) (took g a k n) l (ins_wanted g a k n) (outs_wanted g a k n) (outs_shut g a k n)) law.gave_is e) in
+        let e' = subst (λ (l : List (List Item)). Earlier {N = IslandNode S D L B} node_row (node_law sources drains book) node_asking node_moves 0 (Writing first) (Writing now) l [] (ins_wanted g a k n) (outs_wanted g a k n) (outs_shut g a k n)) wire.came
+        (subst (λ (l : List (List Item)). Earlier {N = IslandNode S D L B} node_row (node_law sources drains book) node_asking node_moves 0 (Writing first) (Writing now) (took g a k n) l (ins_wanted g a k n) (outs_wanted g a k n) (outs_shut g a k n)) law.gave_is e) in
         let few = none_behind sources drains book first now fault (a.far u).wire.got (ins_wanted g a k n) (outs_wanted g a k n) (outs_shut g a k n) e' law.elems open_got in
         omega (arith, few, least, wants)
 
@@ -278,7 +278,7 @@ module _ {S D L B : Type 0} (sources : S → SourceState) (drains : D → DrainS
         sink_tells drains first now (knows g a k n) (took g a k n) (gave g a k n) (sink_law k n first now ni at) (sink_outlook g w k n) (its_list k n first now ni at) written h l
 
     -- a sink that keeps nothing
-    pub every_ignorer_tells : (k : ℕ) (n : graph.Node) (first now : Ignorer) (u : ℕ) (v : Wire) → slice_get g.nodes k ≡ Some n → IsIgnorerAt a k first now → slice_get g.wires u ≡ Some v → v.to ≡ k
+    pub every_ignorer_tells : (k : ℕ) (n : graph.Node) (first now : Ignorer) (u : ℕ) (v : Edge) → slice_get g.nodes k ≡ Some n → IsIgnorerAt a k first now → slice_get g.wires u ≡ Some v → v.to ≡ k
         → IgnoreTells (sink_outlook g w k n) now.end (elements (a.far u).wire.sent)
     every_ignorer_tells k n first now u v ni at ui to =
         let m = ignore_at k n first now ni at in

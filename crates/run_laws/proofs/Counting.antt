@@ -2,7 +2,7 @@
 use Rattle.std.proofs.Common.{◌≡◌, ℕ, ◌+◌, ◌≤◌, Bool, true, false, List, [], ◌∷◌, ◌++◌, length, refl, sym, ap, ◌∙◌, arith, length-append}
 use Rattle.elem_core.specs.Tree.{Tree}
 use Rattle.elem_core.specs.declared.why.Cause.{Cause}
-use Rattle.port_core.specs.Wire.{Wire}
+use Rattle.port_core.specs.Wire.{JointPorts}
 use Rattle.port_core.specs.Joint.{IsSound}
 use Rattle.port_core.specs.declared.view.InView.{InView}
 use Rattle.port_core.specs.declared.view.InView.TheVariants.{Idle, Pulled, Finished, Cancelled}
@@ -56,7 +56,7 @@ ignore_waits true Pulled (y ∷ outs) r = refl
 ignore_waits _ i [] r = absurd r
 ignore_waits _ i (y ∷ outs) r = absurd r
 
-module _ (c : Wire) (q : Bool) (sound : IsSound c q) (b : Bool) (outs : List OutView) (elems : List Tree) (e : End) (got : c.got ≡ told elems e) (as_seen : TookAs c.inp e) where
+module _ (c : JointPorts) (q : Bool) (sound : IsSound c q) (b : Bool) (outs : List OutView) (elems : List Tree) (e : End) (got : c.got ≡ told elems e) (as_seen : TookAs c.inp e) where
   got_count : elements c.got ≡ length elems
   got_count = ap elements got ∙ elements_told elems e
 

@@ -6,8 +6,8 @@ use Rattle.elem_core.specs.declared.item.Item.{Item}
 use Rattle.elem_core.specs.declared.why.Decider.TheVariants.{Stop}
 use Rattle.port_core.specs.View.{View}
 use Rattle.stream_io.specs.State.{SourceState, DrainState}
-use Rattle.nodes.specs.declared.node.Node.{Node}
-use Rattle.nodes.specs.declared.node.Node.TheVariants.{Reading, Making, Linear, State, Sub, FanIn, FanOut, Writing, Ignoring, Entering, Leaving}
+use Rattle.nodes.specs.declared.node.IslandNode.{IslandNode}
+use Rattle.nodes.specs.declared.node.IslandNode.TheVariants.{Reading, Making, Linear, State, Sub, FanIn, FanOut, Writing, Ignoring, Entering, Leaving}
 use Rattle.nodes.specs.Nodes.{node_law}
 use Rattle.stream_model.specs.Graph as graph
 use Rattle.stream_model.specs.Linear.{Book}
@@ -46,7 +46,7 @@ state_hears book (Tripping first) (Tripping now) v took gave law p h at =
 state_hears book first now v took gave law p h at = absurd law
 
 module _ {S D L B : Type 0} (sources : S → SourceState) (drains : D → DrainState) (book : Book) (chains : List graph.Chain) (k : ℕ) (n : graph.Node) where
-  pub node_hears : (first now : Node S D L B) (v : View) (took gave : List (List Item)) → FirstOf sources chains k n first → node_law sources drains book first now v took gave → HearsAll v took
+  pub node_hears : (first now : IslandNode S D L B) (v : View) (took gave : List (List Item)) → FirstOf sources chains k n first → node_law sources drains book first now v took gave → HearsAll v took
   node_hears (Reading first) (Reading now) v took gave made law p h at = absurd (none_at took p h law.took_is at)
   node_hears (Making first) (Making now) v took gave made law p h at = absurd (none_at took p h law.took_is at)
   node_hears (Linear first) (Linear now) v took gave made law p h at =

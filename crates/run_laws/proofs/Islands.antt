@@ -2,7 +2,7 @@
 use Rattle.std.specs.Prelude.{slice_get}
 use Rattle.std.proofs.Common.{◌≡◌, false, ℕ, zero, suc, ◌+◌, ◌<◌, List, [], ◌∷◌, map, length, get_or, Option, None, Some, refl, sym, subst, ◌∙◌, arith}
 use Rattle.port_core.specs.Joint.{IsSound}
-use Rattle.stream_model.specs.Graph.{Graph, Wire, find_wire, find_source}
+use Rattle.stream_model.specs.Graph.{Graph, Edge, find_wire, find_source}
 use Rattle.stream_model.specs.Graph as graph
 use Rattle.stream_model.specs.Composed.{inputs_of}
 use Rattle.stream_model.proofs.Compositions.{slice_get-below}
@@ -12,9 +12,9 @@ use Rattle.stream_io.specs.State.{SourceState, DrainState}
 use Rattle.fused_net.specs.Net.{Net, port_at, ports_at, wire_at}
 use Rattle.fused_net.specs.Laws.{Settled}
 use Rattle.fused_net.proofs.Reading.{some_same, get_within, get_there}
-use Rattle.nodes.specs.declared.node.Node.{Node}
+use Rattle.nodes.specs.declared.node.IslandNode.{IslandNode}
 use Rattle.nodes.specs.Nodes.{node_row, node_law, node_asking, node_moves}
-use Rattle.wire_core.specs.Cell.{Cell}
+use Rattle.wire_core.specs.Cell.{WireState}
 use Rattle.wire_core.specs.Reading.{no_wire}
 use Rattle.run_account.specs.Account.{Account, AllMade, IsStill}
 use Rattle.run_account.specs.Pictures.{counts_from, counts_of}
@@ -40,7 +40,7 @@ as_long xs n most least = by (length xs) n most least
     by (suc m) (suc n) f g = let a = f n (omega arith) in let b = g m (omega arith) in omega (arith, a, b)
 
 -- the picture of wires that are no lanes, whose connections stand in this order
-counts_same : {N : Type 0} (a : Account N) (i : ℕ) (ws : List Wire) (cells : List Cell) → ((k : ℕ) (v : Wire) → slice_get ws k ≡ Some v → v.lane ≡ None) → length ws ≡ length cells → ((k : ℕ) → k < length cells → a.near (i + k) ≡ get_or cells k no_wire) → counts_from a i ws ≡ map count_of cells
+counts_same : {N : Type 0} (a : Account N) (i : ℕ) (ws : List Edge) (cells : List WireState) → ((k : ℕ) (v : Edge) → slice_get ws k ≡ Some v → v.lane ≡ None) → length ws ≡ length cells → ((k : ℕ) → k < length cells → a.near (i + k) ≡ get_or cells k no_wire) → counts_from a i ws ≡ map count_of cells
 counts_same a i [] [] fused e f = refl
 counts_same a i [] (c ∷ cells) fused e f = cc
 counts_same a i (v ∷ ws) [] fused e f = cc
@@ -52,7 +52,7 @@ counts_same a i (v ∷ ws) (c ∷ cells) fused e f =
     rw (is_fused, here, rest) refl
 
 -- any number of islands, with lanes
-module _ {S D L B : Type 0} (sources : S → SourceState) (drains : D → DrainState) (book : Book) (g : Graph) (nets : ℕ → Net (Node S D L B)) (seats : Seats) (asked : ℕ → ℕ) (covers : Covers g nets seats)
+module _ {S D L B : Type 0} (sources : S → SourceState) (drains : D → DrainState) (book : Book) (g : Graph) (nets : ℕ → Net (IslandNode S D L B)) (seats : Seats) (asked : ℕ → ℕ) (covers : Covers g nets seats)
     (settled : (b : ℕ) → Settled node_row (node_law sources drains book) node_asking node_moves (nets b)) where
   pub all_run : IsJoined g → LanesKeep g nets seats asked → AllMade (FirstOf sources g.chains) g (joined nets seats asked) → IsRun sources drains book g (joined nets seats asked)
   all_run is_joined lanes made = record {
@@ -65,17 +65,17 @@ module _ {S D L B : Type 0} (sources : S → SourceState) (drains : D → DrainS
   all_rest = all_still node_row (node_law sources drains book) node_asking node_moves g nets seats covers asked settled
 
 -- one island, in which no wire is a lane
-module _ {S D L B : Type 0} (sources : S → SourceState) (drains : D → DrainState) (book : Book) (g : Graph) (net : Net (Node S D L B)) (settled : Settled node_row (node_law sources drains book) node_asking node_moves net) (made : Materializes sources g net.firsts net.ends) where
+module _ {S D L B : Type 0} (sources : S → SourceState) (drains : D → DrainState) (book : Book) (g : Graph) (net : Net (IslandNode S D L B)) (settled : Settled node_row (node_law sources drains book) node_asking node_moves net) (made : Materializes sources g net.firsts net.ends) where
   within : (k : ℕ) (n : graph.Node) → slice_get g.nodes k ≡ Some n → k < length net.nodes
   within k n e = let h = slice_get-below g.nodes k n e in let a = settled.each_first in let b = made.nodes in omega (arith, h, a, b)
 
   wire_within : (u : ℕ) → u < length g.wires → u < length net.wires
   wire_within u h = let a = settled.wired.each_wire in let b = made.wires in omega (arith, h, a, b)
 
-  below : (u : ℕ) (v : Wire) → slice_get g.wires u ≡ Some v → u < length net.wires
+  below : (u : ℕ) (v : Edge) → slice_get g.wires u ≡ Some v → u < length net.wires
   below u v e = wire_within u (slice_get-below g.wires u v e)
 
-  the_wire : (u : ℕ) → u < length net.wires → (v : Wire) × (slice_get g.wires u ≡ Some v)
+  the_wire : (u : ℕ) → u < length net.wires → (v : Edge) × (slice_get g.wires u ≡ Some v)
   the_wire u h = let a = settled.wired.each_wire in let b = made.wires in get_there g.wires u (omega (arith, h, a, b))
 
   module _ (is_joined : IsJoined g) where
@@ -86,7 +86,7 @@ module _ {S D L B : Type 0} (sources : S → SourceState) (drains : D → DrainS
         most : (p : ℕ) → p < inputs_of n.kind → p < length (ports_at net k).ins
         most p h =
             let u = is_joined.each_input k n p e h in
-            let f = found_both (λ (x : Wire). x.to) (λ (x : Wire). x.input) k p g.wires u.0 u.1 in
+            let f = found_both (λ (x : Edge). x.to) (λ (x : Edge). x.input) k p g.wires u.0 u.1 in
             let w = made.each_wire u.0 f.wire f.at in
             let slot : slice_get (port_at net.ports k).ins p ≡ Some u.0 = rw (w.to ∙ f.here, w.input ∙ f.port_is) at (settled.wired.to_input u.0 (below u.0 f.wire f.at)) in
             get_within (ports_at net k).ins p u.0 slot
@@ -109,7 +109,7 @@ module _ {S D L B : Type 0} (sources : S → SourceState) (drains : D → DrainS
         most : (p : ℕ) → p < outputs_of n.kind → p < length (ports_at net k).outs
         most p h =
             let u = is_joined.each_output k n p e h in
-            let f = found_both (λ (x : Wire). x.from) (λ (x : Wire). x.output) k p g.wires u.0 u.1 in
+            let f = found_both (λ (x : Edge). x.from) (λ (x : Edge). x.output) k p g.wires u.0 u.1 in
             let w = made.each_wire u.0 f.wire f.at in
             let slot : slice_get (port_at net.ports k).outs p ≡ Some u.0 = rw (w.from ∙ f.here, w.output ∙ f.port_is) at (settled.wired.from_output u.0 (below u.0 f.wire f.at)) in
             get_within (ports_at net k).outs p u.0 slot
@@ -142,7 +142,7 @@ module _ {S D L B : Type 0} (sources : S → SourceState) (drains : D → DrainS
       fused = λ u v e no. refl;
     }
 
-    no_lane : (u : ℕ) (v : Wire) → slice_get g.wires u ≡ Some v → v.lane ≡ None
+    no_lane : (u : ℕ) (v : Edge) → slice_get g.wires u ≡ Some v → v.lane ≡ None
     no_lane u v e = (made.each_wire u v e).no_lane
 
     pub island_run : IsRun sources drains book g (account_of net)

@@ -103,8 +103,8 @@ pub record IsRecover (kd : Kind) (x : recover.Recover) : Type 0 where
   pub fits_by : (g : Graph) (w : World) (k : ℕ) (os : List Outlook) → moves_fit g w k kd os ≡ recover_fits (w.moves k) (head_of os)
   pub is : x ≡ recover.begun element
   pub no_sink : is_sink kd ≡ false
-  pub lawful : (g : Graph) (w : World) (k : ℕ) (d : Decider) (is os : List picture.View) → OneToOne (StageLawful (as_it_is 1 true)) is os × OneToOne (RecoverLawful (w.moves k)) is os → RowLawful g w k kd d is os
-  pub rests : (g : Graph) (w : World) (k : ℕ) (d : Decider) (is os : List picture.View) → OneToOne (StageRests (as_it_is 1 true)) is os → RowRests g w k kd d is os
+  pub lawful : (g : Graph) (w : World) (k : ℕ) (d : Decider) (is os : List picture.SeenWire) → OneToOne (StageLawful (as_it_is 1 true)) is os × OneToOne (RecoverLawful (w.moves k)) is os → RowLawful g w k kd d is os
+  pub rests : (g : Graph) (w : World) (k : ℕ) (d : Decider) (is os : List picture.SeenWire) → OneToOne (StageRests (as_it_is 1 true)) is os → RowRests g w k kd d is os
 
 pub recovers_first : (k : ℕ) (kd : Kind) (d : Decider) (x : recover.Recover) → BeginsAs kd k d (Recovering x) → IsRecover kd x
 recovers_first k (RecoverNum z) d x b = record { element = num z; outlook = λ g w k d os p. refl; fits_by = λ g w k os. refl; is = b; no_sink = refl; lawful = λ g w k d is os r. r; rests = λ g w k d is os r. r }

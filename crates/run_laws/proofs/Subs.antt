@@ -67,8 +67,8 @@ pub record IsSubKind (kd : Kind) (o : Opening) (j : Joining) : Type 0 where
   pub no_sink : is_sink kd ≡ false
   pub outlook : (g : Graph) (w : World) (k : ℕ) (d : Decider) (os : List Outlook) (p : ℕ) → node_outlook g w k kd d os p ≡ outlook_by j (yields_of g w k kd) k o (w.moves k) (head_of os)
   pub fits : (g : Graph) (w : World) (k : ℕ) (os : List Outlook) → moves_fit g w k kd os ≡ fits_by j (yields_of g w k kd) k o (w.moves k) (head_of os)
-  pub lawful : (g : Graph) (w : World) (k : ℕ) (d : Decider) (is os : List picture.View) → OneToOne (StageLawful (of_machine (substreams (yields_of g w k kd) o) (begin_subs (yields_of g w k kd) k) true)) is os → RowLawful g w k kd d is os
-  pub rests : (g : Graph) (w : World) (k : ℕ) (d : Decider) (is os : List picture.View) → OneToOne (StageRests (of_machine (substreams (yields_of g w k kd) o) (begin_subs (yields_of g w k kd) k) true)) is os → RowRests g w k kd d is os
+  pub lawful : (g : Graph) (w : World) (k : ℕ) (d : Decider) (is os : List picture.SeenWire) → OneToOne (StageLawful (of_machine (substreams (yields_of g w k kd) o) (begin_subs (yields_of g w k kd) k) true)) is os → RowLawful g w k kd d is os
+  pub rests : (g : Graph) (w : World) (k : ℕ) (d : Decider) (is os : List picture.SeenWire) → OneToOne (StageRests (of_machine (substreams (yields_of g w k kd) o) (begin_subs (yields_of g w k kd) k) true)) is os → RowRests g w k kd d is os
 
 group_kind : (n : ℕ) (f : MapFn) (name : List ℕ) → IsSubKind (GroupBy n f name) (by_key n f) Merge
 group_kind n f name = record { no_sink = refl; outlook = λ g w k d os p. refl; fits = λ g w k os. refl; lawful = λ g w k d is os r. r; rests = λ g w k d is os r. r }

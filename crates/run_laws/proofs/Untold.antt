@@ -12,7 +12,7 @@ use Rattle.stream_model.specs.Graph.{Graph}
 use Rattle.stream_model.specs.Graph as graph
 use Rattle.stream_model.specs.Composed.{sink_outlook}
 use Rattle.stream_io.specs.State.{SourceState, DrainState}
-use Rattle.nodes.specs.declared.node.Node.{Node}
+use Rattle.nodes.specs.declared.node.IslandNode.{IslandNode}
 use Rattle.nodes.specs.Sink.{Sink, WroteAll, StandsAs, SinkLaw}
 use Rattle.nodes.proofs.SinkTexts.{has_lines}
 use Rattle.run_account.specs.Account.{Account, knows, took, gave}
@@ -73,7 +73,7 @@ module _ {D : Type 0} (drains : D → DrainState) (first now : Sink D) (v : View
     stands = its_bytes.stands;
   }
 
-module _ {S D L B : Type 0} (sources : S → SourceState) (drains : D → DrainState) (book : Book) (g : Graph) (a : Account (Node S D L B)) (run : IsRun sources drains book g a) where
+module _ {S D L B : Type 0} (sources : S → SourceState) (drains : D → DrainState) (book : Book) (g : Graph) (a : Account (IslandNode S D L B)) (run : IsRun sources drains book g a) where
   pub sink_wrote : (k : ℕ) (n : graph.Node) (first now : Sink D) → slice_get g.nodes k ≡ Some n → IsSinkAt a k first now → SinkWrote sources drains book g a k n first now
   unfolding law_over
   sink_wrote k n first now ni at =

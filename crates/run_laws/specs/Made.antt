@@ -3,7 +3,7 @@ use Rattle.std.specs.Prelude.{◌≡◌, ℕ, List, [], length, slice_get, Some,
 use Rattle.stream_model.specs.declared.kind.Kind.{Kind}
 use Rattle.stream_model.specs.declared.kind.Kind.TheVariants as kind
 use Rattle.stream_model.specs.declared.outcome.EndState.TheVariants.{Unended}
-use Rattle.stream_model.specs.Graph.{Graph, Wire, steps_of}
+use Rattle.stream_model.specs.Graph.{Graph, Edge, steps_of}
 use Rattle.stream_model.specs.Graph as graph
 use Rattle.stream_model.specs.Linear.{Mention, no_name, a_file, a_switch, a_trip, a_plug, a_chain, mention_of}
 use Rattle.stream_io.specs.State.{SourceState}
@@ -18,10 +18,10 @@ use Rattle.stage_in.specs.declared.logic.InLogic.{InLogic}
 use Rattle.stage_in.specs.Logics as fan_in
 use Rattle.stage_out.specs.declared.logic.OutLogic.{OutLogic}
 use Rattle.stage_out.specs.OutLogics as fan_out
-use Rattle.fused_net.specs.declared.net.Ends.{Ends}
+use Rattle.fused_net.specs.declared.net.WireEnds.{WireEnds}
 use Rattle.fused_net.specs.Net.{end_at}
-use Rattle.nodes.specs.declared.node.Node.{Node}
-use Rattle.nodes.specs.declared.node.Node.TheVariants.{Reading, Making, Linear, State, Sub, FanIn, FanOut, Writing, Ignoring, Entering, Leaving}
+use Rattle.nodes.specs.declared.node.IslandNode.{IslandNode}
+use Rattle.nodes.specs.declared.node.IslandNode.TheVariants.{Reading, Making, Linear, State, Sub, FanIn, FanOut, Writing, Ignoring, Entering, Leaving}
 use Rattle.nodes.specs.Source.{Lines}
 use Rattle.nodes.specs.Maker.{Made}
 use Rattle.nodes.specs.Sink.{Sink}
@@ -95,7 +95,7 @@ pub record FirstIgnoring (k : ℕ) (shape : Kind) (x : Ignorer) : Type 0 where
   pub end : x.end ≡ Unended
 
 -- node k of a blueprint with these chains, as it is handed in; the ends of a lane are no nodes of it
-abbrev pub FirstOf : {S D L B : Type 0} → (S → SourceState) → List graph.Chain → ℕ → graph.Node → Node S D L B → Type 0
+abbrev pub FirstOf : {S D L B : Type 0} → (S → SourceState) → List graph.Chain → ℕ → graph.Node → IslandNode S D L B → Type 0
 FirstOf sources chains k n (Reading x) = FirstReading sources k n.kind x
 FirstOf sources chains k n (Making x) = FirstMaking k n.kind x
 FirstOf sources chains k n (Linear x) = FirstLinear k n x
@@ -109,7 +109,7 @@ FirstOf sources chains k n (Entering x) = ⊥
 FirstOf sources chains k n (Leaving x) = ⊥
 
 -- a wire between the same ports, which is no lane
-pub record IsFused (v : Wire) (e : Ends) : Type 0 where
+pub record IsFused (v : Edge) (e : WireEnds) : Type 0 where
   pub from : e.from ≡ v.from
   pub output : e.output ≡ v.output
   pub to : e.to ≡ v.to
@@ -117,8 +117,8 @@ pub record IsFused (v : Wire) (e : Ends) : Type 0 where
   pub no_lane : v.lane ≡ None
 
 -- the nodes, as they are handed in, and the wires' ends are those of the blueprint, each at its place
-pub record Materializes {S D L B : Type 0} (sources : S → SourceState) (g : Graph) (firsts : List (Node S D L B)) (ends : List Ends) : Type 0 where
+pub record Materializes {S D L B : Type 0} (sources : S → SourceState) (g : Graph) (firsts : List (IslandNode S D L B)) (ends : List WireEnds) : Type 0 where
   pub nodes : length firsts ≡ length g.nodes
   pub wires : length ends ≡ length g.wires
-  pub each_node : (k : ℕ) (n : graph.Node) (x : Node S D L B) → slice_get g.nodes k ≡ Some n → slice_get firsts k ≡ Some x → FirstOf sources g.chains k n x
-  pub each_wire : (i : ℕ) (v : Wire) → slice_get g.wires i ≡ Some v → IsFused v (end_at ends i)
+  pub each_node : (k : ℕ) (n : graph.Node) (x : IslandNode S D L B) → slice_get g.nodes k ≡ Some n → slice_get firsts k ≡ Some x → FirstOf sources g.chains k n x
+  pub each_wire : (i : ℕ) (v : Edge) → slice_get g.wires i ≡ Some v → IsFused v (end_at ends i)

@@ -9,13 +9,13 @@ use Rattle.stream_io.specs.State.{SourceState}
 use Rattle.stream_io.specs.Reading.{FirstTooLong}
 use Rattle.stage_law.specs.Held.{told}
 use Rattle.run_account.specs.Account.{Account}
-use Rattle.nodes.specs.declared.node.Node.{Node}
-use Rattle.nodes.specs.declared.node.Node.TheVariants.{Reading}
+use Rattle.nodes.specs.declared.node.IslandNode.{IslandNode}
+use Rattle.nodes.specs.declared.node.IslandNode.TheVariants.{Reading}
 use Rattle.nodes.specs.Drawing.{ended_lines}
 use Rattle.nodes.specs.Source.{Lines}
 
 -- a source of lines is node k, as it was handed in and now
-pub record IsSourceAt {S D L B : Type 0} (a : Account (Node S D L B)) (k : ℕ) (first now : Lines S) : Type 0 where
+pub record IsSourceAt {S D L B : Type 0} (a : Account (IslandNode S D L B)) (k : ℕ) (first now : Lines S) : Type 0 where
   pub at_first : a.firsts k ≡ Some (Reading first)
   pub at_last : a.nodes k ≡ Some (Reading now)
 

@@ -16,8 +16,8 @@ use Rattle.stream_model.specs.declared.outcome.EndState.{EndState}
 use Rattle.stream_model.specs.declared.outcome.EndState.TheVariants.{Ended, Failed, Unended, WriteFault}
 use Rattle.stage_law.specs.Held.{told}
 use Rattle.run_account.specs.Account.{Account}
-use Rattle.nodes.specs.declared.node.Node.{Node}
-use Rattle.nodes.specs.declared.node.Node.TheVariants.{Writing, Ignoring}
+use Rattle.nodes.specs.declared.node.IslandNode.{IslandNode}
+use Rattle.nodes.specs.declared.node.IslandNode.TheVariants.{Writing, Ignoring}
 use Rattle.nodes.specs.Sink.{Sink, end_seen}
 use Rattle.nodes.specs.Ignoring.{Ignorer}
 use Rattle.run_laws.specs.Telling.{Tells}
@@ -50,14 +50,14 @@ SentTo Unended sent count = (count ≤ sent) × (sent ≤ count + 1)
 SentTo WriteFault sent count = sent ≡ count + 1
 
 -- a sink with a file is node k, as it was handed in and now
-pub record IsSinkAt {S D L B : Type 0} (a : Account (Node S D L B)) (k : ℕ) (first now : Sink D) : Type 0 where
+pub record IsSinkAt {S D L B : Type 0} (a : Account (IslandNode S D L B)) (k : ℕ) (first now : Sink D) : Type 0 where
   pub at_first : a.firsts k ≡ Some (Writing first)
   pub at_last : a.nodes k ≡ Some (Writing now)
 
 -- What a sink with a file wrote, whether its drain tells what it holds or not: so many whole lines as it counts, and bytes that its
 -- outlook lets it write, by every world of this book of plugs that tells of the files of the sources. A drain that was empty at
 -- first, and tells what it holds, holds just those bytes.
-pub record SinkWrote {S D L B : Type 0} (sources : S → SourceState) (drains : D → DrainState) (book : Book) (g : Graph) (a : Account (Node S D L B)) (k : ℕ) (n : graph.Node) (first now : Sink D) : Type 0 where
+pub record SinkWrote {S D L B : Type 0} (sources : S → SourceState) (drains : D → DrainState) (book : Book) (g : Graph) (a : Account (IslandNode S D L B)) (k : ℕ) (n : graph.Node) (first now : Sink D) : Type 0 where
   pub written : List ℕ
   pub lines_are : whole_lines (length written) written ≡ now.count
   pub holds : (drains first.drain).holds ≡ Some [] → (drains now.drain).holds ≡ Some written
@@ -72,6 +72,6 @@ IgnoreTells o Unended sent = (list : List Tree) × (Agrees o list unended × ((l
 IgnoreTells o WriteFault sent = ⊥
 
 -- a sink that keeps nothing is node k, as it was handed in and now
-pub record IsIgnorerAt {S D L B : Type 0} (a : Account (Node S D L B)) (k : ℕ) (first now : Ignorer) : Type 0 where
+pub record IsIgnorerAt {S D L B : Type 0} (a : Account (IslandNode S D L B)) (k : ℕ) (first now : Ignorer) : Type 0 where
   pub at_first : a.firsts k ≡ Some (Ignoring first)
   pub at_last : a.nodes k ≡ Some (Ignoring now)

@@ -28,7 +28,7 @@ use Rattle.stage_balance.specs.Outs.{SomeAsked}
 use Rattle.stage_balance.specs.Balances.{waits, BalanceTurn, BalanceClose, BalanceTurnBy}
 use Rattle.stage_balance.specs.Balancings.{Balancing, input_of, view_of, Queued, Holding, Sound, row, waited_by, waited, held, Does, closed, served, filled, others, without, Took, alone, again, stays, Ended, end_waits, end_passes, Lost, final, others_open, FirstServed}
 use Rattle.stage_balance.proofs.Queues.{open_served, open_lost, queue_without, never_longer}
-use Rattle.stage_fans.proofs.Outs.{want_set, is_open, shut_views, gone_views}
+use Rattle.stage_fans.proofs.OutViews.{want_set, is_open, shut_views, gone_views}
 use Rattle.stage_balance.proofs.Wants.{view_at}
 use Rattle.stage_balance.proofs.Handlings.{is_standing, Found, found, Handled, handle, turn_open, none_handed, quiet, push_told, one_turn, named_one, end_of, end_told, completed, broke, broke_by, completions, failures, completes_all, fails_all}
 

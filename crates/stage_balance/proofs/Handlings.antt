@@ -33,7 +33,7 @@ use Rattle.stage_balance.specs.Outs.{SomeAsked}
 use Rattle.stage_balance.specs.Balances.{waits, Handed, BalanceTurn, BalanceClose, BalanceTurnBy}
 use Rattle.stage_balance.specs.Balancings.{Balancing, input_of, view_of, Holding, Sound, row_by, row, waited_by, waited, held_by, held, Turned, Does, closed, emptied, lined, served, Answered, given, last, queues, Took, alone, again, LastInLine}
 use Rattle.stage_balance.proofs.Queues.{open_asked, set_self, queue_more, queue_fits}
-use Rattle.stage_fans.proofs.Outs.{want_set, is_quiet, after_one, shut_views}
+use Rattle.stage_fans.proofs.OutViews.{want_set, is_quiet, after_one, shut_views}
 use Rattle.stage_balance.proofs.Wants.{view_twice, view_at, asked_at, Acted, acts_from, GivenAt, nothing_here, one_here, given_each}
 
 -- ---- the row

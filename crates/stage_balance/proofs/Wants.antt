@@ -14,7 +14,7 @@ use Rattle.stage_core.specs.Handling.{Pulls}
 use Rattle.stage_fans.specs.declared.outs.OutputState.{OutputState}
 use Rattle.stage_fans.specs.declared.outs.OutputState.TheVariants.{Quiet, Asks, Gone}
 use Rattle.stage_fans.specs.Outs.{want_view, at_open}
-use Rattle.stage_fans.proofs.Outs.{after_one, set_behind, at_behind}
+use Rattle.stage_fans.proofs.OutViews.{after_one, set_behind, at_behind}
 use Rattle.stage_fans.proofs.Flags.{other}
 
 -- ---- views

@@ -14,7 +14,7 @@ use Rattle.port_core.specs.View.{in_at, IsInOpen, IsOutOpen, ActsAllowed, acted_
 use Rattle.port_core.specs.Asking.{PullsStand}
 use Rattle.port_core.specs.Call.{AllUnasked, MayCome, Call, starts, pulls, arrives, cancels, CallAllowed, given_on}
 use Rattle.stream_model.specs.FanIn.{Inflow}
-use Rattle.stream_picture.specs.View.{View, EachWire}
+use Rattle.stream_picture.specs.View.{SeenWire, EachWire}
 use Rattle.stream_picture.specs.Rests.{IsShut}
 use Rattle.stage_fans.specs.Seats.{wish, open_cancels, InsClosed, OneClosed, FanClosed}
 use Rattle.stage_fans.specs.OwnRows.{own_inputs, own_outputs, FanRests}
@@ -121,5 +121,5 @@ out_shut (y ∷ z ∷ ys) g h = absurd h
 pub ports_shut : (v : port.View) (ins : List Inflow) (g : List Tree) → FanClosed v → EachWire IsShut (own_inputs v.ins ins) × EachWire IsShut (own_outputs v.outs g)
 ports_shut v ins g h = (ins_shut v.ins ins h.0, out_shut v.outs g h.1)
 
-pub closed_rests : (P : List View → View → Type 0) (v : port.View) (ins : List Inflow) (g : List Tree) → FanClosed v → FanRests P v ins g
+pub closed_rests : (P : List SeenWire → SeenWire → Type 0) (v : port.View) (ins : List Inflow) (g : List Tree) → FanClosed v → FanRests P v ins g
 closed_rests P v ins g h = inl (ports_shut v ins g h)

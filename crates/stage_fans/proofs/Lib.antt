@@ -2,4 +2,4 @@ pub mod Flags
 pub mod Arrivals
 pub mod Closings
 pub mod Histories
-pub mod Outs
+pub mod OutViews

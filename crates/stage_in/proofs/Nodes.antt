@@ -108,7 +108,7 @@ two_of (a ∷ b ∷ []) h = record { a = a; b = b; is = refl }
 two_of (a ∷ b ∷ c ∷ ins) h = absurd (omega (arith, h))
 
 -- one with two inputs, by what it does where it is open
-rests_of : (P : List picture.View → picture.View → Type 0) (Sound : Pairing → Type 0) (l : Pairing) (v : View) (ins : List Inflow) (g : List Tree) (p : Phase) → l.phase ≡ p → (l.phase ≡ New → ⊥) → row_by Sound p l v → length ins ≡ length v.ins
+rests_of : (P : List picture.SeenWire → picture.SeenWire → Type 0) (Sound : Pairing → Type 0) (l : Pairing) (v : View) (ins : List Inflow) (g : List Tree) (p : Phase) → l.phase ≡ p → (l.phase ≡ New → ⊥) → row_by Sound p l v → length ins ≡ length v.ins
     → ((a b : Inflow) → ins ≡ a ∷ b ∷ [] → l.phase ≡ Open → FanRests P v (a ∷ b ∷ []) g) → FanRests P v ins g
 rests_of P Sound l v ins g New e s r long at = absurd (s e)
 rests_of P Sound l v ins g Open e s r long at =

@@ -12,7 +12,7 @@ use Rattle.stream_model.specs.declared.kind.Kind.TheVariants.{Merge, Concat, Int
 use Rattle.stream_model.specs.declared.kind.TheConstants.{MAX_FAN}
 use Rattle.stream_model.specs.Outlook.{End}
 use Rattle.stream_model.specs.FanIn.{Inflow, concat_taken, interleave_taken}
-use Rattle.stream_picture.specs.View.{View}
+use Rattle.stream_picture.specs.View.{SeenWire}
 use Rattle.stream_picture.specs.Rests.{MergeRests, SortedRests, ZipRests}
 use Rattle.stage_fans.specs.PortsLaws.{InPortsLaw}
 use Rattle.stage_law.specs.Fans.{FanKeeps}
@@ -166,7 +166,7 @@ pub record InLaw (first now : InLogic) (v : port.View) (took gave : List (List I
   pub by : InPortsLaw (Keeps first now) v took gave
 
 -- one that waits for nothing that it could do, by its kind
-abbrev pub KindRests : InLogic → List View → View → Type 0
+abbrev pub KindRests : InLogic → List SeenWire → SeenWire → Type 0
 KindRests (logic.Taking l) = TakingRests l.segment
 KindRests (logic.Sorting l) = SortedRests
 KindRests (logic.Zipping l) = ZipRests

@@ -10,13 +10,13 @@ use Rattle.elem_core.specs.declared.why.Decider.TheVariants.{Stop, Resume, Resta
 use Rattle.stream_model.specs.Machine.{going, broken, adds, refuses}
 use Rattle.stream_model.specs.Linear.{Book, Work, Stage, grouping, folding, scanning, reducing, step, finish_of, blame_end, linear}
 use Rattle.stream_picture.specs.OneWay.{holds_at_end}
-use Rattle.stage_keeping.specs.declared.keeping.Keeping.{Keeping}
-use Rattle.stage_keeping.specs.declared.keeping.Keeping.TheVariants.{Group, Fold, Reduce, Scan}
-use Rattle.stage_keeping.specs.declared.keeping.Outcome.{Outcome}
-use Rattle.stage_keeping.specs.declared.keeping.Outcome.TheVariants.{Gives, Asks, Fails}
+use Rattle.stage_keeping.specs.declared.keeping.StateWork.{StateWork}
+use Rattle.stage_keeping.specs.declared.keeping.StateWork.TheVariants.{Group, Fold, Reduce, Scan}
+use Rattle.stage_keeping.specs.declared.keeping.StateReaction.{StateReaction}
+use Rattle.stage_keeping.specs.declared.keeping.StateReaction.TheVariants.{Gives, Asks, Fails}
 
 -- the work of what is kept
-abbrev pub work_in : Keeping → Work
+abbrev pub work_in : StateWork → Work
 work_in (Group n held) = grouping n held.items
 work_in (Fold o a) = folding o a
 work_in (Reduce r a) = reducing r a
@@ -35,7 +35,7 @@ abbrev pub StepsTo : Decider → Work → Tree → List Tree → Work → Type 0
 StepsTo d old t out new = (book : Book) (node taken : ℕ) → step book (stage_of node d taken old) t ≡ record { gave = out; state = going (stage_of node d (taken + 1) new) }
 
 -- What came of the element t: what is given, and the stage goes on; or it asks again; or it fails, and the element is to blame.
-abbrev pub Reacted : Decider → Work → Tree → Work → Outcome → Type 0
+abbrev pub Reacted : Decider → Work → Tree → Work → StateReaction → Type 0
 Reacted d old t new (Gives u) = StepsTo d old t (u ∷ []) new × GoesOn old new
 Reacted d old t new Asks = StepsTo d old t [] new × GoesOn old new
 Reacted d old t new (Fails why) =

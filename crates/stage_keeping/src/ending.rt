@@ -2,7 +2,7 @@ use elem_core::why::Cause;
 
 /// How the input of a stage stands that still owes outputs. Rule: own.
 #[derive(Clone, Copy, PartialEq, Eq)]
-pub enum Ending {
+pub enum StateEnd {
     /// It has not ended.
     Lasting,
     /// It has ended.

@@ -10,7 +10,7 @@ use std::mem;
 
 /// What a stage keeps between elements, and what it does with each. Rule: Akka Streams 2.6 reference.
 #[derive(Drop)]
-pub enum Keeping {
+pub enum StateWork {
     /// Groups of so many, and the group that is not full.
     Group(u32, Vec<Elem>),
     /// A fold, and its value.
@@ -23,7 +23,7 @@ pub enum Keeping {
 
 /// What came of an element. Rule: own.
 #[derive(Drop)]
-pub enum Outcome {
+pub enum StateReaction {
     /// This is given.
     Gives(Elem),
     /// Nothing is given: the stage asks again.
@@ -32,16 +32,21 @@ pub enum Outcome {
     Fails(Why),
 }
 
-impl Keeping {
+impl StateWork {
     /// One more element, for a stage with this decider.
-    pub fn react(&mut self, alloc: Global, decider: Decider, e: Elem) -> Result<Outcome, NoMemory>
+    pub fn react(
+        &mut self,
+        alloc: Global,
+        decider: Decider,
+        e: Elem,
+    ) -> Result<StateReaction, NoMemory>
         ensures { IfOk result (Reacted decider (work_in self.old) e (work_in self.new)) }
     {
         match self {
-            Keeping::Group(n, held) => group(*n, held, alloc, decider, e),
-            Keeping::Fold(op, acc) => fold(op, acc, alloc, decider, &e),
-            Keeping::Reduce(op, acc) => reduce(op, acc, alloc, decider, e),
-            Keeping::Scan(op, acc) => scan(op, acc, alloc, decider, &e),
+            StateWork::Group(n, held) => group(*n, held, alloc, decider, e),
+            StateWork::Fold(op, acc) => fold(op, acc, alloc, decider, &e),
+            StateWork::Reduce(op, acc) => reduce(op, acc, alloc, decider, e),
+            StateWork::Scan(op, acc) => scan(op, acc, alloc, decider, &e),
         }
     }
 
@@ -50,12 +55,12 @@ impl Keeping {
         ensures { Finishes (work_in self.old) (work_in self.new) result }
     {
         match self {
-            Keeping::Group(_, held) => Ok(rest_of(held, alloc)),
-            Keeping::Fold(_, acc) => Ok(Some(mem::replace(acc, placeholder()))),
-            Keeping::Reduce(_, acc) => acc
+            StateWork::Group(_, held) => Ok(rest_of(held, alloc)),
+            StateWork::Fold(_, acc) => Ok(Some(mem::replace(acc, placeholder()))),
+            StateWork::Reduce(_, acc) => acc
                 .take()
                 .map_or(Err(Why::EmptyReduce), |value| Ok(Some(value))),
-            Keeping::Scan(_, _) => Ok(None),
+            StateWork::Scan(_, _) => Ok(None),
         }
     }
 }
@@ -71,15 +76,15 @@ fn group(
     alloc: Global,
     decider: Decider,
     e: Elem,
-) -> Result<Outcome, NoMemory>
+) -> Result<StateReaction, NoMemory>
     ensures { IfOk result (Reacted decider (grouping n held.old.items) e (grouping n held.new.items)) }
 {
     held.push(e)?;
     if held.len() < n as usize {
-        return Ok(Outcome::Asks);
+        return Ok(StateReaction::Asks);
     }
     let full = mem::replace(held, Vec::new(alloc));
-    Ok(Outcome::Gives(Elem::of(Form::Seq(full))))
+    Ok(StateReaction::Gives(Elem::of(Form::Seq(full))))
 }
 
 // The last group, where it is not empty.
@@ -99,12 +104,12 @@ fn fold(
     alloc: Global,
     decider: Decider,
     e: &Elem,
-) -> Result<Outcome, NoMemory>
+) -> Result<StateReaction, NoMemory>
     ensures { IfOk result (Reacted decider (folding op.now acc.old) e.now (folding op.now acc.new)) }
 {
     match (next(op, acc, alloc, decider, e)?, decider) {
-        (Some(why), Decider::Stop) => Ok(Outcome::Fails(why)),
-        _ => Ok(Outcome::Asks),
+        (Some(why), Decider::Stop) => Ok(StateReaction::Fails(why)),
+        _ => Ok(StateReaction::Asks),
     }
 }
 
@@ -114,13 +119,13 @@ fn scan(
     alloc: Global,
     decider: Decider,
     e: &Elem,
-) -> Result<Outcome, NoMemory>
+) -> Result<StateReaction, NoMemory>
     ensures { IfOk result (Reacted decider (scanning op.now acc.old) e.now (scanning op.now acc.new)) }
 {
     match (next(op, acc, alloc, decider, e)?, decider) {
-        (Some(why), Decider::Stop) => Ok(Outcome::Fails(why)),
-        (Some(_), Decider::Resume) => Ok(Outcome::Asks),
-        _ => Ok(Outcome::Gives(acc.copy(alloc)?)),
+        (Some(why), Decider::Stop) => Ok(StateReaction::Fails(why)),
+        (Some(_), Decider::Resume) => Ok(StateReaction::Asks),
+        _ => Ok(StateReaction::Gives(acc.copy(alloc)?)),
     }
 }
 
@@ -160,17 +165,17 @@ fn reduce(
     alloc: Global,
     decider: Decider,
     e: Elem,
-) -> Result<Outcome, NoMemory>
+) -> Result<StateReaction, NoMemory>
     ensures { IfOk result (Reacted decider (reducing op.now acc.old) e (reducing op.now acc.new)) }
 {
     match acc.take() {
         None => {
             *acc = Some(e);
-            Ok(Outcome::Asks)
+            Ok(StateReaction::Asks)
         }
         Some(value) => match (next_reduced(op, value, acc, alloc, decider, &e)?, decider) {
-            (Some(why), Decider::Stop) => Ok(Outcome::Fails(why)),
-            _ => Ok(Outcome::Asks),
+            (Some(why), Decider::Stop) => Ok(StateReaction::Fails(why)),
+            _ => Ok(StateReaction::Asks),
         },
     }
 }

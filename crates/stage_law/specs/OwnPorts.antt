@@ -8,7 +8,7 @@ use Rattle.port_core.specs.declared.view.InView.TheVariants.{Idle, Pulled, Finis
 use Rattle.port_core.specs.declared.view.OutView.{OutView}
 use Rattle.port_core.specs.declared.view.OutView.TheVariants as outlet
 use Rattle.stream_model.specs.Machine.{Run, Machine}
-use Rattle.stream_picture.specs.View.{View}
+use Rattle.stream_picture.specs.View.{SeenWire}
 use Rattle.stream_picture.specs.OneWay.{of_machine}
 use Rattle.stream_picture.specs.Rests.{IsShut, StageRests}
 
@@ -27,11 +27,11 @@ is_asked outlet.Closed = false
 is_asked outlet.Cancelled = false
 
 -- the wire of an input, of which this list was taken
-abbrev pub own_input : InView → List Tree → View
+abbrev pub own_input : InView → List Tree → SeenWire
 own_input x l = record { wire = 0; sent = length l; asked = is_waiting x; shut = input_closed x; lane = None; list = l }
 
 -- the wire of an output, on which this list was given
-abbrev pub own_output : OutView → List Tree → View
+abbrev pub own_output : OutView → List Tree → SeenWire
 own_output y g = record { wire = 0; sent = length g; asked = is_asked y; shut = output_closed y; lane = None; list = g }
 
 -- A stage with one input and one output, which took l and gave g, has closed its ports or has nothing to do: it waits for

@@ -13,8 +13,8 @@ use Rattle.stream_model.specs.Machine.{Finish, adds, refuses}
 use Rattle.elem_core.specs.declared.why.Decider.{Decider}
 use Rattle.elem_core.specs.declared.why.Decider.TheVariants.{Stop, Resume, Restart}
 use Rattle.stream_model.specs.Linear.{Book, Stage, Work, mapping, filtering, taking, taking_while, dropping, dropping_while, passing, limiting, grouping, expanding, folding, scanning, reducing, heading, lasting, numbering, plugged, finish_of}
-use Rattle.stage_linear.specs.declared.task.Outcome.{Outcome}
-use Rattle.stage_linear.specs.declared.task.Outcome.TheVariants.{Gives, GivesAll, Skips, EndsWith, EndsWithAll, Ends, Blames, Fails}
+use Rattle.stage_linear.specs.declared.task.LinearReaction.{LinearReaction}
+use Rattle.stage_linear.specs.declared.task.LinearReaction.TheVariants.{Gives, GivesAll, Skips, EndsWith, EndsWithAll, Ends, Blames, Fails}
 use Rattle.stage_core.specs.declared.phase.Phase.TheVariants.{Open}
 use Rattle.stage_linear.specs.declared.course.Course.{Course}
 use Rattle.stage_linear.specs.declared.course.Course.TheVariants as course
@@ -119,10 +119,10 @@ module _ (book : Book) (node n k : ℕ) (old w : Work) (b c : Bool) (t : Tree) (
   abbrev then : Decider → Logic
   then d = working (of_parts (with_decider d) course.Waits b []) w c
 
-  abbrev PushedAt : Decider → Outcome → Type 0
+  abbrev PushedAt : Decider → LinearReaction → Type 0
   PushedAt d o = ActsAllowed (seen (arrives 0 (item.Elem t)) (ports Pulled outlet.Available)) (answer_acts (then d) k o) × row (answered (then d) k o) (acted_all (seen (arrives 0 (item.Elem t)) (ports Pulled outlet.Available)) (answer_acts (then d) k o))
 
-  pushed_at : (d : Decider) (o : Outcome) → ReactedBy book old t w o → StaysOn c o → PushedAt d o
+  pushed_at : (d : Decider) (o : LinearReaction) → ReactedBy book old t w o → StaysOn c o → PushedAt d o
   pushed_at d (Gives u) r s = ((refl, tt), (inl refl, (r.1.0, s)))
   pushed_at d (GivesAll []) r s = ((refl, tt), (refl, (r.1.0.0, s)))
   pushed_at d (GivesAll (u ∷ us)) r s = ((refl, tt), (inr r.1.1, (r.1.0.0, s)))
@@ -137,7 +137,7 @@ module _ (book : Book) (node n k : ℕ) (old w : Work) (b c : Bool) (t : Tree) (
   pushed_at Restart (Blames why) r s = ((refl, tt), (refl, (rw r.1.0 more, s)))
   pushed_at d (Fails why) r s = ((tt, (tt, tt)), tt)
 
-  pushed_ports : (d : Decider) (o : Outcome) (x : InView) (y : OutView) → ReactedBy book old t w o → StaysOn c o → row_in Open course.Waits [] old b x y
+  pushed_ports : (d : Decider) (o : LinearReaction) (x : InView) (y : OutView) → ReactedBy book old t w o → StaysOn c o → row_in Open course.Waits [] old b x y
       → ActsAllowed (seen (arrives 0 (item.Elem t)) (ports x y)) (answer_acts (then d) k o) × row (answered (then d) k o) (acted_all (seen (arrives 0 (item.Elem t)) (ports x y)) (answer_acts (then d) k o))
   pushed_ports d o Pulled outlet.Available r s h = pushed_at d o r s
   pushed_ports d o Pulled outlet.Unpulled r s h = absurd h
@@ -147,7 +147,7 @@ module _ (book : Book) (node n k : ℕ) (old w : Work) (b c : Bool) (t : Tree) (
   pushed_ports d o Finished y r s h = absurd h
   pushed_ports d o Cancelled y r s h = absurd h
 
-  pushed_in : (d : Decider) (o : Outcome) (xs : List InView) (ys : List OutView) → ReactedBy book old t w o → StaysOn c o → OneOneOf (row_in Open course.Waits [] old b) xs ys
+  pushed_in : (d : Decider) (o : LinearReaction) (xs : List InView) (ys : List OutView) → ReactedBy book old t w o → StaysOn c o → OneOneOf (row_in Open course.Waits [] old b) xs ys
       → ActsAllowed (seen (arrives 0 (item.Elem t)) (record { ins = xs; outs = ys })) (answer_acts (then d) k o) × row (answered (then d) k o) (acted_all (seen (arrives 0 (item.Elem t)) (record { ins = xs; outs = ys })) (answer_acts (then d) k o))
   pushed_in d o (x ∷ []) (y ∷ []) r s h = pushed_ports d o x y r s h
   pushed_in d o [] ys r s h = absurd h
@@ -155,10 +155,10 @@ module _ (book : Book) (node n k : ℕ) (old w : Work) (b c : Bool) (t : Tree) (
   pushed_in d o (x ∷ []) (y ∷ z ∷ ys) r s h = absurd h
   pushed_in d o (x ∷ u ∷ xs) ys r s h = absurd h
 
-  pub pushed_parts : (d : Decider) (o : Outcome) → ReactedBy book old t w o → StaysOn c o → Obeys (arrives 0 (item.Elem t)) (row (of_parts (with_decider d) course.Waits b [])) (row (answered (then d) k o)) (answer_acts (then d) k o)
+  pub pushed_parts : (d : Decider) (o : LinearReaction) → ReactedBy book old t w o → StaysOn c o → Obeys (arrives 0 (item.Elem t)) (row (of_parts (with_decider d) course.Waits b [])) (row (answered (then d) k o)) (answer_acts (then d) k o)
   pushed_parts d o r s = record { allowed = λ v _ h. (pushed_in d o v.ins v.outs r s h).0; row = λ v _ h. (pushed_in d o v.ins v.outs r s h).1 }
 
-pub pushed_obeys : (book : Book) (l : Logic) (w : Work) (c : Bool) (t : Tree) (k : ℕ) (o : Outcome) → l.phase ≡ Open → Waits l → ReactedBy book l.stage.work t w o → StaysOn c o
+pub pushed_obeys : (book : Book) (l : Logic) (w : Work) (c : Bool) (t : Tree) (k : ℕ) (o : LinearReaction) → l.phase ≡ Open → Waits l → ReactedBy book l.stage.work t w o → StaysOn c o
     → Obeys (arrives 0 (item.Elem t)) (row l) (row (answered (working l w c) k o)) (answer_acts (working l w c) k o)
 pushed_obeys book l w c t k o h q r s =
     subst (λ (x : Logic). Obeys (arrives 0 (item.Elem t)) (row x) (row (answered (working x w c) k o)) (answer_acts (working x w c) k o)) (sym (of_logic l course.Waits [] h q.on q.none))

@@ -22,8 +22,8 @@ use Rattle.stage_law.proofs.Lagging.{few_nothing}
 use Rattle.stage_core.specs.declared.phase.Phase.TheVariants.{New, Open}
 use Rattle.stage_linear.specs.declared.course.Course.{Course}
 use Rattle.stage_linear.specs.declared.course.Course.TheVariants as course
-use Rattle.stage_linear.specs.declared.task.Outcome.{Outcome}
-use Rattle.stage_linear.specs.declared.task.Outcome.TheVariants.{Gives, GivesAll, Skips, EndsWith, EndsWithAll, Ends, Blames, Fails}
+use Rattle.stage_linear.specs.declared.task.LinearReaction.{LinearReaction}
+use Rattle.stage_linear.specs.declared.task.LinearReaction.TheVariants.{Gives, GivesAll, Skips, EndsWith, EndsWithAll, Ends, Blames, Fails}
 use Rattle.stage_linear.specs.Tasks.{HasMore, SameMachine, GoesOn, Spreads, Stays, ReactedBy}
 use Rattle.port_core.specs.declared.act.Act.{Act}
 use Rattle.stage_linear.specs.Outcomes.{working, answered, answer_acts, CameTo}
@@ -74,7 +74,7 @@ module _ (book : Book) (t : Tree) (node n : ℕ) (old : Work) (rdy : Bool) where
   abbrev logic : Bool → Decider → Work → Logic
   logic b d w = record { phase = Open; stage = stage d w n; pending = []; course = course.Waits; ready = b }
 
-  abbrev Steps : Decider → Work → Outcome → Type 0
+  abbrev Steps : Decider → Work → LinearReaction → Type 0
   Steps d w o = TurnAt (linear book old) 0 (arrives 0 (item.Elem t)) (before d) (given_on 0 (answer_acts (logic rdy d w) (n + 1) o)) (held book (answered (logic rdy d w) (n + 1) o))
 
   -- by its reaction: what is given first goes out, and the others are held
@@ -106,7 +106,7 @@ module _ (book : Book) (t : Tree) (node n : ℕ) (old : Work) (rdy : Bool) where
   blamed Restart w why is same =
       rw same.0 (turn_by Restart (blames why) [] (owing (record { gave = []; state = going (stage Restart old (n + 1)) })) is (rw (same.1.0, same.1.1) (refl, refl)) (none_held Restart (going (stage Restart old (n + 1)))))
 
-  step_by : (d : Decider) (w : Work) (o : Outcome) → ReactedBy book old t w o → Steps d w o
+  step_by : (d : Decider) (w : Work) (o : LinearReaction) → ReactedBy book old t w o → Steps d w o
   step_by d w (Gives u) r = turn_by d (gives (u ∷ []) w) (item.Elem u ∷ []) (owing (record { gave = []; state = going (stage d w (n + 1)) })) r.0 (refl, refl) (none_held d (going (stage d w (n + 1))))
   step_by d w (GivesAll []) r = turn_by d (gives [] w) [] (owing (record { gave = []; state = going (stage d w (n + 1)) })) r.0 (refl, refl) (none_held d (going (stage d w (n + 1))))
   step_by d w (GivesAll (u ∷ us)) r =
@@ -120,7 +120,7 @@ module _ (book : Book) (t : Tree) (node n : ℕ) (old : Work) (rdy : Bool) where
   step_by d w (Blames why) r = blamed d w why r.0 r.1
   step_by d w (Fails why) r = turn_by d (breaks why) (item.Failed (record { stage = node; nth = n + 1; why = why }) ∷ []) shut r.0 (refl, refl) tt
 
-  same_by : (d : Decider) (w : Work) (o : Outcome) → ReactedBy book old t w o → SameMachine old (answered (logic rdy d w) (n + 1) o).stage.work
+  same_by : (d : Decider) (w : Work) (o : LinearReaction) → ReactedBy book old t w o → SameMachine old (answered (logic rdy d w) (n + 1) o).stage.work
   same_by d w (Gives u) r = r.1.1
   same_by d w (GivesAll []) r = r.1.0.1
   same_by d w (GivesAll (u ∷ us)) r = r.1.0.1
@@ -135,7 +135,7 @@ module _ (book : Book) (t : Tree) (node n : ℕ) (old : Work) (rdy : Bool) where
   same_by Restart w (Blames why) r = λ b. rw r.1.0 refl
   same_by d w (Fails why) r = r.1
 
-  started_by : (d : Decider) (w : Work) (o : Outcome) → (answered (logic rdy d w) (n + 1) o).phase ≡ New → ⊥
+  started_by : (d : Decider) (w : Work) (o : LinearReaction) → (answered (logic rdy d w) (n + 1) o).phase ≡ New → ⊥
   started_by d w (Gives u) e = cc
   started_by d w (GivesAll []) e = cc
   started_by d w (GivesAll (u ∷ us)) e = cc
@@ -150,7 +150,7 @@ module _ (book : Book) (t : Tree) (node n : ℕ) (old : Work) (rdy : Bool) where
   started_by Restart w (Blames why) e = cc
   started_by d w (Fails why) e = cc
 
-  stands_by : (d : Decider) (w : Work) (o : Outcome) → PullsStand (answer_acts (logic rdy d w) (n + 1) o)
+  stands_by : (d : Decider) (w : Work) (o : LinearReaction) → PullsStand (answer_acts (logic rdy d w) (n + 1) o)
   stands_by d w (Gives u) = tt
   stands_by d w (GivesAll []) = (tt, tt)
   stands_by d w (GivesAll (u ∷ us)) = tt
@@ -165,11 +165,11 @@ module _ (book : Book) (t : Tree) (node n : ℕ) (old : Work) (rdy : Bool) where
   stands_by Restart w (Blames why) = (tt, tt)
   stands_by d w (Fails why) = tt
 
-  pushed_at : (old_rdy : Bool) (d : Decider) (w : Work) (o : Outcome) → ReactedBy book old t w o → Turned book (arrives 0 (item.Elem t)) (logic old_rdy d old) (answer_acts (logic rdy d w) (n + 1) o) (answered (logic rdy d w) (n + 1) o)
+  pushed_at : (old_rdy : Bool) (d : Decider) (w : Work) (o : LinearReaction) → ReactedBy book old t w o → Turned book (arrives 0 (item.Elem t)) (logic old_rdy d old) (answer_acts (logic rdy d w) (n + 1) o) (answered (logic rdy d w) (n + 1) o)
   pushed_at old_rdy d w o r = record { turn = step_by d w o r; same = same_by d w o r; stands = stands_by d w o; started = started_by d w o }
 
 -- an element that came to this outcome
-pub pushed : (book : Book) (l : Logic) (w : Work) (b : Bool) (t : Tree) (k : ℕ) (o : Outcome) → l.phase ≡ Open → Waits l → k ≡ l.stage.taken + 1 → ReactedBy book l.stage.work t w o → Turned book (arrives 0 (item.Elem t)) l (answer_acts (working l w b) k o) (answered (working l w b) k o)
+pub pushed : (book : Book) (l : Logic) (w : Work) (b : Bool) (t : Tree) (k : ℕ) (o : LinearReaction) → l.phase ≡ Open → Waits l → k ≡ l.stage.taken + 1 → ReactedBy book l.stage.work t w o → Turned book (arrives 0 (item.Elem t)) l (answer_acts (working l w b) k o) (answered (working l w b) k o)
 pushed book l w b t k o h q e r =
     rw e (subst (λ (x : Logic). Turned book (arrives 0 (item.Elem t)) x (answer_acts (working x w b) (l.stage.taken + 1) o) (answered (working x w b) (l.stage.taken + 1) o)) (sym (of_logic l course.Waits [] h q.on q.none)) (pushed_at book t l.stage.node l.stage.taken l.stage.work b l.ready l.stage.decider w o r))
 

@@ -3,12 +3,12 @@ use Rattle.std.specs.Prelude.{◌≡◌, Bool, true, Result, Ok, Err, IfOk, Opti
 use Rattle.elem_core.specs.Tree.{Tree}
 use Rattle.stream_model.specs.Linear.{Book, Work}
 use Rattle.stage_linear.specs.declared.task.AtOnce.{AtOnce}
-use Rattle.stage_linear.specs.declared.task.Outcome.{Outcome}
-use Rattle.stage_linear.specs.declared.task.Outcome.TheVariants.{Gives, GivesAll, Skips, EndsWith, EndsWithAll, Ends, Blames, Fails}
+use Rattle.stage_linear.specs.declared.task.LinearReaction.{LinearReaction}
+use Rattle.stage_linear.specs.declared.task.LinearReaction.TheVariants.{Gives, GivesAll, Skips, EndsWith, EndsWithAll, Ends, Blames, Fails}
 use Rattle.stage_linear.specs.Plugs.{StaysOn}
 use Rattle.stage_linear.specs.Tasks.{Reacted, ReactedBy, outcome_of}
 
-pub at_book_if : {E : Type 0} (book : Book) (old : Work) (t : Tree) (new : Work) (r : Result Outcome E) → IfOk r (Reacted old t new) → IfOk r (ReactedBy book old t new)
+pub at_book_if : {E : Type 0} (book : Book) (old : Work) (t : Tree) (new : Work) (r : Result LinearReaction E) → IfOk r (Reacted old t new) → IfOk r (ReactedBy book old t new)
 at_book_if book old t new (Ok o) h = h book
 at_book_if book old t new (Err e) h = h
 
@@ -17,7 +17,7 @@ at_book_said book old t new (Some s) h = h book
 at_book_said book old t new None h = h
 
 -- one that may be called may be called where the stage goes on
-pub stays_on : (b : Bool) (o : Outcome) → b ≡ true → StaysOn b o
+pub stays_on : (b : Bool) (o : LinearReaction) → b ≡ true → StaysOn b o
 stays_on b (Gives u) h = h
 stays_on b (GivesAll us) h = h
 stays_on b Skips h = h

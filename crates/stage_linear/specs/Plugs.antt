@@ -4,10 +4,10 @@ use Rattle.elem_core.specs.Tree.{Tree}
 use Rattle.stream_model.specs.Machine.{adds, refuses}
 use Rattle.stream_model.specs.Linear.{Book, Stage, Work, plugged, blame_end, finish_of}
 use Rattle.plug_logic.specs.Gives.{Gives, listed}
-use Rattle.stage_linear.specs.declared.task.Outcome.{Outcome}
-use Rattle.stage_linear.specs.declared.task.Outcome.TheVariants as outcome
-use Rattle.stage_linear.specs.declared.task.Last.{Last}
-use Rattle.stage_linear.specs.declared.task.Last.TheVariants as last
+use Rattle.stage_linear.specs.declared.task.LinearReaction.{LinearReaction}
+use Rattle.stage_linear.specs.declared.task.LinearReaction.TheVariants as outcome
+use Rattle.stage_linear.specs.declared.task.LinearEnd.{LinearEnd}
+use Rattle.stage_linear.specs.declared.task.LinearEnd.TheVariants as last
 
 -- p is what q says behind these inputs
 pub record Is (p : Gives) (took : List Tree) (q : Gives) : Type 0 where
@@ -28,7 +28,7 @@ abbrev pub plug_work : PlugState → Work
 plug_work s = plugged s.name s.taken
 
 -- where the stage goes on, this does
-abbrev pub StaysOn : Bool → Outcome → Type 0
+abbrev pub StaysOn : Bool → LinearReaction → Type 0
 StaysOn on (outcome.Gives u) = on ≡ true
 StaysOn on (outcome.GivesAll us) = on ≡ true
 StaysOn on outcome.Skips = on ≡ true
@@ -39,6 +39,6 @@ StaysOn on (outcome.Blames why) = on ≡ true
 StaysOn on (outcome.Fails why) = ⊤
 
 -- what came of the end of the input of a stage of this work: its last outputs, or that it fails
-abbrev pub EndsAs : Book → Work → Last → Type 0
+abbrev pub EndsAs : Book → Work → LinearEnd → Type 0
 EndsAs b w (last.Adds us) = (s : Stage) → finish_of b s w ≡ adds us
 EndsAs b w (last.Refuses why) = (s : Stage) → finish_of b s w ≡ refuses (blame_end s why)

@@ -4,12 +4,12 @@ use Rattle.elem_core.specs.Tree.{Tree, num}
 use Rattle.stream_model.specs.Linear.{Book, Work, mapping, filtering, taking, taking_while, dropping, dropping_while, passing, limiting, grouping, folding, scanning, reducing, heading, lasting, numbering, expanding, gives, ends, blames, breaks, reaction, holds, restarted, first_of, linear}
 use Rattle.stream_picture.specs.OneWay.{holds_at_end}
 use Rattle.elem_core.specs.declared.function.Pred.{Pred}
-use Rattle.stage_linear.specs.declared.task.Task.{Task}
-use Rattle.stage_linear.specs.declared.task.Task.TheVariants.{Map, Filter, FilterNot, Take, TakeWhile, Drop, DropWhile, Limit, Expand}
+use Rattle.stage_linear.specs.declared.task.LinearWork.{LinearWork}
+use Rattle.stage_linear.specs.declared.task.LinearWork.TheVariants.{Map, Filter, FilterNot, Take, TakeWhile, Drop, DropWhile, Limit, Expand}
 use Rattle.stage_linear.specs.declared.task.AtOnce.{AtOnce}
 use Rattle.stage_linear.specs.declared.task.AtOnce.TheVariants as at_once
-use Rattle.stage_linear.specs.declared.task.Outcome.{Outcome}
-use Rattle.stage_linear.specs.declared.task.Outcome.TheVariants.{Gives, GivesAll, Skips, EndsWith, EndsWithAll, Ends, Blames, Fails}
+use Rattle.stage_linear.specs.declared.task.LinearReaction.{LinearReaction}
+use Rattle.stage_linear.specs.declared.task.LinearReaction.TheVariants.{Gives, GivesAll, Skips, EndsWith, EndsWithAll, Ends, Blames, Fails}
 
 -- a drop_while passes every element once it gave one
 abbrev pub dropping_by : Pred → Bool → Work
@@ -17,7 +17,7 @@ dropping_by p true = passing
 dropping_by p false = dropping_while p
 
 -- the work of a task
-abbrev pub work_in : Task → Work
+abbrev pub work_in : LinearWork → Work
 work_in (Map f) = mapping f
 work_in (Filter p) = filtering p true
 work_in (FilterNot p) = filtering p false
@@ -58,7 +58,7 @@ Stays old new = (new ≡ old) × ((restarted old ≡ old) × (first_of old ≡ [
 
 -- What came of the element t by a book of plugs, as the model's reaction: what is given, and the stage goes on; or that it ends;
 -- or why the function has no value, at which the work stays as it was; or why the stage fails, whatever its decider.
-abbrev pub ReactedBy : Book → Work → Tree → Work → Outcome → Type 0
+abbrev pub ReactedBy : Book → Work → Tree → Work → LinearReaction → Type 0
 ReactedBy book old t new (Gives u) = (reaction book old t ≡ gives (u ∷ []) new) × GoesOn old new
 ReactedBy book old t new (GivesAll us) = (reaction book old t ≡ gives us new) × (GoesOn old new × Spreads new)
 ReactedBy book old t new Skips = (reaction book old t ≡ gives [] new) × GoesOn old new
@@ -69,11 +69,11 @@ ReactedBy book old t new (Blames why) = (reaction book old t ≡ blames why) × 
 ReactedBy book old t new (Fails why) = (reaction book old t ≡ breaks why) × SameMachine old new
 
 -- the same by every book, since the task asks none
-abbrev pub Reacted : Work → Tree → Work → Outcome → Type 0
+abbrev pub Reacted : Work → Tree → Work → LinearReaction → Type 0
 Reacted old t new o = (book : Book) → ReactedBy book old t new o
 
 -- what comes of the element t at once, as an outcome
-abbrev pub outcome_of : AtOnce → Tree → Outcome
+abbrev pub outcome_of : AtOnce → Tree → LinearReaction
 outcome_of at_once.Passes t = Gives t
 outcome_of (at_once.Gives z) t = Gives (num z)
 outcome_of at_once.Skips t = Skips

@@ -3,7 +3,7 @@ use Rattle.std.specs.Prelude.{◌≡◌, Bool, true}
 use Rattle.stream_model.specs.Linear.{Work}
 use Rattle.stage_linear.specs.Tasks.{work_in}
 use Rattle.stage_linear.specs.Plugs.{plug_work, StaysOn}
-use Rattle.stage_linear.specs.declared.task.Outcome.{Outcome}
+use Rattle.stage_linear.specs.declared.task.LinearReaction.{LinearReaction}
 use Rattle.stage_linear.specs.declared.worker.Worker.{Worker}
 use Rattle.stage_linear.specs.declared.worker.Worker.TheVariants.{Plain, Plug}
 
@@ -20,5 +20,5 @@ abbrev pub CanTake : {L B : Type 0} → Worker L B → Type 0
 CanTake k = ready_by k ≡ true
 
 -- it may still be called, where the stage goes on
-abbrev pub GoesOnReady : {L B : Type 0} → Worker L B → Outcome → Type 0
+abbrev pub GoesOnReady : {L B : Type 0} → Worker L B → LinearReaction → Type 0
 GoesOnReady k o = StaysOn (ready_by k) o

@@ -15,7 +15,7 @@ ghost use Rattle.stage_linear.specs.States.{Begins, row, Turned, HasTask, counte
 
 use crate::course::Course;
 use crate::plug::PlugTask;
-use crate::task::{AtOnce, Last, Outcome, Task};
+use crate::task::{AtOnce, LinearEnd, LinearReaction, LinearWork};
 use crate::worker::Worker;
 use elem_core::elem::{Elem, Form};
 use elem_core::elems::Elems;
@@ -72,15 +72,15 @@ impl<L: Logic, B: PlugBook> LinearLogic<L, B> {
         ensures begins { IfOk result (Begins stage kind decider) }
     {
         let task = match kind {
-            Kind::Map(f) => Task::Map(f),
-            Kind::Filter(p) => Task::Filter(p),
-            Kind::FilterNot(p) => Task::FilterNot(p),
-            Kind::Take(n) => Task::Take(n),
-            Kind::TakeWhile(p) => Task::TakeWhile(p),
-            Kind::Drop(n) => Task::Drop(n),
-            Kind::DropWhile(p) => Task::DropWhile(p, false),
-            Kind::Limit(n) => Task::Limit(n),
-            Kind::MapConcat(x) => Task::Expand(x),
+            Kind::Map(f) => LinearWork::Map(f),
+            Kind::Filter(p) => LinearWork::Filter(p),
+            Kind::FilterNot(p) => LinearWork::FilterNot(p),
+            Kind::Take(n) => LinearWork::Take(n),
+            Kind::TakeWhile(p) => LinearWork::TakeWhile(p),
+            Kind::Drop(n) => LinearWork::Drop(n),
+            Kind::DropWhile(p) => LinearWork::DropWhile(p, false),
+            Kind::Limit(n) => LinearWork::Limit(n),
+            Kind::MapConcat(x) => LinearWork::Expand(x),
             _ => unreachable!(),
         };
         Ok(LinearLogic {
@@ -124,7 +124,7 @@ impl<L: Logic, B: PlugBook> LinearLogic<L, B> {
     {
         self.pending = None;
         self.course = Course::Idles;
-        if let Worker::Plain(Task::Take(0)) = self.worker {
+        if let Worker::Plain(LinearWork::Take(0)) = self.worker {
             self.complete(acts);
         } else {
             self.phase = Phase::Open;
@@ -324,7 +324,7 @@ impl<L: Logic, B: PlugBook> LinearLogic<L, B> {
     }
 
     // What element number `taken` came to.
-    fn answer(&mut self, taken: u64, outcome: Outcome, acts: &mut Acts)
+    fn answer(&mut self, taken: u64, outcome: LinearReaction, acts: &mut Acts)
         requires none { self.old.pending ≡ [] }
         requires empty { acts.old.items ≡ [] }
         requires room { 4 ≤ acts.old.room }
@@ -332,17 +332,17 @@ impl<L: Logic, B: PlugBook> LinearLogic<L, B> {
         ensures acts { acts.new ≡ record acts.old { items = answer_acts self.old taken outcome } }
     {
         match outcome {
-            Outcome::Gives(value) => self.give(taken, value, acts),
-            Outcome::GivesAll(values) => self.give_all(taken, values, acts),
-            Outcome::Skips => self.skip(taken, acts),
-            Outcome::EndsWith(value) => {
+            LinearReaction::Gives(value) => self.give(taken, value, acts),
+            LinearReaction::GivesAll(values) => self.give_all(taken, values, acts),
+            LinearReaction::Skips => self.skip(taken, acts),
+            LinearReaction::EndsWith(value) => {
                 self.give(taken, value, acts);
                 self.complete(acts);
             }
-            Outcome::EndsWithAll(values) => self.leave(taken, values, acts),
-            Outcome::Ends => self.complete(acts),
-            Outcome::Blames(why) => self.decide(taken, why, acts),
-            Outcome::Fails(why) => self.fail(taken, why, acts),
+            LinearReaction::EndsWithAll(values) => self.leave(taken, values, acts),
+            LinearReaction::Ends => self.complete(acts),
+            LinearReaction::Blames(why) => self.decide(taken, why, acts),
+            LinearReaction::Fails(why) => self.fail(taken, why, acts),
         }
     }
 
@@ -490,8 +490,8 @@ impl<L: Logic, B: PlugBook> LinearLogic<L, B> {
         ensures room { acts.new.room ≡ acts.old.room }
     {
         match self.worker.end(alloc)? {
-            Last::Adds(values) => self.end_with(values, acts),
-            Last::Refuses(why) => {
+            LinearEnd::Adds(values) => self.end_with(values, acts),
+            LinearEnd::Refuses(why) => {
                 let cause = Cause {
                     stage: self.node,
                     nth: 0,

@@ -3,7 +3,7 @@ ghost use Rattle.plug_logic.specs.Gives.{listed};
 ghost use Rattle.stage_linear.specs.Tasks.{ReactedBy};
 ghost use Rattle.stage_linear.specs.Plugs.{Is, plug_work, StaysOn, EndsAs};
 
-use crate::task::{Last, Outcome};
+use crate::task::{LinearEnd, LinearReaction};
 use elem_core::elem::Elem;
 use elem_core::elems::Elems;
 use elem_core::line::Line;
@@ -55,7 +55,12 @@ impl<L: Logic, B: PlugBook> PlugTask<L, B> {
 
     /// One more element. Its outputs are put into `out`, which is empty. Behind an answer that does not go on, and behind
     /// `NoMemory`, it is not to be called any more.
-    pub fn react(&mut self, alloc: Global, e: Elem, mut out: Elems) -> Result<Outcome, NoMemory>
+    pub fn react(
+        &mut self,
+        alloc: Global,
+        e: Elem,
+        mut out: Elems,
+    ) -> Result<LinearReaction, NoMemory>
         requires running { self.old.running ≡ true }
         requires empty { out ≡ [] }
         ensures reacts { IfOk result (ReactedBy B.lists (plug_work self.old) e (plug_work self.new)) }
@@ -67,16 +72,16 @@ impl<L: Logic, B: PlugBook> PlugTask<L, B> {
             Verdict::Go => {
                 self.taken = taken;
                 self.running = true;
-                Ok(Outcome::GivesAll(out))
+                Ok(LinearReaction::GivesAll(out))
             }
-            Verdict::Finish => Ok(Outcome::EndsWithAll(out)),
-            Verdict::Fail(n) => Ok(Outcome::Fails(Why::Plug(n))),
+            Verdict::Finish => Ok(LinearReaction::EndsWithAll(out)),
+            Verdict::Fail(n) => Ok(LinearReaction::Fails(Why::Plug(n))),
             Verdict::NoMemory => Err(AllocError),
         }
     }
 
     /// The end of the input. It is not to be called any more.
-    pub fn end(&mut self, alloc: Global) -> Result<Last, NoMemory>
+    pub fn end(&mut self, alloc: Global) -> Result<LinearEnd, NoMemory>
         requires { self.old.running ≡ true }
         ensures last { IfOk result (EndsAs B.lists (plug_work self.old)) }
         ensures work { plug_work self.new ≡ plug_work self.old }
@@ -84,8 +89,8 @@ impl<L: Logic, B: PlugBook> PlugTask<L, B> {
         let mut out = Elems::new(alloc);
         self.running = false;
         match self.logic.on_end(alloc, &mut out) {
-            Verdict::Go | Verdict::Finish => Ok(Last::Adds(out)),
-            Verdict::Fail(n) => Ok(Last::Refuses(Why::Plug(n))),
+            Verdict::Go | Verdict::Finish => Ok(LinearEnd::Adds(out)),
+            Verdict::Fail(n) => Ok(LinearEnd::Refuses(Why::Plug(n))),
             Verdict::NoMemory => Err(AllocError),
         }
     }

@@ -4,7 +4,7 @@ ghost use Rattle.stage_linear.specs.Plugs.{EndsAs};
 ghost use Rattle.stage_linear.specs.Workers.{work_by, CanTake, GoesOnReady};
 
 use crate::plug::PlugTask;
-use crate::task::{AtOnce, Last, Outcome, Task};
+use crate::task::{AtOnce, LinearEnd, LinearReaction, LinearWork};
 use elem_core::elem::Elem;
 use elem_core::elems::Elems;
 use elem_core::why::NoMemory;
@@ -16,7 +16,7 @@ use std::alloc::Global;
 #[derive(Drop)]
 pub enum Worker<L: Logic, B: PlugBook> {
     /// A task of the program's own stages.
-    Plain(Task),
+    Plain(LinearWork),
     /// A logic that a caller made.
     Plug(PlugTask<L, B>),
 }
@@ -38,7 +38,7 @@ impl<L: Logic, B: PlugBook> Worker<L, B> {
     }
 
     /// One more element. A plug puts its outputs into `out`, which is empty, so that its list takes no memory anew.
-    pub fn react(&mut self, alloc: Global, e: Elem, out: Elems) -> Result<Outcome, NoMemory>
+    pub fn react(&mut self, alloc: Global, e: Elem, out: Elems) -> Result<LinearReaction, NoMemory>
         requires more { HasMore (work_by self.old) }
         requires ready { CanTake self.old }
         requires empty { out ≡ [] }
@@ -52,13 +52,13 @@ impl<L: Logic, B: PlugBook> Worker<L, B> {
     }
 
     /// The end of the input: what it gives then. A task gives nothing, and takes no memory.
-    pub fn end(&mut self, alloc: Global) -> Result<Last, NoMemory>
+    pub fn end(&mut self, alloc: Global) -> Result<LinearEnd, NoMemory>
         requires ready { CanTake self.old }
         ensures last { IfOk result (EndsAs B.lists (work_by self.old)) }
         ensures work { work_by self.new ≡ work_by self.old }
     {
         match self {
-            Worker::Plain(_) => Ok(Last::Adds(Elems::new(alloc))),
+            Worker::Plain(_) => Ok(LinearEnd::Adds(Elems::new(alloc))),
             Worker::Plug(plug) => plug.end(alloc),
         }
     }

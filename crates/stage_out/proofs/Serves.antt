@@ -24,7 +24,7 @@ use Rattle.stage_fans.specs.declared.outs.OutputState.TheVariants.{Quiet, Asks, 
 use Rattle.stage_fans.specs.Outs.{want_view, open_count, at_open, OutsClosed, AllClosed}
 use Rattle.stage_out.specs.Copies.{copying, owed_by, owed, outlets, input_by, quiet_count, served_one, served}
 use Rattle.stage_out.specs.CopyStates.{CopyLogic, part_by, view_of, Sound, row_by, row, Turned, Does, without, Lost, last, unasked, wanted}
-use Rattle.stage_fans.proofs.Outs.{after_one, want_set, is_quiet, is_open, shut_views, gone_views}
+use Rattle.stage_fans.proofs.OutViews.{after_one, want_set, is_quiet, is_open, shut_views, gone_views}
 use Rattle.stage_out.proofs.Wants.{other, asked_count, quiet_lost, asked_lost, served_quiet, served_open, Acted, acts_from, all_asked, all_open, served_views, given_one, turns_from, kept_turns, asked_turns, lost_turns, none_owed, map_same}
 
 -- ---- the row

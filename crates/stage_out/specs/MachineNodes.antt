@@ -22,7 +22,7 @@ pub record MachinesLaw (first now : OutMachines) (v : View) (took gave : List (L
   pub alike : IsAlike first now
   pub same : (book : Book) → owe (outlets book first) (owed now) ≡ outlets book now
   pub outputs : length (owed now) ≡ length (owed first)
-  pub rests : (is os : List picture.View) → rests_as now is os → rests_as first is os
+  pub rests : (is os : List picture.SeenWire) → rests_as now is os → rests_as first is os
   pub taken : List Item
   pub took_is : took ≡ taken ∷ []
   pub ports : length gave ≡ length (owed now)

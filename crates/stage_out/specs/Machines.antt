@@ -79,7 +79,7 @@ owed (Copies l) = copies.owed l.live no_stage l.outs
 owed (Deals l) = dues (then_of l.live l) 0 l.outs
 
 -- how it rests: its row over its inputs and outputs
-abbrev pub rests_as : OutMachines → List picture.View → List picture.View → Type 0
+abbrev pub rests_as : OutMachines → List picture.SeenWire → List picture.SeenWire → Type 0
 rests_as (Copies l) = OneToMany BroadcastRests
 rests_as (Deals l) = OneToMany PartitionRests
 
@@ -98,7 +98,7 @@ pub record TurnsEach (call : Call) (old : OutMachines) (acts : List Act) (new : 
   pub turns : (book : Book) → TurnsAt 0 call (outlets book old) acts (owed new)
   pub same : (book : Book) → owe (outlets book old) (owed new) ≡ outlets book new
   pub outputs : length (owed new) ≡ length (owed old)
-  pub rests : (is os : List picture.View) → rests_as new is os → rests_as old is os
+  pub rests : (is os : List picture.SeenWire) → rests_as new is os → rests_as old is os
   pub stands : PullsStand acts
 
 -- ---- a new logic
@@ -168,4 +168,4 @@ pub record Begins (node : ℕ) (kind : Kind) (new : OutMachines) : Type 0 where
   pub outputs : (book : Book) → outlets book new ≡ starts_of book node kind
   pub agrees : (g : Graph) (w : World) (d : Decider) → EachAgrees 0 (λ j is. node_outlook g w node kind d is j) (outlets w.book new)
   pub fresh : IsNew new
-  pub rests : (g : Graph) (w : World) (d : Decider) (is os : List picture.View) → rests_as new is os → RowRests g w node kind d is os
+  pub rests : (g : Graph) (w : World) (d : Decider) (is os : List picture.SeenWire) → rests_as new is os → RowRests g w node kind d is os

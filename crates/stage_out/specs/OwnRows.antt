@@ -7,7 +7,7 @@ use Rattle.port_core.specs.View as port
 use Rattle.elem_core.specs.declared.item.Item.{Item}
 use Rattle.stream_model.specs.Outlook.{End}
 use Rattle.stage_law.specs.Held.{told}
-use Rattle.stream_picture.specs.View.{View, EachWire}
+use Rattle.stream_picture.specs.View.{SeenWire, EachWire}
 use Rattle.stream_picture.specs.Rests.{IsShut}
 use Rattle.stage_law.specs.OwnPorts.{own_input, own_output}
 use Rattle.stage_fans.specs.declared.outs.OutputState.{OutputState}
@@ -16,11 +16,11 @@ use Rattle.stage_out.specs.Machines.{rests_as}
 use Rattle.stage_fans.specs.declared.outs.OutputState.TheVariants.{Quiet, Asks, Gone}
 
 -- the one input, with what was taken, and the outputs, each with what was given there
-abbrev pub own_ins : List InView → List Tree → List View
+abbrev pub own_ins : List InView → List Tree → List SeenWire
 own_ins [] l = []
 own_ins (x ∷ xs) l = own_input x l ∷ own_ins xs l
 
-abbrev pub own_outs : List OutView → List (List Tree) → List View
+abbrev pub own_outs : List OutView → List (List Tree) → List SeenWire
 own_outs (y ∷ ys) (g ∷ gs) = own_output y g ∷ own_outs ys gs
 own_outs _ _ = []
 

@@ -14,8 +14,8 @@ use Rattle.port_core.specs.Call.{arrives, seen, Obeys}
 use Rattle.stream_model.specs.Linear.{Work, Stage}
 use Rattle.stage_core.specs.declared.phase.Phase.{Phase}
 use Rattle.stage_core.specs.declared.phase.Phase.TheVariants.{Open}
-use Rattle.stage_keeping.specs.declared.ending.Ending.{Ending}
-use Rattle.stage_keeping.specs.declared.ending.Ending.TheVariants.{Lasting, Ended, Failed}
+use Rattle.stage_keeping.specs.declared.ending.StateEnd.{StateEnd}
+use Rattle.stage_keeping.specs.declared.ending.StateEnd.TheVariants.{Lasting, Ended, Failed}
 use Rattle.stage_state.specs.Outcomes.{working, finished, finish_acts}
 use Rattle.stage_state.specs.States.{Logic, IsKept, keep_row, row}
 
@@ -29,13 +29,13 @@ record Both (v : View) (acts : List Act) (new : Logic) : Type 0 where
   row_is : row new (acted_all v acts)
 
 module _ (s : Stage) (w : Work) (kept : IsKept w) where
-  abbrev open_keep : Ending → Bool → Work → Logic
+  abbrev open_keep : StateEnd → Bool → Work → Logic
   open_keep e a k = record { phase = Open; stage = record s { work = k }; pending = []; asked = a; ending = e; size = None }
 
   abbrev ended_ports : OutView → View
   ended_ports y = record { ins = Finished ∷ []; outs = y ∷ [] }
 
-  at_ports : (e : Ending) (a : Bool) (r : Result (Option Tree) Why) (x : InView) (y : OutView) → keep_row Open e a [] s.work x y → Both (ended_ports y) (finish_acts (open_keep e a w) r) (finished (open_keep e a w) r)
+  at_ports : (e : StateEnd) (a : Bool) (r : Result (Option Tree) Why) (x : InView) (y : OutView) → keep_row Open e a [] s.work x y → Both (ended_ports y) (finish_acts (open_keep e a w) r) (finished (open_keep e a w) r)
   at_ports Lasting true (Ok None) Pulled outlet.Available h = record { allowed = (tt, tt); row_is = tt }
   at_ports Lasting true (Ok (Some u)) Pulled outlet.Available h = record { allowed = (refl, (tt, tt)); row_is = tt }
   at_ports Lasting true (Err why) Pulled outlet.Available h = record { allowed = (tt, tt); row_is = tt }
@@ -71,7 +71,7 @@ module _ (s : Stage) (w : Work) (kept : IsKept w) where
   at_ports (Failed c) false r Cancelled y h = absurd h
   at_ports (Failed c) true r x y h = absurd h
 
-  at_lists : (e : Ending) (a : Bool) (r : Result (Option Tree) Why) (xs : List InView) (ys : List OutView) → OneOneOf (keep_row Open e a [] s.work) xs ys
+  at_lists : (e : StateEnd) (a : Bool) (r : Result (Option Tree) Why) (xs : List InView) (ys : List OutView) → OneOneOf (keep_row Open e a [] s.work) xs ys
       → Both (seen (arrives 0 item.Ended) (record { ins = xs; outs = ys })) (finish_acts (open_keep e a w) r) (finished (open_keep e a w) r)
   at_lists e a r (x ∷ []) (y ∷ []) h = at_ports e a r x y h
   at_lists e a r [] ys h = absurd h
@@ -79,10 +79,10 @@ module _ (s : Stage) (w : Work) (kept : IsKept w) where
   at_lists e a r (x ∷ []) (y ∷ z ∷ ys) h = absurd h
   at_lists e a r (x ∷ u ∷ xs) ys h = absurd h
 
-  obeys_at : (e : Ending) (a : Bool) (r : Result (Option Tree) Why) → Obeys (arrives 0 item.Ended) (row (open_keep e a s.work)) (row (finished (open_keep e a w) r)) (finish_acts (open_keep e a w) r)
+  obeys_at : (e : StateEnd) (a : Bool) (r : Result (Option Tree) Why) → Obeys (arrives 0 item.Ended) (row (open_keep e a s.work)) (row (finished (open_keep e a w) r)) (finish_acts (open_keep e a w) r)
   obeys_at e a r = record { allowed = λ v may h. (at_lists e a r v.ins v.outs h).allowed; row = λ v may h. (at_lists e a r v.ins v.outs h).row_is }
 
-abbrev of_parts : Phase → Stage → List Tree → Bool → Ending → Option ℕ → Logic
+abbrev of_parts : Phase → Stage → List Tree → Bool → StateEnd → Option ℕ → Logic
 of_parts p s k a e n = record { phase = p; stage = s; pending = k; asked = a; ending = e; size = n }
 
 -- the end brought this

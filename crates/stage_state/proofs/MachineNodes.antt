@@ -23,8 +23,8 @@ use Rattle.stage_law.specs.Law.{TookAs, GaveAs, Law}
 use Rattle.stage_law.proofs.Calls.{new_law, call_law}
 use Rattle.stage_core.specs.declared.phase.Phase.{Phase}
 use Rattle.stage_core.specs.declared.phase.Phase.TheVariants.{New, Open, Closed}
-use Rattle.stage_keeping.specs.declared.ending.Ending.{Ending}
-use Rattle.stage_keeping.specs.declared.ending.Ending.TheVariants.{Lasting}
+use Rattle.stage_keeping.specs.declared.ending.StateEnd.{StateEnd}
+use Rattle.stage_keeping.specs.declared.ending.StateEnd.TheVariants.{Lasting}
 use Rattle.stage_keeping.specs.Endings.{state_by}
 use Rattle.stage_state.specs.States.{Logic, machine, machine_by, held, held_in, IsScan, Spare, keep_row, buffer_row, row_by, row, Turned}
 use Rattle.stage_state.specs.MachineNodes.{MachineFresh, MachineRow, MachineLaw}
@@ -88,19 +88,19 @@ record News (size : Option ℕ) (k : List Tree) (w : Work) (x : InView) (y : Out
   gave : GaveAs y unended
   kept : (book : Book) → 1 ≤ (machine_by book size w).hold → k ≡ []
 
-keep_new : (p : Phase) (e : Ending) (a : Bool) (k : List Tree) (w : Work) (x : InView) (y : OutView) → p ≡ New → keep_row p e a k w x y → News None k w x y
+keep_new : (p : Phase) (e : StateEnd) (a : Bool) (k : List Tree) (w : Work) (x : InView) (y : OutView) → p ≡ New → keep_row p e a k w x y → News None k w x y
 keep_new New Lasting false k w Idle Unpulled n r = record { took = refl; gave = refl; kept = λ book h. spare_held book w k r.0 h }
 keep_new New e a k w x y n r = absurd r
 keep_new Open e a k w x y n r = cc
 keep_new Closed e a k w x y n r = cc
 
-buffer_new : (size : ℕ) (p : Phase) (e : Ending) (a : Bool) (k : List Tree) (w : Work) (x : InView) (y : OutView) → p ≡ New → buffer_row size p e a k x y → News (Some size) k w x y
+buffer_new : (size : ℕ) (p : Phase) (e : StateEnd) (a : Bool) (k : List Tree) (w : Work) (x : InView) (y : OutView) → p ≡ New → buffer_row size p e a k x y → News (Some size) k w x y
 buffer_new size New Lasting false k w Idle Unpulled n r = record { took = refl; gave = refl; kept = λ book h. r.0 }
 buffer_new size New e a k w x y n r = absurd r
 buffer_new size Open e a k w x y n r = cc
 buffer_new size Closed e a k w x y n r = cc
 
-new_by : (size : Option ℕ) (p : Phase) (e : Ending) (a : Bool) (k : List Tree) (w : Work) (x : InView) (y : OutView) → p ≡ New → row_by size p e a k w x y → News size k w x y
+new_by : (size : Option ℕ) (p : Phase) (e : StateEnd) (a : Bool) (k : List Tree) (w : Work) (x : InView) (y : OutView) → p ≡ New → row_by size p e a k w x y → News size k w x y
 new_by None p e a k w x y n r = keep_new p e a k w x y n r
 new_by (Some size) p e a k w x y n r = buffer_new size p e a k w x y n r
 

@@ -17,10 +17,10 @@ use Rattle.stage_law.specs.Turn.{Emits, FewIn, TurnAt}
 use Rattle.stage_law.proofs.Lagging.{few_nothing}
 use Rattle.stage_core.specs.declared.phase.Phase.{Phase}
 use Rattle.stage_core.specs.declared.phase.Phase.TheVariants.{Open}
-use Rattle.stage_keeping.specs.declared.ending.Ending.{Ending}
-use Rattle.stage_keeping.specs.declared.ending.Ending.TheVariants.{Lasting, Ended, Failed}
-use Rattle.stage_keeping.specs.declared.keeping.Outcome.{Outcome}
-use Rattle.stage_keeping.specs.declared.keeping.Outcome.TheVariants.{Gives, Asks, Fails}
+use Rattle.stage_keeping.specs.declared.ending.StateEnd.{StateEnd}
+use Rattle.stage_keeping.specs.declared.ending.StateEnd.TheVariants.{Lasting, Ended, Failed}
+use Rattle.stage_keeping.specs.declared.keeping.StateReaction.{StateReaction}
+use Rattle.stage_keeping.specs.declared.keeping.StateReaction.TheVariants.{Gives, Asks, Fails}
 use Rattle.stage_keeping.specs.Keeping.{stage_of, Reacted}
 use Rattle.stage_state.specs.Outcomes.{working, answered, answer_acts}
 use Rattle.stage_state.specs.States.{Logic, held, keep_row, row_by, row, Turned}
@@ -32,7 +32,7 @@ pub record Waits (l : Logic) : Type 0 where
   pub asked : l.asked ≡ true
   pub lasts : l.ending ≡ Lasting
 
-waits_at : (l : Logic) (e : Ending) (a : Bool) (w : Work) (x : InView) (y : OutView) → x ≡ Pulled → l.ending ≡ e → l.asked ≡ a → keep_row Open e a l.pending w x y → Waits l
+waits_at : (l : Logic) (e : StateEnd) (a : Bool) (w : Work) (x : InView) (y : OutView) → x ≡ Pulled → l.ending ≡ e → l.asked ≡ a → keep_row Open e a l.pending w x y → Waits l
 waits_at l Lasting true w Pulled outlet.Available i j k h = record { none = h.0; asked = k; lasts = j }
 waits_at l Lasting true w Pulled outlet.Unpulled i j k h = absurd h
 waits_at l Lasting true w Pulled outlet.Closed i j k h = absurd h
@@ -75,7 +75,7 @@ module _ (t : Tree) (node n : ℕ) (d : Decider) (old w : Work) where
   none_held : (book : Book) → FewIn (linear book old) before t (owing (record { gave = []; state = going (stage_of node d (n + 1) w) }))
   none_held book = few_nothing (linear book old) before t (record { gave = []; state = going (stage_of node d (n + 1) w) }) refl refl
 
-  step_by : (book : Book) (o : Outcome) → Reacted d old t w o → TurnAt (linear book old) 0 (arrives 0 (item.Elem t)) (owing before) (given_on 0 (answer_acts (logic w) (n + 1) o)) (held (answered (logic w) (n + 1) o))
+  step_by : (book : Book) (o : StateReaction) → Reacted d old t w o → TurnAt (linear book old) 0 (arrives 0 (item.Elem t)) (owing before) (given_on 0 (answer_acts (logic w) (n + 1) o)) (held (answered (logic w) (n + 1) o))
   step_by book (Gives u) r =
       turn_by book (record { gave = u ∷ []; state = going (stage_of node d (n + 1) w) }) (item.Elem u ∷ []) (owing (record { gave = []; state = going (stage_of node d (n + 1) w) })) (r.0 book node n) (refl, refl) (none_held book)
   step_by book Asks r =
@@ -83,16 +83,16 @@ module _ (t : Tree) (node n : ℕ) (d : Decider) (old w : Work) where
   step_by book (Fails why) r =
       turn_by book (record { gave = []; state = broken (record { stage = node; nth = n + 1; why = why }) }) (item.Failed (record { stage = node; nth = n + 1; why = why }) ∷ []) shut (r.0 book node n) (refl, refl) tt
 
-  pushed_at : (o : Outcome) → Reacted d old t w o → Turned (arrives 0 (item.Elem t)) (logic old) (answer_acts (logic w) (n + 1) o) (answered (logic w) (n + 1) o)
+  pushed_at : (o : StateReaction) → Reacted d old t w o → Turned (arrives 0 (item.Elem t)) (logic old) (answer_acts (logic w) (n + 1) o) (answered (logic w) (n + 1) o)
   pushed_at (Gives u) r = record { turn = λ book. step_by book (Gives u) r; same = r.1.0; size = refl; stands = tt; started = λ e. cc }
   pushed_at Asks r = record { turn = λ book. step_by book Asks r; same = r.1.0; size = refl; stands = (tt, tt); started = λ e. cc }
   pushed_at (Fails why) r = record { turn = λ book. step_by book (Fails why) r; same = r.1.0; size = refl; stands = tt; started = λ e. cc }
 
-abbrev of_parts : Phase → Stage → List Tree → Bool → Ending → Option ℕ → Logic
+abbrev of_parts : Phase → Stage → List Tree → Bool → StateEnd → Option ℕ → Logic
 of_parts p s k a e n = record { phase = p; stage = s; pending = k; asked = a; ending = e; size = n }
 
 -- an element that came to this outcome
-pub pushed : (l : Logic) (w : Work) (t : Tree) (k : ℕ) (o : Outcome) → l.phase ≡ Open → l.size ≡ None → Waits l → k ≡ l.stage.taken + 1 → Reacted l.stage.decider l.stage.work t w o
+pub pushed : (l : Logic) (w : Work) (t : Tree) (k : ℕ) (o : StateReaction) → l.phase ≡ Open → l.size ≡ None → Waits l → k ≡ l.stage.taken + 1 → Reacted l.stage.decider l.stage.work t w o
     → Turned (arrives 0 (item.Elem t)) l (answer_acts (working l w) k o) (answered (working l w) k o)
 pushed l w t k o on no_size q e r =
     let is : l ≡ of_parts Open l.stage [] true Lasting None =

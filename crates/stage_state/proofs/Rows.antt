@@ -20,8 +20,8 @@ use Rattle.stage_law.proofs.OwnRows.{waiting_rests, idle_rests, closed_rests}
 use Rattle.stage_linear.proofs.Rows.{may_come, closed_ports}
 use Rattle.stage_core.specs.declared.phase.Phase.{Phase}
 use Rattle.stage_core.specs.declared.phase.Phase.TheVariants.{New, Open, Closed}
-use Rattle.stage_keeping.specs.declared.ending.Ending.{Ending}
-use Rattle.stage_keeping.specs.declared.ending.Ending.TheVariants.{Lasting, Ended, Failed}
+use Rattle.stage_keeping.specs.declared.ending.StateEnd.{StateEnd}
+use Rattle.stage_keeping.specs.declared.ending.StateEnd.TheVariants.{Lasting, Ended, Failed}
 use Rattle.stage_state.specs.Buffering.{buffer}
 use Rattle.stage_state.specs.Resting.{begin_buffer, BufferOwnRests}
 use Rattle.stage_state.specs.States.{Logic, held, held_in, keep_row, buffer_row, row_by, row}
@@ -29,17 +29,17 @@ use Rattle.stage_state.proofs.Buffers.{buffer_run}
 
 -- ---- where a call may come, a stage that was started is open
 
-open_keep : (p : Phase) (e : Ending) (a : Bool) (k : List Tree) (w : Work) (x : InView) (y : OutView) → (p ≡ New → ⊥) → (IsInOpen x ⊎ IsOutOpen y) → keep_row p e a k w x y → p ≡ Open
+open_keep : (p : Phase) (e : StateEnd) (a : Bool) (k : List Tree) (w : Work) (x : InView) (y : OutView) → (p ≡ New → ⊥) → (IsInOpen x ⊎ IsOutOpen y) → keep_row p e a k w x y → p ≡ Open
 open_keep Open e a k w x y n h r = refl
 open_keep New e a k w x y n h r = absurd (n refl)
 open_keep Closed e a k w x y n h r = absurd (closed_ports x y h r)
 
-open_buffer : (size : ℕ) (p : Phase) (e : Ending) (a : Bool) (k : List Tree) (x : InView) (y : OutView) → (p ≡ New → ⊥) → (IsInOpen x ⊎ IsOutOpen y) → buffer_row size p e a k x y → p ≡ Open
+open_buffer : (size : ℕ) (p : Phase) (e : StateEnd) (a : Bool) (k : List Tree) (x : InView) (y : OutView) → (p ≡ New → ⊥) → (IsInOpen x ⊎ IsOutOpen y) → buffer_row size p e a k x y → p ≡ Open
 open_buffer size Open e a k x y n h r = refl
 open_buffer size New e a k x y n h r = absurd (n refl)
 open_buffer size Closed e a k x y n h r = absurd (closed_ports x y h r)
 
-open_by : (size : Option ℕ) (p : Phase) (e : Ending) (a : Bool) (k : List Tree) (w : Work) (x : InView) (y : OutView) → (p ≡ New → ⊥) → (IsInOpen x ⊎ IsOutOpen y) → row_by size p e a k w x y → p ≡ Open
+open_by : (size : Option ℕ) (p : Phase) (e : StateEnd) (a : Bool) (k : List Tree) (w : Work) (x : InView) (y : OutView) → (p ≡ New → ⊥) → (IsInOpen x ⊎ IsOutOpen y) → row_by size p e a k w x y → p ≡ Open
 open_by None p e a k w x y n h r = open_keep p e a k w x y n h r
 open_by (Some size) p e a k w x y n h r = open_buffer size p e a k x y n h r
 
@@ -57,17 +57,17 @@ called_open l call v n s h r = open_lists l call v.ins v.outs n s h r
 -- ---- a stage that keeps
 
 module _ (m : Machine Stage Tree) (start : Run Stage Tree) (took gave : List Item) where
-  abbrev LawOf : Phase → Ending → List Tree → Stage → InView → OutView → Type 0
+  abbrev LawOf : Phase → StateEnd → List Tree → Stage → InView → OutView → Type 0
   LawOf p e k s x y = Law m start (held_in p e k s) x y took gave
 
-  abbrev Resting : (p : Phase) (e : Ending) (k : List Tree) (s : Stage) (x : InView) (y : OutView) → LawOf p e k s x y → Type 0
+  abbrev Resting : (p : Phase) (e : StateEnd) (k : List Tree) (s : Stage) (x : InView) (y : OutView) → LawOf p e k s x y → Type 0
   Resting p e k s x y law = OwnRests m start (holds_at_end s.work) x y law.in_list law.out_list
 
   waiting : (k : List Tree) (s : Stage) → k ≡ [] → (law : LawOf Open Lasting k s Pulled outlet.Available) → Resting Open Lasting k s Pulled outlet.Available law
   waiting k s none law =
       subst (λ (h : List Tree). (law : LawOf Open Lasting h s Pulled outlet.Available) → Resting Open Lasting h s Pulled outlet.Available law) (sym none) (λ law. waiting_rests m start (holds_at_end s.work) (going s) took gave law) law
 
-  at_ports : (p : Phase) (e : Ending) (a : Bool) (k : List Tree) (s : Stage) (x : InView) (y : OutView) → (p ≡ New → ⊥) → keep_row p e a k s.work x y → (law : LawOf p e k s x y) → Resting p e k s x y law
+  at_ports : (p : Phase) (e : StateEnd) (a : Bool) (k : List Tree) (s : Stage) (x : InView) (y : OutView) → (p ≡ New → ⊥) → keep_row p e a k s.work x y → (law : LawOf p e k s x y) → Resting p e k s x y law
   at_ports New e a k s x y n r law = absurd (n refl)
   at_ports Closed e a k s x y n r law = closed_rests m start (holds_at_end s.work) x y law.in_list law.out_list r
   at_ports Open Lasting true k s Pulled outlet.Available n r law = waiting k s r.0 law
@@ -115,7 +115,7 @@ module _ (m : Machine Stage Tree) (start : Run Stage Tree) (took gave : List Ite
 -- ---- a buffer
 
 module _ (n : ℕ) (s : Stage) (took gave : List Item) where
-  abbrev BufferLaw : Phase → Ending → List Tree → Stage → InView → OutView → Type 0
+  abbrev BufferLaw : Phase → StateEnd → List Tree → Stage → InView → OutView → Type 0
   BufferLaw p e k t x y = Law (buffer n) (begin_buffer s) (held_in p e k t) x y took gave
 
   -- what it took is what it gave and what it holds
@@ -125,7 +125,7 @@ module _ (n : ℕ) (s : Stage) (took gave : List Item) where
       let all : law.in_list ≡ law.out_list ++ k = ap (λ (z : Run Stage Tree). z.gave) (sym (buffer_run n s law.in_list) ∙ now) in
       ap length all ∙ length-append law.out_list k
 
-  buffer_at : (p : Phase) (e : Ending) (a : Bool) (k : List Tree) (t : Stage) (x : InView) (y : OutView) → (p ≡ New → ⊥) → buffer_row n p e a k x y → (law : BufferLaw p e k t x y) → BufferOwnRests n x y law.in_list law.out_list
+  buffer_at : (p : Phase) (e : StateEnd) (a : Bool) (k : List Tree) (t : Stage) (x : InView) (y : OutView) → (p ≡ New → ⊥) → buffer_row n p e a k x y → (law : BufferLaw p e k t x y) → BufferOwnRests n x y law.in_list law.out_list
   buffer_at New e a k t x y nn r law = absurd (nn refl)
   buffer_at Closed e a k t Finished outlet.Closed nn r law = inl (refl, refl)
   buffer_at Closed e a k t Finished outlet.Cancelled nn r law = inl (refl, refl)

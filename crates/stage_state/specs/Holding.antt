@@ -4,8 +4,8 @@ use Rattle.elem_core.specs.Tree.{Tree}
 use Rattle.port_core.specs.declared.act.Act.{Act}
 use Rattle.port_core.specs.declared.act.Act.TheVariants.{Pull, Complete}
 use Rattle.stage_core.specs.declared.phase.Phase.TheVariants.{Closed}
-use Rattle.stage_keeping.specs.declared.ending.Ending.{Ending}
-use Rattle.stage_keeping.specs.declared.ending.Ending.TheVariants.{Lasting, Ended, Failed}
+use Rattle.stage_keeping.specs.declared.ending.StateEnd.{StateEnd}
+use Rattle.stage_keeping.specs.declared.ending.StateEnd.TheVariants.{Lasting, Ended, Failed}
 use Rattle.stage_state.specs.States.{Logic}
 
 -- nothing is held
@@ -22,7 +22,7 @@ abbrev pub HasRoom : Logic → Type 0
 HasRoom l = RoomBy l.size l.pending
 
 -- the buffer ends with the last of what it holds, where its input has ended
-abbrev gone_by : Ending → Bool → Logic → Logic
+abbrev gone_by : StateEnd → Bool → Logic → Logic
 gone_by Lasting none l = l
 gone_by Ended true l = record l { phase = Closed }
 gone_by Ended false l = l
@@ -32,7 +32,7 @@ abbrev pub gone_on : Logic → Logic
 gone_on l = gone_by l.ending (is_none l.pending) l
 
 -- and else it asks, where it had no room before
-abbrev go_by : Ending → Bool → Bool → List Act
+abbrev go_by : StateEnd → Bool → Bool → List Act
 go_by Lasting none was_full = if was_full then Pull 0 ∷ [] else []
 go_by Ended true was_full = Complete 0 ∷ []
 go_by Ended false was_full = []

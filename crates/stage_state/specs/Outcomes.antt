@@ -7,10 +7,10 @@ use Rattle.port_core.specs.declared.act.Act.{Act}
 use Rattle.port_core.specs.declared.act.Act.TheVariants.{Pull, Push, Complete, FailOut, Cancel}
 use Rattle.stream_model.specs.Linear.{Work, Stage}
 use Rattle.stage_core.specs.declared.phase.Phase.TheVariants.{Closed}
-use Rattle.stage_keeping.specs.declared.ending.Ending.{Ending}
-use Rattle.stage_keeping.specs.declared.ending.Ending.TheVariants.{Lasting, Ended, Failed}
-use Rattle.stage_keeping.specs.declared.keeping.Outcome.{Outcome}
-use Rattle.stage_keeping.specs.declared.keeping.Outcome.TheVariants.{Gives, Asks, Fails}
+use Rattle.stage_keeping.specs.declared.ending.StateEnd.{StateEnd}
+use Rattle.stage_keeping.specs.declared.ending.StateEnd.TheVariants.{Lasting, Ended, Failed}
+use Rattle.stage_keeping.specs.declared.keeping.StateReaction.{StateReaction}
+use Rattle.stage_keeping.specs.declared.keeping.StateReaction.TheVariants.{Gives, Asks, Fails}
 use Rattle.stage_state.specs.States.{Logic}
 
 -- the stage with this work
@@ -22,7 +22,7 @@ abbrev pub counted : Logic → ℕ → Logic
 counted l n = record l { stage = record l.stage { taken = n } }
 
 -- the stage once its n-th element came to this
-abbrev pub answered : Logic → ℕ → Outcome → Logic
+abbrev pub answered : Logic → ℕ → StateReaction → Logic
 answered l n (Gives u) = record (counted l n) { asked = false }
 answered l n Asks = counted l n
 answered l n (Fails why) = record l { phase = Closed }
@@ -32,7 +32,7 @@ abbrev pub cause_at : Stage → ℕ → Why → Cause
 cause_at s n why = record { stage = s.node; nth = n; why = why }
 
 -- its actions then
-abbrev pub answer_acts : Logic → ℕ → Outcome → List Act
+abbrev pub answer_acts : Logic → ℕ → StateReaction → List Act
 answer_acts l n (Gives u) = Push 0 u ∷ []
 answer_acts l n Asks = Pull 0 ∷ []
 answer_acts l n (Fails why) = FailOut 0 (cause_at l.stage n why) ∷ Cancel 0 ∷ []
@@ -59,12 +59,12 @@ finish_acts l (Ok (Some u)) = last_acts_by l.asked u
 finish_acts l (Err why) = FailOut 0 (cause_at l.stage 0 why) ∷ []
 
 -- the stage once it gave what it owed
-abbrev pub settled : Ending → Logic → Logic
+abbrev pub settled : StateEnd → Logic → Logic
 settled Lasting l = l
 settled Ended l = record l { phase = Closed }
 settled (Failed c) l = record l { phase = Closed }
 
-abbrev pub settle_acts : Ending → List Act
+abbrev pub settle_acts : StateEnd → List Act
 settle_acts Lasting = []
 settle_acts Ended = Complete 0 ∷ []
 settle_acts (Failed c) = FailOut 0 c ∷ []

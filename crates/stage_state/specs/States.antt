@@ -22,8 +22,8 @@ use Rattle.stage_law.specs.Turn.{TurnAt}
 use Rattle.stage_core.specs.declared.phase.Phase.{Phase}
 use Rattle.stage_core.specs.declared.phase.Phase.TheVariants.{New, Open, Closed}
 use Rattle.stage_keeping.specs.Endings.{state_by}
-use Rattle.stage_keeping.specs.declared.ending.Ending.{Ending}
-use Rattle.stage_keeping.specs.declared.ending.Ending.TheVariants.{Lasting, Ended, Failed}
+use Rattle.stage_keeping.specs.declared.ending.StateEnd.{StateEnd}
+use Rattle.stage_keeping.specs.declared.ending.StateEnd.TheVariants.{Lasting, Ended, Failed}
 use Rattle.stage_state.specs.Buffering.{buffer}
 
 -- where it stands, its stage in the model, the outputs that it owes, whether its output is asked, and how its input stands;
@@ -33,7 +33,7 @@ pub record Logic : Type 0 where
   pub stage : Stage
   pub pending : List Tree
   pub asked : Bool
-  pub ending : Ending
+  pub ending : StateEnd
   pub size : Option ℕ
 
 -- its machine, by any book of plugs, since it asks none
@@ -45,7 +45,7 @@ abbrev pub machine : Book → Logic → Machine Stage Tree
 machine book l = machine_by book l.size l.stage.work
 
 -- what it still owes
-abbrev pub held_in : Phase → Ending → List Tree → Stage → Held Stage
+abbrev pub held_in : Phase → StateEnd → List Tree → Stage → Held Stage
 held_in New e p s = owing (record { gave = p; state = state_by e s })
 held_in Open e p s = owing (record { gave = p; state = state_by e s })
 held_in Closed e p s = shut
@@ -70,7 +70,7 @@ IsKept w = holds_at_end w ≡ true
 
 -- A stage that keeps: before its input ended it waits exactly where its output is asked, and owes nothing but a scan its
 -- zero, which nobody asked for; behind the end of its input it owes one value, which nobody asked for.
-abbrev pub keep_row : Phase → Ending → Bool → List Tree → Work → InView → OutView → Type 0
+abbrev pub keep_row : Phase → StateEnd → Bool → List Tree → Work → InView → OutView → Type 0
 keep_row New Lasting false p w Idle Unpulled = Spare w p × IsKept w
 keep_row Open Lasting true p w Pulled Available = (p ≡ []) × IsKept w
 keep_row Open Lasting false p w Idle Unpulled = Spare w p × IsKept w
@@ -81,7 +81,7 @@ keep_row _ _ _ _ _ _ _ = ⊥
 
 -- A buffer of n: it holds nothing where its output is asked, waits while fewer than n are held, and then until it gave one;
 -- behind the end of its input it holds something.
-abbrev pub buffer_row : ℕ → Phase → Ending → Bool → List Tree → InView → OutView → Type 0
+abbrev pub buffer_row : ℕ → Phase → StateEnd → Bool → List Tree → InView → OutView → Type 0
 buffer_row n New Lasting false p Idle Unpulled = (p ≡ []) × (0 < n)
 buffer_row n Open Lasting true p Pulled Available = (p ≡ []) × (0 < n)
 buffer_row n Open Lasting false p Pulled Unpulled = length p < n
@@ -91,7 +91,7 @@ buffer_row n Closed e a p i o = BothClosed i o
 buffer_row _ _ _ _ _ _ _ = ⊥
 
 -- by its size
-abbrev pub row_by : Option ℕ → Phase → Ending → Bool → List Tree → Work → InView → OutView → Type 0
+abbrev pub row_by : Option ℕ → Phase → StateEnd → Bool → List Tree → Work → InView → OutView → Type 0
 row_by None ph e a p w i o = keep_row ph e a p w i o
 row_by (Some n) ph e a p w i o = buffer_row n ph e a p i o
 

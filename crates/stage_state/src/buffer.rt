@@ -4,7 +4,7 @@ ghost use Rattle.port_core.specs.Call.{Obeys, Meets, starts, pulls, arrives, can
 ghost use Rattle.stream_model.specs.Linear.{passing};
 ghost use Rattle.elem_core.specs.declared.why.Decider.TheVariants.{Stop};
 ghost use Rattle.stage_core.specs.declared.phase.Phase.TheVariants.{New, Open, Closed};
-ghost use Rattle.stage_keeping.specs.declared.ending.Ending.TheVariants.{Lasting};
+ghost use Rattle.stage_keeping.specs.declared.ending.StateEnd.TheVariants.{Lasting};
 ghost use Rattle.stage_state.specs.Holding.{is_none, HasRoom, gone_on, go_on_acts};
 ghost use Rattle.stage_state.specs.States.{row, Turned};
 
@@ -14,7 +14,7 @@ use elem_core::why::{Cause, NoMemory};
 use port_core::act::Act;
 use port_core::acts::Acts;
 use stage_core::phase::Phase;
-use stage_keeping::ending::Ending;
+use stage_keeping::ending::StateEnd;
 use std::alloc::Global;
 use std::marker::Model;
 

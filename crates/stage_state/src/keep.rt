@@ -3,7 +3,7 @@ ghost use Rattle.elem_core.specs.declared.item.Item.TheVariants as item;
 ghost use Rattle.port_core.specs.declared.act.Act.TheVariants.{FailOut};
 ghost use Rattle.port_core.specs.Call.{Obeys, Meets, starts, pulls, arrives, cancels};
 ghost use Rattle.stage_core.specs.declared.phase.Phase.TheVariants.{New, Open, Closed};
-ghost use Rattle.stage_keeping.specs.declared.ending.Ending.TheVariants.{Lasting};
+ghost use Rattle.stage_keeping.specs.declared.ending.StateEnd.TheVariants.{Lasting};
 ghost use Rattle.stage_keeping.specs.Keeping.{work_in};
 ghost use Rattle.stage_state.specs.Outcomes.{answered, answer_acts, cause_at, finished, finish_acts, settled, settle_acts};
 ghost use Rattle.stage_state.specs.States.{row, Turned};
@@ -14,8 +14,8 @@ use elem_core::why::{Cause, Decider, NoMemory, Why};
 use port_core::act::Act;
 use port_core::acts::Acts;
 use stage_core::phase::Phase;
-use stage_keeping::ending::Ending;
-use stage_keeping::keeping::{Keeping, Outcome};
+use stage_keeping::ending::StateEnd;
+use stage_keeping::keeping::{StateReaction, StateWork};
 use std::alloc::Global;
 use std::marker::Model;
 
@@ -27,10 +27,10 @@ pub struct KeepLogic {
     node: u32,
     decider: Decider,
     taken: u64,
-    keeping: Keeping,
+    keeping: StateWork,
     pending: Option<Elem>,
     asked: bool,
-    ending: Ending,
+    ending: StateEnd,
     phase: Phase,
 }
 
@@ -51,7 +51,7 @@ impl Model for KeepLogic {
 
 impl KeepLogic {
     /// The logic of node `stage`, which keeps this and owes `first` before any element. It takes no memory.
-    pub fn new(stage: u32, decider: Decider, keeping: Keeping, first: Option<Elem>) -> KeepLogic
+    pub fn new(stage: u32, decider: Decider, keeping: StateWork, first: Option<Elem>) -> KeepLogic
         ensures { result ≡ record { phase = New; stage = record { node = stage; decider = decider; taken = 0; work = work_in keeping }; pending = option_to_list first; asked = false; ending = Lasting; size = None } }
     {
         KeepLogic {
@@ -61,7 +61,7 @@ impl KeepLogic {
             keeping,
             pending: first,
             asked: false,
-            ending: Ending::Lasting,
+            ending: StateEnd::Lasting,
             phase: Phase::New,
         }
     }
@@ -119,7 +119,7 @@ impl KeepLogic {
         ensures room { acts.new.room ≡ acts.old.room }
     {
         if self.pending.is_some() {
-            self.ending = Ending::Ended;
+            self.ending = StateEnd::Ended;
         } else {
             let last = self.keeping.finish(alloc);
             self.end(last, acts);
@@ -140,7 +140,7 @@ impl KeepLogic {
         ensures room { acts.new.room ≡ acts.old.room }
     {
         if self.pending.is_some() {
-            self.ending = Ending::Failed(cause);
+            self.ending = StateEnd::Failed(cause);
         } else {
             self.shut(Act::FailOut(port, cause), acts);
         }
@@ -160,8 +160,8 @@ impl KeepLogic {
         ensures room { acts.new.room ≡ acts.old.room }
     {
         match self.ending {
-            Ending::Lasting => self.shut(Act::Cancel(port), acts),
-            Ending::Ended | Ending::Failed(_) => self.phase = Phase::Closed,
+            StateEnd::Lasting => self.shut(Act::Cancel(port), acts),
+            StateEnd::Ended | StateEnd::Failed(_) => self.phase = Phase::Closed,
         }
         Ok(())
     }
@@ -190,23 +190,23 @@ impl KeepLogic {
     }
 
     // What element number `taken` came to.
-    fn answer(&mut self, taken: u64, outcome: Outcome, acts: &mut Acts)
+    fn answer(&mut self, taken: u64, outcome: StateReaction, acts: &mut Acts)
         requires empty { acts.old.items ≡ [] }
         requires room { 4 ≤ acts.old.room }
         ensures stage { self.new ≡ answered self.old taken outcome }
         ensures acts { acts.new ≡ record acts.old { items = answer_acts self.old taken outcome } }
     {
         match outcome {
-            Outcome::Gives(value) => {
+            StateReaction::Gives(value) => {
                 self.taken = taken;
                 self.asked = false;
                 acts.add(Act::Push(0, value));
             }
-            Outcome::Asks => {
+            StateReaction::Asks => {
                 self.taken = taken;
                 acts.add(Act::Pull(0));
             }
-            Outcome::Fails(why) => {
+            StateReaction::Fails(why) => {
                 self.fail(taken, why, acts);
                 acts.add(Act::Cancel(0));
             }
@@ -240,7 +240,7 @@ impl KeepLogic {
             self.shut(Act::Complete(0), acts);
         } else {
             self.pending = Some(value);
-            self.ending = Ending::Ended;
+            self.ending = StateEnd::Ended;
         }
     }
 
@@ -251,9 +251,9 @@ impl KeepLogic {
         ensures acts { acts.new ≡ record acts.old { items = acts.old.items ++ settle_acts self.old.ending } }
     {
         match self.ending {
-            Ending::Lasting => {}
-            Ending::Ended => self.shut(Act::Complete(0), acts),
-            Ending::Failed(cause) => self.shut(Act::FailOut(0, cause), acts),
+            StateEnd::Lasting => {}
+            StateEnd::Ended => self.shut(Act::Complete(0), acts),
+            StateEnd::Failed(cause) => self.shut(Act::FailOut(0, cause), acts),
         }
     }
 

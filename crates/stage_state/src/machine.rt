@@ -14,7 +14,7 @@ use elem_core::elem::Elem;
 use elem_core::function::FoldOp;
 use elem_core::why::{Cause, Decider, NoMemory};
 use port_core::acts::Acts;
-use stage_keeping::keeping::Keeping;
+use stage_keeping::keeping::StateWork;
 use std::alloc::Global;
 use std::marker::Model;
 use stream_model::kind::{Kind, Policy};
@@ -61,9 +61,9 @@ impl MachineLogic {
         ensures { IfOk result (Begins stage kind decider) }
     {
         let part = match kind {
-            Kind::Grouped(n) => keep(stage, decider, Keeping::Group(n, Vec::new(alloc))),
-            Kind::Fold(op) => keep(stage, decider, Keeping::Fold(op, op.zero(alloc)?)),
-            Kind::Reduce(op) => keep(stage, decider, Keeping::Reduce(op, None)),
+            Kind::Grouped(n) => keep(stage, decider, StateWork::Group(n, Vec::new(alloc))),
+            Kind::Fold(op) => keep(stage, decider, StateWork::Fold(op, op.zero(alloc)?)),
+            Kind::Reduce(op) => keep(stage, decider, StateWork::Reduce(op, None)),
             Kind::Scan(op) => scan(alloc, stage, decider, op)?,
             Kind::Buffer(n, Policy::Backpressure) => Part::Buffer(BufferLogic::new(
                 alloc, stage, n,
@@ -187,7 +187,7 @@ impl MachineLogic {
 }
 
 // One that owes nothing before an element.
-fn keep(stage: u32, decider: Decider, keeping: Keeping) -> Part
+fn keep(stage: u32, decider: Decider, keeping: StateWork) -> Part
     ensures { result ≡ Keep (new_keep stage decider (work_in keeping) []) }
 {
     Part::Keep(KeepLogic::new(stage, decider, keeping, None))
@@ -198,6 +198,6 @@ fn scan(alloc: Global, stage: u32, decider: Decider, op: FoldOp) -> Result<Part,
     ensures { IfOk result (λ p. p ≡ Keep (new_keep stage decider (scanning op (fold_zero op)) (fold_zero op ∷ []))) }
 {
     let first = Some(op.zero(alloc)?);
-    let keeping = Keeping::Scan(op, op.zero(alloc)?);
+    let keeping = StateWork::Scan(op, op.zero(alloc)?);
     Ok(Part::Keep(KeepLogic::new(stage, decider, keeping, first)))
 }

@@ -64,16 +64,16 @@ impl<F: Write + Drop> Drain for DirSink<F> {
 
 // Which file of the system a file is.
 #[derive(Drop, Clone, Copy, PartialEq, Eq)]
-struct Place {
+struct FileIdentity {
     device: u64,
     inode: u64,
 }
 
 // A name under which a file was opened.
 #[derive(Drop)]
-struct Known {
+struct KnownFile {
     name: Line,
-    place: Place,
+    place: FileIdentity,
 }
 
 /// The current folder. A name is that of a file in it where it has only letters, digits, `.`, `_` and `-` and begins with a letter or a digit; an opening of another name is refused (own). So is an opening to write of a file that was opened here under another name, which is a link to it: the other name's bytes would be lost (own).
@@ -81,7 +81,7 @@ struct Known {
 pub struct DirFolder<R: Files> {
     rt: R,
     tally: Tally,
-    known: Vec<Known>,
+    known: Vec<KnownFile>,
     // How many of its handles are open.
     handles: u64,
 }
@@ -117,23 +117,23 @@ fn plain(name: &Line) -> Option<&str> {
 }
 
 // Which file of the system an open file is.
-fn place_of<F: OpenFile>(file: &F) -> Option<Place> {
+fn place_of<F: OpenFile>(file: &F) -> Option<FileIdentity> {
     let about = file.metadata().ok()?;
-    Some(Place {
+    Some(FileIdentity {
         device: about.dev(),
         inode: about.ino(),
     })
 }
 
 // Opens the file of that name to read it.
-fn open_to_read<R: Files>(rt: &R, name: &Line) -> Option<(R::File, Place)> {
+fn open_to_read<R: Files>(rt: &R, name: &Line) -> Option<(R::File, FileIdentity)> {
     let file = fs::open(rt, plain(name)?).ok()?;
     let place = place_of(&file)?;
     Some((file, place))
 }
 
 // Whether the file is known under another name. A runtime that is none of a system gives no file a number but 0.
-fn is_linked(known: &[Known], name: &Line, place: Place) -> bool {
+fn is_linked(known: &[KnownFile], name: &Line, place: FileIdentity) -> bool {
     place.inode != 0
         && known
             .iter()
@@ -141,7 +141,11 @@ fn is_linked(known: &[Known], name: &Line, place: Place) -> bool {
 }
 
 // Opens the file of that name to write it, and makes it empty where it is not known under another name. A device or a pipe has no length to cut.
-fn open_to_write<R: Files>(rt: &R, known: &[Known], name: &Line) -> Option<(R::File, Place)> {
+fn open_to_write<R: Files>(
+    rt: &R,
+    known: &[KnownFile],
+    name: &Line,
+) -> Option<(R::File, FileIdentity)> {
     let path = plain(name)?;
     let mut how = OpenOptions::new();
     how.write(true).create(true);
@@ -178,7 +182,7 @@ where
             self.tally.refuse(own, spare);
             return Err(OpenFault::Missing);
         };
-        self.known.push_reserved(Known {
+        self.known.push_reserved(KnownFile {
             name: name_known,
             place,
         });
@@ -202,7 +206,7 @@ where
             self.tally.refuse(own, spare);
             return Err(OpenFault::Missing);
         };
-        self.known.push_reserved(Known {
+        self.known.push_reserved(KnownFile {
             name: name_known,
             place,
         });

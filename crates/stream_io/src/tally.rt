@@ -33,12 +33,12 @@ impl Counts {
 #[cycle(tally)]
 #[derive(Drop)]
 pub struct Tally {
-    link: Link,
+    link: TallyCell,
 }
 
 #[cycle(tally)]
 #[derive(Drop)]
-enum Link {
+enum TallyCell {
     End,
     More(Counts, Box<Tally>),
 }
@@ -65,7 +65,9 @@ impl Tally {
     pub fn new() -> Tally
         ensures { result ≡ [] }
     {
-        Tally { link: Link::End }
+        Tally {
+            link: TallyCell::End,
+        }
     }
 
     // A link for one more entry.
@@ -122,11 +124,11 @@ impl Tally {
         ensures { self.new ≡ tallied self.old more }
     {
         match &mut self.link {
-            Link::End => {
+            TallyCell::End => {
                 *spare = Tally::new();
-                self.link = Link::More(more, spare);
+                self.link = TallyCell::More(more, spare);
             }
-            Link::More(counts, later) => {
+            TallyCell::More(counts, later) => {
                 if counts.name == more.name {
                     counts.grow(&more);
                 } else {

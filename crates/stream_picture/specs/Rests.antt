@@ -11,95 +11,95 @@ use Rattle.stream_model.specs.Graph.{Graph, Node}
 use Rattle.stream_model.specs.Node.{World}
 use Rattle.stream_model.specs.Picks.{buffered, empty_buffer, nothing_held}
 use Rattle.stream_picture.specs.OneWay.{OneWay, one_way_by, is_sink}
-use Rattle.stream_picture.specs.View.{View, EachWire, SomeWire, ins, outs}
+use Rattle.stream_picture.specs.View.{SeenWire, EachWire, SomeWire, ins, outs}
 
 -- how the wire stands for the node at its end
-abbrev pub Waits : View → Type 0
+abbrev pub Waits : SeenWire → Type 0
 Waits v = (v.asked ≡ true) × (v.shut ≡ false)
 
 -- either end has closed it
-abbrev pub IsShut : View → Type 0
+abbrev pub IsShut : SeenWire → Type 0
 IsShut v = v.shut ≡ true
 
 -- the wire is a lane
-abbrev pub IsLane : View → Type 0
+abbrev pub IsLane : SeenWire → Type 0
 IsLane v = is_some v.lane ≡ true
 
 -- a lane may be read so in every state
-abbrev pub Idles : View → Type 0
+abbrev pub Idles : SeenWire → Type 0
 Idles v = IsLane v ⊎ ((v.asked ≡ false) × (v.shut ≡ false))
 
 -- how the wire stands for the node at its beginning
-abbrev pub IsAsked : View → Type 0
+abbrev pub IsAsked : SeenWire → Type 0
 IsAsked v = (v.asked ≡ true) × (v.shut ≡ false)
 
 -- open, and not asked
-abbrev pub IsUnasked : View → Type 0
+abbrev pub IsUnasked : SeenWire → Type 0
 IsUnasked v = (v.asked ≡ false) × (v.shut ≡ false)
 
 -- it idles, or it is shut
-abbrev pub IdlesOrShut : View → Type 0
+abbrev pub IdlesOrShut : SeenWire → Type 0
 IdlesOrShut v = Idles v ⊎ IsShut v
 
 -- it waits, idles or is shut
-abbrev pub WaitsIdlesOrShut : View → Type 0
+abbrev pub WaitsIdlesOrShut : SeenWire → Type 0
 WaitsIdlesOrShut v = Waits v ⊎ Idles v ⊎ IsShut v
 
 -- the number that a fused wire has, and a lane has at least
-abbrev pub IsOrLane : View → ℕ → Type 0
+abbrev pub IsOrLane : SeenWire → ℕ → Type 0
 IsOrLane v n = (n ≤ v.sent) × (IsLane v ⊎ (v.sent ≡ n))
 
 -- the first input that is not used up waits, and the later ones idle or are shut
-abbrev pub FirstOpenWaits : List View → Type 0
+abbrev pub FirstOpenWaits : List SeenWire → Type 0
 FirstOpenWaits [] = ⊥
 FirstOpenWaits (v ∷ vs) = (Waits v × EachWire IdlesOrShut vs) ⊎ (IsShut v × FirstOpenWaits vs)
 
 -- one input waits, and the others idle or are shut
-abbrev pub OneWaits : List View → Type 0
+abbrev pub OneWaits : List SeenWire → Type 0
 OneWaits [] = ⊥
 OneWaits (v ∷ vs) = (Waits v × EachWire IdlesOrShut vs) ⊎ (IdlesOrShut v × OneWaits vs)
 
 -- an input of a zip that gave n pairs
-abbrev pub ZipInput : ℕ → View → Type 0
+abbrev pub ZipInput : ℕ → SeenWire → Type 0
 ZipInput n v = (Waits v × (v.sent ≡ n)) ⊎ (IdlesOrShut v × IsOrLane v (n + 1))
 
 -- every output that is not shut is asked
-abbrev pub AllOpenAsked : List View → Type 0
+abbrev pub AllOpenAsked : List SeenWire → Type 0
 AllOpenAsked outs = EachWire (λ o. IsShut o ⊎ IsAsked o) outs
 
 -- the outputs of a broadcast or an unzip, whose input waits or not
-abbrev pub CopiesAll : View → List View → Type 0
+abbrev pub CopiesAll : SeenWire → List SeenWire → Type 0
 CopiesAll i outs = EachWire (λ o. IsShut o ⊎ (o.sent ≡ i.sent)) outs
 
 -- each open output has at most what came, and all of it where the input is fused
-abbrev pub CopiesSome : View → List View → Type 0
+abbrev pub CopiesSome : SeenWire → List SeenWire → Type 0
 CopiesSome i outs = EachWire (λ o. IsShut o ⊎ ((o.sent ≤ i.sent) × (IsLane i ⊎ (o.sent ≡ i.sent)))) outs
 
 -- ---- the rows. Where a row has several parts, one of them holds
 
-abbrev pub OneToOne : (View → View → Type 0) → List View → List View → Type 0
+abbrev pub OneToOne : (SeenWire → SeenWire → Type 0) → List SeenWire → List SeenWire → Type 0
 OneToOne P (i ∷ []) (o ∷ []) = P i o
 OneToOne P _ _ = ⊥
 
 -- a node with several inputs and one output
-abbrev pub ManyToOne : (List View → View → Type 0) → List View → List View → Type 0
+abbrev pub ManyToOne : (List SeenWire → SeenWire → Type 0) → List SeenWire → List SeenWire → Type 0
 ManyToOne P is (o ∷ []) = P is o
 ManyToOne P is _ = ⊥
 
 -- a node with one input and several outputs
-abbrev pub OneToMany : (View → List View → Type 0) → List View → List View → Type 0
+abbrev pub OneToMany : (SeenWire → List SeenWire → Type 0) → List SeenWire → List SeenWire → Type 0
 OneToMany P (i ∷ []) os = P i os
 OneToMany P _ os = ⊥
 
 -- a stage that gives `given` of the elements that it was sent, and may hold outputs at the end of its input
-abbrev pub StageRests : OneWay → View → View → Type 0
+abbrev pub StageRests : OneWay → SeenWire → SeenWire → Type 0
 StageRests s i o =
     (IsAsked o × Waits i × (o.sent ≡ s.given (take i.sent i.list)))
     ⊎ (IsUnasked o × Idles i)
     ⊎ ((s.holds ≡ true) × IsUnasked o × IsShut i)
 
 -- a buffer of n that holds its input back
-abbrev pub BufferRests : ℕ → View → View → Type 0
+abbrev pub BufferRests : ℕ → SeenWire → SeenWire → Type 0
 BufferRests n i o =
     (IsAsked o × Waits i × (i.sent ≡ o.sent))
     ⊎ (IsUnasked o × Waits i × (i.sent < o.sent + n))
@@ -107,72 +107,72 @@ BufferRests n i o =
     ⊎ (IsUnasked o × IsShut i)
 
 -- a buffer that drops: where it is asked it holds nothing
-abbrev pub DroppingRests : Bool → View → View → Type 0
+abbrev pub DroppingRests : Bool → SeenWire → SeenWire → Type 0
 DroppingRests empty i o = (Waits i × (IsAsked o → empty ≡ true)) ⊎ (IsShut i × IsUnasked o)
 
 -- a merge
-abbrev pub MergeRests : List View → View → Type 0
+abbrev pub MergeRests : List SeenWire → SeenWire → Type 0
 MergeRests is o =
     (IsAsked o × SomeWire Waits is × EachWire (λ i. Waits i ⊎ IsShut i) is)
     ⊎ (IsUnasked o × EachWire WaitsIdlesOrShut is)
 
 -- a concat
-abbrev pub ConcatRests : List View → View → Type 0
+abbrev pub ConcatRests : List SeenWire → SeenWire → Type 0
 ConcatRests is o = (IsAsked o × FirstOpenWaits is) ⊎ (IsUnasked o × EachWire IdlesOrShut is)
 
 -- an interleave
-abbrev pub InterleaveRests : List View → View → Type 0
+abbrev pub InterleaveRests : List SeenWire → SeenWire → Type 0
 InterleaveRests is o = (IsAsked o × OneWaits is) ⊎ (IsUnasked o × EachWire IdlesOrShut is)
 
 -- a merge_sorted
-abbrev pub SortedRests : List View → View → Type 0
+abbrev pub SortedRests : List SeenWire → SeenWire → Type 0
 SortedRests is o = (IsAsked o × SomeWire Waits is) ⊎ (IsUnasked o × EachWire WaitsIdlesOrShut is)
 
 -- a zip
-abbrev pub ZipRests : List View → View → Type 0
+abbrev pub ZipRests : List SeenWire → SeenWire → Type 0
 ZipRests is o =
     EachWire (ZipInput o.sent) is
     × ((IsAsked o × SomeWire (λ i. Waits i × (i.sent ≡ o.sent)) is) ⊎ IsUnasked o)
 
 -- a broadcast or an unzip
-abbrev pub BroadcastRests : View → List View → Type 0
+abbrev pub BroadcastRests : SeenWire → List SeenWire → Type 0
 BroadcastRests i os =
     (AllOpenAsked os × Waits i × CopiesAll i os)
     ⊎ (SomeWire IsUnasked os × Idles i × CopiesSome i os)
 
 -- a balance
-abbrev pub BalanceRests : View → List View → Type 0
+abbrev pub BalanceRests : SeenWire → List SeenWire → Type 0
 BalanceRests i os =
     (SomeWire IsAsked os × Waits i)
     ⊎ (SomeWire IsUnasked os × EachWire (λ o. IsShut o ⊎ IsUnasked o) os × WaitsIdlesOrShut i)
 
 -- a partition
-abbrev pub PartitionRests : View → List View → Type 0
+abbrev pub PartitionRests : SeenWire → List SeenWire → Type 0
 PartitionRests i os = Waits i ⊎ (SomeWire IsUnasked os × IdlesOrShut i)
 
 -- a sink waits for its input
-abbrev pub SinkRests : List View → Type 0
+abbrev pub SinkRests : List SeenWire → Type 0
 SinkRests (i ∷ []) = Waits i
 SinkRests _ = ⊥
 
 -- a source is not asked
-abbrev pub SourceRests : List View → Type 0
+abbrev pub SourceRests : List SeenWire → Type 0
 SourceRests (o ∷ []) = IsUnasked o
 SourceRests _ = ⊥
 
 module _ (g : Graph) (w : World) where
   -- a stage with one input and one output, or a sink
-  abbrev pub stage_rests : Option OneWay → List View → List View → Type 0
+  abbrev pub stage_rests : Option OneWay → List SeenWire → List SeenWire → Type 0
   stage_rests None is os = SinkRests is
   stage_rests (Some s) is os = OneToOne (StageRests s) is os
 
   -- a buffer by its policy
-  abbrev pub dropping_rests : ℕ → ℕ → Policy → List View → List View → Type 0
+  abbrev pub dropping_rests : ℕ → ℕ → Policy → List SeenWire → List SeenWire → Type 0
   dropping_rests node n Backpressure is os = OneToOne (BufferRests n) is os
   dropping_rests node n p is os = OneToOne (λ i o. DroppingRests (nothing_held (buffered p n (w.moves node) i.list empty_buffer).held) i o) is os
 
   -- the row of node `node`, which has this role
-  abbrev pub RoleRests : ℕ → Role → Decider → List View → List View → Type 0
+  abbrev pub RoleRests : ℕ → Role → Decider → List SeenWire → List SeenWire → Type 0
   RoleRests node (reads_lines name) d is os = SourceRests os
   RoleRests node (gives_range low high) d is os = SourceRests os
   RoleRests node (gives_nothing b) d is os = SourceRests os
@@ -198,7 +198,7 @@ module _ (g : Graph) (w : World) where
   RoleRests node (sinks file keeps) d is os = SinkRests is
 
   -- and which is of this kind
-  abbrev pub RowRests : ℕ → Kind → Decider → List View → List View → Type 0
+  abbrev pub RowRests : ℕ → Kind → Decider → List SeenWire → List SeenWire → Type 0
   RowRests node k d is os = RoleRests node (role_of k) d is os
 
   -- each node has all its wires shut, or meets its row

@@ -2,7 +2,7 @@
 ghost use Rattle.std.specs.Prelude.{◌≡◌, ℕ, List, Bool, true, slice_get, Some};
 ghost use Rattle.stream_model.specs.declared.outcome.WireCount.{WireCount};
 ghost use Rattle.stream_model.specs.Composed.{composed};
-ghost use Rattle.stream_model.specs.Graph.{Graph, Node, Wire};
+ghost use Rattle.stream_model.specs.Graph.{Graph, Node, Edge};
 ghost use Rattle.stream_model.specs.Node.{World};
 ghost use Rattle.stream_model.specs.Outlook.{Outlook};
 ghost use Rattle.stream_picture.specs.Lawful.{IsLawful};
@@ -24,5 +24,5 @@ pub fn a_drop_may_stall()
 pub fn polytrees_end()
     ensures { (g : Graph) (w : World) (counts : List WireCount) (outlook : ℕ → Outlook) → IsWired g counts → Rests g w counts outlook → IsPolytree g
         → (ended : ℕ → Bool) → SinksMatch g w counts outlook ended
-        → (i : ℕ) (v : Wire) (n : Node) → slice_get g.wires i ≡ Some v → slice_get g.nodes v.to ≡ Some n → is_sink n.kind ≡ true → ended v.to ≡ true }
+        → (i : ℕ) (v : Edge) (n : Node) → slice_get g.wires i ≡ Some v → slice_get g.nodes v.to ≡ Some n → is_sink n.kind ≡ true → ended v.to ≡ true }
 {}

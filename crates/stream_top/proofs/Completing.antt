@@ -1,7 +1,7 @@
 -- A valid text and inputs and no fault leave the answers of a run.
 use Rattle.std.proofs.Common.{◌≡◌, ℕ, suc, ◌∷◌, ◌++◌, [], List, ◌⊎◌, inl, inr, refl, sym, ap, ◌∙◌, subst, slice_get}
 use Rattle.std.specs.Prelude.{Option, Some, None, IsTrue, IsSome}
-use Rattle.stream_model.specs.Graph.{Wire}
+use Rattle.stream_model.specs.Graph.{Edge}
 use Rattle.stream_io.specs.State.{FolderState}
 use Rattle.blue_core.specs.declared.blueprint.Blueprint.{Blueprint}
 use Rattle.blue_lang.specs.Blueprints as language
@@ -40,7 +40,7 @@ at_middle [] after n = (0, refl)
 at_middle (x ∷ xs) after n = let h = at_middle xs after n in (suc h.0, h.1)
 
 -- a fit blueprint has no fault
-closed_never : (ws : List Wire) (f : CheckFault) → HasNoClosedWalk ws → IsClosedFault ws f → ⊥
+closed_never : (ws : List Edge) (f : CheckFault) → HasNoClosedWalk ws → IsClosedFault ws f → ⊥
 closed_never ws (fault.ClosedWalk i) none h = none.none i h.lies
 closed_never ws (fault.TwoNames n) none h = h
 closed_never ws (fault.NoSuchName n) none h = h

@@ -11,11 +11,11 @@ use Rattle.run_report.specs.Answer.{Answer}
 use Rattle.run_report.specs.declared.outcome.SinkEnd.{SinkEnd}
 use Rattle.run_report.specs.declared.outcome.Status.{Status}
 use Rattle.run_report.specs.declared.outcome.Status.TheVariants as status
-use Rattle.stream_top.specs.declared.answer.Outcome.{Outcome}
+use Rattle.stream_top.specs.declared.answer.CallEnd.{CallEnd}
 use Rattle.blue_check.specs.Fitness.{name_in}
 
 -- the answer that an outcome is
-abbrev pub of_outcome : Outcome → Answer
+abbrev pub of_outcome : CallEnd → Answer
 of_outcome o = record { status = o.status; sinks = o.sinks.items; wires = o.picture.wires.items; picks = map pick_of o.picks.items; used = o.used }
 
 -- what is told of a sink that stands so

@@ -45,7 +45,7 @@ use stream_model::outcome::{EndState, PickList, Picture};
 
 /// How a call ended, what is told of a rule that is broken, and what is told of a run where a blueprint was run, with its receipt.
 #[derive(Drop)]
-pub struct Outcome {
+pub struct CallEnd {
     pub status: Status,
     pub detail: Vec<u8>,
     pub sinks: Vec<SinkEnd>,
@@ -56,7 +56,7 @@ pub struct Outcome {
 }
 
 /// A status without a run, of which nothing more is told.
-pub fn without_run(alloc: Global, status: Status) -> Outcome
+pub fn without_run(alloc: Global, status: Status) -> CallEnd
     requires { detail_of status ≡ [] }
     ensures status { result.status ≡ status }
     ensures detail { result.detail.items ≡ detail_of result.status }
@@ -67,14 +67,14 @@ pub fn without_run(alloc: Global, status: Status) -> Outcome
 }
 
 /// A status without a run, with what is told of it.
-fn told_without_run(alloc: Global, status: Status, detail: Vec<u8>) -> Outcome
+fn told_without_run(alloc: Global, status: Status, detail: Vec<u8>) -> CallEnd
     requires { detail.items ≡ detail_of status }
     ensures status { result.status ≡ status }
     ensures detail { result.detail.items ≡ detail_of result.status }
     ensures blank { Blank (of_outcome result) }
     ensures ran { result.ran ≡ None }
 {
-    Outcome {
+    CallEnd {
         status,
         detail,
         sinks: Vec::new(alloc),
@@ -97,7 +97,7 @@ fn detail(alloc: Global, fault: &CheckFault) -> Result<Vec<u8>, NoMemory>
 }
 
 /// A rule is broken. Where memory is wanting to tell of it, that is told in its place.
-fn unfit(alloc: Global, fault: CheckFault) -> Outcome
+fn unfit(alloc: Global, fault: CheckFault) -> CallEnd
     ensures status { (result.status ≡ Status.Unfit fault) ⊎ (result.status ≡ Status.NoMemory) }
     ensures detail { result.detail.items ≡ detail_of result.status }
     ensures blank { Blank (of_outcome result) }
@@ -169,7 +169,7 @@ fn status_of(sinks: &[(u32, u64, EndState)], trace_failed: bool, at_rest: bool) 
 }
 
 /// What is told of a run, in a list that has room for its sinks.
-fn after_run(alloc: Global, names: Vec<Line>, room: Vec<SinkEnd>, ran: RunResult) -> Outcome
+fn after_run(alloc: Global, names: Vec<Line>, room: Vec<SinkEnd>, ran: RunResult) -> CallEnd
     requires empty { room.items ≡ [] }
     requires room { vec_len names ≤ vec_capacity room }
     requires as_many { vec_len names ≡ vec_len ran.sinks }
@@ -186,7 +186,7 @@ fn after_run(alloc: Global, names: Vec<Line>, room: Vec<SinkEnd>, ran: RunResult
         trace_failed,
         ran,
     } = ran;
-    Outcome {
+    CallEnd {
         status: status_of(&sinks, trace_failed, at_rest),
         detail: Vec::new(alloc),
         sinks: told_ends(names, &sinks, room),
@@ -218,7 +218,7 @@ fn run_blueprint<R: Threads + Wait + Sync, F: Folder, L: Logic + Send, B: PlugBo
     workers: u32,
     turns: u32,
     plugs: Vec<Plug<L>>,
-) -> Outcome
+) -> CallEnd
     requires runs { CanRun b }
     requires has { HasPlugs (map (λ p. p.head) plugs.items) b.nodes.items }
     requires listed { All (GivesAsListed L.gives B.lists) plugs.items }
@@ -257,7 +257,7 @@ fn run_checked<R: Threads + Wait + Sync, F: Folder, L: Logic + Send, B: PlugBook
     workers: u32,
     turns: u32,
     plugs: Vec<Plug<L>>,
-) -> Outcome
+) -> CallEnd
     requires listed { All (GivesAsListed L.gives B.lists) plugs.items }
     requires fit { (taken : List (List ℕ)) × IsFit (blueprint_of checked) (map (λ p. p.head) plugs.items) taken }
     requires apart { IsApart (blueprint_of checked) trace }
@@ -296,7 +296,7 @@ fn run_parsed<R: Threads + Wait + Sync, F: Folder, L: Logic + Send, B: PlugBook 
     workers: u32,
     turns: u32,
     plugs: Vec<Plug<L>>,
-) -> Outcome
+) -> CallEnd
     requires listed { All (GivesAsListed L.gives B.lists) plugs.items }
     requires taken { (t : List ℕ) → trace ≡ Some t → Contains taken.now t }
     requires workers { (0 < workers) × (workers ≤ 64) }
@@ -334,7 +334,7 @@ fn run_text<R: Threads + Wait + Sync, F: Folder, L: Logic + Send, B: PlugBook + 
     workers: u32,
     turns: u32,
     plugs: Vec<Plug<L>>,
-) -> Outcome
+) -> CallEnd
     requires listed { All (GivesAsListed L.gives B.lists) plugs.items }
     requires taken { (t : List ℕ) → trace ≡ Some t → Contains taken.now t }
     requires workers { (0 < workers) × (workers ≤ 64) }
@@ -411,7 +411,7 @@ pub fn run_file<R: Threads + Wait + Sync, F: Folder, L: Logic + Send, B: PlugBoo
     workers: u32,
     turns: u32,
     plugs: Vec<Plug<L>>,
-) -> Outcome
+) -> CallEnd
     requires listed { All (GivesAsListed L.gives B.lists) plugs.items }
     requires workers { (0 < workers) × (workers ≤ 64) }
     requires turns { turns ≤ 4000000000 }

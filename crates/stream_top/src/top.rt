@@ -12,7 +12,7 @@ ghost use Rattle.stream_io.specs.Putting.{Puts, PutsPart};
 ghost use Rattle.plug_board.specs.Handed.{GivesAsListed};
 ghost use Rattle.stream_top.specs.Asked.{plugged_by};
 
-use crate::answer::{self, Outcome};
+use crate::answer::{self, CallEnd};
 use dispatcher::ran::Ran;
 use elem_core::line::Line;
 use plug_logic::book::PlugBook;
@@ -84,7 +84,7 @@ pub fn run_file<R: Threads + Wait + Sync, F: Folder, C: Drain, L: Logic + Send, 
     ensures console { (Puts (C.state console.old) (C.state console.new) (report_of (answer_of result)) × (result.code ≡ code_of result.status))
         ⊎ (PutsPart (C.state console.old) (C.state console.new) (report_of (answer_of result)) × (result.code ≡ 8)) }
 {
-    let Outcome {
+    let CallEnd {
         status,
         detail,
         sinks,

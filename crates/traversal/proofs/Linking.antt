@@ -3,9 +3,9 @@ use Rattle.std.proofs.Common.{◌≡◌, ℕ, ◌+◌, ◌<◌, true, false, con
 use Rattle.std.specs.Prelude.{slice_get, slice_index}
 use Rattle.std.proofs.lemmas.Bool.{cases_Bool, eqb-true, eq-eqb}
 use Rattle.std.proofs.lemmas.List.{map_more, length-take, get_or-take}
-use Rattle.stream_model.specs.Graph.{Graph, Wire}
+use Rattle.stream_model.specs.Graph.{Graph, Edge}
 use Rattle.stream_picture.specs.Shape.{Joins, Walk, stay, along}
-use Rattle.blue_names.specs.declared.links.Link.{Link}
+use Rattle.blue_names.specs.declared.links.NumberedWire.{NumberedWire}
 use Rattle.blue_names.specs.Links.{AreInRange, wire_of_link, wires_of_links}
 use Rattle.blue_names.proofs.OutRows.{slice_get-push_old, slice_get-push_new, slice_get-push_cases}
 use Rattle.blue_walks.specs.Forest.{wiring, Linked}
@@ -25,21 +25,21 @@ walk_append : (g : Graph) (a b c : ℕ) (is js : List ℕ) → Walk g a b is →
 walk_append g a b c [] js stay q = q
 walk_append g a b c (i ∷ is) js (along j p) q = along j (walk_append g _ b c is js p q)
 
-linked_on : (ws : List Wire) (a b c : ℕ) → Linked ws a b → Linked ws b c → Linked ws a c
+linked_on : (ws : List Edge) (a b c : ℕ) → Linked ws a b → Linked ws b c → Linked ws a c
 linked_on ws a b c l m = record { by = l.by ++ m.by; walk = walk_append (wiring ws) a b c l.by m.by l.walk m.walk }
 
 -- linked nodes have one label
-walked_alike : (ws : List Wire) (label : ℕ → ℕ) → ((i : ℕ) (w : Wire) → slice_get ws i ≡ Some w → label w.from ≡ label w.to) → (a b : ℕ) (is : List ℕ) → Walk (wiring ws) a b is → label a ≡ label b
+walked_alike : (ws : List Edge) (label : ℕ → ℕ) → ((i : ℕ) (w : Edge) → slice_get ws i ≡ Some w → label w.from ≡ label w.to) → (a b : ℕ) (is : List ℕ) → Walk (wiring ws) a b is → label a ≡ label b
 walked_alike ws label alike a b [] stay = refl
 walked_alike ws label alike a b (i ∷ is) (along {b = m} j p) =
     let h = alike i j.wire j.at in
     let here : label a ≡ label m = ⊎_elim (λ e. sym (ap label e.0) ∙ h ∙ ap label e.1) (λ e. sym (ap label e.0) ∙ sym h ∙ ap label e.1) j.ends in
     here ∙ walked_alike ws label alike m b is p
 
-pub linked_alike : (ws : List Wire) (count : ℕ) (labels : List ℕ) (a b : ℕ) → AreLabels ws count labels → Linked ws a b → slice_index labels a ≡ slice_index labels b
+pub linked_alike : (ws : List Edge) (count : ℕ) (labels : List ℕ) (a b : ℕ) → AreLabels ws count labels → Linked ws a b → slice_index labels a ≡ slice_index labels b
 linked_alike ws count labels a b is l = walked_alike ws (slice_index labels) is.alike a b l.by l.walk
 
-module _ (ws : List Wire) (w : Wire) where
+module _ (ws : List Edge) (w : Edge) where
   walk_old : (a b : ℕ) (is : List ℕ) → Walk (wiring ws) a b is → Walk (wiring (ws ++ w ∷ [])) a b is
   walk_old a b [] stay = stay
   walk_old a b (i ∷ is) (along {b = m} j p) =
@@ -56,7 +56,7 @@ module _ (ws : List Wire) (w : Wire) where
   back = record { by = length ws ∷ []; walk = along (record { wire = w; at = slice_get-push_new ws w; ends = inr (refl, refl) }) stay }
 
   module _ (count : ℕ) (old new : List ℕ) (is : AreLabels ws count old) (long : length new ≡ length old)
-      (range : (i : ℕ) (v : Wire) → slice_get ws i ≡ Some v → (v.from < count) × (v.to < count)) where
+      (range : (i : ℕ) (v : Edge) → slice_get ws i ≡ Some v → (v.from < count) × (v.to < count)) where
     -- the nodes with the label f of x have got the label t of y; the new wire joins x and y
     module _ (x y f t : ℕ) (lx : x < count) (ly : y < count) (is_f : f ≡ slice_index old x) (is_t : t ≡ slice_index old y)
         (xy : Linked (ws ++ w ∷ []) x y) (yx : Linked (ws ++ w ∷ []) y x) (ends : slice_index new x ≡ slice_index new y → slice_index new w.from ≡ slice_index new w.to) (r : IsRelabeled old new f t) where
@@ -93,7 +93,7 @@ module _ (ws : List Wire) (w : Wire) where
           (cases_Bool (slice_index old b == f)))
           (cases_Bool (slice_index old a == f))
 
-      alike_old : (i : ℕ) (v : Wire) → slice_get ws i ≡ Some v → slice_index new v.from ≡ slice_index new v.to
+      alike_old : (i : ℕ) (v : Edge) → slice_get ws i ≡ Some v → slice_index new v.from ≡ slice_index new v.to
       alike_old i v h = let lt = range i v h in at v.from lt.0 ∙ ap (λ l. cond (l == f) t l) (is.alike i v h) ∙ sym (at v.to lt.1)
 
       alike_new : slice_index new w.from ≡ slice_index new w.to
@@ -112,7 +112,7 @@ module _ (ws : List Wire) (w : Wire) where
         each = long ∙ is.each;
         below = below_more;
         linked = linked_more;
-        alike = λ i v h. ⊎_elim (alike_old i v) (λ e. subst (λ (u : Wire). slice_index new u.from ≡ slice_index new u.to) (sym e.1) alike_new) (slice_get-push_cases ws w v i h);
+        alike = λ i v h. ⊎_elim (alike_old i v) (λ e. subst (λ (u : Edge). slice_index new u.from ≡ slice_index new u.to) (sym e.1) alike_new) (slice_get-push_cases ws w v i h);
       }
 
     pub AreLabels-push : (f t : ℕ) → w.from < count → w.to < count → f ≡ slice_index old w.from → t ≡ slice_index old w.to → AreJoined old new f t → AreLabels (ws ++ w ∷ []) count new
@@ -132,14 +132,14 @@ AreLabels-own labels count long own = record {
 }
 
 -- the first links are in range where all are
-in_range_front : (count : ℕ) (ls : List Link) (n : ℕ) → AreInRange count ls → AreInRange count (take n ls)
+in_range_front : (count : ℕ) (ls : List NumberedWire) (n : ℕ) → AreInRange count ls → AreInRange count (take n ls)
 in_range_front count ls n r = λ k d lt.
     let short : k < n = omega (arith, lt, length-take n ls) in
     let long : k < length ls = omega (arith, lt, length-take n ls) in
-    subst (λ (l : Link). (l.from < count) × (l.to < count)) (sym (get_or-take n ls k d short)) (r k d long)
+    subst (λ (l : NumberedWire). (l.from < count) × (l.to < count)) (sym (get_or-take n ls k d short)) (r k d long)
 
 -- the same for the next link of a list, as code reads it
-pub AreLabels-more : (ls : List Link) (i : ℕ) (d : Link) (count : ℕ) (old new first second : List ℕ) (from to : ℕ) → i < length ls → AreInRange count ls → first ≡ old → second ≡ old
+pub AreLabels-more : (ls : List NumberedWire) (i : ℕ) (d : NumberedWire) (count : ℕ) (old new first second : List ℕ) (from to : ℕ) → i < length ls → AreInRange count ls → first ≡ old → second ≡ old
     → from ≡ slice_index first (get_or ls i d).from → to ≡ slice_index second (get_or ls i d).to → length new ≡ length old → AreLabels (wires_of_links (take i ls)) count old → AreJoined old new from to
     → AreLabels (wires_of_links (take (i + 1) ls)) count new
 AreLabels-more ls i d count old new first second from to lt range one two is_from is_to long is joined =

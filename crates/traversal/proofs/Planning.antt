@@ -4,10 +4,10 @@ use Rattle.std.specs.Prelude.{slice_get, slice_index, is_none}
 use Rattle.std.specs.List.{filter, All}
 use Rattle.std.proofs.lemmas.Bool.{cases_Bool, eq-eqb, ne_eqb}
 use Rattle.std.proofs.lemmas.List.Elements.{All-from_get_or}
-use Rattle.stream_model.specs.Graph.{Wire}
+use Rattle.stream_model.specs.Graph.{Edge}
 use Rattle.blue_walks.specs.Forest.{Linked}
 use Rattle.blue_walks.proofs.VisitSteps.{wire_in_range}
-use Rattle.blue_names.specs.declared.links.Link.{Link}
+use Rattle.blue_names.specs.declared.links.NumberedWire.{NumberedWire}
 use Rattle.blue_names.specs.Links.{AreInRange, wire_of_link, wires_of_links}
 use Rattle.traversal.specs.declared.plan.IslandPlan.{IslandPlan}
 use Rattle.traversal.specs.Plan.{is_fused, AreHomes, island_nodes, nodes_at, AreInOrder}
@@ -17,11 +17,11 @@ use Rattle.traversal.proofs.Linking.{linked_alike}
 use Rattle.traversal.proofs.Numbers.{first_number}
 
 -- the wires of the links without a lane
-wires_fused : (ls : List Link) → wires_of_links (filter (λ (l : Link). is_none l.lane) ls) ≡ filter is_fused (wires_of_links ls)
+wires_fused : (ls : List NumberedWire) → wires_of_links (filter (λ (l : NumberedWire). is_none l.lane) ls) ≡ filter is_fused (wires_of_links ls)
 wires_fused [] = refl
-wires_fused (l ∷ ls) = kept (is_none l.lane) (filter (λ (m : Link). is_none m.lane) ls) ∙ ap (λ ws. cond (is_none l.lane) (wire_of_link l ∷ ws) ws) (wires_fused ls)
+wires_fused (l ∷ ls) = kept (is_none l.lane) (filter (λ (m : NumberedWire). is_none m.lane) ls) ∙ ap (λ ws. cond (is_none l.lane) (wire_of_link l ∷ ws) ws) (wires_fused ls)
   where
-    kept : (b : Bool) (ms : List Link) → wires_of_links (cond b (l ∷ ms) ms) ≡ cond b (wire_of_link l ∷ wires_of_links ms) (wires_of_links ms)
+    kept : (b : Bool) (ms : List NumberedWire) → wires_of_links (cond b (l ∷ ms) ms) ≡ cond b (wire_of_link l ∷ wires_of_links ms) (wires_of_links ms)
     kept true ms = refl
     kept false ms = refl
 
@@ -40,7 +40,7 @@ kept_at p (y ∷ xs) (suc i) x h t =
     (cases_Bool (p y))
 
 -- the numbers of labels are islands
-pub AreHomes-numbered : (count : ℕ) (ls : List Link) (labels homes firsts : List ℕ) → AreLabels (wires_of_links (filter (λ (l : Link). is_none l.lane) ls)) count labels
+pub AreHomes-numbered : (count : ℕ) (ls : List NumberedWire) (labels homes firsts : List ℕ) → AreLabels (wires_of_links (filter (λ (l : NumberedWire). is_none l.lane) ls)) count labels
     → AreNumbered labels homes firsts → length homes ≡ length labels → AreInRange count ls → AreHomes count (wires_of_links ls) homes
 AreHomes-numbered count ls labels homes firsts is n long range = record {
   each = long ∙ is.each;
@@ -51,7 +51,7 @@ AreHomes-numbered count ls labels homes firsts is n long range = record {
   whole = λ a b la lb l.
       let ha : a < length homes = omega (arith, la, long, is.each) in
       let hb : b < length homes = omega (arith, lb, long, is.each) in
-      let one = linked_alike (wires_of_links (filter (λ (m : Link). is_none m.lane) ls)) count labels a b is (subst (λ ws. Linked ws a b) (sym (wires_fused ls)) l) in
+      let one = linked_alike (wires_of_links (filter (λ (m : NumberedWire). is_none m.lane) ls)) count labels a b is (subst (λ ws. Linked ws a b) (sym (wires_fused ls)) l) in
       n.apart (slice_index homes a) (slice_index homes b) (n.here a ha) (n.here b hb) (n.alike a ha ∙ one ∙ sym (n.alike b hb));
   inside = λ i w at fused.
       let ends = wire_in_range count ls i w range at in
@@ -85,7 +85,7 @@ AreInOrder-numbered labels homes firsts islands n long nodes = record {
 }
 
 -- each label is one of as many numbers as there are labels, and each home one of the islands
-pub labels_below : (ws : List Wire) (count : ℕ) (labels seen : List ℕ) → AreLabels ws count labels → seen ≡ labels → All (λ l. l < length seen) seen
+pub labels_below : (ws : List Edge) (count : ℕ) (labels seen : List ℕ) → AreLabels ws count labels → seen ≡ labels → All (λ l. l < length seen) seen
 labels_below ws count labels seen is e =
     subst (λ xs. All (λ l. l < length xs) xs) (sym e) (All-from_get_or (λ l. l < length labels) labels 0 (λ i lt. let below : get_or labels i 0 < count = is.below i (omega (arith, lt, is.each)) in omega (arith, below, is.each)))
 

@@ -5,14 +5,14 @@ use Rattle.std.proofs.lemmas.Bool.{cases_Bool}
 use Rattle.std.proofs.lemmas.List.{length-map}
 use Rattle.std.proofs.lemmas.Option.{slice_get-get_or}
 use Rattle.elem_core.specs.Values.{same_text}
-use Rattle.stream_model.specs.Graph.{Wire}
+use Rattle.stream_model.specs.Graph.{Edge}
 use Rattle.blue_core.specs.declared.blueprint.Blueprint.{Blueprint}
 use Rattle.blue_core.specs.declared.blueprint.Node.{Node}
 use Rattle.blue_core.specs.declared.blueprint.WireDecl.{WireDecl}
 use Rattle.blue_rules.specs.Links.{number_from, number_of, wire_of, wires_of}
 use Rattle.blue_rules.specs.Paths.{HasNoClosedWalk, stay}
 use Rattle.blue_check.specs.Wires.{blueprint_wires}
-use Rattle.blue_names.specs.declared.links.Link.{Link}
+use Rattle.blue_names.specs.declared.links.NumberedWire.{NumberedWire}
 use Rattle.blue_names.specs.Links.{AreInRange, wire_of_link, wires_of_links}
 
 -- a number is that of one of the names
@@ -34,30 +34,30 @@ number_of_below name n ns =
     omega (arith, long, number_below name (map (λ (m : Node). m.name) (n ∷ ns)) 0 (omega (arith, long)))
 
 -- a wire is one that is declared
-declared_of : (nodes : List Node) (ws : List WireDecl) (i : ℕ) (w : Wire) → slice_get (wires_of nodes ws) i ≡ Some w → (d : WireDecl) × (wire_of nodes d ≡ w)
+declared_of : (nodes : List Node) (ws : List WireDecl) (i : ℕ) (w : Edge) → slice_get (wires_of nodes ws) i ≡ Some w → (d : WireDecl) × (wire_of nodes d ≡ w)
 declared_of nodes [] i w h = cc
 declared_of nodes (d ∷ ws) zero w h = (d, cc)
 declared_of nodes (d ∷ ws) (suc i) w h = declared_of nodes ws i w h
 
-ends_below : (nodes : List Node) (ws : List WireDecl) (i : ℕ) (w : Wire) → HasNoClosedWalk (wires_of nodes ws) → slice_get (wires_of nodes ws) i ≡ Some w → (w.from < length nodes) × (w.to < length nodes)
+ends_below : (nodes : List Node) (ws : List WireDecl) (i : ℕ) (w : Edge) → HasNoClosedWalk (wires_of nodes ws) → slice_get (wires_of nodes ws) i ≡ Some w → (w.from < length nodes) × (w.to < length nodes)
 ends_below [] ws i w h at = let d = declared_of [] ws i w at in absurd (h.none i (record { wire = wire_of [] d.0; at = at ∙ ap Some (sym d.1); back = stay }))
 ends_below (n ∷ ns) ws i w h at =
     let d = declared_of (n ∷ ns) ws i w at in
-    subst (λ (v : Wire). (v.from < length (n ∷ ns)) × (v.to < length (n ∷ ns))) d.1 (number_of_below d.0.from n ns, number_of_below d.0.to n ns)
+    subst (λ (v : Edge). (v.from < length (n ∷ ns)) × (v.to < length (n ∷ ns))) d.1 (number_of_below d.0.from n ns, number_of_below d.0.to n ns)
 
-pub in_range_open : (nodes : List Node) (ws : List WireDecl) (ls : List Link) → HasNoClosedWalk (wires_of nodes ws) → wires_of_links ls ≡ wires_of nodes ws → AreInRange (length nodes) ls
+pub in_range_open : (nodes : List Node) (ws : List WireDecl) (ls : List NumberedWire) → HasNoClosedWalk (wires_of nodes ws) → wires_of_links ls ≡ wires_of nodes ws → AreInRange (length nodes) ls
 in_range_open nodes ws ls h same = λ k d lt.
     let l = get_or ls k d in
     let at : slice_get (wires_of_links ls) k ≡ Some (wire_of_link l) = slice_get_map ls k l (slice_get-get_or ls k d lt) in
     ends_below nodes ws k (wire_of_link l) h (sym (ap (λ us. slice_get us k) same) ∙ at)
   where
-    slice_get_map : (xs : List Link) (k : ℕ) (l : Link) → slice_get xs k ≡ Some l → slice_get (wires_of_links xs) k ≡ Some (wire_of_link l)
+    slice_get_map : (xs : List NumberedWire) (k : ℕ) (l : NumberedWire) → slice_get xs k ≡ Some l → slice_get (wires_of_links xs) k ≡ Some (wire_of_link l)
     slice_get_map [] k l e = cc
     slice_get_map (x ∷ xs) zero l e = let same : x ≡ l = cc in ap (λ y. Some (wire_of_link y)) same
     slice_get_map (x ∷ xs) (suc k) l e = slice_get_map xs k l e
 
 -- the same of a checked blueprint, as code reads it
-pub in_range_checked : (b seen : Blueprint) (nodes : List Node) (wires : List WireDecl) (ls links : List Link) (n : ℕ) → HasNoClosedWalk (blueprint_wires b) → seen ≡ b → nodes ≡ seen.nodes.items → wires ≡ seen.wires.items
+pub in_range_checked : (b seen : Blueprint) (nodes : List Node) (wires : List WireDecl) (ls links : List NumberedWire) (n : ℕ) → HasNoClosedWalk (blueprint_wires b) → seen ≡ b → nodes ≡ seen.nodes.items → wires ≡ seen.wires.items
     → wires_of_links ls ≡ wires_of nodes wires → links ≡ ls → n ≡ length seen.nodes.items → AreInRange n links
 in_range_checked b seen nodes wires ls links n h is of_nodes of_wires same of_links long =
     let closes_none : HasNoClosedWalk (blueprint_wires seen) = subst (λ (s : Blueprint). HasNoClosedWalk (blueprint_wires s)) (sym is) h in

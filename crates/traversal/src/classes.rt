@@ -5,14 +5,14 @@ ghost use Rattle.blue_names.specs.Links.{AreInRange, wires_of_links};
 ghost use Rattle.blue_walks.specs.Classes.{AreListed, AreJoined};
 ghost use Rattle.traversal.specs.Labels.{AreLabels};
 
-use blue_names::links::Link;
+use blue_names::links::NumberedWire;
 use blue_walks::classes::{own_labels, own_members, unite};
 use blue_walks::ranks::rank_of;
 use elem_core::why::NoMemory;
 use std::alloc::Global;
 
 /// The wires without a lane.
-pub fn fused_links(alloc: Global, links: &[Link]) -> Result<Vec<Link>, NoMemory>
+pub fn fused_links(alloc: Global, links: &[NumberedWire]) -> Result<Vec<NumberedWire>, NoMemory>
     ensures { IfOk result (λ fused. fused.items ≡ filter (λ l. is_none l.lane) links.now) }
 {
     let mut fused = Vec::new(alloc);
@@ -46,7 +46,11 @@ fn merge(
 }
 
 /// The labels of so many nodes that these wires join.
-pub fn labels_of(alloc: Global, count: usize, links: &[Link]) -> Result<Vec<usize>, NoMemory>
+pub fn labels_of(
+    alloc: Global,
+    count: usize,
+    links: &[NumberedWire],
+) -> Result<Vec<usize>, NoMemory>
     requires { AreInRange count links.now }
     ensures { IfOk result (λ labels. AreLabels (wires_of_links links.now) count labels.items) }
 {

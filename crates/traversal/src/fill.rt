@@ -4,7 +4,7 @@ ghost use Rattle.blue_names.specs.Links.{AreInRange, wire_of_link, wires_of_link
 ghost use Rattle.traversal.specs.Plan.{nodes_at, wires_at, island_nodes, is_wire_of, island_wires};
 
 use crate::plan::IslandPlan;
-use blue_names::links::Link;
+use blue_names::links::NumberedWire;
 use blue_walks::ranks::rank_of;
 use elem_core::count::numbered;
 use elem_core::why::NoMemory;
@@ -54,7 +54,7 @@ fn put_wire(islands: &mut Vec<IslandPlan>, island: usize, wire: usize) -> Result
 fn put_fused(
     islands: &mut Vec<IslandPlan>,
     homes: &[usize],
-    link: &Link,
+    link: &NumberedWire,
     wire: usize,
 ) -> Result<(), NoMemory>
     requires home { slice_index homes.now link.now.from < vec_len islands.old }
@@ -85,7 +85,7 @@ pub fn put_nodes(islands: &mut Vec<IslandPlan>, homes: &[usize]) -> Result<(), N
 /// Puts each wire without a lane into its island.
 pub fn put_wires(
     islands: &mut Vec<IslandPlan>,
-    links: &[Link],
+    links: &[NumberedWire],
     homes: &[usize],
 ) -> Result<(), NoMemory>
     requires homes { All (λ h. h < vec_len islands.old) homes.now }

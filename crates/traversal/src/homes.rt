@@ -2,7 +2,7 @@
 ghost use Rattle.std.specs.Prelude.{◌≡◌, ◌<◌, ℕ, List, IfOk, OnOk, All, None, is_none, length, slice_get, vec_len};
 ghost use Rattle.std.specs.List.{filter};
 ghost use Rattle.blue_names.specs.Links.{AreInRange, wires_of_links};
-ghost use Rattle.blue_names.specs.declared.links.Link.{Link};
+ghost use Rattle.blue_names.specs.declared.links.NumberedWire.{NumberedWire};
 ghost use Rattle.traversal.specs.Homes.{AreNumbered, IsNumbered};
 ghost use Rattle.traversal.specs.Labels.{AreLabels};
 ghost use Rattle.traversal.specs.Plan.{AreHomes};
@@ -57,7 +57,7 @@ pub fn homes_of(alloc: Global, labels: &[usize]) -> Result<Homes, NoMemory>
     requires { All (λ l. l < length labels.now) labels.now }
     ensures numbered { IfOk result (λ h. AreNumbered labels.now h.homes.items h.firsts.items) }
     ensures each { IfOk result (λ h. vec_len h.homes ≡ length labels.now) }
-    ensures homes { (count : ℕ) (links : List Link) → AreLabels (wires_of_links (filter (λ l. is_none l.lane) links)) count labels.now → AreInRange count links → IfOk result (λ h. AreHomes count (wires_of_links links) h.homes.items) }
+    ensures homes { (count : ℕ) (links : List NumberedWire) → AreLabels (wires_of_links (filter (λ l. is_none l.lane) links)) count labels.now → AreInRange count links → IfOk result (λ h. AreHomes count (wires_of_links links) h.homes.items) }
 {
     let mut numbers = no_numbers(alloc, labels.len())?;
     let mut firsts = Vec::new(alloc);

@@ -11,12 +11,12 @@ use crate::homes::homes_of;
 use crate::lanes::lanes_of;
 use crate::plan::Plan;
 use blue_check::checked::Checked;
-use blue_names::links::{Link, links_of};
+use blue_names::links::{NumberedWire, links_of};
 use elem_core::why::NoMemory;
 use std::alloc::Global;
 
 /// The plan of so many nodes that these wires join.
-fn plan_of(alloc: Global, count: usize, links: &[Link]) -> Result<Plan, NoMemory>
+fn plan_of(alloc: Global, count: usize, links: &[NumberedWire]) -> Result<Plan, NoMemory>
     requires { AreInRange count links.now }
     ensures { IfOk result (IsPlan count (wires_of_links links.now)) }
 {

@@ -4,7 +4,7 @@ ghost use Rattle.blue_names.specs.Links.{wire_of_link, wires_of_links};
 ghost use Rattle.traversal.specs.Plan.{lanes_from, lane_of};
 
 use crate::plan::LanePlan;
-use blue_names::links::Link;
+use blue_names::links::NumberedWire;
 use blue_walks::ranks::rank_of;
 use elem_core::count::numbered;
 use elem_core::why::NoMemory;
@@ -14,7 +14,7 @@ use std::alloc::Global;
 fn put_lane(
     lanes: &mut Vec<LanePlan>,
     homes: &[usize],
-    link: &Link,
+    link: &NumberedWire,
     wire: usize,
 ) -> Result<(), NoMemory>
     ensures { OnOk result (lanes.new.items ≡ lanes.old.items ++ lane_of homes.now wire (wire_of_link link.now)) }
@@ -34,7 +34,11 @@ fn put_lane(
 }
 
 /// The wires that have a lane.
-pub fn lanes_of(alloc: Global, links: &[Link], homes: &[usize]) -> Result<Vec<LanePlan>, NoMemory>
+pub fn lanes_of(
+    alloc: Global,
+    links: &[NumberedWire],
+    homes: &[usize],
+) -> Result<Vec<LanePlan>, NoMemory>
     ensures { IfOk result (λ lanes. lanes.items ≡ lanes_from homes.now 0 (wires_of_links links.now)) }
 {
     let mut lanes = Vec::new(alloc);

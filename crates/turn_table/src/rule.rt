@@ -1,4 +1,4 @@
-// The rule of a turn table, and the names of its steps. No value of these types is made, but of `Plan`.
+// The rule of a turn table, and the names of its steps. No value of these types is made, but of `TurnPlan`.
 ghost use Rattle.std.specs.Prelude.{ℕ, List, [], ◌++◌, ◌+◌, ◌-◌, length};
 ghost use Rattle.turn_table.specs.Table.{hold, Fits, Orderly, woken, begun, left, fetched, ended};
 
@@ -19,7 +19,7 @@ pub trait Kept: Drop {
 
 /// The values as they were handed in, and the number of seats.
 #[derive(Drop)]
-pub struct Plan<T> {
+pub struct TurnPlan<T> {
     /// The values: of each its origin is known at any later time. It has no bytes.
     pub values: Snapshot<Vec<T>>,
     /// The number of seats.
@@ -27,11 +27,11 @@ pub struct Plan<T> {
 }
 
 /// RUNNING is set exactly where one seat has the turn of the place; where it is clear the value is in its slot.
-pub struct Order<T> {
+pub struct TurnOrder<T> {
     marker: PhantomData<T>,
 }
 
-impl<T: Kept> TableRule<Option<T>, Hold, Plan<T>> for Order<T> {
+impl<T: Kept> TableRule<Option<T>, Hold, TurnPlan<T>> for TurnOrder<T> {
     ghost holds = { λ plan. Orderly (Fits T.origin plan.values.value.items) (length plan.values.value.items) plan.seats };
 
     ghost first = { λ plan. hold plan.seats [] 0 [] [] [] };

@@ -8,7 +8,7 @@ ghost use Rattle.turn_table.specs.Sums.{times, without};
 ghost use Rattle.turn_table.specs.Table.{hold, Fits};
 
 use crate::hold::Hold;
-use crate::rule::{Begin, Deal, End, Fetch, Kept, Leave, Order, Plan, Told, Wake};
+use crate::rule::{Begin, Deal, End, Fetch, Kept, Leave, Told, TurnOrder, TurnPlan, Wake};
 use atomic_table::{Badge, Closed, Refused, Seat, Table};
 use std::alloc::{AllocError, Global};
 use std::marker::Brand;
@@ -25,7 +25,7 @@ const RUNNING: u64 = 2;
 /// READY (1) where it is wanted, RUNNING (2) where its turn has begun. Rule: own.
 #[derive(Drop)]
 pub struct Turns<T: Kept> {
-    table: Table<Option<T>, Hold, Plan<T>, Order<T>, Global>,
+    table: Table<Option<T>, Hold, TurnPlan<T>, TurnOrder<T>, Global>,
     ghost words: { table.shared.table_id.words ≡ length table.shared.key.values.value.items },
     ghost slots: { table.shared.table_id.slots ≡ length table.shared.key.values.value.items },
 }
@@ -70,16 +70,16 @@ impl<T: Kept> Turns<T> {
         ensures seats { IfOk result (λ r. (seats_of r.0 ≡ seats) × (vec_len r.1 ≡ seats) × All (IsFree r.0) r.1.items) }
         ensures refused { IfErr result (λ back. back.items ≡ values.items) }
     {
-        let Ok(room) = Room::of(alloc, values.len(), seats) else {
+        let Ok(room) = TableRoom::of(alloc, values.len(), seats) else {
             return Err(values);
         };
-        let Room {
+        let TableRoom {
             words,
             slots,
             seats: free,
             back,
         } = room;
-        let plan = Plan {
+        let plan = TurnPlan {
             values: Snapshot::of(&values),
             seats: seats as u64,
         };
@@ -228,21 +228,21 @@ impl<T: Kept> Turns<T> {
 }
 
 // All the memory that a table of so many values takes but the table itself.
-struct Room<T> {
+struct TableRoom<T> {
     words: Vec<u64>,
     slots: Vec<Option<T>>,
     seats: Vec<TurnSeat>,
     back: Vec<T>,
 }
 
-impl<T: Drop> Room<T> {
-    fn of(alloc: Global, count: usize, seats: u32) -> Result<Room<T>, AllocError>
+impl<T: Drop> TableRoom<T> {
+    fn of(alloc: Global, count: usize, seats: u32) -> Result<TableRoom<T>, AllocError>
         ensures words { IfOk result (λ r. r.words.items ≡ replicate count 0) }
         ensures slots { IfOk result (λ r. (r.slots.items ≡ []) × (count ≤ vec_capacity r.slots)) }
         ensures seats { IfOk result (λ r. (r.seats.items ≡ []) × (seats ≤ vec_capacity r.seats)) }
         ensures back { IfOk result (λ r. (r.back.items ≡ []) × (count ≤ vec_capacity r.back)) }
     {
-        Ok(Room {
+        Ok(TableRoom {
             words: Vec::from_elem(alloc, 0u64, count)?,
             slots: Vec::with_capacity(alloc, count)?,
             seats: Vec::with_capacity(alloc, seats as usize)?,

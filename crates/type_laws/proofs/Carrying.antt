@@ -4,7 +4,7 @@ use Rattle.std.specs.Prelude.{slice_get}
 use Rattle.std.specs.Option.{option_map}
 use Rattle.elem_core.specs.Sort.{Sort, pair_type}
 use Rattle.stream_model.specs.Composed.{inputs_of, count_from, received, lane_of, incoming, ports_of, given_on, sent_on, next, composed, IsRanked}
-use Rattle.stream_model.specs.Graph.{Graph, Wire, find_wire}
+use Rattle.stream_model.specs.Graph.{Graph, Edge, find_wire}
 use Rattle.stream_model.specs.Graph as graph
 use Rattle.stream_model.specs.Node.{World, node_outlook}
 use Rattle.stream_model.specs.Outlook.{Outlook}
@@ -63,14 +63,14 @@ module _ (plugs : List PlugHead) (chains : List ChainDecl) (nodes : List Node) (
   later_by f None b t keeps h = cc
   later_by f (Some s) b t keeps h = ap (option_map f) (keeps s refl) ∙ h
 
-  later_on : (earlier : ℕ → Option Sort) → ((i : ℕ) (s : Sort) → earlier i ≡ Some s → types i ≡ Some s) → (o : Option Wire) (t : Sort) → type_on nodes g.wires earlier o ≡ Some t → type_on nodes g.wires types o ≡ Some t
+  later_on : (earlier : ℕ → Option Sort) → ((i : ℕ) (s : Sort) → earlier i ≡ Some s → types i ≡ Some s) → (o : Option Edge) (t : Sort) → type_on nodes g.wires earlier o ≡ Some t → type_on nodes g.wires types o ≡ Some t
   later_on earlier keeps None t h = cc
   later_on earlier keeps (Some v) t h = later_by (port_type (slice_get nodes v.from) v.output) (earlier v.from) (types v.from) t (keeps v.from) h
 
   module _ (w : World) (sent : ℕ → Outlook) where
     -- what may pass wire i is of the type that is settled for it
     pub record HasTyped (i : ℕ) : Type 0 where
-      pub typed : (v : Wire) → slice_get g.wires i ≡ Some v → (t : Sort) → wire_type plugs chains nodes g v ≡ Some t → AllTyped t (sent i).list
+      pub typed : (v : Edge) → slice_get g.wires i ≡ Some v → (t : Sort) → wire_type plugs chains nodes g v ≡ Some t → AllTyped t (sent i).list
 
     received_typed : (l : Option ℕ) (o : Outlook) (t : Sort) → AllTyped t o.list → AllTyped t (received g w l o).list
     received_typed None o t h = h
@@ -90,7 +90,7 @@ module _ (plugs : List PlugHead) (chains : List ChainDecl) (nodes : List Node) (
       input_typed : (k p : ℕ) → Into nodes g.wires k p → TypedInput plugs chains nodes g k p
       input_typed k p i = typed_input plugs chains nodes g k p i (settles i.number (slice_get-below g.wires i.number i.wire i.at))
 
-      module _ (j : ℕ) (v : Wire) (n : Node) (at : slice_get g.wires j ≡ Some v) (is : slice_get nodes v.from ≡ Some n) (below : (i : ℕ) → i < length g.wires → rank i < rank j → HasTyped i) (u : Sort) (has : types v.from ≡ Some u) where
+      module _ (j : ℕ) (v : Edge) (n : Node) (at : slice_get g.wires j ≡ Some v) (is : slice_get nodes v.from ≡ Some n) (below : (i : ℕ) → i < length g.wires → rank i < rank j → HasTyped i) (u : Sort) (has : types v.from ≡ Some u) where
         abbrev ins : ℕ → List Outlook
         ins m = ports_of g w sent v.from (count_from 0 m)
 
@@ -184,11 +184,11 @@ module _ (plugs : List PlugHead) (chains : List ChainDecl) (nodes : List Node) (
             subst (λ (o : Outlook). AllTyped (half_type n.kind v.output u) o.list) (sym of_wire) (gives_by (shape_of n.kind) refl)
 
       -- the type of the node at the beginning of a wire is that of the wire
-      pub type_from : (j : ℕ) (v : Wire) (n : Node) (u : Sort) → slice_get nodes v.from ≡ Some n → types v.from ≡ Some u → wire_type plugs chains nodes g v ≡ Some (half_type n.kind v.output u)
+      pub type_from : (j : ℕ) (v : Edge) (n : Node) (u : Sort) → slice_get nodes v.from ≡ Some n → types v.from ≡ Some u → wire_type plugs chains nodes g v ≡ Some (half_type n.kind v.output u)
       type_from j v n u is has = ap (λ m. option_map (port_type m v.output) (types v.from)) is ∙ ap (option_map (half_type n.kind v.output)) has
 
       -- what node v.from gives on wire j, by the type of the wire
-      pub next_typed : (j : ℕ) → j < length g.wires → ((i : ℕ) → i < length g.wires → rank i < rank j → HasTyped i) → (v : Wire) → slice_get g.wires j ≡ Some v → (t : Sort) → wire_type plugs chains nodes g v ≡ Some t
+      pub next_typed : (j : ℕ) → j < length g.wires → ((i : ℕ) → i < length g.wires → rank i < rank j → HasTyped i) → (v : Edge) → slice_get g.wires j ≡ Some v → (t : Sort) → wire_type plugs chains nodes g v ≡ Some t
           → AllTyped t (next g w sent j).list
       next_typed j l below v at t e =
           let n = (ends_there nodes g.wires passes.no_missing j v at).0 in
@@ -207,24 +207,24 @@ module _ (plugs : List PlugHead) (chains : List ChainDecl) (nodes : List Node) (
     every_wire_typed = all_by_rank rank (length g.wires) (HasTyped w (composed g w)) wire_gives
 
     -- the function at the end of a wire
-    target_takes : (i : ℕ) (v : Wire) (m : Node) (t : Sort) → slice_get g.wires i ≡ Some v → slice_get nodes v.to ≡ Some m → wire_type plugs chains nodes g v ≡ Some t → (b : Bool) → is_joining m.kind ≡ b → Takes (function_want plugs m.kind) t
+    target_takes : (i : ℕ) (v : Edge) (m : Node) (t : Sort) → slice_get g.wires i ≡ Some v → slice_get nodes v.to ≡ Some m → wire_type plugs chains nodes g v ≡ Some t → (b : Bool) → is_joining m.kind ≡ b → Takes (function_want plugs m.kind) t
     target_takes i v m t at to e true j = joining_takes plugs chains m.kind t j
     target_takes i v m t at to e false j = takes plugs chains m.kind i t (known_kind plugs chains nodes passes.no_unknown v.to m to) (meets plugs chains nodes g.wires passes.no_clash i v v.to m t at refl to e j)
 
     -- the functions of the steps of its chain
-    target_steps : (i : ℕ) (v : Wire) (m : Node) (t : Sort) → slice_get g.wires i ≡ Some v → slice_get nodes v.to ≡ Some m → wire_type plugs chains nodes g v ≡ Some t → Chained m.kind → StepsTake plugs (chain_in chains m.kind) t
+    target_steps : (i : ℕ) (v : Edge) (m : Node) (t : Sort) → slice_get g.wires i ≡ Some v → slice_get nodes v.to ≡ Some m → wire_type plugs chains nodes g v ≡ Some t → Chained m.kind → StepsTake plugs (chain_in chains m.kind) t
     target_steps i v m t at to e (bare h) = h plugs chains t
     target_steps i v m t at to e (chained s f) =
         let one = one_input m.kind s in
         let into = only_wire nodes g.wires passes.no_missing passes.no_twice passes.no_open i v m at to one in
         let comes : arrivals nodes g.wires types v.to (count_from 0 (inputs_of m.kind)) ≡ Some t ∷ [] =
-        ap (λ k. arrivals nodes g.wires types v.to (count_from 0 k)) one ∙ ap (λ (o : Option Wire). type_on nodes g.wires types o ∷ []) into ∙ ap (λ (o : Option Sort). o ∷ []) e in
+        ap (λ k. arrivals nodes g.wires types v.to (count_from 0 k)) one ∙ ap (λ (o : Option Edge). type_on nodes g.wires types o ∷ []) into ∙ ap (λ (o : Option Sort). o ∷ []) e in
         let met = meets plugs chains nodes g.wires passes.no_clash i v v.to m t at refl to e (stands_apart m.kind s) in
         let r = single_given plugs chains m.kind (known_kind plugs chains nodes passes.no_unknown v.to m to) s i t met (f plugs)
         (subst (λ os. is_deep (attempt plugs chains m.kind os) ≡ false) comes (not_deep plugs chains nodes g.wires passes.no_deep v.to m to)) in
         chain_takes plugs chains m.kind t r.type r.is
 
-    pub every_wire_carries : (i : ℕ) (v : Wire) → slice_get g.wires i ≡ Some v → CarriesType plugs chains nodes g w i v
+    pub every_wire_carries : (i : ℕ) (v : Edge) → slice_get g.wires i ≡ Some v → CarriesType plugs chains nodes g w i v
     every_wire_carries i v at =
         let l = slice_get-below g.wires i v at in
         let ends = ends_there nodes g.wires passes.no_missing i v at in

@@ -6,7 +6,7 @@ use Rattle.std.proofs.lemmas.Bool.{cases_lt}
 use mathlib.Core.Path.{fun_ext}
 use Rattle.elem_core.specs.Sort.{Sort}
 use Rattle.stream_model.specs.Composed.{inputs_of, count_from}
-use Rattle.stream_model.specs.Graph.{Wire}
+use Rattle.stream_model.specs.Graph.{Edge}
 use Rattle.blue_core.specs.declared.blueprint.ChainDecl.{ChainDecl}
 use Rattle.blue_core.specs.declared.blueprint.Node.{Node}
 use Rattle.plug_core.specs.declared.head.PlugHead.{PlugHead}
@@ -82,7 +82,7 @@ no_more types later (suc n) keeps le i lt k =
     subst (λ j. is_some (types j) ≡ true) (sym same) (one_same (types n) (later n) (omega (arith, le, below)) (subst (λ j. is_some (later j) ≡ true) same k)))
     (cases_lt i n)
 
-module _ (plugs : List PlugHead) (chains : List ChainDecl) (nodes : List Node) (ws : List Wire) where
+module _ (plugs : List PlugHead) (chains : List ChainDecl) (nodes : List Node) (ws : List Edge) where
   abbrev after : ℕ → ℕ → Option Sort
   after = rounds plugs chains nodes ws
 

@@ -6,7 +6,7 @@ use Rattle.std.proofs.lemmas.Bool.{or_parts, and_parts, leb-true, leb-false, eqb
 use Rattle.elem_core.specs.Sort.{Sort, same_sort}
 use Rattle.elem_core.specs.SortLaws.{sort_from_same}
 use Rattle.stream_model.specs.Composed.{inputs_of, count_from}
-use Rattle.stream_model.specs.Graph.{Wire, find_wire, find_source}
+use Rattle.stream_model.specs.Graph.{Edge, find_wire, find_source}
 use Rattle.stream_model.specs.declared.kind.Kind.{Kind}
 use Rattle.stream_model.specs.declared.kind.Kind.TheVariants.{Plug, Merge, Concat, Interleave, MergeSorted}
 use Rattle.stream_model.specs.declared.kind.TheConstants.{MAX_FAN}
@@ -68,7 +68,7 @@ to_there nodes k p None e h = cc
 to_there nodes k p (Some n) e h = record { node = n; is = e }
 
 -- both ends of a wire are nodes
-pub ends_there : (nodes : List Node) (ws : List Wire) → port_missing nodes ws ≡ None → (i : ℕ) (v : Wire) → slice_get ws i ≡ Some v → At nodes v.from × At nodes v.to
+pub ends_there : (nodes : List Node) (ws : List Edge) → port_missing nodes ws ≡ None → (i : ℕ) (v : Edge) → slice_get ws i ≡ Some v → At nodes v.from × At nodes v.to
 ends_there nodes ws h i v at =
     let none = nowhere (λ j x. when (lacks_output (slice_get nodes x.from) x.output || lacks_input (slice_get nodes x.to) x.input) j) ws i v h at in
     let parts = or_parts (lacks_output (slice_get nodes v.from) v.output) (lacks_input (slice_get nodes v.to) v.input)
@@ -81,25 +81,25 @@ count_at k (suc m) zero h = let e : k ≡ k + 0 = omega arith in ap Some e
 count_at k (suc m) (suc p) h = let e : k + 1 + p ≡ k + suc p = omega arith in count_at (k + 1) m p (omega arith) ∙ ap Some e
 
 -- the wire into an input
-pub record Into (nodes : List Node) (ws : List Wire) (k p : ℕ) : Type 0 where
+pub record Into (nodes : List Node) (ws : List Edge) (k p : ℕ) : Type 0 where
   pub number : ℕ
-  pub wire : Wire
+  pub wire : Edge
   pub finds : find_wire k p ws ≡ Some number
   pub at : slice_get ws number ≡ Some wire
   pub to : wire.to ≡ k
   pub into : wire_into nodes ws k p ≡ Some wire
 
-pub into_from : (nodes : List Node) (ws : List Wire) (k p i : ℕ) → find_wire k p ws ≡ Some i → Into nodes ws k p
+pub into_from : (nodes : List Node) (ws : List Edge) (k p i : ℕ) → find_wire k p ws ≡ Some i → Into nodes ws k p
 into_from nodes ws k p i e =
     let f = found_first (λ x. x.to) (λ x. x.input) k p ws i e in
     record { number = i; wire = f.wire; finds = e; at = f.at; to = f.to; into = ap (option_and_then (slice_get ws)) e ∙ f.at }
 
-found_by : (nodes : List Node) (ws : List Wire) (k p : ℕ) (o : Option ℕ) → find_wire k p ws ≡ o → is_none o ≡ false → Into nodes ws k p
+found_by : (nodes : List Node) (ws : List Edge) (k p : ℕ) (o : Option ℕ) → find_wire k p ws ≡ o → is_none o ≡ false → Into nodes ws k p
 found_by nodes ws k p None e h = cc
 found_by nodes ws k p (Some i) e h = into_from nodes ws k p i e
 
 -- each input of a node has one
-pub input_there : (nodes : List Node) (ws : List Wire) → port_open nodes ws ≡ None → (k p : ℕ) (n : Node) → slice_get nodes k ≡ Some n → p < inputs_of n.kind → Into nodes ws k p
+pub input_there : (nodes : List Node) (ws : List Edge) → port_open nodes ws ≡ None → (k p : ℕ) (n : Node) → slice_get nodes k ≡ Some n → p < inputs_of n.kind → Into nodes ws k p
 input_there nodes ws h k p n at lt =
     let both = nowhere (λ i x. option_or (open_input i x ws) (open_output i x ws)) nodes k n h at in
     let ins = (none_parts (open_input k n ws) (open_output k n ws) both).0 in
@@ -109,7 +109,7 @@ input_there nodes ws h k p n at lt =
     found_by nodes ws k p (find_wire k p ws) refl (when_none (is_none (find_wire k p ws)) (open_at p) none)
 
 -- the wire into the one input of a node is the one that leads there
-pub only_wire : (nodes : List Node) (ws : List Wire) → port_missing nodes ws ≡ None → port_twice ws ≡ None → port_open nodes ws ≡ None → (i : ℕ) (v : Wire) (n : Node) → slice_get ws i ≡ Some v → slice_get nodes v.to ≡ Some n
+pub only_wire : (nodes : List Node) (ws : List Edge) → port_missing nodes ws ≡ None → port_twice ws ≡ None → port_open nodes ws ≡ None → (i : ℕ) (v : Edge) (n : Node) → slice_get ws i ≡ Some v → slice_get nodes v.to ≡ Some n
     → inputs_of n.kind ≡ 1 → wire_into nodes ws v.to 0 ≡ Some v
 only_wire nodes ws missing twice op i v n at is one =
     let lacks = nowhere (λ j x. when (lacks_output (slice_get nodes x.from) x.output || lacks_input (slice_get nodes x.to) x.input) j) ws i v missing at in
@@ -201,12 +201,12 @@ joins_some nodes h k n at s = by_kind n.kind s (fits_by (sizes_fit n.kind) k (no
 
 -- ---- types
 
-module _ (plugs : List PlugHead) (chains : List ChainDecl) (nodes : List Node) (ws : List Wire) where
+module _ (plugs : List PlugHead) (chains : List ChainDecl) (nodes : List Node) (ws : List Edge) where
   abbrev types : ℕ → Option Sort
   types = settled plugs chains nodes ws
 
   -- no wire brings a type that its target does not accept
-  pub accepts : type_clash plugs chains nodes ws ≡ None → (i : ℕ) (v : Wire) (k : ℕ) (n : Node) (t : Sort) → slice_get ws i ≡ Some v → v.to ≡ k → slice_get nodes k ≡ Some n → type_on nodes ws types (Some v) ≡ Some t
+  pub accepts : type_clash plugs chains nodes ws ≡ None → (i : ℕ) (v : Edge) (k : ℕ) (n : Node) (t : Sort) → slice_get ws i ≡ Some v → v.to ≡ k → slice_get nodes k ≡ Some n → type_on nodes ws types (Some v) ≡ Some t
       → clash_with plugs chains i (Some n) (types k) (Some t) ≡ None
   accepts h i v k n t at to is on =
       let none = nowhere (clash_on plugs chains nodes ws types) ws i v h at in
@@ -227,7 +227,7 @@ module _ (plugs : List PlugHead) (chains : List ChainDecl) (nodes : List Node) (
   joined_by false i s t r e h = cc
 
   -- what arrives at a node that joins is of the type of that node
-  pub joins_alike : type_clash plugs chains nodes ws ≡ None → (i : ℕ) (v : Wire) (k : ℕ) (n : Node) (t s : Sort) → slice_get ws i ≡ Some v → v.to ≡ k → slice_get nodes k ≡ Some n → type_on nodes ws types (Some v) ≡ Some t
+  pub joins_alike : type_clash plugs chains nodes ws ≡ None → (i : ℕ) (v : Edge) (k : ℕ) (n : Node) (t s : Sort) → slice_get ws i ≡ Some v → v.to ≡ k → slice_get nodes k ≡ Some n → type_on nodes ws types (Some v) ≡ Some t
       → is_joining n.kind ≡ true → types k ≡ Some s → t ≡ s
   joins_alike h i v k n t s at to is on j e =
       joined_by (is_joining n.kind) i s t (stage_typed plugs chains n.kind t) j (subst (λ o. clash_with plugs chains i (Some n) o (Some t) ≡ None) e (accepts h i v k n t at to is on))
@@ -237,7 +237,7 @@ module _ (plugs : List PlugHead) (chains : List ChainDecl) (nodes : List Node) (
   met_by false i t o r e h = h
 
   -- what arrives at any other node is of a type that its function takes
-  pub meets : type_clash plugs chains nodes ws ≡ None → (i : ℕ) (v : Wire) (k : ℕ) (n : Node) (t : Sort) → slice_get ws i ≡ Some v → v.to ≡ k → slice_get nodes k ≡ Some n → type_on nodes ws types (Some v) ≡ Some t
+  pub meets : type_clash plugs chains nodes ws ≡ None → (i : ℕ) (v : Edge) (k : ℕ) (n : Node) (t : Sort) → slice_get ws i ≡ Some v → v.to ≡ k → slice_get nodes k ≡ Some n → type_on nodes ws types (Some v) ≡ Some t
       → is_joining n.kind ≡ false → clash_of i (stage_typed plugs chains n.kind t) ≡ None
   meets h i v k n t at to is on j = met_by (is_joining n.kind) i t (types k) (stage_typed plugs chains n.kind t) j (accepts h i v k n t at to is on)
 

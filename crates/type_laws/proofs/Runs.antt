@@ -2,7 +2,7 @@
 use Rattle.std.proofs.Common.{◌≡◌, ℕ, List, Some, sym, subst}
 use Rattle.std.specs.Prelude.{slice_get}
 use Rattle.stream_model.specs.Composed.{IsRanked}
-use Rattle.stream_model.specs.Graph.{Graph, Wire}
+use Rattle.stream_model.specs.Graph.{Graph, Edge}
 use Rattle.stream_model.specs.Graph as graph
 use Rattle.stream_model.specs.Node.{World}
 use Rattle.stream_picture.specs.Joined.{IsJoined}
@@ -10,7 +10,7 @@ use Rattle.stream_io.specs.State.{SourceState, DrainState}
 use Rattle.fused_net.specs.Laws.{Settled}
 use Rattle.fused_net.specs.Net.{Net, wire_at}
 use Rattle.nodes.specs.Nodes.{node_row, node_law, node_asking, node_moves}
-use Rattle.nodes.specs.declared.node.Node as stage
+use Rattle.nodes.specs.declared.node.IslandNode as stage
 use Rattle.run_account.specs.Account.{Account}
 use Rattle.run_account.specs.Seats.{account_of}
 use Rattle.run_laws.specs.Made.{Materializes}
@@ -35,13 +35,13 @@ rules_join plugs chains nodes g passes =
     (joined nodes g.wires g.chains passes.no_missing passes.no_twice passes.no_open)
 
 module _ {S D L B : Type 0} (sources : S → SourceState) (drains : D → DrainState) (plugs : List PlugHead) (chains : List ChainDecl) (nodes : List Node) (g : Graph) (w : World) (rank : ℕ → ℕ) where
-  pub run_sends : (a : Account (stage.Node S D L B)) → IsRun sources drains w.book g a → TellsPicks w a → PassesRules plugs chains nodes g → KeepsPlugTypes plugs w.book → IsRanked g rank
-      → (i : ℕ) (v : Wire) → slice_get g.wires i ≡ Some v → SendsItsType plugs chains nodes g w i v (a.near i).wire.sent
+  pub run_sends : (a : Account (stage.IslandNode S D L B)) → IsRun sources drains w.book g a → TellsPicks w a → PassesRules plugs chains nodes g → KeepsPlugTypes plugs w.book → IsRanked g rank
+      → (i : ℕ) (v : Edge) → slice_get g.wires i ≡ Some v → SendsItsType plugs chains nodes g w i v (a.near i).wire.sent
   run_sends a run chose passes keeps ranked =
       every_wire_sends plugs chains nodes g w rank ranked passes keeps (λ u. (a.near u).wire.sent) (source_texts sources drains w.book g a run) (given_of sources drains g w a run chose)
 
-  pub island_sends : (net : Net (stage.Node S D L B)) → Settled node_row (node_law sources drains w.book) node_asking node_moves net → Materializes sources g net.firsts net.ends → TellsPicks w (account_of net)
+  pub island_sends : (net : Net (stage.IslandNode S D L B)) → Settled node_row (node_law sources drains w.book) node_asking node_moves net → Materializes sources g net.firsts net.ends → TellsPicks w (account_of net)
       → PassesRules plugs chains nodes g → KeepsPlugTypes plugs w.book → IsRanked g rank
-      → (i : ℕ) (v : Wire) → slice_get g.wires i ≡ Some v → SendsItsType plugs chains nodes g w i v (wire_at net i).wire.sent
+      → (i : ℕ) (v : Edge) → slice_get g.wires i ≡ Some v → SendsItsType plugs chains nodes g w i v (wire_at net i).wire.sent
   island_sends net settled made chose passes keeps ranked =
       run_sends (account_of net) (island_run sources drains w.book g net settled made (rules_join plugs chains nodes g passes)) chose passes keeps ranked

@@ -7,7 +7,7 @@ use Rattle.elem_core.specs.Sort.{Sort, text_type}
 use Rattle.elem_core.specs.Tree.{Tree, text}
 use Rattle.elem_core.specs.declared.item.Item.{Item}
 use Rattle.stream_model.specs.Composed.{next, IsRanked}
-use Rattle.stream_model.specs.Graph.{Graph, Wire}
+use Rattle.stream_model.specs.Graph.{Graph, Edge}
 use Rattle.stream_model.specs.Graph as graph
 use Rattle.stream_model.specs.Node.{World}
 use Rattle.stream_model.specs.Outlook.{Outlook, End, unended, ended, failed, Agrees}
@@ -49,9 +49,9 @@ is_lines _ = inr (λ name e. cc)
 
 module _ (plugs : List PlugHead) (chains : List ChainDecl) (nodes : List Node) (g : Graph) (w : World) (rank : ℕ → ℕ) (ranked : IsRanked g rank) (passes : PassesRules plugs chains nodes g) (keeps : KeepsPlugTypes plugs w.book)
     (items : ℕ → List Item)
-    (texts : (u : ℕ) (v : Wire) (n : graph.Node) (name : List ℕ) → slice_get g.wires u ≡ Some v → slice_get g.nodes v.from ≡ Some n → n.kind ≡ Lines name → GivesTexts (items u))
-    (gives : (sent : ℕ → Outlook) (j : ℕ) (v : Wire) (n : graph.Node) → slice_get g.wires j ≡ Some v → slice_get g.nodes v.from ≡ Some n → ((name : List ℕ) → n.kind ≢ Lines name)
-    → ((u : ℕ) (x : Wire) → slice_get g.wires u ≡ Some x → x.to ≡ v.from → AgreesWith (sent u) (items u)) → AgreesWith (next g w sent j) (items j)) where
+    (texts : (u : ℕ) (v : Edge) (n : graph.Node) (name : List ℕ) → slice_get g.wires u ≡ Some v → slice_get g.nodes v.from ≡ Some n → n.kind ≡ Lines name → GivesTexts (items u))
+    (gives : (sent : ℕ → Outlook) (j : ℕ) (v : Edge) (n : graph.Node) → slice_get g.wires j ≡ Some v → slice_get g.nodes v.from ≡ Some n → ((name : List ℕ) → n.kind ≢ Lines name)
+    → ((u : ℕ) (x : Edge) → slice_get g.wires u ≡ Some x → x.to ≡ v.from → AgreesWith (sent u) (items u)) → AgreesWith (next g w sent j) (items j)) where
   -- what was sent, as all that may pass
   abbrev as_sent : ℕ → Outlook
   as_sent u = exact (list_of (items u)) (standing (items u))
@@ -61,7 +61,7 @@ module _ (plugs : List PlugHead) (chains : List ChainDecl) (nodes : List Node) (
     list : List Tree
     end : End
     is : items i ≡ told list end
-    typed : (v : Wire) → slice_get g.wires i ≡ Some v → (t : Sort) → wire_type plugs chains nodes g v ≡ Some t → AllTyped t list
+    typed : (v : Edge) → slice_get g.wires i ≡ Some v → (t : Sort) → wire_type plugs chains nodes g v ≡ Some t → AllTyped t list
 
   as_typed : (i : ℕ) → Passed i → HasTyped plugs chains nodes g w as_sent i
   as_typed i p =
@@ -76,7 +76,7 @@ module _ (plugs : List PlugHead) (chains : List ChainDecl) (nodes : List Node) (
     agrees = rw (p.is, list_of_told p.list p.end, standing_told p.list p.end) (exact_agrees p.list p.end);
   }
 
-  module _ (j : ℕ) (l : j < length g.wires) (below : (i : ℕ) → i < length g.wires → rank i < rank j → Passed i) (v : Wire) (at : slice_get g.wires j ≡ Some v) (n : Node) (is : slice_get nodes v.from ≡ Some n) where
+  module _ (j : ℕ) (l : j < length g.wires) (below : (i : ℕ) → i < length g.wires → rank i < rank j → Passed i) (v : Edge) (at : slice_get g.wires j ≡ Some v) (n : Node) (is : slice_get nodes v.from ≡ Some n) where
     in_graph : slice_get g.nodes v.from ≡ Some (node_of n)
     in_graph = ap (λ (ns : List graph.Node). slice_get ns v.from) passes.nodes_are ∙ plain_at nodes v.from n is
 
@@ -115,7 +115,7 @@ module _ (plugs : List PlugHead) (chains : List ChainDecl) (nodes : List Node) (
       let n = (ends_there nodes g.wires passes.no_missing j v.0 v.1).0 in
       passed_by j l below v.0 v.1 n.node n.is (is_lines n.node.kind)
 
-  pub every_wire_sends : (i : ℕ) (v : Wire) → slice_get g.wires i ≡ Some v → SendsItsType plugs chains nodes g w i v (items i)
+  pub every_wire_sends : (i : ℕ) (v : Edge) → slice_get g.wires i ≡ Some v → SendsItsType plugs chains nodes g w i v (items i)
   every_wire_sends i v at =
       let p = all_by_rank rank (length g.wires) Passed passes_on i (slice_get-below g.wires i v at) in
       let c = every_wire_carries plugs chains nodes g w rank ranked passes keeps i v at in

@@ -4,7 +4,7 @@ use Rattle.std.specs.Prelude.{slice_get}
 use Rattle.std.specs.Option.{option_or, option_map}
 use Rattle.elem_core.specs.Sort.{Sort, pair_type}
 use Rattle.stream_model.specs.Composed.{inputs_of, count_from, IsRanked}
-use Rattle.stream_model.specs.Graph.{Graph, Wire}
+use Rattle.stream_model.specs.Graph.{Graph, Edge}
 use Rattle.stream_model.specs.declared.kind.Kind.TheVariants.{Zip}
 use Rattle.stream_model.proofs.Compositions.{slice_get-below}
 use Rattle.blue_core.specs.declared.blueprint.ChainDecl.{ChainDecl}
@@ -33,7 +33,7 @@ module _ (plugs : List PlugHead) (chains : List ChainDecl) (nodes : List Node) (
 
   -- a type is settled for wire i
   pub record HasSettled (i : ℕ) : Type 0 where
-    pub type_of : (v : Wire) → slice_get g.wires i ≡ Some v → (u : Sort) × (types v.from ≡ Some u)
+    pub type_of : (v : Edge) → slice_get g.wires i ≡ Some v → (u : Sort) × (types v.from ≡ Some u)
 
   -- the type that comes in on an input
   pub record TypedInput (k p : ℕ) : Type 0 where
@@ -50,7 +50,7 @@ module _ (plugs : List PlugHead) (chains : List ChainDecl) (nodes : List Node) (
 
   module _ (rank : ℕ → ℕ) (ranked : IsRanked g rank) (passes : PassesRules plugs chains nodes g) where
     -- what comes in on an input of the node at which a wire begins, where types are settled for the wires of lower rank
-    pub input_of : (j : ℕ) (v : Wire) (n : Node) → slice_get g.wires j ≡ Some v → slice_get nodes v.from ≡ Some n → ((i : ℕ) → i < length g.wires → rank i < rank j → HasSettled i)
+    pub input_of : (j : ℕ) (v : Edge) (n : Node) → slice_get g.wires j ≡ Some v → slice_get nodes v.from ≡ Some n → ((i : ℕ) → i < length g.wires → rank i < rank j → HasSettled i)
         → (p : ℕ) → p < inputs_of n.kind → TypedInput v.from p
     input_of j v n at is below p lt =
         let i = input_there nodes g.wires passes.no_open v.from p n is lt in
@@ -71,7 +71,7 @@ module _ (plugs : List PlugHead) (chains : List ChainDecl) (nodes : List Node) (
     first_of_some k zero o t lt e = absurd (omega (arith, lt))
     first_of_some k (suc m) o t lt e = ap (λ a. option_or a (first_typed (arrivals nodes g.wires types k (count_from (0 + 1) m)))) e
 
-    module _ (j : ℕ) (v : Wire) (n : Node) (at : slice_get g.wires j ≡ Some v) (is : slice_get nodes v.from ≡ Some n) (below : (i : ℕ) → i < length g.wires → rank i < rank j → HasSettled i) (none : types v.from ≡ None) where
+    module _ (j : ℕ) (v : Edge) (n : Node) (at : slice_get g.wires j ≡ Some v) (is : slice_get nodes v.from ≡ Some n) (below : (i : ℕ) → i < length g.wires → rank i < rank j → HasSettled i) (none : types v.from ≡ None) where
       single_must : shape_of n.kind ≡ single → ⊥
       single_must s =
           let one = one_input n.kind s in
@@ -117,7 +117,7 @@ module _ (plugs : List PlugHead) (chains : List ChainDecl) (nodes : List Node) (
       settles_by zipping s = zip_must (is_zip n.kind s)
       settles_by single s = single_must s
 
-    settled_by : (j : ℕ) (v : Wire) (n : Node) → slice_get g.wires j ≡ Some v → slice_get nodes v.from ≡ Some n → ((i : ℕ) → i < length g.wires → rank i < rank j → HasSettled i) → (o : Option Sort) → types v.from ≡ o
+    settled_by : (j : ℕ) (v : Edge) (n : Node) → slice_get g.wires j ≡ Some v → slice_get nodes v.from ≡ Some n → ((i : ℕ) → i < length g.wires → rank i < rank j → HasSettled i) → (o : Option Sort) → types v.from ≡ o
         → (u : Sort) × (types v.from ≡ Some u)
     settled_by j v n at is below (Some u) e = (u, e)
     settled_by j v n at is below None e = absurd (settles_by j v n at is below e (shape_of n.kind) refl)

@@ -3,7 +3,7 @@ use Rattle.std.specs.Prelude.{◌≡◌, ℕ, List, map, slice_get, Option, Some
 use Rattle.std.specs.List.{list_all}
 use Rattle.elem_core.specs.Sort.{Sort}
 use Rattle.stream_model.specs.Composed.{composed}
-use Rattle.stream_model.specs.Graph.{Graph, Wire}
+use Rattle.stream_model.specs.Graph.{Graph, Edge}
 use Rattle.stream_model.specs.Node.{World}
 use Rattle.blue_core.specs.declared.blueprint.ChainDecl.{ChainDecl}
 use Rattle.blue_core.specs.declared.blueprint.Node.{Node}
@@ -35,11 +35,11 @@ module _ (plugs : List PlugHead) (chains : List ChainDecl) (nodes : List Node) (
     pub no_deep : too_deep plugs chains nodes g.wires ≡ None
 
   -- the type that the check settles for a wire
-  abbrev pub wire_type : Wire → Option Sort
+  abbrev pub wire_type : Edge → Option Sort
   wire_type v = type_on nodes g.wires (settled plugs chains nodes g.wires) (Some v)
 
   -- the type that is settled for a wire: only elements of it may pass the wire, and the functions of the node to which it leads take it
-  pub record CarriesType (w : World) (i : ℕ) (v : Wire) : Type 0 where
+  pub record CarriesType (w : World) (i : ℕ) (v : Edge) : Type 0 where
     pub type : Sort
     pub settles : wire_type v ≡ Some type
     pub typed : AllTyped type (composed g w i).list

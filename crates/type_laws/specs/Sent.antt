@@ -2,7 +2,7 @@
 use Rattle.std.specs.Prelude.{◌≡◌, ℕ, Bool, true, false, List, [], ◌∷◌}
 use Rattle.elem_core.specs.Tree.{Tree}
 use Rattle.elem_core.specs.declared.item.Item.{Item}
-use Rattle.stream_model.specs.Graph.{Graph, Wire}
+use Rattle.stream_model.specs.Graph.{Graph, Edge}
 use Rattle.stream_model.specs.Node.{World}
 use Rattle.stream_model.specs.Outlook.{Outlook, Entry, End, unended, ended, failed}
 use Rattle.stage_law.specs.Held.{told}
@@ -27,7 +27,7 @@ abbrev pub exact : List Tree → End → Outlook
 exact l e = record { list = l; ends = ends_by e; fails = fails_by e }
 
 -- the items are elements of the type that is settled for the wire, and how it stands
-pub record SendsItsType (plugs : List PlugHead) (chains : List ChainDecl) (nodes : List Node) (g : Graph) (w : World) (i : ℕ) (v : Wire) (sent : List Item) : Type 0 where
+pub record SendsItsType (plugs : List PlugHead) (chains : List ChainDecl) (nodes : List Node) (g : Graph) (w : World) (i : ℕ) (v : Edge) (sent : List Item) : Type 0 where
   pub carries : CarriesType plugs chains nodes g w i v
   pub list : List Tree
   pub end : End

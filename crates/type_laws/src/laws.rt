@@ -13,7 +13,7 @@ ghost use Rattle.elem_core.specs.declared.function.ReduceOp.{ReduceOp};
 ghost use Rattle.elem_core.specs.declared.why.Decider.{Decider};
 ghost use Rattle.elem_core.specs.declared.why.Why.TheVariants.{NotANumber};
 ghost use Rattle.stream_model.specs.Composed.{IsRanked};
-ghost use Rattle.stream_model.specs.Graph.{Graph, Wire};
+ghost use Rattle.stream_model.specs.Graph.{Graph, Edge};
 ghost use Rattle.stream_model.specs.Node.{World, node_outlook};
 ghost use Rattle.stream_model.specs.Outlook.{Outlook};
 ghost use Rattle.stream_model.specs.declared.kind.Kind.{Kind};
@@ -21,7 +21,7 @@ ghost use Rattle.stream_model.specs.declared.kind.Kind.TheVariants as kind;
 ghost use Rattle.fused_net.specs.Laws.{Settled};
 ghost use Rattle.fused_net.specs.Net.{Net, wire_at};
 ghost use Rattle.nodes.specs.Nodes.{node_row, node_law, node_asking, node_moves};
-ghost use Rattle.nodes.specs.declared.node.Node as stage;
+ghost use Rattle.nodes.specs.declared.node.IslandNode as stage;
 ghost use Rattle.run_account.specs.Account.{Account};
 ghost use Rattle.run_account.specs.Seats.{account_of};
 ghost use Rattle.run_laws.specs.Made.{Materializes};
@@ -93,17 +93,17 @@ pub fn fit_blueprints_pass_the_rules()
 /// type: its own, and in a chain each what the steps before it give.
 pub fn every_list_is_typed()
     ensures { (plugs : List PlugHead) (chains : List ChainDecl) (nodes : List Node) (g : Graph) (w : World) (rank : ℕ → ℕ) → PassesRules plugs chains nodes g → KeepsPlugTypes plugs w.book → IsRanked g rank
-        → (i : ℕ) (v : Wire) → slice_get g.wires i ≡ Some v → CarriesType plugs chains nodes g w i v }
+        → (i : ℕ) (v : Edge) → slice_get g.wires i ≡ Some v → CarriesType plugs chains nodes g w i v }
 {}
 
 /// What was sent on each wire of such a graph, at any moment of its run, has only elements of the type that is settled for the
 /// wire, whatever the folder tells of its files, where the world tells what the stages chose and its book what the plugs of the
 /// run give (`run`); so it is of an island that was made of it (`island`).
 pub fn every_wire_carries_its_type<S: Source, D: Drain, L: Logic, B: PlugBook>()
-    ensures run { (plugs : List PlugHead) (chains : List ChainDecl) (nodes : List Node) (g : Graph) (w : World) (rank : ℕ → ℕ) (a : Account (stage.Node S D L B)) → IsRun S.state D.state w.book g a → TellsPicks w a
+    ensures run { (plugs : List PlugHead) (chains : List ChainDecl) (nodes : List Node) (g : Graph) (w : World) (rank : ℕ → ℕ) (a : Account (stage.IslandNode S D L B)) → IsRun S.state D.state w.book g a → TellsPicks w a
         → PassesRules plugs chains nodes g → KeepsPlugTypes plugs w.book → IsRanked g rank
-        → (i : ℕ) (v : Wire) → slice_get g.wires i ≡ Some v → SendsItsType plugs chains nodes g w i v (a.near i).wire.sent }
-    ensures island { (plugs : List PlugHead) (chains : List ChainDecl) (nodes : List Node) (g : Graph) (w : World) (rank : ℕ → ℕ) (net : Net (stage.Node S D L B)) → Settled node_row (node_law S.state D.state w.book) node_asking node_moves net
+        → (i : ℕ) (v : Edge) → slice_get g.wires i ≡ Some v → SendsItsType plugs chains nodes g w i v (a.near i).wire.sent }
+    ensures island { (plugs : List PlugHead) (chains : List ChainDecl) (nodes : List Node) (g : Graph) (w : World) (rank : ℕ → ℕ) (net : Net (stage.IslandNode S D L B)) → Settled node_row (node_law S.state D.state w.book) node_asking node_moves net
         → Materializes S.state g net.firsts net.ends → TellsPicks w (account_of net) → PassesRules plugs chains nodes g → KeepsPlugTypes plugs w.book → IsRanked g rank
-        → (i : ℕ) (v : Wire) → slice_get g.wires i ≡ Some v → SendsItsType plugs chains nodes g w i v (wire_at net i).wire.sent }
+        → (i : ℕ) (v : Edge) → slice_get g.wires i ≡ Some v → SendsItsType plugs chains nodes g w i v (wire_at net i).wire.sent }
 {}

@@ -45,8 +45,8 @@ use Rattle.nodes.specs.Keeping.{KeepsDrain, KeepsEnd}
 use Rattle.nodes.specs.Sink.{Sink}
 use Rattle.nodes.specs.Source.{Lines}
 use Rattle.nodes.specs.Nodes.{node_law, node_picks, node_seat, node_end, KeepsNode}
-use Rattle.nodes.specs.declared.node.Node.{Node}
-use Rattle.nodes.specs.declared.node.Node.TheVariants as node
+use Rattle.nodes.specs.declared.node.IslandNode.{IslandNode}
+use Rattle.nodes.specs.declared.node.IslandNode.TheVariants as node
 use Rattle.nodes.specs.declared.node.NodeEnd.{NodeEnd}
 use Rattle.nodes.specs.declared.node.NodeEnd.TheVariants.{Read, Staged, Wrote}
 use Rattle.interpreter.specs.Parts.{Becomes, BecomesOf}
@@ -63,12 +63,12 @@ use Rattle.island_ends.specs.Ends.{leaves, sink_of, reader_of, writer_of, is_lan
 use Rattle.stream_model.specs.Linear.{Book}
 
 -- a node leaves a handle where another does
-pub record HandlesAs {S D L B : Type 0} (x y : Node S D L B) : Type 0 where
+pub record HandlesAs {S D L B : Type 0} (x y : IslandNode S D L B) : Type 0 where
   pub readers : leaves (reader_of y) ≡ leaves (reader_of x)
   pub writers : leaves (writer_of y) ≡ leaves (writer_of x)
 
 -- and so of all that it leaves
-pub record LeavesAs {S D L B : Type 0} (x y : Node S D L B) : Type 0 where
+pub record LeavesAs {S D L B : Type 0} (x y : IslandNode S D L B) : Type 0 where
   pub sinks : leaves (sink_of y) ≡ leaves (sink_of x)
   pub picks : leaves (node_picks y) ≡ leaves (node_picks x)
   pub seats : leaves (node_seat y) ≡ leaves (node_seat x)
@@ -76,35 +76,35 @@ pub record LeavesAs {S D L B : Type 0} (x y : Node S D L B) : Type 0 where
   pub ends : is_lane_end y ≡ is_lane_end x
 
 -- it leaves a handle where its kind has a file
-pub record HandlesBy {S D L B : Type 0} (shape : Kind) (x : Node S D L B) : Type 0 where
+pub record HandlesBy {S D L B : Type 0} (shape : Kind) (x : IslandNode S D L B) : Type 0 where
   pub readers : leaves (reader_of x) ≡ is_some (input_of shape)
   pub writers : leaves (writer_of x) ≡ is_some (output_of shape)
 
 -- and all that its kind says
-pub record LeavesBy {S D L B : Type 0} (shape : Kind) (x : Node S D L B) : Type 0 where
+pub record LeavesBy {S D L B : Type 0} (shape : Kind) (x : IslandNode S D L B) : Type 0 where
   pub sinks : leaves (sink_of x) ≡ (outputs_of shape == 0)
   pub picks : leaves (node_picks x) ≡ picks shape
   pub seats : leaves (node_seat x) ≡ is_some (switch_of shape)
   pub handles : HandlesBy shape x
 
-pub handles_on : {S D L B : Type 0} (shape : Kind) (x y : Node S D L B) → HandlesBy shape x → HandlesAs x y → HandlesBy shape y
+pub handles_on : {S D L B : Type 0} (shape : Kind) (x y : IslandNode S D L B) → HandlesBy shape x → HandlesAs x y → HandlesBy shape y
 handles_on shape x y b s = record { readers = s.readers ∙ b.readers; writers = s.writers ∙ b.writers }
 
-pub leaves_on : {S D L B : Type 0} (shape : Kind) (x y : Node S D L B) → LeavesBy shape x → LeavesAs x y → LeavesBy shape y
+pub leaves_on : {S D L B : Type 0} (shape : Kind) (x y : IslandNode S D L B) → LeavesBy shape x → LeavesAs x y → LeavesBy shape y
 leaves_on shape x y b s = record { sinks = s.sinks ∙ b.sinks; picks = s.picks ∙ b.picks; seats = s.seats ∙ b.seats; handles = handles_on shape x y b.handles s.handles }
 
-pub handles_both : {S D L B : Type 0} (x y z : Node S D L B) → HandlesAs x y → HandlesAs y z → HandlesAs x z
+pub handles_both : {S D L B : Type 0} (x y z : IslandNode S D L B) → HandlesAs x y → HandlesAs y z → HandlesAs x z
 handles_both x y z a b = record { readers = b.readers ∙ a.readers; writers = b.writers ∙ a.writers }
 
 -- it leaves nothing
-pub record IsBare {S D L B : Type 0} (x : Node S D L B) : Type 0 where
+pub record IsBare {S D L B : Type 0} (x : IslandNode S D L B) : Type 0 where
   pub sinks : sink_of x ≡ None
   pub picks : node_picks x ≡ None
   pub seats : node_seat x ≡ None
   pub readers : reader_of x ≡ None
   pub writers : writer_of x ≡ None
 
-pub lane_bare : {S D L B : Type 0} (x : Node S D L B) → is_lane_end x ≡ true → IsBare x
+pub lane_bare : {S D L B : Type 0} (x : IslandNode S D L B) → is_lane_end x ≡ true → IsBare x
 lane_bare (node.Entering x) e = record { sinks = refl; picks = refl; seats = refl; readers = refl; writers = refl }
 lane_bare (node.Leaving x) e = record { sinks = refl; picks = refl; seats = refl; readers = refl; writers = refl }
 lane_bare _ e = absurd cc
@@ -146,7 +146,7 @@ out_stays f x v took gave law = absurd law
 
 module _ {S D L B : Type 0} (sources : S → SourceState) (drains : D → DrainState) (book : Book) where
   -- a node stays of its kind
-  pub law_stays : (f x : Node S D L B) (v : View) (took gave : List (List Item)) → node_law sources drains book f x v took gave → LeavesAs f x
+  pub law_stays : (f x : IslandNode S D L B) (v : View) (took gave : List (List Item)) → node_law sources drains book f x v took gave → LeavesAs f x
   law_stays (node.Reading f) (node.Reading x) v took gave law = record { sinks = refl; picks = refl; seats = refl; handles = record { readers = refl; writers = refl }; ends = refl }
   law_stays (node.Making f) (node.Making x) v took gave law = record { sinks = refl; picks = refl; seats = refl; handles = record { readers = refl; writers = refl }; ends = refl }
   law_stays (node.Linear f) (node.Linear x) v took gave law = record { sinks = refl; picks = refl; seats = refl; handles = record { readers = refl; writers = refl }; ends = refl }
@@ -174,7 +174,7 @@ writes_in Staged = false
 writes_in (Wrote e) = is_some e.drain
 
 module _ {S D L B : Type 0} where
-  reader_end : (x : Node S D L B) → leaves (reader_of x) ≡ reads_in (node_end x)
+  reader_end : (x : IslandNode S D L B) → leaves (reader_of x) ≡ reads_in (node_end x)
   reader_end (node.Reading x) = refl
   reader_end (node.Making x) = refl
   reader_end (node.Linear x) = refl
@@ -187,7 +187,7 @@ module _ {S D L B : Type 0} where
   reader_end (node.Entering x) = refl
   reader_end (node.Leaving x) = refl
 
-  writer_end : (x : Node S D L B) → leaves (writer_of x) ≡ writes_in (node_end x)
+  writer_end : (x : IslandNode S D L B) → leaves (writer_of x) ≡ writes_in (node_end x)
   writer_end (node.Reading x) = refl
   writer_end (node.Making x) = refl
   writer_end (node.Linear x) = refl
@@ -221,8 +221,8 @@ module _ {S D : Type 0} (sources : S → SourceState) (drains : D → DrainState
 
 module _ {S D L B : Type 0} (sources : S → SourceState) (drains : D → DrainState) where
   -- the handles of a node outlive it
-  pub kept_stays : (x y : Node S D L B) → (y ≡ x) ⊎ KeepsNode sources drains x y → HandlesAs x y
-  kept_stays x y (inl e) = record { readers = ap (λ (z : Node S D L B). leaves (reader_of z)) e; writers = ap (λ (z : Node S D L B). leaves (writer_of z)) e }
+  pub kept_stays : (x y : IslandNode S D L B) → (y ≡ x) ⊎ KeepsNode sources drains x y → HandlesAs x y
+  kept_stays x y (inl e) = record { readers = ap (λ (z : IslandNode S D L B). leaves (reader_of z)) e; writers = ap (λ (z : IslandNode S D L B). leaves (writer_of z)) e }
   kept_stays x y (inr k) = record {
     readers = reader_end y ∙ (end_reads sources drains (node_end x) (node_end y) k.ends ∙ sym (reader_end x));
     writers = writer_end y ∙ (end_writes sources drains (node_end x) (node_end y) k.ends ∙ sym (writer_end x));
@@ -461,7 +461,7 @@ state_seats k shape d (state.Tripping f) b = sym (trip_seated k shape d f b)
 -- ---- a node as it begins
 
 module _ {S D L B : Type 0} where
-  inner : (shape : Kind) (x : Node S D L B) → leaves (sink_of x) ≡ false → leaves (reader_of x) ≡ false → leaves (writer_of x) ≡ false → leaves (node_picks x) ≡ picks shape → leaves (node_seat x) ≡ is_some (switch_of shape) → IsPlain shape → LeavesBy shape x
+  inner : (shape : Kind) (x : IslandNode S D L B) → leaves (sink_of x) ≡ false → leaves (reader_of x) ≡ false → leaves (writer_of x) ≡ false → leaves (node_picks x) ≡ picks shape → leaves (node_seat x) ≡ is_some (switch_of shape) → IsPlain shape → LeavesBy shape x
   inner shape x s r w p t is = record { sinks = s ∙ sym is.sinks; picks = p; seats = t; handles = record { readers = r ∙ sym is.reads; writers = w ∙ sym is.writes } }
 
   reading_leaves : (shape : Kind) (name : List ℕ) (y : Lines S) → shape ≡ kind.Lines name → LeavesBy {S = S} {D = D} {L = L} {B = B} shape (node.Reading y)
@@ -483,25 +483,25 @@ module _ {S D L B : Type 0} where
   writing_leaves : (shape : Kind) (y : Sink D) → IsFileSink shape → LeavesBy {S = S} {D = D} {L = L} {B = B} shape (node.Writing y)
   writing_leaves shape y is = let f = file_sink shape is in record { sinks = sym f.sinks; picks = sym f.picked; seats = sym f.shut; handles = record { readers = sym f.reads; writers = sym f.writes } }
 
-  work_leaves : (chains : List graph.Chain) (k m : ℕ) (n : blue.Node) (ss : List S) (ds : List D) (w : Work S D L B) (x : Node S D L B) → IsWork chains k n ss ds w → BecomesOf m w x → LeavesBy n.kind x
-  work_leaves chains k m n ss ds (work.Reading r) x is b = let l = reads_lines n.kind ss r.source is.source in subst (λ (y : Node S D L B). LeavesBy n.kind y) (sym b) (reading_leaves n.kind l.0 _ l.1)
-  work_leaves chains k m n ss ds (work.Making shape) x is b = let p = maker_plain n.kind is.is_maker in subst (λ (y : Node S D L B). LeavesBy n.kind y) (sym b) (inner n.kind (node.Making (maker_of m shape)) refl refl refl (sym p.1) (sym (maker_unseated n.kind is.is_maker)) p.0)
-  work_leaves chains k m n ss ds (work.Linear l) x is b = let p = linear_plain n.kind is.is_linear in subst (λ (y : Node S D L B). LeavesBy n.kind y) (sym b) (inner n.kind (node.Linear l) refl refl refl (sym p.1) (sym (linear_unseated n.kind is.is_linear)) p.0)
+  work_leaves : (chains : List graph.Chain) (k m : ℕ) (n : blue.Node) (ss : List S) (ds : List D) (w : Work S D L B) (x : IslandNode S D L B) → IsWork chains k n ss ds w → BecomesOf m w x → LeavesBy n.kind x
+  work_leaves chains k m n ss ds (work.Reading r) x is b = let l = reads_lines n.kind ss r.source is.source in subst (λ (y : IslandNode S D L B). LeavesBy n.kind y) (sym b) (reading_leaves n.kind l.0 _ l.1)
+  work_leaves chains k m n ss ds (work.Making shape) x is b = let p = maker_plain n.kind is.is_maker in subst (λ (y : IslandNode S D L B). LeavesBy n.kind y) (sym b) (inner n.kind (node.Making (maker_of m shape)) refl refl refl (sym p.1) (sym (maker_unseated n.kind is.is_maker)) p.0)
+  work_leaves chains k m n ss ds (work.Linear l) x is b = let p = linear_plain n.kind is.is_linear in subst (λ (y : IslandNode S D L B). LeavesBy n.kind y) (sym b) (inner n.kind (node.Linear l) refl refl refl (sym p.1) (sym (linear_unseated n.kind is.is_linear)) p.0)
   work_leaves chains k m n ss ds (work.State l) x is b =
-      subst (λ (y : Node S D L B). LeavesBy n.kind y) (sym b) (inner n.kind (node.State l) refl refl refl (state_chooses k n.kind n.decider l is.begins.as_kind) (state_seats k n.kind n.decider l is.begins.as_kind) (state_plain n.kind is.is_state))
+      subst (λ (y : IslandNode S D L B). LeavesBy n.kind y) (sym b) (inner n.kind (node.State l) refl refl refl (state_chooses k n.kind n.decider l is.begins.as_kind) (state_seats k n.kind n.decider l is.begins.as_kind) (state_plain n.kind is.is_state))
   work_leaves chains k m n ss ds (work.Sub l) x is b =
-      subst (λ (y : Node S D L B). LeavesBy n.kind y) (sym b) (inner n.kind (node.Sub l) refl refl refl (sub_chooses k n.kind l.chain l is.begins.as_kind) (sym (sub_unseated n.kind is.is_sub)) (sub_plain n.kind is.is_sub))
+      subst (λ (y : IslandNode S D L B). LeavesBy n.kind y) (sym b) (inner n.kind (node.Sub l) refl refl refl (sub_chooses k n.kind l.chain l is.begins.as_kind) (sym (sub_unseated n.kind is.is_sub)) (sub_plain n.kind is.is_sub))
   work_leaves chains k m n ss ds (work.FanIn l inputs) x is b =
-      subst (λ (y : Node S D L B). LeavesBy n.kind y) (sym b) (inner n.kind (node.FanIn l) refl refl refl (fan_in_chooses n.kind l is.begins.takes) (sym (fan_in_unseated n.kind is.is_in)) (fan_in_plain n.kind is.is_in))
+      subst (λ (y : IslandNode S D L B). LeavesBy n.kind y) (sym b) (inner n.kind (node.FanIn l) refl refl refl (fan_in_chooses n.kind l is.begins.takes) (sym (fan_in_unseated n.kind is.is_in)) (fan_in_plain n.kind is.is_in))
   work_leaves chains k m n ss ds (work.FanOut l outputs) x is b =
-      subst (λ (y : Node S D L B). LeavesBy n.kind y) (sym b) (inner n.kind (node.FanOut l) refl refl refl (fan_out_chooses k n.kind l is.begins.as_kind) (sym (fan_out_unseated n.kind is.is_out)) (fan_out_plain n.kind is.is_out))
+      subst (λ (y : IslandNode S D L B). LeavesBy n.kind y) (sym b) (inner n.kind (node.FanOut l) refl refl refl (fan_out_chooses k n.kind l is.begins.as_kind) (sym (fan_out_unseated n.kind is.is_out)) (fan_out_plain n.kind is.is_out))
   work_leaves chains k m n ss ds (work.LaneIn u) x is b = absurd is
   work_leaves chains k m n ss ds (work.LaneOut u) x is b = absurd is
-  work_leaves chains k m n ss ds (work.Writing shape (Some d)) x is b = subst (λ (y : Node S D L B). LeavesBy n.kind y) (sym b) (writing_leaves n.kind _ is.is_sink)
-  work_leaves chains k m n ss ds (work.Writing shape None) x is b = subst (λ (y : Node S D L B). LeavesBy n.kind y) (sym b) (ignoring_leaves n.kind _ is.is_ignore)
+  work_leaves chains k m n ss ds (work.Writing shape (Some d)) x is b = subst (λ (y : IslandNode S D L B). LeavesBy n.kind y) (sym b) (writing_leaves n.kind _ is.is_sink)
+  work_leaves chains k m n ss ds (work.Writing shape None) x is b = subst (λ (y : IslandNode S D L B). LeavesBy n.kind y) (sym b) (ignoring_leaves n.kind _ is.is_ignore)
 
   -- a node that began as what was handed in for node j leaves what the kind of that says
-  pub seat_leaves : (chains : List graph.Chain) (k : ℕ) (ns : List blue.Node) (ss : List S) (ds : List D) (ps : List (Seated S D L B)) (j : ℕ) (n : blue.Node) (p : Seated S D L B) (x : Node S D L B)
+  pub seat_leaves : (chains : List graph.Chain) (k : ℕ) (ns : List blue.Node) (ss : List S) (ds : List D) (ps : List (Seated S D L B)) (j : ℕ) (n : blue.Node) (p : Seated S D L B) (x : IslandNode S D L B)
       → AreSeats chains k ns ss ds ps → slice_get ns j ≡ Some n → slice_get ps j ≡ Some p → Becomes p x → LeavesBy n.kind x
   seat_leaves chains k [] ss ds ps j n p x a en ep b = absurd cc
   seat_leaves chains k (m ∷ ns) ss ds [] j n p x a en ep b = absurd a

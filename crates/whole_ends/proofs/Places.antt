@@ -3,9 +3,9 @@ use Rattle.std.specs.Prelude.{slice_get, slice_index}
 use Rattle.std.proofs.Common.{◌≡◌, ℕ, ◌+◌, ◌<◌, true, List, ◌++◌, length, map, Some, refl, ap, sym, ◌∙◌, length-append, arith}
 use Rattle.std.proofs.lemmas.Option.{slice_get_within}
 use Rattle.std.proofs.lemmas.List.Elements.{All-get_or}
-use Rattle.stream_model.specs.Graph.{Wire}
+use Rattle.stream_model.specs.Graph.{Edge}
 use Rattle.fused_net.specs.Net.{Net}
-use Rattle.nodes.specs.declared.node.Node.{Node}
+use Rattle.nodes.specs.declared.node.IslandNode.{IslandNode}
 use Rattle.interpreter.specs.Parts.{Becomes}
 use Rattle.interpreter.specs.declared.parts.Seated.{Seated}
 use Rattle.traversal.specs.Plan.{lanes_from}
@@ -23,8 +23,8 @@ use Rattle.island_ends.specs.Ends.{is_lane_end}
 use Rattle.whole_ends.proofs.Numbers.{each_read, each_both}
 
 -- a node has become of one that stands at this place, with which it has something to do
-pub record Began {S D L B : Type 0} (R : Node S D L B → Node S D L B → Type 0) (s : Seated S D L B) (x : Node S D L B) : Type 0 where
-  pub first : Node S D L B
+pub record Began {S D L B : Type 0} (R : IslandNode S D L B → IslandNode S D L B → Type 0) (s : Seated S D L B) (x : IslandNode S D L B) : Type 0 where
+  pub first : IslandNode S D L B
   pub becomes : Becomes s first
   pub keeps : R first x
 
@@ -34,15 +34,15 @@ ends_at lanes = map in_seat lanes ++ map out_seat lanes
 
 -- what begins at one is one
 abbrev EndsAt : {S D L B : Type 0} → Seated S D L B → Type 0
-EndsAt s = (x : Node _ _ _ _) → Becomes s x → is_lane_end x ≡ true
+EndsAt s = (x : IslandNode _ _ _ _) → Becomes s x → is_lane_end x ≡ true
 
-pub lane_seats : {S D L B : Type 0} (lanes : List LanePlan) (k : ℕ) (s : Seated S D L B) → slice_get (ends_at lanes) k ≡ Some s → (x : Node S D L B) → Becomes s x → is_lane_end x ≡ true
+pub lane_seats : {S D L B : Type 0} (lanes : List LanePlan) (k : ℕ) (s : Seated S D L B) → slice_get (ends_at lanes) k ≡ Some s → (x : IslandNode S D L B) → Becomes s x → is_lane_end x ≡ true
 lane_seats {S = S} {D = D} {L = L} {B = B} lanes =
     each_both (EndsAt {S = S} {D = D} {L = L} {B = B}) (map in_seat lanes) (map out_seat lanes) (each_read (EndsAt {S = S} {D = D} {L = L} {B = B}) in_seat (λ l x b. ap is_lane_end b) lanes) (each_read (EndsAt {S = S} {D = D} {L = L} {B = B}) out_seat (λ l x b. ap is_lane_end b) lanes)
 
-module _ {S D L B : Type 0} (homes : List ℕ) (count : ℕ) (ws : List Wire) (nodes : List (Seated S D L B)) (nets : ℕ → Net (Node S D L B)) (a : AreSeated homes count ws nodes) (b : AreNets homes ws nodes count nets) (R : Node S D L B → Node S D L B → Type 0)
-    (others : ℕ → List (Node S D L B)) (stays : (k : ℕ) → k < count → (p : ℕ) (first x : Node S D L B) → slice_get (nets k).firsts p ≡ Some first → slice_get (others k) p ≡ Some x → R first x) (all ends : List (Node S D L B)) (r : AreBroughtBack homes count ws others all ends) where
-  place_began : (i : ℕ) (s : Seated S D L B) (x : Node S D L B) → slice_get (seats homes count ws nodes a) i ≡ Some s → slice_get (all ++ ends) i ≡ Some x → Began R s x
+module _ {S D L B : Type 0} (homes : List ℕ) (count : ℕ) (ws : List Edge) (nodes : List (Seated S D L B)) (nets : ℕ → Net (IslandNode S D L B)) (a : AreSeated homes count ws nodes) (b : AreNets homes ws nodes count nets) (R : IslandNode S D L B → IslandNode S D L B → Type 0)
+    (others : ℕ → List (IslandNode S D L B)) (stays : (k : ℕ) → k < count → (p : ℕ) (first x : IslandNode S D L B) → slice_get (nets k).firsts p ≡ Some first → slice_get (others k) p ≡ Some x → R first x) (all ends : List (IslandNode S D L B)) (r : AreBroughtBack homes count ws others all ends) where
+  place_began : (i : ℕ) (s : Seated S D L B) (x : IslandNode S D L B) → slice_get (seats homes count ws nodes a) i ≡ Some s → slice_get (all ++ ends) i ≡ Some x → Began R s x
   place_began i s x at is =
       let hs = place_homes homes ws in
       let lt : i < length hs = (let l : i < length (seats homes count ws nodes a) = slice_get_within (seats homes count ws nodes a) i s at in let e = all_seats homes count ws nodes a in omega (arith, l, e)) in
@@ -53,11 +53,11 @@ module _ {S D L B : Type 0} (homes : List ℕ) (count : ℕ) (ws : List Wire) (n
       record { first = y.0; becomes = y.1.1; keeps = stays h below (rank_of hs i) y.0 x y.1.0 here }
 
   -- of a node of the blueprint
-  pub node_began : (k : ℕ) (s : Seated S D L B) (x : Node S D L B) → slice_get nodes k ≡ Some s → slice_get all k ≡ Some x → Began R s x
+  pub node_began : (k : ℕ) (s : Seated S D L B) (x : IslandNode S D L B) → slice_get nodes k ≡ Some s → slice_get all k ≡ Some x → Began R s x
   node_began k s x at is = place_began k s x (get_left nodes (ends_at (lanes_from homes 0 ws)) k s at) (get_left all ends k x is)
 
   -- and of any other, which is at an end of a lane
-  pub end_began : (k : ℕ) (x : Node S D L B) → slice_get ends k ≡ Some x → (first : Node S D L B) × ((is_lane_end first ≡ true) × R first x)
+  pub end_began : (k : ℕ) (x : IslandNode S D L B) → slice_get ends k ≡ Some x → (first : IslandNode S D L B) × ((is_lane_end first ≡ true) × R first x)
   end_began k x is =
       let lanes = lanes_from homes 0 ws in
       let lt : k < length ends = slice_get_within ends k x is in

@@ -1,9 +1,9 @@
 -- All that the bodies of a blueprint's islands leave, in order of its nodes and wires.
 use Rattle.std.specs.Prelude.{◌≡◌, ℕ, List, ◌++◌, length, map}
 use Rattle.stream_model.specs.Composed.{count_from}
-use Rattle.stream_model.specs.Graph.{Wire}
-use Rattle.wire_core.specs.Cell.{Cell}
-use Rattle.nodes.specs.declared.node.Node.{Node}
+use Rattle.stream_model.specs.Graph.{Edge}
+use Rattle.wire_core.specs.Cell.{WireState}
+use Rattle.nodes.specs.declared.node.IslandNode.{IslandNode}
 use Rattle.interpreter.specs.Island.{sinks_of, readers_of, writers_of}
 use Rattle.interpreter.specs.Picks.{node_number, pick_of, picks_of}
 use Rattle.interpreter.specs.Seats.{seats_of}
@@ -18,7 +18,7 @@ use Rattle.bodies_run.specs.Counts.{told_from}
 
 -- the nodes of the blueprint and the ends of its lanes, with the numbers of what was handed in for them, and its wires, which stand so at
 -- their outputs
-abbrev pub whole_of : {S D L B : Type 0} → List ℕ → List Wire → List (Seated S D L B) → (ℕ → Cell) → List (Node S D L B) → List (Node S D L B) → Whole S D L B
+abbrev pub whole_of : {S D L B : Type 0} → List ℕ → List Edge → List (Seated S D L B) → (ℕ → WireState) → List (IslandNode S D L B) → List (IslandNode S D L B) → Whole S D L B
 whole_of homes ws nodes near last ends = record {
   homes = place_homes homes ws;
   nodes = last ++ ends;
@@ -28,7 +28,7 @@ whole_of homes ws nodes near last ends = record {
 }
 
 -- this is left by these nodes, in their order, and by wires that stand so at their outputs
-pub record IsLeftBy {S D L B : Type 0} (ws : List Wire) (near : ℕ → Cell) (nodes : List (Node S D L B)) (e : IslandEnd S D) : Type 0 where
+pub record IsLeftBy {S D L B : Type 0} (ws : List Edge) (near : ℕ → WireState) (nodes : List (IslandNode S D L B)) (e : IslandEnd S D) : Type 0 where
   pub sinks : e.sinks.items ≡ sinks_of nodes
   pub picks : map pick_of e.picks.items ≡ picks_of (count_from 0 (length nodes)) nodes
   pub seats : e.seats.items ≡ seats_of (count_from 0 (length nodes)) nodes

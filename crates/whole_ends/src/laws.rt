@@ -2,7 +2,7 @@
 ghost use Rattle.std.specs.Prelude.{◌≡◌, ℕ, List};
 ghost use Rattle.blue_core.specs.declared.blueprint.Blueprint.{Blueprint};
 ghost use Rattle.blue_check.specs.Wires.{blueprint_wires};
-ghost use Rattle.nodes.specs.declared.node.Node.{Node};
+ghost use Rattle.nodes.specs.declared.node.IslandNode.{IslandNode};
 ghost use Rattle.interpreter.specs.Island.{readers_of, writers_of};
 ghost use Rattle.interpreter.specs.declared.island.IslandEnd.{IslandEnd};
 ghost use Rattle.interpreter.specs.declared.parts.Seated.{Seated};
@@ -30,13 +30,13 @@ use stream_io::outside::{Drain, Source};
 /// What the bodies of a blueprint's islands leave is all that its nodes and wires leave, in shares (`ends`), with the homes that were
 /// planned (`homes`); and all of it in one end is left by its nodes and wires (`left`). Rule: own.
 pub fn bodies_leave_what_their_nodes_do<S: Source, D: Drain, L: Logic, B: PlugBook>()
-    ensures ends { (b : Blueprint) (homes : List ℕ) (count : ℕ) (nodes : List (Seated S D L B)) (crossings : List Crossing) (begun now : List (Body S D L B)) (all : ℕ → ℕ) (last more : List (Node S D L B)) (ends : List (IslandEnd S D)) → AreBodiesOf S.state D.state B.lists (graph_of b) homes count (blueprint_wires b) nodes crossings begun
+    ensures ends { (b : Blueprint) (homes : List ℕ) (count : ℕ) (nodes : List (Seated S D L B)) (crossings : List Crossing) (begun now : List (Body S D L B)) (all : ℕ → ℕ) (last more : List (IslandNode S D L B)) (ends : List (IslandEnd S D)) → AreBodiesOf S.state D.state B.lists (graph_of b) homes count (blueprint_wires b) nodes crossings begun
         → AreNumbered homes (blueprint_wires b) nodes begun → EachOf BodyGoes begun now → AllOf (BodyKeeps S.state D.state B.lists) now → AreBroughtBack homes count (blueprint_wires b) (λ k. (net_of now k).nodes) last more → AreEndsOfBodies now ends
         → AreEndsOf (whole_of homes (blueprint_wires b) nodes (account_in homes (blueprint_wires b) now all).near last more) ends }
-    ensures homes { (b : Blueprint) (homes : List ℕ) (count : ℕ) (nodes : List (Seated S D L B)) (crossings : List Crossing) (begun now : List (Body S D L B)) (all : ℕ → ℕ) (last more : List (Node S D L B)) (ss : List S) (ds : List D) (e : EndHomes) → AreSeats (chains_of b) 0 b.nodes.items ss ds nodes
+    ensures homes { (b : Blueprint) (homes : List ℕ) (count : ℕ) (nodes : List (Seated S D L B)) (crossings : List Crossing) (begun now : List (Body S D L B)) (all : ℕ → ℕ) (last more : List (IslandNode S D L B)) (ss : List S) (ds : List D) (e : EndHomes) → AreSeats (chains_of b) 0 b.nodes.items ss ds nodes
         → AreBodiesOf S.state D.state B.lists (graph_of b) homes count (blueprint_wires b) nodes crossings begun → EachOf BodyGoes begun now → AllOf (BodyKeeps S.state D.state B.lists) now → AreBroughtBack homes count (blueprint_wires b) (λ k. (net_of now k).nodes) last more → AreEndHomes homes b.nodes.items (blueprint_wires b) e
         → AreHomesOf (whole_of homes (blueprint_wires b) nodes (account_in homes (blueprint_wires b) now all).near last more) e }
-    ensures left { (b : Blueprint) (homes : List ℕ) (count : ℕ) (nodes : List (Seated S D L B)) (crossings : List Crossing) (begun now : List (Body S D L B)) (all : ℕ → ℕ) (last more : List (Node S D L B)) (ss : List S) (ds : List D) (x : IslandEnd S D) → AreSeats (chains_of b) 0 b.nodes.items ss ds nodes
+    ensures left { (b : Blueprint) (homes : List ℕ) (count : ℕ) (nodes : List (Seated S D L B)) (crossings : List Crossing) (begun now : List (Body S D L B)) (all : ℕ → ℕ) (last more : List (IslandNode S D L B)) (ss : List S) (ds : List D) (x : IslandEnd S D) → AreSeats (chains_of b) 0 b.nodes.items ss ds nodes
         → AreBodiesOf S.state D.state B.lists (graph_of b) homes count (blueprint_wires b) nodes crossings begun → EachOf BodyGoes begun now → AllOf (BodyKeeps S.state D.state B.lists) now → AreBroughtBack homes count (blueprint_wires b) (λ k. (net_of now k).nodes) last more
         → IsWholeEnd (whole_of homes (blueprint_wires b) nodes (account_in homes (blueprint_wires b) now all).near last more) x → IsLeftBy (blueprint_wires b) (account_in homes (blueprint_wires b) now all).near last x }
 {}
@@ -44,7 +44,7 @@ pub fn bodies_leave_what_their_nodes_do<S: Source, D: Drain, L: Logic, B: PlugBo
 /// What bodies leave of which some broke off are the handles of the blueprint's nodes, in shares, with the homes that were planned. Rule:
 /// own.
 pub fn broken_bodies_leave_their_handles<S: Source, D: Drain, L: Logic, B: PlugBook>()
-    ensures { (b : Blueprint) (homes : List ℕ) (count : ℕ) (nodes : List (Seated S D L B)) (crossings : List Crossing) (begun now then : List (Body S D L B)) (last more broken later : List (Node S D L B)) (ss : List S) (ds : List D) (e : EndHomes) (ends : List (IslandEnd S D)) → AreSeats (chains_of b) 0 b.nodes.items ss ds nodes
+    ensures { (b : Blueprint) (homes : List ℕ) (count : ℕ) (nodes : List (Seated S D L B)) (crossings : List Crossing) (begun now then : List (Body S D L B)) (last more broken later : List (IslandNode S D L B)) (ss : List S) (ds : List D) (e : EndHomes) (ends : List (IslandEnd S D)) → AreSeats (chains_of b) 0 b.nodes.items ss ds nodes
         → AreBodiesOf S.state D.state B.lists (graph_of b) homes count (blueprint_wires b) nodes crossings begun → WholeOrBroken (BodyKeeps S.state D.state B.lists) BodyGoes (BodyBreaks S.state D.state B.lists) begun now → AreLastOf S.state D.state B.lists begun now then
         → AreBroughtBack homes count (blueprint_wires b) (λ k. (net_of then k).nodes) last more → AreBroughtBack homes count (blueprint_wires b) (λ k. (net_of now k).nodes) broken later
         → AreEndHomes homes b.nodes.items (blueprint_wires b) e → AreEndsOfBodies now ends → AreHandlesOf e (readers_of broken) (writers_of broken) ends }

@@ -4,9 +4,9 @@ use Rattle.elem_core.specs.Tree.{Tree}
 use Rattle.elem_core.specs.declared.why.Cause.{Cause}
 use Rattle.elem_core.specs.declared.item.Item.{Item}
 use Rattle.elem_core.specs.declared.item.Item.TheVariants as item
-use Rattle.port_core.specs.Connection.{Step, quiet, pulled, ready, pushed}
+use Rattle.port_core.specs.Connection.{ConnStep, quiet, pulled, ready, pushed}
 use Rattle.port_core.specs.View.{IsInOpen, IsOutOpen}
-use Rattle.port_core.specs.Wire.{Wire, pull_of, push_of, close_of, cancel_of, end_of, delivery_of, after_delivery, again}
+use Rattle.port_core.specs.Wire.{JointPorts, pull_of, push_of, close_of, cancel_of, end_of, delivery_of, after_delivery, again}
 use Rattle.port_core.specs.Joint.{Joint, idle, asking, asked, moving, ending, closing, leaving, finished, parted, refused, wire_of, Queues, IsSound}
 use Rattle.port_core.specs.declared.view.InView.{InView}
 use Rattle.port_core.specs.declared.view.InView.TheVariants.{Idle, Pulled, Finished, Cancelled}
@@ -37,7 +37,7 @@ pub elements_end : (s : List Item) (c : Option Cause) → elements (s ++ end_of 
 elements_end s None = elements_ended s
 elements_end s (Some c) = elements_failed s c
 
-ready_le : (t : Step) → ready_bit t ≤ 1
+ready_le : (t : ConnStep) → ready_bit t ≤ 1
 ready_le quiet = omega arith
 ready_le pulled = omega arith
 ready_le ready = omega arith
@@ -123,7 +123,7 @@ spent_pull (parted t c) s g q e = cc
 spent_pull (refused t c) s g q e = cc
 
 -- for any wire
-extra_least : (o : OutView) (i : InView) (t : Step) (q : Bool) → extra o i t true ≤ extra o i t q
+extra_least : (o : OutView) (i : InView) (t : ConnStep) (q : Bool) → extra o i t true ≤ extra o i t q
 extra_least outlet.Closed Finished t q = omega (arith, free_le q)
 extra_least outlet.Closed Cancelled t q = omega (arith, free_le q)
 extra_least outlet.Cancelled Cancelled t q = omega (arith, free_le q)
@@ -138,41 +138,41 @@ extra_least outlet.Cancelled Pulled t q = omega arith
 extra_least outlet.Cancelled Finished t q = omega arith
 extra_least outlet.Unpulled i t q = omega arith
 
-spent_least : (w : Wire) (q : Bool) → spent w true ≤ spent w q
+spent_least : (w : JointPorts) (q : Bool) → spent w true ≤ spent w q
 spent_least w q = omega (arith, extra_least w.out w.inp w.conn.step q)
 
-pub deliver_spent : (w : Wire) → IsSound w true → spent w true + 1 ≤ spent (after_delivery (delivery_of w) w) (again (delivery_of w))
-deliver_spent w h = subst (λ (v : Wire). spent v true + 1 ≤ spent (after_delivery (delivery_of v) v) (again (delivery_of v))) (sym h.is) (spent_deliver h.joint w.sent w.got h.queues)
+pub deliver_spent : (w : JointPorts) → IsSound w true → spent w true + 1 ≤ spent (after_delivery (delivery_of w) w) (again (delivery_of w))
+deliver_spent w h = subst (λ (v : JointPorts). spent v true + 1 ≤ spent (after_delivery (delivery_of v) v) (again (delivery_of v))) (sym h.is) (spent_deliver h.joint w.sent w.got h.queues)
 
-pub push_spent : (x : Tree) (w : Wire) (q r : Bool) → IsSound w q → w.out ≡ outlet.Available → spent w q ≤ spent (push_of x w) r
+pub push_spent : (x : Tree) (w : JointPorts) (q r : Bool) → IsSound w q → w.out ≡ outlet.Available → spent w q ≤ spent (push_of x w) r
 push_spent x w q r h e =
-    let up : spent w q ≤ spent (push_of x w) true = subst (λ (v : Wire). spent v q ≤ spent (push_of x v) true) (sym h.is) (spent_push x h.joint w.sent w.got (sym (ap (λ (v : Wire). v.out) h.is) ∙ e) q) in
+    let up : spent w q ≤ spent (push_of x w) true = subst (λ (v : JointPorts). spent v q ≤ spent (push_of x v) true) (sym h.is) (spent_push x h.joint w.sent w.got (sym (ap (λ (v : JointPorts). v.out) h.is) ∙ e) q) in
     omega (arith, up, spent_least (push_of x w) r)
 
-pub close_spent : (c : Option Cause) (w : Wire) (q r : Bool) → IsSound w q → IsOutOpen w.out → spent w q ≤ spent (close_of c w) r
+pub close_spent : (c : Option Cause) (w : JointPorts) (q r : Bool) → IsSound w q → IsOutOpen w.out → spent w q ≤ spent (close_of c w) r
 close_spent c w q r h e =
-    let up : spent w q ≤ spent (close_of c w) true = subst (λ (v : Wire). spent v q ≤ spent (close_of c v) true) (sym h.is) (spent_close c h.joint w.sent w.got (subst (λ (v : Wire). IsOutOpen v.out) h.is e) q) in
+    let up : spent w q ≤ spent (close_of c w) true = subst (λ (v : JointPorts). spent v q ≤ spent (close_of c v) true) (sym h.is) (spent_close c h.joint w.sent w.got (subst (λ (v : JointPorts). IsOutOpen v.out) h.is e) q) in
     omega (arith, up, spent_least (close_of c w) r)
 
-pub cancel_spent : (w : Wire) (q r : Bool) → IsSound w q → IsInOpen w.inp → spent w q ≤ spent (cancel_of w) r
+pub cancel_spent : (w : JointPorts) (q r : Bool) → IsSound w q → IsInOpen w.inp → spent w q ≤ spent (cancel_of w) r
 cancel_spent w q r h e =
-    let up : spent w q ≤ spent (cancel_of w) true = subst (λ (v : Wire). spent v q ≤ spent (cancel_of v) true) (sym h.is) (spent_cancel h.joint w.sent w.got (subst (λ (v : Wire). IsInOpen v.inp) h.is e) q) in
+    let up : spent w q ≤ spent (cancel_of w) true = subst (λ (v : JointPorts). spent v q ≤ spent (cancel_of v) true) (sym h.is) (spent_cancel h.joint w.sent w.got (subst (λ (v : JointPorts). IsInOpen v.inp) h.is e) q) in
     omega (arith, up, spent_least (cancel_of w) r)
 
-pub pull_spent : (w : Wire) (q r : Bool) → IsSound w q → w.inp ≡ Idle → spent w q ≤ spent (pull_of w) r
+pub pull_spent : (w : JointPorts) (q r : Bool) → IsSound w q → w.inp ≡ Idle → spent w q ≤ spent (pull_of w) r
 pull_spent w q r h e =
-    let up : spent w q ≤ spent (pull_of w) true = subst (λ (v : Wire). spent v q ≤ spent (pull_of v) true) (sym h.is) (spent_pull h.joint w.sent w.got q (sym (ap (λ (v : Wire). v.inp) h.is) ∙ e)) in
+    let up : spent w q ≤ spent (pull_of w) true = subst (λ (v : JointPorts). spent v q ≤ spent (pull_of v) true) (sym h.is) (spent_pull h.joint w.sent w.got q (sym (ap (λ (v : JointPorts). v.inp) h.is) ∙ e)) in
     omega (arith, up, spent_least (pull_of w) r)
 
 -- No action raises the pulls that came to the output, and an event raises them by one at most.
-pub pull_asks : (w : Wire) → asks (pull_of w) ≤ asks w
+pub pull_asks : (w : JointPorts) → asks (pull_of w) ≤ asks w
 pull_asks w = omega arith
 
-pub push_asks : (x : Tree) (w : Wire) → w.out ≡ outlet.Available → asks (push_of x w) ≤ asks w
+pub push_asks : (x : Tree) (w : JointPorts) → w.out ≡ outlet.Available → asks (push_of x w) ≤ asks w
 push_asks x w e = let was : asked_bit w.out ≡ 1 = ap asked_bit e in omega (arith, elements_elem w.sent x, was)
 
-pub close_asks : (c : Option Cause) (w : Wire) → asks (close_of c w) ≤ asks w
+pub close_asks : (c : Option Cause) (w : JointPorts) → asks (close_of c w) ≤ asks w
 close_asks c w = omega (arith, elements_end w.sent c)
 
-pub cancel_asks : (w : Wire) → asks (cancel_of w) ≤ asks w
+pub cancel_asks : (w : JointPorts) → asks (cancel_of w) ≤ asks w
 cancel_asks w = omega arith

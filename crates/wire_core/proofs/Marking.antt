@@ -7,16 +7,16 @@ use Rattle.elem_core.specs.declared.item.Item.{Item}
 use Rattle.elem_core.specs.declared.item.Item.TheVariants as item
 use Rattle.port_core.specs.Connection.{quiet, pulled, ready, pushed}
 use Rattle.port_core.specs.Decoding.{can_pull, can_push}
-use Rattle.port_core.specs.Wire.{Wire, pull_of, push_of, close_of, cancel_of, end_of, Delivery, nothing, pull, cancel, arrived, delivery_of, after_delivery}
+use Rattle.port_core.specs.Wire.{JointPorts, pull_of, push_of, close_of, cancel_of, end_of, Delivery, nothing, pull, cancel, arrived, delivery_of, after_delivery}
 use Rattle.port_core.specs.Joint.{Joint, idle, asking, asked, moving, ending, closing, leaving, finished, parted, refused, wire_of, Queues, IsSound}
 use Rattle.port_core.specs.declared.view.OutView.TheVariants.{Available}
-use Rattle.wire_core.specs.Cell.{Cell, new_cell}
+use Rattle.wire_core.specs.Cell.{WireState, new_cell}
 use Rattle.wire_core.specs.Counts.{elements}
 use Rattle.wire_core.specs.Marks.{IsMarked, wanted, Grown}
 use Rattle.wire_core.proofs.Counting.{elements_elem, elements_end}
 
 -- a wire with its mark
-abbrev pub cell : Wire → Bool → Cell
+abbrev pub cell : JointPorts → Bool → WireState
 cell w b = record { wire = w; asked = b }
 
 pub new_marked : IsMarked new_cell
@@ -24,11 +24,11 @@ new_marked = record { unclosed = λ o. refl; known = λ e. cc }
 
 -- ---- the mark
 
-pull_by : (w : Wire) (b t : Bool) → can_pull w.conn ≡ t → IsMarked (cell w b) → IsMarked (cell (pull_of w) (if can_pull w.conn then true else b))
+pull_by : (w : JointPorts) (b t : Bool) → can_pull w.conn ≡ t → IsMarked (cell w b) → IsMarked (cell (pull_of w) (if can_pull w.conn then true else b))
 pull_by w b true e m = rw e (record { unclosed = λ o. refl; known = λ k. refl })
 pull_by w b false e m = rw e (record { unclosed = m.unclosed; known = m.known })
 
-pub pull_marked : (w : Wire) (b : Bool) → IsMarked (cell w b) → IsMarked (cell (pull_of w) (if can_pull w.conn then true else b))
+pub pull_marked : (w : JointPorts) (b : Bool) → IsMarked (cell w b) → IsMarked (cell (pull_of w) (if can_pull w.conn then true else b))
 pull_marked w b m = pull_by w b (can_pull w.conn) refl m
 
 marks_push : (x : Tree) (j : Joint) (s g : List Item) → (wire_of j s g).out ≡ Available → IsMarked (cell (push_of x (wire_of j s g)) false)
@@ -44,14 +44,14 @@ marks_push x (finished t c) s g e = cc
 marks_push x (parted t c) s g e = cc
 marks_push x (refused t c) s g e = cc
 
-pub push_marked : (x : Tree) (w : Wire) (q : Bool) → IsSound w q → w.out ≡ Available → IsMarked (cell (push_of x w) false)
-push_marked x w q h e = subst (λ (v : Wire). IsMarked (cell (push_of x v) false)) (sym h.is) (marks_push x h.joint w.sent w.got (sym (ap (λ (v : Wire). v.out) h.is) ∙ e))
+pub push_marked : (x : Tree) (w : JointPorts) (q : Bool) → IsSound w q → w.out ≡ Available → IsMarked (cell (push_of x w) false)
+push_marked x w q h e = subst (λ (v : JointPorts). IsMarked (cell (push_of x v) false)) (sym h.is) (marks_push x h.joint w.sent w.got (sym (ap (λ (v : JointPorts). v.out) h.is) ∙ e))
 
-pub close_marked : (c : Option Cause) (w : Wire) (b : Bool) → IsMarked (cell w b) → IsMarked (cell (close_of c w) b)
+pub close_marked : (c : Option Cause) (w : JointPorts) (b : Bool) → IsMarked (cell w b) → IsMarked (cell (close_of c w) b)
 close_marked None w b m = record { unclosed = m.unclosed; known = λ k. cc }
 close_marked (Some c) w b m = record { unclosed = m.unclosed; known = λ k. cc }
 
-pub cancel_marked : (w : Wire) (b : Bool) → IsMarked (cell w b) → IsMarked (cell (cancel_of w) b)
+pub cancel_marked : (w : JointPorts) (b : Bool) → IsMarked (cell w b) → IsMarked (cell (cancel_of w) b)
 cancel_marked w b m = record { unclosed = λ o. cc; known = m.known }
 
 marks_deliver : (j : Joint) (s g : List Item) (b : Bool) → Queues j true → IsMarked (cell (wire_of j s g) b) → IsMarked (cell (after_delivery (delivery_of (wire_of j s g)) (wire_of j s g)) b)
@@ -74,17 +74,17 @@ marks_deliver (finished t c) s g b r m = m
 marks_deliver (parted t c) s g b r m = m
 marks_deliver (refused t c) s g b r m = m
 
-pub deliver_marked : (w : Wire) (b : Bool) → IsSound w true → IsMarked (cell w b) → IsMarked (cell (after_delivery (delivery_of w) w) b)
+pub deliver_marked : (w : JointPorts) (b : Bool) → IsSound w true → IsMarked (cell w b) → IsMarked (cell (after_delivery (delivery_of w) w) b)
 deliver_marked w b h m =
-    let at : IsMarked (cell (wire_of h.joint w.sent w.got) b) = subst (λ (v : Wire). IsMarked (cell v b)) h.is m in
-    subst (λ (v : Wire). IsMarked (cell (after_delivery (delivery_of v) v) b)) (sym h.is) (marks_deliver h.joint w.sent w.got b h.queues at)
+    let at : IsMarked (cell (wire_of h.joint w.sent w.got) b) = subst (λ (v : JointPorts). IsMarked (cell v b)) h.is m in
+    subst (λ (v : JointPorts). IsMarked (cell (after_delivery (delivery_of v) v) b)) (sym h.is) (marks_deliver h.joint w.sent w.got b h.queues at)
 
 -- ---- the wire goes on
 
-pub grown_same : (c : Cell) → Grown c c
+pub grown_same : (c : WireState) → Grown c c
 grown_same c = record { sent = prefix_refl c.wire.sent; got = prefix_refl c.wire.got; wanted = omega arith; in_closed = λ e. e; out_closed = λ e. e }
 
-pub grown_trans : (a b c : Cell) → Grown a b → Grown b c → Grown a c
+pub grown_trans : (a b c : WireState) → Grown a b → Grown b c → Grown a c
 grown_trans a b c f g = record {
   sent = prefix_trans f.sent g.sent;
   got = prefix_trans f.got g.got;
@@ -101,22 +101,22 @@ wanted_most : (n : ℕ) (b : Bool) → n ≤ (if b then n + 1 else n)
 wanted_most n true = omega arith
 wanted_most n false = omega arith
 
-grows_pull : (w : Wire) (b t : Bool) → can_pull w.conn ≡ t → Grown (cell w b) (cell (pull_of w) (if can_pull w.conn then true else b))
+grows_pull : (w : JointPorts) (b t : Bool) → can_pull w.conn ≡ t → Grown (cell w b) (cell (pull_of w) (if can_pull w.conn then true else b))
 grows_pull w b true e = rw e (record { sent = prefix_refl w.sent; got = prefix_refl w.got; wanted = wanted_least (elements w.sent) b; in_closed = λ x. x; out_closed = λ x. x })
 grows_pull w b false e = rw e (record { sent = prefix_refl w.sent; got = prefix_refl w.got; wanted = omega arith; in_closed = λ x. x; out_closed = λ x. x })
 
-pub pull_grown : (w : Wire) (b : Bool) → Grown (cell w b) (cell (pull_of w) (if can_pull w.conn then true else b))
+pub pull_grown : (w : JointPorts) (b : Bool) → Grown (cell w b) (cell (pull_of w) (if can_pull w.conn then true else b))
 pull_grown w b = grows_pull w b (can_pull w.conn) refl
 
 -- a push answers the pull
-pub push_wanted : (x : Tree) (w : Wire) (b : Bool) → b ≡ true → wanted (cell (push_of x w) false) ≡ wanted (cell w b)
+pub push_wanted : (x : Tree) (w : JointPorts) (b : Bool) → b ≡ true → wanted (cell (push_of x w) false) ≡ wanted (cell w b)
 push_wanted x w b e = rw e (elements_elem w.sent x)
 
-pushed_sides : (w : Wire) (x : Tree) (t : Bool) → can_push w.conn ≡ t → ((push_of x w).conn.in_closed ≡ w.conn.in_closed) × ((push_of x w).conn.out_closed ≡ w.conn.out_closed)
+pushed_sides : (w : JointPorts) (x : Tree) (t : Bool) → can_push w.conn ≡ t → ((push_of x w).conn.in_closed ≡ w.conn.in_closed) × ((push_of x w).conn.out_closed ≡ w.conn.out_closed)
 pushed_sides w x true e = rw e (refl, refl)
 pushed_sides w x false e = rw e (refl, refl)
 
-pub push_grown : (x : Tree) (w : Wire) (b : Bool) → b ≡ true → Grown (cell w b) (cell (push_of x w) false)
+pub push_grown : (x : Tree) (w : JointPorts) (b : Bool) → b ≡ true → Grown (cell w b) (cell (push_of x w) false)
 push_grown x w b e =
     let sides = pushed_sides w x (can_push w.conn) refl in
     record {
@@ -131,18 +131,18 @@ push_grown x w b e =
 wanted_same : (n m : ℕ) (b : Bool) → n ≡ m → (if b then n + 1 else n) ≡ (if b then m + 1 else m)
 wanted_same n m b e = ap (λ (k : ℕ). if b then k + 1 else k) e
 
-pub close_wanted : (c : Option Cause) (w : Wire) (b : Bool) → wanted (cell (close_of c w) b) ≡ wanted (cell w b)
+pub close_wanted : (c : Option Cause) (w : JointPorts) (b : Bool) → wanted (cell (close_of c w) b) ≡ wanted (cell w b)
 close_wanted c w b = wanted_same (elements (w.sent ++ end_of c ∷ [])) (elements w.sent) b (elements_end w.sent c)
 
-pub close_grown : (c : Option Cause) (w : Wire) (b : Bool) → Grown (cell w b) (cell (close_of c w) b)
+pub close_grown : (c : Option Cause) (w : JointPorts) (b : Bool) → Grown (cell w b) (cell (close_of c w) b)
 close_grown None w b = record { sent = prefix_append w.sent _; got = prefix_refl w.got; wanted = let same = close_wanted None w b in omega (arith, same); in_closed = λ o. o; out_closed = λ o. refl }
 close_grown (Some c) w b = record { sent = prefix_append w.sent _; got = prefix_refl w.got; wanted = let same = close_wanted (Some c) w b in omega (arith, same); in_closed = λ o. o; out_closed = λ o. refl }
 
-pub cancel_grown : (w : Wire) (b : Bool) → Grown (cell w b) (cell (cancel_of w) b)
+pub cancel_grown : (w : JointPorts) (b : Bool) → Grown (cell w b) (cell (cancel_of w) b)
 cancel_grown w b = record { sent = prefix_refl w.sent; got = prefix_refl w.got; wanted = omega arith; in_closed = λ o. refl; out_closed = λ o. o }
 
 -- so does an event
-pub deliver_wanted : (d : Delivery) (w : Wire) (b : Bool) → wanted (cell (after_delivery d w) b) ≡ wanted (cell w b)
+pub deliver_wanted : (d : Delivery) (w : JointPorts) (b : Bool) → wanted (cell (after_delivery d w) b) ≡ wanted (cell w b)
 deliver_wanted nothing w b = refl
 deliver_wanted pull w b = refl
 deliver_wanted cancel w b = refl
@@ -150,7 +150,7 @@ deliver_wanted (arrived (item.Elem e) more) w b = refl
 deliver_wanted (arrived item.Ended more) w b = refl
 deliver_wanted (arrived (item.Failed c) more) w b = refl
 
-pub deliver_grown : (d : Delivery) (w : Wire) (b : Bool) → Grown (cell w b) (cell (after_delivery d w) b)
+pub deliver_grown : (d : Delivery) (w : JointPorts) (b : Bool) → Grown (cell w b) (cell (after_delivery d w) b)
 deliver_grown nothing w b = grown_same (cell w b)
 deliver_grown pull w b = record { sent = prefix_refl w.sent; got = prefix_refl w.got; wanted = omega arith; in_closed = λ o. o; out_closed = λ o. o }
 deliver_grown cancel w b = record { sent = prefix_refl w.sent; got = prefix_refl w.got; wanted = omega arith; in_closed = λ o. o; out_closed = λ o. refl }

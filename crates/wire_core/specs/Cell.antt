@@ -6,7 +6,7 @@ use Rattle.port_core.specs.Connection.{Connection}
 use Rattle.port_core.specs.PortRules as rule
 use Rattle.port_core.specs.PortRules.{next}
 use Rattle.port_core.specs.Decoding.{can_pull, can_push, is_at_rest}
-use Rattle.port_core.specs.Wire.{Wire, new_wire, pull_of, push_of, close_of, cancel_of, Delivery, nothing, pull, cancel, arrived, end_of, delivery_of, after_delivery}
+use Rattle.port_core.specs.Wire.{JointPorts, new_wire, pull_of, push_of, close_of, cancel_of, Delivery, nothing, pull, cancel, arrived, end_of, delivery_of, after_delivery}
 use Rattle.port_core.specs.declared.view.InView.TheVariants.{Idle, Finished}
 use Rattle.port_core.specs.declared.act.Act.{Act}
 use Rattle.port_core.specs.declared.act.Act.TheVariants.{Pull, Push, Complete, FailOut, Cancel}
@@ -15,16 +15,16 @@ use Rattle.wire_core.specs.declared.wire.Delivered.TheVariants as delivery
 
 -- A pull that a closing forbids, which has not come to the input, is none. A push answers the pull, also one that a cancel
 -- forbids which has not come to the output. A closing leaves the pull as it is.
-pub record Cell : Type 0 where
-  pub wire : Wire
+pub record WireState : Type 0 where
+  pub wire : JointPorts
   pub asked : Bool
 
 -- nothing happened on it
-abbrev pub new_cell : Cell
+abbrev pub new_cell : WireState
 new_cell = record { wire = new_wire; asked = false }
 
 -- what an action does at its wire
-abbrev pub moved_by : Act → Cell → Cell
+abbrev pub moved_by : Act → WireState → WireState
 moved_by (Pull i) c = record { wire = pull_of c.wire; asked = if can_pull c.wire.conn then true else c.asked }
 moved_by (Push j e) c = record { wire = push_of e c.wire; asked = false }
 moved_by (Complete j) c = record c { wire = close_of None c.wire }
@@ -47,13 +47,13 @@ delivery_in delivery.Cancel = cancel
 delivery_in (delivery.Arrived x more) = arrived x more
 
 -- an element that waits to be grabbed goes to the input
-abbrev pub brought_in : Tree → Cell → Cell
+abbrev pub brought_in : Tree → WireState → WireState
 brought_in e c = record c { wire = record c.wire { inp = Idle; conn = next (rule.grab e) c.wire.conn; got = c.wire.got ++ item.Elem e ∷ [] } }
 
 -- the end of the output goes to the input
-abbrev pub ended_in : Cell → Cell
+abbrev pub ended_in : WireState → WireState
 ended_in c = record c { wire = record c.wire { inp = Finished; got = c.wire.got ++ end_of c.wire.conn.cause ∷ [] } }
 
 -- the wire once its event was delivered
-abbrev pub delivered : Cell → Cell
+abbrev pub delivered : WireState → WireState
 delivered c = record c { wire = after_delivery (delivery_of c.wire) c.wire }

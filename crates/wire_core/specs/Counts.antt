@@ -2,8 +2,8 @@
 use Rattle.std.specs.Prelude.{ℕ, suc, ◌+◌, Bool, true, false, List, [], ◌∷◌}
 use Rattle.elem_core.specs.declared.item.Item.{Item}
 use Rattle.elem_core.specs.declared.item.Item.TheVariants as item
-use Rattle.port_core.specs.Connection.{Step, quiet, pulled, ready, pushed}
-use Rattle.port_core.specs.Wire.{Wire}
+use Rattle.port_core.specs.Connection.{ConnStep, quiet, pulled, ready, pushed}
+use Rattle.port_core.specs.Wire.{JointPorts}
 use Rattle.port_core.specs.declared.view.InView.{InView}
 use Rattle.port_core.specs.declared.view.InView.TheVariants.{Pulled, Finished, Cancelled}
 use Rattle.port_core.specs.declared.view.OutView.{OutView}
@@ -17,7 +17,7 @@ elements (item.Ended ∷ items) = elements items
 elements (item.Failed c ∷ items) = elements items
 
 -- the pull has come to the output
-abbrev pub ready_bit : Step → ℕ
+abbrev pub ready_bit : ConnStep → ℕ
 ready_bit quiet = 0
 ready_bit pulled = 0
 ready_bit ready = 1
@@ -29,7 +29,7 @@ free_bit true = 0
 free_bit false = 1
 
 -- the events of a wire beside one for each element that was pushed and one for each that came: the last ask, and closings
-abbrev pub extra : OutView → InView → Step → Bool → ℕ
+abbrev pub extra : OutView → InView → ConnStep → Bool → ℕ
 extra outlet.Available Pulled t q = 1
 extra outlet.Available Cancelled t q = 1
 extra outlet.Closed Pulled t q = ready_bit t
@@ -39,7 +39,7 @@ extra outlet.Cancelled Cancelled t q = 2 + free_bit q
 extra _ _ t q = 0
 
 -- what the wire, queued or not, has cost: at most twice its elements, and 3 more
-abbrev pub spent : Wire → Bool → ℕ
+abbrev pub spent : JointPorts → Bool → ℕ
 spent w q = elements w.sent + elements w.got + extra w.out w.inp w.conn.step q
 
 -- the pulls that came to the output: one for each element that was pushed, and the last one
@@ -49,5 +49,5 @@ asked_bit outlet.Available = 1
 asked_bit outlet.Closed = 0
 asked_bit outlet.Cancelled = 0
 
-abbrev pub asks : Wire → ℕ
+abbrev pub asks : JointPorts → ℕ
 asks w = elements w.sent + asked_bit w.out

@@ -62,11 +62,11 @@ impl Model for Wire {
     ghost use Rattle.std.specs.Prelude.{◌≡◌};
     ghost use Rattle.std.specs.Coded.{codes};
     ghost use Rattle.elem_core.specs.TreeCode.{tree_coded};
-    ghost use Rattle.wire_core.specs.Cell.{Cell};
+    ghost use Rattle.wire_core.specs.Cell.{WireState};
     ghost use Rattle.wire_core.specs.Closes.{Closes};
     ghost use Rattle.wire_core.specs.Counts.{elements};
 
-    ghost Value = { Cell };
+    ghost Value = { WireState };
 
     ghost coded = { Prim.hlevel (codes, tree_coded) };
 

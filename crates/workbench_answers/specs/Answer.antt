@@ -5,8 +5,8 @@ use Rattle.blue_words.specs.declared.fault.BlueFault.{BlueFault}
 use Rattle.blue_lang.specs.Blueprints.{Says, fault_of}
 use Rattle.blue_lang.specs.Canonical.{canonical}
 use Rattle.blue_lang.specs.Plain.{PlainBlueprint, plain}
-use Rattle.workbench_words.specs.declared.task.Work.{Work}
-use Rattle.workbench_words.specs.declared.task.Work.TheVariants.{Check, Format, Draw, Explain, Turns}
+use Rattle.workbench_words.specs.declared.task.TaskKind.{TaskKind}
+use Rattle.workbench_words.specs.declared.task.TaskKind.TheVariants.{Check, Format, Draw, Explain, Turns}
 use Rattle.workbench_faults.specs.declared.judge.Unready.{Unready}
 use Rattle.workbench_faults.specs.declared.judge.Unready.TheVariants as unready
 use Rattle.workbench_faults.specs.Judging.{IsFitText, IsUnready}
@@ -112,7 +112,7 @@ abbrev pub Counts : List ℕ → List ℕ → List ℕ → Answer → Type 0
 Counts text file counts a = SaysUnits text file counts a ⊎ (MissesCounts text file a ⊎ (Blames text file a ⊎ (a.ending ≡ ending.NoMemory)))
 
 -- what is answered to a work on the text of that name's file; of a report nothing is claimed
-abbrev pub AnswersText : Work → List ℕ → List ℕ → List ℕ → Answer → Type 0
+abbrev pub AnswersText : TaskKind → List ℕ → List ℕ → List ℕ → Answer → Type 0
 AnswersText Check text file counts a = Checks text file a
 AnswersText Format text file counts a = Formats text a
 AnswersText Draw text file counts a = Drawn text file a

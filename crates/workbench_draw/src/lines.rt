@@ -9,19 +9,19 @@ use elem_core::why::NoMemory;
 use std::alloc::Global;
 use traversal::plan::IslandPlan;
 use workbench_faults::message::put_number;
-use workbench_faults::place::{Place, Sort};
+use workbench_faults::place::{FaultPlace, Sort};
 
 /// A place that is at fault, and what is said of it.
 #[derive(Clone, Copy)]
 pub struct Blamed<'a> {
-    pub place: Place,
+    pub place: FaultPlace,
     pub fault: &'a [u8],
 }
 
 /// What is said of the declaration of that sort and number, where it is at fault.
 fn blame_at<'a>(blamed: Option<Blamed<'a>>, sort: Sort, number: usize) -> Option<&'a [u8]> {
     match blamed {
-        Some(b) if b.place == Place::of(sort, number) => Some(b.fault),
+        Some(b) if b.place == FaultPlace::of(sort, number) => Some(b.fault),
         _ => None,
     }
 }

@@ -3,7 +3,7 @@ ghost use Rattle.blue_names.specs.Links.{AreInRange};
 
 use blue_check::checked::Checked;
 use blue_core::blueprint::{ChainDecl, Node};
-use blue_names::links::{Link, links_of};
+use blue_names::links::{NumberedWire, links_of};
 use blue_names::outs::outs_of;
 use blue_names::ports::targets_of;
 use blue_types::library::Library;
@@ -19,7 +19,7 @@ fn types_in(
     nodes: &[Node],
     chains: &[ChainDecl],
     count: usize,
-    links: &[Link],
+    links: &[NumberedWire],
 ) -> Result<Vec<Option<ElemType>>, NoMemory>
     requires { AreInRange count links.now }
 {

@@ -2,7 +2,7 @@
 use blue_core::blueprint::{Blueprint, Node, WireDecl};
 use elem_core::why::NoMemory;
 use workbench_faults::message::put_source_line;
-use workbench_faults::place::{Place, Sort};
+use workbench_faults::place::{FaultPlace, Sort};
 use workbench_faults::source::line_of;
 
 /// A blueprint and its text.
@@ -19,7 +19,7 @@ fn put_place(
     sort: Sort,
     number: usize,
 ) -> Result<(), NoMemory> {
-    if let Some(line) = line_of(scene.text, Place::of(sort, number)) {
+    if let Some(line) = line_of(scene.text, FaultPlace::of(sort, number)) {
         out.extend_from_slice(b" (")?;
         put_source_line(out, &line)?;
         out.push(b')')?;

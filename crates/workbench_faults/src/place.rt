@@ -18,17 +18,17 @@ pub enum Sort {
 
 /// A declaration: which of its sort, from 0. Rule: own.
 #[derive(Clone, Copy, PartialEq, Eq)]
-pub struct Place {
+pub struct FaultPlace {
     /// What is declared.
     pub sort: Sort,
     /// Which one.
     pub number: usize,
 }
 
-impl Place {
+impl FaultPlace {
     /// The declaration of that sort and number.
-    pub fn of(sort: Sort, number: usize) -> Place {
-        Place { sort, number }
+    pub fn of(sort: Sort, number: usize) -> FaultPlace {
+        FaultPlace { sort, number }
     }
 }
 
@@ -80,18 +80,18 @@ fn least(first: Option<usize>, second: Option<usize>) -> Option<usize> {
 }
 
 /// Where a name or a file is told again.
-fn told_again(b: &Blueprint, name: &Line, own: &Line) -> Option<Place> {
+fn told_again(b: &Blueprint, name: &Line, own: &Line) -> Option<FaultPlace> {
     if let Some(i) = named_again(&b.switches, name) {
-        return Some(Place::of(Sort::Switch, i));
+        return Some(FaultPlace::of(Sort::Switch, i));
     }
     if let Some(i) = named_again(&b.chains, name) {
-        return Some(Place::of(Sort::Chain, i));
+        return Some(FaultPlace::of(Sort::Chain, i));
     }
     let again = least(
         named_again(&b.nodes, name),
         filed_again(&b.nodes, name, own),
     );
-    again.map(|i| Place::of(Sort::Node, i))
+    again.map(|i| FaultPlace::of(Sort::Node, i))
 }
 
 /// Whether a kind names a switch or a chain of this name that is not declared.
@@ -117,13 +117,13 @@ fn wired(wires: &[WireDecl], name: &Line) -> Option<usize> {
 }
 
 /// Where a name is used that is not declared.
-fn used(b: &Blueprint, name: &Line) -> Option<Place> {
+fn used(b: &Blueprint, name: &Line) -> Option<FaultPlace> {
     for i in 0..b.nodes.len() {
         if misses(b, &b.nodes[i].kind, name) {
-            return Some(Place::of(Sort::Node, i));
+            return Some(FaultPlace::of(Sort::Node, i));
         }
     }
-    wired(&b.wires, name).map(|i| Place::of(Sort::Wire, i))
+    wired(&b.wires, name).map(|i| FaultPlace::of(Sort::Wire, i))
 }
 
 /// The first node of that plug, from a number on.
@@ -145,27 +145,27 @@ fn plugged_again(nodes: &[Node], plug: &Line) -> Option<usize> {
 }
 
 /// The place of a size.
-fn sized(spot: Spot) -> Place {
+fn sized(spot: Spot) -> FaultPlace {
     match spot {
-        Spot::Node(i) => Place::of(Sort::Node, i as usize),
-        Spot::Wire(i) => Place::of(Sort::Wire, i as usize),
-        Spot::Chain(i) => Place::of(Sort::Chain, i as usize),
+        Spot::Node(i) => FaultPlace::of(Sort::Node, i as usize),
+        Spot::Wire(i) => FaultPlace::of(Sort::Wire, i as usize),
+        Spot::Chain(i) => FaultPlace::of(Sort::Chain, i as usize),
     }
 }
 
 /// Where the place of a fault of a blueprint is declared, if it is. `own` is the blueprint's own file. Rule: own.
-pub fn place_of(b: &Blueprint, own: &Line, fault: &CheckFault) -> Option<Place> {
+pub fn place_of(b: &Blueprint, own: &Line, fault: &CheckFault) -> Option<FaultPlace> {
     let node = match fault {
         CheckFault::TwoNames(name) => return told_again(b, name, own),
         CheckFault::NoSuchName(name) => return used(b, name),
         CheckFault::NoSuchPort(i)
         | CheckFault::PortTwice(i)
         | CheckFault::TypeClash(i, _, _)
-        | CheckFault::ClosedWalk(i) => return Some(Place::of(Sort::Wire, *i as usize)),
+        | CheckFault::ClosedWalk(i) => return Some(FaultPlace::of(Sort::Wire, *i as usize)),
         CheckFault::BadSize(spot) => return Some(sized(*spot)),
         CheckFault::PortOpen(name, _, _) | CheckFault::TooDeep(name) => named(&b.nodes, name, 0),
         CheckFault::NoSuchPlug(name) => plugged(&b.nodes, name, 0),
         CheckFault::PlugTwice(name) => plugged_again(&b.nodes, name),
     };
-    node.map(|i| Place::of(Sort::Node, i))
+    node.map(|i| FaultPlace::of(Sort::Node, i))
 }

@@ -1,7 +1,7 @@
 // The lines of a text in which declarations stand.
 ghost use Rattle.std.specs.Prelude.{IsTrue};
 
-use crate::place::{Place, Sort};
+use crate::place::{FaultPlace, Sort};
 use blue_core::limit::MAX_TEXT_LINE;
 use blue_words::lines::{is_plain, next_line};
 use blue_words::words::{Words, is_word};
@@ -38,7 +38,7 @@ fn declared(line: &[u8]) -> Option<Sort> {
 }
 
 /// The line in which something is declared. Rule: own.
-pub fn line_of(text: &[u8], place: Place) -> Option<SourceLine<'_>> {
+pub fn line_of(text: &[u8], place: FaultPlace) -> Option<SourceLine<'_>> {
     let mut rest = text;
     let mut number: usize = 0;
     let mut left = place.number;

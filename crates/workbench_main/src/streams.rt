@@ -40,19 +40,19 @@ impl<R: Read + Drop> Source for Input<R> {
 
 /// A writer as a drain. A put writes straight to it.
 #[derive(Drop)]
-pub struct Told<W> {
+pub struct WriterDrain<W> {
     writer: W,
     faults: u64,
 }
 
-impl<W: Write + Drop> Told<W> {
+impl<W: Write + Drop> WriterDrain<W> {
     /// The drain of this writer. It takes no memory.
-    pub fn new(writer: W) -> Told<W> {
-        Told { writer, faults: 0 }
+    pub fn new(writer: W) -> WriterDrain<W> {
+        WriterDrain { writer, faults: 0 }
     }
 }
 
-impl<W: Write + Drop> Drain for Told<W> {
+impl<W: Write + Drop> Drain for WriterDrain<W> {
     ghost state = { λ d. record { name = []; holds = None; faults = d.faults } };
 
     fn put(&mut self, piece: &[u8]) -> Result<usize, Failed> {

@@ -6,7 +6,7 @@ use Rattle.file_text.specs.Text.{text_of_file, StaysMissing, FailsToRead}
 use Rattle.stream_io.specs.Putting.{Puts}
 use Rattle.workbench_words.specs.Task.{Asks, is_task}
 use Rattle.workbench_words.specs.declared.task.Task.{Task}
-use Rattle.workbench_words.specs.declared.task.Work.TheVariants.{Explain}
+use Rattle.workbench_words.specs.declared.task.TaskKind.TheVariants.{Explain}
 use Rattle.workbench_answers.specs.Answer.{AnswersText, code_of}
 use Rattle.workbench_answers.specs.declared.answer.Answer.{Answer}
 use Rattle.workbench_answers.specs.declared.answer.Ending.TheVariants as ending

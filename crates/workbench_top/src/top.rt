@@ -13,7 +13,7 @@ use stream_io::outside::{Drain, Folder, Source};
 use stream_io::put::put_all;
 use workbench_answers::answer::{Answer, Ending, code};
 use workbench_answers::texts::{check_text, count_text, draw_text, explain_text, format_text};
-use workbench_words::task::{Task, WordsEnd, Work, read_words};
+use workbench_words::task::{Task, TaskEnd, TaskKind, read_words};
 
 /// The answer that tells these words.
 fn telling(alloc: Global, ending: Ending, words: &[u8]) -> Answer
@@ -43,11 +43,11 @@ fn answer_text<S: Source>(alloc: Global, task: &Task, text: &[u8], input: &mut S
     ensures { AnswersText task.now.work text.now task.now.file task.now.counts.items result }
 {
     match task.work {
-        Work::Check => check_text(alloc, text, &task.file),
-        Work::Format => format_text(alloc, text, &task.file),
-        Work::Draw => draw_text(alloc, text, &task.file),
-        Work::Explain => explain_input(alloc, text, &task.file, input),
-        Work::Turns => count_text(alloc, text, &task.file, &task.counts),
+        TaskKind::Check => check_text(alloc, text, &task.file),
+        TaskKind::Format => format_text(alloc, text, &task.file),
+        TaskKind::Draw => draw_text(alloc, text, &task.file),
+        TaskKind::Explain => explain_input(alloc, text, &task.file, input),
+        TaskKind::Turns => count_text(alloc, text, &task.file, &task.counts),
     }
 }
 
@@ -78,14 +78,14 @@ fn answer_task<S: Source, F: Folder>(
 }
 
 /// The answer to words that ask for nothing.
-fn answer_end(alloc: Global, words: &[Line], end: WordsEnd) -> Answer
+fn answer_end(alloc: Global, words: &[Line], end: TaskEnd) -> Answer
     requires { Ends words.now end }
     ensures { AnswersNothing words.now result ⊎ (result.ending ≡ Ending.NoMemory) }
 {
     match end {
-        WordsEnd::Help(text) => Answer::saying(alloc, text.into_bytes()),
-        WordsEnd::Usage(text) => Answer::telling(alloc, Ending::Words, text.into_bytes()),
-        WordsEnd::NoMemory => Answer::without_memory(alloc),
+        TaskEnd::Help(text) => Answer::saying(alloc, text.into_bytes()),
+        TaskEnd::Usage(text) => Answer::telling(alloc, Ending::Words, text.into_bytes()),
+        TaskEnd::NoMemory => Answer::without_memory(alloc),
     }
 }
 

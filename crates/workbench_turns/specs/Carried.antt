@@ -1,6 +1,6 @@
 -- How many elements each wire carries, where sources give so many and every stage passes all on. Rule: own.
 use Rattle.std.specs.Prelude.{ℕ, ◌+◌, ◌==◌, if◌then◌else◌, List, [], ◌∷◌, map, slice_get, unwrap_or}
-use Rattle.stream_model.specs.Graph.{Wire}
+use Rattle.stream_model.specs.Graph.{Edge}
 use Rattle.blue_core.specs.declared.blueprint.Node.{Node}
 use Rattle.stream_model.specs.Composed.{inputs_of}
 
@@ -28,14 +28,14 @@ own [] counts = []
 own (n ∷ ns) counts = if inputs_of n.kind == 0 then first_count counts ∷ own ns (later_counts counts) else 0 ∷ own ns counts
 
 -- what the wires from number i on carry into node a, where f tells what each wire carries
-abbrev pub into : ℕ → List Wire → (ℕ → ℕ) → ℕ → ℕ
+abbrev pub into : ℕ → List Edge → (ℕ → ℕ) → ℕ → ℕ
 into i [] f a = 0
 into i (w ∷ ws) f a = (if w.to == a then f i else 0) + into (i + 1) ws f a
 
 -- what node a passes on: what it has of its own and what comes to it
-abbrev pub passed : List ℕ → List Wire → (ℕ → ℕ) → ℕ → ℕ
+abbrev pub passed : List ℕ → List Edge → (ℕ → ℕ) → ℕ → ℕ
 passed owns ws f a = number_at owns a + into 0 ws f a
 
 -- what each wire carries where its node passes all on
-abbrev pub passed_all : List ℕ → List Wire → (ℕ → ℕ) → List ℕ
+abbrev pub passed_all : List ℕ → List Edge → (ℕ → ℕ) → List ℕ
 passed_all owns ws f = map (λ w. passed owns ws f w.from) ws

@@ -4,7 +4,7 @@ ghost use Rattle.blue_names.specs.Links.{wires_of_links};
 ghost use Rattle.workbench_turns.specs.Carried.{number_at, own, passed, passed_all, sources_in};
 
 use blue_core::blueprint::Node;
-use blue_names::links::Link;
+use blue_names::links::NumberedWire;
 use blue_names::ports::inputs_of;
 use elem_core::why::NoMemory;
 use std::alloc::Global;
@@ -68,7 +68,7 @@ fn add(sums: &mut Vec<u64>, place: usize, n: u64) -> bool
 }
 
 /// Adds to what each node gives of its own what comes to it, and says whether all of it fits.
-fn add_all(sums: &mut Vec<u64>, links: &[Link], carried: &[u64]) -> bool
+fn add_all(sums: &mut Vec<u64>, links: &[NumberedWire], carried: &[u64]) -> bool
     ensures { result ≡ true → (a : ℕ) → number_at sums.new.items a ≡ passed sums.old.items (wires_of_links links.now) (number_at carried.now) a }
 {
     for i in 0..links.len() {
@@ -82,7 +82,7 @@ fn add_all(sums: &mut Vec<u64>, links: &[Link], carried: &[u64]) -> bool
 /// What each wire carries where its node passes on what comes to it; None where that does not fit.
 fn round(
     alloc: Global,
-    links: &[Link],
+    links: &[NumberedWire],
     own: &[u64],
     carried: &[u64],
 ) -> Result<Option<Vec<u64>>, NoMemory>
@@ -103,7 +103,7 @@ fn round(
 /// or does not settle in so many rounds.
 pub(crate) fn carried_by(
     alloc: Global,
-    links: &[Link],
+    links: &[NumberedWire],
     own: &[u64],
     rounds: usize,
 ) -> Result<Option<Vec<u64>>, NoMemory>

@@ -10,7 +10,7 @@ ghost use Rattle.workbench_turns.specs.Turns.{Suffices, TellsAll};
 use crate::carried::{carried_by, own_of, sources_in};
 use crate::units::{all_units, some_units};
 use blue_check::checked::Checked;
-use blue_names::links::{Link, links_of};
+use blue_names::links::{NumberedWire, links_of};
 use elem_core::why::NoMemory;
 use itoa::Buffer;
 use std::alloc::{AllocError, Global};
@@ -60,7 +60,7 @@ fn put_line(out: &mut Vec<u8>, word: &[u8], n: u128) -> Result<(), NoMemory>
 fn put_islands(
     out: &mut Vec<u8>,
     plan: &Plan,
-    links: &[Link],
+    links: &[NumberedWire],
     carried: &[u64],
 ) -> Result<bool, NoMemory> {
     for (i, island) in plan.islands.iter().enumerate() {
@@ -87,7 +87,7 @@ fn wires_of(alloc: Global, lanes: &[LanePlan]) -> Result<Vec<u32>, NoMemory> {
 fn parts_text(
     alloc: Global,
     plan: &Plan,
-    links: &[Link],
+    links: &[NumberedWire],
     carried: &[u64],
 ) -> Result<Option<Vec<u8>>, NoMemory> {
     let mut out = Vec::new(alloc);
@@ -105,7 +105,12 @@ fn parts_text(
 }
 
 /// The text, where the units fit.
-fn text_of(alloc: Global, plan: &Plan, links: &[Link], carried: &[u64]) -> Result<Vec<u8>, TurnsEnd>
+fn text_of(
+    alloc: Global,
+    plan: &Plan,
+    links: &[NumberedWire],
+    carried: &[u64],
+) -> Result<Vec<u8>, TurnsEnd>
     ensures { IfOk result (λ text. TellsAll text.items (need_from 0 (wires_of_links links.now) (number_at carried.now))) }
 {
     let Some(all) = all_units(links, carried) else {
@@ -122,7 +127,7 @@ fn text_of(alloc: Global, plan: &Plan, links: &[Link], carried: &[u64]) -> Resul
 fn carried_in(
     alloc: Global,
     c: &Checked,
-    links: &[Link],
+    links: &[NumberedWire],
     counts: &[u64],
 ) -> Result<Vec<u64>, TurnsEnd>
     ensures { IfOk result (λ carried. carried.items ≡ passed_all (own (blueprint_of c.now).nodes.items counts.now) (wires_of_links links.now) (number_at carried.items)) }

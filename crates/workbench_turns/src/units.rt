@@ -6,7 +6,7 @@ ghost use Rattle.workbench_turns.specs.Carried.{number_at};
 ghost use Rattle.workbench_turns.specs.Units.{units_at, some_units};
 
 use crate::carried::number_at;
-use blue_names::links::{Link, link_at};
+use blue_names::links::{NumberedWire, link_at};
 
 /// The units for so many elements on a wire.
 fn units_of(lane: Option<u32>, n: u64) -> u128
@@ -19,7 +19,7 @@ fn units_of(lane: Option<u32>, n: u64) -> u128
 }
 
 /// The units for all wires, where they fit.
-pub(crate) fn all_units(links: &[Link], carried: &[u64]) -> Option<u128>
+pub(crate) fn all_units(links: &[NumberedWire], carried: &[u64]) -> Option<u128>
     ensures { IfSome result (λ n. n ≡ need_from 0 (wires_of_links links.now) (number_at carried.now)) }
 {
     let mut total: u128 = 0;
@@ -30,7 +30,7 @@ pub(crate) fn all_units(links: &[Link], carried: &[u64]) -> Option<u128>
 }
 
 /// The units for one wire; none where there is no such wire.
-fn units_at(links: &[Link], carried: &[u64], wire: usize) -> u128
+fn units_at(links: &[NumberedWire], carried: &[u64], wire: usize) -> u128
     ensures { result ≡ units_at (wires_of_links links.now) (number_at carried.now) wire }
 {
     match link_at(links, wire) {
@@ -40,7 +40,7 @@ fn units_at(links: &[Link], carried: &[u64], wire: usize) -> u128
 }
 
 /// The units for some wires, where they fit.
-pub(crate) fn some_units(links: &[Link], carried: &[u64], wires: &[u32]) -> Option<u128>
+pub(crate) fn some_units(links: &[NumberedWire], carried: &[u64], wires: &[u32]) -> Option<u128>
     ensures { IfSome result (λ n. n ≡ some_units (wires_of_links links.now) (number_at carried.now) wires.now) }
 {
     let mut total: u128 = 0;

@@ -6,13 +6,13 @@ use Rattle.blue_words.specs.declared.fault.BlueKind.{BlueKind}
 use Rattle.blue_words.specs.Names.{is_file_name}
 use Rattle.blue_words.specs.Numbers.{count_of}
 use Rattle.workbench_words.specs.declared.task.Task.{Task}
-use Rattle.workbench_words.specs.declared.task.WordsEnd.{WordsEnd}
-use Rattle.workbench_words.specs.declared.task.WordsEnd.TheVariants.{NoMemory}
-use Rattle.workbench_words.specs.declared.task.Work.{Work}
-use Rattle.workbench_words.specs.declared.task.Work.TheVariants.{Check, Format, Draw, Explain, Turns}
+use Rattle.workbench_words.specs.declared.task.TaskEnd.{TaskEnd}
+use Rattle.workbench_words.specs.declared.task.TaskEnd.TheVariants.{NoMemory}
+use Rattle.workbench_words.specs.declared.task.TaskKind.{TaskKind}
+use Rattle.workbench_words.specs.declared.task.TaskKind.TheVariants.{Check, Format, Draw, Explain, Turns}
 
 -- the work of that name
-abbrev pub work_of : List ℕ → Option Work
+abbrev pub work_of : List ℕ → Option TaskKind
 work_of word =
     if bytes_eq word (codes "check") then Some Check
     else (if bytes_eq word (codes "fmt") then Some Format
@@ -35,15 +35,15 @@ is_nothing [] = true
 is_nothing (w ∷ ws) = false
 
 -- words may stand behind the file: of `turns` alone
-abbrev pub allows : Work → List (List ℕ) → Bool
+abbrev pub allows : TaskKind → List (List ℕ) → Bool
 allows Turns rest = true
 allows _ rest = is_nothing rest
 
 -- the file is the name of one, and the words behind it are what the work wants
-abbrev pub is_rest : Work → List ℕ → List (List ℕ) → Bool
+abbrev pub is_rest : TaskKind → List ℕ → List (List ℕ) → Bool
 is_rest work file rest = is_file_name file && allows work rest && are_numbers rest
 
-abbrev pub is_rest_of : Option Work → List ℕ → List (List ℕ) → Bool
+abbrev pub is_rest_of : Option TaskKind → List ℕ → List (List ℕ) → Bool
 is_rest_of None file rest = false
 is_rest_of (Some work) file rest = is_rest work file rest
 
@@ -67,6 +67,6 @@ pub record Asks (words : List (List ℕ)) (t : Task) : Type 0 where
   pub task : asks_for words t
 
 -- the words ask for nothing; memory may be wanting at any words
-abbrev pub Ends : List (List ℕ) → WordsEnd → Type 0
+abbrev pub Ends : List (List ℕ) → TaskEnd → Type 0
 Ends words NoMemory = Unit {0}
 Ends words _ = is_task words ≡ false

@@ -12,7 +12,7 @@ use std::alloc::{AllocError, Global};
 
 /// What is to be done with a blueprint. Rule: own.
 #[derive(Clone, Copy, PartialEq, Eq)]
-pub enum Work {
+pub enum TaskKind {
     /// Its first fault is told.
     Check,
     /// Its canonical text is printed.
@@ -29,7 +29,7 @@ pub enum Work {
 #[derive(Drop)]
 pub struct Task {
     /// What is to be done.
-    pub work: Work,
+    pub work: TaskKind,
     /// The blueprint's file.
     pub file: Line,
     /// How many elements the sources give, in their order; for `Turns` alone.
@@ -38,7 +38,7 @@ pub struct Task {
 
 /// Why the words ask for nothing.
 #[derive(Drop)]
-pub enum WordsEnd {
+pub enum TaskEnd {
     /// They ask for help, which is this text.
     Help(String),
     /// They are no command; this text says so.
@@ -47,31 +47,31 @@ pub enum WordsEnd {
     NoMemory,
 }
 
-impl From<AllocError> for WordsEnd {
+impl From<AllocError> for TaskEnd {
     ghost use Rattle.std.specs.Prelude.{◌≡◌};
-    ghost use Rattle.workbench_words.specs.declared.task.WordsEnd.TheVariants.{NoMemory};
+    ghost use Rattle.workbench_words.specs.declared.task.TaskEnd.TheVariants.{NoMemory};
 
     ghost from_gives = { λ _ e. e ≡ NoMemory };
 
-    fn from(_error: AllocError) -> WordsEnd {
-        WordsEnd::NoMemory
+    fn from(_error: AllocError) -> TaskEnd {
+        TaskEnd::NoMemory
     }
 }
 
 /// The work of that name.
-fn work_of(word: &[u8]) -> Option<Work>
+fn work_of(word: &[u8]) -> Option<TaskKind>
     ensures { result ≡ work_of word.now }
 {
     if is_word(word, b"check") {
-        Some(Work::Check)
+        Some(TaskKind::Check)
     } else if is_word(word, b"fmt") {
-        Some(Work::Format)
+        Some(TaskKind::Format)
     } else if is_word(word, b"draw") {
-        Some(Work::Draw)
+        Some(TaskKind::Draw)
     } else if is_word(word, b"explain") {
-        Some(Work::Explain)
+        Some(TaskKind::Explain)
     } else if is_word(word, b"turns") {
-        Some(Work::Turns)
+        Some(TaskKind::Turns)
     } else {
         None
     }
@@ -94,11 +94,11 @@ fn counts_of(alloc: Global, words: &[Line]) -> Result<Option<Vec<u64>>, AllocErr
 }
 
 /// Whether so many words may stand behind the file.
-fn allows(work: Work, rest: &[Line]) -> bool
+fn allows(work: TaskKind, rest: &[Line]) -> bool
     ensures { result ≡ allows work rest.now }
 {
     match work {
-        Work::Turns => true,
+        TaskKind::Turns => true,
         _ => rest.is_empty(),
     }
 }
@@ -106,7 +106,7 @@ fn allows(work: Work, rest: &[Line]) -> bool
 /// The task of that work and file, with the words that stand behind them.
 fn task_of(
     alloc: Global,
-    work: Work,
+    work: TaskKind,
     file: &Line,
     rest: &[Line],
 ) -> Result<Option<Task>, AllocError>
@@ -142,7 +142,7 @@ fn task_in(alloc: Global, words: &[Line]) -> Result<Option<Task>, AllocError>
 
 /// What the words ask for: `check FILE`, `fmt FILE`, `draw FILE`, `explain FILE` or `turns FILE N..`, where FILE is the name of a
 /// file and each N a number of 64 bits. For all other words the parser of commands says what is wrong, or helps. Rule: own.
-pub fn read_words(alloc: Global, words: &[Line]) -> Result<Task, WordsEnd>
+pub fn read_words(alloc: Global, words: &[Line]) -> Result<Task, TaskEnd>
     ensures task { IfOk result (Asks words.now) }
     ensures end { IfErr result (Ends words.now) }
 {

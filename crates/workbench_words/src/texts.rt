@@ -1,5 +1,5 @@
 // What is said of words that ask for nothing, by `clap`: help, or what is wrong with them.
-use crate::task::WordsEnd;
+use crate::task::TaskEnd;
 use clap::error::ErrorKind;
 use clap::{Arg, ArgAction, Command, Error};
 use elem_core::line::Line;
@@ -70,17 +70,17 @@ fn said<'a>(alloc: Global, texts: &'a [&'a str]) -> Result<Error, AllocError> {
 }
 
 /// How a reading ends of which clap says this.
-fn end_of(alloc: Global, error: &Error) -> Result<WordsEnd, AllocError> {
+fn end_of(alloc: Global, error: &Error) -> Result<TaskEnd, AllocError> {
     let text = format!(in alloc; "{error}")?;
     match error.kind() {
-        ErrorKind::OutOfMemory => Ok(WordsEnd::NoMemory),
-        ErrorKind::DisplayHelp => Ok(WordsEnd::Help(text)),
-        _ => Ok(WordsEnd::Usage(text)),
+        ErrorKind::OutOfMemory => Ok(TaskEnd::NoMemory),
+        ErrorKind::DisplayHelp => Ok(TaskEnd::Help(text)),
+        _ => Ok(TaskEnd::Usage(text)),
     }
 }
 
 /// The same of words.
-fn said_of_words(alloc: Global, words: &[Line]) -> Result<WordsEnd, AllocError> {
+fn said_of_words(alloc: Global, words: &[Line]) -> Result<TaskEnd, AllocError> {
     match texts_of(alloc, words)? {
         Some(texts) => end_of(alloc, &said(alloc, &texts)?),
         None => end_of(
@@ -91,9 +91,9 @@ fn said_of_words(alloc: Global, words: &[Line]) -> Result<WordsEnd, AllocError> 
 }
 
 /// How a reading of such words ends: with help where they ask for it, else with what is wrong.
-pub(crate) fn no_task(alloc: Global, words: &[Line]) -> WordsEnd {
+pub(crate) fn no_task(alloc: Global, words: &[Line]) -> TaskEnd {
     match said_of_words(alloc, words) {
         Ok(end) => end,
-        Err(_) => WordsEnd::NoMemory,
+        Err(_) => TaskEnd::NoMemory,
     }
 }

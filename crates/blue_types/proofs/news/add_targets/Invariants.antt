@@ -1,6 +1,6 @@
 use Rattle.std.proofs.Common.{◌≡◌, ℕ, true, take, Some}
 use Rattle.std.specs.Prelude.{slice_get}
-use Rattle.stream_model.specs.Graph.{Wire}
+use Rattle.stream_model.specs.Graph.{Edge}
 use Rattle.blue_names.specs.Links.{wires_of_links}
 use Rattle.blue_names.specs.Members.{is_in}
 use Rattle.blue_types.proofs.NewsLists.{Leads}

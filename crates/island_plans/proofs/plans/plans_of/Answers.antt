@@ -1,12 +1,12 @@
 -- The goals of `plans::plans_of` that the search leaves.
 use Rattle.std.proofs.Common.{◌≡◌, ◌∙◌, ◌+◌, ◌<◌, ℕ, List, length, map, vec_len, vec_capacity, ap, sym, subst, rules, arith}
 use Rattle.std.specs.List.{All}
-use Rattle.stream_model.specs.Graph.{Wire}
+use Rattle.stream_model.specs.Graph.{Edge}
 use Rattle.blue_core.specs.declared.blueprint.Blueprint.{Blueprint}
 use Rattle.blue_core.specs.declared.blueprint.ChainDecl.{ChainDecl}
 use Rattle.blue_core.specs.declared.blueprint.Node.{Node}
 use Rattle.blue_core.specs.declared.blueprint.WireDecl.{WireDecl}
-use Rattle.blue_names.specs.declared.links.Link.{Link}
+use Rattle.blue_names.specs.declared.links.NumberedWire.{NumberedWire}
 use Rattle.blue_names.specs.Links.{AreInRange, wires_of_links}
 use Rattle.blue_check.specs.Wires.{blueprint_wires}
 use Rattle.blue_rules.specs.Links.{wires_of}
@@ -68,7 +68,7 @@ split_of-requires-clause-lanes g c =
     let own = c.in_ok-own.own.items in
     let homes : c.deref-5.result.now ≡ own = c.deref-5.ensures.value ∙ sym (c.in_ok-own.ensures ∙ c.deref-10.ensures.value) in
     let links : c.deref-4.result.now ≡ c.deref-11.result.now = c.deref-4.ensures.value ∙ sym c.deref-11.ensures.value in
-    c.deref-12.ensures.value ∙ c.in_ok-lanes.ensures ∙ ap (λ (hs : List ℕ). lanes_from hs 0 (wires_of_links c.deref-4.result.now)) homes ∙ ap (λ (ls : List Link). lanes_from own 0 (wires_of_links ls)) links
+    c.deref-12.ensures.value ∙ c.in_ok-lanes.ensures ∙ ap (λ (hs : List ℕ). lanes_from hs 0 (wires_of_links c.deref-4.result.now)) homes ∙ ap (λ (ls : List NumberedWire). lanes_from own 0 (wires_of_links ls)) links
 
 pub seat_all-requires-clause-sized : goal.seat_all-requires-clause-sized
 seat_all-requires-clause-sized g c = all_sized c.args.b c.requires.runs.plugs c.requires.runs.taken c.requires.runs.fit
@@ -100,19 +100,19 @@ returns-clause-plans g c =
     let same-11 : wires_of_links c.deref-11.result.now ≡ ws = ap wires_of_links c.deref-11.ensures.value ∙ same in
     let size : c.len.result ≡ length ns = c.len.ensures ∙ b.nodes.ok.0 in
     let homes_are : AreNumberedHomes (length ns) count ws homes =
-    subst (λ (us : List Wire). AreNumberedHomes (length ns) count us homes) same-3
+    subst (λ (us : List Edge). AreNumberedHomes (length ns) count us homes) same-3
     (subst (λ (n : ℕ). AreNumberedHomes (length ns) n (wires_of_links c.deref-3.result.now) homes) (sym c.len-count.ensures)
     (subst (λ (n : ℕ). AreNumberedHomes n (vec_len found.firsts) (wires_of_links c.deref-3.result.now) homes) size c.in_ok-found.ensures)) in
     let lanes : c.in_ok-lanes.lanes.items ≡ lanes_from homes 0 ws =
-    c.in_ok-lanes.ensures ∙ ap (λ (hs : List ℕ). lanes_from hs 0 (wires_of_links c.deref-4.result.now)) c.deref-5.ensures.value ∙ ap (λ (us : List Wire). lanes_from homes 0 us) same-4 in
+    c.in_ok-lanes.ensures ∙ ap (λ (hs : List ℕ). lanes_from hs 0 (wires_of_links c.deref-4.result.now)) c.deref-5.ensures.value ∙ ap (λ (us : List Edge). lanes_from homes 0 us) same-4 in
     let ends : AreEndHomes homes ns ws c.in_ok-ends.ends =
-    subst (λ (us : List Wire). AreEndHomes homes ns us c.in_ok-ends.ends) same-7
+    subst (λ (us : List Edge). AreEndHomes homes ns us c.in_ok-ends.ends) same-7
     (subst (λ (ms : List Node). AreEndHomes homes ms (wires_of_links c.deref-7.result.now) c.in_ok-ends.ends) c.deref-6.ensures.value
     (subst (λ (hs : List ℕ). AreEndHomes hs c.deref-6.result.now (wires_of_links c.deref-7.result.now) c.in_ok-ends.ends) c.deref-8.ensures.value c.in_ok-ends.ensures)) in
     let places : c.in_ok-nodes.nodes.items ≡ places_from 0 ns = c.in_ok-nodes.ensures ∙ ap (places_from 0) c.deref-9.ensures.value in
     let split : IsSplit homes count ws (places_from 0 ns) c.in_ok-split.split =
     subst (λ (l : List Place). IsSplit homes count ws l c.in_ok-split.split) places
-    (subst (λ (us : List Wire). IsSplit homes count us c.in_ok-nodes.nodes.items c.in_ok-split.split) same-11
+    (subst (λ (us : List Edge). IsSplit homes count us c.in_ok-nodes.nodes.items c.in_ok-split.split) same-11
     (subst (λ (hs : List ℕ). IsSplit hs count (wires_of_links c.deref-11.result.now) c.in_ok-nodes.nodes.items c.in_ok-split.split) own c.in_ok-split.ensures)) in
     let board = c.in_ok-board.board in
     let board_is : IsBoard (map (λ (n : Node). n.kind) ns) board = subst (λ (l : List Node). IsBoard (map (λ (n : Node). n.kind) l) board) c.deref-13.ensures.value c.in_ok-board.ensures.board in

@@ -2,7 +2,7 @@ use Rattle.std.proofs.Common.{◌≡◌, ℕ, ◌<◌, length, sym, ◌∙◌, a
 use Rattle.std.specs.Prelude.{is_none}
 use Rattle.std.specs.List.{filter}
 use Rattle.std.proofs.lemmas.List.Elements.{All-filter, All-same}
-use Rattle.blue_names.specs.declared.links.Link.{Link}
+use Rattle.blue_names.specs.declared.links.NumberedWire.{NumberedWire}
 use Rattle.blue_names.specs.Links.{wires_of_links}
 use Rattle.traversal.specs.Plan.{nodes_at, island_nodes, island_wires, lanes_from}
 use Rattle.traversal.specs.Labels.{AreLabels}
@@ -12,8 +12,8 @@ use Rattle.traversal.proofs.islands.plan_of.Goals as goal
 
 pub labels_of-requires : goal.labels_of-requires
 labels_of-requires c =
-    All-same (λ (l : Link). (l.from < c.args.count) × (l.to < c.args.count)) c.deref.result.now (filter (λ (l : Link). is_none l.lane) c.args.links.now) (c.deref.ensures.value ∙ c.in_ok-fused_links.ensures)
-    (All-filter (λ (l : Link). is_none l.lane) (λ (l : Link). (l.from < c.args.count) × (l.to < c.args.count)) c.args.links.now c.requires)
+    All-same (λ (l : NumberedWire). (l.from < c.args.count) × (l.to < c.args.count)) c.deref.result.now (filter (λ (l : NumberedWire). is_none l.lane) c.args.links.now) (c.deref.ensures.value ∙ c.in_ok-fused_links.ensures)
+    (All-filter (λ (l : NumberedWire). is_none l.lane) (λ (l : NumberedWire). (l.from < c.args.count) × (l.to < c.args.count)) c.args.links.now c.requires)
 
 pub homes_of-requires : goal.homes_of-requires
 homes_of-requires c = labels_below _ c.args.count c.in_ok-labels.labels.items c.deref-2.result.now c.in_ok-labels.ensures c.deref-2.ensures.value

@@ -1,6 +1,6 @@
 -- The goals of `engine::Engine::advance` that the search leaves.
 use Rattle.std.proofs.Common.{◌∙◌, refl, rules, arith}
-use Rattle.fused_net.specs.declared.engine.Step.TheVariants.{Rest, Inner, Outer}
+use Rattle.fused_net.specs.declared.engine.Stepped.TheVariants.{Rest, Inner, Outer}
 use Rattle.fused_net.proofs.Going.{uses_none}
 use Rattle.fused_net.proofs.Keeping.{on_err, step_count}
 use Rattle.fused_net.proofs.Ongoing.{goes_same}

@@ -9,7 +9,7 @@ use Rattle.stream_model.specs.Graph.{Graph}
 use Rattle.stream_model.specs.Graph as graph
 use Rattle.stream_io.specs.State.{FolderState, SourceState, DrainState}
 use Rattle.nodes.specs.Kinds.{IsFileSink}
-use Rattle.nodes.specs.Nodes.{node_row, node_law, node_asking, node_moves}
+use Rattle.nodes.specs.Nodes.{node_port_state, node_law, node_asking, node_moves}
 use Rattle.nodes.specs.Source.{Lines, LinesLaw}
 use Rattle.nodes.specs.Sink.{Sink, SinkLaw}
 use Rattle.nodes.specs.declared.node.IslandNode.{IslandNode}
@@ -144,7 +144,7 @@ module _ {S D L B : Type 0} (sources : S → SourceState) (drains : D → DrainS
       let handed = laws.reads_law (chains_of b) nodes ss ds l.places l.firsts l.seats l.become k is.node file is.at is.kind_is in
       let first_at : left.firsts k ≡ Some (node.Reading handed.first) = l.first_at k ∙ handed.at in
       let last_at : left.nodes k ≡ Some (node.Reading there.1.0) = there.1.1.at_last in
-      let kept = kept_as node_row (node_law sources drains book) node_asking node_moves (graph_of b) left l.run.keeps k (node_of is.node) (node.Reading handed.first) (node.Reading there.1.0) in_graph first_at last_at in
+      let kept = kept_as node_port_state (node_law sources drains book) node_asking node_moves (graph_of b) left l.run.keeps k (node_of is.node) (node.Reading handed.first) (node.Reading there.1.0) in_graph first_at last_at in
       let state : slice_get (map sources ss) handed.place ≡ Some (sources handed.first.reader.source) = mapped_at sources ss handed.place handed.first.reader.source handed.source in
       let called : slice_get (source_names (map sources ss)) handed.place ≡ Some (sources handed.first.reader.source).name = mapped_at (λ (i : SourceState). i.name) (map sources ss) handed.place (sources handed.first.reader.source) state in
       let filed : slice_get (inputs_of_nodes nodes) handed.place ≡ Some (sources handed.first.reader.source).name = subst (λ (x : List (List ℕ)). slice_get x handed.place ≡ Some (sources handed.first.reader.source).name) opens.input_names called in
@@ -182,7 +182,7 @@ module _ {S D L B : Type 0} (sources : S → SourceState) (drains : D → DrainS
       let handed = laws.writes_law (chains_of b) nodes ss ds l.places l.firsts l.seats l.become k is.node file is.at is.file_is in
       let first_at : left.firsts k ≡ Some (node.Writing handed.first) = l.first_at k ∙ handed.at in
       let last_at : left.nodes k ≡ Some (node.Writing there.1.0) = there.1.1.at_last in
-      let kept = kept_as node_row (node_law sources drains book) node_asking node_moves (graph_of b) left l.run.keeps k (node_of is.node) (node.Writing handed.first) (node.Writing there.1.0) in_graph first_at last_at in
+      let kept = kept_as node_port_state (node_law sources drains book) node_asking node_moves (graph_of b) left l.run.keeps k (node_of is.node) (node.Writing handed.first) (node.Writing there.1.0) in_graph first_at last_at in
       let law : SinkLaw drains handed.first there.1.0 (knows (graph_of b) left k (node_of is.node)) (took (graph_of b) left k (node_of is.node)) (gave (graph_of b) left k (node_of is.node)) = kept.law_holds in
       let state : slice_get (map drains ds) handed.place ≡ Some (drains handed.first.drain) = mapped_at drains ds handed.place handed.first.drain handed.drain in
       let called : slice_get (drain_names (map drains ds)) handed.place ≡ Some (drains handed.first.drain).name = mapped_at (λ (o : DrainState). o.name) (map drains ds) handed.place (drains handed.first.drain) state in

@@ -31,9 +31,9 @@ use Rattle.stage_law.specs.Held.{told}
 use Rattle.nodes.specs.declared.node.IslandNode.{IslandNode}
 use Rattle.nodes.specs.declared.node.IslandNode.TheVariants as node
 use Rattle.nodes.specs.Ignoring.{Ignorer, IgnoreLaw, EndsWith}
-use Rattle.nodes.specs.Nodes.{node_row, node_law, node_asking, node_moves}
+use Rattle.nodes.specs.Nodes.{node_port_state, node_law, node_asking, node_moves}
 use Rattle.nodes.specs.Ports.{OneInOf}
-use Rattle.nodes.specs.Sink.{Sink, sink_row_in, end_seen}
+use Rattle.nodes.specs.Sink.{Sink, sink_port_state_in, end_seen}
 use Rattle.run_account.specs.Account.{Account, knows, took, gave, WireKeeps, IsStill}
 use Rattle.run_account.specs.Items.{list_of, standing, lane_size, AgreesWith, Brought}
 use Rattle.run_account.proofs.Carrying.{wire_brings, carries_part}
@@ -87,13 +87,13 @@ heads_same : (x y : List Item) → x ∷ [] ≡ y ∷ [] → x ≡ y
 heads_same x y e = cc
 
 -- a sink that goes on waits
-sink_waits : (b : Bool) (i : InView) (outs : List OutView) → OneInOf (sink_row_in b Unended) (i ∷ []) outs → i ≡ Pulled
+sink_waits : (b : Bool) (i : InView) (outs : List OutView) → OneInOf (sink_port_state_in b Unended) (i ∷ []) outs → i ≡ Pulled
 sink_waits true Pulled [] r = refl
 sink_waits true Pulled (y ∷ outs) r = refl
 sink_waits _ i [] r = absurd r
 sink_waits _ i (y ∷ outs) r = absurd r
 
-sink_waits_as : (b : Bool) (e : EndState) (i : InView) (outs : List OutView) → e ≡ Unended → OneInOf (sink_row_in b e) (i ∷ []) outs → i ≡ Pulled
+sink_waits_as : (b : Bool) (e : EndState) (i : InView) (outs : List OutView) → e ≡ Unended → OneInOf (sink_port_state_in b e) (i ∷ []) outs → i ≡ Pulled
 sink_waits_as b Unended i outs is r = sink_waits b i outs r
 sink_waits_as b Ended i outs is r = cc
 sink_waits_as b (Failed c) i outs is r = cc
@@ -176,9 +176,9 @@ module _ {S D L B : Type 0} (sources : S → SourceState) (drains : D → DrainS
     pub sink_rests : (first now : Sink D) → IsSinkAt a k first now → IsStill g a → now.end ≡ Unended → elements (a.near u).wire.sent ≡ elements (a.far u).wire.sent
     sink_rests first now there still goes =
         let within = slice_get-below g.wires u v at in
-        let kept = kept_as node_row (node_law sources drains book) node_asking node_moves g a run.keeps k n (node.Writing first) (node.Writing now) ni there.at_first there.at_last in
+        let kept = kept_as node_port_state (node_law sources drains book) node_asking node_moves g a run.keeps k n (node.Writing first) (node.Writing now) ni there.at_first there.at_last in
         let ins : (knows g a k n).ins ≡ (a.far u).wire.inp ∷ [] = read_one g inp_of a.far k (inputs_of n.kind) u one found in
-        let row : OneInOf (sink_row_in now.started now.end) ((a.far u).wire.inp ∷ []) (knows g a k n).outs = subst (λ (l : List InView). OneInOf (sink_row_in now.started now.end) l (knows g a k n).outs) ins kept.row_holds in
+        let row : OneInOf (sink_port_state_in now.started now.end) ((a.far u).wire.inp ∷ []) (knows g a k n).outs = subst (λ (l : List InView). OneInOf (sink_port_state_in now.started now.end) l (knows g a k n).outs) ins kept.row_holds in
         let waits : (a.far u).wire.inp ≡ Pulled = sink_waits_as now.started now.end (a.far u).wire.inp (knows g a k n).outs goes row in
         let rests = in_rests u (a.near u) (a.far u) (a.asked u) [] (still.near u within) (still.far u within) (run.keeps.near_marked u within) (run.keeps.far_marked u within) v.lane keeps (still.quiet u v at) in
         (rests.waits waits).1 ∙ sym (resting_same (a.far u).wire false (still.far u within) refl waits)
@@ -201,7 +201,7 @@ module _ {S D L B : Type 0} (sources : S → SourceState) (drains : D → DrainS
 
     pub ignorer_told : (first now : Ignorer) → IsIgnorerAt a k first now → IgnoreTells (sink_outlook g w k n) now.end (elements (a.near u).wire.sent)
     ignorer_told first now there =
-        let kept = kept_as node_row (node_law sources drains book) node_asking node_moves g a run.keeps k n (node.Ignoring first) (node.Ignoring now) ni there.at_first there.at_last in
+        let kept = kept_as node_port_state (node_law sources drains book) node_asking node_moves g a run.keeps k n (node.Ignoring first) (node.Ignoring now) ni there.at_first there.at_last in
         let law : IgnoreLaw first now (knows g a k n) (took g a k n) (gave g a k n) = kept.law_holds in
         let came : took g a k n ≡ (a.far u).wire.got ∷ [] = read_one g got_of a.far k (inputs_of n.kind) u (ap inputs_of shape) ignored in
         let got : (a.far u).wire.got ≡ told law.elems law.in_end = heads_same (a.far u).wire.got (told law.elems law.in_end) (sym came ∙ law.took_is) in

@@ -5,7 +5,7 @@ use Rattle.stream_io.specs.State.{SourceState, DrainState}
 use Rattle.stream_model.specs.Graph.{Graph, Edge}
 use Rattle.fused_net.specs.Laws.{Settled, GoesOn}
 use Rattle.fused_net.proofs.Reading.{get_there}
-use Rattle.nodes.specs.Nodes.{node_row, node_law, node_asking, node_moves}
+use Rattle.nodes.specs.Nodes.{node_port_state, node_law, node_asking, node_moves}
 use Rattle.nodes.specs.declared.node.IslandNode.{IslandNode}
 use Rattle.interpreter.specs.Parts.{ends_of, AllBecome}
 use Rattle.interpreter.specs.declared.parts.Seated.{Seated}
@@ -28,7 +28,7 @@ module _ {S D L B : Type 0} where
     pub lanes : SameLanes a.ins.items b.ins.items a.outs.items b.outs.items
 
   pub record Stood (sources : S → SourceState) (drains : D → DrainState) (book : Book) (b : Body S D L B) : Type 0 where
-    pub settled : Settled node_row (node_law sources drains book) node_asking node_moves b.island.net
+    pub settled : Settled node_port_state (node_law sources drains book) node_asking node_moves b.island.net
     pub stand : AllStand b.island b.ins.items b.outs.items
 
   pub went : (a b : Body S D L B) → BodyGoes a b → Went a b
@@ -38,7 +38,7 @@ module _ {S D L B : Type 0} where
   stood sources drains book b k = record { settled = k.laws.laws; stand = k.stands.stand }
 
   -- nothing moves in a net without nodes
-  pub empty_settled : (sources : S → SourceState) (drains : D → DrainState) (book : Book) → Settled node_row (node_law sources drains book) node_asking node_moves (empty_net {N = IslandNode S D L B})
+  pub empty_settled : (sources : S → SourceState) (drains : D → DrainState) (book : Book) → Settled node_port_state (node_law sources drains book) node_asking node_moves (empty_net {N = IslandNode S D L B})
   empty_settled sources drains book = record {
     wired = record {
       each_node = refl;
@@ -58,7 +58,7 @@ module _ {S D L B : Type 0} where
     moments = λ n u h. absurd (omega (arith, h));
   }
 
-  settled_in : (sources : S → SourceState) (drains : D → DrainState) (book : Book) (o : Option (Body S D L B)) → ((b : Body S D L B) → o ≡ Some b → Stood sources drains book b) → Settled node_row (node_law sources drains book) node_asking node_moves (net_in o)
+  settled_in : (sources : S → SourceState) (drains : D → DrainState) (book : Book) (o : Option (Body S D L B)) → ((b : Body S D L B) → o ≡ Some b → Stood sources drains book b) → Settled node_port_state (node_law sources drains book) node_asking node_moves (net_in o)
   settled_in sources drains book None h = empty_settled sources drains book
   settled_in sources drains book (Some b) h = (h b refl).settled
 

@@ -6,7 +6,7 @@ use Rattle.stream_io.specs.State.{SourceState, DrainState}
 use Rattle.stream_model.specs.Graph.{Graph, Edge}
 use Rattle.stream_picture.specs.Shape.{count_needed}
 use Rattle.fused_net.specs.Costs.{sum_below, total, all_asks}
-use Rattle.nodes.specs.Nodes.{node_row, node_law, node_asking, node_moves}
+use Rattle.nodes.specs.Nodes.{node_port_state, node_law, node_asking, node_moves}
 use Rattle.interpreter.specs.declared.parts.Seated.{Seated}
 use Rattle.run_account.specs.Pictures.{counts_of}
 use Rattle.run_account.specs.Seats.{joined}
@@ -48,7 +48,7 @@ module _ {S D L B : Type 0} (sources : S → SourceState) (drains : D → DrainS
 
   pub paid : sum_by (λ (b : Body S D L B). b.spent) now + length g.wires ≤ count_needed g (counts_of (joined (net_of now) (seats_of homes ws) all) g)
   paid =
-      let nets = all_paid node_row (node_law sources drains book) node_asking node_moves g (net_of now) (seats_of homes ws) all (cost_at now) count (nets_cover sources drains book g homes count ws nodes crossings begun m now goes.count goes_on)
+      let nets = all_paid node_port_state (node_law sources drains book) node_asking node_moves g (net_of now) (seats_of homes ws) all (cost_at now) count (nets_cover sources drains book g homes count ws nodes crossings begun m now goes.count goes_on)
       (all_settled sources drains book now (λ k b at. stood sources drains book b (keep k b at))) (nets_owned sources drains book g homes count ws nodes crossings begun m now goes.count goes_on) cost_there in
       let a = most in
       omega (arith, nets, a)

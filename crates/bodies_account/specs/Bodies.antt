@@ -4,7 +4,7 @@ use Rattle.stream_io.specs.State.{SourceState, DrainState}
 use Rattle.stream_model.specs.Graph.{Graph, Edge}
 use Rattle.fused_net.specs.Laws.{Settled, AllKept}
 use Rattle.fused_net.specs.Net.{Net}
-use Rattle.nodes.specs.Nodes.{node_row, node_law, node_asking, node_moves, KeepsNode}
+use Rattle.nodes.specs.Nodes.{node_port_state, node_law, node_asking, node_moves, KeepsNode}
 use Rattle.nodes.specs.declared.node.IslandNode.{IslandNode}
 use Rattle.interpreter.specs.Boundary.{way_in, way_out}
 use Rattle.interpreter.specs.Parts.{ends_of, AllBecome}
@@ -96,13 +96,13 @@ module _ {S D L B : Type 0} where
 
     -- between two events of its island
     abbrev pub AllSettled : List (Body S D L B) → Type 0
-    AllSettled bodies = (k : ℕ) → Settled node_row (node_law sources drains book) node_asking node_moves (net_of bodies k)
+    AllSettled bodies = (k : ℕ) → Settled node_port_state (node_law sources drains book) node_asking node_moves (net_of bodies k)
 
     -- A body as it began, as it is now, and as it was at the last moment between two events, with the ends of its lanes as they are now:
     -- its island had gone on, its laws held, and these ends stood. Since then each of its nodes has kept what outlives want of memory.
     pub record IsLastMoment (begun now then : Body S D L B) : Type 0 where
       pub goes : IslandGoes begun.island then.island
-      pub settled : Settled node_row (node_law sources drains book) node_asking node_moves then.island.net
+      pub settled : Settled node_port_state (node_law sources drains book) node_asking node_moves then.island.net
       pub stand : AllStand then.island then.ins.items then.outs.items
       pub ins : then.ins ≡ now.ins
       pub outs : then.outs ≡ now.outs

@@ -6,7 +6,7 @@ use Rattle.stream_model.specs.Graph.{Graph, Edge}
 use Rattle.stream_model.specs.Graph as graph
 use Rattle.stream_model.proofs.Compositions.{slice_get-below}
 use Rattle.stream_model.specs.declared.outcome.WireCount.{WireCount}
-use Rattle.nodes.specs.Nodes.{node_row, node_law, node_asking, node_moves}
+use Rattle.nodes.specs.Nodes.{node_port_state, node_law, node_asking, node_moves}
 use Rattle.nodes.specs.declared.node.IslandNode.{IslandNode}
 use Rattle.interpreter.specs.declared.parts.Seated.{Seated}
 use Rattle.run_account.specs.Account.{Account, NodeKeeps, IsStill}
@@ -35,7 +35,7 @@ module _ {S D L B : Type 0} (sources : S → SourceState) (drains : D → DrainS
       within : (k : ℕ) (n : graph.Node) → slice_get g.nodes k ≡ Some n → k < length left.firsts
       within k n at = subst (λ (j : ℕ). k < j) (sym many ∙ become_many places left.firsts left.become) (slice_get-below g.nodes k n at)
 
-      each : (k : ℕ) (n : graph.Node) → slice_get g.nodes k ≡ Some n → NodeKeeps node_row (node_law sources drains book) node_asking node_moves g (of_lists a left.firsts nodes) k n
+      each : (k : ℕ) (n : graph.Node) → slice_get g.nodes k ≡ Some n → NodeKeeps node_port_state (node_law sources drains book) node_asking node_moves g (of_lists a left.firsts nodes) k n
       each k n at =
           let h = run.keeps.each_node k n at in
           record {

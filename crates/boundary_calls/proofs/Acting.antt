@@ -24,11 +24,11 @@ use Rattle.wire_core.specs.Counts.{elements}
 use Rattle.wire_core.specs.Marks.{wanted as asks_of}
 use Rattle.wire_core.specs.Reading.{no_wire, inp_of, out_of, got_of}
 use Rattle.stage_boundary.specs.Ports.{Does}
-use Rattle.stage_boundary.specs.Entering.{Entering, EnteringRow, EnteringLaw}
-use Rattle.stage_boundary.specs.Leaving.{Leaving, LeavingRow, LeavingLaw}
+use Rattle.stage_boundary.specs.Entering.{Entering, EnteringPortState, EnteringLaw}
+use Rattle.stage_boundary.specs.Leaving.{Leaving, LeavingPortState, LeavingLaw}
 use Rattle.stage_boundary.proofs.Enters.{may_push as enters_push, may_complete as enters_complete, may_fail as enters_fail}
 use Rattle.stage_boundary.proofs.Leaves.{may_pull as leaves_pull, may_cancel as leaves_cancel}
-use Rattle.nodes.specs.Nodes.{node_row, node_law, node_asking, node_moves, node_waits, node_gone}
+use Rattle.nodes.specs.Nodes.{node_port_state, node_law, node_asking, node_moves, node_waits, node_gone}
 use Rattle.nodes.specs.declared.node.IslandNode.{IslandNode}
 use Rattle.nodes.specs.declared.node.IslandNode.TheVariants as node
 use Rattle.fused_net.specs.Net.{Net, read_all, end_at, wire_at, ports_at, view_of, took, gave, put, acted}
@@ -82,8 +82,8 @@ wanted_push outlet.Cancelled false e = cc
 -- ---- one node
 
 module _ {S D L B : Type 0} (sources : S → SourceState) (drains : D → DrainState) (book : Book) (v : View) (t g : List (List Item)) (a : Act) where
-  entering_does : (x first : IslandNode S D L B) → IsEntering first → ((e f : Entering) → EnteringRow e v → EnteringLaw f e v t g → Does EnteringRow EnteringLaw e f v t g a)
-      → Minds node_row (node_law sources drains book) x first v t g [] → Minds node_row (node_law sources drains book) x first v t g (a ∷ [])
+  entering_does : (x first : IslandNode S D L B) → IsEntering first → ((e f : Entering) → EnteringPortState e v → EnteringLaw f e v t g → Does EnteringPortState EnteringLaw e f v t g a)
+      → Minds node_port_state (node_law sources drains book) x first v t g [] → Minds node_port_state (node_law sources drains book) x first v t g (a ∷ [])
   entering_does (node.Entering x) (node.Entering f) h d m = let y = d x f m.row_holds m.law_holds in record { allowed = (y.allowed, tt); row_holds = y.row_holds; law_holds = y.law_holds }
   entering_does (node.Reading x) (node.Entering f) h d m = absurd m.law_holds
   entering_does (node.Making x) (node.Entering f) h d m = absurd m.law_holds
@@ -106,8 +106,8 @@ module _ {S D L B : Type 0} (sources : S → SourceState) (drains : D → DrainS
   entering_does x (node.Ignoring f) h d m = absurd h
   entering_does x (node.Leaving f) h d m = absurd h
 
-  leaving_does : (x first : IslandNode S D L B) → IsLeaving first → ((e f : Leaving) → x ≡ node.Leaving e → LeavingRow e v → LeavingLaw f e v t g → Does LeavingRow LeavingLaw e f v t g a)
-      → Minds node_row (node_law sources drains book) x first v t g [] → Minds node_row (node_law sources drains book) x first v t g (a ∷ [])
+  leaving_does : (x first : IslandNode S D L B) → IsLeaving first → ((e f : Leaving) → x ≡ node.Leaving e → LeavingPortState e v → LeavingLaw f e v t g → Does LeavingPortState LeavingLaw e f v t g a)
+      → Minds node_port_state (node_law sources drains book) x first v t g [] → Minds node_port_state (node_law sources drains book) x first v t g (a ∷ [])
   leaving_does (node.Leaving x) (node.Leaving f) h d m = let y = d x f refl m.row_holds m.law_holds in record { allowed = (y.allowed, tt); row_holds = y.row_holds; law_holds = y.law_holds }
   leaving_does (node.Reading x) (node.Leaving f) h d m = absurd m.law_holds
   leaving_does (node.Making x) (node.Leaving f) h d m = absurd m.law_holds
@@ -170,7 +170,7 @@ asks_least false n = omega arith
 pub few_came : (c : WireState) (q : Bool) → IsSound c.wire q → elements c.wire.got ≤ asks_of c
 few_came c q s = let a = few_j s.joint c.wire.sent c.wire.got s.histories in let b = asks_least c.asked (elements c.wire.sent) in omega (arith, a, b)
 
-module _ {S D L B : Type 0} (sources : S → SourceState) (drains : D → DrainState) (book : Book) (net : Net (IslandNode S D L B)) (s : Settled node_row (node_law sources drains book) node_asking node_moves net) (q : ℕ) (h : q < length net.wires) where
+module _ {S D L B : Type 0} (sources : S → SourceState) (drains : D → DrainState) (book : Book) (net : Net (IslandNode S D L B)) (s : Settled node_port_state (node_law sources drains book) node_asking node_moves net) (q : ℕ) (h : q < length net.wires) where
   abbrev from : ℕ
   from = (end_at net.ends q).from
 
@@ -183,7 +183,7 @@ module _ {S D L B : Type 0} (sources : S → SourceState) (drains : D → DrainS
   inp_is : in_at (view_of net to) (end_at net.ends q).input ≡ (wire_at net q).wire.inp
   inp_is = read_at inp_of net.wires (ports_at net to).ins (end_at net.ends q).input q Cancelled (s.wired.to_input q h)
 
-  pub may_push : (t : Tree) → EntersAt net q → wanted_at (wire_at net q) ≡ wanted.Asked → IsMinded node_row (node_law sources drains book) net from (Push (end_at net.ends q).output t ∷ [])
+  pub may_push : (t : Tree) → EntersAt net q → wanted_at (wire_at net q) ≡ wanted.Asked → IsMinded node_port_state (node_law sources drains book) net from (Push (end_at net.ends q).output t ∷ [])
   may_push t stage e x first xi fi =
       let p : can_push (wire_at net q).wire.conn ≡ true = wanted_push (wire_at net q).wire.out _ e in
       let y : (wire_at net q).wire.out ≡ outlet.Available = can_push_asked (wire_at net q).wire _ (s.sound q h) p in
@@ -197,7 +197,7 @@ module _ {S D L B : Type 0} (sources : S → SourceState) (drains : D → DrainS
   open_out outlet.Closed e = cc
   open_out outlet.Cancelled e = cc
 
-  pub may_end : (c : Option Cause) → EntersAt net q → output_closed (wire_at net q).wire.out ≡ false → IsMinded node_row (node_law sources drains book) net from (ends_at (end_at net.ends q).output c ∷ [])
+  pub may_end : (c : Option Cause) → EntersAt net q → output_closed (wire_at net q).wire.out ≡ false → IsMinded node_port_state (node_law sources drains book) net from (ends_at (end_at net.ends q).output c ∷ [])
   may_end None stage e x first xi fi =
       entering_does sources drains book (view_of net from) (took net from) (gave net from) _ x first (stage first fi)
       (λ z f r law. enters_complete f z (view_of net from) (took net from) (gave net from) r law (end_at net.ends q).output (rw out_is (open_out _ e)))
@@ -207,7 +207,7 @@ module _ {S D L B : Type 0} (sources : S → SourceState) (drains : D → DrainS
       (λ z f r law. enters_fail f z (view_of net from) (took net from) (gave net from) r law (end_at net.ends q).output c (rw out_is (open_out _ e)))
       (s.minded from (s.wired.from_within q h) x first xi fi)
 
-  pub may_pull : LeavesAt net q → AtNode net to (λ x. node_waits x ≡ []) → can_pull (wire_at net q).wire.conn ≡ true → IsMinded node_row (node_law sources drains book) net to (Pull (end_at net.ends q).input ∷ [])
+  pub may_pull : LeavesAt net q → AtNode net to (λ x. node_waits x ≡ []) → can_pull (wire_at net q).wire.conn ≡ true → IsMinded node_port_state (node_law sources drains book) net to (Pull (end_at net.ends q).input ∷ [])
   may_pull stage clear p x first xi fi =
       let y : (wire_at net q).wire.inp ≡ Idle = can_pull_idle (wire_at net q).wire _ (s.sound q h) p in
       leaving_does sources drains book (view_of net to) (took net to) (gave net to) _ x first (stage first fi)
@@ -220,13 +220,13 @@ module _ {S D L B : Type 0} (sources : S → SourceState) (drains : D → DrainS
   open_in Finished e = cc
   open_in Cancelled e = cc
 
-  pub may_cancel : LeavesAt net q → input_closed (wire_at net q).wire.inp ≡ false → IsMinded node_row (node_law sources drains book) net to (Cancel (end_at net.ends q).input ∷ [])
+  pub may_cancel : LeavesAt net q → input_closed (wire_at net q).wire.inp ≡ false → IsMinded node_port_state (node_law sources drains book) net to (Cancel (end_at net.ends q).input ∷ [])
   may_cancel stage e x first xi fi =
       leaving_does sources drains book (view_of net to) (took net to) (gave net to) _ x first (stage first fi)
       (λ z f at r law. leaves_cancel f z (view_of net to) (took net to) (gave net to) r law (end_at net.ends q).input (rw inp_is (open_in _ e)))
       (s.minded to (s.wired.to_within q h) x first xi fi)
 
-  exit_got : (x first : IslandNode S D L B) → IsLeaving first → (v : View) (t g : List (List Item)) (i : ℕ) (l : List Item) → slice_get t i ≡ Some l → Minds node_row (node_law sources drains book) x first v t g [] → l ≡ node_gone x ++ node_waits x
+  exit_got : (x first : IslandNode S D L B) → IsLeaving first → (v : View) (t g : List (List Item)) (i : ℕ) (l : List Item) → slice_get t i ≡ Some l → Minds node_port_state (node_law sources drains book) x first v t g [] → l ≡ node_gone x ++ node_waits x
   exit_got (node.Leaving x) (node.Leaving f) k v t g i l at m = sym (one_item _ l t i m.law_holds.took_is at) ∙ m.law_holds.parts
   exit_got (node.Reading x) (node.Leaving f) k v t g i l at m = absurd m.law_holds
   exit_got (node.Making x) (node.Leaving f) k v t g i l at m = absurd m.law_holds
@@ -249,7 +249,7 @@ module _ {S D L B : Type 0} (sources : S → SourceState) (drains : D → DrainS
   exit_got x (node.Ignoring f) k v t g i l at m = absurd k
   exit_got x (node.Entering f) k v t g i l at m = absurd k
 
-  exit_told : (x first : IslandNode S D L B) → IsLeaving first → (v : View) (t g : List (List Item)) (i : ℕ) (l : List Item) → slice_get t i ≡ Some l → Minds node_row (node_law sources drains book) x first v t g [] → (list : List Tree) × ((end : End) × (l ≡ told list end))
+  exit_told : (x first : IslandNode S D L B) → IsLeaving first → (v : View) (t g : List (List Item)) (i : ℕ) (l : List Item) → slice_get t i ≡ Some l → Minds node_port_state (node_law sources drains book) x first v t g [] → (list : List Tree) × ((end : End) × (l ≡ told list end))
   exit_told (node.Leaving x) (node.Leaving f) k v t g i l at m = (m.law_holds.list, (m.law_holds.end, sym (one_item _ l t i m.law_holds.took_is at)))
   exit_told (node.Reading x) (node.Leaving f) k v t g i l at m = absurd m.law_holds
   exit_told (node.Making x) (node.Leaving f) k v t g i l at m = absurd m.law_holds
@@ -360,14 +360,14 @@ pub end_tells : {S D L B : Type 0} (net : Net (IslandNode S D L B)) (n j : ℕ) 
 end_tells net n j None p = absurd p
 end_tells net n j (Some c) p = absurd p
 
-pub leaving_tells : {S D L B : Type 0} (sources : S → SourceState) (drains : D → DrainState) (book : Book) (net : Net (IslandNode S D L B)) → Settled node_row (node_law sources drains book) node_asking node_moves net → (q : ℕ) → q < length net.wires → LeavesAt net q → (a : Act)
+pub leaving_tells : {S D L B : Type 0} (sources : S → SourceState) (drains : D → DrainState) (book : Book) (net : Net (IslandNode S D L B)) → Settled node_port_state (node_law sources drains book) node_asking node_moves net → (q : ℕ) → q < length net.wires → LeavesAt net q → (a : Act)
     → TellsPoked node_asking net (end_at net.ends q).to a
 leaving_tells sources drains book net s q h stage a p x xi =
     let to = (end_at net.ends q).to in
     let first = get_there net.firsts to (rw s.each_first (s.wired.to_within q h)) in
     asking_free sources drains book x first.0 (view_of net to) _ (took net to) (gave net to) (stage first.0 first.1) (s.minded to (s.wired.to_within q h) x first.0 xi first.1).law_holds
 
-pub came_at : {S D L B : Type 0} (sources : S → SourceState) (drains : D → DrainState) (book : Book) (net : Net (IslandNode S D L B)) (q : ℕ) → Settled node_row (node_law sources drains book) node_asking node_moves net → q < length net.wires → LeavesAt net q → CameTo net q
+pub came_at : {S D L B : Type 0} (sources : S → SourceState) (drains : D → DrainState) (book : Book) (net : Net (IslandNode S D L B)) (q : ℕ) → Settled node_port_state (node_law sources drains book) node_asking node_moves net → q < length net.wires → LeavesAt net q → CameTo net q
 came_at sources drains book net q s h l = record {
   got = came_there sources drains book net s q h l;
   few = few_came _ _ (s.sound q h);

@@ -2,7 +2,7 @@
 ghost use Rattle.std.specs.Prelude.{◌≡◌, ◌<◌, ◌≤◌, ◌↔◌, ◌∷◌, [], length, IsTrue};
 ghost use Rattle.port_core.specs.Decoding.{can_pull};
 ghost use Rattle.port_core.specs.declared.act.Act.TheVariants as act;
-ghost use Rattle.nodes.specs.Nodes.{node_row, node_law, node_asking, node_moves, node_waits, node_gone};
+ghost use Rattle.nodes.specs.Nodes.{node_port_state, node_law, node_asking, node_moves, node_waits, node_gone};
 ghost use Rattle.fused_net.specs.Net.{wire_at, end_at};
 ghost use Rattle.fused_net.specs.Laws.{Settled, GoesOn};
 ghost use Rattle.fused_net.specs.Costs.{all_asks, Uses};
@@ -46,13 +46,13 @@ pub fn push_in<S: Source, D: Drain, L: Logic, B: PlugBook>(
     place: u32,
     e: Elem,
 )
-    requires laws { Settled node_row (node_law S.state D.state B.lists) node_asking node_moves engine.old }
+    requires laws { Settled node_port_state (node_law S.state D.state B.lists) node_asking node_moves engine.old }
     requires within { place < length engine.old.wires }
     requires stage { EntersAt engine.old place }
     requires asked { wanted_at (wire_at engine.old place) ≡ wanted.Asked }
     requires few { all_asks engine.old ≤ 4000000000 }
     ensures after { engine.new ≡ moved_at engine.old place (act.Push 0 e) }
-    ensures laws { Settled node_row (node_law S.state D.state B.lists) node_asking node_moves engine.new }
+    ensures laws { Settled node_port_state (node_law S.state D.state B.lists) node_asking node_moves engine.new }
     ensures on { GoesOn engine.old engine.new }
     ensures uses { Uses engine.old engine.new 0 }
 {
@@ -66,12 +66,12 @@ pub fn end_in<S: Source, D: Drain, L: Logic, B: PlugBook>(
     place: u32,
     cause: Option<Cause>,
 )
-    requires laws { Settled node_row (node_law S.state D.state B.lists) node_asking node_moves engine.old }
+    requires laws { Settled node_port_state (node_law S.state D.state B.lists) node_asking node_moves engine.old }
     requires within { place < length engine.old.wires }
     requires stage { EntersAt engine.old place }
     requires few { all_asks engine.old ≤ 4000000000 }
     ensures after { engine.new ≡ ended_at engine.old place cause }
-    ensures laws { Settled node_row (node_law S.state D.state B.lists) node_asking node_moves engine.new }
+    ensures laws { Settled node_port_state (node_law S.state D.state B.lists) node_asking node_moves engine.new }
     ensures on { GoesOn engine.old engine.new }
     ensures uses { Uses engine.old engine.new 0 }
 {
@@ -97,7 +97,7 @@ pub fn can_pull_out<S: Source, D: Drain, L: Logic, B: PlugBook>(
     engine: &Engine<IslandNode<S, D, L, B>>,
     place: u32,
 ) -> bool
-    requires laws { Settled node_row (node_law S.state D.state B.lists) node_asking node_moves engine.now }
+    requires laws { Settled node_port_state (node_law S.state D.state B.lists) node_asking node_moves engine.now }
     requires within { place < length engine.now.wires }
     ensures { IsTrue result ↔ (IsTrue (can_pull (wire_at engine.now place).wire.conn) × IsClearAt engine.now place) }
 {
@@ -110,13 +110,13 @@ pub fn pull_out<S: Source, D: Drain, L: Logic, B: PlugBook>(
     engine: &mut Engine<IslandNode<S, D, L, B>>,
     place: u32,
 )
-    requires laws { Settled node_row (node_law S.state D.state B.lists) node_asking node_moves engine.old }
+    requires laws { Settled node_port_state (node_law S.state D.state B.lists) node_asking node_moves engine.old }
     requires within { place < length engine.old.wires }
     requires stage { LeavesAt engine.old place }
     requires can { IsTrue (can_pull (wire_at engine.old place).wire.conn) × IsClearAt engine.old place }
     requires few { all_asks engine.old ≤ 4000000000 }
     ensures after { engine.new ≡ moved_at engine.old place (act.Pull 0) }
-    ensures laws { Settled node_row (node_law S.state D.state B.lists) node_asking node_moves engine.new }
+    ensures laws { Settled node_port_state (node_law S.state D.state B.lists) node_asking node_moves engine.new }
     ensures on { GoesOn engine.old engine.new }
     ensures uses { Uses engine.old engine.new 0 }
 {
@@ -129,10 +129,10 @@ pub fn given<S: Source, D: Drain, L: Logic, B: PlugBook>(
     engine: &mut Engine<IslandNode<S, D, L, B>>,
     place: u32,
 ) -> Given
-    requires laws { Settled node_row (node_law S.state D.state B.lists) node_asking node_moves engine.old }
+    requires laws { Settled node_port_state (node_law S.state D.state B.lists) node_asking node_moves engine.old }
     requires within { place < length engine.old.wires }
     ensures given { GivenIs result (IsClearAt engine.old place × (engine.new ≡ engine.old)) (λ x. HandsAt node_gone node_waits engine.old (end_at engine.old.ends place).to (x ∷ []) engine.new) }
-    ensures laws { Settled node_row (node_law S.state D.state B.lists) node_asking node_moves engine.new }
+    ensures laws { Settled node_port_state (node_law S.state D.state B.lists) node_asking node_moves engine.new }
     ensures on { GoesOn engine.old engine.new }
     ensures uses { Uses engine.old engine.new 0 }
 {
@@ -150,12 +150,12 @@ fn cancel<S: Source, D: Drain, L: Logic, B: PlugBook>(
     engine: &mut Engine<IslandNode<S, D, L, B>>,
     place: u32,
 )
-    requires laws { Settled node_row (node_law S.state D.state B.lists) node_asking node_moves engine.old }
+    requires laws { Settled node_port_state (node_law S.state D.state B.lists) node_asking node_moves engine.old }
     requires within { place < length engine.old.wires }
     requires stage { LeavesAt engine.old place }
     requires few { all_asks engine.old ≤ 4000000000 }
     ensures after { engine.new ≡ cancelled_at engine.old place }
-    ensures laws { Settled node_row (node_law S.state D.state B.lists) node_asking node_moves engine.new }
+    ensures laws { Settled node_port_state (node_law S.state D.state B.lists) node_asking node_moves engine.new }
     ensures on { GoesOn engine.old engine.new }
     ensures uses { Uses engine.old engine.new 0 }
 {
@@ -171,12 +171,12 @@ pub fn cancel_out<S: Source, D: Drain, L: Logic, B: PlugBook>(
     engine: &mut Engine<IslandNode<S, D, L, B>>,
     place: u32,
 )
-    requires laws { Settled node_row (node_law S.state D.state B.lists) node_asking node_moves engine.old }
+    requires laws { Settled node_port_state (node_law S.state D.state B.lists) node_asking node_moves engine.old }
     requires within { place < length engine.old.wires }
     requires stage { LeavesAt engine.old place }
     requires few { all_asks engine.old ≤ 4000000000 }
     ensures drops { AtNode (cancelled_at engine.old place) (end_at engine.old.ends place).to (λ x. HandsAt node_gone node_waits (cancelled_at engine.old place) (end_at engine.old.ends place).to (node_waits x) engine.new) }
-    ensures laws { Settled node_row (node_law S.state D.state B.lists) node_asking node_moves engine.new }
+    ensures laws { Settled node_port_state (node_law S.state D.state B.lists) node_asking node_moves engine.new }
     ensures on { GoesOn engine.old engine.new }
     ensures uses { Uses engine.old engine.new 0 }
 {
@@ -190,7 +190,7 @@ pub fn came_to<S: Source, D: Drain, L: Logic, B: PlugBook>(
     engine: &Engine<IslandNode<S, D, L, B>>,
     place: u32,
 )
-    requires laws { Settled node_row (node_law S.state D.state B.lists) node_asking node_moves engine.now }
+    requires laws { Settled node_port_state (node_law S.state D.state B.lists) node_asking node_moves engine.now }
     requires within { place < length engine.now.wires }
     requires stage { LeavesAt engine.now place }
     ensures { CameTo engine.now place }

@@ -48,7 +48,7 @@ fn begins<S: Stage>(alloc: Global, stage: &mut S, acts: &mut Acts) -> Result<boo
     requires new { S.fresh stage.old unpulled_ports }
     requires empty { acts.old.items ≡ [] }
     requires room { most_acts ≤ acts.old.room }
-    ensures waits { IfOk result (λ on. on ≡ true → S.rests stage.new waiting_ports) }
+    ensures waits { IfOk result (λ on. on ≡ true → S.port_state stage.new waiting_ports) }
     ensures acts { IfOk result (λ on. on ≡ true → acts.new ≡ acts.old) }
 {
     stage.start(alloc, acts)?;
@@ -62,10 +62,10 @@ fn takes<S: Stage>(
     number: i64,
     acts: &mut Acts,
 ) -> Result<bool, NoMemory>
-    requires waits { S.rests stage.old waiting_ports }
+    requires waits { S.port_state stage.old waiting_ports }
     requires empty { acts.old.items ≡ [] }
     requires room { most_acts ≤ acts.old.room }
-    ensures waits { IfOk result (λ on. on ≡ true → S.rests stage.new waiting_ports) }
+    ensures waits { IfOk result (λ on. on ≡ true → S.port_state stage.new waiting_ports) }
     ensures acts { IfOk result (λ on. on ≡ true → acts.new ≡ acts.old) }
 {
     stage.on_push(alloc, 0, Elem::of(Form::Num(number)), acts)?;
@@ -79,10 +79,10 @@ fn gives<S: Stage>(
     number: i64,
     acts: &mut Acts,
 ) -> Result<bool, NoMemory>
-    requires waits { S.rests stage.old waiting_ports }
+    requires waits { S.port_state stage.old waiting_ports }
     requires empty { acts.old.items ≡ [] }
     requires room { most_acts ≤ acts.old.room }
-    ensures waits { IfOk result (λ on. on ≡ true → S.rests stage.new waiting_ports) }
+    ensures waits { IfOk result (λ on. on ≡ true → S.port_state stage.new waiting_ports) }
     ensures acts { IfOk result (λ on. on ≡ true → acts.new ≡ acts.old) }
 {
     stage.on_pull(alloc, 0, acts)?;
@@ -97,7 +97,7 @@ fn takes_three<S: Stage>(alloc: Global, stage: &mut S, acts: &mut Acts) -> Resul
     requires new { S.fresh stage.old unpulled_ports }
     requires empty { acts.old.items ≡ [] }
     requires room { most_acts ≤ acts.old.room }
-    ensures waits { IfOk result (λ on. on ≡ true → S.rests stage.new waiting_ports) }
+    ensures waits { IfOk result (λ on. on ≡ true → S.port_state stage.new waiting_ports) }
     ensures acts { IfOk result (λ on. on ≡ true → acts.new ≡ acts.old) }
 {
     if !begins(alloc, stage, acts)? {
@@ -123,7 +123,7 @@ fn gives_two<S: Stage>(
     requires new { S.fresh stage.old unpulled_ports }
     requires empty { acts.old.items ≡ [] }
     requires room { most_acts ≤ acts.old.room }
-    ensures waits { IfOk result (λ on. on ≡ true → S.rests stage.new waiting_ports) }
+    ensures waits { IfOk result (λ on. on ≡ true → S.port_state stage.new waiting_ports) }
     ensures acts { IfOk result (λ on. on ≡ true → acts.new ≡ acts.old) }
 {
     if !takes_three(alloc, stage, acts)? {

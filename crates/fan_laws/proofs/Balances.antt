@@ -30,7 +30,7 @@ use Rattle.stage_law.specs.Held.{told}
 use Rattle.stage_fans.specs.Outs.{OneInClosed}
 use Rattle.stage_balance.specs.Outs.{SomeAsked, own_ins, own_outs}
 use Rattle.stage_balance.specs.Balances.{Handed, BalanceKeeps}
-use Rattle.stage_balance.specs.Balancings.{Balancing, Core, input_of, Holding, row_by, row, waited_by, held_by, held, Begins, BalancesAs}
+use Rattle.stage_balance.specs.Balancings.{Balancing, Core, input_of, Holding, port_state_by, port_state, waited_by, held_by, held, Begins, BalancesAs}
 use Rattle.stage_balance.proofs.Balances.{drop_length}
 use Rattle.stage_balance.proofs.BalanceNodes as node
 use Rattle.stage_out.specs.OutLogics.{BeginsBalance}
@@ -56,7 +56,7 @@ abbrev Now : Balancing → Balancing → InPort → List OutPort → Type 0
 Now first now i os = BalancesAs first now (OutView_of i os) (i.got ∷ []) (Sents os)
 
 abbrev Then : Balancing → Balancing → InPort → List OutPort → Type 0
-Then first now i os = Earlier row BalancesAs BalanceAsking no_moves 0 first now (i.got ∷ []) (Sents os) (i.want ∷ []) (OutWants os) (Shuts os)
+Then first now i os = Earlier port_state BalancesAs BalanceAsking no_moves 0 first now (i.got ∷ []) (Sents os) (i.want ∷ []) (OutWants os) (Shuts os)
 
 -- ---- its moves
 
@@ -101,10 +101,10 @@ waits_none l None h p = refl
 waits_none l (Some t) h p = let no : true ≡ false = sym p ∙ h.1 in cc
 
 -- where it waits for its input, it gave all that it took
-took_all : (first old : Balancing) (v : View) (took gave : List (List Item)) → row old v → in_at v 0 ≡ Pulled → (law : BalancesAs first old v took gave) → elements (slice_index_or took 0 []) ≡ elements_all gave
+took_all : (first old : Balancing) (v : View) (took gave : List (List Item)) → port_state old v → in_at v 0 ≡ Pulled → (law : BalancesAs first old v took gave) → elements (slice_index_or took 0 []) ≡ elements_all gave
 took_all first old v took gave r w law = by old.core.live refl r
   where
-    by : (b : Bool) → old.core.live ≡ b → row_by b old.core v → elements (slice_index_or took 0 []) ≡ elements_all gave
+    by : (b : Bool) → old.core.live ≡ b → port_state_by b old.core v → elements (slice_index_or took 0 []) ≡ elements_all gave
     by false is r = absurd (closed_wait v.ins r.0 w)
     by true is r =
         let pulled = is_pulled old.core.over old.core.pulled (ap (λ (x : View). in_at x 0) (sym r.0) ∙ w) in
@@ -122,7 +122,7 @@ took_all first old v took gave r w law = by old.core.live refl r
 -- ---- a lawful picture
 
 module _ (first now : Balancing) (i : InPort) (os : List OutPort) (law : Now first now i os) (si : InStands i) (so : EachPort OutStands os) where
-  pub lawful : ((p : ℕ) → 1 ≤ slice_index_or (i.want ∷ []) p 0 → Moments row BalancesAs BalanceAsking no_moves first now (i ∷ []) os p) → BalanceLawful now.log.moves i.wire (OutWires os)
+  pub lawful : ((p : ℕ) → 1 ≤ slice_index_or (i.want ∷ []) p 0 → Moments port_state BalancesAs BalanceAsking no_moves first now (i ∷ []) os p) → BalanceLawful now.log.moves i.wire (OutWires os)
   lawful moments = (
     outputs_sent now.log.moves law.law.lists law.law.ends (each_count first now (OutView_of i os) (i.got ∷ []) (Sents os) law) 0 os (gave_at first now (OutView_of i os) (i.got ∷ []) (Sents os) law) so,
     one_more (some_or_none (demand i.wire)),
@@ -166,7 +166,7 @@ in_same : (i : InPort) (l : List Tree) (e : End) → i.got ≡ told l e → own_
 in_same i l e h = rw (h, elements_told l e, list_of_told l e) refl
 
 module _ (first now : Balancing) (i : InPort) (os : List OutPort) (law : Now first now i os) (si : InStands i) (so : EachPort OutStands os) (ri : InRests i) (ro : EachPort OutRests os) where
-  pub stays : row now (OutView_of i os) → (EachWire IsShut (i.wire ∷ []) × EachWire IsShut (OutWires os)) ⊎ BalanceRests i.wire (OutWires os)
+  pub stays : port_state now (OutView_of i os) → (EachWire IsShut (i.wire ∷ []) × EachWire IsShut (OutWires os)) ⊎ BalanceRests i.wire (OutWires os)
   stays r =
       let s = node.logic_rests first now (OutView_of i os) (i.got ∷ []) (Sents os) r law in
       let ins = in_same i law.law.flow.list law.law.flow.end (one_list i.got law.taken law.took_is ∙ law.law.took_is) in
@@ -195,8 +195,8 @@ no_sink (Balance n) l b = refl
 no_sink kd l b = absurd b
 
 module _ (g : Graph) (w : World) (k : ℕ) (n : graph.Node) where
-  pub balance_picture : (first now : Balancing) (is : List InPort) (os : List OutPort) → BeginsBalance n.kind first → w.moves k ≡ now.log.moves → row now (record { ins = map (λ (i : InPort). i.view) is; outs = map (λ (o : OutPort). o.view) os })
-      → BalancesAs first now (record { ins = map (λ (i : InPort). i.view) is; outs = map (λ (o : OutPort). o.view) os }) (map (λ (i : InPort). i.got) is) (Sents os) → PictureLaws row BalancesAs BalanceAsking no_moves never_ends g w k n first now is os
+  pub balance_picture : (first now : Balancing) (is : List InPort) (os : List OutPort) → BeginsBalance n.kind first → w.moves k ≡ now.log.moves → port_state now (record { ins = map (λ (i : InPort). i.view) is; outs = map (λ (o : OutPort). o.view) os })
+      → BalancesAs first now (record { ins = map (λ (i : InPort). i.view) is; outs = map (λ (o : OutPort). o.view) os }) (map (λ (i : InPort). i.got) is) (Sents os) → PictureLaws port_state BalancesAs BalanceAsking no_moves never_ends g w k n first now is os
   balance_picture first now [] os b told r law = let none = law.took_is in absurd cc
   balance_picture first now (i ∷ j ∷ is) os b told r law = let more = law.took_is in absurd cc
   balance_picture first now (i ∷ []) os b told r law = record {

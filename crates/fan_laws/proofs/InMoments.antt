@@ -23,8 +23,8 @@ use Rattle.stage_in.specs.declared.logic.InLogic.{InLogic}
 use Rattle.stage_in.specs.declared.logic.InLogic.TheVariants as logic
 use Rattle.stage_in.specs.Kinds.{taking_by, sorting}
 use Rattle.stage_fans.specs.PortsLaws.{InPortsLaw}
-use Rattle.stage_in.specs.Logics.{InRow, InLaw}
-use Rattle.stage_in.specs.Pairings.{Pairing, inlet_view, inlet_flow, listed, pair_view, row_by}
+use Rattle.stage_in.specs.Logics.{InPortState, InLaw}
+use Rattle.stage_in.specs.Pairings.{Pairing, inlet_view, inlet_flow, listed, pair_view, port_state_by}
 use Rattle.stage_fans.specs.Seats.{wish, InsClosed}
 use Rattle.stage_in.specs.Seats.{seat, seats, none_of}
 use Rattle.stage_in.specs.Sortings as sorted
@@ -93,10 +93,10 @@ pub record Turn (segment : Option ℕ) (p : ℕ) (v : port.View) (had given : Li
   pub order : InOrder segment over p
   pub count : elements (slice_index_or given 0 []) ≡ length used
 
-taking_turn : (first l : Taking) (v : port.View) (had given : List (List Item)) (p : ℕ) → taking.row l v → InLaw (logic.Taking first) (logic.Taking l) v had given → in_at v p ≡ Pulled → Turn first.segment p v had given
+taking_turn : (first l : Taking) (v : port.View) (had given : List (List Item)) (p : ℕ) → taking.port_state l v → InLaw (logic.Taking first) (logic.Taking l) v had given → in_at v p ≡ Pulled → Turn first.segment p v had given
 taking_turn first l v had given p r law waits = by l.live refl r
   where
-    by : (b : Bool) → l.live ≡ b → taking.row_by b l v → Turn first.segment p v had given
+    by : (b : Bool) → l.live ≡ b → taking.port_state_by b l v → Turn first.segment p v had given
     by false e r = absurd (closed_wait v.ins p r.0 waits)
     by true e r =
         let ins : v.ins ≡ seats 0 l.over l.current l.asked = ap (λ (w : port.View). w.ins) r.0 in
@@ -116,7 +116,7 @@ taking_turn first l v had given p r law waits = by l.live refl r
           count = given_count law.by ∙ (ap length keeps.1.gave_is ∙ length-map keeps.1.given (λ (x : Tagged). x.item));
         }
 
-pub turn_of : (first : Taking) (old : InLogic) (v : port.View) (had given : List (List Item)) (p : ℕ) → InRow old v → InLaw (logic.Taking first) old v had given → in_at v p ≡ Pulled → Turn first.segment p v had given
+pub turn_of : (first : Taking) (old : InLogic) (v : port.View) (had given : List (List Item)) (p : ℕ) → InPortState old v → InLaw (logic.Taking first) old v had given → in_at v p ≡ Pulled → Turn first.segment p v had given
 turn_of first (logic.Taking l) v had given p r law waits = taking_turn first l v had given p r.row law waits
 turn_of first (logic.Sorting l) v had given p r law waits = absurd law.same
 turn_of first (logic.Zipping l) v had given p r law waits = absurd law.same
@@ -135,7 +135,7 @@ pub record Waits (l : Pairing) (p : ℕ) : Type 0 where
   pub is_open : l.phase ≡ Open
   pub empty : ((p ≡ 0) × (listed l.left.held ≡ [])) ⊎ ((p ≡ 1) × (listed l.right.held ≡ []))
 
-pub pair_waits : (Sound : Pairing → Type 0) (l : Pairing) (v : port.View) (p : ℕ) → (l.phase ≡ New → ⊥) → row_by Sound l.phase l v → in_at v p ≡ Pulled → Waits l p
+pub pair_waits : (Sound : Pairing → Type 0) (l : Pairing) (v : port.View) (p : ℕ) → (l.phase ≡ New → ⊥) → port_state_by Sound l.phase l v → in_at v p ≡ Pulled → Waits l p
 pair_waits Sound l v p started r waits = by l.phase refl r
   where
     at : (q : ℕ) → in_at (pair_view l) q ≡ Pulled → ((q ≡ 0) × (listed l.left.held ≡ [])) ⊎ ((q ≡ 1) × (listed l.right.held ≡ []))
@@ -143,7 +143,7 @@ pair_waits Sound l v p started r waits = by l.phase refl r
     at (suc zero) e = inr (refl, inlet_empty l.right.held l.right.over e)
     at (suc (suc q)) e = cc
 
-    by : (x : Phase) → l.phase ≡ x → row_by Sound x l v → Waits l p
+    by : (x : Phase) → l.phase ≡ x → port_state_by Sound x l v → Waits l p
     by New e r = absurd (started e)
     by Closed e r = absurd (closed_wait v.ins p r.0 waits)
     by Open e r = record { is_open = e; empty = at p (ap (λ (w : port.View). in_at w p) (sym r.0) ∙ waits) }

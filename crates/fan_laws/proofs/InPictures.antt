@@ -26,13 +26,13 @@ use Rattle.stage_core.specs.declared.phase.Phase.TheVariants.{New, Open, Closed}
 use Rattle.stage_in.specs.declared.logic.InLogic.{InLogic}
 use Rattle.stage_in.specs.declared.logic.InLogic.TheVariants as logic
 use Rattle.stage_in.specs.Kinds.{taking_by, sorting}
-use Rattle.stage_in.specs.Logics.{Begins, TakesAs, InRow, InLaw}
+use Rattle.stage_in.specs.Logics.{Begins, TakesAs, InPortState, InLaw}
 use Rattle.stage_in.specs.Moves.{in_moves, TellsMoves}
 use Rattle.stage_law.specs.Merges.{MergeKeeps}
 use Rattle.stage_merge.specs.Mergings as merging
 use Rattle.stage_fans.specs.OwnRows.{own_inputs, FanRests}
 use Rattle.stage_in.specs.OwnRows.{TakingRests}
-use Rattle.stage_in.specs.Pairings.{Pairing, inlet_view, row_by}
+use Rattle.stage_in.specs.Pairings.{Pairing, inlet_view, port_state_by}
 use Rattle.stage_fans.specs.Seats.{InsClosed}
 use Rattle.stage_in.specs.Sortings as sorted
 use Rattle.stage_in.specs.Takings as taking
@@ -92,7 +92,7 @@ none_left (i ∷ j ∷ []) l e =
 
 module _ (g : Graph) (w : World) (k : ℕ) (d : Decider) (is : List InPort) (o : OutPort) where
   abbrev Row : InLogic → Type 0
-  Row now = InRow now (InView_of is o)
+  Row now = InPortState now (InView_of is o)
 
   abbrev Law : InLogic → InLogic → Type 0
   Law first now = InLaw first now (InView_of is o) (Gots is) (o.sent ∷ [])
@@ -114,7 +114,7 @@ module _ (g : Graph) (w : World) (k : ℕ) (d : Decider) (is : List InPort) (o :
   Stays kd = (EachWire IsShut (Wires is) × EachWire IsShut (o.wire ∷ [])) ⊎ RowRests g w k kd d (Wires is) (o.wire ∷ [])
 
   module _ (ri : EachPort InRests is) (ro : OutRests o) where
-    zip_stays : (f l : Pairing) (p : Phase) → l.phase ≡ p → Row (logic.Zipping l) → row_by zipping.Sound p l (InView_of is o) → Law (logic.Zipping f) (logic.Zipping l) → EachPort InStands is → OutStands o
+    zip_stays : (f l : Pairing) (p : Phase) → l.phase ≡ p → Row (logic.Zipping l) → port_state_by zipping.Sound p l (InView_of is o) → Law (logic.Zipping f) (logic.Zipping l) → EachPort InStands is → OutStands o
         → (EachWire IsShut (Wires is) × EachWire IsShut (o.wire ∷ [])) ⊎ ZipRests (Wires is) o.wire
     zip_stays f l New e r at law s so = absurd (r.started e)
     zip_stays f l Closed e r at law s so = inl (all_closed is ri at.0, (ro.shut at.1, tt))
@@ -154,8 +154,8 @@ no_sink (Merge n) (logic.Merging f) t = refl
 no_sink kd first t = absurd t
 
 module _ (g : Graph) (w : World) (k : ℕ) (n : graph.Node) where
-  pub in_picture : (first now : InLogic) (is : List InPort) (os : List OutPort) → Begins k n.kind n.decider first → TellsMoves w k now → InRow now (record { ins = Views is; outs = map (λ (o : OutPort). o.view) os })
-      → InLaw first now (record { ins = Views is; outs = map (λ (o : OutPort). o.view) os }) (Gots is) (map (λ (o : OutPort). o.sent) os) → PictureLaws InRow InLaw NoAsking in_moves never_ends g w k n first now is os
+  pub in_picture : (first now : InLogic) (is : List InPort) (os : List OutPort) → Begins k n.kind n.decider first → TellsMoves w k now → InPortState now (record { ins = Views is; outs = map (λ (o : OutPort). o.view) os })
+      → InLaw first now (record { ins = Views is; outs = map (λ (o : OutPort). o.view) os }) (Gots is) (map (λ (o : OutPort). o.sent) os) → PictureLaws InPortState InLaw NoAsking in_moves never_ends g w k n first now is os
   in_picture first now is [] b tells r law = let none = law.by.gave_is in absurd cc
   in_picture first now is (o ∷ p ∷ os) b tells r law = let more = law.by.gave_is in absurd cc
   in_picture first now is (o ∷ []) b tells r law = record {

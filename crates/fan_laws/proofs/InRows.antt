@@ -25,9 +25,9 @@ use Rattle.stage_law.proofs.ZipTurns.{zip_history_stands}
 use Rattle.stage_in.specs.declared.logic.InLogic.{InLogic}
 use Rattle.stage_in.specs.declared.logic.InLogic.TheVariants as logic
 use Rattle.stage_in.specs.Kinds.{taking_by, sorting}
-use Rattle.stage_in.specs.Logics.{InRow, InLaw}
+use Rattle.stage_in.specs.Logics.{InPortState, InLaw}
 use Rattle.stage_in.specs.Moves.{in_moves}
-use Rattle.stage_in.specs.Pairings.{Pairing, inlet_flow, listed, row_by}
+use Rattle.stage_in.specs.Pairings.{Pairing, inlet_flow, listed, port_state_by}
 use Rattle.stage_in.specs.Sortings as sorted
 use Rattle.stage_in.specs.Takings as taking
 use Rattle.stage_in.specs.Takings.{Taking, InOrder}
@@ -46,7 +46,7 @@ abbrev pub InView_of : List InPort → OutPort → port.View
 InView_of is o = record { ins = Views is; outs = o.view ∷ [] }
 
 abbrev pub InMoments : InLogic → InLogic → List InPort → OutPort → Type 0
-InMoments first now is o = (p : ℕ) → 1 ≤ slice_index_or (Wants is) p 0 → Moments InRow InLaw NoAsking in_moves first now is (o ∷ []) p
+InMoments first now is o = (p : ℕ) → 1 ≤ slice_index_or (Wants is) p 0 → Moments InPortState InLaw NoAsking in_moves first now is (o ∷ []) p
 
 pub one_list : (x y : List Item) → x ∷ [] ≡ y ∷ [] → x ≡ y
 one_list x y e = cc
@@ -79,7 +79,7 @@ module _ (first now : Taking) (is : List InPort) (o : OutPort) (law : InLaw (log
     concat_inputs (Unit {0}) tt 0 (wanted o.wire) (Wires is) (λ p v at some. asked p v at (moments p (wants_some is p v stands at some)).0),
   )
     where
-      asked : (p : ℕ) (v : picture.SeenWire) → slice_get (Wires is) p ≡ Some v → Earlier InRow InLaw NoAsking in_moves p (logic.Taking first) (logic.Taking now) (Gots is) (o.sent ∷ []) (Wants is) (o.want ∷ []) (o.wire.shut ∷ []) → FirstShut p (Wires is) × (demand v + (0 + sent_in (take p (Wires is))) ≤ wanted o.wire)
+      asked : (p : ℕ) (v : picture.SeenWire) → slice_get (Wires is) p ≡ Some v → Earlier InPortState InLaw NoAsking in_moves p (logic.Taking first) (logic.Taking now) (Gots is) (o.sent ∷ []) (Wants is) (o.want ∷ []) (o.wire.shut ∷ []) → FirstShut p (Wires is) × (demand v + (0 + sent_in (take p (Wires is))) ≤ wanted o.wire)
       asked p v at e =
           let t = turn_of first e.old e.knew e.had e.given p e.row_held e.law_held e.waited in
           let count = t.count in
@@ -165,7 +165,7 @@ module _ (first now : Pairing) (o : OutPort) where
   SortedNow is = InLaw (logic.Sorting first) (logic.Sorting now) (InView_of is o) (Gots is) (o.sent ∷ [])
 
   abbrev SortedEarlier : List InPort → ℕ → Type 0
-  SortedEarlier is p = Earlier InRow InLaw NoAsking in_moves p (logic.Sorting first) (logic.Sorting now) (Gots is) (o.sent ∷ []) (Wants is) (o.want ∷ []) (o.wire.shut ∷ [])
+  SortedEarlier is p = Earlier InPortState InLaw NoAsking in_moves p (logic.Sorting first) (logic.Sorting now) (Gots is) (o.sent ∷ []) (Wants is) (o.want ∷ []) (o.wire.shut ∷ [])
 
   sorted_ask : (i j : InPort) (c d : Inflow) (p : ℕ) → Flows (Views (i ∷ j ∷ [])) (Gots (i ∷ j ∷ [])) (c ∷ d ∷ []) → SortedEarlier (i ∷ j ∷ []) p → SortedAsk p (sorting.from sorted.nowhere (map flow (c ∷ d ∷ []))) (slice_index_or (Wants (i ∷ j ∷ [])) p 0) (elements o.sent)
   sorted_ask i j c d p w e = by e.old e.row_held e.law_held
@@ -183,7 +183,7 @@ module _ (first now : Pairing) (o : OutPort) where
           given_on (h ∷ []) b = elements_prefix h o.sent b.0
           given_on (h ∷ k ∷ hs) b = absurd b.1
 
-      at : (l : Pairing) → InRow (logic.Sorting l) e.knew → InLaw (logic.Sorting first) (logic.Sorting l) e.knew e.had e.given → Merge p (sorting.from sorted.nowhere (map flow (c ∷ d ∷ []))) e.had e.given
+      at : (l : Pairing) → InPortState (logic.Sorting l) e.knew → InLaw (logic.Sorting first) (logic.Sorting l) e.knew e.had e.given → Merge p (sorting.from sorted.nowhere (map flow (c ∷ d ∷ []))) e.had e.given
       at l r law =
           let flows = law_flows (FanKeeps sorting sorted.nowhere (sorted.held l)) e.knew e.had e.given law.by in
           two law.by.law.ins refl e.had refl flows e.took_on
@@ -205,7 +205,7 @@ module _ (first now : Pairing) (o : OutPort) where
               ports (x ∷ y ∷ []) (a ∷ m ∷ g ∷ gs) ge f = absurd f.1.1
               ports (x ∷ y ∷ z ∷ xs) (a ∷ m ∷ gs) ge f = absurd f.1.1
 
-      by : (old : InLogic) → InRow old e.knew → InLaw (logic.Sorting first) old e.knew e.had e.given → SortedAsk p (sorting.from sorted.nowhere (map flow (c ∷ d ∷ []))) (slice_index_or (Wants (i ∷ j ∷ [])) p 0) (elements o.sent)
+      by : (old : InLogic) → InPortState old e.knew → InLaw (logic.Sorting first) old e.knew e.had e.given → SortedAsk p (sorting.from sorted.nowhere (map flow (c ∷ d ∷ []))) (slice_index_or (Wants (i ∷ j ∷ [])) p 0) (elements o.sent)
       by (logic.Sorting l) r law = from (at l r law)
       by (logic.Taking l) r law = absurd law.same
       by (logic.Merging l) r law = absurd law.same
@@ -225,10 +225,10 @@ module _ (first now : Pairing) (o : OutPort) where
   sorted_two : (is : List InPort) (p : ℕ) → SortedEarlier is p → length is ≡ 2
   sorted_two is p e = by e.old e.row_held e.law_held
     where
-      by : (old : InLogic) → InRow old e.knew → InLaw (logic.Sorting first) old e.knew e.had e.given → length is ≡ 2
+      by : (old : InLogic) → InPortState old e.knew → InLaw (logic.Sorting first) old e.knew e.had e.given → length is ≡ 2
       by (logic.Sorting l) r law =
           let waits = pair_waits sorted.Sound l e.knew p r.started r.row e.waited in
-          let row = subst (λ f. row_by sorted.Sound f l e.knew) waits.is_open r.row in
+          let row = subst (λ f. port_state_by sorted.Sound f l e.knew) waits.is_open r.row in
           let ins = ap (λ (v : port.View). length v.ins) row.0 in
           let ports = law.by.ports in
           let had = begun_length e.had (Gots is) e.took_on in
@@ -281,7 +281,7 @@ module _ (first now : Pairing) (o : OutPort) where
   ZipNow is = InLaw (logic.Zipping first) (logic.Zipping now) (InView_of is o) (Gots is) (o.sent ∷ [])
 
   abbrev ZipEarlier : List InPort → ℕ → Type 0
-  ZipEarlier is p = Earlier InRow InLaw NoAsking in_moves p (logic.Zipping first) (logic.Zipping now) (Gots is) (o.sent ∷ []) (Wants is) (o.want ∷ []) (o.wire.shut ∷ [])
+  ZipEarlier is p = Earlier InPortState InLaw NoAsking in_moves p (logic.Zipping first) (logic.Zipping now) (Gots is) (o.sent ∷ []) (Wants is) (o.want ∷ []) (o.wire.shut ∷ [])
 
   -- what it had given when it asked there is all that had come there
   zip_gave : (l : Pairing) (p : ℕ) (xs : List InView) (hs : List (List Item)) (fs : List Inflow) (g : List Tree) (f : End) → Waits l p → ZipKeeps (zip.waits (inlet_flow l.left) (inlet_flow l.right)) fs g f → Flows xs hs fs → elements (slice_index_or hs p []) ≡ length g
@@ -327,7 +327,7 @@ module _ (first now : Pairing) (o : OutPort) where
       given_on (h ∷ []) b = elements_prefix h o.sent b.0
       given_on (h ∷ k ∷ hs) b = absurd b.1
 
-      by : (old : InLogic) → InRow old e.knew → InLaw (logic.Zipping first) old e.knew e.had e.given → slice_index_or (Wants is) p 0 ≤ elements o.sent + 1
+      by : (old : InLogic) → InPortState old e.knew → InLaw (logic.Zipping first) old e.knew e.had e.given → slice_index_or (Wants is) p 0 ≤ elements o.sent + 1
       by (logic.Zipping l) r law =
           let waits = pair_waits zipping.Sound l e.knew p r.started r.row e.waited in
           let keeps = subst (λ f. ZipKeeps (zipping.held_by f l) law.by.law.ins law.by.law.out_list law.by.law.out_end) waits.is_open law.by.law.keeps in

@@ -27,7 +27,7 @@ use Rattle.stage_merge.specs.Mergings.{Merging, of_port, waiting, place, places}
 use Rattle.stage_merge.proofs.MergeNodes.{moves_held}
 use Rattle.stage_in.specs.declared.logic.InLogic.{InLogic}
 use Rattle.stage_in.specs.declared.logic.InLogic.TheVariants as logic
-use Rattle.stage_in.specs.Logics.{InRow, InLaw}
+use Rattle.stage_in.specs.Logics.{InPortState, InLaw}
 use Rattle.stage_in.specs.Moves.{in_moves}
 use Rattle.run_account.specs.Account.{Earlier}
 use Rattle.run_account.specs.Ports.{InPort, OutPort, EachPort, InStands, OutStands}
@@ -93,11 +93,11 @@ waiting_none n zero (b ∷ over) q e = place_empty b (of_port n q) e
 waiting_none n (suc p) (b ∷ over) q e = waiting_none (n + 1) p over q e
 
 -- where an input waits all that came there went out
-merge_whole : (first l : Merging) (v : port.View) (had given : List (List Item)) (p : ℕ) → (l.core.phase ≡ New → ⊥) → merging.row l v → InLaw (logic.Merging first) (logic.Merging l) v had given → in_at v p ≡ Pulled
+merge_whole : (first l : Merging) (v : port.View) (had given : List (List Item)) (p : ℕ) → (l.core.phase ≡ New → ⊥) → merging.port_state l v → InLaw (logic.Merging first) (logic.Merging l) v had given → in_at v p ≡ Pulled
     → elements (slice_index_or had p []) ≡ count_of p l.log.moves
 merge_whole first l v had given p started r law waits = by l.core.phase refl r
   where
-    by : (x : Phase) → l.core.phase ≡ x → merging.row_by x l.core v → elements (slice_index_or had p []) ≡ count_of p l.log.moves
+    by : (x : Phase) → l.core.phase ≡ x → merging.port_state_by x l.core v → elements (slice_index_or had p []) ≡ count_of p l.log.moves
     by New e r = absurd (started e)
     by Closed e r = absurd (closed_wait v.ins p r.0 waits)
     by Open e r =
@@ -137,10 +137,10 @@ module _ (first now : Merging) (is : List InPort) (o : OutPort) (law : InLaw (lo
       subst (λ ms. MergeStands ms law.by.law.ins law.by.law.out_list law.by.law.out_end) (moves_held now)
       (merge_history_stands (merging.held now) (InView_of is o) (λ i. slice_index_or (Gots is) i []) law.by.given law.by.law)
 
-  asked : (p : ℕ) → Earlier InRow InLaw NoAsking in_moves p (logic.Merging first) (logic.Merging now) (Gots is) (o.sent ∷ []) (Wants is) (o.want ∷ []) (o.wire.shut ∷ []) → slice_index_or (Wants is) p 0 ≤ count_of p now.log.moves + 1
+  asked : (p : ℕ) → Earlier InPortState InLaw NoAsking in_moves p (logic.Merging first) (logic.Merging now) (Gots is) (o.sent ∷ []) (Wants is) (o.want ∷ []) (o.wire.shut ∷ []) → slice_index_or (Wants is) p 0 ≤ count_of p now.log.moves + 1
   asked p e = by e.old e.row_held e.law_held e.moves_on
     where
-      by : (old : InLogic) → InRow old e.knew → InLaw (logic.Merging first) old e.knew e.had e.given → IsPrefix (in_moves old) now.log.moves → slice_index_or (Wants is) p 0 ≤ count_of p now.log.moves + 1
+      by : (old : InLogic) → InPortState old e.knew → InLaw (logic.Merging first) old e.knew e.had e.given → IsPrefix (in_moves old) now.log.moves → slice_index_or (Wants is) p 0 ≤ count_of p now.log.moves + 1
       by (logic.Taking l) r law on = absurd law.same
       by (logic.Sorting l) r law on = absurd law.same
       by (logic.Zipping l) r law on = absurd law.same

@@ -38,7 +38,7 @@ use Rattle.stage_out.specs.Copies.{quiet_count, input_by}
 use Rattle.stage_out.specs.Copies as copies
 use Rattle.stage_out.specs.CopyStates.{CopyLogic, part_by}
 use Rattle.stage_out.specs.CopyStates as copy
-use Rattle.stage_out.specs.Machines.{row, outlets, owed, rests_as, Begins, IsMachines, IsAlike, no_stage, copiers, number_starts, outputs_of}
+use Rattle.stage_out.specs.Machines.{port_state, outlets, owed, rests_as, Begins, IsMachines, IsAlike, no_stage, copiers, number_starts, outputs_of}
 use Rattle.stage_out.specs.MachineNodes.{MachinesLaw}
 use Rattle.stage_out.specs.OwnRows.{own_ins, own_outs}
 use Rattle.stage_out.specs.PartitionStates.{PartitionLogic, Holding, input_of, dues, held_of, then_of}
@@ -66,7 +66,7 @@ abbrev pub Now : OutMachines → OutMachines → InPort → List OutPort → Typ
 Now first now i os = MachinesLaw first now (OutView_of i os) (i.got ∷ []) (Sents os)
 
 abbrev pub Then : OutMachines → OutMachines → InPort → List OutPort → Type 0
-Then first now i os = Earlier row MachinesLaw NoAsking no_moves 0 first now (i.got ∷ []) (Sents os) (i.want ∷ []) (OutWants os) (Shuts os)
+Then first now i os = Earlier port_state MachinesLaw NoAsking no_moves 0 first now (i.got ∷ []) (Sents os) (i.want ∷ []) (OutWants os) (Shuts os)
 
 -- an input of one that has closed its ports does not wait
 closed_wait : (xs : List InView) → OneInClosed xs → slice_index_or xs 0 Cancelled ≡ Pulled → ⊥
@@ -135,10 +135,10 @@ module _ (book : Book) (first now : OutMachines) (i : InPort) (os : List OutPort
   given_ports : length e.given ≡ length os
   given_ports = began_length e.given (Sents os) e.gave_on ∙ length-map os (λ (o : OutPort). o.sent)
 
-  copy_ask : (l : CopyLogic) → copy.row l e.knew → MachinesLaw first (Copies l) e.knew e.had e.given → CopyAsk first now i os e
+  copy_ask : (l : CopyLogic) → copy.port_state l e.knew → MachinesLaw first (Copies l) e.knew e.had e.given → CopyAsk first now i os e
   copy_ask l r law = by l.live refl r
     where
-      by : (b : Bool) → l.live ≡ b → copy.row_by b l e.knew → CopyAsk first now i os e
+      by : (b : Bool) → l.live ≡ b → copy.port_state_by b l e.knew → CopyAsk first now i os e
       by false is r = absurd (closed_wait e.knew.ins r.0 e.waited)
       by true is r =
           let s = r.1 in
@@ -164,7 +164,7 @@ module _ (book : Book) (first now : OutMachines) (i : InPort) (os : List OutPort
             shut = λ j a. e.shut_on j (subst (λ (ys : List OutView). OutClosed (slice_index_or ys j Closed)) (sym outs) a);
           }
 
-  copy_ask_of : (f : CopyLogic) → first ≡ Copies f → (old : OutMachines) → row old e.knew → MachinesLaw first old e.knew e.had e.given → CopyAsk first now i os e
+  copy_ask_of : (f : CopyLogic) → first ≡ Copies f → (old : OutMachines) → port_state old e.knew → MachinesLaw first old e.knew e.had e.given → CopyAsk first now i os e
   copy_ask_of f is (Copies l) r law = copy_ask l r law
   copy_ask_of f is (Deals l) r law = absurd (subst (λ x. IsAlike x (Deals l)) is law.alike)
 
@@ -203,7 +203,7 @@ module _ (book : Book) (f l : CopyLogic) (i : InPort) (os : List OutPort) (law :
         (all_sent (outlets book (Copies l)) os 0 (OutView_of i os) law.taken c.list c.list c.end (λ j. length c.list) (copiers_most (part_by l.halves) l.live 0 l.outs c.list) (lists_now book (Copies f) (Copies l) i os law some) c.is (prefix_refl c.list) so)
   ]
 
-  copies_lawful : ((p : ℕ) → 1 ≤ slice_index_or (i.want ∷ []) p 0 → Moments row MachinesLaw NoAsking no_moves (Copies f) (Copies l) (i ∷ []) os p) → BroadcastLawful i.wire (OutWires os)
+  copies_lawful : ((p : ℕ) → 1 ≤ slice_index_or (i.want ∷ []) p 0 → Moments port_state MachinesLaw NoAsking no_moves (Copies f) (Copies l) (i ∷ []) os p) → BroadcastLawful i.wire (OutWires os)
   copies_lawful moments = (copies_sent, asked (some_or_none (demand i.wire)), λ all. most (some_or_none (demand i.wire)))
     where
       then : 1 ≤ demand i.wire → Then (Copies f) (Copies l) i os
@@ -271,10 +271,10 @@ module _ (book : Book) (node n : ℕ) (f : MapFn) where
   holds_none l (Some t) r w = let no : true ≡ false = sym w ∙ r.0 in cc
 
   module _ (first now : OutMachines) (i : InPort) (os : List OutPort) (si : InStands i) (started : Started first) (lasts : 1 ≤ n) (got_list : List Tree) (got_end : End) (got : i.got ≡ told got_list got_end) (e : Then first now i os) where
-    deal_ask : (l : PartitionLogic) → part.row l e.knew → MachinesLaw first (Deals l) e.knew e.had e.given → DealAsk first now i os e
+    deal_ask : (l : PartitionLogic) → part.port_state l e.knew → MachinesLaw first (Deals l) e.knew e.had e.given → DealAsk first now i os e
     deal_ask l r law = by l.live refl r
       where
-        by : (b : Bool) → l.live ≡ b → part.row_by b l e.knew → DealAsk first now i os e
+        by : (b : Bool) → l.live ≡ b → part.port_state_by b l e.knew → DealAsk first now i os e
         by false is r = absurd (closed_wait e.knew.ins r.0 e.waited)
         by true is r =
             let s = r.1 in
@@ -305,7 +305,7 @@ module _ (book : Book) (node n : ℕ) (f : MapFn) where
               shut = λ j a. e.shut_on j (subst (λ (ys : List OutView). OutClosed (slice_index_or ys j Closed)) (sym outs) a);
             }
 
-    deal_ask_of : (g : PartitionLogic) → first ≡ Deals g → (old : OutMachines) → row old e.knew → MachinesLaw first old e.knew e.had e.given → DealAsk first now i os e
+    deal_ask_of : (g : PartitionLogic) → first ≡ Deals g → (old : OutMachines) → port_state old e.knew → MachinesLaw first old e.knew e.had e.given → DealAsk first now i os e
     deal_ask_of g is (Deals l) r law = deal_ask l r law
     deal_ask_of g is (Copies l) r law = absurd (subst (λ x. IsAlike x (Copies l)) is law.alike)
 
@@ -319,7 +319,7 @@ module _ (book : Book) (node n : ℕ) (f : MapFn) where
     deals_some : 1 ≤ length (owed (Deals l))
     deals_some = let all = owed_all (Deals g) (Deals l) started law.outputs in omega (arith, all, lasts)
 
-    deals_lawful : ((p : ℕ) → 1 ≤ slice_index_or (i.want ∷ []) p 0 → Moments row MachinesLaw NoAsking no_moves (Deals g) (Deals l) (i ∷ []) os p) → PartitionLawful (λ j k. number_count book node n f k j) i.wire (OutWires os)
+    deals_lawful : ((p : ℕ) → 1 ≤ slice_index_or (i.want ∷ []) p 0 → Moments port_state MachinesLaw NoAsking no_moves (Deals g) (Deals l) (i ∷ []) os p) → PartitionLawful (λ j k. number_count book node n f k j) i.wire (OutWires os)
     deals_lawful moments = (both_parts i.wire 0 os sent before, total_by)
       where
         c : Came (OutView_of i os) law.taken
@@ -381,7 +381,7 @@ module _ (i : InPort) (os : List OutPort) (si : InStands i) (so : EachPort OutSt
   moved (Copies l) h = broadcast_rests i os si ri so ro h
   moved (Deals l) h = partition_rests i os si ri so ro h
 
-  out_stays : (book : Book) (first now : OutMachines) (law : Now first now i os) → 1 ≤ length (owed now) → row now (OutView_of i os) → (EachWire IsShut (i.wire ∷ []) × EachWire IsShut (OutWires os)) ⊎ rests_as first (i.wire ∷ []) (OutWires os)
+  out_stays : (book : Book) (first now : OutMachines) (law : Now first now i os) → 1 ≤ length (owed now) → port_state now (OutView_of i os) → (EachWire IsShut (i.wire ∷ []) × EachWire IsShut (OutWires os)) ⊎ rests_as first (i.wire ∷ []) (OutWires os)
   out_stays book first now law some r =
       let c = came_now book first now i os law some in
       let s = stage_rests book now (OutView_of i os) law.taken (λ j. slice_index_or (Sents os) j []) c.list c.end r c.is (law.law book) in
@@ -400,21 +400,21 @@ module _ (i : InPort) (os : List OutPort) (si : InStands i) (so : EachPort OutSt
 pub some_outputs : (k : ℕ) (kd : Kind) (first now : OutMachines) → IsMachines kd → Begins k kd first → length (owed now) ≡ length (owed first) → 1 ≤ length (owed now)
 some_outputs k kd first now ok b e = by kd ok b.ready
   where
-    some_at : (n : ℕ) → 2 ≤ n → row first (unpulled_outs n) → 1 ≤ length (owed now)
+    some_at : (n : ℕ) → 2 ≤ n → port_state first (unpulled_outs n) → 1 ≤ length (owed now)
     some_at n two r =
         let p = live_ports first (unpulled_outs n) b.live r in
         let many : length (replicate n Unpulled) ≡ length (owed first) = p.outs in
         let is = length-replicate n Unpulled in
         omega (arith, many, is, two, e)
 
-    by : (kd : Kind) → IsMachines kd → row first (unpulled_outs (outputs_of kd)) → 1 ≤ length (owed now)
+    by : (kd : Kind) → IsMachines kd → port_state first (unpulled_outs (outputs_of kd)) → 1 ≤ length (owed now)
     by (Broadcast n) ok r = some_at n ok.0 r
     by (Partition n f) ok r = some_at n ok.0 r
     by Unzip ok r = some_at 2 (omega arith) r
     by x ok r = absurd ok
 
 module _ (g : Graph) (w : World) (k : ℕ) (d : Decider) (i : InPort) (os : List OutPort) where
-  lawful_by : (kd : Kind) (first now : OutMachines) → IsMachines kd → Begins k kd first → Now first now i os → InStands i → EachPort OutStands os → ((p : ℕ) → 1 ≤ slice_index_or (i.want ∷ []) p 0 → Moments row MachinesLaw NoAsking no_moves first now (i ∷ []) os p)
+  lawful_by : (kd : Kind) (first now : OutMachines) → IsMachines kd → Begins k kd first → Now first now i os → InStands i → EachPort OutStands os → ((p : ℕ) → 1 ≤ slice_index_or (i.want ∷ []) p 0 → Moments port_state MachinesLaw NoAsking no_moves first now (i ∷ []) os p)
       → RowLawful g w k kd d (i.wire ∷ []) (OutWires os)
   lawful_by (Broadcast n) (Copies f) (Copies l) ok b law si so m = copies_lawful w.book f l i os law si so m
   lawful_by Unzip (Copies f) (Copies l) ok b law si so m = copies_lawful w.book f l i os law si so m
@@ -434,8 +434,8 @@ no_sink Unzip ok = refl
 no_sink kd ok = absurd ok
 
 module _ (g : Graph) (w : World) (k : ℕ) (n : graph.Node) where
-  pub machines_picture : (first now : OutMachines) (is : List InPort) (os : List OutPort) → IsMachines n.kind → Begins k n.kind first → row now (record { ins = map (λ (i : InPort). i.view) is; outs = map (λ (o : OutPort). o.view) os })
-      → MachinesLaw first now (record { ins = map (λ (i : InPort). i.view) is; outs = map (λ (o : OutPort). o.view) os }) (map (λ (i : InPort). i.got) is) (Sents os) → PictureLaws row MachinesLaw NoAsking no_moves never_ends g w k n first now is os
+  pub machines_picture : (first now : OutMachines) (is : List InPort) (os : List OutPort) → IsMachines n.kind → Begins k n.kind first → port_state now (record { ins = map (λ (i : InPort). i.view) is; outs = map (λ (o : OutPort). o.view) os })
+      → MachinesLaw first now (record { ins = map (λ (i : InPort). i.view) is; outs = map (λ (o : OutPort). o.view) os }) (map (λ (i : InPort). i.got) is) (Sents os) → PictureLaws port_state MachinesLaw NoAsking no_moves never_ends g w k n first now is os
   machines_picture first now [] os ok b r law = let none = law.took_is in absurd cc
   machines_picture first now (i ∷ j ∷ is) os ok b r law = let more = law.took_is in absurd cc
   machines_picture first now (i ∷ []) os ok b r law = record {

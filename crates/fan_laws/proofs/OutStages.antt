@@ -17,7 +17,7 @@ use Rattle.stage_out.specs.Machines as machines
 use Rattle.stage_out.specs.MachineNodes.{MachinesLaw}
 use Rattle.stage_out.specs.Machines.{IsMachines}
 use Rattle.stage_out.specs.Moves.{TellsMoves}
-use Rattle.stage_out.specs.OutLogics.{row, BeginsBalance, OutAsking, OutLaw, Begins}
+use Rattle.stage_out.specs.OutLogics.{port_state, BeginsBalance, OutAsking, OutLaw, Begins}
 use Rattle.run_account.specs.KindLaws.{HearsAll, PictureLaws, RunLaws}
 use Rattle.run_account.specs.Ports.{InPort, OutPort}
 use Rattle.fan_laws.specs.Unmoved.{NoAsking, no_moves, never_ends}
@@ -34,13 +34,13 @@ machines_same a b e = cc
 balance_same : (a b : Balancing) → ◌≡◌ {A = OutLogic} (Balances a) (Balances b) → a ≡ b
 balance_same a b e = cc
 
-machines_stand : (first : OutMachines) (old : OutLogic) (v : View) (took gave : List (List Item)) → row old v → OutLaw (Machines first) old v took gave
-    → Stands row OutLaw OutAsking no_moves no_moves machines.row MachinesLaw NoAsking Machines machines_same first old v took gave
+machines_stand : (first : OutMachines) (old : OutLogic) (v : View) (took gave : List (List Item)) → port_state old v → OutLaw (Machines first) old v took gave
+    → Stands port_state OutLaw OutAsking no_moves no_moves machines.port_state MachinesLaw NoAsking Machines machines_same first old v took gave
 machines_stand first (Machines l) v took gave r law = record { stage = l; is = refl; row_holds = r; law_holds = law; asking_holds = λ a. tt; moves_on = λ now on. on }
 machines_stand first (Balances l) v took gave r law = absurd law
 
-balance_stand : (first : Balancing) (old : OutLogic) (v : View) (took gave : List (List Item)) → row old v → OutLaw (Balances first) old v took gave
-    → Stands row OutLaw OutAsking no_moves no_moves balance.row BalancesAs BalanceAsking Balances balance_same first old v took gave
+balance_stand : (first : Balancing) (old : OutLogic) (v : View) (took gave : List (List Item)) → port_state old v → OutLaw (Balances first) old v took gave
+    → Stands port_state OutLaw OutAsking no_moves no_moves balance.port_state BalancesAs BalanceAsking Balances balance_same first old v took gave
 balance_stand first (Balances l) v took gave r law = record { stage = l; is = refl; row_holds = r; law_holds = law; asking_holds = λ a. a; moves_on = λ now on. on }
 balance_stand first (Machines l) v took gave r law = absurd law
 
@@ -50,19 +50,19 @@ module _ (g : Graph) (w : World) (k : ℕ) (n : graph.Node) where
   abbrev Views : List InPort → List OutPort → View
   Views is os = record { ins = map (λ (i : InPort). i.view) is; outs = map (λ (o : OutPort). o.view) os }
 
-  pub out_picture : (first now : OutLogic) (is : List InPort) (os : List OutPort) → Begins k n.kind first → TellsMoves w k now → row now (Views is os)
-      → OutLaw first now (Views is os) (map (λ (i : InPort). i.got) is) (map (λ (o : OutPort). o.sent) os) → PictureLaws row OutLaw OutAsking no_moves never_ends g w k n first now is os
+  pub out_picture : (first now : OutLogic) (is : List InPort) (os : List OutPort) → Begins k n.kind first → TellsMoves w k now → port_state now (Views is os)
+      → OutLaw first now (Views is os) (map (λ (i : InPort). i.got) is) (map (λ (o : OutPort). o.sent) os) → PictureLaws port_state OutLaw OutAsking no_moves never_ends g w k n first now is os
   out_picture (Machines f) (Machines l) is os b told r law =
       let p = machines_picture g w k n f l is os b.as_kind.0 b.as_kind.1 r law in
       record {
-        lawful = λ s so m. p.lawful s so (λ q some. moments_of row OutLaw OutAsking no_moves no_moves machines.row MachinesLaw NoAsking Machines machines_same f (machines_stand f) l is os q (m q some));
+        lawful = λ s so m. p.lawful s so (λ q some. moments_of port_state OutLaw OutAsking no_moves no_moves machines.port_state MachinesLaw NoAsking Machines machines_same f (machines_stand f) l is os q (m q some));
         rests = p.rests;
         matches = p.matches;
       }
   out_picture (Balances f) (Balances l) is os b told r law =
       let p = balance_picture g w k n f l is os b.as_kind (told l.log.moves refl) r law in
       record {
-        lawful = λ s so m. p.lawful s so (λ q some. moments_of row OutLaw OutAsking no_moves no_moves balance.row BalancesAs BalanceAsking Balances balance_same f (balance_stand f) l is os q (m q some));
+        lawful = λ s so m. p.lawful s so (λ q some. moments_of port_state OutLaw OutAsking no_moves no_moves balance.port_state BalancesAs BalanceAsking Balances balance_same f (balance_stand f) l is os q (m q some));
         rests = p.rests;
         matches = p.matches;
       }

@@ -10,12 +10,12 @@ ghost use Rattle.stream_model.specs.Graph as graph;
 ghost use Rattle.stream_model.specs.Node.{World};
 ghost use Rattle.stage_in.specs.declared.logic.InLogic.{InLogic};
 ghost use Rattle.stage_in.specs.Logics as stage_in;
-ghost use Rattle.stage_in.specs.Logics.{InRow, InLaw};
+ghost use Rattle.stage_in.specs.Logics.{InPortState, InLaw};
 ghost use Rattle.stage_in.specs.Moves.{in_moves, TellsMoves};
 ghost use Rattle.stage_out.specs.declared.logic.OutLogic.{OutLogic};
 ghost use Rattle.stage_out.specs.OutLogics as stage_out;
 ghost use Rattle.stage_out.specs.Moves as choice;
-ghost use Rattle.stage_out.specs.OutLogics.{row, OutAsking, OutLaw};
+ghost use Rattle.stage_out.specs.OutLogics.{port_state, OutAsking, OutLaw};
 ghost use Rattle.run_account.specs.KindLaws.{HearsAll, PictureLaws, RunLaws};
 ghost use Rattle.run_account.specs.Ports.{InPort, OutPort, views_of, gots_of, sents_of};
 ghost use Rattle.fan_laws.specs.Unmoved.{NoAsking, no_moves, never_ends};
@@ -23,14 +23,14 @@ ghost use Rattle.fan_laws.specs.Unmoved.{NoAsking, no_moves, never_ends};
 /// A concat, an interleave, a merge_sorted, a zip or a merge meets the rows of its kind: that of a lawful picture by the moments
 /// of its asks, that of a merge by its moves too, and where no event is left that of one that rests.
 pub fn a_node_with_several_inputs_tells_its_rows()
-    ensures { (g : Graph) (w : World) (k : ℕ) (n : graph.Node) (first now : InLogic) (is : List InPort) (os : List OutPort) → stage_in.Begins k n.kind n.decider first → TellsMoves w k now → InRow now (views_of is os)
-        → InLaw first now (views_of is os) (gots_of is) (sents_of os) → PictureLaws InRow InLaw NoAsking in_moves never_ends g w k n first now is os }
+    ensures { (g : Graph) (w : World) (k : ℕ) (n : graph.Node) (first now : InLogic) (is : List InPort) (os : List OutPort) → stage_in.Begins k n.kind n.decider first → TellsMoves w k now → InPortState now (views_of is os)
+        → InLaw first now (views_of is os) (gots_of is) (sents_of os) → PictureLaws InPortState InLaw NoAsking in_moves never_ends g w k n first now is os }
 {}
 
 /// A broadcast, an unzip or a partition does too; and a balance, where the world tells the moves that it recorded.
 pub fn a_node_with_several_outputs_tells_its_rows()
-    ensures { (g : Graph) (w : World) (k : ℕ) (n : graph.Node) (first now : OutLogic) (is : List InPort) (os : List OutPort) → stage_out.Begins k n.kind first → choice.TellsMoves w k now → row now (views_of is os)
-        → OutLaw first now (views_of is os) (gots_of is) (sents_of os) → PictureLaws row OutLaw OutAsking no_moves never_ends g w k n first now is os }
+    ensures { (g : Graph) (w : World) (k : ℕ) (n : graph.Node) (first now : OutLogic) (is : List InPort) (os : List OutPort) → stage_out.Begins k n.kind first → choice.TellsMoves w k now → port_state now (views_of is os)
+        → OutLaw first now (views_of is os) (gots_of is) (sents_of os) → PictureLaws port_state OutLaw OutAsking no_moves never_ends g w k n first now is os }
 {}
 
 /// Where what came in agrees with the outlooks of their inputs, the moves of such nodes fit, and what they gave agrees with the

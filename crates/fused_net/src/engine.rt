@@ -106,11 +106,11 @@ fn call<S: Stage>(
     acts: &mut Acts,
 ) -> Result<(), NoMemory>
     requires some { delivery_in event ≢ nothing }
-    requires meets { Meets (call_of (delivery_in event) ends) (S.rests node.old) }
+    requires meets { Meets (call_of (delivery_in event) ends) (S.port_state node.old) }
     requires empty { acts.old.items ≡ [] }
     requires room { most_acts ≤ acts.old.room }
-    ensures handles { OnOk result (Handles S.rests S.law (call_of (delivery_in event) ends) node.old node.new acts.new.items) }
-    ensures pulls { OnOk result (PullsAs (call_of (delivery_in event) ends) (S.rests node.old) (S.asking node.new) acts.new.items) }
+    ensures handles { OnOk result (Handles S.port_state S.law (call_of (delivery_in event) ends) node.old node.new acts.new.items) }
+    ensures pulls { OnOk result (PullsAs (call_of (delivery_in event) ends) (S.port_state node.old) (S.asking node.new) acts.new.items) }
     ensures grows { OnOk result (IsPrefix (S.moves node.old) (S.moves node.new)) }
     ensures passive { OnOk result (StaysPassive (S.passive node.old) (S.passive node.new) acts.new.items) }
     ensures gone { OnOk result (S.gone node.new ≡ S.gone node.old) }
@@ -141,7 +141,7 @@ impl<S: Stage> Engine<S> {
         requires wires { wires.items ≡ replicate (length ends.items) new_cell }
         requires ring { ring ≡ record { size = length ends.items; queue = [] } }
         requires fresh { (n : ℕ) (x : S) → slice_get nodes.items n ≡ Some x → S.fresh x (first_view (port_at ports.items n)) }
-        ensures starting { Starting S.rests S.law S.asking S.moves S.fresh result 0 }
+        ensures starting { Starting S.port_state S.law S.asking S.moves S.fresh result 0 }
         ensures nodes { result.nodes ≡ nodes.items }
         ensures firsts { result.firsts ≡ nodes.items }
         ensures ends { result.ends ≡ ends.items }
@@ -163,13 +163,13 @@ impl<S: Stage> Engine<S> {
 
     // Starts node n.
     fn start_at(&mut self, alloc: Global, n: usize, acts: &mut Acts) -> Result<(), NoMemory>
-        requires starting { Starting S.rests S.law S.asking S.moves S.fresh self.old n }
+        requires starting { Starting S.port_state S.law S.asking S.moves S.fresh self.old n }
         requires within { n < length self.old.nodes }
         requires few { all_asks self.old ≤ 4000000000 }
         requires kept { AllKept S.keeps self.old.firsts self.old.nodes }
         requires empty { acts.old.items ≡ [] }
         requires room { most_acts ≤ acts.old.room }
-        ensures starting { OnOk result (Starting S.rests S.law S.asking S.moves S.fresh self.new (n + 1)) }
+        ensures starting { OnOk result (Starting S.port_state S.law S.asking S.moves S.fresh self.new (n + 1)) }
         ensures on { OnOk result (GoesOn self.old self.new) }
         ensures asks { OnOk result (all_asks self.new ≤ all_asks self.old) }
         ensures gone { OnOk result (map S.gone self.new.nodes ≡ map S.gone self.old.nodes) }
@@ -185,11 +185,11 @@ impl<S: Stage> Engine<S> {
     /// Starts every node, in their order. Also after `NoMemory` each node is as it was handed in, or has kept what outlives
     /// its start, and the graph is only taken apart.
     pub fn start(&mut self, alloc: Global, acts: &mut Acts) -> Result<(), NoMemory>
-        requires starting { Starting S.rests S.law S.asking S.moves S.fresh self.old 0 }
+        requires starting { Starting S.port_state S.law S.asking S.moves S.fresh self.old 0 }
         requires few { all_asks self.old ≤ 4000000000 }
         requires empty { acts.old.items ≡ [] }
         requires room { most_acts ≤ acts.old.room }
-        ensures laws { OnOk result (Settled S.rests S.law S.asking S.moves self.new) }
+        ensures laws { OnOk result (Settled S.port_state S.law S.asking S.moves self.new) }
         ensures on { OnOk result (GoesOn self.old self.new) }
         ensures asks { OnOk result (all_asks self.new ≤ all_asks self.old) }
         ensures gone { OnOk result (map S.gone self.new.nodes ≡ map S.gone self.old.nodes) }
@@ -325,13 +325,13 @@ impl<S: Stage> Engine<S> {
     ) -> Result<(), NoMemory>
         requires some { delivery_in event ≢ nothing }
         requires within { n < length self.old.nodes }
-        requires meets { MeetsAt S.rests S.law (call_of (delivery_in event) ends) self.old n }
-        requires awaits { Awaits S.rests S.law (call_of (delivery_in event) ends) self.old n }
-        requires tells { TellsAsking S.rests S.law S.asking S.moves (call_of (delivery_in event) ends) self.old n }
+        requires meets { MeetsAt S.port_state S.law (call_of (delivery_in event) ends) self.old n }
+        requires awaits { Awaits S.port_state S.law (call_of (delivery_in event) ends) self.old n }
+        requires tells { TellsAsking S.port_state S.law S.asking S.moves (call_of (delivery_in event) ends) self.old n }
         requires few { all_asks self.old ≤ 4000000000 }
         requires empty { acts.old.items ≡ [] }
         requires room { most_acts ≤ acts.old.room }
-        ensures responds { OnOk result (Responds S.rests S.law S.asking S.moves self.old self.new n) }
+        ensures responds { OnOk result (Responds S.port_state S.law S.asking S.moves self.old self.new n) }
         ensures heard { OnOk result (HeardBy S.passive n self.old self.new) }
         ensures gone { OnOk result (map S.gone self.new.nodes ≡ map S.gone self.old.nodes) }
         ensures still { OnOk result (StandsStill S.passive self.old self.new) }
@@ -348,11 +348,11 @@ impl<S: Stage> Engine<S> {
     fn handle(&mut self, alloc: Global, w: u32, acts: &mut Acts) -> Result<bool, NoMemory>
         requires within { w < length self.old.wires }
         requires absent { holds self.old.queue w ≡ false }
-        requires laws { Settled S.rests S.law S.asking S.moves (before self.old w) }
+        requires laws { Settled S.port_state S.law S.asking S.moves (before self.old w) }
         requires few { all_asks self.old + 1 ≤ 4000000000 }
         requires empty { acts.old.items ≡ [] }
         requires room { most_acts ≤ acts.old.room }
-        ensures laws { OnOk result (Settled S.rests S.law S.asking S.moves self.new) }
+        ensures laws { OnOk result (Settled S.port_state S.law S.asking S.moves self.new) }
         ensures on { OnOk result (GoesOn self.old self.new) }
         ensures uses { OnOk result (Uses (before self.old w) self.new 1) }
         ensures gone { OnOk result (map S.gone self.new.nodes ≡ map S.gone self.old.nodes) }
@@ -389,11 +389,11 @@ impl<S: Stage> Engine<S> {
     // Handles one event.
     #[inline(always)]
     fn step(&mut self, alloc: Global, acts: &mut Acts) -> Result<Stepped, NoMemory>
-        requires laws { Settled S.rests S.law S.asking S.moves self.old }
+        requires laws { Settled S.port_state S.law S.asking S.moves self.old }
         requires few { all_asks self.old + 1 ≤ 4000000000 }
         requires empty { acts.old.items ≡ [] }
         requires room { most_acts ≤ acts.old.room }
-        ensures laws { OnOk result (Settled S.rests S.law S.asking S.moves self.new) }
+        ensures laws { OnOk result (Settled S.port_state S.law S.asking S.moves self.new) }
         ensures on { OnOk result (GoesOn self.old self.new) }
         ensures uses { IfOk result (λ went. Uses self.old self.new (unit_of went)) }
         ensures rest { IfOk result (λ went. went ≡ step.Rest → self.new.queue ≡ []) }
@@ -418,11 +418,11 @@ impl<S: Stage> Engine<S> {
     /// Handles at most `limit` events, one unit each, and fewer only where none is left. It answers how many. After `NoMemory`
     /// each node has kept what outlives that since the last moment between two events, and the graph is only taken apart.
     pub fn execute(&mut self, alloc: Global, limit: u32, acts: &mut Acts) -> Result<u32, NoMemory>
-        requires laws { Settled S.rests S.law S.asking S.moves self.old }
+        requires laws { Settled S.port_state S.law S.asking S.moves self.old }
         requires few { all_asks self.old + limit ≤ 4000000000 }
         requires empty { acts.old.items ≡ [] }
         requires room { most_acts ≤ acts.old.room }
-        ensures laws { OnOk result (Settled S.rests S.law S.asking S.moves self.new) }
+        ensures laws { OnOk result (Settled S.port_state S.law S.asking S.moves self.new) }
         ensures on { OnOk result (GoesOn self.old self.new) }
         ensures uses { IfOk result (λ used. Uses self.old self.new used) }
         ensures within { IfOk result (λ used. used ≤ limit) }
@@ -430,7 +430,7 @@ impl<S: Stage> Engine<S> {
         ensures gone { OnOk result (map S.gone self.new.nodes ≡ map S.gone self.old.nodes) }
         ensures still { OnOk result (StandsStill S.passive self.old self.new) }
         ensures acts { OnOk result (acts.new ≡ acts.old) }
-        ensures breaks { OnErr result (BreaksOff S.rests S.law S.asking S.moves S.keeps self.old self.new.nodes) }
+        ensures breaks { OnErr result (BreaksOff S.port_state S.law S.asking S.moves S.keeps self.old self.new.nodes) }
         ensures count { length self.new.nodes ≡ length self.old.nodes }
     {
         self.settle();
@@ -451,11 +451,11 @@ impl<S: Stage> Engine<S> {
         limit: u32,
         acts: &mut Acts,
     ) -> Result<Advance, NoMemory>
-        requires laws { Settled S.rests S.law S.asking S.moves self.old }
+        requires laws { Settled S.port_state S.law S.asking S.moves self.old }
         requires few { all_asks self.old + limit ≤ 4000000000 }
         requires empty { acts.old.items ≡ [] }
         requires room { most_acts ≤ acts.old.room }
-        ensures laws { OnOk result (Settled S.rests S.law S.asking S.moves self.new) }
+        ensures laws { OnOk result (Settled S.port_state S.law S.asking S.moves self.new) }
         ensures on { OnOk result (GoesOn self.old self.new) }
         ensures uses { IfOk result (λ a. Uses self.old self.new a.used) }
         ensures within { IfOk result (λ a. a.used ≤ limit) }
@@ -466,7 +466,7 @@ impl<S: Stage> Engine<S> {
         ensures acts { OnOk result (acts.new ≡ acts.old) }
         ensures none { IfOk result (λ a. a.used ≡ 0 → self.new ≡ self.old) }
         ensures heard { IfOk result (λ a. (w : ℕ) → a.heard ≡ Some w → (1 ≤ a.used) × (w < length self.new.wires)) }
-        ensures breaks { OnErr result (BreaksAside S.rests S.law S.asking S.moves S.gone S.passive S.keeps self.old self.new.nodes) }
+        ensures breaks { OnErr result (BreaksAside S.port_state S.law S.asking S.moves S.gone S.passive S.keeps self.old self.new.nodes) }
         ensures count { length self.new.nodes ≡ length self.old.nodes }
     {
         self.settle();
@@ -514,25 +514,25 @@ impl<S: Stage> Engine<S> {
 
     /// Hands out what waits at node n to leave the graph, first come first. It takes no memory and costs no unit.
     pub fn hand_out(&mut self, n: u32) -> Option<Item>
-        requires laws { Settled S.rests S.law S.asking S.moves self.old }
+        requires laws { Settled S.port_state S.law S.asking S.moves self.old }
         requires within { n < length self.old.nodes }
         ensures none { IfNone result ((self.new ≡ self.old) × AtNode self.old n (λ x. S.waits x ≡ [])) }
         ensures some { IfSome result (λ i. HandsAt S.gone S.waits self.old n (i ∷ []) self.new) }
         ensures on { GoesOn self.old self.new }
         ensures uses { Uses self.old self.new 0 }
-        ensures laws { Settled S.rests S.law S.asking S.moves self.new }
+        ensures laws { Settled S.port_state S.law S.asking S.moves self.new }
     {
         self.nodes[n as usize].hand_out()
     }
 
     /// Drops what waits at node n to leave the graph. It takes no memory and costs no unit.
     pub fn let_go(&mut self, n: u32)
-        requires laws { Settled S.rests S.law S.asking S.moves self.old }
+        requires laws { Settled S.port_state S.law S.asking S.moves self.old }
         requires within { n < length self.old.nodes }
         ensures hands { AtNode self.old n (λ x. HandsAt S.gone S.waits self.old n (S.waits x) self.new) }
         ensures on { GoesOn self.old self.new }
         ensures uses { Uses self.old self.new 0 }
-        ensures laws { Settled S.rests S.law S.asking S.moves self.new }
+        ensures laws { Settled S.port_state S.law S.asking S.moves self.new }
     {
         self.nodes[n as usize].let_go();
     }
@@ -540,13 +540,13 @@ impl<S: Stage> Engine<S> {
     /// Node n acts outside of its handlers, as the stage does where a lane comes in or goes out. The port rules allow the
     /// action, and the node's row and its law hold once it is done. It takes no memory and costs no unit.
     pub fn poke(&mut self, n: u32, act: Act)
-        requires laws { Settled S.rests S.law S.asking S.moves self.old }
+        requires laws { Settled S.port_state S.law S.asking S.moves self.old }
         requires within { n < length self.old.nodes }
-        requires may { IsMinded S.rests S.law self.old n (act ∷ []) }
+        requires may { IsMinded S.port_state S.law self.old n (act ∷ []) }
         requires tells { TellsPoked S.asking self.old n act }
         requires few { all_asks self.old ≤ 4000000000 }
         ensures after { self.new ≡ acted self.old n act }
-        ensures laws { Settled S.rests S.law S.asking S.moves self.new }
+        ensures laws { Settled S.port_state S.law S.asking S.moves self.new }
         ensures on { GoesOn self.old self.new }
         ensures uses { Uses self.old self.new 0 }
     {

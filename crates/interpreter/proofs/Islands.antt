@@ -4,7 +4,7 @@ use Rattle.std.proofs.lemmas.List.{length-map}
 use Rattle.std.proofs.lemmas.Option.{slice_get_within}
 use Rattle.port_core.specs.declared.view.InView.TheVariants.{Idle}
 use Rattle.port_core.specs.declared.view.OutView.TheVariants.{Unpulled}
-use Rattle.nodes.specs.Nodes.{node_fresh, node_row, node_law, node_asking, node_moves}
+use Rattle.nodes.specs.Nodes.{node_fresh, node_port_state, node_law, node_asking, node_moves}
 use Rattle.nodes.specs.declared.node.IslandNode.{IslandNode}
 use Rattle.nodes.specs.declared.node.IslandNode.TheVariants as node
 use Rattle.fused_net.specs.PortLists.{PortLists}
@@ -148,7 +148,7 @@ writers_cut (node.Entering x) xs = refl
 writers_cut (node.Leaving x) xs = refl
 
 -- an island that was started
-pub keeps_new : {S D L B : Type 0} (sources : S → SourceState) (drains : D → DrainState) (book : Book) (old new : Net (IslandNode S D L B)) → Settled node_row (node_law sources drains book) node_asking node_moves new → all_asks new ≤ all_asks old → all_asks old ≡ 0 → Keeps sources drains book new 0
+pub keeps_new : {S D L B : Type 0} (sources : S → SourceState) (drains : D → DrainState) (book : Book) (old new : Net (IslandNode S D L B)) → Settled node_port_state (node_law sources drains book) node_asking node_moves new → all_asks new ≤ all_asks old → all_asks old ≡ 0 → Keeps sources drains book new 0
 keeps_new sources drains book old new s h e = record { laws = s; asks = omega (arith, h, e); within = omega arith }
 
 -- the room is for these numbers of nodes and wires

@@ -6,7 +6,7 @@ use Rattle.stream_model.specs.declared.outcome.WireCount.{WireCount}
 use Rattle.stream_model.specs.declared.outcome.EndState.{EndState}
 use Rattle.wire_core.specs.Cell.{WireState}
 use Rattle.wire_core.specs.Counts.{elements}
-use Rattle.nodes.specs.Nodes.{node_row, node_law, node_asking, node_moves}
+use Rattle.nodes.specs.Nodes.{node_port_state, node_law, node_asking, node_moves}
 use Rattle.nodes.specs.declared.node.IslandNode.{IslandNode}
 use Rattle.nodes.specs.declared.node.IslandNode.TheVariants as node
 use Rattle.fused_net.specs.Net.{Net}
@@ -28,7 +28,7 @@ pub record Kept (S D L B : Type 0) : Type 0 where
 
 -- what an island keeps between two calls
 pub record Keeps {S D L B : Type 0} (sources : S → SourceState) (drains : D → DrainState) (book : Book) (net : Net (IslandNode S D L B)) (used : ℕ) : Type 0 where
-  pub laws : Settled node_row (node_law sources drains book) node_asking node_moves net
+  pub laws : Settled node_port_state (node_law sources drains book) node_asking node_moves net
   pub asks : all_asks net ≤ used
   pub within : used ≤ 4000000000
 

@@ -5,7 +5,7 @@ ghost use Rattle.fused_net.specs.Net.{wire_at};
 ghost use Rattle.fused_net.specs.Costs.{all_asks, Uses};
 ghost use Rattle.fused_net.specs.Outside.{BreaksAside, StandsStill, Untouched};
 ghost use Rattle.fused_net.specs.Queue.{most_chases};
-ghost use Rattle.nodes.specs.Nodes.{node_fresh, node_row, node_law, node_asking, node_moves, node_gone, node_passive, KeepsNode};
+ghost use Rattle.nodes.specs.Nodes.{node_fresh, node_port_state, node_law, node_asking, node_moves, node_gone, node_passive, KeepsNode};
 ghost use Rattle.interpreter.specs.Parts.{AreParts, AllBecome, ends_of, number_of, place_of};
 ghost use Rattle.interpreter.specs.Picks.{node_number, pick_of, with_picks, picks_of};
 ghost use Rattle.interpreter.specs.Seats.{with_seat, seats_of};
@@ -166,7 +166,7 @@ impl<S: Source, D: Drain, L: Logic, B: PlugBook> Island<S, D, L, B> {
         ensures uses { IfOk result (λ used. Uses self.old.net self.new.net used) }
         ensures within { IfOk result (λ used. used ≤ limit) }
         ensures rest { IfOk result (λ used. used < limit → self.new.net.queue ≡ []) }
-        ensures breaks { OnErr result (BreaksOff node_row (node_law S.state D.state B.lists) node_asking node_moves (KeepsNode S.state D.state) self.old.net self.new.net.nodes) }
+        ensures breaks { OnErr result (BreaksOff node_port_state (node_law S.state D.state B.lists) node_asking node_moves (KeepsNode S.state D.state) self.old.net self.new.net.nodes) }
     {
         self.broken = true;
         let used = self.engine.execute(alloc, limit, &mut self.acts)?;
@@ -194,7 +194,7 @@ impl<S: Source, D: Drain, L: Logic, B: PlugBook> Island<S, D, L, B> {
         ensures rest { IfOk result (λ a. a.used < limit → a.heard ≡ None → self.new.net.queue ≡ []) }
         ensures none { IfOk result (λ a. a.used ≡ 0 → self.new ≡ self.old) }
         ensures heard { IfOk result (λ a. (w : ℕ) → a.heard ≡ Some w → (1 ≤ a.used) × (w < length self.new.net.wires)) }
-        ensures breaks { OnErr result (BreaksAside node_row (node_law S.state D.state B.lists) node_asking node_moves node_gone node_passive (KeepsNode S.state D.state) self.old.net self.new.net.nodes) }
+        ensures breaks { OnErr result (BreaksAside node_port_state (node_law S.state D.state B.lists) node_asking node_moves node_gone node_passive (KeepsNode S.state D.state) self.old.net self.new.net.nodes) }
     {
         self.broken = true;
         let advance = self.engine.advance(alloc, limit, &mut self.acts)?;
@@ -369,7 +369,7 @@ fn assemble<S: Source, D: Drain, L: Logic, B: PlugBook>(
 ) -> Engine<IslandNode<S, D, L, B>>
     requires parts { AreParts parts.nodes.items parts.links.items }
     requires blank { IsBlank blank (map place_of parts.nodes.items) parts.links.items }
-    ensures starting { Starting node_row (node_law S.state D.state B.lists) node_asking node_moves node_fresh result 0 }
+    ensures starting { Starting node_port_state (node_law S.state D.state B.lists) node_asking node_moves node_fresh result 0 }
     ensures firsts { AllBecome parts.nodes.items result.firsts }
     ensures ends { result.ends ≡ map ends_of parts.links.items }
     ensures asks { all_asks result ≡ 0 }

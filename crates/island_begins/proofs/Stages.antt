@@ -4,7 +4,7 @@ use Rattle.std.proofs.Common.{◌≡◌, ◌≢◌, ℕ, zero, suc, ◌<◌, tru
 use Rattle.std.proofs.lemmas.List.{length-map}
 use Rattle.std.proofs.lemmas.Option.{slice_get_within}
 use Rattle.stream_io.specs.State.{SourceState, DrainState}
-use Rattle.nodes.specs.Nodes.{node_row, node_law, node_asking, node_moves}
+use Rattle.nodes.specs.Nodes.{node_port_state, node_law, node_asking, node_moves}
 use Rattle.fused_net.specs.declared.net.WireEnds.{WireEnds}
 use Rattle.fused_net.specs.Laws.{Settled}
 use Rattle.fused_net.specs.Net.{end_at, ports_at}
@@ -109,7 +109,7 @@ module _ {S D L B : Type 0} where
     pub way : way_out i u ≡ q
     pub begins : BeginsOut i.net (way_out i u)
 
-  module _ (sources : S → SourceState) (drains : D → DrainState) (book : Book) (ps : List (Seated S D L B)) (ls : List Link) (i : Kept S D L B) (parts : AreParts ps ls) (settled : Settled node_row (node_law sources drains book) node_asking node_moves i.net) (become : AllBecome ps i.net.firsts)
+  module _ (sources : S → SourceState) (drains : D → DrainState) (book : Book) (ps : List (Seated S D L B)) (ls : List Link) (i : Kept S D L B) (parts : AreParts ps ls) (settled : Settled node_port_state (node_law sources drains book) node_asking node_moves i.net) (become : AllBecome ps i.net.firsts)
       (ends : i.net.ends ≡ map ends_of ls) where
     end_is : (q : ℕ) (l : Link) → slice_get ls q ≡ Some l → end_at i.net.ends q ≡ ends_of l
     end_is q l at = ap (λ (es : List WireEnds). end_at es q) ends ∙ end_get ls q l at

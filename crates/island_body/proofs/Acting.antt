@@ -3,7 +3,7 @@ use Rattle.std.proofs.Common.{◌≡◌, inl, inr, ℕ, ◌+◌, ◌<◌, false,
 use Rattle.std.proofs.lemmas.List.{length-set}
 use Rattle.std.proofs.lemmas.Option.{slice_get_within}
 use Rattle.stream_io.specs.State.{SourceState, DrainState}
-use Rattle.nodes.specs.Nodes.{node_row, node_law, node_asking, node_moves, node_gone, node_passive, KeepsNode}
+use Rattle.nodes.specs.Nodes.{node_port_state, node_law, node_asking, node_moves, node_gone, node_passive, KeepsNode}
 use Rattle.fused_net.specs.Costs.{Uses}
 use Rattle.fused_net.specs.Laws.{Settled}
 use Rattle.fused_net.specs.Outside.{StandsStill, BreaksAside}
@@ -231,7 +231,7 @@ module _ {S D L B : Type 0} where
 -- ---- the island ran
 
 module _ {S D L B : Type 0} (sources : S → SourceState) (drains : D → DrainState) (book : Book) where
-  pub ran_stands : (b nb : Body S D L B) → Settled node_row (node_law sources drains book) node_asking node_moves b.island.net → Settled node_row (node_law sources drains book) node_asking node_moves nb.island.net → IslandGoes b.island nb.island → map node_gone nb.island.net.nodes ≡ map node_gone b.island.net.nodes → StandsStill node_passive b.island.net nb.island.net
+  pub ran_stands : (b nb : Body S D L B) → Settled node_port_state (node_law sources drains book) node_asking node_moves b.island.net → Settled node_port_state (node_law sources drains book) node_asking node_moves nb.island.net → IslandGoes b.island nb.island → map node_gone nb.island.net.nodes ≡ map node_gone b.island.net.nodes → StandsStill node_passive b.island.net nb.island.net
       → nb.island.broken ≡ false → nb.ins ≡ b.ins → nb.outs ≡ b.outs → nb.ways ≡ b.ways → BodyStands b → BodyStands nb
   ran_stands b nb before after goes gone still whole ins_is outs_is ways_is s = record {
     whole = whole;
@@ -241,7 +241,7 @@ module _ {S D L B : Type 0} (sources : S → SourceState) (drains : D → DrainS
   }
 
   -- memory was wanting as it ran
-  pub ran_breaks : (b nb : Body S D L B) → Settled node_row (node_law sources drains book) node_asking node_moves b.island.net → BreaksAside node_row (node_law sources drains book) node_asking node_moves node_gone node_passive (KeepsNode sources drains) b.island.net nb.island.net.nodes
+  pub ran_breaks : (b nb : Body S D L B) → Settled node_port_state (node_law sources drains book) node_asking node_moves b.island.net → BreaksAside node_port_state (node_law sources drains book) node_asking node_moves node_gone node_passive (KeepsNode sources drains) b.island.net nb.island.net.nodes
       → nb.ins ≡ b.ins → nb.outs ≡ b.outs → BodyStands b → BodyBreaks sources drains book b nb
   ran_breaks b nb before off ins_is outs_is s =
       let last : Kept S D L B = record b.island { net = off.breaks.last } in

@@ -2,7 +2,7 @@
 use Rattle.std.proofs.Common.{◌≡◌, ◌≢◌, inl, inr, ℕ, ◌+◌, List, None, Some, map, set, slice_get, refl, sym, ap, ◌∙◌, subst, arith}
 use Rattle.std.specs.Prelude.{Option}
 use Rattle.stream_io.specs.State.{SourceState, DrainState}
-use Rattle.nodes.specs.Nodes.{node_row, node_law, node_asking, node_moves, node_gone, node_passive}
+use Rattle.nodes.specs.Nodes.{node_port_state, node_law, node_asking, node_moves, node_gone, node_passive}
 use Rattle.fused_net.specs.Laws.{Settled}
 use Rattle.fused_net.specs.Outside.{StandsStill, Untouched}
 use Rattle.fused_net.proofs.Reading.{same_or_not}
@@ -214,7 +214,7 @@ module _ {S D L B : Type 0} where
 
 -- ---- the island runs
 
-module _ {S D L B : Type 0} (sources : S → SourceState) (drains : D → DrainState) (book : Book) (old new : Kept S D L B) (ins : List IslandInput) (outs : List OutputBoundary) (before : Settled node_row (node_law sources drains book) node_asking node_moves old.net) (after : Settled node_row (node_law sources drains book) node_asking node_moves new.net)
+module _ {S D L B : Type 0} (sources : S → SourceState) (drains : D → DrainState) (book : Book) (old new : Kept S D L B) (ins : List IslandInput) (outs : List OutputBoundary) (before : Settled node_port_state (node_law sources drains book) node_asking node_moves old.net) (after : Settled node_port_state (node_law sources drains book) node_asking node_moves new.net)
     (g : IslandGoes old new) (gone : map node_gone new.net.nodes ≡ map node_gone old.net.nodes) (still : StandsStill node_passive old.net new.net) (s : AllStand old ins outs) where
   enters_goes : (u : ℕ) → Enters old u → Enters new u
   enters_goes u l = record {

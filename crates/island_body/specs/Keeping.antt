@@ -3,7 +3,7 @@ use Rattle.std.specs.Prelude.{◌≡◌, ◌≢◌, ℕ, ◌+◌, ◌≤◌, Boo
 use Rattle.stream_io.specs.State.{SourceState, DrainState}
 use Rattle.fused_net.specs.Costs.{total}
 use Rattle.fused_net.specs.Laws.{Settled, AllKept}
-use Rattle.nodes.specs.Nodes.{node_row, node_law, node_asking, node_moves, KeepsNode}
+use Rattle.nodes.specs.Nodes.{node_port_state, node_law, node_asking, node_moves, KeepsNode}
 use Rattle.lane_core.specs.Ends.{IsSameIn, IsSameOut}
 use Rattle.interpreter.specs.Island.{Kept, Keeps}
 use Rattle.interpreter.specs.Boundary.{way_in, way_out}
@@ -75,7 +75,7 @@ module _ {S D L B : Type 0} where
   pub record BodyBreaks (sources : S → SourceState) (drains : D → DrainState) (book : Book) (old new : Body S D L B) : Type 0 where
     pub last : Kept S D L B
     pub island : IslandGoes old.island last
-    pub laws : Settled node_row (node_law sources drains book) node_asking node_moves last.net
+    pub laws : Settled node_port_state (node_law sources drains book) node_asking node_moves last.net
     pub stand : AllStand last new.ins.items new.outs.items
     pub kept : AllKept (KeepsNode sources drains) last.net.nodes new.island.net.nodes
     pub lanes : SameLanes old.ins.items new.ins.items old.outs.items new.outs.items

@@ -14,7 +14,7 @@ use Rattle.port_core.specs.declared.view.OutView.TheVariants as outlet
 use Rattle.wire_core.specs.Cell.{WireState, moved_by}
 use Rattle.wire_core.specs.Counts.{elements}
 use Rattle.wire_core.specs.Reading.{no_wire}
-use Rattle.nodes.specs.Nodes.{node_row, node_law, node_asking, node_moves, node_passive}
+use Rattle.nodes.specs.Nodes.{node_port_state, node_law, node_asking, node_moves, node_passive}
 use Rattle.fused_net.specs.Net.{wire_at}
 use Rattle.fused_net.specs.Laws.{Settled, GoesOn}
 use Rattle.fused_net.specs.Outside.{StandsStill, Untouched, IsElse}
@@ -170,7 +170,7 @@ module _ {S D L B : Type 0} (b : InputBoundary) (i : Kept S D L B) (u : ℕ) whe
   }
 
   -- where an output was asked, and may not push, a cancel is on its way
-  pub given_away : {sources : S → SourceState} {drains : D → DrainState} {book : Book} → Settled node_row (node_law sources drains book) node_asking node_moves i.net → Enters i u → wanted_at (cell_in i u) ≡ wanted.Quiet → HasGiven b i u
+  pub given_away : {sources : S → SourceState} {drains : D → DrainState} {book : Book} → Settled node_port_state (node_law sources drains book) node_asking node_moves i.net → Enters i u → wanted_at (cell_in i u) ≡ wanted.Quiet → HasGiven b i u
   given_away s en w e = inr (cancel_away (cell_in i u).wire _ (s.sound (way_in i u) en.place) e (wanted_quiet (cell_in i u).wire.out (can_push (cell_in i u).wire.conn) w).0)
 
   -- so few elements were handed on
@@ -202,7 +202,7 @@ module _ {S D L B : Type 0} (b : InputBoundary) (i : Kept S D L B) (u : ℕ) whe
   }
 
 -- where nothing was pushed yet, the stage has closed nothing
-pub feeds_begun : {S D L B : Type 0} (sources : S → SourceState) (drains : D → DrainState) (book : Book) (b : InputBoundary) (i : Kept S D L B) (u : ℕ) → Settled node_row (node_law sources drains book) node_asking node_moves i.net → Enters i u → (cell_in i u).wire.sent ≡ [] → given b ≡ [] → state b ≡ Flowing → Feeds b i u
+pub feeds_begun : {S D L B : Type 0} (sources : S → SourceState) (drains : D → DrainState) (book : Book) (b : InputBoundary) (i : Kept S D L B) (u : ℕ) → Settled node_port_state (node_law sources drains book) node_asking node_moves i.net → Enters i u → (cell_in i u).wire.sent ≡ [] → given b ≡ [] → state b ≡ Flowing → Feeds b i u
 feeds_begun sources drains book b i u s l none nothing flows =
     let g = gave_there sources drains book i.net s (way_in i u) l.place l.stage in
     let open_end : g.end ≡ unended = one_end g.list [] g.end unended (sym g.is ∙ none) in
@@ -254,7 +254,7 @@ module _ {S D L B : Type 0} (b : InputBoundary) (q n : ℕ) (old new : Kept S D 
 
 -- ---- while the island runs
 
-module _ {S D L B : Type 0} (sources : S → SourceState) (drains : D → DrainState) (book : Book) (b : InputBoundary) (old new : Kept S D L B) (u : ℕ) (before : Settled node_row (node_law sources drains book) node_asking node_moves old.net) (l : Enters old u) (ins : new.ins ≡ old.ins) (still : StandsStill node_passive old.net new.net) where
+module _ {S D L B : Type 0} (sources : S → SourceState) (drains : D → DrainState) (book : Book) (b : InputBoundary) (old new : Kept S D L B) (u : ℕ) (before : Settled node_port_state (node_law sources drains book) node_asking node_moves old.net) (l : Enters old u) (ins : new.ins ≡ old.ins) (still : StandsStill node_passive old.net new.net) where
   way_same : way_in new u ≡ way_in old u
   way_same = rw ins refl
 
@@ -262,7 +262,7 @@ module _ {S D L B : Type 0} (sources : S → SourceState) (drains : D → DrainS
   sent_same = rw way_same (still.sent (way_in old u) (passive_there sources drains book old.net before (way_in old u) l.place l.stage))
 
   -- what is kept stands while the island runs
-  module _ (after : Settled node_row (node_law sources drains book) node_asking node_moves new.net) (on : GoesOn old.net new.net) where
+  module _ (after : Settled node_port_state (node_law sources drains book) node_asking node_moves new.net) (on : GoesOn old.net new.net) where
     enters_new : Enters new u
     enters_new = record {
       row = rw ins l.row;

@@ -16,7 +16,7 @@ use Rattle.wire_core.specs.Counts.{elements, asked_bit, asks}
 use Rattle.wire_core.specs.Reading.{no_wire, out_of, sent_of}
 use Rattle.nodes.specs.declared.node.IslandNode.{IslandNode}
 use Rattle.nodes.specs.declared.node.IslandNode.TheVariants as node
-use Rattle.nodes.specs.Nodes.{node_row, node_law, node_asking, node_moves, node_passive}
+use Rattle.nodes.specs.Nodes.{node_port_state, node_law, node_asking, node_moves, node_passive}
 use Rattle.fused_net.specs.Net.{Net, read_all, end_at, wire_at, ports_at, view_of, took, gave}
 use Rattle.fused_net.specs.Laws.{Settled}
 use Rattle.fused_net.specs.Costs.{sum_below, all_asks}
@@ -98,7 +98,7 @@ module _ {S D L B : Type 0} (sources : S → SourceState) (drains : D → DrainS
   entering_passive x (node.Ignoring f) h v t g law = absurd h
   entering_passive x (node.Leaving f) h v t g law = absurd h
 
-  module _ (net : Net (IslandNode S D L B)) (s : Settled node_row (node_law sources drains book) node_asking node_moves net) (q : ℕ) (h : q < length net.wires) (stage : EntersAt net q) where
+  module _ (net : Net (IslandNode S D L B)) (s : Settled node_port_state (node_law sources drains book) node_asking node_moves net) (q : ℕ) (h : q < length net.wires) (stage : EntersAt net q) where
     abbrev from : ℕ
     from = (end_at net.ends q).from
 

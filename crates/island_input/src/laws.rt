@@ -1,6 +1,6 @@
 // Laws of an input boundary at its stage: the function has no body, and its contract is the law.
 ghost use Rattle.std.specs.Prelude.{◌≡◌, ◌≢◌, ℕ, Option, []};
-ghost use Rattle.nodes.specs.Nodes.{node_row, node_law, node_asking, node_moves, node_passive};
+ghost use Rattle.nodes.specs.Nodes.{node_port_state, node_law, node_asking, node_moves, node_passive};
 ghost use Rattle.fused_net.specs.Laws.{Settled, GoesOn};
 ghost use Rattle.fused_net.specs.Outside.{StandsStill, Untouched, IsElse};
 ghost use Rattle.lane_core.specs.Ends.{taken};
@@ -21,14 +21,14 @@ use stream_io::outside::{Drain, Source};
 /// its island runs (`ran`). One that has nothing to do has nothing to do after the other acted (`fed`), nor where nothing
 /// came off its lane (`same`), nor after the island ran to where it heard of nothing (`untouched`).
 pub fn an_input_boundary_stands<S: Source, D: Drain, L: Logic, B: PlugBook>()
-    ensures begins { (b : InputBoundary) (i : Kept S D L B) (u : ℕ) → Settled node_row (node_law S.state D.state B.lists) node_asking node_moves i.net → Enters i u → (cell_in i u).wire.sent ≡ [] → given b ≡ [] → state b ≡ Flowing → Feeds b i u }
+    ensures begins { (b : InputBoundary) (i : Kept S D L B) (u : ℕ) → Settled node_port_state (node_law S.state D.state B.lists) node_asking node_moves i.net → Enters i u → (cell_in i u).wire.sent ≡ [] → given b ≡ [] → state b ≡ Flowing → Feeds b i u }
     ensures enters { (q n : ℕ) (old new : Kept S D L B) (u : ℕ) → Beside q n old new → Enters old u → Enters new u }
     ensures looked { (b c : InputBoundary) (i : Kept S D L B) (u : ℕ) → given c ≡ given b → state c ≡ state b → Feeds b i u → Feeds c i u }
     ensures beside { (b : InputBoundary) (q n : ℕ) (old new : Kept S D L B) (u : ℕ) → Beside q n old new → way_in old u ≢ q → Feeds b old u → Feeds b new u }
     ensures fed { (b : InputBoundary) (q n : ℕ) (old new : Kept S D L B) (u : ℕ) → Beside q n old new → way_in old u ≢ q → IsFed b old u → IsFed b new u }
     ensures same { (b c : InputBoundary) (i : Kept S D L B) (u : ℕ) → taken c.lane ≡ taken b.lane → given c ≡ given b → waits c ≡ waits b → state c ≡ state b → IsFed b i u → IsFed c i u }
-    ensures ran { (b : InputBoundary) (old new : Kept S D L B) (u : ℕ) → Settled node_row (node_law S.state D.state B.lists) node_asking node_moves old.net → Settled node_row (node_law S.state D.state B.lists) node_asking node_moves new.net → Enters old u → GoesOn old.net new.net → new.ins ≡ old.ins
+    ensures ran { (b : InputBoundary) (old new : Kept S D L B) (u : ℕ) → Settled node_port_state (node_law S.state D.state B.lists) node_asking node_moves old.net → Settled node_port_state (node_law S.state D.state B.lists) node_asking node_moves new.net → Enters old u → GoesOn old.net new.net → new.ins ≡ old.ins
         → StandsStill node_passive old.net new.net → Feeds b old u → Feeds b new u }
-    ensures untouched { (b : InputBoundary) (old new : Kept S D L B) (u : ℕ) → Settled node_row (node_law S.state D.state B.lists) node_asking node_moves old.net → Enters old u → new.ins ≡ old.ins
+    ensures untouched { (b : InputBoundary) (old new : Kept S D L B) (u : ℕ) → Settled node_port_state (node_law S.state D.state B.lists) node_asking node_moves old.net → Enters old u → new.ins ≡ old.ins
         → StandsStill node_passive old.net new.net → (at : Option ℕ) → Untouched node_passive at old.net new.net → IsElse at (way_in old u) → IsFed b old u → IsFed b new u }
 {}

@@ -17,7 +17,7 @@ use Rattle.wire_core.specs.Cell.{WireState}
 use Rattle.wire_core.specs.Reading.{no_wire, inp_of, got_of}
 use Rattle.nodes.specs.declared.node.IslandNode.{IslandNode}
 use Rattle.nodes.specs.declared.node.IslandNode.TheVariants as node
-use Rattle.nodes.specs.Nodes.{node_row, node_law, node_asking, node_moves, node_gone, node_waits}
+use Rattle.nodes.specs.Nodes.{node_port_state, node_law, node_asking, node_moves, node_gone, node_waits}
 use Rattle.fused_net.specs.Net.{Net, read_all, end_at, wire_at, ports_at, view_of, took, gave}
 use Rattle.fused_net.specs.Laws.{Settled}
 use Rattle.fused_net.proofs.Reading.{get_there, read_at, some_same}
@@ -99,7 +99,7 @@ module _ {S D L B : Type 0} (sources : S → SourceState) (drains : D → DrainS
   took_by x (node.Ignoring f) h v t g i l y at inp law = absurd h
   took_by x (node.Entering f) h v t g i l y at inp law = absurd h
 
-  module _ (net : Net (IslandNode S D L B)) (s : Settled node_row (node_law sources drains book) node_asking node_moves net) (q : ℕ) (h : q < length net.wires) (stage : LeavesAt net q) where
+  module _ (net : Net (IslandNode S D L B)) (s : Settled node_port_state (node_law sources drains book) node_asking node_moves net) (q : ℕ) (h : q < length net.wires) (stage : LeavesAt net q) where
     abbrev to : ℕ
     to = (end_at net.ends q).to
 

@@ -154,7 +154,7 @@ module _ {S D L B : Type 0} where
   work_unused chains k n ss ds (work.FanIn l inputs) is =
       let b = is.begins in
       let same : fan_in.inputs_of n.kind ≡ inputs = sym (is.inputs_are ∙ (fan_in_ports n.kind is.is_in).0) in
-      record { fresh = b.fresh; row = subst (λ m. fan_in.row l (unpulled_ins m)) same b.ready }
+      record { fresh = b.fresh; row = subst (λ m. fan_in.port_state l (unpulled_ins m)) same b.ready }
   work_unused chains k n ss ds (work.FanOut l outputs) is =
       let b = is.begins in
       let same : fan_out.outputs_of n.kind ≡ outputs = sym (is.outputs_are ∙ (fan_out_ports n.kind is.is_out).1) in

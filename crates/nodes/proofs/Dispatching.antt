@@ -13,15 +13,15 @@ use Rattle.port_core.specs.Call.{Call, Meets, MayCome, pulls, arrives, cancels}
 use Rattle.stream_model.specs.Linear.{Book}
 use Rattle.stage_core.specs.Handling.{Starts, Handles}
 use Rattle.stream_io.specs.State.{SourceState, DrainState}
-use Rattle.stage_boundary.specs.Entering.{Entering, EnteringFresh, EnteringRow, EnteringLaw}
-use Rattle.stage_boundary.specs.Leaving.{Leaving, LeavingFresh, LeavingRow, LeavingLaw}
+use Rattle.stage_boundary.specs.Entering.{Entering, EnteringFresh, EnteringPortState, EnteringLaw}
+use Rattle.stage_boundary.specs.Leaving.{Leaving, LeavingFresh, LeavingPortState, LeavingLaw}
 use Rattle.nodes.specs.Ports.{OneIn, OneInOf, OneOut, OneOutOf}
-use Rattle.nodes.specs.Source.{Lines, lines_row, lines_row_in, LinesLaw}
-use Rattle.nodes.specs.Sink.{Sink, sink_row, sink_row_in, SinkLaw}
+use Rattle.nodes.specs.Source.{Lines, lines_port_state, lines_port_state_in, LinesLaw}
+use Rattle.nodes.specs.Sink.{Sink, sink_port_state, sink_port_state_in, SinkLaw}
 use Rattle.nodes.specs.declared.node.IslandNode.{IslandNode}
 use Rattle.nodes.specs.declared.node.IslandNode.TheVariants.{Reading, Making, Linear, State, Sub, FanIn, FanOut, Writing, Ignoring}
 use Rattle.nodes.specs.declared.node.IslandNode.TheVariants as node
-use Rattle.nodes.specs.Nodes.{node_fresh, node_row, node_law}
+use Rattle.nodes.specs.Nodes.{node_fresh, node_port_state, node_law}
 use Rattle.nodes.proofs.Acting.{on_ok_two}
 
 -- nothing comes to a port that is not there
@@ -66,10 +66,10 @@ asked_is P p m = asked_lists P p m.0.ins m.0.outs m.1.1 m.1.0
 module _ {S D : Type 0} (L B : Type 0) (sources : S → SourceState) (drains : D → DrainState) (book : Book) where
   -- what a node owes at a call, and at its start
   abbrev CallOf : Call → IslandNode S D L B → IslandNode S D L B → List Act → Type 0
-  CallOf call old new acts = Handles node_row (node_law sources drains book) call old new acts
+  CallOf call old new acts = Handles node_port_state (node_law sources drains book) call old new acts
 
   abbrev StartOf : IslandNode S D L B → IslandNode S D L B → List Act → Type 0
-  StartOf old new acts = Starts node_row (node_law sources drains book) node_fresh old new acts
+  StartOf old new acts = Starts node_port_state (node_law sources drains book) node_fresh old new acts
 
   -- a sink with a file
   writing_law : (first : IslandNode S D L B) (old new : Sink D) (v w : View) (took gave more given : List (List Item)) → ((f : Sink D) → SinkLaw drains f old v took gave → SinkLaw drains f new w more given)
@@ -86,16 +86,16 @@ module _ {S D : Type 0} (L B : Type 0) (sources : S → SourceState) (drains : D
   writing_law (node.Entering f) old new v w took gave more given keeps law = absurd law
   writing_law (node.Leaving f) old new v w took gave more given keeps law = absurd law
 
-  writing_at : (x : Item) (old new : Sink D) (acts : List Act) → Handles sink_row (SinkLaw drains) (arrives 0 x) old new acts → CallOf (arrives 0 x) (Writing old) (Writing new) acts
+  writing_at : (x : Item) (old new : Sink D) (acts : List Act) → Handles sink_port_state (SinkLaw drains) (arrives 0 x) old new acts → CallOf (arrives 0 x) (Writing old) (Writing new) acts
   writing_at x old new acts h = record {
     obeys = record { allowed = h.obeys.allowed; row = h.obeys.row };
     stands = h.stands;
     keeps = λ first v took gave a r law. writing_law first old new v _ took gave _ _ (λ f l. h.keeps f v took gave a r l) law;
   }
 
-  pub writing_handles : {T E : Type 0} (p : ℕ) (x : Item) (old new : Sink D) (acts : List Act) (r : Result T E) → Meets (arrives p x) (sink_row old) → OnOk r (Handles sink_row (SinkLaw drains) (arrives 0 x) old new acts)
+  pub writing_handles : {T E : Type 0} (p : ℕ) (x : Item) (old new : Sink D) (acts : List Act) (r : Result T E) → Meets (arrives p x) (sink_port_state old) → OnOk r (Handles sink_port_state (SinkLaw drains) (arrives 0 x) old new acts)
       → OnOk r (CallOf (arrives p x) (Writing old) (Writing new) acts)
-  writing_handles p x old new acts r m h = rw (port_is (sink_row_in old.started old.end) p x m) (on_ok_two r h h (λ a b. writing_at x old new acts a))
+  writing_handles p x old new acts r m h = rw (port_is (sink_port_state_in old.started old.end) p x m) (on_ok_two r h h (λ a b. writing_at x old new acts a))
 
   -- a source of lines
   reading_law : (first : IslandNode S D L B) (old new : Lines S) (v w : View) (took gave more given : List (List Item)) → ((f : Lines S) → LinesLaw sources f old v took gave → LinesLaw sources f new w more given)
@@ -112,20 +112,20 @@ module _ {S D : Type 0} (L B : Type 0) (sources : S → SourceState) (drains : D
   reading_law (node.Entering f) old new v w took gave more given keeps law = absurd law
   reading_law (node.Leaving f) old new v w took gave more given keeps law = absurd law
 
-  reading_at : (call : Call) (old new : Lines S) (acts : List Act) → Handles lines_row (LinesLaw sources) call old new acts → CallOf call (Reading old) (Reading new) acts
+  reading_at : (call : Call) (old new : Lines S) (acts : List Act) → Handles lines_port_state (LinesLaw sources) call old new acts → CallOf call (Reading old) (Reading new) acts
   reading_at call old new acts h = record {
     obeys = record { allowed = h.obeys.allowed; row = h.obeys.row };
     stands = h.stands;
     keeps = λ first v took gave a r law. reading_law first old new v _ took gave _ _ (λ f l. h.keeps f v took gave a r l) law;
   }
 
-  pub reading_cancelled : {T E : Type 0} (p : ℕ) (old new : Lines S) (acts : List Act) (r : Result T E) → Meets (cancels p) (lines_row old) → OnOk r (Handles lines_row (LinesLaw sources) (cancels 0) old new acts)
+  pub reading_cancelled : {T E : Type 0} (p : ℕ) (old new : Lines S) (acts : List Act) (r : Result T E) → Meets (cancels p) (lines_port_state old) → OnOk r (Handles lines_port_state (LinesLaw sources) (cancels 0) old new acts)
       → OnOk r (CallOf (cancels p) (Reading old) (Reading new) acts)
-  reading_cancelled p old new acts r m h = rw (out_is (lines_row_in old.phase) p m) (on_ok_two r h h (λ a b. reading_at (cancels 0) old new acts a))
+  reading_cancelled p old new acts r m h = rw (out_is (lines_port_state_in old.phase) p m) (on_ok_two r h h (λ a b. reading_at (cancels 0) old new acts a))
 
-  pub reading_asked : {T E : Type 0} (p : ℕ) (old new : Lines S) (acts : List Act) (r : Result T E) → Meets (pulls p) (lines_row old) → OnOk r (Handles lines_row (LinesLaw sources) (pulls 0) old new acts)
+  pub reading_asked : {T E : Type 0} (p : ℕ) (old new : Lines S) (acts : List Act) (r : Result T E) → Meets (pulls p) (lines_port_state old) → OnOk r (Handles lines_port_state (LinesLaw sources) (pulls 0) old new acts)
       → OnOk r (CallOf (pulls p) (Reading old) (Reading new) acts)
-  reading_asked p old new acts r m h = rw (asked_is (lines_row_in old.phase) p m) (on_ok_two r h h (λ a b. reading_at (pulls 0) old new acts a))
+  reading_asked p old new acts r m h = rw (asked_is (lines_port_state_in old.phase) p m) (on_ok_two r h h (λ a b. reading_at (pulls 0) old new acts a))
 
   -- the stage where a lane goes out
   leaving_law : (first : IslandNode S D L B) (old new : Leaving) (v w : View) (took gave more given : List (List Item)) → ((f : Leaving) → LeavingLaw f old v took gave → LeavingLaw f new w more given)
@@ -142,28 +142,28 @@ module _ {S D : Type 0} (L B : Type 0) (sources : S → SourceState) (drains : D
   leaving_law (node.Ignoring f) old new v w took gave more given keeps law = absurd law
   leaving_law (node.Entering f) old new v w took gave more given keeps law = absurd law
 
-  leaving_at : (call : Call) (old new : Leaving) (acts : List Act) → Handles LeavingRow LeavingLaw call old new acts → CallOf call (node.Leaving old) (node.Leaving new) acts
+  leaving_at : (call : Call) (old new : Leaving) (acts : List Act) → Handles LeavingPortState LeavingLaw call old new acts → CallOf call (node.Leaving old) (node.Leaving new) acts
   leaving_at call old new acts h = record {
     obeys = record { allowed = h.obeys.allowed; row = h.obeys.row };
     stands = h.stands;
     keeps = λ first v took gave a r law. leaving_law first old new v _ took gave _ _ (λ f l. h.keeps f v took gave a r l) law;
   }
 
-  pub leaving_handles : {T E : Type 0} (call : Call) (old new : Leaving) (acts : List Act) (r : Result T E) → OnOk r (Handles LeavingRow LeavingLaw call old new acts)
+  pub leaving_handles : {T E : Type 0} (call : Call) (old new : Leaving) (acts : List Act) (r : Result T E) → OnOk r (Handles LeavingPortState LeavingLaw call old new acts)
       → OnOk r (CallOf call (node.Leaving old) (node.Leaving new) acts)
   leaving_handles call old new acts r h = on_ok_two r h h (λ a b. leaving_at call old new acts a)
 
-  leaving_begins : (old new : Leaving) (acts : List Act) → Starts LeavingRow LeavingLaw LeavingFresh old new acts → StartOf (node.Leaving old) (node.Leaving new) acts
+  leaving_begins : (old new : Leaving) (acts : List Act) → Starts LeavingPortState LeavingLaw LeavingFresh old new acts → StartOf (node.Leaving old) (node.Leaving new) acts
   leaving_begins old new acts h = record { obeys = record { allowed = h.obeys.allowed; row = h.obeys.row }; stands = h.stands; begins = h.begins }
 
-  pub leaving_starts : {T E : Type 0} (old new : Leaving) (acts : List Act) (r : Result T E) → OnOk r (Starts LeavingRow LeavingLaw LeavingFresh old new acts)
+  pub leaving_starts : {T E : Type 0} (old new : Leaving) (acts : List Act) (r : Result T E) → OnOk r (Starts LeavingPortState LeavingLaw LeavingFresh old new acts)
       → OnOk r (StartOf (node.Leaving old) (node.Leaving new) acts)
   leaving_starts old new acts r h = on_ok_two r h h (λ a b. leaving_begins old new acts a)
 
   -- the stage where a lane comes in
-  entering_begins : (old new : Entering) (acts : List Act) → Starts EnteringRow EnteringLaw EnteringFresh old new acts → StartOf (node.Entering old) (node.Entering new) acts
+  entering_begins : (old new : Entering) (acts : List Act) → Starts EnteringPortState EnteringLaw EnteringFresh old new acts → StartOf (node.Entering old) (node.Entering new) acts
   entering_begins old new acts h = record { obeys = record { allowed = h.obeys.allowed; row = h.obeys.row }; stands = h.stands; begins = h.begins }
 
-  pub entering_starts : {T E : Type 0} (old new : Entering) (acts : List Act) (r : Result T E) → OnOk r (Starts EnteringRow EnteringLaw EnteringFresh old new acts)
+  pub entering_starts : {T E : Type 0} (old new : Entering) (acts : List Act) (r : Result T E) → OnOk r (Starts EnteringPortState EnteringLaw EnteringFresh old new acts)
       → OnOk r (StartOf (node.Entering old) (node.Entering new) acts)
   entering_starts old new acts r h = on_ok_two r h h (λ a b. entering_begins old new acts a)

@@ -5,13 +5,13 @@ use Rattle.elem_core.specs.declared.item.Item.{Item}
 use Rattle.port_core.specs.View.{View}
 use Rattle.stream_io.specs.State.{SourceState, DrainState}
 use Rattle.stream_model.specs.Linear.{Book}
-use Rattle.stage_linear.specs.Handling.{LinearFresh, LinearRow, LinearLaw}
-use Rattle.stage_state.specs.Handling.{StateFresh, StateRow, StateLaw}
+use Rattle.stage_linear.specs.Handling.{LinearFresh, LinearPortState, LinearLaw}
+use Rattle.stage_state.specs.Handling.{StateFresh, StatePortState, StateLaw}
 use Rattle.kill_core.specs.Public.{SeatState}
 use Rattle.stage_state.specs.Moves.{state_picks, state_seat}
 use Rattle.line_chain.specs.Line.{line_whole, line_rest, line_is_open}
-use Rattle.stage_sub.specs.Handling.{SubFresh, SubRow, SubLaw, sub_picks}
-use Rattle.stage_in.specs.Logics.{InFresh, InRow, InLaw}
+use Rattle.stage_sub.specs.Handling.{SubFresh, SubPortState, SubLaw, sub_picks}
+use Rattle.stage_in.specs.Logics.{InFresh, InPortState, InLaw}
 use Rattle.stage_in.specs.Moves.{in_picks}
 use Rattle.stage_out.specs.OutLogics.{OutFresh, OutAsking, OutLaw}
 use Rattle.stage_out.specs.OutLogics as out
@@ -20,14 +20,14 @@ use Rattle.nodes.specs.declared.node.IslandNode.{IslandNode}
 use Rattle.nodes.specs.declared.node.IslandNode.TheVariants.{Reading, Making, Linear, State, Sub, FanIn, FanOut, Writing, Ignoring, Entering, Leaving}
 use Rattle.nodes.specs.declared.node.NodeEnd.{NodeEnd}
 use Rattle.nodes.specs.declared.node.NodeEnd.TheVariants.{Read, Staged, Wrote}
-use Rattle.stage_boundary.specs.Entering.{EnteringFresh, EnteringRow, EnteringLaw}
-use Rattle.stage_boundary.specs.Leaving.{LeavingFresh, LeavingRow, LeavingLaw}
+use Rattle.stage_boundary.specs.Entering.{EnteringFresh, EnteringPortState, EnteringLaw}
+use Rattle.stage_boundary.specs.Leaving.{LeavingFresh, LeavingPortState, LeavingLaw}
 use Rattle.stage_core.specs.declared.phase.Phase.TheVariants.{New}
 use Rattle.nodes.specs.Keeping.{KeepsEnd}
-use Rattle.nodes.specs.Source.{LinesFresh, lines_row, LinesLaw}
-use Rattle.nodes.specs.Maker.{MadeFresh, made_row, MadeLaw}
-use Rattle.nodes.specs.Sink.{SinkFresh, sink_row, SinkLaw}
-use Rattle.nodes.specs.Ignoring.{IgnoreFresh, ignore_row, IgnoreLaw}
+use Rattle.nodes.specs.Source.{LinesFresh, lines_port_state, LinesLaw}
+use Rattle.nodes.specs.Maker.{MadeFresh, made_port_state, MadeLaw}
+use Rattle.nodes.specs.Sink.{SinkFresh, sink_port_state, SinkLaw}
+use Rattle.nodes.specs.Ignoring.{IgnoreFresh, ignore_port_state, IgnoreLaw}
 
 -- what one that was not started may know of its ports
 abbrev pub node_fresh : {S D L B : Type 0} → IslandNode S D L B → View → Type 0
@@ -44,18 +44,18 @@ node_fresh (Entering x) v = EnteringFresh x v
 node_fresh (Leaving x) v = LeavingFresh x v
 
 -- what one that was started may know of them between two calls
-abbrev pub node_row : {S D L B : Type 0} → IslandNode S D L B → View → Type 0
-node_row (Reading x) v = lines_row x v
-node_row (Making x) v = made_row x v
-node_row (Linear x) v = LinearRow x v
-node_row (State x) v = StateRow x v
-node_row (Sub x) v = SubRow line_rest line_is_open x v
-node_row (FanIn x) v = InRow x v
-node_row (FanOut x) v = out.row x v
-node_row (Writing x) v = sink_row x v
-node_row (Ignoring x) v = ignore_row x v
-node_row (Entering x) v = EnteringRow x v
-node_row (Leaving x) v = LeavingRow x v
+abbrev pub node_port_state : {S D L B : Type 0} → IslandNode S D L B → View → Type 0
+node_port_state (Reading x) v = lines_port_state x v
+node_port_state (Making x) v = made_port_state x v
+node_port_state (Linear x) v = LinearPortState x v
+node_port_state (State x) v = StatePortState x v
+node_port_state (Sub x) v = SubPortState line_rest line_is_open x v
+node_port_state (FanIn x) v = InPortState x v
+node_port_state (FanOut x) v = out.port_state x v
+node_port_state (Writing x) v = sink_port_state x v
+node_port_state (Ignoring x) v = ignore_port_state x v
+node_port_state (Entering x) v = EnteringPortState x v
+node_port_state (Leaving x) v = LeavingPortState x v
 
 -- what holds of the histories of its ports; its kind stays the same
 abbrev pub node_law : {S D L B : Type 0} → (S → SourceState) → (D → DrainState) → Book → IslandNode S D L B → IslandNode S D L B → View → List (List Item) → List (List Item) → Type 0

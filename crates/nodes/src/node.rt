@@ -1,7 +1,7 @@
 // A node of an island, whatever its kind is.
 ghost use Rattle.std.specs.Prelude.{◌≡◌, []};
 ghost use Rattle.std.specs.Option.{option_map};
-ghost use Rattle.nodes.specs.Nodes.{node_fresh, node_row, node_law, node_asking, node_moves, node_picks, node_seat, node_end, node_passive, node_gone, node_waits, KeepsNode};
+ghost use Rattle.nodes.specs.Nodes.{node_fresh, node_port_state, node_law, node_asking, node_moves, node_picks, node_seat, node_end, node_passive, node_gone, node_waits, KeepsNode};
 
 use crate::ignoring::IgnoreSink;
 use crate::maker::ValueSource;
@@ -95,7 +95,7 @@ impl<S: Source, D: Drain, L: Logic, B: PlugBook> IslandNode<S, D, L, B> {
 impl<S: Source, D: Drain, L: Logic, B: PlugBook> Stage for IslandNode<S, D, L, B> {
     ghost fresh = { node_fresh };
 
-    ghost rests = { node_row };
+    ghost port_state = { node_port_state };
 
     ghost law = { node_law S.state D.state B.lists };
 

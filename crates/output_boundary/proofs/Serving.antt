@@ -21,7 +21,7 @@ use Rattle.wire_core.specs.Marks.{wanted}
 use Rattle.wire_core.specs.Reading.{no_wire}
 use Rattle.nodes.specs.declared.node.IslandNode.{IslandNode}
 use Rattle.nodes.specs.declared.node.IslandNode.TheVariants as node
-use Rattle.nodes.specs.Nodes.{node_row, node_law, node_asking, node_moves, node_gone, node_waits, node_passive}
+use Rattle.nodes.specs.Nodes.{node_port_state, node_law, node_asking, node_moves, node_gone, node_waits, node_passive}
 use Rattle.fused_net.specs.Net.{Net, end_at, wire_at, with_node, ports_at, view_of, took, gave}
 use Rattle.fused_net.specs.Laws.{Settled, GoesOn}
 use Rattle.fused_net.specs.Poking.{AtNode, HandsAt}
@@ -259,7 +259,7 @@ leaving_passive sources drains book x (node.Writing f) v t g h law = absurd h
 leaving_passive sources drains book x (node.Ignoring f) v t g h law = absurd h
 leaving_passive sources drains book x (node.Entering f) v t g h law = absurd h
 
-pub passive_there : {S D L B : Type 0} (sources : S → SourceState) (drains : D → DrainState) (book : Book) (net : Net (IslandNode S D L B)) (q : ℕ) → Settled node_row (node_law sources drains book) node_asking node_moves net → q < length net.wires → LeavesAt net q → IsPassiveAt node_passive net (end_at net.ends q).to
+pub passive_there : {S D L B : Type 0} (sources : S → SourceState) (drains : D → DrainState) (book : Book) (net : Net (IslandNode S D L B)) (q : ℕ) → Settled node_port_state (node_law sources drains book) node_asking node_moves net → q < length net.wires → LeavesAt net q → IsPassiveAt node_passive net (end_at net.ends q).to
 passive_there sources drains book net q s h stage x at =
     let to = (end_at net.ends q).to in
     let first = get_there net.firsts to (rw s.each_first (s.wired.to_within q h)) in
@@ -272,7 +272,7 @@ map_at f (x ∷ xs) [] n y e at = cc
 map_at f (x ∷ xs) (z ∷ ys) zero y e at = let same : z ≡ y = some_same z y at in let both : f z ≡ f x = cc in (x, (refl, ap f (sym same) ∙ both))
 map_at f (x ∷ xs) (z ∷ ys) (suc n) y e at = let t : map f ys ≡ map f xs = cc in map_at f xs ys n y t at
 
-module _ {S D L B : Type 0} (sources : S → SourceState) (drains : D → DrainState) (book : Book) (o : LaneOut) (old new : Kept S D L B) (u : ℕ) (before : Settled node_row (node_law sources drains book) node_asking node_moves old.net) (after : Settled node_row (node_law sources drains book) node_asking node_moves new.net)
+module _ {S D L B : Type 0} (sources : S → SourceState) (drains : D → DrainState) (book : Book) (o : LaneOut) (old new : Kept S D L B) (u : ℕ) (before : Settled node_port_state (node_law sources drains book) node_asking node_moves old.net) (after : Settled node_port_state (node_law sources drains book) node_asking node_moves new.net)
     (l : Leaves old u) (on : GoesOn old.net new.net) (outs : new.outs ≡ old.outs) (gone : map node_gone new.net.nodes ≡ map node_gone old.net.nodes) (still : StandsStill node_passive old.net new.net) where
   here : IsPassiveAt node_passive old.net (out_node old u)
   here = passive_there sources drains book old.net (way_out old u) before l.place l.stage

@@ -1,6 +1,6 @@
 // Laws of an output boundary: the function has no body, and its contract is the law.
 ghost use Rattle.std.specs.Prelude.{◌≡◌, ◌≢◌, ℕ, Option, map};
-ghost use Rattle.nodes.specs.Nodes.{node_row, node_law, node_asking, node_moves, node_gone, node_passive};
+ghost use Rattle.nodes.specs.Nodes.{node_port_state, node_law, node_asking, node_moves, node_gone, node_passive};
 ghost use Rattle.fused_net.specs.Net.{ports_at};
 ghost use Rattle.fused_net.specs.Laws.{Settled, GoesOn};
 ghost use Rattle.fused_net.specs.Outside.{StandsStill, Untouched, IsElse, HasOnly};
@@ -20,8 +20,8 @@ use stream_io::outside::{Drain, Source};
 pub fn an_output_boundary_stands<S: Source, D: Drain, L: Logic, B: PlugBook>()
     ensures beside { (o : LaneOut) (q n : ℕ) (old new : Kept S D L B) (u : ℕ) → Beside q n old new → way_out old u ≢ q → out_node old u ≢ n → Serves o old u → Serves o new u }
     ensures served { (o : LaneOut) (q n : ℕ) (old new : Kept S D L B) (u : ℕ) → Beside q n old new → way_out old u ≢ q → out_node old u ≢ n → IsServed o old u → IsServed o new u }
-    ensures ran { (o : LaneOut) (old new : Kept S D L B) (u : ℕ) → Settled node_row (node_law S.state D.state B.lists) node_asking node_moves old.net → Settled node_row (node_law S.state D.state B.lists) node_asking node_moves new.net → Leaves old u → GoesOn old.net new.net → new.outs ≡ old.outs
+    ensures ran { (o : LaneOut) (old new : Kept S D L B) (u : ℕ) → Settled node_port_state (node_law S.state D.state B.lists) node_asking node_moves old.net → Settled node_port_state (node_law S.state D.state B.lists) node_asking node_moves new.net → Leaves old u → GoesOn old.net new.net → new.outs ≡ old.outs
         → map node_gone new.net.nodes ≡ map node_gone old.net.nodes → StandsStill node_passive old.net new.net → Serves o old u → Serves o new u }
-    ensures untouched { (o : LaneOut) (old new : Kept S D L B) (u : ℕ) → Settled node_row (node_law S.state D.state B.lists) node_asking node_moves old.net → Settled node_row (node_law S.state D.state B.lists) node_asking node_moves new.net → Leaves old u → GoesOn old.net new.net → new.outs ≡ old.outs
+    ensures untouched { (o : LaneOut) (old new : Kept S D L B) (u : ℕ) → Settled node_port_state (node_law S.state D.state B.lists) node_asking node_moves old.net → Settled node_port_state (node_law S.state D.state B.lists) node_asking node_moves new.net → Leaves old u → GoesOn old.net new.net → new.outs ≡ old.outs
         → map node_gone new.net.nodes ≡ map node_gone old.net.nodes → StandsStill node_passive old.net new.net → (at : Option ℕ) → Untouched node_passive at old.net new.net → IsElse at (way_out old u) → HasOnly (ports_at old.net (out_node old u)) (way_out old u) → IsServed o old u → IsServed o new u }
 {}

@@ -10,9 +10,9 @@ use Rattle.nodes.specs.declared.node.IslandNode.{IslandNode}
 use Rattle.nodes.specs.declared.node.IslandNode.TheVariants.{Reading, Making, Linear, State, Sub, FanIn, FanOut, Writing, Ignoring, Entering, Leaving}
 use Rattle.nodes.specs.declared.sink.Writes.TheVariants.{First}
 use Rattle.nodes.specs.Kinds.{writes_of}
-use Rattle.nodes.specs.Nodes.{node_row, node_law, node_asking, node_moves}
-use Rattle.nodes.specs.Sink.{sink_row_in}
-use Rattle.nodes.specs.Ignoring.{ignore_row_in}
+use Rattle.nodes.specs.Nodes.{node_port_state, node_law, node_asking, node_moves}
+use Rattle.nodes.specs.Sink.{sink_port_state_in}
+use Rattle.nodes.specs.Ignoring.{ignore_port_state_in}
 use Rattle.run_account.specs.KindLaws.{PictureLaws}
 use Rattle.run_account.specs.Ports.{InPort, OutPort}
 use Rattle.run_laws.specs.Made.{FirstOf}
@@ -32,9 +32,9 @@ abbrev Views : List InPort → List OutPort → View
 Views is os = record { ins = map (λ (i : InPort). i.view) is; outs = map (λ (o : OutPort). o.view) os }
 
 module _ {S D L B : Type 0} (sources : S → SourceState) (drains : D → DrainState) (g : Graph) (w : World) (k : ℕ) (n : graph.Node) where
-  pub node_picture : (first x : IslandNode S D L B) (is : List InPort) (os : List OutPort) → FirstOf sources g.chains k n first → TellsMoves w k x → node_row x (Views is os)
+  pub node_picture : (first x : IslandNode S D L B) (is : List InPort) (os : List OutPort) → FirstOf sources g.chains k n first → TellsMoves w k x → node_port_state x (Views is os)
       → node_law sources drains w.book first x (Views is os) (map (λ (i : InPort). i.got) is) (map (λ (o : OutPort). o.sent) os)
-      → PictureLaws node_row (node_law sources drains w.book) node_asking node_moves sink_ended g w k n first x is os
+      → PictureLaws node_port_state (node_law sources drains w.book) node_asking node_moves sink_ended g w k n first x is os
   node_picture (Reading first) (Reading x) is os f t r law = source_picture L B sources drains g w k n (Reading first) (Reading x) x.phase is os (subst (λ (kd : Kind). SourceRows g w kd) (sym f.kind_is) (lines_rows g w f.name)) r
   node_picture (Making first) (Making x) is os f t r law = source_picture L B sources drains g w k n (Making first) (Making x) x.phase is os (maker_rows g w n.kind f.is_maker) r
   node_picture (Linear first) (Linear x) is os f t r law = linear_picture L B sources drains g w k n first x is os f r law
@@ -43,10 +43,10 @@ module _ {S D L B : Type 0} (sources : S → SourceState) (drains : D → DrainS
   node_picture (FanIn first) (FanIn x) is os f t r law = fan_in_picture sources drains g w k n first x is os (in_picture g w k n first x is os f.begins t r law)
   node_picture (FanOut first) (FanOut x) is os f t r law = fan_out_picture sources drains g w k n first x is os (out_picture g w k n first x is os f.begins t r law)
   node_picture (Writing first) (Writing x) is os f t r law =
-      sink_picture L B sources drains g w k n (Writing first) (Writing x) (writes_of n.kind ≡ First) (sink_row_in x.started x.end) is os (file_sink_rows g w n.kind f.is_sink) r (sink_ports x.started x.end)
+      sink_picture L B sources drains g w k n (Writing first) (Writing x) (writes_of n.kind ≡ First) (sink_port_state_in x.started x.end) is os (file_sink_rows g w n.kind f.is_sink) r (sink_ports x.started x.end)
       (λ i ii oo s m is_first. first_wants L B sources drains g w k n first x i (f.writes ∙ is_first) s m)
   node_picture (Ignoring first) (Ignoring x) is os f t r law =
-      sink_picture L B sources drains g w k n (Ignoring first) (Ignoring x) ⊥ (ignore_row_in x.started x.end) is os (subst (λ (kd : Kind). SinkRows g w kd ⊥) (sym f.kind_is) (ignore_rows g w)) r (ignore_ports x.started x.end)
+      sink_picture L B sources drains g w k n (Ignoring first) (Ignoring x) ⊥ (ignore_port_state_in x.started x.end) is os (subst (λ (kd : Kind). SinkRows g w kd ⊥) (sym f.kind_is) (ignore_rows g w)) r (ignore_ports x.started x.end)
       (λ i ii oo s m none. absurd none)
   node_picture (Entering first) x is os f t r law = absurd f
   node_picture (Leaving first) x is os f t r law = absurd f

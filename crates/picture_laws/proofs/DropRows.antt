@@ -25,7 +25,7 @@ use Rattle.stage_law.specs.Row.{InClosed, OutClosed}
 use Rattle.stage_core.specs.declared.phase.Phase.{Phase}
 use Rattle.stage_core.specs.declared.phase.Phase.TheVariants.{New, Open, Closed}
 use Rattle.stage_dropping.specs.Drops.{DropHeld, holds, DropKeeps, DropCounts, buffer_at}
-use Rattle.stage_dropping.specs.Droppings.{Dropping, drop_at, end_of, held_in, held_of, DropRow, DropsAs}
+use Rattle.stage_dropping.specs.Droppings.{Dropping, drop_at, end_of, held_in, held_of, DropPortState, DropsAs}
 use Rattle.stage_dropping.proofs.DropNodes.{counted}
 use Rattle.run_account.specs.Ports.{InPort, OutPort, InStands, OutStands, InRests, OutRests}
 use Rattle.picture_laws.proofs.OneFlows.{OneFlow, one_flow, flow_got, flow_sent}
@@ -113,6 +113,6 @@ module _ (first now : Dropping) (i : InPort) (o : OutPort) (law : DropsAs first 
   drops_stay si ri ro (left xi yo) = inr (inr (ri.shut (subst InClosed (sym xi) tt), ro.unasked yo))
   drops_stay si ri ro (gone xi yo) = inl ((ri.shut xi, tt), (ro.shut yo, tt))
 
-  pub drops_rest : InStands i → InRests i → OutRests o → DropRow now Ports
+  pub drops_rest : InStands i → InRests i → OutRests o → DropPortState now Ports
       → (EachWire IsShut (i.wire ∷ []) × EachWire IsShut (o.wire ∷ [])) ⊎ DroppingRests (nothing_held (buffered first.policy first.size now.moves i.wire.list empty_buffer).held) i.wire o.wire
   drops_rest si ri ro r = drops_stay si ri ro (ports_by now now.phase now.over now.asked i.view o.view refl r.started r.row)

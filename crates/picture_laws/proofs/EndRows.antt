@@ -31,10 +31,10 @@ use Rattle.nodes.specs.declared.node.IslandNode.TheVariants.{Writing}
 use Rattle.nodes.specs.declared.sink.Writes.{Writes}
 use Rattle.nodes.specs.declared.sink.Writes.TheVariants.{Each, First, Last}
 use Rattle.nodes.specs.Kinds.{IsMaker, IsFileSink, writes_of}
-use Rattle.nodes.specs.Nodes.{node_row, node_law, node_asking, node_moves}
+use Rattle.nodes.specs.Nodes.{node_port_state, node_law, node_asking, node_moves}
 use Rattle.nodes.specs.Ports.{OneInOf, OneOutOf}
-use Rattle.nodes.specs.Source.{lines_row_in}
-use Rattle.nodes.specs.Sink.{Sink, sink_row_in, WritesOf}
+use Rattle.nodes.specs.Source.{lines_port_state_in}
+use Rattle.nodes.specs.Sink.{Sink, sink_port_state_in, WritesOf}
 use Rattle.run_account.specs.KindLaws.{Moments, PictureLaws}
 use Rattle.run_account.specs.Ports.{InPort, OutPort, InStands, InRests, OutRests}
 use Rattle.picture_laws.specs.Picture.{sink_ended}
@@ -74,7 +74,7 @@ ignore_rows g w = record { lawful = λ k d is os f. tt; rests = λ k d is os r. 
 
 -- ---- one that takes the first, when it last asked
 
-waits_open : (b : Bool) (s : EndState) (ins : List InView) (outs : List OutView) → get_or ins 0 Cancelled ≡ Pulled → OneInOf (sink_row_in b s) ins outs → s ≡ Unended
+waits_open : (b : Bool) (s : EndState) (ins : List InView) (outs : List OutView) → get_or ins 0 Cancelled ≡ Pulled → OneInOf (sink_port_state_in b s) ins outs → s ≡ Unended
 waits_open b s [] outs e r = absurd r
 waits_open true Unended (x ∷ []) [] e r = refl
 waits_open true Ended (Finished ∷ []) [] e r = cc
@@ -104,7 +104,7 @@ none_or_some (suc n) = inr (omega arith)
 
 module _ {S D : Type 0} (L B : Type 0) (sources : S → SourceState) (drains : D → DrainState) (g : Graph) (w : World) (k : ℕ) (n : graph.Node) where
   -- when it asked nothing had come to it
-  first_moment : (first : Sink D) (x : IslandNode S D L B) (v : View) (took gave : List (List Item)) (t : List Item) → first.writes ≡ First → node_row x v → node_law sources drains w.book (Writing first) x v took gave → get_or v.ins 0 Cancelled ≡ Pulled → took ≡ t ∷ [] → t ≡ []
+  first_moment : (first : Sink D) (x : IslandNode S D L B) (v : View) (took gave : List (List Item)) (t : List Item) → first.writes ≡ First → node_port_state x v → node_law sources drains w.book (Writing first) x v took gave → get_or v.ins 0 Cancelled ≡ Pulled → took ≡ t ∷ [] → t ≡ []
   first_moment first (Writing x) v took gave t is row law waits at =
       let goes : x.end ≡ Unended = waits_open x.started x.end v.ins v.outs waits row in
       let none = none_took x.writes x.node x.kept x.end law.elems law.wrote law.in_end (law.writes_same ∙ is) goes law.writes in
@@ -113,7 +113,7 @@ module _ {S D : Type 0} (L B : Type 0) (sources : S → SourceState) (drains : D
 
   -- so it wanted one element at most
   pub first_wants : (first now : Sink D) (i : InPort) → first.writes ≡ First → InStands i
-      → ((p : ℕ) → 1 ≤ slice_index_or (i.want ∷ []) p 0 → Moments {N = IslandNode S D L B} node_row (node_law sources drains w.book) node_asking node_moves (Writing first) (Writing now) (i ∷ []) [] p) → demand i.wire ≤ 1
+      → ((p : ℕ) → 1 ≤ slice_index_or (i.want ∷ []) p 0 → Moments {N = IslandNode S D L B} node_port_state (node_law sources drains w.book) node_asking node_moves (Writing first) (Writing now) (i ∷ []) [] p) → demand i.wire ≤ 1
   first_wants first now i is s moments = elim (none_or_some i.want) [
     | inl few ↦ let reach = s.reach in omega (arith, few, reach)
     | inr some ↦
@@ -126,18 +126,18 @@ module _ {S D : Type 0} (L B : Type 0) (sources : S → SourceState) (drains : D
   ]
 
   abbrev Laws : IslandNode S D L B → IslandNode S D L B → List InPort → List OutPort → Type 0
-  Laws first x is os = PictureLaws node_row (node_law sources drains w.book) node_asking node_moves sink_ended g w k n first x is os
+  Laws first x is os = PictureLaws node_port_state (node_law sources drains w.book) node_asking node_moves sink_ended g w k n first x is os
 
   -- ---- a source
 
-  source_rests : (o : OutPort) (p : Phase) → OutRests o → lines_row_in p o.view → (EachWire IsShut [] × EachWire IsShut (o.wire ∷ [])) ⊎ SourceRests (o.wire ∷ [])
+  source_rests : (o : OutPort) (p : Phase) → OutRests o → lines_port_state_in p o.view → (EachWire IsShut [] × EachWire IsShut (o.wire ∷ [])) ⊎ SourceRests (o.wire ∷ [])
   source_rests o p r row = elim (lines_ports p o.view row) [ inl u ↦ inr (r.unasked u) | inr c ↦ inl (tt, (r.shut c, tt)) ]
 
   in_row : (is os : List picture.SeenWire) → SourceRows g w n.kind → (EachWire IsShut is × EachWire IsShut os) ⊎ SourceRests os → (EachWire IsShut is × EachWire IsShut os) ⊎ RowRests g w k n.kind n.decider is os
   in_row is os rows (inl h) = inl h
   in_row is os rows (inr h) = inr (rows.rests k n.decider is os h)
 
-  pub source_picture : (first x : IslandNode S D L B) (p : Phase) (is : List InPort) (os : List OutPort) → SourceRows g w n.kind → OneOutOf (lines_row_in p) (map (λ (i : InPort). i.view) is) (map (λ (o : OutPort). o.view) os) → Laws first x is os
+  pub source_picture : (first x : IslandNode S D L B) (p : Phase) (is : List InPort) (os : List OutPort) → SourceRows g w n.kind → OneOutOf (lines_port_state_in p) (map (λ (i : InPort). i.view) is) (map (λ (o : OutPort). o.view) os) → Laws first x is os
   source_picture first x p [] (o ∷ []) rows r = record {
     lawful = λ si so m. rows.lawful k n.decider [] (o.wire ∷ []);
     rests = λ si so ri ro. in_row [] (o.wire ∷ []) rows (source_rests o p ro.0 r);
@@ -159,7 +159,7 @@ module _ {S D : Type 0} (L B : Type 0) (sources : S → SourceState) (drains : D
 
   pub sink_picture : (first x : IslandNode S D L B) (F : Type 0) (P : InView → Type 0) (is : List InPort) (os : List OutPort) → SinkRows g w n.kind F → OneInOf P (map (λ (i : InPort). i.view) is) (map (λ (o : OutPort). o.view) os)
       → ((v : InView) → P v → ((v ≡ Pulled) × (sink_ended x ≡ false)) ⊎ (InClosed v × (sink_ended x ≡ true)))
-      → ((i : InPort) → is ≡ i ∷ [] → os ≡ [] → InStands i → ((p : ℕ) → 1 ≤ slice_index_or (i.want ∷ []) p 0 → Moments {N = IslandNode S D L B} node_row (node_law sources drains w.book) node_asking node_moves first x (i ∷ []) [] p) → F → demand i.wire ≤ 1)
+      → ((i : InPort) → is ≡ i ∷ [] → os ≡ [] → InStands i → ((p : ℕ) → 1 ≤ slice_index_or (i.want ∷ []) p 0 → Moments {N = IslandNode S D L B} node_port_state (node_law sources drains w.book) node_asking node_moves first x (i ∷ []) [] p) → F → demand i.wire ≤ 1)
       → Laws first x is os
   sink_picture first x F P (i ∷ []) [] rows r ports few = record {
     lawful = λ si so m. rows.lawful k n.decider (i.wire ∷ []) [] (λ f. (few i refl refl si.0 m f, tt));

@@ -22,11 +22,11 @@ use Rattle.stage_law.specs.Law.{Law}
 use Rattle.stage_law.specs.Row.{InClosed}
 use Rattle.stage_core.specs.declared.phase.Phase.TheVariants.{Open}
 use Rattle.stage_linear.specs.declared.course.Course.TheVariants.{Waits}
-use Rattle.stage_linear.specs.States.{Logic, held, row_in, IsLinear}
+use Rattle.stage_linear.specs.States.{Logic, held, port_state_in, IsLinear}
 use Rattle.nodes.specs.declared.node.IslandNode.{IslandNode}
 use Rattle.nodes.specs.declared.node.IslandNode.TheVariants.{Linear}
-use Rattle.stage_linear.specs.Handling.{LinearRow, LinearLaw}
-use Rattle.nodes.specs.Nodes.{node_row, node_law, node_asking, node_moves}
+use Rattle.stage_linear.specs.Handling.{LinearPortState, LinearLaw}
+use Rattle.nodes.specs.Nodes.{node_port_state, node_law, node_asking, node_moves}
 use Rattle.run_account.specs.KindLaws.{IsOneMachine, Moments, PictureLaws}
 use Rattle.run_account.specs.Ports.{InPort, OutPort, InStands, OutStands, InRests, OutRests}
 use Rattle.run_laws.specs.Made.{FirstLinear}
@@ -65,9 +65,9 @@ record Moment (book : Book) (k : ℕ) (n : graph.Node) (first : Logic) (v : View
   asked : out_at v 0 ≡ Available
   waited : (t g : List Item) → took ≡ t ∷ [] → gave ≡ g ∷ [] → Waited (linear book first.stage.work) (begin_work k n.decider first.stage.work) t g
 
-moment_of : (book : Book) (k : ℕ) (n : graph.Node) (first l : Logic) (v : View) (took gave : List (List Item)) → FirstLinear k n first → LinearRow l v → LinearLaw book first l v took gave → in_at v 0 ≡ Pulled → Moment book k n first v took gave
+moment_of : (book : Book) (k : ℕ) (n : graph.Node) (first l : Logic) (v : View) (took gave : List (List Item)) → FirstLinear k n first → LinearPortState l v → LinearLaw book first l v took gave → in_at v 0 ≡ Pulled → Moment book k n first v took gave
 moment_of book k n first l v took gave f r law waits =
-    let o = one_views (row_in l.phase l.course l.pending l.stage.work l.ready) v r.row in
+    let o = one_views (port_state_in l.phase l.course l.pending l.stage.work l.ready) v r.row in
     let s = waits_busy l o.x o.y (linear_ports l.phase l.course l.pending l.stage.work l.ready o.x o.y r.started o.holds) (sym o.inp ∙ waits) in
     record {
       asked = o.out ∙ s.1.0;
@@ -76,14 +76,14 @@ moment_of book k n first l v took gave f r law waits =
 
 module _ {S D : Type 0} (L B : Type 0) (sources : S → SourceState) (drains : D → DrainState) (g : Graph) (w : World) (k : ℕ) (n : graph.Node) where
   -- by its kind, which stays the same
-  moment_by : (first : Logic) (x : IslandNode S D L B) (v : View) (took gave : List (List Item)) → FirstLinear k n first → node_row x v → node_law sources drains w.book (Linear first) x v took gave → in_at v 0 ≡ Pulled → Moment w.book k n first v took gave
+  moment_by : (first : Logic) (x : IslandNode S D L B) (v : View) (took gave : List (List Item)) → FirstLinear k n first → node_port_state x v → node_law sources drains w.book (Linear first) x v took gave → in_at v 0 ≡ Pulled → Moment w.book k n first v took gave
   moment_by first (Linear l) v took gave f r law waits = moment_of w.book k n first l v took gave f r law waits
   moment_by first x v took gave f r law waits = absurd law
 
   abbrev Laws : IslandNode S D L B → IslandNode S D L B → List InPort → List OutPort → Type 0
-  Laws first x is os = PictureLaws node_row (node_law sources drains w.book) node_asking node_moves sink_ended g w k n first x is os
+  Laws first x is os = PictureLaws node_port_state (node_law sources drains w.book) node_asking node_moves sink_ended g w k n first x is os
 
-  module _ (first x : Logic) (i : InPort) (o : OutPort) (f : FirstLinear k n first) (r : LinearRow x (record { ins = i.view ∷ []; outs = o.view ∷ [] }))
+  module _ (first x : Logic) (i : InPort) (o : OutPort) (f : FirstLinear k n first) (r : LinearPortState x (record { ins = i.view ∷ []; outs = o.view ∷ [] }))
       (law : LinearLaw w.book first x (record { ins = i.view ∷ []; outs = o.view ∷ [] }) (i.got ∷ []) (o.sent ∷ [])) where
     machine : IsOneMachine n.kind first.stage.work
     machine = linear_machine n.kind first.stage.work f.is_linear f.begins.work
@@ -92,7 +92,7 @@ module _ {S D : Type 0} (L B : Type 0) (sources : S → SourceState) (drains : D
     at = law_at (linear w.book first.stage.work) law.start _ (held w.book x) _ i.view _ o.view _ law.took_list i.got law.gave_list o.sent
         (same_start _ _ (sym law.owes ∙ f.begins.owes w.book)) refl refl refl (one_same _ _ (sym law.took_is)) (one_same _ _ (sym law.gave_is)) law.law
 
-    asked_then : InStands i → OutStands o → Moments {N = IslandNode S D L B} node_row (node_law sources drains w.book) node_asking node_moves (Linear first) (Linear x) (i ∷ []) (o ∷ []) 0 → 1 ≤ demand i.wire
+    asked_then : InStands i → OutStands o → Moments {N = IslandNode S D L B} node_port_state (node_law sources drains w.book) node_asking node_moves (Linear first) (Linear x) (i ∷ []) (o ∷ []) 0 → 1 ≤ demand i.wire
         → (is_going (run (linear w.book first.stage.work) (begin_work k n.decider first.stage.work) (take (demand i.wire - 1) i.wire.list)).state ≡ true)
         × (length (run (linear w.book first.stage.work) (begin_work k n.decider first.stage.work) (take (demand i.wire - 1) i.wire.list)).gave < wanted o.wire)
     asked_then si so m some =
@@ -124,7 +124,7 @@ module _ {S D : Type 0} (L B : Type 0) (sources : S → SourceState) (drains : D
       matches = λ sink ri. absurd (not_both machine.no_sink sink);
     }
 
-  pub linear_picture : (first x : Logic) (is : List InPort) (os : List OutPort) → FirstLinear k n first → LinearRow x (record { ins = map (λ (i : InPort). i.view) is; outs = map (λ (o : OutPort). o.view) os })
+  pub linear_picture : (first x : Logic) (is : List InPort) (os : List OutPort) → FirstLinear k n first → LinearPortState x (record { ins = map (λ (i : InPort). i.view) is; outs = map (λ (o : OutPort). o.view) os })
       → LinearLaw w.book first x (record { ins = map (λ (i : InPort). i.view) is; outs = map (λ (o : OutPort). o.view) os }) (map (λ (i : InPort). i.got) is) (map (λ (o : OutPort). o.sent) os) → Laws (Linear first) (Linear x) is os
   linear_picture first x (i ∷ []) (o ∷ []) f r law = one_picture first x i o f r law
   linear_picture first x [] os f r law = absurd r.row

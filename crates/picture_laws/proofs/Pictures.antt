@@ -12,7 +12,7 @@ use Rattle.stream_picture.specs.Lawful.{sent_in, IsLawful}
 use Rattle.stream_picture.specs.Rests.{Rests, SinksMatch}
 use Rattle.stream_picture.specs.View.{ins}
 use Rattle.nodes.specs.declared.node.IslandNode.{IslandNode}
-use Rattle.nodes.specs.Nodes.{node_row, node_law, node_asking, node_moves}
+use Rattle.nodes.specs.Nodes.{node_port_state, node_law, node_asking, node_moves}
 use Rattle.run_account.specs.Account.{Account, knows, took, gave, IsStill}
 use Rattle.run_account.specs.KindLaws.{HearsAll}
 use Rattle.run_account.specs.Pictures.{counts_of, AllPass}
@@ -46,23 +46,23 @@ module _ {S D L B : Type 0} (sources : S → SourceState) (drains : D → DrainS
   module _ (chose : TellsPicks w a) (outlook : ℕ → Outlook) where
     pub lawful : AreSettled g a → AllPass a g outlook → IsLawful g w (counts_of a g) outlook
     lawful settled passes =
-        all_lawful node_row (node_law sources drains w.book) node_asking node_moves sink_ended (FirstOf sources g.chains) (λ k x. TellsMoves w k x) g w a run.joined run.keeps run.made chose hears (λ k n. node_picture sources drains g w k n) outlook passes orders
+        all_lawful node_port_state (node_law sources drains w.book) node_asking node_moves sink_ended (FirstOf sources g.chains) (λ k x. TellsMoves w k x) g w a run.joined run.keeps run.made chose hears (λ k n. node_picture sources drains g w k n) outlook passes orders
       where
         -- the trip took no more elements than were sent to it
         orders : (k : ℕ) (n : graph.Node) (v : List ℕ × ℕ) → slice_get g.nodes k ≡ Some n → valve_order n.kind (w.moves k) ≡ Some v
             → (trip : ℕ) × (t : graph.Node) × (slice_get g.nodes trip ≡ Some t) × CanTrip v.0 v.1 t.kind (sent_in (ins g (counts_of a g) outlook trip t.kind))
         orders k n v e order =
             let t = (shown sources drains g w a run chose settled).given k n v e order in
-            let sent = first_sent node_row (node_law sources drains w.book) node_asking node_moves sink_ended (FirstOf sources g.chains) (λ k x. TellsMoves w k x) g w a run.joined run.keeps run.made chose hears (λ k n. node_picture sources drains g w k n) outlook passes t.0 t.1.0 t.1.1.0 in
+            let sent = first_sent node_port_state (node_law sources drains w.book) node_asking node_moves sink_ended (FirstOf sources g.chains) (λ k x. TellsMoves w k x) g w a run.joined run.keeps run.made chose hears (λ k n. node_picture sources drains g w k n) outlook passes t.0 t.1.0 t.1.1.0 in
             let same = took_there g a t.0 t.1.0 t.1.1.0 in
             let few : took_at g a t.0 ≤ sent_in (ins g (counts_of a g) outlook t.0 t.1.0.kind) = omega (arith, sent, same) in
             (t.0, t.1.0, t.1.1.0, can_still v.0 v.1 t.1.0.kind (took_at g a t.0) (sent_in (ins g (counts_of a g) outlook t.0 t.1.0.kind)) few t.1.1.1)
 
     pub rests : IsStill g a → AllPass a g outlook → Rests g w (counts_of a g) outlook
-    rests = all_rest node_row (node_law sources drains w.book) node_asking node_moves sink_ended (FirstOf sources g.chains) (λ k x. TellsMoves w k x) g w a run.joined run.keeps run.made chose hears (λ k n. node_picture sources drains g w k n) outlook
+    rests = all_rest node_port_state (node_law sources drains w.book) node_asking node_moves sink_ended (FirstOf sources g.chains) (λ k x. TellsMoves w k x) g w a run.joined run.keeps run.made chose hears (λ k n. node_picture sources drains g w k n) outlook
 
     pub matches_by : IsStill g a → SinksMatch g w (counts_of a g) outlook (λ k. ended_there (a.nodes k))
-    matches_by still = all_match node_row (node_law sources drains w.book) node_asking node_moves sink_ended (FirstOf sources g.chains) (λ k x. TellsMoves w k x) g w a run.joined run.keeps run.made chose hears (λ k n. node_picture sources drains g w k n) outlook still (λ k. ended_there (a.nodes k)) (λ k x e. ap ended_there e)
+    matches_by still = all_match node_port_state (node_law sources drains w.book) node_asking node_moves sink_ended (FirstOf sources g.chains) (λ k x. TellsMoves w k x) g w a run.joined run.keeps run.made chose hears (λ k n. node_picture sources drains g w k n) outlook still (λ k. ended_there (a.nodes k)) (λ k x e. ap ended_there e)
 
 -- how the sinks match has nothing to do with what a world tells
 pub matches : {S D L B : Type 0} (sources : S → SourceState) (drains : D → DrainState) (book : Book) (g : Graph) (a : Account (IslandNode S D L B)) → IsRun sources drains book g a → (w : World) (outlook : ℕ → Outlook) → IsStill g a

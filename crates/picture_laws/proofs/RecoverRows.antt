@@ -24,7 +24,7 @@ use Rattle.stage_law.specs.Row.{InClosed, OutClosed}
 use Rattle.stage_core.specs.declared.phase.Phase.{Phase}
 use Rattle.stage_core.specs.declared.phase.Phase.TheVariants.{New, Open, Closed}
 use Rattle.stage_recover.specs.Recovers.{RecoverHeld, passes, RecoverKeeps, RecoverStandsOf, RecoverCounts}
-use Rattle.stage_recover.specs.Recoverings.{Recover, recover_at, held_in, held_of, RecoverRow, RecoversAs}
+use Rattle.stage_recover.specs.Recoverings.{Recover, recover_at, held_in, held_of, RecoverPortState, RecoversAs}
 use Rattle.stage_recover.proofs.RecoverTurns.{recover_stands}
 use Rattle.stage_recover.proofs.RecoverNodes.{counted}
 use Rattle.run_account.specs.Ports.{InPort, OutPort, InStands, OutStands, InRests, OutRests}
@@ -197,5 +197,5 @@ module _ (first now : Recover) (i : InPort) (o : OutPort) (law : RecoversAs firs
   recover_stays si so ri ro (behind xi yo) = inr (inr (inr (refl, ro.unasked yo, ri.shut (subst InClosed (sym xi) tt))))
   recover_stays si so ri ro (gone xi yo) = inl ((ri.shut xi, tt), (ro.shut yo, tt))
 
-  pub recover_rests : InStands i → OutStands o → InRests i → OutRests o → RecoverRow now Ports → Still
+  pub recover_rests : InStands i → OutStands o → InRests i → OutRests o → RecoverPortState now Ports → Still
   recover_rests si so ri ro r = recover_stays si so ri ro (recover_ports now i.view o.view r.started r.row)

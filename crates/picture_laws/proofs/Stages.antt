@@ -22,11 +22,11 @@ use Rattle.stage_core.specs.declared.phase.Phase.TheVariants.{New, Open, Closed}
 use Rattle.stage_linear.specs.declared.course.Course.{Course}
 use Rattle.stage_linear.specs.declared.course.Course.TheVariants.{Waits, Idles, Leaves, Closes, Ends}
 use Rattle.stage_linear.specs.Tasks.{Spreads}
-use Rattle.stage_linear.specs.States.{Logic, held, held_in, row_in, Begins}
+use Rattle.stage_linear.specs.States.{Logic, held, held_in, port_state_in, Begins}
 use Rattle.stage_linear.specs.Handling.{LinearLaw}
-use Rattle.nodes.specs.Source.{lines_row_in}
-use Rattle.nodes.specs.Sink.{sink_row_in}
-use Rattle.nodes.specs.Ignoring.{ignore_row_in}
+use Rattle.nodes.specs.Source.{lines_port_state_in}
+use Rattle.nodes.specs.Sink.{sink_port_state_in}
+use Rattle.nodes.specs.Ignoring.{ignore_port_state_in}
 use Rattle.picture_laws.specs.Picture.{has_ended}
 use Rattle.picture_laws.proofs.OnePorts.{one_same}
 
@@ -39,7 +39,7 @@ closed_both Cancelled outlet.Cancelled r = (tt, tt)
 closed_both x y r = absurd r
 
 -- a source of lines
-pub lines_ports : (p : Phase) (y : OutView) → lines_row_in p y → (y ≡ outlet.Unpulled) ⊎ OutClosed y
+pub lines_ports : (p : Phase) (y : OutView) → lines_port_state_in p y → (y ≡ outlet.Unpulled) ⊎ OutClosed y
 lines_ports Open outlet.Unpulled r = inl refl
 lines_ports Closed outlet.Closed r = inr tt
 lines_ports Closed outlet.Cancelled r = inr tt
@@ -57,7 +57,7 @@ pub data LinearPorts (p : Phase) (c : Course) (h : List Tree) (k : Work) (x : In
   behind : Spreads k → x ≡ Finished → y ≡ outlet.Unpulled → LinearPorts p c h k x y
   over : InClosed x → OutClosed y → LinearPorts p c h k x y
 
-pub linear_ports : (p : Phase) (c : Course) (h : List Tree) (k : Work) (ready : Bool) (x : InView) (y : OutView) → p ≢ New → row_in p c h k ready x y → LinearPorts p c h k x y
+pub linear_ports : (p : Phase) (c : Course) (h : List Tree) (k : Work) (ready : Bool) (x : InView) (y : OutView) → p ≢ New → port_state_in p c h k ready x y → LinearPorts p c h k x y
 linear_ports New c h k b x y n r = absurd (n refl)
 linear_ports Open Waits h k b Pulled outlet.Available n r = busy refl refl r.0 refl refl
 linear_ports Open Idles h k b Idle outlet.Unpulled n r = free refl refl
@@ -71,7 +71,7 @@ linear_ports Closed c h k b Cancelled outlet.Cancelled n r = over tt tt
 linear_ports p c h k b x y n r = absurd r
 
 -- a sink with a file
-pub sink_ports : (started : Bool) (e : EndState) (x : InView) → sink_row_in started e x → ((x ≡ Pulled) × (has_ended e ≡ false)) ⊎ (InClosed x × (has_ended e ≡ true))
+pub sink_ports : (started : Bool) (e : EndState) (x : InView) → sink_port_state_in started e x → ((x ≡ Pulled) × (has_ended e ≡ false)) ⊎ (InClosed x × (has_ended e ≡ true))
 sink_ports true Unended Pulled r = inl (refl, refl)
 sink_ports true Ended Finished r = inr (tt, refl)
 sink_ports true Ended Cancelled r = inr (tt, refl)
@@ -81,7 +81,7 @@ sink_ports true WriteFault Cancelled r = inr (tt, refl)
 sink_ports started e x r = absurd r
 
 -- a sink that keeps nothing
-pub ignore_ports : (started : Bool) (e : EndState) (x : InView) → ignore_row_in started e x → ((x ≡ Pulled) × (has_ended e ≡ false)) ⊎ (InClosed x × (has_ended e ≡ true))
+pub ignore_ports : (started : Bool) (e : EndState) (x : InView) → ignore_port_state_in started e x → ((x ≡ Pulled) × (has_ended e ≡ false)) ⊎ (InClosed x × (has_ended e ≡ true))
 ignore_ports true Unended Pulled r = inl (refl, refl)
 ignore_ports true Ended Finished r = inr (tt, refl)
 ignore_ports true (Failed c) Finished r = inr (tt, refl)

@@ -37,21 +37,21 @@ use Rattle.stage_keeping.specs.declared.ending.StateEnd.{StateEnd}
 use Rattle.stage_keeping.specs.declared.ending.StateEnd.TheVariants.{Lasting, Ended, Failed}
 use Rattle.stage_state.specs.Buffering.{buffer}
 use Rattle.stage_state.specs.Resting.{begin_buffer}
-use Rattle.stage_state.specs.States.{Logic, held, held_in, keep_row, buffer_row, row_by, IsMachine, Begins}
+use Rattle.stage_state.specs.States.{Logic, held, held_in, keep_port_state, buffer_port_state, port_state_by, IsMachine, Begins}
 use Rattle.stage_state.proofs.Buffers.{buffer_carries}
 use Rattle.stage_state.proofs.Rows.{counts}
 use Rattle.wire_core.specs.Counts.{elements}
 use Rattle.nodes.specs.declared.node.IslandNode.{IslandNode}
 use Rattle.nodes.specs.declared.node.IslandNode.TheVariants as node
-use Rattle.nodes.specs.Nodes.{node_row, node_law, node_asking, node_moves}
+use Rattle.nodes.specs.Nodes.{node_port_state, node_law, node_asking, node_moves}
 use Rattle.stage_state.specs.declared.logic.StateLogic.{StateLogic}
 use Rattle.stage_state.specs.declared.logic.StateLogic.TheVariants.{Machine, Dropping, Recovering, Obeying, Tripping}
-use Rattle.stage_state.specs.Handling.{StateRow, StateLaw}
+use Rattle.stage_state.specs.Handling.{StatePortState, StateLaw}
 use Rattle.stage_state.specs.Logics.{BeginsAs}
 use Rattle.stage_dropping.specs.Droppings as drop
-use Rattle.stage_dropping.specs.Droppings.{DropRow, DropsAs}
-use Rattle.stage_recover.specs.Recoverings.{Recover, recover_at, RecoverRow, RecoversAs}
-use Rattle.stage_state.specs.MachineNodes.{MachineRow, MachineLaw}
+use Rattle.stage_dropping.specs.Droppings.{DropPortState, DropsAs}
+use Rattle.stage_recover.specs.Recoverings.{Recover, recover_at, RecoverPortState, RecoversAs}
+use Rattle.stage_state.specs.MachineNodes.{MachinePortState, MachineLaw}
 use Rattle.run_account.specs.KindLaws.{IsOneMachine, Moments, PictureLaws}
 use Rattle.run_account.specs.Ports.{InPort, OutPort, InStands, OutStands, InRests, OutRests}
 use Rattle.run_account.proofs.Coming.{elements_told, elements_prefix}
@@ -77,7 +77,7 @@ data KeepPorts (p : Phase) (e : StateEnd) (k : List Tree) (x : InView) (y : OutV
   behind : x ≡ Finished → y ≡ Unpulled → KeepPorts p e k x y
   over : InClosed x → OutClosed y → KeepPorts p e k x y
 
-keep_ports : (p : Phase) (e : StateEnd) (a : Bool) (k : List Tree) (w : Work) (x : InView) (y : OutView) → p ≢ New → keep_row p e a k w x y → KeepPorts p e k x y
+keep_ports : (p : Phase) (e : StateEnd) (a : Bool) (k : List Tree) (w : Work) (x : InView) (y : OutView) → p ≢ New → keep_port_state p e a k w x y → KeepPorts p e k x y
 keep_ports New e a k w x y n r = absurd (n refl)
 keep_ports Closed e a k w x y n r = let c = closed_both x y r in over c.0 c.1
 keep_ports Open Lasting true k w Pulled Available n r = busy refl refl r.0 refl refl
@@ -95,7 +95,7 @@ data BufferPorts (n : ℕ) (p : Phase) (e : StateEnd) (k : List Tree) (x : InVie
   left : x ≡ Finished → y ≡ Unpulled → BufferPorts n p e k x y
   gone : InClosed x → OutClosed y → BufferPorts n p e k x y
 
-buffer_ports : (n : ℕ) (p : Phase) (e : StateEnd) (a : Bool) (k : List Tree) (x : InView) (y : OutView) → p ≢ New → buffer_row n p e a k x y → BufferPorts n p e k x y
+buffer_ports : (n : ℕ) (p : Phase) (e : StateEnd) (a : Bool) (k : List Tree) (x : InView) (y : OutView) → p ≢ New → buffer_port_state n p e a k x y → BufferPorts n p e k x y
 buffer_ports n New e a k x y nn r = absurd (nn refl)
 buffer_ports n Closed e a k x y nn r = let c = closed_both x y r in gone c.0 c.1
 buffer_ports n Open Lasting true k Pulled Available nn r = drained refl r.0 r.1 refl refl
@@ -209,28 +209,28 @@ module _ {S D : Type 0} (L B : Type 0) (sources : S → SourceState) (drains : D
   -- its kind stays the same
   record StateNow (first : Logic) (v : View) (took gave : List (List Item)) : Type 0 where
     now : Logic
-    row_holds : MachineRow now v
+    row_holds : MachinePortState now v
     law_holds : MachineLaw first now v took gave
 
-  state_now : (first : Logic) (x : IslandNode S D L B) (v : View) (took gave : List (List Item)) → node_row x v → node_law sources drains w.book (node.State (Machine first)) x v took gave → StateNow first v took gave
+  state_now : (first : Logic) (x : IslandNode S D L B) (v : View) (took gave : List (List Item)) → node_port_state x v → node_law sources drains w.book (node.State (Machine first)) x v took gave → StateNow first v took gave
   state_now first (node.State (Machine x)) v took gave r law = record { now = x; row_holds = r; law_holds = law }
   state_now first x v took gave r law = absurd law
 
-  keeps_ports : (l first : Logic) (x : InView) (y : OutView) → l.size ≡ first.size → first.size ≡ None → l.phase ≢ New → row_by l.size l.phase l.ending l.asked l.pending l.stage.work x y → KeepPorts l.phase l.ending l.pending x y
+  keeps_ports : (l first : Logic) (x : InView) (y : OutView) → l.size ≡ first.size → first.size ≡ None → l.phase ≢ New → port_state_by l.size l.phase l.ending l.asked l.pending l.stage.work x y → KeepPorts l.phase l.ending l.pending x y
   keeps_ports l first x y e none started r =
-      keep_ports l.phase l.ending l.asked l.pending l.stage.work x y started (subst (λ z. row_by z l.phase l.ending l.asked l.pending l.stage.work x y) (e ∙ none) r)
+      keep_ports l.phase l.ending l.asked l.pending l.stage.work x y started (subst (λ z. port_state_by z l.phase l.ending l.asked l.pending l.stage.work x y) (e ∙ none) r)
 
-  buffers_ports : (m : ℕ) (l first : Logic) (x : InView) (y : OutView) → l.size ≡ first.size → first.size ≡ Some m → l.phase ≢ New → row_by l.size l.phase l.ending l.asked l.pending l.stage.work x y → BufferPorts m l.phase l.ending l.pending x y
+  buffers_ports : (m : ℕ) (l first : Logic) (x : InView) (y : OutView) → l.size ≡ first.size → first.size ≡ Some m → l.phase ≢ New → port_state_by l.size l.phase l.ending l.asked l.pending l.stage.work x y → BufferPorts m l.phase l.ending l.pending x y
   buffers_ports m l first x y e some started r =
-      buffer_ports m l.phase l.ending l.asked l.pending x y started (subst (λ z. row_by z l.phase l.ending l.asked l.pending l.stage.work x y) (e ∙ some) r)
+      buffer_ports m l.phase l.ending l.asked l.pending x y started (subst (λ z. port_state_by z l.phase l.ending l.asked l.pending l.stage.work x y) (e ∙ some) r)
 
   abbrev Laws : IslandNode S D L B → IslandNode S D L B → List InPort → List OutPort → Type 0
-  Laws first x is os = PictureLaws node_row (node_law sources drains w.book) node_asking node_moves sink_ended g w k n first x is os
+  Laws first x is os = PictureLaws node_port_state (node_law sources drains w.book) node_asking node_moves sink_ended g w k n first x is os
 
-  module _ (first x : Logic) (i : InPort) (o : OutPort) (is_machine : IsMachine n.kind) (begins : Begins k n.kind n.decider first) (r : MachineRow x (record { ins = i.view ∷ []; outs = o.view ∷ [] }))
+  module _ (first x : Logic) (i : InPort) (o : OutPort) (is_machine : IsMachine n.kind) (begins : Begins k n.kind n.decider first) (r : MachinePortState x (record { ins = i.view ∷ []; outs = o.view ∷ [] }))
       (law : MachineLaw first x (record { ins = i.view ∷ []; outs = o.view ∷ [] }) (i.got ∷ []) (o.sent ∷ [])) where
     abbrev LastAsks : Type 0
-    LastAsks = Moments {N = IslandNode S D L B} node_row (node_law sources drains w.book) node_asking node_moves (node.State (Machine first)) (node.State (Machine x)) (i ∷ []) (o ∷ []) 0
+    LastAsks = Moments {N = IslandNode S D L B} node_port_state (node_law sources drains w.book) node_asking node_moves (node.State (Machine first)) (node.State (Machine x)) (i ∷ []) (o ∷ []) 0
 
     abbrev Still : Type 0
     Still = (EachWire IsShut (i.wire ∷ []) × EachWire IsShut (o.wire ∷ [])) ⊎ RowRests g w k n.kind n.decider (i.wire ∷ []) (o.wire ∷ [])
@@ -249,7 +249,7 @@ module _ {S D : Type 0} (L B : Type 0) (sources : S → SourceState) (drains : D
       keeps_asked si so m some =
           let e = m.0 in
           let l = state_now first e.old e.knew e.had e.given e.row_held e.law_held in
-          let p = one_views (row_by l.now.size l.now.phase l.now.ending l.now.asked l.now.pending l.now.stage.work) e.knew l.row_holds.row in
+          let p = one_views (port_state_by l.now.size l.now.phase l.now.ending l.now.asked l.now.pending l.now.stage.work) e.knew l.row_holds.row in
           let ports = keeps_ports l.now first p.x p.y l.law_holds.size c.size l.row_holds.started p.holds in
           let was = waits_busy l.now p.x p.y ports (sym p.inp ∙ e.waited) in
           let asked : out_at e.knew 0 ≡ Available = p.out ∙ was.1.1.1 in
@@ -288,7 +288,7 @@ module _ {S D : Type 0} (L B : Type 0) (sources : S → SourceState) (drains : D
       buffers_asked si so m =
           let e = m.0 in
           let l = state_now first e.old e.knew e.had e.given e.row_held e.law_held in
-          let p = one_views (row_by l.now.size l.now.phase l.now.ending l.now.asked l.now.pending l.now.stage.work) e.knew l.row_holds.row in
+          let p = one_views (port_state_by l.now.size l.now.phase l.now.ending l.now.asked l.now.pending l.now.stage.work) e.knew l.row_holds.row in
           let ports = buffers_ports c.room l.now first p.x p.y l.law_holds.size c.size l.row_holds.started p.holds in
           let was = waits_roomy c.room l.now.phase l.now.ending l.now.pending p.x p.y ports (sym p.inp ∙ e.waited) in
           let b = began e.had i.got i.want e.took_on e.one_more in
@@ -303,7 +303,7 @@ module _ {S D : Type 0} (L B : Type 0) (sources : S → SourceState) (drains : D
           omega (arith, holds, one, reach, count, room, more)
 
       -- one that asked for nothing asked for no more than that
-      buffers_demand : InStands i → OutStands o → ((p : ℕ) → 1 ≤ slice_index_or (i.want ∷ []) p 0 → Moments {N = IslandNode S D L B} node_row (node_law sources drains w.book) node_asking node_moves (node.State (Machine first)) (node.State (Machine x)) (i ∷ []) (o ∷ []) p)
+      buffers_demand : InStands i → OutStands o → ((p : ℕ) → 1 ≤ slice_index_or (i.want ∷ []) p 0 → Moments {N = IslandNode S D L B} node_port_state (node_law sources drains w.book) node_asking node_moves (node.State (Machine first)) (node.State (Machine x)) (i ∷ []) (o ∷ []) p)
           → (d : ℕ) → d ≡ demand i.wire → d ≤ o.wire.sent + c.room
       buffers_demand si so m zero e = omega arith
       buffers_demand si so m (suc d) e = rw e (buffers_asked si so (m 0 (reached i si (omega (arith, e)))))
@@ -351,7 +351,7 @@ module _ {S D : Type 0} (L B : Type 0) (sources : S → SourceState) (drains : D
 
   -- ---- one that drops
 
-  module _ (first x : drop.Dropping) (i : InPort) (o : OutPort) (begins : BeginsAs n.kind k n.decider (Dropping first)) (same : w.moves k ≡ x.moves) (r : DropRow x (record { ins = i.view ∷ []; outs = o.view ∷ [] }))
+  module _ (first x : drop.Dropping) (i : InPort) (o : OutPort) (begins : BeginsAs n.kind k n.decider (Dropping first)) (same : w.moves k ≡ x.moves) (r : DropPortState x (record { ins = i.view ∷ []; outs = o.view ∷ [] }))
       (law : DropsAs first x (record { ins = i.view ∷ []; outs = o.view ∷ [] }) (i.got ∷ []) (o.sent ∷ [])) where
     drop_kind : DropsFirst k n.kind first
     drop_kind = drops_first k n.kind n.decider first begins
@@ -379,20 +379,20 @@ module _ {S D : Type 0} (L B : Type 0) (sources : S → SourceState) (drains : D
 
   record RecoverNow (first : Recover) (v : View) (took gave : List (List Item)) : Type 0 where
     now : Recover
-    row_holds : RecoverRow now v
+    row_holds : RecoverPortState now v
     law_holds : RecoversAs first now v took gave
 
-  recover_now : (first : Recover) (x : IslandNode S D L B) (v : View) (took gave : List (List Item)) → node_row x v → node_law sources drains w.book (node.State (Recovering first)) x v took gave → RecoverNow first v took gave
+  recover_now : (first : Recover) (x : IslandNode S D L B) (v : View) (took gave : List (List Item)) → node_port_state x v → node_law sources drains w.book (node.State (Recovering first)) x v took gave → RecoverNow first v took gave
   recover_now first (node.State (Recovering x)) v took gave r law = record { now = x; row_holds = r; law_holds = law }
   recover_now first x v took gave r law = absurd law
 
-  module _ (first x : Recover) (i : InPort) (o : OutPort) (begins : BeginsAs n.kind k n.decider (Recovering first)) (same : w.moves k ≡ x.moves) (r : RecoverRow x (record { ins = i.view ∷ []; outs = o.view ∷ [] }))
+  module _ (first x : Recover) (i : InPort) (o : OutPort) (begins : BeginsAs n.kind k n.decider (Recovering first)) (same : w.moves k ≡ x.moves) (r : RecoverPortState x (record { ins = i.view ∷ []; outs = o.view ∷ [] }))
       (law : RecoversAs first x (record { ins = i.view ∷ []; outs = o.view ∷ [] }) (i.got ∷ []) (o.sent ∷ [])) where
     recover_kind : IsRecover n.kind first
     recover_kind = recovers_first k n.kind n.decider first begins
 
     abbrev LastAsk : Type 0
-    LastAsk = Moments {N = IslandNode S D L B} node_row (node_law sources drains w.book) node_asking node_moves (node.State (Recovering first)) (node.State (Recovering x)) (i ∷ []) (o ∷ []) 0
+    LastAsk = Moments {N = IslandNode S D L B} node_port_state (node_law sources drains w.book) node_asking node_moves (node.State (Recovering first)) (node.State (Recovering x)) (i ∷ []) (o ∷ []) 0
 
     -- when it last asked it had given all that came, and was asked for more
     recover_asked : InStands i → OutStands o → LastAsk → demand i.wire ≤ wanted o.wire
@@ -433,7 +433,7 @@ module _ {S D : Type 0} (L B : Type 0) (sources : S → SourceState) (drains : D
       matches = λ sink ri. absurd (not_both recover_kind.no_sink sink);
     }
 
-  one_picture_of : (first x : StateLogic) (i : InPort) (o : OutPort) → FirstState k n first → Told w k x → StateRow x (record { ins = i.view ∷ []; outs = o.view ∷ [] })
+  one_picture_of : (first x : StateLogic) (i : InPort) (o : OutPort) → FirstState k n first → Told w k x → StatePortState x (record { ins = i.view ∷ []; outs = o.view ∷ [] })
       → StateLaw first x (record { ins = i.view ∷ []; outs = o.view ∷ [] }) (i.got ∷ []) (o.sent ∷ []) → Laws (node.State first) (node.State x) (i ∷ []) (o ∷ [])
   one_picture_of (Machine first) (Machine x) i o f told r law = one_picture first x i o f.begins.as_kind.0 f.begins.as_kind.1 r law
   one_picture_of (Dropping first) (Dropping x) i o f told r law = drops_picture first x i o f.begins.as_kind (told x.moves refl) r law
@@ -444,7 +444,7 @@ module _ {S D : Type 0} (L B : Type 0) (sources : S → SourceState) (drains : D
 
   -- it has one input and one output
   abbrev NotOne : StateLogic → List InPort → List OutPort → Type 0
-  NotOne x is os = StateRow x (record { ins = map (λ (i : InPort). i.view) is; outs = map (λ (o : OutPort). o.view) os }) → ⊥
+  NotOne x is os = StatePortState x (record { ins = map (λ (i : InPort). i.view) is; outs = map (λ (o : OutPort). o.view) os }) → ⊥
 
   no_input : (x : StateLogic) (os : List OutPort) → NotOne x [] os
   no_input (Machine x) os r = r.row
@@ -474,7 +474,7 @@ module _ {S D : Type 0} (L B : Type 0) (sources : S → SourceState) (drains : D
   two_inputs (Obeying x) i j is os r = r.row.0
   two_inputs (Tripping x) i j is os r = r.row
 
-  pub state_picture : (first x : StateLogic) (is : List InPort) (os : List OutPort) → FirstState k n first → Told w k x → StateRow x (record { ins = map (λ (i : InPort). i.view) is; outs = map (λ (o : OutPort). o.view) os })
+  pub state_picture : (first x : StateLogic) (is : List InPort) (os : List OutPort) → FirstState k n first → Told w k x → StatePortState x (record { ins = map (λ (i : InPort). i.view) is; outs = map (λ (o : OutPort). o.view) os })
       → StateLaw first x (record { ins = map (λ (i : InPort). i.view) is; outs = map (λ (o : OutPort). o.view) os }) (map (λ (i : InPort). i.got) is) (map (λ (o : OutPort). o.sent) os) → Laws (node.State first) (node.State x) is os
   state_picture first x (i ∷ []) (o ∷ []) f told r law = one_picture_of first x i o f told r law
   state_picture first x [] os f told r law = absurd (no_input x os r)

@@ -29,14 +29,14 @@ use Rattle.stage_core.specs.declared.phase.Phase.TheVariants.{New, Open, Closed}
 use Rattle.chain_core.specs.LineChains.{list_function}
 use Rattle.stage_sub.specs.Joined.{untag, joined}
 use Rattle.stage_sub.specs.KeptSubs.{opening_of}
-use Rattle.stage_sub.specs.States.{Logic, row_in}
-use Rattle.stage_sub.specs.Handling.{SubRow, SubLaw, Tells}
+use Rattle.stage_sub.specs.States.{Logic, port_state_in}
+use Rattle.stage_sub.specs.Handling.{SubPortState, SubLaw, Tells}
 use Rattle.stage_sub.proofs.Rows.{waiting_gave}
 use Rattle.stage_sub.proofs.Untagging.{run_untag, closed_untag}
 use Rattle.line_chain.specs.Line.{Line, line_whole, line_rest, line_is_open}
 use Rattle.nodes.specs.declared.node.IslandNode.{IslandNode}
 use Rattle.nodes.specs.declared.node.IslandNode.TheVariants.{Sub}
-use Rattle.nodes.specs.Nodes.{node_row, node_law, node_asking, node_moves}
+use Rattle.nodes.specs.Nodes.{node_port_state, node_law, node_asking, node_moves}
 use Rattle.run_account.specs.KindLaws.{Moments, PictureLaws}
 use Rattle.run_account.specs.Ports.{InPort, OutPort, InStands, OutStands, InRests, OutRests}
 use Rattle.run_laws.specs.Made.{FirstSub, chain_name}
@@ -55,7 +55,7 @@ data SubPorts (x : InView) (y : OutView) : Type 0 where
   left : x ≡ Finished → y ≡ Unpulled → SubPorts x y
   gone : InClosed x → OutClosed y → SubPorts x y
 
-sub_ports : (p : Phase) (over asked : Bool) (h : List Tagged) (x : InView) (y : OutView) → p ≢ New → row_in p over asked h x y → SubPorts x y
+sub_ports : (p : Phase) (over asked : Bool) (h : List Tagged) (x : InView) (y : OutView) → p ≢ New → port_state_in p over asked h x y → SubPorts x y
 sub_ports New over asked h x y n r = absurd (n refl)
 sub_ports Closed over asked h x y n r = let c = closed_both x y r in gone c.0 c.1
 sub_ports Open false true h Pulled Available n r = busy refl refl
@@ -101,15 +101,15 @@ module _ {S D : Type 0} (L B : Type 0) (sources : S → SourceState) (drains : D
   -- its kind stays the same
   record SubNow (first : Logic Line) (v : View) (took gave : List (List Item)) : Type 0 where
     now : Logic Line
-    row_holds : SubRow line_rest line_is_open now v
+    row_holds : SubPortState line_rest line_is_open now v
     law_holds : SubLaw line_rest line_is_open line_whole first now v took gave
 
-  sub_now : (first : Logic Line) (x : IslandNode S D L B) (v : View) (took gave : List (List Item)) → node_row x v → node_law sources drains w.book (Sub first) x v took gave → SubNow first v took gave
+  sub_now : (first : Logic Line) (x : IslandNode S D L B) (v : View) (took gave : List (List Item)) → node_port_state x v → node_law sources drains w.book (Sub first) x v took gave → SubNow first v took gave
   sub_now first (Sub x) v took gave r law = record { now = x; row_holds = r; law_holds = law }
   sub_now first x v took gave r law = absurd law
 
   abbrev Laws : IslandNode S D L B → IslandNode S D L B → List InPort → List OutPort → Type 0
-  Laws first x is os = PictureLaws node_row (node_law sources drains w.book) node_asking node_moves sink_ended g w k n first x is os
+  Laws first x is os = PictureLaws node_port_state (node_law sources drains w.book) node_asking node_moves sink_ended g w k n first x is os
 
   module _ (first : Logic Line) (made : FirstSub g.chains k n first) where
     f : SubFirst k n.kind first.chain first
@@ -130,7 +130,7 @@ module _ {S D : Type 0} (L B : Type 0) (sources : S → SourceState) (drains : D
     tells_at now v took gave law = tells_of k first now v took gave f.how f.join f.is law w.book (steps_of (chain_name n.kind) g.chains) made.line
 
     -- one that waits was asked, and gave all that its machine gives
-    waits_at : (now : Logic Line) (v : View) (took gave : List (List Item)) → SubRow line_rest line_is_open now v → SubLaw line_rest line_is_open line_whole first now v took gave → in_at v 0 ≡ Pulled
+    waits_at : (now : Logic Line) (v : View) (took gave : List (List Item)) → SubPortState line_rest line_is_open now v → SubLaw line_rest line_is_open line_whole first now v took gave → in_at v 0 ≡ Pulled
         → (out_at v 0 ≡ Available) × ((t h : List Item) → took ≡ t ∷ [] → gave ≡ h ∷ [] → Waited m start t h)
     waits_at now v took gave r law waits =
         let its = tells_at now v took gave law in
@@ -159,7 +159,7 @@ module _ {S D : Type 0} (L B : Type 0) (sources : S → SourceState) (drains : D
         subst (λ (q : Opening). StageRests (of_machine (substreams yields q) (begin_subs yields k) true) i o) (ap (λ (x : Logic Line). opening_of x.how) f.is)
         (alike_rests _ _ (joined_alike yields (opening_of first.how) (begin_subs yields k)) i o h)
 
-    module _ (x : Logic Line) (i : InPort) (o : OutPort) (r : SubRow line_rest line_is_open x (record { ins = i.view ∷ []; outs = o.view ∷ [] }))
+    module _ (x : Logic Line) (i : InPort) (o : OutPort) (r : SubPortState line_rest line_is_open x (record { ins = i.view ∷ []; outs = o.view ∷ [] }))
         (law : SubLaw line_rest line_is_open line_whole first x (record { ins = i.view ∷ []; outs = o.view ∷ [] }) (i.got ∷ []) (o.sent ∷ [])) where
       its : Tells line_rest line_is_open (list_function w.book (chain_of k (steps_of (chain_name n.kind) g.chains))) yields (begin_subs yields k) first x (record { ins = i.view ∷ []; outs = o.view ∷ [] }) law.took_list law.gave_list
       its = tells_at x _ _ _ law
@@ -167,7 +167,7 @@ module _ {S D : Type 0} (L B : Type 0) (sources : S → SourceState) (drains : D
       at : Law m start its.held i.view o.view i.got o.sent
       at = law_at m start _ its.held _ i.view _ o.view _ law.took_list i.got law.gave_list o.sent refl refl refl refl (one_same _ _ (sym law.took_is)) (one_same _ _ (sym law.gave_is)) its.law
 
-      asked_then : InStands i → OutStands o → Moments {N = IslandNode S D L B} node_row (node_law sources drains w.book) node_asking node_moves (Sub first) (Sub x) (i ∷ []) (o ∷ []) 0 → 1 ≤ demand i.wire
+      asked_then : InStands i → OutStands o → Moments {N = IslandNode S D L B} node_port_state (node_law sources drains w.book) node_asking node_moves (Sub first) (Sub x) (i ∷ []) (o ∷ []) 0 → 1 ≤ demand i.wire
           → (is_going (run m start (take (demand i.wire - 1) i.wire.list)).state ≡ true) × (length (run m start (take (demand i.wire - 1) i.wire.list)).gave < wanted o.wire)
       asked_then si so last some =
           let e = last.0 in
@@ -199,7 +199,7 @@ module _ {S D : Type 0} (L B : Type 0) (sources : S → SourceState) (drains : D
         matches = λ sink ri. absurd (not_both f.kind.no_sink sink);
       }
 
-  pub sub_picture : (first x : Logic Line) (is : List InPort) (os : List OutPort) → FirstSub g.chains k n first → SubRow line_rest line_is_open x (record { ins = map (λ (i : InPort). i.view) is; outs = map (λ (o : OutPort). o.view) os })
+  pub sub_picture : (first x : Logic Line) (is : List InPort) (os : List OutPort) → FirstSub g.chains k n first → SubPortState line_rest line_is_open x (record { ins = map (λ (i : InPort). i.view) is; outs = map (λ (o : OutPort). o.view) os })
       → SubLaw line_rest line_is_open line_whole first x (record { ins = map (λ (i : InPort). i.view) is; outs = map (λ (o : OutPort). o.view) os }) (map (λ (i : InPort). i.got) is) (map (λ (o : OutPort). o.sent) os) → Laws (Sub first) (Sub x) is os
   sub_picture first x (i ∷ []) (o ∷ []) made r law = one_picture first made x i o r law
   sub_picture first x [] os made r law = absurd r.row

@@ -32,8 +32,8 @@ use Rattle.stage_law.specs.Row.{InClosed, OutClosed}
 use Rattle.stage_core.specs.declared.phase.Phase.{Phase}
 use Rattle.stage_core.specs.declared.phase.Phase.TheVariants.{New, Open, Closed}
 use Rattle.stage_switch.specs.Valves.{ValveKeeps, ValveStandsOf, GaveAll}
-use Rattle.stage_switch.specs.States.{Valve, valve_held, passing_row, Trip, trip_held, trip_held_in, trip_stage}
-use Rattle.stage_switch.specs.Handling.{ValveRow, ValveAs, TripRow, TripAs}
+use Rattle.stage_switch.specs.States.{Valve, valve_held, passing_port_state, Trip, trip_held, trip_held_in, trip_stage}
+use Rattle.stage_switch.specs.Handling.{ValvePortState, ValveAs, TripPortState, TripAs}
 use Rattle.stage_switch.proofs.Outlooks as valves
 use Rattle.stage_switch.proofs.Rows.{valve_waits}
 use Rattle.stage_state.specs.declared.logic.StateLogic.TheVariants.{Obeying, Tripping}
@@ -41,7 +41,7 @@ use Rattle.stage_state.specs.Logics.{BeginsAs}
 use Rattle.wire_core.specs.Counts.{elements}
 use Rattle.nodes.specs.declared.node.IslandNode.{IslandNode}
 use Rattle.nodes.specs.declared.node.IslandNode.TheVariants as node
-use Rattle.nodes.specs.Nodes.{node_row, node_law, node_asking, node_moves}
+use Rattle.nodes.specs.Nodes.{node_port_state, node_law, node_asking, node_moves}
 use Rattle.run_account.specs.KindLaws.{IsOneMachine, Moments, PictureLaws}
 use Rattle.run_account.specs.Ports.{InPort, OutPort, InStands, OutStands, InRests, OutRests}
 use Rattle.run_laws.proofs.StateSwitches.{ValveFirst, valve_first, TripFirst, trip_first, trip_machine}
@@ -60,7 +60,7 @@ data PassingPorts (p : Phase) (x : InView) (y : OutView) : Type 0 where
   free : x ≡ Idle → y ≡ Unpulled → PassingPorts p x y
   gone : InClosed x → OutClosed y → PassingPorts p x y
 
-passing_ports : (p : Phase) (x : InView) (y : OutView) → p ≢ New → passing_row p x y → PassingPorts p x y
+passing_ports : (p : Phase) (x : InView) (y : OutView) → p ≢ New → passing_port_state p x y → PassingPorts p x y
 passing_ports New x y n r = absurd (n refl)
 passing_ports Closed x y n r = let c = closed_both x y r in gone c.0 c.1
 passing_ports Open Pulled Available n r = busy refl refl refl
@@ -101,7 +101,7 @@ module _ (first now : Valve) (v : View) (took gave : List (List Item)) (law : Va
       omega (arith, few, flow_sent Kept v took gave law.by got sent flow, flow_got Kept v took gave law.by got sent flow)
 
   -- one that waits gave all that came
-  passed_all : ValveRow now v → in_at v 0 ≡ Pulled → elements sent ≡ elements got
+  passed_all : ValvePortState now v → in_at v 0 ≡ Pulled → elements sent ≡ elements got
   passed_all r waits =
       let all : GaveAll (flow.f ∷ []) law.by.law.out_list = subst (λ (fs : List Inflow). GaveAll fs law.by.law.out_list) flow.ins (valve_waits first now v took gave r law waits).1 in
       flow_sent Kept v took gave law.by got sent flow ∙ ap length all ∙ sym (flow_got Kept v took gave law.by got sent flow)
@@ -124,25 +124,25 @@ moved_by (a ∷ m ∷ b ∷ ms) n i o c s = tt
 
 module _ {S D : Type 0} (L B : Type 0) (sources : S → SourceState) (drains : D → DrainState) (g : Graph) (w : World) (k : ℕ) (n : graph.Node) where
   abbrev Laws : IslandNode S D L B → IslandNode S D L B → List InPort → List OutPort → Type 0
-  Laws first x is os = PictureLaws node_row (node_law sources drains w.book) node_asking node_moves sink_ended g w k n first x is os
+  Laws first x is os = PictureLaws node_port_state (node_law sources drains w.book) node_asking node_moves sink_ended g w k n first x is os
 
   -- its kind stays the same
   record ValveNow (first : Valve) (v : View) (took gave : List (List Item)) : Type 0 where
     now : Valve
-    row_holds : ValveRow now v
+    row_holds : ValvePortState now v
     law_holds : ValveAs first now v took gave
 
-  valve_now : (first : Valve) (x : IslandNode S D L B) (v : View) (took gave : List (List Item)) → node_row x v → node_law sources drains w.book (node.State (Obeying first)) x v took gave → ValveNow first v took gave
+  valve_now : (first : Valve) (x : IslandNode S D L B) (v : View) (took gave : List (List Item)) → node_port_state x v → node_law sources drains w.book (node.State (Obeying first)) x v took gave → ValveNow first v took gave
   valve_now first (node.State (Obeying x)) v took gave r law = record { now = x; row_holds = r; law_holds = law }
   valve_now first x v took gave r law = absurd law
 
-  module _ (first x : Valve) (i : InPort) (o : OutPort) (begins : BeginsAs n.kind k n.decider (Obeying first)) (same : w.moves k ≡ x.moves) (r : ValveRow x (record { ins = i.view ∷ []; outs = o.view ∷ [] }))
+  module _ (first x : Valve) (i : InPort) (o : OutPort) (begins : BeginsAs n.kind k n.decider (Obeying first)) (same : w.moves k ≡ x.moves) (r : ValvePortState x (record { ins = i.view ∷ []; outs = o.view ∷ [] }))
       (law : ValveAs first x (record { ins = i.view ∷ []; outs = o.view ∷ [] }) (i.got ∷ []) (o.sent ∷ [])) where
     valve_kind : ValveFirst k n.kind first
     valve_kind = valve_first k n.kind n.decider first begins
 
     abbrev LastAsk : Type 0
-    LastAsk = Moments {N = IslandNode S D L B} node_row (node_law sources drains w.book) node_asking node_moves (node.State (Obeying first)) (node.State (Obeying x)) (i ∷ []) (o ∷ []) 0
+    LastAsk = Moments {N = IslandNode S D L B} node_port_state (node_law sources drains w.book) node_asking node_moves (node.State (Obeying first)) (node.State (Obeying x)) (i ∷ []) (o ∷ []) 0
 
     valve_given : InStands i → OutStands o → o.wire.sent ≤ (if i.wire.shut then length (take i.wire.sent i.wire.list) + 0 else length (take i.wire.sent i.wire.list))
     valve_given si so =
@@ -207,10 +207,10 @@ module _ {S D : Type 0} (L B : Type 0) (sources : S → SourceState) (drains : D
 
   record TripNow (first : Trip) (v : View) (took gave : List (List Item)) : Type 0 where
     now : Trip
-    row_holds : TripRow now v
+    row_holds : TripPortState now v
     law_holds : TripAs first now v took gave
 
-  trip_now : (first : Trip) (x : IslandNode S D L B) (v : View) (took gave : List (List Item)) → node_row x v → node_law sources drains w.book (node.State (Tripping first)) x v took gave → TripNow first v took gave
+  trip_now : (first : Trip) (x : IslandNode S D L B) (v : View) (took gave : List (List Item)) → node_port_state x v → node_law sources drains w.book (node.State (Tripping first)) x v took gave → TripNow first v took gave
   trip_now first (node.State (Tripping x)) v took gave r law = record { now = x; row_holds = r; law_holds = law }
   trip_now first x v took gave r law = absurd law
 
@@ -228,7 +228,7 @@ module _ {S D : Type 0} (L B : Type 0) (sources : S → SourceState) (drains : D
       waited_of (linear book passing) (begin_work k n.decider passing) (trip_stage n.decider now) t h
       (law_at (linear book passing) (begin_work k n.decider passing) _ (trip_held n.decider now) _ x _ y _ t _ h _ refl (ap (λ (p : Phase). trip_held_in p (trip_stage n.decider now)) on) xi yo refl refl law)
 
-  module _ (first x : Trip) (i : InPort) (o : OutPort) (begins : BeginsAs n.kind k n.decider (Tripping first)) (r : TripRow x (record { ins = i.view ∷ []; outs = o.view ∷ [] }))
+  module _ (first x : Trip) (i : InPort) (o : OutPort) (begins : BeginsAs n.kind k n.decider (Tripping first)) (r : TripPortState x (record { ins = i.view ∷ []; outs = o.view ∷ [] }))
       (law : TripAs first x (record { ins = i.view ∷ []; outs = o.view ∷ [] }) (i.got ∷ []) (o.sent ∷ [])) where
     trip_kind : TripFirst k n.kind first
     trip_kind = trip_first k n.kind n.decider first begins
@@ -240,7 +240,7 @@ module _ {S D : Type 0} (L B : Type 0) (sources : S → SourceState) (drains : D
     passed = trip_at w.book first x _ _ _ i.got o.sent law trip_kind.node refl refl
 
     abbrev LastAsks : Type 0
-    LastAsks = Moments {N = IslandNode S D L B} node_row (node_law sources drains w.book) node_asking node_moves (node.State (Tripping first)) (node.State (Tripping x)) (i ∷ []) (o ∷ []) 0
+    LastAsks = Moments {N = IslandNode S D L B} node_port_state (node_law sources drains w.book) node_asking node_moves (node.State (Tripping first)) (node.State (Tripping x)) (i ∷ []) (o ∷ []) 0
 
     trip_asked : InStands i → OutStands o → LastAsks → 1 ≤ demand i.wire
         → (is_going (run (linear w.book passing) (begin_work k n.decider passing) (take (demand i.wire - 1) i.wire.list)).state ≡ true)
@@ -248,7 +248,7 @@ module _ {S D : Type 0} (L B : Type 0) (sources : S → SourceState) (drains : D
     trip_asked si so m some =
         let e = m.0 in
         let l = trip_now first e.old e.knew e.had e.given e.row_held e.law_held in
-        let p = one_views (passing_row l.now.phase) e.knew l.row_holds.row in
+        let p = one_views (passing_port_state l.now.phase) e.knew l.row_holds.row in
         let was = waits_open l.now.phase p.x p.y (passing_ports l.now.phase p.x p.y l.row_holds.started p.holds) (sym p.inp ∙ e.waited) in
         let asked : out_at e.knew 0 ≡ Available = p.out ∙ was.1 in
         let b = began e.had i.got i.want e.took_on e.one_more in

@@ -29,13 +29,13 @@ use stage_core::stage::Stage;
 /// Nets of nodes of any type that is a stage, between two events, in which the nodes and the wires of a blueprint have their
 /// places, keep its laws: each node its row, its law and the moments of its asks, and each wire what it does.
 pub fn nets_keep<S: Stage>()
-    ensures { (g : Graph) (nets : ℕ → Net S) (s : Seats) (asked : ℕ → ℕ) → IsJoined g → Covers g nets s → ((b : ℕ) → Settled S.rests S.law S.asking S.moves (nets b)) → LanesKeep g nets s asked
-        → KeepsLaws S.rests S.law S.asking S.moves g (joined nets s asked) }
+    ensures { (g : Graph) (nets : ℕ → Net S) (s : Seats) (asked : ℕ → ℕ) → IsJoined g → Covers g nets s → ((b : ℕ) → Settled S.port_state S.law S.asking S.moves (nets b)) → LanesKeep g nets s asked
+        → KeepsLaws S.port_state S.law S.asking S.moves g (joined nets s asked) }
 {}
 
 /// Where moreover no net has an event and each lane rests, no event is left on any wire.
 pub fn nets_rest<S: Stage>()
-    ensures { (g : Graph) (nets : ℕ → Net S) (s : Seats) (asked : ℕ → ℕ) → Covers g nets s → ((b : ℕ) → Settled S.rests S.law S.asking S.moves (nets b)) → ((b : ℕ) → (nets b).queue ≡ []) → LanesRest g nets s asked
+    ensures { (g : Graph) (nets : ℕ → Net S) (s : Seats) (asked : ℕ → ℕ) → Covers g nets s → ((b : ℕ) → Settled S.port_state S.law S.asking S.moves (nets b)) → ((b : ℕ) → (nets b).queue ≡ []) → LanesRest g nets s asked
         → IsStill g (joined nets s asked) }
 {}
 
@@ -75,6 +75,6 @@ pub fn a_lane_is_paid()
 /// taken off the lanes and the finds of new demand or a cancel are together below the count of the blueprint's wires over what
 /// they were sent, which is 2n + 4 for a wire with n elements and 6n + 12 for a lane; below it by one for each wire.
 pub fn islands_are_paid<S: Stage>()
-    ensures { (g : Graph) (nets : ℕ → Net S) (s : Seats) (asked cost : ℕ → ℕ) (islands : ℕ) → Covers g nets s → ((b : ℕ) → Settled S.rests S.law S.asking S.moves (nets b)) → Owned g nets s islands → LanesCost g nets s asked cost
+    ensures { (g : Graph) (nets : ℕ → Net S) (s : Seats) (asked cost : ℕ → ℕ) (islands : ℕ) → Covers g nets s → ((b : ℕ) → Settled S.port_state S.law S.asking S.moves (nets b)) → Owned g nets s islands → LanesCost g nets s asked cost
         → (sum_below (λ b. total (nets b)) islands + over_lanes g cost) + length g.wires ≤ count_needed g (counts_of (joined nets s asked) g) }
 {}

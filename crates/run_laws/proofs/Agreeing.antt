@@ -11,7 +11,7 @@ use Rattle.stream_model.specs.Composed.{inputs_of, count_from, ports_of, next, c
 use Rattle.stream_io.specs.State.{SourceState, DrainState}
 use Rattle.nodes.specs.declared.node.IslandNode.{IslandNode}
 use Rattle.nodes.specs.declared.node.IslandNode.TheVariants.{Reading}
-use Rattle.nodes.specs.Nodes.{node_row, node_law, node_asking, node_moves}
+use Rattle.nodes.specs.Nodes.{node_port_state, node_law, node_asking, node_moves}
 use Rattle.run_account.specs.Account.{Account, took}
 use Rattle.run_account.specs.Items.{AllMayPass, AgreesWith}
 use Rattle.run_account.proofs.Agreeing.{every_wire, every_input, gives_by, all_fit}
@@ -26,16 +26,16 @@ module _ {S D L B : Type 0} (sources : S → SourceState) (drains : D → DrainS
   told k n first now e f x = (tells.files k n first now e f x, tells.picks k now x)
 
   pub every_wire_of : (i : ℕ) → i < length g.wires → AgreesWith (composed g w i) (a.near i).wire.sent
-  every_wire_of = every_wire node_row (node_law sources drains w.book) node_asking node_moves (FirstOf sources g.chains) (λ v k n first now. TellsNode sources v n first now × TellsMoves v k now) g w
+  every_wire_of = every_wire node_port_state (node_law sources drains w.book) node_asking node_moves (FirstOf sources g.chains) (λ v k n first now. TellsNode sources v n first now × TellsMoves v k now) g w
       (λ k n first now v took gave made each many law. node_laws sources drains g w k n first now v took gave made each many law) a run.joined run.keeps run.made told rank ranked
 
   pub every_input_of : (k : ℕ) (n : graph.Node) → slice_get g.nodes k ≡ Some n → AllMayPass (ports_of g w (composed g w) k (count_from 0 (inputs_of n.kind))) (took g a k n)
-  every_input_of = every_input node_row (node_law sources drains w.book) node_asking node_moves (FirstOf sources g.chains) (λ v k n first now. TellsNode sources v n first now × TellsMoves v k now) g w
+  every_input_of = every_input node_port_state (node_law sources drains w.book) node_asking node_moves (FirstOf sources g.chains) (λ v k n first now. TellsNode sources v n first now × TellsMoves v k now) g w
       (λ k n first now v took gave made each many law. node_laws sources drains g w k n first now v took gave made each many law) a run.joined run.keeps run.made told rank ranked
 
   -- the moves of every stage fit what may come in there
   pub every_move_fits : (k : ℕ) (n : graph.Node) → slice_get g.nodes k ≡ Some n → moves_fit g w k n.kind (inputs g w k n) ≡ true
-  every_move_fits = all_fit node_row (node_law sources drains w.book) node_asking node_moves (FirstOf sources g.chains) (λ v k n first now. TellsNode sources v n first now × TellsMoves v k now) g w
+  every_move_fits = all_fit node_port_state (node_law sources drains w.book) node_asking node_moves (FirstOf sources g.chains) (λ v k n first now. TellsNode sources v n first now × TellsMoves v k now) g w
       (λ k n first now v took gave made each many law. node_laws sources drains g w k n first now v took gave made each many law) a run.joined run.keeps run.made told rank ranked
 
 -- what the world tells of a node that is no source of lines
@@ -48,6 +48,6 @@ module _ {S D L B : Type 0} (sources : S → SourceState) (drains : D → DrainS
   pub given_of : (sent : ℕ → Outlook) (j : ℕ) (v : Edge) (n : graph.Node) → slice_get g.wires j ≡ Some v → slice_get g.nodes v.from ≡ Some n → ((name : List ℕ) → n.kind ≢ kind.Lines name)
       → ((u : ℕ) (x : Edge) → slice_get g.wires u ≡ Some x → x.to ≡ v.from → AgreesWith (sent u) (a.near u).wire.sent) → AgreesWith (next g w sent j) (a.near j).wire.sent
   given_of sent j v n vi ni other b =
-      gives_by node_row (node_law sources drains w.book) node_asking node_moves (FirstOf sources g.chains) (λ x k m first now. TellsNode sources x m first now × TellsMoves x k now) g w
+      gives_by node_port_state (node_law sources drains w.book) node_asking node_moves (FirstOf sources g.chains) (λ x k m first now. TellsNode sources x m first now × TellsMoves x k now) g w
       (λ k m first now view took gave made told many law. node_laws sources drains g w k m first now view took gave made told many law) a run.joined run.keeps run.made sent j v n vi ni
       (λ first now fi xi. (no_lines sources w n first now other, chose v.from now xi)) b

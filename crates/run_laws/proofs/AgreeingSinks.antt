@@ -30,13 +30,13 @@ use Rattle.wire_core.specs.Marks.{wanted}
 use Rattle.wire_core.specs.Reading.{inp_of, got_of}
 use Rattle.nodes.specs.declared.node.IslandNode.{IslandNode}
 use Rattle.nodes.specs.declared.node.IslandNode.TheVariants.{Reading, Making, Linear, State, Sub, FanIn, FanOut, Writing, Ignoring, Entering, Leaving}
-use Rattle.nodes.specs.Nodes.{node_row, node_law, node_asking, node_moves}
+use Rattle.nodes.specs.Nodes.{node_port_state, node_law, node_asking, node_moves}
 use Rattle.nodes.specs.Ports.{OneInOf}
 use Rattle.nodes.specs.Kinds.{IsMaker, IsFileSink, writes_of}
 use Rattle.nodes.specs.declared.sink.Writes.{Writes}
 use Rattle.nodes.specs.declared.sink.Writes.TheVariants.{Each}
-use Rattle.nodes.specs.Sink.{Sink, sink_row_in, WrotePart, StandsAs, end_seen, WritesOf, SinkLaw}
-use Rattle.nodes.specs.Ignoring.{Ignorer, ignore_row_in, IgnoreLaw}
+use Rattle.nodes.specs.Sink.{Sink, sink_port_state_in, WrotePart, StandsAs, end_seen, WritesOf, SinkLaw}
+use Rattle.nodes.specs.Ignoring.{Ignorer, ignore_port_state_in, IgnoreLaw}
 use Rattle.nodes.proofs.SinkTexts.{has_lines}
 use Rattle.stage_in.specs.Logics.{IsFanIn}
 use Rattle.stage_out.specs.OutLogics.{IsOut}
@@ -128,7 +128,7 @@ ignore_cases sources drains book chains k n (Ignoring first) now v took gave is 
 module _ {S D L B : Type 0} (sources : S → SourceState) (drains : D → DrainState) (book : Book) (g : Graph) (a : Account (IslandNode S D L B)) (run : IsRun sources drains book g a) where
   -- node k, which was handed in as one and is the other now
   abbrev At : ℕ → graph.Node → IslandNode S D L B → IslandNode S D L B → Type 0
-  At k n first now = KeptAs node_row (node_law sources drains book) node_asking node_moves g a k n first now
+  At k n first now = KeptAs node_port_state (node_law sources drains book) node_asking node_moves g a k n first now
 
   -- it is there
   pub sink_there : (k : ℕ) (n : graph.Node) → slice_get g.nodes k ≡ Some n → IsFileSink n.kind → (first : Sink D) × ((now : Sink D) × IsSinkAt a k first now)
@@ -138,7 +138,7 @@ module _ {S D L B : Type 0} (sources : S → SourceState) (drains : D → DrainS
       (c.0, (c.1.0, record { at_first = m.first_at ∙ ap (λ (y : IslandNode S D L B). Some y) c.1.1.0; at_last = m.now_at ∙ ap (λ (y : IslandNode S D L B). Some y) c.1.1.1 }))
 
   sink_at : (k : ℕ) (n : graph.Node) (first now : Sink D) → slice_get g.nodes k ≡ Some n → IsSinkAt a k first now → At k n (Writing first) (Writing now)
-  sink_at k n first now ni at = kept_as node_row (node_law sources drains book) node_asking node_moves g a run.keeps k n (Writing first) (Writing now) ni at.at_first at.at_last
+  sink_at k n first now ni at = kept_as node_port_state (node_law sources drains book) node_asking node_moves g a run.keeps k n (Writing first) (Writing now) ni at.at_first at.at_last
 
   -- its law
   pub sink_law : (k : ℕ) (n : graph.Node) (first now : Sink D) → slice_get g.nodes k ≡ Some n → IsSinkAt a k first now → SinkLaw drains first now (knows g a k n) (took g a k n) (gave g a k n)
@@ -151,7 +151,7 @@ module _ {S D L B : Type 0} (sources : S → SourceState) (drains : D → DrainS
       (c.0, (c.1.0, record { at_first = m.first_at ∙ ap (λ (y : IslandNode S D L B). Some y) c.1.1.0; at_last = m.now_at ∙ ap (λ (y : IslandNode S D L B). Some y) c.1.1.1 }))
 
   ignore_at : (k : ℕ) (n : graph.Node) (first now : Ignorer) → slice_get g.nodes k ≡ Some n → IsIgnorerAt a k first now → At k n (Ignoring first) (Ignoring now)
-  ignore_at k n first now ni at = kept_as node_row (node_law sources drains book) node_asking node_moves g a run.keeps k n (Ignoring first) (Ignoring now) ni at.at_first at.at_last
+  ignore_at k n first now ni at = kept_as node_port_state (node_law sources drains book) node_asking node_moves g a run.keeps k n (Ignoring first) (Ignoring now) ni at.at_first at.at_last
 
   its_first : (k : ℕ) (n : graph.Node) (first now : Sink D) → slice_get g.nodes k ≡ Some n → IsSinkAt a k first now → FirstWriting k n.kind first
   its_first k n first now ni at = run.made k n (Writing first) ni at.at_first
@@ -188,8 +188,8 @@ module _ {S D L B : Type 0} (sources : S → SourceState) (drains : D → DrainS
     each : (law.wrote ≡ law.elems) × (law.in_end ≡ end_seen now.end)
     each = sink_each drains first now (knows g a k n) (took g a k n) (gave g a k n) law nothing (writes_each k n name first now ni is at)
 
-    row_here : OneInOf (sink_row_in now.started now.end) ((a.far u).wire.inp ∷ []) (knows g a k n).outs
-    row_here = subst (λ (l : List InView). OneInOf (sink_row_in now.started now.end) l (knows g a k n).outs) wire.ins (sink_at k n first now ni at).row_holds
+    row_here : OneInOf (sink_port_state_in now.started now.end) ((a.far u).wire.inp ∷ []) (knows g a k n).outs
+    row_here = subst (λ (l : List InView). OneInOf (sink_port_state_in now.started now.end) l (knows g a k n).outs) wire.ins (sink_at k n first now ni at).row_holds
 
     seen : TookAs (a.far u).wire.inp law.in_end
     seen = subst (λ (x : InView). TookAs x law.in_end) (ap (λ (l : List InView). get_or l 0 Cancelled) wire.ins) law.took_as
@@ -214,8 +214,8 @@ module _ {S D L B : Type 0} (sources : S → SourceState) (drains : D → DrainS
         let one : inputs_of n.kind ≡ 1 = ap inputs_of is in
         let asked : 1 ≤ slice_index_or (ins_wanted g a k n) 0 0 = omega (arith, some, same, length-append part.before (part.last ∷ []), all, came, least, wants) in
         let e = (sink_at k n first now ni at).asks 0 (omega (arith, one)) asked in
-        let e' = subst (λ (l : List (List Item)). Earlier {N = IslandNode S D L B} node_row (node_law sources drains book) node_asking node_moves 0 (Writing first) (Writing now) l [] (ins_wanted g a k n) (outs_wanted g a k n) (outs_shut g a k n)) wire.came
-        (subst (λ (l : List (List Item)). Earlier {N = IslandNode S D L B} node_row (node_law sources drains book) node_asking node_moves 0 (Writing first) (Writing now) (took g a k n) l (ins_wanted g a k n) (outs_wanted g a k n) (outs_shut g a k n)) law.gave_is e) in
+        let e' = subst (λ (l : List (List Item)). Earlier {N = IslandNode S D L B} node_port_state (node_law sources drains book) node_asking node_moves 0 (Writing first) (Writing now) l [] (ins_wanted g a k n) (outs_wanted g a k n) (outs_shut g a k n)) wire.came
+        (subst (λ (l : List (List Item)). Earlier {N = IslandNode S D L B} node_port_state (node_law sources drains book) node_asking node_moves 0 (Writing first) (Writing now) (took g a k n) l (ins_wanted g a k n) (outs_wanted g a k n) (outs_shut g a k n)) law.gave_is e) in
         let few = none_behind sources drains book first now fault (a.far u).wire.got (ins_wanted g a k n) (outs_wanted g a k n) (outs_shut g a k n) e' law.elems open_got in
         omega (arith, few, least, wants)
 
@@ -285,7 +285,7 @@ module _ {S D L B : Type 0} (sources : S → SourceState) (drains : D → DrainS
         let law : IgnoreLaw first now (knows g a k n) (took g a k n) (gave g a k n) = m.law_holds in
         let its : FirstIgnoring k n.kind first = run.made k n (Ignoring first) ni at.at_first in
         let wire = one_wire k n u v ni (ap inputs_of its.kind_is) ui to in
-        let here : OneInOf (ignore_row_in now.started now.end) ((a.far u).wire.inp ∷ []) (knows g a k n).outs = subst (λ (l : List InView). OneInOf (ignore_row_in now.started now.end) l (knows g a k n).outs) wire.ins m.row_holds in
+        let here : OneInOf (ignore_port_state_in now.started now.end) ((a.far u).wire.inp ∷ []) (knows g a k n).outs = subst (λ (l : List InView). OneInOf (ignore_port_state_in now.started now.end) l (knows g a k n).outs) wire.ins m.row_holds in
         let seen : TookAs (a.far u).wire.inp law.in_end = subst (λ (x : InView). TookAs x law.in_end) (ap (λ (l : List InView). get_or l 0 Cancelled) wire.ins) law.took_as in
         let got : (a.far u).wire.got ≡ told law.elems law.in_end = heads_same (a.far u).wire.got (told law.elems law.in_end) (sym wire.came ∙ law.took_is) in
         let came : Agrees (comes_in k) law.elems law.in_end = input_agrees k n law.elems law.in_end ni (ap inputs_of its.kind_is) law.took_is in

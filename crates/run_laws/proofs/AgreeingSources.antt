@@ -18,7 +18,7 @@ use Rattle.fused_net.proofs.Reading.{some_same}
 use Rattle.nodes.specs.declared.node.IslandNode.{IslandNode}
 use Rattle.nodes.specs.declared.node.IslandNode.TheVariants.{Reading, Making, Linear, State, Sub, FanIn, FanOut, Writing, Ignoring, Entering, Leaving}
 use Rattle.nodes.specs.Kinds.{IsMaker, IsFileSink}
-use Rattle.nodes.specs.Nodes.{node_row, node_law, node_asking, node_moves}
+use Rattle.nodes.specs.Nodes.{node_port_state, node_law, node_asking, node_moves}
 use Rattle.nodes.specs.Source.{Lines, LinesLaw}
 use Rattle.stage_in.specs.Logics.{IsFanIn}
 use Rattle.stage_out.specs.OutLogics.{IsOut}
@@ -59,7 +59,7 @@ module _ {S D L B : Type 0} (sources : S → SourceState) (drains : D → DrainS
   pub every_source : (k : ℕ) (n : graph.Node) (first now : Lines S) (u : ℕ) (v : Edge) (bytes : List ℕ) → slice_get g.nodes k ≡ Some n → IsSourceAt a k first now → slice_get g.wires u ≡ Some v → v.from ≡ k
       → (sources first.reader.source).whole ≡ Some bytes → SentLines bytes (sources first.reader.source) (sources now.reader.source) (a.near u).wire.sent
   every_source k n first now u v bytes ni at ui from whole =
-      let m = kept_as node_row (node_law sources drains book) node_asking node_moves g a run.keeps k n (Reading first) (Reading now) ni at.at_first at.at_last in
+      let m = kept_as node_port_state (node_law sources drains book) node_asking node_moves g a run.keeps k n (Reading first) (Reading now) ni at.at_first at.at_last in
       let its : FirstReading sources k n.kind first = run.made k n (Reading first) ni at.at_first in
       let s = run.joined.source u v ui in
       let same : s.0 ≡ n = some_same s.0 n (sym s.1 ∙ subst (λ (j : ℕ). slice_get g.nodes j ≡ Some n) (sym from) ni) in
@@ -73,7 +73,7 @@ module _ {S D L B : Type 0} (sources : S → SourceState) (drains : D → DrainS
   pub source_texts : (u : ℕ) (v : Edge) (n : graph.Node) (name : List ℕ) → slice_get g.wires u ≡ Some v → slice_get g.nodes v.from ≡ Some n → n.kind ≡ kind.Lines name → GivesTexts (a.near u).wire.sent
   source_texts u v n name ui ni is =
       let at = source_there v.from n name ni is in
-      let m = kept_as node_row (node_law sources drains book) node_asking node_moves g a run.keeps v.from n (Reading at.0) (Reading at.1.0) ni at.1.1.at_first at.1.1.at_last in
+      let m = kept_as node_port_state (node_law sources drains book) node_asking node_moves g a run.keeps v.from n (Reading at.0) (Reading at.1.0) ni at.1.1.at_first at.1.1.at_last in
       let law : LinesLaw sources at.0 at.1.0 (knows g a v.from n) (took g a v.from n) (gave g a v.from n) = m.law_holds in
       let s = run.joined.source u v ui in
       let same : s.0 ≡ n = some_same s.0 n (sym s.1 ∙ ni) in

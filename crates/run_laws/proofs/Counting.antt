@@ -15,8 +15,8 @@ use Rattle.stream_io.specs.State.{DrainState}
 use Rattle.stage_law.specs.Held.{told}
 use Rattle.stage_law.specs.Law.{TookAs}
 use Rattle.nodes.specs.Ports.{OneInOf}
-use Rattle.nodes.specs.Sink.{sink_row_in, StandsAs, end_seen}
-use Rattle.nodes.specs.Ignoring.{ignore_row_in, EndsWith}
+use Rattle.nodes.specs.Sink.{sink_port_state_in, StandsAs, end_seen}
+use Rattle.nodes.specs.Ignoring.{ignore_port_state_in, EndsWith}
 use Rattle.run_laws.specs.Sinks.{SentTo, IgnoreTells}
 use Rattle.run_account.proofs.Coming.{elements_told, over_same, waiting_few, resting_same, no_fewer}
 
@@ -34,14 +34,14 @@ over_failed Pulled c h = cc
 over_failed Cancelled c h = cc
 
 -- what a sink's row says of its input
-open_waits : (b : Bool) (i : InView) (outs : List OutView) → OneInOf (sink_row_in b Unended) (i ∷ []) outs → i ≡ Pulled
+open_waits : (b : Bool) (i : InView) (outs : List OutView) → OneInOf (sink_port_state_in b Unended) (i ∷ []) outs → i ≡ Pulled
 open_waits true Pulled [] r = refl
 open_waits true Pulled (y ∷ outs) r = refl
 open_waits _ i [] r = absurd r
 open_waits _ i (y ∷ outs) r = absurd r
 
 -- a sink whose write failed does not wait
-pub fault_waits : (b : Bool) (i : InView) (outs : List OutView) → OneInOf (sink_row_in b WriteFault) (i ∷ []) outs → i ≡ Pulled → ⊥
+pub fault_waits : (b : Bool) (i : InView) (outs : List OutView) → OneInOf (sink_port_state_in b WriteFault) (i ∷ []) outs → i ≡ Pulled → ⊥
 fault_waits true Finished [] r e = cc
 fault_waits true Cancelled [] r e = cc
 fault_waits true Pulled [] r e = r
@@ -50,7 +50,7 @@ fault_waits true Cancelled (y ∷ outs) r e = cc
 fault_waits _ i [] r e = absurd r
 fault_waits _ i (y ∷ outs) r e = absurd r
 
-ignore_waits : (b : Bool) (i : InView) (outs : List OutView) → OneInOf (ignore_row_in b Unended) (i ∷ []) outs → i ≡ Pulled
+ignore_waits : (b : Bool) (i : InView) (outs : List OutView) → OneInOf (ignore_port_state_in b Unended) (i ∷ []) outs → i ≡ Pulled
 ignore_waits true Pulled [] r = refl
 ignore_waits true Pulled (y ∷ outs) r = refl
 ignore_waits _ i [] r = absurd r
@@ -77,7 +77,7 @@ module _ (c : JointPorts) (q : Bool) (sound : IsSound c q) (b : Bool) (outs : Li
     wrote_count : length wrote ≡ length elems
     wrote_count = ap length all
 
-    pub sent_by : (s : EndState) → (s ≡ WriteFault → elements c.sent ≤ elements c.got) → e ≡ end_seen s → OneInOf (sink_row_in b s) (c.inp ∷ []) outs → StandsAs s old new wrote n → SentTo s (elements c.sent) n
+    pub sent_by : (s : EndState) → (s ≡ WriteFault → elements c.sent ≤ elements c.got) → e ≡ end_seen s → OneInOf (sink_port_state_in b s) (c.inp ∷ []) outs → StandsAs s old new wrote n → SentTo s (elements c.sent) n
     sent_by Ended none is r w = all_ended is ∙ sym wrote_count ∙ sym w.count
     sent_by (Failed d) none is r w = all_failed d is ∙ sym wrote_count ∙ sym w.count
     sent_by Unended none is r w =
@@ -95,14 +95,14 @@ module _ (c : JointPorts) (q : Bool) (sound : IsSound c q) (b : Bool) (outs : Li
         let same : length wrote ≡ length elems = wrote_count in
         omega (arith, least, most, got_count, count, more, same, length-append w.before (w.last ∷ []))
 
-    pub rests_by : (s : EndState) → s ≡ Unended → q ≡ false → OneInOf (sink_row_in b s) (c.inp ∷ []) outs → StandsAs s old new wrote n → elements c.sent ≡ n
+    pub rests_by : (s : EndState) → s ≡ Unended → q ≡ false → OneInOf (sink_port_state_in b s) (c.inp ∷ []) outs → StandsAs s old new wrote n → elements c.sent ≡ n
     rests_by Unended is none r w = resting_same c q sound none (open_waits b c.inp outs r) ∙ got_count ∙ sym wrote_count ∙ sym w.count
     rests_by Ended is none r w = cc
     rests_by (Failed d) is none r w = cc
     rests_by WriteFault is none r w = cc
 
   -- a sink that keeps nothing
-  pub ignored_by : (s : EndState) (o : Outlook) → EndsWith s e → OneInOf (ignore_row_in b s) (c.inp ∷ []) outs → Agrees o elems e → IgnoreTells o s (elements c.sent)
+  pub ignored_by : (s : EndState) (o : Outlook) → EndsWith s e → OneInOf (ignore_port_state_in b s) (c.inp ∷ []) outs → Agrees o elems e → IgnoreTells o s (elements c.sent)
   ignored_by Ended o is r a = (elems, (rw is at a, all_ended is))
   ignored_by (Failed d) o is r a = (elems, (rw is at a, all_failed d is))
   ignored_by Unended o is r a = (elems, (rw is at a, few_more (ignore_waits b c.inp outs r)))

@@ -16,9 +16,9 @@ use Rattle.stage_law.specs.Held.{told}
 use Rattle.fused_net.proofs.Reading.{same_or_not}
 use Rattle.nodes.specs.declared.node.IslandNode.{IslandNode}
 use Rattle.nodes.specs.declared.node.IslandNode.TheVariants.{Writing}
-use Rattle.nodes.specs.Nodes.{node_row, node_law, node_asking, node_moves}
+use Rattle.nodes.specs.Nodes.{node_port_state, node_law, node_asking, node_moves}
 use Rattle.nodes.specs.Ports.{OneInOf}
-use Rattle.nodes.specs.Sink.{Sink, sink_row, sink_row_in}
+use Rattle.nodes.specs.Sink.{Sink, sink_port_state, sink_port_state_in}
 use Rattle.run_account.specs.Account.{Earlier}
 use Rattle.run_account.proofs.Coming.{elements_told}
 use Rattle.run_account.proofs.Nodes.{begins_one}
@@ -42,18 +42,18 @@ sent_wanted n true = omega arith
 sent_wanted n false = omega arith
 
 -- a sink whose write failed does not wait, however many ports are told of it
-no_wait : (b : Bool) (ins : List InView) (outs : List OutView) → OneInOf (sink_row_in b WriteFault) ins outs → get_or ins 0 Cancelled ≡ Pulled → ⊥
+no_wait : (b : Bool) (ins : List InView) (outs : List OutView) → OneInOf (sink_port_state_in b WriteFault) ins outs → get_or ins 0 Cancelled ≡ Pulled → ⊥
 no_wait b [] outs r e = absurd r
 no_wait b (x ∷ []) outs r e = fault_waits b x outs r e
 no_wait b (x ∷ y ∷ ins) outs r e = absurd r
 
 module _ {S D L B : Type 0} (sources : S → SourceState) (drains : D → DrainState) (book : Book) (first now : Sink D) (fault : now.end ≡ WriteFault) (got : List Item) (ins_want outs_want : List ℕ) (outs_closed : List Bool)
-    (e : Earlier {N = IslandNode S D L B} node_row (node_law sources drains book) node_asking node_moves 0 (Writing first) (Writing now) (got ∷ []) [] ins_want outs_want outs_closed) where
+    (e : Earlier {N = IslandNode S D L B} node_port_state (node_law sources drains book) node_asking node_moves 0 (Writing first) (Writing now) (got ∷ []) [] ins_want outs_want outs_closed) where
   -- when it asked last it stood otherwise, since it waited
   stood_otherwise : e.had ≡ got ∷ [] → ⊥
   stood_otherwise same =
-      let row : sink_row now e.knew = subst (λ (x : IslandNode S D L B). node_row x e.knew) (sym (e.stays refl refl same)) e.row_held in
-      let here : OneInOf (sink_row_in now.started WriteFault) e.knew.ins e.knew.outs = rw fault at row in
+      let row : sink_port_state now e.knew = subst (λ (x : IslandNode S D L B). node_port_state x e.knew) (sym (e.stays refl refl same)) e.row_held in
+      let here : OneInOf (sink_port_state_in now.started WriteFault) e.knew.ins e.knew.outs = rw fault at row in
       no_wait now.started e.knew.ins e.knew.outs here e.waited
 
   -- so it took an element since, and no more was asked for

@@ -13,7 +13,7 @@ use Rattle.fused_net.specs.Net.{Net, port_at, ports_at, wire_at}
 use Rattle.fused_net.specs.Laws.{Settled}
 use Rattle.fused_net.proofs.Reading.{some_same, get_within, get_there}
 use Rattle.nodes.specs.declared.node.IslandNode.{IslandNode}
-use Rattle.nodes.specs.Nodes.{node_row, node_law, node_asking, node_moves}
+use Rattle.nodes.specs.Nodes.{node_port_state, node_law, node_asking, node_moves}
 use Rattle.wire_core.specs.Cell.{WireState}
 use Rattle.wire_core.specs.Reading.{no_wire}
 use Rattle.run_account.specs.Account.{Account, AllMade, IsStill}
@@ -53,19 +53,19 @@ counts_same a i (v ∷ ws) (c ∷ cells) fused e f =
 
 -- any number of islands, with lanes
 module _ {S D L B : Type 0} (sources : S → SourceState) (drains : D → DrainState) (book : Book) (g : Graph) (nets : ℕ → Net (IslandNode S D L B)) (seats : Seats) (asked : ℕ → ℕ) (covers : Covers g nets seats)
-    (settled : (b : ℕ) → Settled node_row (node_law sources drains book) node_asking node_moves (nets b)) where
+    (settled : (b : ℕ) → Settled node_port_state (node_law sources drains book) node_asking node_moves (nets b)) where
   pub all_run : IsJoined g → LanesKeep g nets seats asked → AllMade (FirstOf sources g.chains) g (joined nets seats asked) → IsRun sources drains book g (joined nets seats asked)
   all_run is_joined lanes made = record {
     joined = is_joined;
-    keeps = all_keep node_row (node_law sources drains book) node_asking node_moves g nets seats is_joined covers asked settled lanes;
+    keeps = all_keep node_port_state (node_law sources drains book) node_asking node_moves g nets seats is_joined covers asked settled lanes;
     made = made;
   }
 
   pub all_rest : ((b : ℕ) → (nets b).queue ≡ []) → LanesRest g nets seats asked → IsStill g (joined nets seats asked)
-  all_rest = all_still node_row (node_law sources drains book) node_asking node_moves g nets seats covers asked settled
+  all_rest = all_still node_port_state (node_law sources drains book) node_asking node_moves g nets seats covers asked settled
 
 -- one island, in which no wire is a lane
-module _ {S D L B : Type 0} (sources : S → SourceState) (drains : D → DrainState) (book : Book) (g : Graph) (net : Net (IslandNode S D L B)) (settled : Settled node_row (node_law sources drains book) node_asking node_moves net) (made : Materializes sources g net.firsts net.ends) where
+module _ {S D L B : Type 0} (sources : S → SourceState) (drains : D → DrainState) (book : Book) (g : Graph) (net : Net (IslandNode S D L B)) (settled : Settled node_port_state (node_law sources drains book) node_asking node_moves net) (made : Materializes sources g net.firsts net.ends) where
   within : (k : ℕ) (n : graph.Node) → slice_get g.nodes k ≡ Some n → k < length net.nodes
   within k n e = let h = slice_get-below g.nodes k n e in let a = settled.each_first in let b = made.nodes in omega (arith, h, a, b)
 

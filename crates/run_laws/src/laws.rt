@@ -14,7 +14,7 @@ ghost use Rattle.stream_model.specs.declared.outcome.EndState.TheVariants.{Unend
 ghost use Rattle.stream_picture.specs.Joined.{IsJoined};
 ghost use Rattle.fused_net.specs.Laws.{Settled};
 ghost use Rattle.fused_net.specs.Net.{Net};
-ghost use Rattle.nodes.specs.Nodes.{node_row, node_law, node_asking, node_moves};
+ghost use Rattle.nodes.specs.Nodes.{node_port_state, node_law, node_asking, node_moves};
 ghost use Rattle.nodes.specs.Ignoring.{Ignorer};
 ghost use Rattle.nodes.specs.Kinds.{IsFileSink};
 ghost use Rattle.nodes.specs.Sink.{Sink};
@@ -38,9 +38,9 @@ use stream_io::outside::{Drain, Source};
 /// An island that was made of a blueprint, between two events, leaves a run of it (`run`); and no event is left on any wire
 /// where none is left in the island (`still`). Its picture is that of the island's wires, in their order (`counts`).
 pub fn an_island_leaves_a_run<S: Source, D: Drain, L: Logic, B: PlugBook>()
-    ensures run { (g : Graph) (net : Net (IslandNode S D L B)) → IsJoined g → Settled node_row (node_law S.state D.state B.lists) node_asking node_moves net → Materializes S.state g net.firsts net.ends → IsRun S.state D.state B.lists g (account_of net) }
-    ensures still { (g : Graph) (net : Net (IslandNode S D L B)) → Settled node_row (node_law S.state D.state B.lists) node_asking node_moves net → Materializes S.state g net.firsts net.ends → net.queue ≡ [] → IsStill g (account_of net) }
-    ensures counts { (g : Graph) (net : Net (IslandNode S D L B)) → Settled node_row (node_law S.state D.state B.lists) node_asking node_moves net → Materializes S.state g net.firsts net.ends → counts_of (account_of net) g ≡ map count_of net.wires }
+    ensures run { (g : Graph) (net : Net (IslandNode S D L B)) → IsJoined g → Settled node_port_state (node_law S.state D.state B.lists) node_asking node_moves net → Materializes S.state g net.firsts net.ends → IsRun S.state D.state B.lists g (account_of net) }
+    ensures still { (g : Graph) (net : Net (IslandNode S D L B)) → Settled node_port_state (node_law S.state D.state B.lists) node_asking node_moves net → Materializes S.state g net.firsts net.ends → net.queue ≡ [] → IsStill g (account_of net) }
+    ensures counts { (g : Graph) (net : Net (IslandNode S D L B)) → Settled node_port_state (node_law S.state D.state B.lists) node_asking node_moves net → Materializes S.state g net.firsts net.ends → counts_of (account_of net) g ≡ map count_of net.wires }
 {}
 
 /// Islands in which the nodes and wires of a blueprint have their places, between two events, leave a run of it where its nodes
@@ -48,10 +48,10 @@ pub fn an_island_leaves_a_run<S: Source, D: Drain, L: Logic, B: PlugBook>()
 /// where none is left in any island and each lane rests (`still`). An island without lanes is the case above.
 pub fn islands_leave_a_run<S: Source, D: Drain, L: Logic, B: PlugBook>()
     ensures run { (g : Graph) (nets : ℕ → Net (IslandNode S D L B)) (seats : Seats) (asked : ℕ → ℕ) → IsJoined g → Covers g nets seats
-        → ((b : ℕ) → Settled node_row (node_law S.state D.state B.lists) node_asking node_moves (nets b)) → LanesKeep g nets seats asked
+        → ((b : ℕ) → Settled node_port_state (node_law S.state D.state B.lists) node_asking node_moves (nets b)) → LanesKeep g nets seats asked
         → AllMade (FirstOf S.state g.chains) g (joined nets seats asked) → IsRun S.state D.state B.lists g (joined nets seats asked) }
     ensures still { (g : Graph) (nets : ℕ → Net (IslandNode S D L B)) (seats : Seats) (asked : ℕ → ℕ) → Covers g nets seats
-        → ((b : ℕ) → Settled node_row (node_law S.state D.state B.lists) node_asking node_moves (nets b)) → ((b : ℕ) → (nets b).queue ≡ []) → LanesRest g nets seats asked
+        → ((b : ℕ) → Settled node_port_state (node_law S.state D.state B.lists) node_asking node_moves (nets b)) → ((b : ℕ) → (nets b).queue ≡ []) → LanesRest g nets seats asked
         → IsStill g (joined nets seats asked) }
 {}
 

@@ -44,7 +44,7 @@ use Rattle.stage_fans.specs.declared.outs.OutputState.TheVariants.{Quiet, Asks, 
 use Rattle.stage_fans.specs.Outs.{want_view, open_count, asks_count, OneInClosed, OutsClosed, AllClosed}
 use Rattle.stage_balance.specs.Outs.{own_ins, own_outs}
 use Rattle.stage_balance.specs.Balances.{BalanceHeld, waits, shut, Handed, BalanceTurn, BalanceClose, BalanceTurnAt, BalanceKeeps, moves_of, BalanceLaw}
-use Rattle.stage_balance.specs.Balancings.{Core, Balancing, input_of, Queued, Holding, Sound, row_by, row, held_by, held, Turned, Begins, BalanceFresh, BalancesAs, BalanceRestsOwn}
+use Rattle.stage_balance.specs.Balancings.{Core, Balancing, input_of, Queued, Holding, Sound, port_state_by, port_state, held_by, held, Turned, Begins, BalanceFresh, BalancesAs, BalanceRestsOwn}
 use Rattle.stage_balance.proofs.Balances.{balance_stands, joined_then, joined_end}
 
 -- ---- a call keeps the law
@@ -160,17 +160,17 @@ none_called (pulls j) v may c = no_out v.outs j c.1 (subst IsOutOpen (sym may) t
 none_called (arrives i x) v may c = no_in v.ins i x c.0 (comes_open x (in_at v i) may)
 none_called (cancels j) v may c = no_out v.outs j c.1 may
 
-pub called_live : (l : Balancing) (c : Call) (v : View) → CallAllowed c v → row l v → l.core.live ≡ true
+pub called_live : (l : Balancing) (c : Call) (v : View) → CallAllowed c v → port_state l v → l.core.live ≡ true
 called_live l c v may r = by_live l.core.live r
   where
-    by_live : (b : Bool) → row_by b l.core v → b ≡ true
+    by_live : (b : Bool) → port_state_by b l.core v → b ≡ true
     by_live true r = refl
     by_live false r = absurd (none_called c v may r)
 
-pub called_fits : (l : Balancing) (c : Call) (v : View) → CallAllowed c v → row l v → room_for (length l.core.outs) ≤ most_acts
+pub called_fits : (l : Balancing) (c : Call) (v : View) → CallAllowed c v → port_state l v → room_for (length l.core.outs) ≤ most_acts
 called_fits l c v may r = by_live l.core.live r
   where
-    by_live : (b : Bool) → row_by b l.core v → room_for (length l.core.outs) ≤ most_acts
+    by_live : (b : Bool) → port_state_by b l.core v → room_for (length l.core.outs) ≤ most_acts
     by_live true r = let few : length l.core.outs ≤ 16 = r.1.few in omega (arith, few)
     by_live false r = absurd (none_called c v may r)
 
@@ -179,9 +179,9 @@ record OpenPorts (l : Balancing) (v : View) : Type 0 where
   one : length v.ins ≡ 1
   outs : length v.outs ≡ length l.core.outs
 
-open_ports : (l : Balancing) (v : View) → l.core.live ≡ true → row l v → OpenPorts l v
+open_ports : (l : Balancing) (v : View) → l.core.live ≡ true → port_state l v → OpenPorts l v
 open_ports l v h r =
-    let s = subst (λ b. row_by b l.core v) h r in
+    let s = subst (λ b. port_state_by b l.core v) h r in
     record { one = ap (λ (w : View). length w.ins) s.0; outs = ap (λ (w : View). length w.outs) s.0 ∙ length-map l.core.outs want_view }
 
 -- ---- over histories in order
@@ -209,7 +209,7 @@ law_as x v took g h e law = record {
 named_then : (n : ℕ) (moves more now : List ℕ) → now ≡ moves ++ more → all_below n moves ≡ true → all_below n more ≡ true → all_below n now ≡ true
 named_then n moves more now e a b = ap (all_below n) e ∙ list_all-append _ moves more ∙ and_from (all_below n moves) (all_below n more) a b
 
-keeps : (c : Call) (first old new : Balancing) (v : View) (took gave : List (List Item)) (acts : List Act) → old.core.live ≡ true → CallAllowed c v → ActsAllowed (seen c v) acts → row old v → Turned c old acts new
+keeps : (c : Call) (first old new : Balancing) (v : View) (took gave : List (List Item)) (acts : List Act) → old.core.live ≡ true → CallAllowed c v → ActsAllowed (seen c v) acts → port_state old v → Turned c old acts new
     → BalancesAs first old v took gave → BalancesAs first new (acted_all (seen c v) acts) (brought_by c took) (given_all acts gave)
 keeps c first old new v took gave acts live may allowed r t law =
     let p = open_ports old v live r in
@@ -226,7 +226,7 @@ keeps c first old new v took gave acts live may allowed r t law =
           (call_keeps c v law.taken (λ j. slice_index_or gave j []) acts may allowed (held old) (held new) t.turn law.law);
     }
 
-pub handled : (c : Call) (old new : Balancing) (acts : List Act) → Obeys c (row old) (row new) acts → Turned c old acts new → Handles row BalancesAs c old new acts
+pub handled : (c : Call) (old new : Balancing) (acts : List Act) → Obeys c (port_state old) (port_state new) acts → Turned c old acts new → Handles port_state BalancesAs c old new acts
 handled c old new acts o t = record {
   obeys = o;
   stands = t.stands;
@@ -257,7 +257,7 @@ one_empty (x ∷ y ∷ hs) h l = absurd (omega (arith, l))
 fresh_law : (l : Balancing) (v : View) (took gave : List (List Item)) → CallAllowed starts v → BalanceFresh l v → AllEmpty took → AllEmpty gave → length took ≡ length v.ins → length gave ≡ length v.outs → BalancesAs l l v took gave
 fresh_law l v took gave may r a b m k =
     let p = open_ports l v r.live r.row in
-    let s : Sound l.core = (subst (λ b. row_by b l.core v) r.live r.row).1 in
+    let s : Sound l.core = (subst (λ b. port_state_by b l.core v) r.live r.row).1 in
     let open_now : l.core.over ≡ false = (subst (λ w. Holding w l.core) r.empty s.holds).0 in
     let owes : held l ≡ waits [] nothing = ap (λ b. held_by b l.log.moves l.core) r.live ∙ rw (r.unmoved, r.empty, open_now) refl in
     let law : BalanceLaw (waits [] nothing) v [] (λ j. slice_index_or gave j []) = record {
@@ -280,7 +280,7 @@ fresh_law l v took gave may r a b m k =
       law = subst (λ x. BalanceLaw x v [] (λ j. slice_index_or gave j [])) (sym owes) law;
     }
 
-pub started : (old new : Balancing) (acts : List Act) → Obeys starts (row old) (row new) acts → Turned starts old acts new → Starts row BalancesAs BalanceFresh old new acts
+pub started : (old new : Balancing) (acts : List Act) → Obeys starts (port_state old) (port_state new) acts → Turned starts old acts new → Starts port_state BalancesAs BalanceFresh old new acts
 started old new acts o t = record {
   obeys = record { allowed = λ v may r. o.allowed v may r.row; row = λ v may r. o.row v may r.row };
   stands = t.stands;
@@ -312,7 +312,7 @@ new_may_start k l two few b =
       live = ap (λ (c : Core). c.live) b.core;
       unmoved = b.moves;
       empty = ap (λ (c : Core). c.waiting) b.core;
-      row = subst (λ (c : Core). row_by c.live c (unpulled_outs k)) (sym b.core) (ap (λ (ys : List OutView). record { ins = Idle ∷ []; outs = ys }) (sym (quiet_views k)), s);
+      row = subst (λ (c : Core). port_state_by c.live c (unpulled_outs k)) (sym b.core) (ap (λ (ys : List OutView). record { ins = Idle ∷ []; outs = ys }) (sym (quiet_views k)), s);
     }
 
 -- ---- it rests
@@ -369,14 +369,14 @@ module _ (l : Core) (took : List Tree) (g : ℕ → List Tree) (s : Sound l) whe
       subst (λ i. BalanceRests i (own_outs 0 (map want_view l.outs) g)) (sym waits_now) (inl (some_asked 0 l.outs j g r.0, (refl, refl)))
   by_queue (j ∷ q) (Some t) e x r h = let z : j ∷ q ≡ [] = sym e ∙ h.0 in cc
 
-rests_own : (l : Balancing) (v : View) (took : List Tree) (g : ℕ → List Tree) → row l v → BalanceRestsOwn v took g
+rests_own : (l : Balancing) (v : View) (took : List Tree) (g : ℕ → List Tree) → port_state l v → BalanceRestsOwn v took g
 rests_own l v took g r = by_live l.core.live r
   where
-    by_live : (b : Bool) → row_by b l.core v → BalanceRestsOwn v took g
+    by_live : (b : Bool) → port_state_by b l.core v → BalanceRestsOwn v took g
     by_live true r = subst (λ w. BalanceRestsOwn w took g) (sym r.0) (inr (by_queue l.core took g r.1 l.core.queue l.core.waiting refl refl r.1.queued r.1.holds))
     by_live false r = inl (ins_shut v.ins took r.0, outs_shut 0 v.outs g r.1)
 
-pub logic_rests : (first now : Balancing) (v : View) (took gave : List (List Item)) → row now v → (law : BalancesAs first now v took gave) → BalanceRestsOwn v law.law.flow.list law.law.lists
+pub logic_rests : (first now : Balancing) (v : View) (took gave : List (List Item)) → port_state now v → (law : BalancesAs first now v took gave) → BalanceRestsOwn v law.law.flow.list law.law.lists
 logic_rests first now v took gave r law = rests_own now v law.law.flow.list law.law.lists r
 
 -- ---- outlooks

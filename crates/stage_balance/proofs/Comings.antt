@@ -26,7 +26,7 @@ use Rattle.stage_fans.specs.declared.outs.OutputState.TheVariants.{Quiet, Asks, 
 use Rattle.stage_fans.specs.Outs.{want_view, open_count, at_open, OutsClosed, AllClosed}
 use Rattle.stage_balance.specs.Outs.{SomeAsked}
 use Rattle.stage_balance.specs.Balances.{waits, BalanceTurn, BalanceClose, BalanceTurnBy}
-use Rattle.stage_balance.specs.Balancings.{Balancing, input_of, view_of, Queued, Holding, Sound, row, waited_by, waited, held, Does, closed, served, filled, others, without, Took, alone, again, stays, Ended, end_waits, end_passes, Lost, final, others_open, FirstServed}
+use Rattle.stage_balance.specs.Balancings.{Balancing, input_of, view_of, Queued, Holding, Sound, port_state, waited_by, waited, held, Does, closed, served, filled, others, without, Took, alone, again, stays, Ended, end_waits, end_passes, Lost, final, others_open, FirstServed}
 use Rattle.stage_balance.proofs.Queues.{open_served, open_lost, queue_without, never_longer}
 use Rattle.stage_fans.proofs.OutViews.{want_set, is_open, shut_views, gone_views}
 use Rattle.stage_balance.proofs.Wants.{view_at}
@@ -145,10 +145,10 @@ module _ (old : Balancing) (t : Tree) (log : Picks) (h : old.core.live ≡ true)
         named = refl;
       })
 
-pub first_there : (l : Balancing) (i : ℕ) (t : Tree) → l.core.live ≡ true → Meets (arrives i (item.Elem t)) (row l) → (j : ℕ) (q : List ℕ) → l.core.queue ≡ j ∷ q → j < length l.core.outs
+pub first_there : (l : Balancing) (i : ℕ) (t : Tree) → l.core.live ≡ true → Meets (arrives i (item.Elem t)) (port_state l) → (j : ℕ) (q : List ℕ) → l.core.queue ≡ j ∷ q → j < length l.core.outs
 first_there l i t h m j q e = slice_get_within l.core.outs j Asks (subst (λ (k : List ℕ). Queued l.core.outs k) e (found (arrives i (item.Elem t)) l h m).sound.queued).0
 
-pub took : (old mid new : Balancing) (acts : List Act) (i : ℕ) (t : Tree) → old.core.live ≡ true → mid ≡ record old { log = mid.log } → mid.log.moves ≡ old.log.moves → Meets (arrives i (item.Elem t)) (row old) → Took t mid new acts → Handled (arrives i (item.Elem t)) old acts new
+pub took : (old mid new : Balancing) (acts : List Act) (i : ℕ) (t : Tree) → old.core.live ≡ true → mid ≡ record old { log = mid.log } → mid.log.moves ≡ old.log.moves → Meets (arrives i (item.Elem t)) (port_state old) → Took t mid new acts → Handled (arrives i (item.Elem t)) old acts new
 took old mid new acts i t h is same m a = subst (λ n. Handled (arrives n (item.Elem t)) old acts new) (sym p.0) (by_took (subst (λ l. Took t l new acts) is a))
   where
     f : Found (arrives i (item.Elem t)) old
@@ -268,13 +268,13 @@ module _ (old : Balancing) (h : old.core.live ≡ true) (sound : Sound old.core)
         named = refl;
       })
 
-pub few_brought : (l : Balancing) (i : ℕ) (b : Item) → l.core.live ≡ true → Meets (arrives i b) (row l) → length l.core.outs ≤ 16
+pub few_brought : (l : Balancing) (i : ℕ) (b : Item) → l.core.live ≡ true → Meets (arrives i b) (port_state l) → length l.core.outs ≤ 16
 few_brought l i b h m = (found (arrives i b) l h m).sound.few
 
-pub few_asked : (l : Balancing) (j : ℕ) → l.core.live ≡ true → Meets (pulls j) (row l) → length l.core.outs ≤ 16
+pub few_asked : (l : Balancing) (j : ℕ) → l.core.live ≡ true → Meets (pulls j) (port_state l) → length l.core.outs ≤ 16
 few_asked l j h m = (found (pulls j) l h m).sound.few
 
-pub finished : (old new : Balancing) (acts : List Act) (i : ℕ) → old.core.live ≡ true → Meets (arrives i item.Ended) (row old) → Ended old new acts → Handled (arrives i item.Ended) old acts new
+pub finished : (old new : Balancing) (acts : List Act) (i : ℕ) → old.core.live ≡ true → Meets (arrives i item.Ended) (port_state old) → Ended old new acts → Handled (arrives i item.Ended) old acts new
 finished old new acts i h m e = subst (λ n. Handled (arrives n item.Ended) old acts new) (sym p.0) (by_end e)
   where
     f : Found (arrives i item.Ended) old
@@ -291,7 +291,7 @@ finished old new acts i h m e = subst (λ n. Handled (arrives n item.Ended) old 
     by_end (end_waits n d) = rw (d.to_is, d.acts_are) (some_waits old.core.waiting refl n)
     by_end (end_passes none d) = rw (d.to_is, d.acts_are) (end_now old h f.sound p.1 none)
 
-pub failed_on : (old new : Balancing) (acts : List Act) (i : ℕ) (c : Cause) → old.core.live ≡ true → Meets (arrives i (item.Failed c)) (row old) → Does new acts (closed old) (at_open (λ k. FailOut k c) 0 old.core.outs) → Handled (arrives i (item.Failed c)) old acts new
+pub failed_on : (old new : Balancing) (acts : List Act) (i : ℕ) (c : Cause) → old.core.live ≡ true → Meets (arrives i (item.Failed c)) (port_state old) → Does new acts (closed old) (at_open (λ k. FailOut k c) 0 old.core.outs) → Handled (arrives i (item.Failed c)) old acts new
 failed_on old new acts i c h m d =
     let f = found (arrives i (item.Failed c)) old h m in
     let p = open_port old.core.over old.core.pulled i f.may in
@@ -303,10 +303,10 @@ there_by : (l : Balancing) (j : ℕ) → (slice_get l.core.outs j ≡ Some Quiet
 there_by l j (inl q) = slice_get_within l.core.outs j Quiet q
 there_by l j (inr q) = slice_get_within l.core.outs j Asks q
 
-pub lost_there : (l : Balancing) (j : ℕ) → l.core.live ≡ true → Meets (cancels j) (row l) → j < length l.core.outs
+pub lost_there : (l : Balancing) (j : ℕ) → l.core.live ≡ true → Meets (cancels j) (port_state l) → j < length l.core.outs
 lost_there l j h m = there_by l j (is_open l.core.outs j (found (cancels j) l h m).may)
 
-pub lost_some : (l : Balancing) (j : ℕ) → l.core.live ≡ true → Meets (cancels j) (row l) → 1 ≤ l.core.open_outs
+pub lost_some : (l : Balancing) (j : ℕ) → l.core.live ≡ true → Meets (cancels j) (port_state l) → 1 ≤ l.core.open_outs
 lost_some l j h m = (found (cancels j) l h m).sound.some
 
 abbrev cancel_by : Bool → List Act
@@ -397,7 +397,7 @@ module _ (old : Balancing) (j : ℕ) (h : old.core.live ≡ true) (sound : Sound
         named = refl;
       })
 
-pub lost : (old new : Balancing) (acts : List Act) (j : ℕ) → old.core.live ≡ true → Meets (cancels j) (row old) → Lost j old new acts → Handled (cancels j) old acts new
+pub lost : (old new : Balancing) (acts : List Act) (j : ℕ) → old.core.live ≡ true → Meets (cancels j) (port_state old) → Lost j old new acts → Handled (cancels j) old acts new
 lost old new acts j h m l = by_loss l
   where
     f : Found (cancels j) old

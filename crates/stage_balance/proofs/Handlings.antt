@@ -31,25 +31,25 @@ use Rattle.stage_fans.specs.declared.outs.OutputState.TheVariants.{Quiet, Asks}
 use Rattle.stage_fans.specs.Outs.{want_view, at_open, OneInClosed, AllClosed}
 use Rattle.stage_balance.specs.Outs.{SomeAsked}
 use Rattle.stage_balance.specs.Balances.{waits, Handed, BalanceTurn, BalanceClose, BalanceTurnBy}
-use Rattle.stage_balance.specs.Balancings.{Balancing, input_of, view_of, Holding, Sound, row_by, row, waited_by, waited, held_by, held, Turned, Does, closed, emptied, lined, served, Answered, given, last, queues, Took, alone, again, LastInLine}
+use Rattle.stage_balance.specs.Balancings.{Balancing, input_of, view_of, Holding, Sound, port_state_by, port_state, waited_by, waited, held_by, held, Turned, Does, closed, emptied, lined, served, Answered, given, last, queues, Took, alone, again, LastInLine}
 use Rattle.stage_balance.proofs.Queues.{open_asked, set_self, queue_more, queue_fits}
 use Rattle.stage_fans.proofs.OutViews.{want_set, is_quiet, after_one, shut_views}
 use Rattle.stage_balance.proofs.Wants.{view_twice, view_at, asked_at, Acted, acts_from, GivenAt, nothing_here, one_here, given_each}
 
 -- ---- the row
 
-pub standing : (l : Balancing) (v : View) → l.core.live ≡ true → row l v → (v ≡ view_of l.core) × Sound l.core
-standing l v h r = subst (λ b. row_by b l.core v) h r
+pub standing : (l : Balancing) (v : View) → l.core.live ≡ true → port_state l v → (v ≡ view_of l.core) × Sound l.core
+standing l v h r = subst (λ b. port_state_by b l.core v) h r
 
-pub is_standing : (l : Balancing) (v : View) → l.core.live ≡ true → v ≡ view_of l.core → Sound l.core → row l v
-is_standing l v h is s = subst (λ b. row_by b l.core v) (sym h) (is, s)
+pub is_standing : (l : Balancing) (v : View) → l.core.live ≡ true → v ≡ view_of l.core → Sound l.core → port_state l v
+is_standing l v h is s = subst (λ b. port_state_by b l.core v) (sym h) (is, s)
 
 -- what a call finds
 pub record Found (call : Call) (l : Balancing) : Type 0 where
   pub may : CallAllowed call (view_of l.core)
   pub sound : Sound l.core
 
-pub found : (call : Call) (l : Balancing) → l.core.live ≡ true → Meets call (row l) → Found call l
+pub found : (call : Call) (l : Balancing) → l.core.live ≡ true → Meets call (port_state l) → Found call l
 found call l h m =
     let s = standing l m.0 h m.1.1 in
     record { may = subst (λ v. CallAllowed call v) s.0 m.1.0; sound = s.1 }
@@ -57,7 +57,7 @@ found call l h m =
 -- the actions of a call, and what they are of the law
 pub record At (call : Call) (r : Inflow) (v : View) (old new : Balancing) (acts : List Act) : Type 0 where
   pub allowed : ActsAllowed v acts
-  pub row_then : row new (acted_all v acts)
+  pub row_then : port_state new (acted_all v acts)
   pub turn : BalanceTurnBy r (waits old.log.moves (waited old.core)) (λ j. given_on j acts) (held new)
   pub outputs : length new.core.outs ≡ length old.core.outs
   pub stands : PullsStand acts
@@ -68,14 +68,14 @@ pub record At (call : Call) (r : Inflow) (v : View) (old new : Balancing) (acts 
 
 -- both that a handler owes
 pub record Handled (call : Call) (old : Balancing) (acts : List Act) (new : Balancing) : Type 0 where
-  pub ports : Obeys call (row old) (row new) acts
+  pub ports : Obeys call (port_state old) (port_state new) acts
   pub gives : Turned call old acts new
 
 pub handle : (call : Call) (old new : Balancing) (acts : List Act) → old.core.live ≡ true → At call (coming call 0) (seen call (view_of old.core)) old new acts → Handled call old acts new
 handle call old new acts h a = record {
   ports = record {
     allowed = λ v may r. let s = standing old v h r in subst (λ w. ActsAllowed (seen call w) acts) (sym s.0) a.allowed;
-    row = λ v may r. let s = standing old v h r in subst (λ w. row new (acted_all (seen call w) acts)) (sym s.0) a.row_then;
+    row = λ v may r. let s = standing old v h r in subst (λ w. port_state new (acted_all (seen call w) acts)) (sym s.0) a.row_then;
   };
   gives = record {
     turn = subst (λ b. BalanceTurnBy (coming call 0) (held_by b old.log.moves old.core) (λ j. given_on j acts) (held new)) (sym h) a.turn;
@@ -175,7 +175,7 @@ over_closed x false p h e = cc
 
 -- ---- the start
 
-started_on : (l : Balancing) → l.core.live ≡ true → Meets starts (row l) → Handled starts l [] l
+started_on : (l : Balancing) → l.core.live ≡ true → Meets starts (port_state l) → Handled starts l [] l
 started_on l h m =
     let f = found starts l h m in
     handle starts l l [] h (record {
@@ -190,15 +190,15 @@ started_on l h m =
       named = refl;
     })
 
-pub started : (l : Balancing) (acts : List Act) → acts ≡ [] → l.core.live ≡ true → Meets starts (row l) → Handled starts l acts l
+pub started : (l : Balancing) (acts : List Act) → acts ≡ [] → l.core.live ≡ true → Meets starts (port_state l) → Handled starts l acts l
 started l acts e h m = subst (λ (a : List Act). Handled starts l a l) (sym e) (started_on l h m)
 
 -- ---- an output asks
 
-pub asked_there : (l : Balancing) (j : ℕ) → l.core.live ≡ true → Meets (pulls j) (row l) → j < length l.core.outs
+pub asked_there : (l : Balancing) (j : ℕ) → l.core.live ≡ true → Meets (pulls j) (port_state l) → j < length l.core.outs
 asked_there l j h m = slice_get_within l.core.outs j Quiet (is_quiet l.core.outs j (found (pulls j) l h m).may)
 
-pub asked_fits : (l : Balancing) (j : ℕ) → l.core.live ≡ true → Meets (pulls j) (row l) → length l.core.queue < l.core.room
+pub asked_fits : (l : Balancing) (j : ℕ) → l.core.live ≡ true → Meets (pulls j) (port_state l) → length l.core.queue < l.core.room
 asked_fits l j h m =
     let f = found (pulls j) l h m in
     let a = queue_fits l.core.outs l.core.queue j (is_quiet l.core.outs j f.may) f.sound.queued in
@@ -331,7 +331,7 @@ module _ (old : Balancing) (j : ℕ) (h : old.core.live ≡ true) (q : slice_get
       now_asks (w ∷ ws) zero h = refl
       now_asks (w ∷ ws) (suc j) h = now_asks ws j h
 
-pub answered : (old mid new : Balancing) (acts : List Act) (j : ℕ) → old.core.live ≡ true → mid ≡ record old { log = mid.log } → mid.log.moves ≡ old.log.moves → Meets (pulls j) (row old) → Answered j mid new acts → Handled (pulls j) old acts new
+pub answered : (old mid new : Balancing) (acts : List Act) (j : ℕ) → old.core.live ≡ true → mid ≡ record old { log = mid.log } → mid.log.moves ≡ old.log.moves → Meets (pulls j) (port_state old) → Answered j mid new acts → Handled (pulls j) old acts new
 answered old mid new acts j h is same m a = by_answer (subst (λ l. Answered j l new acts) is a)
   where
     f : Found (pulls j) old

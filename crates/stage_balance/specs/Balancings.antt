@@ -67,12 +67,12 @@ pub record Sound (l : Core) : Type 0 where
   pub few : length l.outs ≤ 16
   pub roomy : length l.outs ≤ l.room
 
-abbrev pub row_by : Bool → Core → View → Type 0
-row_by true l v = (v ≡ view_of l) × Sound l
-row_by false l v = AllClosed v
+abbrev pub port_state_by : Bool → Core → View → Type 0
+port_state_by true l v = (v ≡ view_of l) × Sound l
+port_state_by false l v = AllClosed v
 
-abbrev pub row : Balancing → View → Type 0
-row l v = row_by l.core.live l.core v
+abbrev pub port_state : Balancing → View → Type 0
+port_state l v = port_state_by l.core.live l.core v
 
 -- what waits
 abbrev pub waited_by : Option Tree → List Tree
@@ -96,7 +96,7 @@ pub record Turned (call : Call) (old : Balancing) (acts : List Act) (new : Balan
   pub turn : BalanceTurnAt call (held old) (λ j. given_on j acts) (held new)
   pub outputs : length new.core.outs ≡ length old.core.outs
   pub stands : PullsStand acts
-  pub pulls : PullsAs call (row old) SomeAsked acts
+  pub pulls : PullsAs call (port_state old) SomeAsked acts
   pub more : List ℕ
   pub grows : new.log.moves ≡ old.log.moves ++ more
   pub named : all_below (length old.core.outs) more ≡ true
@@ -178,7 +178,7 @@ pub record BalanceFresh (l : Balancing) (v : View) : Type 0 where
   pub live : l.core.live ≡ true
   pub unmoved : l.log.moves ≡ []
   pub empty : l.core.waiting ≡ None
-  pub row : row l v
+  pub row : port_state l v
 
 -- the law of its histories, by the stage as it was at first and as it is now: by its moves, of which it made none before and
 -- each names an output; its outputs are those that it had at first

@@ -7,7 +7,7 @@ ghost use Rattle.stream_model.specs.declared.kind.TheConstants.{MAX_FAN};
 ghost use Rattle.stage_fans.specs.Seats.{room_for};
 ghost use Rattle.stage_fans.specs.declared.outs.OutputState.TheVariants.{Quiet, Asks, Gone};
 ghost use Rattle.stage_fans.specs.Outs.{at_open};
-ghost use Rattle.stage_balance.specs.Balancings.{row, Turned, FirstServed, LastInLine, Begins, Does, Answered, Took, Ended, Lost, closed, emptied, lined, served, filled, others, without};
+ghost use Rattle.stage_balance.specs.Balancings.{port_state, Turned, FirstServed, LastInLine, Begins, Does, Answered, Took, Ended, Lost, closed, emptied, lined, served, filled, others, without};
 
 use elem_core::elem::Elem;
 use elem_core::why::{Cause, NoMemory};
@@ -77,10 +77,10 @@ impl Balancing {
     /// The run begins.
     pub fn start(&mut self, _acts: &mut Acts) -> Result<(), NoMemory>
         requires live { self.old.core.live ≡ true }
-        requires meets { Meets starts (row self.old) }
+        requires meets { Meets starts (port_state self.old) }
         requires empty { _acts.old.items ≡ [] }
         ensures answers { IsOk result }
-        ensures ports { OnOk result (Obeys starts (row self.old) (row self.new) _acts.new.items) }
+        ensures ports { OnOk result (Obeys starts (port_state self.old) (port_state self.new) _acts.new.items) }
         ensures gives { OnOk result (Turned starts self.old _acts.new.items self.new) }
         ensures room { _acts.new.room ≡ _acts.old.room }
     {
@@ -90,10 +90,10 @@ impl Balancing {
     /// Output `port` was asked. It takes memory for the move alone; where that is refused, all is as before.
     pub fn on_pull(&mut self, port: u8, acts: &mut Acts) -> Result<(), NoMemory>
         requires live { self.old.core.live ≡ true }
-        requires meets { Meets (pulls port) (row self.old) }
+        requires meets { Meets (pulls port) (port_state self.old) }
         requires empty { acts.old.items ≡ [] }
         requires room { room_for (length self.old.core.outs) ≤ acts.old.room }
-        ensures ports { OnOk result (Obeys (pulls port) (row self.old) (row self.new) acts.new.items) }
+        ensures ports { OnOk result (Obeys (pulls port) (port_state self.old) (port_state self.new) acts.new.items) }
         ensures gives { OnOk result (Turned (pulls port) self.old acts.new.items self.new) }
         ensures order { OnOk result (LastInLine port self.old self.new) }
         ensures room { OnOk result (acts.new.room ≡ acts.old.room) }
@@ -107,10 +107,10 @@ impl Balancing {
     /// An element came. It takes memory for the move alone; where that is refused, all is as before but for the element.
     pub fn on_push(&mut self, port: u8, e: Elem, acts: &mut Acts) -> Result<(), NoMemory>
         requires live { self.old.core.live ≡ true }
-        requires meets { Meets (arrives port (item.Elem e)) (row self.old) }
+        requires meets { Meets (arrives port (item.Elem e)) (port_state self.old) }
         requires empty { acts.old.items ≡ [] }
         requires room { room_for (length self.old.core.outs) ≤ acts.old.room }
-        ensures ports { OnOk result (Obeys (arrives port (item.Elem e)) (row self.old) (row self.new) acts.new.items) }
+        ensures ports { OnOk result (Obeys (arrives port (item.Elem e)) (port_state self.old) (port_state self.new) acts.new.items) }
         ensures gives { OnOk result (Turned (arrives port (item.Elem e)) self.old acts.new.items self.new) }
         ensures order { OnOk result (FirstServed self.old self.new) }
         ensures room { OnOk result (acts.new.room ≡ acts.old.room) }
@@ -125,11 +125,11 @@ impl Balancing {
     /// The input has ended.
     pub fn on_finish(&mut self, port: u8, acts: &mut Acts) -> Result<(), NoMemory>
         requires live { self.old.core.live ≡ true }
-        requires meets { Meets (arrives port item.Ended) (row self.old) }
+        requires meets { Meets (arrives port item.Ended) (port_state self.old) }
         requires empty { acts.old.items ≡ [] }
         requires room { room_for (length self.old.core.outs) ≤ acts.old.room }
         ensures answers { IsOk result }
-        ensures ports { OnOk result (Obeys (arrives port item.Ended) (row self.old) (row self.new) acts.new.items) }
+        ensures ports { OnOk result (Obeys (arrives port item.Ended) (port_state self.old) (port_state self.new) acts.new.items) }
         ensures gives { OnOk result (Turned (arrives port item.Ended) self.old acts.new.items self.new) }
         ensures room { acts.new.room ≡ acts.old.room }
     {
@@ -141,11 +141,11 @@ impl Balancing {
     /// The input has failed, which fails the stage at once.
     pub fn on_fail(&mut self, port: u8, cause: Cause, acts: &mut Acts) -> Result<(), NoMemory>
         requires live { self.old.core.live ≡ true }
-        requires meets { Meets (arrives port (item.Failed cause)) (row self.old) }
+        requires meets { Meets (arrives port (item.Failed cause)) (port_state self.old) }
         requires empty { acts.old.items ≡ [] }
         requires room { room_for (length self.old.core.outs) ≤ acts.old.room }
         ensures answers { IsOk result }
-        ensures ports { OnOk result (Obeys (arrives port (item.Failed cause)) (row self.old) (row self.new) acts.new.items) }
+        ensures ports { OnOk result (Obeys (arrives port (item.Failed cause)) (port_state self.old) (port_state self.new) acts.new.items) }
         ensures gives { OnOk result (Turned (arrives port (item.Failed cause)) self.old acts.new.items self.new) }
         ensures room { acts.new.room ≡ acts.old.room }
     {
@@ -157,11 +157,11 @@ impl Balancing {
     /// Output `port` was cancelled: no more is given there, and where it was the last the input is cancelled.
     pub fn on_cancel(&mut self, port: u8, acts: &mut Acts) -> Result<(), NoMemory>
         requires live { self.old.core.live ≡ true }
-        requires meets { Meets (cancels port) (row self.old) }
+        requires meets { Meets (cancels port) (port_state self.old) }
         requires empty { acts.old.items ≡ [] }
         requires room { room_for (length self.old.core.outs) ≤ acts.old.room }
         ensures answers { IsOk result }
-        ensures ports { OnOk result (Obeys (cancels port) (row self.old) (row self.new) acts.new.items) }
+        ensures ports { OnOk result (Obeys (cancels port) (port_state self.old) (port_state self.new) acts.new.items) }
         ensures gives { OnOk result (Turned (cancels port) self.old acts.new.items self.new) }
         ensures order { self.new.core.queue ≡ others port self.old.core.queue }
         ensures room { acts.new.room ≡ acts.old.room }

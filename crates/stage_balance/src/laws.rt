@@ -17,7 +17,7 @@ ghost use Rattle.stream_model.specs.Picks.{balance_fits, sent_to, BalanceStands}
 ghost use Rattle.stage_core.specs.Handling.{Starts, Handles, most_acts};
 ghost use Rattle.stage_fans.specs.Seats.{room_for};
 ghost use Rattle.stage_balance.specs.Balances.{Handed};
-ghost use Rattle.stage_balance.specs.Balancings.{Balancing, Begins, Turned, row, BalanceFresh, BalancesAs, BalanceRestsOwn};
+ghost use Rattle.stage_balance.specs.Balancings.{Balancing, Begins, Turned, port_state, BalanceFresh, BalancesAs, BalanceRestsOwn};
 
 /// A balance by its moves: for every rest of its input and every further list of moves, each output gets what it got and what
 /// the further moves give of what waits with the rest; moves on what waits are further moves; and each output stands as the
@@ -36,21 +36,21 @@ pub fn a_new_balance_may_start()
 
 /// Where its row and its law hold, a balance has closed all its ports, or has nothing to do.
 pub fn a_started_balance_rests()
-    ensures { (first now : Balancing) (v : View) (took gave : List (List Item)) → row now v → (law : BalancesAs first now v took gave) → BalanceRestsOwn v law.law.flow.list law.law.lists }
+    ensures { (first now : Balancing) (v : View) (took gave : List (List Item)) → port_state now v → (law : BalancesAs first now v took gave) → BalanceRestsOwn v law.law.flow.list law.law.lists }
 {}
 
 /// Where the port rules allow a call of a handler and the row holds, a balance is open, and the room that the call wants is
 /// within what every stage is given.
 pub fn a_called_balance_is_open()
-    ensures opens { (l : Balancing) (call : Call) (v : View) → CallAllowed call v → row l v → l.core.live ≡ true }
-    ensures room { (l : Balancing) (call : Call) (v : View) → CallAllowed call v → row l v → room_for (length l.core.outs) ≤ most_acts }
+    ensures opens { (l : Balancing) (call : Call) (v : View) → CallAllowed call v → port_state l v → l.core.live ≡ true }
+    ensures room { (l : Balancing) (call : Call) (v : View) → CallAllowed call v → port_state l v → room_for (length l.core.outs) ≤ most_acts }
 {}
 
 /// What a handler owes to the port rules and to the law is all that is asked of a stage: its start begins the law of its
 /// histories, and every other call keeps it.
 pub fn calls_keep_the_law()
-    ensures starts { (old new : Balancing) (acts : List Act) → Obeys starts (row old) (row new) acts → Turned starts old acts new → Starts row BalancesAs BalanceFresh old new acts }
-    ensures handles { (call : Call) (old new : Balancing) (acts : List Act) → Obeys call (row old) (row new) acts → Turned call old acts new → Handles row BalancesAs call old new acts }
+    ensures starts { (old new : Balancing) (acts : List Act) → Obeys starts (port_state old) (port_state new) acts → Turned starts old acts new → Starts port_state BalancesAs BalanceFresh old new acts }
+    ensures handles { (call : Call) (old new : Balancing) (acts : List Act) → Obeys call (port_state old) (port_state new) acts → Turned call old acts new → Handles port_state BalancesAs call old new acts }
 {}
 
 /// Where its law holds, and what came to its input agrees with that input's outlook, its moves fit, and what it gave at each

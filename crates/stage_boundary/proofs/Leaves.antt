@@ -15,7 +15,7 @@ use Rattle.stream_model.specs.Outlook.{End, unended}
 use Rattle.stage_law.specs.Held.{told}
 use Rattle.stage_law.specs.Law.{TookAs}
 use Rattle.stage_boundary.specs.Ports.{input_only, Does}
-use Rattle.stage_boundary.specs.Leaving.{Leaving, LeavingFresh, leaving_in, LeavingRow, LeavingLaw}
+use Rattle.stage_boundary.specs.Leaving.{Leaving, LeavingFresh, leaving_in, LeavingPortState, LeavingLaw}
 use Rattle.stage_boundary.proofs.Histories.{end_after, list_after, told_after, took_after}
 
 -- an input that is open had no end
@@ -70,7 +70,7 @@ module _ (i : Item) (x : Leaving) where
       no item.Ended h = h
       no (item.Failed c) h = h
 
-  row_at : (p : ℕ) (y : InView) → MayCome i (in_at (input_only y) p) → leaving_in x.waits y → LeavingRow more (with_in (input_only y) p (came i))
+  row_at : (p : ℕ) (y : InView) → MayCome i (in_at (input_only y) p) → leaving_in x.waits y → LeavingPortState more (with_in (input_only y) p (came i))
   row_at zero y h r = (came i, (refl, row_after i x.waits y h r))
   row_at (suc p) y h r = absurd (none_left h)
 
@@ -78,17 +78,17 @@ module _ (i : Item) (x : Leaving) where
   law_at zero first y took gave h law = law_after first y took gave h law
   law_at (suc p) first y took gave h law = absurd (none_left h)
 
-  got : (p : ℕ) → Handles LeavingRow LeavingLaw (arrives p i) x more []
+  got : (p : ℕ) → Handles LeavingPortState LeavingLaw (arrives p i) x more []
   got p = record {
     obeys = record {
       allowed = λ v h r. tt;
-      row = λ v h r. subst (λ (w : View). MayCome i (in_at w p) → LeavingRow more (with_in w p (came i))) (sym r.1.0) (λ m. row_at p r.0 m r.1.1) h;
+      row = λ v h r. subst (λ (w : View). MayCome i (in_at w p) → LeavingPortState more (with_in w p (came i))) (sym r.1.0) (λ m. row_at p r.0 m r.1.1) h;
     };
     stands = tt;
     keeps = λ first v took gave h r law. subst (λ (w : View). MayCome i (in_at w p) → LeavingLaw first x w took gave → LeavingLaw first more (with_in w p (came i)) (with_item took p i) gave) (sym r.1.0) (λ m l. law_at p first r.0 took gave m l) h law;
   }
 
-pub leaves_got : {T E : Type 0} (r : Result T E) (p : ℕ) (i : Item) (x new : Leaving) (acts : List Act) → new ≡ record x { waits = x.waits ++ i ∷ [] } → acts ≡ [] → OnOk r (Handles LeavingRow LeavingLaw (arrives p i) x new acts)
+pub leaves_got : {T E : Type 0} (r : Result T E) (p : ℕ) (i : Item) (x new : Leaving) (acts : List Act) → new ≡ record x { waits = x.waits ++ i ∷ [] } → acts ≡ [] → OnOk r (Handles LeavingPortState LeavingLaw (arrives p i) x new acts)
 leaves_got (Ok y) p i x new acts e f = rw (e, f) (got i x p)
 leaves_got (Err y) p i x new acts e f = tt
 
@@ -111,14 +111,14 @@ begun x (t ∷ []) (h ∷ gave) w g a b m n = absurd (omega (arith, n))
 none_waits : (waits : List Item) → waits ≡ [] → length waits ≤ 1
 none_waits waits e = rw e (omega arith)
 
-leaves_started : (x : Leaving) → Starts LeavingRow LeavingLaw LeavingFresh x x []
+leaves_started : (x : Leaving) → Starts LeavingPortState LeavingLaw LeavingFresh x x []
 leaves_started x = record {
   obeys = record { allowed = λ v h r. tt; row = λ v h r. (Idle, (r.port, none_waits x.waits r.waits)) };
   stands = tt;
   begins = λ v took gave h f t g i j. subst (λ (w : View). length took ≡ length w.ins → length gave ≡ length w.outs → LeavingLaw x x w took gave) (sym f.port) (λ m n. begun x took gave f.waits f.gone t g m n) i j;
 }
 
-pub starts_leaving : {T E : Type 0} (r : Result T E) (x new : Leaving) (acts : List Act) → new ≡ x → acts ≡ [] → OnOk r (Starts LeavingRow LeavingLaw LeavingFresh x new acts)
+pub starts_leaving : {T E : Type 0} (r : Result T E) (x new : Leaving) (acts : List Act) → new ≡ x → acts ≡ [] → OnOk r (Starts LeavingPortState LeavingLaw LeavingFresh x new acts)
 starts_leaving (Ok y) x new acts e f = rw (e, f) (leaves_started x)
 starts_leaving (Err y) x new acts e f = tt
 
@@ -135,20 +135,20 @@ known x first y z took gave o f law = record {
   same = law.same;
 }
 
-pull_at : (x first : Leaving) (y : InView) (took gave : List (List Item)) (i : ℕ) → x.waits ≡ [] → LeavingLaw first x (input_only y) took gave → in_at (input_only y) i ≡ Idle → Does LeavingRow LeavingLaw x first (input_only y) took gave (Pull i)
+pull_at : (x first : Leaving) (y : InView) (took gave : List (List Item)) (i : ℕ) → x.waits ≡ [] → LeavingLaw first x (input_only y) took gave → in_at (input_only y) i ≡ Idle → Does LeavingPortState LeavingLaw x first (input_only y) took gave (Pull i)
 pull_at x first y took gave zero none law h = record { allowed = h; row_holds = (Pulled, (refl, none)); law_holds = known x first y Pulled took gave (idle_open y h) (λ e s. s) law }
 pull_at x first y took gave (suc i) none law h = absurd cc
 
-cancel_at : (x first : Leaving) (y : InView) (took gave : List (List Item)) (i : ℕ) → LeavingLaw first x (input_only y) took gave → IsInOpen (in_at (input_only y) i) → Does LeavingRow LeavingLaw x first (input_only y) took gave (Cancel i)
+cancel_at : (x first : Leaving) (y : InView) (took gave : List (List Item)) (i : ℕ) → LeavingLaw first x (input_only y) took gave → IsInOpen (in_at (input_only y) i) → Does LeavingPortState LeavingLaw x first (input_only y) took gave (Cancel i)
 cancel_at x first y took gave zero law o = record { allowed = o; row_holds = (Cancelled, (refl, tt)); law_holds = known x first y Cancelled took gave o (λ e s. s) law }
 cancel_at x first y took gave (suc i) law o = absurd o
 
-module _ (first now : Leaving) (v : View) (took gave : List (List Item)) (r : LeavingRow now v) (law : LeavingLaw first now v took gave) where
+module _ (first now : Leaving) (v : View) (took gave : List (List Item)) (r : LeavingPortState now v) (law : LeavingLaw first now v took gave) where
   abbrev Done : (View → Type 0) → Act → View → Type 0
-  Done H a w = LeavingLaw first now w took gave → H w → Does LeavingRow LeavingLaw now first w took gave a
+  Done H a w = LeavingLaw first now w took gave → H w → Does LeavingPortState LeavingLaw now first w took gave a
 
-  pub may_pull : (i : ℕ) → now.waits ≡ [] → in_at v i ≡ Idle → Does LeavingRow LeavingLaw now first v took gave (Pull i)
+  pub may_pull : (i : ℕ) → now.waits ≡ [] → in_at v i ≡ Idle → Does LeavingPortState LeavingLaw now first v took gave (Pull i)
   may_pull i none h = subst (Done (λ w. in_at w i ≡ Idle) (Pull i)) (sym r.1.0) (pull_at now first r.0 took gave i none) law h
 
-  pub may_cancel : (i : ℕ) → IsInOpen (in_at v i) → Does LeavingRow LeavingLaw now first v took gave (Cancel i)
+  pub may_cancel : (i : ℕ) → IsInOpen (in_at v i) → Does LeavingPortState LeavingLaw now first v took gave (Cancel i)
   may_cancel i h = subst (Done (λ w. IsInOpen (in_at w i)) (Cancel i)) (sym r.1.0) (cancel_at now first r.0 took gave i) law h

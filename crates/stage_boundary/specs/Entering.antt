@@ -19,8 +19,8 @@ abbrev pub EnteringFresh : Entering → View → Type 0
 EnteringFresh x v = v ≡ output_only Unpulled
 
 -- whatever was asked, given or closed there, it has nothing to do by itself
-abbrev pub EnteringRow : Entering → View → Type 0
-EnteringRow x v = (y : OutView) × (v ≡ output_only y)
+abbrev pub EnteringPortState : Entering → View → Type 0
+EnteringPortState x v = (y : OutView) × (v ≡ output_only y)
 
 -- what it gave is a list and its end, as it knows
 pub record EnteringLaw (first now : Entering) (v : View) (took gave : List (List Item)) : Type 0 where

@@ -29,8 +29,8 @@ leaving_in waits Pulled = waits ≡ []
 leaving_in waits Finished = ⊤
 leaving_in waits Cancelled = ⊤
 
-abbrev pub LeavingRow : Leaving → View → Type 0
-LeavingRow x v = (y : InView) × ((v ≡ input_only y) × leaving_in x.waits y)
+abbrev pub LeavingPortState : Leaving → View → Type 0
+LeavingPortState x v = (y : InView) × ((v ≡ input_only y) × leaving_in x.waits y)
 
 -- what came is a list and its end, as it knows: what was handed out or dropped, and then what waits
 pub record LeavingLaw (first now : Leaving) (v : View) (took gave : List (List Item)) : Type 0 where

@@ -2,7 +2,7 @@
 ghost use Rattle.std.specs.Prelude.{◌≡◌, true, [], IsOk, ⊤};
 ghost use Rattle.port_core.specs.declared.view.OutView.TheVariants.{Unpulled};
 ghost use Rattle.stage_boundary.specs.Ports.{output_only};
-ghost use Rattle.stage_boundary.specs.Entering.{EnteringFresh, EnteringRow, EnteringLaw};
+ghost use Rattle.stage_boundary.specs.Entering.{EnteringFresh, EnteringPortState, EnteringLaw};
 
 use elem_core::elem::Elem;
 use elem_core::item::Item;
@@ -48,7 +48,7 @@ impl Entering {
 impl Stage for Entering {
     ghost fresh = { EnteringFresh };
 
-    ghost rests = { EnteringRow };
+    ghost port_state = { EnteringPortState };
 
     ghost law = { EnteringLaw };
 

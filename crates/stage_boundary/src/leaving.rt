@@ -3,7 +3,7 @@ ghost use Rattle.std.specs.Prelude.{◌≡◌, ◌≤◌, ◌++◌, true, [], �
 ghost use Rattle.elem_core.specs.declared.item.Item.TheVariants as item;
 ghost use Rattle.port_core.specs.declared.view.InView.TheVariants.{Idle};
 ghost use Rattle.stage_boundary.specs.Ports.{input_only};
-ghost use Rattle.stage_boundary.specs.Leaving.{LeavingFresh, LeavingRow, LeavingLaw};
+ghost use Rattle.stage_boundary.specs.Leaving.{LeavingFresh, LeavingPortState, LeavingLaw};
 
 use elem_core::elem::Elem;
 use elem_core::item::Item;
@@ -89,7 +89,7 @@ impl Leaving {
 impl Stage for Leaving {
     ghost fresh = { LeavingFresh };
 
-    ghost rests = { LeavingRow };
+    ghost port_state = { LeavingPortState };
 
     ghost law = { LeavingLaw };
 

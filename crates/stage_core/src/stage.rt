@@ -23,7 +23,7 @@ pub const MOST_ACTS: u32 = 34;
 pub trait Stage: Drop {
     ghost fresh: { Self → View → Type 0 };
 
-    ghost rests: { Self → View → Type 0 };
+    ghost port_state: { Self → View → Type 0 };
 
     ghost law: { Self → Self → View → List (List Item) → List (List Item) → Type 0 };
 
@@ -44,7 +44,7 @@ pub trait Stage: Drop {
         requires meets { Meets starts (fresh self.old) }
         requires empty { acts.old.items ≡ [] }
         requires room { most_acts ≤ acts.old.room }
-        ensures starts { OnOk result (Starts rests law fresh self.old self.new acts.new.items) }
+        ensures starts { OnOk result (Starts port_state law fresh self.old self.new acts.new.items) }
         ensures pulls { OnOk result (PullsAs starts (fresh self.old) (asking self.new) acts.new.items) }
         ensures grows { OnOk result (IsPrefix (moves self.old) (moves self.new)) }
         ensures passive { OnOk result (StaysPassive (passive self.old) (passive self.new) acts.new.items) }
@@ -54,11 +54,11 @@ pub trait Stage: Drop {
 
     /// Output `port` was pulled.
     fn on_pull(&mut self, alloc: Global, port: u8, acts: &mut Acts) -> Result<(), NoMemory>
-        requires meets { Meets (pulls port) (rests self.old) }
+        requires meets { Meets (pulls port) (port_state self.old) }
         requires empty { acts.old.items ≡ [] }
         requires room { most_acts ≤ acts.old.room }
-        ensures handles { OnOk result (Handles rests law (pulls port) self.old self.new acts.new.items) }
-        ensures pulls { OnOk result (PullsAs (pulls port) (rests self.old) (asking self.new) acts.new.items) }
+        ensures handles { OnOk result (Handles port_state law (pulls port) self.old self.new acts.new.items) }
+        ensures pulls { OnOk result (PullsAs (pulls port) (port_state self.old) (asking self.new) acts.new.items) }
         ensures grows { OnOk result (IsPrefix (moves self.old) (moves self.new)) }
         ensures passive { OnOk result (StaysPassive (passive self.old) (passive self.new) acts.new.items) }
         ensures gone { OnOk result (gone self.new ≡ gone self.old) }
@@ -67,11 +67,11 @@ pub trait Stage: Drop {
 
     /// An element came to input `port`.
     fn on_push(&mut self, alloc: Global, port: u8, e: Elem, acts: &mut Acts) -> Result<(), NoMemory>
-        requires meets { Meets (arrives port (item.Elem e)) (rests self.old) }
+        requires meets { Meets (arrives port (item.Elem e)) (port_state self.old) }
         requires empty { acts.old.items ≡ [] }
         requires room { most_acts ≤ acts.old.room }
-        ensures handles { OnOk result (Handles rests law (arrives port (item.Elem e)) self.old self.new acts.new.items) }
-        ensures pulls { OnOk result (PullsAs (arrives port (item.Elem e)) (rests self.old) (asking self.new) acts.new.items) }
+        ensures handles { OnOk result (Handles port_state law (arrives port (item.Elem e)) self.old self.new acts.new.items) }
+        ensures pulls { OnOk result (PullsAs (arrives port (item.Elem e)) (port_state self.old) (asking self.new) acts.new.items) }
         ensures grows { OnOk result (IsPrefix (moves self.old) (moves self.new)) }
         ensures passive { OnOk result (StaysPassive (passive self.old) (passive self.new) acts.new.items) }
         ensures gone { OnOk result (gone self.new ≡ gone self.old) }
@@ -80,11 +80,11 @@ pub trait Stage: Drop {
 
     /// Input `port` has ended.
     fn on_finish(&mut self, alloc: Global, port: u8, acts: &mut Acts) -> Result<(), NoMemory>
-        requires meets { Meets (arrives port item.Ended) (rests self.old) }
+        requires meets { Meets (arrives port item.Ended) (port_state self.old) }
         requires empty { acts.old.items ≡ [] }
         requires room { most_acts ≤ acts.old.room }
-        ensures handles { OnOk result (Handles rests law (arrives port item.Ended) self.old self.new acts.new.items) }
-        ensures pulls { OnOk result (PullsAs (arrives port item.Ended) (rests self.old) (asking self.new) acts.new.items) }
+        ensures handles { OnOk result (Handles port_state law (arrives port item.Ended) self.old self.new acts.new.items) }
+        ensures pulls { OnOk result (PullsAs (arrives port item.Ended) (port_state self.old) (asking self.new) acts.new.items) }
         ensures grows { OnOk result (IsPrefix (moves self.old) (moves self.new)) }
         ensures passive { OnOk result (StaysPassive (passive self.old) (passive self.new) acts.new.items) }
         ensures gone { OnOk result (gone self.new ≡ gone self.old) }
@@ -99,11 +99,11 @@ pub trait Stage: Drop {
         cause: Cause,
         acts: &mut Acts,
     ) -> Result<(), NoMemory>
-        requires meets { Meets (arrives port (item.Failed cause)) (rests self.old) }
+        requires meets { Meets (arrives port (item.Failed cause)) (port_state self.old) }
         requires empty { acts.old.items ≡ [] }
         requires room { most_acts ≤ acts.old.room }
-        ensures handles { OnOk result (Handles rests law (arrives port (item.Failed cause)) self.old self.new acts.new.items) }
-        ensures pulls { OnOk result (PullsAs (arrives port (item.Failed cause)) (rests self.old) (asking self.new) acts.new.items) }
+        ensures handles { OnOk result (Handles port_state law (arrives port (item.Failed cause)) self.old self.new acts.new.items) }
+        ensures pulls { OnOk result (PullsAs (arrives port (item.Failed cause)) (port_state self.old) (asking self.new) acts.new.items) }
         ensures grows { OnOk result (IsPrefix (moves self.old) (moves self.new)) }
         ensures passive { OnOk result (StaysPassive (passive self.old) (passive self.new) acts.new.items) }
         ensures gone { OnOk result (gone self.new ≡ gone self.old) }
@@ -112,11 +112,11 @@ pub trait Stage: Drop {
 
     /// Output `port` was cancelled.
     fn on_cancel(&mut self, alloc: Global, port: u8, acts: &mut Acts) -> Result<(), NoMemory>
-        requires meets { Meets (cancels port) (rests self.old) }
+        requires meets { Meets (cancels port) (port_state self.old) }
         requires empty { acts.old.items ≡ [] }
         requires room { most_acts ≤ acts.old.room }
-        ensures handles { OnOk result (Handles rests law (cancels port) self.old self.new acts.new.items) }
-        ensures pulls { OnOk result (PullsAs (cancels port) (rests self.old) (asking self.new) acts.new.items) }
+        ensures handles { OnOk result (Handles port_state law (cancels port) self.old self.new acts.new.items) }
+        ensures pulls { OnOk result (PullsAs (cancels port) (port_state self.old) (asking self.new) acts.new.items) }
         ensures grows { OnOk result (IsPrefix (moves self.old) (moves self.new)) }
         ensures passive { OnOk result (StaysPassive (passive self.old) (passive self.new) acts.new.items) }
         ensures gone { OnOk result (gone self.new ≡ gone self.old) }
@@ -127,11 +127,11 @@ pub trait Stage: Drop {
     /// ever waits. It takes no memory.
     fn hand_out(&mut self) -> Option<Item>
         ensures none { IfNone result ((waits self.old ≡ []) × (self.new ≡ self.old)) }
-        ensures some { IfSome result (λ x. Hands rests law moves gone waits self.old (x ∷ []) self.new) };
+        ensures some { IfSome result (λ x. Hands port_state law moves gone waits self.old (x ∷ []) self.new) };
 
     /// Drops all that waits there. It takes no memory.
     fn let_go(&mut self)
-        ensures { Hands rests law moves gone waits self.old (waits self.old) self.new };
+        ensures { Hands port_state law moves gone waits self.old (waits self.old) self.new };
 
     /// Whether nothing waits there.
     fn is_clear(&self) -> bool

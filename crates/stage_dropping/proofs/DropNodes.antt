@@ -34,7 +34,7 @@ use Rattle.stage_fans.specs.PortsLaws.{InPortsLaw}
 use Rattle.stage_fans.proofs.Histories.{in_node, ins_seen, ins_acted, begun}
 use Rattle.stage_dropping.specs.Drops.{DropHeld, holds, DropTurnAt, DropKeeps, DropStandsOf, DropRest, DropCounts, drop_moves}
 use Rattle.stage_dropping.specs.Droppings as stage
-use Rattle.stage_dropping.specs.Droppings.{Dropping, drop_at, row, held_in, held_of, Turned, DropFresh, DropRow, DropsAs}
+use Rattle.stage_dropping.specs.Droppings.{Dropping, drop_at, port_state, held_in, held_of, Turned, DropFresh, DropPortState, DropsAs}
 use Rattle.stage_dropping.proofs.Counts.{moves_counted}
 use Rattle.stage_dropping.proofs.DropTurns.{drop_new, drop_call, drop_rest, drop_stands}
 
@@ -58,7 +58,7 @@ open_lists l call (x ∷ []) [] n h r = absurd r
 open_lists l call (x ∷ []) (y ∷ z ∷ ys) n h r = absurd r
 open_lists l call (x ∷ u ∷ xs) ys n h r = absurd r
 
-pub called_open : (l : Dropping) (call : Call) (v : View) → (l.phase ≡ New → ⊥) → CallAllowed call v → row l v → l.phase ≡ Open
+pub called_open : (l : Dropping) (call : Call) (v : View) → (l.phase ≡ New → ⊥) → CallAllowed call v → port_state l v → l.phase ≡ Open
 called_open l call v n h r = open_lists l call v.ins v.outs n h r
 
 -- ---- calls
@@ -85,7 +85,7 @@ law_after c first old new v took gave acts may allowed t law = record {
       law.by;
 }
 
-pub handled : (c : Call) (old new : Dropping) (acts : List Act) → Obeys c (row old) (row new) acts → Turned c old acts new → Handles DropRow DropsAs c old new acts
+pub handled : (c : Call) (old new : Dropping) (acts : List Act) → Obeys c (port_state old) (port_state new) acts → Turned c old acts new → Handles DropPortState DropsAs c old new acts
 handled c old new acts o t = record {
   obeys = record {
     allowed = λ v may r. o.allowed v may r.row;
@@ -131,7 +131,7 @@ fresh_law l v took gave may f a b m n =
           (drop_new l.node l.policy l.size v one may.0 (subst (λ ys. GaveAs (slice_index_or ys 0 outlet.Closed) unended) (sym new.outs) refl)));
     }
 
-pub started : (old new : Dropping) (acts : List Act) → Obeys starts (row old) (row new) acts → Turned starts old acts new → Starts DropRow DropsAs DropFresh old new acts
+pub started : (old new : Dropping) (acts : List Act) → Obeys starts (port_state old) (port_state new) acts → Turned starts old acts new → Starts DropPortState DropsAs DropFresh old new acts
 started old new acts o t = record {
   obeys = record {
     allowed = λ v may r. o.allowed v may r.row;

@@ -48,8 +48,8 @@ drop_at l Open true false Finished Unpulled = (0 < length l.held) × Drops l
 drop_at l Closed over asked i o = BothClosed i o
 drop_at l _ _ _ _ _ = ⊥
 
-abbrev pub row : Dropping → View → Type 0
-row l v = OneOne (drop_at l l.phase l.over l.asked) v
+abbrev pub port_state : Dropping → View → Type 0
+port_state l v = OneOne (drop_at l l.phase l.over l.asked) v
 
 -- how its input stands
 abbrev pub end_of : Bool → End
@@ -105,12 +105,12 @@ pub record DropFresh (l : Dropping) (v : View) : Type 0 where
   pub fresh : l.phase ≡ New
   pub none_came : l.came ≡ 0
   pub unmoved : l.moves ≡ []
-  pub row : row l v
+  pub row : port_state l v
 
 -- it was started, and its row holds
-pub record DropRow (l : Dropping) (v : View) : Type 0 where
+pub record DropPortState (l : Dropping) (v : View) : Type 0 where
   pub started : l.phase ≢ New
-  pub row : row l v
+  pub row : port_state l v
 
 -- the law of its histories, by the stage as it was at first and as it is now: by its moves, of which it made none before
 pub record DropsAs (first now : Dropping) (v : View) (took gave : List (List Item)) : Type 0 where

@@ -16,7 +16,7 @@ ghost use Rattle.stream_model.specs.FanIn.{AllAgree};
 ghost use Rattle.stage_core.specs.Handling.{Starts, Handles};
 ghost use Rattle.stage_core.specs.declared.phase.Phase.TheVariants.{New, Open};
 ghost use Rattle.stage_dropping.specs.Drops.{DropRest, DropRests, DropCounts};
-ghost use Rattle.stage_dropping.specs.Droppings.{Dropping, begun, row, held_of, Turned, DropFresh, DropRow, DropsAs};
+ghost use Rattle.stage_dropping.specs.Droppings.{Dropping, begun, port_state, held_of, Turned, DropFresh, DropPortState, DropsAs};
 
 /// A new buffer that has room for something and drops may be started, made no move, and knows that no port was asked.
 pub fn a_new_buffer_may_start()
@@ -26,19 +26,19 @@ pub fn a_new_buffer_may_start()
 /// Where its row and its law hold, a buffer that was started has closed both its ports, or has nothing to do: it waits for
 /// its input, and holds nothing where its output is asked; or its input is over and nobody asks it.
 pub fn a_started_buffer_rests()
-    ensures { (first now : Dropping) (v : View) (took gave : List (List Item)) → DropRow now v → (law : DropsAs first now v took gave) → DropRests first.policy first.size now.moves v law.by.law.ins law.by.law.out_list }
+    ensures { (first now : Dropping) (v : View) (took gave : List (List Item)) → DropPortState now v → (law : DropsAs first now v took gave) → DropRests first.policy first.size now.moves v law.by.law.ins law.by.law.out_list }
 {}
 
 /// Where the port rules allow a call of a handler and the row holds, a buffer that was started is open.
 pub fn a_called_buffer_is_open()
-    ensures { (l : Dropping) (call : Call) (v : View) → l.phase ≢ New → CallAllowed call v → row l v → l.phase ≡ Open }
+    ensures { (l : Dropping) (call : Call) (v : View) → l.phase ≢ New → CallAllowed call v → port_state l v → l.phase ≡ Open }
 {}
 
 /// What a handler owes to the port rules and to the law is all that is asked of a stage: its start begins the law of its
 /// histories, and every other call keeps it.
 pub fn calls_keep_the_law()
-    ensures starts { (old new : Dropping) (acts : List Act) → Obeys starts (row old) (row new) acts → Turned starts old acts new → Starts DropRow DropsAs DropFresh old new acts }
-    ensures handles { (call : Call) (old new : Dropping) (acts : List Act) → Obeys call (row old) (row new) acts → Turned call old acts new → Handles DropRow DropsAs call old new acts }
+    ensures starts { (old new : Dropping) (acts : List Act) → Obeys starts (port_state old) (port_state new) acts → Turned starts old acts new → Starts DropPortState DropsAs DropFresh old new acts }
+    ensures handles { (call : Call) (old new : Dropping) (acts : List Act) → Obeys call (port_state old) (port_state new) acts → Turned call old acts new → Handles DropPortState DropsAs call old new acts }
 {}
 
 /// A buffer by its moves: for every rest of its input and every further list of moves, all the moves give of all that comes

@@ -124,7 +124,7 @@ taking_begins : (node : ℕ) (kind : Kind) (d : Decider) (n : ℕ) (segment : Op
 taking_begins node kind d n segment l two few b is takes = record {
   fresh = b.live;
   takes = takes;
-  ready = subst (λ k. taking.row l (unpulled_ins k)) (sym is) (new_row n segment l two few b);
+  ready = subst (λ k. taking.port_state l (unpulled_ins k)) (sym is) (new_row n segment l two few b);
 }
 
 concat_takes : (l : Taking) → l.segment ≡ None → l.current ≡ 0 → (taking_by l.segment).from (taking.place_of l) ≡ concat_taken

@@ -15,12 +15,12 @@ use Rattle.stage_core.specs.declared.phase.Phase.TheVariants.{New, Open, Closed}
 use Rattle.stage_in.specs.declared.logic.InLogic.{InLogic}
 use Rattle.stage_in.specs.declared.logic.InLogic.TheVariants as logic
 use Rattle.stage_fans.specs.Seats.{OneClosed}
-use Rattle.stage_in.specs.Pairings.{Pairing, row_by}
+use Rattle.stage_in.specs.Pairings.{Pairing, port_state_by}
 use Rattle.stage_in.specs.Takings as taking
 use Rattle.stage_in.specs.Sortings as sorted
 use Rattle.stage_in.specs.Zippings as zipping
 use Rattle.stage_merge.specs.Mergings as merging
-use Rattle.stage_in.specs.Logics.{row, room_of, Turned, InFresh, InRow, InLaw}
+use Rattle.stage_in.specs.Logics.{port_state, room_of, Turned, InFresh, InPortState, InLaw}
 use Rattle.stage_in.specs.Moves.{in_moves}
 use Rattle.stage_in.proofs.Nodes.{called_fits, handled, turned_grows}
 
@@ -31,21 +31,21 @@ one_closed [] h = absurd h
 one_closed (y ∷ []) h = refl
 one_closed (y ∷ z ∷ ys) h = absurd h
 
-one_taking : (b : Bool) (l : taking.Taking) (v : View) → taking.row_by b l v → length v.outs ≡ 1
+one_taking : (b : Bool) (l : taking.Taking) (v : View) → taking.port_state_by b l v → length v.outs ≡ 1
 one_taking true l v r = ap (λ (w : View). length w.outs) r.0
 one_taking false l v r = one_closed v.outs r.1
 
-one_pairing : (Sound : Pairing → Type 0) (p : Phase) (l : Pairing) (v : View) → row_by Sound p l v → length v.outs ≡ 1
+one_pairing : (Sound : Pairing → Type 0) (p : Phase) (l : Pairing) (v : View) → port_state_by Sound p l v → length v.outs ≡ 1
 one_pairing Sound New l v r = ap (λ (w : View). length w.outs) r.0
 one_pairing Sound Open l v r = ap (λ (w : View). length w.outs) r.0
 one_pairing Sound Closed l v r = one_closed v.outs r.1
 
-one_merging : (p : Phase) (l : merging.Core) (v : View) → merging.row_by p l v → length v.outs ≡ 1
+one_merging : (p : Phase) (l : merging.Core) (v : View) → merging.port_state_by p l v → length v.outs ≡ 1
 one_merging New l v r = ap (λ (w : View). length w.outs) r.0
 one_merging Open l v r = ap (λ (w : View). length w.outs) r.0
 one_merging Closed l v r = one_closed v.outs r.1
 
-one_output : (l : InLogic) (v : View) → row l v → length v.outs ≡ 1
+one_output : (l : InLogic) (v : View) → port_state l v → length v.outs ≡ 1
 one_output (logic.Taking l) v r = one_taking l.live l v r
 one_output (logic.Sorting l) v r = one_pairing sorted.Sound l.phase l v r
 one_output (logic.Zipping l) v r = one_pairing zipping.Sound l.phase l v r
@@ -63,7 +63,7 @@ no_other [] j e h = absurd (omega (arith, e))
 no_other (y ∷ []) j e h = h
 no_other (y ∷ z ∷ ys) j e h = absurd (omega (arith, e))
 
-output_is : (call : Call) (l : InLogic) (v : View) → CallAllowed call v → row l v → at_output call ≡ call
+output_is : (call : Call) (l : InLogic) (v : View) → CallAllowed call v → port_state l v → at_output call ≡ call
 output_is starts l v h r = refl
 output_is (pulls zero) l v h r = refl
 output_is (pulls (suc j)) l v h r = absurd (no_other v.outs j (one_output l v r) (subst IsOutOpen (sym h) tt))
@@ -77,11 +77,11 @@ output_is (cancels (suc j)) l v h r = absurd (no_other v.outs j (one_output l v 
 pub fits_new : (l : InLogic) (n : ℕ) → Meets starts (InFresh l) → most_acts ≤ n → room_of l ≤ n
 fits_new l n m h = let r : room_of l ≤ most_acts = called_fits l starts m.0 m.1.0 m.1.1.row in omega (arith, r, h)
 
-pub fits : (call : Call) (l : InLogic) (n : ℕ) → Meets call (InRow l) → most_acts ≤ n → room_of l ≤ n
+pub fits : (call : Call) (l : InLogic) (n : ℕ) → Meets call (InPortState l) → most_acts ≤ n → room_of l ≤ n
 fits call l n m h = let r : room_of l ≤ most_acts = called_fits l call m.0 m.1.0 m.1.1.row in omega (arith, r, h)
 
-pub met : (call : Call) (l : InLogic) → Meets call (InRow l) → Meets (at_output call) (row l)
-met call l m = subst (λ c. Meets c (row l)) (sym (output_is call l m.0 m.1.0 m.1.1.row)) (m.0, (m.1.0, m.1.1.row))
+pub met : (call : Call) (l : InLogic) → Meets call (InPortState l) → Meets (at_output call) (port_state l)
+met call l m = subst (λ c. Meets c (port_state l)) (sym (output_is call l m.0 m.1.0 m.1.1.row)) (m.0, (m.1.0, m.1.1.row))
 
 not_starts : (call : Call) → (call ≡ starts → ⊥) → at_output call ≡ starts → ⊥
 not_starts starts n e = n refl
@@ -89,10 +89,10 @@ not_starts (pulls j) n e = cc
 not_starts (arrives i x) n e = cc
 not_starts (cancels j) n e = cc
 
-pub handles : {T E : Type 0} (call : Call) (old new : InLogic) (acts : List Act) (r : Result T E) → (call ≡ starts → ⊥) → Meets call (InRow old) → OnOk r (Obeys (at_output call) (row old) (row new) acts) → OnOk r (Turned (at_output call) old acts new)
-    → OnOk r (Handles InRow InLaw call old new acts)
+pub handles : {T E : Type 0} (call : Call) (old new : InLogic) (acts : List Act) (r : Result T E) → (call ≡ starts → ⊥) → Meets call (InPortState old) → OnOk r (Obeys (at_output call) (port_state old) (port_state new) acts) → OnOk r (Turned (at_output call) old acts new)
+    → OnOk r (Handles InPortState InLaw call old new acts)
 handles call old new acts r n m o t =
-    subst (λ c. OnOk r (Handles InRow InLaw c old new acts)) (output_is call old m.0 m.1.0 m.1.1.row)
+    subst (λ c. OnOk r (Handles InPortState InLaw c old new acts)) (output_is call old m.0 m.1.0 m.1.1.row)
     (on_ok_two r o t (λ a b. handled (at_output call) old new acts (not_starts call n) m.1.1.started a b))
 
 pub grows : {T E : Type 0} (call : Call) (old new : InLogic) (acts : List Act) (r : Result T E) → OnOk r (Turned call old acts new) → OnOk r (IsPrefix (in_moves old) (in_moves new))

@@ -34,7 +34,7 @@ use Rattle.stage_in.specs.Kinds.{taking_by, sorting}
 use Rattle.stage_fans.specs.Seats.{wish}
 use Rattle.stage_in.specs.Seats.{seats, none_of}
 use Rattle.stage_in.specs.declared.inlet.Inlet.{Inlet}
-use Rattle.stage_in.specs.Pairings.{Pairing, IsBlank, inlet_flow, row_by}
+use Rattle.stage_in.specs.Pairings.{Pairing, IsBlank, inlet_flow, port_state_by}
 use Rattle.stage_in.specs.Takings as taking
 use Rattle.stage_in.specs.Takings.{Taking}
 use Rattle.stage_in.specs.Sortings as sorted
@@ -44,7 +44,7 @@ use Rattle.stage_merge.specs.Mergings.{Merging}
 use Rattle.stage_merge.proofs.MergeNodes as merge
 use Rattle.stage_fans.specs.OwnRows.{FanRests}
 use Rattle.stage_fans.specs.PortsLaws.{InPortsLaw}
-use Rattle.stage_in.specs.Logics.{IsNew, IsOpen, IsStarted, room_of, row, Turned, InFresh, InRow, InLaw, KindRests}
+use Rattle.stage_in.specs.Logics.{IsNew, IsOpen, IsStarted, room_of, port_state, Turned, InFresh, InPortState, InLaw, KindRests}
 use Rattle.stage_in.specs.Moves.{in_moves}
 use Rattle.stage_fans.proofs.Closings.{none_called, closed_rests}
 use Rattle.stage_in.proofs.Rests.{taking_rests, sorting_rests, zipping_rests}
@@ -53,40 +53,40 @@ use Rattle.stage_in.proofs.Histories.{fan_node, zip_node}
 
 -- ---- where it is called it is open
 
-open_taking : (l : Taking) (c : Call) (v : View) (b : Bool) → l.live ≡ b → (c ≡ starts → ⊥) → CallAllowed c v → taking.row_by b l v → l.live ≡ true
+open_taking : (l : Taking) (c : Call) (v : View) (b : Bool) → l.live ≡ b → (c ≡ starts → ⊥) → CallAllowed c v → taking.port_state_by b l v → l.live ≡ true
 open_taking l c v true e n m r = e
 open_taking l c v false e n m r = absurd (none_called c v m r)
 
-open_pairing : (Sound : Pairing → Type 0) (l : Pairing) (c : Call) (v : View) (p : Phase) → l.phase ≡ p → (l.phase ≡ New → ⊥) → (c ≡ starts → ⊥) → CallAllowed c v → row_by Sound p l v → l.phase ≡ Open
+open_pairing : (Sound : Pairing → Type 0) (l : Pairing) (c : Call) (v : View) (p : Phase) → l.phase ≡ p → (l.phase ≡ New → ⊥) → (c ≡ starts → ⊥) → CallAllowed c v → port_state_by Sound p l v → l.phase ≡ Open
 open_pairing Sound l c v New e s n m r = absurd (s e)
 open_pairing Sound l c v Open e s n m r = e
 open_pairing Sound l c v Closed e s n m r = absurd (none_called c v m r)
 
-pub called_open : (l : InLogic) (c : Call) (v : View) → IsStarted l → (c ≡ starts → ⊥) → CallAllowed c v → row l v → IsOpen l
+pub called_open : (l : InLogic) (c : Call) (v : View) → IsStarted l → (c ≡ starts → ⊥) → CallAllowed c v → port_state l v → IsOpen l
 called_open (logic.Taking l) c v s n m r = open_taking l c v l.live refl n m r
 called_open (logic.Sorting l) c v s n m r = open_pairing sorted.Sound l c v l.phase refl s n m r
 called_open (logic.Zipping l) c v s n m r = open_pairing zipping.Sound l c v l.phase refl s n m r
 called_open (logic.Merging l) c v s n m r = merge.called_open l c v s m r
 
 -- the same of a call of each kind
-module _ (c : Call) (n : c ≡ starts → ⊥) (whole : InLogic) (s : IsStarted whole) (m : Meets c (row whole)) where
+module _ (c : Call) (n : c ≡ starts → ⊥) (whole : InLogic) (s : IsStarted whole) (m : Meets c (port_state whole)) where
   pub taking_open : (l : Taking) → whole ≡ logic.Taking l → l.live ≡ true
-  taking_open l is = called_open (logic.Taking l) c m.0 tt n m.1.0 (subst (λ x. row x m.0) is m.1.1)
+  taking_open l is = called_open (logic.Taking l) c m.0 tt n m.1.0 (subst (λ x. port_state x m.0) is m.1.1)
 
   pub sorting_open : (l : Pairing) → whole ≡ logic.Sorting l → l.phase ≡ Open
-  sorting_open l is = called_open (logic.Sorting l) c m.0 (subst IsStarted is s) n m.1.0 (subst (λ x. row x m.0) is m.1.1)
+  sorting_open l is = called_open (logic.Sorting l) c m.0 (subst IsStarted is s) n m.1.0 (subst (λ x. port_state x m.0) is m.1.1)
 
   pub zipping_open : (l : Pairing) → whole ≡ logic.Zipping l → l.phase ≡ Open
-  zipping_open l is = called_open (logic.Zipping l) c m.0 (subst IsStarted is s) n m.1.0 (subst (λ x. row x m.0) is m.1.1)
+  zipping_open l is = called_open (logic.Zipping l) c m.0 (subst IsStarted is s) n m.1.0 (subst (λ x. port_state x m.0) is m.1.1)
 
   pub merging_open : (l : Merging) → whole ≡ logic.Merging l → l.core.phase ≡ Open
-  merging_open l is = called_open (logic.Merging l) c m.0 (subst IsStarted is s) n m.1.0 (subst (λ x. row x m.0) is m.1.1)
+  merging_open l is = called_open (logic.Merging l) c m.0 (subst IsStarted is s) n m.1.0 (subst (λ x. port_state x m.0) is m.1.1)
 
 -- two actions for each port are few
-pub called_fits : (l : InLogic) (c : Call) (v : View) → CallAllowed c v → row l v → room_of l ≤ most_acts
+pub called_fits : (l : InLogic) (c : Call) (v : View) → CallAllowed c v → port_state l v → room_of l ≤ most_acts
 called_fits (logic.Taking l) c v m r = by_live l.live r
   where
-    by_live : (b : Bool) → taking.row_by b l v → room_of (logic.Taking l) ≤ most_acts
+    by_live : (b : Bool) → taking.port_state_by b l v → room_of (logic.Taking l) ≤ most_acts
     by_live true r = let few : length l.over ≤ 16 = r.1.few in omega (arith, few)
     by_live false r = absurd (none_called c v m r)
 called_fits (logic.Sorting l) c v m r = omega arith
@@ -108,7 +108,7 @@ two_of (a ∷ b ∷ []) h = record { a = a; b = b; is = refl }
 two_of (a ∷ b ∷ c ∷ ins) h = absurd (omega (arith, h))
 
 -- one with two inputs, by what it does where it is open
-rests_of : (P : List picture.SeenWire → picture.SeenWire → Type 0) (Sound : Pairing → Type 0) (l : Pairing) (v : View) (ins : List Inflow) (g : List Tree) (p : Phase) → l.phase ≡ p → (l.phase ≡ New → ⊥) → row_by Sound p l v → length ins ≡ length v.ins
+rests_of : (P : List picture.SeenWire → picture.SeenWire → Type 0) (Sound : Pairing → Type 0) (l : Pairing) (v : View) (ins : List Inflow) (g : List Tree) (p : Phase) → l.phase ≡ p → (l.phase ≡ New → ⊥) → port_state_by Sound p l v → length ins ≡ length v.ins
     → ((a b : Inflow) → ins ≡ a ∷ b ∷ [] → l.phase ≡ Open → FanRests P v (a ∷ b ∷ []) g) → FanRests P v ins g
 rests_of P Sound l v ins g New e s r long at = absurd (s e)
 rests_of P Sound l v ins g Open e s r long at =
@@ -116,7 +116,7 @@ rests_of P Sound l v ins g Open e s r long at =
     subst (λ fs. FanRests P v fs g) (sym two.is) (at two.a two.b two.is e)
 rests_of P Sound l v ins g Closed e s r long at = closed_rests P v ins g r
 
-pub logic_rests : (first now : InLogic) (v : View) (took gave : List (List Item)) → IsStarted now → row now v → (law : InLaw first now v took gave) → FanRests (KindRests now) v law.by.law.ins law.by.law.out_list
+pub logic_rests : (first now : InLogic) (v : View) (took gave : List (List Item)) → IsStarted now → port_state now v → (law : InLaw first now v took gave) → FanRests (KindRests now) v law.by.law.ins law.by.law.out_list
 logic_rests (logic.Taking f) (logic.Taking l) v took gave s r law = taking_rests l v law.by.law.ins law.by.law.out_list r law.by.law.ports
 logic_rests (logic.Sorting f) (logic.Sorting l) v took gave s r law =
     rests_of SortedRests sorted.Sound l v law.by.law.ins law.by.law.out_list l.phase refl s r law.by.law.ports (λ a b is e. sorting_rests l v a b law.by.law.out_list e r)
@@ -174,7 +174,7 @@ turned_grows c (logic.Zipping l) (logic.Zipping m) acts t = record { rest = []; 
 turned_grows c (logic.Merging l) (logic.Merging m) acts t = record { rest = t.more; is = t.grows }
 turned_grows c old new acts t = absurd t
 
-pub handled : (c : Call) (old new : InLogic) (acts : List Act) → (c ≡ starts → ⊥) → IsStarted old → Obeys c (row old) (row new) acts → Turned c old acts new → Handles InRow InLaw c old new acts
+pub handled : (c : Call) (old new : InLogic) (acts : List Act) → (c ≡ starts → ⊥) → IsStarted old → Obeys c (port_state old) (port_state new) acts → Turned c old acts new → Handles InPortState InLaw c old new acts
 handled c old new acts n s o t = record {
   obeys = record {
     allowed = λ v may r. o.allowed v may r.row;
@@ -195,10 +195,10 @@ none_over n c (false ∷ over) asked h = ap (λ (ws : List Inflow). nothing ∷ 
 unasked_open : (y : OutView) → y ≡ outlet.Unpulled → GaveAs y unended
 unasked_open y e = subst (λ z. GaveAs z unended) (sym e) refl
 
-fresh_taking : (l : Taking) (v : View) (took gave : List (List Item)) → CallAllowed starts v → l.live ≡ true → taking.row l v → AllEmpty took → AllEmpty gave → length took ≡ length v.ins → length gave ≡ length v.outs
+fresh_taking : (l : Taking) (v : View) (took gave : List (List Item)) → CallAllowed starts v → l.live ≡ true → taking.port_state l v → AllEmpty took → AllEmpty gave → length took ≡ length v.ins → length gave ≡ length v.outs
     → InPortsLaw (FanKeeps (taking_by l.segment) (taking.place_of l) (taking.held l)) v took gave
 fresh_taking l v took gave may live r a b m n =
-    let s = subst (λ x. taking.row_by x l v) live r in
+    let s = subst (λ x. taking.port_state_by x l v) live r in
     let outs : v.outs ≡ wish l.asked ∷ [] = ap (λ (w : View). w.outs) s.0 in
     let idle : AllIdle (seats 0 l.over l.current l.asked) = subst (λ (w : View). AllIdle w.ins) s.0 may.0 in
     let quiet : wish l.asked ≡ outlet.Unpulled = (subst (λ (w : View). AllUnasked w.outs) s.0 may.1).0 in
@@ -212,10 +212,10 @@ fresh_taking l v took gave may live r a b m n =
 blank_flow : (i : Inlet) → IsBlank i → inlet_flow i ≡ nothing
 blank_flow i h = ap (λ x. inlet_flow (record { held = x; over = i.over })) h.0 ∙ ap (λ b. inlet_flow (record { held = None; over = b })) h.1
 
-fresh_sorting : (l : Pairing) (v : View) (took gave : List (List Item)) → CallAllowed starts v → l.phase ≡ New → sorted.row l v → AllEmpty took → AllEmpty gave → length took ≡ length v.ins → length gave ≡ length v.outs
+fresh_sorting : (l : Pairing) (v : View) (took gave : List (List Item)) → CallAllowed starts v → l.phase ≡ New → sorted.port_state l v → AllEmpty took → AllEmpty gave → length took ≡ length v.ins → length gave ≡ length v.outs
     → InPortsLaw (FanKeeps sorting sorted.nowhere (sorted.held l)) v took gave
 fresh_sorting l v took gave may new r a b m n =
-    let s = subst (λ p. row_by sorted.Sound p l v) new r in
+    let s = subst (λ p. port_state_by sorted.Sound p l v) new r in
     let outs : v.outs ≡ outlet.Unpulled ∷ [] = ap (λ (w : View). w.outs) s.0 in
     let ins : v.ins ≡ Idle ∷ Idle ∷ [] = ap (λ (w : View). w.ins) s.0 in
     let held : sorted.held l ≡ fan.waits sorted.nowhere (untouched (length v.ins)) =
@@ -225,10 +225,10 @@ fresh_sorting l v took gave may new r a b m n =
     (subst (λ x. PortsLaw (FanKeeps sorting sorted.nowhere x) v (λ _. []) []) (sym held)
     (fan_new sorting sorted.nowhere v may.0 (subst (λ ys. GaveAs (slice_index_or ys 0 outlet.Closed) unended) (sym outs) refl)))
 
-fresh_zipping : (l : Pairing) (v : View) (took gave : List (List Item)) → CallAllowed starts v → l.phase ≡ New → zipping.row l v → AllEmpty took → AllEmpty gave → length took ≡ length v.ins → length gave ≡ length v.outs
+fresh_zipping : (l : Pairing) (v : View) (took gave : List (List Item)) → CallAllowed starts v → l.phase ≡ New → zipping.port_state l v → AllEmpty took → AllEmpty gave → length took ≡ length v.ins → length gave ≡ length v.outs
     → InPortsLaw (ZipKeeps (zipping.held l)) v took gave
 fresh_zipping l v took gave may new r a b m n =
-    let s = subst (λ p. row_by zipping.Sound p l v) new r in
+    let s = subst (λ p. port_state_by zipping.Sound p l v) new r in
     let outs : v.outs ≡ outlet.Unpulled ∷ [] = ap (λ (w : View). w.outs) s.0 in
     let ins : v.ins ≡ Idle ∷ Idle ∷ [] = ap (λ (w : View). w.ins) s.0 in
     let held : zipping.held l ≡ zip.waits nothing nothing =
@@ -237,13 +237,13 @@ fresh_zipping l v took gave may new r a b m n =
     (subst (λ x. PortsLaw (ZipKeeps x) v (λ _. []) []) (sym held)
     (zip_new v (ap length ins) may.0 (subst (λ ys. GaveAs (slice_index_or ys 0 outlet.Closed) unended) (sym outs) refl)))
 
-fresh_law : (l : InLogic) (v : View) (took gave : List (List Item)) → CallAllowed starts v → IsNew l → row l v → AllEmpty took → AllEmpty gave → length took ≡ length v.ins → length gave ≡ length v.outs → InLaw l l v took gave
+fresh_law : (l : InLogic) (v : View) (took gave : List (List Item)) → CallAllowed starts v → IsNew l → port_state l v → AllEmpty took → AllEmpty gave → length took ≡ length v.ins → length gave ≡ length v.outs → InLaw l l v took gave
 fresh_law (logic.Taking l) v took gave may new r a b m n = record { same = refl; by = fresh_taking l v took gave may new r a b m n }
 fresh_law (logic.Sorting l) v took gave may new r a b m n = record { same = tt; by = fresh_sorting l v took gave may new r a b m n }
 fresh_law (logic.Zipping l) v took gave may new r a b m n = record { same = tt; by = fresh_zipping l v took gave may new r a b m n }
 fresh_law (logic.Merging l) v took gave may new r a b m n = record { same = new.1; by = merge.fresh_law l v took gave may (record { fresh = new.0; unmoved = new.1; row = r }) a b m n }
 
-pub started : (old new : InLogic) (acts : List Act) → IsNew old → Obeys starts (row old) (row new) acts → Turned starts old acts new → Starts InRow InLaw InFresh old new acts
+pub started : (old new : InLogic) (acts : List Act) → IsNew old → Obeys starts (port_state old) (port_state new) acts → Turned starts old acts new → Starts InPortState InLaw InFresh old new acts
 started old new acts n o t = record {
   obeys = record {
     allowed = λ v may r. o.allowed v may r.row;

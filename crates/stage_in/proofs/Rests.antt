@@ -12,7 +12,7 @@ use Rattle.stage_law.specs.OwnPorts.{own_input}
 use Rattle.stage_core.specs.declared.phase.Phase.TheVariants.{Open}
 use Rattle.stage_fans.specs.Seats.{wish}
 use Rattle.stage_in.specs.Seats.{seat, seats}
-use Rattle.stage_in.specs.Pairings.{Pairing, inlet_view, listed, pair_view, row_by}
+use Rattle.stage_in.specs.Pairings.{Pairing, inlet_view, listed, pair_view, port_state_by}
 use Rattle.stage_in.specs.Sortings as sorting
 use Rattle.stage_in.specs.Zippings as zipping
 use Rattle.stage_in.specs.Takings as taking
@@ -79,10 +79,10 @@ length-seats : (n c : ℕ) (over : List Bool) (asked : Bool) → length (seats n
 length-seats n c [] asked = refl
 length-seats n c (b ∷ over) asked = ap suc (length-seats (n + 1) c over asked)
 
-pub taking_rests : (l : Taking) (v : port.View) (ins : List Inflow) (g : List Tree) → taking.row l v → length ins ≡ length v.ins → FanRests (TakingRests l.segment) v ins g
+pub taking_rests : (l : Taking) (v : port.View) (ins : List Inflow) (g : List Tree) → taking.port_state l v → length ins ≡ length v.ins → FanRests (TakingRests l.segment) v ins g
 taking_rests l v ins g r long = by_live l.live r
   where
-    by_live : (b : Bool) → taking.row_by b l v → FanRests (TakingRests l.segment) v ins g
+    by_live : (b : Bool) → taking.port_state_by b l v → FanRests (TakingRests l.segment) v ins g
     by_live true r =
         let many : length ins ≡ length l.over = long ∙ ap (λ (w : port.View). length w.ins) r.0 ∙ length-seats 0 l.current l.over l.asked in
         subst (λ w. FanRests (TakingRests l.segment) w ins g) (sym r.0) (open_rests l.segment l.over l.current l.asked ins g many r.1.here r.1.order)
@@ -106,9 +106,9 @@ sorted_parts (Some x) None o false true a b g s = inr (inl ((refl, refl), inr (i
 sorted_parts (Some x) None o true true a b g s = let e = s.1 refl in cc
 sorted_parts (Some x) (Some y) o p true a b g s = let e = s.1 refl in cc
 
-pub sorting_rests : (l : Pairing) (v : port.View) (a b : Inflow) (g : List Tree) → l.phase ≡ Open → sorting.row l v → FanRests SortedRests v (a ∷ b ∷ []) g
+pub sorting_rests : (l : Pairing) (v : port.View) (a b : Inflow) (g : List Tree) → l.phase ≡ Open → sorting.port_state l v → FanRests SortedRests v (a ∷ b ∷ []) g
 sorting_rests l v a b g h r =
-    let s = subst (λ f. row_by sorting.Sound f l v) h r in
+    let s = subst (λ f. port_state_by sorting.Sound f l v) h r in
     subst (λ w. FanRests SortedRests w (a ∷ b ∷ []) g) (sym s.0)
     (subst (λ x. sorting.Sound x → FanRests SortedRests (pair_view x) (a ∷ b ∷ []) g) (sym (opened l h)) (λ t. sorted_parts l.left.held l.right.held l.left.over l.right.over l.asked a b g t) s.1)
 
@@ -144,9 +144,9 @@ length-pairs [] (y ∷ ys) h = absurd (omega (arith, h))
 length-pairs (x ∷ xs) [] h = absurd (omega (arith, h))
 length-pairs (x ∷ xs) (y ∷ ys) h = ap suc (length-pairs xs ys (omega (arith, h)))
 
-pub zipping_rests : (l : Pairing) (v : port.View) (a b : Inflow) (g : List Tree) (f : End) → l.phase ≡ Open → zipping.row l v → ZipKeeps (zipping.held l) (a ∷ b ∷ []) g f → FanRests ZipRests v (a ∷ b ∷ []) g
+pub zipping_rests : (l : Pairing) (v : port.View) (a b : Inflow) (g : List Tree) (f : End) → l.phase ≡ Open → zipping.port_state l v → ZipKeeps (zipping.held l) (a ∷ b ∷ []) g f → FanRests ZipRests v (a ∷ b ∷ []) g
 zipping_rests l v a b g f h r k =
-    let s = subst (λ f. row_by zipping.Sound f l v) h r in
+    let s = subst (λ f. port_state_by zipping.Sound f l v) h r in
     let keeps = subst (λ x. ZipKeeps (zipping.held_by x l) (a ∷ b ∷ []) g f) h k in
     let p = keeps.1.0 in
     let gave : length g ≡ length p.lefts = ap length p.gave_is ∙ length-pairs p.lefts p.rights p.even in

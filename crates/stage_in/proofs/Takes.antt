@@ -25,7 +25,7 @@ use Rattle.stage_law.proofs.Inflows.{joined_all-nothing}
 use Rattle.stage_in.specs.Kinds.{taking_by}
 use Rattle.stage_fans.specs.Seats.{wish, open_cancels, InsClosed, OneClosed, FanClosed}
 use Rattle.stage_in.specs.Seats.{seat, seats, none_of}
-use Rattle.stage_in.specs.Takings.{Begins, Taking, place_of, OverBetween, AllOverBut, InOrder, IsNext, view_of, Sound, row_by, row, Turned, Counted, fresh_left, WentOn, goes_on, ends, Does, Passed, without, failed_by, relinked, Linked, Finished, another, current}
+use Rattle.stage_in.specs.Takings.{Begins, Taking, place_of, OverBetween, AllOverBut, InOrder, IsNext, view_of, Sound, port_state_by, port_state, Turned, Counted, fresh_left, WentOn, goes_on, ends, Does, Passed, without, failed_by, relinked, Linked, Finished, another, current}
 use Rattle.stage_fans.proofs.Flags.{set_here, set_other, set_keeps}
 use Rattle.stage_fans.proofs.Closings.{unasked_wish, open_wish, cancels_give, cancels_stand}
 use Rattle.stage_in.proofs.Seats.{ended_seat, waits_current, open_seat, unmarked, all_cancelled, idle_seat, marked_now, over_now, all_over_closed}
@@ -79,21 +79,21 @@ module _ (segment : Option ℕ) where
 -- ---- the row
 
 -- where it holds of one that is open
-standing : (l : Taking) (v : View) → l.live ≡ true → row l v → (v ≡ view_of l) × Sound l
-standing l v h r = subst (λ b. row_by b l v) h r
+standing : (l : Taking) (v : View) → l.live ≡ true → port_state l v → (v ≡ view_of l) × Sound l
+standing l v h r = subst (λ b. port_state_by b l v) h r
 
-is_standing : (l : Taking) (v : View) → l.live ≡ true → v ≡ view_of l → Sound l → row l v
-is_standing l v h is s = subst (λ b. row_by b l v) (sym h) (is, s)
+is_standing : (l : Taking) (v : View) → l.live ≡ true → v ≡ view_of l → Sound l → port_state l v
+is_standing l v h is s = subst (λ b. port_state_by b l v) (sym h) (is, s)
 
-is_closed : (l : Taking) (v : View) → l.live ≡ false → FanClosed v → row l v
-is_closed l v h r = subst (λ b. row_by b l v) (sym h) r
+is_closed : (l : Taking) (v : View) → l.live ≡ false → FanClosed v → port_state l v
+is_closed l v h r = subst (λ b. port_state_by b l v) (sym h) r
 
 -- what a call finds
 pub record Found (call : Call) (l : Taking) : Type 0 where
   pub may : CallAllowed call (view_of l)
   pub sound : Sound l
 
-pub found : (call : Call) (l : Taking) → l.live ≡ true → Meets call (row l) → Found call l
+pub found : (call : Call) (l : Taking) → l.live ≡ true → Meets call (port_state l) → Found call l
 found call l h m =
     let s = standing l m.0 h m.1.1 in
     record { may = subst (λ v. CallAllowed call v) s.0 m.1.0; sound = s.1 }
@@ -101,9 +101,9 @@ found call l h m =
 -- the actions, at what the stage knows as the call comes
 pub record AtView (call : Call) (old new : Taking) (acts : List Act) : Type 0 where
   pub allowed : ActsAllowed (seen call (view_of old)) acts
-  pub row_then : row new (acted_all (seen call (view_of old)) acts)
+  pub row_then : port_state new (acted_all (seen call (view_of old)) acts)
 
-obeys : (call : Call) (old new : Taking) (acts : List Act) → old.live ≡ true → (CallAllowed call (view_of old) → Sound old → AtView call old new acts) → Obeys call (row old) (row new) acts
+obeys : (call : Call) (old new : Taking) (acts : List Act) → old.live ≡ true → (CallAllowed call (view_of old) → Sound old → AtView call old new acts) → Obeys call (port_state old) (port_state new) acts
 obeys call old new acts h at = record {
   allowed = λ v may r.
       let s = standing old v h r in
@@ -112,12 +112,12 @@ obeys call old new acts h at = record {
   row = λ v may r.
       let s = standing old v h r in
       let a = at (subst (λ w. CallAllowed call w) s.0 may) s.1 in
-      subst (λ w. row new (acted_all (seen call w) acts)) (sym s.0) a.row_then;
+      subst (λ w. port_state new (acted_all (seen call w) acts)) (sym s.0) a.row_then;
 }
 
 -- both that a handler owes
 pub record Handled (call : Call) (old : Taking) (acts : List Act) (new : Taking) : Type 0 where
-  pub ports : Obeys call (row old) (row new) acts
+  pub ports : Obeys call (port_state old) (port_state new) acts
   pub gives : Turned call old acts new
 
 -- ---- the handlers
@@ -170,7 +170,7 @@ passed_on old new e h sound on counted =
       gives = record { turn = rw h (element_turn old.segment old new e sound.here counted); segment = refl; inputs = refl; stands = tt };
     }
 
-pub passed : (old new : Taking) (acts : List Act) (port : ℕ) (e : Tree) → old.live ≡ true → Meets (arrives port (item.Elem e)) (row old) → Passed old e new acts → Handled (arrives port (item.Elem e)) old acts new
+pub passed : (old new : Taking) (acts : List Act) (port : ℕ) (e : Tree) → old.live ≡ true → Meets (arrives port (item.Elem e)) (port_state old) → Passed old e new acts → Handled (arrives port (item.Elem e)) old acts new
 passed old new acts port e h m p =
     let f = found (arrives port (item.Elem e)) old h m in
     let w = waits_current 0 old.current port old.over old.asked f.may in
@@ -182,7 +182,7 @@ passed old new acts port e h m p =
 -- ---- an end
 
 -- a port at which an end may come is open
-pub port_open : (l : Taking) (port : ℕ) (b : Item) → l.live ≡ true → (CallAllowed (arrives port b) (view_of l) → IsInOpen (in_at (view_of l) port)) → Meets (arrives port b) (row l) → slice_get l.over port ≡ Some false
+pub port_open : (l : Taking) (port : ℕ) (b : Item) → l.live ≡ true → (CallAllowed (arrives port b) (view_of l) → IsInOpen (in_at (view_of l) port)) → Meets (arrives port b) (port_state l) → slice_get l.over port ≡ Some false
 port_open l port b h opens m = open_seat 0 l.current port l.over l.asked (opens (found (arrives port b) l h m).may)
 
 apart : (i c : ℕ) → (i < c) ⊎ ((i ≡ c) ⊎ (c < i))
@@ -196,7 +196,7 @@ apart (suc i) (suc c) = by_rest i c (apart i c)
     by_rest i c (inr (inl h)) = inr (inl (ap suc h))
     by_rest i c (inr (inr h)) = inr (inr (omega (arith, h)))
 
-pub port_there : (l : Taking) (port : ℕ) (b : Item) → l.live ≡ true → (CallAllowed (arrives port b) (view_of l) → IsInOpen (in_at (view_of l) port)) → Meets (arrives port b) (row l) → port < length l.over
+pub port_there : (l : Taking) (port : ℕ) (b : Item) → l.live ≡ true → (CallAllowed (arrives port b) (view_of l) → IsInOpen (in_at (view_of l) port)) → Meets (arrives port b) (port_state l) → port < length l.over
 port_there l port b h opens m = slice_get_within l.over port false (port_open l port b h opens m)
 
 module _ (old : Taking) (port : ℕ) (h : old.live ≡ true) (sound : Sound old) (open_port : slice_get old.over port ≡ Some false) where
@@ -335,12 +335,12 @@ module _ (old : Taking) (port : ℕ) (h : old.live ≡ true) (sound : Sound old)
         gives = record { turn = rw (h, given) close; segment = refl; inputs = length-set old.over port true; stands = cancels_stand 0 over };
       }
 
-pub finished : (old new : Taking) (acts : List Act) (port : ℕ) → old.live ≡ true → Meets (arrives port item.Ended) (row old) → Finished port old new acts → Handled (arrives port item.Ended) old acts new
+pub finished : (old new : Taking) (acts : List Act) (port : ℕ) → old.live ≡ true → Meets (arrives port item.Ended) (port_state old) → Finished port old new acts → Handled (arrives port item.Ended) old acts new
 finished old new acts port h m f =
     let s = found (arrives port item.Ended) old h m in
     finished_by old port h s.sound (open_seat 0 old.current port old.over old.asked s.may) new acts f
 
-pub failed_on : (old new : Taking) (acts : List Act) (port : ℕ) (c : Cause) → old.live ≡ true → Meets (arrives port (item.Failed c)) (row old)
+pub failed_on : (old new : Taking) (acts : List Act) (port : ℕ) (c : Cause) → old.live ≡ true → Meets (arrives port (item.Failed c)) (port_state old)
     → Does new acts (failed_by port old) (FailOut 0 c ∷ open_cancels 0 (slice_set old.over port true)) → Handled (arrives port (item.Failed c)) old acts new
 failed_on old new acts port c h m does =
     let s = found (arrives port (item.Failed c)) old h m in
@@ -379,7 +379,7 @@ seats_idle (suc k) n c = by_mark (n == c) (seats_idle k (n + 1) c)
     by_mark false e = ap (λ (xs : List InView). inlet.Idle ∷ xs) e
 
 -- the row of a new one
-pub new_row : (inputs : ℕ) (segment : Option ℕ) (l : Taking) → 2 ≤ inputs → inputs ≤ 16 → Begins inputs segment l → row l (record { ins = replicate inputs inlet.Idle; outs = Unpulled ∷ [] })
+pub new_row : (inputs : ℕ) (segment : Option ℕ) (l : Taking) → 2 ≤ inputs → inputs ≤ 16 → Begins inputs segment l → port_state l (record { ins = replicate inputs inlet.Idle; outs = Unpulled ∷ [] })
 new_row inputs segment l two few b =
     let ins : seats 0 l.over l.current l.asked ≡ replicate inputs inlet.Idle = ap (λ o. seats 0 o l.current l.asked) b.over ∙ ap (λ c. seats 0 (replicate inputs false) c l.asked) b.current ∙ ap (λ a. seats 0 (replicate inputs false) 0 a) b.unasked
     ∙ seats_idle inputs 0 0 in

@@ -94,11 +94,11 @@ room_of (logic.Zipping l) = room_for 2
 room_of (logic.Merging l) = room_for (length l.core.over)
 
 -- what it knows of its ports
-abbrev pub row : InLogic → port.View → Type 0
-row (logic.Taking l) v = taking.row l v
-row (logic.Sorting l) v = sorted.row l v
-row (logic.Zipping l) v = zipping.row l v
-row (logic.Merging l) v = merging.row l v
+abbrev pub port_state : InLogic → port.View → Type 0
+port_state (logic.Taking l) v = taking.port_state l v
+port_state (logic.Sorting l) v = sorted.port_state l v
+port_state (logic.Zipping l) v = zipping.port_state l v
+port_state (logic.Merging l) v = merging.port_state l v
 
 -- no call of it takes memory
 abbrev pub TakesNone : InLogic → Type 0
@@ -130,7 +130,7 @@ TakesAs _ _ = ⊥
 pub record Begins (node : ℕ) (kind : Kind) (d : Decider) (new : InLogic) : Type 0 where
   pub fresh : IsNew new
   pub takes : TakesAs kind new
-  pub ready : row new (unpulled_ins (inputs_of kind))
+  pub ready : port_state new (unpulled_ins (inputs_of kind))
 
 -- ---- the law
 
@@ -153,12 +153,12 @@ Keeps _ _ = λ ins g e. ⊥
 -- it may be started, and its row holds
 pub record InFresh (l : InLogic) (v : port.View) : Type 0 where
   pub fresh : IsNew l
-  pub row : row l v
+  pub row : port_state l v
 
 -- it was started, and its row holds
-pub record InRow (l : InLogic) (v : port.View) : Type 0 where
+pub record InPortState (l : InLogic) (v : port.View) : Type 0 where
   pub started : IsStarted l
-  pub row : row l v
+  pub row : port_state l v
 
 -- the law of its histories
 pub record InLaw (first now : InLogic) (v : port.View) (took gave : List (List Item)) : Type 0 where

@@ -52,10 +52,10 @@ abbrev pub new_pair : Pairing
 new_pair = record { phase = New; left = record { held = None; over = false }; right = record { held = None; over = false }; asked = false }
 
 -- its row, by what an open one keeps
-abbrev pub row_by : (Pairing → Type 0) → Phase → Pairing → View → Type 0
-row_by Sound New l v = (v ≡ new_view) × (IsBlank l.left × (IsBlank l.right × (l.asked ≡ false)))
-row_by Sound Open l v = (v ≡ pair_view l) × Sound l
-row_by Sound Closed l v = FanClosed v
+abbrev pub port_state_by : (Pairing → Type 0) → Phase → Pairing → View → Type 0
+port_state_by Sound New l v = (v ≡ new_view) × (IsBlank l.left × (IsBlank l.right × (l.asked ≡ false)))
+port_state_by Sound Open l v = (v ≡ pair_view l) × Sound l
+port_state_by Sound Closed l v = FanClosed v
 
 -- a cancel of each input that has not ended
 abbrev pub closing : Pairing → List Act

@@ -1,6 +1,6 @@
 // A stage with several inputs as the interpreter calls it: its calls keep the law of its histories.
 ghost use Rattle.std.specs.Prelude.{[], false, ⊤};
-ghost use Rattle.stage_in.specs.Logics.{InFresh, InRow, InLaw};
+ghost use Rattle.stage_in.specs.Logics.{InFresh, InPortState, InLaw};
 ghost use Rattle.stage_in.specs.Moves.{in_moves};
 
 use crate::logic::InLogic;
@@ -14,7 +14,7 @@ use std::alloc::Global;
 impl Stage for InLogic {
     ghost fresh = { InFresh };
 
-    ghost rests = { InRow };
+    ghost port_state = { InPortState };
 
     ghost law = { InLaw };
 

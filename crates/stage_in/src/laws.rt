@@ -13,31 +13,31 @@ ghost use Rattle.stream_model.specs.FanIn.{AllAgree};
 ghost use Rattle.stream_model.specs.Fits.{moves_fit};
 ghost use Rattle.stage_core.specs.Handling.{Starts, Handles, most_acts};
 ghost use Rattle.stage_in.specs.declared.logic.InLogic.{InLogic};
-ghost use Rattle.stage_in.specs.Logics.{Begins, IsNew, IsOpen, IsStarted, InFresh, InLaw, InRow, KindRests, Turned, inputs_of, room_of, row};
+ghost use Rattle.stage_in.specs.Logics.{Begins, IsNew, IsOpen, IsStarted, InFresh, InLaw, InPortState, KindRests, Turned, inputs_of, room_of, port_state};
 ghost use Rattle.stage_in.specs.Moves.{TellsMoves};
 ghost use Rattle.stage_fans.specs.OwnRows.{FanRests};
 
 /// Where its row and its law hold, a stage that was started has closed all its ports, or has nothing to do.
 pub fn a_started_stage_rests()
-    ensures { (first now : InLogic) (v : View) (took gave : List (List Item)) → IsStarted now → row now v → (law : InLaw first now v took gave) → FanRests (KindRests now) v law.by.law.ins law.by.law.out_list }
+    ensures { (first now : InLogic) (v : View) (took gave : List (List Item)) → IsStarted now → port_state now v → (law : InLaw first now v took gave) → FanRests (KindRests now) v law.by.law.ins law.by.law.out_list }
 {}
 
 /// Where the port rules allow a call of a handler and the row holds, a stage that was started is open.
 pub fn a_called_stage_is_open()
-    ensures { (l : InLogic) (call : Call) (v : View) → IsStarted l → call ≢ starts → CallAllowed call v → row l v → IsOpen l }
+    ensures { (l : InLogic) (call : Call) (v : View) → IsStarted l → call ≢ starts → CallAllowed call v → port_state l v → IsOpen l }
 {}
 
 /// Where the port rules allow a call of a handler and the row holds, the room that the call wants is within what every stage
 /// is given.
 pub fn a_call_wants_little_room()
-    ensures { (l : InLogic) (call : Call) (v : View) → CallAllowed call v → row l v → room_of l ≤ most_acts }
+    ensures { (l : InLogic) (call : Call) (v : View) → CallAllowed call v → port_state l v → room_of l ≤ most_acts }
 {}
 
 /// What a handler owes to the port rules and to the law is all that is asked of a stage: its start begins the law of its
 /// histories, and every other call keeps it.
 pub fn calls_keep_the_law()
-    ensures starts { (old new : InLogic) (acts : List Act) → IsNew old → Obeys starts (row old) (row new) acts → Turned starts old acts new → Starts InRow InLaw InFresh old new acts }
-    ensures handles { (call : Call) (old new : InLogic) (acts : List Act) → call ≢ starts → IsStarted old → Obeys call (row old) (row new) acts → Turned call old acts new → Handles InRow InLaw call old new acts }
+    ensures starts { (old new : InLogic) (acts : List Act) → IsNew old → Obeys starts (port_state old) (port_state new) acts → Turned starts old acts new → Starts InPortState InLaw InFresh old new acts }
+    ensures handles { (call : Call) (old new : InLogic) (acts : List Act) → call ≢ starts → IsStarted old → Obeys call (port_state old) (port_state new) acts → Turned call old acts new → Handles InPortState InLaw call old new acts }
 {}
 
 /// Where its law holds from a new stage of this kind on, and what came to each input agrees with that input's outlook, its

@@ -3,7 +3,7 @@ ghost use Rattle.elem_core.specs.declared.item.Item.TheVariants as item;
 ghost use Rattle.port_core.specs.declared.act.Act.TheVariants as act;
 ghost use Rattle.port_core.specs.Call.{Obeys, Meets, starts, pulls, arrives, cancels};
 ghost use Rattle.stage_fans.specs.Seats.{open_cancels, room_for};
-ghost use Rattle.stage_in.specs.Takings.{row, Turned, Begins, Counted, WentOn, Does, Passed, Finished, without, failed_by, followed_by, Linked, Ring, IsNext, AllOverBut};
+ghost use Rattle.stage_in.specs.Takings.{port_state, Turned, Begins, Counted, WentOn, Does, Passed, Finished, without, failed_by, followed_by, Linked, Ring, IsNext, AllOverBut};
 ghost use Rattle.stage_in.specs.Kinds.{behind_input};
 
 use elem_core::elem::Elem;
@@ -63,10 +63,10 @@ impl Taking {
     /// The run begins.
     pub fn start(&mut self, _acts: &mut Acts) -> Result<(), NoMemory>
         requires live { self.old.live ≡ true }
-        requires meets { Meets starts (row self.old) }
+        requires meets { Meets starts (port_state self.old) }
         requires empty { _acts.old.items ≡ [] }
         ensures answers { IsOk result }
-        ensures ports { OnOk result (Obeys starts (row self.old) (row self.new) _acts.new.items) }
+        ensures ports { OnOk result (Obeys starts (port_state self.old) (port_state self.new) _acts.new.items) }
         ensures gives { OnOk result (Turned starts self.old _acts.new.items self.new) }
         ensures room { _acts.new.room ≡ _acts.old.room }
     {
@@ -76,11 +76,11 @@ impl Taking {
     /// The output was asked.
     pub fn on_pull(&mut self, acts: &mut Acts) -> Result<(), NoMemory>
         requires live { self.old.live ≡ true }
-        requires meets { Meets (pulls 0) (row self.old) }
+        requires meets { Meets (pulls 0) (port_state self.old) }
         requires empty { acts.old.items ≡ [] }
         requires room { room_for (length self.old.over) ≤ acts.old.room }
         ensures answers { IsOk result }
-        ensures ports { OnOk result (Obeys (pulls 0) (row self.old) (row self.new) acts.new.items) }
+        ensures ports { OnOk result (Obeys (pulls 0) (port_state self.old) (port_state self.new) acts.new.items) }
         ensures gives { OnOk result (Turned (pulls 0) self.old acts.new.items self.new) }
         ensures room { acts.new.room ≡ acts.old.room }
     {
@@ -91,11 +91,11 @@ impl Taking {
     /// An element came, which can be of the current input alone.
     pub fn on_push(&mut self, port: u8, e: Elem, acts: &mut Acts) -> Result<(), NoMemory>
         requires live { self.old.live ≡ true }
-        requires meets { Meets (arrives port (item.Elem e)) (row self.old) }
+        requires meets { Meets (arrives port (item.Elem e)) (port_state self.old) }
         requires empty { acts.old.items ≡ [] }
         requires room { room_for (length self.old.over) ≤ acts.old.room }
         ensures answers { IsOk result }
-        ensures ports { OnOk result (Obeys (arrives port (item.Elem e)) (row self.old) (row self.new) acts.new.items) }
+        ensures ports { OnOk result (Obeys (arrives port (item.Elem e)) (port_state self.old) (port_state self.new) acts.new.items) }
         ensures gives { OnOk result (Turned (arrives port (item.Elem e)) self.old acts.new.items self.new) }
         ensures room { acts.new.room ≡ acts.old.room }
     {
@@ -107,11 +107,11 @@ impl Taking {
     /// An input has ended.
     pub fn on_finish(&mut self, port: u8, acts: &mut Acts) -> Result<(), NoMemory>
         requires live { self.old.live ≡ true }
-        requires meets { Meets (arrives port item.Ended) (row self.old) }
+        requires meets { Meets (arrives port item.Ended) (port_state self.old) }
         requires empty { acts.old.items ≡ [] }
         requires room { room_for (length self.old.over) ≤ acts.old.room }
         ensures answers { IsOk result }
-        ensures ports { OnOk result (Obeys (arrives port item.Ended) (row self.old) (row self.new) acts.new.items) }
+        ensures ports { OnOk result (Obeys (arrives port item.Ended) (port_state self.old) (port_state self.new) acts.new.items) }
         ensures gives { OnOk result (Turned (arrives port item.Ended) self.old acts.new.items self.new) }
         ensures room { acts.new.room ≡ acts.old.room }
     {
@@ -122,11 +122,11 @@ impl Taking {
     /// An input has failed, which fails the stage.
     pub fn on_fail(&mut self, port: u8, cause: Cause, acts: &mut Acts) -> Result<(), NoMemory>
         requires live { self.old.live ≡ true }
-        requires meets { Meets (arrives port (item.Failed cause)) (row self.old) }
+        requires meets { Meets (arrives port (item.Failed cause)) (port_state self.old) }
         requires empty { acts.old.items ≡ [] }
         requires room { room_for (length self.old.over) ≤ acts.old.room }
         ensures answers { IsOk result }
-        ensures ports { OnOk result (Obeys (arrives port (item.Failed cause)) (row self.old) (row self.new) acts.new.items) }
+        ensures ports { OnOk result (Obeys (arrives port (item.Failed cause)) (port_state self.old) (port_state self.new) acts.new.items) }
         ensures gives { OnOk result (Turned (arrives port (item.Failed cause)) self.old acts.new.items self.new) }
         ensures room { acts.new.room ≡ acts.old.room }
     {
@@ -137,11 +137,11 @@ impl Taking {
     /// The output was cancelled.
     pub fn on_cancel(&mut self, acts: &mut Acts) -> Result<(), NoMemory>
         requires live { self.old.live ≡ true }
-        requires meets { Meets (cancels 0) (row self.old) }
+        requires meets { Meets (cancels 0) (port_state self.old) }
         requires empty { acts.old.items ≡ [] }
         requires room { room_for (length self.old.over) ≤ acts.old.room }
         ensures answers { IsOk result }
-        ensures ports { OnOk result (Obeys (cancels 0) (row self.old) (row self.new) acts.new.items) }
+        ensures ports { OnOk result (Obeys (cancels 0) (port_state self.old) (port_state self.new) acts.new.items) }
         ensures gives { OnOk result (Turned (cancels 0) self.old acts.new.items self.new) }
         ensures room { acts.new.room ≡ acts.old.room }
     {

@@ -6,7 +6,7 @@ ghost use Rattle.port_core.specs.Call.{Obeys, Meets, starts, pulls, arrives, can
 ghost use Rattle.stage_core.specs.declared.phase.Phase.TheVariants.{New, Open, Closed};
 ghost use Rattle.stage_fans.specs.Seats.{room_for};
 ghost use Rattle.stage_in.specs.Pairings.{Does, new_pair, placed, without, closing};
-ghost use Rattle.stage_in.specs.Zippings.{row, Turned, Lacks, emptied, held_at, pair, pair_acts, behind_pair, behind_acts, ended_at, ended_acts};
+ghost use Rattle.stage_in.specs.Zippings.{port_state, Turned, Lacks, emptied, held_at, pair, pair_acts, behind_pair, behind_acts, ended_at, ended_acts};
 
 use crate::inlet::Inlet;
 use elem_core::elem::{Elem, Form, Pair};
@@ -62,11 +62,11 @@ impl Zipping {
     /// The run begins.
     pub fn start(&mut self, acts: &mut Acts) -> Result<(), NoMemory>
         requires new { self.old.phase ≡ New }
-        requires meets { Meets starts (row self.old) }
+        requires meets { Meets starts (port_state self.old) }
         requires empty { acts.old.items ≡ [] }
         requires room { room_for 2 ≤ acts.old.room }
         ensures answers { IsOk result }
-        ensures ports { OnOk result (Obeys starts (row self.old) (row self.new) acts.new.items) }
+        ensures ports { OnOk result (Obeys starts (port_state self.old) (port_state self.new) acts.new.items) }
         ensures gives { OnOk result (Turned starts self.old acts.new.items self.new) }
         ensures room { acts.new.room ≡ acts.old.room }
     {
@@ -77,10 +77,10 @@ impl Zipping {
     /// The output was asked.
     pub fn on_pull(&mut self, alloc: Global, acts: &mut Acts) -> Result<(), NoMemory>
         requires open { self.old.phase ≡ Open }
-        requires meets { Meets (pulls 0) (row self.old) }
+        requires meets { Meets (pulls 0) (port_state self.old) }
         requires empty { acts.old.items ≡ [] }
         requires room { room_for 2 ≤ acts.old.room }
-        ensures ports { OnOk result (Obeys (pulls 0) (row self.old) (row self.new) acts.new.items) }
+        ensures ports { OnOk result (Obeys (pulls 0) (port_state self.old) (port_state self.new) acts.new.items) }
         ensures gives { OnOk result (Turned (pulls 0) self.old acts.new.items self.new) }
         ensures room { OnOk result (acts.new.room ≡ acts.old.room) }
     {
@@ -97,10 +97,10 @@ impl Zipping {
         acts: &mut Acts,
     ) -> Result<(), NoMemory>
         requires open { self.old.phase ≡ Open }
-        requires meets { Meets (arrives port (item.Elem e)) (row self.old) }
+        requires meets { Meets (arrives port (item.Elem e)) (port_state self.old) }
         requires empty { acts.old.items ≡ [] }
         requires room { room_for 2 ≤ acts.old.room }
-        ensures ports { OnOk result (Obeys (arrives port (item.Elem e)) (row self.old) (row self.new) acts.new.items) }
+        ensures ports { OnOk result (Obeys (arrives port (item.Elem e)) (port_state self.old) (port_state self.new) acts.new.items) }
         ensures gives { OnOk result (Turned (arrives port (item.Elem e)) self.old acts.new.items self.new) }
         ensures room { OnOk result (acts.new.room ≡ acts.old.room) }
     {
@@ -111,11 +111,11 @@ impl Zipping {
     /// An input has ended.
     pub fn on_finish(&mut self, port: u8, acts: &mut Acts) -> Result<(), NoMemory>
         requires open { self.old.phase ≡ Open }
-        requires meets { Meets (arrives port item.Ended) (row self.old) }
+        requires meets { Meets (arrives port item.Ended) (port_state self.old) }
         requires empty { acts.old.items ≡ [] }
         requires room { room_for 2 ≤ acts.old.room }
         ensures answers { IsOk result }
-        ensures ports { OnOk result (Obeys (arrives port item.Ended) (row self.old) (row self.new) acts.new.items) }
+        ensures ports { OnOk result (Obeys (arrives port item.Ended) (port_state self.old) (port_state self.new) acts.new.items) }
         ensures gives { OnOk result (Turned (arrives port item.Ended) self.old acts.new.items self.new) }
         ensures room { acts.new.room ≡ acts.old.room }
     {
@@ -126,11 +126,11 @@ impl Zipping {
     /// An input has failed, which fails the stage.
     pub fn on_fail(&mut self, port: u8, cause: Cause, acts: &mut Acts) -> Result<(), NoMemory>
         requires open { self.old.phase ≡ Open }
-        requires meets { Meets (arrives port (item.Failed cause)) (row self.old) }
+        requires meets { Meets (arrives port (item.Failed cause)) (port_state self.old) }
         requires empty { acts.old.items ≡ [] }
         requires room { room_for 2 ≤ acts.old.room }
         ensures answers { IsOk result }
-        ensures ports { OnOk result (Obeys (arrives port (item.Failed cause)) (row self.old) (row self.new) acts.new.items) }
+        ensures ports { OnOk result (Obeys (arrives port (item.Failed cause)) (port_state self.old) (port_state self.new) acts.new.items) }
         ensures gives { OnOk result (Turned (arrives port (item.Failed cause)) self.old acts.new.items self.new) }
         ensures room { acts.new.room ≡ acts.old.room }
     {
@@ -141,11 +141,11 @@ impl Zipping {
     /// The output was cancelled.
     pub fn on_cancel(&mut self, acts: &mut Acts) -> Result<(), NoMemory>
         requires open { self.old.phase ≡ Open }
-        requires meets { Meets (cancels 0) (row self.old) }
+        requires meets { Meets (cancels 0) (port_state self.old) }
         requires empty { acts.old.items ≡ [] }
         requires room { room_for 2 ≤ acts.old.room }
         ensures answers { IsOk result }
-        ensures ports { OnOk result (Obeys (cancels 0) (row self.old) (row self.new) acts.new.items) }
+        ensures ports { OnOk result (Obeys (cancels 0) (port_state self.old) (port_state self.new) acts.new.items) }
         ensures gives { OnOk result (Turned (cancels 0) self.old acts.new.items self.new) }
         ensures room { acts.new.room ≡ acts.old.room }
     {

@@ -24,11 +24,11 @@ use Rattle.stage_law.proofs.Calls.{new_law, call_law}
 use Rattle.stage_core.specs.declared.phase.Phase.{Phase}
 use Rattle.stage_core.specs.declared.phase.Phase.TheVariants.{New, Open, Closed}
 use Rattle.stage_linear.specs.declared.course.Course.{Course}
-use Rattle.stage_linear.specs.States.{Logic, held, held_in, row, row_in, Turned}
-use Rattle.stage_linear.specs.Handling.{LinearFresh, LinearRow, LinearLaw}
+use Rattle.stage_linear.specs.States.{Logic, held, held_in, port_state, port_state_in, Turned}
+use Rattle.stage_linear.specs.Handling.{LinearFresh, LinearPortState, LinearLaw}
 
 -- the law of its output once a call's actions are done
-law_after : (book : Book) (call : Call) (first old new : Logic) (v : View) (acts : List Act) (took gave : List (List Item)) → row old v → CallAllowed call v → ActsAllowed (seen call v) acts → Turned book call old acts new → LinearLaw book first old v took gave
+law_after : (book : Book) (call : Call) (first old new : Logic) (v : View) (acts : List Act) (took gave : List (List Item)) → port_state old v → CallAllowed call v → ActsAllowed (seen call v) acts → Turned book call old acts new → LinearLaw book first old v took gave
     → LinearLaw book first new (acted_all (seen call v) acts) (histories.brought_by call took) (histories.given_all acts gave)
 law_after book call first old new v acts took gave r h allowed t law = record {
   took_list = law.took_list ++ brought_to 0 call;
@@ -39,12 +39,12 @@ law_after book call first old new v acts took gave r h allowed t law = record {
   owes = law.owes;
   law =
       let turn : TurnAt (linear book first.stage.work) 0 call (held book old) (given_on 0 acts) (held book new) = subst (λ m. TurnAt m 0 call (held book old) (given_on 0 acts) (held book new)) (law.same book) t.turn in
-      call_law (linear book first.stage.work) law.start 0 call (held book old) (held book new) v law.took_list law.gave_list acts (one_input (row_in old.phase old.course old.pending old.stage.work old.ready) v.ins v.outs r) h allowed turn law.law;
+      call_law (linear book first.stage.work) law.start 0 call (held book old) (held book new) v law.took_list law.gave_list acts (one_input (port_state_in old.phase old.course old.pending old.stage.work old.ready) v.ins v.outs r) h allowed turn law.law;
   same = λ b. t.same b ∙ law.same b;
 }
 
 -- a call was handled
-pub handled : (book : Book) (call : Call) (old new : Logic) (acts : List Act) → Obeys call (row old) (row new) acts → Turned book call old acts new → Handles LinearRow (LinearLaw book) call old new acts
+pub handled : (book : Book) (call : Call) (old new : Logic) (acts : List Act) → Obeys call (port_state old) (port_state new) acts → Turned book call old acts new → Handles LinearPortState (LinearLaw book) call old new acts
 handled book call old new acts o t = record {
   obeys = record {
     allowed = λ v h r. o.allowed v h r.row;
@@ -56,16 +56,16 @@ handled book call old new acts o t = record {
 
 -- ---- a call of a handler is of its one input or output
 
-first_call : (call : Call) (l : Logic) (v : View) → CallAllowed call v → LinearRow l v → at_first call ≡ call
-first_call call l v h r = first_port (row_in l.phase l.course l.pending l.stage.work l.ready) call v h r.row
+first_call : (call : Call) (l : Logic) (v : View) → CallAllowed call v → LinearPortState l v → at_first call ≡ call
+first_call call l v h r = first_port (port_state_in l.phase l.course l.pending l.stage.work l.ready) call v h r.row
 
-pub met_first : (call : Call) (l : Logic) → Meets call (LinearRow l) → Meets (at_first call) (row l)
-met_first call l m = subst (λ c. Meets c (row l)) (sym (first_call call l m.0 m.1.0 m.1.1)) (m.0, (m.1.0, m.1.1.row))
+pub met_first : (call : Call) (l : Logic) → Meets call (LinearPortState l) → Meets (at_first call) (port_state l)
+met_first call l m = subst (λ c. Meets c (port_state l)) (sym (first_call call l m.0 m.1.0 m.1.1)) (m.0, (m.1.0, m.1.1.row))
 
-pub handles : {T E : Type 0} (book : Book) (call : Call) (old new : Logic) (acts : List Act) (r : Result T E) → Meets call (LinearRow old) → OnOk r (Obeys (at_first call) (row old) (row new) acts) → OnOk r (Turned book (at_first call) old acts new)
-    → OnOk r (Handles LinearRow (LinearLaw book) call old new acts)
+pub handles : {T E : Type 0} (book : Book) (call : Call) (old new : Logic) (acts : List Act) (r : Result T E) → Meets call (LinearPortState old) → OnOk r (Obeys (at_first call) (port_state old) (port_state new) acts) → OnOk r (Turned book (at_first call) old acts new)
+    → OnOk r (Handles LinearPortState (LinearLaw book) call old new acts)
 handles book call old new acts r m o t =
-    subst (λ c. OnOk r (Handles LinearRow (LinearLaw book) c old new acts)) (first_call call old m.0 m.1.0 m.1.1) (on_ok_two r o t (λ a b. handled book (at_first call) old new acts a b))
+    subst (λ c. OnOk r (Handles LinearPortState (LinearLaw book) c old new acts)) (first_call call old m.0 m.1.0 m.1.1) (on_ok_two r o t (λ a b. handled book (at_first call) old new acts a b))
 
 -- ---- the run begins
 
@@ -76,7 +76,7 @@ new_start book Open c k s e = cc
 new_start book Closed c k s e = cc
 
 -- its ports are open and not asked
-new_ports : (p : Phase) (c : Course) (k : List Tree) (w : Work) (g : Bool) (x : InView) (y : OutView) → p ≡ New → row_in p c k w g x y → TookAs x unended × GaveAs y unended
+new_ports : (p : Phase) (c : Course) (k : List Tree) (w : Work) (g : Bool) (x : InView) (y : OutView) → p ≡ New → port_state_in p c k w g x y → TookAs x unended × GaveAs y unended
 new_ports New c k w g Idle outlet.Unpulled e r = (refl, refl)
 new_ports New c k w g Idle outlet.Available e r = absurd r
 new_ports New c k w g Idle outlet.Closed e r = absurd r
@@ -93,7 +93,7 @@ at_ports m start h v x y a b law = rw (a, b) law
 
 fresh_law : (book : Book) (l : Logic) (v : View) (took gave : List (List Item)) → LinearFresh l v → histories.AllEmpty took → histories.AllEmpty gave → length took ≡ length v.ins → length gave ≡ length v.outs → LinearLaw book l l v took gave
 fresh_law book l v took gave f a b m n =
-    let p = fresh_ports (row_in l.phase l.course l.pending l.stage.work l.ready) v.ins v.outs took gave f.row a b m n in
+    let p = fresh_ports (port_state_in l.phase l.course l.pending l.stage.work l.ready) v.ins v.outs took gave f.row a b m n in
     let s = new_start book l.phase l.course l.pending l.stage f.phase in
     let ports = new_ports l.phase l.course l.pending l.stage.work l.ready p.x p.y f.phase p.holds in
     record {
@@ -110,7 +110,7 @@ fresh_law book l v took gave f a b m n =
     }
 
 -- the stage was started
-pub started : (book : Book) (old new : Logic) (acts : List Act) → Obeys starts (row old) (row new) acts → Turned book starts old acts new → Starts LinearRow (LinearLaw book) LinearFresh old new acts
+pub started : (book : Book) (old new : Logic) (acts : List Act) → Obeys starts (port_state old) (port_state new) acts → Turned book starts old acts new → Starts LinearPortState (LinearLaw book) LinearFresh old new acts
 started book old new acts o t = record {
   obeys = record {
     allowed = λ v h f. o.allowed v h f.row;

@@ -23,7 +23,7 @@ use Rattle.stage_linear.specs.Plugs.{StaysOn}
 use Rattle.port_core.specs.declared.act.Act.{Act}
 use Rattle.stage_linear.specs.Outcomes.{working, answered, answer_acts, CameTo}
 use Rattle.stage_linear.specs.Pending.{closed_by, closed_acts, given_on_from, last_acts, StaysReady}
-use Rattle.stage_linear.specs.States.{Logic, row, row_in, MayHold}
+use Rattle.stage_linear.specs.States.{Logic, port_state, port_state_in, MayHold}
 use Rattle.stage_linear.proofs.Pushes.{Waits}
 use Rattle.stage_linear.proofs.States.{of_parts, readied, of_logic}
 
@@ -37,7 +37,7 @@ less_held w e p (inr h) = inr h
 
 module _ (s : Stage) (b c : Bool) (f : Finish Tree) where
   abbrev GivenAt : Tree → Course → List Tree → InView → OutView → Type 0
-  GivenAt e r p x y = ActsAllowed (seen (pulls 0) (ports x y)) (Push 0 e ∷ last_acts (of_parts s r b p) f) × row (readied (given_on_from (of_parts s r b p) f) c) (acted_all (seen (pulls 0) (ports x y)) (Push 0 e ∷ last_acts (of_parts s r b p) f))
+  GivenAt e r p x y = ActsAllowed (seen (pulls 0) (ports x y)) (Push 0 e ∷ last_acts (of_parts s r b p) f) × port_state (readied (given_on_from (of_parts s r b p) f) c) (acted_all (seen (pulls 0) (ports x y)) (Push 0 e ∷ last_acts (of_parts s r b p) f))
 
   abbrev Stays : Course → List Tree → Type 0
   Stays r p = StaysReady (of_parts s r b p) (readied (given_on_from (of_parts s r b p) f) c)
@@ -47,7 +47,7 @@ module _ (s : Stage) (b c : Bool) (f : Finish Tree) where
   last_at e (adds (u ∷ us)) is h = rw (sym is) ((refl, tt), (omega arith, h))
   last_at e (refuses d) is h = rw (sym is) ((refl, (tt, tt)), tt)
 
-  given_at : (e : Tree) (r : Course) (p : List Tree) (x : InView) (y : OutView) → row_in Open r (e ∷ p) s.work b x y → Stays r p → GivenAt e r p x y
+  given_at : (e : Tree) (r : Course) (p : List Tree) (x : InView) (y : OutView) → port_state_in Open r (e ∷ p) s.work b x y → Stays r p → GivenAt e r p x y
   given_at e course.Waits p Pulled outlet.Available h k = cc
   given_at e course.Idles [] Idle outlet.Unpulled h k = ((refl, tt), (inl refl, (h.1.0, k ∙ h.1.1)))
   given_at e course.Idles (u ∷ p) Idle outlet.Unpulled h k = ((refl, tt), (less_held s.work e (u ∷ p) h.0, (h.1.0, k ∙ h.1.1)))
@@ -88,8 +88,8 @@ module _ (s : Stage) (b c : Bool) (f : Finish Tree) where
   given_at e course.Ends p Pulled y h k = absurd h
   given_at e course.Ends p Cancelled y h k = absurd h
 
-  given_in : (e : Tree) (r : Course) (p : List Tree) (xs : List InView) (ys : List OutView) → OneOneOf (row_in Open r (e ∷ p) s.work b) xs ys → Stays r p
-      → ActsAllowed (seen (pulls 0) (record { ins = xs; outs = ys })) (Push 0 e ∷ last_acts (of_parts s r b p) f) × row (readied (given_on_from (of_parts s r b p) f) c) (acted_all (seen (pulls 0) (record { ins = xs; outs = ys })) (Push 0 e ∷ last_acts (of_parts s r b p) f))
+  given_in : (e : Tree) (r : Course) (p : List Tree) (xs : List InView) (ys : List OutView) → OneOneOf (port_state_in Open r (e ∷ p) s.work b) xs ys → Stays r p
+      → ActsAllowed (seen (pulls 0) (record { ins = xs; outs = ys })) (Push 0 e ∷ last_acts (of_parts s r b p) f) × port_state (readied (given_on_from (of_parts s r b p) f) c) (acted_all (seen (pulls 0) (record { ins = xs; outs = ys })) (Push 0 e ∷ last_acts (of_parts s r b p) f))
   given_in e r p (x ∷ []) (y ∷ []) h k = given_at e r p x y h k
   given_in e r p [] ys h k = absurd h
   given_in e r p (x ∷ []) [] h k = absurd h
@@ -97,18 +97,18 @@ module _ (s : Stage) (b c : Bool) (f : Finish Tree) where
   given_in e r p (x ∷ w ∷ xs) ys h k = absurd h
 
   pub given_parts : (e : Tree) (r : Course) (p : List Tree) → Stays r p
-      → Obeys (pulls 0) (row (of_parts s r b (e ∷ p))) (row (readied (given_on_from (of_parts s r b p) f) c)) (Push 0 e ∷ last_acts (of_parts s r b p) f)
+      → Obeys (pulls 0) (port_state (of_parts s r b (e ∷ p))) (port_state (readied (given_on_from (of_parts s r b p) f) c)) (Push 0 e ∷ last_acts (of_parts s r b p) f)
   given_parts e r p k = record { allowed = λ v _ h. (given_in e r p v.ins v.outs h k).0; row = λ v _ h. (given_in e r p v.ins v.outs h k).1 }
 
 -- the first of what is held goes out
 pub given_obeys : (old l : Logic) (e : Tree) (c : Bool) (f : Finish Tree) → l.phase ≡ Open → old ≡ record l { pending = e ∷ l.pending } → StaysReady l (readied (given_on_from l f) c)
-    → Obeys (pulls 0) (row old) (row (readied (given_on_from l f) c)) (Push 0 e ∷ last_acts l f)
+    → Obeys (pulls 0) (port_state old) (port_state (readied (given_on_from l f) c)) (Push 0 e ∷ last_acts l f)
 given_obeys old l e c f h is k =
     let l_is : l ≡ of_parts l.stage l.course l.ready l.pending = of_logic l l.course l.pending h refl refl in
     let stays = subst (λ (x : Logic). StaysReady x (readied (given_on_from x f) c)) l_is k in
-    let at : Obeys (pulls 0) (row (record l { pending = e ∷ l.pending })) (row (readied (given_on_from l f) c)) (Push 0 e ∷ last_acts l f) =
-    subst (λ (x : Logic). Obeys (pulls 0) (row (record x { pending = e ∷ x.pending })) (row (readied (given_on_from x f) c)) (Push 0 e ∷ last_acts x f)) (sym l_is) (given_parts l.stage l.ready c f e l.course l.pending stays) in
-    subst (λ (x : Logic). Obeys (pulls 0) (row x) (row (readied (given_on_from l f) c)) (Push 0 e ∷ last_acts l f)) (sym is) at
+    let at : Obeys (pulls 0) (port_state (record l { pending = e ∷ l.pending })) (port_state (readied (given_on_from l f) c)) (Push 0 e ∷ last_acts l f) =
+    subst (λ (x : Logic). Obeys (pulls 0) (port_state (record x { pending = e ∷ x.pending })) (port_state (readied (given_on_from x f) c)) (Push 0 e ∷ last_acts x f)) (sym l_is) (given_parts l.stage l.ready c f e l.course l.pending stays) in
+    subst (λ (x : Logic). Obeys (pulls 0) (port_state x) (port_state (readied (given_on_from l f) c)) (Push 0 e ∷ last_acts l f)) (sym is) at
 
 -- ---- one more element
 
@@ -120,7 +120,7 @@ module _ (book : Book) (node n k : ℕ) (old w : Work) (b c : Bool) (t : Tree) (
   then d = working (of_parts (with_decider d) course.Waits b []) w c
 
   abbrev PushedAt : Decider → LinearReaction → Type 0
-  PushedAt d o = ActsAllowed (seen (arrives 0 (item.Elem t)) (ports Pulled outlet.Available)) (answer_acts (then d) k o) × row (answered (then d) k o) (acted_all (seen (arrives 0 (item.Elem t)) (ports Pulled outlet.Available)) (answer_acts (then d) k o))
+  PushedAt d o = ActsAllowed (seen (arrives 0 (item.Elem t)) (ports Pulled outlet.Available)) (answer_acts (then d) k o) × port_state (answered (then d) k o) (acted_all (seen (arrives 0 (item.Elem t)) (ports Pulled outlet.Available)) (answer_acts (then d) k o))
 
   pushed_at : (d : Decider) (o : LinearReaction) → ReactedBy book old t w o → StaysOn c o → PushedAt d o
   pushed_at d (Gives u) r s = ((refl, tt), (inl refl, (r.1.0, s)))
@@ -137,8 +137,8 @@ module _ (book : Book) (node n k : ℕ) (old w : Work) (b c : Bool) (t : Tree) (
   pushed_at Restart (Blames why) r s = ((refl, tt), (refl, (rw r.1.0 more, s)))
   pushed_at d (Fails why) r s = ((tt, (tt, tt)), tt)
 
-  pushed_ports : (d : Decider) (o : LinearReaction) (x : InView) (y : OutView) → ReactedBy book old t w o → StaysOn c o → row_in Open course.Waits [] old b x y
-      → ActsAllowed (seen (arrives 0 (item.Elem t)) (ports x y)) (answer_acts (then d) k o) × row (answered (then d) k o) (acted_all (seen (arrives 0 (item.Elem t)) (ports x y)) (answer_acts (then d) k o))
+  pushed_ports : (d : Decider) (o : LinearReaction) (x : InView) (y : OutView) → ReactedBy book old t w o → StaysOn c o → port_state_in Open course.Waits [] old b x y
+      → ActsAllowed (seen (arrives 0 (item.Elem t)) (ports x y)) (answer_acts (then d) k o) × port_state (answered (then d) k o) (acted_all (seen (arrives 0 (item.Elem t)) (ports x y)) (answer_acts (then d) k o))
   pushed_ports d o Pulled outlet.Available r s h = pushed_at d o r s
   pushed_ports d o Pulled outlet.Unpulled r s h = absurd h
   pushed_ports d o Pulled outlet.Closed r s h = absurd h
@@ -147,24 +147,24 @@ module _ (book : Book) (node n k : ℕ) (old w : Work) (b c : Bool) (t : Tree) (
   pushed_ports d o Finished y r s h = absurd h
   pushed_ports d o Cancelled y r s h = absurd h
 
-  pushed_in : (d : Decider) (o : LinearReaction) (xs : List InView) (ys : List OutView) → ReactedBy book old t w o → StaysOn c o → OneOneOf (row_in Open course.Waits [] old b) xs ys
-      → ActsAllowed (seen (arrives 0 (item.Elem t)) (record { ins = xs; outs = ys })) (answer_acts (then d) k o) × row (answered (then d) k o) (acted_all (seen (arrives 0 (item.Elem t)) (record { ins = xs; outs = ys })) (answer_acts (then d) k o))
+  pushed_in : (d : Decider) (o : LinearReaction) (xs : List InView) (ys : List OutView) → ReactedBy book old t w o → StaysOn c o → OneOneOf (port_state_in Open course.Waits [] old b) xs ys
+      → ActsAllowed (seen (arrives 0 (item.Elem t)) (record { ins = xs; outs = ys })) (answer_acts (then d) k o) × port_state (answered (then d) k o) (acted_all (seen (arrives 0 (item.Elem t)) (record { ins = xs; outs = ys })) (answer_acts (then d) k o))
   pushed_in d o (x ∷ []) (y ∷ []) r s h = pushed_ports d o x y r s h
   pushed_in d o [] ys r s h = absurd h
   pushed_in d o (x ∷ []) [] r s h = absurd h
   pushed_in d o (x ∷ []) (y ∷ z ∷ ys) r s h = absurd h
   pushed_in d o (x ∷ u ∷ xs) ys r s h = absurd h
 
-  pub pushed_parts : (d : Decider) (o : LinearReaction) → ReactedBy book old t w o → StaysOn c o → Obeys (arrives 0 (item.Elem t)) (row (of_parts (with_decider d) course.Waits b [])) (row (answered (then d) k o)) (answer_acts (then d) k o)
+  pub pushed_parts : (d : Decider) (o : LinearReaction) → ReactedBy book old t w o → StaysOn c o → Obeys (arrives 0 (item.Elem t)) (port_state (of_parts (with_decider d) course.Waits b [])) (port_state (answered (then d) k o)) (answer_acts (then d) k o)
   pushed_parts d o r s = record { allowed = λ v _ h. (pushed_in d o v.ins v.outs r s h).0; row = λ v _ h. (pushed_in d o v.ins v.outs r s h).1 }
 
 pub pushed_obeys : (book : Book) (l : Logic) (w : Work) (c : Bool) (t : Tree) (k : ℕ) (o : LinearReaction) → l.phase ≡ Open → Waits l → ReactedBy book l.stage.work t w o → StaysOn c o
-    → Obeys (arrives 0 (item.Elem t)) (row l) (row (answered (working l w c) k o)) (answer_acts (working l w c) k o)
+    → Obeys (arrives 0 (item.Elem t)) (port_state l) (port_state (answered (working l w c) k o)) (answer_acts (working l w c) k o)
 pushed_obeys book l w c t k o h q r s =
-    subst (λ (x : Logic). Obeys (arrives 0 (item.Elem t)) (row x) (row (answered (working x w c) k o)) (answer_acts (working x w c) k o)) (sym (of_logic l course.Waits [] h q.on q.none))
+    subst (λ (x : Logic). Obeys (arrives 0 (item.Elem t)) (port_state x) (port_state (answered (working x w c) k o)) (answer_acts (working x w c) k o)) (sym (of_logic l course.Waits [] h q.on q.none))
     (pushed_parts book l.stage.node l.stage.taken k l.stage.work w l.ready c t q.more l.stage.decider o r s)
 
-pub came_obeys : (book : Book) (l new : Logic) (acts : List Act) (t : Tree) (k : ℕ) → l.phase ≡ Open → Waits l → CameTo book l k t acts new → Obeys (arrives 0 (item.Elem t)) (row l) (row new) acts
+pub came_obeys : (book : Book) (l new : Logic) (acts : List Act) (t : Tree) (k : ℕ) → l.phase ≡ Open → Waits l → CameTo book l k t acts new → Obeys (arrives 0 (item.Elem t)) (port_state l) (port_state new) acts
 came_obeys book l new acts t k h q r = rw (r.acted, r.stands) (pushed_obeys book l r.work r.ready t k r.outcome h q r.reacted r.stays)
 
 -- ---- the end of the input, where nothing is held
@@ -191,7 +191,7 @@ ends_spread book s (plugged name taken) u us h e = (refl, refl)
 
 module _ (book : Book) (s : Stage) (b c : Bool) where
   abbrev EndedAt : Course → Finish Tree → InView → OutView → Type 0
-  EndedAt r f x y = ActsAllowed (seen (arrives 0 item.Ended) (ports x y)) (closed_acts (of_parts s r b []) f) × row (readied (closed_by (of_parts s r b []) f) c) (acted_all (seen (arrives 0 item.Ended) (ports x y)) (closed_acts (of_parts s r b []) f))
+  EndedAt r f x y = ActsAllowed (seen (arrives 0 item.Ended) (ports x y)) (closed_acts (of_parts s r b []) f) × port_state (readied (closed_by (of_parts s r b []) f) c) (acted_all (seen (arrives 0 item.Ended) (ports x y)) (closed_acts (of_parts s r b []) f))
 
   asked_at : (f : Finish Tree) → finish_of book s s.work ≡ f → HasMore s.work → EndedAt course.Waits f Pulled outlet.Available
   asked_at (adds []) is h = ((tt, tt), tt)
@@ -207,7 +207,7 @@ module _ (book : Book) (s : Stage) (b c : Bool) where
   abbrev last : Finish Tree
   last = finish_of book s s.work
 
-  ended_ports : (r : Course) (x : InView) (y : OutView) → row_in Open r [] s.work b x y → EndedAt r last x y
+  ended_ports : (r : Course) (x : InView) (y : OutView) → port_state_in Open r [] s.work b x y → EndedAt r last x y
   ended_ports course.Waits Pulled outlet.Available h = asked_at last refl h.1.0
   ended_ports course.Idles Idle outlet.Unpulled h = idle_at last refl h.1.0
   ended_ports course.Leaves Idle outlet.Unpulled h = absurd (omega (arith, h.0))
@@ -244,19 +244,19 @@ module _ (book : Book) (s : Stage) (b c : Bool) where
   ended_ports course.Ends Pulled y h = absurd h
   ended_ports course.Ends Cancelled y h = absurd h
 
-  ended_in : (r : Course) (xs : List InView) (ys : List OutView) → OneOneOf (row_in Open r [] s.work b) xs ys
-      → ActsAllowed (seen (arrives 0 item.Ended) (record { ins = xs; outs = ys })) (closed_acts (of_parts s r b []) last) × row (readied (closed_by (of_parts s r b []) last) c) (acted_all (seen (arrives 0 item.Ended) (record { ins = xs; outs = ys })) (closed_acts (of_parts s r b []) last))
+  ended_in : (r : Course) (xs : List InView) (ys : List OutView) → OneOneOf (port_state_in Open r [] s.work b) xs ys
+      → ActsAllowed (seen (arrives 0 item.Ended) (record { ins = xs; outs = ys })) (closed_acts (of_parts s r b []) last) × port_state (readied (closed_by (of_parts s r b []) last) c) (acted_all (seen (arrives 0 item.Ended) (record { ins = xs; outs = ys })) (closed_acts (of_parts s r b []) last))
   ended_in r (x ∷ []) (y ∷ []) h = ended_ports r x y h
   ended_in r [] ys h = absurd h
   ended_in r (x ∷ []) [] h = absurd h
   ended_in r (x ∷ []) (y ∷ z ∷ ys) h = absurd h
   ended_in r (x ∷ w ∷ xs) ys h = absurd h
 
-  pub ended_parts : (r : Course) → Obeys (arrives 0 item.Ended) (row (of_parts s r b [])) (row (readied (closed_by (of_parts s r b []) last) c)) (closed_acts (of_parts s r b []) last)
+  pub ended_parts : (r : Course) → Obeys (arrives 0 item.Ended) (port_state (of_parts s r b [])) (port_state (readied (closed_by (of_parts s r b []) last) c)) (closed_acts (of_parts s r b []) last)
   ended_parts r = record { allowed = λ v _ h. (ended_in r v.ins v.outs h).0; row = λ v _ h. (ended_in r v.ins v.outs h).1 }
 
 pub ended_obeys : (book : Book) (l : Logic) (c : Bool) → l.phase ≡ Open → l.pending ≡ []
-    → Obeys (arrives 0 item.Ended) (row l) (row (readied (closed_by l (finish_of book l.stage l.stage.work)) c)) (closed_acts l (finish_of book l.stage l.stage.work))
+    → Obeys (arrives 0 item.Ended) (port_state l) (port_state (readied (closed_by l (finish_of book l.stage l.stage.work)) c)) (closed_acts l (finish_of book l.stage l.stage.work))
 ended_obeys book l c h none =
-    subst (λ (x : Logic). Obeys (arrives 0 item.Ended) (row x) (row (readied (closed_by x (finish_of book x.stage x.stage.work)) c)) (closed_acts x (finish_of book x.stage x.stage.work))) (sym (of_logic l l.course [] h refl none))
+    subst (λ (x : Logic). Obeys (arrives 0 item.Ended) (port_state x) (port_state (readied (closed_by x (finish_of book x.stage x.stage.work)) c)) (closed_acts x (finish_of book x.stage x.stage.work))) (sym (of_logic l l.course [] h refl none))
     (ended_parts book l.stage l.ready c l.course)

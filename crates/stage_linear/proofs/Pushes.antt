@@ -27,7 +27,7 @@ use Rattle.stage_linear.specs.declared.task.LinearReaction.TheVariants.{Gives, G
 use Rattle.stage_linear.specs.Tasks.{HasMore, SameMachine, GoesOn, Spreads, Stays, ReactedBy}
 use Rattle.port_core.specs.declared.act.Act.{Act}
 use Rattle.stage_linear.specs.Outcomes.{working, answered, answer_acts, CameTo}
-use Rattle.stage_linear.specs.States.{Logic, held, row, row_in, Turned}
+use Rattle.stage_linear.specs.States.{Logic, held, port_state, port_state_in, Turned}
 use Rattle.stage_linear.proofs.States.{of_logic}
 
 -- ---- where an element may come, the stage waits and holds nothing
@@ -38,7 +38,7 @@ pub record Waits (l : Logic) : Type 0 where
   pub more : HasMore l.stage.work
   pub ready : l.ready ≡ true
 
-waits_at : (l : Logic) (c : Course) (p : List Tree) (x : InView) (y : OutView) → x ≡ Pulled → l.course ≡ c → l.pending ≡ p → row_in Open c p l.stage.work l.ready x y → Waits l
+waits_at : (l : Logic) (c : Course) (p : List Tree) (x : InView) (y : OutView) → x ≡ Pulled → l.course ≡ c → l.pending ≡ p → port_state_in Open c p l.stage.work l.ready x y → Waits l
 waits_at l course.Waits p Pulled outlet.Available w a b r = record { none = b ∙ r.0; on = a; more = r.1.0; ready = r.1.1 }
 waits_at l course.Waits p Pulled outlet.Unpulled w a b r = absurd r
 waits_at l course.Waits p Pulled outlet.Closed w a b r = absurd r
@@ -51,15 +51,15 @@ waits_at l c p Idle y w a b r = cc
 waits_at l c p Finished y w a b r = cc
 waits_at l c p Cancelled y w a b r = cc
 
-waits_in : (l : Logic) (xs : List InView) (ys : List OutView) (t : Tree) → in_at (record { ins = xs; outs = ys }) 0 ≡ Pulled → OneOneOf (row_in Open l.course l.pending l.stage.work l.ready) xs ys → Waits l
+waits_in : (l : Logic) (xs : List InView) (ys : List OutView) (t : Tree) → in_at (record { ins = xs; outs = ys }) 0 ≡ Pulled → OneOneOf (port_state_in Open l.course l.pending l.stage.work l.ready) xs ys → Waits l
 waits_in l (x ∷ []) (y ∷ []) t w r = waits_at l l.course l.pending x y w refl refl r
 waits_in l [] ys t w r = absurd r
 waits_in l (x ∷ []) [] t w r = absurd r
 waits_in l (x ∷ []) (y ∷ z ∷ ys) t w r = absurd r
 waits_in l (x ∷ u ∷ xs) ys t w r = absurd r
 
-pub waits : (l : Logic) (t : Tree) → l.phase ≡ Open → Meets (arrives 0 (item.Elem t)) (row l) → Waits l
-waits l t h m = waits_in l m.0.ins m.0.outs t m.1.0 (subst (λ p. OneOneOf (row_in p l.course l.pending l.stage.work l.ready) m.0.ins m.0.outs) h m.1.1)
+pub waits : (l : Logic) (t : Tree) → l.phase ≡ Open → Meets (arrives 0 (item.Elem t)) (port_state l) → Waits l
+waits l t h m = waits_in l m.0.ins m.0.outs t m.1.0 (subst (λ p. OneOneOf (port_state_in p l.course l.pending l.stage.work l.ready) m.0.ins m.0.outs) h m.1.1)
 
 -- ---- one step of the machine
 

@@ -8,17 +8,17 @@ use Rattle.stream_model.specs.Machine.{Run}
 use Rattle.stage_law.specs.Held.{owing}
 use Rattle.stage_law.specs.Law.{Law}
 use Rattle.stage_core.specs.declared.phase.Phase.TheVariants.{New}
-use Rattle.stage_linear.specs.States.{Logic, held, row}
+use Rattle.stage_linear.specs.States.{Logic, held, port_state}
 
 -- it was not started, and its row holds
 pub record LinearFresh (l : Logic) (v : View) : Type 0 where
   pub phase : l.phase ≡ New
-  pub row : row l v
+  pub row : port_state l v
 
 -- it was started, and its row holds
-pub record LinearRow (l : Logic) (v : View) : Type 0 where
+pub record LinearPortState (l : Logic) (v : View) : Type 0 where
   pub started : l.phase ≢ New
-  pub row : row l v
+  pub row : port_state l v
 
 -- The law of its output by this book of plugs, from what it owed at first to what it owes now. Its machine stays the same.
 pub record LinearLaw (book : Book) (first now : Logic) (v : View) (took gave : List (List Item)) : Type 0 where

@@ -68,18 +68,18 @@ Keeps w p = (0 < length p) × Spreads w
 
 -- Its row: before its start nobody asked; then it asks where its output is asked and nothing is held; where it is done, or its
 -- input has ended, it holds something; or all is closed.
-abbrev pub row_in : Phase → Course → List Tree → Work → Bool → InView → OutView → Type 0
-row_in New c p w r Idle Unpulled = r ≡ true
-row_in Open Waits p w r Pulled Available = (p ≡ []) × Takes w r
-row_in Open Idles p w r Idle Unpulled = MayHold w p × Takes w r
-row_in Open Leaves p w r Idle Unpulled = Keeps w p
-row_in Open Closes p w r Finished Unpulled = Keeps w p × (r ≡ true)
-row_in Open Ends p w r Finished Unpulled = Keeps w p
-row_in Closed c p w r i o = BothClosed i o
-row_in _ _ _ _ _ _ _ = ⊥
+abbrev pub port_state_in : Phase → Course → List Tree → Work → Bool → InView → OutView → Type 0
+port_state_in New c p w r Idle Unpulled = r ≡ true
+port_state_in Open Waits p w r Pulled Available = (p ≡ []) × Takes w r
+port_state_in Open Idles p w r Idle Unpulled = MayHold w p × Takes w r
+port_state_in Open Leaves p w r Idle Unpulled = Keeps w p
+port_state_in Open Closes p w r Finished Unpulled = Keeps w p × (r ≡ true)
+port_state_in Open Ends p w r Finished Unpulled = Keeps w p
+port_state_in Closed c p w r i o = BothClosed i o
+port_state_in _ _ _ _ _ _ _ = ⊥
 
-abbrev pub row : Logic → View → Type 0
-row l v = OneOne (row_in l.phase l.course l.pending l.stage.work l.ready) v
+abbrev pub port_state : Logic → View → Type 0
+port_state l v = OneOne (port_state_in l.phase l.course l.pending l.stage.work l.ready) v
 
 -- one step of its machine by this book of plugs, which stays the same; no action cancels an input that an earlier one asked;
 -- and it was started

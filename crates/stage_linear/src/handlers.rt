@@ -1,6 +1,6 @@
 // A linear stage as the interpreter calls it: its calls keep the law of its output over its whole history, by its book of plugs.
 ghost use Rattle.std.specs.Prelude.{[], false, ⊤};
-ghost use Rattle.stage_linear.specs.Handling.{LinearFresh, LinearRow, LinearLaw};
+ghost use Rattle.stage_linear.specs.Handling.{LinearFresh, LinearPortState, LinearLaw};
 
 use crate::laws::a_called_stage_is_open;
 use crate::logic::LinearLogic;
@@ -16,7 +16,7 @@ use std::alloc::Global;
 impl<L: Logic, B: PlugBook> Stage for LinearLogic<L, B> {
     ghost fresh = { LinearFresh };
 
-    ghost rests = { LinearRow };
+    ghost port_state = { LinearPortState };
 
     ghost law = { LinearLaw B.lists };
 

@@ -32,30 +32,30 @@ use Rattle.stage_fans.specs.OwnRows.{FanRests}
 use Rattle.stage_fans.specs.PortsLaws.{InPortsLaw}
 use Rattle.stage_fans.proofs.Closings.{none_called}
 use Rattle.stage_fans.proofs.Histories.{in_node, ins_seen, ins_acted, begun}
-use Rattle.stage_merge.specs.Mergings.{Core, Merging, Begins, Turned, Fresh, idles, waiting, row_by, row, held_by, held, MergeFresh, MergeRow, MergesAs}
+use Rattle.stage_merge.specs.Mergings.{Core, Merging, Begins, Turned, Fresh, idles, waiting, port_state_by, port_state, held_by, held, MergeFresh, MergePortState, MergesAs}
 use Rattle.stage_merge.proofs.MergeRests.{merge_rests, new_row, none_waits}
 
 -- ---- where it is called
 
-pub called_open : (l : Merging) (c : Call) (v : View) → (l.core.phase ≡ New → ⊥) → CallAllowed c v → row l v → l.core.phase ≡ Open
+pub called_open : (l : Merging) (c : Call) (v : View) → (l.core.phase ≡ New → ⊥) → CallAllowed c v → port_state l v → l.core.phase ≡ Open
 called_open l c v n may r = by_phase l.core.phase refl r
   where
-    by_phase : (f : Phase) → l.core.phase ≡ f → row_by f l.core v → l.core.phase ≡ Open
+    by_phase : (f : Phase) → l.core.phase ≡ f → port_state_by f l.core v → l.core.phase ≡ Open
     by_phase New e r = absurd (n e)
     by_phase Open e r = e
     by_phase Closed e r = absurd (none_called c v may r)
 
-pub called_fits : (l : Merging) (c : Call) (v : View) → CallAllowed c v → row l v → room_for (length l.core.over) ≤ most_acts
+pub called_fits : (l : Merging) (c : Call) (v : View) → CallAllowed c v → port_state l v → room_for (length l.core.over) ≤ most_acts
 called_fits l c v may r = by_phase l.core.phase r
   where
-    by_phase : (f : Phase) → row_by f l.core v → room_for (length l.core.over) ≤ most_acts
+    by_phase : (f : Phase) → port_state_by f l.core v → room_for (length l.core.over) ≤ most_acts
     by_phase New r = let few : length l.core.over ≤ 16 = r.1.0.few in omega (arith, few)
     by_phase Open r = let few : length l.core.over ≤ 16 = r.1.few in omega (arith, few)
     by_phase Closed r = absurd (none_called c v may r)
 
 -- ---- between two calls
 
-pub logic_rests : (first now : Merging) (v : View) (took gave : List (List Item)) → MergeRow now v → (law : MergesAs first now v took gave) → FanRests MergeRests v law.by.law.ins law.by.law.out_list
+pub logic_rests : (first now : Merging) (v : View) (took gave : List (List Item)) → MergePortState now v → (law : MergesAs first now v took gave) → FanRests MergeRests v law.by.law.ins law.by.law.out_list
 logic_rests first now v took gave r law = merge_rests now v law.by.law.ins law.by.law.out_list r.started r.row law.by.law.ports
 
 -- ---- calls
@@ -66,7 +66,7 @@ keeps_ports c old new v took gave acts may allowed turn law =
     in_node (MergeKeeps (held old)) (MergeKeeps (held new)) c v (acted_all (seen c v) acts) took gave acts (ins_acted acts (seen c v) ∙ ins_seen c v)
     (λ given l. merge_call c (held old) (held new) v (λ i. slice_index_or took i []) given acts may allowed turn l) law
 
-pub handled : (c : Call) (old new : Merging) (acts : List Act) → Obeys c (row old) (row new) acts → Turned c old acts new → Handles MergeRow MergesAs c old new acts
+pub handled : (c : Call) (old new : Merging) (acts : List Act) → Obeys c (port_state old) (port_state new) acts → Turned c old acts new → Handles MergePortState MergesAs c old new acts
 handled c old new acts o t = record {
   obeys = record {
     allowed = λ v may r. o.allowed v may r.row;
@@ -85,7 +85,7 @@ idles_long (b ∷ bs) = ap suc (idles_long bs)
 pub fresh_law : (l : Merging) (v : View) (took gave : List (List Item)) → CallAllowed starts v → MergeFresh l v → AllEmpty took → AllEmpty gave → length took ≡ length v.ins → length gave ≡ length v.outs
     → InPortsLaw (MergeKeeps (held l)) v took gave
 fresh_law l v took gave may r a b m n =
-    let s = subst (λ f. row_by f l.core v) r.fresh r.row in
+    let s = subst (λ f. port_state_by f l.core v) r.fresh r.row in
     let fresh : Fresh l.core = s.1.1 in
     let outs : v.outs ≡ outlet.Unpulled ∷ [] = ap (λ (w : View). w.outs) s.0 in
     let many : length v.ins ≡ length l.core.over = ap (λ (w : View). length w.ins) s.0 ∙ idles_long l.core.over in
@@ -95,7 +95,7 @@ fresh_law l v took gave may r a b m n =
     begun (MergeKeeps (held l)) v took gave a b m (n ∙ ap length outs)
     (subst (λ x. PortsLaw (MergeKeeps x) v (λ _. []) []) (sym owes) (merge_new v may.0 (subst (λ ys. GaveAs (slice_index_or ys 0 outlet.Closed) unended) (sym outs) refl)))
 
-pub started : (old new : Merging) (acts : List Act) → Obeys starts (row old) (row new) acts → Turned starts old acts new → Starts MergeRow MergesAs MergeFresh old new acts
+pub started : (old new : Merging) (acts : List Act) → Obeys starts (port_state old) (port_state new) acts → Turned starts old acts new → Starts MergePortState MergesAs MergeFresh old new acts
 started old new acts o t = record {
   obeys = record {
     allowed = λ v may r. o.allowed v may r.row;
@@ -113,7 +113,7 @@ pub new_may_start : (inputs : ℕ) (l : Merging) → 2 ≤ inputs → inputs ≤
 new_may_start k l two few b = record {
   fresh = ap (λ (c : Core). c.phase) b.core;
   unmoved = b.moves;
-  row = subst (λ (xs : List InView). row l (record { ins = xs; outs = outlet.Unpulled ∷ [] })) (idles_are k) (new_row k l two few b);
+  row = subst (λ (xs : List InView). port_state l (record { ins = xs; outs = outlet.Unpulled ∷ [] })) (idles_are k) (new_row k l two few b);
 }
 
 -- ---- outlooks

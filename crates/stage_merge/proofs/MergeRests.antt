@@ -15,7 +15,7 @@ use Rattle.stage_core.specs.declared.phase.Phase.TheVariants.{New, Open, Closed}
 use Rattle.stage_merge.specs.declared.merging.Queued.{Queued}
 use Rattle.stage_fans.specs.Seats.{wish}
 use Rattle.stage_fans.specs.OwnRows.{own_inputs, FanRests}
-use Rattle.stage_merge.specs.Mergings.{Core, Merging, Begins, of_port, place, places, idles, waiting, open_count, Sound, Fresh, row_by, row}
+use Rattle.stage_merge.specs.Mergings.{Core, Merging, Begins, of_port, place, places, idles, waiting, open_count, Sound, Fresh, port_state_by, port_state}
 use Rattle.stage_fans.proofs.Closings.{closed_rests}
 
 place_any : (b : Bool) (l u : List Tree) → WaitsIdlesOrShut (own_input (place b l) u)
@@ -53,10 +53,10 @@ places_long : (n : ℕ) (bs : List Bool) (q : List Queued) → length (places n 
 places_long n [] q = refl
 places_long n (b ∷ bs) q = ap suc (places_long (n + 1) bs q)
 
-pub merge_rests : (l : Merging) (v : port.View) (ins : List Inflow) (g : List Tree) → l.core.phase ≢ New → row l v → length ins ≡ length v.ins → FanRests MergeRests v ins g
+pub merge_rests : (l : Merging) (v : port.View) (ins : List Inflow) (g : List Tree) → l.core.phase ≢ New → port_state l v → length ins ≡ length v.ins → FanRests MergeRests v ins g
 merge_rests l v ins g n r h = by_phase l.core.phase refl r
   where
-    by_phase : (f : Phase) → l.core.phase ≡ f → row_by f l.core v → FanRests MergeRests v ins g
+    by_phase : (f : Phase) → l.core.phase ≡ f → port_state_by f l.core v → FanRests MergeRests v ins g
     by_phase New e r = absurd (n e)
     by_phase Open e r =
         let long : length ins ≡ length l.core.over = h ∙ ap (λ (w : port.View). length w.ins) r.0 ∙ places_long 0 l.core.over l.core.queue in
@@ -74,10 +74,10 @@ none_waits n (suc k) = ap (λ (fs : List Inflow). nothing ∷ fs) (none_waits (n
 abbrev begun : ℕ → Core
 begun k = record { phase = New; over = replicate k false; queue = []; room = k; asked = false; left = k }
 
-pub new_row : (inputs : ℕ) (l : Merging) → 2 ≤ inputs → inputs ≤ 16 → Begins inputs l → row l (record { ins = idles (replicate inputs false); outs = Unpulled ∷ [] })
+pub new_row : (inputs : ℕ) (l : Merging) → 2 ≤ inputs → inputs ≤ 16 → Begins inputs l → port_state l (record { ins = idles (replicate inputs false); outs = Unpulled ∷ [] })
 new_row k l two few b =
     let long = length-replicate k false in
     let s : Sound (begun k) = record { count = sym (all_open k); some = λ e. omega (arith, two); empty = λ e. refl; once = λ m. omega arith; there = tt; few = omega (arith, long, few); roomy = omega (arith, long) } in
     let f : Fresh (begun k) = record { queue = refl; over = ap (λ m. replicate m false) (sym long); unasked = refl } in
     let v : port.View = record { ins = idles (replicate k false); outs = Unpulled ∷ [] } in
-    subst (λ (c : Core). row_by c.phase c v) (sym b.core) (refl, (s, f))
+    subst (λ (c : Core). port_state_by c.phase c v) (sym b.core) (refl, (s, f))

@@ -26,7 +26,7 @@ use Rattle.stage_core.specs.declared.phase.Phase.{Phase}
 use Rattle.stage_core.specs.declared.phase.Phase.TheVariants.{New, Open, Closed}
 use Rattle.stage_merge.specs.declared.merging.Queued.{Queued}
 use Rattle.stage_fans.specs.Seats.{wish, open_cancels, InsClosed, OneClosed, FanClosed}
-use Rattle.stage_merge.specs.Mergings.{Core, Merging, of_port, waiting, place, places, idles, pull_acts, open_count, PortsThere, view_of, new_view, Sound, Fresh, row_by, row, held_by, held, Turned, Does, Ends, done, opens, more, Again, over, still, HandedOn, Gave, first, none, Took, passed, stored, without, Ended, FirstOut, LastIn}
+use Rattle.stage_merge.specs.Mergings.{Core, Merging, of_port, waiting, place, places, idles, pull_acts, open_count, PortsThere, view_of, new_view, Sound, Fresh, port_state_by, port_state, held_by, held, Turned, Does, Ends, done, opens, more, Again, over, still, HandedOn, Gave, first, none, Took, passed, stored, without, Ended, FirstOut, LastIn}
 use Rattle.stage_fans.proofs.Closings.{open_wish, unasked_wish, Cancels, set_behind, at_behind, ins_append, cancels_give, cancels_stand}
 use Rattle.stage_merge.proofs.Fewer.{fewer}
 use Rattle.stage_merge.proofs.Merges.{queued, AllOver, out_merged, none_merged, used_none, used_one, ended_place, open_place, over_closed, came_now, ended_now, stored_now, released_now, idle_now, gone_now, failed_now, none_now, here_now, only_head, tail_once, stored_once, there_stored, there_by, one_less, none_open}
@@ -59,15 +59,15 @@ pub record Found (call : Call) (l : Merging) : Type 0 where
   pub may : CallAllowed call (view_of l.core)
   pub sound : Sound l.core
 
-pub found : (call : Call) (l : Merging) → l.core.phase ≡ Open → Meets call (row l) → Found call l
+pub found : (call : Call) (l : Merging) → l.core.phase ≡ Open → Meets call (port_state l) → Found call l
 found call l h m =
-    let s = subst (λ f. row_by f l.core m.0) h m.1.1 in
+    let s = subst (λ f. port_state_by f l.core m.0) h m.1.1 in
     record { may = subst (λ v. CallAllowed call v) s.0 m.1.0; sound = s.1 }
 
 -- the actions at a view, and what they give of what waited
 pub record At (v : View) (moves : List ℕ) (waited : List Inflow) (new : Merging) (acts : List Act) : Type 0 where
   pub allowed : ActsAllowed v acts
-  pub row_then : row new (acted_all v acts)
+  pub row_then : port_state new (acted_all v acts)
   pub turn : Then moves waited (given_on 0 acts) (held new)
   pub stands : PullsStand acts
   pub started : new.core.phase ≡ New → ⊥
@@ -76,17 +76,17 @@ pub record At (v : View) (moves : List ℕ) (waited : List Inflow) (new : Mergin
 
 -- both that a handler owes
 pub record Handled (call : Call) (old : Merging) (acts : List Act) (new : Merging) : Type 0 where
-  pub ports : Obeys call (row old) (row new) acts
+  pub ports : Obeys call (port_state old) (port_state new) acts
   pub gives : Turned call old acts new
 
-obeys : (call : Call) (old new : Merging) (acts : List Act) → old.core.phase ≡ Open → ActsAllowed (seen call (view_of old.core)) acts → row new (acted_all (seen call (view_of old.core)) acts) → Obeys call (row old) (row new) acts
+obeys : (call : Call) (old new : Merging) (acts : List Act) → old.core.phase ≡ Open → ActsAllowed (seen call (view_of old.core)) acts → port_state new (acted_all (seen call (view_of old.core)) acts) → Obeys call (port_state old) (port_state new) acts
 obeys call old new acts h allowed then_row = record {
-  allowed = λ v may r. let s = subst (λ f. row_by f old.core v) h r in subst (λ w. ActsAllowed (seen call w) acts) (sym s.0) allowed;
-  row = λ v may r. let s = subst (λ f. row_by f old.core v) h r in subst (λ w. row new (acted_all (seen call w) acts)) (sym s.0) then_row;
+  allowed = λ v may r. let s = subst (λ f. port_state_by f old.core v) h r in subst (λ w. ActsAllowed (seen call w) acts) (sym s.0) allowed;
+  row = λ v may r. let s = subst (λ f. port_state_by f old.core v) h r in subst (λ w. port_state new (acted_all (seen call w) acts)) (sym s.0) then_row;
 }
 
-is_open : (l : Core) (v : View) → l.phase ≡ Open → v ≡ view_of l → Sound l → row_by l.phase l v
-is_open l v h is s = subst (λ f. row_by f l v) (sym h) (is, s)
+is_open : (l : Core) (v : View) → l.phase ≡ Open → v ≡ view_of l → Sound l → port_state_by l.phase l v
+is_open l v h is s = subst (λ f. port_state_by f l v) (sym h) (is, s)
 
 -- ---- an element of input i goes out, which was the first that waited
 
@@ -285,32 +285,32 @@ module _ (old : Merging) (h : old.core.phase ≡ Open) where
       (brought_turn i (item.Elem t) old.log.moves (waiting 0 old.core.over old.core.queue) (given_on 0 acts))
       (subst (λ w. At (seen (arrives i (item.Elem t)) (view_of old.core)) old.log.moves w new acts) (sym ws) (subst (λ w. At w old.log.moves (waiting 0 old.core.over (queued i t ∷ old.core.queue)) new acts) (sym v) a))
 
-pub asked : (old new : Merging) (log : Picks) (acts : List Act) → old.core.phase ≡ Open → log.moves ≡ old.log.moves → Meets (pulls 0) (row old) → Gave (record old { log = log }) new acts → Handled (pulls 0) old acts new
+pub asked : (old new : Merging) (log : Picks) (acts : List Act) → old.core.phase ≡ Open → log.moves ≡ old.log.moves → Meets (pulls 0) (port_state old) → Gave (record old { log = log }) new acts → Handled (pulls 0) old acts new
 asked old new log acts h same m (none nothing_there to_is acts_are) = rw (to_is, acts_are) (none_asked old h log same (found (pulls 0) old h m).sound nothing_there)
 asked old new log acts h same m (first x q is handed) = let f = found (pulls 0) old h m in first_asked old h log new acts same f.may f.sound x q is handed
 
-pub pushed : (old new : Merging) (log : Picks) (acts : List Act) (i : ℕ) (t : Tree) → old.core.phase ≡ Open → log.moves ≡ old.log.moves → Meets (arrives i (item.Elem t)) (row old) → Took i t (record old { log = log }) new acts → Handled (arrives i (item.Elem t)) old acts new
+pub pushed : (old new : Merging) (log : Picks) (acts : List Act) (i : ℕ) (t : Tree) → old.core.phase ≡ Open → log.moves ≡ old.log.moves → Meets (arrives i (item.Elem t)) (port_state old) → Took i t (record old { log = log }) new acts → Handled (arrives i (item.Elem t)) old acts new
 pushed old new log acts i t h same m (passed on handed) = let f = found (arrives i (item.Elem t)) old h m in passed_here old h log new acts i t same f.may f.sound on handed
 pushed old new log acts i t h same m (stored off to_is acts_are) = let f = found (arrives i (item.Elem t)) old h m in rw (to_is, acts_are) (stored_here old h log i t same f.may f.sound off)
 
 -- ---- an input is there
 
-pub port_open : (old : Merging) (i : ℕ) (b : Item) → old.core.phase ≡ Open → (CallAllowed (arrives i b) (view_of old.core) → IsInOpen (in_at (view_of old.core) i)) → Meets (arrives i b) (row old) → slice_get old.core.over i ≡ Some false
+pub port_open : (old : Merging) (i : ℕ) (b : Item) → old.core.phase ≡ Open → (CallAllowed (arrives i b) (view_of old.core) → IsInOpen (in_at (view_of old.core) i)) → Meets (arrives i b) (port_state old) → slice_get old.core.over i ≡ Some false
 port_open old i b h is_in m = open_place 0 i old.core.over old.core.queue (is_in (found (arrives i b) old h m).may)
 
-pub port_there : (old : Merging) (i : ℕ) (b : Item) → old.core.phase ≡ Open → (CallAllowed (arrives i b) (view_of old.core) → IsInOpen (in_at (view_of old.core) i)) → Meets (arrives i b) (row old) → i < length old.core.over
+pub port_there : (old : Merging) (i : ℕ) (b : Item) → old.core.phase ≡ Open → (CallAllowed (arrives i b) (view_of old.core) → IsInOpen (in_at (view_of old.core) i)) → Meets (arrives i b) (port_state old) → i < length old.core.over
 port_there old i b h is_in m = slice_get_within old.core.over i false (port_open old i b h is_in m)
 
-pub push_there : (old : Merging) (i : ℕ) (t : Tree) → old.core.phase ≡ Open → Meets (arrives i (item.Elem t)) (row old) → i < length old.core.over
+pub push_there : (old : Merging) (i : ℕ) (t : Tree) → old.core.phase ≡ Open → Meets (arrives i (item.Elem t)) (port_state old) → i < length old.core.over
 push_there old i t h m = slice_get_within old.core.over i false (here_now i old.core.over old.core.queue (found (arrives i (item.Elem t)) old h m).may)
 
-pub some_open : (old : Merging) (i : ℕ) → old.core.phase ≡ Open → Meets (arrives i item.Ended) (row old) → 1 ≤ old.core.left
+pub some_open : (old : Merging) (i : ℕ) → old.core.phase ≡ Open → Meets (arrives i item.Ended) (port_state old) → 1 ≤ old.core.left
 some_open old i h m =
     let s = (found (arrives i item.Ended) old h m).sound in
     let c = s.count in
     rw c (still_count old.core.over i (port_open old i item.Ended h (λ x. x) m))
 
-pub queue_there : (old : Merging) → old.core.phase ≡ Open → Meets (pulls 0) (row old) → PortsThere old.core.over old.core.queue
+pub queue_there : (old : Merging) → old.core.phase ≡ Open → Meets (pulls 0) (port_state old) → PortsThere old.core.over old.core.queue
 queue_there old h m = (found (pulls 0) old h m).sound.there
 
 -- ---- all that are open are cancelled
@@ -347,7 +347,7 @@ left_on old new acts h does =
       gives = record { turn = rw h (cancels_give 0 old.core.over, refl); inputs = refl; stands = cancels_stand 0 old.core.over; started = λ e. cc; more = []; grows = sym (append-nil old.log.moves) };
     })
 
-pub failed_on : (old new : Merging) (acts : List Act) (i : ℕ) (c : Cause) → old.core.phase ≡ Open → Meets (arrives i (item.Failed c)) (row old)
+pub failed_on : (old new : Merging) (acts : List Act) (i : ℕ) (c : Cause) → old.core.phase ≡ Open → Meets (arrives i (item.Failed c)) (port_state old)
     → Does new acts (record old { core = record old.core { over = slice_set old.core.over i true; phase = Closed } }) (FailOut 0 c ∷ open_cancels 0 (slice_set old.core.over i true)) → Handled (arrives i (item.Failed c)) old acts new
 failed_on old new acts i c h m does =
     let f = found (arrives i (item.Failed c)) old h m in
@@ -424,7 +424,7 @@ module _ (old : Merging) (i : ℕ) (h : old.core.phase ≡ Open) (sound : Sound 
   end_by new acts (opens a to_is acts_are) = rw (to_is, acts_are) (end_kept (λ e. a))
   end_by new acts (more a to_is acts_are) = rw (to_is, acts_are) (end_kept (λ e. absurd (a e)))
 
-pub finished : (old new : Merging) (acts : List Act) (i : ℕ) → old.core.phase ≡ Open → Meets (arrives i item.Ended) (row old) → Ended i old new acts → Handled (arrives i item.Ended) old acts new
+pub finished : (old new : Merging) (acts : List Act) (i : ℕ) → old.core.phase ≡ Open → Meets (arrives i item.Ended) (port_state old) → Ended i old new acts → Handled (arrives i item.Ended) old acts new
 finished old new acts i h m e = end_by old i h (found (arrives i item.Ended) old h m).sound (port_open old i item.Ended h (λ x. x) m) new acts e
 
 -- ---- the start
@@ -462,12 +462,12 @@ pulls_stand n [] = tt
 pulls_stand n (true ∷ bs) = pulls_stand (n + 1) bs
 pulls_stand n (false ∷ bs) = (no_cancel n (n + 1) bs, pulls_stand (n + 1) bs)
 
-pub few_new : (old : Merging) → old.core.phase ≡ New → Meets starts (row old) → length old.core.over ≤ 16
-few_new old h m = (subst (λ f. row_by f old.core m.0) h m.1.1).1.0.few
+pub few_new : (old : Merging) → old.core.phase ≡ New → Meets starts (port_state old) → length old.core.over ≤ 16
+few_new old h m = (subst (λ f. port_state_by f old.core m.0) h m.1.1).1.0.few
 
-pub started : (old new : Merging) (acts : List Act) → old.core.phase ≡ New → Meets starts (row old) → Does new acts (record old { core = record old.core { phase = Open } }) (pull_acts 0 old.core.over) → Handled starts old acts new
+pub started : (old new : Merging) (acts : List Act) → old.core.phase ≡ New → Meets starts (port_state old) → Does new acts (record old { core = record old.core { phase = Open } }) (pull_acts 0 old.core.over) → Handled starts old acts new
 started old new acts h m does =
-    let r = subst (λ f. row_by f old.core m.0) h m.1.1 in
+    let r = subst (λ f. port_state_by f old.core m.0) h m.1.1 in
     let sound : Sound old.core = r.1.0 in
     let fresh : Fresh old.core = r.1.1 in
     let to : Merging = record old { core = record old.core { phase = Open } } in
@@ -481,8 +481,8 @@ started old new acts h m does =
     let s : Sound to.core = record { count = sound.count; some = sound.some; empty = sound.empty; once = sound.once; there = sound.there; few = sound.few; roomy = sound.roomy } in
     rw (does.to_is, does.acts_are) (record {
       ports = record {
-        allowed = λ w may x. let y = subst (λ f. row_by f old.core w) h x in subst (λ u. ActsAllowed u (pull_acts 0 old.core.over)) (sym y.0) allowed;
-        row = λ w may x. let y = subst (λ f. row_by f old.core w) h x in subst (λ u. row to (acted_all u (pull_acts 0 old.core.over))) (sym y.0) (v, s);
+        allowed = λ w may x. let y = subst (λ f. port_state_by f old.core w) h x in subst (λ u. ActsAllowed u (pull_acts 0 old.core.over)) (sym y.0) allowed;
+        row = λ w may x. let y = subst (λ f. port_state_by f old.core w) h x in subst (λ u. port_state to (acted_all u (pull_acts 0 old.core.over))) (sym y.0) (v, s);
       };
       gives = record {
         turn = rw (h, pulls_give 0 old.core.over) (subst (λ w. MergeTurn old.log.moves w [] old.log.moves ws) (sym (joined_all-nothing 0 ws)) (quiet old.log.moves old.core.over old.core.queue));
@@ -494,10 +494,10 @@ started old new acts h m does =
       };
     })
 
-pub asked_by : (old mid new : Merging) (acts : List Act) → old.core.phase ≡ Open → mid ≡ record old { log = mid.log } → mid.log.moves ≡ old.log.moves → Meets (pulls 0) (row old) → Gave mid new acts → Handled (pulls 0) old acts new
+pub asked_by : (old mid new : Merging) (acts : List Act) → old.core.phase ≡ Open → mid ≡ record old { log = mid.log } → mid.log.moves ≡ old.log.moves → Meets (pulls 0) (port_state old) → Gave mid new acts → Handled (pulls 0) old acts new
 asked_by old mid new acts h is same m g = asked old new mid.log acts h same m (subst (λ l. Gave l new acts) is g)
 
-pub pushed_by : (old mid new : Merging) (acts : List Act) (i : ℕ) (t : Tree) → old.core.phase ≡ Open → mid ≡ record old { log = mid.log } → mid.log.moves ≡ old.log.moves → Meets (arrives i (item.Elem t)) (row old) → Took i t mid new acts → Handled (arrives i (item.Elem t)) old acts new
+pub pushed_by : (old mid new : Merging) (acts : List Act) (i : ℕ) (t : Tree) → old.core.phase ≡ Open → mid ≡ record old { log = mid.log } → mid.log.moves ≡ old.log.moves → Meets (arrives i (item.Elem t)) (port_state old) → Took i t mid new acts → Handled (arrives i (item.Elem t)) old acts new
 pushed_by old mid new acts i t h is same m g = pushed old new mid.log acts i t h same m (subst (λ l. Took i t l new acts) is g)
 
 pub there_mid : (old mid : Merging) (i : ℕ) → mid ≡ record old { log = mid.log } → i < length old.core.over → i < length mid.core.over
@@ -506,7 +506,7 @@ there_mid old mid i is h = subst (λ (l : Merging). i < length l.core.over) (sym
 pub queue_mid : (old mid : Merging) → mid ≡ record old { log = mid.log } → PortsThere old.core.over old.core.queue → PortsThere mid.core.over mid.core.queue
 queue_mid old mid is h = subst (λ (l : Merging). PortsThere l.core.over l.core.queue) (sym is) h
 
-pub fits : (old mid : Merging) (i : ℕ) (t : Tree) → old.core.phase ≡ Open → Meets (arrives i (item.Elem t)) (row old) → mid ≡ record old { log = mid.log } → length mid.core.queue < mid.core.room
+pub fits : (old mid : Merging) (i : ℕ) (t : Tree) → old.core.phase ≡ Open → Meets (arrives i (item.Elem t)) (port_state old) → mid ≡ record old { log = mid.log } → length mid.core.queue < mid.core.room
 fits old mid i t h m is =
     let f = found (arrives i (item.Elem t)) old h m in
     let here : slice_get old.core.over i ≡ Some false = here_now i old.core.over old.core.queue f.may in

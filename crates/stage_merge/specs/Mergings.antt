@@ -99,13 +99,13 @@ pub record Fresh (l : Core) : Type 0 where
   pub over : l.over ≡ replicate (length l.over) false
   pub unasked : l.asked ≡ false
 
-abbrev pub row_by : Phase → Core → View → Type 0
-row_by New l v = (v ≡ new_view l) × (Sound l × Fresh l)
-row_by Open l v = (v ≡ view_of l) × Sound l
-row_by Closed l v = FanClosed v
+abbrev pub port_state_by : Phase → Core → View → Type 0
+port_state_by New l v = (v ≡ new_view l) × (Sound l × Fresh l)
+port_state_by Open l v = (v ≡ view_of l) × Sound l
+port_state_by Closed l v = FanClosed v
 
-abbrev pub row : Merging → View → Type 0
-row l v = row_by l.core.phase l.core v
+abbrev pub port_state : Merging → View → Type 0
+port_state l v = port_state_by l.core.phase l.core v
 
 -- what it still owes, by its moves
 abbrev pub held_by : Phase → List ℕ → Core → MergeHeld
@@ -186,12 +186,12 @@ LastIn i e old new = old.core.asked ≡ false → new.core.queue ≡ old.core.qu
 pub record MergeFresh (l : Merging) (v : View) : Type 0 where
   pub fresh : l.core.phase ≡ New
   pub unmoved : l.log.moves ≡ []
-  pub row : row l v
+  pub row : port_state l v
 
 -- it was started, and its row holds
-pub record MergeRow (l : Merging) (v : View) : Type 0 where
+pub record MergePortState (l : Merging) (v : View) : Type 0 where
   pub started : l.core.phase ≢ New
-  pub row : row l v
+  pub row : port_state l v
 
 -- the law of its histories, by the stage as it was at first and as it is now: by its moves, of which it made none before
 pub record MergesAs (first now : Merging) (v : View) (took gave : List (List Item)) : Type 0 where

@@ -17,7 +17,7 @@ ghost use Rattle.stage_core.specs.Handling.{Starts, Handles, most_acts};
 ghost use Rattle.stage_fans.specs.Seats.{room_for};
 ghost use Rattle.stage_fans.specs.OwnRows.{FanRests};
 ghost use Rattle.stage_core.specs.declared.phase.Phase.TheVariants.{New, Open};
-ghost use Rattle.stage_merge.specs.Mergings.{Merging, Begins, Turned, row, MergeFresh, MergeRow, MergesAs};
+ghost use Rattle.stage_merge.specs.Mergings.{Merging, Begins, Turned, port_state, MergeFresh, MergePortState, MergesAs};
 
 /// A new merge of 2 to `MAX_FAN` inputs may be started, made no move, and knows that no port was asked.
 pub fn a_new_merge_may_start()
@@ -26,21 +26,21 @@ pub fn a_new_merge_may_start()
 
 /// Where its row and its law hold, a merge that was started has closed all its ports, or has nothing to do.
 pub fn a_started_merge_rests()
-    ensures { (first now : Merging) (v : View) (took gave : List (List Item)) → MergeRow now v → (law : MergesAs first now v took gave) → FanRests MergeRests v law.by.law.ins law.by.law.out_list }
+    ensures { (first now : Merging) (v : View) (took gave : List (List Item)) → MergePortState now v → (law : MergesAs first now v took gave) → FanRests MergeRests v law.by.law.ins law.by.law.out_list }
 {}
 
 /// Where the port rules allow a call of a handler and the row holds, a merge that was started is open, and the room that the
 /// call wants is within what every stage is given.
 pub fn a_called_merge_is_open()
-    ensures opens { (l : Merging) (call : Call) (v : View) → l.core.phase ≢ New → CallAllowed call v → row l v → l.core.phase ≡ Open }
-    ensures room { (l : Merging) (call : Call) (v : View) → CallAllowed call v → row l v → room_for (length l.core.over) ≤ most_acts }
+    ensures opens { (l : Merging) (call : Call) (v : View) → l.core.phase ≢ New → CallAllowed call v → port_state l v → l.core.phase ≡ Open }
+    ensures room { (l : Merging) (call : Call) (v : View) → CallAllowed call v → port_state l v → room_for (length l.core.over) ≤ most_acts }
 {}
 
 /// What a handler owes to the port rules and to the law is all that is asked of a stage: its start begins the law of its
 /// histories, and every other call keeps it.
 pub fn calls_keep_the_law()
-    ensures starts { (old new : Merging) (acts : List Act) → Obeys starts (row old) (row new) acts → Turned starts old acts new → Starts MergeRow MergesAs MergeFresh old new acts }
-    ensures handles { (call : Call) (old new : Merging) (acts : List Act) → Obeys call (row old) (row new) acts → Turned call old acts new → Handles MergeRow MergesAs call old new acts }
+    ensures starts { (old new : Merging) (acts : List Act) → Obeys starts (port_state old) (port_state new) acts → Turned starts old acts new → Starts MergePortState MergesAs MergeFresh old new acts }
+    ensures handles { (call : Call) (old new : Merging) (acts : List Act) → Obeys call (port_state old) (port_state new) acts → Turned call old acts new → Handles MergePortState MergesAs call old new acts }
 {}
 
 /// Where its law holds, and what came to each input agrees with that input's outlook, its moves fit, and what it gave agrees

@@ -27,48 +27,48 @@ use Rattle.stage_law.specs.Outs.{TurnsAt}
 use Rattle.stage_fans.specs.declared.outs.OutputState.{OutputState}
 use Rattle.stage_fans.specs.declared.outs.OutputState.TheVariants.{Quiet, Asks, Gone}
 use Rattle.stage_fans.specs.Outs.{want_view, open_count, at_open, AllClosed, OutsClosed, asks_count}
-use Rattle.stage_out.specs.PartitionStates.{PartitionLogic, input_of, view_of, Holding, Sound, row_by, row, kept, stage_of, state_of, due_of, held_of, dealers, dues, Turned, Parts, pull_by, waits_by, EndedFor, ends_now, ends_later, with_asks, Noted, pulls_input, rests, AskedOf, gets, notes, moved_by, moving_by, Dealt, given, keeps, drops, with_given, Served, dealt, blamed, blaming, struck, less_by, PassedOver, dropped, kept_on, Lost, last, others}
+use Rattle.stage_out.specs.PartitionStates.{PartitionLogic, input_of, view_of, Holding, Sound, port_state_by, port_state, kept, stage_of, state_of, due_of, held_of, dealers, dues, Turned, Parts, pull_by, waits_by, EndedFor, ends_now, ends_later, with_asks, Noted, pulls_input, rests, AskedOf, gets, notes, moved_by, moving_by, Dealt, given, keeps, drops, with_given, Served, dealt, blamed, blaming, struck, less_by, PassedOver, dropped, kept_on, Lost, last, others}
 use Rattle.stage_fans.proofs.OutViews.{want_set, is_quiet, is_open, gone_views, after_one, shut_views}
 use Rattle.stage_out.proofs.Wants.{same, other, quiet_lost, asked_lost, Acted, given_one, acts_from, all_open}
 use Rattle.stage_out.proofs.Dues.{get_of, same_get, set_at, pull_given, open_given, mach, turns_each, is_gone, still, gone_here, out_here, last_here, ends_asked, ends_lost, deal_given, deal_kept, deal_other, deal_blamed, end_now, end_later, fail_now}
 
 -- ---- the row
 
-standing : (l : PartitionLogic) (v : View) → l.live ≡ true → row l v → (v ≡ view_of l) × Sound l
-standing l v h r = subst (λ b. row_by b l v) h r
+standing : (l : PartitionLogic) (v : View) → l.live ≡ true → port_state l v → (v ≡ view_of l) × Sound l
+standing l v h r = subst (λ b. port_state_by b l v) h r
 
-is_standing : (l : PartitionLogic) (v : View) → l.live ≡ true → v ≡ view_of l → Sound l → row l v
-is_standing l v h is s = subst (λ b. row_by b l v) (sym h) (is, s)
+is_standing : (l : PartitionLogic) (v : View) → l.live ≡ true → v ≡ view_of l → Sound l → port_state l v
+is_standing l v h is s = subst (λ b. port_state_by b l v) (sym h) (is, s)
 
 -- what a call finds
 pub record Found (call : Call) (l : PartitionLogic) : Type 0 where
   pub may : CallAllowed call (view_of l)
   pub sound : Sound l
 
-pub found : (call : Call) (l : PartitionLogic) → l.live ≡ true → Meets call (row l) → Found call l
+pub found : (call : Call) (l : PartitionLogic) → l.live ≡ true → Meets call (port_state l) → Found call l
 found call l h m =
     let s = standing l m.0 h m.1.1 in
     record { may = subst (λ v. CallAllowed call v) s.0 m.1.0; sound = s.1 }
 
 pub record AtView (call : Call) (old new : PartitionLogic) (acts : List Act) : Type 0 where
   pub allowed : ActsAllowed (seen call (view_of old)) acts
-  pub row_then : row new (acted_all (seen call (view_of old)) acts)
+  pub row_then : port_state new (acted_all (seen call (view_of old)) acts)
 
-pub obeys : (call : Call) (old new : PartitionLogic) (acts : List Act) → old.live ≡ true → AtView call old new acts → Obeys call (row old) (row new) acts
+pub obeys : (call : Call) (old new : PartitionLogic) (acts : List Act) → old.live ≡ true → AtView call old new acts → Obeys call (port_state old) (port_state new) acts
 obeys call old new acts h a = record {
   allowed = λ v may r.
       let s = standing old v h r in
       subst (λ w. ActsAllowed (seen call w) acts) (sym s.0) a.allowed;
   row = λ v may r.
       let s = standing old v h r in
-      subst (λ w. row new (acted_all (seen call w) acts)) (sym s.0) a.row_then;
+      subst (λ w. port_state new (acted_all (seen call w) acts)) (sym s.0) a.row_then;
 }
 
 pub record Handled (call : Call) (old : PartitionLogic) (acts : List Act) (new : PartitionLogic) : Type 0 where
-  pub ports : Obeys call (row old) (row new) acts
+  pub ports : Obeys call (port_state old) (port_state new) acts
   pub gives : Turned call old acts new
 
-pub started : (l : PartitionLogic) → l.live ≡ true → Meets starts (row l) → Handled starts l [] l
+pub started : (l : PartitionLogic) → l.live ≡ true → Meets starts (port_state l) → Handled starts l [] l
 started l h m = record {
   ports = obeys starts l l [] h (record { allowed = tt; row_then = is_standing l (view_of l) h refl (found starts l h m).sound });
   gives = record { turns = λ book. rw h (turns_each book l starts [] (held_of l) (held_of l) l.outs l.outs 0 refl (λ i m w v e p q. still (mach book l m) m starts (kept m l.to l.held) (state_of l.over (stage_of l m)) w v tt (ap is_gone (same_get l.outs i w v p q)))); node = refl; parts = refl; fun = refl; outputs = refl; stands = tt };
@@ -110,7 +110,7 @@ fails_zero old c h o =
       };
     }
 
-pub failed_on : (old new : PartitionLogic) (acts : List Act) (i : ℕ) (c : Cause) → old.live ≡ true → Meets (arrives i (item.Failed c)) (row old) → Parts new acts (shut_l old) (at_open (λ j. FailOut j c) 0 old.outs) → Handled (arrives i (item.Failed c)) old acts new
+pub failed_on : (old new : PartitionLogic) (acts : List Act) (i : ℕ) (c : Cause) → old.live ≡ true → Meets (arrives i (item.Failed c)) (port_state old) → Parts new acts (shut_l old) (at_open (λ j. FailOut j c) 0 old.outs) → Handled (arrives i (item.Failed c)) old acts new
 failed_on old new acts i c h m d =
     let f = found (arrives i (item.Failed c)) old h m in
     let p = in_zero old.over old.waits i f.may in
@@ -173,7 +173,7 @@ waits_zero old h o s n = record {
   };
 }
 
-pub finished : (old new : PartitionLogic) (acts : List Act) (i : ℕ) → old.live ≡ true → Meets (arrives i item.Ended) (row old) → EndedFor old new acts → Handled (arrives i item.Ended) old acts new
+pub finished : (old new : PartitionLogic) (acts : List Act) (i : ℕ) → old.live ≡ true → Meets (arrives i item.Ended) (port_state old) → EndedFor old new acts → Handled (arrives i item.Ended) old acts new
 finished old new acts i h m (ends_now n to_is acts_are) =
     let f = found (arrives i item.Ended) old h m in
     let p = in_zero old.over old.waits i f.may in
@@ -248,7 +248,7 @@ held_none old s e = subst (λ h. Holding h old) e s.holds
 
 -- ---- an output is asked
 
-pub asked_there : (l : PartitionLogic) (j : ℕ) → l.live ≡ true → Meets (pulls j) (row l) → (j < length l.outs) × ((length l.outs ≤ 16) × (l.asking ≤ 16))
+pub asked_there : (l : PartitionLogic) (j : ℕ) → l.live ≡ true → Meets (pulls j) (port_state l) → (j < length l.outs) × ((length l.outs ≤ 16) × (l.asking ≤ 16))
 asked_there l j h m =
     let f = found (pulls j) l h m in
     let a = asks_le l.outs in let e = f.sound.asking_is in let k = f.sound.few in
@@ -398,7 +398,7 @@ module _ (old : PartitionLogic) (j : ℕ) (t : Tree) (h : old.live ≡ true) (so
   by_over true o = gets_last o
   by_over false o = gets_more o
 
-pub asked : (old new : PartitionLogic) (acts : List Act) (j : ℕ) → old.live ≡ true → Meets (pulls j) (row old) → AskedOf j old new acts → Handled (pulls j) old acts new
+pub asked : (old new : PartitionLogic) (acts : List Act) (j : ℕ) → old.live ≡ true → Meets (pulls j) (port_state old) → AskedOf j old new acts → Handled (pulls j) old acts new
 asked old new acts j h m (gets t d k to_is acts_are) =
     let f = found (pulls j) old h m in
     rw (to_is, acts_are) (by_over old j t h f.sound (is_quiet old.outs j f.may) d k old.over refl)
@@ -415,7 +415,7 @@ there_by l j (inr q) = slice_get_within l.outs j Asks q
 pub some_asks : (l : PartitionLogic) → Sound l → (p : ℕ) → slice_index_or l.outs p Gone ≡ Asks → 1 ≤ l.asking
 some_asks l s p e = let a = asks_some l.outs p e in let k = s.asking_is in omega (arith, a, k)
 
-pub lost_there : (l : PartitionLogic) (j : ℕ) → l.live ≡ true → Meets (cancels j) (row l) → (j < length l.outs) × ((length l.outs ≤ 16) × ((1 ≤ l.open_outs) × (slice_index_or l.outs j Gone ≡ Asks → 1 ≤ l.asking)))
+pub lost_there : (l : PartitionLogic) (j : ℕ) → l.live ≡ true → Meets (cancels j) (port_state l) → (j < length l.outs) × ((length l.outs ≤ 16) × ((1 ≤ l.open_outs) × (slice_index_or l.outs j Gone ≡ Asks → 1 ≤ l.asking)))
 lost_there l j h m =
     let f = found (cancels j) l h m in
     (there_by l j (is_open l.outs j f.may), (f.sound.few, (f.sound.some, some_asks l f.sound j)))
@@ -580,7 +580,7 @@ module _ (old : PartitionLogic) (j : ℕ) (h : old.live ≡ true) (sound : Sound
       by_over_of true o = drop_last t d k o
       by_over_of false o = drop_more t n d k o
 
-pub lost : (old new : PartitionLogic) (acts : List Act) (j : ℕ) → old.live ≡ true → Meets (cancels j) (row old) → Lost j old new acts → Handled (cancels j) old acts new
+pub lost : (old new : PartitionLogic) (acts : List Act) (j : ℕ) → old.live ≡ true → Meets (cancels j) (port_state old) → Lost j old new acts → Handled (cancels j) old acts new
 lost old new acts j h m (last one to_is acts_are) =
     let f = found (cancels j) old h m in
     rw (to_is, acts_are) (last_lost old j h f.sound (is_open old.outs j f.may) one)
@@ -766,10 +766,10 @@ module _ (old : PartitionLogic) (t : Tree) (h : old.live ≡ true) (sound : Soun
   by_serve new acts (dealt p is d) = by_deal p is new acts d
   by_serve new acts (blamed why is to_is acts_are) = rw (to_is, acts_are) (deal_fails why is)
 
-pub served_there : (l : PartitionLogic) (i : ℕ) (t : Tree) → l.live ≡ true → Meets (arrives i (item.Elem t)) (row l) → Sound l
+pub served_there : (l : PartitionLogic) (i : ℕ) (t : Tree) → l.live ≡ true → Meets (arrives i (item.Elem t)) (port_state l) → Sound l
 served_there l i t h m = (found (arrives i (item.Elem t)) l h m).sound
 
-pub served_on : (old new : PartitionLogic) (acts : List Act) (i : ℕ) (t : Tree) → old.live ≡ true → Meets (arrives i (item.Elem t)) (row old) → Served t old new acts → Handled (arrives i (item.Elem t)) old acts new
+pub served_on : (old new : PartitionLogic) (acts : List Act) (i : ℕ) (t : Tree) → old.live ≡ true → Meets (arrives i (item.Elem t)) (port_state old) → Served t old new acts → Handled (arrives i (item.Elem t)) old acts new
 served_on old new acts i t h m d =
     let f = found (arrives i (item.Elem t)) old h m in
     let p = waiting_zero old.over old.waits i f.may in

@@ -34,7 +34,7 @@ use Rattle.stage_out.specs.CopyStates.{part_by}
 use Rattle.stage_out.specs.CopyStates as copy
 use Rattle.stage_out.specs.PartitionStates.{then_of}
 use Rattle.stage_out.specs.PartitionStates as part
-use Rattle.stage_out.specs.Machines.{is_live, row, Turned, outlets, owed, EachStarts, IsNew, EachAgrees, Begins, IsAlike}
+use Rattle.stage_out.specs.Machines.{is_live, port_state, Turned, outlets, owed, EachStarts, IsNew, EachAgrees, Begins, IsAlike}
 use Rattle.stage_out.specs.MachineNodes.{MachinesFresh, MachinesLaw, GaveAgrees}
 use Rattle.stage_out.proofs.OutMachines.{turns_of, owe_copies, owe_deals, length-owed, length-dues}
 use Rattle.stage_out.proofs.Rests.{told_lists}
@@ -71,12 +71,12 @@ pub record Ports (l : OutMachines) (v : View) : Type 0 where
   pub one : length v.ins ≡ 1
   pub outs : length v.outs ≡ length (owed l)
 
-pub live_ports : (l : OutMachines) (v : View) → is_live l ≡ true → row l v → Ports l v
+pub live_ports : (l : OutMachines) (v : View) → is_live l ≡ true → port_state l v → Ports l v
 live_ports (Copies l) v h r =
-    let s = subst (λ b. copy.row_by b l v) h r in
+    let s = subst (λ b. copy.port_state_by b l v) h r in
     record { one = ap (λ (w : View). length w.ins) s.0; outs = ap (λ (w : View). length w.outs) s.0 ∙ length-map l.outs want_view ∙ sym (length-owed l.live l.outs) }
 live_ports (Deals l) v h r =
-    let s = subst (λ b. part.row_by b l v) h r in
+    let s = subst (λ b. part.port_state_by b l v) h r in
     record { one = ap (λ (w : View). length w.ins) s.0; outs = ap (λ (w : View). length w.outs) s.0 ∙ length-map l.outs want_view ∙ sym (length-dues (then_of l.live l) 0 l.outs) }
 
 -- what is owed last counts
@@ -100,7 +100,7 @@ alike_self : (l : OutMachines) → IsAlike l l
 alike_self (Copies l) = tt
 alike_self (Deals l) = tt
 
-keeps : (c : Call) (first old new : OutMachines) (v : View) (took gave : List (List Item)) (acts : List Act) → is_live old ≡ true → CallAllowed c v → ActsAllowed (seen c v) acts → row old v → Turned c old acts new
+keeps : (c : Call) (first old new : OutMachines) (v : View) (took gave : List (List Item)) (acts : List Act) → is_live old ≡ true → CallAllowed c v → ActsAllowed (seen c v) acts → port_state old v → Turned c old acts new
     → MachinesLaw first old v took gave → MachinesLaw first new (acted_all (seen c v) acts) (brought_by c took) (given_all acts gave)
 keeps c first old new v took gave acts live may allowed r turned law =
     let t = turns_of c old new acts live turned in
@@ -125,7 +125,7 @@ stands_of c (Deals l) (Deals m) acts t = t.stands
 stands_of c (Copies l) (Deals m) acts t = absurd t
 stands_of c (Deals l) (Copies m) acts t = absurd t
 
-pub handled : (c : Call) (old new : OutMachines) (acts : List Act) → Obeys c (row old) (row new) acts → Turned c old acts new → Handles row MachinesLaw c old new acts
+pub handled : (c : Call) (old new : OutMachines) (acts : List Act) → Obeys c (port_state old) (port_state new) acts → Turned c old acts new → Handles port_state MachinesLaw c old new acts
 handled c old new acts o t = record {
   obeys = o;
   stands = stands_of c old new acts t;
@@ -164,7 +164,7 @@ owe_same : (book : Book) (l : OutMachines) → owe (outlets book l) (owed l) ≡
 owe_same book (Copies l) = owe_copies (part_by l.halves) l.live l.live 0 l.outs l.outs refl
 owe_same book (Deals l) = owe_deals book l (then_of l.live l) (then_of l.live l) 0 l.outs l.outs refl
 
-fresh_law : (l : OutMachines) (v : View) (took gave : List (List Item)) → CallAllowed starts v → IsNew l → row l v → AllEmpty took → AllEmpty gave → length took ≡ length v.ins → length gave ≡ length v.outs → MachinesLaw l l v took gave
+fresh_law : (l : OutMachines) (v : View) (took gave : List (List Item)) → CallAllowed starts v → IsNew l → port_state l v → AllEmpty took → AllEmpty gave → length took ≡ length v.ins → length gave ≡ length v.outs → MachinesLaw l l v took gave
 fresh_law l v took gave may n r a b m k =
     let p = live_ports l v n.live r in
     record {
@@ -180,7 +180,7 @@ fresh_law l v took gave may n r a b m k =
           (λ i x. let z : i ≡ 0 + i = omega arith in let q = length-outlets book l in let o = p.outs in subst (λ m. GaveAs (out_at v m) unended) z (unasked_at v.outs i (omega (arith, x, q, o)) may.1)) (n.starts book));
     }
 
-pub started : (old new : OutMachines) (acts : List Act) → Obeys starts (row old) (row new) acts → Turned starts old acts new → Starts row MachinesLaw MachinesFresh old new acts
+pub started : (old new : OutMachines) (acts : List Act) → Obeys starts (port_state old) (port_state new) acts → Turned starts old acts new → Starts port_state MachinesLaw MachinesFresh old new acts
 started old new acts o t = record {
   obeys = record { allowed = λ v may r. o.allowed v may r.row; row = λ v may r. o.row v may r.row };
   stands = stands_of starts old new acts t;

@@ -22,54 +22,54 @@ use Rattle.stage_out.specs.declared.logic.OutLogic.TheVariants.{Machines, Balanc
 use Rattle.stage_out.specs.Machines.{IsMachines}
 use Rattle.stage_out.specs.Machines as machines
 use Rattle.stage_out.specs.MachineNodes.{MachinesFresh, MachinesLaw}
-use Rattle.stage_out.specs.OutLogics.{is_live, room_of, row, OutAsking, Turned, OutFresh, OutLaw, IsOut, Begins}
+use Rattle.stage_out.specs.OutLogics.{is_live, room_of, port_state, OutAsking, Turned, OutFresh, OutLaw, IsOut, Begins}
 use Rattle.stage_out.specs.Moves.{out_moves}
 use Rattle.stage_out.proofs.MachineNodes as machine
 use Rattle.stage_out.proofs.OutRests as rests
 
 -- ---- where a call may come
 
-pub called_is_live : (l : OutLogic) (call : Call) (v : View) → CallAllowed call v → row l v → is_live l ≡ true
+pub called_is_live : (l : OutLogic) (call : Call) (v : View) → CallAllowed call v → port_state l v → is_live l ≡ true
 called_is_live (Machines l) call v may r = rests.called_is_live l call v may r
 called_is_live (Balances l) call v may r = balances.called_live l call v may r
 
-pub called_fits : (l : OutLogic) (call : Call) (v : View) → CallAllowed call v → row l v → room_of l ≤ most_acts
+pub called_fits : (l : OutLogic) (call : Call) (v : View) → CallAllowed call v → port_state l v → room_of l ≤ most_acts
 called_fits (Machines l) call v may r = rests.called_fits l call v may r
 called_fits (Balances l) call v may r = balances.called_fits l call v may r
 
 -- what every stage is given is room enough for a call of a handler
-pub fits : (call : Call) (l : OutLogic) (n : ℕ) → Meets call (row l) → most_acts ≤ n → room_of l ≤ n
+pub fits : (call : Call) (l : OutLogic) (n : ℕ) → Meets call (port_state l) → most_acts ≤ n → room_of l ≤ n
 fits call l n m h = let r : room_of l ≤ most_acts = called_fits l call m.0 m.1.0 m.1.1 in omega (arith, r, h)
 
 -- a balance that may be called is open
-pub balance_live : (call : Call) (l : Balancing) (whole : OutLogic) → whole ≡ Balances l → Meets call (row whole) → l.core.live ≡ true
-balance_live call l whole is m = balances.called_live l call m.0 m.1.0 (subst (λ x. row x m.0) is m.1.1)
+pub balance_live : (call : Call) (l : Balancing) (whole : OutLogic) → whole ≡ Balances l → Meets call (port_state whole) → l.core.live ≡ true
+balance_live call l whole is m = balances.called_live l call m.0 m.1.0 (subst (λ x. port_state x m.0) is m.1.1)
 
 -- ---- what is owed
 
-machines_handled : (c : Call) (l m : OutMachines) (acts : List Act) → Handles machines.row MachinesLaw c l m acts → Handles row OutLaw c (Machines l) (Machines m) acts
+machines_handled : (c : Call) (l m : OutMachines) (acts : List Act) → Handles machines.port_state MachinesLaw c l m acts → Handles port_state OutLaw c (Machines l) (Machines m) acts
 machines_handled c l m acts h = record { obeys = h.obeys; stands = h.stands; keeps = kept }
   where
-    kept : (first : OutLogic) (v : View) (took gave : List (List Item)) → CallAllowed c v → machines.row l v → OutLaw first (Machines l) v took gave
+    kept : (first : OutLogic) (v : View) (took gave : List (List Item)) → CallAllowed c v → machines.port_state l v → OutLaw first (Machines l) v took gave
         → OutLaw first (Machines m) (acted_all (seen c v) acts) (brought_by c took) (given_all acts gave)
     kept (Machines f) v took gave may r law = h.keeps f v took gave may r law
     kept (Balances f) v took gave may r law = absurd law
 
-balance_handled : (c : Call) (l m : Balancing) (acts : List Act) → Handles balance.row BalancesAs c l m acts → Handles row OutLaw c (Balances l) (Balances m) acts
+balance_handled : (c : Call) (l m : Balancing) (acts : List Act) → Handles balance.port_state BalancesAs c l m acts → Handles port_state OutLaw c (Balances l) (Balances m) acts
 balance_handled c l m acts h = record { obeys = h.obeys; stands = h.stands; keeps = kept }
   where
-    kept : (first : OutLogic) (v : View) (took gave : List (List Item)) → CallAllowed c v → balance.row l v → OutLaw first (Balances l) v took gave
+    kept : (first : OutLogic) (v : View) (took gave : List (List Item)) → CallAllowed c v → balance.port_state l v → OutLaw first (Balances l) v took gave
         → OutLaw first (Balances m) (acted_all (seen c v) acts) (brought_by c took) (given_all acts gave)
     kept (Balances f) v took gave may r law = h.keeps f v took gave may r law
     kept (Machines f) v took gave may r law = absurd law
 
-pub handled : (c : Call) (old new : OutLogic) (acts : List Act) → Obeys c (row old) (row new) acts → Turned c old acts new → Handles row OutLaw c old new acts
+pub handled : (c : Call) (old new : OutLogic) (acts : List Act) → Obeys c (port_state old) (port_state new) acts → Turned c old acts new → Handles port_state OutLaw c old new acts
 handled c (Machines l) (Machines m) acts o t = machines_handled c l m acts (machine.handled c l m acts o t)
 handled c (Balances l) (Balances m) acts o t = balance_handled c l m acts (balances.handled c l m acts o t)
 handled c (Machines l) (Balances m) acts o t = absurd t
 handled c (Balances l) (Machines m) acts o t = absurd t
 
-pub started : (old new : OutLogic) (acts : List Act) → Obeys starts (row old) (row new) acts → Turned starts old acts new → Starts row OutLaw OutFresh old new acts
+pub started : (old new : OutLogic) (acts : List Act) → Obeys starts (port_state old) (port_state new) acts → Turned starts old acts new → Starts port_state OutLaw OutFresh old new acts
 started (Machines l) (Machines m) acts o t = let s = machine.started l m acts o t in record { obeys = s.obeys; stands = s.stands; begins = s.begins }
 started (Balances l) (Balances m) acts o t = let s = balances.started l m acts o t in record { obeys = s.obeys; stands = s.stands; begins = s.begins }
 started (Machines l) (Balances m) acts o t = absurd t
@@ -77,13 +77,13 @@ started (Balances l) (Machines m) acts o t = absurd t
 
 -- ---- its asks and its moves
 
-pub asks_on : (c : Call) (old new : OutLogic) (acts : List Act) → Turned c old acts new → PullsAs c (row old) (OutAsking new) acts
+pub asks_on : (c : Call) (old new : OutLogic) (acts : List Act) → Turned c old acts new → PullsAs c (port_state old) (OutAsking new) acts
 asks_on c (Machines l) (Machines m) acts t = λ v may r p. tt
 asks_on c (Balances l) (Balances m) acts t = t.pulls
 asks_on c (Machines l) (Balances m) acts t = absurd t
 asks_on c (Balances l) (Machines m) acts t = absurd t
 
-fresh_row : (l : OutLogic) (v : View) → OutFresh l v → row l v
+fresh_row : (l : OutLogic) (v : View) → OutFresh l v → port_state l v
 fresh_row (Machines l) v f = f.row
 fresh_row (Balances l) v f = f.row
 
@@ -98,10 +98,10 @@ grows_on c (Balances l) (Machines m) acts t = absurd t
 
 -- where the answer is Ok
 module _ {T E : Type 0} (r : Result T E) (old new : OutLogic) (acts : List Act) where
-  pub asks_ok : (c : Call) → OnOk r (Turned c old acts new) → OnOk r (PullsAs c (row old) (OutAsking new) acts)
+  pub asks_ok : (c : Call) → OnOk r (Turned c old acts new) → OnOk r (PullsAs c (port_state old) (OutAsking new) acts)
   asks_ok c t = by r t
     where
-      by : (r : Result T E) → OnOk r (Turned c old acts new) → OnOk r (PullsAs c (row old) (OutAsking new) acts)
+      by : (r : Result T E) → OnOk r (Turned c old acts new) → OnOk r (PullsAs c (port_state old) (OutAsking new) acts)
       by (Ok x) t = asks_on c old new acts t
       by (Err e) t = tt
 

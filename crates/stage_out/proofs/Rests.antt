@@ -23,7 +23,7 @@ use Rattle.stage_fans.specs.declared.outs.OutputState.{OutputState}
 use Rattle.stage_fans.specs.declared.outs.OutputState.TheVariants.{Quiet, Asks, Gone}
 use Rattle.stage_fans.specs.Outs.{want_view, OneInClosed, OutsClosed}
 use Rattle.stage_out.specs.Copies.{copying, nothing_owed, owed_by, outlets, input_by, quiet_count}
-use Rattle.stage_out.specs.CopyStates.{CopyLogic, row_by, row}
+use Rattle.stage_out.specs.CopyStates.{CopyLogic, port_state_by, port_state}
 use Rattle.stage_out.specs.OwnRows.{own_ins, own_outs, Even, Outlists}
 
 all_asked : (ws : List OutputState) (gs : List (List Tree)) → quiet_count ws ≡ 0 → AllOpenAsked (own_outs (map want_view ws) gs)
@@ -79,10 +79,10 @@ outs_shut (outlet.Cancelled ∷ ys) (g ∷ gs) h = (refl, outs_shut ys gs h.1)
 outs_shut (outlet.Unpulled ∷ ys) (g ∷ gs) h = absurd h.0
 outs_shut (outlet.Available ∷ ys) (g ∷ gs) h = absurd h.0
 
-pub copy_rests : (l : CopyLogic) (v : port.View) (took : List Tree) (gs : List (List Tree)) → row l v → Even l.outs took gs → CopyRests v took gs
+pub copy_rests : (l : CopyLogic) (v : port.View) (took : List Tree) (gs : List (List Tree)) → port_state l v → Even l.outs took gs → CopyRests v took gs
 copy_rests l v took gs r e = by_live l.live r
   where
-    by_live : (b : Bool) → row_by b l v → CopyRests v took gs
+    by_live : (b : Bool) → port_state_by b l v → CopyRests v took gs
     by_live true r = subst (λ w. CopyRests w took gs) (sym r.0) (open_rests l.quiet l.outs took gs r.1.quiet_is e)
     by_live false r = inl (ins_shut v.ins took r.0, outs_shut v.outs gs r.1)
 

@@ -23,33 +23,33 @@ use Rattle.stage_fans.specs.declared.outs.OutputState.{OutputState}
 use Rattle.stage_fans.specs.declared.outs.OutputState.TheVariants.{Quiet, Asks, Gone}
 use Rattle.stage_fans.specs.Outs.{want_view, open_count, at_open, OutsClosed, AllClosed}
 use Rattle.stage_out.specs.Copies.{copying, owed_by, owed, outlets, input_by, quiet_count, served_one, served}
-use Rattle.stage_out.specs.CopyStates.{CopyLogic, part_by, view_of, Sound, row_by, row, Turned, Does, without, Lost, last, unasked, wanted}
+use Rattle.stage_out.specs.CopyStates.{CopyLogic, part_by, view_of, Sound, port_state_by, port_state, Turned, Does, without, Lost, last, unasked, wanted}
 use Rattle.stage_fans.proofs.OutViews.{after_one, want_set, is_quiet, is_open, shut_views, gone_views}
 use Rattle.stage_out.proofs.Wants.{other, asked_count, quiet_lost, asked_lost, served_quiet, served_open, Acted, acts_from, all_asked, all_open, served_views, given_one, turns_from, kept_turns, asked_turns, lost_turns, none_owed, map_same}
 
 -- ---- the row
 
-standing : (l : CopyLogic) (v : View) → l.live ≡ true → row l v → (v ≡ view_of l) × Sound l
-standing l v h r = subst (λ b. row_by b l v) h r
+standing : (l : CopyLogic) (v : View) → l.live ≡ true → port_state l v → (v ≡ view_of l) × Sound l
+standing l v h r = subst (λ b. port_state_by b l v) h r
 
-is_standing : (l : CopyLogic) (v : View) → l.live ≡ true → v ≡ view_of l → Sound l → row l v
-is_standing l v h is s = subst (λ b. row_by b l v) (sym h) (is, s)
+is_standing : (l : CopyLogic) (v : View) → l.live ≡ true → v ≡ view_of l → Sound l → port_state l v
+is_standing l v h is s = subst (λ b. port_state_by b l v) (sym h) (is, s)
 
 -- what a call finds
 pub record Found (call : Call) (l : CopyLogic) : Type 0 where
   pub may : CallAllowed call (view_of l)
   pub sound : Sound l
 
-pub found : (call : Call) (l : CopyLogic) → l.live ≡ true → Meets call (row l) → Found call l
+pub found : (call : Call) (l : CopyLogic) → l.live ≡ true → Meets call (port_state l) → Found call l
 found call l h m =
     let s = standing l m.0 h m.1.1 in
     record { may = subst (λ v. CallAllowed call v) s.0 m.1.0; sound = s.1 }
 
 pub record AtView (call : Call) (old new : CopyLogic) (acts : List Act) : Type 0 where
   pub allowed : ActsAllowed (seen call (view_of old)) acts
-  pub row_then : row new (acted_all (seen call (view_of old)) acts)
+  pub row_then : port_state new (acted_all (seen call (view_of old)) acts)
 
-obeys : (call : Call) (old new : CopyLogic) (acts : List Act) → old.live ≡ true → (CallAllowed call (view_of old) → Sound old → AtView call old new acts) → Obeys call (row old) (row new) acts
+obeys : (call : Call) (old new : CopyLogic) (acts : List Act) → old.live ≡ true → (CallAllowed call (view_of old) → Sound old → AtView call old new acts) → Obeys call (port_state old) (port_state new) acts
 obeys call old new acts h at = record {
   allowed = λ v may r.
       let s = standing old v h r in
@@ -58,11 +58,11 @@ obeys call old new acts h at = record {
   row = λ v may r.
       let s = standing old v h r in
       let a = at (subst (λ w. CallAllowed call w) s.0 may) s.1 in
-      subst (λ w. row new (acted_all (seen call w) acts)) (sym s.0) a.row_then;
+      subst (λ w. port_state new (acted_all (seen call w) acts)) (sym s.0) a.row_then;
 }
 
 pub record Handled (call : Call) (old : CopyLogic) (acts : List Act) (new : CopyLogic) : Type 0 where
-  pub ports : Obeys call (row old) (row new) acts
+  pub ports : Obeys call (port_state old) (port_state new) acts
   pub gives : Turned call old acts new
 
 pub started : (l : CopyLogic) → l.live ≡ true → Handled starts l [] l
@@ -97,7 +97,7 @@ idle_by (suc q) h = refl
 pub quiet_some : (l : CopyLogic) (j : ℕ) → Sound l → slice_get l.outs j ≡ Some Quiet → 1 ≤ l.quiet
 quiet_some l j s q = let c = (asked_count l.outs j q).quiet in let e = s.quiet_is in omega (arith, c, e)
 
-pub asked_there : (l : CopyLogic) (j : ℕ) → l.live ≡ true → Meets (pulls j) (row l) → (j < length l.outs) × (1 ≤ l.quiet)
+pub asked_there : (l : CopyLogic) (j : ℕ) → l.live ≡ true → Meets (pulls j) (port_state l) → (j < length l.outs) × (1 ≤ l.quiet)
 asked_there l j h m =
     let f = found (pulls j) l h m in
     let q = is_quiet l.outs j f.may in
@@ -106,7 +106,7 @@ asked_there l j h m =
 abbrev asked_to : ℕ → CopyLogic → CopyLogic
 asked_to j old = record old { outs = slice_set old.outs j Asks; quiet = old.quiet - 1 }
 
-pub asked : (old new : CopyLogic) (acts : List Act) (j : ℕ) → old.live ≡ true → Meets (pulls j) (row old) → Does new acts (asked_to j old) (ask_by (old.quiet - 1)) → Handled (pulls j) old acts new
+pub asked : (old new : CopyLogic) (acts : List Act) (j : ℕ) → old.live ≡ true → Meets (pulls j) (port_state old) → Does new acts (asked_to j old) (ask_by (old.quiet - 1)) → Handled (pulls j) old acts new
 asked old new acts j h m d =
     let f = found (pulls j) old h m in
     let q : slice_get old.outs j ≡ Some Quiet = is_quiet old.outs j f.may in
@@ -175,14 +175,14 @@ pushed_zero old t h sound q =
     push_at old s n Asks = ((refl, refl), none_lost refl)
     push_at old s n Gone = (refl, refl)
 
-pub pushed : (old new : CopyLogic) (acts : List Act) (i : ℕ) (t : Tree) → old.live ≡ true → Meets (arrives i (item.Elem t)) (row old) → Does new acts (served_all old) (pushes old t) → Handled (arrives i (item.Elem t)) old acts new
+pub pushed : (old new : CopyLogic) (acts : List Act) (i : ℕ) (t : Tree) → old.live ≡ true → Meets (arrives i (item.Elem t)) (port_state old) → Does new acts (served_all old) (pushes old t) → Handled (arrives i (item.Elem t)) old acts new
 pushed old new acts i t h m d =
     let f = found (arrives i (item.Elem t)) old h m in
     let p = one_port old.quiet i f.may in
     rw (d.to_is, d.acts_are) (subst (λ n. Handled (arrives n (item.Elem t)) old (pushes old t) (served_all old)) (sym p.0) (pushed_zero old t h f.sound p.1))
 
 -- what an element finds
-pub pushed_there : (l : CopyLogic) (i : ℕ) (t : Tree) → l.live ≡ true → Meets (arrives i (item.Elem t)) (row l) → Sound l
+pub pushed_there : (l : CopyLogic) (i : ℕ) (t : Tree) → l.live ≡ true → Meets (arrives i (item.Elem t)) (port_state l) → Sound l
 pushed_there l i t h m = (found (arrives i (item.Elem t)) l h m).sound
 
 -- ---- an end
@@ -214,7 +214,7 @@ ends_zero old h =
     end_at old s n Asks = inl (refl, refl)
     end_at old s n Gone = (refl, refl)
 
-pub finished : (old new : CopyLogic) (acts : List Act) (i : ℕ) → old.live ≡ true → Meets (arrives i item.Ended) (row old) → Does new acts (closed_all old) (at_open (λ j. Complete j) 0 old.outs) → Handled (arrives i item.Ended) old acts new
+pub finished : (old new : CopyLogic) (acts : List Act) (i : ℕ) → old.live ≡ true → Meets (arrives i item.Ended) (port_state old) → Does new acts (closed_all old) (at_open (λ j. Complete j) 0 old.outs) → Handled (arrives i item.Ended) old acts new
 finished old new acts i h m d =
     let f = found (arrives i item.Ended) old h m in
     let p = open_port old.quiet i f.may in
@@ -243,7 +243,7 @@ fails_zero old c h =
     fail_at old s n Asks = inl (refl, refl)
     fail_at old s n Gone = (refl, refl)
 
-pub failed_on : (old new : CopyLogic) (acts : List Act) (i : ℕ) (c : Cause) → old.live ≡ true → Meets (arrives i (item.Failed c)) (row old) → Does new acts (closed_all old) (at_open (λ j. FailOut j c) 0 old.outs) → Handled (arrives i (item.Failed c)) old acts new
+pub failed_on : (old new : CopyLogic) (acts : List Act) (i : ℕ) (c : Cause) → old.live ≡ true → Meets (arrives i (item.Failed c)) (port_state old) → Does new acts (closed_all old) (at_open (λ j. FailOut j c) 0 old.outs) → Handled (arrives i (item.Failed c)) old acts new
 failed_on old new acts i c h m d =
     let f = found (arrives i (item.Failed c)) old h m in
     let p = open_port old.quiet i f.may in
@@ -255,7 +255,7 @@ there_by : (l : CopyLogic) (j : ℕ) → (slice_get l.outs j ≡ Some Quiet) ⊎
 there_by l j (inl q) = slice_get_within l.outs j Quiet q
 there_by l j (inr q) = slice_get_within l.outs j Asks q
 
-pub lost_there : (l : CopyLogic) (j : ℕ) → l.live ≡ true → Meets (cancels j) (row l) → (j < length l.outs) × ((1 ≤ l.open_outs) × (slice_get l.outs j ≡ Some Quiet → 1 ≤ l.quiet))
+pub lost_there : (l : CopyLogic) (j : ℕ) → l.live ≡ true → Meets (cancels j) (port_state l) → (j < length l.outs) × ((1 ≤ l.open_outs) × (slice_get l.outs j ≡ Some Quiet → 1 ≤ l.quiet))
 lost_there l j h m =
     let f = found (cancels j) l h m in
     (there_by l j (is_open l.outs j f.may), (f.sound.some, λ q. quiet_some l j f.sound q))
@@ -338,7 +338,7 @@ module _ (old : CopyLogic) (j : ℕ) (h : old.live ≡ true) (sound : Sound old)
   by_loss new acts (inl q) (wanted n differs to_is acts_are) = absurd (differs q)
   by_loss new acts (inr q) (wanted n differs to_is acts_are) = rw (to_is, acts_are) (wanted_lost q n)
 
-pub lost : (old new : CopyLogic) (acts : List Act) (j : ℕ) → old.live ≡ true → Meets (cancels j) (row old) → Lost j old new acts → Handled (cancels j) old acts new
+pub lost : (old new : CopyLogic) (acts : List Act) (j : ℕ) → old.live ≡ true → Meets (cancels j) (port_state old) → Lost j old new acts → Handled (cancels j) old acts new
 lost old new acts j h m l =
     let f = found (cancels j) old h m in
     by_loss old j h f.sound new acts (is_open old.outs j f.may) l

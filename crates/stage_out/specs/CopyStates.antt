@@ -39,12 +39,12 @@ pub record Sound (l : CopyLogic) : Type 0 where
   pub few : length l.outs ≤ 16
   pub pair : l.halves ≡ true → length l.outs ≡ 2
 
-abbrev pub row_by : Bool → CopyLogic → View → Type 0
-row_by true l v = (v ≡ view_of l) × Sound l
-row_by false l v = AllClosed v
+abbrev pub port_state_by : Bool → CopyLogic → View → Type 0
+port_state_by true l v = (v ≡ view_of l) × Sound l
+port_state_by false l v = AllClosed v
 
-abbrev pub row : CopyLogic → View → Type 0
-row l v = row_by l.live l v
+abbrev pub port_state : CopyLogic → View → Type 0
+port_state l v = port_state_by l.live l v
 
 -- what a handler owes to the law, at each output
 pub record Turned (call : Call) (old : CopyLogic) (acts : List Act) (new : CopyLogic) : Type 0 where

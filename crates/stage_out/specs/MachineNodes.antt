@@ -9,11 +9,11 @@ use Rattle.stream_picture.specs.View as picture
 use Rattle.stage_law.specs.Held.{told}
 use Rattle.stage_law.specs.Outs.{OutsLaw, owe}
 use Rattle.stage_out.specs.declared.machines.OutMachines.{OutMachines}
-use Rattle.stage_out.specs.Machines.{IsNew, row, outlets, owed, rests_as, IsAlike}
+use Rattle.stage_out.specs.Machines.{IsNew, port_state, outlets, owed, rests_as, IsAlike}
 
 -- what one that was not started knows of its ports
 pub record MachinesFresh (l : OutMachines) (v : View) : Type 0 where
-  pub row : row l v
+  pub row : port_state l v
   pub fresh : IsNew l
 
 -- Of a logic as it was handed in and as it is now: its outputs' machines and its row stay; and the law of each output holds

@@ -43,9 +43,9 @@ room_of (Copies l) = room_for (length l.outs)
 room_of (Deals l) = room_for (length l.outs)
 
 -- what it knows of its ports
-abbrev pub row : OutMachines → View → Type 0
-row (Copies l) = copy.row l
-row (Deals l) = part.row l
+abbrev pub port_state : OutMachines → View → Type 0
+port_state (Copies l) = copy.port_state l
+port_state (Deals l) = part.port_state l
 
 -- what a handler owes to the law, at each output
 abbrev pub Turned : Call → OutMachines → List Act → OutMachines → Type 0
@@ -164,7 +164,7 @@ EachAgrees n f (o ∷ os) = ((is : List Outlook) (l : List Tree) (e : End) (g : 
 pub record Begins (node : ℕ) (kind : Kind) (new : OutMachines) : Type 0 where
   pub live : is_live new ≡ true
   pub of_kind : IsOfKind kind new
-  pub ready : row new (unpulled_outs (outputs_of kind))
+  pub ready : port_state new (unpulled_outs (outputs_of kind))
   pub outputs : (book : Book) → outlets book new ≡ starts_of book node kind
   pub agrees : (g : Graph) (w : World) (d : Decider) → EachAgrees 0 (λ j is. node_outlook g w node kind d is j) (outlets w.book new)
   pub fresh : IsNew new

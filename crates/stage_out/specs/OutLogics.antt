@@ -29,9 +29,9 @@ room_of (Machines l) = machines.room_of l
 room_of (Balances l) = room_for (length l.core.outs)
 
 -- what it knows of its ports
-abbrev pub row : OutLogic → View → Type 0
-row (Machines l) = machines.row l
-row (Balances l) = balance.row l
+abbrev pub port_state : OutLogic → View → Type 0
+port_state (Machines l) = machines.port_state l
+port_state (Balances l) = balance.port_state l
 
 -- what it knows of them whenever it has just asked: of one that chooses, that some output asks
 abbrev pub OutAsking : OutLogic → View → Type 0

@@ -60,12 +60,12 @@ pub record Sound (l : PartitionLogic) : Type 0 where
   pub holds : Holding l.held l
   pub wants : l.waits ≡ true → (1 ≤ l.asking) ⊎ (l.open_outs < length l.outs)
 
-abbrev pub row_by : Bool → PartitionLogic → View → Type 0
-row_by true l v = (v ≡ view_of l) × Sound l
-row_by false l v = AllClosed v
+abbrev pub port_state_by : Bool → PartitionLogic → View → Type 0
+port_state_by true l v = (v ≡ view_of l) × Sound l
+port_state_by false l v = AllClosed v
 
-abbrev pub row : PartitionLogic → View → Type 0
-row l v = row_by l.live l v
+abbrev pub port_state : PartitionLogic → View → Type 0
+port_state l v = port_state_by l.live l v
 
 -- what is held for output m
 abbrev pub kept : ℕ → ℕ → Option Tree → List Tree

@@ -8,7 +8,7 @@ ghost use Rattle.elem_core.specs.Values.{left_half, right_half};
 ghost use Rattle.stage_fans.specs.Seats.{room_for};
 ghost use Rattle.stage_fans.specs.Outs.{at_open};
 ghost use Rattle.stage_out.specs.Copies.{push_to, push_where, served, served_one};
-ghost use Rattle.stage_out.specs.CopyStates.{row, Turned, Does, Lost, part_by, begun};
+ghost use Rattle.stage_out.specs.CopyStates.{port_state, Turned, Does, Lost, part_by, begun};
 
 use elem_core::elem::{Elem, Form};
 use elem_core::why::{Cause, NoMemory};
@@ -63,10 +63,10 @@ impl CopyLogic {
     /// The run begins.
     pub fn start(&mut self, _acts: &mut Acts) -> Result<(), NoMemory>
         requires live { self.old.live ≡ true }
-        requires meets { Meets starts (row self.old) }
+        requires meets { Meets starts (port_state self.old) }
         requires empty { _acts.old.items ≡ [] }
         ensures answers { IsOk result }
-        ensures ports { OnOk result (Obeys starts (row self.old) (row self.new) _acts.new.items) }
+        ensures ports { OnOk result (Obeys starts (port_state self.old) (port_state self.new) _acts.new.items) }
         ensures gives { OnOk result (Turned starts self.old _acts.new.items self.new) }
         ensures room { _acts.new.room ≡ _acts.old.room }
     {
@@ -76,11 +76,11 @@ impl CopyLogic {
     /// Output `port` was asked.
     pub fn on_pull(&mut self, port: u8, acts: &mut Acts) -> Result<(), NoMemory>
         requires live { self.old.live ≡ true }
-        requires meets { Meets (pulls port) (row self.old) }
+        requires meets { Meets (pulls port) (port_state self.old) }
         requires empty { acts.old.items ≡ [] }
         requires room { room_for (length self.old.outs) ≤ acts.old.room }
         ensures answers { IsOk result }
-        ensures ports { OnOk result (Obeys (pulls port) (row self.old) (row self.new) acts.new.items) }
+        ensures ports { OnOk result (Obeys (pulls port) (port_state self.old) (port_state self.new) acts.new.items) }
         ensures gives { OnOk result (Turned (pulls port) self.old acts.new.items self.new) }
         ensures room { acts.new.room ≡ acts.old.room }
     {
@@ -97,10 +97,10 @@ impl CopyLogic {
         acts: &mut Acts,
     ) -> Result<(), NoMemory>
         requires live { self.old.live ≡ true }
-        requires meets { Meets (arrives port (item.Elem e)) (row self.old) }
+        requires meets { Meets (arrives port (item.Elem e)) (port_state self.old) }
         requires empty { acts.old.items ≡ [] }
         requires room { room_for (length self.old.outs) ≤ acts.old.room }
-        ensures ports { OnOk result (Obeys (arrives port (item.Elem e)) (row self.old) (row self.new) acts.new.items) }
+        ensures ports { OnOk result (Obeys (arrives port (item.Elem e)) (port_state self.old) (port_state self.new) acts.new.items) }
         ensures gives { OnOk result (Turned (arrives port (item.Elem e)) self.old acts.new.items self.new) }
         ensures room { OnOk result (acts.new.room ≡ acts.old.room) }
     {
@@ -111,11 +111,11 @@ impl CopyLogic {
     /// The input has ended.
     pub fn on_finish(&mut self, port: u8, acts: &mut Acts) -> Result<(), NoMemory>
         requires live { self.old.live ≡ true }
-        requires meets { Meets (arrives port item.Ended) (row self.old) }
+        requires meets { Meets (arrives port item.Ended) (port_state self.old) }
         requires empty { acts.old.items ≡ [] }
         requires room { room_for (length self.old.outs) ≤ acts.old.room }
         ensures answers { IsOk result }
-        ensures ports { OnOk result (Obeys (arrives port item.Ended) (row self.old) (row self.new) acts.new.items) }
+        ensures ports { OnOk result (Obeys (arrives port item.Ended) (port_state self.old) (port_state self.new) acts.new.items) }
         ensures gives { OnOk result (Turned (arrives port item.Ended) self.old acts.new.items self.new) }
         ensures room { acts.new.room ≡ acts.old.room }
     {
@@ -127,11 +127,11 @@ impl CopyLogic {
     /// The input has failed.
     pub fn on_fail(&mut self, port: u8, cause: Cause, acts: &mut Acts) -> Result<(), NoMemory>
         requires live { self.old.live ≡ true }
-        requires meets { Meets (arrives port (item.Failed cause)) (row self.old) }
+        requires meets { Meets (arrives port (item.Failed cause)) (port_state self.old) }
         requires empty { acts.old.items ≡ [] }
         requires room { room_for (length self.old.outs) ≤ acts.old.room }
         ensures answers { IsOk result }
-        ensures ports { OnOk result (Obeys (arrives port (item.Failed cause)) (row self.old) (row self.new) acts.new.items) }
+        ensures ports { OnOk result (Obeys (arrives port (item.Failed cause)) (port_state self.old) (port_state self.new) acts.new.items) }
         ensures gives { OnOk result (Turned (arrives port (item.Failed cause)) self.old acts.new.items self.new) }
         ensures room { acts.new.room ≡ acts.old.room }
     {
@@ -143,11 +143,11 @@ impl CopyLogic {
     /// Output `port` was cancelled.
     pub fn on_cancel(&mut self, port: u8, acts: &mut Acts) -> Result<(), NoMemory>
         requires live { self.old.live ≡ true }
-        requires meets { Meets (cancels port) (row self.old) }
+        requires meets { Meets (cancels port) (port_state self.old) }
         requires empty { acts.old.items ≡ [] }
         requires room { room_for (length self.old.outs) ≤ acts.old.room }
         ensures answers { IsOk result }
-        ensures ports { OnOk result (Obeys (cancels port) (row self.old) (row self.new) acts.new.items) }
+        ensures ports { OnOk result (Obeys (cancels port) (port_state self.old) (port_state self.new) acts.new.items) }
         ensures gives { OnOk result (Turned (cancels port) self.old acts.new.items self.new) }
         ensures room { acts.new.room ≡ acts.old.room }
     {

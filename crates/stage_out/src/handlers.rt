@@ -1,6 +1,6 @@
 // A stage with several outputs as the interpreter calls it: its calls keep the law of each output over its whole history.
 ghost use Rattle.std.specs.Prelude.{[], false, ⊤};
-ghost use Rattle.stage_out.specs.OutLogics.{row, OutAsking, OutFresh, OutLaw};
+ghost use Rattle.stage_out.specs.OutLogics.{port_state as out_port_state, OutAsking, OutFresh, OutLaw};
 ghost use Rattle.stage_out.specs.Moves.{out_moves};
 
 use crate::logic::OutLogic;
@@ -14,7 +14,7 @@ use std::alloc::Global;
 impl Stage for OutLogic {
     ghost fresh = { OutFresh };
 
-    ghost rests = { row };
+    ghost port_state = { out_port_state };
 
     ghost law = { OutLaw };
 

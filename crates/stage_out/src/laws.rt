@@ -20,7 +20,7 @@ ghost use Rattle.stage_out.specs.declared.logic.OutLogic.{OutLogic};
 ghost use Rattle.stage_out.specs.Machines.{TurnsEach, outlets};
 ghost use Rattle.stage_out.specs.Machines as machines;
 ghost use Rattle.stage_out.specs.MachineNodes.{MachinesLaw, GaveAgrees};
-ghost use Rattle.stage_out.specs.OutLogics.{is_live, room_of, row, OutAsking, Turned, OutFresh, OutLaw};
+ghost use Rattle.stage_out.specs.OutLogics.{is_live, room_of, port_state, OutAsking, Turned, OutFresh, OutLaw};
 ghost use Rattle.stage_out.specs.Moves.{out_moves};
 ghost use Rattle.stage_out.specs.OwnRows.{OutLists, OutRests};
 
@@ -31,28 +31,28 @@ pub fn a_call_turns_each_output()
 
 /// Where the port rules allow a call of a handler and the row holds, its ports are not all closed: it is live.
 pub fn a_called_stage_is_open()
-    ensures { (l : OutLogic) (call : Call) (v : View) → CallAllowed call v → row l v → is_live l ≡ true }
+    ensures { (l : OutLogic) (call : Call) (v : View) → CallAllowed call v → port_state l v → is_live l ≡ true }
 {}
 
 /// Where the port rules allow a call of a handler and the row holds, the room that the call wants is within what every stage
 /// is given.
 pub fn a_call_wants_little_room()
-    ensures { (l : OutLogic) (call : Call) (v : View) → CallAllowed call v → row l v → room_of l ≤ most_acts }
+    ensures { (l : OutLogic) (call : Call) (v : View) → CallAllowed call v → port_state l v → room_of l ≤ most_acts }
 {}
 
 /// Where its row and the law of its outputs hold, a stage whose outputs are machines has closed its ports or has nothing to do,
 /// for the lists that its outputs were given.
 pub fn a_stage_rests()
-    ensures { (book : Book) (l : OutMachines) (v : View) (took : List Item) (gave : ℕ → List Item) (taken : List Tree) (e : End) → machines.row l v → took ≡ told taken e → OutsLaw 0 (outlets book l) v took gave
+    ensures { (book : Book) (l : OutMachines) (v : View) (took : List Item) (gave : ℕ → List Item) (taken : List Tree) (e : End) → machines.port_state l v → took ≡ told taken e → OutsLaw 0 (outlets book l) v took gave
         → (o : OutLists (length (outlets book l)) gave) × OutRests l v taken o.lists }
 {}
 
 /// What a handler owes to the port rules and to the law is all that is asked of a stage: its start begins the law of its
 /// histories, and every other call keeps it; where it asks, it knows what it tells of its asks; and its moves only grow.
 pub fn calls_keep_the_law()
-    ensures starts { (old new : OutLogic) (acts : List Act) → Obeys starts (row old) (row new) acts → Turned starts old acts new → Starts row OutLaw OutFresh old new acts }
-    ensures handles { (call : Call) (old new : OutLogic) (acts : List Act) → Obeys call (row old) (row new) acts → Turned call old acts new → Handles row OutLaw call old new acts }
-    ensures pulls { (call : Call) (old new : OutLogic) (acts : List Act) → Turned call old acts new → PullsAs call (row old) (OutAsking new) acts }
+    ensures starts { (old new : OutLogic) (acts : List Act) → Obeys starts (port_state old) (port_state new) acts → Turned starts old acts new → Starts port_state OutLaw OutFresh old new acts }
+    ensures handles { (call : Call) (old new : OutLogic) (acts : List Act) → Obeys call (port_state old) (port_state new) acts → Turned call old acts new → Handles port_state OutLaw call old new acts }
+    ensures pulls { (call : Call) (old new : OutLogic) (acts : List Act) → Turned call old acts new → PullsAs call (port_state old) (OutAsking new) acts }
     ensures grows { (call : Call) (old new : OutLogic) (acts : List Act) → Turned call old acts new → IsPrefix (out_moves old) (out_moves new) }
 {}
 

@@ -2,7 +2,7 @@ ghost use Rattle.std.specs.Prelude.{◌≡◌, ◌≤◌, OnOk, OnErr, IfOk, IsO
 ghost use Rattle.std.specs.Option.{option_map};
 ghost use Rattle.elem_core.specs.declared.item.Item.TheVariants as item;
 ghost use Rattle.port_core.specs.Call.{Obeys, Meets, starts, pulls, arrives, cancels};
-ghost use Rattle.stage_out.specs.OutLogics.{room_of, row, Turned, QueuesLast, ServesFirst, IsOut, Begins};
+ghost use Rattle.stage_out.specs.OutLogics.{room_of, port_state, Turned, QueuesLast, ServesFirst, IsOut, Begins};
 ghost use Rattle.stage_out.specs.Moves.{out_moves, out_picks};
 
 use crate::machines::OutMachines;
@@ -44,10 +44,10 @@ impl OutLogic {
 
     /// The run begins. It waits to be asked.
     pub fn start(&mut self, acts: &mut Acts) -> Result<(), NoMemory>
-        requires meets { Meets starts (row self.old) }
+        requires meets { Meets starts (port_state self.old) }
         requires empty { acts.old.items ≡ [] }
         ensures answers { IsOk result }
-        ensures ports { OnOk result (Obeys starts (row self.old) (row self.new) acts.new.items) }
+        ensures ports { OnOk result (Obeys starts (port_state self.old) (port_state self.new) acts.new.items) }
         ensures gives { OnOk result (Turned starts self.old acts.new.items self.new) }
         ensures room { acts.new.room ≡ acts.old.room }
     {
@@ -66,10 +66,10 @@ impl OutLogic {
         e: Elem,
         acts: &mut Acts,
     ) -> Result<(), NoMemory>
-        requires meets { Meets (arrives port (item.Elem e)) (row self.old) }
+        requires meets { Meets (arrives port (item.Elem e)) (port_state self.old) }
         requires empty { acts.old.items ≡ [] }
         requires room { room_of self.old ≤ acts.old.room }
-        ensures ports { OnOk result (Obeys (arrives port (item.Elem e)) (row self.old) (row self.new) acts.new.items) }
+        ensures ports { OnOk result (Obeys (arrives port (item.Elem e)) (port_state self.old) (port_state self.new) acts.new.items) }
         ensures gives { OnOk result (Turned (arrives port (item.Elem e)) self.old acts.new.items self.new) }
         ensures order { OnOk result (ServesFirst self.old self.new) }
         ensures room { OnOk result (acts.new.room ≡ acts.old.room) }
@@ -82,11 +82,11 @@ impl OutLogic {
 
     /// Output `port` was asked. It takes the memory of the move that a balance records; where that is refused, all is as before.
     pub fn on_pull(&mut self, port: u8, acts: &mut Acts) -> Result<(), NoMemory>
-        requires meets { Meets (pulls port) (row self.old) }
+        requires meets { Meets (pulls port) (port_state self.old) }
         requires empty { acts.old.items ≡ [] }
         requires room { room_of self.old ≤ acts.old.room }
         ensures answers { out_picks self.old ≡ None → IsOk result }
-        ensures ports { OnOk result (Obeys (pulls port) (row self.old) (row self.new) acts.new.items) }
+        ensures ports { OnOk result (Obeys (pulls port) (port_state self.old) (port_state self.new) acts.new.items) }
         ensures gives { OnOk result (Turned (pulls port) self.old acts.new.items self.new) }
         ensures order { OnOk result (QueuesLast port self.old self.new) }
         ensures room { OnOk result (acts.new.room ≡ acts.old.room) }
@@ -100,11 +100,11 @@ impl OutLogic {
 
     /// The input has ended.
     pub fn on_finish(&mut self, port: u8, acts: &mut Acts) -> Result<(), NoMemory>
-        requires meets { Meets (arrives port item.Ended) (row self.old) }
+        requires meets { Meets (arrives port item.Ended) (port_state self.old) }
         requires empty { acts.old.items ≡ [] }
         requires room { room_of self.old ≤ acts.old.room }
         ensures answers { IsOk result }
-        ensures ports { OnOk result (Obeys (arrives port item.Ended) (row self.old) (row self.new) acts.new.items) }
+        ensures ports { OnOk result (Obeys (arrives port item.Ended) (port_state self.old) (port_state self.new) acts.new.items) }
         ensures gives { OnOk result (Turned (arrives port item.Ended) self.old acts.new.items self.new) }
         ensures room { acts.new.room ≡ acts.old.room }
     {
@@ -116,11 +116,11 @@ impl OutLogic {
 
     /// The input has failed.
     pub fn on_fail(&mut self, port: u8, cause: Cause, acts: &mut Acts) -> Result<(), NoMemory>
-        requires meets { Meets (arrives port (item.Failed cause)) (row self.old) }
+        requires meets { Meets (arrives port (item.Failed cause)) (port_state self.old) }
         requires empty { acts.old.items ≡ [] }
         requires room { room_of self.old ≤ acts.old.room }
         ensures answers { IsOk result }
-        ensures ports { OnOk result (Obeys (arrives port (item.Failed cause)) (row self.old) (row self.new) acts.new.items) }
+        ensures ports { OnOk result (Obeys (arrives port (item.Failed cause)) (port_state self.old) (port_state self.new) acts.new.items) }
         ensures gives { OnOk result (Turned (arrives port (item.Failed cause)) self.old acts.new.items self.new) }
         ensures room { acts.new.room ≡ acts.old.room }
     {
@@ -132,11 +132,11 @@ impl OutLogic {
 
     /// Output `port` was cancelled.
     pub fn on_cancel(&mut self, port: u8, acts: &mut Acts) -> Result<(), NoMemory>
-        requires meets { Meets (cancels port) (row self.old) }
+        requires meets { Meets (cancels port) (port_state self.old) }
         requires empty { acts.old.items ≡ [] }
         requires room { room_of self.old ≤ acts.old.room }
         ensures answers { IsOk result }
-        ensures ports { OnOk result (Obeys (cancels port) (row self.old) (row self.new) acts.new.items) }
+        ensures ports { OnOk result (Obeys (cancels port) (port_state self.old) (port_state self.new) acts.new.items) }
         ensures gives { OnOk result (Turned (cancels port) self.old acts.new.items self.new) }
         ensures room { acts.new.room ≡ acts.old.room }
     {

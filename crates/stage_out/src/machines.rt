@@ -5,7 +5,7 @@ ghost use Rattle.stream_model.specs.declared.kind.TheConstants.{MAX_FAN};
 ghost use Rattle.stage_out.specs.declared.machines.OutMachines.TheVariants.{Copies, Deals};
 ghost use Rattle.stage_out.specs.CopyStates as copy;
 ghost use Rattle.stage_out.specs.PartitionStates as part;
-ghost use Rattle.stage_out.specs.Machines.{room_of, row, Turned, IsMachines, IsMade, Begins};
+ghost use Rattle.stage_out.specs.Machines.{room_of, port_state, Turned, IsMachines, IsMade, Begins};
 
 use crate::copy_logic::CopyLogic;
 use crate::partition_logic::PartitionLogic;
@@ -45,10 +45,10 @@ impl OutMachines {
 
     /// The run begins. It waits to be asked.
     pub fn start(&mut self, acts: &mut Acts) -> Result<(), NoMemory>
-        requires meets { Meets starts (row self.old) }
+        requires meets { Meets starts (port_state self.old) }
         requires empty { acts.old.items ≡ [] }
         ensures answers { IsOk result }
-        ensures ports { OnOk result (Obeys starts (row self.old) (row self.new) acts.new.items) }
+        ensures ports { OnOk result (Obeys starts (port_state self.old) (port_state self.new) acts.new.items) }
         ensures gives { OnOk result (Turned starts self.old acts.new.items self.new) }
         ensures room { acts.new.room ≡ acts.old.room }
     {
@@ -66,10 +66,10 @@ impl OutMachines {
         e: Elem,
         acts: &mut Acts,
     ) -> Result<(), NoMemory>
-        requires meets { Meets (arrives port (item.Elem e)) (row self.old) }
+        requires meets { Meets (arrives port (item.Elem e)) (port_state self.old) }
         requires empty { acts.old.items ≡ [] }
         requires room { room_of self.old ≤ acts.old.room }
-        ensures ports { OnOk result (Obeys (arrives port (item.Elem e)) (row self.old) (row self.new) acts.new.items) }
+        ensures ports { OnOk result (Obeys (arrives port (item.Elem e)) (port_state self.old) (port_state self.new) acts.new.items) }
         ensures gives { OnOk result (Turned (arrives port (item.Elem e)) self.old acts.new.items self.new) }
         ensures room { OnOk result (acts.new.room ≡ acts.old.room) }
     {
@@ -81,11 +81,11 @@ impl OutMachines {
 
     /// Output `port` was asked.
     pub fn on_pull(&mut self, port: u8, acts: &mut Acts) -> Result<(), NoMemory>
-        requires meets { Meets (pulls port) (row self.old) }
+        requires meets { Meets (pulls port) (port_state self.old) }
         requires empty { acts.old.items ≡ [] }
         requires room { room_of self.old ≤ acts.old.room }
         ensures answers { IsOk result }
-        ensures ports { OnOk result (Obeys (pulls port) (row self.old) (row self.new) acts.new.items) }
+        ensures ports { OnOk result (Obeys (pulls port) (port_state self.old) (port_state self.new) acts.new.items) }
         ensures gives { OnOk result (Turned (pulls port) self.old acts.new.items self.new) }
         ensures room { acts.new.room ≡ acts.old.room }
     {
@@ -97,11 +97,11 @@ impl OutMachines {
 
     /// The input has ended.
     pub fn on_finish(&mut self, port: u8, acts: &mut Acts) -> Result<(), NoMemory>
-        requires meets { Meets (arrives port item.Ended) (row self.old) }
+        requires meets { Meets (arrives port item.Ended) (port_state self.old) }
         requires empty { acts.old.items ≡ [] }
         requires room { room_of self.old ≤ acts.old.room }
         ensures answers { IsOk result }
-        ensures ports { OnOk result (Obeys (arrives port item.Ended) (row self.old) (row self.new) acts.new.items) }
+        ensures ports { OnOk result (Obeys (arrives port item.Ended) (port_state self.old) (port_state self.new) acts.new.items) }
         ensures gives { OnOk result (Turned (arrives port item.Ended) self.old acts.new.items self.new) }
         ensures room { acts.new.room ≡ acts.old.room }
     {
@@ -113,11 +113,11 @@ impl OutMachines {
 
     /// The input has failed.
     pub fn on_fail(&mut self, port: u8, cause: Cause, acts: &mut Acts) -> Result<(), NoMemory>
-        requires meets { Meets (arrives port (item.Failed cause)) (row self.old) }
+        requires meets { Meets (arrives port (item.Failed cause)) (port_state self.old) }
         requires empty { acts.old.items ≡ [] }
         requires room { room_of self.old ≤ acts.old.room }
         ensures answers { IsOk result }
-        ensures ports { OnOk result (Obeys (arrives port (item.Failed cause)) (row self.old) (row self.new) acts.new.items) }
+        ensures ports { OnOk result (Obeys (arrives port (item.Failed cause)) (port_state self.old) (port_state self.new) acts.new.items) }
         ensures gives { OnOk result (Turned (arrives port (item.Failed cause)) self.old acts.new.items self.new) }
         ensures room { acts.new.room ≡ acts.old.room }
     {
@@ -129,11 +129,11 @@ impl OutMachines {
 
     /// Output `port` was cancelled.
     pub fn on_cancel(&mut self, port: u8, acts: &mut Acts) -> Result<(), NoMemory>
-        requires meets { Meets (cancels port) (row self.old) }
+        requires meets { Meets (cancels port) (port_state self.old) }
         requires empty { acts.old.items ≡ [] }
         requires room { room_of self.old ≤ acts.old.room }
         ensures answers { IsOk result }
-        ensures ports { OnOk result (Obeys (cancels port) (row self.old) (row self.new) acts.new.items) }
+        ensures ports { OnOk result (Obeys (cancels port) (port_state self.old) (port_state self.new) acts.new.items) }
         ensures gives { OnOk result (Turned (cancels port) self.old acts.new.items self.new) }
         ensures room { acts.new.room ≡ acts.old.room }
     {

@@ -8,7 +8,7 @@ ghost use Rattle.stream_model.specs.declared.kind.TheConstants.{MAX_FAN};
 ghost use Rattle.stage_fans.specs.declared.outs.OutputState.TheVariants.{Quiet, Asks, Gone};
 ghost use Rattle.stage_fans.specs.Seats.{room_for};
 ghost use Rattle.stage_fans.specs.Outs.{at_open};
-ghost use Rattle.stage_out.specs.PartitionStates.{row, Turned, Parts, pull_by, waits_by, moved_by, moving_by, TookFor, Noted, AskedOf, Dealt, Served, EndedFor, struck, PassedOver, Lost, with_asks, with_given, blaming, begun};
+ghost use Rattle.stage_out.specs.PartitionStates.{port_state, Turned, Parts, pull_by, waits_by, moved_by, moving_by, TookFor, Noted, AskedOf, Dealt, Served, EndedFor, struck, PassedOver, Lost, with_asks, with_given, blaming, begun};
 
 use elem_core::count::one_more;
 use elem_core::elem::{Elem, Form};
@@ -85,10 +85,10 @@ impl PartitionLogic {
     /// The run begins.
     pub fn start(&mut self, _acts: &mut Acts) -> Result<(), NoMemory>
         requires live { self.old.live ≡ true }
-        requires meets { Meets starts (row self.old) }
+        requires meets { Meets starts (port_state self.old) }
         requires empty { _acts.old.items ≡ [] }
         ensures answers { IsOk result }
-        ensures ports { OnOk result (Obeys starts (row self.old) (row self.new) _acts.new.items) }
+        ensures ports { OnOk result (Obeys starts (port_state self.old) (port_state self.new) _acts.new.items) }
         ensures gives { OnOk result (Turned starts self.old _acts.new.items self.new) }
         ensures room { _acts.new.room ≡ _acts.old.room }
     {
@@ -98,11 +98,11 @@ impl PartitionLogic {
     /// Output `port` was asked.
     pub fn on_pull(&mut self, port: u8, acts: &mut Acts) -> Result<(), NoMemory>
         requires live { self.old.live ≡ true }
-        requires meets { Meets (pulls port) (row self.old) }
+        requires meets { Meets (pulls port) (port_state self.old) }
         requires empty { acts.old.items ≡ [] }
         requires room { room_for (length self.old.outs) ≤ acts.old.room }
         ensures answers { IsOk result }
-        ensures ports { OnOk result (Obeys (pulls port) (row self.old) (row self.new) acts.new.items) }
+        ensures ports { OnOk result (Obeys (pulls port) (port_state self.old) (port_state self.new) acts.new.items) }
         ensures gives { OnOk result (Turned (pulls port) self.old acts.new.items self.new) }
         ensures room { acts.new.room ≡ acts.old.room }
     {
@@ -119,10 +119,10 @@ impl PartitionLogic {
         acts: &mut Acts,
     ) -> Result<(), NoMemory>
         requires live { self.old.live ≡ true }
-        requires meets { Meets (arrives port (item.Elem e)) (row self.old) }
+        requires meets { Meets (arrives port (item.Elem e)) (port_state self.old) }
         requires empty { acts.old.items ≡ [] }
         requires room { room_for (length self.old.outs) ≤ acts.old.room }
-        ensures ports { OnOk result (Obeys (arrives port (item.Elem e)) (row self.old) (row self.new) acts.new.items) }
+        ensures ports { OnOk result (Obeys (arrives port (item.Elem e)) (port_state self.old) (port_state self.new) acts.new.items) }
         ensures gives { OnOk result (Turned (arrives port (item.Elem e)) self.old acts.new.items self.new) }
         ensures room { OnOk result (acts.new.room ≡ acts.old.room) }
     {
@@ -133,11 +133,11 @@ impl PartitionLogic {
     /// The input has ended.
     pub fn on_finish(&mut self, port: u8, acts: &mut Acts) -> Result<(), NoMemory>
         requires live { self.old.live ≡ true }
-        requires meets { Meets (arrives port item.Ended) (row self.old) }
+        requires meets { Meets (arrives port item.Ended) (port_state self.old) }
         requires empty { acts.old.items ≡ [] }
         requires room { room_for (length self.old.outs) ≤ acts.old.room }
         ensures answers { IsOk result }
-        ensures ports { OnOk result (Obeys (arrives port item.Ended) (row self.old) (row self.new) acts.new.items) }
+        ensures ports { OnOk result (Obeys (arrives port item.Ended) (port_state self.old) (port_state self.new) acts.new.items) }
         ensures gives { OnOk result (Turned (arrives port item.Ended) self.old acts.new.items self.new) }
         ensures room { acts.new.room ≡ acts.old.room }
     {
@@ -149,11 +149,11 @@ impl PartitionLogic {
     /// The input has failed.
     pub fn on_fail(&mut self, port: u8, cause: Cause, acts: &mut Acts) -> Result<(), NoMemory>
         requires live { self.old.live ≡ true }
-        requires meets { Meets (arrives port (item.Failed cause)) (row self.old) }
+        requires meets { Meets (arrives port (item.Failed cause)) (port_state self.old) }
         requires empty { acts.old.items ≡ [] }
         requires room { room_for (length self.old.outs) ≤ acts.old.room }
         ensures answers { IsOk result }
-        ensures ports { OnOk result (Obeys (arrives port (item.Failed cause)) (row self.old) (row self.new) acts.new.items) }
+        ensures ports { OnOk result (Obeys (arrives port (item.Failed cause)) (port_state self.old) (port_state self.new) acts.new.items) }
         ensures gives { OnOk result (Turned (arrives port (item.Failed cause)) self.old acts.new.items self.new) }
         ensures room { acts.new.room ≡ acts.old.room }
     {
@@ -165,11 +165,11 @@ impl PartitionLogic {
     /// Output `port` was cancelled.
     pub fn on_cancel(&mut self, port: u8, acts: &mut Acts) -> Result<(), NoMemory>
         requires live { self.old.live ≡ true }
-        requires meets { Meets (cancels port) (row self.old) }
+        requires meets { Meets (cancels port) (port_state self.old) }
         requires empty { acts.old.items ≡ [] }
         requires room { room_for (length self.old.outs) ≤ acts.old.room }
         ensures answers { IsOk result }
-        ensures ports { OnOk result (Obeys (cancels port) (row self.old) (row self.new) acts.new.items) }
+        ensures ports { OnOk result (Obeys (cancels port) (port_state self.old) (port_state self.new) acts.new.items) }
         ensures gives { OnOk result (Turned (cancels port) self.old acts.new.items self.new) }
         ensures room { acts.new.room ≡ acts.old.room }
     {

@@ -31,7 +31,7 @@ use Rattle.stage_fans.proofs.Histories as histories
 use Rattle.stage_fans.proofs.Histories.{in_node, ins_seen, ins_acted}
 use Rattle.stage_recover.specs.Recovers.{RecoverHeld, passes, RecoverTurnAt, RecoverKeeps, RecoverStandsOf, RecoverRest, RecoverCounts, recover_moves}
 use Rattle.stage_recover.specs.Recoverings as stage
-use Rattle.stage_recover.specs.Recoverings.{Recover, recover_at, row, held_in, held_of, RecoverFresh, RecoverRow, RecoversAs, begun}
+use Rattle.stage_recover.specs.Recoverings.{Recover, recover_at, port_state, held_in, held_of, RecoverFresh, RecoverPortState, RecoversAs, begun}
 use Rattle.stage_recover.proofs.RecoverTurns.{recover_new, recover_call, recover_rest, recover_stands}
 
 -- ---- where it is called
@@ -54,13 +54,13 @@ open_lists l call (x ∷ []) [] n h r = absurd r
 open_lists l call (x ∷ []) (y ∷ z ∷ ys) n h r = absurd r
 open_lists l call (x ∷ u ∷ xs) ys n h r = absurd r
 
-pub called_open : (l : Recover) (call : Call) (v : View) → (l.phase ≡ New → ⊥) → CallAllowed call v → row l v → l.phase ≡ Open
+pub called_open : (l : Recover) (call : Call) (v : View) → (l.phase ≡ New → ⊥) → CallAllowed call v → port_state l v → l.phase ≡ Open
 called_open l call v n h r = open_lists l call v.ins v.outs n h r
 
 -- ---- its moves
 
 -- the moves that it owes are those of its log
-held_moves : (l : Recover) (v : View) → row l v → recover_moves (held_of l) ≡ l.moves
+held_moves : (l : Recover) (v : View) → port_state l v → recover_moves (held_of l) ≡ l.moves
 held_moves l v r = by_lists v.ins v.outs r
   where
     by_ports : (p : Phase) (over asked : Bool) (x : InView) (y : OutView) → recover_at l p over asked x y → recover_moves (held_in p over l.passed l.moves) ≡ l.moves
@@ -87,7 +87,7 @@ keeps_ports t c old new v took gave acts may allowed turn law =
     (λ given l. recover_call t c old new v (λ i. slice_index_or took i []) given acts may allowed turn l) law
 
 -- the law over its histories once a call's actions are done
-law_after : (c : Call) (first old new : Recover) (v : View) (took gave : List (List Item)) (acts : List Act) → CallAllowed c v → ActsAllowed (seen c v) acts → stage.Turned c old acts new → old.own ≡ first.own → row new (acted_all (seen c v) acts)
+law_after : (c : Call) (first old new : Recover) (v : View) (took gave : List (List Item)) (acts : List Act) → CallAllowed c v → ActsAllowed (seen c v) acts → stage.Turned c old acts new → old.own ≡ first.own → port_state new (acted_all (seen c v) acts)
     → RecoversAs first old v took gave → RecoversAs first new (acted_all (seen c v) acts) (brought_by c took) (given_all acts gave)
 law_after c first old new v took gave acts may allowed t same after law = record {
   unmoved = law.unmoved;
@@ -98,7 +98,7 @@ law_after c first old new v took gave acts may allowed t same after law = record
   by = keeps_ports law.element c (held_of old) (held_of new) v took gave acts may allowed (t.turn law.element (same ∙ law.is_own)) law.by;
 }
 
-pub handled : (c : Call) (old new : Recover) (acts : List Act) → Obeys c (row old) (row new) acts → stage.Turned c old acts new → Handles RecoverRow RecoversAs c old new acts
+pub handled : (c : Call) (old new : Recover) (acts : List Act) → Obeys c (port_state old) (port_state new) acts → stage.Turned c old acts new → Handles RecoverPortState RecoversAs c old new acts
 handled c old new acts o t = record {
   obeys = record {
     allowed = λ v may r. o.allowed v may r.row;
@@ -149,7 +149,7 @@ fresh_law l v took gave may f a b m n =
           (recover_new own.0 v one may.0 (subst (λ ys. GaveAs (slice_index_or ys 0 outlet.Closed) unended) (sym new.outs) refl)));
     }
 
-pub started : (old new : Recover) (acts : List Act) → Obeys starts (row old) (row new) acts → stage.Turned starts old acts new → Starts RecoverRow RecoversAs RecoverFresh old new acts
+pub started : (old new : Recover) (acts : List Act) → Obeys starts (port_state old) (port_state new) acts → stage.Turned starts old acts new → Starts RecoverPortState RecoversAs RecoverFresh old new acts
 started old new acts o t = record {
   obeys = record {
     allowed = λ v may r. o.allowed v may r.row;

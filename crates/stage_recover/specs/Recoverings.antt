@@ -37,8 +37,8 @@ recover_at l Open true false Finished Unpulled = (l.moves ≡ l.passed ∷ []) �
 recover_at l Closed over asked i o = BothClosed i o
 recover_at l _ _ _ _ _ = ⊥
 
-abbrev pub row : Recover → View → Type 0
-row l v = OneOne (recover_at l l.phase l.over l.asked) v
+abbrev pub port_state : Recover → View → Type 0
+port_state l v = OneOne (recover_at l l.phase l.over l.asked) v
 
 -- what it owes
 abbrev pub held_in : Phase → Bool → ℕ → List ℕ → RecoverHeld
@@ -67,12 +67,12 @@ pub record RecoverFresh (l : Recover) (v : View) : Type 0 where
   pub fresh : l.phase ≡ New
   pub none_passed : l.passed ≡ 0
   pub unmoved : l.moves ≡ []
-  pub row : row l v
+  pub row : port_state l v
 
 -- it was started, and its row holds
-pub record RecoverRow (l : Recover) (v : View) : Type 0 where
+pub record RecoverPortState (l : Recover) (v : View) : Type 0 where
   pub started : l.phase ≢ New
-  pub row : row l v
+  pub row : port_state l v
 
 -- the law of its histories, by the stage as it was at first and as it is now: by its own element, which it has until it
 -- closes, and its move, of which it made none before

@@ -12,7 +12,7 @@ ghost use Rattle.stream_model.specs.Picks.{recover_fits, recover_outlook};
 ghost use Rattle.stage_core.specs.Handling.{Starts, Handles};
 ghost use Rattle.stage_core.specs.declared.phase.Phase.TheVariants.{New, Open};
 ghost use Rattle.stage_recover.specs.Recovers.{RecoverHeld, RecoverTurnAt, RecoverResidual, RecoverRest, RecoverRests, RecoverCounts};
-ghost use Rattle.stage_recover.specs.Recoverings.{Recover, begun, row, held_of, Turned, RecoverFresh, RecoverRow, RecoversAs};
+ghost use Rattle.stage_recover.specs.Recoverings.{Recover, begun, port_state, held_of, Turned, RecoverFresh, RecoverPortState, RecoversAs};
 
 /// A new recover may be started, made no move, and knows that no port was asked.
 pub fn a_new_recover_may_start()
@@ -22,19 +22,19 @@ pub fn a_new_recover_may_start()
 /// Where its row and its law hold, a recover that was started has closed both its ports, or has nothing to do: it waits for
 /// its input and has given all that it took, or nobody asks it.
 pub fn a_started_recover_rests()
-    ensures { (first now : Recover) (v : View) (took gave : List (List Item)) → RecoverRow now v → (law : RecoversAs first now v took gave) → RecoverRests v law.by.law.ins law.by.law.out_list }
+    ensures { (first now : Recover) (v : View) (took gave : List (List Item)) → RecoverPortState now v → (law : RecoversAs first now v took gave) → RecoverRests v law.by.law.ins law.by.law.out_list }
 {}
 
 /// Where the port rules allow a call of a handler and the row holds, a recover that was started is open.
 pub fn a_called_recover_is_open()
-    ensures { (l : Recover) (call : Call) (v : View) → l.phase ≢ New → CallAllowed call v → row l v → l.phase ≡ Open }
+    ensures { (l : Recover) (call : Call) (v : View) → l.phase ≢ New → CallAllowed call v → port_state l v → l.phase ≡ Open }
 {}
 
 /// What a handler owes to the port rules and to the law is all that is asked of a stage: its start begins the law of its
 /// histories, and every other call keeps it.
 pub fn calls_keep_the_law()
-    ensures starts { (old new : Recover) (acts : List Act) → Obeys starts (row old) (row new) acts → Turned starts old acts new → Starts RecoverRow RecoversAs RecoverFresh old new acts }
-    ensures handles { (call : Call) (old new : Recover) (acts : List Act) → Obeys call (row old) (row new) acts → Turned call old acts new → Handles RecoverRow RecoversAs call old new acts }
+    ensures starts { (old new : Recover) (acts : List Act) → Obeys starts (port_state old) (port_state new) acts → Turned starts old acts new → Starts RecoverPortState RecoversAs RecoverFresh old new acts }
+    ensures handles { (call : Call) (old new : Recover) (acts : List Act) → Obeys call (port_state old) (port_state new) acts → Turned call old acts new → Handles RecoverPortState RecoversAs call old new acts }
 {}
 
 /// For every rest of its input: what a call pushes, and then what is given from now on, is what was given before for what

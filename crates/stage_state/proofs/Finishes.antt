@@ -17,7 +17,7 @@ use Rattle.stage_core.specs.declared.phase.Phase.TheVariants.{Open}
 use Rattle.stage_keeping.specs.declared.ending.StateEnd.{StateEnd}
 use Rattle.stage_keeping.specs.declared.ending.StateEnd.TheVariants.{Lasting, Ended, Failed}
 use Rattle.stage_state.specs.Outcomes.{working, finished, finish_acts}
-use Rattle.stage_state.specs.States.{Logic, IsKept, keep_row, row}
+use Rattle.stage_state.specs.States.{Logic, IsKept, keep_port_state, port_state}
 
 pub none_listed : (o : Option Tree) → is_some o ≡ false → option_to_list o ≡ []
 none_listed None h = refl
@@ -26,7 +26,7 @@ none_listed (Some t) h = cc
 -- what is allowed, and what holds then
 record Both (v : View) (acts : List Act) (new : Logic) : Type 0 where
   allowed : ActsAllowed v acts
-  row_is : row new (acted_all v acts)
+  row_is : port_state new (acted_all v acts)
 
 module _ (s : Stage) (w : Work) (kept : IsKept w) where
   abbrev open_keep : StateEnd → Bool → Work → Logic
@@ -35,7 +35,7 @@ module _ (s : Stage) (w : Work) (kept : IsKept w) where
   abbrev ended_ports : OutView → View
   ended_ports y = record { ins = Finished ∷ []; outs = y ∷ [] }
 
-  at_ports : (e : StateEnd) (a : Bool) (r : Result (Option Tree) Why) (x : InView) (y : OutView) → keep_row Open e a [] s.work x y → Both (ended_ports y) (finish_acts (open_keep e a w) r) (finished (open_keep e a w) r)
+  at_ports : (e : StateEnd) (a : Bool) (r : Result (Option Tree) Why) (x : InView) (y : OutView) → keep_port_state Open e a [] s.work x y → Both (ended_ports y) (finish_acts (open_keep e a w) r) (finished (open_keep e a w) r)
   at_ports Lasting true (Ok None) Pulled outlet.Available h = record { allowed = (tt, tt); row_is = tt }
   at_ports Lasting true (Ok (Some u)) Pulled outlet.Available h = record { allowed = (refl, (tt, tt)); row_is = tt }
   at_ports Lasting true (Err why) Pulled outlet.Available h = record { allowed = (tt, tt); row_is = tt }
@@ -71,7 +71,7 @@ module _ (s : Stage) (w : Work) (kept : IsKept w) where
   at_ports (Failed c) false r Cancelled y h = absurd h
   at_ports (Failed c) true r x y h = absurd h
 
-  at_lists : (e : StateEnd) (a : Bool) (r : Result (Option Tree) Why) (xs : List InView) (ys : List OutView) → OneOneOf (keep_row Open e a [] s.work) xs ys
+  at_lists : (e : StateEnd) (a : Bool) (r : Result (Option Tree) Why) (xs : List InView) (ys : List OutView) → OneOneOf (keep_port_state Open e a [] s.work) xs ys
       → Both (seen (arrives 0 item.Ended) (record { ins = xs; outs = ys })) (finish_acts (open_keep e a w) r) (finished (open_keep e a w) r)
   at_lists e a r (x ∷ []) (y ∷ []) h = at_ports e a r x y h
   at_lists e a r [] ys h = absurd h
@@ -79,7 +79,7 @@ module _ (s : Stage) (w : Work) (kept : IsKept w) where
   at_lists e a r (x ∷ []) (y ∷ z ∷ ys) h = absurd h
   at_lists e a r (x ∷ u ∷ xs) ys h = absurd h
 
-  obeys_at : (e : StateEnd) (a : Bool) (r : Result (Option Tree) Why) → Obeys (arrives 0 item.Ended) (row (open_keep e a s.work)) (row (finished (open_keep e a w) r)) (finish_acts (open_keep e a w) r)
+  obeys_at : (e : StateEnd) (a : Bool) (r : Result (Option Tree) Why) → Obeys (arrives 0 item.Ended) (port_state (open_keep e a s.work)) (port_state (finished (open_keep e a w) r)) (finish_acts (open_keep e a w) r)
   obeys_at e a r = record { allowed = λ v may h. (at_lists e a r v.ins v.outs h).allowed; row = λ v may h. (at_lists e a r v.ins v.outs h).row_is }
 
 abbrev of_parts : Phase → Stage → List Tree → Bool → StateEnd → Option ℕ → Logic
@@ -87,8 +87,8 @@ of_parts p s k a e n = record { phase = p; stage = s; pending = k; asked = a; en
 
 -- the end brought this
 pub finish_obeys : (l : Logic) (w : Work) (r : Result (Option Tree) Why) → l.phase ≡ Open → l.pending ≡ [] → l.size ≡ None → IsKept w
-    → Obeys (arrives 0 item.Ended) (row l) (row (finished (working l w) r)) (finish_acts (working l w) r)
+    → Obeys (arrives 0 item.Ended) (port_state l) (port_state (finished (working l w) r)) (finish_acts (working l w) r)
 finish_obeys l w r on none no_size kept =
     let is : l ≡ of_parts Open l.stage [] l.asked l.ending None =
     ap (λ p. of_parts p l.stage l.pending l.asked l.ending l.size) on ∙ ap (λ k. of_parts Open l.stage k l.asked l.ending l.size) none ∙ ap (λ n. of_parts Open l.stage [] l.asked l.ending n) no_size in
-    subst (λ (x : Logic). Obeys (arrives 0 item.Ended) (row x) (row (finished (working x w) r)) (finish_acts (working x w) r)) (sym is) (obeys_at l.stage w kept l.ending l.asked r)
+    subst (λ (x : Logic). Obeys (arrives 0 item.Ended) (port_state x) (port_state (finished (working x w) r)) (finish_acts (working x w) r)) (sym is) (obeys_at l.stage w kept l.ending l.asked r)

@@ -26,11 +26,11 @@ use Rattle.stage_core.specs.declared.phase.Phase.TheVariants.{New, Open, Closed}
 use Rattle.stage_keeping.specs.declared.ending.StateEnd.{StateEnd}
 use Rattle.stage_keeping.specs.declared.ending.StateEnd.TheVariants.{Lasting}
 use Rattle.stage_keeping.specs.Endings.{state_by}
-use Rattle.stage_state.specs.States.{Logic, machine, machine_by, held, held_in, IsScan, Spare, keep_row, buffer_row, row_by, row, Turned}
-use Rattle.stage_state.specs.MachineNodes.{MachineFresh, MachineRow, MachineLaw}
+use Rattle.stage_state.specs.States.{Logic, machine, machine_by, held, held_in, IsScan, Spare, keep_port_state, buffer_port_state, port_state_by, port_state, Turned}
+use Rattle.stage_state.specs.MachineNodes.{MachineFresh, MachinePortState, MachineLaw}
 
 -- the law of its output once a call's actions are done
-law_after : (call : Call) (first old new : Logic) (v : View) (acts : List Act) (took gave : List (List Item)) → row old v → CallAllowed call v → ActsAllowed (seen call v) acts → Turned call old acts new → MachineLaw first old v took gave
+law_after : (call : Call) (first old new : Logic) (v : View) (acts : List Act) (took gave : List (List Item)) → port_state old v → CallAllowed call v → ActsAllowed (seen call v) acts → Turned call old acts new → MachineLaw first old v took gave
     → MachineLaw first new (acted_all (seen call v) acts) (histories.brought_by call took) (histories.given_all acts gave)
 law_after call first old new v acts took gave r h allowed t law = record {
   took_list = law.took_list ++ brought_to 0 call;
@@ -41,13 +41,13 @@ law_after call first old new v acts took gave r h allowed t law = record {
   owes = law.owes;
   law = λ book.
       let turn : TurnAt (machine book first) 0 call (held old) (given_on 0 acts) (held new) = subst (λ (m : Machine Stage Tree). TurnAt m 0 call (held old) (given_on 0 acts) (held new)) (law.same book) (t.turn book) in
-      call_law (machine book first) law.start 0 call (held old) (held new) v law.took_list law.gave_list acts (one_input (row_by old.size old.phase old.ending old.asked old.pending old.stage.work) v.ins v.outs r) h allowed turn (law.law book);
+      call_law (machine book first) law.start 0 call (held old) (held new) v law.took_list law.gave_list acts (one_input (port_state_by old.size old.phase old.ending old.asked old.pending old.stage.work) v.ins v.outs r) h allowed turn (law.law book);
   same = λ book. t.same book ∙ law.same book;
   size = t.size ∙ law.size;
 }
 
 -- a call was handled
-pub handled : (call : Call) (old new : Logic) (acts : List Act) → Obeys call (row old) (row new) acts → Turned call old acts new → Handles MachineRow MachineLaw call old new acts
+pub handled : (call : Call) (old new : Logic) (acts : List Act) → Obeys call (port_state old) (port_state new) acts → Turned call old acts new → Handles MachinePortState MachineLaw call old new acts
 handled call old new acts o t = record {
   obeys = record {
     allowed = λ v h r. o.allowed v h r.row;
@@ -59,16 +59,16 @@ handled call old new acts o t = record {
 
 -- ---- a call of a handler is of its one input or output
 
-first_call : (call : Call) (l : Logic) (v : View) → CallAllowed call v → MachineRow l v → at_first call ≡ call
-first_call call l v h r = first_port (row_by l.size l.phase l.ending l.asked l.pending l.stage.work) call v h r.row
+first_call : (call : Call) (l : Logic) (v : View) → CallAllowed call v → MachinePortState l v → at_first call ≡ call
+first_call call l v h r = first_port (port_state_by l.size l.phase l.ending l.asked l.pending l.stage.work) call v h r.row
 
-pub met_first : (call : Call) (l : Logic) → Meets call (MachineRow l) → Meets (at_first call) (row l)
-met_first call l m = subst (λ c. Meets c (row l)) (sym (first_call call l m.0 m.1.0 m.1.1)) (m.0, (m.1.0, m.1.1.row))
+pub met_first : (call : Call) (l : Logic) → Meets call (MachinePortState l) → Meets (at_first call) (port_state l)
+met_first call l m = subst (λ c. Meets c (port_state l)) (sym (first_call call l m.0 m.1.0 m.1.1)) (m.0, (m.1.0, m.1.1.row))
 
-pub handles : {T E : Type 0} (call : Call) (old new : Logic) (acts : List Act) (r : Result T E) → Meets call (MachineRow old) → OnOk r (Obeys (at_first call) (row old) (row new) acts) → OnOk r (Turned (at_first call) old acts new)
-    → OnOk r (Handles MachineRow MachineLaw call old new acts)
+pub handles : {T E : Type 0} (call : Call) (old new : Logic) (acts : List Act) (r : Result T E) → Meets call (MachinePortState old) → OnOk r (Obeys (at_first call) (port_state old) (port_state new) acts) → OnOk r (Turned (at_first call) old acts new)
+    → OnOk r (Handles MachinePortState MachineLaw call old new acts)
 handles call old new acts r m o t =
-    subst (λ c. OnOk r (Handles MachineRow MachineLaw c old new acts)) (first_call call old m.0 m.1.0 m.1.1) (on_ok_two r o t (λ a b. handled (at_first call) old new acts a b))
+    subst (λ c. OnOk r (Handles MachinePortState MachineLaw c old new acts)) (first_call call old m.0 m.1.0 m.1.1) (on_ok_two r o t (λ a b. handled (at_first call) old new acts a b))
 
 -- ---- the run begins
 
@@ -88,19 +88,19 @@ record News (size : Option ℕ) (k : List Tree) (w : Work) (x : InView) (y : Out
   gave : GaveAs y unended
   kept : (book : Book) → 1 ≤ (machine_by book size w).hold → k ≡ []
 
-keep_new : (p : Phase) (e : StateEnd) (a : Bool) (k : List Tree) (w : Work) (x : InView) (y : OutView) → p ≡ New → keep_row p e a k w x y → News None k w x y
+keep_new : (p : Phase) (e : StateEnd) (a : Bool) (k : List Tree) (w : Work) (x : InView) (y : OutView) → p ≡ New → keep_port_state p e a k w x y → News None k w x y
 keep_new New Lasting false k w Idle Unpulled n r = record { took = refl; gave = refl; kept = λ book h. spare_held book w k r.0 h }
 keep_new New e a k w x y n r = absurd r
 keep_new Open e a k w x y n r = cc
 keep_new Closed e a k w x y n r = cc
 
-buffer_new : (size : ℕ) (p : Phase) (e : StateEnd) (a : Bool) (k : List Tree) (w : Work) (x : InView) (y : OutView) → p ≡ New → buffer_row size p e a k x y → News (Some size) k w x y
+buffer_new : (size : ℕ) (p : Phase) (e : StateEnd) (a : Bool) (k : List Tree) (w : Work) (x : InView) (y : OutView) → p ≡ New → buffer_port_state size p e a k x y → News (Some size) k w x y
 buffer_new size New Lasting false k w Idle Unpulled n r = record { took = refl; gave = refl; kept = λ book h. r.0 }
 buffer_new size New e a k w x y n r = absurd r
 buffer_new size Open e a k w x y n r = cc
 buffer_new size Closed e a k w x y n r = cc
 
-new_by : (size : Option ℕ) (p : Phase) (e : StateEnd) (a : Bool) (k : List Tree) (w : Work) (x : InView) (y : OutView) → p ≡ New → row_by size p e a k w x y → News size k w x y
+new_by : (size : Option ℕ) (p : Phase) (e : StateEnd) (a : Bool) (k : List Tree) (w : Work) (x : InView) (y : OutView) → p ≡ New → port_state_by size p e a k w x y → News size k w x y
 new_by None p e a k w x y n r = keep_new p e a k w x y n r
 new_by (Some size) p e a k w x y n r = buffer_new size p e a k w x y n r
 
@@ -110,7 +110,7 @@ at_ports m start h v x y a b law = rw (a, b) law
 
 fresh_law : (l : Logic) (v : View) (took gave : List (List Item)) → MachineFresh l v → histories.AllEmpty took → histories.AllEmpty gave → length took ≡ length v.ins → length gave ≡ length v.outs → MachineLaw l l v took gave
 fresh_law l v took gave f a b m n =
-    let p = fresh_ports (row_by l.size l.phase l.ending l.asked l.pending l.stage.work) v.ins v.outs took gave f.row a b m n in
+    let p = fresh_ports (port_state_by l.size l.phase l.ending l.asked l.pending l.stage.work) v.ins v.outs took gave f.row a b m n in
     let news = new_by l.size l.phase l.ending l.asked l.pending l.stage.work p.x p.y f.phase p.holds in
     let start : Run Stage Tree = record { gave = l.pending; state = state_by l.ending l.stage } in
     let owes : held l ≡ owing start = ap (λ (q : Phase). held_in q l.ending l.pending l.stage) f.phase in
@@ -127,7 +127,7 @@ fresh_law l v took gave f a b m n =
     }
 
 -- the stage was started
-pub started : (old new : Logic) (acts : List Act) → Obeys starts (row old) (row new) acts → Turned starts old acts new → Starts MachineRow MachineLaw MachineFresh old new acts
+pub started : (old new : Logic) (acts : List Act) → Obeys starts (port_state old) (port_state new) acts → Turned starts old acts new → Starts MachinePortState MachineLaw MachineFresh old new acts
 started old new acts o t = record {
   obeys = record {
     allowed = λ v h f. o.allowed v h f.row;

@@ -23,7 +23,7 @@ use Rattle.stage_keeping.specs.declared.keeping.StateReaction.{StateReaction}
 use Rattle.stage_keeping.specs.declared.keeping.StateReaction.TheVariants.{Gives, Asks, Fails}
 use Rattle.stage_keeping.specs.Keeping.{stage_of, Reacted}
 use Rattle.stage_state.specs.Outcomes.{working, answered, answer_acts}
-use Rattle.stage_state.specs.States.{Logic, held, keep_row, row_by, row, Turned}
+use Rattle.stage_state.specs.States.{Logic, held, keep_port_state, port_state_by, port_state, Turned}
 
 -- ---- where an element may come, the stage waits and owes nothing
 
@@ -32,7 +32,7 @@ pub record Waits (l : Logic) : Type 0 where
   pub asked : l.asked ≡ true
   pub lasts : l.ending ≡ Lasting
 
-waits_at : (l : Logic) (e : StateEnd) (a : Bool) (w : Work) (x : InView) (y : OutView) → x ≡ Pulled → l.ending ≡ e → l.asked ≡ a → keep_row Open e a l.pending w x y → Waits l
+waits_at : (l : Logic) (e : StateEnd) (a : Bool) (w : Work) (x : InView) (y : OutView) → x ≡ Pulled → l.ending ≡ e → l.asked ≡ a → keep_port_state Open e a l.pending w x y → Waits l
 waits_at l Lasting true w Pulled outlet.Available i j k h = record { none = h.0; asked = k; lasts = j }
 waits_at l Lasting true w Pulled outlet.Unpulled i j k h = absurd h
 waits_at l Lasting true w Pulled outlet.Closed i j k h = absurd h
@@ -46,18 +46,18 @@ waits_at l e a w Idle y i j k h = cc
 waits_at l e a w Finished y i j k h = cc
 waits_at l e a w Cancelled y i j k h = cc
 
-waits_in : (l : Logic) (xs : List InView) (ys : List OutView) → in_at (record { ins = xs; outs = ys }) 0 ≡ Pulled → OneOneOf (keep_row Open l.ending l.asked l.pending l.stage.work) xs ys → Waits l
+waits_in : (l : Logic) (xs : List InView) (ys : List OutView) → in_at (record { ins = xs; outs = ys }) 0 ≡ Pulled → OneOneOf (keep_port_state Open l.ending l.asked l.pending l.stage.work) xs ys → Waits l
 waits_in l (x ∷ []) (y ∷ []) w h = waits_at l l.ending l.asked l.stage.work x y w refl refl h
 waits_in l [] ys w h = absurd h
 waits_in l (x ∷ []) [] w h = absurd h
 waits_in l (x ∷ []) (y ∷ z ∷ ys) w h = absurd h
 waits_in l (x ∷ u ∷ xs) ys w h = absurd h
 
-pub waits : (l : Logic) (t : Tree) → l.phase ≡ Open → l.size ≡ None → Meets (arrives 0 (item.Elem t)) (row l) → Waits l
+pub waits : (l : Logic) (t : Tree) → l.phase ≡ Open → l.size ≡ None → Meets (arrives 0 (item.Elem t)) (port_state l) → Waits l
 waits l t on no_size m =
     waits_in l m.0.ins m.0.outs m.1.0
-    (subst (λ p. OneOneOf (keep_row p l.ending l.asked l.pending l.stage.work) m.0.ins m.0.outs) on
-    (subst (λ n. OneOneOf (row_by n l.phase l.ending l.asked l.pending l.stage.work) m.0.ins m.0.outs) no_size m.1.1))
+    (subst (λ p. OneOneOf (keep_port_state p l.ending l.asked l.pending l.stage.work) m.0.ins m.0.outs) on
+    (subst (λ n. OneOneOf (port_state_by n l.phase l.ending l.asked l.pending l.stage.work) m.0.ins m.0.outs) no_size m.1.1))
 
 -- ---- one step of the machine
 

@@ -24,34 +24,34 @@ use Rattle.stage_keeping.specs.declared.ending.StateEnd.{StateEnd}
 use Rattle.stage_keeping.specs.declared.ending.StateEnd.TheVariants.{Lasting, Ended, Failed}
 use Rattle.stage_state.specs.Buffering.{buffer}
 use Rattle.stage_state.specs.Resting.{begin_buffer, BufferOwnRests}
-use Rattle.stage_state.specs.States.{Logic, held, held_in, keep_row, buffer_row, row_by, row}
+use Rattle.stage_state.specs.States.{Logic, held, held_in, keep_port_state, buffer_port_state, port_state_by, port_state}
 use Rattle.stage_state.proofs.Buffers.{buffer_run}
 
 -- ---- where a call may come, a stage that was started is open
 
-open_keep : (p : Phase) (e : StateEnd) (a : Bool) (k : List Tree) (w : Work) (x : InView) (y : OutView) → (p ≡ New → ⊥) → (IsInOpen x ⊎ IsOutOpen y) → keep_row p e a k w x y → p ≡ Open
+open_keep : (p : Phase) (e : StateEnd) (a : Bool) (k : List Tree) (w : Work) (x : InView) (y : OutView) → (p ≡ New → ⊥) → (IsInOpen x ⊎ IsOutOpen y) → keep_port_state p e a k w x y → p ≡ Open
 open_keep Open e a k w x y n h r = refl
 open_keep New e a k w x y n h r = absurd (n refl)
 open_keep Closed e a k w x y n h r = absurd (closed_ports x y h r)
 
-open_buffer : (size : ℕ) (p : Phase) (e : StateEnd) (a : Bool) (k : List Tree) (x : InView) (y : OutView) → (p ≡ New → ⊥) → (IsInOpen x ⊎ IsOutOpen y) → buffer_row size p e a k x y → p ≡ Open
+open_buffer : (size : ℕ) (p : Phase) (e : StateEnd) (a : Bool) (k : List Tree) (x : InView) (y : OutView) → (p ≡ New → ⊥) → (IsInOpen x ⊎ IsOutOpen y) → buffer_port_state size p e a k x y → p ≡ Open
 open_buffer size Open e a k x y n h r = refl
 open_buffer size New e a k x y n h r = absurd (n refl)
 open_buffer size Closed e a k x y n h r = absurd (closed_ports x y h r)
 
-open_by : (size : Option ℕ) (p : Phase) (e : StateEnd) (a : Bool) (k : List Tree) (w : Work) (x : InView) (y : OutView) → (p ≡ New → ⊥) → (IsInOpen x ⊎ IsOutOpen y) → row_by size p e a k w x y → p ≡ Open
+open_by : (size : Option ℕ) (p : Phase) (e : StateEnd) (a : Bool) (k : List Tree) (w : Work) (x : InView) (y : OutView) → (p ≡ New → ⊥) → (IsInOpen x ⊎ IsOutOpen y) → port_state_by size p e a k w x y → p ≡ Open
 open_by None p e a k w x y n h r = open_keep p e a k w x y n h r
 open_by (Some size) p e a k w x y n h r = open_buffer size p e a k x y n h r
 
 open_lists : (l : Logic) (call : Call) (xs : List InView) (ys : List OutView) → (l.phase ≡ New → ⊥) → (call ≡ starts → ⊥) → CallAllowed call (record { ins = xs; outs = ys })
-    → OneOneOf (row_by l.size l.phase l.ending l.asked l.pending l.stage.work) xs ys → l.phase ≡ Open
+    → OneOneOf (port_state_by l.size l.phase l.ending l.asked l.pending l.stage.work) xs ys → l.phase ≡ Open
 open_lists l call (x ∷ []) (y ∷ []) n s h r = open_by l.size l.phase l.ending l.asked l.pending l.stage.work x y n (may_come call x y s h) r
 open_lists l call [] ys n s h r = absurd r
 open_lists l call (x ∷ []) [] n s h r = absurd r
 open_lists l call (x ∷ []) (y ∷ z ∷ ys) n s h r = absurd r
 open_lists l call (x ∷ u ∷ xs) ys n s h r = absurd r
 
-pub called_open : (l : Logic) (call : Call) (v : View) → (l.phase ≡ New → ⊥) → (call ≡ starts → ⊥) → CallAllowed call v → row l v → l.phase ≡ Open
+pub called_open : (l : Logic) (call : Call) (v : View) → (l.phase ≡ New → ⊥) → (call ≡ starts → ⊥) → CallAllowed call v → port_state l v → l.phase ≡ Open
 called_open l call v n s h r = open_lists l call v.ins v.outs n s h r
 
 -- ---- a stage that keeps
@@ -67,7 +67,7 @@ module _ (m : Machine Stage Tree) (start : Run Stage Tree) (took gave : List Ite
   waiting k s none law =
       subst (λ (h : List Tree). (law : LawOf Open Lasting h s Pulled outlet.Available) → Resting Open Lasting h s Pulled outlet.Available law) (sym none) (λ law. waiting_rests m start (holds_at_end s.work) (going s) took gave law) law
 
-  at_ports : (p : Phase) (e : StateEnd) (a : Bool) (k : List Tree) (s : Stage) (x : InView) (y : OutView) → (p ≡ New → ⊥) → keep_row p e a k s.work x y → (law : LawOf p e k s x y) → Resting p e k s x y law
+  at_ports : (p : Phase) (e : StateEnd) (a : Bool) (k : List Tree) (s : Stage) (x : InView) (y : OutView) → (p ≡ New → ⊥) → keep_port_state p e a k s.work x y → (law : LawOf p e k s x y) → Resting p e k s x y law
   at_ports New e a k s x y n r law = absurd (n refl)
   at_ports Closed e a k s x y n r law = closed_rests m start (holds_at_end s.work) x y law.in_list law.out_list r
   at_ports Open Lasting true k s Pulled outlet.Available n r law = waiting k s r.0 law
@@ -101,7 +101,7 @@ module _ (m : Machine Stage Tree) (start : Run Stage Tree) (took gave : List Ite
   at_ports Open (Failed c) false k s Pulled y n r law = absurd r
   at_ports Open (Failed c) false k s Cancelled y n r law = absurd r
 
-  at_lists : (l : Logic) (xs : List InView) (ys : List OutView) → (l.phase ≡ New → ⊥) → OneOneOf (keep_row l.phase l.ending l.asked l.pending l.stage.work) xs ys
+  at_lists : (l : Logic) (xs : List InView) (ys : List OutView) → (l.phase ≡ New → ⊥) → OneOneOf (keep_port_state l.phase l.ending l.asked l.pending l.stage.work) xs ys
       → (law : Law m start (held l) (slice_index_or xs 0 Cancelled) (slice_index_or ys 0 outlet.Closed) took gave) → OwnRests m start (holds_at_end l.stage.work) (slice_index_or xs 0 Cancelled) (slice_index_or ys 0 outlet.Closed) law.in_list law.out_list
   at_lists l (x ∷ []) (y ∷ []) n r law = at_ports l.phase l.ending l.asked l.pending l.stage x y n r law
   at_lists l [] ys n r law = absurd r
@@ -109,8 +109,8 @@ module _ (m : Machine Stage Tree) (start : Run Stage Tree) (took gave : List Ite
   at_lists l (x ∷ []) (y ∷ z ∷ ys) n r law = absurd r
   at_lists l (x ∷ u ∷ xs) ys n r law = absurd r
 
-  pub keeping_rests : (l : Logic) (v : View) → l.size ≡ None → (l.phase ≡ New → ⊥) → row l v → (law : Law m start (held l) (in_at v 0) (out_at v 0) took gave) → OwnRests m start (holds_at_end l.stage.work) (in_at v 0) (out_at v 0) law.in_list law.out_list
-  keeping_rests l v none n r law = at_lists l v.ins v.outs n (subst (λ size. OneOneOf (row_by size l.phase l.ending l.asked l.pending l.stage.work) v.ins v.outs) none r) law
+  pub keeping_rests : (l : Logic) (v : View) → l.size ≡ None → (l.phase ≡ New → ⊥) → port_state l v → (law : Law m start (held l) (in_at v 0) (out_at v 0) took gave) → OwnRests m start (holds_at_end l.stage.work) (in_at v 0) (out_at v 0) law.in_list law.out_list
+  keeping_rests l v none n r law = at_lists l v.ins v.outs n (subst (λ size. OneOneOf (port_state_by size l.phase l.ending l.asked l.pending l.stage.work) v.ins v.outs) none r) law
 
 -- ---- a buffer
 
@@ -125,7 +125,7 @@ module _ (n : ℕ) (s : Stage) (took gave : List Item) where
       let all : law.in_list ≡ law.out_list ++ k = ap (λ (z : Run Stage Tree). z.gave) (sym (buffer_run n s law.in_list) ∙ now) in
       ap length all ∙ length-append law.out_list k
 
-  buffer_at : (p : Phase) (e : StateEnd) (a : Bool) (k : List Tree) (t : Stage) (x : InView) (y : OutView) → (p ≡ New → ⊥) → buffer_row n p e a k x y → (law : BufferLaw p e k t x y) → BufferOwnRests n x y law.in_list law.out_list
+  buffer_at : (p : Phase) (e : StateEnd) (a : Bool) (k : List Tree) (t : Stage) (x : InView) (y : OutView) → (p ≡ New → ⊥) → buffer_port_state n p e a k x y → (law : BufferLaw p e k t x y) → BufferOwnRests n x y law.in_list law.out_list
   buffer_at New e a k t x y nn r law = absurd (nn refl)
   buffer_at Closed e a k t Finished outlet.Closed nn r law = inl (refl, refl)
   buffer_at Closed e a k t Finished outlet.Cancelled nn r law = inl (refl, refl)
@@ -171,7 +171,7 @@ module _ (n : ℕ) (s : Stage) (took gave : List Item) where
   buffer_at Open Ended false k t Cancelled y nn r law = absurd r
   buffer_at Open (Failed c) a k t x y nn r law = absurd r
 
-  buffer_lists : (l : Logic) (xs : List InView) (ys : List OutView) → (l.phase ≡ New → ⊥) → OneOneOf (buffer_row n l.phase l.ending l.asked l.pending) xs ys
+  buffer_lists : (l : Logic) (xs : List InView) (ys : List OutView) → (l.phase ≡ New → ⊥) → OneOneOf (buffer_port_state n l.phase l.ending l.asked l.pending) xs ys
       → (law : Law (buffer n) (begin_buffer s) (held l) (slice_index_or xs 0 Cancelled) (slice_index_or ys 0 outlet.Closed) took gave) → BufferOwnRests n (slice_index_or xs 0 Cancelled) (slice_index_or ys 0 outlet.Closed) law.in_list law.out_list
   buffer_lists l (x ∷ []) (y ∷ []) nn r law = buffer_at l.phase l.ending l.asked l.pending l.stage x y nn r law
   buffer_lists l [] ys nn r law = absurd r
@@ -179,5 +179,5 @@ module _ (n : ℕ) (s : Stage) (took gave : List Item) where
   buffer_lists l (x ∷ []) (y ∷ z ∷ ys) nn r law = absurd r
   buffer_lists l (x ∷ u ∷ xs) ys nn r law = absurd r
 
-  pub buffer_rests : (l : Logic) (v : View) → l.size ≡ Some n → (l.phase ≡ New → ⊥) → row l v → (law : Law (buffer n) (begin_buffer s) (held l) (in_at v 0) (out_at v 0) took gave) → BufferOwnRests n (in_at v 0) (out_at v 0) law.in_list law.out_list
-  buffer_rests l v is nn r law = buffer_lists l v.ins v.outs nn (subst (λ size. OneOneOf (row_by size l.phase l.ending l.asked l.pending l.stage.work) v.ins v.outs) is r) law
+  pub buffer_rests : (l : Logic) (v : View) → l.size ≡ Some n → (l.phase ≡ New → ⊥) → port_state l v → (law : Law (buffer n) (begin_buffer s) (held l) (in_at v 0) (out_at v 0) took gave) → BufferOwnRests n (in_at v 0) (out_at v 0) law.in_list law.out_list
+  buffer_rests l v is nn r law = buffer_lists l v.ins v.outs nn (subst (λ size. OneOneOf (port_state_by size l.phase l.ending l.asked l.pending l.stage.work) v.ins v.outs) is r) law

@@ -4,10 +4,10 @@ use Rattle.elem_core.specs.declared.item.Item.{Item}
 use Rattle.elem_core.specs.declared.why.Decider.{Decider}
 use Rattle.port_core.specs.View.{View, unpulled_ports}
 use Rattle.stream_model.specs.declared.kind.Kind.{Kind}
-use Rattle.stage_dropping.specs.Droppings.{DropFresh, DropRow, DropsAs}
-use Rattle.stage_recover.specs.Recoverings.{RecoverFresh, RecoverRow, RecoversAs}
-use Rattle.stage_switch.specs.Handling.{ValveFresh, ValveRow, ValveAs, TripFresh, TripRow, TripAs}
-use Rattle.stage_state.specs.MachineNodes.{MachineFresh, MachineRow, MachineLaw}
+use Rattle.stage_dropping.specs.Droppings.{DropFresh, DropPortState, DropsAs}
+use Rattle.stage_recover.specs.Recoverings.{RecoverFresh, RecoverPortState, RecoversAs}
+use Rattle.stage_switch.specs.Handling.{ValveFresh, ValvePortState, ValveAs, TripFresh, TripPortState, TripAs}
+use Rattle.stage_state.specs.MachineNodes.{MachineFresh, MachinePortState, MachineLaw}
 use Rattle.stage_state.specs.declared.logic.StateLogic.{StateLogic}
 use Rattle.stage_state.specs.declared.logic.StateLogic.TheVariants.{Machine, Dropping, Recovering, Obeying, Tripping}
 use Rattle.stage_state.specs.Logics.{BeginsAs}
@@ -21,12 +21,12 @@ StateFresh (Obeying l) v = ValveFresh l v
 StateFresh (Tripping l) v = TripFresh l v
 
 -- it was started, and its row holds
-abbrev pub StateRow : StateLogic → View → Type 0
-StateRow (Machine l) v = MachineRow l v
-StateRow (Dropping l) v = DropRow l v
-StateRow (Recovering l) v = RecoverRow l v
-StateRow (Obeying l) v = ValveRow l v
-StateRow (Tripping l) v = TripRow l v
+abbrev pub StatePortState : StateLogic → View → Type 0
+StatePortState (Machine l) v = MachinePortState l v
+StatePortState (Dropping l) v = DropPortState l v
+StatePortState (Recovering l) v = RecoverPortState l v
+StatePortState (Obeying l) v = ValvePortState l v
+StatePortState (Tripping l) v = TripPortState l v
 
 -- the law of its histories, by the stage as it was at first and as it is now; it stays of its kind
 abbrev pub StateLaw : StateLogic → StateLogic → View → List (List Item) → List (List Item) → Type 0

@@ -30,12 +30,12 @@ phase_of (Obeying l) = l.phase
 phase_of (Tripping l) = l.phase
 
 -- what it knows of its ports
-abbrev pub row : StateLogic → View → Type 0
-row (Machine l) v = machine.row l v
-row (Dropping l) v = dropping.row l v
-row (Recovering l) v = recover.row l v
-row (Obeying l) v = switch.valve_row l v
-row (Tripping l) v = switch.trip_row l v
+abbrev pub port_state : StateLogic → View → Type 0
+port_state (Machine l) v = machine.port_state l v
+port_state (Dropping l) v = dropping.port_state l v
+port_state (Recovering l) v = recover.port_state l v
+port_state (Obeying l) v = switch.valve_port_state l v
+port_state (Tripping l) v = switch.trip_port_state l v
 
 -- what a handler owes to the law; the stage stays of its kind
 abbrev pub Turned : Call → StateLogic → List Act → StateLogic → Type 0

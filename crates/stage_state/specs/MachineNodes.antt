@@ -8,17 +8,17 @@ use Rattle.stream_model.specs.Machine.{Run}
 use Rattle.stage_law.specs.Held.{owing}
 use Rattle.stage_law.specs.Law.{Law}
 use Rattle.stage_core.specs.declared.phase.Phase.TheVariants.{New}
-use Rattle.stage_state.specs.States.{Logic, machine, held, row}
+use Rattle.stage_state.specs.States.{Logic, machine, held, port_state}
 
 -- it was not started, and its row holds
 pub record MachineFresh (l : Logic) (v : View) : Type 0 where
   pub phase : l.phase ≡ New
-  pub row : row l v
+  pub row : port_state l v
 
 -- it was started, and its row holds
-pub record MachineRow (l : Logic) (v : View) : Type 0 where
+pub record MachinePortState (l : Logic) (v : View) : Type 0 where
   pub started : l.phase ≢ New
-  pub row : row l v
+  pub row : port_state l v
 
 -- The law of its output, by any book of plugs, since it asks none: from what it owed at first to what it owes now. Its
 -- machine stays the same, and so does its size where it is a buffer.

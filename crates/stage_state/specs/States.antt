@@ -70,33 +70,33 @@ IsKept w = holds_at_end w ≡ true
 
 -- A stage that keeps: before its input ended it waits exactly where its output is asked, and owes nothing but a scan its
 -- zero, which nobody asked for; behind the end of its input it owes one value, which nobody asked for.
-abbrev pub keep_row : Phase → StateEnd → Bool → List Tree → Work → InView → OutView → Type 0
-keep_row New Lasting false p w Idle Unpulled = Spare w p × IsKept w
-keep_row Open Lasting true p w Pulled Available = (p ≡ []) × IsKept w
-keep_row Open Lasting false p w Idle Unpulled = Spare w p × IsKept w
-keep_row Open Ended false p w Finished Unpulled = (length p ≡ 1) × IsKept w
-keep_row Open (Failed c) false p w Finished Unpulled = (length p ≡ 1) × IsKept w
-keep_row Closed e a p w i o = BothClosed i o
-keep_row _ _ _ _ _ _ _ = ⊥
+abbrev pub keep_port_state : Phase → StateEnd → Bool → List Tree → Work → InView → OutView → Type 0
+keep_port_state New Lasting false p w Idle Unpulled = Spare w p × IsKept w
+keep_port_state Open Lasting true p w Pulled Available = (p ≡ []) × IsKept w
+keep_port_state Open Lasting false p w Idle Unpulled = Spare w p × IsKept w
+keep_port_state Open Ended false p w Finished Unpulled = (length p ≡ 1) × IsKept w
+keep_port_state Open (Failed c) false p w Finished Unpulled = (length p ≡ 1) × IsKept w
+keep_port_state Closed e a p w i o = BothClosed i o
+keep_port_state _ _ _ _ _ _ _ = ⊥
 
 -- A buffer of n: it holds nothing where its output is asked, waits while fewer than n are held, and then until it gave one;
 -- behind the end of its input it holds something.
-abbrev pub buffer_row : ℕ → Phase → StateEnd → Bool → List Tree → InView → OutView → Type 0
-buffer_row n New Lasting false p Idle Unpulled = (p ≡ []) × (0 < n)
-buffer_row n Open Lasting true p Pulled Available = (p ≡ []) × (0 < n)
-buffer_row n Open Lasting false p Pulled Unpulled = length p < n
-buffer_row n Open Lasting false p Idle Unpulled = (length p ≡ n) × (0 < n)
-buffer_row n Open Ended false p Finished Unpulled = 0 < length p
-buffer_row n Closed e a p i o = BothClosed i o
-buffer_row _ _ _ _ _ _ _ = ⊥
+abbrev pub buffer_port_state : ℕ → Phase → StateEnd → Bool → List Tree → InView → OutView → Type 0
+buffer_port_state n New Lasting false p Idle Unpulled = (p ≡ []) × (0 < n)
+buffer_port_state n Open Lasting true p Pulled Available = (p ≡ []) × (0 < n)
+buffer_port_state n Open Lasting false p Pulled Unpulled = length p < n
+buffer_port_state n Open Lasting false p Idle Unpulled = (length p ≡ n) × (0 < n)
+buffer_port_state n Open Ended false p Finished Unpulled = 0 < length p
+buffer_port_state n Closed e a p i o = BothClosed i o
+buffer_port_state _ _ _ _ _ _ _ = ⊥
 
 -- by its size
-abbrev pub row_by : Option ℕ → Phase → StateEnd → Bool → List Tree → Work → InView → OutView → Type 0
-row_by None ph e a p w i o = keep_row ph e a p w i o
-row_by (Some n) ph e a p w i o = buffer_row n ph e a p i o
+abbrev pub port_state_by : Option ℕ → Phase → StateEnd → Bool → List Tree → Work → InView → OutView → Type 0
+port_state_by None ph e a p w i o = keep_port_state ph e a p w i o
+port_state_by (Some n) ph e a p w i o = buffer_port_state n ph e a p i o
 
-abbrev pub row : Logic → View → Type 0
-row l v = OneOne (row_by l.size l.phase l.ending l.asked l.pending l.stage.work) v
+abbrev pub port_state : Logic → View → Type 0
+port_state l v = OneOne (port_state_by l.size l.phase l.ending l.asked l.pending l.stage.work) v
 
 -- ---- what a call owes
 
@@ -128,7 +128,7 @@ BeginsAs kind node d new = (new.size ≡ None) × ((work_of kind ≡ Some new.st
 pub record Begins (node : ℕ) (kind : Kind) (d : Decider) (new : Logic) : Type 0 where
   pub phase : new.phase ≡ New
   pub owes : BeginsAs kind node d new
-  pub ready : row new unpulled_ports
+  pub ready : port_state new unpulled_ports
 
 -- a new stage that keeps, and owes these before any element
 abbrev pub new_keep : ℕ → Decider → Work → List Tree → Logic

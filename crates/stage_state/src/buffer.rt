@@ -6,7 +6,7 @@ ghost use Rattle.elem_core.specs.declared.why.Decider.TheVariants.{Stop};
 ghost use Rattle.stage_core.specs.declared.phase.Phase.TheVariants.{New, Open, Closed};
 ghost use Rattle.stage_keeping.specs.declared.ending.StateEnd.TheVariants.{Lasting};
 ghost use Rattle.stage_state.specs.Holding.{is_none, HasRoom, gone_on, go_on_acts};
-ghost use Rattle.stage_state.specs.States.{row, Turned};
+ghost use Rattle.stage_state.specs.States.{port_state, Turned};
 
 use circular_buffer::HeapCircularBuffer;
 use elem_core::elem::Elem;
@@ -64,11 +64,11 @@ impl BufferLogic {
     /// The run begins: the buffer asks.
     pub fn start(&mut self, acts: &mut Acts) -> Result<(), NoMemory>
         requires new { self.old.phase ≡ New }
-        requires meets { Meets starts (row self.old) }
+        requires meets { Meets starts (port_state self.old) }
         requires empty { acts.old.items ≡ [] }
         requires room { 4 ≤ acts.old.room }
         ensures answers { IsOk result }
-        ensures ports { OnOk result (Obeys starts (row self.old) (row self.new) acts.new.items) }
+        ensures ports { OnOk result (Obeys starts (port_state self.old) (port_state self.new) acts.new.items) }
         ensures gives { OnOk result (Turned starts self.old acts.new.items self.new) }
         ensures room { acts.new.room ≡ acts.old.room }
     {
@@ -81,11 +81,11 @@ impl BufferLogic {
     pub fn on_pull(&mut self, port: u8, acts: &mut Acts) -> Result<(), NoMemory>
         requires open { self.old.phase ≡ Open }
         requires port { port ≡ 0 }
-        requires meets { Meets (pulls 0) (row self.old) }
+        requires meets { Meets (pulls 0) (port_state self.old) }
         requires empty { acts.old.items ≡ [] }
         requires room { 4 ≤ acts.old.room }
         ensures answers { IsOk result }
-        ensures ports { OnOk result (Obeys (pulls 0) (row self.old) (row self.new) acts.new.items) }
+        ensures ports { OnOk result (Obeys (pulls 0) (port_state self.old) (port_state self.new) acts.new.items) }
         ensures gives { OnOk result (Turned (pulls 0) self.old acts.new.items self.new) }
         ensures room { acts.new.room ≡ acts.old.room }
     {
@@ -104,11 +104,11 @@ impl BufferLogic {
     pub fn on_finish(&mut self, port: u8, acts: &mut Acts) -> Result<(), NoMemory>
         requires open { self.old.phase ≡ Open }
         requires port { port ≡ 0 }
-        requires meets { Meets (arrives 0 item.Ended) (row self.old) }
+        requires meets { Meets (arrives 0 item.Ended) (port_state self.old) }
         requires empty { acts.old.items ≡ [] }
         requires room { 4 ≤ acts.old.room }
         ensures answers { IsOk result }
-        ensures ports { OnOk result (Obeys (arrives 0 item.Ended) (row self.old) (row self.new) acts.new.items) }
+        ensures ports { OnOk result (Obeys (arrives 0 item.Ended) (port_state self.old) (port_state self.new) acts.new.items) }
         ensures gives { OnOk result (Turned (arrives 0 item.Ended) self.old acts.new.items self.new) }
         ensures room { acts.new.room ≡ acts.old.room }
     {
@@ -124,11 +124,11 @@ impl BufferLogic {
     pub fn on_fail(&mut self, port: u8, cause: Cause, acts: &mut Acts) -> Result<(), NoMemory>
         requires open { self.old.phase ≡ Open }
         requires port { port ≡ 0 }
-        requires meets { Meets (arrives 0 (item.Failed cause)) (row self.old) }
+        requires meets { Meets (arrives 0 (item.Failed cause)) (port_state self.old) }
         requires empty { acts.old.items ≡ [] }
         requires room { 4 ≤ acts.old.room }
         ensures answers { IsOk result }
-        ensures ports { OnOk result (Obeys (arrives 0 (item.Failed cause)) (row self.old) (row self.new) acts.new.items) }
+        ensures ports { OnOk result (Obeys (arrives 0 (item.Failed cause)) (port_state self.old) (port_state self.new) acts.new.items) }
         ensures gives { OnOk result (Turned (arrives 0 (item.Failed cause)) self.old acts.new.items self.new) }
         ensures room { acts.new.room ≡ acts.old.room }
     {
@@ -141,11 +141,11 @@ impl BufferLogic {
     pub fn on_cancel(&mut self, port: u8, acts: &mut Acts) -> Result<(), NoMemory>
         requires open { self.old.phase ≡ Open }
         requires port { port ≡ 0 }
-        requires meets { Meets (cancels 0) (row self.old) }
+        requires meets { Meets (cancels 0) (port_state self.old) }
         requires empty { acts.old.items ≡ [] }
         requires room { 4 ≤ acts.old.room }
         ensures answers { IsOk result }
-        ensures ports { OnOk result (Obeys (cancels 0) (row self.old) (row self.new) acts.new.items) }
+        ensures ports { OnOk result (Obeys (cancels 0) (port_state self.old) (port_state self.new) acts.new.items) }
         ensures gives { OnOk result (Turned (cancels 0) self.old acts.new.items self.new) }
         ensures room { acts.new.room ≡ acts.old.room }
     {
@@ -161,11 +161,11 @@ impl BufferLogic {
     pub fn on_push(&mut self, port: u8, e: Elem, acts: &mut Acts) -> Result<(), NoMemory>
         requires open { self.old.phase ≡ Open }
         requires port { port ≡ 0 }
-        requires meets { Meets (arrives 0 (item.Elem e)) (row self.old) }
+        requires meets { Meets (arrives 0 (item.Elem e)) (port_state self.old) }
         requires empty { acts.old.items ≡ [] }
         requires room { 4 ≤ acts.old.room }
         ensures answers { IsOk result }
-        ensures ports { OnOk result (Obeys (arrives 0 (item.Elem e)) (row self.old) (row self.new) acts.new.items) }
+        ensures ports { OnOk result (Obeys (arrives 0 (item.Elem e)) (port_state self.old) (port_state self.new) acts.new.items) }
         ensures gives { OnOk result (Turned (arrives 0 (item.Elem e)) self.old acts.new.items self.new) }
         ensures room { acts.new.room ≡ acts.old.room }
     {

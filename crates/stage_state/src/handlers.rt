@@ -1,6 +1,6 @@
 // A stage with state as the interpreter calls it: its calls keep the law of its output over its whole history.
 ghost use Rattle.std.specs.Prelude.{[], false, ⊤};
-ghost use Rattle.stage_state.specs.Handling.{StateFresh, StateRow, StateLaw};
+ghost use Rattle.stage_state.specs.Handling.{StateFresh, StatePortState, StateLaw};
 ghost use Rattle.stage_state.specs.Moves.{state_moves};
 
 use crate::laws::a_called_stage_is_open;
@@ -15,7 +15,7 @@ use std::alloc::Global;
 impl Stage for StateLogic {
     ghost fresh = { StateFresh };
 
-    ghost rests = { StateRow };
+    ghost port_state = { StatePortState };
 
     ghost law = { StateLaw };
 

@@ -6,7 +6,7 @@ ghost use Rattle.stage_state.specs.declared.machine.Part.TheVariants.{Keep};
 ghost use Rattle.stream_model.specs.Linear.{scanning};
 ghost use Rattle.elem_core.specs.Values.{fold_zero};
 ghost use Rattle.stage_keeping.specs.Keeping.{work_in};
-ghost use Rattle.stage_state.specs.States.{Begins, IsMachine, new_keep, row, Turned};
+ghost use Rattle.stage_state.specs.States.{Begins, IsMachine, new_keep, port_state, Turned};
 
 use crate::buffer::BufferLogic;
 use crate::keep::KeepLogic;
@@ -76,11 +76,11 @@ impl MachineLogic {
     /// The run begins.
     pub fn start(&mut self, acts: &mut Acts) -> Result<(), NoMemory>
         requires new { self.old.phase ≡ New }
-        requires meets { Meets starts (row self.old) }
+        requires meets { Meets starts (port_state self.old) }
         requires empty { acts.old.items ≡ [] }
         requires room { 4 ≤ acts.old.room }
         ensures answers { IsOk result }
-        ensures ports { OnOk result (Obeys starts (row self.old) (row self.new) acts.new.items) }
+        ensures ports { OnOk result (Obeys starts (port_state self.old) (port_state self.new) acts.new.items) }
         ensures gives { OnOk result (Turned starts self.old acts.new.items self.new) }
         ensures room { acts.new.room ≡ acts.old.room }
     {
@@ -100,10 +100,10 @@ impl MachineLogic {
     ) -> Result<(), NoMemory>
         requires open { self.old.phase ≡ Open }
         requires port { port ≡ 0 }
-        requires meets { Meets (arrives 0 (item.Elem e)) (row self.old) }
+        requires meets { Meets (arrives 0 (item.Elem e)) (port_state self.old) }
         requires empty { acts.old.items ≡ [] }
         requires room { 4 ≤ acts.old.room }
-        ensures ports { OnOk result (Obeys (arrives 0 (item.Elem e)) (row self.old) (row self.new) acts.new.items) }
+        ensures ports { OnOk result (Obeys (arrives 0 (item.Elem e)) (port_state self.old) (port_state self.new) acts.new.items) }
         ensures gives { OnOk result (Turned (arrives 0 (item.Elem e)) self.old acts.new.items self.new) }
         ensures room { acts.new.room ≡ acts.old.room }
     {
@@ -117,11 +117,11 @@ impl MachineLogic {
     pub fn on_pull(&mut self, port: u8, acts: &mut Acts) -> Result<(), NoMemory>
         requires open { self.old.phase ≡ Open }
         requires port { port ≡ 0 }
-        requires meets { Meets (pulls 0) (row self.old) }
+        requires meets { Meets (pulls 0) (port_state self.old) }
         requires empty { acts.old.items ≡ [] }
         requires room { 4 ≤ acts.old.room }
         ensures answers { IsOk result }
-        ensures ports { OnOk result (Obeys (pulls 0) (row self.old) (row self.new) acts.new.items) }
+        ensures ports { OnOk result (Obeys (pulls 0) (port_state self.old) (port_state self.new) acts.new.items) }
         ensures gives { OnOk result (Turned (pulls 0) self.old acts.new.items self.new) }
         ensures room { acts.new.room ≡ acts.old.room }
     {
@@ -135,11 +135,11 @@ impl MachineLogic {
     pub fn on_finish(&mut self, alloc: Global, port: u8, acts: &mut Acts) -> Result<(), NoMemory>
         requires open { self.old.phase ≡ Open }
         requires port { port ≡ 0 }
-        requires meets { Meets (arrives 0 item.Ended) (row self.old) }
+        requires meets { Meets (arrives 0 item.Ended) (port_state self.old) }
         requires empty { acts.old.items ≡ [] }
         requires room { 4 ≤ acts.old.room }
         ensures answers { IsOk result }
-        ensures ports { OnOk result (Obeys (arrives 0 item.Ended) (row self.old) (row self.new) acts.new.items) }
+        ensures ports { OnOk result (Obeys (arrives 0 item.Ended) (port_state self.old) (port_state self.new) acts.new.items) }
         ensures gives { OnOk result (Turned (arrives 0 item.Ended) self.old acts.new.items self.new) }
         ensures room { acts.new.room ≡ acts.old.room }
     {
@@ -153,11 +153,11 @@ impl MachineLogic {
     pub fn on_fail(&mut self, port: u8, cause: Cause, acts: &mut Acts) -> Result<(), NoMemory>
         requires open { self.old.phase ≡ Open }
         requires port { port ≡ 0 }
-        requires meets { Meets (arrives 0 (item.Failed cause)) (row self.old) }
+        requires meets { Meets (arrives 0 (item.Failed cause)) (port_state self.old) }
         requires empty { acts.old.items ≡ [] }
         requires room { 4 ≤ acts.old.room }
         ensures answers { IsOk result }
-        ensures ports { OnOk result (Obeys (arrives 0 (item.Failed cause)) (row self.old) (row self.new) acts.new.items) }
+        ensures ports { OnOk result (Obeys (arrives 0 (item.Failed cause)) (port_state self.old) (port_state self.new) acts.new.items) }
         ensures gives { OnOk result (Turned (arrives 0 (item.Failed cause)) self.old acts.new.items self.new) }
         ensures room { acts.new.room ≡ acts.old.room }
     {
@@ -171,11 +171,11 @@ impl MachineLogic {
     pub fn on_cancel(&mut self, port: u8, acts: &mut Acts) -> Result<(), NoMemory>
         requires open { self.old.phase ≡ Open }
         requires port { port ≡ 0 }
-        requires meets { Meets (cancels 0) (row self.old) }
+        requires meets { Meets (cancels 0) (port_state self.old) }
         requires empty { acts.old.items ≡ [] }
         requires room { 4 ≤ acts.old.room }
         ensures answers { IsOk result }
-        ensures ports { OnOk result (Obeys (cancels 0) (row self.old) (row self.new) acts.new.items) }
+        ensures ports { OnOk result (Obeys (cancels 0) (port_state self.old) (port_state self.new) acts.new.items) }
         ensures gives { OnOk result (Turned (cancels 0) self.old acts.new.items self.new) }
         ensures room { acts.new.room ≡ acts.old.room }
     {

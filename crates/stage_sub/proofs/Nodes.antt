@@ -37,8 +37,8 @@ use Rattle.chain_core.specs.Means.{Means}
 use Rattle.stage_sub.specs.Joined.{items, untag, joined}
 use Rattle.stage_sub.specs.KeptSubs.{opening_of}
 use Rattle.stage_sub.specs.Moves.{port_in, noted, added, arising}
-use Rattle.stage_sub.specs.States.{Logic, row, row_in, OwesIn, Owes, Queues, Turned, Ready}
-use Rattle.stage_sub.specs.Handling.{sub_moves, IsUnmoved, ChoosesAs, ports_of, ready_of, SubFresh, SubRow, Tells, SubLaw}
+use Rattle.stage_sub.specs.States.{Logic, port_state, port_state_in, OwesIn, Owes, Queues, Turned, Ready}
+use Rattle.stage_sub.specs.Handling.{sub_moves, IsUnmoved, ChoosesAs, ports_of, ready_of, SubFresh, SubPortState, Tells, SubLaw}
 use Rattle.stage_sub.proofs.Telling.{told_then, told_still}
 use Rattle.stage_sub.proofs.Untagging.{state_untag}
 use Rattle.stage_sub.proofs.Rows.{called_open, first_call}
@@ -162,7 +162,7 @@ module _ {C : Type 0} (whole rest : C → ListFunction) (is_open : C → Bool) w
   closed_held f yields New l h = absurd h
   closed_held f yields Open l h = absurd h
 
-  none_shut : (f : ListFunction) (yields : List Tree → End → Given Tree) (call : Call) (l : Logic C) (v : View) → Owes rest is_open f yields l shut → row l v → CallAllowed call v → ⊥
+  none_shut : (f : ListFunction) (yields : List Tree → End → Given Tree) (call : Call) (l : Logic C) (v : View) → Owes rest is_open f yields l shut → port_state l v → CallAllowed call v → ⊥
   none_shut f yields call l v h r may =
       let c = closed_held f yields l.phase l h in
       let o = called_open l call v (λ e. cc) may r in
@@ -237,10 +237,10 @@ module _ {C : Type 0} (whole rest : C → ListFunction) (is_open : C → Bool) w
       tells_owing : (x : Run Subs Tree) → Owes rest is_open f yields old (owing x) → (law : OldLaw x)
           → ((ms : List ℕ) → old.moves ≡ Some ms → length ms ≡ length law.out_list)
           → ((ms : List ℕ) → old.moves ≡ Some ms → old.phase ≢ Closed → ports_of (ready law.in_list law.in_end) ≡ ms ++ ports_of old.pending)
-          → row old v → CallAllowed call v → ActsAllowed (seen call v) acts → (t : Turned whole rest is_open call old acts new)
+          → port_state old v → CallAllowed call v → ActsAllowed (seen call v) acts → (t : Turned whole rest is_open call old acts new)
           → (y : Held Subs) → Owes rest is_open f yields new y → TurnAt j 0 call (owing x) (given_on 0 acts) y → Queues (substreams yields o) call (owing x) old t.gave new → Later
       tells_owing x owes law counts queued r may allowed t y now turn queues =
-          let next = call_law j (untag start) 0 call (owing x) y v took gave acts (one_input (row_in old.phase old.over old.asked old.pending) v.ins v.outs r) may allowed turn law in
+          let next = call_law j (untag start) 0 call (owing x) y v took gave acts (one_input (port_state_in old.phase old.over old.asked old.pending) v.ins v.outs r) may allowed turn law in
           let out = told_then gave (gave ++ given_on 0 acts) (given_on 0 acts) law.out_list (items (option_to_list t.gave)) law.out_end t.closing next.out_list next.out_end law.gave_is law.keeps.0 t.out next.gave_is refl in
           let grown : ready next.in_list next.in_end ≡ ready law.in_list law.in_end ++ arising (substreams yields o) call x.state =
           call_ready yields o start call v law.in_list next.in_list law.in_end next.in_end x.state took (first_call rest is_open call old v may r) may law.took_as law.took_is next.took_is (λ u. owed_state x law u) in
@@ -258,7 +258,7 @@ module _ {C : Type 0} (whole rest : C → ListFunction) (is_open : C → Bool) w
             queued = λ ms e open_. let a = all ms e in a.ports ∙ ap (λ (l : List ℕ). ms ++ l) (a.held_still open_);
           }
 
-      tells_after : row old v → CallAllowed call v → ActsAllowed (seen call v) acts → Turned whole rest is_open call old acts new → old.how ≡ first.how → Same (whole old.chain) f → Means yields f
+      tells_after : port_state old v → CallAllowed call v → ActsAllowed (seen call v) acts → Turned whole rest is_open call old acts new → old.how ≡ first.how → Same (whole old.chain) f → Means yields f
           → Tells rest is_open f yields start first old v took gave → Later
       tells_after r may allowed t how same means tells = by_held tells.held tells.owes tells.law tells.counts tells.queued
         where
@@ -270,7 +270,7 @@ module _ {C : Type 0} (whole rest : C → ListFunction) (is_open : C → Bool) w
               let step = subst (λ h. (y : Held Subs) × (Owes rest is_open f yields new y × (TurnAt (joined yields (opening_of h)) 0 call (owing x) (given_on 0 acts) y × Queues (substreams yields (opening_of h)) call (owing x) old t.gave new))) how (t.turn f same yields means (owing x) owes) in
               tells_owing x owes law counts queued r may allowed t step.0 step.1.0 step.1.1.0 step.1.1.1
 
-  law_after : (call : Call) (first old new : Logic C) (v : View) (acts : List Act) (took gave : List (List Item)) → row old v → CallAllowed call v → ActsAllowed (seen call v) acts → Turned whole rest is_open call old acts new
+  law_after : (call : Call) (first old new : Logic C) (v : View) (acts : List Act) (took gave : List (List Item)) → port_state old v → CallAllowed call v → ActsAllowed (seen call v) acts → Turned whole rest is_open call old acts new
       → SubLaw rest is_open whole first old v took gave → SubLaw rest is_open whole first new (acted_all (seen call v) acts) (histories.brought_by call took) (histories.given_all acts gave)
   law_after call first old new v acts took gave r may allowed t law = record {
     took_list = law.took_list ++ brought_to 0 call;
@@ -285,8 +285,8 @@ module _ {C : Type 0} (whole rest : C → ListFunction) (is_open : C → Bool) w
         tells_after f yields start first call old new v acts law.took_list law.gave_list r may allowed t law.how (subst (λ (c : C). Same (whole c) f) (sym law.chain) same) means (law.tells f same yields means start owes);
   }
 
-  handled : (call : Call) (old new : Logic C) (acts : List Act) → Obeys call (row old) (row new) acts → Turned whole rest is_open call old acts new → Ready rest is_open new
-      → Handles (SubRow rest is_open) (SubLaw rest is_open whole) call old new acts
+  handled : (call : Call) (old new : Logic C) (acts : List Act) → Obeys call (port_state old) (port_state new) acts → Turned whole rest is_open call old acts new → Ready rest is_open new
+      → Handles (SubPortState rest is_open) (SubLaw rest is_open whole) call old new acts
   handled call old new acts o t ready = record {
     obeys = record {
       allowed = λ v may r. o.allowed v may r.row;
@@ -297,10 +297,10 @@ module _ {C : Type 0} (whole rest : C → ListFunction) (is_open : C → Bool) w
   }
 
   -- the same of an answer, and of the call that comes to its one input or output
-  pub handles : {T E : Type 0} (call : Call) (old new : Logic C) (acts : List Act) (r : Result T E) → Meets call (SubRow rest is_open old) → OnOk r (Obeys (at_first call) (row old) (row new) acts) → OnOk r (Turned whole rest is_open (at_first call) old acts new)
-      → OnOk r (Ready rest is_open new) → OnOk r (Handles (SubRow rest is_open) (SubLaw rest is_open whole) call old new acts)
+  pub handles : {T E : Type 0} (call : Call) (old new : Logic C) (acts : List Act) (r : Result T E) → Meets call (SubPortState rest is_open old) → OnOk r (Obeys (at_first call) (port_state old) (port_state new) acts) → OnOk r (Turned whole rest is_open (at_first call) old acts new)
+      → OnOk r (Ready rest is_open new) → OnOk r (Handles (SubPortState rest is_open) (SubLaw rest is_open whole) call old new acts)
   handles call old new acts r m o t k =
-      subst (λ c. OnOk r (Handles (SubRow rest is_open) (SubLaw rest is_open whole) c old new acts)) (first_call rest is_open call old m.0 m.1.0 m.1.1.row)
+      subst (λ c. OnOk r (Handles (SubPortState rest is_open) (SubLaw rest is_open whole) c old new acts)) (first_call rest is_open call old m.0 m.1.0 m.1.1.row)
       (on_ok_three r o t k (λ a b c. handled (at_first call) old new acts a b c))
 
   -- ---- the run begins
@@ -311,7 +311,7 @@ module _ {C : Type 0} (whole rest : C → ListFunction) (is_open : C → Bool) w
     gave_as : GaveAs y unended
     none : p ≡ []
 
-  new_ports : (p : Phase) (over asked : Bool) (k : List Tagged) (x : InView) (y : OutView) → p ≡ New → row_in p over asked k x y → News k x y
+  new_ports : (p : Phase) (over asked : Bool) (k : List Tagged) (x : InView) (y : OutView) → p ≡ New → port_state_in p over asked k x y → News k x y
   new_ports New false false k Idle outlet.Unpulled e r = record { took_as = refl; gave_as = refl; none = r }
   new_ports New false false k Idle outlet.Available e r = absurd r
   new_ports New false false k Idle outlet.Closed e r = absurd r
@@ -366,7 +366,7 @@ module _ {C : Type 0} (whole rest : C → ListFunction) (is_open : C → Bool) w
 
   fresh_law : (l : Logic C) (v : View) (took gave : List (List Item)) → SubFresh rest is_open l v → histories.AllEmpty took → histories.AllEmpty gave → length took ≡ length v.ins → length gave ≡ length v.outs → SubLaw rest is_open whole l l v took gave
   fresh_law l v took gave fresh a b m n =
-      let p = fresh_ports (row_in l.phase l.over l.asked l.pending) v.ins v.outs took gave fresh.row a b m n in
+      let p = fresh_ports (port_state_in l.phase l.over l.asked l.pending) v.ins v.outs took gave fresh.row a b m n in
       let news = new_ports l.phase l.over l.asked l.pending p.x p.y fresh.fresh p.holds in
       record {
         took_list = [];
@@ -380,7 +380,7 @@ module _ {C : Type 0} (whole rest : C → ListFunction) (is_open : C → Bool) w
         tells = λ f same yields means start owes. fresh_tells f yields start l v p.x p.y fresh.fresh fresh.unmoved news p.ins p.outs owes;
       }
 
-  started : (old new : Logic C) (acts : List Act) → Obeys starts (row old) (row new) acts → Turned whole rest is_open starts old acts new → Ready rest is_open new → Starts (SubRow rest is_open) (SubLaw rest is_open whole) (SubFresh rest is_open) old new acts
+  started : (old new : Logic C) (acts : List Act) → Obeys starts (port_state old) (port_state new) acts → Turned whole rest is_open starts old acts new → Ready rest is_open new → Starts (SubPortState rest is_open) (SubLaw rest is_open whole) (SubFresh rest is_open) old new acts
   started old new acts o t k = record {
     obeys = record {
       allowed = λ v may r. o.allowed v may r.row;
@@ -390,8 +390,8 @@ module _ {C : Type 0} (whole rest : C → ListFunction) (is_open : C → Bool) w
     begins = λ v took gave may r a b m n. law_after starts old old new v acts took gave r.row may (o.allowed v may r.row) t (fresh_law old v took gave r a b m n);
   }
 
-  pub starts_as : {T E : Type 0} (old new : Logic C) (acts : List Act) (r : Result T E) → OnOk r (Obeys starts (row old) (row new) acts) → OnOk r (Turned whole rest is_open starts old acts new) → OnOk r (Ready rest is_open new)
-      → OnOk r (Starts (SubRow rest is_open) (SubLaw rest is_open whole) (SubFresh rest is_open) old new acts)
+  pub starts_as : {T E : Type 0} (old new : Logic C) (acts : List Act) (r : Result T E) → OnOk r (Obeys starts (port_state old) (port_state new) acts) → OnOk r (Turned whole rest is_open starts old acts new) → OnOk r (Ready rest is_open new)
+      → OnOk r (Starts (SubPortState rest is_open) (SubLaw rest is_open whole) (SubFresh rest is_open) old new acts)
   starts_as old new acts r o t k = on_ok_three r o t k (λ a b c. started old new acts a b c)
 
   -- its moves only grow

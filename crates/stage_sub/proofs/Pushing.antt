@@ -29,7 +29,7 @@ use Rattle.stage_sub.specs.Subs.{fault_in_model}
 use Rattle.stage_sub.specs.Joined.{items, untag, joined}
 use Rattle.stage_sub.specs.KeptSubs.{KeptSubs, opening_of, Keeps, TakesBy}
 use Rattle.stage_sub.specs.Moves.{noted, port_in}
-use Rattle.stage_sub.specs.States.{Logic, row, row_in, Owes, Queues, Turned, cause_by, answered, answer_acts, answer_gave}
+use Rattle.stage_sub.specs.States.{Logic, port_state, port_state_in, Owes, Queues, Turned, cause_by, answered, answer_acts, answer_gave}
 use Rattle.stage_sub.specs.declared.opening.OpenBy.{OpenBy}
 use Rattle.stage_sub.specs.declared.blame.Blame.{Blame}
 use Rattle.stage_sub.specs.declared.blame.Blame.TheVariants.{AtElement, AtEnd}
@@ -41,7 +41,7 @@ pub record Waits {C : Type 0} (l : Logic C) : Type 0 where
   pub on : l.over ≡ false
   pub asks : l.asked ≡ true
 
-waits_at : {C : Type 0} (l : Logic C) (over asked : Bool) (p : List Tagged) (x : InView) (y : OutView) → x ≡ Pulled → l.over ≡ over → l.asked ≡ asked → l.pending ≡ p → row_in Open over asked p x y → Waits l
+waits_at : {C : Type 0} (l : Logic C) (over asked : Bool) (p : List Tagged) (x : InView) (y : OutView) → x ≡ Pulled → l.over ≡ over → l.asked ≡ asked → l.pending ≡ p → port_state_in Open over asked p x y → Waits l
 waits_at l false true p Pulled outlet.Available w a d b r = record { none = b ∙ r; on = a; asks = d }
 waits_at l false true p Pulled outlet.Unpulled w a d b r = absurd r
 waits_at l false true p Pulled outlet.Closed w a d b r = absurd r
@@ -49,22 +49,22 @@ waits_at l false true p Pulled outlet.Cancelled w a d b r = absurd r
 waits_at l false false p Pulled y w a d b r = absurd r
 waits_at l true asked p Pulled y w a d b r = by_asked asked r
   where
-    by_asked : (k : Bool) → row_in Open true k p Pulled y → Waits l
+    by_asked : (k : Bool) → port_state_in Open true k p Pulled y → Waits l
     by_asked true q = absurd q
     by_asked false q = absurd q
 waits_at l over asked p Idle y w a d b r = cc
 waits_at l over asked p Finished y w a d b r = cc
 waits_at l over asked p Cancelled y w a d b r = cc
 
-waits_in : {C : Type 0} (l : Logic C) (xs : List InView) (ys : List OutView) (t : Tree) → in_at (record { ins = xs; outs = ys }) 0 ≡ Pulled → OneOneOf (row_in Open l.over l.asked l.pending) xs ys → Waits l
+waits_in : {C : Type 0} (l : Logic C) (xs : List InView) (ys : List OutView) (t : Tree) → in_at (record { ins = xs; outs = ys }) 0 ≡ Pulled → OneOneOf (port_state_in Open l.over l.asked l.pending) xs ys → Waits l
 waits_in l (x ∷ []) (y ∷ []) t w r = waits_at l l.over l.asked l.pending x y w refl refl refl r
 waits_in l [] ys t w r = absurd r
 waits_in l (x ∷ []) [] t w r = absurd r
 waits_in l (x ∷ []) (y ∷ z ∷ ys) t w r = absurd r
 waits_in l (x ∷ u ∷ xs) ys t w r = absurd r
 
-pub waits : {C : Type 0} (l : Logic C) (t : Tree) → l.phase ≡ Open → Meets (arrives 0 (item.Elem t)) (row l) → Waits l
-waits l t h m = waits_in l m.0.ins m.0.outs t m.1.0 (subst (λ p. OneOneOf (row_in p l.over l.asked l.pending) m.0.ins m.0.outs) h m.1.1)
+pub waits : {C : Type 0} (l : Logic C) (t : Tree) → l.phase ≡ Open → Meets (arrives 0 (item.Elem t)) (port_state l) → Waits l
+waits l t h m = waits_in l m.0.ins m.0.outs t m.1.0 (subst (λ p. OneOneOf (port_state_in p l.over l.asked l.pending) m.0.ins m.0.outs) h m.1.1)
 
 -- ---- one step of the machine
 

@@ -23,8 +23,8 @@ use Rattle.stage_linear.proofs.Rows.{may_come, closed_ports}
 use Rattle.stage_core.specs.declared.phase.Phase.{Phase}
 use Rattle.stage_core.specs.declared.phase.Phase.TheVariants.{New, Open, Closed}
 use Rattle.stage_sub.specs.Joined.{items}
-use Rattle.stage_sub.specs.Handling.{SubFresh, SubRow, GaveAll}
-use Rattle.stage_sub.specs.States.{Logic, row, row_in, StateIs, OwesIn, Owes, Ready}
+use Rattle.stage_sub.specs.Handling.{SubFresh, SubPortState, GaveAll}
+use Rattle.stage_sub.specs.States.{Logic, port_state, port_state_in, StateIs, OwesIn, Owes, Ready}
 
 -- ---- where it is called
 
@@ -34,33 +34,33 @@ some_open (pulls j) x y h = may_come (pulls j) x y (λ e. cc) h
 some_open (arrives i b) x y h = may_come (arrives i b) x y (λ e. cc) h
 some_open (cancels j) x y h = may_come (cancels j) x y (λ e. cc) h
 
-open_at : (p : Phase) (over asked : Bool) (k : List Tagged) (x : InView) (y : OutView) → (p ≡ New → ⊥) → (IsInOpen x ⊎ IsOutOpen y) → row_in p over asked k x y → p ≡ Open
+open_at : (p : Phase) (over asked : Bool) (k : List Tagged) (x : InView) (y : OutView) → (p ≡ New → ⊥) → (IsInOpen x ⊎ IsOutOpen y) → port_state_in p over asked k x y → p ≡ Open
 open_at Open over asked k x y n h r = refl
 open_at New over asked k x y n h r = absurd (n refl)
 open_at Closed over asked k x y n h r = absurd (closed_ports x y h r)
 
-open_lists : (p : Phase) (over asked : Bool) (k : List Tagged) (call : Call) (xs : List InView) (ys : List OutView) → (p ≡ New → ⊥) → CallAllowed call (record { ins = xs; outs = ys }) → OneOneOf (row_in p over asked k) xs ys → p ≡ Open
+open_lists : (p : Phase) (over asked : Bool) (k : List Tagged) (call : Call) (xs : List InView) (ys : List OutView) → (p ≡ New → ⊥) → CallAllowed call (record { ins = xs; outs = ys }) → OneOneOf (port_state_in p over asked k) xs ys → p ≡ Open
 open_lists p over asked k call (x ∷ []) (y ∷ []) n h r = open_at p over asked k x y n (some_open call x y h) r
 open_lists p over asked k call [] ys n h r = absurd r
 open_lists p over asked k call (x ∷ []) [] n h r = absurd r
 open_lists p over asked k call (x ∷ []) (y ∷ z ∷ ys) n h r = absurd r
 open_lists p over asked k call (x ∷ u ∷ xs) ys n h r = absurd r
 
-pub called_open : {C : Type 0} (l : Logic C) (call : Call) (v : View) → (l.phase ≡ New → ⊥) → CallAllowed call v → row l v → l.phase ≡ Open
+pub called_open : {C : Type 0} (l : Logic C) (call : Call) (v : View) → (l.phase ≡ New → ⊥) → CallAllowed call v → port_state l v → l.phase ≡ Open
 called_open l call v n h r = open_lists l.phase l.over l.asked l.pending call v.ins v.outs n h r
 
 -- a call is of its one input or output
 module _ {C : Type 0} (rest : C → ListFunction) (is_open : C → Bool) where
-  pub first_call : (call : Call) (l : Logic C) (v : View) → CallAllowed call v → row l v → at_first call ≡ call
-  first_call call l v h r = first_port (row_in l.phase l.over l.asked l.pending) call v h r
+  pub first_call : (call : Call) (l : Logic C) (v : View) → CallAllowed call v → port_state l v → at_first call ≡ call
+  first_call call l v h r = first_port (port_state_in l.phase l.over l.asked l.pending) call v h r
 
-  pub met_first : (call : Call) (l : Logic C) → Meets call (SubRow rest is_open l) → Meets (at_first call) (row l)
-  met_first call l m = subst (λ c. Meets c (row l)) (sym (first_call call l m.0 m.1.0 m.1.1.row)) (m.0, (m.1.0, m.1.1.row))
+  pub met_first : (call : Call) (l : Logic C) → Meets call (SubPortState rest is_open l) → Meets (at_first call) (port_state l)
+  met_first call l m = subst (λ c. Meets c (port_state l)) (sym (first_call call l m.0 m.1.0 m.1.1.row)) (m.0, (m.1.0, m.1.1.row))
 
-  pub met_open : (call : Call) (l : Logic C) → Meets call (SubRow rest is_open l) → l.phase ≡ Open
+  pub met_open : (call : Call) (l : Logic C) → Meets call (SubPortState rest is_open l) → l.phase ≡ Open
   met_open call l m = called_open l call m.0 m.1.1.started m.1.0 m.1.1.row
 
-  pub met_ready : (call : Call) (l : Logic C) → Meets call (SubRow rest is_open l) → Ready rest is_open l
+  pub met_ready : (call : Call) (l : Logic C) → Meets call (SubPortState rest is_open l) → Ready rest is_open l
   met_ready call l m = m.1.1.ready
 
   pub fresh_new : (l : Logic C) → Meets starts (SubFresh rest is_open l) → l.phase ≡ New
@@ -69,7 +69,7 @@ module _ {C : Type 0} (rest : C → ListFunction) (is_open : C → Bool) where
   pub fresh_ready : (l : Logic C) → Meets starts (SubFresh rest is_open l) → Ready rest is_open l
   fresh_ready l m = m.1.1.ready
 
-  pub met_fresh : (l : Logic C) → Meets starts (SubFresh rest is_open l) → Meets starts (row l)
+  pub met_fresh : (l : Logic C) → Meets starts (SubFresh rest is_open l) → Meets starts (port_state l)
   met_fresh l m = (m.0, (m.1.0, m.1.1.row))
 
 -- ---- where it has nothing to do
@@ -82,7 +82,7 @@ module _ {C : Type 0} (rest : C → ListFunction) (is_open : C → Bool) (f : Li
   waiting_held l (owing x) o none law = waiting x (o.0 ∙ ap items none) law
   waiting_held l shut o none law = absurd o
 
-  at_ports : (l : Logic C) (h : Held Subs) (p : Phase) (over asked : Bool) (x : InView) (y : OutView) → (p ≡ New → ⊥) → OwesIn rest is_open f yields p l h → row_in p over asked l.pending x y → (law : Law m start h x y took gave) → OwnRests m start true x y law.in_list law.out_list
+  at_ports : (l : Logic C) (h : Held Subs) (p : Phase) (over asked : Bool) (x : InView) (y : OutView) → (p ≡ New → ⊥) → OwesIn rest is_open f yields p l h → port_state_in p over asked l.pending x y → (law : Law m start h x y took gave) → OwnRests m start true x y law.in_list law.out_list
   at_ports l h New over asked x y n o r law = absurd (n refl)
   at_ports l h Closed over asked x y n o r law = closed_rests m start true x y law.in_list law.out_list r
   at_ports l h Open false true Pulled outlet.Available n o r law = waiting_held l h o r law
@@ -108,7 +108,7 @@ module _ {C : Type 0} (rest : C → ListFunction) (is_open : C → Bool) (f : Li
   at_ports l h Open true false Cancelled y n o r law = absurd r
   at_ports l h Open true true x y n o r law = absurd r
 
-  at_lists : (l : Logic C) (h : Held Subs) (xs : List InView) (ys : List OutView) → (l.phase ≡ New → ⊥) → Owes rest is_open f yields l h → OneOneOf (row_in l.phase l.over l.asked l.pending) xs ys
+  at_lists : (l : Logic C) (h : Held Subs) (xs : List InView) (ys : List OutView) → (l.phase ≡ New → ⊥) → Owes rest is_open f yields l h → OneOneOf (port_state_in l.phase l.over l.asked l.pending) xs ys
       → (law : Law m start h (slice_index_or xs 0 Cancelled) (slice_index_or ys 0 outlet.Closed) took gave) → OwnRests m start true (slice_index_or xs 0 Cancelled) (slice_index_or ys 0 outlet.Closed) law.in_list law.out_list
   at_lists l h (x ∷ []) (y ∷ []) n o r law = at_ports l h l.phase l.over l.asked x y n o r law
   at_lists l h [] ys n o r law = absurd r
@@ -116,7 +116,7 @@ module _ {C : Type 0} (rest : C → ListFunction) (is_open : C → Bool) (f : Li
   at_lists l h (x ∷ []) (y ∷ z ∷ ys) n o r law = absurd r
   at_lists l h (x ∷ w ∷ xs) ys n o r law = absurd r
 
-  pub started_rests : (l : Logic C) (h : Held Subs) (v : View) → (l.phase ≡ New → ⊥) → Owes rest is_open f yields l h → row l v → (law : Law m start h (in_at v 0) (out_at v 0) took gave) → OwnRests m start true (in_at v 0) (out_at v 0) law.in_list law.out_list
+  pub started_rests : (l : Logic C) (h : Held Subs) (v : View) → (l.phase ≡ New → ⊥) → Owes rest is_open f yields l h → port_state l v → (law : Law m start h (in_at v 0) (out_at v 0) took gave) → OwnRests m start true (in_at v 0) (out_at v 0) law.in_list law.out_list
   started_rests l h v n o r law = at_lists l h v.ins v.outs n o r law
 
   -- ---- where it waits for its input
@@ -137,7 +137,7 @@ module _ {C : Type 0} (rest : C → ListFunction) (is_open : C → Bool) (f : Li
       let s = subst (λ (b : Bool). StateIs rest is_open f yields b l x.state) w o.1 in
       gave_run x s.0 (o.0 ∙ ap items none) s.1.0 law
 
-  gave_ports : (l : Logic C) (h : Held Subs) (p : Phase) (over asked : Bool) (x : InView) (y : OutView) → (p ≡ New → ⊥) → l.over ≡ over → OwesIn rest is_open f yields p l h → row_in p over asked l.pending x y → x ≡ Pulled → (law : Law m start h x y took gave) → GaveAll m start y law.in_list law.out_list
+  gave_ports : (l : Logic C) (h : Held Subs) (p : Phase) (over asked : Bool) (x : InView) (y : OutView) → (p ≡ New → ⊥) → l.over ≡ over → OwesIn rest is_open f yields p l h → port_state_in p over asked l.pending x y → x ≡ Pulled → (law : Law m start h x y took gave) → GaveAll m start y law.in_list law.out_list
   gave_ports l h New over asked x y n w o r e law = absurd (n refl)
   gave_ports l h Closed over asked Pulled y n w o r e law = absurd r
   gave_ports l h Open false true Pulled outlet.Available n w o r e law = gave_held l h w o r law
@@ -151,7 +151,7 @@ module _ {C : Type 0} (rest : C → ListFunction) (is_open : C → Bool) (f : Li
   gave_ports l h p over asked Finished y n w o r e law = cc
   gave_ports l h p over asked Cancelled y n w o r e law = cc
 
-  gave_lists : (l : Logic C) (h : Held Subs) (xs : List InView) (ys : List OutView) → (l.phase ≡ New → ⊥) → Owes rest is_open f yields l h → OneOneOf (row_in l.phase l.over l.asked l.pending) xs ys → slice_index_or xs 0 Cancelled ≡ Pulled
+  gave_lists : (l : Logic C) (h : Held Subs) (xs : List InView) (ys : List OutView) → (l.phase ≡ New → ⊥) → Owes rest is_open f yields l h → OneOneOf (port_state_in l.phase l.over l.asked l.pending) xs ys → slice_index_or xs 0 Cancelled ≡ Pulled
       → (law : Law m start h (slice_index_or xs 0 Cancelled) (slice_index_or ys 0 outlet.Closed) took gave) → GaveAll m start (slice_index_or ys 0 outlet.Closed) law.in_list law.out_list
   gave_lists l h (x ∷ []) (y ∷ []) n o r e law = gave_ports l h l.phase l.over l.asked x y n refl o r e law
   gave_lists l h [] ys n o r e law = absurd r
@@ -159,5 +159,5 @@ module _ {C : Type 0} (rest : C → ListFunction) (is_open : C → Bool) (f : Li
   gave_lists l h (x ∷ []) (y ∷ z ∷ ys) n o r e law = absurd r
   gave_lists l h (x ∷ w ∷ xs) ys n o r e law = absurd r
 
-  pub waiting_gave : (l : Logic C) (h : Held Subs) (v : View) → (l.phase ≡ New → ⊥) → Owes rest is_open f yields l h → row l v → in_at v 0 ≡ Pulled → (law : Law m start h (in_at v 0) (out_at v 0) took gave) → GaveAll m start (out_at v 0) law.in_list law.out_list
+  pub waiting_gave : (l : Logic C) (h : Held Subs) (v : View) → (l.phase ≡ New → ⊥) → Owes rest is_open f yields l h → port_state l v → in_at v 0 ≡ Pulled → (law : Law m start h (in_at v 0) (out_at v 0) took gave) → GaveAll m start (out_at v 0) law.in_list law.out_list
   waiting_gave l h v n o r e law = gave_lists l h v.ins v.outs n o r e law

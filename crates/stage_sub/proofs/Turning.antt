@@ -27,7 +27,7 @@ use Rattle.stage_sub.specs.Subs.{Reaches, fault_in_model}
 use Rattle.stage_sub.specs.Joined.{items, untag_finish, joined}
 use Rattle.stage_sub.specs.KeptSubs.{KeptSubs, opening_of, Keeps}
 use Rattle.stage_sub.specs.Moves.{noted, port_in, first_of, added, arising}
-use Rattle.stage_sub.specs.States.{Logic, row, row_in, StateIs, Owes, Queues, Turned, cause_by, pulled, pulled_acts, finished, finish_acts, finish_gave, cancel_acts}
+use Rattle.stage_sub.specs.States.{Logic, port_state, port_state_in, StateIs, Owes, Queues, Turned, cause_by, pulled, pulled_acts, finished, finish_acts, finish_gave, cancel_acts}
 use Rattle.stage_sub.specs.declared.opening.OpenBy.{OpenBy}
 use Rattle.stage_sub.specs.declared.blame.Blame.{Blame}
 use Rattle.stage_sub.specs.declared.blame.Blame.TheVariants.{AtElement, AtEnd}
@@ -35,7 +35,7 @@ use Rattle.stage_sub.proofs.Pushing.{of_parts}
 
 -- ---- where an end may come, the input has not ended
 
-opens_at : {C : Type 0} (l : Logic C) (over asked : Bool) (p : List Tagged) (x : InView) (y : OutView) → IsInOpen x → l.over ≡ over → row_in Open over asked p x y → l.over ≡ false
+opens_at : {C : Type 0} (l : Logic C) (over asked : Bool) (p : List Tagged) (x : InView) (y : OutView) → IsInOpen x → l.over ≡ over → port_state_in Open over asked p x y → l.over ≡ false
 opens_at l false asked p x y w a r = a
 opens_at l true asked p Finished y w a r = absurd w
 opens_at l true asked p Cancelled y w a r = absurd w
@@ -44,18 +44,18 @@ opens_at l true false p Idle y w a r = absurd r
 opens_at l true true p Pulled y w a r = absurd r
 opens_at l true false p Pulled y w a r = absurd r
 
-opens_in : {C : Type 0} (l : Logic C) (xs : List InView) (ys : List OutView) → IsInOpen (in_at (record { ins = xs; outs = ys }) 0) → OneOneOf (row_in Open l.over l.asked l.pending) xs ys → l.over ≡ false
+opens_in : {C : Type 0} (l : Logic C) (xs : List InView) (ys : List OutView) → IsInOpen (in_at (record { ins = xs; outs = ys }) 0) → OneOneOf (port_state_in Open l.over l.asked l.pending) xs ys → l.over ≡ false
 opens_in l (x ∷ []) (y ∷ []) w r = opens_at l l.over l.asked l.pending x y w refl r
 opens_in l [] ys w r = absurd r
 opens_in l (x ∷ []) [] w r = absurd r
 opens_in l (x ∷ []) (y ∷ z ∷ ys) w r = absurd r
 opens_in l (x ∷ u ∷ xs) ys w r = absurd r
 
-pub goes_on : {C : Type 0} (l : Logic C) → l.phase ≡ Open → Meets (arrives 0 item.Ended) (row l) → l.over ≡ false
-goes_on l h m = opens_in l m.0.ins m.0.outs m.1.0 (subst (λ p. OneOneOf (row_in p l.over l.asked l.pending) m.0.ins m.0.outs) h m.1.1)
+pub goes_on : {C : Type 0} (l : Logic C) → l.phase ≡ Open → Meets (arrives 0 item.Ended) (port_state l) → l.over ≡ false
+goes_on l h m = opens_in l m.0.ins m.0.outs m.1.0 (subst (λ p. OneOneOf (port_state_in p l.over l.asked l.pending) m.0.ins m.0.outs) h m.1.1)
 
-pub goes_on_still : {C : Type 0} (l : Logic C) (c : Cause) → l.phase ≡ Open → Meets (arrives 0 (item.Failed c)) (row l) → l.over ≡ false
-goes_on_still l c h m = opens_in l m.0.ins m.0.outs m.1.0 (subst (λ p. OneOneOf (row_in p l.over l.asked l.pending) m.0.ins m.0.outs) h m.1.1)
+pub goes_on_still : {C : Type 0} (l : Logic C) (c : Cause) → l.phase ≡ Open → Meets (arrives 0 (item.Failed c)) (port_state l) → l.over ≡ false
+goes_on_still l c h m = opens_in l m.0.ins m.0.outs m.1.0 (subst (λ p. OneOneOf (port_state_in p l.over l.asked l.pending) m.0.ins m.0.outs) h m.1.1)
 
 opened_state : {C : Type 0} (rest : C → ListFunction) (is_open : C → Bool) (node n : ℕ) (how : OpenBy) (chain : C) (ms : Option (List ℕ)) (f : ListFunction) (yields : List Tree → End → Given Tree) (kept : KeptSubs C) (p : List Tagged) (asked over : Bool) (st : State Subs)
     → StateIs rest is_open f yields over (of_parts New node n how chain kept p asked over ms) st → StateIs rest is_open f yields over (of_parts Open node n how chain kept p asked over ms) st

@@ -22,7 +22,7 @@ use Rattle.chain_core.specs.Means.{Means}
 use Rattle.stage_sub.specs.declared.opening.OpenBy.TheVariants.{Before, Behind, Key}
 use Rattle.stage_sub.specs.Joined.{untag, joined}
 use Rattle.stage_sub.specs.KeptSubs.{opening_of}
-use Rattle.stage_sub.specs.States.{Logic, row, Owes, Ready, begun}
+use Rattle.stage_sub.specs.States.{Logic, port_state, Owes, Ready, begun}
 
 -- the moves that it has recorded, where its substreams are joined by `merge`
 abbrev pub sub_picks : {C : Type 0} → Logic C → Option (List ℕ)
@@ -57,13 +57,13 @@ module _ {C : Type 0} (rest : C → ListFunction) (is_open : C → Bool) where
     pub fresh : l.phase ≡ New
     pub unmoved : IsUnmoved l.moves
     pub ready : Ready rest is_open l
-    pub row : row l v
+    pub row : port_state l v
 
   -- it was started, its chains may be called, and its row holds
-  pub record SubRow (l : Logic C) (v : View) : Type 0 where
+  pub record SubPortState (l : Logic C) (v : View) : Type 0 where
     pub started : l.phase ≢ New
     pub ready : Ready rest is_open l
-    pub row : row l v
+    pub row : port_state l v
 
   -- At what a chain with the list function f yields in the model, from a start that the first one owed: what it owes now, the law
   -- of the machine that joins its substreams, and that the moves of a merge are the substreams of what it gave, in order. While

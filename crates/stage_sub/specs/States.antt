@@ -60,16 +60,16 @@ begun node how moves chain = record {
 
 -- its row: before its start nobody asked; then it asks where its output is asked and nothing is held; once its input has
 -- ended it holds something; or all is closed
-abbrev pub row_in : Phase → Bool → Bool → List Tagged → InView → OutView → Type 0
-row_in New false false p Idle Unpulled = p ≡ []
-row_in Open false true p Pulled Available = p ≡ []
-row_in Open false false p Idle Unpulled = ⊤
-row_in Open true false p Finished Unpulled = 0 < length p
-row_in Closed over asked p i o = BothClosed i o
-row_in _ _ _ _ _ _ = ⊥
+abbrev pub port_state_in : Phase → Bool → Bool → List Tagged → InView → OutView → Type 0
+port_state_in New false false p Idle Unpulled = p ≡ []
+port_state_in Open false true p Pulled Available = p ≡ []
+port_state_in Open false false p Idle Unpulled = ⊤
+port_state_in Open true false p Finished Unpulled = 0 < length p
+port_state_in Closed over asked p i o = BothClosed i o
+port_state_in _ _ _ _ _ _ = ⊥
 
-abbrev pub row : {C : Type 0} → Logic C → View → Type 0
-row l v = OneOne (row_in l.phase l.over l.asked l.pending) v
+abbrev pub port_state : {C : Type 0} → Logic C → View → Type 0
+port_state l v = OneOne (port_state_in l.phase l.over l.asked l.pending) v
 
 -- the cause of a failure at the n-th element
 abbrev pub cause_by : ℕ → ℕ → Blame → Cause

@@ -2,7 +2,7 @@
 // output and of its moves over its whole history.
 ghost use Rattle.std.specs.Prelude.{[], false, ⊤};
 ghost use Rattle.line_chain.specs.Line.{line_whole, line_rest, line_is_open};
-ghost use Rattle.stage_sub.specs.Handling.{SubFresh, SubRow, SubLaw, sub_moves};
+ghost use Rattle.stage_sub.specs.Handling.{SubFresh, SubPortState, SubLaw, sub_moves};
 
 use crate::logic::SubLogic;
 use elem_core::elem::Elem;
@@ -16,7 +16,7 @@ use std::alloc::Global;
 impl Stage for SubLogic<LineChain> {
     ghost fresh = { SubFresh line_rest line_is_open };
 
-    ghost rests = { SubRow line_rest line_is_open };
+    ghost port_state = { SubPortState line_rest line_is_open };
 
     ghost law = { SubLaw line_rest line_is_open line_whole };
 

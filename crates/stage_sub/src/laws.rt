@@ -15,8 +15,8 @@ ghost use Rattle.stage_law.specs.OwnPorts.{OwnRests};
 ghost use Rattle.stage_core.specs.declared.phase.Phase.TheVariants.{New, Open};
 ghost use Rattle.stage_sub.specs.Joined.{items, untag, joined};
 ghost use Rattle.stage_sub.specs.KeptSubs.{opening_of};
-ghost use Rattle.stage_sub.specs.Handling.{SubRow, Tells, GaveAll};
-ghost use Rattle.stage_sub.specs.States.{Logic, row, Owes, begun};
+ghost use Rattle.stage_sub.specs.Handling.{SubPortState, Tells, GaveAll};
+ghost use Rattle.stage_sub.specs.States.{Logic, port_state, Owes, begun};
 ghost use Rattle.stage_sub.specs.declared.opening.OpenBy.{OpenBy};
 
 use port_core::chain::Chain;
@@ -38,17 +38,17 @@ pub fn a_new_stage_owes_its_machine<C: Chain>()
 /// Where its row and its law hold, a stage that was started has closed both its ports, or has nothing to do: it waits for its
 /// input and has given all that it may, or nobody asks it, where it may hold outputs behind the end of its input.
 pub fn a_started_stage_rests<C: Chain>()
-    ensures { (f : ListFunction) (yields : List Tree → End → Given Tree) (start : Run Subs Tagged) (first now : Logic C) (v : View) (took gave : List Item) → SubRow C.rest C.is_open now v
+    ensures { (f : ListFunction) (yields : List Tree → End → Given Tree) (start : Run Subs Tagged) (first now : Logic C) (v : View) (took gave : List Item) → SubPortState C.rest C.is_open now v
         → (t : Tells C.rest C.is_open f yields start first now v took gave) → OwnRests (joined yields (opening_of first.how)) (untag start) true (in_at v 0) (out_at v 0) t.law.in_list t.law.out_list }
 {}
 
 /// A stage that waits for its input is asked, and it gave all that its machine gives for what it took, which goes on.
 pub fn a_waiting_stage_gave_all<C: Chain>()
-    ensures { (f : ListFunction) (yields : List Tree → End → Given Tree) (start : Run Subs Tagged) (first now : Logic C) (v : View) (took gave : List Item) → SubRow C.rest C.is_open now v
+    ensures { (f : ListFunction) (yields : List Tree → End → Given Tree) (start : Run Subs Tagged) (first now : Logic C) (v : View) (took gave : List Item) → SubPortState C.rest C.is_open now v
         → (t : Tells C.rest C.is_open f yields start first now v took gave) → in_at v 0 ≡ Pulled → GaveAll (joined yields (opening_of first.how)) (untag start) (out_at v 0) t.law.in_list t.law.out_list }
 {}
 
 /// Where the port rules allow a call of a handler and the row holds, a stage that was started is open.
 pub fn a_called_stage_is_open<C: Chain>()
-    ensures { (l : Logic C) (call : Call) (v : View) → l.phase ≢ New → call ≢ starts → CallAllowed call v → row l v → l.phase ≡ Open }
+    ensures { (l : Logic C) (call : Call) (v : View) → l.phase ≢ New → call ≢ starts → CallAllowed call v → port_state l v → l.phase ≡ Open }
 {}

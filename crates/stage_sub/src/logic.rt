@@ -4,7 +4,7 @@ ghost use Rattle.elem_core.specs.declared.item.Item.TheVariants as item;
 ghost use Rattle.port_core.specs.Call.{Obeys, Meets, starts, pulls, arrives, cancels};
 ghost use Rattle.stage_core.specs.declared.phase.Phase.TheVariants.{New, Open};
 ghost use Rattle.stage_sub.specs.Handling.{sub_picks, no_moves, IsSub, Begins};
-ghost use Rattle.stage_sub.specs.States.{begun, row, Turned, Ready};
+ghost use Rattle.stage_sub.specs.States.{begun, port_state, Turned, Ready};
 
 use crate::log::{log_of, make_room, note};
 use crate::opening::OpenBy;
@@ -75,12 +75,12 @@ impl<C: Chain> SubLogic<C> {
     /// The run begins.
     pub fn start(&mut self, acts: &mut Acts) -> Result<(), NoMemory>
         requires new { self.old.phase ≡ New }
-        requires meets { Meets starts (row self.old) }
+        requires meets { Meets starts (port_state self.old) }
         requires empty { acts.old.items ≡ [] }
         requires room { 4 ≤ acts.old.room }
         requires ready { Ready C.rest C.is_open self.old }
         ensures answers { IsOk result }
-        ensures ports { OnOk result (Obeys starts (row self.old) (row self.new) acts.new.items) }
+        ensures ports { OnOk result (Obeys starts (port_state self.old) (port_state self.new) acts.new.items) }
         ensures gives { OnOk result (Turned C.whole C.rest C.is_open starts self.old acts.new.items self.new) }
         ensures ready { OnOk result (Ready C.rest C.is_open self.new) }
         ensures room { acts.new.room ≡ acts.old.room }
@@ -93,11 +93,11 @@ impl<C: Chain> SubLogic<C> {
     pub fn on_pull(&mut self, port: u8, acts: &mut Acts) -> Result<(), NoMemory>
         requires open { self.old.phase ≡ Open }
         requires port { port ≡ 0 }
-        requires meets { Meets (pulls 0) (row self.old) }
+        requires meets { Meets (pulls 0) (port_state self.old) }
         requires empty { acts.old.items ≡ [] }
         requires room { 4 ≤ acts.old.room }
         requires ready { Ready C.rest C.is_open self.old }
-        ensures ports { OnOk result (Obeys (pulls 0) (row self.old) (row self.new) acts.new.items) }
+        ensures ports { OnOk result (Obeys (pulls 0) (port_state self.old) (port_state self.new) acts.new.items) }
         ensures gives { OnOk result (Turned C.whole C.rest C.is_open (pulls 0) self.old acts.new.items self.new) }
         ensures ready { OnOk result (Ready C.rest C.is_open self.new) }
         ensures room { acts.new.room ≡ acts.old.room }
@@ -112,12 +112,12 @@ impl<C: Chain> SubLogic<C> {
     pub fn on_fail(&mut self, port: u8, cause: Cause, acts: &mut Acts) -> Result<(), NoMemory>
         requires open { self.old.phase ≡ Open }
         requires port { port ≡ 0 }
-        requires meets { Meets (arrives 0 (item.Failed cause)) (row self.old) }
+        requires meets { Meets (arrives 0 (item.Failed cause)) (port_state self.old) }
         requires empty { acts.old.items ≡ [] }
         requires room { 4 ≤ acts.old.room }
         requires ready { Ready C.rest C.is_open self.old }
         ensures answers { IsOk result }
-        ensures ports { OnOk result (Obeys (arrives 0 (item.Failed cause)) (row self.old) (row self.new) acts.new.items) }
+        ensures ports { OnOk result (Obeys (arrives 0 (item.Failed cause)) (port_state self.old) (port_state self.new) acts.new.items) }
         ensures gives { OnOk result (Turned C.whole C.rest C.is_open (arrives 0 (item.Failed cause)) self.old acts.new.items self.new) }
         ensures ready { OnOk result (Ready C.rest C.is_open self.new) }
         ensures room { acts.new.room ≡ acts.old.room }
@@ -130,12 +130,12 @@ impl<C: Chain> SubLogic<C> {
     pub fn on_cancel(&mut self, port: u8, acts: &mut Acts) -> Result<(), NoMemory>
         requires open { self.old.phase ≡ Open }
         requires port { port ≡ 0 }
-        requires meets { Meets (cancels 0) (row self.old) }
+        requires meets { Meets (cancels 0) (port_state self.old) }
         requires empty { acts.old.items ≡ [] }
         requires room { 4 ≤ acts.old.room }
         requires ready { Ready C.rest C.is_open self.old }
         ensures answers { IsOk result }
-        ensures ports { OnOk result (Obeys (cancels 0) (row self.old) (row self.new) acts.new.items) }
+        ensures ports { OnOk result (Obeys (cancels 0) (port_state self.old) (port_state self.new) acts.new.items) }
         ensures gives { OnOk result (Turned C.whole C.rest C.is_open (cancels 0) self.old acts.new.items self.new) }
         ensures ready { OnOk result (Ready C.rest C.is_open self.new) }
         ensures room { acts.new.room ≡ acts.old.room }
@@ -148,11 +148,11 @@ impl<C: Chain> SubLogic<C> {
     pub fn on_finish(&mut self, alloc: Global, port: u8, acts: &mut Acts) -> Result<(), NoMemory>
         requires open { self.old.phase ≡ Open }
         requires port { port ≡ 0 }
-        requires meets { Meets (arrives 0 item.Ended) (row self.old) }
+        requires meets { Meets (arrives 0 item.Ended) (port_state self.old) }
         requires empty { acts.old.items ≡ [] }
         requires room { 4 ≤ acts.old.room }
         requires ready { Ready C.rest C.is_open self.old }
-        ensures ports { OnOk result (Obeys (arrives 0 item.Ended) (row self.old) (row self.new) acts.new.items) }
+        ensures ports { OnOk result (Obeys (arrives 0 item.Ended) (port_state self.old) (port_state self.new) acts.new.items) }
         ensures gives { OnOk result (Turned C.whole C.rest C.is_open (arrives 0 item.Ended) self.old acts.new.items self.new) }
         ensures ready { OnOk result (Ready C.rest C.is_open self.new) }
         ensures room { acts.new.room ≡ acts.old.room }
@@ -174,11 +174,11 @@ impl<C: Chain> SubLogic<C> {
     ) -> Result<(), NoMemory>
         requires open { self.old.phase ≡ Open }
         requires port { port ≡ 0 }
-        requires meets { Meets (arrives 0 (item.Elem e)) (row self.old) }
+        requires meets { Meets (arrives 0 (item.Elem e)) (port_state self.old) }
         requires empty { acts.old.items ≡ [] }
         requires room { 4 ≤ acts.old.room }
         requires ready { Ready C.rest C.is_open self.old }
-        ensures ports { OnOk result (Obeys (arrives 0 (item.Elem e)) (row self.old) (row self.new) acts.new.items) }
+        ensures ports { OnOk result (Obeys (arrives 0 (item.Elem e)) (port_state self.old) (port_state self.new) acts.new.items) }
         ensures gives { OnOk result (Turned C.whole C.rest C.is_open (arrives 0 (item.Elem e)) self.old acts.new.items self.new) }
         ensures ready { OnOk result (Ready C.rest C.is_open self.new) }
         ensures room { acts.new.room ≡ acts.old.room }

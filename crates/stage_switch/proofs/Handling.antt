@@ -28,8 +28,8 @@ use Rattle.stage_fans.proofs.Histories.{in_node, ins_seen, ins_acted, begun}
 use Rattle.stage_core.specs.declared.phase.Phase.{Phase}
 use Rattle.stage_core.specs.declared.phase.Phase.TheVariants.{New, Open, Closed}
 use Rattle.stage_switch.specs.Valves.{ValveHeld, passes, ValveTurnAt, ValveKeeps, ValveLaw}
-use Rattle.stage_switch.specs.States.{passing_row, Valve, Unmoved, valve_row, valve_held, valve_held_in, ValveTurned, brought, Trip, trip_row, trip_held, trip_held_in, trip_stage, TripTurned}
-use Rattle.stage_switch.specs.Handling.{ValveFresh, ValveRow, ValveAs, KeepsValve, elements, TripFresh, TripRow, TripAs, KeepsTrip}
+use Rattle.stage_switch.specs.States.{passing_port_state, Valve, Unmoved, valve_port_state, valve_held, valve_held_in, ValveTurned, brought, Trip, trip_port_state, trip_held, trip_held_in, trip_stage, TripTurned}
+use Rattle.stage_switch.specs.Handling.{ValveFresh, ValvePortState, ValveAs, KeepsValve, elements, TripFresh, TripPortState, TripAs, KeepsTrip}
 use Rattle.stage_switch.proofs.ValveTurns.{valve_new, valve_call}
 use Rattle.stage_switch.proofs.Rows.{called_valve, none_new, none_open}
 
@@ -51,7 +51,7 @@ valve_after call first old new v acts took gave may allowed t unmoved law = reco
   unmoved = unmoved;
 }
 
-pub valve_handled : (call : Call) (old new : Valve) (acts : List Act) → Obeys call (valve_row old) (valve_row new) acts → ValveTurned call old acts new → Handles ValveRow ValveAs call old new acts
+pub valve_handled : (call : Call) (old new : Valve) (acts : List Act) → Obeys call (valve_port_state old) (valve_port_state new) acts → ValveTurned call old acts new → Handles ValvePortState ValveAs call old new acts
 valve_handled call old new acts o t = record {
   obeys = record {
     allowed = λ v h r. o.allowed v h r.row;
@@ -62,7 +62,7 @@ valve_handled call old new acts o t = record {
 }
 
 -- its ports are open and not asked
-new_ports : (p : Phase) (x : InView) (y : OutView) → p ≡ New → passing_row p x y → (x ≡ Idle) × (y ≡ Unpulled)
+new_ports : (p : Phase) (x : InView) (y : OutView) → p ≡ New → passing_port_state p x y → (x ≡ Idle) × (y ≡ Unpulled)
 new_ports New Idle Unpulled e r = (refl, refl)
 new_ports New x y e r = absurd r
 new_ports Open x y e r = cc
@@ -70,7 +70,7 @@ new_ports Closed x y e r = cc
 
 valve_begun : (l : Valve) (v : View) (took gave : List (List Item)) → ValveFresh l v → histories.AllEmpty took → histories.AllEmpty gave → length took ≡ length v.ins → length gave ≡ length v.outs → ValveAs l l v took gave
 valve_begun l v took gave f a b m n =
-    let p = fresh_ports (passing_row l.phase) v.ins v.outs took gave f.row.0 a b m n in
+    let p = fresh_ports (passing_port_state l.phase) v.ins v.outs took gave f.row.0 a b m n in
     let ports = new_ports l.phase p.x p.y f.phase p.holds in
     let open_out : GaveAs (out_at v 0) unended = rw (p.outs, ports.1) refl in
     let idle : AllIdle v.ins = rw (p.ins, ports.0) (refl, tt) in
@@ -84,7 +84,7 @@ valve_begun l v took gave f a b m n =
       unmoved = f.row.1;
     }
 
-pub valve_started : (old new : Valve) (acts : List Act) → Obeys starts (valve_row old) (valve_row new) acts → ValveTurned starts old acts new → Starts ValveRow ValveAs ValveFresh old new acts
+pub valve_started : (old new : Valve) (acts : List Act) → Obeys starts (valve_port_state old) (valve_port_state new) acts → ValveTurned starts old acts new → Starts ValvePortState ValveAs ValveFresh old new acts
 valve_started old new acts o t = record {
   obeys = record {
     allowed = λ v h f. o.allowed v h f.row;
@@ -122,10 +122,10 @@ one_brought (arrives (suc i) b) v o h = by_list v.ins o h
     by_list [] o h = absurd (omega arith)
     by_list (x ∷ y ∷ xs) o h = absurd (omega arith)
 
-trip_after : (call : Call) (first old new : Trip) (v : View) (acts : List Act) (took gave : List (List Item)) → trip_row old v → CallAllowed call v → ActsAllowed (seen call v) acts → TripTurned call old acts new → TripAs first old v took gave
+trip_after : (call : Call) (first old new : Trip) (v : View) (acts : List Act) (took gave : List (List Item)) → trip_port_state old v → CallAllowed call v → ActsAllowed (seen call v) acts → TripTurned call old acts new → TripAs first old v took gave
     → TripAs first new (acted_all (seen call v) acts) (histories.brought_by call took) (histories.given_all acts gave)
 trip_after call first old new v acts took gave r h allowed t law =
-    let one = one_input (passing_row old.phase) v.ins v.outs r in
+    let one = one_input (passing_port_state old.phase) v.ins v.outs r in
     record {
       took_list = law.took_list ++ brought_to 0 call;
       gave_list = law.gave_list ++ given_on 0 acts;
@@ -140,7 +140,7 @@ trip_after call first old new v acts took gave r h allowed t law =
       trip = t.trip;
     }
 
-pub trip_handled : (call : Call) (old new : Trip) (acts : List Act) → Obeys call (trip_row old) (trip_row new) acts → TripTurned call old acts new → Handles TripRow TripAs call old new acts
+pub trip_handled : (call : Call) (old new : Trip) (acts : List Act) → Obeys call (trip_port_state old) (trip_port_state new) acts → TripTurned call old acts new → Handles TripPortState TripAs call old new acts
 trip_handled call old new acts o t = record {
   obeys = record {
     allowed = λ v h r. o.allowed v h r.row;
@@ -152,7 +152,7 @@ trip_handled call old new acts o t = record {
 
 trip_begun : (l : Trip) (v : View) (took gave : List (List Item)) → TripFresh l v → histories.AllEmpty took → histories.AllEmpty gave → length took ≡ length v.ins → length gave ≡ length v.outs → TripAs l l v took gave
 trip_begun l v took gave f a b m n =
-    let p = fresh_ports (passing_row l.phase) v.ins v.outs took gave f.row a b m n in
+    let p = fresh_ports (passing_port_state l.phase) v.ins v.outs took gave f.row a b m n in
     let ports = new_ports l.phase p.x p.y f.phase p.holds in
     let open_in : TookAs (in_at v 0) unended = rw (p.ins, ports.0) refl in
     let open_out : GaveAs (out_at v 0) unended = rw (p.outs, ports.1) refl in
@@ -172,7 +172,7 @@ trip_begun l v took gave f a b m n =
       trip = f.trip;
     }
 
-pub trip_started : (old new : Trip) (acts : List Act) → Obeys starts (trip_row old) (trip_row new) acts → TripTurned starts old acts new → Starts TripRow TripAs TripFresh old new acts
+pub trip_started : (old new : Trip) (acts : List Act) → Obeys starts (trip_port_state old) (trip_port_state new) acts → TripTurned starts old acts new → Starts TripPortState TripAs TripFresh old new acts
 trip_started old new acts o t = record {
   obeys = record {
     allowed = λ v h f. o.allowed v h f.row;
@@ -184,21 +184,21 @@ trip_started old new acts o t = record {
 
 -- ---- a call of a handler is of the one input or output
 
-pub valve_met : (call : Call) (l : Valve) → Meets call (ValveRow l) → Meets (at_first call) (valve_row l)
-valve_met call l m = subst (λ c. Meets c (valve_row l)) (sym (first_port (passing_row l.phase) call m.0 m.1.0 m.1.1.row.0)) (m.0, (m.1.0, m.1.1.row))
+pub valve_met : (call : Call) (l : Valve) → Meets call (ValvePortState l) → Meets (at_first call) (valve_port_state l)
+valve_met call l m = subst (λ c. Meets c (valve_port_state l)) (sym (first_port (passing_port_state l.phase) call m.0 m.1.0 m.1.1.row.0)) (m.0, (m.1.0, m.1.1.row))
 
-pub trip_met : (call : Call) (l : Trip) → Meets call (TripRow l) → Meets (at_first call) (trip_row l)
-trip_met call l m = subst (λ c. Meets c (trip_row l)) (sym (first_port (passing_row l.phase) call m.0 m.1.0 m.1.1.row)) (m.0, (m.1.0, m.1.1.row))
+pub trip_met : (call : Call) (l : Trip) → Meets call (TripPortState l) → Meets (at_first call) (trip_port_state l)
+trip_met call l m = subst (λ c. Meets c (trip_port_state l)) (sym (first_port (passing_port_state l.phase) call m.0 m.1.0 m.1.1.row)) (m.0, (m.1.0, m.1.1.row))
 
-pub valve_handles : {T E : Type 0} (call : Call) (old new : Valve) (acts : List Act) (r : Result T E) → Meets call (ValveRow old) → OnOk r (Obeys (at_first call) (valve_row old) (valve_row new) acts) → OnOk r (ValveTurned (at_first call) old acts new)
-    → OnOk r (Handles ValveRow ValveAs call old new acts)
+pub valve_handles : {T E : Type 0} (call : Call) (old new : Valve) (acts : List Act) (r : Result T E) → Meets call (ValvePortState old) → OnOk r (Obeys (at_first call) (valve_port_state old) (valve_port_state new) acts) → OnOk r (ValveTurned (at_first call) old acts new)
+    → OnOk r (Handles ValvePortState ValveAs call old new acts)
 valve_handles call old new acts r m o t =
-    subst (λ c. OnOk r (Handles ValveRow ValveAs c old new acts)) (first_port (passing_row old.phase) call m.0 m.1.0 m.1.1.row.0) (on_ok_two r o t (λ a b. valve_handled (at_first call) old new acts a b))
+    subst (λ c. OnOk r (Handles ValvePortState ValveAs c old new acts)) (first_port (passing_port_state old.phase) call m.0 m.1.0 m.1.1.row.0) (on_ok_two r o t (λ a b. valve_handled (at_first call) old new acts a b))
 
-pub trip_handles : {T E : Type 0} (call : Call) (old new : Trip) (acts : List Act) (r : Result T E) → Meets call (TripRow old) → OnOk r (Obeys (at_first call) (trip_row old) (trip_row new) acts) → OnOk r (TripTurned (at_first call) old acts new)
-    → OnOk r (Handles TripRow TripAs call old new acts)
+pub trip_handles : {T E : Type 0} (call : Call) (old new : Trip) (acts : List Act) (r : Result T E) → Meets call (TripPortState old) → OnOk r (Obeys (at_first call) (trip_port_state old) (trip_port_state new) acts) → OnOk r (TripTurned (at_first call) old acts new)
+    → OnOk r (Handles TripPortState TripAs call old new acts)
 trip_handles call old new acts r m o t =
-    subst (λ c. OnOk r (Handles TripRow TripAs c old new acts)) (first_port (passing_row old.phase) call m.0 m.1.0 m.1.1.row) (on_ok_two r o t (λ a b. trip_handled (at_first call) old new acts a b))
+    subst (λ c. OnOk r (Handles TripPortState TripAs c old new acts)) (first_port (passing_port_state old.phase) call m.0 m.1.0 m.1.1.row) (on_ok_two r o t (λ a b. trip_handled (at_first call) old new acts a b))
 
 -- ---- moves, and what outlives want of memory
 
@@ -222,7 +222,7 @@ valve_start_keeps X old new acts (Ok x) m t e = record { node = t.node; switch =
 valve_start_keeps X old new acts (Err x) m t e = valve_same old new e.0
 
 -- a further call
-pub valve_grows : {T E : Type 0} (call : Call) (old new : Valve) (acts : List Act) (r : Result T E) → call ≢ starts → Meets call (ValveRow old) → OnOk r (ValveTurned (at_first call) old acts new) → OnOk r (IsPrefix old.moves new.moves)
+pub valve_grows : {T E : Type 0} (call : Call) (old new : Valve) (acts : List Act) (r : Result T E) → call ≢ starts → Meets call (ValvePortState old) → OnOk r (ValveTurned (at_first call) old acts new) → OnOk r (IsPrefix old.moves new.moves)
 valve_grows call old new acts r s m t = grown (at_first call) old new acts r (none_open call old (called_valve old call m.0 s m.1.0 m.1.1) (m.0, (m.1.0, m.1.1.row))) t
 
 pub valve_keeps : {T E : Type 0} (X : Type 0) (old new : Valve) (r : Result T E) → OnErr r ((new ≡ old) × X) → OnErr r (KeepsValve old new)

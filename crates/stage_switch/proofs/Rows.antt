@@ -25,8 +25,8 @@ use Rattle.stage_law.proofs.OwnRows.{waiting_rests, idle_rests, closed_rests as 
 use Rattle.kill_core.specs.declared.order.Order.{Order}
 use Rattle.kill_core.specs.Public.{SwitchState, SeatState}
 use Rattle.stage_switch.specs.Valves.{passes, ValveKeeps, RestsAt, ValveRests, GaveAll}
-use Rattle.stage_switch.specs.States.{IsUnused, Valve, Unmoved, valve_row, passing_row, valve_held_in, new_valve_of, Trip, trip_held_in, trip_stage, new_trip_of}
-use Rattle.stage_switch.specs.Handling.{ValveFresh, ValveRow, ValveAs, TripFresh, TripRow, TripAs}
+use Rattle.stage_switch.specs.States.{IsUnused, Valve, Unmoved, valve_port_state, passing_port_state, valve_held_in, new_valve_of, Trip, trip_held_in, trip_stage, new_trip_of}
+use Rattle.stage_switch.specs.Handling.{ValveFresh, ValvePortState, ValveAs, TripFresh, TripPortState, TripAs}
 
 -- ---- where it rests
 
@@ -42,12 +42,12 @@ closed_rests Finished outlet.Available f g h = absurd h
 closed_rests Cancelled outlet.Unpulled f g h = absurd h
 closed_rests Cancelled outlet.Available f g h = absurd h
 
-open_rests : (node n : ℕ) (x : InView) (y : OutView) (f : Inflow) (g : List Tree) (e : End) → passing_row Open x y → ValveKeeps node (passes n) (f ∷ []) g e → RestsAt x y (f ∷ []) g
+open_rests : (node n : ℕ) (x : InView) (y : OutView) (f : Inflow) (g : List Tree) (e : End) → passing_port_state Open x y → ValveKeeps node (passes n) (f ∷ []) g e → RestsAt x y (f ∷ []) g
 open_rests node n Pulled outlet.Available f g e r k = inr (inl ((refl, refl), (refl, refl), ap length (k.1.1.0 ∙ sym (take-length f.list))))
 open_rests node n Idle outlet.Unpulled f g e r k = inr (inr (inl ((refl, refl), inr (refl, refl))))
 open_rests node n x y f g e r k = absurd r
 
-rests_at : (node n : ℕ) (p : Phase) (moves : List ℕ) (x : InView) (y : OutView) (ins : List Inflow) (g : List Tree) (e : End) → p ≢ New → passing_row p x y → ValveKeeps node (valve_held_in p n moves) ins g e → RestsAt x y ins g
+rests_at : (node n : ℕ) (p : Phase) (moves : List ℕ) (x : InView) (y : OutView) (ins : List Inflow) (g : List Tree) (e : End) → p ≢ New → passing_port_state p x y → ValveKeeps node (valve_held_in p n moves) ins g e → RestsAt x y ins g
 rests_at node n New moves x y ins g e s r k = absurd (s refl)
 rests_at node n Open moves x y [] g e s r k = absurd k
 rests_at node n Open moves x y (f ∷ []) g e s r k = open_rests node n x y f g e r k
@@ -64,16 +64,16 @@ at_ports P (x ∷ []) [] r = absurd r
 at_ports P (x ∷ []) (y ∷ z ∷ ys) r = absurd r
 at_ports P (x ∷ w ∷ xs) ys r = absurd r
 
-pub valve_rests : (first now : Valve) (v : View) (took gave : List (List Item)) → ValveRow now v → (law : ValveAs first now v took gave) → ValveRests v law.by.law.ins law.by.law.out_list
+pub valve_rests : (first now : Valve) (v : View) (took gave : List (List Item)) → ValvePortState now v → (law : ValveAs first now v took gave) → ValveRests v law.by.law.ins law.by.law.out_list
 valve_rests first l v took gave r law =
     let ports = law.by.law in
-    rests_at first.node l.passed l.phase l.moves (in_at v 0) (out_at v 0) ports.ins ports.out_list ports.out_end r.started (at_ports (passing_row l.phase) v.ins v.outs r.row.0) ports.keeps
+    rests_at first.node l.passed l.phase l.moves (in_at v 0) (out_at v 0) ports.ins ports.out_list ports.out_end r.started (at_ports (passing_port_state l.phase) v.ins v.outs r.row.0) ports.keeps
 
 -- where it waits it is asked, and gave all that came
-waits_at : (node n : ℕ) (p : Phase) (moves : List ℕ) (x : InView) (y : OutView) (ins : List Inflow) (g : List Tree) (e : End) → x ≡ Pulled → passing_row p x y → ValveKeeps node (valve_held_in p n moves) ins g e → (y ≡ outlet.Available) × GaveAll ins g
+waits_at : (node n : ℕ) (p : Phase) (moves : List ℕ) (x : InView) (y : OutView) (ins : List Inflow) (g : List Tree) (e : End) → x ≡ Pulled → passing_port_state p x y → ValveKeeps node (valve_held_in p n moves) ins g e → (y ≡ outlet.Available) × GaveAll ins g
 waits_at node n New moves x y ins g e w r k = by_view x y w r
   where
-    by_view : (x : InView) (y : OutView) → x ≡ Pulled → passing_row New x y → (y ≡ outlet.Available) × GaveAll ins g
+    by_view : (x : InView) (y : OutView) → x ≡ Pulled → passing_port_state New x y → (y ≡ outlet.Available) × GaveAll ins g
     by_view Pulled y w r = absurd r
     by_view x y w r = cc
 waits_at node n Closed moves x y ins g e w r k = by_view x y w r
@@ -85,19 +85,19 @@ waits_at node n Open moves x y [] g e w r k = absurd k
 waits_at node n Open moves x y (f ∷ h ∷ fs) g e w r k = absurd k
 waits_at node n Open moves x y (f ∷ []) g e w r k = (by_view x y w r, k.1.1.0)
   where
-    by_view : (x : InView) (y : OutView) → x ≡ Pulled → passing_row Open x y → y ≡ outlet.Available
+    by_view : (x : InView) (y : OutView) → x ≡ Pulled → passing_port_state Open x y → y ≡ outlet.Available
     by_view Pulled outlet.Available w r = refl
     by_view Pulled y w r = absurd r
     by_view x y w r = cc
 
-pub valve_waits : (first now : Valve) (v : View) (took gave : List (List Item)) → ValveRow now v → (law : ValveAs first now v took gave) → in_at v 0 ≡ Pulled → (out_at v 0 ≡ outlet.Available) × GaveAll law.by.law.ins law.by.law.out_list
+pub valve_waits : (first now : Valve) (v : View) (took gave : List (List Item)) → ValvePortState now v → (law : ValveAs first now v took gave) → in_at v 0 ≡ Pulled → (out_at v 0 ≡ outlet.Available) × GaveAll law.by.law.ins law.by.law.out_list
 valve_waits first l v took gave r law w =
     let ports = law.by.law in
-    waits_at first.node l.passed l.phase l.moves (in_at v 0) (out_at v 0) ports.ins ports.out_list ports.out_end w (at_ports (passing_row l.phase) v.ins v.outs r.row.0) ports.keeps
+    waits_at first.node l.passed l.phase l.moves (in_at v 0) (out_at v 0) ports.ins ports.out_list ports.out_end w (at_ports (passing_port_state l.phase) v.ins v.outs r.row.0) ports.keeps
 
 -- ---- where it is called
 
-open_at : (p : Phase) (call : Call) (x : InView) (y : OutView) → p ≢ New → call ≢ starts → CallAllowed call (record { ins = x ∷ []; outs = y ∷ [] }) → passing_row p x y → p ≡ Open
+open_at : (p : Phase) (call : Call) (x : InView) (y : OutView) → p ≢ New → call ≢ starts → CallAllowed call (record { ins = x ∷ []; outs = y ∷ [] }) → passing_port_state p x y → p ≡ Open
 open_at New call x y n s h r = absurd (n refl)
 open_at Open call x y n s h r = refl
 open_at Closed starts x y n s h r = absurd (s refl)
@@ -122,20 +122,20 @@ open_at Closed (cancels zero) Cancelled outlet.Cancelled n s h r = absurd h
 open_at Closed (cancels (suc j)) x y n s h r = absurd h
 open_at Closed call x y n s h r = absurd r
 
-open_lists : (p : Phase) (call : Call) (xs : List InView) (ys : List OutView) → p ≢ New → call ≢ starts → CallAllowed call (record { ins = xs; outs = ys }) → OneOneOf (passing_row p) xs ys → p ≡ Open
+open_lists : (p : Phase) (call : Call) (xs : List InView) (ys : List OutView) → p ≢ New → call ≢ starts → CallAllowed call (record { ins = xs; outs = ys }) → OneOneOf (passing_port_state p) xs ys → p ≡ Open
 open_lists p call (x ∷ []) (y ∷ []) n s h r = open_at p call x y n s h r
 open_lists p call [] ys n s h r = absurd r
 open_lists p call (x ∷ []) [] n s h r = absurd r
 open_lists p call (x ∷ []) (y ∷ z ∷ ys) n s h r = absurd r
 open_lists p call (x ∷ w ∷ xs) ys n s h r = absurd r
 
-called_open : (p : Phase) (call : Call) (v : View) → p ≢ New → call ≢ starts → CallAllowed call v → OneOne (passing_row p) v → p ≡ Open
+called_open : (p : Phase) (call : Call) (v : View) → p ≢ New → call ≢ starts → CallAllowed call v → OneOne (passing_port_state p) v → p ≡ Open
 called_open p call v n s h r = open_lists p call v.ins v.outs n s h r
 
-pub called_valve : (l : Valve) (call : Call) (v : View) → call ≢ starts → CallAllowed call v → ValveRow l v → l.phase ≡ Open
+pub called_valve : (l : Valve) (call : Call) (v : View) → call ≢ starts → CallAllowed call v → ValvePortState l v → l.phase ≡ Open
 called_valve l call v s h r = called_open l.phase call v r.started s h r.row.0
 
-pub called_trip : (l : Trip) (call : Call) (v : View) → call ≢ starts → CallAllowed call v → TripRow l v → l.phase ≡ Open
+pub called_trip : (l : Trip) (call : Call) (v : View) → call ≢ starts → CallAllowed call v → TripPortState l v → l.phase ≡ Open
 called_trip l call v s h r = called_open l.phase call v r.started s h r.row
 
 unmoved_new : (p : Phase) (moves : List ℕ) → p ≡ New → Unmoved p moves → moves ≡ []
@@ -149,23 +149,23 @@ unmoved_open Open moves e u = u
 unmoved_open Closed moves e u = cc
 
 -- one that was not started, and one that is open, made no move
-pub none_new : (call : Call) (l : Valve) → l.phase ≡ New → Meets call (valve_row l) → l.moves ≡ []
+pub none_new : (call : Call) (l : Valve) → l.phase ≡ New → Meets call (valve_port_state l) → l.moves ≡ []
 none_new call l e m = unmoved_new l.phase l.moves e m.1.1.1
 
-pub none_open : (call : Call) (l : Valve) → l.phase ≡ Open → Meets call (valve_row l) → l.moves ≡ []
+pub none_open : (call : Call) (l : Valve) → l.phase ≡ Open → Meets call (valve_port_state l) → l.moves ≡ []
 none_open call l e m = unmoved_open l.phase l.moves e m.1.1.1
 
 -- ---- a trip
 
 module _ (book : Book) (start : Run Stage Tree) (took gave : List Item) where
-  trip_at : (p : Phase) (s : Stage) (x : InView) (y : OutView) → p ≢ New → passing_row p x y → (law : Law (linear book passing) start (trip_held_in p s) x y took gave) → OwnRests (linear book passing) start false x y law.in_list law.out_list
+  trip_at : (p : Phase) (s : Stage) (x : InView) (y : OutView) → p ≢ New → passing_port_state p x y → (law : Law (linear book passing) start (trip_held_in p s) x y took gave) → OwnRests (linear book passing) start false x y law.in_list law.out_list
   trip_at New s x y n r law = absurd (n refl)
   trip_at Closed s x y n r law = own_closed (linear book passing) start false x y law.in_list law.out_list r
   trip_at Open s Pulled outlet.Available n r law = waiting_rests (linear book passing) start false (going s) took gave law
   trip_at Open s Idle outlet.Unpulled n r law = idle_rests (linear book passing) start false law.in_list law.out_list
   trip_at Open s x y n r law = absurd r
 
-  trip_lists : (p : Phase) (s : Stage) (xs : List InView) (ys : List OutView) → p ≢ New → OneOneOf (passing_row p) xs ys
+  trip_lists : (p : Phase) (s : Stage) (xs : List InView) (ys : List OutView) → p ≢ New → OneOneOf (passing_port_state p) xs ys
       → (law : Law (linear book passing) start (trip_held_in p s) (slice_index_or xs 0 Cancelled) (slice_index_or ys 0 outlet.Closed) took gave) → OwnRests (linear book passing) start false (slice_index_or xs 0 Cancelled) (slice_index_or ys 0 outlet.Closed) law.in_list law.out_list
   trip_lists p s (x ∷ []) (y ∷ []) n r law = trip_at p s x y n r law
   trip_lists p s [] ys n r law = absurd r
@@ -173,7 +173,7 @@ module _ (book : Book) (start : Run Stage Tree) (took gave : List Item) where
   trip_lists p s (x ∷ []) (y ∷ z ∷ ys) n r law = absurd r
   trip_lists p s (x ∷ w ∷ xs) ys n r law = absurd r
 
-pub trip_rests : (book : Book) (d : Decider) (first now : Trip) (v : View) (took gave : List (List Item)) → TripRow now v → (law : TripAs first now v took gave)
+pub trip_rests : (book : Book) (d : Decider) (first now : Trip) (v : View) (took gave : List (List Item)) → TripPortState now v → (law : TripAs first now v took gave)
     → OwnRests (linear book passing) (begin_work first.node d passing) false (in_at v 0) (out_at v 0) (law.law book d).in_list (law.law book d).out_list
 trip_rests book d first l v took gave r law = trip_lists book (begin_work first.node d passing) law.took_list law.gave_list l.phase (trip_stage d l) v.ins v.outs r.started r.row (law.law book d)
 

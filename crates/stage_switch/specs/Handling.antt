@@ -15,7 +15,7 @@ use Rattle.stage_law.specs.Law.{Law}
 use Rattle.stage_core.specs.declared.phase.Phase.TheVariants.{New}
 use Rattle.stage_fans.specs.PortsLaws.{InPortsLaw}
 use Rattle.stage_switch.specs.Valves.{ValveKeeps}
-use Rattle.stage_switch.specs.States.{Valve, IsValve, Unmoved, valve_row, valve_held, Trip, IsTrip, trip_row, trip_held}
+use Rattle.stage_switch.specs.States.{Valve, IsValve, Unmoved, valve_port_state, valve_held, Trip, IsTrip, trip_port_state, trip_held}
 
 -- ---- a valve
 
@@ -24,12 +24,12 @@ pub record ValveFresh (l : Valve) (v : View) : Type 0 where
   pub phase : l.phase ≡ New
   pub passed : l.passed ≡ 0
   pub valve : IsValve l.switch l.seat l.moves
-  pub row : valve_row l v
+  pub row : valve_port_state l v
 
 -- it was started, and its row holds
-pub record ValveRow (l : Valve) (v : View) : Type 0 where
+pub record ValvePortState (l : Valve) (v : View) : Type 0 where
   pub started : l.phase ≢ New
-  pub row : valve_row l v
+  pub row : valve_port_state l v
 
 -- The law of a valve by what it did, which its moves say; its node and its switch stay, and its seat knows an order exactly
 -- where its moves show it.
@@ -61,12 +61,12 @@ pub record TripFresh (l : Trip) (v : View) : Type 0 where
   pub phase : l.phase ≡ New
   pub taken : l.taken ≡ 0
   pub trip : IsTrip l.order l.count l.taken l.switch l.seat
-  pub row : trip_row l v
+  pub row : trip_port_state l v
 
 -- it was started
-pub record TripRow (l : Trip) (v : View) : Type 0 where
+pub record TripPortState (l : Trip) (v : View) : Type 0 where
   pub started : l.phase ≢ New
-  pub row : trip_row l v
+  pub row : trip_port_state l v
 
 -- The law of a trip, by any book of plugs, since it asks none, and any decider, since it never fails: it passes on what comes. Its node, its order, its count and its
 -- switch stay, and its seat gave its order only where so many elements came, and knows one from then on.

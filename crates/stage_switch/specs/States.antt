@@ -32,12 +32,12 @@ abbrev pub IsUnused : SwitchState → SeatState → Type 0
 IsUnused switch seat = IsSeatOf switch seat × ((seat.gave ≡ None) × (seat.knows ≡ None))
 
 -- what it knows of its ports: while it is open it waits exactly where its output is asked
-abbrev pub passing_row : Phase → InView → OutView → Type 0
-passing_row New Idle Unpulled = ⊤
-passing_row Open Pulled Available = ⊤
-passing_row Open Idle Unpulled = ⊤
-passing_row Closed i o = BothClosed i o
-passing_row _ _ _ = ⊥
+abbrev pub passing_port_state : Phase → InView → OutView → Type 0
+passing_port_state New Idle Unpulled = ⊤
+passing_port_state Open Pulled Available = ⊤
+passing_port_state Open Idle Unpulled = ⊤
+passing_port_state Closed i o = BothClosed i o
+passing_port_state _ _ _ = ⊥
 
 -- ---- a valve
 
@@ -61,8 +61,8 @@ Unmoved Open moves = moves ≡ []
 Unmoved Closed moves = ⊤
 
 -- what it knows of its ports
-abbrev pub valve_row : Valve → View → Type 0
-valve_row l v = OneOne (passing_row l.phase) v × Unmoved l.phase l.moves
+abbrev pub valve_port_state : Valve → View → Type 0
+valve_port_state l v = OneOne (passing_port_state l.phase) v × Unmoved l.phase l.moves
 
 -- the number of an order among the moves
 abbrev pub number_of : Order → ℕ
@@ -140,8 +140,8 @@ pub record Trip : Type 0 where
 abbrev pub new_trip_of : ℕ → Order → ℕ → SwitchState → SeatState → Trip
 new_trip_of node order count switch seat = record { phase = New; node = node; taken = 0; order = order; count = count; switch = switch; seat = seat }
 
-abbrev pub trip_row : Trip → View → Type 0
-trip_row l v = OneOne (passing_row l.phase) v
+abbrev pub trip_port_state : Trip → View → Type 0
+trip_port_state l v = OneOne (passing_port_state l.phase) v
 
 abbrev pub trip_held_in : Phase → Stage → Held Stage
 trip_held_in New s = owing (record { gave = []; state = going s })

@@ -1,6 +1,6 @@
 // A valve and a trip as the interpreter calls them: their calls keep the law of their histories and of their seats.
 ghost use Rattle.std.specs.Prelude.{[], false, ⊤};
-ghost use Rattle.stage_switch.specs.Handling.{ValveFresh, ValveRow, ValveAs, KeepsValve, TripFresh, TripRow, TripAs, KeepsTrip};
+ghost use Rattle.stage_switch.specs.Handling.{ValveFresh, ValvePortState, ValveAs, KeepsValve, TripFresh, TripPortState, TripAs, KeepsTrip};
 
 use crate::laws::a_called_stage_is_open;
 use crate::trip::Trip;
@@ -15,7 +15,7 @@ use std::alloc::Global;
 impl Stage for Valve {
     ghost fresh = { ValveFresh };
 
-    ghost rests = { ValveRow };
+    ghost port_state = { ValvePortState };
 
     ghost law = { ValveAs };
 
@@ -90,7 +90,7 @@ impl Stage for Valve {
 impl Stage for Trip {
     ghost fresh = { TripFresh };
 
-    ghost rests = { TripRow };
+    ghost port_state = { TripPortState };
 
     ghost law = { TripAs };
 

@@ -21,8 +21,8 @@ ghost use Rattle.stage_law.specs.Law.{GaveAs};
 ghost use Rattle.stage_law.specs.OwnPorts.{OwnRests};
 ghost use Rattle.stage_core.specs.declared.phase.Phase.TheVariants.{Open};
 ghost use Rattle.stage_switch.specs.Valves.{ValveHeld, passes, shut, did, GaveUpTo, GaveAll, ValveTurnAt, ValveLaw, ValveStandsOf, ValveResidual, ValveRest, ValveRests};
-ghost use Rattle.stage_switch.specs.States.{IsUnused, Valve, IsValve, new_valve_of, valve_row, ValveTurned, Trip, new_trip_of, trip_row, TripTurned};
-ghost use Rattle.stage_switch.specs.Handling.{ValveFresh, ValveRow, ValveAs, elements, TripFresh, TripRow, TripAs, trip_kind};
+ghost use Rattle.stage_switch.specs.States.{IsUnused, Valve, IsValve, new_valve_of, valve_port_state, ValveTurned, Trip, new_trip_of, trip_port_state, TripTurned};
+ghost use Rattle.stage_switch.specs.Handling.{ValveFresh, ValvePortState, ValveAs, elements, TripFresh, TripPortState, TripAs, trip_kind};
 
 /// The law of a valve holds before anything came, and every call keeps it, once the call's actions are done; what a valve gave
 /// over its history is what one that acted so may have given; and for every rest and every act that may still come, what it
@@ -47,25 +47,25 @@ pub fn a_new_stage_may_start()
 /// Where its row and its law hold, a stage that was started has closed its ports, or has nothing to do: it waits for its input
 /// and has given all that came, or nobody asks it. A valve that waits is asked, and has given all that came.
 pub fn a_started_stage_rests()
-    ensures valve { (first now : Valve) (v : View) (took gave : List (List Item)) → ValveRow now v → (law : ValveAs first now v took gave) → ValveRests v law.by.law.ins law.by.law.out_list }
-    ensures waits { (first now : Valve) (v : View) (took gave : List (List Item)) → ValveRow now v → (law : ValveAs first now v took gave) → in_at v 0 ≡ Pulled → (out_at v 0 ≡ Available) × GaveAll law.by.law.ins law.by.law.out_list }
-    ensures trip { (book : Book) (d : Decider) (first now : Trip) (v : View) (took gave : List (List Item)) → TripRow now v → (law : TripAs first now v took gave)
+    ensures valve { (first now : Valve) (v : View) (took gave : List (List Item)) → ValvePortState now v → (law : ValveAs first now v took gave) → ValveRests v law.by.law.ins law.by.law.out_list }
+    ensures waits { (first now : Valve) (v : View) (took gave : List (List Item)) → ValvePortState now v → (law : ValveAs first now v took gave) → in_at v 0 ≡ Pulled → (out_at v 0 ≡ Available) × GaveAll law.by.law.ins law.by.law.out_list }
+    ensures trip { (book : Book) (d : Decider) (first now : Trip) (v : View) (took gave : List (List Item)) → TripPortState now v → (law : TripAs first now v took gave)
         → OwnRests (linear book passing) (begin_work first.node d passing) false (in_at v 0) (out_at v 0) (law.law book d).in_list (law.law book d).out_list }
 {}
 
 /// Where the port rules allow a call of a handler and the row holds, a stage that was started is open.
 pub fn a_called_stage_is_open()
-    ensures valve { (l : Valve) (call : Call) (v : View) → call ≢ starts → CallAllowed call v → ValveRow l v → l.phase ≡ Open }
-    ensures trip { (l : Trip) (call : Call) (v : View) → call ≢ starts → CallAllowed call v → TripRow l v → l.phase ≡ Open }
+    ensures valve { (l : Valve) (call : Call) (v : View) → call ≢ starts → CallAllowed call v → ValvePortState l v → l.phase ≡ Open }
+    ensures trip { (l : Trip) (call : Call) (v : View) → call ≢ starts → CallAllowed call v → TripPortState l v → l.phase ≡ Open }
 {}
 
 /// What a call owes to the port rules and to its turn is all that is asked of a stage: its start begins the law of its
 /// histories, and every other call keeps it.
 pub fn calls_keep_the_law()
-    ensures valve_starts { (old new : Valve) (acts : List Act) → Obeys starts (valve_row old) (valve_row new) acts → ValveTurned starts old acts new → Starts ValveRow ValveAs ValveFresh old new acts }
-    ensures valve_handles { (call : Call) (old new : Valve) (acts : List Act) → Obeys call (valve_row old) (valve_row new) acts → ValveTurned call old acts new → Handles ValveRow ValveAs call old new acts }
-    ensures trip_starts { (old new : Trip) (acts : List Act) → Obeys starts (trip_row old) (trip_row new) acts → TripTurned starts old acts new → Starts TripRow TripAs TripFresh old new acts }
-    ensures trip_handles { (call : Call) (old new : Trip) (acts : List Act) → Obeys call (trip_row old) (trip_row new) acts → TripTurned call old acts new → Handles TripRow TripAs call old new acts }
+    ensures valve_starts { (old new : Valve) (acts : List Act) → Obeys starts (valve_port_state old) (valve_port_state new) acts → ValveTurned starts old acts new → Starts ValvePortState ValveAs ValveFresh old new acts }
+    ensures valve_handles { (call : Call) (old new : Valve) (acts : List Act) → Obeys call (valve_port_state old) (valve_port_state new) acts → ValveTurned call old acts new → Handles ValvePortState ValveAs call old new acts }
+    ensures trip_starts { (old new : Trip) (acts : List Act) → Obeys starts (trip_port_state old) (trip_port_state new) acts → TripTurned starts old acts new → Starts TripPortState TripAs TripFresh old new acts }
+    ensures trip_handles { (call : Call) (old new : Trip) (acts : List Act) → Obeys call (trip_port_state old) (trip_port_state new) acts → TripTurned call old acts new → Handles TripPortState TripAs call old new acts }
 {}
 
 /// Where its law holds, a valve gave what one that acted as its moves say may have given, and just so many elements as they

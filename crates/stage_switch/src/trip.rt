@@ -3,7 +3,7 @@ ghost use Rattle.std.specs.Arc.{arc_value};
 ghost use Rattle.elem_core.specs.declared.item.Item.TheVariants as item;
 ghost use Rattle.port_core.specs.Call.{Obeys, Meets, starts, pulls, arrives, cancels};
 ghost use Rattle.stage_core.specs.declared.phase.Phase.TheVariants.{New, Open};
-ghost use Rattle.stage_switch.specs.States.{IsUnused, IsTrip, trip_row, new_trip_of, SeatStepped, TripTurned};
+ghost use Rattle.stage_switch.specs.States.{IsUnused, IsTrip, trip_port_state, new_trip_of, SeatStepped, TripTurned};
 
 use elem_core::count::one_more;
 use elem_core::elem::Elem;
@@ -85,11 +85,11 @@ impl Trip {
     /// The run begins.
     pub fn start(&mut self, acts: &mut Acts) -> Result<(), NoMemory>
         requires new { self.old.phase ≡ New }
-        requires meets { Meets starts (trip_row self.old) }
+        requires meets { Meets starts (trip_port_state self.old) }
         requires empty { acts.old.items ≡ [] }
         requires room { 4 ≤ acts.old.room }
         ensures answers { IsOk result }
-        ensures ports { OnOk result (Obeys starts (trip_row self.old) (trip_row self.new) acts.new.items) }
+        ensures ports { OnOk result (Obeys starts (trip_port_state self.old) (trip_port_state self.new) acts.new.items) }
         ensures gives { OnOk result (TripTurned starts self.old acts.new.items self.new) }
         ensures room { acts.new.room ≡ acts.old.room }
     {
@@ -100,11 +100,11 @@ impl Trip {
     /// The output was asked.
     pub fn on_pull(&mut self, acts: &mut Acts) -> Result<(), NoMemory>
         requires open { self.old.phase ≡ Open }
-        requires meets { Meets (pulls 0) (trip_row self.old) }
+        requires meets { Meets (pulls 0) (trip_port_state self.old) }
         requires empty { acts.old.items ≡ [] }
         requires room { 4 ≤ acts.old.room }
         ensures answers { IsOk result }
-        ensures ports { OnOk result (Obeys (pulls 0) (trip_row self.old) (trip_row self.new) acts.new.items) }
+        ensures ports { OnOk result (Obeys (pulls 0) (trip_port_state self.old) (trip_port_state self.new) acts.new.items) }
         ensures gives { OnOk result (TripTurned (pulls 0) self.old acts.new.items self.new) }
         ensures room { acts.new.room ≡ acts.old.room }
     {
@@ -117,10 +117,10 @@ impl Trip {
     /// is no number for it, and then all is as before.
     pub fn on_push(&mut self, e: Elem, acts: &mut Acts) -> Result<(), NoMemory>
         requires open { self.old.phase ≡ Open }
-        requires meets { Meets (arrives 0 (item.Elem e)) (trip_row self.old) }
+        requires meets { Meets (arrives 0 (item.Elem e)) (trip_port_state self.old) }
         requires empty { acts.old.items ≡ [] }
         requires room { 4 ≤ acts.old.room }
-        ensures ports { OnOk result (Obeys (arrives 0 (item.Elem e)) (trip_row self.old) (trip_row self.new) acts.new.items) }
+        ensures ports { OnOk result (Obeys (arrives 0 (item.Elem e)) (trip_port_state self.old) (trip_port_state self.new) acts.new.items) }
         ensures gives { OnOk result (TripTurned (arrives 0 (item.Elem e)) self.old acts.new.items self.new) }
         ensures room { acts.new.room ≡ acts.old.room }
         ensures refused { OnErr result ((self.new ≡ self.old) × (acts.new ≡ acts.old)) }
@@ -133,11 +133,11 @@ impl Trip {
     /// The input has ended.
     pub fn on_finish(&mut self, acts: &mut Acts) -> Result<(), NoMemory>
         requires open { self.old.phase ≡ Open }
-        requires meets { Meets (arrives 0 item.Ended) (trip_row self.old) }
+        requires meets { Meets (arrives 0 item.Ended) (trip_port_state self.old) }
         requires empty { acts.old.items ≡ [] }
         requires room { 4 ≤ acts.old.room }
         ensures answers { IsOk result }
-        ensures ports { OnOk result (Obeys (arrives 0 item.Ended) (trip_row self.old) (trip_row self.new) acts.new.items) }
+        ensures ports { OnOk result (Obeys (arrives 0 item.Ended) (trip_port_state self.old) (trip_port_state self.new) acts.new.items) }
         ensures gives { OnOk result (TripTurned (arrives 0 item.Ended) self.old acts.new.items self.new) }
         ensures room { acts.new.room ≡ acts.old.room }
     {
@@ -149,11 +149,11 @@ impl Trip {
     /// The input has failed.
     pub fn on_fail(&mut self, cause: Cause, acts: &mut Acts) -> Result<(), NoMemory>
         requires open { self.old.phase ≡ Open }
-        requires meets { Meets (arrives 0 (item.Failed cause)) (trip_row self.old) }
+        requires meets { Meets (arrives 0 (item.Failed cause)) (trip_port_state self.old) }
         requires empty { acts.old.items ≡ [] }
         requires room { 4 ≤ acts.old.room }
         ensures answers { IsOk result }
-        ensures ports { OnOk result (Obeys (arrives 0 (item.Failed cause)) (trip_row self.old) (trip_row self.new) acts.new.items) }
+        ensures ports { OnOk result (Obeys (arrives 0 (item.Failed cause)) (trip_port_state self.old) (trip_port_state self.new) acts.new.items) }
         ensures gives { OnOk result (TripTurned (arrives 0 (item.Failed cause)) self.old acts.new.items self.new) }
         ensures room { acts.new.room ≡ acts.old.room }
     {
@@ -165,11 +165,11 @@ impl Trip {
     /// The output was cancelled.
     pub fn on_cancel(&mut self, acts: &mut Acts) -> Result<(), NoMemory>
         requires open { self.old.phase ≡ Open }
-        requires meets { Meets (cancels 0) (trip_row self.old) }
+        requires meets { Meets (cancels 0) (trip_port_state self.old) }
         requires empty { acts.old.items ≡ [] }
         requires room { 4 ≤ acts.old.room }
         ensures answers { IsOk result }
-        ensures ports { OnOk result (Obeys (cancels 0) (trip_row self.old) (trip_row self.new) acts.new.items) }
+        ensures ports { OnOk result (Obeys (cancels 0) (trip_port_state self.old) (trip_port_state self.new) acts.new.items) }
         ensures gives { OnOk result (TripTurned (cancels 0) self.old acts.new.items self.new) }
         ensures room { acts.new.room ≡ acts.old.room }
     {

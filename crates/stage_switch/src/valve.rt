@@ -3,7 +3,7 @@ ghost use Rattle.elem_core.specs.declared.item.Item.TheVariants as item;
 ghost use Rattle.std.specs.Arc.{arc_value};
 ghost use Rattle.port_core.specs.Call.{Obeys, Meets, starts, pulls, arrives, cancels};
 ghost use Rattle.stage_core.specs.declared.phase.Phase.TheVariants.{New, Open, Closed};
-ghost use Rattle.stage_switch.specs.States.{IsUnused, IsValve, valve_row, number_of, new_valve_of, watched, stop_acts, ValveTurned};
+ghost use Rattle.stage_switch.specs.States.{IsUnused, IsValve, valve_port_state, number_of, new_valve_of, watched, stop_acts, ValveTurned};
 
 use elem_core::count::one_more_small;
 use elem_core::elem::Elem;
@@ -108,10 +108,10 @@ impl Valve {
     /// all is as before.
     pub fn start(&mut self, acts: &mut Acts) -> Result<(), NoMemory>
         requires new { self.old.phase ≡ New }
-        requires meets { Meets starts (valve_row self.old) }
+        requires meets { Meets starts (valve_port_state self.old) }
         requires empty { acts.old.items ≡ [] }
         requires room { 4 ≤ acts.old.room }
-        ensures ports { OnOk result (Obeys starts (valve_row self.old) (valve_row self.new) acts.new.items) }
+        ensures ports { OnOk result (Obeys starts (valve_port_state self.old) (valve_port_state self.new) acts.new.items) }
         ensures gives { OnOk result (ValveTurned starts self.old acts.new.items self.new) }
         ensures room { acts.new.room ≡ acts.old.room }
         ensures refused { OnErr result ((self.new ≡ self.old) × (acts.new ≡ acts.old)) }
@@ -126,10 +126,10 @@ impl Valve {
     /// The output was asked.
     pub fn on_pull(&mut self, acts: &mut Acts) -> Result<(), NoMemory>
         requires open { self.old.phase ≡ Open }
-        requires meets { Meets (pulls 0) (valve_row self.old) }
+        requires meets { Meets (pulls 0) (valve_port_state self.old) }
         requires empty { acts.old.items ≡ [] }
         requires room { 4 ≤ acts.old.room }
-        ensures ports { OnOk result (Obeys (pulls 0) (valve_row self.old) (valve_row self.new) acts.new.items) }
+        ensures ports { OnOk result (Obeys (pulls 0) (valve_port_state self.old) (valve_port_state self.new) acts.new.items) }
         ensures gives { OnOk result (ValveTurned (pulls 0) self.old acts.new.items self.new) }
         ensures room { acts.new.room ≡ acts.old.room }
         ensures refused { OnErr result ((self.new ≡ self.old) × (acts.new ≡ acts.old)) }
@@ -145,10 +145,10 @@ impl Valve {
     /// it answers want of memory, and all is as before.
     pub fn on_push(&mut self, e: Elem, acts: &mut Acts) -> Result<(), NoMemory>
         requires open { self.old.phase ≡ Open }
-        requires meets { Meets (arrives 0 (item.Elem e)) (valve_row self.old) }
+        requires meets { Meets (arrives 0 (item.Elem e)) (valve_port_state self.old) }
         requires empty { acts.old.items ≡ [] }
         requires room { 4 ≤ acts.old.room }
-        ensures ports { OnOk result (Obeys (arrives 0 (item.Elem e)) (valve_row self.old) (valve_row self.new) acts.new.items) }
+        ensures ports { OnOk result (Obeys (arrives 0 (item.Elem e)) (valve_port_state self.old) (valve_port_state self.new) acts.new.items) }
         ensures gives { OnOk result (ValveTurned (arrives 0 (item.Elem e)) self.old acts.new.items self.new) }
         ensures room { acts.new.room ≡ acts.old.room }
         ensures refused { OnErr result ((self.new ≡ self.old) × (acts.new ≡ acts.old)) }
@@ -167,10 +167,10 @@ impl Valve {
     /// The input has ended.
     pub fn on_finish(&mut self, acts: &mut Acts) -> Result<(), NoMemory>
         requires open { self.old.phase ≡ Open }
-        requires meets { Meets (arrives 0 item.Ended) (valve_row self.old) }
+        requires meets { Meets (arrives 0 item.Ended) (valve_port_state self.old) }
         requires empty { acts.old.items ≡ [] }
         requires room { 4 ≤ acts.old.room }
-        ensures ports { OnOk result (Obeys (arrives 0 item.Ended) (valve_row self.old) (valve_row self.new) acts.new.items) }
+        ensures ports { OnOk result (Obeys (arrives 0 item.Ended) (valve_port_state self.old) (valve_port_state self.new) acts.new.items) }
         ensures gives { OnOk result (ValveTurned (arrives 0 item.Ended) self.old acts.new.items self.new) }
         ensures room { acts.new.room ≡ acts.old.room }
         ensures refused { OnErr result ((self.new ≡ self.old) × (acts.new ≡ acts.old)) }
@@ -188,10 +188,10 @@ impl Valve {
     /// The input has failed.
     pub fn on_fail(&mut self, cause: Cause, acts: &mut Acts) -> Result<(), NoMemory>
         requires open { self.old.phase ≡ Open }
-        requires meets { Meets (arrives 0 (item.Failed cause)) (valve_row self.old) }
+        requires meets { Meets (arrives 0 (item.Failed cause)) (valve_port_state self.old) }
         requires empty { acts.old.items ≡ [] }
         requires room { 4 ≤ acts.old.room }
-        ensures ports { OnOk result (Obeys (arrives 0 (item.Failed cause)) (valve_row self.old) (valve_row self.new) acts.new.items) }
+        ensures ports { OnOk result (Obeys (arrives 0 (item.Failed cause)) (valve_port_state self.old) (valve_port_state self.new) acts.new.items) }
         ensures gives { OnOk result (ValveTurned (arrives 0 (item.Failed cause)) self.old acts.new.items self.new) }
         ensures room { acts.new.room ≡ acts.old.room }
         ensures refused { OnErr result ((self.new ≡ self.old) × (acts.new ≡ acts.old)) }
@@ -209,10 +209,10 @@ impl Valve {
     /// The output was cancelled. An order that is found is noted, though there is nothing left to close but the input.
     pub fn on_cancel(&mut self, acts: &mut Acts) -> Result<(), NoMemory>
         requires open { self.old.phase ≡ Open }
-        requires meets { Meets (cancels 0) (valve_row self.old) }
+        requires meets { Meets (cancels 0) (valve_port_state self.old) }
         requires empty { acts.old.items ≡ [] }
         requires room { 4 ≤ acts.old.room }
-        ensures ports { OnOk result (Obeys (cancels 0) (valve_row self.old) (valve_row self.new) acts.new.items) }
+        ensures ports { OnOk result (Obeys (cancels 0) (valve_port_state self.old) (valve_port_state self.new) acts.new.items) }
         ensures gives { OnOk result (ValveTurned (cancels 0) self.old acts.new.items self.new) }
         ensures room { acts.new.room ≡ acts.old.room }
         ensures refused { OnErr result ((self.new ≡ self.old) × (acts.new ≡ acts.old)) }

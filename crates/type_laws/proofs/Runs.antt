@@ -9,7 +9,7 @@ use Rattle.stream_picture.specs.Joined.{IsJoined}
 use Rattle.stream_io.specs.State.{SourceState, DrainState}
 use Rattle.fused_net.specs.Laws.{Settled}
 use Rattle.fused_net.specs.Net.{Net, wire_at}
-use Rattle.nodes.specs.Nodes.{node_row, node_law, node_asking, node_moves}
+use Rattle.nodes.specs.Nodes.{node_port_state, node_law, node_asking, node_moves}
 use Rattle.nodes.specs.declared.node.IslandNode as stage
 use Rattle.run_account.specs.Account.{Account}
 use Rattle.run_account.specs.Seats.{account_of}
@@ -40,7 +40,7 @@ module _ {S D L B : Type 0} (sources : S → SourceState) (drains : D → DrainS
   run_sends a run chose passes keeps ranked =
       every_wire_sends plugs chains nodes g w rank ranked passes keeps (λ u. (a.near u).wire.sent) (source_texts sources drains w.book g a run) (given_of sources drains g w a run chose)
 
-  pub island_sends : (net : Net (stage.IslandNode S D L B)) → Settled node_row (node_law sources drains w.book) node_asking node_moves net → Materializes sources g net.firsts net.ends → TellsPicks w (account_of net)
+  pub island_sends : (net : Net (stage.IslandNode S D L B)) → Settled node_port_state (node_law sources drains w.book) node_asking node_moves net → Materializes sources g net.firsts net.ends → TellsPicks w (account_of net)
       → PassesRules plugs chains nodes g → KeepsPlugTypes plugs w.book → IsRanked g rank
       → (i : ℕ) (v : Edge) → slice_get g.wires i ≡ Some v → SendsItsType plugs chains nodes g w i v (wire_at net i).wire.sent
   island_sends net settled made chose passes keeps ranked =

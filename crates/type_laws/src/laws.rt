@@ -20,7 +20,7 @@ ghost use Rattle.stream_model.specs.declared.kind.Kind.{Kind};
 ghost use Rattle.stream_model.specs.declared.kind.Kind.TheVariants as kind;
 ghost use Rattle.fused_net.specs.Laws.{Settled};
 ghost use Rattle.fused_net.specs.Net.{Net, wire_at};
-ghost use Rattle.nodes.specs.Nodes.{node_row, node_law, node_asking, node_moves};
+ghost use Rattle.nodes.specs.Nodes.{node_port_state, node_law, node_asking, node_moves};
 ghost use Rattle.nodes.specs.declared.node.IslandNode as stage;
 ghost use Rattle.run_account.specs.Account.{Account};
 ghost use Rattle.run_account.specs.Seats.{account_of};
@@ -103,7 +103,7 @@ pub fn every_wire_carries_its_type<S: Source, D: Drain, L: Logic, B: PlugBook>()
     ensures run { (plugs : List PlugHead) (chains : List ChainDecl) (nodes : List Node) (g : Graph) (w : World) (rank : ℕ → ℕ) (a : Account (stage.IslandNode S D L B)) → IsRun S.state D.state w.book g a → TellsPicks w a
         → PassesRules plugs chains nodes g → KeepsPlugTypes plugs w.book → IsRanked g rank
         → (i : ℕ) (v : Edge) → slice_get g.wires i ≡ Some v → SendsItsType plugs chains nodes g w i v (a.near i).wire.sent }
-    ensures island { (plugs : List PlugHead) (chains : List ChainDecl) (nodes : List Node) (g : Graph) (w : World) (rank : ℕ → ℕ) (net : Net (stage.IslandNode S D L B)) → Settled node_row (node_law S.state D.state w.book) node_asking node_moves net
+    ensures island { (plugs : List PlugHead) (chains : List ChainDecl) (nodes : List Node) (g : Graph) (w : World) (rank : ℕ → ℕ) (net : Net (stage.IslandNode S D L B)) → Settled node_port_state (node_law S.state D.state w.book) node_asking node_moves net
         → Materializes S.state g net.firsts net.ends → TellsPicks w (account_of net) → PassesRules plugs chains nodes g → KeepsPlugTypes plugs w.book → IsRanked g rank
         → (i : ℕ) (v : Edge) → slice_get g.wires i ≡ Some v → SendsItsType plugs chains nodes g w i v (wire_at net i).wire.sent }
 {}

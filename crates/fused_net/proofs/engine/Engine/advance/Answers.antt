@@ -47,4 +47,4 @@ loop-used-preserved g c = (
 )
 
 pub returns-in_err-step-clause-breaks : goal.returns-in_err-step-clause-breaks
-returns-in_err-step-clause-breaks g c = on_err _ (breaks_aside g.S.Stage.rests g.S.Stage.law g.S.Stage.asking g.S.Stage.moves g.S.Stage.gone g.S.Stage.passive g.S.Stage.keeps _ c.loop-used.self _ c.loop-used.invariant.0 c.loop-used.invariant.1 c.in_err-step.ensures.kept c.loop-used.invariant.4 c.loop-used.invariant.5)
+returns-in_err-step-clause-breaks g c = on_err _ (breaks_aside g.S.Stage.port_state g.S.Stage.law g.S.Stage.asking g.S.Stage.moves g.S.Stage.gone g.S.Stage.passive g.S.Stage.keeps _ c.loop-used.self _ c.loop-used.invariant.0 c.loop-used.invariant.1 c.in_err-step.ensures.kept c.loop-used.invariant.4 c.loop-used.invariant.5)

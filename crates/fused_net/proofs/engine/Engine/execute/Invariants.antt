@@ -6,4 +6,4 @@ use Rattle.fused_net.specs.Outside.{StandsStill}
 use Rattle.fused_net.proofs.engine.Engine.execute.Given as goal
 
 abbrev pub invariant-loop-used : goal.invariant-loop-used
-invariant-loop-used g l = Settled g.S.Stage.rests g.S.Stage.law g.S.Stage.asking g.S.Stage.moves l.self × GoesOn l.fn.self l.self × Uses l.fn.self l.self l.used × (l.acts ≡ l.initial.acts) × (map g.S.Stage.gone l.self.nodes ≡ map g.S.Stage.gone l.fn.self.nodes) × StandsStill g.S.Stage.passive l.fn.self l.self
+invariant-loop-used g l = Settled g.S.Stage.port_state g.S.Stage.law g.S.Stage.asking g.S.Stage.moves l.self × GoesOn l.fn.self l.self × Uses l.fn.self l.self l.used × (l.acts ≡ l.initial.acts) × (map g.S.Stage.gone l.self.nodes ≡ map g.S.Stage.gone l.fn.self.nodes) × StandsStill g.S.Stage.passive l.fn.self l.self

@@ -13,12 +13,12 @@ loop-n-init g c = (
   omega arith,
   refl,
   refl,
-  kept_starting g.S.Stage.rests g.S.Stage.law g.S.Stage.asking g.S.Stage.moves g.S.Stage.fresh g.S.Stage.keeps _ c.requires.starting,
+  kept_starting g.S.Stage.port_state g.S.Stage.law g.S.Stage.asking g.S.Stage.moves g.S.Stage.fresh g.S.Stage.keeps _ c.requires.starting,
   still_same g.S.Stage.passive _,
 )
 
 pub returns-clause-laws : goal.returns-clause-laws
-returns-clause-laws g c = all_started g.S.Stage.rests g.S.Stage.law g.S.Stage.asking g.S.Stage.moves g.S.Stage.fresh _ _ c.loop-n.invariant.0 (search (rules, arith))
+returns-clause-laws g c = all_started g.S.Stage.port_state g.S.Stage.law g.S.Stage.asking g.S.Stage.moves g.S.Stage.fresh _ _ c.loop-n.invariant.0 (search (rules, arith))
 
 pub returns-in_err-start_at-clause-count : goal.returns-in_err-start_at-clause-count
 returns-in_err-start_at-clause-count g c = all_count g.S.Stage.keeps _ _ _ c.start_at.ensures.kept (c.loop-n.invariant.0.each_first ∙ c.loop-n.invariant.1.nodes)

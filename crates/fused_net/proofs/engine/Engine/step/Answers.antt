@@ -6,7 +6,7 @@ use Rattle.fused_net.proofs.Taking.{taken_settled, taken_goes, taken_uses, taken
 use Rattle.fused_net.proofs.engine.Engine.step.Goals as goal
 
 pub handle-requires-clause-laws : goal.handle-requires-clause-laws
-handle-requires-clause-laws g c = taken_settled g.S.Stage.rests g.S.Stage.law g.S.Stage.asking g.S.Stage.moves _ _ c.in-Some.w c.in-Some.ensures.some.1.1 c.requires.laws
+handle-requires-clause-laws g c = taken_settled g.S.Stage.port_state g.S.Stage.law g.S.Stage.asking g.S.Stage.moves _ _ c.in-Some.w c.in-Some.ensures.some.1.1 c.requires.laws
 
 pub handle-requires-clause-few : goal.handle-requires-clause-few
 handle-requires-clause-few g c = taken_few _ _ c.in-Some.w _ _ c.in-Some.ensures.some.1.1 c.requires.few

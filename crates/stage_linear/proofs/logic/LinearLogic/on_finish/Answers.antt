@@ -5,7 +5,7 @@ use Rattle.port_core.specs.declared.act.Act.{Act}
 use Rattle.elem_core.specs.declared.item.Item.TheVariants as item
 use Rattle.stream_model.specs.Linear.{finish_of}
 use Rattle.stage_linear.specs.Pending.{closed_by, closed_acts}
-use Rattle.stage_linear.specs.States.{Logic, row}
+use Rattle.stage_linear.specs.States.{Logic, port_state}
 use Rattle.stage_linear.proofs.States.{readied}
 use Rattle.stage_core.proofs.OnOks.{on_ok_two}
 use Rattle.stage_linear.proofs.Ports.{ended_obeys}
@@ -19,5 +19,5 @@ returns-then-holds_none-clause-ports g c =
     let none : l.pending ≡ [] = c.if-holds_none.ensures.0 refl in
     on_ok_two c.close_input.result c.close_input.ensures.stage c.close_input.ensures.acts
     (λ (s : new ≡ readied (closed_by l f) new.ready) (a : c.close_input.new.acts ≡ record c.args.acts.now { items = c.args.acts.now.items ++ closed_acts l f }).
-    subst (λ (x : List Act). Obeys (arrives 0 item.Ended) (row l) (row new) x) (sym (ap (λ (x : ActList). x.items) a ∙ ap (λ (x : List Act). x ++ closed_acts l f) c.requires.empty))
-    (subst (λ (x : Logic). Obeys (arrives 0 item.Ended) (row l) (row x) (closed_acts l f)) (sym s) (ended_obeys g.B.PlugBook.lists l new.ready c.requires.open none)))
+    subst (λ (x : List Act). Obeys (arrives 0 item.Ended) (port_state l) (port_state new) x) (sym (ap (λ (x : ActList). x.items) a ∙ ap (λ (x : List Act). x ++ closed_acts l f) c.requires.empty))
+    (subst (λ (x : Logic). Obeys (arrives 0 item.Ended) (port_state l) (port_state x) (closed_acts l f)) (sym s) (ended_obeys g.B.PlugBook.lists l new.ready c.requires.open none)))

@@ -4,7 +4,7 @@ use Rattle.port_core.specs.Call.{Obeys, arrives}
 use Rattle.elem_core.specs.declared.item.Item.TheVariants as item
 use Rattle.stage_core.specs.declared.phase.Phase.TheVariants.{Open}
 use Rattle.stage_keeping.specs.Keeping.{work_in}
-use Rattle.stage_state.specs.States.{Logic, row}
+use Rattle.stage_state.specs.States.{Logic, port_state}
 use Rattle.stage_state.specs.Outcomes.{working, finish_acts}
 use Rattle.stage_state.specs.contracts.keep.KeepLogic.{the_view}
 use Rattle.stage_state.proofs.Finishes.{none_listed, finish_obeys}
@@ -20,4 +20,4 @@ returns-else-is_some-clause-ports c =
     let p = finish_obeys l w c.finish-last.result on none refl c.finish-last.ensures.1.1 in
     let a : c.end.new.acts.items ≡ finish_acts (working l w) c.finish-last.result = ap (λ (x : ActList). x.items) c.end.ensures.acts in
     let b = c.end.ensures.stage in
-    subst (λ (x : Logic). Obeys (arrives 0 item.Ended) (row x) (row c.end.new.self) c.end.new.acts.items) is (rw (a, b) p)
+    subst (λ (x : Logic). Obeys (arrives 0 item.Ended) (port_state x) (port_state c.end.new.self) c.end.new.acts.items) is (rw (a, b) p)

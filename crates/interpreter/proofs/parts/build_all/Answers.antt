@@ -6,7 +6,7 @@ use Rattle.interpreter.proofs.parts.build_all.Goals as goal
 
 pub loop-seated-preserved : goal.loop-seated-preserved
 loop-seated-preserved g c =
-    let n = seat_next _ _ _ _ _ _ _ c.in-Some.ensures.steps.0 c.loop-seated.invariant.3 c.seat.ensures c.push_reserved.ensures.items c.loop-seated.invariant.4 in
+    let n = seat_next _ _ _ _ _ _ _ c.in-Some.ensures.steps.0 c.loop-seated.invariant.3 c.build.ensures c.push_reserved.ensures.items c.loop-seated.invariant.4 in
     (tt, tt, len_next _ _ _ _ _ c.in-Some.ensures.steps.0 c.in-Some.ensures.steps.1 c.loop-seated.invariant.2, n.0, n.1, omega (arith, c.loop-seated.invariant.5, c.in-Some.ensures.steps.1, c.push_reserved.ensures.len, c.push_reserved.ensures.capacity))
 
 pub returns : goal.returns

@@ -23,7 +23,7 @@ use blue_rules::typed::Clash;
 use blue_types::clashes::{too_deep, type_clash};
 use blue_types::library::Library;
 use blue_types::net::{Net, node_at};
-use blue_types::rounds::settle;
+use blue_types::rounds::settle_types;
 use elem_core::count::numbered;
 use elem_core::elem_type::ElemType;
 use elem_core::line::Line;
@@ -174,7 +174,7 @@ fn net_fault(
     requires outs { IsOuts outs.now (wires_of_links net.now.links.now) }
     ensures { IfOk result (λ f. f ≡ types_fault library.now.plugs.now library.now.chains.now net.now.nodes.now (wires_of_links net.now.links.now)) }
 {
-    let types = settle(alloc, library, net, outs)?;
+    let types = settle_types(alloc, library, net, outs)?;
     settled_fault(alloc, library, net, &types)
 }
 

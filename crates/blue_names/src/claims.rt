@@ -5,7 +5,7 @@ ghost use Rattle.std.specs.Option.{option_map, option_or};
 ghost use Rattle.blue_rules.specs.Names.{Claim as Taking, same_claim, first_again, text_of, claims_of_nodes, plugs_of_nodes, taken_twice, plug_twice, called, opens, opening, calling, file_of, plug_of};
 ghost use Rattle.blue_names.specs.Claims.{claim_of, Knows};
 
-use crate::table::{NameTable, note};
+use crate::table::{NameTable, note_name};
 use blue_core::blueprint::{ChainDecl, Node};
 use elem_core::line::Line;
 use elem_core::why::NoMemory;
@@ -63,8 +63,8 @@ impl<'a> Taken<'a> {
         ensures taken { (before : List Taking) → Knows self.old.names self.old.files before → OnOk result (Knows self.new.names self.new.files (claim_of claim.entry ∷ before)) }
     {
         match claim {
-            NameClaim::Called(name) => note(&mut self.names, name, 0),
-            NameClaim::Opens(file) => note(&mut self.files, file, 0),
+            NameClaim::Called(name) => note_name(&mut self.names, name, 0),
+            NameClaim::Opens(file) => note_name(&mut self.files, file, 0),
         }
     }
 }

@@ -21,7 +21,7 @@ use stream_model::kind::Kind;
 pub type PortTable = HashMap<(usize, u32), usize>;
 
 /// How many inputs a kind has.
-pub fn inputs_of(kind: &Kind) -> u32
+pub fn input_ports(kind: &Kind) -> u32
     ensures { result ≡ inputs_of kind.now }
 {
     match kind {
@@ -35,7 +35,7 @@ pub fn inputs_of(kind: &Kind) -> u32
 }
 
 /// How many outputs a kind has.
-pub fn outputs_of(kind: &Kind) -> u32
+pub fn output_ports(kind: &Kind) -> u32
     ensures { result ≡ outputs_of kind.now }
 {
     match kind {
@@ -94,7 +94,7 @@ fn lacks_output(nodes: &[Node], node: usize, port: u32) -> bool
 {
     match nodes.get(node) {
         None => true,
-        Some(node) => outputs_of(&node.kind) <= port,
+        Some(node) => output_ports(&node.kind) <= port,
     }
 }
 
@@ -104,7 +104,7 @@ fn lacks_input(nodes: &[Node], node: usize, port: u32) -> bool
 {
     match nodes.get(node) {
         None => true,
-        Some(node) => inputs_of(&node.kind) <= port,
+        Some(node) => input_ports(&node.kind) <= port,
     }
 }
 
@@ -182,7 +182,7 @@ fn open_among(table: &PortTable, node: usize, count: u32) -> Option<u32>
 fn open_input(targets: &PortTable, i: usize, kind: &Kind) -> Option<OpenPort>
     ensures { (n : Declared) (ws : List Edge) → n.kind ≡ kind.now → FindsWires targets.now ws → option_map port_of result ≡ open_input i n ws }
 {
-    match open_among(targets, i, inputs_of(kind)) {
+    match open_among(targets, i, input_ports(kind)) {
         Some(port) => Some(OpenPort {
             node: i,
             output: false,
@@ -196,7 +196,7 @@ fn open_input(targets: &PortTable, i: usize, kind: &Kind) -> Option<OpenPort>
 fn open_output(sources: &PortTable, i: usize, kind: &Kind) -> Option<OpenPort>
     ensures { (n : Declared) (ws : List Edge) → n.kind ≡ kind.now → FindsSources sources.now ws → option_map port_of result ≡ open_output i n ws }
 {
-    match open_among(sources, i, outputs_of(kind)) {
+    match open_among(sources, i, output_ports(kind)) {
         Some(port) => Some(OpenPort {
             node: i,
             output: true,

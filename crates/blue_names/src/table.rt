@@ -59,7 +59,11 @@ impl Named for PlugHead {
 }
 
 /// Gives a name its number where it has none, and says whether it had none.
-pub fn note<'a>(table: &mut NameTable<'a>, name: &'a Line, number: usize) -> Result<bool, NoMemory>
+pub fn note_name<'a>(
+    table: &mut NameTable<'a>,
+    name: &'a Line,
+    number: usize,
+) -> Result<bool, NoMemory>
     ensures free { IfOk result (λ free. free ≡ is_none (number_in table.old name.now)) }
     ensures noted { OnOk result ((q : List ℕ) → number_in table.new q
         ≡ option_or (number_in table.old q) (when (same_text q name.now) number)) }
@@ -88,7 +92,7 @@ pub fn table_of<'a, T: Named>(alloc: Global, items: &'a [T]) -> Result<NameTable
 {
     let mut table = HashMap::with_capacity(alloc, items.len())?;
     for (i, item) in items.iter().enumerate() {
-        let _ = note(&mut table, item.name(), i)?;
+        let _ = note_name(&mut table, item.name(), i)?;
     }
     Ok(table)
 }

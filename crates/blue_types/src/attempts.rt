@@ -11,7 +11,7 @@ use crate::library::Library;
 use crate::net::{Net, arrival};
 use crate::sorts::pair_of;
 use crate::stages::{fixed_type, limited, stage_typed};
-use blue_names::ports::inputs_of;
+use blue_names::ports::input_ports;
 use blue_rules::typed::Typed;
 use elem_core::elem_type::ElemType;
 use elem_core::why::NoMemory;
@@ -78,7 +78,7 @@ fn attempt_on(
             Some(t) => Ok(Some(limited(t))),
             None => Ok(None),
         },
-        _ => match first_typed(alloc, net, types, node, inputs_of(kind))? {
+        _ => match first_typed(alloc, net, types, node, input_ports(kind))? {
             Some(t) => Ok(Some(stage_typed(alloc, library, kind, &t)?)),
             None => Ok(None),
         },

@@ -151,7 +151,7 @@ fn fix_all(
 }
 
 /// One round: it looks at the nodes of a list alone, and answers those that the next round is to look at.
-pub fn round(
+pub fn types_round(
     alloc: Global,
     library: &Library<'_>,
     net: &Net<'_>,

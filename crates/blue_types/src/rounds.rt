@@ -9,7 +9,7 @@ ghost use Rattle.blue_names.specs.Members.{is_in};
 
 use crate::library::Library;
 use crate::net::Net;
-use crate::news::round;
+use crate::news::types_round;
 use crate::stages::source_type;
 use blue_core::blueprint::Node;
 use elem_core::elem_type::ElemType;
@@ -41,7 +41,7 @@ fn all_below(alloc: Global, count: usize) -> Result<Vec<usize>, NoMemory>
 
 /// The types of the nodes, once a round fixes nothing. A round looks only at the nodes to which wires lead from those that the
 /// round before it fixed.
-pub fn settle(
+pub fn settle_types(
     alloc: Global,
     library: &Library<'_>,
     net: &Net<'_>,
@@ -59,7 +59,7 @@ pub fn settle(
         if front.is_empty() {
             return Ok(types);
         }
-        front = round(alloc, library, net, outs, &mut types, &front)?;
+        front = types_round(alloc, library, net, outs, &mut types, &front)?;
     }
     Ok(types)
 }

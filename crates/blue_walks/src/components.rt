@@ -5,7 +5,7 @@ ghost use Rattle.blue_walks.specs.Ranks.{NeverFalls};
 ghost use Rattle.blue_walks.specs.Components.{AreOrigins, AreGoals};
 
 use crate::classes::own_labels;
-use crate::depth::{ins_of, sources_of, targets_of, walk_all};
+use crate::depth::{ins_of, walk_all, walk_sources, walk_targets};
 use crate::ranks::{rank_of, tested};
 use blue_names::links::{NumberedWire, link_at};
 use elem_core::why::NoMemory;
@@ -107,12 +107,12 @@ pub fn components_of(
 {
     let along = walk_all(
         alloc,
-        &targets_of(alloc, links)?,
+        &walk_targets(alloc, links)?,
         outs,
         &own_labels(alloc, count)?,
     )?;
     let ins = ins_of(alloc, count, links)?;
-    let against = walk_all(alloc, &sources_of(alloc, links)?, &ins, &along.left)?;
+    let against = walk_all(alloc, &walk_sources(alloc, links)?, &ins, &along.left)?;
     let origins = origins_of(alloc, count, links, &against.trees, &along.wires)?;
     let goals = goals_of(alloc, count, links, &against.trees, &against.wires)?;
     Ok(Components {

@@ -124,7 +124,7 @@ pub fn walk_all(
 }
 
 /// The node to which each wire leads.
-pub fn targets_of(alloc: Global, links: &[NumberedWire]) -> Result<Vec<usize>, NoMemory> {
+pub fn walk_targets(alloc: Global, links: &[NumberedWire]) -> Result<Vec<usize>, NoMemory> {
     let mut targets = Vec::new(alloc);
     for link in links {
         targets.push(link.to)?;
@@ -133,7 +133,7 @@ pub fn targets_of(alloc: Global, links: &[NumberedWire]) -> Result<Vec<usize>, N
 }
 
 /// The node from which each wire leads.
-pub fn sources_of(alloc: Global, links: &[NumberedWire]) -> Result<Vec<usize>, NoMemory> {
+pub fn walk_sources(alloc: Global, links: &[NumberedWire]) -> Result<Vec<usize>, NoMemory> {
     let mut sources = Vec::new(alloc);
     for link in links {
         sources.push(link.from)?;

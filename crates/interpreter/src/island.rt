@@ -22,7 +22,7 @@ ghost use Rattle.boundary_calls.specs.declared.given.Wanted.TheVariants as wante
 ghost use Rattle.port_core.specs.Decoding.{can_pull};
 ghost use Rattle.port_core.specs.declared.act.Act.TheVariants as act;
 
-use crate::parts::{Parts, build_all, join};
+use crate::parts::{Parts, build_all, join_ports};
 use crate::room::{Blank, IslandRoom};
 use crate::ways::Ways;
 use boundary_calls::calls;
@@ -384,7 +384,7 @@ fn assemble<S: Source, D: Drain, L: Logic, B: PlugBook>(
         ring,
         nodes,
     } = blank;
-    join(&mut ports, &ends);
+    join_ports(&mut ports, &ends);
     let nodes = build_all(alloc, parts.nodes, nodes);
     Engine::new(nodes, ends, ports, wires, ring)
 }

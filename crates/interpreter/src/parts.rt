@@ -251,7 +251,7 @@ fn write_wire(ports: &mut Vec<Ports>, ends: WireEnds, w: u32)
 }
 
 // The wires of each place, by its ports, into the table. It takes no memory.
-pub fn join(ports: &mut Vec<Ports>, ends: &[WireEnds])
+pub fn join_ports(ports: &mut Vec<Ports>, ends: &[WireEnds])
     requires wiring { IsWiring (ins_in ports.old.items) (outs_in ports.old.items) (length ports.old.items) ends.now }
     requires few { length ends.now < 2 ^ 32 }
     ensures sized { IsSized (ins_in ports.old.items) (outs_in ports.old.items) (length ports.old.items) ports.new.items }

@@ -3,7 +3,7 @@ ghost use Rattle.std.specs.Prelude.{◌≡◌, ◌<◌, ℕ, IfOk, length, map};
 ghost use Rattle.traversal.specs.declared.plan.LanePlan.{LanePlan};
 ghost use Rattle.lane_ends.specs.Ends.{CanAllBeMade, AreRising, AreAllEnds, AreCrossings};
 
-use crate::make::{Made, make_all};
+use crate::make::{Made, make_lanes};
 use crate::share::{Shared, share};
 use elem_core::count::numbered;
 use elem_core::why::NoMemory;
@@ -31,7 +31,7 @@ pub fn ends_of(alloc: Global, lanes: &[LanePlan], count: usize) -> Result<AllEnd
     requires order { AreRising lanes.now }
     ensures { IfOk result (AreAllEnds lanes.now count) }
 {
-    let Made { outs, ins } = make_all(alloc, lanes)?;
+    let Made { outs, ins } = make_lanes(alloc, lanes)?;
     let senders = senders(alloc, lanes)?;
     let takers = takers(alloc, lanes)?;
     let outs = share(alloc, &senders, outs, count)?;

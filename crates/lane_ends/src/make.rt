@@ -33,7 +33,7 @@ fn make(alloc: Global, plan: &LanePlan) -> Result<(OutputBoundary, IslandInput),
 }
 
 /// The two ends of each lane.
-pub fn make_all(alloc: Global, lanes: &[LanePlan]) -> Result<Made, NoMemory>
+pub fn make_lanes(alloc: Global, lanes: &[LanePlan]) -> Result<Made, NoMemory>
     requires { CanAllHaveEnds lanes.now }
     ensures { IfOk result (λ made. AreMade lanes.now made.outs.items made.ins.items) }
 {

@@ -6,7 +6,7 @@ ghost use Rattle.materializer.specs.Files.{input_of, output_of, inputs_of_nodes,
 
 use blue_check::picks::picks;
 use blue_core::blueprint::{Blueprint, Node};
-use blue_names::ports::outputs_of;
+use blue_names::ports::output_ports;
 use elem_core::line::Line;
 use elem_core::why::NoMemory;
 use std::alloc::Global;
@@ -36,7 +36,7 @@ pub fn output_of(kind: &Kind) -> Option<&Line>
 pub fn is_sink(node: &Node) -> bool
     ensures { result ≡ is_sink node.now }
 {
-    outputs_of(&node.kind) == 0
+    output_ports(&node.kind) == 0
 }
 
 /// The files that these nodes read.

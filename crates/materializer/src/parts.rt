@@ -3,7 +3,7 @@ ghost use Rattle.std.specs.Prelude.{◌≡◌, IfOk};
 ghost use Rattle.materializer.specs.Planned.{places_from};
 
 use blue_core::blueprint::Node;
-use blue_names::ports::{inputs_of, outputs_of};
+use blue_names::ports::{input_ports, output_ports};
 use elem_core::count::numbered;
 use elem_core::why::NoMemory;
 use interpreter::parts::Place;
@@ -17,8 +17,8 @@ pub fn places_of(alloc: Global, nodes: &[Node]) -> Result<Vec<Place>, NoMemory>
     for (i, node) in nodes.iter().enumerate() {
         places.push(Place {
             node: numbered(i)?,
-            inputs: inputs_of(&node.kind),
-            outputs: outputs_of(&node.kind),
+            inputs: input_ports(&node.kind),
+            outputs: output_ports(&node.kind),
         })?;
     }
     Ok(places)

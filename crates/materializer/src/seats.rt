@@ -21,7 +21,7 @@ ghost use Rattle.stream_model.specs.declared.kind.Kind.TheVariants as kind;
 
 use crate::chains::steps_of_kind;
 use blue_core::blueprint::{ChainDecl, Node};
-use blue_names::ports::{inputs_of, outputs_of};
+use blue_names::ports::{input_ports, output_ports};
 use elem_core::count::numbered;
 use elem_core::why::{Decider, NoMemory};
 use interpreter::parts::{Seated, Work};
@@ -127,7 +127,7 @@ fn fan_in_work<S: Source, D: Drain, L: Logic, B: PlugBook>(
     ensures work { IfOk result (λ w. (chains : List graph.Chain) → IsFreeWork chains k kind decider w) }
     ensures seat { IfOk result (λ w. work_seat w ≡ None) }
 {
-    let inputs = inputs_of(&kind);
+    let inputs = input_ports(&kind);
     Ok(Work::FanIn(InLogic::new(alloc, k, kind, decider)?, inputs))
 }
 
@@ -142,7 +142,7 @@ fn fan_out_work<S: Source, D: Drain, L: Logic, B: PlugBook>(
     ensures work { IfOk result (λ w. (chains : List graph.Chain) → IsFreeWork chains k kind decider w) }
     ensures seat { IfOk result (λ w. work_seat w ≡ None) }
 {
-    let outputs = outputs_of(&kind);
+    let outputs = output_ports(&kind);
     Ok(Work::FanOut(OutLogic::new(alloc, k, kind, decider)?, outputs))
 }
 

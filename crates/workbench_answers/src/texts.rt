@@ -20,9 +20,9 @@ use itoa::Buffer;
 use std::alloc::Global;
 use workbench_draw::draw::{draw, draw_unfit};
 use workbench_explain::explain::explain;
-use workbench_faults::judge::{Unready, judge};
+use workbench_faults::judge::{Unready, judge_text};
 use workbench_faults::message::message_of;
-use workbench_turns::turns::{TurnsEnd, turns};
+use workbench_turns::turns::{TurnsEnd, count_units};
 
 /// The answer that tells of a fault of a text.
 fn faulty(alloc: Global, text: &[u8], file: &Line, why: &Unready) -> Answer
@@ -49,7 +49,7 @@ fn blaming(alloc: Global, text: &[u8], file: &Line, why: &Unready) -> Answer
 pub fn check_text(alloc: Global, text: &[u8], file: &Line) -> Answer
     ensures { Checks text.now file.now result }
 {
-    match judge(alloc, text, file) {
+    match judge_text(alloc, text, file) {
         Ok(_) => Answer::saying(alloc, Vec::new(alloc)),
         Err(why) => blaming(alloc, text, file, &why),
     }
@@ -169,7 +169,7 @@ fn drawn_again(
 pub fn draw_text(alloc: Global, text: &[u8], file: &Line) -> Answer
     ensures { Drawn text.now file.now result }
 {
-    match judge(alloc, text, file) {
+    match judge_text(alloc, text, file) {
         Ok(c) => match drawn_fit(alloc, text, file, &c) {
             Ok(answer) => answer,
             Err(_) => blaming(alloc, text, file, &Unready::NoMemory),
@@ -228,7 +228,7 @@ fn counted(alloc: Global, text: &[u8], file: &Line, counts: &[u64], c: &Checked)
     requires { IsFitText text.now file.now (blueprint_of c.now) }
     ensures { Counts text.now file.now counts.now result }
 {
-    match turns(alloc, c, counts) {
+    match count_units(alloc, c, counts) {
         Ok(said) => Answer::saying(alloc, said),
         Err(end) => uncounted(alloc, &end),
     }
@@ -238,7 +238,7 @@ fn counted(alloc: Global, text: &[u8], file: &Line, counts: &[u64], c: &Checked)
 pub fn count_text(alloc: Global, text: &[u8], file: &Line, counts: &[u64]) -> Answer
     ensures { Counts text.now file.now counts.now result }
 {
-    match judge(alloc, text, file) {
+    match judge_text(alloc, text, file) {
         Ok(c) => counted(alloc, text, file, counts, &c),
         Err(why) => blaming(alloc, text, file, &why),
     }

@@ -8,7 +8,7 @@ use blue_names::outs::outs_of;
 use blue_names::ports::targets_of;
 use blue_types::library::Library;
 use blue_types::net::{Net, type_on};
-use blue_types::rounds::settle;
+use blue_types::rounds::settle_types;
 use elem_core::elem_type::ElemType;
 use elem_core::why::NoMemory;
 use std::alloc::Global;
@@ -31,7 +31,7 @@ fn types_in(
         links,
         targets: &targets,
     };
-    let settled = settle(alloc, &library, &net, &outs)?;
+    let settled = settle_types(alloc, &library, &net, &outs)?;
     let mut types = Vec::new(alloc);
     for link in links {
         types.push(type_on(alloc, &net, &settled, *link)?)?;

@@ -10,7 +10,7 @@ use blue_words::words::is_word;
 use elem_core::line::Line;
 use elem_core::why::NoMemory;
 use std::alloc::Global;
-use workbench_faults::judge::{Unready, judge};
+use workbench_faults::judge::{Unready, judge_text};
 use workbench_faults::message::message_of;
 
 /// Appends what a line behind the first says, and says whether it is one of such a report.
@@ -62,7 +62,7 @@ fn of_fault(
     file: &Line,
     line: &[u8],
 ) -> Result<Option<Vec<u8>>, NoMemory> {
-    let why = match judge(alloc, text, file) {
+    let why = match judge_text(alloc, text, file) {
         Ok(_) => return Ok(None),
         Err(why) => why,
     };

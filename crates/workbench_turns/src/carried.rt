@@ -5,7 +5,7 @@ ghost use Rattle.workbench_turns.specs.Carried.{number_at, own, passed, passed_a
 
 use blue_core::blueprint::Node;
 use blue_names::links::NumberedWire;
-use blue_names::ports::inputs_of;
+use blue_names::ports::input_ports;
 use elem_core::why::NoMemory;
 use std::alloc::Global;
 
@@ -25,7 +25,7 @@ pub(crate) fn sources_in(nodes: &[Node]) -> usize
 {
     let mut count = 0;
     for node in nodes {
-        if inputs_of(&node.kind) == 0 {
+        if input_ports(&node.kind) == 0 {
             count += 1;
         }
     }
@@ -39,7 +39,7 @@ pub(crate) fn own_of(alloc: Global, nodes: &[Node], counts: &[u64]) -> Result<Ve
     let mut numbers = Vec::new(alloc);
     let mut rest = counts;
     for node in nodes {
-        if inputs_of(&node.kind) != 0 {
+        if input_ports(&node.kind) != 0 {
             numbers.push(0)?;
         } else if let Some((count, later)) = rest.split_first() {
             numbers.push(*count)?;

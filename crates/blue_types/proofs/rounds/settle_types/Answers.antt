@@ -6,7 +6,7 @@ use Rattle.elem_core.specs.Sort.{Sort}
 use Rattle.blue_types.specs.Net.{type_at}
 use Rattle.blue_types.specs.Would.{would}
 use Rattle.blue_types.proofs.Settling.{Settles, Settles-next, Settles-early, written_back}
-use Rattle.blue_types.proofs.rounds.settle.Goals as goal
+use Rattle.blue_types.proofs.rounds.settle_types.Goals as goal
 
 pub returns-then-is_empty : goal.returns-then-is_empty
 returns-then-is_empty c =
@@ -20,9 +20,9 @@ rounds-preserved c =
     let l = c.args.library.now in
     let n = c.args.net.now in
     let value : c.deref_mut.result.now ≡ c.rounds.types.items = c.deref_mut.ensures.value in
-    let count : length c.round.new.types ≡ length c.rounds.types.items = c.round.auto.types ∙ ap length value in
-    let back : take c.rounds.types.len (c.round.new.types ++ drop (length c.round.new.types) c.rounds.types.items) ≡ c.round.new.types = written_back c.rounds.types.items c.round.new.types c.rounds.types.len c.rounds.types.ok.0 count in
+    let count : length c.types_round.new.types ≡ length c.rounds.types.items = c.types_round.auto.types ∙ ap length value in
+    let back : take c.rounds.types.len (c.types_round.new.types ++ drop (length c.types_round.new.types) c.rounds.types.items) ≡ c.types_round.new.types = written_back c.rounds.types.items c.types_round.new.types c.rounds.types.len c.rounds.types.ok.0 count in
     subst (λ xs. Settles l n xs c.in_ok-front-2.front.items (c.rounds.counter + 1)) (sym back)
-    (Settles-next l n c.rounds.types.items c.round.new.types c.rounds.front.items c.in_ok-front-2.front.items c.rounds.counter c.rounds.invariant count
-    (subst (λ xs. (i : ℕ) → type_at c.round.new.types i ≡ option_or (type_at xs i) (would l n (type_at xs) i)) value c.in_ok-front-2.ensures.next)
+    (Settles-next l n c.rounds.types.items c.types_round.new.types c.rounds.front.items c.in_ok-front-2.front.items c.rounds.counter c.rounds.invariant count
+    (subst (λ xs. (i : ℕ) → type_at c.types_round.new.types i ≡ option_or (type_at xs i) (would l n (type_at xs) i)) value c.in_ok-front-2.ensures.next)
     c.in_ok-front-2.ensures.rests)

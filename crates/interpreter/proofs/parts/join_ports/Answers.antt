@@ -1,7 +1,7 @@
 -- The goals of `parts::join` that the search leaves.
 use Rattle.std.proofs.Common.{◌≡◌, rules, length}
 use Rattle.interpreter.proofs.Tables.{sized_next, filled_next, wired_of}
-use Rattle.interpreter.proofs.parts.join.Goals as goal
+use Rattle.interpreter.proofs.parts.join_ports.Goals as goal
 
 pub loop-w-preserved : goal.loop-w-preserved
 loop-w-preserved c = rw c.write_wire.ensures (

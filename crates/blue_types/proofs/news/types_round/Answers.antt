@@ -7,7 +7,7 @@ use Rattle.blue_types.specs.Net.{type_at}
 use Rattle.blue_types.specs.News.{AreReached, news_at}
 use Rattle.blue_types.specs.Would.{would}
 use Rattle.blue_types.proofs.RoundSteps.{Rests-next, attempt_at-same}
-use Rattle.blue_types.proofs.news.round.Goals as goal
+use Rattle.blue_types.proofs.news.types_round.Goals as goal
 
 pub returns-clause-rests : goal.returns-clause-rests
 returns-clause-rests c =

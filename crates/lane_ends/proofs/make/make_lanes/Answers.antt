@@ -1,7 +1,7 @@
 -- The goals of `make::make_all` that the search leaves.
 use Rattle.std.proofs.Common.{arith}
 use Rattle.lane_ends.proofs.Making.{lane_at, making_first, making_next, making_last}
-use Rattle.lane_ends.proofs.make.make_all.Goals as goal
+use Rattle.lane_ends.proofs.make.make_lanes.Goals as goal
 
 pub make-requires : goal.make-requires
 make-requires c = c.requires c.loop-plan.plan-index _ (lane_at _ _ c.loop-plan-test.true)

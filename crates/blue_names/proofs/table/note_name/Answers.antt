@@ -4,7 +4,7 @@ use Rattle.elem_core.specs.Values.{same_text}
 use Rattle.blue_rules.specs.First.{when}
 use Rattle.blue_names.specs.Table.{number_in}
 use Rattle.blue_names.proofs.NameTables.{noted_free, noted_again}
-use Rattle.blue_names.proofs.table.note.Goals as goal
+use Rattle.blue_names.proofs.table.note_name.Goals as goal
 
 pub returns-in-None-clause-noted : goal.returns-in-None-clause-noted
 returns-in-None-clause-noted c =

@@ -12,7 +12,7 @@ use Rattle.interpreter.specs.declared.parts.Seated.{Seated}
 use Rattle.run_account.specs.Account.{Account, NodeKeeps, IsStill}
 use Rattle.run_account.specs.Pictures.{counts_from}
 use Rattle.run_account.specs.Ports.{wire_count}
-use Rattle.run_laws.specs.Runs.{IsRun}
+use Rattle.run_outlook_laws.specs.Runs.{IsRun}
 use Rattle.bodies_run.specs.Leaving.{AreLeft, of_lists}
 use Rattle.bodies_run.proofs.Leaving.{become_many}
 use Rattle.stream_model.specs.Linear.{Book}

@@ -10,8 +10,8 @@ use Rattle.fused_net.specs.Laws.{AllKept}
 use Rattle.nodes.specs.Nodes.{KeepsNode}
 use Rattle.nodes.specs.declared.node.IslandNode.{IslandNode}
 use Rattle.interpreter.specs.declared.parts.Seated.{Seated}
-use Rattle.run_laws.specs.Runs.{IsRun}
-use Rattle.run_laws.proofs.Islands.{all_run}
+use Rattle.run_outlook_laws.specs.Runs.{IsRun}
+use Rattle.run_outlook_laws.proofs.Islands.{all_run}
 use Rattle.materializer.specs.Graphs.{graph_of, chains_of}
 use Rattle.materializer.specs.Seats.{AreSeats}
 use Rattle.materializer.proofs.Fitting.{fit_joined}

@@ -13,7 +13,7 @@ use Rattle.interpreter.specs.Parts.{AllBecome}
 use Rattle.interpreter.specs.declared.parts.Seated.{Seated}
 use Rattle.run_account.specs.Account.{Account, AllMade}
 use Rattle.run_account.specs.Seats.{joined}
-use Rattle.run_laws.specs.Made.{FirstOf}
+use Rattle.run_outlook_laws.specs.Made.{FirstOf}
 use Rattle.materializer.specs.Graphs.{graph_of, chains_of}
 use Rattle.materializer.specs.Seats.{AreSeats}
 use Rattle.materializer.proofs.Making.{are_firsts}

@@ -13,7 +13,7 @@ ghost use Rattle.nodes.specs.declared.node.IslandNode.{IslandNode};
 ghost use Rattle.interpreter.specs.declared.parts.Seated.{Seated};
 ghost use Rattle.run_account.specs.Account.{Account, IsStill};
 ghost use Rattle.run_account.specs.Pictures.{counts_of};
-ghost use Rattle.run_laws.specs.Runs.{IsRun};
+ghost use Rattle.run_outlook_laws.specs.Runs.{IsRun};
 ghost use Rattle.materializer.specs.Graphs.{graph_of, chains_of};
 ghost use Rattle.materializer.specs.Seats.{AreSeats};
 ghost use Rattle.rounds.specs.Bodies.{AllOf, EachOf};

@@ -26,14 +26,14 @@ use Rattle.interpreter.specs.declared.parts.Seated.{Seated}
 use Rattle.interpreter.specs.declared.parts.Work.{Work}
 use Rattle.interpreter.specs.declared.parts.Work.TheVariants as work
 use Rattle.run_account.specs.Account.{Account}
-use Rattle.run_laws.specs.Made.{FirstOf}
-use Rattle.run_laws.specs.Runs.{IsRun}
-use Rattle.run_laws.specs.Telling.{seat_at, AreSettled}
+use Rattle.run_outlook_laws.specs.Made.{FirstOf}
+use Rattle.run_outlook_laws.specs.Runs.{IsRun}
+use Rattle.run_outlook_laws.specs.Telling.{seat_at, AreSettled}
 use Rattle.blue_core.specs.declared.blueprint.Blueprint.{Blueprint}
 use Rattle.blue_core.specs.declared.blueprint.Node as blue
 use Rattle.materializer.specs.Graphs.{graph_of, node_of}
 use Rattle.materializer.specs.Seats.{place_seat}
-use Rattle.switch_laws.specs.Settling.{kinds_of, AllSettled}
+use Rattle.run_switch_laws.specs.Settling.{kinds_of, AllSettled}
 use Rattle.switch_board.specs.Board.{switch_of, switch_at, IsSeatAt, AreAtSwitches, numbered_from, seat_in}
 use Rattle.switch_board.specs.declared.board.Board.{Board}
 use Rattle.stream_model.specs.Linear.{Book}

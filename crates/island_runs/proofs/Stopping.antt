@@ -19,14 +19,14 @@ use Rattle.interpreter.specs.declared.island.IslandEnd.{IslandEnd}
 use Rattle.interpreter.specs.declared.parts.Seated.{Seated}
 use Rattle.run_account.specs.Account.{Account, IsStill}
 use Rattle.run_account.specs.Pictures.{counts_of}
-use Rattle.run_laws.specs.Runs.{IsRun}
+use Rattle.run_outlook_laws.specs.Runs.{IsRun}
 use Rattle.materializer.specs.Graphs.{graph_of, chains_of}
 use Rattle.materializer.specs.Seats.{AreSeats, place_seat}
 use Rattle.bodies_run.specs.Leaving.{AreLeft, of_lists}
 use Rattle.bodies_run.proofs.Alone.{run_alone, still_alone, counts_alone}
 use Rattle.bodies_run.specs.Counts.{all_sent}
 use Rattle.whole_ends.specs.Whole.{IsLeftBy}
-use Rattle.switch_laws.specs.Settling.{AllSettled}
+use Rattle.run_switch_laws.specs.Settling.{AllSettled}
 use Rattle.switch_board.specs.Board.{AreAtSwitches, numbered_from, seat_in}
 use Rattle.switch_board.specs.declared.board.Board.{Board}
 use Rattle.island_runs.specs.Leaving.{Moment, Leaves, LeavesBroken}

@@ -16,8 +16,8 @@ use Rattle.interpreter.specs.Picks.{pick_of, picks_of}
 use Rattle.interpreter.specs.Island.{sinks_of, readers_of, writers_of}
 use Rattle.run_account.specs.Account.{Account, IsStill}
 use Rattle.run_account.specs.Pictures.{counts_of}
-use Rattle.run_laws.specs.Runs.{IsRun}
-use Rattle.run_laws.specs.Telling.{AreSettled}
+use Rattle.run_outlook_laws.specs.Runs.{IsRun}
+use Rattle.run_outlook_laws.specs.Telling.{AreSettled}
 use Rattle.materializer.specs.Graphs.{graph_of, chains_of}
 use Rattle.materializer.specs.Seats.{AreSeats}
 use Rattle.bodies_run.specs.Counts.{all_sent}

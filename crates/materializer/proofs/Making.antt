@@ -15,7 +15,7 @@ use Rattle.interpreter.specs.declared.parts.Work.{Work}
 use Rattle.interpreter.specs.declared.parts.Work.TheVariants as work
 use Rattle.interpreter.specs.Parts.{BecomesOf, AllBecome}
 use Rattle.interpreter.proofs.Islands.{same_count}
-use Rattle.run_laws.specs.Made.{FirstOf}
+use Rattle.run_outlook_laws.specs.Made.{FirstOf}
 use Rattle.blue_core.specs.declared.blueprint.Blueprint.{Blueprint}
 use Rattle.blue_core.specs.declared.blueprint.Node as blue
 use Rattle.materializer.specs.Files.{input_of}

@@ -2,7 +2,7 @@
 ghost use Rattle.std.specs.Prelude.{◌≡◌, map};
 ghost use Rattle.line_chain.specs.Line.{step_of};
 ghost use Rattle.materializer.specs.Graphs.{chain_of};
-ghost use Rattle.run_laws.specs.Made.{chain_name};
+ghost use Rattle.run_outlook_laws.specs.Made.{chain_name};
 ghost use Rattle.stage_sub.specs.Handling.{IsSub};
 ghost use Rattle.stream_model.specs.Graph.{steps_of};
 

@@ -12,8 +12,8 @@ use Rattle.elem_core.specs.declared.why.Why.{Why}
 use Rattle.plug_core.specs.declared.head.PlugHead.{PlugHead}
 use Rattle.plug_logic.specs.Gives.{Gives}
 use Rattle.plug_logic.specs.Shipped.{last_behind, unrepeated, dedup_after, waiting, summed, paired, odd, sums_after, silent, shipped_book}
-use Rattle.type_laws.specs.Plugs.{KeepsPlugTypes}
-use Rattle.type_laws.specs.Types.{HasType, AllTyped}
+use Rattle.run_type_laws.specs.Plugs.{KeepsPlugTypes}
+use Rattle.run_type_laws.specs.Types.{HasType, AllTyped}
 use Rattle.stream_shipped.specs.Heads.{shipped_heads}
 
 -- ---- dedup

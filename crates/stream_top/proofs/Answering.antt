@@ -17,7 +17,7 @@ use Rattle.elem_core.specs.Tree.{Tree}
 use Rattle.elem_core.specs.declared.why.Cause.{Cause}
 use Rattle.stream_model.specs.Composed.{composed, sink_outlook}
 use Rattle.stream_picture.specs.Shape.{IsPolytree, need, count_needed}
-use Rattle.run_laws.specs.Sinks.{SinkTells}
+use Rattle.run_outlook_laws.specs.Sinks.{SinkTells}
 use Rattle.stream_io.specs.Counts.{Rose, Grew, GrewAtMost}
 use Rattle.stream_io.specs.State.{FolderState, SameFiles}
 use Rattle.blue_words.specs.declared.fault.BlueFault.{BlueFault}
@@ -34,19 +34,19 @@ use Rattle.materializer.specs.Files.{input_of, output_of, is_sink, sinks_of_node
 use Rattle.run_files.specs.Quiet.{Quiet, QuietBut}
 use Rattle.run_files.specs.Opening.{MissesInput, RefusesOutput, Empties}
 use Rattle.interpreter.specs.Picks.{Pick, pick_of}
-use Rattle.blueprint_run.specs.Carrying.{Carries}
-use Rattle.blueprint_run.specs.Choosing.{pick_places, picked}
-use Rattle.blueprint_run.specs.Drawing.{Drawn, IsSource, WasRead, IsWorldOf}
-use Rattle.blueprint_run.specs.Stands.{Stand, sink_places, is_write_fault, is_unended, is_failed}
-use Rattle.blueprint_run.specs.Units.{Pays}
-use Rattle.blueprint_run.specs.Running.{SinkLeaves, LeavesFiles, WritesOf, Runs, BreaksFiles, Wants}
-use Rattle.blueprint_run.specs.Tracing.{written_files, IsApart, Traces}
-use Rattle.blueprint_run.specs.declared.run.RunResult.{RunResult}
+use Rattle.run_blueprint.specs.Carrying.{Carries}
+use Rattle.run_blueprint.specs.Choosing.{pick_places, picked}
+use Rattle.run_blueprint.specs.Drawing.{Drawn, IsSource, WasRead, IsWorldOf}
+use Rattle.run_blueprint.specs.Stands.{Stand, sink_places, is_write_fault, is_unended, is_failed}
+use Rattle.run_blueprint.specs.Units.{Pays}
+use Rattle.run_blueprint.specs.Running.{SinkLeaves, LeavesFiles, WritesOf, Runs, BreaksFiles, Wants}
+use Rattle.run_blueprint.specs.Tracing.{written_files, IsApart, Traces}
+use Rattle.run_blueprint.specs.declared.run.RunResult.{RunResult}
 use Rattle.run_files.proofs.Counts.{grew_same, quiet_two}
-use Rattle.blueprint_run.proofs.Counts.{grew_behind}
-use Rattle.blueprint_run.proofs.Places.{contains_at, filtered_at, place_within}
-use Rattle.blueprint_run.proofs.Apart.{inputs_untaken, outputs_untaken}
-use Rattle.blueprint_run.proofs.Traces.{in_list}
+use Rattle.run_blueprint.proofs.Counts.{grew_behind}
+use Rattle.run_blueprint.proofs.Places.{contains_at, filtered_at, place_within}
+use Rattle.run_blueprint.proofs.Apart.{inputs_untaken, outputs_untaken}
+use Rattle.run_blueprint.proofs.Traces.{in_list}
 use Rattle.run_report.specs.Answer.{Answer}
 use Rattle.run_report.specs.declared.outcome.SinkEnd.{SinkEnd}
 use Rattle.run_report.specs.declared.outcome.Status.{Status}

@@ -11,7 +11,7 @@ use Rattle.blue_check.specs.declared.fault.CheckFault.{CheckFault}
 use Rattle.blue_check.specs.declared.fault.CheckFault.TheVariants as fault
 use Rattle.blue_rules.specs.Paths.{HasNoClosedWalk}
 use Rattle.materializer.specs.Files.{inputs_of_nodes}
-use Rattle.blueprint_run.proofs.Places.{all_at}
+use Rattle.run_blueprint.proofs.Places.{all_at}
 use Rattle.run_report.specs.Answer.{Answer}
 use Rattle.run_report.specs.declared.outcome.Status.{Status}
 use Rattle.run_report.specs.declared.outcome.Status.TheVariants as status

@@ -6,10 +6,10 @@ use Rattle.blue_core.specs.declared.blueprint.Blueprint.{Blueprint}
 use Rattle.blue_check.specs.Fitness.{IsFit}
 use Rattle.blue_lang.specs.Plain.{plain}
 use Rattle.blue_lang.specs.Blueprints as language
-use Rattle.blueprint_run.specs.Stands.{Stand, is_write_fault, is_unended, is_failed}
+use Rattle.run_blueprint.specs.Stands.{Stand, is_write_fault, is_unended, is_failed}
 use Rattle.dispatcher.specs.declared.ran.Ran.{Ran}
 use Rattle.file_text.specs.Text.{ReadsFile}
-use Rattle.blueprint_run.specs.Receipt.{HasIslands, IsReceipt}
+use Rattle.run_blueprint.specs.Receipt.{HasIslands, IsReceipt}
 use Rattle.run_report.specs.declared.outcome.Status.{Status}
 use Rattle.run_report.specs.declared.outcome.Status.TheVariants as status
 use Rattle.stream_io.specs.State.{FolderState}

@@ -5,8 +5,8 @@ use Rattle.stream_model.specs.declared.outcome.EndState.{EndState}
 use Rattle.stream_model.specs.declared.outcome.EndState.TheVariants as state
 use Rattle.blue_core.specs.declared.blueprint.Node.{Node}
 use Rattle.interpreter.specs.Picks.{pick_of}
-use Rattle.blueprint_run.specs.Stands.{Stand, is_write_fault, is_unended, is_failed}
-use Rattle.blueprint_run.specs.declared.run.RunResult.{RunResult}
+use Rattle.run_blueprint.specs.Stands.{Stand, is_write_fault, is_unended, is_failed}
+use Rattle.run_blueprint.specs.declared.run.RunResult.{RunResult}
 use Rattle.run_report.specs.Answer.{Answer}
 use Rattle.run_report.specs.declared.outcome.SinkEnd.{SinkEnd}
 use Rattle.run_report.specs.declared.outcome.Status.{Status}

@@ -19,13 +19,13 @@ use Rattle.materializer.specs.Files.{output_of, inputs_of_nodes, outputs_of_node
 use Rattle.materializer.specs.Graphs.{graph_of, node_of}
 use Rattle.run_files.specs.Quiet.{Quiet, QuietBut}
 use Rattle.run_files.specs.Opening.{Empties}
-use Rattle.blueprint_run.specs.Carrying.{Carries}
-use Rattle.blueprint_run.specs.Choosing.{pick_places, picked}
-use Rattle.blueprint_run.specs.Drawing.{Drawn, IsWorldOf}
-use Rattle.blueprint_run.specs.Stands.{Stand, sink_places}
-use Rattle.blueprint_run.specs.Tracing.{Traces, written_files}
-use Rattle.blueprint_run.specs.Units.{Pays}
-use Rattle.blueprint_run.specs.Running.{LeavesFiles, WritesOf, BreaksFiles}
+use Rattle.run_blueprint.specs.Carrying.{Carries}
+use Rattle.run_blueprint.specs.Choosing.{pick_places, picked}
+use Rattle.run_blueprint.specs.Drawing.{Drawn, IsWorldOf}
+use Rattle.run_blueprint.specs.Stands.{Stand, sink_places}
+use Rattle.run_blueprint.specs.Tracing.{Traces, written_files}
+use Rattle.run_blueprint.specs.Units.{Pays}
+use Rattle.run_blueprint.specs.Running.{LeavesFiles, WritesOf, BreaksFiles}
 use Rattle.run_report.specs.Answer.{Answer}
 use Rattle.run_report.specs.declared.outcome.Status.{Status}
 use Rattle.run_report.specs.declared.outcome.Status.TheVariants as status

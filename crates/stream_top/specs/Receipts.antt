@@ -5,7 +5,7 @@ use Rattle.blue_check.specs.Fitness.{IsFit}
 use Rattle.blue_lang.specs.Blueprints as language
 use Rattle.blue_lang.specs.Plain.{plain}
 use Rattle.dispatcher.specs.declared.ran.Ran.{Ran}
-use Rattle.blueprint_run.specs.Receipt.{HasIslands}
+use Rattle.run_blueprint.specs.Receipt.{HasIslands}
 use Rattle.run_report.specs.declared.outcome.Status.{Status}
 use Rattle.run_report.specs.declared.outcome.Status.TheVariants as status
 use Rattle.stream_io.specs.State.{FolderState}

@@ -2,8 +2,8 @@
 ghost use Rattle.std.specs.Prelude.{ℕ, List, ◌≡◌, ◌<◌, ◌≤◌, ◌||◌, [], ◌⊎◌, Option, map, length, IfOk, IfSome, IsTrue, Some, None, vec_len, vec_capacity};
 ghost use Rattle.blue_check.specs.Checked.{blueprint_of};
 ghost use Rattle.blue_check.specs.Fitness.{IsFit};
-ghost use Rattle.blueprint_run.specs.Stands.{is_unended, is_write_fault, is_failed};
-ghost use Rattle.blueprint_run.specs.Tracing.{IsApart};
+ghost use Rattle.run_blueprint.specs.Stands.{is_unended, is_write_fault, is_failed};
+ghost use Rattle.run_blueprint.specs.Tracing.{IsApart};
 ghost use Rattle.run_report.specs.Report.{detail_of};
 ghost use Rattle.std.specs.List.{All, Contains, list_any};
 ghost use Rattle.std.specs.Option.{option_copied};
@@ -13,7 +13,7 @@ ghost use Rattle.stream_top.specs.AfterRun.{AfterRun, of_outcome, status_after, 
 ghost use Rattle.stream_io.specs.Counts.{GrewAtMost};
 ghost use Rattle.stream_top.specs.Outcome.{taken_files, Blank, EndedRun, Told, RunCauses, Causes, SinksOf, QuietButAll, QuietAmong};
 ghost use Rattle.file_text.specs.Text.{text_limit};
-ghost use Rattle.blueprint_run.specs.Receipt.{HasIslands};
+ghost use Rattle.run_blueprint.specs.Receipt.{HasIslands};
 ghost use Rattle.stream_top.specs.Receipts.{Receipts, RanIslands, RanText, RanFile};
 ghost use Rattle.stream_top.specs.Texts.{EndedParsed, EndedText, CausesText};
 ghost use Rattle.plug_board.specs.Handed.{GivesAsListed, HasPlugs};
@@ -25,7 +25,6 @@ use blue_check::detail::put_detail;
 use blue_check::fault::CheckFault;
 use blue_core::blueprint::Blueprint;
 use blue_lang::parse::{ParseEnd, parse};
-use blueprint_run::run::{RunResult, run};
 use dispatcher::ran::Ran;
 use elem_core::line::Line;
 use elem_core::why::NoMemory;
@@ -35,6 +34,7 @@ use plug_board::heads::heads_of;
 use plug_logic::book::PlugBook;
 use plug_logic::logic::Logic;
 use plug_logic::plug::Plug;
+use run_blueprint::run::{RunResult, run};
 use run_files::open::OpenEnd;
 use run_report::outcome::{SinkEnd, Status};
 use std::alloc::Global;
@@ -209,7 +209,7 @@ fn sinks_to_tell(alloc: Global, b: &Blueprint) -> Result<(Vec<Line>, Vec<SinkEnd
 }
 
 /// Runs a blueprint that can be run.
-fn run_blueprint<R: Threads + Wait + Sync, F: Folder, L: Logic + Send, B: PlugBook + Send>(
+fn run_fit<R: Threads + Wait + Sync, F: Folder, L: Logic + Send, B: PlugBook + Send>(
     rt: &R,
     alloc: Global,
     folder: &mut F,
@@ -273,7 +273,7 @@ fn run_checked<R: Threads + Wait + Sync, F: Folder, L: Logic + Send, B: PlugBook
     ensures islands { (taken : List (List ℕ)) → IsFit (blueprint_of checked) (map (λ p. p.head) plugs.items) taken → IfSome result.ran (λ r. RanIslands (plugged_by B.lists plugs.items) (blueprint_of checked) taken r) }
     ensures handles { F.handles folder.new ≡ F.handles folder.old }
 {
-    run_blueprint::<R, F, L, B>(
+    run_fit::<R, F, L, B>(
         rt,
         alloc,
         folder,

@@ -5,7 +5,7 @@ use Rattle.std.proofs.lemmas.Slice.Eq.{bytes_eq-Decides}
 use Rattle.elem_core.specs.Values.{same_text}
 use Rattle.stream_model.specs.declared.kind.Kind.{Kind}
 use Rattle.stream_model.specs.declared.kind.Kind.TheVariants.{Valve, TripShutdown, TripAbort}
-use Rattle.switch_laws.specs.Settling.{IsAt}
+use Rattle.run_switch_laws.specs.Settling.{IsAt}
 use Rattle.switch_board.specs.Board.{switch_of, is_name, first_from, place_by, place_of, places_in}
 use Rattle.switch_board.specs.Dealing.{AreRooted}
 

@@ -10,7 +10,7 @@ use Rattle.std.proofs.lemmas.List.{length-map}
 use Rattle.std.proofs.lemmas.List.Elements.{Contains-get_or}
 use Rattle.kill_core.specs.Public.{SwitchState, SeatState, IsSeatOf}
 use Rattle.stream_model.specs.declared.kind.Kind.{Kind}
-use Rattle.switch_laws.specs.Settling.{SeatsAre, AllSettled}
+use Rattle.run_switch_laws.specs.Settling.{SeatsAre, AllSettled}
 use Rattle.switch_board.specs.declared.board.Board.{Board}
 use Rattle.switch_board.specs.Board.{switch_of, place_by, place_of, sits, count_at, IsBoard, switch_at, held, switch_behind, IsSeatAt, AreAtSwitches, numbered_from, seat_there, seat_in}
 use Rattle.switch_board.specs.Dealing.{seats_at, HaveLists, HaveRoom, HaveSeats, AllWhole, ListsSettled}

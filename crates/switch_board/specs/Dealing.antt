@@ -8,7 +8,7 @@ use Rattle.std.specs.declared.vec.Vec.{Vec}
 use Rattle.kill_core.specs.declared.end.SwitchEnd.{SwitchEnd}
 use Rattle.kill_core.specs.declared.order.Order.{Order}
 use Rattle.kill_core.specs.Public.{SwitchState, SeatState, IsSeatOf, IsNewSeat}
-use Rattle.switch_laws.specs.Settling.{IsSettled}
+use Rattle.run_switch_laws.specs.Settling.{IsSettled}
 use Rattle.switch_board.specs.Board.{sits, count_at}
 
 -- ---- handing out

@@ -4,7 +4,7 @@ ghost use Rattle.std.specs.List.{All};
 ghost use Rattle.std.specs.Arc.{arc_value};
 ghost use Rattle.kill_core.specs.Public.{SeatState, IsNewSeat};
 ghost use Rattle.stream_model.specs.declared.kind.Kind.{Kind};
-ghost use Rattle.switch_laws.specs.Settling.{AllSettled};
+ghost use Rattle.run_switch_laws.specs.Settling.{AllSettled};
 ghost use Rattle.switch_board.specs.Board.{switch_of, is_name, first_from, place_of, places_in, sits, count_at, IsBoard, AreAtSwitches, AreHanded, seat_of_end, numbered_from, seat_in};
 ghost use Rattle.switch_board.specs.Dealing.{AreRooted, IsHanded, IsDealt, IsMade, IsPut, HasRoom, HaveLists, AreEmpty, HaveRoom, HaveSeats, AreWhole, AllWhole, IsSettledAt, ListsSettled};
 

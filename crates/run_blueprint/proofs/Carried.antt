@@ -1,0 +1,111 @@
+-- What passed the wires of a run, by what was sent on each.
+use Rattle.std.proofs.Common.{◌≡◌, ◌≢◌, ℕ, ◌<◌, ◌⊎◌, inl, inr, false, List, [], length, map, Some, refl, sym, ap, subst, ◌∙◌}
+use Rattle.std.specs.Prelude.{slice_get}
+use Rattle.elem_core.specs.Tree.{Tree, text}
+use Rattle.elem_core.specs.declared.item.Item.{Item}
+use Rattle.stream_model.specs.declared.kind.Kind.{Kind}
+use Rattle.stream_model.specs.declared.kind.Kind.TheVariants.{Lines}
+use Rattle.stream_model.specs.declared.outcome.WireCount.{WireCount}
+use Rattle.stream_model.specs.Composed.{next, IsRanked}
+use Rattle.stream_model.specs.Graph.{Graph, Edge}
+use Rattle.stream_model.specs.Graph as graph
+use Rattle.stream_model.specs.Linear.{Book}
+use Rattle.stream_model.specs.Node.{World}
+use Rattle.stream_model.specs.Outlook.{Outlook, End}
+use Rattle.stream_model.proofs.Compositions.{slice_get-below}
+use Rattle.stage_law.specs.Held.{told}
+use Rattle.stream_picture.specs.Shape.{sent_at}
+use Rattle.wire_core.specs.Counts.{elements}
+use Rattle.run_account.specs.Items.{list_of, standing, AgreesWith}
+use Rattle.run_outlook_laws.specs.Reads.{GivesTexts}
+use Rattle.run_account.proofs.Coming.{elements_told}
+use Rattle.run_account.proofs.Histories.{list_of_told, standing_told}
+use Rattle.blue_core.specs.declared.blueprint.Blueprint.{Blueprint}
+use Rattle.plug_core.specs.declared.head.PlugHead.{PlugHead}
+use Rattle.blue_check.specs.Fitness.{IsFit}
+use Rattle.blue_check.specs.Wires.{blueprint_wires}
+use Rattle.materializer.specs.Graphs.{node_of, graph_of}
+use Rattle.run_type_laws.specs.Plugs.{KeepsPlugTypes}
+use Rattle.run_type_laws.specs.Sent.{exact, SendsItsType}
+use Rattle.run_type_laws.specs.Types.{AllTyped}
+use Rattle.run_type_laws.proofs.Sending.{exact_agrees}
+use Rattle.run_type_laws.proofs.Settling.{all_by_rank}
+use Rattle.interpreter.specs.Picks.{Pick}
+use Rattle.run_blueprint.specs.Carrying.{Carries}
+use Rattle.run_blueprint.specs.Choosing.{HasPicks}
+use Rattle.run_blueprint.proofs.Places.{mapped_at, place_of}
+
+-- a world with these plugs and without files, in which these moves were made
+abbrev pub unread : Book → (ℕ → List ℕ) → World
+unread book moves = record { book = book; file = λ name. record { bytes = []; read = 0; faulted = false }; moves = moves }
+
+-- the items are a list, and how it stands
+pub record IsTold (items : List Item) : Type 0 where
+  list : List Tree
+  end : End
+  is : items ≡ told list end
+
+-- as all that may pass
+agrees_exactly : (items : List Item) → IsTold items → AgreesWith (exact (list_of items) (standing items)) items
+agrees_exactly items t = record { list = t.list; end = t.end; is = t.is; agrees = rw (t.is, list_of_told t.list t.end, standing_told t.list t.end) (exact_agrees t.list t.end) }
+
+-- a source of lines, or none
+is_lines : (k : Kind) → ((name : List ℕ) × (k ≡ Lines name)) ⊎ ((name : List ℕ) → k ≢ Lines name)
+is_lines (Lines name) = inl (name, refl)
+is_lines _ = inr (λ name e. cc)
+
+-- ---- what was sent on each wire is a list, and how it stands
+
+module _ (g : Graph) (rank : ℕ → ℕ) (ranked : IsRanked g rank) (w : World) (items : ℕ → List Item) (from : (i : ℕ) (v : Edge) → slice_get g.wires i ≡ Some v → (n : graph.Node) × (slice_get g.nodes v.from ≡ Some n))
+    (texts : (u : ℕ) (v : Edge) (n : graph.Node) (name : List ℕ) → slice_get g.wires u ≡ Some v → slice_get g.nodes v.from ≡ Some n → n.kind ≡ Lines name → GivesTexts (items u))
+    (gives : (sent : ℕ → Outlook) (j : ℕ) (v : Edge) (n : graph.Node) → slice_get g.wires j ≡ Some v → slice_get g.nodes v.from ≡ Some n → ((name : List ℕ) → n.kind ≢ Lines name)
+    → ((u : ℕ) (x : Edge) → slice_get g.wires u ≡ Some x → x.to ≡ v.from → AgreesWith (sent u) (items u)) → AgreesWith (next g w sent j) (items j)) where
+  told_on : (j : ℕ) (v : Edge) (n : graph.Node) → slice_get g.wires j ≡ Some v → slice_get g.nodes v.from ≡ Some n → ((i : ℕ) → i < length g.wires → rank i < rank j → IsTold (items i))
+      → ((name : List ℕ) × (n.kind ≡ Lines name)) ⊎ ((name : List ℕ) → n.kind ≢ Lines name) → IsTold (items j)
+  told_on j v n at is below (inl r) = let s = texts j v n r.0 at is r.1 in record { list = map text s.texts; end = s.end; is = s.is }
+  told_on j v n at is below (inr other) =
+      let a = gives (λ u. exact (list_of (items u)) (standing (items u))) j v n at is other
+      (λ u x ux to. agrees_exactly (items u) (below u (slice_get-below g.wires u x ux) (ranked.rises u j x v ux at to))) in
+      record { list = a.list; end = a.end; is = a.is }
+
+  told_by : (j : ℕ) → j < length g.wires → ((i : ℕ) → i < length g.wires → rank i < rank j → IsTold (items i)) → IsTold (items j)
+  told_by j l below =
+      let v = place_of g.wires j l in
+      let n = from j v.0 v.1 in
+      told_on j v.0 n.0 v.1 n.1 below (is_lines n.0.kind)
+
+  pub told_sent : (i : ℕ) (v : Edge) → slice_get g.wires i ≡ Some v → IsTold (items i)
+  told_sent i v at = all_by_rank rank (length g.wires) (λ u. IsTold (items u)) told_by i (slice_get-below g.wires i v at)
+
+-- ---- what passed
+
+module _ (book : Book) (b : Blueprint) (wires : List WireCount) (picks : List Pick) (moves : ℕ → List ℕ) (items : ℕ → List Item) (counts : (u : ℕ) (v : Edge) → slice_get (blueprint_wires b) u ≡ Some v → sent_at wires u ≡ elements (items u))
+    (told_there : (i : ℕ) (v : Edge) → slice_get (blueprint_wires b) i ≡ Some v → IsTold (items i))
+    (sends : (plugs : List PlugHead) (taken : List (List ℕ)) → IsFit b plugs taken → KeepsPlugTypes plugs book → (i : ℕ) (v : Edge) → slice_get (blueprint_wires b) i ≡ Some v → SendsItsType plugs b.chains.items b.nodes.items (graph_of b) (unread book moves) i v (items i))
+    (gives : (w : World) → w.book ≡ book → HasPicks picks w → (sent : ℕ → Outlook) (j : ℕ) (v : Edge) (n : graph.Node) → slice_get (blueprint_wires b) j ≡ Some v → slice_get (graph_of b).nodes v.from ≡ Some n → ((name : List ℕ) → n.kind ≢ Lines name)
+    → ((u : ℕ) (x : Edge) → slice_get (blueprint_wires b) u ≡ Some x → x.to ≡ v.from → AgreesWith (sent u) (items u)) → AgreesWith (next (graph_of b) w sent j) (items j)) where
+  abbrev lists : ℕ → List Tree
+  lists u = list_of (items u)
+
+  abbrev ends : ℕ → End
+  ends u = standing (items u)
+
+  counted : (i : ℕ) (v : Edge) → slice_get (blueprint_wires b) i ≡ Some v → sent_at wires i ≡ length (lists i)
+  counted i v at =
+      let s = told_there i v at in
+      let list : lists i ≡ s.list = ap list_of s.is ∙ list_of_told s.list s.end in
+      counts i v at ∙ ap elements s.is ∙ elements_told s.list s.end ∙ ap length (sym list)
+
+  pub carries : Carries book b wires picks
+  carries = record {
+    lists = lists;
+    ends = ends;
+    counted = counted;
+    typed = λ plugs taken fit keeps i v at.
+        let s = sends plugs taken fit keeps i v at in
+        let list : lists i ≡ s.list = ap list_of s.is ∙ list_of_told s.list s.end in
+        (s.carries.type, (s.carries.settles, subst (λ l. AllTyped s.carries.type l) (sym list) s.typed));
+    given = λ w same has j v n at is other.
+        let a = gives w same has (λ u. exact (lists u) (ends u)) j v (node_of n) at (mapped_at node_of b.nodes.items v.from n is) other (λ u x ux to. agrees_exactly (items u) (told_there u x ux)) in
+        rw (a.is, list_of_told a.list a.end, standing_told a.list a.end) a.agrees;
+  }

@@ -1,0 +1,678 @@
+-- From the account of a blueprint's run at its end to what the run leaves in the folder.
+use Rattle.std.proofs.Common.{◌≡◌, ◌≢◌, ◌⊎◌, inl, inr, ℕ, suc, ◌+◌, ◌<◌, ◌≤◌, Bool, true, false, List, [], ◌∷◌, map, length, slice_get, refl, sym, ap, ◌∙◌, subst, arith}
+use Rattle.std.specs.Prelude.{IsTrue, Option, None, Some, ◌==◌, ◌||◌}
+use Rattle.std.specs.Option.{option_to_list}
+use Rattle.std.specs.List.{Contains, filter_map, list_any}
+use Rattle.std.proofs.lemmas.List.{length-map}
+use Rattle.elem_core.specs.Tree.{Tree, text}
+use Rattle.elem_core.specs.declared.item.Item.{Item}
+use Rattle.stream_model.specs.declared.kind.Kind.{Kind}
+use Rattle.stream_model.specs.declared.kind.Kind.TheVariants as kind
+use Rattle.stream_model.specs.declared.outcome.WireCount.{WireCount}
+use Rattle.stream_model.specs.declared.outcome.EndState.{EndState}
+use Rattle.stream_model.specs.declared.outcome.EndState.TheVariants.{Ended, Failed, Unended, WriteFault}
+use Rattle.stream_model.specs.Graph.{Graph, Edge, find_wire}
+use Rattle.stream_model.specs.Graph as graph
+use Rattle.stream_model.specs.Node.{World}
+use Rattle.stream_model.specs.Outlook.{Outlook}
+use Rattle.stream_model.specs.Composed.{next, composed, sink_outlook, IsRanked, inputs_of}
+use Rattle.stream_model.specs.Fits.{Fits}
+use Rattle.stream_model.proofs.Compositions.{found_first}
+use Rattle.stream_picture.specs.Lawful.{IsLawful}
+use Rattle.stream_picture.specs.OneWay as oneway
+use Rattle.stream_picture.specs.Rests.{Rests, SinksMatch}
+use Rattle.stream_picture.specs.Shape.{IsPolytree, IsWired, sent_at, need, count_needed}
+use Rattle.stream_picture.specs.View.{EachWire, ins, outputs_of}
+use Rattle.run_picture_laws.specs.Picture.{has_ended, sink_ended, ended_there}
+use Rattle.stream_io.specs.Counts.{Grew}
+use Rattle.stream_io.specs.State.{FolderState, SourceState, DrainState}
+use Rattle.stream_io.specs.Reading.{FirstTooLong}
+use Rattle.wire_core.specs.Counts.{elements}
+use Rattle.nodes.specs.Drawing.{ended_lines}
+use Rattle.nodes.specs.Source.{Lines}
+use Rattle.nodes.specs.Sink.{Sink, StandsAs}
+use Rattle.nodes.specs.Ignoring.{Ignorer}
+use Rattle.nodes.specs.declared.node.IslandNode.{IslandNode}
+use Rattle.nodes.specs.declared.node.IslandNode.TheVariants as node
+use Rattle.interpreter.specs.Picks.{pick_of}
+use Rattle.run_account.specs.Account.{Account, IsStill, took}
+use Rattle.run_account.specs.Items.{AgreesWith}
+use Rattle.run_account.specs.Pictures as pictures
+use Rattle.run_account.specs.Ports.{wire_count}
+use Rattle.run_account.proofs.Coming.{elements_told}
+use Rattle.run_account.proofs.Pictures.{counts_at}
+use Rattle.run_outlook_laws.specs.Runs.{IsRun}
+use Rattle.run_outlook_laws.specs.Telling.{TellsPicks, Tells, AreSettled}
+use Rattle.run_outlook_laws.proofs.Choosing.{chosen_told}
+use Rattle.run_outlook_laws.specs.Sinks.{TookList, SinkWrote, SentTo, IsSinkAt, IgnoreTells, IsIgnorerAt}
+use Rattle.run_outlook_laws.specs.Reads.{IsSourceAt, ReadsAhead, SentLines, GivesTexts}
+use Rattle.blue_core.specs.declared.blueprint.Blueprint.{Blueprint}
+use Rattle.blue_core.specs.declared.blueprint.ChainDecl.{ChainDecl}
+use Rattle.blue_core.specs.declared.blueprint.Node as blue
+use Rattle.blue_check.specs.Fitness.{IsFit}
+use Rattle.blue_check.specs.Wires.{blueprint_wires}
+use Rattle.blue_walks.specs.Forest.{wiring}
+use Rattle.plug_core.specs.declared.head.PlugHead.{PlugHead}
+use Rattle.materializer.specs.Fit.{CanRun}
+use Rattle.materializer.specs.Files.{output_of, inputs_of_nodes, outputs_of_nodes, is_sink}
+use Rattle.materializer.specs.Graphs.{node_of, graph_of, chain_of}
+use Rattle.run_files.specs.Names.{drain_names}
+use Rattle.run_type_laws.specs.Checked.{PassesRules}
+use Rattle.run_type_laws.specs.Plugs.{KeepsPlugTypes}
+use Rattle.run_type_laws.specs.Sent.{SendsItsType}
+use Rattle.run_blueprint.specs.Carrying.{Carries}
+use Rattle.run_blueprint.specs.Choosing.{picked}
+use Rattle.run_blueprint.proofs.Carried.{unread, told_sent, carries}
+use Rattle.run_blueprint.specs.Drawing.{Drawn, IsSource, WasRead, IsWorldOf, DrawsFirst}
+use Rattle.island_runs.specs.Leaving.{Moment, Leaves, HasAsMany}
+use Rattle.run_blueprint.specs.Opening.{Opens}
+use Rattle.run_blueprint.specs.Tracing.{IsApart, Traces}
+use Rattle.run_blueprint.specs.Sending.{SentOn}
+use Rattle.run_blueprint.specs.Running.{SinkLeaves, IgnoreLeaves, LeavesFiles, WritesOf, Runs}
+use Rattle.run_blueprint.specs.Stands.{Stand, has_ended_at, is_write_fault, is_unended}
+use Rattle.bodies_run.specs.Counts.{all_sent}
+use Rattle.run_blueprint.specs.Units.{Pays}
+use Rattle.island_runs.specs.declared.run.Stopped.{Stopped}
+use Rattle.run_blueprint.specs.declared.run.RunResult.{RunResult}
+use Rattle.run_blueprint.proofs.Counts.{rose_by, rose_from_none, is_positive, positive, contains_or_not}
+use Rattle.run_blueprint.proofs.Units.{need_more, passed_within}
+use Rattle.run_blueprint.proofs.Worlds.{world_of, tree_by_wires}
+use Rattle.run_blueprint.proofs.Places.{contains_at, contained_at, mapped_at, unmapped_at, filtered_at, unfiltered_at, place_of, place_one, place_within}
+use Rattle.run_blueprint.proofs.Profiles.{some_one, stand_in, writer_there, sinks_filtered, StandsAt, Profile, ended_along}
+use Rattle.run_blueprint.proofs.Handles.{IsSinkInto, HandleLaws, fault_kind, writer_kind, SourceFacts, SinkFacts, source_facts, sink_facts, profiles, as_many, stands_are}
+use Rattle.run_blueprint.proofs.Sending.{sink_sent, sink_rests, ignorer_told}
+use Rattle.run_blueprint.proofs.Shuts.{Shuts}
+use Rattle.run_blueprint.proofs.Traces.{unlisted, lone_of, calm_trace}
+use Rattle.run_blueprint.proofs.Shutting.{TakenApart, unwritten, read_grew, faults_grew, writes_grew, file_held, other_files, other_reads, other_writes, other_draws, refused, tells_old, readers_many, writers_many}
+use Rattle.run_blueprint.proofs.Drawns.{drawn_of, made_moves, picks_told, picks_stand, Draws, draws_all, reads_of}
+use Rattle.stream_model.specs.Linear.{Book}
+
+-- ---- the wires' counts
+
+-- the count of a wire in a picture is what was sent at its output
+sent_there : {N : Type 0} (a : Account N) (g : Graph) (u : ℕ) (v : Edge) → slice_get g.wires u ≡ Some v → sent_at (pictures.counts_of a g) u ≡ elements (a.near u).wire.sent
+sent_there a g u v at =
+    let place : 0 + u ≡ u = omega arith in
+    let there : slice_get (pictures.counts_of a g) u ≡ Some (wire_count v.lane (a.near u) (a.asked u)) = subst (λ (k : ℕ). slice_get (pictures.counts_of a g) u ≡ Some (wire_count v.lane (a.near k) (a.asked k))) place (counts_at a 0 g.wires u v at) in
+    ap (λ (o : Option WireCount). elim o as (λ _. ℕ) [ Some c ↦ c.sent | None ↦ 0 ]) there
+
+-- a picture has a count for each wire
+counts_many : {N : Type 0} (a : Account N) (i : ℕ) (vs : List Edge) → length (pictures.counts_from a i vs) ≡ length vs
+counts_many a i [] = refl
+counts_many a i (v ∷ vs) = ap suc (counts_many a (i + 1) vs)
+
+-- ---- the drain of a sink
+
+-- what the drain counted is added to the folder's count
+pub stands_writes : (e : EndState) (s t : DrainState) (wrote : List Tree) (n old new : ℕ) → StandsAs e s t wrote n → s.faults ≡ 0 → Grew old t.faults new → WritesOf e old new
+stands_writes Unended s t wrote n old new h none grew = subst (λ k. Grew old k new) (h.faults ∙ none) grew
+stands_writes Ended s t wrote n old new h none grew = subst (λ k. Grew old k new) (h.faults ∙ none) grew
+stands_writes (Failed c) s t wrote n old new h none grew = subst (λ k. Grew old k new) (h.faults ∙ none) grew
+stands_writes WriteFault s t wrote n old new h none grew = rose_by old t.faults new grew (rose_from_none s.faults t.faults none h.faults)
+
+calm_write : (e : EndState) (old new : ℕ) → is_write_fault e ≡ false → WritesOf e old new → Grew old 0 new
+calm_write Unended old new h w = w
+calm_write Ended old new h w = w
+calm_write (Failed c) old new h w = w
+calm_write WriteFault old new h w = absurd cc
+
+-- ---- what was drawn
+
+ahead_told : (first now : SourceState) (later : List (List ℕ)) (n : ℕ) → first.faults ≡ 0 → ReadsAhead first now later n
+    → (now.given ≤ n + 4096) ⊎ ((IsTrue (is_positive now.faults) ⊎ FirstTooLong later) × (now.given ≤ n + (4096 + 65537)))
+ahead_told first now later n none (inl h) = inl h
+ahead_told first now later n none (inr (inl rose, h)) = inr (inl (positive now.faults (rose_from_none first.faults now.faults none rose)), h)
+ahead_told first now later n none (inr (inr long, h)) = inr (inr long, h)
+
+draws_told : (bytes : List ℕ) (first now : SourceState) (items : List Item) (sent : ℕ) → first.faults ≡ 0 → sent ≡ elements items → SentLines bytes first now items → DrawsFirst bytes now.given (is_positive now.faults) sent
+draws_told bytes first now items sent none e s = record {
+  drawn = s.drawn;
+  later = s.later;
+  lines_are = s.lines_are;
+  sent_is = e ∙ ap elements s.sent_is ∙ elements_told (map text s.drawn) s.end ∙ length-map s.drawn text;
+  ahead = ahead_told first now s.later (length (ended_lines s.drawn)) none s.ahead;
+}
+
+-- ---- how a sink stands at its place
+
+ended_stand : {S D L B : Type 0} (x : IslandNode S D L B) (s : Stand) → stand_in x ≡ Some s → sink_ended x ≡ has_ended s.2
+ended_stand (node.Writing x) s f = let same : (x.node, x.count, x.end) ≡ s = some_one (x.node, x.count, x.end) s f in ap (λ (t : Stand). has_ended t.2) same
+ended_stand (node.Ignoring x) s f = let same : (x.node, 0, x.end) ≡ s = some_one (x.node, 0, x.end) s f in ap (λ (t : Stand). has_ended t.2) same
+ended_stand (node.Reading x) s f = absurd cc
+ended_stand (node.Making x) s f = absurd cc
+ended_stand (node.Linear x) s f = absurd cc
+ended_stand (node.State x) s f = absurd cc
+ended_stand (node.Sub x) s f = absurd cc
+ended_stand (node.FanIn x) s f = absurd cc
+ended_stand (node.FanOut x) s f = absurd cc
+ended_stand (node.Entering x) s f = absurd cc
+ended_stand (node.Leaving x) s f = absurd cc
+
+ended_as : {S D L B : Type 0} (o : Option (IslandNode S D L B)) (x : IslandNode S D L B) (s : Stand) → o ≡ Some x → stand_in x ≡ Some s → ended_there o ≡ has_ended s.2
+ended_as o x s e f = ap ended_there e ∙ ended_stand x s f
+
+sink_shape : (k : Kind) → oneway.is_sink k ≡ true → (outputs_of k == 0) ≡ true
+sink_shape (kind.ToLines f) e = refl
+sink_shape (kind.Head f) e = refl
+sink_shape (kind.Last f) e = refl
+sink_shape kind.Ignore e = refl
+sink_shape _ e = absurd cc
+
+stand_there : (k : ℕ) (b : Bool) (o : Option Stand) → StandsAt k b o → b ≡ true → (s : Stand) × ((o ≡ Some s) × (s.0 ≡ k))
+stand_there k true o h e = h
+stand_there k false o h e = absurd cc
+
+no_stand : (k : ℕ) (b : Bool) (o : Option Stand) (s : Stand) → StandsAt k b o → o ≡ Some s → s.0 ≡ k
+no_stand k true o s h e = let same : s ≡ h.0 = some_one s h.0 (sym e ∙ h.1.0) in ap (λ (t : Stand). t.0) same ∙ h.1.1
+no_stand k false o s h e = absurd cc
+
+-- a sink has an input
+sink_input : (k : Kind) → oneway.is_sink k ≡ true → 0 < inputs_of k
+sink_input (kind.ToLines f) e = omega arith
+sink_input (kind.Head f) e = omega arith
+sink_input (kind.Last f) e = omega arith
+sink_input kind.Ignore e = omega arith
+sink_input _ e = absurd cc
+
+ended_goes : (e : EndState) → has_ended e ≡ true → is_unended e ≡ false
+ended_goes Ended h = refl
+ended_goes (Failed c) h = refl
+ended_goes WriteFault h = refl
+ended_goes Unended h = absurd cc
+
+neither : (a b : Bool) → a ≡ false → b ≡ false → a || b ≡ false
+neither true b p q = absurd cc
+neither false b p q = q
+
+none_unended : (stands : List Stand) → ((i : ℕ) (s : Stand) → slice_get stands i ≡ Some s → is_unended s.2 ≡ false) → list_any (λ (s : Stand). is_unended s.2) stands ≡ false
+none_unended [] each = refl
+none_unended (s ∷ ss) each = neither (is_unended s.2) (list_any (λ (t : Stand). is_unended t.2) ss) (each 0 s refl) (none_unended ss (λ i t at. each (suc i) t at))
+
+-- ---- the laws of a run
+
+module _ {S D : Type 0} (L B : Type 0) (sources : S → SourceState) (drains : D → DrainState) (book : Book) where
+  abbrev pub WroteLaw : Type 0
+  WroteLaw = (g : Graph) (a : Account (IslandNode S D L B)) → IsRun sources drains book g a
+      → (k : ℕ) (n : graph.Node) (first now : Sink D) → slice_get g.nodes k ≡ Some n → IsSinkAt a k first now → SinkWrote sources drains book g a k n first now
+
+  abbrev TookLaw : Type 0
+  TookLaw = (g : Graph) (w : World) (rank : ℕ → ℕ) (a : Account (IslandNode S D L B)) → IsRun sources drains w.book g a → Tells sources g w a → IsRanked g rank
+      → (k : ℕ) (n : graph.Node) (name : List ℕ) (first now : Sink D) → slice_get g.nodes k ≡ Some n → n.kind ≡ kind.ToLines name → IsSinkAt a k first now → TookList (sink_outlook g w k n) now.end (took g a k n)
+
+  abbrev SentLaw : Type 0
+  SentLaw = (g : Graph) (a : Account (IslandNode S D L B)) → IsRun sources drains book g a
+      → (k : ℕ) (n : graph.Node) (name : List ℕ) (first now : Sink D) (u : ℕ) (v : Edge) → slice_get g.nodes k ≡ Some n → n.kind ≡ kind.ToLines name → IsSinkAt a k first now → slice_get g.wires u ≡ Some v → v.to ≡ k
+      → SentTo now.end (elements (a.far u).wire.sent) now.count
+
+  abbrev RestLaw : Type 0
+  RestLaw = (g : Graph) (a : Account (IslandNode S D L B)) → IsRun sources drains book g a
+      → (k : ℕ) (n : graph.Node) (name : List ℕ) (first now : Sink D) (u : ℕ) (v : Edge) → slice_get g.nodes k ≡ Some n → n.kind ≡ kind.ToLines name → IsSinkAt a k first now → slice_get g.wires u ≡ Some v → v.to ≡ k
+      → IsStill g a → now.end ≡ Unended → elements (a.far u).wire.sent ≡ now.count
+
+  abbrev ReadsLaw : Type 0
+  ReadsLaw = (g : Graph) (a : Account (IslandNode S D L B)) → IsRun sources drains book g a
+      → (k : ℕ) (n : graph.Node) (first now : Lines S) (u : ℕ) (v : Edge) (bytes : List ℕ) → slice_get g.nodes k ≡ Some n → IsSourceAt a k first now → slice_get g.wires u ≡ Some v → v.from ≡ k
+      → (sources first.reader.source).whole ≡ Some bytes → SentLines bytes (sources first.reader.source) (sources now.reader.source) (a.near u).wire.sent
+
+  abbrev LawfulLaw : Type 0
+  LawfulLaw = (g : Graph) (w : World) (rank : ℕ → ℕ) (a : Account (IslandNode S D L B)) → IsRun sources drains w.book g a → AreSettled g a
+      → Tells sources g w a → IsRanked g rank → IsLawful g w (pictures.counts_of a g) (composed g w)
+
+  abbrev RestsLaw : Type 0
+  RestsLaw = (g : Graph) (w : World) (rank : ℕ → ℕ) (a : Account (IslandNode S D L B)) → IsRun sources drains w.book g a → IsStill g a
+      → Tells sources g w a → IsRanked g rank → Rests g w (pictures.counts_of a g) (composed g w)
+
+  abbrev MovesLaw : Type 0
+  MovesLaw = (g : Graph) (w : World) (rank : ℕ → ℕ) (a : Account (IslandNode S D L B)) → IsRun sources drains w.book g a → AreSettled g a
+      → Tells sources g w a → IsRanked g rank → Fits g w
+
+  abbrev MatchLaw : Type 0
+  MatchLaw = (g : Graph) (w : World) (a : Account (IslandNode S D L B)) (outlook : ℕ → Outlook) → IsRun sources drains book g a → IsStill g a
+      → SinksMatch g w (pictures.counts_of a g) outlook (λ k. ended_there (a.nodes k))
+
+  abbrev AgreeLaw : Type 0
+  AgreeLaw = (g : Graph) (w : World) (rank : ℕ → ℕ) (a : Account (IslandNode S D L B)) → IsRun sources drains w.book g a
+      → Tells sources g w a → IsRanked g rank → (i : ℕ) → i < length g.wires → AgreesWith (composed g w i) (a.near i).wire.sent
+
+  abbrev TreesLaw : Type 0
+  TreesLaw = (g : Graph) (w : World) (counts : List WireCount) (outlook : ℕ → Outlook) → IsWired g counts → Rests g w counts outlook → IsPolytree g → (ended : ℕ → Bool) → SinksMatch g w counts outlook ended
+      → (i : ℕ) (v : Edge) (n : graph.Node) → slice_get g.wires i ≡ Some v → slice_get g.nodes v.to ≡ Some n → oneway.is_sink n.kind ≡ true → ended v.to ≡ true
+
+  abbrev IgnorerThere : Type 0
+  IgnorerThere = (g : Graph) (a : Account (IslandNode S D L B)) → IsRun sources drains book g a
+      → (k : ℕ) (n : graph.Node) → slice_get g.nodes k ≡ Some n → n.kind ≡ kind.Ignore → (first : Ignorer) × ((now : Ignorer) × IsIgnorerAt a k first now)
+
+  abbrev FitsLaw : Type 0
+  FitsLaw = (b : Blueprint) (plugs : List PlugHead) (taken : List (List ℕ)) (g : Graph) → IsFit b plugs taken → g.nodes ≡ map node_of b.nodes.items → g.wires ≡ blueprint_wires b → g.chains ≡ map chain_of b.chains.items
+      → PassesRules plugs b.chains.items b.nodes.items g
+
+  abbrev TypesLaw : Type 0
+  TypesLaw = (plugs : List PlugHead) (chains : List ChainDecl) (nodes : List blue.Node) (g : Graph) (w : World) (rank : ℕ → ℕ) (a : Account (IslandNode S D L B)) → IsRun sources drains w.book g a → TellsPicks w a
+      → PassesRules plugs chains nodes g → KeepsPlugTypes plugs w.book → IsRanked g rank
+      → (i : ℕ) (v : Edge) → slice_get g.wires i ≡ Some v → SendsItsType plugs chains nodes g w i v (a.near i).wire.sent
+
+  abbrev GivesLaw : Type 0
+  GivesLaw = (g : Graph) (w : World) (a : Account (IslandNode S D L B)) → IsRun sources drains w.book g a → TellsPicks w a
+      → (sent : ℕ → Outlook) (j : ℕ) (v : Edge) (n : graph.Node) → slice_get g.wires j ≡ Some v → slice_get g.nodes v.from ≡ Some n → ((name : List ℕ) → n.kind ≢ kind.Lines name)
+      → ((u : ℕ) (x : Edge) → slice_get g.wires u ≡ Some x → x.to ≡ v.from → AgreesWith (sent u) (a.near u).wire.sent) → AgreesWith (next g w sent j) (a.near j).wire.sent
+
+  abbrev TextsLaw : Type 0
+  TextsLaw = (g : Graph) (a : Account (IslandNode S D L B)) → IsRun sources drains book g a
+      → (u : ℕ) (v : Edge) (n : graph.Node) (name : List ℕ) → slice_get g.wires u ≡ Some v → slice_get g.nodes v.from ≡ Some n → n.kind ≡ kind.Lines name → GivesTexts (a.near u).wire.sent
+
+  pub record RunLaws : Type 0 where
+    pub fits : FitsLaw
+    pub types : TypesLaw
+    pub texts : TextsLaw
+    pub gives : GivesLaw
+    pub ranked : (b : Blueprint) (plugs : List PlugHead) (taken : List (List ℕ)) → IsFit b plugs taken → (rank : ℕ → ℕ) × IsRanked (graph_of b) rank
+    pub agree : AgreeLaw
+    pub trees : TreesLaw
+    pub wrote : WroteLaw
+    pub sent : SentLaw
+    pub rest : RestLaw
+    pub reads : ReadsLaw
+    pub lawful : LawfulLaw
+    pub rests : RestsLaw
+    pub moves : MovesLaw
+    pub match : MatchLaw
+    pub ignorer : IgnorerThere
+    pub took : TookLaw
+
+-- ---- what a run leaves
+
+module _ {S D L B : Type 0} (sources : S → SourceState) (drains : D → DrainState) (book : Book) (handles : HandleLaws L B sources drains book) (laws : RunLaws L B sources drains book) (b : Blueprint) (can : CanRun b) (ss : List S) (ds : List D) (budget : ℕ) (st : Stopped S D) (l : Leaves L B sources drains book b ss ds budget st)
+    (old mid : FolderState) (trace : Option (List ℕ)) (separate : IsApart b trace) (opens : Opens old mid (inputs_of_nodes b.nodes.items) (outputs_of_nodes b.nodes.items) (option_to_list trace) (map sources ss) (map drains ds)) (new : FolderState)
+    (closes : Shuts mid new (option_to_list trace) (map sources st.end.readers.items) (map drains st.end.writers.items)) where
+  abbrev nodes : List blue.Node
+  nodes = b.nodes.items
+
+  abbrev left : Account (IslandNode S D L B)
+  left = l.account
+
+  abbrev last : List (IslandNode S D L B)
+  last = l.nodes
+
+  abbrev between : Moment sources drains book b ss ds left last
+  between = l.moment
+
+  abbrev g : Graph
+  g = graph_of b
+
+  abbrev Source : ℕ → List ℕ → Type 0
+  Source k file = SourceFacts sources drains book handles b ss ds left last between old mid opens k file
+
+  abbrev ASink : ℕ → List ℕ → Type 0
+  ASink k file = SinkFacts sources drains book handles b ss ds left last between old mid opens k file
+
+  source_at : (k : ℕ) (file : List ℕ) → IsSource nodes k file → Source k file
+  source_at = source_facts sources drains book handles b ss ds left last between old mid opens
+
+  sink_at : (k : ℕ) (file : List ℕ) → IsSinkInto nodes k file → ASink k file
+  sink_at = sink_facts sources drains book handles b ss ds left last between old mid opens
+
+  profile : (k : ℕ) (n : blue.Node) (x : IslandNode S D L B) → slice_get nodes k ≡ Some n → slice_get last k ≡ Some x → Profile sources drains k n x
+  profile = profiles sources drains book handles b ss ds left last between old mid opens
+
+  lone : (n : List ℕ) → Contains (outputs_of_nodes nodes) n → Contains (option_to_list trace) n → ⊥
+  lone = lone_of b trace separate
+
+  -- its handles were closed
+  apart : TakenApart sources drains b last st.end.readers.items st.end.writers.items
+  apart = record {
+    as_many = as_many sources drains book handles b ss ds left last between old mid opens;
+    input = λ k n x at here. (profile k n x at here).input;
+    output = λ k n x at here. (profile k n x at here).output;
+    readers_are = l.readers;
+    writers_are = l.writers;
+  }
+
+  -- all of them
+  pub closes_run : HasAsMany ss ds st.end
+  closes_run = record {
+    readers = readers_many sources drains b last st.end.readers.items st.end.writers.items apart ss opens.input_names;
+    writers = writers_many sources drains b last st.end.readers.items st.end.writers.items apart ds opens.output_names;
+  }
+
+  sink_writes : (k : ℕ) (file : List ℕ) (f : ASink k file) → Grew (old.wfaults file) (drains f.now.drain).faults (new.wfaults file)
+  sink_writes k file f = writes_grew sources drains b can last st.end.readers.items st.end.writers.items apart old mid _ _ opens new closes lone k file f.now f.at (f.law.name ∙ f.first_named)
+
+  sink_held : (k : ℕ) (file : List ℕ) (f : ASink k file) → IsTrue new.tells → new.file file ≡ (drains f.now.drain).holds
+  sink_held k file f = file_held sources drains b can last st.end.readers.items st.end.writers.items apart old mid _ _ opens new closes lone k file f.now f.at (f.law.name ∙ f.first_named)
+
+  run : IsRun sources drains book g left
+  run = l.moment.run
+
+  -- so it is by the plugs of every world that has these
+  run_at : (w : World) → w.book ≡ book → IsRun sources drains w.book g left
+  run_at w is = subst (λ (x : Book). IsRun sources drains x g left) (sym is) run
+
+  still : IsTrue st.at_rest → IsStill g left
+  still rest = l.still rest
+
+  settled : AreSettled g left
+  settled = l.settled
+
+  wires_are : st.wires.items ≡ pictures.counts_of left g
+  wires_are = l.wires
+
+  wire_count_at : (u : ℕ) (v : Edge) → slice_get (blueprint_wires b) u ≡ Some v → sent_at st.wires.items u ≡ elements (left.near u).wire.sent
+  wire_count_at u v at = ap (λ (c : List WireCount). sent_at c u) wires_are ∙ sent_there left g u v at
+
+  -- the units are tied to what passed
+  pays : Pays b st.wires.items st.used
+  pays = record {
+    counted = ap length wires_are ∙ counts_many left 0 (blueprint_wires b);
+    least = subst (λ (c : List WireCount). all_sent c ≤ st.used) (sym wires_are) l.least;
+    most = subst (λ (c : List WireCount). st.used + length (blueprint_wires b) ≤ count_needed g c) (sym wires_are) l.most;
+  }
+
+  -- a sink among the stands, its node, and the wire of its input
+  record SinkHere (s : Stand) : Type 0 where
+    node : blue.Node
+    at : slice_get nodes s.0 ≡ Some node
+    shape : oneway.is_sink node.kind ≡ true
+    ended : ended_there (left.nodes s.0) ≡ has_ended s.2
+    wire : ℕ
+    is : Edge
+    there : slice_get (blueprint_wires b) wire ≡ Some is
+    to : is.to ≡ s.0
+
+  sink_here : (i : ℕ) (s : Stand) → slice_get st.end.sinks.items i ≡ Some s → SinkHere s
+  sink_here i s at =
+      let among : slice_get (filter_map stand_in last) i ≡ Some s = subst (λ (x : List Stand). slice_get x i ≡ Some s) (l.sinks ∙ sinks_filtered last) at in
+      let from = unfiltered_at stand_in last i s among in
+      let below : from.0 < length nodes = subst (λ m. from.0 < m) (sym (as_many sources drains book handles b ss ds left last between old mid opens)) (place_within last from.0 from.1.0 from.1.1.0) in
+      let m = place_of nodes from.0 below in
+      let stand = (profile from.0 m.0 from.1.0 m.1 from.1.1.0).stand in
+      let place : s.0 ≡ from.0 = no_stand from.0 (is_sink m.0) (stand_in from.1.0) s stand from.1.1.1 in
+      let here : slice_get nodes s.0 ≡ Some m.0 = subst (λ j. slice_get nodes j ≡ Some m.0) (sym place) m.1 in
+      let found : slice_get last s.0 ≡ Some from.1.0 = subst (λ j. slice_get last j ≡ Some from.1.0) (sym place) from.1.1.0 in
+      let shape : oneway.is_sink m.0.kind ≡ true = (profile from.0 m.0 from.1.0 m.1 from.1.1.0).sink s from.1.1.1 in
+      let input = run.joined.each_input s.0 (node_of m.0) 0 (mapped_at node_of nodes s.0 m.0 here) (sink_input m.0.kind shape) in
+      let wire = found_first (λ w. w.to) (λ w. w.input) s.0 0 (blueprint_wires b) input.0 input.1 in
+      record {
+        node = m.0;
+        at = here;
+        shape = shape;
+        ended = ended_as (left.nodes s.0) from.1.0 s (between.node_at s.0 ∙ found) from.1.1.1;
+        wire = input.0;
+        is = wire.wire;
+        there = wire.at;
+        to = wire.to;
+      }
+
+  sinks_wired : 1 ≤ length st.end.sinks.items → 1 ≤ length (blueprint_wires b)
+  sinks_wired some =
+      let s = place_of st.end.sinks.items 0 (omega (arith, some)) in
+      let h = sink_here 0 s.0 s.1 in
+      let within : h.wire < length (blueprint_wires b) = place_within (blueprint_wires b) h.wire h.is h.there in
+      omega (arith, within)
+
+  -- what the sources drew
+  abbrev drawn : Drawn
+  drawn = drawn_of sources left last
+
+  -- the stand of a sink of lines, by its place among the stands
+  stand_of : (i : ℕ) (s : Stand) (n : blue.Node) (file : List ℕ) → slice_get st.end.sinks.items i ≡ Some s → slice_get nodes s.0 ≡ Some n → output_of n.kind ≡ Some file → (f : ASink s.0 file) × (s ≡ (s.0, f.now.count, f.now.end))
+  stand_of i s n file at here shape =
+      let among : slice_get (filter_map stand_in last) i ≡ Some s = subst (λ (x : List Stand). slice_get x i ≡ Some s) (l.sinks ∙ sinks_filtered last) at in
+      let from = unfiltered_at stand_in last i s among in
+      let below : from.0 < length nodes = subst (λ m. from.0 < m) (sym (as_many sources drains book handles b ss ds left last between old mid opens)) (place_within last from.0 from.1.0 from.1.1.0) in
+      let m = place_of nodes from.0 below in
+      let place : s.0 ≡ from.0 = no_stand from.0 (is_sink m.0) (stand_in from.1.0) s (profile from.0 m.0 from.1.0 m.1 from.1.1.0).stand from.1.1.1 in
+      let there : slice_get last s.0 ≡ Some from.1.0 = subst (λ j. slice_get last j ≡ Some from.1.0) (sym place) from.1.1.0 in
+      let f = sink_at s.0 file (record { node = n; at = here; file_is = shape }) in
+      let is : from.1.0 ≡ node.Writing f.now = place_one last s.0 from.1.0 (node.Writing f.now) there f.at in
+      let told : stand_in {S = S} {D = D} {L = L} {B = B} (node.Writing f.now) ≡ Some s = ap stand_in (sym is) ∙ from.1.1.1 in
+      let same : (f.now.node, f.now.count, f.now.end) ≡ s = some_one (f.now.node, f.now.count, f.now.end) s told in
+      (f, sym same ∙ ap (λ (j : ℕ). (j, f.now.count, f.now.end)) f.place)
+
+  module _ (tells_was : IsTrue old.tells) where
+    abbrev Drew : Type 0
+    Drew = Draws sources drains book handles b can ss ds left last between old mid opens
+
+    drew : Drew
+    drew = draws_all sources drains book handles b can ss ds left last between old mid opens tells_was
+
+    module _ (k : ℕ) (file : List ℕ) (f : Source k file) where
+      was_read : WasRead old new file (drawn.bytes k) (drawn.given k) (drawn.faulted k)
+      was_read =
+          let given = (drew.source k file f).given in
+          let read = read_grew sources drains b can last st.end.readers.items st.end.writers.items apart old mid _ _ opens new closes lone k file f.now f.at (f.law.name ∙ f.first_named) in
+          let faults = faults_grew sources drains b can last st.end.readers.items st.end.writers.items apart old mid _ _ opens new closes lone k file f.now f.at (f.law.name ∙ f.first_named) in
+          reads_of sources drains book handles b can ss ds left last between old mid opens tells_was k file f new (drawn.given k) (subst (λ n. Grew (old.read file) n (new.read file)) (sym given) read) faults
+
+    -- the world tells of every source
+    world_tells : (w : World) → IsWorldOf book nodes drawn w → Tells sources g w left
+    world_tells w is = drew.tells w is
+
+    -- what was sent on each wire may pass
+    sent_agrees : (u : ℕ) (v : Edge) → slice_get (blueprint_wires b) u ≡ Some v → (w : World) → IsWorldOf book nodes drawn w → AgreesWith (composed g w u) (left.near u).wire.sent
+    sent_agrees u v at w is = let ranked = laws.ranked b can.plugs can.taken can.fit in laws.agree g w ranked.0 left (run_at w is.book_is) (world_tells w is) ranked.1 u (place_within (blueprint_wires b) u v at)
+
+    -- one world that has the files
+    abbrev world : World
+    world = world_of book nodes drawn (made_moves sources drains book handles b can ss ds left last between old mid opens)
+
+    has_files : IsWorldOf book nodes drawn world
+    has_files = drew.has_files
+
+    -- a sink's file
+    module _ (k : ℕ) (n : blue.Node) (file : List ℕ) (at : slice_get nodes k ≡ Some n) (f : ASink k file) where
+      at_graph : slice_get g.nodes k ≡ Some (node_of n)
+      at_graph = mapped_at node_of nodes k n at
+
+      wrote : SinkWrote sources drains book g left k (node_of n) f.first f.now
+      wrote = laws.wrote g left run k (node_of n) f.first f.now at_graph f.there
+
+      sink_leaves : SinkLeaves book new b drawn st.wires.items st.at_rest k n file f.now.count f.now.end
+      sink_leaves = record {
+        held = wrote.written;
+        there = λ tells. sink_held k file f tells ∙ wrote.holds (f.start.holds (closes.told tells));
+        tells = λ w is. let ranked = laws.ranked b can.plugs can.taken can.fit in wrote.tells w ranked.0 is.book_is (world_tells w is) ranked.1;
+        lines_are = wrote.lines_are;
+        sent = λ shape u v at to.
+            let ranked = laws.ranked b can.plugs can.taken can.fit in
+            let list = laws.took g world ranked.0 left (run_at world has_files.book_is) (world_tells world has_files) ranked.1 k (node_of n) file f.first f.now at_graph shape f.there in
+            subst (λ (m : ℕ). SentOn v.lane f.now.end m f.now.count) (sym (wire_count_at u v at))
+            (sink_sent sources drains book g left run u v at (composed g world u) (sent_agrees u v at world has_files) k (node_of n) at_graph (ap inputs_of shape) to f.now.end (sink_outlook g world k (node_of n)) list f.now.count
+            (laws.sent g left run k (node_of n) file f.first f.now u v at_graph shape f.there at to));
+        rests = λ shape rest unended u v at to.
+            wire_count_at u v at ∙ sink_rests sources drains book g left run u v at (composed g world u) (sent_agrees u v at world has_files) k (node_of n) at_graph (ap inputs_of shape) to f.first f.now f.there (still rest) unended
+            ∙ laws.rest g left run k (node_of n) file f.first f.now u v at_graph shape f.there at to (still rest) unended;
+      }
+
+    -- a sink without a file
+    ignore_leaves : (i : ℕ) (s : Stand) (n : blue.Node) → slice_get st.end.sinks.items i ≡ Some s → slice_get nodes s.0 ≡ Some n → n.kind ≡ kind.Ignore → IgnoreLeaves book b drawn st.wires.items s.0 n s.1 s.2
+    ignore_leaves i s n at here shape =
+        let at_graph : slice_get g.nodes s.0 ≡ Some (node_of n) = mapped_at node_of nodes s.0 n here in
+        let there = laws.ignorer g left run s.0 (node_of n) at_graph shape in
+        let now = there.1.0 in
+        let among : slice_get (filter_map stand_in last) i ≡ Some s = subst (λ (x : List Stand). slice_get x i ≡ Some s) (l.sinks ∙ sinks_filtered last) at in
+        let from = unfiltered_at stand_in last i s among in
+        let below : from.0 < length nodes = subst (λ m. from.0 < m) (sym (as_many sources drains book handles b ss ds left last between old mid opens)) (place_within last from.0 from.1.0 from.1.1.0) in
+        let m = place_of nodes from.0 below in
+        let place : s.0 ≡ from.0 = no_stand from.0 (is_sink m.0) (stand_in from.1.0) s (profile from.0 m.0 from.1.0 m.1 from.1.1.0).stand from.1.1.1 in
+        let found : slice_get last s.0 ≡ Some from.1.0 = subst (λ j. slice_get last j ≡ Some from.1.0) (sym place) from.1.1.0 in
+        let is : from.1.0 ≡ node.Ignoring now = place_one last s.0 from.1.0 (node.Ignoring now) found (sym (between.node_at s.0) ∙ there.1.1.at_last) in
+        let told : stand_in {S = S} {D = D} {L = L} {B = B} (node.Ignoring now) ≡ Some s = ap stand_in (sym is) ∙ from.1.1.1 in
+        let same : (now.node, 0, now.end) ≡ s = some_one (now.node, 0, now.end) s told in
+        record {
+          none = ap (λ (t : Stand). t.1) (sym same);
+          tells = λ w is_world u v wire to.
+              subst (λ (e : EndState). IgnoreTells (sink_outlook g w s.0 (node_of n)) e (sent_at st.wires.items u)) (ap (λ (t : Stand). t.2) same)
+              (subst (λ (c : ℕ). IgnoreTells (sink_outlook g w s.0 (node_of n)) now.end c) (sym (wire_count_at u v wire))
+              (ignorer_told sources drains book g left run u v wire w (sent_agrees u v wire w is_world) s.0 (node_of n) at_graph shape to there.0 now there.1.1));
+        }
+
+    -- the picture of the run
+    abbrev picture : List WireCount
+    picture = pictures.counts_of left g
+
+    picture_wired : IsWired g picture
+    picture_wired =
+        let joined = run.joined in
+        record {
+          target = joined.target;
+          source = joined.source;
+          counted = λ i v at.
+              let within : i < length (blueprint_wires b) = place_within (blueprint_wires b) i v at in
+              let count : length picture ≡ length (blueprint_wires b) = counts_many left 0 (blueprint_wires b) in
+              place_of picture i (omega (arith, within, count));
+        }
+
+    -- in a polytree every sink has ended where no event was left
+    ending : IsPolytree (wiring (blueprint_wires b)) → IsTrue st.at_rest → list_any (λ (s : Stand). is_unended s.2) st.end.sinks.items ≡ false
+    ending tree rest =
+        let ranked = laws.ranked b can.plugs can.taken can.fit in
+        none_unended st.end.sinks.items (λ i s at.
+        let h = sink_here i s at in
+        let n : slice_get g.nodes h.is.to ≡ Some (node_of h.node) = subst (λ j. slice_get g.nodes j ≡ Some (node_of h.node)) (sym h.to) (mapped_at node_of nodes s.0 h.node h.at) in
+        let over : ended_there (left.nodes h.is.to) ≡ true =
+        laws.trees g world picture (composed g world) picture_wired (laws.rests g world ranked.0 left (run_at world has_files.book_is) (still rest) (world_tells world has_files) ranked.1) (tree_by_wires g tree)
+        (λ k. ended_there (left.nodes k)) (laws.match g world left (composed g world) run (still rest)) h.wire h.is (node_of h.node) h.there n h.shape in
+        ended_goes s.2 (sym h.ended ∙ ap (λ (k : ℕ). ended_there (left.nodes k)) (sym h.to) ∙ over))
+
+    needed : (w : World) → IsWorldOf book nodes drawn w → count_needed g st.wires.items ≤ need g (composed g w)
+    needed w is =
+        need_more (blueprint_wires b) 0 (sent_at st.wires.items) (λ i. length (composed g w i).list) (λ k lt.
+        let here = place_of (blueprint_wires b) (0 + k) (omega (arith, lt)) in
+        let sent : sent_at st.wires.items (0 + k) ≡ elements (left.near (0 + k)).wire.sent = wire_count_at (0 + k) here.0 here.1 in
+        let within : elements (left.near (0 + k)).wire.sent ≤ length (composed g w (0 + k)).list = passed_within (composed g w (0 + k)) (left.near (0 + k)).wire.sent (sent_agrees (0 + k) here.0 here.1 w is) in
+        let le : sent_at st.wires.items (0 + k) ≤ length (composed g w (0 + k)).list = omega (arith, sent, within) in
+        le)
+
+    leaves_files : LeavesFiles book old new b trace st.end.sinks.items (map pick_of st.end.picks.items) st.wires.items st.at_rest
+    leaves_files =
+        let ranked = laws.ranked b can.plugs can.taken can.fit in
+        record {
+          drawn = drawn;
+          chose = sym l.picks;
+          fits = λ w is. laws.moves g w ranked.0 left (run_at w is.book_is) settled (world_tells w is) ranked.1;
+          read = λ k file is. was_read k file (source_at k file is);
+          world = world;
+          has_files = has_files;
+          ending = ending;
+          needed = needed;
+          sink = λ i s n file at here shape.
+              let found = stand_of i s n file at here shape in
+              subst (λ (t : Stand). SinkLeaves book new b drawn st.wires.items st.at_rest s.0 n file t.1 t.2) (sym found.1) (sink_leaves s.0 n file here found.0);
+          ignores = λ i s n at here shape. ignore_leaves i s n at here shape;
+          others = λ tells n never aside. other_files sources drains b can last st.end.readers.items st.end.writers.items apart old mid _ _ opens new closes lone tells n never (unlisted trace n aside);
+          draws = λ k file u v is at from.
+              let f = source_at k file is in
+              let d = drew.source k file f in
+              let told = draws_told d.bytes (sources f.first.reader.source) (sources f.now.reader.source) (left.near u).wire.sent (sent_at st.wires.items u) f.start.faults (wire_count_at u v at)
+              (laws.reads g left run k (node_of is.node) f.first f.now u v d.bytes (mapped_at node_of nodes k is.node is.at) f.there at from d.whole) in
+              rw (d.drawn_bytes, d.given, d.faulted) told;
+          lawful = λ w is. subst (λ (c : List WireCount). IsLawful g w c (composed g w)) (sym wires_are) (laws.lawful g w ranked.0 left (run_at w is.book_is) settled (world_tells w is) ranked.1);
+          rest = λ rest w is. subst (λ (c : List WireCount). Rests g w c (composed g w)) (sym wires_are) (laws.rests g w ranked.0 left (run_at w is.book_is) (still rest) (world_tells w is) ranked.1);
+          matching = λ rest w k n at is.
+              let m = unmapped_at node_of nodes k n at in
+              let shape : oneway.is_sink m.0.kind ≡ true = ap (λ (x : graph.Node). oneway.is_sink x.kind) (sym m.1.1) ∙ is in
+              let below : k < length last = subst (λ j. k < j) (as_many sources drains book handles b ss ds left last between old mid opens) (place_within nodes k m.0 m.1.0) in
+              let x = place_of last k below in
+              let stand = stand_there k (is_sink m.0) (stand_in x.0) (profile k m.0 x.0 m.1.0 x.1).stand (sink_shape m.0.kind shape) in
+              let by_place : has_ended_at (filter_map stand_in last) k ≡ has_ended stand.0.2 =
+              ended_along 0 nodes last (as_many sources drains book handles b ss ds left last between old mid opens) (λ i y z p q. subst (λ j. StandsAt j (is_sink y) (stand_in z)) (omega arith) (profile i y z p q).stand) k k x.0 stand.0 (omega arith) x.1 stand.1.0 in
+              let ended : ended_there (left.nodes k) ≡ has_ended_at st.end.sinks.items k =
+              ended_as (left.nodes k) x.0 stand.0 (between.node_at k ∙ x.1) stand.1.0 ∙ sym by_place ∙ ap (λ (y : List Stand). has_ended_at y k) (sym (l.sinks ∙ sinks_filtered last)) in
+              subst (λ (c : List WireCount). EachWire (λ i. i.shut ≡ has_ended_at st.end.sinks.items k) (ins g c (composed g w) k n.kind)) (sym wires_are)
+              (subst (λ (e : Bool). EachWire (λ i. i.shut ≡ e) (ins g (pictures.counts_of left g) (composed g w) k n.kind)) ended
+              (laws.match g w left (composed g w) run (still rest) k n at is));
+        }
+
+  calm_output : ((i : ℕ) (s : Stand) → slice_get st.end.sinks.items i ≡ Some s → is_write_fault s.2 ≡ false) → (n : List ℕ) → Contains (outputs_of_nodes nodes) n → Grew (old.wfaults n) 0 (new.wfaults n)
+  calm_output none n c =
+      let at = contained_at (outputs_of_nodes nodes) n c in
+      let from = unfiltered_at (λ (m : blue.Node). output_of m.kind) nodes at.0 n at.1 in
+      let below : from.0 < length last = subst (λ j. from.0 < j) (as_many sources drains book handles b ss ds left last between old mid opens) (place_within nodes from.0 from.1.0 from.1.1.0) in
+      let x = place_of last from.0 below in
+      let y = writer_there (λ d. (drains d).name) x.0 n (sym from.1.1.1 ∙ (profile from.0 from.1.0 x.0 from.1.1.0 x.1).output) in
+      let shape = writer_kind sources drains book handles b ss ds left last between old mid opens from.0 from.1.0 x.0 y.0 from.1.1.0 x.1 y.1 in
+      let named : shape.0 ≡ n = some_one shape.0 n (sym shape.1 ∙ from.1.1.1) in
+      let f = sink_at from.0 shape.0 (record { node = from.1.0; at = from.1.1.0; file_is = shape.1 }) in
+      let told = filtered_at stand_in last from.0 (node.Writing f.now) (f.now.node, f.now.count, f.now.end) f.at refl in
+      let among : slice_get st.end.sinks.items told.0 ≡ Some (f.now.node, f.now.count, f.now.end) = subst (λ (z : List Stand). slice_get z told.0 ≡ Some (f.now.node, f.now.count, f.now.end)) (sym (l.sinks ∙ sinks_filtered last)) told.1 in
+      let grew : Grew (old.wfaults shape.0) 0 (new.wfaults shape.0) = calm_write f.now.end (old.wfaults shape.0) (new.wfaults shape.0) (none told.0 (f.now.node, f.now.count, f.now.end) among)
+      (stands_writes f.now.end (drains f.first.drain) (drains f.now.drain) f.law.wrote f.now.count (old.wfaults shape.0) (new.wfaults shape.0) f.law.stands f.start.faults (sink_writes from.0 shape.0 f)) in
+      subst (λ m. Grew (old.wfaults m) 0 (new.wfaults m)) named grew
+
+  -- where no sink's write failed, and none to the trace's file, no count of failed writes rose
+  calm_other : ((n : List ℕ) → Contains (option_to_list trace) n → Grew (old.wfaults n) 0 (new.wfaults n)) → (n : List ℕ) → (Contains (outputs_of_nodes nodes) n → ⊥) → Grew (old.wfaults n) 0 (new.wfaults n)
+  calm_other calm n never = elim (contains_or_not (option_to_list trace) n) [
+    | inl c ↦ (calm n c)
+    | inr aside ↦ (other_writes sources drains b can last st.end.readers.items st.end.writers.items apart old mid _ _ opens new closes lone n never aside)
+  ]
+
+  calm_writes : ((i : ℕ) (s : Stand) → slice_get st.end.sinks.items i ≡ Some s → is_write_fault s.2 ≡ false) → ((n : List ℕ) → Contains (option_to_list trace) n → Grew (old.wfaults n) 0 (new.wfaults n)) → (n : List ℕ) → Grew (old.wfaults n) 0 (new.wfaults n)
+  calm_writes none calm n = elim (contains_or_not (outputs_of_nodes nodes) n) [
+    | inl c ↦ (calm_output none n c)
+    | inr never ↦ (calm_other calm n never)
+  ]
+
+  -- what the nodes chose
+  abbrev moved : ℕ → List ℕ
+  moved = made_moves sources drains book handles b can ss ds left last between old mid opens
+
+  -- what passed each wire is a list, of its type where the plugs keep to theirs
+  carried : Carries book b st.wires.items drawn.picks
+  carried =
+      let ranks = laws.ranked b can.plugs can.taken can.fit in
+      let chosen = chosen_told book (unread book moved).file left in
+      carries book b st.wires.items drawn.picks moved (λ u. (left.near u).wire.sent) wire_count_at
+      (told_sent g ranks.0 ranks.1 (unread book moved) (λ u. (left.near u).wire.sent) (λ i v at. let n = run.joined.source i v at in (n.0, n.1)) (laws.texts g left run) (laws.gives g (unread book moved) left run chosen))
+      (λ plugs taken fit keeps i v at.
+      let by = laws.ranked b plugs taken fit in
+      laws.types plugs b.chains.items nodes g (unread book moved) by.0 left run chosen (laws.fits b plugs taken g fit refl refl refl) keeps by.1 i v at)
+      (λ w is has sent j v n at from other came. laws.gives g w left (run_at w is) (picks_told sources drains book handles b can ss ds left last between old mid opens w has) sent j v n at from other came)
+
+  -- the trace, as it was left where none of the sinks' drains has its name
+  abbrev Traced : RunResult → Type 0
+  Traced ran = ((n : List ℕ) → Contains (option_to_list trace) n → Contains (drain_names (map drains st.end.writers.items)) n → ⊥) → Traces old new b trace (map pick_of ran.picks.items) ran.trace_failed
+
+  traced_so : (ran : RunResult) → Traced ran → Traces old new b trace (map pick_of ran.picks.items) ran.trace_failed
+  traced_so ran traced = traced (unwritten sources drains b can last st.end.readers.items st.end.writers.items apart old mid _ _ opens new closes lone)
+
+  pub runs_of : (ran : RunResult) → Traced ran → ran.sinks.items ≡ st.end.sinks.items → ran.picks.items ≡ st.end.picks.items → ran.wires.items ≡ st.wires.items → ran.used ≡ st.used → ran.at_rest ≡ st.at_rest → Runs book old new b trace budget ran
+  runs_of ran traced sinks chosen wires used rest = record {
+    sinks_are = ap (map (λ (s : Stand). s.0)) (sinks ∙ l.sinks) ∙ stands_are sources drains book handles b ss ds left last between old mid opens;
+    picks_are = ap picked (ap (map pick_of) chosen ∙ l.picks) ∙ picks_stand sources drains book handles b can ss ds left last between old mid opens;
+    told = tells_old sources drains b can last st.end.readers.items st.end.writers.items apart old mid _ _ opens new closes lone;
+    traces = traced_so ran traced;
+    leaves = λ h. rw (sinks, chosen, wires, rest) (leaves_files h);
+    refusals = refused sources drains b can last st.end.readers.items st.end.writers.items apart old mid _ _ opens new closes lone;
+    reads = other_reads sources drains b can last st.end.readers.items st.end.writers.items apart old mid _ _ opens new closes lone;
+    writes = λ i s n file at here shape.
+        let found = stand_of i s n file (subst (λ (x : List Stand). slice_get x i ≡ Some s) sinks at) here shape in
+        let f = found.0 in
+        subst (λ (t : Stand). WritesOf t.2 (old.wfaults file) (new.wfaults file)) (sym found.1)
+        (stands_writes f.now.end (drains f.first.drain) (drains f.now.drain) f.law.wrote f.now.count (old.wfaults file) (new.wfaults file) f.law.stands f.start.faults (sink_writes s.0 file f));
+    faults = λ i s at fault.
+        let among : slice_get (filter_map stand_in last) i ≡ Some s = subst (λ (x : List Stand). slice_get x i ≡ Some s) (sinks ∙ l.sinks ∙ sinks_filtered last) at in
+        let from = unfiltered_at stand_in last i s among in
+        let below : from.0 < length nodes = subst (λ m. from.0 < m) (sym (as_many sources drains book handles b ss ds left last between old mid opens)) (place_within last from.0 from.1.0 from.1.1.0) in
+        let m = place_of nodes from.0 below in
+        let shape = fault_kind sources drains book handles b ss ds left last between old mid opens from.0 m.0 from.1.0 s m.1 from.1.1.0 from.1.1.1 fault in
+        let f = sink_at from.0 shape.0 (record { node = m.0; at = m.1; file_is = shape.1 }) in
+        let is : from.1.0 ≡ node.Writing f.now = place_one last from.0 from.1.0 (node.Writing f.now) from.1.1.0 f.at in
+        let told : stand_in {S = S} {D = D} {L = L} {B = B} (node.Writing f.now) ≡ Some s = ap stand_in (sym is) ∙ from.1.1.1 in
+        let same : (f.now.node, f.now.count, f.now.end) ≡ s = some_one (f.now.node, f.now.count, f.now.end) s told in
+        let failed : f.now.end ≡ WriteFault = ap (λ (t : Stand). t.2) same ∙ fault in
+        let file = filtered_at (λ (n : blue.Node). output_of n.kind) nodes from.0 m.0 shape.0 m.1 shape.1 in
+        record {
+          file = shape.0;
+          output = contains_at (outputs_of_nodes nodes) file.0 shape.0 file.1;
+          rose = subst (λ (e : EndState). WritesOf e (old.wfaults shape.0) (new.wfaults shape.0)) failed
+              (stands_writes f.now.end (drains f.first.drain) (drains f.now.drain) f.law.wrote f.now.count (old.wfaults shape.0) (new.wfaults shape.0) f.law.stands f.start.faults (sink_writes from.0 shape.0 f));
+        };
+    calm = λ none calm. calm_writes (λ i s at. none i s (subst (λ (x : List Stand). slice_get x i ≡ Some s) (sym sinks) at)) (calm_trace old new b trace _ ran.trace_failed (traced_so ran traced) calm);
+    other_writes = λ n never aside. other_writes sources drains b can last st.end.readers.items st.end.writers.items apart old mid _ _ opens new closes lone n never (unlisted trace n aside);
+    other_draws = other_draws sources drains b can last st.end.readers.items st.end.writers.items apart old mid _ _ opens new closes lone;
+    within = rw used l.within;
+    spent = λ h. used ∙ l.spent (sym rest ∙ h);
+    pays = rw (wires, used) pays;
+    carries = rw (wires, chosen, l.picks) carried;
+    wired = λ some. sinks_wired (subst (λ (x : List Stand). 1 ≤ length x) sinks some);
+  }

@@ -1,0 +1,168 @@
+-- What the sources of a blueprint had drawn at a moment of its run between two events and what its stages had chosen, and the worlds
+-- that tell of it.
+use Rattle.std.proofs.Common.{◌≡◌, ℕ, ◌+◌, List, [], map, length, refl, sym, ap, ◌∙◌, subst, arith}
+use Rattle.std.specs.Prelude.{IsTrue, IsSome, Option, Some, None, unwrap_or}
+use Rattle.stream_model.specs.declared.kind.Kind.TheVariants as kind
+use Rattle.stream_model.specs.Composed.{count_from}
+use Rattle.stream_model.specs.Graph as graph
+use Rattle.stream_model.specs.Node.{World}
+use Rattle.stream_io.specs.Counts.{Grew}
+use Rattle.stream_io.specs.State.{FolderState, SourceState, DrainState}
+use Rattle.nodes.specs.Source.{Lines}
+use Rattle.nodes.specs.declared.node.IslandNode.{IslandNode}
+use Rattle.nodes.specs.declared.node.IslandNode.TheVariants as node
+use Rattle.run_account.specs.Account.{Account}
+use Rattle.interpreter.specs.Picks.{picks_of}
+use Rattle.run_outlook_laws.specs.Telling.{TellsFile, TellsNode, TellsFiles, TellsPicks, Tells, moves_at}
+use Rattle.blue_core.specs.declared.blueprint.Blueprint.{Blueprint}
+use Rattle.blue_rules.specs.Names.{file_of}
+use Rattle.blue_core.specs.declared.blueprint.Node as blue
+use Rattle.materializer.specs.Fit.{CanRun}
+use Rattle.materializer.specs.Files.{inputs_of_nodes, outputs_of_nodes}
+use Rattle.materializer.specs.Graphs.{node_of, graph_of, chains_of}
+use Rattle.run_blueprint.specs.Choosing.{pick_places, picked, HasPicks}
+use Rattle.run_blueprint.specs.Opening.{Opens}
+use Rattle.run_blueprint.specs.Drawing.{Drawn, IsSource, WasRead, IsWorldOf}
+use Rattle.island_runs.specs.Leaving.{Moment}
+use Rattle.run_blueprint.proofs.Choosing.{node_chooses, picked_along, told_along, has_along}
+use Rattle.run_blueprint.proofs.Counts.{rose_by, rose_from_none, is_positive, positive, above_none, not_positive, some_of}
+use Rattle.run_blueprint.proofs.Apart.{one_file}
+use Rattle.run_blueprint.proofs.Worlds.{world_of, world_has}
+use Rattle.run_blueprint.proofs.Places.{unmapped_at}
+use Rattle.run_blueprint.proofs.Handles.{HandleLaws, SourceFacts, source_facts, node_facts, reading_same, as_many}
+use Rattle.stream_model.specs.Linear.{Book}
+
+-- the state of the source at a place, where one is there
+abbrev blank : SourceState
+blank = record { name = []; whole = None; given = 0; faults = 0 }
+
+abbrev source_in : {S D L B : Type 0} → (S → SourceState) → Option (IslandNode S D L B) → SourceState
+source_in sources (Some (node.Reading x)) = sources x.reader.source
+source_in sources _ = blank
+
+source_there : {S D L B : Type 0} (sources : S → SourceState) (o : Option (IslandNode S D L B)) (x : Lines S) → o ≡ Some (node.Reading x) → source_in sources o ≡ sources x.reader.source
+source_there sources o x e = rw e refl
+
+one_node : {A : Type 0} {o : Option A} (x y : A) → o ≡ Some x → o ≡ Some y → x ≡ y
+one_node x y a b = cc
+
+told_whole : (o : Option (List ℕ)) (bytes : List ℕ) → o ≡ Some bytes → unwrap_or o [] ≡ bytes
+told_whole o bytes e = rw e refl
+
+-- a world that has the files as they were read tells of each source
+tells_node : {S D L B : Type 0} (sources : S → SourceState) (w : World) (n : graph.Node) (first now : IslandNode S D L B)
+    → ((a c : Lines S) (name : List ℕ) → first ≡ node.Reading a → now ≡ node.Reading c → n.kind ≡ kind.Lines name → TellsFile (sources a.reader.source) (sources c.reader.source) (w.file name)) → TellsNode sources w n first now
+tells_node sources w n (node.Reading a) (node.Reading c) tells = λ name shape. tells a c name refl refl shape
+tells_node sources w n first now tells = tt
+
+abbrev pub drawn_of : {S D L B : Type 0} → (S → SourceState) → Account (IslandNode S D L B) → List (IslandNode S D L B) → Drawn
+drawn_of sources left last = record {
+  bytes = λ k. unwrap_or (source_in sources (left.firsts k)).whole [];
+  given = λ k. (source_in sources (left.nodes k)).given;
+  faulted = λ k. is_positive (source_in sources (left.nodes k)).faults;
+  picks = picks_of (count_from 0 (length last)) last;
+}
+
+module _ {S D L B : Type 0} (sources : S → SourceState) (drains : D → DrainState) (book : Book) (handles : HandleLaws L B sources drains book) (b : Blueprint) (can : CanRun b) (ss : List S) (ds : List D) (left : Account (IslandNode S D L B)) (last : List (IslandNode S D L B)) (l : Moment sources drains book b ss ds left last)
+    (old mid : FolderState) {others : List (List ℕ)} (opens : Opens old mid (inputs_of_nodes b.nodes.items) (outputs_of_nodes b.nodes.items) others (map sources ss) (map drains ds)) where
+  abbrev nodes : List blue.Node
+  nodes = b.nodes.items
+
+  abbrev Source : ℕ → List ℕ → Type 0
+  Source k file = SourceFacts sources drains book handles b ss ds left last l old mid opens k file
+
+  abbrev drawn : Drawn
+  drawn = drawn_of sources left last
+
+  -- the moves of each node
+  abbrev pub made_moves : ℕ → List ℕ
+  made_moves k = moves_at (left.nodes k)
+
+  -- a world that has the moves tells of every stage
+  pub picks_told : (w : World) → HasPicks drawn.picks w → TellsPicks w left
+  picks_told w has k now at moves is =
+      let none : 0 + k ≡ k = omega arith in
+      ap w.moves (sym none) ∙ told_along 0 last w has k now moves (sym (l.node_at k) ∙ at) is
+
+  -- and so has one in which each node made its own
+  pub has_made : (w : World) → ((k : ℕ) → w.moves k ≡ made_moves k) → HasPicks drawn.picks w
+  has_made w made = has_along 0 last w (λ i x at. let none : 0 + i ≡ i = omega arith in ap w.moves none ∙ made i ∙ ap moves_at (l.node_at i ∙ at))
+
+  -- there is a list of moves for each stage whose kind chooses, and no other
+  pub picks_stand : picked drawn.picks ≡ pick_places 0 nodes
+  picks_stand =
+      picked_along 0 nodes last (as_many sources drains book handles b ss ds left last l old mid opens)
+      (λ i n x at here.
+      let f = node_facts sources drains book handles b ss ds left last l old mid opens i n x at here in
+      node_chooses sources drains book (chains_of b) i n f.first x f.knew f.came f.went f.made f.law)
+
+  -- what a source drew of its file, which was there
+  pub record DrawsOf (k : ℕ) (file : List ℕ) (f : Source k file) : Type 0 where
+    pub bytes : List ℕ
+    pub there : old.file file ≡ Some bytes
+    pub whole : (sources f.first.reader.source).whole ≡ Some bytes
+    pub drawn_bytes : drawn.bytes k ≡ bytes
+    pub given : drawn.given k ≡ (sources f.now.reader.source).given
+    pub faulted : drawn.faulted k ≡ is_positive (sources f.now.reader.source).faults
+
+  -- the same of every source; and a world that has the files as they were read tells of them
+  pub record Draws : Type 0 where
+    pub source : (k : ℕ) (file : List ℕ) (f : Source k file) → DrawsOf k file f
+    pub tells : (w : World) → IsWorldOf book nodes drawn w → Tells sources (graph_of b) w left
+    pub has_files : IsWorldOf book nodes drawn (world_of book nodes drawn made_moves)
+
+  module _ (tells_was : IsTrue old.tells) where
+    draws_of : (k : ℕ) (file : List ℕ) (f : Source k file) → DrawsOf k file f
+    draws_of k file f =
+        let there = some_of (old.file file) (subst (λ n. IsSome (old.file n)) f.first_named (f.start.there tells_was)) in
+        let whole : (sources f.first.reader.source).whole ≡ Some there.0 = f.start.whole tells_was ∙ ap old.file f.first_named ∙ there.1 in
+        record {
+          bytes = there.0;
+          there = there.1;
+          whole = whole;
+          drawn_bytes = ap (λ (i : SourceState). unwrap_or i.whole []) (source_there sources (left.firsts k) f.first f.there.at_first) ∙ told_whole (sources f.first.reader.source).whole there.0 whole;
+          given = ap (λ (i : SourceState). i.given) (source_there sources (left.nodes k) f.now f.there.at_last);
+          faulted = ap (λ (i : SourceState). is_positive i.faults) (source_there sources (left.nodes k) f.now f.there.at_last);
+        }
+
+    -- so much was read of its file, and its reads that failed were counted
+    pub reads_of : (k : ℕ) (file : List ℕ) (f : Source k file) (new : FolderState) (read : ℕ) → Grew (old.read file) read (new.read file) → Grew (old.rfaults file) (sources f.now.reader.source).faults (new.rfaults file)
+        → WasRead old new file (drawn.bytes k) read (drawn.faulted k)
+    reads_of k file f new read grew faults =
+        let d = draws_of k file f in
+        record {
+          there = d.there ∙ ap Some (sym d.drawn_bytes);
+          read = grew;
+          rose = λ p. rose_by (old.rfaults file) (sources f.now.reader.source).faults (new.rfaults file) faults (above_none (sources f.now.reader.source).faults (subst IsTrue d.faulted p));
+          calm = λ p. subst (λ n. Grew (old.rfaults file) n (new.rfaults file)) (not_positive (sources f.now.reader.source).faults (sym d.faulted ∙ p)) faults;
+        }
+
+    file_told : (k : ℕ) (file : List ℕ) (f : Source k file) (w : World) → w.file file ≡ record { bytes = drawn.bytes k; read = drawn.given k; faulted = drawn.faulted k } → TellsFile (sources f.first.reader.source) (sources f.now.reader.source) (w.file file)
+    file_told k file f w is =
+        let d = draws_of k file f in
+        rw is (record {
+          bytes = d.whole ∙ ap Some (sym d.drawn_bytes);
+          read = d.given;
+          faulted = λ rose. subst IsTrue (sym d.faulted) (positive (sources f.now.reader.source).faults (rose_from_none (sources f.first.reader.source).faults (sources f.now.reader.source).faults f.start.faults rose));
+        })
+
+    files_told : (w : World) → IsWorldOf book nodes drawn w → TellsFiles sources (graph_of b) w left
+    files_told w is k n first now gi fi ni = tells_node sources w n first now (λ a c name fa nc shape.
+        let m = unmapped_at node_of nodes k n gi in
+        let place : IsSource nodes k name = record { node = m.0; at = m.1.0; kind_is = ap (λ (x : graph.Node). x.kind) (sym m.1.1) ∙ shape } in
+        let f = source_facts sources drains book handles b ss ds left last l old mid opens k name place in
+        let first_is : f.first ≡ a = reading_same f.first a first (one_node first (node.Reading f.first) fi f.there.at_first) fa in
+        let now_is : f.now ≡ c = reading_same f.now c now (one_node now (node.Reading f.now) ni f.there.at_last) nc in
+        subst (λ (x : Lines S). TellsFile (sources x.reader.source) (sources c.reader.source) (w.file name)) first_is
+        (subst (λ (x : Lines S). TellsFile (sources f.first.reader.source) (sources x.reader.source) (w.file name)) now_is (file_told k name f w (is.files k name place))))
+
+    world_tells : (w : World) → IsWorldOf book nodes drawn w → Tells sources (graph_of b) w left
+    world_tells w is = record { files = files_told w is; picks = picks_told w is.moves }
+
+    pub draws_all : Draws
+    draws_all = record {
+      source = draws_of;
+      tells = world_tells;
+      has_files = world_has book nodes drawn made_moves (λ i k m n name at here p q. one_file b can.plugs can.taken can.fit i k m n name at here (ap file_of p) (ap file_of q))
+          (has_made (world_of book nodes drawn made_moves) (λ k. refl));
+    }

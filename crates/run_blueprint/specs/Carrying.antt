@@ -1,0 +1,40 @@
+-- What passed the wires of a run, whatever the folder tells of its files.
+use Rattle.std.specs.Prelude.{◌≡◌, ◌≢◌, ℕ, List, length, slice_get, Option, Some}
+use Rattle.elem_core.specs.Sort.{Sort}
+use Rattle.elem_core.specs.Tree.{Tree}
+use Rattle.stream_model.specs.declared.kind.Kind.TheVariants.{Lines}
+use Rattle.stream_model.specs.declared.outcome.WireCount.{WireCount}
+use Rattle.stream_model.specs.Composed.{next}
+use Rattle.stream_model.specs.Graph.{Edge}
+use Rattle.stream_model.specs.Node.{World}
+use Rattle.stream_model.specs.Outlook.{End, Agrees}
+use Rattle.stream_picture.specs.Shape.{sent_at}
+use Rattle.blue_core.specs.declared.blueprint.Blueprint.{Blueprint}
+use Rattle.blue_core.specs.declared.blueprint.Node.{Node}
+use Rattle.plug_core.specs.declared.head.PlugHead.{PlugHead}
+use Rattle.blue_check.specs.Fitness.{IsFit}
+use Rattle.blue_check.specs.Wires.{blueprint_wires}
+use Rattle.materializer.specs.Graphs.{graph_of}
+use Rattle.run_type_laws.specs.Checked.{wire_type}
+use Rattle.run_type_laws.specs.Sent.{exact}
+use Rattle.run_type_laws.specs.Types.{AllTyped}
+use Rattle.interpreter.specs.Picks.{Pick}
+use Rattle.run_blueprint.specs.Choosing.{HasPicks}
+use Rattle.stream_model.specs.Linear.{Book}
+use Rattle.run_type_laws.specs.Plugs.{KeepsPlugTypes}
+
+-- the type that the check settles for a wire
+abbrev pub settled_type : Blueprint → List PlugHead → Edge → Option Sort
+settled_type b plugs v = wire_type plugs b.chains.items b.nodes.items (graph_of b) v
+
+-- On each wire a list passed, and it stands so: as many elements as the picture counts (`counted`), all of the type that the
+-- check settles for the wire (`typed`). What a node gave that is no source of lines agrees with what it gives of the lists that
+-- passed on its inputs, by every world that has what the stages chose (`given`).
+pub record Carries (book : Book) (b : Blueprint) (wires : List WireCount) (picks : List Pick) : Type 0 where
+  pub lists : ℕ → List Tree
+  pub ends : ℕ → End
+  pub counted : (i : ℕ) (v : Edge) → slice_get (blueprint_wires b) i ≡ Some v → sent_at wires i ≡ length (lists i)
+  pub typed : (plugs : List PlugHead) (taken : List (List ℕ)) → IsFit b plugs taken → KeepsPlugTypes plugs book → (i : ℕ) (v : Edge) → slice_get (blueprint_wires b) i ≡ Some v
+      → (t : Sort) × ((settled_type b plugs v ≡ Some t) × AllTyped t (lists i))
+  pub given : (w : World) → w.book ≡ book → HasPicks picks w → (j : ℕ) (v : Edge) (n : Node) → slice_get (blueprint_wires b) j ≡ Some v → slice_get b.nodes.items v.from ≡ Some n → ((name : List ℕ) → n.kind ≢ Lines name)
+      → Agrees (next (graph_of b) w (λ u. exact (lists u) (ends u)) j) (lists j) (ends j)

@@ -1,4 +1,6 @@
-// The limits of blueprints. Each is the greatest that is allowed. Rule: own.
+// The limits of blueprints. Each is the greatest that is allowed.
+
+use elem_core::count::MOST_COUNT;
 
 /// Bytes of a blueprint's text.
 pub const MAX_TEXT: usize = 1_048_576;
@@ -31,7 +33,7 @@ pub const DEFAULT_LANE: u32 = 16;
 pub const MAX_HELD: u32 = 4096;
 
 /// The segment of an interleave and the count of a trip, in elements.
-pub const MAX_COUNT: u32 = 4_000_000_000;
+pub const MAX_COUNT: u32 = MOST_COUNT;
 
 /// Keys of a group_by.
 pub const MAX_KEYS: u32 = 1024;

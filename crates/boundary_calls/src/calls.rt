@@ -1,5 +1,6 @@
 // What the boundary stage at an end of a connection does between two events.
 ghost use Rattle.std.specs.Prelude.{◌≡◌, ◌<◌, ◌≤◌, ◌↔◌, ◌∷◌, [], length, IsTrue};
+ghost use Rattle.elem_core.specs.declared.count.TheConstants.{MOST_COUNT};
 ghost use Rattle.port_core.specs.Decoding.{can_pull};
 ghost use Rattle.port_core.specs.declared.act.Act.TheVariants as act;
 ghost use Rattle.nodes.specs.Nodes.{node_port_state, node_law, node_asking, node_moves, node_waits, node_gone};
@@ -50,7 +51,7 @@ pub fn push_in<S: Source, D: Drain, L: Logic, B: PlugBook>(
     requires within { place < length engine.old.wires }
     requires stage { EntersAt engine.old place }
     requires asked { wanted_at (wire_at engine.old place) ≡ wanted.Asked }
-    requires few { all_asks engine.old ≤ 4000000000 }
+    requires few { all_asks engine.old ≤ MOST_COUNT }
     ensures after { engine.new ≡ moved_at engine.old place (act.Push 0 e) }
     ensures laws { Settled node_port_state (node_law S.state D.state B.lists) node_asking node_moves engine.new }
     ensures on { GoesOn engine.old engine.new }
@@ -69,7 +70,7 @@ pub fn end_in<S: Source, D: Drain, L: Logic, B: PlugBook>(
     requires laws { Settled node_port_state (node_law S.state D.state B.lists) node_asking node_moves engine.old }
     requires within { place < length engine.old.wires }
     requires stage { EntersAt engine.old place }
-    requires few { all_asks engine.old ≤ 4000000000 }
+    requires few { all_asks engine.old ≤ MOST_COUNT }
     ensures after { engine.new ≡ ended_at engine.old place cause }
     ensures laws { Settled node_port_state (node_law S.state D.state B.lists) node_asking node_moves engine.new }
     ensures on { GoesOn engine.old engine.new }
@@ -114,7 +115,7 @@ pub fn pull_out<S: Source, D: Drain, L: Logic, B: PlugBook>(
     requires within { place < length engine.old.wires }
     requires stage { LeavesAt engine.old place }
     requires can { IsTrue (can_pull (wire_at engine.old place).wire.conn) × IsClearAt engine.old place }
-    requires few { all_asks engine.old ≤ 4000000000 }
+    requires few { all_asks engine.old ≤ MOST_COUNT }
     ensures after { engine.new ≡ moved_at engine.old place (act.Pull 0) }
     ensures laws { Settled node_port_state (node_law S.state D.state B.lists) node_asking node_moves engine.new }
     ensures on { GoesOn engine.old engine.new }
@@ -153,7 +154,7 @@ fn cancel<S: Source, D: Drain, L: Logic, B: PlugBook>(
     requires laws { Settled node_port_state (node_law S.state D.state B.lists) node_asking node_moves engine.old }
     requires within { place < length engine.old.wires }
     requires stage { LeavesAt engine.old place }
-    requires few { all_asks engine.old ≤ 4000000000 }
+    requires few { all_asks engine.old ≤ MOST_COUNT }
     ensures after { engine.new ≡ cancelled_at engine.old place }
     ensures laws { Settled node_port_state (node_law S.state D.state B.lists) node_asking node_moves engine.new }
     ensures on { GoesOn engine.old engine.new }
@@ -174,7 +175,7 @@ pub fn cancel_out<S: Source, D: Drain, L: Logic, B: PlugBook>(
     requires laws { Settled node_port_state (node_law S.state D.state B.lists) node_asking node_moves engine.old }
     requires within { place < length engine.old.wires }
     requires stage { LeavesAt engine.old place }
-    requires few { all_asks engine.old ≤ 4000000000 }
+    requires few { all_asks engine.old ≤ MOST_COUNT }
     ensures drops { AtNode (cancelled_at engine.old place) (end_at engine.old.ends place).to (λ x. HandsAt node_gone node_waits (cancelled_at engine.old place) (end_at engine.old.ends place).to (node_waits x) engine.new) }
     ensures laws { Settled node_port_state (node_law S.state D.state B.lists) node_asking node_moves engine.new }
     ensures on { GoesOn engine.old engine.new }

@@ -3,7 +3,7 @@
 ghost use Rattle.std.specs.Prelude.{◌≡◌, ◌≤◌, [], ◌∷◌, true, IfOk, IfSome, OnOk};
 ghost use Rattle.elem_core.specs.Tree.{num};
 ghost use Rattle.port_core.specs.declared.act.Act.TheVariants as act;
-ghost use Rattle.stage_core.specs.Handling.{most_acts};
+ghost use Rattle.stage_core.specs.declared.stage.TheConstants.{MOST_ACTS};
 ghost use Rattle.port_core.specs.View.{unpulled_ports};
 ghost use Rattle.call_tests.specs.Policies.{waiting_ports};
 
@@ -47,7 +47,7 @@ fn number_given(acts: &mut Acts) -> Option<i64>
 fn begins<S: Stage>(alloc: Global, stage: &mut S, acts: &mut Acts) -> Result<bool, NoMemory>
     requires new { S.fresh stage.old unpulled_ports }
     requires empty { acts.old.items ≡ [] }
-    requires room { most_acts ≤ acts.old.room }
+    requires room { MOST_ACTS ≤ acts.old.room }
     ensures waits { IfOk result (λ on. on ≡ true → S.port_state stage.new waiting_ports) }
     ensures acts { IfOk result (λ on. on ≡ true → acts.new ≡ acts.old) }
 {
@@ -64,7 +64,7 @@ fn takes<S: Stage>(
 ) -> Result<bool, NoMemory>
     requires waits { S.port_state stage.old waiting_ports }
     requires empty { acts.old.items ≡ [] }
-    requires room { most_acts ≤ acts.old.room }
+    requires room { MOST_ACTS ≤ acts.old.room }
     ensures waits { IfOk result (λ on. on ≡ true → S.port_state stage.new waiting_ports) }
     ensures acts { IfOk result (λ on. on ≡ true → acts.new ≡ acts.old) }
 {
@@ -81,7 +81,7 @@ fn gives<S: Stage>(
 ) -> Result<bool, NoMemory>
     requires waits { S.port_state stage.old waiting_ports }
     requires empty { acts.old.items ≡ [] }
-    requires room { most_acts ≤ acts.old.room }
+    requires room { MOST_ACTS ≤ acts.old.room }
     ensures waits { IfOk result (λ on. on ≡ true → S.port_state stage.new waiting_ports) }
     ensures acts { IfOk result (λ on. on ≡ true → acts.new ≡ acts.old) }
 {
@@ -96,7 +96,7 @@ fn gives<S: Stage>(
 fn takes_three<S: Stage>(alloc: Global, stage: &mut S, acts: &mut Acts) -> Result<bool, NoMemory>
     requires new { S.fresh stage.old unpulled_ports }
     requires empty { acts.old.items ≡ [] }
-    requires room { most_acts ≤ acts.old.room }
+    requires room { MOST_ACTS ≤ acts.old.room }
     ensures waits { IfOk result (λ on. on ≡ true → S.port_state stage.new waiting_ports) }
     ensures acts { IfOk result (λ on. on ≡ true → acts.new ≡ acts.old) }
 {
@@ -122,7 +122,7 @@ fn gives_two<S: Stage>(
 ) -> Result<bool, NoMemory>
     requires new { S.fresh stage.old unpulled_ports }
     requires empty { acts.old.items ≡ [] }
-    requires room { most_acts ≤ acts.old.room }
+    requires room { MOST_ACTS ≤ acts.old.room }
     ensures waits { IfOk result (λ on. on ≡ true → S.port_state stage.new waiting_ports) }
     ensures acts { IfOk result (λ on. on ≡ true → acts.new ≡ acts.old) }
 {
@@ -194,7 +194,7 @@ fn a_full_buffer_drops_all(rt: HostRuntime) -> Result<(), Fail> {
 fn fails_at_three<S: Stage>(alloc: Global, stage: &mut S, acts: &mut Acts) -> Result<bool, NoMemory>
     requires new { S.fresh stage.old unpulled_ports }
     requires empty { acts.old.items ≡ [] }
-    requires room { most_acts ≤ acts.old.room }
+    requires room { MOST_ACTS ≤ acts.old.room }
 {
     if !begins(alloc, stage, acts)? {
         return Ok(false);

@@ -3,6 +3,7 @@ use Rattle.std.specs.Prelude.{ℕ, not, ◌&&◌, nat_le, if◌then◌else◌, L
 use Rattle.std.specs.Str.{bytes_eq}
 use Rattle.std.specs.Str.Parse.{digits_value}
 use Rattle.elem_core.specs.Number.{is_numeral}
+use Rattle.elem_core.specs.declared.count.TheConstants.{MOST_COUNT}
 use Rattle.blue_words.specs.Names.{is_file_name}
 use Rattle.command_words.specs.Parts.{Part, generate, workers, turns, trace, parts_of, files_of, values_of}
 
@@ -22,7 +23,7 @@ abbrev pub most_workers : ℕ
 most_workers = 64
 
 abbrev pub most_turns : ℕ
-most_turns = 4000000000
+most_turns = MOST_COUNT
 
 -- the workers and the turns where no number is given
 abbrev pub usual_workers : ℕ

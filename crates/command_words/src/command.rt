@@ -1,6 +1,7 @@
 // What the words of the command ask for.
 ghost use Rattle.std.specs.Prelude.{◌≡◌, ◌≤◌, map, List, ℕ, IfOk, IfSome, IsTrue, Ok, Err, Some, None, length, option_map};
 ghost use Rattle.elem_core.specs.Line.{has_no_lf};
+ghost use Rattle.elem_core.specs.declared.count.TheConstants.{MOST_COUNT};
 ghost use Rattle.blue_words.specs.Names.{is_file_name};
 ghost use Rattle.command_words.specs.Asking.{Asked, asked_by, asked_of, only};
 ghost use Rattle.command_words.specs.Shape.{text_in};
@@ -71,7 +72,7 @@ fn choice_of<'a>(said: &Said<'a>) -> Option<Choice<'a>>
     ensures file { IfSome result (λ choice. IsTrue (is_file_name choice.file.now)) }
     ensures trace { IfSome result (λ choice. IfSome choice.trace (λ path. IsTrue (is_file_name path.now))) }
     ensures workers { IfSome result (λ choice. (1 ≤ choice.workers) × (choice.workers ≤ 64)) }
-    ensures turns { IfSome result (λ choice. (1 ≤ choice.turns) × (choice.turns ≤ 4000000000)) }
+    ensures turns { IfSome result (λ choice. (1 ≤ choice.turns) × (choice.turns ≤ MOST_COUNT)) }
     ensures generated { IfSome result (λ choice. IfSome choice.generated (λ n. (1 ≤ n) × (n ≤ 10000000))) }
 {
     let (file, generated) = input_of(said.file, said.generate)?;
@@ -123,7 +124,7 @@ pub fn read_words(alloc: Global, words: &[Line]) -> Result<Command, WordsEnd>
     ensures usage { result ≡ Err WordsEnd.Usage → asked_of words.now ≡ None }
     ensures file { IfOk result (λ command. IsTrue (is_file_name command.file)) }
     ensures workers { IfOk result (λ command. (1 ≤ command.workers) × (command.workers ≤ 64)) }
-    ensures turns { IfOk result (λ command. (1 ≤ command.turns) × (command.turns ≤ 4000000000)) }
+    ensures turns { IfOk result (λ command. (1 ≤ command.turns) × (command.turns ≤ MOST_COUNT)) }
     ensures generated { IfOk result (λ command. IfSome command.generated (λ n. (1 ≤ n) × (n ≤ 10000000))) }
 {
     let texts = texts_of(alloc, words)?;

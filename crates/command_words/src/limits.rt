@@ -6,6 +6,7 @@ ghost use Rattle.command_words.specs.Shape.{text_in};
 
 use blue_words::names::is_file_name;
 use blue_words::places::count_place;
+use elem_core::count::MOST_COUNT;
 
 /// The greatest number of lines to generate.
 pub(crate) const MOST_GENERATED: u32 = 10_000_000;
@@ -14,7 +15,7 @@ pub(crate) const MOST_GENERATED: u32 = 10_000_000;
 pub(crate) const MOST_WORKERS: u32 = 64;
 
 /// The greatest number of turns.
-pub(crate) const MOST_TURNS: u32 = 4_000_000_000;
+pub(crate) const MOST_TURNS: u32 = MOST_COUNT;
 
 /// The workers where no number is given.
 pub(crate) const USUAL_WORKERS: u32 = 1;

@@ -1,6 +1,7 @@
 // What the workers share, and what one of them does.
 ghost use Rattle.std.specs.Prelude.{◌≡◌, ◌<◌, ◌≤◌, length, IfOk, IfSome};
 ghost use Rattle.std.specs.List.{All};
+ghost use Rattle.elem_core.specs.declared.count.TheConstants.{MOST_COUNT};
 ghost use Rattle.unit_budget.specs.Public.{budget_id};
 ghost use Rattle.turn_table.specs.Public.{IsSeatOf, IsFree, turns_of, handed_in};
 ghost use Rattle.dispatcher.specs.Crew.{IsCrew};
@@ -116,7 +117,7 @@ fn serve<B: Waking, R: Wait>(
     id: u32,
 ) -> bool
     requires crew { IsCrew turns.now (budget_id budget.now) budget.now.limit list.now.count }
-    requires few { budget.now.limit ≤ 4000000000 }
+    requires few { budget.now.limit ≤ MOST_COUNT }
     requires inside { id < list.now.count }
     requires seat { IsFree turns.now seat.old }
     ensures { IsFree turns.now seat.new }
@@ -145,7 +146,7 @@ fn work<B: Waking, R: Wait>(
     seat: &mut TurnSeat,
 )
     requires crew { IsCrew turns.now (budget_id budget.now) budget.now.limit list.now.count }
-    requires few { budget.now.limit ≤ 4000000000 }
+    requires few { budget.now.limit ≤ MOST_COUNT }
     requires seat { IsFree turns.now seat.old }
     ensures { IsFree turns.now seat.new }
 {
@@ -181,7 +182,7 @@ pub fn work_all<B: Waking + Send, R: Threads + Wait + Sync>(
     seats: &mut [TurnSeat],
 )
     requires crew { IsCrew turns.now (budget_id budget.now) budget.now.limit list.now.count }
-    requires few { budget.now.limit ≤ 4000000000 }
+    requires few { budget.now.limit ≤ MOST_COUNT }
     requires some { 0 < length seats.old }
     requires free { All (IsFree turns.now) seats.old }
     ensures len { length seats.new ≡ length seats.old }
@@ -193,7 +194,7 @@ pub fn work_all<B: Waking + Send, R: Threads + Wait + Sync>(
         seats,
         threads,
         &|_: usize, seat: &mut TurnSeat|
-            requires { IsCrew turns.now (budget_id budget.now) budget.now.limit list.now.count × (budget.now.limit ≤ 4000000000) × IsFree turns.now seat.now }
+            requires { IsCrew turns.now (budget_id budget.now) budget.now.limit list.now.count × (budget.now.limit ≤ MOST_COUNT) × IsFree turns.now seat.now }
             ensures { IsFree turns.entry.now seat.exit.now }
         { work(rt, alloc, turns, budget, list, seat) },
     );

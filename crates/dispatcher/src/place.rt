@@ -1,5 +1,6 @@
 // A body beside its seat of the budget.
 ghost use Rattle.std.specs.Prelude.{◌≡◌, ◌≤◌, false};
+ghost use Rattle.elem_core.specs.declared.count.TheConstants.{MOST_COUNT};
 ghost use Rattle.unit_budget.specs.Public.{budget_id, seat_id, limit_of};
 ghost use Rattle.dispatcher.specs.Places.{Paid, Stands, Belongs};
 
@@ -86,7 +87,7 @@ impl<B: Turning> TablePlace<B> {
     /// One turn of at most 1000 units, all of which the budget has. After a turn in which memory was wanting there is none.
     pub fn turn(&mut self, alloc: Global, budget: &Budget) -> Came
         requires belongs { Belongs (budget_id budget.now) budget.now.limit self.old }
-        requires few { budget.now.limit ≤ 4000000000 }
+        requires few { budget.now.limit ≤ MOST_COUNT }
         ensures same { self.new ≡ self.old }
     {
         if self.broken {

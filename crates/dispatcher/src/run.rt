@@ -1,6 +1,7 @@
 // Runs by workers.
 ghost use Rattle.std.specs.Prelude.{◌≡◌, ◌+◌, ◌<◌, ◌≤◌, [], ℕ, true, false, map, length, vec_len, vec_capacity, IfOk, IfErr};
 ghost use Rattle.std.specs.List.{All, sum_by};
+ghost use Rattle.elem_core.specs.declared.count.TheConstants.{MOST_COUNT};
 ghost use Rattle.turn_table.specs.Public.{IsFree, handed_in, seats_of};
 ghost use Rattle.unit_budget.specs.Public.{budget_id, seat_id, used_by, parts_of, limit_of, IsIdle};
 ghost use Rattle.rounds.specs.Bodies.{AllOf, EachOf};
@@ -67,7 +68,7 @@ fn take_turns<B: Waking + Send, R: Threads + Wait + Sync>(
     back: Vec<TablePlace<B>>,
 ) -> Vec<TablePlace<B>>
     requires crew { IsCrew turns (budget_id purse.now) purse.now.limit list.now.count }
-    requires few { purse.now.limit ≤ 4000000000 }
+    requires few { purse.now.limit ≤ MOST_COUNT }
     requires some { (0 < list.now.count) × (1 < vec_len seats) }
     requires seats { (vec_len seats ≡ seats_of turns) × All (IsFree turns) seats.items }
     requires back { (back.items ≡ []) × (list.now.count ≤ vec_capacity back) }
@@ -93,7 +94,7 @@ fn run_workers<B: Waking + Send, R: Threads + Wait + Sync>(
     budget: u32,
 ) -> TurnsTaken<B>
     requires workers { (0 < workers) × (workers ≤ 64) }
-    requires budget { budget ≤ 4000000000 }
+    requires budget { budget ≤ MOST_COUNT }
     requires keeps { AllOf B.keeps bodies.items }
     requires unspent { AllOf (λ b. B.spent b ≡ 0) bodies.items }
     ensures few { result.lack ≡ false → vec_len bodies < 4294967295 }
@@ -144,7 +145,7 @@ pub fn run<B: Waking + Send, R: Threads + Wait + Sync>(
     budget: u32,
 ) -> Result<Finish<B>, Vec<B>>
     requires workers { (0 < workers) × (workers ≤ 64) }
-    requires budget { budget ≤ 4000000000 }
+    requires budget { budget ≤ MOST_COUNT }
     requires keeps { AllOf B.keeps bodies.items }
     requires unspent { AllOf (λ b. B.spent b ≡ 0) bodies.items }
     requires lanes { AreCrossings B.may_meet bodies.items lanes.now }

@@ -1,6 +1,7 @@
 // Bodies are put in places, and the places taken apart behind the workers.
 ghost use Rattle.std.specs.Prelude.{◌≡◌, ◌+◌, ◌≤◌, [], ℕ, false, map, vec_len, vec_capacity, IfOk};
 ghost use Rattle.std.specs.List.{All, sum_by};
+ghost use Rattle.elem_core.specs.declared.count.TheConstants.{MOST_COUNT};
 ghost use Rattle.unit_budget.specs.Public.{budget_id, seat_id, used_by, parts_of, limit_of, IsIdle};
 ghost use Rattle.rounds.specs.Bodies.{AllOf, EachOf};
 ghost use Rattle.dispatcher.specs.Places.{Paid, Belongs, WentOn, WentOrBroke, start_of};
@@ -74,7 +75,7 @@ pub fn take_apart<B: Turning>(
     refused: bool,
 ) -> TurnsTaken<B>
     requires seat { (seat_id first ≡ budget_id purse.now) × IsIdle first × (parts_of first ≡ 1) × (used_by first ≡ 0) × (limit_of first ≡ purse.now.limit) }
-    requires limit { purse.now.limit ≤ 4000000000 }
+    requires limit { purse.now.limit ≤ MOST_COUNT }
     requires belong { All (Belongs (budget_id purse.now) purse.now.limit) places.items }
     requires room { (room.items ≡ []) × (vec_len places ≤ vec_capacity room) }
     ensures each { EachOf (WentOrBroke B.keeps B.goes B.breaks) (map start_of places.items) result.bodies.items }

@@ -4,6 +4,10 @@ ghost use Rattle.std.specs.Prelude.{◌≡◌, ◌+◌, ◌<◌, ◌^◌, IfOk, 
 use crate::why::NoMemory;
 use std::alloc::AllocError;
 
+/// The most that is counted: of the units of a run, and of the elements that a blueprint may give as the number of a segment or
+/// of those before an order.
+pub const MOST_COUNT: u32 = 4_000_000_000;
+
 /// One more than a count; past 64 bits that is want of memory.
 pub fn one_more(count: u64) -> Result<u64, NoMemory>
     ensures { IfOk result (λ n. n ≡ count + 1) }

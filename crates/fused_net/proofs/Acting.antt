@@ -4,6 +4,7 @@ use Rattle.std.proofs.Math.ListN.{set}
 use Rattle.std.proofs.lemmas.List.{length-set, set-get_or}
 use Rattle.std.proofs.lemmas.Option.{slice_get_within}
 use Rattle.elem_core.specs.declared.item.Item.{Item}
+use Rattle.elem_core.specs.declared.count.TheConstants.{MOST_COUNT}
 use Rattle.port_core.specs.Joint.{IsSound, Kept}
 use Rattle.port_core.specs.Wire.{JointPorts}
 use Rattle.port_core.specs.View.{View, IsInOpen, IsOutOpen, ActAllowed}
@@ -155,7 +156,7 @@ module _ {N : Type 0} (row : N → View → Type 0) (law : N → N → View → 
         others = λ k hk ne. others_acted net n a busy.wired busy.within f.0 within k hk ne (busy.others k hk ne);
       }
 
-  pub able : (net : Net N) (n : ℕ) (a : Act) (acts : List Act) → Busy row law net n (a ∷ acts) → all_asks net ≤ 4000000000 → Able net n a
+  pub able : (net : Net N) (n : ℕ) (a : Act) (acts : List Act) → Busy row law net n (a ∷ acts) → all_asks net ≤ MOST_COUNT → Able net n a
   able net n a acts busy few =
       let x = get_there net.nodes n busy.within in
       let first = get_there net.firsts n (rw busy.each_first busy.within) in
@@ -189,7 +190,7 @@ module _ {N : Type 0} (row : N → View → Type 0) (law : N → N → View → 
   pub next_same : (net on to : Net N) (n : ℕ) (a : Act) (old new : List Act) → old ≡ a ∷ new → on ≡ acted net n a → acted_all net n old ≡ to → acted_all on n new ≡ to
   next_same net on to n a old new e is same = rw is (rw e at same)
 
-  pub next_able : (net : Net N) (n : ℕ) (a : Act) (old new : List Act) → old ≡ a ∷ new → Busy row law net n old → all_asks net ≤ 4000000000 → Able net n a
+  pub next_able : (net : Net N) (n : ℕ) (a : Act) (old new : List Act) → old ≡ a ∷ new → Busy row law net n old → all_asks net ≤ MOST_COUNT → Able net n a
   next_able net n a old new e busy few = let at : Busy row law net n (a ∷ new) = rw e at busy in able net n a new at few
 
   pub one_done : (net new : Net N) (n : ℕ) (a : Act) (acts : List Act) → acts ≡ a ∷ [] → new ≡ acted net n a → new ≡ acted_all net n acts

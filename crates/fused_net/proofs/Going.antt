@@ -3,6 +3,7 @@ use Rattle.std.proofs.Common.{◌≡◌, ◌≢◌, inl, inr, ℕ, ◌+◌, ◌<
 use Rattle.std.proofs.lemmas.List.{length-set}
 use Rattle.elem_core.specs.declared.item.Item.{Item}
 use Rattle.elem_core.specs.declared.item.Item.TheVariants as item
+use Rattle.elem_core.specs.declared.count.TheConstants.{MOST_COUNT}
 use Rattle.port_core.specs.Ring.{holds}
 use Rattle.port_core.specs.Joint.{IsSound}
 use Rattle.port_core.specs.View.{View}
@@ -83,7 +84,7 @@ module _ {N : Type 0} where
       record { least = omega (arith, one.least, more.least); most = omega (arith, one.most, more.most) }
 
   -- in the loop over the actions
-  pub few_next : (net on : Net N) (n : ℕ) (a : Act) (old new : List Act) → old ≡ a ∷ new → on ≡ acted net n a → Busy AnyRow AnyLaw net n old → all_asks net ≤ 4000000000 → all_asks on ≤ 4000000000
+  pub few_next : (net on : Net N) (n : ℕ) (a : Act) (old new : List Act) → old ≡ a ∷ new → on ≡ acted net n a → Busy AnyRow AnyLaw net n old → all_asks net ≤ MOST_COUNT → all_asks on ≤ MOST_COUNT
   few_next net on n a old new e is busy few =
       let at : Busy AnyRow AnyLaw net n (a ∷ new) = rw e at busy in
       rw is (let one = acted_uses net n a new at in omega (arith, one.most, few))

@@ -4,6 +4,7 @@ use Rattle.std.proofs.lemmas.List.{get_or_default}
 use Rattle.std.proofs.lemmas.Option.{slice_get-get_or}
 use Rattle.elem_core.specs.Prefix.{IsPrefix}
 use Rattle.elem_core.specs.declared.item.Item.{Item}
+use Rattle.elem_core.specs.declared.count.TheConstants.{MOST_COUNT}
 use Rattle.port_core.specs.Ring.{holds}
 use Rattle.port_core.specs.View.{View}
 use Rattle.port_core.specs.Call.{Call, Meets, starts}
@@ -52,7 +53,7 @@ module _ {N : Type 0} (row : N → View → Type 0) (law : N → N → View → 
       }
 
   -- an event leaves few asks
-  pub few_told : (net v : Net N) (w : ℕ) → Settled row law asking moves (before net w) → w < length net.wires → holds net.queue w ≡ false → v ≡ event_told net w → all_asks net + 1 ≤ 4000000000 → all_asks v ≤ 4000000000
+  pub few_told : (net v : Net N) (w : ℕ) → Settled row law asking moves (before net w) → w < length net.wires → holds net.queue w ≡ false → v ≡ event_told net w → all_asks net + 1 ≤ MOST_COUNT → all_asks v ≤ MOST_COUNT
   few_told net v w s h absent is few = rw is (let u = event_uses row law asking moves net w s h absent in omega (arith, u.most, few))
 
   module _ (fresh : N → View → Type 0) where

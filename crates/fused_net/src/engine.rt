@@ -1,11 +1,13 @@
 // Nodes joined by wires: one action, one event, and `execute`.
 ghost use Rattle.std.specs.Prelude.{◌≡◌, ◌≢◌, ℕ, ◌+◌, ◌<◌, ◌≤◌, [], ◌∷◌, false, None, Some, OnOk, OnErr, IfOk, IfNone, IfSome, IsTrue, ◌↔◌, length, map, replicate, slice_get};
 ghost use Rattle.elem_core.specs.Prefix.{IsPrefix};
+ghost use Rattle.elem_core.specs.declared.count.TheConstants.{MOST_COUNT};
 ghost use Rattle.port_core.specs.Call.{Meets};
 ghost use Rattle.port_core.specs.Ring.{holds};
 ghost use Rattle.port_core.specs.Wire.{nothing, delivery_of};
 ghost use Rattle.port_core.specs.declared.act.Act.TheVariants as act;
-ghost use Rattle.stage_core.specs.Handling.{most_acts, PullsAs, StaysPassive, Handles};
+ghost use Rattle.stage_core.specs.declared.stage.TheConstants.{MOST_ACTS};
+ghost use Rattle.stage_core.specs.Handling.{PullsAs, StaysPassive, Handles};
 ghost use Rattle.wire_core.specs.Cell.{new_cell, delivery_in};
 ghost use Rattle.fused_net.specs.Net.{acted, acted_all, event_told, wire_at, end_at, Able, port_at, target, call_of, before, Takes};
 ghost use Rattle.fused_net.specs.Queue.{most_chases};
@@ -108,7 +110,7 @@ fn call<S: Stage>(
     requires some { delivery_in event ≢ nothing }
     requires meets { Meets (call_of (delivery_in event) ends) (S.port_state node.old) }
     requires empty { acts.old.items ≡ [] }
-    requires room { most_acts ≤ acts.old.room }
+    requires room { MOST_ACTS ≤ acts.old.room }
     ensures handles { OnOk result (Handles S.port_state S.law (call_of (delivery_in event) ends) node.old node.new acts.new.items) }
     ensures pulls { OnOk result (PullsAs (call_of (delivery_in event) ends) (S.port_state node.old) (S.asking node.new) acts.new.items) }
     ensures grows { OnOk result (IsPrefix (S.moves node.old) (S.moves node.new)) }
@@ -165,10 +167,10 @@ impl<S: Stage> Engine<S> {
     fn start_at(&mut self, alloc: Global, n: usize, acts: &mut Acts) -> Result<(), NoMemory>
         requires starting { Starting S.port_state S.law S.asking S.moves S.fresh self.old n }
         requires within { n < length self.old.nodes }
-        requires few { all_asks self.old ≤ 4000000000 }
+        requires few { all_asks self.old ≤ MOST_COUNT }
         requires kept { AllKept S.keeps self.old.firsts self.old.nodes }
         requires empty { acts.old.items ≡ [] }
-        requires room { most_acts ≤ acts.old.room }
+        requires room { MOST_ACTS ≤ acts.old.room }
         ensures starting { OnOk result (Starting S.port_state S.law S.asking S.moves S.fresh self.new (n + 1)) }
         ensures on { OnOk result (GoesOn self.old self.new) }
         ensures asks { OnOk result (all_asks self.new ≤ all_asks self.old) }
@@ -186,9 +188,9 @@ impl<S: Stage> Engine<S> {
     /// its start, and the graph is only taken apart.
     pub fn start(&mut self, alloc: Global, acts: &mut Acts) -> Result<(), NoMemory>
         requires starting { Starting S.port_state S.law S.asking S.moves S.fresh self.old 0 }
-        requires few { all_asks self.old ≤ 4000000000 }
+        requires few { all_asks self.old ≤ MOST_COUNT }
         requires empty { acts.old.items ≡ [] }
-        requires room { most_acts ≤ acts.old.room }
+        requires room { MOST_ACTS ≤ acts.old.room }
         ensures laws { OnOk result (Settled S.port_state S.law S.asking S.moves self.new) }
         ensures on { OnOk result (GoesOn self.old self.new) }
         ensures asks { OnOk result (all_asks self.new ≤ all_asks self.old) }
@@ -277,7 +279,7 @@ impl<S: Stage> Engine<S> {
     // Node n does all its actions, which mostly are one.
     fn perform(&mut self, n: usize, acts: &mut Acts)
         requires busy { Busy AnyRow AnyLaw self.old n acts.old.items }
-        requires few { all_asks self.old ≤ 4000000000 }
+        requires few { all_asks self.old ≤ MOST_COUNT }
         ensures after { self.new ≡ acted_all self.old n acts.old.items }
         ensures acts { acts.new ≡ record acts.old { items = [] } }
     {
@@ -290,7 +292,7 @@ impl<S: Stage> Engine<S> {
     #[inline(never)]
     fn perform_all(&mut self, n: usize, acts: &mut Acts)
         requires busy { Busy AnyRow AnyLaw self.old n acts.old.items }
-        requires few { all_asks self.old ≤ 4000000000 }
+        requires few { all_asks self.old ≤ MOST_COUNT }
         ensures after { self.new ≡ acted_all self.old n acts.old.items }
         ensures acts { acts.new ≡ record acts.old { items = [] } }
     {
@@ -328,9 +330,9 @@ impl<S: Stage> Engine<S> {
         requires meets { MeetsAt S.port_state S.law (call_of (delivery_in event) ends) self.old n }
         requires awaits { Awaits S.port_state S.law (call_of (delivery_in event) ends) self.old n }
         requires tells { TellsAsking S.port_state S.law S.asking S.moves (call_of (delivery_in event) ends) self.old n }
-        requires few { all_asks self.old ≤ 4000000000 }
+        requires few { all_asks self.old ≤ MOST_COUNT }
         requires empty { acts.old.items ≡ [] }
-        requires room { most_acts ≤ acts.old.room }
+        requires room { MOST_ACTS ≤ acts.old.room }
         ensures responds { OnOk result (Responds S.port_state S.law S.asking S.moves self.old self.new n) }
         ensures heard { OnOk result (HeardBy S.passive n self.old self.new) }
         ensures gone { OnOk result (map S.gone self.new.nodes ≡ map S.gone self.old.nodes) }
@@ -349,9 +351,9 @@ impl<S: Stage> Engine<S> {
         requires within { w < length self.old.wires }
         requires absent { holds self.old.queue w ≡ false }
         requires laws { Settled S.port_state S.law S.asking S.moves (before self.old w) }
-        requires few { all_asks self.old + 1 ≤ 4000000000 }
+        requires few { all_asks self.old + 1 ≤ MOST_COUNT }
         requires empty { acts.old.items ≡ [] }
-        requires room { most_acts ≤ acts.old.room }
+        requires room { MOST_ACTS ≤ acts.old.room }
         ensures laws { OnOk result (Settled S.port_state S.law S.asking S.moves self.new) }
         ensures on { OnOk result (GoesOn self.old self.new) }
         ensures uses { OnOk result (Uses (before self.old w) self.new 1) }
@@ -390,9 +392,9 @@ impl<S: Stage> Engine<S> {
     #[inline(always)]
     fn step(&mut self, alloc: Global, acts: &mut Acts) -> Result<Stepped, NoMemory>
         requires laws { Settled S.port_state S.law S.asking S.moves self.old }
-        requires few { all_asks self.old + 1 ≤ 4000000000 }
+        requires few { all_asks self.old + 1 ≤ MOST_COUNT }
         requires empty { acts.old.items ≡ [] }
-        requires room { most_acts ≤ acts.old.room }
+        requires room { MOST_ACTS ≤ acts.old.room }
         ensures laws { OnOk result (Settled S.port_state S.law S.asking S.moves self.new) }
         ensures on { OnOk result (GoesOn self.old self.new) }
         ensures uses { IfOk result (λ went. Uses self.old self.new (unit_of went)) }
@@ -419,9 +421,9 @@ impl<S: Stage> Engine<S> {
     /// each node has kept what outlives that since the last moment between two events, and the graph is only taken apart.
     pub fn execute(&mut self, alloc: Global, limit: u32, acts: &mut Acts) -> Result<u32, NoMemory>
         requires laws { Settled S.port_state S.law S.asking S.moves self.old }
-        requires few { all_asks self.old + limit ≤ 4000000000 }
+        requires few { all_asks self.old + limit ≤ MOST_COUNT }
         requires empty { acts.old.items ≡ [] }
-        requires room { most_acts ≤ acts.old.room }
+        requires room { MOST_ACTS ≤ acts.old.room }
         ensures laws { OnOk result (Settled S.port_state S.law S.asking S.moves self.new) }
         ensures on { OnOk result (GoesOn self.old self.new) }
         ensures uses { IfOk result (λ used. Uses self.old self.new used) }
@@ -452,9 +454,9 @@ impl<S: Stage> Engine<S> {
         acts: &mut Acts,
     ) -> Result<Advance, NoMemory>
         requires laws { Settled S.port_state S.law S.asking S.moves self.old }
-        requires few { all_asks self.old + limit ≤ 4000000000 }
+        requires few { all_asks self.old + limit ≤ MOST_COUNT }
         requires empty { acts.old.items ≡ [] }
-        requires room { most_acts ≤ acts.old.room }
+        requires room { MOST_ACTS ≤ acts.old.room }
         ensures laws { OnOk result (Settled S.port_state S.law S.asking S.moves self.new) }
         ensures on { OnOk result (GoesOn self.old self.new) }
         ensures uses { IfOk result (λ a. Uses self.old self.new a.used) }
@@ -544,7 +546,7 @@ impl<S: Stage> Engine<S> {
         requires within { n < length self.old.nodes }
         requires may { IsMinded S.port_state S.law self.old n (act ∷ []) }
         requires tells { TellsPoked S.asking self.old n act }
-        requires few { all_asks self.old ≤ 4000000000 }
+        requires few { all_asks self.old ≤ MOST_COUNT }
         ensures after { self.new ≡ acted self.old n act }
         ensures laws { Settled S.port_state S.law S.asking S.moves self.new }
         ensures on { GoesOn self.old self.new }

@@ -4,6 +4,7 @@ use Rattle.std.specs.Prelude.{Option, Some, None}
 use Rattle.elem_core.specs.Tree.{Tree}
 use Rattle.elem_core.specs.declared.item.Item.{Item}
 use Rattle.elem_core.specs.declared.item.Item.TheVariants as item
+use Rattle.elem_core.specs.declared.count.TheConstants.{MOST_COUNT}
 use Rattle.lane_core.specs.Lane.{elements, ends}
 use Rattle.stream_model.specs.Outlook.{unended}
 use Rattle.stage_law.specs.Held.{told, items_of}
@@ -303,7 +304,7 @@ module _ (s half asked calls pushed passed : ℕ) (a : AsksByHalves s half asked
   passed_on h = record { begun = a.begun; asked_is = a.asked_is; pushed_is = let y = a.pushed_is in omega (arith, y); less = h }
 
   -- the places that were handed on may be asked for again
-  pub may_ask : (taken waits lost : ℕ) → taken ≡ pushed + (lost + waits) → 1 ≤ waits → s ≤ 1024 → pushed < 4000000000 → passed + 1 ≡ half → (asked + half ≤ taken + s) × (asked + half < 2 ^ 62)
+  pub may_ask : (taken waits lost : ℕ) → taken ≡ pushed + (lost + waits) → 1 ≤ waits → s ≤ 1024 → pushed < MOST_COUNT → passed + 1 ≡ half → (asked + half ≤ taken + s) × (asked + half < 2 ^ 62)
   may_ask taken waits lost t w z few h = let x = a.asked_is in let y = a.pushed_is in (omega (arith, x, y, t, w, h), omega (arith, x, y, z, few, h))
 
 -- an element that came was asked for, so it has a place
@@ -314,7 +315,7 @@ place s T G L W E P over S c f half asked calls passed a T' w asked' t one few s
 
 -- so many elements were handed on that the lane may be asked for as many
 pub may_refill : (s : ℕ) (T G L : List Item) (W : List Tree) (E : List Item) (P : Option Item) (over : Bool) (S : State) (c : ℕ) → Flow s T G L W E P over S c → (half asked calls passed : ℕ) → AsksByHalves s half asked calls (elements G) passed
-    → (e : Tree) (V : List Tree) → W ≡ e ∷ V → s ≤ 1024 → (H : List Item) → elements (G ++ H) < 4000000000 → passed + 1 ≡ half → (asked + half ≤ elements T + s) × (asked + half < 2 ^ 62) × (c ≡ 0)
+    → (e : Tree) (V : List Tree) → W ≡ e ∷ V → s ≤ 1024 → (H : List Item) → elements (G ++ H) < MOST_COUNT → passed + 1 ≡ half → (asked + half ≤ elements T + s) × (asked + half < 2 ^ 62) × (c ≡ 0)
 may_refill s T G L W E P over S c f half asked calls passed a e V w few H less h =
     let n = count s T G L W E P over S c f in
     let some = ap length w in

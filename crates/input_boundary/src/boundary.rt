@@ -1,6 +1,7 @@
 // The end of a lane at which what enters an island is taken.
 ghost use Rattle.std.specs.Prelude.{◌≡◌, ◌⊎◌, ◌+◌, ◌<◌, ◌≤◌, ◌/◌, ◌^◌, ◌++◌, [], ◌∷◌, ℕ, max, true, false, cond, length, IfOk, IfSome, IfNone, IsOk};
 ghost use Rattle.elem_core.specs.declared.item.Item.{Item};
+ghost use Rattle.elem_core.specs.declared.count.TheConstants.{MOST_COUNT};
 ghost use Rattle.lane_core.specs.Lane.{elements, ends};
 ghost use Rattle.lane_core.specs.Ends.{taken, asked, asks, has_cancelled, found_sent, told_sent, in_size, learnt, IsSameIn, AreOneLane, IsLaneHistory, WaitsAre};
 ghost use Rattle.lane_meet.specs.Meeting.{KeepsIn, KeepsOut, AreTold};
@@ -132,7 +133,7 @@ impl InputBoundary {
     /// The next that is to be handed on: an element only where one is asked for; an end behind the elements, also where none is.
     /// Where half of the places were handed on, the lane is asked for as many. It takes no memory.
     pub fn next(&mut self, asked: bool) -> Option<Passed>
-        requires few { asked ≡ true → elements (given self.old) < 4000000000 }
+        requires few { asked ≡ true → elements (given self.old) < MOST_COUNT }
         ensures lane { IsSameIn self.old.lane self.new.lane × (taken self.new.lane ≡ taken self.old.lane) × (has_cancelled self.new.lane ≡ has_cancelled self.old.lane) }
         ensures some { IfSome result (λ r. given self.new ≡ given self.old ++ r.item ∷ []) }
         ensures ends { IfSome result (λ r. state self.new ≡ cond (ends r.item) Closed Flowing) }

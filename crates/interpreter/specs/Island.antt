@@ -1,5 +1,6 @@
 -- An island as its callers see it, and what it answers at its end.
 use Rattle.std.specs.Prelude.{ℕ, ◌≤◌, Bool, not, List, [], ◌∷◌}
+use Rattle.elem_core.specs.declared.count.TheConstants.{MOST_COUNT}
 use Rattle.stream_io.specs.State.{SourceState, DrainState}
 use Rattle.port_core.specs.Decoding.{is_open}
 use Rattle.stream_model.specs.declared.outcome.WireCount.{WireCount}
@@ -30,7 +31,7 @@ pub record Kept (S D L B : Type 0) : Type 0 where
 pub record Keeps {S D L B : Type 0} (sources : S → SourceState) (drains : D → DrainState) (book : Book) (net : Net (IslandNode S D L B)) (used : ℕ) : Type 0 where
   pub laws : Settled node_port_state (node_law sources drains book) node_asking node_moves net
   pub asks : all_asks net ≤ used
-  pub within : used ≤ 4000000000
+  pub within : used ≤ MOST_COUNT
 
 -- how a wire stands: the elements that were pushed, whether its input waits for one, and whether either end has closed it
 abbrev pub count_of : WireState → WireCount

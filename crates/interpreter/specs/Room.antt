@@ -1,7 +1,7 @@
 -- Room for an island: what it takes of memory before its nodes hold their handles.
 use Rattle.std.specs.Prelude.{◌≡◌, ℕ, ◌+◌, ◌≤◌, List, [], map, length, replicate, vec_len, vec_capacity}
 use Rattle.wire_core.specs.Cell.{new_cell}
-use Rattle.stage_core.specs.Handling.{most_acts}
+use Rattle.stage_core.specs.declared.stage.TheConstants.{MOST_ACTS}
 use Rattle.interpreter.specs.declared.island.IslandEnd.{IslandEnd}
 use Rattle.interpreter.specs.declared.parts.Link.{Link}
 use Rattle.interpreter.specs.declared.parts.Place.{Place}
@@ -45,7 +45,7 @@ pub record IsBlank {S D L B : Type 0} (blank : Blank S D L B) (places : List Pla
 -- the room for an island of these places and links
 pub record IsRoom {S D L B : Type 0} (room : IslandRoom S D L B) (places : List Place) (links : List Link) : Type 0 where
   pub no_acts : room.acts.items ≡ []
-  pub room_for_acts : most_acts ≤ room.acts.room
+  pub room_for_acts : MOST_ACTS ≤ room.acts.room
   pub numbers : room.numbers.items ≡ map number_of links
   pub places_are : room.places.items ≡ map (λ (p : Place). p.node) places
   pub blank : IsBlank room.blank places links

@@ -11,6 +11,7 @@ ghost use Rattle.interpreter.specs.Picks.{node_number, pick_of, with_picks, pick
 ghost use Rattle.interpreter.specs.Seats.{with_seat, seats_of};
 ghost use Rattle.interpreter.specs.Island.{Keeps, counts_of, sinks_of, readers_of, writers_of};
 ghost use Rattle.std.specs.Option.{option_map};
+ghost use Rattle.elem_core.specs.declared.count.TheConstants.{MOST_COUNT};
 ghost use Rattle.interpreter.specs.Room.{HasRoom, RoomFor, IsBlank, IsRoom};
 ghost use Rattle.wire_core.specs.Cell.{new_cell};
 ghost use Rattle.interpreter.specs.Handles.{DidNotStart, HandsBack, HoldsHandles};
@@ -62,7 +63,7 @@ pub struct Island<S: Source, D: Drain, L: Logic, B: PlugBook> {
 
 impl<S: Source, D: Drain, L: Logic, B: PlugBook> Model for Island<S, D, L, B> {
     ghost use Rattle.std.specs.Prelude.{◌≡◌, ◌≤◌, [], false, length};
-    ghost use Rattle.stage_core.specs.Handling.{most_acts};
+    ghost use Rattle.stage_core.specs.declared.stage.TheConstants.{MOST_ACTS};
     ghost use Rattle.interpreter.specs.Island.{Kept, Keeps};
     ghost use Rattle.interpreter.specs.Room.{HasRoom};
     ghost use Rattle.std.specs.Coded.{codes};
@@ -74,7 +75,7 @@ impl<S: Source, D: Drain, L: Logic, B: PlugBook> Model for Island<S, D, L, B> {
 
     ghost view = { λ i. record { net = i.engine; numbers = i.numbers.items; places = i.places.items; ins = i.ways.ins.items; outs = i.ways.outs.items; used = i.used; broken = i.broken } };
 
-    ghost invariant = { λ i. HasRoom i.room (length i.engine.nodes) (length i.numbers.items) × (length i.places.items ≡ length i.engine.nodes) × (i.broken ≡ false → Keeps S.state D.state B.lists i.engine i.used × (i.acts.items ≡ []) × (most_acts ≤ i.acts.room)) };
+    ghost invariant = { λ i. HasRoom i.room (length i.engine.nodes) (length i.numbers.items) × (length i.places.items ≡ length i.engine.nodes) × (i.broken ≡ false → Keeps S.state D.state B.lists i.engine i.used × (i.acts.items ≡ []) × (MOST_ACTS ≤ i.acts.room)) };
 }
 
 /// What an island leaves at its end, each list in order of its nodes or wires.
@@ -154,7 +155,7 @@ impl<S: Source, D: Drain, L: Logic, B: PlugBook> Island<S, D, L, B> {
     /// its handles hold what they held at the last moment between two events, but for what a source read ahead.
     pub fn execute(&mut self, alloc: Global, limit: u32) -> Result<u32, NoMemory>
         requires whole { self.old.broken ≡ false }
-        requires few { self.old.used + limit ≤ 4000000000 }
+        requires few { self.old.used + limit ≤ MOST_COUNT }
         ensures whole { OnOk result (self.new.broken ≡ false) }
         ensures on { OnOk result (GoesOn self.old.net self.new.net) }
         ensures numbers { OnOk result (self.new.numbers ≡ self.old.numbers) }
@@ -179,7 +180,7 @@ impl<S: Source, D: Drain, L: Logic, B: PlugBook> Island<S, D, L, B> {
     /// connection: so whoever serves the ends of lanes has to look at that one alone.
     pub fn advance(&mut self, alloc: Global, limit: u32) -> Result<Advance, NoMemory>
         requires whole { self.old.broken ≡ false }
-        requires few { self.old.used + limit ≤ 4000000000 }
+        requires few { self.old.used + limit ≤ MOST_COUNT }
         ensures whole { OnOk result (self.new.broken ≡ false) }
         ensures on { OnOk result (GoesOn self.old.net self.new.net) }
         ensures numbers { OnOk result (self.new.numbers ≡ self.old.numbers) }

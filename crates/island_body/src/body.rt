@@ -1,5 +1,6 @@
 // The body of an island.
 ghost use Rattle.std.specs.Prelude.{◌≡◌, ◌+◌, ◌<◌, ◌≤◌, [], ℕ, true, false, None, Some, IsTrue, ◌↔◌, map, IfOk, OnOk, OnErr, length, slice_get, replicate, vec_len};
+ghost use Rattle.elem_core.specs.declared.count.TheConstants.{MOST_COUNT};
 ghost use Rattle.fused_net.specs.Costs.{Uses, total};
 ghost use Rattle.lane_core.specs.Ends.{asked};
 ghost use Rattle.interpreter.specs.Island.{counts_of, sinks_of, readers_of, writers_of};
@@ -371,7 +372,7 @@ impl<S: Source, D: Drain, L: Logic, B: PlugBook> Body<S, D, L, B> {
     // used.
     fn run(&mut self, alloc: Global, used: u32, limit: u32) -> Result<u32, NoMemory>
         requires less { used ≤ limit }
-        requires few { self.old.island.used + limit ≤ 4000000000 + used }
+        requires few { self.old.island.used + limit ≤ MOST_COUNT + used }
         requires stands { BodyStands self.old }
         requires served { AllDone self.old.island self.old.ins.items self.old.outs.items }
         ensures stands { OnOk result (BodyStands self.new) }
@@ -400,7 +401,7 @@ impl<S: Source, D: Drain, L: Logic, B: PlugBook> Body<S, D, L, B> {
 
     // Handles events of the island, up to one of which the stage at an end of a lane has heard.
     fn step(&mut self, alloc: Global, limit: u32) -> Result<Advance, NoMemory>
-        requires few { self.old.island.used + limit ≤ 4000000000 }
+        requires few { self.old.island.used + limit ≤ MOST_COUNT }
         requires stands { BodyStands self.old }
         requires served { AllDone self.old.island self.old.ins.items self.old.outs.items }
         ensures stands { OnOk result (BodyStands self.new) }
@@ -427,7 +428,7 @@ impl<S: Source, D: Drain, L: Logic, B: PlugBook> Body<S, D, L, B> {
     /// between two events, but for what a source read ahead.
     pub fn take_turn(&mut self, alloc: Global, limit: u32) -> Result<u32, NoMemory>
         requires keeps { BodyKeeps S.state D.state B.lists self.old }
-        requires few { self.old.spent + limit ≤ 4000000000 }
+        requires few { self.old.spent + limit ≤ MOST_COUNT }
         ensures keeps { OnOk result (BodyKeeps S.state D.state B.lists self.new) }
         ensures goes { OnOk result (BodyGoes self.old self.new) }
         ensures spent { IfOk result (λ used. self.new.spent ≡ self.old.spent + used) }

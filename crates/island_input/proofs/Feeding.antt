@@ -4,6 +4,7 @@ use Rattle.std.proofs.Common.{◌≡◌, ◌≢◌, inl, inr, ℕ, ◌+◌, ◌*
 use Rattle.elem_core.specs.declared.item.Item.{Item}
 use Rattle.elem_core.specs.declared.item.Item.TheVariants as item
 use Rattle.elem_core.specs.declared.why.Cause.{Cause}
+use Rattle.elem_core.specs.declared.count.TheConstants.{MOST_COUNT}
 use Rattle.stream_io.specs.State.{SourceState, DrainState}
 use Rattle.stream_model.specs.Outlook.{unended}
 use Rattle.stream_model.specs.Linear.{Book}
@@ -174,7 +175,7 @@ module _ {S D L B : Type 0} (b : InputBoundary) (i : Kept S D L B) (u : ℕ) whe
   given_away s en w e = inr (cancel_away (cell_in i u).wire _ (s.sound (way_in i u) en.place) e (wanted_quiet (cell_in i u).wire.out (can_push (cell_in i u).wire.conn) w).0)
 
   -- so few elements were handed on
-  pub few_given : {sources : S → SourceState} {drains : D → DrainState} {book : Book} → Keeps sources drains book i.net i.used → Enters i u → Feeds b i u → wanted_at (cell_in i u) ≡ wanted.Asked → lane.elements (given b) < 4000000000
+  pub few_given : {sources : S → SourceState} {drains : D → DrainState} {book : Book} → Keeps sources drains book i.net i.used → Enters i u → Feeds b i u → wanted_at (cell_in i u) ≡ wanted.Asked → lane.elements (given b) < MOST_COUNT
   few_given k en f w =
       let p = wanted_push (cell_in i u).wire.out (can_push (cell_in i u).wire.conn) w in
       let y : (cell_in i u).wire.out ≡ outlet.Available = push_asked (cell_in i u).wire _ (k.laws.sound (way_in i u) en.place) p.0 in

@@ -3,6 +3,7 @@ use Rattle.std.specs.Prelude.{slice_get}
 use Rattle.std.proofs.Common.{◌≡◌, inl, inr, ℕ, zero, suc, ◌<◌, ◌≤◌, ◌+◌, true, List, [], ◌∷◌, Some, length, get_or, refl, sym, ap, ◌∙◌, subst, arith}
 use Rattle.elem_core.specs.Tree.{Tree}
 use Rattle.elem_core.specs.declared.item.Item.{Item}
+use Rattle.elem_core.specs.declared.count.TheConstants.{MOST_COUNT}
 use Rattle.stream_io.specs.State.{SourceState, DrainState}
 use Rattle.stream_model.specs.Outlook.{End}
 use Rattle.stream_model.specs.Linear.{Book}
@@ -128,7 +129,7 @@ one_below f (suc n) w h = elim (same_or_not w n) [
     above w n h e = grind (arith, h, e)
 
 -- an asked output has pushed fewer elements than all were asked
-pub few_there : {N : Type 0} (net : Net N) (q used : ℕ) → q < length net.wires → all_asks net ≤ used → used ≤ 4000000000 → (wire_at net q).wire.out ≡ Available → elements (wire_at net q).wire.sent < 4000000000
+pub few_there : {N : Type 0} (net : Net N) (q used : ℕ) → q < length net.wires → all_asks net ≤ used → used ≤ MOST_COUNT → (wire_at net q).wire.out ≡ Available → elements (wire_at net q).wire.sent < MOST_COUNT
 few_there net q used h a b e =
     let one : asks (wire_at net q).wire ≤ all_asks net = one_below (λ w. asks (wire_at net w).wire) (length net.wires) q h in
     let is : asks (wire_at net q).wire ≡ elements (wire_at net q).wire.sent + 1 = ap (λ (y : OutView). elements (wire_at net q).wire.sent + asked_bit y) e in

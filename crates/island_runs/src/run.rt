@@ -1,5 +1,6 @@
 // The run of a blueprint's islands, by workers.
 ghost use Rattle.std.specs.Prelude.{◌≡◌, ◌<◌, ◌≤◌, [], ℕ, List, IfOk, IfErr, All, length, map, vec_len, vec_capacity};
+ghost use Rattle.elem_core.specs.declared.count.TheConstants.{MOST_COUNT};
 ghost use Rattle.blue_core.specs.declared.blueprint.Blueprint as plan;
 ghost use Rattle.island_body.specs.declared.body.Body as island;
 ghost use Rattle.materializer.specs.Files.{inputs_of_nodes, outputs_of_nodes};
@@ -256,7 +257,7 @@ fn run_bodies<
     budget: u32,
 ) -> Result<Stopped<S, D>, IslandEnd<S, D>>
     requires workers { (0 < workers) × (workers ≤ 64) }
-    requires budget { budget ≤ 4000000000 }
+    requires budget { budget ≤ MOST_COUNT }
     requires begun { (b : plan.Blueprint) × ((ss : List S) × ((ds : List D) × HaveBegun S.state D.state B.lists b ss ds begun.bodies.items begun.crossings.items begun.remains)) }
     ensures leaves { (b : plan.Blueprint) (ss : List S) (ds : List D) → HaveBegun S.state D.state B.lists b ss ds begun.bodies.items begun.crossings.items begun.remains → IfOk result (λ stopped. Leaves L B S.state D.state B.lists b ss ds budget stopped) }
     ensures receipt { (b : plan.Blueprint) (ss : List S) (ds : List D) → HaveBegun S.state D.state B.lists b ss ds begun.bodies.items begun.crossings.items begun.remains → IfOk result (λ stopped. IsReceipt b workers stopped.used stopped.at_rest stopped.ran) }
@@ -301,7 +302,7 @@ pub fn run<
 ) -> Result<Stopped<S, D>, Broken<S, D>>
     requires prepared { IsPrepared prepared }
     requires workers { (0 < workers) × (workers ≤ 64) }
-    requires budget { budget ≤ 4000000000 }
+    requires budget { budget ≤ MOST_COUNT }
     requires sources { vec_len sources ≡ length (inputs_of_nodes prepared.plans.blueprint.value.nodes.items) }
     requires drains { vec_len drains ≡ length (outputs_of_nodes prepared.plans.blueprint.value.nodes.items) }
     requires unread { All (λ s. (S.state s).given ≡ 0) sources.items }

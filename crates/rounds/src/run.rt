@@ -1,6 +1,7 @@
 // Rounds of turns.
 ghost use Rattle.std.specs.Prelude.{◌≡◌, ◌≤◌, ◌<◌, ◌+◌, ◌-◌, ℕ, true, false, IfNone, IfSome, IfOk, OnOk, OnErr, Some, length, slice_get};
 ghost use Rattle.std.specs.List.{sum_by};
+ghost use Rattle.elem_core.specs.declared.count.TheConstants.{MOST_COUNT};
 ghost use Rattle.rounds.specs.Bodies.{AllOf, EachOf, BrokeOff};
 ghost use Rattle.rounds.specs.Crossings.{QuietBelow, AreCrossings, AllJoined, AtRest, FirstEvent};
 
@@ -31,7 +32,7 @@ fn turn_at<B: Turning>(
 ) -> Result<u32, NoMemory>
     requires there { k < length bodies.old }
     requires keeps { AllOf B.keeps bodies.old }
-    requires few { sum_by B.spent bodies.old + limit ≤ 4000000000 }
+    requires few { sum_by B.spent bodies.old + limit ≤ MOST_COUNT }
     ensures keeps { OnOk result (AllOf B.keeps bodies.new) }
     ensures goes { OnOk result (EachOf B.goes bodies.old bodies.new) }
     ensures spent { IfOk result (λ used. sum_by B.spent bodies.new ≡ sum_by B.spent bodies.old + used) }
@@ -54,7 +55,7 @@ fn portion(left: u32) -> u32
 // A turn of each body, in order.
 fn round<B: Turning>(alloc: Global, bodies: &mut [B], left: u32) -> Result<u32, NoMemory>
     requires keeps { AllOf B.keeps bodies.old }
-    requires few { sum_by B.spent bodies.old + left ≤ 4000000000 }
+    requires few { sum_by B.spent bodies.old + left ≤ MOST_COUNT }
     ensures keeps { OnOk result (AllOf B.keeps bodies.new) }
     ensures goes { OnOk result (EachOf B.goes bodies.old bodies.new) }
     ensures spent { IfOk result (λ used. sum_by B.spent bodies.new ≡ sum_by B.spent bodies.old + used) }
@@ -72,7 +73,7 @@ fn round<B: Turning>(alloc: Global, bodies: &mut [B], left: u32) -> Result<u32, 
 // Rounds until one uses no unit.
 fn rounds<B: Turning>(alloc: Global, bodies: &mut [B], left: u32) -> Result<u32, NoMemory>
     requires keeps { AllOf B.keeps bodies.old }
-    requires few { sum_by B.spent bodies.old + left ≤ 4000000000 }
+    requires few { sum_by B.spent bodies.old + left ≤ MOST_COUNT }
     ensures keeps { OnOk result (AllOf B.keeps bodies.new) }
     ensures goes { OnOk result (EachOf B.goes bodies.old bodies.new) }
     ensures spent { IfOk result (λ used. sum_by B.spent bodies.new ≡ sum_by B.spent bodies.old + used) }
@@ -112,7 +113,7 @@ fn stir_lanes<B: Turning>(
     limit: u32,
 ) -> Result<u32, NoMemory>
     requires keeps { AllOf B.keeps bodies.old }
-    requires few { sum_by B.spent bodies.old + limit ≤ 4000000000 }
+    requires few { sum_by B.spent bodies.old + limit ≤ MOST_COUNT }
     requires some { 0 < limit }
     requires lanes { AreCrossings B.may_meet bodies.old lanes.now }
     ensures keeps { OnOk result (AllOf B.keeps bodies.new) }
@@ -138,7 +139,7 @@ fn stir_lanes<B: Turning>(
 // Lets the first body take a turn in whose ring an event is pending. It uses a unit at least where there is one.
 fn stir_rings<B: Turning>(alloc: Global, bodies: &mut [B], limit: u32) -> Result<u32, NoMemory>
     requires keeps { AllOf B.keeps bodies.old }
-    requires few { sum_by B.spent bodies.old + limit ≤ 4000000000 }
+    requires few { sum_by B.spent bodies.old + limit ≤ MOST_COUNT }
     requires some { 0 < limit }
     ensures keeps { OnOk result (AllOf B.keeps bodies.new) }
     ensures goes { OnOk result (EachOf B.goes bodies.old bodies.new) }
@@ -163,7 +164,7 @@ fn stir<B: Turning>(
     limit: u32,
 ) -> Result<u32, NoMemory>
     requires keeps { AllOf B.keeps bodies.old }
-    requires few { sum_by B.spent bodies.old + limit ≤ 4000000000 }
+    requires few { sum_by B.spent bodies.old + limit ≤ MOST_COUNT }
     requires some { 0 < limit }
     requires lanes { AreCrossings B.may_meet bodies.old lanes.now }
     ensures keeps { OnOk result (AllOf B.keeps bodies.new) }
@@ -190,7 +191,7 @@ fn run_on<B: Turning>(
 ) -> Result<RoundsEnd, NoMemory>
     requires keeps { AllOf B.keeps bodies.old }
     requires spent { before ≡ sum_by B.spent bodies.old }
-    requires few { (before ≤ budget) × (budget ≤ 4000000000) }
+    requires few { (before ≤ budget) × (budget ≤ MOST_COUNT) }
     requires lanes { AreCrossings B.may_meet bodies.old lanes.now }
     ensures keeps { OnOk result (AllOf B.keeps bodies.new) }
     ensures goes { OnOk result (EachOf B.goes bodies.old bodies.new) }
@@ -230,7 +231,7 @@ pub fn go_on<B: Turning>(
 ) -> Result<RoundsEnd, NoMemory>
     requires keeps { AllOf B.keeps bodies.old }
     requires spent { before ≡ sum_by B.spent bodies.old }
-    requires few { (before ≤ budget) × (budget ≤ 4000000000) }
+    requires few { (before ≤ budget) × (budget ≤ MOST_COUNT) }
     requires lanes { AreCrossings B.may_meet bodies.old lanes.now }
     ensures joined { AllJoined B.joined bodies.new lanes.now }
     ensures keeps { OnOk result (AllOf B.keeps bodies.new) }

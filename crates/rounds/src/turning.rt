@@ -1,5 +1,6 @@
 // What the rounds ask of a body.
 ghost use Rattle.std.specs.Prelude.{◌≡◌, ◌≤◌, ◌+◌, ℕ, Bool, true, IsTrue, IfOk, OnOk, OnErr};
+ghost use Rattle.elem_core.specs.declared.count.TheConstants.{MOST_COUNT};
 ghost use Rattle.lane_core.specs.declared.room.Waits.{Waits};
 
 use elem_core::why::NoMemory;
@@ -31,7 +32,7 @@ pub trait Turning: Meet {
     /// it takes no turn any more.
     fn turn(&mut self, alloc: Global, limit: u32) -> Result<u32, NoMemory>
         requires keeps { keeps self.old }
-        requires few { spent self.old + limit ≤ 4000000000 }
+        requires few { spent self.old + limit ≤ MOST_COUNT }
         ensures keeps { OnOk result (keeps self.new) }
         ensures goes { OnOk result (goes self.old self.new) }
         ensures spent { IfOk result (λ used. spent self.new ≡ spent self.old + used) }

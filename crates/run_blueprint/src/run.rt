@@ -15,6 +15,7 @@ ghost use Rattle.run_blueprint.specs.Opening.{Opens, OpensAs, WritesAs, ClosesAs
 ghost use Rattle.run_blueprint.specs.Running.{Runs, Wants, WantsWithin};
 ghost use Rattle.run_blueprint.specs.Tracing.{written_files, IsApart};
 ghost use Rattle.std.specs.List.{All};
+ghost use Rattle.elem_core.specs.declared.count.TheConstants.{MOST_COUNT};
 ghost use Rattle.plug_board.specs.Handed.{GivesAsListed, HasPlugs};
 
 use blue_core::blueprint::Blueprint;
@@ -252,7 +253,7 @@ pub fn run<R: Threads + Wait + Sync, F: Folder, L: Logic + Send, B: PlugBook + S
     requires listed { All (GivesAsListed L.gives B.lists) plugs.items }
     requires apart { IsApart b trace }
     requires workers { (0 < workers) × (workers ≤ 64) }
-    requires budget { budget ≤ 4000000000 }
+    requires budget { budget ≤ MOST_COUNT }
     ensures ran { IfOk result (λ ran. Runs B.lists (F.state folder.old) (F.state folder.new) b trace budget ran) }
     ensures receipt { IfOk result (λ ran. IsReceipt b workers ran.used ran.at_rest ran.ran) }
     ensures no_input { (n : List ℕ) → result ≡ Err (OpenEnd.MissingInput n) → MissesInput (F.state folder.old) (F.state folder.new) (inputs_of_nodes b.nodes.items) n }

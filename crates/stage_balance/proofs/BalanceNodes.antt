@@ -28,7 +28,8 @@ use Rattle.stream_model.proofs.Agreeing.{balance_moves_fit}
 use Rattle.stream_model.proofs.PickTraces.{balance_trace}
 use Rattle.stream_picture.specs.View.{EachWire, SomeWire}
 use Rattle.stream_picture.specs.Rests.{IsShut, IsUnasked, IsAsked, WaitsIdlesOrShut, BalanceRests}
-use Rattle.stage_core.specs.Handling.{most_acts, Starts, Handles}
+use Rattle.stage_core.specs.declared.stage.TheConstants.{MOST_ACTS}
+use Rattle.stage_core.specs.Handling.{Starts, Handles}
 use Rattle.stage_core.specs.Histories.{given_all, brought_by, AllEmpty}
 use Rattle.stage_law.specs.Held.{told}
 use Rattle.stage_law.specs.Law.{TookAs, GaveAs}
@@ -167,10 +168,10 @@ called_live l c v may r = by_live l.core.live r
     by_live true r = refl
     by_live false r = absurd (none_called c v may r)
 
-pub called_fits : (l : Balancing) (c : Call) (v : View) → CallAllowed c v → port_state l v → room_for (length l.core.outs) ≤ most_acts
+pub called_fits : (l : Balancing) (c : Call) (v : View) → CallAllowed c v → port_state l v → room_for (length l.core.outs) ≤ MOST_ACTS
 called_fits l c v may r = by_live l.core.live r
   where
-    by_live : (b : Bool) → port_state_by b l.core v → room_for (length l.core.outs) ≤ most_acts
+    by_live : (b : Bool) → port_state_by b l.core v → room_for (length l.core.outs) ≤ MOST_ACTS
     by_live true r = let few : length l.core.outs ≤ 16 = r.1.few in omega (arith, few)
     by_live false r = absurd (none_called c v may r)
 

@@ -14,7 +14,8 @@ ghost use Rattle.stream_model.specs.Node.{World, head_of, node_outlook};
 ghost use Rattle.stream_model.specs.Outlook.{Outlook, End, ended, failed, Agrees};
 ghost use Rattle.stream_model.specs.FanIn.{Inflow};
 ghost use Rattle.stream_model.specs.Picks.{balance_fits, sent_to, BalanceStands};
-ghost use Rattle.stage_core.specs.Handling.{Starts, Handles, most_acts};
+ghost use Rattle.stage_core.specs.declared.stage.TheConstants.{MOST_ACTS};
+ghost use Rattle.stage_core.specs.Handling.{Starts, Handles};
 ghost use Rattle.stage_fans.specs.Seats.{room_for};
 ghost use Rattle.stage_balance.specs.Balances.{Handed};
 ghost use Rattle.stage_balance.specs.Balancings.{Balancing, Begins, Turned, port_state, BalanceFresh, BalancesAs, BalanceRestsOwn};
@@ -43,7 +44,7 @@ pub fn a_started_balance_rests()
 /// within what every stage is given.
 pub fn a_called_balance_is_open()
     ensures opens { (l : Balancing) (call : Call) (v : View) → CallAllowed call v → port_state l v → l.core.live ≡ true }
-    ensures room { (l : Balancing) (call : Call) (v : View) → CallAllowed call v → port_state l v → room_for (length l.core.outs) ≤ most_acts }
+    ensures room { (l : Balancing) (call : Call) (v : View) → CallAllowed call v → port_state l v → room_for (length l.core.outs) ≤ MOST_ACTS }
 {}
 
 /// What a handler owes to the port rules and to the law is all that is asked of a stage: its start begins the law of its

@@ -4,7 +4,7 @@
 -- the moments at which it pulls: what it knows of its ports whenever it has just pulled (`asking`), and the moves that it has
 -- recorded, which only grow (`moves`). One is told of whether it acts by itself at all (`passive`). And one is told of want of memory: what a stage keeps of itself through a call that
 -- answers it (`keeps`).
-use Rattle.std.specs.Prelude.{◌≡◌, ℕ, Bool, true, false, List, [], ◌∷◌, length, ⊤}
+use Rattle.std.specs.Prelude.{◌≡◌, Bool, true, false, List, [], ◌∷◌, length, ⊤}
 use Rattle.elem_core.specs.declared.item.Item.{Item}
 use Rattle.port_core.specs.declared.act.Act.{Act}
 use Rattle.port_core.specs.declared.act.Act.TheVariants.{Pull, Push, Complete, FailOut, Cancel}
@@ -12,10 +12,6 @@ use Rattle.port_core.specs.View.{View, acted_all}
 use Rattle.port_core.specs.Call.{Call, starts, CallAllowed, seen, Obeys}
 use Rattle.port_core.specs.Asking.{PullsStand}
 use Rattle.stage_core.specs.Histories.{given_all, brought_by, AllEmpty}
-
--- the most actions that one call appends: two for each port of a stage with the most inputs or outputs, and one of the other
-abbrev pub most_acts : ℕ
-most_acts = 34
 
 -- some input is pulled
 abbrev pub Pulls : List Act → Type 0

@@ -4,7 +4,8 @@ ghost use Rattle.elem_core.specs.declared.item.Item.{Item};
 ghost use Rattle.elem_core.specs.declared.item.Item.TheVariants as item;
 ghost use Rattle.port_core.specs.View.{View};
 ghost use Rattle.port_core.specs.Call.{Meets, starts, pulls, arrives, cancels};
-ghost use Rattle.stage_core.specs.Handling.{most_acts, PullsAs, StaysPassive, Starts, Handles};
+ghost use Rattle.stage_core.specs.declared.stage.TheConstants.{MOST_ACTS};
+ghost use Rattle.stage_core.specs.Handling.{PullsAs, StaysPassive, Starts, Handles};
 ghost use Rattle.stage_core.specs.Handing.{Hands};
 
 use elem_core::elem::Elem;
@@ -43,7 +44,7 @@ pub trait Stage: Drop {
     fn start(&mut self, alloc: Global, acts: &mut Acts) -> Result<(), NoMemory>
         requires meets { Meets starts (fresh self.old) }
         requires empty { acts.old.items ≡ [] }
-        requires room { most_acts ≤ acts.old.room }
+        requires room { MOST_ACTS ≤ acts.old.room }
         ensures starts { OnOk result (Starts port_state law fresh self.old self.new acts.new.items) }
         ensures pulls { OnOk result (PullsAs starts (fresh self.old) (asking self.new) acts.new.items) }
         ensures grows { OnOk result (IsPrefix (moves self.old) (moves self.new)) }
@@ -56,7 +57,7 @@ pub trait Stage: Drop {
     fn on_pull(&mut self, alloc: Global, port: u8, acts: &mut Acts) -> Result<(), NoMemory>
         requires meets { Meets (pulls port) (port_state self.old) }
         requires empty { acts.old.items ≡ [] }
-        requires room { most_acts ≤ acts.old.room }
+        requires room { MOST_ACTS ≤ acts.old.room }
         ensures handles { OnOk result (Handles port_state law (pulls port) self.old self.new acts.new.items) }
         ensures pulls { OnOk result (PullsAs (pulls port) (port_state self.old) (asking self.new) acts.new.items) }
         ensures grows { OnOk result (IsPrefix (moves self.old) (moves self.new)) }
@@ -69,7 +70,7 @@ pub trait Stage: Drop {
     fn on_push(&mut self, alloc: Global, port: u8, e: Elem, acts: &mut Acts) -> Result<(), NoMemory>
         requires meets { Meets (arrives port (item.Elem e)) (port_state self.old) }
         requires empty { acts.old.items ≡ [] }
-        requires room { most_acts ≤ acts.old.room }
+        requires room { MOST_ACTS ≤ acts.old.room }
         ensures handles { OnOk result (Handles port_state law (arrives port (item.Elem e)) self.old self.new acts.new.items) }
         ensures pulls { OnOk result (PullsAs (arrives port (item.Elem e)) (port_state self.old) (asking self.new) acts.new.items) }
         ensures grows { OnOk result (IsPrefix (moves self.old) (moves self.new)) }
@@ -82,7 +83,7 @@ pub trait Stage: Drop {
     fn on_finish(&mut self, alloc: Global, port: u8, acts: &mut Acts) -> Result<(), NoMemory>
         requires meets { Meets (arrives port item.Ended) (port_state self.old) }
         requires empty { acts.old.items ≡ [] }
-        requires room { most_acts ≤ acts.old.room }
+        requires room { MOST_ACTS ≤ acts.old.room }
         ensures handles { OnOk result (Handles port_state law (arrives port item.Ended) self.old self.new acts.new.items) }
         ensures pulls { OnOk result (PullsAs (arrives port item.Ended) (port_state self.old) (asking self.new) acts.new.items) }
         ensures grows { OnOk result (IsPrefix (moves self.old) (moves self.new)) }
@@ -101,7 +102,7 @@ pub trait Stage: Drop {
     ) -> Result<(), NoMemory>
         requires meets { Meets (arrives port (item.Failed cause)) (port_state self.old) }
         requires empty { acts.old.items ≡ [] }
-        requires room { most_acts ≤ acts.old.room }
+        requires room { MOST_ACTS ≤ acts.old.room }
         ensures handles { OnOk result (Handles port_state law (arrives port (item.Failed cause)) self.old self.new acts.new.items) }
         ensures pulls { OnOk result (PullsAs (arrives port (item.Failed cause)) (port_state self.old) (asking self.new) acts.new.items) }
         ensures grows { OnOk result (IsPrefix (moves self.old) (moves self.new)) }
@@ -114,7 +115,7 @@ pub trait Stage: Drop {
     fn on_cancel(&mut self, alloc: Global, port: u8, acts: &mut Acts) -> Result<(), NoMemory>
         requires meets { Meets (cancels port) (port_state self.old) }
         requires empty { acts.old.items ≡ [] }
-        requires room { most_acts ≤ acts.old.room }
+        requires room { MOST_ACTS ≤ acts.old.room }
         ensures handles { OnOk result (Handles port_state law (cancels port) self.old self.new acts.new.items) }
         ensures pulls { OnOk result (PullsAs (cancels port) (port_state self.old) (asking self.new) acts.new.items) }
         ensures grows { OnOk result (IsPrefix (moves self.old) (moves self.new)) }

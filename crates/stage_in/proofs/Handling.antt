@@ -7,7 +7,8 @@ use Rattle.port_core.specs.declared.view.OutView.{OutView}
 use Rattle.port_core.specs.declared.view.OutView.TheVariants as outlet
 use Rattle.port_core.specs.View.{View, IsOutOpen}
 use Rattle.port_core.specs.Call.{Call, starts, pulls, arrives, cancels, CallAllowed, Meets, Obeys}
-use Rattle.stage_core.specs.Handling.{most_acts, Handles}
+use Rattle.stage_core.specs.declared.stage.TheConstants.{MOST_ACTS}
+use Rattle.stage_core.specs.Handling.{Handles}
 use Rattle.stage_core.proofs.OnOks.{on_ok_two}
 use Rattle.stage_in.proofs.OnOks.{on_ok}
 use Rattle.stage_core.specs.declared.phase.Phase.{Phase}
@@ -74,11 +75,11 @@ output_is (cancels (suc j)) l v h r = absurd (no_other v.outs j (one_output l v 
 -- ---- calls
 
 -- what every stage is given is room enough
-pub fits_new : (l : InLogic) (n : ℕ) → Meets starts (InFresh l) → most_acts ≤ n → room_of l ≤ n
-fits_new l n m h = let r : room_of l ≤ most_acts = called_fits l starts m.0 m.1.0 m.1.1.row in omega (arith, r, h)
+pub fits_new : (l : InLogic) (n : ℕ) → Meets starts (InFresh l) → MOST_ACTS ≤ n → room_of l ≤ n
+fits_new l n m h = let r : room_of l ≤ MOST_ACTS = called_fits l starts m.0 m.1.0 m.1.1.row in omega (arith, r, h)
 
-pub fits : (call : Call) (l : InLogic) (n : ℕ) → Meets call (InPortState l) → most_acts ≤ n → room_of l ≤ n
-fits call l n m h = let r : room_of l ≤ most_acts = called_fits l call m.0 m.1.0 m.1.1.row in omega (arith, r, h)
+pub fits : (call : Call) (l : InLogic) (n : ℕ) → Meets call (InPortState l) → MOST_ACTS ≤ n → room_of l ≤ n
+fits call l n m h = let r : room_of l ≤ MOST_ACTS = called_fits l call m.0 m.1.0 m.1.1.row in omega (arith, r, h)
 
 pub met : (call : Call) (l : InLogic) → Meets call (InPortState l) → Meets (at_output call) (port_state l)
 met call l m = subst (λ c. Meets c (port_state l)) (sym (output_is call l m.0 m.1.0 m.1.1.row)) (m.0, (m.1.0, m.1.1.row))

@@ -16,7 +16,8 @@ use Rattle.stream_model.specs.FanIn.{Inflow}
 use Rattle.stream_picture.specs.View as picture
 use Rattle.elem_core.specs.Prefix.{IsPrefix}
 use Rattle.stream_picture.specs.Rests.{SortedRests, ZipRests}
-use Rattle.stage_core.specs.Handling.{most_acts, Starts, Handles}
+use Rattle.stage_core.specs.declared.stage.TheConstants.{MOST_ACTS}
+use Rattle.stage_core.specs.Handling.{Starts, Handles}
 use Rattle.stage_core.specs.Histories.{given_all, brought_by, AllEmpty}
 use Rattle.stage_law.specs.Law.{GaveAs}
 use Rattle.stage_law.specs.Inflows.{PortsLaw, nothing, untouched}
@@ -83,10 +84,10 @@ module _ (c : Call) (n : c ≡ starts → ⊥) (whole : InLogic) (s : IsStarted 
   merging_open l is = called_open (logic.Merging l) c m.0 (subst IsStarted is s) n m.1.0 (subst (λ x. port_state x m.0) is m.1.1)
 
 -- two actions for each port are few
-pub called_fits : (l : InLogic) (c : Call) (v : View) → CallAllowed c v → port_state l v → room_of l ≤ most_acts
+pub called_fits : (l : InLogic) (c : Call) (v : View) → CallAllowed c v → port_state l v → room_of l ≤ MOST_ACTS
 called_fits (logic.Taking l) c v m r = by_live l.live r
   where
-    by_live : (b : Bool) → taking.port_state_by b l v → room_of (logic.Taking l) ≤ most_acts
+    by_live : (b : Bool) → taking.port_state_by b l v → room_of (logic.Taking l) ≤ MOST_ACTS
     by_live true r = let few : length l.over ≤ 16 = r.1.few in omega (arith, few)
     by_live false r = absurd (none_called c v m r)
 called_fits (logic.Sorting l) c v m r = omega arith

@@ -4,6 +4,7 @@ use Rattle.std.specs.Prelude.{◌≡◌, ◌≢◌, ◌≤◌, ℕ, true, List, 
 use Rattle.elem_core.specs.Tree.{Tree}
 use Rattle.elem_core.specs.declared.item.Item.{Item}
 use Rattle.elem_core.specs.declared.why.Decider.{Decider}
+use Rattle.elem_core.specs.declared.count.TheConstants.{MOST_COUNT}
 use Rattle.port_core.specs.declared.act.Act.{Act}
 use Rattle.port_core.specs.View as port
 use Rattle.port_core.specs.Call.{Call}
@@ -33,7 +34,7 @@ use Rattle.stage_in.specs.OwnRows.{TakingRests}
 
 -- the greatest number of elements of a segment
 abbrev pub max_segment : ℕ
-max_segment = 4000000000
+max_segment = MOST_COUNT
 
 -- so many inputs are allowed
 abbrev pub IsFan : ℕ → Type 0

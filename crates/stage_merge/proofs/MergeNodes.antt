@@ -19,7 +19,8 @@ use Rattle.stream_model.specs.Picks.{merge_fits, merge_outlook, MergeStands}
 use Rattle.stream_model.proofs.Agreeing.{merge_moves_fit}
 use Rattle.stream_model.proofs.MergeTraces.{merge_trace}
 use Rattle.stream_picture.specs.Rests.{MergeRests}
-use Rattle.stage_core.specs.Handling.{most_acts, Starts, Handles}
+use Rattle.stage_core.specs.declared.stage.TheConstants.{MOST_ACTS}
+use Rattle.stage_core.specs.Handling.{Starts, Handles}
 use Rattle.stage_core.specs.Histories.{given_all, brought_by, AllEmpty}
 use Rattle.stage_law.specs.Law.{GaveAs}
 use Rattle.stage_law.specs.Inflows.{PortsLaw, untouched}
@@ -45,10 +46,10 @@ called_open l c v n may r = by_phase l.core.phase refl r
     by_phase Open e r = e
     by_phase Closed e r = absurd (none_called c v may r)
 
-pub called_fits : (l : Merging) (c : Call) (v : View) → CallAllowed c v → port_state l v → room_for (length l.core.over) ≤ most_acts
+pub called_fits : (l : Merging) (c : Call) (v : View) → CallAllowed c v → port_state l v → room_for (length l.core.over) ≤ MOST_ACTS
 called_fits l c v may r = by_phase l.core.phase r
   where
-    by_phase : (f : Phase) → port_state_by f l.core v → room_for (length l.core.over) ≤ most_acts
+    by_phase : (f : Phase) → port_state_by f l.core v → room_for (length l.core.over) ≤ MOST_ACTS
     by_phase New r = let few : length l.core.over ≤ 16 = r.1.0.few in omega (arith, few)
     by_phase Open r = let few : length l.core.over ≤ 16 = r.1.few in omega (arith, few)
     by_phase Closed r = absurd (none_called c v may r)

@@ -10,7 +10,8 @@ use Rattle.port_core.specs.View.{View, acted_all}
 use Rattle.port_core.specs.Call.{Call, starts, CallAllowed, seen, Obeys, Meets}
 use Rattle.stream_model.specs.declared.kind.Kind.{Kind}
 use Rattle.stream_model.specs.declared.kind.Kind.TheVariants.{Broadcast, Balance, Partition, Unzip}
-use Rattle.stage_core.specs.Handling.{most_acts, PullsAs, Starts, Handles}
+use Rattle.stage_core.specs.declared.stage.TheConstants.{MOST_ACTS}
+use Rattle.stage_core.specs.Handling.{PullsAs, Starts, Handles}
 use Rattle.stage_core.specs.Histories.{given_all, brought_by}
 use Rattle.stage_fans.specs.Seats.{room_for}
 use Rattle.stage_balance.specs.Balancings.{Balancing, BalanceFresh, BalancesAs}
@@ -33,13 +34,13 @@ pub called_is_live : (l : OutLogic) (call : Call) (v : View) → CallAllowed cal
 called_is_live (Machines l) call v may r = rests.called_is_live l call v may r
 called_is_live (Balances l) call v may r = balances.called_live l call v may r
 
-pub called_fits : (l : OutLogic) (call : Call) (v : View) → CallAllowed call v → port_state l v → room_of l ≤ most_acts
+pub called_fits : (l : OutLogic) (call : Call) (v : View) → CallAllowed call v → port_state l v → room_of l ≤ MOST_ACTS
 called_fits (Machines l) call v may r = rests.called_fits l call v may r
 called_fits (Balances l) call v may r = balances.called_fits l call v may r
 
 -- what every stage is given is room enough for a call of a handler
-pub fits : (call : Call) (l : OutLogic) (n : ℕ) → Meets call (port_state l) → most_acts ≤ n → room_of l ≤ n
-fits call l n m h = let r : room_of l ≤ most_acts = called_fits l call m.0 m.1.0 m.1.1 in omega (arith, r, h)
+pub fits : (call : Call) (l : OutLogic) (n : ℕ) → Meets call (port_state l) → MOST_ACTS ≤ n → room_of l ≤ n
+fits call l n m h = let r : room_of l ≤ MOST_ACTS = called_fits l call m.0 m.1.0 m.1.1 in omega (arith, r, h)
 
 -- a balance that may be called is open
 pub balance_live : (call : Call) (l : Balancing) (whole : OutLogic) → whole ≡ Balances l → Meets call (port_state whole) → l.core.live ≡ true

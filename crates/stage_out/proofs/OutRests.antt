@@ -18,7 +18,7 @@ use Rattle.stream_picture.specs.Rests.{IsUnasked, PartitionRests}
 use Rattle.stage_law.specs.Held.{told, Held}
 use Rattle.stage_law.specs.Outs.{Outlet, OutsLaw}
 use Rattle.stage_law.specs.OwnPorts.{own_input}
-use Rattle.stage_core.specs.Handling.{most_acts}
+use Rattle.stage_core.specs.declared.stage.TheConstants.{MOST_ACTS}
 use Rattle.stage_fans.specs.Seats.{room_for}
 use Rattle.stage_fans.specs.declared.outs.OutputState.{OutputState}
 use Rattle.stage_fans.specs.declared.outs.OutputState.TheVariants.{Quiet, Asks, Gone}
@@ -194,15 +194,15 @@ called_is_live (Deals l) call v may r = by_live l.live r
     by_live false r = absurd (none_called call v may r)
 
 -- two actions for each of its ports are few
-pub called_fits : (l : OutMachines) (call : Call) (v : port.View) → CallAllowed call v → port_state l v → room_of l ≤ most_acts
+pub called_fits : (l : OutMachines) (call : Call) (v : port.View) → CallAllowed call v → port_state l v → room_of l ≤ MOST_ACTS
 called_fits (Copies l) call v may r = by_live l.live r
   where
-    by_live : (b : Bool) → copy.port_state_by b l v → room_for (length l.outs) ≤ most_acts
+    by_live : (b : Bool) → copy.port_state_by b l v → room_for (length l.outs) ≤ MOST_ACTS
     by_live true r = let few : length l.outs ≤ 16 = r.1.few in omega (arith, few)
     by_live false r = absurd (none_called call v may r)
 called_fits (Deals l) call v may r = by_live l.live r
   where
-    by_live : (b : Bool) → part.port_state_by b l v → room_for (length l.outs) ≤ most_acts
+    by_live : (b : Bool) → part.port_state_by b l v → room_for (length l.outs) ≤ MOST_ACTS
     by_live true r = let few : length l.outs ≤ 16 = r.1.few in omega (arith, few)
     by_live false r = absurd (none_called call v may r)
 

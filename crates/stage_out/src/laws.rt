@@ -12,7 +12,8 @@ ghost use Rattle.stream_model.specs.Graph.{Graph};
 ghost use Rattle.stream_model.specs.Linear.{Book};
 ghost use Rattle.stream_model.specs.Node.{World, head_of, node_outlook};
 ghost use Rattle.stream_model.specs.Outlook.{Outlook, End, Agrees};
-ghost use Rattle.stage_core.specs.Handling.{Starts, Handles, PullsAs, most_acts};
+ghost use Rattle.stage_core.specs.declared.stage.TheConstants.{MOST_ACTS};
+ghost use Rattle.stage_core.specs.Handling.{Starts, Handles, PullsAs};
 ghost use Rattle.stage_law.specs.Held.{told};
 ghost use Rattle.stage_law.specs.Outs.{OutsLaw};
 ghost use Rattle.stage_out.specs.declared.machines.OutMachines.{OutMachines};
@@ -37,7 +38,7 @@ pub fn a_called_stage_is_open()
 /// Where the port rules allow a call of a handler and the row holds, the room that the call wants is within what every stage
 /// is given.
 pub fn a_call_wants_little_room()
-    ensures { (l : OutLogic) (call : Call) (v : View) → CallAllowed call v → port_state l v → room_of l ≤ most_acts }
+    ensures { (l : OutLogic) (call : Call) (v : View) → CallAllowed call v → port_state l v → room_of l ≤ MOST_ACTS }
 {}
 
 /// Where its row and the law of its outputs hold, a stage whose outputs are machines has closed its ports or has nothing to do,

@@ -1,6 +1,7 @@
 // The whole call.
 ghost use Rattle.std.specs.Prelude.{◌≡◌, [], ◌<◌, ◌≤◌, ◌⊎◌, ◌↔◌, ◌≢◌, List, ℕ, Some, None, IsTrue};
 ghost use Rattle.std.specs.List.{All};
+ghost use Rattle.elem_core.specs.declared.count.TheConstants.{MOST_COUNT};
 ghost use Rattle.stream_io.specs.Counts.{GrewAtMost};
 ghost use Rattle.command_words.specs.Asking.{Asked, asked_of};
 ghost use Rattle.command_words.specs.Commands.{asked};
@@ -125,7 +126,7 @@ fn run_command<R: Threads + Wait + Sync, F: Folder, C: Drain, L: Logic + Send, B
 ) -> RunEnd
     requires listed { All (GivesAsListed L.gives B.lists) plugs.items }
     requires workers { (0 < command.now.workers) × (command.now.workers ≤ 64) }
-    requires turns { command.now.turns ≤ 4000000000 }
+    requires turns { command.now.turns ≤ MOST_COUNT }
     ensures answers { Answers (plugged_by B.lists plugs.items) (Some (asked command.now)) (answer_of result) (F.state folder.old) (F.state folder.new) }
     ensures ran { ReceiptsOf (Some (asked command.now)) (answer_of result) result.ran }
     ensures islands { IslandsOf (plugged_by B.lists plugs.items) (Some (asked command.now)) result.ran (F.state folder.old) (F.state folder.new) }
@@ -156,7 +157,7 @@ fn run_command_file<
 ) -> RunEnd
     requires listed { All (GivesAsListed L.gives B.lists) plugs.items }
     requires workers { (0 < command.now.workers) × (command.now.workers ≤ 64) }
-    requires turns { command.now.turns ≤ 4000000000 }
+    requires turns { command.now.turns ≤ MOST_COUNT }
     ensures runs { RunsFile (plugged_by B.lists plugs.items) command.now.file command.now.trace command.now.turns (answer_of result) (F.state folder.old) (F.state folder.new) }
     ensures ran { Receipts result.status command.now.workers result.used result.ran }
     ensures islands { IsTrue (F.state folder.old).tells → RanFile (plugged_by B.lists plugs.items) (F.state folder.old) command.now.file command.now.trace result.ran }
@@ -196,7 +197,7 @@ fn run_generated<
 ) -> RunEnd
     requires listed { All (GivesAsListed L.gives B.lists) plugs.items }
     requires workers { (0 < command.now.workers) × (command.now.workers ≤ 64) }
-    requires turns { command.now.turns ≤ 4000000000 }
+    requires turns { command.now.turns ≤ MOST_COUNT }
     ensures answers { AnswersTo (plugged_by B.lists plugs.items) (Some n) (asked command.now) (answer_of result) (F.state folder.old) (F.state folder.new) }
     ensures ran { ReceiptsFor (Some n) (answer_of result) command.now.workers result.ran }
     ensures islands { IslandsFor (plugged_by B.lists plugs.items) (Some n) command.now.file command.now.trace result.ran (F.state folder.old) (F.state folder.new) }

@@ -7,6 +7,7 @@ ghost use Rattle.run_blueprint.specs.Tracing.{IsApart};
 ghost use Rattle.run_report.specs.Report.{detail_of};
 ghost use Rattle.std.specs.List.{All, Contains, list_any};
 ghost use Rattle.std.specs.Option.{option_copied};
+ghost use Rattle.elem_core.specs.declared.count.TheConstants.{MOST_COUNT};
 ghost use Rattle.materializer.specs.Fit.{CanRun};
 ghost use Rattle.materializer.specs.Files.{inputs_of_nodes, sinks_of_nodes};
 ghost use Rattle.stream_top.specs.AfterRun.{AfterRun, of_outcome, status_after, ends_of};
@@ -224,7 +225,7 @@ fn run_fit<R: Threads + Wait + Sync, F: Folder, L: Logic + Send, B: PlugBook + S
     requires listed { All (GivesAsListed L.gives B.lists) plugs.items }
     requires apart { IsApart b trace }
     requires workers { (0 < workers) × (workers ≤ 64) }
-    requires turns { turns ≤ 4000000000 }
+    requires turns { turns ≤ MOST_COUNT }
     ensures told { IsTrue (F.state folder.old).tells → EndedRun (plugged_by B.lists plugs.items) result.status (of_outcome result) b trace turns (F.state folder.old) (F.state folder.new) }
     ensures tells { IsTrue (F.state folder.new).tells → IsTrue (F.state folder.old).tells }
     ensures causes { RunCauses (plugged_by B.lists plugs.items) result.status (of_outcome result) b trace (F.state folder.old) (F.state folder.new) }
@@ -262,7 +263,7 @@ fn run_checked<R: Threads + Wait + Sync, F: Folder, L: Logic + Send, B: PlugBook
     requires fit { (taken : List (List ℕ)) × IsFit (blueprint_of checked) (map (λ p. p.head) plugs.items) taken }
     requires apart { IsApart (blueprint_of checked) trace }
     requires workers { (0 < workers) × (workers ≤ 64) }
-    requires turns { turns ≤ 4000000000 }
+    requires turns { turns ≤ MOST_COUNT }
     ensures told { IsTrue (F.state folder.old).tells → EndedRun (plugged_by B.lists plugs.items) result.status (of_outcome result) (blueprint_of checked) trace turns (F.state folder.old) (F.state folder.new) }
     ensures tells { IsTrue (F.state folder.new).tells → IsTrue (F.state folder.old).tells }
     ensures causes { RunCauses (plugged_by B.lists plugs.items) result.status (of_outcome result) (blueprint_of checked) trace (F.state folder.old) (F.state folder.new) }
@@ -300,7 +301,7 @@ fn run_parsed<R: Threads + Wait + Sync, F: Folder, L: Logic + Send, B: PlugBook 
     requires listed { All (GivesAsListed L.gives B.lists) plugs.items }
     requires taken { (t : List ℕ) → trace ≡ Some t → Contains taken.now t }
     requires workers { (0 < workers) × (workers ≤ 64) }
-    requires turns { turns ≤ 4000000000 }
+    requires turns { turns ≤ MOST_COUNT }
     ensures told { IsTrue (F.state folder.old).tells → EndedParsed (plugged_by B.lists plugs.items) result.status (of_outcome result) b taken.now trace turns (F.state folder.old) (F.state folder.new) }
     ensures tells { IsTrue (F.state folder.new).tells → IsTrue (F.state folder.old).tells }
     ensures causes { CausesText (plugged_by B.lists plugs.items) result.status (of_outcome result) taken.now trace (F.state folder.old) (F.state folder.new) }
@@ -338,7 +339,7 @@ fn run_text<R: Threads + Wait + Sync, F: Folder, L: Logic + Send, B: PlugBook + 
     requires listed { All (GivesAsListed L.gives B.lists) plugs.items }
     requires taken { (t : List ℕ) → trace ≡ Some t → Contains taken.now t }
     requires workers { (0 < workers) × (workers ≤ 64) }
-    requires turns { turns ≤ 4000000000 }
+    requires turns { turns ≤ MOST_COUNT }
     ensures told { IsTrue (F.state folder.old).tells → EndedText (plugged_by B.lists plugs.items) result.status (of_outcome result) text.now taken.now trace turns (F.state folder.old) (F.state folder.new) }
     ensures tells { IsTrue (F.state folder.new).tells → IsTrue (F.state folder.old).tells }
     ensures causes { CausesText (plugged_by B.lists plugs.items) result.status (of_outcome result) taken.now trace (F.state folder.old) (F.state folder.new) }
@@ -414,7 +415,7 @@ pub fn run_file<R: Threads + Wait + Sync, F: Folder, L: Logic + Send, B: PlugBoo
 ) -> CallEnd
     requires listed { All (GivesAsListed L.gives B.lists) plugs.items }
     requires workers { (0 < workers) × (workers ≤ 64) }
-    requires turns { turns ≤ 4000000000 }
+    requires turns { turns ≤ MOST_COUNT }
     ensures told { IsTrue (F.state folder.old).tells → Told (plugged_by B.lists plugs.items) (of_outcome result) (record { file = file.now; trace = option_copied trace.entry; turns = turns }) (F.state folder.old) (F.state folder.new) }
     ensures causes { Causes (plugged_by B.lists plugs.items) result.status (of_outcome result) file.now (option_copied trace.entry) (F.state folder.old) (F.state folder.new) }
     ensures sinks { SinksOf result.status (of_outcome result) (option_copied trace.entry) }

@@ -2,6 +2,7 @@
 ghost use Rattle.std.specs.Prelude.{◌≡◌, ◌<◌, ◌≤◌, ◌⊎◌, ℕ, [], None, IsTrue};
 ghost use Rattle.std.specs.List.{All};
 ghost use Rattle.std.specs.Option.{option_copied};
+ghost use Rattle.elem_core.specs.declared.count.TheConstants.{MOST_COUNT};
 ghost use Rattle.stream_io.specs.Counts.{GrewAtMost};
 ghost use Rattle.stream_top.specs.Calls.{answer_of};
 ghost use Rattle.stream_top.specs.Outcome.{Blank, Told, Causes, SinksOf, IsValid, RoseNowhere, WasRun};
@@ -54,7 +55,7 @@ pub fn run_file<R: Threads + Wait + Sync, F: Folder, C: Drain, L: Logic + Send, 
 ) -> RunEnd
     requires listed { All (GivesAsListed L.gives B.lists) plugs.items }
     requires workers { (0 < workers) × (workers ≤ 64) }
-    requires turns { turns ≤ 4000000000 }
+    requires turns { turns ≤ MOST_COUNT }
 
     // What is answered and left where the folder told its files before. What files hold then is said where it still tells them.
     ensures tells { IsTrue (F.state folder.new).tells → IsTrue (F.state folder.old).tells }

@@ -1,5 +1,6 @@
 -- The loop of `engine::Engine::perform_all`.
 use Rattle.std.proofs.Common.{◌≡◌, ◌≤◌, length}
+use Rattle.elem_core.specs.declared.count.TheConstants.{MOST_COUNT}
 use Rattle.fused_net.specs.Net.{acted_all}
 use Rattle.fused_net.specs.Laws.{AnyRow, AnyLaw, Busy}
 use Rattle.fused_net.specs.Costs.{all_asks}
@@ -11,7 +12,7 @@ invariant-loop-act g l =
     Busy AnyRow AnyLaw l.self l.n l.acts.items
     × (acted_all l.self l.n l.acts.items ≡ acted_all l.initial.self l.n l.initial.acts.items)
     × (l.acts.room ≡ l.initial.acts.room)
-    × (all_asks l.self ≤ 4000000000)
+    × (all_asks l.self ≤ MOST_COUNT)
 
 abbrev pub decreases-loop-act : goal.decreases-loop-act
 decreases-loop-act g l = length l.acts.items

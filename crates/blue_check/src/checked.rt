@@ -38,7 +38,7 @@ impl Checked {
     }
 
     /// Whether no closed walk uses each wire at most once, when directions are ignored. Two wires between the same nodes are such
-    /// a walk. It takes no memory. Rule: own.
+    /// a walk. It takes no memory.
     pub fn is_polytree(&self) -> bool
         ensures { IsTrue result ↔ IsPolytree (wiring (blueprint_wires (blueprint_of self.now))) }
     {
@@ -46,7 +46,7 @@ impl Checked {
     }
 
     /// Whether a run makes moves that it has to record: there is a merge, a balance, a buffer that does not hold its input back,
-    /// a valve, a recover, or substreams that are merged. It takes no memory. Rule: own.
+    /// a valve, a recover, or substreams that are merged. It takes no memory.
     pub fn needs_picks(&self) -> bool
         ensures { result ≡ needs_picks (blueprint_of self.now).nodes.items }
     {

@@ -7,7 +7,7 @@ use blue_rules::want::Want;
 use elem_core::elem_type::ElemType;
 use elem_core::line::Line;
 
-/// The first rule that a blueprint breaks, at its least place. Rule: own.
+/// The first rule that a blueprint breaks, at its least place.
 #[derive(Drop)]
 pub enum CheckFault {
     /// A name is declared twice, or a file is wanted twice.
@@ -35,7 +35,7 @@ pub enum CheckFault {
 }
 
 impl CheckFault {
-    /// The number, from 1 to 11, by which reports name the rule. Rule: own.
+    /// The number, from 1 to 11, by which reports name the rule.
     pub fn number(&self) -> u8
         ensures { result ≡ number_of_fault self.now }
     {

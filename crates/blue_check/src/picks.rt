@@ -25,7 +25,7 @@ fn is_merged(joining: Joining) -> bool
     }
 }
 
-/// Whether the moves of a kind depend on what comes first. Rule: own.
+/// Whether the moves of a kind depend on what comes first.
 pub fn picks(kind: &Kind) -> bool
     ensures { result ≡ picks kind.now }
 {

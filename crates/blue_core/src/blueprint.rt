@@ -4,7 +4,7 @@ use elem_core::why::Decider;
 use stream_model::kind::Kind;
 
 /// A graph of sources, stages and sinks joined by wires, with the switches and the chains that its nodes name. Each list is in
-/// the order of declaration. Rule: own.
+/// the order of declaration.
 #[derive(Drop)]
 pub struct Blueprint {
     /// The names of its kill switches.
@@ -17,7 +17,7 @@ pub struct Blueprint {
     pub wires: Vec<WireDecl>,
 }
 
-/// A chain of linear stages under a name. Rule: own.
+/// A chain of linear stages under a name.
 #[derive(Drop)]
 pub struct ChainDecl {
     /// By which nodes name it.
@@ -26,7 +26,7 @@ pub struct ChainDecl {
     pub steps: Vec<Step>,
 }
 
-/// One stage of a chain. Rule: own.
+/// One stage of a chain.
 #[derive(Drop)]
 pub struct Step {
     /// What it does.
@@ -35,7 +35,7 @@ pub struct Step {
     pub decider: Decider,
 }
 
-/// A source, a stage or a sink. Rule: own.
+/// A source, a stage or a sink.
 #[derive(Drop)]
 pub struct Node {
     /// By which wires and reports name it.
@@ -46,7 +46,7 @@ pub struct Node {
     pub decider: Decider,
 }
 
-/// A wire from an output to an input, each by its node's name and its number there, from 0. Rule: own.
+/// A wire from an output to an input, each by its node's name and its number there, from 0.
 #[derive(Drop)]
 pub struct WireDecl {
     /// The node whose output it is.

@@ -1,5 +1,5 @@
 -- The functions, predicates, expansions and folds that words say. Each definition is a table by the first word; the last
--- row of one table goes on to the next. Rule: own.
+-- row of one table goes on to the next.
 use Rattle.std.specs.Prelude.{ℕ, if◌then◌else◌, List, [], ◌∷◌, Option, Some, None, codes}
 use Rattle.std.specs.Str.{bytes_eq}
 use Rattle.elem_core.specs.declared.function.MapFn.{MapFn}

@@ -9,7 +9,7 @@ use blue_words::fault::{FormEnd, PlaceValue};
 use blue_words::words::{Words, is_word};
 use elem_core::why::Decider;
 
-/// The decider behind a kind, and stop where none is written; one is read only where the kind may have one. Rule: own.
+/// The decider behind a kind, and stop where none is written; one is read only where the kind may have one.
 pub fn read_decider(may: bool, words: &mut Words) -> Result<PlaceValue<Decider>, FormEnd>
     ensures { Reads result (decider_of may words.old) words.new }
 {

@@ -15,7 +15,7 @@ use elem_core::line::Line;
 use std::alloc::Global;
 use stream_model::kind::{Kind, Policy};
 
-/// The kind of a stage, by its first word and those behind it. Rule: own.
+/// The kind of a stage, by its first word and those behind it.
 pub fn read_stage_kind(
     alloc: Global,
     word: &[u8],

@@ -15,7 +15,7 @@ use blue_words::words::{Words, is_word};
 use std::alloc::Global;
 use stream_model::kind::{Base, Kind};
 
-/// The kind of a source, by its first word and those behind it. Rule: own.
+/// The kind of a source, by its first word and those behind it.
 pub fn read_source(
     alloc: Global,
     word: &[u8],
@@ -69,7 +69,7 @@ fn base_word(word: &[u8]) -> Option<Base>
     None
 }
 
-/// The kind of a sink, by its first word and those behind it. Rule: own.
+/// The kind of a sink, by its first word and those behind it.
 pub fn read_sink(alloc: Global, word: &[u8], words: &mut Words) -> Result<PlaceValue<Kind>, FormEnd>
     ensures { Reads result (sink_kind word.now words.old) words.new }
 {

@@ -12,7 +12,7 @@ use blue_words::words::Words;
 use elem_core::why::NoMemory;
 use std::alloc::Global;
 
-/// The steps of a chain that the words say, parted by `|`, up to their end. Rule: own.
+/// The steps of a chain that the words say, parted by `|`, up to their end.
 pub fn read_steps(alloc: Global, words: &mut Words) -> Result<PlaceValue<Vec<Step>>, FormEnd>
     ensures { ReadsAs (λ v. v.items) result (chain_of words.old) words.new }
 {

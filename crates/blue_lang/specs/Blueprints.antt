@@ -1,4 +1,4 @@
--- Which text says which blueprint, and the first fault of a text that says none. Rule: own.
+-- Which text says which blueprint, and the first fault of a text that says none.
 use Rattle.std.specs.Prelude.{◌≡◌, ℕ, ◌+◌, Bool, false, not, ◌&&◌, nat_lt, nat_le, if◌then◌else◌, List, [], ◌∷◌, ◌++◌, length, map, Option, Some, None, Ok, Err, codes}
 use Rattle.std.specs.List.{filter, filter_map, list_any}
 use Rattle.std.specs.Str.{bytes_eq}

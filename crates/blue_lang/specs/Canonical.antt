@@ -1,4 +1,4 @@
--- The canonical text of a blueprint. Rule: own.
+-- The canonical text of a blueprint.
 use Rattle.std.specs.Prelude.{ℕ, List, [], ◌∷◌, ◌++◌, map, Option, Some, None, codes}
 use Rattle.std.specs.Fmt.{decimal}
 use Rattle.blue_core.specs.declared.blueprint.Step.{Step}

@@ -1,4 +1,4 @@
--- What one line declares. Rule: own.
+-- What one line declares.
 use Rattle.std.specs.Prelude.{ℕ, Bool, true, false, if◌then◌else◌, List, [], ◌∷◌, Option, Some, None, Err, codes}
 use Rattle.std.specs.Str.{bytes_eq}
 use Rattle.elem_core.specs.Text.{words}

@@ -22,7 +22,7 @@ use elem_core::why::{Decider, NoMemory};
 use std::alloc::{AllocError, Global};
 use stream_model::kind::Kind;
 
-/// What a line declares. Rule: own.
+/// What a line declares.
 #[derive(Drop)]
 pub(crate) enum Declaration {
     /// A switch, by its name.

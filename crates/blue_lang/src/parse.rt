@@ -50,7 +50,7 @@ struct Progress {
 /// its place at any text.
 ///
 /// A text is lines ended by LF; a last one without LF counts. Its first fault is that of the first line at fault; a text
-/// of more than 1,048,576 bytes is at fault as a whole. Rule: own.
+/// of more than 1,048,576 bytes is at fault as a whole. Akka Streams has no text for a graph, so its rules are this project's.
 pub fn parse(alloc: Global, text: &[u8]) -> Result<Blueprint, ParseEnd>
     ensures ok { IfOk result (λ b. Says text.now (plain b)) }
     ensures fault { (f : BlueFault) → result ≡ Err (ParseEnd.Fault f) → fault_of text.now ≡ Some f }

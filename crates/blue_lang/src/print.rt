@@ -16,7 +16,7 @@ use stream_model::kind::Kind;
 
 /// The canonical text of a blueprint: the version line, then its switches, chains, nodes and wires, each in their order; one
 /// space between words, numbers without leading zeros, a decider only where it is not stop, and each lane with its size.
-/// Rule: own.
+/// Akka Streams has no text for a graph, so its form is this project's.
 pub fn print(alloc: Global, blueprint: &Blueprint) -> Result<Vec<u8>, NoMemory>
     ensures { IfOk result (λ text. text.items ≡ canonical (plain blueprint.now)) }
 {

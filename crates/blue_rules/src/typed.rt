@@ -1,7 +1,7 @@
 use crate::want::Want;
 use elem_core::elem_type::ElemType;
 
-/// The greatest depth to which the types of elements nest. Rule: own.
+/// The greatest depth to which the types of elements nest.
 pub const MAX_NESTING: u32 = 4;
 
 /// What comes of a type at a stage.

@@ -1,6 +1,6 @@
 use elem_core::elem_type::ElemType;
 
-/// The types that an input or a function accepts, where it does not accept all. Rule: own.
+/// The types that an input or a function accepts, where it does not accept all.
 #[derive(Drop)]
 pub enum Want {
     /// This type.

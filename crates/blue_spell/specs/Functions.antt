@@ -1,4 +1,4 @@
--- The words of functions, predicates, expansions and folds, each in its one spelling. Rule: own.
+-- The words of functions, predicates, expansions and folds, each in its one spelling.
 use Rattle.std.specs.Prelude.{ℕ, List, [], ◌∷◌, codes}
 use Rattle.std.specs.Fmt.{decimal, signed_decimal}
 use Rattle.elem_core.specs.declared.function.MapFn.{MapFn}

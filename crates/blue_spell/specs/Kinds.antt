@@ -1,4 +1,4 @@
--- The words of kinds and deciders, each in its one spelling. A table's last row goes on to the next. Rule: own.
+-- The words of kinds and deciders, each in its one spelling. A table's last row goes on to the next.
 use Rattle.std.specs.Prelude.{ℕ, List, [], ◌∷◌, ◌++◌, codes}
 use Rattle.std.specs.Fmt.{decimal, signed_decimal}
 use Rattle.elem_core.specs.declared.why.Decider.{Decider}

@@ -1,4 +1,4 @@
--- How words are written one behind the other. Rule: own.
+-- How words are written one behind the other.
 use Rattle.std.specs.Prelude.{ℕ, List, [], ◌∷◌, ◌++◌}
 
 -- each word behind one space

@@ -15,7 +15,7 @@ use elem_core::line::Line;
 use elem_core::why::{Decider, NoMemory};
 use stream_model::kind::{Base, Joining, Kind, Policy};
 
-/// Appends the words of a kind in their one spelling, each behind a space. Rule: own.
+/// Appends the words of a kind in their one spelling, each behind a space.
 pub fn write_kind(out: &mut Vec<u8>, kind: &Kind) -> Result<(), NoMemory>
     ensures { OnOk result (out.new.items ≡ out.old.items ++ spaced (kind_words kind.now)) }
 {
@@ -198,7 +198,7 @@ fn joining_word(joining: Joining) -> &'static [u8]
     }
 }
 
-/// The word that a node's line begins with, by its kind: `source`, `stage` or `sink`. Rule: own.
+/// The word that a node's line begins with, by its kind: `source`, `stage` or `sink`.
 pub fn sort_word(kind: &Kind) -> &'static [u8]
     ensures { result.now ≡ sort_word kind.now }
 {
@@ -215,7 +215,7 @@ pub fn sort_word(kind: &Kind) -> &'static [u8]
     }
 }
 
-/// Appends a decider where it is not stop, each of its words behind a space. Rule: own.
+/// Appends a decider where it is not stop, each of its words behind a space.
 pub fn write_decider(out: &mut Vec<u8>, decider: Decider) -> Result<(), NoMemory>
     ensures { OnOk result (out.new.items ≡ out.old.items ++ spaced (decider_words decider)) }
 {

@@ -6,7 +6,7 @@ ghost use Rattle.blue_spell.specs.Spaced.{spaced};
 use elem_core::why::NoMemory;
 use itoa::Buffer;
 
-/// Appends a word behind a space. Rule: own.
+/// Appends a word behind a space.
 pub fn write_word(out: &mut Vec<u8>, word: &[u8]) -> Result<(), NoMemory>
     ensures { OnOk result (out.new.items ≡ out.old.items ++ spaced (word.now ∷ [])) }
 {
@@ -14,7 +14,7 @@ pub fn write_word(out: &mut Vec<u8>, word: &[u8]) -> Result<(), NoMemory>
     out.extend_from_slice(word)
 }
 
-/// Appends two words, each behind a space. Rule: own.
+/// Appends two words, each behind a space.
 pub fn write_two(out: &mut Vec<u8>, first: &[u8], second: &[u8]) -> Result<(), NoMemory>
     ensures { OnOk result (out.new.items ≡ out.old.items ++ spaced (first.now ∷ second.now ∷ [])) }
 {
@@ -22,7 +22,7 @@ pub fn write_two(out: &mut Vec<u8>, first: &[u8], second: &[u8]) -> Result<(), N
     write_word(out, second)
 }
 
-/// Appends a number behind a space, in decimal. Rule: own.
+/// Appends a number behind a space, in decimal.
 pub fn write_count(out: &mut Vec<u8>, count: u64) -> Result<(), NoMemory>
     ensures { OnOk result (out.new.items ≡ out.old.items ++ spaced (decimal count ∷ [])) }
 {
@@ -30,7 +30,7 @@ pub fn write_count(out: &mut Vec<u8>, count: u64) -> Result<(), NoMemory>
     write_word(out, buffer.format(count).as_bytes())
 }
 
-/// Appends a number with its sign behind a space, in decimal. Rule: own.
+/// Appends a number with its sign behind a space, in decimal.
 pub fn write_int(out: &mut Vec<u8>, number: i64) -> Result<(), NoMemory>
     ensures { OnOk result (out.new.items ≡ out.old.items ++ spaced (signed_decimal number ∷ [])) }
 {
@@ -38,7 +38,7 @@ pub fn write_int(out: &mut Vec<u8>, number: i64) -> Result<(), NoMemory>
     write_word(out, buffer.format(number).as_bytes())
 }
 
-/// Appends a word and a number, each behind a space. Rule: own.
+/// Appends a word and a number, each behind a space.
 pub fn write_word_count(out: &mut Vec<u8>, word: &[u8], count: u64) -> Result<(), NoMemory>
     ensures { OnOk result (out.new.items ≡ out.old.items ++ spaced (word.now ∷ decimal count ∷ [])) }
 {
@@ -46,7 +46,7 @@ pub fn write_word_count(out: &mut Vec<u8>, word: &[u8], count: u64) -> Result<()
     write_count(out, count)
 }
 
-/// Appends a word and a number with its sign, each behind a space. Rule: own.
+/// Appends a word and a number with its sign, each behind a space.
 pub fn write_word_int(out: &mut Vec<u8>, word: &[u8], number: i64) -> Result<(), NoMemory>
     ensures { OnOk result (out.new.items ≡ out.old.items ++ spaced (word.now ∷ signed_decimal number ∷ [])) }
 {

@@ -1,4 +1,4 @@
--- The numbers of faults. Rule: own.
+-- The numbers of faults.
 use Rattle.std.specs.Prelude.{ℕ}
 use Rattle.blue_words.specs.declared.fault.BlueKind.{BlueKind}
 use Rattle.blue_words.specs.declared.fault.BlueKind.TheVariants.{BadVersion, BadLine, BadName, BadNumber, TooLong, TooMany}

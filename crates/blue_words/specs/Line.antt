@@ -1,4 +1,4 @@
--- What a line of a blueprint says by its bytes: whether it is passed over, and its words. Rule: own.
+-- What a line of a blueprint says by its bytes: whether it is passed over, and its words.
 use Rattle.std.specs.Prelude.{ℕ, Bool, false, not, ◌||◌, ◌&&◌, ◌==◌, nat_le, if◌then◌else◌, List, [], ◌∷◌}
 use Rattle.std.specs.List.{list_all, list_any}
 use Rattle.std.specs.Char.{is_ascii_graphic}

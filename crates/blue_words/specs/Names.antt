@@ -1,4 +1,4 @@
--- The words of a blueprint that are not fixed: names, file names, and words of any kind. Rule: own.
+-- The words of a blueprint that are not fixed: names, file names, and words of any kind.
 use Rattle.std.specs.Prelude.{ℕ, Bool, false, ◌&&◌, ◌||◌, ◌==◌, nat_lt, nat_le, List, [], ◌∷◌, length, IsTrue}
 use Rattle.std.specs.Char.{is_ascii_alphanumeric, is_ascii_digit, is_ascii_graphic, is_ascii_lowercase}
 use Rattle.std.specs.List.{list_all}

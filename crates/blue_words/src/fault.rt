@@ -4,7 +4,7 @@ ghost use Rattle.blue_words.specs.Fault.{number_of_kind};
 
 use std::alloc::AllocError;
 
-/// What is wrong with a text. Rule: own.
+/// What is wrong with a text.
 #[derive(Clone, Copy, PartialEq, Eq)]
 pub enum BlueKind {
     /// The first line that says something is not the version line, or no line says something.
@@ -21,7 +21,7 @@ pub enum BlueKind {
     TooMany,
 }
 
-/// The first fault of a text: what it is, and in which line, from 1; 0 where no line is to blame. Rule: own.
+/// The first fault of a text: what it is, and in which line, from 1; 0 where no line is to blame.
 #[derive(Clone, Copy, PartialEq, Eq)]
 pub struct BlueFault {
     /// What is wrong.
@@ -42,7 +42,7 @@ pub enum FormEnd {
 /// The value of a place of a line, or what is wrong there: `BadName` or `BadNumber`.
 pub type PlaceValue<T> = Result<T, BlueKind>;
 
-/// The number, from 1 to 6, by which reports name a fault. Rule: own.
+/// The number, from 1 to 6, by which reports name a fault.
 pub fn kind_number(kind: BlueKind) -> u8
     ensures { result ≡ number_of_kind kind }
 {

@@ -8,7 +8,7 @@ ghost use Rattle.blue_words.specs.Line.{is_comment, is_passed_over, is_plain, is
 
 use memchr::memchr;
 
-/// The first line, without its LF, and what stands behind it. A last line without LF counts. Rule: own.
+/// The first line, without its LF, and what stands behind it. A last line without LF counts.
 pub fn next_line(text: &[u8]) -> Option<(&[u8], &[u8])>
     ensures split { MatchOption result (lines text.now ≡ []) (λ r. lines text.now ≡ r.0.now ∷ lines r.1.now) }
     ensures shorter { IfSome result (λ r. length r.1.now < length text.now) }
@@ -22,7 +22,7 @@ pub fn next_line(text: &[u8]) -> Option<(&[u8], &[u8])>
     }
 }
 
-/// What stands before the first such byte, and what stands behind it. Rule: own.
+/// What stands before the first such byte, and what stands behind it.
 pub fn cut_at(text: &[u8], byte: u8) -> Option<(&[u8], &[u8])>
     ensures parts { MatchOption result (cut_at byte text.now ≡ None) (λ r. cut_at byte text.now ≡ Some (r.0.now, r.1.now)) }
     ensures shorter { IfSome result (λ r. length r.0.now + length r.1.now < length text.now) }
@@ -33,7 +33,7 @@ pub fn cut_at(text: &[u8], byte: u8) -> Option<(&[u8], &[u8])>
     }
 }
 
-/// Whether the line says nothing: its first byte other than a space is `#`, or it has no byte from 0x21 to 0x7e. Rule: own.
+/// Whether the line says nothing: its first byte other than a space is `#`, or it has no byte from 0x21 to 0x7e.
 pub fn is_passed_over(line: &[u8]) -> bool
     ensures { result ≡ is_passed_over line.now }
 {
@@ -57,7 +57,7 @@ fn has_word(line: &[u8]) -> bool
     line.iter().any(|b| b.is_ascii_graphic())
 }
 
-/// Whether every byte of the line is a space or a byte of a word. Rule: own.
+/// Whether every byte of the line is a space or a byte of a word.
 pub fn is_plain(line: &[u8]) -> bool
     ensures { result ≡ is_plain line.now }
 {

@@ -8,7 +8,7 @@ const NAME_LIMIT: usize = 32;
 
 const FILE_NAME_LIMIT: usize = 64;
 
-/// Whether the bytes are a file name: a letter or a digit, and up to 63 letters, digits, `.`, `_` or `-`. Rule: own.
+/// Whether the bytes are a file name: a letter or a digit, and up to 63 letters, digits, `.`, `_` or `-`.
 pub fn is_file_name(bytes: &[u8]) -> bool
     ensures { result ≡ is_file_name bytes.now }
 {
@@ -32,7 +32,7 @@ fn is_file_byte(byte: u8) -> bool
     byte.is_ascii_alphanumeric() || byte == b'.' || byte == b'_' || byte == b'-'
 }
 
-/// Whether the bytes are a name: a lower-case letter, and up to 31 lower-case letters, digits or `_`. Rule: own.
+/// Whether the bytes are a name: a lower-case letter, and up to 31 lower-case letters, digits or `_`.
 pub fn is_name(bytes: &[u8]) -> bool
     ensures { result ≡ is_name bytes.now }
 {
@@ -56,7 +56,7 @@ fn is_name_byte(byte: u8) -> bool
     byte.is_ascii_lowercase() || byte.is_ascii_digit() || byte == b'_'
 }
 
-/// Whether the bytes are a word: one or more, from 0x21 to 0x7e. Rule: own.
+/// Whether the bytes are a word: one or more, from 0x21 to 0x7e.
 pub fn is_word(bytes: &[u8]) -> bool
     ensures { result ≡ is_word bytes.now }
 {

@@ -10,7 +10,7 @@ use crate::numerals::numeral;
 use elem_core::line::Line;
 use std::alloc::{AllocError, Global};
 
-/// A number of 64 bits: 1 to 20 digits, else `BadNumber`. Rule: own.
+/// A number of 64 bits: 1 to 20 digits, else `BadNumber`.
 pub fn count_place(word: &[u8]) -> PlaceValue<u64>
     ensures { result ≡ count_of 64 word.now }
 {
@@ -20,7 +20,7 @@ pub fn count_place(word: &[u8]) -> PlaceValue<u64>
     }
 }
 
-/// A number of 32 bits, of 1 to 20 digits, else `BadNumber`. Rule: own.
+/// A number of 32 bits, of 1 to 20 digits, else `BadNumber`.
 pub fn size_place(word: &[u8]) -> PlaceValue<u32>
     ensures { result ≡ count_of 32 word.now }
 {
@@ -30,7 +30,7 @@ pub fn size_place(word: &[u8]) -> PlaceValue<u32>
     }
 }
 
-/// A number of 64 bits with a sign: an optional `-` and 1 to 20 digits, else `BadNumber`. Rule: own.
+/// A number of 64 bits with a sign: an optional `-` and 1 to 20 digits, else `BadNumber`.
 pub fn int_place(word: &[u8]) -> PlaceValue<i64>
     ensures { result ≡ int_of word.now }
 {
@@ -69,7 +69,7 @@ fn above_zero(value: u128) -> PlaceValue<i64>
     }
 }
 
-/// Two values, or what is wrong with the first that has a fault. Rule: own.
+/// Two values, or what is wrong with the first that has a fault.
 pub fn both<A: Drop, B: Drop>(first: PlaceValue<A>, second: PlaceValue<B>) -> PlaceValue<(A, B)>
     ensures { result ≡ both first second }
 {
@@ -82,7 +82,7 @@ pub fn both<A: Drop, B: Drop>(first: PlaceValue<A>, second: PlaceValue<B>) -> Pl
     }
 }
 
-/// A name, else `BadName`. Rule: own.
+/// A name, else `BadName`.
 #[tactic(auto, using(crate::proofs::Plain::no_lf_from_name))]
 pub fn name_place(alloc: Global, word: &[u8]) -> Result<PlaceValue<Line>, AllocError>
     ensures { IfOk result (λ p. p ≡ name_of word.now) }
@@ -94,7 +94,7 @@ pub fn name_place(alloc: Global, word: &[u8]) -> Result<PlaceValue<Line>, AllocE
     }
 }
 
-/// A file name, else `BadName`. Rule: own.
+/// A file name, else `BadName`.
 #[tactic(auto, using(crate::proofs::Plain::no_lf_from_file))]
 pub fn file_place(alloc: Global, word: &[u8]) -> Result<PlaceValue<Line>, AllocError>
     ensures { IfOk result (λ p. p ≡ file_of word.now) }
@@ -106,7 +106,7 @@ pub fn file_place(alloc: Global, word: &[u8]) -> Result<PlaceValue<Line>, AllocE
     }
 }
 
-/// A line of its own with the bytes of a word. Rule: own.
+/// A line of its own with the bytes of a word.
 pub fn line_of(alloc: Global, word: &[u8]) -> Result<Line, AllocError>
     requires short { length word.now ≤ 1024 }
     requires no_lf { IsTrue (has_no_lf word.now) }

@@ -13,7 +13,7 @@ use elem_core::line::Line;
 use std::alloc::Global;
 use std::marker::Model;
 
-/// The words of a line that are left to be read. Rule: own.
+/// The words of a line that are left to be read.
 #[derive(Drop)]
 pub struct Words<'a> {
     rest: &'a [u8],
@@ -139,7 +139,7 @@ impl<'a> Words<'a> {
     }
 }
 
-/// Whether a word is this fixed one. Rule: own.
+/// Whether a word is this fixed one.
 pub fn is_word(word: &[u8], fixed: &[u8]) -> bool
     ensures { result ≡ bytes_eq word.now fixed.now }
 {

@@ -31,7 +31,7 @@ use plug_logic::logic::Logic;
 use stream_io::outside::{Drain, Source};
 
 /// An island whose lanes come in and go out at its links has the stage of each at the place of its wire's connection: at the output
-/// (`out`), and at the input (`inp`). Rule: own.
+/// (`out`), and at the input (`inp`).
 pub fn lanes_lie_at_their_places<S: Source, D: Drain, L: Logic, B: PlugBook>()
     ensures out { (homes : List ℕ) (count : ℕ) (ws : List Edge) (nodes : List (Seated S D L B)) (u : ℕ) (v : Edge) (size : ℕ) (i : Kept S D L B) → AreSeated homes count ws nodes → slice_get ws u ≡ Some v → v.lane ≡ Some size
         → ((q : ℕ) (l : Link) → slice_get (links_in homes ws nodes (slice_index homes v.from)) q ≡ Some l → goes_out (seats_in homes ws nodes (slice_index homes v.from)) l.to ≡ true → LeavesBy i l.wire q)
@@ -43,7 +43,7 @@ pub fn lanes_lie_at_their_places<S: Source, D: Drain, L: Logic, B: PlugBook>()
 
 /// The nets of the bodies' islands cover the graph of the blueprint (`covers`), and each of their connections is one of a wire's
 /// (`owned`): they are nets of its islands (`nets`), and each net is between two events (`settled`). Their nodes began as what stands at
-/// the nodes of the blueprint (`began`), and their crossings are its lanes (`lanes`). Rule: own.
+/// the nodes of the blueprint (`began`), and their crossings are its lanes (`lanes`).
 pub fn bodies_cover<S: Source, D: Drain, L: Logic, B: PlugBook>()
     ensures covers { (g : Graph) (homes : List ℕ) (count : ℕ) (ws : List Edge) (nodes : List (Seated S D L B)) (crossings : List Crossing) (begun now : List (Body S D L B)) → AreBodiesOf S.state D.state B.lists g homes count ws nodes crossings begun → EachOf BodyGoes begun now → AllOf (BodyKeeps S.state D.state B.lists) now
         → Covers g (net_of now) (seats_of homes ws) }
@@ -59,13 +59,13 @@ pub fn bodies_cover<S: Source, D: Drain, L: Logic, B: PlugBook>()
 {}
 
 /// Where the ends of all lanes were brought together, of each lane is kept and known what an account wants, between the connections of
-/// its wire. Rule: own.
+/// its wire.
 pub fn their_lanes_keep<S: Source, D: Drain, L: Logic, B: PlugBook>()
     ensures { (g : Graph) (homes : List ℕ) (count : ℕ) (ws : List Edge) (nodes : List (Seated S D L B)) (crossings : List Crossing) (begun now : List (Body S D L B)) (all : ℕ → ℕ) → AreBodiesOf S.state D.state B.lists g homes count ws nodes crossings begun → EachOf BodyGoes begun now → AllOf (BodyKeeps S.state D.state B.lists) now → AskedAre now crossings all → AllJoined BodiesJoined now crossings
         → LanesKeep g (net_of now) (seats_of homes ws) all }
 {}
 
-/// Where no body has an event, no net has one (`queues`), and each lane rests (`lanes`). Rule: own.
+/// Where no body has an event, no net has one (`queues`), and each lane rests (`lanes`).
 pub fn their_lanes_rest<S: Source, D: Drain, L: Logic, B: PlugBook>()
     ensures queues { (crossings : List Crossing) (now : List (Body S D L B)) → AtRest is_pending BodiesJoined now crossings → (k : ℕ) → (net_of now k).queue ≡ [] }
     ensures lanes { (g : Graph) (homes : List ℕ) (count : ℕ) (ws : List Edge) (nodes : List (Seated S D L B)) (crossings : List Crossing) (begun now : List (Body S D L B)) (all : ℕ → ℕ) → AreBodiesOf S.state D.state B.lists g homes count ws nodes crossings begun → EachOf BodyGoes begun now → AllOf (BodyKeeps S.state D.state B.lists) now → AskedAre now crossings all → AtRest is_pending BodiesJoined now crossings
@@ -74,7 +74,7 @@ pub fn their_lanes_rest<S: Source, D: Drain, L: Logic, B: PlugBook>()
 
 /// What bodies spent: `cost` is what was taken off each lane, with the finds of new demand or a cancel there, and the events of all nets
 /// and these costs are at least what was spent (`costs`). So all that was spent is below the count of the blueprint's wires over what
-/// they were sent, by one for each wire (`paid`). The asks that came to outputs are no more than what was spent (`asks`). Rule: own.
+/// they were sent, by one for each wire (`paid`). The asks that came to outputs are no more than what was spent (`asks`).
 pub fn bodies_are_paid<S: Source, D: Drain, L: Logic, B: PlugBook>()
     ensures costs { (g : Graph) (homes : List ℕ) (count : ℕ) (ws : List Edge) (nodes : List (Seated S D L B)) (crossings : List Crossing) (begun now : List (Body S D L B)) (all : ℕ → ℕ) → AreBodiesOf S.state D.state B.lists g homes count ws nodes crossings begun → EachOf BodyGoes begun now → AllOf (BodyKeeps S.state D.state B.lists) now → AskedAre now crossings all → AllJoined BodiesJoined now crossings
         → (cost : ℕ → ℕ) × (LanesCost g (net_of now) (seats_of homes ws) all cost × (sum_by (λ b. b.spent) now ≤ sum_below (λ b. total (net_of now b)) count + over_lanes g cost)) }
@@ -86,7 +86,7 @@ pub fn bodies_are_paid<S: Source, D: Drain, L: Logic, B: PlugBook>()
 /// Where memory was wanting, each body that broke off had a last moment between two events, and each other one is at such a moment
 /// (`last`). With all islands as they were then, the nets of the bodies cover the graph of the blueprint (`covers`, `owned`, `nets`, `began`), each
 /// net is between two events (`settled`), and their lanes keep what an account wants (`lanes`). Since then each node has kept what outlives
-/// want of memory (`kept`). Rule: own.
+/// want of memory (`kept`).
 pub fn broken_bodies_cover<S: Source, D: Drain, L: Logic, B: PlugBook>()
     ensures last { (begun now : List (Body S D L B)) → WholeOrBroken (BodyKeeps S.state D.state B.lists) BodyGoes (BodyBreaks S.state D.state B.lists) begun now → (then : List (Body S D L B)) × AreLastOf S.state D.state B.lists begun now then }
     ensures covers { (g : Graph) (homes : List ℕ) (count : ℕ) (ws : List Edge) (nodes : List (Seated S D L B)) (crossings : List Crossing) (begun now then : List (Body S D L B)) → AreBodiesOf S.state D.state B.lists g homes count ws nodes crossings begun

@@ -33,7 +33,7 @@ use plug_logic::logic::Logic;
 use stream_io::outside::{Drain, Source};
 
 /// The islands of a blueprint that have started, the ends of all its lanes, a blank table for each, and the islands at the other ends of
-/// its lanes are fit to be bodies. Rule: own.
+/// its lanes are fit to be bodies.
 pub fn started_islands_begin_bodies<S: Source, D: Drain, L: Logic, B: PlugBook>()
     ensures { (b : Blueprint) (ss : List S) (ds : List D) (f : Filled S D L B) (started : List (Kept S D L B)) (e : AllEnds) (tables : List (Vec Way Global)) (peers : List Peers) → HasFewLinks b → IsFilled b ss ds f → AllStarted S.state D.state B.lists f.islands.items started
         → AreAllEnds f.lanes.items f.count e → AreBlank (way_homes f.ends.wires.items f.lanes.items) f.count tables → ArePeers f.lanes.items f.count peers → CanAllBegin started e.ins.items e.outs.items tables peers }
@@ -41,7 +41,7 @@ pub fn started_islands_begin_bodies<S: Source, D: Drain, L: Logic, B: PlugBook>(
 
 /// The bodies that were made of them are the bodies of the blueprint, and the crossings of its lanes lie between them (`are`). None has
 /// spent a unit (`unspent`), and the ends at each crossing may meet (`meet`). Their islands have the numbers of their nodes and wires
-/// (`numbered`), and at the crossing of each lane lies the input end of its wire (`aligned`). Rule: own.
+/// (`numbered`), and at the crossing of each lane lies the input end of its wire (`aligned`).
 pub fn made_bodies_begin_their_blueprint<S: Source, D: Drain, L: Logic, B: PlugBook>()
     ensures are { (b : Blueprint) (ss : List S) (ds : List D) (f : Filled S D L B) (started : List (Kept S D L B)) (e : AllEnds) (bodies : List (Body S D L B)) → HasFewLinks b → (filled : IsFilled b ss ds f) → AllStarted S.state D.state B.lists f.islands.items started
         → AreAllEnds f.lanes.items f.count e → AreAllBodies S.state D.state B.lists started e.ins.items e.outs.items bodies → AreBodiesOf S.state D.state B.lists (graph_of b) f.homes.items f.count (blueprint_wires b) filled.nodes e.crossings.items bodies }
@@ -53,7 +53,7 @@ pub fn made_bodies_begin_their_blueprint<S: Source, D: Drain, L: Logic, B: PlugB
 {}
 
 /// Bodies that go on keep the lanes of their ends (`went`), also where some broke off (`broke`). So at the crossing of each lane still lies
-/// the input end of its wire (`aligned`), and it is there (`lie`). Rule: own.
+/// the input end of its wire (`aligned`), and it is there (`lie`).
 pub fn ends_stay_at_their_crossings<S: Source, D: Drain, L: Logic, B: PlugBook>()
     ensures went { (begun now : List (Body S D L B)) → EachOf BodyGoes begun now → EachOf HaveSameLanes begun now }
     ensures broke { (begun now : List (Body S D L B)) → WholeOrBroken (BodyKeeps S.state D.state B.lists) BodyGoes (BodyBreaks S.state D.state B.lists) begun now → EachOf HaveSameLanes begun now }

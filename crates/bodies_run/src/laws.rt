@@ -34,7 +34,7 @@ use stream_io::outside::{Drain, Source};
 /// The bodies of a blueprint that breaks no rule, of whose sources none had handed out a byte, leave a run of it, wherever they are
 /// between turns once the ends of all lanes were brought together (`run`). The nodes of their islands come back into one list (`back`), and the
 /// run is of those of the blueprint's nodes (`nodes`). No event is left on any wire where no body has one (`still`). What they spent is
-/// below the count of the blueprint's wires over what they were sent, by one for each wire (`most`). Rule: own.
+/// below the count of the blueprint's wires over what they were sent, by one for each wire (`most`).
 pub fn bodies_leave_a_run<S: Source, D: Drain, L: Logic, B: PlugBook>()
     ensures run { (b : Blueprint) (homes : List ℕ) (count : ℕ) (nodes : List (Seated S D L B)) (crossings : List Crossing) (begun now : List (Body S D L B)) (all : ℕ → ℕ) (plugs : List PlugHead) (taken : List (List ℕ)) (ss : List S) (ds : List D) → IsFit b plugs taken → AreSeats (chains_of b) 0 b.nodes.items ss ds nodes → All (λ s. (S.state s).given ≡ 0) ss
         → AreBodiesOf S.state D.state B.lists (graph_of b) homes count (blueprint_wires b) nodes crossings begun → EachOf BodyGoes begun now → AllOf (BodyKeeps S.state D.state B.lists) now → AskedAre now crossings all → AllJoined BodiesJoined now crossings
@@ -51,7 +51,7 @@ pub fn bodies_leave_a_run<S: Source, D: Drain, L: Logic, B: PlugBook>()
 
 /// Bodies of which some broke off leave a run too, with their islands as they were at a last moment between two events (`run`). The nodes
 /// of the islands come back into one list, as they were then and as they are (`back`); the run is of those of the blueprint's nodes as
-/// they were then (`nodes`), and since then each has kept what outlives want of memory (`kept`). Rule: own.
+/// they were then (`nodes`), and since then each has kept what outlives want of memory (`kept`).
 pub fn broken_bodies_leave_a_run<S: Source, D: Drain, L: Logic, B: PlugBook>()
     ensures run { (b : Blueprint) (homes : List ℕ) (count : ℕ) (nodes : List (Seated S D L B)) (crossings : List Crossing) (begun now then : List (Body S D L B)) (all : ℕ → ℕ) (plugs : List PlugHead) (taken : List (List ℕ)) (ss : List S) (ds : List D) → IsFit b plugs taken → AreSeats (chains_of b) 0 b.nodes.items ss ds nodes → All (λ s. (S.state s).given ≡ 0) ss
         → AreBodiesOf S.state D.state B.lists (graph_of b) homes count (blueprint_wires b) nodes crossings begun → WholeOrBroken (BodyKeeps S.state D.state B.lists) BodyGoes (BodyBreaks S.state D.state B.lists) begun now → AreLastOf S.state D.state B.lists begun now then
@@ -67,7 +67,7 @@ pub fn broken_bodies_leave_a_run<S: Source, D: Drain, L: Logic, B: PlugBook>()
 {}
 
 /// A run is one too by an account that says nothing beyond the nodes of the blueprint, which holds lists of them (`run`). It is as still
-/// (`still`), and its picture is the same (`counts`). Rule: own.
+/// (`still`), and its picture is the same (`counts`).
 pub fn nodes_alone_are_a_run<S: Source, D: Drain, L: Logic, B: PlugBook>()
     ensures run { (g : Graph) (a : Account (IslandNode S D L B)) (places : List (Seated S D L B)) (nodes : List (IslandNode S D L B)) → (left : AreLeft places a nodes) → length places ≡ length g.nodes → IsRun S.state D.state B.lists g a
         → IsRun S.state D.state B.lists g (of_lists a left.firsts nodes) }

@@ -1,4 +1,4 @@
--- What the words of the command ask for. Rule: own.
+-- What the words of the command ask for.
 use Rattle.std.specs.Prelude.{ℕ, not, ◌&&◌, nat_le, if◌then◌else◌, List, [], ◌∷◌, length, Option, Some, None, option_map, option_and_then, codes}
 use Rattle.std.specs.Str.{bytes_eq}
 use Rattle.std.specs.Str.Parse.{digits_value}

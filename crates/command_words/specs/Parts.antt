@@ -1,4 +1,4 @@
--- What the words of the command say, in order: options with their values, and files. Rule: own.
+-- What the words of the command say, in order: options with their values, and files.
 use Rattle.std.specs.Prelude.{ℕ, Bool, true, false, ◌==◌, if◌then◌else◌, List, [], ◌∷◌, map, Option, Some, None, option_map, codes}
 use Rattle.std.specs.Str.{bytes_eq}
 

@@ -118,7 +118,7 @@ fn command_of(alloc: Global, choice: &Choice<'_>) -> Result<Command, AllocError>
 }
 
 /// What the words ask for: `(FILE | --gen N) [--workers N] [--turns N] [--trace FILE]`, in any order. Usage comes exactly for
-/// all other words; NoMemory may come in place of either. Rule: own.
+/// all other words; NoMemory may come in place of either.
 pub fn read_words(alloc: Global, words: &[Line]) -> Result<Command, WordsEnd>
     ensures command { IfOk result (λ command. asked_of words.now ≡ Some (asked command)) }
     ensures usage { result ≡ Err WordsEnd.Usage → asked_of words.now ≡ None }

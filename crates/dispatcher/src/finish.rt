@@ -7,7 +7,7 @@ use rounds::crossing::Crossing;
 use rounds::settle::settle;
 use rounds::turning::Turning;
 
-/// What a run leaves. Rule: own.
+/// What a run leaves.
 #[derive(Drop)]
 pub struct Finish<B> {
     /// The bodies, in order.

@@ -14,7 +14,7 @@ use turn_table::rule::Kept;
 use unit_budget::budget::{Budget, BudgetSeat};
 
 /// A body with its seat of the budget, and the units that its turns used. Where memory was wanting in one it is broken, and takes no
-/// turn any more. Rule: own.
+/// turn any more.
 #[derive(Drop)]
 pub struct TablePlace<B: Turning> {
     body: B,

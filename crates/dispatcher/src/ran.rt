@@ -1,7 +1,7 @@
 // The receipt of a run.
 ghost use Rattle.std.specs.Prelude.{◌≡◌};
 
-/// The receipt of a run, which `run` alone makes. Rule: own.
+/// The receipt of a run, which `run` alone makes.
 #[derive(Clone, Copy, PartialEq, Eq)]
 pub struct Ran {
     pub(crate) workers: u32,

@@ -135,7 +135,7 @@ fn run_workers<B: Waking + Send, R: Threads + Wait + Sync>(
 /// turn of at most 1000 units, until it finds none; what is left the caller's thread does, in rounds, and it does all of it where there
 /// is one worker or one body at most. Where no thread can be made the caller's thread works. Where memory was wanting all bodies come
 /// back, in order, each whole or broken off in a turn, and the ends of all lanes are brought together too. That their number is out of
-/// 32 bits is want of memory. Rule: own.
+/// 32 bits is want of memory.
 pub fn run<B: Waking + Send, R: Threads + Wait + Sync>(
     rt: &R,
     alloc: Global,

@@ -1,7 +1,7 @@
 // What the workers ask of a body.
 use rounds::turning::Turning;
 
-/// A body that tells which islands are to be woken. Rule: own.
+/// A body that tells which islands are to be woken.
 pub trait Waking: Turning {
     /// The islands to which its last turn has something to tell: an ask, a cancel, an item or an end. By place of their bodies.
     fn wakes(&self) -> &[u32];

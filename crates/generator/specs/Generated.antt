@@ -1,4 +1,4 @@
--- What the generator leaves: the lines are written first, and then the blueprint. Rule: own.
+-- What the generator leaves: the lines are written first, and then the blueprint.
 use Rattle.std.specs.Prelude.{◌≡◌, ◌≢◌, ℕ, ◌⊎◌, IsTrue, List, Some}
 use Rattle.stream_io.specs.Counts.{Rose}
 use Rattle.stream_io.specs.State.{FolderState}

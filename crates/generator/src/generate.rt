@@ -41,7 +41,7 @@ fn line_of(alloc: Global, name: &[u8]) -> Result<Line, AllocError>
 }
 
 /// Writes `gen.txt` with n lines, 1 to 10,000,000, and then `gen.blue` with a blueprint that reads them. Where it ends before, each
-/// of the two files is as before or holds a first part of its text. It leaves as many open handles as there were. Rule: own.
+/// of the two files is as before or holds a first part of its text. It leaves as many open handles as there were.
 pub fn generate<F: Folder>(alloc: Global, folder: &mut F, n: u32) -> Result<(), GenerateEnd>
     ensures ok { OnOk result (Generates (F.state folder.old) (F.state folder.new) n) }
     ensures missing { (name : List ℕ) → result ≡ Err (GenerateEnd.Missing name) → MissesFile (F.state folder.old) (F.state folder.new) n name }

@@ -12,7 +12,7 @@ use plug_logic::logic::Logic;
 use stream_io::outside::{Drain, Source};
 
 /// Where the islands of a blueprint are taken apart as they start, what they hand back are handles in order of the nodes (`are`), each as
-/// it was handed in (`same`). Rule: own.
+/// it was handed in (`same`).
 pub fn unmade_islands_hand_back<S: Source, D: Drain, L: Logic, B: PlugBook>()
     ensures are { (b : Blueprint) (ss : List S) (ds : List D) (f : Filled S D L B) (ends : List (IslandEnd S D)) → IsFilled b ss ds f → AllGiveBack S.state D.state f.islands.items ends → (readers : List S) × ((writers : List D) × AreHandlesOf f.ends readers writers ends) }
     ensures same { (b : Blueprint) (ss : List S) (ds : List D) (f : Filled S D L B) (ends : List (IslandEnd S D)) (readers : List S) (writers : List D) → IsFilled b ss ds f → AllGiveBack S.state D.state f.islands.items ends → AreHandlesOf f.ends readers writers ends

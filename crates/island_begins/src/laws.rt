@@ -28,14 +28,14 @@ use plug_logic::logic::Logic;
 use stream_io::outside::{Drain, Source};
 
 /// An island of a blueprint that has started, and those ends of lanes that are its own, as they were made, are fit to be a body: each end
-/// stands at a stage and at a connection of its own, and nothing has passed there. Rule: own.
+/// stands at a stage and at a connection of its own, and nothing has passed there.
 pub fn an_island_begins_a_body<S: Source, D: Drain, L: Logic, B: PlugBook>()
     ensures { (homes : List ℕ) (count : ℕ) (ws : List Edge) (nodes : List (Seated S D L B)) (k : ℕ) (x : Parts S D L B) (i : Kept S D L B) (e : AllEnds) → AreSeated homes count ws nodes → ArePartsOf homes ws nodes k x → HasStarted S.state D.state B.lists x i → AreAllEnds (lanes_from homes 0 ws) count e
         → BodyBegins i (items_at e.ins.items k) (items_at e.outs.items k) }
 {}
 
 /// The bodies that were made of a blueprint's islands and of the ends of all its lanes are its bodies as they begin (`begun`), and the
-/// crossings at which those ends lie are its lanes (`lanes`). Rule: own.
+/// crossings at which those ends lie are its lanes (`lanes`).
 pub fn made_bodies_are_of_their_blueprint<S: Source, D: Drain, L: Logic, B: PlugBook>()
     ensures begun { (homes : List ℕ) (count : ℕ) (ws : List Edge) (nodes : List (Seated S D L B)) (e : AllEnds) (bodies : List (Body S D L B)) → AreSeated homes count ws nodes → AreAllEnds (lanes_from homes 0 ws) count e → AreMadeOf S.state D.state B.lists homes ws nodes count e bodies
         → AreBegun S.state D.state B.lists homes count ws nodes bodies }
@@ -45,7 +45,7 @@ pub fn made_bodies_are_of_their_blueprint<S: Source, D: Drain, L: Logic, B: Plug
 
 /// Plans of the islands of a blueprint have few links (`few`); each wire begins in one of them (`homes`); both ends of each lane can be
 /// made (`lanes`), and the lanes are in the order of their wires (`rise`). Where links are few, the nodes of its islands that hold their handles are seated (`seated`); they are
-/// those of its graph (`graph`), and its islands have the parts of them (`parts`). Rule: own.
+/// those of its graph (`graph`), and its islands have the parts of them (`parts`).
 pub fn filled_islands_are_seated<S: Source, D: Drain, L: Logic, B: PlugBook>()
     ensures few { (p : Plans S D L B) → IsPlans p → HasFewLinks p.blueprint.value }
     ensures seated { (b : Blueprint) (ss : List S) (ds : List D) (f : Filled S D L B) → HasFewLinks b → (filled : IsFilled b ss ds f) → AreSeated f.homes.items f.count (blueprint_wires b) filled.nodes }

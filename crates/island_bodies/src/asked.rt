@@ -15,7 +15,7 @@ use stream_model::outcome::WireCount;
 use traversal::plan::LanePlan;
 
 /// Of each lane how many elements its input end has asked for in all: `crossings` says where its two ends lie. `all` is empty and has
-/// room for each: it takes no memory. Rule: own.
+/// room for each: it takes no memory.
 pub fn asked_of<S: Source, D: Drain, L: Logic, B: PlugBook>(
     bodies: &[Body<S, D, L, B>],
     crossings: &[Crossing],
@@ -45,7 +45,7 @@ fn asked_at<S: Source, D: Drain, L: Logic, B: PlugBook>(
 }
 
 /// Notes of each lane, at the count of its wire, whether more elements were asked for in all than were sent: `all` says how many were.
-/// The counts of other wires stay. It takes no memory. Rule: own.
+/// The counts of other wires stay. It takes no memory.
 pub fn note_asked(all: &[u64], lanes: &[LanePlan], counts: &mut [WireCount])
     requires many { length all.now ≡ length lanes.now }
     requires within { AreWithin (length counts.old) lanes.now }

@@ -17,7 +17,7 @@ use std::vec::IntoIter;
 use stream_io::outside::{Drain, Source};
 
 /// Makes the bodies of these islands, in their order, each with the ends of its lanes, with its blank table, and with the islands at the
-/// other ends of its lanes. Each end has then done what it has to do at the start. `bodies` is empty and has room for all: it takes no memory, and no unit. Rule: own.
+/// other ends of its lanes. Each end has then done what it has to do at the start. `bodies` is empty and has room for all: it takes no memory, and no unit.
 pub fn make_all<S: Source, D: Drain, L: Logic, B: PlugBook>(
     islands: Vec<Island<S, D, L, B>>,
     ins: Vec<Vec<IslandInput>>,
@@ -61,7 +61,7 @@ fn first<T>(rest: &mut IntoIter<T, Global>) -> T
 }
 
 /// Takes these bodies apart: what the island of each leaves, in their order. `ends` is empty and has room for all: it takes no memory,
-/// also after a turn that answered `NoMemory`. Rule: own.
+/// also after a turn that answered `NoMemory`.
 pub fn finish_all<S: Source, D: Drain, L: Logic, B: PlugBook>(
     bodies: Vec<Body<S, D, L, B>>,
     ends: Vec<IslandEnd<S, D>>,

@@ -13,7 +13,6 @@ use std::alloc::Global;
 use traversal::plan::LanePlan;
 
 /// Of each of so many islands those at the other ends of its lanes, in the order of lanes. It takes time n + count for n lanes.
-/// Rule: own.
 pub fn peers_of(alloc: Global, lanes: &[LanePlan], count: usize) -> Result<Vec<Peers>, NoMemory>
     requires { CanAllBeMade count lanes.now }
     ensures { IfOk result (λ peers. ArePeers lanes.now count peers.items) }

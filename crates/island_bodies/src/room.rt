@@ -32,7 +32,7 @@ pub struct BodyRoom<S: Source, D: Drain, L: Logic, B: PlugBook> {
 
 impl<S: Source, D: Drain, L: Logic, B: PlugBook> BodyRoom<S, D, L, B> {
     /// The room for the bodies of so many islands, and for their ends. `wires` is of each wire the island in which it begins: there is
-    /// one connection for each wire, and one more for each lane, in the island that it leads to. Rule: own.
+    /// one connection for each wire, and one more for each lane, in the island that it leads to.
     pub fn of(
         alloc: Global,
         wires: &[usize],

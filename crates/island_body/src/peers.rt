@@ -8,7 +8,7 @@ use elem_core::why::NoMemory;
 use std::alloc::Global;
 use std::cmp::max;
 
-/// The islands at the other ends of the lanes of an island, in the order of its ends, and which of them are to be woken. Rule: own.
+/// The islands at the other ends of the lanes of an island, in the order of its ends, and which of them are to be woken.
 #[derive(Drop)]
 pub struct Peers {
     pub(crate) ins: Vec<u32>,

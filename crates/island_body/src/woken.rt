@@ -6,7 +6,7 @@ use elem_core::why::NoMemory;
 use std::alloc::Global;
 use std::marker::Model;
 
-/// The islands that are to be woken, each once. Rule: own.
+/// The islands that are to be woken, each once.
 #[derive(Drop)]
 pub struct Woken {
     islands: Vec<u32>,

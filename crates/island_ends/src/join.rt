@@ -12,7 +12,7 @@ use scatter::shares::gather;
 use stream_io::outside::{Drain, Source};
 
 /// Brings the ends of all islands, in their order, back into one: each list is in order of the blueprint's nodes, and the counts
-/// are those at the outputs of its wires, in their order. It takes no memory. Rule: own.
+/// are those at the outputs of its wires, in their order. It takes no memory.
 pub fn join_ends<S: Source, D: Drain, L: Logic, B: PlugBook>(
     ends: Vec<IslandEnd<S, D>>,
     homes: &EndHomes,
@@ -36,7 +36,7 @@ pub fn join_ends<S: Source, D: Drain, L: Logic, B: PlugBook>(
 }
 
 /// Brings the handles of all islands, whose ends stand in their order, back into one end: each list is in order of the blueprint's nodes,
-/// and the end lists nothing else. It takes no memory. Rule: own.
+/// and the end lists nothing else. It takes no memory.
 pub fn join_handles<S: Source, D: Drain>(
     ends: Vec<IslandEnd<S, D>>,
     homes: &EndHomes,

@@ -53,7 +53,7 @@ fn empty_end<S: Source, D: Drain>(
 }
 
 impl<S: Source, D: Drain> EndRoom<S, D> {
-    /// The room for the ends of so many islands, which leave what has these homes. Rule: own.
+    /// The room for the ends of so many islands, which leave what has these homes.
     pub fn of(alloc: Global, homes: &EndHomes, count: usize) -> Result<EndRoom<S, D>, NoMemory>
         requires { All (λ h. h < count) homes.now.wires.items }
         ensures { IfOk result (IsRoomFor homes.now count) }

@@ -42,7 +42,6 @@ fn sum(a: usize, b: usize) -> Result<usize, NoMemory>
 }
 
 /// The islands of these nodes, of which each has one of so many homes, where these wires join them, and these of them have a lane.
-/// Rule: own.
 pub fn split_of<S: Source, D: Drain, L: Logic, B: PlugBook>(
     alloc: Global,
     nodes: Vec<Place>,
@@ -112,7 +111,7 @@ fn join_lists<S: Source, D: Drain, L: Logic, B: PlugBook>(
 }
 
 /// The parts and the room of each island, in order, once all places are there, those of nodes first, then those where lanes come
-/// in, then those where they go out. It takes no memory. Rule: own.
+/// in, then those where they go out. It takes no memory.
 pub fn join<S: Source, D: Drain, L: Logic, B: PlugBook>(
     split: Split<S, D, L, B>,
     seats: Vec<Seated<S, D, L, B>>,

@@ -28,7 +28,7 @@ pub enum EndList {
     Writers,
 }
 
-/// Whether a node leaves an item in this list of its island's end. It takes no memory. Rule: own.
+/// Whether a node leaves an item in this list of its island's end. It takes no memory.
 pub fn leaves_in(list: EndList, node: &Node) -> bool
     ensures { result ≡ leaves_in list node.now }
 {
@@ -84,7 +84,7 @@ fn wire_homes(
 }
 
 /// The islands whose ends list what these nodes and wires leave, where the nodes have these islands. It takes memory for a number
-/// of each. Rule: own.
+/// of each.
 pub fn end_homes(
     alloc: Global,
     nodes: &[Node],

@@ -9,7 +9,7 @@ use std::alloc::Global;
 use traversal::classes::{fused_links, labels_of};
 use traversal::homes::{Homes, homes_of};
 
-/// The islands of so many nodes that these wires join, numbered by the least node of each. Rule: own.
+/// The islands of so many nodes that these wires join, numbered by the least node of each.
 pub fn homes_of_links(
     alloc: Global,
     nodes: usize,

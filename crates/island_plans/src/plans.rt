@@ -30,7 +30,7 @@ use switch_board::board::Board;
 use traversal::lanes::lanes_of;
 use traversal::plan::LanePlan;
 
-/// The islands of a blueprint, but for their handles: all that they take of memory before its files are opened. Rule: own.
+/// The islands of a blueprint, but for their handles: all that they take of memory before its files are opened.
 #[derive(Drop)]
 pub struct Plans<S: Source, D: Drain, L: Logic, B: PlugBook> {
     seats: Vec<Seat<S, D, L, B>>,
@@ -50,7 +50,7 @@ pub struct Plans<S: Source, D: Drain, L: Logic, B: PlugBook> {
     pub board: Board,
 }
 
-/// The islands of a blueprint, whose nodes hold their handles. Rule: own.
+/// The islands of a blueprint, whose nodes hold their handles.
 #[derive(Drop)]
 pub struct Filled<S: Source, D: Drain, L: Logic, B: PlugBook> {
     /// The parts of each island, and the room that it takes.
@@ -81,7 +81,7 @@ fn all_places(nodes: usize, lanes: usize) -> Result<usize, NoMemory>
 }
 
 /// The plans of the islands of a blueprint. They take all memory that islands want before their nodes hold their handles; a number
-/// that is out of 32 bits is want of memory. Rule: own.
+/// that is out of 32 bits is want of memory.
 pub fn plans_of<S: Source, D: Drain, L: Logic, B: PlugBook>(
     alloc: Global,
     b: Blueprint,
@@ -124,7 +124,7 @@ pub fn plans_of<S: Source, D: Drain, L: Logic, B: PlugBook>(
 impl<S: Source, D: Drain, L: Logic, B: PlugBook> Plans<S, D, L, B> {
     /// The parts and the room of each island: the nodes at their places, the ends of lanes at the places behind them, and the links
     /// of the wires, where each lane is cut. In the order of nodes, each source of lines reads the next of `sources`, and each sink
-    /// with a file writes the next of `drains`. It takes no memory. Rule: own.
+    /// with a file writes the next of `drains`. It takes no memory.
     pub fn fill(self, alloc: Global, sources: Vec<S>, drains: Vec<D>) -> Filled<S, D, L, B>
         requires plans { IsPlans self }
         requires sources { vec_len sources ≡ length (inputs_of_nodes self.blueprint.value.nodes.items) }

@@ -21,7 +21,7 @@ use stream_io::outside::{Drain, Source};
 use stream_model::outcome::WireCount;
 
 /// The islands of a blueprint, before its files are opened, with all that their run takes of memory but what their nodes want as they
-/// start and run. Rule: own.
+/// start and run.
 #[derive(Drop)]
 pub struct Prepared<S: Source, D: Drain, L: Logic, B: PlugBook> {
     pub(crate) plans: Plans<S, D, L, B>,
@@ -39,7 +39,7 @@ pub struct Prepared<S: Source, D: Drain, L: Logic, B: PlugBook> {
 }
 
 /// Takes all memory that the run of a blueprint's islands wants before its files are opened, and hands each node that names a plug its
-/// own of `plugs`. A number that is out of 32 bits is want of memory. Rule: own.
+/// own of `plugs`. A number that is out of 32 bits is want of memory.
 pub fn prepare<S: Source, D: Drain, L: Logic, B: PlugBook>(
     alloc: Global,
     b: Blueprint,

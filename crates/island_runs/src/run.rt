@@ -284,7 +284,7 @@ fn run_bodies<
 
 /// Lets so many workers, 1 to 64, run the islands of a blueprint over its open files, of which nothing was read, by at most `budget` units:
 /// turns of at most 1000 units, until no island has an event or all units are used. It is taken apart then. In the order of nodes, each
-/// source of lines reads the next of `sources`, and each sink with a file writes the next of `drains`. Rule: own.
+/// source of lines reads the next of `sources`, and each sink with a file writes the next of `drains`.
 pub fn run<
     S: Source + Send,
     D: Drain + Send,

@@ -20,7 +20,7 @@ use plug_logic::logic::Logic;
 use stream_io::outside::{Drain, Source};
 
 /// The nets of the islands of a blueprint cover its graph (`covers`), and each of their connections is one of a wire's (`owned`). Nets
-/// that went on are nets of the same islands (`on`). Rule: own.
+/// that went on are nets of the same islands (`on`).
 pub fn islands_cover_their_blueprint<S: Source, D: Drain, L: Logic, B: PlugBook>()
     ensures covers { (g : Graph) (homes : List ℕ) (count : ℕ) (ws : List Edge) (nodes : List (Seated S D L B)) (nets : ℕ → Net (IslandNode S D L B)) → AreSeated homes count ws nodes → IsGraphOf g ws nodes → AreNets homes ws nodes count nets
         → Covers g nets (seats_of homes ws) }
@@ -32,7 +32,7 @@ pub fn islands_cover_their_blueprint<S: Source, D: Drain, L: Logic, B: PlugBook>
 
 /// Each lane goes out at its connection in the island of its output, and comes in at that in the island of its input (`ways`). No
 /// other connection is at the end of a lane (`only_out`, `only_in`), and none is at two (`apart`). The connections of each wire are in
-/// islands that are there (`islands`). Rule: own.
+/// islands that are there (`islands`).
 pub fn lanes_have_ways<S: Source, D: Drain, L: Logic, B: PlugBook>()
     ensures ways { (homes : List ℕ) (count : ℕ) (ws : List Edge) (nodes : List (Seated S D L B)) (u : ℕ) (v : Edge) (size : ℕ) → AreSeated homes count ws nodes → slice_get ws u ≡ Some v → v.lane ≡ Some size
         → HasWays homes ws nodes u v }
@@ -49,7 +49,7 @@ pub fn lanes_have_ways<S: Source, D: Drain, L: Logic, B: PlugBook>()
 /// The islands of all places are islands of nodes (`below`), and the net of an island has a node for each place of it (`counts`).
 /// Each node of a blueprint begins in its island as what was handed in for it (`first`). Where those at which the nodes of all islands
 /// began are brought back into one list, those of the blueprint's nodes are what was handed in for them (`became`), and the others
-/// are the stages at which lanes come in, and then go out (`ends_became`). Rule: own.
+/// are the stages at which lanes come in, and then go out (`ends_became`).
 pub fn islands_hold_nodes<S: Source, D: Drain, L: Logic, B: PlugBook>()
     ensures below { (homes : List ℕ) (count : ℕ) (ws : List Edge) (nodes : List (Seated S D L B)) → AreSeated homes count ws nodes → All (λ h. h < count) (place_homes homes ws) }
     ensures counts { (homes : List ℕ) (count : ℕ) (ws : List Edge) (nodes : List (Seated S D L B)) (nets : ℕ → Net (IslandNode S D L B)) (k : ℕ) → AreSeated homes count ws nodes → AreNets homes ws nodes count nets → k < count
@@ -62,7 +62,7 @@ pub fn islands_hold_nodes<S: Source, D: Drain, L: Logic, B: PlugBook>()
         → AreBroughtBack homes count ws (λ k. (nets k).firsts) all ends → AllBecome (map in_seat (lanes_from homes 0 ws) ++ map out_seat (lanes_from homes 0 ws)) ends }
 {}
 
-/// Lists with an item for each place of the islands can be brought back into one (`back`), and into one alone (`one`). Rule: own.
+/// Lists with an item for each place of the islands can be brought back into one (`back`), and into one alone (`one`).
 pub fn lists_come_back<S: Source, D: Drain, L: Logic, B: PlugBook, T>()
     ensures back { (homes : List ℕ) (count : ℕ) (ws : List Edge) (nodes : List (Seated S D L B)) (lists : ℕ → List T) → AreSeated homes count ws nodes
         → ((k : ℕ) → k < count → length (lists k) ≡ count_of k (place_homes homes ws)) → (all : List T) × ((ends : List T) × AreBroughtBack homes count ws lists all ends) }
@@ -70,7 +70,7 @@ pub fn lists_come_back<S: Source, D: Drain, L: Logic, B: PlugBook, T>()
         → length xs ≡ length (place_homes homes ws) → ((k : ℕ) → k < count → of_home (place_homes homes ws) k xs ≡ lists k) → xs ≡ all ++ ends }
 {}
 
-/// What is read off each item of lists that come back into one comes back with it. Rule: own.
+/// What is read off each item of lists that come back into one comes back with it.
 pub fn maps_come_back<T, U>()
     ensures { (homes : List ℕ) (count : ℕ) (ws : List Edge) (f : T → U) (lists : ℕ → List T) (all : List T) (ends : List T) → AreBroughtBack homes count ws lists all ends → AreBroughtBack homes count ws (λ k. map f (lists k)) (map f all) (map f ends) }
 {}

@@ -14,7 +14,7 @@ use stream_io::outside::{Drain, Source};
 
 /// Starts the islands of these parts, in order, each in the room that was taken for it. Where memory was wanting all are taken apart,
 /// those that had started and those that had not: what each leaves stands in order, with its handles as they were handed in. `started`
-/// and `ends` are empty and have room for all islands, so only a node may want memory. Rule: own.
+/// and `ends` are empty and have room for all islands, so only a node may want memory.
 pub fn start_all<S: Source, D: Drain, L: Logic, B: PlugBook>(
     alloc: Global,
     islands: Vec<(Parts<S, D, L, B>, IslandRoom<S, D, L, B>)>,

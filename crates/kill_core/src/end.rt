@@ -3,7 +3,7 @@ use crate::seat::SwitchSeat;
 use crate::switch::Switch;
 use std::sync::Arc;
 
-/// What a trip or a valve has of its switch. Rule: own.
+/// What a trip or a valve has of its switch.
 #[derive(Drop)]
 pub struct SwitchEnd {
     /// The switch, which others share.

@@ -7,7 +7,7 @@ use atomic_table::Seat;
 use std::marker::Model;
 
 /// The right to step on a switch, of one of its trips or valves. It has no bytes. Contracts see which switch it is of, the
-/// order that it gave, the one that it knows, and how often it looked. Rule: own.
+/// order that it gave, the one that it knows, and how often it looked.
 #[derive(Drop)]
 pub struct SwitchSeat {
     pub(crate) seat: Seat<(), Known>,

@@ -14,7 +14,7 @@ use std::alloc::{AllocError, Global};
 use std::marker::Model;
 
 /// A kill switch: one word, which is 0, or 1 for Shutdown or 2 for Abort once that was ordered. Contracts see its identity
-/// and the number of its seats. Rule: own.
+/// and the number of its seats.
 #[derive(Drop)]
 pub struct Switch {
     table: Table<(), Known, u64, OnceOrdered, Global>,
@@ -34,7 +34,7 @@ impl Model for Switch {
 }
 
 impl Switch {
-    /// A switch without an order, and so many seats, which gave and know nothing. No other call takes memory. Rule: own.
+    /// A switch without an order, and so many seats, which gave and know nothing. No other call takes memory.
     pub fn new(alloc: Global, seats: u32) -> Result<(Switch, Vec<SwitchSeat>), AllocError>
         requires some { 0 < seats }
         ensures seats { IfOk result (λ r. (r.0.seats ≡ seats) × (vec_len r.1 ≡ seats) × All (IsNewSeat r.0) r.1.items) }
@@ -68,7 +68,7 @@ impl Switch {
     }
 
     /// Orders a shutdown, unless an order stands. The order that stands: this one exactly where none stood before, and then
-    /// this seat gave it. One step; it waits for nobody. Rule: own.
+    /// this seat gave it. One step; it waits for nobody.
     pub fn shutdown(&self, seat: &mut SwitchSeat) -> Order
         requires { IsSeatOf self.now seat.old }
         ensures { Answers Shutdown result seat.old seat.new }
@@ -76,7 +76,7 @@ impl Switch {
         self.give(&mut seat.seat, Order::Shutdown)
     }
 
-    /// Orders an abort, unless an order stands, and answers as `shutdown` does. One step; it waits for nobody. Rule: own.
+    /// Orders an abort, unless an order stands, and answers as `shutdown` does. One step; it waits for nobody.
     pub fn abort(&self, seat: &mut SwitchSeat) -> Order
         requires { IsSeatOf self.now seat.old }
         ensures { Answers Abort result seat.old seat.new }
@@ -99,7 +99,7 @@ impl Switch {
         }
     }
 
-    /// The order that stands, if one does. One step; it waits for nobody. Rule: own.
+    /// The order that stands, if one does. One step; it waits for nobody.
     pub fn look(&self, seat: &mut SwitchSeat) -> Option<Order>
         requires { IsSeatOf self.now seat.old }
         ensures seat { (seat.new.switch ≡ seat.old.switch) × (seat.new.gave ≡ seat.old.gave) × (seat.new.looks ≡ seat.old.looks + 1) }
@@ -110,7 +110,7 @@ impl Switch {
     }
 
     /// The order that stands, if one does, once all seats are put together: each order that one of them knew is this one, and one of
-    /// them gave it. It takes no memory. Rule: own.
+    /// them gave it. It takes no memory.
     pub fn settle(&self, seats: Vec<SwitchSeat>) -> Option<Order>
         requires all { vec_len seats ≡ self.now.seats }
         requires some { 0 < self.now.seats }

@@ -12,7 +12,7 @@ use std::alloc::{AllocError, Global};
 use std::sync::Arc;
 
 /// The two ends of a lane of that many elements, from 1 to 1024, with nothing asked, sent or taken. All its places are made here, and
-/// no other call on an end takes memory or waits. Rule: own.
+/// no other call on an end takes memory or waits.
 pub fn lane(alloc: Global, size: u32) -> Result<(LaneOut, LaneIn), AllocError>
     requires { (1 ≤ size) × (size ≤ 1024) }
     ensures { IfOk result (λ r. AreOneLane r.0 r.1 × (out_size r.0 ≡ size) × (in_size r.1 ≡ size) × (sent r.0 ≡ []) × (has_ended r.0 ≡ false) × (seen r.0 ≡ 0) × (saw_cancel r.0 ≡ 0) × (finds r.0 ≡ 0) × (taken r.1 ≡ []) × (asked r.1 ≡ 0) × (asks r.1 ≡ 0) × (has_cancelled r.1 ≡ 0)) }
@@ -32,7 +32,7 @@ pub fn lane(alloc: Global, size: u32) -> Result<(LaneOut, LaneIn), AllocError>
 
 /// Brings the two ends of a lane together, and says what one did that the other has not seen. From then on the caller knows what holds
 /// of both, and the next look of each end finds what waits. Nothing that an end keeps changes, but what the output end has learnt of all
-/// that was asked. It takes no memory. Rule: own.
+/// that was asked. It takes no memory.
 pub fn meet(out: &mut LaneOut, inp: &mut LaneIn) -> Result<Waits, AllocError>
     requires { AreOneLane out.old inp.old }
     ensures out { IsSameOut out.old out.new × (sent out.new ≡ sent out.old) × (has_ended out.new ≡ has_ended out.old) × (seen out.new ≡ seen out.old) × (saw_cancel out.new ≡ saw_cancel out.old) × (finds out.new ≡ finds out.old) × (out_looks out.new ≡ out_looks out.old) }

@@ -76,7 +76,7 @@ impl LaneIn {
     }
 
     /// Takes the next item. `None` comes only where, when it looked, all that was sent had been taken;
-    /// each call looks once. It takes no memory. Rule: own.
+    /// each call looks once. It takes no memory.
     pub fn take(&mut self) -> Option<Item>
         ensures lane { IsSameIn self.old self.new × (asked self.new ≡ asked self.old) × (asks self.new ≡ asks self.old) × (has_cancelled self.new ≡ has_cancelled self.old) }
         ensures looks { in_looks self.new ≡ in_looks self.old + 1 }
@@ -93,7 +93,6 @@ impl LaneIn {
     }
 
     /// Asks for n more elements: at most as many as have a place beside those that were asked for and not taken. It takes no memory.
-    /// Rule: own.
     pub fn ask(&mut self, n: u64)
         requires { (1 ≤ n) × (asked self.old + n ≤ elements (taken self.old) + in_size self.old) × (asked self.old + n < 2 ^ 62) × (has_cancelled self.old ≡ 0) }
         ensures lane { IsSameIn self.old self.new × (taken self.new ≡ taken self.old) × (has_cancelled self.new ≡ 0) }
@@ -106,7 +105,7 @@ impl LaneIn {
         self.asked += n;
     }
 
-    /// Tells the other end that no more is wanted. It takes no memory. Rule: own.
+    /// Tells the other end that no more is wanted. It takes no memory.
     pub fn cancel(&mut self)
         requires { has_cancelled self.old ≡ 0 }
         ensures lane { IsSameIn self.old self.new × (taken self.new ≡ taken self.old) × (asked self.new ≡ asked self.old) × (asks self.new ≡ asks self.old) }

@@ -120,7 +120,7 @@ impl LaneOut {
     }
 
     /// Looks how many elements were asked for and not sent, or whether the input end cancelled. Each call looks
-    /// once. It takes no memory. Rule: own.
+    /// once. It takes no memory.
     pub fn room(&mut self) -> Room
         ensures lane { IsSameOut self.old self.new × (sent self.new ≡ sent self.old) × (has_ended self.new ≡ has_ended self.old) }
         ensures later { (learnt self.new ≡ seen self.new) × (seen self.old ≤ seen self.new) × (saw_cancel self.old ≤ saw_cancel self.new) }
@@ -139,7 +139,7 @@ impl LaneOut {
         }
     }
 
-    /// Sends an item. An element comes back where all demand that was seen is used; an end needs no demand. It takes no memory. Rule: own.
+    /// Sends an item. An element comes back where all demand that was seen is used; an end needs no demand. It takes no memory.
     pub fn offer(&mut self, item: Item) -> Result<(), Item>
         requires { (has_ended self.old ≡ false) × (saw_cancel self.old ≡ 0) }
         ensures lane { IsSameOut self.old self.new × (seen self.new ≡ seen self.old) × (saw_cancel self.new ≡ saw_cancel self.old) × (finds self.new ≡ finds self.old) × (out_looks self.new ≡ out_looks self.old) × (learnt self.new ≡ learnt self.old) }

@@ -25,21 +25,21 @@ use plug_logic::logic::Logic;
 use stream_io::outside::{Drain, Source};
 
 /// The asks that the input ends of all lanes tell are those of an account (`are`), by the numbers of their wires; ends that are there
-/// have such (`some`). The wires of lanes are within the counts of all wires (`within`). Rule: own.
+/// have such (`some`). The wires of lanes are within the counts of all wires (`within`).
 pub fn told_asks_are_those_of_lanes<S: Source, D: Drain, L: Logic, B: PlugBook>()
     ensures are { (lanes : List LanePlan) (crossings : List Crossing) (bodies : List (Body S D L B)) (all : List ℕ) → length crossings ≡ length lanes → AreRising lanes → AreAligned lanes crossings bodies → AreAsked bodies crossings all → AskedAre bodies crossings (asked_by lanes all) }
     ensures some { (crossings : List Crossing) (bodies : List (Body S D L B)) → LieThere bodies crossings → (all : List ℕ) × AreAsked bodies crossings all }
     ensures within { (homes : List ℕ) (b : Blueprint) → AreWithin (length (blueprint_wires b)) (lanes_from homes 0 (blueprint_wires b)) }
 {}
 
-/// Where the asks of lanes are noted at what the wires are told to have carried, that is the picture of the account. Rule: own.
+/// Where the asks of lanes are noted at what the wires are told to have carried, that is the picture of the account.
 pub fn noted_counts_are_the_picture<S: Source, D: Drain, L: Logic, B: PlugBook>()
     ensures { (b : Blueprint) (homes : List ℕ) (now : List (Body S D L B)) (all : List ℕ) (counts : List WireCount) → length all ≡ length (lanes_from homes 0 (blueprint_wires b))
         → AreNoted all (lanes_from homes 0 (blueprint_wires b)) (map (λ (w : ℕ × WireCount). w.1) (told_from (account_in homes (blueprint_wires b) now (asked_by (lanes_from homes 0 (blueprint_wires b)) all)).near 0 (blueprint_wires b))) counts
         → counts ≡ counts_of (account_in homes (blueprint_wires b) now (asked_by (lanes_from homes 0 (blueprint_wires b)) all)) (graph_of b) }
 {}
 
-/// Each element that was pushed on a wire took a unit that the bodies spent, that of the ask before it. Rule: own.
+/// Each element that was pushed on a wire took a unit that the bodies spent, that of the ask before it.
 pub fn bodies_spent_what_was_sent<S: Source, D: Drain, L: Logic, B: PlugBook>()
     ensures { (b : Blueprint) (homes : List ℕ) (count : ℕ) (nodes : List (Seated S D L B)) (crossings : List Crossing) (begun now : List (Body S D L B)) (all : ℕ → ℕ) → AreBodiesOf S.state D.state B.lists (graph_of b) homes count (blueprint_wires b) nodes crossings begun → EachOf BodyGoes begun now → AllOf (BodyKeeps S.state D.state B.lists) now
         → all_sent (counts_of (account_in homes (blueprint_wires b) now all) (graph_of b)) ≤ sum_by (λ b. b.spent) now }

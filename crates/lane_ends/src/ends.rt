@@ -13,7 +13,7 @@ use rounds::crossing::Crossing;
 use std::alloc::Global;
 use traversal::plan::LanePlan;
 
-/// Both ends of every lane of a blueprint. Rule: own.
+/// Both ends of every lane of a blueprint.
 #[derive(Drop)]
 pub struct AllEnds {
     /// Of each island the ends that take, in the order of lanes.
@@ -25,7 +25,7 @@ pub struct AllEnds {
 }
 
 /// Makes both ends of every lane of a blueprint of so many islands, and the boundaries there. Each takes its memory here; nothing has
-/// passed, and each input has asked for as many elements as its lane has places. It takes time n + count for n lanes. Rule: own.
+/// passed, and each input has asked for as many elements as its lane has places. It takes time n + count for n lanes.
 pub fn ends_of(alloc: Global, lanes: &[LanePlan], count: usize) -> Result<AllEnds, NoMemory>
     requires can { CanAllBeMade count lanes.now }
     requires order { AreRising lanes.now }

@@ -6,7 +6,7 @@ ghost use Rattle.lane_meet.specs.Pairs.{MayMeetAt, MetAt};
 use lane_core::room::Waits;
 use std::alloc::AllocError;
 
-/// A value that has ends of lanes, some that send and some that take, each in an order. Rule: own.
+/// A value that has ends of lanes, some that send and some that take, each in an order.
 pub trait Meet: Drop {
     ghost may_meet: { Self → ℕ → Self → ℕ → Type 0 };
 
@@ -77,7 +77,7 @@ fn meet_alone<B: Meet>(
 }
 
 /// Brings together output end `out` of the value at `from` and input end `inp` of the one at `to`, which may be the same. No other
-/// value is touched. It takes no memory. Rule: own.
+/// value is touched. It takes no memory.
 pub fn meet_at<B: Meet>(
     all: &mut [B],
     from: usize,

@@ -12,7 +12,7 @@ use elem_core::why::NoMemory;
 use std::alloc::Global;
 use stream_model::kind::Kind;
 
-/// The file that a source reads. Rule: own.
+/// The file that a source reads.
 pub fn input_of(kind: &Kind) -> Option<&Line>
     ensures { option_map (λ l. l.now) result ≡ input_of kind.now }
 {
@@ -22,7 +22,7 @@ pub fn input_of(kind: &Kind) -> Option<&Line>
     }
 }
 
-/// The file that a sink writes. Rule: own.
+/// The file that a sink writes.
 pub fn output_of(kind: &Kind) -> Option<&Line>
     ensures { option_map (λ l. l.now) result ≡ output_of kind.now }
 {
@@ -32,7 +32,7 @@ pub fn output_of(kind: &Kind) -> Option<&Line>
     }
 }
 
-/// Whether a node has no output. Rule: own.
+/// Whether a node has no output.
 pub fn is_sink(node: &Node) -> bool
     ensures { result ≡ is_sink node.now }
 {
@@ -91,28 +91,28 @@ fn picks_of(alloc: Global, nodes: &[Node]) -> Result<Vec<Line>, NoMemory>
     Ok(names)
 }
 
-/// The names of the files that its sources read, in the order of nodes. Rule: own.
+/// The names of the files that its sources read, in the order of nodes.
 pub fn input_names(alloc: Global, b: &Blueprint) -> Result<Vec<Line>, NoMemory>
     ensures { IfOk result (λ names. names.items ≡ inputs_of_nodes b.now.nodes.items) }
 {
     inputs_of(alloc, &b.nodes)
 }
 
-/// The names of the files that its sinks write, in the order of nodes. Rule: own.
+/// The names of the files that its sinks write, in the order of nodes.
 pub fn output_names(alloc: Global, b: &Blueprint) -> Result<Vec<Line>, NoMemory>
     ensures { IfOk result (λ names. names.items ≡ outputs_of_nodes b.now.nodes.items) }
 {
     outputs_of_nodes(alloc, &b.nodes)
 }
 
-/// The names of its sinks, in the order of nodes; also of those without a file. Rule: own.
+/// The names of its sinks, in the order of nodes; also of those without a file.
 pub fn sink_names(alloc: Global, b: &Blueprint) -> Result<Vec<Line>, NoMemory>
     ensures { IfOk result (λ names. names.items ≡ sinks_of_nodes b.now.nodes.items) }
 {
     sinks_of(alloc, &b.nodes)
 }
 
-/// The names of its stages whose kinds choose, in the order of nodes. Rule: own.
+/// The names of its stages whose kinds choose, in the order of nodes.
 pub fn pick_names(alloc: Global, b: &Blueprint) -> Result<Vec<Line>, NoMemory>
     ensures { IfOk result (λ names. names.items ≡ pick_names b.now.nodes.items) }
 {

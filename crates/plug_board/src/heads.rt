@@ -6,7 +6,7 @@ use plug_logic::logic::Logic;
 use plug_logic::plug::Plug;
 use std::alloc::Global;
 
-/// What blueprints have to know of these plugs, in their order. Rule: own.
+/// What blueprints have to know of these plugs, in their order.
 pub fn heads_of<L: Logic>(alloc: Global, plugs: &[Plug<L>]) -> Result<Vec<PlugHead>, NoMemory>
     ensures { IfOk result (λ heads. heads.items ≡ map (λ p. p.head) plugs.now) }
 {

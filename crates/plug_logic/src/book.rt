@@ -2,12 +2,12 @@
 ghost use Rattle.stream_model.specs.Linear.{Book};
 ghost use Rattle.plug_logic.specs.Shipped.{shipped_book};
 
-/// What the plugs of a program give, by their names. It has no calls. Rule: own.
+/// What the plugs of a program give, by their names. It has no calls.
 pub trait PlugBook {
     ghost lists: { Book };
 }
 
-/// The book of the plugs that the program ships: `dedup` and `pairsum`. A plug of any other name gives nothing. Rule: own.
+/// The book of the plugs that the program ships: `dedup` and `pairsum`. A plug of any other name gives nothing.
 pub struct Shipped;
 
 impl PlugBook for Shipped {

@@ -10,7 +10,7 @@ use elem_core::elems::Elems;
 use std::alloc::Global;
 use std::cmp::Ordering;
 
-/// The plug `dedup`: it leaves out an element that is equal to the one before it. It copies each element that it gives. Rule: own.
+/// The plug `dedup`: it leaves out an element that is equal to the one before it. It copies each element that it gives.
 #[derive(Drop)]
 pub struct Dedup {
     last: Option<Elem>,

@@ -6,7 +6,7 @@ use elem_core::elem::Elem;
 use elem_core::elems::Elems;
 use std::alloc::Global;
 
-/// What a logic comes to with a call. Rule: own.
+/// What a logic comes to with a call.
 #[derive(Clone, Copy, PartialEq, Eq, Debug)]
 pub enum Verdict {
     /// It goes on. Behind `on_end`: the stage completes once all outputs were emitted.

@@ -11,7 +11,7 @@ use elem_core::function::{FnEnd, ReduceOp};
 use std::alloc::Global;
 
 /// The plug `pairsum`: it gives the sum of each two neighbours, the first and the second, the third and the fourth, and at the end an odd
-/// last number alone. Where a sum is out of range it fails with code 1. Rule: own.
+/// last number alone. Where a sum is out of range it fails with code 1.
 #[derive(Drop)]
 pub struct PairSum {
     first: Option<Elem>,

@@ -2,7 +2,7 @@
 use crate::logic::Logic;
 use plug_core::head::PlugHead;
 
-/// A plug: what blueprints have to know of it, and its logic, which is boxed where no other type is named. Rule: own.
+/// A plug: what blueprints have to know of it, and its logic, which is boxed where no other type is named.
 #[derive(Drop)]
 pub struct Plug<L = Box<dyn Logic + Send>> {
     /// Its name and its types.

@@ -5,7 +5,7 @@ use elem_core::why::NoMemory;
 use std::alloc::Global;
 use std::marker::Model;
 
-/// A handler's actions, first in first out, with room for a number of them that is fixed at the start. Rule: own.
+/// A handler's actions, first in first out, with room for a number of them that is fixed at the start.
 #[derive(Drop)]
 pub struct Acts {
     items: Vec<Act>,

@@ -7,7 +7,7 @@ use elem_core::elems::Elems;
 use elem_core::why::{NoMemory, Why};
 use std::alloc::Global;
 
-/// How a chain stands after a call. Rule: own.
+/// How a chain stands after a call.
 #[derive(Clone, Copy, PartialEq, Eq)]
 pub enum ChainStep {
     /// It goes on; after the end of its input, it gave what the end adds.

@@ -33,7 +33,7 @@ pub enum Event {
     Nothing,
 }
 
-// The bits of the flag word. Exactly one of the low four is set. Rule: own.
+// The bits of the flag word. Exactly one of the low four is set.
 // Nobody pulled.
 const IN_READY: u8 = 1;
 // The input pulled, and the output does not know it.

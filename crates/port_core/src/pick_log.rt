@@ -5,7 +5,7 @@ use std::alloc::Global;
 use std::marker::Model;
 
 /// The picks of a stage, oldest first. A handler that may note a move makes room before it does anything else, so that want
-/// of memory finds the stage and its log as they were. Rule: own.
+/// of memory finds the stage and its log as they were.
 #[derive(Drop)]
 pub struct PickLog {
     moves: Vec<u32>,

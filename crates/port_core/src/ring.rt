@@ -6,7 +6,7 @@ use std::alloc::Global;
 use std::collections::VecDeque;
 use std::marker::Model;
 
-/// The connections that have an event, first in first out, each at most once. Rule: own.
+/// The connections that have an event, first in first out, each at most once.
 #[derive(Drop)]
 pub struct EventRing {
     queue: VecDeque<u32>,

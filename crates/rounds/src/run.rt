@@ -221,7 +221,7 @@ fn run_on<B: Turning>(
 /// Goes on with bodies that used `before` units in earlier turns, until none has an event or `budget` units are used in all: rounds of
 /// turns in order, each of at most `TURN_UNITS` units, until one uses none; then the ends of the lanes are brought together, and where
 /// a body has an event, it takes a turn at once and rounds follow. After `NoMemory` one body broke off, all others are whole, and the
-/// ends of all lanes are brought together too. Rule: own.
+/// ends of all lanes are brought together too.
 pub fn go_on<B: Turning>(
     alloc: Global,
     bodies: &mut [B],

@@ -85,7 +85,7 @@ pub(crate) fn first_pending<B: Turning>(bodies: &[B], end: usize) -> usize
 
 /// Brings the two ends of every lane together, once, and answers the first body that has an event: one that is pending in its ring,
 /// an item at a lane that it takes from, or demand at one that it sends on. It answers none exactly where no body has one. It uses no
-/// unit and takes no memory. Rule: own.
+/// unit and takes no memory.
 pub fn settle<B: Turning>(bodies: &mut [B], lanes: &[Crossing]) -> Option<usize>
     requires lanes { AreCrossings B.may_meet bodies.old lanes.now }
     ensures stands { EachOf B.stands bodies.old bodies.new }

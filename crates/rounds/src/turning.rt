@@ -10,7 +10,7 @@ use std::alloc::Global;
 /// A body: an island with the ends of its lanes. A turn does what there is to do, up to a limit of units; a meeting of lane ends uses
 /// no unit. `keeps` holds of a body that is whole, between two turns; `goes` says that one went on, by turns and meetings, `stands`
 /// that it only met, `breaks` that memory was wanting in a turn, and `idle` that a turn found nothing to do. `joined` says of an
-/// output end and an input end of a lane that they were brought together, and what waits there. Rule: own.
+/// output end and an input end of a lane that they were brought together, and what waits there.
 pub trait Turning: Meet {
     ghost keeps: { Self → Type 0 };
 

@@ -1,4 +1,4 @@
--- How many elements were sent on the wire of a sink of lines, also where it is a lane. Rule: own.
+-- How many elements were sent on the wire of a sink of lines, also where it is a lane.
 use Rattle.std.specs.Prelude.{◌≡◌, ℕ, ◌+◌, ◌≤◌, Option, None, Some}
 use Rattle.stream_model.specs.declared.outcome.EndState.{EndState}
 use Rattle.stream_model.specs.declared.outcome.EndState.TheVariants.{Ended, Failed, Unended, WriteFault}

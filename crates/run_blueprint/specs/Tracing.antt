@@ -1,4 +1,4 @@
--- The trace of a run in the folder: what the stages of a blueprint chose, as the text of a file of its own. Rule: own.
+-- The trace of a run in the folder: what the stages of a blueprint chose, as the text of a file of its own.
 use Rattle.std.specs.Prelude.{◌≡◌, ℕ, ◌<◌, Bool, true, false, IsTrue, List, ◌++◌, length, map, Option, Some, None, ⊤}
 use Rattle.std.specs.List.{Contains}
 use Rattle.std.specs.Option.{option_to_list}

@@ -237,7 +237,7 @@ fn close_unmade<F: Folder>(folder: &mut F, end: IslandEnd<F::Inp, F::Out>, drain
 /// Opens the files of a blueprint, its inputs in order and then its outputs in order, and behind them the file of its trace where one is
 /// wanted; lets so many workers, 1 to 64, run its islands by at most `budget` units; writes the trace, which takes no memory, and closes the files, also where
 /// memory is wanting. The trace is then left empty. But for what its nodes want as they start and run all memory is taken before
-/// the first opening. It leaves as many open handles as there were. Rule: own.
+/// the first opening. It leaves as many open handles as there were.
 pub fn run<R: Threads + Wait + Sync, F: Folder, L: Logic + Send, B: PlugBook + Send>(
     rt: &R,
     alloc: Global,

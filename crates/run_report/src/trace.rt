@@ -124,7 +124,7 @@ fn add_picks<D: Drain>(
 
 /// Puts the trace of stages of these names, which made these moves: a line for each, with its name and its moves in decimal. It is
 /// gathered in `room` and put in pieces of that room's size, without taking memory. On a failed write a first part of it was put.
-/// Where there are more names than lists of moves, or more lists, those that are over have no line. Rule: own.
+/// Where there are more names than lists of moves, or more lists, those that are over have no line.
 pub fn put_trace<D: Drain>(
     file: &mut D,
     names: &[Line],

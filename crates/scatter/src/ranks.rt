@@ -26,7 +26,6 @@ fn zeros(alloc: Global, count: usize) -> Result<Vec<usize>, AllocError>
 }
 
 /// The rank of each item with one of so many homes, and how many items each home has. It takes time n + count for n items.
-/// Rule: own.
 pub fn ranks_of(alloc: Global, homes: &[usize], count: usize) -> Result<Ranks, AllocError>
     requires { All (λ h. h < count) homes.now }
     ensures { IfOk result (λ r. AreRanks homes.now count r.ranks.items r.counts.items) }

@@ -27,7 +27,7 @@ fn put<T: Drop>(lists: &mut Vec<Vec<T>>, home: usize, item: T)
 }
 
 /// Shares out the items: each goes, in order, into the list of its home. The lists are empty and have room for them. It takes
-/// time n for n items, and no memory. Rule: own.
+/// time n for n items, and no memory.
 pub fn scatter<T: Drop>(homes: &[usize], items: Vec<T>, lists: Vec<Vec<T>>) -> Vec<Vec<T>>
     requires below { All (λ h. h < vec_len lists) homes.now }
     requires each { vec_len items ≡ length homes.now }
@@ -57,7 +57,7 @@ fn take_last<T: Drop>(lists: &mut Vec<Vec<T>>, home: usize) -> T
 }
 
 /// Brings shares back into one list, which is empty and has room for it: those of what it answers are the lists that were
-/// handed in. It takes time n for n items, and no memory. Rule: own.
+/// handed in. It takes time n for n items, and no memory.
 pub fn gather<T: Drop>(homes: &[usize], lists: Vec<Vec<T>>, room: Vec<T>) -> Vec<T>
     requires whole { AreWhole homes.now lists.items }
     requires empty { room.items ≡ [] }

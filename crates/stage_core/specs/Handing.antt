@@ -1,5 +1,5 @@
 -- What leaves a stage outside of its handlers. Two lists are told of a kind: what was handed out of the graph at it or dropped there
--- (`gone`), and what waits there to be handed out (`waits`). Where no lane goes out both are empty. Rule: own.
+-- (`gone`), and what waits there to be handed out (`waits`). Where no lane goes out both are empty.
 use Rattle.std.specs.Prelude.{◌≡◌, ℕ, List, ◌++◌}
 use Rattle.elem_core.specs.Prefix.{IsPrefix}
 use Rattle.elem_core.specs.declared.item.Item.{Item}

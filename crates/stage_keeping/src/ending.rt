@@ -1,6 +1,6 @@
 use elem_core::why::Cause;
 
-/// How the input of a stage stands that still owes outputs. Rule: own.
+/// How the input of a stage stands that still owes outputs.
 #[derive(Clone, Copy, PartialEq, Eq)]
 pub enum StateEnd {
     /// It has not ended.

@@ -21,7 +21,7 @@ pub enum StateWork {
     Scan(FoldOp, Elem),
 }
 
-/// What came of an element. Rule: own.
+/// What came of an element.
 #[derive(Drop)]
 pub enum StateReaction {
     /// This is given.

@@ -14,7 +14,7 @@ use plug_logic::logic::{Logic, Verdict};
 use std::alloc::{AllocError, Global};
 use std::marker::{Model, PhantomData};
 
-/// A plug in a stage. While it may be called, its logic gives what the book lists of its name, behind what it took. Rule: own.
+/// A plug in a stage. While it may be called, its logic gives what the book lists of its name, behind what it took.
 #[derive(Drop)]
 pub struct PlugTask<L: Logic, B: PlugBook> {
     name: Line,

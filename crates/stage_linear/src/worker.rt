@@ -12,7 +12,7 @@ use plug_logic::book::PlugBook;
 use plug_logic::logic::Logic;
 use std::alloc::Global;
 
-/// What does the work of a linear stage. Rule: own.
+/// What does the work of a linear stage.
 #[derive(Drop)]
 pub enum Worker<L: Logic, B: PlugBook> {
     /// A task of the program's own stages.

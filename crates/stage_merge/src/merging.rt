@@ -17,7 +17,7 @@ use std::alloc::Global;
 use std::collections::VecDeque;
 use std::marker::Model;
 
-/// An element that waits, and the input that it came from. Rule: own.
+/// An element that waits, and the input that it came from.
 #[derive(Drop)]
 pub struct Queued {
     /// The input.

@@ -26,7 +26,7 @@ pub struct MachineLogic {
     part: Part,
 }
 
-/// What such a stage is. Rule: own.
+/// What such a stage is.
 #[derive(Drop)]
 pub enum Part {
     /// One that keeps a group or a value.

@@ -18,7 +18,7 @@ use std::alloc::Global;
 use std::marker::Model;
 
 /// The logic of a trip: it passes on what comes, and gives its order when its N-th element comes, before it passes that
-/// element on. Rule: own.
+/// element on. Akka Streams has no such stage.
 #[derive(Drop)]
 pub struct Trip {
     node: u32,

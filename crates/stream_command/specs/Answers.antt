@@ -1,4 +1,4 @@
--- What the command answers and leaves, by what its words ask for. Rule: own.
+-- What the command answers and leaves, by what its words ask for.
 use Rattle.std.specs.Prelude.{◌≡◌, ℕ, ◌⊎◌, IsTrue, List, Option, Some, None}
 use Rattle.stream_io.specs.Counts.{GrewAtMost}
 use Rattle.stream_io.specs.State.{FolderState}

@@ -31,7 +31,7 @@ use std::thread::Threads;
 use stream_io::outside::{Drain, Folder};
 use stream_top::top::{RunEnd, end_before_run, run_file};
 
-/// Reads the command's words, generates the files that they ask for, reads the blueprint of the file that they name and lets as many workers run it as they say, and writes the report to the console. Rule: own.
+/// Reads the command's words, generates the files that they ask for, reads the blueprint of the file that they name and lets as many workers run it as they say, and writes the report to the console.
 pub fn run_streams<R: Threads + Wait + Sync, F: Folder, C: Drain, B: PlugBook + Send>(
     rt: &R,
     alloc: Global,
@@ -70,7 +70,7 @@ pub fn run_streams<R: Threads + Wait + Sync, F: Folder, C: Drain, B: PlugBook + 
     run_words::<R, F, C, Box<dyn Logic + Send>, B>(rt, alloc, words, folder, console, plugs)
 }
 
-/// Reads the command's words, generates the files that they ask for, reads the blueprint of the file that they name and lets as many workers run it as they say, and writes the report to the console. Rule: own.
+/// Reads the command's words, generates the files that they ask for, reads the blueprint of the file that they name and lets as many workers run it as they say, and writes the report to the console.
 #[tactic(auto, using(crate::proofs::Answering::told_before, crate::proofs::Answering::reads_little, crate::proofs::Answering::completes, crate::proofs::Answering::usage_of, crate::proofs::Answering::gave_up, crate::proofs::Answering::refused, crate::proofs::Answering::as_asked))]
 fn run_words<R: Threads + Wait + Sync, F: Folder, C: Drain, L: Logic + Send, B: PlugBook + Send>(
     rt: &R,

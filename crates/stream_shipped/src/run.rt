@@ -92,7 +92,7 @@ fn add_both(
     Ok(())
 }
 
-/// Does what the words of a command ask for, as `run_streams` does, with the plugs `dedup` and `pairsum`. Rule: own.
+/// Does what the words of a command ask for, as `run_streams` does, with the plugs `dedup` and `pairsum`.
 pub fn run_shipped<R: Threads + Wait + Sync, F: Folder, C: Drain>(
     rt: &R,
     alloc: Global,

@@ -19,7 +19,7 @@ use std::thread::Threads;
 use stream_io::outside::{Drain, Folder};
 use stream_io::sure::SureFolder;
 
-/// The same over a folder whose counts never rise: it answers as `run_file` does (`told`), and a valid text and inputs give a run, and no write of it failed, or memory was wanting (`runs`). So no answer of a run is hidden behind a fault that did not happen. Rule: own.
+/// The same over a folder whose counts never rise: it answers as `run_file` does (`told`), and a valid text and inputs give a run, and no write of it failed, or memory was wanting (`runs`). So no answer of a run is hidden behind a fault that did not happen.
 pub fn run_surely<R: Threads + Wait + Sync, C: Drain, L: Logic + Send, B: PlugBook + Send>(
     rt: &R,
     alloc: Global,

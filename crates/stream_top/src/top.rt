@@ -41,7 +41,7 @@ pub struct RunEnd {
     pub ran: Option<Ran>,
 }
 
-/// Reads the blueprint of the file of that name, lets so many workers, 1 to 64, run it by at most so many units, 4,000,000,000 at most, and writes the report to the console. Where a file for the trace is given, it is opened behind those of the sinks, and what the stages chose is written into it after the run, a line for each stage whose kind chooses, in order of nodes. No source and no sink may name it, nor the blueprint's file. Rule: own.
+/// Reads the blueprint of the file of that name, lets so many workers, 1 to 64, run it by at most so many units, 4,000,000,000 at most, and writes the report to the console. Where a file for the trace is given, it is opened behind those of the sinks, and what the stages chose is written into it after the run, a line for each stage whose kind chooses, in order of nodes. No source and no sink may name it, nor the blueprint's file.
 pub fn run_file<R: Threads + Wait + Sync, F: Folder, C: Drain, L: Logic + Send, B: PlugBook + Send>(
     rt: &R,
     alloc: Global,
@@ -109,7 +109,7 @@ pub fn run_file<R: Threads + Wait + Sync, F: Folder, C: Drain, L: Logic + Send, 
     }
 }
 
-/// Ends a call before a file was run, with a status of which nothing more is told, and writes the report to the console. Rule: own.
+/// Ends a call before a file was run, with a status of which nothing more is told, and writes the report to the console.
 pub fn end_before_run<C: Drain>(alloc: Global, status: Status, console: &mut C) -> RunEnd
     requires { detail_of status ≡ [] }
     ensures status { result.status ≡ status }

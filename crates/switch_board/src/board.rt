@@ -19,7 +19,7 @@ use std::alloc::{AllocError, Global};
 use std::sync::Arc;
 use stream_model::kind::Kind;
 
-/// The kill switches that the valves and trips of a blueprint name. The place of a switch is its least node. Rule: own.
+/// The kill switches that the valves and trips of a blueprint name. The place of a switch is its least node.
 #[derive(Drop)]
 pub struct Board {
     // Of each node the place of its switch.
@@ -239,7 +239,7 @@ fn settle_all(switches: &[Option<Arc<Switch>>], lists: Vec<Vec<SwitchSeat>>)
 
 impl Board {
     /// The board of these nodes: a switch for each that a valve or a trip names, with as many seats as nodes name it; and of each
-    /// node what it has of its switch. It takes all memory that its switches ever take. Rule: own.
+    /// node what it has of its switch. It takes all memory that its switches ever take.
     pub fn of(alloc: Global, nodes: &[Node]) -> Result<(Board, Vec<Option<SwitchEnd>>), NoMemory>
         ensures board { IfOk result (λ r. IsBoard (map (λ n. n.kind) nodes.now) r.0) }
         ensures ends { IfOk result (λ r. AreAtSwitches (map (λ n. n.kind) nodes.now) r.0 (map seat_of_end r.1.items)) }
@@ -265,7 +265,7 @@ impl Board {
     }
 
     /// Puts together the seats of each switch, which come with the numbers of their nodes, in order. Each order that one of them
-    /// knew is the one that stands at its switch, and one of them gave it. It takes no memory. Rule: own.
+    /// knew is the one that stands at its switch, and one of them gave it. It takes no memory.
     pub fn settle(self, seats: Vec<(u32, SwitchSeat)>)
         requires { (kinds : List Kind) × ((all : List (Option SeatState)) × (IsBoard kinds self × (AreAtSwitches kinds self all × (seats.items ≡ numbered_from 0 all)))) }
         ensures { (kinds : List Kind) (all : List (Option SeatState)) → IsBoard kinds self → AreAtSwitches kinds self all → seats.items ≡ numbered_from 0 all → AllSettled kinds (seat_in all) }

@@ -6,7 +6,7 @@ ghost use Rattle.switch_board.specs.Board.{switch_of};
 use elem_core::line::Line;
 use stream_model::kind::Kind;
 
-/// The switch that a valve or a trip names; no other kind names one. Rule: own.
+/// The switch that a valve or a trip names; no other kind names one.
 pub fn switch_of(kind: &Kind) -> Option<&Line>
     ensures { option_map (λ l. l.now) result ≡ switch_of kind.now }
 {

@@ -30,7 +30,7 @@ fn plan_of(alloc: Global, count: usize, links: &[NumberedWire]) -> Result<Plan, 
 }
 
 /// The islands of a checked blueprint, numbered by their least node, and its lanes. It takes time n log n for n nodes and wires.
-/// A number that is out of 32 bits is want of memory. Rule: own.
+/// A number that is out of 32 bits is want of memory.
 pub fn islands(alloc: Global, c: &Checked) -> Result<Plan, NoMemory>
     ensures { let b = blueprint_of c.now in IfOk result (IsPlan (length b.nodes.items) (blueprint_wires b)) }
 {

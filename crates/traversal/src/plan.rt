@@ -1,7 +1,7 @@
 // Plans.
 
 /// What of a blueprint runs together, and what joins it. An island is a connected component of the graph once the wires with a
-/// lane are removed, whichever way wires run. Rule: own.
+/// lane are removed, whichever way wires run.
 #[derive(Drop)]
 pub struct Plan {
     /// The islands. An island's number is its place here, from 0; they are in the order of their least nodes.
@@ -10,7 +10,7 @@ pub struct Plan {
     pub lanes: Vec<LanePlan>,
 }
 
-/// One island. Rule: own.
+/// One island.
 #[derive(Drop)]
 pub struct IslandPlan {
     /// The numbers of its nodes, in ascending order. There is one at least.
@@ -19,7 +19,7 @@ pub struct IslandPlan {
     pub wires: Vec<u32>,
 }
 
-/// One lane. Rule: own.
+/// One lane.
 #[derive(Clone, Copy, PartialEq, Eq, Debug)]
 pub struct LanePlan {
     /// The number of its wire.

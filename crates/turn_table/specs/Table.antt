@@ -1,4 +1,4 @@
--- The rule of a turn table, and what its steps tell. Each place has a word: READY is 1 and RUNNING is 2. Rule: own.
+-- The rule of a turn table, and what its steps tell. Each place has a word: READY is 1 and RUNNING is 2.
 use Rattle.std.specs.Prelude.{◌≡◌, ◌≢◌, ℕ, suc, ◌/◌, ◌%◌, ◌<◌, ◌≤◌, List, [], ◌∷◌, map, length, slice_index, slice_get, Option, None, Some}
 use mathlib.Core.Option.{some}
 use lib.ListN.{get_elem?}

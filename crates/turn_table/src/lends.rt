@@ -7,7 +7,7 @@ ghost use Rattle.turn_table.specs.Lent.{turn_with};
 use crate::turns::Turn;
 
 impl<T> Turn<T> {
-    /// The value. What is written through it stays. Rule: own.
+    /// The value. What is written through it stays.
     pub fn value(&mut self) -> &mut T
         ensures* writes_back { sem 𝓛 (Lends (the_row T.row) T.row self.entry result (turn_with self.old.id)) }
         ensures value { result.now ≡ self.old.value }

@@ -8,7 +8,7 @@ use std::marker::{Brand, PhantomData};
 use std::snapshot::Snapshot;
 
 /// A value that a turn table keeps. It is told from others by its origin, which is plain data and stays as it is while turns
-/// change the value. Rule: own.
+/// change the value.
 pub trait Kept: Drop {
     /// What the origin is.
     type Origin;

@@ -22,7 +22,7 @@ const READY: u64 = 1;
 const RUNNING: u64 = 2;
 
 /// Values that take turns. At every moment a value is in its slot, or its turn has begun on one seat. Each place has a word:
-/// READY (1) where it is wanted, RUNNING (2) where its turn has begun. Rule: own.
+/// READY (1) where it is wanted, RUNNING (2) where its turn has begun.
 #[derive(Drop)]
 pub struct Turns<T: Kept> {
     table: Table<Option<T>, Hold, TurnPlan<T>, TurnOrder<T>, Global>,
@@ -31,13 +31,13 @@ pub struct Turns<T: Kept> {
 }
 
 /// The right to wake places and to take turns, for one thread at a time. It has no bytes. Contracts see the turns that have
-/// begun on it and not ended, and the words that its calls found. Rule: own.
+/// begun on it and not ended, and the words that its calls found.
 #[derive(Drop)]
 pub struct TurnSeat {
     badge: Badge<Hold>,
 }
 
-/// A value whose turn has begun. Rule: own.
+/// A value whose turn has begun.
 #[derive(Drop)]
 pub struct Turn<T> {
     pub(crate) id: u32,
@@ -57,7 +57,7 @@ impl<T: Kept> Turns<T> {
     ghost use Rattle.turn_table.specs.Public.{turns_of, found_by, began_by, woke_by, NoneBegan, Woke, Finds, handed_in, seats_of, IsSeatOf, IsFree};
 
     /// A table of these values, at places from 0, each in its slot and not wanted, and so many seats, on which no turn has begun.
-    /// Where memory was wanting the values come back, in order. Rule: own.
+    /// Where memory was wanting the values come back, in order.
     pub fn new(
         alloc: Global,
         values: Vec<T>,
@@ -119,7 +119,7 @@ impl<T: Kept> Turns<T> {
     }
 
     /// The values in order, each with the origin that was handed in for its place, in the room that is handed in: it takes no
-    /// memory. It wants all seats of the table, and that each turn has ended. Rule: own.
+    /// memory. It wants all seats of the table, and that each turn has ended.
     pub fn close(self, seats: Vec<TurnSeat>, room: Vec<T>) -> Vec<T>
         requires all { vec_len seats ≡ seats_of self }
         requires free { All (IsFree self) seats.items }
@@ -149,7 +149,7 @@ impl<T: Kept> Turns<T> {
     }
 
     /// Marks a place as wanted: an or of READY. True exactly where the word was 0, so that the caller puts the place on its
-    /// list. One step; it waits for nobody. Rule: own.
+    /// list. One step; it waits for nobody.
     pub fn wake(&self, seat: &mut TurnSeat, id: u32) -> bool
         requires seat { IsSeatOf self.now seat.old }
         requires inside { id < length (handed_in self.now) }
@@ -167,7 +167,7 @@ impl<T: Kept> Turns<T> {
     }
 
     /// Begins the turn of a place that is wanted and whose turn has not begun: an exchange of READY to RUNNING, by which the seat
-    /// alone has the value. Or else the word that was found, which is another one. It waits for nobody. Rule: own.
+    /// alone has the value. Or else the word that was found, which is another one. It waits for nobody.
     pub fn begin(&self, seat: &mut TurnSeat, id: u32) -> Result<Turn<T>, u64>
         requires seat { IsSeatOf self.now seat.old }
         requires inside { id < length (handed_in self.now) }
@@ -203,7 +203,7 @@ impl<T: Kept> Turns<T> {
     }
 
     /// Puts the value back and ends its turn, which has begun on this seat: an and-not of RUNNING. True exactly where the word
-    /// had READY, so that the caller puts the place on its list. It waits for nobody. Rule: own.
+    /// had READY, so that the caller puts the place on its list. It waits for nobody.
     pub fn end(&self, seat: &mut TurnSeat, turn: Turn<T>) -> bool
         requires seat { IsSeatOf self.now seat.old }
         requires begun { 0 < times turn.id (turns_of seat.old) }

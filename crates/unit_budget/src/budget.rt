@@ -9,10 +9,10 @@ use atomic_table::{Seat, Table};
 use std::alloc::{AllocError, Global};
 use std::cmp::min;
 
-/// What one claim asks for, in units. Rule: own.
+/// What one claim asks for, in units.
 pub const MOST: u64 = 1000;
 
-/// A number of units that many seats draw on at once, each by single atomic steps. Rule: own.
+/// A number of units that many seats draw on at once, each by single atomic steps.
 #[derive(Drop)]
 pub struct Budget {
     table: Table<(), Share, Purse, Fairly, Global>,
@@ -21,7 +21,7 @@ pub struct Budget {
     ghost limit_is: { limit ≡ table.shared.key.limit },
 }
 
-/// The right to draw on a budget. It has no bytes. Contracts see the units that were used with it, and its claim. Rule: own.
+/// The right to draw on a budget. It has no bytes. Contracts see the units that were used with it, and its claim.
 #[derive(Drop)]
 pub struct BudgetSeat {
     seat: Seat<(), Share>,
@@ -30,7 +30,7 @@ pub struct BudgetSeat {
 impl Budget {
     ghost use Rattle.unit_budget.specs.Public.{budget_id, seat_id, used_by, parts_of, limit_of, granted_to, IsIdle};
 
-    /// A budget of so many units, and its first seat, which has all parts and used none. No other call takes memory. Rule: own.
+    /// A budget of so many units, and its first seat, which has all parts and used none. No other call takes memory.
     pub fn new(alloc: Global, limit: u64, seats: u32) -> Result<(Budget, BudgetSeat), AllocError>
         requires { limit < 2 ^ 61 }
         ensures seat { IfOk result (λ r. (seat_id r.1 ≡ budget_id r.0) × IsIdle r.1 × (parts_of r.1 ≡ seats) × (used_by r.1 ≡ 0) × (limit_of r.1 ≡ limit)) }
@@ -44,7 +44,7 @@ impl Budget {
         Ok((Budget { table, limit }, BudgetSeat { seat }))
     }
 
-    /// A seat with one part of this one, which used none. Rule: own.
+    /// A seat with one part of this one, which used none.
     pub fn split(&self, seat: &mut BudgetSeat) -> BudgetSeat
         requires seat { (seat_id seat.old ≡ budget_id self.now) × IsIdle seat.old }
         requires parts { 1 < parts_of seat.old }
@@ -56,7 +56,7 @@ impl Budget {
         }
     }
 
-    /// Puts two seats together, neither of which has a claim: their parts, and the units that were used with them. Rule: own.
+    /// Puts two seats together, neither of which has a claim: their parts, and the units that were used with them.
     pub fn join(&self, seat: &mut BudgetSeat, other: BudgetSeat)
         requires seat { (seat_id seat.old ≡ budget_id self.now) × IsIdle seat.old }
         requires part { 0 < parts_of seat.old }
@@ -68,7 +68,7 @@ impl Budget {
     }
 
     /// Claims 1000 units, and answers how many of them may be used: never more than is left of the budget. One step; it waits for
-    /// nobody. Rule: own.
+    /// nobody.
     pub fn claim(&self, seat: &mut BudgetSeat) -> u64
         requires seat { (seat_id seat.old ≡ budget_id self.now) × IsIdle seat.old }
         requires part { 0 < parts_of seat.old }
@@ -84,7 +84,7 @@ impl Budget {
         min(MOST, self.limit.saturating_sub(found))
     }
 
-    /// Ends a claim, of which so many units were used: gives back the others. One step; it waits for nobody. Rule: own.
+    /// Ends a claim, of which so many units were used: gives back the others. One step; it waits for nobody.
     pub fn settle(&self, seat: &mut BudgetSeat, used: u64)
         requires seat { (seat_id seat.old ≡ budget_id self.now) × (seat.old.seat.me ≡ (share (parts_of seat.old) (used_by seat.old) 1000 (granted_to seat.old) (limit_of seat.old), [])) }
         requires part { 0 < parts_of seat.old }
@@ -96,7 +96,7 @@ impl Budget {
             .fetch_sub::<Settle>(&mut seat.seat, 0, MOST - used);
     }
 
-    /// That the units of a seat are within the budget. Where it has all parts these are the units of all. One step. Rule: own.
+    /// That the units of a seat are within the budget. Where it has all parts these are the units of all. One step.
     pub fn look(&self, seat: &mut BudgetSeat)
         requires { (seat_id seat.old ≡ budget_id self.now) × IsIdle seat.old × (0 < parts_of seat.old) }
         ensures { (seat_id seat.new ≡ budget_id self.now) × (seat.new.seat.me ≡ seat.old.seat.me) × (used_by seat.old ≤ limit_of seat.old) }

@@ -28,7 +28,7 @@ use plug_logic::logic::Logic;
 use stream_io::outside::{Drain, Source};
 
 /// What the bodies of a blueprint's islands leave is all that its nodes and wires leave, in shares (`ends`), with the homes that were
-/// planned (`homes`); and all of it in one end is left by its nodes and wires (`left`). Rule: own.
+/// planned (`homes`); and all of it in one end is left by its nodes and wires (`left`).
 pub fn bodies_leave_what_their_nodes_do<S: Source, D: Drain, L: Logic, B: PlugBook>()
     ensures ends { (b : Blueprint) (homes : List ℕ) (count : ℕ) (nodes : List (Seated S D L B)) (crossings : List Crossing) (begun now : List (Body S D L B)) (all : ℕ → ℕ) (last more : List (IslandNode S D L B)) (ends : List (IslandEnd S D)) → AreBodiesOf S.state D.state B.lists (graph_of b) homes count (blueprint_wires b) nodes crossings begun
         → AreNumbered homes (blueprint_wires b) nodes begun → EachOf BodyGoes begun now → AllOf (BodyKeeps S.state D.state B.lists) now → AreBroughtBack homes count (blueprint_wires b) (λ k. (net_of now k).nodes) last more → AreEndsOfBodies now ends

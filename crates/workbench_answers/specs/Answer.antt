@@ -1,4 +1,4 @@
--- What the workbench answers to a work on the text of a blueprint's file. Rule: own.
+-- What the workbench answers to a work on the text of a blueprint's file.
 use Rattle.std.specs.Prelude.{◌≡◌, ℕ, ◌⊎◌, List, [], Some}
 use Rattle.blue_core.specs.declared.blueprint.Blueprint.{Blueprint}
 use Rattle.blue_words.specs.declared.fault.BlueFault.{BlueFault}

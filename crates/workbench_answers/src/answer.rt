@@ -4,7 +4,7 @@ ghost use Rattle.workbench_answers.specs.Answer.{code_of};
 
 use std::alloc::Global;
 
-/// How a call of the workbench ended. Rule: own.
+/// How a call of the workbench ended.
 #[derive(Clone, Copy, PartialEq, Eq)]
 pub enum Ending {
     /// What was wanted is said.
@@ -21,7 +21,7 @@ pub enum Ending {
     NoMemory,
 }
 
-/// What is said on the console, and what is told where faults are told. Rule: own.
+/// What is said on the console, and what is told where faults are told.
 #[derive(Drop)]
 pub struct Answer {
     /// How the call ended.
@@ -73,7 +73,7 @@ impl Answer {
     }
 }
 
-/// The exit code of an ending: 0, 1 for the words, 2 for the blueprint, and those of `streams` for the outside and memory. Rule: own.
+/// The exit code of an ending: 0, 1 for the words, 2 for the blueprint, and those of `streams` for the outside and memory.
 pub fn code(ending: Ending) -> u8
     ensures { result ≡ code_of ending }
 {

@@ -45,7 +45,7 @@ fn blaming(alloc: Global, text: &[u8], file: &Line, why: &Unready) -> Answer
     faulty(alloc, text, file, why)
 }
 
-/// The answer to `check`: nothing, or the first fault. Rule: own.
+/// The answer to `check`: nothing, or the first fault.
 pub fn check_text(alloc: Global, text: &[u8], file: &Line) -> Answer
     ensures { Checks text.now file.now result }
 {
@@ -91,7 +91,7 @@ fn formatted(alloc: Global, text: &[u8], b: &Blueprint) -> Result<Answer, NoMemo
     })
 }
 
-/// The answer to `fmt`: the canonical text, or the first fault of the text. Rule: own.
+/// The answer to `fmt`: the canonical text, or the first fault of the text.
 pub fn format_text(alloc: Global, text: &[u8], file: &Line) -> Answer
     ensures { Formats text.now result }
 {
@@ -165,7 +165,7 @@ fn drawn_again(
 }
 
 /// The answer to `draw`: the graph; where the blueprint breaks a rule the graph, in red at its place, and the rule; or the first fault
-/// of the text. Rule: own.
+/// of the text.
 pub fn draw_text(alloc: Global, text: &[u8], file: &Line) -> Answer
     ensures { Drawn text.now file.now result }
 {
@@ -182,7 +182,7 @@ pub fn draw_text(alloc: Global, text: &[u8], file: &Line) -> Answer
     }
 }
 
-/// The answer to `explain`: the report in words, or that it is none of this text. Rule: own.
+/// The answer to `explain`: the report in words, or that it is none of this text.
 pub fn explain_text(alloc: Global, text: &[u8], file: &Line, report: &[u8]) -> Answer {
     match explain(alloc, text, file, report) {
         Ok(Some(said)) => Answer::saying(alloc, said),
@@ -234,7 +234,7 @@ fn counted(alloc: Global, text: &[u8], file: &Line, counts: &[u64], c: &Checked)
     }
 }
 
-/// The answer to `turns`: the units that suffice, or the first fault. Rule: own.
+/// The answer to `turns`: the units that suffice, or the first fault.
 pub fn count_text(alloc: Global, text: &[u8], file: &Line, counts: &[u64]) -> Answer
     ensures { Counts text.now file.now counts.now result }
 {

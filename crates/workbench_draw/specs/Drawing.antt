@@ -1,4 +1,4 @@
--- Drawings in the DOT language. Rule: own.
+-- Drawings in the DOT language.
 use Rattle.std.specs.Prelude.{◌≡◌, ℕ, List, ◌++◌, length, vec_len, codes}
 use Rattle.std.specs.List.{flat_map}
 use Rattle.std.specs.declared.alloc.Global.{Global}

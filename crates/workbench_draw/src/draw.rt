@@ -15,7 +15,7 @@ use std::alloc::Global;
 use traversal::islands::islands;
 use workbench_faults::place::place_of;
 
-/// The lines of a drawing. Rule: own.
+/// The lines of a drawing.
 #[derive(Drop)]
 struct Drawing {
     islands: Vec<Vec<u8>>,
@@ -58,7 +58,7 @@ fn drawn(alloc: Global, b: &Blueprint, drawing: &Drawing) -> Result<Vec<u8>, NoM
 }
 
 /// The graph of a checked blueprint in the DOT language: a box round each island, a line for each node with its kind, and one for
-/// each wire with its type; a lane is dashed and has its size. Rule: own.
+/// each wire with its type; a lane is dashed and has its size.
 pub fn draw(alloc: Global, c: &Checked) -> Result<Vec<u8>, NoMemory>
     ensures { IfOk result (λ text. Draws (blueprint_of c.now) text.items) }
 {
@@ -75,7 +75,7 @@ pub fn draw(alloc: Global, c: &Checked) -> Result<Vec<u8>, NoMemory>
 }
 
 /// The graph of a blueprint that breaks a rule: the same without islands and types, and the place of the fault is red and has the
-/// words of `told` in its label. `own` is the blueprint's own file. Rule: own.
+/// words of `told` in its label. `own` is the blueprint's own file.
 pub fn draw_unfit(
     alloc: Global,
     b: &Blueprint,

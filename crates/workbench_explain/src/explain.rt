@@ -107,7 +107,7 @@ fn of_words(alloc: Global, line: &[u8], later: &[u8]) -> Result<Option<Vec<u8>>,
 
 /// A report of the run of that name's file, of which this is the text, in words: how it ended, for each sink its line, what its file
 /// holds and who is to blame, and for each wire how many elements passed and which node waits for which. None where it is no report
-/// of this text. Rule: own.
+/// of this text.
 pub fn explain(
     alloc: Global,
     text: &[u8],

@@ -1,4 +1,4 @@
--- Whether a text says a blueprint that can be run. Rule: own.
+-- Whether a text says a blueprint that can be run.
 use Rattle.std.specs.Prelude.{◌≡◌, ℕ, List, [], ◌∷◌, Some}
 use Rattle.blue_core.specs.declared.blueprint.Blueprint.{Blueprint}
 use Rattle.blue_check.specs.Fitness.{IsFit, IsFirstFault}

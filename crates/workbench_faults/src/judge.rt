@@ -56,7 +56,7 @@ fn check_said(
 }
 
 /// The checked blueprint of the text of that name's file, which no plug is handed in for, or why there is none: the first fault of
-/// the text, or the first rule that the blueprint breaks. Want of memory may come in the place of each. Rule: own.
+/// the text, or the first rule that the blueprint breaks. Want of memory may come in the place of each.
 pub fn judge_text(alloc: Global, text: &[u8], file: &Line) -> Result<Checked, Unready>
     ensures fit { IfOk result (λ c. IsFitText text.now file.now (blueprint_of c)) }
     ensures unready { IfErr result (IsUnready text.now file.now) }

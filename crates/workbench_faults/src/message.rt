@@ -44,7 +44,7 @@ pub fn put_shown(out: &mut Vec<u8>, bytes: &[u8]) -> Result<(), NoMemory> {
     Ok(())
 }
 
-/// Appends a line of the text behind its number. Rule: own.
+/// Appends a line of the text behind its number.
 pub fn put_source_line(out: &mut Vec<u8>, line: &SourceLine<'_>) -> Result<(), NoMemory> {
     out.extend_from_slice(b"line ")?;
     put_number(out, line.number as u64)?;
@@ -78,7 +78,7 @@ fn unfit_line(alloc: Global, fault: &CheckFault) -> Result<Vec<u8>, NoMemory>
     Ok(out)
 }
 
-/// Appends where a fault is, what it means and what to do. Rule: own.
+/// Appends where a fault is, what it means and what to do.
 pub fn put_saying(
     out: &mut Vec<u8>,
     line: Option<SourceLine<'_>>,
@@ -134,7 +134,7 @@ fn joined(mut first: Vec<u8>, second: &[u8]) -> Result<Vec<u8>, NoMemory>
 }
 
 /// What is said of a text of that name's file that has a fault or breaks a rule: the line that a report has of it, the line of the
-/// text at which it is, what it means and what to do. Rule: own.
+/// text at which it is, what it means and what to do.
 pub fn message_of(
     alloc: Global,
     text: &[u8],

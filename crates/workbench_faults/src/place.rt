@@ -7,7 +7,7 @@ use blue_rules::spot::Spot;
 use elem_core::line::Line;
 use stream_model::kind::Kind;
 
-/// What a line declares. Rule: own.
+/// What a line declares.
 #[derive(Clone, Copy, PartialEq, Eq)]
 pub enum Sort {
     Switch,
@@ -16,7 +16,7 @@ pub enum Sort {
     Wire,
 }
 
-/// A declaration: which of its sort, from 0. Rule: own.
+/// A declaration: which of its sort, from 0.
 #[derive(Clone, Copy, PartialEq, Eq)]
 pub struct FaultPlace {
     /// What is declared.
@@ -153,7 +153,7 @@ fn sized(spot: Spot) -> FaultPlace {
     }
 }
 
-/// Where the place of a fault of a blueprint is declared, if it is. `own` is the blueprint's own file. Rule: own.
+/// Where the place of a fault of a blueprint is declared, if it is. `own` is the blueprint's own file.
 pub fn place_of(b: &Blueprint, own: &Line, fault: &CheckFault) -> Option<FaultPlace> {
     let node = match fault {
         CheckFault::TwoNames(name) => return told_again(b, name, own),

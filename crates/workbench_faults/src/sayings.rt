@@ -2,7 +2,7 @@
 use blue_check::fault::CheckFault;
 use blue_words::fault::BlueKind;
 
-/// What a fault means, and what to do about it. Rule: own.
+/// What a fault means, and what to do about it.
 #[derive(Clone, Copy)]
 pub struct Saying {
     /// What is wrong.
@@ -11,7 +11,7 @@ pub struct Saying {
     pub advice: &'static [u8],
 }
 
-/// What a fault of a text means. Rule: own.
+/// What a fault of a text means.
 pub fn of_text(kind: BlueKind) -> Saying {
     match kind {
         BlueKind::BadVersion => Saying {
@@ -83,7 +83,7 @@ fn of_ports(fault: &CheckFault) -> Option<Saying> {
     }
 }
 
-/// What a fault of a blueprint means: the rule that it breaks. Rule: own.
+/// What a fault of a blueprint means: the rule that it breaks.
 pub fn of_rule(fault: &CheckFault) -> Saying {
     if let Some(saying) = of_names(fault) {
         return saying;

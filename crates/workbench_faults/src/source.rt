@@ -6,7 +6,7 @@ use blue_core::limit::MAX_TEXT_LINE;
 use blue_words::lines::{is_plain, next_line};
 use blue_words::words::{Words, is_word};
 
-/// A line of a text: its number, from 1, and its bytes without LF. Rule: own.
+/// A line of a text: its number, from 1, and its bytes without LF.
 #[derive(Clone, Copy)]
 pub struct SourceLine<'a> {
     pub number: usize,
@@ -37,7 +37,7 @@ fn declared(line: &[u8]) -> Option<Sort> {
     sort_of(words.next()?)
 }
 
-/// The line in which something is declared. Rule: own.
+/// The line in which something is declared.
 pub fn line_of(text: &[u8], place: FaultPlace) -> Option<SourceLine<'_>> {
     let mut rest = text;
     let mut number: usize = 0;
@@ -58,7 +58,7 @@ pub fn line_of(text: &[u8], place: FaultPlace) -> Option<SourceLine<'_>> {
     None
 }
 
-/// The line of that number. Rule: own.
+/// The line of that number.
 pub fn line_numbered(text: &[u8], number: u32) -> Option<SourceLine<'_>> {
     let mut rest = text;
     let mut at: usize = 0;

@@ -1,4 +1,4 @@
--- What a call of the workbench answers and leaves. Rule: own.
+-- What a call of the workbench answers and leaves.
 use Rattle.std.specs.Prelude.{◌≡◌, ℕ, ◌⊎◌, IsTrue, false, List, Some}
 use Rattle.std.specs.Option.{option_map}
 use Rattle.stream_io.specs.State.{FolderState, DrainState, SameFiles}

@@ -118,7 +118,7 @@ fn put_answer<C: Drain, D: Drain>(answer: &Answer, console: &mut C, faults: &mut
 /// A call of the workbench: `check FILE`, `fmt FILE`, `draw FILE`, `explain FILE` or `turns FILE N..`. It reads the blueprint of that
 /// file, and for `explain` a report from the input; it changes no file. What was wanted goes to the console, faults go where faults
 /// are told. The exit code is 0, 1 for the words, 2 for the blueprint, and those of `streams` for the outside and for memory: 6, 7, 8
-/// and 9. Rule: own.
+/// and 9.
 pub fn run_workbench<S: Source, F: Folder, C: Drain, D: Drain>(
     alloc: Global,
     words: &[Line],

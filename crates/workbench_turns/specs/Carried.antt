@@ -1,4 +1,4 @@
--- How many elements each wire carries, where sources give so many and every stage passes all on. Rule: own.
+-- How many elements each wire carries, where sources give so many and every stage passes all on.
 use Rattle.std.specs.Prelude.{ℕ, ◌+◌, ◌==◌, if◌then◌else◌, List, [], ◌∷◌, map, slice_get, unwrap_or}
 use Rattle.stream_model.specs.Graph.{Edge}
 use Rattle.blue_core.specs.declared.blueprint.Node.{Node}

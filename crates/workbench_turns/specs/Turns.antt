@@ -1,4 +1,4 @@
--- What is told of the units that suffice. Rule: own.
+-- What is told of the units that suffice.
 use Rattle.std.specs.Prelude.{◌≡◌, ℕ, List, ◌++◌, codes}
 use Rattle.std.specs.Fmt.{decimal}
 use Rattle.stream_picture.specs.Shape.{need_from}

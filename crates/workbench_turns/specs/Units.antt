@@ -1,4 +1,4 @@
--- The units for some wires. Rule: own.
+-- The units for some wires.
 use Rattle.std.specs.Prelude.{ℕ, List, map, sum, Option, Some, None, slice_get}
 use Rattle.stream_model.specs.Graph.{Edge}
 use Rattle.stream_picture.specs.Shape.{units_of}

@@ -146,7 +146,7 @@ fn carried_in(
 }
 
 /// How many units suffice for the run of a checked blueprint whose sources give so many elements, in the order of sources, and of
-/// which every stage passes all on: a line for each island, one for the lanes where there are some, and one for all wires. Rule: own.
+/// which every stage passes all on: a line for each island, one for the lanes where there are some, and one for all wires.
 pub fn count_units(alloc: Global, c: &Checked, counts: &[u64]) -> Result<Vec<u8>, TurnsEnd>
     ensures { IfOk result (λ text. Suffices (blueprint_of c.now) counts.now text.items) }
 {

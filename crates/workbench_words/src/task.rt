@@ -10,7 +10,7 @@ use blue_words::words::is_word;
 use elem_core::line::Line;
 use std::alloc::{AllocError, Global};
 
-/// What is to be done with a blueprint. Rule: own.
+/// What is to be done with a blueprint.
 #[derive(Clone, Copy, PartialEq, Eq)]
 pub enum TaskKind {
     /// Its first fault is told.
@@ -25,7 +25,7 @@ pub enum TaskKind {
     Turns,
 }
 
-/// What the words ask for. Rule: own.
+/// What the words ask for.
 #[derive(Drop)]
 pub struct Task {
     /// What is to be done.
@@ -141,7 +141,7 @@ fn task_in(alloc: Global, words: &[Line]) -> Result<Option<Task>, AllocError>
 }
 
 /// What the words ask for: `check FILE`, `fmt FILE`, `draw FILE`, `explain FILE` or `turns FILE N..`, where FILE is the name of a
-/// file and each N a number of 64 bits. For all other words the parser of commands says what is wrong, or helps. Rule: own.
+/// file and each N a number of 64 bits. For all other words the parser of commands says what is wrong, or helps.
 pub fn read_words(alloc: Global, words: &[Line]) -> Result<Task, TaskEnd>
     ensures task { IfOk result (Asks words.now) }
     ensures end { IfErr result (Ends words.now) }

@@ -78,11 +78,14 @@ impl<S: Source, D: Drain, L: Logic, B: PlugBook> Model for Island<S, D, L, B> {
     ghost invariant = { λ i. HasRoom i.room (length i.engine.nodes) (length i.numbers.items) × (length i.places.items ≡ length i.engine.nodes) × (i.broken ≡ false → Keeps S.state D.state B.lists i.engine i.used × (i.acts.items ≡ []) × (MOST_ACTS ≤ i.acts.room)) };
 }
 
+/// A sink at the end of a run: its node, the lines that it wrote, and how it stands.
+pub type SinkStand = (u32, u64, EndState);
+
 /// What an island leaves at its end, each list in order of its nodes or wires.
 #[derive(Drop)]
 pub struct IslandEnd<S: Source, D: Drain> {
     /// Of each sink its node, the lines that it wrote, and how it stands.
-    pub sinks: Vec<(u32, u64, EndState)>,
+    pub sinks: Vec<SinkStand>,
     /// Of each wire its number in the blueprint, and what it carried.
     pub wires: Vec<(u32, WireCount)>,
     /// The moves of each stage whose kind chooses, also where it made none.

@@ -4,16 +4,16 @@ ghost use Rattle.scatter.specs.Shares.{items_at};
 ghost use Rattle.island_ends.specs.Room.{AreEmptyLists, AreSorted, HasMore, IsPut};
 
 use elem_core::why::NoMemory;
-use interpreter::island::IslandEnd;
+use interpreter::island::{IslandEnd, SinkStand};
 use kill_core::seat::SwitchSeat;
 use std::alloc::Global;
 use stream_io::outside::{Drain, Source};
-use stream_model::outcome::{EndState, PickList, WireCount};
+use stream_model::outcome::{PickList, WireCount};
 
 /// Of each kind the list of each island.
 #[derive(Drop)]
 pub struct EndLists<S: Source, D: Drain> {
-    pub sinks: Vec<Vec<(u32, u64, EndState)>>,
+    pub sinks: Vec<Vec<SinkStand>>,
     pub wires: Vec<Vec<(u32, WireCount)>>,
     pub picks: Vec<Vec<PickList>>,
     pub seats: Vec<Vec<(u32, SwitchSeat)>>,

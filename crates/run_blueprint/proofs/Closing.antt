@@ -69,7 +69,7 @@ use Rattle.run_blueprint.specs.Opening.{Opens}
 use Rattle.run_blueprint.specs.Tracing.{IsApart, Traces}
 use Rattle.run_blueprint.specs.Sending.{SentOn}
 use Rattle.run_blueprint.specs.Running.{SinkLeaves, IgnoreLeaves, LeavesFiles, WritesOf, Runs}
-use Rattle.run_blueprint.specs.Stands.{Stand, has_ended_at, is_write_fault, is_unended}
+use Rattle.run_blueprint.specs.Stands.{SinkStand, has_ended_at, is_write_fault, is_unended}
 use Rattle.bodies_run.specs.Counts.{all_sent}
 use Rattle.run_blueprint.specs.Units.{Pays}
 use Rattle.island_runs.specs.declared.run.Stopped.{Stopped}
@@ -135,9 +135,9 @@ draws_told bytes first now items sent none e s = record {
 
 -- ---- how a sink stands at its place
 
-ended_stand : {S D L B : Type 0} (x : IslandNode S D L B) (s : Stand) → stand_in x ≡ Some s → sink_ended x ≡ has_ended s.2
-ended_stand (node.Writing x) s f = let same : (x.node, x.count, x.end) ≡ s = some_one (x.node, x.count, x.end) s f in ap (λ (t : Stand). has_ended t.2) same
-ended_stand (node.Ignoring x) s f = let same : (x.node, 0, x.end) ≡ s = some_one (x.node, 0, x.end) s f in ap (λ (t : Stand). has_ended t.2) same
+ended_stand : {S D L B : Type 0} (x : IslandNode S D L B) (s : SinkStand) → stand_in x ≡ Some s → sink_ended x ≡ has_ended s.2
+ended_stand (node.Writing x) s f = let same : (x.node, x.count, x.end) ≡ s = some_one (x.node, x.count, x.end) s f in ap (λ (t : SinkStand). has_ended t.2) same
+ended_stand (node.Ignoring x) s f = let same : (x.node, 0, x.end) ≡ s = some_one (x.node, 0, x.end) s f in ap (λ (t : SinkStand). has_ended t.2) same
 ended_stand (node.Reading x) s f = absurd cc
 ended_stand (node.Making x) s f = absurd cc
 ended_stand (node.Linear x) s f = absurd cc
@@ -148,7 +148,7 @@ ended_stand (node.FanOut x) s f = absurd cc
 ended_stand (node.Entering x) s f = absurd cc
 ended_stand (node.Leaving x) s f = absurd cc
 
-ended_as : {S D L B : Type 0} (o : Option (IslandNode S D L B)) (x : IslandNode S D L B) (s : Stand) → o ≡ Some x → stand_in x ≡ Some s → ended_there o ≡ has_ended s.2
+ended_as : {S D L B : Type 0} (o : Option (IslandNode S D L B)) (x : IslandNode S D L B) (s : SinkStand) → o ≡ Some x → stand_in x ≡ Some s → ended_there o ≡ has_ended s.2
 ended_as o x s e f = ap ended_there e ∙ ended_stand x s f
 
 sink_shape : (k : Kind) → oneway.is_sink k ≡ true → (outputs_of k == 0) ≡ true
@@ -158,12 +158,12 @@ sink_shape (kind.Last f) e = refl
 sink_shape kind.Ignore e = refl
 sink_shape _ e = absurd cc
 
-stand_there : (k : ℕ) (b : Bool) (o : Option Stand) → StandsAt k b o → b ≡ true → (s : Stand) × ((o ≡ Some s) × (s.0 ≡ k))
+stand_there : (k : ℕ) (b : Bool) (o : Option SinkStand) → StandsAt k b o → b ≡ true → (s : SinkStand) × ((o ≡ Some s) × (s.0 ≡ k))
 stand_there k true o h e = h
 stand_there k false o h e = absurd cc
 
-no_stand : (k : ℕ) (b : Bool) (o : Option Stand) (s : Stand) → StandsAt k b o → o ≡ Some s → s.0 ≡ k
-no_stand k true o s h e = let same : s ≡ h.0 = some_one s h.0 (sym e ∙ h.1.0) in ap (λ (t : Stand). t.0) same ∙ h.1.1
+no_stand : (k : ℕ) (b : Bool) (o : Option SinkStand) (s : SinkStand) → StandsAt k b o → o ≡ Some s → s.0 ≡ k
+no_stand k true o s h e = let same : s ≡ h.0 = some_one s h.0 (sym e ∙ h.1.0) in ap (λ (t : SinkStand). t.0) same ∙ h.1.1
 no_stand k false o s h e = absurd cc
 
 -- a sink has an input
@@ -184,9 +184,9 @@ neither : (a b : Bool) → a ≡ false → b ≡ false → a || b ≡ false
 neither true b p q = absurd cc
 neither false b p q = q
 
-none_unended : (stands : List Stand) → ((i : ℕ) (s : Stand) → slice_get stands i ≡ Some s → is_unended s.2 ≡ false) → list_any (λ (s : Stand). is_unended s.2) stands ≡ false
+none_unended : (stands : List SinkStand) → ((i : ℕ) (s : SinkStand) → slice_get stands i ≡ Some s → is_unended s.2 ≡ false) → list_any (λ (s : SinkStand). is_unended s.2) stands ≡ false
 none_unended [] each = refl
-none_unended (s ∷ ss) each = neither (is_unended s.2) (list_any (λ (t : Stand). is_unended t.2) ss) (each 0 s refl) (none_unended ss (λ i t at. each (suc i) t at))
+none_unended (s ∷ ss) each = neither (is_unended s.2) (list_any (λ (t : SinkStand). is_unended t.2) ss) (each 0 s refl) (none_unended ss (λ i t at. each (suc i) t at))
 
 -- ---- the laws of a run
 
@@ -368,7 +368,7 @@ module _ {S D L B : Type 0} (sources : S → SourceState) (drains : D → DrainS
   }
 
   -- a sink among the stands, its node, and the wire of its input
-  record SinkHere (s : Stand) : Type 0 where
+  record SinkHere (s : SinkStand) : Type 0 where
     node : blue.Node
     at : slice_get nodes s.0 ≡ Some node
     shape : oneway.is_sink node.kind ≡ true
@@ -378,9 +378,9 @@ module _ {S D L B : Type 0} (sources : S → SourceState) (drains : D → DrainS
     there : slice_get (blueprint_wires b) wire ≡ Some is
     to : is.to ≡ s.0
 
-  sink_here : (i : ℕ) (s : Stand) → slice_get st.end.sinks.items i ≡ Some s → SinkHere s
+  sink_here : (i : ℕ) (s : SinkStand) → slice_get st.end.sinks.items i ≡ Some s → SinkHere s
   sink_here i s at =
-      let among : slice_get (filter_map stand_in last) i ≡ Some s = subst (λ (x : List Stand). slice_get x i ≡ Some s) (l.sinks ∙ sinks_filtered last) at in
+      let among : slice_get (filter_map stand_in last) i ≡ Some s = subst (λ (x : List SinkStand). slice_get x i ≡ Some s) (l.sinks ∙ sinks_filtered last) at in
       let from = unfiltered_at stand_in last i s among in
       let below : from.0 < length nodes = subst (λ m. from.0 < m) (sym (as_many sources drains book handles b ss ds left last between old mid opens)) (place_within last from.0 from.1.0 from.1.1.0) in
       let m = place_of nodes from.0 below in
@@ -414,9 +414,9 @@ module _ {S D L B : Type 0} (sources : S → SourceState) (drains : D → DrainS
   drawn = drawn_of sources left last
 
   -- the stand of a sink of lines, by its place among the stands
-  stand_of : (i : ℕ) (s : Stand) (n : blue.Node) (file : List ℕ) → slice_get st.end.sinks.items i ≡ Some s → slice_get nodes s.0 ≡ Some n → output_of n.kind ≡ Some file → (f : ASink s.0 file) × (s ≡ (s.0, f.now.count, f.now.end))
+  stand_of : (i : ℕ) (s : SinkStand) (n : blue.Node) (file : List ℕ) → slice_get st.end.sinks.items i ≡ Some s → slice_get nodes s.0 ≡ Some n → output_of n.kind ≡ Some file → (f : ASink s.0 file) × (s ≡ (s.0, f.now.count, f.now.end))
   stand_of i s n file at here shape =
-      let among : slice_get (filter_map stand_in last) i ≡ Some s = subst (λ (x : List Stand). slice_get x i ≡ Some s) (l.sinks ∙ sinks_filtered last) at in
+      let among : slice_get (filter_map stand_in last) i ≡ Some s = subst (λ (x : List SinkStand). slice_get x i ≡ Some s) (l.sinks ∙ sinks_filtered last) at in
       let from = unfiltered_at stand_in last i s among in
       let below : from.0 < length nodes = subst (λ m. from.0 < m) (sym (as_many sources drains book handles b ss ds left last between old mid opens)) (place_within last from.0 from.1.0 from.1.1.0) in
       let m = place_of nodes from.0 below in
@@ -484,12 +484,12 @@ module _ {S D L B : Type 0} (sources : S → SourceState) (drains : D → DrainS
       }
 
     -- a sink without a file
-    ignore_leaves : (i : ℕ) (s : Stand) (n : blue.Node) → slice_get st.end.sinks.items i ≡ Some s → slice_get nodes s.0 ≡ Some n → n.kind ≡ kind.Ignore → IgnoreLeaves book b drawn st.wires.items s.0 n s.1 s.2
+    ignore_leaves : (i : ℕ) (s : SinkStand) (n : blue.Node) → slice_get st.end.sinks.items i ≡ Some s → slice_get nodes s.0 ≡ Some n → n.kind ≡ kind.Ignore → IgnoreLeaves book b drawn st.wires.items s.0 n s.1 s.2
     ignore_leaves i s n at here shape =
         let at_graph : slice_get g.nodes s.0 ≡ Some (node_of n) = mapped_at node_of nodes s.0 n here in
         let there = laws.ignorer g left run s.0 (node_of n) at_graph shape in
         let now = there.1.0 in
-        let among : slice_get (filter_map stand_in last) i ≡ Some s = subst (λ (x : List Stand). slice_get x i ≡ Some s) (l.sinks ∙ sinks_filtered last) at in
+        let among : slice_get (filter_map stand_in last) i ≡ Some s = subst (λ (x : List SinkStand). slice_get x i ≡ Some s) (l.sinks ∙ sinks_filtered last) at in
         let from = unfiltered_at stand_in last i s among in
         let below : from.0 < length nodes = subst (λ m. from.0 < m) (sym (as_many sources drains book handles b ss ds left last between old mid opens)) (place_within last from.0 from.1.0 from.1.1.0) in
         let m = place_of nodes from.0 below in
@@ -499,9 +499,9 @@ module _ {S D L B : Type 0} (sources : S → SourceState) (drains : D → DrainS
         let told : stand_in {S = S} {D = D} {L = L} {B = B} (node.Ignoring now) ≡ Some s = ap stand_in (sym is) ∙ from.1.1.1 in
         let same : (now.node, 0, now.end) ≡ s = some_one (now.node, 0, now.end) s told in
         record {
-          none = ap (λ (t : Stand). t.1) (sym same);
+          none = ap (λ (t : SinkStand). t.1) (sym same);
           tells = λ w is_world u v wire to.
-              subst (λ (e : EndState). IgnoreTells (sink_outlook g w s.0 (node_of n)) e (sent_at st.wires.items u)) (ap (λ (t : Stand). t.2) same)
+              subst (λ (e : EndState). IgnoreTells (sink_outlook g w s.0 (node_of n)) e (sent_at st.wires.items u)) (ap (λ (t : SinkStand). t.2) same)
               (subst (λ (c : ℕ). IgnoreTells (sink_outlook g w s.0 (node_of n)) now.end c) (sym (wire_count_at u v wire))
               (ignorer_told sources drains book g left run u v wire w (sent_agrees u v wire w is_world) s.0 (node_of n) at_graph shape to there.0 now there.1.1));
         }
@@ -523,7 +523,7 @@ module _ {S D L B : Type 0} (sources : S → SourceState) (drains : D → DrainS
         }
 
     -- in a polytree every sink has ended where no event was left
-    ending : IsPolytree (wiring (blueprint_wires b)) → IsTrue st.at_rest → list_any (λ (s : Stand). is_unended s.2) st.end.sinks.items ≡ false
+    ending : IsPolytree (wiring (blueprint_wires b)) → IsTrue st.at_rest → list_any (λ (s : SinkStand). is_unended s.2) st.end.sinks.items ≡ false
     ending tree rest =
         let ranked = laws.ranked b can.plugs can.taken can.fit in
         none_unended st.end.sinks.items (λ i s at.
@@ -557,7 +557,7 @@ module _ {S D L B : Type 0} (sources : S → SourceState) (drains : D → DrainS
           needed = needed;
           sink = λ i s n file at here shape.
               let found = stand_of i s n file at here shape in
-              subst (λ (t : Stand). SinkLeaves book new b drawn st.wires.items st.at_rest s.0 n file t.1 t.2) (sym found.1) (sink_leaves s.0 n file here found.0);
+              subst (λ (t : SinkStand). SinkLeaves book new b drawn st.wires.items st.at_rest s.0 n file t.1 t.2) (sym found.1) (sink_leaves s.0 n file here found.0);
           ignores = λ i s n at here shape. ignore_leaves i s n at here shape;
           others = λ tells n never aside. other_files sources drains b can last st.end.readers.items st.end.writers.items apart old mid _ _ opens new closes lone tells n never (unlisted trace n aside);
           draws = λ k file u v is at from.
@@ -577,13 +577,13 @@ module _ {S D L B : Type 0} (sources : S → SourceState) (drains : D → DrainS
               let by_place : has_ended_at (filter_map stand_in last) k ≡ has_ended stand.0.2 =
               ended_along 0 nodes last (as_many sources drains book handles b ss ds left last between old mid opens) (λ i y z p q. subst (λ j. StandsAt j (is_sink y) (stand_in z)) (omega arith) (profile i y z p q).stand) k k x.0 stand.0 (omega arith) x.1 stand.1.0 in
               let ended : ended_there (left.nodes k) ≡ has_ended_at st.end.sinks.items k =
-              ended_as (left.nodes k) x.0 stand.0 (between.node_at k ∙ x.1) stand.1.0 ∙ sym by_place ∙ ap (λ (y : List Stand). has_ended_at y k) (sym (l.sinks ∙ sinks_filtered last)) in
+              ended_as (left.nodes k) x.0 stand.0 (between.node_at k ∙ x.1) stand.1.0 ∙ sym by_place ∙ ap (λ (y : List SinkStand). has_ended_at y k) (sym (l.sinks ∙ sinks_filtered last)) in
               subst (λ (c : List WireCount). EachWire (λ i. i.shut ≡ has_ended_at st.end.sinks.items k) (ins g c (composed g w) k n.kind)) (sym wires_are)
               (subst (λ (e : Bool). EachWire (λ i. i.shut ≡ e) (ins g (pictures.counts_of left g) (composed g w) k n.kind)) ended
               (laws.match g w left (composed g w) run (still rest) k n at is));
         }
 
-  calm_output : ((i : ℕ) (s : Stand) → slice_get st.end.sinks.items i ≡ Some s → is_write_fault s.2 ≡ false) → (n : List ℕ) → Contains (outputs_of_nodes nodes) n → Grew (old.wfaults n) 0 (new.wfaults n)
+  calm_output : ((i : ℕ) (s : SinkStand) → slice_get st.end.sinks.items i ≡ Some s → is_write_fault s.2 ≡ false) → (n : List ℕ) → Contains (outputs_of_nodes nodes) n → Grew (old.wfaults n) 0 (new.wfaults n)
   calm_output none n c =
       let at = contained_at (outputs_of_nodes nodes) n c in
       let from = unfiltered_at (λ (m : blue.Node). output_of m.kind) nodes at.0 n at.1 in
@@ -594,7 +594,7 @@ module _ {S D L B : Type 0} (sources : S → SourceState) (drains : D → DrainS
       let named : shape.0 ≡ n = some_one shape.0 n (sym shape.1 ∙ from.1.1.1) in
       let f = sink_at from.0 shape.0 (record { node = from.1.0; at = from.1.1.0; file_is = shape.1 }) in
       let told = filtered_at stand_in last from.0 (node.Writing f.now) (f.now.node, f.now.count, f.now.end) f.at refl in
-      let among : slice_get st.end.sinks.items told.0 ≡ Some (f.now.node, f.now.count, f.now.end) = subst (λ (z : List Stand). slice_get z told.0 ≡ Some (f.now.node, f.now.count, f.now.end)) (sym (l.sinks ∙ sinks_filtered last)) told.1 in
+      let among : slice_get st.end.sinks.items told.0 ≡ Some (f.now.node, f.now.count, f.now.end) = subst (λ (z : List SinkStand). slice_get z told.0 ≡ Some (f.now.node, f.now.count, f.now.end)) (sym (l.sinks ∙ sinks_filtered last)) told.1 in
       let grew : Grew (old.wfaults shape.0) 0 (new.wfaults shape.0) = calm_write f.now.end (old.wfaults shape.0) (new.wfaults shape.0) (none told.0 (f.now.node, f.now.count, f.now.end) among)
       (stands_writes f.now.end (drains f.first.drain) (drains f.now.drain) f.law.wrote f.now.count (old.wfaults shape.0) (new.wfaults shape.0) f.law.stands f.start.faults (sink_writes from.0 shape.0 f)) in
       subst (λ m. Grew (old.wfaults m) 0 (new.wfaults m)) named grew
@@ -606,7 +606,7 @@ module _ {S D L B : Type 0} (sources : S → SourceState) (drains : D → DrainS
     | inr aside ↦ (other_writes sources drains b can last st.end.readers.items st.end.writers.items apart old mid _ _ opens new closes lone n never aside)
   ]
 
-  calm_writes : ((i : ℕ) (s : Stand) → slice_get st.end.sinks.items i ≡ Some s → is_write_fault s.2 ≡ false) → ((n : List ℕ) → Contains (option_to_list trace) n → Grew (old.wfaults n) 0 (new.wfaults n)) → (n : List ℕ) → Grew (old.wfaults n) 0 (new.wfaults n)
+  calm_writes : ((i : ℕ) (s : SinkStand) → slice_get st.end.sinks.items i ≡ Some s → is_write_fault s.2 ≡ false) → ((n : List ℕ) → Contains (option_to_list trace) n → Grew (old.wfaults n) 0 (new.wfaults n)) → (n : List ℕ) → Grew (old.wfaults n) 0 (new.wfaults n)
   calm_writes none calm n = elim (contains_or_not (outputs_of_nodes nodes) n) [
     | inl c ↦ (calm_output none n c)
     | inr never ↦ (calm_other calm n never)
@@ -637,7 +637,7 @@ module _ {S D L B : Type 0} (sources : S → SourceState) (drains : D → DrainS
 
   pub runs_of : (ran : RunResult) → Traced ran → ran.sinks.items ≡ st.end.sinks.items → ran.picks.items ≡ st.end.picks.items → ran.wires.items ≡ st.wires.items → ran.used ≡ st.used → ran.at_rest ≡ st.at_rest → Runs book old new b trace budget ran
   runs_of ran traced sinks chosen wires used rest = record {
-    sinks_are = ap (map (λ (s : Stand). s.0)) (sinks ∙ l.sinks) ∙ stands_are sources drains book handles b ss ds left last between old mid opens;
+    sinks_are = ap (map (λ (s : SinkStand). s.0)) (sinks ∙ l.sinks) ∙ stands_are sources drains book handles b ss ds left last between old mid opens;
     picks_are = ap picked (ap (map pick_of) chosen ∙ l.picks) ∙ picks_stand sources drains book handles b can ss ds left last between old mid opens;
     told = tells_old sources drains b can last st.end.readers.items st.end.writers.items apart old mid _ _ opens new closes lone;
     traces = traced_so ran traced;
@@ -645,12 +645,12 @@ module _ {S D L B : Type 0} (sources : S → SourceState) (drains : D → DrainS
     refusals = refused sources drains b can last st.end.readers.items st.end.writers.items apart old mid _ _ opens new closes lone;
     reads = other_reads sources drains b can last st.end.readers.items st.end.writers.items apart old mid _ _ opens new closes lone;
     writes = λ i s n file at here shape.
-        let found = stand_of i s n file (subst (λ (x : List Stand). slice_get x i ≡ Some s) sinks at) here shape in
+        let found = stand_of i s n file (subst (λ (x : List SinkStand). slice_get x i ≡ Some s) sinks at) here shape in
         let f = found.0 in
-        subst (λ (t : Stand). WritesOf t.2 (old.wfaults file) (new.wfaults file)) (sym found.1)
+        subst (λ (t : SinkStand). WritesOf t.2 (old.wfaults file) (new.wfaults file)) (sym found.1)
         (stands_writes f.now.end (drains f.first.drain) (drains f.now.drain) f.law.wrote f.now.count (old.wfaults file) (new.wfaults file) f.law.stands f.start.faults (sink_writes s.0 file f));
     faults = λ i s at fault.
-        let among : slice_get (filter_map stand_in last) i ≡ Some s = subst (λ (x : List Stand). slice_get x i ≡ Some s) (sinks ∙ l.sinks ∙ sinks_filtered last) at in
+        let among : slice_get (filter_map stand_in last) i ≡ Some s = subst (λ (x : List SinkStand). slice_get x i ≡ Some s) (sinks ∙ l.sinks ∙ sinks_filtered last) at in
         let from = unfiltered_at stand_in last i s among in
         let below : from.0 < length nodes = subst (λ m. from.0 < m) (sym (as_many sources drains book handles b ss ds left last between old mid opens)) (place_within last from.0 from.1.0 from.1.1.0) in
         let m = place_of nodes from.0 below in
@@ -659,7 +659,7 @@ module _ {S D L B : Type 0} (sources : S → SourceState) (drains : D → DrainS
         let is : from.1.0 ≡ node.Writing f.now = place_one last from.0 from.1.0 (node.Writing f.now) from.1.1.0 f.at in
         let told : stand_in {S = S} {D = D} {L = L} {B = B} (node.Writing f.now) ≡ Some s = ap stand_in (sym is) ∙ from.1.1.1 in
         let same : (f.now.node, f.now.count, f.now.end) ≡ s = some_one (f.now.node, f.now.count, f.now.end) s told in
-        let failed : f.now.end ≡ WriteFault = ap (λ (t : Stand). t.2) same ∙ fault in
+        let failed : f.now.end ≡ WriteFault = ap (λ (t : SinkStand). t.2) same ∙ fault in
         let file = filtered_at (λ (n : blue.Node). output_of n.kind) nodes from.0 m.0 shape.0 m.1 shape.1 in
         record {
           file = shape.0;
@@ -667,12 +667,12 @@ module _ {S D L B : Type 0} (sources : S → SourceState) (drains : D → DrainS
           rose = subst (λ (e : EndState). WritesOf e (old.wfaults shape.0) (new.wfaults shape.0)) failed
               (stands_writes f.now.end (drains f.first.drain) (drains f.now.drain) f.law.wrote f.now.count (old.wfaults shape.0) (new.wfaults shape.0) f.law.stands f.start.faults (sink_writes from.0 shape.0 f));
         };
-    calm = λ none calm. calm_writes (λ i s at. none i s (subst (λ (x : List Stand). slice_get x i ≡ Some s) (sym sinks) at)) (calm_trace old new b trace _ ran.trace_failed (traced_so ran traced) calm);
+    calm = λ none calm. calm_writes (λ i s at. none i s (subst (λ (x : List SinkStand). slice_get x i ≡ Some s) (sym sinks) at)) (calm_trace old new b trace _ ran.trace_failed (traced_so ran traced) calm);
     other_writes = λ n never aside. other_writes sources drains b can last st.end.readers.items st.end.writers.items apart old mid _ _ opens new closes lone n never (unlisted trace n aside);
     other_draws = other_draws sources drains b can last st.end.readers.items st.end.writers.items apart old mid _ _ opens new closes lone;
     within = rw used l.within;
     spent = λ h. used ∙ l.spent (sym rest ∙ h);
     pays = rw (wires, used) pays;
     carries = rw (wires, chosen, l.picks) carried;
-    wired = λ some. sinks_wired (subst (λ (x : List Stand). 1 ≤ length x) sinks some);
+    wired = λ some. sinks_wired (subst (λ (x : List SinkStand). 1 ≤ length x) sinks some);
   }

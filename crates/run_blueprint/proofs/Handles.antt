@@ -34,7 +34,7 @@ use Rattle.run_files.specs.Opening.{AtStart, HoldsNone}
 use Rattle.run_blueprint.specs.Opening.{Opens}
 use Rattle.run_blueprint.specs.Drawing.{IsSource}
 use Rattle.island_runs.specs.Leaving.{Moment}
-use Rattle.run_blueprint.specs.Stands.{Stand, sink_places}
+use Rattle.run_blueprint.specs.Stands.{SinkStand, sink_places}
 use Rattle.run_blueprint.proofs.Places.{all_at, mapped_at, place_one}
 use Rattle.run_blueprint.proofs.Profiles.{some_one, stand_in, sinks_filtered, Profile, node_profile, stands_along, StandsAt, writes_file, never_faults, writing_kind}
 use Rattle.stream_model.specs.Linear.{Book}
@@ -216,7 +216,7 @@ module _ {S D L B : Type 0} (sources : S → SourceState) (drains : D → DrainS
       ap (λ (z : Sink D). (drains z.drain).name) (sym same) ∙ facts.law.name ∙ facts.first_named)
 
   -- a node that stands at a failed write is a sink with a file
-  pub fault_kind : (k : ℕ) (n : blue.Node) (x : IslandNode S D L B) (s : Stand) → slice_get nodes k ≡ Some n → slice_get last k ≡ Some x → stand_in x ≡ Some s → s.2 ≡ WriteFault → (name : List ℕ) × (output_of n.kind ≡ Some name)
+  pub fault_kind : (k : ℕ) (n : blue.Node) (x : IslandNode S D L B) (s : SinkStand) → slice_get nodes k ≡ Some n → slice_get last k ≡ Some x → stand_in x ≡ Some s → s.2 ≡ WriteFault → (name : List ℕ) × (output_of n.kind ≡ Some name)
   fault_kind k n x s at here stands fault =
       let f = node_facts k n x at here in
       let y = never_faults sources drains book k n f.first x s f.knew f.came f.went f.law stands fault in
@@ -229,7 +229,7 @@ module _ {S D L B : Type 0} (sources : S → SourceState) (drains : D → DrainS
       writing_kind sources drains book k n (chains_of b) f.first x y f.knew f.came f.went f.made f.law is
 
   -- the sinks stand in the order of nodes
-  pub stands_are : map (λ (s : Stand). s.0) (sinks_of last) ≡ sink_places 0 nodes
+  pub stands_are : map (λ (s : SinkStand). s.0) (sinks_of last) ≡ sink_places 0 nodes
   stands_are =
-      ap (map (λ (s : Stand). s.0)) (sinks_filtered last)
+      ap (map (λ (s : SinkStand). s.0)) (sinks_filtered last)
       ∙ stands_along 0 nodes last as_many (λ i n x p q. subst (λ k. StandsAt k (is_sink n) (stand_in x)) (omega arith) (profiles i n x p q).stand)

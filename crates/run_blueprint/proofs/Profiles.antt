@@ -31,7 +31,7 @@ use Rattle.run_picture_laws.specs.Picture.{has_ended}
 use Rattle.blue_core.specs.declared.blueprint.Node as blue
 use Rattle.materializer.specs.Files.{input_of, output_of, is_sink}
 use Rattle.materializer.specs.Graphs.{node_of}
-use Rattle.run_blueprint.specs.Stands.{Stand, sink_places, has_ended_at}
+use Rattle.run_blueprint.specs.Stands.{SinkStand, sink_places, has_ended_at}
 use Rattle.stream_model.specs.Linear.{Book}
 
 -- what a node leaves
@@ -43,7 +43,7 @@ abbrev pub writer_in : {S D L B : Type 0} → IslandNode S D L B → Option D
 writer_in (node.Writing x) = Some x.drain
 writer_in _ = None
 
-abbrev pub stand_in : {S D L B : Type 0} → IslandNode S D L B → Option Stand
+abbrev pub stand_in : {S D L B : Type 0} → IslandNode S D L B → Option SinkStand
 stand_in (node.Writing x) = Some (x.node, x.count, x.end)
 stand_in (node.Ignoring x) = Some (x.node, 0, x.end)
 stand_in _ = None
@@ -80,7 +80,7 @@ pub sinks_filtered : {S D L B : Type 0} (xs : List (IslandNode S D L B)) → sin
 sinks_filtered [] = refl
 sinks_filtered (node.Reading x ∷ xs) = sinks_filtered xs
 sinks_filtered (node.Linear x ∷ xs) = sinks_filtered xs
-sinks_filtered (node.Writing x ∷ xs) = ap (λ (l : List Stand). (x.node, x.count, x.end) ∷ l) (sinks_filtered xs)
+sinks_filtered (node.Writing x ∷ xs) = ap (λ (l : List SinkStand). (x.node, x.count, x.end) ∷ l) (sinks_filtered xs)
 sinks_filtered (node.Making x ∷ xs) = sinks_filtered xs
 sinks_filtered (node.State x ∷ xs) = sinks_filtered xs
 sinks_filtered (node.Sub x ∷ xs) = sinks_filtered xs
@@ -88,14 +88,14 @@ sinks_filtered (node.FanIn x ∷ xs) = sinks_filtered xs
 sinks_filtered (node.FanOut x ∷ xs) = sinks_filtered xs
 sinks_filtered (node.Entering x ∷ xs) = sinks_filtered xs
 sinks_filtered (node.Leaving x ∷ xs) = sinks_filtered xs
-sinks_filtered (node.Ignoring x ∷ xs) = ap (λ (l : List Stand). (x.node, 0, x.end) ∷ l) (sinks_filtered xs)
+sinks_filtered (node.Ignoring x ∷ xs) = ap (λ (l : List SinkStand). (x.node, 0, x.end) ∷ l) (sinks_filtered xs)
 
 pub some_one : {A : Type 0} (x y : A) → Some x ≡ Some y → x ≡ y
 some_one x y e = cc
 
 -- what a sink, and what no sink leaves, at its place
-abbrev pub StandsAt : ℕ → Bool → Option Stand → Type 0
-StandsAt k true o = (s : Stand) × ((o ≡ Some s) × (s.0 ≡ k))
+abbrev pub StandsAt : ℕ → Bool → Option SinkStand → Type 0
+StandsAt k true o = (s : SinkStand) × ((o ≡ Some s) × (s.0 ≡ k))
 StandsAt k false o = o ≡ None
 
 -- what node k leaves: a reader where its kind reads a file, which the reader names; a drain where its kind writes one; and how
@@ -104,7 +104,7 @@ pub record Profile {S D L B : Type 0} (sources : S → SourceState) (drains : D 
   pub input : input_of n.kind ≡ option_map (λ s. (sources s).name) (reader_in x)
   pub output : output_of n.kind ≡ option_map (λ d. (drains d).name) (writer_in x)
   pub stand : StandsAt k (is_sink n) (stand_in x)
-  pub sink : (s : Stand) → stand_in x ≡ Some s → oneway.is_sink n.kind ≡ true
+  pub sink : (s : SinkStand) → stand_in x ≡ Some s → oneway.is_sink n.kind ≡ true
 
 -- a kind with some output that reads no file: a stage, or a source without a file
 record IsInner (shape : Kind) : Type 0 where
@@ -189,11 +189,11 @@ writes_file (kind.Head f) name e = tt
 writes_file (kind.Last f) name e = tt
 writes_file _ name e = absurd cc
 
-no_sink : (k : ℕ) (b : Bool) (o : Option Stand) → b ≡ false → o ≡ None → StandsAt k b o
+no_sink : (k : ℕ) (b : Bool) (o : Option SinkStand) → b ≡ false → o ≡ None → StandsAt k b o
 no_sink k true o e f = absurd cc
 no_sink k false o e f = f
 
-a_sink : (k : ℕ) (b : Bool) (o : Option Stand) (s : Stand) → b ≡ true → o ≡ Some s → s.0 ≡ k → StandsAt k b o
+a_sink : (k : ℕ) (b : Bool) (o : Option SinkStand) (s : SinkStand) → b ≡ true → o ≡ Some s → s.0 ≡ k → StandsAt k b o
 a_sink k true o s e f g = (s, (f, g))
 a_sink k false o s e f g = absurd cc
 
@@ -266,11 +266,11 @@ module _ {S D L B : Type 0} (sources : S → SourceState) (drains : D → DrainS
   writing_kind chains f y x v took gave made law is = absurd law
 
   -- no write of a sink without a file fails
-  pub never_faults : (first now : IslandNode S D L B) (s : Stand) (v : View) (took gave : List (List Item)) → node_law sources drains book first now v took gave → stand_in now ≡ Some s → s.2 ≡ WriteFault → (x : Sink D) × (now ≡ node.Writing x)
+  pub never_faults : (first now : IslandNode S D L B) (s : SinkStand) (v : View) (took gave : List (List Item)) → node_law sources drains book first now v took gave → stand_in now ≡ Some s → s.2 ≡ WriteFault → (x : Sink D) × (now ≡ node.Writing x)
   never_faults (node.Writing f) (node.Writing y) s v took gave law stands fault = (y, refl)
   never_faults (node.Ignoring f) (node.Ignoring y) s v took gave law stands fault =
       let same : (y.node, 0, y.end) ≡ s = some_one (y.node, 0, y.end) s stands in
-      let never : EndsWith WriteFault law.in_end = subst (λ e. EndsWith e law.in_end) (ap (λ (t : Stand). t.2) same ∙ fault) law.ends in
+      let never : EndsWith WriteFault law.in_end = subst (λ e. EndsWith e law.in_end) (ap (λ (t : SinkStand). t.2) same ∙ fault) law.ends in
       absurd never
   never_faults (node.Reading f) (node.Reading y) s v took gave law stands fault = absurd cc
   never_faults (node.Making f) (node.Making y) s v took gave law stands fault = absurd cc
@@ -298,11 +298,11 @@ writer_there name (node.Leaving y) n e = absurd cc
 writer_there name (node.Ignoring y) n e = absurd cc
 
 -- the sinks stand in the order of their nodes
-stand_cons : (k : ℕ) (b : Bool) (o : Option Stand) (later : List ℕ) (ss : List Stand) → StandsAt k b o → map (λ (s : Stand). s.0) ss ≡ later → map (λ (s : Stand). s.0) (cons_option o ss) ≡ (if b then k ∷ later else later)
-stand_cons k true o later ss h e = rw h.1.0 (ap (λ m. m ∷ map (λ (s : Stand). s.0) ss) h.1.1 ∙ ap (λ l. k ∷ l) e)
+stand_cons : (k : ℕ) (b : Bool) (o : Option SinkStand) (later : List ℕ) (ss : List SinkStand) → StandsAt k b o → map (λ (s : SinkStand). s.0) ss ≡ later → map (λ (s : SinkStand). s.0) (cons_option o ss) ≡ (if b then k ∷ later else later)
+stand_cons k true o later ss h e = rw h.1.0 (ap (λ m. m ∷ map (λ (s : SinkStand). s.0) ss) h.1.1 ∙ ap (λ l. k ∷ l) e)
 stand_cons k false o later ss h e = rw h e
 
-pub stands_along : {S D L B : Type 0} (k : ℕ) (ns : List blue.Node) (xs : List (IslandNode S D L B)) → length ns ≡ length xs → ((i : ℕ) (n : blue.Node) (x : IslandNode S D L B) → slice_get ns i ≡ Some n → slice_get xs i ≡ Some x → StandsAt (k + i) (is_sink n) (stand_in x)) → map (λ (s : Stand). s.0) (filter_map stand_in xs) ≡ sink_places k ns
+pub stands_along : {S D L B : Type 0} (k : ℕ) (ns : List blue.Node) (xs : List (IslandNode S D L B)) → length ns ≡ length xs → ((i : ℕ) (n : blue.Node) (x : IslandNode S D L B) → slice_get ns i ≡ Some n → slice_get xs i ≡ Some x → StandsAt (k + i) (is_sink n) (stand_in x)) → map (λ (s : SinkStand). s.0) (filter_map stand_in xs) ≡ sink_places k ns
 stands_along k [] [] e p = refl
 stands_along k [] (x ∷ xs) e p = absurd (omega (arith, e))
 stands_along k (n ∷ ns) [] e p = absurd (omega (arith, e))
@@ -312,33 +312,33 @@ stands_along k (n ∷ ns) (x ∷ xs) e p =
     (stands_along (k + 1) ns xs (omega (arith, e)) (λ i m y a b. subst (λ j. StandsAt j (is_sink m) (stand_in y)) (omega arith) (p (suc i) m y a b)))
 
 -- a sink that has ended is told so by its stand, where each stand has the number of its node
-skip_other : (s : Stand) (ss : List Stand) (j : ℕ) → s.0 ≢ j → has_ended_at (s ∷ ss) j ≡ has_ended_at ss j
+skip_other : (s : SinkStand) (ss : List SinkStand) (j : ℕ) → s.0 ≢ j → has_ended_at (s ∷ ss) j ≡ has_ended_at ss j
 skip_other s ss j differs = elim (eqb_tells s.0 j) as (λ _. has_ended_at (s ∷ ss) j ≡ has_ended_at ss j) [
   | inl e ↦ absurd (differs e.1)
   | inr e ↦ rw e.0 refl
 ]
 
-take_this : (s : Stand) (ss : List Stand) (j : ℕ) → s.0 ≡ j → has_ended_at (s ∷ ss) j ≡ has_ended s.2
+take_this : (s : SinkStand) (ss : List SinkStand) (j : ℕ) → s.0 ≡ j → has_ended_at (s ∷ ss) j ≡ has_ended s.2
 take_this s ss j same = elim (eqb_tells s.0 j) as (λ _. has_ended_at (s ∷ ss) j ≡ has_ended s.2) [
   | inl e ↦ rw e.0 refl
   | inr e ↦ absurd (e.1 same)
 ]
 
-numbered_by : (k j : ℕ) (o : Option Stand) (ss : List Stand) (b : Bool) → StandsAt k b o → j ≢ k → has_ended_at (cons_option o ss) j ≡ has_ended_at ss j
+numbered_by : (k j : ℕ) (o : Option SinkStand) (ss : List SinkStand) (b : Bool) → StandsAt k b o → j ≢ k → has_ended_at (cons_option o ss) j ≡ has_ended_at ss j
 numbered_by k j None ss b h differs = refl
-numbered_by k j (Some s) ss true h differs = let same : s ≡ h.0 = cc in skip_other s ss j (λ e. differs (sym e ∙ ap (λ (x : Stand). x.0) same ∙ h.1.1))
+numbered_by k j (Some s) ss true h differs = let same : s ≡ h.0 = cc in skip_other s ss j (λ e. differs (sym e ∙ ap (λ (x : SinkStand). x.0) same ∙ h.1.1))
 numbered_by k j (Some s) ss false h differs = absurd cc
 
-stand_number : (k : ℕ) (b : Bool) (s : Stand) → StandsAt k b (Some s) → s.0 ≡ k
-stand_number k true s h = let same : s ≡ h.0 = cc in ap (λ (x : Stand). x.0) same ∙ h.1.1
+stand_number : (k : ℕ) (b : Bool) (s : SinkStand) → StandsAt k b (Some s) → s.0 ≡ k
+stand_number k true s h = let same : s ≡ h.0 = cc in ap (λ (x : SinkStand). x.0) same ∙ h.1.1
 stand_number k false s h = absurd cc
 
-ended_first : (k j : ℕ) (b : Bool) (o : Option Stand) (s : Stand) (ss : List Stand) → StandsAt k b o → o ≡ Some s → j ≡ k → has_ended_at (cons_option o ss) j ≡ has_ended s.2
+ended_first : (k j : ℕ) (b : Bool) (o : Option SinkStand) (s : SinkStand) (ss : List SinkStand) → StandsAt k b o → o ≡ Some s → j ≡ k → has_ended_at (cons_option o ss) j ≡ has_ended s.2
 ended_first k j b None s ss h e is = absurd cc
-ended_first k j b (Some t) s ss h e is = let same : t ≡ s = cc in take_this t ss j (stand_number k b t h ∙ sym is) ∙ ap (λ (x : Stand). has_ended x.2) same
+ended_first k j b (Some t) s ss h e is = let same : t ≡ s = cc in take_this t ss j (stand_number k b t h ∙ sym is) ∙ ap (λ (x : SinkStand). has_ended x.2) same
 
 pub ended_along : {S D L B : Type 0} (k : ℕ) (ns : List blue.Node) (xs : List (IslandNode S D L B)) → length ns ≡ length xs → ((i : ℕ) (n : blue.Node) (x : IslandNode S D L B) → slice_get ns i ≡ Some n → slice_get xs i ≡ Some x → StandsAt (k + i) (is_sink n) (stand_in x))
-    → (i j : ℕ) (x : IslandNode S D L B) (s : Stand) → j ≡ k + i → slice_get xs i ≡ Some x → stand_in x ≡ Some s → has_ended_at (filter_map stand_in xs) j ≡ has_ended s.2
+    → (i j : ℕ) (x : IslandNode S D L B) (s : SinkStand) → j ≡ k + i → slice_get xs i ≡ Some x → stand_in x ≡ Some s → has_ended_at (filter_map stand_in xs) j ≡ has_ended s.2
 ended_along k ns [] e p i j x s is at stands = absurd cc
 ended_along k [] (y ∷ ys) e p i j x s is at stands = absurd (omega (arith, e))
 ended_along k (n ∷ ns) (y ∷ ys) e p zero j x s is at stands =

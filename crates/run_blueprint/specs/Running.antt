@@ -31,7 +31,7 @@ use Rattle.run_blueprint.specs.Carrying.{Carries}
 use Rattle.run_blueprint.specs.Choosing.{pick_places, picked}
 use Rattle.run_blueprint.specs.Drawing.{Drawn, IsSource, WasRead, WereRead, IsWorldOf, DrawsFirst}
 use Rattle.run_blueprint.specs.Sending.{SentOn}
-use Rattle.run_blueprint.specs.Stands.{Stand, sink_places, has_ended_at, is_write_fault, is_unended}
+use Rattle.run_blueprint.specs.Stands.{SinkStand, sink_places, has_ended_at, is_write_fault, is_unended}
 use Rattle.run_blueprint.specs.Tracing.{Traces, written_files}
 use Rattle.run_blueprint.specs.Units.{Pays}
 use Rattle.run_blueprint.specs.declared.run.RunResult.{RunResult}
@@ -63,15 +63,15 @@ pub record IgnoreLeaves (book : Book) (b : Blueprint) (d : Drawn) (wires : List 
 -- rests, and a sink's input is shut exactly where the sink has ended; in a polytree every sink has ended then. The stages chose
 -- these moves, which fit what may come in on their inputs. There is a world that has the input files as they were read, and these
 -- moves.
-pub record LeavesFiles (book : Book) (old new : FolderState) (b : Blueprint) (trace : Option (List ℕ)) (sinks : List Stand) (picks : List Pick) (wires : List WireCount) (at_rest : Bool) : Type 0 where
+pub record LeavesFiles (book : Book) (old new : FolderState) (b : Blueprint) (trace : Option (List ℕ)) (sinks : List SinkStand) (picks : List Pick) (wires : List WireCount) (at_rest : Bool) : Type 0 where
   pub drawn : Drawn
   pub chose : drawn.picks ≡ picks
   pub read : WereRead old new b.nodes.items drawn
   pub world : World
   pub has_files : IsWorldOf book b.nodes.items drawn world
-  pub sink : (i : ℕ) (s : Stand) (n : Node) (file : List ℕ) → slice_get sinks i ≡ Some s → slice_get b.nodes.items s.0 ≡ Some n → output_of n.kind ≡ Some file
+  pub sink : (i : ℕ) (s : SinkStand) (n : Node) (file : List ℕ) → slice_get sinks i ≡ Some s → slice_get b.nodes.items s.0 ≡ Some n → output_of n.kind ≡ Some file
       → SinkLeaves book new b drawn wires at_rest s.0 n file s.1 s.2
-  pub ignores : (i : ℕ) (s : Stand) (n : Node) → slice_get sinks i ≡ Some s → slice_get b.nodes.items s.0 ≡ Some n → n.kind ≡ Ignore → IgnoreLeaves book b drawn wires s.0 n s.1 s.2
+  pub ignores : (i : ℕ) (s : SinkStand) (n : Node) → slice_get sinks i ≡ Some s → slice_get b.nodes.items s.0 ≡ Some n → n.kind ≡ Ignore → IgnoreLeaves book b drawn wires s.0 n s.1 s.2
   pub others : IsTrue new.tells → (n : List ℕ) → ¬ (Contains (outputs_of_nodes b.nodes.items) n) → trace ≢ Some n → new.file n ≡ old.file n
   pub draws : (k : ℕ) (file : List ℕ) (u : ℕ) (v : Edge) → IsSource b.nodes.items k file → slice_get (blueprint_wires b) u ≡ Some v → v.from ≡ k
       → DrawsFirst (drawn.bytes k) (drawn.given k) (drawn.faulted k) (sent_at wires u)
@@ -99,16 +99,16 @@ pub record SomeWriteRose (old new : FolderState) (b : Blueprint) : Type 0 where
 -- stage whose kind chooses, in order of nodes, and no other; the trace's file, where one is wanted, holds the text of these moves, or
 -- a first part where a write to it failed.
 pub record Runs (book : Book) (old new : FolderState) (b : Blueprint) (trace : Option (List ℕ)) (budget : ℕ) (ran : RunResult) : Type 0 where
-  pub sinks_are : map (λ (s : Stand). s.0) ran.sinks.items ≡ sink_places 0 b.nodes.items
+  pub sinks_are : map (λ (s : SinkStand). s.0) ran.sinks.items ≡ sink_places 0 b.nodes.items
   pub picks_are : picked (map pick_of ran.picks.items) ≡ pick_places 0 b.nodes.items
   pub told : IsTrue new.tells → IsTrue old.tells
   pub traces : Traces old new b trace (map pick_of ran.picks.items) ran.trace_failed
   pub leaves : IsTrue old.tells → LeavesFiles book old new b trace ran.sinks.items (map pick_of ran.picks.items) ran.wires.items ran.at_rest
   pub refusals : Quiet old.refusals new.refusals
   pub reads : (n : List ℕ) → ¬ (Contains (inputs_of_nodes b.nodes.items) n) → Grew (old.rfaults n) 0 (new.rfaults n)
-  pub writes : (i : ℕ) (s : Stand) (n : Node) (file : List ℕ) → slice_get ran.sinks.items i ≡ Some s → slice_get b.nodes.items s.0 ≡ Some n → output_of n.kind ≡ Some file → WritesOf s.2 (old.wfaults file) (new.wfaults file)
-  pub faults : (i : ℕ) (s : Stand) → slice_get ran.sinks.items i ≡ Some s → s.2 ≡ WriteFault → SomeWriteRose old new b
-  pub calm : ((i : ℕ) (s : Stand) → slice_get ran.sinks.items i ≡ Some s → is_write_fault s.2 ≡ false) → ran.trace_failed ≡ false → Quiet old.wfaults new.wfaults
+  pub writes : (i : ℕ) (s : SinkStand) (n : Node) (file : List ℕ) → slice_get ran.sinks.items i ≡ Some s → slice_get b.nodes.items s.0 ≡ Some n → output_of n.kind ≡ Some file → WritesOf s.2 (old.wfaults file) (new.wfaults file)
+  pub faults : (i : ℕ) (s : SinkStand) → slice_get ran.sinks.items i ≡ Some s → s.2 ≡ WriteFault → SomeWriteRose old new b
+  pub calm : ((i : ℕ) (s : SinkStand) → slice_get ran.sinks.items i ≡ Some s → is_write_fault s.2 ≡ false) → ran.trace_failed ≡ false → Quiet old.wfaults new.wfaults
   pub other_writes : (n : List ℕ) → ¬ (Contains (outputs_of_nodes b.nodes.items) n) → trace ≢ Some n → Grew (old.wfaults n) 0 (new.wfaults n)
   pub other_draws : (n : List ℕ) → ¬ (Contains (inputs_of_nodes b.nodes.items) n) → Grew (old.read n) 0 (new.read n)
   pub within : ran.used ≤ budget

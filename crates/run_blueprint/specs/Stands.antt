@@ -7,8 +7,8 @@ use Rattle.materializer.specs.Files.{is_sink}
 use Rattle.run_picture_laws.specs.Picture.{has_ended}
 
 -- the number of the sink's node, how many whole lines it wrote, and how it stands
-abbrev pub Stand : Type 0
-Stand = ℕ × ℕ × EndState
+abbrev pub SinkStand : Type 0
+SinkStand = ℕ × ℕ × EndState
 
 -- the numbers of the sinks among these nodes, which are numbered from k
 abbrev pub sink_places : ℕ → List Node → List ℕ
@@ -16,7 +16,7 @@ sink_places k [] = []
 sink_places k (n ∷ ns) = if is_sink n then k ∷ sink_places (k + 1) ns else sink_places (k + 1) ns
 
 -- node k is a sink that has ended
-abbrev pub has_ended_at : List Stand → ℕ → Bool
+abbrev pub has_ended_at : List SinkStand → ℕ → Bool
 has_ended_at [] k = false
 has_ended_at (s ∷ ss) k = if s.0 == k then has_ended s.2 else has_ended_at ss k
 

@@ -22,7 +22,7 @@ use blue_core::blueprint::Blueprint;
 use dispatcher::ran::Ran;
 use elem_core::line::Line;
 use elem_core::why::NoMemory;
-use interpreter::island::IslandEnd;
+use interpreter::island::{IslandEnd, SinkStand};
 use island_runs::prepare::prepare;
 use island_runs::run::{Broken, Stopped};
 use materializer::laws::{fit_blueprints_are_whole, parts_hold_their_files};
@@ -45,7 +45,7 @@ use std::alloc::Global;
 use std::sync::Wait;
 use std::thread::Threads;
 use stream_io::outside::{Drain, Folder};
-use stream_model::outcome::{EndState, PickList, WireCount};
+use stream_model::outcome::{PickList, WireCount};
 use stream_picture::laws::polytrees_end;
 
 /// What a run came to: of each sink, in order of nodes, its node, how many whole lines it wrote and how it stands; the moves of
@@ -53,7 +53,7 @@ use stream_picture::laws::polytrees_end;
 /// whether a write to the trace's file failed; and the receipt of the run.
 #[derive(Drop)]
 pub struct RunResult {
-    pub sinks: Vec<(u32, u64, EndState)>,
+    pub sinks: Vec<SinkStand>,
     pub picks: Vec<PickList>,
     pub wires: Vec<WireCount>,
     pub used: u32,

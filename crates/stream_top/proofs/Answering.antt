@@ -37,7 +37,7 @@ use Rattle.interpreter.specs.Picks.{Pick, pick_of}
 use Rattle.run_blueprint.specs.Carrying.{Carries}
 use Rattle.run_blueprint.specs.Choosing.{pick_places, picked}
 use Rattle.run_blueprint.specs.Drawing.{Drawn, IsSource, WasRead, IsWorldOf}
-use Rattle.run_blueprint.specs.Stands.{Stand, sink_places, is_write_fault, is_unended, is_failed}
+use Rattle.run_blueprint.specs.Stands.{SinkStand, sink_places, is_write_fault, is_unended, is_failed}
 use Rattle.run_blueprint.specs.Units.{Pays}
 use Rattle.run_blueprint.specs.Running.{SinkLeaves, LeavesFiles, WritesOf, Runs, BreaksFiles, Wants}
 use Rattle.run_blueprint.specs.Tracing.{written_files, IsApart, Traces}
@@ -65,15 +65,15 @@ at_name [] back n = refl
 at_name (x ∷ xs) back n = at_name xs back n
 
 -- the names of the sinks and their stands tell of the same as the stands alone
-ends_by : (b : Bool) (all : List Node) (k : ℕ) (n : Node) (ns : List Node) (stands : List Stand) → slice_get all k ≡ Some n
-    → ((later : List Stand) → map (λ (s : Stand). s.0) later ≡ sink_places (k + 1) ns → ends_of (map (λ (m : Node). m.name) (filter is_sink ns)) later ≡ told_ends all later)
-    → map (λ (s : Stand). s.0) stands ≡ (if b then k ∷ sink_places (k + 1) ns else sink_places (k + 1) ns)
+ends_by : (b : Bool) (all : List Node) (k : ℕ) (n : Node) (ns : List Node) (stands : List SinkStand) → slice_get all k ≡ Some n
+    → ((later : List SinkStand) → map (λ (s : SinkStand). s.0) later ≡ sink_places (k + 1) ns → ends_of (map (λ (m : Node). m.name) (filter is_sink ns)) later ≡ told_ends all later)
+    → map (λ (s : SinkStand). s.0) stands ≡ (if b then k ∷ sink_places (k + 1) ns else sink_places (k + 1) ns)
     → ends_of (map (λ (m : Node). m.name) (if b then n ∷ filter is_sink ns else filter is_sink ns)) stands ≡ told_ends all stands
 ends_by false all k n ns stands at later e = later stands e
 ends_by true all k n ns [] at later e = absurd cc
 ends_by true all k n ns (s ∷ ss) at later e =
     let place : s.0 ≡ k = cc in
-    let rest : map (λ (x : Stand). x.0) ss ≡ sink_places (k + 1) ns = cc in
+    let rest : map (λ (x : SinkStand). x.0) ss ≡ sink_places (k + 1) ns = cc in
     let name : name_in (slice_get all s.0) ≡ n.name = ap (λ (i : ℕ). name_in (slice_get all i)) place ∙ ap name_in at in
     ap (λ (x : List ℕ). record { name = x; count = s.1; end = s.2 } ∷ ends_of (map (λ (m : Node). m.name) (filter is_sink ns)) ss) (sym name)
     ∙ ap (λ (l : List SinkEnd). told_end all s ∷ l) (later ss rest)
@@ -82,7 +82,7 @@ length_push_back : (xs : List Node) (x : Node) → length xs + 1 ≡ length (xs 
 length_push_back [] x = refl
 length_push_back (y ∷ ys) x = let h : length ys + 1 ≡ length (ys ++ x ∷ []) = length_push_back ys x in omega (arith, h)
 
-ends_along : (all front back : List Node) (stands : List Stand) → all ≡ front ++ back → map (λ (s : Stand). s.0) stands ≡ sink_places (length front) back → ends_of (map (λ (m : Node). m.name) (filter is_sink back)) stands ≡ told_ends all stands
+ends_along : (all front back : List Node) (stands : List SinkStand) → all ≡ front ++ back → map (λ (s : SinkStand). s.0) stands ≡ sink_places (length front) back → ends_of (map (λ (m : Node). m.name) (filter is_sink back)) stands ≡ told_ends all stands
 ends_along all front [] [] is e = refl
 ends_along all front [] (s ∷ ss) is e = absurd cc
 ends_along all front (n ∷ ns) stands is e =
@@ -90,7 +90,7 @@ ends_along all front (n ∷ ns) stands is e =
     (λ later le. ends_along all (front ++ n ∷ []) ns later (is ∙ sym (append_assoc front (n ∷ []) ns)) (le ∙ ap (λ (i : ℕ). sink_places i ns) (length_push_back front n)))
     e
 
-pub ends_told : (nodes : List Node) (stands : List Stand) → map (λ (s : Stand). s.0) stands ≡ sink_places 0 nodes → ends_of (sinks_of_nodes nodes) stands ≡ told_ends nodes stands
+pub ends_told : (nodes : List Node) (stands : List SinkStand) → map (λ (s : SinkStand). s.0) stands ≡ sink_places 0 nodes → ends_of (sinks_of_nodes nodes) stands ≡ told_ends nodes stands
 ends_told nodes stands e = ends_along nodes [] nodes stands refl e
 
 -- there are as many of them
@@ -103,11 +103,11 @@ places_count : (k : ℕ) (nodes : List Node) → length (sink_places k nodes) �
 places_count k [] = refl
 places_count k (n ∷ ns) = places_by (is_sink n) k n ns (places_count (k + 1) ns)
 
-pub as_many_stands : (nodes : List Node) (stands : List Stand) → map (λ (s : Stand). s.0) stands ≡ sink_places 0 nodes → length (sinks_of_nodes nodes) ≡ length stands
-as_many_stands nodes stands e = sym (places_count 0 nodes) ∙ ap length (sym e) ∙ length-map stands (λ (s : Stand). s.0)
+pub as_many_stands : (nodes : List Node) (stands : List SinkStand) → map (λ (s : SinkStand). s.0) stands ≡ sink_places 0 nodes → length (sinks_of_nodes nodes) ≡ length stands
+as_many_stands nodes stands e = sym (places_count 0 nodes) ∙ ap length (sym e) ∙ length-map stands (λ (s : SinkStand). s.0)
 
 -- a test of the ends is one of the stands
-any_told : (test : EndState → Bool) (nodes : List Node) (stands : List Stand) → list_any (λ (s : SinkEnd). test s.end) (told_ends nodes stands) ≡ list_any (λ (s : Stand). test s.2) stands
+any_told : (test : EndState → Bool) (nodes : List Node) (stands : List SinkStand) → list_any (λ (s : SinkEnd). test s.end) (told_ends nodes stands) ≡ list_any (λ (s : SinkStand). test s.2) stands
 any_told test nodes [] = refl
 any_told test nodes (s ∷ ss) = ap (λ (b : Bool). test s.2 || b) (any_told test nodes ss)
 
@@ -129,14 +129,14 @@ all_done (s ∷ ss) p q r =
     and_true (is_ended s.end) (all_ended ss) h.0 (all_done ss h.1.0 h.1.1.0 h.1.1.1)
 
 -- some sink stands at a failed write
-fault_by : (s : Stand) (ss : List Stand) (how : EndState) → s.2 ≡ how → is_write_fault how || list_any (λ (x : Stand). is_write_fault x.2) ss ≡ true → (list_any (λ (x : Stand). is_write_fault x.2) ss ≡ true → (i : ℕ) × ((x : Stand) × ((slice_get ss i ≡ Some x) × (x.2 ≡ state.WriteFault))))
-    → (i : ℕ) × ((x : Stand) × ((slice_get (s ∷ ss) i ≡ Some x) × (x.2 ≡ state.WriteFault)))
+fault_by : (s : SinkStand) (ss : List SinkStand) (how : EndState) → s.2 ≡ how → is_write_fault how || list_any (λ (x : SinkStand). is_write_fault x.2) ss ≡ true → (list_any (λ (x : SinkStand). is_write_fault x.2) ss ≡ true → (i : ℕ) × ((x : SinkStand) × ((slice_get ss i ≡ Some x) × (x.2 ≡ state.WriteFault))))
+    → (i : ℕ) × ((x : SinkStand) × ((slice_get (s ∷ ss) i ≡ Some x) × (x.2 ≡ state.WriteFault)))
 fault_by s ss state.WriteFault is e later = (0, (s, (refl, is)))
 fault_by s ss state.Ended is e later = let h = later e in (suc h.0, h.1)
 fault_by s ss (state.Failed c) is e later = let h = later e in (suc h.0, h.1)
 fault_by s ss state.Unended is e later = let h = later e in (suc h.0, h.1)
 
-fault_at : (stands : List Stand) → list_any (λ (s : Stand). is_write_fault s.2) stands ≡ true → (i : ℕ) × ((s : Stand) × ((slice_get stands i ≡ Some s) × (s.2 ≡ state.WriteFault)))
+fault_at : (stands : List SinkStand) → list_any (λ (s : SinkStand). is_write_fault s.2) stands ≡ true → (i : ℕ) × ((s : SinkStand) × ((slice_get stands i ≡ Some s) × (s.2 ≡ state.WriteFault)))
 fault_at [] e = absurd cc
 fault_at (s ∷ ss) e = fault_by s ss s.2 refl e (fault_at ss)
 
@@ -149,10 +149,10 @@ or_right : (a b : Bool) → a || b ≡ false → b ≡ false
 or_right true b e = absurd cc
 or_right false b e = e
 
-no_fault_at : (stands : List Stand) (i : ℕ) (s : Stand) → list_any (λ (x : Stand). is_write_fault x.2) stands ≡ false → slice_get stands i ≡ Some s → is_write_fault s.2 ≡ false
+no_fault_at : (stands : List SinkStand) (i : ℕ) (s : SinkStand) → list_any (λ (x : SinkStand). is_write_fault x.2) stands ≡ false → slice_get stands i ≡ Some s → is_write_fault s.2 ≡ false
 no_fault_at [] i s e at = absurd cc
-no_fault_at (x ∷ xs) zero s e at = let same : x ≡ s = cc in ap (λ (t : Stand). is_write_fault t.2) (sym same) ∙ or_left (is_write_fault x.2) (list_any (λ (t : Stand). is_write_fault t.2) xs) e
-no_fault_at (x ∷ xs) (suc i) s e at = no_fault_at xs i s (or_right (is_write_fault x.2) (list_any (λ (t : Stand). is_write_fault t.2) xs) e) at
+no_fault_at (x ∷ xs) zero s e at = let same : x ≡ s = cc in ap (λ (t : SinkStand). is_write_fault t.2) (sym same) ∙ or_left (is_write_fault x.2) (list_any (λ (t : SinkStand). is_write_fault t.2) xs) e
+no_fault_at (x ∷ xs) (suc i) s e at = no_fault_at xs i s (or_right (is_write_fault x.2) (list_any (λ (t : SinkStand). is_write_fault t.2) xs) e) at
 
 -- ---- whether an event was left
 
@@ -175,14 +175,14 @@ not_both_bools : (x : Bool) → x ≡ true → x ≡ false → ⊥
 not_both_bools x p q = cc
 
 -- one that goes on is there
-some_there : (stands : List Stand) → list_any (λ (s : Stand). is_unended s.2) stands ≡ true → 1 ≤ length stands
+some_there : (stands : List SinkStand) → list_any (λ (s : SinkStand). is_unended s.2) stands ≡ true → 1 ≤ length stands
 some_there [] e = absurd cc
 some_there (s ∷ ss) e = omega arith
 
-no_unended_at : (stands : List Stand) (i : ℕ) (s : Stand) → list_any (λ (x : Stand). is_unended x.2) stands ≡ false → slice_get stands i ≡ Some s → is_unended s.2 ≡ false
+no_unended_at : (stands : List SinkStand) (i : ℕ) (s : SinkStand) → list_any (λ (x : SinkStand). is_unended x.2) stands ≡ false → slice_get stands i ≡ Some s → is_unended s.2 ≡ false
 no_unended_at [] i s e at = absurd cc
-no_unended_at (x ∷ xs) zero s e at = let same : x ≡ s = cc in ap (λ (t : Stand). is_unended t.2) (sym same) ∙ or_left (is_unended x.2) (list_any (λ (t : Stand). is_unended t.2) xs) e
-no_unended_at (x ∷ xs) (suc i) s e at = no_unended_at xs i s (or_right (is_unended x.2) (list_any (λ (t : Stand). is_unended t.2) xs) e) at
+no_unended_at (x ∷ xs) zero s e at = let same : x ≡ s = cc in ap (λ (t : SinkStand). is_unended t.2) (sym same) ∙ or_left (is_unended x.2) (list_any (λ (t : SinkStand). is_unended t.2) xs) e
+no_unended_at (x ∷ xs) (suc i) s e at = no_unended_at xs i s (or_right (is_unended x.2) (list_any (λ (t : SinkStand). is_unended t.2) xs) e) at
 
 no_entry : (o : Outlook) (l : List Tree) (c : Cause) → o.fails ≡ [] → Agrees o l (failed c) → ⊥
 no_entry o l c none h = subst (λ (es : List Entry). Allows es c (length l)) none h.1
@@ -195,7 +195,7 @@ must_end state.Unended o held old new goes tells none writes calm = absurd cc
 must_end state.WriteFault o held old new goes tells none writes calm = absurd (calm writes)
 
 -- what holds of a run where no event was left holds where that is told less often
-module _ (plugged : Plugged) (old new : FolderState) (b : Blueprint) (trace : Option (List ℕ)) (stands : List Stand) (picks : List Pick) (wires : List WireCount) (less rest : Bool) (more : IsTrue less → IsTrue rest) where
+module _ (plugged : Plugged) (old new : FolderState) (b : Blueprint) (trace : Option (List ℕ)) (stands : List SinkStand) (picks : List Pick) (wires : List WireCount) (less rest : Bool) (more : IsTrue less → IsTrue rest) where
   sink_less : (d : Drawn) (k : ℕ) (n : Node) (file : List ℕ) (count : ℕ) (end : EndState) → SinkLeaves plugged.book new b d wires rest k n file count end → SinkLeaves plugged.book new b d wires less k n file count end
   sink_less d k n file count end s = record {
     held = s.held;
@@ -261,23 +261,23 @@ or_false true e = refl
 or_false false e = absurd cc
 
 module _ (plugged : Plugged) (b : Blueprint) (trace : Option (List ℕ)) (ran : RunResult) (turns : ℕ) (a : Answer) (old new : FolderState) (after : AfterRun (sinks_of_nodes b.nodes.items) ran a) (runs : Runs plugged.book old new b trace turns ran) where
-  abbrev stands : List Stand
+  abbrev stands : List SinkStand
   stands = ran.sinks.items
 
   told : a.sinks ≡ told_ends b.nodes.items stands
   told = after.sinks ∙ ends_told b.nodes.items stands runs.sinks_are
 
-  fault_told : some_fault a.sinks ≡ list_any (λ (s : Stand). is_write_fault s.2) stands
+  fault_told : some_fault a.sinks ≡ list_any (λ (s : SinkStand). is_write_fault s.2) stands
   fault_told = ap some_fault told ∙ any_told is_write_fault b.nodes.items stands
 
-  unended_told : some_unended a.sinks ≡ list_any (λ (s : Stand). is_unended s.2) stands
+  unended_told : some_unended a.sinks ≡ list_any (λ (s : SinkStand). is_unended s.2) stands
   unended_told = ap some_unended told ∙ any_told is_unended b.nodes.items stands
 
-  failed_told : some_failed a.sinks ≡ list_any (λ (s : Stand). is_failed s.2) stands
+  failed_told : some_failed a.sinks ≡ list_any (λ (s : SinkStand). is_failed s.2) stands
   failed_told = ap some_failed told ∙ any_told is_failed b.nodes.items stands
 
   abbrev sink_fault : Bool
-  sink_fault = list_any (λ (s : Stand). is_write_fault s.2) stands
+  sink_fault = list_any (λ (s : SinkStand). is_write_fault s.2) stands
 
   abbrev fault : Bool
   fault = sink_fault || ran.trace_failed
@@ -319,7 +319,7 @@ module _ (plugged : Plugged) (b : Blueprint) (trace : Option (List ℕ)) (ran : 
   -- no event was left where the answer tells so
   over_rests : IsTrue (is_over a turns) → IsTrue ran.at_rest
   over_rests h = elim (or_either (is_stalled a.status) (nat_lt a.used turns) h) [
-    | inl e ↦ (stalled_rests fault (list_any (λ (s : Stand). is_unended s.2) stands) (list_any (λ (s : Stand). is_failed s.2) stands) ran.at_rest (ap is_stalled (sym after.status) ∙ e))
+    | inl e ↦ (stalled_rests fault (list_any (λ (s : SinkStand). is_unended s.2) stands) (list_any (λ (s : SinkStand). is_failed s.2) stands) ran.at_rest (ap is_stalled (sym after.status) ∙ e))
     | inr e ↦ (less_rests ran.at_rest a.used turns (ltb-true a.used turns e) spent)
   ]
 
@@ -355,7 +355,7 @@ module _ (plugged : Plugged) (b : Blueprint) (trace : Option (List ℕ)) (ran : 
     tree_spent true e tree some = absurd (not_both_bools (some_unended a.sinks) some (unended_told ∙ leaves_at.ending tree e))
 
     tree_enough : IsPolytree (wiring (blueprint_wires b)) → (w : World) → IsWorldOf plugged.book b.nodes.items leaves_at.drawn w → need (graph_of b) (composed (graph_of b) w) ≤ turns
-        → (i : ℕ) (s : Stand) (n : Node) (file : List ℕ) → slice_get stands i ≡ Some s → slice_get b.nodes.items s.0 ≡ Some n → output_of n.kind ≡ Some file
+        → (i : ℕ) (s : SinkStand) (n : Node) (file : List ℕ) → slice_get stands i ≡ Some s → slice_get b.nodes.items s.0 ≡ Some n → output_of n.kind ≡ Some file
         → (sink_outlook (graph_of b) w s.0 (node_of n)).fails ≡ [] → (Rose (old.wfaults file) (new.wfaults file) → ⊥) → s.2 ≡ state.Ended
     tree_enough tree w is suffices i s n file at here shape fails calm =
         let within : i < length stands = place_within stands i s at in
@@ -381,7 +381,7 @@ module _ (plugged : Plugged) (b : Blueprint) (trace : Option (List ℕ)) (ran : 
       enough = tree_enough;
     }
 
-    short : list_any (λ (s : Stand). is_unended s.2) stands ≡ true → ran.at_rest ≡ false → FallsShort plugged b turns a leaves_at.drawn
+    short : list_any (λ (s : SinkStand). is_unended s.2) stands ≡ true → ran.at_rest ≡ false → FallsShort plugged b turns a leaves_at.drawn
     short unended rest =
         let some : 1 ≤ length stands = some_there stands unended in
         let used : a.used ≡ turns = spent rest in
@@ -392,7 +392,7 @@ module _ (plugged : Plugged) (b : Blueprint) (trace : Option (List ℕ)) (ran : 
           need = λ w is. subst (λ (u : ℕ). u < need (graph_of b) (composed (graph_of b) w)) used (below_need some w is);
         }
 
-  told_by : (f u d rest : Bool) → fault ≡ f → list_any (λ (s : Stand). is_unended s.2) stands ≡ u → list_any (λ (s : Stand). is_failed s.2) stands ≡ d → ran.at_rest ≡ rest → IsTrue old.tells
+  told_by : (f u d rest : Bool) → fault ≡ f → list_any (λ (s : SinkStand). is_unended s.2) stands ≡ u → list_any (λ (s : SinkStand). is_failed s.2) stands ≡ d → ran.at_rest ≡ rest → IsTrue old.tells
       → EndedRun plugged (if f then status.WriteFault else (if u then (if rest then status.Stalled else status.OutOfTurns) else (if d then status.StreamFailed else status.Done))) a b trace turns old new
   told_by true u d rest p q r s tells = (ran_to tells, some_failure ran.trace_failed refl p, some_rose ran.trace_failed refl p)
   told_by false true d true p q r s tells = (ran_to tells, trace_whole p, (λ tree. not_both_bools (some_unended a.sinks) (unended_told ∙ q) (unended_told ∙ (leaves_at tells).ending tree s)), fault_told ∙ no_sink_fault p, unended_told ∙ q)
@@ -402,7 +402,7 @@ module _ (plugged : Plugged) (b : Blueprint) (trace : Option (List ℕ)) (ran : 
 
   -- what a run answers, where the folder tells its files
   pub run_told : IsTrue old.tells → EndedRun plugged a.status a b trace turns old new
-  run_told tells = subst (λ x. EndedRun plugged x a b trace turns old new) (sym after.status) (told_by fault (list_any (λ (s : Stand). is_unended s.2) stands) (list_any (λ (s : Stand). is_failed s.2) stands) ran.at_rest refl refl refl refl tells)
+  run_told tells = subst (λ x. EndedRun plugged x a b trace turns old new) (sym after.status) (told_by fault (list_any (λ (s : SinkStand). is_unended s.2) stands) (list_any (λ (s : SinkStand). is_failed s.2) stands) ran.at_rest refl refl refl refl tells)
 
   wrote : SinksWrote plugged old new b a
   wrote = record { stands = stands; stands_are = runs.sinks_are; sinks = told; picks_are = picks_are; writes = runs.writes; carries = carries }
@@ -416,9 +416,9 @@ module _ (plugged : Plugged) (b : Blueprint) (trace : Option (List ℕ)) (ran : 
 
   -- which counts a run raised
   pub run_causes : RunCauses plugged a.status a b trace old new
-  run_causes = subst (λ x. RunCauses plugged x a b trace old new) (sym after.status) (causes_by fault (list_any (λ (s : Stand). is_unended s.2) stands) (list_any (λ (s : Stand). is_failed s.2) stands) ran.at_rest refl)
+  run_causes = subst (λ x. RunCauses plugged x a b trace old new) (sym after.status) (causes_by fault (list_any (λ (s : SinkStand). is_unended s.2) stands) (list_any (λ (s : SinkStand). is_failed s.2) stands) ran.at_rest refl)
 
-  sinks_by : (f u d rest : Bool) → fault ≡ f → list_any (λ (s : Stand). is_unended s.2) stands ≡ u → list_any (λ (s : Stand). is_failed s.2) stands ≡ d
+  sinks_by : (f u d rest : Bool) → fault ≡ f → list_any (λ (s : SinkStand). is_unended s.2) stands ≡ u → list_any (λ (s : SinkStand). is_failed s.2) stands ≡ d
       → SinksOf (if f then status.WriteFault else (if u then (if rest then status.Stalled else status.OutOfTurns) else (if d then status.StreamFailed else status.Done))) a trace
   sinks_by true u d rest p q r = fault_sinks ran.trace_failed refl p
   sinks_by false true d true p q r = (fault_told ∙ no_sink_fault p, unended_told ∙ q)
@@ -428,7 +428,7 @@ module _ (plugged : Plugged) (b : Blueprint) (trace : Option (List ℕ)) (ran : 
 
   -- how the sinks stand by the status
   pub run_sinks : SinksOf a.status a trace
-  run_sinks = subst (λ x. SinksOf x a trace) (sym after.status) (sinks_by fault (list_any (λ (s : Stand). is_unended s.2) stands) (list_any (λ (s : Stand). is_failed s.2) stands) ran.at_rest refl refl refl)
+  run_sinks = subst (λ x. SinksOf x a trace) (sym after.status) (sinks_by fault (list_any (λ (s : SinkStand). is_unended s.2) stands) (list_any (λ (s : SinkStand). is_failed s.2) stands) ran.at_rest refl refl refl)
 
 -- ---- files that were not opened
 
@@ -595,7 +595,7 @@ module _ (plugged : Plugged) (old mid new : FolderState) (file t : List ℕ) (r 
     empties_later : (names : List (List ℕ)) → Empties mid new names → Empties old new names
     empties_later names h = record { told = λ x. tells_before old mid r.files (h.told x); still = λ e. h.still e ∙ r.files.telling; emptied = h.emptied; others = λ x m never. h.others x m never ∙ r.files.files tells m }
 
-    abbrev leaves_later : (ends : List Stand) (picks : List Pick) (wires : List WireCount) (rest : Bool) → LeavesFiles plugged.book mid new b trace ends picks wires rest → LeavesFiles plugged.book old new b trace ends picks wires rest
+    abbrev leaves_later : (ends : List SinkStand) (picks : List Pick) (wires : List WireCount) (rest : Bool) → LeavesFiles plugged.book mid new b trace ends picks wires rest → LeavesFiles plugged.book old new b trace ends picks wires rest
     leaves_later ends picks wires rest l = record {
       drawn = l.drawn;
       chose = l.chose;

@@ -6,7 +6,7 @@ use Rattle.blue_core.specs.declared.blueprint.Blueprint.{Blueprint}
 use Rattle.blue_check.specs.Fitness.{IsFit}
 use Rattle.blue_lang.specs.Plain.{plain}
 use Rattle.blue_lang.specs.Blueprints as language
-use Rattle.run_blueprint.specs.Stands.{Stand, is_write_fault, is_unended, is_failed}
+use Rattle.run_blueprint.specs.Stands.{SinkStand, is_write_fault, is_unended, is_failed}
 use Rattle.dispatcher.specs.declared.ran.Ran.{Ran}
 use Rattle.file_text.specs.Text.{ReadsFile}
 use Rattle.run_blueprint.specs.Receipt.{HasIslands, IsReceipt}
@@ -36,10 +36,10 @@ module _ (b : Blueprint) (workers used : ℕ) (r : Ran) (ran : Option Ran) (is :
   by_tests false false true rest i = has rest i
   by_tests false false false rest i = has rest i
 
-  pub after_run : (s : Status) (stands : List Stand) (trace_failed rest : Bool) → s ≡ status_after stands trace_failed rest → IsReceipt b workers used rest r → Receipts s workers used ran
+  pub after_run : (s : Status) (stands : List SinkStand) (trace_failed rest : Bool) → s ≡ status_after stands trace_failed rest → IsReceipt b workers used rest r → Receipts s workers used ran
   after_run s stands trace_failed rest e i =
       as_status s (status_after stands trace_failed rest) workers used ran e
-      (by_tests (list_any (λ (x : Stand). is_write_fault x.2) stands || trace_failed) (list_any (λ (x : Stand). is_unended x.2) stands) (list_any (λ (x : Stand). is_failed x.2) stands) rest i)
+      (by_tests (list_any (λ (x : SinkStand). is_write_fault x.2) stands || trace_failed) (list_any (λ (x : SinkStand). is_unended x.2) stands) (list_any (λ (x : SinkStand). is_failed x.2) stands) rest i)
 
   -- the islands of the receipt
   pub its_islands : (rest : Bool) → IsReceipt b workers used rest r → IfSome ran (λ (t : Ran). HasIslands b t.islands)

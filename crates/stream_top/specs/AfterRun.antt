@@ -5,7 +5,7 @@ use Rattle.stream_model.specs.declared.outcome.EndState.{EndState}
 use Rattle.stream_model.specs.declared.outcome.EndState.TheVariants as state
 use Rattle.blue_core.specs.declared.blueprint.Node.{Node}
 use Rattle.interpreter.specs.Picks.{pick_of}
-use Rattle.run_blueprint.specs.Stands.{Stand, is_write_fault, is_unended, is_failed}
+use Rattle.run_blueprint.specs.Stands.{SinkStand, is_write_fault, is_unended, is_failed}
 use Rattle.run_blueprint.specs.declared.run.RunResult.{RunResult}
 use Rattle.run_report.specs.Answer.{Answer}
 use Rattle.run_report.specs.declared.outcome.SinkEnd.{SinkEnd}
@@ -19,10 +19,10 @@ abbrev pub of_outcome : CallEnd → Answer
 of_outcome o = record { status = o.status; sinks = o.sinks.items; wires = o.picture.wires.items; picks = map pick_of o.picks.items; used = o.used }
 
 -- what is told of a sink that stands so
-abbrev pub told_end : List Node → Stand → SinkEnd
+abbrev pub told_end : List Node → SinkStand → SinkEnd
 told_end nodes s = record { name = name_in (slice_get nodes s.0); count = s.1; end = s.2 }
 
-abbrev pub told_ends : List Node → List Stand → List SinkEnd
+abbrev pub told_ends : List Node → List SinkStand → List SinkEnd
 told_ends nodes stands = map (told_end nodes) stands
 
 -- it ended
@@ -44,13 +44,13 @@ abbrev pub some_fault : List SinkEnd → Bool
 some_fault sinks = list_any (λ s. is_write_fault s.end) sinks
 
 -- the ends of sinks of these names that stand so
-abbrev pub ends_of : List (List ℕ) → List Stand → List SinkEnd
+abbrev pub ends_of : List (List ℕ) → List SinkStand → List SinkEnd
 ends_of (n ∷ ns) (s ∷ ss) = record { name = n; count = s.1; end = s.2 } ∷ ends_of ns ss
 ends_of _ _ = []
 
 -- the status, by how the sinks stand, whether a write to the trace's file failed and whether no event was left: a failed write comes
 -- first, then a sink that goes on, then one that failed
-abbrev pub status_after : List Stand → Bool → Bool → Status
+abbrev pub status_after : List SinkStand → Bool → Bool → Status
 status_after stands trace_failed rest =
     if list_any (λ s. is_write_fault s.2) stands || trace_failed then status.WriteFault
     else (if list_any (λ s. is_unended s.2) stands then (if rest then status.Stalled else status.OutOfTurns)

@@ -22,7 +22,7 @@ use Rattle.run_files.specs.Opening.{Empties}
 use Rattle.run_blueprint.specs.Carrying.{Carries}
 use Rattle.run_blueprint.specs.Choosing.{pick_places, picked}
 use Rattle.run_blueprint.specs.Drawing.{Drawn, IsWorldOf}
-use Rattle.run_blueprint.specs.Stands.{Stand, sink_places}
+use Rattle.run_blueprint.specs.Stands.{SinkStand, sink_places}
 use Rattle.run_blueprint.specs.Tracing.{Traces, written_files}
 use Rattle.run_blueprint.specs.Units.{Pays}
 use Rattle.run_blueprint.specs.Running.{LeavesFiles, WritesOf, BreaksFiles}
@@ -66,18 +66,18 @@ pub record RanNothing (old new : FolderState) (a : Answer) : Type 0 where
 -- where the units were used up; and where they suffice for all that may pass, each sink of whose outlook no failure is part has
 -- ended, unless a write to its file failed.
 pub record RanTo (p : Plugged) (old new : FolderState) (b : Blueprint) (trace : Option (List ℕ)) (turns : ℕ) (a : Answer) : Type 0 where
-  pub stands : List Stand
-  pub stands_are : map (λ (s : Stand). s.0) stands ≡ sink_places 0 b.nodes.items
+  pub stands : List SinkStand
+  pub stands_are : map (λ (s : SinkStand). s.0) stands ≡ sink_places 0 b.nodes.items
   pub sinks : a.sinks ≡ told_ends b.nodes.items stands
   pub picks_are : picked a.picks ≡ pick_places 0 b.nodes.items
   pub leaves : LeavesFiles p.book old new b trace stands a.picks a.wires (is_over a turns)
-  pub writes : (i : ℕ) (s : Stand) (n : Node) (file : List ℕ) → slice_get stands i ≡ Some s → slice_get b.nodes.items s.0 ≡ Some n → output_of n.kind ≡ Some file → WritesOf s.2 (old.wfaults file) (new.wfaults file)
+  pub writes : (i : ℕ) (s : SinkStand) (n : Node) (file : List ℕ) → slice_get stands i ≡ Some s → slice_get b.nodes.items s.0 ≡ Some n → output_of n.kind ≡ Some file → WritesOf s.2 (old.wfaults file) (new.wfaults file)
   pub within : a.used ≤ turns
   pub pays : Pays b a.wires a.used
   pub carries : Carries p.book b a.wires a.picks
   pub ending : IsPolytree (wiring (blueprint_wires b)) → some_unended a.sinks ≡ true → a.used ≡ turns
   pub enough : IsPolytree (wiring (blueprint_wires b)) → (w : World) → IsWorldOf p.book b.nodes.items leaves.drawn w → need (graph_of b) (composed (graph_of b) w) ≤ turns
-      → (i : ℕ) (s : Stand) (n : Node) (file : List ℕ) → slice_get stands i ≡ Some s → slice_get b.nodes.items s.0 ≡ Some n → output_of n.kind ≡ Some file
+      → (i : ℕ) (s : SinkStand) (n : Node) (file : List ℕ) → slice_get stands i ≡ Some s → slice_get b.nodes.items s.0 ≡ Some n → output_of n.kind ≡ Some file
       → (sink_outlook (graph_of b) w s.0 (node_of n)).fails ≡ [] → (Rose (old.wfaults file) (new.wfaults file) → ⊥) → s.2 ≡ state.Ended
 
 -- The units were used up. They were fewer than the count over what was sent, and so fewer than the need over all that may pass.
@@ -175,11 +175,11 @@ MissesFile old new b trace n = (Contains (inputs_of_nodes b.nodes.items) n × Is
 -- write. There is a list of moves for each stage whose kind chooses, and each wire carried only elements of its type, also where the
 -- folder tells nothing.
 pub record SinksWrote (p : Plugged) (old new : FolderState) (b : Blueprint) (a : Answer) : Type 0 where
-  pub stands : List Stand
-  pub stands_are : map (λ (s : Stand). s.0) stands ≡ sink_places 0 b.nodes.items
+  pub stands : List SinkStand
+  pub stands_are : map (λ (s : SinkStand). s.0) stands ≡ sink_places 0 b.nodes.items
   pub sinks : a.sinks ≡ told_ends b.nodes.items stands
   pub picks_are : picked a.picks ≡ pick_places 0 b.nodes.items
-  pub writes : (i : ℕ) (s : Stand) (n : Node) (file : List ℕ) → slice_get stands i ≡ Some s → slice_get b.nodes.items s.0 ≡ Some n → output_of n.kind ≡ Some file → WritesOf s.2 (old.wfaults file) (new.wfaults file)
+  pub writes : (i : ℕ) (s : SinkStand) (n : Node) (file : List ℕ) → slice_get stands i ≡ Some s → slice_get b.nodes.items s.0 ≡ Some n → output_of n.kind ≡ Some file → WritesOf s.2 (old.wfaults file) (new.wfaults file)
   pub carries : Carries p.book b a.wires a.picks
 
 -- which counts a run raised: of failed reads at most those of its inputs, and of failed writes those of its outputs, each exactly

@@ -30,6 +30,7 @@ use dispatcher::ran::Ran;
 use elem_core::line::Line;
 use elem_core::why::NoMemory;
 use file_text::text::{ReadEnd, read_file};
+use interpreter::island::SinkStand;
 use materializer::names::sink_names;
 use plug_board::heads::heads_of;
 use plug_logic::book::PlugBook;
@@ -111,7 +112,7 @@ fn unfit(alloc: Global, fault: CheckFault) -> CallEnd
 }
 
 /// The ends of sinks of these names that stand so, in a list that has room for them.
-fn told_ends(names: Vec<Line>, stands: &[(u32, u64, EndState)], room: Vec<SinkEnd>) -> Vec<SinkEnd>
+fn told_ends(names: Vec<Line>, stands: &[SinkStand], room: Vec<SinkEnd>) -> Vec<SinkEnd>
     requires empty { room.items ≡ [] }
     requires room { vec_len names ≤ vec_capacity room }
     requires as_many { vec_len names ≡ length stands.now }
@@ -126,7 +127,7 @@ fn told_ends(names: Vec<Line>, stands: &[(u32, u64, EndState)], room: Vec<SinkEn
 }
 
 /// Whether some sink has an end of this kind.
-fn some_write_fault(sinks: &[(u32, u64, EndState)]) -> bool
+fn some_write_fault(sinks: &[SinkStand]) -> bool
     ensures { result ≡ list_any (λ s. is_write_fault s.2) sinks.now }
 {
     sinks
@@ -135,14 +136,14 @@ fn some_write_fault(sinks: &[(u32, u64, EndState)]) -> bool
 }
 
 /// Whether some sink has not ended.
-fn some_unended(sinks: &[(u32, u64, EndState)]) -> bool
+fn some_unended(sinks: &[SinkStand]) -> bool
     ensures { result ≡ list_any (λ s. is_unended s.2) sinks.now }
 {
     sinks.iter().any(|sink| matches!(sink.2, EndState::Unended))
 }
 
 /// Whether some sink failed.
-fn some_failed(sinks: &[(u32, u64, EndState)]) -> bool
+fn some_failed(sinks: &[SinkStand]) -> bool
     ensures { result ≡ list_any (λ s. is_failed s.2) sinks.now }
 {
     sinks
@@ -151,7 +152,7 @@ fn some_failed(sinks: &[(u32, u64, EndState)]) -> bool
 }
 
 /// The status of a run, by how its sinks stand, whether a write to the trace's file failed and whether no event was left.
-fn status_of(sinks: &[(u32, u64, EndState)], trace_failed: bool, at_rest: bool) -> Status
+fn status_of(sinks: &[SinkStand], trace_failed: bool, at_rest: bool) -> Status
     ensures { result ≡ status_after sinks.now trace_failed at_rest }
 {
     if some_write_fault(sinks) || trace_failed {

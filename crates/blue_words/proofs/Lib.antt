@@ -1,4 +1,3 @@
 pub mod Cutting
 pub mod Digits
-pub mod FirstWord
 pub mod Plain

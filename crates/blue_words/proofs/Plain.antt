@@ -1,5 +1,5 @@
 -- Lines whose bytes are spaces and bytes of words, and bytes that a text lacks.
-use Rattle.std.proofs.Common.{◌≡◌, ℕ, zero, suc, Bool, true, false, not, eqb, List, [], ◌∷◌, take, drop, refl, sym, ap, ◌∙◌, ⊎_elim}
+use Rattle.std.proofs.Common.{◌≡◌, ℕ, Bool, true, false, not, eqb, List, [], ◌∷◌, refl, sym, ap, ◌∙◌, ⊎_elim}
 use Rattle.std.specs.Char.{is_ascii_alphanumeric, is_ascii_lowercase}
 use Rattle.std.specs.List.{list_all}
 use Rattle.std.proofs.lemmas.Bool.{cases_Bool, eqb-true, and_parts, and_from, true≢false}
@@ -21,12 +21,6 @@ lacks-all c p e [] h = refl
 lacks-all c p e (b ∷ bs) h =
     let parts = and_parts (p b) (list_all p bs) h in
     and_from _ _ (differs c p e b parts.0) (lacks-all c p e bs parts.1)
-
--- both parts of a plain line are plain
-pub plain_parts : (n : ℕ) (bs : List ℕ) → is_plain bs ≡ true → (is_plain (take n bs) ≡ true) × (is_plain (drop n bs) ≡ true)
-plain_parts zero bs h = (refl, h)
-plain_parts (suc n) [] h = (refl, refl)
-plain_parts (suc n) (b ∷ bs) h = let rest = plain_parts n bs (and_parts (is_plain_byte b) (is_plain bs) h).1 in (and_from _ _ (and_parts (is_plain_byte b) (is_plain bs) h).0 rest.0, rest.1)
 
 -- a plain line holds no LF
 pub no_lf_from_plain : (bs : List ℕ) → is_plain bs ≡ true → has_no_lf bs ≡ true

@@ -1,6 +1,5 @@
 // The words of a line, one after another.
-ghost use Rattle.std.specs.Prelude.{◌≡◌, ◌≤◌, ◌<◌, ◌+◌, ◌==◌, ◌↔◌, [], ◌∷◌, length, IsTrue, IfSome, IfOk, MatchOption, if◌then◌else◌, Ok};
-ghost use Rattle.std.specs.List.{position_or_len};
+ghost use Rattle.std.specs.Prelude.{◌≡◌, ◌≤◌, ◌<◌, ◌==◌, ◌↔◌, [], ◌∷◌, length, IsTrue, IfSome, IfOk, MatchOption, if◌then◌else◌, Ok};
 ghost use Rattle.std.specs.Str.{bytes_eq};
 ghost use Rattle.elem_core.specs.Text.{words};
 ghost use Rattle.elem_core.specs.Line.{has_no_lf};
@@ -10,6 +9,7 @@ ghost use Rattle.blue_words.specs.Reading.{Reads, begins_with, word, name, file,
 use crate::fault::{FormEnd, PlaceValue};
 use crate::places::{count_place, file_place, int_place, line_of, name_place, size_place};
 use elem_core::line::Line;
+use elem_core::word::next_word;
 use std::alloc::Global;
 use std::marker::Model;
 
@@ -43,6 +43,7 @@ impl<'a> Words<'a> {
     }
 
     /// The next word.
+    #[tactic(auto, using(crate::proofs::Plain::no_lf_from_plain))]
     pub fn next(&mut self) -> Option<&'a [u8]>
         ensures value { MatchOption result ((self.old ≡ []) × (self.new ≡ [])) (λ w. self.old ≡ w.now ∷ self.new) }
         ensures short { IfSome result (λ w. length w.now ≤ 1024) }
@@ -58,6 +59,7 @@ impl<'a> Words<'a> {
     }
 
     /// Whether the next word is this one; then it is passed.
+    #[tactic(auto, using(crate::proofs::Plain::no_lf_from_plain))]
     pub fn skip(&mut self, fixed: &[u8]) -> bool
         ensures value { result ≡ begins_with fixed.now self.old }
         ensures left { self.old ≡ (if result then fixed.now ∷ self.new else self.new) }
@@ -72,6 +74,7 @@ impl<'a> Words<'a> {
     }
 
     /// Whether no word is left.
+    #[tactic(auto, using(crate::proofs::Plain::no_lf_from_plain))]
     pub fn is_empty(&self) -> bool
         ensures { IsTrue result ↔ (self.now ≡ []) }
     {
@@ -144,48 +147,4 @@ pub fn is_word(word: &[u8], fixed: &[u8]) -> bool
     ensures { result ≡ bytes_eq word.now fixed.now }
 {
     word == fixed
-}
-
-// The first word, and what stands behind it.
-#[tactic(auto, using(crate::proofs::FirstWord::words_first, crate::proofs::Plain::plain_parts, crate::proofs::Plain::no_lf_from_plain))]
-fn next_word(bytes: &[u8]) -> Option<(&[u8], &[u8])>
-    requires { IsTrue (is_plain bytes.now) }
-    ensures value { MatchOption result (words bytes.now ≡ []) (λ p. words bytes.now ≡ p.0.now ∷ words p.1.now) }
-    ensures parts { MatchOption result (Unit {0}) (λ p. length p.0.now + length p.1.now ≤ length bytes.now) }
-    ensures plain { MatchOption result (Unit {0}) (λ p. IsTrue (is_plain p.1.now)) }
-    ensures no_lf { MatchOption result (Unit {0}) (λ p. IsTrue (has_no_lf p.0.now)) }
-{
-    let bytes = skip_spaces(bytes);
-    if bytes.is_empty() {
-        return None;
-    }
-    let end = word_length(bytes);
-    Some(bytes.split_at(end))
-}
-
-fn skip_spaces(bytes: &[u8]) -> &[u8]
-    requires { IsTrue (is_plain bytes.now) }
-    ensures same_words { words result.now ≡ words bytes.now }
-    ensures begins { 0 < length result.now → 0 < position_or_len (λ b. b == 32) result.now }
-    ensures short { length result.now ≤ length bytes.now }
-    ensures plain { IsTrue (is_plain result.now) }
-{
-    for (i, byte) in bytes.iter().enumerate() {
-        if *byte != b' ' {
-            return &bytes[i..];
-        }
-    }
-    &[]
-}
-
-fn word_length(bytes: &[u8]) -> usize
-    ensures value { result ≡ position_or_len (λ b. b == 32) bytes.now }
-    ensures bound { result ≤ length bytes.now }
-{
-    for (i, byte) in bytes.iter().enumerate() {
-        if *byte == b' ' {
-            return i;
-        }
-    }
-    bytes.len()
 }

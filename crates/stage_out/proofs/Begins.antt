@@ -7,7 +7,7 @@ use Rattle.port_core.specs.declared.view.OutView.TheVariants.{Unpulled}
 use Rattle.port_core.specs.View.{unpulled_outs}
 use Rattle.port_core.specs.declared.view.InView.TheVariants.{Idle}
 use Rattle.stage_fans.specs.declared.outs.OutputState.TheVariants.{Quiet}
-use Rattle.stage_fans.specs.Outs.{want_view, open_count}
+use Rattle.stage_fans.specs.Outs.{want_view, open_count, asks_count}
 use Rattle.stage_out.specs.Copies.{quiet_count, input_by}
 use Rattle.stage_out.specs.PartitionStates as part
 use Rattle.stage_out.specs.CopyStates as copy
@@ -16,7 +16,7 @@ quiet_views : (n : ℕ) → map want_view (replicate n Quiet) ≡ replicate n Un
 quiet_views zero = refl
 quiet_views (suc n) = ap (λ (ys : List OutView). Unpulled ∷ ys) (quiet_views n)
 
-none_asks : (n : ℕ) → part.asks_count (replicate n Quiet) ≡ 0
+none_asks : (n : ℕ) → asks_count (replicate n Quiet) ≡ 0
 none_asks zero = refl
 none_asks (suc n) = none_asks n
 

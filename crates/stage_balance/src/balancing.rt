@@ -14,7 +14,7 @@ use elem_core::why::{Cause, NoMemory};
 use port_core::act::Act;
 use port_core::acts::Acts;
 use port_core::pick_log::PickLog;
-use stage_fans::outs::{OutputState, complete_open, fail_open};
+use stage_fans::outs::{OutputState, complete_open, fail_open, quiet_outs};
 use std::alloc::Global;
 use std::collections::VecDeque;
 use std::marker::Model;
@@ -57,10 +57,7 @@ impl Balancing {
         requires fan { (2 ≤ outputs) × (outputs ≤ MAX_FAN) }
         ensures { IfOk result (Begins outputs) }
     {
-        let mut outs = Vec::with_capacity(alloc, outputs as usize)?;
-        for _ in 0..outputs {
-            outs.push(OutputState::Quiet)?;
-        }
+        let outs = quiet_outs(alloc, outputs as u8)?;
         let queue = VecDeque::with_capacity(alloc, outputs as usize)?;
         Ok(Balancing {
             log: PickLog::new(alloc),

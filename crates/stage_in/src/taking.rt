@@ -1,4 +1,4 @@
-ghost use Rattle.std.specs.Prelude.{◌≡◌, ◌≢◌, ◌≤◌, ◌<◌, ◌∷◌, ◌++◌, ◌+◌, ℕ, [], length, OnOk, IfOk, IsOk, IfSome, IfNone, Some, true, false, slice_set, map, replicate, vec_items};
+ghost use Rattle.std.specs.Prelude.{◌≡◌, ◌≢◌, ◌≤◌, ◌<◌, ◌∷◌, ◌+◌, ℕ, [], length, OnOk, IfOk, IsOk, IfSome, IfNone, Some, true, false, slice_set, map, vec_items};
 ghost use Rattle.elem_core.specs.declared.item.Item.TheVariants as item;
 ghost use Rattle.port_core.specs.declared.act.Act.TheVariants as act;
 ghost use Rattle.port_core.specs.Call.{Obeys, Meets, starts, pulls, arrives, cancels};
@@ -10,6 +10,7 @@ use elem_core::elem::Elem;
 use elem_core::why::{Cause, NoMemory};
 use port_core::act::Act;
 use port_core::acts::Acts;
+use stage_fans::ins::{cancel_open, open_inputs};
 use std::alloc::Global;
 use std::marker::Model;
 
@@ -202,7 +203,7 @@ impl Taking {
         self.over[port as usize] = true;
         self.live = false;
         acts.add(Act::FailOut(0, cause));
-        self.cancel_open(acts);
+        cancel_open(self.over.as_slice(), acts);
     }
 
     // All inputs are cancelled.
@@ -214,7 +215,7 @@ impl Taking {
         ensures room { acts.new.room ≡ acts.old.room }
     {
         self.live = false;
-        self.cancel_open(acts);
+        cancel_open(self.over.as_slice(), acts);
     }
 
     // An element of the current input went out: behind a segment the next open input is current.
@@ -283,31 +284,6 @@ impl Taking {
         let to = self.next[port as usize];
         relink(self.next.as_mut_slice(), port, to);
     }
-
-    // Cancels each input that has not ended.
-    fn cancel_open(&self, acts: &mut Acts)
-        requires few { length self.now.over ≤ 16 }
-        requires room { length acts.old.items + length self.now.over ≤ acts.old.room }
-        ensures { acts.new ≡ record acts.old { items = acts.old.items ++ open_cancels 0 self.now.over } }
-    {
-        let over = self.over.as_slice();
-        for i in 0..over.len() {
-            if !over[i] {
-                acts.add(Act::Cancel(i as u8));
-            }
-        }
-    }
-}
-
-// So many inputs, of which none has ended.
-fn open_inputs(alloc: Global, inputs: u32) -> Result<Vec<bool>, NoMemory>
-    ensures { IfOk result (λ over. vec_items over ≡ replicate inputs false) }
-{
-    let mut over = Vec::with_capacity(alloc, inputs as usize)?;
-    for _ in 0..inputs {
-        over.push(false)?;
-    }
-    Ok(over)
 }
 
 // Of each of so many inputs the one behind it, around them.

@@ -13,6 +13,7 @@ use port_core::act::Act;
 use port_core::acts::Acts;
 use port_core::pick_log::PickLog;
 use stage_core::phase::Phase;
+use stage_fans::ins::{cancel_open, open_inputs};
 use std::alloc::Global;
 use std::collections::VecDeque;
 use std::marker::Model;
@@ -60,10 +61,7 @@ impl Merging {
         requires fan { (2 ≤ inputs) × (inputs ≤ MAX_FAN) }
         ensures { IfOk result (Begins inputs) }
     {
-        let mut over = Vec::with_capacity(alloc, inputs as usize)?;
-        for _ in 0..inputs {
-            over.push(false)?;
-        }
+        let over = open_inputs(alloc, inputs)?;
         let queue = VecDeque::with_capacity(alloc, inputs as usize)?;
         Ok(Merging {
             log: PickLog::new(alloc),
@@ -317,7 +315,7 @@ impl Merging {
         self.over[port as usize] = true;
         self.phase = Phase::Closed;
         acts.add(Act::FailOut(0, cause));
-        self.cancel_open(acts);
+        cancel_open(self.over.as_slice(), acts);
     }
 
     // All inputs are cancelled.
@@ -329,7 +327,7 @@ impl Merging {
         ensures room { acts.new.room ≡ acts.old.room }
     {
         self.phase = Phase::Closed;
-        self.cancel_open(acts);
+        cancel_open(self.over.as_slice(), acts);
     }
 
     // Asks every input that has not ended.
@@ -342,20 +340,6 @@ impl Merging {
         for i in 0..over.len() {
             if !over[i] {
                 acts.add(Act::Pull(i as u8));
-            }
-        }
-    }
-
-    // Cancels each input that has not ended.
-    fn cancel_open(&self, acts: &mut Acts)
-        requires few { length self.now.core.over ≤ 16 }
-        requires room { length acts.old.items + length self.now.core.over ≤ acts.old.room }
-        ensures { acts.new ≡ record acts.old { items = acts.old.items ++ open_cancels 0 self.now.core.over } }
-    {
-        let over = self.over.as_slice();
-        for i in 0..over.len() {
-            if !over[i] {
-                acts.add(Act::Cancel(i as u8));
             }
         }
     }

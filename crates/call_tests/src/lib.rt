@@ -4,8 +4,6 @@
 #[cfg(test)]
 mod chains;
 #[cfg(test)]
-mod chases;
-#[cfg(test)]
 mod lanes;
 #[cfg(test)]
 mod plans;

@@ -113,7 +113,8 @@ fn sub_work<S: Source, D: Drain, L: Logic, B: PlugBook>(
     ensures seat { IfOk result (λ w. work_seat w ≡ None) }
 {
     let chain = LineChain::new(alloc, k, steps_of_kind(chains, &kind))?;
-    Ok(Work::Sub(SubLogic::new(alloc, k, kind, decider, chain)))
+    let logic = SubLogic::new(alloc, k, kind, decider, chain)?;
+    Ok(Work::Sub(logic))
 }
 
 /// What a stage with several inputs does at node k.

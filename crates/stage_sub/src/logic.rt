@@ -1,4 +1,4 @@
-ghost use Rattle.std.specs.Prelude.{◌≡◌, ◌≤◌, [], OnOk, IsOk};
+ghost use Rattle.std.specs.Prelude.{◌≡◌, ◌≤◌, [], OnOk, IfOk, IsOk};
 ghost use Rattle.std.specs.Option.{option_map};
 ghost use Rattle.elem_core.specs.declared.item.Item.TheVariants as item;
 ghost use Rattle.port_core.specs.Call.{Obeys, Meets, starts, pulls, arrives, cancels};
@@ -23,7 +23,8 @@ use stream_model::kind::{Joining, Kind};
 /// notes the number of the substream of each output that it gives. Rule: Akka Streams 2.6 reference; the log: own.
 #[derive(Drop)]
 pub struct SubLogic<C: Chain> {
-    state: SubState<C>,
+    // In a box, so that a stage without substreams takes no room for them.
+    state: Box<SubState<C>>,
     log: Option<PickLog>,
 }
 
@@ -37,15 +38,20 @@ impl<C: Chain> Model for SubLogic<C> {
 
     ghost coded = { Prim.hlevel (codes, tree_coded) };
 
-    ghost view = { λ l. record l.state { moves = moves_in l.log } };
+    ghost view = { λ l. record l.state.value { moves = moves_in l.log } };
 }
 
 impl<C: Chain> SubLogic<C> {
     /// The logic of node `node`, a stage with substreams, each of which runs a chain like `chain`. No such stage has a decider.
-    /// It takes no memory.
-    pub fn new(alloc: Global, node: u32, kind: Kind, decider: Decider, chain: C) -> SubLogic<C>
+    pub fn new(
+        alloc: Global,
+        node: u32,
+        kind: Kind,
+        decider: Decider,
+        chain: C,
+    ) -> Result<SubLogic<C>, NoMemory>
         requires { IsSub kind }
-        ensures begins { Begins C.rest C.is_open node kind chain result }
+        ensures begins { IfOk result (Begins C.rest C.is_open node kind chain) }
     {
         match kind {
             Kind::GroupBy(most, by, _) => {
@@ -62,14 +68,21 @@ impl<C: Chain> SubLogic<C> {
     }
 
     // A stage that has not begun.
-    fn of(alloc: Global, node: u32, how: OpenBy, joining: Joining, chain: C) -> SubLogic<C>
-        ensures stage { result ≡ begun node how (no_moves joining) chain }
-        ensures ready { Ready C.rest C.is_open result }
+    fn of(
+        alloc: Global,
+        node: u32,
+        how: OpenBy,
+        joining: Joining,
+        chain: C,
+    ) -> Result<SubLogic<C>, NoMemory>
+        ensures stage { IfOk result (λ l. l ≡ begun node how (no_moves joining) chain) }
+        ensures ready { IfOk result (Ready C.rest C.is_open) }
     {
-        SubLogic {
-            state: SubState::new(alloc, node, how, chain),
+        let state = Box::new(alloc, SubState::new(alloc, node, how, chain))?;
+        Ok(SubLogic {
+            state,
             log: log_of(alloc, joining),
-        }
+        })
     }
 
     /// The run begins.

@@ -6,7 +6,7 @@ use Rattle.stage_boundary.proofs.entering.EnteringStage.TheImpl.Goals as goal
 pub start-tells : goal.start-tells
 start-tells x c = record {
   starts = starts_entering c.result _ _ _ c.ensures.same.0 (ap (λ a. a.items) c.ensures.same.1 ∙ c.requires.empty);
-  asks = search rules;
+  pulls = search rules;
   grows = search rules;
   passive = stays c.result _ (ap (λ a. a.items) c.ensures.same.1 ∙ c.requires.empty);
   gone = search rules;

@@ -7,7 +7,7 @@ use Rattle.stage_boundary.proofs.leaving.LeavingStage.TheImpl.Goals as goal
 pub start-tells : goal.start-tells
 start-tells x c = record {
   starts = starts_leaving c.result _ _ _ c.ensures.same.0 (ap (λ a. a.items) c.ensures.same.1 ∙ c.requires.empty);
-  asks = search rules;
+  pulls = search rules;
   grows = search rules;
   passive = stays c.result _ (ap (λ a. a.items) c.ensures.same.1 ∙ c.requires.empty);
   gone = search rules;
@@ -18,7 +18,7 @@ start-tells x c = record {
 pub on_push-tells : goal.on_push-tells
 on_push-tells x c = record {
   handles = leaves_got c.result c.args.port (item.Elem c.args.e) _ _ _ c.ensures.waits (ap (λ a. a.items) c.ensures.nothing ∙ c.requires.empty);
-  asks = search rules;
+  pulls = search rules;
   grows = search rules;
   passive = stays c.result _ (ap (λ a. a.items) c.ensures.nothing ∙ c.requires.empty);
   gone = search rules;
@@ -29,7 +29,7 @@ on_push-tells x c = record {
 pub on_finish-tells : goal.on_finish-tells
 on_finish-tells x c = record {
   handles = leaves_got c.result c.args.port item.Ended _ _ _ c.ensures.waits (ap (λ a. a.items) c.ensures.nothing ∙ c.requires.empty);
-  asks = search rules;
+  pulls = search rules;
   grows = search rules;
   passive = stays c.result _ (ap (λ a. a.items) c.ensures.nothing ∙ c.requires.empty);
   gone = search rules;
@@ -40,7 +40,7 @@ on_finish-tells x c = record {
 pub on_fail-tells : goal.on_fail-tells
 on_fail-tells x c = record {
   handles = leaves_got c.result c.args.port (item.Failed c.args.cause) _ _ _ c.ensures.waits (ap (λ a. a.items) c.ensures.nothing ∙ c.requires.empty);
-  asks = search rules;
+  pulls = search rules;
   grows = search rules;
   passive = stays c.result _ (ap (λ a. a.items) c.ensures.nothing ∙ c.requires.empty);
   gone = search rules;

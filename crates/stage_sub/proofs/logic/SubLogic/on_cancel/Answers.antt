@@ -1,9 +1,9 @@
-use Rattle.std.proofs.Common.{ap}
+use Rattle.std.proofs.Common.{ap, sym}
 use Rattle.stage_sub.specs.Logs.{moves_in}
 use Rattle.stage_sub.proofs.Turning.{on_left}
 use Rattle.stage_sub.proofs.logic.SubLogic.on_cancel.Goals as goal
 
 pub returns-clause-gives : goal.returns-clause-gives
 returns-clause-gives g c =
-    on_left g.C.Chain.whole g.C.Chain.rest g.C.Chain.is_open c.args.self.now c.self.inside.state c.leave.new.self c.leave.new.acts.items (moves_in c.self.inside.log)
-    c.self.view_is c.requires.open c.leave.ensures.stage (ap (λ a. a.items) c.leave.ensures.acts)
+    on_left g.C.Chain.whole g.C.Chain.rest g.C.Chain.is_open c.args.self.now c.self.inside.state.value c.leave.new.self c.leave.new.acts.items (moves_in c.self.inside.log)
+    c.self.view_is c.requires.open (rw (sym c.deref_mut.ensures.value) c.leave.ensures.stage) (rw (sym c.deref_mut.ensures.value) (ap (λ a. a.items) c.leave.ensures.acts))

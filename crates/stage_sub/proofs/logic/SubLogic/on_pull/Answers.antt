@@ -1,4 +1,4 @@
-use Rattle.std.proofs.Common.{ap}
+use Rattle.std.proofs.Common.{ap, sym}
 use Rattle.stage_sub.specs.Logs.{moves_in}
 use Rattle.stage_sub.proofs.Asking.{asked_ports}
 use Rattle.stage_sub.proofs.Turning.{on_asked}
@@ -6,9 +6,9 @@ use Rattle.stage_sub.proofs.logic.SubLogic.on_pull.Goals as goal
 
 pub returns-clause-gives : goal.returns-clause-gives
 returns-clause-gives g c =
-    on_asked g.C.Chain.whole g.C.Chain.rest g.C.Chain.is_open c.args.self.now c.self.inside.state c.pull-gave.new.self c.pull-gave.new.acts.items c.pull-gave.result (moves_in c.self.inside.log) (moves_in c.make_room.new.log) (moves_in c.note.new.log)
-    c.self.view_is c.requires.open c.pull-gave.ensures.stage (ap (λ a. a.items) c.pull-gave.ensures.acts) c.pull-gave.ensures.gave c.make_room.ensures.moves c.note.ensures
+    on_asked g.C.Chain.whole g.C.Chain.rest g.C.Chain.is_open c.args.self.now c.self.inside.state.value c.pull-gave.new.self c.pull-gave.new.acts.items c.pull-gave.result (moves_in c.self.inside.log) (moves_in c.make_room.new.log) (moves_in c.note.new.log)
+    c.self.view_is c.requires.open (rw (sym c.deref_mut.ensures.value) c.pull-gave.ensures.stage) (rw (sym c.deref_mut.ensures.value) (ap (λ a. a.items) c.pull-gave.ensures.acts)) (rw (sym c.deref_mut.ensures.value) c.pull-gave.ensures.gave) c.make_room.ensures.moves c.note.ensures
 
 pub returns-clause-ports : goal.returns-clause-ports
 returns-clause-ports g c =
-    asked_ports c.args.self.now c.self.inside.state c.pull-gave.new.self c.pull-gave.new.acts.items (moves_in c.self.inside.log) (moves_in c.note.new.log) c.self.view_is c.requires.open c.pull-gave.ensures.stage (ap (λ a. a.items) c.pull-gave.ensures.acts)
+    asked_ports c.args.self.now c.self.inside.state.value c.pull-gave.new.self c.pull-gave.new.acts.items (moves_in c.self.inside.log) (moves_in c.note.new.log) c.self.view_is c.requires.open (rw (sym c.deref_mut.ensures.value) c.pull-gave.ensures.stage) (rw (sym c.deref_mut.ensures.value) (ap (λ a. a.items) c.pull-gave.ensures.acts))

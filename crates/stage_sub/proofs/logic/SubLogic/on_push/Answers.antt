@@ -1,11 +1,11 @@
-use Rattle.std.proofs.Common.{ap}
+use Rattle.std.proofs.Common.{ap, sym}
 use Rattle.stage_sub.specs.Logs.{moves_in}
 use Rattle.stage_sub.proofs.Pushing.{waits, on_pushed}
 use Rattle.stage_sub.proofs.logic.SubLogic.on_push.Goals as goal
 
 pub returns-clause-gives : goal.returns-clause-gives
 returns-clause-gives g c =
-    on_pushed g.C.Chain.whole g.C.Chain.rest g.C.Chain.is_open c.args.self.now c.self.inside.state c.take_in.new.self c.answer-gave.new.self c.args.e c.in_ok-taken.taken c.in_ok-blame.blame c.answer-gave.new.acts.items c.answer-gave.result
+    on_pushed g.C.Chain.whole g.C.Chain.rest g.C.Chain.is_open c.args.self.now c.self.inside.state.value c.take_in.new.self c.answer-gave.new.self c.args.e c.in_ok-taken.taken c.in_ok-blame.blame c.answer-gave.new.acts.items c.answer-gave.result
     (moves_in c.self.inside.log) (moves_in c.make_room.new.log) (moves_in c.note.new.log)
-    c.self.view_is c.requires.open (waits c.args.self.now c.args.e c.requires.open c.requires.meets) c.in_ok-taken.ensures c.in_ok-blame.ensures.stays c.in_ok-blame.ensures.takes
-    c.answer-gave.ensures.stage (ap (λ a. a.items) c.answer-gave.ensures.acts) c.answer-gave.ensures.gave c.make_room.ensures.moves c.note.ensures
+    c.self.view_is c.requires.open (waits c.args.self.now c.args.e c.requires.open c.requires.meets) (rw (sym c.deref.ensures) c.in_ok-taken.ensures) (rw (sym c.deref_mut.ensures.value) c.in_ok-blame.ensures.stays) (rw (sym c.deref_mut.ensures.value) c.in_ok-blame.ensures.takes)
+    (rw (sym c.deref_mut-2.ensures.value) c.answer-gave.ensures.stage) (rw (sym c.deref_mut-2.ensures.value) (ap (λ a. a.items) c.answer-gave.ensures.acts)) (rw (sym c.deref_mut-2.ensures.value) c.answer-gave.ensures.gave) c.make_room.ensures.moves c.note.ensures

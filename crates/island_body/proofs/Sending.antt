@@ -49,6 +49,7 @@ use Rattle.line_chain.specs.contracts.line.LineChainChain.TheImpl as chained
 use Rattle.stage_sub.specs.contracts.opening.OpenBy as open_by
 use Rattle.stage_sub.specs.contracts.last.LastSubstream.TheInside as last_inside
 use Rattle.stage_sub.specs.contracts.kept.KeptSubs.TheInside as kept_inside
+use Rattle.stage_sub.specs.contracts.state.SubState as sub_state_view
 use Rattle.stage_sub.specs.contracts.state.SubState.TheInside as sub_state
 use Rattle.stage_sub.specs.contracts.logic.SubLogic as sub
 use Rattle.stage_sub.specs.contracts.logic.SubLogic.TheInside as sub_inside
@@ -70,6 +71,7 @@ use Rattle.stage_core.specs.declared.stage.Stage as stage
 use Rattle.port_core.specs.contracts.conn.Conn as conn
 use Rattle.wire_core.specs.contracts.wire.Wire as wire
 use Rattle.fused_net.specs.contracts.engine.Engine.TheInside as engine_inside
+use Rattle.fused_net.specs.contracts.queue.EventQueue as queue
 use Rattle.interpreter.specs.contracts.island.IslandEnd as island_end
 use Rattle.interpreter.specs.contracts.island.Island as island
 use Rattle.interpreter.specs.contracts.island.Island.TheInside as island_inside
@@ -176,13 +178,16 @@ sub_state_send =
       ),
     ))
 
+sub_state_sends : IsSend (sub_state_view.the_row chain.the_row chained.ghosts)
+sub_state_sends = view_send (sub_state.the_row chain.the_row chained.ghosts) _ _ _ _ sub_state_send
+
 sub_send : IsSend (sub.the_row chain.the_row chained.ghosts)
 sub_send =
     let t = sub_inside.the_type chain.the_row chained.ghosts in
     view_send (sub_inside.the_row chain.the_row chained.ghosts) _ _ _ _
     (recorded_send (declared.field t).row _ _ t.to_one
     (struct_send (declared.shape t) (
-      view_send (sub_state.the_row chain.the_row chained.ghosts) _ _ _ _ sub_state_send,
+      search (sub_state_sends, box.the_send, global.the_send, memory.the_field_send, memory.the_send, crosses, knot.crosses, sendable) depth 60 fits 20000,
       (search (option.the_field_send, vec.the_send, crosses, knot.crosses, sendable) depth 60 fits 20000, tt),
     )))
 
@@ -234,13 +239,16 @@ conn_send = search plain_rules depth 60 fits 20000
 wire_send : IsSend wire.the_row
 wire_send = search (conn_send, plain_rules) depth 60 fits 20000
 
+queue_send : IsSend queue.the_row
+queue_send = search rings depth 60 fits 20000
+
 engine_send : (N : RattleType) (g : stage.Ghosts N.Denot) → IsSend N → IsSend (engine_inside.the_row N g)
 engine_send N g n =
     let t = engine_inside.the_type N g in
     recorded_send (declared.field t).row _ _ t.to_one
     (struct_send (declared.shape t) (
       search (n, rings) depth 60 fits 20000,
-      (search (wire_send, rings) depth 60 fits 20000, (search rings depth 60 fits 20000, (search rings depth 60 fits 20000, (search rings depth 60 fits 20000, (search rings depth 60 fits 20000, tt))))),
+      (search (wire_send, rings) depth 60 fits 20000, (search rings depth 60 fits 20000, (search rings depth 60 fits 20000, (search (queue_send, rings) depth 60 fits 20000, (search rings depth 60 fits 20000, tt))))),
     ))
 
 end_send : (S D : RattleType) (s : source.Ghosts S.Denot) (d : drain.Ghosts D.Denot) → IsSend S → IsSend D → IsSend (declared.field (island_end.the_type S D)).row

@@ -9,7 +9,7 @@ use std::process::ExitCode;
 use std::rt::Env;
 use std::{env, io};
 use stream_io::real::{DirFolder, StdConsole};
-use streams::{Input, Told};
+use streams::{Input, WriterDrain};
 use workbench_top::top::run_workbench;
 
 /// The exit code where the words cannot be read for want of memory.
@@ -44,7 +44,7 @@ fn main(rt: HostRuntime) -> io::Result<ExitCode> {
     let mut folder = DirFolder::new(rt.alloc(), rt.clone()?);
     let mut console = StdConsole::new(rt.clone()?);
     let mut input = Input::new(rt.stdin());
-    let mut told = Told::new(rt.stderr());
+    let mut told = WriterDrain::new(rt.stderr());
     let code = run_workbench(
         rt.alloc(),
         &words,

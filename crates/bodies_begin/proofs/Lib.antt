@@ -1,5 +1,10 @@
+pub mod Stages
+pub mod Lanes
+pub mod Beginning
+pub mod Making
+pub mod Filling
 pub mod Lists
 pub mod Ways
 pub mod Starting
-pub mod Making
+pub mod MadeOf
 pub mod Staying

@@ -1,120 +1,124 @@
--- The bodies that were made of islands and of the ends of all lanes.
-use Rattle.std.specs.Prelude.{slice_get}
-use Rattle.std.proofs.Common.{◌≡◌, ℕ, ◌<◌, List, length, map, Some, sym, ap, ◌∙◌, subst, arith}
-use Rattle.std.proofs.lemmas.Option.{slice_get_within}
+-- The bodies that were made of a blueprint's islands are its bodies, and the crossings of the ends are its lanes.
+use Rattle.std.specs.Prelude.{slice_get, slice_index}
+use Rattle.std.proofs.Common.{◌≡◌, ℕ, zero, suc, ◌+◌, ◌<◌, List, [], ◌∷◌, length, map, take, Some, refl, sym, ap, ◌∙◌, subst, arith}
 use Rattle.stream_io.specs.State.{SourceState, DrainState}
-use Rattle.blue_core.specs.declared.blueprint.Blueprint.{Blueprint}
-use Rattle.blue_check.specs.Wires.{blueprint_wires}
+use Rattle.stream_model.specs.Graph.{Edge}
+use Rattle.interpreter.specs.Boundary.{way_in, way_out}
 use Rattle.interpreter.specs.Island.{Kept}
-use Rattle.interpreter.specs.Parts.{number_of}
-use Rattle.interpreter.specs.Picks.{node_number}
+use Rattle.interpreter.specs.Parts.{ends_of, AllBecome}
+use Rattle.interpreter.specs.declared.parts.Seated.{Seated}
+use Rattle.traversal.specs.Plan.{lanes_from}
 use Rattle.traversal.specs.declared.plan.LanePlan.{LanePlan}
-use Rattle.scatter.specs.Shares.{items_in, items_at}
+use Rattle.scatter.specs.Shares.{items_at}
+use Rattle.island_parts.specs.Whole.{lanes_in}
+use Rattle.island_parts.proofs.Cutting.{lane_below, lanes_count, lane_plan, lane_get}
 use Rattle.island_parts.proofs.Wiring.{there}
-use Rattle.island_input.specs.declared.boundary.IslandInput.{IslandInput}
-use Rattle.output_boundary.specs.declared.boundary.OutputBoundary.{OutputBoundary}
-use Rattle.rounds.specs.Bodies.{AllOf}
-use Rattle.rounds.specs.Crossings.{AreCrossings}
+use Rattle.island_seats.specs.Islands.{seats_in, AreSeated}
+use Rattle.island_seats.proofs.Standing.{from_node, to_node, home_below}
+use Rattle.island_boundary.specs.declared.input.IslandInput.{IslandInput}
+use Rattle.island_boundary.specs.declared.output.OutputBoundary.{OutputBoundary}
 use Rattle.rounds.specs.declared.crossing.Crossing.{Crossing}
 use Rattle.lane_ends.specs.Ends.{AreAllEnds, Joins}
 use Rattle.lane_ends.specs.declared.ends.AllEnds.{AllEnds}
-use Rattle.island_starts.specs.Starts.{AllStarted}
-use Rattle.island_body.specs.Meeting.{BodiesMayMeet}
+use Rattle.island_body.specs.Ends.{IslandGoes}
 use Rattle.island_body.specs.declared.body.Body.{Body}
-use Rattle.bodies_account.specs.Bodies.{AreBodiesOf}
-use Rattle.materializer.specs.Graphs.{graph_of}
-use Rattle.island_plans.specs.Plans.{IsFilled}
-use Rattle.island_plans.specs.declared.plans.Filled.{Filled}
-use Rattle.island_begins.specs.Made.{AreMadeOf}
-use Rattle.island_begins.specs.Sized.{HasFewLinks}
-use Rattle.island_begins.proofs.Filling.{seated, graph_is}
-use Rattle.island_begins.proofs.Making.{begun, lanes}
-use Rattle.island_bodies.specs.Making.{IsBodyOf, AreAllBodies}
-use Rattle.bodies_account.specs.Begun.{AreNumbered, AreAligned}
-use Rattle.bodies_begin.proofs.Lists.{same_at, same_many, list_there}
-use Rattle.bodies_begin.proofs.Starting.{is_started, its_ends, started_many}
+use Rattle.bodies_run.specs.Bodies.{ComesInto, GoesOutOf, IsCrossingOf, AreLanes, AreBegun}
+use Rattle.bodies_begin.specs.Made.{AreMadeOf}
+use Rattle.bodies_begin.proofs.Lanes.{in_end, out_end, comes_at, goes_at}
 use Rattle.stream_model.specs.Linear.{Book}
 
-module _ {S D L B : Type 0} (sources : S → SourceState) (drains : D → DrainState) (book : Book) (plans : List LanePlan) (count : ℕ) (started : List (Kept S D L B)) (many : length started ≡ count) (e : AllEnds) (ends : AreAllEnds plans count e)
-    (bodies : List (Body S D L B)) (made : AreAllBodies sources drains book started e.ins.items e.outs.items bodies) where
-  -- what the body at a place was made of
-  pub record IsMade (k : ℕ) (b : Body S D L B) : Type 0 where
-    pub island : Kept S D L B
-    pub at : slice_get started k ≡ Some island
-    pub is : IsBodyOf sources drains book island (items_at e.ins.items k) (items_at e.outs.items k) b
+-- the one that stands at the place of another, of which f says the same
+map_there : {A B : Type 0} (f : A → B) (xs ys : List A) (k : ℕ) (x : A) → map f ys ≡ map f xs → slice_get xs k ≡ Some x → (y : A) × ((slice_get ys k ≡ Some y) × (f y ≡ f x))
+map_there f [] ys k x e at = absurd cc
+map_there f (z ∷ xs) [] k x e at = absurd cc
+map_there f (z ∷ xs) (y ∷ ys) zero x e at = let here : f y ≡ f z = cc in let same : z ≡ x = cc in (y, (refl, here ∙ ap f same))
+map_there f (z ∷ xs) (y ∷ ys) (suc k) x e at = let t : map f ys ≡ map f xs = cc in map_there f xs ys k x t at
 
-  pub is_made : (k : ℕ) (b : Body S D L B) → slice_get bodies k ≡ Some b → IsMade k b
-  is_made k b at =
-      let lt : k < length bodies = slice_get_within bodies k b at in
-      let i = there started k (omega (arith, lt, made.many)) in
-      let x = there e.ins.items k (omega (arith, lt, made.many, many, ends.ins_many)) in
-      let o = there e.outs.items k (omega (arith, lt, made.many, many, ends.outs_many)) in
-      let own = made.each k i.0 x.0 o.0 b i.1 x.1 o.1 at in
-      let taking = subst (λ (l : List IslandInput). IsBodyOf sources drains book i.0 l (o.0).items b) (sym (ap items_in x.1)) own in
-      record { island = i.0; at = i.1; is = subst (λ (l : List OutputBoundary). IsBodyOf sources drains book i.0 (items_at e.ins.items k) l b) (sym (ap items_in o.1)) taking }
+module _ {S D L B : Type 0} where
+  in_goes : (old new : Kept S D L B) (g : IslandGoes old new) (u : ℕ) → way_in new u ≡ way_in old u
+  in_goes old new g u = rw g.ins refl
 
-  pub unspent : AllOf (λ (b : Body S D L B). b.spent ≡ 0) bodies
-  unspent k b at = (is_made k b at).is.unspent
+  out_goes : (old new : Kept S D L B) (g : IslandGoes old new) (u : ℕ) → way_out new u ≡ way_out old u
+  out_goes old new g u = rw g.outs refl
 
-  pub aligned : AreAligned plans e.crossings.items bodies
-  aligned n l c b x lane crossing body inp =
-      let j : Joins e l c = ends.each n l c lane crossing in
-      let m = is_made c.to b body in
-      same_at (λ (y : IslandInput). y.wire) (items_at e.ins.items c.to) b.ins.items c.inp j.inp x m.is.lanes.ins_wires j.inp_at inp ∙ j.ends.in_wire
+  module _ (sources : S → SourceState) (drains : D → DrainState) (book : Book) (homes : List ℕ) (count : ℕ) (ws : List Edge) (nodes : List (Seated S D L B)) (e : AllEnds) (bodies : List (Body S D L B)) (a : AreSeated homes count ws nodes)
+      (all : AreAllEnds (lanes_from homes 0 ws) count e) (made : AreMadeOf sources drains book homes ws nodes count e bodies) where
+    pub begun : AreBegun sources drains book homes count ws nodes bodies
+    begun = record {
+      many = made.many;
+      keep = λ k b at. (made.each k b at).keeps;
+      become = λ k b at.
+          let m = made.each k b at in
+          subst (AllBecome (seats_in homes ws nodes k)) (sym m.goes.on.firsts) (subst (λ (ps : List (Seated S D L B)). AllBecome ps m.island.net.firsts) m.parts_are.nodes_are m.started.firsts);
+      ends_are = λ k b at.
+          let m = made.each k b at in
+          m.goes.on.ends ∙ (m.started.ends ∙ ap (map ends_of) m.parts_are.links_are);
+    }
 
-  -- the two ends at a crossing are of one lane
-  may_meet : (c : Crossing) (l : LanePlan) → Joins e l c → (a b : Body S D L B) → slice_get bodies c.from ≡ Some a → slice_get bodies c.to ≡ Some b → BodiesMayMeet a c.out b c.inp
-  may_meet c l j a b from to =
-      let m = is_made c.from a from in
-      let n = is_made c.to b to in
-      let out : c.out < length (items_at e.outs.items c.from) = slice_get_within (items_at e.outs.items c.from) c.out j.out j.out_at in
-      let inp : c.inp < length (items_at e.ins.items c.to) = slice_get_within (items_at e.ins.items c.to) c.inp j.inp j.inp_at in
-      let outs : length a.outs.items ≡ length (items_at e.outs.items c.from) = same_many (λ (y : OutputBoundary). y.wire) (items_at e.outs.items c.from) a.outs.items m.is.lanes.outs_wires in
-      let ins : length b.ins.items ≡ length (items_at e.ins.items c.to) = same_many (λ (y : IslandInput). y.wire) (items_at e.ins.items c.to) b.ins.items n.is.lanes.ins_wires in
-      record {
-        out_there = omega (arith, out, outs);
-        inp_there = omega (arith, inp, ins);
-        one = λ o x at here. (m.is.lanes.outs_same c.out j.out o j.out_at at).0 ∙ (j.ends.one ∙ sym (n.is.lanes.ins_same c.inp j.inp x j.inp_at here).0);
-      }
+    -- ---- the crossing of a lane
 
-  pub meet : AreCrossings BodiesMayMeet bodies e.crossings.items
-  meet n c at =
-      let lt : n < length e.crossings.items = slice_get_within e.crossings.items n c at in
-      let l = there plans n (omega (arith, lt, ends.many)) in
-      let j : Joins e l.0 c = ends.each n l.0 c l.1 at in
-      let from = list_there e.outs.items c.from c.out j.out j.out_at in
-      let to = list_there e.ins.items c.to c.inp j.inp j.inp_at in
-      record { from_there = omega (arith, from, ends.outs_many, many, made.many); to_there = omega (arith, to, ends.ins_many, many, made.many); may = may_meet c l.0 j }
+    module _ (u : ℕ) (v : Edge) (size : ℕ) (at : slice_get ws u ≡ Some v) (lane : v.lane ≡ Some size) where
+      abbrev j : ℕ
+      j = lanes_in (take u ws)
 
-module _ {S D L B : Type 0} (sources : S → SourceState) (drains : D → DrainState) (book : Book) (b : Blueprint) (ss : List S) (ds : List D) (f : Filled S D L B) (filled : IsFilled b ss ds f) (started : List (Kept S D L B)) (all : AllStarted sources drains book f.islands.items started)
-    (e : AllEnds) (ends : AreAllEnds f.lanes.items f.count e) (bodies : List (Body S D L B)) (made : AreAllBodies sources drains book started e.ins.items e.outs.items bodies) where
-  abbrev many : length started ≡ f.count
-  many = started_many sources drains book b ss ds f filled started all
+      abbrev plan : LanePlan
+      plan = lane_plan homes (0 + u) v size
 
-  are_made : AreMadeOf sources drains book f.homes.items (blueprint_wires b) filled.nodes f.count e bodies
-  are_made = record {
-    many = made.many ∙ many;
-    each = λ k x at.
-        let m = is_made sources drains book f.lanes.items f.count started many e ends bodies made k x at in
-        let s = is_started sources drains book b ss ds f filled started all k m.island m.at in
-        record { parts = s.parts; island = m.island; parts_are = s.parts_are; started = s.started_is; keeps = m.is.keeps; goes = m.is.goes; lanes = m.is.lanes };
-  }
+      plan_at : slice_get (lanes_from homes 0 ws) j ≡ Some plan
+      plan_at = lane_get homes 0 ws u v size at lane
 
-  pub bodies_are : HasFewLinks b → AreBodiesOf sources drains book (graph_of b) f.homes.items f.count (blueprint_wires b) filled.nodes e.crossings.items bodies
-  bodies_are few =
-      let own = its_ends sources drains book b ss ds f filled started all e ends in
-      let seats = seated b ss ds f filled few in
-      record {
-        seated = seats;
-        graph = graph_is b ss ds f filled;
-        begun_are = begun sources drains book f.homes.items f.count (blueprint_wires b) filled.nodes e bodies seats own are_made;
-        lanes_are = lanes sources drains book f.homes.items f.count (blueprint_wires b) filled.nodes e bodies seats own are_made;
-      }
+      body_at : (k : ℕ) → k < count → (b : Body S D L B) × (slice_get bodies k ≡ Some b)
+      body_at k lt = there bodies k (omega (arith, lt, made.many))
 
-  pub numbered : AreNumbered f.homes.items (blueprint_wires b) filled.nodes bodies
-  numbered k x at =
-      let m = are_made.each k x at in
-      record {
-        wires = m.goes.numbers ∙ (m.started.numbers ∙ ap (map number_of) m.parts_are.links_are);
-        places = m.goes.places ∙ (m.started.places ∙ ap (map node_number) m.parts_are.nodes_are);
-      }
+      crossing : (c : Crossing) → Joins e plan c → IsCrossingOf homes ws bodies u v size c
+      crossing c x =
+          let from_is : c.from ≡ slice_index homes v.from = x.from_is in
+          let to_is : c.to ≡ slice_index homes v.to = x.to_is in
+          let from_below : slice_index homes v.from < count = home_below homes count ws nodes a v.from (from_node homes count ws nodes a u v at) in
+          let to_below : slice_index homes v.to < count = home_below homes count ws nodes a v.to (to_node homes count ws nodes a u v at) in
+          let f = body_at c.from (omega (arith, from_is, from_below)) in
+          let t = body_at c.to (omega (arith, to_is, to_below)) in
+          let m = made.each c.from f.0 f.1 in
+          let n = made.each c.to t.0 t.1 in
+          let o = map_there (λ (y : OutputBoundary). y.wire) (items_at e.outs.items c.from) f.0.outs.items c.out x.out m.lanes.outs_wires x.out_at in
+          let i = map_there (λ (y : IslandInput). y.wire) (items_at e.ins.items c.to) t.0.ins.items c.inp x.inp n.lanes.ins_wires x.inp_at in
+          let zero_plus : 0 + u ≡ u = omega arith in
+          let g = goes_at sources drains book homes count ws nodes c.from m.parts m.island a m.parts_are.nodes_are m.parts_are.links_are m.started u (record { wire = v; size = size; is = at; lane = lane; home = sym from_is }) in
+          let h = comes_at sources drains book homes count ws nodes c.to n.parts n.island a n.parts_are.nodes_are n.parts_are.links_are n.started u (record { wire = v; size = size; is = at; lane = lane; home = sym to_is }) in
+          record {
+            from_is = from_is;
+            to_is = to_is;
+            from = f.0;
+            to = t.0;
+            from_at = f.1;
+            to_at = t.1;
+            out = o.0;
+            inp = i.0;
+            out_at = o.1.0;
+            inp_at = i.1.0;
+            out_wire = o.1.1 ∙ (x.ends.out_wire ∙ zero_plus);
+            inp_wire = i.1.1 ∙ (x.ends.in_wire ∙ zero_plus);
+            size_is = (n.lanes.ins_same c.inp x.inp i.0 x.inp_at i.1.0).1 ∙ x.ends.in_size_is;
+            near_is = sym g.way ∙ sym (out_goes m.island f.0.island m.goes u);
+            far_is = sym h.way ∙ sym (in_goes n.island t.0.island n.goes u);
+          }
+
+      here : (n : ℕ) × ((c : Crossing) × ((slice_get e.crossings.items n ≡ Some c) × IsCrossingOf homes ws bodies u v size c))
+      here =
+          let lt : j < lanes_in ws = lane_below ws u v size at lane in
+          let many : length (lanes_from homes 0 ws) ≡ lanes_in ws = lanes_count homes 0 ws in
+          let c = there e.crossings.items j (omega (arith, lt, many, all.many)) in
+          (j, (c.0, (c.1, crossing c.0 (all.each j plan c.0 plan_at c.1))))
+
+    pub lanes : AreLanes homes ws bodies e.crossings.items
+    lanes = record {
+      each = λ u v size at lane. here u v size at lane;
+      ins_are = λ k j b x at here_at.
+          let m = made.each k b at in
+          let y = map_there (λ (z : IslandInput). z.wire) b.ins.items (items_at e.ins.items k) j x (sym m.lanes.ins_wires) here_at in
+          subst (ComesInto homes ws k) y.1.1 (in_end homes ws count e all k j y.0 y.1.0).comes;
+      outs_are = λ k j b o at here_at.
+          let m = made.each k b at in
+          let y = map_there (λ (z : OutputBoundary). z.wire) b.outs.items (items_at e.outs.items k) j o (sym m.lanes.outs_wires) here_at in
+          subst (GoesOutOf homes ws k) y.1.1 (out_end homes ws count e all k j y.0 y.1.0).goes;
+    }

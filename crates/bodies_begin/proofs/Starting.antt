@@ -18,8 +18,8 @@ use Rattle.scatter.proofs.Sharing.{share_count}
 use Rattle.island_parts.specs.Whole.{lanes_in, whole_links}
 use Rattle.island_parts.proofs.Cutting.{lanes_count}
 use Rattle.island_parts.proofs.Wiring.{there, whole_count}
-use Rattle.island_input.specs.declared.boundary.IslandInput.{IslandInput}
-use Rattle.output_boundary.specs.declared.boundary.OutputBoundary.{OutputBoundary}
+use Rattle.island_boundary.specs.declared.input.IslandInput.{IslandInput}
+use Rattle.island_boundary.specs.declared.output.OutputBoundary.{OutputBoundary}
 use Rattle.lane_ends.specs.Ends.{AreAllEnds}
 use Rattle.lane_ends.specs.declared.ends.AllEnds.{AllEnds}
 use Rattle.island_starts.specs.Starts.{HasStarted, AllStarted}
@@ -29,10 +29,10 @@ use Rattle.island_body.specs.declared.way.Way.TheVariants.{Inner}
 use Rattle.island_plans.specs.Ends.{wire_home}
 use Rattle.island_plans.specs.Plans.{IsFilled}
 use Rattle.island_plans.specs.declared.plans.Filled.{Filled}
-use Rattle.island_begins.specs.Made.{ArePartsOf}
-use Rattle.island_begins.specs.Sized.{HasFewLinks}
-use Rattle.island_begins.proofs.Beginning.{begins}
-use Rattle.island_begins.proofs.Filling.{seated, parts_are}
+use Rattle.bodies_begin.specs.Made.{ArePartsOf}
+use Rattle.bodies_begin.specs.Sized.{HasFewLinks}
+use Rattle.bodies_begin.proofs.Beginning.{begins}
+use Rattle.bodies_begin.proofs.Filling.{seated, parts_are}
 use Rattle.island_body.specs.declared.peers.Peers.{Peers}
 use Rattle.island_bodies.specs.Peers.{ArePeers}
 use Rattle.island_bodies.specs.Making.{way_homes, AreBlank, CanAllBegin}

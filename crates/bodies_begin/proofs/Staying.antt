@@ -4,7 +4,7 @@ use Rattle.std.proofs.lemmas.Option.{slice_get_within}
 use Rattle.stream_io.specs.State.{SourceState, DrainState}
 use Rattle.traversal.specs.declared.plan.LanePlan.{LanePlan}
 use Rattle.island_parts.proofs.Wiring.{there}
-use Rattle.island_input.specs.declared.boundary.IslandInput.{IslandInput}
+use Rattle.island_boundary.specs.declared.input.IslandInput.{IslandInput}
 use Rattle.rounds.specs.Bodies.{EachOf}
 use Rattle.rounds.specs.Crossings.{AreCrossings}
 use Rattle.rounds.specs.declared.crossing.Crossing.{Crossing}
@@ -13,7 +13,7 @@ use Rattle.island_body.specs.Keeping.{BodyKeeps, BodyGoes, BodyBreaks}
 use Rattle.island_body.specs.Meeting.{BodiesMayMeet}
 use Rattle.island_body.specs.declared.body.Body.{Body}
 use Rattle.island_bodies.specs.Asked.{LieThere}
-use Rattle.bodies_account.specs.Begun.{HaveSameLanes, AreAligned}
+use Rattle.bodies_run.specs.Begun.{HaveSameLanes, AreAligned}
 use Rattle.bodies_begin.proofs.Lists.{same_at, same_many}
 use Rattle.stream_model.specs.Linear.{Book}
 

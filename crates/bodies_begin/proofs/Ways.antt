@@ -19,7 +19,7 @@ use Rattle.island_seats.specs.Islands.{place_homes, link_homes, links_in, AreSea
 use Rattle.island_seats.proofs.Standing.{size, from_node, same_home, links_in_count}
 use Rattle.island_starts.specs.Starts.{HasStarted}
 use Rattle.island_plans.specs.Ends.{wire_home}
-use Rattle.island_begins.specs.Made.{ArePartsOf}
+use Rattle.bodies_begin.specs.Made.{ArePartsOf}
 use Rattle.island_bodies.specs.Making.{way_homes}
 
 module _ (homes hs : List ℕ) where

@@ -1,4 +1,4 @@
-//! Islands that are filled and have started begin the bodies of their blueprint. Laws alone.
+//! Islands of a blueprint that are filled and have started begin its bodies. Laws alone.
 #![tactic(auto)]
 
 pub mod laws;

@@ -22,8 +22,8 @@ use Rattle.dispatcher.specs.Broken.{WholeOrBroken}
 use Rattle.island_body.specs.Keeping.{BodyKeeps, BodyGoes, BodyBreaks}
 use Rattle.island_body.specs.Meeting.{BodiesJoined}
 use Rattle.island_body.specs.declared.body.Body.{Body}
-use Rattle.bodies_account.specs.Bodies.{net_of, AskedAre, AreBodiesOf, AreLastOf}
-use Rattle.bodies_account.proofs.Breaking.{last_settled, last_kept, last_cover, last_nets, last_began, last_lanes}
+use Rattle.bodies_run.specs.Bodies.{net_of, AskedAre, AreBodiesOf, AreLastOf}
+use Rattle.bodies_run.proofs.Broken.{last_settled, last_kept, last_cover, last_nets, last_began, last_lanes}
 use Rattle.bodies_run.specs.Leaving.{account_in, AreLeft}
 use Rattle.bodies_run.proofs.Leaving.{are_made, nodes_back, others_back, are_left, kept_many, kept_back}
 use Rattle.stream_model.specs.Linear.{Book}

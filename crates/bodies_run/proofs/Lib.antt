@@ -1,3 +1,11 @@
+pub mod Nets
+pub mod Boundaries
+pub mod Lanes
+pub mod Sums
+pub mod Costs
+pub mod Paying
+pub mod Broken
+pub mod Places
 pub mod Leaving
 pub mod Running
 pub mod Breaking

@@ -22,9 +22,9 @@ use Rattle.rounds.specs.declared.crossing.Crossing.{Crossing}
 use Rattle.island_body.specs.Keeping.{is_pending, BodyKeeps, BodyGoes}
 use Rattle.island_body.specs.Meeting.{BodiesJoined}
 use Rattle.island_body.specs.declared.body.Body.{Body}
-use Rattle.bodies_account.specs.Bodies.{net_of, AreLanes, AllSettled, AskedAre, AreBodiesOf}
-use Rattle.bodies_account.proofs.Lanes.{lanes_on, lanes_keep, lanes_rest, no_queues}
-use Rattle.bodies_account.proofs.Nets.{Went, Stood, went, stood, all_settled, now_nets, nets_began, nets_cover}
+use Rattle.bodies_run.specs.Bodies.{net_of, AreLanes, AllSettled, AskedAre, AreBodiesOf}
+use Rattle.bodies_run.proofs.Lanes.{lanes_on, lanes_keep, lanes_rest, no_queues}
+use Rattle.bodies_run.proofs.Nets.{Went, Stood, went, stood, all_settled, now_nets, nets_began, nets_cover}
 use Rattle.bodies_run.specs.Leaving.{account_in, AreLeft}
 use Rattle.bodies_run.proofs.Leaving.{are_made, nodes_back, are_left}
 use Rattle.stream_model.specs.Linear.{Book}

@@ -8,7 +8,7 @@ use Rattle.run_account.specs.Account.{Account}
 use Rattle.run_account.specs.Seats.{joined}
 use Rattle.island_seats.specs.Islands.{seats_of}
 use Rattle.island_body.specs.declared.body.Body.{Body}
-use Rattle.bodies_account.specs.Bodies.{net_of}
+use Rattle.bodies_run.specs.Bodies.{net_of}
 
 -- what bodies tell together, where the input ends of the lanes asked for so many elements
 abbrev pub account_in : {S D L B : Type 0} → List ℕ → List Edge → List (Body S D L B) → (ℕ → ℕ) → Account (IslandNode S D L B)

@@ -1,2 +1,4 @@
+pub mod Bodies
+pub mod Begun
 pub mod Leaving
 pub mod Counts

@@ -1,35 +1,123 @@
-// Laws of what the bodies of a blueprint's islands leave: each function has no body, and its contract is the law.
-ghost use Rattle.std.specs.Prelude.{◌≡◌, ◌+◌, ◌≤◌, ℕ, List, All, length};
+// Laws of the bodies of a blueprint's islands, and of what they leave: each function has no body, and its contract is the law.
+ghost use Rattle.std.specs.Prelude.{◌≡◌, ◌+◌, ◌<◌, ◌≤◌, [], ℕ, true, List, length, slice_get, slice_index, Some, All};
 ghost use Rattle.std.specs.List.{sum_by};
-ghost use Rattle.blue_check.specs.Fitness.{IsFit};
-ghost use Rattle.blue_check.specs.Wires.{blueprint_wires};
-ghost use Rattle.blue_core.specs.declared.blueprint.Blueprint.{Blueprint};
-ghost use Rattle.plug_core.specs.declared.head.PlugHead.{PlugHead};
-ghost use Rattle.stream_model.specs.Graph.{Graph};
+ghost use Rattle.stream_model.specs.Graph.{Graph, Edge};
 ghost use Rattle.stream_picture.specs.Shape.{count_needed};
+ghost use Rattle.fused_net.specs.Costs.{sum_below, total, all_asks};
 ghost use Rattle.fused_net.specs.Laws.{AllKept};
 ghost use Rattle.nodes.specs.Nodes.{KeepsNode};
 ghost use Rattle.nodes.specs.declared.node.IslandNode.{IslandNode};
+ghost use Rattle.interpreter.specs.Island.{Kept};
+ghost use Rattle.interpreter.specs.Boundary.{EntersBy, LeavesBy, way_in, way_out};
+ghost use Rattle.interpreter.specs.Parts.{AllBecome};
+ghost use Rattle.interpreter.specs.Ways.{comes_in, goes_out};
+ghost use Rattle.interpreter.specs.declared.parts.Link.{Link};
 ghost use Rattle.interpreter.specs.declared.parts.Seated.{Seated};
-ghost use Rattle.run_account.specs.Account.{Account, IsStill};
 ghost use Rattle.run_account.specs.Pictures.{counts_of};
-ghost use Rattle.run_outlook_laws.specs.Runs.{IsRun};
-ghost use Rattle.materializer.specs.Graphs.{graph_of, chains_of};
-ghost use Rattle.materializer.specs.Seats.{AreSeats};
+ghost use Rattle.run_account.specs.Seats.{Covers, LanesKeep, LanesRest, joined};
+ghost use Rattle.run_account.specs.Units.{Owned, LanesCost, over_lanes};
 ghost use Rattle.rounds.specs.Bodies.{AllOf, EachOf};
 ghost use Rattle.rounds.specs.Crossings.{AllJoined, AtRest};
 ghost use Rattle.rounds.specs.declared.crossing.Crossing.{Crossing};
 ghost use Rattle.dispatcher.specs.Broken.{WholeOrBroken};
-ghost use Rattle.island_seats.specs.Islands.{AreBroughtBack};
+ghost use Rattle.island_seats.specs.Islands.{seats_of, seats_in, links_in, AreSeated, AreNets, AreBroughtBack};
 ghost use Rattle.island_body.specs.Keeping.{is_pending, BodyKeeps, BodyGoes, BodyBreaks};
 ghost use Rattle.island_body.specs.Meeting.{BodiesJoined};
 ghost use Rattle.island_body.specs.declared.body.Body.{Body};
-ghost use Rattle.bodies_account.specs.Bodies.{net_of, AskedAre, AreBodiesOf, AreLastOf};
+ghost use Rattle.bodies_run.specs.Bodies.{net_of, AreLanes, AskedAre, AreBodiesOf, AllSettled, AreLastOf};
+ghost use Rattle.blue_check.specs.Fitness.{IsFit};
+ghost use Rattle.blue_check.specs.Wires.{blueprint_wires};
+ghost use Rattle.blue_core.specs.declared.blueprint.Blueprint.{Blueprint};
+ghost use Rattle.plug_core.specs.declared.head.PlugHead.{PlugHead};
+ghost use Rattle.run_account.specs.Account.{Account, IsStill};
+ghost use Rattle.run_outlook_laws.specs.Runs.{IsRun};
+ghost use Rattle.materializer.specs.Graphs.{graph_of, chains_of};
+ghost use Rattle.materializer.specs.Seats.{AreSeats};
 ghost use Rattle.bodies_run.specs.Leaving.{account_in, AreLeft, of_lists};
 
 use plug_logic::book::PlugBook;
 use plug_logic::logic::Logic;
 use stream_io::outside::{Drain, Source};
+
+/// An island whose lanes come in and go out at its links has the stage of each at the place of its wire's connection: at the output
+/// (`out`), and at the input (`inp`).
+pub fn lanes_lie_at_their_places<S: Source, D: Drain, L: Logic, B: PlugBook>()
+    ensures out { (homes : List ℕ) (count : ℕ) (ws : List Edge) (nodes : List (Seated S D L B)) (u : ℕ) (v : Edge) (size : ℕ) (i : Kept S D L B) → AreSeated homes count ws nodes → slice_get ws u ≡ Some v → v.lane ≡ Some size
+        → ((q : ℕ) (l : Link) → slice_get (links_in homes ws nodes (slice_index homes v.from)) q ≡ Some l → goes_out (seats_in homes ws nodes (slice_index homes v.from)) l.to ≡ true → LeavesBy i l.wire q)
+        → ((seats_of homes ws).near u).at ≡ way_out i u }
+    ensures inp { (homes : List ℕ) (count : ℕ) (ws : List Edge) (nodes : List (Seated S D L B)) (u : ℕ) (v : Edge) (size : ℕ) (i : Kept S D L B) → AreSeated homes count ws nodes → slice_get ws u ≡ Some v → v.lane ≡ Some size
+        → ((q : ℕ) (l : Link) → slice_get (links_in homes ws nodes (slice_index homes v.to)) q ≡ Some l → comes_in (seats_in homes ws nodes (slice_index homes v.to)) l.from ≡ true → EntersBy i l.wire q)
+        → ((seats_of homes ws).far u).at ≡ way_in i u }
+{}
+
+/// The nets of the bodies' islands cover the graph of the blueprint (`covers`), and each of their connections is one of a wire's
+/// (`owned`): they are nets of its islands (`nets`), and each net is between two events (`settled`). Their nodes began as what stands at
+/// the nodes of the blueprint (`began`), and their crossings are its lanes (`lanes`).
+pub fn bodies_cover<S: Source, D: Drain, L: Logic, B: PlugBook>()
+    ensures covers { (g : Graph) (homes : List ℕ) (count : ℕ) (ws : List Edge) (nodes : List (Seated S D L B)) (crossings : List Crossing) (begun now : List (Body S D L B)) → AreBodiesOf S.state D.state B.lists g homes count ws nodes crossings begun → EachOf BodyGoes begun now → AllOf (BodyKeeps S.state D.state B.lists) now
+        → Covers g (net_of now) (seats_of homes ws) }
+    ensures owned { (g : Graph) (homes : List ℕ) (count : ℕ) (ws : List Edge) (nodes : List (Seated S D L B)) (crossings : List Crossing) (begun now : List (Body S D L B)) → AreBodiesOf S.state D.state B.lists g homes count ws nodes crossings begun → EachOf BodyGoes begun now → AllOf (BodyKeeps S.state D.state B.lists) now
+        → Owned g (net_of now) (seats_of homes ws) count }
+    ensures nets { (g : Graph) (homes : List ℕ) (count : ℕ) (ws : List Edge) (nodes : List (Seated S D L B)) (crossings : List Crossing) (begun now : List (Body S D L B)) → AreBodiesOf S.state D.state B.lists g homes count ws nodes crossings begun → EachOf BodyGoes begun now → AllOf (BodyKeeps S.state D.state B.lists) now
+        → AreNets homes ws nodes count (net_of now) }
+    ensures began { (g : Graph) (homes : List ℕ) (count : ℕ) (ws : List Edge) (nodes : List (Seated S D L B)) (crossings : List Crossing) (begun now : List (Body S D L B)) (all : ℕ → ℕ) → AreBodiesOf S.state D.state B.lists g homes count ws nodes crossings begun → EachOf BodyGoes begun now → AllOf (BodyKeeps S.state D.state B.lists) now
+        → (firsts : List (IslandNode S D L B)) × (AllBecome nodes firsts × ((k : ℕ) → k < length g.nodes → (joined (net_of now) (seats_of homes ws) all).firsts k ≡ slice_get firsts k)) }
+    ensures lanes { (g : Graph) (homes : List ℕ) (count : ℕ) (ws : List Edge) (nodes : List (Seated S D L B)) (crossings : List Crossing) (begun now : List (Body S D L B)) → AreBodiesOf S.state D.state B.lists g homes count ws nodes crossings begun → EachOf BodyGoes begun now → AllOf (BodyKeeps S.state D.state B.lists) now
+        → AreLanes homes ws now crossings }
+    ensures settled { (now : List (Body S D L B)) → AllOf (BodyKeeps S.state D.state B.lists) now → AllSettled S.state D.state B.lists now }
+{}
+
+/// Where the ends of all lanes were brought together, of each lane is kept and known what an account wants, between the connections of
+/// its wire.
+pub fn their_lanes_keep<S: Source, D: Drain, L: Logic, B: PlugBook>()
+    ensures { (g : Graph) (homes : List ℕ) (count : ℕ) (ws : List Edge) (nodes : List (Seated S D L B)) (crossings : List Crossing) (begun now : List (Body S D L B)) (all : ℕ → ℕ) → AreBodiesOf S.state D.state B.lists g homes count ws nodes crossings begun → EachOf BodyGoes begun now → AllOf (BodyKeeps S.state D.state B.lists) now → AskedAre now crossings all → AllJoined BodiesJoined now crossings
+        → LanesKeep g (net_of now) (seats_of homes ws) all }
+{}
+
+/// Where no body has an event, no net has one (`queues`), and each lane rests (`lanes`).
+pub fn their_lanes_rest<S: Source, D: Drain, L: Logic, B: PlugBook>()
+    ensures queues { (crossings : List Crossing) (now : List (Body S D L B)) → AtRest is_pending BodiesJoined now crossings → (k : ℕ) → (net_of now k).queue ≡ [] }
+    ensures lanes { (g : Graph) (homes : List ℕ) (count : ℕ) (ws : List Edge) (nodes : List (Seated S D L B)) (crossings : List Crossing) (begun now : List (Body S D L B)) (all : ℕ → ℕ) → AreBodiesOf S.state D.state B.lists g homes count ws nodes crossings begun → EachOf BodyGoes begun now → AllOf (BodyKeeps S.state D.state B.lists) now → AskedAre now crossings all → AtRest is_pending BodiesJoined now crossings
+        → LanesRest g (net_of now) (seats_of homes ws) all }
+{}
+
+/// What bodies spent: `cost` is what was taken off each lane, with the finds of new demand or a cancel there, and the events of all nets
+/// and these costs are at least what was spent (`costs`). So all that was spent is below the count of the blueprint's wires over what
+/// they were sent, by one for each wire (`paid`). The asks that came to outputs are no more than what was spent (`asks`).
+pub fn bodies_are_paid<S: Source, D: Drain, L: Logic, B: PlugBook>()
+    ensures costs { (g : Graph) (homes : List ℕ) (count : ℕ) (ws : List Edge) (nodes : List (Seated S D L B)) (crossings : List Crossing) (begun now : List (Body S D L B)) (all : ℕ → ℕ) → AreBodiesOf S.state D.state B.lists g homes count ws nodes crossings begun → EachOf BodyGoes begun now → AllOf (BodyKeeps S.state D.state B.lists) now → AskedAre now crossings all → AllJoined BodiesJoined now crossings
+        → (cost : ℕ → ℕ) × (LanesCost g (net_of now) (seats_of homes ws) all cost × (sum_by (λ b. b.spent) now ≤ sum_below (λ b. total (net_of now b)) count + over_lanes g cost)) }
+    ensures paid { (g : Graph) (homes : List ℕ) (count : ℕ) (ws : List Edge) (nodes : List (Seated S D L B)) (crossings : List Crossing) (begun now : List (Body S D L B)) (all : ℕ → ℕ) → AreBodiesOf S.state D.state B.lists g homes count ws nodes crossings begun → EachOf BodyGoes begun now → AllOf (BodyKeeps S.state D.state B.lists) now → AskedAre now crossings all → AllJoined BodiesJoined now crossings
+        → sum_by (λ b. b.spent) now + length g.wires ≤ count_needed g (counts_of (joined (net_of now) (seats_of homes ws) all) g) }
+    ensures asks { (count : ℕ) (now : List (Body S D L B)) → length now ≡ count → AllOf (BodyKeeps S.state D.state B.lists) now → sum_below (λ b. all_asks (net_of now b)) count ≤ sum_by (λ b. b.spent) now }
+{}
+
+/// Where memory was wanting, each body that broke off had a last moment between two events, and each other one is at such a moment
+/// (`last`). With all islands as they were then, the nets of the bodies cover the graph of the blueprint (`covers`, `owned`, `nets`, `began`), each
+/// net is between two events (`settled`), and their lanes keep what an account wants (`lanes`). Since then each node has kept what outlives
+/// want of memory (`kept`).
+pub fn broken_bodies_cover<S: Source, D: Drain, L: Logic, B: PlugBook>()
+    ensures last { (begun now : List (Body S D L B)) → WholeOrBroken (BodyKeeps S.state D.state B.lists) BodyGoes (BodyBreaks S.state D.state B.lists) begun now → (then : List (Body S D L B)) × AreLastOf S.state D.state B.lists begun now then }
+    ensures covers { (g : Graph) (homes : List ℕ) (count : ℕ) (ws : List Edge) (nodes : List (Seated S D L B)) (crossings : List Crossing) (begun now then : List (Body S D L B)) → AreBodiesOf S.state D.state B.lists g homes count ws nodes crossings begun
+        → WholeOrBroken (BodyKeeps S.state D.state B.lists) BodyGoes (BodyBreaks S.state D.state B.lists) begun now → AreLastOf S.state D.state B.lists begun now then
+        → Covers g (net_of then) (seats_of homes ws) }
+    ensures owned { (g : Graph) (homes : List ℕ) (count : ℕ) (ws : List Edge) (nodes : List (Seated S D L B)) (crossings : List Crossing) (begun now then : List (Body S D L B)) → AreBodiesOf S.state D.state B.lists g homes count ws nodes crossings begun
+        → WholeOrBroken (BodyKeeps S.state D.state B.lists) BodyGoes (BodyBreaks S.state D.state B.lists) begun now → AreLastOf S.state D.state B.lists begun now then
+        → Owned g (net_of then) (seats_of homes ws) count }
+    ensures nets { (g : Graph) (homes : List ℕ) (count : ℕ) (ws : List Edge) (nodes : List (Seated S D L B)) (crossings : List Crossing) (begun now then : List (Body S D L B)) → AreBodiesOf S.state D.state B.lists g homes count ws nodes crossings begun
+        → WholeOrBroken (BodyKeeps S.state D.state B.lists) BodyGoes (BodyBreaks S.state D.state B.lists) begun now → AreLastOf S.state D.state B.lists begun now then
+        → AreNets homes ws nodes count (net_of then) }
+    ensures began { (g : Graph) (homes : List ℕ) (count : ℕ) (ws : List Edge) (nodes : List (Seated S D L B)) (crossings : List Crossing) (begun now then : List (Body S D L B)) (all : ℕ → ℕ) → AreBodiesOf S.state D.state B.lists g homes count ws nodes crossings begun
+        → WholeOrBroken (BodyKeeps S.state D.state B.lists) BodyGoes (BodyBreaks S.state D.state B.lists) begun now → AreLastOf S.state D.state B.lists begun now then
+        → (firsts : List (IslandNode S D L B)) × (AllBecome nodes firsts × ((k : ℕ) → k < length g.nodes → (joined (net_of then) (seats_of homes ws) all).firsts k ≡ slice_get firsts k)) }
+    ensures settled { (begun now then : List (Body S D L B)) → WholeOrBroken (BodyKeeps S.state D.state B.lists) BodyGoes (BodyBreaks S.state D.state B.lists) begun now → AreLastOf S.state D.state B.lists begun now then
+        → AllSettled S.state D.state B.lists then }
+    ensures lanes { (g : Graph) (homes : List ℕ) (count : ℕ) (ws : List Edge) (nodes : List (Seated S D L B)) (crossings : List Crossing) (begun now then : List (Body S D L B)) (all : ℕ → ℕ) → AreBodiesOf S.state D.state B.lists g homes count ws nodes crossings begun
+        → WholeOrBroken (BodyKeeps S.state D.state B.lists) BodyGoes (BodyBreaks S.state D.state B.lists) begun now → AreLastOf S.state D.state B.lists begun now then → AskedAre now crossings all → AllJoined BodiesJoined now crossings
+        → LanesKeep g (net_of then) (seats_of homes ws) all }
+    ensures kept { (begun now then : List (Body S D L B)) → WholeOrBroken (BodyKeeps S.state D.state B.lists) BodyGoes (BodyBreaks S.state D.state B.lists) begun now → AreLastOf S.state D.state B.lists begun now then
+        → (k : ℕ) → AllKept (KeepsNode S.state D.state) (net_of then k).nodes (net_of now k).nodes }
+{}
 
 /// The bodies of a blueprint that breaks no rule, of whose sources none had handed out a byte, leave a run of it, wherever they are
 /// between turns once the ends of all lanes were brought together (`run`). The nodes of their islands come back into one list (`back`), and the

@@ -6,8 +6,8 @@ use Rattle.std.specs.declared.alloc.Global.{Global}
 use Rattle.stream_io.specs.State.{SourceState, DrainState}
 use Rattle.interpreter.specs.declared.island.IslandEnd.{IslandEnd}
 use Rattle.interpreter.specs.Island.{Kept}
-use Rattle.output_boundary.specs.declared.boundary.OutputBoundary.{OutputBoundary}
-use Rattle.island_input.specs.declared.boundary.IslandInput.{IslandInput}
+use Rattle.island_boundary.specs.declared.output.OutputBoundary.{OutputBoundary}
+use Rattle.island_boundary.specs.declared.input.IslandInput.{IslandInput}
 use Rattle.island_body.specs.declared.body.Body.{Body}
 use Rattle.island_body.specs.declared.peers.Peers.{Peers}
 use Rattle.island_bodies.specs.Peers.{HavePeers}

@@ -5,7 +5,7 @@ use Rattle.std.proofs.lemmas.Option.{slice_get_within}
 use Rattle.stream_model.specs.declared.outcome.WireCount.{WireCount}
 use Rattle.fused_net.proofs.Reading.{same_or_not, get_set_same, get_set_other}
 use Rattle.lane_core.specs.Ends.{asked}
-use Rattle.island_input.specs.declared.boundary.IslandInput.{IslandInput}
+use Rattle.island_boundary.specs.declared.input.IslandInput.{IslandInput}
 use Rattle.rounds.specs.declared.crossing.Crossing.{Crossing}
 use Rattle.traversal.specs.declared.plan.LanePlan.{LanePlan}
 use Rattle.lane_ends.specs.Ends.{AreRising}

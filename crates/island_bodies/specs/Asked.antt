@@ -2,7 +2,7 @@
 use Rattle.std.specs.Prelude.{◌≡◌, ◌≢◌, ℕ, suc, ◌<◌, nat_le, List, Some, length, slice_get}
 use Rattle.stream_model.specs.declared.outcome.WireCount.{WireCount}
 use Rattle.lane_core.specs.Ends.{asked}
-use Rattle.island_input.specs.declared.boundary.IslandInput.{IslandInput}
+use Rattle.island_boundary.specs.declared.input.IslandInput.{IslandInput}
 use Rattle.rounds.specs.declared.crossing.Crossing.{Crossing}
 use Rattle.traversal.specs.declared.plan.LanePlan.{LanePlan}
 use Rattle.island_body.specs.declared.body.Body.{Body}

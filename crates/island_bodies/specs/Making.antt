@@ -9,8 +9,8 @@ use Rattle.traversal.specs.declared.plan.LanePlan.{LanePlan}
 use Rattle.interpreter.specs.Island.{Kept, counts_of, sinks_of, readers_of, writers_of}
 use Rattle.interpreter.specs.Picks.{pick_of, picks_of}
 use Rattle.interpreter.specs.Seats.{seats_of}
-use Rattle.output_boundary.specs.declared.boundary.OutputBoundary.{OutputBoundary}
-use Rattle.island_input.specs.declared.boundary.IslandInput.{IslandInput}
+use Rattle.island_boundary.specs.declared.output.OutputBoundary.{OutputBoundary}
+use Rattle.island_boundary.specs.declared.input.IslandInput.{IslandInput}
 use Rattle.island_body.specs.declared.body.Body.{Body}
 use Rattle.island_body.specs.declared.way.Way.{Way}
 use Rattle.island_body.specs.declared.way.Way.TheVariants.{Inner}

@@ -3,7 +3,7 @@ ghost use Rattle.std.specs.Prelude.{◌≡◌, ◌≤◌, [], length, slice_get,
 ghost use Rattle.lane_core.specs.Ends.{asked};
 ghost use Rattle.lane_ends.specs.Ends.{AreRising};
 ghost use Rattle.island_body.specs.declared.body.Body as island;
-ghost use Rattle.island_input.specs.declared.boundary.IslandInput as inputs;
+ghost use Rattle.island_boundary.specs.declared.input.IslandInput as inputs;
 ghost use Rattle.island_bodies.specs.Asked.{LiesThere, LieThere, AreWithin, AreAsked, AreNoted, noted};
 
 use island_body::body::Body;

@@ -11,13 +11,13 @@ use Rattle.lane_core.specs.Ends.{taken, IsSameIn, IsSameOut}
 use Rattle.input_boundary.specs.Boundary.{given, waits, state}
 use Rattle.interpreter.specs.Island.{Kept}
 use Rattle.interpreter.specs.Boundary.{Enters, Leaves, way_in, way_out}
-use Rattle.output_boundary.specs.Beside.{Beside, in_node, out_node}
-use Rattle.output_boundary.specs.Serving.{Serves, IsServed}
-use Rattle.output_boundary.specs.declared.boundary.OutputBoundary.{OutputBoundary}
-use Rattle.output_boundary.proofs.Beside.{leaves_beside, enters_beside}
-use Rattle.island_input.specs.Feeding.{Feeds, IsFed}
-use Rattle.island_input.specs.declared.boundary.IslandInput.{IslandInput}
-use Rattle.island_input.proofs.Feeding.{feeds_looked}
+use Rattle.island_boundary.specs.Beside.{Beside, in_node, out_node}
+use Rattle.island_boundary.specs.Serving.{Serves, IsServed}
+use Rattle.island_boundary.specs.declared.output.OutputBoundary.{OutputBoundary}
+use Rattle.island_boundary.proofs.Beside.{leaves_beside, enters_beside}
+use Rattle.island_boundary.specs.Feeding.{Feeds, IsFed}
+use Rattle.island_boundary.specs.declared.input.IslandInput.{IslandInput}
+use Rattle.island_boundary.proofs.Feeding.{feeds_looked}
 use Rattle.island_body.specs.Ends.{in_wires, out_wires, InStands, OutStands, AllServed, AllDone, IslandGoes}
 use Rattle.island_body.specs.Keeping.{IsIdle, BodyStands, BodyGoes, BodyBreaks, SameLanes}
 use Rattle.island_body.specs.Moving.{TookNone, FoundNone, TookNoneAt, TookNoneBelow, FoundNoneAt, FoundNoneBelow}

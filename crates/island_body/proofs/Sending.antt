@@ -26,8 +26,8 @@ use Rattle.atomic_table.proofs.shared.Seat.TheSendSync as seat
 use Rattle.atomic_table.proofs.shared.Shared.TheSendSync as shared
 use Rattle.atomic_table.proofs.owned.Table.TheSendSync as table
 use Rattle.atomic_table.proofs.send_lease.SendLease.TheSendSync as lease
-use Rattle.island_input.specs.contracts.boundary.IslandInput as input
-use Rattle.output_boundary.specs.contracts.boundary.OutputBoundary as output
+use Rattle.island_boundary.specs.contracts.input.IslandInput as input
+use Rattle.island_boundary.specs.contracts.output.OutputBoundary as output
 use Rattle.circular_buffer.proofs.cells.Base.TheSendSync as base
 use Rattle.circular_buffer.proofs.cells.Cells.TheSendSync as cells
 use Rattle.circular_buffer.proofs.cells.Deed.TheSendSync as deed

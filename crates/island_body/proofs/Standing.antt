@@ -8,14 +8,14 @@ use Rattle.fused_net.specs.Outside.{StandsStill, Untouched}
 use Rattle.fused_net.proofs.Reading.{same_or_not}
 use Rattle.interpreter.specs.Island.{Kept}
 use Rattle.interpreter.specs.Boundary.{Enters, Leaves, way_in, way_out}
-use Rattle.output_boundary.specs.Beside.{Beside, in_node, out_node}
-use Rattle.output_boundary.specs.Serving.{IsServed}
-use Rattle.output_boundary.specs.declared.boundary.OutputBoundary.{OutputBoundary}
-use Rattle.output_boundary.proofs.Beside.{leaves_beside, enters_beside}
-use Rattle.output_boundary.proofs.Serving.{serves_beside, served_beside, serves_ran, served_ran}
-use Rattle.island_input.specs.Feeding.{IsFed}
-use Rattle.island_input.specs.declared.boundary.IslandInput.{IslandInput}
-use Rattle.island_input.proofs.Feeding.{feeds_beside, fed_beside, feeds_ran, fed_ran}
+use Rattle.island_boundary.specs.Beside.{Beside, in_node, out_node}
+use Rattle.island_boundary.specs.Serving.{IsServed}
+use Rattle.island_boundary.specs.declared.output.OutputBoundary.{OutputBoundary}
+use Rattle.island_boundary.proofs.Beside.{leaves_beside, enters_beside}
+use Rattle.island_boundary.proofs.Serving.{serves_beside, served_beside, serves_ran, served_ran}
+use Rattle.island_boundary.specs.Feeding.{IsFed}
+use Rattle.island_boundary.specs.declared.input.IslandInput.{IslandInput}
+use Rattle.island_boundary.proofs.Feeding.{feeds_beside, fed_beside, feeds_ran, fed_ran}
 use Rattle.island_body.specs.Ends.{in_wires, out_wires, InStands, OutStands, AllStand, AllServed, AreApart, IsTable, IslandGoes}
 use Rattle.island_body.specs.declared.way.Way.{Way}
 use Rattle.island_body.specs.declared.way.Way.TheVariants.{Inner, In, Out}

@@ -12,11 +12,11 @@ use Rattle.lane_core.specs.Ends.{finds, taken}
 use Rattle.lane_meet.specs.Meeting.{KeepsOut, KeepsIn}
 use Rattle.lane_meet.proofs.Standing.{history_stands, waits_stand}
 use Rattle.interpreter.specs.Island.{Kept}
-use Rattle.output_boundary.specs.Sending.{Sends, has_end}
-use Rattle.output_boundary.specs.Serving.{Serves, IsServed}
-use Rattle.output_boundary.specs.declared.boundary.OutputBoundary.{OutputBoundary}
-use Rattle.island_input.specs.Feeding.{Feeds, IsFed}
-use Rattle.island_input.specs.declared.boundary.IslandInput.{IslandInput}
+use Rattle.island_boundary.specs.Sending.{Sends, has_end}
+use Rattle.island_boundary.specs.Serving.{Serves, IsServed}
+use Rattle.island_boundary.specs.declared.output.OutputBoundary.{OutputBoundary}
+use Rattle.island_boundary.specs.Feeding.{Feeds, IsFed}
+use Rattle.island_boundary.specs.declared.input.IslandInput.{IslandInput}
 use Rattle.island_body.specs.Ends.{all_taken, all_finds, InStands, OutStands, AllStand, AllDone, IslandGoes}
 use Rattle.island_body.specs.Keeping.{BodyStands, BodyKeeps, BodyGoes, BodyBreaks, SameLanes, IsIdle, is_pending}
 use Rattle.island_body.specs.Meeting.{OutMet, InMet, OnlyMet, BodiesMayMeet, BodiesJoined, BodiesMeet}

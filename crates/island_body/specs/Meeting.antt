@@ -4,8 +4,8 @@ use Rattle.lane_core.specs.declared.room.Waits.{Waits}
 use Rattle.lane_core.specs.Ends.{AreOneLane, IsLaneHistory, WaitsAre}
 use Rattle.lane_meet.specs.Meeting.{KeepsOut, KeepsIn, AreTold}
 use Rattle.input_boundary.specs.Boundary.{given, waits, is_over, state}
-use Rattle.output_boundary.specs.declared.boundary.OutputBoundary.{OutputBoundary}
-use Rattle.island_input.specs.declared.boundary.IslandInput.{IslandInput}
+use Rattle.island_boundary.specs.declared.output.OutputBoundary.{OutputBoundary}
+use Rattle.island_boundary.specs.declared.input.IslandInput.{IslandInput}
 use Rattle.island_body.specs.declared.body.Body.{Body}
 
 -- an output end that only met, and an input end

@@ -2,8 +2,8 @@
 use Rattle.std.specs.Prelude.{◌≡◌, ◌≢◌, ◌⊎◌, ◌<◌, ◌≤◌, ℕ, true, List, [], length, slice_get, Some}
 use Rattle.lane_core.specs.Ends.{taken, seen, saw_cancel, found_sent, told_sent, told_asked, told_cancel}
 use Rattle.input_boundary.specs.Boundary.{is_over}
-use Rattle.output_boundary.specs.declared.boundary.OutputBoundary.{OutputBoundary}
-use Rattle.island_input.specs.declared.boundary.IslandInput.{IslandInput}
+use Rattle.island_boundary.specs.declared.output.OutputBoundary.{OutputBoundary}
+use Rattle.island_boundary.specs.declared.input.IslandInput.{IslandInput}
 use Rattle.island_body.specs.Ends.{AllDone}
 use Rattle.island_body.specs.declared.body.Body.{Body}
 

@@ -15,8 +15,8 @@ use Rattle.lane_meet.specs.Meeting.{AreTold}
 use Rattle.input_boundary.specs.Boundary.{is_over}
 use Rattle.input_boundary.specs.declared.boundary.InputBoundary.{InputBoundary}
 use Rattle.input_boundary.proofs.Flows.{elements_append, elements_told, length_told}
-use Rattle.output_boundary.specs.declared.boundary.OutputBoundary.{OutputBoundary}
-use Rattle.island_input.specs.declared.boundary.IslandInput.{IslandInput}
+use Rattle.island_boundary.specs.declared.output.OutputBoundary.{OutputBoundary}
+use Rattle.island_boundary.specs.declared.input.IslandInput.{IslandInput}
 use Rattle.island_body.specs.Moving.{TookNone, FoundNone}
 use Rattle.island_body.specs.Keeping.{BodyGoes, IsIdle, has_some, is_pending}
 use Rattle.island_body.specs.Meeting.{BodiesMayMeet, BodiesMeet}

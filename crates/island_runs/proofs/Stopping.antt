@@ -25,7 +25,7 @@ use Rattle.materializer.specs.Seats.{AreSeats, place_seat}
 use Rattle.bodies_run.specs.Leaving.{AreLeft, of_lists}
 use Rattle.bodies_run.proofs.Alone.{run_alone, still_alone, counts_alone}
 use Rattle.bodies_run.specs.Counts.{all_sent}
-use Rattle.whole_ends.specs.Whole.{IsLeftBy}
+use Rattle.bodies_leave.specs.Whole.{IsLeftBy}
 use Rattle.run_switch_laws.specs.Settling.{AllSettled}
 use Rattle.switch_board.specs.Board.{AreAtSwitches, numbered_from, seat_in}
 use Rattle.switch_board.specs.declared.board.Board.{Board}

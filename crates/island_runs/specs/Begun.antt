@@ -20,8 +20,8 @@ use Rattle.island_plans.specs.Homes.{AreNumberedHomes}
 use Rattle.island_body.specs.Keeping.{is_pending, BodyKeeps, BodyGoes, BodyBreaks}
 use Rattle.island_body.specs.Meeting.{BodiesMayMeet, BodiesJoined}
 use Rattle.island_body.specs.declared.body.Body.{Body}
-use Rattle.bodies_account.specs.Bodies.{AreBodiesOf}
-use Rattle.bodies_account.specs.Begun.{AreNumbered, AreAligned}
+use Rattle.bodies_run.specs.Bodies.{AreBodiesOf}
+use Rattle.bodies_run.specs.Begun.{AreNumbered, AreAligned}
 use Rattle.materializer.specs.Graphs.{graph_of, chains_of}
 use Rattle.materializer.specs.Seats.{AreSeats, place_seat}
 use Rattle.switch_board.specs.Board.{IsBoard, AreAtSwitches}

@@ -6,9 +6,9 @@ ghost use Rattle.island_runs.specs.Prepared.{IsPrepared};
 ghost use Rattle.plug_board.specs.Handed.{GivesAsListed, HasPlugs};
 
 use blue_core::blueprint::Blueprint;
+use bodies_begin::laws::filled_islands_are_seated;
 use elem_core::why::NoMemory;
 use interpreter::island::{Island, IslandEnd};
-use island_begins::laws::filled_islands_are_seated;
 use island_bodies::room::BodyRoom;
 use island_ends::room::EndRoom;
 use island_plans::plans::{Plans, plans_of};

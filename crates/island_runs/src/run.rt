@@ -10,25 +10,27 @@ ghost use Rattle.island_runs.specs.Prepared.{IsPrepared};
 ghost use Rattle.island_runs.specs.Receipt.{HasIslands, IsReceipt};
 
 use crate::prepare::Prepared;
-use bodies_account::laws::broken_bodies_cover;
 use bodies_begin::laws::{
-    ends_stay_at_their_crossings, made_bodies_begin_their_blueprint, started_islands_begin_bodies,
+    ends_stay_at_their_crossings, filled_islands_are_seated, made_bodies_begin_their_blueprint,
+    started_islands_begin_bodies,
 };
-use bodies_run::laws::{bodies_leave_a_run, broken_bodies_leave_a_run, nodes_alone_are_a_run};
+use bodies_leave::laws::{
+    bodies_leave_what_their_nodes_do, bodies_spent_what_was_sent,
+    broken_bodies_leave_their_handles, noted_counts_are_the_picture, told_asks_are_those_of_lanes,
+    unmade_islands_hand_back,
+};
+use bodies_run::laws::{
+    bodies_leave_a_run, broken_bodies_cover, broken_bodies_leave_a_run, nodes_alone_are_a_run,
+};
 use dispatcher::finish::Finish;
 use dispatcher::ran::Ran;
-use handles_back::laws::unmade_islands_hand_back;
 use interpreter::island::IslandEnd;
-use island_begins::laws::filled_islands_are_seated;
 use island_bodies::asked::{asked_of, note_asked};
 use island_bodies::make::{finish_all, make_all};
 use island_body::body::Body;
 use island_ends::join::{join_ends, join_handles};
 use island_ends::room::{EndHomes, EndRoom};
 use island_starts::start::start_all;
-use lane_counts::laws::{
-    bodies_spent_what_was_sent, noted_counts_are_the_picture, told_asks_are_those_of_lanes,
-};
 use plug_logic::book::PlugBook;
 use plug_logic::logic::Logic;
 use rounds::crossing::Crossing;
@@ -39,7 +41,6 @@ use stream_io::outside::{Drain, Source};
 use stream_model::outcome::WireCount;
 use switch_board::board::Board;
 use traversal::plan::LanePlan;
-use whole_ends::laws::{bodies_leave_what_their_nodes_do, broken_bodies_leave_their_handles};
 
 /// A run that was taken apart: what its nodes left, in order of nodes, but for the seats at its kill switches, which were settled; what
 /// each wire carried, how many units were used, whether no event was left, and the receipt of the run.

@@ -10,8 +10,8 @@ use Rattle.std.specs.declared.alloc.Global.{Global}
 use Rattle.std.proofs.lemmas.Bool.{cases_Bool, cases_eq, eq-eqb}
 use Rattle.std.proofs.lemmas.Option.{slice_get_within, slice_get-map, get_or_from_slice_get}
 use Rattle.std.specs.Prelude.{◌==◌, true, false}
-use Rattle.island_input.specs.declared.boundary.IslandInput.{IslandInput}
-use Rattle.output_boundary.specs.declared.boundary.OutputBoundary.{OutputBoundary}
+use Rattle.island_boundary.specs.declared.input.IslandInput.{IslandInput}
+use Rattle.island_boundary.specs.declared.output.OutputBoundary.{OutputBoundary}
 use Rattle.rounds.specs.declared.crossing.Crossing.{Crossing}
 use Rattle.scatter.specs.Shares.{of_home, count_of, rank_of, items_at, AreShares}
 use Rattle.scatter.proofs.Sharing.{count_here, count_elsewhere, count_within, share_count, share_at, share_from}

@@ -5,8 +5,8 @@ use Rattle.std.specs.declared.alloc.Global.{Global}
 use Rattle.lane_core.specs.Ends.{sent, seen, saw_cancel, finds, has_ended, out_size, taken, asked, has_cancelled, in_size, AreOneLane}
 use Rattle.input_boundary.specs.Boundary.{given, waits, is_over, state}
 use Rattle.input_boundary.specs.declared.state.State.TheVariants.{Flowing}
-use Rattle.island_input.specs.declared.boundary.IslandInput.{IslandInput}
-use Rattle.output_boundary.specs.declared.boundary.OutputBoundary.{OutputBoundary}
+use Rattle.island_boundary.specs.declared.input.IslandInput.{IslandInput}
+use Rattle.island_boundary.specs.declared.output.OutputBoundary.{OutputBoundary}
 use Rattle.rounds.specs.declared.crossing.Crossing.{Crossing}
 use Rattle.scatter.specs.Shares.{count_of, items_at}
 use Rattle.traversal.specs.declared.plan.LanePlan.{LanePlan}

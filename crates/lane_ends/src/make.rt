@@ -4,9 +4,9 @@ ghost use Rattle.lane_ends.specs.Ends.{AreEnds, AreMade, CanAllHaveEnds};
 
 use elem_core::why::NoMemory;
 use input_boundary::boundary::InputBoundary;
-use island_input::boundary::IslandInput;
+use island_boundary::input::IslandInput;
+use island_boundary::output::OutputBoundary;
 use lane_core::lane::lane;
-use output_boundary::boundary::OutputBoundary;
 use std::alloc::Global;
 use traversal::plan::LanePlan;
 

@@ -28,11 +28,11 @@ use Rattle.input_boundary.specs.Boundary.{given, state, BoundaryKeeps}
 use Rattle.input_boundary.specs.Flow.{cancelled_by}
 use Rattle.interpreter.specs.Island.{Kept}
 use Rattle.interpreter.specs.Boundary.{Enters, Leaves, way_in, way_out, cell_in, cell_out}
-use Rattle.output_boundary.specs.Beside.{waits_of}
-use Rattle.output_boundary.specs.Serving.{Serves, IsServed}
-use Rattle.island_input.specs.Feeding.{Feeds, IsFed}
-use Rattle.island_input.proofs.Wires.{rest_open}
-use Rattle.island_input.proofs.Stage.{gave_there}
+use Rattle.island_boundary.specs.Beside.{waits_of}
+use Rattle.island_boundary.specs.Serving.{Serves, IsServed}
+use Rattle.island_boundary.specs.Feeding.{Feeds, IsFed}
+use Rattle.island_boundary.proofs.Wires.{rest_open}
+use Rattle.island_boundary.proofs.Stage.{gave_there}
 use Rattle.lane_account.specs.Ends.{out_end, in_end}
 use Rattle.lane_account.proofs.Meeting.{are_met, boundary_keeps}
 use Rattle.run_account.specs.Ends.{OutKeeps, InKeeps, LaneKeeps}

@@ -9,8 +9,8 @@ ghost use Rattle.input_boundary.specs.declared.boundary.InputBoundary.{InputBoun
 ghost use Rattle.input_boundary.specs.Boundary.{BoundaryKeeps};
 ghost use Rattle.interpreter.specs.Island.{Kept};
 ghost use Rattle.interpreter.specs.Boundary.{Enters, Leaves, cell_in, cell_out};
-ghost use Rattle.output_boundary.specs.Serving.{Serves, IsServed};
-ghost use Rattle.island_input.specs.Feeding.{Feeds, IsFed};
+ghost use Rattle.island_boundary.specs.Serving.{Serves, IsServed};
+ghost use Rattle.island_boundary.specs.Feeding.{Feeds, IsFed};
 ghost use Rattle.lane_account.specs.Ends.{out_end, in_end};
 ghost use Rattle.run_account.specs.Ends.{OutKeeps, InKeeps, LaneKeeps};
 ghost use Rattle.run_account.specs.Quiet.{OutQuiet, InQuiet, LaneQuiet};

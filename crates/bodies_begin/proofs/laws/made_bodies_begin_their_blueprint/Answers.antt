@@ -1,6 +1,6 @@
 -- The bodies that were made of a blueprint's islands are its bodies.
 use Rattle.std.proofs.Common.{◌∙◌}
-use Rattle.bodies_begin.proofs.Making.{bodies_are, unspent, meet, numbered, aligned}
+use Rattle.bodies_begin.proofs.MadeOf.{bodies_are, unspent, meet, numbered, aligned}
 use Rattle.bodies_begin.proofs.laws.made_bodies_begin_their_blueprint.Goals as goal
 
 pub returns : goal.returns

@@ -1,7 +1,7 @@
 use Rattle.blue_check.specs.Wires.{blueprint_wires}
 use Rattle.materializer.specs.Graphs.{graph_of}
 use Rattle.bodies_run.proofs.Running.{bodies_run, bodies_back, bodies_left, bodies_still}
-use Rattle.bodies_account.proofs.Paying.{paid}
+use Rattle.bodies_run.proofs.Paying.{paid}
 use Rattle.bodies_run.proofs.laws.bodies_leave_a_run.Goals as goal
 
 pub returns : goal.returns

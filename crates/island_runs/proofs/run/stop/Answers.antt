@@ -13,7 +13,7 @@ use Rattle.nodes.specs.Nodes.{node_seat}
 use Rattle.island_bodies.specs.Asked.{LieThere, AreAsked, AreNoted, AreWithin}
 use Rattle.bodies_run.specs.Counts.{asked_by, told_from}
 use Rattle.bodies_run.specs.Leaving.{account_in}
-use Rattle.whole_ends.specs.Whole.{whole_of}
+use Rattle.bodies_leave.specs.Whole.{whole_of}
 use Rattle.island_runs.proofs.Preparing.{told_many}
 use Rattle.island_runs.proofs.Running.{came_back}
 use Rattle.island_runs.proofs.Stopping.{left_seats, leaves, kept}

@@ -1,0 +1,14 @@
+pub mod Leaving
+pub mod Numbers
+pub mod Wires
+pub mod Became
+pub mod Homes
+pub mod Whole
+pub mod Broken
+pub mod Sharing
+pub mod Handles
+pub mod Back
+pub mod Asking
+pub mod Drawing
+pub mod Totals
+pub mod Spending

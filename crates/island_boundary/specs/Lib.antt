@@ -1,0 +1,4 @@
+pub mod Sending
+pub mod Beside
+pub mod Serving
+pub mod Feeding

@@ -1,4 +1,0 @@
-pub mod Asking
-pub mod Drawing
-pub mod Places
-pub mod Spending

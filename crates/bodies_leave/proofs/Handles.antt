@@ -25,6 +25,7 @@ use Rattle.island_ends.specs.Ends.{with_home, homes_left, leaves}
 use Rattle.island_ends.proofs.Behind.{homes_behind, no_more}
 use Rattle.island_ends.proofs.Leaving.{with_one, those, share_those}
 use Rattle.island_plans.specs.Ends.{leaves_in, homes_in}
+use Rattle.island_plans.specs.declared.ends.EndList.{EndList}
 use Rattle.island_plans.specs.declared.ends.EndList.TheVariants.{Readers, Writers}
 
 -- ---- what leaves nothing behind what does
@@ -187,16 +188,17 @@ module _ {S D L B : Type 0} where
   writes_if chains k n ss ds (work.Writing shape None) is = ap (λ q. is_some (output_of q)) is.is_ignore
 
   -- so what is told of the nodes of a blueprint holds of their places
+  -- the homes of the nodes that leave an item in a list are those of their places
+  homes_of : {Y : Type 0} (list : EndList) (f : Seated S D L B → Option Y) (chains : List graph.Chain) → ((k : ℕ) (n : Node) (ss : List S) (ds : List D) (p : Seated S D L B) → IsWork chains k n ss ds p.work → leaves_in list n ≡ leaves (f p)) → (k : ℕ) (ns : List Node) (ss : List S) (ds : List D) (ps : List (Seated S D L B)) (homes : List ℕ) → AreSeats chains k ns ss ds ps
+      → homes_in list ns homes ≡ homes_left f homes ps
+  homes_of list f chains each k [] ss ds [] homes a = sym (none_left f homes)
+  homes_of list f chains each k [] ss ds (p ∷ ps) homes a = absurd a
+  homes_of list f chains each k (n ∷ ns) ss ds [] homes a = absurd a
+  homes_of list f chains each k (n ∷ ns) ss ds (p ∷ ps) [] a = refl
+  homes_of list f chains each k (n ∷ ns) ss ds (p ∷ ps) (h ∷ homes) a = sym (one_home (f p) (leaves_in list n) h (homes_left f homes ps) (homes_in list ns homes) (each k n ss ds p a.1.0) (sym (homes_of list f chains each (k + 1) ns _ _ ps homes a.1.1)))
+
   pub source_homes : (chains : List graph.Chain) (k : ℕ) (ns : List Node) (ss : List S) (ds : List D) (ps : List (Seated S D L B)) (homes : List ℕ) → AreSeats chains k ns ss ds ps → homes_in Readers ns homes ≡ homes_left source_at homes ps
-  source_homes chains k [] ss ds [] homes a = sym (none_left source_at homes)
-  source_homes chains k [] ss ds (p ∷ ps) homes a = absurd a
-  source_homes chains k (n ∷ ns) ss ds [] homes a = absurd a
-  source_homes chains k (n ∷ ns) ss ds (p ∷ ps) [] a = refl
-  source_homes chains k (n ∷ ns) ss ds (p ∷ ps) (h ∷ homes) a = sym (one_home (source_at p) (leaves_in Readers n) h (homes_left source_at homes ps) (homes_in Readers ns homes) (reads_if chains k n ss ds p.work a.1.0) (sym (source_homes chains (k + 1) ns _ _ ps homes a.1.1)))
+  source_homes chains = homes_of Readers source_at chains (λ k n ss ds p. reads_if chains k n ss ds p.work)
 
   pub drain_homes : (chains : List graph.Chain) (k : ℕ) (ns : List Node) (ss : List S) (ds : List D) (ps : List (Seated S D L B)) (homes : List ℕ) → AreSeats chains k ns ss ds ps → homes_in Writers ns homes ≡ homes_left drain_at homes ps
-  drain_homes chains k [] ss ds [] homes a = sym (none_left drain_at homes)
-  drain_homes chains k [] ss ds (p ∷ ps) homes a = absurd a
-  drain_homes chains k (n ∷ ns) ss ds [] homes a = absurd a
-  drain_homes chains k (n ∷ ns) ss ds (p ∷ ps) [] a = refl
-  drain_homes chains k (n ∷ ns) ss ds (p ∷ ps) (h ∷ homes) a = sym (one_home (drain_at p) (leaves_in Writers n) h (homes_left drain_at homes ps) (homes_in Writers ns homes) (writes_if chains k n ss ds p.work a.1.0) (sym (drain_homes chains (k + 1) ns _ _ ps homes a.1.1)))
+  drain_homes chains = homes_of Writers drain_at chains (λ k n ss ds p. writes_if chains k n ss ds p.work)

@@ -109,6 +109,11 @@ node_seat (Ignoring x) = None
 node_seat (Entering x) = None
 node_seat (Leaving x) = None
 
+-- it is no linear stage
+abbrev pub IsNotLinear : {S D L B : Type 0} → IslandNode S D L B → Type 0
+IsNotLinear (Linear x) = ⊥
+IsNotLinear _ = ⊤
+
 -- what it leaves at the end
 abbrev pub node_end : {S D L B : Type 0} → IslandNode S D L B → NodeEnd S D
 node_end (Reading x) = Read x.reader.source

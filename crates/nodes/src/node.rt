@@ -1,7 +1,12 @@
 // A node of an island, whatever its kind is.
-ghost use Rattle.std.specs.Prelude.{◌≡◌, []};
+ghost use Rattle.std.specs.Prelude.{◌≡◌, ◌≤◌, [], OnOk, OnErr};
 ghost use Rattle.std.specs.Option.{option_map};
-ghost use Rattle.nodes.specs.Nodes.{node_fresh, node_port_state, node_law, node_asking, node_moves, node_picks, node_seat, node_end, node_passive, node_gone, node_waits, KeepsNode};
+ghost use Rattle.elem_core.specs.Prefix.{IsPrefix};
+ghost use Rattle.elem_core.specs.declared.item.Item.TheVariants as item;
+ghost use Rattle.port_core.specs.Call.{Meets, pulls, arrives};
+ghost use Rattle.stage_core.specs.declared.stage.TheConstants.{MOST_ACTS};
+ghost use Rattle.stage_core.specs.Handling.{PullsAs, StaysPassive, Handles};
+ghost use Rattle.nodes.specs.Nodes.{IsNotLinear, node_fresh, node_port_state, node_law, node_asking, node_moves, node_picks, node_seat, node_end, node_passive, node_gone, node_waits, KeepsNode};
 
 use crate::ignoring::IgnoreSink;
 use crate::maker::ValueSource;
@@ -90,6 +95,71 @@ impl<S: Source, D: Drain, L: Logic, B: PlugBook> IslandNode<S, D, L, B> {
             IslandNode::Ignoring(sink) => (NodeEnd::Wrote(sink.close()), None, None),
         }
     }
+
+    // The handler of every other kind, out of line, so that a linear stage's keeps a small frame.
+    #[inline(never)]
+    fn pull_rest(&mut self, alloc: Global, port: u8, acts: &mut Acts) -> Result<(), NoMemory>
+        requires rest { IsNotLinear self.old }
+        requires meets { Meets (pulls port) (node_port_state self.old) }
+        requires empty { acts.old.items ≡ [] }
+        requires room { MOST_ACTS ≤ acts.old.room }
+        ensures handles { OnOk result (Handles node_port_state (node_law S.state D.state B.lists) (pulls port) self.old self.new acts.new.items) }
+        ensures pulls { OnOk result (PullsAs (pulls port) (node_port_state self.old) (node_asking self.new) acts.new.items) }
+        ensures grows { OnOk result (IsPrefix (node_moves self.old) (node_moves self.new)) }
+        ensures passive { OnOk result (StaysPassive (node_passive self.old) (node_passive self.new) acts.new.items) }
+        ensures gone { OnOk result (node_gone self.new ≡ node_gone self.old) }
+        ensures room { OnOk result (acts.new.room ≡ acts.old.room) }
+        ensures kept { OnErr result (KeepsNode S.state D.state self.old self.new) }
+    {
+        match self {
+            IslandNode::Reading(source) => source.on_pull(acts),
+            IslandNode::Making(source) => source.on_pull(acts),
+            IslandNode::State(logic) => Stage::on_pull(logic, alloc, port, acts),
+            IslandNode::Sub(logic) => Stage::on_pull(logic, alloc, port, acts),
+            IslandNode::FanIn(logic) => Stage::on_pull(logic, alloc, port, acts),
+            IslandNode::FanOut(logic) => Stage::on_pull(logic, alloc, port, acts),
+            IslandNode::Entering(stage) => Stage::on_pull(stage, alloc, port, acts),
+            IslandNode::Leaving(stage) => Stage::on_pull(stage, alloc, port, acts),
+            IslandNode::Linear(_) | IslandNode::Writing(_) | IslandNode::Ignoring(_) => {
+                unreachable!()
+            }
+        }
+    }
+
+    // The handler of every other kind, out of line, so that a linear stage's keeps a small frame.
+    #[inline(never)]
+    fn push_rest(
+        &mut self,
+        alloc: Global,
+        port: u8,
+        e: Elem,
+        acts: &mut Acts,
+    ) -> Result<(), NoMemory>
+        requires rest { IsNotLinear self.old }
+        requires meets { Meets (arrives port (item.Elem e)) (node_port_state self.old) }
+        requires empty { acts.old.items ≡ [] }
+        requires room { MOST_ACTS ≤ acts.old.room }
+        ensures handles { OnOk result (Handles node_port_state (node_law S.state D.state B.lists) (arrives port (item.Elem e)) self.old self.new acts.new.items) }
+        ensures pulls { OnOk result (PullsAs (arrives port (item.Elem e)) (node_port_state self.old) (node_asking self.new) acts.new.items) }
+        ensures grows { OnOk result (IsPrefix (node_moves self.old) (node_moves self.new)) }
+        ensures passive { OnOk result (StaysPassive (node_passive self.old) (node_passive self.new) acts.new.items) }
+        ensures gone { OnOk result (node_gone self.new ≡ node_gone self.old) }
+        ensures room { OnOk result (acts.new.room ≡ acts.old.room) }
+        ensures kept { OnErr result (KeepsNode S.state D.state self.old self.new) }
+    {
+        match self {
+            IslandNode::Reading(_) | IslandNode::Making(_) | IslandNode::Linear(_) =>
+                unreachable!(),
+            IslandNode::State(logic) => Stage::on_push(logic, alloc, port, e, acts),
+            IslandNode::Sub(logic) => Stage::on_push(logic, alloc, port, e, acts),
+            IslandNode::FanIn(logic) => Stage::on_push(logic, alloc, port, e, acts),
+            IslandNode::FanOut(logic) => Stage::on_push(logic, alloc, port, e, acts),
+            IslandNode::Writing(sink) => sink.on_push(e, acts),
+            IslandNode::Ignoring(sink) => sink.on_push(e, acts),
+            IslandNode::Entering(stage) => Stage::on_push(stage, alloc, port, e, acts),
+            IslandNode::Leaving(stage) => Stage::on_push(stage, alloc, port, e, acts),
+        }
+    }
 }
 
 impl<S: Source, D: Drain, L: Logic, B: PlugBook> Stage for IslandNode<S, D, L, B> {
@@ -129,16 +199,8 @@ impl<S: Source, D: Drain, L: Logic, B: PlugBook> Stage for IslandNode<S, D, L, B
 
     fn on_pull(&mut self, alloc: Global, port: u8, acts: &mut Acts) -> Result<(), NoMemory> {
         match self {
-            IslandNode::Reading(source) => source.on_pull(acts),
-            IslandNode::Making(source) => source.on_pull(acts),
             IslandNode::Linear(logic) => Stage::on_pull(logic, alloc, port, acts),
-            IslandNode::State(logic) => Stage::on_pull(logic, alloc, port, acts),
-            IslandNode::Sub(logic) => Stage::on_pull(logic, alloc, port, acts),
-            IslandNode::FanIn(logic) => Stage::on_pull(logic, alloc, port, acts),
-            IslandNode::FanOut(logic) => Stage::on_pull(logic, alloc, port, acts),
-            IslandNode::Entering(stage) => Stage::on_pull(stage, alloc, port, acts),
-            IslandNode::Leaving(stage) => Stage::on_pull(stage, alloc, port, acts),
-            IslandNode::Writing(_) | IslandNode::Ignoring(_) => unreachable!(),
+            _ => self.pull_rest(alloc, port, acts),
         }
     }
 
@@ -150,16 +212,8 @@ impl<S: Source, D: Drain, L: Logic, B: PlugBook> Stage for IslandNode<S, D, L, B
         acts: &mut Acts,
     ) -> Result<(), NoMemory> {
         match self {
-            IslandNode::Reading(_) | IslandNode::Making(_) => unreachable!(),
             IslandNode::Linear(logic) => Stage::on_push(logic, alloc, port, e, acts),
-            IslandNode::State(logic) => Stage::on_push(logic, alloc, port, e, acts),
-            IslandNode::Sub(logic) => Stage::on_push(logic, alloc, port, e, acts),
-            IslandNode::FanIn(logic) => Stage::on_push(logic, alloc, port, e, acts),
-            IslandNode::FanOut(logic) => Stage::on_push(logic, alloc, port, e, acts),
-            IslandNode::Writing(sink) => sink.on_push(e, acts),
-            IslandNode::Ignoring(sink) => sink.on_push(e, acts),
-            IslandNode::Entering(stage) => Stage::on_push(stage, alloc, port, e, acts),
-            IslandNode::Leaving(stage) => Stage::on_push(stage, alloc, port, e, acts),
+            _ => self.push_rest(alloc, port, e, acts),
         }
     }
 

@@ -1,5 +1,5 @@
 use Rattle.nodes.proofs.Dispatching.{reading_asked}
-use Rattle.nodes.proofs.node.IslandNodeStage.on_pull.Goals as goal
+use Rattle.nodes.proofs.node.IslandNode.pull_rest.Goals as goal
 
 pub returns-in-Reading-clause-handles : goal.returns-in-Reading-clause-handles
 returns-in-Reading-clause-handles g c =

@@ -2,7 +2,7 @@ use Rattle.std.proofs.Common.{ap, ◌∙◌}
 use Rattle.elem_core.specs.declared.item.Item.TheVariants as item
 use Rattle.stage_boundary.proofs.Leaves.{leaves_got}
 use Rattle.nodes.proofs.Dispatching.{writing_handles, leaving_handles}
-use Rattle.nodes.proofs.node.IslandNodeStage.on_push.Goals as goal
+use Rattle.nodes.proofs.node.IslandNode.push_rest.Goals as goal
 
 pub returns-in-Writing-clause-handles : goal.returns-in-Writing-clause-handles
 returns-in-Writing-clause-handles g c =

@@ -1,8 +1,9 @@
 -- An event's delivery and its handling keep the graph's laws.
-use Rattle.std.proofs.Common.{◌≡◌, ◌≢◌, ℕ, ◌<◌, true, false, Some, List, [], ◌∷◌, length, slice_get, refl, sym, ap, ◌∙◌, subst, arith}
+use Rattle.std.proofs.Common.{◌≡◌, ◌≢◌, ℕ, ◌<◌, Bool, true, false, if◌then◌else◌, Some, List, [], ◌∷◌, ◌++◌, length, set-set, slice_get, refl, sym, ap, ◌∙◌, subst, arith}
 use Rattle.std.proofs.lemmas.Grind.{common_steps}
 use Rattle.std.proofs.lemmas.Bool.Decides.{nat_tests}
 use Rattle.std.proofs.lemmas.List.{length-set}
+use Rattle.elem_core.specs.Tree.{Tree}
 use Rattle.elem_core.specs.declared.item.Item.{Item}
 use Rattle.elem_core.specs.declared.item.Item.TheVariants as item
 use Rattle.port_core.specs.Ring.{holds}
@@ -16,19 +17,51 @@ use Rattle.port_core.specs.declared.act.Act.{Act}
 use Rattle.port_core.specs.declared.view.InView.TheVariants.{Cancelled}
 use Rattle.port_core.specs.declared.view.OutView.TheVariants.{Closed}
 use Rattle.port_core.proofs.Wires.{deliver_kept, deliver_heard}
+use Rattle.wire_core.specs.Cell.{WireState, delivery_in, brought_in, delivered, Brings, Brought}
+use Rattle.wire_core.specs.declared.wire.Delivered.{Delivered}
+use Rattle.wire_core.specs.declared.wire.Delivered.TheVariants as delivery
 use Rattle.wire_core.specs.Marks.{IsMarked}
 use Rattle.wire_core.proofs.Marking.{deliver_marked}
 use Rattle.stage_core.specs.Histories.{brought_by}
 use Rattle.stage_core.specs.Handling.{Handles}
 use Rattle.fused_net.specs.declared.net.WireEnds.{WireEnds}
 use Rattle.wire_core.specs.Reading.{inp_of, out_of, got_of, sent_of}
-use Rattle.fused_net.specs.Net.{Net, end_at, wire_at, ports_at, view_of, took, gave, target, call_of, told_by, told, event_told, with_node, before}
+use Rattle.fused_net.specs.Net.{Net, end_at, wire_at, ports_at, view_of, took, gave, target, call_of, put, told_by, told, event_told, with_node, before}
 use Rattle.fused_net.specs.Laws.{AnyLaw, Wired, Minds, IsMinded, Settled, Busy, MeetsAt, Awaits, TellsAsking}
 use Rattle.fused_net.proofs.Reading.{read_same, read_at, some_same, get_there, get_set_same, get_set_other}
 use Rattle.fused_net.proofs.Nets.{sound_put, marked_put, minds_along, others_in, others_out, here_in, here_out}
 use Rattle.fused_net.proofs.Acting.{keep_at}
 use Rattle.fused_net.proofs.Asking.{told_asked}
 use Rattle.fused_net.proofs.Moments.{told_moments}
+
+-- what the code says of an event is more than nothing
+pub some : (d : Delivered) → delivery_in d ≢ nothing
+some delivery.Pull e = cc
+some delivery.Cancel e = cc
+some (delivery.Arrived x more) e = cc
+
+-- ---- an event that is told in two steps, where it brings an element
+
+pub brings_elem : (old new : WireState) (e : Tree) (more : Bool) → Brings more old new → new.wire.conn.to_grab ≡ Some e → arrived (item.Elem e) more ≡ delivery_of old.wire
+brings_elem old new e more b there = sym (b.brings ∙ ap (λ (t : Tree). arrived (item.Elem t) more) (some_same b.e e (sym b.waits ∙ there)))
+
+module _ {N : Type 0} where
+  put_twice : (net : Net N) (w : ℕ) (c x : WireState) (more : Bool) → put (put net w c false) w x more ≡ put net w x more
+  put_twice net w c x more = ap (λ (ws : List WireState). record net { wires = ws; queue = if more then net.queue ++ w ∷ [] else net.queue }) (set-set net.wires w c x)
+
+  pub told_brought : (net v : Net N) (w : ℕ) (d : Delivery) → Brought d (wire_at net w) (wire_at v w) → v ≡ put net w (wire_at v w) false → again d ≡ false → v ≡ event_told net w
+  told_brought net v w d b is last =
+      is ∙ ap (λ (c : WireState). put net w c false) b.after ∙ ap (λ (q : Bool). put net w (delivered (wire_at net w)) q) (sym last ∙ ap again (sym b.brings))
+
+  pub told_brings : (net v new : Net N) (w : ℕ) (e : Tree) (more : Bool) → Brings more (wire_at net w) (wire_at v w) → v ≡ put net w (wire_at v w) false → (wire_at v w).wire.conn.to_grab ≡ Some e → new ≡ put v w (brought_in e (wire_at v w)) more → new ≡ event_told net w
+  told_brings net v new w e more b is there on =
+      let c = wire_at v w in
+      let same : b.e ≡ e = some_same b.e e (sym b.waits ∙ there) in
+      on
+      ∙ ap (λ (a : Net N). put a w (brought_in e c) more) is
+      ∙ put_twice net w c (brought_in e c) more
+      ∙ ap (λ (x : WireState). put net w x more) (ap (λ (t : Tree). brought_in t c) (sym same) ∙ b.after)
+      ∙ ap (λ (q : Bool). put net w (delivered (wire_at net w)) q) (sym (ap again b.brings))
 
 pub queued_here : (queue : List ℕ) (w : ℕ) → holds (w ∷ queue) w ≡ true
 queued_here queue w = grind (arith, common_steps, nat_tests)

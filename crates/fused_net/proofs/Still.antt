@@ -18,8 +18,9 @@ use Rattle.fused_net.specs.Laws.{AnyRow, AnyLaw, Wired, Busy, Settled, GoesOn, A
 use Rattle.fused_net.specs.PortLists.{PortLists}
 use Rattle.fused_net.specs.declared.engine.Stepped.{Stepped}
 use Rattle.fused_net.specs.Steps.{at_step}
+use Rattle.fused_net.specs.Poking.{AtNode}
 use Rattle.fused_net.specs.Outside.{BreaksAside, IsPassiveAt, StandsStill, touched, IsElse, HasOnly, Untouched, HeardBy}
-use Rattle.fused_net.proofs.Reading.{same_or_not, some_same, get_there, get_set_other}
+use Rattle.fused_net.proofs.Reading.{same_or_not, some_same, get_there, get_set_same, get_set_other}
 use Rattle.fused_net.proofs.Ongoing.{nodes-acts}
 use Rattle.fused_net.proofs.Acting.{PortAt, fits, act_allowed, port_within, acted_busy}
 use Rattle.fused_net.proofs.Asking.{told_wanted, told_grown}
@@ -421,21 +422,30 @@ module _ {N : Type 0} (passive : N → Bool) where
   pub untouched_next : (b c : Bool) (w : ℕ) (old net new : Net N) → b ≡ c → Takes old w net → Untouched passive (touched b w) net new → Untouched passive (touched c w) old new
   untouched_next b c w old net new e t u = untouched_taken (touched c w) old net new w t (untouched_as b c w net new e u)
 
+  -- a node is passive as it was before it did what it wants done
+  pub acts_passive : (net v new : Net N) (n : ℕ) (acts : List Act) (x : N) (b : Bool) → v ≡ net → new ≡ acted_all net n acts → n < length net.nodes → x ≡ get_or v.nodes n x → b ≡ passive x → AtNode new n (λ y. b ≡ passive y)
+  acts_passive net v new n acts x b e is h at known y yi =
+      let nodes : new.nodes ≡ net.nodes = ap (λ (a : Net N). a.nodes) is ∙ nodes-acts acts net n in
+      known ∙ ap passive (some_same x y (sym (node_is net v n x e h at) ∙ ap (λ (xs : List N). slice_get xs n) (sym nodes) ∙ yi))
+
+  -- one that is passive once it was called has nothing to do
+  pub called_still : (net v : Net N) (n : ℕ) (x y : N) (acts : List Act) → v ≡ net → n < length net.nodes → x ≡ get_or v.nodes n x → StaysPassive (passive x) (passive y) acts → AtNode (with_node v n y) n (λ z. passive z ≡ true → acts ≡ [])
+  called_still net v n x y acts e h is stays z zi p =
+      let within : n < length v.nodes = rw e h in
+      let same : y ≡ z = some_same y z (sym (get_set_same v.nodes n y within) ∙ zi) in
+      still_by (passive x) (passive y) acts stays (ap passive same ∙ p)
+    where
+      still_by : (a b : Bool) (acts : List Act) → StaysPassive a b acts → b ≡ true → acts ≡ []
+      still_by false b acts s e = absurd (let t : true ≡ false = sym e ∙ s in cc)
+      still_by true b acts s e = s.1
+
   -- the same by what the code of it reads
   pub handle_untouched : (net v new : Net N) (w n : ℕ) (event : Delivery) (ends : WireEnds) (heard : Bool) → Wired net.ends net.ports (length net.nodes) (length net.wires) → w < length net.wires → v ≡ event_told net w → event ≡ delivery_of (wire_at net w).wire → event ≢ nothing → ends ≡ end_at net.ends w → n ≡ target event ends
-      → HeardBy passive n v new → map passive new.nodes ≡ map passive v.nodes → n < length v.nodes → (a : Net N) (x : N) → a ≡ new → x ≡ get_or a.nodes n x → heard ≡ passive x → Untouched passive (touched heard w) net new
-  handle_untouched net v new w n event ends heard wired h is event_is some ends_is to by kinds within a x view at known =
+      → HeardBy passive n v new → map passive new.nodes ≡ map passive v.nodes → n < length v.nodes → AtNode new n (λ x. heard ≡ passive x) → Untouched passive (touched heard w) net new
+  handle_untouched net v new w n event ends heard wired h is event_is some ends_is to by kinds within known =
       let target_is : n ≡ target (delivery_of (wire_at net w).wire) (end_at net.ends w) = rw (sym event_is, sym ends_is) to in
       let there : n < length net.nodes = rw is at within in
-      let count : length new.nodes ≡ length v.nodes = map_count new.nodes v.nodes kinds in
-      let here : slice_get new.nodes n ≡ Some x = node_is new a n x view (rw count within) at in
-      untouched_handled net v new w n heard wired h is (λ e. some (event_is ∙ e)) target_is by kinds (λ y yi. known ∙ ap passive (some_same x y (sym here ∙ yi))) there
-    where
-      map_count : (xs ys : List N) → map passive xs ≡ map passive ys → length xs ≡ length ys
-      map_count [] [] e = refl
-      map_count [] (y ∷ ys) e = cc
-      map_count (x ∷ xs) [] e = cc
-      map_count (x ∷ xs) (y ∷ ys) e = let t : map passive xs ≡ map passive ys = cc in ap suc (map_count xs ys t)
+      untouched_handled net v new w n heard wired h is (λ e. some (event_is ∙ e)) target_is by kinds known there
 
 -- memory was wanting behind that moment
 pub breaks_aside : {N : Type 0} (row : N → View → Type 0) (law : N → N → View → List (List Item) → List (List Item) → Type 0) (asking : N → View → Type 0) (moves : N → List ℕ) (gone : N → List Item) (passive : N → Bool) (keeps : N → N → Type 0) (old last : Net N) (nodes : List N)

@@ -1,15 +1,15 @@
 // Nodes joined by wires: one action, one event, and `execute`.
-ghost use Rattle.std.specs.Prelude.{◌≡◌, ◌≢◌, ℕ, ◌+◌, ◌<◌, ◌≤◌, [], ◌∷◌, false, None, Some, OnOk, OnErr, IfOk, IfNone, IfSome, IsTrue, ◌↔◌, length, map, replicate, slice_get};
+ghost use Rattle.std.specs.Prelude.{◌≡◌, ℕ, true, ◌+◌, ◌<◌, ◌≤◌, [], ◌∷◌, false, None, Some, OnOk, OnErr, IfOk, IfNone, IfSome, IsSome, IsTrue, ◌↔◌, length, map, replicate, slice_get};
 ghost use Rattle.elem_core.specs.Prefix.{IsPrefix};
 ghost use Rattle.elem_core.specs.declared.count.TheConstants.{MOST_COUNT};
 ghost use Rattle.port_core.specs.Call.{Meets};
 ghost use Rattle.port_core.specs.Ring.{holds};
-ghost use Rattle.port_core.specs.Wire.{nothing, delivery_of};
+ghost use Rattle.port_core.specs.Wire.{delivery_of};
 ghost use Rattle.port_core.specs.declared.act.Act.TheVariants as act;
 ghost use Rattle.stage_core.specs.declared.stage.TheConstants.{MOST_ACTS};
 ghost use Rattle.stage_core.specs.Handling.{PullsAs, StaysPassive, Handles};
-ghost use Rattle.wire_core.specs.Cell.{new_cell, delivery_in};
-ghost use Rattle.fused_net.specs.Net.{acted, acted_all, event_told, wire_at, end_at, Able, port_at, target, call_of, before, Takes};
+ghost use Rattle.wire_core.specs.Cell.{new_cell, delivery_in, brought_in, Tells};
+ghost use Rattle.fused_net.specs.Net.{acted, acted_all, event_told, put, wire_at, end_at, Able, port_at, target, call_of, before, Takes};
 ghost use Rattle.fused_net.specs.Queue.{most_chases};
 ghost use Rattle.fused_net.specs.Laws.{AnyRow, AnyLaw, Wired, first_view, Settled, Busy, Starting, GoesOn, Awaits, TellsAsking, MeetsAt, Responds, AllKept, BreaksOff, IsMinded};
 ghost use Rattle.fused_net.specs.Costs.{all_asks, Uses};
@@ -25,6 +25,7 @@ use elem_core::item::Item;
 use elem_core::why::{Cause, NoMemory};
 use port_core::act::Act;
 use port_core::acts::Acts;
+use port_core::conn::Event;
 use port_core::ring::EventRing;
 use stage_core::stage::Stage;
 use std::alloc::Global;
@@ -107,7 +108,6 @@ fn call<S: Stage>(
     event: Delivered,
     acts: &mut Acts,
 ) -> Result<(), NoMemory>
-    requires some { delivery_in event ≢ nothing }
     requires meets { Meets (call_of (delivery_in event) ends) (S.port_state node.old) }
     requires empty { acts.old.items ≡ [] }
     requires room { MOST_ACTS ≤ acts.old.room }
@@ -120,7 +120,6 @@ fn call<S: Stage>(
     ensures kept { OnErr result (S.keeps node.old node.new) }
 {
     match event {
-        Delivered::Nothing => unreachable!(),
         Delivered::Pull => node.on_pull(alloc, ends.output, acts),
         Delivered::Cancel => node.on_cancel(alloc, ends.output, acts),
         Delivered::Arrived(Item::Elem(e), _) => node.on_push(alloc, ends.input, e, acts),
@@ -180,7 +179,7 @@ impl<S: Stage> Engine<S> {
         ensures kept { AllKept S.keeps self.old.firsts self.new.nodes }
     {
         self.nodes[n].start(alloc, acts)?;
-        self.perform(n, acts);
+        self.perform_all(n, acts);
         Ok(())
     }
 
@@ -276,19 +275,31 @@ impl<S: Stage> Engine<S> {
         self.queue.close(w, queued);
     }
 
-    // Node n does all its actions, which mostly are one.
-    fn perform(&mut self, n: usize, acts: &mut Acts)
+    // Node n does all its actions, which mostly are one, and the answer says whether it is passive: one with an action is not.
+    #[inline(always)]
+    fn perform(&mut self, n: usize, acts: &mut Acts) -> bool
+        requires within { n < length self.old.nodes }
         requires busy { Busy AnyRow AnyLaw self.old n acts.old.items }
         requires few { all_asks self.old ≤ MOST_COUNT }
+        requires still { AtNode self.old n (λ x. S.passive x ≡ true → acts.old.items ≡ []) }
         ensures after { self.new ≡ acted_all self.old n acts.old.items }
         ensures acts { acts.new ≡ record acts.old { items = [] } }
+        ensures passive { AtNode self.new n (λ x. result ≡ S.passive x) }
     {
         match acts.only() {
-            Some(act) => self.act(n, act),
-            None => self.perform_all(n, acts),
+            Some(only) => {
+                self.act(n, only);
+                false
+            }
+            None => {
+                let passive = self.nodes[n].is_passive();
+                self.perform_all(n, acts);
+                passive
+            }
         }
     }
 
+    // Node n does all its actions, in their order.
     #[inline(never)]
     fn perform_all(&mut self, n: usize, acts: &mut Acts)
         requires busy { Busy AnyRow AnyLaw self.old n acts.old.items }
@@ -301,21 +312,7 @@ impl<S: Stage> Engine<S> {
         }
     }
 
-    // Delivers the event of a wire that was taken out of the queue.
-    fn deliver(&mut self, w: u32) -> Delivered
-        requires within { w < length self.old.wires }
-        requires absent { holds self.old.queue w ≡ false }
-        ensures event { delivery_in result ≡ delivery_of (wire_at self.old w).wire }
-        ensures after { self.new ≡ event_told self.old w }
-    {
-        let event = self.wires[w as usize].deliver();
-        if let Delivered::Arrived(_, true) = event {
-            self.queue.enqueue(w);
-        }
-        event
-    }
-
-    // Calls the handler of node n, and does what it wants done.
+    // Calls the handler of node n, does what it wants done, and says whether the node is passive.
     #[inline(always)]
     fn respond(
         &mut self,
@@ -324,8 +321,7 @@ impl<S: Stage> Engine<S> {
         ends: WireEnds,
         event: Delivered,
         acts: &mut Acts,
-    ) -> Result<(), NoMemory>
-        requires some { delivery_in event ≢ nothing }
+    ) -> Result<bool, NoMemory>
         requires within { n < length self.old.nodes }
         requires meets { MeetsAt S.port_state S.law (call_of (delivery_in event) ends) self.old n }
         requires awaits { Awaits S.port_state S.law (call_of (delivery_in event) ends) self.old n }
@@ -337,15 +333,78 @@ impl<S: Stage> Engine<S> {
         ensures heard { OnOk result (HeardBy S.passive n self.old self.new) }
         ensures gone { OnOk result (map S.gone self.new.nodes ≡ map S.gone self.old.nodes) }
         ensures still { OnOk result (StandsStill S.passive self.old self.new) }
+        ensures passive { IfOk result (λ passive. AtNode self.new n (λ x. passive ≡ S.passive x)) }
         ensures acts { OnOk result (acts.new ≡ acts.old) }
         ensures kept { OnErr result (AllKept S.keeps self.old.nodes self.new.nodes) }
     {
         call(&mut self.nodes[n], alloc, ends, event, acts)?;
-        self.perform(n, acts);
-        Ok(())
+        Ok(self.perform(n, acts))
     }
 
-    // Handles the event of a wire that was taken out of the queue, and says whether the node that heard of it is passive.
+    // Calls the handler of node n with what the event of wire w brought. It was delivered: `since` is the graph before that.
+    #[inline(always)]
+    fn finish(
+        &mut self,
+        alloc: Global,
+        w: u32,
+        n: u32,
+        ends: WireEnds,
+        event: Delivered,
+        since: Snapshot<Engine<S>>,
+        acts: &mut Acts,
+    ) -> Result<bool, NoMemory>
+        requires within { w < length since.value.wires }
+        requires absent { holds since.value.queue w ≡ false }
+        requires laws { Settled S.port_state S.law S.asking S.moves (before since.value w) }
+        requires few { all_asks since.value + 1 ≤ MOST_COUNT }
+        requires event { delivery_in event ≡ delivery_of (wire_at since.value w).wire }
+        requires after { self.old ≡ event_told since.value w }
+        requires ends { ends ≡ end_at since.value.ends w }
+        requires node { n ≡ target (delivery_in event) ends }
+        requires empty { acts.old.items ≡ [] }
+        requires room { MOST_ACTS ≤ acts.old.room }
+        ensures laws { OnOk result (Settled S.port_state S.law S.asking S.moves self.new) }
+        ensures on { OnOk result (GoesOn since.value self.new) }
+        ensures uses { OnOk result (Uses (before since.value w) self.new 1) }
+        ensures gone { OnOk result (map S.gone self.new.nodes ≡ map S.gone since.value.nodes) }
+        ensures still { OnOk result (StandsStill S.passive since.value self.new) }
+        ensures untouched { IfOk result (λ heard. Untouched S.passive (touched heard w) since.value self.new) }
+        ensures acts { OnOk result (acts.new ≡ acts.old) }
+        ensures kept { OnErr result (AllKept S.keeps since.value.nodes self.new.nodes) }
+    {
+        let is_passive = self.respond(alloc, n as usize, ends, event, acts)?;
+        Ok(is_passive)
+    }
+
+    // Tells an end of the event of a wire that was taken out of the queue.
+    #[inline(always)]
+    fn tell(&mut self, w: u32) -> Event
+        requires { w < length self.old.wires }
+        ensures tells { Tells result (wire_at self.old w) (wire_at self.new w) }
+        ensures after { self.new ≡ put self.old w (wire_at self.new w) false }
+    {
+        self.wires[w as usize].tell()
+    }
+
+    // Hands out the element that waits at a wire, which has to be queued again or not.
+    #[inline(always)]
+    fn take(&mut self, w: u32, more: bool) -> Elem
+        requires within { w < length self.old.wires }
+        requires absent { more ≡ true → holds self.old.queue w ≡ false }
+        requires there { IsSome (wire_at self.old w).wire.conn.to_grab }
+        requires open { (wire_at self.old w).wire.conn.in_closed ≡ false }
+        ensures value { (wire_at self.old w).wire.conn.to_grab ≡ Some result }
+        ensures after { self.new ≡ put self.old w (brought_in result (wire_at self.old w)) more }
+    {
+        let e = self.wires[w as usize].take();
+        if more {
+            self.queue.enqueue(w);
+        }
+        e
+    }
+
+    // Handles the event of a wire that was taken out of the queue, and says whether the node that heard of it is passive. An element
+    // with nothing behind it and a pull come first, since nearly all events are these.
     #[inline(always)]
     fn handle(&mut self, alloc: Global, w: u32, acts: &mut Acts) -> Result<bool, NoMemory>
         requires within { w < length self.old.wires }
@@ -363,14 +422,57 @@ impl<S: Stage> Engine<S> {
         ensures acts { OnOk result (acts.new ≡ acts.old) }
         ensures kept { OnErr result (AllKept S.keeps self.old.nodes self.new.nodes) }
     {
+        let since = Snapshot::of(&*self);
         let ends = self.ends[w as usize];
-        let event = self.deliver(w);
-        if event.is_nothing() {
-            return Ok(false);
+        match self.tell(w) {
+            Event::Push => {
+                let e = self.take(w, false);
+                let event = Delivered::Arrived(Item::Elem(e), false);
+                self.finish(alloc, w, ends.to, ends, event, since, acts)
+            }
+            Event::Pull => self.finish(alloc, w, ends.from, ends, Delivered::Pull, since, acts),
+            event => self.handle_closing(alloc, w, event, since, acts),
         }
+    }
+
+    // Handles any other event, which an end of wire w was told of: `since` is the graph before that.
+    #[inline(never)]
+    fn handle_closing(
+        &mut self,
+        alloc: Global,
+        w: u32,
+        event: Event,
+        since: Snapshot<Engine<S>>,
+        acts: &mut Acts,
+    ) -> Result<bool, NoMemory>
+        requires within { w < length since.value.wires }
+        requires absent { holds since.value.queue w ≡ false }
+        requires laws { Settled S.port_state S.law S.asking S.moves (before since.value w) }
+        requires few { all_asks since.value + 1 ≤ MOST_COUNT }
+        requires tells { Tells event (wire_at since.value w) (wire_at self.old w) }
+        requires after { self.old ≡ put since.value w (wire_at self.old w) false }
+        requires empty { acts.old.items ≡ [] }
+        requires room { MOST_ACTS ≤ acts.old.room }
+        ensures laws { OnOk result (Settled S.port_state S.law S.asking S.moves self.new) }
+        ensures on { OnOk result (GoesOn since.value self.new) }
+        ensures uses { OnOk result (Uses (before since.value w) self.new 1) }
+        ensures gone { OnOk result (map S.gone self.new.nodes ≡ map S.gone since.value.nodes) }
+        ensures still { OnOk result (StandsStill S.passive since.value self.new) }
+        ensures untouched { IfOk result (λ heard. Untouched S.passive (touched heard w) since.value self.new) }
+        ensures acts { OnOk result (acts.new ≡ acts.old) }
+        ensures kept { OnErr result (AllKept S.keeps since.value.nodes self.new.nodes) }
+    {
+        let ends = self.ends[w as usize];
+        let event = match event {
+            Event::Nothing => return Ok(false),
+            Event::Pull => Delivered::Pull,
+            Event::Cancel => Delivered::Cancel,
+            Event::Push => Delivered::Arrived(Item::Elem(self.take(w, false)), false),
+            Event::PushThenClose => Delivered::Arrived(Item::Elem(self.take(w, true)), true),
+            Event::Finish | Event::Fail => Delivered::Arrived(self.wires[w as usize].end(), false),
+        };
         let n = node_of(&event, ends);
-        self.respond(alloc, n as usize, ends, event, acts)?;
-        Ok(self.nodes[n as usize].is_passive())
+        self.finish(alloc, w, n, ends, event, since, acts)
     }
 
     // Takes out the wire whose event comes next: the one that waits first, or the one that was queued last, where it is chased.
@@ -447,6 +549,8 @@ impl<S: Stage> Engine<S> {
     /// Handles events as `execute` does, but stops behind one that a passive node has heard of, and says on which wire that was: so
     /// whoever acts for the passive nodes has to look at that wire alone. Fewer than `limit` without such a wire only where no event
     /// is left.
+    // Out of line, so that its registers are its own.
+    #[inline(never)]
     pub fn advance(
         &mut self,
         alloc: Global,

@@ -63,6 +63,7 @@ impl EventQueue {
     }
 
     /// Puts a wire last, as the one that may come first. It takes no memory.
+    #[inline(always)]
     pub fn chase(&mut self, w: u32)
         requires within { w < self.old.size }
         requires absent { holds (waiting self.old) w ≡ false }
@@ -100,14 +101,25 @@ impl EventQueue {
     }
 
     /// Every wire waits for its turn. It takes no memory.
+    #[inline(always)]
     pub fn settle(&mut self)
         ensures is { self.new ≡ settled self.old }
         ensures waits { waiting self.new ≡ waiting self.old }
     {
         if let Some(w) = self.chased {
-            self.chased = None;
-            self.ring.enqueue(w);
+            self.settle_one(w);
         }
+    }
+
+    // The chased wire waits for its turn. Out of line, since mostly there is none.
+    #[inline(never)]
+    fn settle_one(&mut self, chased: u32)
+        requires { self.old.chased ≡ Some chased }
+        ensures is { self.new ≡ settled self.old }
+        ensures waits { waiting self.new ≡ waiting self.old }
+    {
+        self.chased = None;
+        self.ring.enqueue(chased);
     }
 
     /// Takes out the wire whose event is to be handled: the chased one, where fewer than 16 were chased since one came from the ring,

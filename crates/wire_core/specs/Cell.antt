@@ -1,5 +1,5 @@
 -- A wire of an island: the wire itself, and whether its input has pulled and was not answered by an element yet.
-use Rattle.std.specs.Prelude.{Bool, true, false, if◌then◌else◌, None, Some, [], ◌∷◌, ◌++◌}
+use Rattle.std.specs.Prelude.{◌≡◌, Bool, true, false, if◌then◌else◌, None, Some, [], ◌∷◌, ◌++◌}
 use Rattle.elem_core.specs.Tree.{Tree}
 use Rattle.elem_core.specs.declared.item.Item.TheVariants as item
 use Rattle.port_core.specs.Connection.{Connection}
@@ -7,7 +7,9 @@ use Rattle.port_core.specs.PortRules as rule
 use Rattle.port_core.specs.PortRules.{next}
 use Rattle.port_core.specs.Decoding.{can_pull, can_push, is_at_rest}
 use Rattle.port_core.specs.Wire.{JointPorts, new_wire, pull_of, push_of, close_of, cancel_of, Delivery, nothing, pull, cancel, arrived, end_of, delivery_of, after_delivery}
-use Rattle.port_core.specs.declared.view.InView.TheVariants.{Idle, Finished}
+use Rattle.port_core.specs.declared.conn.Event.{Event}
+use Rattle.port_core.specs.declared.conn.Event.TheVariants as event
+use Rattle.port_core.specs.declared.view.InView.TheVariants.{Idle}
 use Rattle.port_core.specs.declared.act.Act.{Act}
 use Rattle.port_core.specs.declared.act.Act.TheVariants.{Pull, Push, Complete, FailOut, Cancel}
 use Rattle.wire_core.specs.declared.wire.Delivered.{Delivered}
@@ -41,7 +43,6 @@ queues_by (Cancel i) p = is_at_rest p
 
 -- what the event of the wire brings, as the code says it
 abbrev pub delivery_in : Delivered → Delivery
-delivery_in delivery.Nothing = nothing
 delivery_in delivery.Pull = pull
 delivery_in delivery.Cancel = cancel
 delivery_in (delivery.Arrived x more) = arrived x more
@@ -50,10 +51,30 @@ delivery_in (delivery.Arrived x more) = arrived x more
 abbrev pub brought_in : Tree → WireState → WireState
 brought_in e c = record c { wire = record c.wire { inp = Idle; conn = next (rule.grab e) c.wire.conn; got = c.wire.got ++ item.Elem e ∷ [] } }
 
--- the end of the output goes to the input
-abbrev pub ended_in : WireState → WireState
-ended_in c = record c { wire = record c.wire { inp = Finished; got = c.wire.got ++ end_of c.wire.conn.cause ∷ [] } }
-
 -- the wire once its event was delivered
 abbrev pub delivered : WireState → WireState
 delivered c = record c { wire = after_delivery (delivery_of c.wire) c.wire }
+
+-- Its event is an element, which waits to be grabbed; once that went to the input, the event was delivered. The wire has to be
+-- queued again or not.
+pub record Brings (more : Bool) (old new : WireState) : Type 0 where
+  pub e : Tree
+  pub waits : new.wire.conn.to_grab ≡ Some e
+  pub is_open : new.wire.conn.in_closed ≡ false
+  pub brings : delivery_of old.wire ≡ arrived (item.Elem e) more
+  pub after : brought_in e new ≡ delivered old
+
+-- Its event brings this, and was delivered.
+pub record Brought (d : Delivery) (old new : WireState) : Type 0 where
+  pub brings : delivery_of old.wire ≡ d
+  pub after : new ≡ delivered old
+
+-- a wire whose event was this one, which is told but for an element
+abbrev pub Tells : Event → WireState → WireState → Type 0
+Tells event.Push old new = Brings false old new
+Tells event.PushThenClose old new = Brings true old new
+Tells event.Pull old new = Brought pull old new
+Tells event.Cancel old new = Brought cancel old new
+Tells event.Finish old new = Brought (arrived (end_of new.wire.conn.cause) false) old new
+Tells event.Fail old new = Brought (arrived (end_of new.wire.conn.cause) false) old new
+Tells event.Nothing old new = Brought nothing old new

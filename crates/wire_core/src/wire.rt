@@ -1,10 +1,8 @@
 ghost use Rattle.std.specs.Prelude.{◌≡◌, ◌↔◌, ◌+◌, ◌<◌, ◌^◌, not, false, true, IsTrue, IsSome, Some};
-ghost use Rattle.elem_core.specs.Tree.{Tree};
-ghost use Rattle.elem_core.specs.declared.item.Item.TheVariants as item;
 ghost use Rattle.port_core.specs.Decoding.{can_pull, can_push, is_at_rest, is_open};
-ghost use Rattle.port_core.specs.Wire.{delivery_of, nothing, arrived, end_of};
+ghost use Rattle.port_core.specs.Wire.{end_of};
 ghost use Rattle.port_core.specs.declared.act.Act.TheVariants as act;
-ghost use Rattle.wire_core.specs.Cell.{new_cell, moved_by, delivery_in, delivered, brought_in, ended_in};
+ghost use Rattle.wire_core.specs.Cell.{new_cell, moved_by, brought_in, Tells};
 ghost use Rattle.port_core.specs.View.{output_closed, input_closed};
 ghost use Rattle.wire_core.specs.Closes.{output_cancelled};
 ghost use Rattle.wire_core.specs.Counts.{elements};
@@ -18,11 +16,9 @@ use port_core::view::{InView, OutView};
 use std::marker::Model;
 use std::snapshot::Snapshot;
 
-/// What the event of a wire brings. Rule: own, after the events of the Akka Streams 2.6 interpreter.
+/// What the event of a wire brings to an end of it. Rule: own, after the events of the Akka Streams 2.6 interpreter.
 #[derive(Drop)]
 pub enum Delivered {
-    /// Nothing: both sides are closed.
-    Nothing,
     /// A pull, to the output.
     Pull,
     /// The input's cancel, to the output.
@@ -31,14 +27,9 @@ pub enum Delivered {
     Arrived(Item, bool),
 }
 
-impl Delivered {
-    /// Whether it brings nothing.
-    pub fn is_nothing(&self) -> bool
-        ensures { IsTrue result ↔ (delivery_in self.now ≡ nothing) }
-    {
-        matches!(self, Delivered::Nothing)
-    }
-}
+// Out of line, since to drop an element takes a frame, and few pushes drop theirs.
+#[inline(never)]
+fn drop_item(_item: Item) {}
 
 /// One output joined to one input, with what the stages at both ends know of it. A pull or a push that only a closing forbids
 /// which was not delivered yet is dropped: such a pull changes nothing, and such a push counts and answers the pull. No call
@@ -151,6 +142,7 @@ impl Wire {
     }
 
     /// The stage at its input pulls. The answer says whether the wire has to be queued.
+    #[inline(always)]
     pub fn pull(&mut self) -> bool
         ensures queued { result ≡ can_pull self.old.wire.conn }
         ensures moved { self.new ≡ moved_by (act.Pull 0) self.old }
@@ -166,6 +158,7 @@ impl Wire {
     }
 
     /// The stage at its output gives an element. The answer says whether the wire has to be queued.
+    #[inline(always)]
     #[tactic(auto, using(crate::proofs::Counting::elements_elem))]
     pub fn push(&mut self, e: Elem) -> bool
         requires count { elements self.old.wire.sent + 1 < 2 ^ 64 }
@@ -180,6 +173,7 @@ impl Wire {
         if !self.conn.can_push() {
             self.shut = false;
             self.refused = false;
+            drop_item(item);
             return false;
         }
         match item {
@@ -224,53 +218,54 @@ impl Wire {
         self.conn.cancel()
     }
 
-    /// Delivers the event of a wire that was queued. An element is handed out at once.
-    pub fn deliver(&mut self) -> Delivered
-        ensures event { delivery_in result ≡ delivery_of self.old.wire }
-        ensures after { self.new ≡ delivered self.old }
+    /// Tells an end of the event of a wire that was queued. An element then waits, and `take` hands it out.
+    #[inline(always)]
+    pub fn tell(&mut self) -> Event
+        ensures { Tells result self.old self.new }
     {
-        match self.conn.decode() {
-            Event::Nothing => Delivered::Nothing,
-            Event::Pull => {
-                self.out = Snapshot::of(&OutView::Available);
-                Delivered::Pull
-            }
+        let event = self.conn.decode();
+        match event {
+            Event::Nothing | Event::Push | Event::PushThenClose => {}
+            Event::Pull => self.out = Snapshot::of(&OutView::Available),
             Event::Cancel => {
                 self.out = Snapshot::of(&OutView::Cancelled);
                 self.shut = true;
                 self.refused = true;
-                Delivered::Cancel
             }
-            Event::Push => self.take_in(false),
-            Event::PushThenClose => self.take_in(true),
-            Event::Finish | Event::Fail => self.take_end(),
+            Event::Finish | Event::Fail => {
+                self.inp = Snapshot::of(&InView::Finished);
+                self.over = true;
+                let item = self.end();
+                self.got = self.got.and(&item);
+            }
         }
+        event
     }
 
-    fn take_in(&mut self, more: bool) -> Delivered
+    /// Hands the element that waits to the input.
+    #[inline(always)]
+    pub fn take(&mut self) -> Elem
         requires there { IsSome self.old.wire.conn.to_grab }
         requires open { self.old.wire.conn.in_closed ≡ false }
-        ensures value { (e : Tree) → self.old.wire.conn.to_grab ≡ Some e → delivery_in result ≡ arrived (item.Elem e) more }
-        ensures after { (e : Tree) → self.old.wire.conn.to_grab ≡ Some e → self.new ≡ brought_in e self.old }
+        ensures value { self.old.wire.conn.to_grab ≡ Some result }
+        ensures after { self.new ≡ brought_in result self.old }
     {
         self.inp = Snapshot::of(&InView::Idle);
         let item = Item::Elem(self.conn.grab());
         self.got = self.got.and(&item);
-        Delivered::Arrived(item, more)
+        match item {
+            Item::Elem(e) => e,
+            _ => unreachable!(),
+        }
     }
 
-    fn take_end(&mut self) -> Delivered
-        requires { self.old.wire.conn.in_closed ≡ true }
-        ensures value { delivery_in result ≡ arrived (end_of self.old.wire.conn.cause) false }
-        ensures after { self.new ≡ ended_in self.old }
+    /// How its output ended, where it closed: it failed with a cause, or completed.
+    pub fn end(&self) -> Item
+        ensures { result ≡ end_of self.now.wire.conn.cause }
     {
-        self.inp = Snapshot::of(&InView::Finished);
-        self.over = true;
-        let item = match self.conn.cause() {
+        match self.conn.cause() {
             None => Item::Ended,
             Some(cause) => Item::Failed(cause),
-        };
-        self.got = self.got.and(&item);
-        Delivered::Arrived(item, false)
+        }
     }
 }

@@ -2,11 +2,17 @@
 use Rattle.fused_net.proofs.Keeping.{on_err, kept_called}
 use Rattle.fused_net.proofs.Responding.{awaited, responded}
 use Rattle.fused_net.proofs.Poking.{gone_acts}
-use Rattle.fused_net.proofs.Still.{still_acts, heard_acts}
+use Rattle.fused_net.proofs.Still.{still_acts, heard_acts, called_still}
 use Rattle.fused_net.proofs.engine.Engine.respond.Goals as goal
 
 pub perform-requires-clause-busy : goal.perform-requires-clause-busy
 perform-requires-clause-busy g c = awaited g.S.Stage.port_state g.S.Stage.law _ _ _ _ _ _ _ c.self.view_is c.requires.within c.index_mut.ensures.value c.requires.awaits c.in_ok-call.ensures.handles
+
+pub perform-requires-clause-within : goal.perform-requires-clause-within
+perform-requires-clause-within g c = (awaited g.S.Stage.port_state g.S.Stage.law _ _ _ _ _ _ _ c.self.view_is c.requires.within c.index_mut.ensures.value c.requires.awaits c.in_ok-call.ensures.handles).within
+
+pub perform-requires-clause-still : goal.perform-requires-clause-still
+perform-requires-clause-still g c = called_still g.S.Stage.passive _ _ _ _ _ _ c.self.view_is c.requires.within c.index_mut.ensures.value c.in_ok-call.ensures.passive
 
 pub returns-clause-responds : goal.returns-clause-responds
 returns-clause-responds g c = responded g.S.Stage.port_state g.S.Stage.law g.S.Stage.asking g.S.Stage.moves _ _ _ _ _ _ _ _ c.self.view_is c.requires.within c.index_mut.ensures.value c.requires.awaits c.requires.tells c.in_ok-call.ensures.handles c.in_ok-call.ensures.pulls c.in_ok-call.ensures.grows c.perform.ensures.after

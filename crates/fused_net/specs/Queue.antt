@@ -1,14 +1,15 @@
--- The wires that have an event, as the code keeps them: the ring, and behind it the wire that a handler asked at or gave to last,
+-- The wires that have an event, as the code keeps them: the ring, and behind it the wire at which a handler just pushed or pulled,
 -- which may come first.
-use Rattle.std.specs.Prelude.{◌≡◌, ℕ, ◌+◌, ◌<◌, ◌≤◌, false, Option, None, Some, List, [], ◌∷◌, ◌++◌, max, ⊤}
+use Rattle.std.specs.Prelude.{◌≡◌, ℕ, ◌+◌, ◌<◌, ◌≤◌, Bool, false, Option, None, Some, List, [], ◌∷◌, ◌++◌, max, ⊤}
 use Rattle.port_core.specs.Ring.{holds}
 
--- how many wires there are; those in the ring, first in first out; the chased wire, if there is one; how many events were chased
--- since one came from the ring, and the most that were chased for one that did
+-- how many wires there are; those in the ring, first in first out; the chased wire, if there is one; whether a pull was chased since one
+-- came from the ring; how many events were chased since then, and the most that were chased for one that came from the ring
 pub record Queue : Type 0 where
   pub size : ℕ
   pub ring : List ℕ
   pub chased : Option ℕ
+  pub pulling : Bool
   pub chases : ℕ
   pub longest : ℕ
 
@@ -45,7 +46,7 @@ pub record Chases (old : Queue) (w : ℕ) (new : Queue) : Type 0 where
   pub few : old.chases < most_chases
   pub is : new ≡ record old { chased = None; chases = old.chases + 1 }
 
--- the first of the ring comes: then no event was chased for it yet
+-- the first of the ring comes: then no event was chased for it yet, and so no pull
 pub record Dequeues (old : Queue) (w : ℕ) (new : Queue) : Type 0 where
   pub first : waiting old ≡ w ∷ new.ring
-  pub is : new ≡ record old { ring = new.ring; chased = None; chases = 0; longest = max old.longest old.chases }
+  pub is : new ≡ record old { ring = new.ring; chased = None; pulling = false; chases = 0; longest = max old.longest old.chases }

@@ -221,7 +221,7 @@ impl<S: Stage> Engine<S> {
         }
     }
 
-    // Node n asks. The event of that may be the next one.
+    // Node n pulls. The event of that may be the next one.
     #[inline(always)]
     fn pull(&mut self, n: usize, i: u8)
         requires { Able self.old n (act.Pull i) }
@@ -229,11 +229,11 @@ impl<S: Stage> Engine<S> {
     {
         let w = self.ports[n].input(i);
         if self.wires[w as usize].pull() {
-            self.queue.chase(w);
+            self.queue.pull(w);
         }
     }
 
-    // Node n gives an element. The event of that may be the next one.
+    // Node n pushes an element. The event of that may be the next one.
     #[inline(always)]
     fn push(&mut self, n: usize, j: u8, e: Elem)
         requires { Able self.old n (act.Push j e) }
@@ -241,7 +241,7 @@ impl<S: Stage> Engine<S> {
     {
         let w = self.ports[n].output(j);
         if self.wires[w as usize].push(e) {
-            self.queue.chase(w);
+            self.queue.push(w);
         }
     }
 
@@ -299,7 +299,7 @@ impl<S: Stage> Engine<S> {
         }
     }
 
-    // Node n does all its actions, in their order.
+    // Node n does all its actions, in their order. Their events wait for their turns, so that none of them runs ahead of the others.
     #[inline(never)]
     fn perform_all(&mut self, n: usize, acts: &mut Acts)
         requires busy { Busy AnyRow AnyLaw self.old n acts.old.items }
@@ -310,6 +310,7 @@ impl<S: Stage> Engine<S> {
         while let Some(act) = acts.take() {
             self.act(n, act);
         }
+        self.settle();
     }
 
     // Calls the handler of node n, does what it wants done, and says whether the node is passive.

@@ -8,13 +8,15 @@ use std::marker::Model;
 /// How many events may be chased for one that comes from the ring. Rule: Akka Streams 2.6 interpreter, which chases as many.
 pub const MOST_CHASES: u32 = 16;
 
-/// The wires that have an event, each at most once: first in first out, but that the wire that a handler asked at or gave to last
-/// may come first. So an event's consequence is handled at once, and at most 16 such events for each one that waited for its turn.
-/// Rule: Akka Streams 2.6 interpreter.
+/// The wires that have an event, each at most once: first in first out, but that the one wire at which a handler just pushed or pulled
+/// may come first. So an event's consequence is handled at once, and at most 16 such events for each one that waited for its turn. A
+/// chase goes down by pushes and then up by pulls: an element that a chased pull brought waits for its turn. So a stage that pulls again
+/// and again, as a buffer that drops, cannot run ahead of the nodes below it. Rule: Akka Streams 2.6 interpreter.
 #[derive(Drop)]
 pub struct EventQueue {
     ring: EventRing,
     chased: Option<u32>,
+    pulling: bool,
     chases: u32,
     longest: u32,
 }
@@ -24,20 +26,21 @@ impl Model for EventQueue {
 
     ghost Value = { Queue };
 
-    ghost view = { λ q. record { size = q.ring.size; ring = q.ring.queue; chased = q.chased; chases = q.chases; longest = q.longest } };
+    ghost view = { λ q. record { size = q.ring.size; ring = q.ring.queue; chased = q.chased; pulling = q.pulling; chases = q.chases; longest = q.longest } };
 
-    ghost invariant = { λ q. IsQueue (record { size = q.ring.size; ring = q.ring.queue; chased = q.chased; chases = q.chases; longest = q.longest }) };
+    ghost invariant = { λ q. IsQueue (record { size = q.ring.size; ring = q.ring.queue; chased = q.chased; pulling = q.pulling; chases = q.chases; longest = q.longest }) };
 }
 
 impl EventQueue {
     /// The queue of the wires in a ring. It takes no memory.
     pub fn new(ring: EventRing) -> EventQueue
-        ensures is { result ≡ record { size = ring.size; ring = ring.queue; chased = None; chases = 0; longest = 0 } }
+        ensures is { result ≡ record { size = ring.size; ring = ring.queue; chased = None; pulling = false; chases = 0; longest = 0 } }
         ensures waits { waiting result ≡ ring.queue }
     {
         EventQueue {
             ring,
             chased: None,
+            pulling: false,
             chases: 0,
             longest: 0,
         }
@@ -62,16 +65,34 @@ impl EventQueue {
         }
     }
 
-    /// Puts a wire last, as the one that may come first. It takes no memory.
+    /// Puts a wire last at which a handler pulled, as the one that may come first. It takes no memory.
     #[inline(always)]
-    pub fn chase(&mut self, w: u32)
+    pub fn pull(&mut self, w: u32)
         requires within { w < self.old.size }
         requires absent { holds (waiting self.old) w ≡ false }
-        ensures is { self.new ≡ record (settled self.old) { chased = Some w } }
+        ensures is { self.new ≡ record (settled self.old) { chased = Some w; pulling = true } }
         ensures waits { waiting self.new ≡ waiting self.old ++ w ∷ [] }
     {
         self.settle();
+        self.pulling = true;
         self.chased = Some(w);
+    }
+
+    /// Puts a wire last at which a handler pushed: as the one that may come first, where no pull was chased since one came from the ring,
+    /// and else so that it waits for its turn. It takes no memory.
+    #[inline(always)]
+    pub fn push(&mut self, w: u32)
+        requires within { w < self.old.size }
+        requires absent { holds (waiting self.old) w ≡ false }
+        ensures is { self.new ≡ (if self.old.pulling then record (settled self.old) { ring = waiting self.old ++ w ∷ [] } else record (settled self.old) { chased = Some w }) }
+        ensures waits { waiting self.new ≡ waiting self.old ++ w ∷ [] }
+    {
+        self.settle();
+        if self.pulling {
+            self.ring.enqueue(w);
+        } else {
+            self.chased = Some(w);
+        }
     }
 
     /// Puts a wire last in the ring, so that it waits for its turn. It takes no memory.
@@ -153,6 +174,7 @@ impl EventQueue {
             self.longest = self.chases;
         }
         self.chases = 0;
+        self.pulling = false;
         Some(w)
     }
 }

@@ -1,6 +1,8 @@
+ghost use Rattle.port_core.specs.declared.act.Act.TheVariants as act;
 ghost use Rattle.std.specs.Prelude.{◌≡◌, ◌<◌, ◌∷◌, [], ◌++◌, length, IfOk, IfSome, IfNone, IsNone, ◌↔◌, ◌≢◌};
 
 use crate::act::Act;
+use elem_core::elem::Elem;
 use elem_core::why::NoMemory;
 use std::alloc::Global;
 use std::marker::Model;
@@ -50,6 +52,41 @@ impl Acts {
             self.items.pop()
         } else {
             None
+        }
+    }
+
+    /// Takes out the action where exactly one is held and it pulls, and says at which input; else the list stays. It takes no memory.
+    #[inline(always)]
+    pub fn only_pull(&mut self) -> Option<u8>
+        ensures one { IfSome result (λ i. (self.old.items ≡ act.Pull i ∷ []) × (self.new ≡ record self.old { items = [] })) }
+        ensures other { IfNone result (self.new ≡ self.old) }
+    {
+        if self.items.len() != 1 {
+            return None;
+        }
+        let Act::Pull(i) = &self.items[0] else {
+            return None;
+        };
+        let i = *i;
+        self.items.pop();
+        Some(i)
+    }
+
+    /// Takes out the action where exactly one is held and it pushes, and says at which output and what; else the list stays. It takes no memory.
+    #[inline(always)]
+    pub fn only_push(&mut self) -> Option<(u8, Elem)>
+        ensures one { IfSome result (λ p. (self.old.items ≡ act.Push p.0 p.1 ∷ []) × (self.new ≡ record self.old { items = [] })) }
+        ensures other { IfNone result (self.new ≡ self.old) }
+    {
+        if self.items.len() != 1 {
+            return None;
+        }
+        let Act::Push(_, _) = &self.items[0] else {
+            return None;
+        };
+        match self.items.pop() {
+            Some(Act::Push(j, e)) => Some((j, e)),
+            _ => None,
         }
     }
 

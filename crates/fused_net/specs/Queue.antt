@@ -1,10 +1,11 @@
 -- The wires that have an event, as the code keeps them: the ring, and behind it the wire at which a handler just pushed or pulled,
 -- which may come first.
-use Rattle.std.specs.Prelude.{◌≡◌, ℕ, ◌+◌, ◌<◌, ◌≤◌, Bool, false, Option, None, Some, List, [], ◌∷◌, ◌++◌, max, ⊤}
+use Rattle.std.specs.Prelude.{◌≡◌, ℕ, ◌+◌, ◌<◌, ◌≤◌, Bool, false, if◌then◌else◌, Option, None, Some, List, [], ◌∷◌, ◌++◌, max, ⊤}
 use Rattle.port_core.specs.Ring.{holds}
 
 -- how many wires there are; those in the ring, first in first out; the chased wire, if there is one; whether a pull was chased since one
--- came from the ring; how many events were chased since then, and the most that were chased for one that came from the ring
+-- came from the ring or a chase began anew; how many events were chased since one came from the ring, and the most that were chased for
+-- one that did
 pub record Queue : Type 0 where
   pub size : ℕ
   pub ring : List ℕ
@@ -28,6 +29,19 @@ waiting q = q.ring ++ listed q.chased
 -- the chased wire was put in the ring
 abbrev pub settled : Queue → Queue
 settled q = record q { ring = waiting q; chased = None }
+
+-- a wire at which a handler pushed comes first: a chase goes on by pushes, or begins anew
+abbrev pub pushed_first : Queue → ℕ → Queue
+pushed_first q w = record (settled q) { chased = Some w; pulling = false }
+
+-- or it waits behind those that wait, where there are any
+abbrev pub pushed_behind : List ℕ → Queue → ℕ → Queue
+pushed_behind [] q w = pushed_first q w
+pushed_behind (u ∷ us) q w = record (settled q) { ring = waiting q ++ w ∷ [] }
+
+-- once a pull was chased it does not run ahead of them
+abbrev pub pushed_on : Queue → ℕ → Queue
+pushed_on q w = if q.pulling then pushed_behind (waiting q) q w else pushed_first q w
 
 -- the chased wire has a place in the ring, and is not there
 abbrev pub HasPlace : ℕ → List ℕ → Option ℕ → Type 0

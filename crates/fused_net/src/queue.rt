@@ -1,6 +1,6 @@
 ghost use Rattle.std.specs.Prelude.{◌≡◌, ◌<◌, ◌≤◌, ◌∷◌, [], ◌++◌, false, true, None, Some, if◌then◌else◌, IsTrue, IfNone, IfSome, ◌↔◌, ◌⊎◌, max};
 ghost use Rattle.port_core.specs.Ring.{holds};
-ghost use Rattle.fused_net.specs.Queue.{waiting, settled, most_chases, Chases, Dequeues};
+ghost use Rattle.fused_net.specs.Queue.{waiting, settled, pushed_on, most_chases, Chases, Dequeues};
 
 use port_core::ring::EventRing;
 use std::marker::Model;
@@ -10,8 +10,9 @@ pub const MOST_CHASES: u32 = 16;
 
 /// The wires that have an event, each at most once: first in first out, but that the one wire at which a handler just pushed or pulled
 /// may come first. So an event's consequence is handled at once, and at most 16 such events for each one that waited for its turn. A
-/// chase goes down by pushes and then up by pulls: an element that a chased pull brought waits for its turn. So a stage that pulls again
-/// and again, as a buffer that drops, cannot run ahead of the nodes below it. Rule: Akka Streams 2.6 interpreter.
+/// chase goes down by pushes and then up by pulls: an element that a chased pull brought waits for its turn where others wait. So a
+/// stage that pulls again and again, as a buffer that drops, cannot run ahead of the nodes below it. Rule: Akka Streams 2.6
+/// interpreter.
 #[derive(Drop)]
 pub struct EventQueue {
     ring: EventRing,
@@ -78,19 +79,21 @@ impl EventQueue {
         self.chased = Some(w);
     }
 
-    /// Puts a wire last at which a handler pushed: as the one that may come first, where no pull was chased since one came from the ring,
-    /// and else so that it waits for its turn. It takes no memory.
+    /// Puts a wire last at which a handler pushed: where a pull was chased since one came from the ring and others wait, so that it waits for
+    /// its turn, and else as the one that may come first. It takes no memory.
     #[inline(always)]
     pub fn push(&mut self, w: u32)
         requires within { w < self.old.size }
         requires absent { holds (waiting self.old) w ≡ false }
-        ensures is { self.new ≡ (if self.old.pulling then record (settled self.old) { ring = waiting self.old ++ w ∷ [] } else record (settled self.old) { chased = Some w }) }
+        ensures is { self.new ≡ pushed_on self.old w }
+        ensures size { self.new.size ≡ self.old.size }
         ensures waits { waiting self.new ≡ waiting self.old ++ w ∷ [] }
     {
         self.settle();
-        if self.pulling {
+        if self.pulling && !self.ring.is_empty() {
             self.ring.enqueue(w);
         } else {
+            self.pulling = false;
             self.chased = Some(w);
         }
     }

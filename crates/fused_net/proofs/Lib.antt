@@ -14,3 +14,4 @@ pub mod Responding
 pub mod Keeping
 pub mod Poking
 pub mod Still
+pub mod Handling

@@ -16,8 +16,6 @@ use Rattle.fused_net.specs.declared.net.WireEnds.{WireEnds}
 use Rattle.fused_net.specs.Net.{Net, end_at, target, wire_at, ports_at, wire_for, acted, acted_all, told_by, event_told, with_node, Takes}
 use Rattle.fused_net.specs.Laws.{AnyRow, AnyLaw, Wired, Busy, Settled, GoesOn, AllKept}
 use Rattle.fused_net.specs.PortLists.{PortLists}
-use Rattle.fused_net.specs.declared.engine.Stepped.{Stepped}
-use Rattle.fused_net.specs.Steps.{at_step}
 use Rattle.fused_net.specs.Poking.{AtNode}
 use Rattle.fused_net.specs.Outside.{BreaksAside, IsPassiveAt, StandsStill, touched, IsElse, HasOnly, Untouched, HeardBy}
 use Rattle.fused_net.proofs.Reading.{same_or_not, some_same, get_there, get_set_same, get_set_other}
@@ -411,10 +409,6 @@ module _ {N : Type 0} (passive : N → Bool) where
 
   untouched_taken : (at : Option ℕ) (old net new : Net N) (w : ℕ) → Takes old w net → Untouched passive at net new → Untouched passive at old new
   untouched_taken at old net new w t s = subst (λ (a : Net N). Untouched passive at a new) (sym t.is) (record { outs = s.outs; ins = s.ins; nodes = s.nodes })
-
-  -- over what a step made of it
-  pub untouched_on : (s t : Stepped) (a b c : Net N) → s ≡ t → b.ends ≡ a.ends → b.ports ≡ a.ports → map passive b.nodes ≡ map passive a.nodes → Untouched passive None a b → Untouched passive (at_step s) b c → Untouched passive (at_step t) a c
-  untouched_on s t a b c e ends ports kinds f g = untouched_trans (at_step t) a b c ends ports kinds f (subst (λ (z : Stepped). Untouched passive (at_step z) b c) e g)
 
   untouched_as : (b c : Bool) (w : ℕ) (old new : Net N) → b ≡ c → Untouched passive (touched b w) old new → Untouched passive (touched c w) old new
   untouched_as b c w old new e u = subst (λ (z : Bool). Untouched passive (touched z w) old new) e u

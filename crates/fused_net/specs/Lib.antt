@@ -5,4 +5,3 @@ pub mod Laws
 pub mod Costs
 pub mod Poking
 pub mod Outside
-pub mod Steps

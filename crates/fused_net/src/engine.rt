@@ -15,8 +15,6 @@ ghost use Rattle.fused_net.specs.Laws.{AnyRow, AnyLaw, Wired, first_view, Settle
 ghost use Rattle.fused_net.specs.Costs.{all_asks, Uses};
 ghost use Rattle.fused_net.specs.Poking.{AtNode, HandsAt, TellsPoked};
 ghost use Rattle.fused_net.specs.Outside.{BreaksAside, StandsStill, HeardBy, Untouched, touched};
-ghost use Rattle.fused_net.specs.Steps.{unit_of, at_step};
-ghost use Rattle.fused_net.specs.declared.engine.Stepped.TheVariants as step;
 
 use crate::net::{Ports, WireEnds};
 use crate::queue::EventQueue;
@@ -67,17 +65,6 @@ pub struct Advance {
     pub used: u32,
     /// The wire of the last of them, where a passive node heard of it.
     pub heard: Option<u32>,
-}
-
-// What became of a step.
-#[derive(Clone, Copy, PartialEq, Eq, Debug)]
-enum Stepped {
-    // No event is left.
-    Rest,
-    // An event was handled by a node that is not passive.
-    Inner,
-    // A passive node heard of an event of this wire.
-    Outer(u32),
 }
 
 /// So many wires on which nothing happened.
@@ -275,8 +262,63 @@ impl<S: Stage> Engine<S> {
         self.queue.close(w, queued);
     }
 
-    // Node n does all its actions, which mostly are one, and the answer says whether it is passive: one with an action is not.
+    // Node n does what it wants done once an element came, which mostly is to push one. The answer says whether it is passive: one
+    // with an action is not.
     #[inline(always)]
+    fn perform_after_push(&mut self, n: usize, acts: &mut Acts) -> bool
+        requires within { n < length self.old.nodes }
+        requires busy { Busy AnyRow AnyLaw self.old n acts.old.items }
+        requires few { all_asks self.old ≤ MOST_COUNT }
+        requires still { AtNode self.old n (λ x. S.passive x ≡ true → acts.old.items ≡ []) }
+        ensures after { self.new ≡ acted_all self.old n acts.old.items }
+        ensures acts { acts.new ≡ record acts.old { items = [] } }
+        ensures passive { AtNode self.new n (λ x. result ≡ S.passive x) }
+    {
+        if let Some((j, e)) = acts.only_push() {
+            self.push(n, j, e);
+            return false;
+        }
+        self.perform_after_pull(n, acts)
+    }
+
+    // The same once it was pulled: then it mostly pulls.
+    #[inline(always)]
+    fn perform_after_pull(&mut self, n: usize, acts: &mut Acts) -> bool
+        requires within { n < length self.old.nodes }
+        requires busy { Busy AnyRow AnyLaw self.old n acts.old.items }
+        requires few { all_asks self.old ≤ MOST_COUNT }
+        requires still { AtNode self.old n (λ x. S.passive x ≡ true → acts.old.items ≡ []) }
+        ensures after { self.new ≡ acted_all self.old n acts.old.items }
+        ensures acts { acts.new ≡ record acts.old { items = [] } }
+        ensures passive { AtNode self.new n (λ x. result ≡ S.passive x) }
+    {
+        if let Some(i) = acts.only_pull() {
+            self.pull(n, i);
+            return false;
+        }
+        self.perform_push(n, acts)
+    }
+
+    // The same where it does not pull: then it mostly pushes.
+    #[inline(never)]
+    fn perform_push(&mut self, n: usize, acts: &mut Acts) -> bool
+        requires within { n < length self.old.nodes }
+        requires busy { Busy AnyRow AnyLaw self.old n acts.old.items }
+        requires few { all_asks self.old ≤ MOST_COUNT }
+        requires still { AtNode self.old n (λ x. S.passive x ≡ true → acts.old.items ≡ []) }
+        ensures after { self.new ≡ acted_all self.old n acts.old.items }
+        ensures acts { acts.new ≡ record acts.old { items = [] } }
+        ensures passive { AtNode self.new n (λ x. result ≡ S.passive x) }
+    {
+        if let Some((j, e)) = acts.only_push() {
+            self.push(n, j, e);
+            return false;
+        }
+        self.perform(n, acts)
+    }
+
+    // The same, whatever it is that it wants done.
+    #[inline(never)]
     fn perform(&mut self, n: usize, acts: &mut Acts) -> bool
         requires within { n < length self.old.nodes }
         requires busy { Busy AnyRow AnyLaw self.old n acts.old.items }
@@ -428,10 +470,15 @@ impl<S: Stage> Engine<S> {
         match self.tell(w) {
             Event::Push => {
                 let e = self.take(w, false);
-                let event = Delivered::Arrived(Item::Elem(e), false);
-                self.finish(alloc, w, ends.to, ends, event, since, acts)
+                let n = ends.to as usize;
+                self.nodes[n].on_push(alloc, ends.input, e, acts)?;
+                Ok(self.perform_after_push(n, acts))
             }
-            Event::Pull => self.finish(alloc, w, ends.from, ends, Delivered::Pull, since, acts),
+            Event::Pull => {
+                let n = ends.from as usize;
+                self.nodes[n].on_pull(alloc, ends.output, acts)?;
+                Ok(self.perform_after_pull(n, acts))
+            }
             event => self.handle_closing(alloc, w, event, since, acts),
         }
     }
@@ -491,35 +538,6 @@ impl<S: Stage> Engine<S> {
         self.queue.settle();
     }
 
-    // Handles one event.
-    #[inline(always)]
-    fn step(&mut self, alloc: Global, acts: &mut Acts) -> Result<Stepped, NoMemory>
-        requires laws { Settled S.port_state S.law S.asking S.moves self.old }
-        requires few { all_asks self.old + 1 ≤ MOST_COUNT }
-        requires empty { acts.old.items ≡ [] }
-        requires room { MOST_ACTS ≤ acts.old.room }
-        ensures laws { OnOk result (Settled S.port_state S.law S.asking S.moves self.new) }
-        ensures on { OnOk result (GoesOn self.old self.new) }
-        ensures uses { IfOk result (λ went. Uses self.old self.new (unit_of went)) }
-        ensures rest { IfOk result (λ went. went ≡ step.Rest → self.new.queue ≡ []) }
-        ensures same { IfOk result (λ went. went ≡ step.Rest → self.new ≡ self.old) }
-        ensures outer { IfOk result (λ went. (w : ℕ) → went ≡ step.Outer w → w < length self.new.wires) }
-        ensures gone { OnOk result (map S.gone self.new.nodes ≡ map S.gone self.old.nodes) }
-        ensures still { OnOk result (StandsStill S.passive self.old self.new) }
-        ensures untouched { IfOk result (λ went. Untouched S.passive (at_step went) self.old self.new) }
-        ensures acts { OnOk result (acts.new ≡ acts.old) }
-        ensures kept { OnErr result (AllKept S.keeps self.old.nodes self.new.nodes) }
-    {
-        let Some(w) = self.next() else {
-            return Ok(Stepped::Rest);
-        };
-        if self.handle(alloc, w, acts)? {
-            Ok(Stepped::Outer(w))
-        } else {
-            Ok(Stepped::Inner)
-        }
-    }
-
     /// Handles at most `limit` events, one unit each, and fewer only where none is left. It answers how many. After `NoMemory`
     /// each node has kept what outlives that since the last moment between two events, and the graph is only taken apart.
     pub fn execute(&mut self, alloc: Global, limit: u32, acts: &mut Acts) -> Result<u32, NoMemory>
@@ -540,9 +558,10 @@ impl<S: Stage> Engine<S> {
     {
         self.settle();
         for used in 0..limit {
-            if let Stepped::Rest = self.step(alloc, acts)? {
+            let Some(w) = self.next() else {
                 return Ok(used);
-            }
+            };
+            self.handle(alloc, w, acts)?;
         }
         Ok(limit)
     }
@@ -578,15 +597,14 @@ impl<S: Stage> Engine<S> {
     {
         self.settle();
         for used in 0..limit {
-            match self.step(alloc, acts)? {
-                Stepped::Rest => return Ok(Advance { used, heard: None }),
-                Stepped::Inner => {}
-                Stepped::Outer(w) => {
-                    return Ok(Advance {
-                        used: used + 1,
-                        heard: Some(w),
-                    });
-                }
+            let Some(w) = self.next() else {
+                return Ok(Advance { used, heard: None });
+            };
+            if self.handle(alloc, w, acts)? {
+                return Ok(Advance {
+                    used: used + 1,
+                    heard: Some(w),
+                });
             }
         }
         Ok(Advance {

@@ -1,10 +1,10 @@
 -- The goals of `engine::Engine::advance` that the search leaves.
-use Rattle.std.proofs.Common.{◌∙◌, refl, rules, arith}
-use Rattle.fused_net.specs.declared.engine.Stepped.TheVariants.{Rest, Inner, Outer}
-use Rattle.fused_net.proofs.Going.{uses_none}
+use Rattle.std.proofs.Common.{◌∙◌, refl, rules, arith, true, false}
+use Rattle.fused_net.proofs.Going.{uses_trans, uses_none}
 use Rattle.fused_net.proofs.Keeping.{on_err, step_count}
-use Rattle.fused_net.proofs.Ongoing.{goes_same}
-use Rattle.fused_net.proofs.Still.{breaks_aside, still_same, still_trans, untouched_on, untouched_same}
+use Rattle.fused_net.proofs.Ongoing.{goes_same, goes_trans}
+use Rattle.fused_net.proofs.Still.{breaks_aside, still_same, still_trans, still_taken, untouched_same, untouched_trans, untouched_next}
+use Rattle.fused_net.proofs.Taking.{taken_settled, taken_goes, taken_uses, taken_few, taken_read, taken_kept}
 use Rattle.fused_net.proofs.engine.Engine.advance.Goals as goal
 
 pub loop-used-init : goal.loop-used-init
@@ -19,32 +19,35 @@ loop-used-init g c = (
   λ _. c.settle.ensures,
 )
 
-pub returns-in_err-step-clause-count : goal.returns-in_err-step-clause-count
-returns-in_err-step-clause-count g c = step_count g.S.Stage.keeps _ c.loop-used.self _ c.loop-used.invariant.1 c.in_err-step.ensures.kept
+pub handle-requires-clause-laws : goal.handle-requires-clause-laws
+handle-requires-clause-laws g c = taken_settled g.S.Stage.port_state g.S.Stage.law g.S.Stage.asking g.S.Stage.moves _ _ c.in-Some.w c.in-Some.ensures.some.1.1 c.loop-used.invariant.0
 
-pub returns-in-Rest-clause-still : goal.returns-in-Rest-clause-still
-returns-in-Rest-clause-still g c = still_trans g.S.Stage.passive _ _ _ c.loop-used.invariant.1.ends c.loop-used.invariant.5 c.in_ok-step.ensures.still
+pub handle-requires-clause-few : goal.handle-requires-clause-few
+handle-requires-clause-few g c = taken_few _ _ c.in-Some.w 1 _ c.in-Some.ensures.some.1.1 (search (rules, arith))
 
-pub returns-in-Rest-clause-untouched : goal.returns-in-Rest-clause-untouched
-returns-in-Rest-clause-untouched g c = untouched_on g.S.Stage.passive _ Rest _ _ _ c.in-Rest.is c.loop-used.invariant.1.ends c.loop-used.invariant.1.ports c.loop-used.invariant.5.kinds c.loop-used.invariant.6 c.in_ok-step.ensures.untouched
+pub returns-in_err-handle-clause-breaks : goal.returns-in_err-handle-clause-breaks
+returns-in_err-handle-clause-breaks g c = on_err _ (breaks_aside g.S.Stage.port_state g.S.Stage.law g.S.Stage.asking g.S.Stage.moves g.S.Stage.gone g.S.Stage.passive g.S.Stage.keeps _ c.loop-used.self _ c.loop-used.invariant.0 c.loop-used.invariant.1 (taken_kept g.S.Stage.keeps _ _ c.in-Some.w _ c.in-Some.ensures.some.1.1 c.in_err-handle.ensures.kept) c.loop-used.invariant.4 c.loop-used.invariant.5)
 
-pub returns-in-Outer-clause-still : goal.returns-in-Outer-clause-still
-returns-in-Outer-clause-still g c = still_trans g.S.Stage.passive _ _ _ c.loop-used.invariant.1.ends c.loop-used.invariant.5 c.in_ok-step.ensures.still
+pub returns-in_err-handle-clause-count : goal.returns-in_err-handle-clause-count
+returns-in_err-handle-clause-count g c = step_count g.S.Stage.keeps _ c.loop-used.self _ c.loop-used.invariant.1 (taken_kept g.S.Stage.keeps _ _ c.in-Some.w _ c.in-Some.ensures.some.1.1 c.in_err-handle.ensures.kept)
 
-pub returns-in-Outer-clause-untouched : goal.returns-in-Outer-clause-untouched
-returns-in-Outer-clause-untouched g c = untouched_on g.S.Stage.passive _ (Outer c.in-Outer.w) _ _ _ c.in-Outer.is c.loop-used.invariant.1.ends c.loop-used.invariant.1.ports c.loop-used.invariant.5.kinds c.loop-used.invariant.6 c.in_ok-step.ensures.untouched
+pub returns-then-branch-clause-uses : goal.returns-then-branch-clause-uses
+returns-then-branch-clause-uses g c = uses_trans _ _ _ _ 1 c.loop-used.invariant.2 (taken_uses _ _ _ c.in-Some.w 1 c.in-Some.ensures.some.1.1 c.in_ok-handle.ensures.uses)
+
+pub returns-then-branch-clause-still : goal.returns-then-branch-clause-still
+returns-then-branch-clause-still g c = still_trans g.S.Stage.passive _ _ _ c.loop-used.invariant.1.ends c.loop-used.invariant.5 (still_taken g.S.Stage.passive _ _ _ c.in-Some.w c.in-Some.ensures.some.1.1 c.in_ok-handle.ensures.still)
+
+pub returns-then-branch-clause-untouched : goal.returns-then-branch-clause-untouched
+returns-then-branch-clause-untouched g c = untouched_trans g.S.Stage.passive _ _ _ _ c.loop-used.invariant.1.ends c.loop-used.invariant.1.ports c.loop-used.invariant.5.kinds c.loop-used.invariant.6 (untouched_next g.S.Stage.passive _ true c.in-Some.w _ _ _ c.if-branch.true c.in-Some.ensures.some.1.1 c.in_ok-handle.ensures.untouched)
 
 pub loop-used-preserved : goal.loop-used-preserved
 loop-used-preserved g c = (
-  c.in_ok-step.ensures.laws,
+  c.in_ok-handle.ensures.laws,
+  goes_trans _ _ _ c.loop-used.invariant.1 (taken_goes _ _ _ c.in-Some.w c.in-Some.ensures.some.1.1 c.in_ok-handle.ensures.on),
+  uses_trans _ _ _ _ 1 c.loop-used.invariant.2 (taken_uses _ _ _ c.in-Some.w 1 c.in-Some.ensures.some.1.1 c.in_ok-handle.ensures.uses),
   search (rules, arith),
-  search (rules, arith),
-  search (rules, arith),
-  c.in_ok-step.ensures.gone ∙ c.loop-used.invariant.4,
-  still_trans g.S.Stage.passive _ _ _ c.loop-used.invariant.1.ends c.loop-used.invariant.5 c.in_ok-step.ensures.still,
-  untouched_on g.S.Stage.passive _ Inner _ _ _ c.in-Inner.is c.loop-used.invariant.1.ends c.loop-used.invariant.1.ports c.loop-used.invariant.5.kinds c.loop-used.invariant.6 c.in_ok-step.ensures.untouched,
+  taken_read g.S.Stage.gone _ _ c.in-Some.w _ c.in-Some.ensures.some.1.1 c.in_ok-handle.ensures.gone ∙ c.loop-used.invariant.4,
+  still_trans g.S.Stage.passive _ _ _ c.loop-used.invariant.1.ends c.loop-used.invariant.5 (still_taken g.S.Stage.passive _ _ _ c.in-Some.w c.in-Some.ensures.some.1.1 c.in_ok-handle.ensures.still),
+  untouched_trans g.S.Stage.passive _ _ _ _ c.loop-used.invariant.1.ends c.loop-used.invariant.1.ports c.loop-used.invariant.5.kinds c.loop-used.invariant.6 (untouched_next g.S.Stage.passive _ false c.in-Some.w _ _ _ c.if-branch.false c.in-Some.ensures.some.1.1 c.in_ok-handle.ensures.untouched),
   search (rules, arith),
 )
-
-pub returns-in_err-step-clause-breaks : goal.returns-in_err-step-clause-breaks
-returns-in_err-step-clause-breaks g c = on_err _ (breaks_aside g.S.Stage.port_state g.S.Stage.law g.S.Stage.asking g.S.Stage.moves g.S.Stage.gone g.S.Stage.passive g.S.Stage.keeps _ c.loop-used.self _ c.loop-used.invariant.0 c.loop-used.invariant.1 c.in_err-step.ensures.kept c.loop-used.invariant.4 c.loop-used.invariant.5)

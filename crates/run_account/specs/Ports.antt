@@ -20,17 +20,13 @@ use Rattle.stream_picture.specs.Rests.{Waits, IsShut, IsLane, IsAsked, IsUnasked
 use Rattle.stage_law.specs.Held.{told}
 use Rattle.stage_law.specs.Row.{InClosed, OutClosed}
 
--- how a wire that is no lane stands: the elements that were pushed, whether its input waits for one, and whether either end has
--- closed it
-abbrev pub count_of : WireState → WireCount
-count_of c = record { sent = elements c.wire.sent; asked = c.asked; shut = not (is_open c.wire.conn) }
-
 -- the mark of a wire that is no lane is the connection's; of a lane, whether its input end asked for more than was pushed
 abbrev pub asked_of : Option ℕ → WireState → ℕ → Bool
 asked_of None near asked = near.asked
 asked_of (Some size) near asked = nat_le (suc (elements near.wire.sent)) asked
 
--- how any wire stands, by the connection at its output and by what the input end of a lane asked for in all
+-- how a wire stands, by the connection at its output and by what the input end of a lane asked for in all: the elements that were
+-- pushed, whether its input waits for one, and whether either end has closed it
 abbrev pub wire_count : Option ℕ → WireState → ℕ → WireCount
 wire_count lane near asked = record { sent = elements near.wire.sent; asked = asked_of lane near asked; shut = not (is_open near.wire.conn) }
 

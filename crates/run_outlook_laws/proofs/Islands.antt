@@ -18,7 +18,7 @@ use Rattle.wire_core.specs.Cell.{WireState}
 use Rattle.wire_core.specs.Reading.{no_wire}
 use Rattle.run_account.specs.Account.{Account, AllMade, IsStill}
 use Rattle.run_account.specs.Pictures.{counts_from, counts_of}
-use Rattle.run_account.specs.Ports.{count_of}
+use Rattle.run_account.specs.Ports.{wire_count}
 use Rattle.run_account.specs.Seats.{Seats, Covers, LanesKeep, LanesRest, joined, one_seat, account_of}
 use Rattle.run_account.proofs.Joining.{all_keep, all_still}
 use Rattle.run_account.proofs.Reading.{found_both}
@@ -40,7 +40,7 @@ as_long xs n most least = by (length xs) n most least
     by (suc m) (suc n) f g = let a = f n (omega arith) in let b = g m (omega arith) in omega (arith, a, b)
 
 -- the picture of wires that are no lanes, whose connections stand in this order
-counts_same : {N : Type 0} (a : Account N) (i : ℕ) (ws : List Edge) (cells : List WireState) → ((k : ℕ) (v : Edge) → slice_get ws k ≡ Some v → v.lane ≡ None) → length ws ≡ length cells → ((k : ℕ) → k < length cells → a.near (i + k) ≡ get_or cells k no_wire) → counts_from a i ws ≡ map count_of cells
+counts_same : {N : Type 0} (a : Account N) (i : ℕ) (ws : List Edge) (cells : List WireState) → ((k : ℕ) (v : Edge) → slice_get ws k ≡ Some v → v.lane ≡ None) → length ws ≡ length cells → ((k : ℕ) → k < length cells → a.near (i + k) ≡ get_or cells k no_wire) → counts_from a i ws ≡ map (λ (c : WireState). wire_count None c 0) cells
 counts_same a i [] [] fused e f = refl
 counts_same a i [] (c ∷ cells) fused e f = cc
 counts_same a i (v ∷ ws) [] fused e f = cc
@@ -155,5 +155,5 @@ module _ {S D L B : Type 0} (sources : S → SourceState) (drains : D → DrainS
       still u h = rw empty at (settled.sound u h)
 
   -- its picture is that of the island's wires
-  pub island_counts : counts_of (account_of net) g ≡ map count_of net.wires
+  pub island_counts : counts_of (account_of net) g ≡ map (λ (c : WireState). wire_count None c 0) net.wires
   island_counts = counts_same (account_of net) 0 g.wires net.wires (λ u v e. (made.each_wire u v e).no_lane) (let a = settled.wired.each_wire in let b = made.wires in omega (arith, a, b)) (λ k h. let none : 0 + k ≡ k = omega arith in rw none refl)

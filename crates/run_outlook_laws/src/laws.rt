@@ -1,7 +1,8 @@
 // Laws of a run: each function has no body, and its contract is the law. They speak of what a run leaves of its blueprint's
 // nodes and wires, at any moment from its start to its end. The plugs of the run give what a book lists of their names: where a law
 // speaks of a world, what the book of that world lists, and else what `B` lists.
-ghost use Rattle.std.specs.Prelude.{◌≡◌, ◌≢◌, ◌<◌, ◌≤◌, ℕ, List, [], map, length, Some, slice_get};
+ghost use Rattle.std.specs.Prelude.{◌≡◌, ◌≢◌, ◌<◌, ◌≤◌, ℕ, List, [], map, length, None, Some, slice_get};
+ghost use Rattle.wire_core.specs.Cell.{WireState};
 ghost use Rattle.wire_core.specs.Counts.{elements};
 ghost use Rattle.stream_model.specs.Composed.{next, composed, sink_outlook, IsRanked};
 ghost use Rattle.stream_model.specs.Graph as graph;
@@ -23,7 +24,7 @@ ghost use Rattle.nodes.specs.declared.node.IslandNode.{IslandNode};
 ghost use Rattle.run_account.specs.Account.{Account, AllMade, took, IsStill};
 ghost use Rattle.run_account.specs.Items.{AgreesWith};
 ghost use Rattle.run_account.specs.Pictures.{counts_of};
-ghost use Rattle.run_account.specs.Ports.{count_of};
+ghost use Rattle.run_account.specs.Ports.{wire_count};
 ghost use Rattle.run_account.specs.Seats.{Seats, Covers, LanesKeep, LanesRest, joined, account_of};
 ghost use Rattle.run_outlook_laws.specs.Made.{FirstOf, Materializes};
 ghost use Rattle.run_outlook_laws.specs.Runs.{IsRun};
@@ -40,7 +41,7 @@ use stream_io::outside::{Drain, Source};
 pub fn an_island_leaves_a_run<S: Source, D: Drain, L: Logic, B: PlugBook>()
     ensures run { (g : Graph) (net : Net (IslandNode S D L B)) → IsJoined g → Settled node_port_state (node_law S.state D.state B.lists) node_asking node_moves net → Materializes S.state g net.firsts net.ends → IsRun S.state D.state B.lists g (account_of net) }
     ensures still { (g : Graph) (net : Net (IslandNode S D L B)) → Settled node_port_state (node_law S.state D.state B.lists) node_asking node_moves net → Materializes S.state g net.firsts net.ends → net.queue ≡ [] → IsStill g (account_of net) }
-    ensures counts { (g : Graph) (net : Net (IslandNode S D L B)) → Settled node_port_state (node_law S.state D.state B.lists) node_asking node_moves net → Materializes S.state g net.firsts net.ends → counts_of (account_of net) g ≡ map count_of net.wires }
+    ensures counts { (g : Graph) (net : Net (IslandNode S D L B)) → Settled node_port_state (node_law S.state D.state B.lists) node_asking node_moves net → Materializes S.state g net.firsts net.ends → counts_of (account_of net) g ≡ map (λ (c : WireState). wire_count None c 0) net.wires }
 {}
 
 /// Islands in which the nodes and wires of a blueprint have their places, between two events, leave a run of it where its nodes

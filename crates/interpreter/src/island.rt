@@ -45,7 +45,7 @@ use stream_model::outcome::{EndState, PickList, WireCount};
 use wire_core::wire::Wire;
 
 /// The nodes and wires of one island, and the wires that have an event. After `NoMemory` it is only dropped or taken apart.
-/// Rule: Akka Streams 2.6 reference.
+/// Akka calls this an island too, and runs it by a `GraphInterpreterShell`.
 #[derive(Drop)]
 pub struct Island<S: Source, D: Drain, L: Logic, B: PlugBook> {
     engine: Engine<IslandNode<S, D, L, B>>,

@@ -29,7 +29,7 @@ use stream_io::outside::{Drain, Source};
 use stream_model::kind::Kind;
 
 /// A wire of an island, by its number in the blueprint, from an output to an input; `from` and `to` are places among the
-/// island's nodes.
+/// island's nodes. Akka calls this a `Connection`, with its `id` and its owners.
 #[derive(Clone, Copy, PartialEq, Eq, Debug)]
 pub struct Link {
     /// The number of the wire in the blueprint.
@@ -44,7 +44,7 @@ pub struct Link {
     pub input: u8,
 }
 
-/// What stands at a place of an island.
+/// What stands at a place of an island. Akka calls this a `GraphStageLogic`, before its `preStart`.
 #[derive(Drop)]
 pub enum Work<S: Source, D: Drain, L: Logic, B: PlugBook> {
     /// A source of the lines that a reader reads.
@@ -69,7 +69,7 @@ pub enum Work<S: Source, D: Drain, L: Logic, B: PlugBook> {
     LaneOut(u32),
 }
 
-/// A work with the number of its node in the blueprint.
+/// A work with the number of its node in the blueprint. Akka calls this a `GraphStageLogic`, with its `stageId`.
 #[derive(Drop)]
 pub struct Seated<S: Source, D: Drain, L: Logic, B: PlugBook> {
     /// The number of its node.
@@ -78,7 +78,7 @@ pub struct Seated<S: Source, D: Drain, L: Logic, B: PlugBook> {
     pub work: Work<S, D, L, B>,
 }
 
-/// The parts of an island.
+/// The parts of an island. Akka calls these the logics and connections that a `GraphInterpreterShell` is made from.
 #[derive(Drop)]
 pub struct Parts<S: Source, D: Drain, L: Logic, B: PlugBook> {
     /// What stands at each of its places.
@@ -98,7 +98,7 @@ pub struct Place {
     pub outputs: u32,
 }
 
-// The node of a work that did nothing yet.
+/// The node of a work that did nothing yet.
 pub fn build<S: Source, D: Drain, L: Logic, B: PlugBook>(
     alloc: Global,
     seated: Seated<S, D, L, B>,
@@ -163,7 +163,7 @@ fn written_by(kind: &Kind) -> Writes
     }
 }
 
-// The nodes of works that did nothing yet, in an empty list that has room for them. It takes no memory.
+/// The nodes of works that did nothing yet, in an empty list that has room for them. It takes no memory.
 pub fn build_all<S: Source, D: Drain, L: Logic, B: PlugBook>(
     alloc: Global,
     places: Vec<Seated<S, D, L, B>>,
@@ -181,7 +181,7 @@ pub fn build_all<S: Source, D: Drain, L: Logic, B: PlugBook>(
     nodes
 }
 
-// The ports at the ends of each link.
+/// The ports at the ends of each link.
 pub fn all_ends(alloc: Global, links: &[Link]) -> Result<Vec<WireEnds>, NoMemory>
     ensures { IfOk result (λ ends. ends.items ≡ map ends_of links.now) }
 {
@@ -197,7 +197,7 @@ pub fn all_ends(alloc: Global, links: &[Link]) -> Result<Vec<WireEnds>, NoMemory
     Ok(ends)
 }
 
-// The numbers of the links in the blueprint.
+/// The numbers of the links in the blueprint.
 pub fn all_numbers(alloc: Global, links: &[Link]) -> Result<Vec<u32>, NoMemory>
     ensures { IfOk result (λ numbers. numbers.items ≡ map number_of links.now) }
 {
@@ -208,7 +208,7 @@ pub fn all_numbers(alloc: Global, links: &[Link]) -> Result<Vec<u32>, NoMemory>
     Ok(numbers)
 }
 
-// The numbers of the places' nodes in the blueprint.
+/// The numbers of the places' nodes in the blueprint.
 pub fn all_places(alloc: Global, places: &[Place]) -> Result<Vec<u32>, NoMemory>
     ensures { IfOk result (λ numbers. numbers.items ≡ map (λ (p : Place). p.node) places.now) }
 {
@@ -227,7 +227,7 @@ fn blank_row(alloc: Global, place: Place) -> Result<Ports, NoMemory>
     Ports::sized(alloc, place.inputs as usize, place.outputs as usize)
 }
 
-// A table with a row for each port of each place.
+/// A table with a row for each port of each place.
 pub fn blank_ports(alloc: Global, places: &[Place]) -> Result<Vec<Ports>, NoMemory>
     ensures { IfOk result (λ ports. IsSized (ins_at places.now) (outs_at places.now) (length places.now) ports.items) }
 {
@@ -250,7 +250,7 @@ fn write_wire(ports: &mut Vec<Ports>, ends: WireEnds, w: u32)
     ports[ends.to as usize].set_input(ends.input, w);
 }
 
-// The wires of each place, by its ports, into the table. It takes no memory.
+/// The wires of each place, by its ports, into the table. It takes no memory.
 pub fn join_ports(ports: &mut Vec<Ports>, ends: &[WireEnds])
     requires wiring { IsWiring (ins_in ports.old.items) (outs_in ports.old.items) (length ports.old.items) ends.now }
     requires few { length ends.now < 2 ^ 32 }

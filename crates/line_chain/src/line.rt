@@ -18,8 +18,8 @@ use std::alloc::Global;
 use std::marker::Model;
 use std::mem;
 
-/// A chain of linear stages. A call runs the steps one after another: what one gives the next takes. Rule: own, after the
-/// subflows of the Akka Streams 2.6 reference.
+/// A chain of linear stages. A call runs the steps one after another: what one gives the next takes. It stands for a
+/// subflow of the Akka Streams 2.6 reference.
 #[derive(Drop)]
 pub struct LineChain {
     steps: Vec<LineStep>,

@@ -21,7 +21,7 @@ pub enum Verdict {
 
 /// The logic of a stage with one input and one output that the caller makes. Its meaning, `gives`, is what it replies to every list of
 /// further inputs and to their end. It is called for each element in order, and once at the end of the input, and not again behind a
-/// verdict other than `Go`. Rule: own; it stands for a custom stage of Akka Streams 2.6.
+/// verdict other than `Go`. It stands for a custom stage (`GraphStage`) of Akka Streams 2.6.
 pub trait Logic: Drop {
     ghost gives: { Self → Gives };
 

@@ -19,7 +19,7 @@ pub enum ChainStep {
 }
 
 /// A chain of linear stages, as a substream runs it. Its meaning is a list function: what it gives for a list of elements,
-/// whether it stopped within them, and what the end of its input adds. Rule: own, after the subflows of the Akka Streams 2.6
+/// whether it stopped within them, and what the end of its input adds. It stands for a subflow of the Akka Streams 2.6
 /// reference.
 pub trait Chain: Send + Sized + Drop {
     /// What it gives from its start.

@@ -13,8 +13,8 @@ use std::mem;
 #[cfg(test)]
 mod tests;
 
-/// What a connection that was queued has for one of its ends. Rule: own, after the events of the Akka Streams 2.6
-/// interpreter.
+/// What a connection that was queued has for one of its ends. The events are those of the Akka Streams 2.6 interpreter, but
+/// that an element with a close behind it is an event of its own.
 #[derive(Clone, Copy, PartialEq, Eq)]
 pub enum Event {
     /// An element for the input.

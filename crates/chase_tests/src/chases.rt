@@ -110,6 +110,14 @@ fn events_are_chased_to_a_limit(rt: HostRuntime) -> Result<(), Fail> {
     Ok(())
 }
 
+/// Behind the sink's first pull, which waits for its turn, a pull, two pushes and two pulls are chased. The two completions wait.
+#[test]
+fn a_completion_is_not_chased(rt: HostRuntime) -> Result<(), Fail> {
+    let chased = longest_chase(rt.alloc(), Kind::Range(1, 1), 1)?;
+    assert!(rt; chased == Some(5));
+    Ok(())
+}
+
 #[test]
 fn an_event_without_consequence_chases_none(rt: HostRuntime) -> Result<(), Fail> {
     let chased = longest_chase(rt.alloc(), Kind::Empty(Base::Num), 0)?;

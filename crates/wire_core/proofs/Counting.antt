@@ -1,18 +1,22 @@
 -- The counts of one wire: what each action and each event does to them.
-use Rattle.std.proofs.Common.{◌≡◌, suc, ◌+◌, ◌≤◌, Bool, true, false, Option, None, Some, List, [], ◌∷◌, ◌++◌, refl, sym, ap, ◌∙◌, subst, arith}
+use Rattle.std.proofs.Common.{◌≡◌, ℕ, suc, ◌+◌, ◌≤◌, Bool, true, false, if◌then◌else◌, Option, None, Some, List, [], ◌∷◌, ◌++◌, length, refl, sym, ap, ◌∙◌, subst, arith}
 use Rattle.elem_core.specs.Tree.{Tree}
 use Rattle.elem_core.specs.declared.why.Cause.{Cause}
 use Rattle.elem_core.specs.declared.item.Item.{Item}
 use Rattle.elem_core.specs.declared.item.Item.TheVariants as item
 use Rattle.port_core.specs.Connection.{ConnStep, quiet, pulled, ready, pushed}
 use Rattle.port_core.specs.View.{IsInOpen, IsOutOpen}
-use Rattle.port_core.specs.Wire.{JointPorts, pull_of, push_of, close_of, cancel_of, end_of, delivery_of, after_delivery, again}
+use Rattle.port_core.specs.Wire.{JointPorts, pull_of, push_of, close_of, cancel_of, end_of, delivery_of, after_delivery, again, Delivery, nothing, pull, cancel, arrived}
+use Rattle.port_core.specs.Decoding.{can_pull}
+use Rattle.port_core.specs.declared.act.Act.TheVariants.{Pull, Push}
 use Rattle.port_core.specs.Joint.{Joint, idle, asking, asked, moving, ending, closing, leaving, finished, parted, refused, wire_of, Queues, IsSound}
 use Rattle.port_core.specs.declared.view.InView.{InView}
 use Rattle.port_core.specs.declared.view.InView.TheVariants.{Idle, Pulled, Finished, Cancelled}
 use Rattle.port_core.specs.declared.view.OutView.{OutView}
 use Rattle.port_core.specs.declared.view.OutView.TheVariants as outlet
-use Rattle.wire_core.specs.Counts.{elements, ready_bit, free_bit, extra, spent, asked_bit, asks}
+use Rattle.wire_core.specs.Cell.{WireState, moved_by}
+use Rattle.wire_core.specs.Counts.{elements, ready_bit, free_bit, extra, spent, asked_bit, asks, standing, heard}
+use Rattle.wire_core.specs.Marks.{IsMarked}
 
 -- one element more, and an end
 pub elements_elem : (s : List Item) (e : Tree) → elements (s ++ item.Elem e ∷ []) ≡ elements s + 1
@@ -36,6 +40,11 @@ elements_failed (item.Failed c ∷ s) d = elements_failed s d
 pub elements_end : (s : List Item) (c : Option Cause) → elements (s ++ end_of c ∷ []) ≡ elements s
 elements_end s None = elements_ended s
 elements_end s (Some c) = elements_failed s c
+
+-- one item more
+length_one : (s : List Item) (x : Item) → length (s ++ x ∷ []) ≡ length s + 1
+length_one [] x = omega arith
+length_one (y ∷ s) x = omega (arith, length_one s x)
 
 ready_le : (t : ConnStep) → ready_bit t ≤ 1
 ready_le quiet = omega arith
@@ -176,3 +185,43 @@ close_asks c w = omega (arith, elements_end w.sent c)
 
 pub cancel_asks : (w : JointPorts) → asks (cancel_of w) ≤ asks w
 cancel_asks w = omega arith
+
+-- the pull that stands counts once at most
+standing_le : (b : Bool) (t : ConnStep) → (if b then ready_bit t else 0) ≤ 1
+standing_le true t = ready_le t
+standing_le false t = omega arith
+
+quiet_stands : (b : Bool) → (if b then 0 else 0) ≤ 0
+quiet_stands true = omega arith
+quiet_stands false = omega arith
+
+pull_stands : (c : WireState) (i : ℕ) (t : Bool) → can_pull c.wire.conn ≡ t → standing (moved_by (Pull i) c) ≤ standing c
+pull_stands c i true e = rw e (omega arith)
+pull_stands c i false e = rw e (omega arith)
+
+-- No action raises the events that were heard, and an event raises them by one at most.
+pub pull_heard : (i : ℕ) (c : WireState) → heard (moved_by (Pull i) c) ≤ heard c
+pull_heard i c = omega (arith, pull_stands c i (can_pull c.wire.conn) refl)
+
+pub push_heard : (j : ℕ) (e : Tree) (c : WireState) → IsMarked c → c.wire.out ≡ outlet.Available → heard (moved_by (Push j e) c) ≤ heard c
+push_heard j e c m is =
+    let stood : standing c ≡ 1 = rw (m.known is) (ap ready_bit (m.came is)) in
+    omega (arith, elements_elem c.wire.sent e, stood)
+
+close_stands : (d : Option Cause) (w : JointPorts) (b : Bool) → (if b then ready_bit (close_of d w).conn.step else 0) ≡ (if b then ready_bit w.conn.step else 0)
+close_stands None w b = refl
+close_stands (Some c) w b = refl
+
+pub close_heard : (d : Option Cause) (c : WireState) → heard (record c { wire = close_of d c.wire }) ≤ heard c
+close_heard d c = omega (arith, elements_end c.wire.sent d, close_stands d c.wire c.asked)
+
+pub cancel_heard : (c : WireState) → heard (record c { wire = cancel_of c.wire }) ≤ heard c
+cancel_heard c = omega arith
+
+pub deliver_heard : (d : Delivery) (c : WireState) → heard (record c { wire = after_delivery d c.wire }) ≤ heard c + 1
+deliver_heard nothing c = omega arith
+deliver_heard pull c = omega (arith, standing_le c.asked ready)
+deliver_heard cancel c = omega arith
+deliver_heard (arrived (item.Elem e) more) c = omega (arith, quiet_stands c.asked, length_one c.wire.got (item.Elem e))
+deliver_heard (arrived item.Ended more) c = omega (arith, length_one c.wire.got item.Ended)
+deliver_heard (arrived (item.Failed d) more) c = omega (arith, length_one c.wire.got (item.Failed d))

@@ -1,12 +1,12 @@
 -- The mark of a wire, and how each action and each delivery lets the wire go on.
-use Rattle.std.proofs.Common.{◌≡◌, ℕ, ◌+◌, ◌≤◌, Bool, true, false, if◌then◌else◌, Option, None, Some, List, [], ◌∷◌, ◌++◌, refl, sym, ap, ◌∙◌, subst, arith}
+use Rattle.std.proofs.Common.{◌≡◌, ℕ, ◌+◌, ◌≤◌, Bool, true, false, ◌&&◌, if◌then◌else◌, Option, None, Some, List, [], ◌∷◌, ◌++◌, refl, sym, ap, ◌∙◌, subst, arith}
 use Rattle.elem_core.specs.Tree.{Tree}
 use Rattle.elem_core.proofs.Prefixes.{prefix_refl, prefix_append, prefix_trans}
 use Rattle.elem_core.specs.declared.why.Cause.{Cause}
 use Rattle.elem_core.specs.declared.item.Item.{Item}
 use Rattle.elem_core.specs.declared.item.Item.TheVariants as item
-use Rattle.port_core.specs.Connection.{quiet, pulled, ready, pushed}
-use Rattle.port_core.specs.Decoding.{can_pull, can_push}
+use Rattle.port_core.specs.Connection.{quiet, pulled, ready, pushed, Connection}
+use Rattle.port_core.specs.Decoding.{is_open, can_pull, can_push}
 use Rattle.port_core.specs.Wire.{JointPorts, pull_of, push_of, close_of, cancel_of, end_of, Delivery, nothing, pull, cancel, arrived, delivery_of, after_delivery}
 use Rattle.port_core.specs.Joint.{Joint, idle, asking, asked, moving, ending, closing, leaving, finished, parted, refused, wire_of, Queues, IsSound}
 use Rattle.port_core.specs.declared.view.OutView.TheVariants.{Available}
@@ -20,13 +20,21 @@ abbrev pub cell : JointPorts → Bool → WireState
 cell w b = record { wire = w; asked = b }
 
 pub new_marked : IsMarked new_cell
-new_marked = record { unclosed = λ o. refl; known = λ e. cc }
+new_marked = record { unclosed = λ o. refl; known = λ e. cc; came = λ e. cc }
 
 -- ---- the mark
 
+and_false : (b : Bool) → (b && false) ≡ false
+and_false true = refl
+and_false false = refl
+
+-- an input whose pull has come may not pull
+ready_pulls_not : (p : Connection) → p.step ≡ ready → can_pull p ≡ true → ⊥
+ready_pulls_not p e h = let no : can_pull p ≡ false = rw e (and_false (is_open p)) in cc
+
 pull_by : (w : JointPorts) (b t : Bool) → can_pull w.conn ≡ t → IsMarked (cell w b) → IsMarked (cell (pull_of w) (if can_pull w.conn then true else b))
-pull_by w b true e m = rw e (record { unclosed = λ o. refl; known = λ k. refl })
-pull_by w b false e m = rw e (record { unclosed = m.unclosed; known = m.known })
+pull_by w b true e m = rw e (record { unclosed = λ o. refl; known = λ k. refl; came = λ k. absurd (ready_pulls_not w.conn (m.came k) e) })
+pull_by w b false e m = rw e (record { unclosed = m.unclosed; known = m.known; came = m.came })
 
 pub pull_marked : (w : JointPorts) (b : Bool) → IsMarked (cell w b) → IsMarked (cell (pull_of w) (if can_pull w.conn then true else b))
 pull_marked w b m = pull_by w b (can_pull w.conn) refl m
@@ -34,11 +42,11 @@ pull_marked w b m = pull_by w b (can_pull w.conn) refl m
 marks_push : (x : Tree) (j : Joint) (s g : List Item) → (wire_of j s g).out ≡ Available → IsMarked (cell (push_of x (wire_of j s g)) false)
 marks_push x idle s g e = cc
 marks_push x asking s g e = cc
-marks_push x asked s g e = record { unclosed = λ o. refl; known = λ k. cc }
+marks_push x asked s g e = record { unclosed = λ o. refl; known = λ k. cc; came = λ k. cc }
 marks_push x (moving y) s g e = cc
 marks_push x (ending c) s g e = cc
 marks_push x (closing t c) s g e = cc
-marks_push x (leaving true t) s g e = record { unclosed = λ o. cc; known = λ k. cc }
+marks_push x (leaving true t) s g e = record { unclosed = λ o. cc; known = λ k. cc; came = λ k. cc }
 marks_push x (leaving false t) s g e = cc
 marks_push x (finished t c) s g e = cc
 marks_push x (parted t c) s g e = cc
@@ -48,28 +56,28 @@ pub push_marked : (x : Tree) (w : JointPorts) (q : Bool) → IsSound w q → w.o
 push_marked x w q h e = subst (λ (v : JointPorts). IsMarked (cell (push_of x v) false)) (sym h.is) (marks_push x h.joint w.sent w.got (sym (ap (λ (v : JointPorts). v.out) h.is) ∙ e))
 
 pub close_marked : (c : Option Cause) (w : JointPorts) (b : Bool) → IsMarked (cell w b) → IsMarked (cell (close_of c w) b)
-close_marked None w b m = record { unclosed = m.unclosed; known = λ k. cc }
-close_marked (Some c) w b m = record { unclosed = m.unclosed; known = λ k. cc }
+close_marked None w b m = record { unclosed = m.unclosed; known = λ k. cc; came = λ k. cc }
+close_marked (Some c) w b m = record { unclosed = m.unclosed; known = λ k. cc; came = λ k. cc }
 
 pub cancel_marked : (w : JointPorts) (b : Bool) → IsMarked (cell w b) → IsMarked (cell (cancel_of w) b)
-cancel_marked w b m = record { unclosed = λ o. cc; known = m.known }
+cancel_marked w b m = record { unclosed = λ o. cc; known = m.known; came = m.came }
 
 marks_deliver : (j : Joint) (s g : List Item) (b : Bool) → Queues j true → IsMarked (cell (wire_of j s g) b) → IsMarked (cell (after_delivery (delivery_of (wire_of j s g)) (wire_of j s g)) b)
 marks_deliver idle s g b r m = cc
-marks_deliver asking s g b r m = record { unclosed = λ o. m.unclosed refl; known = λ k. m.unclosed refl }
+marks_deliver asking s g b r m = record { unclosed = λ o. m.unclosed refl; known = λ k. m.unclosed refl; came = λ k. refl }
 marks_deliver asked s g b r m = cc
-marks_deliver (moving y) s g b r m = record { unclosed = λ o. m.unclosed refl; known = λ k. cc }
-marks_deliver (ending None) s g b r m = record { unclosed = λ o. cc; known = λ k. cc }
-marks_deliver (ending (Some c)) s g b r m = record { unclosed = λ o. cc; known = λ k. cc }
-marks_deliver (closing quiet None) s g b r m = record { unclosed = λ o. cc; known = λ k. cc }
-marks_deliver (closing quiet (Some c)) s g b r m = record { unclosed = λ o. cc; known = λ k. cc }
-marks_deliver (closing pulled None) s g b r m = record { unclosed = λ o. cc; known = λ k. cc }
-marks_deliver (closing pulled (Some c)) s g b r m = record { unclosed = λ o. cc; known = λ k. cc }
-marks_deliver (closing ready None) s g b r m = record { unclosed = λ o. cc; known = λ k. cc }
-marks_deliver (closing ready (Some c)) s g b r m = record { unclosed = λ o. cc; known = λ k. cc }
-marks_deliver (closing (pushed y) c) s g b r m = record { unclosed = λ o. m.unclosed refl; known = λ k. cc }
-marks_deliver (leaving true t) s g b r m = record { unclosed = λ o. cc; known = λ k. cc }
-marks_deliver (leaving false t) s g b r m = record { unclosed = λ o. cc; known = λ k. cc }
+marks_deliver (moving y) s g b r m = record { unclosed = λ o. m.unclosed refl; known = λ k. cc; came = λ k. cc }
+marks_deliver (ending None) s g b r m = record { unclosed = λ o. cc; known = λ k. cc; came = λ k. cc }
+marks_deliver (ending (Some c)) s g b r m = record { unclosed = λ o. cc; known = λ k. cc; came = λ k. cc }
+marks_deliver (closing quiet None) s g b r m = record { unclosed = λ o. cc; known = λ k. cc; came = λ k. cc }
+marks_deliver (closing quiet (Some c)) s g b r m = record { unclosed = λ o. cc; known = λ k. cc; came = λ k. cc }
+marks_deliver (closing pulled None) s g b r m = record { unclosed = λ o. cc; known = λ k. cc; came = λ k. cc }
+marks_deliver (closing pulled (Some c)) s g b r m = record { unclosed = λ o. cc; known = λ k. cc; came = λ k. cc }
+marks_deliver (closing ready None) s g b r m = record { unclosed = λ o. cc; known = λ k. cc; came = λ k. cc }
+marks_deliver (closing ready (Some c)) s g b r m = record { unclosed = λ o. cc; known = λ k. cc; came = λ k. cc }
+marks_deliver (closing (pushed y) c) s g b r m = record { unclosed = λ o. m.unclosed refl; known = λ k. cc; came = λ k. cc }
+marks_deliver (leaving true t) s g b r m = record { unclosed = λ o. cc; known = λ k. cc; came = λ k. cc }
+marks_deliver (leaving false t) s g b r m = record { unclosed = λ o. cc; known = λ k. cc; came = λ k. cc }
 marks_deliver (finished t c) s g b r m = m
 marks_deliver (parted t c) s g b r m = m
 marks_deliver (refused t c) s g b r m = m

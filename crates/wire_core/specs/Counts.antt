@@ -1,5 +1,6 @@
--- How many elements passed a wire, and what its history costs in units: a number that no action lowers and each event raises.
-use Rattle.std.specs.Prelude.{ℕ, suc, ◌+◌, Bool, true, false, List, [], ◌∷◌}
+-- How many elements passed a wire, and what its history costs in units: a number that no action lowers and each event raises; and how
+-- many events its ends have heard: a number that no action raises, and each event by one at most.
+use Rattle.std.specs.Prelude.{ℕ, suc, ◌+◌, Bool, true, false, if◌then◌else◌, List, [], ◌∷◌, length}
 use Rattle.elem_core.specs.declared.item.Item.{Item}
 use Rattle.elem_core.specs.declared.item.Item.TheVariants as item
 use Rattle.port_core.specs.Connection.{ConnStep, quiet, pulled, ready, pushed}
@@ -8,6 +9,7 @@ use Rattle.port_core.specs.declared.view.InView.{InView}
 use Rattle.port_core.specs.declared.view.InView.TheVariants.{Pulled, Finished, Cancelled}
 use Rattle.port_core.specs.declared.view.OutView.{OutView}
 use Rattle.port_core.specs.declared.view.OutView.TheVariants as outlet
+use Rattle.wire_core.specs.Cell.{WireState}
 
 -- the elements of a history, without its end
 abbrev pub elements : List Item → ℕ
@@ -51,3 +53,18 @@ asked_bit outlet.Cancelled = 0
 
 abbrev pub asks : JointPorts → ℕ
 asks w = elements w.sent + asked_bit w.out
+
+-- the pull that came to the output and was not answered, also where an end closed since
+abbrev pub standing : WireState → ℕ
+standing c = if c.asked then ready_bit c.wire.conn.step else 0
+
+-- the cancel came to the output
+abbrev pub cancelled_bit : OutView → ℕ
+cancelled_bit outlet.Unpulled = 0
+cancelled_bit outlet.Available = 0
+cancelled_bit outlet.Closed = 0
+cancelled_bit outlet.Cancelled = 1
+
+-- the events that the ends of a wire have heard: the pulls and the cancel that came to the output, and the items that came to the input
+abbrev pub heard : WireState → ℕ
+heard c = elements c.wire.sent + standing c + length c.wire.got + cancelled_bit c.wire.out

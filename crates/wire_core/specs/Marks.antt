@@ -14,10 +14,11 @@ wants ready = true
 wants (pushed e) = false
 
 -- The wire is marked as pulled, while its input has not closed, exactly where a pull is not answered; and wherever its output
--- knows that it was pulled.
+-- knows that it was pulled, and then the pull has come.
 pub record IsMarked (c : WireState) : Type 0 where
   pub unclosed : c.wire.conn.in_closed ≡ false → c.asked ≡ wants c.wire.conn.step
   pub known : c.wire.out ≡ Available → c.asked ≡ true
+  pub came : c.wire.out ≡ Available → c.wire.conn.step ≡ ready
 
 -- the pulls of its input that took effect: one for each element that was pushed, and the one that was not answered
 abbrev pub wanted : WireState → ℕ

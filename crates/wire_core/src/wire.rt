@@ -16,7 +16,7 @@ use port_core::view::{InView, OutView};
 use std::marker::Model;
 use std::snapshot::Snapshot;
 
-/// What the event of a wire brings to an end of it. Rule: own, after the events of the Akka Streams 2.6 interpreter.
+/// What the event of a wire brings to an end of it. After the events of the Akka Streams 2.6 interpreter.
 #[derive(Drop)]
 pub enum Delivered {
     /// A pull, to the output.
@@ -44,9 +44,9 @@ pub struct Wire {
     pushed: u64,
     asked: bool,
     // What the two views say of closings. An element that passes an open wire leaves these as they are.
-    shut: bool,
-    refused: bool,
-    over: bool,
+    output_closed: bool,
+    cancelled: bool,
+    input_closed: bool,
 }
 
 impl Model for Wire {
@@ -63,7 +63,7 @@ impl Model for Wire {
 
     ghost view = { λ w. record { wire = record { out = w.out.value; inp = w.inp.value; conn = w.conn; sent = w.sent.items; got = w.got.items }; asked = w.asked } };
 
-    ghost invariant = { λ w. (w.pushed ≡ elements w.sent.items) × Closes w.out.value w.inp.value w.conn w.shut w.refused w.over };
+    ghost invariant = { λ w. (w.pushed ≡ elements w.sent.items) × Closes w.out.value w.inp.value w.conn w.output_closed w.cancelled w.input_closed };
 }
 
 impl Wire {
@@ -79,9 +79,9 @@ impl Wire {
             got: Trace::empty(),
             pushed: 0,
             asked: false,
-            shut: false,
-            refused: false,
-            over: false,
+            output_closed: false,
+            cancelled: false,
+            input_closed: false,
         }
     }
 
@@ -124,21 +124,21 @@ impl Wire {
     pub fn output_closed(&self) -> bool
         ensures { result ≡ output_closed self.now.wire.out }
     {
-        self.shut
+        self.output_closed
     }
 
     /// Whether its output heard that its input cancelled.
     pub fn is_cancelled(&self) -> bool
         ensures { result ≡ output_cancelled self.now.wire.out }
     {
-        self.refused
+        self.cancelled
     }
 
     /// Whether its input cancelled it, or heard of its end.
     pub fn input_closed(&self) -> bool
         ensures { result ≡ input_closed self.now.wire.inp }
     {
-        self.over
+        self.input_closed
     }
 
     /// The stage at its input pulls. The answer says whether the wire has to be queued.
@@ -152,7 +152,7 @@ impl Wire {
             self.asked = true;
             self.conn.pull()
         } else {
-            self.over = false;
+            self.input_closed = false;
             false
         }
     }
@@ -171,8 +171,8 @@ impl Wire {
         let item = Item::Elem(e);
         self.sent = self.sent.and(&item);
         if !self.conn.can_push() {
-            self.shut = false;
-            self.refused = false;
+            self.output_closed = false;
+            self.cancelled = false;
             drop_item(item);
             return false;
         }
@@ -189,8 +189,8 @@ impl Wire {
         ensures moved { self.new ≡ moved_by (act.Complete 0) self.old }
     {
         self.out = Snapshot::of(&OutView::Closed);
-        self.shut = true;
-        self.refused = false;
+        self.output_closed = true;
+        self.cancelled = false;
         self.sent = self.sent.and(&Item::Ended);
         self.conn.complete()
     }
@@ -202,8 +202,8 @@ impl Wire {
         ensures moved { self.new ≡ moved_by (act.FailOut 0 cause) self.old }
     {
         self.out = Snapshot::of(&OutView::Closed);
-        self.shut = true;
-        self.refused = false;
+        self.output_closed = true;
+        self.cancelled = false;
         self.sent = self.sent.and(&Item::Failed(cause));
         self.conn.fail(cause)
     }
@@ -214,7 +214,7 @@ impl Wire {
         ensures moved { self.new ≡ moved_by (act.Cancel 0) self.old }
     {
         self.inp = Snapshot::of(&InView::Cancelled);
-        self.over = true;
+        self.input_closed = true;
         self.conn.cancel()
     }
 
@@ -229,12 +229,12 @@ impl Wire {
             Event::Pull => self.out = Snapshot::of(&OutView::Available),
             Event::Cancel => {
                 self.out = Snapshot::of(&OutView::Cancelled);
-                self.shut = true;
-                self.refused = true;
+                self.output_closed = true;
+                self.cancelled = true;
             }
             Event::Finish | Event::Fail => {
                 self.inp = Snapshot::of(&InView::Finished);
-                self.over = true;
+                self.input_closed = true;
                 let item = self.end();
                 self.got = self.got.and(&item);
             }
